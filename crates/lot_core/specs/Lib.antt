@@ -1,0 +1,5 @@
+pub mod World
+pub mod Steps
+pub mod Sound
+pub mod Parts
+pub mod Rows

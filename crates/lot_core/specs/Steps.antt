@@ -1,0 +1,163 @@
+use Rattle.std.specs.Prelude.{◌≡◌, ◌≢◌, ℕ, ◌+◌, ◌<◌, ◌≤◌, ◌==◌, ◌&&◌, ◌⊎◌, Bool, true, false, not, if◌then◌else◌, List, [], ◌∷◌, ◌++◌, length, Option, Some, None}
+use Rattle.std.specs.List.{Contains}
+use Rattle.lot_core.specs.declared.event.Point.{Point}
+use Rattle.lot_core.specs.declared.event.Point.TheVariants.{Calm, Wants, Bed, Rest, Sweeps}
+use Rattle.lot_core.specs.declared.event.Event.{Event}
+use Rattle.lot_core.specs.declared.event.Event.TheVariants.{Try, Take, Mark, Park, Free, Pass, Enlist, Look, Call, Lower, Sweep}
+use Rattle.lot_core.specs.declared.event.Seen.{Seen}
+use Rattle.lot_core.specs.declared.event.Seen.TheVariants.{Bool as Saw, Done, Sleeper, Count}
+use Rattle.lot_core.specs.World.{World, Locks, Conds, put}
+
+-- Who and what there is.
+abbrev pub IsThread : World → ℕ → Type 0
+IsThread s t = t < s.threads
+
+abbrev pub IsLock : World → ℕ → Type 0
+IsLock s l = l < s.lock_count
+
+abbrev pub IsCond : World → ℕ → Type 0
+IsCond s c = (s.lock_count ≤ c) × (c < s.lock_count + s.cond_count)
+
+-- t is trying to get l: it wants l and is not in l's line, or it rests on a condition and is not in that condition's line
+abbrev pub Trying : World → ℕ → ℕ → Type 0
+Trying s t l =
+    ((s.point t ≡ Wants l) × (¬ Contains (s.locks.line l) t))
+    ⊎ ((c : ℕ) × (s.point t ≡ Rest c l) × (¬ Contains (s.conds.line c) t))
+
+-- t may let a lock go: it is calm, or at the bed of some condition
+abbrev pub MayLetGo : World → ℕ → ℕ → Type 0
+MayLetGo s t l = (s.point t ≡ Calm) ⊎ ((c : ℕ) × (s.point t ≡ Bed c l))
+
+-- where two or more are in the line, `more` is said
+abbrev pub SaysMore : List ℕ → Bool → Type 0
+SaysMore line more = 2 ≤ length line → more ≡ true
+
+-- allowed where
+abbrev pub Allowed : World → Event → Type 0
+Allowed s (Try t l) = IsThread s t × IsLock s l × (s.point t ≡ Calm)
+Allowed s (Take t l) = IsThread s t × IsLock s l × ((s.point t ≡ Calm) ⊎ Trying s t l)
+Allowed s (Mark t l) = IsThread s t × IsLock s l × Trying s t l × (s.locks.held l ≡ true)
+Allowed s (Park t l) = IsThread s t × IsLock s l × (s.point t ≡ Wants l) × (¬ Contains (s.locks.line l) t)
+Allowed s (Free t l) = IsThread s t × IsLock s l × (s.locks.has l t ≡ true) × MayLetGo s t l
+Allowed s (Pass t l fair more) =
+    IsThread s t × IsLock s l × (s.locks.has l t ≡ true) × (s.locks.parked l ≡ true) × MayLetGo s t l
+    × (fair ≡ false → SaysMore (s.locks.line l) more)
+Allowed s (Enlist t c l) = IsThread s t × IsCond s c × IsLock s l × (s.point t ≡ Calm) × (s.locks.has l t ≡ true)
+Allowed s (Look t c) = IsThread s t × IsCond s c × (s.point t ≡ Calm)
+Allowed s (Call t c more) = IsThread s t × IsCond s c × (s.point t ≡ Calm) × SaysMore (s.conds.line c) more
+Allowed s (Lower t c) = IsThread s t × IsCond s c × (s.point t ≡ Calm)
+Allowed s (Sweep t c) = IsThread s t × IsCond s c × (s.point t ≡ Sweeps c)
+
+-- t gets l where l is unheld
+abbrev pub got : Locks → ℕ → ℕ → Locks
+got s t l =
+    if s.held l then s
+    else record s { held = put s.held l true; has = put s.has l (put (s.has l) t true) }
+
+abbrev pub marked : Locks → ℕ → Locks
+marked s l = record s { parked = put s.parked l true }
+
+-- t goes last in l's line where l is held and parked
+abbrev pub queued : Locks → ℕ → ℕ → Locks
+queued s t l = if s.held l && s.parked l then record s { line = put s.line l (s.line l ++ t ∷ []) } else s
+
+-- t lets l go where l is unparked
+abbrev pub freed : Locks → ℕ → ℕ → Locks
+freed s t l =
+    if s.parked l then s
+    else record s { held = put s.held l false; has = put s.has l (put (s.has l) t false) }
+
+-- t passes l on: to the first of its line where the pass is fair, else to nobody
+abbrev pub passed_line : Locks → ℕ → ℕ → Bool → Bool → List ℕ → Locks
+passed_line s t l fair more [] =
+    record s { held = put s.held l false; parked = put s.parked l false; has = put s.has l (put (s.has l) t false) }
+passed_line s t l fair more (u ∷ rest) =
+    if fair
+    then record s { line = put s.line l rest; has = put s.has l (put (put (s.has l) t false) u true) }
+    else record s {
+      held = put s.held l false; parked = put s.parked l more;
+      line = put s.line l rest; has = put s.has l (put (s.has l) t false)
+    }
+
+abbrev pub passed : Locks → ℕ → ℕ → Bool → Bool → Locks
+passed s t l fair more = passed_line s t l fair more (s.line l)
+
+abbrev pub enlisted : Conds → ℕ → ℕ → Conds
+enlisted s t c = record s { flag = put s.flag c true; line = put s.line c (s.line c ++ t ∷ []) }
+
+abbrev pub called_line : Conds → ℕ → Bool → List ℕ → Conds
+called_line s c more [] = record s { flag = put s.flag c false }
+called_line s c more (u ∷ rest) =
+    record s { flag = put s.flag c (s.flag c && more); line = put s.line c rest }
+
+abbrev pub called : Conds → ℕ → Bool → Conds
+called s c more = called_line s c more (s.line c)
+
+abbrev pub lowered : Conds → ℕ → Conds
+lowered s c = record s { flag = put s.flag c false }
+
+abbrev pub swept : Conds → ℕ → Conds
+swept s c = record s { line = put s.line c [] }
+
+-- Bed(c,l) becomes Rest(c,l)
+abbrev pub released : Point → Point
+released (Bed c l) = Rest c l
+released Calm = Calm
+released (Wants l) = Wants l
+released (Rest c l) = Rest c l
+released (Sweeps c) = Sweeps c
+
+-- where t lets a lock go and hands it to the first of the line, if any
+abbrev pub handed : (ℕ → Point) → List ℕ → (ℕ → Point)
+handed point [] = point
+handed point (u ∷ rest) = put point u Calm
+
+abbrev pub let_go : (ℕ → Point) → ℕ → (ℕ → Point)
+let_go point t = put point t (released (point t))
+
+-- change
+abbrev pub after : World → Event → World
+after s (Try t l) = record s { locks = got s.locks t l }
+after s (Take t l) =
+    record s { locks = got s.locks t l; point = put s.point t (if s.locks.held l then Wants l else Calm) }
+after s (Mark t l) = record s { locks = marked s.locks l }
+after s (Park t l) = record s { locks = queued s.locks t l }
+after s (Free t l) =
+    record s { locks = freed s.locks t l; point = if s.locks.parked l then s.point else let_go s.point t }
+after s (Pass t l fair more) =
+    record s {
+      locks = passed s.locks t l fair more;
+      point = if fair then handed (let_go s.point t) (s.locks.line l) else let_go s.point t
+    }
+after s (Enlist t c l) = record s { conds = enlisted s.conds t c; point = put s.point t (Bed c l) }
+after s (Look t c) = s
+after s (Call t c more) = record s { conds = called s.conds c more }
+after s (Lower t c) = record s { conds = lowered s.conds c; point = put s.point t (Sweeps c) }
+after s (Sweep t c) = record s { conds = swept s.conds c; point = put s.point t Calm }
+
+abbrev pub first : List ℕ → Option ℕ
+first [] = None
+first (u ∷ rest) = Some u
+
+-- seen
+abbrev pub seen : World → Event → Seen
+seen s (Try t l) = Saw (not (s.locks.held l))
+seen s (Take t l) = Saw (not (s.locks.held l))
+seen s (Mark t l) = Done
+seen s (Park t l) = Saw (s.locks.held l && s.locks.parked l)
+seen s (Free t l) = Saw (not (s.locks.parked l))
+seen s (Pass t l fair more) = Sleeper (first (s.locks.line l))
+seen s (Enlist t c l) = Done
+seen s (Look t c) = Saw (s.conds.flag c)
+seen s (Call t c more) = Sleeper (first (s.conds.line c))
+seen s (Lower t c) = Done
+seen s (Sweep t c) = Count (length (s.conds.line c))
+
+-- a run: each event is allowed in the state before it
+abbrev pub AllAllowed : World → List Event → Type 0
+AllAllowed s [] = Unit {0}
+AllAllowed s (e ∷ events) = Allowed s e × AllAllowed (after s e) events
+
+abbrev pub after_all : World → List Event → World
+after_all s [] = s
+after_all s (e ∷ events) = after_all (after s e) events

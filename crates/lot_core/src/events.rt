@@ -1,0 +1,56 @@
+//! The eleven events, what each lets its thread see, and the points at which a thread can stand.
+
+/// Where a thread stands between two events.
+#[derive(Clone, Copy, Debug, PartialEq, Eq)]
+pub enum Point {
+    /// It wants nothing.
+    Calm,
+    /// It tries to get the lock, or is queued on it.
+    Wants { lock: usize },
+    /// It is enlisted on the condition and has not let the lock go.
+    Bed { cond: usize, lock: usize },
+    /// It is enlisted on the condition once and has let the lock go.
+    Rest { cond: usize, lock: usize },
+    /// It has lowered the condition's flag and has not swept its line.
+    Sweeps { cond: usize },
+}
+
+/// One single access of one thread to the word of one key.
+#[derive(Clone, Copy, Debug, PartialEq, Eq)]
+pub enum Event {
+    /// Gets the lock where it is unheld, and wants nothing where it is held.
+    Try { thread: usize, key: usize },
+    /// Gets the lock where it is unheld, and wants it where it is held.
+    Take { thread: usize, key: usize },
+    /// Marks a held lock as parked.
+    Mark { thread: usize, key: usize },
+    /// Goes last in the lock's line where the lock is held and parked.
+    Park { thread: usize, key: usize },
+    /// Lets the lock go where it is not parked.
+    Free { thread: usize, key: usize },
+    /// Lets a parked lock go: to the first of its line where the pass is fair, else to whoever comes.
+    Pass { thread: usize, key: usize, fair: bool, more: bool },
+    /// Goes last in the condition's line and sets its flag, while it has the lock.
+    Enlist { thread: usize, key: usize, lock: usize },
+    /// Reads the condition's flag.
+    Look { thread: usize, key: usize },
+    /// Takes the first of the condition's line.
+    Call { thread: usize, key: usize, more: bool },
+    /// Clears the condition's flag before a sweep.
+    Lower { thread: usize, key: usize },
+    /// Takes the whole line of the condition.
+    Sweep { thread: usize, key: usize },
+}
+
+/// What a thread sees of the event that it makes.
+#[derive(Clone, Copy, Debug, PartialEq, Eq)]
+pub enum Seen {
+    /// Whether a lock was got, freed or queued on, or the flag that was read.
+    Bool(bool),
+    /// Nothing.
+    Done,
+    /// The thread that was taken from a line.
+    Sleeper(Option<usize>),
+    /// How many threads were taken from a line.
+    Count(usize),
+}
