@@ -1,10 +1,14 @@
-use Rattle.std.specs.Prelude.{◌≡◌, ℕ, Bool, true, false, if◌then◌else◌, List, [], ◌∷◌, Option, Some, None}
-use Rattle.lot_core.specs.declared.event.Point.{Point}
-use Rattle.lot_core.specs.declared.event.Point.TheVariants.{Calm, Wants, Bed, Rest, Sweeps}
-use Rattle.lot_core.specs.declared.event.Event.{Event}
-use Rattle.lot_core.specs.declared.event.Event.TheVariants.{Try, Take, Mark, Park, Free, Pass, Enlist, Look, Call, Lower, Sweep}
+-- The two parts of a state: what the words of locks can tell of it, and what those of conditions can.
+use Rattle.std.specs.Prelude.{◌≡◌, ℕ, ◌+◌, ◌<◌, ◌≤◌, ◌&&◌, ◌⊎◌, Bool, true, false, not, if◌then◌else◌, List, [], ◌∷◌, length, Option, Some, None}
+use Rattle.std.specs.List.{Contains}
+use Rattle.lot_core.specs.declared.events.Point.{Point}
+use Rattle.lot_core.specs.declared.events.Point.TheVariants.{Calm, Wants, Bed, Rest, Sweeps}
+use Rattle.lot_core.specs.declared.events.Event.{Event}
+use Rattle.lot_core.specs.declared.events.Event.TheVariants.{Try, Take, Mark, Park, Free, Pass, Enlist, Look, Call, Lower, Sweep}
+use Rattle.lot_core.specs.declared.events.Seen.{Seen}
+use Rattle.lot_core.specs.declared.events.Seen.TheVariants.{Bool as Saw, Done, Sleeper, Count}
 use Rattle.lot_core.specs.World.{World, Locks, Conds, put}
-use Rattle.lot_core.specs.Steps.{Allowed, after, got, marked, queued, freed, passed, enlisted, called, lowered, swept}
+use Rattle.lot_core.specs.Steps.{SaysMore, first, got, marked, queued, freed, passed, enlisted, called, lowered, swept}
 
 -- the lock part of a state: the locks, and the lock that each thread wants
 pub record LockPart : Type 0 where
@@ -36,6 +40,29 @@ lock_part s = record { locks = s.locks; wants = λ t. wanted (s.point t) }
 abbrev pub cond_part : World → CondPart
 cond_part s = record { conds = s.conds; sweeps = λ t. swept_by (s.point t) }
 
+-- so far as the lock part tells, t may be trying to get l: it wants nothing, or wants l and is not
+-- in l's line
+abbrev pub MayTry : LockPart → ℕ → ℕ → Type 0
+MayTry a t l = (a.wants t ≡ None) ⊎ ((a.wants t ≡ Some l) × (¬ Contains (a.locks.line l) t))
+
+-- where an event is allowed, so far as the lock part tells
+abbrev pub LockAllowed : ℕ → ℕ → LockPart → Event → Type 0
+LockAllowed threads locks a (Try t l) = (t < threads) × (l < locks) × (a.wants t ≡ None)
+LockAllowed threads locks a (Take t l) = (t < threads) × (l < locks) × MayTry a t l
+LockAllowed threads locks a (Mark t l) = (t < threads) × (l < locks) × MayTry a t l × (a.locks.held l ≡ true)
+LockAllowed threads locks a (Park t l) =
+    (t < threads) × (l < locks) × (a.wants t ≡ Some l) × (¬ Contains (a.locks.line l) t)
+LockAllowed threads locks a (Free t l) =
+    (t < threads) × (l < locks) × (a.locks.has l t ≡ true) × (a.wants t ≡ None)
+LockAllowed threads locks a (Pass t l fair more) =
+    (t < threads) × (l < locks) × (a.locks.has l t ≡ true) × (a.locks.parked l ≡ true) × (a.wants t ≡ None)
+    × (fair ≡ false → SaysMore (a.locks.line l) more)
+LockAllowed threads locks a (Enlist t c l) = ⊥
+LockAllowed threads locks a (Look t c) = ⊥
+LockAllowed threads locks a (Call t c more) = ⊥
+LockAllowed threads locks a (Lower t c) = ⊥
+LockAllowed threads locks a (Sweep t c) = ⊥
+
 -- who gets the lock wants it no more
 abbrev pub served : (ℕ → Option ℕ) → List ℕ → (ℕ → Option ℕ)
 served wants [] = wants
@@ -43,30 +70,91 @@ served wants (u ∷ rest) = put wants u None
 
 -- an event's change of the lock part
 abbrev pub lock_part_after : LockPart → Event → LockPart
-lock_part_after p (Try t l) = record p { locks = got p.locks t l }
-lock_part_after p (Take t l) =
-    record p { locks = got p.locks t l; wants = put p.wants t (if p.locks.held l then Some l else None) }
-lock_part_after p (Mark t l) = record p { locks = marked p.locks l }
-lock_part_after p (Park t l) = record p { locks = queued p.locks t l }
-lock_part_after p (Free t l) = record p { locks = freed p.locks t l }
-lock_part_after p (Pass t l fair more) =
-    record p { locks = passed p.locks t l fair more; wants = if fair then served p.wants (p.locks.line l) else p.wants }
-lock_part_after p (Enlist t c l) = p
-lock_part_after p (Look t c) = p
-lock_part_after p (Call t c more) = p
-lock_part_after p (Lower t c) = p
-lock_part_after p (Sweep t c) = p
+lock_part_after a (Try t l) = record a { locks = got a.locks t l }
+lock_part_after a (Take t l) =
+    record a { locks = got a.locks t l; wants = put a.wants t (if a.locks.held l then Some l else None) }
+lock_part_after a (Mark t l) = record a { locks = marked a.locks l }
+lock_part_after a (Park t l) = record a { locks = queued a.locks t l }
+lock_part_after a (Free t l) = record a { locks = freed a.locks t l }
+lock_part_after a (Pass t l fair more) =
+    record a { locks = passed a.locks t l fair more; wants = if fair then served a.wants (a.locks.line l) else a.wants }
+lock_part_after a (Enlist t c l) = a
+lock_part_after a (Look t c) = a
+lock_part_after a (Call t c more) = a
+lock_part_after a (Lower t c) = a
+lock_part_after a (Sweep t c) = a
+
+-- what is seen of a lock event; of the others the lock part tells nothing
+abbrev pub lock_seen : LockPart → Event → Seen
+lock_seen a (Try t l) = Saw (not (a.locks.held l))
+lock_seen a (Take t l) = Saw (not (a.locks.held l))
+lock_seen a (Mark t l) = Done
+lock_seen a (Park t l) = Saw (a.locks.held l && a.locks.parked l)
+lock_seen a (Free t l) = Saw (not (a.locks.parked l))
+lock_seen a (Pass t l fair more) = Sleeper (first (a.locks.line l))
+lock_seen a (Enlist t c l) = Done
+lock_seen a (Look t c) = Done
+lock_seen a (Call t c more) = Done
+lock_seen a (Lower t c) = Done
+lock_seen a (Sweep t c) = Done
+
+-- lock part a becomes b by a lock event of which this is seen
+abbrev pub LockStep : ℕ → ℕ → LockPart → Event → Seen → LockPart → Type 0
+LockStep threads locks a e saw b =
+    LockAllowed threads locks a e × (saw ≡ lock_seen a e) × (b ≡ lock_part_after a e)
+
+-- c is the number of a condition, which follow the locks
+abbrev pub IsAmongConds : ℕ → ℕ → ℕ → Type 0
+IsAmongConds locks conds c = (locks ≤ c) × (c < locks + conds)
+
+-- where an event is allowed, so far as the condition part tells
+abbrev pub CondAllowed : ℕ → ℕ → ℕ → CondPart → Event → Type 0
+CondAllowed threads locks conds a (Enlist t c l) =
+    (t < threads) × IsAmongConds locks conds c × (l < locks) × (a.sweeps t ≡ None)
+CondAllowed threads locks conds a (Look t c) =
+    (t < threads) × IsAmongConds locks conds c × (a.sweeps t ≡ None)
+CondAllowed threads locks conds a (Call t c more) =
+    (t < threads) × IsAmongConds locks conds c × (a.sweeps t ≡ None) × SaysMore (a.conds.line c) more
+CondAllowed threads locks conds a (Lower t c) =
+    (t < threads) × IsAmongConds locks conds c × (a.sweeps t ≡ None)
+CondAllowed threads locks conds a (Sweep t c) =
+    (t < threads) × IsAmongConds locks conds c × (a.sweeps t ≡ Some c)
+CondAllowed threads locks conds a (Try t l) = ⊥
+CondAllowed threads locks conds a (Take t l) = ⊥
+CondAllowed threads locks conds a (Mark t l) = ⊥
+CondAllowed threads locks conds a (Park t l) = ⊥
+CondAllowed threads locks conds a (Free t l) = ⊥
+CondAllowed threads locks conds a (Pass t l fair more) = ⊥
 
 -- an event's change of the condition part
 abbrev pub cond_part_after : CondPart → Event → CondPart
-cond_part_after p (Enlist t c l) = record p { conds = enlisted p.conds t c }
-cond_part_after p (Look t c) = p
-cond_part_after p (Call t c more) = record p { conds = called p.conds c more }
-cond_part_after p (Lower t c) = record p { conds = lowered p.conds c; sweeps = put p.sweeps t (Some c) }
-cond_part_after p (Sweep t c) = record p { conds = swept p.conds c; sweeps = put p.sweeps t None }
-cond_part_after p (Try t l) = p
-cond_part_after p (Take t l) = p
-cond_part_after p (Mark t l) = p
-cond_part_after p (Park t l) = p
-cond_part_after p (Free t l) = p
-cond_part_after p (Pass t l fair more) = p
+cond_part_after a (Enlist t c l) = record a { conds = enlisted a.conds t c }
+cond_part_after a (Look t c) = a
+cond_part_after a (Call t c more) = record a { conds = called a.conds c more }
+cond_part_after a (Lower t c) = record a { conds = lowered a.conds c; sweeps = put a.sweeps t (Some c) }
+cond_part_after a (Sweep t c) = record a { conds = swept a.conds c; sweeps = put a.sweeps t None }
+cond_part_after a (Try t l) = a
+cond_part_after a (Take t l) = a
+cond_part_after a (Mark t l) = a
+cond_part_after a (Park t l) = a
+cond_part_after a (Free t l) = a
+cond_part_after a (Pass t l fair more) = a
+
+-- what is seen of a condition event; of the others the condition part tells nothing
+abbrev pub cond_seen : CondPart → Event → Seen
+cond_seen a (Enlist t c l) = Done
+cond_seen a (Look t c) = Saw (a.conds.flag c)
+cond_seen a (Call t c more) = Sleeper (first (a.conds.line c))
+cond_seen a (Lower t c) = Done
+cond_seen a (Sweep t c) = Count (length (a.conds.line c))
+cond_seen a (Try t l) = Done
+cond_seen a (Take t l) = Done
+cond_seen a (Mark t l) = Done
+cond_seen a (Park t l) = Done
+cond_seen a (Free t l) = Done
+cond_seen a (Pass t l fair more) = Done
+
+-- condition part a becomes b by a condition event of which this is seen
+abbrev pub CondStep : ℕ → ℕ → ℕ → CondPart → Event → Seen → CondPart → Type 0
+CondStep threads locks conds a e saw b =
+    CondAllowed threads locks conds a e × (saw ≡ cond_seen a e) × (b ≡ cond_part_after a e)

@@ -1,11 +1,12 @@
+-- The events: where each is allowed, what it changes, and what its thread sees of it.
 use Rattle.std.specs.Prelude.{◌≡◌, ◌≢◌, ℕ, ◌+◌, ◌<◌, ◌≤◌, ◌==◌, ◌&&◌, ◌⊎◌, Bool, true, false, not, if◌then◌else◌, List, [], ◌∷◌, ◌++◌, length, Option, Some, None}
 use Rattle.std.specs.List.{Contains}
-use Rattle.lot_core.specs.declared.event.Point.{Point}
-use Rattle.lot_core.specs.declared.event.Point.TheVariants.{Calm, Wants, Bed, Rest, Sweeps}
-use Rattle.lot_core.specs.declared.event.Event.{Event}
-use Rattle.lot_core.specs.declared.event.Event.TheVariants.{Try, Take, Mark, Park, Free, Pass, Enlist, Look, Call, Lower, Sweep}
-use Rattle.lot_core.specs.declared.event.Seen.{Seen}
-use Rattle.lot_core.specs.declared.event.Seen.TheVariants.{Bool as Saw, Done, Sleeper, Count}
+use Rattle.lot_core.specs.declared.events.Point.{Point}
+use Rattle.lot_core.specs.declared.events.Point.TheVariants.{Calm, Wants, Bed, Rest, Sweeps}
+use Rattle.lot_core.specs.declared.events.Event.{Event}
+use Rattle.lot_core.specs.declared.events.Event.TheVariants.{Try, Take, Mark, Park, Free, Pass, Enlist, Look, Call, Lower, Sweep}
+use Rattle.lot_core.specs.declared.events.Seen.{Seen}
+use Rattle.lot_core.specs.declared.events.Seen.TheVariants.{Bool as Saw, Done, Sleeper, Count}
 use Rattle.lot_core.specs.World.{World, Locks, Conds, put}
 
 -- Who and what there is.
@@ -19,8 +20,8 @@ abbrev pub IsCond : World → ℕ → Type 0
 IsCond s c = (s.lock_count ≤ c) × (c < s.lock_count + s.cond_count)
 
 -- t is trying to get l: it wants l and is not in l's line, or it rests on a condition and is not in that condition's line
-abbrev pub Trying : World → ℕ → ℕ → Type 0
-Trying s t l =
+abbrev pub IsTrying : World → ℕ → ℕ → Type 0
+IsTrying s t l =
     ((s.point t ≡ Wants l) × (¬ Contains (s.locks.line l) t))
     ⊎ ((c : ℕ) × (s.point t ≡ Rest c l) × (¬ Contains (s.conds.line c) t))
 
@@ -35,8 +36,8 @@ SaysMore line more = 2 ≤ length line → more ≡ true
 -- allowed where
 abbrev pub Allowed : World → Event → Type 0
 Allowed s (Try t l) = IsThread s t × IsLock s l × (s.point t ≡ Calm)
-Allowed s (Take t l) = IsThread s t × IsLock s l × ((s.point t ≡ Calm) ⊎ Trying s t l)
-Allowed s (Mark t l) = IsThread s t × IsLock s l × Trying s t l × (s.locks.held l ≡ true)
+Allowed s (Take t l) = IsThread s t × IsLock s l × ((s.point t ≡ Calm) ⊎ IsTrying s t l)
+Allowed s (Mark t l) = IsThread s t × IsLock s l × IsTrying s t l × (s.locks.held l ≡ true)
 Allowed s (Park t l) = IsThread s t × IsLock s l × (s.point t ≡ Wants l) × (¬ Contains (s.locks.line l) t)
 Allowed s (Free t l) = IsThread s t × IsLock s l × (s.locks.has l t ≡ true) × MayLetGo s t l
 Allowed s (Pass t l fair more) =
@@ -154,9 +155,9 @@ seen s (Lower t c) = Done
 seen s (Sweep t c) = Count (length (s.conds.line c))
 
 -- a run: each event is allowed in the state before it
-abbrev pub AllAllowed : World → List Event → Type 0
-AllAllowed s [] = Unit {0}
-AllAllowed s (e ∷ events) = Allowed s e × AllAllowed (after s e) events
+abbrev pub Run : World → List Event → Type 0
+Run s [] = Unit {0}
+Run s (e ∷ events) = Allowed s e × Run (after s e) events
 
 abbrev pub after_all : World → List Event → World
 after_all s [] = s

@@ -1,24 +1,26 @@
-use Rattle.std.specs.Prelude.{◌≡◌, ℕ, ◌==◌, Bool, true, false, if◌then◌else◌, List, []}
-use Rattle.lot_core.specs.declared.event.Point.{Point}
-use Rattle.lot_core.specs.declared.event.Point.TheVariants.{Calm}
+-- A state of the model.
+use Rattle.std.specs.Prelude.{◌==◌, ℕ, Bool, false, if◌then◌else◌, List, []}
+use Rattle.lot_core.specs.declared.events.Point.{Point}
+use Rattle.lot_core.specs.declared.events.Point.TheVariants.{Calm}
 
 -- a function with one value changed
 abbrev pub put : {X : Type 0} → (ℕ → X) → ℕ → X → (ℕ → X)
 put f k v = λ i. if i == k then v else f i
 
--- the locks: `has l t` says that thread t has lock l
+-- the locks: of each its two bits and its line of sleepers; `has l t` says that thread t has lock l
 pub record Locks : Type 0 where
   pub held : ℕ → Bool
   pub parked : ℕ → Bool
   pub line : ℕ → List ℕ
   pub has : ℕ → ℕ → Bool
 
--- the conditions
+-- the conditions: of each its flag and its line of sleepers
 pub record Conds : Type 0 where
   pub flag : ℕ → Bool
   pub line : ℕ → List ℕ
 
--- a state of the model: the numbers of threads, locks and conditions, what each lock and condition is, and where each thread stands
+-- a state: how many threads, locks and conditions there are, what each lock and condition is, and
+-- where each thread stands
 pub record World : Type 0 where
   pub threads : ℕ
   pub lock_count : ℕ

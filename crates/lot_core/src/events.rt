@@ -1,21 +1,25 @@
-//! The eleven events, what each lets its thread see, and the points at which a thread can stand.
+//! The eleven events, what a thread sees of its own, and the points at which a thread can stand.
 
 /// Where a thread stands between two events.
 #[derive(Clone, Copy, Debug, PartialEq, Eq)]
 pub enum Point {
-    /// It wants nothing.
+    /// It wants nothing, or owns what it wanted.
     Calm,
     /// It tries to get the lock, or is queued on it.
     Wants { lock: usize },
     /// It is enlisted on the condition and has not let the lock go.
     Bed { cond: usize, lock: usize },
-    /// It is enlisted on the condition once and has let the lock go.
+    /// It was enlisted on the condition once and has let the lock go.
     Rest { cond: usize, lock: usize },
     /// It has lowered the condition's flag and has not swept its line.
     Sweeps { cond: usize },
 }
 
 /// One single access of one thread to the word of one key.
+///
+/// Keys count the locks first and the conditions behind them, from 0, as threads do. An event with
+/// a number out of range is no error of its own: [`State::step`](crate::State::step) refuses it.
+/// After WTF's `LockAlgorithm` (Try to Pass) and `Condition` (Enlist to Sweep).
 #[derive(Clone, Copy, Debug, PartialEq, Eq)]
 pub enum Event {
     /// Gets the lock where it is unheld, and wants nothing where it is held.
@@ -28,13 +32,14 @@ pub enum Event {
     Park { thread: usize, key: usize },
     /// Lets the lock go where it is not parked.
     Free { thread: usize, key: usize },
-    /// Lets a parked lock go: to the first of its line where the pass is fair, else to whoever comes.
+    /// Lets a parked lock go: to the first of its line where the pass is fair, else to whoever
+    /// comes. `more` says that others may wait behind that first.
     Pass { thread: usize, key: usize, fair: bool, more: bool },
     /// Goes last in the condition's line and sets its flag, while it has the lock.
     Enlist { thread: usize, key: usize, lock: usize },
     /// Reads the condition's flag.
     Look { thread: usize, key: usize },
-    /// Takes the first of the condition's line.
+    /// Takes the first of the condition's line, and clears the flag where no `more` may wait.
     Call { thread: usize, key: usize, more: bool },
     /// Clears the condition's flag before a sweep.
     Lower { thread: usize, key: usize },
@@ -45,12 +50,12 @@ pub enum Event {
 /// What a thread sees of the event that it makes.
 #[derive(Clone, Copy, Debug, PartialEq, Eq)]
 pub enum Seen {
-    /// Whether a lock was got, freed or queued on, or the flag that was read.
+    /// Whether a lock was got (Try, Take), queued on (Park) or let go (Free), or the flag (Look).
     Bool(bool),
-    /// Nothing.
+    /// Nothing (Mark, Enlist, Lower).
     Done,
-    /// The thread that was taken from a line.
+    /// The thread that was taken from a line (Pass, Call).
     Sleeper(Option<usize>),
-    /// How many threads were taken from a line.
+    /// How many threads were taken from a line (Sweep).
     Count(usize),
 }

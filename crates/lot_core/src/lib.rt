@@ -1,6 +1,6 @@
 //! The step model of the parking lot's locks and conditions, runnable.
 #![tactic(auto)]
 
-pub mod event;
+pub mod events;
 
-pub use event::{Event, Point, Seen};
+pub use events::{Event, Point, Seen};
