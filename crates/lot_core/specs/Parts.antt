@@ -8,7 +8,7 @@ use Rattle.lot_core.specs.declared.events.Event.TheVariants.{Try, Take, Mark, Pa
 use Rattle.lot_core.specs.declared.events.Seen.{Seen}
 use Rattle.lot_core.specs.declared.events.Seen.TheVariants.{Bool as Saw, Done, Sleeper, Count}
 use Rattle.lot_core.specs.World.{World, Locks, Conds, put}
-use Rattle.lot_core.specs.Steps.{SaysMore, first, got, marked, queued, freed, passed, enlisted, called, lowered, swept}
+use Rattle.lot_core.specs.Steps.{SaysMore, after, seen, first, got, marked, queued, freed, passed, enlisted, called, lowered, swept}
 
 -- the lock part of a state: the locks, and the lock that each thread wants
 pub record LockPart : Type 0 where
@@ -158,3 +158,27 @@ cond_seen a (Pass t l fair more) = Done
 abbrev pub CondStep : ℕ → ℕ → ℕ → CondPart → Event → Seen → CondPart → Type 0
 CondStep threads locks conds a e saw b =
     CondAllowed threads locks conds a e × (saw ≡ cond_seen a e) × (b ≡ cond_part_after a e)
+
+abbrev pub IsLockEvent : Event → Type 0
+IsLockEvent (Try t l) = Unit {0}
+IsLockEvent (Take t l) = Unit {0}
+IsLockEvent (Mark t l) = Unit {0}
+IsLockEvent (Park t l) = Unit {0}
+IsLockEvent (Free t l) = Unit {0}
+IsLockEvent (Pass t l fair more) = Unit {0}
+IsLockEvent (Enlist t c l) = ⊥
+IsLockEvent (Look t c) = ⊥
+IsLockEvent (Call t c more) = ⊥
+IsLockEvent (Lower t c) = ⊥
+IsLockEvent (Sweep t c) = ⊥
+
+-- what event e of state s is to the lock part: a step with the same answer where it is a lock event,
+-- and nothing where it is not
+pub record LockPartFollows (s : World) (e : Event) : Type 0 where
+  pub steps : IsLockEvent e → LockStep s.threads s.lock_count (lock_part s) e (seen s e) (lock_part (after s e))
+  pub stays : (IsLockEvent e → ⊥) → lock_part (after s e) ≡ lock_part s
+
+-- the same of the condition part
+pub record CondPartFollows (s : World) (e : Event) : Type 0 where
+  pub steps : (IsLockEvent e → ⊥) → CondStep s.threads s.lock_count s.cond_count (cond_part s) e (seen s e) (cond_part (after s e))
+  pub stays : IsLockEvent e → cond_part (after s e) ≡ cond_part s

@@ -2,5 +2,7 @@
 #![tactic(auto)]
 
 pub mod events;
+pub mod laws;
 
 pub use events::{Event, Point, Seen};
+pub use laws::{every_run_is_sound, parts_follow};

@@ -1,0 +1,163 @@
+-- Every event that is allowed keeps a sound state sound.
+use Rattle.std.proofs.Common.{◌≡◌, ◌≢◌, ◌⊎◌, ◌<◌, ◌++◌, ℕ, Bool, true, false, List, [], ◌∷◌, refl, subst, sym, ap, ◌∙◌, inl, inr}
+use Rattle.std.specs.Prelude.{◌&&◌, if◌then◌else◌}
+use Rattle.std.specs.List.{Contains}
+use Rattle.std.proofs.lemmas.Bool.{and_parts}
+use Rattle.lot_core.specs.declared.events.Point.{Point}
+use Rattle.lot_core.specs.declared.events.Point.TheVariants.{Calm, Wants, Bed, Rest, Sweeps}
+use Rattle.lot_core.specs.declared.events.Event.{Event}
+use Rattle.lot_core.specs.declared.events.Event.TheVariants.{Try, Take, Mark, Park, Free, Pass, Enlist, Look, Call, Lower, Sweep}
+use Rattle.lot_core.specs.World.{World, Locks, Conds, put, opening}
+use Rattle.lot_core.specs.Steps.{IsThread, IsTrying, MayLetGo, SaysMore, Allowed, after, Run, after_all, passed_line, handed, let_go}
+use Rattle.lot_core.specs.Sound.{IsSound}
+use Rattle.lot_core.proofs.Put.{by_bit, by_line, put_same, put_other}
+use Rattle.lot_core.proofs.Members.{in_head, once_none, in_none}
+use Rattle.lot_core.proofs.Kept.{IsKept, IsOutside, outside_calm, outside_sweeps, outside_wants, outside_trying, trying_one, calm_tries_nothing, sweeper_tries_nothing, trying_sweeps_nothing, move, move_kept, with_got, got_kept, marked_kept, with_queued, queued_kept, with_freed, freed_kept, with_passed_to_none, passed_to_none_kept, with_passed, passed_kept, with_handed, handed_kept, left_out, first_wants, let_go_kept, enlisted_kept, called_kept, lowered_kept, swept_kept}
+
+pub try_kept : (s : World) (t l : ℕ) → IsKept s → IsKept (after s (Try t l))
+try_kept s t l h =
+    by_bit (λ b. IsKept (record s { locks = if b then s.locks else (with_got s t l).locks })) (s.locks.held l)
+    (λ held. h) (λ unheld. got_kept s t l h unheld)
+
+-- who may take l is in no line, tries no other lock and sweeps nothing
+pub taker_outside : (s : World) (t l : ℕ) → IsKept s → ((s.point t ≡ Calm) ⊎ IsTrying s t l) → IsOutside s t
+taker_outside s t l h (inl calm) = outside_calm s t h calm
+taker_outside s t l h (inr try) = outside_trying s t l h try
+
+pub taker_tries : (s : World) (t l k : ℕ) → ((s.point t ≡ Calm) ⊎ IsTrying s t l) → IsTrying s t k → k ≡ l
+taker_tries s t l k (inl calm) try = absurd (calm_tries_nothing s t k calm try)
+taker_tries s t l k (inr tries) try = trying_one s t l k tries try
+
+pub taker_sweeps : (s : World) (t l c : ℕ) → ((s.point t ≡ Calm) ⊎ IsTrying s t l) → s.point t ≡ Sweeps c → ⊥
+taker_sweeps s t l c (inl calm) sweeps = absurd (cc)
+taker_sweeps s t l c (inr tries) sweeps = trying_sweeps_nothing s t l c tries sweeps
+
+pub take_kept : (s : World) (t l : ℕ) → IsKept s → ((s.point t ≡ Calm) ⊎ IsTrying s t l) → IsKept (after s (Take t l))
+take_kept s t l h may =
+    by_bit (λ b. IsKept (record s {
+      locks = if b then s.locks else (with_got s t l).locks;
+      point = put s.point t (if b then Wants l else Calm)
+    })) (s.locks.held l)
+    (λ held. move_kept s t (Wants l) h (taker_outside s t l h may)
+        (λ k clear try. let same : k ≡ l = taker_tries s t l k may try in
+            let unheld : s.locks.held l ≡ false = subst (λ j. s.locks.held j ≡ false) same clear in absurd (cc))
+        (λ c some at. taker_sweeps s t l c may at))
+    (λ unheld. move_kept (with_got s t l) t Calm (got_kept s t l h unheld) (taker_outside (with_got s t l) t l (got_kept s t l h unheld) may)
+        (λ k clear try. let same : k ≡ l = taker_tries s t l k may try in
+            let held : put s.locks.held l true k ≡ true = ap (put s.locks.held l true) same ∙ put_same s.locks.held l true in absurd (cc))
+        (λ c some at. taker_sweeps s t l c may at))
+
+pub park_kept : (s : World) (t l : ℕ) → IsKept s → Allowed s (Park t l) → IsKept (after s (Park t l))
+park_kept s t l h ok =
+    by_bit (λ b. IsKept (record s { locks = if b then (with_queued s t l).locks else s.locks })) (s.locks.held l && s.locks.parked l)
+    (λ both. let parts = and_parts (s.locks.held l) (s.locks.parked l) both in
+        queued_kept s t l h ok.0 ok.2 ok.3 parts.0 parts.1)
+    (λ not_both. h)
+
+pub free_kept : (s : World) (t l : ℕ) → IsKept s → Allowed s (Free t l) → IsKept (after s (Free t l))
+free_kept s t l h ok =
+    by_bit (λ b. IsKept (record s {
+      locks = if b then s.locks else (with_freed s t l).locks;
+      point = if b then s.point else let_go s.point t
+    })) (s.locks.parked l)
+    (λ parked. h)
+    (λ unparked. let_go_kept (with_freed s t l) t l (freed_kept s t l h ok.2 unparked) ok.3)
+
+-- t and the first of the line of a lock that t may let go are two threads
+pub first_is_other : (s : World) (t l k u : ℕ) → MayLetGo s t l → s.point u ≡ Wants k → u ≢ t
+first_is_other s t l k u (inl calm) wants e = let at : s.point t ≡ Wants k = subst (λ w. s.point w ≡ Wants k) e wants in absurd (cc)
+first_is_other s t l k u (inr (c, bed)) wants e = let at : s.point t ≡ Wants k = subst (λ w. s.point w ≡ Wants k) e wants in absurd (cc)
+
+-- a handoff: t lets l go, and the first of the line is calm
+pub hand_over_kept : (s : World) (t l u : ℕ) (rest : List ℕ) → IsKept s → s.locks.has l t ≡ true → MayLetGo s t l →
+    s.locks.line l ≡ u ∷ rest →
+    IsKept (record s { locks = (with_handed s t l u rest).locks; point = put (let_go s.point t) u Calm })
+hand_over_kept s t l u rest h has_it may is =
+    let other : u ≢ t = first_is_other s t l l u may (first_wants s l u rest h is) in
+    let wants : let_go s.point t u ≡ Wants l = put_other s.point t _ u other ∙ first_wants s l u rest h is in
+    let freed = let_go_kept (with_handed s t l u rest) t l (handed_kept s t l u rest h has_it is) may in
+    let next : World = record s { locks = (with_handed s t l u rest).locks; point = let_go s.point t } in
+    move_kept next u Calm freed
+    (outside_wants next u l freed wants (left_out s.locks.line l u rest is h.sound.one_line_each.lock_once))
+    (λ k clear try. elim try [
+      inl x ↦
+        let at : let_go s.point t u ≡ Wants k = x.0 in
+        let same : k ≡ l = cc in
+        let held : s.locks.held l ≡ true = (h.sound.one_owner.some l).1 (t, has_it) in
+        let unheld : s.locks.held l ≡ false = subst (λ j. s.locks.held j ≡ false) same clear in
+        absurd (cc)
+    | inr x ↦ let at : let_go s.point t u ≡ Rest x.0 k = x.1 in absurd (cc)
+    ])
+    (λ c some at. let sweeps : let_go s.point t u ≡ Sweeps c = at in absurd (cc))
+
+pub pass_kept : (s : World) (t l : ℕ) (fair more : Bool) → IsKept s → Allowed s (Pass t l fair more) → IsKept (after s (Pass t l fair more))
+pass_kept s t l true more h ok =
+    by_line (λ xs. IsKept (record s { locks = passed_line s.locks t l true more xs; point = handed (let_go s.point t) xs })) (s.locks.line l)
+    (λ none. let_go_kept (with_passed_to_none s t l) t l (passed_to_none_kept s t l h ok.2 none) ok.4)
+    (λ u rest is. hand_over_kept s t l u rest h ok.2 ok.4 is)
+pass_kept s t l false more h ok =
+    by_line (λ xs. IsKept (record s { locks = passed_line s.locks t l false more xs; point = let_go s.point t })) (s.locks.line l)
+    (λ none. let_go_kept (with_passed_to_none s t l) t l (passed_to_none_kept s t l h ok.2 none) ok.4)
+    (λ u rest is. let_go_kept (with_passed s t l more rest) t l
+        (passed_kept s t l more u rest h ok.2 is (subst (λ xs. SaysMore xs more) is (ok.5 refl))) ok.4)
+
+pub enlist_kept : (s : World) (t c l : ℕ) → IsKept s → s.point t ≡ Calm → IsKept (after s (Enlist t c l))
+enlist_kept s t c l h calm =
+    let out : IsOutside s t = outside_calm s t h calm in
+    let at_bed = move_kept s t (Bed c l) h out (λ k clear try. calm_tries_nothing s t k calm try) (λ d some e. absurd (cc)) in
+    enlisted_kept (move s t (Bed c l)) t c l at_bed (put_same s.point t (Bed c l)) (record { locks = out.locks; conds = out.conds })
+
+pub lower_kept : (s : World) (t c : ℕ) → IsKept s → IsThread s t → s.point t ≡ Calm → IsKept (after s (Lower t c))
+lower_kept s t c h thread calm =
+    lowered_kept (move s t (Sweeps c)) t c
+    (move_kept s t (Sweeps c) h (outside_calm s t h calm) (λ k clear try. calm_tries_nothing s t k calm try) (λ d some e. absurd (cc)))
+    thread (put_same s.point t (Sweeps c))
+
+pub sweep_kept : (s : World) (t c : ℕ) → IsKept s → s.point t ≡ Sweeps c → IsKept (after s (Sweep t c))
+sweep_kept s t c h sweeps =
+    let next : World = record s { conds = record s.conds { line = put s.conds.line c [] } } in
+    let empty : IsKept next = swept_kept s c h in
+    move_kept next t Calm empty (outside_sweeps next t c empty sweeps)
+    (λ k clear try. sweeper_tries_nothing next t c k sweeps try)
+    (λ d some at.
+        let same : d ≡ c = cc in
+        some (ap (put s.conds.line c []) same ∙ put_same s.conds.line c []))
+
+pub event_kept : (s : World) (e : Event) → IsKept s → Allowed s e → IsKept (after s e)
+event_kept s (Try t l) h ok = try_kept s t l h
+event_kept s (Take t l) h ok = take_kept s t l h ok.2
+event_kept s (Mark t l) h ok = marked_kept s l h
+event_kept s (Park t l) h ok = park_kept s t l h ok
+event_kept s (Free t l) h ok = free_kept s t l h ok
+event_kept s (Pass t l fair more) h ok = pass_kept s t l fair more h ok
+event_kept s (Enlist t c l) h ok = enlist_kept s t c l h ok.3
+event_kept s (Look t c) h ok = h
+event_kept s (Call t c more) h ok = called_kept s c more (s.conds.line c) h refl ok.3
+event_kept s (Lower t c) h ok = lower_kept s t c h ok.0 ok.2
+event_kept s (Sweep t c) h ok = sweep_kept s t c h ok.2
+
+pub opening_kept : (threads locks conds : ℕ) → IsKept (opening threads locks conds)
+opening_kept threads locks conds = record {
+  sound = record {
+    one_owner = record { one = λ l t u a b. absurd (cc); some = λ l. ((λ e. absurd (cc)), (λ x. let e = x.1 in absurd (cc))) };
+    sleepers_are_marked = λ l t inside. absurd (in_none t inside);
+    someone_is_trying = λ l clear some. absurd (some refl);
+    someone_sweeps = λ c clear some. absurd (some refl);
+    one_line_each = record {
+      lock_once = λ l. once_none;
+      cond_once = λ c. once_none;
+      wants = λ l t inside. absurd (in_none t inside);
+      waits = λ c t inside. absurd (in_none t inside);
+    };
+  };
+  known = λ l t inside. absurd (in_none t inside);
+}
+
+pub run_kept : (s : World) (events : List Event) → IsKept s → Run s events → IsKept (after_all s events)
+run_kept s [] h run = h
+run_kept s (e ∷ events) h run = run_kept (after s e) events (event_kept s e h run.0) run.1
+
+-- every run from an opening state ends in a sound state
+pub runs_are_sound : (threads locks conds : ℕ) (events : List Event) → Run (opening threads locks conds) events →
+    IsSound (after_all (opening threads locks conds) events)
+runs_are_sound threads locks conds events run = (run_kept (opening threads locks conds) events (opening_kept threads locks conds) run).sound

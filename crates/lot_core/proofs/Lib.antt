@@ -1,0 +1,6 @@
+pub mod Put
+pub mod Members
+pub mod Owners
+pub mod Kept
+pub mod Law
+pub mod Following

@@ -1,0 +1,27 @@
+-- Functions with one value changed, and cases on a bit and on a line.
+use Rattle.std.proofs.Common.{◌≡◌, ◌≢◌, ℕ, Bool, true, false, List, [], ◌∷◌, refl, eq-eqb, subst, sym, ap}
+use Rattle.std.specs.Prelude.{◌==◌, if◌then◌else◌}
+use Rattle.std.proofs.lemmas.Bool.{eqb-true, eqb-false}
+use Rattle.lot_core.specs.World.{put}
+
+-- what holds of a bit where it is set, and where it is clear, holds of it
+pub by_bit : (Q : Bool → Type 0) (b : Bool) → (b ≡ true → Q true) → (b ≡ false → Q false) → Q b
+by_bit Q true set clear = set refl
+by_bit Q false set clear = clear refl
+
+-- the same of a line: where it is empty, and where it has a first
+pub by_line : (Q : List ℕ → Type 0) (xs : List ℕ) → (xs ≡ [] → Q []) → ((u : ℕ) (rest : List ℕ) → xs ≡ u ∷ rest → Q (u ∷ rest)) → Q xs
+by_line Q [] none some = none refl
+by_line Q (u ∷ rest) none some = some u rest refl
+
+-- what holds at the changed place, and at each other place, holds at all places
+pub at_all : (Q : ℕ → Bool → Type 0) (k : ℕ) → Q k true → ((i : ℕ) → i ≢ k → Q i false) → (i : ℕ) → Q i (i == k)
+at_all Q k here there i =
+    by_bit (Q i) (i == k) (λ e. subst (λ j. Q j true) (sym (eqb-true i k e)) here) (λ e. there i (eqb-false i k e))
+
+pub put_same : {X : Type 0} (f : ℕ → X) (k : ℕ) (v : X) → put f k v k ≡ v
+put_same f k v = ap (λ b. if b then v else f k) (eq-eqb k k refl)
+
+pub put_other : {X : Type 0} (f : ℕ → X) (k : ℕ) (v : X) (i : ℕ) → i ≢ k → put f k v i ≡ f i
+put_other f k v i ne =
+    by_bit (λ b. (if b then v else f i) ≡ f i) (i == k) (λ e. absurd (ne (eqb-true i k e))) (λ e. refl)

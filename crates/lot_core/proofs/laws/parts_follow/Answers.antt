@@ -1,0 +1,5 @@
+use Rattle.lot_core.proofs.Following.{lock_follows, cond_follows}
+use Rattle.lot_core.proofs.laws.parts_follow.Goals as goal
+
+pub returns : goal.returns
+returns c = record { lock_part = lock_follows; cond_part = cond_follows }

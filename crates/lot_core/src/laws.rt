@@ -1,0 +1,30 @@
+//! What holds of every run, and what an event of the whole is to its two parts: functions that do
+//! nothing, whose contracts are the laws.
+ghost use Rattle.std.specs.Prelude.{ℕ, List};
+ghost use Rattle.lot_core.specs.declared.events.Event.{Event};
+ghost use Rattle.lot_core.specs.World.{World, opening};
+ghost use Rattle.lot_core.specs.Steps.{Allowed, Run, after_all};
+ghost use Rattle.lot_core.specs.Sound.{IsSound};
+ghost use Rattle.lot_core.specs.Parts.{LockPartFollows, CondPartFollows};
+
+/// After every run from an opening state the state is sound, whatever its numbers of threads, locks
+/// and conditions, and however long it is.
+pub fn every_run_is_sound()
+    ensures {
+        (threads locks conds : ℕ) (events : List Event) →
+        Run (opening threads locks conds) events →
+        IsSound (after_all (opening threads locks conds) events)
+    }
+{
+}
+
+/// An event of the whole is a step of the part that it belongs to, with the same answer, and leaves
+/// the other part as it is. So the words of locks and those of conditions can be ruled apart.
+///
+/// The condition part asks for a sound state: only there is it sure that the thread to whom a lock
+/// is handed was no sweeper.
+pub fn parts_follow()
+    ensures lock_part { (s : World) (e : Event) → Allowed s e → LockPartFollows s e }
+    ensures cond_part { (s : World) (e : Event) → IsSound s → Allowed s e → CondPartFollows s e }
+{
+}
