@@ -1,0 +1,4 @@
+pub mod Laws
+mod Lines
+mod Settling
+mod Slots

@@ -1,0 +1,124 @@
+-- Where the place of a key is.
+use Rattle.std.proofs.Common.{◌≡◌, ◌≢◌, ℕ, zero, suc, ◌+◌, ◌*◌, ◌<◌, ◌≤◌, true, false, List, [], ◌∷◌, length, map, take, get_or, set, inl, inr, ◌-◌, ◌/◌, ◌%◌, MatchOption, Option, Some, None, refl, sym, ◌∙◌, ap, subst, arith, eq-eqb}
+use Rattle.std.proofs.lemmas.Bool.{ne_eqb}
+use Rattle.std.proofs.lemmas.List.{get_or-map, length-map, take_all}
+use Rattle.std.proofs.Math.Nat.{mul-le-mul_right, mul-mod_left, mul-div_cancel}
+use Rattle.std.proofs.lemmas.Option.{get_or_from_slice_get}
+use Rattle.std.proofs.lemmas.Bool.Decides.{eqb_tells}
+use Rattle.std.proofs.Math.Seq.{map-set_same}
+use Rattle.lot_bucket.specs.Places.{empty_places, has_key, root_at, with_root, AreEven, IsPlaceOf}
+
+module _ {R : Type 0} where
+  -- the places before i are of other keys, and the one at i is of key k
+  pub first_place : (k : ℕ) (places : List (ℕ × Option R)) (i : ℕ) → i < length places
+      → ((j : ℕ) (d : ℕ × Option R) → j < i → (get_or places j d).0 ≢ k) → ((d : ℕ × Option R) → (get_or places i d).0 ≡ k) → IsPlaceOf k places i
+  first_place k [] i bound before here = absurd (omega arith)
+  first_place k (p ∷ places) zero bound before here =
+      let same = eq-eqb p.0 k (here p) in
+      record {
+        bound = bound;
+        has = rw same refl;
+        holds = rw same (ap (λ (n : ℕ). Some (n, p.1)) (here p));
+        changed = λ root. rw same (ap (λ (n : ℕ). (n, root) ∷ places) (here p));
+      }
+  first_place k (p ∷ places) (suc i) bound before here =
+      let other = ne_eqb p.0 k (before 0 p (omega arith)) in
+      let later = first_place k places i (omega arith) (λ j d lt. before (suc j) d (omega arith)) here in
+      record {
+        bound = bound;
+        has = rw other later.has;
+        holds = rw other later.holds;
+        changed = λ root. rw other (ap (λ ps. p ∷ ps) (later.changed root));
+      }
+
+  -- no place is of key k
+  pub no_place : (k : ℕ) (places : List (ℕ × Option R)) → ((j : ℕ) (d : ℕ × Option R) → j < length places → (get_or places j d).0 ≢ k) → has_key k places ≡ false
+  no_place k [] none = refl
+  no_place k (p ∷ places) none =
+      rw (ne_eqb p.0 k (none 0 p (omega arith))) (no_place k places (λ j d lt. none (suc j) d (omega arith)))
+
+  -- with evenly spaced keys, the key at i
+  pub key_at : (first step : ℕ) (places : List (ℕ × Option R)) → AreEven first step (map (λ (p : ℕ × Option R). p.0) places)
+      → (i : ℕ) (d : ℕ × Option R) → i < length places → (get_or places i d).0 ≡ first + i * step
+  key_at first step places even i d lt =
+      sym (get_or-map (λ (p : ℕ × Option R). p.0) places i d 0 lt) ∙ even i (rw (length-map places (λ (p : ℕ × Option R). p.0)) lt)
+
+  -- with evenly spaced keys, the place of the i-th
+  pub even_place : (first step k i : ℕ) (places : List (ℕ × Option R)) → 0 < step → AreEven first step (map (λ (p : ℕ × Option R). p.0) places)
+      → i < length places → first + i * step ≡ k → IsPlaceOf k places i
+  even_place first step k i places rises even lt here =
+      first_place k places i lt
+      (λ j d before e.
+      let at : (get_or places j d).0 ≡ first + j * step = key_at first step places even j d (omega arith) in
+      let more : (j + 1) * step ≤ i * step = mul-le-mul_right step (let h : j + 1 ≤ i = omega arith in h) in
+      omega arith)
+      (λ d. key_at first step places even i d lt ∙ here)
+
+  -- with evenly spaced keys, none of which is k
+  pub even_without : (first step k : ℕ) (places : List (ℕ × Option R)) → AreEven first step (map (λ (p : ℕ × Option R). p.0) places)
+      → ((j : ℕ) → j < length places → first + j * step ≢ k) → has_key k places ≡ false
+  even_without first step k places even none =
+      no_place k places (λ j d lt e. none j lt (sym (key_at first step places even j d lt) ∙ e))
+
+  -- what division finds among evenly spaced keys is the place of the key
+  pub even_found : (first step key : ℕ) (places : List (ℕ × Option R)) (found : Option ℕ) → 0 < step → AreEven first step (map (λ (p : ℕ × Option R). p.0) places)
+      → MatchOption found ((j : ℕ) → j < length places → first + j * step ≢ key) (λ i. (i < length places) × (first + i * step ≡ key))
+      → MatchOption found (has_key key places ≡ false) (IsPlaceOf key places)
+  even_found first step key places None rises even none = even_without first step key places even none
+  even_found first step key places (Some i) rises even at = even_place first step key i places rises even at.0 at.1
+
+  -- what a slot that was read at the place of k has, where the places are seen as shown
+  pub read_at : (k i : ℕ) (places shown : List (ℕ × Option R)) (slot : ℕ × Option R) → places ≡ shown → IsPlaceOf k shown i → slot ≡ get_or places i slot
+      → slot ≡ (k, root_at k shown)
+  read_at k i places shown slot same at is =
+      is ∙ ap (λ ps. get_or ps i slot) same ∙ get_or_from_slice_get shown i (k, root_at k shown) slot at.holds
+
+  -- the slot is stored with another root
+  pub stored_at : (k i : ℕ) (places shown : List (ℕ × Option R)) (slot : ℕ × Option R) (root : Option R) → places ≡ shown → IsPlaceOf k shown i → slot ≡ get_or places i slot
+      → set places i (slot.0, root) ≡ with_root k root shown
+  stored_at k i places shown slot root same at is =
+      ap (λ ps. set ps i (slot.0, root)) same
+      ∙ ap (λ (n : ℕ). set shown i (n, root)) (ap (λ (p : ℕ × Option R). p.0) (read_at k i places shown slot same at is))
+      ∙ sym (at.changed root)
+
+  -- another root leaves the keys evenly spaced
+  pub even_kept : (first step i : ℕ) (places : List (ℕ × Option R)) (slot : ℕ × Option R) (root : Option R) → slot ≡ get_or places i slot
+      → (0 < step → AreEven first step (map (λ (p : ℕ × Option R). p.0) places)) → 0 < step → AreEven first step (map (λ (p : ℕ × Option R). p.0) (set places i (slot.0, root)))
+  even_kept first step i places slot root is even rises =
+      let same : map (λ (p : ℕ × Option R). p.0) (set places i (slot.0, root)) ≡ map (λ (p : ℕ × Option R). p.0) places =
+      map-set_same (λ (p : ℕ × Option R). p.0) places i (slot.0, root) slot (ap (λ (p : ℕ × Option R). p.0) is) in
+      subst (λ (ks : List ℕ). AreEven first step ks) (sym same) (even rises)
+
+  -- a key that the bucket has not has no root
+  pub rootless : (k : ℕ) (places : List (ℕ × Option R)) → has_key k places ≡ false → root_at k places ≡ None
+  rootless k [] none = refl
+  rootless k (p ∷ places) none =
+      elim (eqb_tells p.0 k) [
+        | inl e ↦ absurd (let f : true ≡ false = rw e.0 at none in cc)
+        | inr e ↦ rw e.0 (rootless k places (rw e.0 at none))
+      ]
+
+-- new places have the keys that they are made for
+pub keys_of_empty : (R : Type 0) (keys : List ℕ) → map (λ (p : ℕ × Option R). p.0) (empty_places {R = R} keys) ≡ keys
+keys_of_empty R [] = refl
+keys_of_empty R (k ∷ keys) = ap (λ ks. k ∷ ks) (keys_of_empty R keys)
+
+pub even_new : (R : Type 0) (keys : List ℕ) (places : List (ℕ × Option R)) (n first step : ℕ) → places ≡ empty_places (take n keys) → length keys ≤ n → first ≡ get_or keys 0 0
+    → (0 < step → AreEven (get_or keys 0 0) step keys) → 0 < step → AreEven first step (map (λ (p : ℕ × Option R). p.0) places)
+even_new R keys places n first step made all first_is even rises =
+    let same : map (λ (p : ℕ × Option R). p.0) places ≡ keys =
+    ap (λ ps. map (λ (p : ℕ × Option R). p.0) ps) made ∙ keys_of_empty R (take n keys) ∙ take_all n keys all in
+    subst (λ (ks : List ℕ). AreEven first step ks) (sym same) (rw first_is (even rises))
+
+-- where a key that stands at some distance is
+pub divided : (first step key : ℕ) → 0 < step → first ≤ key → (key - first) % step ≡ 0 → first + (key - first) / step * step ≡ key
+divided first step key rises le even = omega arith
+
+pub uneven : (first step key j : ℕ) → (key - first) % step ≢ 0 → first + j * step ≢ key
+uneven first step key j odd e =
+    let distance : key - first ≡ j * step = omega arith in odd (ap (λ n. n % step) distance ∙ mul-mod_left j step)
+
+pub past : (first step key count j : ℕ) → 0 < step → count ≤ (key - first) / step → j < count → first + j * step ≢ key
+past first step key count j rises le lt e =
+    let distance : key - first ≡ j * step = omega arith in
+    let place : (key - first) / step ≡ j = ap (λ n. n / step) distance ∙ mul-div_cancel j rises in omega arith

@@ -1,0 +1,7 @@
+pub mod Queue
+pub mod Waiting
+pub mod Places
+pub mod Contents
+pub mod Taking
+pub mod Agrees
+pub mod Settled

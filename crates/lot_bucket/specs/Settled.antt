@@ -1,0 +1,44 @@
+use Rattle.std.specs.Prelude.{◌≡◌, ℕ, ◌≤◌, ◌%◌, ◌==◌, nat_lt, ◌&&◌, Bool, true, List}
+use Rattle.lot_bucket.specs.Places.{has_key}
+use Rattle.lot_bucket.specs.Contents.{Contents}
+use Rattle.lot_bucket.specs.Agrees.{AgreesOpen, Agrees}
+
+-- what lies behind the lock of a bucket: the bucket, its number, how many buckets its table has, and
+-- how many keys there are in all
+pub record Lying (R : Type 0) : Type 0 where
+  pub bucket : Contents R
+  pub number : ℕ
+  pub size : ℕ
+  pub keys : ℕ
+
+-- the bucket has the keys below keys that leave number when they are divided by size
+abbrev pub IsLaidOut : {R : Type 0} → ℕ → ℕ → ℕ → Contents R → Type 0
+IsLaidOut size number keys b = (k : ℕ) → has_key k b.places ≡ (k % size == number && nat_lt k keys)
+
+module _ {R : Type 0} (key : R → ℕ) (line : R → List ℕ) (owes : R → List (ℕ × ℕ)) where
+  -- what holds behind the lock whenever it is free
+  pub record IsSettled (lying : Lying R) : Type 0 where
+    pub agrees : Agrees key line owes lying.bucket
+    pub laid_out : lying.bucket.opened ≡ true → IsLaidOut lying.size lying.number lying.keys lying.bucket
+
+  -- an open bucket that agrees and has just the keys of its number
+  pub record IsWhole (size number keys : ℕ) (b : Contents R) : Type 0 where
+    pub is_open : b.opened ≡ true
+    pub agrees : AgreesOpen key line owes b
+    pub laid_out : IsLaidOut size number keys b
+
+  -- the open bucket of key k, among so many keys, with room for so many threads
+  pub record IsReady (k threads keys : ℕ) (b : Contents R) : Type 0 where
+    pub agrees : Agrees key line owes b
+    pub is_open : b.opened ≡ true
+    pub size : ℕ
+    pub laid_out : IsLaidOut size (k % size) keys b
+    pub has : has_key k b.places ≡ true
+    pub wide : threads ≤ b.room
+
+  -- what a borrower of a bucket leaves: it agrees, is open, and has the same keys and room
+  pub record Stays (before after : Contents R) : Type 0 where
+    pub agrees : Agrees key line owes after
+    pub is_open : after.opened ≡ true
+    pub keys : (k : ℕ) → has_key k after.places ≡ has_key k before.places
+    pub room : after.room ≡ before.room

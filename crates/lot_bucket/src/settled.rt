@@ -1,0 +1,81 @@
+ghost use Rattle.std.specs.Prelude.{◌≡◌, ℕ, ◌<◌, ◌≤◌, ◌%◌, ◌↔◌, true, IsTrue, length};
+ghost use Rattle.lot_bucket.specs.Settled.{IsSettled, IsWhole, IsReady, Stays};
+
+use crate::bucket::Bucket;
+use crate::root::Root;
+use std::marker::Model;
+
+/// What lies behind the lock of a bucket: the bucket, and which one it is of its table.
+///
+/// Whenever the lock is free, an open bucket has the roots of exactly its keys, each root's line is what
+/// the queue has of its key, and no root owes a letter; a closed bucket is empty. `lend` gives the bucket
+/// out for as long as the lock is held.
+#[derive(Drop)]
+pub struct Settled<R: Root> {
+    bucket: Bucket<R>,
+    number: usize,
+    size: usize,
+    keys: usize,
+}
+
+impl<R: Root> Model for Settled<R> {
+    ghost use Rattle.lot_bucket.specs.Settled.{Lying, IsSettled};
+
+    ghost Value = { Lying R };
+
+    ghost view = { λ s. record { bucket = s.bucket; number = s.number; size = s.size; keys = s.keys } };
+
+    ghost invariant = { λ s. IsSettled R.key R.line R.owes (record { bucket = s.bucket; number = s.number; size = s.size; keys = s.keys }) };
+}
+
+impl<R: Root> Settled<R> {
+    /// The open bucket `number` of a table of `size` buckets for so many keys.
+    pub fn new(bucket: Bucket<R>, number: usize, size: usize, keys: usize) -> Settled<R>
+        requires { IsWhole R.key R.line R.owes size number keys bucket }
+        ensures { result ≡ record { bucket = bucket; number = number; size = size; keys = keys } }
+    {
+        Settled {
+            bucket,
+            number,
+            size,
+            keys,
+        }
+    }
+
+    /// Whether it is the open bucket of the key, in a table for so many keys, with room for so many threads.
+    pub fn is_ready(&self, key: usize, threads: usize, keys: usize) -> bool
+        ensures ready { IsTrue result → IsReady R.key R.line R.owes key threads keys self.now.bucket }
+        ensures exact { IsTrue result ↔ (self.now.bucket.opened ≡ true) × (0 < self.now.size) × (self.now.number ≡ key % self.now.size) × (self.now.keys ≡ keys) × (key < keys) × (threads ≤ self.now.bucket.room) }
+    {
+        self.bucket.is_open()
+            && self.size > 0
+            && self.number == key % self.size
+            && self.keys == keys
+            && key < keys
+            && threads <= self.bucket.room()
+    }
+
+    /// Calls `f` with the bucket, and answers what it answered.
+    pub fn lend<X, Y, F: FnOnce(&mut Bucket<R>, X) -> (X, Y)>(
+        &mut self,
+        key: usize,
+        threads: usize,
+        keys: usize,
+        x: X,
+        f: F,
+    ) -> (X, Y)
+        requires ready { IsReady R.key R.line R.owes key threads keys self.old.bucket }
+        requires callable { (b : _) → IsReady R.key R.line R.owes key threads keys b.now → F.pre f b x }
+        requires keeps { (b : _) (r : _) (b' : _) → IsReady R.key R.line R.owes key threads keys b.now → F.post f b x r b' → Stays R.key R.line R.owes b.now b'.now }
+        ensures { (b : _) × (b' : _) × IsReady R.key R.line R.owes key threads keys b.now × F.post f b x result b' }
+    {
+        f(&mut self.bucket, x)
+    }
+
+    pub fn into_bucket(self) -> Bucket<R>
+        ensures same { result ≡ self.bucket }
+        ensures settled { IsSettled R.key R.line R.owes self }
+    {
+        self.bucket
+    }
+}
