@@ -1,14 +1,14 @@
 -- What the tests under a bucket's lock tell.
-use Rattle.std.proofs.Common.{◌≡◌, ℕ, ◌%◌, ◌<◌, ◌≤◌, true, List, sym, ◌∙◌, ap, subst, eq-eqb, not, ◌&&◌, refl}
+use Rattle.std.proofs.Common.{◌≡◌, ℕ, ◌%◌, ◌<◌, true, List, sym, ◌∙◌, ap, subst, eq-eqb, not, ◌&&◌, refl}
 use Rattle.std.proofs.lemmas.Bool.{lt-ltb}
 use Rattle.std.specs.Prelude.{◌==◌, nat_lt}
 use Rattle.lot_bucket.specs.Places.{has_key}
 use Rattle.lot_bucket.specs.Settled.{Lying, IsLaidOut, IsSettled, IsReady}
 
 pub ready : {R : Type 0} (key : R → ℕ) (line : R → List ℕ) (owes : R → List (ℕ × ℕ)) (k threads keys : ℕ) (lying : Lying R) → IsSettled key line owes lying
-    → lying.bucket.opened ≡ true → lying.number ≡ k % lying.size → lying.keys ≡ keys → k < keys → threads ≤ lying.bucket.room
+    → lying.bucket.opened ≡ true → lying.number ≡ k % lying.size → lying.keys ≡ keys → k < keys → lying.bucket.room ≡ threads
     → IsReady key line owes k threads keys lying.bucket
-ready key line owes k threads keys lying settled opened number all among wide =
+ready key line owes k threads keys lying settled opened number all among room =
     let laid : (j : ℕ) → has_key j lying.bucket.places ≡ (j % lying.size == k % lying.size && nat_lt j keys) = λ j. rw (← number, ← all) (settled.laid_out opened j) in
     record {
       agrees = settled.agrees;
@@ -16,5 +16,5 @@ ready key line owes k threads keys lying settled opened number all among wide =
       size = lying.size;
       laid_out = laid;
       has = laid k ∙ rw (eq-eqb (k % lying.size) (k % lying.size) refl, lt-ltb k keys among) refl;
-      wide = wide;
+      room = room;
     }

@@ -1,4 +1,4 @@
-use Rattle.std.specs.Prelude.{◌≡◌, ℕ, ◌≤◌, ◌%◌, ◌==◌, nat_lt, ◌&&◌, Bool, true, List}
+use Rattle.std.specs.Prelude.{◌≡◌, ℕ, ◌<◌, ◌%◌, ◌==◌, nat_lt, ◌&&◌, Bool, true, List, length, Any}
 use Rattle.lot_bucket.specs.Places.{has_key}
 use Rattle.lot_bucket.specs.Contents.{Contents}
 use Rattle.lot_bucket.specs.Agrees.{AgreesOpen, Agrees}
@@ -15,6 +15,11 @@ pub record Lying (R : Type 0) : Type 0 where
 abbrev pub IsLaidOut : {R : Type 0} → ℕ → ℕ → ℕ → Contents R → Type 0
 IsLaidOut size number keys b = (k : ℕ) → has_key k b.places ≡ (k % size == number && nat_lt k keys)
 
+-- the thread does not wait here, and could
+pub record HasPlaceFor {R : Type 0} (t : ℕ) (b : Contents R) : Type 0 where
+  pub absent : Any (λ (p : ℕ × ℕ). p.0 ≡ t) b.queue → ⊥
+  pub room : length b.queue < b.room
+
 module _ {R : Type 0} (key : R → ℕ) (line : R → List ℕ) (owes : R → List (ℕ × ℕ)) where
   -- what holds behind the lock whenever it is free
   pub record IsSettled (lying : Lying R) : Type 0 where
@@ -27,14 +32,14 @@ module _ {R : Type 0} (key : R → ℕ) (line : R → List ℕ) (owes : R → Li
     pub agrees : AgreesOpen key line owes b
     pub laid_out : IsLaidOut size number keys b
 
-  -- the open bucket of key k, among so many keys, with room for so many threads
+  -- the open bucket of key k, among so many keys, with room for just all threads
   pub record IsReady (k threads keys : ℕ) (b : Contents R) : Type 0 where
     pub agrees : Agrees key line owes b
     pub is_open : b.opened ≡ true
     pub size : ℕ
     pub laid_out : IsLaidOut size (k % size) keys b
     pub has : has_key k b.places ≡ true
-    pub wide : threads ≤ b.room
+    pub room : b.room ≡ threads
 
   -- what a borrower of a bucket leaves: it agrees, is open, and has the same keys and room
   pub record Stays (before after : Contents R) : Type 0 where

@@ -102,6 +102,13 @@ impl<R: Drop> Bucket<R> {
         self.queue.len()
     }
 
+    /// How many threads wait on the key.
+    pub fn line_length(&self, key: usize) -> usize
+        ensures { result ≡ length (line_of key self.now.queue) }
+    {
+        self.queue.line_length(key)
+    }
+
     pub fn is_empty(&self) -> bool
         ensures { IsTrue result ↔ (self.now.queue ≡ []) }
     {

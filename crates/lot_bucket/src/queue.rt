@@ -1,4 +1,4 @@
-ghost use Rattle.std.specs.Prelude.{◌≡◌, ℕ, ◌<◌, ◌≤◌, ◌↔◌, List, [], ◌∷◌, ◌++◌, length, take, vec_capacity, Any, IsTrue, IfOk, MatchOption};
+ghost use Rattle.std.specs.Prelude.{◌≡◌, ℕ, ◌<◌, ◌≤◌, ◌↔◌, List, [], ◌∷◌, ◌++◌, length, take, vec_capacity, Any, count_by, ◌==◌, IsTrue, IfOk, MatchOption};
 ghost use Rattle.lot_bucket.specs.Queue.{line_of, without_first, without_key, first_of};
 ghost use Rattle.lot_bucket.specs.Waiting.{Waiting, IsFirstPair, IsWithout};
 
@@ -47,6 +47,12 @@ impl Queue {
         self.pairs.iter().any(|pair| pair.0 == thread)
     }
 
+    pub fn line_length(&self, key: usize) -> usize
+        ensures { result ≡ length (line_of key self.now.pairs) }
+    {
+        count_of(self.pairs.as_slice(), key)
+    }
+
     pub fn push(&mut self, thread: usize, key: usize)
         requires { length self.old.pairs < self.old.room }
         ensures { self.new ≡ record self.old { pairs = self.old.pairs ++ (thread, key) ∷ [] } }
@@ -74,6 +80,12 @@ impl Queue {
         self.pairs.retain(|pair| pair.1 != key);
         taken
     }
+}
+
+fn count_of(pairs: &[(usize, usize)], key: usize) -> usize
+    ensures { result ≡ count_by (λ (p : ℕ × ℕ). p.1 == key) pairs.now }
+{
+    pairs.iter().filter(|pair| pair.1 == key).count()
 }
 
 // The place of the first pair of the key.

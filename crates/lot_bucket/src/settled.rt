@@ -1,5 +1,5 @@
-ghost use Rattle.std.specs.Prelude.{◌≡◌, ℕ, ◌<◌, ◌≤◌, ◌%◌, ◌↔◌, true, IsTrue, length};
-ghost use Rattle.lot_bucket.specs.Settled.{IsSettled, IsWhole, IsReady, Stays};
+ghost use Rattle.std.specs.Prelude.{◌≡◌, ℕ, ◌<◌, ◌%◌, ◌↔◌, true, IsTrue, length};
+ghost use Rattle.lot_bucket.specs.Settled.{IsSettled, IsWhole, IsReady, HasPlaceFor, Stays};
 
 use crate::bucket::Bucket;
 use crate::root::Root;
@@ -42,32 +42,40 @@ impl<R: Root> Settled<R> {
         }
     }
 
-    /// Whether it is the open bucket of the key, in a table for so many keys, with room for so many threads.
+    /// Whether it is the open bucket of the key, in a table for so many keys, with room for just all threads.
     pub fn is_ready(&self, key: usize, threads: usize, keys: usize) -> bool
         ensures ready { IsTrue result → IsReady R.key R.line R.owes key threads keys self.now.bucket }
-        ensures exact { IsTrue result ↔ (self.now.bucket.opened ≡ true) × (0 < self.now.size) × (self.now.number ≡ key % self.now.size) × (self.now.keys ≡ keys) × (key < keys) × (threads ≤ self.now.bucket.room) }
+        ensures exact { IsTrue result ↔ (self.now.bucket.opened ≡ true) × (0 < self.now.size) × (self.now.number ≡ key % self.now.size) × (self.now.keys ≡ keys) × (key < keys) × (self.now.bucket.room ≡ threads) }
     {
         self.bucket.is_open()
             && self.size > 0
             && self.number == key % self.size
             && self.keys == keys
             && key < keys
-            && threads <= self.bucket.room()
+            && self.bucket.room() == threads
     }
 
-    /// Calls `f` with the bucket, and answers what it answered.
-    pub fn lend<X, Y, F: FnOnce(&mut Bucket<R>, X) -> (X, Y)>(
-        &mut self,
-        key: usize,
-        threads: usize,
-        keys: usize,
-        x: X,
-        f: F,
-    ) -> (X, Y)
-        requires ready { IsReady R.key R.line R.owes key threads keys self.old.bucket }
-        requires callable { (b : _) → IsReady R.key R.line R.owes key threads keys b.now → F.pre f b x }
-        requires keeps { (b : _) (r : _) (b' : _) → IsReady R.key R.line R.owes key threads keys b.now → F.post f b x r b' → Stays R.key R.line R.owes b.now b'.now }
-        ensures { (b : _) × (b' : _) × IsReady R.key R.line R.owes key threads keys b.now × F.post f b x result b' }
+    /// Whether it is the open bucket `number` of a table of `size` buckets for so many keys.
+    pub fn is_whole(&self, number: usize, size: usize, keys: usize) -> bool
+        ensures whole { IsTrue result → IsWhole R.key R.line R.owes size number keys self.now.bucket }
+        ensures exact { IsTrue result ↔ (self.now.bucket.opened ≡ true) × (self.now.number ≡ number) × (self.now.size ≡ size) × (self.now.keys ≡ keys) }
+    {
+        self.bucket.is_open() && self.number == number && self.size == size && self.keys == keys
+    }
+
+    /// Whether the thread does not wait here, and there is room for it.
+    pub fn has_place_for(&self, thread: usize) -> bool
+        ensures { IsTrue result ↔ HasPlaceFor thread self.now.bucket }
+    {
+        !self.bucket.has_thread(thread) && self.bucket.len() < self.bucket.room()
+    }
+
+    /// Calls `f` with the bucket, which is open, and answers what it answered.
+    pub fn lend<X, Y, F: FnOnce(&mut Bucket<R>, X) -> (X, Y)>(&mut self, x: X, f: F) -> (X, Y)
+        requires is_open { self.old.bucket.opened ≡ true }
+        requires callable { (b : _) → b.now ≡ self.old.bucket → F.pre f b x }
+        requires keeps { (b : _) (r : _) (b' : _) → b.now ≡ self.old.bucket → F.post f b x r b' → Stays R.key R.line R.owes b.now b'.now }
+        ensures { (b : _) × (b' : _) × (b.now ≡ self.old.bucket) × (self.new ≡ record self.old { bucket = b'.now }) × F.post f b x result b' }
     {
         f(&mut self.bucket, x)
     }

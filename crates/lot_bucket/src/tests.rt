@@ -204,6 +204,7 @@ fn a_whole_line_is_taken(rt: HostRuntime) -> Result<(), Fail> {
     queue_all(&rt, &mut bucket, &[(1, 13), (2, 1), (3, 13)]);
     expect_line(&rt, &mut bucket, 13, &[1, 3], "the line of 13");
     assert_eq!(rt; bucket.len(), 1);
+    assert_eq!(rt; bucket.line_length(1), 1);
     assert_eq!(rt; bucket.next_fair(), 0);
     expect_line(&rt, &mut bucket, 1, &[2], "the line of 1");
     Ok(())

@@ -1,4 +1,4 @@
-use Rattle.std.proofs.Common.{◌≡◌, ◌%◌, ◌<◌, ◌≤◌, true, arith, rules}
+use Rattle.std.proofs.Common.{◌≡◌, ◌%◌, ◌<◌, true, arith, rules}
 use Rattle.std.proofs.lemmas.Grind.{common_steps}
 use Rattle.lot_bucket.proofs.Settling.{ready}
 use Rattle.lot_bucket.proofs.settled.Settled.is_ready.Goals as goal
@@ -10,6 +10,6 @@ returns-then-key-keys-clause-ready g c wide =
     let number : lying.number ≡ c.args.key % lying.size = grind (arith, common_steps) in
     let all : lying.keys ≡ c.args.keys = grind (arith, common_steps) in
     let among : c.args.key < c.args.keys = grind (arith, common_steps) in
-    let room : c.args.threads ≤ lying.bucket.room = grind (arith, common_steps) in
+    let room : lying.bucket.room ≡ c.args.threads = grind (arith, common_steps) in
     rw (← c.self.view_is)
     (ready g.R.Root.key g.R.Root.line g.R.Root.owes c.args.key c.args.threads c.args.keys _ c.self.invariant opened number all among room)
