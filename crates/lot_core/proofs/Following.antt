@@ -12,24 +12,9 @@ use Rattle.lot_core.specs.World.{World, Locks, Conds, put}
 use Rattle.lot_core.specs.Steps.{IsTrying, MayLetGo, Allowed, after, seen, released, let_go, handed}
 use Rattle.lot_core.specs.Sound.{IsSound}
 use Rattle.lot_core.specs.Parts.{LockPart, CondPart, wanted, swept_by, lock_part, cond_part, MayTry, LockAllowed, served, lock_part_after, lock_seen, cond_seen, CondAllowed, cond_part_after, IsLockEvent, LockPartFollows, CondPartFollows}
-use Rattle.lot_core.proofs.Put.{by_bit, at_all, put_same, put_other}
+use Rattle.lot_core.specs.Rows.{told}
+use Rattle.lot_core.proofs.Put.{by_bit, told_put, told_same}
 use Rattle.lot_core.proofs.Members.{in_head}
-
--- what f tells of each thread's point
-abbrev pub told : {X : Type 0} → (Point → X) → (ℕ → Point) → (ℕ → X)
-told f point = λ u. f (point u)
-
-pub told_put : {X : Type 0} (f : Point → X) (point : ℕ → Point) (t : ℕ) (p : Point) → told f (put point t p) ≡ put (told f point) t (f p)
-told_put {X} f point t p = fun_ext (at_all (λ u b. f (if b then p else point u) ≡ (if b then f p else f (point u))) t refl (λ u ne. refl))
-
--- where f tells alike of the old point and the new
-pub told_same : {X : Type 0} (f : Point → X) (point : ℕ → Point) (t : ℕ) (p : Point) → f p ≡ f (point t) →
-    told f (put point t p) ≡ told f point
-told_same {X} f point t p same =
-    fun_ext (λ u. elim (cases_eq u t) [
-      inl e ↦ ap f (ap (put point t p) e ∙ put_same point t p) ∙ same ∙ ap (λ w. f (point w)) (sym e)
-    | inr ne ↦ ap f (put_other point t p u ne)
-    ])
 
 pub wanted_released : (p : Point) → wanted (released p) ≡ wanted p
 wanted_released Calm = refl

@@ -4,3 +4,6 @@ pub mod Owners
 pub mod Kept
 pub mod Law
 pub mod Following
+pub mod Rows
+pub mod LineRows
+pub mod Passes

@@ -1,8 +1,10 @@
 -- Functions with one value changed, and cases on a bit and on a line.
-use Rattle.std.proofs.Common.{◌≡◌, ◌≢◌, ℕ, Bool, true, false, List, [], ◌∷◌, refl, eq-eqb, subst, sym, ap}
+use Rattle.std.proofs.Common.{◌≡◌, ◌≢◌, ℕ, Bool, true, false, List, [], ◌∷◌, refl, eq-eqb, subst, sym, ap, ◌∙◌}
 use Rattle.std.specs.Prelude.{◌==◌, if◌then◌else◌}
 use Rattle.std.proofs.lemmas.Bool.{eqb-true, eqb-false}
+use mathlib.Core.Path.{fun_ext}
 use Rattle.lot_core.specs.World.{put}
+use Rattle.lot_core.specs.Rows.{told}
 
 -- what holds of a bit where it is set, and where it is clear, holds of it
 pub by_bit : (Q : Bool → Type 0) (b : Bool) → (b ≡ true → Q true) → (b ≡ false → Q false) → Q b
@@ -25,3 +27,15 @@ put_same f k v = ap (λ b. if b then v else f k) (eq-eqb k k refl)
 pub put_other : {X : Type 0} (f : ℕ → X) (k : ℕ) (v : X) (i : ℕ) → i ≢ k → put f k v i ≡ f i
 put_other f k v i ne =
     by_bit (λ b. (if b then v else f i) ≡ f i) (i == k) (λ e. absurd (ne (eqb-true i k e))) (λ e. refl)
+
+-- what was there, put there again
+pub put_again : {X : Type 0} (f : ℕ → X) (k : ℕ) → put f k (f k) ≡ f
+put_again {X} f k = fun_ext (λ i. by_bit (λ b. i == k ≡ b → (if b then f k else f i) ≡ f i) (i == k) (λ _ e. ap f (sym (eqb-true i k e))) (λ _ _. refl) refl)
+
+-- what f tells of each, where one is replaced
+pub told_put : {X Y : Type 0} (f : X → Y) (g : ℕ → X) (k : ℕ) (v : X) → told f (put g k v) ≡ put (told f g) k (f v)
+told_put {X} {Y} f g k v = fun_ext (at_all (λ i b. f (if b then v else g i) ≡ (if b then f v else f (g i))) k refl (λ i ne. refl))
+
+-- where f tells alike of the old and the new
+pub told_same : {X Y : Type 0} (f : X → Y) (g : ℕ → X) (k : ℕ) (v : X) → f v ≡ f (g k) → told f (put g k v) ≡ told f g
+told_same {X} {Y} f g k v same = told_put f g k v ∙ ap (put (told f g) k) same ∙ put_again (told f g) k

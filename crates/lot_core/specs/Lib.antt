@@ -3,3 +3,5 @@ pub mod Steps
 pub mod Sound
 pub mod Parts
 pub mod Rows
+pub mod Lines
+pub mod State

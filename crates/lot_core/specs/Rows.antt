@@ -1,4 +1,9 @@
-use Rattle.std.specs.Prelude.{◌≡◌, ℕ, ◌==◌, ◌-◌, ◌+◌, ◌<◌, ◌≤◌, Bool, true, false, if◌then◌else◌, List, [], ◌∷◌, slice_index_or, nat_lt}
+-- Lists read as functions of the place.
+use Rattle.std.specs.Prelude.{ℕ, ◌-◌, List, slice_index_or, nat_lt, if◌then◌else◌}
+
+-- what f says of each
+abbrev pub told : {X Y : Type 0} → (X → Y) → (ℕ → X) → (ℕ → Y)
+told f row = λ k. f (row k)
 
 -- the list's elements by their places, and `none` at any other number
 unfoldable pub row : {X : Type 0} → X → List X → (ℕ → X)

@@ -3,6 +3,9 @@
 
 pub mod events;
 pub mod laws;
+mod lines;
+pub mod state;
 
 pub use events::{Event, Point, Seen};
 pub use laws::{every_run_is_sound, parts_follow};
+pub use state::{CoreFault, MAX_KEYS, MAX_THREADS, State};

@@ -1,0 +1,71 @@
+-- A list written at one place is its row with one value changed.
+use Rattle.std.proofs.Common.{zero, suc, ◌≡◌, ◌≢◌, ◌<◌, ◌≤◌, ◌-◌, ◌+◌, ◌++◌, ℕ, Bool, true, false, List, [], ◌∷◌, length, get_or, set, map, replicate, refl, sym, ap, subst, ◌∙◌, arith, get_or-set_same, get_or-set_other}
+use Rattle.std.specs.Prelude.{◌==◌, nat_lt, if◌then◌else◌, slice_index_or, slice_set}
+use Rattle.std.proofs.lemmas.Bool.{cases_eq, ltb-true, ltb-false, lt-ltb, le-ltb}
+use Rattle.std.proofs.lemmas.List.{get_or_past, get_or_default}
+use mathlib.Core.Path.{fun_ext}
+use Rattle.lot_core.specs.World.{put}
+use Rattle.lot_core.specs.Rows.{row, row_from}
+use Rattle.lot_core.proofs.Put.{by_bit, at_all, put_again}
+
+pub row_at : {X : Type 0} (none : X) (xs : List X) (k : ℕ) → row none xs k ≡ slice_index_or xs k none
+unfolding row
+row_at none xs k = refl
+
+pub row_past : {X : Type 0} (none : X) (xs : List X) (k : ℕ) → length xs ≤ k → row none xs k ≡ none
+unfolding row
+row_past none xs k past = get_or_past xs k none past
+
+pub row_set : {X : Type 0} (none : X) (xs : List X) (k : ℕ) (v : X) → k < length xs → row none (set xs k v) ≡ put (row none xs) k v
+unfolding row
+row_set none xs k v within =
+    fun_ext (at_all (λ i b. get_or (set xs k v) i none ≡ (if b then v else get_or xs i none)) k
+        (get_or-set_same xs k v none within) (λ i ne. get_or-set_other xs k i v none ne))
+
+pub get_or_replicate : {X : Type 0} (none : X) (n k : ℕ) → get_or (replicate n none) k none ≡ none
+get_or_replicate none zero k = refl
+get_or_replicate none (suc n) zero = refl
+get_or_replicate none (suc n) (suc k) = get_or_replicate none n k
+
+pub row_none : {X : Type 0} (none : X) (n : ℕ) → row none (replicate n none) ≡ (λ k. none)
+unfolding row
+row_none none n = fun_ext (λ k. get_or_replicate none n k)
+
+pub row_from_at : {X : Type 0} (none : X) (low : ℕ) (xs : List X) (k : ℕ) → low ≤ k → row_from none low xs k ≡ slice_index_or xs (k - low) none
+unfolding row_from
+row_from_at none low xs k from =
+    ap (λ b. if b then none else slice_index_or xs (k - low) none) (le-ltb k low from)
+
+pub row_from_before : {X : Type 0} (none : X) (low : ℕ) (xs : List X) (k : ℕ) → k < low → row_from none low xs k ≡ none
+unfolding row_from
+row_from_before none low xs k before =
+    ap (λ b. if b then none else slice_index_or xs (k - low) none) (lt-ltb k low before)
+
+pub row_from_past : {X : Type 0} (none : X) (low : ℕ) (xs : List X) (k : ℕ) → low + length xs ≤ k → row_from none low xs k ≡ none
+row_from_past none low xs k past =
+    row_from_at none low xs k (omega arith) ∙ get_or_past xs (k - low) none (omega arith)
+
+pub row_from_set : {X : Type 0} (none : X) (low : ℕ) (xs : List X) (k : ℕ) (v : X) → low ≤ k → k - low < length xs →
+    row_from none low (set xs (k - low) v) ≡ put (row_from none low xs) k v
+unfolding row_from
+row_from_set none low xs k v from within =
+    fun_ext (at_all (λ i b. (if nat_lt i low then none else get_or (set xs (k - low) v) (i - low) none)
+            ≡ (if b then v else (if nat_lt i low then none else get_or xs (i - low) none))) k
+        (ap (λ b. if b then none else get_or (set xs (k - low) v) (k - low) none) (le-ltb k low from)
+         ∙ get_or-set_same xs (k - low) v none within)
+        (λ i ne. by_bit (λ b. nat_lt i low ≡ b → (if b then none else get_or (set xs (k - low) v) (i - low) none) ≡ (if b then none else get_or xs (i - low) none)) (nat_lt i low)
+            (λ e is. refl)
+            (λ e is. let at : low ≤ i = ltb-false i low is in get_or-set_other xs (k - low) (i - low) v none (omega arith)) refl))
+
+-- what was read at a place within the list
+pub row_read : {X : Type 0} (none : X) (xs : List X) (k : ℕ) (x : X) → k < length xs → x ≡ get_or xs k x → row none xs k ≡ x
+unfolding row
+row_read none xs k x within is = get_or_default xs k none x within ∙ sym is
+
+pub row_from_read : {X : Type 0} (none : X) (low : ℕ) (xs : List X) (k : ℕ) (x : X) → low ≤ k → k - low < length xs → x ≡ get_or xs (k - low) x →
+    row_from none low xs k ≡ x
+row_from_read none low xs k x from within is = row_from_at none low xs k from ∙ get_or_default xs (k - low) none x within ∙ sym is
+
+-- a place past the list may take the value that all such places have
+pub row_put_past : {X : Type 0} (none : X) (xs : List X) (k : ℕ) → length xs ≤ k → put (row none xs) k none ≡ row none xs
+row_put_past none xs k past = ap (put (row none xs) k) (sym (row_past none xs k past)) ∙ put_again (row none xs) k

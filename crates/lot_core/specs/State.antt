@@ -1,0 +1,96 @@
+-- What a `State` stands for, and what its calls answer.
+use Rattle.std.specs.Prelude.{take, slice_get, Option, Some, None, is_some, ◌+◌, ◌≤◌, ◌≡◌, ◌==◌, ℕ, Bool, true, false, List, Result, Ok, Err}
+use Rattle.lot_core.specs.declared.events.Point.{Point}
+use Rattle.lot_core.specs.declared.events.Point.TheVariants.{Calm}
+use Rattle.lot_core.specs.declared.state.State.{State}
+use Rattle.lot_core.specs.declared.state.CoreFault.{CoreFault}
+use Rattle.lot_core.specs.declared.state.CoreFault.TheVariants.{BadLimits, NoMemory, NotEnabled}
+use Rattle.lot_core.specs.declared.events.Event.{Event}
+use Rattle.lot_core.specs.declared.events.Event.TheVariants.{Try, Take, Mark, Park, Free, Pass, Enlist, Look, Call, Lower, Sweep}
+use Rattle.lot_core.specs.declared.events.Seen.{Seen}
+use Rattle.lot_core.specs.declared.state.TheConstants.{MAX_THREADS, MAX_KEYS}
+use Rattle.lot_core.specs.World.{World, put, opening}
+use Rattle.lot_core.specs.Steps.{Allowed, Run, after, after_all, seen}
+use Rattle.lot_core.specs.Rows.{told, row, row_from}
+use Rattle.lot_core.specs.Lines.{line_of}
+
+-- what the owner of a lock says of thread t: it has the lock
+abbrev pub owns : Option ℕ → ℕ → Bool
+owns None t = false
+owns (Some u) t = t == u
+
+-- the state of the model that a `State` stands for
+abbrev pub world_of : State → World
+world_of s =
+    record {
+      threads = s.threads;
+      lock_count = s.locks;
+      cond_count = s.conds;
+      locks = record {
+        held = told is_some (row None s.owners.items);
+        parked = row false s.parked.items;
+        line = line_of s.lock_lines;
+        has = told owns (row None s.owners.items)
+      };
+      conds = record {
+        flag = row_from false s.locks s.flags.items;
+        line = line_of s.cond_lines
+      };
+      point = row Calm s.points.items
+    }
+
+-- single changes of a state
+abbrev pub with_point : World → ℕ → Point → World
+with_point w t p = record w { point = put w.point t p }
+
+abbrev pub with_owner : World → ℕ → Option ℕ → World
+with_owner w l o = record w { locks = record w.locks { held = put w.locks.held l (is_some o); has = put w.locks.has l (owns o) } }
+
+abbrev pub with_parked : World → ℕ → Bool → World
+with_parked w l parked = record w { locks = record w.locks { parked = put w.locks.parked l parked } }
+
+abbrev pub with_lock_line : World → ℕ → List ℕ → World
+with_lock_line w l line = record w { locks = record w.locks { line = put w.locks.line l line } }
+
+abbrev pub with_flag : World → ℕ → Bool → World
+with_flag w c flag = record w { conds = record w.conds { flag = put w.conds.flag c flag } }
+
+abbrev pub with_cond_line : World → ℕ → List ℕ → World
+with_cond_line w c line = record w { conds = record w.conds { line = put w.conds.line c line } }
+
+-- an event for which memory may be wanted
+abbrev pub TakesMemory : Event → Type 0
+TakesMemory (Park t l) = Unit {0}
+TakesMemory (Enlist t c l) = Unit {0}
+TakesMemory (Try t l) = ⊥
+TakesMemory (Take t l) = ⊥
+TakesMemory (Mark t l) = ⊥
+TakesMemory (Free t l) = ⊥
+TakesMemory (Pass t l fair more) = ⊥
+TakesMemory (Look t c) = ⊥
+TakesMemory (Call t c more) = ⊥
+TakesMemory (Lower t c) = ⊥
+TakesMemory (Sweep t c) = ⊥
+
+-- what a call answers to an event in state s, where r is the state after it
+abbrev pub Answers : World → Event → Result Seen CoreFault → World → Type 0
+Answers s e (Ok saw) r = Allowed s e × (r ≡ after s e) × (saw ≡ seen s e)
+Answers s e (Err NotEnabled) r = (¬ Allowed s e) × (r ≡ s)
+Answers s e (Err NoMemory) r = Allowed s e × TakesMemory e × (r ≡ s)
+Answers s e (Err BadLimits) r = ⊥
+
+abbrev pub Limits : ℕ → ℕ → ℕ → Type 0
+Limits threads locks conds = (1 ≤ threads) × (threads ≤ MAX_THREADS) × (1 ≤ locks) × (locks + conds ≤ MAX_KEYS)
+
+-- what opening a state with these numbers answers
+abbrev pub Opens : ℕ → ℕ → ℕ → Result State CoreFault → Type 0
+Opens threads locks conds (Ok s) = Limits threads locks conds × (world_of s ≡ opening threads locks conds)
+Opens threads locks conds (Err BadLimits) = ¬ Limits threads locks conds
+Opens threads locks conds (Err NoMemory) = Limits threads locks conds
+Opens threads locks conds (Err NotEnabled) = ⊥
+
+-- of these events those before number i are a run from s to r, and event number i is refused there
+abbrev pub StopsAt : World → List Event → ℕ → CoreFault → World → Type 0
+StopsAt s events i fault r =
+    Run s (take i events) × (r ≡ after_all s (take i events))
+    × ((e : Event) × (slice_get events i ≡ Some e) × Answers r e (Err fault) r)
