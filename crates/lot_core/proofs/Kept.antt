@@ -8,9 +8,9 @@ use Rattle.lot_core.specs.declared.events.Point.{Point}
 use Rattle.lot_core.specs.declared.events.Point.TheVariants.{Calm, Wants, Bed, Rest, Sweeps}
 use Rattle.lot_core.specs.World.{World, Locks, Conds, put}
 use Rattle.lot_core.specs.Steps.{IsThread, IsTrying, MayLetGo, SaysMore, got, freed, enlisted, called_line, released, let_go}
-use Rattle.lot_core.specs.Sound.{OneOwner, SleepersAreMarked, SomeoneIsTrying, SomeoneSweeps, Waits, OneLineEach, IsSound}
+use Rattle.lot_core.specs.Sound.{OneOwner, SleepersAreMarked, SomeoneIsTrying, SomeoneSweeps, Waits, OneLineEach, IsSound, IsOnce}
 use Rattle.lot_core.proofs.Put.{by_bit, by_line, at_all, put_same, put_other}
-use Rattle.lot_core.proofs.Members.{IsOnce, in_tail, in_head, in_none, two_or_more, two_from, once_tail, head_left, once_push, once_none}
+use Rattle.lot_core.proofs.Members.{in_tail, in_head, in_none, two_or_more, two_from, once_tail, head_left, once_push, once_none}
 use Rattle.lot_core.proofs.Owners.{owners_got, owners_left, owners_handed}
 
 -- a sound state in whose locks' lines only threads of the state stand

@@ -7,3 +7,6 @@ pub mod Following
 pub mod Rows
 pub mod LineRows
 pub mod Passes
+pub mod Runs
+pub mod Opening
+pub mod Soundness

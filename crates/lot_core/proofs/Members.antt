@@ -1,11 +1,9 @@
 -- What stands in a line after a thread joined it or left it.
 use Rattle.std.proofs.Common.{suc, ◌≡◌, ◌≢◌, ℕ, ◌+◌, ◌<◌, ◌≤◌, ◌⊎◌, List, [], ◌∷◌, ◌++◌, length, get_or, refl, arith, subst, sym, inl, inr}
-use Rattle.std.specs.List.{Contains, AllPairs}
+use Rattle.std.specs.List.{Contains}
+use Rattle.lot_core.specs.Sound.{IsOnce}
 use Rattle.std.proofs.lemmas.List.Elements.{Contains-append_left, Contains-append_right, Contains-push, Contains-push_cases, Contains-get_or}
 use Rattle.std.proofs.lemmas.List.Quantifiers.{all_pairs_push}
-
-abbrev pub IsOnce : List ℕ → Type 0
-IsOnce xs = AllPairs (λ t u. t ≢ u) xs
 
 pub in_tail : (u : ℕ) (rest : List ℕ) (t : ℕ) → Contains rest t → Contains (u ∷ rest) t
 in_tail u rest t h = Contains-append_right (u ∷ []) rest t h

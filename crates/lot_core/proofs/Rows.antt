@@ -69,3 +69,9 @@ row_from_read none low xs k x from within is = row_from_at none low xs k from �
 -- a place past the list may take the value that all such places have
 pub row_put_past : {X : Type 0} (none : X) (xs : List X) (k : ℕ) → length xs ≤ k → put (row none xs) k none ≡ row none xs
 row_put_past none xs k past = ap (put (row none xs) k) (sym (row_past none xs k past)) ∙ put_again (row none xs) k
+
+pub row_from_none : {X : Type 0} (none : X) (low n : ℕ) → row_from none low (replicate n none) ≡ (λ k. none)
+unfolding row_from
+row_from_none none low n =
+    fun_ext (λ k. by_bit (λ b. (if b then none else get_or (replicate n none) (k - low) none) ≡ none) (nat_lt k low)
+        (λ e. refl) (λ e. get_or_replicate none n (k - low)))

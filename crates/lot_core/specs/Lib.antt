@@ -4,4 +4,5 @@ pub mod Sound
 pub mod Parts
 pub mod Rows
 pub mod Lines
+pub mod Limits
 pub mod State

@@ -42,3 +42,30 @@ pub record IsSound (s : World) : Type 0 where
   pub someone_is_trying : SomeoneIsTrying s
   pub someone_sweeps : SomeoneSweeps s
   pub one_line_each : OneLineEach s.locks.line s.conds.line s.point
+
+-- The same, key by key.
+
+-- each thread but once
+abbrev pub IsOnce : List ℕ → Type 0
+IsOnce line = AllPairs (λ t u. t ≢ u) line
+
+abbrev pub IsMarked : World → ℕ → Type 0
+IsMarked s l = s.locks.line l ≢ [] → s.locks.parked l ≡ true
+
+abbrev pub IsSought : World → ℕ → Type 0
+IsSought s l = s.locks.held l ≡ false → s.locks.line l ≢ [] → (t : ℕ) × IsThread s t × IsTrying s t l
+
+abbrev pub IsSwept : World → ℕ → Type 0
+IsSwept s c = s.conds.flag c ≡ false → s.conds.line c ≢ [] → (t : ℕ) × IsThread s t × (s.point t ≡ Sweeps c)
+
+abbrev pub AllWant : World → ℕ → Type 0
+AllWant s l = (t : ℕ) → Contains (s.locks.line l) t → s.point t ≡ Wants l
+
+abbrev pub AllWait : World → ℕ → Type 0
+AllWait s c = (t : ℕ) → Contains (s.conds.line c) t → Waits s.point c t
+
+abbrev pub IsSoundLock : World → ℕ → Type 0
+IsSoundLock s l = IsMarked s l × IsSought s l × IsOnce (s.locks.line l) × AllWant s l
+
+abbrev pub IsSoundCond : World → ℕ → Type 0
+IsSoundCond s c = IsSwept s c × IsOnce (s.conds.line c) × AllWait s c

@@ -8,7 +8,7 @@ use Rattle.lot_core.specs.declared.state.CoreFault.TheVariants.{BadLimits, NoMem
 use Rattle.lot_core.specs.declared.events.Event.{Event}
 use Rattle.lot_core.specs.declared.events.Event.TheVariants.{Try, Take, Mark, Park, Free, Pass, Enlist, Look, Call, Lower, Sweep}
 use Rattle.lot_core.specs.declared.events.Seen.{Seen}
-use Rattle.lot_core.specs.declared.state.TheConstants.{MAX_THREADS, MAX_KEYS}
+use Rattle.lot_core.specs.Limits.{Limits}
 use Rattle.lot_core.specs.World.{World, put, opening}
 use Rattle.lot_core.specs.Steps.{Allowed, Run, after, after_all, seen}
 use Rattle.lot_core.specs.Rows.{told, row, row_from}
@@ -78,9 +78,6 @@ Answers s e (Ok saw) r = Allowed s e × (r ≡ after s e) × (saw ≡ seen s e)
 Answers s e (Err NotEnabled) r = (¬ Allowed s e) × (r ≡ s)
 Answers s e (Err NoMemory) r = Allowed s e × TakesMemory e × (r ≡ s)
 Answers s e (Err BadLimits) r = ⊥
-
-abbrev pub Limits : ℕ → ℕ → ℕ → Type 0
-Limits threads locks conds = (1 ≤ threads) × (threads ≤ MAX_THREADS) × (1 ≤ locks) × (locks + conds ≤ MAX_KEYS)
 
 -- what opening a state with these numbers answers
 abbrev pub Opens : ℕ → ℕ → ℕ → Result State CoreFault → Type 0

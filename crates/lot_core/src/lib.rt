@@ -4,6 +4,7 @@
 pub mod events;
 pub mod laws;
 mod lines;
+mod sound;
 pub mod state;
 
 pub use events::{Event, Point, Seen};

@@ -1,6 +1,6 @@
 //! Lines of sleepers, one for each key of a kind.
 ghost use Rattle.std.specs.Prelude.{◌≡◌, ◌≢◌, ◌+◌, ◌-◌, ◌<◌, ◌≤◌, ◌↔◌, ◌++◌, ◌∷◌, ℕ, [], length, IsTrue, IfOk, OnOk, OnErr, drop, Some, slice_get};
-ghost use Rattle.std.specs.List.{Contains, AllPairs};
+ghost use Rattle.std.specs.List.{Contains};
 
 use std::alloc::{AllocError, Global};
 use std::collections::VecDeque;
@@ -16,6 +16,7 @@ pub(crate) struct Lines {
 impl Lines {
     ghost use Rattle.lot_core.specs.World.{put};
     ghost use Rattle.lot_core.specs.Steps.{first};
+    ghost use Rattle.lot_core.specs.Sound.{IsOnce};
     ghost use Rattle.lot_core.specs.Lines.{line_of, key_count, HasKey, KeepsKeys, no_lines};
 
     /// Empty lines for `count` keys from `low` on.
@@ -90,5 +91,50 @@ impl Lines {
         ensures keys { KeepsKeys self.old self.new }
     {
         self.lines[key - self.low].clear();
+    }
+
+    /// Whether nobody is queued on this key.
+    pub(crate) fn is_empty(&self, key: usize) -> bool
+        requires { HasKey self.now key }
+        ensures { IsTrue result ↔ (line_of self.now key ≡ []) }
+    {
+        self.len(key) == 0
+    }
+
+    /// The thread at this place of the key's line.
+    pub(crate) fn at(&self, key: usize, place: usize) -> usize
+        requires key { HasKey self.now key }
+        requires place { place < length (line_of self.now key) }
+        ensures { slice_get (line_of self.now key) place ≡ Some result }
+    {
+        self.lines[key - self.low][place]
+    }
+
+    // Whether the thread at this place stands at an earlier place too.
+    fn is_again(&self, key: usize, place: usize) -> bool
+        requires key { HasKey self.now key }
+        requires place { place < length (line_of self.now key) }
+        ensures { IsTrue result ↔ ((i : ℕ) × (i < place) × (slice_get (line_of self.now key) i ≡ slice_get (line_of self.now key) place)) }
+    {
+        let thread = self.at(key, place);
+        for i in 0..place {
+            if self.at(key, i) == thread {
+                return true;
+            }
+        }
+        false
+    }
+
+    /// Whether no thread is queued on this key twice.
+    pub(crate) fn is_once(&self, key: usize) -> bool
+        requires { HasKey self.now key }
+        ensures { IsTrue result ↔ IsOnce (line_of self.now key) }
+    {
+        for place in 0..self.len(key) {
+            if self.is_again(key, place) {
+                return false;
+            }
+        }
+        true
     }
 }

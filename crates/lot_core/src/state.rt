@@ -1,6 +1,7 @@
 //! A state of the model, and the events that change it.
-ghost use Rattle.std.specs.Prelude.{◌≡◌, ◌<◌, ◌≤◌, ◌↔◌, ◌++◌, ◌∷◌, ℕ, [], true, false, not, length, IsTrue, OnOk, OnErr, IfErr, drop};
+ghost use Rattle.std.specs.Prelude.{◌≡◌, ◌<◌, ◌≤◌, ◌↔◌, ◌++◌, ◌∷◌, ℕ, [], true, false, not, length, IsTrue, OnOk, OnErr, IfErr, IfOk, drop};
 ghost use Rattle.lot_core.specs.Lines.{key_count};
+ghost use Rattle.lot_core.specs.Limits.{Limits};
 ghost use Rattle.lot_core.specs.declared.events.Point.TheVariants.{Calm, Wants, Sweeps};
 ghost use Rattle.lot_core.specs.declared.events.Event.TheVariants as Event;
 ghost use Rattle.lot_core.specs.declared.state.CoreFault.TheVariants.{NoMemory};
@@ -37,14 +38,14 @@ pub enum CoreFault {
 /// its very shape.
 #[derive(Debug, Drop)]
 pub struct State {
-    threads: usize,
-    locks: usize,
-    conds: usize,
+    pub(crate) threads: usize,
+    pub(crate) locks: usize,
+    pub(crate) conds: usize,
     owners: Vec<Option<usize>>,
     parked: Vec<bool>,
-    lock_lines: Lines,
+    pub(crate) lock_lines: Lines,
     flags: Vec<bool>,
-    cond_lines: Lines,
+    pub(crate) cond_lines: Lines,
     points: Vec<Point>,
     ghost owner_each: { length owners.items ≡ locks },
     ghost parked_each: { length parked.items ≡ locks },
@@ -54,44 +55,47 @@ pub struct State {
     ghost point_each: { length points.items ≡ threads },
 }
 
-#[tactic(auto, using(crate::proofs::Rows::row_read, crate::proofs::Rows::row_from_read, crate::proofs::Rows::row_set, crate::proofs::Rows::row_from_set, crate::proofs::Put::told_put))]
+#[tactic(auto, using(crate::proofs::Rows::row_read, crate::proofs::Rows::row_from_read, crate::proofs::Rows::row_past, crate::proofs::Rows::row_set, crate::proofs::Rows::row_from_set, crate::proofs::Put::told_put))]
 impl State {
     ghost use Rattle.lot_core.specs.Steps.{IsThread, IsLock, IsCond, got, passed, called, let_go, first};
     ghost use Rattle.lot_core.specs.State.{world_of, with_point, with_owner, with_parked, with_lock_line, with_flag, with_cond_line};
 
-    fn is_thread(&self, thread: usize) -> bool
+    pub(crate) fn is_thread(&self, thread: usize) -> bool
         ensures { IsTrue result ↔ IsThread (world_of self.now) thread }
     {
         thread < self.threads
     }
 
-    fn is_lock(&self, key: usize) -> bool
+    pub(crate) fn is_lock(&self, key: usize) -> bool
         ensures { IsTrue result ↔ IsLock (world_of self.now) key }
     {
         key < self.locks
     }
 
-    fn is_cond(&self, key: usize) -> bool
+    pub(crate) fn is_cond(&self, key: usize) -> bool
         ensures { IsTrue result ↔ IsCond (world_of self.now) key }
     {
         key >= self.locks && key - self.locks < self.conds
     }
 
-    fn point(&self, thread: usize) -> Point
-        requires { IsThread (world_of self.now) thread }
+    // Whoever is none of the state's threads is calm.
+    pub(crate) fn point(&self, thread: usize) -> Point
         ensures { (world_of self.now).point thread ≡ result }
     {
+        if !self.is_thread(thread) {
+            return Point::Calm;
+        }
         self.points[thread]
     }
 
-    fn is_parked(&self, lock: usize) -> bool
+    pub(crate) fn is_parked(&self, lock: usize) -> bool
         requires { IsLock (world_of self.now) lock }
         ensures { result ≡ (world_of self.now).locks.parked lock }
     {
         self.parked[lock]
     }
 
-    fn is_held(&self, lock: usize) -> bool
+    pub(crate) fn is_held(&self, lock: usize) -> bool
         requires { IsLock (world_of self.now) lock }
         ensures { result ≡ (world_of self.now).locks.held lock }
     {
@@ -108,7 +112,7 @@ impl State {
         }
     }
 
-    fn flag(&self, cond: usize) -> bool
+    pub(crate) fn flag(&self, cond: usize) -> bool
         requires { IsCond (world_of self.now) cond }
         ensures { result ≡ (world_of self.now).conds.flag cond }
     {
@@ -240,6 +244,52 @@ impl State {
     }
 }
 
+fn is_within_limits(threads: usize, locks: usize, conds: usize) -> bool
+    ensures { IsTrue result ↔ Limits threads locks conds }
+{
+    if threads < 1 || threads > MAX_THREADS || locks < 1 || locks > MAX_KEYS {
+        return false;
+    }
+    conds <= MAX_KEYS - locks
+}
+
+// Opening.
+#[tactic(auto)]
+impl State {
+    ghost use Rattle.lot_core.specs.World.{opening};
+    ghost use Rattle.lot_core.specs.State.{world_of, Opens};
+
+    fn at_rest(alloc: Global, threads: usize, locks: usize, conds: usize) -> Result<State, AllocError>
+        ensures { IfOk result (λ s. world_of s ≡ opening threads locks conds) }
+    {
+        Ok(State {
+            threads,
+            locks,
+            conds,
+            owners: vec![in alloc; None; locks]?,
+            parked: vec![in alloc; false; locks]?,
+            lock_lines: Lines::new(alloc, 0, locks)?,
+            flags: vec![in alloc; false; conds]?,
+            cond_lines: Lines::new(alloc, locks, conds)?,
+            points: vec![in alloc; Point::Calm; threads]?,
+        })
+    }
+
+    /// The state in which no lock is held or parked, no flag set, no line has a thread and every
+    /// thread is calm.
+    ///
+    /// It answers BadLimits where there is no thread or no lock, more than [`MAX_THREADS`] threads,
+    /// or more than [`MAX_KEYS`] locks and conditions together.
+    pub fn open(alloc: Global, threads: usize, locks: usize, conds: usize) -> Result<State, CoreFault>
+        ensures { Opens threads locks conds result }
+    {
+        if !is_within_limits(threads, locks, conds) {
+            return Err(CoreFault::BadLimits);
+        }
+        State::at_rest(alloc, threads, locks, conds).map_err(|_| CoreFault::NoMemory)
+    }
+}
+
 // Where each event is allowed.
 #[tactic(auto)]
 impl State {
@@ -259,7 +309,6 @@ impl State {
     }
 
     fn is_calm(&self, thread: usize) -> bool
-        requires { IsThread (world_of self.now) thread }
         ensures { IsTrue result ↔ ((world_of self.now).point thread ≡ Calm) }
     {
         match self.point(thread) {
@@ -269,7 +318,6 @@ impl State {
     }
 
     pub(crate) fn is_trying(&self, thread: usize, lock: usize) -> bool
-        requires { IsThread (world_of self.now) thread }
         ensures { IsTrue result ↔ IsTrying (world_of self.now) thread lock }
     {
         match self.point(thread) {
@@ -283,8 +331,7 @@ impl State {
         }
     }
 
-    fn is_wanting(&self, thread: usize, lock: usize) -> bool
-        requires { IsThread (world_of self.now) thread }
+    pub(crate) fn is_wanting(&self, thread: usize, lock: usize) -> bool
         ensures { IsTrue result ↔ ((world_of self.now).point thread ≡ Wants lock) }
     {
         match self.point(thread) {
@@ -293,8 +340,7 @@ impl State {
         }
     }
 
-    fn is_sweeping(&self, thread: usize, cond: usize) -> bool
-        requires { IsThread (world_of self.now) thread }
+    pub(crate) fn is_sweeping(&self, thread: usize, cond: usize) -> bool
         ensures { IsTrue result ↔ ((world_of self.now).point thread ≡ Sweeps cond) }
     {
         match self.point(thread) {
@@ -304,7 +350,6 @@ impl State {
     }
 
     fn may_let_go(&self, thread: usize, lock: usize) -> bool
-        requires { IsThread (world_of self.now) thread }
         ensures { IsTrue result ↔ MayLetGo (world_of self.now) thread lock }
     {
         match self.point(thread) {
@@ -385,7 +430,8 @@ impl State {
 // The events.
 #[tactic(auto)]
 impl State {
-    ghost use Rattle.lot_core.specs.State.{world_of, Answers};
+    ghost use Rattle.lot_core.specs.Steps.{Run, after_all};
+    ghost use Rattle.lot_core.specs.State.{world_of, Answers, StopsAt};
 
     fn try_take(&mut self, thread: usize, lock: usize) -> Result<Seen, CoreFault>
         ensures { Answers (world_of self.old) (Event.Try thread lock) result (world_of self.new) }
@@ -534,5 +580,22 @@ impl State {
             Event::Lower { thread, key } => self.lower(thread, key),
             Event::Sweep { thread, key } => self.sweep(thread, key),
         }
+    }
+
+    /// Makes the events in order, up to the first that [`step`](State::step) refuses.
+    ///
+    /// The answer is then that event's number, counted from 0, and the fault; the state is that after
+    /// the events before it.
+    pub fn run(&mut self, events: &[Event]) -> Result<(), (usize, CoreFault)>
+        ensures ok { OnOk result (Run (world_of self.old) events.now × (world_of self.new ≡ after_all (world_of self.old) events.now)) }
+        ensures err { IfErr result (λ e. StopsAt (world_of self.old) events.now e.0 e.1 (world_of self.new)) }
+    {
+        for (i, e) in events.iter().enumerate() {
+            match self.step(*e) {
+                Ok(_) => {}
+                Err(fault) => return Err((i, fault)),
+            }
+        }
+        Ok(())
     }
 }

@@ -1,0 +1,39 @@
+-- One more event of a run.
+use Rattle.std.proofs.Common.{◌≡◌, ◌<◌, ◌+◌, ◌++◌, ℕ, List, [], ◌∷◌, length, get_or, take, refl, sym, ap, subst, ◌∙◌, arith}
+use Rattle.std.specs.Prelude.{slice_get, Some, Err}
+use Rattle.std.proofs.lemmas.List.{take_more}
+use Rattle.lot_core.specs.declared.events.Event.{Event}
+use Rattle.lot_core.specs.declared.state.CoreFault.{CoreFault}
+use Rattle.lot_core.specs.World.{World}
+use Rattle.lot_core.specs.Steps.{Allowed, Run, after, after_all}
+use Rattle.lot_core.specs.State.{Answers, StopsAt}
+
+-- the events up to place i led from s to r
+pub record IsSoFar (s : World) (events : List Event) (i : ℕ) (r : World) : Type 0 where
+  pub run : Run s (take i events)
+  pub state : r ≡ after_all s (take i events)
+
+pub run_push : (s : World) (events : List Event) (e : Event) → Run s events → Allowed (after_all s events) e → Run s (events ++ e ∷ [])
+run_push s [] e run ok = (ok, tt)
+run_push s (x ∷ events) e run ok = (run.0, run_push (after s x) events e run.1 ok)
+
+pub after_push : (s : World) (events : List Event) (e : Event) → after_all s (events ++ e ∷ []) ≡ after (after_all s events) e
+after_push s [] e = refl
+after_push s (x ∷ events) e = after_push (after s x) events e
+
+-- one more event that was made
+pub so_more : (s r q : World) (events : List Event) (i : ℕ) (e : Event) → IsSoFar s events i r → i < length events → e ≡ get_or events i e →
+    Allowed r e → q ≡ after r e → IsSoFar s events (i + 1) q
+so_more s r q events i e so within is ok made =
+    let one_more : take i events ++ e ∷ [] ≡ take (i + 1) events =
+        ap (λ x. take i events ++ x ∷ []) is ∙ sym (take_more events i e within) in
+    record {
+      run = subst (λ xs. Run s xs) one_more (run_push s (take i events) e so.run (subst (λ w. Allowed w e) so.state ok));
+      state = made ∙ ap (λ (w : World). after w e) so.state ∙ sym (after_push s (take i events) e) ∙ ap (after_all s) one_more;
+    }
+
+-- and one that was refused
+pub so_stops : (s r q : World) (events : List Event) (i : ℕ) (e : Event) (fault : CoreFault) → IsSoFar s events i r → slice_get events i ≡ Some e →
+    Answers r e (Err fault) q → q ≡ r → StopsAt s events i fault q
+so_stops s r q events i e fault so is answers same =
+    (so.run, same ∙ so.state, (e, is, subst (λ w. Answers w e (Err fault) q) (sym same) answers))

@@ -1,0 +1,10 @@
+use Rattle.std.proofs.lemmas.List.{get_or_default}
+use Rattle.lot_core.specs.State.{world_of}
+use Rattle.lot_core.proofs.Runs.{so_more}
+use Rattle.lot_core.proofs.state.State.run.Goals as goal
+
+pub loop-i-preserved : goal.loop-i-preserved
+loop-i-preserved c =
+    let answers = c.in-Ok.ensures in
+    so_more (world_of c.args.self.now) (world_of c.loop-i.self) (world_of c.step.new.self) c.args.events.now c.loop-i.i _
+    c.loop-i.invariant c.loop-i-test.true (get_or_default c.args.events.now c.loop-i.i _ _ c.loop-i-test.true) answers.0 answers.1

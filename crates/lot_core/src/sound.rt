@@ -1,0 +1,152 @@
+//! Whether a state is sound, tested key by key.
+ghost use Rattle.std.specs.Prelude.{◌≡◌, ◌≢◌, ◌↔◌, ℕ, [], IsTrue};
+
+use crate::events::Point;
+use crate::state::State;
+
+#[tactic(auto)]
+impl State {
+    ghost use Rattle.lot_core.specs.declared.events.Point.TheVariants.{Sweeps};
+    ghost use Rattle.lot_core.specs.Steps.{IsThread, IsLock, IsCond, IsTrying};
+    ghost use Rattle.lot_core.specs.Sound.{IsSound, Waits, IsMarked, IsSought, IsSwept, AllWant, AllWait, IsSoundLock, IsSoundCond};
+    ghost use Rattle.lot_core.specs.State.{world_of};
+
+    fn someone_tries(&self, lock: usize) -> bool
+        ensures { IsTrue result ↔ ((t : ℕ) × IsThread (world_of self.now) t × IsTrying (world_of self.now) t lock) }
+    {
+        for thread in 0..self.threads {
+            if self.is_trying(thread, lock) {
+                return true;
+            }
+        }
+        false
+    }
+
+    fn someone_sweeps(&self, cond: usize) -> bool
+        ensures { IsTrue result ↔ ((t : ℕ) × IsThread (world_of self.now) t × ((world_of self.now).point t ≡ Sweeps cond)) }
+    {
+        for thread in 0..self.threads {
+            if self.is_sweeping(thread, cond) {
+                return true;
+            }
+        }
+        false
+    }
+
+    fn is_waiting(&self, thread: usize, cond: usize) -> bool
+        ensures { IsTrue result ↔ Waits (world_of self.now).point cond thread }
+    {
+        match self.point(thread) {
+            Point::Bed { cond: waited, .. } | Point::Rest { cond: waited, .. } => waited == cond,
+            _ => false,
+        }
+    }
+
+    fn do_all_want(&self, lock: usize) -> bool
+        requires { IsLock (world_of self.now) lock }
+        ensures { IsTrue result ↔ AllWant (world_of self.now) lock }
+    {
+        for place in 0..self.lock_lines.len(lock) {
+            if !self.is_wanting(self.lock_lines.at(lock, place), lock) {
+                return false;
+            }
+        }
+        true
+    }
+
+    fn do_all_wait(&self, cond: usize) -> bool
+        requires { IsCond (world_of self.now) cond }
+        ensures { IsTrue result ↔ AllWait (world_of self.now) cond }
+    {
+        for place in 0..self.cond_lines.len(cond) {
+            if !self.is_waiting(self.cond_lines.at(cond, place), cond) {
+                return false;
+            }
+        }
+        true
+    }
+
+    fn is_marked(&self, lock: usize) -> bool
+        requires { IsLock (world_of self.now) lock }
+        ensures { IsTrue result ↔ IsMarked (world_of self.now) lock }
+    {
+        self.is_parked(lock) || self.lock_lines.is_empty(lock)
+    }
+
+    fn is_sought(&self, lock: usize) -> bool
+        requires { IsLock (world_of self.now) lock }
+        ensures { IsTrue result ↔ IsSought (world_of self.now) lock }
+    {
+        if self.is_held(lock) || self.lock_lines.is_empty(lock) {
+            return true;
+        }
+        self.someone_tries(lock)
+    }
+
+    fn is_swept(&self, cond: usize) -> bool
+        requires { IsCond (world_of self.now) cond }
+        ensures { IsTrue result ↔ IsSwept (world_of self.now) cond }
+    {
+        if self.flag(cond) || self.cond_lines.is_empty(cond) {
+            return true;
+        }
+        self.someone_sweeps(cond)
+    }
+
+    fn is_sound_lock(&self, lock: usize) -> bool
+        requires { IsLock (world_of self.now) lock }
+        ensures { IsTrue result ↔ IsSoundLock (world_of self.now) lock }
+    {
+        if !self.is_marked(lock) {
+            return false;
+        }
+        if !self.is_sought(lock) {
+            return false;
+        }
+        self.lock_lines.is_once(lock) && self.do_all_want(lock)
+    }
+
+    fn is_sound_cond(&self, cond: usize) -> bool
+        requires { IsCond (world_of self.now) cond }
+        ensures { IsTrue result ↔ IsSoundCond (world_of self.now) cond }
+    {
+        if !self.is_swept(cond) {
+            return false;
+        }
+        self.cond_lines.is_once(cond) && self.do_all_wait(cond)
+    }
+
+    fn are_locks_sound(&self) -> bool
+        ensures { IsTrue result ↔ ((l : ℕ) → IsSoundLock (world_of self.now) l) }
+    {
+        for lock in 0..self.locks {
+            if !self.is_sound_lock(lock) {
+                return false;
+            }
+        }
+        true
+    }
+
+    fn are_conds_sound(&self) -> bool
+        ensures { IsTrue result ↔ ((c : ℕ) → IsSoundCond (world_of self.now) c) }
+    {
+        for i in 0..self.conds {
+            if !self.is_sound_cond(self.locks + i) {
+                return false;
+            }
+        }
+        true
+    }
+
+    /// Whether the state is sound: one owner for each lock, sleepers are marked, someone is trying
+    /// where a free lock has sleepers, someone sweeps where a clear flag has some, and no thread is in
+    /// two lines or twice in one.
+    ///
+    /// Every state that [`open`](State::open) and [`step`](State::step) can make is sound
+    /// ([`every_run_is_sound`](crate::every_run_is_sound)): a test may ask, a program need not.
+    pub fn is_sound(&self) -> bool
+        ensures { IsTrue result ↔ IsSound (world_of self.now) }
+    {
+        self.are_locks_sound() && self.are_conds_sound()
+    }
+}
