@@ -1,0 +1,12 @@
+pub mod Apart
+pub mod Calls
+pub mod History
+pub mod Opening
+pub mod Plays
+pub mod Rule
+pub mod Seating
+pub mod Shown
+pub mod Slots
+pub mod Start
+pub mod Values
+pub mod World

@@ -1,0 +1,106 @@
+-- Values under the caller's rule. `has t l` says that t's pass holds l.
+use Rattle.std.specs.Prelude.{◌≡◌, ◌≢◌, ℕ, ◌<◌, List, length, replicate, slice_set, Option, Some, None}
+use mathlib.Core.Option.{some, none}
+use mathlib.Core.Option as maybe
+use lib.ListN.{get_elem?}
+use Rattle.lot_words.specs.declared.views.Place.{Place}
+use Rattle.lot_words.specs.declared.views.Place.TheVariants.{InSlot, Out, Moving}
+use Rattle.lot_words.specs.declared.views.ValuesView.{ValuesView}
+
+module _ {V : Type 0} where
+  -- what a slot holds, by its place
+  abbrev pub in_slot : Place V → Option V
+  in_slot (InSlot x) = Some x
+  in_slot Out = None
+  in_slot Moving = None
+
+  abbrev pub place_of : Option V → Place V
+  place_of (Some x) = InSlot x
+  place_of None = Out
+
+  -- what is at home in the slot, by what the owner knows; nothing is while the value moves
+  abbrev pub home_of : Place V → maybe.Option (Option V)
+  home_of (InSlot x) = some (Some x)
+  home_of Out = some None
+  home_of Moving = none
+
+  -- what lies in the slot is known to lie there
+  abbrev pub IsAtHome : Place V → Type 0
+  IsAtHome (InSlot x) = Unit {0}
+  IsAtHome Out = Unit {0}
+  IsAtHome Moving = ⊥
+
+  -- ---- what a pass knows of values
+  -- the value y lies in the slot of l
+  abbrev pub IsIn : ValuesView V → ℕ → V → Type 0
+  IsIn g l y = get_elem? g.places l ≡ some (InSlot y)
+
+  -- the pass has the value of l out
+  abbrev pub IsOut : ValuesView V → ℕ → Type 0
+  IsOut g l = get_elem? g.places l ≡ some Out
+
+  -- x is the value of l that the pass found when it last got l, or left when it last let l go
+  abbrev pub HasSeen : ValuesView V → ℕ → V → Type 0
+  HasSeen g l x = get_elem? g.seen l ≡ some x
+
+  -- l was got with the value x
+  abbrev pub found_in : ValuesView V → ℕ → V → ValuesView V
+  found_in g l x = record { places = slice_set g.places l (InSlot x); seen = slice_set g.seen l x }
+
+  -- l was let go with the value x
+  abbrev pub left_in : ValuesView V → ℕ → V → ValuesView V
+  left_in g l x = record { places = g.places; seen = slice_set g.seen l x }
+
+  abbrev pub placed : ValuesView V → ℕ → Place V → ValuesView V
+  placed g l pl = record { places = slice_set g.places l pl; seen = g.seen }
+
+module _ {V Q : Type 0} (keeps : ℕ → V → Type 0) (grows : V → V → Type 0) (share : ℕ → V → Q) where
+  -- t may leave the value y in the lock l, where it found x
+  pub record MayLeave (l t : ℕ) (x y : V) : Type 0 where
+    pub kept : keeps l y
+    pub grown : grows x y
+    pub others : (u : ℕ) → u ≢ t → share u x ≡ share u y
+
+  -- the value x that t finds in l: it keeps the rule, has grown from what t had seen of it, and has t's part of that
+  pub record FoundOk (l t : ℕ) (g : ValuesView V) (x : V) : Type 0 where
+    pub kept : keeps l x
+    pub grown : (s : V) → HasSeen g l s → grows s x
+    pub mine : (s : V) → HasSeen g l s → share t s ≡ share t x
+
+  abbrev pub MayLie : ℕ → ℕ → V → Place V → Type 0
+  MayLie l t x (InSlot y) = MayLeave l t x y
+  MayLie l t x Out = Unit {0}
+  MayLie l t x Moving = Unit {0}
+
+  -- t has l, and found the value x when it got it
+  pub record OwnerOk (homes : List (maybe.Option (Option V))) (l t : ℕ) (g : ValuesView V) (x : V) : Type 0 where
+    pub place : Place V
+    pub place_is : get_elem? g.places l ≡ some place
+    pub home : get_elem? homes l ≡ some (home_of place)
+    pub found : HasSeen g l x
+    pub lawful : MayLie l t x place
+
+  -- what t has seen of l, whose value is x
+  pub record SeenOk (held : Type 0) (l t : ℕ) (g : ValuesView V) (x : V) : Type 0 where
+    pub seen : V
+    pub seen_is : HasSeen g l seen
+    pub grown : grows seen x
+    pub mine : ¬ held → share t seen ≡ share t x
+
+  -- the lock l, whose value is x: what its owner found, or else what lies in its slot. Some thread has seen it
+  pub record ValueOk (n : ℕ) (has : ℕ → ℕ → Type 0) (values : ℕ → ValuesView V) (homes : List (maybe.Option (Option V))) (l : ℕ) (x : V) : Type 0 where
+    pub kept : keeps l x
+    pub idle : ((t : ℕ) → ¬ has t l) → get_elem? homes l ≡ some (some (Some x))
+    pub owned : (t : ℕ) → has t l → OwnerOk homes l t (values t) x
+    pub seen : (t : ℕ) → t < n → SeenOk (has t l) l t (values t) x
+    pub witness : (t : ℕ) × ((t < n) × HasSeen (values t) l x)
+
+  pub record IsLawful (n m : ℕ) (has : ℕ → ℕ → Type 0) (values : ℕ → ValuesView V) (homes : List (maybe.Option (Option V))) : Type 0 where
+    pub value : ℕ → V
+    pub deep : length homes ≡ m
+    pub each : (l : ℕ) → l < m → ValueOk n has values homes l (value l)
+    pub wide : (t : ℕ) → t < n → (length (values t).places ≡ m) × (length (values t).seen ≡ m)
+
+-- ---- at the opening each pass has seen the opening values, and has none out
+abbrev pub fresh_values : {V : Type 0} → List V → ValuesView V
+fresh_values xs = record { places = replicate (length xs) Out; seen = xs }
