@@ -1,0 +1,2 @@
+mod Roots
+mod Under

@@ -1,0 +1,143 @@
+-- What is known under a bucket's lock while a key's root is out, and after it is back.
+use Rattle.std.proofs.Common.{◌≡◌, ◌≢◌, ℕ, ◌<◌, true, false, not, ◌&&◌, cond, Bool, List, [], ◌∷◌, ◌++◌, length, drop, Option, Some, None, refl, sym, ◌∙◌, ap, subst, arith}
+use Rattle.std.specs.Prelude.{nat_lt, is_some, ◌==◌}
+use Rattle.std.proofs.lemmas.Bool.{ltb-true}
+use Rattle.std.proofs.Math.Dec.{eqb-suc-zero}
+use Rattle.lot_bucket.specs.Queue.{line_of, without_first, without_key, first_of}
+use Rattle.lot_bucket.specs.Places.{has_key, root_at, with_root}
+use Rattle.lot_bucket.specs.Contents.{Contents}
+use Rattle.lot_bucket.specs.Agrees.{IsRootOf, Agrees}
+use Rattle.lot_bucket.specs.Settled.{Stays}
+use Rattle.lot_bucket.specs.Taking.{TakesOne}
+use Rattle.lot_bucket.specs.declared.taking.Moment.{Moment}
+use Rattle.lot_bucket.specs.declared.taking.Dequeued.{Dequeued}
+use Rattle.lot_bucket.proofs.Laws.{line_of-push_same, line_of-push_other, line_of-without_first_same, line_of-without_first_other, line_of-without_key_same, line_of-without_key_other, has_key-with, root_at-with_same, root_taken, agrees_again}
+use Rattle.lot_park.specs.Parking.{IsOpenFor, Tells}
+
+-- what an unparking tells, where nobody of the line is left if the queue is empty
+tells_of : (line : List ℕ) (left : List (ℕ × ℕ)) (next now : ℕ) (told : Dequeued) → told.thread ≡ first_of line
+    → told.more ≡ (is_some (first_of line) && not (length left == 0)) → told.fair ≡ (is_some (first_of line) && nat_lt next now)
+    → (left ≡ [] → drop 1 line ≡ []) → Tells line now told
+tells_of [] left next now told thread more fair last =
+    record {
+      thread = thread;
+      alone = λ some m. refl;
+      more = λ m. absurd (let e : true ≡ false = sym m ∙ more in cc);
+      fair = λ f. absurd (let e : true ≡ false = sym f ∙ fair in cc);
+    }
+tells_of (t ∷ line) left next now told thread more fair last =
+    record {
+      thread = thread;
+      alone = λ some m. last (empty_of left (sym more ∙ m));
+      more = λ m. rw thread refl;
+      fair = λ f. (rw thread refl, (let past : next < now = ltb-true next now (sym fair ∙ f) in omega arith));
+    }
+  where
+    empty_of : (xs : List (ℕ × ℕ)) → not (length xs == 0) ≡ false → xs ≡ []
+    empty_of [] e = refl
+    empty_of (x ∷ xs) e = absurd (let f = rw (eqb-suc-zero (length xs)) at e in let f' : true ≡ false = f in cc)
+
+pub tells : {R : Type 0} (line : R → List ℕ) (k : ℕ) (moment : Moment) (before taken after : Contents R) (root : R) (told : Dequeued)
+    → line root ≡ line_of k before.queue → taken.queue ≡ before.queue → TakesOne k moment taken after told → Tells (line root) moment.now told
+tells line k moment before taken after root told same out takes =
+    let own : line root ≡ line_of k taken.queue = same ∙ ap (λ q. line_of k q) (sym out) in
+    let left : after.queue ≡ without_first k taken.queue = ap (λ (c : Contents _). c.queue) takes.left in
+    rw own (tells_of (line_of k taken.queue) after.queue taken.next_fair moment.now told takes.thread takes.more takes.fair
+    (λ e. sym (line_of-without_first_same k taken.queue) ∙ ap (λ q. line_of k q) (sym left ∙ e)))
+
+-- the queue after a parking
+abbrev pub joined : Bool → ℕ → ℕ → List (ℕ × ℕ) → List (ℕ × ℕ)
+joined queued t k queue = cond queued (queue ++ (t, k) ∷ []) queue
+
+pub line_of-joined_other : (j k t : ℕ) (queued : Bool) (queue : List (ℕ × ℕ)) → k ≢ j → line_of j (joined queued t k queue) ≡ line_of j queue
+line_of-joined_other j k t true queue other = line_of-push_other j k t queue other
+line_of-joined_other j k t false queue other = refl
+
+module _ {R : Type 0} (key : R → ℕ) (line : R → List ℕ) (owes : R → List (ℕ × ℕ)) where
+  -- the root that a validation gave back
+  pub root_joined : (k t : ℕ) (queued : Bool) (queue : List (ℕ × ℕ)) (root after : R) → IsRootOf key line owes k queue root → key after ≡ k → owes after ≡ []
+      → (queued ≡ true → line after ≡ line root ++ t ∷ []) → (queued ≡ false → after ≡ root) → IsRootOf key line owes k (joined queued t k queue) after
+  root_joined k t true queue root after own named paid longer same =
+      record { named = named; same_line = longer refl ∙ ap (λ xs. xs ++ t ∷ []) own.same_line ∙ sym (line_of-push_same k t queue); paid = paid }
+  root_joined k t false queue root after own named paid longer same =
+      record { named = named; same_line = ap (λ r. line r) (same refl) ∙ own.same_line; paid = paid }
+
+  -- the root that an unparking leaves
+  pub root_shorter : (k : ℕ) (queue : List (ℕ × ℕ)) (root after : R) → IsRootOf key line owes k queue root → key after ≡ k → line after ≡ drop 1 (line root) → owes after ≡ []
+      → IsRootOf key line owes k (without_first k queue) after
+  root_shorter k queue root after own named shorter paid =
+      record { named = named; same_line = shorter ∙ ap (λ xs. drop 1 xs) own.same_line ∙ sym (line_of-without_first_same k queue); paid = paid }
+
+  -- the root that was taken out
+  pub own_root : (k : ℕ) (b : Contents R) (root : R) → IsOpenFor key line owes k b → root_at k b.places ≡ Some root → IsRootOf key line owes k b.queue root
+  own_root k b root ready at = root_taken key line owes b k root ready.agrees ready.is_open ready.has at
+
+  -- with the root back, the bucket stays what it was
+  stays_again : (before after : Contents R) (k : ℕ) (root : R) → IsOpenFor key line owes k before
+      → after.opened ≡ before.opened → after.room ≡ before.room → after.places ≡ with_root k (Some root) (with_root k None before.places)
+      → ((j : ℕ) → k ≢ j → line_of j after.queue ≡ line_of j before.queue) → IsRootOf key line owes k after.queue root → Stays key line owes before after
+  stays_again before after k root ready opened room places lines own =
+      record {
+        agrees = agrees_again key line owes before after k root ready.agrees ready.is_open ready.has (opened ∙ ready.is_open) places lines own;
+        is_open = opened ∙ ready.is_open;
+        keys = λ j. ap (λ ps. has_key j ps) places ∙ has_key-with j k (Some root) (with_root k None before.places) ∙ has_key-with j k None before.places;
+        room = room;
+      }
+
+  -- after a parking: the root was out, the thread was queued or not, the root is back
+  pub parked_stays : (k t : ℕ) (before out queued after : Contents R) (root back : R) (joins : Bool) → IsOpenFor key line owes k before → root_at k before.places ≡ Some root
+      → out ≡ record before { places = with_root k None before.places }
+      → queued ≡ record out { queue = joined joins t k out.queue }
+      → after ≡ record queued { places = with_root k (Some back) queued.places }
+      → key back ≡ k → owes back ≡ [] → (joins ≡ true → line back ≡ line root ++ t ∷ []) → (joins ≡ false → back ≡ root) → Stays key line owes before after
+  parked_stays k t before out queued after root back joins ready at took queues put named paid longer same =
+      stays_again before after k back ready
+      (ap (λ (c : Contents R). c.opened) put ∙ ap (λ (c : Contents R). c.opened) queues ∙ ap (λ (c : Contents R). c.opened) took)
+      (ap (λ (c : Contents R). c.room) put ∙ ap (λ (c : Contents R). c.room) queues ∙ ap (λ (c : Contents R). c.room) took)
+      (ap (λ (c : Contents R). c.places) put ∙ ap (λ ps. with_root k (Some back) ps) (ap (λ (c : Contents R). c.places) queues ∙ ap (λ (c : Contents R). c.places) took))
+      (λ j other. ap (λ q. line_of j q) queue ∙ line_of-joined_other j k t joins before.queue other)
+      (subst (λ (q : List (ℕ × ℕ)). IsRootOf key line owes k q back) (sym queue) (root_joined k t joins before.queue root back (own_root k before root ready at) named paid longer same))
+    where
+      queue : after.queue ≡ joined joins t k before.queue
+      queue =
+          ap (λ (c : Contents R). c.queue) put ∙ ap (λ (c : Contents R). c.queue) queues ∙ ap (λ q. joined joins t k q) (ap (λ (c : Contents R). c.queue) took)
+
+  -- after an unparking: the root was out, one was taken, the root is back
+  pub unparked_stays : (k : ℕ) (moment : Moment) (before out taken after : Contents R) (root back : R) (told : Dequeued) → IsOpenFor key line owes k before → root_at k before.places ≡ Some root
+      → out ≡ record before { places = with_root k None before.places } → TakesOne k moment out taken told
+      → after ≡ record taken { places = with_root k (Some back) taken.places }
+      → key back ≡ k → line back ≡ drop 1 (line root) → owes back ≡ [] → Stays key line owes before after
+  unparked_stays k moment before out taken after root back told ready at took takes put named shorter paid =
+      stays_again before after k back ready
+      (ap (λ (c : Contents R). c.opened) put ∙ ap (λ (c : Contents R). c.opened) takes.left ∙ ap (λ (c : Contents R). c.opened) took)
+      (ap (λ (c : Contents R). c.room) put ∙ ap (λ (c : Contents R). c.room) takes.left ∙ ap (λ (c : Contents R). c.room) took)
+      (ap (λ (c : Contents R). c.places) put ∙ ap (λ ps. with_root k (Some back) ps) (ap (λ (c : Contents R). c.places) takes.left ∙ ap (λ (c : Contents R). c.places) took))
+      (λ j other. ap (λ q. line_of j q) queue ∙ line_of-without_first_other j k before.queue other)
+      (subst (λ (q : List (ℕ × ℕ)). IsRootOf key line owes k q back) (sym queue) (root_shorter k before.queue root back (own_root k before root ready at) named shorter paid))
+    where
+      queue : after.queue ≡ without_first k before.queue
+      queue =
+          ap (λ (c : Contents R). c.queue) put ∙ ap (λ (c : Contents R). c.queue) takes.left ∙ ap (λ q. without_first k q) (ap (λ (c : Contents R). c.queue) took)
+
+  -- after an unparking of all: the root and the line were out, the root is back
+  pub emptied_stays : (k : ℕ) (before out after : Contents R) (root back : R) → IsOpenFor key line owes k before → root_at k before.places ≡ Some root
+      → out ≡ record before { places = with_root k None before.places; queue = without_key k before.queue }
+      → after ≡ record out { places = with_root k (Some back) out.places }
+      → key back ≡ k → line back ≡ [] → owes back ≡ [] → Stays key line owes before after
+  emptied_stays k before out after root back ready at took put named nobody paid =
+      stays_again before after k back ready
+      (ap (λ (c : Contents R). c.opened) put ∙ ap (λ (c : Contents R). c.opened) took)
+      (ap (λ (c : Contents R). c.room) put ∙ ap (λ (c : Contents R). c.room) took)
+      (ap (λ (c : Contents R). c.places) put ∙ ap (λ ps. with_root k (Some back) ps) (ap (λ (c : Contents R). c.places) took))
+      (λ j other. ap (λ q. line_of j q) queue ∙ line_of-without_key_other j k before.queue other)
+      (record { named = named; same_line = nobody ∙ sym (ap (λ q. line_of k q) queue ∙ line_of-without_key_same k before.queue); paid = paid })
+    where
+      queue : after.queue ≡ without_key k before.queue
+      queue = ap (λ (c : Contents R). c.queue) put ∙ ap (λ (c : Contents R). c.queue) took
+
+-- the key's place is there, and empty, while its root is out
+pub place_has : {R : Type 0} (k : ℕ) (places out : List (ℕ × Option R)) → has_key k places ≡ true → out ≡ with_root k None places → has_key k out ≡ true
+place_has k places out has same = ap (λ ps. has_key k ps) same ∙ has_key-with k k None places ∙ has
+
+pub place_empty : {R : Type 0} (k : ℕ) (places out : List (ℕ × Option R)) → has_key k places ≡ true → out ≡ with_root k None places → root_at k out ≡ None
+place_empty k places out has same = ap (λ ps. root_at k ps) same ∙ root_at-with_same k None places has

@@ -1,0 +1,2 @@
+pub mod Parking
+pub mod Lots

@@ -1,0 +1,114 @@
+-- What the callbacks of the parking lot are told, and what is asked of them. Of a root three things are
+-- known, by functions: its key, its line, and the letters that it owes, as pairs of thread and token.
+use Rattle.std.specs.Prelude.{◌≡◌, ℕ, ◌<◌, Bool, true, false, List, [], ◌∷◌, ◌++◌, drop, length, Option, Some, None, IsSome}
+use Rattle.lot_bucket.specs.Queue.{first_of}
+use Rattle.lot_bucket.specs.Places.{has_key}
+use Rattle.lot_bucket.specs.Contents.{Contents}
+use Rattle.lot_bucket.specs.Agrees.{Agrees}
+use Rattle.lot_bucket.specs.declared.taking.Dequeued.{Dequeued}
+use Rattle.lot_park.specs.declared.lot.Parked.{Parked}
+use Rattle.lot_park.specs.declared.lot.Parked.TheVariants.{Invalid, Woken}
+
+-- what an unparking at the moment now tells of the line that it finds
+pub record Tells (line : List ℕ) (now : ℕ) (told : Dequeued) : Type 0 where
+  pub thread : told.thread ≡ first_of line
+  pub alone : IsSome told.thread → told.more ≡ false → drop 1 line ≡ []
+  pub more : told.more ≡ true → IsSome told.thread
+  pub fair : told.fair ≡ true → IsSome told.thread × (0 < now)
+
+-- the letter that is owed to the thread that was taken, if one was
+abbrev pub debt : Option ℕ → ℕ → List (ℕ × ℕ)
+debt None token = []
+debt (Some thread) token = (thread, token) ∷ []
+
+-- a letter with token 0 for each thread of a line
+abbrev pub debts : List ℕ → List (ℕ × ℕ)
+debts [] = []
+debts (thread ∷ line) = (thread, 0) ∷ debts line
+
+-- how a parking ended: invalid, or woken with a token
+abbrev pub Ends : Parked → Type 0 → (ℕ → Type 0) → Type 0
+Ends Invalid invalid woken = invalid
+Ends (Woken token) invalid woken = woken token.0
+
+module _ {R : Type 0} (key : R → ℕ) (line : R → List ℕ) (owes : R → List (ℕ × ℕ)) where
+  -- the bucket is open, agrees, and has key k
+  pub record IsOpenFor (k : ℕ) (b : Contents R) : Type 0 where
+    pub agrees : Agrees key line owes b
+    pub is_open : b.opened ≡ true
+    pub has : has_key k b.places ≡ true
+
+  -- The callback of an unparking may be called with the key's root, which owes nothing, and what is told.
+  abbrev pub MayUnpark : ℕ → ℕ → (R → Dequeued → Type 0) → Type 0
+  MayUnpark k now may = (root : R) (told : Dequeued) → key root ≡ k → owes root ≡ [] → Tells (line root) now told → may root told
+
+  -- It gives the root back without the first of its line, owing just that thread the token; or, where
+  -- nobody waited, owing nothing.
+  abbrev pub Unparks : {X T : Type 0} → (T → ℕ) → ℕ → ℕ → (R → Dequeued → X × R × T → Type 0) → Type 0
+  Unparks {X} {T} number k now answers =
+      (root : R) (told : Dequeued) (answer : X × R × T) → key root ≡ k → owes root ≡ [] → Tells (line root) now told → answers root told answer
+      → (key answer.1 ≡ k) × (line answer.1 ≡ drop 1 (line root)) × (owes answer.1 ≡ debt told.thread (number answer.2))
+
+  -- The validation of a parking may be called with the key's root, which owes nothing.
+  abbrev pub MayValidate : ℕ → (R → Type 0) → Type 0
+  MayValidate k may = (root : R) → key root ≡ k → owes root ≡ [] → may root
+
+  -- Where it says yes, it gives the root back with the caller last in its line; where it says no,
+  -- unchanged. The pass stays that of the caller.
+  abbrev pub Validates : {X P : Type 0} → (P → ℕ) → ℕ → ℕ → (R → X × P × R × Bool → Type 0) → Type 0
+  Validates {X} {P} thread k caller answers =
+      (root : R) (answer : X × P × R × Bool) → key root ≡ k → owes root ≡ [] → answers root answer
+      → (thread answer.1 ≡ caller) × (key answer.2 ≡ k) × (owes answer.2 ≡ [])
+      × (answer.3 ≡ true → line answer.2 ≡ line root ++ caller ∷ []) × (answer.3 ≡ false → answer.2 ≡ root)
+
+  -- The callback of an unparking of all may be called with the key's root and how many were taken.
+  abbrev pub MayUnparkAll : ℕ → (R → ℕ → Type 0) → Type 0
+  MayUnparkAll k may = (root : R) → key root ≡ k → owes root ≡ [] → may root (length (line root))
+
+  -- It gives the root back with an empty line, owing token 0 to each thread of the line that it had.
+  abbrev pub UnparksAll : {X : Type 0} → ℕ → (R → ℕ → X × R → Type 0) → Type 0
+  UnparksAll {X} k answers =
+      (root : R) (answer : X × R) → key root ≡ k → owes root ≡ [] → answers root (length (line root)) answer
+      → (key answer.1 ≡ k) × (line answer.1 ≡ []) × (owes answer.1 ≡ debts (line root))
+
+  -- An unparking called its callback once, with some root of the key, and answers what that answered and
+  -- what it was told.
+  pub record UnparkedOne {X T : Type 0} (k now : ℕ) (answers : R → Dequeued → X × R × T → Type 0) (result : X × Dequeued) : Type 0 where
+    pub root : R
+    pub answer : X × R × T
+    pub named : key root ≡ k
+    pub paid : owes root ≡ []
+    pub told : Tells (line root) now result.1
+    pub called : answers root result.1 answer
+    pub same : result.0 ≡ answer.0
+
+  -- An unparking of all called its callback once, with some root of the key, and answers how long its
+  -- line was.
+  pub record UnparkedAll {X : Type 0} (k : ℕ) (answers : R → ℕ → X × R → Type 0) (result : X × ℕ) : Type 0 where
+    pub root : R
+    pub answer : X × R
+    pub named : key root ≡ k
+    pub paid : owes root ≡ []
+    pub whole : result.1 ≡ length (line root)
+    pub called : answers root result.1 answer
+    pub same : result.0 ≡ answer.0
+
+  -- A validation was called once, with some root of the key.
+  pub record Validated {X P : Type 0} (k : ℕ) (answers : R → X × P × R × Bool → Type 0) (x : X) (pass : P) (queued : Bool) : Type 0 where
+    pub root : R
+    pub back : R
+    pub named : key root ≡ k
+    pub paid : owes root ≡ []
+    pub called : answers root (x, pass, back, queued)
+
+  -- A parking called its validation once, with some root of the key. It is invalid exactly where that said
+  -- no. Where it said yes, the action before sleep ran once, and a letter with the token was collected.
+  pub record ParkedOnce {X P : Type 0} (k : ℕ) (answers : R → X × P × R × Bool → Type 0) (acts : X → X → Type 0) (collected : P → ℕ → P → Type 0) (result : P × X × Parked) : Type 0 where
+    pub root : R
+    pub answer : X × P × R × Bool
+    pub named : key root ≡ k
+    pub paid : owes root ≡ []
+    pub called : answers root answer
+    pub ends : Ends result.2
+        ((answer.3 ≡ false) × (result.0 ≡ answer.1) × (result.1 ≡ answer.0))
+        (λ token. (answer.3 ≡ true) × collected answer.1 token result.0 × acts answer.0 result.1)

@@ -1,0 +1,25 @@
+//! The parking lot: lines of sleeping threads, one for each key.
+//!
+//! Stands on lot_bucket, which queues, and lot_records, where threads sleep. Locks and conditions stand
+//! on it. It is written for every `Scheme`, so it knows neither locks nor words nor values.
+//!
+//! | Call | Under the lock of the key's bucket | After it |
+//! |---|---|---|
+//! | `park_conditionally` | the validation looks, and queues the thread | the action before sleep; then sleep until a letter is there |
+//! | `unpark_one` | the first of the line is taken, the callback decides on the token, the letter is posted | wake |
+//! | `unpark_all` | the whole line is taken, the callback is told how many, the letters are posted | wake |
+//!
+//! A letter carries all that a sleeper is told; a wake only ends a sleep, and the sleeper then looks for
+//! its letter. A thread may be unparked between its queueing and its sleep: then it does not sleep.
+#![tactic(auto)]
+
+pub mod lot;
+mod parking;
+pub mod scheme;
+mod table;
+mod taken;
+
+pub use lot::{ParkFault, Parked, ParkingLot};
+pub use lot_bucket::{Dequeued as UnparkResult, Moment, Root};
+pub use scheme::{Scheme, Token};
+pub use taken::MOST_THREADS;

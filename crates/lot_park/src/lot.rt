@@ -1,0 +1,284 @@
+ghost use Rattle.std.specs.Prelude.{◌≡◌, ℕ, ◌+◌, ◌<◌, ◌≤◌, Bool, true, false, List, [], ◌∷◌, ◌++◌, length, drop, vec_len, vec_capacity, IfOk, IfErr};
+
+use crate::parking::{park_in, unpark_all_in, unpark_in};
+use crate::scheme::{Scheme, Token};
+use crate::table::Table;
+use crate::taken::{MOST_THREADS, Taken};
+use crossbeam_utils::CachePadded;
+use lot_bucket::{Bucket, Dequeued, Moment};
+use lot_records::Record;
+use std::alloc::{AllocError, Global};
+use std::marker::Model;
+use std::sync::Wait;
+use thiserror::Error;
+
+/// Why a parking lot could not be made.
+#[derive(Clone, Copy, Debug, PartialEq, Eq, Error)]
+pub enum ParkFault {
+    /// A request for memory was refused.
+    #[error("no memory")]
+    NoMemory = 1,
+}
+
+/// How a parking ended.
+#[derive(Clone, Copy, Debug, PartialEq, Eq)]
+pub enum Parked {
+    /// The validation said no, and nothing was done.
+    Invalid,
+    /// Somebody took the thread from the line and told it this.
+    Woken(Token),
+}
+
+/// Lines of sleeping threads, one for each key, as WTF's ParkingLot with numbers for addresses.
+///
+/// A thread parks on a key where a validation under the lock of the key's bucket says so, and sleeps
+/// until somebody unparks it; the callback of the unparking decides, under the same lock, what the
+/// sleeper is told. End it by `close`, which gives the roots and the scheme back.
+pub struct ParkingLot<S: Scheme> {
+    scheme: S,
+    table: Table<S::Root>,
+    records: Vec<CachePadded<Record>>,
+}
+
+impl<S: Scheme> Model for ParkingLot<S> {
+    ghost use Rattle.std.specs.Prelude.{◌≡◌, ◌≤◌, vec_len};
+    ghost use Rattle.lot_park.specs.Lots.{LotView};
+    ghost use Rattle.lot_park.specs.declared.taken.TheConstants.{MOST_THREADS};
+
+    ghost Value = { LotView S };
+
+    ghost view = { λ l. record { scheme = l.scheme; threads = l.table.threads; keys = l.table.keys } };
+
+    ghost invariant = { λ l. (vec_len l.records ≡ l.table.threads) × (l.table.threads ≤ MOST_THREADS) };
+}
+
+impl<S: Scheme> ParkingLot<S> {
+    ghost use Rattle.lot_park.specs.Lots.{LotView, AreIdle, Appends};
+    ghost use Rattle.lot_park.specs.Parking.{IsOpenFor, MayUnpark, Unparks, UnparkedOne, MayUnparkAll, UnparksAll, UnparkedAll, MayValidate, Validates, Validated, ParkedOnce};
+
+    /// A lot for so many threads, with a key for each root: root `i` is that of key `i`.
+    ///
+    /// Roots and scheme come back where a request for memory was refused.
+    pub fn open(
+        alloc: Global,
+        threads: usize,
+        roots: Vec<S::Root>,
+        scheme: S,
+    ) -> Result<ParkingLot<S>, (ParkFault, Vec<S::Root>, S)>
+        requires few { threads ≤ MOST_THREADS }
+        requires idle { AreIdle S.Root.key S.Root.line S.Root.owes roots.items }
+        ensures ok { IfOk result (λ l. l ≡ record { scheme = scheme; threads = threads; keys = vec_len roots }) }
+        ensures err { IfErr result (λ e. (e.1 ≡ roots) × (e.2 ≡ scheme)) }
+    {
+        let Ok(records) = new_records(alloc, threads) else {
+            return Err((ParkFault::NoMemory, roots, scheme));
+        };
+        match Table::new(alloc, threads, roots) {
+            Ok(table) => Ok(ParkingLot {
+                scheme,
+                table,
+                records,
+            }),
+            Err(roots) => Err((ParkFault::NoMemory, roots, scheme)),
+        }
+    }
+
+    pub fn scheme(&self) -> &S
+        ensures { result.now ≡ self.now.scheme }
+    {
+        &self.scheme
+    }
+
+    /// Sleeps on the key, unless `validate` says no, and answers what it was told.
+    ///
+    /// `validate` is called once, under the lock of the key's bucket; where it says yes, the thread stands
+    /// last in the line. Then `before_sleep` is called once with no bucket locked, and must not park; it
+    /// may unpark, even this thread.
+    pub fn park_conditionally<
+        W: Wait,
+        X,
+        V: FnOnce(X, S::Pass, S::Root) -> (X, S::Pass, S::Root, bool),
+        B: FnOnce(X) -> X,
+    >(
+        &self,
+        rt: &W,
+        pass: S::Pass,
+        key: usize,
+        x: X,
+        validate: V,
+        before_sleep: B,
+    ) -> (S::Pass, X, Parked)
+        requires thread { S.thread pass < self.now.threads }
+        requires callable { MayValidate S.Root.key S.Root.line S.Root.owes key (V.pre validate x pass) }
+        requires keeps { Validates S.Root.key S.Root.line S.Root.owes S.thread key (S.thread pass) (V.post validate x pass) }
+        requires sleeps { (r : S.Root) (o : _) → S.Root.key r ≡ key → S.Root.owes r ≡ [] → V.post validate x pass r o → o.3 ≡ true → B.pre before_sleep o.0 }
+        ensures { ParkedOnce S.Root.key S.Root.line S.Root.owes key (V.post validate x pass) (B.post before_sleep) S.collected result }
+    {
+        let (x, pass, queued) = self.queue_up(rt, pass, key, x, validate);
+        if !queued {
+            return (pass, x, Parked::Invalid);
+        }
+        let x = before_sleep(x);
+        let (pass, token) = self.sleep(rt, pass);
+        (pass, x, Parked::Woken(token))
+    }
+
+    // Validates, and queues the thread where that said yes.
+    fn queue_up<W: Wait, X, V: FnOnce(X, S::Pass, S::Root) -> (X, S::Pass, S::Root, bool)>(
+        &self,
+        rt: &W,
+        pass: S::Pass,
+        key: usize,
+        x: X,
+        validate: V,
+    ) -> (X, S::Pass, bool)
+        requires callable { MayValidate S.Root.key S.Root.line S.Root.owes key (V.pre validate x pass) }
+        requires keeps { Validates S.Root.key S.Root.line S.Root.owes S.thread key (S.thread pass) (V.post validate x pass) }
+        ensures { Validated S.Root.key S.Root.line S.Root.owes key (V.post validate x pass) result.0 result.1 result.2 }
+    {
+        let thread = S::thread_of(&pass);
+        let ((x, pass), queued) = self.table.with_place_for(
+            rt,
+            key,
+            thread,
+            (x, pass),
+            |bucket: &mut Bucket<S::Root>, own: (X, S::Pass)| -> ((X, S::Pass), bool)
+                requires ready { IsOpenFor S.Root.key S.Root.line S.Root.owes key bucket.old }
+                requires room { length bucket.old.queue < bucket.old.room }
+                requires callable { MayValidate S.Root.key S.Root.line S.Root.owes key (V.pre validate own.0 own.1) }
+                requires keeps { Validates S.Root.key S.Root.line S.Root.owes S.thread key (S.thread own.1) (V.post validate own.0 own.1) }
+            { park_in::<S, X, V>(bucket, key, own.0, own.1, validate) },
+        );
+        (x, pass, queued)
+    }
+
+    // Sleeps until the thread's letter is there.
+    fn sleep<W: Wait>(&self, rt: &W, pass: S::Pass) -> (S::Pass, Token)
+        requires { S.thread pass < self.now.threads }
+        ensures { S.collected pass result.1.0 result.0 }
+    {
+        let thread = S::thread_of(&pass);
+        let record = &self.records[thread];
+        let mut pass = pass;
+        for _ in rt.forever() {
+            let (back, letter) = self.scheme.collect(pass);
+            if let Some(token) = letter {
+                return (back, token);
+            }
+            pass = back;
+            record.sleep_once(rt);
+        }
+        unreachable!()
+    }
+
+    /// Takes the first thread of the key's line, if there is one, and tells it what `callback` answers.
+    ///
+    /// `callback` is called once, under the lock of the key's bucket.
+    pub fn unpark_one<W: Wait, X, F: FnOnce(X, S::Root, Dequeued) -> (X, S::Root, Token)>(
+        &self,
+        rt: &W,
+        key: usize,
+        moment: Moment,
+        x: X,
+        callback: F,
+    ) -> (X, Dequeued)
+        requires callable { MayUnpark S.Root.key S.Root.line S.Root.owes key moment.now (F.pre callback x) }
+        requires keeps { Unparks S.Root.key S.Root.line S.Root.owes (λ (t : Token). t.0) key moment.now (F.post callback x) }
+        ensures { UnparkedOne S.Root.key S.Root.line S.Root.owes key moment.now (F.post callback x) result }
+    {
+        let scheme = &self.scheme;
+        let (x, told) = self.table.with_bucket(
+            rt,
+            key,
+            x,
+            |bucket: &mut Bucket<S::Root>, x: X| -> (X, Dequeued)
+                requires ready { IsOpenFor S.Root.key S.Root.line S.Root.owes key bucket.old }
+                requires callable { MayUnpark S.Root.key S.Root.line S.Root.owes key moment.now (F.pre callback x) }
+                requires keeps { Unparks S.Root.key S.Root.line S.Root.owes (λ (t : Token). t.0) key moment.now (F.post callback x) }
+            { unpark_in(scheme, bucket, key, moment, x, callback) },
+        );
+        self.wake(rt, told.thread);
+        (x, told)
+    }
+
+    /// Takes all threads of the key's line, tells each of them token 0, and answers how many it took.
+    ///
+    /// `f` is called once with that number, under the lock of the key's bucket.
+    pub fn unpark_all<W: Wait, X, F: FnOnce(X, S::Root, usize) -> (X, S::Root)>(
+        &self,
+        rt: &W,
+        key: usize,
+        x: X,
+        f: F,
+    ) -> (X, usize)
+        requires callable { MayUnparkAll S.Root.key S.Root.line S.Root.owes key (F.pre f x) }
+        requires keeps { UnparksAll S.Root.key S.Root.line S.Root.owes key (F.post f x) }
+        ensures { UnparkedAll S.Root.key S.Root.line S.Root.owes key (F.post f x) result }
+    {
+        let scheme = &self.scheme;
+        let (x, taken) = self.table.with_bucket(
+            rt,
+            key,
+            x,
+            |bucket: &mut Bucket<S::Root>, x: X| -> (X, Taken)
+                requires ready { IsOpenFor S.Root.key S.Root.line S.Root.owes key bucket.old }
+                requires few { bucket.old.room ≤ MOST_THREADS }
+                requires callable { MayUnparkAll S.Root.key S.Root.line S.Root.owes key (F.pre f x) }
+                requires keeps { UnparksAll S.Root.key S.Root.line S.Root.owes key (F.post f x) }
+            { unpark_all_in(scheme, bucket, key, x, f) },
+        );
+        self.wake_all(rt, &taken);
+        (x, taken.count)
+    }
+
+    fn wake<W: Wait>(&self, rt: &W, taken: Option<usize>) {
+        let Some(thread) = taken else {
+            return;
+        };
+        if let Some(record) = self.records.get(thread) {
+            record.wake(rt);
+        }
+    }
+
+    fn wake_all<W: Wait>(&self, rt: &W, taken: &Taken) {
+        for thread in &taken.threads[..taken.count] {
+            self.wake(rt, Some(*thread));
+        }
+    }
+
+    /// How many threads wait on the key.
+    pub fn line_length<W: Wait>(&self, rt: &W, key: usize) -> usize {
+        let ((), length) = self.table.with_bucket(
+            rt,
+            key,
+            (),
+            |bucket: &mut Bucket<S::Root>, x: ()| (x, bucket.line_length(key)),
+        );
+        length
+    }
+
+    /// Appends each key's root to `out`, in key order, and answers the scheme.
+    pub fn close<W: Wait>(self, rt: &W, out: &mut Vec<S::Root>) -> S
+        requires { vec_len out.old + self.keys ≤ vec_capacity out.old }
+        ensures scheme { result ≡ self.scheme }
+        ensures roots { Appends S.Root.key S.Root.owes self.keys out.old.items out.new.items }
+    {
+        let ParkingLot {
+            scheme,
+            table,
+            records: _,
+        } = self;
+        table.close(rt, out);
+        scheme
+    }
+}
+
+fn new_records(alloc: Global, threads: usize) -> Result<Vec<CachePadded<Record>>, AllocError>
+    ensures { IfOk result (λ v. vec_len v ≡ threads) }
+{
+    let mut records = Vec::with_capacity(alloc, threads)?;
+    for _ in 0..threads {
+        records.push(CachePadded::new(Record::new()))?;
+    }
+    Ok(records)
+}

@@ -1,0 +1,140 @@
+//! What is done under the lock of a bucket.
+
+ghost use Rattle.std.specs.Prelude.{◌≡◌, ℕ, ◌<◌, ◌≤◌, List, [], ◌∷◌, ◌++◌, Option, Some, None, IsSome, length, take, if◌then◌else◌};
+ghost use Rattle.lot_bucket.specs.Queue.{line_of, without_key};
+ghost use Rattle.lot_bucket.specs.Places.{root_at, with_root};
+ghost use Rattle.lot_bucket.specs.Settled.{Stays};
+ghost use Rattle.lot_park.specs.Parking.{IsOpenFor, debt, debts, MayUnpark, Unparks, UnparkedOne, MayUnparkAll, UnparksAll, UnparkedAll, MayValidate, Validates, Validated};
+
+use crate::scheme::{Scheme, Token};
+use crate::taken::{MOST_THREADS, Taken};
+use lot_bucket::{Bucket, Dequeued, Moment, Root};
+
+/// Validates, and queues the pass's thread last where that says yes.
+pub fn park_in<S: Scheme, X, V: FnOnce(X, S::Pass, S::Root) -> (X, S::Pass, S::Root, bool)>(
+    bucket: &mut Bucket<S::Root>,
+    key: usize,
+    x: X,
+    pass: S::Pass,
+    validate: V,
+) -> ((X, S::Pass), bool)
+    requires ready { IsOpenFor S.Root.key S.Root.line S.Root.owes key bucket.old }
+    requires room { length bucket.old.queue < bucket.old.room }
+    requires callable { MayValidate S.Root.key S.Root.line S.Root.owes key (V.pre validate x pass) }
+    requires keeps { Validates S.Root.key S.Root.line S.Root.owes S.thread key (S.thread pass) (V.post validate x pass) }
+    ensures stays { Stays S.Root.key S.Root.line S.Root.owes bucket.old bucket.new }
+    ensures called { Validated S.Root.key S.Root.line S.Root.owes key (V.post validate x pass) result.0.0 result.0.1 result.1 }
+{
+    let thread = S::thread_of(&pass);
+    let root = bucket.take_root(key);
+    let (x, pass, root, queued) = validate(x, pass, root);
+    enqueue_if(queued, bucket, thread, key);
+    bucket.put_root(key, root);
+    ((x, pass), queued)
+}
+
+/// Takes the first thread of the key's line, and posts the letter that the callback decides on.
+pub fn unpark_in<S: Scheme, X, F: FnOnce(X, S::Root, Dequeued) -> (X, S::Root, Token)>(
+    scheme: &S,
+    bucket: &mut Bucket<S::Root>,
+    key: usize,
+    moment: Moment,
+    x: X,
+    callback: F,
+) -> (X, Dequeued)
+    requires ready { IsOpenFor S.Root.key S.Root.line S.Root.owes key bucket.old }
+    requires callable { MayUnpark S.Root.key S.Root.line S.Root.owes key moment.now (F.pre callback x) }
+    requires keeps { Unparks S.Root.key S.Root.line S.Root.owes (λ (t : Token). t.0) key moment.now (F.post callback x) }
+    ensures stays { Stays S.Root.key S.Root.line S.Root.owes bucket.old bucket.new }
+    ensures called { UnparkedOne S.Root.key S.Root.line S.Root.owes key moment.now (F.post callback x) result }
+{
+    let root = bucket.take_root(key);
+    let told = bucket.dequeue_one(key, moment);
+    let (x, root, token) = callback(x, root, told);
+    let root = pay(scheme, root, told.thread, token);
+    bucket.put_root(key, root);
+    (x, told)
+}
+
+/// Takes the whole line of the key, and posts a letter with token 0 to each of it.
+pub fn unpark_all_in<S: Scheme, X, F: FnOnce(X, S::Root, usize) -> (X, S::Root)>(
+    scheme: &S,
+    bucket: &mut Bucket<S::Root>,
+    key: usize,
+    x: X,
+    f: F,
+) -> (X, Taken)
+    requires ready { IsOpenFor S.Root.key S.Root.line S.Root.owes key bucket.old }
+    requires few { bucket.old.room ≤ MOST_THREADS }
+    requires callable { MayUnparkAll S.Root.key S.Root.line S.Root.owes key (F.pre f x) }
+    requires keeps { UnparksAll S.Root.key S.Root.line S.Root.owes key (F.post f x) }
+    ensures stays { Stays S.Root.key S.Root.line S.Root.owes bucket.old bucket.new }
+    ensures called { UnparkedAll S.Root.key S.Root.line S.Root.owes key (F.post f x) (result.0, result.1.count) }
+{
+    let mut threads = [0; MOST_THREADS];
+    let (root, count) = take_line(bucket, key, &mut threads);
+    let (x, root) = f(x, root, count);
+    let root = pay_all(scheme, root, &threads[..count]);
+    bucket.put_root(key, root);
+    (x, taken_of(threads, count))
+}
+
+fn taken_of(threads: [usize; MOST_THREADS], count: usize) -> Taken
+    requires { count ≤ MOST_THREADS }
+    ensures threads { result.threads ≡ threads }
+    ensures count { result.count ≡ count }
+{
+    Taken { threads, count }
+}
+
+// Takes the root out, and the whole line, which it writes to the front of `out`.
+fn take_line<R: Root>(bucket: &mut Bucket<R>, key: usize, out: &mut [usize]) -> (R, usize)
+    requires root { IsSome (root_at key bucket.old.places) }
+    requires few { bucket.old.room ≤ length out.old }
+    ensures root { root_at key bucket.old.places ≡ Some result.0 }
+    ensures count { result.1 ≡ length (line_of key bucket.old.queue) }
+    ensures within { result.1 ≤ bucket.old.room }
+    ensures line { take result.1 out.new ≡ line_of key bucket.old.queue }
+    ensures left { bucket.new ≡ record bucket.old { places = with_root key None bucket.old.places; queue = without_key key bucket.old.queue } }
+{
+    let _waiting = bucket.len();
+    let root = bucket.take_root(key);
+    let count = bucket.dequeue_all(key, out);
+    (root, count)
+}
+
+// Posts a letter with token 0 to each of the threads, to whom the root owes them.
+fn pay_all<S: Scheme>(scheme: &S, root: S::Root, threads: &[usize]) -> S::Root
+    requires { S.Root.owes root ≡ debts threads.now }
+    ensures key { S.Root.key result ≡ S.Root.key root }
+    ensures line { S.Root.line result ≡ S.Root.line root }
+    ensures paid { S.Root.owes result ≡ [] }
+{
+    let mut root = root;
+    for thread in threads {
+        root = scheme.post(root, *thread, Token(0));
+    }
+    root
+}
+
+fn enqueue_if<R: Drop>(queued: bool, bucket: &mut Bucket<R>, thread: usize, key: usize)
+    requires { length bucket.old.queue < bucket.old.room }
+    ensures { bucket.new ≡ record bucket.old { queue = (if queued then bucket.old.queue ++ (thread, key) ∷ [] else bucket.old.queue) } }
+{
+    if queued {
+        bucket.enqueue(thread, key);
+    }
+}
+
+// Posts the letter to the thread that was taken, if one was.
+fn pay<S: Scheme>(scheme: &S, root: S::Root, taken: Option<usize>, token: Token) -> S::Root
+    requires { S.Root.owes root ≡ debt taken token.0 }
+    ensures key { S.Root.key result ≡ S.Root.key root }
+    ensures line { S.Root.line result ≡ S.Root.line root }
+    ensures paid { S.Root.owes result ≡ [] }
+{
+    match taken {
+        Some(thread) => scheme.post(root, thread, token),
+        None => root,
+    }
+}
