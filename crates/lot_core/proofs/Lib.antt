@@ -10,3 +10,9 @@ pub mod Passes
 pub mod Runs
 pub mod Opening
 pub mod Soundness
+pub mod Words
+pub mod Figures
+pub mod Spelled
+pub mod Scripts
+pub mod ReadBack
+pub mod Texts

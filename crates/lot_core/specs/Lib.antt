@@ -6,3 +6,6 @@ pub mod Rows
 pub mod Lines
 pub mod Limits
 pub mod State
+pub mod Script
+pub mod Reading
+pub mod Printed

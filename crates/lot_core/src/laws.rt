@@ -1,10 +1,11 @@
 //! What holds of every run, and what an event of the whole is to its two parts: functions that do
 //! nothing, whose contracts are the laws.
-ghost use Rattle.std.specs.Prelude.{ℕ, List};
+ghost use Rattle.std.specs.Prelude.{◌≡◌, ℕ, List};
 ghost use Rattle.lot_core.specs.declared.events.Event.{Event};
 ghost use Rattle.lot_core.specs.World.{World, opening};
 ghost use Rattle.lot_core.specs.Steps.{Allowed, Run, after_all};
 ghost use Rattle.lot_core.specs.Sound.{IsSound};
+ghost use Rattle.lot_core.specs.Script.{lines, AreLines, IsFirstBad};
 ghost use Rattle.lot_core.specs.Parts.{LockPartFollows, CondPartFollows};
 
 /// After every run from an opening state the state is sound, whatever its numbers of threads, locks
@@ -26,5 +27,20 @@ pub fn every_run_is_sound()
 pub fn parts_follow()
     ensures lock_part { (s : World) (e : Event) → Allowed s e → LockPartFollows s e }
     ensures cond_part { (s : World) (e : Event) → IsSound s → Allowed s e → CondPartFollows s e }
+{
+}
+
+/// A script that is spelled as it should be has no bad line, and one text spells one script: so
+/// [`parse_script`](crate::parse_script) reads each back, memory allowing.
+pub fn spelled_scripts_are_read()
+    ensures read {
+        (n l c : ℕ) (events : List Event) (number : ℕ) →
+        AreLines n l c events → IsFirstBad (lines n l c events) number → ⊥
+    }
+    ensures one {
+        (n l c n' l' c' : ℕ) (events events' : List Event) →
+        AreLines n l c events → AreLines n' l' c' events' → lines n l c events ≡ lines n' l' c' events' →
+        (n ≡ n') × (l ≡ l') × (c ≡ c') × (events ≡ events')
+    }
 {
 }

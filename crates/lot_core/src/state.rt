@@ -58,6 +58,7 @@ pub struct State {
 #[tactic(auto, using(crate::proofs::Rows::row_read, crate::proofs::Rows::row_from_read, crate::proofs::Rows::row_past, crate::proofs::Rows::row_set, crate::proofs::Rows::row_from_set, crate::proofs::Put::told_put))]
 impl State {
     ghost use Rattle.lot_core.specs.Steps.{IsThread, IsLock, IsCond, got, passed, called, let_go, first};
+    ghost use Rattle.lot_core.specs.Printed.{owner_of};
     ghost use Rattle.lot_core.specs.State.{world_of, with_point, with_owner, with_parked, with_lock_line, with_flag, with_cond_line};
 
     pub(crate) fn is_thread(&self, thread: usize) -> bool
@@ -109,6 +110,17 @@ impl State {
         match self.owners[lock] {
             None => false,
             Some(owner) => thread == owner,
+        }
+    }
+
+    // The thread that has the lock, if it is one of the state's.
+    pub(crate) fn owner(&self, lock: usize) -> Option<usize>
+        requires { IsLock (world_of self.now) lock }
+        ensures { result ≡ owner_of (world_of self.now) lock }
+    {
+        match self.owners[lock] {
+            Some(owner) if owner < self.threads => Some(owner),
+            _ => None,
         }
     }
 
