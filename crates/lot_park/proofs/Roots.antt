@@ -1,5 +1,5 @@
 -- How the bucket of all keys is made, filled with roots, and emptied of them.
-use Rattle.std.proofs.Common.{◌≡◌, ◌≢◌, ℕ, zero, suc, ◌+◌, ◌<◌, ◌≤◌, ◌%◌, true, false, not, ◌&&◌, inl, inr, List, [], ◌∷◌, ◌++◌, length, get_or, Result, Ok, Err, IfOk, Option, Some, None, refl, sym, ◌∙◌, ap, subst, arith, append_assoc, append-nil, length-append, add-zero, ◌⊎◌}
+use Rattle.std.proofs.Common.{◌≡◌, ◌≢◌, ℕ, zero, suc, ◌+◌, ◌<◌, ◌≤◌, ◌%◌, true, false, ◌&&◌, inl, inr, List, [], ◌∷◌, ◌++◌, length, get_or, Result, Ok, Err, IfOk, Some, None, refl, sym, ◌∙◌, ap, subst, arith, append_assoc, append-nil, length-append, add-zero, ◌⊎◌}
 use Rattle.std.specs.Prelude.{nat_lt, slice_get, ◌==◌}
 use Rattle.std.proofs.lemmas.Bool.{lt-ltb, le-ltb, ltb-true}
 use Rattle.std.proofs.lemmas.Bool.Decides.{eqb_tells}
@@ -7,7 +7,7 @@ use Rattle.std.proofs.Math.Nat.{mod-one}
 use Rattle.lot_bucket.specs.Queue.{line_of}
 use Rattle.lot_bucket.specs.Places.{empty_places, has_key, root_at, with_root}
 use Rattle.lot_bucket.specs.Contents.{Contents}
-use Rattle.lot_bucket.specs.Agrees.{IsRootOf, AgreesOpen}
+use Rattle.lot_bucket.specs.Agrees.{IsRootOf}
 use Rattle.lot_bucket.specs.Settled.{IsWhole}
 use Rattle.lot_bucket.proofs.Laws.{root_at-with_same, root_at-with_other, has_key-with}
 use Rattle.lot_park.specs.Lots.{AreIdle, AreNumbersBelow, Appends, IsNew, IsFilled}

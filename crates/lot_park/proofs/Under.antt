@@ -6,7 +6,7 @@ use Rattle.std.proofs.Math.Dec.{eqb-suc-zero}
 use Rattle.lot_bucket.specs.Queue.{line_of, without_first, without_key, first_of}
 use Rattle.lot_bucket.specs.Places.{has_key, root_at, with_root}
 use Rattle.lot_bucket.specs.Contents.{Contents}
-use Rattle.lot_bucket.specs.Agrees.{IsRootOf, Agrees}
+use Rattle.lot_bucket.specs.Agrees.{IsRootOf}
 use Rattle.lot_bucket.specs.Settled.{Stays}
 use Rattle.lot_bucket.specs.Taking.{TakesOne}
 use Rattle.lot_bucket.specs.declared.taking.Moment.{Moment}

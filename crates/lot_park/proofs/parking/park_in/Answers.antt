@@ -1,4 +1,4 @@
-use Rattle.std.proofs.Common.{◌≡◌, ℕ, List, Option, None, ◌∙◌, ap}
+use Rattle.std.proofs.Common.{◌≡◌, None, ◌∙◌, ap}
 use Rattle.lot_bucket.specs.Contents.{Contents}
 use Rattle.lot_bucket.specs.Places.{with_root}
 use Rattle.lot_park.proofs.Under.{own_root, parked_stays, place_has, place_empty}

@@ -1,5 +1,4 @@
-use Rattle.std.proofs.Common.{◌≡◌, ℕ, length, None, refl, sym, ◌∙◌, ap, subst}
-use Rattle.lot_bucket.specs.Queue.{line_of}
+use Rattle.std.proofs.Common.{◌≡◌, ℕ, length, refl, sym, ◌∙◌, ap, subst}
 use Rattle.lot_bucket.specs.Contents.{Contents}
 use Rattle.lot_bucket.specs.Agrees.{IsRootOf}
 use Rattle.lot_park.proofs.Under.{own_root, emptied_stays, place_has, place_empty}

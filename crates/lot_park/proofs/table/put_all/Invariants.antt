@@ -1,5 +1,4 @@
-use Rattle.std.proofs.Common.{ℕ, length, vec_len}
-use Rattle.lot_park.specs.Lots.{IsNew}
+use Rattle.std.proofs.Common.{vec_len}
 use Rattle.lot_park.proofs.Roots.{IsFilling}
 use Rattle.lot_park.proofs.table.put_all.Given as goal
 
