@@ -59,11 +59,14 @@ module _ {V Q : Type 0} (keeps : ℕ → V → Type 0) (grows : V → V → Type
       let here : Right V = Pass p g in
       let then : Right V = Pass (tells p' (length ru.log) e saw) g' in
       record {
-        world = w'; values = values'; stands = st; log = ru.log ++ entry ∷ [];
+        world = w';
+        values = values';
+        stands = st;
+        log = ru.log ++ entry ∷ [];
         recorded = records_more number shown (LockStep size.threads size.locks) opening_part ru.log s.views (part_of ru.world) ru.recorded id passes_show entry (part_of w') p.thread p.made here then v v' at refl step by refl
-          (λ j. entries (same j) (made j ++ entry ∷ []))
-          (λ j. let f : times number j v' ≡ times number j v = others j in let h : times {R = Right V} number j (then ∷ []) ≡ times number j (here ∷ []) = ap (λ z. times {R = Right V} number j (Pass (record p { thread = z }) g ∷ [])) same in omega arith)
-          roots
+            (λ j. entries (same j) (made j ++ entry ∷ []))
+            (λ j. let f : times number j v' ≡ times number j v = others j in let h : times {R = Right V} number j (then ∷ []) ≡ times number j (here ∷ []) = ap (λ z. times {R = Right V} number j (Pass (record p { thread = z }) g ∷ [])) same in omega arith)
+            roots;
       }
 
   -- nothing is made
@@ -72,8 +75,11 @@ module _ {V Q : Type 0} (keeps : ℕ → V → Type 0) (grows : V → V → Type
       → Stands keeps grows share size.threads size.locks w' values' (after_step s i x id v') → part_of w' ≡ part_of ru.world
       → Ruled keeps grows share size (after_step s i x id v')
   rests v v' w' values' i x at same notes st part = record {
-    world = w'; values = values'; stands = st; log = ru.log;
-    recorded = records_stay number shown (LockStep size.threads size.locks) opening_part ru.log s.views (part_of ru.world) ru.recorded id (part_of w') part v v' at same (notes ru.log)
+    world = w';
+    values = values';
+    stands = st;
+    log = ru.log;
+    recorded = records_stay number shown (LockStep size.threads size.locks) opening_part ru.log s.views (part_of ru.world) ru.recorded id (part_of w') part v v' at same (notes ru.log);
   }
 
   -- nothing changes
@@ -91,7 +97,7 @@ module _ {V Q : Type 0} (keeps : ℕ → V → Type 0) (grows : V → V → Type
       subst (λ (f : ℕ → ValuesView V). IsLawful keeps grows share size.threads size.locks (λ u k. Holds (put ru.world.threads.pass t p u) k) f s.homes)
       (λ j u. same u j)
       (same_values keeps grows share size.threads size.locks (PassHolds ru.world) ru.values s.homes ru.stands.lawful (λ u k. Holds (put ru.world.threads.pass t p u) k)
-        (λ u k. held_before ru.world.threads.pass t p k (back k) u) (λ u k. held_after ru.world.threads.pass t p k (on k) u))
+      (λ u k. held_before ru.world.threads.pass t p k (back k) u) (λ u k. held_after ru.world.threads.pass t p k (on k) u))
 
   -- the world stays as it is
   pub stays_put : (v v' : List (Right V)) (i x : ℕ) → get_elem? s.views id ≡ some v → get_or s.words i 0 ≡ x → ((j : ℕ) → times number j v' ≡ times number j v) → Each number (RightFits size.threads size.locks ru.world ru.values) v'
@@ -100,5 +106,5 @@ module _ {V Q : Type 0} (keeps : ℕ → V → Type 0) (grows : V → V → Type
     words = subst (WordsFit size.threads size.locks ru.world) (sym (ap (set s.words i) (sym found) ∙ set-get_or s.words i 0)) ru.stands.words;
     seats = reseats number (RightFits size.threads size.locks ru.world ru.values) (RightFits size.threads size.locks ru.world ru.values) s.views id v v' ru.stands.seats at (λ j. omega (arith, same j)) (λ r _ f. f) fits;
     kept = ru.stands.kept;
-    lawful = ru.stands.lawful
+    lawful = ru.stands.lawful;
   }

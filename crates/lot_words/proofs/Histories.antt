@@ -71,16 +71,17 @@ module _ {R : Type 0} (number : R → ℕ) (shown : R → Entries) where
         record {
           told = reseats number (Noted number shown log) (Noted number shown (log ++ x ∷ [])) views id (r ∷ v) (r' ∷ v') ok.told at (λ j. omega (arith, same j))
               (λ q none h. fits_more log x (shown q)
-                  (λ m e. let e' : number q ≡ number r = pn q t m (e ∙ ap (λ u. entries u m) by) ∙ sym num in
-                      let one : 1 ≤ times number (number q) (r ∷ v) = subst (λ i. 1 ≤ times number i (r ∷ v)) (sym e') (times_head number r v) in omega arith)
-                  h)
-              ( subst (EntriesFit (log ++ x ∷ [])) (sym is)
-                  (ap (λ xs. xs ++ x ∷ []) (subst (EntriesFit log) was (ok.told.named id (r ∷ v) at).0) ∙ sym (events_more t log x by))
-              , quiet_noted (log ++ x ∷ []) v' quiet );
+              (λ m e. let e' : number q ≡ number r = pn q t m (e ∙ ap (λ u. entries u m) by) ∙ sym num in
+              let one : 1 ≤ times number (number q) (r ∷ v) = subst (λ i. 1 ≤ times number i (r ∷ v)) (sym e') (times_head number r v) in omega arith)
+              h) (
+                subst (EntriesFit (log ++ x ∷ [])) (sym is)
+                    (ap (λ xs. xs ++ x ∷ []) (subst (EntriesFit log) was (ok.told.named id (r ∷ v) at).0) ∙ sym (events_more t log x by)),
+                quiet_noted (log ++ x ∷ []) v' quiet,
+              );
           known = λ u none.
               let before : times_in number (2 * u) views ≡ 0 = omega (arith, times_set number (2 * u) views id (r ∷ v) (r' ∷ v') at, same (2 * u)) in
               events_same u log x
-                  (λ e. let one : 1 ≤ times number (2 * u) (r ∷ v) = subst (λ w. 1 ≤ times number (2 * w) (r ∷ v)) (sym by ∙ e) here in omega (arith, times_one number (2 * u) views id (r ∷ v) at))
+              (λ e. let one : 1 ≤ times number (2 * u) (r ∷ v) = subst (λ w. 1 ≤ times number (2 * w) (r ∷ v)) (sym by ∙ e) here in omega (arith, times_one number (2 * u) views id (r ∷ v) at))
               ∙ ok.known u before;
         }
 
@@ -88,25 +89,25 @@ module _ {R : Type 0} (number : R → ℕ) (shown : R → Entries) where
     pub listed_stays : (v v' : List R) → Listed number shown log views → get_elem? views id ≡ some v → ((j : ℕ) → times number j v' ≡ times number j v)
         → (Each number (Noted number shown log) v → Each number (Noted number shown log) v') → Listed number shown log (set views id v')
     listed_stays v v' ok at same keeps = record {
-        told = reseats number (Noted number shown log) (Noted number shown log) views id v v' ok.told at (λ j. omega (arith, same j)) (λ q none h. h) (keeps (ok.told.named id v at));
-        known = λ u none. ok.known u (omega (arith, times_set number (2 * u) views id v v' at, same (2 * u)));
-      }
+      told = reseats number (Noted number shown log) (Noted number shown log) views id v v' ok.told at (λ j. omega (arith, same j)) (λ q none h. h) (keeps (ok.told.named id v at));
+      known = λ u none. ok.known u (omega (arith, times_set number (2 * u) views id v v' at, same (2 * u)));
+    }
 
     -- the seat takes in what another has
     pub listed_joins : (other : ℕ) (v w : List R) → Listed number shown log views → get_elem? views id ≡ some v → other ≢ id → get_elem? (set views id (v ++ w)) other ≡ some w
         → Listed number shown log (set (set views id (v ++ w)) other [])
     listed_joins other v w ok at ne there = record {
-        told = joins number (Noted number shown log) views id other v w ok.told at ne there;
-        known = λ u none. ok.known u (omega (arith, times_set number (2 * u) (set views id (v ++ w)) other w [] there, times_set number (2 * u) views id v (v ++ w) at, times_append number (2 * u) v w));
-      }
+      told = joins number (Noted number shown log) views id other v w ok.told at ne there;
+      known = λ u none. ok.known u (omega (arith, times_set number (2 * u) (set views id (v ++ w)) other w [] there, times_set number (2 * u) views id v (v ++ w) at, times_append number (2 * u) v w));
+    }
 
     -- what the seat has is cut in two
     pub listed_splits : (v l r : List R) → Listed number shown log views → get_elem? views id ≡ some v → ((j : ℕ) → times number j l + times number j r ≡ times number j v)
         → (Each number (Noted number shown log) v → Each number (Noted number shown log) l × Each number (Noted number shown log) r) → Listed number shown log (set views id l ++ r ∷ [])
     listed_splits v l r ok at same cut = record {
-        told = splits number (Noted number shown log) views id v l r ok.told at (λ j. omega (arith, same j)) cut;
-        known = λ u none. ok.known u (omega (arith, times_snoc number (2 * u) (set views id l) r, times_set number (2 * u) views id v l at, same (2 * u)));
-      }
+      told = splits number (Noted number shown log) views id v l r ok.told at (λ j. omega (arith, same j)) cut;
+      known = λ u none. ok.known u (omega (arith, times_snoc number (2 * u) (set views id l) r, times_set number (2 * u) views id v l at, same (2 * u)));
+    }
 
   -- ---- the same of the whole record
   module _ {P : Type 0} (Step : P → Event → Seen → P → Type 0) (first : P) (log : List Made) (views : List (List R)) (b : P) (ok : Recorded number shown Step first log views b) (id : ℕ) where
@@ -114,9 +115,9 @@ module _ {R : Type 0} (number : R → ℕ) (shown : R → Entries) where
         → maker x.event ≡ t → shown r ≡ entries t made → shown r' ≡ entries t (made ++ x ∷ []) → ((j : ℕ) → times number j (r' ∷ v') ≡ times number j (r ∷ v)) → Quiet v'
         → Recorded number shown Step first (log ++ x ∷ []) (set views id (r' ∷ v')) c
     records_more pn x c t made r r' v v' at place step by was is same quiet = record {
-        run = run_more Step first 0 log b x c ok.run (omega arith) step;
-        listed = listed_more log views id pn x t made r r' v v' ok.listed at by was is same quiet;
-      }
+      run = run_more Step first 0 log b x c ok.run (omega arith) step;
+      listed = listed_more log views id pn x t made r r' v v' ok.listed at by was is same quiet;
+    }
 
     pub records_stay : (c : P) → c ≡ b → (v v' : List R) → get_elem? views id ≡ some v → ((j : ℕ) → times number j v' ≡ times number j v)
         → (Each number (Noted number shown log) v → Each number (Noted number shown log) v') → Recorded number shown Step first log (set views id v') c

@@ -21,28 +21,32 @@ module _ {V Q : Type 0} (keeps : ℕ → V → Type 0) (grows : V → V → Type
   -- a seat takes in the rights of another
   pub joins_rule : (id : ℕ) (v : List (Right V)) (other : ℕ) (w : List (Right V)) → Joins {S = Option V} (Ruled keeps grows share size) id v other w (v ++ w) []
   joins_rule id v other w s ru at ne there = record {
-    world = ru.world; values = ru.values;
+    world = ru.world;
+    values = ru.values;
     stands = record {
       words = ru.stands.words;
       seats = joins number (RightFits size.threads size.locks ru.world ru.values) s.views id other v w ru.stands.seats at ne there;
-      kept = ru.stands.kept; lawful = ru.stands.lawful
+      kept = ru.stands.kept;
+      lawful = ru.stands.lawful;
     };
     log = ru.log;
-    recorded = records_join number shown (LockStep size.threads size.locks) opening_part ru.log s.views (part_of ru.world) ru.recorded id other v w at ne there
+    recorded = records_join number shown (LockStep size.threads size.locks) opening_part ru.log s.views (part_of ru.world) ru.recorded id other v w at ne there;
   }
 
   -- the rights at a seat are cut in two
   pub splits_rule : (id : ℕ) (v l r : List (Right V)) → ((i : ℕ) → times number i l + times number i r ≡ times number i v)
       → ((F : Right V → Type 0) → Each number F v → Each number F l × Each number F r) → Splits {S = Option V} (Ruled keeps grows share size) id v l r
   splits_rule id v l r same cut s ru at = record {
-    world = ru.world; values = ru.values;
+    world = ru.world;
+    values = ru.values;
     stands = record {
       words = ru.stands.words;
       seats = splits number (RightFits size.threads size.locks ru.world ru.values) s.views id v l r ru.stands.seats at (λ i. let e = same i in omega arith) (cut (RightFits size.threads size.locks ru.world ru.values));
-      kept = ru.stands.kept; lawful = ru.stands.lawful
+      kept = ru.stands.kept;
+      lawful = ru.stands.lawful;
     };
     log = ru.log;
-    recorded = records_split number shown (LockStep size.threads size.locks) opening_part ru.log s.views (part_of ru.world) ru.recorded id v l r at same (cut _)
+    recorded = records_split number shown (LockStep size.threads size.locks) opening_part ru.log s.views (part_of ru.world) ru.recorded id v l r at same (cut _);
   }
 
   pub joins_two : (id other : ℕ) (me : Me (Option V) (List (Right V))) (you : Me (Option V) (List (Right V))) → Joins {S = Option V} (Ruled keeps grows share size) id me.0 other you.0 (me.0 ++ you.0) []
@@ -52,7 +56,7 @@ module _ {V Q : Type 0} (keeps : ℕ → V → Type 0) (grows : V → V → Type
   pub parts_two : (id : ℕ) (me : Me (Option V) (List (Right V))) → PassAndRoot me → Splits {S = Option V} (Ruled keeps grows share size) id me.0 (take 1 me.0) (drop 1 me.0)
   parts_two id me both = subst (λ (z : Me (Option V) (List (Right V))). Splits {S = Option V} (Ruled keeps grows share size) id z.0 (take 1 z.0) (drop 1 z.0)) (sym both)
       (splits_rule id (Pass (the_pass me.0) (the_values me.0) ∷ Root (the_next_root me.0) ∷ []) (Pass (the_pass me.0) (the_values me.0) ∷ []) (Root (the_next_root me.0) ∷ [])
-        (λ i. omega arith) (λ F e. ((e.0, tt), (e.1.0, tt))))
+      (λ i. omega arith) (λ F e. ((e.0, tt), (e.1.0, tt))))
 
 pub one_and_root : {V : Type 0} (me you : Me (Option V) (List (Right V))) → OnePass me → OneRoot you → me.0 ++ you.0 ≡ Pass (the_pass me.0) (the_values me.0) ∷ Root (the_root you.0) ∷ []
 one_and_root me you one root = λ i. (one i).0 ++ (root i).0

@@ -1,7 +1,10 @@
+pub mod Closes
 pub mod Deals
+pub mod Emptying
 pub mod Ends
 pub mod Events
 pub mod Frees
+pub mod Gathers
 pub mod Grows
 pub mod Histories
 pub mod Joining
@@ -15,7 +18,9 @@ pub mod Posts
 pub mod Puts
 pub mod Rows
 pub mod Seats
+pub mod Settling
 pub mod Shelves
+pub mod Sounds
 pub mod Starts
 pub mod Takes
 pub mod Telling

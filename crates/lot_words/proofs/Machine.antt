@@ -61,7 +61,7 @@ thread_on n m ls ls' u p sp s ok = record {
   spot = spot_on n ls ls' u p sp s ok.spot;
   in_line = λ l h. ok.in_line l (s.line_back l h);
   is_owed = λ l k h. ok.is_owed l k (s.owes_back l k h);
-  handed = ok.handed
+  handed = ok.handed;
 }
 
 -- one lock changes, and keeps what it has of the thread
@@ -74,7 +74,7 @@ same_for u ls l o b q own park into back owe paid = record {
   line = λ k h. put_elim (λ x. In u x.line) ls.root l q k (λ kl. into (subst (λ z. In u (ls.root z).line) kl h)) (λ _. h);
   line_back = λ k. put_elim (λ x. In u x.line → In u (ls.root k).line) ls.root l q k (λ kl h. subst (λ z. In u (ls.root z).line) (sym kl) (back h)) (λ _ h. h);
   owes = λ k c h. put_elim (λ x. x.owes ≡ Some (u, c)) ls.root l q k (λ kl. owe c (subst (λ z. (ls.root z).owes ≡ Some (u, c)) kl h)) (λ _. h);
-  owes_back = λ k c. put_elim (λ x. x.owes ≡ Some (u, c) → (ls.root k).owes ≡ Some (u, c)) ls.root l q k (λ kl h. subst (λ z. (ls.root z).owes ≡ Some (u, c)) (sym kl) (paid c h)) (λ _ h. h)
+  owes_back = λ k c. put_elim (λ x. x.owes ≡ Some (u, c) → (ls.root k).owes ≡ Some (u, c)) ls.root l q k (λ kl h. subst (λ z. (ls.root z).owes ≡ Some (u, c)) (sym kl) (paid c h)) (λ _ h. h);
 }
 
 -- ---- a lock among threads that change
@@ -85,7 +85,7 @@ lock_on n k o b q ts ts' ok has tries = record {
   apart = ok.apart;
   had = λ v e. let h = ok.had v e in (h.0, has v h.1);
   parks = ok.parks;
-  tried = λ e s. let h = ok.tried e s in let g = tries h.0 e h.1.1 h.1.2 in (h.0, (h.1.0, g.0, g.1))
+  tried = λ e s. let h = ok.tried e s in let g = tries h.0 e h.1.1 h.1.2 in (h.0, (h.1.0, g.0, g.1));
 }
 
 -- the pass of t and the notice of u change, and neither takes a hold or a try at k away
@@ -94,8 +94,8 @@ pub lock_stays : (n k o : ℕ) (b : Bool) (q : LockRootView) (ts : ThreadFacts) 
     → (o ≡ 0 → (ts.pass t).aim ≡ Some k → p.aim ≡ Some k) → (o ≡ 0 → (ts.pass u).aim ≡ Some k → Outside (ts.spot u) → Outside sp) → LockFits n (threads_after ts t p u sp) k o b q
 lock_stays n k o b q ts t p u sp ok holds hands aims outs = lock_on n k o b q ts (threads_after ts t p u sp) ok
     (λ v. ⊎_elim {C = Holds (put ts.pass t p v) k ⊎ Handed (put ts.spot u sp v) k}
-      (λ h. inl (put_elim (λ x. Holds x k) ts.pass t p v (λ e. holds (subst (λ z. Holds (ts.pass z) k) e h)) (λ _. h)))
-      (λ h. inr (put_elim (λ x. Handed x k) ts.spot u sp v (λ e. hands (subst (λ z. Handed (ts.spot z) k) e h)) (λ _. h))))
+    (λ h. inl (put_elim (λ x. Holds x k) ts.pass t p v (λ e. holds (subst (λ z. Holds (ts.pass z) k) e h)) (λ _. h)))
+    (λ h. inr (put_elim (λ x. Handed x k) ts.spot u sp v (λ e. hands (subst (λ z. Handed (ts.spot z) k) e h)) (λ _. h))))
     (λ v z a h. (
       put_elim (λ x. x.aim ≡ Some k) ts.pass t p v (λ e. aims z (subst (λ y. (ts.pass y).aim ≡ Some k) e a)) (λ _. a),
       put_elim Outside ts.spot u sp v (λ e. outs z (subst (λ y. (ts.pass y).aim ≡ Some k) e a) (subst (λ y. Outside (ts.spot y)) e h)) (λ _. h),
@@ -111,9 +111,9 @@ pub turns : (n m : ℕ) (w : World) (t : ℕ) (p : LockPassView) (sp : Spot) (l 
     → Kept n m (turned w t p sp l o b q)
 turns n m w t p sp l o b q mine others here elsewhere = record {
   threads = λ v. by_test (λ c. ThreadFits n m (locks_after w.locks l o b q) v (cond c p (w.threads.pass v)) (cond c sp (w.threads.spot v))) v t
-    (λ e. subst (λ z. ThreadFits n m (locks_after w.locks l o b q) z p sp) (sym e) mine) (others v);
+      (λ e. subst (λ z. ThreadFits n m (locks_after w.locks l o b q) z p sp) (sym e) mine) (others v);
   locks = λ k. by_test (λ c. LockFits n (threads_after w.threads t p t sp) k (cond c o (w.locks.owner k)) (cond c b (w.locks.parked k)) (cond c q (w.locks.root k))) k l
-    (λ e. subst (λ z. LockFits n (threads_after w.threads t p t sp) z o b q) (sym e) here) (elsewhere k)
+      (λ e. subst (λ z. LockFits n (threads_after w.threads t p t sp) z o b q) (sym e) here) (elsewhere k);
 }
 
 -- the pass of t, the notice of another thread u, and one lock change
@@ -126,10 +126,10 @@ pub turns2 : (n m : ℕ) (w : World) (t : ℕ) (p : LockPassView) (u : ℕ) (sp 
     → Kept n m (turned2 w t p u sp l o b q)
 turns2 n m w t p u sp l o b q ne mine theirs others here elsewhere = record {
   threads = λ v. by_test (λ c. ThreadFits n m (locks_after w.locks l o b q) v (cond c p (w.threads.pass v)) (put w.threads.spot u sp v)) v t
-    (λ e. subst (λ x. ThreadFits n m (locks_after w.locks l o b q) v p x) (sym (put_other w.threads.spot u sp v (λ vu. ne (sym vu ∙ e))))
+      (λ e. subst (λ x. ThreadFits n m (locks_after w.locks l o b q) v p x) (sym (put_other w.threads.spot u sp v (λ vu. ne (sym vu ∙ e))))
       (subst (λ z. ThreadFits n m (locks_after w.locks l o b q) z p (w.threads.spot z)) (sym e) mine))
-    (λ vt. put_elim (λ x. ThreadFits n m (locks_after w.locks l o b q) v (w.threads.pass v) x) w.threads.spot u sp v
+      (λ vt. put_elim (λ x. ThreadFits n m (locks_after w.locks l o b q) v (w.threads.pass v) x) w.threads.spot u sp v
       (λ e. subst (λ z. ThreadFits n m (locks_after w.locks l o b q) z (w.threads.pass z) sp) (sym e) theirs) (others v vt));
   locks = λ k. by_test (λ c. LockFits n (threads_after w.threads t p u sp) k (cond c o (w.locks.owner k)) (cond c b (w.locks.parked k)) (cond c q (w.locks.root k))) k l
-    (λ e. subst (λ z. LockFits n (threads_after w.threads t p u sp) z o b q) (sym e) here) (elsewhere k)
+      (λ e. subst (λ z. LockFits n (threads_after w.threads t p u sp) z o b q) (sym e) here) (elsewhere k);
 }

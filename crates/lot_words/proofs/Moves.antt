@@ -60,27 +60,31 @@ module _ {V Q : Type 0} (keeps : ℕ → V → Type 0) (grows : V → V → Type
   -- of the other rights it is the same
   others : (pl : Place V) (r : Right V) → times number (number r) (Pass p g ∷ []) ≡ 0 → RightFits size.threads size.locks ru.world ru.values r
       → RightFits size.threads size.locks ru.world (put ru.values p.thread (placed g l pl)) r
-  others pl (Pass q f) zero ok = (ok.0, ok.1, put_else ru.values p.thread (placed g l pl) q.thread
-      (λ e. let one : 1 ≤ times number (2 * q.thread) (Pass p g ∷ []) = subst (λ t. 1 ≤ times number (2 * t) (Pass p g ∷ [])) (sym e) (times_head number (Pass p g) []) in absurd (omega arith)) ∙ ok.2)
+  others pl (Pass q f) zero ok = (
+    ok.0,
+    ok.1,
+    put_else ru.values p.thread (placed g l pl) q.thread
+        (λ e. let one : 1 ≤ times number (2 * q.thread) (Pass p g ∷ []) = subst (λ t. 1 ≤ times number (2 * t) (Pass p g ∷ [])) (sym e) (times_head number (Pass p g) []) in absurd (omega arith)) ∙ ok.2,
+  )
   others pl (Root q) zero ok = ok
 
   pub moves : (pl : Place V) → MayLie keeps grows share l p.thread (ru.stands.lawful.value l) pl → (homes' : List (maybe.Option (Option V))) → homes' ≡ set s.homes l (home_of pl) → (i : ℕ)
       → Ruled keeps grows share size (record { words = set s.words i (get_or s.words i 0); homes = homes'; views = set s.views id (Pass p (placed g l pl) ∷ []) })
   moves pl may homes' e i = record {
-      world = ru.world;
-      values = put ru.values p.thread (placed g l pl);
-      stands = record {
-        words = subst (WordsFit size.threads size.locks ru.world) (sym (set-get_or s.words i 0)) ru.stands.words;
-        seats = reseats number (RightFits size.threads size.locks ru.world ru.values) (RightFits size.threads size.locks ru.world (put ru.values p.thread (placed g l pl))) s.views id (Pass p g ∷ []) (Pass p (placed g l pl) ∷ [])
-            ru.stands.seats at (λ j. omega arith) (others pl) ((fits.0, fits.1, put_here ru.values p.thread (placed g l pl)), tt);
-        kept = ru.stands.kept;
-        lawful = subst (λ hs. IsLawful keeps grows share size.threads size.locks (PassHolds ru.world) (put ru.values p.thread (placed g l pl)) hs) (sym e)
-            (subst (λ v. IsLawful keeps grows share size.threads size.locks (PassHolds ru.world) (put ru.values p.thread (placed v l pl)) (set s.homes l (home_of pl))) fits.2
-              (moves_value keeps grows share size.threads size.locks (PassHolds ru.world) ru.values s.homes ru.stands.lawful p.thread l fits.0 is_lock pl holds only may));
-      };
-      log = ru.log;
-      recorded = records_stay number shown (LockStep size.threads size.locks) opening_part ru.log s.views (part_of ru.world) ru.recorded id (part_of ru.world) refl (Pass p g ∷ []) (Pass p (placed g l pl) ∷ []) at (λ j. refl) (λ n. n);
-    }
+    world = ru.world;
+    values = put ru.values p.thread (placed g l pl);
+    stands = record {
+      words = subst (WordsFit size.threads size.locks ru.world) (sym (set-get_or s.words i 0)) ru.stands.words;
+      seats = reseats number (RightFits size.threads size.locks ru.world ru.values) (RightFits size.threads size.locks ru.world (put ru.values p.thread (placed g l pl))) s.views id (Pass p g ∷ []) (Pass p (placed g l pl) ∷ [])
+          ru.stands.seats at (λ j. omega arith) (others pl) ((fits.0, fits.1, put_here ru.values p.thread (placed g l pl)), tt);
+      kept = ru.stands.kept;
+      lawful = subst (λ hs. IsLawful keeps grows share size.threads size.locks (PassHolds ru.world) (put ru.values p.thread (placed g l pl)) hs) (sym e)
+          (subst (λ v. IsLawful keeps grows share size.threads size.locks (PassHolds ru.world) (put ru.values p.thread (placed v l pl)) (set s.homes l (home_of pl))) fits.2
+          (moves_value keeps grows share size.threads size.locks (PassHolds ru.world) ru.values s.homes ru.stands.lawful p.thread l fits.0 is_lock pl holds only may));
+    };
+    log = ru.log;
+    recorded = records_stay number shown (LockStep size.threads size.locks) opening_part ru.log s.views (part_of ru.world) ru.recorded id (part_of ru.world) refl (Pass p g ∷ []) (Pass p (placed g l pl) ∷ []) at (λ j. refl) (λ n. n);
+  }
 
 module _ {V Q : Type 0} (keeps : ℕ → V → Type 0) (grows : V → V → Type 0) (share : ℕ → V → Q) (size : Size) (slots id l : ℕ) (is_lock : l < size.locks) where
   take_out_at : (p : LockPassView) (g : ValuesView V) (pl : Place V) → Holds p l → get_elem? g.places l ≡ some pl → IsAtHome pl

@@ -68,16 +68,16 @@ module _ {V Q : Type 0} (keeps : ℕ → V → Type 0) (grows : V → V → Type
         let q' : LockRootView = record q { line = q.line ++ t ∷ [] } in
         let ok = ru.stands.kept in
         makes keeps grows share size s ru id p (sleeping p) g g (Root q ∷ []) (Root q' ∷ []) (Park t l) (Saw true)
-          (turned w t p1 (queued l) l (w.locks.owner l) (w.locks.parked l) q1) (put ru.values t g) (lock_at l) x
-          at refl refl refl (λ j. refl) (refl, tt)
-          (record {
-            words = lock_word n m w s.words ru.stands.words t p1 t (queued l) l (w.locks.owner l) (w.locks.parked l) q1 x here (ap letter_of (is_awake n m w ok t l fit.0 here up')) is;
-            seats = two_seat n m w ru.values s.views id ru.stands.seats p g q at (tells (sleeping p) (length ru.log) (Park t l) (Saw true)) p1 g t (queued l) (w.locks.owner l) (w.locks.parked l) q' q1 refl (ap sleeping fit.1) refl
+        (turned w t p1 (queued l) l (w.locks.owner l) (w.locks.parked l) q1) (put ru.values t g) (lock_at l) x
+        at refl refl refl (λ j. refl) (refl, tt)
+        (record {
+          words = lock_word n m w s.words ru.stands.words t p1 t (queued l) l (w.locks.owner l) (w.locks.parked l) q1 x here (ap letter_of (is_awake n m w ok t l fit.0 here up')) is;
+          seats = two_seat n m w ru.values s.views id ru.stands.seats p g q at (tells (sleeping p) (length ru.log) (Park t l) (Saw true)) p1 g t (queued l) (w.locks.owner l) (w.locks.parked l) q' q1 refl (ap sleeping fit.1) refl
               (ap (λ (z : LockRootView). let y : LockRootView = record z { line = z.line ++ t ∷ [] } in y) root_fit.1);
-            kept = parks n m w ok t l fit.0 here up' held parked aim';
-            lawful = same_lawful keeps grows share size s ru id t p1 g (λ k h. h) (λ k h. h) fit.2
-          })
-          (row_park n m w ok t l fit.0 here up' aim' held parked)
+          kept = parks n m w ok t l fit.0 here up' held parked aim';
+          lawful = same_lawful keeps grows share size s ru id t p1 g (λ k h. h) (λ k h. h) fit.2;
+        })
+        (row_park n m w ok t l fit.0 here up' aim' held parked)
 
     pub parks_not_rule : (is_owned (ru.world.locks.owner q.key) && ru.world.locks.parked q.key) ≡ false → (x : ℕ) → get_or s.words (lock_at q.key) 0 ≡ x
         → Ruled keeps grows share size (after_step s (lock_at q.key) x id (Pass (tells p (length ru.log) (Park p.thread q.key) (Saw false)) g ∷ Root q ∷ []))
@@ -86,8 +86,8 @@ module _ {V Q : Type 0} (keeps : ℕ → V → Type 0) (grows : V → V → Type
         let up' = up_of keeps grows share size s ru id p g (Root q ∷ []) at up in
         let aim' = aim_of keeps grows share size s ru id p g (Root q ∷ []) at ∙ aim in
         makes keeps grows share size s ru id p p g g (Root q ∷ []) (Root q ∷ []) (Park p.thread q.key) (Saw false) ru.world ru.values (lock_at q.key) x at refl refl refl (λ j. refl) (refl, tt)
-          (stays_put keeps grows share size s ru id (Pass p g ∷ Root q ∷ []) (Pass (tells p (length ru.log) (Park p.thread q.key) (Saw false)) g ∷ Root q ∷ []) (lock_at q.key) x at is (λ j. refl) (fit, (root_fit, tt)))
-          (row_park_not size.threads size.locks ru.world ru.stands.kept p.thread q.key fit.0 root_fit.0 up' aim' not_both)
+        (stays_put keeps grows share size s ru id (Pass p g ∷ Root q ∷ []) (Pass (tells p (length ru.log) (Park p.thread q.key) (Saw false)) g ∷ Root q ∷ []) (lock_at q.key) x at is (λ j. refl) (fit, (root_fit, tt)))
+        (row_park_not size.threads size.locks ru.world ru.stands.kept p.thread q.key fit.0 root_fit.0 up' aim' not_both)
 
 module _ {V Q : Type 0} (keeps : ℕ → V → Type 0) (grows : V → V → Type 0) (share : ℕ → V → Q) (size : Size) (slots id : ℕ) where
   parks_at : (p : LockPassView) (g : ValuesView V) (q : LockRootView) → p.asleep ≡ false → p.aim ≡ Some q.key
@@ -96,23 +96,23 @@ module _ {V Q : Type 0} (keeps : ℕ → V → Type 0) (grows : V → V → Type
       let here = (root_fit keeps grows share size s ru id p g q at).0 in
       let found = ru.stands.words.locks q.key here in
       ⊎_elim
-        (λ both.
-          let u : (get_or s.words (lock_at q.key) 0 == 3) ≡ true = ap (λ z. z == 3) found ∙ both.0 in (
-            Pass (tells (sleeping p) (length ru.log) (Park p.thread q.key) (Saw true)) g ∷ Root (record q { line = q.line ++ p.thread ∷ [] }) ∷ [],
-            keep_act,
-            tt,
-            parks_rule keeps grows share size s ru id p g q at up aim both.1.0 both.1.1 (get_or s.words (lock_at q.key) 0) found,
-            λ _. rw u ((refl, refl, refl), (length ru.log, refl), refl, refl),
-          ))
-        (λ one.
-          let u : (get_or s.words (lock_at q.key) 0 == 3) ≡ false = ap (λ z. z == 3) found ∙ one.0 in (
-            Pass (tells p (length ru.log) (Park p.thread q.key) (Saw false)) g ∷ Root q ∷ [],
-            keep_act,
-            tt,
-            parks_not_rule keeps grows share size s ru id p g q at up aim one.1 (get_or s.words (lock_at q.key) 0) refl,
-            λ _. rw u ((refl, refl, refl), (length ru.log, refl), refl, refl),
-          ))
-        (both_cases (ru.world.locks.owner q.key) (ru.world.locks.parked q.key))
+      (λ both.
+      let u : (get_or s.words (lock_at q.key) 0 == 3) ≡ true = ap (λ z. z == 3) found ∙ both.0 in (
+        Pass (tells (sleeping p) (length ru.log) (Park p.thread q.key) (Saw true)) g ∷ Root (record q { line = q.line ++ p.thread ∷ [] }) ∷ [],
+        keep_act,
+        tt,
+        parks_rule keeps grows share size s ru id p g q at up aim both.1.0 both.1.1 (get_or s.words (lock_at q.key) 0) found,
+        λ _. rw u ((refl, refl, refl), (length ru.log, refl), refl, refl),
+      ))
+      (λ one.
+      let u : (get_or s.words (lock_at q.key) 0 == 3) ≡ false = ap (λ z. z == 3) found ∙ one.0 in (
+        Pass (tells p (length ru.log) (Park p.thread q.key) (Saw false)) g ∷ Root q ∷ [],
+        keep_act,
+        tt,
+        parks_not_rule keeps grows share size s ru id p g q at up aim one.1 (get_or s.words (lock_at q.key) 0) refl,
+        λ _. rw u ((refl, refl, refl), (length ru.log, refl), refl, refl),
+      ))
+      (both_cases (ru.world.locks.owner q.key) (ru.world.locks.parked q.key))
 
   pub parks_allows : (me : Me (Option V) (List (Right V))) (p : LockPassView) (g : ValuesView V) (q : LockRootView) → me ≡ (Pass p g ∷ Root q ∷ [], []) → (l : ℕ) → l ≡ q.key → p.asleep ≡ false → p.aim ≡ Some q.key
       → Allows (Ruled keeps grows share size) slots id me (lock_at l) (λ r. r) (parked (step slots (lock_at l) 0 0 none) me)

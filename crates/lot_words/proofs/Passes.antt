@@ -89,15 +89,15 @@ module _ {V Q : Type 0} (keeps : ℕ → V → Type 0) (grows : V → V → Type
       let ok = ru.stands.kept in
       let empty : (w.locks.root l).line ≡ [] = ap (λ (z : LockRootView). z.line) root.1 ∙ line in
       makes keeps grows share size s ru id p (let_go p l) g (left_in g l y) (Root q ∷ []) (Root q ∷ []) (Passing t l false more) (Sleeper None)
-        (turned w t p1 awake l 0 false (w.locks.root l)) (put ru.values t (left_in g l y)) (lock_at l) x
-        at refl refl refl (λ j. refl) (refl, tt)
-        (record {
-          words = lock_word n m w s.words ru.stands.words t p1 t awake l 0 false (w.locks.root l) x here (ap letter_of (is_awake n m w ok t l fit.0 here up')) is;
-          seats = two_seat n m w ru.values s.views id ru.stands.seats p g q at (tells (let_go p l) (length ru.log) (Passing t l false more) (Sleeper None)) p1 (left_in g l y) t awake 0 false q (w.locks.root l) refl (ap (λ z. let_go z l) fit.1) refl root.1;
-          kept = lets_go n m w ok t l fit.0 here up' has_of (λ h. subst SomeIn empty h) false;
-          lawful = left_lawful keeps grows share size s ru id p g (Root q ∷ []) at itself on l here holds y lies
-        })
-        (row_pass_none n m w ok t l fit.0 here up' has_of aim' more is_parked empty)
+      (turned w t p1 awake l 0 false (w.locks.root l)) (put ru.values t (left_in g l y)) (lock_at l) x
+      at refl refl refl (λ j. refl) (refl, tt)
+      (record {
+        words = lock_word n m w s.words ru.stands.words t p1 t awake l 0 false (w.locks.root l) x here (ap letter_of (is_awake n m w ok t l fit.0 here up')) is;
+        seats = two_seat n m w ru.values s.views id ru.stands.seats p g q at (tells (let_go p l) (length ru.log) (Passing t l false more) (Sleeper None)) p1 (left_in g l y) t awake 0 false q (w.locks.root l) refl (ap (λ z. let_go z l) fit.1) refl root.1;
+        kept = lets_go n m w ok t l fit.0 here up' has_of (λ h. subst SomeIn empty h) false;
+        lawful = left_lawful keeps grows share size s ru id p g (Root q ∷ []) at itself on l here holds y lies;
+      })
+      (row_pass_none n m w ok t l fit.0 here up' has_of aim' more is_parked empty)
 
   module _ (u : ℕ) (us : List ℕ) (line : q.line ≡ u ∷ us) (paid : q.owes ≡ None) where
     line_of : (ru.world.locks.root q.key).line ≡ u ∷ us
@@ -128,16 +128,16 @@ module _ {V Q : Type 0} (keeps : ℕ → V → Type 0) (grows : V → V → Type
         let q' : LockRootView = record q { line = us; owes = Some (u, 0) } in
         let ok = ru.stands.kept in
         makes keeps grows share size s ru id p (let_go p l) g (left_in g l y) (Root q ∷ []) (Root q' ∷ []) (Passing t l false more) (Sleeper (Some u))
-          (turned2 w t p1 u (owed l 0) l 0 more q1) (put ru.values t (left_in g l y)) (lock_at l) x
-          at refl refl refl (λ j. refl) (refl, tt)
-          (record {
-            words = lock_word n m w s.words ru.stands.words t p1 u (owed l 0) l 0 more q1 x here (ap letter_of waits) is;
-            seats = two_seat n m w ru.values s.views id ru.stands.seats p g q at (tells (let_go p l) (length ru.log) (Passing t l false more) (Sleeper (Some u))) p1 (left_in g l y) u (owed l 0) 0 more q' q1 refl (ap (λ z. let_go z l) fit.1) refl
+        (turned2 w t p1 u (owed l 0) l 0 more q1) (put ru.values t (left_in g l y)) (lock_at l) x
+        at refl refl refl (λ j. refl) (refl, tt)
+        (record {
+          words = lock_word n m w s.words ru.stands.words t p1 u (owed l 0) l 0 more q1 x here (ap letter_of waits) is;
+          seats = two_seat n m w ru.values s.views id ru.stands.seats p g q at (tells (let_go p l) (length ru.log) (Passing t l false more) (Sleeper (Some u))) p1 (left_in g l y) u (owed l 0) 0 more q' q1 refl (ap (λ z. let_go z l) fit.1) refl
               (ap (λ (z : LockRootView). let r : LockRootView = record z { line = us; owes = Some (u, 0) } in r) root.1);
-            kept = passes n m w ok t l fit.0 here up' has_of u us line_of (ap (λ (z : LockRootView). z.owes) root.1 ∙ paid) 0 0 more (inl (refl, refl)) (more_left u us more says);
-            lawful = left_lawful keeps grows share size s ru id p g (Root q ∷ []) at itself on l here holds y lies
-          })
-          (row_pass_plain n m w ok t l fit.0 here up' has_of aim' u us line_of is_parked more (subst (λ z. SaysMore z more) (sym line_of) says))
+          kept = passes n m w ok t l fit.0 here up' has_of u us line_of (ap (λ (z : LockRootView). z.owes) root.1 ∙ paid) 0 0 more (inl (refl, refl)) (more_left u us more says);
+          lawful = left_lawful keeps grows share size s ru id p g (Root q ∷ []) at itself on l here holds y lies;
+        })
+        (row_pass_plain n m w ok t l fit.0 here up' has_of aim' u us line_of is_parked more (subst (λ z. SaysMore z more) (sym line_of) says))
 
     -- the lock is handed to the first
     pub fair_rule : (more : Bool) (x : ℕ) → x ≡ word_of (suc u) (ru.world.locks.parked q.key)
@@ -158,16 +158,16 @@ module _ {V Q : Type 0} (keeps : ℕ → V → Type 0) (grows : V → V → Type
         let q' : LockRootView = record q { line = us; owes = Some (u, 1) } in
         let ok = ru.stands.kept in
         makes keeps grows share size s ru id p (let_go p l) g (left_in g l y) (Root q ∷ []) (Root q' ∷ []) (Passing t l true more) (Sleeper (Some u))
-          (turned2 w t p1 u (owed l 1) l (suc u) (w.locks.parked l) q1) (put ru.values t (left_in g l y)) (lock_at l) x
-          at refl refl refl (λ j. refl) (refl, tt)
-          (record {
-            words = lock_word n m w s.words ru.stands.words t p1 u (owed l 1) l (suc u) (w.locks.parked l) q1 x here (ap letter_of waits) is;
-            seats = two_seat n m w ru.values s.views id ru.stands.seats p g q at (tells (let_go p l) (length ru.log) (Passing t l true more) (Sleeper (Some u))) p1 (left_in g l y) u (owed l 1) (suc u) (w.locks.parked l) q' q1 refl (ap (λ z. let_go z l) fit.1) refl
+        (turned2 w t p1 u (owed l 1) l (suc u) (w.locks.parked l) q1) (put ru.values t (left_in g l y)) (lock_at l) x
+        at refl refl refl (λ j. refl) (refl, tt)
+        (record {
+          words = lock_word n m w s.words ru.stands.words t p1 u (owed l 1) l (suc u) (w.locks.parked l) q1 x here (ap letter_of waits) is;
+          seats = two_seat n m w ru.values s.views id ru.stands.seats p g q at (tells (let_go p l) (length ru.log) (Passing t l true more) (Sleeper (Some u))) p1 (left_in g l y) u (owed l 1) (suc u) (w.locks.parked l) q' q1 refl (ap (λ z. let_go z l) fit.1) refl
               (ap (λ (z : LockRootView). let r : LockRootView = record z { line = us; owes = Some (u, 1) } in r) root.1);
-            kept = passes n m w ok t l fit.0 here up' has_of u us line_of (ap (λ (z : LockRootView). z.owes) root.1 ∙ paid) 1 (suc u) (w.locks.parked l) (inr (refl, refl)) (λ _. is_parked);
-            lawful = left_lawful keeps grows share size s ru id p g (Root q ∷ []) at itself on l here holds y lies
-          })
-          (row_pass_fair n m w ok t l fit.0 here up' has_of aim' u us line_of is_parked more)
+          kept = passes n m w ok t l fit.0 here up' has_of u us line_of (ap (λ (z : LockRootView). z.owes) root.1 ∙ paid) 1 (suc u) (w.locks.parked l) (inr (refl, refl)) (λ _. is_parked);
+          lawful = left_lawful keeps grows share size s ru id p g (Root q ∷ []) at itself on l here holds y lies;
+        })
+        (row_pass_fair n m w ok t l fit.0 here up' has_of aim' u us line_of is_parked more)
 
 -- what `pass_on` asks of the pass and the root
 pub record MayPass {V : Type 0} (p : LockPassView) (g : ValuesView V) (q : LockRootView) : Type 0 where
@@ -209,8 +209,13 @@ module _ {V Q : Type 0} (keeps : ℕ → V → Type 0) (grows : V → V → Type
     keep_act,
     tt,
     plain_rule keeps grows share itself on size s ru id p g q at may.up may.aim may.has may.value may.lies u us line may.paid more says new (is ∙ left_word more),
-    λ _. rw line ((refl, refl, refl), (length ru.log, refl), refl, (λ y' lies'. ap (left_in g q.key) (same_in g q.key may.value y' may.lies lies')),
-      owes_first u 0 0 (first_near keeps grows share itself on size s ru id p g q at may.up may.aim may.has may.value may.lies u us line may.paid)),
+    λ _. rw line (
+      (refl, refl, refl),
+      (length ru.log, refl),
+      refl,
+      (λ y' lies'. ap (left_in g q.key) (same_in g q.key may.value y' may.lies lies')),
+      owes_first u 0 0 (first_near keeps grows share itself on size s ru id p g q at may.up may.aim may.has may.value may.lies u us line may.paid),
+    ),
   )
 
   fair_at : (p : LockPassView) (g : ValuesView V) (q : LockRootView) → MayPass p g q → (u : ℕ) (us : List ℕ) → q.line ≡ u ∷ us → (more : Bool)
@@ -218,15 +223,19 @@ module _ {V Q : Type 0} (keeps : ℕ → V → Type 0) (grows : V → V → Type
   fair_at p g q may u us line more s ru deep at small =
       let b = ru.world.locks.parked q.key in
       let here = (root_fit keeps grows share size s ru id p g q at).0 in
-      let own = owner_is keeps grows share itself on size s ru id p g q at may.up may.aim may.has may.value may.lies in
-      (
+      let own = owner_is keeps grows share itself on size s ru id p g q at may.up may.aim may.has may.value may.lies in (
         Pass (tells (let_go p q.key) (length ru.log) (Passing p.thread q.key true more) (Sleeper (Some u))) (left_in g q.key may.value) ∷ Root (record q { line = us; owes = Some (u, 1) }) ∷ [],
         keep_act,
         tt,
         fair_rule keeps grows share itself on size s ru id p g q at may.up may.aim may.has may.value may.lies u us line may.paid more (get_or s.words (lock_at q.key) 0)
-          (ru.stands.words.locks q.key here ∙ (ap (λ o. word_of o b) own ∙ same_word p.thread u b)),
-        λ _. rw line ((refl, refl, refl), (length ru.log, refl), refl, (λ y' lies'. ap (left_in g q.key) (same_in g q.key may.value y' may.lies lies')),
-          owes_first u 0 1 (first_near keeps grows share itself on size s ru id p g q at may.up may.aim may.has may.value may.lies u us line may.paid)),
+            (ru.stands.words.locks q.key here ∙ (ap (λ o. word_of o b) own ∙ same_word p.thread u b)),
+        λ _. rw line (
+          (refl, refl, refl),
+          (length ru.log, refl),
+          refl,
+          (λ y' lies'. ap (left_in g q.key) (same_in g q.key may.value y' may.lies lies')),
+          owes_first u 0 1 (first_near keeps grows share itself on size s ru id p g q at may.up may.aim may.has may.value may.lies u us line may.paid),
+        ),
       )
 
   -- the store
@@ -240,7 +249,7 @@ module _ {V Q : Type 0} (keeps : ℕ → V → Type 0) (grows : V → V → Type
       → Allows (Ruled keeps grows share size) slots id me (lock_at l) (λ _. new) (λ _. passed false more size.threads (step slots (lock_at l) new 0 none) me new)
   stores_allows me two may l key more says new is = subst (λ z. Allows (Ruled keeps grows share size) slots id me (lock_at z) (λ _. new) (λ _. passed false more size.threads (step slots (lock_at z) new 0 none) me new)) (sym key)
       (subst (λ z. Allows (Ruled keeps grows share size) slots id z (lock_at (the_next_root me.0).key) (λ _. new) (λ _. passed false more size.threads (step slots (lock_at (the_next_root me.0).key) new 0 none) z new)) (sym two)
-        (stores_at (the_pass me.0) (the_values me.0) (the_next_root me.0) may (the_next_root me.0).line refl more says new is))
+      (stores_at (the_pass me.0) (the_values me.0) (the_next_root me.0) may (the_next_root me.0).line refl more says new is))
 
   -- the load: somebody is in the line
   loads_at : (p : LockPassView) (g : ValuesView V) (q : LockRootView) → MayPass p g q → (line : List ℕ) → q.line ≡ line → (first_of line ≡ None → ⊥) → (more : Bool)
@@ -253,7 +262,7 @@ module _ {V Q : Type 0} (keeps : ℕ → V → Type 0) (grows : V → V → Type
       → Allows (Ruled keeps grows share size) slots id me (lock_at l) (λ r. r) (passed true more size.threads (step slots (lock_at l) 0 0 none) me)
   loads_allows me two may l key some_first more = subst (λ z. Allows (Ruled keeps grows share size) slots id me (lock_at z) (λ r. r) (passed true more size.threads (step slots (lock_at z) 0 0 none) me)) (sym key)
       (subst (λ z. Allows (Ruled keeps grows share size) slots id z (lock_at (the_next_root me.0).key) (λ r. r) (passed true more size.threads (step slots (lock_at (the_next_root me.0).key) 0 0 none) z)) (sym two)
-        (loads_at (the_pass me.0) (the_values me.0) (the_next_root me.0) may (the_next_root me.0).line refl some_first more))
+      (loads_at (the_pass me.0) (the_values me.0) (the_next_root me.0) may (the_next_root me.0).line refl some_first more))
 
   -- the same, where contracts name how the lock is passed on
   pub stores_named : (fair more : Bool) (threads : ℕ) → fair ≡ false → threads ≡ size.threads → (me : Me (Option V) (List (Right V))) → PassAndRoot me → MayPass (the_pass me.0) (the_values me.0) (the_next_root me.0) → (l : ℕ) → l ≡ (the_next_root me.0).key
@@ -264,7 +273,7 @@ module _ {V Q : Type 0} (keeps : ℕ → V → Type 0) (grows : V → V → Type
       (subst (λ z. Allows (Ruled keeps grows share size) slots id me (lock_at l) (λ _. new) (λ _. passed z more threads (step slots (lock_at l) new 0 none) me new)) (sym is_fair)
       (subst (λ z. Allows (Ruled keeps grows share size) slots id me (lock_at l) (λ _. new) (λ _. passed false z threads (step slots (lock_at l) new 0 none) me new)) (sym is_said)
       (subst (λ z. Allows (Ruled keeps grows share size) slots id me (lock_at l) (λ _. new) (λ _. passed false said z (step slots (lock_at l) new 0 none) me new)) (sym are)
-        (stores_allows me two may l key said says new is))))
+      (stores_allows me two may l key said says new is))))
 
   pub loads_named : (fair more : Bool) (threads : ℕ) → fair ≡ true → threads ≡ size.threads → (me : Me (Option V) (List (Right V))) → PassAndRoot me → MayPass (the_pass me.0) (the_values me.0) (the_next_root me.0) → (l : ℕ) → l ≡ (the_next_root me.0).key
       → (first_of (the_next_root me.0).line ≡ None → ⊥) → (i : ℕ) → i ≡ lock_at l
@@ -273,7 +282,7 @@ module _ {V Q : Type 0} (keeps : ℕ → V → Type 0) (grows : V → V → Type
       subst (λ z. Allows (Ruled keeps grows share size) slots id me z (λ r. r) (passed fair more threads (step slots z 0 0 none) me)) (sym at)
       (subst (λ z. Allows (Ruled keeps grows share size) slots id me (lock_at l) (λ r. r) (passed z more threads (step slots (lock_at l) 0 0 none) me)) (sym is_fair)
       (subst (λ z. Allows (Ruled keeps grows share size) slots id me (lock_at l) (λ r. r) (passed true more z (step slots (lock_at l) 0 0 none) me)) (sym are)
-        (loads_allows me two may l key some_first more)))
+      (loads_allows me two may l key some_first more)))
 
 -- the same, by the number of the lock
 pub may_pass : {V : Type 0} (p : LockPassView) (g : ValuesView V) (q : LockRootView) (l : ℕ) → l ≡ q.key → p.asleep ≡ false → p.aim ≡ None → HoldsParked p l → (y : V) → IsIn g l y → q.owes ≡ None → MayPass p g q

@@ -56,14 +56,14 @@ module _ {V Q : Type 0} (keeps : ℕ → V → Type 0) (grows : V → V → Type
       let q1 : LockRootView = record (w.locks.root l) { owes = None } in
       let q' : LockRootView = record q { owes = None } in
       rests keeps grows share size s ru id (Root q ∷ []) (Root q' ∷ []) (turned w u (w.threads.pass u) (lying l k) l (w.locks.owner l) (w.locks.parked l) q1) (put ru.values u (ru.values u)) (letter_at m u) x
-        at (λ j. refl) (λ log e. e)
-        (record {
-          words = letter_word n m w s.words ru.stands.words u (w.threads.pass u) u (lying l k) l q1 x fits.0.0 is;
-          seats = root_seat n m w ru.values s.views id ru.stands.seats q at u (lying l k) (w.locks.owner l) (w.locks.parked l) q' q1 refl (ap (λ (z : LockRootView). let r : LockRootView = record z { owes = None } in r) fit.1);
-          kept = posts n m w ok u k l debt';
-          lawful = same_lawful keeps grows share size s ru id u (w.threads.pass u) (ru.values u) (λ j h. h) (λ j h. h) refl
-        })
-        (same_part w l u (w.threads.pass u) u (lying l k) q1 refl refl (lies_wants l k (w.threads.pass u).aim ∙ ap (λ z. wants_of z (w.threads.pass u).aim) (sym waits)))
+      at (λ j. refl) (λ log e. e)
+      (record {
+        words = letter_word n m w s.words ru.stands.words u (w.threads.pass u) u (lying l k) l q1 x fits.0.0 is;
+        seats = root_seat n m w ru.values s.views id ru.stands.seats q at u (lying l k) (w.locks.owner l) (w.locks.parked l) q' q1 refl (ap (λ (z : LockRootView). let r : LockRootView = record z { owes = None } in r) fit.1);
+        kept = posts n m w ok u k l debt';
+        lawful = same_lawful keeps grows share size s ru id u (w.threads.pass u) (ru.values u) (λ j h. h) (λ j h. h) refl;
+      })
+      (same_part w l u (w.threads.pass u) u (lying l k) q1 refl refl (lies_wants l k (w.threads.pass u).aim ∙ ap (λ z. wants_of z (w.threads.pass u).aim) (sym waits)))
 
   module _ (p : LockPassView) (g : ValuesView V) (at : get_elem? s.views id ≡ some (Pass p g ∷ [])) (l : ℕ) where
     -- a barging opportunity is collected
@@ -76,14 +76,14 @@ module _ {V Q : Type 0} (keeps : ℕ → V → Type 0) (grows : V → V → Type
         let fit = fit_of keeps grows share size s ru id p g [] at in
         let p1 : LockPassView = woken (w.threads.pass t) in
         rests keeps grows share size s ru id (Pass p g ∷ []) (Pass (woken p) g ∷ []) (turned w t p1 awake l (w.locks.owner l) (w.locks.parked l) (w.locks.root l)) (put ru.values t g) (letter_at m t) 0
-          at (λ j. refl) (λ log e. e)
-          (record {
-            words = letter_word n m w s.words ru.stands.words t p1 t awake l (w.locks.root l) 0 fit.0 refl;
-            seats = one_seat n m w ru.values s.views id ru.stands.seats p g at (woken p) p1 g awake l (w.locks.owner l) (w.locks.parked l) refl (ap woken fit.1);
-            kept = collects n m w ru.stands.kept t l lies;
-            lawful = same_lawful keeps grows share size s ru id t p1 g (λ k h. h) (λ k h. h) fit.2
-          })
-          (same_part w l t p1 t awake (w.locks.root l) refl refl (ap (λ z. wants_of z (w.threads.pass t).aim) (sym lies)))
+        at (λ j. refl) (λ log e. e)
+        (record {
+          words = letter_word n m w s.words ru.stands.words t p1 t awake l (w.locks.root l) 0 fit.0 refl;
+          seats = one_seat n m w ru.values s.views id ru.stands.seats p g at (woken p) p1 g awake l (w.locks.owner l) (w.locks.parked l) refl (ap woken fit.1);
+          kept = collects n m w ru.stands.kept t l lies;
+          lawful = same_lawful keeps grows share size s ru id t p1 g (λ k h. h) (λ k h. h) fit.2;
+        })
+        (same_part w l t p1 t awake (w.locks.root l) refl refl (ap (λ z. wants_of z (w.threads.pass t).aim) (sym lies)))
 
     module _ (itself : (x : V) → grows x x) (here : l < size.locks) (lies : ru.world.threads.spot p.thread ≡ lying l 1) where
       owner_is : ru.world.locks.owner l ≡ suc p.thread
@@ -111,27 +111,27 @@ module _ {V Q : Type 0} (keeps : ℕ → V → Type 0) (grows : V → V → Type
           let ok = ru.stands.kept in
           let long : l < length xs = (let f = (ok.threads t).long in omega arith) in
           rests keeps grows share size s ru id (Pass p g ∷ []) (Pass (woken (gripped p l)) (found_in g l y) ∷ []) (turned w t p1 awake l (w.locks.owner l) (w.locks.parked l) (w.locks.root l)) (put ru.values t (found_in g l y)) (letter_at m t) 0
-            at (λ j. refl) (λ log e. e)
-            (record {
-              words = letter_word n m w s.words ru.stands.words t p1 t awake l (w.locks.root l) 0 fit.0 refl;
-              seats = one_seat n m w ru.values s.views id ru.stands.seats p g at (woken (gripped p l)) p1 (found_in g l y) awake l (w.locks.owner l) (w.locks.parked l) refl (ap (λ z. woken (gripped z l)) fit.1);
-              kept = collects_lock n m w ok t l here lies;
-              lawful = subst (λ (z : ValuesView V). IsLawful keeps grows share n m (λ u k. Holds (put w.threads.pass t p1 u) k) (put ru.values t (found_in z l y)) s.homes) fit.2
+          at (λ j. refl) (λ log e. e)
+          (record {
+            words = letter_word n m w s.words ru.stands.words t p1 t awake l (w.locks.root l) 0 fit.0 refl;
+            seats = one_seat n m w ru.values s.views id ru.stands.seats p g at (woken (gripped p l)) p1 (found_in g l y) awake l (w.locks.owner l) (w.locks.parked l) refl (ap (λ z. woken (gripped z l)) fit.1);
+            kept = collects_lock n m w ok t l here lies;
+            lawful = subst (λ (z : ValuesView V). IsLawful keeps grows share n m (λ u k. Holds (put w.threads.pass t p1 u) k) (put ru.values t (found_in z l y)) s.homes) fit.2
                 (gets_value keeps grows share n m (PassHolds w) ru.values s.homes ru.stands.lawful t l fit.0 here itself (λ u k. Holds (put w.threads.pass t p1 u) k) nobody
-                  (λ u. put_elim (λ x. Holds x l → u ≡ t) w.threads.pass t p1 u (λ ut _. ut) (λ _ h. absurd (nobody u h)))
-                  (subst (λ (x : LockPassView). Holds x l) (sym (put_same w.threads.pass t p1 t refl)) (subst IsHeld (sym (get_or-set_same xs l Held NotHeld long)) tt))
-                  (λ u k ne. held_before w.threads.pass t p1 k (holds_else xs l k Held ne) u)
-                  (λ u k ne. held_after w.threads.pass t p1 k (holds_still xs l k Held ne) u))
-            })
-            (part_is w t p1 t awake l (w.locks.owner l) (w.locks.parked l) (w.locks.root l) (part_of w).locks.held (part_of w).locks.parked (part_of w).locks.line (part_of w).locks.has (part_of w).wants
-              (same_held w l) (same_parked w l) (same_line w l (w.locks.root l) refl) (same_has w l)
-              (λ v. wants_at w t p1 awake None refl v ∙ put_again (part_of w).wants t None v (ap (λ z. wants_of z (w.threads.pass t).aim) (sym lies))))
+                (λ u. put_elim (λ x. Holds x l → u ≡ t) w.threads.pass t p1 u (λ ut _. ut) (λ _ h. absurd (nobody u h)))
+                (subst (λ (x : LockPassView). Holds x l) (sym (put_same w.threads.pass t p1 t refl)) (subst IsHeld (sym (get_or-set_same xs l Held NotHeld long)) tt))
+                (λ u k ne. held_before w.threads.pass t p1 k (holds_else xs l k Held ne) u)
+                (λ u k ne. held_after w.threads.pass t p1 k (holds_still xs l k Held ne) u));
+          })
+          (part_is w t p1 t awake l (w.locks.owner l) (w.locks.parked l) (w.locks.root l) (part_of w).locks.held (part_of w).locks.parked (part_of w).locks.line (part_of w).locks.has (part_of w).wants
+          (same_held w l) (same_parked w l) (same_line w l (w.locks.root l) refl) (same_has w l)
+          (λ v. wants_at w t p1 awake None refl v ∙ put_again (part_of w).wants t None v (ap (λ z. wants_of z (w.threads.pass t).aim) (sym lies))))
 
       pub collects_value : FoundOk keeps grows share l p.thread g (ru.stands.lawful.value l)
       collects_value =
           let fit = fit_of keeps grows share size s ru id p g [] at in
           subst (λ (z : ValuesView V). FoundOk keeps grows share l p.thread z (ru.stands.lawful.value l)) fit.2
-            (finds_value keeps grows share size.threads size.locks (PassHolds ru.world) ru.values s.homes ru.stands.lawful p.thread l fit.0 here (nobody p.thread))
+          (finds_value keeps grows share size.threads size.locks (PassHolds ru.world) ru.values s.homes ru.stands.lawful p.thread l fit.0 here (nobody p.thread))
 
 module _ {V Q : Type 0} (keeps : ℕ → V → Type 0) (grows : V → V → Type 0) (share : ℕ → V → Q) (size : Size) (slots id : ℕ) where
   posts_at : (q : LockRootView) (u k : ℕ) → q.owes ≡ Some (u, k) → (new : ℕ) → new ≡ k + 1
@@ -163,8 +163,7 @@ module _ {V Q : Type 0} (keeps : ℕ → V → Type 0) (grows : V → V → Type
     collects_spot (queued l) is r fits = none_lies r
     collects_spot (owed l k) is r fits = none_lies r
     collects_spot (lying l zero) is r fits =
-        let aim : p.aim ≡ Some l = sym (ap (λ (x : LockPassView). x.aim) (fit_of keeps grows share size s ru id p g [] at).1) ∙ fits.0.2 in
-        (
+        let aim : p.aim ≡ Some l = sym (ap (λ (x : LockPassView). x.aim) (fit_of keeps grows share size s ru id p g [] at).1) ∙ fits.0.2 in (
           Pass (woken p) g ∷ [],
           keep_act,
           tt,
@@ -173,14 +172,17 @@ module _ {V Q : Type 0} (keeps : ℕ → V → Type 0) (grows : V → V → Type
         )
     collects_spot (lying l (suc zero)) is r fits =
         let aim : p.aim ≡ Some l = sym (ap (λ (x : LockPassView). x.aim) (fit_of keeps grows share size s ru id p g [] at).1) ∙ fits.0.2 in
-        let here : l < size.locks = (ru.stands.kept.threads p.thread).aims l fits.0.2 in
-        (
+        let here : l < size.locks = (ru.stands.kept.threads p.thread).aims l fits.0.2 in (
           Pass (woken (gripped p l)) (found_in g l (ru.stands.lawful.value l)) ∷ [],
           keep_act,
           tt,
           collects_lock_rule keeps grows share size s ru id p g at l itself here is,
-          λ _ _. ((refl, refl), omega arith, subst (λ z. CollectedBy keeps grows share z (Pass p g ∷ [], []) (Pass (woken (gripped p l)) (found_in g l (ru.stands.lawful.value l)) ∷ [], [])) (sym r)
-            (λ z z' e. (refl, e, (l, aim, refl, (ru.stands.lawful.value l, record { found = collects_value keeps grows share size s ru id p g at l itself here is; values = refl }))))),
+          λ _ _. (
+            (refl, refl),
+            omega arith,
+            subst (λ z. CollectedBy keeps grows share z (Pass p g ∷ [], []) (Pass (woken (gripped p l)) (found_in g l (ru.stands.lawful.value l)) ∷ [], [])) (sym r)
+                (λ z z' e. (refl, e, (l, aim, refl, (ru.stands.lawful.value l, record { found = collects_value keeps grows share size s ru id p g at l itself here is; values = refl })))),
+          ),
         )
     collects_spot (lying l (suc (suc k))) is r fits = absurd (⊎_elim {C = ⊥} (λ e. omega arith) (λ e. let f = e.0 in omega arith) fits.1)
 

@@ -80,7 +80,7 @@ module _ (n m : ℕ) (w : World) (ok : Kept n m w) (t l : ℕ) (near : t < n) (h
   -- ---- take and try
   got_part : w.locks.owner l ≡ 0 → (wants : ℕ → Option ℕ) → ((v : ℕ) → put (part_of w).wants t None v ≡ wants v)
       → part_of (turned w t (gripped (w.threads.pass t) l) awake l (suc t) (w.locks.parked l) (w.locks.root l))
-        ≡ record { locks = record (part_of w).locks { held = put (part_of w).locks.held l true; has = put (part_of w).locks.has l (put ((part_of w).locks.has l) t true) }; wants = wants }
+      ≡ record { locks = record (part_of w).locks { held = put (part_of w).locks.held l true; has = put (part_of w).locks.has l (put ((part_of w).locks.has l) t true) }; wants = wants }
   got_part unheld wants is = part_is w t (gripped (w.threads.pass t) l) t awake l (suc t) (w.locks.parked l) (w.locks.root l)
       (put (part_of w).locks.held l true) (part_of w).locks.parked (part_of w).locks.line (put (part_of w).locks.has l (put ((part_of w).locks.has l) t true)) wants
       (λ k. put_fits is_owned w.locks.owner l (suc t) true k refl) (same_parked w l) (same_line w l (w.locks.root l) refl)
@@ -98,12 +98,14 @@ module _ (n m : ℕ) (w : World) (ok : Kept n m w) (t l : ℕ) (near : t < n) (h
       → LockStep n m (part_of w) (Take t l) (Saw false) (part_of (turned w t (wishing (w.threads.pass t) l) awake l (w.locks.owner l) (w.locks.parked l) (w.locks.root l)))
   row_take_held aims held =
       let e : true ≡ is_owned (w.locks.owner l) = sym (owned_true (w.locks.owner l) held) in
-      let then : Bool → LockPart = λ c. record { locks = cond c (part_of w).locks (record (part_of w).locks { held = put (part_of w).locks.held l true; has = put (part_of w).locks.has l (put ((part_of w).locks.has l) t true) }); wants = put (part_of w).wants t (cond c (Some l) None) } in
-      ((near, here, may_try aims), ap (λ c. Saw (not c)) e,
+      let then : Bool → LockPart = λ c. record { locks = cond c (part_of w).locks (record (part_of w).locks { held = put (part_of w).locks.held l true; has = put (part_of w).locks.has l (put ((part_of w).locks.has l) t true) }); wants = put (part_of w).wants t (cond c (Some l) None) } in (
+        (near, here, may_try aims),
+        ap (λ c. Saw (not c)) e,
         part_is w t (wishing (w.threads.pass t) l) t awake l (w.locks.owner l) (w.locks.parked l) (w.locks.root l)
-          (part_of w).locks.held (part_of w).locks.parked (part_of w).locks.line (part_of w).locks.has (put (part_of w).wants t (Some l))
-          (same_held w l) (same_parked w l) (same_line w l (w.locks.root l) refl) (same_has w l) (wants_at w t (wishing (w.threads.pass t) l) awake (Some l) refl)
-        ∙ ap then e)
+            (part_of w).locks.held (part_of w).locks.parked (part_of w).locks.line (part_of w).locks.has (put (part_of w).wants t (Some l))
+            (same_held w l) (same_parked w l) (same_line w l (w.locks.root l) refl) (same_has w l) (wants_at w t (wishing (w.threads.pass t) l) awake (Some l) refl)
+            ∙ ap then e,
+      )
 
   pub row_try_free : (w.threads.pass t).aim ≡ None → w.locks.owner l ≡ 0
       → LockStep n m (part_of w) (Try t l) (Saw true) (part_of (turned w t (gripped (w.threads.pass t) l) awake l (suc t) (w.locks.parked l) (w.locks.root l)))
@@ -121,10 +123,13 @@ module _ (n m : ℕ) (w : World) (ok : Kept n m w) (t l : ℕ) (near : t < n) (h
   -- ---- mark
   pub row_mark : Aims (w.threads.pass t) l → w.locks.owner l ≢ 0
       → LockStep n m (part_of w) (Mark t l) Done (part_of (turned w t (w.threads.pass t) awake l (w.locks.owner l) true (w.locks.root l)))
-  row_mark aims held = ((near, here, may_try aims, owned_true (w.locks.owner l) held), refl,
-      part_is w t (w.threads.pass t) t awake l (w.locks.owner l) true (w.locks.root l)
+  row_mark aims held = (
+    (near, here, may_try aims, owned_true (w.locks.owner l) held),
+    refl,
+    part_is w t (w.threads.pass t) t awake l (w.locks.owner l) true (w.locks.root l)
         (part_of w).locks.held (put (part_of w).locks.parked l true) (part_of w).locks.line (part_of w).locks.has (part_of w).wants
-        (same_held w l) (λ _. refl) (same_line w l (w.locks.root l) refl) (same_has w l) (wants_stay w t (w.threads.pass t) t awake refl (awake_wants awake refl)))
+        (same_held w l) (λ _. refl) (same_line w l (w.locks.root l) refl) (same_has w l) (wants_stay w t (w.threads.pass t) t awake refl (awake_wants awake refl)),
+  )
 
   -- ---- park
   pub row_park : (w.threads.pass t).aim ≡ Some l → w.locks.owner l ≢ 0 → w.locks.parked l ≡ true
@@ -134,13 +139,15 @@ module _ (n m : ℕ) (w : World) (ok : Kept n m w) (t l : ℕ) (near : t < n) (h
       let f : true ≡ w.locks.parked l = sym parked in
       let both : true ≡ (is_owned (w.locks.owner l) && w.locks.parked l) = λ i. e i && f i in
       let q : LockRootView = record (w.locks.root l) { line = (w.locks.root l).line ++ t ∷ [] } in
-      let then : Bool → LockPart = λ c. record { locks = cond c (record (part_of w).locks { line = put (part_of w).locks.line l ((part_of w).locks.line l ++ t ∷ []) }) (part_of w).locks; wants = (part_of w).wants } in
-      ((near, here, wants_now ∙ aim, not_in_line), ap Saw both,
+      let then : Bool → LockPart = λ c. record { locks = cond c (record (part_of w).locks { line = put (part_of w).locks.line l ((part_of w).locks.line l ++ t ∷ []) }) (part_of w).locks; wants = (part_of w).wants } in (
+        (near, here, wants_now ∙ aim, not_in_line),
+        ap Saw both,
         part_is w t (sleeping (w.threads.pass t)) t (queued l) l (w.locks.owner l) (w.locks.parked l) q
-          (part_of w).locks.held (part_of w).locks.parked (put (part_of w).locks.line l ((part_of w).locks.line l ++ t ∷ [])) (part_of w).locks.has (part_of w).wants
-          (same_held w l) (same_parked w l) (λ k. put_fits (λ (x : LockRootView). x.line) w.locks.root l q ((w.locks.root l).line ++ t ∷ []) k refl) (same_has w l)
-          (wants_stay w t (sleeping (w.threads.pass t)) t (queued l) refl (awake_wants (queued l) refl))
-        ∙ ap then both)
+            (part_of w).locks.held (part_of w).locks.parked (put (part_of w).locks.line l ((part_of w).locks.line l ++ t ∷ [])) (part_of w).locks.has (part_of w).wants
+            (same_held w l) (same_parked w l) (λ k. put_fits (λ (x : LockRootView). x.line) w.locks.root l q ((w.locks.root l).line ++ t ∷ []) k refl) (same_has w l)
+            (wants_stay w t (sleeping (w.threads.pass t)) t (queued l) refl (awake_wants (queued l) refl))
+            ∙ ap then both,
+      )
 
   pub row_park_not : (w.threads.pass t).aim ≡ Some l → (is_owned (w.locks.owner l) && w.locks.parked l) ≡ false → LockStep n m (part_of w) (Park t l) (Saw false) (part_of w)
   row_park_not aim not_both =
@@ -160,7 +167,7 @@ module _ (n m : ℕ) (w : World) (ok : Kept n m w) (t l : ℕ) (near : t < n) (h
     let_go_part : (u : ℕ) (sp : Spot) (b : Bool) (q : LockRootView) (parked : ℕ → Bool) (line : ℕ → List ℕ) → ((k : ℕ) → put w.locks.parked l b k ≡ parked k) → ((k : ℕ) → (put w.locks.root l q k).line ≡ line k)
         → wants_of sp (w.threads.pass u).aim ≡ wants_of (w.threads.spot u) (w.threads.pass u).aim
         → part_of (turned2 w t (let_go (w.threads.pass t) l) u sp l 0 b q)
-          ≡ record { locks = record { held = put (part_of w).locks.held l false; parked = parked; line = line; has = put (part_of w).locks.has l (put ((part_of w).locks.has l) t false) }; wants = (part_of w).wants }
+        ≡ record { locks = record { held = put (part_of w).locks.held l false; parked = parked; line = line; has = put (part_of w).locks.has l (put ((part_of w).locks.has l) t false) }; wants = (part_of w).wants }
     let_go_part u sp b q parked line parks lines want = part_is w t (let_go (w.threads.pass t) l) u sp l 0 b q
         (put (part_of w).locks.held l false) parked line (put (part_of w).locks.has l (put ((part_of w).locks.has l) t false)) (part_of w).wants
         (λ k. put_fits is_owned w.locks.owner l 0 false k refl) parks lines
@@ -170,24 +177,30 @@ module _ (n m : ℕ) (w : World) (ok : Kept n m w) (t l : ℕ) (near : t < n) (h
     pub row_free : w.locks.parked l ≡ false → LockStep n m (part_of w) (Free t l) (Saw true) (part_of (turned w t (let_go (w.threads.pass t) l) awake l 0 (w.locks.parked l) (w.locks.root l)))
     row_free unparked =
         let e : false ≡ w.locks.parked l = sym unparked in
-        let then : Bool → LockPart = λ c. record { locks = cond c (part_of w).locks (record (part_of w).locks { held = put (part_of w).locks.held l false; has = put (part_of w).locks.has l (put ((part_of w).locks.has l) t false) }); wants = (part_of w).wants } in
-        ((near, here, has_now, wants_now ∙ aim), ap (λ c. Saw (not c)) e,
-          let_go_part t awake (w.locks.parked l) (w.locks.root l) (part_of w).locks.parked (part_of w).locks.line (same_parked w l) (same_line w l (w.locks.root l) refl) (awake_wants awake refl) ∙ ap then e)
+        let then : Bool → LockPart = λ c. record { locks = cond c (part_of w).locks (record (part_of w).locks { held = put (part_of w).locks.held l false; has = put (part_of w).locks.has l (put ((part_of w).locks.has l) t false) }); wants = (part_of w).wants } in (
+          (near, here, has_now, wants_now ∙ aim),
+          ap (λ c. Saw (not c)) e,
+          let_go_part t awake (w.locks.parked l) (w.locks.root l) (part_of w).locks.parked (part_of w).locks.line (same_parked w l) (same_line w l (w.locks.root l) refl) (awake_wants awake refl) ∙ ap then e,
+        )
 
     pub row_free_parked : w.locks.parked l ≡ true → LockStep n m (part_of w) (Free t l) (Saw false) (part_of (turned w t (found_parked (w.threads.pass t) l) awake l (w.locks.owner l) (w.locks.parked l) (w.locks.root l)))
     row_free_parked parked =
         let e : true ≡ w.locks.parked l = sym parked in
-        let then : Bool → LockPart = λ c. record { locks = cond c (part_of w).locks (record (part_of w).locks { held = put (part_of w).locks.held l false; has = put (part_of w).locks.has l (put ((part_of w).locks.has l) t false) }); wants = (part_of w).wants } in
-        ((near, here, has_now, wants_now ∙ aim), ap (λ c. Saw (not c)) e,
-          same_part w l t (found_parked (w.threads.pass t) l) t awake (w.locks.root l) refl refl (awake_wants awake refl) ∙ ap then e)
+        let then : Bool → LockPart = λ c. record { locks = cond c (part_of w).locks (record (part_of w).locks { held = put (part_of w).locks.held l false; has = put (part_of w).locks.has l (put ((part_of w).locks.has l) t false) }); wants = (part_of w).wants } in (
+          (near, here, has_now, wants_now ∙ aim),
+          ap (λ c. Saw (not c)) e,
+          same_part w l t (found_parked (w.threads.pass t) l) t awake (w.locks.root l) refl refl (awake_wants awake refl) ∙ ap then e,
+        )
 
     -- nobody is in the line
     pub row_pass_none : (more : Bool) → w.locks.parked l ≡ true → (w.locks.root l).line ≡ []
         → LockStep n m (part_of w) (Pass t l false more) (Sleeper None) (part_of (turned w t (let_go (w.threads.pass t) l) awake l 0 false (w.locks.root l)))
-    row_pass_none more parked line =
-        ((near, here, has_now, parked, wants_now ∙ aim, (λ _ h. absurd (let f : length (w.locks.root l).line ≡ 0 = ap length line in omega arith))), ap (λ z. Sleeper (first z)) (sym line),
-          let_go_part t awake false (w.locks.root l) (put (part_of w).locks.parked l false) (part_of w).locks.line (λ _. refl) (same_line w l (w.locks.root l) refl) (awake_wants awake refl)
-          ∙ (let then : List ℕ → LockPart = λ z. record { locks = passed_line (part_of w).locks t l false more z; wants = (part_of w).wants } in ap then (sym line)))
+    row_pass_none more parked line = (
+      (near, here, has_now, parked, wants_now ∙ aim, (λ _ h. absurd (let f : length (w.locks.root l).line ≡ 0 = ap length line in omega arith))),
+      ap (λ z. Sleeper (first z)) (sym line),
+      let_go_part t awake false (w.locks.root l) (put (part_of w).locks.parked l false) (part_of w).locks.line (λ _. refl) (same_line w l (w.locks.root l) refl) (awake_wants awake refl)
+          ∙ (let then : List ℕ → LockPart = λ z. record { locks = passed_line (part_of w).locks t l false more z; wants = (part_of w).wants } in ap then (sym line)),
+    )
 
     module _ (u : ℕ) (us : List ℕ) (line : (w.locks.root l).line ≡ u ∷ us) (parked : w.locks.parked l ≡ true) where
       first_waits : (c : Spot) → wants_of c (w.threads.pass u).aim ≡ (w.threads.pass u).aim → wants_of c (w.threads.pass u).aim ≡ wants_of (w.threads.spot u) (w.threads.pass u).aim
@@ -197,26 +210,30 @@ module _ (n m : ℕ) (w : World) (ok : Kept n m w) (t l : ℕ) (near : t < n) (h
       pub row_pass_plain : (more : Bool) → SaysMore (w.locks.root l).line more
           → LockStep n m (part_of w) (Pass t l false more) (Sleeper (Some u)) (part_of (turned2 w t (let_go (w.threads.pass t) l) u (owed l 0) l 0 more (record (w.locks.root l) { line = us; owes = Some (u, 0) })))
       row_pass_plain more says =
-          let q : LockRootView = record (w.locks.root l) { line = us; owes = Some (u, 0) } in
-          ((near, here, has_now, parked, wants_now ∙ aim, (λ _. says)), ap (λ z. Sleeper (first z)) (sym line),
+          let q : LockRootView = record (w.locks.root l) { line = us; owes = Some (u, 0) } in (
+            (near, here, has_now, parked, wants_now ∙ aim, (λ _. says)),
+            ap (λ z. Sleeper (first z)) (sym line),
             let_go_part u (owed l 0) more q (put (part_of w).locks.parked l more) (put (part_of w).locks.line l us) (λ _. refl) (λ k. put_fits (λ (x : LockRootView). x.line) w.locks.root l q us k refl) (first_waits (owed l 0) refl)
-            ∙ (let then : List ℕ → LockPart = λ z. record { locks = passed_line (part_of w).locks t l false more z; wants = (part_of w).wants } in ap then (sym line)))
+                ∙ (let then : List ℕ → LockPart = λ z. record { locks = passed_line (part_of w).locks t l false more z; wants = (part_of w).wants } in ap then (sym line)),
+          )
 
       -- the lock is handed to the first
       pub row_pass_fair : (more : Bool)
           → LockStep n m (part_of w) (Pass t l true more) (Sleeper (Some u)) (part_of (turned2 w t (let_go (w.threads.pass t) l) u (owed l 1) l (suc u) (w.locks.parked l) (record (w.locks.root l) { line = us; owes = Some (u, 1) })))
       row_pass_fair more =
           let q : LockRootView = record (w.locks.root l) { line = us; owes = Some (u, 1) } in
-          let has' : ℕ → Bool = put (put ((part_of w).locks.has l) t false) u true in
-          ((near, here, has_now, parked, wants_now ∙ aim, (λ e. absurd (cc (e)))), ap (λ z. Sleeper (first z)) (sym line),
+          let has' : ℕ → Bool = put (put ((part_of w).locks.has l) t false) u true in (
+            (near, here, has_now, parked, wants_now ∙ aim, (λ e. absurd (cc (e)))),
+            ap (λ z. Sleeper (first z)) (sym line),
             part_is w t (let_go (w.threads.pass t) l) u (owed l 1) l (suc u) (w.locks.parked l) q
-              (part_of w).locks.held (part_of w).locks.parked (put (part_of w).locks.line l us) (put (part_of w).locks.has l has') (put (part_of w).wants u None)
-              (λ k. put_fits is_owned w.locks.owner l (suc u) true k refl ∙ put_again (part_of w).locks.held l true k (ap is_owned (sym owner_is)))
-              (same_parked w l) (λ k. put_fits (λ (x : LockRootView). x.line) w.locks.root l q us k refl)
-              (λ k v. owned_by w.locks.owner l (suc u) has' k v (has_hands (w.locks.owner l) t u v owner_is))
-              (λ v. put_elim (λ x. wants_of x (put w.threads.pass t (let_go (w.threads.pass t) l) v).aim ≡ put (part_of w).wants u None v) w.threads.spot u (owed l 1) v
+                (part_of w).locks.held (part_of w).locks.parked (put (part_of w).locks.line l us) (put (part_of w).locks.has l has') (put (part_of w).wants u None)
+                (λ k. put_fits is_owned w.locks.owner l (suc u) true k refl ∙ put_again (part_of w).locks.held l true k (ap is_owned (sym owner_is)))
+                (same_parked w l) (λ k. put_fits (λ (x : LockRootView). x.line) w.locks.root l q us k refl)
+                (λ k v. owned_by w.locks.owner l (suc u) has' k v (has_hands (w.locks.owner l) t u v owner_is))
+                (λ v. put_elim (λ x. wants_of x (put w.threads.pass t (let_go (w.threads.pass t) l) v).aim ≡ put (part_of w).wants u None v) w.threads.spot u (owed l 1) v
                 (λ e. sym (put_same (part_of w).wants u None v e))
                 (λ ne. put_elim (λ (x : LockPassView). wants_of (w.threads.spot v) x.aim ≡ put (part_of w).wants u None v) w.threads.pass t (let_go (w.threads.pass t) l) v
-                  (λ vt. ap (λ z. wants_of (w.threads.spot v) (w.threads.pass z).aim) (sym vt) ∙ sym (put_other (part_of w).wants u None v ne))
-                  (λ _. sym (put_other (part_of w).wants u None v ne))))
-            ∙ (let then : List ℕ → LockPart = λ z. record { locks = passed_line (part_of w).locks t l true more z; wants = served (part_of w).wants z } in ap then (sym line)))
+                (λ vt. ap (λ z. wants_of (w.threads.spot v) (w.threads.pass z).aim) (sym vt) ∙ sym (put_other (part_of w).wants u None v ne))
+                (λ _. sym (put_other (part_of w).wants u None v ne))))
+                ∙ (let then : List ℕ → LockPart = λ z. record { locks = passed_line (part_of w).locks t l true more z; wants = served (part_of w).wants z } in ap then (sym line)),
+          )

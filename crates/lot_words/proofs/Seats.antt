@@ -74,9 +74,9 @@ module _ {R : Type 0} (number : R → ℕ) where
   reseats F G vs id v w ok e less keeps new = record {
     once = λ i. omega (arith, times_set i vs id v w e, ok.once i, less i);
     named = λ j u f. ⊎_elim
-      (λ here. subst (Each number G) here.1 new)
-      (λ there. each_map F G u (λ r h. keeps r (omega (arith, times_two (number r) vs id j v u e there.1 there.0, ok.once (number r)))) (ok.named j u there.1))
-      (at_set vs id j w u f)
+        (λ here. subst (Each number G) here.1 new)
+        (λ there. each_map F G u (λ r h. keeps r (omega (arith, times_two (number r) vs id j v u e there.1 there.0, ok.once (number r)))) (ok.named j u there.1))
+        (at_set vs id j w u f);
   }
 
   -- a seat takes in what another has
@@ -87,12 +87,12 @@ module _ {R : Type 0} (number : R → ℕ) where
       record {
         once = λ i. omega (arith, times_set i (set vs id (v ++ w)) other w [] f, times_set i vs id v (v ++ w) e, times_append i v w, ok.once i);
         named = λ j u g. ⊎_elim
-          (λ here. subst (Each number F) here.1 tt)
-          (λ there. ⊎_elim
+            (λ here. subst (Each number F) here.1 tt)
+            (λ there. ⊎_elim
             (λ here. subst (Each number F) here.1 (each_append F v w (ok.named id v e) (ok.named other w f')))
             (λ stays. ok.named j u stays.1)
             (at_set vs id j (v ++ w) u there.1))
-          (at_set (set vs id (v ++ w)) other j [] u g)
+            (at_set (set vs id (v ++ w)) other j [] u g);
       }
 
   -- what a seat has is cut in two, and a new seat has the second
@@ -103,7 +103,7 @@ module _ {R : Type 0} (number : R → ℕ) where
       record {
         once = λ i. omega (arith, times_snoc i (set vs id l) r, times_set i vs id v l e, less i, ok.once i);
         named = λ j u g. ⊎_elim
-          (λ old. ⊎_elim (λ here. subst (Each number F) here.1 both.0) (λ there. ok.named j u there.1) (at_set vs id j l u old))
-          (λ new. subst (Each number F) new both.1)
-          (at_snoc (set vs id l) r u j g)
+            (λ old. ⊎_elim (λ here. subst (Each number F) here.1 both.0) (λ there. ok.named j u there.1) (at_set vs id j l u old))
+            (λ new. subst (Each number F) new both.1)
+            (at_snoc (set vs id l) r u j g);
       }

@@ -107,27 +107,27 @@ module _ {V Q : Type 0} (keeps : ℕ → V → Type 0) (grows : V → V → Type
       let nobody : (u : ℕ) → ¬ Holds (w.threads.pass u) l = λ u h. (let f : w.locks.owner l ≡ suc u = (ok.threads u).holds l h in omega arith) in
       let long : l < length xs = (let f = (ok.threads t).long in omega arith) in
       makes keeps grows share size s ru id p (gripped p l) g (found_in g l y) [] [] e (Saw true)
-        (turned w t p1 awake l (suc t) (w.locks.parked l) (w.locks.root l)) (put ru.values t (found_in g l y)) (lock_at l) x
-        at refl refl by (λ j. refl) tt
-        (record {
-          words = lock_word n m w s.words ru.stands.words t p1 t awake l (suc t) (w.locks.parked l) (w.locks.root l) x here (ap letter_of (is_awake n m w ok t l fit.0 here up')) is;
-          seats = one_seat n m w ru.values s.views id ru.stands.seats p g at (tells (gripped p l) (length ru.log) e (Saw true)) p1 (found_in g l y) awake l (suc t) (w.locks.parked l) refl (ap (λ z. gripped z l) fit.1);
-          kept = gets n m w ok t l fit.0 here up' unheld aims';
-          lawful = subst (λ (z : ValuesView V). IsLawful keeps grows share n m (λ u k. Holds (put w.threads.pass t p1 u) k) (put ru.values t (found_in z l y)) s.homes) fit.2
+      (turned w t p1 awake l (suc t) (w.locks.parked l) (w.locks.root l)) (put ru.values t (found_in g l y)) (lock_at l) x
+      at refl refl by (λ j. refl) tt
+      (record {
+        words = lock_word n m w s.words ru.stands.words t p1 t awake l (suc t) (w.locks.parked l) (w.locks.root l) x here (ap letter_of (is_awake n m w ok t l fit.0 here up')) is;
+        seats = one_seat n m w ru.values s.views id ru.stands.seats p g at (tells (gripped p l) (length ru.log) e (Saw true)) p1 (found_in g l y) awake l (suc t) (w.locks.parked l) refl (ap (λ z. gripped z l) fit.1);
+        kept = gets n m w ok t l fit.0 here up' unheld aims';
+        lawful = subst (λ (z : ValuesView V). IsLawful keeps grows share n m (λ u k. Holds (put w.threads.pass t p1 u) k) (put ru.values t (found_in z l y)) s.homes) fit.2
             (gets_value keeps grows share n m (PassHolds w) ru.values s.homes ru.stands.lawful t l fit.0 here itself (λ u k. Holds (put w.threads.pass t p1 u) k) nobody
-              (λ u. put_elim (λ x. Holds x l → u ≡ t) w.threads.pass t p1 u (λ ut _. ut) (λ _ h. absurd (nobody u h)))
-              (subst (λ (x : LockPassView). Holds x l) (sym (put_same w.threads.pass t p1 t refl)) (subst IsHeld (sym (get_or-set_same xs l Held NotHeld long)) tt))
-              (λ u k ne. held_before w.threads.pass t p1 k (holds_else xs l k Held ne) u)
-              (λ u k ne. held_after w.threads.pass t p1 k (holds_still xs l k Held ne) u))
-        })
-        row
+            (λ u. put_elim (λ x. Holds x l → u ≡ t) w.threads.pass t p1 u (λ ut _. ut) (λ _ h. absurd (nobody u h)))
+            (subst (λ (x : LockPassView). Holds x l) (sym (put_same w.threads.pass t p1 t refl)) (subst IsHeld (sym (get_or-set_same xs l Held NotHeld long)) tt))
+            (λ u k ne. held_before w.threads.pass t p1 k (holds_else xs l k Held ne) u)
+            (λ u k ne. held_after w.threads.pass t p1 k (holds_still xs l k Held ne) u));
+      })
+      row
 
   pub got_value : ru.world.locks.owner l ≡ 0 → FoundOk keeps grows share l p.thread g (ru.stands.lawful.value l)
   got_value unheld =
       let fit = fit_of keeps grows share size s ru id p g [] at in
       subst (λ (z : ValuesView V). FoundOk keeps grows share l p.thread z (ru.stands.lawful.value l)) fit.2
-        (finds_value keeps grows share size.threads size.locks (PassHolds ru.world) ru.values s.homes ru.stands.lawful p.thread l fit.0 here
-          (λ h. (let f : ru.world.locks.owner l ≡ suc p.thread = (ru.stands.kept.threads p.thread).holds l h in omega arith)))
+      (finds_value keeps grows share size.threads size.locks (PassHolds ru.world) ru.values s.homes ru.stands.lawful p.thread l fit.0 here
+      (λ h. (let f : ru.world.locks.owner l ≡ suc p.thread = (ru.stands.kept.threads p.thread).holds l h in omega arith)))
 
   -- the pass wants the lock, which is held
   pub wants_rule : ru.world.locks.owner l ≢ 0 → (x : ℕ) → x ≡ word_of (ru.world.locks.owner l) (ru.world.locks.parked l)
@@ -143,15 +143,15 @@ module _ {V Q : Type 0} (keeps : ℕ → V → Type 0) (grows : V → V → Type
       let p1 : LockPassView = wishing (w.threads.pass t) l in
       let ok = ru.stands.kept in
       makes keeps grows share size s ru id p (wishing p l) g g [] [] (Take t l) (Saw false)
-        (turned w t p1 awake l (w.locks.owner l) (w.locks.parked l) (w.locks.root l)) (put ru.values t g) (lock_at l) x
-        at refl refl refl (λ j. refl) tt
-        (record {
-          words = lock_word n m w s.words ru.stands.words t p1 t awake l (w.locks.owner l) (w.locks.parked l) (w.locks.root l) x here (ap letter_of (is_awake n m w ok t l fit.0 here up')) is;
-          seats = one_seat n m w ru.values s.views id ru.stands.seats p g at (tells (wishing p l) (length ru.log) (Take t l) (Saw false)) p1 g awake l (w.locks.owner l) (w.locks.parked l) refl (ap (λ z. wishing z l) fit.1);
-          kept = wants n m w ok t l fit.0 here up' held aims';
-          lawful = same_lawful keeps grows share size s ru id t p1 g (λ k h. h) (λ k h. h) fit.2
-        })
-        (row_take_held n m w ok t l fit.0 here up' aims' held)
+      (turned w t p1 awake l (w.locks.owner l) (w.locks.parked l) (w.locks.root l)) (put ru.values t g) (lock_at l) x
+      at refl refl refl (λ j. refl) tt
+      (record {
+        words = lock_word n m w s.words ru.stands.words t p1 t awake l (w.locks.owner l) (w.locks.parked l) (w.locks.root l) x here (ap letter_of (is_awake n m w ok t l fit.0 here up')) is;
+        seats = one_seat n m w ru.values s.views id ru.stands.seats p g at (tells (wishing p l) (length ru.log) (Take t l) (Saw false)) p1 g awake l (w.locks.owner l) (w.locks.parked l) refl (ap (λ z. wishing z l) fit.1);
+        kept = wants n m w ok t l fit.0 here up' held aims';
+        lawful = same_lawful keeps grows share size s ru id t p1 g (λ k h. h) (λ k h. h) fit.2;
+      })
+      (row_take_held n m w ok t l fit.0 here up' aims' held)
 
   -- the pass found the lock held, and wants nothing
   pub tries_rule : p.aim ≡ None → ru.world.locks.owner l ≢ 0 → (x : ℕ) → x ≡ word_of (ru.world.locks.owner l) (ru.world.locks.parked l)
@@ -160,8 +160,8 @@ module _ {V Q : Type 0} (keeps : ℕ → V → Type 0) (grows : V → V → Type
       let fit = fit_of keeps grows share size s ru id p g [] at in
       let up' = up_of keeps grows share size s ru id p g [] at up in
       makes keeps grows share size s ru id p p g g [] [] (Try p.thread l) (Saw false) ru.world ru.values (lock_at l) x at refl refl refl (λ j. refl) tt
-        (stays_put keeps grows share size s ru id (Pass p g ∷ []) (Pass (tells p (length ru.log) (Try p.thread l) (Saw false)) g ∷ []) (lock_at l) x at (ru.stands.words.locks l here ∙ sym is) (λ j. refl) (fit, tt))
-        (row_try_held size.threads size.locks ru.world ru.stands.kept p.thread l fit.0 here up' (aim_of keeps grows share size s ru id p g [] at ∙ aim) held)
+      (stays_put keeps grows share size s ru id (Pass p g ∷ []) (Pass (tells p (length ru.log) (Try p.thread l) (Saw false)) g ∷ []) (lock_at l) x at (ru.stands.words.locks l here ∙ sym is) (λ j. refl) (fit, tt))
+      (row_try_held size.threads size.locks ru.world ru.stands.kept p.thread l fit.0 here up' (aim_of keeps grows share size s ru id p g [] at ∙ aim) held)
 
 module _ {V Q : Type 0} (keeps : ℕ → V → Type 0) (grows : V → V → Type 0) (share : ℕ → V → Q) (itself : (x : V) → grows x x) (size : Size) (slots id l : ℕ) (here : l < size.locks) where
   takes_at : (p : LockPassView) (g : ValuesView V) → p.asleep ≡ false → Aims p l
@@ -173,27 +173,27 @@ module _ {V Q : Type 0} (keeps : ℕ → V → Type 0) (grows : V → V → Type
       let up' = up_of keeps grows share size s ru id p g [] at up in
       let aims' = aims_of keeps grows share size s ru id p g [] at l aims in
       ⊎_elim
-        (λ unheld.
-          let r : get_or s.words (lock_at l) 0 ≡ word_of 0 b = found ∙ ap (λ o. word_of o b) unheld in
-          let u : is_unheld (get_or s.words (lock_at l) 0) ≡ true = ap is_unheld r ∙ free_unheld b in (
-            Pass (tells (gripped p l) (length ru.log) (Take p.thread l) (Saw true)) (found_in g l (ru.stands.lawful.value l)) ∷ [],
-            keep_act,
-            tt,
-            got_rule keeps grows share itself size s ru id p g at l here up aims (Take p.thread l) refl unheld
-              (row_take_free size.threads size.locks ru.world ru.stands.kept p.thread l near here up' aims' unheld) (bit_or (get_or s.words (lock_at l) 0) 1) (ap (λ z. bit_or z 1) r ∙ or_free p.thread b),
-            λ l' e _. let q : l' ≡ l = omega arith in rw (q, u) ((refl, refl), (length ru.log, refl), λ z z'. (ru.stands.lawful.value l, record { found = got_value keeps grows share itself size s ru id p g at l here up aims unheld; values = refl })),
-          ))
-        (λ held.
-          let r : get_or s.words (lock_at l) 0 ≡ word_of (suc held.0) b = found ∙ ap (λ o. word_of o b) held.1 in
-          let is_held : ru.world.locks.owner l ≢ 0 = (λ z. omega (arith, held.1)) in
-          let u : is_unheld (get_or s.words (lock_at l) 0) ≡ false = ap is_unheld r ∙ held_not held.0 b in (
-            Pass (tells (wishing p l) (length ru.log) (Take p.thread l) (Saw false)) g ∷ [],
-            keep_act,
-            tt,
-            wants_rule keeps grows share itself size s ru id p g at l here up aims is_held (bit_or (get_or s.words (lock_at l) 0) 1) (ap (λ z. bit_or z 1) r ∙ (or_held held.0 b ∙ ap (λ o. word_of o b) (sym held.1))),
-            λ l' e _. let q : l' ≡ l = omega arith in rw (q, u) ((refl, refl), (length ru.log, refl), λ z z'. refl),
-          ))
-        (owner_cases (ru.world.locks.owner l))
+      (λ unheld.
+      let r : get_or s.words (lock_at l) 0 ≡ word_of 0 b = found ∙ ap (λ o. word_of o b) unheld in
+      let u : is_unheld (get_or s.words (lock_at l) 0) ≡ true = ap is_unheld r ∙ free_unheld b in (
+        Pass (tells (gripped p l) (length ru.log) (Take p.thread l) (Saw true)) (found_in g l (ru.stands.lawful.value l)) ∷ [],
+        keep_act,
+        tt,
+        got_rule keeps grows share itself size s ru id p g at l here up aims (Take p.thread l) refl unheld
+            (row_take_free size.threads size.locks ru.world ru.stands.kept p.thread l near here up' aims' unheld) (bit_or (get_or s.words (lock_at l) 0) 1) (ap (λ z. bit_or z 1) r ∙ or_free p.thread b),
+        λ l' e _. let q : l' ≡ l = omega arith in rw (q, u) ((refl, refl), (length ru.log, refl), λ z z'. (ru.stands.lawful.value l, record { found = got_value keeps grows share itself size s ru id p g at l here up aims unheld; values = refl })),
+      ))
+      (λ held.
+      let r : get_or s.words (lock_at l) 0 ≡ word_of (suc held.0) b = found ∙ ap (λ o. word_of o b) held.1 in
+      let is_held : ru.world.locks.owner l ≢ 0 = (λ z. omega (arith, held.1)) in
+      let u : is_unheld (get_or s.words (lock_at l) 0) ≡ false = ap is_unheld r ∙ held_not held.0 b in (
+        Pass (tells (wishing p l) (length ru.log) (Take p.thread l) (Saw false)) g ∷ [],
+        keep_act,
+        tt,
+        wants_rule keeps grows share itself size s ru id p g at l here up aims is_held (bit_or (get_or s.words (lock_at l) 0) 1) (ap (λ z. bit_or z 1) r ∙ (or_held held.0 b ∙ ap (λ o. word_of o b) (sym held.1))),
+        λ l' e _. let q : l' ≡ l = omega arith in rw (q, u) ((refl, refl), (length ru.log, refl), λ z z'. refl),
+      ))
+      (owner_cases (ru.world.locks.owner l))
 
   tries_at : (p : LockPassView) (g : ValuesView V) → p.asleep ≡ false → p.aim ≡ None
       → Allows (Ruled keeps grows share size) slots id (Pass p g ∷ [], []) (lock_at l) (λ r. bit_or r 1) (tried keeps grows share (step slots (lock_at l) 1 0 none) (Pass p g ∷ [], []))
@@ -205,27 +205,27 @@ module _ {V Q : Type 0} (keeps : ℕ → V → Type 0) (grows : V → V → Type
       let aim' = aim_of keeps grows share size s ru id p g [] at ∙ aim in
       let aims : Aims p l = λ k e. absurd (let f : None ≡ Some k = sym aim ∙ e in cc) in
       ⊎_elim
-        (λ unheld.
-          let r : get_or s.words (lock_at l) 0 ≡ word_of 0 b = found ∙ ap (λ o. word_of o b) unheld in
-          let u : is_unheld (get_or s.words (lock_at l) 0) ≡ true = ap is_unheld r ∙ free_unheld b in (
-            Pass (tells (gripped p l) (length ru.log) (Try p.thread l) (Saw true)) (found_in g l (ru.stands.lawful.value l)) ∷ [],
-            keep_act,
-            tt,
-            got_rule keeps grows share itself size s ru id p g at l here up aims (Try p.thread l) refl unheld
-              (row_try_free size.threads size.locks ru.world ru.stands.kept p.thread l near here up' aim' unheld) (bit_or (get_or s.words (lock_at l) 0) 1) (ap (λ z. bit_or z 1) r ∙ or_free p.thread b),
-            λ l' e _. let q : l' ≡ l = omega arith in rw (q, u) ((refl, refl), (length ru.log, refl), λ z z'. (ru.stands.lawful.value l, record { found = got_value keeps grows share itself size s ru id p g at l here up aims unheld; values = refl })),
-          ))
-        (λ held.
-          let r : get_or s.words (lock_at l) 0 ≡ word_of (suc held.0) b = found ∙ ap (λ o. word_of o b) held.1 in
-          let is_held : ru.world.locks.owner l ≢ 0 = (λ z. omega (arith, held.1)) in
-          let u : is_unheld (get_or s.words (lock_at l) 0) ≡ false = ap is_unheld r ∙ held_not held.0 b in (
-            Pass (tells p (length ru.log) (Try p.thread l) (Saw false)) g ∷ [],
-            keep_act,
-            tt,
-            tries_rule keeps grows share itself size s ru id p g at l here up aims aim is_held (bit_or (get_or s.words (lock_at l) 0) 1) (ap (λ z. bit_or z 1) r ∙ (or_held held.0 b ∙ ap (λ o. word_of o b) (sym held.1))),
-            λ l' e _. let q : l' ≡ l = omega arith in rw (q, u) ((refl, refl), (length ru.log, refl), λ z z'. refl),
-          ))
-        (owner_cases (ru.world.locks.owner l))
+      (λ unheld.
+      let r : get_or s.words (lock_at l) 0 ≡ word_of 0 b = found ∙ ap (λ o. word_of o b) unheld in
+      let u : is_unheld (get_or s.words (lock_at l) 0) ≡ true = ap is_unheld r ∙ free_unheld b in (
+        Pass (tells (gripped p l) (length ru.log) (Try p.thread l) (Saw true)) (found_in g l (ru.stands.lawful.value l)) ∷ [],
+        keep_act,
+        tt,
+        got_rule keeps grows share itself size s ru id p g at l here up aims (Try p.thread l) refl unheld
+            (row_try_free size.threads size.locks ru.world ru.stands.kept p.thread l near here up' aim' unheld) (bit_or (get_or s.words (lock_at l) 0) 1) (ap (λ z. bit_or z 1) r ∙ or_free p.thread b),
+        λ l' e _. let q : l' ≡ l = omega arith in rw (q, u) ((refl, refl), (length ru.log, refl), λ z z'. (ru.stands.lawful.value l, record { found = got_value keeps grows share itself size s ru id p g at l here up aims unheld; values = refl })),
+      ))
+      (λ held.
+      let r : get_or s.words (lock_at l) 0 ≡ word_of (suc held.0) b = found ∙ ap (λ o. word_of o b) held.1 in
+      let is_held : ru.world.locks.owner l ≢ 0 = (λ z. omega (arith, held.1)) in
+      let u : is_unheld (get_or s.words (lock_at l) 0) ≡ false = ap is_unheld r ∙ held_not held.0 b in (
+        Pass (tells p (length ru.log) (Try p.thread l) (Saw false)) g ∷ [],
+        keep_act,
+        tt,
+        tries_rule keeps grows share itself size s ru id p g at l here up aims aim is_held (bit_or (get_or s.words (lock_at l) 0) 1) (ap (λ z. bit_or z 1) r ∙ (or_held held.0 b ∙ ap (λ o. word_of o b) (sym held.1))),
+        λ l' e _. let q : l' ≡ l = omega arith in rw (q, u) ((refl, refl), (length ru.log, refl), λ z z'. refl),
+      ))
+      (owner_cases (ru.world.locks.owner l))
 
   pub takes_allows : (me : Me (Option V) (List (Right V))) → OnePass me → (the_pass me.0).asleep ≡ false → Aims (the_pass me.0) l
       → Allows (Ruled keeps grows share size) slots id me (lock_at l) (λ r. bit_or r 1) (taken keeps grows share (step slots (lock_at l) 1 0 none) me)

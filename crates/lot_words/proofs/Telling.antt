@@ -27,17 +27,23 @@ module _ {V Q : Type 0} (keeps : ℕ → V → Type 0) (grows : V → V → Type
       let v : List (Right V) = Pass p g ∷ Pass q h ∷ [] in
       let each = ru.stands.seats.named id v at in
       let other : p.thread ≢ q.thread = (λ e.
-          let here : tick (2 * p.thread == 2 * p.thread) ≡ 1 = ap tick (eq-eqb (2 * p.thread) (2 * p.thread) refl) in
-          let there : tick (2 * q.thread == 2 * p.thread) ≡ 1 = ap tick (eq-eqb (2 * q.thread) (2 * p.thread) (ap (λ t. 2 * t) (sym e))) in
-          absurd (omega (arith, times_one number (2 * p.thread) s.views id v at, ru.stands.seats.once (2 * p.thread)))) in (
+      let here : tick (2 * p.thread == 2 * p.thread) ≡ 1 = ap tick (eq-eqb (2 * p.thread) (2 * p.thread) refl) in
+      let there : tick (2 * q.thread == 2 * p.thread) ≡ 1 = ap tick (eq-eqb (2 * q.thread) (2 * p.thread) (ap (λ t. 2 * t) (sym e))) in
+      absurd (omega (arith, times_one number (2 * p.thread) s.views id v at, ru.stands.seats.once (2 * p.thread)))) in (
         v,
         keep_act,
         tt,
         nothing keeps grows share size s ru id v i _ at refl,
-        (refl, λ _. (other, λ l has has'.
-            let a = (ru.stands.kept.threads p.thread).holds l (subst (λ (x : LockPassView). Holds x l) (sym each.0.1) has) in
-            let b = (ru.stands.kept.threads q.thread).holds l (subst (λ (x : LockPassView). Holds x l) (sym each.1.0.1) has') in
-            other (omega (arith, a, b)))),
+        (
+          refl,
+          λ _. (
+            other,
+            λ l has has'.
+                let a = (ru.stands.kept.threads p.thread).holds l (subst (λ (x : LockPassView). Holds x l) (sym each.0.1) has) in
+                let b = (ru.stands.kept.threads q.thread).holds l (subst (λ (x : LockPassView). Holds x l) (sym each.1.0.1) has') in
+                other (omega (arith, a, b)),
+          ),
+        ),
       )
 
   pub tells_apart : (me : Me (Option V) (List (Right V))) → TwoPasses me → Allows (Ruled keeps grows share size) slots id me i (λ r. r) (told_apart (step slots i 0 0 none) me)
@@ -47,7 +53,7 @@ module _ {V Q : Type 0} (keeps : ℕ → V → Type 0) (grows : V → V → Type
   pub parts_passes : (me : Me (Option V) (List (Right V))) → TwoPasses me → Splits {S = Option V} (Ruled keeps grows share size) id me.0 (take 1 me.0) (drop 1 me.0)
   parts_passes me two = subst (λ (z : Me (Option V) (List (Right V))). Splits {S = Option V} (Ruled keeps grows share size) id z.0 (take 1 z.0) (drop 1 z.0)) (sym two)
       (splits_rule keeps grows share size id (Pass (the_pass me.0) (the_values me.0) ∷ Pass (the_pass (drop 1 me.0)) (the_values (drop 1 me.0)) ∷ []) (Pass (the_pass me.0) (the_values me.0) ∷ [])
-        (Pass (the_pass (drop 1 me.0)) (the_values (drop 1 me.0)) ∷ []) (λ j. omega arith) (λ F e. ((e.0, tt), (e.1.0, tt))))
+      (Pass (the_pass (drop 1 me.0)) (the_values (drop 1 me.0)) ∷ []) (λ j. omega arith) (λ F e. ((e.0, tt), (e.1.0, tt))))
 
 -- ---- joined and parted again
 module _ {V : Type 0} (me you both : Me (Option V) (List (Right V))) (one : OnePass me) (two : OnePass you) (is : both ≡ (me.0 ++ you.0, me.1)) where

@@ -23,10 +23,10 @@ module _ (n m : ℕ) (w : World) (ws : List ℕ) (ok : WordsFit n m w ws) where
   lock_word t p u sp l o b q x near letter is = record {
     wide = length-set ws (lock_at l) x ∙ ok.wide;
     locks = λ k h. by_test (λ c. get_or (set ws (lock_at l) x) (lock_at k) 0 ≡ word_of (cond c o (w.locks.owner k)) (cond c b (w.locks.parked k))) k l
-      (λ e. subst (λ z. get_or (set ws (lock_at l) x) (lock_at z) 0 ≡ word_of o b) (sym e) (get_or-set_same ws (lock_at l) x 0 (let f = ok.wide in omega arith) ∙ is))
-      (λ ne. get_or-set_other ws (lock_at l) (lock_at k) x 0 (λ e. ne (omega arith)) ∙ ok.locks k h);
+        (λ e. subst (λ z. get_or (set ws (lock_at l) x) (lock_at z) 0 ≡ word_of o b) (sym e) (get_or-set_same ws (lock_at l) x 0 (let f = ok.wide in omega arith) ∙ is))
+        (λ ne. get_or-set_other ws (lock_at l) (lock_at k) x 0 (λ e. ne (omega arith)) ∙ ok.locks k h);
     letters = λ v h. get_or-set_other ws (lock_at l) (letter_at m v) x 0 (λ e. omega arith)
-      ∙ (ok.letters v h ∙ put_elim (λ z. letter_of (w.threads.spot v) ≡ letter_of z) w.threads.spot u sp v (λ e. ap (λ z. letter_of (w.threads.spot z)) e ∙ letter) (λ _. refl))
+        ∙ (ok.letters v h ∙ put_elim (λ z. letter_of (w.threads.spot v) ≡ letter_of z) w.threads.spot u sp v (λ e. ap (λ z. letter_of (w.threads.spot z)) e ∙ letter) (λ _. refl));
   }
 
   -- the letter of u changes, and no word of a lock
@@ -36,8 +36,8 @@ module _ (n m : ℕ) (w : World) (ws : List ℕ) (ok : WordsFit n m w ws) where
     wide = length-set ws (letter_at m u) x ∙ ok.wide;
     locks = λ k h. get_or-set_other ws (letter_at m u) (lock_at k) x 0 (λ e. omega arith) ∙ (ok.locks k h ∙ by_test (λ c. word_of (w.locks.owner k) (w.locks.parked k) ≡ word_of (cond c (w.locks.owner l) (w.locks.owner k)) (cond c (w.locks.parked l) (w.locks.parked k))) k l (λ e. ap (λ z. word_of (w.locks.owner z) (w.locks.parked z)) e) (λ _. refl));
     letters = λ v h. put_elim (λ z. get_or (set ws (letter_at m u) x) (letter_at m v) 0 ≡ letter_of z) w.threads.spot u sp v
-      (λ e. subst (λ z. get_or (set ws (letter_at m u) x) (letter_at m z) 0 ≡ letter_of sp) (sym e) (get_or-set_same ws (letter_at m u) x 0 (let f = ok.wide in omega arith) ∙ is))
-      (λ ne. get_or-set_other ws (letter_at m u) (letter_at m v) x 0 (λ e. ne (omega arith)) ∙ ok.letters v h)
+        (λ e. subst (λ z. get_or (set ws (letter_at m u) x) (letter_at m z) 0 ≡ letter_of sp) (sym e) (get_or-set_same ws (letter_at m u) x 0 (let f = ok.wide in omega arith) ∙ is))
+        (λ ne. get_or-set_other ws (letter_at m u) (letter_at m v) x 0 (λ e. ne (omega arith)) ∙ ok.letters v h);
   }
 
 -- ---- seats
@@ -66,13 +66,15 @@ module _ {V : Type 0} (n m : ℕ) (w : World) (values : ℕ → ValuesView V) wh
     one_seat p g at p' p'' g' sp l o b same is =
         let fit : RightFits n m w values (Pass p g) = (ok.named id (Pass p g ∷ []) at).0 in
         reseats number (RightFits n m w values) (RightFits n m (turned w p.thread p'' sp l o b (w.locks.root l)) (put values p.thread g')) vs id (Pass p g ∷ []) (Pass p' g' ∷ []) ok at
-          (λ j. let e : cond (2 * p'.thread == j) 1 0 ≡ cond (2 * p.thread == j) 1 0 = ap (λ z. let y : ℕ = cond (2 * z == j) 1 0 in y) same in omega arith)
-          (λ r none_here. right_stays p.thread p'' g' p.thread sp l o b (w.locks.root l) r (inl (not_here (number r) (2 * p.thread) 0 none_here)) (inr refl))
-          ((
+        (λ j. let e : cond (2 * p'.thread == j) 1 0 ≡ cond (2 * p.thread == j) 1 0 = ap (λ z. let y : ℕ = cond (2 * z == j) 1 0 in y) same in omega arith)
+        (λ r none_here. right_stays p.thread p'' g' p.thread sp l o b (w.locks.root l) r (inl (not_here (number r) (2 * p.thread) 0 none_here)) (inr refl)) (
+          (
             subst (λ z. z < n) (sym same) fit.0,
             put_same w.threads.pass p.thread p'' p'.thread same ∙ is,
             put_same values p.thread g' p'.thread same,
-          ), tt)
+          ),
+          tt,
+        )
 
     -- the seat of a pass and a root
     pub two_seat : (p : LockPassView) (g : ValuesView V) (q : LockRootView) → get_elem? vs id ≡ some (Pass p g ∷ Root q ∷ [])
@@ -83,19 +85,24 @@ module _ {V : Type 0} (n m : ℕ) (w : World) (values : ℕ → ValuesView V) wh
         let fit : RightFits n m w values (Pass p g) = fits.0 in
         let fit_root : RightFits n m w values (Root q) = fits.1.0 in
         reseats number (RightFits n m w values) (RightFits n m (turned2 w p.thread p'' u sp q.key o b q'') (put values p.thread g')) vs id (Pass p g ∷ Root q ∷ []) (Pass p' g' ∷ Root q' ∷ []) ok at
-          (λ j. let e : cond (2 * p'.thread == j) 1 0 ≡ cond (2 * p.thread == j) 1 0 = ap (λ z. let y : ℕ = cond (2 * z == j) 1 0 in y) same in
-            let f : cond (2 * q'.key + 1 == j) 1 0 ≡ cond (2 * q.key + 1 == j) 1 0 = ap (λ z. let y : ℕ = cond (2 * z + 1 == j) 1 0 in y) key in omega arith)
-          (λ r none_here. right_stays p.thread p'' g' u sp q.key o b q'' r
-            (inl (not_here (number r) (2 * p.thread) (times {R = Right V} number (number r) (Root q ∷ [])) none_here))
-            (inl (not_here (number r) (2 * q.key + 1) 0 (omega arith))))
-          ((
+        (λ j. let e : cond (2 * p'.thread == j) 1 0 ≡ cond (2 * p.thread == j) 1 0 = ap (λ z. let y : ℕ = cond (2 * z == j) 1 0 in y) same in
+        let f : cond (2 * q'.key + 1 == j) 1 0 ≡ cond (2 * q.key + 1 == j) 1 0 = ap (λ z. let y : ℕ = cond (2 * z + 1 == j) 1 0 in y) key in omega arith)
+        (λ r none_here. right_stays p.thread p'' g' u sp q.key o b q'' r
+        (inl (not_here (number r) (2 * p.thread) (times {R = Right V} number (number r) (Root q ∷ [])) none_here))
+        (inl (not_here (number r) (2 * q.key + 1) 0 (omega arith)))) (
+          (
             subst (λ z. z < n) (sym same) fit.0,
             put_same w.threads.pass p.thread p'' p'.thread same ∙ is,
             put_same values p.thread g' p'.thread same,
-          ), ((
-            subst (λ z. z < m) (sym key) fit_root.0,
-            put_same w.locks.root q.key q'' q'.key key ∙ root_is,
-          ), tt))
+          ),
+          (
+            (
+              subst (λ z. z < m) (sym key) fit_root.0,
+              put_same w.locks.root q.key q'' q'.key key ∙ root_is,
+            ),
+            tt,
+          ),
+        )
 
     -- the seat of a root
     pub root_seat : (q : LockRootView) → get_elem? vs id ≡ some (Root q ∷ []) → (u : ℕ) (sp : Spot) (o : ℕ) (b : Bool) (q' q'' : LockRootView) → q'.key ≡ q.key → q'' ≡ q'
@@ -103,12 +110,14 @@ module _ {V : Type 0} (n m : ℕ) (w : World) (values : ℕ → ValuesView V) wh
     root_seat q at u sp o b q' q'' key root_is =
         let fit : RightFits n m w values (Root q) = (ok.named id (Root q ∷ []) at).0 in
         reseats number (RightFits n m w values) (RightFits n m (turned w u (w.threads.pass u) sp q.key o b q'') (put values u (values u))) vs id (Root q ∷ []) (Root q' ∷ []) ok at
-          (λ j. let f : cond (2 * q'.key + 1 == j) 1 0 ≡ cond (2 * q.key + 1 == j) 1 0 = ap (λ z. let y : ℕ = cond (2 * z + 1 == j) 1 0 in y) key in omega arith)
-          (λ r none_here. right_stays u (w.threads.pass u) (values u) u sp q.key o b q'' r (inr (refl, refl)) (inl (not_here (number r) (2 * q.key + 1) 0 none_here)))
-          ((
+        (λ j. let f : cond (2 * q'.key + 1 == j) 1 0 ≡ cond (2 * q.key + 1 == j) 1 0 = ap (λ z. let y : ℕ = cond (2 * z + 1 == j) 1 0 in y) key in omega arith)
+        (λ r none_here. right_stays u (w.threads.pass u) (values u) u sp q.key o b q'' r (inr (refl, refl)) (inl (not_here (number r) (2 * q.key + 1) 0 none_here))) (
+          (
             subst (λ z. z < m) (sym key) fit.0,
             put_same w.locks.root q.key q'' q'.key key ∙ root_is,
-          ), tt)
+          ),
+          tt,
+        )
 
 -- ---- who holds
 pub held_before : (pass : ℕ → LockPassView) (t : ℕ) (p : LockPassView) (k : ℕ) → (Holds p k → Holds (pass t) k) → (u : ℕ) → Holds (put pass t p u) k → Holds (pass u) k
@@ -140,8 +149,8 @@ pub wants_stay : (w : World) (t : ℕ) (p : LockPassView) (u : ℕ) (sp : Spot) 
     → (v : ℕ) → wants_of (put w.threads.spot u sp v) (put w.threads.pass t p v).aim ≡ (part_of w).wants v
 wants_stay w t p u sp aim e v =
     put_elim (λ x. wants_of (put w.threads.spot u sp v) x.aim ≡ wants_of (w.threads.spot v) (w.threads.pass v).aim) w.threads.pass t p v
-      (λ vt. ap (wants_of (put w.threads.spot u sp v)) (aim ∙ ap (λ z. (w.threads.pass z).aim) (sym vt)) ∙ spot) (λ _. spot)
-    where
+    (λ vt. ap (wants_of (put w.threads.spot u sp v)) (aim ∙ ap (λ z. (w.threads.pass z).aim) (sym vt)) ∙ spot) (λ _. spot)
+  where
     spot : wants_of (put w.threads.spot u sp v) (w.threads.pass v).aim ≡ wants_of (w.threads.spot v) (w.threads.pass v).aim
     spot = put_elim (λ x. wants_of x (w.threads.pass v).aim ≡ wants_of (w.threads.spot v) (w.threads.pass v).aim) w.threads.spot u sp v
-      (λ vu. subst (λ z. wants_of sp (w.threads.pass z).aim ≡ wants_of (w.threads.spot z) (w.threads.pass z).aim) (sym vu) e) (λ _. refl)
+        (λ vu. subst (λ z. wants_of sp (w.threads.pass z).aim ≡ wants_of (w.threads.spot z) (w.threads.pass z).aim) (sym vu) e) (λ _. refl)

@@ -48,12 +48,12 @@ begins_with k (x ∷ log) (y ∷ log') ys p p' h =
     let t : ℕ = maker x.event in
     let e : events_of t (y ∷ log') ≡ x ∷ events_of t (log ++ ys) = h t ∙ one_of_mine t x refl (log ++ ys) in
     let same : maker y.event ≡ t = dite (ℕ_discrete (maker y.event) t) (λ mine. mine)
-        (λ other. let far : k + 1 ≤ x.at = later (k + 1) log' p'.1 t x (events_of t (log ++ ys)) (sym (one_of_others t y other log') ∙ e) in absurd (omega (arith, p.0))) in
+    (λ other. let far : k + 1 ≤ x.at = later (k + 1) log' p'.1 t x (events_of t (log ++ ys)) (sym (one_of_others t y other log') ∙ e) in absurd (omega (arith, p.0))) in
     let e' : y ∷ events_of t log' ≡ x ∷ events_of t (log ++ ys) = sym (one_of_mine t y same log') ∙ e in
     let head : y ≡ x = cons_head y x (events_of t log') (events_of t (log ++ ys)) e' in
     let rest : (u : ℕ) → events_of u log' ≡ events_of u (log ++ ys) = (λ u. dite (ℕ_discrete t u)
-        (λ here. subst (λ w. events_of w log' ≡ events_of w (log ++ ys)) here (cons_tail y x (events_of t log') (events_of t (log ++ ys)) e'))
-        (λ else. sym (one_of_others u y (λ q. else (sym same ∙ q)) log') ∙ (h u ∙ one_of_others u x else (log ++ ys)))) in
+    (λ here. subst (λ w. events_of w log' ≡ events_of w (log ++ ys)) here (cons_tail y x (events_of t log') (events_of t (log ++ ys)) e'))
+    (λ else. sym (one_of_others u y (λ q. else (sym same ∙ q)) log') ∙ (h u ∙ one_of_others u x else (log ++ ys)))) in
     let more = begins_with (k + 1) log log' ys p.1 p'.1 rest in
     (more.0, ((ap (λ z. z ∷ log') head ∙ ap (λ zs. x ∷ zs) more.1.0), more.1.1))
 
@@ -72,11 +72,11 @@ just_one x [] h = absurd (nil_cons x [] (h (maker x.event) ∙ one_of_mine (make
 just_one x (z ∷ zs) h =
     let t : ℕ = maker z.event in
     let same : maker x.event ≡ t = dite (ℕ_discrete (maker x.event) t) (λ mine. mine)
-        (λ other. absurd (nil_cons z (events_of t zs) (sym (sym (one_of_mine t z refl zs) ∙ (h t ∙ one_of_others t x other []))))) in
+    (λ other. absurd (nil_cons z (events_of t zs) (sym (sym (one_of_mine t z refl zs) ∙ (h t ∙ one_of_others t x other []))))) in
     let e : z ∷ events_of t zs ≡ x ∷ [] = sym (one_of_mine t z refl zs) ∙ (h t ∙ one_of_mine t x same []) in
     let none : zs ≡ [] = none_at_all zs (λ u. dite (ℕ_discrete t u)
-        (λ here. subst (λ w. events_of w zs ≡ []) here (cons_tail z x (events_of t zs) [] e))
-        (λ else. sym (one_of_others u z else zs) ∙ (h u ∙ one_of_others u x (λ q. else (sym same ∙ q)) []))) in
+    (λ here. subst (λ w. events_of w zs ≡ []) here (cons_tail z x (events_of t zs) [] e))
+    (λ else. sym (one_of_others u z else zs) ∙ (h u ∙ one_of_others u x (λ q. else (sym same ∙ q)) []))) in
     ap (λ w. w ∷ zs) (cons_head z x (events_of t zs) [] e) ∙ ap (λ ws. x ∷ ws) none
 
 pub one_more_log : (log log' : List Made) (x : Made) → Placed 0 log → Placed 0 log' → ((t : ℕ) → events_of t log' ≡ events_of t (log ++ x ∷ [])) → log' ≡ log ++ x ∷ []
@@ -124,9 +124,9 @@ module _ {R : Type 0} (number : R → ℕ) (shown : R → Entries) where
   same_events shows log log' views l l' t = dite (ℕ_discrete (times_in number (2 * t) views) 0)
       (λ z. l'.known t z ∙ sym (l.known t z))
       (λ ne. let at = somewhere (2 * t) views ne in
-          let r = right_in (Noted number shown log) (Noted number shown log') (2 * t) at.1.0 at.1.1.1 (l.told.named at.0 at.1.0 at.1.1.0) (l'.told.named at.0 at.1.0 at.1.1.0) in
-          let m = shows r.0 t r.1.0 in
-          sym (subst (EntriesFit log') m.1 r.1.1.1) ∙ subst (EntriesFit log) m.1 r.1.1.0)
+      let r = right_in (Noted number shown log) (Noted number shown log') (2 * t) at.1.0 at.1.1.1 (l.told.named at.0 at.1.0 at.1.1.0) (l'.told.named at.0 at.1.0 at.1.1.0) in
+      let m = shows r.0 t r.1.0 in
+      sym (subst (EntriesFit log') m.1 r.1.1.1) ∙ subst (EntriesFit log) m.1 r.1.1.0)
 
   module _ {P : Type 0} (Step : P → Event → Seen → P → Type 0) (first : P) (shows : NumbersShow) where
     -- the rights settle the history
@@ -141,7 +141,7 @@ module _ {R : Type 0} (number : R → ℕ) (shown : R → Entries) where
       one_more pn x t made r r' v v' at by was is same quiet ok' =
           let l : Listed number shown (log ++ x ∷ []) (set views id (r' ∷ v')) = listed_more number shown log views id pn x t made r r' v v' ok.listed at by was is same quiet in
           let e : log' ≡ log ++ x ∷ [] = one_more_log log log' x (run_placed Step first 0 log a ok.run) (run_placed Step first 0 log' b ok'.run)
-                (same_events shows (log ++ x ∷ []) log' (set views id (r' ∷ v')) l ok'.listed) in
+          (same_events shows (log ++ x ∷ []) log' (set views id (r' ∷ v')) l ok'.listed) in
           let last = run_last Step first 0 log x b (subst (λ w. Run Step first 0 w b) e ok'.run) in
           (e, omega (arith, last.1.1.0), subst (λ z. Step z x.event x.seen b) (run_one Step one first 0 log last.0 a last.1.0 ok.run) last.1.1.1)
 

@@ -20,20 +20,22 @@ module _ {V Q : Type 0} (keeps : ℕ → V → Type 0) (grows : V → V → Type
       → ((u : ℕ) → get_elem? (values' u).places k ≡ get_elem? (values u).places k) → ((u : ℕ) → get_elem? (values' u).seen k ≡ get_elem? (values u).seen k)
       → get_elem? homes' k ≡ get_elem? homes k → ValueOk keeps grows share n has values homes k x → ValueOk keeps grows share n has' values' homes' k x
   same_value n has has' values values' homes homes' k x down up places seen home ok = record {
-      kept = ok.kept;
-      idle = λ nobody. home ∙ ok.idle (λ u h. nobody u (up u h));
-      owned = λ u h. let o = ok.owned u (down u h) in record { place = o.place; place_is = places u ∙ o.place_is; home = home ∙ o.home; found = seen u ∙ o.found; lawful = o.lawful };
-      seen = λ u near. let s = ok.seen u near in record { seen = s.seen; seen_is = seen u ∙ s.seen_is; grown = s.grown; mine = λ away. s.mine (λ h. away (up u h)) };
-      witness = let w = ok.witness in (w.0, (w.1.0, seen w.0 ∙ w.1.1));
-    }
+    kept = ok.kept;
+    idle = λ nobody. home ∙ ok.idle (λ u h. nobody u (up u h));
+    owned = λ u h. let o = ok.owned u (down u h) in record { place = o.place; place_is = places u ∙ o.place_is; home = home ∙ o.home; found = seen u ∙ o.found; lawful = o.lawful };
+    seen = λ u near. let s = ok.seen u near in record { seen = s.seen; seen_is = seen u ∙ s.seen_is; grown = s.grown; mine = λ away. s.mine (λ h. away (up u h)) };
+    witness = let w = ok.witness in (w.0, (w.1.0, seen w.0 ∙ w.1.1));
+  }
 
   module _ (n m : ℕ) (has : ℕ → ℕ → Type 0) (values : ℕ → ValuesView V) (homes : List (maybe.Option (Option V))) (ok : IsLawful keeps grows share n m has values homes) where
     -- nobody gets a lock or lets one go
     pub same_values : (has' : ℕ → ℕ → Type 0) → ((t l : ℕ) → has' t l → has t l) → ((t l : ℕ) → has t l → has' t l) → IsLawful keeps grows share n m has' values homes
     same_values has' down up = record {
-        value = ok.value; deep = ok.deep; wide = ok.wide;
-        each = λ l near. same_value n has has' values values homes homes l (ok.value l) (λ u. down u l) (λ u. up u l) (λ u. refl) (λ u. refl) refl (ok.each l near);
-      }
+      value = ok.value;
+      deep = ok.deep;
+      wide = ok.wide;
+      each = λ l near. same_value n has has' values values homes homes l (ok.value l) (λ u. down u l) (λ u. up u l) (λ u. refl) (λ u. refl) refl (ok.each l near);
+    }
 
     -- what t knows, and the slots, change at l alone, whose value is now y
     pub changes_at : (has' : ℕ → ℕ → Type 0) (t l : ℕ) (g : ValuesView V) (homes' : List (maybe.Option (Option V))) (y : V)
@@ -43,18 +45,18 @@ module _ {V Q : Type 0} (keeps : ℕ → V → Type 0) (grows : V → V → Type
         → length homes' ≡ length homes → (length g.places ≡ length (values t).places) × (length g.seen ≡ length (values t).seen)
         → ValueOk keeps grows share n has' (put values t g) homes' l y → IsLawful keeps grows share n m has' (put values t g) homes'
     changes_at has' t l g homes' y down up places seen home deep wide at = record {
-        value = put ok.value l y;
-        deep = deep ∙ ok.deep;
-        each = λ k near. put_cases ok.value l y (λ x. ValueOk keeps grows share n has' (put values t g) homes' k x) k
-            (λ e. subst (λ j. ValueOk keeps grows share n has' (put values t g) homes' j y) (sym e) at)
-            (λ else. same_value n has has' values (put values t g) homes homes' k (ok.value k) (λ u. down u k else) (λ u. up u k else)
-                (λ u. put_cases values t g (λ v. get_elem? v.places k ≡ get_elem? (values u).places k) u (λ e. places k else ∙ ap (λ w. get_elem? (values w).places k) (sym e)) (λ _. refl))
-                (λ u. put_cases values t g (λ v. get_elem? v.seen k ≡ get_elem? (values u).seen k) u (λ e. seen k else ∙ ap (λ w. get_elem? (values w).seen k) (sym e)) (λ _. refl))
-                (home k else) (ok.each k near));
-        wide = λ u near. put_cases values t g (λ v. (length v.places ≡ m) × (length v.seen ≡ m)) u
-            (λ e. let w = ok.wide u near in let same : values u ≡ values t = ap values e in (wide.0 ∙ (ap (λ (v : ValuesView V). length v.places) (sym same) ∙ w.0), wide.1 ∙ (ap (λ (v : ValuesView V). length v.seen) (sym same) ∙ w.1)))
-            (λ _. ok.wide u near);
-      }
+      value = put ok.value l y;
+      deep = deep ∙ ok.deep;
+      each = λ k near. put_cases ok.value l y (λ x. ValueOk keeps grows share n has' (put values t g) homes' k x) k
+          (λ e. subst (λ j. ValueOk keeps grows share n has' (put values t g) homes' j y) (sym e) at)
+          (λ else. same_value n has has' values (put values t g) homes homes' k (ok.value k) (λ u. down u k else) (λ u. up u k else)
+          (λ u. put_cases values t g (λ v. get_elem? v.places k ≡ get_elem? (values u).places k) u (λ e. places k else ∙ ap (λ w. get_elem? (values w).places k) (sym e)) (λ _. refl))
+          (λ u. put_cases values t g (λ v. get_elem? v.seen k ≡ get_elem? (values u).seen k) u (λ e. seen k else ∙ ap (λ w. get_elem? (values w).seen k) (sym e)) (λ _. refl))
+          (home k else) (ok.each k near));
+      wide = λ u near. put_cases values t g (λ v. (length v.places ≡ m) × (length v.seen ≡ m)) u
+          (λ e. let w = ok.wide u near in let same : values u ≡ values t = ap values e in (wide.0 ∙ (ap (λ (v : ValuesView V). length v.places) (sym same) ∙ w.0), wide.1 ∙ (ap (λ (v : ValuesView V). length v.seen) (sym same) ∙ w.1)))
+          (λ _. ok.wide u near);
+    }
 
     module _ (t l : ℕ) (is_thread : t < n) (is_lock : l < m) where
       in_places : l < length (values t).places
@@ -78,19 +80,24 @@ module _ {V Q : Type 0} (keeps : ℕ → V → Type 0) (grows : V → V → Type
           → IsLawful keeps grows share n m has' (put values t (found_in (values t) l (ok.value l))) homes
       gets_value itself has' nobody only mine down up = let e = ok.each l is_lock in let x = ok.value l in let g = found_in (values t) l x in
           changes_at has' t l g homes x down up (λ k else. set_else (values t).places l k (InSlot x) else) (λ k else. set_else (values t).seen l k x else) (λ k else. refl) refl
-            (length-set (values t).places l (InSlot x), length-set (values t).seen l x)
-            record {
-              kept = e.kept;
-              idle = λ away. absurd (away t mine);
-              owned = λ u h. put_cases values t g (λ v. OwnerOk keeps grows share homes l u v x) u
-                  (λ _. record { place = InSlot x; place_is = set_here (values t).places l (InSlot x) in_places; home = e.idle nobody; found = set_here (values t).seen l x in_seen;
-                      lawful = record { kept = e.kept; grown = itself x; others = λ w ne. refl } })
-                  (λ else. absurd (else (only u h)));
-              seen = λ u near. put_cases values t g (λ v. SeenOk keeps grows share (has' u l) l u v x) u
-                  (λ _. record { seen = x; seen_is = set_here (values t).seen l x in_seen; grown = itself x; mine = λ away. refl })
-                  (λ else. let s = e.seen u near in record { seen = s.seen; seen_is = s.seen_is; grown = s.grown; mine = λ away. s.mine (nobody u) });
-              witness = (t, (is_thread, subst (λ v. HasSeen v l x) (sym (put_here values t g)) (set_here (values t).seen l x in_seen)));
-            }
+          (length-set (values t).places l (InSlot x), length-set (values t).seen l x)
+          record {
+            kept = e.kept;
+            idle = λ away. absurd (away t mine);
+            owned = λ u h. put_cases values t g (λ v. OwnerOk keeps grows share homes l u v x) u
+                (λ _. record {
+                  place = InSlot x;
+                  place_is = set_here (values t).places l (InSlot x) in_places;
+                  home = e.idle nobody;
+                  found = set_here (values t).seen l x in_seen;
+                  lawful = record { kept = e.kept; grown = itself x; others = λ w ne. refl };
+                })
+                (λ else. absurd (else (only u h)));
+            seen = λ u near. put_cases values t g (λ v. SeenOk keeps grows share (has' u l) l u v x) u
+                (λ _. record { seen = x; seen_is = set_here (values t).seen l x in_seen; grown = itself x; mine = λ away. refl })
+                (λ else. let s = e.seen u near in record { seen = s.seen; seen_is = s.seen_is; grown = s.grown; mine = λ away. s.mine (nobody u) });
+            witness = (t, (is_thread, subst (λ v. HasSeen v l x) (sym (put_here values t g)) (set_here (values t).seen l x in_seen)));
+          }
 
       -- t lets l go, with the value y in its slot
       pub leaves_value : ((x : V) → grows x x) → ((a b c : V) → grows a b → grows b c → grows a c) → (has' : ℕ → ℕ → Type 0) → (y : V) → has t l → IsIn (values t) l y → ((u : ℕ) → ¬ has' u l)
@@ -100,16 +107,16 @@ module _ {V Q : Type 0} (keeps : ℕ → V → Type 0) (grows : V → V → Type
           let o = e.owned t h in let p : o.place ≡ InSlot y = some-injective o.place (InSlot y) (sym o.place_is ∙ lies) in
           let may : MayLeave keeps grows share l t x y = subst (λ pl. MayLie keeps grows share l t x pl) p o.lawful in
           changes_at has' t l g homes y down up (λ k else. refl) (λ k else. set_else (values t).seen l k y else) (λ k else. refl) refl
-            (refl, length-set (values t).seen l y)
-            record {
-              kept = may.kept;
-              idle = λ _. o.home ∙ ap (λ pl. some (home_of pl)) p;
-              owned = λ u h'. absurd (nobody u h');
-              seen = λ u near. put_cases values t g (λ v. SeenOk keeps grows share (has' u l) l u v y) u
-                  (λ _. record { seen = y; seen_is = set_here (values t).seen l y in_seen; grown = itself y; mine = λ away. refl })
-                  (λ else. let s = e.seen u near in record { seen = s.seen; seen_is = s.seen_is; grown = on s.seen x y s.grown may.grown; mine = λ away. s.mine (λ had. else (only u had)) ∙ may.others u else });
-              witness = (t, (is_thread, subst (λ v. HasSeen v l y) (sym (put_here values t g)) (set_here (values t).seen l y in_seen)));
-            }
+          (refl, length-set (values t).seen l y)
+          record {
+            kept = may.kept;
+            idle = λ _. o.home ∙ ap (λ pl. some (home_of pl)) p;
+            owned = λ u h'. absurd (nobody u h');
+            seen = λ u near. put_cases values t g (λ v. SeenOk keeps grows share (has' u l) l u v y) u
+                (λ _. record { seen = y; seen_is = set_here (values t).seen l y in_seen; grown = itself y; mine = λ away. refl })
+                (λ else. let s = e.seen u near in record { seen = s.seen; seen_is = s.seen_is; grown = on s.seen x y s.grown may.grown; mine = λ away. s.mine (λ had. else (only u had)) ∙ may.others u else });
+            witness = (t, (is_thread, subst (λ v. HasSeen v l y) (sym (put_here values t g)) (set_here (values t).seen l y in_seen)));
+          }
 
       -- the value of l, which t has, moves to the place pl
       pub moves_value : (pl : Place V) → has t l → ((u : ℕ) → has u l → u ≡ t) → MayLie keeps grows share l t (ok.value l) pl
@@ -117,18 +124,18 @@ module _ {V Q : Type 0} (keeps : ℕ → V → Type 0) (grows : V → V → Type
       moves_value pl h only may = let e = ok.each l is_lock in let x = ok.value l in let g = placed (values t) l pl in let home : maybe.Option (Option V) = home_of pl in
           let deep : l < length homes = omega (arith, ok.deep) in
           changes_at has t l g (set homes l home) x (λ u k else a. a) (λ u k else a. a) (λ k else. set_else (values t).places l k pl else) (λ k else. refl) (λ k else. set_else homes l k home else) (length-set homes l home)
-            (length-set (values t).places l pl, refl)
-            record {
-              kept = e.kept;
-              idle = λ away. absurd (away t h);
-              owned = λ u h'. put_cases values t g (λ v. OwnerOk keeps grows share (set homes l home) l u v x) u
-                  (λ same. record { place = pl; place_is = set_here (values t).places l pl in_places; home = set_here homes l home deep; found = (e.owned t h).found; lawful = subst (λ w. MayLie keeps grows share l w x pl) (sym same) may })
-                  (λ else. absurd (else (only u h')));
-              seen = λ u near. let s = e.seen u near in put_cases values t g (λ v. SeenOk keeps grows share (has u l) l u v x) u
-                  (λ same. record { seen = s.seen; seen_is = subst (λ w. get_elem? (values w).seen l ≡ some s.seen) same s.seen_is; grown = s.grown; mine = s.mine })
-                  (λ else. record { seen = s.seen; seen_is = s.seen_is; grown = s.grown; mine = s.mine });
-              witness = let w = e.witness in (w.0, (w.1.0, put_cases values t g (λ v. HasSeen v l x) w.0 (λ same. subst (λ u. HasSeen (values u) l x) same w.1.1) (λ _. w.1.1)));
-            }
+          (length-set (values t).places l pl, refl)
+          record {
+            kept = e.kept;
+            idle = λ away. absurd (away t h);
+            owned = λ u h'. put_cases values t g (λ v. OwnerOk keeps grows share (set homes l home) l u v x) u
+                (λ same. record { place = pl; place_is = set_here (values t).places l pl in_places; home = set_here homes l home deep; found = (e.owned t h).found; lawful = subst (λ w. MayLie keeps grows share l w x pl) (sym same) may })
+                (λ else. absurd (else (only u h')));
+            seen = λ u near. let s = e.seen u near in put_cases values t g (λ v. SeenOk keeps grows share (has u l) l u v x) u
+                (λ same. record { seen = s.seen; seen_is = subst (λ w. get_elem? (values w).seen l ≡ some s.seen) same s.seen_is; grown = s.grown; mine = s.mine })
+                (λ else. record { seen = s.seen; seen_is = s.seen_is; grown = s.grown; mine = s.mine });
+            witness = let w = e.witness in (w.0, (w.1.0, put_cases values t g (λ v. HasSeen v l x) w.0 (λ same. subst (λ u. HasSeen (values u) l x) same w.1.1) (λ _. w.1.1)));
+          }
 
       -- what t has of l, which it holds
       pub owns_value : has t l → OwnerOk keeps grows share homes l t (values t) (ok.value l)

@@ -1,12 +1,15 @@
 pub mod Apart
 pub mod Calls
+pub mod Closing
 pub mod History
 pub mod Opening
 pub mod Plays
 pub mod Rule
 pub mod Seating
+pub mod Settled
 pub mod Shown
 pub mod Slots
+pub mod Sound
 pub mod Start
 pub mod Values
 pub mod World

@@ -45,15 +45,15 @@ module _ {V Q : Type 0} (keeps : ℕ → V → Type 0) (grows : V → V → Type
   abbrev pub taken : Step (Option V) → Me (Option V) (List (Right V)) → ℕ → Me (Option V) (List (Right V)) → Type 0
   taken s me r me' = (l : ℕ) → s.word ≡ lock_at l → OnePass me → SamePass me me'
       × MatchBool (is_unheld r)
-        (Notes (gripped (the_pass me.0) l) (the_pass me'.0) (Take (the_pass me.0).thread l) (Saw true))
-        (Notes (wishing (the_pass me.0) l) (the_pass me'.0) (Take (the_pass me.0).thread l) (Saw false))
+      (Notes (gripped (the_pass me.0) l) (the_pass me'.0) (Take (the_pass me.0).thread l) (Saw true))
+      (Notes (wishing (the_pass me.0) l) (the_pass me'.0) (Take (the_pass me.0).thread l) (Saw false))
       × GotIf (is_unheld r) l me me'
 
   abbrev pub tried : Step (Option V) → Me (Option V) (List (Right V)) → ℕ → Me (Option V) (List (Right V)) → Type 0
   tried s me r me' = (l : ℕ) → s.word ≡ lock_at l → OnePass me → SamePass me me'
       × MatchBool (is_unheld r)
-        (Notes (gripped (the_pass me.0) l) (the_pass me'.0) (Try (the_pass me.0).thread l) (Saw true))
-        (Notes (the_pass me.0) (the_pass me'.0) (Try (the_pass me.0).thread l) (Saw false))
+      (Notes (gripped (the_pass me.0) l) (the_pass me'.0) (Try (the_pass me.0).thread l) (Saw true))
+      (Notes (the_pass me.0) (the_pass me'.0) (Try (the_pass me.0).thread l) (Saw false))
       × GotIf (is_unheld r) l me me'
 
 -- the lock is marked where the word was 1, and else nothing happens

@@ -35,9 +35,9 @@ part_of w = record {
     held = λ l. is_owned (w.locks.owner l);
     parked = w.locks.parked;
     line = λ l. (w.locks.root l).line;
-    has = λ l t. w.locks.owner l == suc t
+    has = λ l t. w.locks.owner l == suc t;
   };
-  wants = λ t. wants_of (w.threads.spot t) (w.threads.pass t).aim
+  wants = λ t. wants_of (w.threads.spot t) (w.threads.pass t).aim;
 }
 
 -- nothing is held, parked, queued or wanted

@@ -5,11 +5,11 @@ ghost use Rattle.lot_words.specs.World.{word_count};
 
 use crate::fault::WordsFault;
 use crate::keeps::Keeps;
+use crate::rights::{LockPass, LockRoot};
+use crate::rule::LockRule;
 use crate::shelf::{shelve, unshelve, zeros};
 use crate::start::Start;
 use crate::views::{Right, Size};
-use crate::rights::{LockPass, LockRoot};
-use crate::rule::LockRule;
 use crate::words::LockWords;
 use atomic_table::{Refused, Seat, Shared, Split, Table};
 use std::alloc::{AllocError, Global};
@@ -27,12 +27,17 @@ impl<V> Split<LinkedList<Right<V>>> for Deal {
     ghost right = { λ v. take 1 v };
 }
 
-type LockShared<V> = Shared<Option<V>, LinkedList<Right<V>>, Start<V>, LockRule>;
+pub(crate) type LockShared<V> = Shared<Option<V>, LinkedList<Right<V>>, Start<V>, LockRule>;
 
-type LockSeat<V> = Seat<Option<V>, LinkedList<Right<V>>>;
+pub(crate) type LockSeat<V> = Seat<Option<V>, LinkedList<Right<V>>>;
 
 /// Gives each thread its pass.
-fn deal_passes<V: Keeps>(shared: &LockShared<V>, seat: &mut LockSeat<V>, threads: usize, passes: &mut Vec<LockPass<V>>)
+fn deal_passes<V: Keeps>(
+    shared: &LockShared<V>,
+    seat: &mut LockSeat<V>,
+    threads: usize,
+    passes: &mut Vec<LockPass<V>>,
+)
     requires table { (seat.old.table_id ≡ shared.now.table_id) × (0 < shared.now.table_id.words) }
     requires shape { shared.now.table_id.words ≡ word_count threads shared.now.table_id.slots }
     requires all { seat.old.me ≡ (passes_from shared.now.key.values.value.items 0 threads ++ roots_from 0 (length shared.now.key.values.value.items), []) }
@@ -49,7 +54,12 @@ fn deal_passes<V: Keeps>(shared: &LockShared<V>, seat: &mut LockSeat<V>, threads
 }
 
 /// Gives each lock its root.
-fn deal_roots<V: Keeps>(shared: &LockShared<V>, seat: &mut LockSeat<V>, locks: usize, roots: &mut Vec<LockRoot<V>>)
+fn deal_roots<V: Keeps>(
+    shared: &LockShared<V>,
+    seat: &mut LockSeat<V>,
+    locks: usize,
+    roots: &mut Vec<LockRoot<V>>,
+)
     requires table { (seat.old.table_id ≡ shared.now.table_id) × (0 < shared.now.table_id.words) }
     requires shape { shared.now.table_id.slots ≡ locks }
     requires all { seat.old.me ≡ (roots_from 0 locks, []) }

@@ -45,8 +45,14 @@ impl<V: Keeps> LockWords<V> {
         ensures rights { result.me ≡ (Pass pass.pass pass.values ∷ Root root.root ∷ [], []) }
         ensures near { (letter_at result.table_id.slots pass.pass.thread < result.table_id.words) × (root.root.key < result.table_id.slots) × OwesNear result.table_id root.root }
     {
-        let LockPass { mut seat, thread: _ } = pass;
-        let LockRoot { seat: other, key: _ } = root;
+        let LockPass {
+            mut seat,
+            thread: _,
+        } = pass;
+        let LockRoot {
+            seat: other,
+            key: _,
+        } = root;
         self.table.shared.join_seat::<Both>(&mut seat, other);
         seat
     }

@@ -23,10 +23,8 @@ impl<V: Keeps> LockWords<V> {
         let thread = pass.thread();
         let key = root.key();
         let mut seat = self.joined(pass, root);
-        let found = self
-            .table
-            .shared
-            .load::<ParkStep>(&mut seat, word_of_lock(key));
+        let shared = &self.table.shared;
+        let found = shared.load::<ParkStep>(&mut seat, word_of_lock(key));
         let (pass, root) = self.parted(seat, thread, key);
         (pass, root, found == HELD_AND_PARKED)
     }

@@ -19,10 +19,9 @@ impl<V: Keeps> LockWords<V> {
         ensures root { result.root ≡ record root.root { owes = None } }
     {
         let LockRoot { mut seat, key } = root;
-        let letter = token as u64 + 1;
-        self.table
-            .shared
-            .store::<PostStep>(&mut seat, letter_of_thread(self.locks, thread), letter);
+        let shared = &self.table.shared;
+        let place = letter_of_thread(self.locks, thread);
+        shared.store::<PostStep>(&mut seat, place, token as u64 + 1);
         LockRoot { seat, key }
     }
 
@@ -34,10 +33,9 @@ impl<V: Keeps> LockWords<V> {
         ensures { MatchOption result.1 (result.0 ≡ pass) (λ token. Collected V.keeps V.grows V.part pass token result.0) }
     {
         let LockPass { mut seat, thread } = pass;
-        let letter = self
-            .table
-            .shared
-            .swap::<CollectStep>(&mut seat, letter_of_thread(self.locks, thread), NO_LETTER);
+        let shared = &self.table.shared;
+        let own = letter_of_thread(self.locks, thread);
+        let letter = shared.swap::<CollectStep>(&mut seat, own, NO_LETTER);
         if letter == NO_LETTER {
             return (LockPass { seat, thread }, None);
         }

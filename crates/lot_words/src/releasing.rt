@@ -25,13 +25,7 @@ fn word_after(first: Option<usize>, more: bool) -> u64
 {
     match first {
         None => UNHELD,
-        Some(_) => {
-            if more {
-                PARKED
-            } else {
-                UNHELD
-            }
-        }
+        Some(_) => { if more { PARKED } else { UNHELD } }
     }
 }
 
@@ -51,10 +45,9 @@ impl<V: Keeps> LockWords<V> {
             (result.0.values ≡ pass.values) }
     {
         let LockPass { mut seat, thread } = pass;
-        let found = self
-            .table
-            .shared
-            .compare_exchange::<FreeStep>(&mut seat, word_of_lock(key), HELD, UNHELD);
+        let shared = &self.table.shared;
+        let word = word_of_lock(key);
+        let found = shared.compare_exchange::<FreeStep>(&mut seat, word, HELD, UNHELD);
         (LockPass { seat, thread }, found == HELD)
     }
 
@@ -80,14 +73,13 @@ impl<V: Keeps> LockWords<V> {
         ensures near { OwesNear seat.new.table_id (the_next_root seat.new.me.0) }
         ensures told { PassedTo fair more self.now.size.threads seat.old.me seat.new.me }
     {
+        let shared = &self.table.shared;
+        let word = word_of_lock(key);
+        let left = word_after(first, more);
         if fair {
-            self.table
-                .shared
-                .load::<PassStep<N>>(seat, word_of_lock(key));
+            shared.load::<PassStep<N>>(seat, word);
         } else {
-            self.table
-                .shared
-                .store::<PassStep<N>>(seat, word_of_lock(key), word_after(first, more));
+            shared.store::<PassStep<N>>(seat, word, left);
         }
     }
 

@@ -44,7 +44,8 @@ impl<V> LockPass<V> {
 
 /// The right to change the line of one lock. Contracts see it as its table and a `LockRootView`.
 ///
-/// It lies in the bucket of its key, and is only taken out while that bucket is locked. It isn't `Drop`: spend it by `LockWords::close`.
+/// It lies in the bucket of its key, and is only taken out while that bucket is locked. Spend it by `LockWords::close`, which asks for all roots.
+#[derive(Drop)]
 pub struct LockRoot<V> {
     pub(crate) seat: Seat<Option<V>, LinkedList<Right<V>>>,
     pub(crate) key: usize,

@@ -1,6 +1,5 @@
 //! Values become what the slots hold, and come back.
 ghost use Rattle.std.specs.Prelude.{◌≡◌, ℕ, ◌+◌, ◌<◌, ◌≤◌, Some, [], map, replicate, vec_len, vec_capacity, IfOk};
-
 ghost use Rattle.lot_words.specs.Opening.{AllSome};
 
 use std::alloc::{AllocError, Global};

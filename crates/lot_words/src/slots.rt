@@ -79,7 +79,12 @@ impl<V: Keeps> LockWords<V> {
 
     // Two loads of a word that nobody writes, between which the slot is out with the seat.
     #[inline]
-    fn exchange_value(&self, pass: LockPass<V>, key: usize, new: Option<V>) -> (LockPass<V>, Option<V>)
+    fn exchange_value(
+        &self,
+        pass: LockPass<V>,
+        key: usize,
+        new: Option<V>,
+    ) -> (LockPass<V>, Option<V>)
         requires table { pass.table ≡ self.now.table }
         requires key { key < self.now.size.locks }
         requires holds { Holds pass.pass key }

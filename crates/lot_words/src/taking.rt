@@ -25,11 +25,10 @@ impl<V: Keeps> LockWords<V> {
             (result.0.values ≡ pass.values) }
     {
         let LockPass { mut seat, thread } = pass;
-        let found = self
-            .table
-            .shared
-            .fetch_or::<TryStep>(&mut seat, word_of_lock(key), HELD);
-        (LockPass { seat, thread }, found % 2 == 0)
+        let shared = &self.table.shared;
+        let found = shared.fetch_or::<TryStep>(&mut seat, word_of_lock(key), HELD);
+        let got = found % 2 == 0;
+        (LockPass { seat, thread }, got)
     }
 
     /// Gets the lock where it is unheld, and else the thread wants it from now on: the first step of WTF's `Lock::lock`, and each
@@ -48,10 +47,8 @@ impl<V: Keeps> LockWords<V> {
             (result.0.values ≡ pass.values) }
     {
         let LockPass { mut seat, thread } = pass;
-        let found = self
-            .table
-            .shared
-            .fetch_or::<TakeStep>(&mut seat, word_of_lock(key), HELD);
+        let shared = &self.table.shared;
+        let found = shared.fetch_or::<TakeStep>(&mut seat, word_of_lock(key), HELD);
         (LockPass { seat, thread }, found % 2 == 0)
     }
 
@@ -68,10 +65,9 @@ impl<V: Keeps> LockWords<V> {
         ensures values { result.0.values ≡ pass.values }
     {
         let LockPass { mut seat, thread } = pass;
-        let found = self
-            .table
-            .shared
-            .compare_exchange::<MarkStep>(&mut seat, word_of_lock(key), HELD, HELD_AND_PARKED);
+        let shared = &self.table.shared;
+        let word = word_of_lock(key);
+        let found = shared.compare_exchange::<MarkStep>(&mut seat, word, HELD, HELD_AND_PARKED);
         (LockPass { seat, thread }, found == HELD)
     }
 }

@@ -6,7 +6,7 @@ use Rattle.lot_words.proofs.shelf.unshelve.Goals as goal
 pub unreachable-requires : goal.unreachable-requires
 unreachable-requires g c =
     all_some_last c.pop.new.self.items
-        (subst AllSome (c.in-Some.ensures.items ∙ ap (λ s. c.pop.new.self.items ++ s ∷ []) c.in_default-slot.is) c.loop-slot.invariant.full)
+    (subst AllSome (c.in-Some.ensures.items ∙ ap (λ s. c.pop.new.self.items ++ s ∷ []) c.in_default-slot.is) c.loop-slot.invariant.full)
 
 pub loop-slot-preserved : goal.loop-slot-preserved
 loop-slot-preserved g c =

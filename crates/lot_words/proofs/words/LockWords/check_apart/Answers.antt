@@ -21,7 +21,7 @@ load-requires g c =
       table,
       omega (arith, c.self.inside.words_are),
       tells_apart g.V.Keeps.keeps g.V.Keeps.grows g.V.Keeps.part c.self.inside.table.shared.key.size c.self.inside.table.shared.table_id.slots c.join_seat.new.seat.id 0 c.join_seat.new.seat.me
-        (joined_two c.first.inside.seat.me c.second.inside.seat.me c.join_seat.new.seat.me c.first.inside.one c.second.inside.one c.join_seat.ensures.2),
+          (joined_two c.first.inside.seat.me c.second.inside.seat.me c.join_seat.new.seat.me c.first.inside.one c.second.inside.one c.join_seat.ensures.2),
     )
 
 pub split_seat-other-requires : goal.split_seat-other-requires

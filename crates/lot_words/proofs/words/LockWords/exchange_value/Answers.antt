@@ -25,7 +25,7 @@ load-requires g c =
       table,
       omega (arith, c.spare_word_of_lock-spare.ensures, c.self.inside.words_are, c.self.inside.size_is),
       rw c.spare_word_of_lock-spare.ensures
-        (take_out g.V.Keeps.keeps g.V.Keeps.grows g.V.Keeps.part c.self.inside.table.shared.key.size c.self.inside.table.shared.table_id.slots c.pass.inside.seat.id c.args.key key
+          (take_out g.V.Keeps.keeps g.V.Keeps.grows g.V.Keeps.part c.self.inside.table.shared.key.size c.self.inside.table.shared.table_id.slots c.pass.inside.seat.id c.args.key key
           me (the_pass me.0) (the_values me.0) c.requires.home.0 c.pass.inside.one holds there c.requires.home.2),
     )
 
@@ -51,7 +51,7 @@ load-requires-2 g c =
       c.exchange-found.ensures.0 ∙ (c.load.ensures.0 ∙ table),
       omega (arith, c.spare_word_of_lock-spare.ensures, c.self.inside.words_are, c.self.inside.size_is),
       rw c.spare_word_of_lock-spare.ensures
-        (give_back g.V.Keeps.keeps g.V.Keeps.grows g.V.Keeps.part c.self.inside.table.shared.key.size c.self.inside.table.shared.table_id.slots c.exchange-found.new.seat.id c.args.key key
+          (give_back g.V.Keeps.keeps g.V.Keeps.grows g.V.Keeps.part c.self.inside.table.shared.key.size c.self.inside.table.shared.table_id.slots c.exchange-found.new.seat.id c.args.key key
           c.exchange-found.new.seat.me (the_pass me.0) moving c.args.new with_new holds lawful),
     )
 
@@ -64,9 +64,10 @@ invariant_of-result g c =
     let with_new = carried_new c.load.new.seat.me (Pass (the_pass me.0) moving ∷ []) c.args.key (in_slot c.requires.home.0) out c.exchange-found.new.seat.me c.args.new c.exchange-found.ensures.3 in
     let back = c.load-2.ensures.2 c.args.key (the_pass me.0) moving c.args.new c.spare_word_of_lock-spare.ensures with_new in
     let now = pass_seen c.load-2.new.seat.me (the_pass me.0) (placed moving c.args.key (place_of c.args.new)) back in
-    let table = c.load-2.ensures.0 ∙ (c.exchange-found.ensures.0 ∙ c.load.ensures.0) in
-    ( one_pass c.load-2.new.seat.me (the_pass me.0) (placed moving c.args.key (place_of c.args.new)) back
-    , (c.pass.inside.thread_is ∙ sym (ap (λ p. p.thread) now.0), (subst (λ z. letter_at z.slots c.pass.inside.thread < z.words) (sym table) c.pass.inside.near, tt)) )
+    let table = c.load-2.ensures.0 ∙ (c.exchange-found.ensures.0 ∙ c.load.ensures.0) in (
+      one_pass c.load-2.new.seat.me (the_pass me.0) (placed moving c.args.key (place_of c.args.new)) back,
+      (c.pass.inside.thread_is ∙ sym (ap (λ p. p.thread) now.0), (subst (λ z. letter_at z.slots c.pass.inside.thread < z.words) (sym table) c.pass.inside.near, tt)),
+    )
 
 pub returns-clause-pass : goal.returns-clause-pass
 returns-clause-pass g c =

@@ -12,15 +12,15 @@ compare_exchange-found-requires g c =
     let key : c.args.key < c.self.inside.table.shared.key.size.locks = subst (λ (x : WordsShown). c.args.key < x.size.locks) (sym c.self.view_is) c.requires.key in
     let has = subst (λ (x : PassShown _). (x.pass.asleep ≡ false) × (x.pass.aim ≡ None) × Holds x.pass c.args.key) (sym c.pass.view_is) c.requires.holds in
     let lies = subst (λ (x : PassShown _). (y : _) × IsIn x.values c.args.key y) (sym c.pass.view_is) c.requires.lies in
-    (table, omega (arith, c.word_of_lock.ensures, c.self.inside.words_are, c.self.inside.size_is), rw c.word_of_lock.ensures (frees_allows g.V.Keeps.keeps g.V.Keeps.grows g.V.Keeps.part c.self.inside.table.shared.key.size c.self.inside.table.shared.table_id.slots c.pass.inside.seat.id c.args.key key g.V.Keeps.grows_itself g.V.Keeps.grows_on c.pass.inside.seat.me c.pass.inside.one has.0 has.1 has.2 lies.0 lies.1))
+    (table, omega (arith, c.word_of_lock-word.ensures, c.self.inside.words_are, c.self.inside.size_is), rw c.word_of_lock-word.ensures (frees_allows g.V.Keeps.keeps g.V.Keeps.grows g.V.Keeps.part c.self.inside.table.shared.key.size c.self.inside.table.shared.table_id.slots c.pass.inside.seat.id c.args.key key g.V.Keeps.grows_itself g.V.Keeps.grows_on c.pass.inside.seat.me c.pass.inside.one has.0 has.1 has.2 lies.0 lies.1))
 
 pub invariant_of-result : goal.invariant_of-result
 invariant_of-result g c =
-    let told = c.compare_exchange-found.ensures.2 c.args.key c.word_of_lock.ensures c.pass.inside.one in
+    let told = c.compare_exchange-found.ensures.2 c.args.key c.word_of_lock-word.ensures c.pass.inside.one in
     (told.0.0, (c.pass.inside.thread_is ∙ sym told.0.1, (rw c.compare_exchange-found.ensures.0 c.pass.inside.near, tt)))
 
 pub returns-clause-event : goal.returns-clause-event
-returns-clause-event g c = rw (← c.pass.view_is) (c.compare_exchange-found.ensures.2 c.args.key c.word_of_lock.ensures c.pass.inside.one).1
+returns-clause-event g c = rw (← c.pass.view_is) (c.compare_exchange-found.ensures.2 c.args.key c.word_of_lock-word.ensures c.pass.inside.one).1
 
 pub returns-clause-values : goal.returns-clause-values
-returns-clause-values g c = rw (← c.pass.view_is) (c.compare_exchange-found.ensures.2 c.args.key c.word_of_lock.ensures c.pass.inside.one).2
+returns-clause-values g c = rw (← c.pass.view_is) (c.compare_exchange-found.ensures.2 c.args.key c.word_of_lock-word.ensures c.pass.inside.one).2
