@@ -1,5 +1,5 @@
 -- A value leaves its slot, and comes back: the rule is kept.
-use Rattle.std.proofs.Common.{◌≡◌, ◌≢◌, ℕ, suc, ◌+◌, ◌*◌, ◌<◌, ◌≤◌, List, [], ◌∷◌, length, get_or, set, Option, Some, None, refl, sym, ap, subst, ◌∙◌, arith, set-set}
+use Rattle.std.proofs.Common.{◌≡◌, ◌≢◌, ℕ, zero, suc, ◌+◌, ◌*◌, ◌<◌, ◌≤◌, List, [], ◌∷◌, length, get_or, set, Option, Some, None, refl, sym, ap, subst, ◌∙◌, arith, set-set}
 use Rattle.std.proofs.lemmas.List.{set-get_or}
 use mathlib.Core.Option.{some, none, some-injective}
 use mathlib.Core.Option as maybe
@@ -60,13 +60,13 @@ module _ {V Q : Type 0} (keeps : ℕ → V → Type 0) (grows : V → V → Type
   -- of the other rights it is the same
   others : (pl : Place V) (r : Right V) → times number (number r) (Pass p g ∷ []) ≡ 0 → RightFits size.threads size.locks ru.world ru.values r
       → RightFits size.threads size.locks ru.world (put ru.values p.thread (placed g l pl)) r
-  others pl (Pass q f) zero ok = (
+  others pl (Pass q f) not_here ok = (
     ok.0,
     ok.1,
     put_else ru.values p.thread (placed g l pl) q.thread
         (λ e. let one : 1 ≤ times number (2 * q.thread) (Pass p g ∷ []) = subst (λ t. 1 ≤ times number (2 * t) (Pass p g ∷ [])) (sym e) (times_head number (Pass p g) []) in absurd (omega arith)) ∙ ok.2,
   )
-  others pl (Root q) zero ok = ok
+  others pl (Root q) not_here ok = ok
 
   pub moves : (pl : Place V) → MayLie keeps grows share l p.thread (ru.stands.lawful.value l) pl → (homes' : List (maybe.Option (Option V))) → homes' ≡ set s.homes l (home_of pl) → (i : ℕ)
       → Ruled keeps grows share size (record { words = set s.words i (get_or s.words i 0); homes = homes'; views = set s.views id (Pass p (placed g l pl) ∷ []) })
@@ -144,3 +144,14 @@ placed_twice g l a b = λ i. record { places = set-set g.places l a b i; seen = 
 
 pub same_some : {V : Type 0} (x y : V) → Some x ≡ Some y → x ≡ y
 same_some x y e = cc
+
+set_at : {A : Type 0} (xs : List A) (i : ℕ) (a b : A) → get_elem? xs i ≡ some a → get_elem? (set xs i b) i ≡ some b
+set_at [] i a b e = absurd (none_is a e) where
+  none_is : {A : Type 0} (a : A) → none ≡ some a → ⊥
+  none_is a e = cc
+set_at (x ∷ xs) zero a b e = refl
+set_at (x ∷ xs) (suc i) a b e = set_at xs i a b e
+
+-- the value is where it was placed
+pub placed_at : {V : Type 0} (g : ValuesView V) (l : ℕ) (old new : Place V) → get_elem? g.places l ≡ some old → get_elem? (placed g l new).places l ≡ some new
+placed_at g l old new e = set_at g.places l old new e

@@ -41,6 +41,7 @@ mod shelf;
 mod slots;
 pub mod start;
 mod taking;
+pub mod tally;
 pub mod views;
 pub mod words;
 

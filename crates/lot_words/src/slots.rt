@@ -55,6 +55,7 @@ impl<V: Keeps> LockWords<V> {
         ensures pass { (result.0.table ≡ pass.table) × (result.0.pass ≡ pass.pass) }
         ensures values { result.0.values ≡ placed pass.values key Out }
         ensures value { IsIn pass.values key result.1 }
+        ensures out { IsOut result.0.values key }
     {
         let (pass, found) = self.exchange_value(pass, key, None);
         let Some(value) = found else { unreachable!() };
@@ -71,6 +72,7 @@ impl<V: Keeps> LockWords<V> {
         requires lawful { (x : V) × HasSeen pass.values key x × MayLeave V.keeps V.grows V.part key pass.pass.thread x value }
         ensures pass { (result.table ≡ pass.table) × (result.pass ≡ pass.pass) }
         ensures values { result.values ≡ placed pass.values key (InSlot value) }
+        ensures lies { IsIn result.values key value }
     {
         let (pass, found) = self.exchange_value(pass, key, Some(value));
         let None = found else { unreachable!() };

@@ -1,7 +1,7 @@
 use Rattle.std.proofs.Common.{◌≡◌, Some, sym, ap, subst, ◌∙◌}
-use Rattle.lot_words.specs.declared.views.Place.TheVariants.{InSlot}
-use Rattle.lot_words.specs.Values.{IsIn}
-use Rattle.lot_words.proofs.Moves.{same_some}
+use Rattle.lot_words.specs.declared.views.Place.TheVariants.{InSlot, Out}
+use Rattle.lot_words.specs.Values.{IsIn, IsOut}
+use Rattle.lot_words.proofs.Moves.{same_some, placed_at}
 use Rattle.lot_words.proofs.words.LockWords.value_out.Goals as goal
 
 pub unreachable-requires : goal.unreachable-requires
@@ -11,3 +11,6 @@ pub returns-clause-value : goal.returns-clause-value
 returns-clause-value g c =
     let same = same_some c.requires.lies.0 c.in-Some.value (sym (c.exchange_value-pass.ensures.found (InSlot c.requires.lies.0) c.requires.lies.1) ∙ c.in-Some.is) in
     subst (λ y. IsIn c.args.pass.values c.args.key y) same c.requires.lies.1
+
+pub returns-clause-out : goal.returns-clause-out
+returns-clause-out g c = subst (λ v. IsOut v c.args.key) (sym c.exchange_value-pass.ensures.values) (placed_at c.args.pass.values c.args.key (InSlot c.requires.lies.0) Out c.requires.lies.1)
