@@ -1,9 +1,9 @@
 -- Numbers of one to four digits, read and spelled.
-use Rattle.std.proofs.Common.{zero, suc, ◌≡◌, ◌≢◌, ◌<◌, ◌≤◌, ◌+◌, ◌-◌, ◌*◌, ◌/◌, ◌%◌, ◌^◌, ◌++◌, ℕ, Bool, true, false, List, [], ◌∷◌, Option, Some, None, refl, sym, ap, ◌∙◌, subst, arith, append_assoc, inl, inr, leb}
+use Rattle.std.proofs.Common.{zero, suc, ◌≡◌, ◌≢◌, ◌<◌, ◌≤◌, ◌+◌, ◌-◌, ◌*◌, ◌/◌, ◌%◌, ◌++◌, ℕ, Bool, true, false, List, [], ◌∷◌, Option, Some, None, refl, sym, ap, ◌∙◌, subst, arith, append_assoc, inl, inr, leb}
 use Rattle.std.specs.Prelude.{◌==◌, nat_lt, if◌then◌else◌, decimal}
 use Rattle.std.specs.Option.{option_and_then}
 use Rattle.std.specs.Char.{is_ascii_digit}
-use Rattle.std.proofs.lemmas.Bool.{cases_lt, eqb-true, eqb-false, ne_eqb, lt-ltb, le-ltb, leb-true, leb-false, and_parts, and_from, le-leb, ltb-true, ltb-false}
+use Rattle.std.proofs.lemmas.Bool.{cases_lt, eqb-true, eqb-false, ne_eqb, leb-true, and_parts, and_from, le-leb, ltb-true}
 use Rattle.std.proofs.lemmas.Fmt.{decimal_digit, decimal_step}
 use Rattle.lot_core.specs.Script.{field, bit}
 use Rattle.lot_core.specs.Reading.{one_more, three_more, number_at, field_at, flag_at, end_at}
@@ -104,15 +104,15 @@ again_4 n rest from small =
 pub number_again : (n : ℕ) (rest : List ℕ) → n < 10000 → Ends rest → number_at (decimal n ++ rest) ≡ Some (n, rest)
 number_again n rest small ends =
     elim (cases_lt n 1) [
-      inl none ↦ again_0 n rest (omega arith)
-    | inr some ↦ elim (cases_lt n 10) [
-        inl one ↦ ap (λ ds. number_at (ds ++ rest)) (decimal_digit n one) ∙ number_from n rest some one ∙ ap Some (three_0 n rest ends)
-      | inr over_one ↦ elim (cases_lt n 100) [
-          inl two ↦ ap (λ ds. number_at (ds ++ rest)) (decimal_2 n over_one two) ∙ number_from (n / 10) ((48 + n % 10) ∷ rest) (omega arith) (omega arith)
+      | inl none ↦ again_0 n rest (omega arith)
+      | inr some ↦ elim (cases_lt n 10) [
+        | inl one ↦ ap (λ ds. number_at (ds ++ rest)) (decimal_digit n one) ∙ number_from n rest some one ∙ ap Some (three_0 n rest ends)
+        | inr over_one ↦ elim (cases_lt n 100) [
+          | inl two ↦ ap (λ ds. number_at (ds ++ rest)) (decimal_2 n over_one two) ∙ number_from (n / 10) ((48 + n % 10) ∷ rest) (omega arith) (omega arith)
               ∙ ap Some (three_1 (n / 10) (n % 10) rest (omega arith) ends ∙ ap (λ m. (m, rest)) (omega arith))
-        | inr over_two ↦ elim (cases_lt n 1000) [
-            inl three ↦ again_3 n rest over_two three ends
-          | inr over_three ↦ again_4 n rest over_three small
+          | inr over_two ↦ elim (cases_lt n 1000) [
+            | inl three ↦ again_3 n rest over_two three ends
+            | inr over_three ↦ again_4 n rest over_three small
           ]
         ]
       ]
@@ -139,7 +139,7 @@ more_read text bound n (d ∷ rest) small h =
     (λ e. let d_is : (48 ≤ d) × (d ≤ 57) = digit_is d e in record {
       some = omega (arith, h.some);
       below = omega (arith, h.below);
-      parts = h.parts ∙ sym (ap (λ ds. ds ++ rest) (one_digit_more n d (omega (arith, h.below)) h.some d_is.0 d_is.1) ∙ append_assoc (decimal n) (d ∷ []) rest)
+      parts = h.parts ∙ sym (ap (λ ds. ds ++ rest) (one_digit_more n d (omega (arith, h.below)) h.some d_is.0 d_is.1) ∙ append_assoc (decimal n) (d ∷ []) rest);
     })
     (λ e. record { some = h.some; below = omega (arith, h.below); parts = h.parts })
 
@@ -148,27 +148,28 @@ unfolding number_at three_more
 number_takes [] n rest is = absurd (cc)
 number_takes (d ∷ text) n rest is =
     by_bit (λ b. (d == 48) ≡ b → (if b then Some (0, text) else (if is_ascii_digit d then Some (three_more (d - 48) text) else None)) ≡ Some (n, rest) →
-        (n < 10000) × (d ∷ text ≡ decimal n ++ rest)) (d == 48)
+    (n < 10000) × (d ∷ text ≡ decimal n ++ rest)) (d == 48)
     (λ _ e is. let both = some_is (0, text) (n, rest) is in
-        let n_is : 0 ≡ n = ap (λ (x : ℕ × List ℕ). x.0) both in
-        let rest_is : text ≡ rest = ap (λ (x : ℕ × List ℕ). x.1) both in
-        (omega arith, ap (λ k. k ∷ text) (eqb-true d 48 e) ∙ ap (λ r. 48 ∷ r) rest_is ∙ sym (ap (λ ds. ds ++ rest) (decimal_digit 0 (omega arith))) ∙ ap (λ k. decimal k ++ rest) n_is))
+    let n_is : 0 ≡ n = ap (λ (x : ℕ × List ℕ). x.0) both in
+    let rest_is : text ≡ rest = ap (λ (x : ℕ × List ℕ). x.1) both in
+    (omega arith, ap (λ k. k ∷ text) (eqb-true d 48 e) ∙ ap (λ r. 48 ∷ r) rest_is ∙ sym (ap (λ ds. ds ++ rest) (decimal_digit 0 (omega arith))) ∙ ap (λ k. decimal k ++ rest) n_is))
     (λ _ e. by_bit (λ b. is_ascii_digit d ≡ b → (if b then Some (three_more (d - 48) text) else None) ≡ Some (n, rest) → (n < 10000) × (d ∷ text ≡ decimal n ++ rest)) (is_ascii_digit d)
-        (λ _ digit is.
-            let d_is : (48 ≤ d) × (d ≤ 57) = digit_is d digit in
-            let ne : d ≢ 48 = eqb-false d 48 e in
-            let one : IsRead (d ∷ text) 10 (d - 48, text) = record {
-              some = omega arith; below = omega arith;
-              parts = ap (λ k. k ∷ text) (omega arith) ∙ sym (ap (λ ds. ds ++ text) (decimal_digit (d - 48) (omega arith)))
-            } in
-            let a = one_more (d - 48) text in
-            let b = one_more a.0 a.1 in
-            let all : IsRead (d ∷ text) 10000 (three_more (d - 48) text) =
-                more_read (d ∷ text) 1000 b.0 b.1 (omega arith) (more_read (d ∷ text) 100 a.0 a.1 (omega arith) (more_read (d ∷ text) 10 (d - 48) text (omega arith) one)) in
-            let same : three_more (d - 48) text ≡ (n, rest) = some_is (three_more (d - 48) text) (n, rest) is in
-            let read : IsRead (d ∷ text) 10000 (n, rest) = subst (λ x. IsRead (d ∷ text) 10000 x) same all in
-            (read.below, read.parts))
-        (λ _ digit is. absurd (cc)) refl)
+    (λ _ digit is.
+    let d_is : (48 ≤ d) × (d ≤ 57) = digit_is d digit in
+    let ne : d ≢ 48 = eqb-false d 48 e in
+    let one : IsRead (d ∷ text) 10 (d - 48, text) = record {
+      some = omega arith;
+      below = omega arith;
+      parts = ap (λ k. k ∷ text) (omega arith) ∙ sym (ap (λ ds. ds ++ text) (decimal_digit (d - 48) (omega arith)));
+    } in
+    let a = one_more (d - 48) text in
+    let b = one_more a.0 a.1 in
+    let all : IsRead (d ∷ text) 10000 (three_more (d - 48) text) =
+    more_read (d ∷ text) 1000 b.0 b.1 (omega arith) (more_read (d ∷ text) 100 a.0 a.1 (omega arith) (more_read (d ∷ text) 10 (d - 48) text (omega arith) one)) in
+    let same : three_more (d - 48) text ≡ (n, rest) = some_is (three_more (d - 48) text) (n, rest) is in
+    let read : IsRead (d ∷ text) 10000 (n, rest) = subst (λ x. IsRead (d ∷ text) 10000 x) same all in
+    (read.below, read.parts))
+    (λ _ digit is. absurd (cc)) refl)
     refl is
 
 -- a number behind a space
@@ -202,11 +203,11 @@ flag_takes text b rest is =
     let n = x.0.0 in
     by_bit (λ c. (nat_lt n 2) ≡ c → ◌≡◌ {A = Option (Bool × List ℕ)} (if◌then◌else◌ {A = Option (Bool × List ℕ)} c (Some (n == 1, x.0.1)) None) (Some (b, rest)) → text ≡ field (bit b) ++ rest) (nat_lt n 2)
     (λ _ e is.
-        let both = some_is (n == 1, x.0.1) (b, rest) is in
-        let b_is : (n == 1) ≡ b = ap (λ (y : Bool × List ℕ). y.0) both in
-        let rest_is : x.0.1 ≡ rest = ap (λ (y : Bool × List ℕ). y.1) both in
-        (field_takes text n x.0.1 x.1).1 ∙ ap (λ r. field n ++ r) rest_is
-        ∙ ap (λ k. field k ++ rest) (sym (bit_of n (ltb-true n 2 e)) ∙ ap bit b_is))
+    let both = some_is (n == 1, x.0.1) (b, rest) is in
+    let b_is : (n == 1) ≡ b = ap (λ (y : Bool × List ℕ). y.0) both in
+    let rest_is : x.0.1 ≡ rest = ap (λ (y : Bool × List ℕ). y.1) both in
+    (field_takes text n x.0.1 x.1).1 ∙ ap (λ r. field n ++ r) rest_is
+    ∙ ap (λ k. field k ++ rest) (sym (bit_of n (ltb-true n 2 e)) ∙ ap bit b_is))
     (λ _ e is. absurd (cc))
     refl x.2
 

@@ -1,9 +1,7 @@
 -- The two parts of a state follow each event of the whole.
-use Rattle.std.proofs.Common.{◌≡◌, ◌≢◌, ◌⊎◌, ℕ, Bool, true, false, List, [], ◌∷◌, Option, Some, None, refl, subst, sym, ap, ◌∙◌, inl, inr}
-use Rattle.std.specs.Prelude.{◌==◌, if◌then◌else◌}
+use Rattle.std.proofs.Common.{◌≡◌, ◌⊎◌, ℕ, true, false, List, [], ◌∷◌, Option, Some, None, refl, subst, sym, ap, ◌∙◌, inl, inr}
+use Rattle.std.specs.Prelude.{if◌then◌else◌}
 use Rattle.std.specs.List.{Contains}
-use Rattle.std.proofs.lemmas.Bool.{cases_eq}
-use mathlib.Core.Path.{fun_ext}
 use Rattle.lot_core.specs.declared.events.Point.{Point}
 use Rattle.lot_core.specs.declared.events.Point.TheVariants.{Calm, Wants, Bed, Rest, Sweeps}
 use Rattle.lot_core.specs.declared.events.Event.{Event}
@@ -11,7 +9,7 @@ use Rattle.lot_core.specs.declared.events.Event.TheVariants.{Try, Take, Mark, Pa
 use Rattle.lot_core.specs.World.{World, Locks, Conds, put}
 use Rattle.lot_core.specs.Steps.{IsTrying, MayLetGo, Allowed, after, seen, released, let_go, handed}
 use Rattle.lot_core.specs.Sound.{IsSound}
-use Rattle.lot_core.specs.Parts.{LockPart, CondPart, wanted, swept_by, lock_part, cond_part, MayTry, LockAllowed, served, lock_part_after, lock_seen, cond_seen, CondAllowed, cond_part_after, IsLockEvent, LockPartFollows, CondPartFollows}
+use Rattle.lot_core.specs.Parts.{LockPart, CondPart, wanted, swept_by, lock_part, cond_part, MayTry, LockAllowed, served, lock_part_after, lock_seen, cond_seen, CondAllowed, cond_part_after, IsLockEvent, StandsBefore, AsksOfThread, LockPartAllows, CondPartAllows, LockPartFollows, CondPartFollows}
 use Rattle.lot_core.specs.Rows.{told}
 use Rattle.lot_core.proofs.Put.{by_bit, told_put, told_same}
 use Rattle.lot_core.proofs.Members.{in_head}
@@ -77,7 +75,7 @@ pub lock_part_follows : (s : World) (e : Event) → Allowed s e → lock_part (a
 lock_part_follows s (Try t l) ok = refl
 lock_part_follows s (Take t l) ok = lock_part_by s _ _ _
     (told_put wanted s.point t (if s.locks.held l then Wants l else Calm)
-     ∙ ap (put (told wanted s.point) t) (by_bit (λ b. wanted (if b then Wants l else Calm) ≡ (if b then Some l else None)) (s.locks.held l) (λ e. refl) (λ e. refl)))
+    ∙ ap (put (told wanted s.point) t) (by_bit (λ b. wanted (if b then Wants l else Calm) ≡ (if b then Some l else None)) (s.locks.held l) (λ e. refl) (λ e. refl)))
 lock_part_follows s (Mark t l) ok = refl
 lock_part_follows s (Park t l) ok = refl
 lock_part_follows s (Free t l) ok = lock_part_by s _ _ _
@@ -184,7 +182,7 @@ pub cond_part_follows : (s : World) (e : Event) → IsSound s → Allowed s e �
 cond_part_follows s (Try t l) h ok = refl
 cond_part_follows s (Take t l) h ok = cond_part_by s _ _ _
     (told_same swept_by s.point t (if s.locks.held l then Wants l else Calm)
-     (by_bit (λ b. swept_by (if b then Wants l else Calm) ≡ None) (s.locks.held l) (λ e. refl) (λ e. refl) ∙ sym (taker_sweeps_none s t l ok.2)))
+    (by_bit (λ b. swept_by (if b then Wants l else Calm) ≡ None) (s.locks.held l) (λ e. refl) (λ e. refl) ∙ sym (taker_sweeps_none s t l ok.2)))
 cond_part_follows s (Mark t l) h ok = refl
 cond_part_follows s (Park t l) h ok = refl
 cond_part_follows s (Free t l) h ok = cond_part_by s _ _ _
@@ -202,3 +200,81 @@ cond_follows s e h ok = record {
   steps = λ other. (cond_allowed s e ok other, cond_seen_follows s e other, cond_part_follows s e h ok);
   stays = λ is. cond_part_follows s e h ok ∙ cond_part_stays (cond_part s) e is;
 }
+
+-- The two columns that are left: where an event is allowed.
+
+wanted_is : (p : Point) (l : ℕ) → wanted p ≡ Some l → p ≡ Wants l
+wanted_is Calm l e = absurd (cc)
+wanted_is (Wants k) l e = let same : k ≡ l = cc in ap Wants same
+wanted_is (Bed c k) l e = absurd (cc)
+wanted_is (Rest c k) l e = absurd (cc)
+wanted_is (Sweeps c) l e = absurd (cc)
+
+swept_by_is : (p : Point) (c : ℕ) → swept_by p ≡ Some c → p ≡ Sweeps c
+swept_by_is Calm c e = absurd (cc)
+swept_by_is (Wants k) c e = absurd (cc)
+swept_by_is (Bed d k) c e = absurd (cc)
+swept_by_is (Rest d k) c e = absurd (cc)
+swept_by_is (Sweeps d) c e = let same : d ≡ c = cc in ap Sweeps same
+
+stands_before : (s : World) (t l : ℕ) → IsTrying s t l → StandsBefore s t l
+stands_before s t l (inl x) = inl x.0
+stands_before s t l (inr x) = inr x
+
+tries : (s : World) (t l : ℕ) → MayTry (lock_part s) t l → StandsBefore s t l → IsTrying s t l
+tries s t l (inl none) (inl wants) = let some = ap wanted wants in absurd (cc)
+tries s t l (inr x) (inl wants) = inl (wants, x.1)
+tries s t l may (inr rests) = inr rests
+
+takes_asked : (s : World) (t l : ℕ) → ((s.point t ≡ Calm) ⊎ IsTrying s t l) → (s.point t ≡ Calm) ⊎ StandsBefore s t l
+takes_asked s t l (inl calm) = inl calm
+takes_asked s t l (inr try) = inr (stands_before s t l try)
+
+takes : (s : World) (t l : ℕ) → MayTry (lock_part s) t l → ((s.point t ≡ Calm) ⊎ StandsBefore s t l) → (s.point t ≡ Calm) ⊎ IsTrying s t l
+takes s t l may (inl calm) = inl calm
+takes s t l may (inr stands) = inr (tries s t l may stands)
+
+asked : (s : World) (e : Event) → Allowed s e → AsksOfThread s e
+asked s (Try t l) ok = ok.2
+asked s (Take t l) ok = takes_asked s t l ok.2
+asked s (Mark t l) ok = stands_before s t l ok.2
+asked s (Park t l) ok = tt
+asked s (Free t l) ok = ok.3
+asked s (Pass t l fair more) ok = ok.4
+asked s (Enlist t c l) ok = (ok.3, ok.4)
+asked s (Look t c) ok = ok.2
+asked s (Call t c more) ok = ok.2
+asked s (Lower t c) ok = ok.2
+asked s (Sweep t c) ok = tt
+
+lock_allows : (s : World) (e : Event) → IsLockEvent e → LockAllowed s.threads s.lock_count (lock_part s) e → AsksOfThread s e → Allowed s e
+lock_allows s (Try t l) is ok asks = (ok.0, ok.1, asks)
+lock_allows s (Take t l) is ok asks = (ok.0, ok.1, takes s t l ok.2 asks)
+lock_allows s (Mark t l) is ok asks = (ok.0, ok.1, tries s t l ok.2 asks, ok.3)
+lock_allows s (Park t l) is ok asks = (ok.0, ok.1, wanted_is (s.point t) l ok.2, ok.3)
+lock_allows s (Free t l) is ok asks = (ok.0, ok.1, ok.2, asks)
+lock_allows s (Pass t l fair more) is ok asks = (ok.0, ok.1, ok.2, ok.3, asks, ok.5)
+lock_allows s (Enlist t c l) is ok asks = absurd is
+lock_allows s (Look t c) is ok asks = absurd is
+lock_allows s (Call t c more) is ok asks = absurd is
+lock_allows s (Lower t c) is ok asks = absurd is
+lock_allows s (Sweep t c) is ok asks = absurd is
+
+cond_allows : (s : World) (e : Event) → (IsLockEvent e → ⊥) → CondAllowed s.threads s.lock_count s.cond_count (cond_part s) e → AsksOfThread s e → Allowed s e
+cond_allows s (Try t l) other ok asks = absurd ok
+cond_allows s (Take t l) other ok asks = absurd ok
+cond_allows s (Mark t l) other ok asks = absurd ok
+cond_allows s (Park t l) other ok asks = absurd ok
+cond_allows s (Free t l) other ok asks = absurd ok
+cond_allows s (Pass t l fair more) other ok asks = absurd ok
+cond_allows s (Enlist t c l) other ok asks = (ok.0, ok.1, ok.2, asks.0, asks.1)
+cond_allows s (Look t c) other ok asks = (ok.0, ok.1, asks)
+cond_allows s (Call t c more) other ok asks = (ok.0, ok.1, asks, ok.3)
+cond_allows s (Lower t c) other ok asks = (ok.0, ok.1, asks)
+cond_allows s (Sweep t c) other ok asks = (ok.0, ok.1, swept_by_is (s.point t) c ok.2)
+
+pub lock_part_allows : (s : World) (e : Event) → LockPartAllows s e
+lock_part_allows s e is = ((λ ok. (lock_allowed s e ok is, asked s e ok)), (λ both. lock_allows s e is both.0 both.1))
+
+pub cond_part_allows : (s : World) (e : Event) → CondPartAllows s e
+cond_part_allows s e other = ((λ ok. (cond_allowed s e ok other, asked s e ok)), (λ both. cond_allows s e other both.0 both.1))

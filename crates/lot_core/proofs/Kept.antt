@@ -1,15 +1,15 @@
 -- What each single change of a state keeps.
-use Rattle.std.proofs.Common.{◌≡◌, ◌≢◌, ◌⊎◌, ◌<◌, ◌≤◌, ◌++◌, ◌↔◌, ℕ, Bool, true, false, List, [], ◌∷◌, length, refl, subst, sym, ap, ◌∙◌, inl, inr}
+use Rattle.std.proofs.Common.{◌≡◌, ◌≢◌, ◌⊎◌, ◌++◌, ℕ, Bool, true, false, List, [], ◌∷◌, refl, subst, sym, ap, ◌∙◌, inl, inr}
 use Rattle.std.specs.Prelude.{◌&&◌, if◌then◌else◌}
-use Rattle.std.specs.List.{Contains, AllPairs}
+use Rattle.std.specs.List.{Contains}
 use Rattle.std.proofs.lemmas.List.Elements.{Contains-push_cases}
 use Rattle.std.proofs.lemmas.Bool.{cases_eq, and_cases}
 use Rattle.lot_core.specs.declared.events.Point.{Point}
 use Rattle.lot_core.specs.declared.events.Point.TheVariants.{Calm, Wants, Bed, Rest, Sweeps}
-use Rattle.lot_core.specs.World.{World, Locks, Conds, put}
-use Rattle.lot_core.specs.Steps.{IsThread, IsTrying, MayLetGo, SaysMore, got, freed, enlisted, called_line, released, let_go}
-use Rattle.lot_core.specs.Sound.{OneOwner, SleepersAreMarked, SomeoneIsTrying, SomeoneSweeps, Waits, OneLineEach, IsSound, IsOnce}
-use Rattle.lot_core.proofs.Put.{by_bit, by_line, at_all, put_same, put_other}
+use Rattle.lot_core.specs.World.{World, put}
+use Rattle.lot_core.specs.Steps.{IsThread, IsTrying, MayLetGo, SaysMore, enlisted, called_line, released, let_go}
+use Rattle.lot_core.specs.Sound.{Waits, OneLineEach, IsSound, IsOnce}
+use Rattle.lot_core.proofs.Put.{by_line, at_all, put_same, put_other}
 use Rattle.lot_core.proofs.Members.{in_tail, in_head, in_none, two_or_more, two_from, once_tail, head_left, once_push, once_none}
 use Rattle.lot_core.proofs.Owners.{owners_got, owners_left, owners_handed}
 
@@ -49,8 +49,8 @@ pub outside_rests : (s : World) (t c l : ℕ) → IsKept s → s.point t ≡ Res
 outside_rests s t c l h rests out = record {
   locks = λ k inside. let e : s.point t ≡ Wants k = h.sound.one_line_each.wants k t inside in absurd (cc);
   conds = λ d inside. elim (h.sound.one_line_each.waits d t inside).1 [
-    inl e ↦ absurd (cc)
-  | inr e ↦ let same : d ≡ c = cc in out (subst (λ j. Contains (s.conds.line j) t) same inside)
+    | inl e ↦ absurd (cc)
+    | inr e ↦ let same : d ≡ c = cc in out (subst (λ j. Contains (s.conds.line j) t) same inside)
   ];
 }
 
@@ -178,28 +178,28 @@ queued_kept s t l h thread wants out held parked = record {
   sound = record {
     one_owner = h.sound.one_owner;
     sleepers_are_marked = λ k u inside. elim (joined s.locks.line l t k u inside) [
-      inl a ↦ h.sound.sleepers_are_marked k u a
-    | inr x ↦ ap s.locks.parked x.0 ∙ parked
+      | inl a ↦ h.sound.sleepers_are_marked k u a
+      | inr x ↦ ap s.locks.parked x.0 ∙ parked
     ];
     someone_is_trying = λ k clear.
         at_all (λ k b. s.locks.held k ≡ false → (if b then s.locks.line l ++ t ∷ [] else s.locks.line k) ≢ [] →
-            (u : ℕ) × IsThread s u × (((s.point u ≡ Wants k) × (Contains (if b then s.locks.line l ++ t ∷ [] else s.locks.line k) u → ⊥))
-            ⊎ ((c : ℕ) × (s.point u ≡ Rest c k) × (Contains (s.conds.line c) u → ⊥)))) l
+        (u : ℕ) × IsThread s u × (((s.point u ≡ Wants k) × (Contains (if b then s.locks.line l ++ t ∷ [] else s.locks.line k) u → ⊥))
+        ⊎ ((c : ℕ) × (s.point u ≡ Rest c k) × (Contains (s.conds.line c) u → ⊥)))) l
         (λ clear some. absurd (cc)) (λ k ne clear some. h.sound.someone_is_trying k clear some) k clear;
     someone_sweeps = h.sound.someone_sweeps;
     one_line_each = record {
       lock_once = joined_once s.locks.line l t h.sound.one_line_each.lock_once out;
       cond_once = h.sound.one_line_each.cond_once;
       wants = λ k u inside. elim (joined s.locks.line l t k u inside) [
-        inl a ↦ h.sound.one_line_each.wants k u a
-      | inr x ↦ ap s.point x.1 ∙ wants ∙ ap Wants (sym x.0)
+        | inl a ↦ h.sound.one_line_each.wants k u a
+        | inr x ↦ ap s.point x.1 ∙ wants ∙ ap Wants (sym x.0)
       ];
       waits = h.sound.one_line_each.waits;
     };
   };
   known = λ k u inside. elim (joined s.locks.line l t k u inside) [
-    inl a ↦ h.known k u a
-  | inr x ↦ subst (λ w. IsThread s w) (sym x.1) thread
+    | inl a ↦ h.known k u a
+    | inr x ↦ subst (λ w. IsThread s w) (sym x.1) thread
   ];
 }
 
@@ -207,7 +207,7 @@ queued_kept s t l h thread wants out held parked = record {
 pub unmarked_line : (s : World) (l : ℕ) → IsKept s → s.locks.parked l ≡ false → s.locks.line l ≡ []
 unmarked_line s l h unparked = by_line (λ xs. xs ≡ []) (s.locks.line l) (λ e. refl) (λ u rest e.
     let marked : s.locks.parked l ≡ true =
-        h.sound.sleepers_are_marked l u (subst (λ xs. Contains xs u) (sym e) (in_head u rest)) in
+    h.sound.sleepers_are_marked l u (subst (λ xs. Contains xs u) (sym e) (in_head u rest)) in
     absurd (cc))
 
 -- t lets the unparked lock l go
@@ -233,10 +233,13 @@ freed_kept s t l h has_it unparked = record {
 -- t passes l on where its line is empty
 abbrev pub with_passed_to_none : World → ℕ → ℕ → World
 with_passed_to_none s t l =
-    record s { locks = record s.locks {
-      held = put s.locks.held l false; parked = put s.locks.parked l false;
-      has = put s.locks.has l (put (s.locks.has l) t false)
-    } }
+    record s {
+      locks = record s.locks {
+        held = put s.locks.held l false;
+        parked = put s.locks.parked l false;
+        has = put s.locks.has l (put (s.locks.has l) t false);
+      };
+    }
 
 pub passed_to_none_kept : (s : World) (t l : ℕ) → IsKept s → s.locks.has l t ≡ true → s.locks.line l ≡ [] → IsKept (with_passed_to_none s t l)
 passed_to_none_kept s t l h has_it empty = record {
@@ -297,10 +300,14 @@ trying_beside s l k u xs ne (inr x) = inr x
 -- t passes l on to nobody, and takes its first u from the line
 abbrev pub with_passed : World → ℕ → ℕ → Bool → List ℕ → World
 with_passed s t l more rest =
-    record s { locks = record s.locks {
-      held = put s.locks.held l false; parked = put s.locks.parked l more;
-      line = put s.locks.line l rest; has = put s.locks.has l (put (s.locks.has l) t false)
-    } }
+    record s {
+      locks = record s.locks {
+        held = put s.locks.held l false;
+        parked = put s.locks.parked l more;
+        line = put s.locks.line l rest;
+        has = put s.locks.has l (put (s.locks.has l) t false);
+      };
+    }
 
 pub passed_kept : (s : World) (t l : ℕ) (more : Bool) (u : ℕ) (rest : List ℕ) → IsKept s → s.locks.has l t ≡ true →
     s.locks.line l ≡ u ∷ rest → SaysMore (u ∷ rest) more → IsKept (with_passed s t l more rest)
@@ -312,12 +319,18 @@ passed_kept s t l more u rest h has_it is says = record {
         (λ inside. says (two_from u rest w inside))
         (λ k ne inside. h.sound.sleepers_are_marked k w inside) k inside;
     someone_is_trying = λ k clear some. elim (cases_eq k l) [
-      inl e ↦ (u, first_known s l u rest h is, inl (first_wants s l u rest h is ∙ ap Wants (sym e),
-          subst (λ j. Contains (put s.locks.line l rest j) u → ⊥) (sym e) (left_out s.locks.line l u rest is h.sound.one_line_each.lock_once)))
-    | inr ne ↦
-        let w = h.sound.someone_is_trying k (sym (put_other s.locks.held l false k ne) ∙ clear)
-            (λ e. some (put_other s.locks.line l rest k ne ∙ e)) in
-        (w.0, w.1, trying_beside s l k w.0 rest ne w.2)
+      | inl e ↦ (
+        u,
+        first_known s l u rest h is,
+        inl (
+          first_wants s l u rest h is ∙ ap Wants (sym e),
+          subst (λ j. Contains (put s.locks.line l rest j) u → ⊥) (sym e) (left_out s.locks.line l u rest is h.sound.one_line_each.lock_once),
+        ),
+      )
+      | inr ne ↦
+          let w = h.sound.someone_is_trying k (sym (put_other s.locks.held l false k ne) ∙ clear)
+          (λ e. some (put_other s.locks.line l rest k ne ∙ e)) in
+          (w.0, w.1, trying_beside s l k w.0 rest ne w.2)
     ];
     someone_sweeps = h.sound.someone_sweeps;
     one_line_each = lines_left s l u rest h is;
@@ -328,9 +341,12 @@ passed_kept s t l more u rest h has_it is says = record {
 -- t hands l to the first of its line
 abbrev pub with_handed : World → ℕ → ℕ → ℕ → List ℕ → World
 with_handed s t l u rest =
-    record s { locks = record s.locks {
-      line = put s.locks.line l rest; has = put s.locks.has l (put (put (s.locks.has l) t false) u true)
-    } }
+    record s {
+      locks = record s.locks {
+        line = put s.locks.line l rest;
+        has = put s.locks.has l (put (put (s.locks.has l) t false) u true);
+      };
+    }
 
 pub handed_kept : (s : World) (t l u : ℕ) (rest : List ℕ) → IsKept s → s.locks.has l t ≡ true →
     s.locks.line l ≡ u ∷ rest → IsKept (with_handed s t l u rest)
@@ -339,13 +355,13 @@ handed_kept s t l u rest h has_it is = record {
     one_owner = owners_handed s.locks.held s.locks.has l t u h.sound.one_owner has_it;
     sleepers_are_marked = λ k w inside. h.sound.sleepers_are_marked k w (left s.locks.line l u rest is k w inside);
     someone_is_trying = λ k clear some. elim (cases_eq k l) [
-      inl e ↦
-        let held : s.locks.held l ≡ true = (h.sound.one_owner.some l).1 (t, has_it) in
-        let unheld : s.locks.held l ≡ false = subst (λ j. s.locks.held j ≡ false) e clear in
-        absurd (cc)
-    | inr ne ↦
-        let w = h.sound.someone_is_trying k clear (λ e. some (put_other s.locks.line l rest k ne ∙ e)) in
-        (w.0, w.1, trying_beside s l k w.0 rest ne w.2)
+      | inl e ↦
+          let held : s.locks.held l ≡ true = (h.sound.one_owner.some l).1 (t, has_it) in
+          let unheld : s.locks.held l ≡ false = subst (λ j. s.locks.held j ≡ false) e clear in
+          absurd (cc)
+      | inr ne ↦
+          let w = h.sound.someone_is_trying k clear (λ e. some (put_other s.locks.line l rest k ne ∙ e)) in
+          (w.0, w.1, trying_beside s l k w.0 rest ne w.2)
     ];
     someone_sweeps = h.sound.someone_sweeps;
     one_line_each = lines_left s l u rest h is;
@@ -383,8 +399,8 @@ let_go_kept s t l h (inr (c, bed)) = subst (λ p. IsKept (move s t p)) (ap relea
           let is : s.point u ≡ Wants k = h.sound.one_line_each.wants k u inside in
           put_other s.point t (Rest c l) u (λ e. let at : s.point t ≡ Wants k = subst (λ w. s.point w ≡ Wants k) e is in absurd (cc)) ∙ is;
       waits = λ d u inside. elim (cases_eq u t) [
-        inl e ↦ rests_now s t c l d bed (subst (λ w. Waits s.point d w) e (h.sound.one_line_each.waits d u inside)) u e
-      | inr ne ↦ waits_moved s.point t u d (Rest c l) ne (h.sound.one_line_each.waits d u inside)
+        | inl e ↦ rests_now s t c l d bed (subst (λ w. Waits s.point d w) e (h.sound.one_line_each.waits d u inside)) u e
+        | inr ne ↦ waits_moved s.point t u d (Rest c l) ne (h.sound.one_line_each.waits d u inside)
       ];
     };
   };
@@ -396,10 +412,14 @@ pub trying_enlisted : (s : World) (t c l u k : ℕ) → s.point t ≡ Bed c l �
     IsTrying (record s { conds = enlisted s.conds t c }) u k
 trying_enlisted s t c l u k bed (inl x) = inl x
 trying_enlisted s t c l u k bed (inr x) =
-    inr (x.0, x.1, λ inside. elim (joined s.conds.line c t x.0 u inside) [
-      inl a ↦ x.2 a
-    | inr y ↦ let at : s.point t ≡ Rest x.0 k = subst (λ w. s.point w ≡ Rest x.0 k) y.1 x.1 in absurd (cc)
-    ])
+    inr (
+      x.0,
+      x.1,
+      λ inside. elim (joined s.conds.line c t x.0 u inside) [
+        | inl a ↦ x.2 a
+        | inr y ↦ let at : s.point t ≡ Rest x.0 k = subst (λ w. s.point w ≡ Rest x.0 k) y.1 x.1 in absurd (cc)
+      ],
+    )
 
 -- t goes last in c's line and sets its flag
 abbrev pub with_enlisted : World → ℕ → ℕ → World
@@ -415,15 +435,15 @@ enlisted_kept s t c l h bed out = record {
         (w.0, w.1, trying_enlisted s t c l w.0 k bed w.2);
     someone_sweeps = λ d clear some.
         at_all (λ d b. (if b then true else s.conds.flag d) ≡ false → (if b then s.conds.line c ++ t ∷ [] else s.conds.line d) ≢ [] →
-            (u : ℕ) × IsThread s u × (s.point u ≡ Sweeps d)) c
+        (u : ℕ) × IsThread s u × (s.point u ≡ Sweeps d)) c
         (λ clear some. absurd (cc)) (λ d ne clear some. h.sound.someone_sweeps d clear some) d clear some;
     one_line_each = record {
       lock_once = h.sound.one_line_each.lock_once;
       cond_once = joined_once s.conds.line c t h.sound.one_line_each.cond_once (out.conds c);
       wants = h.sound.one_line_each.wants;
       waits = λ d u inside. elim (joined s.conds.line c t d u inside) [
-        inl a ↦ h.sound.one_line_each.waits d u a
-      | inr x ↦ (l, inl (ap s.point x.1 ∙ bed ∙ ap (λ d. Bed d l) (sym x.0)))
+        | inl a ↦ h.sound.one_line_each.waits d u a
+        | inr x ↦ (l, inl (ap s.point x.1 ∙ bed ∙ ap (λ d. Bed d l) (sym x.0)))
       ];
     };
   };
@@ -464,30 +484,30 @@ pub called_kept : (s : World) (c : ℕ) (more : Bool) (xs : List ℕ) → IsKept
 called_kept s c more [] h is says =
     conds_kept s (put s.conds.flag c false) s.conds.line h (λ d u inside. inside) h.sound.one_line_each.cond_once
     (at_all (λ d b. (if b then false else s.conds.flag d) ≡ false → s.conds.line d ≢ [] → (t : ℕ) × IsThread s t × (s.point t ≡ Sweeps d)) c
-     (λ clear some. absurd (some is)) (λ d ne clear some. h.sound.someone_sweeps d clear some))
+    (λ clear some. absurd (some is)) (λ d ne clear some. h.sound.someone_sweeps d clear some))
 called_kept s c more (u ∷ rest) h is says =
     conds_kept s (put s.conds.flag c (s.conds.flag c && more)) (put s.conds.line c rest) h
     (left s.conds.line c u rest is) (left_once s.conds.line c u rest is h.sound.one_line_each.cond_once)
     (at_all (λ d b. (if b then s.conds.flag c && more else s.conds.flag d) ≡ false → (if b then rest else s.conds.line d) ≢ [] →
-        (t : ℕ) × IsThread s t × (s.point t ≡ Sweeps d)) c
-     (λ clear some. elim (and_cases (s.conds.flag c) more clear) [
-       inl e ↦ h.sound.someone_sweeps c e (λ none. let both : u ∷ rest ≡ [] = sym is ∙ none in absurd (cc))
-     | inr e ↦ let said : more ≡ true = says (two_or_more u rest some) in absurd (cc)
-     ])
-     (λ d ne clear some. h.sound.someone_sweeps d clear some))
+    (t : ℕ) × IsThread s t × (s.point t ≡ Sweeps d)) c
+    (λ clear some. elim (and_cases (s.conds.flag c) more clear) [
+      | inl e ↦ h.sound.someone_sweeps c e (λ none. let both : u ∷ rest ≡ [] = sym is ∙ none in absurd (cc))
+      | inr e ↦ let said : more ≡ true = says (two_or_more u rest some) in absurd (cc)
+    ])
+    (λ d ne clear some. h.sound.someone_sweeps d clear some))
 
 pub lowered_kept : (s : World) (t c : ℕ) → IsKept s → IsThread s t → s.point t ≡ Sweeps c →
     IsKept (record s { conds = record s.conds { flag = put s.conds.flag c false } })
 lowered_kept s t c h thread at =
     conds_kept s (put s.conds.flag c false) s.conds.line h (λ d u inside. inside) h.sound.one_line_each.cond_once
     (at_all (λ d b. (if b then false else s.conds.flag d) ≡ false → s.conds.line d ≢ [] → (t : ℕ) × IsThread s t × (s.point t ≡ Sweeps d)) c
-     (λ clear some. (t, thread, at)) (λ d ne clear some. h.sound.someone_sweeps d clear some))
+    (λ clear some. (t, thread, at)) (λ d ne clear some. h.sound.someone_sweeps d clear some))
 
 pub swept_kept : (s : World) (c : ℕ) → IsKept s → IsKept (record s { conds = record s.conds { line = put s.conds.line c [] } })
 swept_kept s c h =
     conds_kept s s.conds.flag (put s.conds.line c []) h
     (λ d u. at_all (λ d b. Contains (if b then [] else s.conds.line d) u → Contains (s.conds.line d) u) c
-        (λ inside. absurd (in_none u inside)) (λ d ne inside. inside) d)
+    (λ inside. absurd (in_none u inside)) (λ d ne inside. inside) d)
     (at_all (λ d b. IsOnce (if b then [] else s.conds.line d)) c once_none (λ d ne. h.sound.one_line_each.cond_once d))
     (at_all (λ d b. s.conds.flag d ≡ false → (if b then [] else s.conds.line d) ≢ [] → (t : ℕ) × IsThread s t × (s.point t ≡ Sweeps d)) c
-     (λ clear some. absurd (some refl)) (λ d ne clear some. h.sound.someone_sweeps d clear some))
+    (λ clear some. absurd (some refl)) (λ d ne clear some. h.sound.someone_sweeps d clear some))

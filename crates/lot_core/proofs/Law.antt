@@ -1,17 +1,15 @@
 -- Every event that is allowed keeps a sound state sound.
-use Rattle.std.proofs.Common.{◌≡◌, ◌≢◌, ◌⊎◌, ◌<◌, ◌++◌, ℕ, Bool, true, false, List, [], ◌∷◌, refl, subst, sym, ap, ◌∙◌, inl, inr}
+use Rattle.std.proofs.Common.{◌≡◌, ◌≢◌, ◌⊎◌, ℕ, Bool, true, false, List, [], ◌∷◌, refl, subst, ap, ◌∙◌, inl, inr}
 use Rattle.std.specs.Prelude.{◌&&◌, if◌then◌else◌}
-use Rattle.std.specs.List.{Contains}
 use Rattle.std.proofs.lemmas.Bool.{and_parts}
-use Rattle.lot_core.specs.declared.events.Point.{Point}
 use Rattle.lot_core.specs.declared.events.Point.TheVariants.{Calm, Wants, Bed, Rest, Sweeps}
 use Rattle.lot_core.specs.declared.events.Event.{Event}
 use Rattle.lot_core.specs.declared.events.Event.TheVariants.{Try, Take, Mark, Park, Free, Pass, Enlist, Look, Call, Lower, Sweep}
-use Rattle.lot_core.specs.World.{World, Locks, Conds, put, opening}
+use Rattle.lot_core.specs.World.{World, put, opening}
 use Rattle.lot_core.specs.Steps.{IsThread, IsTrying, MayLetGo, SaysMore, Allowed, after, Run, after_all, passed_line, handed, let_go}
 use Rattle.lot_core.specs.Sound.{IsSound}
 use Rattle.lot_core.proofs.Put.{by_bit, by_line, put_same, put_other}
-use Rattle.lot_core.proofs.Members.{in_head, once_none, in_none}
+use Rattle.lot_core.proofs.Members.{once_none, in_none}
 use Rattle.lot_core.proofs.Kept.{IsKept, IsOutside, outside_calm, outside_sweeps, outside_wants, outside_trying, trying_one, calm_tries_nothing, sweeper_tries_nothing, trying_sweeps_nothing, move, move_kept, with_got, got_kept, marked_kept, with_queued, queued_kept, with_freed, freed_kept, with_passed_to_none, passed_to_none_kept, with_passed, passed_kept, with_handed, handed_kept, left_out, first_wants, let_go_kept, enlisted_kept, called_kept, lowered_kept, swept_kept}
 
 pub try_kept : (s : World) (t l : ℕ) → IsKept s → IsKept (after s (Try t l))
@@ -36,29 +34,29 @@ pub take_kept : (s : World) (t l : ℕ) → IsKept s → ((s.point t ≡ Calm) �
 take_kept s t l h may =
     by_bit (λ b. IsKept (record s {
       locks = if b then s.locks else (with_got s t l).locks;
-      point = put s.point t (if b then Wants l else Calm)
+      point = put s.point t (if b then Wants l else Calm);
     })) (s.locks.held l)
     (λ held. move_kept s t (Wants l) h (taker_outside s t l h may)
-        (λ k clear try. let same : k ≡ l = taker_tries s t l k may try in
-            let unheld : s.locks.held l ≡ false = subst (λ j. s.locks.held j ≡ false) same clear in absurd (cc))
-        (λ c some at. taker_sweeps s t l c may at))
+    (λ k clear try. let same : k ≡ l = taker_tries s t l k may try in
+    let unheld : s.locks.held l ≡ false = subst (λ j. s.locks.held j ≡ false) same clear in absurd (cc))
+    (λ c some at. taker_sweeps s t l c may at))
     (λ unheld. move_kept (with_got s t l) t Calm (got_kept s t l h unheld) (taker_outside (with_got s t l) t l (got_kept s t l h unheld) may)
-        (λ k clear try. let same : k ≡ l = taker_tries s t l k may try in
-            let held : put s.locks.held l true k ≡ true = ap (put s.locks.held l true) same ∙ put_same s.locks.held l true in absurd (cc))
-        (λ c some at. taker_sweeps s t l c may at))
+    (λ k clear try. let same : k ≡ l = taker_tries s t l k may try in
+    let held : put s.locks.held l true k ≡ true = ap (put s.locks.held l true) same ∙ put_same s.locks.held l true in absurd (cc))
+    (λ c some at. taker_sweeps s t l c may at))
 
 pub park_kept : (s : World) (t l : ℕ) → IsKept s → Allowed s (Park t l) → IsKept (after s (Park t l))
 park_kept s t l h ok =
     by_bit (λ b. IsKept (record s { locks = if b then (with_queued s t l).locks else s.locks })) (s.locks.held l && s.locks.parked l)
     (λ both. let parts = and_parts (s.locks.held l) (s.locks.parked l) both in
-        queued_kept s t l h ok.0 ok.2 ok.3 parts.0 parts.1)
+    queued_kept s t l h ok.0 ok.2 ok.3 parts.0 parts.1)
     (λ not_both. h)
 
 pub free_kept : (s : World) (t l : ℕ) → IsKept s → Allowed s (Free t l) → IsKept (after s (Free t l))
 free_kept s t l h ok =
     by_bit (λ b. IsKept (record s {
       locks = if b then s.locks else (with_freed s t l).locks;
-      point = if b then s.point else let_go s.point t
+      point = if b then s.point else let_go s.point t;
     })) (s.locks.parked l)
     (λ parked. h)
     (λ unparked. let_go_kept (with_freed s t l) t l (freed_kept s t l h ok.2 unparked) ok.3)
@@ -80,13 +78,13 @@ hand_over_kept s t l u rest h has_it may is =
     move_kept next u Calm freed
     (outside_wants next u l freed wants (left_out s.locks.line l u rest is h.sound.one_line_each.lock_once))
     (λ k clear try. elim try [
-      inl x ↦
-        let at : let_go s.point t u ≡ Wants k = x.0 in
-        let same : k ≡ l = cc in
-        let held : s.locks.held l ≡ true = (h.sound.one_owner.some l).1 (t, has_it) in
-        let unheld : s.locks.held l ≡ false = subst (λ j. s.locks.held j ≡ false) same clear in
-        absurd (cc)
-    | inr x ↦ let at : let_go s.point t u ≡ Rest x.0 k = x.1 in absurd (cc)
+      | inl x ↦
+          let at : let_go s.point t u ≡ Wants k = x.0 in
+          let same : k ≡ l = cc in
+          let held : s.locks.held l ≡ true = (h.sound.one_owner.some l).1 (t, has_it) in
+          let unheld : s.locks.held l ≡ false = subst (λ j. s.locks.held j ≡ false) same clear in
+          absurd (cc)
+      | inr x ↦ let at : let_go s.point t u ≡ Rest x.0 k = x.1 in absurd (cc)
     ])
     (λ c some at. let sweeps : let_go s.point t u ≡ Sweeps c = at in absurd (cc))
 
@@ -99,7 +97,7 @@ pass_kept s t l false more h ok =
     by_line (λ xs. IsKept (record s { locks = passed_line s.locks t l false more xs; point = let_go s.point t })) (s.locks.line l)
     (λ none. let_go_kept (with_passed_to_none s t l) t l (passed_to_none_kept s t l h ok.2 none) ok.4)
     (λ u rest is. let_go_kept (with_passed s t l more rest) t l
-        (passed_kept s t l more u rest h ok.2 is (subst (λ xs. SaysMore xs more) is (ok.5 refl))) ok.4)
+    (passed_kept s t l more u rest h ok.2 is (subst (λ xs. SaysMore xs more) is (ok.5 refl))) ok.4)
 
 pub enlist_kept : (s : World) (t c l : ℕ) → IsKept s → s.point t ≡ Calm → IsKept (after s (Enlist t c l))
 enlist_kept s t c l h calm =
@@ -120,8 +118,8 @@ sweep_kept s t c h sweeps =
     move_kept next t Calm empty (outside_sweeps next t c empty sweeps)
     (λ k clear try. sweeper_tries_nothing next t c k sweeps try)
     (λ d some at.
-        let same : d ≡ c = cc in
-        some (ap (put s.conds.line c []) same ∙ put_same s.conds.line c []))
+    let same : d ≡ c = cc in
+    some (ap (put s.conds.line c []) same ∙ put_same s.conds.line c []))
 
 pub event_kept : (s : World) (e : Event) → IsKept s → Allowed s e → IsKept (after s e)
 event_kept s (Try t l) h ok = try_kept s t l h

@@ -1,6 +1,6 @@
 -- The lines of a `Lines`, one by one.
-use Rattle.std.proofs.Common.{zero, suc, ◌≡◌, ◌<◌, ◌≤◌, ◌-◌, ◌+◌, ◌++◌, ℕ, List, [], ◌∷◌, length, get_or, set, map, refl, sym, ap, ◌∙◌, arith, subst, Global, inl, inr, option_to_list, deque_len, IsSome, IfSome, Bor, Option, Some, None, Decides}
-use Rattle.std.proofs.lemmas.List.{get_or-map, map-set, get_or_past, length-map}
+use Rattle.std.proofs.Common.{zero, suc, ◌≡◌, ◌<◌, ◌-◌, ◌++◌, ℕ, List, [], ◌∷◌, length, get_or, map, refl, sym, ap, ◌∙◌, arith, subst, Global, inl, inr, option_to_list, deque_len, IsSome, IfSome, Bor, Option, Some, None, Decides}
+use Rattle.std.proofs.lemmas.List.{get_or-map, map-set, length-map}
 use Rattle.std.specs.declared.collections.VecDeque.{VecDeque}
 use Rattle.std.specs.Vec.{with_item}
 use Rattle.std.proofs.lemmas.Bool.{cases_lt}
@@ -14,7 +14,7 @@ use Rattle.lot_core.specs.World.{put}
 use Rattle.lot_core.specs.Steps.{first}
 use Rattle.lot_core.specs.Rows.{row_from}
 use Rattle.lot_core.proofs.Put.{put_again}
-use Rattle.lot_core.specs.Lines.{line_of, key_count, HasKey, KeepsKeys, no_lines}
+use Rattle.lot_core.specs.Lines.{line_of, HasKey, no_lines}
 use Rattle.lot_core.proofs.Rows.{row_from_at, row_from_set, row_from_before, row_from_past}
 
 -- the queue of a key is its line
@@ -45,10 +45,10 @@ pub line_outside : (s : Lines) (k : ℕ) → (HasKey s k → ⊥) → line_of s 
 unfolding line_of
 line_outside s k other =
     elim (cases_lt k s.low) [
-      inl before ↦ row_from_before [] s.low (map (λ q. q.items) s.lines.items) k before
-    | inr from ↦ elim (cases_lt (k - s.low) (length s.lines.items)) [
-        inl within ↦ absurd (other (from, within))
-      | inr past ↦ row_from_past [] s.low (map (λ q. q.items) s.lines.items) k (rw length-map (omega arith))
+      | inl before ↦ row_from_before [] s.low (map (λ q. q.items) s.lines.items) k before
+      | inr from ↦ elim (cases_lt (k - s.low) (length s.lines.items)) [
+        | inl within ↦ absurd (other (from, within))
+        | inr past ↦ row_from_past [] s.low (map (λ q. q.items) s.lines.items) k (rw length-map (omega arith))
       ]
     ]
 
@@ -57,8 +57,8 @@ pub lines_empty : (s : Lines) → ((i : ℕ) → get_or (map (λ q. q.items) s.l
 unfolding line_of
 lines_empty s each =
     fun_ext (λ k. elim (cases_lt k s.low) [
-      inl before ↦ row_from_before [] s.low (map (λ q. q.items) s.lines.items) k before
-    | inr from ↦ row_from_at [] s.low (map (λ q. q.items) s.lines.items) k from ∙ each (k - s.low)
+      | inl before ↦ row_from_before [] s.low (map (λ q. q.items) s.lines.items) k before
+      | inr from ↦ row_from_at [] s.low (map (λ q. q.items) s.lines.items) k from ∙ each (k - s.low)
     ])
 
 -- one more empty line

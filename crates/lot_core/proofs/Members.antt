@@ -1,8 +1,8 @@
 -- What stands in a line after a thread joined it or left it.
-use Rattle.std.proofs.Common.{suc, ◌≡◌, ◌≢◌, ℕ, ◌+◌, ◌<◌, ◌≤◌, ◌⊎◌, List, [], ◌∷◌, ◌++◌, length, get_or, refl, arith, subst, sym, inl, inr}
+use Rattle.std.proofs.Common.{suc, ◌≢◌, ℕ, ◌≤◌, List, [], ◌∷◌, ◌++◌, length, refl, arith, subst, sym}
 use Rattle.std.specs.List.{Contains}
 use Rattle.lot_core.specs.Sound.{IsOnce}
-use Rattle.std.proofs.lemmas.List.Elements.{Contains-append_left, Contains-append_right, Contains-push, Contains-push_cases, Contains-get_or}
+use Rattle.std.proofs.lemmas.List.Elements.{Contains-append_left, Contains-append_right, Contains-push, Contains-get_or}
 use Rattle.std.proofs.lemmas.List.Quantifiers.{all_pairs_push}
 
 pub in_tail : (u : ℕ) (rest : List ℕ) (t : ℕ) → Contains rest t → Contains (u ∷ rest) t

@@ -3,7 +3,7 @@ use Rattle.std.proofs.Common.{◌≡◌, ◌≢◌, ◌↔◌, ℕ, Bool, true, 
 use Rattle.std.specs.Prelude.{if◌then◌else◌}
 use Rattle.lot_core.specs.World.{put}
 use Rattle.lot_core.specs.Sound.{OneOwner}
-use Rattle.lot_core.proofs.Put.{by_bit, at_all, put_same, put_other}
+use Rattle.lot_core.proofs.Put.{at_all, put_same}
 
 -- of one lock: its held bit, and who has it
 abbrev pub IsOwned : Bool → (ℕ → Bool) → Type 0
@@ -29,10 +29,10 @@ pub owners_got : (held : ℕ → Bool) (has : ℕ → ℕ → Bool) (l t : ℕ) 
 owners_got held has l t h unheld =
     owners (put held l true) (put has l (put (has l) t true))
     (at_all (λ i b. IsOwned (if b then true else held i) (if b then put (has l) t true else has i)) l
-     (owned_by (put (has l) t true) t (put_same (has l) t true)
-      (at_all (λ u b. (if b then true else has l u) ≡ true → u ≡ t) t (λ e. refl)
-       (λ u ne e. let set : held l ≡ true = (h.some l).1 (u, e) in absurd (cc))))
-     (λ i ne. owned held has h i))
+    (owned_by (put (has l) t true) t (put_same (has l) t true)
+    (at_all (λ u b. (if b then true else has l u) ≡ true → u ≡ t) t (λ e. refl)
+    (λ u ne e. let set : held l ≡ true = (h.some l).1 (u, e) in absurd (cc))))
+    (λ i ne. owned held has h i))
 
 -- t lets l go
 pub owners_left : (held : ℕ → Bool) (has : ℕ → ℕ → Bool) (l t : ℕ) → OneOwner held has → has l t ≡ true →
@@ -40,10 +40,10 @@ pub owners_left : (held : ℕ → Bool) (has : ℕ → ℕ → Bool) (l t : ℕ)
 owners_left held has l t h has_it =
     owners (put held l false) (put has l (put (has l) t false))
     (at_all (λ i b. IsOwned (if b then false else held i) (if b then put (has l) t false else has i)) l
-     (owned_none (put (has l) t false)
-      (at_all (λ u b. (if b then false else has l u) ≡ true → ⊥) t (λ e. absurd (cc))
-       (λ u ne e. ne (h.one l u t e has_it))))
-     (λ i ne. owned held has h i))
+    (owned_none (put (has l) t false)
+    (at_all (λ u b. (if b then false else has l u) ≡ true → ⊥) t (λ e. absurd (cc))
+    (λ u ne e. ne (h.one l u t e has_it))))
+    (λ i ne. owned held has h i))
 
 -- t hands l to u
 pub owners_handed : (held : ℕ → Bool) (has : ℕ → ℕ → Bool) (l t u : ℕ) → OneOwner held has → has l t ≡ true →
@@ -51,9 +51,9 @@ pub owners_handed : (held : ℕ → Bool) (has : ℕ → ℕ → Bool) (l t u : 
 owners_handed held has l t u h has_it =
     owners held (put has l (put (put (has l) t false) u true))
     (at_all (λ i b. IsOwned (held i) (if b then put (put (has l) t false) u true else has i)) l
-     (subst (λ b. IsOwned b (put (put (has l) t false) u true)) (sym ((h.some l).1 (t, has_it)))
-      (owned_by (put (put (has l) t false) u true) u (put_same (put (has l) t false) u true)
-       (at_all (λ w b. (if b then true else put (has l) t false w) ≡ true → w ≡ u) u (λ e. refl)
-        (at_all (λ w b. w ≢ u → (if b then false else has l w) ≡ true → w ≡ u) t (λ ne e. absurd (cc))
-         (λ w other ne e. absurd (other (h.one l w t e has_it)))))))
-     (λ i ne. owned held has h i))
+    (subst (λ b. IsOwned b (put (put (has l) t false) u true)) (sym ((h.some l).1 (t, has_it)))
+    (owned_by (put (put (has l) t false) u true) u (put_same (put (has l) t false) u true)
+    (at_all (λ w b. (if b then true else put (has l) t false w) ≡ true → w ≡ u) u (λ e. refl)
+    (at_all (λ w b. w ≢ u → (if b then false else has l w) ≡ true → w ≡ u) t (λ ne e. absurd (cc))
+    (λ w other ne e. absurd (other (h.one l w t e has_it)))))))
+    (λ i ne. owned held has h i))

@@ -1,5 +1,5 @@
 -- What a pass writes is what the model's pass changes.
-use Rattle.std.proofs.Common.{◌≡◌, ◌≢◌, ℕ, Bool, true, false, List, [], ◌∷◌, Option, Some, None, is_some, drop, refl, sym, ap, ◌∙◌, subst}
+use Rattle.std.proofs.Common.{◌≡◌, ℕ, Bool, true, false, List, [], ◌∷◌, Option, Some, None, is_some, drop, refl, sym, ap, ◌∙◌}
 use Rattle.std.specs.Prelude.{◌==◌, ◌&&◌, if◌then◌else◌}
 use Rattle.std.proofs.lemmas.Bool.{eqb-true, ne_eqb}
 use mathlib.Core.Path.{fun_ext}
@@ -15,13 +15,13 @@ pub owns_left : (o : Option ℕ) (t : ℕ) → owns o t ≡ true → owns None �
 owns_left None t has = absurd (cc)
 owns_left (Some v) t has =
     fun_ext (at_all (λ u b. false ≡ (if b then false else u == v)) t refl
-        (λ u ne. sym (ne_eqb u v (λ e. ne (e ∙ sym (eqb-true t v has))))))
+    (λ u ne. sym (ne_eqb u v (λ e. ne (e ∙ sym (eqb-true t v has))))))
 
 -- and hands it to u
 pub owns_handed : (o : Option ℕ) (t u : ℕ) → owns o t ≡ true → owns (Some u) ≡ put (put (owns o) t false) u true
 owns_handed o t u has =
     fun_ext (λ w. by_bit (λ b. b ≡ (if b then true else put (owns o) t false w)) (w == u) (λ e. refl)
-        (λ e. ap (λ (f : ℕ → Bool). f w) (owns_left o t has)))
+    (λ e. ap (λ (f : ℕ → Bool). f w) (owns_left o t has)))
 
 -- who has a lock means that it is held
 pub owned_held : (o : Option ℕ) (t : ℕ) → owns o t ≡ true → is_some o ≡ true
@@ -39,16 +39,16 @@ pub hands_line : (a : Locks) (o : Option ℕ) (t l : ℕ) (more : Bool) (xs : Li
 hands_line a o t l more [] owned held has some = absurd (cc)
 hands_line a o t l more (u ∷ rest) owned held has some =
     ap (λ (h : ℕ → Bool). locks_of a h a.parked (put a.line l rest) (put a.has l (owns (Some u))))
-       (ap (put a.held l) (sym held) ∙ put_again a.held l)
+    (ap (put a.held l) (sym held) ∙ put_again a.held l)
     ∙ ap (λ (f : ℕ → Bool). locks_of a a.held a.parked (put a.line l rest) (put a.has l f))
-       (owns_handed o t u (ap (λ (f : ℕ → Bool). f t) (sym owned) ∙ has) ∙ ap (λ (f : ℕ → Bool). put (put f t false) u true) (sym owned))
+    (owns_handed o t u (ap (λ (f : ℕ → Bool). f t) (sym owned) ∙ has) ∙ ap (λ (f : ℕ → Bool). put (put f t false) u true) (sym owned))
 
 pub leaves_line : (a : Locks) (t l : ℕ) (fair more : Bool) (xs : List ℕ) → a.line l ≡ xs → (fair ≡ true → is_some (first xs) ≡ false) →
     locks_of a (put a.held l false) (put a.parked l (is_some (first xs) && more)) (put a.line l (drop 1 xs)) (put a.has l (put (a.has l) t false))
     ≡ passed_line a t l fair more xs
 leaves_line a t l fair more [] is none =
     ap (λ (line : ℕ → List ℕ). locks_of a (put a.held l false) (put a.parked l false) line (put a.has l (put (a.has l) t false)))
-       (ap (put a.line l) (sym is) ∙ put_again a.line l)
+    (ap (put a.line l) (sym is) ∙ put_again a.line l)
 leaves_line a t l true more (u ∷ rest) is none = let e = none refl in absurd (cc)
 leaves_line a t l false more (u ∷ rest) is none = refl
 
@@ -66,9 +66,9 @@ pass_hands s x y t l fair more o taken owned is is_fair some has =
     owned ∙ ap (λ (v : World). with_owner v l o) taken
     ∙ ap (λ (p : Option ℕ). with_owner (with_lock_line w l (drop 1 (w.locks.line l))) l p) is
     ∙ ap (λ (a : Locks). let v : World = record w { locks = a } in v)
-        (hands_line w.locks (row None s.owners.items l) t l more (w.locks.line l) refl (owned_held (row None s.owners.items l) t has) has
-         (ap (is_some {T = ℕ}) (sym is) ∙ some)
-         ∙ ap (λ (f : Bool). passed w.locks t l f more) (sym is_fair))
+    (hands_line w.locks (row None s.owners.items l) t l more (w.locks.line l) refl (owned_held (row None s.owners.items l) t has) has
+    (ap (is_some {T = ℕ}) (sym is) ∙ some)
+    ∙ ap (λ (f : Bool). passed w.locks t l f more) (sym is_fair))
 
 -- a pass that hands the lock to nobody
 pub pass_leaves : (s : State) (x y z : World) (t l : ℕ) (fair more said : Bool) (o : Option ℕ) →
@@ -79,8 +79,8 @@ pass_leaves s x y z t l fair more said o taken owned parked is says none has =
     let w = world_of s in
     parked ∙ ap (λ (v : World). with_parked v l said) (owned ∙ ap (λ (v : World). with_owner v l None) taken)
     ∙ ap (λ (b : Bool). with_parked (with_owner (with_lock_line w l (drop 1 (w.locks.line l))) l None) l b)
-         (says ∙ ap (λ (p : Option ℕ). is_some p && more) is)
+    (says ∙ ap (λ (p : Option ℕ). is_some p && more) is)
     ∙ ap (λ (f : ℕ → Bool). let v : World = record w { locks = locks_of w.locks (put w.locks.held l false) (put w.locks.parked l (is_some (first (w.locks.line l)) && more)) (put w.locks.line l (drop 1 (w.locks.line l))) (put w.locks.has l f) } in v)
-         (owns_left (row None s.owners.items l) t has)
+    (owns_left (row None s.owners.items l) t has)
     ∙ ap (λ (a : Locks). let v : World = record w { locks = a } in v)
-        (leaves_line w.locks t l fair more (w.locks.line l) refl (λ e. ap (is_some {T = ℕ}) (sym is) ∙ none e))
+    (leaves_line w.locks t l fair more (w.locks.line l) refl (λ e. ap (is_some {T = ℕ}) (sym is) ∙ none e))

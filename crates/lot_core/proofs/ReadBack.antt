@@ -1,11 +1,11 @@
 -- A spelled script has no bad line, and one text spells one script.
-use Rattle.std.proofs.Common.{◌≡◌, ◌≢◌, ◌<◌, ◌≤◌, ◌+◌, ◌++◌, ℕ, List, [], ◌∷◌, length, length-append, Option, Some, None, refl, sym, ap, ◌∙◌, ◌⊎◌, subst, arith, append_assoc, inl, inr}
+use Rattle.std.proofs.Common.{◌≡◌, ◌+◌, ◌++◌, ℕ, List, [], ◌∷◌, length, length-append, None, refl, sym, ap, ◌∙◌, ◌⊎◌, arith, append_assoc, inl, inr}
 use Rattle.std.specs.Prelude.{flat_map}
 use Rattle.std.specs.List.{AllByRecursion}
 use Rattle.std.proofs.lemmas.List.{append-nil}
 use Rattle.lot_core.specs.declared.events.Event.{Event}
 use Rattle.lot_core.specs.declared.script.TheConstants.{MAX_LINES}
-use Rattle.lot_core.specs.Script.{IsSmall, HasSpelling, event_line, open_line, lines, AreLines, GoodUntil, IsFirstBad, NoOpening, NoEvent}
+use Rattle.lot_core.specs.Script.{IsSmall, HasSpelling, event_line, open_line, lines, AreLines, IsFirstBad, NoEvent}
 use Rattle.lot_core.specs.Reading.{event_at, open_at, first_of, after}
 use Rattle.lot_core.proofs.Figures.{some_is}
 use Rattle.lot_core.proofs.Spelled.{event_again, open_again}
@@ -29,12 +29,12 @@ pub beyond : (longer shorter : List Event) (rest : List ℕ) → AllByRecursion 
 beyond longer [] rest each each' is = record { more = longer; parts = refl; rest_is = sym is; each = each }
 beyond [] (y ∷ shorter) rest each each' is =
     absurd (line_not_nil y (flat_map event_line shorter ++ rest) each'.0
-        (sym (append_assoc (event_line y) (flat_map event_line shorter) rest) ∙ sym is))
+    (sym (append_assoc (event_line y) (flat_map event_line shorter) rest) ∙ sym is))
 beyond (x ∷ longer) (y ∷ shorter) rest each each' is =
     let both = some_is (x, flat_map event_line longer) (y, flat_map event_line shorter ++ rest)
-        (sym (event_again x (flat_map event_line longer) each.0)
-         ∙ ap event_at (is ∙ append_assoc (event_line y) (flat_map event_line shorter) rest)
-         ∙ event_again y (flat_map event_line shorter ++ rest) each'.0) in
+    (sym (event_again x (flat_map event_line longer) each.0)
+    ∙ ap event_at (is ∙ append_assoc (event_line y) (flat_map event_line shorter) rest)
+    ∙ event_again y (flat_map event_line shorter ++ rest) each'.0) in
     let same : x ≡ y = ap (λ (p : Event × List ℕ). p.0) both in
     let next = beyond longer shorter rest each.1 each'.1 (ap (λ (p : Event × List ℕ). p.1) both) in
     record { more = next.more; parts = ap (λ e. e ∷ longer) same ∙ ap (λ es. y ∷ es) next.parts; rest_is = next.rest_is; each = next.each }
@@ -49,7 +49,7 @@ pub not_bad : (n l c : ℕ) (events : List Event) (number : ℕ) → AreLines n 
 not_bad n l c events number are (inl bad) = bad.1 n l c (flat_map event_line events) are.opening refl
 not_bad n l c events number are (inr (rest, good, some, why)) =
     let both = same_opening n l c good.threads good.locks good.conds (flat_map event_line events) (flat_map event_line good.events ++ rest) are.opening good.are.opening
-        (good.parts ∙ append_assoc (open_line good.threads good.locks good.conds) (flat_map event_line good.events) rest) in
+    (good.parts ∙ append_assoc (open_line good.threads good.locks good.conds) (flat_map event_line good.events) rest) in
     let left = beyond events good.events rest are.each good.are.each (ap (λ (p : ℕ × ℕ × ℕ × List ℕ). p.3) both) in
     none_left left.more left.parts left.rest_is left.each why
   where
@@ -64,9 +64,12 @@ pub one_script : (n l c n' l' c' : ℕ) (events events' : List Event) → AreLin
     lines n l c events ≡ lines n' l' c' events' → (n ≡ n') × (l ≡ l') × (c ≡ c') × (events ≡ events')
 one_script n l c n' l' c' events events' are are' is =
     let both = same_opening n l c n' l' c' (flat_map event_line events) (flat_map event_line events') are.opening are'.opening is in
-    let left = beyond events events' [] are.each are'.each (ap (λ (p : ℕ × ℕ × ℕ × List ℕ). p.3) both ∙ sym (append-nil (flat_map event_line events'))) in
-    (ap (λ (p : ℕ × ℕ × ℕ × List ℕ). p.0) both, ap (λ (p : ℕ × ℕ × ℕ × List ℕ). p.1) both, ap (λ (p : ℕ × ℕ × ℕ × List ℕ). p.2) both,
-     same_events left.more left.parts left.rest_is left.each)
+    let left = beyond events events' [] are.each are'.each (ap (λ (p : ℕ × ℕ × ℕ × List ℕ). p.3) both ∙ sym (append-nil (flat_map event_line events'))) in (
+      ap (λ (p : ℕ × ℕ × ℕ × List ℕ). p.0) both,
+      ap (λ (p : ℕ × ℕ × ℕ × List ℕ). p.1) both,
+      ap (λ (p : ℕ × ℕ × ℕ × List ℕ). p.2) both,
+      same_events left.more left.parts left.rest_is left.each,
+    )
   where
     same_events : (more : List Event) → events ≡ events' ++ more → [] ≡ flat_map event_line more → AllByRecursion HasSpelling more → events ≡ events'
     same_events [] parts rest_is each = parts ∙ append-nil events'

@@ -1,7 +1,7 @@
 -- A list written at one place is its row with one value changed.
-use Rattle.std.proofs.Common.{zero, suc, ◌≡◌, ◌≢◌, ◌<◌, ◌≤◌, ◌-◌, ◌+◌, ◌++◌, ℕ, Bool, true, false, List, [], ◌∷◌, length, get_or, set, map, replicate, refl, sym, ap, subst, ◌∙◌, arith, get_or-set_same, get_or-set_other}
-use Rattle.std.specs.Prelude.{◌==◌, nat_lt, if◌then◌else◌, slice_index_or, slice_set}
-use Rattle.std.proofs.lemmas.Bool.{cases_eq, ltb-true, ltb-false, lt-ltb, le-ltb}
+use Rattle.std.proofs.Common.{zero, suc, ◌≡◌, ◌<◌, ◌≤◌, ◌-◌, ◌+◌, ℕ, List, length, get_or, set, replicate, refl, sym, ap, ◌∙◌, arith, get_or-set_same, get_or-set_other}
+use Rattle.std.specs.Prelude.{nat_lt, if◌then◌else◌, slice_index_or}
+use Rattle.std.proofs.lemmas.Bool.{ltb-false, lt-ltb, le-ltb}
 use Rattle.std.proofs.lemmas.List.{get_or_past, get_or_default}
 use mathlib.Core.Path.{fun_ext}
 use Rattle.lot_core.specs.World.{put}
@@ -20,7 +20,7 @@ pub row_set : {X : Type 0} (none : X) (xs : List X) (k : ℕ) (v : X) → k < le
 unfolding row
 row_set none xs k v within =
     fun_ext (at_all (λ i b. get_or (set xs k v) i none ≡ (if b then v else get_or xs i none)) k
-        (get_or-set_same xs k v none within) (λ i ne. get_or-set_other xs k i v none ne))
+    (get_or-set_same xs k v none within) (λ i ne. get_or-set_other xs k i v none ne))
 
 pub get_or_replicate : {X : Type 0} (none : X) (n k : ℕ) → get_or (replicate n none) k none ≡ none
 get_or_replicate none zero k = refl
@@ -50,12 +50,12 @@ pub row_from_set : {X : Type 0} (none : X) (low : ℕ) (xs : List X) (k : ℕ) (
 unfolding row_from
 row_from_set none low xs k v from within =
     fun_ext (at_all (λ i b. (if nat_lt i low then none else get_or (set xs (k - low) v) (i - low) none)
-            ≡ (if b then v else (if nat_lt i low then none else get_or xs (i - low) none))) k
-        (ap (λ b. if b then none else get_or (set xs (k - low) v) (k - low) none) (le-ltb k low from)
-         ∙ get_or-set_same xs (k - low) v none within)
-        (λ i ne. by_bit (λ b. nat_lt i low ≡ b → (if b then none else get_or (set xs (k - low) v) (i - low) none) ≡ (if b then none else get_or xs (i - low) none)) (nat_lt i low)
-            (λ e is. refl)
-            (λ e is. let at : low ≤ i = ltb-false i low is in get_or-set_other xs (k - low) (i - low) v none (omega arith)) refl))
+    ≡ (if b then v else (if nat_lt i low then none else get_or xs (i - low) none))) k
+    (ap (λ b. if b then none else get_or (set xs (k - low) v) (k - low) none) (le-ltb k low from)
+    ∙ get_or-set_same xs (k - low) v none within)
+    (λ i ne. by_bit (λ b. nat_lt i low ≡ b → (if b then none else get_or (set xs (k - low) v) (i - low) none) ≡ (if b then none else get_or xs (i - low) none)) (nat_lt i low)
+    (λ e is. refl)
+    (λ e is. let at : low ≤ i = ltb-false i low is in get_or-set_other xs (k - low) (i - low) v none (omega arith)) refl))
 
 -- what was read at a place within the list
 pub row_read : {X : Type 0} (none : X) (xs : List X) (k : ℕ) (x : X) → k < length xs → x ≡ get_or xs k x → row none xs k ≡ x
@@ -74,4 +74,4 @@ pub row_from_none : {X : Type 0} (none : X) (low n : ℕ) → row_from none low 
 unfolding row_from
 row_from_none none low n =
     fun_ext (λ k. by_bit (λ b. (if b then none else get_or (replicate n none) (k - low) none) ≡ none) (nat_lt k low)
-        (λ e. refl) (λ e. get_or_replicate none n (k - low)))
+    (λ e. refl) (λ e. get_or_replicate none n (k - low)))

@@ -1,5 +1,5 @@
 -- One more event of a run.
-use Rattle.std.proofs.Common.{◌≡◌, ◌<◌, ◌+◌, ◌++◌, ℕ, List, [], ◌∷◌, length, get_or, take, refl, sym, ap, subst, ◌∙◌, arith}
+use Rattle.std.proofs.Common.{◌≡◌, ◌<◌, ◌+◌, ◌++◌, ℕ, List, [], ◌∷◌, length, get_or, take, refl, sym, ap, subst, ◌∙◌}
 use Rattle.std.specs.Prelude.{slice_get, Some, Err}
 use Rattle.std.proofs.lemmas.List.{take_more}
 use Rattle.lot_core.specs.declared.events.Event.{Event}
@@ -26,7 +26,7 @@ pub so_more : (s r q : World) (events : List Event) (i : ℕ) (e : Event) → Is
     Allowed r e → q ≡ after r e → IsSoFar s events (i + 1) q
 so_more s r q events i e so within is ok made =
     let one_more : take i events ++ e ∷ [] ≡ take (i + 1) events =
-        ap (λ x. take i events ++ x ∷ []) is ∙ sym (take_more events i e within) in
+    ap (λ x. take i events ++ x ∷ []) is ∙ sym (take_more events i e within) in
     record {
       run = subst (λ xs. Run s xs) one_more (run_push s (take i events) e so.run (subst (λ w. Allowed w e) so.state ok));
       state = made ∙ ap (λ (w : World). after w e) so.state ∙ sym (after_push s (take i events) e) ∙ ap (after_all s) one_more;

@@ -1,13 +1,13 @@
 -- What has been read of a script, line by line.
-use Rattle.std.proofs.Common.{◌≡◌, ◌≢◌, ◌<◌, ◌≤◌, ◌+◌, ◌++◌, ℕ, List, [], ◌∷◌, length, length-append, Option, Some, None, refl, sym, ap, ◌∙◌, subst, arith, append_assoc, inl, inr}
+use Rattle.std.proofs.Common.{◌≡◌, ◌≢◌, ◌<◌, ◌≤◌, ◌+◌, ◌++◌, ℕ, List, [], ◌∷◌, length, length-append, Some, None, refl, sym, ap, ◌∙◌, subst, arith, append_assoc, inl, inr}
 use Rattle.std.specs.Prelude.{flat_map}
 use Rattle.std.specs.List.{AllByRecursion}
 use Rattle.std.proofs.lemmas.List.{append-nil, nil_from_length}
 use Rattle.lot_core.specs.declared.events.Event.{Event}
 use Rattle.lot_core.specs.declared.script.TheConstants.{MAX_LINES}
-use Rattle.lot_core.specs.Script.{IsSmall, HasSpelling, event_line, open_line, lines, AreLines, GoodUntil, IsFirstBad, NoOpening, NoEvent}
+use Rattle.lot_core.specs.Script.{IsSmall, HasSpelling, event_line, open_line, lines, AreLines, GoodUntil, IsFirstBad}
 use Rattle.lot_core.specs.Reading.{event_at, open_at}
-use Rattle.lot_core.proofs.Spelled.{event_takes, event_again, no_event, open_takes, open_again, no_opening}
+use Rattle.lot_core.proofs.Spelled.{event_takes, no_event, open_takes, no_opening}
 
 -- the first line and these events were read, `number` is the next line's, and `rest` is left
 pub record IsSoFar (text : List ℕ) (n l c : ℕ) (events : List Event) (rest : List ℕ) (number : ℕ) : Type 0 where
@@ -51,16 +51,21 @@ so_more text n l c events rest number e behind so is =
 
 pub so_done : (text : List ℕ) (n l c : ℕ) (events : List Event) (rest : List ℕ) (number : ℕ) → IsSoFar text n l c events rest number →
     number ≤ MAX_LINES + 1 → length rest ≡ 0 → AreLines n l c events × (text ≡ lines n l c events)
-so_done text n l c events rest number so few none =
-    (record { opening = so.opening; each = so.each; few = omega (arith, so.count) },
-     so.parts ∙ ap (λ r. lines n l c events ++ r) (nil_from_length rest none) ∙ append-nil (lines n l c events))
+so_done text n l c events rest number so few none = (
+  record { opening = so.opening; each = so.each; few = omega (arith, so.count) },
+  so.parts ∙ ap (λ r. lines n l c events ++ r) (nil_from_length rest none) ∙ append-nil (lines n l c events),
+)
 
 pub good_until : (text : List ℕ) (n l c : ℕ) (events : List Event) (rest : List ℕ) (number : ℕ) → IsSoFar text n l c events rest number →
     number ≤ MAX_LINES + 1 → GoodUntil text number rest
 good_until text n l c events rest number so few = record {
-  threads = n; locks = l; conds = c; events = events;
+  threads = n;
+  locks = l;
+  conds = c;
+  events = events;
   are = record { opening = so.opening; each = so.each; few = omega (arith, so.count) };
-  parts = so.parts; count = so.count;
+  parts = so.parts;
+  count = so.count;
 }
 
 pub not_nil : (rest : List ℕ) → 0 < length rest → rest ≢ []

@@ -1,19 +1,17 @@
 -- A state is sound where each of its locks and conditions is.
-use Rattle.std.proofs.Common.{zero, suc, ◌≡◌, ◌≢◌, ◌<◌, ◌≤◌, ◌+◌, ◌-◌, ◌↔◌, ◌⊎◌, ℕ, Bool, true, false, List, [], ◌∷◌, length, get_or, Option, Some, None, is_some, refl, sym, ap, ◌∙◌, subst, arith, inl, inr}
-use Rattle.std.specs.Prelude.{IsTrue, slice_get, ◌==◌}
+use Rattle.std.proofs.Common.{◌≡◌, ◌≢◌, ◌<◌, ◌+◌, ◌-◌, ◌↔◌, ◌⊎◌, ℕ, true, List, [], ◌∷◌, Option, Some, None, is_some, refl, sym, ap, ◌∙◌, subst, arith, inl, inr}
+use Rattle.std.specs.Prelude.{IsTrue, ◌==◌}
 use Rattle.std.specs.List.{Contains}
 use Rattle.std.proofs.lemmas.Bool.{cases_lt, eqb-true, eq-eqb}
 use Rattle.lot_core.specs.declared.events.Point.{Point}
-use Rattle.lot_core.specs.declared.events.Point.TheVariants.{Calm, Wants, Bed, Rest, Sweeps}
+use Rattle.lot_core.specs.declared.events.Point.TheVariants.{Bed, Rest}
 use Rattle.lot_core.specs.declared.state.State.{State}
 use Rattle.lot_core.specs.World.{World}
 use Rattle.lot_core.specs.Rows.{row}
-use Rattle.lot_core.specs.Lines.{line_of}
-use Rattle.lot_core.specs.Sound.{IsSound, OneOwner, Waits, IsOnce, IsMarked, IsSought, IsSwept, AllWant, AllWait, IsSoundLock, IsSoundCond}
+use Rattle.lot_core.specs.Sound.{IsSound, OneOwner, Waits, IsOnce, IsSoundLock, IsSoundCond}
 use Rattle.lot_core.specs.State.{world_of, owns}
 use Rattle.lot_core.proofs.Members.{in_none, in_head, once_none}
 use Rattle.lot_core.proofs.LineRows.{line_outside}
-use Rattle.lot_core.proofs.Put.{by_line}
 
 -- an owner is one, and means held
 pub owner_one : (o : Option ℕ) (t u : ℕ) → owns o t ≡ true → owns o u ≡ true → t ≡ u
@@ -40,29 +38,34 @@ first_in (u ∷ rest) some = (u, in_head u rest)
 
 -- what holds of each lock that there is holds of all numbers
 pub empty_lock : (w : World) (l : ℕ) → w.locks.line l ≡ [] → IsSoundLock w l
-empty_lock w l empty =
-    ((λ some. absurd (some empty)), (λ clear some. absurd (some empty)),
-     subst IsOnce (sym empty) once_none, (λ t inside. absurd (not_empty (w.locks.line l) t inside empty)))
+empty_lock w l empty = (
+  (λ some. absurd (some empty)),
+  (λ clear some. absurd (some empty)),
+  subst IsOnce (sym empty) once_none,
+  (λ t inside. absurd (not_empty (w.locks.line l) t inside empty)),
+)
 
 pub empty_cond : (w : World) (c : ℕ) → w.conds.line c ≡ [] → IsSoundCond w c
-empty_cond w c empty =
-    ((λ clear some. absurd (some empty)),
-     subst IsOnce (sym empty) once_none, (λ t inside. absurd (not_empty (w.conds.line c) t inside empty)))
+empty_cond w c empty = (
+  (λ clear some. absurd (some empty)),
+  subst IsOnce (sym empty) once_none,
+  (λ t inside. absurd (not_empty (w.conds.line c) t inside empty)),
+)
 
 pub all_locks : (s : State) → ((k : ℕ) → k < s.locks → IsSoundLock (world_of s) k) → (l : ℕ) → IsSoundLock (world_of s) l
 all_locks s each l = elim (cases_lt l s.locks) [
-      inl within ↦ each l within
-    | inr past ↦ empty_lock (world_of s) l (line_outside s.lock_lines l (λ has. omega (arith, s.lock_line_each)))
-    ]
+  | inl within ↦ each l within
+  | inr past ↦ empty_lock (world_of s) l (line_outside s.lock_lines l (λ has. omega (arith, s.lock_line_each)))
+]
 
 pub all_conds : (s : State) → ((k : ℕ) → k < s.conds → IsSoundCond (world_of s) (s.locks + k)) → (c : ℕ) → IsSoundCond (world_of s) c
 all_conds s each c = elim (cases_lt c s.locks) [
-      inl before ↦ empty_cond (world_of s) c (line_outside s.cond_lines c (λ has. omega (arith, s.cond_line_each)))
-    | inr from ↦ elim (cases_lt (c - s.locks) s.conds) [
-        inl within ↦ let same : s.locks + (c - s.locks) ≡ c = omega arith in subst (λ k. IsSoundCond (world_of s) k) same (each (c - s.locks) within)
-      | inr past ↦ empty_cond (world_of s) c (line_outside s.cond_lines c (λ has. omega (arith, s.cond_line_each)))
-      ]
-    ]
+  | inl before ↦ empty_cond (world_of s) c (line_outside s.cond_lines c (λ has. omega (arith, s.cond_line_each)))
+  | inr from ↦ elim (cases_lt (c - s.locks) s.conds) [
+    | inl within ↦ let same : s.locks + (c - s.locks) ≡ c = omega arith in subst (λ k. IsSoundCond (world_of s) k) same (each (c - s.locks) within)
+    | inr past ↦ empty_cond (world_of s) c (line_outside s.cond_lines c (λ has. omega (arith, s.cond_line_each)))
+  ]
+]
 
 pub sound_from : (s : State) → ((l : ℕ) → IsSoundLock (world_of s) l) → ((c : ℕ) → IsSoundCond (world_of s) c) → IsSound (world_of s)
 sound_from s locks conds = record {
@@ -79,9 +82,12 @@ sound_from s locks conds = record {
 }
 
 pub locks_from : (s : State) → IsSound (world_of s) → (l : ℕ) → IsSoundLock (world_of s) l
-locks_from s h l =
-    ((λ some. let t = first_in ((world_of s).locks.line l) some in h.sleepers_are_marked l t.0 t.1),
-     h.someone_is_trying l, h.one_line_each.lock_once l, h.one_line_each.wants l)
+locks_from s h l = (
+  (λ some. let t = first_in ((world_of s).locks.line l) some in h.sleepers_are_marked l t.0 t.1),
+  h.someone_is_trying l,
+  h.one_line_each.lock_once l,
+  h.one_line_each.wants l,
+)
 
 pub conds_from : (s : State) → IsSound (world_of s) → (c : ℕ) → IsSoundCond (world_of s) c
 conds_from s h c = (h.someone_sweeps c, h.one_line_each.cond_once c, h.one_line_each.waits c)
@@ -94,6 +100,7 @@ enlisted_waits point t c w p at named = ((λ e. waits_on (eqb-true w c e) named)
     waits_on : w ≡ c → ((l : ℕ) × (p ≡ Bed w l)) ⊎ ((l : ℕ) × (p ≡ Rest w l)) → Waits point c t
     waits_on same (inl x) = (x.0, inl (at ∙ x.1 ∙ ap (λ d. Bed d x.0) same))
     waits_on same (inr x) = (x.0, inr (at ∙ x.1 ∙ ap (λ d. Rest d x.0) same))
+
     is_on : {k : ℕ} → ((l : ℕ) × (p ≡ Bed w l)) ⊎ ((l : ℕ) × (p ≡ Rest w l)) → (point t ≡ Bed c k) ⊎ (point t ≡ Rest c k) → IsTrue (w == c)
     is_on (inl x) (inl e) = let is = x.1 in let same : w ≡ c = cc in eq-eqb w c same
     is_on (inl x) (inr e) = let is = x.1 in absurd (cc)

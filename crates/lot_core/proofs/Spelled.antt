@@ -1,15 +1,14 @@
 -- A line that is read is spelled so, and a line that is spelled so is read.
-use Rattle.std.proofs.Common.{◌≡◌, ◌<◌, ◌≤◌, ◌+◌, ◌++◌, ℕ, Bool, true, false, List, [], ◌∷◌, length, take, drop, Option, Some, None, refl, sym, ap, ◌∙◌, subst, arith, append_assoc}
-use Rattle.std.specs.Prelude.{decimal, codes, flat_map, if◌then◌else◌, bytes_eq}
+use Rattle.std.proofs.Common.{◌≡◌, ◌<◌, ◌++◌, ℕ, List, [], ◌∷◌, length, take, drop, Option, Some, None, refl, sym, ap, ◌∙◌, subst, append_assoc}
+use Rattle.std.specs.Prelude.{codes, flat_map, if◌then◌else◌, bytes_eq}
 use Rattle.std.specs.List.{AllByRecursion}
-use Rattle.std.specs.Option.{option_and_then}
 use Rattle.std.proofs.lemmas.List.{take-append-drop, append-nil}
 use Rattle.std.proofs.lemmas.Slice.Eq.{bytes_eq-Decides}
 use Rattle.lot_core.specs.declared.events.Event.{Event}
 use Rattle.lot_core.specs.declared.events.Event.TheVariants as event
 use Rattle.lot_core.specs.declared.script.Kind.{Kind}
 use Rattle.lot_core.specs.declared.script.Kind.TheVariants.{Try, Take, Mark, Park, Free, Pass, Enlist, Look, Call, Lower, Sweep}
-use Rattle.lot_core.specs.Script.{field, line, bit, word, numbers, event_line, open_line, IsSmall, HasSpelling, NoOpening, NoEvent}
+use Rattle.lot_core.specs.Script.{field, bit, word, numbers, event_line, open_line, IsSmall, HasSpelling, NoOpening, NoEvent}
 use Rattle.lot_core.specs.Reading.{after, kind_word, kinds, first_of, or_else, field_at, flag_at, end_at, last_at, event_at, open_at}
 use Rattle.lot_core.proofs.Put.{by_bit}
 use Rattle.lot_core.proofs.Figures.{bind_is, bind_some, some_is, Ends, field_takes, field_again, flag_takes, flag_again, end_takes, end_again, bit_small}
@@ -20,9 +19,9 @@ unfolding after
 after_takes w text rest is =
     by_bit (λ b. bytes_eq (take (length w) text) w ≡ b → (if b then Some (drop (length w) text) else None) ≡ Some rest → text ≡ w ++ rest) (bytes_eq (take (length w) text) w)
     (λ _ e is.
-        let front : take (length w) text ≡ w = (bytes_eq-Decides (take (length w) text) w).0 e in
-        let back : drop (length w) text ≡ rest = some_is (drop (length w) text) rest is in
-        sym (take-append-drop (length w) text) ∙ ap (λ f. f ++ drop (length w) text) front ∙ ap (λ b. w ++ b) back)
+    let front : take (length w) text ≡ w = (bytes_eq-Decides (take (length w) text) w).0 e in
+    let back : drop (length w) text ≡ rest = some_is (drop (length w) text) rest is in
+    sym (take-append-drop (length w) text) ∙ ap (λ f. f ++ drop (length w) text) front ∙ ap (λ b. w ++ b) back)
     (λ _ e is. absurd (cc))
     refl is
 
@@ -89,7 +88,7 @@ last_takes Pass t x text found is =
     last_of Pass t x text (event.Pass t x fair.0.0 more.0.0) (bit fair.0.0 ∷ bit more.0.0 ∷ []) more.0.1 found refl refl
     (bit_small fair.0.0, (bit_small more.0.0, tt))
     (flag_takes text fair.0.0 fair.0.1 fair.1 ∙ ap (λ r. field (bit fair.0.0) ++ r) (flag_takes fair.0.1 more.0.0 more.0.1 more.1)
-     ∙ sym (two_parts (field (bit fair.0.0)) (field (bit more.0.0)) more.0.1))
+    ∙ sym (two_parts (field (bit fair.0.0)) (field (bit more.0.0)) more.0.1))
     more.2
 last_takes Enlist t x text found is =
     let lock = bind_some _ (field_at text) found is in
@@ -130,14 +129,15 @@ event_takes text e rest is =
     let e_is : last.0.0 ≡ e = ap (λ (y : Event × List ℕ). y.0) both in
     let rest_is : end.0 ≡ rest = ap (λ (y : Event × List ℕ). y.1) both in
     let parts : text ≡ event_line last.0.0 ++ end.0 =
-        first_takes kinds text kind.0.0 kind.0.1 kind.1
-        ∙ ap (λ r. kind_word kind.0.0 ++ r)
-            (t.1 ∙ ap (λ r. field thread.0.0 ++ r)
-                (x.1 ∙ ap (λ r. field key.0.0 ++ r)
-                    (l.parts ∙ ap (λ r. flat_map field l.more ++ r) (end_takes last.0.1 end.0 end.1))))
-        ∙ sym (line_parts last.0.0 kind.0.0 thread.0.0 key.0.0 l.more end.0 l.word_is l.numbers_are) in
-    (subst HasSpelling e_is (subst (AllByRecursion IsSmall) (sym l.numbers_are) (t.0, (x.0, l.small))),
-     parts ∙ ap (λ y. event_line y ++ end.0) e_is ∙ ap (λ r. event_line e ++ r) rest_is)
+    first_takes kinds text kind.0.0 kind.0.1 kind.1
+    ∙ ap (λ r. kind_word kind.0.0 ++ r)
+    (t.1 ∙ ap (λ r. field thread.0.0 ++ r)
+    (x.1 ∙ ap (λ r. field key.0.0 ++ r)
+    (l.parts ∙ ap (λ r. flat_map field l.more ++ r) (end_takes last.0.1 end.0 end.1))))
+    ∙ sym (line_parts last.0.0 kind.0.0 thread.0.0 key.0.0 l.more end.0 l.word_is l.numbers_are) in (
+      subst HasSpelling e_is (subst (AllByRecursion IsSmall) (sym l.numbers_are) (t.0, (x.0, l.small))),
+      parts ∙ ap (λ y. event_line y ++ end.0) e_is ∙ ap (λ r. event_line e ++ r) rest_is,
+    )
 
 pub fields_end : (more rest : List ℕ) → Ends (flat_map field more ++ (10 ∷ rest))
 fields_end [] rest = refl
@@ -150,10 +150,10 @@ again_of e k t x more rest word_is numbers_are small_t small_x last_is =
     let end : List ℕ = flat_map field more ++ (10 ∷ rest) in
     ap event_at (line_parts e k t x more rest word_is numbers_are)
     ∙ bind_is _ (first_of kinds (kind_word k ++ (field t ++ (field x ++ end)))) (k, field t ++ (field x ++ end)) _ (first_again k (field t ++ (field x ++ end)))
-      (bind_is _ (field_at (field t ++ (field x ++ end))) (t, field x ++ end) _ (field_again t (field x ++ end) small_t refl)
-       (bind_is _ (field_at (field x ++ end)) (x, end) _ (field_again x end small_x (fields_end more rest))
-        (bind_is _ (last_at k t x end) (e, 10 ∷ rest) _ last_is
-         (bind_is _ (end_at (10 ∷ rest)) rest _ (end_again rest) refl))))
+    (bind_is _ (field_at (field t ++ (field x ++ end))) (t, field x ++ end) _ (field_again t (field x ++ end) small_t refl)
+    (bind_is _ (field_at (field x ++ end)) (x, end) _ (field_again x end small_x (fields_end more rest))
+    (bind_is _ (last_at k t x end) (e, 10 ∷ rest) _ last_is
+    (bind_is _ (end_at (10 ∷ rest)) rest _ (end_again rest) refl))))
 
 pub event_again : (e : Event) (rest : List ℕ) → HasSpelling e → event_at (event_line e ++ rest) ≡ Some (e, rest)
 unfolding last_at
@@ -165,17 +165,17 @@ event_again (event.Free t x) rest small = again_of (event.Free t x) Free t x [] 
 event_again (event.Pass t x fair more) rest small =
     again_of (event.Pass t x fair more) Pass t x (bit fair ∷ bit more ∷ []) rest refl refl small.0 small.1.0
     (ap (last_at Pass t x) (two_parts (field (bit fair)) (field (bit more)) (10 ∷ rest))
-     ∙ bind_is _ (flag_at (field (bit fair) ++ (field (bit more) ++ (10 ∷ rest)))) (fair, field (bit more) ++ (10 ∷ rest)) _ (flag_again fair (field (bit more) ++ (10 ∷ rest)) refl)
-       (bind_is _ (flag_at (field (bit more) ++ (10 ∷ rest))) (more, 10 ∷ rest) _ (flag_again more (10 ∷ rest) refl) refl))
+    ∙ bind_is _ (flag_at (field (bit fair) ++ (field (bit more) ++ (10 ∷ rest)))) (fair, field (bit more) ++ (10 ∷ rest)) _ (flag_again fair (field (bit more) ++ (10 ∷ rest)) refl)
+    (bind_is _ (flag_at (field (bit more) ++ (10 ∷ rest))) (more, 10 ∷ rest) _ (flag_again more (10 ∷ rest) refl) refl))
 event_again (event.Enlist t x l) rest small =
     again_of (event.Enlist t x l) Enlist t x (l ∷ []) rest refl refl small.0 small.1.0
     (ap (last_at Enlist t x) (one_part (field l) (10 ∷ rest))
-     ∙ bind_is _ (field_at (field l ++ (10 ∷ rest))) (l, 10 ∷ rest) _ (field_again l (10 ∷ rest) small.1.1.0 refl) refl)
+    ∙ bind_is _ (field_at (field l ++ (10 ∷ rest))) (l, 10 ∷ rest) _ (field_again l (10 ∷ rest) small.1.1.0 refl) refl)
 event_again (event.Look t x) rest small = again_of (event.Look t x) Look t x [] rest refl refl small.0 small.1.0 refl
 event_again (event.Call t x more) rest small =
     again_of (event.Call t x more) Call t x (bit more ∷ []) rest refl refl small.0 small.1.0
     (ap (last_at Call t x) (one_part (field (bit more)) (10 ∷ rest))
-     ∙ bind_is _ (flag_at (field (bit more) ++ (10 ∷ rest))) (more, 10 ∷ rest) _ (flag_again more (10 ∷ rest) refl) refl)
+    ∙ bind_is _ (flag_at (field (bit more) ++ (10 ∷ rest))) (more, 10 ∷ rest) _ (flag_again more (10 ∷ rest) refl) refl)
 event_again (event.Lower t x) rest small = again_of (event.Lower t x) Lower t x [] rest refl refl small.0 small.1.0 refl
 event_again (event.Sweep t x) rest small = again_of (event.Sweep t x) Sweep t x [] rest refl refl small.0 small.1.0 refl
 
@@ -200,12 +200,12 @@ open_takes text n l c rest is =
     let m = field_takes locks.0.1 conds.0.0 conds.0.1 conds.1 in
     let all = some_is (threads.0.0, locks.0.0, conds.0.0, end.0) (n, l, c, rest) end.2 in
     let parts : text ≡ open_line threads.0.0 locks.0.0 conds.0.0 ++ end.0 =
-        after_takes (codes "open") text behind.0 behind.1
-        ∙ ap (λ r. codes "open" ++ r)
-            (t.1 ∙ ap (λ r. field threads.0.0 ++ r)
-                (k.1 ∙ ap (λ r. field locks.0.0 ++ r)
-                    (m.1 ∙ ap (λ r. field conds.0.0 ++ r) (end_takes conds.0.1 end.0 end.1))))
-        ∙ sym (regroup_open (codes "open") (field threads.0.0) (field locks.0.0) (field conds.0.0) end.0) in
+    after_takes (codes "open") text behind.0 behind.1
+    ∙ ap (λ r. codes "open" ++ r)
+    (t.1 ∙ ap (λ r. field threads.0.0 ++ r)
+    (k.1 ∙ ap (λ r. field locks.0.0 ++ r)
+    (m.1 ∙ ap (λ r. field conds.0.0 ++ r) (end_takes conds.0.1 end.0 end.1))))
+    ∙ sym (regroup_open (codes "open") (field threads.0.0) (field locks.0.0) (field conds.0.0) end.0) in
     subst (λ (y : ℕ × ℕ × ℕ × List ℕ). AllByRecursion IsSmall (y.0 ∷ y.1 ∷ y.2 ∷ []) × (text ≡ open_line y.0 y.1 y.2 ++ y.3)) all
     ((t.0, (k.0, (m.0, tt))), parts)
 
@@ -219,10 +219,10 @@ open_again n l c rest small =
     let end : List ℕ = 10 ∷ rest in
     ap open_at (regroup_open (codes "open") (field n) (field l) (field c) rest)
     ∙ bind_is _ (after (codes "open") (codes "open" ++ (field n ++ (field l ++ (field c ++ end))))) (field n ++ (field l ++ (field c ++ end))) _ (open_word (field n ++ (field l ++ (field c ++ end))))
-      (bind_is _ (field_at (field n ++ (field l ++ (field c ++ end)))) (n, field l ++ (field c ++ end)) _ (field_again n (field l ++ (field c ++ end)) small.0 refl)
-       (bind_is _ (field_at (field l ++ (field c ++ end))) (l, field c ++ end) _ (field_again l (field c ++ end) small.1.0 refl)
-        (bind_is _ (field_at (field c ++ end)) (c, end) _ (field_again c end small.1.1.0 refl)
-         (bind_is _ (end_at end) rest _ (end_again rest) refl))))
+    (bind_is _ (field_at (field n ++ (field l ++ (field c ++ end)))) (n, field l ++ (field c ++ end)) _ (field_again n (field l ++ (field c ++ end)) small.0 refl)
+    (bind_is _ (field_at (field l ++ (field c ++ end))) (l, field c ++ end) _ (field_again l (field c ++ end) small.1.0 refl)
+    (bind_is _ (field_at (field c ++ end)) (c, end) _ (field_again c end small.1.1.0 refl)
+    (bind_is _ (end_at end) rest _ (end_again rest) refl))))
 
 pub no_opening : (text : List ℕ) → open_at text ≡ None → NoOpening text
 no_opening text none n l c more small is = let read = ap open_at is ∙ open_again n l c more small in absurd (cc)

@@ -1,11 +1,11 @@
 -- Texts that grow line by line.
-use Rattle.std.proofs.Common.{zero, suc, ◌≡◌, ◌≢◌, ◌<◌, ◌≤◌, ◌+◌, ◌++◌, ℕ, Bool, true, false, List, [], ◌∷◌, Option, Some, None, refl, sym, ap, ◌∙◌, arith, append_assoc, add-suc, add-one, add-zero, length-take-le}
+use Rattle.std.proofs.Common.{zero, suc, ◌≡◌, ◌≢◌, ◌<◌, ◌≤◌, ◌+◌, ◌++◌, ℕ, Bool, true, false, List, [], ◌∷◌, Some, None, refl, sym, ap, ◌∙◌, arith, append_assoc, add-zero, length-take-le}
 use Rattle.std.specs.Prelude.{flat_map, find}
 use Rattle.std.specs.List.{range_with_len, join_by}
-use Rattle.std.specs.Prelude.{◌==◌, if◌then◌else◌, decimal, codes, slice_get, take, length}
+use Rattle.std.specs.Prelude.{if◌then◌else◌, decimal, codes, slice_get, take, length}
 use Rattle.std.proofs.lemmas.List.{append-nil, take_more, take_all}
 use Rattle.std.proofs.lemmas.Option.{get_or_from_slice_get, slice_get_within}
-use Rattle.std.proofs.lemmas.Bool.{eqb-true, eq-eqb, ne_eqb, cases_lt}
+use Rattle.std.proofs.lemmas.Bool.{eq-eqb, ne_eqb}
 use Rattle.lot_core.specs.State.{owns}
 use Rattle.lot_core.specs.Printed.{line_text}
 
@@ -74,7 +74,7 @@ pub queue_more : (xs : List ℕ) (i x : ℕ) (old before now : List ℕ) → 0 <
 queue_more xs i x old before now some at so is =
     let within : i < length xs = slice_get_within xs i x at in
     let next : take (i + 1) xs ≡ take i xs ++ x ∷ [] =
-        take_more xs i x within ∙ ap (λ y. take i xs ++ y ∷ []) (get_or_from_slice_get xs i x x at) in
+    take_more xs i x within ∙ ap (λ y. take i xs ++ y ∷ []) (get_or_from_slice_get xs i x x at) in
     let not_none : take i xs ≢ [] = λ e. omega (arith, ap length e, length-take-le i xs) in
     is ∙ ap (λ t. t ++ (codes "," ++ decimal x)) so
     ∙ append_assoc old (join_by decimal (codes ",") (take i xs)) (codes "," ++ decimal x)

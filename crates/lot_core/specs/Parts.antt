@@ -1,5 +1,5 @@
--- The two parts of a state: what the words of locks can tell of it, and what those of conditions can.
-use Rattle.std.specs.Prelude.{◌≡◌, ℕ, ◌+◌, ◌<◌, ◌≤◌, ◌&&◌, ◌⊎◌, Bool, true, false, not, if◌then◌else◌, List, [], ◌∷◌, length, Option, Some, None}
+-- The two parts of a state: what the words of locks tell of it, and what those of conditions tell.
+use Rattle.std.specs.Prelude.{◌≡◌, ◌↔◌, ℕ, ◌+◌, ◌<◌, ◌≤◌, ◌&&◌, ◌⊎◌, true, false, not, if◌then◌else◌, List, [], ◌∷◌, length, Option, Some, None}
 use Rattle.std.specs.List.{Contains}
 use Rattle.lot_core.specs.declared.events.Point.{Point}
 use Rattle.lot_core.specs.declared.events.Point.TheVariants.{Calm, Wants, Bed, Rest, Sweeps}
@@ -8,7 +8,7 @@ use Rattle.lot_core.specs.declared.events.Event.TheVariants.{Try, Take, Mark, Pa
 use Rattle.lot_core.specs.declared.events.Seen.{Seen}
 use Rattle.lot_core.specs.declared.events.Seen.TheVariants.{Bool as Saw, Done, Sleeper, Count}
 use Rattle.lot_core.specs.World.{World, Locks, Conds, put}
-use Rattle.lot_core.specs.Steps.{SaysMore, after, seen, first, got, marked, queued, freed, passed, enlisted, called, lowered, swept}
+use Rattle.lot_core.specs.Steps.{MayLetGo, SaysMore, Allowed, after, seen, first, got, marked, queued, freed, passed, enlisted, called, lowered, swept}
 
 -- the lock part of a state: the locks, and the lock that each thread wants
 pub record LockPart : Type 0 where
@@ -172,13 +172,48 @@ IsLockEvent (Call t c more) = ⊥
 IsLockEvent (Lower t c) = ⊥
 IsLockEvent (Sweep t c) = ⊥
 
+-- t stands where it tries to get l, so far as the lock part can't tell
+abbrev pub StandsBefore : World → ℕ → ℕ → Type 0
+StandsBefore s t l =
+    (s.point t ≡ Wants l) ⊎ ((c : ℕ) × (s.point t ≡ Rest c l) × (¬ Contains (s.conds.line c) t))
+
+-- what an event asks of its thread beside what its own part tells: the caller, who has both parts of
+-- a thread, answers for it
+abbrev pub AsksOfThread : World → Event → Type 0
+AsksOfThread s (Try t l) = s.point t ≡ Calm
+AsksOfThread s (Take t l) = (s.point t ≡ Calm) ⊎ StandsBefore s t l
+AsksOfThread s (Mark t l) = StandsBefore s t l
+AsksOfThread s (Park t l) = Unit {0}
+AsksOfThread s (Free t l) = MayLetGo s t l
+AsksOfThread s (Pass t l fair more) = MayLetGo s t l
+AsksOfThread s (Enlist t c l) = (s.point t ≡ Calm) × (s.locks.has l t ≡ true)
+AsksOfThread s (Look t c) = s.point t ≡ Calm
+AsksOfThread s (Call t c more) = s.point t ≡ Calm
+AsksOfThread s (Lower t c) = s.point t ≡ Calm
+AsksOfThread s (Sweep t c) = Unit {0}
+
+-- an event is allowed exactly where its own part allows it and its thread stands as the event asks
+abbrev pub LockPartAllows : World → Event → Type 0
+LockPartAllows s e =
+    IsLockEvent e →
+    Allowed s e ↔ (LockAllowed s.threads s.lock_count (lock_part s) e × AsksOfThread s e)
+
+abbrev pub CondPartAllows : World → Event → Type 0
+CondPartAllows s e =
+    (IsLockEvent e → ⊥) →
+    Allowed s e ↔ (CondAllowed s.threads s.lock_count s.cond_count (cond_part s) e × AsksOfThread s e)
+
 -- what event e of state s is to the lock part: a step with the same answer where it is a lock event,
 -- and nothing where it is not
 pub record LockPartFollows (s : World) (e : Event) : Type 0 where
-  pub steps : IsLockEvent e → LockStep s.threads s.lock_count (lock_part s) e (seen s e) (lock_part (after s e))
+  pub steps :
+      IsLockEvent e →
+      LockStep s.threads s.lock_count (lock_part s) e (seen s e) (lock_part (after s e))
   pub stays : (IsLockEvent e → ⊥) → lock_part (after s e) ≡ lock_part s
 
 -- the same of the condition part
 pub record CondPartFollows (s : World) (e : Event) : Type 0 where
-  pub steps : (IsLockEvent e → ⊥) → CondStep s.threads s.lock_count s.cond_count (cond_part s) e (seen s e) (cond_part (after s e))
+  pub steps :
+      (IsLockEvent e → ⊥) →
+      CondStep s.threads s.lock_count s.cond_count (cond_part s) e (seen s e) (cond_part (after s e))
   pub stays : IsLockEvent e → cond_part (after s e) ≡ cond_part s

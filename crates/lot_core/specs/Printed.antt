@@ -1,5 +1,5 @@
 -- A state as text.
-use Rattle.std.specs.Prelude.{ℕ, ◌+◌, ◌*◌, Bool, true, false, List, [], ◌∷◌, ◌++◌, codes, decimal, flat_map, find, Option, Some, None}
+use Rattle.std.specs.Prelude.{ℕ, ◌+◌, ◌*◌, List, [], ◌∷◌, ◌++◌, codes, decimal, flat_map, find, Option, Some, None}
 use Rattle.std.specs.List.{join_by, range_with_len}
 use Rattle.lot_core.specs.declared.events.Point.{Point}
 use Rattle.lot_core.specs.declared.events.Point.TheVariants.{Calm, Wants, Bed, Rest, Sweeps}
@@ -28,11 +28,14 @@ point_text (Sweeps c) = codes "sweeps " ++ decimal c
 
 unfoldable pub lock_line : World → ℕ → List ℕ
 lock_line w l =
-    codes "lock " ++ decimal l ++ codes " word " ++ decimal (bit (w.locks.held l) + 2 * bit (w.locks.parked l))
+    codes "lock " ++ decimal l
+    ++ codes " word " ++ decimal (bit (w.locks.held l) + 2 * bit (w.locks.parked l))
     ++ codes " owner " ++ owner_text (owner_of w l) ++ codes " line " ++ line_text (w.locks.line l) ++ codes "\n"
 
 unfoldable pub cond_line : World → ℕ → List ℕ
-cond_line w c = codes "cond " ++ decimal c ++ codes " flag " ++ decimal (bit (w.conds.flag c)) ++ codes " line " ++ line_text (w.conds.line c) ++ codes "\n"
+cond_line w c =
+    codes "cond " ++ decimal c ++ codes " flag " ++ decimal (bit (w.conds.flag c))
+    ++ codes " line " ++ line_text (w.conds.line c) ++ codes "\n"
 
 unfoldable pub thread_line : World → ℕ → List ℕ
 thread_line w t = codes "thread " ++ decimal t ++ codes " " ++ point_text (w.point t) ++ codes "\n"

@@ -2,7 +2,7 @@
 use Rattle.std.specs.Prelude.{◌≡◌, ◌≢◌, ℕ, ◌⊎◌, ◌↔◌, Bool, true, false, List, []}
 use Rattle.std.specs.List.{Contains, AllPairs}
 use Rattle.lot_core.specs.declared.events.Point.{Point}
-use Rattle.lot_core.specs.declared.events.Point.TheVariants.{Calm, Wants, Bed, Rest, Sweeps}
+use Rattle.lot_core.specs.declared.events.Point.TheVariants.{Wants, Bed, Rest, Sweeps}
 use Rattle.lot_core.specs.World.{World}
 use Rattle.lot_core.specs.Steps.{IsThread, IsTrying}
 

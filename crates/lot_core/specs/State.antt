@@ -1,5 +1,5 @@
 -- What a `State` stands for, and what its calls answer.
-use Rattle.std.specs.Prelude.{take, slice_get, Option, Some, None, is_some, ◌+◌, ◌≤◌, ◌≡◌, ◌==◌, ℕ, Bool, true, false, List, Result, Ok, Err}
+use Rattle.std.specs.Prelude.{take, slice_get, Option, Some, None, is_some, ◌≡◌, ◌==◌, ℕ, Bool, false, List, Result, Ok, Err}
 use Rattle.lot_core.specs.declared.events.Point.{Point}
 use Rattle.lot_core.specs.declared.events.Point.TheVariants.{Calm}
 use Rattle.lot_core.specs.declared.state.State.{State}
@@ -30,13 +30,13 @@ world_of s =
         held = told is_some (row None s.owners.items);
         parked = row false s.parked.items;
         line = line_of s.lock_lines;
-        has = told owns (row None s.owners.items)
+        has = told owns (row None s.owners.items);
       };
       conds = record {
         flag = row_from false s.locks s.flags.items;
-        line = line_of s.cond_lines
+        line = line_of s.cond_lines;
       };
-      point = row Calm s.points.items
+      point = row Calm s.points.items;
     }
 
 -- single changes of a state

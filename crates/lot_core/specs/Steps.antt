@@ -1,5 +1,5 @@
 -- The events: where each is allowed, what it changes, and what its thread sees of it.
-use Rattle.std.specs.Prelude.{◌≡◌, ◌≢◌, ℕ, ◌+◌, ◌<◌, ◌≤◌, ◌==◌, ◌&&◌, ◌⊎◌, Bool, true, false, not, if◌then◌else◌, List, [], ◌∷◌, ◌++◌, length, Option, Some, None}
+use Rattle.std.specs.Prelude.{◌≡◌, ℕ, ◌+◌, ◌<◌, ◌≤◌, ◌&&◌, ◌⊎◌, Bool, true, false, not, if◌then◌else◌, List, [], ◌∷◌, ◌++◌, length, Option, Some, None}
 use Rattle.std.specs.List.{Contains}
 use Rattle.lot_core.specs.declared.events.Point.{Point}
 use Rattle.lot_core.specs.declared.events.Point.TheVariants.{Calm, Wants, Bed, Rest, Sweeps}
@@ -9,7 +9,7 @@ use Rattle.lot_core.specs.declared.events.Seen.{Seen}
 use Rattle.lot_core.specs.declared.events.Seen.TheVariants.{Bool as Saw, Done, Sleeper, Count}
 use Rattle.lot_core.specs.World.{World, Locks, Conds, put}
 
--- Who and what there is.
+-- who and what there is
 abbrev pub IsThread : World → ℕ → Type 0
 IsThread s t = t < s.threads
 
@@ -19,7 +19,8 @@ IsLock s l = l < s.lock_count
 abbrev pub IsCond : World → ℕ → Type 0
 IsCond s c = (s.lock_count ≤ c) × (c < s.lock_count + s.cond_count)
 
--- t is trying to get l: it wants l and is not in l's line, or it rests on a condition and is not in that condition's line
+-- t is trying to get l: it wants l and is not in l's line, or it rests on a condition and is not in
+-- that condition's line
 abbrev pub IsTrying : World → ℕ → ℕ → Type 0
 IsTrying s t l =
     ((s.point t ≡ Wants l) × (¬ Contains (s.locks.line l) t))
@@ -76,8 +77,10 @@ passed_line s t l fair more (u ∷ rest) =
     if fair
     then record s { line = put s.line l rest; has = put s.has l (put (put (s.has l) t false) u true) }
     else record s {
-      held = put s.held l false; parked = put s.parked l more;
-      line = put s.line l rest; has = put s.has l (put (s.has l) t false)
+      held = put s.held l false;
+      parked = put s.parked l more;
+      line = put s.line l rest;
+      has = put s.has l (put (s.has l) t false);
     }
 
 abbrev pub passed : Locks → ℕ → ℕ → Bool → Bool → Locks
@@ -128,7 +131,7 @@ after s (Free t l) =
 after s (Pass t l fair more) =
     record s {
       locks = passed s.locks t l fair more;
-      point = if fair then handed (let_go s.point t) (s.locks.line l) else let_go s.point t
+      point = if fair then handed (let_go s.point t) (s.locks.line l) else let_go s.point t;
     }
 after s (Enlist t c l) = record s { conds = enlisted s.conds t c; point = put s.point t (Bed c l) }
 after s (Look t c) = s

@@ -23,28 +23,65 @@ pub enum Point {
 #[derive(Clone, Copy, Debug, PartialEq, Eq)]
 pub enum Event {
     /// Gets the lock where it is unheld, and wants nothing where it is held.
-    Try { thread: usize, key: usize },
+    Try {
+        thread: usize,
+        key: usize,
+    },
     /// Gets the lock where it is unheld, and wants it where it is held.
-    Take { thread: usize, key: usize },
+    Take {
+        thread: usize,
+        key: usize,
+    },
     /// Marks a held lock as parked.
-    Mark { thread: usize, key: usize },
+    Mark {
+        thread: usize,
+        key: usize,
+    },
     /// Goes last in the lock's line where the lock is held and parked.
-    Park { thread: usize, key: usize },
+    Park {
+        thread: usize,
+        key: usize,
+    },
     /// Lets the lock go where it is not parked.
-    Free { thread: usize, key: usize },
+    Free {
+        thread: usize,
+        key: usize,
+    },
     /// Lets a parked lock go: to the first of its line where the pass is fair, else to whoever
     /// comes. `more` says that others may wait behind that first.
-    Pass { thread: usize, key: usize, fair: bool, more: bool },
+    Pass {
+        thread: usize,
+        key: usize,
+        fair: bool,
+        more: bool,
+    },
     /// Goes last in the condition's line and sets its flag, while it has the lock.
-    Enlist { thread: usize, key: usize, lock: usize },
+    Enlist {
+        thread: usize,
+        key: usize,
+        lock: usize,
+    },
     /// Reads the condition's flag.
-    Look { thread: usize, key: usize },
+    Look {
+        thread: usize,
+        key: usize,
+    },
     /// Takes the first of the condition's line, and clears the flag where no `more` may wait.
-    Call { thread: usize, key: usize, more: bool },
+    Call {
+        thread: usize,
+        key: usize,
+        more: bool,
+    },
     /// Clears the condition's flag before a sweep.
-    Lower { thread: usize, key: usize },
+    Lower {
+        thread: usize,
+        key: usize,
+    },
     /// Takes the whole line of the condition.
-    Sweep { thread: usize, key: usize },
+    Sweep {
+        thread: usize,
+        key: usize,
+    },
 }
 
 /// What a thread sees of the event that it makes.

@@ -1,4 +1,31 @@
-//! The step model of the parking lot's locks and conditions, runnable.
+//! The model of the parking lot's locks and conditions, made runnable: eleven events, each a single
+//! access of one thread to the word of one key, and the states between them. That every run keeps
+//! its state sound is proved here once, for all that stands above: lot_words rules its table of
+//! lock words by the lock part of this model, and the program replays scripts of events.
+//!
+//! | Event | Allowed where | What it does |
+//! |---|---|---|
+//! | `Try`, `Take` | calm (`Take`: or trying) | gets an unheld lock; `Take` wants a held one |
+//! | `Mark` | trying, the lock is held | sets its parked bit |
+//! | `Park` | wants the lock, not queued on it | goes last in the line of a held and parked lock |
+//! | `Free` | has the lock, calm or at a bed | lets an unparked lock go |
+//! | `Pass` | the same, the lock is parked | takes the first of its line out; hands it the lock, or lets the lock go |
+//! | `Enlist` | calm, has a lock | sets the condition's flag, goes last in its line |
+//! | `Look` | calm | reads the flag |
+//! | `Call` | calm | takes the first of the line; clears the flag where no more may wait |
+//! | `Lower` | calm | clears the flag, and is to sweep |
+//! | `Sweep` | is to sweep | takes the whole line |
+//!
+//! A thread is calm, or wants a lock, or is at the bed of a condition (enlisted, still with its
+//! lock), or rests (enlisted once, its lock let go), or sweeps. It is *trying* to get a lock where
+//! it wants it and is not in its line, or rests and was taken from the condition's line.
+//!
+//! A state is *sound* where each lock has at most one owner, sleepers in a lock's line mean that it
+//! is parked, a free lock with sleepers has some thread that is trying, a clear flag with sleepers
+//! has some thread that sweeps, and each thread is in one line at most.
+//!
+//! Read `specs/` in this order: World, Steps, Sound, Parts, then State for the calls, Script and
+//! Printed for the texts.
 #![tactic(auto)]
 
 pub mod events;

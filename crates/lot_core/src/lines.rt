@@ -66,7 +66,8 @@ impl Lines {
     /// Puts the thread last.
     pub(crate) fn push(&mut self, key: usize, thread: usize) -> Result<(), AllocError>
         requires { HasKey self.old key }
-        ensures ok { OnOk result (line_of self.new ≡ put (line_of self.old) key (line_of self.old key ++ thread ∷ [])) }
+        ensures ok { OnOk result (line_of self.new ≡
+            put (line_of self.old) key (line_of self.old key ++ thread ∷ [])) }
         ensures err { OnErr result (line_of self.new ≡ line_of self.old) }
         ensures keys { KeepsKeys self.old self.new }
     {
@@ -114,7 +115,8 @@ impl Lines {
     fn is_again(&self, key: usize, place: usize) -> bool
         requires key { HasKey self.now key }
         requires place { place < length (line_of self.now key) }
-        ensures { IsTrue result ↔ ((i : ℕ) × (i < place) × (slice_get (line_of self.now key) i ≡ slice_get (line_of self.now key) place)) }
+        ensures { IsTrue result ↔ ((i : ℕ) × (i < place) × (slice_get (line_of self.now key) i ≡
+            slice_get (line_of self.now key) place)) }
     {
         let thread = self.at(key, place);
         for i in 0..place {

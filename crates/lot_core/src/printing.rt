@@ -15,7 +15,8 @@ use std::alloc::{AllocError, Global};
 // The threads of a key's line, in order, or `-`.
 fn push_queue(out: &mut String, lines: &Lines, key: usize) -> Result<(), AllocError>
     requires { HasKey lines.now key }
-    ensures { OnOk result (string_bytes out.new ≡ string_bytes out.old ++ line_text (line_of lines.now key)) }
+    ensures { OnOk result (string_bytes out.new ≡
+        string_bytes out.old ++ line_text (line_of lines.now key)) }
 {
     if lines.is_empty(key) {
         return out.push_str("-");
@@ -54,7 +55,8 @@ fn push_point(out: &mut String, point: Point) -> Result<(), AllocError>
 #[tactic(auto, unfolding(crate::specs::Printed::lock_line))]
 fn push_lock(out: &mut String, state: &State, lock: usize) -> Result<(), AllocError>
     requires { IsLock (world_of state.now) lock }
-    ensures { OnOk result (string_bytes out.new ≡ string_bytes out.old ++ lock_line (world_of state.now) lock) }
+    ensures { OnOk result (string_bytes out.new ≡
+        string_bytes out.old ++ lock_line (world_of state.now) lock) }
 {
     let word = u8::from(state.is_held(lock)) + 2 * u8::from(state.is_parked(lock));
     write!(out, "lock {lock} word {word} owner ")?;
@@ -67,7 +69,8 @@ fn push_lock(out: &mut String, state: &State, lock: usize) -> Result<(), AllocEr
 #[tactic(auto, unfolding(crate::specs::Printed::cond_line))]
 fn push_cond(out: &mut String, state: &State, cond: usize) -> Result<(), AllocError>
     requires { IsCond (world_of state.now) cond }
-    ensures { OnOk result (string_bytes out.new ≡ string_bytes out.old ++ cond_line (world_of state.now) cond) }
+    ensures { OnOk result (string_bytes out.new ≡
+        string_bytes out.old ++ cond_line (world_of state.now) cond) }
 {
     let flag = u8::from(state.flag(cond));
     write!(out, "cond {cond} flag {flag} line ")?;
@@ -77,7 +80,8 @@ fn push_cond(out: &mut String, state: &State, cond: usize) -> Result<(), AllocEr
 
 #[tactic(auto, unfolding(crate::specs::Printed::thread_line))]
 fn push_thread(out: &mut String, state: &State, thread: usize) -> Result<(), AllocError>
-    ensures { OnOk result (string_bytes out.new ≡ string_bytes out.old ++ thread_line (world_of state.now) thread) }
+    ensures { OnOk result (string_bytes out.new ≡
+        string_bytes out.old ++ thread_line (world_of state.now) thread) }
 {
     write!(out, "thread {thread} ")?;
     push_point(out, state.point(thread))?;
@@ -86,7 +90,9 @@ fn push_thread(out: &mut String, state: &State, thread: usize) -> Result<(), All
 
 #[tactic(auto, using(crate::proofs::Texts::text_more))]
 fn push_locks(out: &mut String, state: &State) -> Result<(), AllocError>
-    ensures { OnOk result (string_bytes out.new ≡ string_bytes out.old ++ flat_map (lock_line (world_of state.now)) (range_with_len 0 state.now.locks)) }
+    ensures { let w = world_of state.now in
+        let text = flat_map (lock_line w) (range_with_len 0 w.lock_count) in
+        OnOk result (string_bytes out.new ≡ string_bytes out.old ++ text) }
 {
     for lock in 0..state.locks {
         push_lock(out, state, lock)?;
@@ -96,7 +102,9 @@ fn push_locks(out: &mut String, state: &State) -> Result<(), AllocError>
 
 #[tactic(auto, using(crate::proofs::Texts::text_more))]
 fn push_conds(out: &mut String, state: &State) -> Result<(), AllocError>
-    ensures { OnOk result (string_bytes out.new ≡ string_bytes out.old ++ flat_map (cond_line (world_of state.now)) (range_with_len state.now.locks state.now.conds)) }
+    ensures { let w = world_of state.now in
+        let text = flat_map (cond_line w) (range_with_len w.lock_count w.cond_count) in
+        OnOk result (string_bytes out.new ≡ string_bytes out.old ++ text) }
 {
     for i in 0..state.conds {
         push_cond(out, state, state.locks + i)?;
@@ -106,7 +114,9 @@ fn push_conds(out: &mut String, state: &State) -> Result<(), AllocError>
 
 #[tactic(auto, using(crate::proofs::Texts::text_more))]
 fn push_threads(out: &mut String, state: &State) -> Result<(), AllocError>
-    ensures { OnOk result (string_bytes out.new ≡ string_bytes out.old ++ flat_map (thread_line (world_of state.now)) (range_with_len 0 state.now.threads)) }
+    ensures { let w = world_of state.now in
+        let text = flat_map (thread_line w) (range_with_len 0 w.threads) in
+        OnOk result (string_bytes out.new ≡ string_bytes out.old ++ text) }
 {
     for thread in 0..state.threads {
         push_thread(out, state, thread)?;
@@ -126,9 +136,9 @@ fn text_of(alloc: Global, state: &State) -> Result<String, AllocError>
 
 /// The state as text.
 ///
-/// A lock's line is `lock K word W owner O line Q`, a condition's `cond K flag F line Q`, a thread's
-/// `thread T P`, each ended by LF: W is 0 to 3 (held 1, parked 2), O the owner or `-`, Q the sleepers
-/// joined by commas or `-`, and P the thread's point in words.
+/// A lock's line is `lock K word W owner O line Q`, a condition's `cond K flag F line Q` and a
+/// thread's `thread T P`, each ended by LF. W is 0 to 3 (held 1, parked 2), O is the owner or `-`, Q
+/// is the sleepers joined by commas or `-`, and P is the thread's point in words.
 pub fn print_state(alloc: Global, state: &State) -> Result<String, CoreFault>
     ensures ok { IfOk result (λ text. string_bytes text ≡ printed (world_of state.now)) }
     ensures err { IfErr result (λ e. e ≡ NoMemory) }

@@ -1,9 +1,17 @@
 //! Scripts: the numbers of an opening and a list of events, as text.
 //!
-//! A script is ASCII text of at most 100,000 lines, each ended by LF. The first is `open N L C`, with
-//! the numbers of threads, locks and conditions; each other line is an event's word and its numbers,
-//! with exactly one space between two. A number is `0` or one to four digits of which the first is
-//! not `0`; a truth value is `0` or `1`.
+//! A script is ASCII text of at most 100,000 lines, each ended by LF. The first is `open N L C`,
+//! with the numbers of threads, locks and conditions; each other line is an event's word and its
+//! numbers, with exactly one space between two. A number is `0` or one to four digits of which the
+//! first is not `0`; a truth value is `0` or `1`.
+//!
+//! | Line | Event |
+//! |---|---|
+//! | `try T K`, `take T K`, `mark T K`, `park T K`, `free T K` | of thread T on lock K |
+//! | `pass T K F M` | of thread T on lock K, fair F, more M |
+//! | `enlist T K L` | of thread T on condition K, owning lock L |
+//! | `look T K`, `lower T K`, `sweep T K` | of thread T on condition K |
+//! | `call T K M` | of thread T on condition K, more M |
 ghost use Rattle.std.specs.Prelude.{◌≡◌, ◌+◌, ◌*◌, ◌<◌};
 ghost use Rattle.std.specs.Option.{option_map};
 
@@ -18,8 +26,8 @@ pub const MAX_LINES: usize = 100_000;
 #[derive(Clone, Copy, Debug, PartialEq, Eq, Error)]
 pub enum ScriptFault {
     /// The number, counted from 1, of the first line that is not as it should be. It is 1 for an
-    /// empty text, and one more than [`MAX_LINES`] where there are too many lines and none before is
-    /// bad.
+    /// empty text, and one more than [`MAX_LINES`] where there are too many lines and none before
+    /// is bad.
     #[error("bad script line {0}")]
     BadLine(usize),
     /// Memory was wanted and not had, before a bad line was read.
@@ -189,7 +197,15 @@ fn last(kind: Kind, thread: usize, key: usize, text: &[u8]) -> Option<(Event, &[
         Kind::Pass => {
             let (fair, text) = flag(text)?;
             let (more, text) = flag(text)?;
-            (Event::Pass { thread, key, fair, more }, text)
+            (
+                Event::Pass {
+                    thread,
+                    key,
+                    fair,
+                    more,
+                },
+                text,
+            )
         }
         Kind::Enlist => {
             let (lock, text) = field(text)?;
@@ -233,8 +249,8 @@ fn opening(text: &[u8]) -> Option<(usize, usize, usize, &[u8])>
 /// Reads a whole script.
 ///
 /// The answer names the first line that is not as it should be, whatever stands behind it; numbers
-/// that no state has are no fault of the text. NoMemory comes only where the list of events could not
-/// grow before a bad line was read.
+/// that no state has are no fault of the text. NoMemory comes only where the list of events could
+/// not grow before a bad line was read.
 pub fn parse_script(alloc: Global, text: &str) -> Result<Script, ScriptFault>
     ensures { Reads text.now result }
 {
@@ -245,7 +261,12 @@ pub fn parse_script(alloc: Global, text: &str) -> Result<Script, ScriptFault>
     let mut events = Vec::new(alloc);
     for number in 2..MAX_LINES + 1 {
         if rest.is_empty() {
-            return Ok(Script { threads, locks, conds, events });
+            return Ok(Script {
+                threads,
+                locks,
+                conds,
+                events,
+            });
         }
         let (event, behind) = match event_of(rest) {
             Some((event, behind)) => (event, behind),
@@ -260,5 +281,10 @@ pub fn parse_script(alloc: Global, text: &str) -> Result<Script, ScriptFault>
     if !rest.is_empty() {
         return Err(ScriptFault::BadLine(MAX_LINES + 1));
     }
-    Ok(Script { threads, locks, conds, events })
+    Ok(Script {
+        threads,
+        locks,
+        conds,
+        events,
+    })
 }

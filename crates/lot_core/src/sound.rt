@@ -12,7 +12,8 @@ impl State {
     ghost use Rattle.lot_core.specs.State.{world_of};
 
     fn someone_tries(&self, lock: usize) -> bool
-        ensures { IsTrue result ↔ ((t : ℕ) × IsThread (world_of self.now) t × IsTrying (world_of self.now) t lock) }
+        ensures { IsTrue result ↔ ((t : ℕ) ×
+            IsThread (world_of self.now) t × IsTrying (world_of self.now) t lock) }
     {
         for thread in 0..self.threads {
             if self.is_trying(thread, lock) {
@@ -23,7 +24,8 @@ impl State {
     }
 
     fn someone_sweeps(&self, cond: usize) -> bool
-        ensures { IsTrue result ↔ ((t : ℕ) × IsThread (world_of self.now) t × ((world_of self.now).point t ≡ Sweeps cond)) }
+        ensures { IsTrue result ↔ ((t : ℕ) ×
+            IsThread (world_of self.now) t × ((world_of self.now).point t ≡ Sweeps cond)) }
     {
         for thread in 0..self.threads {
             if self.is_sweeping(thread, cond) {
@@ -139,8 +141,8 @@ impl State {
     }
 
     /// Whether the state is sound: one owner for each lock, sleepers are marked, someone is trying
-    /// where a free lock has sleepers, someone sweeps where a clear flag has some, and no thread is in
-    /// two lines or twice in one.
+    /// where a free lock has sleepers, someone sweeps where a clear flag has some, and no thread is
+    /// in two lines or twice in one.
     ///
     /// Every state that [`open`](State::open) and [`step`](State::step) can make is sound
     /// ([`every_run_is_sound`](crate::every_run_is_sound)): a test may ask, a program need not.

@@ -34,8 +34,8 @@ pub enum CoreFault {
 /// A state of the model: who has each lock, its parked bit, each condition's flag, the line of each
 /// key, and where each thread stands.
 ///
-/// A lock is held exactly where it has an owner, so a `State` has at most one owner for each lock by
-/// its very shape.
+/// A lock is held exactly where it has an owner, so a `State` has at most one owner for each lock
+/// by its very shape.
 #[derive(Debug, Drop)]
 pub struct State {
     pub(crate) threads: usize,
@@ -161,7 +161,8 @@ impl State {
 
     fn let_go(&mut self, thread: usize)
         requires { IsThread (world_of self.old) thread }
-        ensures { world_of self.new ≡ record (world_of self.old) { point = let_go (world_of self.old).point thread } }
+        ensures { world_of self.new ≡
+            record (world_of self.old) { point = let_go (world_of self.old).point thread } }
     {
         let point = match self.point(thread) {
             Point::Bed { cond, lock } => Point::Rest { cond, lock },
@@ -182,7 +183,8 @@ impl State {
     fn get(&mut self, thread: usize, lock: usize) -> bool
         requires { IsLock (world_of self.old) lock }
         ensures answer { result ≡ not ((world_of self.old).locks.held lock) }
-        ensures state { world_of self.new ≡ record (world_of self.old) { locks = got (world_of self.old).locks thread lock } }
+        ensures state { world_of self.new ≡
+            record (world_of self.old) { locks = got (world_of self.old).locks thread lock } }
     {
         if self.is_held(lock) {
             return false;
@@ -193,26 +195,35 @@ impl State {
 
     fn join_lock_line(&mut self, lock: usize, thread: usize) -> Result<(), CoreFault>
         requires { IsLock (world_of self.old) lock }
-        ensures ok { OnOk result (world_of self.new ≡ with_lock_line (world_of self.old) lock ((world_of self.old).locks.line lock ++ thread ∷ [])) }
+        ensures ok { let w = world_of self.old in
+            let line = w.locks.line lock ++ thread ∷ [] in
+            OnOk result (world_of self.new ≡ with_lock_line w lock line) }
         ensures err { IfErr result (λ e. e ≡ NoMemory) }
         ensures unchanged { OnErr result (world_of self.new ≡ world_of self.old) }
     {
-        self.lock_lines.push(lock, thread).map_err(|_| CoreFault::NoMemory)
+        self.lock_lines
+            .push(lock, thread)
+            .map_err(|_| CoreFault::NoMemory)
     }
 
     fn join_cond_line(&mut self, cond: usize, thread: usize) -> Result<(), CoreFault>
         requires { IsCond (world_of self.old) cond }
-        ensures ok { OnOk result (world_of self.new ≡ with_cond_line (world_of self.old) cond ((world_of self.old).conds.line cond ++ thread ∷ [])) }
+        ensures ok { let w = world_of self.old in
+            let line = w.conds.line cond ++ thread ∷ [] in
+            OnOk result (world_of self.new ≡ with_cond_line w cond line) }
         ensures err { IfErr result (λ e. e ≡ NoMemory) }
         ensures unchanged { OnErr result (world_of self.new ≡ world_of self.old) }
     {
-        self.cond_lines.push(cond, thread).map_err(|_| CoreFault::NoMemory)
+        self.cond_lines
+            .push(cond, thread)
+            .map_err(|_| CoreFault::NoMemory)
     }
 
     fn leave_lock_line(&mut self, lock: usize) -> Option<usize>
         requires { IsLock (world_of self.old) lock }
         ensures first { result ≡ first ((world_of self.old).locks.line lock) }
-        ensures rest { world_of self.new ≡ with_lock_line (world_of self.old) lock (drop 1 ((world_of self.old).locks.line lock)) }
+        ensures rest { let w = world_of self.old in
+            world_of self.new ≡ with_lock_line w lock (drop 1 (w.locks.line lock)) }
     {
         self.lock_lines.take_first(lock)
     }
@@ -220,7 +231,8 @@ impl State {
     fn leave_cond_line(&mut self, cond: usize) -> Option<usize>
         requires { IsCond (world_of self.old) cond }
         ensures first { result ≡ first ((world_of self.old).conds.line cond) }
-        ensures rest { world_of self.new ≡ with_cond_line (world_of self.old) cond (drop 1 ((world_of self.old).conds.line cond)) }
+        ensures rest { let w = world_of self.old in
+            world_of self.new ≡ with_cond_line w cond (drop 1 (w.conds.line cond)) }
     {
         self.cond_lines.take_first(cond)
     }
@@ -230,7 +242,8 @@ impl State {
         requires lock { IsLock (world_of self.old) lock }
         requires owner { (world_of self.old).locks.has lock thread ≡ true }
         ensures first { result ≡ first ((world_of self.old).locks.line lock) }
-        ensures state { world_of self.new ≡ record (world_of self.old) { locks = passed (world_of self.old).locks thread lock fair more } }
+        ensures state { let w = world_of self.old in
+            world_of self.new ≡ record w { locks = passed w.locks thread lock fair more } }
     {
         let first = self.leave_lock_line(lock);
         if fair && first.is_some() {
@@ -246,7 +259,8 @@ impl State {
     fn call_first(&mut self, cond: usize, more: bool) -> Option<usize>
         requires { IsCond (world_of self.old) cond }
         ensures first { result ≡ first ((world_of self.old).conds.line cond) }
-        ensures state { world_of self.new ≡ record (world_of self.old) { conds = called (world_of self.old).conds cond more } }
+        ensures state { world_of self.new ≡
+            record (world_of self.old) { conds = called (world_of self.old).conds cond more } }
     {
         let first = self.leave_cond_line(cond);
         if first.is_none() || !more {
@@ -271,7 +285,12 @@ impl State {
     ghost use Rattle.lot_core.specs.World.{opening};
     ghost use Rattle.lot_core.specs.State.{world_of, Opens};
 
-    fn at_rest(alloc: Global, threads: usize, locks: usize, conds: usize) -> Result<State, AllocError>
+    fn at_rest(
+        alloc: Global,
+        threads: usize,
+        locks: usize,
+        conds: usize,
+    ) -> Result<State, AllocError>
         ensures { IfOk result (λ s. world_of s ≡ opening threads locks conds) }
     {
         Ok(State {
@@ -292,7 +311,12 @@ impl State {
     ///
     /// It answers BadLimits where there is no thread or no lock, more than [`MAX_THREADS`] threads,
     /// or more than [`MAX_KEYS`] locks and conditions together.
-    pub fn open(alloc: Global, threads: usize, locks: usize, conds: usize) -> Result<State, CoreFault>
+    pub fn open(
+        alloc: Global,
+        threads: usize,
+        locks: usize,
+        conds: usize,
+    ) -> Result<State, CoreFault>
         ensures { Opens threads locks conds result }
     {
         if !is_within_limits(threads, locks, conds) {
@@ -394,9 +418,7 @@ impl State {
     fn may_free(&self, thread: usize, lock: usize) -> bool
         ensures { IsTrue result ↔ Allowed (world_of self.now) (Event.Free thread lock) }
     {
-        self.is_at_lock(thread, lock)
-            && self.has(lock, thread)
-            && self.may_let_go(thread, lock)
+        self.is_at_lock(thread, lock) && self.has(lock, thread) && self.may_let_go(thread, lock)
     }
 
     // Others may wait behind the first, unless nobody does.
@@ -461,7 +483,11 @@ impl State {
             return Err(CoreFault::NotEnabled);
         }
         let got = self.get(thread, lock);
-        let point = if got { Point::Calm } else { Point::Wants { lock } };
+        let point = if got {
+            Point::Calm
+        } else {
+            Point::Wants { lock }
+        };
         self.set_point(thread, point);
         Ok(Seen::Bool(got))
     }
@@ -504,7 +530,13 @@ impl State {
         Ok(Seen::Bool(true))
     }
 
-    fn pass(&mut self, thread: usize, lock: usize, fair: bool, more: bool) -> Result<Seen, CoreFault>
+    fn pass(
+        &mut self,
+        thread: usize,
+        lock: usize,
+        fair: bool,
+        more: bool,
+    ) -> Result<Seen, CoreFault>
         ensures { Answers (world_of self.old) (Event.Pass thread lock fair more) result (world_of self.new) }
     {
         if !self.may_pass(thread, lock, fair, more) {
@@ -573,8 +605,8 @@ impl State {
 
     /// Makes the event, and says what its thread sees of it.
     ///
-    /// It answers NotEnabled exactly where the event is not allowed, also for a thread or key out of
-    /// range, and NoMemory where a line could not take one thread more, which only `Park` and
+    /// It answers NotEnabled exactly where the event is not allowed, also for a thread or key out
+    /// of range, and NoMemory where a line could not take one thread more, which only `Park` and
     /// `Enlist` ask of it. After either the state is as it was.
     pub fn step(&mut self, e: Event) -> Result<Seen, CoreFault>
         ensures { Answers (world_of self.old) e result (world_of self.new) }
@@ -585,7 +617,12 @@ impl State {
             Event::Mark { thread, key } => self.mark(thread, key),
             Event::Park { thread, key } => self.park(thread, key),
             Event::Free { thread, key } => self.free(thread, key),
-            Event::Pass { thread, key, fair, more } => self.pass(thread, key, fair, more),
+            Event::Pass {
+                thread,
+                key,
+                fair,
+                more,
+            } => self.pass(thread, key, fair, more),
             Event::Enlist { thread, key, lock } => self.enlist(thread, key, lock),
             Event::Look { thread, key } => self.look(thread, key),
             Event::Call { thread, key, more } => self.call(thread, key, more),
@@ -596,10 +633,11 @@ impl State {
 
     /// Makes the events in order, up to the first that [`step`](State::step) refuses.
     ///
-    /// The answer is then that event's number, counted from 0, and the fault; the state is that after
-    /// the events before it.
+    /// The answer is then that event's number, counted from 0, and the fault; the state is that
+    /// after the events before it.
     pub fn run(&mut self, events: &[Event]) -> Result<(), (usize, CoreFault)>
-        ensures ok { OnOk result (Run (world_of self.old) events.now × (world_of self.new ≡ after_all (world_of self.old) events.now)) }
+        ensures ok { OnOk result (Run (world_of self.old) events.now × (world_of self.new ≡
+            after_all (world_of self.old) events.now)) }
         ensures err { IfErr result (λ e. StopsAt (world_of self.old) events.now e.0 e.1 (world_of self.new)) }
     {
         for (i, e) in events.iter().enumerate() {

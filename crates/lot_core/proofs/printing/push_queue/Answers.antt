@@ -1,4 +1,4 @@
-use Rattle.std.proofs.Common.{◌≡◌, ◌∙◌, sym, ap, ℕ, arith, [], length, OnOk, Result, Ok, Err, ◌<◌, ◌≢◌, List}
+use Rattle.std.proofs.Common.{arith, OnOk, Result, Ok, Err}
 use Rattle.std.specs.Prelude.{string_bytes}
 use Rattle.std.proofs.lemmas.Grind.{common_steps}
 use Rattle.lot_core.specs.Lines.{line_of}

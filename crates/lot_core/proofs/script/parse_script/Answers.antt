@@ -1,5 +1,5 @@
-use Rattle.std.proofs.Common.{◌≡◌, ◌∙◌, sym, ap, subst, rules, ◌+◌, arith, Some, None, length, [], ◌∷◌, ◌<◌}
-use Rattle.lot_core.specs.Reading.{open_at, event_at}
+use Rattle.std.proofs.Common.{◌∙◌, sym, ap, subst, rules, ◌+◌, arith}
+use Rattle.lot_core.specs.Reading.{open_at}
 use Rattle.lot_core.proofs.Scripts.{IsSoFar, bad_first, so_first, so_more, so_bad, so_many}
 use Rattle.lot_core.proofs.script.parse_script.Goals as goal
 
@@ -23,7 +23,7 @@ loop-number-preserved c =
     subst (λ events. IsSoFar c.args.text.now c.in-Some.threads c.in-Some.locks c.in-Some.conds events c.in-Some-event_of.behind.now (c.loop-number.number + 1))
     (sym c.in-Ok.ensures.items)
     (so_more c.args.text.now c.in-Some.threads c.in-Some.locks c.in-Some.conds c.loop-number.events.items c.loop-number.rest.now c.loop-number.number
-        c.in-Some-event_of.event c.in-Some-event_of.behind.now c.loop-number.invariant c.in-Some-event_of.ensures)
+    c.in-Some-event_of.event c.in-Some-event_of.behind.now c.loop-number.invariant c.in-Some-event_of.ensures)
 
 pub returns-then-not-is_empty : goal.returns-then-not-is_empty
 returns-then-not-is_empty c =

@@ -12,4 +12,4 @@ pub returns : goal.returns
 returns c =
     line_contains c.args.self.now c.args.key c.args.thread c.index.result.now c.contains.result (c.has_key.ensures.0 (cc)) c.index.ensures
     (Decides-contains c.index.result.now.items c.args.thread c.contains.result
-     (contains_decides (λ a b. a == b) Decides-eqb c.index.result.now.items c.args.thread c.contains.result c.contains.ensures.cases))
+    (contains_decides (λ a b. a == b) Decides-eqb c.index.result.now.items c.args.thread c.contains.result c.contains.ensures.cases))

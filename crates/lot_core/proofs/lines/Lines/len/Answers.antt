@@ -1,4 +1,4 @@
-use Rattle.std.proofs.Common.{◌∙◌, sym, ap, length, arith}
+use Rattle.std.proofs.Common.{ap, length, arith}
 use Rattle.lot_core.proofs.LineRows.{line_item}
 use Rattle.lot_core.proofs.lines.Lines.len.Goals as goal
 

@@ -9,11 +9,11 @@ on_err (Err e) P h = h
 pub returns-in_err-push_back-clause-err : goal.returns-in_err-push_back-clause-err
 returns-in_err-push_back-clause-err c =
     let e = line_rewrite c.args.self.now c.args.key c.push_back.new.self c.index_mut.result.now c.requires c.index_mut.ensures.value
-        (c.in_err-push_back.ensures {u = tt}).items in
+    (c.in_err-push_back.ensures {u = tt}).items in
     on_err c.from_residual.result _ e
 
 pub returns-clause-ok : goal.returns-clause-ok
 returns-clause-ok c =
     line_write c.args.self.now c.args.key c.push_back.new.self _ c.requires
     ((c.in_ok-push_back.ensures {u = tt}).items
-     ∙ ap (λ xs. xs ++ c.args.thread ∷ []) (sym (line_item c.args.self.now c.args.key c.index_mut.result.now c.requires c.index_mut.ensures.value)))
+    ∙ ap (λ xs. xs ++ c.args.thread ∷ []) (sym (line_item c.args.self.now c.args.key c.index_mut.result.now c.requires c.index_mut.ensures.value)))

@@ -12,4 +12,4 @@ pub returns-clause-rest : goal.returns-clause-rest
 returns-clause-rest c =
     line_write c.args.self.now c.args.key c.pop_front.new.self _ c.requires
     (c.pop_front.ensures.rest
-     ∙ ap (drop 1) (sym (line_item c.args.self.now c.args.key c.index_mut.result.now c.requires c.index_mut.ensures.value)))
+    ∙ ap (drop 1) (sym (line_item c.args.self.now c.args.key c.index_mut.result.now c.requires c.index_mut.ensures.value)))

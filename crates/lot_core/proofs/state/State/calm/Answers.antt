@@ -1,5 +1,4 @@
 use Rattle.std.proofs.Common.{sym, ap, ℕ, ◌≤◌, length, arith}
-use Rattle.std.proofs.lemmas.Bool.{cases_lt}
 use Rattle.lot_core.specs.declared.events.Point.{Point}
 use Rattle.lot_core.specs.declared.events.Point.TheVariants.{Calm}
 use Rattle.lot_core.specs.State.{world_of}
