@@ -1,10 +1,10 @@
 -- What the loops over a queue find and write.
-use Rattle.std.proofs.Common.{◌≡◌, ◌≢◌, ℕ, zero, suc, ◌+◌, ◌<◌, ◌≤◌, inl, inr, List, [], ◌∷◌, ◌++◌, length, get_or, set, take, drop, filter, count_by, not, eqb, Option, Some, refl, sym, ◌∙◌, ap, arith, eq-eqb, append_assoc, add-one}
+use Rattle.std.proofs.Common.{◌≡◌, ◌≢◌, ℕ, zero, suc, ◌+◌, ◌<◌, inl, inr, List, [], ◌∷◌, ◌++◌, length, get_or, set, take, drop, filter, count_by, not, eqb, refl, sym, ◌∙◌, ap, arith, eq-eqb, append_assoc, add-one}
 use Rattle.std.proofs.lemmas.Bool.{ne_eqb}
 use Rattle.std.proofs.lemmas.Bool.Decides.{eqb_tells}
 use Rattle.std.proofs.Math.Seq.{drop-cons, take-suc-set}
 use Rattle.std.proofs.lemmas.List.Recursion.{is_count_by}
-use Rattle.lot_bucket.specs.Queue.{line_of, without_first, without_key, first_of}
+use Rattle.lot_bucket.specs.Queue.{line_of, without_key}
 use Rattle.lot_bucket.specs.Waiting.{IsFirstPair, IsWithout}
 
 -- the pairs before i are of other keys, and the one at i is of key k
@@ -64,6 +64,6 @@ without_key-filter k (p ∷ queue) =
 
 pub length-line_of : (k : ℕ) (queue : List (ℕ × ℕ)) → length (line_of k queue) ≡ count_by (λ (p : ℕ × ℕ). eqb p.1 k) queue
 length-line_of k queue =
-  is_count_by (λ (q : List (ℕ × ℕ)). length (line_of k q)) (λ (p : ℕ × ℕ). eqb p.1 k) refl
+    is_count_by (λ (q : List (ℕ × ℕ)). length (line_of k q)) (λ (p : ℕ × ℕ). eqb p.1 k) refl
     (λ p q. elim (eqb_tells p.1 k) [ inl e ↦ rw e.0 (omega arith) | inr e ↦ rw e.0 refl ])
     queue

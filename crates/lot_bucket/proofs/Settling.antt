@@ -1,9 +1,9 @@
 -- What the tests under a bucket's lock tell.
-use Rattle.std.proofs.Common.{◌≡◌, ℕ, ◌%◌, ◌<◌, true, List, sym, ◌∙◌, ap, subst, eq-eqb, not, ◌&&◌, refl}
+use Rattle.std.proofs.Common.{◌≡◌, ℕ, ◌%◌, ◌<◌, true, List, ◌∙◌, eq-eqb, ◌&&◌, refl}
 use Rattle.std.proofs.lemmas.Bool.{lt-ltb}
 use Rattle.std.specs.Prelude.{◌==◌, nat_lt}
 use Rattle.lot_bucket.specs.Places.{has_key}
-use Rattle.lot_bucket.specs.Settled.{Lying, IsLaidOut, IsSettled, IsReady}
+use Rattle.lot_bucket.specs.Settled.{Lying, IsSettled, IsReady}
 
 pub ready : {R : Type 0} (key : R → ℕ) (line : R → List ℕ) (owes : R → List (ℕ × ℕ)) (k threads keys : ℕ) (lying : Lying R) → IsSettled key line owes lying
     → lying.bucket.opened ≡ true → lying.number ≡ k % lying.size → lying.keys ≡ keys → k < keys → lying.bucket.room ≡ threads

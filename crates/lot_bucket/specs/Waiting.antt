@@ -1,4 +1,4 @@
-use Rattle.std.specs.Prelude.{◌≡◌, ℕ, ◌+◌, ◌<◌, List, [], ◌++◌, Option, Some, length, take, drop, slice_index_or}
+use Rattle.std.specs.Prelude.{◌≡◌, ℕ, ◌+◌, ◌<◌, List, [], ◌++◌, Some, length, take, drop, slice_index_or}
 use Rattle.lot_bucket.specs.Queue.{line_of, without_first, first_of}
 
 -- what a queue is seen as: how many threads it has room for, and who waits

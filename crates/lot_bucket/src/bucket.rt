@@ -23,7 +23,7 @@ impl From<AllocError> for BucketFault {
     }
 }
 
-/// A moment lasts at most so long, in nanoseconds, until it is time to be fair again.
+// After a fair dequeue it is time to be fair again less than so many nanoseconds later.
 const UNFAIR_SPAN: u64 = 1_000_000;
 
 /// A queue of threads that wait on some keys, and the root of each of these keys.
@@ -62,18 +62,21 @@ impl<R: Drop> Bucket<R> {
         })
     }
 
+    /// Whether it is in use: not still being filled, and not left for one of a larger table.
     pub fn is_open(&self) -> bool
         ensures { result ≡ self.now.opened }
     {
         self.opened
     }
 
+    /// Takes it into use. Behind a lock, every key's root has to be in.
     pub fn open(&mut self)
         ensures { self.new ≡ record self.old { opened = true } }
     {
         self.opened = true;
     }
 
+    /// Takes it out of use. Behind a lock, it has to be empty.
     pub fn close(&mut self)
         ensures { self.new ≡ record self.old { opened = false } }
     {
@@ -109,18 +112,21 @@ impl<R: Drop> Bucket<R> {
         self.queue.line_length(key)
     }
 
+    /// Whether nobody waits here, on whatever key.
     pub fn is_empty(&self) -> bool
         ensures { IsTrue result ↔ (self.now.queue ≡ []) }
     {
-        self.queue.len() == 0
+        self.len() == 0
     }
 
+    /// Whether the key is one of those that the bucket was made for.
     pub fn has_key(&self, key: usize) -> bool
         ensures { result ≡ has_key key self.now.places }
     {
         self.places.has(key)
     }
 
+    /// Whether the thread waits here, on whatever key.
     pub fn has_thread(&self, thread: usize) -> bool
         ensures { IsTrue result ↔ Any (λ (p : ℕ × ℕ). p.0 ≡ thread) self.now.queue }
     {
@@ -140,9 +146,10 @@ impl<R: Drop> Bucket<R> {
         ensures { TakesOne key moment self.old self.new result }
     {
         let thread = self.queue.take_first(key);
-        let fair = thread.is_some() && moment.now > self.next_fair;
+        let next_fair = &mut self.next_fair;
+        let fair = thread.is_some() && moment.now > *next_fair;
         if fair {
-            self.next_fair = moment.now.saturating_add(moment.word % UNFAIR_SPAN);
+            *next_fair = moment.now.saturating_add(moment.word % UNFAIR_SPAN);
         }
         Dequeued {
             thread,

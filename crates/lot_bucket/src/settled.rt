@@ -80,10 +80,12 @@ impl<R: Root> Settled<R> {
         f(&mut self.bucket, x)
     }
 
+    /// The bucket itself, once no lock is needed round it.
     pub fn into_bucket(self) -> Bucket<R>
         ensures same { result ≡ self.bucket }
         ensures settled { IsSettled R.key R.line R.owes self }
     {
-        self.bucket
+        let Settled { bucket, .. } = self;
+        bucket
     }
 }

@@ -1,5 +1,4 @@
 use Rattle.std.proofs.Common.{arith}
-use Rattle.lot_bucket.proofs.Slots.{divided, uneven, past}
 use Rattle.lot_bucket.proofs.places.place_by_division.Goals as goal
 
 pub returns-then-key-first : goal.returns-then-key-first

@@ -1,4 +1,4 @@
-use Rattle.std.proofs.Common.{◌≡◌, ℕ, None, Option, IsSome, sym, ◌∙◌, ap, subst}
+use Rattle.std.proofs.Common.{◌≡◌, ℕ, None, Option, sym, ◌∙◌, ap}
 use Rattle.lot_bucket.specs.Places.{root_at}
 use Rattle.lot_bucket.proofs.Slots.{read_at, stored_at, even_kept, rootless}
 use Rattle.lot_bucket.proofs.places.Places.take.Goals as goal

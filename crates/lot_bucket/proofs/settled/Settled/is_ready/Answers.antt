@@ -1,4 +1,4 @@
-use Rattle.std.proofs.Common.{◌≡◌, ◌%◌, ◌<◌, true, arith, rules}
+use Rattle.std.proofs.Common.{◌≡◌, ◌%◌, ◌<◌, true, arith}
 use Rattle.std.proofs.lemmas.Grind.{common_steps}
 use Rattle.lot_bucket.proofs.Settling.{ready}
 use Rattle.lot_bucket.proofs.settled.Settled.is_ready.Goals as goal
