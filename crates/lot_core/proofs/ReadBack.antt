@@ -6,12 +6,12 @@ use Rattle.std.proofs.lemmas.List.{append-nil}
 use Rattle.lot_core.specs.declared.events.Event.{Event}
 use Rattle.lot_core.specs.declared.script.TheConstants.{MAX_LINES}
 use Rattle.lot_core.specs.Script.{IsSmall, HasSpelling, event_line, open_line, lines, AreLines, IsFirstBad, NoEvent}
-use Rattle.lot_core.specs.Reading.{event_at, open_at, first_of, after}
+use Rattle.lot_core.specs.Reading.{event_at, open_at, first_of, rest_behind}
 use Rattle.lot_core.proofs.Figures.{some_is}
 use Rattle.lot_core.proofs.Spelled.{event_again, open_again}
 
 pub nothing_read : event_at [] ≡ None
-unfolding event_at first_of after
+unfolding event_at first_of rest_behind
 nothing_read = refl
 
 pub line_not_nil : (e : Event) (rest : List ℕ) → HasSpelling e → event_line e ++ rest ≡ [] → ⊥

@@ -9,14 +9,14 @@ use Rattle.lot_core.specs.declared.events.Event.TheVariants as event
 use Rattle.lot_core.specs.declared.script.Kind.{Kind}
 use Rattle.lot_core.specs.declared.script.Kind.TheVariants.{Try, Take, Mark, Park, Free, Pass, Enlist, Look, Call, Lower, Sweep}
 use Rattle.lot_core.specs.Script.{field, bit, word, numbers, event_line, open_line, IsSmall, HasSpelling, NoOpening, NoEvent}
-use Rattle.lot_core.specs.Reading.{after, kind_word, kinds, first_of, or_else, field_at, flag_at, end_at, last_at, event_at, open_at}
+use Rattle.lot_core.specs.Reading.{rest_behind, kind_word, kinds, first_of, or_else, field_at, flag_at, end_at, last_at, event_at, open_at}
 use Rattle.lot_core.proofs.Put.{by_bit}
 use Rattle.lot_core.proofs.Figures.{bind_is, bind_some, some_is, Ends, field_takes, field_again, flag_takes, flag_again, end_takes, end_again, bit_small}
 
 -- a word at the front
-pub after_takes : (w text rest : List ℕ) → after w text ≡ Some rest → text ≡ w ++ rest
-unfolding after
-after_takes w text rest is =
+pub rest_behind_takes : (w text rest : List ℕ) → rest_behind w text ≡ Some rest → text ≡ w ++ rest
+unfolding rest_behind
+rest_behind_takes w text rest is =
     by_bit (λ b. bytes_eq (take (length w) text) w ≡ b → (if b then Some (drop (length w) text) else None) ≡ Some rest → text ≡ w ++ rest) (bytes_eq (take (length w) text) w)
     (λ _ e is.
     let front : take (length w) text ≡ w = (bytes_eq-Decides (take (length w) text) w).0 e in
@@ -26,22 +26,22 @@ after_takes w text rest is =
     refl is
 
 pub chosen_takes : (x : Kind) (others : Option (Kind × List ℕ)) (text : List ℕ) (k : Kind) (rest : List ℕ) (o : Option (List ℕ)) →
-    after (kind_word x) text ≡ o → (others ≡ Some (k, rest) → text ≡ kind_word k ++ rest) → or_else x o others ≡ Some (k, rest) → text ≡ kind_word k ++ rest
+    rest_behind (kind_word x) text ≡ o → (others ≡ Some (k, rest) → text ≡ kind_word k ++ rest) → or_else x o others ≡ Some (k, rest) → text ≡ kind_word k ++ rest
 chosen_takes x others text k rest None e later is = later is
 chosen_takes x others text k rest (Some r) e later is =
     let both = some_is (x, r) (k, rest) is in
     let k_is : x ≡ k = ap (λ (y : Kind × List ℕ). y.0) both in
     let rest_is : r ≡ rest = ap (λ (y : Kind × List ℕ). y.1) both in
-    after_takes (kind_word x) text r e ∙ ap (λ j. kind_word j ++ r) k_is ∙ ap (λ s. kind_word k ++ s) rest_is
+    rest_behind_takes (kind_word x) text r e ∙ ap (λ j. kind_word j ++ r) k_is ∙ ap (λ s. kind_word k ++ s) rest_is
 
 pub first_takes : (ks : List Kind) (text : List ℕ) (k : Kind) (rest : List ℕ) → first_of ks text ≡ Some (k, rest) → text ≡ kind_word k ++ rest
 unfolding first_of
 first_takes [] text k rest is = absurd (cc)
 first_takes (x ∷ ks) text k rest is =
-    chosen_takes x (first_of ks text) text k rest (after (kind_word x) text) refl (first_takes ks text k rest) is
+    chosen_takes x (first_of ks text) text k rest (rest_behind (kind_word x) text) refl (first_takes ks text k rest) is
 
 pub first_again : (k : Kind) (rest : List ℕ) → first_of kinds (kind_word k ++ rest) ≡ Some (k, rest)
-unfolding first_of after
+unfolding first_of rest_behind
 first_again Try rest = refl
 first_again Take rest = refl
 first_again Mark rest = refl
@@ -114,6 +114,13 @@ line_parts e k t x more rest word_is numbers_are =
     ∙ ap (λ ns. (kind_word k ++ (flat_map field ns ++ 10 ∷ [])) ++ rest) numbers_are
     ∙ regroup (kind_word k) (field t) (field x) (flat_map field more) rest
 
+all_small : (e : Event) (ns : List ℕ) → numbers e ≡ ns → AllByRecursion IsSmall ns → HasSpelling e
+all_small e ns is small = subst (AllByRecursion IsSmall) (sym is) small
+
+parts_line : (e : Event) (k : Kind) (t x : ℕ) (more rest : List ℕ) → word e ≡ kind_word k → numbers e ≡ t ∷ x ∷ more →
+    kind_word k ++ (field t ++ (field x ++ (flat_map field more ++ (10 ∷ rest)))) ≡ event_line e ++ rest
+parts_line e k t x more rest word_is numbers_are = sym (line_parts e k t x more rest word_is numbers_are)
+
 pub event_takes : (text : List ℕ) (e : Event) (rest : List ℕ) → event_at text ≡ Some (e, rest) → HasSpelling e × (text ≡ event_line e ++ rest)
 unfolding event_at
 event_takes text e rest is =
@@ -135,7 +142,7 @@ event_takes text e rest is =
     (x.1 ∙ ap (λ r. field key.0.0 ++ r)
     (l.parts ∙ ap (λ r. flat_map field l.more ++ r) (end_takes last.0.1 end.0 end.1))))
     ∙ sym (line_parts last.0.0 kind.0.0 thread.0.0 key.0.0 l.more end.0 l.word_is l.numbers_are) in (
-      subst HasSpelling e_is (subst (AllByRecursion IsSmall) (sym l.numbers_are) (t.0, (x.0, l.small))),
+      subst HasSpelling e_is (all_small last.0.0 (thread.0.0 ∷ key.0.0 ∷ l.more) l.numbers_are (t.0, (x.0, l.small))),
       parts ∙ ap (λ y. event_line y ++ end.0) e_is ∙ ap (λ r. event_line e ++ r) rest_is,
     )
 
@@ -190,7 +197,7 @@ pub open_takes : (text : List ℕ) (n l c : ℕ) (rest : List ℕ) → open_at t
     AllByRecursion IsSmall (n ∷ l ∷ c ∷ []) × (text ≡ open_line n l c ++ rest)
 unfolding open_at
 open_takes text n l c rest is =
-    let behind = bind_some _ (after (codes "open") text) (n, l, c, rest) is in
+    let behind = bind_some _ (rest_behind (codes "open") text) (n, l, c, rest) is in
     let threads = bind_some _ (field_at behind.0) (n, l, c, rest) behind.2 in
     let locks = bind_some _ (field_at threads.0.1) (n, l, c, rest) threads.2 in
     let conds = bind_some _ (field_at locks.0.1) (n, l, c, rest) locks.2 in
@@ -200,7 +207,7 @@ open_takes text n l c rest is =
     let m = field_takes locks.0.1 conds.0.0 conds.0.1 conds.1 in
     let all = some_is (threads.0.0, locks.0.0, conds.0.0, end.0) (n, l, c, rest) end.2 in
     let parts : text ≡ open_line threads.0.0 locks.0.0 conds.0.0 ++ end.0 =
-    after_takes (codes "open") text behind.0 behind.1
+    rest_behind_takes (codes "open") text behind.0 behind.1
     ∙ ap (λ r. codes "open" ++ r)
     (t.1 ∙ ap (λ r. field threads.0.0 ++ r)
     (k.1 ∙ ap (λ r. field locks.0.0 ++ r)
@@ -209,8 +216,8 @@ open_takes text n l c rest is =
     subst (λ (y : ℕ × ℕ × ℕ × List ℕ). AllByRecursion IsSmall (y.0 ∷ y.1 ∷ y.2 ∷ []) × (text ≡ open_line y.0 y.1 y.2 ++ y.3)) all
     ((t.0, (k.0, (m.0, tt))), parts)
 
-pub open_word : (rest : List ℕ) → after (codes "open") (codes "open" ++ rest) ≡ Some rest
-unfolding after
+pub open_word : (rest : List ℕ) → rest_behind (codes "open") (codes "open" ++ rest) ≡ Some rest
+unfolding rest_behind
 open_word rest = refl
 
 pub open_again : (n l c : ℕ) (rest : List ℕ) → AllByRecursion IsSmall (n ∷ l ∷ c ∷ []) → open_at (open_line n l c ++ rest) ≡ Some (n, l, c, rest)
@@ -218,7 +225,7 @@ unfolding open_at
 open_again n l c rest small =
     let end : List ℕ = 10 ∷ rest in
     ap open_at (regroup_open (codes "open") (field n) (field l) (field c) rest)
-    ∙ bind_is _ (after (codes "open") (codes "open" ++ (field n ++ (field l ++ (field c ++ end))))) (field n ++ (field l ++ (field c ++ end))) _ (open_word (field n ++ (field l ++ (field c ++ end))))
+    ∙ bind_is _ (rest_behind (codes "open") (codes "open" ++ (field n ++ (field l ++ (field c ++ end))))) (field n ++ (field l ++ (field c ++ end))) _ (open_word (field n ++ (field l ++ (field c ++ end))))
     (bind_is _ (field_at (field n ++ (field l ++ (field c ++ end)))) (n, field l ++ (field c ++ end)) _ (field_again n (field l ++ (field c ++ end)) small.0 refl)
     (bind_is _ (field_at (field l ++ (field c ++ end))) (l, field c ++ end) _ (field_again l (field c ++ end) small.1.0 refl)
     (bind_is _ (field_at (field c ++ end)) (c, end) _ (field_again c end small.1.1.0 refl)

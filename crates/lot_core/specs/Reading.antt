@@ -12,13 +12,15 @@ abbrev pub ◌>>=◌ : {A B : Type 0} → Option A → (A → Option B) → Opti
 o >>= f = option_and_then f o
 
 -- what stands behind this word
-unfoldable pub after : List ℕ → List ℕ → Option (List ℕ)
-after word text = if bytes_eq (take (length word) text) word then Some (drop (length word) text) else None
+unfoldable pub rest_behind : List ℕ → List ℕ → Option (List ℕ)
+rest_behind word text =
+    if bytes_eq (take (length word) text) word then Some (drop (length word) text) else None
 
 -- one more digit of a number, if there is one
 unfoldable pub one_more : ℕ → List ℕ → ℕ × List ℕ
 one_more n [] = (n, [])
-one_more n (digit ∷ rest) = if is_ascii_digit digit then (10 * n + (digit - 48), rest) else (n, digit ∷ rest)
+one_more n (digit ∷ rest) =
+    if is_ascii_digit digit then (10 * n + (digit - 48), rest) else (n, digit ∷ rest)
 
 -- up to three more
 unfoldable pub three_more : ℕ → List ℕ → ℕ × List ℕ
@@ -30,7 +32,9 @@ three_more n text =
 -- `0`, or one to four digits of which the first is not `0`
 unfoldable pub number_at : List ℕ → Option (ℕ × List ℕ)
 number_at [] = None
-number_at (digit ∷ rest) = if digit == 48 then Some (0, rest) else (if is_ascii_digit digit then Some (three_more (digit - 48) rest) else None)
+number_at (digit ∷ rest) =
+    if digit == 48 then Some (0, rest)
+    else (if is_ascii_digit digit then Some (three_more (digit - 48) rest) else None)
 
 unfoldable pub field_at : List ℕ → Option (ℕ × List ℕ)
 field_at [] = None
@@ -68,7 +72,7 @@ or_else k None others = others
 
 unfoldable pub first_of : List Kind → List ℕ → Option (Kind × List ℕ)
 first_of [] text = None
-first_of (k ∷ ks) text = or_else k (after (kind_word k) text) (first_of ks text)
+first_of (k ∷ ks) text = or_else k (rest_behind (kind_word k) text) (first_of ks text)
 
 -- the event of this kind, thread and key, with its further numbers
 unfoldable pub last_at : Kind → ℕ → ℕ → List ℕ → Option (Event × List ℕ)
@@ -102,7 +106,7 @@ event_at text = do
 
 unfoldable pub open_at : List ℕ → Option (ℕ × ℕ × ℕ × List ℕ)
 open_at text = do
-  behind ← after (codes "open") text
+  behind ← rest_behind (codes "open") text
   threads ← field_at behind
   locks ← field_at threads.1
   conds ← field_at locks.1

@@ -74,7 +74,9 @@ pub record AreLines (threads locks conds : ℕ) (events : List Event) : Type 0 w
 
 -- no line that opens a script stands at the front
 abbrev pub NoOpening : List ℕ → Type 0
-NoOpening text = (n l c : ℕ) (more : List ℕ) → AllByRecursion IsSmall (n ∷ l ∷ c ∷ []) → text ≡ open_line n l c ++ more → ⊥
+NoOpening text =
+    (n l c : ℕ) (more : List ℕ) → AllByRecursion IsSmall (n ∷ l ∷ c ∷ []) →
+    text ≡ open_line n l c ++ more → ⊥
 
 -- no line of an event stands at the front
 abbrev pub NoEvent : List ℕ → Type 0

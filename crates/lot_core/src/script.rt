@@ -78,7 +78,7 @@ const KINDS: [Kind; 11] = [
 ];
 
 ghost use Rattle.lot_core.specs.Script.{Reads};
-ghost use Rattle.lot_core.specs.Reading.{kind_word, after, one_more, number_at, field_at, flag_at, end_at, first_of, kinds, last_at, event_at, open_at};
+ghost use Rattle.lot_core.specs.Reading.{kind_word, rest_behind, one_more, number_at, field_at, flag_at, end_at, first_of, kinds, last_at, event_at, open_at};
 
 fn word_of(kind: Kind) -> &'static [u8]
     ensures { result.now ≡ kind_word kind }
@@ -99,9 +99,9 @@ fn word_of(kind: Kind) -> &'static [u8]
 }
 
 // What stands behind the word, if the text begins with it.
-#[tactic(auto, unfolding(crate::specs::Reading::after))]
+#[tactic(auto, unfolding(crate::specs::Reading::rest_behind))]
 fn behind<'a>(word: &[u8], text: &'a [u8]) -> Option<&'a [u8]>
-    ensures { option_map (λ x. x.now) result ≡ after word.now text.now }
+    ensures { option_map (λ x. x.now) result ≡ rest_behind word.now text.now }
 {
     text.strip_prefix(word)
 }
