@@ -143,7 +143,7 @@ module _ {V Q : Type 0} (keeps : ℕ → V → Type 0) (grows : V → V → Type
   posts_allows me one u k debt new is i at = subst (λ z. Allows (Ruled keeps grows share size) slots id me z (λ _. new) (λ _. posted (step slots z new 0 none) me new)) (sym at)
       (subst (λ z. Allows (Ruled keeps grows share size) slots id z (letter_at size.locks u) (λ _. new) (λ _. posted (step slots (letter_at size.locks u) new 0 none) z new)) (sym one) (posts_at (the_root me.0) u k debt new is))
 
-  module _ (itself : (x : V) → grows x x) (p : LockPassView) (g : ValuesView V) (up : p.asleep ≡ true) (s : State (Option V) (List (Right V))) (ru : Ruled keeps grows share size s) (at : get_elem? s.views id ≡ some (Pass p g ∷ [])) where
+  module _ (itself : (x : V) → grows x x) (p : LockPassView) (g : ValuesView V) (s : State (Option V) (List (Right V))) (ru : Ruled keeps grows share size s) (at : get_elem? s.views id ≡ some (Pass p g ∷ [])) where
     abbrev collects_now : Type 0
     collects_now = (w : List (Right V)) × (a : Act (Option V)) × Valid s.homes [] a × Ruled keeps grows share size (stepped s (letter_at size.locks p.thread) 0 id [] w a)
         × collected keeps grows share (step slots (letter_at size.locks p.thread) 0 0 none) (Pass p g ∷ [], []) (get_or s.words (letter_at size.locks p.thread) 0) (w, carried_after [] a)
@@ -155,11 +155,11 @@ module _ {V Q : Type 0} (keeps : ℕ → V → Type 0) (grows : V → V → Type
       keep_act,
       tt,
       nothing keeps grows share size s ru id (Pass p g ∷ []) (letter_at size.locks p.thread) 0 at r,
-      λ _ _. ((refl, refl), omega arith, subst (λ z. CollectedBy keeps grows share z (Pass p g ∷ [], []) (Pass p g ∷ [], [])) (sym r) refl),
+      λ _. ((refl, refl), omega arith, subst (λ z. CollectedBy keeps grows share z (Pass p g ∷ [], []) (Pass p g ∷ [], [])) (sym r) refl),
     )
 
     collects_spot : (sp : Spot) → ru.world.threads.spot p.thread ≡ sp → get_or s.words (letter_at size.locks p.thread) 0 ≡ letter_of sp → SpotFits size.threads ru.world.locks p.thread (ru.world.threads.pass p.thread) sp → collects_now
-    collects_spot awake is r fits = absurd (let e = ap (λ (x : LockPassView). x.asleep) (fit_of keeps grows share size s ru id p g [] at).1 in cc (fits, e, up))
+    collects_spot awake is r fits = none_lies r
     collects_spot (queued l) is r fits = none_lies r
     collects_spot (owed l k) is r fits = none_lies r
     collects_spot (lying l zero) is r fits =
@@ -168,7 +168,7 @@ module _ {V Q : Type 0} (keeps : ℕ → V → Type 0) (grows : V → V → Type
           keep_act,
           tt,
           collects_rule keeps grows share size s ru id p g at l is,
-          λ _ _. ((refl, refl), omega arith, subst (λ z. CollectedBy keeps grows share z (Pass p g ∷ [], []) (Pass (woken p) g ∷ [], [])) (sym r) (λ z z' e. (e, refl, refl))),
+          λ _. ((refl, refl), omega arith, subst (λ z. CollectedBy keeps grows share z (Pass p g ∷ [], []) (Pass (woken p) g ∷ [], [])) (sym r) (λ z z' e. (e, refl, refl))),
         )
     collects_spot (lying l (suc zero)) is r fits =
         let aim : p.aim ≡ Some l = sym (ap (λ (x : LockPassView). x.aim) (fit_of keeps grows share size s ru id p g [] at).1) ∙ fits.0.2 in
@@ -177,7 +177,7 @@ module _ {V Q : Type 0} (keeps : ℕ → V → Type 0) (grows : V → V → Type
           keep_act,
           tt,
           collects_lock_rule keeps grows share size s ru id p g at l itself here is,
-          λ _ _. (
+          λ _. (
             (refl, refl),
             omega arith,
             subst (λ z. CollectedBy keeps grows share z (Pass p g ∷ [], []) (Pass (woken (gripped p l)) (found_in g l (ru.stands.lawful.value l)) ∷ [], [])) (sym r)
@@ -186,12 +186,12 @@ module _ {V Q : Type 0} (keeps : ℕ → V → Type 0) (grows : V → V → Type
         )
     collects_spot (lying l (suc (suc k))) is r fits = absurd (⊎_elim {C = ⊥} (λ e. omega arith) (λ e. let f = e.0 in omega arith) fits.1)
 
-  collects_at : (itself : (x : V) → grows x x) (p : LockPassView) (g : ValuesView V) → p.asleep ≡ true
+  collects_at : (itself : (x : V) → grows x x) (p : LockPassView) (g : ValuesView V)
       → Allows (Ruled keeps grows share size) slots id (Pass p g ∷ [], []) (letter_at size.locks p.thread) (λ _. 0) (collected keeps grows share (step slots (letter_at size.locks p.thread) 0 0 none) (Pass p g ∷ [], []))
-  collects_at itself p g up s ru deep at small =
-      collects_spot itself p g up s ru at (ru.world.threads.spot p.thread) refl (ru.stands.words.letters p.thread (fit_of keeps grows share size s ru id p g [] at).0) (ru.stands.kept.threads p.thread).spot
+  collects_at itself p g s ru deep at small =
+      collects_spot itself p g s ru at (ru.world.threads.spot p.thread) refl (ru.stands.words.letters p.thread (fit_of keeps grows share size s ru id p g [] at).0) (ru.stands.kept.threads p.thread).spot
 
-  pub collects_allows : (itself : (x : V) → grows x x) (me : Me (Option V) (List (Right V))) → OnePass me → (the_pass me.0).asleep ≡ true → (i : ℕ) → i ≡ letter_at size.locks (the_pass me.0).thread
+  pub collects_allows : (itself : (x : V) → grows x x) (me : Me (Option V) (List (Right V))) → OnePass me → (i : ℕ) → i ≡ letter_at size.locks (the_pass me.0).thread
       → Allows (Ruled keeps grows share size) slots id me i (λ _. 0) (collected keeps grows share (step slots i 0 0 none) me)
-  collects_allows itself me one up i is = subst (λ z. Allows (Ruled keeps grows share size) slots id me z (λ _. 0) (collected keeps grows share (step slots z 0 0 none) me)) (sym is)
-      (subst (λ z. Allows (Ruled keeps grows share size) slots id z (letter_at size.locks (the_pass me.0).thread) (λ _. 0) (collected keeps grows share (step slots (letter_at size.locks (the_pass me.0).thread) 0 0 none) z)) (sym one) (collects_at itself (the_pass me.0) (the_values me.0) up))
+  collects_allows itself me one i is = subst (λ z. Allows (Ruled keeps grows share size) slots id me z (λ _. 0) (collected keeps grows share (step slots z 0 0 none) me)) (sym is)
+      (subst (λ z. Allows (Ruled keeps grows share size) slots id z (letter_at size.locks (the_pass me.0).thread) (λ _. 0) (collected keeps grows share (step slots (letter_at size.locks (the_pass me.0).thread) 0 0 none) z)) (sym one) (collects_at itself (the_pass me.0) (the_values me.0)))

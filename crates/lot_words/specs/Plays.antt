@@ -113,4 +113,4 @@ module _ {V Q : Type 0} (keeps : ℕ → V → Type 0) (grows : V → V → Type
   CollectedBy (suc token) me me' = (z z' : TableId) → z' ≡ z → Collected keeps grows share (seen_at z me) token (seen_at z' me')
 
   abbrev pub collected : Step (Option V) → Me (Option V) (List (Right V)) → ℕ → Me (Option V) (List (Right V)) → Type 0
-  collected s me r me' = OnePass me → (the_pass me.0).asleep ≡ true → SamePass me me' × (r ≤ 2) × CollectedBy r me me'
+  collected s me r me' = OnePass me → SamePass me me' × (r ≤ 2) × CollectedBy r me me'

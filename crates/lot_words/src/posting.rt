@@ -26,10 +26,10 @@ impl<V: Keeps> LockWords<V> {
     }
 
     /// Collects the pass's letter, by one swap, and answers its token where a letter lay: 0 where the thread may try again, 1 where
-    /// the lock was handed to it. No event is made. A thread that sleeps calls it until a letter lies; what wakes it tells nothing.
+    /// the lock was handed to it. No event is made, and a pass that does not sleep has no
+    /// letter. A thread that sleeps calls it until a letter lies; what wakes it tells nothing.
     pub fn collect(&self, pass: LockPass<V>) -> (LockPass<V>, Option<u32>)
-        requires table { pass.table ≡ self.now.table }
-        requires asleep { pass.pass.asleep ≡ true }
+        requires { pass.table ≡ self.now.table }
         ensures { MatchOption result.1 (result.0 ≡ pass) (λ token. Collected V.keeps V.grows V.part pass token result.0) }
     {
         let LockPass { mut seat, thread } = pass;

@@ -1,4 +1,4 @@
-use Rattle.std.proofs.Common.{◌≡◌, ◌<◌, true, arith, sym, ap, subst, ◌∙◌}
+use Rattle.std.proofs.Common.{◌≡◌, ◌<◌, arith, sym, ap, subst, ◌∙◌}
 use Rattle.atomic_table.specs.Seated.{TableId}
 use Rattle.lot_words.specs.World.{letter_at}
 use Rattle.lot_words.specs.Shown.{PassShown, WordsShown}
@@ -7,11 +7,10 @@ use Rattle.lot_words.proofs.words.LockWords.collect.Goals as goal
 
 pub swap-letter-requires : goal.swap-letter-requires
 swap-letter-requires g c =
-    let table = ap (λ (x : PassShown _). x.table) c.pass.view_is ∙ (c.requires.table ∙ sym (ap (λ (x : WordsShown). x.table) c.self.view_is)) in
-    let near : letter_at c.self.inside.table.shared.table_id.slots c.pass.inside.thread < c.self.inside.table.shared.table_id.words = subst (λ (z : TableId). letter_at z.slots c.pass.inside.thread < z.words) table c.pass.inside.near in
-    let asleep = subst (λ (x : PassShown _). x.pass.asleep ≡ true) (sym c.pass.view_is) c.requires.asleep in (
+    let table = ap (λ (x : PassShown _). x.table) c.pass.view_is ∙ (c.requires ∙ sym (ap (λ (x : WordsShown). x.table) c.self.view_is)) in
+    let near : letter_at c.self.inside.table.shared.table_id.slots c.pass.inside.thread < c.self.inside.table.shared.table_id.words = subst (λ (z : TableId). letter_at z.slots c.pass.inside.thread < z.words) table c.pass.inside.near in (
       table,
       omega (arith, c.letter_of_thread-own.ensures, c.self.inside.slots_are),
       collects_allows g.V.Keeps.keeps g.V.Keeps.grows g.V.Keeps.part c.self.inside.table.shared.key.size c.self.inside.table.shared.table_id.slots c.pass.inside.seat.id g.V.Keeps.grows_itself
-          c.pass.inside.seat.me c.pass.inside.one asleep c.letter_of_thread-own.result (c.letter_of_thread-own.ensures ∙ (λ i. letter_at (c.self.inside.size_is.1 i) (c.pass.inside.thread_is i))),
+          c.pass.inside.seat.me c.pass.inside.one c.letter_of_thread-own.result (c.letter_of_thread-own.ensures ∙ (λ i. letter_at (c.self.inside.size_is.1 i) (c.pass.inside.thread_is i))),
     )
