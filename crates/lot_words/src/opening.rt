@@ -9,12 +9,11 @@ use crate::rights::{LockPass, LockRoot};
 use crate::rule::LockRule;
 use crate::shelf::{shelve, unshelve, zeros};
 use crate::start::Start;
-use crate::views::{Right, Size};
+use crate::views::Right;
 use crate::words::LockWords;
 use atomic_table::{Refused, Seat, Shared, Split, Table};
 use std::alloc::{AllocError, Global};
 use std::collections::LinkedList;
-use std::snapshot::Snapshot;
 
 /// The first right of a seat goes to a new one.
 pub(crate) struct Deal;
@@ -131,14 +130,7 @@ impl<V: Keeps> LockWords<V> {
             Ok(rooms) => rooms,
             Err(_) => return Err((WordsFault::NoMemory, values)),
         };
-        let size = Size {
-            threads: threads as u64,
-            locks: locks as u64,
-        };
-        let start = Start {
-            size,
-            values: Snapshot::of(&values),
-        };
+        let start = Start::new(threads, &values);
         shelve(&mut values, &mut slots);
         match Table::new(alloc, words.as_slice(), slots, &start) {
             Ok((table, mut seat)) => {
@@ -154,7 +146,6 @@ impl<V: Keeps> LockWords<V> {
             }
             Err(Refused { slots }) => {
                 passes.destroy_empty();
-                roots.destroy_empty();
                 Err((WordsFault::NoMemory, unshelve(slots, values)))
             }
         }
