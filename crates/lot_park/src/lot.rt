@@ -83,6 +83,7 @@ impl<S: Scheme> ParkingLot<S> {
         }
     }
 
+    /// The scheme that the lot was opened with.
     pub fn scheme(&self) -> &S
         ensures { result.now ≡ self.now.scheme }
     {
@@ -93,7 +94,7 @@ impl<S: Scheme> ParkingLot<S> {
     ///
     /// `validate` is called once, under the lock of the key's bucket; where it says yes, the thread stands
     /// last in the line. Then `before_sleep` is called once with no bucket locked, and must not park; it
-    /// may unpark, even this thread.
+    /// may unpark, even this thread. A key that the lot has not is waited for without end.
     pub fn park_conditionally<
         W: Wait,
         X,
@@ -246,7 +247,7 @@ impl<S: Scheme> ParkingLot<S> {
         }
     }
 
-    /// How many threads wait on the key.
+    /// How many threads wait on the key; at the next moment it may be another number.
     pub fn line_length<W: Wait>(&self, rt: &W, key: usize) -> usize {
         let ((), length) = self.table.with_bucket(
             rt,
