@@ -1,19 +1,17 @@
 -- What the last state tells, when all passes are at one seat and none of them holds a lock.
-use Rattle.std.proofs.Common.{◌≡◌, ℕ, suc, ◌<◌, List, [], ◌∷◌, length, Option, Some, None, slice_get, refl, sym, ap, subst, ◌∙◌, arith}
+use Rattle.std.proofs.Common.{◌≡◌, ℕ, ◌<◌, List, length, Option, Some, slice_get, sym, ap, subst, ◌∙◌, arith}
 use Rattle.std.proofs.lemmas.Option.{slice_get_within}
-use mathlib.Core.Option.{some, none, some-injective}
+use mathlib.Core.Option.{some, some-injective}
 use lib.ListN.{get_elem?}
 use Rattle.atomic_table.specs.Table.{State, Final, Seen}
-use Rattle.lot_core.specs.Parts.{LockStep}
 use Rattle.lot_words.specs.declared.views.LockPassView.{LockPassView}
 use Rattle.lot_words.specs.declared.views.LockRootView.{LockRootView}
-use Rattle.lot_words.specs.declared.views.ValuesView.{ValuesView}
 use Rattle.lot_words.specs.declared.views.Right.{Right}
 use Rattle.lot_words.specs.declared.views.Right.TheVariants.{Pass, Root}
 use Rattle.lot_words.specs.declared.views.Size.{Size}
 use Rattle.lot_words.specs.World.{Holds}
-use Rattle.lot_words.specs.History.{Run, events_of, Noted}
-use Rattle.lot_words.specs.Rule.{number, shown, bare, part_of, opening_part, RightFits, PassHolds, Ruled}
+use Rattle.lot_words.specs.History.{events_of, Noted}
+use Rattle.lot_words.specs.Rule.{number, shown, part_of, RightFits, PassHolds, Ruled}
 use Rattle.lot_words.specs.Shown.{PassShown, RootShown}
 use Rattle.lot_words.specs.Values.{HasSeen, FoundOk}
 use Rattle.lot_words.specs.Closing.{AllOf, SomeOf, InView, HasPass, HasRoot, HoldsNone, IsRecounted}

@@ -1,8 +1,8 @@
 -- The first seat's rights are dealt out, one at a time.
-use Rattle.std.proofs.Common.{◌≡◌, ◌≢◌, ℕ, zero, suc, ◌+◌, ◌-◌, ◌<◌, ◌≤◌, List, [], ◌∷◌, ◌++◌, length, take, drop, Option, Some, None, slice_get, refl, sym, ap, subst, ◌∙◌, arith}
+use Rattle.std.proofs.Common.{◌≡◌, ℕ, zero, suc, ◌+◌, ◌-◌, ◌<◌, List, [], ◌∷◌, ◌++◌, length, take, drop, Some, None, slice_get, refl, sym, ap, subst, ◌∙◌, arith}
 use mathlib.Core.Logic.{dite}
 use native.Mathlib.Decide.{ℕ_discrete}
-use Rattle.atomic_table.specs.Table.{State, Me, Splits}
+use Rattle.atomic_table.specs.Table.{Me, Splits}
 use Rattle.lot_core.specs.Parts.{LockStep}
 use Rattle.lot_words.specs.declared.views.LockPassView.{LockPassView}
 use Rattle.lot_words.specs.declared.views.LockRootView.{LockRootView}
@@ -11,7 +11,7 @@ use Rattle.lot_words.specs.declared.views.Right.{Right}
 use Rattle.lot_words.specs.declared.views.Right.TheVariants.{Pass, Root}
 use Rattle.lot_words.specs.declared.views.Size.{Size}
 use Rattle.lot_words.specs.Seating.{times}
-use Rattle.lot_words.specs.Rule.{number, shown, RightFits, part_of, opening_part, Stands, Ruled}
+use Rattle.lot_words.specs.Rule.{number, shown, RightFits, part_of, opening_part, Ruled}
 use Rattle.lot_words.specs.Shown.{the_pass, the_values, the_root}
 use Rattle.lot_words.specs.Plays.{OwesNear}
 use Rattle.atomic_table.specs.Seated.{TableId}

@@ -1,5 +1,5 @@
 -- Each kind of event keeps the rule of threads and locks.
-use Rattle.std.proofs.Common.{◌≡◌, ◌≢◌, ℕ, zero, suc, ◌+◌, ◌<◌, ◌≤◌, ◌==◌, eqb, ◌⊎◌, Bool, true, false, cond, List, [], ◌∷◌, ◌++◌, length, get_or, set, refl, sym, ap, subst, ◌∙◌, inl, inr, ⊎_elim, arith, length-set, get_or-set_same, get_or-set_other, Option, Some, None}
+use Rattle.std.proofs.Common.{◌≡◌, ◌≢◌, ℕ, suc, ◌<◌, ◌⊎◌, Bool, true, false, List, [], ◌∷◌, ◌++◌, length, get_or, set, refl, sym, ap, subst, ◌∙◌, inl, inr, ⊎_elim, arith, length-set, get_or-set_same, get_or-set_other, Option, Some, None}
 use mathlib.Core.Logic.{dite}
 use native.Mathlib.Decide.{ℕ_discrete}
 use Rattle.lot_core.specs.World.{put}
@@ -8,10 +8,10 @@ use Rattle.lot_words.specs.declared.views.Hold.{Hold}
 use Rattle.lot_words.specs.declared.views.Hold.TheVariants.{NotHeld, Held, FoundParked}
 use Rattle.lot_words.specs.declared.views.LockPassView.{LockPassView}
 use Rattle.lot_words.specs.declared.views.LockRootView.{LockRootView}
-use Rattle.lot_words.specs.World.{Spot, awake, queued, owed, lying, ThreadFacts, LockFacts, World, hold, IsHeld, IsFound, Holds, HoldsParked, Apart, SomeIn, Handed, Outside, Sleeps, TellsTrue, SpotFits, ThreadFits, LockFits, Kept}
-use Rattle.lot_words.specs.Calls.{gripped, wishing, let_go, woken, found_parked, sleeping}
+use Rattle.lot_words.specs.World.{awake, queued, owed, World, IsHeld, IsFound, Holds, Apart, SomeIn, Handed, ThreadFits, Kept}
+use Rattle.lot_words.specs.Calls.{gripped, wishing, let_go, found_parked, sleeping}
 use Rattle.lot_words.proofs.Seats.{put_elim, put_same, put_other, put_again}
-use Rattle.lot_words.proofs.Machine.{threads_after, locks_after, turned, turned2, found_held, awake_is, SameFor, same_for, thread_on, lock_stays, turns, turns2}
+use Rattle.lot_words.proofs.Machine.{locks_after, turned, awake_is, SameFor, same_for, thread_on, lock_stays, turns}
 
 -- ---- lists and options
 pub in_left : (t : ℕ) (xs : List ℕ) (u : ℕ) → In t xs → In t (xs ++ u ∷ [])

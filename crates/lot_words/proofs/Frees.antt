@@ -1,42 +1,33 @@
 -- `mark` and `free`: one compare-exchange is one event, or none.
-use Rattle.std.proofs.Common.{◌≡◌, ◌≢◌, ℕ, zero, suc, ◌+◌, ◌*◌, ◌%◌, ◌<◌, ◌≤◌, ◌==◌, eqb, ◌⊎◌, Bool, true, false, cond, List, [], ◌∷◌, ◌++◌, length, get_or, set, refl, sym, ap, subst, ◌∙◌, inl, inr, ⊎_elim, arith, bit_or, MatchBool, get_or-set_same, get_or-set_other, Option, Some, None}
-use Rattle.std.proofs.lemmas.List.{set-get_or}
+use Rattle.std.proofs.Common.{◌≡◌, ◌≢◌, ℕ, zero, suc, ◌<◌, ◌==◌, ◌⊎◌, Bool, true, false, List, [], ◌∷◌, length, get_or, refl, sym, ap, subst, ◌∙◌, inl, inr, ⊎_elim, arith, get_or-set_same, Option, None}
 use mathlib.Core.Option.{some, none, some-injective}
 use prog.Atomic.{either}
-use Rattle.lot_words.specs.declared.views.Place.{Place}
-use Rattle.lot_words.specs.declared.views.Place.TheVariants.{InSlot, Out, Moving}
+use Rattle.lot_words.specs.declared.views.Place.TheVariants.{InSlot}
 use lib.ListN.{get_elem?}
-use Rattle.atomic_table.specs.Table.{State, Me, Step, step, Allows, keeps as keep_act}
+use Rattle.atomic_table.specs.Table.{State, Me, step, Allows, keeps as keep_act}
 use Rattle.lot_core.specs.World.{put}
-use Rattle.lot_core.specs.Parts.{LockPart, LockStep}
-use Rattle.lot_core.specs.declared.events.Event.{Event}
 use Rattle.lot_core.specs.declared.events.Event.TheVariants.{Mark, Free}
-use Rattle.lot_core.specs.declared.events.Seen.{Seen}
 use Rattle.lot_core.specs.declared.events.Seen.TheVariants.{Bool as Saw, Done}
-use Rattle.lot_words.specs.Seating.{times, Each, Seated}
-use Rattle.lot_words.specs.declared.views.Hold.{Hold}
-use Rattle.lot_words.specs.declared.views.Hold.TheVariants.{NotHeld, Held, FoundParked}
+use Rattle.lot_words.specs.declared.views.Hold.TheVariants.{NotHeld, FoundParked}
 use Rattle.lot_words.specs.declared.views.LockPassView.{LockPassView}
-use Rattle.lot_words.specs.declared.views.LockRootView.{LockRootView}
 use Rattle.lot_words.specs.declared.views.ValuesView.{ValuesView}
 use Rattle.lot_words.specs.declared.views.Right.{Right}
-use Rattle.lot_words.specs.declared.views.Right.TheVariants.{Pass, Root}
+use Rattle.lot_words.specs.declared.views.Right.TheVariants.{Pass}
 use Rattle.lot_words.specs.declared.views.Size.{Size}
-use Rattle.lot_words.specs.World.{World, Kept, Holds, IsHeld, SomeIn, awake, word_of, letter_of, lock_at, WordsFit}
+use Rattle.lot_words.specs.World.{World, Holds, IsHeld, SomeIn, awake, word_of, letter_of, lock_at}
 use Rattle.lot_words.specs.Values.{IsLawful, IsIn, left_in}
-use Rattle.lot_words.specs.History.{maker}
-use Rattle.lot_words.specs.Rule.{part_of, number, bare, RightFits, PassHolds, Stands, Ruled}
-use Rattle.lot_words.specs.Calls.{Aims, Notes, tells, freed_pass, let_go, found_parked}
+use Rattle.lot_words.specs.Rule.{PassHolds, Ruled}
+use Rattle.lot_words.specs.Calls.{Aims, tells, let_go, found_parked}
 use Rattle.lot_words.specs.Shown.{the_pass, the_values}
 use Rattle.lot_words.specs.Plays.{OnePass, marked, freed}
-use Rattle.lot_words.proofs.Seats.{put_elim, put_same, put_again}
+use Rattle.lot_words.proofs.Seats.{put_elim}
 use Rattle.lot_words.proofs.Machine.{turned}
 use Rattle.lot_words.proofs.Events.{is_awake, marks, lets_go, finds, set_elim}
 use Rattle.lot_words.proofs.Valuing.{leaves_value}
 use Rattle.lot_words.proofs.Ties.{lock_word, one_seat, held_before, held_after}
 use Rattle.lot_words.proofs.Rows.{row_mark, row_free, row_free_parked}
 use Rattle.lot_words.proofs.Takes.{fit_of, up_of, aim_of, aims_of, holds_of}
-use Rattle.lot_words.proofs.Grows.{after_step, makes, nothing, stays_put, same_lawful, holds_else, holds_still}
+use Rattle.lot_words.proofs.Grows.{after_step, makes, nothing, same_lawful, holds_else, holds_still}
 
 -- ---- words
 -- the word is 1 where the lock is held and unparked, and only there

@@ -1,28 +1,27 @@
 -- A step keeps the rule: the history grows by one event, or nothing is made.
-use Rattle.std.proofs.Common.{◌≡◌, ◌≢◌, ℕ, zero, suc, ◌+◌, ◌*◌, ◌<◌, ◌≤◌, ◌==◌, eqb, ◌⊎◌, Bool, true, false, cond, List, [], ◌∷◌, ◌++◌, length, get_or, set, refl, sym, ap, subst, ◌∙◌, inl, inr, ⊎_elim, arith, get_or-set_other, Option, Some, None}
+use Rattle.std.proofs.Common.{◌≡◌, ◌≢◌, ℕ, ◌*◌, List, [], ◌∷◌, ◌++◌, length, get_or, set, refl, sym, ap, subst, ◌∙◌, arith, get_or-set_other, Option}
 use Rattle.std.proofs.lemmas.List.{set-get_or}
 use mathlib.Core.Option.{some}
 use lib.ListN.{get_elem?}
 use Rattle.atomic_table.specs.Table.{State}
 use Rattle.atomic_table.proofs.Lists.{set_again}
 use Rattle.lot_core.specs.World.{put}
-use Rattle.lot_core.specs.Parts.{LockPart, LockStep}
+use Rattle.lot_core.specs.Parts.{LockStep}
 use Rattle.lot_core.specs.declared.events.Event.{Event}
 use Rattle.lot_core.specs.declared.events.Seen.{Seen}
-use Rattle.lot_words.specs.Seating.{times, times_in, Each, Seated}
+use Rattle.lot_words.specs.Seating.{times, Each}
 use Rattle.lot_words.specs.declared.views.Hold.{Hold}
 use Rattle.lot_words.specs.declared.views.Hold.TheVariants.{NotHeld}
 use Rattle.lot_words.specs.declared.views.LockPassView.{LockPassView}
-use Rattle.lot_words.specs.declared.views.LockRootView.{LockRootView}
 use Rattle.lot_words.specs.declared.views.ValuesView.{ValuesView}
 use Rattle.lot_words.specs.declared.views.Made.{Made}
 use Rattle.lot_words.specs.declared.views.Right.{Right}
 use Rattle.lot_words.specs.declared.views.Right.TheVariants.{Pass, Root}
 use Rattle.lot_words.specs.declared.views.Size.{Size}
-use Rattle.lot_words.specs.World.{World, Kept, Holds, IsHeld, WordsFit}
+use Rattle.lot_words.specs.World.{World, Holds, IsHeld, WordsFit}
 use Rattle.lot_words.specs.Values.{IsLawful}
-use Rattle.lot_words.specs.History.{Entries, no_entries, entries, maker, Noted}
-use Rattle.lot_words.specs.Rule.{part_of, opening_part, number, shown, bare, RightFits, PassHolds, Stands, Ruled}
+use Rattle.lot_words.specs.History.{no_entries, entries, maker, Noted}
+use Rattle.lot_words.specs.Rule.{part_of, opening_part, number, shown, RightFits, PassHolds, Stands, Ruled}
 use Rattle.lot_words.specs.Calls.{tells}
 use Rattle.lot_words.proofs.Seats.{put_again, reseats}
 use Rattle.lot_words.proofs.Histories.{Quiet, PassesShow, records_more, records_stay}

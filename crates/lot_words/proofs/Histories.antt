@@ -1,16 +1,13 @@
 -- A history grows by one event, or stays.
 use Rattle.std.proofs.Common.{◌≡◌, ◌≢◌, ℕ, ◌+◌, ◌*◌, ◌≤◌, ◌==◌, Bool, true, false, cond, List, [], ◌∷◌, ◌++◌, length, set, refl, sym, ap, subst, ◌∙◌, eq-eqb, ne_eqb, arith}
 use mathlib.Core.Option.{some}
-use mathlib.Core.Logic.{dite}
-use native.Mathlib.Decide.{ℕ_discrete}
 use lib.ListN.{get_elem?}
-use Rattle.atomic_table.proofs.Lists.{set_here}
 use Rattle.lot_core.specs.declared.events.Event.{Event}
 use Rattle.lot_core.specs.declared.events.Seen.{Seen}
 use Rattle.lot_words.specs.declared.views.Made.{Made}
-use Rattle.lot_words.specs.Seating.{times, times_in, Each, Seated}
+use Rattle.lot_words.specs.Seating.{times, times_in, Each}
 use Rattle.lot_words.specs.History.{maker, events_of, Run, Entries, no_entries, entries, EntriesFit, Noted, Listed, Recorded}
-use Rattle.lot_words.proofs.Seats.{times_append, times_one, times_set, times_snoc, times_head, each_map, reseats, joins, splits}
+use Rattle.lot_words.proofs.Seats.{times_append, times_one, times_set, times_snoc, times_head, reseats, joins, splits}
 
 -- ---- lists of events
 more_of : (x : Made) (xs ys zs : List Made) → xs ≡ ys ++ zs → (b : Bool) → cond b (x ∷ xs) xs ≡ cond b (x ∷ ys) ys ++ zs

@@ -1,16 +1,15 @@
 -- A lock is passed on to the first of its line, a letter is posted, a letter is collected: each keeps the rule of threads and locks.
-use Rattle.std.proofs.Common.{◌≡◌, ◌≢◌, ℕ, zero, suc, ◌+◌, ◌<◌, ◌≤◌, ◌==◌, eqb, ◌⊎◌, Bool, true, false, cond, List, [], ◌∷◌, ◌++◌, length, get_or, set, refl, sym, ap, subst, ◌∙◌, inl, inr, ⊎_elim, arith, length-set, get_or-set_same, get_or-set_other, Option, Some, None}
+use Rattle.std.proofs.Common.{◌≡◌, ◌≢◌, ℕ, suc, ◌<◌, ◌⊎◌, Bool, true, false, List, ◌∷◌, length, refl, sym, ap, subst, ◌∙◌, inl, inr, ⊎_elim, arith, length-set, get_or-set_same, get_or-set_other, Some, None}
 use Rattle.lot_core.specs.World.{put}
 use Rattle.lot_words.specs.Seating.{In}
-use Rattle.lot_words.specs.declared.views.Hold.{Hold}
-use Rattle.lot_words.specs.declared.views.Hold.TheVariants.{NotHeld, Held, FoundParked}
+use Rattle.lot_words.specs.declared.views.Hold.TheVariants.{NotHeld, Held}
 use Rattle.lot_words.specs.declared.views.LockPassView.{LockPassView}
 use Rattle.lot_words.specs.declared.views.LockRootView.{LockRootView}
-use Rattle.lot_words.specs.World.{Spot, awake, queued, owed, lying, ThreadFacts, LockFacts, World, hold, IsHeld, IsFound, Holds, HoldsParked, Apart, SomeIn, Handed, Outside, Sleeps, TellsTrue, SpotFits, ThreadFits, LockFits, Kept}
-use Rattle.lot_words.specs.Calls.{gripped, wishing, let_go, woken}
+use Rattle.lot_words.specs.World.{Spot, awake, queued, owed, lying, LockFacts, World, hold, IsHeld, IsFound, Holds, Apart, SomeIn, Handed, Outside, Sleeps, TellsTrue, SpotFits, LockFits, Kept}
+use Rattle.lot_words.specs.Calls.{gripped, let_go, woken}
 use Rattle.lot_words.proofs.Seats.{put_elim, put_same, put_other, put_again}
-use Rattle.lot_words.proofs.Machine.{threads_after, locks_after, turned, turned2, found_held, awake_is, told_on, SameFor, same_for, thread_on, lock_stays, turns, turns2}
-use Rattle.lot_words.proofs.Events.{is_awake, in_no_line, is_owed_nothing, not_handed, lock_near, same_lock, same_debt, no_debt, no_aim, set_elim}
+use Rattle.lot_words.proofs.Machine.{threads_after, locks_after, turned, turned2, found_held, told_on, same_for, thread_on, lock_stays, turns, turns2}
+use Rattle.lot_words.proofs.Events.{is_awake, in_no_line, not_handed, lock_near, same_lock, same_debt, no_debt, no_aim, set_elim}
 
 pub sleeps_queued : (n : ℕ) (ls : LockFacts) (u l : ℕ) (p : LockPassView) (sp : Spot) → sp ≡ queued l → SpotFits n ls u p sp → Sleeps n u p l
 sleeps_queued n ls u l p sp e h = let g : SpotFits n ls u p (queued l) = subst (SpotFits n ls u p) e h in g.0

@@ -1,13 +1,13 @@
 -- Each kind of event keeps the rule of threads and locks.
-use Rattle.std.proofs.Common.{◌≡◌, ◌≢◌, ℕ, zero, suc, ◌+◌, ◌<◌, ◌≤◌, ◌==◌, eqb, ◌⊎◌, Bool, true, false, cond, List, [], ◌∷◌, ◌++◌, length, get_or, set, refl, sym, ap, subst, ◌∙◌, inl, inr, ⊎_elim, arith, length-set, get_or-set_same, get_or-set_other, Option, Some, None}
+use Rattle.std.proofs.Common.{◌≡◌, ◌≢◌, ℕ, suc, ◌⊎◌, Bool, true, false, cond, refl, sym, ap, subst, ◌∙◌, inl, inr, ⊎_elim, Some}
 use Rattle.lot_core.specs.World.{put}
 use Rattle.lot_words.specs.Seating.{In}
 use Rattle.lot_words.specs.declared.views.Hold.{Hold}
 use Rattle.lot_words.specs.declared.views.Hold.TheVariants.{NotHeld, Held, FoundParked}
 use Rattle.lot_words.specs.declared.views.LockPassView.{LockPassView}
 use Rattle.lot_words.specs.declared.views.LockRootView.{LockRootView}
-use Rattle.lot_words.specs.World.{Spot, awake, queued, owed, lying, ThreadFacts, LockFacts, World, hold, IsHeld, IsFound, Holds, HoldsParked, Apart, SomeIn, Handed, Outside, Sleeps, TellsTrue, SpotFits, ThreadFits, LockFits, Kept}
-use Rattle.lot_words.proofs.Seats.{by_test, put_elim, put_same, put_other, put_again}
+use Rattle.lot_words.specs.World.{Spot, awake, queued, owed, lying, ThreadFacts, LockFacts, World, hold, IsHeld, IsFound, Holds, Handed, Outside, TellsTrue, SpotFits, ThreadFits, LockFits, Kept}
+use Rattle.lot_words.proofs.Seats.{by_test, put_elim, put_other}
 
 -- ---- the world after an event: thread t's pass, thread u's notice, and the lock l
 abbrev pub threads_after : ThreadFacts → ℕ → LockPassView → ℕ → Spot → ThreadFacts

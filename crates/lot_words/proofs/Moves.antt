@@ -1,5 +1,5 @@
 -- A value leaves its slot, and comes back: the rule is kept.
-use Rattle.std.proofs.Common.{◌≡◌, ◌≢◌, ℕ, zero, suc, ◌+◌, ◌*◌, ◌<◌, ◌≤◌, List, [], ◌∷◌, length, get_or, set, Option, Some, None, refl, sym, ap, subst, ◌∙◌, arith, set-set}
+use Rattle.std.proofs.Common.{◌≡◌, ℕ, zero, suc, ◌*◌, ◌<◌, ◌≤◌, List, [], ◌∷◌, get_or, set, Option, Some, None, refl, sym, ap, subst, ◌∙◌, arith, set-set}
 use Rattle.std.proofs.lemmas.List.{set-get_or}
 use mathlib.Core.Option.{some, none, some-injective}
 use mathlib.Core.Option as maybe
@@ -14,10 +14,9 @@ use Rattle.lot_words.specs.declared.views.ValuesView.{ValuesView}
 use Rattle.lot_words.specs.declared.views.Right.{Right}
 use Rattle.lot_words.specs.declared.views.Right.TheVariants.{Pass, Root}
 use Rattle.lot_words.specs.declared.views.Size.{Size}
-use Rattle.lot_words.specs.Seating.{times, Each, Seated}
-use Rattle.lot_words.specs.World.{World, Holds, WordsFit, spare_at}
-use Rattle.lot_words.specs.History.{Noted}
-use Rattle.lot_words.specs.Rule.{number, shown, bare, part_of, opening_part, RightFits, PassHolds, Stands, Ruled}
+use Rattle.lot_words.specs.Seating.{times}
+use Rattle.lot_words.specs.World.{Holds, WordsFit, spare_at}
+use Rattle.lot_words.specs.Rule.{number, shown, part_of, opening_part, RightFits, PassHolds, Ruled}
 use Rattle.lot_words.specs.Values.{in_slot, place_of, home_of, placed, HasSeen, MayLie, IsAtHome, IsLawful, OwnerOk}
 use Rattle.lot_words.specs.Shown.{the_pass, the_values}
 use Rattle.lot_words.specs.Slots.{taken_out, given_back}

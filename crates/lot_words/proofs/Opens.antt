@@ -1,22 +1,18 @@
 -- The rule holds of the table at the opening.
-use Rattle.std.proofs.Common.{◌≡◌, ◌≢◌, ℕ, zero, suc, ◌+◌, ◌*◌, ◌<◌, ◌≤◌, ◌==◌, ◌⊎◌, Bool, true, false, cond, List, [], ◌∷◌, ◌++◌, length, map, replicate, get_or, Option, Some, None, slice_get, refl, sym, ap, subst, ◌∙◌, inl, inr, ⊎_elim, eq-eqb, ne_eqb, arith}
+use Rattle.std.proofs.Common.{◌≡◌, ℕ, zero, suc, ◌+◌, ◌*◌, ◌<◌, ◌≤◌, ◌==◌, ◌⊎◌, Bool, false, cond, List, [], ◌∷◌, length, map, replicate, get_or, Option, Some, None, slice_get, refl, sym, ap, subst, ◌∙◌, inl, inr, ⊎_elim, eq-eqb, ne_eqb, arith}
 use Rattle.std.proofs.lemmas.List.{length-replicate}
 use mathlib.Core.Option.{some, some-injective, some-ne-none}
 use mathlib.Core.Logic.{dite}
 use native.Mathlib.Decide.{ℕ_discrete}
 use lib.ListN.{get_elem?}
-use Rattle.atomic_table.specs.Table.{State, opening}
-use Rattle.lot_core.specs.Parts.{LockPart, LockStep}
+use Rattle.atomic_table.specs.Table.{opening}
 use Rattle.lot_words.specs.declared.views.Hold.TheVariants.{NotHeld}
-use Rattle.lot_words.specs.declared.views.LockPassView.{LockPassView}
-use Rattle.lot_words.specs.declared.views.ValuesView.{ValuesView}
 use Rattle.lot_words.specs.declared.views.Right.{Right}
 use Rattle.lot_words.specs.declared.views.Right.TheVariants.{Pass, Root}
-use Rattle.lot_words.specs.declared.views.Size.{Size}
-use Rattle.lot_words.specs.Seating.{In, times, times_in, Each, Seated}
+use Rattle.lot_words.specs.Seating.{times, times_in, Each, Seated}
 use Rattle.lot_words.specs.World.{World, awake, IsHeld, IsFound, Holds, HoldsParked, Kept, WordsFit, word_count, lock_at, letter_at}
-use Rattle.lot_words.specs.History.{Entries, EntriesFit, Noted, Recorded}
-use Rattle.lot_words.specs.Rule.{number, shown, RightFits, PassHolds, Stands, Ruled, part_of, opening_part}
+use Rattle.lot_words.specs.History.{Noted}
+use Rattle.lot_words.specs.Rule.{number, shown, RightFits, PassHolds, Ruled, part_of, opening_part}
 use Rattle.lot_words.specs.Values.{fresh_values}
 use Rattle.lot_words.specs.Start.{fresh_pass, fresh_root, passes_from, roots_from, all_rights}
 use Rattle.lot_words.proofs.Seats.{times_append, each_append}

@@ -1,41 +1,27 @@
 -- `park`: one load, with the pass and the root at one seat, is one event.
-use Rattle.std.proofs.Common.{◌&&◌, ◌≡◌, ◌≢◌, ℕ, zero, suc, ◌+◌, ◌*◌, ◌%◌, ◌<◌, ◌≤◌, ◌==◌, eqb, ◌⊎◌, Bool, true, false, cond, List, [], ◌∷◌, ◌++◌, length, get_or, set, refl, sym, ap, subst, ◌∙◌, inl, inr, ⊎_elim, arith, bit_or, MatchBool, get_or-set_same, get_or-set_other, Option, Some, None}
-use Rattle.std.proofs.lemmas.List.{set-get_or}
-use mathlib.Core.Option.{some, none, some-injective}
-use prog.Atomic.{either}
-use Rattle.lot_words.specs.declared.views.Place.{Place}
-use Rattle.lot_words.specs.declared.views.Place.TheVariants.{InSlot, Out, Moving}
+use Rattle.std.proofs.Common.{◌&&◌, ◌≡◌, ◌≢◌, ℕ, zero, suc, ◌==◌, ◌⊎◌, Bool, true, false, List, [], ◌∷◌, ◌++◌, length, get_or, refl, sym, ap, subst, ◌∙◌, inl, inr, ⊎_elim, arith, Option, Some}
+use mathlib.Core.Option.{some, none}
 use lib.ListN.{get_elem?}
-use Rattle.atomic_table.specs.Table.{State, Me, Step, step, Allows, keeps as keep_act}
+use Rattle.atomic_table.specs.Table.{State, Me, step, Allows, keeps as keep_act}
 use Rattle.lot_core.specs.World.{put}
-use Rattle.lot_core.specs.Parts.{LockPart, LockStep}
-use Rattle.lot_core.specs.declared.events.Event.{Event}
 use Rattle.lot_core.specs.declared.events.Event.TheVariants.{Park}
-use Rattle.lot_core.specs.declared.events.Seen.{Seen}
 use Rattle.lot_core.specs.declared.events.Seen.TheVariants.{Bool as Saw}
-use Rattle.lot_words.specs.Seating.{times, Each, Seated}
-use Rattle.lot_words.specs.declared.views.Hold.{Hold}
-use Rattle.lot_words.specs.declared.views.Hold.TheVariants.{NotHeld, Held, FoundParked}
 use Rattle.lot_words.specs.declared.views.LockPassView.{LockPassView}
 use Rattle.lot_words.specs.declared.views.LockRootView.{LockRootView}
 use Rattle.lot_words.specs.declared.views.ValuesView.{ValuesView}
 use Rattle.lot_words.specs.declared.views.Right.{Right}
 use Rattle.lot_words.specs.declared.views.Right.TheVariants.{Pass, Root}
 use Rattle.lot_words.specs.declared.views.Size.{Size}
-use Rattle.lot_words.specs.World.{World, Kept, Holds, IsHeld, awake, queued, word_of, letter_of, lock_at, WordsFit}
-use Rattle.lot_words.specs.Values.{IsLawful}
-use Rattle.lot_words.specs.History.{maker}
-use Rattle.lot_words.specs.Rule.{is_owned, part_of, number, bare, RightFits, PassHolds, Stands, Ruled}
-use Rattle.lot_words.specs.Calls.{Notes, tells, sleeping, parked_pass, parked_root}
-use Rattle.lot_words.specs.Shown.{the_pass, the_values}
-use Rattle.lot_words.specs.Plays.{PassAndRoot, the_next_root, parked}
-use Rattle.lot_words.proofs.Seats.{put_elim, put_same, put_again}
+use Rattle.lot_words.specs.World.{World, queued, word_of, letter_of, lock_at}
+use Rattle.lot_words.specs.Rule.{is_owned, RightFits, Ruled}
+use Rattle.lot_words.specs.Calls.{tells, sleeping}
+use Rattle.lot_words.specs.Plays.{parked}
 use Rattle.lot_words.proofs.Machine.{turned}
 use Rattle.lot_words.proofs.Events.{is_awake, parks}
 use Rattle.lot_words.proofs.Ties.{lock_word, two_seat}
 use Rattle.lot_words.proofs.Rows.{row_park, row_park_not}
 use Rattle.lot_words.proofs.Takes.{fit_of, up_of, aim_of}
-use Rattle.lot_words.proofs.Grows.{after_step, makes, nothing, stays_put, same_lawful, holds_else, holds_still}
+use Rattle.lot_words.proofs.Grows.{after_step, makes, stays_put, same_lawful}
 
 -- ---- words
 -- the word is 3 where the lock is held and parked, and only there

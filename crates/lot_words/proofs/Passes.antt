@@ -1,35 +1,24 @@
 -- `pass_on`: one load that hands the lock over, or one store that lets it go, is one event.
-use Rattle.std.proofs.Common.{◌&&◌, ◌≡◌, ◌≢◌, ℕ, zero, suc, ◌+◌, ◌*◌, ◌%◌, ◌<◌, ◌≤◌, ◌==◌, eqb, ◌⊎◌, Bool, true, false, cond, List, [], ◌∷◌, ◌++◌, length, get_or, set, refl, sym, ap, subst, ◌∙◌, inl, inr, ⊎_elim, arith, bit_or, MatchBool, get_or-set_same, get_or-set_other, Option, Some, None}
-use Rattle.std.proofs.lemmas.List.{set-get_or}
-use mathlib.Core.Option.{some, none, some-injective}
-use prog.Atomic.{either}
-use Rattle.lot_words.specs.declared.views.Place.{Place}
-use Rattle.lot_words.specs.declared.views.Place.TheVariants.{InSlot, Out, Moving}
+use Rattle.std.proofs.Common.{◌≡◌, ℕ, suc, ◌<◌, Bool, true, false, cond, List, [], ◌∷◌, length, get_or, refl, sym, ap, subst, ◌∙◌, inl, inr, arith, Option, Some, None}
+use mathlib.Core.Option.{some, none}
 use lib.ListN.{get_elem?}
-use Rattle.atomic_table.specs.Table.{State, Me, Step, step, Allows, keeps as keep_act}
+use Rattle.atomic_table.specs.Table.{State, Me, step, Allows, keeps as keep_act}
 use Rattle.lot_core.specs.World.{put}
-use Rattle.lot_core.specs.Parts.{LockPart, LockStep}
-use Rattle.lot_core.specs.declared.events.Event.{Event}
 use Rattle.lot_core.specs.declared.events.Event.TheVariants.{Pass as Passing}
-use Rattle.lot_core.specs.declared.events.Seen.{Seen}
 use Rattle.lot_core.specs.declared.events.Seen.TheVariants.{Sleeper}
-use Rattle.lot_words.specs.Seating.{In, times, Each, Seated}
-use Rattle.lot_words.specs.declared.views.Hold.{Hold}
-use Rattle.lot_words.specs.declared.views.Hold.TheVariants.{NotHeld, Held, FoundParked}
+use Rattle.lot_words.specs.Seating.{In}
 use Rattle.lot_words.specs.declared.views.LockPassView.{LockPassView}
 use Rattle.lot_words.specs.declared.views.LockRootView.{LockRootView}
 use Rattle.lot_words.specs.declared.views.ValuesView.{ValuesView}
 use Rattle.lot_words.specs.declared.views.Right.{Right}
 use Rattle.lot_words.specs.declared.views.Right.TheVariants.{Pass, Root}
 use Rattle.lot_words.specs.declared.views.Size.{Size}
-use Rattle.lot_words.specs.World.{World, Kept, Holds, HoldsParked, IsHeld, SomeIn, hold, Spot, awake, queued, owed, Sleeps, word_of, letter_of, lock_at, letter_at, word_count, WordsFit}
-use Rattle.lot_words.specs.Values.{IsLawful, IsIn, left_in}
-use Rattle.lot_words.specs.History.{maker}
-use Rattle.lot_words.specs.Rule.{is_owned, part_of, number, bare, RightFits, PassHolds, Stands, Ruled}
-use Rattle.lot_words.specs.Calls.{Notes, tells, let_go, first_of, passed_root, token_of}
+use Rattle.lot_words.specs.World.{World, Holds, HoldsParked, SomeIn, hold, awake, queued, owed, word_of, letter_of, lock_at, letter_at, word_count}
+use Rattle.lot_words.specs.Values.{IsIn, left_in}
+use Rattle.lot_words.specs.Rule.{Ruled}
+use Rattle.lot_words.specs.Calls.{tells, let_go, first_of, passed_root}
 use Rattle.lot_words.specs.Shown.{the_pass, the_values}
-use Rattle.lot_words.specs.Plays.{PassAndRoot, the_next_root, passed, PassedTo, word_left}
-use Rattle.lot_words.proofs.Seats.{put_elim, put_same, put_again}
+use Rattle.lot_words.specs.Plays.{PassAndRoot, the_next_root, passed, word_left}
 use Rattle.lot_words.proofs.Machine.{turned, turned2, found_held}
 use Rattle.lot_words.proofs.Events.{is_awake, lets_go}
 use Rattle.lot_words.proofs.Letters.{passes, sleeps_queued}
@@ -40,7 +29,7 @@ use Rattle.lot_core.specs.Steps.{SaysMore}
 use Rattle.lot_words.proofs.Takes.{fit_of, pass_is, up_of, aim_of}
 use Rattle.lot_words.proofs.Frees.{same_in, left_lawful}
 use Rattle.lot_words.proofs.Parks.{root_fit}
-use Rattle.lot_words.proofs.Grows.{after_step, makes, nothing, stays_put, same_lawful, holds_else, holds_still}
+use Rattle.lot_words.proofs.Grows.{after_step, makes}
 
 -- ---- words
 pub same_word : (t u : ℕ) (b : Bool) → word_of (suc t) b ≡ word_of (suc u) b

@@ -1,29 +1,24 @@
 -- `post`: one store. `collect`: one swap. Neither makes an event.
-use Rattle.std.proofs.Common.{◌≡◌, ◌≢◌, ℕ, zero, suc, ◌+◌, ◌*◌, ◌%◌, ◌<◌, ◌≤◌, ◌==◌, eqb, ◌⊎◌, Bool, true, false, cond, List, [], ◌∷◌, ◌++◌, length, get_or, set, refl, sym, ap, subst, ◌∙◌, inl, inr, ⊎_elim, arith, bit_or, MatchBool, get_or-set_same, get_or-set_other, Option, Some, None}
-use Rattle.std.proofs.lemmas.List.{set-get_or}
+use Rattle.std.proofs.Common.{◌≡◌, ℕ, zero, suc, ◌+◌, ◌<◌, ◌⊎◌, List, [], ◌∷◌, length, get_or, refl, sym, ap, subst, ◌∙◌, ⊎_elim, arith, get_or-set_same, Option, Some, None}
 use mathlib.Core.Option.{some, none}
 use lib.ListN.{get_elem?}
-use Rattle.atomic_table.specs.Table.{State, Me, Step, Act, Valid, stepped, carried_after, step, Allows, keeps as keep_act}
+use Rattle.atomic_table.specs.Table.{State, Me, Act, Valid, stepped, carried_after, step, Allows, keeps as keep_act}
 use Rattle.lot_core.specs.World.{put}
-use Rattle.lot_core.specs.Parts.{LockPart, LockStep}
-use Rattle.lot_words.specs.Seating.{times, Each, Seated}
-use Rattle.lot_words.specs.declared.views.Hold.{Hold}
-use Rattle.lot_words.specs.declared.views.Hold.TheVariants.{NotHeld, Held, FoundParked}
+use Rattle.lot_words.specs.declared.views.Hold.TheVariants.{NotHeld, Held}
 use Rattle.lot_words.specs.declared.views.LockPassView.{LockPassView}
 use Rattle.lot_words.specs.declared.views.LockRootView.{LockRootView}
 use Rattle.lot_words.specs.declared.views.ValuesView.{ValuesView}
 use Rattle.lot_words.specs.declared.views.Right.{Right}
 use Rattle.lot_words.specs.declared.views.Right.TheVariants.{Pass, Root}
 use Rattle.lot_words.specs.declared.views.Size.{Size}
-use Rattle.lot_words.specs.World.{World, Kept, Holds, IsHeld, Spot, awake, queued, owed, lying, Sleeps, TellsTrue, SpotFits, Handed, letter_of, letter_at, WordsFit}
+use Rattle.lot_words.specs.World.{World, Holds, IsHeld, Spot, awake, queued, owed, lying, TellsTrue, SpotFits, Handed, letter_of, letter_at}
 use Rattle.lot_words.specs.Values.{IsLawful, FoundOk, found_in}
-use Rattle.lot_words.specs.Rule.{wants_of, part_of, number, bare, RightFits, PassHolds, Stands, Ruled}
+use Rattle.lot_words.specs.Rule.{wants_of, part_of, RightFits, PassHolds, Ruled}
 use Rattle.lot_words.specs.Calls.{gripped, woken}
 use Rattle.lot_words.specs.Shown.{the_pass, the_values, the_root}
-use Rattle.lot_words.specs.Plays.{OnePass, OneRoot, seen_at, posted, collected, CollectedBy}
+use Rattle.lot_words.specs.Plays.{OnePass, OneRoot, posted, collected, CollectedBy}
 use Rattle.lot_words.proofs.Seats.{put_elim, put_same, put_again}
 use Rattle.lot_words.proofs.Machine.{turned}
-use Rattle.lot_words.proofs.Events.{no_aim}
 use Rattle.lot_words.proofs.Letters.{posts, collects, collects_lock}
 use Rattle.lot_words.proofs.Valuing.{gets_value, finds_value}
 use Rattle.lot_words.proofs.Ties.{letter_word, one_seat, root_seat, held_before, held_after, part_is, wants_at}

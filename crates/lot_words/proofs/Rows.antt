@@ -1,18 +1,17 @@
 -- What each kind of event is to the lock part of the model: a step of lot_core's.
-use Rattle.std.proofs.Common.{◌≡◌, ◌≢◌, ℕ, zero, suc, ◌+◌, ◌<◌, ◌≤◌, ◌==◌, eqb, ◌⊎◌, ◌&&◌, not, Bool, true, false, cond, List, [], ◌∷◌, ◌++◌, length, get_or, refl, sym, ap, subst, ◌∙◌, inl, inr, ⊎_elim, arith, Option, Some, None, ne_eqb, eq-eqb, Contains}
-use Rattle.lot_core.specs.World.{put, Locks}
-use Rattle.lot_core.specs.Steps.{SaysMore, first, got, marked, queued as in_line, freed, passed, passed_line}
-use Rattle.lot_core.specs.Parts.{LockPart, LockStep, LockAllowed, MayTry, lock_part_after, lock_seen, served}
-use Rattle.lot_core.specs.declared.events.Event.{Event}
+use Rattle.std.proofs.Common.{◌≡◌, ◌≢◌, ℕ, zero, suc, ◌<◌, ◌==◌, ◌⊎◌, ◌&&◌, not, Bool, true, false, cond, List, [], ◌∷◌, ◌++◌, length, get_or, refl, sym, ap, subst, ◌∙◌, inl, inr, ⊎_elim, arith, Option, Some, None, ne_eqb, eq-eqb, Contains}
+use Rattle.lot_core.specs.World.{put}
+use Rattle.lot_core.specs.Steps.{SaysMore, first, passed_line}
+use Rattle.lot_core.specs.Parts.{LockPart, LockStep, MayTry, served}
 use Rattle.lot_core.specs.declared.events.Event.TheVariants.{Try, Take, Mark, Park, Free, Pass}
 use Rattle.lot_core.specs.declared.events.Seen.TheVariants.{Bool as Saw, Done, Sleeper}
 use Rattle.lot_words.specs.Seating.{In}
 use Rattle.lot_words.specs.declared.views.LockPassView.{LockPassView}
 use Rattle.lot_words.specs.declared.views.LockRootView.{LockRootView}
-use Rattle.lot_words.specs.World.{Spot, awake, queued, owed, lying, World, Holds, Kept}
+use Rattle.lot_words.specs.World.{Spot, awake, queued, owed, World, Holds, Kept}
 use Rattle.lot_words.specs.Rule.{is_owned, wants_of, part_of}
-use Rattle.lot_words.specs.Calls.{Aims, gripped, wishing, let_go, found_parked, sleeping, woken, first_of}
-use Rattle.lot_words.proofs.Seats.{by_test, put_elim, put_same, put_other, put_again}
+use Rattle.lot_words.specs.Calls.{Aims, gripped, wishing, let_go, found_parked, sleeping}
+use Rattle.lot_words.proofs.Seats.{put_elim, put_same, put_other, put_again}
 use Rattle.lot_words.proofs.Machine.{turned, turned2}
 use Rattle.lot_words.proofs.Events.{is_awake, in_no_line}
 use Rattle.lot_words.proofs.Ties.{put_fits, part_is, owned_by, wants_at, wants_stay}

@@ -1,11 +1,7 @@
 -- The laws of the history, proved.
-use Rattle.std.proofs.Common.{◌≡◌, ℕ, zero, suc, ◌+◌, ◌*◌, ◌<◌, ◌==◌, Bool, true, false, cond, List, [], ◌∷◌, ◌++◌, length, set, Option, refl, sym, ap, subst, ◌∙◌, eq-eqb, arith}
-use mathlib.Core.Option.{some}
-use lib.ListN.{get_elem?}
+use Rattle.std.proofs.Common.{◌≡◌, ℕ, zero, suc, ◌+◌, ◌*◌, ◌==◌, Bool, true, false, cond, List, [], ◌∷◌, Option, refl, sym, ap, subst, ◌∙◌, eq-eqb, arith}
 use Rattle.atomic_table.specs.Table.{State}
-use Rattle.lot_core.specs.Parts.{LockPart, LockStep}
-use Rattle.lot_core.specs.declared.events.Event.{Event}
-use Rattle.lot_core.specs.declared.events.Seen.{Seen}
+use Rattle.lot_core.specs.Parts.{LockStep}
 use Rattle.lot_words.specs.declared.views.Made.{Made}
 use Rattle.lot_words.specs.declared.views.LockPassView.{LockPassView}
 use Rattle.lot_words.specs.declared.views.LockRootView.{LockRootView}
@@ -15,8 +11,8 @@ use Rattle.lot_words.specs.declared.views.Right.TheVariants.{Pass, Root}
 use Rattle.lot_words.specs.declared.views.Size.{Size}
 use Rattle.lot_words.specs.Seating.{times, Each}
 use Rattle.lot_words.specs.World.{World, Holds, word_of}
-use Rattle.lot_words.specs.History.{maker, events_of, Entries, no_entries, entries, EntriesFit, Noted, Recorded}
-use Rattle.lot_words.specs.Rule.{number, shown, is_owned, part_of, opening_part, RightFits, PassHolds, Ruled}
+use Rattle.lot_words.specs.History.{events_of, entries, Noted, Recorded}
+use Rattle.lot_words.specs.Rule.{number, shown, is_owned, part_of, opening_part, RightFits, Ruled}
 use Rattle.lot_words.specs.Settled.{IsHistory, SameRoots, SameMade, bits_of, KnowsIt, ShowsLawful, RightsSettle, OneEntryIsOneEvent, NoEntryIsNone, RightsTellThePart}
 use Rattle.lot_words.proofs.Histories.{Quiet}
 use Rattle.lot_words.proofs.Uniques.{NumbersShow, OneOutcome, one_history, run_one, one_more, none_more}

@@ -1,6 +1,6 @@
 -- Values that move into slots and back, the last first.
-use Rattle.std.proofs.Common.{◌≡◌, ℕ, List, [], ◌∷◌, ◌++◌, Option, Some, None, map, reverse, append_assoc, refl, sym, ap, ◌∙◌, subst}
-use Rattle.std.proofs.lemmas.List.{reverse-append, map-append, append-nil, reverse-reverse}
+use Rattle.std.proofs.Common.{◌≡◌, List, [], ◌∷◌, ◌++◌, Option, Some, None, map, reverse, append_assoc, refl, sym, ap, ◌∙◌}
+use Rattle.std.proofs.lemmas.List.{reverse-append, map-append}
 use Rattle.lot_words.specs.Opening.{AllSome}
 
 module _ {V : Type 0} where

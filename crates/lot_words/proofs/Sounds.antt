@@ -1,19 +1,16 @@
 -- What keeps the rule is sound.
-use Rattle.std.proofs.Common.{◌≡◌, ◌≢◌, ℕ, zero, suc, ◌+◌, ◌<◌, ◌≤◌, ◌==◌, eqb, ◌⊎◌, ◌↔◌, Bool, true, false, cond, List, [], ◌∷◌, length, get_or, refl, sym, ap, subst, ◌∙◌, inl, inr, ⊎_elim, arith, Option, Some, None, ne_eqb, eq-eqb, true-eqb, Contains, AllPairs}
+use Rattle.std.proofs.Common.{◌≡◌, ◌≢◌, ℕ, zero, suc, ◌<◌, ◌==◌, ◌⊎◌, true, false, List, [], ◌∷◌, length, refl, sym, ap, subst, ◌∙◌, inl, inr, ⊎_elim, arith, Option, Some, None, eq-eqb, true-eqb, Contains, AllPairs}
 use Rattle.std.proofs.lemmas.List.{get_or_default}
 use Rattle.atomic_table.specs.Table.{State}
-use Rattle.lot_core.specs.Sound.{OneOwner, SleepersAreMarked}
-use Rattle.lot_words.specs.Seating.{In, times, Each}
-use Rattle.lot_words.specs.declared.views.LockPassView.{LockPassView}
+use Rattle.lot_words.specs.Seating.{In}
 use Rattle.lot_words.specs.declared.views.ValuesView.{ValuesView}
 use Rattle.lot_words.specs.declared.views.Right.{Right}
 use Rattle.lot_words.specs.declared.views.Right.TheVariants.{Pass, Root}
 use Rattle.lot_words.specs.declared.views.Size.{Size}
-use Rattle.lot_words.specs.World.{Spot, awake, queued, owed, lying, World, Holds, HoldsParked, Apart, SomeIn, Handed, Outside, Sleeps, TellsTrue, SpotFits, Kept, letter_of}
-use Rattle.lot_words.specs.Rule.{is_owned, wants_of, part_of, number, RightFits, Ruled}
-use Rattle.lot_words.specs.Sound.{letter, IsQueued, IsOwed, HasLock, HasOneNotice, LettersFit, IsSound, IsSo, ShowsSound}
+use Rattle.lot_words.specs.World.{Spot, awake, queued, owed, lying, World, Apart, SomeIn, Handed, Outside, SpotFits, Kept, letter_of}
+use Rattle.lot_words.specs.Rule.{is_owned, wants_of, number, RightFits, Ruled}
+use Rattle.lot_words.specs.Sound.{letter, IsQueued, IsOwed, HasLock, HasOneNotice, IsSound, IsSo, ShowsSound}
 use Rattle.lot_words.proofs.Rows.{contains_at, contains_in}
-use Rattle.lot_words.proofs.Events.{no_aim}
 use Rattle.lot_words.proofs.Seats.{each_map}
 
 -- ---- lists

@@ -1,14 +1,11 @@
 -- The values at the opening are lawful.
-use Rattle.std.proofs.Common.{◌≡◌, ◌≢◌, ℕ, zero, suc, ◌<◌, ◌≤◌, List, [], ◌∷◌, length, map, replicate, get_or, Option, Some, None, slice_get, refl, sym, ap, subst, ◌∙◌, arith}
+use Rattle.std.proofs.Common.{◌≡◌, ℕ, zero, suc, ◌<◌, List, [], ◌∷◌, length, map, get_or, Some, None, slice_get, refl, ap, ◌∙◌}
 use Rattle.std.proofs.lemmas.List.{length-map, length-replicate}
 use Rattle.std.proofs.lemmas.Option.{slice_get-get_or}
-use mathlib.Core.Option.{some, none}
-use mathlib.Core.Option as maybe
+use mathlib.Core.Option.{some}
 use lib.ListN.{get_elem?}
-use Rattle.atomic_table.proofs.Lists.{at_index, at_map}
-use Rattle.lot_words.specs.declared.views.Place.{Place}
+use Rattle.atomic_table.proofs.Lists.{at_map}
 use Rattle.lot_words.specs.declared.views.Place.TheVariants.{Out}
-use Rattle.lot_words.specs.declared.views.ValuesView.{ValuesView}
 use Rattle.lot_words.specs.Values.{IsLawful, fresh_values}
 
 -- what the slice's element is, in the table's words

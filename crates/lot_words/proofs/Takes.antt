@@ -1,38 +1,33 @@
 -- `take` and `try_take`: one fetch-or is one event.
-use Rattle.std.proofs.Common.{◌≡◌, ◌≢◌, ℕ, zero, suc, ◌+◌, ◌*◌, ◌%◌, ◌<◌, ◌≤◌, ◌==◌, eqb, ◌⊎◌, Bool, true, false, cond, List, [], ◌∷◌, ◌++◌, length, get_or, set, refl, sym, ap, subst, ◌∙◌, inl, inr, ⊎_elim, arith, bit_or, MatchBool, get_or-set_same, get_or-set_other, Option, Some, None}
-use Rattle.std.proofs.lemmas.List.{set-get_or}
+use Rattle.std.proofs.Common.{◌≡◌, ◌≢◌, ℕ, zero, suc, ◌<◌, ◌⊎◌, Bool, true, false, List, [], ◌∷◌, length, get_or, refl, sym, ap, subst, ◌∙◌, inl, inr, ⊎_elim, arith, bit_or, MatchBool, get_or-set_same, Option, Some, None}
 use mathlib.Core.Option.{some, none}
 use lib.ListN.{get_elem?}
-use Rattle.atomic_table.specs.Table.{State, Me, Step, step, Allows, keeps as keep_act}
+use Rattle.atomic_table.specs.Table.{State, Me, step, Allows, keeps as keep_act}
 use Rattle.lot_core.specs.World.{put}
-use Rattle.lot_core.specs.Parts.{LockPart, LockStep}
+use Rattle.lot_core.specs.Parts.{LockStep}
 use Rattle.lot_core.specs.declared.events.Event.{Event}
 use Rattle.lot_core.specs.declared.events.Event.TheVariants.{Try, Take}
-use Rattle.lot_core.specs.declared.events.Seen.{Seen}
 use Rattle.lot_core.specs.declared.events.Seen.TheVariants.{Bool as Saw}
-use Rattle.lot_words.specs.Seating.{times, Each, Seated}
-use Rattle.lot_words.specs.declared.views.Hold.{Hold}
-use Rattle.lot_words.specs.declared.views.Hold.TheVariants.{NotHeld, Held, FoundParked}
+use Rattle.lot_words.specs.declared.views.Hold.TheVariants.{NotHeld, Held}
 use Rattle.lot_words.specs.declared.views.LockPassView.{LockPassView}
-use Rattle.lot_words.specs.declared.views.LockRootView.{LockRootView}
 use Rattle.lot_words.specs.declared.views.ValuesView.{ValuesView}
 use Rattle.lot_words.specs.declared.views.Right.{Right}
-use Rattle.lot_words.specs.declared.views.Right.TheVariants.{Pass, Root}
+use Rattle.lot_words.specs.declared.views.Right.TheVariants.{Pass}
 use Rattle.lot_words.specs.declared.views.Size.{Size}
-use Rattle.lot_words.specs.World.{World, Kept, Holds, IsHeld, awake, word_of, letter_of, lock_at, WordsFit}
+use Rattle.lot_words.specs.World.{World, Holds, IsHeld, awake, word_of, letter_of, lock_at}
 use Rattle.lot_words.specs.Values.{IsLawful, FoundOk, found_in}
 use Rattle.lot_words.specs.History.{maker}
-use Rattle.lot_words.specs.Rule.{part_of, number, bare, RightFits, PassHolds, Stands, Ruled}
-use Rattle.lot_words.specs.Calls.{Aims, Notes, tells, gripped, wishing}
+use Rattle.lot_words.specs.Rule.{part_of, bare, RightFits, PassHolds, Ruled}
+use Rattle.lot_words.specs.Calls.{Aims, tells, gripped, wishing}
 use Rattle.lot_words.specs.Shown.{the_pass, the_values}
 use Rattle.lot_words.specs.Plays.{OnePass, is_unheld, taken, tried}
-use Rattle.lot_words.proofs.Seats.{put_elim, put_same, put_again}
+use Rattle.lot_words.proofs.Seats.{put_elim, put_same}
 use Rattle.lot_words.proofs.Machine.{turned}
 use Rattle.lot_words.proofs.Events.{is_awake, gets, wants}
 use Rattle.lot_words.proofs.Valuing.{gets_value, finds_value}
 use Rattle.lot_words.proofs.Ties.{lock_word, one_seat, held_before, held_after}
 use Rattle.lot_words.proofs.Rows.{row_take_free, row_take_held, row_try_free, row_try_held}
-use Rattle.lot_words.proofs.Grows.{after_step, makes, nothing, stays_put, same_lawful, holds_else, holds_still}
+use Rattle.lot_words.proofs.Grows.{after_step, makes, stays_put, same_lawful, holds_else, holds_still}
 
 -- ---- words
 pub or_free : (t : ℕ) (b : Bool) → bit_or (word_of 0 b) 1 ≡ word_of (suc t) b

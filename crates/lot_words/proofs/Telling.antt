@@ -1,13 +1,12 @@
 -- Two passes of one table are of two threads, and no lock is held by both.
-use Rattle.std.proofs.Common.{◌≡◌, ◌≢◌, ℕ, suc, ◌+◌, ◌*◌, ◌<◌, ◌≤◌, ◌==◌, Bool, cond, List, [], ◌∷◌, ◌++◌, take, drop, Option, refl, sym, ap, subst, ◌∙◌, eq-eqb, arith}
-use mathlib.Core.Option.{some, none}
+use Rattle.std.proofs.Common.{◌≡◌, ◌≢◌, ℕ, ◌*◌, ◌==◌, Bool, cond, List, [], ◌∷◌, ◌++◌, take, drop, Option, refl, sym, ap, subst, ◌∙◌, eq-eqb, arith}
+use mathlib.Core.Option.{none}
 use Rattle.atomic_table.specs.Table.{Me, Allows, Splits, step, keeps as keep_act}
 use Rattle.lot_words.specs.declared.views.LockPassView.{LockPassView}
 use Rattle.lot_words.specs.declared.views.ValuesView.{ValuesView}
 use Rattle.lot_words.specs.declared.views.Right.{Right}
 use Rattle.lot_words.specs.declared.views.Right.TheVariants.{Pass}
 use Rattle.lot_words.specs.declared.views.Size.{Size}
-use Rattle.lot_words.specs.Seating.{times, times_in}
 use Rattle.lot_words.specs.World.{Holds}
 use Rattle.lot_words.specs.Rule.{number, Ruled}
 use Rattle.lot_words.specs.Shown.{the_pass, the_values}

@@ -1,18 +1,17 @@
 -- How an event's change of the world shows in words, seats, holders and in the lock part of the model.
-use Rattle.std.proofs.Common.{◌≡◌, ◌≢◌, ℕ, zero, suc, ◌+◌, ◌*◌, ◌<◌, ◌≤◌, ◌==◌, eqb, ◌⊎◌, Bool, true, false, cond, List, [], ◌∷◌, ◌++◌, length, get_or, set, refl, sym, ap, subst, ◌∙◌, inl, inr, ⊎_elim, arith, length-set, get_or-set_same, get_or-set_other, Option, Some, None, ne_eqb, eq-eqb}
+use Rattle.std.proofs.Common.{◌≡◌, ◌≢◌, ℕ, suc, ◌+◌, ◌*◌, ◌<◌, ◌==◌, ◌⊎◌, Bool, cond, List, [], ◌∷◌, get_or, set, refl, sym, ap, subst, ◌∙◌, inl, inr, ⊎_elim, arith, length-set, get_or-set_same, get_or-set_other, Option}
 use mathlib.Core.Option.{some}
 use lib.ListN.{get_elem?}
-use Rattle.lot_core.specs.World.{put, Locks}
-use Rattle.lot_core.specs.Parts.{LockPart}
-use Rattle.lot_words.specs.Seating.{In, times, times_in, Each, Seated}
+use Rattle.lot_core.specs.World.{put}
+use Rattle.lot_words.specs.Seating.{times, Seated}
 use Rattle.lot_words.specs.declared.views.LockPassView.{LockPassView}
 use Rattle.lot_words.specs.declared.views.LockRootView.{LockRootView}
 use Rattle.lot_words.specs.declared.views.ValuesView.{ValuesView}
 use Rattle.lot_words.specs.declared.views.Right.{Right}
 use Rattle.lot_words.specs.declared.views.Right.TheVariants.{Pass, Root}
 use Rattle.lot_words.specs.World.{Spot, World, Holds, word_of, letter_of, lock_at, letter_at, WordsFit}
-use Rattle.lot_words.specs.Rule.{is_owned, wants_of, part_of, number, bare, RightFits, PassHolds}
-use Rattle.lot_words.proofs.Seats.{by_test, put_elim, put_same, put_other, put_again, reseats}
+use Rattle.lot_words.specs.Rule.{is_owned, wants_of, part_of, number, bare, RightFits}
+use Rattle.lot_words.proofs.Seats.{by_test, put_elim, put_same, reseats}
 use Rattle.lot_words.proofs.Machine.{turned, turned2}
 
 -- ---- words

@@ -1,16 +1,14 @@
 -- The rights settle the history: two histories of the same rights are one.
-use Rattle.std.proofs.Common.{◌≡◌, ◌≢◌, ℕ, suc, ◌+◌, ◌*◌, ◌≤◌, ◌<◌, ◌==◌, Bool, true, false, cond, List, [], ◌∷◌, ◌++◌, length, set, refl, sym, ap, subst, ◌∙◌, eq-eqb, ne_eqb, arith}
-use mathlib.Core.Option.{some, some-injective}
+use Rattle.std.proofs.Common.{◌≡◌, ◌≢◌, ℕ, suc, ◌+◌, ◌*◌, ◌≤◌, ◌==◌, Bool, cond, List, [], ◌∷◌, ◌++◌, length, set, refl, sym, ap, subst, ◌∙◌, ne_eqb, arith}
+use mathlib.Core.Option.{some}
 use mathlib.Core.Logic.{dite}
 use native.Mathlib.Decide.{ℕ_discrete}
 use lib.ListN.{get_elem?}
-use Rattle.atomic_table.proofs.Lists.{set_else}
 use Rattle.lot_core.specs.declared.events.Event.{Event}
 use Rattle.lot_core.specs.declared.events.Seen.{Seen}
 use Rattle.lot_words.specs.declared.views.Made.{Made}
-use Rattle.lot_words.specs.Seating.{times, times_in, Each, Seated}
-use Rattle.lot_words.specs.History.{maker, events_of, Run, Entries, no_entries, entries, EntriesFit, Noted, Listed, Recorded}
-use Rattle.lot_words.proofs.Seats.{times_one, times_set, times_head}
+use Rattle.lot_words.specs.Seating.{times, times_in, Each}
+use Rattle.lot_words.specs.History.{maker, events_of, Run, Entries, entries, EntriesFit, Noted, Listed, Recorded}
 use Rattle.lot_words.proofs.Histories.{one_of_mine, one_of_others, Quiet, PassesShow, listed_more, listed_stays}
 
 -- each entry tells how many came before it

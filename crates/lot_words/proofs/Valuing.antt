@@ -1,17 +1,15 @@
 -- The lawful values stay lawful: nobody knows here who has a lock, or why.
-use Rattle.std.proofs.Common.{◌≡◌, ◌≢◌, ℕ, ◌<◌, List, length, set, Option, Some, None, refl, sym, ap, subst, ◌∙◌, length-set, arith}
+use Rattle.std.proofs.Common.{◌≡◌, ◌≢◌, ℕ, ◌<◌, List, length, set, Option, refl, sym, ap, subst, ◌∙◌, length-set, arith}
 use mathlib.Core.Option.{some, none, some-injective}
 use mathlib.Core.Option as maybe
-use mathlib.Core.Logic.{dite}
-use native.Mathlib.Decide.{ℕ_discrete}
 use lib.ListN.{get_elem?}
 use Rattle.atomic_table.proofs.Lists.{set_here, set_else}
 use Rattle.lot_core.specs.World.{put}
 use Rattle.lot_words.proofs.Puts.{put_here, put_cases}
 use Rattle.lot_words.specs.declared.views.Place.{Place}
-use Rattle.lot_words.specs.declared.views.Place.TheVariants.{InSlot, Out, Moving}
+use Rattle.lot_words.specs.declared.views.Place.TheVariants.{InSlot}
 use Rattle.lot_words.specs.declared.views.ValuesView.{ValuesView}
-use Rattle.lot_words.specs.Values.{in_slot, home_of, place_of, IsIn, HasSeen, found_in, left_in, placed, MayLeave, MayLie, FoundOk, OwnerOk, SeenOk, ValueOk, IsLawful}
+use Rattle.lot_words.specs.Values.{home_of, IsIn, HasSeen, found_in, left_in, placed, MayLeave, MayLie, FoundOk, OwnerOk, SeenOk, ValueOk, IsLawful}
 
 module _ {V Q : Type 0} (keeps : ℕ → V → Type 0) (grows : V → V → Type 0) (share : ℕ → V → Q) where
   -- a lock whose facts are the same in another world

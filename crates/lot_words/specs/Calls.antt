@@ -1,14 +1,11 @@
 -- What each kind of call does to the rights that it is handed.
-use Rattle.std.specs.Prelude.{◌≡◌, ◌≢◌, ℕ, zero, suc, ◌+◌, ◌<◌, ◌≤◌, Bool, true, false, List, [], ◌∷◌, ◌++◌, length, slice_set, Option, Some, None, MatchBool}
+use Rattle.std.specs.Prelude.{◌≡◌, ℕ, zero, suc, Bool, true, false, List, [], ◌∷◌, ◌++◌, slice_set, Option, Some, None}
 use Rattle.lot_core.specs.declared.events.Event.{Event}
 use Rattle.lot_core.specs.declared.events.Seen.{Seen}
-use Rattle.lot_core.specs.Steps.{SaysMore}
 use Rattle.lot_words.specs.declared.views.Hold.TheVariants.{NotHeld, Held, FoundParked}
-use Rattle.lot_words.specs.declared.views.Made.{Made}
 use Rattle.lot_words.specs.declared.views.LockPassView.{LockPassView}
 use Rattle.lot_words.specs.declared.views.LockRootView.{LockRootView}
-use Rattle.lot_words.specs.declared.views.ValuesView.{ValuesView}
-use Rattle.lot_words.specs.Values.{FoundOk, found_in, left_in, IsIn}
+use Rattle.lot_words.specs.Values.{FoundOk, found_in}
 use Rattle.lot_words.specs.Shown.{PassShown}
 
 -- the thread has the lock, and wants none

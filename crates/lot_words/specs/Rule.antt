@@ -1,10 +1,8 @@
 -- The rule of a table of lock words: there is a world, with values and a history, that the words, the slots and the rights stand for.
-use Rattle.std.specs.Prelude.{◌≡◌, ◌≢◌, ℕ, zero, suc, ◌+◌, ◌*◌, ◌<◌, ◌==◌, Bool, true, false, List, [], ◌∷◌, Option, Some, None}
+use Rattle.std.specs.Prelude.{◌≡◌, ℕ, zero, suc, ◌+◌, ◌*◌, ◌<◌, ◌==◌, Bool, true, false, List, [], Option, None}
 use Rattle.atomic_table.specs.Table.{State}
-use Rattle.lot_core.specs.World.{Locks}
 use Rattle.lot_core.specs.Parts.{LockPart, LockStep}
 use Rattle.lot_words.specs.declared.views.LockPassView.{LockPassView}
-use Rattle.lot_words.specs.declared.views.LockRootView.{LockRootView}
 use Rattle.lot_words.specs.declared.views.ValuesView.{ValuesView}
 use Rattle.lot_words.specs.declared.views.Made.{Made}
 use Rattle.lot_words.specs.declared.views.Right.{Right}

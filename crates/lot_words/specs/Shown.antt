@@ -1,5 +1,5 @@
 -- What the rights and the words are seen as.
-use Rattle.std.specs.Prelude.{ℕ, Bool, false, List, [], ◌∷◌, Option, Some, None}
+use Rattle.std.specs.Prelude.{false, List, [], ◌∷◌, None}
 use Rattle.atomic_table.specs.Seated.{TableId}
 use Rattle.lot_words.specs.declared.views.LockPassView.{LockPassView}
 use Rattle.lot_words.specs.declared.views.LockRootView.{LockRootView}

@@ -1,5 +1,5 @@
 -- What the rule means: of every table that keeps it these hold, whatever steps led there.
-use Rattle.std.specs.Prelude.{◌≡◌, ◌≢◌, ℕ, ◌+◌, ◌<◌, ◌⊎◌, ◌↔◌, Bool, true, false, List, [], Option, Some}
+use Rattle.std.specs.Prelude.{◌≡◌, ◌≢◌, ℕ, ◌+◌, ◌<◌, ◌⊎◌, ◌↔◌, true, false, List, [], Option, Some}
 use Rattle.std.specs.List.{Contains, AllPairs}
 use mathlib.Core.Option.{some}
 use lib.ListN.{get_elem?}

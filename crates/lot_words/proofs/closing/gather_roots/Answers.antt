@@ -1,6 +1,5 @@
-use Rattle.std.proofs.Common.{◌≡◌, List, [], ◌∷◌, ◌++◌, sym, ap, subst, ◌∙◌, refl, inl, arith, length}
+use Rattle.std.proofs.Common.{◌≡◌, sym, ap, subst, ◌∙◌, refl, inl, arith, length}
 use Rattle.lot_words.specs.Shown.{RootShown, the_root}
-use Rattle.lot_words.specs.declared.views.Right.{Right}
 use Rattle.lot_words.specs.declared.views.Right.TheVariants.{Root}
 use Rattle.lot_words.specs.Closing.{AllOf, InView, HasRoot}
 use Rattle.lot_words.proofs.Gathers.{all_none, all_init, all_snoc, in_left, in_right}

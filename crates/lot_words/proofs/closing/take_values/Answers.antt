@@ -1,4 +1,4 @@
-use Rattle.std.proofs.Common.{◌≡◌, ℕ, ◌<◌, Some, slice_get, length, vec_len, sym, ap, subst, ◌∙◌, ⊎_elim, arith}
+use Rattle.std.proofs.Common.{◌≡◌, Some, slice_get, sym, ap, subst, ◌∙◌, ⊎_elim, arith}
 use Rattle.std.specs.Slots.{slots_items, slots_len, slots_filled}
 use mathlib.Core.Option.{some, some-injective}
 use lib.ListN.{get_elem?}

@@ -1,4 +1,4 @@
-use Rattle.std.proofs.Common.{◌≡◌, ◌+◌, ◌-◌, ◌++◌, [], ◌∷◌, length, slice_get, vec_len, sym, ap, subst, ◌<◌, ◌∙◌, arith}
+use Rattle.std.proofs.Common.{◌+◌, ◌-◌, ◌++◌, [], length, slice_get, sym, ap, subst, ◌<◌, ◌∙◌, arith}
 use Rattle.lot_words.specs.World.{letter_at}
 use Rattle.lot_words.specs.declared.views.Right.TheVariants.{Pass}
 use Rattle.lot_words.specs.Start.{fresh_pass, passes_from, roots_from, pass_at}

@@ -1,4 +1,4 @@
-use Rattle.std.proofs.Common.{◌≡◌, ℕ, ◌+◌, ◌-◌, ◌<◌, ◌≤◌, ◌++◌, [], Some, slice_get, length, vec_len, vec_capacity}
+use Rattle.std.proofs.Common.{◌≡◌, ℕ, ◌-◌, ◌<◌, ◌≤◌, ◌++◌, [], Some, slice_get, length, vec_len, vec_capacity}
 use Rattle.lot_words.specs.Start.{passes_from, roots_from, pass_at}
 use Rattle.lot_words.proofs.opening.deal_passes.Given as goal
 

@@ -1,4 +1,4 @@
-use Rattle.std.proofs.Common.{◌≡◌, ◌+◌, ◌-◌, [], ◌∷◌, slice_get, vec_len, sym, ap, subst, ◌<◌, ◌∙◌, arith}
+use Rattle.std.proofs.Common.{◌+◌, ◌-◌, [], slice_get, sym, ap, subst, ◌<◌, ◌∙◌, arith}
 use Rattle.lot_words.specs.declared.views.Right.TheVariants.{Root}
 use Rattle.lot_words.specs.Start.{fresh_root, roots_from, root_at}
 use Rattle.lot_words.proofs.Deals.{deals, next_root, one_root, has_first, left_over, dealt_out, root_seen, fresh_owes, get_more}

@@ -1,4 +1,4 @@
-use Rattle.std.proofs.Common.{◌≡◌, ℕ, ◌+◌, ◌-◌, ◌<◌, ◌≤◌, ◌++◌, [], Some, slice_get, length, vec_len, vec_capacity}
+use Rattle.std.proofs.Common.{◌≡◌, ℕ, ◌-◌, ◌<◌, ◌≤◌, [], Some, slice_get, vec_len, vec_capacity}
 use Rattle.lot_words.specs.Start.{roots_from, root_at}
 use Rattle.lot_words.proofs.opening.deal_roots.Given as goal
 

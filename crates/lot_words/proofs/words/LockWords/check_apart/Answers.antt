@@ -1,8 +1,8 @@
-use Rattle.std.proofs.Common.{◌≡◌, ◌<◌, arith, sym, ap, subst, ◌∙◌}
-use Rattle.lot_words.specs.Apart.{AreApart, TwoPasses}
+use Rattle.std.proofs.Common.{arith, sym, ap, subst, ◌∙◌}
+use Rattle.lot_words.specs.Apart.{TwoPasses}
 use Rattle.lot_words.specs.Shown.{PassShown, WordsShown}
 use Rattle.lot_words.proofs.Joining.{joins_two}
-use Rattle.lot_words.proofs.Telling.{tells_apart, parts_passes, joined_two, first_again, second_again, apart_again}
+use Rattle.lot_words.proofs.Telling.{tells_apart, parts_passes, joined_two}
 use Rattle.lot_words.proofs.words.LockWords.check_apart.Goals as goal
 
 pub join_seat-requires : goal.join_seat-requires

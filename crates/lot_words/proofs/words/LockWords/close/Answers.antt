@@ -1,8 +1,8 @@
-use Rattle.std.proofs.Common.{◌≡◌, ℕ, ◌<◌, List, [], ◌∷◌, ◌++◌, Some, length, sym, ap, subst, ◌∙◌, refl, inl, arith}
-use Rattle.std.specs.Slots.{slots_items, slots_len}
+use Rattle.std.proofs.Common.{◌≡◌, ℕ, ◌<◌, length, sym, ap, subst, ◌∙◌, refl, inl, arith}
+use Rattle.std.specs.Slots.{slots_items}
 use Rattle.lot_words.specs.Shown.{PassShown, RootShown, WordsShown, the_pass, the_values}
-use Rattle.lot_words.specs.declared.views.Right.TheVariants.{Pass, Root}
-use Rattle.lot_words.specs.Closing.{AllOf, SomeOf, InView, HasPass, HasRoot, IsRecounted}
+use Rattle.lot_words.specs.declared.views.Right.TheVariants.{Pass}
+use Rattle.lot_words.specs.Closing.{AllOf, SomeOf, InView, HasPass, IsRecounted}
 use Rattle.lot_words.proofs.Gathers.{all_init, all_snoc, all_map, some_long}
 use Rattle.lot_words.proofs.Closes.{last_lies, last_found, last_seen, last_history}
 use Rattle.lot_words.proofs.words.LockWords.close.Goals as goal

@@ -1,5 +1,5 @@
-use Rattle.std.proofs.Common.{◌≡◌, ℕ, ◌<◌, Bool, false, arith, sym, ap, subst, ◌∙◌}
-use Rattle.lot_words.specs.World.{Holds, lock_at, letter_at, word_count}
+use Rattle.std.proofs.Common.{◌≡◌, ◌<◌, false, arith, sym, ap, subst, ◌∙◌}
+use Rattle.lot_words.specs.World.{Holds}
 use Rattle.std.proofs.Common.{None}
 use Rattle.lot_words.specs.Values.{IsIn}
 use Rattle.lot_words.specs.Shown.{PassShown, WordsShown}

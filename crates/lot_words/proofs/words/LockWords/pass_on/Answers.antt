@@ -1,4 +1,4 @@
-use Rattle.std.proofs.Common.{◌≡◌, ℕ, ◌<◌, arith, sym, ap, subst, ◌∙◌}
+use Rattle.std.proofs.Common.{◌<◌, sym, subst}
 use Rattle.atomic_table.specs.Seated.{TableId}
 use Rattle.lot_words.specs.World.{letter_at}
 use Rattle.lot_words.proofs.words.LockWords.pass_on.Goals as goal

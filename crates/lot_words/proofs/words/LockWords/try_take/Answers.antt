@@ -1,5 +1,4 @@
-use Rattle.std.proofs.Common.{◌≡◌, ℕ, ◌<◌, Bool, false, arith, sym, ap, subst, ◌∙◌}
-use Rattle.lot_words.specs.World.{lock_at, letter_at, word_count}
+use Rattle.std.proofs.Common.{◌≡◌, ◌<◌, false, arith, sym, ap, subst, ◌∙◌}
 use Rattle.std.proofs.Common.{None}
 use Rattle.lot_words.specs.Shown.{PassShown, WordsShown}
 use Rattle.lot_words.proofs.Takes.{tries_allows}
