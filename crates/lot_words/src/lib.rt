@@ -50,3 +50,6 @@ pub use keeps::Keeps;
 pub use named::{Name, Named, OfOpening};
 pub use rights::{LockPass, LockRoot};
 pub use words::LockWords;
+
+#[cfg(test)]
+mod named_tests;
