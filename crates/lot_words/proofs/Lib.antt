@@ -17,6 +17,7 @@ pub mod Passes
 pub mod Posts
 pub mod Puts
 pub mod Rows
+pub mod Schedules
 pub mod Seats
 pub mod Settling
 pub mod Shelves

@@ -5,6 +5,7 @@ pub mod History
 pub mod Opening
 pub mod Plays
 pub mod Rule
+pub mod Schedule
 pub mod Seating
 pub mod Settled
 pub mod Shown

@@ -53,3 +53,5 @@ pub use words::LockWords;
 
 #[cfg(test)]
 mod named_tests;
+#[cfg(test)]
+mod tests;
