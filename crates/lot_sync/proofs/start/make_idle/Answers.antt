@@ -1,0 +1,9 @@
+use Rattle.std.proofs.Common.{◌≡◌, ℕ, subst}
+use Rattle.lot_sync.specs.Lot.{Owns}
+use Rattle.lot_sync.proofs.Rests.{owned_held}
+use Rattle.lot_sync.proofs.start.make_idle.Goals as goal
+
+pub invariant_of-result : goal.invariant_of-result
+invariant_of-result g c = record {
+    free = λ key owns. c.requires.free key (owned_held c.args.right.pass.holds key (subst (λ p. Owns p key) c.at_rest.ensures owns));
+  }

@@ -1,0 +1,5 @@
+pub mod Lot
+pub mod Values
+pub mod Passes
+pub mod Released
+pub mod Opened

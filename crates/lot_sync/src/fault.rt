@@ -1,0 +1,26 @@
+//! Why a lot could not be opened, and why a thread got no pass.
+
+/// Why a lot could not be opened. Tested in this order.
+#[derive(Clone, Copy, Debug, PartialEq, Eq, thiserror::Error)]
+pub enum OpenFault {
+    /// There have to be 1 to 64 threads.
+    #[error("bad number of threads")]
+    BadThreads = 1,
+    /// There has to be a lock, and there may be at most 1024 locks and conditions together.
+    #[error("bad number of keys")]
+    BadKeys = 2,
+    /// A request for memory was refused.
+    #[error("no memory")]
+    NoMemory = 3,
+}
+
+/// Why a thread got no pass.
+#[derive(Clone, Copy, Debug, PartialEq, Eq, thiserror::Error)]
+pub enum RegisterFault {
+    /// All passes are out.
+    #[error("all passes are out")]
+    Full = 1,
+    /// A request for memory was refused.
+    #[error("no memory")]
+    NoMemory = 2,
+}

@@ -1,0 +1,65 @@
+//! The passes that are in, and the room that closing a lot will want.
+ghost use Rattle.std.specs.Prelude.{◌≡◌, ℕ, ◌+◌, ◌*◌, ◌<◌, ◌≤◌, length, vec_len, vec_capacity, IfSome, IsTrue, ◌↔◌};
+ghost use Rattle.lot_sync.specs.Lot.{OwnsNone};
+
+use lot_words::{Keeps, LockPass, LockRoot};
+
+use crate::pass::{LotName, Pass};
+use crate::scheme::KeyRoot;
+
+/// A pass that owns no lock.
+pub(crate) struct Idle<V: Keeps + Send, N: LotName<V> + Send> {
+    pub(crate) pass: Pass<V, N>,
+    ghost free: { OwnsNone pass },
+}
+
+/// The room that `Lot::close` fills, made when the lot starts.
+pub(crate) struct ClosingRoom<V: Keeps + Send, N: LotName<V> + Send> {
+    pub(crate) passes: Vec<LockPass<V>>,
+    pub(crate) roots: Vec<LockRoot<V>>,
+    pub(crate) named: Vec<KeyRoot<V, N>>,
+    ghost empty: { (vec_len passes ≡ 0) × (vec_len roots ≡ 0) × (vec_len named ≡ 0) },
+    ghost wide: { (N.threads ≤ vec_capacity passes) × (length N.values ≤ vec_capacity roots) × (length N.values ≤ vec_capacity named) },
+}
+
+/// The passes that are in.
+pub(crate) struct Pool<V: Keeps + Send, N: LotName<V> + Send> {
+    pub(crate) idle: Vec<Idle<V, N>>,
+    pub(crate) room: ClosingRoom<V, N>,
+    ghost fits: { vec_len idle ≤ N.threads },
+    ghost wide: { N.threads ≤ vec_capacity idle },
+}
+
+impl<V: Keeps + Send, N: LotName<V> + Send> Pool<V, N> {
+    /// The pass of the least number that is in.
+    pub(crate) fn take_least(&mut self) -> Option<Pass<V, N>>
+        ensures { IfSome result OwnsNone }
+    {
+        if self.idle.is_empty() {
+            return None;
+        }
+        let mut least = 0;
+        for place in 1..self.idle.len() {
+            if self.idle[place].pass.thread() < self.idle[least].pass.thread() {
+                least = place;
+            }
+        }
+        let Idle { pass } = self.idle.swap_remove(least);
+        Some(pass)
+    }
+
+    /// Whether a pass more would fit.
+    pub(crate) fn is_full(&self, threads: usize) -> bool
+        requires { threads ≡ N.threads }
+        ensures { IsTrue result ↔ (N.threads ≤ vec_len self.now.idle) }
+    {
+        self.idle.len() >= threads
+    }
+
+    pub(crate) fn put(&mut self, pass: Pass<V, N>)
+        requires free { OwnsNone pass }
+        requires room { vec_len self.old.idle < N.threads }
+    {
+        self.idle.push_reserved(Idle { pass });
+    }
+}

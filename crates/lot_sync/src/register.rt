@@ -1,0 +1,70 @@
+//! Giving threads their passes, and taking them back.
+ghost use Rattle.std.specs.Prelude.{◌≡◌, ℕ, ◌<◌, ◌≤◌, IfOk, IfSome};
+ghost use Rattle.lot_sync.specs.Lot.{OwnsNone, HasGrown};
+
+use std::sync::Wait;
+use std::thread;
+
+use lot_words::Keeps;
+
+use crate::fault::RegisterFault;
+use crate::lot::Lot;
+use crate::pass::{LotName, Pass};
+
+impl<V: Keeps + Send, N: LotName<V> + Send> Lot<V, N> {
+    /// Gives the pass of the least number that is in.
+    ///
+    /// `Full` where all passes are out.
+    pub fn register<R: Wait>(&self, rt: &R) -> Result<Pass<V, N>, RegisterFault>
+        ensures thread { IfOk result (λ pass. pass.thread < self.now.threads) }
+        ensures free { IfOk result OwnsNone }
+        ensures grown { IfOk result (λ pass. HasGrown V.grows N.values pass) }
+    {
+        let mut pool = self.pool.lock(rt);
+        let taken = (*pool).take_least();
+        drop(pool);
+        match taken {
+            Some(pass) => {
+                let _ = &pass.right;
+                Ok(pass)
+            }
+            None => Err(RegisterFault::Full),
+        }
+    }
+
+    /// Takes a pass back. It is given again to the next thread that registers where it has the least number.
+    pub fn leave<R: Wait>(&self, rt: &R, pass: Pass<V, N>)
+        requires { OwnsNone pass }
+    {
+        for _ in rt.forever() {
+            let mut pool = self.pool.lock(rt);
+            let pool_now = &mut *pool;
+            if !pool_now.is_full(self.threads) {
+                pool_now.put(pass);
+                return;
+            }
+            drop(pool);
+            thread::yield_now();
+        }
+        unreachable!()
+    }
+
+    /// A pass that is in, or None where all are out.
+    pub fn take_left<R: Wait>(&mut self, rt: &R) -> Option<Pass<V, N>>
+        ensures same { self.new ≡ self.old }
+        ensures thread { IfSome result (λ pass. pass.thread < self.old.threads) }
+        ensures free { IfSome result OwnsNone }
+        ensures grown { IfSome result (λ pass. HasGrown V.grows N.values pass) }
+    {
+        let mut pool = self.pool.lock(rt);
+        let taken = (*pool).take_least();
+        drop(pool);
+        match taken {
+            Some(pass) => {
+                let _ = &pass.right;
+                Some(pass)
+            }
+            None => None,
+        }
+    }
+}
