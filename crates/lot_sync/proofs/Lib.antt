@@ -1,3 +1,4 @@
 pub mod Rests
 pub mod Turns
 pub mod Starts
+pub mod Holdings

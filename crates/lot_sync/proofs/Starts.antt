@@ -31,9 +31,10 @@ module _ {A : Type 0} where
 
   pub all_by_place : (P : A → Type 0) (f : ℕ → A) (xs : List A) → ((k : ℕ) → k < length xs → slice_get xs k ≡ Some (f k)) → ((k : ℕ) → k < length xs → P (f k)) → AllOf P xs
   all_by_place P f [] are holds = tt
-  all_by_place P f (x ∷ xs) are holds =
-      (subst P (sym (some_one x (f zero) (are zero (omega arith)))) (holds zero (omega arith)),
-        all_by_place P (λ k. f (suc k)) xs (λ k near. are (suc k) (omega arith)) (λ k near. holds (suc k) (omega arith)))
+  all_by_place P f (x ∷ xs) are holds = (
+    subst P (sym (some_one x (f zero) (are zero (omega arith)))) (holds zero (omega arith)),
+    all_by_place P (λ k. f (suc k)) xs (λ k near. are (suc k) (omega arith)) (λ k near. holds (suc k) (omega arith)),
+  )
 
   pub some_by_place : (P : A → Type 0) (f : ℕ → A) (xs : List A) → ((k : ℕ) → k < length xs → slice_get xs k ≡ Some (f k)) → (i : ℕ) → i < length xs → P (f i) → SomeOf P xs
   some_by_place P f [] are i near holds = absurd (omega arith)
@@ -57,15 +58,19 @@ module _ {V : Type 0} (grows : V → V → Type 0) (itself : (x : V) → grows x
     (opened : IsOpened values threads words passes roots) where
   fresh_at : (t : ℕ) → t < threads → IsFresh grows words.table values threads (pass_at words.table values t)
   fresh_at t near = record {
-      is_of = refl;
-      rest = record {
-          is_thread = near; aimless = refl; awake = refl;
-          holds_long = length-replicate (length values) NotHeld; places_long = length-replicate (length values) Out; seen_long = refl;
-          out = λ l holds. absurd (unheld (length values) l holds);
-          grown = λ l u v o s. subst (grows u) (some-injective u v (sym o ∙ s)) (itself u);
-        };
-      free = λ l. unheld (length values) l;
-    }
+    is_of = refl;
+    rest = record {
+      is_thread = near;
+      aimless = refl;
+      awake = refl;
+      holds_long = length-replicate (length values) NotHeld;
+      places_long = length-replicate (length values) Out;
+      seen_long = refl;
+      out = λ l holds. absurd (unheld (length values) l holds);
+      grown = λ l u v o s. subst (grows u) (some-injective u v (sym o ∙ s)) (itself u);
+    };
+    free = λ l. unheld (length values) l;
+  }
 
   passes_at : (t : ℕ) → t < length passes → slice_get passes t ≡ Some (pass_at words.table values t)
   passes_at t near = opened.passes_are t (subst (λ n. t < n) opened.passes_long near)

@@ -3,3 +3,4 @@ pub mod Values
 pub mod Passes
 pub mod Released
 pub mod Opened
+pub mod Holding

@@ -1,6 +1,6 @@
 -- What is said of values: what an owner finds in a lock, and what he may give back.
 use Rattle.std.specs.Prelude.{◌≡◌, ◌≢◌, ℕ, List, Some, slice_get}
-use Rattle.lot_sync.specs.Lot.{PassView, HeldView, HasSeen, owning}
+use Rattle.lot_sync.specs.Lot.{PassView, HeldView, Owns, HasSeen, owning}
 
 module _ {V Part : Type 0} (keeps : ℕ → V → Type 0) (grows : V → V → Type 0) (part : ℕ → V → Part) where
   -- the lock was got: its value keeps the rule, goes on from all that the pass had seen of it, and has the pass's own part
@@ -11,6 +11,7 @@ module _ {V Part : Type 0} (keeps : ℕ → V → Type 0) (grows : V → V → T
     pub grown : (u : V) → HasSeen before key u → grows u held.value
     pub mine : (u : V) → HasSeen before key u → part before.thread u ≡ part before.thread held.value
     pub after_is : after ≡ owning before key held.value
+    pub owns : Owns after key
 
   -- the value may be given back: it keeps the rule, has grown from the value found, and has the same part for every
   -- other thread

@@ -2,10 +2,9 @@
 ghost use Rattle.std.specs.Prelude.{◌≡◌, ◌≢◌, ℕ};
 ghost use Rattle.lot_sync.specs.Lot.{Owns};
 
-use lot_words::Keeps;
-
 use crate::lot::Lot;
 use crate::pass::{LotName, Pass};
+use lot_words::Keeps;
 
 impl<V: Keeps + Send, N: LotName<V> + Send> Lot<V, N> {
     /// Shows that two passes are of different threads and own no common lock: each lock has at most one owner. It changes
@@ -15,7 +14,9 @@ impl<V: Keeps + Send, N: LotName<V> + Send> Lot<V, N> {
         ensures threads { first.thread ≢ second.thread }
         ensures apart { (key : ℕ) → Owns first key → ¬ Owns second key }
     {
-        let (first, second) = self.words().check_apart(first.into_right(), second.into_right());
+        let (first, second) = self
+            .words()
+            .check_apart(first.into_right(), second.into_right());
         (Pass::at_rest(first), Pass::at_rest(second))
     }
 }

@@ -6,16 +6,14 @@ ghost use Rattle.lot_sync.specs.Lot.{PassView, OwnsNone};
 ghost use Rattle.lot_sync.specs.Values.{GoesOnTo};
 ghost use Rattle.lot_sync.specs.Passes.{sees, IsFree};
 
-use std::alloc::Global;
-use std::sync::Wait;
-use std::thread;
-
-use lot_words::{Keeps, LockPass};
-
 use crate::lot::Lot;
 use crate::pass::{LotName, Pass};
 use crate::pool::{ClosingRoom, Idle, Pool};
 use crate::start::unname_roots;
+use lot_words::{Keeps, LockPass};
+use std::alloc::Global;
+use std::sync::Wait;
+use std::thread;
 
 /// What the passes of a lot counted for each condition, modulo 2^64: the sleepers that were taken from its line, and the
 /// waits that ended. Until there are conditions both lists are empty.
@@ -76,7 +74,10 @@ fn none_left<V: Keeps + Send, N: LotName<V> + Send, R: Wait>(rt: &R, idle: Vec<I
 }
 
 /// Takes the passes apart, in order.
-fn gather<V: Keeps + Send, N: LotName<V> + Send>(mut passes: Vec<Pass<V, N>>, rights: &mut Vec<LockPass<V>>)
+fn gather<V: Keeps + Send, N: LotName<V> + Send>(
+    mut passes: Vec<Pass<V, N>>,
+    rights: &mut Vec<LockPass<V>>,
+)
     requires free { AllOf OwnsNone passes.items }
     requires room { (vec_len rights.old ≡ 0) × (vec_len passes ≤ vec_capacity rights.old) }
     ensures same { map sees rights.new.items ≡ passes.items }

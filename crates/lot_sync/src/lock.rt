@@ -7,17 +7,15 @@ ghost use Rattle.lot_words.specs.World.{Holds};
 ghost use Rattle.lot_words.specs.Values.{IsIn};
 ghost use Rattle.lot_words.specs.Calls.{parked_root, Aims};
 
-use std::sync::Wait;
-use std::thread;
-
-use lot_park::{Parked, ParkingLot};
-use lot_words::{Keeps, LockPass, Named};
-
 use crate::held::Held;
 use crate::lot::{Lot, PARKED};
 use crate::pass::{LotName, Pass};
 use crate::scheme::{KeyRoot, LockScheme};
 use crate::steps::{HANDOFF, LockSteps};
+use lot_park::{Parked, ParkingLot};
+use lot_words::{Keeps, LockPass, Named};
+use std::sync::Wait;
+use std::thread;
 
 /// How often one call of `lock` yields before it parks.
 const SPINS: u32 = 40;
@@ -122,7 +120,13 @@ impl<V: Keeps + Send, N: LotName<V> + Send> Lot<V, N> {
 
     /// Steps 2 to 4 of getting a lock that was found held: spin a while, mark the lock as parked, and sleep in its line.
     /// Answers whether the lock was handed over meanwhile; else the caller tries again.
-    fn wait_for<R: Wait>(&self, rt: &R, pass: LockPass<V>, key: usize, spins: &mut u32) -> (LockPass<V>, bool)
+    fn wait_for<R: Wait>(
+        &self,
+        rt: &R,
+        pass: LockPass<V>,
+        key: usize,
+        spins: &mut u32,
+    ) -> (LockPass<V>, bool)
         requires key { key < self.now.locks }
         requires named { (pass.table ≡ N.opening.locks) × (pass.pass.thread < self.now.threads) }
         requires trying { (pass.pass.aim ≡ Some key) × (pass.pass.asleep ≡ false) }
@@ -167,7 +171,12 @@ fn park<V: Keeps + Send, N: LotName<V> + Send, W: LockSteps<V>, R: Wait>(
         Named::new(pass),
         key,
         (),
-        |x: (), pass: Named<LockPass<V>, N>, root: KeyRoot<V, N>| -> ((), Named<LockPass<V>, N>, KeyRoot<V, N>, bool)
+        |x: (), pass: Named<LockPass<V>, N>, root: KeyRoot<V, N>| -> (
+            (),
+            Named<LockPass<V>, N>,
+            KeyRoot<V, N>,
+            bool,
+        )
             requires table { W.table words.now ≡ N.opening.locks }
             requires trying { (pass.pass.aim ≡ Some root.root.key) × (pass.pass.asleep ≡ false) }
             ensures pass { MatchBool result.3 (IsAsleepFor pass root.root.key result.1) (IsTryingFor pass root.root.key result.1) }

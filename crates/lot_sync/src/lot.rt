@@ -1,16 +1,14 @@
 //! A lot: locks that guard values, and the passes of its threads.
 ghost use Rattle.std.specs.Prelude.{◌≡◌, ℕ, ◌+◌, ◌<◌, ◌≤◌, List, length};
 
-use std::alloc::Global;
-use std::marker::Model;
-use std::sync::{Mutex, Wait};
-
-use lot_park::ParkingLot;
-use lot_words::{Keeps, LockWords};
-
 use crate::pass::LotName;
 use crate::pool::Pool;
 use crate::scheme::LockScheme;
+use lot_park::ParkingLot;
+use lot_words::{Keeps, LockWords};
+use std::alloc::Global;
+use std::marker::Model;
+use std::sync::{Mutex, Wait};
 
 /// The bit of a lock word that says that somebody owns the lock.
 pub(crate) const HELD: u64 = 1;

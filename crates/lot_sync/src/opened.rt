@@ -1,15 +1,13 @@
 //! Opening a lot: first its tables, then, under a name, the lot itself.
 ghost use Rattle.std.specs.Prelude.{◌≡◌, ℕ, ◌+◌, ◌<◌, ◌≤◌, List, Some, slice_get, vec_len, IfOk, IfErr, OnErr};
 
-use std::alloc::Global;
-use std::marker::Model;
-use std::snapshot::Snapshot;
-
-use lot_words::{Keeps, LockPass, LockRoot, LockWords, WordsFault};
-
 use crate::fault::OpenFault;
 use crate::lot::Lot;
 use crate::pass::LotName;
+use lot_words::{Keeps, LockPass, LockRoot, LockWords, WordsFault};
+use std::alloc::Global;
+use std::marker::Model;
+use std::snapshot::Snapshot;
 
 /// The greatest number of threads of a lot.
 pub const MAX_THREADS: usize = 64;
@@ -45,7 +43,12 @@ impl<V: Keeps + Send, N: LotName<V> + Send> Lot<V, N> {
     /// `start` in a function that is generic over the name. Conditions are not there yet: there have to be none.
     ///
     /// `BadThreads`, `BadKeys` and `NoMemory` are tested in this order, and the values come back with each.
-    pub fn open(alloc: Global, threads: usize, values: Vec<V>, conds: usize) -> Result<Opened<V>, (OpenFault, Vec<V>)>
+    pub fn open(
+        alloc: Global,
+        threads: usize,
+        values: Vec<V>,
+        conds: usize,
+    ) -> Result<Opened<V>, (OpenFault, Vec<V>)>
         requires { KeepAll V.keeps values.items }
         ensures opened { IfOk result (λ o. (o.threads ≡ threads) × (o.values ≡ values.items)) }
         ensures limits { IfOk result (λ _. IsThreadCount threads × IsKeyCount (vec_len values) conds) }

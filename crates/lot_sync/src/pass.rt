@@ -1,9 +1,8 @@
 //! The right to act as one thread of a lot.
 ghost use Rattle.std.specs.Prelude.{◌≡◌, ℕ, List};
 
-use std::marker::{Brand, Model};
-
 use lot_words::{Keeps, LockPass, Name, Named, OfOpening};
+use std::marker::{Brand, Model};
 
 /// Names one opening of a lot: its tables, its number of threads and the values that it opened with.
 ///

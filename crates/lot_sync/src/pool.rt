@@ -2,10 +2,9 @@
 ghost use Rattle.std.specs.Prelude.{◌≡◌, ℕ, ◌+◌, ◌*◌, ◌<◌, ◌≤◌, length, vec_len, vec_capacity, IfSome, IsTrue, ◌↔◌};
 ghost use Rattle.lot_sync.specs.Lot.{OwnsNone};
 
-use lot_words::{Keeps, LockPass, LockRoot};
-
 use crate::pass::{LotName, Pass};
 use crate::scheme::KeyRoot;
+use lot_words::{Keeps, LockPass, LockRoot};
 
 /// A pass that owns no lock.
 pub(crate) struct Idle<V: Keeps + Send, N: LotName<V> + Send> {

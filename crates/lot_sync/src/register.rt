@@ -2,14 +2,12 @@
 ghost use Rattle.std.specs.Prelude.{◌≡◌, ℕ, ◌<◌, ◌≤◌, IfOk, IfSome};
 ghost use Rattle.lot_sync.specs.Lot.{OwnsNone, HasGrown};
 
-use std::sync::Wait;
-use std::thread;
-
-use lot_words::Keeps;
-
 use crate::fault::RegisterFault;
 use crate::lot::Lot;
 use crate::pass::{LotName, Pass};
+use lot_words::Keeps;
+use std::sync::Wait;
+use std::thread;
 
 impl<V: Keeps + Send, N: LotName<V> + Send> Lot<V, N> {
     /// Gives the pass of the least number that is in.

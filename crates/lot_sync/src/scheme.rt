@@ -1,10 +1,9 @@
 //! How the parking lot posts and collects the letters of locks.
 ghost use Rattle.std.specs.Prelude.{◌≡◌, ℕ, true};
 
-use std::marker::Model;
-
 use lot_park::{Root, Scheme, Token};
 use lot_words::{Keeps, LockPass, LockRoot, LockWords, Name, Named};
+use std::marker::Model;
 
 /// The root of a lock, as the buckets see it.
 pub(crate) struct KeyRoot<V, N: Name> {
@@ -13,7 +12,6 @@ pub(crate) struct KeyRoot<V, N: Name> {
 
 impl<V, N: Name> Model for KeyRoot<V, N> {
     ghost use Rattle.lot_words.specs.Shown.{RootShown};
-
     ghost use Rattle.std.specs.Prelude.{◌≡◌};
 
     ghost Value = { RootShown };
@@ -65,7 +63,6 @@ pub(crate) struct LockScheme<V: Keeps, N: Name> {
 
 impl<V: Keeps, N: Name> Model for LockScheme<V, N> {
     ghost use Rattle.lot_words.specs.Shown.{WordsShown};
-
     ghost use Rattle.std.specs.Prelude.{◌≡◌};
 
     ghost Value = { WordsShown };
@@ -106,6 +103,7 @@ impl<V: Keeps + Send, N: Name + Send> Scheme for LockScheme<V, N> {
     ghost use Rattle.std.specs.Prelude.{◌≡◌, ℕ, true};
 
     type Root = KeyRoot<V, N>;
+
     type Pass = Named<LockPass<V>, N>;
 
     ghost thread = { λ p. p.pass.thread };

@@ -7,19 +7,17 @@ ghost use Rattle.lot_sync.specs.Opened.{IsOpened};
 ghost use Rattle.lot_sync.specs.Passes.{IsFresh};
 ghost use Rattle.lot_park.specs.Lots.{AreIdle};
 
-use std::alloc::{AllocError, Global};
-use std::snapshot::Snapshot;
-use std::sync::Mutex;
-
-use lot_park::{ParkFault, ParkingLot};
-use lot_words::{Keeps, LockPass, LockRoot, LockWords};
-
 use crate::fault::OpenFault;
 use crate::lot::Lot;
 use crate::opened::Opened;
 use crate::pass::{LotName, Pass};
 use crate::pool::{ClosingRoom, Idle, Pool};
 use crate::scheme::{KeyRoot, LockScheme};
+use lot_park::{ParkFault, ParkingLot};
+use lot_words::{Keeps, LockPass, LockRoot, LockWords};
+use std::alloc::{AllocError, Global};
+use std::snapshot::Snapshot;
+use std::sync::Mutex;
 
 /// The memory of a lot, before anything lies in it.
 struct Rooms<V: Keeps + Send, N: LotName<V> + Send> {
@@ -57,7 +55,10 @@ impl<V: Keeps + Send, N: LotName<V> + Send> Rooms<V, N> {
 }
 
 /// Names the roots, in order. Their own room stays.
-fn name_roots<V: Keeps + Send, N: LotName<V> + Send>(roots: &mut Vec<LockRoot<V>>, named: &mut Vec<KeyRoot<V, N>>)
+fn name_roots<V: Keeps + Send, N: LotName<V> + Send>(
+    roots: &mut Vec<LockRoot<V>>,
+    named: &mut Vec<KeyRoot<V, N>>,
+)
     requires own { AllOf (λ (r : RootShown). r.table ≡ N.opening.locks) roots.old.items }
     requires room { (vec_len named.old ≡ 0) × (vec_len roots.old ≤ vec_capacity named.old) }
     ensures same { named.new.items ≡ roots.old.items }
@@ -70,7 +71,10 @@ fn name_roots<V: Keeps + Send, N: LotName<V> + Send>(roots: &mut Vec<LockRoot<V>
 }
 
 /// Takes the names off again, in order.
-pub(crate) fn unname_roots<V: Keeps + Send, N: LotName<V> + Send>(mut named: Vec<KeyRoot<V, N>>, roots: &mut Vec<LockRoot<V>>)
+pub(crate) fn unname_roots<V: Keeps + Send, N: LotName<V> + Send>(
+    mut named: Vec<KeyRoot<V, N>>,
+    roots: &mut Vec<LockRoot<V>>,
+)
     requires room { (vec_len roots.old ≡ 0) × (vec_len named ≤ vec_capacity roots.old) }
     ensures same { roots.new.items ≡ named.items }
     ensures own { AllOf (λ (r : RootShown). r.table ≡ N.opening.locks) roots.new.items }
@@ -82,7 +86,10 @@ pub(crate) fn unname_roots<V: Keeps + Send, N: LotName<V> + Send>(mut named: Vec
 }
 
 /// Puts all passes into the pool. Their own room stays.
-fn fill<V: Keeps + Send, N: LotName<V> + Send>(passes: &mut Vec<LockPass<V>>, idle: &mut Vec<Idle<V, N>>)
+fn fill<V: Keeps + Send, N: LotName<V> + Send>(
+    passes: &mut Vec<LockPass<V>>,
+    idle: &mut Vec<Idle<V, N>>,
+)
     requires idle { AllOf (IsFresh V.grows N.opening.locks N.values N.threads) passes.old.items }
     requires room { (vec_len idle.old ≡ 0) × (vec_len passes.old ≤ vec_capacity idle.old) }
     ensures long { vec_len idle.new ≡ vec_len passes.old }
@@ -103,7 +110,12 @@ fn make_idle<V: Keeps + Send, N: LotName<V> + Send>(right: LockPass<V>) -> Idle<
 }
 
 /// Closes words whose locks nobody ever got: the values that they opened with come back.
-fn close_unused<V: Keeps + Send>(words: LockWords<V>, passes: Vec<LockPass<V>>, roots: Vec<LockRoot<V>>, values: Snapshot<Vec<V>>) -> Vec<V>
+fn close_unused<V: Keeps + Send>(
+    words: LockWords<V>,
+    passes: Vec<LockPass<V>>,
+    roots: Vec<LockRoot<V>>,
+    values: Snapshot<Vec<V>>,
+) -> Vec<V>
     requires { IsOpened values.value.items words.size.threads words passes.items roots.items }
     ensures { result.items ≡ values.value.items }
 {
@@ -129,7 +141,10 @@ impl<V: Keeps + Send> Opened<V> {
     /// Starts the lot under the name N: its passes are in, and its locks are free.
     ///
     /// `NoMemory` where a request for memory was refused: the opening values come back.
-    pub fn start<N: LotName<V> + Send>(self, alloc: Global) -> Result<Lot<V, N>, (OpenFault, Vec<V>)>
+    pub fn start<N: LotName<V> + Send>(
+        self,
+        alloc: Global,
+    ) -> Result<Lot<V, N>, (OpenFault, Vec<V>)>
         requires names { (self.table ≡ N.opening.locks) × (self.threads ≡ N.threads) × (self.values ≡ N.values) }
         ensures lot { IfOk result (λ lot. (lot.threads ≡ self.threads) × (lot.locks ≡ length self.values)) }
         ensures back { IfErr result (λ e. (e.0 ≡ OpenFault.NoMemory) × (e.1.items ≡ self.values)) }
@@ -143,7 +158,10 @@ impl<V: Keeps + Send> Opened<V> {
         } = self;
         match Rooms::<V, N>::new(alloc, threads, roots.len()) {
             Ok(rooms) => started(alloc, words, passes, roots, values, rooms),
-            Err(_) => Err((OpenFault::NoMemory, close_unused(words, passes, roots, values))),
+            Err(_) => Err((
+                OpenFault::NoMemory,
+                close_unused(words, passes, roots, values),
+            )),
         }
     }
 }
@@ -188,7 +206,10 @@ fn started<V: Keeps + Send, N: LotName<V> + Send>(
             unname_roots(named, &mut roots);
             idle.destroy_empty();
             drop_room(closing);
-            Err((OpenFault::NoMemory, close_unused(scheme.into_words(), passes, roots, values)))
+            Err((
+                OpenFault::NoMemory,
+                close_unused(scheme.into_words(), passes, roots, values),
+            ))
         }
     }
 }

@@ -30,7 +30,13 @@ pub(crate) trait LockSteps<V> {
 
     /// The callback of a slow unlock: the lock is handed to the sleeper that was taken where the release is fair, and left to
     /// whoever comes first otherwise.
-    fn hand_over(&self, pass: LockPass<V>, root: LockRoot<V>, told: UnparkResult, fair: bool) -> (LockPass<V>, LockRoot<V>, Token)
+    fn hand_over(
+        &self,
+        pass: LockPass<V>,
+        root: LockRoot<V>,
+        told: UnparkResult,
+        fair: bool,
+    ) -> (LockPass<V>, LockRoot<V>, Token)
         requires table { (pass.table ≡ table self.now) × (root.table ≡ table self.now) }
         requires calm { (pass.pass.aim ≡ None) × (pass.pass.asleep ≡ false) }
         requires parked { HoldsParked pass.pass root.root.key }
@@ -55,7 +61,13 @@ impl<V: Keeps> LockSteps<V> for LockWords<V> {
         self.park(pass, root)
     }
 
-    fn hand_over(&self, pass: LockPass<V>, root: LockRoot<V>, told: UnparkResult, fair: bool) -> (LockPass<V>, LockRoot<V>, Token)
+    fn hand_over(
+        &self,
+        pass: LockPass<V>,
+        root: LockRoot<V>,
+        told: UnparkResult,
+        fair: bool,
+    ) -> (LockPass<V>, LockRoot<V>, Token)
         requires table { (pass.table ≡ self.now.table) × (root.table ≡ self.now.table) }
         requires calm { (pass.pass.aim ≡ None) × (pass.pass.asleep ≡ false) }
         requires parked { HoldsParked pass.pass root.root.key }

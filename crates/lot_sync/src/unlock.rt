@@ -9,17 +9,15 @@ ghost use Rattle.lot_words.specs.World.{Holds, HoldsParked};
 ghost use Rattle.lot_words.specs.Values.{IsIn, HasSeen};
 ghost use Rattle.lot_park.specs.Parking.{Tells, debt};
 
-use std::sync::Wait;
-
-use lot_park::{Moment, ParkingLot, Token, UnparkResult};
-use lot_words::{Keeps, LockPass, Named};
-
 use crate::held::Held;
 use crate::lot::Lot;
 use crate::pass::{LotName, Pass};
 use crate::released::Released;
 use crate::scheme::{KeyRoot, LockScheme};
 use crate::steps::LockSteps;
+use lot_park::{Moment, ParkingLot, Token, UnparkResult};
+use lot_words::{Keeps, LockPass, Named};
+use std::sync::Wait;
 
 impl<V: Keeps + Send, N: LotName<V> + Send> Lot<V, N> {
     /// Lets the lock go. Where nobody is parked it is one read-modify-write of the lock's word.
@@ -27,7 +25,13 @@ impl<V: Keeps + Send, N: LotName<V> + Send> Lot<V, N> {
     /// The moment is read only where somebody is parked: a caller that has to ask a clock for it tries
     /// `unlock_unparked` first.
     #[inline(always)]
-    pub fn unlock<R: Wait>(&self, rt: &R, pass: Pass<V, N>, held: Held<V, N>, moment: Moment) -> (Pass<V, N>, Released)
+    pub fn unlock<R: Wait>(
+        &self,
+        rt: &R,
+        pass: Pass<V, N>,
+        held: Held<V, N>,
+        moment: Moment,
+    ) -> (Pass<V, N>, Released)
         requires key { held.key < self.now.locks }
         requires owns { Owns pass held.key }
         requires back { MayGiveBack V.keeps V.grows V.part pass held }
@@ -39,7 +43,13 @@ impl<V: Keeps + Send, N: LotName<V> + Send> Lot<V, N> {
 
     /// Lets the lock go, and hands it to the first thread of its line, if any.
     #[inline(always)]
-    pub fn unlock_fairly<R: Wait>(&self, rt: &R, pass: Pass<V, N>, held: Held<V, N>, moment: Moment) -> (Pass<V, N>, Released)
+    pub fn unlock_fairly<R: Wait>(
+        &self,
+        rt: &R,
+        pass: Pass<V, N>,
+        held: Held<V, N>,
+        moment: Moment,
+    ) -> (Pass<V, N>, Released)
         requires key { held.key < self.now.locks }
         requires owns { Owns pass held.key }
         requires back { MayGiveBack V.keeps V.grows V.part pass held }
@@ -51,7 +61,11 @@ impl<V: Keeps + Send, N: LotName<V> + Send> Lot<V, N> {
 
     /// Lets the lock go where nobody is parked; else the held value comes back, and the lock is still owned.
     #[inline(always)]
-    pub fn unlock_unparked(&self, pass: Pass<V, N>, held: Held<V, N>) -> (Pass<V, N>, Option<Held<V, N>>)
+    pub fn unlock_unparked(
+        &self,
+        pass: Pass<V, N>,
+        held: Held<V, N>,
+    ) -> (Pass<V, N>, Option<Held<V, N>>)
         requires key { held.key < self.now.locks }
         requires owns { Owns pass held.key }
         requires back { MayGiveBack V.keeps V.grows V.part pass held }
@@ -69,7 +83,14 @@ impl<V: Keeps + Send, N: LotName<V> + Send> Lot<V, N> {
     }
 
     #[inline(always)]
-    fn release<R: Wait>(&self, rt: &R, pass: Pass<V, N>, held: Held<V, N>, moment: Moment, fair: bool) -> (Pass<V, N>, Released)
+    fn release<R: Wait>(
+        &self,
+        rt: &R,
+        pass: Pass<V, N>,
+        held: Held<V, N>,
+        moment: Moment,
+        fair: bool,
+    ) -> (Pass<V, N>, Released)
         requires key { held.key < self.now.locks }
         requires owns { Owns pass held.key }
         requires back { MayGiveBack V.keeps V.grows V.part pass held }
@@ -95,7 +116,8 @@ impl<V: Keeps + Send, N: LotName<V> + Send> Lot<V, N> {
         ensures same { sees result ≡ pass }
         ensures locks { key < length N.values }
     {
-        self.words().value_in(pass.into_right(), key, held.into_value())
+        self.words()
+            .value_in(pass.into_right(), key, held.into_value())
     }
 
     /// One compare-exchange: the lock is let go where nobody is parked.
@@ -110,7 +132,14 @@ impl<V: Keeps + Send, N: LotName<V> + Send> Lot<V, N> {
     }
 
     #[inline(always)]
-    pub(crate) fn let_go<R: Wait>(&self, rt: &R, right: LockPass<V>, key: usize, moment: Moment, fair: bool) -> (LockPass<V>, Released)
+    pub(crate) fn let_go<R: Wait>(
+        &self,
+        rt: &R,
+        right: LockPass<V>,
+        key: usize,
+        moment: Moment,
+        fair: bool,
+    ) -> (LockPass<V>, Released)
         requires key { key < self.now.locks }
         requires named { right.table ≡ N.opening.locks }
         requires owner { IsNewOwner V.grows N.values N.threads right key }
@@ -128,7 +157,14 @@ impl<V: Keeps + Send, N: LotName<V> + Send> Lot<V, N> {
     /// The lock was found parked: one sleeper is taken from its line, if any is there.
     #[cold]
     #[inline(never)]
-    fn let_go_slowly<R: Wait>(&self, rt: &R, right: LockPass<V>, key: usize, moment: Moment, fair: bool) -> (LockPass<V>, Released)
+    fn let_go_slowly<R: Wait>(
+        &self,
+        rt: &R,
+        right: LockPass<V>,
+        key: usize,
+        moment: Moment,
+        fair: bool,
+    ) -> (LockPass<V>, Released)
         requires key { key < self.now.locks }
         requires named { right.table ≡ N.opening.locks }
         requires calm { (right.pass.aim ≡ None) × (right.pass.asleep ≡ false) }
@@ -170,7 +206,11 @@ fn unpark<V: Keeps + Send, N: LotName<V> + Send, W: LockSteps<V>, R: Wait>(
         key,
         moment,
         Named::new(right),
-        |pass: Named<LockPass<V>, N>, root: KeyRoot<V, N>, told: UnparkResult| -> (Named<LockPass<V>, N>, KeyRoot<V, N>, Token)
+        |pass: Named<LockPass<V>, N>, root: KeyRoot<V, N>, told: UnparkResult| -> (
+            Named<LockPass<V>, N>,
+            KeyRoot<V, N>,
+            Token,
+        )
             requires table { W.table words.now ≡ N.opening.locks }
             requires calm { (pass.pass.aim ≡ None) × (pass.pass.asleep ≡ false) }
             requires parked { HoldsParked pass.pass root.root.key }
@@ -182,7 +222,12 @@ fn unpark<V: Keeps + Send, N: LotName<V> + Send, W: LockSteps<V>, R: Wait>(
             ensures line { result.1.root.line ≡ drop 1 root.root.line }
             ensures owes { debts_of result.1.root.owes ≡ debt told.thread result.2.0 }
         {
-            let (pass, root, token) = words.hand_over(pass.into_inner(), root.into_root(), told, fair);
+            let (pass, root, token) = words.hand_over(
+                pass.into_inner(),
+                root.into_root(),
+                told,
+                fair,
+            );
             (Named::new(pass), KeyRoot::new(root), token)
         },
     );

@@ -16,11 +16,11 @@ loop-pass-preserved g c =
     record {
       free = parts.0;
       moved = ap (λ ps. left ++ reverse ps)
-            (ap (map sees) c.push_reserved.ensures.items ∙ (map-append sees c.loop-pass.rights.items (c.into_right.result ∷ []) ∙ ap (λ p. map sees c.loop-pass.rights.items ++ p ∷ []) (sym c.into_right.ensures.same)))
+          (ap (map sees) c.push_reserved.ensures.items ∙ (map-append sees c.loop-pass.rights.items (c.into_right.result ∷ []) ∙ ap (λ p. map sees c.loop-pass.rights.items ++ p ∷ []) (sym c.into_right.ensures.same)))
           ∙ moves_on c.loop-pass.passes.items left c.in-Some.pass (map sees c.loop-pass.rights.items) c.args.passes.items c.in-Some.ensures.items inv.moved;
       taken = subst (AllOf (IsFree g.N.Name.opening.locks)) (sym c.push_reserved.ensures.items)
           (all_snoc (IsFree g.N.Name.opening.locks) c.loop-pass.rights.items c.into_right.result inv.taken
-            (record { is_of = c.into_right.ensures.named; free = λ l holds. parts.1 l (subst (λ p. Owns p l) (sym c.into_right.ensures.same) (held_owned c.into_right.result.pass.holds l holds)) }));
+          (record { is_of = c.into_right.ensures.named; free = λ l holds. parts.1 l (subst (λ p. Owns p l) (sym c.into_right.ensures.same) (held_owned c.into_right.result.pass.holds l holds)) }));
       count = omega (arith, c.in-Some.ensures.len);
       fits = omega arith;
     }
@@ -29,7 +29,7 @@ pub returns-clause-same : goal.returns-clause-same
 returns-clause-same g c =
     let none : c.loop-pass.passes.items ≡ [] = no_elements c.loop-pass.passes.items (let n : length c.loop-pass.passes.items ≡ vec_len c.loop-pass.passes = search rules in n ∙ c.in_default.ensures.cases.0) in
     ap (map sees) c.reverse.ensures.items
-        ∙ (map_turned sees c.loop-pass.rights.items ∙ subst (λ ps. ps ++ reverse (map sees c.loop-pass.rights.items) ≡ c.args.passes.items) none c.loop-pass.invariant.moved)
+    ∙ (map_turned sees c.loop-pass.rights.items ∙ subst (λ ps. ps ++ reverse (map sees c.loop-pass.rights.items) ≡ c.args.passes.items) none c.loop-pass.invariant.moved)
 
 pub returns-clause-free : goal.returns-clause-free
 returns-clause-free g c =

@@ -3,9 +3,10 @@ use Rattle.lot_sync.proofs.Starts.{passes_own, passes_free, roots_own, each_thre
 use Rattle.lot_sync.proofs.start.close_unused.Goals as goal
 
 pub close-requires-clause-table : goal.close-requires-clause-table
-close-requires-clause-table g c =
-    (passes_own g.V.Keeps.grows g.V.Keeps.grows_itself c.args.values.value.items c.args.words.size.threads c.args.words c.args.passes.items c.args.roots.items c.requires,
-      roots_own g.V.Keeps.grows g.V.Keeps.grows_itself c.args.values.value.items c.args.words.size.threads c.args.words c.args.passes.items c.args.roots.items c.requires)
+close-requires-clause-table g c = (
+  passes_own g.V.Keeps.grows g.V.Keeps.grows_itself c.args.values.value.items c.args.words.size.threads c.args.words c.args.passes.items c.args.roots.items c.requires,
+  roots_own g.V.Keeps.grows g.V.Keeps.grows_itself c.args.values.value.items c.args.words.size.threads c.args.words c.args.passes.items c.args.roots.items c.requires,
+)
 
 pub close-requires-clause-idle : goal.close-requires-clause-idle
 close-requires-clause-idle g c =
@@ -22,4 +23,4 @@ close-requires-clause-roots g c =
 pub returns : goal.returns
 returns g c =
     values_back g.V.Keeps.grows g.V.Keeps.grows_itself c.args.values.value.items c.args.words.size.threads c.args.words c.args.passes.items c.args.roots.items c.requires
-        c.close.result.items (let n : length c.close.result.items ≡ vec_len c.close.result = search rules in n ∙ c.close.ensures.len) c.close.ensures.left
+    c.close.result.items (let n : length c.close.result.items ≡ vec_len c.close.result = search rules in n ∙ c.close.ensures.len) c.close.ensures.left

@@ -5,11 +5,11 @@ use Rattle.lot_sync.proofs.start.fill.Given as goal
 
 abbrev pub invariant-loop-right : goal.invariant-loop-right
 invariant-loop-right g l = record {
-    idle : AllOf (IsFresh g.V.Keeps.grows g.N.Name.opening.locks g.N.LotName.values g.N.LotName.threads) l.passes.items;
-    count : vec_len l.passes + vec_len l.idle ≡ vec_len l.initial.passes;
-    fits : vec_len l.initial.passes ≤ vec_capacity l.idle;
-    room : vec_capacity l.idle ≡ vec_capacity l.initial.idle;
-  }
+  idle : AllOf (IsFresh g.V.Keeps.grows g.N.Name.opening.locks g.N.LotName.values g.N.LotName.threads) l.passes.items;
+  count : vec_len l.passes + vec_len l.idle ≡ vec_len l.initial.passes;
+  fits : vec_len l.initial.passes ≤ vec_capacity l.idle;
+  room : vec_capacity l.idle ≡ vec_capacity l.initial.idle;
+}
 
 abbrev pub decreases-loop-right : goal.decreases-loop-right
 decreases-loop-right g l = vec_len l.passes

@@ -5,5 +5,5 @@ use Rattle.lot_sync.proofs.start.make_idle.Goals as goal
 
 pub invariant_of-result : goal.invariant_of-result
 invariant_of-result g c = record {
-    free = λ key owns. c.requires.free key (owned_held c.args.right.pass.holds key (subst (λ p. Owns p key) c.at_rest.ensures owns));
-  }
+  free = λ key owns. c.requires.free key (owned_held c.args.right.pass.holds key (subst (λ p. Owns p key) c.at_rest.ensures owns));
+}

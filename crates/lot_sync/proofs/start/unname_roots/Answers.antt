@@ -20,4 +20,4 @@ loop-root-preserved g c =
 pub returns-clause-own : goal.returns-clause-own
 returns-clause-own g c =
     subst (AllOf (λ (r : RootShown). r.table ≡ g.N.Name.opening.locks)) (sym c.reverse.ensures.items)
-        (all_turned (λ (r : RootShown). r.table ≡ g.N.Name.opening.locks) c.loop-root.roots.items c.loop-root.invariant.own)
+    (all_turned (λ (r : RootShown). r.table ≡ g.N.Name.opening.locks) c.loop-root.roots.items c.loop-root.invariant.own)

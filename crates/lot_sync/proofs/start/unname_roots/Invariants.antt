@@ -5,11 +5,11 @@ use Rattle.lot_sync.proofs.start.unname_roots.Given as goal
 
 abbrev pub invariant-loop-root : goal.invariant-loop-root
 invariant-loop-root g l = record {
-    own : AllOf (λ (r : RootShown). r.table ≡ g.N.Name.opening.locks) l.roots.items;
-    moved : l.named.items ++ reverse l.roots.items ≡ l.initial.named.items;
-    count : vec_len l.named + vec_len l.roots ≡ vec_len l.initial.named;
-    fits : vec_len l.initial.named ≤ vec_capacity l.roots;
-  }
+  own : AllOf (λ (r : RootShown). r.table ≡ g.N.Name.opening.locks) l.roots.items;
+  moved : l.named.items ++ reverse l.roots.items ≡ l.initial.named.items;
+  count : vec_len l.named + vec_len l.roots ≡ vec_len l.initial.named;
+  fits : vec_len l.initial.named ≤ vec_capacity l.roots;
+}
 
 abbrev pub decreases-loop-root : goal.decreases-loop-root
 decreases-loop-root g l = vec_len l.named

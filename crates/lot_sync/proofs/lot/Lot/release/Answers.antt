@@ -7,10 +7,10 @@ pub at_rest-requires-clause-rest : goal.at_rest-requires-clause-rest
 at_rest-requires-clause-rest g c κs within =
     let b = c.given_back-right.ensures in
     rests_free g.V.Keeps.grows g.N.LotName.values g.N.LotName.threads g.V.Keeps.grows_on c.given_back-right.result c.let_go-right.result.0 c.key-key.result c.args.held.value
-        b.locks b.owner b.lies b.grown c.let_go-right.ensures.went
+    b.locks b.owner b.lies b.grown c.let_go-right.ensures.went
 
 pub returns-clause-pass : goal.returns-clause-pass
 returns-clause-pass g c =
     let b = c.given_back-right.ensures in
     c.at_rest.ensures ∙ (leaves_all c.given_back-right.result c.let_go-right.result.0 c.key-key.result c.args.held.value b.lies c.let_go-right.ensures.went
-        ∙ (ap (λ p. leaving p c.key-key.result c.args.held.value) b.same ∙ ap (λ k. leaving c.args.pass k c.args.held.value) c.key-key.ensures))
+    ∙ (ap (λ p. leaving p c.key-key.result c.args.held.value) b.same ∙ ap (λ k. leaving c.args.pass k c.args.held.value) c.key-key.ensures))

@@ -5,4 +5,4 @@ use Rattle.lot_sync.proofs.lot.Lot.taken.Goals as goal
 pub at_rest-requires-clause-rest : goal.at_rest-requires-clause-rest
 at_rest-requires-clause-rest g c κs within =
     rests_again g.V.Keeps.grows g.N.LotName.values g.N.LotName.threads _ _ c.args.key (subst (λ n. c.args.key < n) c.words.ensures.locks.1 c.requires.key)
-        c.requires.owner c.value_out-right.ensures.pass.1 c.value_out-right.ensures.values
+    c.requires.owner c.value_out-right.ensures.pass.1 c.value_out-right.ensures.values

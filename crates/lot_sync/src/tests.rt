@@ -1,0 +1,538 @@
+//! Worked rows of a lot of three threads and two locks, with the words that they leave.
+ghost use Rattle.std.specs.Prelude.{◌≡◌, ◌≤◌, ◌<◌, ℕ, MatchOption, length, vec_len, vec_capacity};
+ghost use Rattle.lot_sync.specs.Lot.{OwnsNone};
+ghost use Rattle.lot_sync.specs.Holding.{Holding};
+
+use crate::{Held, Lot, LotName, Moment, OpenFault, Opened, Pass, RegisterFault, Released};
+use lot_words::Keeps;
+use std::alloc::Global;
+use std::marker::Brand;
+use std::process::Abort;
+use std::sync::Wait;
+use std::sync::atomic::{AtomicU64, Ordering};
+use std::test::*;
+use std::thread;
+use std::thread::Threads;
+
+/// A count that never falls.
+#[derive(Clone, Copy)]
+struct Count {
+    n: u64,
+}
+
+impl Keeps for Count {
+    ghost use Rattle.std.specs.Prelude.{◌≤◌};
+    ghost use Rattle.std.proofs.Common.{le_refl, le_trans};
+
+    type Part = ();
+
+    ghost keeps = { λ key count. Unit {0} };
+
+    ghost grows = { λ old new. old.n ≤ new.n };
+
+    ghost part = { λ thread count. tt };
+
+    ghost grows_itself = { λ count. le_refl count.n };
+
+    ghost grows_on = { λ x y z p q. le_trans p q };
+}
+
+const THREADS: usize = 3;
+
+/// How often a test asks before it fails.
+const ASKINGS: u64 = 10_000_000;
+
+fn enter<N: LotName<Count> + Send + Sync, T: Wait + Abort>(
+    rt: &T,
+    lot: &Lot<Count, N>,
+) -> Pass<Count, N>
+    ensures { OwnsNone result }
+{
+    match lot.register(rt) {
+        Ok(pass) => pass,
+        Err(_) => panic!(rt; "no pass is in"),
+    }
+}
+
+/// `lock`, and what the test has of it.
+fn own<N: LotName<Count> + Send + Sync, T: Wait>(
+    rt: &T,
+    lot: &Lot<Count, N>,
+    pass: Pass<Count, N>,
+    key: usize,
+) -> (Pass<Count, N>, Held<Count, N>)
+    requires key { key < lot.now.locks }
+    requires free { OwnsNone pass }
+    ensures key { result.1.key ≡ key }
+    ensures holding { Holding (λ x y. x.n ≤ y.n) result.0 result.1 }
+{
+    lot.lock(rt, pass, key)
+}
+
+/// `unlock` at a moment.
+fn release<N: LotName<Count> + Send + Sync, T: Wait>(
+    rt: &T,
+    lot: &Lot<Count, N>,
+    pass: Pass<Count, N>,
+    held: Held<Count, N>,
+    now: u64,
+) -> (Pass<Count, N>, Released)
+    requires key { held.key < lot.now.locks }
+    requires holding { Holding (λ x y. x.n ≤ y.n) pass held }
+    ensures { OwnsNone result.0 }
+{
+    lot.unlock(rt, pass, held, Moment { now, word: 7 })
+}
+
+/// `try_lock`, and what the test has of it.
+fn try_own<N: LotName<Count> + Send + Sync>(
+    lot: &Lot<Count, N>,
+    pass: Pass<Count, N>,
+    key: usize,
+) -> (Pass<Count, N>, Option<Held<Count, N>>)
+    requires key { key < lot.now.locks }
+    requires free { OwnsNone pass }
+    ensures { MatchOption result.1 (OwnsNone result.0) (λ held. (held.key ≡ key) × Holding (λ x y. x.n ≤ y.n) result.0 held) }
+{
+    lot.try_lock(pass, key)
+}
+
+/// `unlock_unparked`, and what the test has of it.
+fn free<N: LotName<Count> + Send + Sync>(
+    lot: &Lot<Count, N>,
+    pass: Pass<Count, N>,
+    held: Held<Count, N>,
+) -> (Pass<Count, N>, Option<Held<Count, N>>)
+    requires key { held.key < lot.now.locks }
+    requires holding { Holding (λ x y. x.n ≤ y.n) pass held }
+    ensures { MatchOption result.1 (OwnsNone result.0) (λ back. (back.key ≡ held.key) × Holding (λ x y. x.n ≤ y.n) result.0 back) }
+{
+    lot.unlock_unparked(pass, held)
+}
+
+fn word<N: LotName<Count> + Send + Sync>(lot: &Lot<Count, N>, key: usize) -> u64
+    requires { key < lot.now.locks }
+{
+    lot.words().bits(key)
+}
+
+/// Whether so many are in the line of the lock, asked a bounded number of times.
+fn in_line<N: LotName<Count> + Send + Sync, T: Wait>(
+    rt: &T,
+    lot: &Lot<Count, N>,
+    key: usize,
+    count: usize,
+) -> bool
+    requires { key < lot.now.locks }
+{
+    for _ in 0..ASKINGS {
+        if lot.line_length(rt, key) == count {
+            return true;
+        }
+        thread::yield_now();
+    }
+    false
+}
+
+/// Whether the flag is raised, asked a bounded number of times.
+fn is_raised(flag: &AtomicU64) -> bool {
+    for _ in 0..ASKINGS {
+        if flag.load(Ordering::SeqCst) != 0 {
+            return true;
+        }
+        thread::yield_now();
+    }
+    false
+}
+
+enum Row {
+    TryLockAndUnlockUnparked,
+    Quiet,
+    Handoff,
+    TwoOwners,
+    Registration,
+    Written,
+}
+
+fn on_lot<T: Threads + Wait + Sync + Abort>(rt: &T, alloc: Global, row: Row) {
+    let Ok(values) = vec![in alloc; Count { n: 7 }, Count { n: 7 }] else {
+        panic!(rt; "no memory")
+    };
+    match Lot::<Count, Brand>::open(alloc, THREADS, values, 0) {
+        Ok(opened) => play::<Brand, T>(rt, alloc, opened, row),
+        Err(_) => panic!(rt; "not opened"),
+    }
+}
+
+/// Plays the row on a lot, which is closed then.
+fn play<N: LotName<Count> + Send + Sync, T: Threads + Wait + Sync + Abort>(
+    rt: &T,
+    alloc: Global,
+    opened: Opened<Count>,
+    row: Row,
+)
+    requires names { (opened.table ≡ N.opening.locks) × (opened.threads ≡ N.threads) × (opened.values ≡ N.values) }
+    requires sizes { (opened.threads ≡ 3) × (length opened.values ≡ 2) }
+{
+    let Ok(passes) = Vec::with_capacity(alloc, THREADS) else {
+        panic!(rt; "no memory")
+    };
+    match opened.start::<N>(alloc) {
+        Ok(lot) => {
+            play_row(rt, &lot, row);
+            end(rt, lot, passes);
+        }
+        Err(_) => panic!(rt; "not started"),
+    }
+}
+
+fn play_row<N: LotName<Count> + Send + Sync, T: Threads + Wait + Sync + Abort>(
+    rt: &T,
+    lot: &Lot<Count, N>,
+    row: Row,
+)
+    requires { lot.now.locks ≡ 2 }
+{
+    match row {
+        Row::TryLockAndUnlockUnparked => try_and_unlock_unparked(rt, lot),
+        Row::Quiet => quiet_row(rt, lot),
+        Row::Handoff => handoff_row(rt, lot),
+        Row::TwoOwners => two_owners(rt, lot),
+        Row::Registration => register_in_order(rt, lot),
+        Row::Written => write_and_find(rt, lot),
+    }
+}
+
+fn next_left<N: LotName<Count> + Send + Sync, T: Wait + Abort>(
+    rt: &T,
+    lot: &mut Lot<Count, N>,
+    thread: usize,
+) -> Pass<Count, N>
+    ensures same { lot.new ≡ lot.old }
+    ensures thread { result.thread ≡ thread }
+    ensures free { OwnsNone result }
+{
+    match lot.take_left(rt) {
+        Some(pass) => {
+            let left = pass.thread();
+            if left == thread {
+                pass
+            } else {
+                panic!(rt; "thread {left} was left before {thread}")
+            }
+        }
+        None => panic!(rt; "{thread} is not in"),
+    }
+}
+
+/// All passes are in, each once.
+fn end<N: LotName<Count> + Send + Sync, T: Wait + Abort>(
+    rt: &T,
+    mut lot: Lot<Count, N>,
+    mut passes: Vec<Pass<Count, N>>,
+)
+    requires sizes { (lot.threads ≡ 3) × (lot.locks ≡ 2) }
+    requires room { (vec_len passes ≡ 0) × (3 ≤ vec_capacity passes) }
+{
+    passes.push_reserved(next_left(rt, &mut lot, 0));
+    passes.push_reserved(next_left(rt, &mut lot, 1));
+    passes.push_reserved(next_left(rt, &mut lot, 2));
+    match lot.take_left(rt) {
+        Some(_pass) => panic!(rt; "a pass was left twice"),
+        None => {}
+    }
+    let (values, ledger) = lot.close(rt, passes);
+    assert_eq!(rt; values.len(), 2);
+    assert!(rt; ledger.called.is_empty() && ledger.woken.is_empty());
+}
+
+fn try_and_unlock_unparked<N: LotName<Count> + Send + Sync, T: Wait + Abort>(
+    rt: &T,
+    lot: &Lot<Count, N>,
+)
+    requires { lot.now.locks ≡ 2 }
+{
+    let pass = enter(rt, lot);
+    assert_eq!(rt; word(lot, 0), 0);
+    let (pass, got) = try_own(lot, pass, 0);
+    let Some(held) = got else {
+        panic!(rt; "a free lock was not got")
+    };
+    assert_eq!(rt; word(lot, 0), 1);
+    let (pass, back) = free(lot, pass, held);
+    match back {
+        Some(_held) => panic!(rt; "a lock that nobody waits for was not let go"),
+        None => {}
+    }
+    assert_eq!(rt; word(lot, 0), 0);
+    lot.leave(rt, pass);
+}
+
+fn quiet_row<N: LotName<Count> + Send + Sync, T: Wait + Abort>(rt: &T, lot: &Lot<Count, N>)
+    requires { lot.now.locks ≡ 2 }
+{
+    let zero = enter(rt, lot);
+    let one = enter(rt, lot);
+    let (zero, held) = own(rt, lot, zero, 0);
+    let (one, got) = try_own(lot, one, 0);
+    match got {
+        Some(_held) => panic!(rt; "a held lock was got"),
+        None => {}
+    }
+    assert_eq!(rt; word(lot, 0), 1);
+    let (zero, released) = release(rt, lot, zero, held, 0);
+    assert_eq!(rt; released, Released::Quiet);
+    assert_eq!(rt; word(lot, 0), 0);
+    lot.leave(rt, one);
+    lot.leave(rt, zero);
+}
+
+/// What the second thread of a row is told, and tells.
+#[derive(Drop)]
+struct Flags {
+    owns: AtomicU64,
+    go: AtomicU64,
+}
+
+/// The second thread: it gets lock 0, waits for the word to go on, and lets the lock go.
+fn second<N: LotName<Count> + Send + Sync, T: Wait + Abort>(
+    rt: &T,
+    lot: &Lot<Count, N>,
+    flags: &Flags,
+)
+    requires { lot.now.locks ≡ 2 }
+{
+    let pass = enter(rt, lot);
+    assert_eq!(rt; pass.thread(), 1);
+    let (pass, held) = own(rt, lot, pass, 0);
+    flags.owns.store(1, Ordering::SeqCst);
+    assert!(rt; is_raised(&flags.go));
+    let (pass, released) = release(rt, lot, pass, held, 12);
+    assert_eq!(rt; released, Released::Nobody);
+    assert_eq!(rt; word(lot, 0), 0);
+    lot.leave(rt, pass);
+}
+
+/// The first thread owns lock 0, and the second sleeps on it.
+fn beside_a_sleeper<N: LotName<Count> + Send + Sync, T: Threads + Wait + Sync + Abort>(
+    rt: &T,
+    lot: &Lot<Count, N>,
+    flags: &Flags,
+)
+    requires { lot.now.locks ≡ 2 }
+{
+    thread::scope(
+        thread::scope_env(),
+        rt,
+        |scope|
+            requires { lot.now.locks ≡ 2 }
+        {
+            let pass = enter(rt, lot);
+            let (pass, held) = own(rt, lot, pass, 0);
+            let job = move ||
+                requires { lot.now.locks ≡ 2 }
+            { second(rt, lot, flags) };
+            assert!(rt; scope.spawn(job).is_ok());
+            assert!(rt; in_line(rt, lot, 0, 1));
+            hand_over(rt, lot, flags, pass, held);
+        },
+    );
+}
+
+/// The sleeper is handed the lock.
+fn hand_over<N: LotName<Count> + Send + Sync, T: Wait + Abort>(
+    rt: &T,
+    lot: &Lot<Count, N>,
+    flags: &Flags,
+    pass: Pass<Count, N>,
+    held: Held<Count, N>,
+)
+    requires key { (held.key < lot.now.locks) × (lot.now.locks ≡ 2) }
+    requires holding { Holding (λ x y. x.n ≤ y.n) pass held }
+{
+    assert_eq!(rt; word(lot, 0), 3);
+    let (pass, back) = free(lot, pass, held);
+    let Some(held) = back else {
+        panic!(rt; "a lock with a sleeper was let go without it")
+    };
+    assert!(rt; lot.is_held(0));
+    let (pass, released) = release(rt, lot, pass, held, 5);
+    assert_eq!(rt; released, Released::Handed);
+    assert_eq!(rt; word(lot, 0), 3);
+    assert_eq!(rt; lot.line_length(rt, 0), 0);
+    assert!(rt; is_raised(&flags.owns));
+    flags.go.store(1, Ordering::SeqCst);
+    lot.leave(rt, pass);
+}
+
+fn handoff_row<N: LotName<Count> + Send + Sync, T: Threads + Wait + Sync + Abort>(
+    rt: &T,
+    lot: &Lot<Count, N>,
+)
+    requires { lot.now.locks ≡ 2 }
+{
+    let flags = Flags {
+        owns: AtomicU64::new(0),
+        go: AtomicU64::new(0),
+    };
+    beside_a_sleeper(rt, lot, &flags);
+}
+
+/// A thread that owns a lock of its own, and looks for another that does.
+fn meet<N: LotName<Count> + Send + Sync, T: Wait + Abort>(
+    rt: &T,
+    lot: &Lot<Count, N>,
+    key: usize,
+    own_flag: &AtomicU64,
+    other_flag: &AtomicU64,
+)
+    requires { key < lot.now.locks }
+{
+    let pass = enter(rt, lot);
+    let (pass, held) = own(rt, lot, pass, key);
+    own_flag.store(1, Ordering::SeqCst);
+    assert!(rt; is_raised(other_flag));
+    let (pass, released) = release(rt, lot, pass, held, 0);
+    assert_eq!(rt; released, Released::Quiet);
+    lot.leave(rt, pass);
+}
+
+fn side_by_side<N: LotName<Count> + Send + Sync, T: Threads + Wait + Sync + Abort>(
+    rt: &T,
+    lot: &Lot<Count, N>,
+    zero: &AtomicU64,
+    one: &AtomicU64,
+)
+    requires { lot.now.locks ≡ 2 }
+{
+    thread::scope(
+        thread::scope_env(),
+        rt,
+        |scope|
+            requires { lot.now.locks ≡ 2 }
+        {
+            let job = move ||
+                requires { lot.now.locks ≡ 2 }
+            { meet(rt, lot, 1, one, zero) };
+            assert!(rt; scope.spawn(job).is_ok());
+            meet(rt, lot, 0, zero, one);
+        },
+    );
+}
+
+fn two_owners<N: LotName<Count> + Send + Sync, T: Threads + Wait + Sync + Abort>(
+    rt: &T,
+    lot: &Lot<Count, N>,
+)
+    requires { lot.now.locks ≡ 2 }
+{
+    let zero = AtomicU64::new(0);
+    let one = AtomicU64::new(0);
+    side_by_side(rt, lot, &zero, &one);
+}
+
+fn register_in_order<N: LotName<Count> + Send + Sync, T: Wait + Abort>(
+    rt: &T,
+    lot: &Lot<Count, N>,
+) {
+    for _ in 0..2u8 {
+        let zero = enter(rt, lot);
+        let one = enter(rt, lot);
+        let two = enter(rt, lot);
+        assert_eq!(rt; zero.thread(), 0);
+        assert_eq!(rt; one.thread(), 1);
+        assert_eq!(rt; two.thread(), 2);
+        match lot.register(rt) {
+            Ok(_) => panic!(rt; "a fourth pass"),
+            Err(fault) => assert_eq!(rt; fault, RegisterFault::Full),
+        }
+        lot.leave(rt, one);
+        lot.leave(rt, zero);
+        lot.leave(rt, two);
+    }
+}
+
+fn write_and_find<N: LotName<Count> + Send + Sync, T: Wait + Abort>(rt: &T, lot: &Lot<Count, N>)
+    requires { lot.now.locks ≡ 2 }
+{
+    let zero = enter(rt, lot);
+    let one = enter(rt, lot);
+    let zero = add(rt, lot, zero, 7);
+    let one = add(rt, lot, one, 8);
+    let zero = add(rt, lot, zero, 9);
+    let (zero, one) = lot.check_apart(zero, one);
+    lot.leave(rt, one);
+    lot.leave(rt, zero);
+}
+
+/// The pass owns lock 0 once, finds so many, and leaves one more.
+fn add<N: LotName<Count> + Send + Sync, T: Wait + Abort>(
+    rt: &T,
+    lot: &Lot<Count, N>,
+    pass: Pass<Count, N>,
+    want: u64,
+) -> Pass<Count, N>
+    requires two { lot.now.locks ≡ 2 }
+    requires free { OwnsNone pass }
+    ensures { OwnsNone result }
+{
+    let (pass, mut held) = own(rt, lot, pass, 0);
+    let found = held.value().n;
+    assert_eq!(rt; found, want);
+    assert!(rt; found < 1000);
+    *held.value_mut() = Count { n: found + 1 };
+    let (pass, _) = release(rt, lot, pass, held, 0);
+    pass
+}
+
+#[test]
+fn try_lock_and_unlock_unparked_succeed(rt: HostRuntime) {
+    on_lot(&rt, rt.alloc(), Row::TryLockAndUnlockUnparked);
+}
+
+#[test]
+fn quiet(rt: HostRuntime) {
+    on_lot(&rt, rt.alloc(), Row::Quiet);
+}
+
+#[test]
+fn handoff_to_a_sleeper(rt: HostRuntime) {
+    on_lot(&rt, rt.alloc(), Row::Handoff);
+}
+
+#[test]
+fn two_owners_run_at_once(rt: HostRuntime) {
+    on_lot(&rt, rt.alloc(), Row::TwoOwners);
+}
+
+#[test]
+fn passes_are_given_least_number_first(rt: HostRuntime) {
+    on_lot(&rt, rt.alloc(), Row::Registration);
+}
+
+#[test]
+fn a_written_value_is_found(rt: HostRuntime) {
+    on_lot(&rt, rt.alloc(), Row::Written);
+}
+
+const REFUSED: [(usize, usize, usize, OpenFault); 3] = [
+    (65, 1, 0, OpenFault::BadThreads),
+    (1, 0, 0, OpenFault::BadKeys),
+    (1, 1, 1024, OpenFault::BadKeys),
+];
+
+#[test]
+fn bad_limits(rt: HostRuntime) {
+    for (threads, locks, conds, want) in REFUSED {
+        let Ok(values) = vec![in rt.alloc(); Count { n: 7 }; locks] else {
+            panic!(&rt; "no memory")
+        };
+        match Lot::<Count, Brand>::open(rt.alloc(), threads, values, conds) {
+            Ok(_) => panic!(&rt; "opened"),
+            Err((fault, values)) => {
+                assert_eq!(rt; fault, want);
+                assert_eq!(rt; values.len(), locks);
+            }
+        }
+    }
+}
