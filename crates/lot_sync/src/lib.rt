@@ -1,4 +1,14 @@
-//! Locks that guard values.
+//! Locks that guard values, for a number of threads: WTF's `Lock` on its parking lot.
+//!
+//! It stands on `lot_words` (ruled words, letters and values) and on `lot_park` (queues and sleep), which never name each other:
+//! here both meet. Open a `Lot` with the values that its locks guard, start it under a name, let each thread register for its
+//! `Pass`, and lock: whoever gets a lock is handed its value as a `Held`, and spends it by an unlock.
+//!
+//! | Call | Where nobody contends | Else |
+//! |---|---|---|
+//! | `lock` | one fetch-or | up to 40 spins, then a sleep in the lock's line |
+//! | `unlock` | one compare-exchange | the first of the line is taken: the lock is handed to it, or it tries again |
+//! | `try_lock`, `unlock_unparked` | one read-modify-write | an answer at once |
 #![tactic(auto)]
 
 mod apart;

@@ -1,0 +1,79 @@
+//! The command line: what is run, what is written where, and with which status it ends.
+
+use crate::count::{Counting, count};
+use crate::failure::Failure;
+use crate::number::number;
+use crate::replay::replay;
+use std::alloc::Global;
+use std::io::{Read, Write};
+use std::sync::Wait;
+use std::thread::Threads;
+
+/// The greatest number of threads and of locks, and of rounds of one thread.
+const MAX_THREADS: u64 = 64;
+
+const MAX_LOCKS: u64 = 1024;
+
+const MAX_ROUNDS: u64 = 10_000;
+
+/// Runs the command that the words spell, and answers its exit status: 0, or that of the failure whose text is written
+/// to `faults`. Nothing is written to `out` then. `file` is the file that `replay` names, where it could be opened.
+pub fn run_command<T: Threads + Wait + Sync, F: Read + Drop, W: Write, E: Write>(
+    rt: &T,
+    alloc: Global,
+    words: &[&str],
+    file: Option<F>,
+    out: &mut W,
+    faults: &mut E,
+) -> u8 {
+    let outcome = text_of(rt, alloc, words, file);
+    report(outcome, out, faults)
+}
+
+/// Writes the text, or the failure, and answers the exit status.
+pub fn report<W: Write, E: Write>(
+    outcome: Result<String, Failure>,
+    out: &mut W,
+    faults: &mut E,
+) -> u8 {
+    let written = outcome.and_then(|text| match out.write_all(text.as_bytes()) {
+        Ok(()) => Ok(()),
+        Err(_) => Err(Failure::CannotWrite),
+    });
+    match written {
+        Ok(()) => 0,
+        Err(failure) => {
+            // A fault that cannot be written is still told by the status.
+            let _ = writeln!(faults, "{failure}");
+            failure.status()
+        }
+    }
+}
+
+fn text_of<T: Threads + Wait + Sync, F: Read + Drop>(
+    rt: &T,
+    alloc: Global,
+    words: &[&str],
+    file: Option<F>,
+) -> Result<String, Failure> {
+    match words {
+        ["replay", _] => match file {
+            Some(file) => replay(alloc, file),
+            None => Err(Failure::CannotReadFile),
+        },
+        ["count", threads, locks, rounds, seed] => {
+            let numbers = counting(threads, locks, rounds, seed);
+            count(rt, alloc, &numbers.ok_or(Failure::BadCommandLine)?)
+        }
+        _ => Err(Failure::BadCommandLine),
+    }
+}
+
+fn counting(threads: &str, locks: &str, rounds: &str, seed: &str) -> Option<Counting> {
+    Some(Counting {
+        threads: number(threads, 1, MAX_THREADS)? as usize,
+        locks: number(locks, 1, MAX_LOCKS)? as usize,
+        rounds: number(rounds, 0, MAX_ROUNDS)?,
+        seed: number(seed, 0, u64::MAX)?,
+    })
+}

@@ -1,0 +1,56 @@
+//! `lotstress` runs locks under load, and schedules through the proved model:
+//!
+//! - `lotstress count THREADS LOCKS ROUNDS SEED`: workers lock, count and unlock; prints what each lock counted.
+//! - `lotstress replay FILE`: runs a script of events and prints the state that it leaves.
+//!
+//! It stands on `lot_sync` (the locks) and `lot_core` (the model).
+#![tactic(auto)]
+
+mod command;
+mod count;
+mod failure;
+mod gate;
+mod number;
+mod replay;
+mod tally;
+#[cfg(test)]
+mod tests;
+
+use command::{report, run_command};
+use failure::Failure;
+use std::alloc::{AllocError, Global};
+use std::fs::File;
+use std::process::ExitCode;
+use std::{env, io};
+
+fn main(rt: HostRuntime) -> io::Result<ExitCode> {
+    let alloc = rt.alloc();
+    let mut words: Vec<String> = Vec::new(alloc);
+    for word in env::args(&rt)?.skip(1) {
+        if words.push(word).is_err() {
+            let status = report(Err(Failure::NoMemory), &mut rt.stdout(), &mut rt.stderr());
+            return Ok(ExitCode::from(status));
+        }
+    }
+    let Ok(views) = words
+        .iter()
+        .map(|word| word.as_str())
+        .collect::<Vec<&str>>(alloc)
+    else {
+        let status = report(Err(Failure::NoMemory), &mut rt.stdout(), &mut rt.stderr());
+        return Ok(ExitCode::from(status));
+    };
+    let file = match views.as_slice() {
+        ["replay", path] => File::open(&rt, *path).ok(),
+        _ => None,
+    };
+    let status = run_command(
+        &rt,
+        alloc,
+        views.as_slice(),
+        file,
+        &mut rt.stdout(),
+        &mut rt.stderr(),
+    );
+    Ok(ExitCode::from(status))
+}
