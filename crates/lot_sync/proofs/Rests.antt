@@ -1,5 +1,5 @@
 -- A pass gets a lock and lets it go, and is at rest again.
-use Rattle.std.proofs.Common.{◌≡◌, ◌≢◌, ℕ, ◌<◌, ◌⊎◌, Bool, true, false, List, [], ◌∷◌, zero, suc, length, map, set, get_or, Option, Some, None, refl, sym, ap, subst, ◌∙◌, ⊎_elim, length-set, arith}
+use Rattle.std.proofs.Common.{◌≡◌, ◌≢◌, ℕ, ◌<◌, true, false, List, [], ◌∷◌, zero, suc, length, map, set, get_or, refl, sym, ap, subst, ◌∙◌, ⊎_elim, length-set, arith}
 use Rattle.std.proofs.lemmas.List.{get_or-set_same, get_or-set_other, map-set, set-set, set-get_or}
 use mathlib.Core.Option.{some, some-injective}
 use mathlib.Core.Logic.{dite}
@@ -13,7 +13,7 @@ use Rattle.lot_words.specs.declared.views.Place.TheVariants.{InSlot, Out}
 use Rattle.lot_words.specs.Shown.{PassShown}
 use Rattle.lot_words.specs.World.{IsHeld, Holds}
 use Rattle.lot_words.specs.Values.{IsOut, IsIn, HasSeen, FoundOk, MayLeave, found_in, left_in, placed}
-use Rattle.lot_sync.specs.Lot.{PassView, HeldView, Owns, owning, leaving}
+use Rattle.lot_sync.specs.Lot.{PassView, HeldView, Owns, leaving}
 use Rattle.lot_sync.specs.Values.{Gets, MayGiveBack}
 use Rattle.lot_sync.specs.Passes.{is_held, sees, IsAtRest, IsNewOwner, IsOwner, IsTryingFor, IsStill, IsFoundParked, LetsGo}
 

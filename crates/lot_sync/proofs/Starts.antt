@@ -1,5 +1,5 @@
 -- The rights of an opening, and the values that come back when nobody got a lock.
-use Rattle.std.proofs.Common.{◌≡◌, ℕ, ◌+◌, ◌<◌, List, [], ◌∷◌, zero, suc, length, get_or, replicate, slice_get, Option, Some, None, refl, sym, ap, subst, ◌∙◌, inl, inr, arith}
+use Rattle.std.proofs.Common.{◌≡◌, ℕ, ◌<◌, List, [], ◌∷◌, zero, suc, length, get_or, replicate, slice_get, Some, None, refl, sym, ap, subst, ◌∙◌, inl, inr, arith}
 use Rattle.std.proofs.lemmas.List.{length-replicate}
 use mathlib.Core.Option.{some, some-injective}
 use lib.ListN.{get_elem?}
@@ -7,12 +7,12 @@ use Rattle.atomic_table.specs.Seated.{TableId}
 use Rattle.lot_words.specs.declared.views.Hold.TheVariants.{NotHeld}
 use Rattle.lot_words.specs.declared.views.Place.TheVariants.{Out}
 use Rattle.lot_words.specs.Shown.{PassShown, RootShown, WordsShown}
-use Rattle.lot_words.specs.Start.{pass_at, root_at, fresh_root}
-use Rattle.lot_words.specs.World.{IsHeld, Holds}
+use Rattle.lot_words.specs.Start.{pass_at, root_at}
+use Rattle.lot_words.specs.World.{IsHeld}
 use Rattle.lot_words.specs.Values.{HasSeen}
 use Rattle.lot_words.specs.Closing.{AllOf, SomeOf, HoldsNone}
 use Rattle.lot_words.proofs.Gathers.{all_map, pick}
-use Rattle.lot_sync.specs.Passes.{IsAtRest, IsFresh}
+use Rattle.lot_sync.specs.Passes.{IsFresh}
 use Rattle.lot_sync.specs.Opened.{IsOpened}
 
 some_one : {A : Type 0} (x y : A) → Some x ≡ Some y → x ≡ y

@@ -1,5 +1,5 @@
 -- Elements that move from the end of one list to the end of another.
-use Rattle.std.proofs.Common.{◌≡◌, ℕ, ◌<◌, ◌⊎◌, zero, suc, List, [], ◌∷◌, ◌++◌, length, map, slice_get, Some, reverse, append_assoc, refl, sym, ap, subst, ◌∙◌, inl, inr, arith}
+use Rattle.std.proofs.Common.{◌≡◌, ℕ, ◌<◌, zero, suc, List, [], ◌∷◌, ◌++◌, length, map, slice_get, Some, reverse, append_assoc, refl, sym, ap, subst, ◌∙◌, inl, inr, arith}
 use Rattle.std.proofs.lemmas.List.{reverse-append, map-append}
 use Rattle.lot_words.specs.Closing.{AllOf, SomeOf}
 use Rattle.lot_words.proofs.Gathers.{all_snoc}

@@ -10,7 +10,7 @@ use Rattle.lot_park.specs.Lots.{LotView}
 use Rattle.lot_words.specs.World.{Holds}
 use Rattle.lot_words.specs.Closing.{HoldsNone}
 use Rattle.atomic_table.specs.Seated.{TableId}
-use Rattle.lot_words.specs.Values.{IsOut, IsIn, FoundOk, found_in, left_in, placed}
+use Rattle.lot_words.specs.Values.{IsOut, IsIn, FoundOk, found_in, left_in}
 use Rattle.lot_sync.specs.Lot.{PassView}
 
 abbrev pub is_held : Hold → Bool

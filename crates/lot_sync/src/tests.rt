@@ -84,6 +84,20 @@ fn release<N: LotName<Count> + Send + Sync, T: Wait>(
     lot.unlock(rt, pass, held, Moment { now, word: 7 })
 }
 
+/// `unlock_fairly` at moment 0.
+fn release_fairly<N: LotName<Count> + Send + Sync, T: Wait>(
+    rt: &T,
+    lot: &Lot<Count, N>,
+    pass: Pass<Count, N>,
+    held: Held<Count, N>,
+) -> (Pass<Count, N>, Released)
+    requires key { held.key < lot.now.locks }
+    requires holding { Holding (λ x y. x.n ≤ y.n) pass held }
+    ensures { OwnsNone result.0 }
+{
+    lot.unlock_fairly(rt, pass, held, Moment { now: 0, word: 7 })
+}
+
 /// `try_lock`, and what the test has of it.
 fn try_own<N: LotName<Count> + Send + Sync>(
     lot: &Lot<Count, N>,
@@ -145,10 +159,21 @@ fn is_raised(flag: &AtomicU64) -> bool {
     false
 }
 
+/// How the first thread lets the lock go on which the second sleeps.
+#[derive(Clone, Copy, PartialEq, Eq)]
+enum Way {
+    /// By `unlock` at moment 5, when it is time to be fair.
+    WhenFair,
+    /// By `unlock_fairly` at moment 0.
+    Fairly,
+    /// By `unlock` at moment 0: a barging opportunity.
+    Barging,
+}
+
 enum Row {
     TryLockAndUnlockUnparked,
     Quiet,
-    Handoff,
+    Sleeper(Way),
     TwoOwners,
     Registration,
     Written,
@@ -196,7 +221,7 @@ fn play_row<N: LotName<Count> + Send + Sync, T: Threads + Wait + Sync + Abort>(
     match row {
         Row::TryLockAndUnlockUnparked => try_and_unlock_unparked(rt, lot),
         Row::Quiet => quiet_row(rt, lot),
-        Row::Handoff => handoff_row(rt, lot),
+        Row::Sleeper(way) => sleeper_row(rt, lot, way),
         Row::TwoOwners => two_owners(rt, lot),
         Row::Registration => register_in_order(rt, lot),
         Row::Written => write_and_find(rt, lot),
@@ -299,6 +324,7 @@ fn second<N: LotName<Count> + Send + Sync, T: Wait + Abort>(
     rt: &T,
     lot: &Lot<Count, N>,
     flags: &Flags,
+    way: Way,
 )
     requires { lot.now.locks ≡ 2 }
 {
@@ -308,7 +334,13 @@ fn second<N: LotName<Count> + Send + Sync, T: Wait + Abort>(
     flags.owns.store(1, Ordering::SeqCst);
     assert!(rt; is_raised(&flags.go));
     let (pass, released) = release(rt, lot, pass, held, 12);
-    assert_eq!(rt; released, Released::Nobody);
+    // A barging opportunity with nobody left in the queue clears the parked bit; a handoff leaves it.
+    let want = if way == Way::Barging {
+        Released::Quiet
+    } else {
+        Released::Nobody
+    };
+    assert_eq!(rt; released, want);
     assert_eq!(rt; word(lot, 0), 0);
     lot.leave(rt, pass);
 }
@@ -318,6 +350,7 @@ fn beside_a_sleeper<N: LotName<Count> + Send + Sync, T: Threads + Wait + Sync + 
     rt: &T,
     lot: &Lot<Count, N>,
     flags: &Flags,
+    way: Way,
 )
     requires { lot.now.locks ≡ 2 }
 {
@@ -331,19 +364,20 @@ fn beside_a_sleeper<N: LotName<Count> + Send + Sync, T: Threads + Wait + Sync + 
             let (pass, held) = own(rt, lot, pass, 0);
             let job = move ||
                 requires { lot.now.locks ≡ 2 }
-            { second(rt, lot, flags) };
+            { second(rt, lot, flags, way) };
             assert!(rt; scope.spawn(job).is_ok());
             assert!(rt; in_line(rt, lot, 0, 1));
-            hand_over(rt, lot, flags, pass, held);
+            let_go(rt, lot, flags, way, pass, held);
         },
     );
 }
 
-/// The sleeper is handed the lock.
-fn hand_over<N: LotName<Count> + Send + Sync, T: Wait + Abort>(
+/// The sleeper is woken, and gets the lock.
+fn let_go<N: LotName<Count> + Send + Sync, T: Wait + Abort>(
     rt: &T,
     lot: &Lot<Count, N>,
     flags: &Flags,
+    way: Way,
     pass: Pass<Count, N>,
     held: Held<Count, N>,
 )
@@ -356,18 +390,27 @@ fn hand_over<N: LotName<Count> + Send + Sync, T: Wait + Abort>(
         panic!(rt; "a lock with a sleeper was let go without it")
     };
     assert!(rt; lot.is_held(0));
-    let (pass, released) = release(rt, lot, pass, held, 5);
-    assert_eq!(rt; released, Released::Handed);
-    assert_eq!(rt; word(lot, 0), 3);
+    let (pass, released) = match way {
+        Way::WhenFair => release(rt, lot, pass, held, 5),
+        Way::Fairly => release_fairly(rt, lot, pass, held),
+        Way::Barging => release(rt, lot, pass, held, 0),
+    };
+    if way == Way::Barging {
+        assert_eq!(rt; released, Released::Woke);
+    } else {
+        assert_eq!(rt; released, Released::Handed);
+        assert_eq!(rt; word(lot, 0), 3);
+    }
     assert_eq!(rt; lot.line_length(rt, 0), 0);
     assert!(rt; is_raised(&flags.owns));
     flags.go.store(1, Ordering::SeqCst);
     lot.leave(rt, pass);
 }
 
-fn handoff_row<N: LotName<Count> + Send + Sync, T: Threads + Wait + Sync + Abort>(
+fn sleeper_row<N: LotName<Count> + Send + Sync, T: Threads + Wait + Sync + Abort>(
     rt: &T,
     lot: &Lot<Count, N>,
+    way: Way,
 )
     requires { lot.now.locks ≡ 2 }
 {
@@ -375,7 +418,7 @@ fn handoff_row<N: LotName<Count> + Send + Sync, T: Threads + Wait + Sync + Abort
         owns: AtomicU64::new(0),
         go: AtomicU64::new(0),
     };
-    beside_a_sleeper(rt, lot, &flags);
+    beside_a_sleeper(rt, lot, &flags, way);
 }
 
 /// A thread that owns a lock of its own, and looks for another that does.
@@ -497,7 +540,17 @@ fn quiet(rt: HostRuntime) {
 
 #[test]
 fn handoff_to_a_sleeper(rt: HostRuntime) {
-    on_lot(&rt, rt.alloc(), Row::Handoff);
+    on_lot(&rt, rt.alloc(), Row::Sleeper(Way::WhenFair));
+}
+
+#[test]
+fn a_fair_unlock_hands_over_at_any_moment(rt: HostRuntime) {
+    on_lot(&rt, rt.alloc(), Row::Sleeper(Way::Fairly));
+}
+
+#[test]
+fn a_barging_opportunity_wakes(rt: HostRuntime) {
+    on_lot(&rt, rt.alloc(), Row::Sleeper(Way::Barging));
 }
 
 #[test]

@@ -1,4 +1,4 @@
-use Rattle.std.proofs.Common.{◌≡◌, ◌++◌, ◌∷◌, [], List, length, map, sym, ap, ◌∙◌, subst, reverse, refl, vec_len, rules, arith}
+use Rattle.std.proofs.Common.{◌≡◌, ◌++◌, ◌∷◌, [], length, map, sym, ap, ◌∙◌, subst, reverse, vec_len, rules, arith}
 use Rattle.std.proofs.lemmas.List.{map-append}
 use Rattle.lot_words.specs.Closing.{AllOf}
 use Rattle.lot_words.proofs.Gathers.{all_snoc, all_init}

@@ -1,4 +1,4 @@
-use Rattle.std.proofs.Common.{◌≡◌, ◌++◌, ◌∷◌, [], sym, ap, ◌∙◌, subst, reverse, arith}
+use Rattle.std.proofs.Common.{◌≡◌, ◌++◌, ◌∷◌, [], ap, ◌∙◌, subst, reverse, arith}
 use Rattle.lot_words.specs.Shown.{RootShown}
 use Rattle.lot_words.specs.Closing.{AllOf}
 use Rattle.lot_words.proofs.Gathers.{all_init}

@@ -1,8 +1,6 @@
-use Rattle.std.proofs.Common.{◌≡◌, ℕ, [], None, Some, slice_get, List, subst, sym, ap, ◌∙◌, refl}
-use Rattle.lot_bucket.specs.Agrees.{IsRootOf}
-use Rattle.lot_words.specs.Shown.{RootShown, PassShown}
-use Rattle.lot_words.specs.Closing.{AllOf}
-use Rattle.lot_sync.specs.Passes.{debts_of, IsFresh}
+use Rattle.std.proofs.Common.{◌≡◌, [], None, Some, slice_get, List, subst, ap}
+use Rattle.lot_words.specs.Shown.{RootShown}
+use Rattle.lot_sync.specs.Passes.{debts_of}
 use Rattle.lot_sync.proofs.Starts.{passes_fresh, roots_idle, fresh_named}
 use Rattle.lot_sync.proofs.start.started.Goals as goal
 

@@ -1,4 +1,4 @@
-use Rattle.std.proofs.Common.{◌≡◌, ℕ, subst}
+use Rattle.std.proofs.Common.{subst}
 use Rattle.lot_sync.specs.Lot.{Owns}
 use Rattle.lot_sync.proofs.Rests.{owned_held}
 use Rattle.lot_sync.proofs.lot.Lot.check_apart.Goals as goal

@@ -1,4 +1,4 @@
-use Rattle.std.proofs.Common.{◌≡◌, ℕ, ◌<◌, ◌++◌, List, [], map, length, vec_len, rules, Some, slice_get, subst, sym, ap, ◌∙◌}
+use Rattle.std.proofs.Common.{◌≡◌, ℕ, ◌<◌, ◌++◌, List, [], length, vec_len, rules, Some, slice_get, subst, sym, ap, ◌∙◌}
 use Rattle.lot_words.specs.Shown.{PassShown, RootShown, WordsShown}
 use Rattle.lot_words.specs.Closing.{AllOf, SomeOf}
 use Rattle.lot_words.specs.Values.{FoundOk}

@@ -1,4 +1,4 @@
-use Rattle.std.proofs.Common.{◌≡◌, ℕ, ◌<◌, subst, sym, refl, ap, ◌∙◌}
+use Rattle.std.proofs.Common.{◌<◌, subst}
 use Rattle.lot_sync.proofs.Rests.{owns_newly, owns_on, gets_all, gets_as}
 use Rattle.lot_sync.proofs.lot.Lot.lock.Goals as goal
 

@@ -1,4 +1,4 @@
-use Rattle.std.proofs.Common.{◌≡◌, ℕ, ◌≤◌}
+use Rattle.std.proofs.Common.{◌≤◌}
 use Rattle.lot_sync.specs.Passes.{IsTryingFor}
 use Rattle.lot_sync.proofs.lot.Lot.lock_slowly.Given as goal
 

@@ -1,5 +1,5 @@
-use Rattle.std.proofs.Common.{◌≡◌, ℕ, ◌<◌, subst}
-use Rattle.lot_sync.proofs.Rests.{owns_newly, gets_all, gets_as, rests_still}
+use Rattle.std.proofs.Common.{◌<◌, subst}
+use Rattle.lot_sync.proofs.Rests.{owns_newly, gets_all, gets_as}
 use Rattle.lot_sync.proofs.lot.Lot.try_lock.Goals as goal
 
 pub taken-pass-requires-clause-owner : goal.taken-pass-requires-clause-owner

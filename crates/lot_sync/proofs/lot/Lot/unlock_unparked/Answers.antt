@@ -1,4 +1,4 @@
-use Rattle.std.proofs.Common.{◌≡◌, ◌<◌, subst, sym, ap, ◌∙◌}
+use Rattle.std.proofs.Common.{◌≡◌, subst, sym, ap, ◌∙◌}
 use Rattle.lot_sync.specs.Lot.{leaving}
 use Rattle.lot_words.specs.Values.{IsIn}
 use Rattle.lot_sync.proofs.Rests.{rests_free, rests_parked, leaves_all, stays_all, one_lies}
