@@ -11,6 +11,8 @@
 //! | `try_lock`, `unlock_unparked` | one read-modify-write | an answer at once |
 #![tactic(auto)]
 
+#[cfg(test)]
+mod accounts;
 mod apart;
 mod closing;
 mod fault;
