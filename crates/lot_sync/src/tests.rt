@@ -589,3 +589,20 @@ fn bad_limits(rt: HostRuntime) {
         }
     }
 }
+
+#[test]
+fn a_refused_open_gives_the_values_back_in_order(rt: HostRuntime) {
+    let Ok(mut values) = vec![in rt.alloc(); Count { n: 7 }; 2] else {
+        panic!(&rt; "no memory")
+    };
+    values[1] = Count { n: 8 };
+    match Lot::<Count, Brand>::open(rt.alloc(), 0, values, 0) {
+        Ok(_) => panic!(&rt; "opened"),
+        Err((fault, values)) => {
+            assert_eq!(rt; fault, OpenFault::BadThreads);
+            assert_eq!(rt; values.len(), 2);
+            assert_eq!(rt; values[0].n, 7);
+            assert_eq!(rt; values[1].n, 8);
+        }
+    }
+}
