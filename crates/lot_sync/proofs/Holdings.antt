@@ -1,18 +1,25 @@
--- A pass that owns one lock got it from owning none, and lets it go again.
-use Rattle.std.proofs.Common.{◌≡◌, ℕ, true, false, MatchOption, Option, Some, None, sym, subst, ◌∙◌, ⊎_elim}
+-- A pass that owns one lock or two got them from owning none, and lets the first of two go again.
+use Rattle.std.proofs.Common.{◌≡◌, ◌≢◌, ℕ, zero, suc, Bool, true, false, List, [], ◌∷◌, get_or, set, MatchOption, Option, Some, None, refl, sym, ap, subst, ◌∙◌, ⊎_elim}
 use Rattle.std.proofs.lemmas.List.{get_or-set_other}
 use Rattle.atomic_table.proofs.Lists.{at_set}
-use Rattle.lot_sync.specs.Lot.{PassView, HeldView, Owns, OwnsNone, HasSeen}
+use mathlib.Core.Logic.{dite}
+use native.Mathlib.Decide.{ℕ_discrete}
+use Rattle.lot_sync.specs.Lot.{PassView, HeldView, Owns, OwnsNone, HasSeen, leaving}
 use Rattle.lot_sync.specs.Values.{Gets}
-use Rattle.lot_sync.specs.Holding.{Holding}
+use Rattle.lot_sync.specs.Holding.{Holding, HoldingBoth}
 
 module _ {V Part : Type 0} (keeps : ℕ → V → Type 0) (grows : V → V → Type 0) (part : ℕ → V → Part) (itself : (x : V) → grows x x) where
+  -- all that the pass has seen of a lock that it got grows to the value
+  grown_newly : (before after : PassView V) (key : ℕ) (held : HeldView V) → Gets keeps grows part before key held after → (u : V) → HasSeen after held.key u → grows u held.value
+  grown_newly before after key held got u seen =
+      ⊎_elim (λ same. subst (λ x. grows x held.value) same.1 (itself held.value)) (λ other. absurd (other.0 got.key_is)) (at_set before.seen key held.key held.value u (subst (λ (p : PassView V). HasSeen p held.key u) got.after_is seen))
+
   -- what is got is held
   pub got_holds : (before after : PassView V) (key : ℕ) (held : HeldView V) → OwnsNone before → Gets keeps grows part before key held after → Holding grows after held
   got_holds before after key held none got = record {
     owns = subst (λ k. Owns after k) (sym got.key_is) got.owns;
     alone = λ k other owned. none k (sym (get_or-set_other before.owns key k true false (λ e. other (e ∙ sym got.key_is))) ∙ subst (λ (p : PassView V). Owns p k) got.after_is owned);
-    grown = λ u seen. ⊎_elim (λ same. subst (λ x. grows x held.value) same.1 (itself held.value)) (λ other. absurd (other.0 got.key_is)) (at_set before.seen key held.key held.value u (subst (λ (p : PassView V). HasSeen p held.key u) got.after_is seen));
+    grown = grown_newly before after key held got;
   }
 
   -- where nothing is got, the pass is as before
@@ -20,3 +27,33 @@ module _ {V Part : Type 0} (keeps : ℕ → V → Type 0) (grows : V → V → T
       MatchOption found (after ≡ before) (λ held. Gets keeps grows part before key held after) → MatchOption found (OwnsNone after) (λ held. (held.key ≡ key) × Holding grows after held)
   tried_holds before after key None none same = subst OwnsNone (sym same) none
   tried_holds before after key (Some held) none got = (got.key_is, got_holds before after key held none got)
+
+  -- a second lock is got
+  pub got_both : (before after : PassView V) (first second : HeldView V) (key : ℕ) → key ≢ first.key → Holding grows before first → Gets keeps grows part before key second after → HoldingBoth grows after first second
+  got_both before after first second key two holds got = record {
+    two = λ e. two (sym got.key_is ∙ e);
+    owns_first = subst (λ (p : PassView V). Owns p first.key) (sym got.after_is) (get_or-set_other before.owns key first.key true false (λ e. two (sym e)) ∙ holds.owns);
+    owns_second = subst (λ k. Owns after k) (sym got.key_is) got.owns;
+    alone = λ k not_first not_second owned. holds.alone k not_first
+        (sym (get_or-set_other before.owns key k true false (λ e. not_second (e ∙ sym got.key_is))) ∙ subst (λ (p : PassView V). Owns p k) got.after_is owned);
+    grown_first = λ u seen. ⊎_elim (λ same. absurd (two (sym same.0))) (λ else. holds.grown u else.1) (at_set before.seen key first.key second.value u (subst (λ (p : PassView V). HasSeen p first.key u) got.after_is seen));
+    grown_second = grown_newly before after key second got;
+  }
+
+let_go_of : (owns : List Bool) (k : ℕ) → get_or (set owns k false) k false ≡ false
+let_go_of [] k = refl
+let_go_of (b ∷ owns) zero = refl
+let_go_of (b ∷ owns) (suc k) = let_go_of owns k
+
+not_both : (b : Bool) → b ≡ true → b ≡ false → ⊥
+not_both b e f = cc
+
+-- the first of two locks is let go, and the second is still held
+pub left_second : {V : Type 0} (grows : V → V → Type 0) (before after : PassView V) (first second : HeldView V) → HoldingBoth grows before first second → after ≡ leaving before first.key first.value → Holding grows after second
+left_second grows before after first second both left = record {
+  owns = subst (λ (p : PassView _). Owns p second.key) (sym left) (get_or-set_other before.owns first.key second.key false false both.two ∙ both.owns_second);
+  alone = λ k other owned. dite (ℕ_discrete k first.key)
+      (λ e. not_both (get_or (set before.owns first.key false) k false) (subst (λ (p : PassView _). Owns p k) left owned) (ap (λ j. get_or (set before.owns first.key false) j false) e ∙ let_go_of before.owns first.key))
+      (λ else. both.alone k else other (sym (get_or-set_other before.owns first.key k false false else) ∙ subst (λ (p : PassView _). Owns p k) left owned));
+  grown = λ u seen. ⊎_elim (λ same. absurd (both.two same.0)) (λ else. both.grown_second u else.1) (at_set before.seen first.key second.key first.value u (subst (λ (p : PassView _). HasSeen p second.key u) left seen));
+}

@@ -1,8 +1,11 @@
--- Elements that move from the end of one list to the end of another.
-use Rattle.std.proofs.Common.{◌≡◌, ℕ, ◌<◌, zero, suc, List, [], ◌∷◌, ◌++◌, length, map, slice_get, Some, reverse, append_assoc, refl, sym, ap, subst, ◌∙◌, inl, inr, arith}
+-- Elements that move from the end of one list to the end of another, and passes that are gathered.
+use Rattle.std.proofs.Common.{◌≡◌, ℕ, ◌<◌, zero, suc, List, [], ◌∷◌, ◌++◌, length, map, ◌+◌, slice_get, Some, reverse, append_assoc, refl, sym, ap, subst, ◌∙◌, ◌⊎◌, inl, inr, arith}
 use Rattle.std.proofs.lemmas.List.{reverse-append, map-append}
+use mathlib.Core.Logic.{dite}
+use native.Mathlib.Decide.{ℕ_discrete}
 use Rattle.lot_words.specs.Closing.{AllOf, SomeOf}
 use Rattle.lot_words.proofs.Gathers.{all_snoc}
+use Rattle.lot_sync.specs.Lot.{PassView}
 
 pub moves_on : {A : Type 0} (xs xs' : List A) (x : A) (ys all : List A) → xs ≡ xs' ++ x ∷ [] → xs ++ reverse ys ≡ all → xs' ++ reverse (ys ++ x ∷ []) ≡ all
 moves_on xs xs' x ys all e h =
@@ -39,3 +42,17 @@ module _ {A B : Type 0} (f : A → B) where
   pub map_turned : (xs : List A) → map f (reverse xs) ≡ reverse (map f xs)
   map_turned [] = refl
   map_turned (x ∷ xs) = ap (map f) (reverse-append (x ∷ []) xs) ∙ (map-append f (reverse xs) (x ∷ []) ∙ (ap (λ ys. ys ++ f x ∷ []) (map_turned xs) ∙ sym (reverse-append (f x ∷ []) (map f xs))))
+
+some_snoc : {A : Type 0} (P : A → Type 0) (xs : List A) (x : A) → SomeOf P xs ⊎ P x → SomeOf P (xs ++ x ∷ [])
+some_snoc P [] x (inl h) = absurd h
+some_snoc P [] x (inr h) = inl h
+some_snoc P (y ∷ xs) x (inl (inl h)) = inl h
+some_snoc P (y ∷ xs) x (inl (inr h)) = inr (some_snoc P xs x (inl h))
+some_snoc P (y ∷ xs) x (inr h) = inr (some_snoc P xs x (inr h))
+
+-- one pass more is there
+pub all_threads : {V : Type 0} (xs : List (PassView V)) (x : PassView V) (n : ℕ) → x.thread ≡ n → ((t : ℕ) → t < n → SomeOf (λ (p : PassView V). p.thread ≡ t) xs)
+    → (t : ℕ) → t < n + 1 → SomeOf (λ (p : PassView V). p.thread ≡ t) (xs ++ x ∷ [])
+all_threads xs x n is before t near = dite (ℕ_discrete t n)
+    (λ e. some_snoc (λ p. p.thread ≡ t) xs x (inr (is ∙ sym e)))
+    (λ else. some_snoc (λ p. p.thread ≡ t) xs x (inl (before t (omega arith))))

@@ -1,8 +1,30 @@
--- A pass that owns one lock, with the value that it may give back.
-use Rattle.std.specs.Prelude.{◌≢◌, ℕ}
-use Rattle.lot_sync.specs.Lot.{PassView, HeldView, Owns, HasSeen}
+-- What tests have of a pass: that it owns one lock, or two, with values that it may give back, or that it tries to get one.
+use Rattle.std.specs.Prelude.{◌≡◌, ◌≢◌, ℕ, List}
+use Rattle.lot_words.specs.Shown.{PassShown}
+use Rattle.atomic_table.specs.Seated.{TableId}
+use Rattle.lot_sync.specs.Lot.{PassView, HeldView, Owns, OwnsNone, HasSeen}
+use Rattle.lot_sync.specs.Passes.{IsAtRest, IsTryingFor, sees}
 
-pub record Holding {V : Type 0} (grows : V → V → Type 0) (pass : PassView V) (held : HeldView V) : Type 0 where
-  pub owns : Owns pass held.key
-  pub alone : (key : ℕ) → key ≢ held.key → ¬ Owns pass key
-  pub grown : (u : V) → HasSeen pass held.key u → grows u held.value
+module _ {V : Type 0} (grows : V → V → Type 0) where
+  -- it owns one lock
+  pub record Holding (pass : PassView V) (held : HeldView V) : Type 0 where
+    pub owns : Owns pass held.key
+    pub alone : (key : ℕ) → key ≢ held.key → ¬ Owns pass key
+    pub grown : (u : V) → HasSeen pass held.key u → grows u held.value
+
+  -- it owns two locks
+  pub record HoldingBoth (pass : PassView V) (first second : HeldView V) : Type 0 where
+    pub two : second.key ≢ first.key
+    pub owns_first : Owns pass first.key
+    pub owns_second : Owns pass second.key
+    pub alone : (key : ℕ) → key ≢ first.key → key ≢ second.key → ¬ Owns pass key
+    pub grown_first : (u : V) → HasSeen pass first.key u → grows u first.value
+    pub grown_second : (u : V) → HasSeen pass second.key u → grows u second.value
+
+  -- it owned nothing, and tries to get a lock
+  pub record Seeks (table : TableId) (opening : List V) (threads key : ℕ) (right : PassShown V) : Type 0 where
+    pub before : PassShown V
+    pub is_of : right.table ≡ table
+    pub rest : IsAtRest grows opening threads before
+    pub none : OwnsNone (sees before)
+    pub trying : IsTryingFor before key right

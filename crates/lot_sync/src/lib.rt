@@ -25,6 +25,8 @@ mod pool;
 mod register;
 pub mod released;
 mod scheme;
+#[cfg(test)]
+mod sleepers;
 mod start;
 mod steps;
 #[cfg(test)]

@@ -10,7 +10,7 @@ ghost use Rattle.lot_words.specs.Calls.{parked_root, Aims};
 use crate::held::Held;
 use crate::lot::{Lot, PARKED};
 use crate::pass::{LotName, Pass};
-use crate::scheme::{KeyRoot, LockScheme};
+use crate::scheme::{KeyRoot, LockScheme, NamedPass, Validated};
 use crate::steps::{HANDOFF, LockSteps};
 use lot_park::{Parked, ParkingLot};
 use lot_words::{Keeps, LockPass, Named};
@@ -19,6 +19,19 @@ use std::thread;
 
 /// How often one call of `lock` yields before it parks.
 const SPINS: u32 = 40;
+
+/// What a thread does that was queued, before it sleeps. No bucket is locked then.
+pub(crate) trait BeforeSleep {
+    fn run(&self);
+}
+
+/// `lock` goes to sleep at once.
+struct AtOnce;
+
+impl BeforeSleep for AtOnce {
+    #[inline(always)]
+    fn run(&self) {}
+}
 
 impl<V: Keeps + Send, N: LotName<V> + Send> Lot<V, N> {
     /// Gets the lock where nobody owns it, and else leaves all as it was. One read-modify-write of the lock's word.
@@ -45,18 +58,34 @@ impl<V: Keeps + Send, N: LotName<V> + Send> Lot<V, N> {
         requires free { ¬ Owns pass key }
         ensures { Gets V.keeps V.grows V.part pass key result.1 result.0 }
     {
+        self.lock_after(rt, pass, key, &AtOnce)
+    }
+
+    /// `lock` with an action before each sleep.
+    #[inline(always)]
+    pub(crate) fn lock_after<R: Wait, B: BeforeSleep>(
+        &self,
+        rt: &R,
+        pass: Pass<V, N>,
+        key: usize,
+        before: &B,
+    ) -> (Pass<V, N>, Held<V, N>)
+        requires key { key < self.now.locks }
+        requires free { ¬ Owns pass key }
+        ensures { Gets V.keeps V.grows V.part pass key result.1 result.0 }
+    {
         let (right, got) = self.take(pass.into_right(), key);
         if got {
             self.taken(right, key)
         } else {
-            let right = self.lock_slowly(rt, right, key);
+            let right = self.lock_slowly(rt, right, key, before);
             self.taken(right, key)
         }
     }
 
     /// Takes the lock where nobody owns it, and wants it otherwise.
     #[inline(always)]
-    fn take(&self, pass: LockPass<V>, key: usize) -> (LockPass<V>, bool)
+    pub(crate) fn take(&self, pass: LockPass<V>, key: usize) -> (LockPass<V>, bool)
         requires key { key < self.now.locks }
         requires named { pass.table ≡ N.opening.locks }
         requires calm { (pass.pass.asleep ≡ false) × Aims pass.pass key }
@@ -82,7 +111,7 @@ impl<V: Keeps + Send, N: LotName<V> + Send> Lot<V, N> {
 
     /// The owner takes the value out.
     #[inline(always)]
-    fn taken(&self, right: LockPass<V>, key: usize) -> (Pass<V, N>, Held<V, N>)
+    pub(crate) fn taken(&self, right: LockPass<V>, key: usize) -> (Pass<V, N>, Held<V, N>)
         requires key { key < self.now.locks }
         requires named { right.table ≡ N.opening.locks }
         requires owner { IsNewOwner V.grows N.values N.threads right key }
@@ -96,7 +125,13 @@ impl<V: Keeps + Send, N: LotName<V> + Send> Lot<V, N> {
     /// Gets a lock that was found held.
     #[cold]
     #[inline(never)]
-    fn lock_slowly<R: Wait>(&self, rt: &R, pass: LockPass<V>, key: usize) -> LockPass<V>
+    fn lock_slowly<R: Wait, B: BeforeSleep>(
+        &self,
+        rt: &R,
+        pass: LockPass<V>,
+        key: usize,
+        before: &B,
+    ) -> LockPass<V>
         requires key { key < self.now.locks }
         requires named { (pass.table ≡ N.opening.locks) × (pass.pass.thread < self.now.threads) }
         requires trying { (pass.pass.aim ≡ Some key) × (pass.pass.asleep ≡ false) }
@@ -105,7 +140,7 @@ impl<V: Keeps + Send, N: LotName<V> + Send> Lot<V, N> {
         let mut pass = pass;
         let mut spins = 0;
         for _ in rt.forever() {
-            let (waited, handed) = self.wait_for(rt, pass, key, &mut spins);
+            let (waited, handed) = self.wait_for(rt, pass, key, &mut spins, before);
             if handed {
                 return waited;
             }
@@ -120,12 +155,13 @@ impl<V: Keeps + Send, N: LotName<V> + Send> Lot<V, N> {
 
     /// Steps 2 to 4 of getting a lock that was found held: spin a while, mark the lock as parked, and sleep in its line.
     /// Answers whether the lock was handed over meanwhile; else the caller tries again.
-    fn wait_for<R: Wait>(
+    fn wait_for<R: Wait, B: BeforeSleep>(
         &self,
         rt: &R,
         pass: LockPass<V>,
         key: usize,
         spins: &mut u32,
+        before: &B,
     ) -> (LockPass<V>, bool)
         requires key { key < self.now.locks }
         requires named { (pass.table ≡ N.opening.locks) × (pass.pass.thread < self.now.threads) }
@@ -142,11 +178,11 @@ impl<V: Keeps + Send, N: LotName<V> + Send> Lot<V, N> {
             return (pass, false);
         }
         if is_parked {
-            return park(rt, &self.parking, words, pass, key);
+            return park(rt, &self.parking, words, pass, key, before);
         }
         let (pass, marked) = words.mark(pass, key);
         if marked {
-            park(rt, &self.parking, words, pass, key)
+            park(rt, &self.parking, words, pass, key, before)
         } else {
             (pass, false)
         }
@@ -154,12 +190,13 @@ impl<V: Keeps + Send, N: LotName<V> + Send> Lot<V, N> {
 }
 
 /// Sleeps in the line of the lock while it is held and parked, and answers whether the lock was handed over.
-fn park<V: Keeps + Send, N: LotName<V> + Send, W: LockSteps<V>, R: Wait>(
+pub(crate) fn park<V: Keeps + Send, N: LotName<V> + Send, W: LockSteps<V>, R: Wait, B: BeforeSleep>(
     rt: &R,
     parking: &ParkingLot<LockScheme<V, N>>,
     words: &W,
     pass: LockPass<V>,
     key: usize,
+    before: &B,
 ) -> (LockPass<V>, bool)
     requires words { W.table words.now ≡ N.opening.locks }
     requires named { (pass.table ≡ N.opening.locks) × (pass.pass.thread < parking.now.threads) }
@@ -171,12 +208,7 @@ fn park<V: Keeps + Send, N: LotName<V> + Send, W: LockSteps<V>, R: Wait>(
         Named::new(pass),
         key,
         (),
-        |x: (), pass: Named<LockPass<V>, N>, root: KeyRoot<V, N>| -> (
-            (),
-            Named<LockPass<V>, N>,
-            KeyRoot<V, N>,
-            bool,
-        )
+        |x: (), pass: NamedPass<V, N>, root: KeyRoot<V, N>| -> Validated<V, N>
             requires table { W.table words.now ≡ N.opening.locks }
             requires trying { (pass.pass.aim ≡ Some root.root.key) × (pass.pass.asleep ≡ false) }
             ensures pass { MatchBool result.3 (IsAsleepFor pass root.root.key result.1) (IsTryingFor pass root.root.key result.1) }
@@ -185,7 +217,10 @@ fn park<V: Keeps + Send, N: LotName<V> + Send, W: LockSteps<V>, R: Wait>(
             let (pass, root, queued) = words.queue(pass.into_inner(), root.into_root());
             (x, Named::new(pass), KeyRoot::new(root), queued)
         },
-        |x: ()| -> () { x },
+        |x: ()| -> () {
+            before.run();
+            x
+        },
     );
     match parked {
         Parked::Invalid => (pass.into_inner(), false),

@@ -56,6 +56,15 @@ impl<V, N: Name> KeyRoot<V, N> {
     }
 }
 
+/// A pass, as the parking lot sees it.
+pub(crate) type NamedPass<V, N> = Named<LockPass<V>, N>;
+
+/// What a parking's validation answers: the pass, the root, and whether the thread was queued.
+pub(crate) type Validated<V, N> = ((), NamedPass<V, N>, KeyRoot<V, N>, bool);
+
+/// What an unparking's callback answers: the pass, the root, and the token of the thread that was taken.
+pub(crate) type CalledBack<V, N> = (NamedPass<V, N>, KeyRoot<V, N>, Token);
+
 /// The lock words, as the parking lot sees them.
 pub(crate) struct LockScheme<V: Keeps, N: Name> {
     words: Named<LockWords<V>, N>,
@@ -104,13 +113,13 @@ impl<V: Keeps + Send, N: Name + Send> Scheme for LockScheme<V, N> {
 
     type Root = KeyRoot<V, N>;
 
-    type Pass = Named<LockPass<V>, N>;
+    type Pass = NamedPass<V, N>;
 
     ghost thread = { λ p. p.pass.thread };
 
     ghost collected = { λ p token q. Collected V.keeps V.grows V.part p token q };
 
-    fn thread_of(pass: &Named<LockPass<V>, N>) -> usize {
+    fn thread_of(pass: &NamedPass<V, N>) -> usize {
         pass.inner().thread()
     }
 
@@ -118,7 +127,7 @@ impl<V: Keeps + Send, N: Name + Send> Scheme for LockScheme<V, N> {
         KeyRoot::new(self.words.inner().post(root.into_root(), at, token.0))
     }
 
-    fn collect(&self, pass: Named<LockPass<V>, N>) -> (Named<LockPass<V>, N>, Option<Token>) {
+    fn collect(&self, pass: NamedPass<V, N>) -> (NamedPass<V, N>, Option<Token>) {
         let (pass, letter) = self.words.inner().collect(pass.into_inner());
         (Named::new(pass), letter.map(Token))
     }

@@ -1,8 +1,9 @@
-//! Worked rows of a lot of three threads and two locks, with the words that they leave.
+//! Worked rows of a lot, with the words that they leave.
 ghost use Rattle.std.specs.Prelude.{◌≡◌, ◌≤◌, ◌<◌, ℕ, MatchOption, length, vec_len, vec_capacity};
 ghost use Rattle.lot_sync.specs.Lot.{OwnsNone};
 ghost use Rattle.lot_sync.specs.Holding.{Holding};
 
+use crate::sleepers::{first_of_two_sleepers, invalid_parking, other_key_in_the_bucket};
 use crate::{Held, Lot, LotName, Moment, OpenFault, Opened, Pass, RegisterFault, Released};
 use lot_words::Keeps;
 use std::alloc::Global;
@@ -16,8 +17,8 @@ use std::thread::Threads;
 
 /// A count that never falls.
 #[derive(Clone, Copy)]
-struct Count {
-    n: u64,
+pub(crate) struct Count {
+    pub(crate) n: u64,
 }
 
 impl Keeps for Count {
@@ -37,12 +38,12 @@ impl Keeps for Count {
     ghost grows_on = { λ x y z p q. le_trans p q };
 }
 
-const THREADS: usize = 3;
+const LOCKS: usize = 13;
 
 /// How often a test asks before it fails.
 const ASKINGS: u64 = 10_000_000;
 
-fn enter<N: LotName<Count> + Send + Sync, T: Wait + Abort>(
+pub(crate) fn enter<N: LotName<Count> + Send + Sync, T: Wait + Abort>(
     rt: &T,
     lot: &Lot<Count, N>,
 ) -> Pass<Count, N>
@@ -55,7 +56,7 @@ fn enter<N: LotName<Count> + Send + Sync, T: Wait + Abort>(
 }
 
 /// `lock`, and what the test has of it.
-fn own<N: LotName<Count> + Send + Sync, T: Wait>(
+pub(crate) fn own<N: LotName<Count> + Send + Sync, T: Wait>(
     rt: &T,
     lot: &Lot<Count, N>,
     pass: Pass<Count, N>,
@@ -70,7 +71,7 @@ fn own<N: LotName<Count> + Send + Sync, T: Wait>(
 }
 
 /// `unlock` at a moment.
-fn release<N: LotName<Count> + Send + Sync, T: Wait>(
+pub(crate) fn release<N: LotName<Count> + Send + Sync, T: Wait>(
     rt: &T,
     lot: &Lot<Count, N>,
     pass: Pass<Count, N>,
@@ -124,14 +125,14 @@ fn free<N: LotName<Count> + Send + Sync>(
     lot.unlock_unparked(pass, held)
 }
 
-fn word<N: LotName<Count> + Send + Sync>(lot: &Lot<Count, N>, key: usize) -> u64
+pub(crate) fn word<N: LotName<Count> + Send + Sync>(lot: &Lot<Count, N>, key: usize) -> u64
     requires { key < lot.now.locks }
 {
     lot.words().bits(key)
 }
 
 /// Whether so many are in the line of the lock, asked a bounded number of times.
-fn in_line<N: LotName<Count> + Send + Sync, T: Wait>(
+pub(crate) fn in_line<N: LotName<Count> + Send + Sync, T: Wait>(
     rt: &T,
     lot: &Lot<Count, N>,
     key: usize,
@@ -149,7 +150,7 @@ fn in_line<N: LotName<Count> + Send + Sync, T: Wait>(
 }
 
 /// Whether the flag is raised, asked a bounded number of times.
-fn is_raised(flag: &AtomicU64) -> bool {
+pub(crate) fn is_raised(flag: &AtomicU64) -> bool {
     for _ in 0..ASKINGS {
         if flag.load(Ordering::SeqCst) != 0 {
             return true;
@@ -161,7 +162,7 @@ fn is_raised(flag: &AtomicU64) -> bool {
 
 /// How the first thread lets the lock go on which the second sleeps.
 #[derive(Clone, Copy, PartialEq, Eq)]
-enum Way {
+pub(crate) enum Way {
     /// By `unlock` at moment 5, when it is time to be fair.
     WhenFair,
     /// By `unlock_fairly` at moment 0.
@@ -170,21 +171,30 @@ enum Way {
     Barging,
 }
 
-enum Row {
+pub(crate) enum Row {
     TryLockAndUnlockUnparked,
     Quiet,
     Sleeper(Way),
     TwoOwners,
     Registration,
     Written,
+    FirstOfTwoSleepers,
+    OtherKeyInTheBucket,
+    InvalidParking,
 }
 
-fn on_lot<T: Threads + Wait + Sync + Abort>(rt: &T, alloc: Global, row: Row) {
-    let Ok(values) = vec![in alloc; Count { n: 7 }, Count { n: 7 }] else {
+/// Plays the row on a lot for so many threads.
+pub(crate) fn on_lot<T: Threads + Wait + Sync + Abort>(
+    rt: &T,
+    alloc: Global,
+    threads: usize,
+    row: Row,
+) {
+    let Ok(values) = vec![in alloc; Count { n: 7 }; LOCKS] else {
         panic!(rt; "no memory")
     };
-    match Lot::<Count, Brand>::open(alloc, THREADS, values, 0) {
-        Ok(opened) => play::<Brand, T>(rt, alloc, opened, row),
+    match Lot::<Count, Brand>::open(alloc, threads, values, 0) {
+        Ok(opened) => play::<Brand, T>(rt, alloc, threads, opened, row),
         Err(_) => panic!(rt; "not opened"),
     }
 }
@@ -193,19 +203,21 @@ fn on_lot<T: Threads + Wait + Sync + Abort>(rt: &T, alloc: Global, row: Row) {
 fn play<N: LotName<Count> + Send + Sync, T: Threads + Wait + Sync + Abort>(
     rt: &T,
     alloc: Global,
+    threads: usize,
     opened: Opened<Count>,
     row: Row,
 )
     requires names { (opened.table ≡ N.opening.locks) × (opened.threads ≡ N.threads) × (opened.values ≡ N.values) }
-    requires sizes { (opened.threads ≡ 3) × (length opened.values ≡ 2) }
+    requires sizes { (opened.threads ≡ threads) × (length opened.values ≡ 13) }
 {
-    let Ok(passes) = Vec::with_capacity(alloc, THREADS) else {
+    let Ok(passes) = Vec::with_capacity(alloc, threads) else {
         panic!(rt; "no memory")
     };
     match opened.start::<N>(alloc) {
         Ok(lot) => {
             play_row(rt, &lot, row);
-            end(rt, lot, passes);
+            let values = end(rt, lot, passes, threads);
+            assert_eq!(rt; values.len(), LOCKS);
         }
         Err(_) => panic!(rt; "not started"),
     }
@@ -216,7 +228,7 @@ fn play_row<N: LotName<Count> + Send + Sync, T: Threads + Wait + Sync + Abort>(
     lot: &Lot<Count, N>,
     row: Row,
 )
-    requires { lot.now.locks ≡ 2 }
+    requires { lot.now.locks ≡ 13 }
 {
     match row {
         Row::TryLockAndUnlockUnparked => try_and_unlock_unparked(rt, lot),
@@ -225,6 +237,9 @@ fn play_row<N: LotName<Count> + Send + Sync, T: Threads + Wait + Sync + Abort>(
         Row::TwoOwners => two_owners(rt, lot),
         Row::Registration => register_in_order(rt, lot),
         Row::Written => write_and_find(rt, lot),
+        Row::FirstOfTwoSleepers => first_of_two_sleepers(rt, lot),
+        Row::OtherKeyInTheBucket => other_key_in_the_bucket(rt, lot),
+        Row::InvalidParking => invalid_parking(rt, lot),
     }
 }
 
@@ -255,27 +270,29 @@ fn end<N: LotName<Count> + Send + Sync, T: Wait + Abort>(
     rt: &T,
     mut lot: Lot<Count, N>,
     mut passes: Vec<Pass<Count, N>>,
-)
-    requires sizes { (lot.threads ≡ 3) × (lot.locks ≡ 2) }
-    requires room { (vec_len passes ≡ 0) × (3 ≤ vec_capacity passes) }
+    threads: usize,
+) -> Vec<Count>
+    requires threads { lot.threads ≡ threads }
+    requires room { (vec_len passes ≡ 0) × (threads ≤ vec_capacity passes) }
 {
-    passes.push_reserved(next_left(rt, &mut lot, 0));
-    passes.push_reserved(next_left(rt, &mut lot, 1));
-    passes.push_reserved(next_left(rt, &mut lot, 2));
+    for thread in 0..threads {
+        let pass = next_left(rt, &mut lot, thread);
+        passes.push_reserved(pass);
+    }
     match lot.take_left(rt) {
         Some(_pass) => panic!(rt; "a pass was left twice"),
         None => {}
     }
     let (values, ledger) = lot.close(rt, passes);
-    assert_eq!(rt; values.len(), 2);
     assert!(rt; ledger.called.is_empty() && ledger.woken.is_empty());
+    values
 }
 
 fn try_and_unlock_unparked<N: LotName<Count> + Send + Sync, T: Wait + Abort>(
     rt: &T,
     lot: &Lot<Count, N>,
 )
-    requires { lot.now.locks ≡ 2 }
+    requires { lot.now.locks ≡ 13 }
 {
     let pass = enter(rt, lot);
     assert_eq!(rt; word(lot, 0), 0);
@@ -294,7 +311,7 @@ fn try_and_unlock_unparked<N: LotName<Count> + Send + Sync, T: Wait + Abort>(
 }
 
 fn quiet_row<N: LotName<Count> + Send + Sync, T: Wait + Abort>(rt: &T, lot: &Lot<Count, N>)
-    requires { lot.now.locks ≡ 2 }
+    requires { lot.now.locks ≡ 13 }
 {
     let zero = enter(rt, lot);
     let one = enter(rt, lot);
@@ -326,7 +343,7 @@ fn second<N: LotName<Count> + Send + Sync, T: Wait + Abort>(
     flags: &Flags,
     way: Way,
 )
-    requires { lot.now.locks ≡ 2 }
+    requires { lot.now.locks ≡ 13 }
 {
     let pass = enter(rt, lot);
     assert_eq!(rt; pass.thread(), 1);
@@ -352,18 +369,18 @@ fn beside_a_sleeper<N: LotName<Count> + Send + Sync, T: Threads + Wait + Sync + 
     flags: &Flags,
     way: Way,
 )
-    requires { lot.now.locks ≡ 2 }
+    requires { lot.now.locks ≡ 13 }
 {
     thread::scope(
         thread::scope_env(),
         rt,
         |scope|
-            requires { lot.now.locks ≡ 2 }
+            requires { lot.now.locks ≡ 13 }
         {
             let pass = enter(rt, lot);
             let (pass, held) = own(rt, lot, pass, 0);
             let job = move ||
-                requires { lot.now.locks ≡ 2 }
+                requires { lot.now.locks ≡ 13 }
             { second(rt, lot, flags, way) };
             assert!(rt; scope.spawn(job).is_ok());
             assert!(rt; in_line(rt, lot, 0, 1));
@@ -381,7 +398,7 @@ fn let_go<N: LotName<Count> + Send + Sync, T: Wait + Abort>(
     pass: Pass<Count, N>,
     held: Held<Count, N>,
 )
-    requires key { (held.key < lot.now.locks) × (lot.now.locks ≡ 2) }
+    requires key { (held.key < lot.now.locks) × (lot.now.locks ≡ 13) }
     requires holding { Holding (λ x y. x.n ≤ y.n) pass held }
 {
     assert_eq!(rt; word(lot, 0), 3);
@@ -412,7 +429,7 @@ fn sleeper_row<N: LotName<Count> + Send + Sync, T: Threads + Wait + Sync + Abort
     lot: &Lot<Count, N>,
     way: Way,
 )
-    requires { lot.now.locks ≡ 2 }
+    requires { lot.now.locks ≡ 13 }
 {
     let flags = Flags {
         owns: AtomicU64::new(0),
@@ -446,16 +463,16 @@ fn side_by_side<N: LotName<Count> + Send + Sync, T: Threads + Wait + Sync + Abor
     zero: &AtomicU64,
     one: &AtomicU64,
 )
-    requires { lot.now.locks ≡ 2 }
+    requires { lot.now.locks ≡ 13 }
 {
     thread::scope(
         thread::scope_env(),
         rt,
         |scope|
-            requires { lot.now.locks ≡ 2 }
+            requires { lot.now.locks ≡ 13 }
         {
             let job = move ||
-                requires { lot.now.locks ≡ 2 }
+                requires { lot.now.locks ≡ 13 }
             { meet(rt, lot, 1, one, zero) };
             assert!(rt; scope.spawn(job).is_ok());
             meet(rt, lot, 0, zero, one);
@@ -467,7 +484,7 @@ fn two_owners<N: LotName<Count> + Send + Sync, T: Threads + Wait + Sync + Abort>
     rt: &T,
     lot: &Lot<Count, N>,
 )
-    requires { lot.now.locks ≡ 2 }
+    requires { lot.now.locks ≡ 13 }
 {
     let zero = AtomicU64::new(0);
     let one = AtomicU64::new(0);
@@ -496,7 +513,7 @@ fn register_in_order<N: LotName<Count> + Send + Sync, T: Wait + Abort>(
 }
 
 fn write_and_find<N: LotName<Count> + Send + Sync, T: Wait + Abort>(rt: &T, lot: &Lot<Count, N>)
-    requires { lot.now.locks ≡ 2 }
+    requires { lot.now.locks ≡ 13 }
 {
     let zero = enter(rt, lot);
     let one = enter(rt, lot);
@@ -515,7 +532,7 @@ fn add<N: LotName<Count> + Send + Sync, T: Wait + Abort>(
     pass: Pass<Count, N>,
     want: u64,
 ) -> Pass<Count, N>
-    requires two { lot.now.locks ≡ 2 }
+    requires two { lot.now.locks ≡ 13 }
     requires free { OwnsNone pass }
     ensures { OwnsNone result }
 {
@@ -530,42 +547,57 @@ fn add<N: LotName<Count> + Send + Sync, T: Wait + Abort>(
 
 #[test]
 fn try_lock_and_unlock_unparked_succeed(rt: HostRuntime) {
-    on_lot(&rt, rt.alloc(), Row::TryLockAndUnlockUnparked);
+    on_lot(&rt, rt.alloc(), 3, Row::TryLockAndUnlockUnparked);
 }
 
 #[test]
 fn quiet(rt: HostRuntime) {
-    on_lot(&rt, rt.alloc(), Row::Quiet);
+    on_lot(&rt, rt.alloc(), 3, Row::Quiet);
 }
 
 #[test]
 fn handoff_to_a_sleeper(rt: HostRuntime) {
-    on_lot(&rt, rt.alloc(), Row::Sleeper(Way::WhenFair));
+    on_lot(&rt, rt.alloc(), 3, Row::Sleeper(Way::WhenFair));
 }
 
 #[test]
 fn a_fair_unlock_hands_over_at_any_moment(rt: HostRuntime) {
-    on_lot(&rt, rt.alloc(), Row::Sleeper(Way::Fairly));
+    on_lot(&rt, rt.alloc(), 3, Row::Sleeper(Way::Fairly));
 }
 
 #[test]
 fn a_barging_opportunity_wakes(rt: HostRuntime) {
-    on_lot(&rt, rt.alloc(), Row::Sleeper(Way::Barging));
+    on_lot(&rt, rt.alloc(), 3, Row::Sleeper(Way::Barging));
+}
+
+#[test]
+fn the_first_of_two_sleepers_is_taken(rt: HostRuntime) {
+    on_lot(&rt, rt.alloc(), 4, Row::FirstOfTwoSleepers);
+}
+
+#[test]
+fn other_key_in_the_bucket_keeps_parked(rt: HostRuntime) {
+    on_lot(&rt, rt.alloc(), 3, Row::OtherKeyInTheBucket);
+}
+
+#[test]
+fn a_late_parking_is_invalid(rt: HostRuntime) {
+    on_lot(&rt, rt.alloc(), 3, Row::InvalidParking);
 }
 
 #[test]
 fn two_owners_run_at_once(rt: HostRuntime) {
-    on_lot(&rt, rt.alloc(), Row::TwoOwners);
+    on_lot(&rt, rt.alloc(), 3, Row::TwoOwners);
 }
 
 #[test]
 fn passes_are_given_least_number_first(rt: HostRuntime) {
-    on_lot(&rt, rt.alloc(), Row::Registration);
+    on_lot(&rt, rt.alloc(), 3, Row::Registration);
 }
 
 #[test]
 fn a_written_value_is_found(rt: HostRuntime) {
-    on_lot(&rt, rt.alloc(), Row::Written);
+    on_lot(&rt, rt.alloc(), 3, Row::Written);
 }
 
 const REFUSED: [(usize, usize, usize, OpenFault); 3] = [
@@ -605,4 +637,51 @@ fn a_refused_open_gives_the_values_back_in_order(rt: HostRuntime) {
             assert_eq!(rt; values[1].n, 8);
         }
     }
+}
+
+/// Starts a lot for one thread and closes it, or closes what could not be started.
+fn started_and_closed<N: LotName<Count> + Send + Sync, T: Wait + Abort>(
+    rt: &T,
+    alloc: Global,
+    opened: Opened<Count>,
+) -> Vec<Count>
+    requires names { (opened.table ≡ N.opening.locks) × (opened.threads ≡ N.threads) × (opened.values ≡ N.values) }
+    requires one { opened.threads ≡ 1 }
+{
+    let Ok(passes) = Vec::with_capacity(alloc, 1) else {
+        return opened.close();
+    };
+    match opened.start::<N>(alloc) {
+        Ok(lot) => end(rt, lot, passes, 1),
+        Err((fault, values)) => {
+            passes.destroy_empty();
+            assert_eq!(rt; fault, OpenFault::NoMemory);
+            values
+        }
+    }
+}
+
+fn opened_and_closed<T: Wait + Abort>(rt: &T, alloc: Global, values: Vec<Count>) -> Vec<Count>
+    requires { (vec_len values ≡ 2) }
+{
+    match Lot::<Count, Brand>::open(alloc, 1, values, 0) {
+        Ok(opened) => started_and_closed::<Brand, T>(rt, alloc, opened),
+        Err((fault, values)) => {
+            assert_eq!(rt; fault, OpenFault::NoMemory);
+            values
+        }
+    }
+}
+
+// Where a request for memory is refused, the values come back from `open` or from `start`.
+#[test]
+fn all_values_come_back_in_order(rt: HostRuntime) {
+    let Ok(mut values) = vec![in rt.alloc(); Count { n: 7 }; 2] else {
+        return;
+    };
+    values[1] = Count { n: 8 };
+    let values = opened_and_closed(&rt, rt.alloc(), values);
+    assert_eq!(rt; values.len(), 2);
+    assert_eq!(rt; values[0].n, 7);
+    assert_eq!(rt; values[1].n, 8);
 }

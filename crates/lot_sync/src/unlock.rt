@@ -13,7 +13,7 @@ use crate::held::Held;
 use crate::lot::Lot;
 use crate::pass::{LotName, Pass};
 use crate::released::Released;
-use crate::scheme::{KeyRoot, LockScheme};
+use crate::scheme::{CalledBack, KeyRoot, LockScheme, NamedPass};
 use crate::steps::LockSteps;
 use lot_park::{Moment, ParkingLot, Token, UnparkResult};
 use lot_words::{Keeps, LockPass, Named};
@@ -193,11 +193,9 @@ fn unpark<V: Keeps + Send, N: LotName<V> + Send, W: LockSteps<V>, R: Wait>(
     moment: Moment,
     fair: bool,
 ) -> (LockPass<V>, UnparkResult)
-    requires words { W.table words.now ≡ N.opening.locks }
-    requires named { right.table ≡ N.opening.locks }
+    requires named { (W.table words.now ≡ N.opening.locks) × (right.table ≡ N.opening.locks) }
     requires calm { (right.pass.aim ≡ None) × (right.pass.asleep ≡ false) }
-    requires parked { HoldsParked right.pass key }
-    requires lies { (y : V) × IsIn right.values key y }
+    requires parked { HoldsParked right.pass key × ((y : V) × IsIn right.values key y) }
     ensures went { LetsGo right key result.0 }
     ensures told { (line : List ℕ) × Tells line moment.now result.1 }
 {
@@ -206,11 +204,7 @@ fn unpark<V: Keeps + Send, N: LotName<V> + Send, W: LockSteps<V>, R: Wait>(
         key,
         moment,
         Named::new(right),
-        |pass: Named<LockPass<V>, N>, root: KeyRoot<V, N>, told: UnparkResult| -> (
-            Named<LockPass<V>, N>,
-            KeyRoot<V, N>,
-            Token,
-        )
+        |pass: NamedPass<V, N>, root: KeyRoot<V, N>, told: UnparkResult| -> CalledBack<V, N>
             requires table { W.table words.now ≡ N.opening.locks }
             requires calm { (pass.pass.aim ≡ None) × (pass.pass.asleep ≡ false) }
             requires parked { HoldsParked pass.pass root.root.key }
@@ -222,12 +216,8 @@ fn unpark<V: Keeps + Send, N: LotName<V> + Send, W: LockSteps<V>, R: Wait>(
             ensures line { result.1.root.line ≡ drop 1 root.root.line }
             ensures owes { debts_of result.1.root.owes ≡ debt told.thread result.2.0 }
         {
-            let (pass, root, token) = words.hand_over(
-                pass.into_inner(),
-                root.into_root(),
-                told,
-                fair,
-            );
+            let (pass, root) = (pass.into_inner(), root.into_root());
+            let (pass, root, token) = words.hand_over(pass, root, told, fair);
             (Named::new(pass), KeyRoot::new(root), token)
         },
     );

@@ -1,6 +1,6 @@
 use Rattle.std.proofs.Common.{◌<◌, subst}
 use Rattle.lot_sync.proofs.Rests.{owns_newly, owns_on, gets_all, gets_as}
-use Rattle.lot_sync.proofs.lot.Lot.lock.Goals as goal
+use Rattle.lot_sync.proofs.lot.Lot.lock_after.Goals as goal
 
 pub taken-requires-clause-owner : goal.taken-requires-clause-owner
 taken-requires-clause-owner g c κs within =

@@ -1,0 +1,429 @@
+//! Rows with a thread that is held before it looks for its letter, and of a parking that comes too late.
+ghost use Rattle.std.specs.Prelude.{◌≡◌, ◌≤◌, ◌<◌, ◌≢◌, ℕ};
+ghost use Rattle.lot_sync.specs.Lot.{OwnsNone};
+ghost use Rattle.lot_sync.specs.Holding.{Holding, HoldingBoth, Seeks};
+
+use crate::lock::{BeforeSleep, park};
+use crate::tests::{Count, enter, in_line, is_raised, own, release, word};
+use crate::{Held, Lot, LotName, Moment, Pass, Released};
+use lot_words::LockPass;
+use std::process::Abort;
+use std::sync::Wait;
+use std::sync::atomic::{AtomicU64, Ordering};
+use std::thread;
+use std::thread::Threads;
+
+/// A thread waits here, queued, until the gate is open.
+#[derive(Drop)]
+struct AtGate<'a, T> {
+    rt: &'a T,
+    gate: &'a AtomicU64,
+}
+
+impl<T: Wait + Abort> BeforeSleep for AtGate<'_, T> {
+    fn run(&self) {
+        assert!(self.rt; is_raised(self.gate));
+    }
+}
+
+/// A thread fails here: it was queued where it should not be.
+#[derive(Drop)]
+struct Never<'a, T> {
+    rt: &'a T,
+}
+
+impl<T: Wait + Abort> BeforeSleep for Never<'_, T> {
+    fn run(&self) {
+        panic!(self.rt; "a thread sleeps on a lock that is not parked")
+    }
+}
+
+/// `lock` of a thread that looks for its letter only after the gate was opened, and what the test has of it.
+fn own_at_gate<N: LotName<Count> + Send + Sync, T: Wait + Abort>(
+    rt: &T,
+    lot: &Lot<Count, N>,
+    pass: Pass<Count, N>,
+    key: usize,
+    gate: &AtomicU64,
+) -> (Pass<Count, N>, Held<Count, N>)
+    requires key { key < lot.now.locks }
+    requires free { OwnsNone pass }
+    ensures key { result.1.key ≡ key }
+    ensures holding { Holding (λ x y. x.n ≤ y.n) result.0 result.1 }
+{
+    lot.lock_after(rt, pass, key, &AtGate { rt, gate })
+}
+
+#[derive(Drop)]
+struct Flags {
+    /// Raised when the first sleeper may look for its letter.
+    gate: AtomicU64,
+    /// Raised when the second sleeper has owned its lock.
+    second: AtomicU64,
+    /// Raised when the first sleeper has let its lock go.
+    first: AtomicU64,
+}
+
+impl Flags {
+    fn new() -> Flags {
+        Flags {
+            gate: AtomicU64::new(0),
+            second: AtomicU64::new(0),
+            first: AtomicU64::new(0),
+        }
+    }
+}
+
+/// The first to sleep on lock 0. It is behind the second when it gets the lock.
+fn first_sleeper<N: LotName<Count> + Send + Sync, T: Wait + Abort>(
+    rt: &T,
+    lot: &Lot<Count, N>,
+    flags: &Flags,
+)
+    requires { lot.now.locks ≡ 13 }
+{
+    let pass = enter(rt, lot);
+    assert_eq!(rt; pass.thread(), 1);
+    let (pass, held) = own_at_gate(rt, lot, pass, 0, &flags.gate);
+    assert_eq!(rt; flags.second.load(Ordering::SeqCst), 1);
+    let (pass, released) = release(rt, lot, pass, held, 0);
+    assert_eq!(rt; released, Released::Quiet);
+    lot.leave(rt, pass);
+}
+
+/// The second to sleep on lock 0.
+fn second_sleeper<N: LotName<Count> + Send + Sync, T: Wait + Abort>(
+    rt: &T,
+    lot: &Lot<Count, N>,
+    flags: &Flags,
+)
+    requires { lot.now.locks ≡ 13 }
+{
+    let pass = enter(rt, lot);
+    assert_eq!(rt; pass.thread(), 2);
+    let (pass, held) = own(rt, lot, pass, 0);
+    flags.second.store(1, Ordering::SeqCst);
+    let (pass, released) = release(rt, lot, pass, held, 0);
+    assert_eq!(rt; released, Released::Woke);
+    lot.leave(rt, pass);
+}
+
+/// Two threads sleep on lock 0: the first is taken from the line, and a fourth thread gets the lock before it.
+pub(crate) fn first_of_two_sleepers<
+    N: LotName<Count> + Send + Sync,
+    T: Threads + Wait + Sync + Abort,
+>(rt: &T, lot: &Lot<Count, N>)
+    requires { lot.now.locks ≡ 13 }
+{
+    let flags = Flags::new();
+    two_sleepers(rt, lot, &flags);
+}
+
+fn two_sleepers<N: LotName<Count> + Send + Sync, T: Threads + Wait + Sync + Abort>(
+    rt: &T,
+    lot: &Lot<Count, N>,
+    flags: &Flags,
+)
+    requires { lot.now.locks ≡ 13 }
+{
+    thread::scope(
+        thread::scope_env(),
+        rt,
+        |scope|
+            requires { lot.now.locks ≡ 13 }
+        {
+            let pass = enter(rt, lot);
+            let (pass, held) = own(rt, lot, pass, 0);
+            let first = move ||
+                requires { lot.now.locks ≡ 13 }
+            { first_sleeper(rt, lot, flags) };
+            assert!(rt; scope.spawn(first).is_ok());
+            assert!(rt; in_line(rt, lot, 0, 1));
+            let second = move ||
+                requires { lot.now.locks ≡ 13 }
+            { second_sleeper(rt, lot, flags) };
+            assert!(rt; scope.spawn(second).is_ok());
+            assert!(rt; in_line(rt, lot, 0, 2));
+            barge(rt, lot, flags, pass, held);
+        },
+    );
+}
+
+/// The first sleeper is taken from the line, and another thread gets the lock meanwhile.
+fn barge<N: LotName<Count> + Send + Sync, T: Wait + Abort>(
+    rt: &T,
+    lot: &Lot<Count, N>,
+    flags: &Flags,
+    pass: Pass<Count, N>,
+    held: Held<Count, N>,
+)
+    requires key { (held.key < lot.now.locks) × (lot.now.locks ≡ 13) }
+    requires holding { Holding (λ x y. x.n ≤ y.n) pass held }
+{
+    let (pass, released) = release(rt, lot, pass, held, 0);
+    assert_eq!(rt; released, Released::Woke);
+    assert_eq!(rt; word(lot, 0), 2);
+    assert_eq!(rt; lot.line_length(rt, 0), 1);
+    let barger = enter(rt, lot);
+    assert_eq!(rt; barger.thread(), 3);
+    let (barger, held) = own(rt, lot, barger, 0);
+    assert_eq!(rt; word(lot, 0), 3);
+    flags.gate.store(1, Ordering::SeqCst);
+    assert!(rt; in_line(rt, lot, 0, 2));
+    let (barger, released) = release(rt, lot, barger, held, 0);
+    assert_eq!(rt; released, Released::Woke);
+    lot.leave(rt, barger);
+    lot.leave(rt, pass);
+}
+
+/// Gets locks 0 and 12.
+fn own_both<N: LotName<Count> + Send + Sync, T: Wait>(
+    rt: &T,
+    lot: &Lot<Count, N>,
+    pass: Pass<Count, N>,
+) -> (Pass<Count, N>, Held<Count, N>, Held<Count, N>)
+    requires locks { lot.now.locks ≡ 13 }
+    requires free { OwnsNone pass }
+    ensures keys { (result.1.key ≡ 0) × (result.2.key ≡ 12) }
+    ensures both { HoldingBoth (λ x y. x.n ≤ y.n) result.0 result.1 result.2 }
+{
+    let (pass, zero) = own(rt, lot, pass, 0);
+    let (pass, twelve) = lot.lock(rt, pass, 12);
+    (pass, zero, twelve)
+}
+
+/// Lets the first of two locks go at moment 0.
+fn release_first<N: LotName<Count> + Send + Sync, T: Wait>(
+    rt: &T,
+    lot: &Lot<Count, N>,
+    pass: Pass<Count, N>,
+    first: Held<Count, N>,
+    second: Held<Count, N>,
+) -> (Pass<Count, N>, Held<Count, N>, Released)
+    requires key { first.key < lot.now.locks }
+    requires both { HoldingBoth (λ x y. x.n ≤ y.n) pass first second }
+    ensures same { result.1 ≡ second }
+    ensures holding { Holding (λ x y. x.n ≤ y.n) result.0 result.1 }
+{
+    let (pass, released) = lot.unlock(rt, pass, first, Moment { now: 0, word: 7 });
+    (pass, second, released)
+}
+
+/// The sleeper on lock 0, which finds its letter after the gate was opened.
+fn sleeper_on_zero<N: LotName<Count> + Send + Sync, T: Wait + Abort>(
+    rt: &T,
+    lot: &Lot<Count, N>,
+    flags: &Flags,
+)
+    requires { lot.now.locks ≡ 13 }
+{
+    let pass = enter(rt, lot);
+    assert_eq!(rt; pass.thread(), 1);
+    let (pass, held) = own_at_gate(rt, lot, pass, 0, &flags.gate);
+    assert_eq!(rt; word(lot, 0), 3);
+    let (pass, released) = release(rt, lot, pass, held, 0);
+    assert_eq!(rt; released, Released::Nobody);
+    assert_eq!(rt; word(lot, 0), 0);
+    flags.first.store(1, Ordering::SeqCst);
+    lot.leave(rt, pass);
+}
+
+/// The sleeper on lock 12.
+fn sleeper_on_twelve<N: LotName<Count> + Send + Sync, T: Wait + Abort>(rt: &T, lot: &Lot<Count, N>)
+    requires { lot.now.locks ≡ 13 }
+{
+    let pass = enter(rt, lot);
+    assert_eq!(rt; pass.thread(), 2);
+    let (pass, held) = own(rt, lot, pass, 12);
+    let (pass, released) = release(rt, lot, pass, held, 0);
+    assert_eq!(rt; released, Released::Quiet);
+    assert_eq!(rt; word(lot, 12), 0);
+    lot.leave(rt, pass);
+}
+
+/// A thread that sleeps on another lock of the bucket keeps the parked bit of a lock whose line is empty.
+pub(crate) fn other_key_in_the_bucket<
+    N: LotName<Count> + Send + Sync,
+    T: Threads + Wait + Sync + Abort,
+>(rt: &T, lot: &Lot<Count, N>)
+    requires { lot.now.locks ≡ 13 }
+{
+    let flags = Flags::new();
+    sleepers_on_both(rt, lot, &flags);
+}
+
+fn sleepers_on_both<N: LotName<Count> + Send + Sync, T: Threads + Wait + Sync + Abort>(
+    rt: &T,
+    lot: &Lot<Count, N>,
+    flags: &Flags,
+)
+    requires { lot.now.locks ≡ 13 }
+{
+    thread::scope(
+        thread::scope_env(),
+        rt,
+        |scope|
+            requires { lot.now.locks ≡ 13 }
+        {
+            let pass = enter(rt, lot);
+            let (pass, zero, twelve) = own_both(rt, lot, pass);
+            let first = move ||
+                requires { lot.now.locks ≡ 13 }
+            { sleeper_on_zero(rt, lot, flags) };
+            assert!(rt; scope.spawn(first).is_ok());
+            assert!(rt; in_line(rt, lot, 0, 1));
+            let second = move ||
+                requires { lot.now.locks ≡ 13 }
+            { sleeper_on_twelve(rt, lot) };
+            assert!(rt; scope.spawn(second).is_ok());
+            assert!(rt; in_line(rt, lot, 12, 1));
+            let (pass, twelve, released) = release_first(rt, lot, pass, zero, twelve);
+            assert_eq!(rt; released, Released::Woke);
+            let_both_go(rt, lot, flags, pass, twelve);
+        },
+    );
+}
+
+/// Lock 0 was let go, and its sleeper was taken.
+fn let_both_go<N: LotName<Count> + Send + Sync, T: Wait + Abort>(
+    rt: &T,
+    lot: &Lot<Count, N>,
+    flags: &Flags,
+    pass: Pass<Count, N>,
+    held: Held<Count, N>,
+)
+    requires key { (held.key < lot.now.locks) × (lot.now.locks ≡ 13) }
+    requires holding { Holding (λ x y. x.n ≤ y.n) pass held }
+{
+    assert_eq!(rt; word(lot, 0), 2);
+    assert_eq!(rt; lot.line_length(rt, 0), 0);
+    flags.gate.store(1, Ordering::SeqCst);
+    assert!(rt; is_raised(&flags.first));
+    assert_eq!(rt; lot.line_length(rt, 12), 1);
+    let (pass, released) = release(rt, lot, pass, held, 0);
+    assert_eq!(rt; released, Released::Woke);
+    lot.leave(rt, pass);
+}
+
+/// A pass that owns nothing finds the lock held, and wants it from now on.
+fn seek<N: LotName<Count> + Send + Sync, T: Wait + Abort>(
+    rt: &T,
+    lot: &Lot<Count, N>,
+    pass: Pass<Count, N>,
+    key: usize,
+) -> LockPass<Count>
+    requires key { key < lot.now.locks }
+    requires free { OwnsNone pass }
+    ensures { Seeks (λ x y. x.n ≤ y.n) N.opening.locks N.values N.threads key result }
+{
+    let (right, got) = lot.take(pass.into_right(), key);
+    if got {
+        panic!(rt; "a held lock was got")
+    }
+    right
+}
+
+/// It finds the lock held again.
+fn seek_again<N: LotName<Count> + Send + Sync, T: Wait + Abort>(
+    rt: &T,
+    lot: &Lot<Count, N>,
+    right: LockPass<Count>,
+    key: usize,
+) -> LockPass<Count>
+    requires key { key < lot.now.locks }
+    requires seeks { Seeks (λ x y. x.n ≤ y.n) N.opening.locks N.values N.threads key right }
+    ensures { Seeks (λ x y. x.n ≤ y.n) N.opening.locks N.values N.threads key result }
+{
+    let (right, got) = lot.take(right, key);
+    if got {
+        panic!(rt; "a held lock was got")
+    }
+    right
+}
+
+/// It marks the lock as parked.
+fn mark<N: LotName<Count> + Send + Sync, T: Wait + Abort>(
+    rt: &T,
+    lot: &Lot<Count, N>,
+    right: LockPass<Count>,
+    key: usize,
+) -> LockPass<Count>
+    requires key { key < lot.now.locks }
+    requires seeks { Seeks (λ x y. x.n ≤ y.n) N.opening.locks N.values N.threads key right }
+    ensures { Seeks (λ x y. x.n ≤ y.n) N.opening.locks N.values N.threads key result }
+{
+    let (right, marked) = lot.words().mark(right, key);
+    assert!(rt; marked);
+    right
+}
+
+/// Its parking comes too late.
+fn park_in_vain<N: LotName<Count> + Send + Sync, T: Wait + Abort>(
+    rt: &T,
+    lot: &Lot<Count, N>,
+    right: LockPass<Count>,
+    key: usize,
+) -> LockPass<Count>
+    requires key { key < lot.now.locks }
+    requires seeks { Seeks (λ x y. x.n ≤ y.n) N.opening.locks N.values N.threads key right }
+    ensures { Seeks (λ x y. x.n ≤ y.n) N.opening.locks N.values N.threads key result }
+{
+    let (right, handed) = park(rt, &lot.parking, lot.words(), right, key, &Never { rt });
+    if handed {
+        panic!(rt; "a lock was handed to a thread that was not queued")
+    }
+    right
+}
+
+/// It gets the lock.
+fn get<N: LotName<Count> + Send + Sync, T: Wait + Abort>(
+    rt: &T,
+    lot: &Lot<Count, N>,
+    right: LockPass<Count>,
+    key: usize,
+) -> (Pass<Count, N>, Held<Count, N>)
+    requires key { key < lot.now.locks }
+    requires seeks { Seeks (λ x y. x.n ≤ y.n) N.opening.locks N.values N.threads key right }
+    ensures key { result.1.key ≡ key }
+    ensures holding { Holding (λ x y. x.n ≤ y.n) result.0 result.1 }
+{
+    let (right, got) = lot.take(right, key);
+    if got {
+        lot.taken(right, key)
+    } else {
+        panic!(rt; "a free lock was not got")
+    }
+}
+
+/// The lock was marked, let go and got by another thread before the parking: it is `Invalid`, the line is as before, and the
+/// thread goes on trying.
+pub(crate) fn invalid_parking<N: LotName<Count> + Send + Sync, T: Wait + Abort>(
+    rt: &T,
+    lot: &Lot<Count, N>,
+)
+    requires { lot.now.locks ≡ 13 }
+{
+    let zero = enter(rt, lot);
+    let one = enter(rt, lot);
+    let two = enter(rt, lot);
+    let (zero, held) = own(rt, lot, zero, 0);
+    let one = seek(rt, lot, one, 0);
+    let one = mark(rt, lot, one, 0);
+    assert_eq!(rt; word(lot, 0), 3);
+    let (zero, released) = release(rt, lot, zero, held, 0);
+    assert_eq!(rt; released, Released::Nobody);
+    let (two, held) = own(rt, lot, two, 0);
+    assert_eq!(rt; word(lot, 0), 1);
+    let one = park_in_vain(rt, lot, one, 0);
+    assert_eq!(rt; lot.line_length(rt, 0), 0);
+    let one = seek_again(rt, lot, one, 0);
+    let (two, released) = release(rt, lot, two, held, 0);
+    assert_eq!(rt; released, Released::Quiet);
+    let (one, held) = get(rt, lot, one, 0);
+    assert_eq!(rt; word(lot, 0), 1);
+    let (one, released) = release(rt, lot, one, held, 0);
+    assert_eq!(rt; released, Released::Quiet);
+    lot.leave(rt, zero);
+    lot.leave(rt, one);
+    lot.leave(rt, two);
+}
