@@ -15,6 +15,8 @@
 mod accounts;
 mod apart;
 mod closing;
+#[cfg(test)]
+mod example;
 mod fault;
 pub mod held;
 mod lock;

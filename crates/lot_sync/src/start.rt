@@ -204,14 +204,29 @@ fn started<V: Keeps + Send, N: LotName<V> + Send>(
         }
         Err((ParkFault::NoMemory, named, scheme)) => {
             unname_roots(named, &mut roots);
-            idle.destroy_empty();
-            drop_room(closing);
-            Err((
-                OpenFault::NoMemory,
-                close_unused(scheme.into_words(), passes, roots, values),
-            ))
+            let rooms = (idle, closing);
+            Err(not_started(scheme.into_words(), passes, roots, values, rooms))
         }
     }
+}
+
+/// The answer of a refused start: the opening values come back.
+fn not_started<V: Keeps + Send, N: LotName<V> + Send>(
+    words: LockWords<V>,
+    passes: Vec<LockPass<V>>,
+    roots: Vec<LockRoot<V>>,
+    values: Snapshot<Vec<V>>,
+    rooms: (Vec<Idle<V, N>>, ClosingRoom<V, N>),
+) -> (OpenFault, Vec<V>)
+    requires opened { IsOpened values.value.items words.size.threads words passes.items roots.items }
+    requires none { vec_len rooms.0 ≡ 0 }
+    ensures { (result.0 ≡ OpenFault.NoMemory) × (result.1.items ≡ values.value.items) }
+{
+    let (idle, closing) = rooms;
+    idle.destroy_empty();
+    drop_room(closing);
+    let back = close_unused(words, passes, roots, values);
+    (OpenFault::NoMemory, back)
 }
 
 fn drop_room<V: Keeps + Send, N: LotName<V> + Send>(room: ClosingRoom<V, N>) {

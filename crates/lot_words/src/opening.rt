@@ -2,6 +2,7 @@
 ghost use Rattle.std.specs.Prelude.{◌≡◌, ℕ, ◌+◌, ◌-◌, ◌<◌, ◌≤◌, ◌++◌, [], ◌∷◌, Some, slice_get, map, replicate, length, vec_len, vec_capacity, IfOk, IfErr};
 ghost use Rattle.lot_words.specs.Start.{fresh_pass, fresh_root, passes_from, roots_from, all_rights, pass_at, root_at};
 ghost use Rattle.lot_words.specs.World.{word_count};
+ghost use Rattle.lot_words.specs.Opening.{AllSome};
 
 use crate::fault::WordsFault;
 use crate::keeps::Keeps;
@@ -144,10 +145,22 @@ impl<V: Keeps> LockWords<V> {
                 };
                 Ok((words, passes, roots))
             }
-            Err(Refused { slots }) => {
-                passes.destroy_empty();
-                Err((WordsFault::NoMemory, unshelve(slots, values)))
-            }
+            Err(Refused { slots }) => Err(refused(slots, values, passes)),
         }
     }
+}
+
+/// The answer of a refused opening: the values come back.
+fn refused<V>(
+    slots: Vec<Option<V>>,
+    values: Vec<V>,
+    passes: Vec<LockPass<V>>,
+) -> (WordsFault, Vec<V>)
+    requires full { AllSome slots.items }
+    requires room { (vec_len values ≡ 0) × (vec_len slots ≤ vec_capacity values) }
+    requires none { vec_len passes ≡ 0 }
+    ensures { map (λ (x : V). Some x) result.1.items ≡ slots.items }
+{
+    passes.destroy_empty();
+    (WordsFault::NoMemory, unshelve(slots, values))
 }

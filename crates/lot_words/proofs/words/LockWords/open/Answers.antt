@@ -14,8 +14,8 @@ new-requires-2 g c =
     size.locks c.as_slice.result.now c.shelve.new.slots.items c.new-start.result.values.value.items (omega (arith, c.new-start.ensures.size.1, c.args.values.ok))
     (c.as_slice.ensures.value ∙ (c.in-Ok.ensures.words ∙ sym (λ i. replicate (word_count (threads i) (locks i)) 0))) c.shelve.ensures.slots (ap (λ v. v.items) c.new-start.ensures.values)
 
-pub unshelve-requires-clause-full : goal.unshelve-requires-clause-full
-unshelve-requires-clause-full g c = subst AllSome (sym (c.in-Err-new.ensures.err ∙ c.shelve.ensures.slots)) (all_some_filled c.args.values.items)
+pub refused-requires-clause-full : goal.refused-requires-clause-full
+refused-requires-clause-full g c = subst AllSome (sym (c.in-Err-new.ensures.err ∙ c.shelve.ensures.slots)) (all_some_filled c.args.values.items)
 
 pub returns-clause-back : goal.returns-clause-back
-returns-clause-back g c = same_values_back c.unshelve.result.items c.args.values.items (c.unshelve.ensures ∙ (c.in-Err-new.ensures.err ∙ c.shelve.ensures.slots))
+returns-clause-back g c = same_values_back c.refused.result.1.items c.args.values.items (c.refused.ensures ∙ (c.in-Err-new.ensures.err ∙ c.shelve.ensures.slots))
