@@ -1,4 +1,4 @@
 pub mod Laws
 mod Lines
 mod Settling
-mod Slots
+pub mod Slots

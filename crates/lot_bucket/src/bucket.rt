@@ -54,12 +54,27 @@ impl<R: Drop> Bucket<R> {
     pub fn new(alloc: Global, room: usize, keys: &[usize]) -> Result<Bucket<R>, BucketFault>
         ensures { IfOk result (λ b. b ≡ record { room = room; places = empty_places keys.now; queue = []; opened = false; next_fair = 0 }) }
     {
-        Ok(Bucket {
-            queue: Queue::new(alloc, room)?,
-            places: Places::new(alloc, keys)?,
+        let queue = Queue::new(alloc, room)?;
+        let places = Places::new(alloc, keys)?;
+        Ok(Bucket::closed(queue, places))
+    }
+
+    /// A closed bucket with no keys and no room. It takes no memory.
+    pub fn hollow(alloc: Global) -> Bucket<R>
+        ensures { result ≡ record { room = 0; places = []; queue = []; opened = false; next_fair = 0 } }
+    {
+        Bucket::closed(Queue::hollow(alloc), Places::hollow(alloc))
+    }
+
+    fn closed(queue: Queue, places: Places<R>) -> Bucket<R>
+        ensures { result ≡ record { room = queue.room; places = places; queue = queue.pairs; opened = false; next_fair = 0 } }
+    {
+        Bucket {
+            queue,
+            places,
             opened: false,
             next_fair: 0,
-        })
+        }
     }
 
     /// Whether it is in use: not still being filled, and not left for one of a larger table.

@@ -39,6 +39,16 @@ impl<R: Drop> Places<R> {
         })
     }
 
+    pub fn hollow(alloc: Global) -> Places<R>
+        ensures { result ≡ [] }
+    {
+        Places {
+            slots: Vec::new(alloc),
+            first: 0,
+            step: 0,
+        }
+    }
+
     pub fn has(&self, key: usize) -> bool
         ensures { result ≡ has_key key self.now }
     {

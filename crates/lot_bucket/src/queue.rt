@@ -28,6 +28,15 @@ impl Queue {
         Ok(Queue { pairs, room })
     }
 
+    pub fn hollow(alloc: Global) -> Queue
+        ensures { result ≡ record { room = 0; pairs = [] } }
+    {
+        Queue {
+            pairs: Vec::new(alloc),
+            room: 0,
+        }
+    }
+
     pub fn room(&self) -> usize
         ensures { result ≡ self.now.room }
     {

@@ -1,8 +1,9 @@
-ghost use Rattle.std.specs.Prelude.{◌≡◌, ℕ, ◌<◌, ◌%◌, ◌↔◌, true, IsTrue, length};
+ghost use Rattle.std.specs.Prelude.{◌≡◌, ℕ, ◌<◌, ◌%◌, ◌↔◌, true, false, List, [], IsTrue, length};
 ghost use Rattle.lot_bucket.specs.Settled.{IsSettled, IsWhole, IsReady, HasPlaceFor, Stays};
 
 use crate::bucket::Bucket;
 use crate::root::Root;
+use std::alloc::Global;
 use std::marker::Model;
 
 /// What lies behind the lock of a bucket: the bucket, and which one it is of its table.
@@ -40,6 +41,25 @@ impl<R: Root> Settled<R> {
             size,
             keys,
         }
+    }
+
+    /// A closed bucket with no keys, which stands for one that is not in use. It takes no memory.
+    pub fn hollow(alloc: Global) -> Settled<R>
+        ensures { result ≡ record { bucket = record { room = 0; places = []; queue = []; opened = false; next_fair = 0 }; number = 0; size = 0; keys = 0 } }
+    {
+        Settled {
+            bucket: Bucket::hollow(alloc),
+            number: 0,
+            size: 0,
+            keys: 0,
+        }
+    }
+
+    /// The bucket, to look at.
+    pub fn bucket(&self) -> &Bucket<R>
+        ensures { result.now ≡ self.now.bucket }
+    {
+        &self.bucket
     }
 
     /// Whether it is the open bucket of the key, in a table for so many keys, with room for just all threads.

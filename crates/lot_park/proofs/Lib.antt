@@ -1,2 +1,1 @@
-mod Roots
 mod Under

@@ -1,7 +1,8 @@
 //! The parking lot: lines of sleeping threads, one for each key.
 //!
-//! Stands on lot_bucket, which queues, and lot_records, where threads sleep. Locks and conditions stand
-//! on it. It is written for every `Scheme`, so it knows neither locks nor words nor values.
+//! Stands on lot_bucket, which queues, on lot_table, which finds a key's bucket and grows, and on
+//! lot_records, where threads sleep. Locks and conditions stand on it. It is written for every `Scheme`,
+//! so it knows neither locks nor words nor values.
 //!
 //! | Call | Under the lock of the key's bucket | After it |
 //! |---|---|---|
@@ -16,10 +17,10 @@
 pub mod lot;
 mod parking;
 pub mod scheme;
-mod table;
 mod taken;
 
 pub use lot::{ParkFault, Parked, ParkingLot};
 pub use lot_bucket::{Dequeued as UnparkResult, Moment, Root};
+pub use lot_table::{Grown, TableFault};
 pub use scheme::{Scheme, Token};
 pub use taken::MOST_THREADS;

@@ -2,11 +2,11 @@ ghost use Rattle.std.specs.Prelude.{◌≡◌, ℕ, ◌+◌, ◌<◌, ◌≤◌,
 
 use crate::parking::{park_in, unpark_all_in, unpark_in};
 use crate::scheme::{Scheme, Token};
-use crate::table::Table;
 use crate::taken::{MOST_THREADS, Taken};
 use crossbeam_utils::CachePadded;
 use lot_bucket::{Bucket, Dequeued, Moment};
 use lot_records::Record;
+use lot_table::{Grown, Table, TableFault};
 use std::alloc::{AllocError, Global};
 use std::marker::Model;
 use std::sync::Wait;
@@ -54,6 +54,7 @@ impl<S: Scheme> Model for ParkingLot<S> {
 
 impl<S: Scheme> ParkingLot<S> {
     ghost use Rattle.lot_park.specs.Lots.{LotView, AreIdle, Appends};
+    ghost use Rattle.lot_table.specs.Sizes.{Serves};
     ghost use Rattle.lot_park.specs.Parking.{IsOpenFor, MayUnpark, Unparks, UnparkedOne, MayUnparkAll, UnparksAll, UnparkedAll, MayValidate, Validates, Validated, ParkedOnce};
 
     /// A lot for so many threads, with a key for each root: root `i` is that of key `i`.
@@ -79,7 +80,7 @@ impl<S: Scheme> ParkingLot<S> {
                 table,
                 records,
             }),
-            Err(roots) => Err((ParkFault::NoMemory, roots, scheme)),
+            Err((TableFault::NoMemory, roots)) => Err((ParkFault::NoMemory, roots, scheme)),
         }
     }
 
@@ -256,6 +257,24 @@ impl<S: Scheme> ParkingLot<S> {
             |bucket: &mut Bucket<S::Root>, x: ()| (x, bucket.line_length(key)),
         );
         length
+    }
+
+    /// Lets the table of buckets grow until it has three for each of so many threads, and answers what became
+    /// of it. `Err` is for a request for memory that was refused, and then nothing has changed.
+    ///
+    /// Threads may park and unpark meanwhile. Call it as a thread comes, with the number that are about.
+    pub fn ensure<W: Wait>(&self, rt: &W, threads: usize) -> Result<Grown, TableFault>
+        requires { threads ≤ self.now.threads }
+        ensures { IfOk result (λ g. Serves threads g) }
+    {
+        self.table.ensure(rt, threads)
+    }
+
+    /// How many buckets there are; a moment later it may be more.
+    pub fn size<W: Wait>(&self, rt: &W) -> usize
+        ensures { 0 < result }
+    {
+        self.table.size(rt)
     }
 
     /// Appends each key's root to `out`, in key order, and answers the scheme.

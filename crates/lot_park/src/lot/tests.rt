@@ -6,6 +6,7 @@ ghost use Rattle.lot_park.specs.Lots.{AreIdle};
 use super::{Parked, ParkingLot};
 use crate::scheme::{Scheme, Token};
 use lot_bucket::{Dequeued, Moment, Root};
+use lot_table::Grown;
 use std::alloc::{AllocError, Global};
 use std::process::Abort;
 use std::sync::Wait;
@@ -16,7 +17,10 @@ use std::thread::Threads;
 
 const THREADS: usize = 3;
 
-const KEYS: usize = 2;
+const KEYS: usize = 4;
+
+// A key in the bucket of key 0, in a table of the first size.
+const OTHER: usize = 3;
 
 // How often a test asks for what is to come, and for what is not.
 const ASKINGS: u64 = 10_000_000;
@@ -331,6 +335,46 @@ fn a_sleeper_is_told_the_token(rt: HostRuntime) {
     close(&rt, rt.alloc(), lot);
 }
 
+// The table grows under a sleeper, who is then still in its line.
+fn grows_under_a_sleeper<R: Threads + Wait + Abort + Sync>(
+    rt: &R,
+    lot: &ParkingLot<Letters>,
+    told: &Told,
+)
+    requires { lot.now.threads ≡ THREADS }
+{
+    thread::scope(
+        thread::scope_env(),
+        rt,
+        |scope|
+            requires { lot.now.threads ≡ THREADS }
+        {
+            let sleeper = move ||
+                requires { lot.now.threads ≡ THREADS }
+            { sleep(rt, lot, 2, 1, told) };
+            assert!(rt; scope.spawn(sleeper).is_ok());
+            assert!(rt; has_length_within(rt, lot, 1, 1));
+            match lot.ensure(rt, 2) {
+                Ok(grown) => assert_eq!(rt; grown, Grown::Grew(3, 12)),
+                Err(_refused) => panic!(rt; "memory"),
+            }
+            assert_eq!(rt; lot.size(rt), 12);
+            assert_eq!(rt; lot.line_length(rt, 1), 1);
+            assert_eq!(rt; unpark(rt, lot, 1, 4), taken(2, false));
+            assert!(rt; is_told_within(told, 2, 4, ASKINGS));
+        },
+    );
+}
+
+#[test]
+fn a_sleeper_stays_in_its_line_as_the_table_grows(rt: HostRuntime) {
+    let lot = open(&rt, rt.alloc());
+    assert_eq!(rt; lot.size(&rt), 3);
+    let told = nothing_told();
+    grows_under_a_sleeper(&rt, &lot, &told);
+    close(&rt, rt.alloc(), lot);
+}
+
 fn unparks_one_of_two_keys<R: Threads + Wait + Abort + Sync>(
     rt: &R,
     lot: &ParkingLot<Letters>,
@@ -351,14 +395,17 @@ fn unparks_one_of_two_keys<R: Threads + Wait + Abort + Sync>(
             assert!(rt; has_length_within(rt, lot, 0, 1));
             let second = move ||
                 requires { lot.now.threads ≡ THREADS }
-            { sleep(rt, lot, 2, 1, told) };
+            { sleep(rt, lot, 2, OTHER, told) };
             assert!(rt; scope.spawn(second).is_ok());
-            assert!(rt; has_length_within(rt, lot, 1, 1));
+            assert!(rt; has_length_within(rt, lot, OTHER, 1));
             assert_eq!(rt; unpark(rt, lot, 0, 3), taken(1, true));
             assert!(rt; is_told_within(told, 1, 3, ASKINGS));
             assert!(rt; !is_told_within(told, 2, 3, QUIET_ASKINGS));
-            assert_eq!(rt; (lot.line_length(rt, 0), lot.line_length(rt, 1)), (0, 1));
-            assert_eq!(rt; unpark(rt, lot, 1, 4), taken(2, false));
+            assert_eq!(rt;
+                (lot.line_length(rt, 0), lot.line_length(rt, OTHER)),
+                (0, 1)
+            );
+            assert_eq!(rt; unpark(rt, lot, OTHER, 4), taken(2, false));
         },
     );
 }

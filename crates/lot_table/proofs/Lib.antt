@@ -1,0 +1,4 @@
+mod Guarding
+mod Making
+mod Moving
+mod Roots

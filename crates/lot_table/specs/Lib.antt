@@ -1,0 +1,4 @@
+pub mod Sizes
+pub mod Roots
+pub mod Buckets
+pub mod Tables

@@ -1,0 +1,14 @@
+use Rattle.std.specs.Prelude.{ℕ, List, map}
+use Rattle.std.specs.declared.sync.MutexGuard.{MutexGuard}
+use Rattle.std.specs.Sync.Mutex.{mutex_guard_value}
+use Rattle.lot_bucket.specs.Contents.{Contents}
+use Rattle.lot_bucket.specs.Settled.{Lying}
+
+-- the bounds of a table: threads and keys have the numbers below these
+pub record Bounds : Type 0 where
+  pub threads : ℕ
+  pub keys : ℕ
+
+-- the buckets behind locked locks
+abbrev pub under : {R : Type 0} → List (MutexGuard (Lying R)) → List (Contents R)
+under {R} guards = map (λ (g : MutexGuard (Lying R)). (mutex_guard_value g).bucket) guards

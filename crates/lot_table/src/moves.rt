@@ -1,0 +1,55 @@
+//! The move of lines and roots to the buckets of a larger table.
+
+ghost use Rattle.std.specs.Prelude.{◌≡◌, ℕ, ◌+◌, ◌<◌, ◌≤◌, true, List, [], ◌∷◌, ◌++◌, None, IsSome, length, map};
+ghost use Rattle.lot_bucket.specs.Queue.{line_of, without_key};
+ghost use Rattle.lot_bucket.specs.Places.{has_key, root_at, with_root};
+ghost use Rattle.lot_table.specs.Buckets.{KeepsLines, AreWhole, AreFilled, AreEmpty, MayRegrow};
+
+use lot_bucket::{Bucket, Moment, Root};
+
+// A moment at which it is not yet time to be fair, whatever the bucket.
+const NEVER: Moment = Moment { now: 0, word: 0 };
+
+/// Moves each key's line and root from the buckets of a table to those of a larger one, as WTF's ParkingLot
+/// does when it rehashes. Each line keeps its order.
+///
+/// The caller has the old buckets out from under their locks, and the new ones are not in use yet. It takes
+/// no memory.
+pub fn regrow<R: Root>(old: &mut [Bucket<R>], new: &mut [Bucket<R>])
+    requires { (keys : ℕ) × MayRegrow R.key R.line R.owes keys old.old new.old }
+    ensures lines { KeepsLines old.old new.new }
+    ensures filled { (keys : ℕ) → AreWhole R.key R.line R.owes keys old.old → AreFilled R.key R.line R.owes keys new.new }
+    ensures left { AreEmpty R.key R.line R.owes old.new }
+{
+    let size = old.len();
+    let grown = new.len();
+    for key in 0..usize::MAX {
+        if !old[key % size].has_key(key) {
+            return;
+        }
+        move_key(&mut old[key % size], &mut new[key % grown], key);
+    }
+}
+
+fn move_key<R: Root>(from: &mut Bucket<R>, to: &mut Bucket<R>, key: usize)
+    requires root { IsSome (root_at key from.old.places) }
+    requires has { has_key key to.old.places ≡ true }
+    requires free { root_at key to.old.places ≡ None }
+    requires room { length to.old.queue + length (line_of key from.old.queue) ≤ to.old.room }
+    ensures left { from.new ≡ record from.old { places = with_root key None from.old.places; queue = without_key key from.old.queue } }
+    ensures come { to.new ≡ record to.old { places = with_root key (root_at key from.old.places) to.old.places; queue = to.old.queue ++ map (λ (t : ℕ). (t, key)) (line_of key from.old.queue) } }
+{
+    let root = from.take_root(key);
+    to.put_root(key, root);
+    move_line(from, to, key);
+}
+
+fn move_line<R: Root>(from: &mut Bucket<R>, to: &mut Bucket<R>, key: usize)
+    requires { length to.old.queue + length (line_of key from.old.queue) ≤ to.old.room }
+    ensures left { from.new ≡ record from.old { queue = without_key key from.old.queue } }
+    ensures come { to.new ≡ record to.old { queue = to.old.queue ++ map (λ (t : ℕ). (t, key)) (line_of key from.old.queue) } }
+{
+    while let Some(thread) = from.dequeue_one(key, NEVER).thread {
+        to.enqueue(thread, key);
+    }
+}

@@ -1,0 +1,62 @@
+ghost use Rattle.std.specs.Prelude.{◌≡◌, ◌≤◌};
+ghost use Rattle.lot_table.specs.Sizes.{grown_size_of};
+ghost use Rattle.lot_table.specs.declared.sizes.TheConstants.{MOST_THREADS};
+
+use lot_bucket::BucketFault;
+use std::alloc::AllocError;
+use thiserror::Error;
+
+/// How many threads a table can be made for.
+pub const MOST_THREADS: usize = 64;
+
+/// How many buckets a table has at first.
+pub const FIRST_SIZE: usize = 3;
+
+/// How many versions can follow the first one. For the most threads, that come one by one, the sizes are
+/// 3, 12, 30, 66, 138 and 282.
+pub const LATER_VERSIONS: usize = 5;
+
+// A table that has fewer buckets for each thread grows to twice as many.
+const BUCKETS_PER_THREAD: usize = 3;
+
+/// Why a table could not be made or could not grow.
+#[derive(Clone, Copy, Debug, PartialEq, Eq, Error)]
+pub enum TableFault {
+    /// A request for memory was refused.
+    #[error("no memory")]
+    NoMemory = 1,
+}
+
+impl From<AllocError> for TableFault {
+    fn from(_error: AllocError) -> TableFault {
+        TableFault::NoMemory
+    }
+}
+
+impl From<BucketFault> for TableFault {
+    fn from(_error: BucketFault) -> TableFault {
+        TableFault::NoMemory
+    }
+}
+
+/// What became of a table that was to serve so many threads; sizes are numbers of buckets.
+#[derive(Clone, Copy, Debug, PartialEq, Eq)]
+pub enum Grown {
+    /// It is large enough, and has this size.
+    Kept(usize),
+    /// It grew from the first size to the second.
+    Grew(usize, usize),
+}
+
+/// The size that a table of `size` buckets has to have for so many threads, as the growth of the hash table
+/// of WTF's ParkingLot: it stays while there are three buckets for each thread, and else becomes twice that.
+pub fn grown_size(size: usize, threads: usize) -> usize
+    requires { threads ≤ MOST_THREADS }
+    ensures { result ≡ grown_size_of size threads }
+{
+    if size >= BUCKETS_PER_THREAD * threads {
+        size
+    } else {
+        2 * BUCKETS_PER_THREAD * threads
+    }
+}
