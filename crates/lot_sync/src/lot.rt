@@ -74,4 +74,11 @@ impl<V: Keeps + Send, N: LotName<V> + Send> Lot<V, N> {
     {
         self.parking.line_length(rt, key)
     }
+
+    /// How many buckets the table has at some moment of this call. It grows with the number of passes that are out.
+    pub fn table_size<R: Wait>(&self, rt: &R) -> usize
+        ensures { 0 < result }
+    {
+        self.parking.size(rt)
+    }
 }

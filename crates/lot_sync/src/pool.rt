@@ -30,9 +30,16 @@ pub(crate) struct Pool<V: Keeps + Send, N: LotName<V> + Send> {
 }
 
 impl<V: Keeps + Send, N: LotName<V> + Send> Pool<V, N> {
+    pub(crate) fn new(idle: Vec<Idle<V, N>>, room: ClosingRoom<V, N>) -> Pool<V, N>
+        requires { (vec_len idle ≤ N.threads) × (N.threads ≤ vec_capacity idle) }
+    {
+        Pool { idle, room }
+    }
+
     /// The pass of the least number that is in.
     pub(crate) fn take_least(&mut self) -> Option<Pass<V, N>>
-        ensures { IfSome result OwnsNone }
+        ensures free { IfSome result OwnsNone }
+        ensures fewer { IfSome result (λ pass. vec_len self.new.idle + 1 ≡ vec_len self.old.idle) }
     {
         if self.idle.is_empty() {
             return None;
@@ -45,6 +52,14 @@ impl<V: Keeps + Send, N: LotName<V> + Send> Pool<V, N> {
         }
         let Idle { pass } = self.idle.swap_remove(least);
         Some(pass)
+    }
+
+    /// How many passes are out.
+    pub(crate) fn count_out(&self, threads: usize) -> usize
+        requires { threads ≡ N.threads }
+        ensures { result ≤ N.threads }
+    {
+        threads - self.idle.len()
     }
 
     /// Whether a pass more would fit.

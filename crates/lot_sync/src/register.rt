@@ -5,28 +5,31 @@ ghost use Rattle.lot_sync.specs.Lot.{OwnsNone, HasGrown};
 use crate::fault::RegisterFault;
 use crate::lot::Lot;
 use crate::pass::{LotName, Pass};
+use crate::pool::Pool;
+use crate::scheme::LockScheme;
+use lot_park::ParkingLot;
 use lot_words::Keeps;
 use std::sync::Wait;
 use std::thread;
 
 impl<V: Keeps + Send, N: LotName<V> + Send> Lot<V, N> {
-    /// Gives the pass of the least number that is in.
+    /// Gives the pass of the least number that is in, and lets the table of buckets grow for the passes that are out with it.
     ///
-    /// `Full` where all passes are out.
+    /// `Full` where all passes are out; `NoMemory` where the table could not grow, and then the pass is in again.
     pub fn register<R: Wait>(&self, rt: &R) -> Result<Pass<V, N>, RegisterFault>
         ensures thread { IfOk result (λ pass. pass.thread < self.now.threads) }
         ensures free { IfOk result OwnsNone }
         ensures grown { IfOk result (λ pass. HasGrown V.grows N.values pass) }
     {
         let mut pool = self.pool.lock(rt);
-        let taken = (*pool).take_least();
+        let registered = register_in(rt, &self.parking, &mut *pool, self.threads);
         drop(pool);
-        match taken {
-            Some(pass) => {
+        match registered {
+            Ok(pass) => {
                 let _ = &pass.right;
                 Ok(pass)
             }
-            None => Err(RegisterFault::Full),
+            Err(fault) => Err(fault),
         }
     }
 
@@ -63,6 +66,28 @@ impl<V: Keeps + Send, N: LotName<V> + Send> Lot<V, N> {
                 Some(pass)
             }
             None => None,
+        }
+    }
+}
+
+/// Takes the pass of the least number, and gives it back where the table can't grow. No other thread registers meanwhile.
+fn register_in<V: Keeps + Send, N: LotName<V> + Send, R: Wait>(
+    rt: &R,
+    parking: &ParkingLot<LockScheme<V, N>>,
+    pool: &mut Pool<V, N>,
+    threads: usize,
+) -> Result<Pass<V, N>, RegisterFault>
+    requires { (threads ≡ N.threads) × (parking.now.threads ≡ N.threads) }
+    ensures { IfOk result OwnsNone }
+{
+    let Some(pass) = pool.take_least() else {
+        return Err(RegisterFault::Full);
+    };
+    match parking.ensure(rt, pool.count_out(threads)) {
+        Ok(_) => Ok(pass),
+        Err(_) => {
+            pool.put(pass);
+            Err(RegisterFault::NoMemory)
         }
     }
 }

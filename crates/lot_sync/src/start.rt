@@ -193,10 +193,7 @@ fn started<V: Keeps + Send, N: LotName<V> + Send>(
             passes.destroy_empty();
             Ok(Lot {
                 parking,
-                pool: Mutex::new(Pool {
-                    idle,
-                    room: closing,
-                }),
+                pool: Mutex::new(Pool::new(idle, closing)),
                 threads,
                 locks,
                 alloc,
@@ -204,8 +201,7 @@ fn started<V: Keeps + Send, N: LotName<V> + Send>(
         }
         Err((ParkFault::NoMemory, named, scheme)) => {
             unname_roots(named, &mut roots);
-            let rooms = (idle, closing);
-            Err(not_started(scheme.into_words(), passes, roots, values, rooms))
+            Err(not_started(scheme.into_words(), passes, roots, values, idle, closing))
         }
     }
 }
@@ -216,13 +212,13 @@ fn not_started<V: Keeps + Send, N: LotName<V> + Send>(
     passes: Vec<LockPass<V>>,
     roots: Vec<LockRoot<V>>,
     values: Snapshot<Vec<V>>,
-    rooms: (Vec<Idle<V, N>>, ClosingRoom<V, N>),
+    idle: Vec<Idle<V, N>>,
+    closing: ClosingRoom<V, N>,
 ) -> (OpenFault, Vec<V>)
     requires opened { IsOpened values.value.items words.size.threads words passes.items roots.items }
-    requires none { vec_len rooms.0 ≡ 0 }
+    requires none { vec_len idle ≡ 0 }
     ensures { (result.0 ≡ OpenFault.NoMemory) × (result.1.items ≡ values.value.items) }
 {
-    let (idle, closing) = rooms;
     idle.destroy_empty();
     drop_room(closing);
     let back = close_unused(words, passes, roots, values);

@@ -1,6 +1,7 @@
 //! Worked rows of a lot, with the words that they leave.
 ghost use Rattle.std.specs.Prelude.{◌≡◌, ◌≤◌, ◌<◌, ℕ, MatchOption, length, vec_len, vec_capacity};
-ghost use Rattle.lot_sync.specs.Lot.{OwnsNone};
+ghost use Rattle.lot_words.specs.Closing.{AllOf, SomeOf};
+ghost use Rattle.lot_sync.specs.Lot.{PassView, OwnsNone};
 ghost use Rattle.lot_sync.specs.Holding.{Holding};
 
 use crate::sleepers::{first_of_two_sleepers, invalid_parking, other_key_in_the_bucket};
@@ -181,6 +182,7 @@ pub(crate) enum Row {
     FirstOfTwoSleepers,
     OtherKeyInTheBucket,
     InvalidParking,
+    Growth,
 }
 
 /// Plays the row on a lot for so many threads.
@@ -215,8 +217,8 @@ fn play<N: LotName<Count> + Send + Sync, T: Threads + Wait + Sync + Abort>(
     };
     match opened.start::<N>(alloc) {
         Ok(lot) => {
-            play_row(rt, &lot, row);
-            let values = end(rt, lot, passes, threads);
+            let how = play_row(rt, &lot, row);
+            let values = end(rt, lot, passes, threads, how);
             assert_eq!(rt; values.len(), LOCKS);
         }
         Err(_) => panic!(rt; "not started"),
@@ -227,10 +229,11 @@ fn play_row<N: LotName<Count> + Send + Sync, T: Threads + Wait + Sync + Abort>(
     rt: &T,
     lot: &Lot<Count, N>,
     row: Row,
-)
+) -> Gathered
     requires { lot.now.locks ≡ 13 }
 {
     match row {
+        Row::Growth => return Gathered::Registered,
         Row::TryLockAndUnlockUnparked => try_and_unlock_unparked(rt, lot),
         Row::Quiet => quiet_row(rt, lot),
         Row::Sleeper(way) => sleeper_row(rt, lot, way),
@@ -241,6 +244,7 @@ fn play_row<N: LotName<Count> + Send + Sync, T: Threads + Wait + Sync + Abort>(
         Row::OtherKeyInTheBucket => other_key_in_the_bucket(rt, lot),
         Row::InvalidParking => invalid_parking(rt, lot),
     }
+    Gathered::Left
 }
 
 fn next_left<N: LotName<Count> + Send + Sync, T: Wait + Abort>(
@@ -265,27 +269,104 @@ fn next_left<N: LotName<Count> + Send + Sync, T: Wait + Abort>(
     }
 }
 
+/// How a test gets all passes of a lot, by number.
+#[derive(Clone, Copy)]
+enum Gathered {
+    Left,
+    Registered,
+}
+
+fn next_pass<N: LotName<Count> + Send + Sync, T: Wait + Abort>(
+    rt: &T,
+    lot: &mut Lot<Count, N>,
+    thread: usize,
+    how: Gathered,
+) -> Pass<Count, N>
+    ensures same { lot.new ≡ lot.old }
+    ensures thread { result.thread ≡ thread }
+    ensures free { OwnsNone result }
+{
+    match how {
+        Gathered::Left => next_left(rt, lot, thread),
+        Gathered::Registered => next_registered(rt, lot, thread),
+    }
+}
+
+fn gather<N: LotName<Count> + Send + Sync, T: Wait + Abort>(
+    rt: &T,
+    lot: &mut Lot<Count, N>,
+    passes: &mut Vec<Pass<Count, N>>,
+    threads: usize,
+    how: Gathered,
+)
+    requires { (vec_len passes.old ≡ 0) × (threads ≤ vec_capacity passes.old) }
+    ensures same { lot.new ≡ lot.old }
+    ensures count { vec_len passes.new ≡ threads }
+    ensures all { (t : ℕ) → t < threads → SomeOf (λ (p : PassView Count). p.thread ≡ t) passes.new.items }
+    ensures free { AllOf OwnsNone passes.new.items }
+{
+    for thread in 0..threads {
+        let pass = next_pass(rt, lot, thread, how);
+        passes.push_reserved(pass);
+    }
+}
+
 /// All passes are in, each once.
 fn end<N: LotName<Count> + Send + Sync, T: Wait + Abort>(
     rt: &T,
     mut lot: Lot<Count, N>,
     mut passes: Vec<Pass<Count, N>>,
     threads: usize,
+    how: Gathered,
 ) -> Vec<Count>
     requires threads { lot.threads ≡ threads }
     requires room { (vec_len passes ≡ 0) × (threads ≤ vec_capacity passes) }
 {
-    for thread in 0..threads {
-        let pass = next_left(rt, &mut lot, thread);
-        passes.push_reserved(pass);
-    }
+    gather(rt, &mut lot, &mut passes, threads, how);
     match lot.take_left(rt) {
         Some(_pass) => panic!(rt; "a pass was left twice"),
         None => {}
     }
+    match lot.register(rt) {
+        Ok(_pass) => panic!(rt; "a pass was given twice"),
+        Err(fault) => assert_eq!(rt; fault, RegisterFault::Full),
+    }
     let (values, ledger) = lot.close(rt, passes);
     assert!(rt; ledger.called.is_empty() && ledger.woken.is_empty());
     values
+}
+
+/// The sizes of the table, each with the first thread number that it serves, where passes are given one by one.
+const SIZES: [(usize, usize); 6] = [(0, 3), (1, 12), (4, 30), (10, 66), (22, 138), (46, 282)];
+
+/// The size that the table has when the pass of this number was given.
+fn wanted_size(thread: usize) -> usize {
+    let mut wanted = 0;
+    for (first, size) in SIZES {
+        if thread >= first {
+            wanted = size;
+        }
+    }
+    wanted
+}
+
+fn next_registered<N: LotName<Count> + Send + Sync, T: Wait + Abort>(
+    rt: &T,
+    lot: &mut Lot<Count, N>,
+    thread: usize,
+) -> Pass<Count, N>
+    ensures same { lot.new ≡ lot.old }
+    ensures thread { result.thread ≡ thread }
+    ensures free { OwnsNone result }
+{
+    let pass = enter(rt, lot);
+    assert_eq!(rt; lot.table_size(rt), wanted_size(thread));
+    let given = pass.thread();
+    if given == thread {
+        pass
+    } else {
+        panic!(rt; "thread {given} was given before {thread}")
+    }
 }
 
 fn try_and_unlock_unparked<N: LotName<Count> + Send + Sync, T: Wait + Abort>(
@@ -596,6 +677,11 @@ fn passes_are_given_least_number_first(rt: HostRuntime) {
 }
 
 #[test]
+fn registration_and_growth_succeed(rt: HostRuntime) {
+    on_lot(&rt, rt.alloc(), 64, Row::Growth);
+}
+
+#[test]
 fn a_written_value_is_found(rt: HostRuntime) {
     on_lot(&rt, rt.alloc(), 3, Row::Written);
 }
@@ -652,7 +738,7 @@ fn started_and_closed<N: LotName<Count> + Send + Sync, T: Wait + Abort>(
         return opened.close();
     };
     match opened.start::<N>(alloc) {
-        Ok(lot) => end(rt, lot, passes, 1),
+        Ok(lot) => end(rt, lot, passes, 1, Gathered::Left),
         Err((fault, values)) => {
             passes.destroy_empty();
             assert_eq!(rt; fault, OpenFault::NoMemory);

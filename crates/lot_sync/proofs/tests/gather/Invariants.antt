@@ -1,7 +1,7 @@
 use Rattle.std.proofs.Common.{◌≡◌, ◌≤◌, ◌<◌, ℕ, vec_len, vec_capacity}
 use Rattle.lot_words.specs.Closing.{AllOf, SomeOf}
 use Rattle.lot_sync.specs.Lot.{PassView, OwnsNone}
-use Rattle.lot_sync.proofs.tests.end.Given as goal
+use Rattle.lot_sync.proofs.tests.gather.Given as goal
 
 abbrev pub invariant-loop-thread : goal.invariant-loop-thread
 invariant-loop-thread g l = record {
