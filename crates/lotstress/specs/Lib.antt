@@ -1,2 +1,2 @@
-pub mod Counts
-pub mod Tallies
+pub mod Counters
+pub mod Works

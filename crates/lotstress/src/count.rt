@@ -1,13 +1,15 @@
 //! `count`: threads that lock, count themselves and unlock, on real locks.
-ghost use Rattle.std.specs.Prelude.{◌≡◌, ◌≤◌, ◌<◌, ◌+◌, ℕ, length, vec_len, vec_capacity, IfOk};
+ghost use Rattle.std.specs.Prelude.{◌≡◌, ◌≤◌, ◌<◌, ◌+◌, ℕ, length, vec_len, vec_capacity, IfOk, MatchBool};
+ghost use Rattle.lot_journal.specs.Journal.{GoesOn, calls_of};
 ghost use Rattle.lot_sync.specs.Lot.{OwnsNone};
-ghost use Rattle.lotstress.specs.Tallies.{AllTotal, WorkedOn};
-ghost use Rattle.lotstress.specs.Counts.{IsTotal};
+ghost use Rattle.lotstress.specs.Counters.{IsLegalCount, AllLegal, IsAdded};
+ghost use Rattle.lotstress.specs.Works.{WorksOn};
 
 use crate::command::report;
+use crate::counter::{Add, Counter};
 use crate::failure::Failure;
 use crate::gate::{Gate, OpenGate, Point};
-use crate::tally::Tally;
+use lot_journal::Journal;
 use lot_sync::{Held, Lot, LotName, Moment, OpenFault, Opened, Pass};
 use std::alloc::{AllocError, Global};
 use std::fmt::Write as _;
@@ -59,29 +61,34 @@ fn counted<T: Threads + Wait + Sync, G: Gate + Sync>(
     gate: &G,
     counting: &Counting,
 ) -> Result<String, Failure> {
-    let tallies = new_tallies(alloc, counting.locks)?;
-    match Lot::<Tally, Brand>::open(alloc, counting.threads, tallies, 0) {
+    let journals = new_journals(alloc, counting.locks)?;
+    match Lot::<Journal<Counter>, Brand>::open(alloc, counting.threads, journals, 0) {
         Ok(opened) => run::<Brand, T, G>(rt, alloc, gate, counting, opened),
         Err((OpenFault::NoMemory, _)) => Err(Failure::NoMemory),
         Err(_) => unreachable!(),
     }
 }
 
-/// An empty tally for each lock.
-fn new_tallies(alloc: Global, locks: usize) -> Result<Vec<Tally>, AllocError>
-    ensures long { IfOk result (λ tallies. vec_len tallies ≡ locks) }
-    ensures kept { IfOk result (λ tallies. AllTotal tallies.items) }
+/// An empty journal for each lock.
+fn new_journals(alloc: Global, locks: usize) -> Result<Vec<Journal<Counter>>, AllocError>
+    ensures long { IfOk result (λ journals. vec_len journals ≡ locks) }
+    ensures kept { IfOk result (λ journals. AllLegal journals.items) }
 {
-    vec![in alloc; Tally::new(); locks]
+    let opening = Counter { total: 0 };
+    let mut journals = Vec::with_capacity(alloc, locks)?;
+    for _ in 0..locks {
+        journals.push_reserved(Journal::new(alloc, opening, opening));
+    }
+    Ok(journals)
 }
 
 /// Starts the lot, lets the workers run, and prints what the locks counted.
-fn run<N: LotName<Tally> + Send + Sync, T: Threads + Wait + Sync, G: Gate + Sync>(
+fn run<N: LotName<Journal<Counter>> + Send + Sync, T: Threads + Wait + Sync, G: Gate + Sync>(
     rt: &T,
     alloc: Global,
     gate: &G,
     counting: &Counting,
-    opened: Opened<Tally>,
+    opened: Opened<Journal<Counter>>,
 ) -> Result<String, Failure>
     requires names { (opened.table ≡ N.opening.locks) × (opened.threads ≡ N.threads) × (opened.values ≡ N.values) }
     requires sizes { (opened.threads ≡ counting.now.threads) × (length opened.values ≡ counting.now.locks) }
@@ -96,9 +103,9 @@ fn run<N: LotName<Tally> + Send + Sync, T: Threads + Wait + Sync, G: Gate + Sync
     match opened.start::<N>(alloc) {
         Ok(lot) => {
             let outcome = work_all(rt, gate, counting, &lot);
-            let tallies = close(rt, lot, passes, counting.threads);
+            let journals = close(rt, lot, passes, counting.threads);
             outcome?;
-            print(alloc, tallies.as_slice())
+            print(alloc, journals.as_slice())
         }
         Err(_) => {
             passes.destroy_empty();
@@ -112,7 +119,7 @@ fn run<N: LotName<Tally> + Send + Sync, T: Threads + Wait + Sync, G: Gate + Sync
 struct Flags {
     /// 0 until all workers were started; then 1, or 2 where one could not be started.
     go: AtomicU64,
-    /// 1 where a worker got no pass.
+    /// 1 where a worker got no pass, or no memory for a call.
     refused: AtomicU64,
 }
 
@@ -123,11 +130,11 @@ const GO: u64 = 1;
 const END: u64 = 2;
 
 /// Runs the workers to their end.
-fn work_all<N: LotName<Tally> + Send + Sync, T: Threads + Wait + Sync, G: Gate + Sync>(
+fn work_all<N: LotName<Journal<Counter>> + Send + Sync, T: Threads + Wait + Sync, G: Gate + Sync>(
     rt: &T,
     gate: &G,
     counting: &Counting,
-    lot: &Lot<Tally, N>,
+    lot: &Lot<Journal<Counter>, N>,
 ) -> Result<(), Failure>
     requires { (lot.now.threads ≡ counting.now.threads) × (lot.now.locks ≡ counting.now.locks) }
 {
@@ -135,8 +142,26 @@ fn work_all<N: LotName<Tally> + Send + Sync, T: Threads + Wait + Sync, G: Gate +
         go: AtomicU64::new(WAIT),
         refused: AtomicU64::new(0),
     };
-    let flags = &flags;
-    let started = thread::scope(
+    if !start_all(rt, gate, counting, lot, &flags) {
+        return Err(Failure::CannotStartWorker);
+    }
+    if flags.refused.load(Ordering::SeqCst) != 0 {
+        return Err(Failure::NoMemory);
+    }
+    Ok(())
+}
+
+/// Starts the workers and waits for their end. Answers whether all could be started; else they end without a round.
+fn start_all<N: LotName<Journal<Counter>> + Send + Sync, T: Threads + Wait + Sync, G: Gate + Sync>(
+    rt: &T,
+    gate: &G,
+    counting: &Counting,
+    lot: &Lot<Journal<Counter>, N>,
+    flags: &Flags,
+) -> bool
+    requires { (lot.now.threads ≡ counting.now.threads) × (lot.now.locks ≡ counting.now.locks) }
+{
+    thread::scope(
         thread::scope_env(),
         rt,
         |scope| -> bool
@@ -159,20 +184,13 @@ fn work_all<N: LotName<Tally> + Send + Sync, T: Threads + Wait + Sync, G: Gate +
                 .store(if started { GO } else { END }, Ordering::SeqCst);
             started
         },
-    );
-    if !started {
-        return Err(Failure::CannotStartWorker);
-    }
-    if flags.refused.load(Ordering::SeqCst) != 0 {
-        return Err(Failure::NoMemory);
-    }
-    Ok(())
+    )
 }
 
-/// One worker: it waits until all were started, and then goes its rounds.
-fn work<N: LotName<Tally> + Send + Sync, T: Wait, G: Gate>(
+/// One worker: it waits until all were started, and then goes its rounds. Where memory is refused to one, it ends there.
+fn work<N: LotName<Journal<Counter>> + Send + Sync, T: Wait, G: Gate>(
     rt: &T,
-    lot: &Lot<Tally, N>,
+    lot: &Lot<Journal<Counter>, N>,
     gate: &G,
     flags: &Flags,
     counting: &Counting,
@@ -187,7 +205,12 @@ fn work<N: LotName<Tally> + Send + Sync, T: Wait, G: Gate>(
     let mut pass = pass;
     if may_go(rt, flags) {
         for round in 0..counting.rounds {
-            pass = go_round(rt, lot, gate, counting, worker, round, pass);
+            let (gone, called) = go_round(rt, lot, gate, counting, worker, round, pass);
+            pass = gone;
+            if !called {
+                flags.refused.store(1, Ordering::SeqCst);
+                break;
+            }
         }
     }
     lot.leave(rt, pass);
@@ -205,40 +228,39 @@ fn may_go<T: Wait>(rt: &T, flags: &Flags) -> bool {
     unreachable!()
 }
 
-/// One round of a worker: it locks the round's key, counts itself and unlocks.
-fn go_round<N: LotName<Tally> + Send + Sync, T: Wait, G: Gate>(
+/// One round of a worker: it locks the round's key, adds one to its counter and unlocks. Answers whether there was memory for
+/// the call.
+fn go_round<N: LotName<Journal<Counter>> + Send + Sync, T: Wait, G: Gate>(
     rt: &T,
-    lot: &Lot<Tally, N>,
+    lot: &Lot<Journal<Counter>, N>,
     gate: &G,
     counting: &Counting,
     worker: usize,
     round: u64,
-    pass: Pass<Tally, N>,
-) -> Pass<Tally, N>
+    pass: Pass<Journal<Counter>, N>,
+) -> (Pass<Journal<Counter>, N>, bool)
     requires sizes { (lot.now.threads ≡ counting.now.threads) × (lot.now.locks ≡ counting.now.locks) }
-    requires thread { pass.thread < 64 }
     requires free { OwnsNone pass }
-    ensures thread { result.thread ≡ pass.thread }
-    ensures free { OwnsNone result }
+    ensures { OwnsNone result.0 }
 {
     let key = ((worker as u64).wrapping_add(round) % counting.locks as u64) as usize;
     gate.reached(worker, round, Point::BeforeLock);
     let thread = pass.thread();
     let (pass, mut held) = lot.lock(rt, pass, key);
     gate.reached(worker, round, Point::Owning);
-    count_once(&mut held, thread);
+    let called = add_one(&mut held, thread);
     gate.reached(worker, round, Point::BeforeRelease);
     let (pass, _) = lot.unlock(rt, pass, held, moment(counting.seed, worker as u64, round));
-    pass
+    (pass, called)
 }
 
-/// Counts the thread. At 2^64 - 1, which no run reaches, nothing is counted any more.
-fn count_once<N>(held: &mut Held<Tally, N>, thread: usize)
-    requires thread { thread < 64 }
-    requires kept { IsTotal held.old.value.by held.old.value.total }
-    ensures { WorkedOn held.old thread held.new }
+/// The owner calls `Add(1)`. False, with nothing changed, where memory was refused.
+fn add_one<N>(held: &mut Held<Journal<Counter>, N>, thread: usize) -> bool
+    requires kept { IsLegalCount held.old.value }
+    ensures works { WorksOn (λ key journal. IsLegalCount journal) GoesOn calls_of held.old thread held.new }
+    ensures added { MatchBool result (IsAdded held.old.value thread (record { 0 = 1 }) held.new.value) (held.new.value ≡ held.old.value) }
 {
-    let _ = held.value_mut().add(thread);
+    held.value_mut().call(thread, Add(1)).is_ok()
 }
 
 /// The moment of a worker's release in a round.
@@ -254,12 +276,12 @@ fn moment(seed: u64, worker: u64, round: u64) -> Moment {
 }
 
 /// Takes all passes and ends the lot.
-fn close<N: LotName<Tally> + Send + Sync, T: Wait>(
+fn close<N: LotName<Journal<Counter>> + Send + Sync, T: Wait>(
     rt: &T,
-    mut lot: Lot<Tally, N>,
-    mut passes: Vec<Pass<Tally, N>>,
+    mut lot: Lot<Journal<Counter>, N>,
+    mut passes: Vec<Pass<Journal<Counter>, N>>,
     threads: usize,
-) -> Vec<Tally>
+) -> Vec<Journal<Counter>>
     requires threads { lot.threads ≡ threads }
     requires room { (vec_len passes ≡ 0) × (threads ≤ vec_capacity passes) }
     ensures { vec_len result ≡ lot.locks }
@@ -268,16 +290,16 @@ fn close<N: LotName<Tally> + Send + Sync, T: Wait>(
         let pass = take_pass(rt, &mut lot, thread);
         passes.push_reserved(pass);
     }
-    let (tallies, _) = lot.close(rt, passes);
-    tallies
+    let (journals, _) = lot.close(rt, passes);
+    journals
 }
 
 /// Takes the pass of one thread.
-fn take_pass<N: LotName<Tally> + Send + Sync, T: Wait>(
+fn take_pass<N: LotName<Journal<Counter>> + Send + Sync, T: Wait>(
     rt: &T,
-    lot: &mut Lot<Tally, N>,
+    lot: &mut Lot<Journal<Counter>, N>,
     thread: usize,
-) -> Pass<Tally, N>
+) -> Pass<Journal<Counter>, N>
     ensures same { (lot.new.threads ≡ lot.old.threads) × (lot.new.locks ≡ lot.old.locks) }
     ensures thread { result.thread ≡ thread }
     ensures free { OwnsNone result }
@@ -295,14 +317,17 @@ fn take_pass<N: LotName<Tally> + Send + Sync, T: Wait>(
 }
 
 /// A line for each lock, and one for the sum.
-fn print(alloc: Global, tallies: &[Tally]) -> Result<String, Failure> {
+fn print(alloc: Global, journals: &[Journal<Counter>]) -> Result<String, Failure> {
     let mut text = String::new(alloc);
     let mut sum = 0u64;
-    for (key, tally) in tallies.iter().enumerate() {
-        let total = tally.total();
+    for (key, journal) in journals.iter().enumerate() {
+        let total = journal.object().total;
         writeln!(text, "lock {key} total {total}")?;
         sum = sum.wrapping_add(total);
     }
     writeln!(text, "sum {sum}")?;
     Ok(text)
 }
+
+#[cfg(test)]
+mod tests;

@@ -3,16 +3,16 @@
 //! - `lotstress count THREADS LOCKS ROUNDS SEED`: workers lock, count and unlock; prints what each lock counted.
 //! - `lotstress replay FILE`: runs a script of events and prints the state that it leaves.
 //!
-//! It stands on `lot_sync` (the locks) and `lot_core` (the model).
+//! It stands on `lot_sync` (the locks), `lot_journal` (what they guard) and `lot_core` (the model).
 #![tactic(auto)]
 
 mod command;
 mod count;
+mod counter;
 mod failure;
 mod gate;
 mod number;
 mod replay;
-mod tally;
 #[cfg(test)]
 mod tests;
 

@@ -1,6 +1,7 @@
-use Rattle.std.proofs.Common.{◌≡◌, ◌≤◌, ◌<◌, ℕ, vec_len, vec_capacity}
-use Rattle.lot_words.specs.Closing.{AllOf, SomeOf}
-use Rattle.lot_sync.specs.Lot.{PassView, OwnsNone}
+use Rattle.std.proofs.Common.{◌≡◌, ◌≤◌, vec_len, vec_capacity}
+use Rattle.lot_words.specs.Closing.{AllOf}
+use Rattle.lot_sync.specs.Lot.{OwnsNone}
+use Rattle.lotstress.proofs.Rounds.{AreThere}
 use Rattle.lotstress.proofs.count.close.Given as goal
 
 abbrev pub invariant-loop-thread : goal.invariant-loop-thread
@@ -8,7 +9,7 @@ invariant-loop-thread g l = record {
   long : vec_len l.passes ≡ l.thread;
   room : l.fn.threads ≤ vec_capacity l.passes;
   free : AllOf OwnsNone l.passes.items;
-  all : (t : ℕ) → t < l.thread → SomeOf (λ (p : PassView _). p.thread ≡ t) l.passes.items;
+  all : AreThere l.passes.items l.thread;
   same_threads : l.lot.threads ≡ l.fn.lot.threads;
   same_locks : l.lot.locks ≡ l.fn.lot.locks;
 }

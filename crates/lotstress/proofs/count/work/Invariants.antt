@@ -1,6 +1,5 @@
-use Rattle.std.proofs.Common.{◌<◌}
 use Rattle.lot_sync.specs.Lot.{OwnsNone}
 use Rattle.lotstress.proofs.count.work.Given as goal
 
 abbrev pub invariant-loop-round : goal.invariant-loop-round
-invariant-loop-round g l = (l.pass.thread < 64) × OwnsNone l.pass
+invariant-loop-round g l = OwnsNone l.pass
