@@ -1,4 +1,9 @@
 pub mod Laws
+mod Ways
+mod Rows
+mod Steps
+mod Openings
+mod Lying
 mod Lines
 mod Settling
 pub mod Slots

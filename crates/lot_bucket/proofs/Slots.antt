@@ -1,12 +1,12 @@
 -- Where the place of a key is.
-use Rattle.std.proofs.Common.{◌≡◌, ◌≢◌, ℕ, zero, suc, ◌+◌, ◌*◌, ◌<◌, ◌≤◌, true, false, List, [], ◌∷◌, length, map, take, get_or, set, inl, inr, ◌-◌, ◌/◌, ◌%◌, MatchOption, Option, Some, None, refl, sym, ◌∙◌, ap, subst, arith, eq-eqb}
+use Rattle.std.proofs.Common.{◌≡◌, ◌≢◌, ℕ, zero, suc, ◌+◌, ◌*◌, ◌<◌, ◌≤◌, true, false, List, [], ◌∷◌, ◌++◌, length, map, take, get_or, set, inl, inr, ◌-◌, ◌/◌, ◌%◌, MatchOption, Option, Some, None, refl, sym, ◌∙◌, ap, subst, arith, eq-eqb}
 use Rattle.std.proofs.lemmas.Bool.{ne_eqb}
 use Rattle.std.proofs.lemmas.List.{get_or-map, length-map, take_all}
 use Rattle.std.proofs.Math.Nat.{mul-le-mul_right, mul-mod_left, mul-div_cancel}
 use Rattle.std.proofs.lemmas.Option.{get_or_from_slice_get}
 use Rattle.std.proofs.lemmas.Bool.Decides.{eqb_tells}
 use Rattle.std.proofs.Math.Seq.{map-set_same}
-use Rattle.lot_bucket.specs.Places.{empty_places, has_key, root_at, with_root, AreEven, IsPlaceOf}
+use Rattle.lot_bucket.specs.Places.{empty_places, has_key, root_at, with_root, AreEven, AreWithout, LieFirst, AreBare, IsPlaceOf}
 
 module _ {R : Type 0} where
   -- the places before i are of other keys, and the one at i is of key k
@@ -97,6 +97,68 @@ module _ {R : Type 0} where
         | inl e ↦ absurd (let f : true ≡ false = rw e.0 at none in cc)
         | inr e ↦ rw e.0 (rootless k places (rw e.0 at none))
       ]
+
+-- where the roots lie
+module _ {R : Type 0} where
+  without_with : (j k : ℕ) (root : Option R) (places : List (ℕ × Option R)) → k ≢ j → AreWithout j places → AreWithout j (with_root k root places)
+  without_with j k root [] other none = tt
+  without_with j k root (p ∷ places) other none =
+      elim (eqb_tells p.0 k) [
+        | inl e ↦ rw e.0 ((λ same. absurd (other (sym e.1 ∙ same))), none.1)
+        | inr e ↦ rw e.0 (none.0, without_with j k root places other none.1)
+      ]
+
+  lies_first_with : (k : ℕ) (root : Option R) (places : List (ℕ × Option R)) → LieFirst places → LieFirst (with_root k root places)
+  lies_first_with k root [] lie = tt
+  lies_first_with k root (p ∷ places) lie =
+      elim (eqb_tells p.0 k) [
+        | inl e ↦ rw e.0 lie
+        | inr e ↦ rw e.0 (without_with p.0 k root places (λ same. e.1 (sym same)) lie.0, lies_first_with k root places lie.1)
+      ]
+
+  -- a slot that is stored with another root
+  pub first_kept : (k i : ℕ) (places shown : List (ℕ × Option R)) (slot : ℕ × Option R) (root : Option R) → places ≡ shown → IsPlaceOf k shown i → slot ≡ get_or places i slot
+      → LieFirst places → LieFirst (set places i (slot.0, root))
+  first_kept k i places shown slot root same at is lie =
+      rw (stored_at k i places shown slot root same at is) (lies_first_with k root shown (rw same at lie))
+
+  -- where no key has a root, and roots lie first, none lies here
+  rest_rootless : (p : ℕ × Option R) (places : List (ℕ × Option R)) → AreWithout p.0 places → ((k : ℕ) → root_at k (p ∷ places) ≡ None) → (k : ℕ) → root_at k places ≡ None
+  rest_rootless p places none each k =
+      elim (eqb_tells p.0 k) [
+        | inl e ↦ rw (← e.1) (without_root p.0 places none)
+        | inr e ↦ rw e.0 at (each k)
+      ]
+    where
+      without_root : (j : ℕ) (ps : List (ℕ × Option R)) → AreWithout j ps → root_at j ps ≡ None
+      without_root j [] none = refl
+      without_root j (q ∷ ps) none = elim (eqb_tells q.0 j) [ inl e ↦ rw e.0 (none.0 e.1) | inr e ↦ rw e.0 (without_root j ps none.1) ]
+
+  pub bare : (places : List (ℕ × Option R)) → LieFirst places → ((k : ℕ) → root_at k places ≡ None) → AreBare places
+  bare [] lie none = tt
+  bare (p ∷ places) lie none =
+      (rw (eq-eqb p.0 p.0 refl) at (none p.0), bare places lie.1 (rest_rootless p places lie.0 none))
+
+  -- the last place, and those before it
+  pub bare_last : (before : List (ℕ × Option R)) (p : ℕ × Option R) → AreBare (before ++ p ∷ []) → AreBare before × (p.1 ≡ None)
+  bare_last [] p all = (tt, all.0)
+  bare_last (q ∷ before) p all = let rest = bare_last before p all.1 in ((all.0, rest.0), rest.1)
+
+without_empty : (R : Type 0) (j : ℕ) (keys : List ℕ) → AreWithout {R = R} j (empty_places keys)
+without_empty R j [] = tt
+without_empty R j (k ∷ keys) = ((λ _. refl), without_empty R j keys)
+
+first_empty : (R : Type 0) (keys : List ℕ) → LieFirst {R = R} (empty_places keys)
+first_empty R [] = tt
+first_empty R (k ∷ keys) = (without_empty R k keys, first_empty R keys)
+
+pub first_new : (R : Type 0) (keys : List ℕ) (places : List (ℕ × Option R)) (n : ℕ) → places ≡ empty_places (take n keys) → LieFirst places
+first_new R keys places n made = rw made (first_empty R (take n keys))
+
+-- new places have no root
+pub rootless_empty : (R : Type 0) (k : ℕ) (keys : List ℕ) → root_at k (empty_places {R = R} keys) ≡ None
+rootless_empty R k [] = refl
+rootless_empty R k (x ∷ keys) = elim (eqb_tells x k) [ inl e ↦ rw e.0 refl | inr e ↦ rw e.0 (rootless_empty R k keys) ]
 
 -- new places have the keys that they are made for
 pub keys_of_empty : (R : Type 0) (keys : List ℕ) → map (λ (p : ℕ × Option R). p.0) (empty_places {R = R} keys) ≡ keys

@@ -3,6 +3,12 @@ use Rattle.lot_bucket.specs.Queue.{line_of}
 use Rattle.lot_bucket.specs.Places.{has_key, root_at}
 use Rattle.lot_bucket.specs.Contents.{Contents}
 
+-- a closed bucket in which nothing is left, so that it may be discarded
+pub record IsSpent {R : Type 0} (b : Contents R) : Type 0 where
+  pub closed : b.opened ≡ false
+  pub empty : b.queue ≡ []
+  pub rootless : (k : ℕ) → root_at k b.places ≡ None
+
 -- Of a root three things are known: its key, its line, and the letters that it owes.
 module _ {R : Type 0} (key : R → ℕ) (line : R → List ℕ) (owes : R → List (ℕ × ℕ)) where
   -- the root of key k, whose line is what the queue has of that key, and which owes nothing

@@ -1,5 +1,6 @@
 pub mod Queue
 pub mod Waiting
+pub mod Links
 pub mod Places
 pub mod Contents
 pub mod Taking

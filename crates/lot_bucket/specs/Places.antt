@@ -21,6 +21,22 @@ module _ {R : Type 0} where
   with_root k root [] = []
   with_root k root (p ∷ places) = if p.0 == k then (p.0, root) ∷ places else p ∷ with_root k root places
 
+module _ {R : Type 0} where
+  -- no root of key k lies here
+  abbrev pub AreWithout : ℕ → List (ℕ × Option R) → Type 0
+  AreWithout k [] = Unit {0}
+  AreWithout k (p ∷ places) = (p.0 ≡ k → p.1 ≡ None) × AreWithout k places
+
+  -- a root lies at the first place of its key, and nowhere else
+  abbrev pub LieFirst : List (ℕ × Option R) → Type 0
+  LieFirst [] = Unit {0}
+  LieFirst (p ∷ places) = AreWithout p.0 places × LieFirst places
+
+  -- no root lies here at all
+  abbrev pub AreBare : List (ℕ × Option R) → Type 0
+  AreBare [] = Unit {0}
+  AreBare (p ∷ places) = (p.1 ≡ None) × AreBare places
+
 -- each key is the one before and step
 abbrev pub AreEven : ℕ → ℕ → List ℕ → Type 0
 AreEven first step keys = (i : ℕ) → i < length keys → slice_index keys i ≡ first + i * step

@@ -1,4 +1,4 @@
-ghost use Rattle.std.specs.Prelude.{◌≡◌, ℕ, ◌+◌, ◌<◌, ◌≤◌, ◌↔◌, Bool, true, false, List, [], ◌∷◌, ◌++◌, Option, length, map, take, Any, IfOk, IsTrue, IsSome};
+ghost use Rattle.std.specs.Prelude.{◌≡◌, ℕ, ◌+◌, ◌<◌, ◌≤◌, ◌↔◌, Bool, true, false, List, [], ◌∷◌, ◌++◌, Option, length, map, take, min, Any, IfOk, IsTrue, IsSome};
 ghost use Rattle.lot_bucket.specs.Queue.{line_of, without_key};
 ghost use Rattle.lot_bucket.specs.Places.{empty_places, has_key, root_at, with_root};
 
@@ -31,7 +31,8 @@ const UNFAIR_SPAN: u64 = 1_000_000;
 /// It follows the buckets of WTF's parking lot; that it is time to be fair is decided by moments that
 /// the caller hands in. A new bucket is closed. To change a key's line, take its root out, change queue
 /// and root alike, and put the root back.
-#[derive(Drop)]
+///
+/// It is not `Drop`: whoever has a bucket keeps it, or empties and closes it and spends it by `discard`.
 pub struct Bucket<R> {
     queue: Queue,
     places: Places<R>,
@@ -47,8 +48,9 @@ impl<R> Model for Bucket<R> {
     ghost view = { λ b. record { room = b.queue.room; places = b.places; queue = b.queue.pairs; opened = b.opened; next_fair = b.next_fair } };
 }
 
-impl<R: Drop> Bucket<R> {
-    ghost use Rattle.lot_bucket.specs.Taking.{TakesOne};
+impl<R> Bucket<R> {
+    ghost use Rattle.lot_bucket.specs.Taking.{TakesOne, TakesFirst};
+    ghost use Rattle.lot_bucket.specs.Agrees.{IsSpent};
 
     /// A closed bucket with these keys, and room for so many threads. No later call takes memory.
     pub fn new(alloc: Global, room: usize, keys: &[usize]) -> Result<Bucket<R>, BucketFault>
@@ -173,6 +175,17 @@ impl<R: Drop> Bucket<R> {
         }
     }
 
+    /// Takes the first `count` threads of the key's line, or all where it is shorter, and writes them to the
+    /// front of `out`. It answers how many they were, and whether somebody was taken and the queue is not
+    /// empty; who is left may wait on another key. When it is time to be fair stays.
+    pub fn dequeue_count(&mut self, key: usize, count: usize, out: &mut [usize]) -> (usize, bool)
+        requires { min count (length (line_of key self.old.queue)) ≤ length out.old }
+        ensures { TakesFirst count key self.old self.new (take result.0 out.new) result.0 result.1 }
+    {
+        let taken = self.queue.take_count(key, count, out);
+        (taken, taken > 0 && self.queue.len() > 0)
+    }
+
     /// Takes the whole line of the key, writes it to the front of `out`, and answers how long it was.
     pub fn dequeue_all(&mut self, key: usize, out: &mut [usize]) -> usize
         requires { length (line_of key self.old.queue) ≤ length out.old }
@@ -199,5 +212,18 @@ impl<R: Drop> Bucket<R> {
         ensures { self.new ≡ record self.old { places = with_root key (Some root) self.old.places } }
     {
         self.places.put(key, root);
+    }
+
+    /// Spends a closed bucket in which neither a thread nor a root is left.
+    pub fn discard(self)
+        requires { IsSpent self }
+    {
+        let Bucket {
+            queue: _,
+            places,
+            opened: _,
+            next_fair: _,
+        } = self;
+        places.discard();
     }
 }

@@ -1,14 +1,16 @@
 ghost use Rattle.std.specs.Prelude.{◌≡◌, ◌≢◌, ℕ, ◌+◌, ◌*◌, ◌<◌, Bool, true, false, List, [], ◌∷◌, Option, length, map, slice_index, IfOk, IsTrue, IsSome, MatchOption};
-ghost use Rattle.lot_bucket.specs.Places.{empty_places, has_key, root_at, with_root, AreEven, IsPlaceOf};
+ghost use Rattle.lot_bucket.specs.Places.{empty_places, has_key, root_at, with_root, AreEven, LieFirst, IsPlaceOf};
 
 use std::alloc::{AllocError, Global};
 use std::marker::Model;
+use std::mem;
 
 /// The keys of a bucket, each with a place for its root.
 ///
 /// A table gives a bucket keys that are evenly spaced, and then a key's place is found by one division;
 /// other keys are looked through.
-#[derive(Drop)]
+///
+/// They are not `Drop`, as roots may lie in them: `discard` spends places without roots.
 pub struct Places<R> {
     slots: Vec<(usize, Option<R>)>,
     first: usize,
@@ -21,16 +23,16 @@ impl<R> Model for Places<R> {
 
     ghost view = { λ p. p.slots.items };
 
-    ghost invariant = { λ p. 0 < p.step → AreEven p.first p.step (map (λ (s : ℕ × Option R). s.0) p.slots.items) };
+    ghost invariant = { λ p. (0 < p.step → AreEven p.first p.step (map (λ (s : ℕ × Option R). s.0) p.slots.items)) × LieFirst p.slots.items };
 }
 
-impl<R: Drop> Places<R> {
+impl<R> Places<R> {
     pub fn new(alloc: Global, keys: &[usize]) -> Result<Places<R>, AllocError>
         ensures { IfOk result (λ p. p ≡ empty_places keys.now) }
     {
         let mut slots = Vec::with_capacity(alloc, keys.len())?;
         for key in keys {
-            slots.push((*key, None))?;
+            slots.push_reserved((*key, None));
         }
         Ok(Places {
             slots,
@@ -68,14 +70,35 @@ impl<R: Drop> Places<R> {
     }
 
     pub fn put(&mut self, key: usize, root: R)
-        requires { has_key key self.old ≡ true }
+        requires has { has_key key self.old ≡ true }
+        requires free { root_at key self.old ≡ None }
         ensures { self.new ≡ with_root key (Some root) self.old }
     {
         let Some(place) = self.place_of(key) else {
             unreachable!();
         };
         let slot = &mut self.slots[place];
-        slot.1 = Some(root);
+        let before = mem::replace(&mut slot.1, Some(root));
+        let None = before else {
+            unreachable!();
+        };
+    }
+
+    /// Spends places in which no root lies.
+    pub fn discard(self)
+        requires { (k : ℕ) → root_at k self ≡ None }
+    {
+        let Places {
+            mut slots,
+            first: _,
+            step: _,
+        } = self;
+        while let Some((_key, root)) = slots.pop() {
+            let None = root else {
+                unreachable!();
+            };
+        }
+        slots.destroy_empty();
     }
 
     fn place_of(&self, key: usize) -> Option<usize>

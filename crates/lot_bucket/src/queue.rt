@@ -1,31 +1,36 @@
-ghost use Rattle.std.specs.Prelude.{◌≡◌, ℕ, ◌<◌, ◌≤◌, ◌↔◌, List, [], ◌∷◌, ◌++◌, length, take, vec_capacity, Any, count_by, ◌==◌, IsTrue, IfOk, MatchOption};
-ghost use Rattle.lot_bucket.specs.Queue.{line_of, without_first, without_key, first_of};
-ghost use Rattle.lot_bucket.specs.Waiting.{Waiting, IsFirstPair, IsWithout};
+ghost use Rattle.std.specs.Prelude.{◌≡◌, ℕ, ◌<◌, ◌≤◌, ◌↔◌, List, [], ◌∷◌, ◌++◌, length, take, min, Any, IsTrue, IfOk};
+ghost use Rattle.lot_bucket.specs.Queue.{line_of, without_first, without_count, without_key, first_of};
+ghost use Rattle.lot_bucket.specs.Waiting.{Waiting, lying_at};
 
+use crate::links::Links;
 use std::alloc::{AllocError, Global};
 use std::marker::Model;
 
 /// Threads that wait on keys, first come first, with room for so many.
+///
+/// Each lies at a place that it keeps until it is taken.
 #[derive(Drop)]
 pub struct Queue {
+    // Who lies at each place, and on which key it waits; at a free place, who lay there last.
     pairs: Vec<(usize, usize)>,
-    room: usize,
+    links: Links,
 }
 
 impl Model for Queue {
     ghost Value = { Waiting };
 
-    ghost view = { λ q. record { room = q.room; pairs = q.pairs.items } };
+    ghost view = { λ q. record { room = q.links.room; pairs = lying_at q.pairs.items q.links.used } };
 
-    ghost invariant = { λ q. (length q.pairs.items ≤ q.room) × (q.room ≤ vec_capacity q.pairs) };
+    ghost invariant = { λ q. length q.pairs.items ≡ q.links.room };
 }
 
 impl Queue {
     pub fn new(alloc: Global, room: usize) -> Result<Queue, AllocError>
         ensures { IfOk result (λ q. q ≡ record { room = room; pairs = [] }) }
     {
-        let pairs = Vec::with_capacity(alloc, room)?;
-        Ok(Queue { pairs, room })
+        let pairs = vec![in alloc; (0, 0); room]?;
+        let links = Links::new(alloc, room)?;
+        Ok(Queue { pairs, links })
     }
 
     pub fn hollow(alloc: Global) -> Queue
@@ -33,49 +38,65 @@ impl Queue {
     {
         Queue {
             pairs: Vec::new(alloc),
-            room: 0,
+            links: Links::hollow(alloc),
         }
     }
 
     pub fn room(&self) -> usize
         ensures { result ≡ self.now.room }
     {
-        self.room
+        self.links.room()
     }
 
     pub fn len(&self) -> usize
         ensures count { result ≡ length self.now.pairs }
         ensures fits { result ≤ self.now.room }
     {
-        self.pairs.len()
+        self.links.len()
     }
 
     pub fn has_thread(&self, thread: usize) -> bool
         ensures { IsTrue result ↔ Any (λ (p : ℕ × ℕ). p.0 ≡ thread) self.now.pairs }
     {
-        self.pairs.iter().any(|pair| pair.0 == thread)
+        let mut cursor = self.links.start();
+        while cursor.passed < self.links.len() {
+            if self.pairs[self.links.place(cursor)].0 == thread {
+                return true;
+            }
+            cursor = self.links.past(cursor);
+        }
+        false
     }
 
     pub fn line_length(&self, key: usize) -> usize
         ensures { result ≡ length (line_of key self.now.pairs) }
     {
-        count_of(self.pairs.as_slice(), key)
+        let mut cursor = self.links.start();
+        let mut count = 0;
+        while cursor.passed < self.links.len() {
+            if self.pairs[self.links.place(cursor)].1 == key {
+                count += 1;
+            }
+            cursor = self.links.past(cursor);
+        }
+        count
     }
 
     pub fn push(&mut self, thread: usize, key: usize)
         requires { length self.old.pairs < self.old.room }
         ensures { self.new ≡ record self.old { pairs = self.old.pairs ++ (thread, key) ∷ [] } }
     {
-        self.pairs.push_reserved((thread, key));
+        let place = self.links.append();
+        self.pairs[place] = (thread, key);
     }
 
     pub fn take_first(&mut self, key: usize) -> Option<usize>
         ensures thread { result ≡ first_of (line_of key self.old.pairs) }
         ensures left { self.new ≡ record self.old { pairs = without_first key self.old.pairs } }
     {
-        let place = place_of(self.pairs.as_slice(), key)?;
-        let (thread, _key) = self.pairs.remove(place);
-        Some(thread)
+        let mut out = [0];
+        let taken = self.take_count(key, 1, &mut out);
+        (taken == 1).then_some(out[0])
     }
 
     /// Writes the key's line to the front of `out`, and answers how long it was.
@@ -85,42 +106,33 @@ impl Queue {
         ensures line { take result out.new ≡ line_of key self.old.pairs }
         ensures left { self.new ≡ record self.old { pairs = without_key key self.old.pairs } }
     {
-        let taken = write_line(self.pairs.as_slice(), key, out);
-        self.pairs.retain(|pair| pair.1 != key);
+        let all = self.len();
+        self.take_count(key, all, out)
+    }
+
+    /// Takes the first `count` of the key's line, or all where it is shorter, writes them to the front of
+    /// `out`, and answers how many they were. It walks no further than to the last of them.
+    pub fn take_count(&mut self, key: usize, count: usize, out: &mut [usize]) -> usize
+        requires { min count (length (line_of key self.old.pairs)) ≤ length out.old }
+        ensures taken { result ≡ min count (length (line_of key self.old.pairs)) }
+        ensures line { take result out.new ≡ take count (line_of key self.old.pairs) }
+        ensures left { self.new ≡ record self.old { pairs = without_count count key self.old.pairs } }
+    {
+        let mut cursor = self.links.start();
+        let mut taken = 0;
+        while taken < count && cursor.passed < self.links.len() {
+            let (thread, waits_on) = self.pairs[self.links.place(cursor)];
+            if waits_on == key {
+                out[taken] = thread;
+                taken += 1;
+                self.links.remove(cursor);
+            } else {
+                cursor = self.links.past(cursor);
+            }
+        }
         taken
     }
 }
 
-fn count_of(pairs: &[(usize, usize)], key: usize) -> usize
-    ensures { result ≡ count_by (λ (p : ℕ × ℕ). p.1 == key) pairs.now }
-{
-    pairs.iter().filter(|pair| pair.1 == key).count()
-}
-
-// The place of the first pair of the key.
-fn place_of(pairs: &[(usize, usize)], key: usize) -> Option<usize>
-    ensures { MatchOption result (IsWithout key pairs.now) (IsFirstPair key pairs.now) }
-{
-    for (place, pair) in pairs.iter().enumerate() {
-        if pair.1 == key {
-            return Some(place);
-        }
-    }
-    None
-}
-
-// Writes the threads of the key to the front of `out`, and answers how many.
-fn write_line(pairs: &[(usize, usize)], key: usize, out: &mut [usize]) -> usize
-    requires { length (line_of key pairs.now) ≤ length out.old }
-    ensures count { result ≡ length (line_of key pairs.now) }
-    ensures line { take result out.new ≡ line_of key pairs.now }
-{
-    let mut taken = 0;
-    for pair in pairs {
-        if pair.1 == key {
-            out[taken] = pair.0;
-            taken += 1;
-        }
-    }
-    taken
-}
+#[cfg(test)]
+mod tests;

@@ -10,8 +10,7 @@ use std::marker::Model;
 ///
 /// Whenever the lock is free, an open bucket has the roots of exactly its keys, each root's line is what
 /// the queue has of its key, and no root owes a letter; a closed bucket is empty. `lend` gives the bucket
-/// out for as long as the lock is held.
-#[derive(Drop)]
+/// out for as long as the lock is held. It is no more `Drop` than the bucket: `into_bucket` takes that out.
 pub struct Settled<R: Root> {
     bucket: Bucket<R>,
     number: usize,
@@ -83,7 +82,8 @@ impl<R: Root> Settled<R> {
         self.bucket.is_open() && self.number == number && self.size == size && self.keys == keys
     }
 
-    /// Whether the thread does not wait here, and there is room for it.
+    /// Whether the thread does not wait here, and there is room for it. That it does not wait here the free places
+    /// don't tell, so this walks along the queue.
     pub fn has_place_for(&self, thread: usize) -> bool
         ensures { IsTrue result ↔ HasPlaceFor thread self.now.bucket }
     {
@@ -105,7 +105,12 @@ impl<R: Root> Settled<R> {
         ensures same { result ≡ self.bucket }
         ensures settled { IsSettled R.key R.line R.owes self }
     {
-        let Settled { bucket, .. } = self;
+        let Settled {
+            bucket,
+            number: _,
+            size: _,
+            keys: _,
+        } = self;
         bucket
     }
 }

@@ -1,4 +1,5 @@
 ghost use Rattle.std.specs.Prelude.{◌≡◌, ℕ, ◌≤◌, length, List, []};
+ghost use Rattle.lot_bucket.specs.Queue.{without_key};
 
 use super::{Bucket, Dequeued, Moment, Root};
 use std::process::Abort;
@@ -39,7 +40,7 @@ struct Row {
     left: &'static [(usize, &'static [usize])],
 }
 
-static ROWS: [Row; 5] = [
+static ROWS: [Row; 7] = [
     Row {
         name: "fair once the moment is past, not at it",
         steps: &[
@@ -68,6 +69,52 @@ static ROWS: [Row; 5] = [
                 next_fair: 1000,
             },
         ],
+        left: &[(0, &[])],
+    },
+    Row {
+        name: "a handoff moves the next moment, and a release to nobody leaves it",
+        steps: &[
+            Step {
+                queued: &[(1, 0)],
+                key: 0,
+                now: 5,
+                word: 7,
+                taken: Dequeued {
+                    thread: Some(1),
+                    more: false,
+                    fair: true,
+                },
+                next_fair: 12,
+            },
+            Step {
+                queued: &[],
+                key: 0,
+                now: 12,
+                word: 7,
+                taken: Dequeued {
+                    thread: None,
+                    more: false,
+                    fair: false,
+                },
+                next_fair: 12,
+            },
+        ],
+        left: &[(0, &[])],
+    },
+    Row {
+        name: "at moment 0 it is not fair, and the next moment stays",
+        steps: &[Step {
+            queued: &[(1, 0)],
+            key: 0,
+            now: 0,
+            word: 7,
+            taken: Dequeued {
+                thread: Some(1),
+                more: false,
+                fair: false,
+            },
+            next_fair: 0,
+        }],
         left: &[(0, &[])],
     },
     Row {
@@ -150,7 +197,10 @@ static ROWS: [Row; 5] = [
     },
 ];
 
-fn queue_all(rt: &impl Abort, bucket: &mut Bucket<Named>, pairs: &[(usize, usize)]) {
+fn queue_all(rt: &impl Abort, bucket: &mut Bucket<Named>, pairs: &[(usize, usize)])
+    ensures places { bucket.new.places ≡ bucket.old.places }
+    ensures opened { bucket.new.opened ≡ bucket.old.opened }
+{
     for (thread, key) in pairs {
         assert!(rt; bucket.len() < bucket.room());
         bucket.enqueue(*thread, *key);
@@ -159,47 +209,77 @@ fn queue_all(rt: &impl Abort, bucket: &mut Bucket<Named>, pairs: &[(usize, usize
 }
 
 #[tactic(auto, using(crate::proofs::Laws::line_fits))]
-fn expect_line(
-    rt: &impl Abort,
-    bucket: &mut Bucket<Named>,
-    key: usize,
-    line: &[usize],
-    name: &str,
-) {
+fn expect_line(rt: &impl Abort, bucket: &mut Bucket<Named>, key: usize, line: &[usize], name: &str)
+    ensures { bucket.new ≡ record bucket.old { queue = without_key key bucket.old.queue } }
+{
     let mut out = [0; ROOM];
     assert!(rt; bucket.len() <= out.len());
     let count = bucket.dequeue_all(key, &mut out);
     assert_eq!(rt; out.get(..count), Some(line), "{name}");
 }
 
+// Takes the first of a key's line, at most so many as are asked for, and looks who they are and whether more may wait.
+#[tactic(auto, using(crate::proofs::Laws::line_fits))]
+fn expect_first(
+    rt: &impl Abort,
+    bucket: &mut Bucket<Named>,
+    asked: (usize, usize),
+    line: &[usize],
+    more: bool,
+)
+    ensures places { bucket.new.places ≡ bucket.old.places }
+    ensures opened { bucket.new.opened ≡ bucket.old.opened }
+{
+    let (key, count) = asked;
+    let mut out = [0; ROOM];
+    assert!(rt; bucket.len() <= out.len());
+    let (taken, more_wait) = bucket.dequeue_count(key, count, &mut out);
+    assert_eq!(rt; out.get(..taken), Some(line), "the first {count}");
+    assert_eq!(rt; more_wait, more, "the first {count}");
+}
+
+fn expect_step(rt: &impl Abort, bucket: &mut Bucket<Named>, step: &Step, name: &str)
+    ensures places { bucket.new.places ≡ bucket.old.places }
+    ensures opened { bucket.new.opened ≡ bucket.old.opened }
+{
+    queue_all(rt, bucket, step.queued);
+    let moment = Moment {
+        now: step.now,
+        word: step.word,
+    };
+    let taken = bucket.dequeue_one(step.key, moment);
+    assert_eq!(rt; taken, step.taken, "{name}");
+    assert_eq!(rt; bucket.next_fair(), step.next_fair, "{name}");
+}
+
+fn expect_row(rt: &impl Abort, bucket: &mut Bucket<Named>, row: &Row)
+    ensures places { bucket.new.places ≡ bucket.old.places }
+    ensures opened { bucket.new.opened ≡ bucket.old.opened }
+    ensures empty { bucket.new.queue ≡ [] }
+{
+    for step in row.steps {
+        expect_step(rt, bucket, step, row.name);
+    }
+    for (key, line) in row.left {
+        expect_line(rt, bucket, *key, line, row.name);
+    }
+    assert!(rt; bucket.is_empty(), "{}", row.name);
+}
+
 #[test]
+#[tactic(auto, using(crate::proofs::Slots::rootless_empty))]
 fn one_is_taken(rt: HostRuntime) -> Result<(), Fail> {
     for row in &ROWS {
         let mut bucket: Bucket<Named> = Bucket::new(rt.alloc(), ROOM, &[0, 1, 13])?;
-        for step in row.steps {
-            queue_all(&rt, &mut bucket, step.queued);
-            let moment = Moment {
-                now: step.now,
-                word: step.word,
-            };
-            assert_eq!(rt;
-                bucket.dequeue_one(step.key, moment),
-                step.taken,
-                "{}",
-                row.name
-            );
-            assert_eq!(rt; bucket.next_fair(), step.next_fair, "{}", row.name);
-        }
-        for (key, line) in row.left {
-            expect_line(&rt, &mut bucket, *key, line, row.name);
-        }
-        assert!(rt; bucket.is_empty(), "{}", row.name);
+        expect_row(&rt, &mut bucket, row);
+        bucket.discard();
     }
     Ok(())
 }
 
 #[test]
-fn a_whole_line_is_taken(rt: HostRuntime) -> Result<(), Fail> {
+#[tactic(auto, using(crate::proofs::Slots::rootless_empty))]
+fn several_are_taken(rt: HostRuntime) -> Result<(), Fail> {
     let mut bucket: Bucket<Named> = Bucket::new(rt.alloc(), ROOM, &[1, 13])?;
     queue_all(&rt, &mut bucket, &[(1, 13), (2, 1), (3, 13)]);
     expect_line(&rt, &mut bucket, 13, &[1, 3], "the line of 13");
@@ -207,6 +287,12 @@ fn a_whole_line_is_taken(rt: HostRuntime) -> Result<(), Fail> {
     assert_eq!(rt; bucket.line_length(1), 1);
     assert_eq!(rt; bucket.next_fair(), 0);
     expect_line(&rt, &mut bucket, 1, &[2], "the line of 1");
+    queue_all(&rt, &mut bucket, &[(1, 13), (2, 13), (3, 13)]);
+    expect_first(&rt, &mut bucket, (13, 2), &[1, 2], true);
+    expect_first(&rt, &mut bucket, (13, 5), &[3], false);
+    expect_first(&rt, &mut bucket, (13, 1), &[], false);
+    assert!(rt; bucket.is_empty());
+    bucket.discard();
     Ok(())
 }
 
@@ -225,14 +311,18 @@ fn roots_are_taken_out_and_put_back(rt: HostRuntime) -> Result<(), Fail> {
     assert_eq!(rt; bucket.take_root(1).key, 1);
     bucket.close();
     assert!(rt; !bucket.is_open());
+    assert_eq!(rt; bucket.take_root(13).key, 13);
+    bucket.discard();
     Ok(())
 }
 
 #[test]
+#[tactic(auto, using(crate::proofs::Slots::rootless_empty))]
 fn keys_need_not_be_evenly_spaced(rt: HostRuntime) -> Result<(), Fail> {
     let bucket: Bucket<Named> = Bucket::new(rt.alloc(), ROOM, &[3, 1, 9])?;
     for (key, has) in [(1, true), (3, true), (5, false), (9, true)] {
         assert_eq!(rt; bucket.has_key(key), has, "key {key}");
     }
+    bucket.discard();
     Ok(())
 }

@@ -1,89 +1,85 @@
 -- What each kind of event is to the condition part of the model: a step of lot_core's.
-use Rattle.std.proofs.Common.{◌≡◌, ℕ, ◌<◌, ◌≤◌, ◌&&◌, Bool, true, false, List, [], ◌∷◌, ◌++◌, length, refl, sym, ap, ◌∙◌, arith, Option, Some, None}
+use Rattle.std.proofs.Common.{◌≡◌, ℕ, ◌<◌, Bool, true, false, List, [], ◌∷◌, ◌++◌, drop, length, refl, sym, ap, ◌∙◌, arith, Option, Some, None}
+use Rattle.std.proofs.lemmas.List.{drop_all}
 use Rattle.lot_core.specs.World.{put}
-use Rattle.lot_core.specs.Steps.{SaysMore, first, called_line}
-use Rattle.lot_core.specs.Parts.{CondPart, IsAmongConds}
+use Rattle.lot_core.specs.Steps.{IsCallCount, SaysMoreBehind, dequeued_count, flag_after_call}
+use Rattle.lot_core.specs.Parts.{IsAmongConds, IsCalmIn}
 use Rattle.lot_core.specs.declared.events.Event.TheVariants.{Enlist, Look, Call, Lower, Sweep}
-use Rattle.lot_core.specs.declared.events.Seen.TheVariants.{Bool as Saw, Done, Sleeper, Count}
-use Rattle.lot_words.proofs.Seats.{put_elim, put_again}
-use Rattle.lot_words.proofs.Ties.{put_fits}
+use Rattle.lot_core.specs.declared.events.Seen.TheVariants.{Bool as Saw, Done, Count}
+use Rattle.lot_core.proofs.Put.{put_again, told_put, told_same}
+use Rattle.lot_rights.specs.World.{Spot}
 use Rattle.lot_conds.specs.declared.views.CondPassView.{CondPassView}
 use Rattle.lot_conds.specs.declared.views.CondRootView.{CondRootView}
 use Rattle.lot_conds.specs.declared.views.Size.{Size}
-use Rattle.lot_conds.specs.World.{Spot, World}
+use Rattle.lot_conds.specs.World.{CondWorld}
 use Rattle.lot_conds.specs.Rule.{part_of, IsStep}
 use Rattle.lot_conds.proofs.Machine.{turned}
-use Rattle.lot_conds.proofs.Ties.{part_is}
 
-module _ (w : World) where
+module _ (w : CondWorld) where
+  abbrev lines : ℕ → List ℕ
+  lines = λ k. (w.root k).line
+
+  abbrev sweeping : ℕ → Option ℕ
+  sweeping = λ v. (w.pass v).sweeps
+
   -- nobody sweeps anything else
-  same_sweeps : (t : ℕ) (p : CondPassView) → p.sweeps ≡ (w.threads.pass t).sweeps → (v : ℕ) → (put w.threads.pass t p v).sweeps ≡ (w.threads.pass v).sweeps
-  same_sweeps t p e v = put_elim (λ x. x.sweeps ≡ (w.threads.pass v).sweeps) w.threads.pass t p v (λ vt. e ∙ ap (λ z. (w.threads.pass z).sweeps) (sym vt)) (λ _. refl)
+  same_sweeps : (t : ℕ) (p : CondPassView) → p.sweeps ≡ (w.pass t).sweeps → (λ v. (put w.pass t p v).sweeps) ≡ sweeping
+  same_sweeps t p e = told_same (λ (x : CondPassView). x.sweeps) w.pass t p e
 
-  now_sweeps : (t : ℕ) (p : CondPassView) (s : Option ℕ) → p.sweeps ≡ s → (v : ℕ) → (put w.threads.pass t p v).sweeps ≡ put (part_of w).sweeps t s v
-  now_sweeps t p s e v = put_fits (λ (x : CondPassView). x.sweeps) w.threads.pass t p s v e
+  now_sweeps : (t : ℕ) (p : CondPassView) (s : Option ℕ) → p.sweeps ≡ s → (λ v. (put w.pass t p v).sweeps) ≡ put sweeping t s
+  now_sweeps t p s e = told_put (λ (x : CondPassView). x.sweeps) w.pass t p ∙ ap (put sweeping t) e
 
-  same_line : (c : ℕ) (q : CondRootView) → q.line ≡ (w.conds.root c).line → (k : ℕ) → (put w.conds.root c q k).line ≡ (w.conds.root k).line
-  same_line c q e k = put_elim (λ x. x.line ≡ (w.conds.root k).line) w.conds.root c q k (λ kc. e ∙ ap (λ z. (w.conds.root z).line) (sym kc)) (λ _. refl)
+  same_line : (c : ℕ) (q : CondRootView) → q.line ≡ (w.root c).line → (λ k. (put w.root c q k).line) ≡ lines
+  same_line c q e = told_same (λ (x : CondRootView). x.line) w.root c q e
 
-  now_line : (c : ℕ) (q : CondRootView) (line : List ℕ) → q.line ≡ line → (k : ℕ) → (put w.conds.root c q k).line ≡ put (part_of w).conds.line c line k
-  now_line c q line e k = put_fits (λ (x : CondRootView). x.line) w.conds.root c q line k e
+  now_line : (c : ℕ) (q : CondRootView) (line : List ℕ) → q.line ≡ line → (λ k. (put w.root c q k).line) ≡ put lines c line
+  now_line c q line e = told_put (λ (x : CondRootView). x.line) w.root c q ∙ ap (put lines c) e
 
-  same_flag : (c : ℕ) (k : ℕ) → put w.conds.flag c (w.conds.flag c) k ≡ w.conds.flag k
-  same_flag c k = put_again w.conds.flag c (w.conds.flag c) k refl
+  part_is : (t : ℕ) (p : CondPassView) (spots : ℕ → Spot) (c : ℕ) (f : Bool) (q : CondRootView) (flag : ℕ → Bool) (line : ℕ → List ℕ) (sweeps : ℕ → Option ℕ)
+      → put w.word c f ≡ flag → (λ k. (put w.root c q k).line) ≡ line → (λ v. (put w.pass t p v).sweeps) ≡ sweeps
+      → part_of (turned w t p spots c f q) ≡ record { conds = record { flag = flag; line = line }; sweeps = sweeps }
+  part_is t p spots c f q flag line sweeps a b d = λ i. record { conds = record { flag = a i; line = b i }; sweeps = d i }
 
   -- the part stays
-  pub same_part : (t : ℕ) (p : CondPassView) (spots : ℕ → Spot) (c : ℕ) (q : CondRootView) → p.sweeps ≡ (w.threads.pass t).sweeps → q.line ≡ (w.conds.root c).line
-      → part_of (turned w t p spots c (w.conds.flag c) q) ≡ part_of w
-  same_part t p spots c q e l = part_is w t p spots c (w.conds.flag c) q w.conds.flag (part_of w).conds.line (part_of w).sweeps (same_flag c) (same_line c q l) (same_sweeps t p e)
+  pub same_part : (t : ℕ) (p : CondPassView) (spots : ℕ → Spot) (c : ℕ) (q : CondRootView) → p.sweeps ≡ (w.pass t).sweeps → q.line ≡ (w.root c).line
+      → part_of (turned w t p spots c (w.word c) q) ≡ part_of w
+  same_part t p spots c q e l = part_is t p spots c (w.word c) q w.word lines sweeping (put_again w.word c) (same_line c q l) (same_sweeps t p e)
 
   module _ (size : Size) (t : ℕ) (near : t < size.threads) (c : ℕ) (among : IsAmongConds size.locks size.conds c) (p : CondPassView) (spots : ℕ → Spot) where
-    module _ (calm : (w.threads.pass t).sweeps ≡ None) where
-      pub row_enlist : (l : ℕ) → l < size.locks → (q : CondRootView) → p.sweeps ≡ (w.threads.pass t).sweeps → q.line ≡ (w.conds.root c).line ++ t ∷ []
+    module _ (calm : IsCalmIn (part_of w) t) where
+      pub row_enlist : (l : ℕ) → l < size.locks → (q : CondRootView) → p.sweeps ≡ (w.pass t).sweeps → q.line ≡ (w.root c).line ++ t ∷ []
           → IsStep size (part_of w) (Enlist t c l) Done (part_of (turned w t p spots c true q))
       row_enlist l some q e line = (
         (near, among, some, calm),
         refl,
-        part_is w t p spots c true q (put w.conds.flag c true) (put (part_of w).conds.line c ((w.conds.root c).line ++ t ∷ [])) (part_of w).sweeps (λ _. refl) (now_line c q ((w.conds.root c).line ++ t ∷ []) line) (same_sweeps t p e),
+        part_is t p spots c true q (put w.word c true) (put lines c ((w.root c).line ++ t ∷ [])) sweeping refl (now_line c q ((w.root c).line ++ t ∷ []) line) (same_sweeps t p e),
       )
 
-      pub row_look : (b : Bool) → b ≡ w.conds.flag c → IsStep size (part_of w) (Look t c) (Saw b) (part_of w)
+      pub row_look : (b : Bool) → b ≡ w.word c → IsStep size (part_of w) (Look t c) (Saw b) (part_of w)
       row_look b is = ((near, among, calm), ap Saw is, refl)
 
-      pub row_lower : p.sweeps ≡ Some c → IsStep size (part_of w) (Lower t c) Done (part_of (turned w t p spots c false (w.conds.root c)))
+      pub row_lower : p.sweeps ≡ Some c → IsStep size (part_of w) (Lower t c) Done (part_of (turned w t p spots c false (w.root c)))
       row_lower e = (
         (near, among, calm),
         refl,
-        part_is w t p spots c false (w.conds.root c) (put w.conds.flag c false) (part_of w).conds.line (put (part_of w).sweeps t (Some c)) (λ _. refl) (same_line c (w.conds.root c) refl) (now_sweeps t p (Some c) e),
+        part_is t p spots c false (w.root c) (put w.word c false) lines (put sweeping t (Some c)) refl (same_line c (w.root c) refl) (now_sweeps t p (Some c) e),
       )
 
-      -- nobody is in the line, and the flag is cleared
-      pub row_call_none : (more : Bool) (q : CondRootView) → (w.conds.root c).line ≡ [] → p.sweeps ≡ (w.threads.pass t).sweeps → q.line ≡ (w.conds.root c).line
-          → IsStep size (part_of w) (Call t c more) (Sleeper None) (part_of (turned w t p spots c false q))
-      row_call_none more q line e same =
-          let then : List ℕ → CondPart = λ z. record (part_of w) { conds = called_line (part_of w).conds c more z } in (
-            (near, among, calm, (λ two. absurd (none_two line two))),
-            ap (λ z. Sleeper (first z)) (sym line),
-            part_is w t p spots c false q (put w.conds.flag c false) (part_of w).conds.line (part_of w).sweeps (λ _. refl) (same_line c q same) (same_sweeps t p e) ∙ ap then (sym line),
-          )
-        where
-          none_two : {line : List ℕ} → line ≡ [] → 2 ≤ length line → ⊥
-          none_two {line} e two = (let f : length line ≡ 0 = ap length e in omega arith)
-
-      -- the first of the line is taken
-      pub row_call_one : (more : Bool) (q : CondRootView) (u : ℕ) (us : List ℕ) → (w.conds.root c).line ≡ u ∷ us → SaysMore (w.conds.root c).line more → p.sweeps ≡ (w.threads.pass t).sweeps → q.line ≡ us
-          → IsStep size (part_of w) (Call t c more) (Sleeper (Some u)) (part_of (turned w t p spots c (w.conds.flag c && more) q))
-      row_call_one more q u us line says e rest =
-          let then : List ℕ → CondPart = λ z. record (part_of w) { conds = called_line (part_of w).conds c more z } in (
-            (near, among, calm, says),
-            ap (λ z. Sleeper (first z)) (sym line),
-            part_is w t p spots c (w.conds.flag c && more) q (put w.conds.flag c (w.conds.flag c && more)) (put (part_of w).conds.line c us) (part_of w).sweeps (λ _. refl) (now_line c q us rest) (same_sweeps t p e) ∙ ap then (sym line),
+      -- the first n of the line are taken
+      pub row_call : (n : ℕ) (more : Bool) (q : CondRootView) → IsCallCount n → SaysMoreBehind n (w.root c).line more → p.sweeps ≡ (w.pass t).sweeps → q.line ≡ drop n (w.root c).line
+          → IsStep size (part_of w) (Call t c n more) (Count (dequeued_count n (w.root c).line)) (part_of (turned w t p spots c (flag_after_call (w.word c) more (w.root c).line) q))
+      row_call n more q few says e rest =
+          let f : Bool = flag_after_call (w.word c) more (w.root c).line in (
+            (near, among, calm, few, says),
+            refl,
+            part_is t p spots c f q (put w.word c f) (put lines c (drop n (w.root c).line)) sweeping refl (now_line c q (drop n (w.root c).line) rest) (same_sweeps t p e),
           )
 
-    pub row_sweep : (w.threads.pass t).sweeps ≡ Some c → (q : CondRootView) → p.sweeps ≡ None → q.line ≡ []
-        → IsStep size (part_of w) (Sweep t c) (Count (length (w.conds.root c).line)) (part_of (turned w t p spots c (w.conds.flag c) q))
+    pub row_sweep : (w.pass t).sweeps ≡ Some c → (q : CondRootView) → p.sweeps ≡ None → q.line ≡ []
+        → IsStep size (part_of w) (Sweep t c) (Count (length (w.root c).line)) (part_of (turned w t p spots c (w.word c) q))
     row_sweep lowered q e none_left = (
       (near, among, lowered),
       refl,
-      part_is w t p spots c (w.conds.flag c) q w.conds.flag (put (part_of w).conds.line c []) (put (part_of w).sweeps t None) (same_flag c) (now_line c q [] none_left) (now_sweeps t p None e),
+      part_is t p spots c (w.word c) q w.word (put lines c (drop (length (w.root c).line) (w.root c).line)) (put sweeping t None) (put_again w.word c)
+          (now_line c q (drop (length (w.root c).line) (w.root c).line) (none_left ∙ sym (drop_all (length (w.root c).line) (w.root c).line (omega arith)))) (now_sweeps t p None e),
     )

@@ -1,26 +1,17 @@
--- What the calls of the tests' schedules leave of a pass: its thread, and that it sweeps nothing.
-use Rattle.std.proofs.Common.{◌≡◌, ℕ, List, [], ◌∷◌, ap, ◌∙◌}
+-- The rights of the tests' schedules, as the opening gave them.
+use Rattle.std.proofs.Common.{◌≡◌, ℕ, refl, sym, subst}
 use Rattle.atomic_table.specs.Seated.{TableId}
-use Rattle.lot_words.specs.declared.views.Made.{Made}
+use Rattle.lot_rights.specs.Shown.{PassShown, RootShown}
+use Rattle.lot_rights.specs.Start.{pass_at, root_at}
 use Rattle.lot_conds.specs.declared.views.CondPassView.{CondPassView}
-use Rattle.lot_conds.specs.Shown.{CondPassShown}
-use Rattle.lot_conds.specs.Calls.{enlisted, called_pass}
-use Rattle.lot_conds.specs.Schedule.{IsCalm}
+use Rattle.lot_conds.specs.declared.views.CondRootView.{CondRootView}
+use Rattle.lot_conds.specs.declared.views.Size.{Size}
+use Rattle.lot_conds.specs.Rule.{scheme}
+use Rattle.lot_conds.specs.Schedule.{IsFree, IsEmpty}
 
-abbrev pub IsLeft : CondPassShown → CondPassShown → Type 0
-IsLeft p q = (q.table ≡ p.table) × (q.pass.thread ≡ p.pass.thread) × (q.pass.sweeps ≡ p.pass.sweeps)
+module _ (size : Size) (z : TableId) where
+  pub fresh_is_free : (t : ℕ) (p : PassShown CondPassView) → p ≡ pass_at (scheme size) z t → IsFree z t p
+  fresh_is_free t p e = subst (IsFree z t) (sym e) (refl, refl, refl, refl)
 
-pub left_on : (p q r : CondPassShown) → IsLeft p q → IsLeft q r → IsLeft p r
-left_on p q r a b = (b.0 ∙ a.0, b.1 ∙ a.1, b.2 ∙ a.2)
-
--- whatever events were noted
-module _ (p q : CondPassShown) (table : q.table ≡ p.table) (c : ℕ) where
-  pub enlisted_left : (made : List Made) → q.pass ≡ record (enlisted p.pass c) { made = made } → IsLeft p q
-  enlisted_left made e = (table, ap (λ (x : CondPassView). x.thread) e, ap (λ (x : CondPassView). x.sweeps) e)
-
-  pub called_left : (line : List ℕ) (made : List Made) → q.pass ≡ record (called_pass p.pass c line) { made = made } → IsLeft p q
-  called_left [] made e = (table, ap (λ (x : CondPassView). x.thread) e, ap (λ (x : CondPassView). x.sweeps) e)
-  called_left (u ∷ us) made e = (table, ap (λ (x : CondPassView). x.thread) e, ap (λ (x : CondPassView). x.sweeps) e)
-
-pub calm_again : (z : TableId) (t : ℕ) (p q r : CondPassShown) → IsCalm z t p → IsLeft p q → IsCalm z q.pass.thread r → IsCalm z t r
-calm_again z t p q r before left after = (after.0, after.1 ∙ (left.1 ∙ before.1), after.2, after.3)
+  pub fresh_is_empty : (q : RootShown CondRootView) → q ≡ root_at (scheme size) z 1 → IsEmpty z q
+  fresh_is_empty q e = subst (IsEmpty z) (sym e) (refl, refl, refl, refl)

@@ -1,10 +1,7 @@
 pub mod Calls
 pub mod Closing
-pub mod Plays
+pub mod Headline
 pub mod Rule
 pub mod Schedule
-pub mod Settled
 pub mod Shown
-pub mod Sound
-pub mod Start
 pub mod World

@@ -1,68 +1,73 @@
--- The rule of a table of condition words: there is a world, with a history, that the words and the rights stand for.
-use Rattle.std.specs.Prelude.{◌≡◌, ℕ, ◌+◌, ◌*◌, ◌<◌, false, List, [], None}
-use Rattle.atomic_table.specs.Table.{State, Me}
+-- The rule of a table of condition words: there is a world that the words and the rights stand for, and it tells the condition part of the model.
+use Rattle.std.specs.Prelude.{ℕ, ◌+◌, ◌<◌, false, List, [], replicate, None}
+use Rattle.std.proofs.Common.{sym, ◌∙◌}
 use Rattle.lot_core.specs.declared.events.Event.{Event}
 use Rattle.lot_core.specs.declared.events.Seen.{Seen}
-use Rattle.lot_core.specs.Parts.{CondPart, CondStep, IsAmongConds}
-use Rattle.lot_words.specs.declared.views.Made.{Made}
-use Rattle.lot_words.specs.Seating.{Seated}
-use Rattle.lot_words.specs.History.{Entries, no_entries, entries, Recorded}
+use Rattle.lot_core.specs.Parts.{CondPart, CondStep}
+use Rattle.lot_rights.specs.Rule.{Scheme}
+use Rattle.lot_rights.specs.Settled.{HasOneOutcome}
+use Rattle.lot_rights.specs.World.{Sizes, letters_of, WordsFit, PassIs, RootIs}
 use Rattle.lot_conds.specs.declared.views.CondPassView.{CondPassView}
-use Rattle.lot_conds.specs.declared.views.Right.{Right}
-use Rattle.lot_conds.specs.declared.views.Right.TheVariants.{Pass, Root}
+use Rattle.lot_conds.specs.declared.views.CondRootView.{CondRootView}
 use Rattle.lot_conds.specs.declared.views.Size.{Size}
-use Rattle.lot_conds.specs.World.{World, Kept, WordsFit}
-
--- ---- the condition part of the model that a world stands for
-abbrev pub part_of : World → CondPart
-part_of w = record { conds = record { flag = w.conds.flag; line = λ c. (w.conds.root c).line }; sweeps = λ t. (w.threads.pass t).sweeps }
-
--- no flag is set, and nobody is queued or sweeps
-abbrev pub opening_part : CondPart
-opening_part = record { conds = record { flag = λ c. false; line = λ c. [] }; sweeps = λ t. None }
-
--- a step of the model's condition part, in a table of this size
-abbrev pub IsStep : Size → CondPart → Event → Seen → CondPart → Type 0
-IsStep size a e saw b = CondStep size.threads size.locks size.conds a e saw b
+use Rattle.lot_conds.specs.World.{CondWorld, flag_word, Kept}
 
 -- how many keys there are, locks and conditions
 abbrev pub key_count : Size → ℕ
 key_count size = size.locks + size.conds
 
--- ---- rights
-abbrev pub number : Right → ℕ
-number (Pass p) = 2 * p.thread
-number (Root q) = 2 * q.key + 1
+abbrev pub sizes_of : Size → Sizes
+sizes_of size = record { threads = size.threads; first = size.locks; keys = size.conds }
 
--- what a right shows of the history
-abbrev pub shown : Right → Entries
-shown (Pass p) = entries p.thread p.made
-shown (Root q) = no_entries
+-- the condition part of the model that a world stands for
+abbrev pub part_of : CondWorld → CondPart
+part_of w = record { conds = record { flag = w.word; line = λ c. (w.root c).line }; sweeps = λ t. (w.pass t).sweeps }
 
--- the pass without the events that were made with it: of these the world knows nothing
-abbrev pub bare : CondPassView → CondPassView
-bare p = record p { made = [] }
+-- no flag is set, and nobody is queued or sweeps
+abbrev pub opening_part : CondPart
+opening_part = record { conds = record { flag = λ c. false; line = λ c. [] }; sweeps = λ t. None }
 
-abbrev pub RightFits : Size → World → Right → Type 0
-RightFits size w (Pass p) = (p.thread < size.threads) × (w.threads.pass p.thread ≡ bare p)
-RightFits size w (Root q) = IsAmongConds size.locks size.conds q.key × (w.conds.root q.key ≡ q)
+-- a step of the model's condition part, in a table of this size. An Enlist is noted with lock 0, whichever lock it was: to the condition part it is the same with each
+abbrev pub IsStep : Size → CondPart → Event → Seen → CondPart → Type 0
+IsStep size a e saw b = CondStep size.threads size.locks size.conds a e saw b
 
--- the table, which has no slots
-abbrev pub CondState : Type 0
-CondState = State (Unit {0}) (List Right)
-
--- what a seat has
-abbrev pub CondMe : Type 0
-CondMe = Me (Unit {0}) (List Right)
-
-pub record Stands (size : Size) (w : World) (s : CondState) : Type 0 where
+-- the words stand for the world, which keeps the rule of threads and conditions; there is a lock
+pub record Fits (size : Size) (w : CondWorld) (ws : List ℕ) : Type 0 where
   pub some : 0 < size.locks
-  pub words : WordsFit size.threads (key_count size) w s.words
-  pub seats : Seated number (RightFits size w) s.views
+  pub words : WordsFit flag_word (sizes_of size) w ws
   pub kept : Kept size.threads (key_count size) w
 
-pub record Ruled (size : Size) (s : CondState) : Type 0 where
-  pub world : World
-  pub stands : Stands size world s
-  pub log : List Made
-  pub recorded : Recorded number shown (IsStep size) opening_part log s.views (part_of world)
+-- ---- the rights at the opening, among m keys
+abbrev pub fresh_pass : ℕ → CondPassView
+fresh_pass m = record { out = None; sweeps = None; called = replicate m 0; woken = replicate m 0 }
+
+abbrev pub fresh_root : CondRootView
+fresh_root = record { line = []; owes = [] }
+
+abbrev pub scheme : Size → Scheme (Unit {0}) CondPassView CondRootView
+scheme size = record {
+  World = CondWorld;
+  Part = CondPart;
+  Fits = λ w ws hs. Fits size w ws;
+  PassFits = λ w t p. PassIs (sizes_of size) w t p;
+  RootFits = λ w c q. RootIs (sizes_of size) w c q;
+  told_by = λ w. record { part = part_of w; letters = letters_of w.spot };
+  start = record { part = opening_part; letters = λ t. 0 };
+  Step = IsStep size;
+  word_in = λ a c. flag_word (a.conds.flag c);
+  threads = size.threads;
+  first_key = size.locks;
+  keys = size.conds;
+  fresh_pass = λ t. fresh_pass (key_count size);
+  fresh_root = λ c. fresh_root;
+}
+
+-- what no pass and no root knows
+abbrev pub no_pass : CondPassView
+no_pass = fresh_pass 0
+
+abbrev pub no_root : CondRootView
+no_root = fresh_root
+
+pub one_outcome : (size : Size) → HasOneOutcome (scheme size)
+one_outcome size a b c e s h k = h.2 ∙ sym k.2

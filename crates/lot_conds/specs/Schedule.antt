@@ -1,12 +1,14 @@
 -- What the schedules of the tests know of the rights of a table with one lock and one condition.
 use Rattle.std.specs.Prelude.{◌≡◌, ℕ, [], None}
 use Rattle.atomic_table.specs.Seated.{TableId}
-use Rattle.lot_conds.specs.Shown.{CondPassShown, CondRootShown}
+use Rattle.lot_rights.specs.Shown.{PassShown, RootShown}
+use Rattle.lot_conds.specs.declared.views.CondPassView.{CondPassView}
+use Rattle.lot_conds.specs.declared.views.CondRootView.{CondRootView}
 
 -- the pass of the thread t, which is out nowhere and sweeps nothing
-abbrev pub IsCalm : TableId → ℕ → CondPassShown → Type 0
-IsCalm table t p = (p.table ≡ table) × (p.pass.thread ≡ t) × (p.pass.out ≡ None) × (p.pass.sweeps ≡ None)
+abbrev pub IsFree : TableId → ℕ → PassShown CondPassView → Type 0
+IsFree table t p = (p.table ≡ table) × (p.pass.thread ≡ t) × (p.pass.own.out ≡ None) × (p.pass.own.sweeps ≡ None)
 
 -- the root of the condition, in whose line nobody is
-abbrev pub IsEmpty : TableId → CondRootShown → Type 0
-IsEmpty table q = (q.table ≡ table) × (q.root.key ≡ 1) × (q.root.line ≡ []) × (q.root.owes ≡ [])
+abbrev pub IsEmpty : TableId → RootShown CondRootView → Type 0
+IsEmpty table q = (q.table ≡ table) × (q.root.key ≡ 1) × (q.root.own.line ≡ []) × (q.root.own.owes ≡ [])

@@ -1,39 +1,37 @@
 //! Condition words under one rule: the flag of WTF's `Condition`, and the letters by which waiting threads are told. Each call is one
-//! single access to one word, and makes exactly one event of the model (lot_core), which its contract names. Nothing here waits, and
-//! nothing but `open` takes memory. lot_sync builds the condition on it, with the parking lot of lot_park; lot_words is its sibling.
+//! single access to one word, and makes exactly one entry of the table's history (lot_rights), which its contract names: an event of the
+//! model (lot_core), or a notice. Nothing here waits, and nothing but `open` takes memory. lot_sync builds the condition on it, with the
+//! parking lot of lot_park; lot_words is its sibling.
 //!
 //! A thread acts with its `CondPass`, and a condition's line changes with its `CondRoot`, which lies in the bucket of the condition.
 //!
-//! | Call | Access | Event | The pass then |
+//! | Call | Access | Entry | The pass then |
 //! |---|---|---|---|
 //! | `enlist` | store 1 | Enlist | is out on the condition, last in its line |
 //! | `look` | load | Look | is as it was, and knows the flag |
 //! | `call` | load, or store 0 | Call | has taken the line's first, to whom the root owes a letter |
 //! | `lower` | store 0 | Lower | has to sweep the condition |
 //! | `sweep` | load | Sweep | has taken the whole line, to each of whom the root owes a letter |
-//! | `post` | store 1 | none | (the root owes one letter less) |
-//! | `collect` | swap | none | is in again, where a letter lay |
+//! | `post` | store 1 | a letter was posted, with the root | (the root owes one letter less) |
+//! | `collect` | swap | a letter was looked for, and found or not | is in again, where a letter lay |
 //!
 //! A word is 1 where threads may wait on the condition, else 0. A letter is 0 for none, and 1 for a thread that was taken.
 //!
-//! Read `specs/World` first (what the words and rights stand for), then `specs/Rule` (the rule that every access keeps) and
-//! `specs/Calls`. `laws` says what the rule means: letters fit, no sleeper is forgotten, the ledger is balanced, one history.
+//! Read `specs/World` first (what the words and rights stand for), then `specs/Rule` (the rule that every access keeps), `specs/Calls` and
+//! `specs/Headline`: letters fit, no sleeper is forgotten, the ledger is balanced, one history.
 #![tactic(auto)]
 
 mod closing;
+pub mod kind;
 pub mod laws;
 mod notifying;
 mod opening;
-mod pairs;
-pub mod plays;
-pub mod rights;
-pub mod rule;
 pub mod views;
 mod waiting;
 pub mod words;
 
-pub use lot_words::WordsFault;
-pub use rights::{CondPass, CondRoot};
+pub use kind::{CondPass, CondRoot};
+pub use lot_rights::WordsFault;
 pub use words::CondWords;
 
 #[cfg(test)]

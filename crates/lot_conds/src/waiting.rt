@@ -1,13 +1,17 @@
 //! Queueing on a condition, and letters.
-ghost use Rattle.std.specs.Prelude.{◌≡◌, ℕ, ◌<◌, ◌++◌, List, ◌∷◌, Contains, MatchOption, None};
+ghost use Rattle.std.specs.Prelude.{◌≡◌, MatchOption};
+ghost use Rattle.std.specs.List.{Contains};
 ghost use Rattle.lot_core.specs.Parts.{IsAmongConds};
 ghost use Rattle.lot_core.specs.declared.events.Event.TheVariants.{Enlist};
 ghost use Rattle.lot_core.specs.declared.events.Seen.TheVariants.{Done};
-ghost use Rattle.lot_conds.specs.Calls.{Notes, enlisted, enlisted_root, Collected};
+ghost use Rattle.lot_rights.specs.declared.views.Access.TheVariants.{Makes, Posts};
+ghost use Rattle.lot_rights.specs.Steps.{Notes, RootNotes};
+ghost use Rattle.lot_conds.specs.Calls.{IsCalm, enlisted, enlisted_root, paid_root, FoundNone, Collected};
 
-use crate::plays::{CollectStep, EnlistStep, PostStep};
-use crate::rights::{CondPass, CondRoot};
-use crate::words::{CondWords, HAS_WAITERS, letter_of_thread, word_of_cond};
+use crate::kind::{CondPass, CondRoot};
+use crate::words::{CondWords, HAS_WAITERS};
+use lot_rights::word_of_key;
+use std::marker::Brand;
 
 /// A thread's word where no letter lies.
 const NO_LETTER: u64 = 0;
@@ -17,50 +21,47 @@ const LETTER: u64 = 1;
 
 impl CondWords {
     /// Queues the thread last on the root's condition and sets its flag, by one store: the validation of WTF's `Condition::wait`,
-    /// which runs while the bucket of the condition is locked. The event is Enlist, with the lock that the thread has: which one it is
-    /// makes no difference to the condition, so the caller alone knows it.
+    /// which runs while the bucket of the condition is locked. The event is Enlist. It stands in the history with lock 0; which lock the
+    /// thread has the caller alone knows, since it makes no difference to the condition (`laws::an_enlist_is_so_with_each_lock`).
     pub fn enlist(&self, pass: CondPass, root: CondRoot) -> (CondPass, CondRoot)
         requires table { (pass.table ≡ self.now.table) × (root.table ≡ self.now.table) }
-        requires calm { (pass.pass.out ≡ None) × (pass.pass.sweeps ≡ None) }
+        requires calm { IsCalm pass.pass.own }
         ensures table { (result.0.table ≡ pass.table) × (result.1.table ≡ root.table) }
-        ensures event { (l : ℕ) → l < self.now.size.locks → Notes (enlisted pass.pass root.root.key) result.0.pass (Enlist pass.pass.thread root.root.key l) Done }
-        ensures root { result.1.root ≡ enlisted_root root.root pass.pass.thread }
+        ensures event { Notes pass.pass (enlisted pass.pass.own root.root.key) (Makes (Enlist pass.pass.thread root.root.key 0) Done) result.0.pass }
+        ensures root { result.1.root ≡ record root.root { own = enlisted_root root.root.own pass.pass.thread } }
     {
-        let thread = pass.thread();
-        let key = root.key();
-        let mut seat = self.joined(pass, root);
-        let shared = &self.table.shared;
-        shared.store::<EnlistStep>(&mut seat, word_of_cond(key), HAS_WAITERS);
-        self.parted(seat, thread, key)
+        let words = &self.words;
+        let word = root.word();
+        words.store_both::<Brand, ()>(pass, root, word, HAS_WAITERS, ())
     }
 
-    /// Posts a letter that the root owes, by one store, while the bucket of the condition is still locked. No event is made.
+    /// Posts a letter that the root owes, by one store, while the bucket of the condition is still locked.
     pub fn post(&self, root: CondRoot, thread: usize) -> CondRoot
         requires table { root.table ≡ self.now.table }
-        requires owes { Contains root.root.owes thread }
+        requires owes { Contains root.root.own.owes thread }
         ensures table { result.table ≡ root.table }
-        ensures root { (before after : List ℕ) → root.root.owes ≡ before ++ thread ∷ after → result.root ≡ record root.root { owes = before ++ after } }
+        ensures posted { RootNotes root.root (paid_root root.root.own thread) (Posts root.root.key thread 0) result.root }
     {
-        let CondRoot { mut seat, key } = root;
-        let shared = &self.table.shared;
-        shared.store::<PostStep>(&mut seat, letter_of_thread(thread), LETTER);
-        CondRoot { seat, key }
+        let words = &self.words;
+        let letter = root.letter_of(thread);
+        words.store_root::<Brand, usize>(root, letter, LETTER, thread)
     }
 
     /// Collects the pass's letter, by one swap, and answers its token, which is 0, where a letter lay: the thread was taken from the
-    /// condition's line, and its wait has ended. No event is made, and a pass that is out nowhere has no letter. A thread that waits
-    /// calls it until a letter lies; what wakes it tells nothing.
+    /// condition's line, and its wait has ended. A pass that is out nowhere has no letter. A thread that waits calls it until a letter
+    /// lies; what wakes it tells nothing.
     pub fn collect(&self, pass: CondPass) -> (CondPass, Option<u32>)
         requires { pass.table ≡ self.now.table }
-        ensures { MatchOption result.1 (result.0 ≡ pass) (λ token. Collected pass token result.0) }
+        ensures table { result.0.table ≡ pass.table }
+        ensures letter { MatchOption result.1 (FoundNone pass.pass result.0.pass) (λ token. Collected pass.pass token result.0.pass) }
     {
-        let CondPass { mut seat, thread } = pass;
-        let shared = &self.table.shared;
-        let letter = shared.swap::<CollectStep>(&mut seat, letter_of_thread(thread), NO_LETTER);
+        let words = &self.words;
+        let place = pass.letter();
+        let (pass, letter) = words.swap::<Brand, ()>(pass, place, NO_LETTER, ());
         if letter == NO_LETTER {
-            return (CondPass { seat, thread }, None);
+            return (pass, None);
         }
-        (CondPass { seat, thread }, Some((letter - LETTER) as u32))
+        (pass, Some((letter - LETTER) as u32))
     }
 
     /// The condition's flag as it was just now, 0 or 1. It is an observation, of which nothing is promised.
@@ -68,6 +69,6 @@ impl CondWords {
     pub fn bits(&self, key: usize) -> u64
         requires { IsAmongConds self.now.size.locks self.now.size.conds key }
     {
-        self.table.shared.peek(word_of_cond(key))
+        self.words.peek(word_of_key(key))
     }
 }

@@ -5,7 +5,8 @@ use Rattle.std.specs.Option.{option_and_then}
 use Rattle.std.specs.Char.{is_ascii_digit}
 use Rattle.std.proofs.lemmas.Bool.{cases_lt, eqb-true, eqb-false, ne_eqb, leb-true, and_parts, and_from, le-leb, ltb-true}
 use Rattle.std.proofs.lemmas.Fmt.{decimal_digit, decimal_step}
-use Rattle.lot_core.specs.Script.{field, bit}
+use Rattle.lot_core.specs.Sums.{bit}
+use Rattle.lot_core.specs.Script.{field}
 use Rattle.lot_core.specs.Reading.{one_more, three_more, number_at, field_at, flag_at, end_at}
 use Rattle.lot_core.proofs.Put.{by_bit}
 
@@ -201,7 +202,9 @@ unfolding flag_at
 flag_takes text b rest is =
     let x = bind_some _ (field_at text) (b, rest) is in
     let n = x.0.0 in
-    by_bit (λ c. (nat_lt n 2) ≡ c → ◌≡◌ {A = Option (Bool × List ℕ)} (if◌then◌else◌ {A = Option (Bool × List ℕ)} c (Some (n == 1, x.0.1)) None) (Some (b, rest)) → text ≡ field (bit b) ++ rest) (nat_lt n 2)
+    by_bit (λ c. (nat_lt n 2) ≡ c →
+    ◌≡◌ {A = Option (Bool × List ℕ)} (if◌then◌else◌ {A = Option (Bool × List ℕ)} c (Some (n == 1, x.0.1)) None) (Some (b, rest)) →
+    text ≡ field (bit b) ++ rest) (nat_lt n 2)
     (λ _ e is.
     let both = some_is (n == 1, x.0.1) (b, rest) is in
     let b_is : (n == 1) ≡ b = ap (λ (y : Bool × List ℕ). y.0) both in

@@ -1,40 +1,86 @@
 -- What each single change of a state keeps.
-use Rattle.std.proofs.Common.{◌≡◌, ◌≢◌, ◌⊎◌, ◌++◌, ℕ, Bool, true, false, List, [], ◌∷◌, refl, subst, sym, ap, ◌∙◌, inl, inr}
-use Rattle.std.specs.Prelude.{◌&&◌, if◌then◌else◌}
+use Rattle.std.proofs.Common.{◌≡◌, ◌≢◌, ◌⊎◌, ◌++◌, ℕ, Bool, true, false, List, [], ◌∷◌, length, drop, refl, subst, sym, ap, ◌∙◌, inl, inr}
+use Rattle.std.proofs.Math.Seq.{drop-nil, drop-length}
+use Rattle.std.specs.Prelude.{if◌then◌else◌}
 use Rattle.std.specs.List.{Contains}
 use Rattle.std.proofs.lemmas.List.Elements.{Contains-push_cases}
 use Rattle.std.proofs.lemmas.Bool.{cases_eq, and_cases}
 use Rattle.lot_core.specs.declared.events.Point.{Point}
-use Rattle.lot_core.specs.declared.events.Point.TheVariants.{Calm, Wants, Bed, Rest, Sweeps}
-use Rattle.lot_core.specs.World.{World, put}
-use Rattle.lot_core.specs.Steps.{IsThread, IsTrying, MayLetGo, SaysMore, enlisted, called_line, released, let_go}
-use Rattle.lot_core.specs.Sound.{Waits, OneLineEach, IsSound, IsOnce}
+use Rattle.lot_core.specs.declared.events.Point.TheVariants.{Calm, Wants, Bed, Rest, Sweeps, Seeks}
+use Rattle.lot_core.specs.World.{World, Semaphores, put}
+use Rattle.lot_core.specs.Steps.{IsThread, IsTrying, MayLetGo, SaysMore, SaysMoreBehind, enlisted, dequeued, flag_after_call, called, swept, released, let_go}
+use Rattle.lot_core.specs.Sound.{Waits, OneOwner, SleepersAreMarked, SomeoneIsTrying, SomeoneSweeps, IsOnce}
 use Rattle.lot_core.proofs.Put.{by_line, at_all, put_same, put_other}
-use Rattle.lot_core.proofs.Members.{in_tail, in_head, in_none, two_or_more, two_from, once_tail, head_left, once_push, once_none}
+use Rattle.lot_core.proofs.Members.{in_tail, in_head, in_none, in_drop, some_behind, two_from, once_tail, once_drop, head_left, once_push}
 use Rattle.lot_core.proofs.Owners.{owners_got, owners_left, owners_handed}
 
--- a sound state in whose locks' lines only threads of the state stand
+-- a thread is in one line of a lock or a condition at most, once, and its point names that line's key
+pub record OneKeyEach (lock_line cond_line : ℕ → List ℕ) (point : ℕ → Point) : Type 0 where
+  pub lock_once : (l : ℕ) → IsOnce (lock_line l)
+  pub cond_once : (c : ℕ) → IsOnce (cond_line c)
+  pub wants : (l t : ℕ) → Contains (lock_line l) t → point t ≡ Wants l
+  pub waits : (c t : ℕ) → Contains (cond_line c) t → Waits point c t
+
+-- what a sound state says of its locks and conditions
+pub record AreKeysSound (s : World) : Type 0 where
+  pub one_owner : OneOwner s.locks.held s.locks.has
+  pub sleepers_are_marked : SleepersAreMarked s.locks.line s.locks.parked
+  pub someone_is_trying : SomeoneIsTrying s
+  pub someone_sweeps : SomeoneSweeps s
+  pub one_line_each : OneKeyEach s.locks.line s.conds.line s.point
+
+-- with it, only threads of the state stand in the locks' lines
 pub record IsKept (s : World) : Type 0 where
-  pub sound : IsSound s
+  pub sound : AreKeysSound s
   pub known : (l t : ℕ) → Contains (s.locks.line l) t → IsThread s t
 
--- t is in no line
+-- it says nothing of the semaphores
+pub sems_kept : (s : World) (z : Semaphores) → IsKept s → IsKept (record s { sems = z })
+sems_kept s z h = record {
+  sound = record {
+    one_owner = h.sound.one_owner;
+    sleepers_are_marked = h.sound.sleepers_are_marked;
+    someone_is_trying = h.sound.someone_is_trying;
+    someone_sweeps = h.sound.someone_sweeps;
+    one_line_each = h.sound.one_line_each;
+  };
+  known = h.known;
+}
+
+-- t is in no line of a lock or a condition
 pub record IsOutside (s : World) (t : ℕ) : Type 0 where
   pub locks : (l : ℕ) → Contains (s.locks.line l) t → ⊥
   pub conds : (c : ℕ) → Contains (s.conds.line c) t → ⊥
 
--- a thread whose point is of another kind is in no line
-pub outside_calm : (s : World) (t : ℕ) → IsKept s → s.point t ≡ Calm → IsOutside s t
-outside_calm s t h calm = record {
-  locks = λ l inside. let e : s.point t ≡ Wants l = h.sound.one_line_each.wants l t inside in absurd (cc);
-  conds = λ c inside. elim (h.sound.one_line_each.waits c t inside).1 [ inl e ↦ absurd (cc) | inr e ↦ absurd (cc) ];
-}
+-- a point that names no lock
+pub record IsApart (p : Point) : Type 0 where
+  pub wants : (l : ℕ) → p ≢ Wants l
+  pub bed : (c l : ℕ) → p ≢ Bed c l
+  pub rest : (c l : ℕ) → p ≢ Rest c l
 
-pub outside_sweeps : (s : World) (t c : ℕ) → IsKept s → s.point t ≡ Sweeps c → IsOutside s t
-outside_sweeps s t c h sweeps = record {
-  locks = λ l inside. let e : s.point t ≡ Wants l = h.sound.one_line_each.wants l t inside in absurd (cc);
-  conds = λ d inside. elim (h.sound.one_line_each.waits d t inside).1 [ inl e ↦ absurd (cc) | inr e ↦ absurd (cc) ];
+pub calm_apart : IsApart Calm
+calm_apart = record { wants = λ l e. absurd (cc); bed = λ c l e. absurd (cc); rest = λ c l e. absurd (cc) }
+
+pub sweeps_apart : (c : ℕ) → IsApart (Sweeps c)
+sweeps_apart d = record { wants = λ l e. absurd (cc); bed = λ c l e. absurd (cc); rest = λ c l e. absurd (cc) }
+
+pub seeks_apart : (k : ℕ) → IsApart (Seeks k)
+seeks_apart k = record { wants = λ l e. absurd (cc); bed = λ c l e. absurd (cc); rest = λ c l e. absurd (cc) }
+
+-- a thread at such a point is in no line, and tries to get no lock
+pub apart_outside : (s : World) (t : ℕ) (p : Point) → IsKept s → IsApart p → s.point t ≡ p → IsOutside s t
+apart_outside s t p h apart at = record {
+  locks = λ l inside. apart.wants l (sym at ∙ h.sound.one_line_each.wants l t inside);
+  conds = λ c inside. waits_not c (h.sound.one_line_each.waits c t inside);
 }
+  where
+    waits_not : (c : ℕ) → Waits s.point c t → ⊥
+    waits_not c (l, inl e) = apart.bed c l (sym at ∙ e)
+    waits_not c (l, inr e) = apart.rest c l (sym at ∙ e)
+
+pub apart_tries_nothing : (s : World) (t k : ℕ) (p : Point) → IsApart p → s.point t ≡ p → IsTrying s t k → ⊥
+apart_tries_nothing s t k p apart at (inl x) = apart.wants k (sym at ∙ x.0)
+apart_tries_nothing s t k p apart at (inr x) = apart.rest x.0 k (sym at ∙ x.1)
 
 pub outside_wants : (s : World) (t l : ℕ) → IsKept s → s.point t ≡ Wants l → (Contains (s.locks.line l) t → ⊥) → IsOutside s t
 outside_wants s t l h wants out = record {
@@ -65,20 +111,12 @@ trying_one s t l k (inl x) (inr y) = let a = x.0 in let b = y.1 in absurd (cc)
 trying_one s t l k (inr x) (inl y) = let a = x.1 in let b = y.0 in absurd (cc)
 trying_one s t l k (inr x) (inr y) = let a = x.1 in let b = y.1 in cc
 
-pub calm_tries_nothing : (s : World) (t k : ℕ) → s.point t ≡ Calm → IsTrying s t k → ⊥
-calm_tries_nothing s t k calm (inl x) = let a = x.0 in absurd (cc)
-calm_tries_nothing s t k calm (inr x) = let a = x.1 in absurd (cc)
-
 pub bed_tries_nothing : (s : World) (t c l k : ℕ) → s.point t ≡ Bed c l → IsTrying s t k → ⊥
 bed_tries_nothing s t c l k bed (inl x) = let a = x.0 in absurd (cc)
 bed_tries_nothing s t c l k bed (inr x) = let a = x.1 in absurd (cc)
 
-pub sweeper_tries_nothing : (s : World) (t c k : ℕ) → s.point t ≡ Sweeps c → IsTrying s t k → ⊥
-sweeper_tries_nothing s t c k sweeps (inl x) = let a = x.0 in absurd (cc)
-sweeper_tries_nothing s t c k sweeps (inr x) = let a = x.1 in absurd (cc)
-
 pub trying_sweeps_nothing : (s : World) (t l c : ℕ) → IsTrying s t l → s.point t ≡ Sweeps c → ⊥
-trying_sweeps_nothing s t l c try sweeps = sweeper_tries_nothing s t c l sweeps try
+trying_sweeps_nothing s t l c try sweeps = apart_tries_nothing s t l (Sweeps c) (sweeps_apart c) sweeps try
 
 -- t's point becomes p
 abbrev pub move : World → ℕ → Point → World
@@ -282,7 +320,7 @@ first_known s l u rest h is = h.known l u (subst (λ xs. Contains xs u) (sym is)
 
 -- the lock lines where l's first has left
 pub lines_left : (s : World) (l u : ℕ) (rest : List ℕ) → IsKept s → s.locks.line l ≡ u ∷ rest →
-    OneLineEach (put s.locks.line l rest) s.conds.line s.point
+    OneKeyEach (put s.locks.line l rest) s.conds.line s.point
 lines_left s l u rest h is = record {
   lock_once = left_once s.locks.line l u rest is h.sound.one_line_each.lock_once;
   cond_once = h.sound.one_line_each.cond_once;
@@ -381,7 +419,7 @@ rests_now s t c l d bed (k, inr e) u is = absurd (cc)
 pub let_go_kept : (s : World) (t l : ℕ) → IsKept s → MayLetGo s t l → IsKept (record s { point = let_go s.point t })
 let_go_kept s t l h (inl calm) =
     subst (λ p. IsKept (move s t p)) (ap released (sym calm))
-    (move_kept s t Calm h (outside_calm s t h calm) (λ k clear try. calm_tries_nothing s t k calm try) (λ c some e. absurd (cc)))
+    (move_kept s t Calm h (apart_outside s t Calm h calm_apart calm) (λ k clear try. apart_tries_nothing s t k Calm calm_apart calm try) (λ c some e. absurd (cc)))
 let_go_kept s t l h (inr (c, bed)) = subst (λ p. IsKept (move s t p)) (ap released (sym bed)) (record {
   sound = record {
     one_owner = h.sound.one_owner;
@@ -479,21 +517,33 @@ conds_kept s flag line h less once sweeps = record {
   known = h.known;
 }
 
-pub called_kept : (s : World) (c : ℕ) (more : Bool) (xs : List ℕ) → IsKept s → s.conds.line c ≡ xs → SaysMore xs more →
-    IsKept (record s { conds = called_line s.conds c more xs })
-called_kept s c more [] h is says =
-    conds_kept s (put s.conds.flag c false) s.conds.line h (λ d u inside. inside) h.sound.one_line_each.cond_once
-    (at_all (λ d b. (if b then false else s.conds.flag d) ≡ false → s.conds.line d ≢ [] → (t : ℕ) × IsThread s t × (s.point t ≡ Sweeps d)) c
-    (λ clear some. absurd (some is)) (λ d ne clear some. h.sound.someone_sweeps d clear some))
-called_kept s c more (u ∷ rest) h is says =
-    conds_kept s (put s.conds.flag c (s.conds.flag c && more)) (put s.conds.line c rest) h
-    (left s.conds.line c u rest is) (left_once s.conds.line c u rest is h.sound.one_line_each.cond_once)
-    (at_all (λ d b. (if b then s.conds.flag c && more else s.conds.flag d) ≡ false → (if b then rest else s.conds.line d) ≢ [] →
+-- the first n of c's line leave it, and each flag is clear only where it may be
+pub dequeued_kept : (s : World) (flag : ℕ → Bool) (c n : ℕ) → IsKept s →
+    ((d : ℕ) → flag d ≡ false → put s.conds.line c (drop n (s.conds.line c)) d ≢ [] → (t : ℕ) × IsThread s t × (s.point t ≡ Sweeps d)) →
+    IsKept (record s { conds = record (dequeued s.conds c n) { flag = flag } })
+dequeued_kept s flag c n h =
+    conds_kept s flag (put s.conds.line c (drop n (s.conds.line c))) h
+    (λ d u. at_all (λ d b. Contains (if b then drop n (s.conds.line c) else s.conds.line d) u → Contains (s.conds.line d) u) c
+    (in_drop n (s.conds.line c) u) (λ d ne inside. inside) d)
+    (at_all (λ d b. IsOnce (if b then drop n (s.conds.line c) else s.conds.line d)) c
+    (once_drop n (s.conds.line c) (h.sound.one_line_each.cond_once c)) (λ d ne. h.sound.one_line_each.cond_once d))
+
+-- a flag that a Call leaves clear before sleepers was clear before
+pub flag_left : (flag more : Bool) (n : ℕ) (xs : List ℕ) → SaysMoreBehind n xs more → flag_after_call flag more xs ≡ false → drop n xs ≢ [] → flag ≡ false
+flag_left flag more n [] says clear some = absurd (some (drop-nil n))
+flag_left flag more n (u ∷ rest) says clear some = elim (and_cases flag more clear) [
+  | inl e ↦ e
+  | inr e ↦ let said : more ≡ true = says (some_behind n (u ∷ rest) some) in absurd (cc)
+]
+
+pub called_kept : (s : World) (c n : ℕ) (more : Bool) → IsKept s → SaysMoreBehind n (s.conds.line c) more →
+    IsKept (record s { conds = called s.conds c n more })
+called_kept s c n more h says =
+    let xs : List ℕ = s.conds.line c in
+    dequeued_kept s (put s.conds.flag c (flag_after_call (s.conds.flag c) more xs)) c n h
+    (at_all (λ d b. (if b then flag_after_call (s.conds.flag c) more xs else s.conds.flag d) ≡ false → (if b then drop n xs else s.conds.line d) ≢ [] →
     (t : ℕ) × IsThread s t × (s.point t ≡ Sweeps d)) c
-    (λ clear some. elim (and_cases (s.conds.flag c) more clear) [
-      | inl e ↦ h.sound.someone_sweeps c e (λ none. let both : u ∷ rest ≡ [] = sym is ∙ none in absurd (cc))
-      | inr e ↦ let said : more ≡ true = says (two_or_more u rest some) in absurd (cc)
-    ])
+    (λ clear some. h.sound.someone_sweeps c (flag_left (s.conds.flag c) more n xs says clear some) (λ none. some (ap (drop n) none ∙ drop-nil n)))
     (λ d ne clear some. h.sound.someone_sweeps d clear some))
 
 pub lowered_kept : (s : World) (t c : ℕ) → IsKept s → IsThread s t → s.point t ≡ Sweeps c →
@@ -503,11 +553,9 @@ lowered_kept s t c h thread at =
     (at_all (λ d b. (if b then false else s.conds.flag d) ≡ false → s.conds.line d ≢ [] → (t : ℕ) × IsThread s t × (s.point t ≡ Sweeps d)) c
     (λ clear some. (t, thread, at)) (λ d ne clear some. h.sound.someone_sweeps d clear some))
 
-pub swept_kept : (s : World) (c : ℕ) → IsKept s → IsKept (record s { conds = record s.conds { line = put s.conds.line c [] } })
+pub swept_kept : (s : World) (c : ℕ) → IsKept s → IsKept (record s { conds = swept s.conds c })
 swept_kept s c h =
-    conds_kept s s.conds.flag (put s.conds.line c []) h
-    (λ d u. at_all (λ d b. Contains (if b then [] else s.conds.line d) u → Contains (s.conds.line d) u) c
-    (λ inside. absurd (in_none u inside)) (λ d ne inside. inside) d)
-    (at_all (λ d b. IsOnce (if b then [] else s.conds.line d)) c once_none (λ d ne. h.sound.one_line_each.cond_once d))
-    (at_all (λ d b. s.conds.flag d ≡ false → (if b then [] else s.conds.line d) ≢ [] → (t : ℕ) × IsThread s t × (s.point t ≡ Sweeps d)) c
-    (λ clear some. absurd (some refl)) (λ d ne clear some. h.sound.someone_sweeps d clear some))
+    let xs : List ℕ = s.conds.line c in
+    dequeued_kept s s.conds.flag c (length xs) h
+    (at_all (λ d b. s.conds.flag d ≡ false → (if b then drop (length xs) xs else s.conds.line d) ≢ [] → (t : ℕ) × IsThread s t × (s.point t ≡ Sweeps d)) c
+    (λ clear some. absurd (some (drop-length xs))) (λ d ne clear some. h.sound.someone_sweeps d clear some))

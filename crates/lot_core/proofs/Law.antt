@@ -1,16 +1,26 @@
 -- Every event that is allowed keeps a sound state sound.
-use Rattle.std.proofs.Common.{◌≡◌, ◌≢◌, ◌⊎◌, ℕ, Bool, true, false, List, [], ◌∷◌, refl, subst, ap, ◌∙◌, inl, inr}
+use Rattle.std.proofs.Common.{◌≡◌, ◌≢◌, ◌⊎◌, ◌+◌, ℕ, Bool, true, false, List, [], ◌∷◌, refl, subst, sym, ap, ◌∙◌, inl, inr}
 use Rattle.std.specs.Prelude.{◌&&◌, if◌then◌else◌}
 use Rattle.std.proofs.lemmas.Bool.{and_parts}
-use Rattle.lot_core.specs.declared.events.Point.TheVariants.{Calm, Wants, Bed, Rest, Sweeps}
+use Rattle.std.proofs.Math.Seq.{drop-length}
+use Rattle.lot_core.specs.declared.events.Point.{Point}
+use Rattle.lot_core.specs.declared.events.Point.TheVariants.{Calm, Wants, Bed, Rest, Sweeps, Seeks}
 use Rattle.lot_core.specs.declared.events.Event.{Event}
-use Rattle.lot_core.specs.declared.events.Event.TheVariants.{Try, Take, Mark, Park, Free, Pass, Enlist, Look, Call, Lower, Sweep}
-use Rattle.lot_core.specs.World.{World, put, opening}
-use Rattle.lot_core.specs.Steps.{IsThread, IsTrying, MayLetGo, SaysMore, Allowed, after, Run, after_all, passed_line, handed, let_go}
+use Rattle.lot_core.specs.declared.events.Event.TheVariants.{Try, Take, Mark, Park, Free, Pass, Enlist, Look, Call, Lower, Sweep, SemTake, SemMark, SemPark, SemFree, SemPass, SemClear}
+use Rattle.lot_core.specs.Rows.{row_from}
+use Rattle.lot_core.specs.World.{World, put, opening_with}
+use Rattle.lot_core.specs.Steps.{IsThread, IsTrying, IsSeeking, MayLetGo, SaysMore, Allowed, after, Run, after_all, passed_line, swept, handed, let_go}
+use Rattle.lot_core.specs.Steps.{with_sem_parked, seeker_queued, permit_taken, permit_freed, permit_passed}
 use Rattle.lot_core.specs.Sound.{IsSound}
+use Rattle.lot_core.specs.Parts.{semaphore_part, semaphore_part_after}
 use Rattle.lot_core.proofs.Put.{by_bit, by_line, put_same, put_other}
 use Rattle.lot_core.proofs.Members.{once_none, in_none}
-use Rattle.lot_core.proofs.Kept.{IsKept, IsOutside, outside_calm, outside_sweeps, outside_wants, outside_trying, trying_one, calm_tries_nothing, sweeper_tries_nothing, trying_sweeps_nothing, move, move_kept, with_got, got_kept, marked_kept, with_queued, queued_kept, with_freed, freed_kept, with_passed_to_none, passed_to_none_kept, with_passed, passed_kept, with_handed, handed_kept, left_out, first_wants, let_go_kept, enlisted_kept, called_kept, lowered_kept, swept_kept}
+use Rattle.lot_core.proofs.Permits.{IsKeptPart, part_opening}
+use Rattle.lot_core.proofs.Following.{sought_is, part_after, semaphore_part_follows}
+use Rattle.lot_core.proofs.Kept.{IsKept, IsOutside, IsApart, calm_apart, sweeps_apart, seeks_apart, apart_outside, apart_tries_nothing, outside_wants, outside_trying}
+use Rattle.lot_core.proofs.Kept.{trying_one, trying_sweeps_nothing, sems_kept, move, move_kept, with_got, got_kept, marked_kept, with_queued, queued_kept}
+use Rattle.lot_core.proofs.Kept.{with_freed, freed_kept, with_passed_to_none, passed_to_none_kept, with_passed, passed_kept, with_handed, handed_kept}
+use Rattle.lot_core.proofs.Kept.{left_out, first_wants, let_go_kept, enlisted_kept, called_kept, lowered_kept, swept_kept}
 
 pub try_kept : (s : World) (t l : ℕ) → IsKept s → IsKept (after s (Try t l))
 try_kept s t l h =
@@ -19,11 +29,11 @@ try_kept s t l h =
 
 -- who may take l is in no line, tries no other lock and sweeps nothing
 pub taker_outside : (s : World) (t l : ℕ) → IsKept s → ((s.point t ≡ Calm) ⊎ IsTrying s t l) → IsOutside s t
-taker_outside s t l h (inl calm) = outside_calm s t h calm
+taker_outside s t l h (inl calm) = apart_outside s t Calm h calm_apart calm
 taker_outside s t l h (inr try) = outside_trying s t l h try
 
 pub taker_tries : (s : World) (t l k : ℕ) → ((s.point t ≡ Calm) ⊎ IsTrying s t l) → IsTrying s t k → k ≡ l
-taker_tries s t l k (inl calm) try = absurd (calm_tries_nothing s t k calm try)
+taker_tries s t l k (inl calm) try = absurd (apart_tries_nothing s t k Calm calm_apart calm try)
 taker_tries s t l k (inr tries) try = trying_one s t l k tries try
 
 pub taker_sweeps : (s : World) (t l c : ℕ) → ((s.point t ≡ Calm) ⊎ IsTrying s t l) → s.point t ≡ Sweeps c → ⊥
@@ -101,61 +111,141 @@ pass_kept s t l false more h ok =
 
 pub enlist_kept : (s : World) (t c l : ℕ) → IsKept s → s.point t ≡ Calm → IsKept (after s (Enlist t c l))
 enlist_kept s t c l h calm =
-    let out : IsOutside s t = outside_calm s t h calm in
-    let at_bed = move_kept s t (Bed c l) h out (λ k clear try. calm_tries_nothing s t k calm try) (λ d some e. absurd (cc)) in
+    let out : IsOutside s t = apart_outside s t Calm h calm_apart calm in
+    let at_bed = move_kept s t (Bed c l) h out (λ k clear try. apart_tries_nothing s t k Calm calm_apart calm try) (λ d some e. absurd (cc)) in
     enlisted_kept (move s t (Bed c l)) t c l at_bed (put_same s.point t (Bed c l)) (record { locks = out.locks; conds = out.conds })
 
 pub lower_kept : (s : World) (t c : ℕ) → IsKept s → IsThread s t → s.point t ≡ Calm → IsKept (after s (Lower t c))
 lower_kept s t c h thread calm =
     lowered_kept (move s t (Sweeps c)) t c
-    (move_kept s t (Sweeps c) h (outside_calm s t h calm) (λ k clear try. calm_tries_nothing s t k calm try) (λ d some e. absurd (cc)))
+    (move_kept s t (Sweeps c) h (apart_outside s t Calm h calm_apart calm) (λ k clear try. apart_tries_nothing s t k Calm calm_apart calm try) (λ d some e. absurd (cc)))
     thread (put_same s.point t (Sweeps c))
 
 pub sweep_kept : (s : World) (t c : ℕ) → IsKept s → s.point t ≡ Sweeps c → IsKept (after s (Sweep t c))
 sweep_kept s t c h sweeps =
-    let next : World = record s { conds = record s.conds { line = put s.conds.line c [] } } in
+    let next : World = record s { conds = swept s.conds c } in
     let empty : IsKept next = swept_kept s c h in
-    move_kept next t Calm empty (outside_sweeps next t c empty sweeps)
-    (λ k clear try. sweeper_tries_nothing next t c k sweeps try)
+    move_kept next t Calm empty (apart_outside next t (Sweeps c) empty (sweeps_apart c) sweeps)
+    (λ k clear try. apart_tries_nothing next t k (Sweeps c) (sweeps_apart c) sweeps try)
     (λ d some at.
     let same : d ≡ c = cc in
-    some (ap (put s.conds.line c []) same ∙ put_same s.conds.line c []))
+    some (ap next.conds.line same ∙ put_same s.conds.line c _ ∙ drop-length (s.conds.line c)))
 
-pub event_kept : (s : World) (e : Event) → IsKept s → Allowed s e → IsKept (after s e)
-event_kept s (Try t l) h ok = try_kept s t l h
-event_kept s (Take t l) h ok = take_kept s t l h ok.2
-event_kept s (Mark t l) h ok = marked_kept s l h
-event_kept s (Park t l) h ok = park_kept s t l h ok
-event_kept s (Free t l) h ok = free_kept s t l h ok
-event_kept s (Pass t l fair more) h ok = pass_kept s t l fair more h ok
-event_kept s (Enlist t c l) h ok = enlist_kept s t c l h ok.3
-event_kept s (Look t c) h ok = h
-event_kept s (Call t c more) h ok = called_kept s c more (s.conds.line c) h refl ok.3
-event_kept s (Lower t c) h ok = lower_kept s t c h ok.0 ok.2
-event_kept s (Sweep t c) h ok = sweep_kept s t c h ok.2
+-- t, which seeks what p says, goes to another point that names no lock
+pub sem_take_kept : (s : World) (t k : ℕ) → IsKept s → ((s.point t ≡ Calm) ⊎ IsSeeking s t k) → IsKept (after s (SemTake t k))
+sem_take_kept s t k h may = sems_kept (move s t _) (permit_taken s.sems t k) (from may _)
+  where
+    goes : (p q : Point) → IsApart p → ((c : ℕ) → p ≢ Sweeps c) → s.point t ≡ p → IsKept (move s t q)
+    goes p q apart still at = move_kept s t q h (apart_outside s t p h apart at)
+        (λ l clear try. apart_tries_nothing s t l p apart at try) (λ c some e. still c (sym at ∙ e))
 
-pub opening_kept : (threads locks conds : ℕ) → IsKept (opening threads locks conds)
-opening_kept threads locks conds = record {
-  sound = record {
-    one_owner = record { one = λ l t u a b. absurd (cc); some = λ l. ((λ e. absurd (cc)), (λ x. let e = x.1 in absurd (cc))) };
-    sleepers_are_marked = λ l t inside. absurd (in_none t inside);
-    someone_is_trying = λ l clear some. absurd (some refl);
-    someone_sweeps = λ c clear some. absurd (some refl);
-    one_line_each = record {
-      lock_once = λ l. once_none;
-      cond_once = λ c. once_none;
-      wants = λ l t inside. absurd (in_none t inside);
-      waits = λ c t inside. absurd (in_none t inside);
-    };
-  };
-  known = λ l t inside. absurd (in_none t inside);
+    from : ((s.point t ≡ Calm) ⊎ IsSeeking s t k) → (q : Point) → IsKept (move s t q)
+    from (inl calm) q = goes Calm q calm_apart (λ c e. absurd (cc)) calm
+    from (inr x) q = goes (Seeks k) q (seeks_apart k) (λ c e. absurd (cc)) x.0
+
+-- of locks and conditions
+pub keys_kept : (s : World) (e : Event) → IsKept s → Allowed s e → IsKept (after s e)
+keys_kept s (Try t l) h ok = try_kept s t l h
+keys_kept s (Take t l) h ok = take_kept s t l h ok.2
+keys_kept s (Mark t l) h ok = marked_kept s l h
+keys_kept s (Park t l) h ok = park_kept s t l h ok
+keys_kept s (Free t l) h ok = free_kept s t l h ok
+keys_kept s (Pass t l fair more) h ok = pass_kept s t l fair more h ok
+keys_kept s (Enlist t c l) h ok = enlist_kept s t c l h ok.3
+keys_kept s (Look t c) h ok = h
+keys_kept s (Call t c n more) h ok = called_kept s c n more h ok.4
+keys_kept s (Lower t c) h ok = lower_kept s t c h ok.0 ok.2
+keys_kept s (Sweep t c) h ok = sweep_kept s t c h ok.2
+keys_kept s (SemTake t k) h ok = sem_take_kept s t k h ok.2
+keys_kept s (SemMark t k) h ok = sems_kept s (with_sem_parked s.sems k true) h
+keys_kept s (SemPark t k) h ok = sems_kept s (seeker_queued s.sems t k) h
+keys_kept s (SemFree t k) h ok = sems_kept s (permit_freed s.sems t k) h
+keys_kept s (SemPass t k more) h ok = sems_kept s (permit_passed s.sems t k more) h
+keys_kept s (SemClear t k) h ok = sems_kept s (with_sem_parked s.sems k false) h
+
+-- what holds of every state that a run can reach
+pub record IsReached (s : World) : Type 0 where
+  pub keys : IsKept s
+  pub sems : IsKeptPart s.threads s.permits (semaphore_part s)
+
+-- no event changes how many threads and permits there are
+pub same_numbers : (s : World) (e : Event) → ((after s e).threads ≡ s.threads) × ((after s e).permits ≡ s.permits)
+same_numbers s (Try t l) = (refl, refl)
+same_numbers s (Take t l) = (refl, refl)
+same_numbers s (Mark t l) = (refl, refl)
+same_numbers s (Park t l) = (refl, refl)
+same_numbers s (Free t l) = (refl, refl)
+same_numbers s (Pass t l fair more) = (refl, refl)
+same_numbers s (Enlist t c l) = (refl, refl)
+same_numbers s (Look t c) = (refl, refl)
+same_numbers s (Call t c n more) = (refl, refl)
+same_numbers s (Lower t c) = (refl, refl)
+same_numbers s (Sweep t c) = (refl, refl)
+same_numbers s (SemTake t k) = (refl, refl)
+same_numbers s (SemMark t k) = (refl, refl)
+same_numbers s (SemPark t k) = (refl, refl)
+same_numbers s (SemFree t k) = (refl, refl)
+same_numbers s (SemPass t k more) = (refl, refl)
+same_numbers s (SemClear t k) = (refl, refl)
+
+pub event_kept : (s : World) (e : Event) → IsReached s → Allowed s e → IsReached (after s e)
+event_kept s e h ok = record {
+  keys = keys_kept s e h.keys ok;
+  sems =
+      let numbers = same_numbers s e in
+      let follows : semaphore_part (after s e) ≡ semaphore_part_after (semaphore_part s) e =
+      semaphore_part_follows s e h.keys.sound.one_line_each.wants ok in
+      subst (λ n. IsKeptPart n (after s e).permits (semaphore_part (after s e))) (sym numbers.0)
+      (subst (λ (p : ℕ → ℕ). IsKeptPart s.threads p (semaphore_part (after s e))) (sym numbers.1)
+      (subst (IsKeptPart s.threads s.permits) (sym follows) (part_after s e h.sems ok)));
 }
 
-pub run_kept : (s : World) (events : List Event) → IsKept s → Run s events → IsKept (after_all s events)
-run_kept s [] h run = h
-run_kept s (e ∷ events) h run = run_kept (after s e) events (event_kept s e h run.0) run.1
+pub reached_sound : (s : World) → IsReached s → IsSound s
+reached_sound s h = record {
+  one_owner = h.keys.sound.one_owner;
+  sleepers_are_marked = h.keys.sound.sleepers_are_marked;
+  someone_is_trying = h.keys.sound.someone_is_trying;
+  someone_sweeps = h.keys.sound.someone_sweeps;
+  permits_conserved = λ k. (h.sems k).conserved;
+  seekers_are_marked = λ k. (h.sems k).marked;
+  permits_are_sought = λ k. (h.sems k).sought;
+  one_line_each = record {
+    lock_once = h.keys.sound.one_line_each.lock_once;
+    cond_once = h.keys.sound.one_line_each.cond_once;
+    sem_once = λ k. (h.sems k).once;
+    wants = h.keys.sound.one_line_each.wants;
+    waits = h.keys.sound.one_line_each.waits;
+    seeks = λ k t inside. sought_is (s.point t) k ((h.sems k).named t inside).1;
+  };
+}
+
+pub opening_reached : (threads locks conds : ℕ) (permits : List ℕ) → IsReached (opening_with threads locks conds permits)
+opening_reached threads locks conds permits = record {
+  keys = record {
+    sound = record {
+      one_owner = record { one = λ l t u a b. absurd (cc); some = λ l. ((λ e. absurd (cc)), (λ x. let e = x.1 in absurd (cc))) };
+      sleepers_are_marked = λ l t inside. absurd (in_none t inside);
+      someone_is_trying = λ l clear some. absurd (some refl);
+      someone_sweeps = λ c clear some. absurd (some refl);
+      one_line_each = record {
+        lock_once = λ l. once_none;
+        cond_once = λ c. once_none;
+        wants = λ l t inside. absurd (in_none t inside);
+        waits = λ c t inside. absurd (in_none t inside);
+      };
+    };
+    known = λ l t inside. absurd (in_none t inside);
+  };
+  sems = part_opening threads (row_from 0 (locks + conds) permits);
+}
+
+pub run_reached : (s : World) (events : List Event) → IsReached s → Run s events → IsReached (after_all s events)
+run_reached s [] h run = h
+run_reached s (e ∷ events) h run = run_reached (after s e) events (event_kept s e h run.0) run.1
 
 -- every run from an opening state ends in a sound state
-pub runs_are_sound : (threads locks conds : ℕ) (events : List Event) → Run (opening threads locks conds) events →
-    IsSound (after_all (opening threads locks conds) events)
-runs_are_sound threads locks conds events run = (run_kept (opening threads locks conds) events (opening_kept threads locks conds) run).sound
+pub runs_are_sound : (threads locks conds : ℕ) (permits : List ℕ) (events : List Event) → Run (opening_with threads locks conds permits) events →
+    IsSound (after_all (opening_with threads locks conds permits) events)
+runs_are_sound threads locks conds permits events run =
+    let s : World = opening_with threads locks conds permits in
+    reached_sound (after_all s events) (run_reached s events (opening_reached threads locks conds permits) run)

@@ -1,11 +1,14 @@
 pub mod Put
+pub mod Rows
+pub mod Sums
 pub mod Members
 pub mod Owners
+pub mod Permits
 pub mod Kept
-pub mod Law
 pub mod Following
-pub mod Rows
+pub mod Law
 pub mod LineRows
+pub mod SemaphoreRows
 pub mod Passes
 pub mod Runs
 pub mod Opening
@@ -13,6 +16,7 @@ pub mod Soundness
 pub mod Words
 pub mod Figures
 pub mod Spelled
+pub mod Openings
 pub mod Scripts
 pub mod ReadBack
 pub mod Texts

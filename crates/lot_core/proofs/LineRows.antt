@@ -1,6 +1,6 @@
 -- The lines of a `Lines`, one by one.
-use Rattle.std.proofs.Common.{zero, suc, ◌≡◌, ◌<◌, ◌-◌, ◌++◌, ℕ, List, [], ◌∷◌, length, get_or, map, refl, sym, ap, ◌∙◌, arith, subst, Global, inl, inr, option_to_list, deque_len, IsSome, IfSome, Bor, Option, Some, None, Decides}
-use Rattle.std.proofs.lemmas.List.{get_or-map, map-set, length-map}
+use Rattle.std.proofs.Common.{◌≡◌, ◌<◌, ◌+◌, ◌-◌, ◌++◌, ℕ, List, [], ◌∷◌, length, drop, get_or, map, refl, sym, ap, ◌∙◌, arith, subst, Global, inl, inr, option_to_list, deque_len, IsSome, IfSome, Bor, Option, Some, None, Decides}
+use Rattle.std.proofs.lemmas.List.{length-map, drop-drop}
 use Rattle.std.specs.declared.collections.VecDeque.{VecDeque}
 use Rattle.std.specs.Vec.{with_item}
 use Rattle.std.proofs.lemmas.Bool.{cases_lt}
@@ -8,30 +8,26 @@ use Rattle.std.specs.Prelude.{Bool, false, ◌↔◌, IsTrue}
 use Rattle.std.specs.List.{Contains}
 use Rattle.std.specs.Option.{option_copied}
 use Rattle.lot_core.proofs.Members.{in_none}
-use mathlib.Core.Path.{fun_ext}
 use Rattle.lot_core.specs.declared.lines.Lines.{Lines}
 use Rattle.lot_core.specs.World.{put}
 use Rattle.lot_core.specs.Steps.{first}
 use Rattle.lot_core.specs.Rows.{row_from}
-use Rattle.lot_core.proofs.Put.{put_again}
+use Rattle.lot_core.proofs.Put.{put_again, put_put, put_same}
 use Rattle.lot_core.specs.Lines.{line_of, HasKey, no_lines}
-use Rattle.lot_core.proofs.Rows.{row_from_at, row_from_set, row_from_before, row_from_past}
+use Rattle.lot_core.proofs.Rows.{row_from_before, row_from_past, told_item, told_write, told_none}
 
 -- the queue of a key is its line
 pub line_item : (s : Lines) (k : ℕ) (q : VecDeque ℕ Global) → HasKey s k → q ≡ get_or s.lines.items (k - s.low) q → line_of s k ≡ q.items
 unfolding line_of
 line_item s k q has is =
-    row_from_at [] s.low (map (λ q. q.items) s.lines.items) k has.0
-    ∙ get_or-map (λ q. q.items) s.lines.items (k - s.low) q [] has.1
-    ∙ ap (λ q. q.items) (sym is)
+    told_item (λ q. q.items) [] s.low s.lines.items k q has.0 has.1 is
 
 -- a queue written is one line changed
 pub line_write : (s : Lines) (k : ℕ) (q : VecDeque ℕ Global) (xs : List ℕ) → HasKey s k → q.items ≡ xs →
     line_of (record s { lines = with_item s.lines (k - s.low) q }) ≡ put (line_of s) k xs
 unfolding line_of
 line_write s k q xs has is =
-    ap (row_from [] s.low) (map-set (λ q. q.items) s.lines.items (k - s.low) q)
-    ∙ row_from_set [] s.low (map (λ q. q.items) s.lines.items) k q.items has.0 (rw length-map has.1)
+    told_write (λ q. q.items) [] s.low s.lines.items k q has.0 has.1
     ∙ ap (put (row_from [] s.low (map (λ q. q.items) s.lines.items)) k) is
 
 -- and none, where the queue is what it was
@@ -55,19 +51,7 @@ line_outside s k other =
 -- lines of which each is empty
 pub lines_empty : (s : Lines) → ((i : ℕ) → get_or (map (λ q. q.items) s.lines.items) i [] ≡ []) → line_of s ≡ no_lines
 unfolding line_of
-lines_empty s each =
-    fun_ext (λ k. elim (cases_lt k s.low) [
-      | inl before ↦ row_from_before [] s.low (map (λ q. q.items) s.lines.items) k before
-      | inr from ↦ row_from_at [] s.low (map (λ q. q.items) s.lines.items) k from ∙ each (k - s.low)
-    ])
-
--- one more empty line
-pub empty_more : (xs : List (VecDeque ℕ Global)) (q : VecDeque ℕ Global) → q.items ≡ [] →
-    ((i : ℕ) → get_or (map (λ q. q.items) xs) i [] ≡ []) → (i : ℕ) → get_or (map (λ q. q.items) (xs ++ q ∷ [])) i [] ≡ []
-empty_more [] q is each zero = is
-empty_more [] q is each (suc i) = refl
-empty_more (x ∷ xs) q is each zero = each 0
-empty_more (x ∷ xs) q is each (suc i) = empty_more xs q is (λ j. each (suc j)) i
+lines_empty s each = told_none (λ q. q.items) [] s.low s.lines.items each
 
 -- the front of a queue is its first
 pub front_first : (q : VecDeque ℕ Global) (o : Option (Bor ℕ)) → (IsSome o ↔ (0 < deque_len q)) →
@@ -90,6 +74,14 @@ popped_first q rest o some is = popped_of q.items rest o (λ e. some.1 (omega ar
     popped_of xs rest (Some u) to is = sym (ap first is)
     popped_of [] rest None to is = refl
     popped_of (u ∷ xs) rest None to is = let e = to (omega arith) in absurd (cc)
+
+-- one more left the line of k
+pub one_left : (line now next : ℕ → List ℕ) (k i : ℕ) → now ≡ put line k (drop i (line k)) → next ≡ put now k (drop 1 (now k)) →
+    next ≡ put line k (drop (i + 1) (line k))
+one_left line now next k i so left =
+    left ∙ ap (λ (l : ℕ → List ℕ). put l k (drop 1 (l k))) so
+    ∙ put_put line k (drop i (line k)) _
+    ∙ ap (put line k) (ap (drop 1) (put_same line k (drop i (line k))) ∙ drop-drop 1 i (line k))
 
 -- a queue that has a thread is a line that has it
 pub line_contains : (s : Lines) (k t : ℕ) (q : VecDeque ℕ Global) (found : Bool) → HasKey s k → q ≡ get_or s.lines.items (k - s.low) q →

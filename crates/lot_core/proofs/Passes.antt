@@ -80,7 +80,10 @@ pass_leaves s x y z t l fair more said o taken owned parked is says none has =
     parked ∙ ap (λ (v : World). with_parked v l said) (owned ∙ ap (λ (v : World). with_owner v l None) taken)
     ∙ ap (λ (b : Bool). with_parked (with_owner (with_lock_line w l (drop 1 (w.locks.line l))) l None) l b)
     (says ∙ ap (λ (p : Option ℕ). is_some p && more) is)
-    ∙ ap (λ (f : ℕ → Bool). let v : World = record w { locks = locks_of w.locks (put w.locks.held l false) (put w.locks.parked l (is_some (first (w.locks.line l)) && more)) (put w.locks.line l (drop 1 (w.locks.line l))) (put w.locks.has l f) } in v)
+    ∙ ap (λ (f : ℕ → Bool). let v : World = record w {
+      locks = locks_of w.locks (put w.locks.held l false) (put w.locks.parked l (is_some (first (w.locks.line l)) && more))
+          (put w.locks.line l (drop 1 (w.locks.line l))) (put w.locks.has l f);
+    } in v)
     (owns_left (row None s.owners.items l) t has)
     ∙ ap (λ (a : Locks). let v : World = record w { locks = a } in v)
     (leaves_line w.locks t l fair more (w.locks.line l) refl (λ e. ap (is_some {T = ℕ}) (sym is) ∙ none e))

@@ -32,6 +32,10 @@ put_other f k v i ne =
 pub put_again : {X : Type 0} (f : ℕ → X) (k : ℕ) → put f k (f k) ≡ f
 put_again {X} f k = fun_ext (λ i. by_bit (λ b. i == k ≡ b → (if b then f k else f i) ≡ f i) (i == k) (λ _ e. ap f (sym (eqb-true i k e))) (λ _ _. refl) refl)
 
+-- what was put last stays
+pub put_put : {X : Type 0} (f : ℕ → X) (k : ℕ) (v w : X) → put (put f k v) k w ≡ put f k w
+put_put {X} f k v w = fun_ext (at_all (λ i b. (if b then w else (if b then v else f i)) ≡ (if b then w else f i)) k refl (λ i ne. refl))
+
 -- what f tells of each, where one is replaced
 pub told_put : {X Y : Type 0} (f : X → Y) (g : ℕ → X) (k : ℕ) (v : X) → told f (put g k v) ≡ put (told f g) k (f v)
 told_put {X} {Y} f g k v = fun_ext (at_all (λ i b. f (if b then v else g i) ≡ (if b then f v else f (g i))) k refl (λ i ne. refl))

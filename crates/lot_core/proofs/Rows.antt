@@ -1,8 +1,8 @@
 -- A list written at one place is its row with one value changed.
-use Rattle.std.proofs.Common.{zero, suc, ◌≡◌, ◌<◌, ◌≤◌, ◌-◌, ◌+◌, ℕ, List, length, get_or, set, replicate, refl, sym, ap, ◌∙◌, arith, get_or-set_same, get_or-set_other}
+use Rattle.std.proofs.Common.{zero, suc, ◌≡◌, ◌<◌, ◌≤◌, ◌-◌, ◌+◌, ◌++◌, ℕ, List, [], ◌∷◌, length, get_or, set, map, replicate, refl, inl, inr, sym, ap, ◌∙◌, arith, get_or-set_same, get_or-set_other}
 use Rattle.std.specs.Prelude.{nat_lt, if◌then◌else◌, slice_index_or}
-use Rattle.std.proofs.lemmas.Bool.{ltb-false, lt-ltb, le-ltb}
-use Rattle.std.proofs.lemmas.List.{get_or_past, get_or_default}
+use Rattle.std.proofs.lemmas.Bool.{cases_lt, ltb-false, lt-ltb, le-ltb}
+use Rattle.std.proofs.lemmas.List.{get_or_past, get_or_default, get_or-map, map-set, length-map}
 use mathlib.Core.Path.{fun_ext}
 use Rattle.lot_core.specs.World.{put}
 use Rattle.lot_core.specs.Rows.{row, row_from}
@@ -75,3 +75,38 @@ unfolding row_from
 row_from_none none low n =
     fun_ext (λ k. by_bit (λ b. (if b then none else get_or (replicate n none) (k - low) none) ≡ none) (nat_lt k low)
     (λ e. refl) (λ e. get_or_replicate none n (k - low)))
+
+-- what f tells of the elements: of one that was read, and where one is written
+pub told_item : {X Y : Type 0} (f : X → Y) (none : Y) (low : ℕ) (xs : List X) (k : ℕ) (x : X) → low ≤ k → k - low < length xs →
+    x ≡ get_or xs (k - low) x → row_from none low (map f xs) k ≡ f x
+told_item f none low xs k x from within is =
+    row_from_at none low (map f xs) k from ∙ get_or-map f xs (k - low) x none within ∙ ap f (sym is)
+
+pub told_write : {X Y : Type 0} (f : X → Y) (none : Y) (low : ℕ) (xs : List X) (k : ℕ) (x : X) → low ≤ k → k - low < length xs →
+    row_from none low (map f (set xs (k - low) x)) ≡ put (row_from none low (map f xs)) k (f x)
+told_write f none low xs k x from within =
+    ap (row_from none low) (map-set f xs (k - low) x) ∙ row_from_set none low (map f xs) k (f x) from (rw length-map within)
+
+-- and where it tells the same of the one that is written
+pub told_rewrite : {X Y : Type 0} (f : X → Y) (none : Y) (low : ℕ) (xs : List X) (k : ℕ) (old new : X) → low ≤ k → k - low < length xs →
+    old ≡ get_or xs (k - low) old → f new ≡ f old → row_from none low (map f (set xs (k - low) new)) ≡ row_from none low (map f xs)
+told_rewrite f none low xs k old new from within is same =
+    told_write f none low xs k new from within
+    ∙ ap (put (row_from none low (map f xs)) k) (same ∙ sym (told_item f none low xs k old from within is))
+    ∙ put_again (row_from none low (map f xs)) k
+
+-- elements of which f tells nothing, and one more of these
+pub told_none : {X Y : Type 0} (f : X → Y) (none : Y) (low : ℕ) (xs : List X) → ((i : ℕ) → get_or (map f xs) i none ≡ none) →
+    row_from none low (map f xs) ≡ (λ k. none)
+told_none f none low xs each =
+    fun_ext (λ k. elim (cases_lt k low) [
+      | inl before ↦ row_from_before none low (map f xs) k before
+      | inr from ↦ row_from_at none low (map f xs) k from ∙ each (k - low)
+    ])
+
+pub none_more : {X Y : Type 0} (f : X → Y) (none : Y) (xs : List X) (x : X) → f x ≡ none →
+    ((i : ℕ) → get_or (map f xs) i none ≡ none) → (i : ℕ) → get_or (map f (xs ++ x ∷ [])) i none ≡ none
+none_more f none [] x is each zero = is
+none_more f none [] x is each (suc i) = refl
+none_more f none (y ∷ xs) x is each zero = each 0
+none_more f none (y ∷ xs) x is each (suc i) = none_more f none xs x is (λ j. each (suc j)) i

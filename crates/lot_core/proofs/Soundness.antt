@@ -1,17 +1,24 @@
 -- A state is sound where each of its locks and conditions is.
-use Rattle.std.proofs.Common.{◌≡◌, ◌≢◌, ◌<◌, ◌+◌, ◌-◌, ◌↔◌, ◌⊎◌, ℕ, true, List, [], ◌∷◌, Option, Some, None, is_some, refl, sym, ap, ◌∙◌, subst, arith, inl, inr}
+use Rattle.std.proofs.Common.{◌≡◌, ◌≢◌, ◌<◌, ◌+◌, ◌-◌, ◌↔◌, ◌⊎◌, ℕ, Bool, true, false, add-one, List, [], ◌∷◌, Option, Some, None, is_some, refl, sym, ap, ◌∙◌, subst, arith, inl, inr}
 use Rattle.std.specs.Prelude.{IsTrue, ◌==◌}
 use Rattle.std.specs.List.{Contains}
-use Rattle.std.proofs.lemmas.Bool.{cases_lt, eqb-true, eq-eqb}
+use Rattle.std.proofs.lemmas.Bool.{cases_lt, eqb-true, eq-eqb, false_from_ne_true}
 use Rattle.lot_core.specs.declared.events.Point.{Point}
 use Rattle.lot_core.specs.declared.events.Point.TheVariants.{Bed, Rest}
 use Rattle.lot_core.specs.declared.state.State.{State}
 use Rattle.lot_core.specs.World.{World}
 use Rattle.lot_core.specs.Rows.{row}
-use Rattle.lot_core.specs.Sound.{IsSound, OneOwner, Waits, IsOnce, IsSoundLock, IsSoundCond}
+use Rattle.lot_core.specs.Sums.{bit, count_below}
+use Rattle.lot_core.specs.Steps.{IsSeeking}
+use Rattle.lot_core.specs.Parts.{sought}
+use Rattle.lot_core.specs.Semaphores.{sem_count}
+use Rattle.lot_core.specs.Sound.{IsSound, OneOwner, PermitsConserved, is_seeking, Waits, IsOnce, IsSoundLock, IsSoundCond, IsSoundSemaphore}
 use Rattle.lot_core.specs.State.{world_of, owns}
 use Rattle.lot_core.proofs.Members.{in_none, in_head, once_none}
 use Rattle.lot_core.proofs.LineRows.{line_outside}
+use Rattle.lot_core.proofs.SemaphoreRows.{conserved}
+use Rattle.lot_core.proofs.Permits.{seeks_outside, seeking_is}
+use Rattle.lot_core.proofs.Following.{sought_is}
 
 -- an owner is one, and means held
 pub owner_one : (o : Option ℕ) (t u : ℕ) → owns o t ≡ true → owns o u ≡ true → t ≡ u
@@ -67,17 +74,40 @@ all_conds s each c = elim (cases_lt c s.locks) [
   ]
 ]
 
-pub sound_from : (s : State) → ((l : ℕ) → IsSoundLock (world_of s) l) → ((c : ℕ) → IsSoundCond (world_of s) c) → IsSound (world_of s)
-sound_from s locks conds = record {
+pub empty_semaphore : (w : World) (k : ℕ) → w.sems.line k ≡ [] → IsSoundSemaphore w k
+empty_semaphore w k empty = (
+  (λ some. absurd (some empty)),
+  (λ some. absurd (some empty)),
+  subst IsOnce (sym empty) once_none,
+  (λ t inside. absurd (not_empty (w.sems.line k) t inside empty)),
+)
+
+pub all_semaphores : (s : State) → ((i : ℕ) → i < sem_count s.sems → IsSoundSemaphore (world_of s) (s.sems.low + i)) → (k : ℕ) → IsSoundSemaphore (world_of s) k
+all_semaphores s each k = elim (cases_lt k s.sems.low) [
+  | inl before ↦ empty_semaphore (world_of s) k (line_outside s.sems.lines k (λ has. omega (arith, s.sems.line_each)))
+  | inr from ↦ elim (cases_lt (k - s.sems.low) (sem_count s.sems)) [
+    | inl within ↦ let same : s.sems.low + (k - s.sems.low) ≡ k = omega arith in subst (λ i. IsSoundSemaphore (world_of s) i) same (each (k - s.sems.low) within)
+    | inr past ↦ empty_semaphore (world_of s) k (line_outside s.sems.lines k (λ has. omega (arith, s.sems.line_each)))
+  ]
+]
+
+pub sound_from : (s : State) → ((l : ℕ) → IsSoundLock (world_of s) l) → ((c : ℕ) → IsSoundCond (world_of s) c) →
+    ((k : ℕ) → IsSoundSemaphore (world_of s) k) → IsSound (world_of s)
+sound_from s locks conds sems = record {
   one_owner = one_owner s;
   sleepers_are_marked = λ l t inside. (locks l).0 (not_empty ((world_of s).locks.line l) t inside);
   someone_is_trying = λ l. (locks l).1;
   someone_sweeps = λ c. (conds c).0;
+  permits_conserved = subst (λ n. PermitsConserved n (world_of s).permits (world_of s).sems) s.sem_each.1 (conserved s.sems);
+  seekers_are_marked = λ k t inside. (sems k).0 (not_empty ((world_of s).sems.line k) t inside);
+  permits_are_sought = λ k. (sems k).1;
   one_line_each = record {
     lock_once = λ l. (locks l).2;
     cond_once = λ c. (conds c).1;
+    sem_once = λ k. (sems k).2;
     wants = λ l. (locks l).3;
     waits = λ c. (conds c).2;
+    seeks = λ k. (sems k).3;
   };
 }
 
@@ -91,6 +121,26 @@ locks_from s h l = (
 
 pub conds_from : (s : State) → IsSound (world_of s) → (c : ℕ) → IsSoundCond (world_of s) c
 conds_from s h c = (h.someone_sweeps c, h.one_line_each.cond_once c, h.one_line_each.waits c)
+
+pub semaphores_from : (s : State) → IsSound (world_of s) → (k : ℕ) → IsSoundSemaphore (world_of s) k
+semaphores_from s h k = (
+  (λ some. let t = first_in ((world_of s).sems.line k) some in h.seekers_are_marked k t.0 t.1),
+  h.permits_are_sought k,
+  h.one_line_each.sem_once k,
+  h.one_line_each.seeks k,
+)
+
+-- the test of one thread, and one more thread counted
+pub seeking_test : (w : World) (t k : ℕ) (b : Bool) → (IsTrue b ↔ IsSeeking w t k) → is_seeking (sought (w.point t)) k (w.sems.line k) t ≡ b
+seeking_test w t k true is = let at : IsSeeking w t k = is.0 refl in seeks_outside (sought (w.point t)) k (w.sems.line k) t (ap sought at.0) at.1
+seeking_test w t k false is =
+    false_from_ne_true (is_seeking (sought (w.point t)) k (w.sems.line k) t)
+    (λ e. let at = seeking_is (sought (w.point t)) k (w.sems.line k) t e in
+    let yes : false ≡ true = is.1 (sought_is (w.point t) k at.0, at.1) in absurd (cc))
+
+pub count_more : (n : ℕ) (p : ℕ → Bool) (m next : ℕ) (b : Bool) → m ≡ count_below n p → p n ≡ b → next ≡ m + bit b → next ≡ count_below (n + 1) p
+count_more n p m next b so is more =
+    more ∙ ap (λ c. m + bit c) (sym is) ∙ ap (λ j. j + bit (p n)) so ∙ ap (λ j. count_below j p) (sym (add-one n))
 
 -- a thread that is enlisted on w waits on that condition alone
 pub enlisted_waits : (point : ℕ → Point) (t c w : ℕ) (p : Point) → point t ≡ p → ((l : ℕ) × (p ≡ Bed w l)) ⊎ ((l : ℕ) × (p ≡ Rest w l)) →

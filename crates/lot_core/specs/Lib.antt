@@ -1,9 +1,11 @@
+pub mod Sums
+pub mod Rows
 pub mod World
 pub mod Steps
-pub mod Sound
 pub mod Parts
-pub mod Rows
+pub mod Sound
 pub mod Lines
+pub mod Semaphores
 pub mod Limits
 pub mod State
 pub mod Script

@@ -2,9 +2,9 @@
 use Rattle.std.specs.Prelude.{ℕ, ◌+◌, ◌*◌, List, [], ◌∷◌, ◌++◌, codes, decimal, flat_map, find, Option, Some, None}
 use Rattle.std.specs.List.{join_by, range_with_len}
 use Rattle.lot_core.specs.declared.events.Point.{Point}
-use Rattle.lot_core.specs.declared.events.Point.TheVariants.{Calm, Wants, Bed, Rest, Sweeps}
+use Rattle.lot_core.specs.declared.events.Point.TheVariants.{Calm, Wants, Bed, Rest, Sweeps, Seeks}
+use Rattle.lot_core.specs.Sums.{total, bit}
 use Rattle.lot_core.specs.World.{World}
-use Rattle.lot_core.specs.Script.{bit}
 
 -- the threads of a line, in order
 unfoldable pub line_text : List ℕ → List ℕ
@@ -25,6 +25,7 @@ point_text (Wants l) = codes "wants " ++ decimal l
 point_text (Bed c l) = codes "bed " ++ decimal c ++ codes " " ++ decimal l
 point_text (Rest c l) = codes "rest " ++ decimal c ++ codes " " ++ decimal l
 point_text (Sweeps c) = codes "sweeps " ++ decimal c
+point_text (Seeks k) = codes "seeks " ++ decimal k
 
 unfoldable pub lock_line : World → ℕ → List ℕ
 lock_line w l =
@@ -37,6 +38,12 @@ cond_line w c =
     codes "cond " ++ decimal c ++ codes " flag " ++ decimal (bit (w.conds.flag c))
     ++ codes " line " ++ line_text (w.conds.line c) ++ codes "\n"
 
+unfoldable pub sem_line : World → ℕ → List ℕ
+sem_line w k =
+    codes "sem " ++ decimal k ++ codes " left " ++ decimal (w.sems.left k)
+    ++ codes " out " ++ decimal (total w.threads (w.sems.out k))
+    ++ codes " parked " ++ decimal (bit (w.sems.parked k)) ++ codes " line " ++ line_text (w.sems.line k) ++ codes "\n"
+
 unfoldable pub thread_line : World → ℕ → List ℕ
 thread_line w t = codes "thread " ++ decimal t ++ codes " " ++ point_text (w.point t) ++ codes "\n"
 
@@ -44,4 +51,5 @@ abbrev pub printed : World → List ℕ
 printed w =
     flat_map (lock_line w) (range_with_len 0 w.lock_count)
     ++ flat_map (cond_line w) (range_with_len w.lock_count w.cond_count)
+    ++ flat_map (sem_line w) (range_with_len (w.lock_count + w.cond_count) w.sem_count)
     ++ flat_map (thread_line w) (range_with_len 0 w.threads)

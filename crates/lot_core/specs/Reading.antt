@@ -1,11 +1,13 @@
 -- Reading a script's lines from left to right.
-use Rattle.std.specs.Prelude.{ℕ, ◌+◌, ◌-◌, ◌*◌, nat_lt, ◌==◌, Bool, if◌then◌else◌, List, [], ◌∷◌, length, take, drop, codes, bytes_eq, Option, Some, None}
+use Rattle.std.specs.Prelude.{◌≡◌, ℕ, ◌+◌, ◌-◌, ◌*◌, nat_lt, ◌==◌, Bool, if◌then◌else◌, List, [], ◌∷◌, ◌++◌, length, take, drop, codes, bytes_eq, Option, Some, None}
 use Rattle.std.specs.Option.{option_and_then}
 use Rattle.std.specs.Char.{is_ascii_digit}
 use Rattle.lot_core.specs.declared.events.Event.{Event}
 use Rattle.lot_core.specs.declared.events.Event.TheVariants as event
-use Rattle.lot_core.specs.declared.script.Kind.{Kind}
-use Rattle.lot_core.specs.declared.script.Kind.TheVariants.{Try, Take, Mark, Park, Free, Pass, Enlist, Look, Call, Lower, Sweep}
+use Rattle.lot_core.specs.declared.reading.Kind.{Kind}
+use Rattle.lot_core.specs.declared.reading.Kind.TheVariants.{Try, Take, Mark, Park, Free, Pass, Enlist, Look, Call, CallSome, Lower, Sweep, SemTake, SemMark, SemPark, SemFree, SemPass, SemClear}
+use Rattle.lot_core.specs.declared.script.Script.{Script}
+use Rattle.lot_core.specs.Script.{Opening}
 
 infixl 10 ◌>>=◌
 abbrev pub ◌>>=◌ : {A B : Type 0} → Option A → (A → Option B) → Option B
@@ -59,11 +61,20 @@ kind_word Pass = codes "pass"
 kind_word Enlist = codes "enlist"
 kind_word Look = codes "look"
 kind_word Call = codes "call"
+kind_word CallSome = codes "some"
 kind_word Lower = codes "lower"
 kind_word Sweep = codes "sweep"
+kind_word SemTake = codes "stake"
+kind_word SemMark = codes "smark"
+kind_word SemPark = codes "spark"
+kind_word SemFree = codes "sfree"
+kind_word SemPass = codes "spass"
+kind_word SemClear = codes "sclear"
 
 abbrev pub kinds : List Kind
-kinds = Try ∷ Take ∷ Mark ∷ Park ∷ Free ∷ Pass ∷ Enlist ∷ Look ∷ Call ∷ Lower ∷ Sweep ∷ []
+kinds =
+    Try ∷ Take ∷ Mark ∷ Park ∷ Free ∷ Pass ∷ Enlist ∷ Look ∷ Call ∷ CallSome ∷ Lower ∷ Sweep
+    ∷ SemTake ∷ SemMark ∷ SemPark ∷ SemFree ∷ SemPass ∷ SemClear ∷ []
 
 -- the first of these kinds whose word stands at the front
 abbrev pub or_else : Kind → Option (List ℕ) → Option (Kind × List ℕ) → Option (Kind × List ℕ)
@@ -91,9 +102,21 @@ last_at Enlist t k text = do
 last_at Look t k text = Some (event.Look t k, text)
 last_at Call t k text = do
   more ← flag_at text
-  Some (event.Call t k more.0, more.1)
+  Some (event.Call t k 1 more.0, more.1)
+last_at CallSome t k text = do
+  count ← field_at text
+  more ← flag_at count.1
+  Some (event.Call t k count.0 more.0, more.1)
 last_at Lower t k text = Some (event.Lower t k, text)
 last_at Sweep t k text = Some (event.Sweep t k, text)
+last_at SemTake t k text = Some (event.SemTake t k, text)
+last_at SemMark t k text = Some (event.SemMark t k, text)
+last_at SemPark t k text = Some (event.SemPark t k, text)
+last_at SemFree t k text = Some (event.SemFree t k, text)
+last_at SemPass t k text = do
+  more ← flag_at text
+  Some (event.SemPass t k more.0, more.1)
+last_at SemClear t k text = Some (event.SemClear t k, text)
 
 unfoldable pub event_at : List ℕ → Option (Event × List ℕ)
 event_at text = do
@@ -104,11 +127,24 @@ event_at text = do
   rest ← end_at e.1
   Some (e.0, rest)
 
+-- the numbers of threads, locks and conditions that open a script
 unfoldable pub open_at : List ℕ → Option (ℕ × ℕ × ℕ × List ℕ)
 open_at text = do
   behind ← rest_behind (codes "open") text
   threads ← field_at behind
   locks ← field_at threads.1
   conds ← field_at locks.1
-  rest ← end_at conds.1
-  Some (threads.0, locks.0, conds.0, rest)
+  Some (threads.0, locks.0, conds.0, conds.1)
+
+-- these numbers are read one after the other, and this is left
+abbrev pub ReadsNumbers : List ℕ → List ℕ → List ℕ → Type 0
+ReadsNumbers text [] rest = text ≡ rest
+ReadsNumbers text (n ∷ numbers) rest =
+    (behind : List ℕ) × (field_at text ≡ Some (n, behind)) × ReadsNumbers behind numbers rest
+
+-- the first line was read into a script that has no events yet, and this is the rest
+pub record ReadsOpening (text : List ℕ) (s : Script) (rest : List ℕ) : Type 0 where
+  pub first : List ℕ
+  pub opens : Opening first s.threads s.locks s.conds s.permits.items
+  pub none : s.events.items ≡ []
+  pub parts : text ≡ first ++ rest

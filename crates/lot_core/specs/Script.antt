@@ -1,12 +1,13 @@
--- What a script is, and the one spelling of each.
-use Rattle.std.specs.Prelude.{◌≡◌, ◌≢◌, ℕ, ◌+◌, ◌<◌, ◌⊎◌, Bool, true, false, List, [], ◌∷◌, ◌++◌, length, codes, decimal, flat_map, Result, Ok, Err}
+-- What a script is, and which texts spell it.
+use Rattle.std.specs.Prelude.{◌≡◌, ◌≢◌, ℕ, ◌+◌, ◌<◌, ◌⊎◌, List, [], ◌∷◌, ◌++◌, length, codes, decimal, flat_map, Result, Ok, Err}
 use Rattle.std.specs.List.{AllByRecursion}
 use Rattle.lot_core.specs.declared.events.Event.{Event}
-use Rattle.lot_core.specs.declared.events.Event.TheVariants.{Try, Take, Mark, Park, Free, Pass, Enlist, Look, Call, Lower, Sweep}
+use Rattle.lot_core.specs.declared.events.Event.TheVariants.{Try, Take, Mark, Park, Free, Pass, Enlist, Look, Call, Lower, Sweep, SemTake, SemMark, SemPark, SemFree, SemPass, SemClear}
 use Rattle.lot_core.specs.declared.script.TheConstants.{MAX_LINES}
 use Rattle.lot_core.specs.declared.script.Script.{Script}
 use Rattle.lot_core.specs.declared.script.ScriptFault.{ScriptFault}
 use Rattle.lot_core.specs.declared.script.ScriptFault.TheVariants.{BadLine, NoMemory}
+use Rattle.lot_core.specs.Sums.{bit}
 
 -- a space and a number
 abbrev pub field : ℕ → List ℕ
@@ -16,80 +17,75 @@ field n = 32 ∷ decimal n
 abbrev pub line : List ℕ → List ℕ → List ℕ
 line word numbers = word ++ (flat_map field numbers ++ 10 ∷ [])
 
-abbrev pub bit : Bool → ℕ
-bit true = 1
-bit false = 0
-
-abbrev pub word : Event → List ℕ
-word (Try t l) = codes "try"
-word (Take t l) = codes "take"
-word (Mark t l) = codes "mark"
-word (Park t l) = codes "park"
-word (Free t l) = codes "free"
-word (Pass t l fair more) = codes "pass"
-word (Enlist t c l) = codes "enlist"
-word (Look t c) = codes "look"
-word (Call t c more) = codes "call"
-word (Lower t c) = codes "lower"
-word (Sweep t c) = codes "sweep"
-
-abbrev pub numbers : Event → List ℕ
-numbers (Try t l) = t ∷ l ∷ []
-numbers (Take t l) = t ∷ l ∷ []
-numbers (Mark t l) = t ∷ l ∷ []
-numbers (Park t l) = t ∷ l ∷ []
-numbers (Free t l) = t ∷ l ∷ []
-numbers (Pass t l fair more) = t ∷ l ∷ bit fair ∷ bit more ∷ []
-numbers (Enlist t c l) = t ∷ c ∷ l ∷ []
-numbers (Look t c) = t ∷ c ∷ []
-numbers (Call t c more) = t ∷ c ∷ bit more ∷ []
-numbers (Lower t c) = t ∷ c ∷ []
-numbers (Sweep t c) = t ∷ c ∷ []
-
-abbrev pub event_line : Event → List ℕ
-event_line e = line (word e) (numbers e)
-
-abbrev pub open_line : ℕ → ℕ → ℕ → List ℕ
-open_line threads locks conds = line (codes "open") (threads ∷ locks ∷ conds ∷ [])
-
 -- a number that has a spelling: one to four digits
 abbrev pub IsSmall : ℕ → Type 0
 IsSmall n = n < 10000
 
-abbrev pub HasSpelling : Event → Type 0
-HasSpelling e = AllByRecursion IsSmall (numbers e)
+-- the text is the line of this word and these numbers
+pub record IsLine (word numbers text : List ℕ) : Type 0 where
+  pub small : AllByRecursion IsSmall numbers
+  pub text_is : text ≡ line word numbers
 
--- a first line and the lines of these events
-abbrev pub lines : ℕ → ℕ → ℕ → List Event → List ℕ
-lines threads locks conds events = open_line threads locks conds ++ flat_map event_line events
+-- the line spells the event; a Call of one thread has two spellings
+abbrev pub Spells : List ℕ → Event → Type 0
+Spells text (Try t l) = IsLine (codes "try") (t ∷ l ∷ []) text
+Spells text (Take t l) = IsLine (codes "take") (t ∷ l ∷ []) text
+Spells text (Mark t l) = IsLine (codes "mark") (t ∷ l ∷ []) text
+Spells text (Park t l) = IsLine (codes "park") (t ∷ l ∷ []) text
+Spells text (Free t l) = IsLine (codes "free") (t ∷ l ∷ []) text
+Spells text (Pass t l fair more) = IsLine (codes "pass") (t ∷ l ∷ bit fair ∷ bit more ∷ []) text
+Spells text (Enlist t c l) = IsLine (codes "enlist") (t ∷ c ∷ l ∷ []) text
+Spells text (Look t c) = IsLine (codes "look") (t ∷ c ∷ []) text
+Spells text (Call t c n more) =
+    IsLine (codes "some") (t ∷ c ∷ n ∷ bit more ∷ []) text
+    ⊎ ((n ≡ 1) × IsLine (codes "call") (t ∷ c ∷ bit more ∷ []) text)
+Spells text (Lower t c) = IsLine (codes "lower") (t ∷ c ∷ []) text
+Spells text (Sweep t c) = IsLine (codes "sweep") (t ∷ c ∷ []) text
+Spells text (SemTake t k) = IsLine (codes "stake") (t ∷ k ∷ []) text
+Spells text (SemMark t k) = IsLine (codes "smark") (t ∷ k ∷ []) text
+Spells text (SemPark t k) = IsLine (codes "spark") (t ∷ k ∷ []) text
+Spells text (SemFree t k) = IsLine (codes "sfree") (t ∷ k ∷ []) text
+Spells text (SemPass t k more) = IsLine (codes "spass") (t ∷ k ∷ bit more ∷ []) text
+Spells text (SemClear t k) = IsLine (codes "sclear") (t ∷ k ∷ []) text
 
-abbrev pub spelling : Script → List ℕ
-spelling s = lines s.threads s.locks s.conds s.events.items
+-- the text is lines that spell these events, one each, in order
+abbrev pub SpellsAll : List ℕ → List Event → Type 0
+SpellsAll text [] = text ≡ []
+SpellsAll text (e ∷ events) =
+    (first : List ℕ) × Spells first e × ((rest : List ℕ) × SpellsAll rest events × (text ≡ first ++ rest))
 
--- such lines, all numbers small, and no more lines than a script may have
-pub record AreLines (threads locks conds : ℕ) (events : List Event) : Type 0 where
-  pub opening : AllByRecursion IsSmall (threads ∷ locks ∷ conds ∷ [])
-  pub each : AllByRecursion HasSpelling events
+-- the text is the line that opens a script: how many threads, locks and conditions there are, and how
+-- many permits each semaphore has
+abbrev pub Opening : List ℕ → ℕ → ℕ → ℕ → List ℕ → Type 0
+Opening text threads locks conds permits = IsLine (codes "open") (threads ∷ locks ∷ conds ∷ permits) text
+
+-- the text is a first line and lines that spell these events, no more than a script may have
+pub record SpellsScript (text : List ℕ) (threads locks conds : ℕ) (permits : List ℕ) (events : List Event) : Type 0 where
+  pub first : List ℕ
+  pub rest : List ℕ
+  pub opens : Opening first threads locks conds permits
+  pub each : SpellsAll rest events
   pub few : length events < MAX_LINES
+  pub parts : text ≡ first ++ rest
 
 -- no line that opens a script stands at the front
 abbrev pub NoOpening : List ℕ → Type 0
-NoOpening text =
-    (n l c : ℕ) (more : List ℕ) → AllByRecursion IsSmall (n ∷ l ∷ c ∷ []) →
-    text ≡ open_line n l c ++ more → ⊥
+NoOpening text = (n l c : ℕ) (ps first more : List ℕ) → Opening first n l c ps → text ≡ first ++ more → ⊥
 
 -- no line of an event stands at the front
 abbrev pub NoEvent : List ℕ → Type 0
-NoEvent text = (e : Event) (more : List ℕ) → HasSpelling e → text ≡ event_line e ++ more → ⊥
+NoEvent text = (e : Event) (first more : List ℕ) → Spells first e → text ≡ first ++ more → ⊥
 
--- the lines before a bad line, and what stands from there on
+-- the lines before a bad line spell a script, and this stands from there on
 pub record GoodUntil (text : List ℕ) (number : ℕ) (rest : List ℕ) : Type 0 where
+  pub good : List ℕ
   pub threads : ℕ
   pub locks : ℕ
   pub conds : ℕ
+  pub permits : List ℕ
   pub events : List Event
-  pub are : AreLines threads locks conds events
-  pub parts : text ≡ lines threads locks conds events ++ rest
+  pub spells : SpellsScript good threads locks conds permits events
+  pub parts : text ≡ good ++ rest
   pub count : number ≡ length events + 2
 
 -- line `number`, counted from 1, is the first that is not as said: it is no line of a script, or it
@@ -99,8 +95,9 @@ IsFirstBad text number =
     ((number ≡ 1) × NoOpening text)
     ⊎ ((rest : List ℕ) × GoodUntil text number rest × (rest ≢ []) × (NoEvent rest ⊎ (number ≡ MAX_LINES + 1)))
 
--- what reading a text answers
+-- what reading a text answers: an accepted script has the numbers and the events that the text's lines
+-- spell
 abbrev pub Reads : List ℕ → Result Script ScriptFault → Type 0
-Reads text (Ok s) = AreLines s.threads s.locks s.conds s.events.items × (text ≡ spelling s)
+Reads text (Ok s) = SpellsScript text s.threads s.locks s.conds s.permits.items s.events.items
 Reads text (Err (BadLine number)) = IsFirstBad text number
 Reads text (Err NoMemory) = Unit {0}

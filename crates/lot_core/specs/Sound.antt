@@ -1,10 +1,16 @@
 -- What holds of every state that a run can reach.
-use Rattle.std.specs.Prelude.{◌≡◌, ◌≢◌, ℕ, ◌⊎◌, ◌↔◌, Bool, true, false, List, []}
-use Rattle.std.specs.List.{Contains, AllPairs}
+use Rattle.std.specs.Prelude.{◌≡◌, ◌≢◌, ℕ, ◌+◌, ◌<◌, ◌≤◌, ◌==◌, ◌&&◌, ◌⊎◌, ◌↔◌, nat_eq, Bool, true, false, not, List, [], Option, Some, None}
+use Rattle.std.specs.List.{Contains, AllPairs, list_any}
 use Rattle.lot_core.specs.declared.events.Point.{Point}
-use Rattle.lot_core.specs.declared.events.Point.TheVariants.{Wants, Bed, Rest, Sweeps}
-use Rattle.lot_core.specs.World.{World}
+use Rattle.lot_core.specs.declared.events.Point.TheVariants.{Wants, Bed, Rest, Sweeps, Seeks}
+use Rattle.lot_core.specs.Sums.{total, count_below}
+use Rattle.lot_core.specs.World.{World, Semaphores}
 use Rattle.lot_core.specs.Steps.{IsThread, IsTrying}
+use Rattle.lot_core.specs.Parts.{SemaphorePart, semaphore_part}
+
+-- each thread but once
+abbrev pub IsOnce : List ℕ → Type 0
+IsOnce line = AllPairs (λ t u. t ≢ u) line
 
 -- a lock is had by one thread at most, and is held exactly where some thread has it
 pub record OneOwner (held : ℕ → Bool) (has : ℕ → ℕ → Bool) : Type 0 where
@@ -25,29 +31,60 @@ abbrev pub SomeoneSweeps : World → Type 0
 SomeoneSweeps s =
     (c : ℕ) → s.conds.flag c ≡ false → s.conds.line c ≢ [] → (t : ℕ) × IsThread s t × (s.point t ≡ Sweeps c)
 
+-- the permits of each semaphore that are left, and those that are out, are together its opening number
+abbrev pub PermitsConserved : ℕ → (ℕ → ℕ) → Semaphores → Type 0
+PermitsConserved threads permits z = (k : ℕ) → z.left k + total threads (z.out k) ≡ permits k
+
+-- a thread in a semaphore's line means that the semaphore is parked
+abbrev pub SeekersAreMarked : Semaphores → Type 0
+SeekersAreMarked z = SleepersAreMarked z.line z.parked
+
+-- whether thread t is seeking a permit of k, where it seeks one of this semaphore: that is k, and t is
+-- not in k's line
+abbrev pub is_seeking : Option ℕ → ℕ → List ℕ → ℕ → Bool
+is_seeking None k line t = false
+is_seeking (Some j) k line t = (j == k) && not (list_any (nat_eq t) line)
+
+-- how many threads are seeking a permit of k
+abbrev pub seeker_count : ℕ → SemaphorePart → ℕ → ℕ
+seeker_count threads a k = count_below threads (λ t. is_seeking (a.seeks t) k (a.sems.line k) t)
+
+-- where a semaphore's line is not empty, as many threads at least are seeking its permits as are left
+abbrev pub PermitsAreSought : ℕ → SemaphorePart → Type 0
+PermitsAreSought threads a = (k : ℕ) → a.sems.line k ≢ [] → a.sems.left k ≤ seeker_count threads a k
+
 -- t's point names condition c, with a lock
 abbrev pub Waits : (ℕ → Point) → ℕ → ℕ → Type 0
 Waits point c t = (l : ℕ) × ((point t ≡ Bed c l) ⊎ (point t ≡ Rest c l))
 
 -- a thread is in at most one line, once, and its point names that line's key
-pub record OneLineEach (lock_line cond_line : ℕ → List ℕ) (point : ℕ → Point) : Type 0 where
-  pub lock_once : (l : ℕ) → AllPairs (λ t u. t ≢ u) (lock_line l)
-  pub cond_once : (c : ℕ) → AllPairs (λ t u. t ≢ u) (cond_line c)
+pub record OneLineEach (lock_line cond_line sem_line : ℕ → List ℕ) (point : ℕ → Point) : Type 0 where
+  pub lock_once : (l : ℕ) → IsOnce (lock_line l)
+  pub cond_once : (c : ℕ) → IsOnce (cond_line c)
+  pub sem_once : (k : ℕ) → IsOnce (sem_line k)
   pub wants : (l t : ℕ) → Contains (lock_line l) t → point t ≡ Wants l
   pub waits : (c t : ℕ) → Contains (cond_line c) t → Waits point c t
+  pub seeks : (k t : ℕ) → Contains (sem_line k) t → point t ≡ Seeks k
 
 pub record IsSound (s : World) : Type 0 where
   pub one_owner : OneOwner s.locks.held s.locks.has
   pub sleepers_are_marked : SleepersAreMarked s.locks.line s.locks.parked
   pub someone_is_trying : SomeoneIsTrying s
   pub someone_sweeps : SomeoneSweeps s
-  pub one_line_each : OneLineEach s.locks.line s.conds.line s.point
+  pub permits_conserved : PermitsConserved s.threads s.permits s.sems
+  pub seekers_are_marked : SeekersAreMarked s.sems
+  pub permits_are_sought : PermitsAreSought s.threads (semaphore_part s)
+  pub one_line_each : OneLineEach s.locks.line s.conds.line s.sems.line s.point
+
+-- What of this the semaphore part tells alone.
+pub record IsSoundSemaphorePart (threads : ℕ) (permits : ℕ → ℕ) (a : SemaphorePart) : Type 0 where
+  pub permits_conserved : PermitsConserved threads permits a.sems
+  pub seekers_are_marked : SeekersAreMarked a.sems
+  pub permits_are_sought : PermitsAreSought threads a
+  pub once : (k : ℕ) → IsOnce (a.sems.line k)
+  pub seeks : (k t : ℕ) → Contains (a.sems.line k) t → (t < threads) × (a.seeks t ≡ Some k)
 
 -- The same, key by key.
-
--- each thread but once
-abbrev pub IsOnce : List ℕ → Type 0
-IsOnce line = AllPairs (λ t u. t ≢ u) line
 
 abbrev pub IsMarked : World → ℕ → Type 0
 IsMarked s l = s.locks.line l ≢ [] → s.locks.parked l ≡ true
@@ -64,8 +101,20 @@ AllWant s l = (t : ℕ) → Contains (s.locks.line l) t → s.point t ≡ Wants 
 abbrev pub AllWait : World → ℕ → Type 0
 AllWait s c = (t : ℕ) → Contains (s.conds.line c) t → Waits s.point c t
 
+abbrev pub IsMarkedSemaphore : World → ℕ → Type 0
+IsMarkedSemaphore s k = s.sems.line k ≢ [] → s.sems.parked k ≡ true
+
+abbrev pub IsSoughtSemaphore : World → ℕ → Type 0
+IsSoughtSemaphore s k = s.sems.line k ≢ [] → s.sems.left k ≤ seeker_count s.threads (semaphore_part s) k
+
+abbrev pub AllSeek : World → ℕ → Type 0
+AllSeek s k = (t : ℕ) → Contains (s.sems.line k) t → s.point t ≡ Seeks k
+
 abbrev pub IsSoundLock : World → ℕ → Type 0
 IsSoundLock s l = IsMarked s l × IsSought s l × IsOnce (s.locks.line l) × AllWant s l
 
 abbrev pub IsSoundCond : World → ℕ → Type 0
 IsSoundCond s c = IsSwept s c × IsOnce (s.conds.line c) × AllWait s c
+
+abbrev pub IsSoundSemaphore : World → ℕ → Type 0
+IsSoundSemaphore s k = IsMarkedSemaphore s k × IsSoughtSemaphore s k × IsOnce (s.sems.line k) × AllSeek s k

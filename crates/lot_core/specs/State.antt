@@ -1,18 +1,19 @@
 -- What a `State` stands for, and what its calls answer.
-use Rattle.std.specs.Prelude.{take, slice_get, Option, Some, None, is_some, ◌≡◌, ◌==◌, ℕ, Bool, false, List, Result, Ok, Err}
+use Rattle.std.specs.Prelude.{take, slice_get, Option, Some, None, is_some, ◌≡◌, ◌==◌, ℕ, Bool, false, List, [], length, Result, Ok, Err}
 use Rattle.lot_core.specs.declared.events.Point.{Point}
 use Rattle.lot_core.specs.declared.events.Point.TheVariants.{Calm}
 use Rattle.lot_core.specs.declared.state.State.{State}
 use Rattle.lot_core.specs.declared.state.CoreFault.{CoreFault}
 use Rattle.lot_core.specs.declared.state.CoreFault.TheVariants.{BadLimits, NoMemory, NotEnabled}
 use Rattle.lot_core.specs.declared.events.Event.{Event}
-use Rattle.lot_core.specs.declared.events.Event.TheVariants.{Try, Take, Mark, Park, Free, Pass, Enlist, Look, Call, Lower, Sweep}
+use Rattle.lot_core.specs.declared.events.Event.TheVariants.{Park, Enlist, SemPark}
 use Rattle.lot_core.specs.declared.events.Seen.{Seen}
 use Rattle.lot_core.specs.Limits.{Limits}
-use Rattle.lot_core.specs.World.{World, put, opening}
+use Rattle.lot_core.specs.World.{World, put, opening_with}
 use Rattle.lot_core.specs.Steps.{Allowed, Run, after, after_all, seen}
 use Rattle.lot_core.specs.Rows.{told, row, row_from}
 use Rattle.lot_core.specs.Lines.{line_of}
+use Rattle.lot_core.specs.Semaphores.{semaphores_of, permits_of, sem_count}
 
 -- what the owner of a lock says of thread t: it has the lock
 abbrev pub owns : Option ℕ → ℕ → Bool
@@ -26,6 +27,8 @@ world_of s =
       threads = s.threads;
       lock_count = s.locks;
       cond_count = s.conds;
+      sem_count = sem_count s.sems;
+      permits = permits_of s.sems;
       locks = record {
         held = told is_some (row None s.owners.items);
         parked = row false s.parked.items;
@@ -36,6 +39,7 @@ world_of s =
         flag = row_from false s.locks s.flags.items;
         line = line_of s.cond_lines;
       };
+      sems = semaphores_of s.sems;
       point = row Calm s.points.items;
     }
 
@@ -62,15 +66,8 @@ with_cond_line w c line = record w { conds = record w.conds { line = put w.conds
 abbrev pub TakesMemory : Event → Type 0
 TakesMemory (Park t l) = Unit {0}
 TakesMemory (Enlist t c l) = Unit {0}
-TakesMemory (Try t l) = ⊥
-TakesMemory (Take t l) = ⊥
-TakesMemory (Mark t l) = ⊥
-TakesMemory (Free t l) = ⊥
-TakesMemory (Pass t l fair more) = ⊥
-TakesMemory (Look t c) = ⊥
-TakesMemory (Call t c more) = ⊥
-TakesMemory (Lower t c) = ⊥
-TakesMemory (Sweep t c) = ⊥
+TakesMemory (SemPark t k) = Unit {0}
+TakesMemory _ = ⊥
 
 -- what a call answers to an event in state s, where r is the state after it
 abbrev pub Answers : World → Event → Result Seen CoreFault → World → Type 0
@@ -79,12 +76,17 @@ Answers s e (Err NotEnabled) r = (¬ Allowed s e) × (r ≡ s)
 Answers s e (Err NoMemory) r = Allowed s e × TakesMemory e × (r ≡ s)
 Answers s e (Err BadLimits) r = ⊥
 
--- what opening a state with these numbers answers
+-- what opening a state with these numbers, and the opening numbers of its semaphores, answers
+abbrev pub OpensWith : ℕ → ℕ → ℕ → List ℕ → Result State CoreFault → Type 0
+OpensWith threads locks conds permits (Ok s) =
+    Limits threads locks conds (length permits) × (world_of s ≡ opening_with threads locks conds permits)
+OpensWith threads locks conds permits (Err BadLimits) = ¬ Limits threads locks conds (length permits)
+OpensWith threads locks conds permits (Err NoMemory) = Limits threads locks conds (length permits)
+OpensWith threads locks conds permits (Err NotEnabled) = ⊥
+
+-- the same without semaphores
 abbrev pub Opens : ℕ → ℕ → ℕ → Result State CoreFault → Type 0
-Opens threads locks conds (Ok s) = Limits threads locks conds × (world_of s ≡ opening threads locks conds)
-Opens threads locks conds (Err BadLimits) = ¬ Limits threads locks conds
-Opens threads locks conds (Err NoMemory) = Limits threads locks conds
-Opens threads locks conds (Err NotEnabled) = ⊥
+Opens threads locks conds = OpensWith threads locks conds []
 
 -- of these events those before number i are a run from s to r, and event number i is refused there
 abbrev pub StopsAt : World → List Event → ℕ → CoreFault → World → Type 0

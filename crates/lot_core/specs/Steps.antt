@@ -1,13 +1,14 @@
 -- The events: where each is allowed, what it changes, and what its thread sees of it.
-use Rattle.std.specs.Prelude.{◌≡◌, ℕ, ◌+◌, ◌<◌, ◌≤◌, ◌&&◌, ◌⊎◌, Bool, true, false, not, if◌then◌else◌, List, [], ◌∷◌, ◌++◌, length, Option, Some, None}
+use Rattle.std.specs.Prelude.{◌≡◌, ℕ, ◌+◌, ◌-◌, ◌<◌, ◌≤◌, ◌==◌, ◌&&◌, ◌⊎◌, Bool, true, false, not, if◌then◌else◌, List, [], ◌∷◌, ◌++◌, length, drop, min, Option, Some, None}
 use Rattle.std.specs.List.{Contains}
 use Rattle.lot_core.specs.declared.events.Point.{Point}
-use Rattle.lot_core.specs.declared.events.Point.TheVariants.{Calm, Wants, Bed, Rest, Sweeps}
+use Rattle.lot_core.specs.declared.events.Point.TheVariants.{Calm, Wants, Bed, Rest, Sweeps, Seeks}
 use Rattle.lot_core.specs.declared.events.Event.{Event}
-use Rattle.lot_core.specs.declared.events.Event.TheVariants.{Try, Take, Mark, Park, Free, Pass, Enlist, Look, Call, Lower, Sweep}
+use Rattle.lot_core.specs.declared.events.Event.TheVariants.{Try, Take, Mark, Park, Free, Pass, Enlist, Look, Call, Lower, Sweep, SemTake, SemMark, SemPark, SemFree, SemPass, SemClear}
 use Rattle.lot_core.specs.declared.events.Seen.{Seen}
 use Rattle.lot_core.specs.declared.events.Seen.TheVariants.{Bool as Saw, Done, Sleeper, Count}
-use Rattle.lot_core.specs.World.{World, Locks, Conds, put}
+use Rattle.lot_core.specs.declared.events.TheConstants.{MAX_CALLED}
+use Rattle.lot_core.specs.World.{World, Locks, Conds, Semaphores, put}
 
 -- who and what there is
 abbrev pub IsThread : World → ℕ → Type 0
@@ -19,6 +20,10 @@ IsLock s l = l < s.lock_count
 abbrev pub IsCond : World → ℕ → Type 0
 IsCond s c = (s.lock_count ≤ c) × (c < s.lock_count + s.cond_count)
 
+abbrev pub IsSemaphore : World → ℕ → Type 0
+IsSemaphore s k =
+    (s.lock_count + s.cond_count ≤ k) × (k < s.lock_count + s.cond_count + s.sem_count)
+
 -- t is trying to get l: it wants l and is not in l's line, or it rests on a condition and is not in
 -- that condition's line
 abbrev pub IsTrying : World → ℕ → ℕ → Type 0
@@ -26,13 +31,25 @@ IsTrying s t l =
     ((s.point t ≡ Wants l) × (¬ Contains (s.locks.line l) t))
     ⊎ ((c : ℕ) × (s.point t ≡ Rest c l) × (¬ Contains (s.conds.line c) t))
 
+-- t is seeking a permit of k: it seeks one of k and is not in k's line
+abbrev pub IsSeeking : World → ℕ → ℕ → Type 0
+IsSeeking s t k = (s.point t ≡ Seeks k) × (¬ Contains (s.sems.line k) t)
+
 -- t may let a lock go: it is calm, or at the bed of some condition
 abbrev pub MayLetGo : World → ℕ → ℕ → Type 0
 MayLetGo s t l = (s.point t ≡ Calm) ⊎ ((c : ℕ) × (s.point t ≡ Bed c l))
 
--- where two or more are in the line, `more` is said
+-- where some stay in the line when its first n leave, `more` is said
+abbrev pub SaysMoreBehind : ℕ → List ℕ → Bool → Type 0
+SaysMoreBehind n line more = n < length line → more ≡ true
+
+-- the same where its first leaves
 abbrev pub SaysMore : List ℕ → Bool → Type 0
-SaysMore line more = 2 ≤ length line → more ≡ true
+SaysMore = SaysMoreBehind 1
+
+-- how many threads one Call may take
+abbrev pub IsCallCount : ℕ → Type 0
+IsCallCount n = (1 ≤ n) × (n ≤ MAX_CALLED)
 
 -- allowed where
 abbrev pub Allowed : World → Event → Type 0
@@ -46,9 +63,17 @@ Allowed s (Pass t l fair more) =
     × (fair ≡ false → SaysMore (s.locks.line l) more)
 Allowed s (Enlist t c l) = IsThread s t × IsCond s c × IsLock s l × (s.point t ≡ Calm) × (s.locks.has l t ≡ true)
 Allowed s (Look t c) = IsThread s t × IsCond s c × (s.point t ≡ Calm)
-Allowed s (Call t c more) = IsThread s t × IsCond s c × (s.point t ≡ Calm) × SaysMore (s.conds.line c) more
+Allowed s (Call t c n more) =
+    IsThread s t × IsCond s c × (s.point t ≡ Calm) × IsCallCount n × SaysMoreBehind n (s.conds.line c) more
 Allowed s (Lower t c) = IsThread s t × IsCond s c × (s.point t ≡ Calm)
 Allowed s (Sweep t c) = IsThread s t × IsCond s c × (s.point t ≡ Sweeps c)
+Allowed s (SemTake t k) = IsThread s t × IsSemaphore s k × ((s.point t ≡ Calm) ⊎ IsSeeking s t k)
+Allowed s (SemMark t k) = IsThread s t × IsSemaphore s k × IsSeeking s t k × (s.sems.left k ≡ 0)
+Allowed s (SemPark t k) = IsThread s t × IsSemaphore s k × IsSeeking s t k
+Allowed s (SemFree t k) = IsThread s t × IsSemaphore s k × (s.point t ≡ Calm) × (1 ≤ s.sems.out k t)
+Allowed s (SemPass t k more) =
+    IsThread s t × IsSemaphore s k × (s.point t ≡ Calm) × (1 ≤ s.sems.out k t) × SaysMore (s.sems.line k) more
+Allowed s (SemClear t k) = IsThread s t × IsSemaphore s k × (s.point t ≡ Calm) × (s.sems.line k ≡ [])
 
 -- t gets l where l is unheld
 abbrev pub got : Locks → ℕ → ℕ → Locks
@@ -89,19 +114,67 @@ passed s t l fair more = passed_line s t l fair more (s.line l)
 abbrev pub enlisted : Conds → ℕ → ℕ → Conds
 enlisted s t c = record s { flag = put s.flag c true; line = put s.line c (s.line c ++ t ∷ []) }
 
-abbrev pub called_line : Conds → ℕ → Bool → List ℕ → Conds
-called_line s c more [] = record s { flag = put s.flag c false }
-called_line s c more (u ∷ rest) =
-    record s { flag = put s.flag c (s.flag c && more); line = put s.line c rest }
+-- the first n of c's line leave it
+abbrev pub dequeued : Conds → ℕ → ℕ → Conds
+dequeued s c n = record s { line = put s.line c (drop n (s.line c)) }
 
-abbrev pub called : Conds → ℕ → Bool → Conds
-called s c more = called_line s c more (s.line c)
+-- how many of a line its first n are
+abbrev pub dequeued_count : ℕ → List ℕ → ℕ
+dequeued_count n line = min n (length line)
+
+-- a flag after a Call that found this line: where nobody was there, or no more may wait, it is clear
+abbrev pub flag_after_call : Bool → Bool → List ℕ → Bool
+flag_after_call flag more [] = false
+flag_after_call flag more (u ∷ rest) = flag && more
+
+abbrev pub called : Conds → ℕ → ℕ → Bool → Conds
+called s c n more = record (dequeued s c n) { flag = put s.flag c (flag_after_call (s.flag c) more (s.line c)) }
 
 abbrev pub lowered : Conds → ℕ → Conds
 lowered s c = record s { flag = put s.flag c false }
 
 abbrev pub swept : Conds → ℕ → Conds
-swept s c = record s { line = put s.line c [] }
+swept s c = dequeued s c (length (s.line c))
+
+-- no permit of k is left
+abbrev pub none_left : Semaphores → ℕ → Bool
+none_left z k = z.left k == 0
+
+-- t takes a permit of k where one is left
+abbrev pub permit_taken : Semaphores → ℕ → ℕ → Semaphores
+permit_taken z t k =
+    if none_left z k then z
+    else record z { left = put z.left k (z.left k - 1); out = put z.out k (put (z.out k) t (z.out k t + 1)) }
+
+-- t gives a permit of k back
+abbrev pub permit_given : Semaphores → ℕ → ℕ → Semaphores
+permit_given z t k =
+    record z { left = put z.left k (z.left k + 1); out = put z.out k (put (z.out k) t (z.out k t - 1)) }
+
+-- k's parked bit becomes this
+abbrev pub with_sem_parked : Semaphores → ℕ → Bool → Semaphores
+with_sem_parked z k parked = record z { parked = put z.parked k parked }
+
+-- k's line becomes this
+abbrev pub with_sem_line : Semaphores → ℕ → List ℕ → Semaphores
+with_sem_line z k line = record z { line = put z.line k line }
+
+-- t goes last in k's line where no permit is left and k is parked
+abbrev pub seeker_queued : Semaphores → ℕ → ℕ → Semaphores
+seeker_queued z t k = if none_left z k && z.parked k then with_sem_line z k (z.line k ++ t ∷ []) else z
+
+-- t gives a permit of k back where k is unparked
+abbrev pub permit_freed : Semaphores → ℕ → ℕ → Semaphores
+permit_freed z t k = if z.parked k then z else permit_given z t k
+
+-- the first of k's line, if any, leaves it, and the parked bit becomes `more`
+abbrev pub seeker_woken : Semaphores → ℕ → Bool → List ℕ → Semaphores
+seeker_woken z k more [] = z
+seeker_woken z k more (u ∷ rest) = record z { parked = put z.parked k more; line = put z.line k rest }
+
+-- t gives a permit of k back, and the first of the line may take it
+abbrev pub permit_passed : Semaphores → ℕ → ℕ → Bool → Semaphores
+permit_passed z t k more = seeker_woken (permit_given z t k) k more (z.line k)
 
 -- Bed(c,l) becomes Rest(c,l)
 abbrev pub released : Point → Point
@@ -110,6 +183,7 @@ released Calm = Calm
 released (Wants l) = Wants l
 released (Rest c l) = Rest c l
 released (Sweeps c) = Sweeps c
+released (Seeks k) = Seeks k
 
 -- where t lets a lock go and hands it to the first of the line, if any
 abbrev pub handed : (ℕ → Point) → List ℕ → (ℕ → Point)
@@ -135,9 +209,19 @@ after s (Pass t l fair more) =
     }
 after s (Enlist t c l) = record s { conds = enlisted s.conds t c; point = put s.point t (Bed c l) }
 after s (Look t c) = s
-after s (Call t c more) = record s { conds = called s.conds c more }
+after s (Call t c n more) = record s { conds = called s.conds c n more }
 after s (Lower t c) = record s { conds = lowered s.conds c; point = put s.point t (Sweeps c) }
 after s (Sweep t c) = record s { conds = swept s.conds c; point = put s.point t Calm }
+after s (SemTake t k) =
+    record s {
+      sems = permit_taken s.sems t k;
+      point = put s.point t (if none_left s.sems k then Seeks k else Calm);
+    }
+after s (SemMark t k) = record s { sems = with_sem_parked s.sems k true }
+after s (SemPark t k) = record s { sems = seeker_queued s.sems t k }
+after s (SemFree t k) = record s { sems = permit_freed s.sems t k }
+after s (SemPass t k more) = record s { sems = permit_passed s.sems t k more }
+after s (SemClear t k) = record s { sems = with_sem_parked s.sems k false }
 
 abbrev pub first : List ℕ → Option ℕ
 first [] = None
@@ -153,9 +237,15 @@ seen s (Free t l) = Saw (not (s.locks.parked l))
 seen s (Pass t l fair more) = Sleeper (first (s.locks.line l))
 seen s (Enlist t c l) = Done
 seen s (Look t c) = Saw (s.conds.flag c)
-seen s (Call t c more) = Sleeper (first (s.conds.line c))
+seen s (Call t c n more) = Count (dequeued_count n (s.conds.line c))
 seen s (Lower t c) = Done
 seen s (Sweep t c) = Count (length (s.conds.line c))
+seen s (SemTake t k) = Saw (not (none_left s.sems k))
+seen s (SemMark t k) = Done
+seen s (SemPark t k) = Saw (none_left s.sems k && s.sems.parked k)
+seen s (SemFree t k) = Saw (not (s.sems.parked k))
+seen s (SemPass t k more) = Sleeper (first (s.sems.line k))
+seen s (SemClear t k) = Done
 
 -- a run: each event is allowed in the state before it
 abbrev pub Run : World → List Event → Type 0

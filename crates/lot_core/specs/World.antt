@@ -1,7 +1,8 @@
 -- A state of the model.
-use Rattle.std.specs.Prelude.{◌==◌, ℕ, Bool, false, if◌then◌else◌, List, []}
+use Rattle.std.specs.Prelude.{◌==◌, ℕ, ◌+◌, Bool, false, if◌then◌else◌, List, [], length}
 use Rattle.lot_core.specs.declared.events.Point.{Point}
 use Rattle.lot_core.specs.declared.events.Point.TheVariants.{Calm}
+use Rattle.lot_core.specs.Rows.{row_from}
 
 -- a function with one value changed
 abbrev pub put : {X : Type 0} → (ℕ → X) → ℕ → X → (ℕ → X)
@@ -19,24 +20,46 @@ pub record Conds : Type 0 where
   pub flag : ℕ → Bool
   pub line : ℕ → List ℕ
 
--- a state: how many threads, locks and conditions there are, what each lock and condition is, and
--- where each thread stands
+-- the semaphores: of each the permits that are left, its parked bit and its line of sleepers;
+-- `out k t` permits of k are out with thread t
+pub record Semaphores : Type 0 where
+  pub left : ℕ → ℕ
+  pub parked : ℕ → Bool
+  pub line : ℕ → List ℕ
+  pub out : ℕ → ℕ → ℕ
+
+-- nobody is queued, and all these permits are left
+abbrev pub none_taken : (ℕ → ℕ) → Semaphores
+none_taken permits = record { left = permits; parked = λ k. false; line = λ k. []; out = λ k t. 0 }
+
+-- a state: how many threads, locks, conditions and semaphores there are and how many permits each
+-- semaphore was opened with, what each lock, condition and semaphore is, and where each thread stands
 pub record World : Type 0 where
   pub threads : ℕ
   pub lock_count : ℕ
   pub cond_count : ℕ
+  pub sem_count : ℕ
+  pub permits : ℕ → ℕ
   pub locks : Locks
   pub conds : Conds
+  pub sems : Semaphores
   pub point : ℕ → Point
 
--- all bits and flags clear, all lines and `has` empty, all threads calm
-abbrev pub opening : ℕ → ℕ → ℕ → World
-opening threads lock_count cond_count =
+-- all bits and flags clear, all lines and `has` empty, all permits left, all threads calm
+abbrev pub opening_with : ℕ → ℕ → ℕ → List ℕ → World
+opening_with threads lock_count cond_count permits =
     record {
       threads = threads;
       lock_count = lock_count;
       cond_count = cond_count;
+      sem_count = length permits;
+      permits = row_from 0 (lock_count + cond_count) permits;
       locks = record { held = λ l. false; parked = λ l. false; line = λ l. []; has = λ l t. false };
       conds = record { flag = λ c. false; line = λ c. [] };
+      sems = none_taken (row_from 0 (lock_count + cond_count) permits);
       point = λ t. Calm;
     }
+
+-- the same without semaphores
+abbrev pub opening : ℕ → ℕ → ℕ → World
+opening threads lock_count cond_count = opening_with threads lock_count cond_count []

@@ -1,4 +1,7 @@
-//! The eleven events, what a thread sees of its own, and the points at which a thread can stand.
+//! The seventeen events, what a thread sees of its own, and the points at which a thread can stand.
+
+/// The greatest number of threads that one [`Event::Call`] may take.
+pub const MAX_CALLED: usize = 256;
 
 /// Where a thread stands between two events.
 #[derive(Clone, Copy, Debug, PartialEq, Eq)]
@@ -13,13 +16,16 @@ pub enum Point {
     Rest { cond: usize, lock: usize },
     /// It has lowered the condition's flag and has not swept its line.
     Sweeps { cond: usize },
+    /// It seeks a permit of the semaphore, or is queued on it.
+    Seeks { sem: usize },
 }
 
 /// One single access of one thread to the word of one key.
 ///
-/// Keys count the locks first and the conditions behind them, from 0, as threads do. An event with
-/// a number out of range is no error of its own: [`State::step`](crate::State::step) refuses it.
-/// After WTF's `LockAlgorithm` (Try to Pass) and `Condition` (Enlist to Sweep).
+/// Keys count the locks first, the conditions behind them and the semaphores last, from 0, as
+/// threads do. An event with a number out of range is no error of its own:
+/// [`State::step`](crate::State::step) refuses it. After WTF's `LockAlgorithm` (Try to Pass) and
+/// `Condition` (Enlist to Sweep); those of semaphores are made after them.
 #[derive(Clone, Copy, Debug, PartialEq, Eq)]
 pub enum Event {
     /// Gets the lock where it is unheld, and wants nothing where it is held.
@@ -66,10 +72,12 @@ pub enum Event {
         thread: usize,
         key: usize,
     },
-    /// Takes the first of the condition's line, and clears the flag where no `more` may wait.
+    /// Takes the first `count` of the condition's line, or all where they are fewer, and clears the
+    /// flag where no `more` may wait or nobody was there. A Call takes 1 to [`MAX_CALLED`].
     Call {
         thread: usize,
         key: usize,
+        count: usize,
         more: bool,
     },
     /// Clears the condition's flag before a sweep.
@@ -82,17 +90,50 @@ pub enum Event {
         thread: usize,
         key: usize,
     },
+    /// Takes a permit of the semaphore where one is left, and seeks one where none is.
+    SemTake {
+        thread: usize,
+        key: usize,
+    },
+    /// Marks a semaphore of which no permit is left as parked.
+    SemMark {
+        thread: usize,
+        key: usize,
+    },
+    /// Goes last in the semaphore's line where no permit is left and it is parked.
+    SemPark {
+        thread: usize,
+        key: usize,
+    },
+    /// Gives a permit back where the semaphore is not parked.
+    SemFree {
+        thread: usize,
+        key: usize,
+    },
+    /// Gives a permit back and takes the first of the line, which may then take the permit. `more`
+    /// says that others may wait behind that first.
+    SemPass {
+        thread: usize,
+        key: usize,
+        more: bool,
+    },
+    /// Clears the parked bit of a semaphore on which nobody is queued.
+    SemClear {
+        thread: usize,
+        key: usize,
+    },
 }
 
 /// What a thread sees of the event that it makes.
 #[derive(Clone, Copy, Debug, PartialEq, Eq)]
 pub enum Seen {
-    /// Whether a lock was got (Try, Take), queued on (Park) or let go (Free), or the flag (Look).
+    /// Whether a lock was got (Try, Take), queued on (Park) or let go (Free), or the flag (Look);
+    /// whether a permit was got (SemTake), queued for (SemPark) or given back (SemFree).
     Bool(bool),
-    /// Nothing (Mark, Enlist, Lower).
+    /// Nothing (Mark, Enlist, Lower, SemMark, SemClear).
     Done,
-    /// The thread that was taken from a line (Pass, Call).
+    /// The thread that was taken from a line (Pass, SemPass).
     Sleeper(Option<usize>),
-    /// How many threads were taken from a line (Sweep).
+    /// How many threads were taken from a line (Call, Sweep).
     Count(usize),
 }

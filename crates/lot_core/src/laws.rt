@@ -1,40 +1,47 @@
-//! What holds of every run, and what an event of the whole is to its two parts: functions that do
+//! What holds of every run, and what an event of the whole is to its parts: functions that do
 //! nothing, whose contracts are the laws.
 ghost use Rattle.std.specs.Prelude.{◌≡◌, ℕ, List};
 ghost use Rattle.lot_core.specs.declared.events.Event.{Event};
-ghost use Rattle.lot_core.specs.World.{World, opening};
+ghost use Rattle.lot_core.specs.World.{World, opening_with};
 ghost use Rattle.lot_core.specs.Steps.{Allowed, Run, after_all};
 ghost use Rattle.lot_core.specs.Sound.{IsSound};
-ghost use Rattle.lot_core.specs.Script.{lines, AreLines, IsFirstBad};
-ghost use Rattle.lot_core.specs.Parts.{LockPartAllows, CondPartAllows, LockPartFollows, CondPartFollows};
+ghost use Rattle.lot_core.specs.Script.{Spells, SpellsScript, IsFirstBad};
+ghost use Rattle.lot_core.specs.Parts.{LockPartAllows, CondPartAllows, SemaphorePartAllows};
+ghost use Rattle.lot_core.specs.Parts.{LockPartFollows, CondPartFollows, SemaphorePartFollows};
 
 /// After every run from an opening state the state is sound, whatever its numbers of threads, locks
-/// and conditions, and however long it is.
+/// and conditions and its semaphores' permits, and however long it is.
 pub fn every_run_is_sound()
-    ensures { (threads locks conds : ℕ) (events : List Event) →
-        Run (opening threads locks conds) events →
-        IsSound (after_all (opening threads locks conds) events) }
+    ensures { (threads locks conds : ℕ) (permits : List ℕ) (events : List Event) →
+        Run (opening_with threads locks conds permits) events →
+        IsSound (after_all (opening_with threads locks conds permits) events) }
 {}
 
 /// An event of the whole is a step of the part that it belongs to, with the same answer, and leaves
-/// the other part as it is. So the words of locks and those of conditions can be ruled apart. It is
-/// allowed in the whole exactly where its part allows it and its thread stands as it asks.
+/// the other parts as they are. So the words of locks, those of conditions and those of semaphores
+/// can be ruled apart. It is allowed in the whole exactly where its part allows it and its thread
+/// stands as it asks.
 ///
-/// The condition part asks for a sound state: only there is it sure that the thread to whom a lock
-/// is handed was no sweeper.
+/// The condition part and the semaphore part ask for a sound state: only there is it sure that the
+/// thread to whom a lock is handed swept nothing and sought no permit, and that a calm thread is in
+/// no condition's line.
 pub fn parts_follow()
     ensures lock_part { (s : World) (e : Event) → Allowed s e → LockPartFollows s e }
     ensures cond_part { (s : World) (e : Event) → IsSound s → Allowed s e → CondPartFollows s e }
+    ensures semaphore_part { (s : World) (e : Event) → IsSound s → Allowed s e → SemaphorePartFollows s e }
     ensures lock_allowed { (s : World) (e : Event) → LockPartAllows s e }
-    ensures cond_allowed { (s : World) (e : Event) → CondPartAllows s e }
+    ensures cond_allowed { (s : World) (e : Event) → IsSound s → CondPartAllows s e }
+    ensures semaphore_allowed { (s : World) (e : Event) → SemaphorePartAllows s e }
 {}
 
-/// A script that is spelled as it should be has no bad line, and one text spells one script: so
-/// [`parse_script`](crate::parse_script) reads each back, memory allowing.
+/// A text that spells a script has no bad line, and spells no other script: so
+/// [`parse_script`](crate::parse_script) reads each back, memory allowing. A line spells one event
+/// at most, though one event may have two spellings.
 pub fn spelled_scripts_are_read()
-    ensures read { (n l c : ℕ) (events : List Event) (number : ℕ) →
-        AreLines n l c events → IsFirstBad (lines n l c events) number → ⊥ }
-    ensures one { (n l c n' l' c' : ℕ) (events events' : List Event) →
-        AreLines n l c events → AreLines n' l' c' events' → lines n l c events ≡ lines n' l' c' events' →
-        (n ≡ n') × (l ≡ l') × (c ≡ c') × (events ≡ events') }
+    ensures read { (text : List ℕ) (n l c : ℕ) (ps : List ℕ) (events : List Event) (number : ℕ) →
+        SpellsScript text n l c ps events → IsFirstBad text number → ⊥ }
+    ensures one { (text : List ℕ) (n l c n' l' c' : ℕ) (ps ps' : List ℕ) (events events' : List Event) →
+        SpellsScript text n l c ps events → SpellsScript text n' l' c' ps' events' →
+        (n ≡ n') × (l ≡ l') × (c ≡ c') × (ps ≡ ps') × (events ≡ events') }
+    ensures one_event { (line : List ℕ) (e e' : Event) → Spells line e → Spells line e' → e ≡ e' }
 {}

@@ -1,7 +1,7 @@
-//! The model of the parking lot's locks and conditions, made runnable: eleven events, each a single
-//! access of one thread to the word of one key, and the states between them. That every run keeps
-//! its state sound is proved here once, for all that stands above: lot_words rules its table of
-//! lock words by the lock part of this model, and the program replays scripts of events.
+//! The model of the parking lot's locks, conditions and semaphores, made runnable: seventeen events,
+//! each a single access of one thread to the word of one key, and the states between them. That
+//! every run keeps its state sound is proved here once, for all that stands above: lot_words rules
+//! its table of lock words by the lock part of this model, and the program replays scripts of events.
 //!
 //! | Event | Allowed where | What it does |
 //! |---|---|---|
@@ -12,19 +12,28 @@
 //! | `Pass` | the same, the lock is parked | takes the first of its line out; hands it the lock, or lets the lock go |
 //! | `Enlist` | calm, has a lock | sets the condition's flag, goes last in its line |
 //! | `Look` | calm | reads the flag |
-//! | `Call` | calm | takes the first of the line; clears the flag where no more may wait |
+//! | `Call` | calm | takes the first few of the line; clears the flag where no more may wait |
 //! | `Lower` | calm | clears the flag, and is to sweep |
 //! | `Sweep` | is to sweep | takes the whole line |
+//! | `SemTake` | calm or seeking | takes a permit that is left; else seeks one |
+//! | `SemMark` | seeking, no permit is left | sets the semaphore's parked bit |
+//! | `SemPark` | seeking | goes last in the line of a parked semaphore of which no permit is left |
+//! | `SemFree` | calm, has a permit | gives it back to an unparked semaphore |
+//! | `SemPass` | the same | gives it back, and takes the first of the line |
+//! | `SemClear` | calm, the line is empty | clears the parked bit |
 //!
 //! A thread is calm, or wants a lock, or is at the bed of a condition (enlisted, still with its
-//! lock), or rests (enlisted once, its lock let go), or sweeps. It is *trying* to get a lock where
-//! it wants it and is not in its line, or rests and was taken from the condition's line.
+//! lock), or rests (enlisted once, its lock let go), or sweeps, or seeks a permit. It is *trying* to
+//! get a lock where it wants it and is not in its line, or rests and was taken from the condition's
+//! line. It is *seeking* a permit where it seeks one and is not in the semaphore's line.
 //!
 //! A state is *sound* where each lock has at most one owner, sleepers in a lock's line mean that it
 //! is parked, a free lock with sleepers has some thread that is trying, a clear flag with sleepers
-//! has some thread that sweeps, and each thread is in one line at most.
+//! has some thread that sweeps, and each thread is in one line at most; where the permits of a
+//! semaphore that are left and those that are out are together its opening number, sleepers in its
+//! line mean that it is parked, and as many threads at least are then seeking as permits are left.
 //!
-//! Read `specs/` in this order: World, Steps, Sound, Parts, then State for the calls, Script and
+//! Read `specs/` in this order: World, Steps, Parts, Sound, then State for the calls, Script and
 //! Printed for the texts.
 #![tactic(auto)]
 
@@ -32,11 +41,13 @@ pub mod events;
 pub mod laws;
 mod lines;
 pub mod printing;
+mod reading;
 pub mod script;
+mod semaphores;
 mod sound;
 pub mod state;
 
-pub use events::{Event, Point, Seen};
+pub use events::{Event, MAX_CALLED, Point, Seen};
 pub use laws::{every_run_is_sound, parts_follow, spelled_scripts_are_read};
 pub use printing::print_state;
 pub use script::{MAX_LINES, Script, ScriptFault, parse_script};

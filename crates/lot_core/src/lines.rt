@@ -15,7 +15,7 @@ pub(crate) struct Lines {
 
 impl Lines {
     ghost use Rattle.lot_core.specs.World.{put};
-    ghost use Rattle.lot_core.specs.Steps.{first};
+    ghost use Rattle.lot_core.specs.Steps.{first, dequeued_count};
     ghost use Rattle.lot_core.specs.Sound.{IsOnce};
     ghost use Rattle.lot_core.specs.Lines.{line_of, key_count, HasKey, KeepsKeys, no_lines};
 
@@ -85,13 +85,18 @@ impl Lines {
         self.lines[key - self.low].pop_front()
     }
 
-    /// Takes everybody.
-    pub(crate) fn clear(&mut self, key: usize)
+    /// Takes the first `count` threads, or all where there are fewer, and answers how many.
+    pub(crate) fn dequeue(&mut self, key: usize, count: usize) -> usize
         requires { HasKey self.old key }
-        ensures empty { line_of self.new ≡ put (line_of self.old) key [] }
+        ensures count { result ≡ dequeued_count count (line_of self.old key) }
+        ensures rest { line_of self.new ≡ put (line_of self.old) key (drop count (line_of self.old key)) }
         ensures keys { KeepsKeys self.old self.new }
     {
-        self.lines[key - self.low].clear();
+        let leaving = count.min(self.len(key));
+        for _ in 0..leaving {
+            self.take_first(key);
+        }
+        leaving
     }
 
     /// Whether nobody is queued on this key.

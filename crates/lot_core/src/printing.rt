@@ -1,11 +1,11 @@
-//! A state as text: a line for each lock, then each condition, then each thread.
-ghost use Rattle.std.specs.Prelude.{◌≡◌, ◌++◌, ◌<◌, OnOk, IfOk, IfErr, string_bytes, flat_map};
+//! A state as text: a line for each lock, then each condition, each semaphore and each thread.
+ghost use Rattle.std.specs.Prelude.{◌≡◌, ◌+◌, ◌++◌, ◌<◌, OnOk, IfOk, IfErr, string_bytes, flat_map};
 ghost use Rattle.std.specs.List.{range_with_len};
 ghost use Rattle.lot_core.specs.declared.state.CoreFault.TheVariants.{NoMemory};
 ghost use Rattle.lot_core.specs.Lines.{line_of, HasKey};
-ghost use Rattle.lot_core.specs.Steps.{IsThread, IsLock, IsCond};
+ghost use Rattle.lot_core.specs.Steps.{IsThread, IsLock, IsCond, IsSemaphore};
 ghost use Rattle.lot_core.specs.State.{world_of};
-ghost use Rattle.lot_core.specs.Printed.{line_text, owner_text, point_text, lock_line, cond_line, thread_line, printed};
+ghost use Rattle.lot_core.specs.Printed.{line_text, owner_text, point_text, lock_line, cond_line, sem_line, thread_line, printed};
 
 use crate::events::Point;
 use crate::lines::Lines;
@@ -48,6 +48,7 @@ fn push_point(out: &mut String, point: Point) -> Result<(), AllocError>
         Point::Bed { cond, lock } => write!(out, "bed {cond} {lock}"),
         Point::Rest { cond, lock } => write!(out, "rest {cond} {lock}"),
         Point::Sweeps { cond } => write!(out, "sweeps {cond}"),
+        Point::Seeks { sem } => write!(out, "seeks {sem}"),
     }
 }
 
@@ -75,6 +76,21 @@ fn push_cond(out: &mut String, state: &State, cond: usize) -> Result<(), AllocEr
     let flag = u8::from(state.flag(cond));
     write!(out, "cond {cond} flag {flag} line ")?;
     push_queue(out, &state.cond_lines, cond)?;
+    out.push_str("\n")
+}
+
+#[tactic(auto, unfolding(crate::specs::Printed::sem_line))]
+fn push_sem(out: &mut String, state: &State, sem: usize) -> Result<(), AllocError>
+    requires { IsSemaphore (world_of state.now) sem }
+    ensures { OnOk result (string_bytes out.new ≡
+        string_bytes out.old ++ sem_line (world_of state.now) sem) }
+{
+    let left = state.sems.left(sem);
+    let taken = state.sems.all_out(sem);
+    write!(out, "sem {sem} left {left} out {taken}")?;
+    let parked = u8::from(state.sems.is_parked(sem));
+    write!(out, " parked {parked} line ")?;
+    push_queue(out, &state.sems.lines, sem)?;
     out.push_str("\n")
 }
 
@@ -113,6 +129,18 @@ fn push_conds(out: &mut String, state: &State) -> Result<(), AllocError>
 }
 
 #[tactic(auto, using(crate::proofs::Texts::text_more))]
+fn push_sems(out: &mut String, state: &State) -> Result<(), AllocError>
+    ensures { let w = world_of state.now in
+        let text = flat_map (sem_line w) (range_with_len (w.lock_count + w.cond_count) w.sem_count) in
+        OnOk result (string_bytes out.new ≡ string_bytes out.old ++ text) }
+{
+    for i in 0..state.sems.len() {
+        push_sem(out, state, state.sems.key(i))?;
+    }
+    Ok(())
+}
+
+#[tactic(auto, using(crate::proofs::Texts::text_more))]
 fn push_threads(out: &mut String, state: &State) -> Result<(), AllocError>
     ensures { let w = world_of state.now in
         let text = flat_map (thread_line w) (range_with_len 0 w.threads) in
@@ -130,15 +158,17 @@ fn text_of(alloc: Global, state: &State) -> Result<String, AllocError>
     let mut out = String::new(alloc);
     push_locks(&mut out, state)?;
     push_conds(&mut out, state)?;
+    push_sems(&mut out, state)?;
     push_threads(&mut out, state)?;
     Ok(out)
 }
 
 /// The state as text.
 ///
-/// A lock's line is `lock K word W owner O line Q`, a condition's `cond K flag F line Q` and a
-/// thread's `thread T P`, each ended by LF. W is 0 to 3 (held 1, parked 2), O is the owner or `-`, Q
-/// is the sleepers joined by commas or `-`, and P is the thread's point in words.
+/// A lock's line is `lock K word W owner O line Q`, a condition's `cond K flag F line Q`, a
+/// semaphore's `sem K left P out O parked B line Q` and a thread's `thread T P`, each ended by LF. W
+/// is 0 to 3 (held 1, parked 2), O is the owner or `-`, of a semaphore the permits that are out, Q is
+/// the sleepers joined by commas or `-`, and P of a thread is its point in words.
 pub fn print_state(alloc: Global, state: &State) -> Result<String, CoreFault>
     ensures ok { IfOk result (λ text. string_bytes text ≡ printed (world_of state.now)) }
     ensures err { IfErr result (λ e. e ≡ NoMemory) }

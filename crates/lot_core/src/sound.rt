@@ -7,8 +7,10 @@ use crate::state::State;
 #[tactic(auto)]
 impl State {
     ghost use Rattle.lot_core.specs.declared.events.Point.TheVariants.{Sweeps};
-    ghost use Rattle.lot_core.specs.Steps.{IsThread, IsLock, IsCond, IsTrying};
+    ghost use Rattle.lot_core.specs.Steps.{IsThread, IsLock, IsCond, IsSemaphore, IsTrying};
+    ghost use Rattle.lot_core.specs.Parts.{semaphore_part};
     ghost use Rattle.lot_core.specs.Sound.{IsSound, Waits, IsMarked, IsSought, IsSwept, AllWant, AllWait, IsSoundLock, IsSoundCond};
+    ghost use Rattle.lot_core.specs.Sound.{seeker_count, IsMarkedSemaphore, IsSoughtSemaphore, AllSeek, IsSoundSemaphore};
     ghost use Rattle.lot_core.specs.State.{world_of};
 
     fn someone_tries(&self, lock: usize) -> bool
@@ -118,6 +120,62 @@ impl State {
         self.cond_lines.is_once(cond) && self.do_all_wait(cond)
     }
 
+    // How many threads are seeking a permit of the semaphore.
+    fn seekers(&self, sem: usize) -> usize
+        requires { IsSemaphore (world_of self.now) sem }
+        ensures { result ≡ seeker_count (world_of self.now).threads (semaphore_part (world_of self.now)) sem }
+    {
+        let mut count = 0;
+        for thread in 0..self.threads {
+            if self.is_seeking(thread, sem) {
+                count += 1;
+            }
+        }
+        count
+    }
+
+    fn do_all_seek(&self, sem: usize) -> bool
+        requires { IsSemaphore (world_of self.now) sem }
+        ensures { IsTrue result ↔ AllSeek (world_of self.now) sem }
+    {
+        for place in 0..self.sems.lines.len(sem) {
+            if !self.seeks(self.sems.lines.at(sem, place), sem) {
+                return false;
+            }
+        }
+        true
+    }
+
+    fn is_marked_semaphore(&self, sem: usize) -> bool
+        requires { IsSemaphore (world_of self.now) sem }
+        ensures { IsTrue result ↔ IsMarkedSemaphore (world_of self.now) sem }
+    {
+        self.sems.is_parked(sem) || self.sems.lines.is_empty(sem)
+    }
+
+    fn is_sought_semaphore(&self, sem: usize) -> bool
+        requires { IsSemaphore (world_of self.now) sem }
+        ensures { IsTrue result ↔ IsSoughtSemaphore (world_of self.now) sem }
+    {
+        if self.sems.lines.is_empty(sem) {
+            return true;
+        }
+        self.sems.left(sem) as usize <= self.seekers(sem)
+    }
+
+    fn is_sound_semaphore(&self, sem: usize) -> bool
+        requires { IsSemaphore (world_of self.now) sem }
+        ensures { IsTrue result ↔ IsSoundSemaphore (world_of self.now) sem }
+    {
+        if !self.is_marked_semaphore(sem) {
+            return false;
+        }
+        if !self.is_sought_semaphore(sem) {
+            return false;
+        }
+        self.sems.lines.is_once(sem) && self.do_all_seek(sem)
+    }
+
     fn are_locks_sound(&self) -> bool
         ensures { IsTrue result ↔ ((l : ℕ) → IsSoundLock (world_of self.now) l) }
     {
@@ -140,15 +198,33 @@ impl State {
         true
     }
 
+    fn are_semaphores_sound(&self) -> bool
+        ensures { IsTrue result ↔ ((k : ℕ) → IsSoundSemaphore (world_of self.now) k) }
+    {
+        for i in 0..self.sems.len() {
+            if !self.is_sound_semaphore(self.sems.key(i)) {
+                return false;
+            }
+        }
+        true
+    }
+
     /// Whether the state is sound: one owner for each lock, sleepers are marked, someone is trying
-    /// where a free lock has sleepers, someone sweeps where a clear flag has some, and no thread is
-    /// in two lines or twice in one.
+    /// where a free lock has sleepers, someone sweeps where a clear flag has some, permits are
+    /// conserved, and sought where a semaphore has sleepers, and no thread is in two lines or twice
+    /// in one.
     ///
     /// Every state that [`open`](State::open) and [`step`](State::step) can make is sound
     /// ([`every_run_is_sound`](crate::every_run_is_sound)): a test may ask, a program need not.
     pub fn is_sound(&self) -> bool
         ensures { IsTrue result ↔ IsSound (world_of self.now) }
     {
-        self.are_locks_sound() && self.are_conds_sound()
+        if !self.are_locks_sound() {
+            return false;
+        }
+        if !self.are_conds_sound() {
+            return false;
+        }
+        self.are_semaphores_sound()
     }
 }

@@ -1,1 +1,5 @@
 mod Under
+pub mod Debts
+pub mod Idle
+pub mod Looks
+mod Raised

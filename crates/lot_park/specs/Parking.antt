@@ -1,6 +1,6 @@
 -- What the callbacks of the parking lot are told, and what is asked of them. Of a root three things are
 -- known, by functions: its key, its line, and the letters that it owes, as pairs of thread and token.
-use Rattle.std.specs.Prelude.{◌≡◌, ℕ, ◌<◌, Bool, true, false, List, [], ◌∷◌, ◌++◌, drop, length, Option, Some, None, IsSome}
+use Rattle.std.specs.Prelude.{◌≡◌, ℕ, zero, suc, ◌<◌, ◌==◌, ◌&&◌, cond, Bool, true, false, List, [], ◌∷◌, ◌++◌, drop, length, Option, Some, None, IsSome}
 use Rattle.lot_bucket.specs.Queue.{first_of}
 use Rattle.lot_bucket.specs.Places.{has_key}
 use Rattle.lot_bucket.specs.Contents.{Contents}
@@ -25,6 +25,25 @@ debt (Some thread) token = (thread, token) ∷ []
 abbrev pub debts : List ℕ → List (ℕ × ℕ)
 debts [] = []
 debts (thread ∷ line) = (thread, 0) ∷ debts line
+
+-- debts, but for the first letter with this token to this thread
+abbrev pub without_debt : ℕ → ℕ → List (ℕ × ℕ) → List (ℕ × ℕ)
+without_debt thread token [] = []
+without_debt thread token (d ∷ ds) = cond (d.0 == thread && d.1 == token) ds (d ∷ without_debt thread token ds)
+
+-- Looks for a letter: the pass before, the token that was found, if any, and the pass after.
+module _ {P : Type 0} (looked : P → Option ℕ → P → Type 0) where
+  -- so many looks, one after the other, that found nothing
+  abbrev pub LooksInVain : ℕ → P → P → Type 0
+  LooksInVain zero p q = q ≡ p
+  LooksInVain (suc n) p q = (m : P) × LooksInVain n p m × looked m None q
+
+  -- some looks that found nothing, and then one that found the token
+  pub record Awaited (before : P) (token : ℕ) (after : P) : Type 0 where
+    pub looks : ℕ
+    pub last : P
+    pub in_vain : LooksInVain looks before last
+    pub found : looked last (Some token) after
 
 -- how a parking ended: invalid, or woken with a token
 abbrev pub Ends : Parked → Type 0 → (ℕ → Type 0) → Type 0
@@ -102,8 +121,8 @@ module _ {R : Type 0} (key : R → ℕ) (line : R → List ℕ) (owes : R → Li
     pub called : answers root (x, pass, back, queued)
 
   -- A parking called its validation once, with some root of the key. It is invalid exactly where that said
-  -- no. Where it said yes, the action before sleep ran once, and a letter with the token was collected.
-  pub record ParkedOnce {X P : Type 0} (k : ℕ) (answers : R → X × P × R × Bool → Type 0) (acts : X → X → Type 0) (collected : P → ℕ → P → Type 0) (result : P × X × Parked) : Type 0 where
+  -- no. Where it said yes, the action before sleep ran once, and the letter with the token was awaited.
+  pub record ParkedOnce {X P : Type 0} (k : ℕ) (answers : R → X × P × R × Bool → Type 0) (acts : X → X → Type 0) (looked : P → Option ℕ → P → Type 0) (result : P × X × Parked) : Type 0 where
     pub root : R
     pub answer : X × P × R × Bool
     pub named : key root ≡ k
@@ -111,4 +130,4 @@ module _ {R : Type 0} (key : R → ℕ) (line : R → List ℕ) (owes : R → Li
     pub called : answers root answer
     pub ends : Ends result.2
         ((answer.3 ≡ false) × (result.0 ≡ answer.1) × (result.1 ≡ answer.0))
-        (λ token. (answer.3 ≡ true) × collected answer.1 token result.0 × acts answer.0 result.1)
+        (λ token. (answer.3 ≡ true) × Awaited looked answer.1 token result.0 × acts answer.0 result.1)

@@ -11,11 +11,18 @@
 //! | `unpark_all` | the whole line is taken, the callback is told how many, the letters are posted | wake |
 //!
 //! A letter carries all that a sleeper is told; a wake only ends a sleep, and the sleeper then looks for
-//! its letter. A thread may be unparked between its queueing and its sleep: then it does not sleep.
+//! its letter. A thread may be unparked between its queueing and its sleep: then it does not sleep. What a
+//! look for a letter does, also one that finds none, the scheme says (`looked`), and a parking's contract
+//! chains the looks (`Awaited`).
+//!
+//! Several tables of rights share one lot by `parts`, each with its own keys, letters and passes.
 #![tactic(auto)]
 
+#[cfg(test)]
+mod letters;
 pub mod lot;
 mod parking;
+pub mod parts;
 pub mod scheme;
 mod taken;
 

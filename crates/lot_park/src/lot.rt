@@ -55,7 +55,7 @@ impl<S: Scheme> Model for ParkingLot<S> {
 impl<S: Scheme> ParkingLot<S> {
     ghost use Rattle.lot_park.specs.Lots.{LotView, AreIdle, Appends};
     ghost use Rattle.lot_table.specs.Sizes.{Serves};
-    ghost use Rattle.lot_park.specs.Parking.{IsOpenFor, MayUnpark, Unparks, UnparkedOne, MayUnparkAll, UnparksAll, UnparkedAll, MayValidate, Validates, Validated, ParkedOnce};
+    ghost use Rattle.lot_park.specs.Parking.{IsOpenFor, MayUnpark, Unparks, UnparkedOne, MayUnparkAll, UnparksAll, UnparkedAll, MayValidate, Validates, Validated, Awaited, ParkedOnce};
 
     /// A lot for so many threads, with a key for each root: root `i` is that of key `i`.
     ///
@@ -95,7 +95,7 @@ impl<S: Scheme> ParkingLot<S> {
     ///
     /// `validate` is called once, under the lock of the key's bucket; where it says yes, the thread stands
     /// last in the line. Then `before_sleep` is called once with no bucket locked, and must not park; it
-    /// may unpark, even this thread. A key that the lot has not is waited for without end.
+    /// may unpark, even this thread.
     pub fn park_conditionally<
         W: Wait,
         X,
@@ -110,11 +110,12 @@ impl<S: Scheme> ParkingLot<S> {
         validate: V,
         before_sleep: B,
     ) -> (S::Pass, X, Parked)
+        requires key { key < self.now.keys }
         requires thread { S.thread pass < self.now.threads }
         requires callable { MayValidate S.Root.key S.Root.line S.Root.owes key (V.pre validate x pass) }
         requires keeps { Validates S.Root.key S.Root.line S.Root.owes S.thread key (S.thread pass) (V.post validate x pass) }
         requires sleeps { (r : S.Root) (o : _) → S.Root.key r ≡ key → S.Root.owes r ≡ [] → V.post validate x pass r o → o.3 ≡ true → B.pre before_sleep o.0 }
-        ensures { ParkedOnce S.Root.key S.Root.line S.Root.owes key (V.post validate x pass) (B.post before_sleep) S.collected result }
+        ensures { ParkedOnce S.Root.key S.Root.line S.Root.owes key (V.post validate x pass) (B.post before_sleep) S.looked result }
     {
         let (x, pass, queued) = self.queue_up(rt, pass, key, x, validate);
         if !queued {
@@ -157,7 +158,7 @@ impl<S: Scheme> ParkingLot<S> {
     // Sleeps until the thread's letter is there.
     fn sleep<W: Wait>(&self, rt: &W, pass: S::Pass) -> (S::Pass, Token)
         requires { S.thread pass < self.now.threads }
-        ensures { S.collected pass result.1.0 result.0 }
+        ensures { Awaited S.looked pass result.1.0 result.0 }
     {
         let thread = S::thread_of(&pass);
         let record = &self.records[thread];
@@ -184,6 +185,7 @@ impl<S: Scheme> ParkingLot<S> {
         x: X,
         callback: F,
     ) -> (X, Dequeued)
+        requires key { key < self.now.keys }
         requires callable { MayUnpark S.Root.key S.Root.line S.Root.owes key moment.now (F.pre callback x) }
         requires keeps { Unparks S.Root.key S.Root.line S.Root.owes (λ (t : Token). t.0) key moment.now (F.post callback x) }
         ensures { UnparkedOne S.Root.key S.Root.line S.Root.owes key moment.now (F.post callback x) result }
@@ -213,6 +215,7 @@ impl<S: Scheme> ParkingLot<S> {
         x: X,
         f: F,
     ) -> (X, usize)
+        requires key { key < self.now.keys }
         requires callable { MayUnparkAll S.Root.key S.Root.line S.Root.owes key (F.pre f x) }
         requires keeps { UnparksAll S.Root.key S.Root.line S.Root.owes key (F.post f x) }
         ensures { UnparkedAll S.Root.key S.Root.line S.Root.owes key (F.post f x) result }
@@ -249,7 +252,9 @@ impl<S: Scheme> ParkingLot<S> {
     }
 
     /// How many threads wait on the key; at the next moment it may be another number.
-    pub fn line_length<W: Wait>(&self, rt: &W, key: usize) -> usize {
+    pub fn line_length<W: Wait>(&self, rt: &W, key: usize) -> usize
+        requires { key < self.now.keys }
+    {
         let ((), length) = self.table.with_bucket(
             rt,
             key,

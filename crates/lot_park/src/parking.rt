@@ -117,7 +117,7 @@ fn pay_all<S: Scheme>(scheme: &S, root: S::Root, threads: &[usize]) -> S::Root
     root
 }
 
-fn enqueue_if<R: Drop>(queued: bool, bucket: &mut Bucket<R>, thread: usize, key: usize)
+fn enqueue_if<R>(queued: bool, bucket: &mut Bucket<R>, thread: usize, key: usize)
     requires { length bucket.old.queue < bucket.old.room }
     ensures { bucket.new ≡ record bucket.old { queue = (if queued then bucket.old.queue ++ (thread, key) ∷ [] else bucket.old.queue) } }
 {

@@ -1,4 +1,6 @@
-ghost use Rattle.std.specs.Prelude.{◌≡◌, ℕ, List, [], ◌∷◌, MatchOption};
+ghost use Rattle.std.specs.Prelude.{◌≡◌, ℕ, Option, Some, None, MatchOption};
+ghost use Rattle.std.specs.List.{Contains};
+ghost use Rattle.lot_park.specs.Parking.{without_debt};
 
 use lot_bucket::Root;
 
@@ -20,21 +22,22 @@ pub trait Scheme {
     /// The thread's number.
     ghost thread: { Self.Pass → ℕ };
 
-    /// The pass before, the token, and the pass after a letter with that token was collected.
-    ghost collected: { Self.Pass → ℕ → Self.Pass → Type 0 };
+    /// What a look for the thread's letter does: the pass before, the token where a letter lay, and the
+    /// pass after.
+    ghost looked: { Self.Pass → Option ℕ → Self.Pass → Type 0 };
 
     fn thread_of(pass: &Self::Pass) -> usize
         ensures { result ≡ thread pass.now };
 
-    /// Posts the letter that the root owes first, to the thread `at`.
+    /// Posts one of the letters that the root owes, to the thread `at`.
     fn post(&self, root: Self::Root, at: usize, token: Token) -> Self::Root
-        requires { (rest : List (ℕ × ℕ)) × (Self.Root.owes root ≡ (at, token.0) ∷ rest) }
+        requires { Contains (Self.Root.owes root) (at, token.0) }
         ensures key { Self.Root.key result ≡ Self.Root.key root }
         ensures line { Self.Root.line result ≡ Self.Root.line root }
-        ensures owes { Self.Root.owes root ≡ (at, token.0) ∷ Self.Root.owes result };
+        ensures owes { Self.Root.owes result ≡ without_debt at token.0 (Self.Root.owes root) };
 
-    /// Takes the letter of the pass's thread, if one lies there.
+    /// Looks for the letter of the pass's thread, and takes it where one lies.
     fn collect(&self, pass: Self::Pass) -> (Self::Pass, Option<Token>)
         ensures thread { thread result.0 ≡ thread pass }
-        ensures letter { MatchOption result.1 (result.0 ≡ pass) (λ t. collected pass t.0 result.0) };
+        ensures looked { MatchOption result.1 (looked pass None result.0) (λ t. looked pass (Some t.0) result.0) };
 }

@@ -3,9 +3,10 @@ use Rattle.std.proofs.Common.{◌≡◌, ◌≢◌, ℕ, zero, suc, Bool, true, 
 use Rattle.std.proofs.lemmas.List.{get_or-set_other}
 use Rattle.atomic_table.proofs.Lists.{at_set}
 use mathlib.Core.Logic.{dite}
+use mathlib.Core.Option.{some-injective}
 use native.Mathlib.Decide.{ℕ_discrete}
-use Rattle.lot_sync.specs.Lot.{PassView, HeldView, Owns, OwnsNone, HasSeen, leaving}
-use Rattle.lot_sync.specs.Values.{Gets}
+use Rattle.lot_sync.specs.Lot.{PassView, HeldView, Owns, OwnsNone, HasSeen, owning, leaving}
+use Rattle.lot_sync.specs.Values.{Gets, MayGiveBack}
 use Rattle.lot_sync.specs.Holding.{Holding, HoldingBoth}
 
 module _ {V Part : Type 0} (keeps : ℕ → V → Type 0) (grows : V → V → Type 0) (part : ℕ → V → Part) (itself : (x : V) → grows x x) where
@@ -40,6 +41,19 @@ module _ {V Part : Type 0} (keeps : ℕ → V → Type 0) (grows : V → V → T
     grown_second = grown_newly before after key second got;
   }
 
+  -- the value that was found is what the pass has seen
+  pub seen_newly : (before after : PassView V) (key : ℕ) (held : HeldView V) → Gets keeps grows part before key held after → (u : V) → HasSeen after held.key u → held.value ≡ u
+  seen_newly before after key held got u seen = some-injective held.value u (sym got.seen ∙ subst (λ k. HasSeen after k u) got.key_is seen)
+
+  -- a value that keeps the rule, has grown from what was found, and has the others' parts of that may be given back
+  pub may_go_back : (before after : PassView V) (key : ℕ) (held : HeldView V) (value : V) → Gets keeps grows part before key held after → keeps held.key value → grows held.value value
+      → ((t : ℕ) → t ≢ before.thread → part t held.value ≡ part t value) → MayGiveBack keeps grows part after (record { key = held.key; value = value })
+  may_go_back before after key held value got kept grown others = record {
+    kept = kept;
+    grown = λ u seen. subst (λ x. grows x value) (seen_newly before after key held got u seen) grown;
+    others = λ u t seen else. subst (λ x. part t x ≡ part t value) (seen_newly before after key held got u seen) (others t (λ e. else (e ∙ sym (ap (λ (p : PassView V). p.thread) got.after_is))));
+  }
+
 let_go_of : (owns : List Bool) (k : ℕ) → get_or (set owns k false) k false ≡ false
 let_go_of [] k = refl
 let_go_of (b ∷ owns) zero = refl
@@ -47,6 +61,22 @@ let_go_of (b ∷ owns) (suc k) = let_go_of owns k
 
 not_both : (b : Bool) → b ≡ true → b ≡ false → ⊥
 not_both b e f = cc
+
+unowned : (bs : List Bool) (k j : ℕ) → ((i : ℕ) → get_or bs i false ≡ true → ⊥) → get_or (set (set bs k true) k false) j false ≡ true → ⊥
+unowned [] k j none e = none j e
+unowned (b ∷ bs) zero zero none e = absurd (cc)
+unowned (b ∷ bs) zero (suc j) none e = none (suc j) e
+unowned (b ∷ bs) (suc k) zero none e = none zero e
+unowned (b ∷ bs) (suc k) (suc j) none e = unowned bs k j (λ i h. none (suc i) h) e
+
+-- whoever owned nothing, got a lock and let it go again owns nothing
+pub owns_none_again : {V : Type 0} (p q r : PassView V) (k : ℕ) (x y : V) → OwnsNone p → q ≡ owning p k x → r ≡ leaving q k y → OwnsNone r
+owns_none_again p q r k x y none e f j h =
+    unowned p.owns k j none (subst (λ (z : PassView _). get_or (set z.owns k false) j false ≡ true) e (subst (λ (z : PassView _). get_or z.owns j false ≡ true) f h))
+
+-- what was left is what the pass has seen
+pub seen_left : {V : Type 0} (p q : PassView V) (k : ℕ) (y u : V) → q ≡ leaving p k y → HasSeen q k u → y ≡ u
+seen_left p q k y u e at = ⊎_elim (λ here. here.1) (λ else. absurd (else.0 refl)) (at_set p.seen k k y u (subst (λ (z : PassView _). HasSeen z k u) e at))
 
 -- the first of two locks is let go, and the second is still held
 pub left_second : {V : Type 0} (grows : V → V → Type 0) (before after : PassView V) (first second : HeldView V) → HoldingBoth grows before first second → after ≡ leaving before first.key first.value → Holding grows after second

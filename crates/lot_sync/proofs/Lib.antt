@@ -2,3 +2,4 @@ pub mod Rests
 pub mod Turns
 pub mod Starts
 pub mod Holdings
+pub mod Waking

@@ -6,14 +6,19 @@ use lib.ListN.{get_elem?}
 use Rattle.atomic_table.specs.Seated.{TableId}
 use Rattle.lot_words.specs.declared.views.Hold.TheVariants.{NotHeld}
 use Rattle.lot_words.specs.declared.views.Place.TheVariants.{Out}
-use Rattle.lot_words.specs.Shown.{PassShown, RootShown, WordsShown}
-use Rattle.lot_words.specs.Start.{pass_at, root_at}
+use Rattle.std.specs.List.{All, Any}
+use Rattle.std.proofs.lemmas.List.Elements.{All-nil, All-cons, All-weaker}
+use Rattle.lot_rights.specs.Shown.{PassShown, RootShown}
+use Rattle.lot_rights.proofs.Totals.{any_all}
+use Rattle.lot_words.specs.declared.views.LockPassView.{LockPassView}
+use Rattle.lot_words.specs.declared.views.LockRootView.{LockRootView}
+use Rattle.lot_words.specs.Shown.{LockWordsShown, pass_at, root_at}
 use Rattle.lot_words.specs.World.{IsHeld}
 use Rattle.lot_words.specs.Values.{HasSeen}
-use Rattle.lot_words.specs.Closing.{AllOf, SomeOf, HoldsNone}
-use Rattle.lot_words.proofs.Gathers.{all_map, pick}
+use Rattle.lot_words.specs.Closing.{HoldsNone}
 use Rattle.lot_sync.specs.Passes.{IsFresh}
 use Rattle.lot_sync.specs.Opened.{IsOpened}
+use Rattle.lot_sync.proofs.Turns.{some_at}
 
 some_one : {A : Type 0} (x y : A) → Some x ≡ Some y → x ≡ y
 some_one x y e = cc
@@ -29,17 +34,14 @@ module _ {A : Type 0} where
   stands_at f (y ∷ xs) are zero x at = (omega arith, some_one x (f zero) (sym at ∙ are zero (omega arith)))
   stands_at f (y ∷ xs) are (suc i) x at = let r = stands_at (λ k. f (suc k)) xs (λ k near. are (suc k) (omega arith)) i x at in (omega (arith, r.0), r.1)
 
-  pub all_by_place : (P : A → Type 0) (f : ℕ → A) (xs : List A) → ((k : ℕ) → k < length xs → slice_get xs k ≡ Some (f k)) → ((k : ℕ) → k < length xs → P (f k)) → AllOf P xs
-  all_by_place P f [] are holds = tt
-  all_by_place P f (x ∷ xs) are holds = (
-    subst P (sym (some_one x (f zero) (are zero (omega arith)))) (holds zero (omega arith)),
-    all_by_place P (λ k. f (suc k)) xs (λ k near. are (suc k) (omega arith)) (λ k near. holds (suc k) (omega arith)),
-  )
+  pub all_by_place : (P : A → Type 0) (f : ℕ → A) (xs : List A) → ((k : ℕ) → k < length xs → slice_get xs k ≡ Some (f k)) → ((k : ℕ) → k < length xs → P (f k)) → All P xs
+  all_by_place P f [] are holds = All-nil P
+  all_by_place P f (x ∷ xs) are holds = All-cons P x xs
+      (subst P (sym (some_one x (f zero) (are zero (omega arith)))) (holds zero (omega arith)))
+      (all_by_place P (λ k. f (suc k)) xs (λ k near. are (suc k) (omega arith)) (λ k near. holds (suc k) (omega arith)))
 
-  pub some_by_place : (P : A → Type 0) (f : ℕ → A) (xs : List A) → ((k : ℕ) → k < length xs → slice_get xs k ≡ Some (f k)) → (i : ℕ) → i < length xs → P (f i) → SomeOf P xs
-  some_by_place P f [] are i near holds = absurd (omega arith)
-  some_by_place P f (x ∷ xs) are zero near holds = inl (subst P (sym (some_one x (f zero) (are zero (omega arith)))) holds)
-  some_by_place P f (x ∷ xs) are (suc i) near holds = inr (some_by_place P (λ k. f (suc k)) xs (λ k n. are (suc k) (omega arith)) i (omega arith) holds)
+  pub some_by_place : (P : A → Type 0) (f : ℕ → A) (xs : List A) → ((k : ℕ) → k < length xs → slice_get xs k ≡ Some (f k)) → (i : ℕ) → i < length xs → P (f i) → Any P xs
+  some_by_place P f xs are i near holds = some_at P xs i near (λ x at. subst P (sym (stands_at f xs are i x at).1) holds)
 
   -- two lists of one length whose elements agree
   pub same_by_place : (xs ys : List A) → length xs ≡ length ys → ((i : ℕ) (x : A) → slice_get xs i ≡ Some x → get_elem? ys i ≡ some x) → xs ≡ ys
@@ -54,7 +56,7 @@ unheld zero l is = is
 unheld (suc m) zero is = is
 unheld (suc m) (suc l) is = unheld m l is
 
-module _ {V : Type 0} (grows : V → V → Type 0) (itself : (x : V) → grows x x) (values : List V) (threads : ℕ) (words : WordsShown) (passes : List (PassShown V)) (roots : List RootShown)
+module _ {V : Type 0} (grows : V → V → Type 0) (itself : (x : V) → grows x x) (values : List V) (threads : ℕ) (words : LockWordsShown) (passes : List (PassShown (LockPassView V))) (roots : List (RootShown LockRootView))
     (opened : IsOpened values threads words passes roots) where
   fresh_at : (t : ℕ) → t < threads → IsFresh grows words.table values threads (pass_at words.table values t)
   fresh_at t near = record {
@@ -78,47 +80,44 @@ module _ {V : Type 0} (grows : V → V → Type 0) (itself : (x : V) → grows x
   roots_at : (l : ℕ) → l < length roots → slice_get roots l ≡ Some (root_at words.table l)
   roots_at l near = opened.roots_are l (subst (λ n. l < n) opened.roots_long near)
 
-  pub passes_fresh : AllOf (IsFresh grows words.table values threads) passes
+  pub passes_fresh : All (IsFresh grows words.table values threads) passes
   passes_fresh = all_by_place (IsFresh grows words.table values threads) (pass_at words.table values) passes passes_at (λ t near. fresh_at t (subst (λ n. t < n) opened.passes_long near))
 
-  pub roots_own : AllOf (λ (r : RootShown). r.table ≡ words.table) roots
-  roots_own = all_by_place (λ (r : RootShown). r.table ≡ words.table) (root_at words.table) roots roots_at (λ l near. refl)
+  pub roots_own : All (λ (r : RootShown LockRootView). r.table ≡ words.table) roots
+  roots_own = all_by_place (λ (r : RootShown LockRootView). r.table ≡ words.table) (root_at words.table) roots roots_at (λ l near. refl)
 
-  pub root_is : (l : ℕ) (r : RootShown) → slice_get roots l ≡ Some r → r ≡ root_at words.table l
+  pub root_is : (l : ℕ) (r : RootShown LockRootView) → slice_get roots l ≡ Some r → r ≡ root_at words.table l
   root_is l r at = (stands_at (root_at words.table) roots roots_at l r at).1
 
-  pub passes_own : AllOf (λ (p : PassShown V). p.table ≡ words.table) passes
-  passes_own = all_map (IsFresh grows words.table values threads) (λ (p : PassShown V). p.table ≡ words.table) passes (λ p f. f.is_of) passes_fresh
+  pub passes_own : All (λ (p : PassShown (LockPassView V)). p.table ≡ words.table) passes
+  passes_own = All-weaker (IsFresh grows words.table values threads) (λ (p : PassShown (LockPassView V)). p.table ≡ words.table) (λ p f. f.is_of) passes passes_fresh
 
-  pub passes_free : AllOf HoldsNone passes
-  passes_free = all_map (IsFresh grows words.table values threads) HoldsNone passes (λ p f. f.free) passes_fresh
+  pub passes_free : All HoldsNone passes
+  passes_free = All-weaker (IsFresh grows words.table values threads) HoldsNone (λ p f. f.free) passes passes_fresh
 
-  pub each_thread : (t : ℕ) → t < words.size.threads → SomeOf (λ (p : PassShown V). p.pass.thread ≡ t) passes
-  each_thread t near = some_by_place (λ (p : PassShown V). p.pass.thread ≡ t) (pass_at words.table values) passes passes_at t
+  pub each_thread : (t : ℕ) → t < words.size.threads → Any (λ (p : PassShown (LockPassView V)). p.pass.thread ≡ t) passes
+  each_thread t near = some_by_place (λ (p : PassShown (LockPassView V)). p.pass.thread ≡ t) (pass_at words.table values) passes passes_at t
       (subst (λ n. t < n) (opened.words_threads ∙ sym opened.passes_long) near) refl
 
-  pub each_key : (k : ℕ) → k < words.size.locks → SomeOf (λ (r : RootShown). r.root.key ≡ k) roots
-  each_key k near = some_by_place (λ (r : RootShown). r.root.key ≡ k) (root_at words.table) roots roots_at k
+  pub each_key : (k : ℕ) → k < words.size.locks → Any (λ (r : RootShown LockRootView). r.root.key ≡ k) roots
+  each_key k near = some_by_place (λ (r : RootShown LockRootView). r.root.key ≡ k) (root_at words.table) roots roots_at k
       (subst (λ n. k < n) (opened.words_locks ∙ sym opened.roots_long) near) refl
 
   pub values_back : (back : List V) → length back ≡ words.size.locks
-      → ((l : ℕ) (y : V) → slice_get back l ≡ Some y → SomeOf (λ (p : PassShown V). HasSeen p.values l y) passes) → back ≡ values
+      → ((l : ℕ) (y : V) → slice_get back l ≡ Some y → Any (λ (p : PassShown (LockPassView V)). HasSeen p.pass.own l y) passes) → back ≡ values
   values_back back long left = same_by_place back values (long ∙ opened.words_locks) (λ l y at.
-      let saw = pick (λ (p : PassShown V). HasSeen p.values l y) (λ (p : PassShown V). p.values.seen ≡ values) (λ _. Unit {0}) passes (left l y at) seen_all none_all in
-      subst (λ xs. get_elem? xs l ≡ some y) saw.1.1.0 saw.1.0)
+      let saw = any_all (λ (p : PassShown (LockPassView V)). HasSeen p.pass.own l y) (λ (p : PassShown (LockPassView V)). p.pass.own.seen ≡ values) passes (left l y at) seen_all in
+      subst (λ xs. get_elem? xs l ≡ some y) saw.2 saw.1)
     where
-      seen_all : AllOf (λ (p : PassShown V). p.values.seen ≡ values) passes
-      seen_all = all_by_place (λ (p : PassShown V). p.values.seen ≡ values) (pass_at words.table values) passes passes_at (λ t near. refl)
-
-      none_all : AllOf (λ _. Unit {0}) passes
-      none_all = all_by_place (λ _. Unit {0}) (pass_at words.table values) passes passes_at (λ t near. tt)
+      seen_all : All (λ (p : PassShown (LockPassView V)). p.pass.own.seen ≡ values) passes
+      seen_all = all_by_place (λ (p : PassShown (LockPassView V)). p.pass.own.seen ≡ values) (pass_at words.table values) passes passes_at (λ t near. refl)
 
   -- the roots are idle, as the parking lot asks
-  pub roots_idle : (i : ℕ) (r : RootShown) → slice_get roots i ≡ Some r → (r.root.key ≡ i) × (r.root.line ≡ []) × (r.root.owes ≡ None)
-  roots_idle i r at = let e = root_is i r at in (ap (λ (q : RootShown). q.root.key) e, ap (λ (q : RootShown). q.root.line) e, ap (λ (q : RootShown). q.root.owes) e)
+  pub roots_idle : (i : ℕ) (r : RootShown LockRootView) → slice_get roots i ≡ Some r → (r.root.key ≡ i) × (r.root.own.line ≡ []) × (r.root.own.owes ≡ None)
+  roots_idle i r at = let e = root_is i r at in (ap (λ (q : RootShown LockRootView). q.root.key) e, ap (λ (q : RootShown LockRootView). q.root.own.line) e, ap (λ (q : RootShown LockRootView). q.root.own.owes) e)
 
 -- the same under the names of the lot
-pub fresh_named : {V : Type 0} (grows : V → V → Type 0) (table table' : TableId) (values values' : List V) (threads threads' : ℕ) (passes : List (PassShown V)) → table ≡ table' → values ≡ values' → threads ≡ threads'
-    → AllOf (IsFresh grows table values threads) passes → AllOf (IsFresh grows table' values' threads') passes
+pub fresh_named : {V : Type 0} (grows : V → V → Type 0) (table table' : TableId) (values values' : List V) (threads threads' : ℕ) (passes : List (PassShown (LockPassView V))) → table ≡ table' → values ≡ values' → threads ≡ threads'
+    → All (IsFresh grows table values threads) passes → All (IsFresh grows table' values' threads') passes
 fresh_named grows table table' values values' threads threads' passes e f h all =
-    subst (λ t. AllOf (IsFresh grows t values' threads') passes) e (subst (λ vs. AllOf (IsFresh grows table vs threads') passes) f (subst (λ n. AllOf (IsFresh grows table values n) passes) h all))
+    subst (λ t. All (IsFresh grows t values' threads') passes) e (subst (λ vs. All (IsFresh grows table vs threads') passes) f (subst (λ n. All (IsFresh grows table values n) passes) h all))

@@ -1,9 +1,13 @@
 -- What tests have of a pass: that it owns one lock, or two, with values that it may give back, or that it tries to get one.
-use Rattle.std.specs.Prelude.{◌≡◌, ◌≢◌, ℕ, List}
-use Rattle.lot_words.specs.Shown.{PassShown}
-use Rattle.atomic_table.specs.Seated.{TableId}
+use Rattle.std.specs.Prelude.{◌≡◌, ◌≢◌, ℕ, zero, suc, List}
 use Rattle.lot_sync.specs.Lot.{PassView, HeldView, Owns, OwnsNone, HasSeen}
-use Rattle.lot_sync.specs.Passes.{IsAtRest, IsTryingFor, sees}
+use Rattle.lot_sync.specs.Passes.{Standing, IsAtRest, IsTryingFor, sees}
+
+-- what a thread counted of the numbers that two threads counted
+abbrev pub own_share : ℕ → ℕ → ℕ → ℕ
+own_share zero first second = first
+own_share (suc zero) first second = second
+own_share (suc (suc t)) first second = 0
 
 module _ {V : Type 0} (grows : V → V → Type 0) where
   -- it owns one lock
@@ -22,9 +26,8 @@ module _ {V : Type 0} (grows : V → V → Type 0) where
     pub grown_second : (u : V) → HasSeen pass second.key u → grows u second.value
 
   -- it owned nothing, and tries to get a lock
-  pub record Seeks (table : TableId) (opening : List V) (threads key : ℕ) (right : PassShown V) : Type 0 where
-    pub before : PassShown V
-    pub is_of : right.table ≡ table
+  pub record Seeks (opening : List V) (threads key : ℕ) (right : Standing V) : Type 0 where
+    pub before : Standing V
     pub rest : IsAtRest grows opening threads before
     pub none : OwnsNone (sees before)
     pub trying : IsTryingFor before key right

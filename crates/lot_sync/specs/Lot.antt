@@ -1,5 +1,5 @@
 -- What a lot, its passes and its held values are seen as.
-use Rattle.std.specs.Prelude.{◌≡◌, ℕ, Bool, true, false, List, slice_set, slice_index_or}
+use Rattle.std.specs.Prelude.{◌≡◌, ℕ, Bool, true, false, List, length, slice_set, slice_index_or}
 use mathlib.Core.Option.{some}
 use lib.ListN.{get_elem?}
 
@@ -24,6 +24,10 @@ module _ {V : Type 0} where
 
   abbrev pub OwnsNone : PassView V → Type 0
   OwnsNone p = (key : ℕ) → ¬ Owns p key
+
+  -- the pass knows of each lock whether it owns it, and what it has seen of its value
+  abbrev pub IsWide : ℕ → PassView V → Type 0
+  IsWide locks p = (length p.owns ≡ locks) × (length p.seen ≡ locks)
 
   -- u is what the pass has seen of the key's value
   abbrev pub HasSeen : PassView V → ℕ → V → Type 0

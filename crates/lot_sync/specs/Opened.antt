@@ -1,8 +1,11 @@
 -- A lot between its opening and its start.
 use Rattle.std.specs.Prelude.{◌≡◌, ℕ, ◌<◌, ◌≤◌, List, length, slice_get, Some}
 use Rattle.atomic_table.specs.Seated.{TableId}
-use Rattle.lot_words.specs.Shown.{PassShown, RootShown, WordsShown}
-use Rattle.lot_words.specs.Start.{pass_at, root_at}
+use Rattle.lot_core.specs.declared.state.TheConstants.{MAX_THREADS, MAX_KEYS}
+use Rattle.lot_rights.specs.Shown.{PassShown, RootShown}
+use Rattle.lot_words.specs.declared.views.LockPassView.{LockPassView}
+use Rattle.lot_words.specs.declared.views.LockRootView.{LockRootView}
+use Rattle.lot_words.specs.Shown.{LockWordsShown, pass_at, root_at}
 use Rattle.lot_sync.specs.declared.fault.OpenFault.{OpenFault}
 use Rattle.lot_sync.specs.declared.fault.OpenFault.TheVariants.{BadThreads, BadKeys, NoMemory}
 
@@ -16,10 +19,10 @@ abbrev pub KeepAll : {V : Type 0} → (ℕ → V → Type 0) → List V → Type
 KeepAll {V} keeps values = (key : ℕ) (v : V) → slice_get values key ≡ Some v → keeps key v
 
 -- the rights of the opening: a pass for each thread and a root for each lock, in order
-pub record IsOpened {V : Type 0} (values : List V) (threads : ℕ) (words : WordsShown) (passes : List (PassShown V)) (roots : List RootShown) : Type 0 where
+pub record IsOpened {V : Type 0} (values : List V) (threads : ℕ) (words : LockWordsShown) (passes : List (PassShown (LockPassView V))) (roots : List (RootShown LockRootView)) : Type 0 where
   pub some_threads : 0 < threads
-  pub few_threads : threads ≤ 64
-  pub few_locks : length values ≤ 1024
+  pub few_threads : threads ≤ MAX_THREADS
+  pub few_locks : length values ≤ MAX_KEYS
   pub words_threads : words.size.threads ≡ threads
   pub words_locks : words.size.locks ≡ length values
   pub passes_long : length passes ≡ threads
@@ -28,11 +31,11 @@ pub record IsOpened {V : Type 0} (values : List V) (threads : ℕ) (words : Word
   pub roots_are : (l : ℕ) → l < length values → slice_get roots l ≡ Some (root_at words.table l)
 
 abbrev pub IsThreadCount : ℕ → Type 0
-IsThreadCount threads = (1 ≤ threads) × (threads ≤ 64)
+IsThreadCount threads = (1 ≤ threads) × (threads ≤ MAX_THREADS)
 
 -- until there are conditions there have to be none
 abbrev pub IsKeyCount : ℕ → ℕ → Type 0
-IsKeyCount locks conds = (1 ≤ locks) × (locks ≤ 1024) × (conds ≡ 0)
+IsKeyCount locks conds = (1 ≤ locks) × (locks ≤ MAX_KEYS) × (conds ≡ 0)
 
 -- why so many threads, locks and conditions are refused
 abbrev pub Refuses : ℕ → ℕ → ℕ → OpenFault → Type 0

@@ -1,17 +1,27 @@
 -- How a pass of lot_words stands between two calls, and while it waits for a lock.
-use Rattle.std.specs.Prelude.{◌≡◌, ◌≢◌, ℕ, ◌<◌, Bool, true, false, List, [], ◌∷◌, map, length, slice_set, Option, Some, None}
+use Rattle.std.specs.Prelude.{◌≡◌, ◌≢◌, ℕ, zero, suc, ◌<◌, Bool, true, false, List, [], ◌∷◌, map, length, slice_set, Option, Some, None}
 use mathlib.Core.Option.{some}
 use lib.ListN.{get_elem?}
+use Rattle.atomic_table.specs.Seated.{TableId}
+use Rattle.lot_rights.specs.Opening.{Opening}
+use Rattle.lot_rights.specs.Shown.{PassShown}
 use Rattle.lot_words.specs.declared.views.Hold.{Hold}
 use Rattle.lot_words.specs.declared.views.Hold.TheVariants.{NotHeld, Held, FoundParked}
-use Rattle.lot_words.specs.Shown.{PassShown, WordsShown}
-use Rattle.lot_words.specs.Opening.{Opening}
-use Rattle.lot_park.specs.Lots.{LotView}
-use Rattle.lot_words.specs.World.{Holds}
+use Rattle.lot_words.specs.declared.views.LockPassView.{LockPassView}
+use Rattle.lot_words.specs.declared.views.Place.{Place}
+use Rattle.lot_words.specs.declared.views.Place.TheVariants.{InSlot}
+use Rattle.lot_words.specs.Shown.{LockWordsShown}
+use Rattle.lot_words.specs.World.{Holds, HoldsParked}
+use Rattle.lot_words.specs.Values.{IsOut, IsIn, FoundOk}
+use Rattle.lot_words.specs.Calls.{gripped, woken, placed}
 use Rattle.lot_words.specs.Closing.{HoldsNone}
-use Rattle.atomic_table.specs.Seated.{TableId}
-use Rattle.lot_words.specs.Values.{IsOut, IsIn, FoundOk, found_in, left_in}
+use Rattle.lot_park.specs.Lots.{LotView}
 use Rattle.lot_sync.specs.Lot.{PassView}
+
+-- a pass: its thread, and what it knows; not the entries that were made with it
+pub record Standing (V : Type 0) : Type 0 where
+  pub thread : ℕ
+  pub own : LockPassView V
 
 abbrev pub is_held : Hold → Bool
 is_held NotHeld = false
@@ -19,110 +29,132 @@ is_held Held = true
 is_held FoundParked = true
 
 module _ {V : Type 0} where
-  abbrev pub sees : PassShown V → PassView V
-  sees r = record { thread = r.pass.thread; owns = map is_held r.pass.holds; seen = r.values.seen }
+  abbrev pub stands : PassShown (LockPassView V) → Standing V
+  stands p = record { thread = p.pass.thread; own = p.pass.own }
+
+  abbrev pub sees : Standing V → PassView V
+  sees r = record { thread = r.thread; owns = map is_held r.own.holds; seen = r.own.seen }
+
+  abbrev pub seen_as : PassShown (LockPassView V) → PassView V
+  seen_as p = sees (stands p)
+
+  -- the pass, where the value of the lock is at this place
+  abbrev pub putting : Standing V → ℕ → Place V → Standing V
+  putting r key place = record { thread = r.thread; own = placed r.own key place }
 
   -- it wants no lock, is awake, and has out the value of each lock that it holds; what it has seen has grown from the
   -- opening values
-  pub record IsAtRest (grows : V → V → Type 0) (opening : List V) (threads : ℕ) (r : PassShown V) : Type 0 where
-    pub is_thread : r.pass.thread < threads
-    pub aimless : r.pass.aim ≡ None
-    pub awake : r.pass.asleep ≡ false
-    pub holds_long : length r.pass.holds ≡ length opening
-    pub places_long : length r.values.places ≡ length opening
-    pub seen_long : length r.values.seen ≡ length opening
-    pub out : (l : ℕ) → Holds r.pass l → IsOut r.values l
-    pub grown : (l : ℕ) (u v : V) → get_elem? opening l ≡ some u → get_elem? r.values.seen l ≡ some v → grows u v
+  pub record IsAtRest (grows : V → V → Type 0) (opening : List V) (threads : ℕ) (r : Standing V) : Type 0 where
+    pub is_thread : r.thread < threads
+    pub aimless : r.own.aim ≡ None
+    pub awake : r.own.asleep ≡ false
+    pub holds_long : length r.own.holds ≡ length opening
+    pub places_long : length r.own.places ≡ length opening
+    pub seen_long : length r.own.seen ≡ length opening
+    pub out : (l : ℕ) → Holds r.own l → IsOut r.own l
+    pub grown : (l : ℕ) (u v : V) → get_elem? opening l ≡ some u → get_elem? r.own.seen l ≡ some v → grows u v
 
   -- a pass of this table that is at rest and holds no lock
-  pub record IsFresh (grows : V → V → Type 0) (table : TableId) (opening : List V) (threads : ℕ) (r : PassShown V) : Type 0 where
-    pub is_of : r.table ≡ table
-    pub rest : IsAtRest grows opening threads r
-    pub free : HoldsNone r
+  pub record IsFresh (grows : V → V → Type 0) (table : TableId) (opening : List V) (threads : ℕ) (p : PassShown (LockPassView V)) : Type 0 where
+    pub is_of : p.table ≡ table
+    pub rest : IsAtRest grows opening threads (stands p)
+    pub free : HoldsNone p
 
   -- a pass of this table that holds no lock
-  pub record IsFree (table : TableId) (r : PassShown V) : Type 0 where
-    pub is_of : r.table ≡ table
-    pub free : HoldsNone r
+  pub record IsFree (table : TableId) (p : PassShown (LockPassView V)) : Type 0 where
+    pub is_of : p.table ≡ table
+    pub free : HoldsNone p
 
   -- the same of a pass that has just got the lock of a key, whose value lies in its slot
-  pub record IsNewOwner (grows : V → V → Type 0) (opening : List V) (threads : ℕ) (r : PassShown V) (key : ℕ) : Type 0 where
-    pub is_thread : r.pass.thread < threads
-    pub aimless : r.pass.aim ≡ None
-    pub awake : r.pass.asleep ≡ false
-    pub holds_long : length r.pass.holds ≡ length opening
-    pub places_long : length r.values.places ≡ length opening
-    pub seen_long : length r.values.seen ≡ length opening
-    pub holds : Holds r.pass key
+  pub record IsNewOwner (grows : V → V → Type 0) (opening : List V) (threads : ℕ) (r : Standing V) (key : ℕ) : Type 0 where
+    pub is_thread : r.thread < threads
+    pub aimless : r.own.aim ≡ None
+    pub awake : r.own.asleep ≡ false
+    pub holds_long : length r.own.holds ≡ length opening
+    pub places_long : length r.own.places ≡ length opening
+    pub seen_long : length r.own.seen ≡ length opening
+    pub holds : Holds r.own key
     pub value : V
-    pub lies : IsIn r.values key value
-    pub out : (l : ℕ) → l ≢ key → Holds r.pass l → IsOut r.values l
-    pub grown : (l : ℕ) (u v : V) → get_elem? opening l ≡ some u → get_elem? r.values.seen l ≡ some v → grows u v
+    pub lies : IsIn r.own key value
+    pub out : (l : ℕ) → l ≢ key → Holds r.own l → IsOut r.own l
+    pub grown : (l : ℕ) (u v : V) → get_elem? opening l ≡ some u → get_elem? r.own.seen l ≡ some v → grows u v
 
-  -- the pass before, but for the events that it made
-  pub record IsStill (before now : PassShown V) : Type 0 where
-    pub table : now.table ≡ before.table
-    pub thread : now.pass.thread ≡ before.pass.thread
-    pub holds : now.pass.holds ≡ before.pass.holds
-    pub aim : now.pass.aim ≡ before.pass.aim
-    pub asleep : now.pass.asleep ≡ before.pass.asleep
-    pub values : now.values ≡ before.values
+  -- it wants the lock, and is in no line
+  abbrev pub Wants : Standing V → ℕ → Type 0
+  Wants r key = (r.own.aim ≡ Some key) × (r.own.asleep ≡ false)
 
-  -- the pass before, but for the lock that it wants and the events that it made
-  pub record IsTryingFor (before : PassShown V) (key : ℕ) (now : PassShown V) : Type 0 where
-    pub table : now.table ≡ before.table
-    pub thread : now.pass.thread ≡ before.pass.thread
-    pub holds : now.pass.holds ≡ before.pass.holds
-    pub aims : now.pass.aim ≡ Some key
-    pub awake : now.pass.asleep ≡ false
-    pub values : now.values ≡ before.values
+  -- it owns the lock, which it found parked, and whose value lies in its slot
+  abbrev pub MayPass : Standing V → ℕ → Type 0
+  MayPass r key = (r.own.aim ≡ None) × (r.own.asleep ≡ false) × HoldsParked r.own key × ((y : V) × IsIn r.own key y)
+
+  -- the pass before, but for the lock that it wants
+  pub record IsTryingFor (before : Standing V) (key : ℕ) (now : Standing V) : Type 0 where
+    pub thread : now.thread ≡ before.thread
+    pub holds : now.own.holds ≡ before.own.holds
+    pub aims : now.own.aim ≡ Some key
+    pub awake : now.own.asleep ≡ false
+    pub places : now.own.places ≡ before.own.places
+    pub seen : now.own.seen ≡ before.own.seen
 
   -- the same, queued in the line of the lock that it wants
-  pub record IsAsleepFor (before : PassShown V) (key : ℕ) (now : PassShown V) : Type 0 where
-    pub table : now.table ≡ before.table
-    pub thread : now.pass.thread ≡ before.pass.thread
-    pub holds : now.pass.holds ≡ before.pass.holds
-    pub aims : now.pass.aim ≡ Some key
-    pub asleep : now.pass.asleep ≡ true
-    pub values : now.values ≡ before.values
+  pub record IsAsleepFor (before : Standing V) (key : ℕ) (now : Standing V) : Type 0 where
+    pub thread : now.thread ≡ before.thread
+    pub holds : now.own.holds ≡ before.own.holds
+    pub aims : now.own.aim ≡ Some key
+    pub asleep : now.own.asleep ≡ true
+    pub places : now.own.places ≡ before.own.places
+    pub seen : now.own.seen ≡ before.own.seen
 
   -- the lock was found parked, and is still held
-  pub record IsFoundParked (before : PassShown V) (key : ℕ) (now : PassShown V) : Type 0 where
-    pub table : now.table ≡ before.table
-    pub thread : now.pass.thread ≡ before.pass.thread
-    pub holds : now.pass.holds ≡ slice_set before.pass.holds key FoundParked
-    pub aim : now.pass.aim ≡ before.pass.aim
-    pub asleep : now.pass.asleep ≡ before.pass.asleep
-    pub values : now.values ≡ before.values
+  pub record IsFoundParked (before : Standing V) (key : ℕ) (now : Standing V) : Type 0 where
+    pub thread : now.thread ≡ before.thread
+    pub holds : now.own.holds ≡ slice_set before.own.holds key FoundParked
+    pub aim : now.own.aim ≡ before.own.aim
+    pub asleep : now.own.asleep ≡ before.own.asleep
+    pub places : now.own.places ≡ before.own.places
+    pub seen : now.own.seen ≡ before.own.seen
 
   -- the lock was let go, and what lay in its slot was left there
-  pub record LetsGo (before : PassShown V) (key : ℕ) (after : PassShown V) : Type 0 where
-    pub table : after.table ≡ before.table
-    pub thread : after.pass.thread ≡ before.pass.thread
-    pub holds : after.pass.holds ≡ slice_set before.pass.holds key NotHeld
-    pub aim : after.pass.aim ≡ before.pass.aim
-    pub asleep : after.pass.asleep ≡ before.pass.asleep
-    pub values : (y : V) → IsIn before.values key y → after.values ≡ left_in before.values key y
+  pub record LetsGo (before : Standing V) (key : ℕ) (after : Standing V) : Type 0 where
+    pub thread : after.thread ≡ before.thread
+    pub holds : after.own.holds ≡ slice_set before.own.holds key NotHeld
+    pub aim : after.own.aim ≡ before.own.aim
+    pub asleep : after.own.asleep ≡ before.own.asleep
+    pub places : after.own.places ≡ before.own.places
+    pub seen : (y : V) → IsIn before.own key y → after.own.seen ≡ slice_set before.own.seen key y
 
 module _ {V Part : Type 0} (keeps : ℕ → V → Type 0) (grows : V → V → Type 0) (part : ℕ → V → Part) where
   -- the lock was got, with its value in the slot
-  pub record IsOwner (before : PassShown V) (key : ℕ) (after : PassShown V) : Type 0 where
-    pub table : after.table ≡ before.table
-    pub thread : after.pass.thread ≡ before.pass.thread
-    pub holds : after.pass.holds ≡ slice_set before.pass.holds key Held
-    pub aimless : after.pass.aim ≡ None
-    pub awake : after.pass.asleep ≡ false
+  pub record IsOwner (before : Standing V) (key : ℕ) (after : Standing V) : Type 0 where
+    pub thread : after.thread ≡ before.thread
+    pub holds : after.own.holds ≡ slice_set before.own.holds key Held
+    pub aimless : after.own.aim ≡ None
+    pub awake : after.own.asleep ≡ false
     pub value : V
-    pub found : FoundOk keeps grows part key before.pass.thread before.values value
-    pub values : after.values ≡ found_in before.values key value
+    pub found : FoundOk keeps grows part key before.thread before.own value
+    pub places : after.own.places ≡ slice_set before.own.places key (InSlot value)
+    pub seen : after.own.seen ≡ slice_set before.own.seen key value
 
+  -- a letter was collected: with token 0 the thread may try again, and with token 1 it has the lock that it wanted
+  abbrev pub IsCollected : Standing V → ℕ → Standing V → Type 0
+  IsCollected p zero q = (q.thread ≡ p.thread) × (q.own ≡ woken p.own)
+  IsCollected p (suc k) q =
+      (k ≡ 0) × (q.thread ≡ p.thread) × ((l : ℕ) × (p.own.aim ≡ Some l) × ((x : V) × FoundOk keeps grows part l p.thread p.own x × (q.own ≡ woken (gripped p.own l x))))
+
+  -- a look for a letter: where none lay, the pass stands as before
+  abbrev pub IsLooked : Standing V → Option ℕ → Standing V → Type 0
+  IsLooked p None q = q ≡ p
+  IsLooked p (Some token) q = IsCollected p token q
+
+-- ---- roots
 -- the letters that a root owes, as a list
 abbrev pub debts_of : Option (ℕ × ℕ) → List (ℕ × ℕ)
 debts_of None = []
 debts_of (Some debt) = debt ∷ []
 
+-- ---- the lot
 -- what joins the parts of a lot
-pub record IsLot {V : Type 0} (opening : Opening) (named_threads : ℕ) (values : List V) (threads locks : ℕ) (parking : LotView WordsShown) : Type 0 where
+pub record IsLot {V : Type 0} (opening : Opening) (named_threads : ℕ) (values : List V) (threads locks : ℕ) (parking : LotView LockWordsShown) : Type 0 where
   pub words : parking.scheme.table ≡ opening.locks
   pub words_threads : parking.scheme.size.threads ≡ named_threads
   pub words_locks : parking.scheme.size.locks ≡ length values

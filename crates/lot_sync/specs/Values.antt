@@ -4,7 +4,7 @@ use Rattle.lot_sync.specs.Lot.{PassView, HeldView, Owns, HasSeen, owning}
 
 module _ {V Part : Type 0} (keeps : ℕ → V → Type 0) (grows : V → V → Type 0) (part : ℕ → V → Part) where
   -- the lock was got: its value keeps the rule, goes on from all that the pass had seen of it, and has the pass's own part
-  -- unchanged; all else of the pass is as before
+  -- unchanged; it is seen now, and all else of the pass is as before
   pub record Gets (before : PassView V) (key : ℕ) (held : HeldView V) (after : PassView V) : Type 0 where
     pub key_is : held.key ≡ key
     pub kept : keeps key held.value
@@ -12,6 +12,7 @@ module _ {V Part : Type 0} (keeps : ℕ → V → Type 0) (grows : V → V → T
     pub mine : (u : V) → HasSeen before key u → part before.thread u ≡ part before.thread held.value
     pub after_is : after ≡ owning before key held.value
     pub owns : Owns after key
+    pub seen : HasSeen after key held.value
 
   -- the value may be given back: it keeps the rule, has grown from the value found, and has the same part for every
   -- other thread

@@ -4,6 +4,7 @@ ghost use Rattle.lot_sync.specs.Lot.{Owns};
 
 use crate::lot::Lot;
 use crate::pass::{LotName, Pass};
+use crate::scheme::NamedPass;
 use lot_words::Keeps;
 
 impl<V: Keeps + Send, N: LotName<V> + Send> Lot<V, N> {
@@ -14,9 +15,13 @@ impl<V: Keeps + Send, N: LotName<V> + Send> Lot<V, N> {
         ensures threads { first.thread ≢ second.thread }
         ensures apart { (key : ℕ) → Owns first key → ¬ Owns second key }
     {
-        let (first, second) = self
-            .words()
-            .check_apart(first.into_right(), second.into_right());
-        (Pass::at_rest(first), Pass::at_rest(second))
+        let (first, second) = self.words().check_apart(
+            first.into_right().into_pass(),
+            second.into_right().into_pass(),
+        );
+        (
+            Pass::at_rest(NamedPass::new(first)),
+            Pass::at_rest(NamedPass::new(second)),
+        )
     }
 }

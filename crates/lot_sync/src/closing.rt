@@ -1,10 +1,9 @@
 //! Closing a lot: the values come back, with what the passes counted.
 ghost use Rattle.std.specs.Prelude.{◌≡◌, ℕ, ◌+◌, ◌<◌, ◌≤◌, [], map, vec_len, vec_capacity};
-ghost use Rattle.lot_words.specs.Closing.{AllOf, SomeOf, HoldsNone};
-ghost use Rattle.lot_words.specs.Shown.{PassShown};
+ghost use Rattle.std.specs.List.{All, Any};
 ghost use Rattle.lot_sync.specs.Lot.{PassView, OwnsNone};
 ghost use Rattle.lot_sync.specs.Values.{GoesOnTo};
-ghost use Rattle.lot_sync.specs.Passes.{sees, IsFree};
+ghost use Rattle.lot_sync.specs.Passes.{seen_as, IsFree};
 
 use crate::lot::Lot;
 use crate::pass::{LotName, Pass};
@@ -29,10 +28,10 @@ impl<V: Keeps + Send, N: LotName<V> + Send> Lot<V, N> {
     /// Passes that are in are had by `take_left`.
     pub fn close<R: Wait>(self, rt: &R, passes: Vec<Pass<V, N>>) -> (Vec<V>, Ledger)
         requires count { vec_len passes ≡ self.threads }
-        requires all { (t : ℕ) → t < self.threads → SomeOf (λ (p : PassView V). p.thread ≡ t) passes.items }
-        requires free { AllOf OwnsNone passes.items }
+        requires all { (t : ℕ) → t < self.threads → Any (λ (p : PassView V). p.thread ≡ t) passes.items }
+        requires free { All OwnsNone passes.items }
         ensures count { vec_len result.0 ≡ self.locks }
-        ensures values { AllOf (GoesOnTo V.keeps V.grows V.part result.0.items) passes.items }
+        ensures values { All (GoesOnTo V.keeps V.grows V.part result.0.items) passes.items }
         ensures ledger { (result.1.called.items ≡ []) × (result.1.woken.items ≡ []) }
     {
         let Lot {
@@ -78,13 +77,13 @@ fn gather<V: Keeps + Send, N: LotName<V> + Send>(
     mut passes: Vec<Pass<V, N>>,
     rights: &mut Vec<LockPass<V>>,
 )
-    requires free { AllOf OwnsNone passes.items }
+    requires free { All OwnsNone passes.items }
     requires room { (vec_len rights.old ≡ 0) × (vec_len passes ≤ vec_capacity rights.old) }
-    ensures same { map sees rights.new.items ≡ passes.items }
-    ensures free { AllOf (IsFree N.opening.locks) rights.new.items }
+    ensures same { map seen_as rights.new.items ≡ passes.items }
+    ensures free { All (IsFree N.opening.locks) rights.new.items }
 {
     while let Some(pass) = passes.pop() {
-        rights.push_reserved(pass.into_right());
+        rights.push_reserved(pass.into_right().into_pass());
     }
     passes.destroy_empty();
     rights.reverse();

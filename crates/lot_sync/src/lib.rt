@@ -21,12 +21,15 @@ mod fault;
 pub mod held;
 mod lock;
 pub mod lot;
+mod moves;
 pub mod opened;
 pub mod pass;
 mod pool;
 mod register;
 pub mod released;
 mod scheme;
+#[cfg(test)]
+mod shares;
 #[cfg(test)]
 mod sleepers;
 mod start;
@@ -39,7 +42,8 @@ pub use closing::Ledger;
 pub use fault::{OpenFault, RegisterFault};
 pub use held::Held;
 pub use lot::Lot;
+pub use lot_core::{MAX_KEYS, MAX_THREADS};
 pub use lot_park::Moment;
-pub use opened::{MAX_KEYS, MAX_THREADS, Opened};
+pub use opened::Opened;
 pub use pass::{LotName, Pass};
 pub use released::Released;

@@ -1,19 +1,20 @@
 //! Getting a lock, as WTF's `Lock::lock` does: barging, a few spins, and then the line.
-ghost use Rattle.std.specs.Prelude.{◌≡◌, ℕ, ◌+◌, ◌<◌, ◌≤◌, true, false, MatchBool, MatchOption, length};
-ghost use Rattle.lot_sync.specs.Lot.{Owns};
+ghost use Rattle.std.specs.Prelude.{◌≡◌, ℕ, ◌+◌, ◌<◌, ◌≤◌, true, false, MatchBool, MatchOption, length, [], ◌∷◌, ◌++◌};
+ghost use Rattle.lot_sync.specs.Lot.{Owns, IsWide};
 ghost use Rattle.lot_sync.specs.Values.{Gets};
-ghost use Rattle.lot_sync.specs.Passes.{IsAtRest, IsTryingFor, IsAsleepFor, IsOwner, IsStill, sees, IsNewOwner};
+ghost use Rattle.lot_sync.specs.Passes.{Wants, IsTryingFor, IsOwner, sees, IsNewOwner};
 ghost use Rattle.lot_words.specs.World.{Holds};
 ghost use Rattle.lot_words.specs.Values.{IsIn};
-ghost use Rattle.lot_words.specs.Calls.{parked_root, Aims};
+ghost use Rattle.lot_words.specs.Calls.{Aims};
+ghost use Rattle.lot_park.specs.Parking.{Ends, Awaited};
 
 use crate::held::Held;
 use crate::lot::{Lot, PARKED};
 use crate::pass::{LotName, Pass};
-use crate::scheme::{KeyRoot, LockScheme, NamedPass, Validated};
+use crate::scheme::{LockScheme, NamedPass};
 use crate::steps::{HANDOFF, LockSteps};
 use lot_park::{Parked, ParkingLot};
-use lot_words::{Keeps, LockPass, Named};
+use lot_words::Keeps;
 use std::sync::Wait;
 use std::thread;
 
@@ -39,14 +40,15 @@ impl<V: Keeps + Send, N: LotName<V> + Send> Lot<V, N> {
     pub fn try_lock(&self, pass: Pass<V, N>, key: usize) -> (Pass<V, N>, Option<Held<V, N>>)
         requires key { key < self.now.locks }
         requires free { ¬ Owns pass key }
-        ensures { MatchOption result.1 (result.0 ≡ pass) (λ held. Gets V.keeps V.grows V.part pass key held result.0) }
+        ensures gets { MatchOption result.1 (result.0 ≡ pass) (λ held. Gets V.keeps V.grows V.part pass key held result.0) }
+        ensures wide { IsWide self.now.locks result.0 }
     {
         let (right, got) = self.try_take(pass.into_right(), key);
         if got {
             let (pass, held) = self.taken(right, key);
             (pass, Some(held))
         } else {
-            (Pass::at_rest(right), None)
+            (self.at_rest(right), None)
         }
     }
 
@@ -56,7 +58,8 @@ impl<V: Keeps + Send, N: LotName<V> + Send> Lot<V, N> {
     pub fn lock<R: Wait>(&self, rt: &R, pass: Pass<V, N>, key: usize) -> (Pass<V, N>, Held<V, N>)
         requires key { key < self.now.locks }
         requires free { ¬ Owns pass key }
-        ensures { Gets V.keeps V.grows V.part pass key result.1 result.0 }
+        ensures gets { Gets V.keeps V.grows V.part pass key result.1 result.0 }
+        ensures wide { IsWide self.now.locks result.0 }
     {
         self.lock_after(rt, pass, key, &AtOnce)
     }
@@ -72,7 +75,8 @@ impl<V: Keeps + Send, N: LotName<V> + Send> Lot<V, N> {
     ) -> (Pass<V, N>, Held<V, N>)
         requires key { key < self.now.locks }
         requires free { ¬ Owns pass key }
-        ensures { Gets V.keeps V.grows V.part pass key result.1 result.0 }
+        ensures gets { Gets V.keeps V.grows V.part pass key result.1 result.0 }
+        ensures wide { IsWide self.now.locks result.0 }
     {
         let (right, got) = self.take(pass.into_right(), key);
         if got {
@@ -85,41 +89,41 @@ impl<V: Keeps + Send, N: LotName<V> + Send> Lot<V, N> {
 
     /// Takes the lock where nobody owns it, and wants it otherwise.
     #[inline(always)]
-    pub(crate) fn take(&self, pass: LockPass<V>, key: usize) -> (LockPass<V>, bool)
+    pub(crate) fn take(&self, pass: NamedPass<V, N>, key: usize) -> (NamedPass<V, N>, bool)
         requires key { key < self.now.locks }
-        requires named { pass.table ≡ N.opening.locks }
-        requires calm { (pass.pass.asleep ≡ false) × Aims pass.pass key }
+        requires calm { (pass.own.asleep ≡ false) × Aims pass.own key }
         ensures ends { MatchBool result.1 (IsOwner V.keeps V.grows V.part pass key result.0) (IsTryingFor pass key result.0) }
         ensures locks { self.now.locks ≡ length N.values }
         ensures threads { self.now.threads ≡ N.threads }
     {
-        self.words().take(pass, key)
+        let (pass, got) = self.words().take(pass.into_pass(), key);
+        (NamedPass::new(pass), got)
     }
 
     /// Takes the lock where nobody owns it.
     #[inline(always)]
-    fn try_take(&self, pass: LockPass<V>, key: usize) -> (LockPass<V>, bool)
+    fn try_take(&self, pass: NamedPass<V, N>, key: usize) -> (NamedPass<V, N>, bool)
         requires key { key < self.now.locks }
-        requires named { pass.table ≡ N.opening.locks }
-        requires calm { (pass.pass.asleep ≡ false) × (pass.pass.aim ≡ None) }
-        ensures ends { MatchBool result.1 (IsOwner V.keeps V.grows V.part pass key result.0) (IsStill pass result.0) }
+        requires calm { (pass.own.asleep ≡ false) × (pass.own.aim ≡ None) }
+        ensures ends { MatchBool result.1 (IsOwner V.keeps V.grows V.part pass key result.0) (result.0 ≡ pass) }
         ensures locks { self.now.locks ≡ length N.values }
         ensures threads { self.now.threads ≡ N.threads }
     {
-        self.words().try_take(pass, key)
+        let (pass, got) = self.words().try_take(pass.into_pass(), key);
+        (NamedPass::new(pass), got)
     }
 
     /// The owner takes the value out.
     #[inline(always)]
-    pub(crate) fn taken(&self, right: LockPass<V>, key: usize) -> (Pass<V, N>, Held<V, N>)
+    pub(crate) fn taken(&self, right: NamedPass<V, N>, key: usize) -> (Pass<V, N>, Held<V, N>)
         requires key { key < self.now.locks }
-        requires named { right.table ≡ N.opening.locks }
         requires owner { IsNewOwner V.grows N.values N.threads right key }
-        ensures held { (result.1.key ≡ key) × IsIn right.values key result.1.value }
+        ensures held { (result.1.key ≡ key) × IsIn right.own key result.1.value }
         ensures pass { result.0 ≡ sees right }
+        ensures wide { IsWide self.now.locks result.0 }
     {
-        let (right, value) = self.words().value_out(right, key);
-        (Pass::at_rest(right), Held::new(key, value))
+        let (right, value) = self.value_out(right, key);
+        (self.at_rest(right), Held::new(key, value))
     }
 
     /// Gets a lock that was found held.
@@ -128,13 +132,13 @@ impl<V: Keeps + Send, N: LotName<V> + Send> Lot<V, N> {
     fn lock_slowly<R: Wait, B: BeforeSleep>(
         &self,
         rt: &R,
-        pass: LockPass<V>,
+        pass: NamedPass<V, N>,
         key: usize,
         before: &B,
-    ) -> LockPass<V>
+    ) -> NamedPass<V, N>
         requires key { key < self.now.locks }
-        requires named { (pass.table ≡ N.opening.locks) × (pass.pass.thread < self.now.threads) }
-        requires trying { (pass.pass.aim ≡ Some key) × (pass.pass.asleep ≡ false) }
+        requires thread { pass.thread < self.now.threads }
+        requires trying { Wants pass key }
         ensures { IsOwner V.keeps V.grows V.part pass key result }
     {
         let mut pass = pass;
@@ -158,14 +162,14 @@ impl<V: Keeps + Send, N: LotName<V> + Send> Lot<V, N> {
     fn wait_for<R: Wait, B: BeforeSleep>(
         &self,
         rt: &R,
-        pass: LockPass<V>,
+        pass: NamedPass<V, N>,
         key: usize,
         spins: &mut u32,
         before: &B,
-    ) -> (LockPass<V>, bool)
+    ) -> (NamedPass<V, N>, bool)
         requires key { key < self.now.locks }
-        requires named { (pass.table ≡ N.opening.locks) × (pass.pass.thread < self.now.threads) }
-        requires trying { (pass.pass.aim ≡ Some key) × (pass.pass.asleep ≡ false) }
+        requires thread { pass.thread < self.now.threads }
+        requires trying { Wants pass key }
         requires spins { spins.old ≤ SPINS }
         ensures spins { spins.new ≤ SPINS }
         ensures ends { MatchBool result.1 (IsOwner V.keeps V.grows V.part pass key result.0) (IsTryingFor pass key result.0) }
@@ -178,11 +182,12 @@ impl<V: Keeps + Send, N: LotName<V> + Send> Lot<V, N> {
             return (pass, false);
         }
         if is_parked {
-            return park(rt, &self.parking, words, pass, key, before);
+            return park(rt, &self.parking, pass, key, before);
         }
-        let (pass, marked) = words.mark(pass, key);
+        let (pass, marked) = words.mark(pass.into_pass(), key);
+        let pass = NamedPass::new(pass);
         if marked {
-            park(rt, &self.parking, words, pass, key, before)
+            park(rt, &self.parking, pass, key, before)
         } else {
             (pass, false)
         }
@@ -190,40 +195,59 @@ impl<V: Keeps + Send, N: LotName<V> + Send> Lot<V, N> {
 }
 
 /// Sleeps in the line of the lock while it is held and parked, and answers whether the lock was handed over.
-pub(crate) fn park<V: Keeps + Send, N: LotName<V> + Send, W: LockSteps<V>, R: Wait, B: BeforeSleep>(
+pub(crate) fn park<V: Keeps + Send, N: LotName<V> + Send, R: Wait, B: BeforeSleep>(
     rt: &R,
     parking: &ParkingLot<LockScheme<V, N>>,
-    words: &W,
-    pass: LockPass<V>,
+    pass: NamedPass<V, N>,
     key: usize,
     before: &B,
-) -> (LockPass<V>, bool)
-    requires words { W.table words.now ≡ N.opening.locks }
-    requires named { (pass.table ≡ N.opening.locks) × (pass.pass.thread < parking.now.threads) }
-    requires trying { (pass.pass.aim ≡ Some key) × (pass.pass.asleep ≡ false) }
+) -> (NamedPass<V, N>, bool)
+    requires thread { pass.thread < parking.now.threads }
+    requires key { key < parking.now.keys }
+    requires trying { Wants pass key }
     ensures { MatchBool result.1 (IsOwner V.keeps V.grows V.part pass key result.0) (IsTryingFor pass key result.0) }
 {
+    let (pass, parked) = sleep(rt, parking, pass, key, before);
+    match parked {
+        Parked::Invalid => (pass, false),
+        Parked::Woken(token) => (pass, token == HANDOFF),
+    }
+}
+
+/// Parks with the validation of a lock.
+fn sleep<S: LockSteps, R: Wait, B: BeforeSleep>(
+    rt: &R,
+    parking: &ParkingLot<S>,
+    pass: S::Pass,
+    key: usize,
+    before: &B,
+) -> (S::Pass, Parked)
+    requires thread { S.thread pass < parking.now.threads }
+    requires key { key < parking.now.keys }
+    requires trying { S.wants pass key }
+    ensures { Ends result.1 (S.tries pass key result.0) (λ token. (mid : S.Pass) × S.sleeps pass key mid × Awaited S.looked mid token result.0) }
+{
+    let scheme = parking.scheme();
     let (pass, (), parked) = parking.park_conditionally(
         rt,
-        Named::new(pass),
+        pass,
         key,
         (),
-        |x: (), pass: NamedPass<V, N>, root: KeyRoot<V, N>| -> Validated<V, N>
-            requires table { W.table words.now ≡ N.opening.locks }
-            requires trying { (pass.pass.aim ≡ Some root.root.key) × (pass.pass.asleep ≡ false) }
-            ensures pass { MatchBool result.3 (IsAsleepFor pass root.root.key result.1) (IsTryingFor pass root.root.key result.1) }
-            ensures root { (result.2.table ≡ root.table) × (result.2.root ≡ parked_root pass.pass.thread root.root result.3) }
+        |x: (), pass: S::Pass, root: S::Root| -> ((), S::Pass, S::Root, bool)
+            requires { S.wants pass (S.Root.key root) }
+            ensures pass { MatchBool result.3 (S.sleeps pass (S.Root.key root) result.1) (S.tries pass (S.Root.key root) result.1) }
+            ensures thread { S.thread result.1 ≡ S.thread pass }
+            ensures key { S.Root.key result.2 ≡ S.Root.key root }
+            ensures owes { S.Root.owes result.2 ≡ S.Root.owes root }
+            ensures root { MatchBool result.3 (S.Root.line result.2 ≡ S.Root.line root ++ S.thread pass ∷ []) (result.2 ≡ root) }
         {
-            let (pass, root, queued) = words.queue(pass.into_inner(), root.into_root());
-            (x, Named::new(pass), KeyRoot::new(root), queued)
+            let (pass, root, queued) = scheme.queue(pass, root);
+            (x, pass, root, queued)
         },
         |x: ()| -> () {
             before.run();
             x
         },
     );
-    match parked {
-        Parked::Invalid => (pass.into_inner(), false),
-        Parked::Woken(token) => (pass.into_inner(), token == HANDOFF),
-    }
+    (pass, parked)
 }

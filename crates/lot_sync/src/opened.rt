@@ -4,16 +4,11 @@ ghost use Rattle.std.specs.Prelude.{◌≡◌, ℕ, ◌+◌, ◌<◌, ◌≤◌,
 use crate::fault::OpenFault;
 use crate::lot::Lot;
 use crate::pass::LotName;
+use lot_core::{MAX_KEYS, MAX_THREADS};
 use lot_words::{Keeps, LockPass, LockRoot, LockWords, WordsFault};
 use std::alloc::Global;
 use std::marker::Model;
 use std::snapshot::Snapshot;
-
-/// The greatest number of threads of a lot.
-pub const MAX_THREADS: usize = 64;
-
-/// The greatest number of keys of a lot.
-pub const MAX_KEYS: usize = 1024;
 
 /// A lot whose words are open and which has no name yet: call `start` in a function that is generic over a `LotName`.
 pub struct Opened<V: Keeps + Send> {

@@ -1,7 +1,8 @@
 //! The right to act as one thread of a lot.
 ghost use Rattle.std.specs.Prelude.{◌≡◌, ℕ, List};
 
-use lot_words::{Keeps, LockPass, Name, Named, OfOpening};
+use crate::scheme::NamedPass;
+use lot_words::{Keeps, Name};
 use std::marker::{Brand, Model};
 
 /// Names one opening of a lot: its tables, its number of threads and the values that it opened with.
@@ -23,7 +24,7 @@ impl<V> LotName<V> for Brand {
 
 /// The right to act as one thread. It must be spent, by `Lot::leave` or `Lot::close`.
 pub struct Pass<V: Keeps + Send, N: LotName<V> + Send> {
-    pub(crate) right: Named<LockPass<V>, N>,
+    pub(crate) right: NamedPass<V, N>,
 }
 
 impl<V: Keeps + Send, N: LotName<V> + Send> Model for Pass<V, N> {
@@ -45,25 +46,21 @@ impl<V: Keeps + Send, N: LotName<V> + Send> Pass<V, N> {
     pub fn thread(&self) -> usize
         ensures { result ≡ self.now.thread }
     {
-        self.right.inner().thread()
+        self.right.thread()
     }
 
-    pub(crate) fn at_rest(right: LockPass<V>) -> Pass<V, N>
-        requires named { right.table ≡ N.opening.locks }
+    pub(crate) fn at_rest(right: NamedPass<V, N>) -> Pass<V, N>
         requires rest { IsAtRest V.grows N.values N.threads right }
         ensures { result ≡ sees right }
     {
-        Pass {
-            right: Named::new(right),
-        }
+        Pass { right }
     }
 
-    pub(crate) fn into_right(self) -> LockPass<V>
-        ensures named { result.table ≡ N.opening.locks }
+    pub(crate) fn into_right(self) -> NamedPass<V, N>
         ensures rest { IsAtRest V.grows N.values N.threads result }
         ensures same { self ≡ sees result }
     {
         let Pass { right } = self;
-        right.into_inner()
+        right
     }
 }

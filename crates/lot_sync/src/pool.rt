@@ -1,5 +1,5 @@
 //! The passes that are in, and the room that closing a lot will want.
-ghost use Rattle.std.specs.Prelude.{◌≡◌, ℕ, ◌+◌, ◌*◌, ◌<◌, ◌≤◌, length, vec_len, vec_capacity, IfSome, IsTrue, ◌↔◌};
+ghost use Rattle.std.specs.Prelude.{◌≡◌, ℕ, ◌+◌, ◌-◌, ◌*◌, ◌<◌, ◌≤◌, length, vec_len, vec_capacity, IfSome, IsTrue, ◌↔◌};
 ghost use Rattle.lot_sync.specs.Lot.{OwnsNone};
 
 use crate::pass::{LotName, Pass};
@@ -57,7 +57,8 @@ impl<V: Keeps + Send, N: LotName<V> + Send> Pool<V, N> {
     /// How many passes are out.
     pub(crate) fn count_out(&self, threads: usize) -> usize
         requires { threads ≡ N.threads }
-        ensures { result ≤ N.threads }
+        ensures some { result ≡ threads - vec_len self.now.idle }
+        ensures few { result ≤ N.threads }
     {
         threads - self.idle.len()
     }

@@ -1,13 +1,14 @@
 //! Giving threads their passes, and taking them back.
-ghost use Rattle.std.specs.Prelude.{◌≡◌, ℕ, ◌<◌, ◌≤◌, IfOk, IfSome};
-ghost use Rattle.lot_sync.specs.Lot.{OwnsNone, HasGrown};
+ghost use Rattle.std.specs.Prelude.{◌≡◌, ℕ, ◌<◌, ◌≤◌, ◌-◌, IfOk, IfSome, vec_len};
+ghost use Rattle.lot_table.specs.Sizes.{Serves};
+ghost use Rattle.lot_sync.specs.Lot.{OwnsNone, IsWide, HasGrown};
 
 use crate::fault::RegisterFault;
 use crate::lot::Lot;
 use crate::pass::{LotName, Pass};
 use crate::pool::Pool;
 use crate::scheme::LockScheme;
-use lot_park::ParkingLot;
+use lot_park::{Grown, ParkingLot};
 use lot_words::Keeps;
 use std::sync::Wait;
 use std::thread;
@@ -19,13 +20,14 @@ impl<V: Keeps + Send, N: LotName<V> + Send> Lot<V, N> {
     pub fn register<R: Wait>(&self, rt: &R) -> Result<Pass<V, N>, RegisterFault>
         ensures thread { IfOk result (λ pass. pass.thread < self.now.threads) }
         ensures free { IfOk result OwnsNone }
+        ensures wide { IfOk result (IsWide self.now.locks) }
         ensures grown { IfOk result (λ pass. HasGrown V.grows N.values pass) }
     {
         let mut pool = self.pool.lock(rt);
         let registered = register_in(rt, &self.parking, &mut *pool, self.threads);
         drop(pool);
         match registered {
-            Ok(pass) => {
+            Ok((pass, _grown)) => {
                 let _ = &pass.right;
                 Ok(pass)
             }
@@ -55,6 +57,7 @@ impl<V: Keeps + Send, N: LotName<V> + Send> Lot<V, N> {
         ensures same { self.new ≡ self.old }
         ensures thread { IfSome result (λ pass. pass.thread < self.old.threads) }
         ensures free { IfSome result OwnsNone }
+        ensures wide { IfSome result (IsWide self.old.locks) }
         ensures grown { IfSome result (λ pass. HasGrown V.grows N.values pass) }
     {
         let mut pool = self.pool.lock(rt);
@@ -70,21 +73,23 @@ impl<V: Keeps + Send, N: LotName<V> + Send> Lot<V, N> {
     }
 }
 
-/// Takes the pass of the least number, and gives it back where the table can't grow. No other thread registers meanwhile.
+/// Takes the pass of the least number, and gives it back where the table can't grow. No other thread registers meanwhile. A pass
+/// comes with what the table answered, which has three buckets for each pass that is out.
 fn register_in<V: Keeps + Send, N: LotName<V> + Send, R: Wait>(
     rt: &R,
     parking: &ParkingLot<LockScheme<V, N>>,
     pool: &mut Pool<V, N>,
     threads: usize,
-) -> Result<Pass<V, N>, RegisterFault>
+) -> Result<(Pass<V, N>, Grown), RegisterFault>
     requires { (threads ≡ N.threads) × (parking.now.threads ≡ N.threads) }
-    ensures { IfOk result OwnsNone }
+    ensures free { IfOk result (λ r. OwnsNone r.0) }
+    ensures served { IfOk result (λ r. Serves (threads - vec_len pool.new.idle) r.1) }
 {
     let Some(pass) = pool.take_least() else {
         return Err(RegisterFault::Full);
     };
     match parking.ensure(rt, pool.count_out(threads)) {
-        Ok(_) => Ok(pass),
+        Ok(grown) => Ok((pass, grown)),
         Err(_) => {
             pool.put(pass);
             Err(RegisterFault::NoMemory)

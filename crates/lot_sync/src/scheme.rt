@@ -6,22 +6,23 @@ use lot_words::{Keeps, LockPass, LockRoot, LockWords, Name, Named};
 use std::marker::Model;
 
 /// The root of a lock, as the buckets see it.
-pub(crate) struct KeyRoot<V, N: Name> {
+pub(crate) struct KeyRoot<V: Keeps, N: Name> {
     named: Named<LockRoot<V>, N>,
 }
 
-impl<V, N: Name> Model for KeyRoot<V, N> {
-    ghost use Rattle.lot_words.specs.Shown.{RootShown};
+impl<V: Keeps, N: Name> Model for KeyRoot<V, N> {
+    ghost use Rattle.lot_rights.specs.Shown.{RootShown};
+    ghost use Rattle.lot_words.specs.declared.views.LockRootView.{LockRootView};
     ghost use Rattle.std.specs.Prelude.{◌≡◌};
 
-    ghost Value = { RootShown };
+    ghost Value = { RootShown LockRootView };
 
     ghost view = { λ s. s.named };
 
     ghost invariant = { λ s. s.named.table ≡ N.opening.locks };
 }
 
-impl<V: Drop, N: Name> Drop for KeyRoot<V, N> {
+impl<V: Keeps, N: Name> Drop for KeyRoot<V, N> {
     fn drop(self) {
         let KeyRoot { named: _ } = self;
     }
@@ -32,12 +33,12 @@ impl<V: Keeps + Send, N: Name + Send> Root for KeyRoot<V, N> {
 
     ghost key = { λ r. r.root.key };
 
-    ghost line = { λ r. r.root.line };
+    ghost line = { λ r. r.root.own.line };
 
-    ghost owes = { λ r. debts_of r.root.owes };
+    ghost owes = { λ r. debts_of r.root.own.owes };
 }
 
-impl<V, N: Name> KeyRoot<V, N> {
+impl<V: Keeps, N: Name> KeyRoot<V, N> {
     pub(crate) fn new(root: LockRoot<V>) -> KeyRoot<V, N>
         requires { root.table ≡ N.opening.locks }
         ensures { result ≡ root }
@@ -56,14 +57,48 @@ impl<V, N: Name> KeyRoot<V, N> {
     }
 }
 
-/// A pass, as the parking lot sees it.
-pub(crate) type NamedPass<V, N> = Named<LockPass<V>, N>;
+/// A pass, as the parking lot sees it: how it stands, without the entries that were made with it.
+pub(crate) struct NamedPass<V: Keeps, N: Name> {
+    named: Named<LockPass<V>, N>,
+}
 
-/// What a parking's validation answers: the pass, the root, and whether the thread was queued.
-pub(crate) type Validated<V, N> = ((), NamedPass<V, N>, KeyRoot<V, N>, bool);
+impl<V: Keeps, N: Name> Model for NamedPass<V, N> {
+    ghost use Rattle.lot_sync.specs.Passes.{Standing, stands};
 
-/// What an unparking's callback answers: the pass, the root, and the token of the thread that was taken.
-pub(crate) type CalledBack<V, N> = (NamedPass<V, N>, KeyRoot<V, N>, Token);
+    ghost Value = { Standing V };
+
+    ghost view = { λ s. stands s.named };
+}
+
+impl<V: Keeps, N: Name> NamedPass<V, N> {
+    ghost use Rattle.lot_sync.specs.Passes.{stands};
+
+    #[inline(always)]
+    pub(crate) fn new(pass: LockPass<V>) -> NamedPass<V, N>
+        requires { pass.table ≡ N.opening.locks }
+        ensures { result ≡ stands pass }
+    {
+        NamedPass {
+            named: Named::new(pass),
+        }
+    }
+
+    #[inline(always)]
+    pub(crate) fn into_pass(self) -> LockPass<V>
+        ensures same { self ≡ stands result }
+        ensures named { result.table ≡ N.opening.locks }
+    {
+        let NamedPass { named } = self;
+        named.into_inner()
+    }
+
+    /// The number of the thread.
+    pub(crate) fn thread(&self) -> usize
+        ensures { result ≡ self.now.thread }
+    {
+        self.named.inner().thread()
+    }
+}
 
 /// The lock words, as the parking lot sees them.
 pub(crate) struct LockScheme<V: Keeps, N: Name> {
@@ -71,10 +106,10 @@ pub(crate) struct LockScheme<V: Keeps, N: Name> {
 }
 
 impl<V: Keeps, N: Name> Model for LockScheme<V, N> {
-    ghost use Rattle.lot_words.specs.Shown.{WordsShown};
+    ghost use Rattle.lot_words.specs.Shown.{LockWordsShown};
     ghost use Rattle.std.specs.Prelude.{◌≡◌};
 
-    ghost Value = { WordsShown };
+    ghost Value = { LockWordsShown };
 
     ghost view = { λ s. s.words };
 
@@ -108,19 +143,18 @@ impl<V: Keeps, N: Name> LockScheme<V, N> {
 }
 
 impl<V: Keeps + Send, N: Name + Send> Scheme for LockScheme<V, N> {
-    ghost use Rattle.lot_words.specs.Calls.{Collected};
-    ghost use Rattle.std.specs.Prelude.{◌≡◌, ℕ, true};
+    ghost use Rattle.lot_sync.specs.Passes.{IsLooked};
 
     type Root = KeyRoot<V, N>;
 
     type Pass = NamedPass<V, N>;
 
-    ghost thread = { λ p. p.pass.thread };
+    ghost thread = { λ p. p.thread };
 
-    ghost collected = { λ p token q. Collected V.keeps V.grows V.part p token q };
+    ghost looked = { IsLooked V.keeps V.grows V.part };
 
     fn thread_of(pass: &NamedPass<V, N>) -> usize {
-        pass.inner().thread()
+        pass.thread()
     }
 
     fn post(&self, root: KeyRoot<V, N>, at: usize, token: Token) -> KeyRoot<V, N> {
@@ -128,7 +162,7 @@ impl<V: Keeps + Send, N: Name + Send> Scheme for LockScheme<V, N> {
     }
 
     fn collect(&self, pass: NamedPass<V, N>) -> (NamedPass<V, N>, Option<Token>) {
-        let (pass, letter) = self.words.inner().collect(pass.into_inner());
-        (Named::new(pass), letter.map(Token))
+        let (pass, letter) = self.words.inner().collect(pass.into_pass());
+        (NamedPass::new(pass), letter.map(Token))
     }
 }

@@ -4,9 +4,9 @@ ghost use Rattle.lot_sync.specs.Lot.{OwnsNone};
 ghost use Rattle.lot_sync.specs.Holding.{Holding, HoldingBoth, Seeks};
 
 use crate::lock::{BeforeSleep, park};
+use crate::scheme::NamedPass;
 use crate::tests::{Count, enter, in_line, is_raised, own, release, word};
 use crate::{Held, Lot, LotName, Moment, Pass, Released};
-use lot_words::LockPass;
 use std::process::Abort;
 use std::sync::Wait;
 use std::sync::atomic::{AtomicU64, Ordering};
@@ -80,7 +80,7 @@ fn first_sleeper<N: LotName<Count> + Send + Sync, T: Wait + Abort>(
     lot: &Lot<Count, N>,
     flags: &Flags,
 )
-    requires { lot.now.locks ≡ 13 }
+    requires { lot.now.locks ≡ 14 }
 {
     let pass = enter(rt, lot);
     assert_eq!(rt; pass.thread(), 1);
@@ -97,7 +97,7 @@ fn second_sleeper<N: LotName<Count> + Send + Sync, T: Wait + Abort>(
     lot: &Lot<Count, N>,
     flags: &Flags,
 )
-    requires { lot.now.locks ≡ 13 }
+    requires { lot.now.locks ≡ 14 }
 {
     let pass = enter(rt, lot);
     assert_eq!(rt; pass.thread(), 2);
@@ -113,7 +113,7 @@ pub(crate) fn first_of_two_sleepers<
     N: LotName<Count> + Send + Sync,
     T: Threads + Wait + Sync + Abort,
 >(rt: &T, lot: &Lot<Count, N>)
-    requires { lot.now.locks ≡ 13 }
+    requires { lot.now.locks ≡ 14 }
 {
     let flags = Flags::new();
     two_sleepers(rt, lot, &flags);
@@ -124,23 +124,23 @@ fn two_sleepers<N: LotName<Count> + Send + Sync, T: Threads + Wait + Sync + Abor
     lot: &Lot<Count, N>,
     flags: &Flags,
 )
-    requires { lot.now.locks ≡ 13 }
+    requires { lot.now.locks ≡ 14 }
 {
     thread::scope(
         thread::scope_env(),
         rt,
         |scope|
-            requires { lot.now.locks ≡ 13 }
+            requires { lot.now.locks ≡ 14 }
         {
             let pass = enter(rt, lot);
             let (pass, held) = own(rt, lot, pass, 0);
             let first = move ||
-                requires { lot.now.locks ≡ 13 }
+                requires { lot.now.locks ≡ 14 }
             { first_sleeper(rt, lot, flags) };
             assert!(rt; scope.spawn(first).is_ok());
             assert!(rt; in_line(rt, lot, 0, 1));
             let second = move ||
-                requires { lot.now.locks ≡ 13 }
+                requires { lot.now.locks ≡ 14 }
             { second_sleeper(rt, lot, flags) };
             assert!(rt; scope.spawn(second).is_ok());
             assert!(rt; in_line(rt, lot, 0, 2));
@@ -157,7 +157,7 @@ fn barge<N: LotName<Count> + Send + Sync, T: Wait + Abort>(
     pass: Pass<Count, N>,
     held: Held<Count, N>,
 )
-    requires key { (held.key < lot.now.locks) × (lot.now.locks ≡ 13) }
+    requires key { (held.key < lot.now.locks) × (lot.now.locks ≡ 14) }
     requires holding { Holding (λ x y. x.n ≤ y.n) pass held }
 {
     let (pass, released) = release(rt, lot, pass, held, 0);
@@ -176,20 +176,23 @@ fn barge<N: LotName<Count> + Send + Sync, T: Wait + Abort>(
     lot.leave(rt, pass);
 }
 
-/// Gets locks 0 and 12.
+/// Gets two locks.
 fn own_both<N: LotName<Count> + Send + Sync, T: Wait>(
     rt: &T,
     lot: &Lot<Count, N>,
     pass: Pass<Count, N>,
+    first: usize,
+    second: usize,
 ) -> (Pass<Count, N>, Held<Count, N>, Held<Count, N>)
-    requires locks { lot.now.locks ≡ 13 }
+    requires locks { (first < lot.now.locks) × (second < lot.now.locks) }
+    requires two { second ≢ first }
     requires free { OwnsNone pass }
-    ensures keys { (result.1.key ≡ 0) × (result.2.key ≡ 12) }
+    ensures keys { (result.1.key ≡ first) × (result.2.key ≡ second) }
     ensures both { HoldingBoth (λ x y. x.n ≤ y.n) result.0 result.1 result.2 }
 {
-    let (pass, zero) = own(rt, lot, pass, 0);
-    let (pass, twelve) = lot.lock(rt, pass, 12);
-    (pass, zero, twelve)
+    let (pass, one) = own(rt, lot, pass, first);
+    let (pass, other) = lot.lock(rt, pass, second);
+    (pass, one, other)
 }
 
 /// Lets the first of two locks go at moment 0.
@@ -215,7 +218,7 @@ fn sleeper_on_zero<N: LotName<Count> + Send + Sync, T: Wait + Abort>(
     lot: &Lot<Count, N>,
     flags: &Flags,
 )
-    requires { lot.now.locks ≡ 13 }
+    requires { lot.now.locks ≡ 14 }
 {
     let pass = enter(rt, lot);
     assert_eq!(rt; pass.thread(), 1);
@@ -230,7 +233,7 @@ fn sleeper_on_zero<N: LotName<Count> + Send + Sync, T: Wait + Abort>(
 
 /// The sleeper on lock 12.
 fn sleeper_on_twelve<N: LotName<Count> + Send + Sync, T: Wait + Abort>(rt: &T, lot: &Lot<Count, N>)
-    requires { lot.now.locks ≡ 13 }
+    requires { lot.now.locks ≡ 14 }
 {
     let pass = enter(rt, lot);
     assert_eq!(rt; pass.thread(), 2);
@@ -246,7 +249,7 @@ pub(crate) fn other_key_in_the_bucket<
     N: LotName<Count> + Send + Sync,
     T: Threads + Wait + Sync + Abort,
 >(rt: &T, lot: &Lot<Count, N>)
-    requires { lot.now.locks ≡ 13 }
+    requires { lot.now.locks ≡ 14 }
 {
     let flags = Flags::new();
     sleepers_on_both(rt, lot, &flags);
@@ -257,23 +260,23 @@ fn sleepers_on_both<N: LotName<Count> + Send + Sync, T: Threads + Wait + Sync + 
     lot: &Lot<Count, N>,
     flags: &Flags,
 )
-    requires { lot.now.locks ≡ 13 }
+    requires { lot.now.locks ≡ 14 }
 {
     thread::scope(
         thread::scope_env(),
         rt,
         |scope|
-            requires { lot.now.locks ≡ 13 }
+            requires { lot.now.locks ≡ 14 }
         {
             let pass = enter(rt, lot);
-            let (pass, zero, twelve) = own_both(rt, lot, pass);
+            let (pass, zero, twelve) = own_both(rt, lot, pass, 0, 12);
             let first = move ||
-                requires { lot.now.locks ≡ 13 }
+                requires { lot.now.locks ≡ 14 }
             { sleeper_on_zero(rt, lot, flags) };
             assert!(rt; scope.spawn(first).is_ok());
             assert!(rt; in_line(rt, lot, 0, 1));
             let second = move ||
-                requires { lot.now.locks ≡ 13 }
+                requires { lot.now.locks ≡ 14 }
             { sleeper_on_twelve(rt, lot) };
             assert!(rt; scope.spawn(second).is_ok());
             assert!(rt; in_line(rt, lot, 12, 1));
@@ -292,9 +295,10 @@ fn let_both_go<N: LotName<Count> + Send + Sync, T: Wait + Abort>(
     pass: Pass<Count, N>,
     held: Held<Count, N>,
 )
-    requires key { (held.key < lot.now.locks) × (lot.now.locks ≡ 13) }
+    requires key { (held.key < lot.now.locks) × (lot.now.locks ≡ 14) }
     requires holding { Holding (λ x y. x.n ≤ y.n) pass held }
 {
+    assert_eq!(rt; lot.table_size(rt), 12);
     assert_eq!(rt; word(lot, 0), 2);
     assert_eq!(rt; lot.line_length(rt, 0), 0);
     flags.gate.store(1, Ordering::SeqCst);
@@ -305,16 +309,141 @@ fn let_both_go<N: LotName<Count> + Send + Sync, T: Wait + Abort>(
     lot.leave(rt, pass);
 }
 
+/// The thread sleeps on the lock, gets it, and lets it go at moment 0.
+fn sleeper<N: LotName<Count> + Send + Sync, T: Wait + Abort>(
+    rt: &T,
+    lot: &Lot<Count, N>,
+    key: usize,
+    want: Released,
+)
+    requires { key < lot.now.locks }
+{
+    let pass = enter(rt, lot);
+    let (pass, held) = own(rt, lot, pass, key);
+    let (pass, released) = release(rt, lot, pass, held, 0);
+    assert_eq!(rt; released, want);
+    lot.leave(rt, pass);
+}
+
+/// Locks 1 and 13 share a bucket of a table of 12, in which threads 1, 2 and 3 sleep, the second on lock 1. The fifth registration
+/// takes the bucket apart, and each line is as it was.
+pub(crate) fn growth_with_sleepers<
+    N: LotName<Count> + Send + Sync,
+    T: Threads + Wait + Sync + Abort,
+>(rt: &T, lot: &Lot<Count, N>)
+    requires { lot.now.locks ≡ 14 }
+{
+    thread::scope(
+        thread::scope_env(),
+        rt,
+        |scope|
+            requires { lot.now.locks ≡ 14 }
+        {
+            let pass = enter(rt, lot);
+            let (pass, thirteen, one) = own_both(rt, lot, pass, 13, 1);
+            let first = move ||
+                requires { lot.now.locks ≡ 14 }
+            { sleeper(rt, lot, 13, Released::Woke) };
+            assert!(rt; scope.spawn(first).is_ok());
+            assert!(rt; in_line(rt, lot, 13, 1));
+            let second = move ||
+                requires { lot.now.locks ≡ 14 }
+            { sleeper(rt, lot, 1, Released::Quiet) };
+            assert!(rt; scope.spawn(second).is_ok());
+            assert!(rt; in_line(rt, lot, 1, 1));
+            let third = move ||
+                requires { lot.now.locks ≡ 14 }
+            { sleeper(rt, lot, 13, Released::Quiet) };
+            assert!(rt; scope.spawn(third).is_ok());
+            assert!(rt; in_line(rt, lot, 13, 2));
+            grow(rt, lot, pass, thirteen, one);
+        },
+    );
+}
+
+/// A fifth thread registers, and then both locks are let go.
+fn grow<N: LotName<Count> + Send + Sync, T: Wait + Abort>(
+    rt: &T,
+    lot: &Lot<Count, N>,
+    pass: Pass<Count, N>,
+    thirteen: Held<Count, N>,
+    one: Held<Count, N>,
+)
+    requires keys { (thirteen.key ≡ 13) × (one.key ≡ 1) × (lot.now.locks ≡ 14) }
+    requires both { HoldingBoth (λ x y. x.n ≤ y.n) pass thirteen one }
+{
+    assert_eq!(rt; lot.table_size(rt), 12);
+    let fifth = enter(rt, lot);
+    assert_eq!(rt; fifth.thread(), 4);
+    assert_eq!(rt; lot.table_size(rt), 30);
+    assert_eq!(rt; lot.line_length(rt, 13), 2);
+    assert_eq!(rt; lot.line_length(rt, 1), 1);
+    lot.leave(rt, fifth);
+    let (pass, one, released) = release_first(rt, lot, pass, thirteen, one);
+    assert_eq!(rt; released, Released::Woke);
+    let (pass, released) = release(rt, lot, pass, one, 0);
+    assert_eq!(rt; released, Released::Woke);
+    lot.leave(rt, pass);
+}
+
+/// Gets lock 0 by a handoff, waits until another sleeps on it, and lets it go.
+fn handed<N: LotName<Count> + Send + Sync, T: Wait + Abort>(
+    rt: &T,
+    lot: &Lot<Count, N>,
+    now: u64,
+    want: Released,
+)
+    requires { lot.now.locks ≡ 14 }
+{
+    let pass = enter(rt, lot);
+    let (pass, held) = own(rt, lot, pass, 0);
+    assert!(rt; in_line(rt, lot, 0, 1));
+    let (pass, released) = release(rt, lot, pass, held, now);
+    assert_eq!(rt; released, want);
+    lot.leave(rt, pass);
+}
+
+/// A thread hands lock 0 over at moment 5 with word 7, and sleeps on it then.
+pub(crate) fn after_a_handoff<N: LotName<Count> + Send + Sync, T: Threads + Wait + Sync + Abort>(
+    rt: &T,
+    lot: &Lot<Count, N>,
+    now: u64,
+    want: Released,
+)
+    requires { lot.now.locks ≡ 14 }
+{
+    thread::scope(
+        thread::scope_env(),
+        rt,
+        |scope|
+            requires { lot.now.locks ≡ 14 }
+        {
+            let pass = enter(rt, lot);
+            let (pass, held) = own(rt, lot, pass, 0);
+            let job = move ||
+                requires { lot.now.locks ≡ 14 }
+            { handed(rt, lot, now, want) };
+            assert!(rt; scope.spawn(job).is_ok());
+            assert!(rt; in_line(rt, lot, 0, 1));
+            let (pass, released) = release(rt, lot, pass, held, 5);
+            assert_eq!(rt; released, Released::Handed);
+            let (pass, held) = own(rt, lot, pass, 0);
+            let (pass, _) = release(rt, lot, pass, held, 0);
+            lot.leave(rt, pass);
+        },
+    );
+}
+
 /// A pass that owns nothing finds the lock held, and wants it from now on.
 fn seek<N: LotName<Count> + Send + Sync, T: Wait + Abort>(
     rt: &T,
     lot: &Lot<Count, N>,
     pass: Pass<Count, N>,
     key: usize,
-) -> LockPass<Count>
+) -> NamedPass<Count, N>
     requires key { key < lot.now.locks }
     requires free { OwnsNone pass }
-    ensures { Seeks (λ x y. x.n ≤ y.n) N.opening.locks N.values N.threads key result }
+    ensures { Seeks (λ x y. x.n ≤ y.n) N.values N.threads key result }
 {
     let (right, got) = lot.take(pass.into_right(), key);
     if got {
@@ -327,12 +456,12 @@ fn seek<N: LotName<Count> + Send + Sync, T: Wait + Abort>(
 fn seek_again<N: LotName<Count> + Send + Sync, T: Wait + Abort>(
     rt: &T,
     lot: &Lot<Count, N>,
-    right: LockPass<Count>,
+    right: NamedPass<Count, N>,
     key: usize,
-) -> LockPass<Count>
+) -> NamedPass<Count, N>
     requires key { key < lot.now.locks }
-    requires seeks { Seeks (λ x y. x.n ≤ y.n) N.opening.locks N.values N.threads key right }
-    ensures { Seeks (λ x y. x.n ≤ y.n) N.opening.locks N.values N.threads key result }
+    requires seeks { Seeks (λ x y. x.n ≤ y.n) N.values N.threads key right }
+    ensures { Seeks (λ x y. x.n ≤ y.n) N.values N.threads key result }
 {
     let (right, got) = lot.take(right, key);
     if got {
@@ -345,30 +474,30 @@ fn seek_again<N: LotName<Count> + Send + Sync, T: Wait + Abort>(
 fn mark<N: LotName<Count> + Send + Sync, T: Wait + Abort>(
     rt: &T,
     lot: &Lot<Count, N>,
-    right: LockPass<Count>,
+    right: NamedPass<Count, N>,
     key: usize,
-) -> LockPass<Count>
+) -> NamedPass<Count, N>
     requires key { key < lot.now.locks }
-    requires seeks { Seeks (λ x y. x.n ≤ y.n) N.opening.locks N.values N.threads key right }
-    ensures { Seeks (λ x y. x.n ≤ y.n) N.opening.locks N.values N.threads key result }
+    requires seeks { Seeks (λ x y. x.n ≤ y.n) N.values N.threads key right }
+    ensures { Seeks (λ x y. x.n ≤ y.n) N.values N.threads key result }
 {
-    let (right, marked) = lot.words().mark(right, key);
+    let (right, marked) = lot.words().mark(right.into_pass(), key);
     assert!(rt; marked);
-    right
+    NamedPass::new(right)
 }
 
 /// Its parking comes too late.
 fn park_in_vain<N: LotName<Count> + Send + Sync, T: Wait + Abort>(
     rt: &T,
     lot: &Lot<Count, N>,
-    right: LockPass<Count>,
+    right: NamedPass<Count, N>,
     key: usize,
-) -> LockPass<Count>
+) -> NamedPass<Count, N>
     requires key { key < lot.now.locks }
-    requires seeks { Seeks (λ x y. x.n ≤ y.n) N.opening.locks N.values N.threads key right }
-    ensures { Seeks (λ x y. x.n ≤ y.n) N.opening.locks N.values N.threads key result }
+    requires seeks { Seeks (λ x y. x.n ≤ y.n) N.values N.threads key right }
+    ensures { Seeks (λ x y. x.n ≤ y.n) N.values N.threads key result }
 {
-    let (right, handed) = park(rt, &lot.parking, lot.words(), right, key, &Never { rt });
+    let (right, handed) = park(rt, &lot.parking, right, key, &Never { rt });
     if handed {
         panic!(rt; "a lock was handed to a thread that was not queued")
     }
@@ -379,11 +508,11 @@ fn park_in_vain<N: LotName<Count> + Send + Sync, T: Wait + Abort>(
 fn get<N: LotName<Count> + Send + Sync, T: Wait + Abort>(
     rt: &T,
     lot: &Lot<Count, N>,
-    right: LockPass<Count>,
+    right: NamedPass<Count, N>,
     key: usize,
 ) -> (Pass<Count, N>, Held<Count, N>)
     requires key { key < lot.now.locks }
-    requires seeks { Seeks (λ x y. x.n ≤ y.n) N.opening.locks N.values N.threads key right }
+    requires seeks { Seeks (λ x y. x.n ≤ y.n) N.values N.threads key right }
     ensures key { result.1.key ≡ key }
     ensures holding { Holding (λ x y. x.n ≤ y.n) result.0 result.1 }
 {
@@ -401,7 +530,7 @@ pub(crate) fn invalid_parking<N: LotName<Count> + Send + Sync, T: Wait + Abort>(
     rt: &T,
     lot: &Lot<Count, N>,
 )
-    requires { lot.now.locks ≡ 13 }
+    requires { lot.now.locks ≡ 14 }
 {
     let zero = enter(rt, lot);
     let one = enter(rt, lot);

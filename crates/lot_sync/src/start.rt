@@ -1,9 +1,10 @@
 //! Starting a lot under its name: its roots go to the parking lot, its passes into the pool.
 ghost use Rattle.std.specs.Prelude.{◌≡◌, ℕ, ◌+◌, ◌<◌, ◌≤◌, List, [], Some, slice_get, length, vec_len, vec_capacity, reverse, IfOk, IfErr};
-ghost use Rattle.lot_words.specs.Start.{pass_at, root_at};
-ghost use Rattle.lot_words.specs.Shown.{RootShown};
-ghost use Rattle.lot_words.specs.Closing.{AllOf};
+ghost use Rattle.std.specs.List.{All};
+ghost use Rattle.lot_rights.specs.Shown.{RootShown};
+ghost use Rattle.lot_words.specs.declared.views.LockRootView.{LockRootView};
 ghost use Rattle.lot_sync.specs.Opened.{IsOpened};
+ghost use Rattle.lot_core.specs.declared.state.TheConstants.{MAX_THREADS};
 ghost use Rattle.lot_sync.specs.Passes.{IsFresh};
 ghost use Rattle.lot_park.specs.Lots.{AreIdle};
 
@@ -12,7 +13,7 @@ use crate::lot::Lot;
 use crate::opened::Opened;
 use crate::pass::{LotName, Pass};
 use crate::pool::{ClosingRoom, Idle, Pool};
-use crate::scheme::{KeyRoot, LockScheme};
+use crate::scheme::{KeyRoot, LockScheme, NamedPass};
 use lot_park::{ParkFault, ParkingLot};
 use lot_words::{Keeps, LockPass, LockRoot, LockWords};
 use std::alloc::{AllocError, Global};
@@ -30,7 +31,7 @@ struct Rooms<V: Keeps + Send, N: LotName<V> + Send> {
 
 impl<V: Keeps + Send, N: LotName<V> + Send> Rooms<V, N> {
     fn new(alloc: Global, threads: usize, locks: usize) -> Result<Rooms<V, N>, AllocError>
-        requires { (threads ≡ N.threads) × (locks ≡ length N.values) × (threads ≤ 64) }
+        requires { (threads ≡ N.threads) × (locks ≡ length N.values) × (threads ≤ MAX_THREADS) }
     {
         let named = Vec::with_capacity(alloc, locks)?;
         let out = Vec::with_capacity(alloc, locks)?;
@@ -59,7 +60,7 @@ fn name_roots<V: Keeps + Send, N: LotName<V> + Send>(
     roots: &mut Vec<LockRoot<V>>,
     named: &mut Vec<KeyRoot<V, N>>,
 )
-    requires own { AllOf (λ (r : RootShown). r.table ≡ N.opening.locks) roots.old.items }
+    requires own { All (λ (r : RootShown LockRootView). r.table ≡ N.opening.locks) roots.old.items }
     requires room { (vec_len named.old ≡ 0) × (vec_len roots.old ≤ vec_capacity named.old) }
     ensures same { named.new.items ≡ roots.old.items }
     ensures empty { (vec_len roots.new ≡ 0) × (vec_capacity roots.new ≡ vec_capacity roots.old) }
@@ -77,7 +78,7 @@ pub(crate) fn unname_roots<V: Keeps + Send, N: LotName<V> + Send>(
 )
     requires room { (vec_len roots.old ≡ 0) × (vec_len named ≤ vec_capacity roots.old) }
     ensures same { roots.new.items ≡ named.items }
-    ensures own { AllOf (λ (r : RootShown). r.table ≡ N.opening.locks) roots.new.items }
+    ensures own { All (λ (r : RootShown LockRootView). r.table ≡ N.opening.locks) roots.new.items }
 {
     while let Some(root) = named.pop() {
         roots.push_reserved(root.into_root());
@@ -90,7 +91,7 @@ fn fill<V: Keeps + Send, N: LotName<V> + Send>(
     passes: &mut Vec<LockPass<V>>,
     idle: &mut Vec<Idle<V, N>>,
 )
-    requires idle { AllOf (IsFresh V.grows N.opening.locks N.values N.threads) passes.old.items }
+    requires idle { All (IsFresh V.grows N.opening.locks N.values N.threads) passes.old.items }
     requires room { (vec_len idle.old ≡ 0) × (vec_len passes.old ≤ vec_capacity idle.old) }
     ensures long { vec_len idle.new ≡ vec_len passes.old }
     ensures room { vec_capacity idle.new ≡ vec_capacity idle.old }
@@ -105,7 +106,7 @@ fn make_idle<V: Keeps + Send, N: LotName<V> + Send>(right: LockPass<V>) -> Idle<
     requires { IsFresh V.grows N.opening.locks N.values N.threads right }
 {
     Idle {
-        pass: Pass::at_rest(right),
+        pass: Pass::at_rest(NamedPass::new(right)),
     }
 }
 

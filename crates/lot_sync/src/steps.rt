@@ -1,15 +1,12 @@
-//! The two steps on a lock's word that are made while its bucket is locked. The parking lot's callbacks make them through a type
-//! parameter, since a closure that holds the words themselves is not covered by the check yet.
-ghost use Rattle.std.specs.Prelude.{◌≡◌, ℕ, true, false, MatchBool, drop};
-ghost use Rattle.lot_sync.specs.Passes.{IsTryingFor, IsAsleepFor, LetsGo, debts_of};
-ghost use Rattle.lot_words.specs.World.{HoldsParked};
-ghost use Rattle.lot_words.specs.Values.{IsIn};
-ghost use Rattle.lot_words.specs.Calls.{parked_root};
+//! The two steps on a lock's word that are made while its bucket is locked: the parking lot's callbacks make them.
+ghost use Rattle.std.specs.Prelude.{◌≡◌, ℕ, Bool, true, false, [], ◌∷◌, ◌++◌, MatchBool, drop, ◌||◌};
+ghost use Rattle.lot_sync.specs.Released.{decision, token_told};
 ghost use Rattle.lot_park.specs.Parking.{Tells, debt};
-ghost use Rattle.atomic_table.specs.Seated.{TableId};
 
-use lot_park::{Token, UnparkResult};
-use lot_words::{Keeps, LockPass, LockRoot, LockWords};
+use crate::released::Released;
+use crate::scheme::{KeyRoot, LockScheme, NamedPass};
+use lot_park::{Scheme, Token, UnparkResult};
+use lot_words::{Keeps, Name};
 
 /// The token of a direct handoff: whoever finds it owns the lock already.
 pub(crate) const HANDOFF: Token = Token(1);
@@ -17,70 +14,96 @@ pub(crate) const HANDOFF: Token = Token(1);
 /// The token of a barging opportunity: whoever finds it tries again.
 pub(crate) const BARGING: Token = Token(0);
 
-pub(crate) trait LockSteps<V> {
-    /// The table that the rights have to be of.
-    ghost table: { Self → TableId };
+/// A callback hands its pass and its root to one of these. Written for every scheme, since the passes and roots of a kind of table
+/// can't be named in a closure's signature.
+pub(crate) trait LockSteps: Scheme {
+    ghost use Rattle.std.specs.Prelude.{ℕ};
+
+    /// The pass wants the lock of the key, and is in no line.
+    ghost wants: { Self.Pass → ℕ → Type 0 };
+
+    /// The pass before, which wanted the lock of the key, and the pass now, which still wants it.
+    ghost tries: { Self.Pass → ℕ → Self.Pass → Type 0 };
+
+    /// The same, where it is queued in the lock's line now.
+    ghost sleeps: { Self.Pass → ℕ → Self.Pass → Type 0 };
+
+    /// The pass owns the lock of the key, which it found parked, and whose value lies in its slot.
+    ghost may_pass: { Self.Pass → ℕ → Type 0 };
+
+    /// The pass before, and the pass that has let the lock of the key go.
+    ghost lets_go: { Self.Pass → ℕ → Self.Pass → Type 0 };
 
     /// The validation of a parking: the thread is queued where the lock is held and parked.
-    fn queue(&self, pass: LockPass<V>, root: LockRoot<V>) -> (LockPass<V>, LockRoot<V>, bool)
-        requires table { (pass.table ≡ table self.now) × (root.table ≡ table self.now) }
-        requires trying { (pass.pass.aim ≡ Some root.root.key) × (pass.pass.asleep ≡ false) }
-        ensures pass { MatchBool result.2 (IsAsleepFor pass root.root.key result.0) (IsTryingFor pass root.root.key result.0) }
-        ensures root { (result.1.table ≡ root.table) × (result.1.root ≡ parked_root pass.pass.thread root.root result.2) };
+    fn queue(&self, pass: Self::Pass, root: Self::Root) -> (Self::Pass, Self::Root, bool)
+        requires { wants pass (Self.Root.key root) }
+        ensures pass { MatchBool result.2 (sleeps pass (Self.Root.key root) result.0) (tries pass (Self.Root.key root) result.0) }
+        ensures thread { Self.thread result.0 ≡ Self.thread pass }
+        ensures key { Self.Root.key result.1 ≡ Self.Root.key root }
+        ensures owes { Self.Root.owes result.1 ≡ Self.Root.owes root }
+        ensures root { MatchBool result.2 (Self.Root.line result.1 ≡ Self.Root.line root ++ Self.thread pass ∷ []) (result.1 ≡ root) };
 
     /// The callback of a slow unlock: the lock is handed to the sleeper that was taken where the release is fair, and left to
-    /// whoever comes first otherwise.
+    /// whoever comes first otherwise. What it decides is what the unlock answers.
     fn hand_over(
         &self,
-        pass: LockPass<V>,
-        root: LockRoot<V>,
+        pass: Self::Pass,
+        root: Self::Root,
         told: UnparkResult,
         fair: bool,
-    ) -> (LockPass<V>, LockRoot<V>, Token)
-        requires table { (pass.table ≡ table self.now) × (root.table ≡ table self.now) }
-        requires calm { (pass.pass.aim ≡ None) × (pass.pass.asleep ≡ false) }
-        requires parked { HoldsParked pass.pass root.root.key }
-        requires lies { (y : V) × IsIn pass.values root.root.key y }
-        requires clear { root.root.owes ≡ None }
-        requires told { (now : ℕ) × Tells root.root.line now told }
-        ensures went { LetsGo pass root.root.key result.0 }
-        ensures root { (result.1.table ≡ root.table) × (result.1.root.key ≡ root.root.key) }
-        ensures line { result.1.root.line ≡ drop 1 root.root.line }
-        ensures owes { debts_of result.1.root.owes ≡ debt told.thread result.2.0 };
+    ) -> (Self::Pass, Self::Root, Token, Released)
+        requires may { may_pass pass (Self.Root.key root) }
+        requires clear { Self.Root.owes root ≡ [] }
+        requires told { (now : ℕ) × Tells (Self.Root.line root) now told }
+        ensures went { lets_go pass (Self.Root.key root) result.0 }
+        ensures key { Self.Root.key result.1 ≡ Self.Root.key root }
+        ensures line { Self.Root.line result.1 ≡ drop 1 (Self.Root.line root) }
+        ensures decided { result.3 ≡ decision told.thread (fair || told.fair) }
+        ensures owes { (result.2.0 ≡ token_told result.3) × (Self.Root.owes result.1 ≡ debt told.thread (token_told result.3)) };
 }
 
-impl<V: Keeps> LockSteps<V> for LockWords<V> {
-    ghost table = { λ words. words.table };
+impl<V: Keeps + Send, N: Name + Send> LockSteps for LockScheme<V, N> {
+    ghost use Rattle.lot_sync.specs.Passes.{Wants, IsTryingFor, IsAsleepFor, MayPass, LetsGo};
 
-    fn queue(&self, pass: LockPass<V>, root: LockRoot<V>) -> (LockPass<V>, LockRoot<V>, bool)
-        requires table { (pass.table ≡ self.now.table) × (root.table ≡ self.now.table) }
-        requires trying { (pass.pass.aim ≡ Some root.root.key) × (pass.pass.asleep ≡ false) }
-        ensures pass { MatchBool result.2 (IsAsleepFor pass root.root.key result.0) (IsTryingFor pass root.root.key result.0) }
-        ensures root { (result.1.table ≡ root.table) × (result.1.root ≡ parked_root pass.pass.thread root.root result.2) }
-    {
-        self.park(pass, root)
+    ghost wants = { Wants };
+
+    ghost tries = { IsTryingFor };
+
+    ghost sleeps = { IsAsleepFor };
+
+    ghost may_pass = { MayPass };
+
+    ghost lets_go = { LetsGo };
+
+    fn queue(
+        &self,
+        pass: NamedPass<V, N>,
+        root: KeyRoot<V, N>,
+    ) -> (NamedPass<V, N>, KeyRoot<V, N>, bool) {
+        let (pass, root, queued) = self.words().park(pass.into_pass(), root.into_root());
+        (NamedPass::new(pass), KeyRoot::new(root), queued)
     }
 
     fn hand_over(
         &self,
-        pass: LockPass<V>,
-        root: LockRoot<V>,
+        pass: NamedPass<V, N>,
+        root: KeyRoot<V, N>,
         told: UnparkResult,
         fair: bool,
-    ) -> (LockPass<V>, LockRoot<V>, Token)
-        requires table { (pass.table ≡ self.now.table) × (root.table ≡ self.now.table) }
-        requires calm { (pass.pass.aim ≡ None) × (pass.pass.asleep ≡ false) }
-        requires parked { HoldsParked pass.pass root.root.key }
-        requires lies { (y : V) × IsIn pass.values root.root.key y }
-        requires clear { root.root.owes ≡ None }
-        requires told { (now : ℕ) × Tells root.root.line now told }
-        ensures went { LetsGo pass root.root.key result.0 }
-        ensures root { (result.1.table ≡ root.table) × (result.1.root.key ≡ root.root.key) }
-        ensures line { result.1.root.line ≡ drop 1 root.root.line }
-        ensures owes { debts_of result.1.root.owes ≡ debt told.thread result.2.0 }
-    {
+    ) -> (NamedPass<V, N>, KeyRoot<V, N>, Token, Released) {
         let hands = told.thread.is_some() && (fair || told.fair);
-        let (pass, root) = self.pass_on(pass, root, told.thread, hands, told.more);
-        (pass, root, if hands { HANDOFF } else { BARGING })
+        let (pass, root) = self.words().pass_on(
+            pass.into_pass(),
+            root.into_root(),
+            told.thread,
+            hands,
+            told.more,
+        );
+        let (token, released) = match told.thread {
+            None => (BARGING, Released::Nobody),
+            Some(_) if hands => (HANDOFF, Released::Handed),
+            Some(_) => (BARGING, Released::Woke),
+        };
+        (NamedPass::new(pass), KeyRoot::new(root), token, released)
     }
 }

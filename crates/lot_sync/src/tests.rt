@@ -1,10 +1,13 @@
 //! Worked rows of a lot, with the words that they leave.
 ghost use Rattle.std.specs.Prelude.{◌≡◌, ◌≤◌, ◌<◌, ℕ, MatchOption, length, vec_len, vec_capacity};
-ghost use Rattle.lot_words.specs.Closing.{AllOf, SomeOf};
+ghost use Rattle.std.specs.List.{All, Any};
 ghost use Rattle.lot_sync.specs.Lot.{PassView, OwnsNone};
 ghost use Rattle.lot_sync.specs.Holding.{Holding};
 
-use crate::sleepers::{first_of_two_sleepers, invalid_parking, other_key_in_the_bucket};
+use crate::sleepers::{
+    after_a_handoff, first_of_two_sleepers, growth_with_sleepers, invalid_parking,
+    other_key_in_the_bucket,
+};
 use crate::{Held, Lot, LotName, Moment, OpenFault, Opened, Pass, RegisterFault, Released};
 use lot_words::Keeps;
 use std::alloc::Global;
@@ -39,7 +42,7 @@ impl Keeps for Count {
     ghost grows_on = { λ x y z p q. le_trans p q };
 }
 
-const LOCKS: usize = 13;
+const LOCKS: usize = 14;
 
 /// How often a test asks before it fails.
 const ASKINGS: u64 = 10_000_000;
@@ -179,7 +182,9 @@ pub(crate) enum Row {
     TwoOwners,
     Registration,
     Written,
+    AfterAHandoff(u64, Released),
     FirstOfTwoSleepers,
+    GrowthWithSleepers,
     OtherKeyInTheBucket,
     InvalidParking,
     Growth,
@@ -210,7 +215,7 @@ fn play<N: LotName<Count> + Send + Sync, T: Threads + Wait + Sync + Abort>(
     row: Row,
 )
     requires names { (opened.table ≡ N.opening.locks) × (opened.threads ≡ N.threads) × (opened.values ≡ N.values) }
-    requires sizes { (opened.threads ≡ threads) × (length opened.values ≡ 13) }
+    requires sizes { (opened.threads ≡ threads) × (length opened.values ≡ 14) }
 {
     let Ok(passes) = Vec::with_capacity(alloc, threads) else {
         panic!(rt; "no memory")
@@ -230,7 +235,7 @@ fn play_row<N: LotName<Count> + Send + Sync, T: Threads + Wait + Sync + Abort>(
     lot: &Lot<Count, N>,
     row: Row,
 ) -> Gathered
-    requires { lot.now.locks ≡ 13 }
+    requires { lot.now.locks ≡ 14 }
 {
     match row {
         Row::Growth => return Gathered::Registered,
@@ -240,7 +245,9 @@ fn play_row<N: LotName<Count> + Send + Sync, T: Threads + Wait + Sync + Abort>(
         Row::TwoOwners => two_owners(rt, lot),
         Row::Registration => register_in_order(rt, lot),
         Row::Written => write_and_find(rt, lot),
+        Row::AfterAHandoff(now, want) => after_a_handoff(rt, lot, now, want),
         Row::FirstOfTwoSleepers => first_of_two_sleepers(rt, lot),
+        Row::GrowthWithSleepers => growth_with_sleepers(rt, lot),
         Row::OtherKeyInTheBucket => other_key_in_the_bucket(rt, lot),
         Row::InvalidParking => invalid_parking(rt, lot),
     }
@@ -302,8 +309,8 @@ fn gather<N: LotName<Count> + Send + Sync, T: Wait + Abort>(
     requires { (vec_len passes.old ≡ 0) × (threads ≤ vec_capacity passes.old) }
     ensures same { lot.new ≡ lot.old }
     ensures count { vec_len passes.new ≡ threads }
-    ensures all { (t : ℕ) → t < threads → SomeOf (λ (p : PassView Count). p.thread ≡ t) passes.new.items }
-    ensures free { AllOf OwnsNone passes.new.items }
+    ensures all { (t : ℕ) → t < threads → Any (λ (p : PassView Count). p.thread ≡ t) passes.new.items }
+    ensures free { All OwnsNone passes.new.items }
 {
     for thread in 0..threads {
         let pass = next_pass(rt, lot, thread, how);
@@ -373,7 +380,7 @@ fn try_and_unlock_unparked<N: LotName<Count> + Send + Sync, T: Wait + Abort>(
     rt: &T,
     lot: &Lot<Count, N>,
 )
-    requires { lot.now.locks ≡ 13 }
+    requires { lot.now.locks ≡ 14 }
 {
     let pass = enter(rt, lot);
     assert_eq!(rt; word(lot, 0), 0);
@@ -392,7 +399,7 @@ fn try_and_unlock_unparked<N: LotName<Count> + Send + Sync, T: Wait + Abort>(
 }
 
 fn quiet_row<N: LotName<Count> + Send + Sync, T: Wait + Abort>(rt: &T, lot: &Lot<Count, N>)
-    requires { lot.now.locks ≡ 13 }
+    requires { lot.now.locks ≡ 14 }
 {
     let zero = enter(rt, lot);
     let one = enter(rt, lot);
@@ -424,7 +431,7 @@ fn second<N: LotName<Count> + Send + Sync, T: Wait + Abort>(
     flags: &Flags,
     way: Way,
 )
-    requires { lot.now.locks ≡ 13 }
+    requires { lot.now.locks ≡ 14 }
 {
     let pass = enter(rt, lot);
     assert_eq!(rt; pass.thread(), 1);
@@ -450,18 +457,18 @@ fn beside_a_sleeper<N: LotName<Count> + Send + Sync, T: Threads + Wait + Sync + 
     flags: &Flags,
     way: Way,
 )
-    requires { lot.now.locks ≡ 13 }
+    requires { lot.now.locks ≡ 14 }
 {
     thread::scope(
         thread::scope_env(),
         rt,
         |scope|
-            requires { lot.now.locks ≡ 13 }
+            requires { lot.now.locks ≡ 14 }
         {
             let pass = enter(rt, lot);
             let (pass, held) = own(rt, lot, pass, 0);
             let job = move ||
-                requires { lot.now.locks ≡ 13 }
+                requires { lot.now.locks ≡ 14 }
             { second(rt, lot, flags, way) };
             assert!(rt; scope.spawn(job).is_ok());
             assert!(rt; in_line(rt, lot, 0, 1));
@@ -479,7 +486,7 @@ fn let_go<N: LotName<Count> + Send + Sync, T: Wait + Abort>(
     pass: Pass<Count, N>,
     held: Held<Count, N>,
 )
-    requires key { (held.key < lot.now.locks) × (lot.now.locks ≡ 13) }
+    requires key { (held.key < lot.now.locks) × (lot.now.locks ≡ 14) }
     requires holding { Holding (λ x y. x.n ≤ y.n) pass held }
 {
     assert_eq!(rt; word(lot, 0), 3);
@@ -510,7 +517,7 @@ fn sleeper_row<N: LotName<Count> + Send + Sync, T: Threads + Wait + Sync + Abort
     lot: &Lot<Count, N>,
     way: Way,
 )
-    requires { lot.now.locks ≡ 13 }
+    requires { lot.now.locks ≡ 14 }
 {
     let flags = Flags {
         owns: AtomicU64::new(0),
@@ -544,16 +551,16 @@ fn side_by_side<N: LotName<Count> + Send + Sync, T: Threads + Wait + Sync + Abor
     zero: &AtomicU64,
     one: &AtomicU64,
 )
-    requires { lot.now.locks ≡ 13 }
+    requires { lot.now.locks ≡ 14 }
 {
     thread::scope(
         thread::scope_env(),
         rt,
         |scope|
-            requires { lot.now.locks ≡ 13 }
+            requires { lot.now.locks ≡ 14 }
         {
             let job = move ||
-                requires { lot.now.locks ≡ 13 }
+                requires { lot.now.locks ≡ 14 }
             { meet(rt, lot, 1, one, zero) };
             assert!(rt; scope.spawn(job).is_ok());
             meet(rt, lot, 0, zero, one);
@@ -565,7 +572,7 @@ fn two_owners<N: LotName<Count> + Send + Sync, T: Threads + Wait + Sync + Abort>
     rt: &T,
     lot: &Lot<Count, N>,
 )
-    requires { lot.now.locks ≡ 13 }
+    requires { lot.now.locks ≡ 14 }
 {
     let zero = AtomicU64::new(0);
     let one = AtomicU64::new(0);
@@ -594,7 +601,7 @@ fn register_in_order<N: LotName<Count> + Send + Sync, T: Wait + Abort>(
 }
 
 fn write_and_find<N: LotName<Count> + Send + Sync, T: Wait + Abort>(rt: &T, lot: &Lot<Count, N>)
-    requires { lot.now.locks ≡ 13 }
+    requires { lot.now.locks ≡ 14 }
 {
     let zero = enter(rt, lot);
     let one = enter(rt, lot);
@@ -613,7 +620,7 @@ fn add<N: LotName<Count> + Send + Sync, T: Wait + Abort>(
     pass: Pass<Count, N>,
     want: u64,
 ) -> Pass<Count, N>
-    requires two { lot.now.locks ≡ 13 }
+    requires two { lot.now.locks ≡ 14 }
     requires free { OwnsNone pass }
     ensures { OwnsNone result }
 {
@@ -649,6 +656,22 @@ fn a_fair_unlock_hands_over_at_any_moment(rt: HostRuntime) {
 #[test]
 fn a_barging_opportunity_wakes(rt: HostRuntime) {
     on_lot(&rt, rt.alloc(), 3, Row::Sleeper(Way::Barging));
+}
+
+// After a handoff at moment 5 with word 7 the next fair moment is 12: a release at 12 is not fair, and one at 13 is.
+#[test]
+fn a_release_at_the_next_fair_moment_wakes(rt: HostRuntime) {
+    on_lot(&rt, rt.alloc(), 3, Row::AfterAHandoff(12, Released::Woke));
+}
+
+#[test]
+fn a_release_past_the_next_fair_moment_hands_over(rt: HostRuntime) {
+    on_lot(&rt, rt.alloc(), 3, Row::AfterAHandoff(13, Released::Handed));
+}
+
+#[test]
+fn the_fifth_registration_grows_past_sleepers(rt: HostRuntime) {
+    on_lot(&rt, rt.alloc(), 5, Row::GrowthWithSleepers);
 }
 
 #[test]

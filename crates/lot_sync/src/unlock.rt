@@ -1,11 +1,10 @@
 //! Letting a lock go, as WTF's `Lock::unlock` does: one compare-exchange where nobody waits, else one sleeper is taken from
 //! the line, and the lock is handed to it or left to whoever comes first.
-ghost use Rattle.std.specs.Prelude.{◌≡◌, ◌≢◌, ℕ, ◌+◌, ◌<◌, ◌≤◌, true, false, MatchBool, MatchOption, drop, length, List};
-ghost use Rattle.lot_sync.specs.Lot.{Owns, leaving};
+ghost use Rattle.std.specs.Prelude.{◌≡◌, ◌≢◌, ℕ, ◌+◌, ◌<◌, ◌≤◌, true, false, MatchBool, MatchOption, [], drop, length, ◌||◌};
+ghost use Rattle.lot_sync.specs.Lot.{Owns, IsWide, leaving};
 ghost use Rattle.lot_sync.specs.Values.{MayGiveBack};
-ghost use Rattle.lot_sync.specs.Passes.{IsAtRest, IsNewOwner, IsFoundParked, IsStill, LetsGo, sees, debts_of};
-ghost use Rattle.lot_sync.specs.Released.{IsFitting};
-ghost use Rattle.lot_words.specs.World.{Holds, HoldsParked};
+ghost use Rattle.lot_sync.specs.Passes.{IsNewOwner, IsFoundParked, MayPass, LetsGo, sees};
+ghost use Rattle.lot_sync.specs.Released.{IsFitting, decision};
 ghost use Rattle.lot_words.specs.Values.{IsIn, HasSeen};
 ghost use Rattle.lot_park.specs.Parking.{Tells, debt};
 
@@ -13,10 +12,10 @@ use crate::held::Held;
 use crate::lot::Lot;
 use crate::pass::{LotName, Pass};
 use crate::released::Released;
-use crate::scheme::{CalledBack, KeyRoot, LockScheme, NamedPass};
+use crate::scheme::NamedPass;
 use crate::steps::LockSteps;
 use lot_park::{Moment, ParkingLot, Token, UnparkResult};
-use lot_words::{Keeps, LockPass, Named};
+use lot_words::Keeps;
 use std::sync::Wait;
 
 impl<V: Keeps + Send, N: LotName<V> + Send> Lot<V, N> {
@@ -36,6 +35,7 @@ impl<V: Keeps + Send, N: LotName<V> + Send> Lot<V, N> {
         requires owns { Owns pass held.key }
         requires back { MayGiveBack V.keeps V.grows V.part pass held }
         ensures pass { result.0 ≡ leaving pass held.key held.value }
+        ensures wide { IsWide self.now.locks result.0 }
         ensures fits { IsFitting result.1 false moment.now }
     {
         self.release(rt, pass, held, moment, false)
@@ -54,6 +54,7 @@ impl<V: Keeps + Send, N: LotName<V> + Send> Lot<V, N> {
         requires owns { Owns pass held.key }
         requires back { MayGiveBack V.keeps V.grows V.part pass held }
         ensures pass { result.0 ≡ leaving pass held.key held.value }
+        ensures wide { IsWide self.now.locks result.0 }
         ensures fits { IsFitting result.1 true moment.now }
     {
         self.release(rt, pass, held, moment, true)
@@ -69,16 +70,17 @@ impl<V: Keeps + Send, N: LotName<V> + Send> Lot<V, N> {
         requires key { held.key < self.now.locks }
         requires owns { Owns pass held.key }
         requires back { MayGiveBack V.keeps V.grows V.part pass held }
-        ensures { MatchOption result.1 (result.0 ≡ leaving pass held.key held.value) (λ back. (back ≡ held) × (result.0 ≡ pass)) }
+        ensures freed { MatchOption result.1 (result.0 ≡ leaving pass held.key held.value) (λ back. (back ≡ held) × (result.0 ≡ pass)) }
+        ensures wide { IsWide self.now.locks result.0 }
     {
         let key = held.key();
         let right = self.given_back(pass, held, key);
         let (right, freed) = self.free(right, key);
         if freed {
-            (Pass::at_rest(right), None)
+            (self.at_rest(right), None)
         } else {
-            let (right, value) = self.words().value_out(right, key);
-            (Pass::at_rest(right), Some(Held::new(key, value)))
+            let (right, value) = self.value_out(right, key);
+            (self.at_rest(right), Some(Held::new(key, value)))
         }
     }
 
@@ -95,53 +97,51 @@ impl<V: Keeps + Send, N: LotName<V> + Send> Lot<V, N> {
         requires owns { Owns pass held.key }
         requires back { MayGiveBack V.keeps V.grows V.part pass held }
         ensures pass { result.0 ≡ leaving pass held.key held.value }
+        ensures wide { IsWide self.now.locks result.0 }
         ensures fits { IsFitting result.1 fair moment.now }
     {
         let key = held.key();
         let right = self.given_back(pass, held, key);
         let (right, released) = self.let_go(rt, right, key, moment, fair);
-        (Pass::at_rest(right), released)
+        (self.at_rest(right), released)
     }
 
     /// The value goes back into its slot.
     #[inline(always)]
-    fn given_back(&self, pass: Pass<V, N>, held: Held<V, N>, key: usize) -> LockPass<V>
+    fn given_back(&self, pass: Pass<V, N>, held: Held<V, N>, key: usize) -> NamedPass<V, N>
         requires key { (held.key ≡ key) × (key < self.now.locks) }
         requires owns { Owns pass key }
         requires back { MayGiveBack V.keeps V.grows V.part pass held }
-        ensures named { result.table ≡ N.opening.locks }
         ensures owner { IsNewOwner V.grows N.values N.threads result key }
-        ensures lies { IsIn result.values key held.value }
-        ensures grown { (u : V) → HasSeen result.values key u → V.grows u held.value }
+        ensures lies { IsIn result.own key held.value }
+        ensures grown { (u : V) → HasSeen result.own key u → V.grows u held.value }
         ensures same { sees result ≡ pass }
         ensures locks { key < length N.values }
     {
-        self.words()
-            .value_in(pass.into_right(), key, held.into_value())
+        self.value_in(pass.into_right(), key, held.into_value())
     }
 
     /// One compare-exchange: the lock is let go where nobody is parked.
     #[inline(always)]
-    fn free(&self, right: LockPass<V>, key: usize) -> (LockPass<V>, bool)
+    fn free(&self, right: NamedPass<V, N>, key: usize) -> (NamedPass<V, N>, bool)
         requires key { key < self.now.locks }
-        requires named { right.table ≡ N.opening.locks }
         requires owner { IsNewOwner V.grows N.values N.threads right key }
         ensures { MatchBool result.1 (LetsGo right key result.0) (IsFoundParked right key result.0) }
     {
-        self.words().free(right, key)
+        let (right, freed) = self.words().free(right.into_pass(), key);
+        (NamedPass::new(right), freed)
     }
 
     #[inline(always)]
     pub(crate) fn let_go<R: Wait>(
         &self,
         rt: &R,
-        right: LockPass<V>,
+        right: NamedPass<V, N>,
         key: usize,
         moment: Moment,
         fair: bool,
-    ) -> (LockPass<V>, Released)
+    ) -> (NamedPass<V, N>, Released)
         requires key { key < self.now.locks }
-        requires named { right.table ≡ N.opening.locks }
         requires owner { IsNewOwner V.grows N.values N.threads right key }
         ensures went { LetsGo right key result.0 }
         ensures fits { IsFitting result.1 fair moment.now }
@@ -160,66 +160,57 @@ impl<V: Keeps + Send, N: LotName<V> + Send> Lot<V, N> {
     fn let_go_slowly<R: Wait>(
         &self,
         rt: &R,
-        right: LockPass<V>,
+        right: NamedPass<V, N>,
         key: usize,
         moment: Moment,
         fair: bool,
-    ) -> (LockPass<V>, Released)
+    ) -> (NamedPass<V, N>, Released)
         requires key { key < self.now.locks }
-        requires named { right.table ≡ N.opening.locks }
-        requires calm { (right.pass.aim ≡ None) × (right.pass.asleep ≡ false) }
-        requires parked { HoldsParked right.pass key }
-        requires lies { (y : V) × IsIn right.values key y }
+        requires parked { MayPass right key }
         ensures went { LetsGo right key result.0 }
         ensures fits { IsFitting result.1 fair moment.now }
     {
-        let (right, told) = unpark(rt, &self.parking, self.words(), right, key, moment, fair);
-        let released = match told.thread {
-            None => Released::Nobody,
-            Some(_) if fair || told.fair => Released::Handed,
-            Some(_) => Released::Woke,
-        };
-        (right, released)
+        unpark(rt, &self.parking, right, key, moment, fair)
     }
 }
 
-/// Takes one sleeper from the line of the lock, and hands the lock to it or lets it go.
-fn unpark<V: Keeps + Send, N: LotName<V> + Send, W: LockSteps<V>, R: Wait>(
+/// Takes one sleeper from the line of the lock, and hands the lock to it or lets it go. What the callback decides is answered.
+fn unpark<S: LockSteps, R: Wait>(
     rt: &R,
-    parking: &ParkingLot<LockScheme<V, N>>,
-    words: &W,
-    right: LockPass<V>,
+    parking: &ParkingLot<S>,
+    right: S::Pass,
     key: usize,
     moment: Moment,
     fair: bool,
-) -> (LockPass<V>, UnparkResult)
-    requires named { (W.table words.now ≡ N.opening.locks) × (right.table ≡ N.opening.locks) }
-    requires calm { (right.pass.aim ≡ None) × (right.pass.asleep ≡ false) }
-    requires parked { HoldsParked right.pass key × ((y : V) × IsIn right.values key y) }
-    ensures went { LetsGo right key result.0 }
-    ensures told { (line : List ℕ) × Tells line moment.now result.1 }
+) -> (S::Pass, Released)
+    requires key { key < parking.now.keys }
+    requires may { S.may_pass right key }
+    ensures went { S.lets_go right key result.0 }
+    ensures fits { IsFitting result.1 fair moment.now }
 {
-    let (right, told) = parking.unpark_one(
+    let scheme = parking.scheme();
+    let (went, _) = parking.unpark_one(
         rt,
         key,
         moment,
-        Named::new(right),
-        |pass: NamedPass<V, N>, root: KeyRoot<V, N>, told: UnparkResult| -> CalledBack<V, N>
-            requires table { W.table words.now ≡ N.opening.locks }
-            requires calm { (pass.pass.aim ≡ None) × (pass.pass.asleep ≡ false) }
-            requires parked { HoldsParked pass.pass root.root.key }
-            requires lies { (y : V) × IsIn pass.values root.root.key y }
-            requires clear { root.root.owes ≡ None }
-            requires told { (now : ℕ) × Tells root.root.line now told }
-            ensures went { LetsGo pass root.root.key result.0 }
-            ensures key { result.1.root.key ≡ root.root.key }
-            ensures line { result.1.root.line ≡ drop 1 root.root.line }
-            ensures owes { debts_of result.1.root.owes ≡ debt told.thread result.2.0 }
+        (right, Released::Nobody),
+        |x: (S::Pass, Released), root: S::Root, told: UnparkResult| -> (
+            (S::Pass, Released),
+            S::Root,
+            Token,
+        )
+            requires may { S.may_pass x.0 (S.Root.key root) }
+            requires clear { S.Root.owes root ≡ [] }
+            requires told { (now : ℕ) × Tells (S.Root.line root) now told }
+            ensures went { S.lets_go x.0 (S.Root.key root) result.0.0 }
+            ensures key { S.Root.key result.1 ≡ S.Root.key root }
+            ensures line { S.Root.line result.1 ≡ drop 1 (S.Root.line root) }
+            ensures decided { result.0.1 ≡ decision told.thread (fair || told.fair) }
+            ensures owes { S.Root.owes result.1 ≡ debt told.thread result.2.0 }
         {
-            let (pass, root) = (pass.into_inner(), root.into_root());
-            let (pass, root, token) = words.hand_over(pass, root, told, fair);
-            (Named::new(pass), KeyRoot::new(root), token)
+            let (pass, root, token, released) = scheme.hand_over(x.0, root, told, fair);
+            ((pass, released), root, token)
         },
     );
-    (right.into_inner(), told)
+    went
 }

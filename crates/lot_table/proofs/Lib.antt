@@ -1,4 +1,6 @@
 mod Guarding
+mod Lending
 mod Making
 mod Moving
 mod Roots
+mod Spending

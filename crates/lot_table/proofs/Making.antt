@@ -7,7 +7,8 @@ use Rattle.std.proofs.Math.ListN.{get_or-append}
 use Rattle.std.proofs.Math.Seq.{get_or-append_seam}
 use Rattle.lot_bucket.specs.Places.{empty_places, has_key, root_at}
 use Rattle.lot_bucket.specs.Contents.{Contents}
-use Rattle.lot_table.specs.Buckets.{is_among, IsFresh}
+use Rattle.lot_bucket.specs.Settled.{IsWhole}
+use Rattle.lot_table.specs.Buckets.{is_among, IsFresh, IsFilled}
 
 -- one more element at the end of a list, each of which has P of its number
 pub each_more : {A : Type 0} (P : ℕ → A → Type 0) (n : ℕ) (xs ys : List A) (x : A) → ys ≡ xs ++ x ∷ [] → length xs ≡ n
@@ -19,6 +20,21 @@ each_more {A} P n xs ys x is len each here i d lt =
           rw at (rw (get_or-append_seam xs x [] d, len) here)
       | inr e ↦ let l : i < length xs = omega (arith, e.1, len) in rw (get_or-append xs (x ∷ []) d i l) (each i d l)
     ])
+
+-- the last of a list of which each has P of its number, and those before it
+pub each_last : {A : Type 0} (P : ℕ → A → Type 0) (n : ℕ) (xs ys : List A) (x : A) → ys ≡ xs ++ x ∷ [] → length xs ≡ n
+    → ((i : ℕ) (d : A) → i < length ys → P i (get_or ys i d)) → P n x
+each_last {A} P n xs ys x is len each =
+    let lt : length xs < length ys = omega (arith, ap (λ (zs : List A). length zs) is, length-append xs (x ∷ [])) in
+    let here : get_or ys (length xs) x ≡ x = rw is (get_or-append_seam xs x [] x) in
+    rw (← len) (rw here at (each (length xs) x lt))
+
+pub each_rest : {A : Type 0} (P : ℕ → A → Type 0) (xs ys : List A) (x : A) → ys ≡ xs ++ x ∷ []
+    → ((i : ℕ) (d : A) → i < length ys → P i (get_or ys i d)) → (i : ℕ) (d : A) → i < length xs → P i (get_or xs i d)
+each_rest {A} P xs ys x is each i d lt =
+    let l : i < length ys = omega (arith, lt, ap (λ (zs : List A). length zs) is, length-append xs (x ∷ [])) in
+    let here : get_or ys i d ≡ get_or xs i d = rw is (get_or-append xs (x ∷ []) d i lt) in
+    rw here at (each i d l)
 
 is_among-push : (k x : ℕ) (keys : List ℕ) → is_among k (keys ++ x ∷ []) ≡ (if x == k then true else is_among k keys)
 is_among-push k x [] = refl
@@ -72,3 +88,9 @@ fresh_made R size number keys threads own b among is =
       empty = ap (λ (c : Contents R). c.queue) is;
       room = ap (λ (c : Contents R). c.room) is;
     }
+
+-- a filled bucket that was opened
+pub opened_whole : {R : Type 0} (key : R → ℕ) (line : R → List ℕ) (owes : R → List (ℕ × ℕ)) (size number keys : ℕ) (b c : Contents R) → IsFilled key line owes size number keys b
+    → c ≡ record b { opened = true } → IsWhole key line owes size number keys c
+opened_whole key line owes size number keys b c filled is =
+    rw is (record { is_open = refl; agrees = record { roots = filled.agrees.roots; pairs = filled.agrees.pairs }; laid_out = filled.laid_out })

@@ -112,12 +112,29 @@ module _ {R : Type 0} where
       step : line_of k from.queue ≡ t ∷ line_of k (without_first k from.queue)
       step = first_moves k t from first
 
-  pub moving_ends : (k : ℕ) (from0 to0 from to b : Contents R) → IsMoving k from0 to0 from to → line_of k from.queue ≡ [] → b ≡ record from { queue = without_first k from.queue }
+  -- while a line is taken out, thread by thread
+  pub record IsLeaving (k : ℕ) (from0 from : Contents R) : Type 0 where
+    pub others : without_key k from.queue ≡ without_key k from0.queue
+    pub from_is : from ≡ record from0 { queue = from.queue }
+
+  pub leaving_more : (k : ℕ) (from0 from b : Contents R) → IsLeaving k from0 from → b ≡ record from { queue = without_first k from.queue } → IsLeaving k from0 b
+  leaving_more k from0 from b i taken =
+      let queue : b.queue ≡ without_first k from.queue = ap (λ (x : Contents R). x.queue) taken in
+      record {
+        others = rw queue (without_key-without_first k from.queue ∙ i.others);
+        from_is = taken ∙ ap (λ (x : Contents R). record x { queue = without_first k from.queue }) i.from_is ∙ ap (λ (q : List (ℕ × ℕ)). record from0 { queue = q }) (sym queue);
+      }
+
+  pub leaving_ends : (k : ℕ) (from0 from b : Contents R) → IsLeaving k from0 from → line_of k from.queue ≡ [] → b ≡ record from { queue = without_first k from.queue }
       → b ≡ record from0 { queue = without_key k from0.queue }
-  moving_ends k from0 to0 from to b i none taken =
+  leaving_ends k from0 from b i none taken =
       let empty : line_of k (without_first k from.queue) ≡ [] = line_of-without_first_same k from.queue ∙ ap (λ l. drop 1 l) none in
       let same : without_first k from.queue ≡ without_key k from0.queue = sym (without_key_none k (without_first k from.queue) empty) ∙ without_key-without_first k from.queue ∙ i.others in
       taken ∙ ap (λ (x : Contents R). record x { queue = without_first k from.queue }) i.from_is ∙ ap (λ (q : List (ℕ × ℕ)). record from0 { queue = q }) same
+
+  pub moving_ends : (k : ℕ) (from0 to0 from to b : Contents R) → IsMoving k from0 to0 from to → line_of k from.queue ≡ [] → b ≡ record from { queue = without_first k from.queue }
+      → b ≡ record from0 { queue = without_key k from0.queue }
+  moving_ends k from0 to0 from to b i none taken = leaving_ends k from0 from b (record { others = i.others; from_is = i.from_is }) none taken
 
   -- an old bucket, once the keys below m were moved
   pub record IsLeft (m : ℕ) (before b : Contents R) : Type 0 where
@@ -232,25 +249,31 @@ module _ {R : Type 0} where
       not_here : (k : ℕ) → k % size ≡ i → m ≢ k
       not_here k at e = elsewhere (ap (λ (n : ℕ). n % size) e ∙ at)
 
+  -- old buckets, once the keys below m were moved
+  abbrev pub AreLeft : ℕ → List (Contents R) → List (Contents R) → Type 0
+  AreLeft m old0 old = (i : ℕ) (d : Contents R) → i < length old0 → IsLeft m (get_or old0 i d) (get_or old i d)
+
+  pub left_begins : (old : List (Contents R)) → AreLeft 0 old old
+  left_begins old i d lt = record { keys = λ k. refl; gone_line = λ k l. absurd (omega arith); gone_root = λ k l. absurd (omega arith); kept_line = λ k le. refl; kept_root = λ k le. refl }
+
+  pub some_left : (m : ℕ) (old0 old : List (Contents R)) (j : ℕ) (c : Contents R) → length old ≡ length old0
+      → ((i : ℕ) (d : Contents R) → i < length old0 → i ≢ j → line_of m (get_or old0 i d).queue ≡ [])
+      → ((i : ℕ) (d : Contents R) → i < length old0 → i ≢ j → root_at m (get_or old0 i d).places ≡ None)
+      → ((d : Contents R) → IsLeft (m + 1) (get_or old0 j d) c)
+      → AreLeft m old0 old → AreLeft (m + 1) old0 (set old j c)
+  some_left m old0 old j c len nobody rootless here left i d bound =
+      elim (eqb_tells i j) [
+        | inl e ↦ rw (← e.1, get_or-set_same old i c d (omega (arith, len))) (rw (← e.1) at (here d))
+        | inr e ↦ rw (get_or-set_other old j i c d e.1) (left_there m (get_or old0 i d) (get_or old i d) (nobody i d bound e.1) (rootless i d bound e.1) (left i d bound))
+      ]
+
   -- the buckets of both tables, once the keys below m were moved
   pub record AreMoved (m : ℕ) (old0 new0 old new : List (Contents R)) : Type 0 where
     pub old_len : length old ≡ length old0
     pub new_len : length new ≡ length new0
-    pub left : (i : ℕ) (d : Contents R) → i < length old0 → IsLeft m (get_or old0 i d) (get_or old i d)
+    pub left : AreLeft m old0 old
     pub come : (i : ℕ) (d : Contents R) → i < length new0 → HasCome m (length new0) i old0 (get_or new0 i d) (get_or new i d)
     pub all : queued old + queued new ≡ queued old0
-
-  pub some_left : (m : ℕ) (old0 new0 old new : List (Contents R)) (j : ℕ) (c : Contents R) → j < length old0
-      → ((i : ℕ) (d : Contents R) → i < length old0 → i ≢ j → line_of m (get_or old0 i d).queue ≡ [])
-      → ((i : ℕ) (d : Contents R) → i < length old0 → i ≢ j → root_at m (get_or old0 i d).places ≡ None)
-      → ((d : Contents R) → IsLeft (m + 1) (get_or old0 j d) c)
-      → AreMoved m old0 new0 old new
-      → (i : ℕ) (d : Contents R) → i < length old0 → IsLeft (m + 1) (get_or old0 i d) (get_or (set old j c) i d)
-  some_left m old0 new0 old new j c lt nobody rootless here a i d bound =
-      elim (eqb_tells i j) [
-        | inl e ↦ rw (e.1, get_or-set_same old j c d (omega (arith, a.old_len))) (here d)
-        | inr e ↦ rw (get_or-set_other old j i c d e.1) (left_there m (get_or old0 i d) (get_or old i d) (nobody i d bound e.1) (rootless i d bound e.1) (a.left i d bound))
-      ]
 
   pub some_come : (m : ℕ) (old0 new0 old new : List (Contents R)) (j : ℕ) (c : Contents R) → j ≡ m % length new0 → j < length new0
       → ((d : Contents R) → HasCome (m + 1) (length new0) j old0 (get_or new0 j d) c)
@@ -312,25 +335,42 @@ one_number {R} key line owes n m buckets some whole other =
     let le : n ≤ m = at_most key line owes n m buckets d some whole other in
     let ge : m ≤ n = at_most key line owes m n buckets d some other whole in omega arith
 
+module _ {R : Type 0} (key : R → ℕ) (line : R → List ℕ) (owes : R → List (ℕ × ℕ)) (n : ℕ) (old0 : List (Contents R)) (whole : AreWhole key line owes n old0) where
+  pub nobody_else : (m i : ℕ) (d : Contents R) → i < length old0 → i ≢ m % length old0 → line_of m (get_or old0 i d).queue ≡ []
+  nobody_else m i d lt other = (whole i d lt).agrees.pairs m (has_not m (length old0) i n _ ((whole i d lt).laid_out m) (λ e. other (sym e)))
+
+  pub no_root_else : (m i : ℕ) (d : Contents R) → i < length old0 → i ≢ m % length old0 → root_at m (get_or old0 i d).places ≡ None
+  no_root_else m i d lt other = rootless m (get_or old0 i d).places (has_not m (length old0) i n _ ((whole i d lt).laid_out m) (λ e. other (sym e)))
+
+  pub nobody_past : (k : ℕ) (i : ℕ) (d : Contents R) → i < length old0 → n ≤ k → line_of k (get_or old0 i d).queue ≡ []
+  nobody_past k i d lt le = (whole i d lt).agrees.pairs k (has_past k (length old0) i n _ ((whole i d lt).laid_out k) le)
+
+  pub no_root_past : (k : ℕ) (i : ℕ) (d : Contents R) → i < length old0 → n ≤ k → root_at k (get_or old0 i d).places ≡ None
+  no_root_past k i d lt le = rootless k (get_or old0 i d).places (has_past k (length old0) i n _ ((whole i d lt).laid_out k) le)
+
+  -- where all keys were moved, nothing is left
+  pub emptied : (old : List (Contents R)) → length old ≡ length old0 → AreLeft n old0 old → AreEmpty key line owes old
+  emptied old len left i d bound =
+      let lt : i < length old0 = omega (arith, len) in
+      let l = left i d lt in
+      record {
+        rootless = λ k. elim (leb_tells n k) [
+          | inl e ↦ l.kept_root k e.1 ∙ no_root_past k i d lt e.1
+          | inr e ↦ l.gone_root k e.1
+        ];
+        empty = nobody_waits (get_or old i d).queue (λ k. elim (leb_tells n k) [
+          | inl e ↦ l.kept_line k e.1 ∙ nobody_past k i d lt e.1
+          | inr e ↦ l.gone_line k e.1
+        ]);
+      }
+
 module _ {R : Type 0} (key : R → ℕ) (line : R → List ℕ) (owes : R → List (ℕ × ℕ)) (n : ℕ) (old0 new0 : List (Contents R)) (may : MayRegrow key line owes n old0 new0) where
-  nobody_else : (m i : ℕ) (d : Contents R) → i < length old0 → i ≢ m % length old0 → line_of m (get_or old0 i d).queue ≡ []
-  nobody_else m i d lt other = (may.whole i d lt).agrees.pairs m (has_not m (length old0) i n _ ((may.whole i d lt).laid_out m) (λ e. other (sym e)))
-
-  no_root_else : (m i : ℕ) (d : Contents R) → i < length old0 → i ≢ m % length old0 → root_at m (get_or old0 i d).places ≡ None
-  no_root_else m i d lt other = rootless m (get_or old0 i d).places (has_not m (length old0) i n _ ((may.whole i d lt).laid_out m) (λ e. other (sym e)))
-
-  nobody_past : (k : ℕ) (i : ℕ) (d : Contents R) → i < length old0 → n ≤ k → line_of k (get_or old0 i d).queue ≡ []
-  nobody_past k i d lt le = (may.whole i d lt).agrees.pairs k (has_past k (length old0) i n _ ((may.whole i d lt).laid_out k) le)
-
-  no_root_past : (k : ℕ) (i : ℕ) (d : Contents R) → i < length old0 → n ≤ k → root_at k (get_or old0 i d).places ≡ None
-  no_root_past k i d lt le = rootless k (get_or old0 i d).places (has_past k (length old0) i n _ ((may.whole i d lt).laid_out k) le)
-
   pub moved_begins : AreMoved 0 old0 new0 old0 new0
   moved_begins =
       record {
         old_len = refl;
         new_len = refl;
-        left = λ i d lt. record { keys = λ k. refl; gone_line = λ k l. absurd (omega arith); gone_root = λ k l. absurd (omega arith); kept_line = λ k le. refl; kept_root = λ k le. refl };
+        left = left_begins old0;
         come = λ i d lt. record {
           keys = λ k. refl;
           room = refl;
@@ -412,7 +452,7 @@ module _ {R : Type 0} (key : R → ℕ) (line : R → List ℕ) (owes : R → Li
           record {
             old_len = length-set old (m % length old0) b ∙ a.old_len;
             new_len = length-set new (m % length new0) c ∙ a.new_len;
-            left = some_left m old0 new0 old new (m % length old0) b at_old (λ i d l other. nobody_else m i d l other) (λ i d l other. no_root_else m i d l other) (λ d. left_here m (get_or old0 (m % length old0) d) from b (own_old d) (left_now d) left) a;
+            left = some_left m old0 old (m % length old0) b a.old_len (nobody_else key line owes n old0 may.whole m) (no_root_else key line owes n old0 may.whole m) (λ d. left_here m (get_or old0 (m % length old0) d) from b (own_old d) (left_now d) left) a.left;
             come = some_come m old0 new0 old new (m % length new0) c refl at_new
                 (λ d. come_here m (length new0) old0 (get_or new0 (m % length new0) d) to c (line_of m from.queue) (root_at m from.places) (own_new d) (come_now d)
                 (λ e. (left_now e).kept_line m (omega arith)) (λ e. (left_now e).kept_root m (omega arith)) come) a;
@@ -430,7 +470,7 @@ module _ {R : Type 0} (key : R → ℕ) (line : R → List ℕ) (owes : R → Li
         let at_new : k % length new0 < length new0 = omega (arith, may.some_new) in
         let come = a.come (k % length new0) d at_new in
         rw (a.new_len) (elim (leb_tells n k) [
-          | inl e ↦ (come.no_line k (λ lt. absurd (omega (arith, e.1))) ∙ sym (nobody_past k (k % length old0) d at_old e.1), come.no_root k (λ lt. absurd (omega (arith, e.1))) ∙ sym (no_root_past k (k % length old0) d at_old e.1))
+          | inl e ↦ (come.no_line k (λ lt. absurd (omega (arith, e.1))) ∙ sym (nobody_past key line owes n old0 may.whole k (k % length old0) d at_old e.1), come.no_root k (λ lt. absurd (omega (arith, e.1))) ∙ sym (no_root_past key line owes n old0 may.whole k (k % length old0) d at_old e.1))
           | inr e ↦ (come.come_line k d e.1 refl, come.come_root k d e.1 refl)
         ])
 
@@ -451,19 +491,7 @@ module _ {R : Type 0} (key : R → ℕ) (line : R → List ℕ) (owes : R → Li
             (own.0, come.come_root k d is.1 is.0 ∙ own.1, record { named = own.2.named; same_line = own.2.same_line ∙ sym (come.come_line k d is.1 is.0); paid = own.2.paid })
 
     pub moved_empty : AreEmpty key line owes old
-    moved_empty i d bound =
-        let lt : i < length old0 = omega (arith, a.old_len) in
-        let l = a.left i d lt in
-        record {
-          rootless = λ k. elim (leb_tells n k) [
-            | inl e ↦ l.kept_root k e.1 ∙ no_root_past k i d lt e.1
-            | inr e ↦ l.gone_root k e.1
-          ];
-          empty = nobody_waits (get_or old i d).queue (λ k. elim (leb_tells n k) [
-            | inl e ↦ l.kept_line k e.1 ∙ nobody_past k i d lt e.1
-            | inr e ↦ l.gone_line k e.1
-          ]);
-        }
+    moved_empty = emptied key line owes n old0 may.whole old a.old_len a.left
 
     pub moved_filled_for : (keys : ℕ) → AreWhole key line owes keys old0 → AreFilled key line owes keys new
     moved_filled_for keys whole = subst (λ (x : ℕ). AreFilled key line owes x new) (one_number key line owes n keys old0 may.some_old may.whole whole) moved_filled

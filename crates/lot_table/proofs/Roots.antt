@@ -4,14 +4,14 @@ use Rattle.std.specs.Prelude.{nat_lt, slice_get, ◌==◌}
 use Rattle.std.proofs.lemmas.Bool.Decides.{eqb_tells}
 use Rattle.std.proofs.lemmas.List.{get_or_default, length-set}
 use Rattle.std.proofs.lemmas.Option.{slice_get_cases}
-use Rattle.lot_bucket.specs.Queue.{line_of}
+use Rattle.lot_bucket.specs.Queue.{line_of, without_key}
 use Rattle.lot_bucket.specs.Places.{has_key, root_at, with_root}
 use Rattle.lot_bucket.specs.Contents.{Contents}
 use Rattle.lot_bucket.specs.Agrees.{IsRootOf}
 use Rattle.lot_bucket.proofs.Laws.{root_at-with_same, root_at-with_other, has_key-with}
-use Rattle.lot_table.specs.Buckets.{AreFresh, AreWhole, AreFilled}
+use Rattle.lot_table.specs.Buckets.{AreFresh, AreWhole, AreFilled, AreEmpty}
 use Rattle.lot_table.specs.Roots.{AreIdle, Appends}
-use Rattle.lot_table.proofs.Moving.{has_own, own_of_has}
+use Rattle.lot_table.proofs.Moving.{IsLeft, AreLeft, has_own, own_of_has, left_begins, left_here, some_left, nobody_else, no_root_else, emptied}
 
 module _ {R : Type 0} where
   slice_get_front : (xs : List R) (x : R) (k : ℕ) → k < length xs → slice_get (xs ++ x ∷ []) k ≡ slice_get xs k
@@ -160,14 +160,14 @@ module _ {R : Type 0} (key : R → ℕ) (line : R → List ℕ) (owes : R → Li
   pub record AreTaking (m : ℕ) (opening buckets : List (Contents R)) (before out : List R) : Type 0 where
     pub len : length buckets ≡ length opening
     pub taken : Appends key owes m before out
-    pub left : (k : ℕ) (d : Contents R) → m ≤ k → root_at k (get_or buckets (k % length opening) d).places ≡ root_at k (get_or opening (k % length opening) d).places
+    pub left : AreLeft m opening buckets
 
   pub taking_begins : (buckets : List (Contents R)) (out : List R) → AreTaking 0 buckets buckets out out
   taking_begins buckets out =
       record {
         len = refl;
         taken = record { roots = []; appended = sym (append-nil out); each = refl; named = λ i root at. absurd cc; paid = λ i root at. absurd cc };
-        left = λ k d le. refl;
+        left = left_begins buckets;
       }
 
   module _ (keys m : ℕ) (opening buckets : List (Contents R)) (before out : List R) (r : Contents R) (whole : AreWhole key line owes keys opening) (some : 0 < length opening) (lt : m < keys)
@@ -182,10 +182,10 @@ module _ {R : Type 0} (key : R → ℕ) (line : R → List ℕ) (owes : R → Li
 
     -- the root of the next key is there
     pub taking_root : (x : R) × (root_at m (get_or buckets (m % length opening) r).places ≡ Some x)
-    taking_root = (found.0, t.left m r (omega arith) ∙ found.1)
+    taking_root = (found.0, (t.left (m % length opening) r place).kept_root m (omega arith) ∙ found.1)
 
     pub taking_more : (c : Contents R) (after : List R) (root : R) → root_at m (get_or buckets (m % length opening) r).places ≡ Some root
-        → c ≡ record (get_or buckets (m % length opening) r) { places = with_root m None (get_or buckets (m % length opening) r).places } → after ≡ out ++ root ∷ []
+        → c ≡ record (get_or buckets (m % length opening) r) { places = with_root m None (get_or buckets (m % length opening) r).places; queue = without_key m (get_or buckets (m % length opening) r).queue } → after ≡ out ++ root ∷ []
         → AreTaking (m + 1) opening (set buckets (m % length opening) c) before after
     unfolding found taking_root
     taking_more c after root at took pushed =
@@ -198,7 +198,7 @@ module _ {R : Type 0} (key : R → ℕ) (line : R → List ℕ) (owes : R → Li
             named = λ j x e. elim (slice_get-push j t.taken.roots root x e) [ inl f ↦ t.taken.named j x f | inr f ↦ rw (← f.1, f.0, t.taken.each) own.named ];
             paid = λ j x e. elim (slice_get-push j t.taken.roots root x e) [ inl f ↦ t.taken.paid j x f | inr f ↦ rw (← f.1) own.paid ];
           };
-          left = left;
+          left = some_left m opening buckets (m % length opening) c t.len (nobody_else key line owes keys opening whole m) (no_root_else key line owes keys opening whole m) here t.left;
         }
       where
         own : IsRootOf key line owes m (get_or opening (m % length opening) r).queue root
@@ -206,15 +206,14 @@ module _ {R : Type 0} (key : R → ℕ) (line : R → List ℕ) (owes : R → Li
             let same : found.0 ≡ root = let e : Some found.0 ≡ Some root = sym taking_root.1 ∙ at in cc in
             subst (λ (x : R). IsRootOf key line owes m (get_or opening (m % length opening) r).queue x) same found.2
 
-        left : (k : ℕ) (d : Contents R) → m + 1 ≤ k → root_at k (get_or (set buckets (m % length opening) c) (k % length opening) d).places ≡ root_at k (get_or opening (k % length opening) d).places
-        left k d le =
-            elim (eqb_tells (k % length opening) (m % length opening)) [
-              | inl e ↦
-                  rw (e.1, get_or-set_same buckets (m % length opening) c d (omega (arith, t.len, place)))
-                  (ap (λ (x : Contents R). root_at k x.places) took
-                  ∙ root_at-with_other k m None (get_or buckets (m % length opening) r).places (λ x. omega arith)
-                  ∙ ap (λ (x : Contents R). root_at k x.places) (get_or_default buckets (m % length opening) r d (omega (arith, t.len, place)))
-                  ∙ ap (λ (i : ℕ). root_at k (get_or buckets i d).places) (sym e.1) ∙ t.left k d (omega arith)
-                  ∙ ap (λ (i : ℕ). root_at k (get_or opening i d).places) e.1)
-              | inr e ↦ rw (get_or-set_other buckets (m % length opening) (k % length opening) c d e.1) (t.left k d (omega arith))
-            ]
+        here : (d : Contents R) → IsLeft (m + 1) (get_or opening (m % length opening) d) c
+        here d =
+            left_here m (get_or opening (m % length opening) d) (get_or buckets (m % length opening) r) c
+            (has_own m (length opening) (m % length opening) keys _ ((whole (m % length opening) d place).laid_out m) refl lt)
+            (rw (get_or_default buckets (m % length opening) r d (omega (arith, t.len, place))) (t.left (m % length opening) d place)) took
+
+  -- once all keys' roots are out, nothing is left
+  pub taking_ends : (keys m : ℕ) (opening buckets : List (Contents R)) (before out : List R) → AreWhole key line owes keys opening → m ≡ keys
+      → AreTaking m opening buckets before out → AreEmpty key line owes buckets
+  taking_ends keys m opening buckets before out whole all t =
+      emptied key line owes keys opening whole buckets t.len (rw all at t.left)

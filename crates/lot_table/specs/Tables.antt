@@ -9,6 +9,10 @@ pub record Bounds : Type 0 where
   pub threads : ℕ
   pub keys : ℕ
 
+-- how many buckets a version has
+pub record Extent : Type 0 where
+  pub size : ℕ
+
 -- the buckets behind locked locks
 abbrev pub under : {R : Type 0} → List (MutexGuard (Lying R)) → List (Contents R)
 under {R} guards = map (λ (g : MutexGuard (Lying R)). (mutex_guard_value g).bucket) guards

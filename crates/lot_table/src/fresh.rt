@@ -1,6 +1,7 @@
 //! The new buckets of a table, and their keys.
 
-ghost use Rattle.std.specs.Prelude.{◌≡◌, ℕ, ◌<◌, ◌%◌, ◌==◌, nat_lt, ◌&&◌, IfOk, vec_len};
+ghost use Rattle.std.specs.Prelude.{◌≡◌, ℕ, ◌<◌, ◌%◌, ◌==◌, nat_lt, ◌&&◌, IfOk, slice_index_or, vec_len};
+ghost use Rattle.lot_bucket.specs.Agrees.{IsSpent};
 ghost use Rattle.lot_table.specs.Buckets.{is_among, IsFresh, AreFresh};
 
 use crate::sizes::TableFault;
@@ -20,9 +21,26 @@ pub fn fresh_buckets<R: Root>(
 {
     let mut buckets = Vec::with_capacity(alloc, size)?;
     for number in 0..size {
-        buckets.push_reserved(fresh_bucket(alloc, number, size, keys, threads)?);
+        match fresh_bucket(alloc, number, size, keys, threads) {
+            Ok(bucket) => buckets.push_reserved(bucket),
+            Err(fault) => {
+                discard_all(buckets);
+                return Err(fault);
+            }
+        }
     }
     Ok(buckets)
+}
+
+/// Spends new buckets that are not used.
+pub fn discard_all<R: Root>(buckets: Vec<Bucket<R>>)
+    requires { (i : ℕ) (b : _) → i < vec_len buckets → IsSpent (slice_index_or buckets.items i b) }
+{
+    let mut buckets = buckets;
+    while let Some(bucket) = buckets.pop() {
+        bucket.discard();
+    }
+    buckets.destroy_empty();
 }
 
 fn fresh_bucket<R: Root>(

@@ -1,63 +1,150 @@
-//! What a grower does once it has all the memory that it needs.
+//! Growth: the one thing that takes memory for a table that is in use.
 
 ghost use Rattle.std.specs.Prelude.{◌≡◌, ℕ, ◌<◌, ◌≤◌, ◌^◌, List, [], length, IsTrue, IfOk, vec_len, vec_capacity};
 ghost use Rattle.std.specs.Sync.Mutex.{mutex_guard_value};
 ghost use Rattle.lot_bucket.specs.Contents.{Contents};
-ghost use Rattle.lot_table.specs.Buckets.{queued, AreFresh, AreWhole, AreFilled, KeepsLines};
+ghost use Rattle.lot_table.specs.Buckets.{queued, AreFresh, AreWhole};
 ghost use Rattle.lot_table.specs.Tables.{under};
 
+use crate::closing::spend_empty;
+use crate::fresh::{discard_all, fresh_buckets};
 use crate::moves::regrow;
+use crate::sizes::TableFault;
 use crate::version::Version;
 use lot_bucket::{Bucket, Root, Settled};
-use once_cell::race::OnceBox;
 use std::alloc::Global;
 use std::mem;
-use std::sync::{Mutex, MutexGuard, Wait};
+use std::sync::{MutexGuard, OnceLock, Wait};
 
-/// Grows from `version` to `grown`, which is published in `cell`, and says whether it did. It takes no memory.
+/// The allocator of a table, in the hands of growth alone.
 ///
-/// Where a bucket of `version` is not in use, where more than `threads` wait, or where the cell is set, it lets
-/// all locks go and nothing has changed.
-pub fn grow<'a, W: Wait, R: Root>(
+/// The field is private, and so are the rows of a table, which know their allocators: so no other call of a table
+/// that is in use can ask for memory.
+#[derive(Drop)]
+pub struct Grower {
+    alloc: Global,
+}
+
+impl Grower {
+    pub fn new(alloc: Global) -> Grower {
+        Grower { alloc }
+    }
+
+    /// Takes all memory that a growth to `size` buckets needs, and then lets the table grow from `version` to a
+    /// new one, which is published in `cell`. It says whether it did.
+    ///
+    /// Where a bucket of `version` is not in use, where more than `threads` wait, or where the cell is set, it
+    /// lets all locks go and nothing has changed.
+    pub fn grow<W: Wait, R: Root>(
+        &self,
+        rt: &W,
+        version: &Version<R>,
+        cell: &OnceLock<Version<R>>,
+        size: usize,
+        keys: usize,
+        threads: usize,
+    ) -> Result<bool, TableFault>
+        requires { 0 < size }
+    {
+        let supplies = supplies_for(rt, self.alloc, version.size(), size, keys, threads)?;
+        Ok(grow_with(rt, self.alloc, version, cell, supplies, keys, threads))
+    }
+}
+
+// What a grower works with: room for the locks and for the buckets that it takes out from under them, the new
+// buckets, and the new version, which they are to fill.
+struct Supplies<'a, R: Root> {
+    guards: Vec<MutexGuard<'a, Settled<R>>>,
+    old: Vec<Bucket<R>>,
+    fresh: Vec<Bucket<R>>,
+    grown: Version<R>,
+}
+
+fn supplies_for<'a, W: Wait, R: Root>(
+    rt: &W,
+    alloc: Global,
+    left: usize,
+    size: usize,
+    keys: usize,
+    threads: usize,
+) -> Result<Supplies<'a, R>, TableFault>
+    requires { 0 < size }
+    ensures guards { IfOk result (λ s. (vec_len s.guards ≡ 0) × (left ≤ vec_capacity s.guards)) }
+    ensures old { IfOk result (λ s. (s.old.items ≡ []) × (left ≤ vec_capacity s.old)) }
+    ensures fresh { IfOk result (λ s. AreFresh keys threads s.fresh.items) }
+    ensures sizes { IfOk result (λ s. vec_len s.fresh ≡ s.grown.size) }
+{
+    let guards = Vec::with_capacity(alloc, left)?;
+    let grown = Version::hollow(alloc, size)?;
+    let fresh = match fresh_buckets(alloc, size, keys, threads) {
+        Ok(fresh) => fresh,
+        Err(fault) => {
+            grown.discard(rt);
+            return Err(fault);
+        }
+    };
+    match Vec::with_capacity(alloc, left) {
+        Ok(old) => Ok(Supplies {
+            guards,
+            old,
+            fresh,
+            grown,
+        }),
+        Err(_) => {
+            discard_all(fresh);
+            grown.discard(rt);
+            Err(TableFault::NoMemory)
+        }
+    }
+}
+
+// Spends what was not used.
+fn abandon<W: Wait, R: Root>(rt: &W, old: Vec<Bucket<R>>, fresh: Vec<Bucket<R>>, grown: Version<R>)
+    requires old { old.items ≡ [] }
+    requires fresh { (keys threads : ℕ) × AreFresh keys threads fresh.items }
+{
+    old.destroy_empty();
+    discard_all(fresh);
+    grown.discard(rt);
+}
+
+fn grow_with<'a, W: Wait, R: Root>(
     rt: &W,
     alloc: Global,
     version: &'a Version<R>,
-    cell: &OnceBox<Version<R>>,
-    grown: Box<Version<R>>,
+    cell: &OnceLock<Version<R>>,
     supplies: Supplies<'a, R>,
     keys: usize,
     threads: usize,
 ) -> bool
-    requires guards { (vec_len supplies.guards ≡ 0) × (vec_len version.now.buckets ≤ vec_capacity supplies.guards) }
-    requires old { (supplies.old.items ≡ []) × (vec_len version.now.buckets ≤ vec_capacity supplies.old) }
+    requires guards { (vec_len supplies.guards ≡ 0) × (version.now.size ≤ vec_capacity supplies.guards) }
+    requires old { (supplies.old.items ≡ []) × (version.now.size ≤ vec_capacity supplies.old) }
     requires fresh { AreFresh keys threads supplies.fresh.items }
-    requires fresh_len { vec_len supplies.fresh ≡ vec_len grown.value.buckets }
+    requires sizes { vec_len supplies.fresh ≡ supplies.grown.size }
 {
     let Supplies {
         mut guards,
-        mut old,
-        mut fresh,
+        old,
+        fresh,
+        grown,
     } = supplies;
     lock_all(rt, version, &mut guards);
     if !are_whole(guards.as_slice(), keys, threads) {
+        drop(guards);
+        abandon(rt, old, fresh, grown);
         return false;
     }
-    let Ok(published) = publish(cell, grown) else {
-        return false;
-    };
-    take_out(alloc, guards.as_mut_slice(), &mut old);
-    regrow(old.as_mut_slice(), fresh.as_mut_slice());
-    fill(rt, published, &mut fresh, keys);
-    true
-}
-
-/// What a grower works with: room for the locks and for the buckets that it takes out from under them, and
-/// the new buckets.
-#[derive(Drop)]
-pub struct Supplies<'a, R: Root> {
-    pub guards: Vec<MutexGuard<'a, Settled<R>>>,
-    pub old: Vec<Bucket<R>>,
-    pub fresh: Vec<Bucket<R>>,
+    match publish(cell, grown) {
+        Ok(published) => {
+            move_over(rt, alloc, guards, old, fresh, published, keys);
+            true
+        }
+        Err(back) => {
+            drop(guards);
+            abandon(rt, old, fresh, back);
+            false
+        }
+    }
 }
 
 fn lock_all<'a, W: Wait, R: Root>(
@@ -66,11 +153,12 @@ fn lock_all<'a, W: Wait, R: Root>(
     guards: &mut Vec<MutexGuard<'a, Settled<R>>>,
 )
     requires empty { vec_len guards.old ≡ 0 }
-    requires room { vec_len version.now.buckets ≤ vec_capacity guards.old }
-    ensures { vec_len guards.new ≡ vec_len version.now.buckets }
+    requires room { version.now.size ≤ vec_capacity guards.old }
+    ensures len { vec_len guards.new ≡ version.now.size }
+    ensures some { 0 < vec_len guards.new }
 {
-    for number in 0..version.buckets.len() {
-        guards.push_reserved(version.buckets[number].lock(rt));
+    for number in 0..version.size() {
+        guards.push_reserved(version.lock_of(number).lock(rt));
     }
 }
 
@@ -94,19 +182,42 @@ fn are_whole<R: Root>(guards: &[MutexGuard<'_, Settled<R>>], keys: usize, thread
 }
 
 fn publish<R: Root>(
-    cell: &OnceBox<Version<R>>,
-    version: Box<Version<R>>,
-) -> Result<&Version<R>, Box<Version<R>>>
-    ensures { IfOk result (λ v. v.now ≡ version.value) }
+    cell: &OnceLock<Version<R>>,
+    version: Version<R>,
+) -> Result<&Version<R>, Version<R>>
+    ensures { IfOk result (λ v. v.now ≡ version) }
 {
-    let mut note = cell.note();
-    match cell.set_as(version, &mut note) {
+    match cell.try_set(version) {
+        Ok(token) => Ok(cell.value(&token)),
         Err(back) => Err(back),
-        Ok(()) => match cell.get_as(&mut note) {
-            Some(published) => Ok(published),
-            None => unreachable!(),
-        },
     }
+}
+
+// Moves all lines and roots to the new buckets, which then fill the new version. The old buckets are locked
+// until all is done, and closed, empty ones stay behind.
+fn move_over<W: Wait, R: Root>(
+    rt: &W,
+    alloc: Global,
+    guards: Vec<MutexGuard<'_, Settled<R>>>,
+    old: Vec<Bucket<R>>,
+    fresh: Vec<Bucket<R>>,
+    published: &Version<R>,
+    keys: usize,
+)
+    requires some { 0 < vec_len guards }
+    requires whole { AreWhole R.key R.line R.owes keys (under guards.items) }
+    requires old { (old.items ≡ []) × (vec_len guards ≤ vec_capacity old) }
+    requires fresh { (threads : ℕ) × AreFresh keys threads fresh.items × (queued (under guards.items) ≤ threads) }
+    requires sizes { vec_len fresh ≡ published.now.size }
+{
+    let mut guards = guards;
+    let mut old = old;
+    let mut fresh = fresh;
+    let _size = published.size();
+    take_out(alloc, guards.as_mut_slice(), &mut old);
+    regrow(old.as_mut_slice(), fresh.as_mut_slice());
+    published.fill(rt, fresh, keys);
+    spend_empty(old);
 }
 
 // Takes the buckets out from under their locks, and leaves closed, empty ones.
@@ -122,18 +233,5 @@ fn take_out<R: Root>(
     for number in 0..guards.len() {
         let settled = mem::replace(&mut *guards[number], Settled::hollow(alloc));
         old.push_reserved(settled.into_bucket());
-    }
-}
-
-// Opens the new buckets, and puts each behind its lock.
-fn fill<W: Wait, R: Root>(rt: &W, version: &Version<R>, fresh: &mut Vec<Bucket<R>>, keys: usize)
-    requires count { vec_len version.now.buckets ≡ vec_len fresh.old }
-    requires filled { AreFilled R.key R.line R.owes keys fresh.old.items }
-{
-    let size = fresh.len();
-    while let Some(mut bucket) = fresh.pop() {
-        let number = fresh.len();
-        bucket.open();
-        *version.buckets[number].lock(rt) = Settled::new(bucket, number, size, keys);
     }
 }

@@ -1,6 +1,6 @@
 //! The table of buckets: which bucket a key lies in, and how the table grows while it is in use.
 //!
-//! Stands on lot_bucket and on the cells of once_cell. The parking lot stands on it.
+//! Stands on lot_bucket. The parking lot stands on it.
 //!
 //! ```text
 //!   first version      3 buckets   closed and empty, once it was left
@@ -10,23 +10,26 @@
 //! ```
 //!
 //! The bucket of key `k` is bucket `k mod size` of the newest version. Versions are read without a lock, and
-//! one bucket is locked; whoever finds that bucket closed begins again. Growth, as in `ensure`:
+//! one bucket is locked; whoever finds that bucket closed begins again. Buckets and roots are never dropped, and
+//! growth alone can ask for memory. Growth, as in `ensure`:
 //!
 //! | Step | What | Where it ends early |
 //! |---|---|---|
 //! | 1 | all memory is taken: the new version, whose buckets are closed | no memory: nothing has changed |
 //! | 2 | all buckets of the old version are locked, in order, and looked at | one is closed, or too many wait: all are released, and it begins again |
 //! | 3 | the new version is published | another was published first: as in 2 |
-//! | 4 | the lines and the roots are moved, and the old buckets are left closed | |
-//! | 5 | the new buckets are opened, and all old ones released | |
+//! | 4 | the old buckets are taken out, closed ones stay, and the lines and the roots are moved | |
+//! | 5 | the new buckets are opened and put behind their locks, and all old locks released | |
 #![tactic(auto)]
 
+mod closing;
 mod fresh;
 mod growth;
 mod moves;
 mod sizes;
 mod table;
 mod version;
+mod versions;
 
 pub use moves::regrow;
 pub use sizes::{Grown, MOST_THREADS, TableFault, grown_size};

@@ -53,3 +53,10 @@ fn move_line<R: Root>(from: &mut Bucket<R>, to: &mut Bucket<R>, key: usize)
         to.enqueue(thread, key);
     }
 }
+
+/// Takes all threads of the key's line.
+pub fn empty_line<R: Root>(bucket: &mut Bucket<R>, key: usize)
+    ensures { bucket.new ≡ record bucket.old { queue = without_key key bucket.old.queue } }
+{
+    while let Some(_thread) = bucket.dequeue_one(key, NEVER).thread {}
+}

@@ -12,9 +12,9 @@ pub const MOST_THREADS: usize = 64;
 /// How many buckets a table has at first.
 pub const FIRST_SIZE: usize = 3;
 
-/// How many versions can follow the first one. For the most threads, that come one by one, the sizes are
-/// 3, 12, 30, 66, 138 and 282.
-pub const LATER_VERSIONS: usize = 5;
+/// How many versions a table can have. For the most threads, that come one by one, the sizes are 3, 12, 30,
+/// 66, 138 and 282.
+pub const MOST_VERSIONS: usize = 6;
 
 // A table that has fewer buckets for each thread grows to twice as many.
 const BUCKETS_PER_THREAD: usize = 3;

@@ -1,44 +1,37 @@
-ghost use Rattle.std.specs.Prelude.{◌≡◌, ℕ, ◌+◌, ◌<◌, ◌≤◌, List, [], vec_len, vec_capacity, length, IfOk, IfErr};
+ghost use Rattle.std.specs.Prelude.{◌≡◌, ◌≢◌, ℕ, ◌+◌, ◌*◌, ◌<◌, ◌≤◌, ◌%◌, List, [], ◌++◌, length, vec_len, vec_capacity, IfOk, IfErr};
 ghost use Rattle.std.specs.Sync.Mutex.{mutex_guard_value};
-ghost use Rattle.lot_bucket.specs.Settled.{IsWhole, IsReady, HasPlaceFor, Stays};
+ghost use Rattle.lot_bucket.specs.Settled.{IsReady, HasPlaceFor, Stays};
 ghost use Rattle.lot_table.specs.Roots.{AreIdle, Appends};
 ghost use Rattle.lot_table.specs.Sizes.{Serves};
-ghost use Rattle.lot_table.specs.Buckets.{AreFresh, AreWhole, AreFilled};
-ghost use Rattle.lot_table.specs.declared.sizes.TheConstants.{MOST_THREADS};
+ghost use Rattle.lot_table.specs.Buckets.{AreFresh, AreFilled};
+ghost use Rattle.lot_table.specs.declared.sizes.TheConstants.{MOST_THREADS, FIRST_SIZE, MOST_VERSIONS};
 
+use crate::closing::Closing;
 use crate::fresh::fresh_buckets;
-use crate::growth::{Supplies, grow};
-use crate::sizes::{FIRST_SIZE, Grown, LATER_VERSIONS, TableFault, grown_size};
-use crate::version::{Version, hollow_locks};
+use crate::growth::Grower;
+use crate::sizes::{FIRST_SIZE, Grown, MOST_VERSIONS, TableFault, grown_size};
+use crate::version::Version;
+use crate::versions::Versions;
 use lot_bucket::{Bucket, Root, Settled};
-use once_cell::race::OnceBox;
-use std::alloc::{AllocError, Global};
+use std::alloc::Global;
 use std::marker::Model;
-use std::sync::{Mutex, MutexGuard, Wait};
-use std::{mem, thread};
+use std::sync::{Mutex, MutexGuard, OnceLock, Wait};
+use std::thread;
 
 /// The buckets of a parking lot by key, as the hash table of WTF's ParkingLot: key `k` lies in bucket
 /// `k mod size` of the newest version.
 ///
 /// Make it by `new` with a root for each key, take a key's bucket by `with_bucket`, and end it by `close`,
 /// which gives the roots back. `ensure` lets it grow while others use it.
-#[derive(Drop)]
+///
+/// It is not `Drop`, and neither are its buckets and roots: each is somewhere until `close`.
 pub struct Table<R: Root> {
-    first: Version<R>,
-    // The versions after the first, each set once.
-    later: Vec<OnceBox<Version<R>>>,
+    versions: Versions<R>,
     // Behind a lock, though `close` alone uses it: so threads may share a table whose roots they may not share.
     closing: Mutex<Closing<R>>,
-    alloc: Global,
+    grower: Grower,
     threads: usize,
     keys: usize,
-}
-
-// Room for the buckets of any version, for the close.
-#[derive(Drop)]
-struct Closing<R: Root> {
-    buckets: Vec<Bucket<R>>,
-    ghost none: { buckets.items ≡ [] },
 }
 
 impl<R: Root> Model for Table<R> {
@@ -69,22 +62,21 @@ impl<R: Root> Table<R> {
         ensures err { IfErr result (λ e. e.1 ≡ roots) }
     {
         let keys = roots.len();
-        let Ok(parts) = parts_for(alloc, threads, keys) else {
-            return Err((TableFault::NoMemory, roots));
+        let parts = match parts_for(alloc, threads, keys) {
+            Ok(parts) => parts,
+            Err(fault) => return Err((fault, roots)),
         };
         let Parts {
-            mut locks,
+            locks,
             mut fresh,
-            later,
+            cells,
             closing,
         } = parts;
         put_all(fresh.as_mut_slice(), roots);
-        fill_own(locks.as_mut_slice(), &mut fresh, keys);
         Ok(Table {
-            first: Version { buckets: locks },
-            later,
-            closing: Mutex::new(Closing { buckets: closing }),
-            alloc,
+            versions: Versions::new(Version::of(fresh, keys, locks), cells),
+            closing: Mutex::new(Closing::new(closing)),
+            grower: Grower::new(alloc),
             threads,
             keys,
         })
@@ -94,7 +86,7 @@ impl<R: Root> Table<R> {
     pub fn size<W: Wait>(&self, _rt: &W) -> usize
         ensures { 0 < result }
     {
-        newest(&self.first, self.later.as_slice()).0.buckets.len()
+        self.versions.newest().0.size()
     }
 
     /// Calls `f` once with the open bucket of the key, under its lock, and answers what it answered.
@@ -111,11 +103,11 @@ impl<R: Root> Table<R> {
     ) -> (X, Y)
         requires callable { (b : _) → IsReady R.key R.line R.owes key self.now.threads self.now.keys b.now → F.pre f b x }
         requires keeps { (b : _) (r : _) (b' : _) → IsReady R.key R.line R.owes key self.now.threads self.now.keys b.now → F.post f b x r b' → Stays R.key R.line R.owes b.now b'.now }
-        ensures { (b : _) × (b' : _) × IsReady R.key R.line R.owes key self.now.threads self.now.keys b.now × F.post f b x result b' }
+        ensures { (b : _) × (b' : _) × IsReady R.key R.line R.owes key self.now.threads self.now.keys b.now × F.post f b x result b' × Stays R.key R.line R.owes b.now b'.now }
     {
         let mut guard = self.lock_ready(rt, key);
-        let settled = &mut *guard;
-        settled.lend(x, f)
+        let ready = &mut *guard;
+        ready.lend(x, f)
     }
 
     /// As `with_bucket`, once the thread does not wait in the bucket and has a place there.
@@ -129,7 +121,7 @@ impl<R: Root> Table<R> {
     ) -> (X, Y)
         requires callable { (b : _) → IsReady R.key R.line R.owes key self.now.threads self.now.keys b.now → HasPlaceFor thread b.now → F.pre f b x }
         requires keeps { (b : _) (r : _) (b' : _) → IsReady R.key R.line R.owes key self.now.threads self.now.keys b.now → HasPlaceFor thread b.now → F.post f b x r b' → Stays R.key R.line R.owes b.now b'.now }
-        ensures { (b : _) × (b' : _) × IsReady R.key R.line R.owes key self.now.threads self.now.keys b.now × HasPlaceFor thread b.now × F.post f b x result b' }
+        ensures { (b : _) × (b' : _) × IsReady R.key R.line R.owes key self.now.threads self.now.keys b.now × HasPlaceFor thread b.now × F.post f b x result b' × Stays R.key R.line R.owes b.now b'.now }
     {
         let mut guard = self.lock_with_place(rt, key, thread);
         let settled = &mut *guard;
@@ -140,9 +132,8 @@ impl<R: Root> Table<R> {
         ensures { IsReady R.key R.line R.owes key self.now.threads self.now.keys (mutex_guard_value result).bucket }
     {
         for _ in rt.forever() {
-            let (version, _next) = newest(&self.first, self.later.as_slice());
-            let number = key % version.buckets.len();
-            let guard = version.buckets[number].lock(rt);
+            let (version, _next) = self.versions.newest();
+            let guard = version.lock_of(key % version.size()).lock(rt);
             if guard.is_ready(key, self.threads, self.keys) {
                 return guard;
             }
@@ -182,8 +173,8 @@ impl<R: Root> Table<R> {
     {
         let _most = self.threads;
         for _ in rt.forever() {
-            let (version, next) = newest(&self.first, self.later.as_slice());
-            let size = version.buckets.len();
+            let (version, next) = self.versions.newest();
+            let size = version.size();
             let grown = grown_size(size, threads);
             if grown == size {
                 return Ok(Grown::Kept(size));
@@ -196,13 +187,12 @@ impl<R: Root> Table<R> {
         unreachable!()
     }
 
-    // Takes all memory that a growth needs, and then lets the table grow where that may be; `next` is the cell
-    // after the version's.
+    // Lets the table grow from the version where that may be; `next` is the cell after the version's.
     fn grow_to<W: Wait>(
         &self,
         rt: &W,
         version: &Version<R>,
-        next: Option<&OnceBox<Version<R>>>,
+        next: Option<&OnceLock<Version<R>>>,
         size: usize,
     ) -> Result<bool, TableFault>
         requires { 0 < size }
@@ -210,26 +200,8 @@ impl<R: Root> Table<R> {
         let Some(cell) = next else {
             return Ok(false);
         };
-        let supplies = Supplies {
-            guards: Vec::with_capacity(self.alloc, version.buckets.len())?,
-            old: Vec::with_capacity(self.alloc, version.buckets.len())?,
-            fresh: fresh_buckets(self.alloc, size, self.keys, self.threads)?,
-        };
-        let buckets = hollow_locks(self.alloc, size)?;
-        let grown = match Box::new(self.alloc, Version { buckets }) {
-            Ok(grown) => grown,
-            Err(_) => return Err(TableFault::NoMemory),
-        };
-        Ok(grow(
-            rt,
-            self.alloc,
-            version,
-            cell,
-            grown,
-            supplies,
-            self.keys,
-            self.threads,
-        ))
+        self.grower
+            .grow(rt, version, cell, size, self.keys, self.threads)
     }
 
     /// Appends each key's root to `out`, in key order. It takes no memory.
@@ -238,65 +210,59 @@ impl<R: Root> Table<R> {
         ensures { Appends R.key R.owes self.keys out.old.items out.new.items }
     {
         let Table {
-            first,
-            later,
+            versions,
             closing,
-            alloc,
+            grower: _,
             threads: _,
             keys,
         } = self;
-        let Closing { mut buckets } = closing.into_inner();
-        let (version, _next) = newest(&first, later.as_slice());
-        collect(rt, alloc, version, keys, &mut buckets);
-        hand_out(buckets.as_mut_slice(), keys, out);
+        let newest = versions.into_newest(rt);
+        closing.into_inner().close(rt, newest, keys, out);
     }
 }
 
-/// The newest version that is set, and the cell after its own.
-fn newest<'a, R: Root>(
-    first: &'a Version<R>,
-    later: &'a [OnceBox<Version<R>>],
-) -> (&'a Version<R>, Option<&'a OnceBox<Version<R>>>) {
-    let mut next = None;
-    for cell in later.iter().rev() {
-        if let Some(version) = cell.get() {
-            return (version, next);
-        }
-        next = Some(cell);
-    }
-    (first, next)
-}
-
-// What a table is made of.
-#[derive(Drop)]
+// What a table is made of: room for the locks of the first version and its buckets, room for the cells of the
+// versions after it, and for the buckets of any version.
 struct Parts<R: Root> {
     locks: Vec<Mutex<Settled<R>>>,
     fresh: Vec<Bucket<R>>,
-    later: Vec<OnceBox<Version<R>>>,
+    cells: Vec<OnceLock<Version<R>>>,
     closing: Vec<Bucket<R>>,
 }
 
 fn parts_for<R: Root>(alloc: Global, threads: usize, keys: usize) -> Result<Parts<R>, TableFault>
     requires { threads ≤ MOST_THREADS }
-    ensures locks { IfOk result (λ p. vec_len p.locks ≡ 3) }
-    ensures len { IfOk result (λ p. vec_len p.fresh ≡ 3) }
-    ensures fresh { IfOk result (λ p. AreFresh keys threads p.fresh.items) }
+    ensures locks { IfOk result (λ p. (vec_len p.locks ≡ 0) × (FIRST_SIZE ≤ vec_capacity p.locks)) }
+    ensures fresh { IfOk result (λ p. (vec_len p.fresh ≡ FIRST_SIZE) × AreFresh keys threads p.fresh.items) }
+    ensures cells { IfOk result (λ p. (vec_len p.cells ≡ 0) × (MOST_VERSIONS ≤ vec_capacity p.cells + 1)) }
     ensures closing { IfOk result (λ p. p.closing.items ≡ []) }
 {
-    Ok(Parts {
-        locks: hollow_locks(alloc, FIRST_SIZE)?,
-        fresh: fresh_buckets(alloc, FIRST_SIZE, keys, threads)?,
-        later: empty_cells(alloc)?,
-        closing: Vec::with_capacity(alloc, FIRST_SIZE + grown_size(0, threads))?,
-    })
-}
-
-fn empty_cells<R: Root>(alloc: Global) -> Result<Vec<OnceBox<Version<R>>>, AllocError> {
-    let mut cells = Vec::with_capacity(alloc, LATER_VERSIONS)?;
-    for _ in 0..LATER_VERSIONS {
-        cells.push_reserved(OnceBox::new(alloc));
+    let mut locks = Vec::new(alloc);
+    let mut cells = Vec::new(alloc);
+    let mut closing = Vec::new(alloc);
+    let most = FIRST_SIZE + grown_size(0, threads);
+    let has_room = locks.reserve(FIRST_SIZE).is_ok()
+        && cells.reserve(MOST_VERSIONS - 1).is_ok()
+        && closing.reserve(most).is_ok();
+    let made = if has_room {
+        fresh_buckets(alloc, FIRST_SIZE, keys, threads)
+    } else {
+        Err(TableFault::NoMemory)
+    };
+    match made {
+        Ok(fresh) => Ok(Parts {
+            locks,
+            fresh,
+            cells,
+            closing,
+        }),
+        Err(fault) => {
+            locks.destroy_empty();
+            cells.destroy_empty();
+            closing.destroy_empty();
+            Err(fault)
+        }
     }
-    Ok(cells)
 }
 
 // Puts each root into the bucket of its key.
@@ -312,82 +278,7 @@ fn put_all<R: Root>(fresh: &mut [Bucket<R>], roots: Vec<R>)
         let key = roots.len();
         fresh[key % size].put_root(key, root);
     }
-}
-
-// Opens the buckets, and puts each behind its lock.
-fn fill_own<R: Root>(locks: &mut [Mutex<Settled<R>>], fresh: &mut Vec<Bucket<R>>, keys: usize)
-    requires count { length locks.old ≡ vec_len fresh.old }
-    requires filled { AreFilled R.key R.line R.owes keys fresh.old.items }
-{
-    let size = fresh.len();
-    while let Some(mut bucket) = fresh.pop() {
-        let number = fresh.len();
-        bucket.open();
-        *locks[number].get_mut() = Settled::new(bucket, number, size, keys);
-    }
-}
-
-// Takes all buckets of the version out from under their locks.
-fn collect<W: Wait, R: Root>(
-    rt: &W,
-    alloc: Global,
-    version: &Version<R>,
-    keys: usize,
-    buckets: &mut Vec<Bucket<R>>,
-)
-    requires { buckets.old.items ≡ [] }
-    ensures some { 0 < vec_len buckets.new }
-    ensures whole { AreWhole R.key R.line R.owes keys buckets.new.items }
-{
-    let size = version.buckets.len();
-    if size > buckets.capacity() {
-        wait_without_end(rt);
-    }
-    for number in 0..size {
-        buckets.push_reserved(take_whole(rt, alloc, &version.buckets[number], number, size, keys));
-    }
-}
-
-fn wait_without_end<W: Wait>(rt: &W)
-    ensures { ⊥ }
-{
-    for _ in rt.forever() {}
-    unreachable!()
-}
-
-// Takes the bucket out from under its lock. That it is the open one of its number is known by nothing but
-// looking; where nobody else has the table, it is.
-fn take_whole<W: Wait, R: Root>(
-    rt: &W,
-    alloc: Global,
-    lock: &Mutex<Settled<R>>,
-    number: usize,
-    size: usize,
-    keys: usize,
-) -> Bucket<R>
-    ensures { IsWhole R.key R.line R.owes size number keys result }
-{
-    for _ in rt.forever() {
-        let mut guard = lock.lock(rt);
-        if guard.is_whole(number, size, keys) {
-            return mem::replace(&mut *guard, Settled::hollow(alloc)).into_bucket();
-        }
-        drop(guard);
-        thread::yield_now();
-    }
-    unreachable!()
-}
-
-fn hand_out<R: Root>(buckets: &mut [Bucket<R>], keys: usize, out: &mut Vec<R>)
-    requires some { 0 < length buckets.old }
-    requires whole { AreWhole R.key R.line R.owes keys buckets.old }
-    requires room { vec_len out.old + keys ≤ vec_capacity out.old }
-    ensures { Appends R.key R.owes keys out.old.items out.new.items }
-{
-    let size = buckets.len();
-    for key in 0..keys {
-        out.push_reserved(buckets[key % size].take_root(key));
-    }
+    roots.destroy_empty();
 }
 
 #[cfg(test)]

@@ -1,27 +1,159 @@
-ghost use Rattle.std.specs.Prelude.{◌≡◌, ◌<◌, IfOk, vec_len};
+//! One version of a table.
+
+ghost use Rattle.std.specs.Prelude.{◌≡◌, ℕ, ◌<◌, ◌≤◌, List, [], IfOk, vec_len, vec_capacity};
+ghost use Rattle.lot_bucket.specs.Settled.{IsWhole};
+ghost use Rattle.lot_table.specs.Buckets.{AreWhole, AreFilled};
 
 use crate::sizes::TableFault;
-use lot_bucket::{Root, Settled};
+use lot_bucket::{Bucket, Root, Settled};
 use std::alloc::Global;
-use std::sync::Mutex;
+use std::marker::Model;
+use std::mem;
+use std::sync::{Mutex, Wait};
 
-/// One version of a table: its buckets, each behind its lock.
-#[derive(Drop)]
+/// The buckets of one version, each behind its lock.
+///
+/// It is not `Drop`, as its buckets are not: `into_buckets` takes them out, and `discard` spends a version
+/// that was left. The row of locks is private, since a row hands out its allocator.
 pub struct Version<R: Root> {
-    pub buckets: Vec<Mutex<Settled<R>>>,
-    ghost some: { 0 < vec_len buckets },
+    buckets: Vec<Mutex<Settled<R>>>,
 }
 
-/// Locks for so many buckets, all of which are closed and have no keys.
-pub fn hollow_locks<R: Root>(
-    alloc: Global,
-    size: usize,
-) -> Result<Vec<Mutex<Settled<R>>>, TableFault>
-    ensures { IfOk result (λ v. vec_len v ≡ size) }
-{
-    let mut locks = Vec::with_capacity(alloc, size)?;
-    for _ in 0..size {
-        locks.push_reserved(Mutex::new(Settled::hollow(alloc)));
+impl<R: Root> Model for Version<R> {
+    ghost use Rattle.std.specs.Prelude.{◌<◌, vec_len};
+    ghost use Rattle.lot_table.specs.Tables.{Extent};
+
+    ghost Value = { Extent };
+
+    ghost view = { λ v. record { size = vec_len v.buckets } };
+
+    ghost invariant = { λ v. 0 < vec_len v.buckets };
+}
+
+impl<R: Root> Version<R> {
+    /// A version of so many buckets, all of which are closed and have no keys.
+    pub fn hollow(alloc: Global, size: usize) -> Result<Version<R>, TableFault>
+        requires { 0 < size }
+        ensures { IfOk result (λ v. v.size ≡ size) }
+    {
+        let mut buckets = Vec::with_capacity(alloc, size)?;
+        for _ in 0..size {
+            buckets.push_reserved(Mutex::new(Settled::hollow(alloc)));
+        }
+        Ok(Version { buckets })
     }
-    Ok(locks)
+
+    /// The version of these buckets, which are opened. `locks` has room for them.
+    pub fn of(buckets: Vec<Bucket<R>>, keys: usize, locks: Vec<Mutex<Settled<R>>>) -> Version<R>
+        requires some { 0 < vec_len buckets }
+        requires empty { vec_len locks ≡ 0 }
+        requires room { vec_len buckets ≤ vec_capacity locks }
+        requires filled { AreFilled R.key R.line R.owes keys buckets.items }
+        ensures { result.size ≡ vec_len buckets }
+    {
+        let size = buckets.len();
+        let mut filled = buckets;
+        let mut locks = locks;
+        while let Some(mut bucket) = filled.pop() {
+            let number = filled.len();
+            bucket.open();
+            locks.push_reserved(Mutex::new(Settled::new(bucket, number, size, keys)));
+        }
+        filled.destroy_empty();
+        locks.reverse();
+        Version { buckets: locks }
+    }
+
+    /// How many buckets it has.
+    pub fn size(&self) -> usize
+        ensures count { result ≡ self.now.size }
+        ensures some { 0 < result }
+    {
+        self.buckets.len()
+    }
+
+    /// The lock of that bucket.
+    pub fn lock_of(&self, number: usize) -> &Mutex<Settled<R>>
+        requires { number < self.now.size }
+    {
+        &self.buckets[number]
+    }
+
+    /// Opens the new buckets, and puts each behind its lock, where a closed bucket lies that is spent.
+    pub fn fill<W: Wait>(&self, rt: &W, fresh: Vec<Bucket<R>>, keys: usize)
+        requires count { self.now.size ≡ vec_len fresh }
+        requires filled { AreFilled R.key R.line R.owes keys fresh.items }
+    {
+        let size = fresh.len();
+        let mut fresh = fresh;
+        while let Some(mut bucket) = fresh.pop() {
+            let number = fresh.len();
+            bucket.open();
+            let settled = Settled::new(bucket, number, size, keys);
+            let before = mem::replace(&mut *self.lock_of(number).lock(rt), settled);
+            spend(rt, before);
+        }
+        fresh.destroy_empty();
+    }
+
+    /// Takes all buckets out from under their locks, into `row`. That they are open is known by nothing but
+    /// looking; nobody else has the version, so they are.
+    pub fn into_buckets<W: Wait>(self, rt: &W, keys: usize, row: Vec<Bucket<R>>) -> Vec<Bucket<R>>
+        requires { row.items ≡ [] }
+        ensures some { 0 < vec_len result }
+        ensures whole { AreWhole R.key R.line R.owes keys result.items }
+    {
+        let Version { buckets: mut locks } = self;
+        let size = locks.len();
+        let mut row = row;
+        if size > row.capacity() {
+            wait_without_end(rt);
+        }
+        locks.reverse();
+        while let Some(lock) = locks.pop() {
+            let number = row.len();
+            row.push_reserved(taken_whole(rt, lock.into_inner(), number, size, keys));
+        }
+        locks.destroy_empty();
+        row
+    }
+
+    /// Spends a version whose buckets are all closed. That they are is known by nothing but looking.
+    pub fn discard<W: Wait>(self, rt: &W) {
+        let Version { mut buckets } = self;
+        while let Some(lock) = buckets.pop() {
+            spend(rt, lock.into_inner());
+        }
+        buckets.destroy_empty();
+    }
+}
+
+fn taken_whole<W: Wait, R: Root>(
+    rt: &W,
+    settled: Settled<R>,
+    number: usize,
+    size: usize,
+    keys: usize,
+) -> Bucket<R>
+    ensures { IsWhole R.key R.line R.owes size number keys result }
+{
+    if !settled.is_whole(number, size, keys) {
+        wait_without_end(rt);
+    }
+    settled.into_bucket()
+}
+
+// Spends what lay behind a lock, a closed bucket. An open one is kept, and then the call does not return.
+fn spend<W: Wait, R: Root>(rt: &W, settled: Settled<R>) {
+    if settled.bucket().is_open() {
+        wait_without_end(rt);
+    }
+    settled.into_bucket().discard();
+}
+
+fn wait_without_end<W: Wait>(rt: &W)
+    ensures { ⊥ }
+{
+    for _ in rt.forever() {}
+    unreachable!()
 }

@@ -2,7 +2,6 @@
 use Rattle.std.proofs.Common.{◌≡◌, ◌≢◌, ℕ, zero, suc, ◌+◌, ◌<◌, ◌≤◌, ◌⊎◌, Bool, true, false, List, [], ◌∷◌, ◌++◌, length, get_or, set, Some, None, slice_get, refl, sym, subst, ◌∙◌, inl, inr, ⊎_elim, arith, get_or-set_other}
 use mathlib.Core.Logic.{dite}
 use native.Mathlib.Decide.{ℕ_discrete}
-use Rattle.lot_words.proofs.Moves.{same_some}
 
 -- an emptied place is not full
 emptied : (fs : List Bool) (i : ℕ) → get_or (set fs i false) i false ≡ false
@@ -21,9 +20,7 @@ full_from_here fs fs' i n e full k past near = subst (λ gs. get_or gs k false �
 
 -- what an element added last is found as
 pub get_snoc : {A : Type 0} (xs : List A) (x y : A) (k : ℕ) → slice_get (xs ++ x ∷ []) k ≡ Some y → (slice_get xs k ≡ Some y) ⊎ ((k ≡ length xs) × (x ≡ y))
-get_snoc [] x y zero e = inr (refl, same_some x y e)
-get_snoc [] x y (suc k) e = absurd (none_is y e) where
-  none_is : {A : Type 0} (z : A) → None ≡ Some z → ⊥
-  none_is z q = cc
+get_snoc [] x y zero e = inr (refl, (let f : Some x ≡ Some y = e in cc))
+get_snoc [] x y (suc k) e = absurd (let f : None ≡ Some y = e in cc)
 get_snoc (z ∷ xs) x y zero e = inl e
 get_snoc (z ∷ xs) x y (suc k) e = ⊎_elim (λ old. inl old) (λ new. inr (omega (arith, new.0), new.1)) (get_snoc xs x y k e)

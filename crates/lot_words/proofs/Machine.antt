@@ -1,135 +1,131 @@
--- Each kind of event keeps the rule of threads and locks.
-use Rattle.std.proofs.Common.{◌≡◌, ◌≢◌, ℕ, suc, ◌⊎◌, Bool, true, false, cond, refl, sym, ap, subst, ◌∙◌, inl, inr, ⊎_elim, Some}
+-- How a change of the world keeps the rule of threads and locks.
+use Rattle.std.proofs.Common.{◌≡◌, ◌≢◌, ℕ, suc, ◌<◌, ◌⊎◌, if◌then◌else◌, true, false, List, length, get_or, set, refl, sym, ap, subst, inl, inr, ⊎_elim, get_or-set_same, get_or-set_other, Option, Some, None}
+use Rattle.std.specs.List.{Contains}
+use mathlib.Core.Logic.{dite}
+use native.Mathlib.Decide.{ℕ_discrete}
 use Rattle.lot_core.specs.World.{put}
-use Rattle.lot_words.specs.Seating.{In}
+use Rattle.lot_rights.specs.World.{Spot, awake, queued, owed, lying}
+use Rattle.lot_rights.proofs.Puts.{by_test, put_elim}
 use Rattle.lot_words.specs.declared.views.Hold.{Hold}
 use Rattle.lot_words.specs.declared.views.Hold.TheVariants.{NotHeld, Held, FoundParked}
 use Rattle.lot_words.specs.declared.views.LockPassView.{LockPassView}
 use Rattle.lot_words.specs.declared.views.LockRootView.{LockRootView}
-use Rattle.lot_words.specs.World.{Spot, awake, queued, owed, lying, ThreadFacts, LockFacts, World, hold, IsHeld, IsFound, Holds, Handed, Outside, TellsTrue, SpotFits, ThreadFits, LockFits, Kept}
-use Rattle.lot_words.proofs.Seats.{by_test, put_elim, put_other}
-
--- ---- the world after an event: thread t's pass, thread u's notice, and the lock l
-abbrev pub threads_after : ThreadFacts → ℕ → LockPassView → ℕ → Spot → ThreadFacts
-threads_after ts t p u sp = record { pass = put ts.pass t p; spot = put ts.spot u sp }
-
-abbrev pub locks_after : LockFacts → ℕ → ℕ → Bool → LockRootView → LockFacts
-locks_after ls l o b q = record { owner = put ls.owner l o; parked = put ls.parked l b; root = put ls.root l q }
-
-abbrev pub turned2 : World → ℕ → LockPassView → ℕ → Spot → ℕ → ℕ → Bool → LockRootView → World
-turned2 w t p u sp l o b q = record { threads = threads_after w.threads t p u sp; locks = locks_after w.locks l o b q }
-
-abbrev pub turned : World → ℕ → LockPassView → Spot → ℕ → ℕ → Bool → LockRootView → World
-turned w t p sp l o b q = turned2 w t p t sp l o b q
+use Rattle.lot_words.specs.World.{LockWord, LockWorld, hold, IsHeld, IsFound, Holds, IsHanded, IsOutside, TellsTrue, SpotFits, ThreadFits, LockFits}
 
 -- ---- small facts
-pub found_held : (s : Hold) → IsFound s → IsHeld s
-found_held NotHeld h = h
-found_held Held h = tt
-found_held FoundParked h = tt
+pub found_held : (h : Hold) → IsFound h → IsHeld h
+found_held NotHeld f = f
+found_held Held f = tt
+found_held FoundParked f = tt
 
-pub told_on : (o o' t k : ℕ) → TellsTrue o t k → (o ≡ suc t → o' ≡ suc t) → TellsTrue o' t k
+-- what a pass holds after the lock l changed
+pub set_elim : (xs : List Hold) (l k : ℕ) (x : Hold) (P : Hold → Type 0) → l < length xs → (k ≡ l → P x) → (k ≢ l → P (get_or xs k NotHeld)) → P (get_or (set xs l x) k NotHeld)
+set_elim xs l k x P near here there = dite (ℕ_discrete k l)
+    (λ e. subst (λ z. P (get_or (set xs l x) z NotHeld)) (sym e) (subst P (sym (get_or-set_same xs l x NotHeld near)) (here e)))
+    (λ ne. subst P (sym (get_or-set_other xs l k x NotHeld ne)) (there ne))
+
+pub no_aim : (k : ℕ) → ◌≡◌ {A = Option ℕ} None (Some k) → ⊥
+no_aim k e = cc
+
+pub no_debt : (o : Option (ℕ × ℕ)) (x : ℕ × ℕ) → o ≡ None → o ≡ Some x → ⊥
+no_debt o x e f = cc
+
+abbrev debtor : Option (ℕ × ℕ) → ℕ × ℕ
+debtor None = (0, 0)
+debtor (Some x) = x
+
+pub same_debt : (a b c d : ℕ) → ◌≡◌ {A = Option (ℕ × ℕ)} (Some (a, b)) (Some (c, d)) → (a ≡ c) × (b ≡ d)
+same_debt a b c d e = (ap (λ o. (debtor o).0) e, ap (λ o. (debtor o).1) e)
+
+told_on : (o o' t k : ℕ) → TellsTrue o t k → (o ≡ suc t → o' ≡ suc t) → TellsTrue o' t k
 told_on o o' t k h f = ⊎_elim {C = TellsTrue o' t k} (λ z. inl z) (λ h. inr (h.0, f h.1)) h
 
-pub awake_is : (n : ℕ) (ls : LockFacts) (t : ℕ) (p : LockPassView) (sp : Spot) → SpotFits n ls t p sp → p.asleep ≡ false → sp ≡ awake
-awake_is n ls t p awake h e = refl
-awake_is n ls t p (queued l) h e = absurd (cc (h.0.1))
-awake_is n ls t p (owed l k) h e = absurd (cc (h.0.1))
-awake_is n ls t p (lying l k) h e = absurd (cc (h.0.1))
+pub awake_out : IsOutside awake
+awake_out l e = cc
 
--- ---- a thread among locks that change
-pub record SameFor (u : ℕ) (ls ls' : LockFacts) : Type 0 where
-  pub owner : (k : ℕ) → ls.owner k ≡ suc u → ls'.owner k ≡ suc u
-  pub parked : (k : ℕ) → ls.owner k ≡ suc u → ls.parked k ≡ true → ls'.parked k ≡ true
-  pub line : (k : ℕ) → In u (ls.root k).line → In u (ls'.root k).line
-  pub line_back : (k : ℕ) → In u (ls'.root k).line → In u (ls.root k).line
-  pub owes : (k c : ℕ) → (ls.root k).owes ≡ Some (u, c) → (ls'.root k).owes ≡ Some (u, c)
-  pub owes_back : (k c : ℕ) → (ls'.root k).owes ≡ Some (u, c) → (ls.root k).owes ≡ Some (u, c)
+pub owed_out : (m k : ℕ) → IsOutside (owed m k)
+owed_out m k l e = cc
 
-pub spot_on : (n : ℕ) (ls ls' : LockFacts) (u : ℕ) (p : LockPassView) (sp : Spot) → SameFor u ls ls' → SpotFits n ls u p sp → SpotFits n ls' u p sp
-spot_on n ls ls' u p awake s h = h
-spot_on n ls ls' u p (queued l) s h = (h.0, s.line l h.1)
-spot_on n ls ls' u p (owed l k) s h = (h.0, s.owes l k h.1, told_on (ls.owner l) (ls'.owner l) u k h.2 (s.owner l))
-spot_on n ls ls' u p (lying l k) s h = (h.0, told_on (ls.owner l) (ls'.owner l) u k h.1 (s.owner l))
+pub lying_out : (m k : ℕ) → IsOutside (lying m k)
+lying_out m k l e = cc
 
-pub thread_on : (n m : ℕ) (ls ls' : LockFacts) (u : ℕ) (p : LockPassView) (sp : Spot) → SameFor u ls ls' → ThreadFits n m ls u p sp → ThreadFits n m ls' u p sp
-thread_on n m ls ls' u p sp s ok = record {
-  long = ok.long;
-  aims = ok.aims;
-  holds = λ l h. s.owner l (ok.holds l h);
-  found = λ l h. s.parked l (ok.holds l (found_held (hold p l) h)) (ok.found l h);
-  spot = spot_on n ls ls' u p sp s ok.spot;
-  in_line = λ l h. ok.in_line l (s.line_back l h);
-  is_owed = λ l k h. ok.is_owed l k (s.owes_back l k h);
-  handed = ok.handed;
+-- ---- roots
+-- two rows of roots have the same of u
+pub record SameFor (u : ℕ) (root root' : ℕ → LockRootView) : Type 0 where
+  pub line : (k : ℕ) → Contains (root k).line u → Contains (root' k).line u
+  pub line_back : (k : ℕ) → Contains (root' k).line u → Contains (root k).line u
+  pub owes : (k c : ℕ) → (root k).owes ≡ Some (u, c) → (root' k).owes ≡ Some (u, c)
+  pub owes_back : (k c : ℕ) → (root' k).owes ≡ Some (u, c) → (root k).owes ≡ Some (u, c)
+
+pub same_roots : (u : ℕ) (root : ℕ → LockRootView) → SameFor u root root
+same_roots u root = record { line = λ k h. h; line_back = λ k h. h; owes = λ k c h. h; owes_back = λ k c h. h }
+
+-- one root changes, and keeps what it has of the thread
+pub same_for : (u : ℕ) (root : ℕ → LockRootView) (l : ℕ) (q : LockRootView) → (Contains (root l).line u → Contains q.line u) → (Contains q.line u → Contains (root l).line u)
+    → ((c : ℕ) → (root l).owes ≡ Some (u, c) → q.owes ≡ Some (u, c)) → ((c : ℕ) → q.owes ≡ Some (u, c) → (root l).owes ≡ Some (u, c)) → SameFor u root (put root l q)
+same_for u root l q into back owe paid = record {
+  line = λ k h. put_elim (λ x. Contains x.line u) root l q k (λ kl. into (subst (λ z. Contains (root z).line u) kl h)) (λ _. h);
+  line_back = λ k. put_elim (λ x. Contains x.line u → Contains (root k).line u) root l q k (λ kl h. subst (λ z. Contains (root z).line u) (sym kl) (back h)) (λ _ h. h);
+  owes = λ k c h. put_elim (λ x. x.owes ≡ Some (u, c)) root l q k (λ kl. owe c (subst (λ z. (root z).owes ≡ Some (u, c)) kl h)) (λ _. h);
+  owes_back = λ k c. put_elim (λ x. x.owes ≡ Some (u, c) → (root k).owes ≡ Some (u, c)) root l q k (λ kl h. subst (λ z. (root z).owes ≡ Some (u, c)) (sym kl) (paid c h)) (λ _ h. h);
 }
 
--- one lock changes, and keeps what it has of the thread
-pub same_for : (u : ℕ) (ls : LockFacts) (l o : ℕ) (b : Bool) (q : LockRootView) → (ls.owner l ≡ suc u → o ≡ suc u) → (ls.owner l ≡ suc u → ls.parked l ≡ true → b ≡ true)
-    → (In u (ls.root l).line → In u q.line) → (In u q.line → In u (ls.root l).line)
-    → ((c : ℕ) → (ls.root l).owes ≡ Some (u, c) → q.owes ≡ Some (u, c)) → ((c : ℕ) → q.owes ≡ Some (u, c) → (ls.root l).owes ≡ Some (u, c)) → SameFor u ls (locks_after ls l o b q)
-same_for u ls l o b q own park into back owe paid = record {
-  owner = λ k e. put_elim (λ x. x ≡ suc u) ls.owner l o k (λ kl. own (ap ls.owner (sym kl) ∙ e)) (λ _. e);
-  parked = λ k e f. put_elim (λ x. x ≡ true) ls.parked l b k (λ kl. park (ap ls.owner (sym kl) ∙ e) (ap ls.parked (sym kl) ∙ f)) (λ _. f);
-  line = λ k h. put_elim (λ x. In u x.line) ls.root l q k (λ kl. into (subst (λ z. In u (ls.root z).line) kl h)) (λ _. h);
-  line_back = λ k. put_elim (λ x. In u x.line → In u (ls.root k).line) ls.root l q k (λ kl h. subst (λ z. In u (ls.root z).line) (sym kl) (back h)) (λ _ h. h);
-  owes = λ k c h. put_elim (λ x. x.owes ≡ Some (u, c)) ls.root l q k (λ kl. owe c (subst (λ z. (ls.root z).owes ≡ Some (u, c)) kl h)) (λ _. h);
-  owes_back = λ k c. put_elim (λ x. x.owes ≡ Some (u, c) → (ls.root k).owes ≡ Some (u, c)) ls.root l q k (λ kl h. subst (λ z. (ls.root z).owes ≡ Some (u, c)) (sym kl) (paid c h)) (λ _ h. h);
-}
+module _ {V : Type 0} (n : ℕ) where
+  -- ---- threads
+  pub awake_is : (word : ℕ → LockWord) (root : ℕ → LockRootView) (t : ℕ) (p : LockPassView V) (sp : Spot) → SpotFits n word root t p sp → p.asleep ≡ false → sp ≡ awake
+  awake_is word root t p awake h e = refl
+  awake_is word root t p (queued l) h e = absurd (cc (h.0.1))
+  awake_is word root t p (owed l k) h e = absurd (cc (h.0.1))
+  awake_is word root t p (lying l k) h e = absurd (cc (h.0.1))
 
--- ---- a lock among threads that change
-pub lock_on : (n k o : ℕ) (b : Bool) (q : LockRootView) (ts ts' : ThreadFacts) → LockFits n ts k o b q
-    → ((v : ℕ) → Holds (ts.pass v) k ⊎ Handed (ts.spot v) k → Holds (ts'.pass v) k ⊎ Handed (ts'.spot v) k)
-    → ((v : ℕ) → o ≡ 0 → (ts.pass v).aim ≡ Some k → Outside (ts.spot v) → ((ts'.pass v).aim ≡ Some k) × Outside (ts'.spot v)) → LockFits n ts' k o b q
-lock_on n k o b q ts ts' ok has tries = record {
-  apart = ok.apart;
-  had = λ v e. let h = ok.had v e in (h.0, has v h.1);
-  parks = ok.parks;
-  tried = λ e s. let h = ok.tried e s in let g = tries h.0 e h.1.1 h.1.2 in (h.0, (h.1.0, g.0, g.1));
-}
+  spot_on : (word word' : ℕ → LockWord) (root root' : ℕ → LockRootView) (u : ℕ) (p : LockPassView V) (sp : Spot) → ((k : ℕ) → (word k).owner ≡ suc u → (word' k).owner ≡ suc u) → SameFor u root root'
+      → SpotFits n word root u p sp → SpotFits n word' root' u p sp
+  spot_on word word' root root' u p awake own s h = h
+  spot_on word word' root root' u p (queued l) own s h = (h.0, s.line l h.1)
+  spot_on word word' root root' u p (owed l k) own s h = (h.0, s.owes l k h.1, told_on (word l).owner (word' l).owner u k h.2 (own l))
+  spot_on word word' root root' u p (lying l k) own s h = (h.0, told_on (word l).owner (word' l).owner u k h.1 (own l))
 
--- the pass of t and the notice of u change, and neither takes a hold or a try at k away
-pub lock_stays : (n k o : ℕ) (b : Bool) (q : LockRootView) (ts : ThreadFacts) (t : ℕ) (p : LockPassView) (u : ℕ) (sp : Spot) → LockFits n ts k o b q
-    → (Holds (ts.pass t) k → Holds p k) → (Handed (ts.spot u) k → Handed sp k)
-    → (o ≡ 0 → (ts.pass t).aim ≡ Some k → p.aim ≡ Some k) → (o ≡ 0 → (ts.pass u).aim ≡ Some k → Outside (ts.spot u) → Outside sp) → LockFits n (threads_after ts t p u sp) k o b q
-lock_stays n k o b q ts t p u sp ok holds hands aims outs = lock_on n k o b q ts (threads_after ts t p u sp) ok
-    (λ v. ⊎_elim {C = Holds (put ts.pass t p v) k ⊎ Handed (put ts.spot u sp v) k}
-    (λ h. inl (put_elim (λ x. Holds x k) ts.pass t p v (λ e. holds (subst (λ z. Holds (ts.pass z) k) e h)) (λ _. h)))
-    (λ h. inr (put_elim (λ x. Handed x k) ts.spot u sp v (λ e. hands (subst (λ z. Handed (ts.spot z) k) e h)) (λ _. h))))
-    (λ v z a h. (
-      put_elim (λ x. x.aim ≡ Some k) ts.pass t p v (λ e. aims z (subst (λ y. (ts.pass y).aim ≡ Some k) e a)) (λ _. a),
-      put_elim Outside ts.spot u sp v (λ e. outs z (subst (λ y. (ts.pass y).aim ≡ Some k) e a) (subst (λ y. Outside (ts.spot y)) e h)) (λ _. h),
-    ))
+  pub thread_on : (m : ℕ) (word word' : ℕ → LockWord) (root root' : ℕ → LockRootView) (u : ℕ) (p : LockPassView V) (sp : Spot)
+      → ((k : ℕ) → (word k).owner ≡ suc u → (word' k).owner ≡ suc u) → ((k : ℕ) → (word k).owner ≡ suc u → (word k).parked ≡ true → (word' k).parked ≡ true) → SameFor u root root'
+      → ThreadFits n word root m u p sp → ThreadFits n word' root' m u p sp
+  thread_on m word word' root root' u p sp own park s ok = record {
+    long = ok.long;
+    aims = ok.aims;
+    holds = λ l h. own l (ok.holds l h);
+    found = λ l h. park l (ok.holds l (found_held (hold p l) h)) (ok.found l h);
+    spot = spot_on word word' root root' u p sp own s ok.spot;
+    in_line = λ l h. ok.in_line l (s.line_back l h);
+    is_owed = λ l k h. ok.is_owed l k (s.owes_back l k h);
+    handed = ok.handed;
+  }
 
--- ---- the whole world
--- one thread and one lock change
-pub turns : (n m : ℕ) (w : World) (t : ℕ) (p : LockPassView) (sp : Spot) (l o : ℕ) (b : Bool) (q : LockRootView)
-    → ThreadFits n m (locks_after w.locks l o b q) t p sp
-    → ((v : ℕ) → v ≢ t → ThreadFits n m (locks_after w.locks l o b q) v (w.threads.pass v) (w.threads.spot v))
-    → LockFits n (threads_after w.threads t p t sp) l o b q
-    → ((k : ℕ) → k ≢ l → LockFits n (threads_after w.threads t p t sp) k (w.locks.owner k) (w.locks.parked k) (w.locks.root k))
-    → Kept n m (turned w t p sp l o b q)
-turns n m w t p sp l o b q mine others here elsewhere = record {
-  threads = λ v. by_test (λ c. ThreadFits n m (locks_after w.locks l o b q) v (cond c p (w.threads.pass v)) (cond c sp (w.threads.spot v))) v t
-      (λ e. subst (λ z. ThreadFits n m (locks_after w.locks l o b q) z p sp) (sym e) mine) (others v);
-  locks = λ k. by_test (λ c. LockFits n (threads_after w.threads t p t sp) k (cond c o (w.locks.owner k)) (cond c b (w.locks.parked k)) (cond c q (w.locks.root k))) k l
-      (λ e. subst (λ z. LockFits n (threads_after w.threads t p t sp) z o b q) (sym e) here) (elsewhere k);
-}
+  -- ---- locks
+  -- the pass of t changes, and so may the notices; nobody loses a hold of k or a try at it
+  pub lock_stays : (k : ℕ) (x : LockWord) (q : LockRootView) (pass : ℕ → LockPassView V) (spot : ℕ → Spot) (t : ℕ) (p : LockPassView V) (spots : ℕ → Spot) → LockFits n pass spot k x q
+      → (Holds (pass t) k → Holds p k) → ((v : ℕ) → IsHanded (spot v) k → IsHanded (spots v) k) → (x.owner ≡ 0 → (pass t).aim ≡ Some k → p.aim ≡ Some k)
+      → (x.owner ≡ 0 → (v : ℕ) → (pass v).aim ≡ Some k → IsOutside (spot v) → IsOutside (spots v)) → LockFits n (put pass t p) spots k x q
+  lock_stays k x q pass spot t p spots ok holds hands aims outs = record {
+    once = ok.once;
+    had = λ v e. let h = ok.had v e in (
+      h.0,
+      ⊎_elim {C = Holds (put pass t p v) k ⊎ IsHanded (spots v) k}
+          (λ a. inl (put_elim (λ y. Holds y k) pass t p v (λ vt. holds (subst (λ z. Holds (pass z) k) vt a)) (λ _. a))) (λ a. inr (hands v a)) h.1,
+    );
+    parks = ok.parks;
+    tried = λ e some. let h = ok.tried e some in (h.0, (h.1.0, put_elim (λ y. y.aim ≡ Some k) pass t p h.0 (λ vt. aims e (subst (λ z. (pass z).aim ≡ Some k) vt h.1.1)) (λ _. h.1.1), outs e h.0 h.1.1 h.1.2));
+  }
 
--- the pass of t, the notice of another thread u, and one lock change
-pub turns2 : (n m : ℕ) (w : World) (t : ℕ) (p : LockPassView) (u : ℕ) (sp : Spot) (l o : ℕ) (b : Bool) (q : LockRootView) → u ≢ t
-    → ThreadFits n m (locks_after w.locks l o b q) t p (w.threads.spot t)
-    → ThreadFits n m (locks_after w.locks l o b q) u (w.threads.pass u) sp
-    → ((v : ℕ) → v ≢ t → v ≢ u → ThreadFits n m (locks_after w.locks l o b q) v (w.threads.pass v) (w.threads.spot v))
-    → LockFits n (threads_after w.threads t p u sp) l o b q
-    → ((k : ℕ) → k ≢ l → LockFits n (threads_after w.threads t p u sp) k (w.locks.owner k) (w.locks.parked k) (w.locks.root k))
-    → Kept n m (turned2 w t p u sp l o b q)
-turns2 n m w t p u sp l o b q ne mine theirs others here elsewhere = record {
-  threads = λ v. by_test (λ c. ThreadFits n m (locks_after w.locks l o b q) v (cond c p (w.threads.pass v)) (put w.threads.spot u sp v)) v t
-      (λ e. subst (λ x. ThreadFits n m (locks_after w.locks l o b q) v p x) (sym (put_other w.threads.spot u sp v (λ vu. ne (sym vu ∙ e))))
-      (subst (λ z. ThreadFits n m (locks_after w.locks l o b q) z p (w.threads.spot z)) (sym e) mine))
-      (λ vt. put_elim (λ x. ThreadFits n m (locks_after w.locks l o b q) v (w.threads.pass v) x) w.threads.spot u sp v
-      (λ e. subst (λ z. ThreadFits n m (locks_after w.locks l o b q) z (w.threads.pass z) sp) (sym e) theirs) (others v vt));
-  locks = λ k. by_test (λ c. LockFits n (threads_after w.threads t p u sp) k (cond c o (w.locks.owner k)) (cond c b (w.locks.parked k)) (cond c q (w.locks.root k))) k l
-      (λ e. subst (λ z. LockFits n (threads_after w.threads t p u sp) z o b q) (sym e) here) (elsewhere k);
-}
+  -- ---- the whole world
+  module _ (m : ℕ) (w : LockWorld V) (word : ℕ → LockWord) (root : ℕ → LockRootView) (spots : ℕ → Spot) where
+    pub each_thread : (t : ℕ) (p : LockPassView V) → ThreadFits n word root m t p (spots t) → ((v : ℕ) → v ≢ t → ThreadFits n word root m v (w.pass v) (spots v)) → (v : ℕ) → ThreadFits n word root m v (put w.pass t p v) (spots v)
+    each_thread t p mine others v = put_elim (λ y. ThreadFits n word root m v y (spots v)) w.pass t p v (λ e. subst (λ z. ThreadFits n word root m z p (spots z)) (sym e) mine) (others v)
+
+  module _ (pass : ℕ → LockPassView V) (spots : ℕ → Spot) (w : LockWorld V) (l : ℕ) (x : LockWord) (q : LockRootView) where
+    pub each_word : LockFits n pass spots l x (w.root l) → ((k : ℕ) → k ≢ l → LockFits n pass spots k (w.word k) (w.root k)) → (k : ℕ) → LockFits n pass spots k (put w.word l x k) (w.root k)
+    each_word here elsewhere k = put_elim (λ y. LockFits n pass spots k y (w.root k)) w.word l x k (λ e. subst (λ z. LockFits n pass spots z x (w.root z)) (sym e) here) (elsewhere k)
+
+    pub each_root : LockFits n pass spots l (w.word l) q → ((k : ℕ) → k ≢ l → LockFits n pass spots k (w.word k) (w.root k)) → (k : ℕ) → LockFits n pass spots k (w.word k) (put w.root l q k)
+    each_root here elsewhere k = put_elim (λ y. LockFits n pass spots k (w.word k) y) w.root l q k (λ e. subst (λ z. LockFits n pass spots z (w.word z) q) (sym e) here) (elsewhere k)
+
+    pub each_both : LockFits n pass spots l x q → ((k : ℕ) → k ≢ l → LockFits n pass spots k (w.word k) (w.root k)) → (k : ℕ) → LockFits n pass spots k (put w.word l x k) (put w.root l q k)
+    each_both here elsewhere k = by_test (λ b. LockFits n pass spots k (if b then x else w.word k) (if b then q else w.root k)) k l (λ e. subst (λ z. LockFits n pass spots z x q) (sym e) here) (elsewhere k)

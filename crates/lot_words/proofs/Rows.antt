@@ -1,238 +1,263 @@
 -- What each kind of event is to the lock part of the model: a step of lot_core's.
-use Rattle.std.proofs.Common.{◌≡◌, ◌≢◌, ℕ, zero, suc, ◌<◌, ◌==◌, ◌⊎◌, ◌&&◌, not, Bool, true, false, cond, List, [], ◌∷◌, ◌++◌, length, get_or, refl, sym, ap, subst, ◌∙◌, inl, inr, ⊎_elim, arith, Option, Some, None, ne_eqb, eq-eqb, Contains}
+use Rattle.std.proofs.Common.{◌≡◌, ◌≢◌, ℕ, zero, suc, ◌<◌, ◌==◌, ◌&&◌, ◌⊎◌, not, Bool, true, false, cond, List, [], ◌∷◌, ◌++◌, length, refl, sym, ap, ◌∙◌, inl, inr, ⊎_elim, arith, eq-eqb, ne_eqb, Option, Some, None}
+use Rattle.std.specs.List.{Contains}
+use mathlib.Core.Path.{fun_ext}
 use Rattle.lot_core.specs.World.{put}
 use Rattle.lot_core.specs.Steps.{SaysMore, first, passed_line}
 use Rattle.lot_core.specs.Parts.{LockPart, LockStep, MayTry, served}
 use Rattle.lot_core.specs.declared.events.Event.TheVariants.{Try, Take, Mark, Park, Free, Pass}
 use Rattle.lot_core.specs.declared.events.Seen.TheVariants.{Bool as Saw, Done, Sleeper}
-use Rattle.lot_words.specs.Seating.{In}
+use Rattle.lot_core.proofs.Put.{put_same, put_other, put_again, told_put, told_same}
+use Rattle.lot_rights.specs.World.{Spot, awake, queued, owed}
+use Rattle.lot_rights.proofs.Puts.{put_elim, is_put}
 use Rattle.lot_words.specs.declared.views.LockPassView.{LockPassView}
 use Rattle.lot_words.specs.declared.views.LockRootView.{LockRootView}
-use Rattle.lot_words.specs.World.{Spot, awake, queued, owed, World, Holds, Kept}
-use Rattle.lot_words.specs.Rule.{is_owned, wants_of, part_of}
-use Rattle.lot_words.specs.Calls.{Aims, gripped, wishing, let_go, found_parked, sleeping}
-use Rattle.lot_words.proofs.Seats.{put_elim, put_same, put_other, put_again}
-use Rattle.lot_words.proofs.Machine.{turned, turned2}
-use Rattle.lot_words.proofs.Events.{is_awake, in_no_line}
-use Rattle.lot_words.proofs.Ties.{put_fits, part_is, owned_by, wants_at, wants_stay}
-
--- ---- small facts
-pub contains_at : (xs : List ℕ) (t k : ℕ) → k < length xs → get_or xs k t ≡ t → In t xs
-contains_at [] t k h e = absurd (omega arith)
-contains_at (x ∷ xs) t zero h e = inl e
-contains_at (x ∷ xs) t (suc k) h e = inr (contains_at xs t k (omega arith) e)
-
-pub contains_in : (xs : List ℕ) (t : ℕ) → Contains xs t → In t xs
-contains_in xs t h = contains_at xs t h.0 h.1 h.2
-
-pub aim_cases : (o : Option ℕ) (l : ℕ) → ((k : ℕ) → o ≡ Some k → k ≡ l) → (o ≡ None) ⊎ (o ≡ Some l)
-aim_cases None l f = inl refl
-aim_cases (Some k) l f = inr (ap Some (f k refl))
+use Rattle.lot_words.specs.World.{LockWord, LockWorld, is_owned, Holds, Kept}
+use Rattle.lot_words.specs.Rule.{wants_of, part_of}
+use Rattle.lot_words.specs.Calls.{Aims, gripped, wishing, sleeping, let_go, found_parked}
+use Rattle.lot_words.proofs.Holding.{is_awake, in_no_line}
+use Rattle.lot_words.proofs.Letters.{first_waits}
 
 pub owned_true : (o : ℕ) → o ≢ 0 → is_owned o ≡ true
 owned_true zero ne = absurd (ne refl)
 owned_true (suc t) ne = refl
 
--- who has the lock, after t got it, after t let it go, and after t handed it to u
-pub has_gets : (o t v : ℕ) → o ≡ 0 → (suc t == suc v) ≡ put (λ z. o == suc z) t true v
-has_gets o t v e = put_elim (λ x. (suc t == suc v) ≡ x) (λ z. o == suc z) t true v (λ vt. eq-eqb (suc t) (suc v) (omega arith)) (λ ne. ne_eqb (suc t) (suc v) (λ h. ne (omega arith)) ∙ sym (ne_eqb o (suc v) (λ h. omega arith)))
+aim_cases : (a : Option ℕ) (l : ℕ) → ((k : ℕ) → a ≡ Some k → k ≡ l) → (a ≡ None) ⊎ (a ≡ Some l)
+aim_cases None l aims = inl refl
+aim_cases (Some k) l aims = inr (ap Some (aims k refl))
 
-pub has_loses : (o t v : ℕ) → o ≡ suc t → (0 == suc v) ≡ put (λ z. o == suc z) t false v
-has_loses o t v e = put_elim (λ x. (0 == suc v) ≡ x) (λ z. o == suc z) t false v (λ vt. ne_eqb 0 (suc v) (λ h. omega arith)) (λ ne. ne_eqb 0 (suc v) (λ h. omega arith) ∙ sym (ne_eqb o (suc v) (λ h. ne (omega arith))))
+-- who has the lock, where its owner changes
+has_gets : (o t : ℕ) → o ≡ 0 → (λ v. suc t == suc v) ≡ put (λ v. o == suc v) t true
+has_gets o t none = fun_ext (λ v. put_elim (λ b. (suc t == suc v) ≡ b) (λ u. o == suc u) t true v (λ vt. eq-eqb (suc t) (suc v) (omega arith))
+    (λ ne. ne_eqb (suc t) (suc v) (λ e. ne (omega arith)) ∙ sym (ne_eqb o (suc v) (λ e. omega arith))))
 
-pub has_hands : (o t u v : ℕ) → o ≡ suc t → (suc u == suc v) ≡ put (put (λ z. o == suc z) t false) u true v
-has_hands o t u v e = put_elim (λ x. (suc u == suc v) ≡ x) (put (λ z. o == suc z) t false) u true v (λ vu. eq-eqb (suc u) (suc v) (omega arith))
-    (λ ne. ne_eqb (suc u) (suc v) (λ h. ne (omega arith)) ∙ (sym (ne_eqb 0 (suc v) (λ h. omega arith)) ∙ has_loses o t v e))
+has_loses : (o t : ℕ) → o ≡ suc t → (λ v. 0 == suc v) ≡ put (λ v. o == suc v) t false
+has_loses o t own = fun_ext (λ v. put_elim (λ b. (0 == suc v) ≡ b) (λ u. o == suc u) t false v (λ _. ne_eqb 0 (suc v) (λ e. omega arith))
+    (λ ne. ne_eqb 0 (suc v) (λ e. omega arith) ∙ sym (ne_eqb o (suc v) (λ e. ne (omega arith)))))
 
-module _ (w : World) (l : ℕ) where
-  pub same_held : (k : ℕ) → is_owned (put w.locks.owner l (w.locks.owner l) k) ≡ is_owned (w.locks.owner k)
-  same_held k = ap is_owned (put_again w.locks.owner l (w.locks.owner l) k refl)
+has_hands : (o t u : ℕ) → o ≡ suc t → (λ v. suc u == suc v) ≡ put (put (λ v. o == suc v) t false) u true
+has_hands o t u own = fun_ext (λ v. put_elim (λ b. (suc u == suc v) ≡ b) (put (λ i. o == suc i) t false) u true v (λ vu. eq-eqb (suc u) (suc v) (omega arith))
+    (λ ne. put_elim (λ b. (suc u == suc v) ≡ b) (λ i. o == suc i) t false v (λ _. ne_eqb (suc u) (suc v) (λ e. ne (omega arith)))
+    (λ vt. ne_eqb (suc u) (suc v) (λ e. ne (omega arith)) ∙ sym (ne_eqb o (suc v) (λ e. vt (omega arith))))))
 
-  pub same_parked : (k : ℕ) → put w.locks.parked l (w.locks.parked l) k ≡ w.locks.parked k
-  same_parked k = put_again w.locks.parked l (w.locks.parked l) k refl
+module _ {V : Type 0} (w : LockWorld V) where
+  abbrev wants : ℕ → Option ℕ
+  wants = (part_of w).wants
 
-  pub same_line : (q : LockRootView) → q.line ≡ (w.locks.root l).line → (k : ℕ) → (put w.locks.root l q k).line ≡ (w.locks.root k).line
-  same_line q e k = put_elim (λ (x : LockRootView). x.line ≡ (w.locks.root k).line) w.locks.root l q k (λ kl. e ∙ ap (λ z. (w.locks.root z).line) (sym kl)) (λ _. refl)
+  -- the word of l becomes x
+  held_now : (l : ℕ) (x : LockWord) → (λ k. is_owned (put w.word l x k).owner) ≡ put (part_of w).locks.held l (is_owned x.owner)
+  held_now l x = told_put (λ (z : LockWord). is_owned z.owner) w.word l x
 
-  pub same_has : (k v : ℕ) → (put w.locks.owner l (w.locks.owner l) k == suc v) ≡ (w.locks.owner k == suc v)
-  same_has k v = ap (λ o. o == suc v) (put_again w.locks.owner l (w.locks.owner l) k refl)
+  parked_now : (l : ℕ) (x : LockWord) → (λ k. (put w.word l x k).parked) ≡ put (part_of w).locks.parked l x.parked
+  parked_now l x = told_put (λ (z : LockWord). z.parked) w.word l x
 
-  -- the part stays
-  pub same_part : (t : ℕ) (p : LockPassView) (u : ℕ) (sp : Spot) (q : LockRootView) → q.line ≡ (w.locks.root l).line → p.aim ≡ (w.threads.pass t).aim → wants_of sp (w.threads.pass u).aim ≡ wants_of (w.threads.spot u) (w.threads.pass u).aim
-      → part_of (turned2 w t p u sp l (w.locks.owner l) (w.locks.parked l) q) ≡ part_of w
-  same_part t p u sp q line aim want = part_is w t p u sp l (w.locks.owner l) (w.locks.parked l) q (part_of w).locks.held (part_of w).locks.parked (part_of w).locks.line (part_of w).locks.has (part_of w).wants
-      same_held same_parked (same_line q line) same_has (wants_stay w t p u sp aim want)
+  parked_same : (l : ℕ) (x : LockWord) → x.parked ≡ (w.word l).parked → (λ k. (put w.word l x k).parked) ≡ (part_of w).locks.parked
+  parked_same l x e = told_same (λ (z : LockWord). z.parked) w.word l x e
 
-module _ (n m : ℕ) (w : World) (ok : Kept n m w) (t l : ℕ) (near : t < n) (here : l < m) (up : (w.threads.pass t).asleep ≡ false) where
-  pub wants_now : (part_of w).wants t ≡ (w.threads.pass t).aim
-  wants_now = ap (λ z. wants_of z (w.threads.pass t).aim) (is_awake n m w ok t l near here up)
+  has_now : (l : ℕ) (x : LockWord) (has : ℕ → Bool) → (λ v. x.owner == suc v) ≡ has → (λ k v. (put w.word l x k).owner == suc v) ≡ put (part_of w).locks.has l has
+  has_now l x has e = told_put {Y = ℕ → Bool} (λ (z : LockWord) v. z.owner == suc v) w.word l x ∙ ap (put (part_of w).locks.has l) e
 
-  pub not_in_line : ¬ Contains (w.locks.root l).line t
-  not_in_line h = in_no_line n m w ok t l near here up l (contains_in (w.locks.root l).line t h)
+  line_now : (l : ℕ) (q : LockRootView) → (λ k. (put w.root l q k).line) ≡ put (part_of w).locks.line l q.line
+  line_now l q = told_put (λ (z : LockRootView). z.line) w.root l q
 
-  pub may_try : Aims (w.threads.pass t) l → MayTry (part_of w) t l
-  may_try aims = ⊎_elim {C = MayTry (part_of w) t l} (λ e. inl (wants_now ∙ e)) (λ e. inr (wants_now ∙ e, not_in_line)) (aim_cases (w.threads.pass t).aim l aims)
+  -- t's pass has another aim, or its notice moves: it wants a then
+  wants_put : (t : ℕ) (p : LockPassView V) (spots : ℕ → Spot) (a : Option ℕ) → wants_of (spots t) p.aim ≡ a → ((v : ℕ) → v ≢ t → spots v ≡ w.spot v) → (λ v. wants_of (spots v) (put w.pass t p v).aim) ≡ put wants t a
+  wants_put t p spots a here else = is_put (λ v. wants_of (spots v) (put w.pass t p v).aim) wants t a (ap (λ (z : LockPassView V). wants_of (spots t) z.aim) (put_same w.pass t p) ∙ here)
+      (λ v ne. (λ i. wants_of (else v ne i) (put_other w.pass t p v ne i).aim))
 
-  awake_wants : (sp : Spot) → wants_of sp (w.threads.pass t).aim ≡ (w.threads.pass t).aim → wants_of sp (w.threads.pass t).aim ≡ wants_of (w.threads.spot t) (w.threads.pass t).aim
-  awake_wants sp e = e ∙ sym wants_now
+  -- it wants what it wanted
+  wants_same : (t : ℕ) (p : LockPassView V) (spots : ℕ → Spot) → p.aim ≡ (w.pass t).aim → ((v : ℕ) → wants_of (spots v) (w.pass v).aim ≡ wants v) → (λ v. wants_of (spots v) (put w.pass t p v).aim) ≡ wants
+  wants_same t p spots aim same = fun_ext (λ v. put_elim (λ z. wants_of (spots v) z.aim ≡ wants v) w.pass t p v (λ vt. ap (wants_of (spots v)) (aim ∙ ap (λ z. (w.pass z).aim) (sym vt)) ∙ same v) (λ _. same v))
 
-  -- ---- take and try
-  got_part : w.locks.owner l ≡ 0 → (wants : ℕ → Option ℕ) → ((v : ℕ) → put (part_of w).wants t None v ≡ wants v)
-      → part_of (turned w t (gripped (w.threads.pass t) l) awake l (suc t) (w.locks.parked l) (w.locks.root l))
-      ≡ record { locks = record (part_of w).locks { held = put (part_of w).locks.held l true; has = put (part_of w).locks.has l (put ((part_of w).locks.has l) t true) }; wants = wants }
-  got_part unheld wants is = part_is w t (gripped (w.threads.pass t) l) t awake l (suc t) (w.locks.parked l) (w.locks.root l)
-      (put (part_of w).locks.held l true) (part_of w).locks.parked (part_of w).locks.line (put (part_of w).locks.has l (put ((part_of w).locks.has l) t true)) wants
-      (λ k. put_fits is_owned w.locks.owner l (suc t) true k refl) (same_parked w l) (same_line w l (w.locks.root l) refl)
-      (λ k v. owned_by w.locks.owner l (suc t) (put ((part_of w).locks.has l) t true) k v (has_gets (w.locks.owner l) t v unheld))
-      (λ v. wants_at w t (gripped (w.threads.pass t) l) awake None refl v ∙ is v)
+  -- the notice of u moves, and u wants what it wanted
+  spot_same : (u : ℕ) (sp : Spot) → wants_of sp (w.pass u).aim ≡ wants_of (w.spot u) (w.pass u).aim → (v : ℕ) → wants_of (put w.spot u sp v) (w.pass v).aim ≡ wants v
+  spot_same u sp e v = put_elim (λ z. wants_of z (w.pass v).aim ≡ wants v) w.spot u sp v (λ vu. ap (λ z. wants_of sp (w.pass z).aim) vu ∙ (e ∙ ap (λ z. wants_of (w.spot z) (w.pass z).aim) (sym vu))) (λ _. refl)
 
-  pub row_take_free : Aims (w.threads.pass t) l → w.locks.owner l ≡ 0
-      → LockStep n m (part_of w) (Take t l) (Saw true) (part_of (turned w t (gripped (w.threads.pass t) l) awake l (suc t) (w.locks.parked l) (w.locks.root l)))
-  row_take_free aims unheld =
-      let e : false ≡ is_owned (w.locks.owner l) = ap is_owned (sym unheld) in
-      let then : Bool → LockPart = λ c. record { locks = cond c (part_of w).locks (record (part_of w).locks { held = put (part_of w).locks.held l true; has = put (part_of w).locks.has l (put ((part_of w).locks.has l) t true) }); wants = put (part_of w).wants t (cond c (Some l) None) } in
-      ((near, here, may_try aims), ap (λ c. Saw (not c)) e, got_part unheld (put (part_of w).wants t None) (λ _. refl) ∙ ap then e)
+  -- ---- the part stays
+  -- a pass that aims as before
+  pub same_pass : (t : ℕ) (p : LockPassView V) → p.aim ≡ (w.pass t).aim → part_of (record w { pass = put w.pass t p }) ≡ part_of w
+  same_pass t p aim = λ i. record { locks = (part_of w).locks; wants = wants_same t p w.spot aim (λ v. refl) i }
 
-  pub row_take_held : Aims (w.threads.pass t) l → w.locks.owner l ≢ 0
-      → LockStep n m (part_of w) (Take t l) (Saw false) (part_of (turned w t (wishing (w.threads.pass t) l) awake l (w.locks.owner l) (w.locks.parked l) (w.locks.root l)))
-  row_take_held aims held =
-      let e : true ≡ is_owned (w.locks.owner l) = sym (owned_true (w.locks.owner l) held) in
-      let then : Bool → LockPart = λ c. record { locks = cond c (part_of w).locks (record (part_of w).locks { held = put (part_of w).locks.held l true; has = put (part_of w).locks.has l (put ((part_of w).locks.has l) t true) }); wants = put (part_of w).wants t (cond c (Some l) None) } in (
-        (near, here, may_try aims),
-        ap (λ c. Saw (not c)) e,
-        part_is w t (wishing (w.threads.pass t) l) t awake l (w.locks.owner l) (w.locks.parked l) (w.locks.root l)
-            (part_of w).locks.held (part_of w).locks.parked (part_of w).locks.line (part_of w).locks.has (put (part_of w).wants t (Some l))
-            (same_held w l) (same_parked w l) (same_line w l (w.locks.root l) refl) (same_has w l) (wants_at w t (wishing (w.threads.pass t) l) awake (Some l) refl)
-            ∙ ap then e,
-      )
+  -- a letter that is posted
+  pub same_post : (u : ℕ) (sp : Spot) (l : ℕ) (q : LockRootView) → wants_of sp (w.pass u).aim ≡ wants_of (w.spot u) (w.pass u).aim → q.line ≡ (w.root l).line
+      → part_of (record w { spot = put w.spot u sp; root = put w.root l q }) ≡ part_of w
+  same_post u sp l q want line = λ i. record { locks = record (part_of w).locks { line = told_same (λ (z : LockRootView). z.line) w.root l q line i }; wants = fun_ext (spot_same u sp want) i }
 
-  pub row_try_free : (w.threads.pass t).aim ≡ None → w.locks.owner l ≡ 0
-      → LockStep n m (part_of w) (Try t l) (Saw true) (part_of (turned w t (gripped (w.threads.pass t) l) awake l (suc t) (w.locks.parked l) (w.locks.root l)))
-  row_try_free aim unheld =
-      let e : false ≡ is_owned (w.locks.owner l) = ap is_owned (sym unheld) in
-      let then : Bool → LockPart = λ c. record { locks = cond c (part_of w).locks (record (part_of w).locks { held = put (part_of w).locks.held l true; has = put (part_of w).locks.has l (put ((part_of w).locks.has l) t true) }); wants = (part_of w).wants } in
-      ((near, here, wants_now ∙ aim), ap (λ c. Saw (not c)) e, got_part unheld (part_of w).wants (λ v. put_again (part_of w).wants t None v (sym (wants_now ∙ aim))) ∙ ap then e)
+  -- a letter that is collected
+  pub same_collect : (t : ℕ) (p : LockPassView V) → wants_of awake p.aim ≡ wants t → part_of (record w { pass = put w.pass t p; spot = put w.spot t awake }) ≡ part_of w
+  same_collect t p want = λ i. record {
+    locks = (part_of w).locks;
+    wants = (wants_put t p (put w.spot t awake) (wants t) (ap (λ z. wants_of z p.aim) (put_same w.spot t awake) ∙ want) (λ v ne. put_other w.spot t awake v ne) ∙ put_again wants t) i;
+  }
 
-  pub row_try_held : (w.threads.pass t).aim ≡ None → w.locks.owner l ≢ 0 → LockStep n m (part_of w) (Try t l) (Saw false) (part_of w)
-  row_try_held aim held =
-      let e : true ≡ is_owned (w.locks.owner l) = sym (owned_true (w.locks.owner l) held) in
-      let then : Bool → LockPart = λ c. record { locks = cond c (part_of w).locks (record (part_of w).locks { held = put (part_of w).locks.held l true; has = put (part_of w).locks.has l (put ((part_of w).locks.has l) t true) }); wants = (part_of w).wants } in
-      ((near, here, wants_now ∙ aim), ap (λ c. Saw (not c)) e, ap then e)
+  module _ (n m : ℕ) (ok : Kept n m w) (t : ℕ) (near : t < n) (up : (w.pass t).asleep ≡ false) where
+    wants_now : wants t ≡ (w.pass t).aim
+    wants_now = ap (λ z. wants_of z (w.pass t).aim) (is_awake n m w ok t near up)
 
-  -- ---- mark
-  pub row_mark : Aims (w.threads.pass t) l → w.locks.owner l ≢ 0
-      → LockStep n m (part_of w) (Mark t l) Done (part_of (turned w t (w.threads.pass t) awake l (w.locks.owner l) true (w.locks.root l)))
-  row_mark aims held = (
-    (near, here, may_try aims, owned_true (w.locks.owner l) held),
-    refl,
-    part_is w t (w.threads.pass t) t awake l (w.locks.owner l) true (w.locks.root l)
-        (part_of w).locks.held (put (part_of w).locks.parked l true) (part_of w).locks.line (part_of w).locks.has (part_of w).wants
-        (same_held w l) (λ _. refl) (same_line w l (w.locks.root l) refl) (same_has w l) (wants_stay w t (w.threads.pass t) t awake refl (awake_wants awake refl)),
-  )
+    module _ (l : ℕ) (here : l < m) where
+      not_in_line : ¬ Contains (w.root l).line t
+      not_in_line = in_no_line n m w ok t near up l
 
-  -- ---- park
-  pub row_park : (w.threads.pass t).aim ≡ Some l → w.locks.owner l ≢ 0 → w.locks.parked l ≡ true
-      → LockStep n m (part_of w) (Park t l) (Saw true) (part_of (turned w t (sleeping (w.threads.pass t)) (queued l) l (w.locks.owner l) (w.locks.parked l) (record (w.locks.root l) { line = (w.locks.root l).line ++ t ∷ [] })))
-  row_park aim held parked =
-      let e : true ≡ is_owned (w.locks.owner l) = sym (owned_true (w.locks.owner l) held) in
-      let f : true ≡ w.locks.parked l = sym parked in
-      let both : true ≡ (is_owned (w.locks.owner l) && w.locks.parked l) = λ i. e i && f i in
-      let q : LockRootView = record (w.locks.root l) { line = (w.locks.root l).line ++ t ∷ [] } in
-      let then : Bool → LockPart = λ c. record { locks = cond c (record (part_of w).locks { line = put (part_of w).locks.line l ((part_of w).locks.line l ++ t ∷ []) }) (part_of w).locks; wants = (part_of w).wants } in (
-        (near, here, wants_now ∙ aim, not_in_line),
-        ap Saw both,
-        part_is w t (sleeping (w.threads.pass t)) t (queued l) l (w.locks.owner l) (w.locks.parked l) q
-            (part_of w).locks.held (part_of w).locks.parked (put (part_of w).locks.line l ((part_of w).locks.line l ++ t ∷ [])) (part_of w).locks.has (part_of w).wants
-            (same_held w l) (same_parked w l) (λ k. put_fits (λ (x : LockRootView). x.line) w.locks.root l q ((w.locks.root l).line ++ t ∷ []) k refl) (same_has w l)
-            (wants_stay w t (sleeping (w.threads.pass t)) t (queued l) refl (awake_wants (queued l) refl))
-            ∙ ap then both,
-      )
+      may_try : Aims (w.pass t) l → MayTry (part_of w) t l
+      may_try aims = ⊎_elim {C = MayTry (part_of w) t l} (λ e. inl (wants_now ∙ e)) (λ e. inr (wants_now ∙ e, not_in_line)) (aim_cases (w.pass t).aim l aims)
 
-  pub row_park_not : (w.threads.pass t).aim ≡ Some l → (is_owned (w.locks.owner l) && w.locks.parked l) ≡ false → LockStep n m (part_of w) (Park t l) (Saw false) (part_of w)
-  row_park_not aim not_both =
-      let both : false ≡ (is_owned (w.locks.owner l) && w.locks.parked l) = sym not_both in
-      let then : Bool → LockPart = λ c. record { locks = cond c (record (part_of w).locks { line = put (part_of w).locks.line l ((part_of w).locks.line l ++ t ∷ []) }) (part_of w).locks; wants = (part_of w).wants } in
-      ((near, here, wants_now ∙ aim, not_in_line), ap Saw both, ap then both)
+      -- ---- take and try
+      module _ (unheld : (w.word l).owner ≡ 0) (x : V) where
+        abbrev got : LockWorld V
+        got = record w { pass = put w.pass t (gripped (w.pass t) l x); word = put w.word l (record { owner = suc t; parked = (w.word l).parked }) }
 
-  -- ---- free and pass
-  module _ (has : Holds (w.threads.pass t) l) (aim : (w.threads.pass t).aim ≡ None) where
-    owner_is : w.locks.owner l ≡ suc t
-    owner_is = (ok.threads t).holds l has
+        got_part : (want : ℕ → Option ℕ) → put wants t None ≡ want
+            → part_of got ≡ record { locks = record (part_of w).locks { held = put (part_of w).locks.held l true; has = put (part_of w).locks.has l (put ((part_of w).locks.has l) t true) }; wants = want }
+        got_part want is = let y : LockWord = record { owner = suc t; parked = (w.word l).parked } in λ i. record {
+          locks = record {
+            held = held_now l y i;
+            parked = parked_same l y refl i;
+            line = (part_of w).locks.line;
+            has = has_now l y (put ((part_of w).locks.has l) t true) (has_gets (w.word l).owner t unheld) i;
+          };
+          wants = (wants_put t (gripped (w.pass t) l x) w.spot None (ap (λ z. wants_of z None) (is_awake n m w ok t near up)) (λ v ne. refl) ∙ is) i;
+        }
 
-    has_now : (w.locks.owner l == suc t) ≡ true
-    has_now = eq-eqb (w.locks.owner l) (suc t) owner_is
+        free_now : false ≡ is_owned (w.word l).owner
+        free_now = ap is_owned (sym unheld)
 
-    -- the part after t let l go, in whose line `us` are left
-    let_go_part : (u : ℕ) (sp : Spot) (b : Bool) (q : LockRootView) (parked : ℕ → Bool) (line : ℕ → List ℕ) → ((k : ℕ) → put w.locks.parked l b k ≡ parked k) → ((k : ℕ) → (put w.locks.root l q k).line ≡ line k)
-        → wants_of sp (w.threads.pass u).aim ≡ wants_of (w.threads.spot u) (w.threads.pass u).aim
-        → part_of (turned2 w t (let_go (w.threads.pass t) l) u sp l 0 b q)
-        ≡ record { locks = record { held = put (part_of w).locks.held l false; parked = parked; line = line; has = put (part_of w).locks.has l (put ((part_of w).locks.has l) t false) }; wants = (part_of w).wants }
-    let_go_part u sp b q parked line parks lines want = part_is w t (let_go (w.threads.pass t) l) u sp l 0 b q
-        (put (part_of w).locks.held l false) parked line (put (part_of w).locks.has l (put ((part_of w).locks.has l) t false)) (part_of w).wants
-        (λ k. put_fits is_owned w.locks.owner l 0 false k refl) parks lines
-        (λ k v. owned_by w.locks.owner l 0 (put ((part_of w).locks.has l) t false) k v (has_loses (w.locks.owner l) t v owner_is))
-        (wants_stay w t (let_go (w.threads.pass t) l) u sp refl want)
+        pub row_take_free : Aims (w.pass t) l → LockStep n m (part_of w) (Take t l) (Saw true) (part_of got)
+        row_take_free aims =
+            let then : Bool → LockPart = λ c. record { locks = cond c (part_of w).locks (record (part_of w).locks { held = put (part_of w).locks.held l true; has = put (part_of w).locks.has l (put ((part_of w).locks.has l) t true) }); wants = put wants t (cond c (Some l) None) } in
+            ((near, here, may_try aims), ap (λ c. Saw (not c)) free_now, got_part (put wants t None) refl ∙ ap then free_now)
 
-    pub row_free : w.locks.parked l ≡ false → LockStep n m (part_of w) (Free t l) (Saw true) (part_of (turned w t (let_go (w.threads.pass t) l) awake l 0 (w.locks.parked l) (w.locks.root l)))
-    row_free unparked =
-        let e : false ≡ w.locks.parked l = sym unparked in
-        let then : Bool → LockPart = λ c. record { locks = cond c (part_of w).locks (record (part_of w).locks { held = put (part_of w).locks.held l false; has = put (part_of w).locks.has l (put ((part_of w).locks.has l) t false) }); wants = (part_of w).wants } in (
-          (near, here, has_now, wants_now ∙ aim),
-          ap (λ c. Saw (not c)) e,
-          let_go_part t awake (w.locks.parked l) (w.locks.root l) (part_of w).locks.parked (part_of w).locks.line (same_parked w l) (same_line w l (w.locks.root l) refl) (awake_wants awake refl) ∙ ap then e,
+        pub row_try_free : (w.pass t).aim ≡ None → LockStep n m (part_of w) (Try t l) (Saw true) (part_of got)
+        row_try_free aim =
+            let then : Bool → LockPart = λ c. record { locks = cond c (part_of w).locks (record (part_of w).locks { held = put (part_of w).locks.held l true; has = put (part_of w).locks.has l (put ((part_of w).locks.has l) t true) }); wants = wants } in
+            ((near, here, wants_now ∙ aim), ap (λ c. Saw (not c)) free_now, got_part wants (ap (put wants t) (sym (wants_now ∙ aim)) ∙ put_again wants t) ∙ ap then free_now)
+
+      module _ (held : (w.word l).owner ≢ 0) where
+        held_now_is : true ≡ is_owned (w.word l).owner
+        held_now_is = sym (owned_true (w.word l).owner held)
+
+        pub row_take_held : Aims (w.pass t) l → LockStep n m (part_of w) (Take t l) (Saw false) (part_of (record w { pass = put w.pass t (wishing (w.pass t) l) }))
+        row_take_held aims =
+            let then : Bool → LockPart = λ c. record { locks = cond c (part_of w).locks (record (part_of w).locks { held = put (part_of w).locks.held l true; has = put (part_of w).locks.has l (put ((part_of w).locks.has l) t true) }); wants = put wants t (cond c (Some l) None) } in (
+              (near, here, may_try aims),
+              ap (λ c. Saw (not c)) held_now_is,
+              (λ i. record { locks = (part_of w).locks; wants = wants_put t (wishing (w.pass t) l) w.spot (Some l) (ap (λ z. wants_of z (Some l)) (is_awake n m w ok t near up)) (λ v ne. refl) i }) ∙ ap then held_now_is,
+            )
+
+        pub row_try_held : (w.pass t).aim ≡ None → LockStep n m (part_of w) (Try t l) (Saw false) (part_of w)
+        row_try_held aim =
+            let then : Bool → LockPart = λ c. record { locks = cond c (part_of w).locks (record (part_of w).locks { held = put (part_of w).locks.held l true; has = put (part_of w).locks.has l (put ((part_of w).locks.has l) t true) }); wants = wants } in
+            ((near, here, wants_now ∙ aim), ap (λ c. Saw (not c)) held_now_is, ap then held_now_is)
+
+        pub row_mark : Aims (w.pass t) l → LockStep n m (part_of w) (Mark t l) Done (part_of (record w { word = put w.word l (record { owner = (w.word l).owner; parked = true }) }))
+        row_mark aims = let y : LockWord = record { owner = (w.word l).owner; parked = true } in (
+          (near, here, may_try aims, sym held_now_is),
+          refl,
+          (λ i. record {
+            locks = record {
+              held = told_same (λ (z : LockWord). is_owned z.owner) w.word l y refl i;
+              parked = parked_now l y i;
+              line = (part_of w).locks.line;
+              has = told_same {Y = ℕ → Bool} (λ (z : LockWord) v. z.owner == suc v) w.word l y refl i;
+            };
+            wants = wants;
+          }),
         )
 
-    pub row_free_parked : w.locks.parked l ≡ true → LockStep n m (part_of w) (Free t l) (Saw false) (part_of (turned w t (found_parked (w.threads.pass t) l) awake l (w.locks.owner l) (w.locks.parked l) (w.locks.root l)))
-    row_free_parked parked =
-        let e : true ≡ w.locks.parked l = sym parked in
-        let then : Bool → LockPart = λ c. record { locks = cond c (part_of w).locks (record (part_of w).locks { held = put (part_of w).locks.held l false; has = put (part_of w).locks.has l (put ((part_of w).locks.has l) t false) }); wants = (part_of w).wants } in (
-          (near, here, has_now, wants_now ∙ aim),
-          ap (λ c. Saw (not c)) e,
-          same_part w l t (found_parked (w.threads.pass t) l) t awake (w.locks.root l) refl refl (awake_wants awake refl) ∙ ap then e,
-        )
+        pub row_park : (w.pass t).aim ≡ Some l → (w.word l).parked ≡ true
+            → LockStep n m (part_of w) (Park t l) (Saw true) (part_of (record w { pass = put w.pass t (sleeping (w.pass t)); spot = put w.spot t (queued l); root = put w.root l (record (w.root l) { line = (w.root l).line ++ t ∷ [] }) }))
+        row_park aim parked =
+            let both : true ≡ (is_owned (w.word l).owner && (w.word l).parked) = (λ i. held_now_is i && sym parked i) in
+            let q : LockRootView = record (w.root l) { line = (w.root l).line ++ t ∷ [] } in
+            let then : Bool → LockPart = λ c. record { locks = cond c (record (part_of w).locks { line = put (part_of w).locks.line l ((part_of w).locks.line l ++ t ∷ []) }) (part_of w).locks; wants = wants } in (
+              (near, here, wants_now ∙ aim, not_in_line),
+              ap Saw both,
+              (λ i. record { locks = record (part_of w).locks { line = line_now l q i }; wants = wants_same t (sleeping (w.pass t)) (put w.spot t (queued l)) refl (spot_same t (queued l) (sym wants_now)) i }) ∙ ap then both,
+            )
 
-    -- nobody is in the line
-    pub row_pass_none : (more : Bool) → w.locks.parked l ≡ true → (w.locks.root l).line ≡ []
-        → LockStep n m (part_of w) (Pass t l false more) (Sleeper None) (part_of (turned w t (let_go (w.threads.pass t) l) awake l 0 false (w.locks.root l)))
-    row_pass_none more parked line = (
-      (near, here, has_now, parked, wants_now ∙ aim, (λ _ h. absurd (let f : length (w.locks.root l).line ≡ 0 = ap length line in omega arith))),
-      ap (λ z. Sleeper (first z)) (sym line),
-      let_go_part t awake false (w.locks.root l) (put (part_of w).locks.parked l false) (part_of w).locks.line (λ _. refl) (same_line w l (w.locks.root l) refl) (awake_wants awake refl)
-          ∙ (let then : List ℕ → LockPart = λ z. record { locks = passed_line (part_of w).locks t l false more z; wants = (part_of w).wants } in ap then (sym line)),
-    )
+      pub row_park_not : (w.pass t).aim ≡ Some l → (is_owned (w.word l).owner && (w.word l).parked) ≡ false → LockStep n m (part_of w) (Park t l) (Saw false) (part_of w)
+      row_park_not aim not_both =
+          let then : Bool → LockPart = λ c. record { locks = cond c (record (part_of w).locks { line = put (part_of w).locks.line l ((part_of w).locks.line l ++ t ∷ []) }) (part_of w).locks; wants = wants } in
+          ((near, here, wants_now ∙ aim, not_in_line), ap Saw (sym not_both), ap then (sym not_both))
 
-    module _ (u : ℕ) (us : List ℕ) (line : (w.locks.root l).line ≡ u ∷ us) (parked : w.locks.parked l ≡ true) where
-      first_waits : (c : Spot) → wants_of c (w.threads.pass u).aim ≡ (w.threads.pass u).aim → wants_of c (w.threads.pass u).aim ≡ wants_of (w.threads.spot u) (w.threads.pass u).aim
-      first_waits c e = let s : w.threads.spot u ≡ queued l = (ok.threads u).in_line l (subst (In u) (sym line) (inl refl)) in e ∙ ap (λ z. wants_of z (w.threads.pass u).aim) (sym s)
+      -- ---- free and pass
+      module _ (has : Holds (w.pass t) l) (aim : (w.pass t).aim ≡ None) where
+        owner_is : (w.word l).owner ≡ suc t
+        owner_is = (ok.threads t).holds l has
 
-      -- the lock is let go, and the first may try
-      pub row_pass_plain : (more : Bool) → SaysMore (w.locks.root l).line more
-          → LockStep n m (part_of w) (Pass t l false more) (Sleeper (Some u)) (part_of (turned2 w t (let_go (w.threads.pass t) l) u (owed l 0) l 0 more (record (w.locks.root l) { line = us; owes = Some (u, 0) })))
-      row_pass_plain more says =
-          let q : LockRootView = record (w.locks.root l) { line = us; owes = Some (u, 0) } in (
-            (near, here, has_now, parked, wants_now ∙ aim, (λ _. says)),
+        has_it : ((w.word l).owner == suc t) ≡ true
+        has_it = eq-eqb (w.word l).owner (suc t) owner_is
+
+        abbrev let_go_part : (ℕ → Bool) → (ℕ → List ℕ) → LockPart
+        let_go_part parked line = record { locks = record { held = put (part_of w).locks.held l false; parked = parked; line = line; has = put (part_of w).locks.has l (put ((part_of w).locks.has l) t false) }; wants = wants }
+
+        module _ (y : V) where
+          pub row_free : (w.word l).parked ≡ false
+              → LockStep n m (part_of w) (Free t l) (Saw true) (part_of (record w { pass = put w.pass t (let_go (w.pass t) l y); word = put w.word l (record { owner = 0; parked = (w.word l).parked }) }))
+          row_free unparked =
+              let x : LockWord = record { owner = 0; parked = (w.word l).parked } in
+              let e : false ≡ (w.word l).parked = sym unparked in
+              let then : Bool → LockPart = λ c. record { locks = cond c (part_of w).locks (record (part_of w).locks { held = put (part_of w).locks.held l false; has = put (part_of w).locks.has l (put ((part_of w).locks.has l) t false) }); wants = wants } in (
+                (near, here, has_it, wants_now ∙ aim),
+                ap (λ c. Saw (not c)) e,
+                (λ i. record {
+                  locks = record { held = held_now l x i; parked = parked_same l x refl i; line = (part_of w).locks.line; has = has_now l x (put ((part_of w).locks.has l) t false) (has_loses (w.word l).owner t owner_is) i };
+                  wants = wants_same t (let_go (w.pass t) l y) w.spot refl (λ v. refl) i;
+                }) ∙ ap then e,
+              )
+
+          -- nobody is in the line
+          pub row_pass_none : (more : Bool) → (w.word l).parked ≡ true → (w.root l).line ≡ []
+              → LockStep n m (part_of w) (Pass t l false more) (Sleeper None) (part_of (record w { pass = put w.pass t (let_go (w.pass t) l y); word = put w.word l (record { owner = 0; parked = false }) }))
+          row_pass_none more parked line = let x : LockWord = record { owner = 0; parked = false } in (
+            (near, here, has_it, parked, wants_now ∙ aim, (λ _ two. absurd (let f : length (w.root l).line ≡ 0 = ap length line in omega arith))),
             ap (λ z. Sleeper (first z)) (sym line),
-            let_go_part u (owed l 0) more q (put (part_of w).locks.parked l more) (put (part_of w).locks.line l us) (λ _. refl) (λ k. put_fits (λ (x : LockRootView). x.line) w.locks.root l q us k refl) (first_waits (owed l 0) refl)
-                ∙ (let then : List ℕ → LockPart = λ z. record { locks = passed_line (part_of w).locks t l false more z; wants = (part_of w).wants } in ap then (sym line)),
+            (λ i. record {
+              locks = record { held = held_now l x i; parked = parked_now l x i; line = (part_of w).locks.line; has = has_now l x (put ((part_of w).locks.has l) t false) (has_loses (w.word l).owner t owner_is) i };
+              wants = wants_same t (let_go (w.pass t) l y) w.spot refl (λ v. refl) i;
+            }) ∙ (let then : List ℕ → LockPart = λ z. record { locks = passed_line (part_of w).locks t l false more z; wants = wants } in ap then (sym line)),
           )
 
-      -- the lock is handed to the first
-      pub row_pass_fair : (more : Bool)
-          → LockStep n m (part_of w) (Pass t l true more) (Sleeper (Some u)) (part_of (turned2 w t (let_go (w.threads.pass t) l) u (owed l 1) l (suc u) (w.locks.parked l) (record (w.locks.root l) { line = us; owes = Some (u, 1) })))
-      row_pass_fair more =
-          let q : LockRootView = record (w.locks.root l) { line = us; owes = Some (u, 1) } in
-          let has' : ℕ → Bool = put (put ((part_of w).locks.has l) t false) u true in (
-            (near, here, has_now, parked, wants_now ∙ aim, (λ e. absurd (cc (e)))),
-            ap (λ z. Sleeper (first z)) (sym line),
-            part_is w t (let_go (w.threads.pass t) l) u (owed l 1) l (suc u) (w.locks.parked l) q
-                (part_of w).locks.held (part_of w).locks.parked (put (part_of w).locks.line l us) (put (part_of w).locks.has l has') (put (part_of w).wants u None)
-                (λ k. put_fits is_owned w.locks.owner l (suc u) true k refl ∙ put_again (part_of w).locks.held l true k (ap is_owned (sym owner_is)))
-                (same_parked w l) (λ k. put_fits (λ (x : LockRootView). x.line) w.locks.root l q us k refl)
-                (λ k v. owned_by w.locks.owner l (suc u) has' k v (has_hands (w.locks.owner l) t u v owner_is))
-                (λ v. put_elim (λ x. wants_of x (put w.threads.pass t (let_go (w.threads.pass t) l) v).aim ≡ put (part_of w).wants u None v) w.threads.spot u (owed l 1) v
-                (λ e. sym (put_same (part_of w).wants u None v e))
-                (λ ne. put_elim (λ (x : LockPassView). wants_of (w.threads.spot v) x.aim ≡ put (part_of w).wants u None v) w.threads.pass t (let_go (w.threads.pass t) l) v
-                (λ vt. ap (λ z. wants_of (w.threads.spot v) (w.threads.pass z).aim) (sym vt) ∙ sym (put_other (part_of w).wants u None v ne))
-                (λ _. sym (put_other (part_of w).wants u None v ne))))
-                ∙ (let then : List ℕ → LockPart = λ z. record { locks = passed_line (part_of w).locks t l true more z; wants = served (part_of w).wants z } in ap then (sym line)),
-          )
+          module _ (u : ℕ) (us : List ℕ) (line : (w.root l).line ≡ u ∷ us) (parked : (w.word l).parked ≡ true) (paid : (w.root l).owes ≡ None) where
+            waits : w.spot u ≡ queued l
+            waits = first_waits n m w ok t l near here up has u us line paid
+
+            abbrev passed : ℕ → LockWord → LockWorld V
+            passed k x = record w { pass = put w.pass t (let_go (w.pass t) l y); spot = put w.spot u (owed l k); word = put w.word l x; root = put w.root l (record (w.root l) { line = us; owes = Some (u, k) }) }
+
+            -- the lock is let go, and the first may try
+            pub row_pass_plain : (more : Bool) → SaysMore (w.root l).line more → LockStep n m (part_of w) (Pass t l false more) (Sleeper (Some u)) (part_of (passed 0 (record { owner = 0; parked = more })))
+            row_pass_plain more says = let x : LockWord = record { owner = 0; parked = more } in let q : LockRootView = record (w.root l) { line = us; owes = Some (u, 0) } in (
+              (near, here, has_it, parked, wants_now ∙ aim, (λ _. says)),
+              ap (λ z. Sleeper (first z)) (sym line),
+              (λ i. record {
+                locks = record { held = held_now l x i; parked = parked_now l x i; line = line_now l q i; has = has_now l x (put ((part_of w).locks.has l) t false) (has_loses (w.word l).owner t owner_is) i };
+                wants = wants_same t (let_go (w.pass t) l y) (put w.spot u (owed l 0)) refl (spot_same u (owed l 0) (ap (λ z. wants_of z (w.pass u).aim) (sym waits))) i;
+              }) ∙ (let then : List ℕ → LockPart = λ z. record { locks = passed_line (part_of w).locks t l false more z; wants = wants } in ap then (sym line)),
+            )
+
+            -- the lock is handed to the first
+            pub row_pass_fair : (more : Bool) → LockStep n m (part_of w) (Pass t l true more) (Sleeper (Some u)) (part_of (passed 1 (record { owner = suc u; parked = (w.word l).parked })))
+            row_pass_fair more =
+                let x : LockWord = record { owner = suc u; parked = (w.word l).parked } in
+                let q : LockRootView = record (w.root l) { line = us; owes = Some (u, 1) } in
+                let p : LockPassView V = let_go (w.pass t) l y in
+                let spots : ℕ → Spot = put w.spot u (owed l 1) in (
+                  (near, here, has_it, parked, wants_now ∙ aim, (λ e. absurd (cc (e)))),
+                  ap (λ z. Sleeper (first z)) (sym line),
+                  (λ i. record {
+                    locks = record {
+                      held = told_same (λ (z : LockWord). is_owned z.owner) w.word l x (ap is_owned (sym owner_is)) i;
+                      parked = parked_same l x refl i;
+                      line = line_now l q i;
+                      has = has_now l x (put (put ((part_of w).locks.has l) t false) u true) (has_hands (w.word l).owner t u owner_is) i;
+                    };
+                    wants = is_put (λ v. wants_of (spots v) (put w.pass t p v).aim) wants u None (ap (λ z. wants_of z (put w.pass t p u).aim) (put_same w.spot u (owed l 1)))
+                        (λ v ne. ap (λ z. wants_of z (put w.pass t p v).aim) (put_other w.spot u (owed l 1) v ne) ∙ put_elim (λ z. wants_of (w.spot v) z.aim ≡ wants v) w.pass t p v (λ vt. ap (λ z. wants_of (w.spot v) (w.pass z).aim) (sym vt)) (λ _. refl)) i;
+                  }) ∙ (let then : List ℕ → LockPart = λ z. record { locks = passed_line (part_of w).locks t l true more z; wants = served wants z } in ap then (sym line)),
+                )
+
+        pub row_free_parked : (w.word l).parked ≡ true → LockStep n m (part_of w) (Free t l) (Saw false) (part_of (record w { pass = put w.pass t (found_parked (w.pass t) l) }))
+        row_free_parked parked =
+            let e : true ≡ (w.word l).parked = sym parked in
+            let then : Bool → LockPart = λ c. record { locks = cond c (part_of w).locks (record (part_of w).locks { held = put (part_of w).locks.held l false; has = put (part_of w).locks.has l (put ((part_of w).locks.has l) t false) }); wants = wants } in
+            ((near, here, has_it, wants_now ∙ aim), ap (λ c. Saw (not c)) e, same_pass t (found_parked (w.pass t) l) refl ∙ ap then e)

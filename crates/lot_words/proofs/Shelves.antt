@@ -1,7 +1,7 @@
 -- Values that move into slots and back, the last first.
 use Rattle.std.proofs.Common.{◌≡◌, List, [], ◌∷◌, ◌++◌, Option, Some, None, map, reverse, append_assoc, refl, sym, ap, ◌∙◌}
 use Rattle.std.proofs.lemmas.List.{reverse-append, map-append}
-use Rattle.lot_words.specs.Opening.{AllSome}
+use Rattle.lot_words.specs.Shelf.{AllSome}
 
 module _ {V : Type 0} where
   abbrev pub filled : List V → List (Option V)

@@ -1,140 +1,163 @@
--- The lawful values stay lawful: nobody knows here who has a lock, or why.
-use Rattle.std.proofs.Common.{◌≡◌, ◌≢◌, ℕ, ◌<◌, List, length, set, Option, refl, sym, ap, subst, ◌∙◌, length-set, arith}
+-- The lawful values stay lawful.
+use Rattle.std.proofs.Common.{◌≡◌, ◌≢◌, ℕ, ◌<◌, List, length, set, Option, refl, sym, ap, subst, ◌∙◌, length-set, arith, get_or-set_other}
 use mathlib.Core.Option.{some, none, some-injective}
 use mathlib.Core.Option as maybe
 use lib.ListN.{get_elem?}
 use Rattle.atomic_table.proofs.Lists.{set_here, set_else}
 use Rattle.lot_core.specs.World.{put}
-use Rattle.lot_words.proofs.Puts.{put_here, put_cases}
+use Rattle.lot_core.proofs.Put.{put_same}
+use Rattle.lot_rights.proofs.Puts.{put_elim}
+use Rattle.lot_words.specs.declared.views.Hold.TheVariants.{NotHeld, Held}
+use Rattle.lot_words.specs.declared.views.LockPassView.{LockPassView}
 use Rattle.lot_words.specs.declared.views.Place.{Place}
 use Rattle.lot_words.specs.declared.views.Place.TheVariants.{InSlot}
-use Rattle.lot_words.specs.declared.views.ValuesView.{ValuesView}
-use Rattle.lot_words.specs.Values.{home_of, IsIn, HasSeen, found_in, left_in, placed, MayLeave, MayLie, FoundOk, OwnerOk, SeenOk, ValueOk, IsLawful}
+use Rattle.lot_words.specs.World.{IsHeld, Holds}
+use Rattle.lot_words.specs.Values.{home_of, IsIn, HasSeen, MayLeave, MayLie, FoundOk, OwnerOk, SeenOk, ValueOk, IsLawful}
+use Rattle.lot_words.specs.Calls.{gripped, let_go, placed}
+
+-- two passes know the same of the lock k
+pub record SameOf {V : Type 0} (k : ℕ) (p p' : LockPassView V) : Type 0 where
+  pub down : Holds p' k → Holds p k
+  pub up : Holds p k → Holds p' k
+  pub places : get_elem? p'.places k ≡ get_elem? p.places k
+  pub seen : get_elem? p'.seen k ≡ get_elem? p.seen k
+
+pub same_of : {V : Type 0} (k : ℕ) (p : LockPassView V) → SameOf k p p
+same_of k p = record { down = λ h. h; up = λ h. h; places = refl; seen = refl }
 
 module _ {V Q : Type 0} (keeps : ℕ → V → Type 0) (grows : V → V → Type 0) (share : ℕ → V → Q) where
-  -- a lock whose facts are the same in another world
-  pub same_value : (n : ℕ) (has has' : ℕ → ℕ → Type 0) (values values' : ℕ → ValuesView V) (homes homes' : List (maybe.Option (Option V))) (k : ℕ) (x : V)
-      → ((u : ℕ) → has' u k → has u k) → ((u : ℕ) → has u k → has' u k)
-      → ((u : ℕ) → get_elem? (values' u).places k ≡ get_elem? (values u).places k) → ((u : ℕ) → get_elem? (values' u).seen k ≡ get_elem? (values u).seen k)
-      → get_elem? homes' k ≡ get_elem? homes k → ValueOk keeps grows share n has values homes k x → ValueOk keeps grows share n has' values' homes' k x
-  same_value n has has' values values' homes homes' k x down up places seen home ok = record {
+  -- a lock of which all know the same
+  same_value : (n : ℕ) (pass pass' : ℕ → LockPassView V) (homes homes' : List (maybe.Option (Option V))) (k : ℕ) (x : V) → ((u : ℕ) → SameOf k (pass u) (pass' u)) → get_elem? homes' k ≡ get_elem? homes k
+      → ValueOk keeps grows share n pass homes k x → ValueOk keeps grows share n pass' homes' k x
+  same_value n pass pass' homes homes' k x same home ok = record {
     kept = ok.kept;
-    idle = λ nobody. home ∙ ok.idle (λ u h. nobody u (up u h));
-    owned = λ u h. let o = ok.owned u (down u h) in record { place = o.place; place_is = places u ∙ o.place_is; home = home ∙ o.home; found = seen u ∙ o.found; lawful = o.lawful };
-    seen = λ u near. let s = ok.seen u near in record { seen = s.seen; seen_is = seen u ∙ s.seen_is; grown = s.grown; mine = λ away. s.mine (λ h. away (up u h)) };
-    witness = let w = ok.witness in (w.0, (w.1.0, seen w.0 ∙ w.1.1));
+    idle = λ nobody. home ∙ ok.idle (λ u h. nobody u ((same u).up h));
+    owned = λ u h. let o = ok.owned u ((same u).down h) in record { place = o.place; place_is = (same u).places ∙ o.place_is; home = home ∙ o.home; found = (same u).seen ∙ o.found; lawful = o.lawful };
+    seen = λ u near. let s = ok.seen u near in record { seen = s.seen; seen_is = (same u).seen ∙ s.seen_is; grown = s.grown; mine = λ away. s.mine (λ h. away ((same u).up h)) };
+    witness = let w = ok.witness in (w.0, (w.1.0, (same w.0).seen ∙ w.1.1));
   }
 
-  module _ (n m : ℕ) (has : ℕ → ℕ → Type 0) (values : ℕ → ValuesView V) (homes : List (maybe.Option (Option V))) (ok : IsLawful keeps grows share n m has values homes) where
-    -- nobody gets a lock or lets one go
-    pub same_values : (has' : ℕ → ℕ → Type 0) → ((t l : ℕ) → has' t l → has t l) → ((t l : ℕ) → has t l → has' t l) → IsLawful keeps grows share n m has' values homes
-    same_values has' down up = record {
+  module _ (n m : ℕ) (pass : ℕ → LockPassView V) (homes : List (maybe.Option (Option V))) (ok : IsLawful keeps grows share n m pass homes) (t : ℕ) where
+    abbrev pub IsAsWide : LockPassView V → Type 0
+    IsAsWide p = (length p.places ≡ length (pass t).places) × (length p.seen ≡ length (pass t).seen)
+
+    wide_on : (p : LockPassView V) → IsAsWide p → (u : ℕ) → u < n → (length (put pass t p u).places ≡ m) × (length (put pass t p u).seen ≡ m)
+    wide_on p wide u near = put_elim (λ z. (length z.places ≡ m) × (length z.seen ≡ m)) pass t p u
+        (λ e. let a = subst (λ z. (length (pass z).places ≡ m) × (length (pass z).seen ≡ m)) e (ok.wide u near) in (wide.0 ∙ a.0, wide.1 ∙ a.1)) (λ _. ok.wide u near)
+
+    same_on : (k : ℕ) (p : LockPassView V) → SameOf k (pass t) p → (u : ℕ) → SameOf k (pass u) (put pass t p u)
+    same_on k p same u = put_elim (SameOf k (pass u)) pass t p u (λ e. subst (λ z. SameOf k (pass z) p) (sym e) same) (λ _. same_of k (pass u))
+
+    -- nobody learns of a value, gets a lock or lets one go
+    pub same_values : (p : LockPassView V) → ((k : ℕ) → SameOf k (pass t) p) → IsAsWide p → IsLawful keeps grows share n m (put pass t p) homes
+    same_values p same wide = record {
       value = ok.value;
       deep = ok.deep;
-      wide = ok.wide;
-      each = λ l near. same_value n has has' values values homes homes l (ok.value l) (λ u. down u l) (λ u. up u l) (λ u. refl) (λ u. refl) refl (ok.each l near);
+      wide = wide_on p wide;
+      each = λ k near. same_value n pass (put pass t p) homes homes k (ok.value k) (same_on k p (same k)) refl (ok.each k near);
     }
 
     -- what t knows, and the slots, change at l alone, whose value is now y
-    pub changes_at : (has' : ℕ → ℕ → Type 0) (t l : ℕ) (g : ValuesView V) (homes' : List (maybe.Option (Option V))) (y : V)
-        → ((u k : ℕ) → k ≢ l → has' u k → has u k) → ((u k : ℕ) → k ≢ l → has u k → has' u k)
-        → ((k : ℕ) → k ≢ l → get_elem? g.places k ≡ get_elem? (values t).places k) → ((k : ℕ) → k ≢ l → get_elem? g.seen k ≡ get_elem? (values t).seen k)
-        → ((k : ℕ) → k ≢ l → get_elem? homes' k ≡ get_elem? homes k)
-        → length homes' ≡ length homes → (length g.places ≡ length (values t).places) × (length g.seen ≡ length (values t).seen)
-        → ValueOk keeps grows share n has' (put values t g) homes' l y → IsLawful keeps grows share n m has' (put values t g) homes'
-    changes_at has' t l g homes' y down up places seen home deep wide at = record {
+    changes_at : (l : ℕ) (p : LockPassView V) (homes' : List (maybe.Option (Option V))) (y : V) → ((k : ℕ) → k ≢ l → SameOf k (pass t) p) → ((k : ℕ) → k ≢ l → get_elem? homes' k ≡ get_elem? homes k)
+        → length homes' ≡ length homes → IsAsWide p → ValueOk keeps grows share n (put pass t p) homes' l y → IsLawful keeps grows share n m (put pass t p) homes'
+    changes_at l p homes' y same home deep wide at = record {
       value = put ok.value l y;
       deep = deep ∙ ok.deep;
-      each = λ k near. put_cases ok.value l y (λ x. ValueOk keeps grows share n has' (put values t g) homes' k x) k
-          (λ e. subst (λ j. ValueOk keeps grows share n has' (put values t g) homes' j y) (sym e) at)
-          (λ else. same_value n has has' values (put values t g) homes homes' k (ok.value k) (λ u. down u k else) (λ u. up u k else)
-          (λ u. put_cases values t g (λ v. get_elem? v.places k ≡ get_elem? (values u).places k) u (λ e. places k else ∙ ap (λ w. get_elem? (values w).places k) (sym e)) (λ _. refl))
-          (λ u. put_cases values t g (λ v. get_elem? v.seen k ≡ get_elem? (values u).seen k) u (λ e. seen k else ∙ ap (λ w. get_elem? (values w).seen k) (sym e)) (λ _. refl))
-          (home k else) (ok.each k near));
-      wide = λ u near. put_cases values t g (λ v. (length v.places ≡ m) × (length v.seen ≡ m)) u
-          (λ e. let w = ok.wide u near in let same : values u ≡ values t = ap values e in (wide.0 ∙ (ap (λ (v : ValuesView V). length v.places) (sym same) ∙ w.0), wide.1 ∙ (ap (λ (v : ValuesView V). length v.seen) (sym same) ∙ w.1)))
-          (λ _. ok.wide u near);
+      wide = wide_on p wide;
+      each = λ k near. put_elim (ValueOk keeps grows share n (put pass t p) homes' k) ok.value l y k (λ e. subst (λ z. ValueOk keeps grows share n (put pass t p) homes' z y) (sym e) at)
+          (λ ne. same_value n pass (put pass t p) homes homes' k (ok.value k) (same_on k p (same k ne)) (home k ne) (ok.each k near));
     }
 
-    module _ (t l : ℕ) (is_thread : t < n) (is_lock : l < m) where
-      in_places : l < length (values t).places
-      in_places = let w = ok.wide t is_thread in omega (arith, w.0)
+    module _ (near : t < n) (l : ℕ) (here : l < m) where
+      in_places : l < length (pass t).places
+      in_places = let w = ok.wide t near in omega (arith, w.0)
 
-      in_seen : l < length (values t).seen
-      in_seen = let w = ok.wide t is_thread in omega (arith, w.1)
+      in_seen : l < length (pass t).seen
+      in_seen = let w = ok.wide t near in omega (arith, w.1)
 
       -- what t finds keeps the rule, and goes on from what it had seen
-      pub finds_value : ¬ has t l → FoundOk keeps grows share l t (values t) (ok.value l)
-      finds_value away = let e = ok.each l is_lock in let s = e.seen t is_thread in
-          record {
-            kept = e.kept;
-            grown = λ x at. subst (λ v. grows v (ok.value l)) (some-injective s.seen x (sym s.seen_is ∙ at)) s.grown;
-            mine = λ x at. subst (λ v. share t v ≡ share t (ok.value l)) (some-injective s.seen x (sym s.seen_is ∙ at)) (s.mine away);
-          }
-
-      -- t gets l, which nobody has
-      pub gets_value : ((x : V) → grows x x) → (has' : ℕ → ℕ → Type 0) → ((u : ℕ) → ¬ has u l) → ((u : ℕ) → has' u l → u ≡ t) → has' t l
-          → ((u k : ℕ) → k ≢ l → has' u k → has u k) → ((u k : ℕ) → k ≢ l → has u k → has' u k)
-          → IsLawful keeps grows share n m has' (put values t (found_in (values t) l (ok.value l))) homes
-      gets_value itself has' nobody only mine down up = let e = ok.each l is_lock in let x = ok.value l in let g = found_in (values t) l x in
-          changes_at has' t l g homes x down up (λ k else. set_else (values t).places l k (InSlot x) else) (λ k else. set_else (values t).seen l k x else) (λ k else. refl) refl
-          (length-set (values t).places l (InSlot x), length-set (values t).seen l x)
-          record {
-            kept = e.kept;
-            idle = λ away. absurd (away t mine);
-            owned = λ u h. put_cases values t g (λ v. OwnerOk keeps grows share homes l u v x) u
-                (λ _. record {
-                  place = InSlot x;
-                  place_is = set_here (values t).places l (InSlot x) in_places;
-                  home = e.idle nobody;
-                  found = set_here (values t).seen l x in_seen;
-                  lawful = record { kept = e.kept; grown = itself x; others = λ w ne. refl };
-                })
-                (λ else. absurd (else (only u h)));
-            seen = λ u near. put_cases values t g (λ v. SeenOk keeps grows share (has' u l) l u v x) u
-                (λ _. record { seen = x; seen_is = set_here (values t).seen l x in_seen; grown = itself x; mine = λ away. refl })
-                (λ else. let s = e.seen u near in record { seen = s.seen; seen_is = s.seen_is; grown = s.grown; mine = λ away. s.mine (nobody u) });
-            witness = (t, (is_thread, subst (λ v. HasSeen v l x) (sym (put_here values t g)) (set_here (values t).seen l x in_seen)));
-          }
-
-      -- t lets l go, with the value y in its slot
-      pub leaves_value : ((x : V) → grows x x) → ((a b c : V) → grows a b → grows b c → grows a c) → (has' : ℕ → ℕ → Type 0) → (y : V) → has t l → IsIn (values t) l y → ((u : ℕ) → ¬ has' u l)
-          → ((u k : ℕ) → k ≢ l → has' u k → has u k) → ((u k : ℕ) → k ≢ l → has u k → has' u k) → ((u : ℕ) → has u l → u ≡ t)
-          → IsLawful keeps grows share n m has' (put values t (left_in (values t) l y)) homes
-      leaves_value itself on has' y h lies nobody down up only = let e = ok.each l is_lock in let x = ok.value l in let g = left_in (values t) l y in
-          let o = e.owned t h in let p : o.place ≡ InSlot y = some-injective o.place (InSlot y) (sym o.place_is ∙ lies) in
-          let may : MayLeave keeps grows share l t x y = subst (λ pl. MayLie keeps grows share l t x pl) p o.lawful in
-          changes_at has' t l g homes y down up (λ k else. refl) (λ k else. set_else (values t).seen l k y else) (λ k else. refl) refl
-          (refl, length-set (values t).seen l y)
-          record {
-            kept = may.kept;
-            idle = λ _. o.home ∙ ap (λ pl. some (home_of pl)) p;
-            owned = λ u h'. absurd (nobody u h');
-            seen = λ u near. put_cases values t g (λ v. SeenOk keeps grows share (has' u l) l u v y) u
-                (λ _. record { seen = y; seen_is = set_here (values t).seen l y in_seen; grown = itself y; mine = λ away. refl })
-                (λ else. let s = e.seen u near in record { seen = s.seen; seen_is = s.seen_is; grown = on s.seen x y s.grown may.grown; mine = λ away. s.mine (λ had. else (only u had)) ∙ may.others u else });
-            witness = (t, (is_thread, subst (λ v. HasSeen v l y) (sym (put_here values t g)) (set_here (values t).seen l y in_seen)));
-          }
-
-      -- the value of l, which t has, moves to the place pl
-      pub moves_value : (pl : Place V) → has t l → ((u : ℕ) → has u l → u ≡ t) → MayLie keeps grows share l t (ok.value l) pl
-          → IsLawful keeps grows share n m has (put values t (placed (values t) l pl)) (set homes l (home_of pl))
-      moves_value pl h only may = let e = ok.each l is_lock in let x = ok.value l in let g = placed (values t) l pl in let home : maybe.Option (Option V) = home_of pl in
-          let deep : l < length homes = omega (arith, ok.deep) in
-          changes_at has t l g (set homes l home) x (λ u k else a. a) (λ u k else a. a) (λ k else. set_else (values t).places l k pl else) (λ k else. refl) (λ k else. set_else homes l k home else) (length-set homes l home)
-          (length-set (values t).places l pl, refl)
-          record {
-            kept = e.kept;
-            idle = λ away. absurd (away t h);
-            owned = λ u h'. put_cases values t g (λ v. OwnerOk keeps grows share (set homes l home) l u v x) u
-                (λ same. record { place = pl; place_is = set_here (values t).places l pl in_places; home = set_here homes l home deep; found = (e.owned t h).found; lawful = subst (λ w. MayLie keeps grows share l w x pl) (sym same) may })
-                (λ else. absurd (else (only u h')));
-            seen = λ u near. let s = e.seen u near in put_cases values t g (λ v. SeenOk keeps grows share (has u l) l u v x) u
-                (λ same. record { seen = s.seen; seen_is = subst (λ w. get_elem? (values w).seen l ≡ some s.seen) same s.seen_is; grown = s.grown; mine = s.mine })
-                (λ else. record { seen = s.seen; seen_is = s.seen_is; grown = s.grown; mine = s.mine });
-            witness = let w = e.witness in (w.0, (w.1.0, put_cases values t g (λ v. HasSeen v l x) w.0 (λ same. subst (λ u. HasSeen (values u) l x) same w.1.1) (λ _. w.1.1)));
-          }
+      pub finds_value : ¬ Holds (pass t) l → FoundOk keeps grows share l t (pass t) (ok.value l)
+      finds_value away = let e = ok.each l here in let s = e.seen t near in record {
+        kept = e.kept;
+        grown = λ x at. subst (λ v. grows v (ok.value l)) (some-injective s.seen x (sym s.seen_is ∙ at)) s.grown;
+        mine = λ x at. subst (λ v. share t v ≡ share t (ok.value l)) (some-injective s.seen x (sym s.seen_is ∙ at)) (s.mine away);
+      }
 
       -- what t has of l, which it holds
-      pub owns_value : has t l → OwnerOk keeps grows share homes l t (values t) (ok.value l)
-      owns_value h = (ok.each l is_lock).owned t h
+      pub owns_value : Holds (pass t) l → OwnerOk keeps grows share homes l t (pass t) (ok.value l)
+      owns_value h = (ok.each l here).owned t h
+
+      -- t gets l, which nobody has: it holds it then, and has the value x that it found
+      pub gets_value : ((x : V) → grows x x) → ((u : ℕ) → ¬ Holds (pass u) l) → (p : LockPassView V) → ((k : ℕ) → k ≢ l → SameOf k (pass t) p) → IsAsWide p → Holds p l → IsIn p l (ok.value l) → HasSeen p l (ok.value l)
+          → IsLawful keeps grows share n m (put pass t p) homes
+      gets_value itself nobody p same wide mine lies seen = let e = ok.each l here in let x = ok.value l in
+          changes_at l p homes x same (λ k ne. refl) refl wide
+          (record {
+            kept = e.kept;
+            idle = λ away. absurd (away t (subst (λ z. Holds z l) (sym (put_same pass t p)) mine));
+            owned = λ u. put_elim (λ z. Holds z l → OwnerOk keeps grows share homes l u z x) pass t p u
+                (λ _ _. record { place = InSlot x; place_is = lies; home = e.idle nobody; found = seen; lawful = record { kept = e.kept; grown = itself x; others = λ w ne. refl } }) (λ _ h. absurd (nobody u h));
+            seen = λ u u_near. put_elim (λ z. SeenOk keeps grows share l u z x) pass t p u (λ _. record { seen = x; seen_is = seen; grown = itself x; mine = λ away. refl }) (λ _. e.seen u u_near);
+            witness = (t, (near, subst (λ z. HasSeen z l x) (sym (put_same pass t p)) seen));
+          })
+
+      module _ (holds : Holds (pass t) l) (only : (u : ℕ) → Holds (pass u) l → u ≡ t) where
+        -- t lets l go, with the value y in its slot
+        pub leaves_value : ((x : V) → grows x x) → ((a b c : V) → grows a b → grows b c → grows a c) → (y : V) → IsIn (pass t) l y → (¬ Holds (let_go (pass t) l y) l) → ((k : ℕ) → k ≢ l → SameOf k (pass t) (let_go (pass t) l y))
+            → IsLawful keeps grows share n m (put pass t (let_go (pass t) l y)) homes
+        leaves_value itself on y lies gone same = let e = ok.each l here in let x = ok.value l in let p : LockPassView V = let_go (pass t) l y in
+            let o = e.owned t holds in let is : o.place ≡ InSlot y = some-injective o.place (InSlot y) (sym o.place_is ∙ lies) in
+            let may : MayLeave keeps grows share l t x y = subst (MayLie keeps grows share l t x) is o.lawful in
+            let seen : HasSeen p l y = set_here (pass t).seen l y in_seen in
+            changes_at l p homes y same (λ k ne. refl) refl (refl, length-set (pass t).seen l y)
+            (record {
+              kept = may.kept;
+              idle = λ _. o.home ∙ ap (λ pl. some (home_of pl)) is;
+              owned = λ u. put_elim (λ z. Holds z l → OwnerOk keeps grows share homes l u z y) pass t p u (λ _ h. absurd (gone h)) (λ ne h. absurd (ne (only u h)));
+              seen = λ u u_near. put_elim (λ z. SeenOk keeps grows share l u z y) pass t p u (λ _. record { seen = y; seen_is = seen; grown = itself y; mine = λ away. refl })
+                  (λ ne. let s = e.seen u u_near in record { seen = s.seen; seen_is = s.seen_is; grown = on s.seen x y s.grown may.grown; mine = λ away. s.mine away ∙ may.others u ne });
+              witness = (t, (near, subst (λ z. HasSeen z l y) (sym (put_same pass t p)) seen));
+            })
+
+        -- the value of l moves to the place pl
+        pub moves_value : (pl : Place V) → MayLie keeps grows share l t (ok.value l) pl → IsLawful keeps grows share n m (put pass t (placed (pass t) l pl)) (set homes l (home_of pl))
+        moves_value pl may = let e = ok.each l here in let x = ok.value l in let p : LockPassView V = placed (pass t) l pl in let home : maybe.Option (Option V) = home_of pl in
+            let deep : l < length homes = omega (arith, ok.deep) in
+            let same : (u : ℕ) → SeenOk keeps grows share l u (pass u) x → SeenOk keeps grows share l u (put pass t p u) x = (λ u s. put_elim (λ z. SeenOk keeps grows share l u z x) pass t p u
+            (λ ut. let r : SeenOk keeps grows share l u (pass t) x = subst (λ z. SeenOk keeps grows share l u (pass z) x) ut s in record { seen = r.seen; seen_is = r.seen_is; grown = r.grown; mine = r.mine }) (λ _. s)) in
+            changes_at l p (set homes l home) x (λ k ne. record { down = λ h. h; up = λ h. h; places = set_else (pass t).places l k pl ne; seen = refl }) (λ k ne. set_else homes l k home ne) (length-set homes l home) (length-set (pass t).places l pl, refl)
+            (record {
+              kept = e.kept;
+              idle = λ away. absurd (away t (subst (λ z. Holds z l) (sym (put_same pass t p)) holds));
+              owned = λ u. put_elim (λ z. Holds z l → OwnerOk keeps grows share (set homes l home) l u z x) pass t p u
+                  (λ ut _. record { place = pl; place_is = set_here (pass t).places l pl in_places; home = set_here homes l home deep; found = (e.owned t holds).found; lawful = subst (λ z. MayLie keeps grows share l z x pl) (sym ut) may })
+                  (λ ne h. absurd (ne (only u h)));
+              seen = λ u u_near. same u (e.seen u u_near);
+              witness = let w = e.witness in (w.0, (w.1.0, put_elim (λ z. HasSeen z l x) pass t p w.0 (λ wt. subst (λ z. HasSeen (pass z) l x) wt w.1.1) (λ _. w.1.1)));
+            })
+
+      -- ---- the passes of these calls
+      pub gripped_same : (x : V) (k : ℕ) → k ≢ l → SameOf k (pass t) (gripped (pass t) l x)
+      gripped_same x k ne = record {
+        down = λ h. subst IsHeld (get_or-set_other (pass t).holds l k Held NotHeld ne) h;
+        up = λ h. subst IsHeld (sym (get_or-set_other (pass t).holds l k Held NotHeld ne)) h;
+        places = set_else (pass t).places l k (InSlot x) ne;
+        seen = set_else (pass t).seen l k x ne;
+      }
+
+      pub gripped_wide : (x : V) → IsAsWide (gripped (pass t) l x)
+      gripped_wide x = (length-set (pass t).places l (InSlot x), length-set (pass t).seen l x)
+
+      pub gripped_lies : (x : V) → IsIn (gripped (pass t) l x) l x
+      gripped_lies x = set_here (pass t).places l (InSlot x) in_places
+
+      pub gripped_seen : (x : V) → HasSeen (gripped (pass t) l x) l x
+      gripped_seen x = set_here (pass t).seen l x in_seen
+
+      pub let_go_same : (y : V) (k : ℕ) → k ≢ l → SameOf k (pass t) (let_go (pass t) l y)
+      let_go_same y k ne = record {
+        down = λ h. subst IsHeld (get_or-set_other (pass t).holds l k NotHeld NotHeld ne) h;
+        up = λ h. subst IsHeld (sym (get_or-set_other (pass t).holds l k NotHeld NotHeld ne)) h;
+        places = refl;
+        seen = set_else (pass t).seen l k y ne;
+      }

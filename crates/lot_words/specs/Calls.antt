@@ -1,76 +1,89 @@
 -- What each kind of call does to the rights that it is handed.
-use Rattle.std.specs.Prelude.{◌≡◌, ℕ, zero, suc, Bool, true, false, List, [], ◌∷◌, ◌++◌, slice_set, Option, Some, None}
-use Rattle.lot_core.specs.declared.events.Event.{Event}
-use Rattle.lot_core.specs.declared.events.Seen.{Seen}
+use Rattle.std.specs.Prelude.{◌≡◌, ℕ, zero, suc, ◌++◌, if◌then◌else◌, Bool, true, false, List, [], ◌∷◌, slice_set, Option, Some, None}
+use Rattle.lot_rights.specs.declared.views.Access.{Access}
+use Rattle.lot_rights.specs.declared.views.Access.TheVariants.{Collects}
+use Rattle.lot_rights.specs.declared.views.PassView.{PassView}
+use Rattle.lot_rights.specs.Steps.{Notes}
 use Rattle.lot_words.specs.declared.views.Hold.TheVariants.{NotHeld, Held, FoundParked}
 use Rattle.lot_words.specs.declared.views.LockPassView.{LockPassView}
 use Rattle.lot_words.specs.declared.views.LockRootView.{LockRootView}
-use Rattle.lot_words.specs.Values.{FoundOk, found_in}
-use Rattle.lot_words.specs.Shown.{PassShown}
+use Rattle.lot_words.specs.declared.views.Place.{Place}
+use Rattle.lot_words.specs.declared.views.Place.TheVariants.{InSlot}
+use Rattle.lot_words.specs.Values.{FoundOk}
 
--- the thread has the lock, and wants none
-abbrev pub gripped : LockPassView → ℕ → LockPassView
-gripped p l = record p { holds = slice_set p.holds l Held; aim = None }
+-- ---- the pass
+module _ {V : Type 0} where
+  -- the thread has the lock, whose value x lies in its slot, and wants none
+  abbrev pub gripped : LockPassView V → ℕ → V → LockPassView V
+  gripped p l x = record p { holds = slice_set p.holds l Held; aim = None; places = slice_set p.places l (InSlot x); seen = slice_set p.seen l x }
 
-abbrev pub wishing : LockPassView → ℕ → LockPassView
-wishing p l = record p { aim = Some l }
+  -- the thread wants the lock
+  abbrev pub wishing : LockPassView V → ℕ → LockPassView V
+  wishing p l = record p { aim = Some l }
 
-abbrev pub sleeping : LockPassView → LockPassView
-sleeping p = record p { asleep = true }
+  abbrev pub sleeping : LockPassView V → LockPassView V
+  sleeping p = record p { asleep = true }
 
-abbrev pub woken : LockPassView → LockPassView
-woken p = record p { asleep = false }
+  abbrev pub woken : LockPassView V → LockPassView V
+  woken p = record p { asleep = false }
 
--- the thread wants no other lock than l
-abbrev pub Aims : LockPassView → ℕ → Type 0
-Aims p l = (k : ℕ) → p.aim ≡ Some k → k ≡ l
+  -- the thread has let the lock go, and left the value y
+  abbrev pub let_go : LockPassView V → ℕ → V → LockPassView V
+  let_go p l y = record p { holds = slice_set p.holds l NotHeld; seen = slice_set p.seen l y }
 
--- q is p with one event more
-abbrev pub tells : LockPassView → ℕ → Event → Seen → LockPassView
-tells p k e seen = record p { made = p.made ++ (record { at = k; event = e; seen = seen }) ∷ [] }
+  abbrev pub found_parked : LockPassView V → ℕ → LockPassView V
+  found_parked p l = record p { holds = slice_set p.holds l FoundParked }
 
-abbrev pub Notes : LockPassView → LockPassView → Event → Seen → Type 0
-Notes p q e seen = (k : ℕ) × (q ≡ tells p k e seen)
+  -- the value of the lock is at this place
+  abbrev pub placed : LockPassView V → ℕ → Place V → LockPassView V
+  placed p l pl = record p { places = slice_set p.places l pl }
 
-abbrev pub let_go : LockPassView → ℕ → LockPassView
-let_go p l = record p { holds = slice_set p.holds l NotHeld }
+  -- the thread wants no other lock than l
+  abbrev pub Aims : LockPassView V → ℕ → Type 0
+  Aims p l = (k : ℕ) → p.aim ≡ Some k → k ≡ l
 
-abbrev pub found_parked : LockPassView → ℕ → LockPassView
-found_parked p l = record p { holds = slice_set p.holds l FoundParked }
+  abbrev pub parked_pass : LockPassView V → Bool → LockPassView V
+  parked_pass p queued = if queued then sleeping p else p
 
-abbrev pub freed_pass : LockPassView → ℕ → Bool → LockPassView
-freed_pass p l true = let_go p l
-freed_pass p l false = found_parked p l
-
-abbrev pub parked_pass : LockPassView → Bool → LockPassView
-parked_pass p true = sleeping p
-parked_pass p false = p
-
-abbrev pub parked_root : ℕ → LockRootView → Bool → LockRootView
-parked_root t q true = record q { line = q.line ++ t ∷ [] }
-parked_root t q false = q
-
-abbrev pub first_of : List ℕ → Option ℕ
-first_of [] = None
-first_of (u ∷ us) = Some u
+-- ---- the root
+abbrev pub parked_root : LockRootView → ℕ → Bool → LockRootView
+parked_root q t queued = if queued then record q { line = q.line ++ t ∷ [] } else q
 
 abbrev pub token_of : Bool → ℕ
 token_of true = 1
 token_of false = 0
 
+-- the first of the line is taken, and owed a letter
 abbrev pub passed_root : LockRootView → Bool → List ℕ → LockRootView
 passed_root q fair [] = q
 passed_root q fair (u ∷ us) = record q { line = us; owes = Some (u, token_of fair) }
 
-module _ {V Q : Type 0} (keeps : ℕ → V → Type 0) (grows : V → V → Type 0) (share : ℕ → V → Q) where
-  -- the lock was got with the value x that was found
-  pub record Gets (before : PassShown V) (l : ℕ) (x : V) (after : PassShown V) : Type 0 where
-    pub found : FoundOk keeps grows share l before.pass.thread before.values x
-    pub values : after.values ≡ found_in before.values l x
+abbrev pub paid_root : LockRootView → LockRootView
+paid_root q = record q { owes = None }
 
-  -- the letter that was collected: a barging opportunity, or the lock itself
-  abbrev pub Collected : PassShown V → ℕ → PassShown V → Type 0
-  Collected before zero after = (after.table ≡ before.table) × (after.pass ≡ woken before.pass) × (after.values ≡ before.values)
-  Collected before (suc t) after =
-      (t ≡ 0) × (after.table ≡ before.table)
-      × ((l : ℕ) × (before.pass.aim ≡ Some l) × (after.pass ≡ woken (gripped before.pass l)) × ((x : V) × Gets before l x after))
+-- the word of a lock that is let go, of whose line this was the first
+abbrev pub word_left : Option ℕ → Bool → ℕ
+word_left None more = 0
+word_left (Some u) true = 2
+word_left (Some u) false = 0
+
+-- ---- what is got and what is collected
+-- q is the pass p after it found no letter
+abbrev pub FoundNone : {V : Type 0} → PassView (LockPassView V) → PassView (LockPassView V) → Type 0
+FoundNone p q = Notes p p.own (Collects p.thread None) q
+
+module _ {V Q : Type 0} (keeps : ℕ → V → Type 0) (grows : V → V → Type 0) (share : ℕ → V → Q) where
+  -- q is the pass p after it got the lock l, by this access, with the value that it found
+  abbrev pub Gets : PassView (LockPassView V) → ℕ → Access → PassView (LockPassView V) → Type 0
+  Gets p l a q = (x : V) × FoundOk keeps grows share l p.thread p.own x × Notes p (gripped p.own l x) a q
+
+  -- q is the pass p after it collected a letter: a barging opportunity, or the lock itself, with the value that it found
+  abbrev pub Collected : PassView (LockPassView V) → ℕ → PassView (LockPassView V) → Type 0
+  Collected p zero q = Notes p (woken p.own) (Collects p.thread (Some 0)) q
+  Collected p (suc k) q =
+      (k ≡ 0) × ((l : ℕ) × (p.own.aim ≡ Some l) × ((x : V) × FoundOk keeps grows share l p.thread p.own x × Notes p (woken (gripped p.own l x)) (Collects p.thread (Some 1)) q))
+
+  -- by the number in the letter
+  abbrev pub CollectedBy : PassView (LockPassView V) → ℕ → PassView (LockPassView V) → Type 0
+  CollectedBy p zero q = FoundNone p q
+  CollectedBy p (suc token) q = Collected p token q

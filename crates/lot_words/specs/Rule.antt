@@ -1,23 +1,24 @@
--- The rule of a table of lock words: there is a world, with values and a history, that the words, the slots and the rights stand for.
-use Rattle.std.specs.Prelude.{◌≡◌, ℕ, zero, suc, ◌+◌, ◌*◌, ◌<◌, ◌==◌, Bool, true, false, List, [], Option, None}
-use Rattle.atomic_table.specs.Table.{State}
+-- The rule of a table of lock words: there is a world that the words, the slots and the rights stand for, with lawful values, and it tells the lock part of the model.
+use Rattle.std.specs.Prelude.{◌≡◌, ℕ, zero, suc, ◌==◌, ◌⊎◌, false, List, [], length, replicate, Option, Some, None}
+use Rattle.std.specs.List.{Contains}
+use Rattle.std.proofs.Common.{sym, ◌∙◌}
+use mathlib.Core.Option as maybe
 use Rattle.lot_core.specs.Parts.{LockPart, LockStep}
+use Rattle.lot_rights.specs.Rule.{Scheme}
+use Rattle.lot_rights.specs.Settled.{HasOneOutcome}
+use Rattle.lot_rights.specs.World.{Spot, awake, queued, owed, lying, Sizes, letters_of, WordsFit, PassIs, RootIs}
+use Rattle.lot_words.specs.declared.views.Hold.TheVariants.{NotHeld}
 use Rattle.lot_words.specs.declared.views.LockPassView.{LockPassView}
-use Rattle.lot_words.specs.declared.views.ValuesView.{ValuesView}
-use Rattle.lot_words.specs.declared.views.Made.{Made}
-use Rattle.lot_words.specs.declared.views.Right.{Right}
-use Rattle.lot_words.specs.declared.views.Right.TheVariants.{Pass, Root}
+use Rattle.lot_words.specs.declared.views.LockRootView.{LockRootView}
+use Rattle.lot_words.specs.declared.views.Place.TheVariants.{Out}
 use Rattle.lot_words.specs.declared.views.Size.{Size}
-use Rattle.lot_words.specs.Seating.{Seated}
-use Rattle.lot_words.specs.World.{Spot, awake, queued, owed, lying, World, Holds, Kept, WordsFit}
+use Rattle.lot_words.specs.World.{LockWorld, is_owned, bits_of, word_of, Kept}
 use Rattle.lot_words.specs.Values.{IsLawful}
-use Rattle.lot_words.specs.History.{Entries, no_entries, entries, Recorded}
+
+abbrev pub sizes_of : Size → Sizes
+sizes_of size = record { threads = size.threads; first = 0; keys = size.locks }
 
 -- ---- the lock part of the model that a world stands for
-abbrev pub is_owned : ℕ → Bool
-is_owned zero = false
-is_owned (suc t) = true
-
 -- a thread to which its lock was handed wants it no more
 abbrev pub wants_of : Spot → Option ℕ → Option ℕ
 wants_of awake a = a
@@ -27,52 +28,64 @@ wants_of (owed l (suc k)) a = None
 wants_of (lying l zero) a = a
 wants_of (lying l (suc k)) a = None
 
-abbrev pub part_of : World → LockPart
+abbrev pub part_of : {V : Type 0} → LockWorld V → LockPart
 part_of w = record {
   locks = record {
-    held = λ l. is_owned (w.locks.owner l);
-    parked = w.locks.parked;
-    line = λ l. (w.locks.root l).line;
-    has = λ l t. w.locks.owner l == suc t;
+    held = λ l. is_owned (w.word l).owner;
+    parked = λ l. (w.word l).parked;
+    line = λ l. (w.root l).line;
+    has = λ l t. (w.word l).owner == suc t;
   };
-  wants = λ t. wants_of (w.threads.spot t) (w.threads.pass t).aim;
+  wants = λ t. wants_of (w.spot t) (w.pass t).aim;
 }
 
 -- nothing is held, parked, queued or wanted
 abbrev pub opening_part : LockPart
 opening_part = record { locks = record { held = λ l. false; parked = λ l. false; line = λ l. []; has = λ l t. false }; wants = λ t. None }
 
--- ---- rights
-abbrev pub number : {V : Type 0} → Right V → ℕ
-number (Pass p g) = 2 * p.thread
-number (Root q) = 2 * q.key + 1
+-- ---- the rights at the opening, where xs are the values: no lock is held, no value is out, and the opening values were seen
+abbrev pub fresh_pass : {V : Type 0} → List V → LockPassView V
+fresh_pass xs = record { holds = replicate (length xs) NotHeld; aim = None; asleep = false; places = replicate (length xs) Out; seen = xs }
 
--- what a right shows of the history
-abbrev pub shown : {V : Type 0} → Right V → Entries
-shown (Pass p g) = entries p.thread p.made
-shown (Root q) = no_entries
+abbrev pub fresh_root : LockRootView
+fresh_root = record { line = []; owes = None }
 
--- the pass without the events that were made with it: of these the world knows nothing
-abbrev pub bare : LockPassView → LockPassView
-bare p = record p { made = [] }
+-- what no pass and no root knows
+abbrev pub no_pass : {V : Type 0} → LockPassView V
+no_pass = fresh_pass []
 
-abbrev pub RightFits : {V : Type 0} → ℕ → ℕ → World → (ℕ → ValuesView V) → Right V → Type 0
-RightFits n m w values (Pass p g) = (p.thread < n) × (w.threads.pass p.thread ≡ bare p) × (values p.thread ≡ g)
-RightFits n m w values (Root q) = (q.key < m) × (w.locks.root q.key ≡ q)
+abbrev pub no_root : LockRootView
+no_root = fresh_root
 
-abbrev pub PassHolds : World → ℕ → ℕ → Type 0
-PassHolds w t l = Holds (w.threads.pass t) l
+-- whom a root names: those in its line, and whom it owes a letter
+abbrev pub names : LockRootView → ℕ → Type 0
+names q u = Contains q.line u ⊎ ((k : ℕ) × (q.owes ≡ Some (u, k)))
 
 module _ {V Q : Type 0} (keeps : ℕ → V → Type 0) (grows : V → V → Type 0) (share : ℕ → V → Q) where
-  pub record Stands (n m : ℕ) (w : World) (values : ℕ → ValuesView V) (s : State (Option V) (List (Right V))) : Type 0 where
-    pub words : WordsFit n m w s.words
-    pub seats : Seated number (RightFits n m w values) s.views
-    pub kept : Kept n m w
-    pub lawful : IsLawful keeps grows share n m (PassHolds w) values s.homes
+  -- the words and the slots stand for the world, which keeps the rule of threads and locks, and whose values are lawful
+  pub record Fits (size : Size) (w : LockWorld V) (ws : List ℕ) (homes : List (maybe.Option (Option V))) : Type 0 where
+    pub words : WordsFit word_of (sizes_of size) w ws
+    pub kept : Kept size.threads size.locks w
+    pub lawful : IsLawful keeps grows share size.threads size.locks w.pass homes
 
-  pub record Ruled (size : Size) (s : State (Option V) (List (Right V))) : Type 0 where
-    pub world : World
-    pub values : ℕ → ValuesView V
-    pub stands : Stands size.threads size.locks world values s
-    pub log : List Made
-    pub recorded : Recorded number shown (LockStep size.threads size.locks) opening_part log s.views (part_of world)
+  -- for a table of this size, where xs are the opening values
+  abbrev pub scheme : Size → List V → Scheme (Option V) (LockPassView V) LockRootView
+  scheme size xs = record {
+    World = LockWorld V;
+    Part = LockPart;
+    Fits = Fits size;
+    PassFits = λ w t p. PassIs (sizes_of size) w t p;
+    RootFits = λ w l q. RootIs (sizes_of size) w l q;
+    told_by = λ w. record { part = part_of w; letters = letters_of w.spot };
+    start = record { part = opening_part; letters = λ t. 0 };
+    Step = LockStep size.threads size.locks;
+    word_in = λ a l. bits_of (a.locks.held l) (a.locks.parked l);
+    threads = size.threads;
+    first_key = 0;
+    keys = size.locks;
+    fresh_pass = λ t. fresh_pass xs;
+    fresh_root = λ l. fresh_root;
+  }
+
+  pub one_outcome : (size : Size) (xs : List V) → HasOneOutcome (scheme size xs)
+  one_outcome size xs a b c e s h k = h.2 ∙ sym k.2

@@ -1,31 +1,40 @@
--- What the schedule of the tests knows of the rights of a table with one lock.
-use Rattle.std.specs.Prelude.{◌≡◌, ℕ, Bool, [], ◌∷◌, length, Option}
-use Rattle.lot_words.specs.declared.views.Hold.{Hold}
+-- What the schedules of the tests know of a pass on two locks.
+use Rattle.std.specs.Prelude.{◌≡◌, ℕ, true, false, List, length, Some, None}
+use Rattle.atomic_table.specs.Seated.{TableId}
+use Rattle.lot_rights.specs.Shown.{PassShown, RootShown}
 use Rattle.lot_words.specs.declared.views.LockPassView.{LockPassView}
-use Rattle.lot_words.specs.declared.views.ValuesView.{ValuesView}
+use Rattle.lot_words.specs.declared.views.LockRootView.{LockRootView}
 use Rattle.lot_words.specs.Values.{IsIn, HasSeen}
+use Rattle.lot_words.specs.World.{Holds, HoldsParked}
 
--- the pass of the thread t
-pub record Stands (t : ℕ) (hold : Hold) (wanted : Option ℕ) (sleeps : Bool) (p : LockPassView) : Type 0 where
-  pub thread : p.thread ≡ t
-  pub holds : p.holds ≡ hold ∷ []
-  pub aim : p.aim ≡ wanted
-  pub asleep : p.asleep ≡ sleeps
+-- the pass of the thread t, in the table, of two locks
+abbrev pub IsPass : {V : Type 0} → TableId → ℕ → PassShown (LockPassView V) → Type 0
+IsPass table t p = (p.table ≡ table) × (p.pass.thread ≡ t) × (length p.pass.own.holds ≡ 2) × (length p.pass.own.places ≡ 2) × (length p.pass.own.seen ≡ 2)
 
--- it knows of one lock's value
-pub record OneLock {V : Type 0} (g : ValuesView V) : Type 0 where
-  pub places : length g.places ≡ 1
-  pub seen : length g.seen ≡ 1
+-- it wants nothing
+abbrev pub IsCalm : {V : Type 0} → LockPassView V → Type 0
+IsCalm p = (p.asleep ≡ false) × (p.aim ≡ None)
 
--- a value lies in the slot
-pub record Lies {V : Type 0} (g : ValuesView V) : Type 0 where
-  pub lock : OneLock g
-  pub value : V
-  pub lies : IsIn g 0 value
+-- it wants the lock
+abbrev pub Wants : {V : Type 0} → LockPassView V → ℕ → Type 0
+Wants p l = (p.asleep ≡ false) × (p.aim ≡ Some l)
 
--- the value that was found lies in the slot
-pub record LiesFound {V : Type 0} (g : ValuesView V) : Type 0 where
-  pub lock : OneLock g
-  pub value : V
-  pub lies : IsIn g 0 value
-  pub seen : HasSeen g 0 value
+-- it is in the lock's line, or has a letter
+abbrev pub Sleeps : {V : Type 0} → LockPassView V → ℕ → Type 0
+Sleeps p l = (p.asleep ≡ true) × (p.aim ≡ Some l)
+
+-- it has the lock, whose value lies in its slot as it was found
+abbrev pub Owns : {V : Type 0} → LockPassView V → ℕ → Type 0
+Owns {V} p l = IsCalm p × Holds p l × ((x : V) × IsIn p l x × HasSeen p l x)
+
+-- it has the lock, and a value lies in its slot
+abbrev pub MayFree : {V : Type 0} → LockPassView V → ℕ → Type 0
+MayFree {V} p l = IsCalm p × Holds p l × ((y : V) × IsIn p l y)
+
+-- it has the lock, which it found parked
+abbrev pub MayPass : {V : Type 0} → LockPassView V → ℕ → Type 0
+MayPass {V} p l = IsCalm p × HoldsParked p l × ((y : V) × IsIn p l y)
+
+-- the root of the lock, which owes nothing, with this line
+abbrev pub IsRoot : TableId → ℕ → List ℕ → RootShown LockRootView → Type 0
+IsRoot table l line q = (q.table ≡ table) × (q.root.key ≡ l) × (q.root.own.line ≡ line) × (q.root.own.owes ≡ None)

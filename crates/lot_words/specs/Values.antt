@@ -1,11 +1,12 @@
--- Values under the caller's rule. `has t l` says that t's pass holds l.
-use Rattle.std.specs.Prelude.{◌≡◌, ◌≢◌, ℕ, ◌<◌, List, length, replicate, slice_set, Option, Some, None}
+-- Values under the caller's rule.
+use Rattle.std.specs.Prelude.{◌≡◌, ◌≢◌, ℕ, ◌<◌, List, length, Option, Some, None}
 use mathlib.Core.Option.{some, none}
 use mathlib.Core.Option as maybe
 use lib.ListN.{get_elem?}
+use Rattle.lot_words.specs.declared.views.LockPassView.{LockPassView}
 use Rattle.lot_words.specs.declared.views.Place.{Place}
 use Rattle.lot_words.specs.declared.views.Place.TheVariants.{InSlot, Out, Moving}
-use Rattle.lot_words.specs.declared.views.ValuesView.{ValuesView}
+use Rattle.lot_words.specs.World.{Holds}
 
 module _ {V : Type 0} where
   -- what a slot holds, by its place
@@ -32,27 +33,16 @@ module _ {V : Type 0} where
 
   -- ---- what a pass knows of values
   -- the value y lies in the slot of l
-  abbrev pub IsIn : ValuesView V → ℕ → V → Type 0
-  IsIn g l y = get_elem? g.places l ≡ some (InSlot y)
+  abbrev pub IsIn : LockPassView V → ℕ → V → Type 0
+  IsIn p l y = get_elem? p.places l ≡ some (InSlot y)
 
   -- the pass has the value of l out
-  abbrev pub IsOut : ValuesView V → ℕ → Type 0
-  IsOut g l = get_elem? g.places l ≡ some Out
+  abbrev pub IsOut : LockPassView V → ℕ → Type 0
+  IsOut p l = get_elem? p.places l ≡ some Out
 
   -- x is the value of l that the pass found when it last got l, or left when it last let l go
-  abbrev pub HasSeen : ValuesView V → ℕ → V → Type 0
-  HasSeen g l x = get_elem? g.seen l ≡ some x
-
-  -- l was got with the value x
-  abbrev pub found_in : ValuesView V → ℕ → V → ValuesView V
-  found_in g l x = record { places = slice_set g.places l (InSlot x); seen = slice_set g.seen l x }
-
-  -- l was let go with the value x
-  abbrev pub left_in : ValuesView V → ℕ → V → ValuesView V
-  left_in g l x = record { places = g.places; seen = slice_set g.seen l x }
-
-  abbrev pub placed : ValuesView V → ℕ → Place V → ValuesView V
-  placed g l pl = record { places = slice_set g.places l pl; seen = g.seen }
+  abbrev pub HasSeen : LockPassView V → ℕ → V → Type 0
+  HasSeen p l x = get_elem? p.seen l ≡ some x
 
 module _ {V Q : Type 0} (keeps : ℕ → V → Type 0) (grows : V → V → Type 0) (share : ℕ → V → Q) where
   -- t may leave the value y in the lock l, where it found x
@@ -61,46 +51,43 @@ module _ {V Q : Type 0} (keeps : ℕ → V → Type 0) (grows : V → V → Type
     pub grown : grows x y
     pub others : (u : ℕ) → u ≢ t → share u x ≡ share u y
 
-  -- the value x that t finds in l: it keeps the rule, has grown from what t had seen of it, and has t's part of that
-  pub record FoundOk (l t : ℕ) (g : ValuesView V) (x : V) : Type 0 where
-    pub kept : keeps l x
-    pub grown : (s : V) → HasSeen g l s → grows s x
-    pub mine : (s : V) → HasSeen g l s → share t s ≡ share t x
-
   abbrev pub MayLie : ℕ → ℕ → V → Place V → Type 0
   MayLie l t x (InSlot y) = MayLeave l t x y
   MayLie l t x Out = Unit {0}
   MayLie l t x Moving = Unit {0}
 
-  -- t has l, and found the value x when it got it
-  pub record OwnerOk (homes : List (maybe.Option (Option V))) (l t : ℕ) (g : ValuesView V) (x : V) : Type 0 where
+  -- the value x that t finds in l: it keeps the rule, has grown from what t had seen of it, and has t's part of that
+  pub record FoundOk (l t : ℕ) (p : LockPassView V) (x : V) : Type 0 where
+    pub kept : keeps l x
+    pub grown : (s : V) → HasSeen p l s → grows s x
+    pub mine : (s : V) → HasSeen p l s → share t s ≡ share t x
+
+  -- t has l, and found the value x when it got it; the slots hold what it knows
+  pub record OwnerOk (homes : List (maybe.Option (Option V))) (l t : ℕ) (p : LockPassView V) (x : V) : Type 0 where
     pub place : Place V
-    pub place_is : get_elem? g.places l ≡ some place
+    pub place_is : get_elem? p.places l ≡ some place
     pub home : get_elem? homes l ≡ some (home_of place)
-    pub found : HasSeen g l x
+    pub found : HasSeen p l x
     pub lawful : MayLie l t x place
 
   -- what t has seen of l, whose value is x
-  pub record SeenOk (held : Type 0) (l t : ℕ) (g : ValuesView V) (x : V) : Type 0 where
+  pub record SeenOk (l t : ℕ) (p : LockPassView V) (x : V) : Type 0 where
     pub seen : V
-    pub seen_is : HasSeen g l seen
+    pub seen_is : HasSeen p l seen
     pub grown : grows seen x
-    pub mine : ¬ held → share t seen ≡ share t x
+    pub mine : (¬ Holds p l) → share t seen ≡ share t x
 
   -- the lock l, whose value is x: what its owner found, or else what lies in its slot. Some thread has seen it
-  pub record ValueOk (n : ℕ) (has : ℕ → ℕ → Type 0) (values : ℕ → ValuesView V) (homes : List (maybe.Option (Option V))) (l : ℕ) (x : V) : Type 0 where
+  pub record ValueOk (n : ℕ) (pass : ℕ → LockPassView V) (homes : List (maybe.Option (Option V))) (l : ℕ) (x : V) : Type 0 where
     pub kept : keeps l x
-    pub idle : ((t : ℕ) → ¬ has t l) → get_elem? homes l ≡ some (some (Some x))
-    pub owned : (t : ℕ) → has t l → OwnerOk homes l t (values t) x
-    pub seen : (t : ℕ) → t < n → SeenOk (has t l) l t (values t) x
-    pub witness : (t : ℕ) × ((t < n) × HasSeen (values t) l x)
+    pub idle : ((t : ℕ) → ¬ Holds (pass t) l) → get_elem? homes l ≡ some (some (Some x))
+    pub owned : (t : ℕ) → Holds (pass t) l → OwnerOk homes l t (pass t) x
+    pub seen : (t : ℕ) → t < n → SeenOk l t (pass t) x
+    pub witness : (t : ℕ) × ((t < n) × HasSeen (pass t) l x)
 
-  pub record IsLawful (n m : ℕ) (has : ℕ → ℕ → Type 0) (values : ℕ → ValuesView V) (homes : List (maybe.Option (Option V))) : Type 0 where
+  -- the values of m locks, among n threads
+  pub record IsLawful (n m : ℕ) (pass : ℕ → LockPassView V) (homes : List (maybe.Option (Option V))) : Type 0 where
     pub value : ℕ → V
     pub deep : length homes ≡ m
-    pub each : (l : ℕ) → l < m → ValueOk n has values homes l (value l)
-    pub wide : (t : ℕ) → t < n → (length (values t).places ≡ m) × (length (values t).seen ≡ m)
-
--- ---- at the opening each pass has seen the opening values, and has none out
-abbrev pub fresh_values : {V : Type 0} → List V → ValuesView V
-fresh_values xs = record { places = replicate (length xs) Out; seen = xs }
+    pub each : (l : ℕ) → l < m → ValueOk n pass homes l (value l)
+    pub wide : (t : ℕ) → t < n → (length (pass t).places ≡ m) × (length (pass t).seen ≡ m)

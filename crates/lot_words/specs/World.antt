@@ -1,34 +1,37 @@
--- What the words, the passes and the roots of a table stand for.
-use Rattle.std.specs.Prelude.{◌≡◌, ℕ, zero, suc, ◌+◌, ◌*◌, ◌<◌, ◌⊎◌, Bool, true, false, List, [], ◌∷◌, length, slice_index, slice_index_or, Some}
-use Rattle.lot_words.specs.Seating.{In}
+-- What the words, the passes and the roots of a table of lock words stand for.
+use Rattle.std.specs.Prelude.{◌≡◌, ◌≢◌, ℕ, zero, suc, ◌<◌, ◌⊎◌, Bool, true, false, [], length, slice_index_or, Some}
+use Rattle.std.specs.List.{Contains}
+use Rattle.lot_core.specs.Sound.{IsOnce}
+use Rattle.lot_rights.specs.World.{World, Spot, awake, queued, owed, lying, IsLetter}
 use Rattle.lot_words.specs.declared.views.Hold.{Hold}
 use Rattle.lot_words.specs.declared.views.Hold.TheVariants.{NotHeld, Held, FoundParked}
 use Rattle.lot_words.specs.declared.views.LockPassView.{LockPassView}
 use Rattle.lot_words.specs.declared.views.LockRootView.{LockRootView}
 
--- Where a thread's notice is: it waits for none, it is in the line of a lock, the lock's root owes it a letter with a token, or that letter lies
-pub data Spot : Type 0 where
-  awake : Spot
-  queued : ℕ → Spot
-  owed : ℕ → ℕ → Spot
-  lying : ℕ → ℕ → Spot
+-- of a lock: its owner, which is 0 for none and else one more than the thread, and whether it is parked
+pub record LockWord : Type 0 where
+  pub owner : ℕ
+  pub parked : Bool
 
--- of each thread: its pass, and where its notice is
-pub record ThreadFacts : Type 0 where
-  pub pass : ℕ → LockPassView
-  pub spot : ℕ → Spot
+abbrev pub LockWorld : Type 0 → Type 0
+LockWorld V = World (LockPassView V) LockRootView LockWord
 
--- of each lock: its owner, which is 0 for none and else one more than the thread, whether it is parked, and its root
-pub record LockFacts : Type 0 where
-  pub owner : ℕ → ℕ
-  pub parked : ℕ → Bool
-  pub root : ℕ → LockRootView
+abbrev pub is_owned : ℕ → Bool
+is_owned zero = false
+is_owned (suc t) = true
 
-pub record World : Type 0 where
-  pub threads : ThreadFacts
-  pub locks : LockFacts
+-- a word: bit 1 says held, bit 2 parked
+abbrev pub bits_of : Bool → Bool → ℕ
+bits_of false false = 0
+bits_of true false = 1
+bits_of false true = 2
+bits_of true true = 3
 
-abbrev pub hold : LockPassView → ℕ → Hold
+abbrev pub word_of : LockWord → ℕ
+word_of x = bits_of (is_owned x.owner) x.parked
+
+-- ---- what a pass holds
+abbrev pub hold : {V : Type 0} → LockPassView V → ℕ → Hold
 hold p l = slice_index_or p.holds l NotHeld
 
 abbrev pub IsHeld : Hold → Type 0
@@ -42,102 +45,56 @@ IsFound Held = ⊥
 IsFound FoundParked = Unit {0}
 
 -- the pass holds the lock
-abbrev pub Holds : LockPassView → ℕ → Type 0
+abbrev pub Holds : {V : Type 0} → LockPassView V → ℕ → Type 0
 Holds p l = IsHeld (hold p l)
 
 -- the pass holds the lock, and `free` found it parked
-abbrev pub HoldsParked : LockPassView → ℕ → Type 0
+abbrev pub HoldsParked : {V : Type 0} → LockPassView V → ℕ → Type 0
 HoldsParked p l = IsFound (hold p l)
 
--- no thread twice
-abbrev pub Apart : List ℕ → Type 0
-Apart [] = Unit {0}
-Apart (u ∷ us) = (¬ In u us) × Apart us
-
-abbrev pub SomeIn : List ℕ → Type 0
-SomeIn [] = ⊥
-SomeIn (u ∷ us) = Unit {0}
-
--- l was handed to the thread, which has not collected its letter
-abbrev pub Handed : Spot → ℕ → Type 0
-Handed awake l = ⊥
-Handed (queued m) l = ⊥
-Handed (owed m k) l = (m ≡ l) × (k ≡ 1)
-Handed (lying m k) l = (m ≡ l) × (k ≡ 1)
+-- ---- letters
+-- l was handed to the thread, which has not collected its letter: of the letters' tokens, 1 says so
+abbrev pub IsHanded : Spot → ℕ → Type 0
+IsHanded sp l = IsLetter sp l 1
 
 -- the thread is in no line
-abbrev pub Outside : Spot → Type 0
-Outside awake = Unit {0}
-Outside (queued m) = ⊥
-Outside (owed m k) = Unit {0}
-Outside (lying m k) = Unit {0}
-
-abbrev pub Sleeps : ℕ → ℕ → LockPassView → ℕ → Type 0
-Sleeps n t p l = (t < n) × (p.asleep ≡ true) × (p.aim ≡ Some l)
+abbrev pub IsOutside : Spot → Type 0
+IsOutside sp = (l : ℕ) → sp ≢ queued l
 
 -- the token k tells t the truth of the lock with the owner o
 abbrev pub TellsTrue : ℕ → ℕ → ℕ → Type 0
 TellsTrue o t k = (k ≡ 0) ⊎ ((k ≡ 1) × (o ≡ suc t))
 
--- letters: a pass that was queued and has not collected is in its lock's line, or has exactly one letter, owed or lying
-abbrev pub SpotFits : ℕ → LockFacts → ℕ → LockPassView → Spot → Type 0
-SpotFits n ls t p awake = p.asleep ≡ false
-SpotFits n ls t p (queued l) = Sleeps n t p l × In t (ls.root l).line
-SpotFits n ls t p (owed l k) = Sleeps n t p l × ((ls.root l).owes ≡ Some (t, k)) × TellsTrue (ls.owner l) t k
-SpotFits n ls t p (lying l k) = Sleeps n t p l × TellsTrue (ls.owner l) t k
+module _ {V : Type 0} (n : ℕ) (word : ℕ → LockWord) (root : ℕ → LockRootView) where
+  abbrev pub Sleeps : ℕ → LockPassView V → ℕ → Type 0
+  Sleeps t p l = (t < n) × (p.asleep ≡ true) × (p.aim ≡ Some l)
 
--- the thread t with the pass p and its notice at sp, among the locks
-pub record ThreadFits (n m : ℕ) (ls : LockFacts) (t : ℕ) (p : LockPassView) (sp : Spot) : Type 0 where
-  pub long : length p.holds ≡ m
-  pub aims : (l : ℕ) → p.aim ≡ Some l → l < m
-  pub holds : (l : ℕ) → Holds p l → ls.owner l ≡ suc t
-  pub found : (l : ℕ) → HoldsParked p l → ls.parked l ≡ true
-  pub spot : SpotFits n ls t p sp
-  pub in_line : (l : ℕ) → In t (ls.root l).line → sp ≡ queued l
-  pub is_owed : (l k : ℕ) → (ls.root l).owes ≡ Some (t, k) → sp ≡ owed l k
-  pub handed : (l : ℕ) → Handed sp l → ¬ Holds p l
+  -- letters: a pass that was queued and has not collected is in its lock's line, or has exactly one letter, owed or lying
+  abbrev pub SpotFits : ℕ → LockPassView V → Spot → Type 0
+  SpotFits t p awake = p.asleep ≡ false
+  SpotFits t p (queued l) = Sleeps t p l × Contains (root l).line t
+  SpotFits t p (owed l k) = Sleeps t p l × ((root l).owes ≡ Some (t, k)) × TellsTrue (word l).owner t k
+  SpotFits t p (lying l k) = Sleeps t p l × TellsTrue (word l).owner t k
 
--- the lock l with its owner o, its parked bit b and its root q, among the threads
-pub record LockFits (n : ℕ) (ts : ThreadFacts) (l o : ℕ) (b : Bool) (q : LockRootView) : Type 0 where
-  pub apart : Apart q.line
-  pub had : (t : ℕ) → o ≡ suc t → (t < n) × (Holds (ts.pass t) l ⊎ Handed (ts.spot t) l)
-  pub parks : SomeIn q.line → b ≡ true
-  pub tried : o ≡ 0 → SomeIn q.line → (t : ℕ) × ((t < n) × ((ts.pass t).aim ≡ Some l) × Outside (ts.spot t))
+  -- the thread t with the pass p and its notice at sp, among m locks
+  pub record ThreadFits (m t : ℕ) (p : LockPassView V) (sp : Spot) : Type 0 where
+    pub long : length p.holds ≡ m
+    pub aims : (l : ℕ) → p.aim ≡ Some l → l < m
+    pub holds : (l : ℕ) → Holds p l → (word l).owner ≡ suc t
+    pub found : (l : ℕ) → HoldsParked p l → (word l).parked ≡ true
+    pub spot : SpotFits t p sp
+    pub in_line : (l : ℕ) → Contains (root l).line t → sp ≡ queued l
+    pub is_owed : (l k : ℕ) → (root l).owes ≡ Some (t, k) → sp ≡ owed l k
+    pub handed : (l : ℕ) → IsHanded sp l → ¬ Holds p l
 
--- the rule of threads and locks
-pub record Kept (n m : ℕ) (w : World) : Type 0 where
-  pub threads : (t : ℕ) → ThreadFits n m w.locks t (w.threads.pass t) (w.threads.spot t)
-  pub locks : (l : ℕ) → LockFits n w.threads l (w.locks.owner l) (w.locks.parked l) (w.locks.root l)
+-- the lock l with its word x and its root q, among n threads
+pub record LockFits {V : Type 0} (n : ℕ) (pass : ℕ → LockPassView V) (spot : ℕ → Spot) (l : ℕ) (x : LockWord) (q : LockRootView) : Type 0 where
+  pub once : IsOnce q.line
+  pub had : (t : ℕ) → x.owner ≡ suc t → (t < n) × (Holds (pass t) l ⊎ IsHanded (spot t) l)
+  pub parks : q.line ≢ [] → x.parked ≡ true
+  pub tried : x.owner ≡ 0 → q.line ≢ [] → (t : ℕ) × ((t < n) × ((pass t).aim ≡ Some l) × IsOutside (spot t))
 
--- ---- words
-abbrev pub word_of : ℕ → Bool → ℕ
-word_of zero false = 0
-word_of zero true = 2
-word_of (suc t) false = 1
-word_of (suc t) true = 3
-
-abbrev pub letter_of : Spot → ℕ
-letter_of awake = 0
-letter_of (queued l) = 0
-letter_of (owed l k) = 0
-letter_of (lying l k) = k + 1
-
--- word 0 is spare, and 16 words lie from one to the next
-abbrev pub lock_at : ℕ → ℕ
-lock_at l = 16 * l + 16
-
--- a word of each lock that no step writes
-abbrev pub spare_at : ℕ → ℕ
-spare_at l = 16 * l + 24
-
--- the letters follow, 8 words from one to the next
-abbrev pub letter_at : ℕ → ℕ → ℕ
-letter_at m t = 16 * m + 8 * t + 16
-
-abbrev pub word_count : ℕ → ℕ → ℕ
-word_count n m = 16 * m + 8 * n + 16
-
-pub record WordsFit (n m : ℕ) (w : World) (ws : List ℕ) : Type 0 where
-  pub wide : length ws ≡ word_count n m
-  pub locks : (l : ℕ) → l < m → slice_index ws (lock_at l) ≡ word_of (w.locks.owner l) (w.locks.parked l)
-  pub letters : (t : ℕ) → t < n → slice_index ws (letter_at m t) ≡ letter_of (w.threads.spot t)
+-- the rule of n threads and m locks
+pub record Kept {V : Type 0} (n m : ℕ) (w : LockWorld V) : Type 0 where
+  pub threads : (t : ℕ) → ThreadFits n w.word w.root m t (w.pass t) (w.spot t)
+  pub locks : (l : ℕ) → LockFits n w.pass w.spot l (w.word l) (w.root l)

@@ -1,15 +1,6 @@
 //! Values become what the slots hold, and come back.
-ghost use Rattle.std.specs.Prelude.{◌≡◌, ℕ, ◌+◌, ◌<◌, ◌≤◌, Some, [], map, replicate, vec_len, vec_capacity, IfOk};
-ghost use Rattle.lot_words.specs.Opening.{AllSome};
-
-use std::alloc::{AllocError, Global};
-
-/// Words that are all 0.
-pub(crate) fn zeros(alloc: Global, count: usize) -> Result<Vec<u64>, AllocError>
-    ensures { IfOk result (λ v. v.items ≡ replicate count 0) }
-{
-    vec![in alloc; 0; count]
-}
+ghost use Rattle.std.specs.Prelude.{◌≡◌, ◌≤◌, Some, map, vec_len, vec_capacity};
+ghost use Rattle.lot_words.specs.Shelf.{AllSome};
 
 /// Moves the values into slots, in order. Their own room stays.
 pub(crate) fn shelve<V>(values: &mut Vec<V>, slots: &mut Vec<Option<V>>)

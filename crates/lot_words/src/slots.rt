@@ -2,47 +2,16 @@
 ghost use Rattle.std.specs.Prelude.{◌≡◌, ◌<◌};
 ghost use mathlib.Core.Option.{some};
 ghost use lib.ListN.{get_elem?};
-ghost use Rattle.lot_words.specs.World.{Holds, spare_at};
-ghost use Rattle.lot_words.specs.Values.{IsIn, IsOut, HasSeen, MayLeave, MayLie, IsAtHome, in_slot, place_of, placed};
+ghost use Rattle.lot_words.specs.World.{Holds};
+ghost use Rattle.lot_words.specs.Values.{IsIn, IsOut, HasSeen, MayLeave, MayLie, IsAtHome, in_slot, place_of};
+ghost use Rattle.lot_words.specs.Calls.{placed};
 ghost use Rattle.lot_words.specs.declared.views.Place.{Place};
 ghost use Rattle.lot_words.specs.declared.views.Place.TheVariants.{InSlot, Out};
 
 use crate::keeps::Keeps;
-use crate::rights::LockPass;
-use crate::views::Right;
-use crate::words::{LockWords, word_of_lock};
-use atomic_table::Play;
-use std::collections::LinkedList;
-
-/// How far behind a lock's word the word lies that nobody writes.
-const SPARE: usize = 8;
-
-/// The place of a lock's word that nobody writes.
-#[inline(always)]
-fn spare_word_of_lock(key: usize) -> usize
-    requires { key < 1024 }
-    ensures { result ≡ spare_at key }
-{
-    word_of_lock(key) + SPARE
-}
-
-/// The slot of the lock comes to the seat.
-pub(crate) struct TakeOut;
-
-impl<V> Play<Option<V>, LinkedList<Right<V>>> for TakeOut {
-    ghost use Rattle.lot_words.specs.Slots.{taken_out};
-
-    ghost then = { taken_out };
-}
-
-/// The slot goes back to the table.
-pub(crate) struct GiveBack;
-
-impl<V> Play<Option<V>, LinkedList<Right<V>>> for GiveBack {
-    ghost use Rattle.lot_words.specs.Slots.{given_back};
-
-    ghost then = { given_back };
-}
+use crate::kind::LockPass;
+use crate::words::LockWords;
+use std::marker::Brand;
 
 impl<V: Keeps> LockWords<V> {
     /// Takes the lock's value out of its slot. The lock stays held, and nobody else sees that the value is out.
@@ -50,12 +19,11 @@ impl<V: Keeps> LockWords<V> {
     pub fn value_out(&self, pass: LockPass<V>, key: usize) -> (LockPass<V>, V)
         requires table { pass.table ≡ self.now.table }
         requires key { key < self.now.size.locks }
-        requires holds { Holds pass.pass key }
-        requires lies { (y : V) × IsIn pass.values key y }
-        ensures pass { (result.0.table ≡ pass.table) × (result.0.pass ≡ pass.pass) }
-        ensures values { result.0.values ≡ placed pass.values key Out }
-        ensures value { IsIn pass.values key result.1 }
-        ensures out { IsOut result.0.values key }
+        requires holds { Holds pass.pass.own key }
+        requires lies { (y : V) × IsIn pass.pass.own key y }
+        ensures pass { (result.0.table ≡ pass.table) × (result.0.pass ≡ record pass.pass { own = placed pass.pass.own key Out }) }
+        ensures value { IsIn pass.pass.own key result.1 }
+        ensures out { IsOut result.0.pass.own key }
     {
         let (pass, found) = self.exchange_value(pass, key, None);
         let Some(value) = found else { unreachable!() };
@@ -68,18 +36,17 @@ impl<V: Keeps> LockWords<V> {
     pub fn value_in(&self, pass: LockPass<V>, key: usize, value: V) -> LockPass<V>
         requires table { pass.table ≡ self.now.table }
         requires key { key < self.now.size.locks }
-        requires holds { Holds pass.pass key × IsOut pass.values key }
-        requires lawful { (x : V) × HasSeen pass.values key x × MayLeave V.keeps V.grows V.part key pass.pass.thread x value }
-        ensures pass { (result.table ≡ pass.table) × (result.pass ≡ pass.pass) }
-        ensures values { result.values ≡ placed pass.values key (InSlot value) }
-        ensures lies { IsIn result.values key value }
+        requires holds { Holds pass.pass.own key × IsOut pass.pass.own key }
+        requires lawful { (x : V) × HasSeen pass.pass.own key x × MayLeave V.keeps V.grows V.part key pass.pass.thread x value }
+        ensures pass { (result.table ≡ pass.table) × (result.pass ≡ record pass.pass { own = placed pass.pass.own key (InSlot value) }) }
+        ensures lies { IsIn result.pass.own key value }
     {
         let (pass, found) = self.exchange_value(pass, key, Some(value));
         let None = found else { unreachable!() };
         pass
     }
 
-    // Two loads of a word that nobody writes, between which the slot is out with the seat.
+    // What lies in the slot is known to the pass, and what comes into it may lie there.
     #[inline]
     fn exchange_value(
         &self,
@@ -89,19 +56,13 @@ impl<V: Keeps> LockWords<V> {
     ) -> (LockPass<V>, Option<V>)
         requires table { pass.table ≡ self.now.table }
         requires key { key < self.now.size.locks }
-        requires holds { Holds pass.pass key }
-        requires home { (place : Place V) × (get_elem? pass.values.places key ≡ some place) × IsAtHome place }
-        requires lawful { (x : V) → HasSeen pass.values key x → MayLie V.keeps V.grows V.part key pass.pass.thread x (place_of new) }
-        ensures pass { (result.0.table ≡ pass.table) × (result.0.pass ≡ pass.pass) }
-        ensures values { result.0.values ≡ placed pass.values key (place_of new) }
-        ensures found { (place : Place V) → get_elem? pass.values.places key ≡ some place → result.1 ≡ in_slot place }
+        requires holds { Holds pass.pass.own key }
+        requires home { (place : Place V) × (get_elem? pass.pass.own.places key ≡ some place) × IsAtHome place }
+        requires lawful { (x : V) → HasSeen pass.pass.own key x → MayLie V.keeps V.grows V.part key pass.pass.thread x (place_of new) }
+        ensures pass { (result.0.table ≡ pass.table) × (result.0.pass ≡ record pass.pass { own = placed pass.pass.own key (place_of new) }) }
+        ensures found { (place : Place V) → get_elem? pass.pass.own.places key ≡ some place → result.1 ≡ in_slot place }
     {
-        let LockPass { mut seat, thread } = pass;
-        let shared = &self.table.shared;
-        let spare = spare_word_of_lock(key);
-        shared.load::<TakeOut>(&mut seat, spare);
-        let found = shared.exchange(&mut seat, key, new);
-        shared.load::<GiveBack>(&mut seat, spare);
-        (LockPass { seat, thread }, found)
+        let words = &self.words;
+        words.exchange::<Brand, ()>(pass, key, new, ())
     }
 }

@@ -1,13 +1,16 @@
-//! Getting a lock: one fetch-or on its word.
-ghost use Rattle.std.specs.Prelude.{true, false, ◌≡◌, ℕ, ◌<◌, MatchBool, None};
+//! Getting a lock: one access of its word.
+ghost use Rattle.std.specs.Prelude.{true, false, ◌≡◌, ◌≢◌, ℕ, ◌<◌, MatchBool, None};
 ghost use Rattle.lot_core.specs.declared.events.Event.TheVariants.{Try, Take, Mark};
 ghost use Rattle.lot_core.specs.declared.events.Seen.TheVariants.{Bool as Saw, Done};
-ghost use Rattle.lot_words.specs.Calls.{Notes, Aims, gripped, wishing, Gets};
+ghost use Rattle.lot_rights.specs.declared.views.Access.TheVariants.{Makes, Finds};
+ghost use Rattle.lot_rights.specs.Steps.{Notes};
+ghost use Rattle.lot_words.specs.Calls.{Aims, wishing, Gets};
 
 use crate::keeps::Keeps;
-use crate::plays::{MarkStep, TakeStep, TryStep};
-use crate::rights::LockPass;
-use crate::words::{HELD, HELD_AND_PARKED, LockWords, word_of_lock};
+use crate::kind::LockPass;
+use crate::words::{HELD, HELD_AND_PARKED, LockWords, UNHELD};
+use lot_rights::word_of_key;
+use std::marker::Brand;
 
 impl<V: Keeps> LockWords<V> {
     /// Gets the lock where it is unheld, and else leaves all as it was: WTF's `Lock::tryLock`. The event is Try.
@@ -15,20 +18,15 @@ impl<V: Keeps> LockWords<V> {
     pub fn try_take(&self, pass: LockPass<V>, key: usize) -> (LockPass<V>, bool)
         requires table { pass.table ≡ self.now.table }
         requires key { key < self.now.size.locks }
-        requires calm { (pass.pass.asleep ≡ false) × (pass.pass.aim ≡ None) }
+        requires calm { (pass.pass.own.asleep ≡ false) × (pass.pass.own.aim ≡ None) }
         ensures table { result.0.table ≡ pass.table }
         ensures event { MatchBool result.1
-            (Notes (gripped pass.pass key) result.0.pass (Try pass.pass.thread key) (Saw true))
-            (Notes pass.pass result.0.pass (Try pass.pass.thread key) (Saw false)) }
-        ensures values { MatchBool result.1
-            ((x : V) × Gets V.keeps V.grows V.part pass key x result.0)
-            (result.0.values ≡ pass.values) }
+            (Gets V.keeps V.grows V.part pass.pass key (Makes (Try pass.pass.thread key) (Saw true)) result.0.pass)
+            (Notes pass.pass pass.pass.own (Makes (Try pass.pass.thread key) (Saw false)) result.0.pass) }
     {
-        let LockPass { mut seat, thread } = pass;
-        let shared = &self.table.shared;
-        let found = shared.fetch_or::<TryStep>(&mut seat, word_of_lock(key), HELD);
-        let got = found % 2 == 0;
-        (LockPass { seat, thread }, got)
+        let words = &self.words;
+        let (pass, was) = words.fetch_or::<Brand, usize>(pass, word_of_key(key), HELD, key);
+        (pass, was % 2 == 0)
     }
 
     /// Gets the lock where it is unheld, and else the thread wants it from now on: the first step of WTF's `Lock::lock`, and each
@@ -37,37 +35,55 @@ impl<V: Keeps> LockWords<V> {
     pub fn take(&self, pass: LockPass<V>, key: usize) -> (LockPass<V>, bool)
         requires table { pass.table ≡ self.now.table }
         requires key { key < self.now.size.locks }
-        requires calm { (pass.pass.asleep ≡ false) × Aims pass.pass key }
+        requires calm { (pass.pass.own.asleep ≡ false) × Aims pass.pass.own key }
         ensures table { result.0.table ≡ pass.table }
         ensures event { MatchBool result.1
-            (Notes (gripped pass.pass key) result.0.pass (Take pass.pass.thread key) (Saw true))
-            (Notes (wishing pass.pass key) result.0.pass (Take pass.pass.thread key) (Saw false)) }
-        ensures values { MatchBool result.1
-            ((x : V) × Gets V.keeps V.grows V.part pass key x result.0)
-            (result.0.values ≡ pass.values) }
+            (Gets V.keeps V.grows V.part pass.pass key (Makes (Take pass.pass.thread key) (Saw true)) result.0.pass)
+            (Notes pass.pass (wishing pass.pass.own key) (Makes (Take pass.pass.thread key) (Saw false)) result.0.pass) }
     {
-        let LockPass { mut seat, thread } = pass;
-        let shared = &self.table.shared;
-        let found = shared.fetch_or::<TakeStep>(&mut seat, word_of_lock(key), HELD);
-        (LockPass { seat, thread }, found % 2 == 0)
+        let words = &self.words;
+        let (pass, found) = words.fetch_or::<Brand, usize>(pass, word_of_key(key), HELD, key);
+        (pass, found % 2 == 0)
+    }
+
+    /// Gets the lock where its word is 0, by one compare-exchange; the event is Take. Else no event is made, the pass is as it was, and
+    /// the entry says what the word was. A `lock` that begins so leaves the line of a contended word alone.
+    #[inline(always)]
+    pub fn take_free(&self, pass: LockPass<V>, key: usize) -> (LockPass<V>, bool)
+        requires table { pass.table ≡ self.now.table }
+        requires key { key < self.now.size.locks }
+        requires calm { (pass.pass.own.asleep ≡ false) × Aims pass.pass.own key }
+        ensures table { result.0.table ≡ pass.table }
+        ensures event { MatchBool result.1
+            (Gets V.keeps V.grows V.part pass.pass key (Makes (Take pass.pass.thread key) (Saw true)) result.0.pass)
+            ((word : ℕ) × (word ≢ 0) × Notes pass.pass pass.pass.own (Finds pass.pass.thread key word) result.0.pass) }
+    {
+        let words = &self.words;
+        let place = word_of_key(key);
+        let (pass, found) = words.compare_exchange::<Brand, usize>(pass, place, UNHELD, HELD, key);
+        (pass, found == UNHELD)
     }
 
     /// Marks a held, unparked lock as parked, by one compare-exchange, and says whether it did. The event is Mark; where the word was
-    /// another, nothing is made. A thread that is about to park calls it, as WTF's `Lock::lockSlow` does.
+    /// another, the entry says which. A thread that is about to park calls it, as WTF's `Lock::lockSlow` does.
     pub fn mark(&self, pass: LockPass<V>, key: usize) -> (LockPass<V>, bool)
         requires table { pass.table ≡ self.now.table }
         requires key { key < self.now.size.locks }
-        requires calm { (pass.pass.asleep ≡ false) × Aims pass.pass key }
+        requires calm { (pass.pass.own.asleep ≡ false) × Aims pass.pass.own key }
         ensures table { result.0.table ≡ pass.table }
         ensures event { MatchBool result.1
-            (Notes pass.pass result.0.pass (Mark pass.pass.thread key) Done)
-            (result.0.pass ≡ pass.pass) }
-        ensures values { result.0.values ≡ pass.values }
+            (Notes pass.pass pass.pass.own (Makes (Mark pass.pass.thread key) Done) result.0.pass)
+            ((word : ℕ) × (word ≢ 1) × Notes pass.pass pass.pass.own (Finds pass.pass.thread key word) result.0.pass) }
     {
-        let LockPass { mut seat, thread } = pass;
-        let shared = &self.table.shared;
-        let word = word_of_lock(key);
-        let found = shared.compare_exchange::<MarkStep>(&mut seat, word, HELD, HELD_AND_PARKED);
-        (LockPass { seat, thread }, found == HELD)
+        let words = &self.words;
+        let word = word_of_key(key);
+        let (pass, found) = words.compare_exchange::<Brand, usize>(
+            pass,
+            word,
+            HELD,
+            HELD_AND_PARKED,
+            key,
+        );
+        (pass, found == HELD)
     }
 }

@@ -3,21 +3,16 @@ use Rattle.std.proofs.Common.{◌≡◌, ℕ, ◌<◌, ◌+◌, Bool, true, fals
 use Rattle.atomic_table.proofs.Lists.{at_set}
 use Rattle.lot_sync.specs.Lot.{PassView, HeldView, OwnsNone, HasSeen, owning, leaving}
 use Rattle.lot_sync.specs.Values.{Gets, MayGiveBack}
-use Rattle.lot_words.specs.Closing.{AllOf, SomeOf}
-use Rattle.lot_words.proofs.Gathers.{all_snoc}
+use Rattle.std.specs.List.{All, Any}
+use Rattle.std.proofs.lemmas.List.Elements.{All-push}
 use Rattle.lot_sync.proofs.Turns.{all_threads}
+use Rattle.std.proofs.Common.{append_assoc}
+use Rattle.lot_journal.specs.declared.entry.Entry.{Entry}
+use Rattle.lot_journal.specs.Journal.{JournalView, GoesOn, calls_of}
+use Rattle.lotstress.specs.declared.counter.Add.{Add}
+use Rattle.lotstress.specs.declared.counter.Counter.{Counter}
+use Rattle.lotstress.specs.Counters.{total_after, IsAdded, OwnIsMore, IsThere}
 use Rattle.lotstress.specs.Works.{WorksOn}
-
-unowned : (bs : List Bool) (k j : ℕ) → ((i : ℕ) → get_or bs i false ≡ true → ⊥) → get_or (set (set bs k true) k false) j false ≡ true → ⊥
-unowned [] k j none e = none j e
-unowned (b ∷ bs) zero zero none e = absurd (cc)
-unowned (b ∷ bs) zero (suc j) none e = none (suc j) e
-unowned (b ∷ bs) (suc k) zero none e = none zero e
-unowned (b ∷ bs) (suc k) (suc j) none e = unowned bs k j (λ i h. none (suc i) h) e
-
-pub owns_none_again : {V : Type 0} (p q r : PassView V) (k : ℕ) (x y : V) → OwnsNone p → q ≡ owning p k x → r ≡ leaving q k y → OwnsNone r
-owns_none_again p q r k x y none e f j h =
-    unowned p.owns k j none (subst (λ (z : PassView _). get_or (set z.owns k false) j false ≡ true) e (subst (λ (z : PassView _). get_or z.owns j false ≡ true) f h))
 
 -- what the pass has seen of the key is what it found there
 pub seen_found : {V : Type 0} (p q : PassView V) (k : ℕ) (x u : V) → q ≡ owning p k x → HasSeen q k u → x ≡ u
@@ -45,12 +40,37 @@ module _ {V Part : Type 0} (keeps : ℕ → V → Type 0) (grows : V → V → T
 module _ {V : Type 0} where
   -- each thread below n has its pass in the list
   abbrev pub AreThere : List (PassView V) → ℕ → Type 0
-  AreThere passes n = (t : ℕ) → t < n → SomeOf (λ (p : PassView V). p.thread ≡ t) passes
+  AreThere passes n = (t : ℕ) → t < n → Any (λ (p : PassView V). p.thread ≡ t) passes
 
   -- one pass more is there
   pub more_are_there : (before after : List (PassView V)) (pass : PassView V) (n : ℕ) → after ≡ before ++ pass ∷ [] → pass.thread ≡ n → AreThere before n → AreThere after (n + 1)
-  more_are_there before after pass n is thread there t near = subst (SomeOf (λ (p : PassView V). p.thread ≡ t)) (sym is)
+  more_are_there before after pass n is thread there t near = subst (Any (λ (p : PassView V). p.thread ≡ t)) (sym is)
       (all_threads before pass n thread there t near)
 
-  pub more_are_free : (before after : List (PassView V)) (pass : PassView V) → after ≡ before ++ pass ∷ [] → AllOf OwnsNone before → OwnsNone pass → AllOf OwnsNone after
-  more_are_free before after pass is free own = subst (AllOf OwnsNone) (sym is) (all_snoc OwnsNone before pass free own)
+  pub more_are_free : (before after : List (PassView V)) (pass : PassView V) → after ≡ before ++ pass ∷ [] → All OwnsNone before → OwnsNone pass → All OwnsNone after
+  more_are_free before after pass is free own = subst (All OwnsNone) (sym is) (All-push OwnsNone before pass free own)
+
+-- ---- a call is in the history
+abbrev entry_of : ℕ → Add → ℕ → Entry Add ℕ
+entry_of thread call answer = record { thread = thread; call = call; reply = answer }
+
+-- what was found goes on from what was seen, and then the thread called
+pub is_there : (thread : ℕ) (call : Add) (seen found now : JournalView Counter Add ℕ) → GoesOn seen found → calls_of thread seen ≡ calls_of thread found → IsAdded found thread call now
+    → OwnIsMore found thread call (total_after found.object call) now → IsThere thread call seen now
+is_there thread call seen found now on mine added own = record {
+  answer = total_after found.object call;
+  between = on.history.0;
+  more = [];
+  history = added.history ∙ ap (λ h. h ++ entry_of thread call (total_after found.object call) ∷ []) (sym on.history.1);
+  once = own ∙ ap (λ h. h ++ entry_of thread call (total_after found.object call) ∷ []) (sym mine);
+}
+
+-- it is still there where only others called since
+pub still_there : (thread : ℕ) (call : Add) (seen mid now : JournalView Counter Add ℕ) → IsThere thread call seen mid → GoesOn mid now → calls_of thread mid ≡ calls_of thread now → IsThere thread call seen now
+still_there thread call seen mid now there on same = record {
+  answer = there.answer;
+  between = there.between;
+  more = there.more ++ on.history.0;
+  history = sym on.history.1 ∙ (ap (λ h. h ++ on.history.0) there.history ∙ append_assoc (seen.history ++ there.between) (entry_of thread call there.answer ∷ there.more) on.history.0);
+  once = sym same ∙ there.once;
+}

@@ -4,17 +4,19 @@ use crate::count::{Counting, count};
 use crate::failure::Failure;
 use crate::number::number;
 use crate::replay::replay;
+use arrayvec::ArrayString;
+use lot_core::{MAX_KEYS, MAX_THREADS};
 use std::alloc::Global;
+use std::fmt::Write as _;
 use std::io::{Read, Write};
 use std::sync::Wait;
 use std::thread::Threads;
 
-/// The greatest number of threads and of locks, and of rounds of one thread.
-const MAX_THREADS: u64 = 64;
-
-const MAX_LOCKS: u64 = 1024;
-
+/// The greatest number of rounds of one thread.
 const MAX_ROUNDS: u64 = 10_000;
+
+/// Room for the longest text of a fault: some words and a number of 20 digits.
+const LONGEST_FAULT: usize = 48;
 
 /// Runs the command that the words spell, and answers its exit status: 0, or that of the failure whose text is written
 /// to `faults`. Nothing is written to `out` then. `file` is the file that `replay` names, where it could be opened.
@@ -43,11 +45,18 @@ pub fn report<W: Write, E: Write>(
     match written {
         Ok(()) => 0,
         Err(failure) => {
-            // A fault that cannot be written is still told by the status.
-            let _ = writeln!(faults, "{failure}");
+            tell(failure, faults);
             failure.status()
         }
     }
+}
+
+/// Writes the fault's line by one write, so that the lines of several programs never mix. A fault that cannot be written is still told by
+/// the status.
+fn tell<E: Write>(failure: Failure, faults: &mut E) {
+    let mut line: ArrayString<LONGEST_FAULT> = ArrayString::new();
+    let _ = writeln!(line, "{failure}");
+    let _ = faults.write_all(line.as_bytes());
 }
 
 fn text_of<T: Threads + Wait + Sync, F: Read + Drop>(
@@ -71,8 +80,8 @@ fn text_of<T: Threads + Wait + Sync, F: Read + Drop>(
 
 fn counting(threads: &str, locks: &str, rounds: &str, seed: &str) -> Option<Counting> {
     Some(Counting {
-        threads: number(threads, 1, MAX_THREADS)? as usize,
-        locks: number(locks, 1, MAX_LOCKS)? as usize,
+        threads: number(threads, 1, MAX_THREADS as u64)? as usize,
+        locks: number(locks, 1, MAX_KEYS as u64)? as usize,
         rounds: number(rounds, 0, MAX_ROUNDS)?,
         seed: number(seed, 0, u64::MAX)?,
     })

@@ -1,8 +1,9 @@
 //! `count`: threads that lock, count themselves and unlock, on real locks.
-ghost use Rattle.std.specs.Prelude.{◌≡◌, ◌≤◌, ◌<◌, ◌+◌, ℕ, length, vec_len, vec_capacity, IfOk, MatchBool};
+ghost use Rattle.std.specs.Prelude.{◌≡◌, ◌≤◌, ◌<◌, ◌+◌, ℕ, length, vec_len, vec_capacity, IfOk, IsTrue, MatchBool};
+ghost use Rattle.lot_core.specs.declared.state.TheConstants.{MAX_THREADS, MAX_KEYS};
 ghost use Rattle.lot_journal.specs.Journal.{GoesOn, calls_of};
 ghost use Rattle.lot_sync.specs.Lot.{OwnsNone};
-ghost use Rattle.lotstress.specs.Counters.{IsLegalCount, AllLegal, IsAdded};
+ghost use Rattle.lotstress.specs.Counters.{total_after, IsLegalCount, AllLegal, IsAdded, OwnIsMore};
 ghost use Rattle.lotstress.specs.Works.{WorksOn};
 
 use crate::command::report;
@@ -30,8 +31,8 @@ pub struct Counting {
     pub locks: usize,
     pub rounds: u64,
     pub seed: u64,
-    ghost threads_fit: { (1 ≤ threads) × (threads ≤ 64) },
-    ghost locks_fit: { (1 ≤ locks) × (locks ≤ 1024) },
+    ghost threads_fit: { (1 ≤ threads) × (threads ≤ MAX_THREADS) },
+    ghost locks_fit: { (1 ≤ locks) × (locks ≤ MAX_KEYS) },
 }
 
 /// What each lock counted, printed.
@@ -259,6 +260,7 @@ fn add_one<N>(held: &mut Held<Journal<Counter>, N>, thread: usize) -> bool
     requires kept { IsLegalCount held.old.value }
     ensures works { WorksOn (λ key journal. IsLegalCount journal) GoesOn calls_of held.old thread held.new }
     ensures added { MatchBool result (IsAdded held.old.value thread (record { 0 = 1 }) held.new.value) (held.new.value ≡ held.old.value) }
+    ensures own { IsTrue result → OwnIsMore held.old.value thread (record { 0 = 1 }) (total_after held.old.value.object (record { 0 = 1 })) held.new.value }
 {
     held.value_mut().call(thread, Add(1)).is_ok()
 }

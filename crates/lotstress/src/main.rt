@@ -15,30 +15,31 @@ mod number;
 mod replay;
 #[cfg(test)]
 mod tests;
+mod words;
 
 use command::{report, run_command};
 use failure::Failure;
-use std::alloc::{AllocError, Global};
+use std::alloc::Global;
 use std::fs::File;
 use std::process::ExitCode;
-use std::{env, io};
+use words::words;
 
-fn main(rt: HostRuntime) -> io::Result<ExitCode> {
+fn main(rt: HostRuntime) -> ExitCode {
     let alloc = rt.alloc();
-    let mut words: Vec<String> = Vec::new(alloc);
-    for word in env::args(&rt)?.skip(1) {
-        if words.push(word).is_err() {
-            let status = report(Err(Failure::NoMemory), &mut rt.stdout(), &mut rt.stderr());
-            return Ok(ExitCode::from(status));
+    let words = match words(&rt, alloc) {
+        Ok(words) => words,
+        Err(failure) => {
+            let status = report(Err(failure), &mut rt.stdout(), &mut rt.stderr());
+            return ExitCode::from(status);
         }
-    }
+    };
     let Ok(views) = words
         .iter()
         .map(|word| word.as_str())
         .collect::<Vec<&str>>(alloc)
     else {
         let status = report(Err(Failure::NoMemory), &mut rt.stdout(), &mut rt.stderr());
-        return Ok(ExitCode::from(status));
+        return ExitCode::from(status);
     };
     let file = match views.as_slice() {
         ["replay", path] => File::open(&rt, *path).ok(),
@@ -52,5 +53,5 @@ fn main(rt: HostRuntime) -> io::Result<ExitCode> {
         &mut rt.stdout(),
         &mut rt.stderr(),
     );
-    Ok(ExitCode::from(status))
+    ExitCode::from(status)
 }

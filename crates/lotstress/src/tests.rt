@@ -439,9 +439,30 @@ impl Write for Full {
     }
 }
 
+/// Takes all bytes, and counts the writes.
+#[derive(Drop)]
+struct Counted {
+    bytes: Vec<u8>,
+    writes: u64,
+}
+
+impl Write for Counted {
+    fn write(&mut self, buf: &[u8]) -> io::Result<usize> {
+        self.writes = self.writes.saturating_add(1);
+        self.bytes.write(buf)
+    }
+
+    fn flush(&mut self) -> io::Result<()> {
+        Ok(())
+    }
+}
+
 #[test]
 fn output_that_cannot_be_written(rt: HostRuntime) {
-    let mut faults = Vec::new(rt.alloc());
+    let mut faults = Counted {
+        bytes: Vec::new(rt.alloc()),
+        writes: 0,
+    };
     let file: Option<&[u8]> = None;
     let status = run_command(
         &rt,
@@ -451,7 +472,8 @@ fn output_that_cannot_be_written(rt: HostRuntime) {
         &mut Full,
         &mut faults,
     );
-    assert!(rt; faults.as_slice() == b"cannot write\n".as_slice());
+    assert!(rt; faults.bytes.as_slice() == b"cannot write\n".as_slice());
+    assert_eq!(rt; faults.writes, 1);
     assert_eq!(rt; status, 1);
 }
 

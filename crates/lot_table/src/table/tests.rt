@@ -1,19 +1,20 @@
-ghost use Rattle.std.specs.Prelude.{◌≡◌, ℕ, ◌<◌, ◌≤◌, List, [], ◌∷◌, ◌++◌, vec_len, vec_capacity, length, IfOk};
+ghost use Rattle.std.specs.Prelude.{◌≡◌, ℕ, ◌<◌, ◌≤◌, List, [], ◌∷◌, ◌++◌, vec_len, vec_capacity, length, drop, IfOk};
+ghost use Rattle.lot_bucket.specs.Queue.{line_of, first_of};
 ghost use Rattle.lot_bucket.specs.Settled.{IsReady, Stays};
 ghost use Rattle.lot_table.specs.Roots.{AreIdle};
 
-use super::{Table, newest};
-use crate::sizes::{Grown, grown_size};
+use super::Table;
+use crate::sizes::{Grown, MOST_THREADS, grown_size};
 use crate::version::Version;
-use lot_bucket::{Bucket, Moment, Root, Settled};
+use lot_bucket::{Bucket, Moment, Root};
 use std::alloc::{AllocError, Global};
 use std::process::Abort;
 use std::sync::Wait;
 use std::sync::atomic::{AtomicU64, Ordering};
+use std::thread;
 use std::thread::{Threads, join};
-use std::{mem, thread};
 
-const THREADS: usize = 64;
+const THREADS: usize = MOST_THREADS;
 
 const KEYS: usize = 26;
 
@@ -69,6 +70,18 @@ fn ensured<R: Wait + Abort>(rt: &R, table: &Table<Right>, threads: usize) -> Gro
     }
 }
 
+// Ends the table, and looks whether each key's right came back in its turn.
+fn end<R: Wait + Abort>(rt: &R, alloc: Global, table: Table<Right>)
+    requires { table.keys ≡ KEYS }
+{
+    let mut rights = Vec::with_capacity(alloc, KEYS).expect(rt, "memory");
+    table.close(rt, &mut rights);
+    assert_eq!(rt; rights.len(), KEYS);
+    for (key, right) in rights.iter().enumerate() {
+        assert_eq!(rt; right.key, key);
+    }
+}
+
 // Each with what becomes of the table, once the threads before have come one by one.
 static GROWTHS: [(usize, Grown); 7] = [
     (1, Grown::Kept(3)),
@@ -77,7 +90,7 @@ static GROWTHS: [(usize, Grown); 7] = [
     (11, Grown::Grew(30, 66)),
     (23, Grown::Grew(66, 138)),
     (47, Grown::Grew(138, 282)),
-    (64, Grown::Kept(282)),
+    (MOST_THREADS, Grown::Kept(282)),
 ];
 
 fn expect_growth(rt: &impl Abort, threads: usize, grown: Grown, size: usize) {
@@ -103,12 +116,7 @@ fn it_grows_as_threads_come(rt: HostRuntime) {
         assert_eq!(rt; size, grown_size(before, threads));
         expect_growth(&rt, threads, grown, size);
     }
-    let mut rights = Vec::with_capacity(rt.alloc(), KEYS).expect(&rt, "memory");
-    table.close(&rt, &mut rights);
-    assert_eq!(rt; rights.len(), KEYS);
-    for (key, right) in rights.iter().enumerate() {
-        assert_eq!(rt; right.key, key);
-    }
+    end(&rt, rt.alloc(), table);
 }
 
 // The right with the thread last in its line.
@@ -149,12 +157,47 @@ fn queue_up<R: Wait + Abort>(rt: &R, table: &Table<Right>, thread: usize, key: u
     );
 }
 
-// Takes the key's bucket out of the newest version.
-fn taken_out<W: Wait>(rt: &W, alloc: Global, table: &Table<Right>, key: usize) -> Bucket<Right> {
-    let (version, _next) = newest(&table.first, table.later.as_slice());
-    let number = key % version.buckets.len();
-    let mut guard = version.buckets[number].lock(rt);
-    mem::replace(&mut *guard, Settled::hollow(alloc)).into_bucket()
+// The right without the first thread of its line.
+fn advanced(right: Right) -> Right
+    ensures key { result.key ≡ right.key }
+    ensures line { result.line.items ≡ drop 1 right.line.items }
+{
+    let mut right = right;
+    if !right.line.is_empty() {
+        right.line.remove(0);
+    }
+    right
+}
+
+// Takes the first thread of the key, from the bucket and from the root's line.
+fn leave_from(bucket: &mut Bucket<Right>, key: usize) -> Option<usize>
+    requires { (threads keys : ℕ) × IsReady (λ (r : Right). r.key) (λ (r : Right). r.line.items) (λ (_ : Right). []) key threads keys bucket.old }
+    ensures first { result ≡ first_of (line_of key bucket.old.queue) }
+    ensures stays { Stays (λ (r : Right). r.key) (λ (r : Right). r.line.items) (λ (_ : Right). []) bucket.old bucket.new }
+{
+    let right = bucket.take_root(key);
+    let taken = bucket.dequeue_one(key, NEVER).thread;
+    bucket.put_root(key, advanced(right));
+    taken
+}
+
+fn left_first<W: Wait>(rt: &W, table: &Table<Right>, key: usize) -> Option<usize> {
+    let ((), taken) = table.with_bucket(
+        rt,
+        key,
+        (),
+        |bucket: &mut Bucket<Right>, x: ()| -> ((), Option<usize>)
+            requires { (threads keys : ℕ) × IsReady (λ (r : Right). r.key) (λ (r : Right). r.line.items) (λ (_ : Right). []) key threads keys bucket.old }
+        { (x, leave_from(bucket, key)) },
+    );
+    taken
+}
+
+fn waiting<W: Wait>(rt: &W, table: &Table<Right>, key: usize) -> usize {
+    let ((), count) = table.with_bucket(rt, key, (), |bucket: &mut Bucket<Right>, x: ()| {
+        (x, bucket.len())
+    });
+    count
 }
 
 #[test]
@@ -164,21 +207,16 @@ fn each_line_keeps_its_order_in_a_growth(rt: HostRuntime) {
     for (thread, key) in [(1, 13), (2, 1), (3, 13)] {
         queue_up(&rt, &table, thread, key);
     }
-    let ((), length) = table.with_bucket(&rt, 1, (), |bucket: &mut Bucket<Right>, x: ()| {
-        (x, bucket.len())
-    });
-    assert_eq!(rt; length, 3);
+    assert_eq!(rt; waiting(&rt, &table, 1), 3);
     assert_eq!(rt; ensured(&rt, &table, 5), Grown::Grew(12, 30));
-    let mut of_thirteen = taken_out(&rt, rt.alloc(), &table, 13);
-    assert_eq!(rt; of_thirteen.len(), 2);
+    assert_eq!(rt; (waiting(&rt, &table, 13), waiting(&rt, &table, 1)), (2, 1));
     for thread in [Some(1), Some(3), None] {
-        assert_eq!(rt; of_thirteen.dequeue_one(13, NEVER).thread, thread);
+        assert_eq!(rt; left_first(&rt, &table, 13), thread);
     }
-    let mut of_one = taken_out(&rt, rt.alloc(), &table, 1);
-    assert_eq!(rt; of_one.len(), 1);
     for thread in [Some(2), None] {
-        assert_eq!(rt; of_one.dequeue_one(1, NEVER).thread, thread);
+        assert_eq!(rt; left_first(&rt, &table, 1), thread);
     }
+    end(&rt, rt.alloc(), table);
 }
 
 #[test]
@@ -191,6 +229,7 @@ fn two_growers_agree(rt: HostRuntime) {
         36 => assert_eq!(rt; answers, (Grown::Kept(36), Grown::Grew(12, 36))),
         size => panic!(rt; "grew to {size}"),
     }
+    end(&rt, rt.alloc(), table);
 }
 
 fn grown_by_two<R: Threads + Wait + Abort + Sync>(rt: &R, table: &Table<Right>) -> (Grown, Grown)
@@ -201,12 +240,12 @@ fn grown_by_two<R: Threads + Wait + Abort + Sync>(rt: &R, table: &Table<Right>) 
 
 // Whether the bucket of the newest version is found locked.
 fn is_locked_within(table: &Table<Right>, number: usize) -> bool {
-    let (version, _next) = newest(&table.first, table.later.as_slice());
-    let Some(lock) = version.buckets.as_slice().get(number) else {
+    let (version, _next) = table.versions.newest();
+    if number >= version.size() {
         return false;
-    };
+    }
     for _ in 0..ASKINGS {
-        if lock.try_lock().is_none() {
+        if version.lock_of(number).try_lock().is_none() {
             return true;
         }
         thread::yield_now();
@@ -254,14 +293,22 @@ fn grow_while_held<R: Threads + Wait + Abort + Sync>(
 }
 
 fn are_left<W: Wait>(rt: &W, version: &Version<Right>) -> bool {
-    for lock in &version.buckets {
-        let guard = lock.lock(rt);
+    for number in 0..version.size() {
+        let guard = version.lock_of(number).lock(rt);
         let bucket = guard.bucket();
         if bucket.is_open() || !bucket.is_empty() {
             return false;
         }
     }
     true
+}
+
+// Whether the second version was left.
+fn left_second<W: Wait>(rt: &W, table: &Table<Right>) -> bool {
+    match table.versions.later_at(0) {
+        Some(version) => version.size() == 12 && are_left(rt, version),
+        None => false,
+    }
 }
 
 #[test]
@@ -271,15 +318,6 @@ fn a_growth_waits_for_a_held_bucket(rt: HostRuntime) {
     let (seen, grown) = grow_while_held(&rt, &table);
     assert_eq!(rt; seen, (true, true), "bucket 0 locked, bucket 2 open");
     assert_eq!(rt; grown, Some(Grown::Grew(12, 30)));
-    match table.later.as_slice().first() {
-        Some(cell) => assert!(rt; is_left(&rt, cell.get())),
-        None => panic!(rt; "no second version"),
-    }
-}
-
-fn is_left<W: Wait>(rt: &W, version: Option<&Version<Right>>) -> bool {
-    match version {
-        Some(version) => version.buckets.len() == 12 && are_left(rt, version),
-        None => false,
-    }
+    assert!(rt; left_second(&rt, &table));
+    end(&rt, rt.alloc(), table);
 }

@@ -1,11 +1,11 @@
 use Rattle.std.proofs.Common.{◌≡◌, ◌+◌, ◌≤◌, vec_len, vec_capacity}
-use Rattle.lot_words.specs.Closing.{AllOf}
+use Rattle.std.specs.List.{All}
 use Rattle.lot_sync.specs.Passes.{IsFresh}
 use Rattle.lot_sync.proofs.start.fill.Given as goal
 
 abbrev pub invariant-loop-right : goal.invariant-loop-right
 invariant-loop-right g l = record {
-  idle : AllOf (IsFresh g.V.Keeps.grows g.N.Name.opening.locks g.N.LotName.values g.N.LotName.threads) l.passes.items;
+  idle : All (IsFresh g.V.Keeps.grows g.N.Name.opening.locks g.N.LotName.values g.N.LotName.threads) l.passes.items;
   count : vec_len l.passes + vec_len l.idle ≡ vec_len l.initial.passes;
   fits : vec_len l.initial.passes ≤ vec_capacity l.idle;
   room : vec_capacity l.idle ≡ vec_capacity l.initial.idle;

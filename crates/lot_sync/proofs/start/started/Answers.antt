@@ -1,15 +1,22 @@
 use Rattle.std.proofs.Common.{◌≡◌, [], None, Some, slice_get, List, subst, ap}
-use Rattle.lot_words.specs.Shown.{RootShown}
+use Rattle.std.specs.List.{All}
+use Rattle.lot_rights.specs.Shown.{RootShown}
+use Rattle.lot_words.specs.declared.views.LockRootView.{LockRootView}
 use Rattle.lot_sync.specs.Passes.{debts_of}
-use Rattle.lot_sync.proofs.Starts.{passes_fresh, roots_idle, fresh_named}
+use Rattle.lot_sync.proofs.Starts.{passes_fresh, roots_own, roots_idle, fresh_named}
 use Rattle.lot_sync.proofs.start.started.Goals as goal
 
 pub open-requires-clause-idle : goal.open-requires-clause-idle
 open-requires-clause-idle g c κs within = λ i root at.
-    let e : (root.root.key ≡ i) × (root.root.line ≡ []) × (root.root.owes ≡ None) =
+    let e : (root.root.key ≡ i) × (root.root.own.line ≡ []) × (root.root.own.owes ≡ None) =
     roots_idle g.V.Keeps.grows g.V.Keeps.grows_itself c.args.values.value.items c.args.words.size.threads c.args.words c.args.passes.items c.args.roots.items c.requires.opened i root
-    (subst (λ (rs : List RootShown). slice_get rs i ≡ Some root) c.name_roots.ensures.same at) in
+    (subst (λ (rs : List (RootShown LockRootView)). slice_get rs i ≡ Some root) c.name_roots.ensures.same at) in
     record { named = e.0; same_line = e.1; paid = ap debts_of e.2 }
+
+pub name_roots-requires-clause-own : goal.name_roots-requires-clause-own
+name_roots-requires-clause-own g c κs within =
+    subst (λ t. All (λ (r : RootShown LockRootView). r.table ≡ t) c.args.roots.items) c.requires.names.0
+    (roots_own g.V.Keeps.grows g.V.Keeps.grows_itself c.args.values.value.items c.args.words.size.threads c.args.words c.args.passes.items c.args.roots.items c.requires.opened)
 
 pub fill-requires-clause-idle : goal.fill-requires-clause-idle
 fill-requires-clause-idle g c κs within =

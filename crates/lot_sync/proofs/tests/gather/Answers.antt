@@ -1,6 +1,6 @@
 use Rattle.std.proofs.Common.{◌≡◌, sym, subst, ◌∙◌, arith}
-use Rattle.lot_words.specs.Closing.{AllOf, SomeOf}
-use Rattle.lot_words.proofs.Gathers.{all_snoc}
+use Rattle.std.specs.List.{All, Any}
+use Rattle.std.proofs.lemmas.List.Elements.{All-push}
 use Rattle.lot_sync.specs.Lot.{PassView, OwnsNone}
 use Rattle.lot_sync.proofs.Turns.{all_threads}
 use Rattle.lot_sync.proofs.tests.gather.Goals as goal
@@ -11,8 +11,8 @@ loop-thread-preserved g c =
     record {
       long = omega (arith, c.push_reserved.ensures.len);
       room = omega (arith, c.push_reserved.ensures.capacity);
-      free = subst (AllOf OwnsNone) (sym c.push_reserved.ensures.items) (all_snoc OwnsNone c.loop-thread.passes.items c.next_pass-pass.result inv.free c.next_pass-pass.ensures.free);
-      all = λ t near. subst (SomeOf (λ (p : PassView _). p.thread ≡ t)) (sym c.push_reserved.ensures.items)
+      free = subst (All OwnsNone) (sym c.push_reserved.ensures.items) (All-push OwnsNone c.loop-thread.passes.items c.next_pass-pass.result inv.free c.next_pass-pass.ensures.free);
+      all = λ t near. subst (Any (λ (p : PassView _). p.thread ≡ t)) (sym c.push_reserved.ensures.items)
           (all_threads c.loop-thread.passes.items c.next_pass-pass.result c.loop-thread.thread c.next_pass-pass.ensures.thread inv.all t near);
       same = c.next_pass-pass.ensures.same ∙ inv.same;
     }

@@ -1,5 +1,5 @@
 use Rattle.std.proofs.Common.{◌++◌, ◌∷◌, [], Some, ap, ◌∙◌, subst, arith, reverse}
-use Rattle.lot_words.specs.Opening.{AllSome}
+use Rattle.lot_words.specs.Shelf.{AllSome}
 use Rattle.lot_words.proofs.Shelves.{filled, all_some_init, all_some_last, takes_one}
 use Rattle.lot_words.proofs.shelf.unshelve.Goals as goal
 

@@ -1,5 +1,5 @@
 use Rattle.std.proofs.Common.{◌≡◌, ◌+◌, ◌≤◌, ◌++◌, reverse, vec_len, vec_capacity}
-use Rattle.lot_words.specs.Opening.{AllSome}
+use Rattle.lot_words.specs.Shelf.{AllSome}
 use Rattle.lot_words.proofs.Shelves.{filled}
 use Rattle.lot_words.proofs.shelf.unshelve.Given as goal
 

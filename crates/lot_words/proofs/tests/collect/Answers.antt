@@ -1,5 +1,5 @@
-use Rattle.lot_words.proofs.Schedules.{gets}
+use Rattle.lot_words.proofs.Schedules.{was_handed}
 use Rattle.lot_words.proofs.tests.collect.Goals as goal
 
 pub returns-clause-handed : goal.returns-clause-handed
-returns-clause-handed c = λ e. gets _ _ _ c.args.pass c.collect.result.0 c.args.pass.pass.thread c.requires.sleeps.0 c.requires.sleeps.1 (rw e at c.collect.ensures)
+returns-clause-handed c one = was_handed c.args.pass c.args.words.now.table c.args.pass.pass.thread c.args.key c.requires.pass.0 c.requires.key _ _ _ c.collect.result.0.pass c.collect.result.1 c.requires.pass.1.1 one c.collect.ensures.letter

@@ -1,8 +1,5 @@
-use Rattle.std.proofs.Common.{true, false}
-use Rattle.lot_core.specs.declared.events.Event.TheVariants.{Try}
-use Rattle.lot_core.specs.declared.events.Seen.TheVariants.{Bool as Saw}
-use Rattle.lot_words.proofs.Schedules.{tries}
+use Rattle.lot_words.proofs.Schedules.{tried}
 use Rattle.lot_words.proofs.tests.try_take.Goals as goal
 
 pub returns-clause-answer : goal.returns-clause-answer
-returns-clause-answer c = tries _ _ _ c.args.pass c.try_take.result.0 c.args.pass.pass.thread (Try c.args.pass.pass.thread 0) (Try c.args.pass.pass.thread 0) (Saw true) (Saw false) c.requires.calm.0 c.requires.calm.1 c.try_take.result.1 c.try_take.ensures.event c.try_take.ensures.values
+returns-clause-answer c = tried c.args.pass c.args.words.now.table c.args.pass.pass.thread c.args.key c.requires.pass.0 c.requires.size.1 _ _ _ _ _ c.try_take.result.0.pass c.try_take.result.1 c.requires.pass.1.0 c.requires.pass.1.1 c.try_take.ensures.event

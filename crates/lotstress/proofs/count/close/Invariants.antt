@@ -1,5 +1,5 @@
 use Rattle.std.proofs.Common.{◌≡◌, ◌≤◌, vec_len, vec_capacity}
-use Rattle.lot_words.specs.Closing.{AllOf}
+use Rattle.std.specs.List.{All}
 use Rattle.lot_sync.specs.Lot.{OwnsNone}
 use Rattle.lotstress.proofs.Rounds.{AreThere}
 use Rattle.lotstress.proofs.count.close.Given as goal
@@ -8,7 +8,7 @@ abbrev pub invariant-loop-thread : goal.invariant-loop-thread
 invariant-loop-thread g l = record {
   long : vec_len l.passes ≡ l.thread;
   room : l.fn.threads ≤ vec_capacity l.passes;
-  free : AllOf OwnsNone l.passes.items;
+  free : All OwnsNone l.passes.items;
   all : AreThere l.passes.items l.thread;
   same_threads : l.lot.threads ≡ l.fn.lot.threads;
   same_locks : l.lot.locks ≡ l.fn.lot.locks;

@@ -2,15 +2,16 @@ use Rattle.std.proofs.Common.{ap, ◌∙◌}
 use Rattle.lot_journal.specs.Journal.{GoesOn, calls_of}
 use Rattle.lot_sync.specs.Lot.{leaving}
 use Rattle.lotstress.specs.Counters.{IsLegalCount}
-use Rattle.lotstress.proofs.Rounds.{may_give_back, owns_none_again}
+use Rattle.lot_sync.proofs.Holdings.{owns_none_again}
+use Rattle.lotstress.proofs.Rounds.{may_give_back}
 use Rattle.lotstress.proofs.count.go_round.Goals as goal
 
 pub unlock-pass-requires-clause-back : goal.unlock-pass-requires-clause-back
 unlock-pass-requires-clause-back g c κs within =
     may_give_back (λ key journal. IsLegalCount journal) GoesOn calls_of c.args.pass c.lock-pass.result.0 _ c.thread-thread.result c.lock-pass.result.1 c.add_one-called.new.held
-    c.lock-pass.ensures c.thread-thread.ensures c.add_one-called.ensures.works
+    c.lock-pass.ensures.gets c.thread-thread.ensures c.add_one-called.ensures.works
 
 pub returns : goal.returns
 returns g c =
-    owns_none_again c.args.pass c.lock-pass.result.0 c.unlock-pass.result.0 _ c.lock-pass.result.1.value c.add_one-called.new.held.value c.requires.free c.lock-pass.ensures.after_is
-    (c.unlock-pass.ensures.pass ∙ ap (λ k. leaving c.lock-pass.result.0 k c.add_one-called.new.held.value) (c.add_one-called.ensures.works.key_same ∙ c.lock-pass.ensures.key_is))
+    owns_none_again c.args.pass c.lock-pass.result.0 c.unlock-pass.result.0 _ c.lock-pass.result.1.value c.add_one-called.new.held.value c.requires.free c.lock-pass.ensures.gets.after_is
+    (c.unlock-pass.ensures.pass ∙ ap (λ k. leaving c.lock-pass.result.0 k c.add_one-called.new.held.value) (c.add_one-called.ensures.works.key_same ∙ c.lock-pass.ensures.gets.key_is))

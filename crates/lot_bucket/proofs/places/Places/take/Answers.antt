@@ -1,6 +1,6 @@
 use Rattle.std.proofs.Common.{◌≡◌, ℕ, None, Option, sym, ◌∙◌, ap}
 use Rattle.lot_bucket.specs.Places.{root_at}
-use Rattle.lot_bucket.proofs.Slots.{read_at, stored_at, even_kept, rootless}
+use Rattle.lot_bucket.proofs.Slots.{read_at, stored_at, even_kept, first_kept, rootless}
 use Rattle.lot_bucket.proofs.places.Places.take.Goals as goal
 
 pub unreachable-requires : goal.unreachable-requires
@@ -13,8 +13,10 @@ unwrap-requires g c =
     rw was c.requires
 
 pub invariant_of-self : goal.invariant_of-self
-invariant_of-self g c =
-    even_kept c.self.inside.first c.self.inside.step c.in-Some.place c.self.inside.slots.items c.index_mut-slot.result.now c.take.new.self c.index_mut-slot.ensures.value c.self.invariant
+invariant_of-self g c = (
+  even_kept c.self.inside.first c.self.inside.step c.in-Some.place c.self.inside.slots.items c.index_mut-slot.result.now c.take.new.self c.index_mut-slot.ensures.value c.self.invariant.0,
+  first_kept c.args.key c.in-Some.place c.self.inside.slots.items c.args.self.now c.index_mut-slot.result.now c.take.new.self c.self.view_is c.in-Some.ensures c.index_mut-slot.ensures.value c.self.invariant.1,
+)
 
 pub returns-clause-root : goal.returns-clause-root
 returns-clause-root g c =

@@ -1,13 +1,19 @@
-use Rattle.std.proofs.Common.{◌≡◌, ℕ, List, sym, ◌∙◌, ap, filter, not, eqb, rules}
-use Rattle.std.proofs.lemmas.Fn.{filter_same}
-use Rattle.lot_bucket.specs.Queue.{without_key}
-use Rattle.lot_bucket.specs.Waiting.{Waiting}
-use Rattle.lot_bucket.proofs.Lines.{without_key-filter}
+use Rattle.std.proofs.Common.{◌≤◌, length, arith, ◌∙◌, take_all, refl}
+use Rattle.lot_bucket.specs.Queue.{line_of}
+use Rattle.lot_bucket.proofs.Laws.{line_fits}
+use Rattle.lot_bucket.proofs.Lines.{without_count-all}
 use Rattle.lot_bucket.proofs.queue.Queue.take_all.Goals as goal
+
+pub returns-clause-count : goal.returns-clause-count
+returns-clause-count c = omega (arith, line_fits c.args.key c.args.self.now.pairs, c.take_count.ensures.taken, c.len-all.ensures.count)
+
+pub returns-clause-line : goal.returns-clause-line
+returns-clause-line c =
+    let line = line_of c.args.key c.args.self.now.pairs in
+    let few : length line ≤ c.len-all.result = omega (arith, line_fits c.args.key c.args.self.now.pairs, c.len-all.ensures.count) in
+    c.take_count.ensures.line ∙ take_all c.len-all.result line few
 
 pub returns-clause-left : goal.returns-clause-left
 returns-clause-left c =
-    let kept : c.retain.new.self.items ≡ filter (λ (p : ℕ × ℕ). not (eqb p.1 c.args.key)) c.self.inside.pairs.items =
-    filter_same _ (λ (p : ℕ × ℕ). not (eqb p.1 c.args.key)) _ (λ x b f' k. search rules) _ _ c.retain.ensures.filtered in
-    let left : c.retain.new.self.items ≡ without_key c.args.key c.self.inside.pairs.items = kept ∙ sym (without_key-filter c.args.key c.self.inside.pairs.items) in
-    rw (← c.self.view_is) (ap (λ (pairs : List (ℕ × ℕ)). (let shown : Waiting = record { room = c.self.inside.room; pairs = pairs } in shown)) left)
+    let few : length (line_of c.args.key c.args.self.now.pairs) ≤ c.len-all.result = omega (arith, line_fits c.args.key c.args.self.now.pairs, c.len-all.ensures.count) in
+    rw (c.take_count.ensures.left, without_count-all c.len-all.result c.args.key c.args.self.now.pairs few) refl

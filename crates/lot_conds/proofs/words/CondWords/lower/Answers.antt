@@ -1,21 +1,19 @@
-use Rattle.std.proofs.Common.{◌≡◌, None, arith, sym, ap, subst, ◌∙◌}
+use Rattle.std.proofs.Common.{sym, subst}
 use Rattle.lot_core.specs.Parts.{IsAmongConds}
-use Rattle.lot_conds.specs.Shown.{CondPassShown, CondWordsShown}
-use Rattle.lot_conds.proofs.Looks.{lowers_allows}
+use Rattle.lot_rights.specs.Layout.{word_at}
+use Rattle.lot_rights.proofs.Places.{pass_at_place}
+use Rattle.lot_conds.specs.Rule.{scheme}
+use Rattle.lot_conds.specs.Shown.{CondWordsShown}
+use Rattle.lot_conds.proofs.Turns.{Lowers, lowers}
 use Rattle.lot_conds.proofs.words.CondWords.lower.Goals as goal
 
-pub store-requires : goal.store-requires
-store-requires c =
-    let size = c.self.inside.table.shared.key in
-    let table = ap (λ (x : CondPassShown). x.table) c.pass.view_is ∙ (c.requires.table ∙ sym (ap (λ (x : CondWordsShown). x.table) c.self.view_is)) in
-    let key : IsAmongConds size.locks size.conds c.args.key = subst (λ (x : CondWordsShown). IsAmongConds x.size.locks x.size.conds c.args.key) (sym c.self.view_is) c.requires.key in
-    let calm = subst (λ (x : CondPassShown). x.pass.sweeps ≡ None) (sym c.pass.view_is) c.requires.calm in
-    (table, omega (arith, c.word_of_cond.ensures, c.self.inside.words_are, key.1), lowers_allows size c.self.inside.table.shared.table_id.slots c.pass.inside.seat.id c.args.key key c.pass.inside.seat.me c.pass.inside.one calm c.word_of_cond.result c.word_of_cond.ensures)
-
-pub invariant_of-result : goal.invariant_of-result
-invariant_of-result c =
-    let told = c.store.ensures.2 c.args.key c.word_of_cond.ensures c.pass.inside.one in
-    (told.0.0, (c.pass.inside.thread_is ∙ sym told.0.1, (rw c.store.ensures.0 c.pass.inside.near, tt)))
+pub store-requires-clause-allows : goal.store-requires-clause-allows
+store-requires-clause-allows c =
+    let key = c.args.key in
+    let p = c.args.pass.pass in
+    let size = c.self.inside.words.key in
+    let among = subst (λ (z : CondWordsShown). IsAmongConds z.size.locks z.size.conds key) (sym c.self.view_is) c.requires.key in
+    pass_at_place (scheme size) (word_at key) _ c.word_of_key.ensures (λ _. 0) p (λ _. Lowers p key) (lowers size p key among c.requires.calm)
 
 pub returns-clause-event : goal.returns-clause-event
-returns-clause-event c = rw (← c.pass.view_is) (c.store.ensures.2 c.args.key c.word_of_cond.ensures c.pass.inside.one).1
+returns-clause-event c = c.store.ensures.told

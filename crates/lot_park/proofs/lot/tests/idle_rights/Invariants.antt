@@ -1,6 +1,6 @@
 use Rattle.std.proofs.Common.{◌≡◌, length}
 use Rattle.lot_park.specs.Lots.{AreIdle}
-use Rattle.lot_park.specs.declared.lot.tests.Right.{Right}
+use Rattle.lot_park.specs.declared.letters.Right.{Right}
 use Rattle.lot_park.proofs.lot.tests.idle_rights.Given as goal
 
 abbrev pub invariant-loop-key : goal.invariant-loop-key

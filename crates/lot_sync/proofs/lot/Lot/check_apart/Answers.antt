@@ -1,9 +1,10 @@
-use Rattle.std.proofs.Common.{subst}
+use Rattle.std.proofs.Common.{subst, ap, ◌∙◌}
 use Rattle.lot_sync.specs.Lot.{Owns}
+use Rattle.lot_sync.specs.Passes.{sees}
 use Rattle.lot_sync.proofs.Rests.{owned_held}
 use Rattle.lot_sync.proofs.lot.Lot.check_apart.Goals as goal
 
 pub returns-clause-apart : goal.returns-clause-apart
-returns-clause-apart g c = λ key a b. c.check_apart-first.ensures.apart.1 key
-    (owned_held c.into_right.result.pass.holds key (subst (λ p. Owns p key) c.into_right.ensures.same a))
-    (owned_held c.into_right-2.result.pass.holds key (subst (λ p. Owns p key) c.into_right-2.ensures.same b))
+returns-clause-apart g c = λ key a b. c.check_apart-first.ensures.locks key
+    (owned_held c.into_pass.result.pass.own.holds key (subst (λ p. Owns p key) (c.into_right.ensures.same ∙ ap sees c.into_pass.ensures.same) a))
+    (owned_held c.into_pass-2.result.pass.own.holds key (subst (λ p. Owns p key) (c.into_right-2.ensures.same ∙ ap sees c.into_pass-2.ensures.same) b))

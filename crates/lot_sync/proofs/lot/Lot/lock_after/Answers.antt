@@ -13,15 +13,15 @@ taken-requires-else-got-clause-owner g c κs within =
     (subst (λ n. c.args.key < n) c.take-right.ensures.locks c.requires.key) c.into_right.ensures.rest
     (owns_on g.V.Keeps.keeps g.V.Keeps.grows g.V.Keeps.part c.args.key _ _ _ (rw c.if-got.false at c.take-right.ensures.ends) c.lock_slowly-right.ensures)
 
-pub returns-then-got : goal.returns-then-got
-returns-then-got g c =
+pub returns-then-got-clause-gets : goal.returns-then-got-clause-gets
+returns-then-got-clause-gets g c =
     gets_as g.V.Keeps.keeps g.V.Keeps.grows g.V.Keeps.part _ _ _ _ c.args.key _ c.into_right.ensures.same c.taken.ensures.pass
     (gets_all g.V.Keeps.keeps g.V.Keeps.grows g.V.Keeps.part g.N.LotName.values g.N.LotName.threads _ _ c.taken.result.1 c.args.key
     (subst (λ n. c.args.key < n) c.take-right.ensures.locks c.requires.key) c.into_right.ensures.rest (rw c.if-got.true at c.take-right.ensures.ends)
     c.taken.ensures.held.0 c.taken.ensures.held.1)
 
-pub returns-else-got : goal.returns-else-got
-returns-else-got g c =
+pub returns-else-got-clause-gets : goal.returns-else-got-clause-gets
+returns-else-got-clause-gets g c =
     gets_as g.V.Keeps.keeps g.V.Keeps.grows g.V.Keeps.part _ _ _ _ c.args.key _ c.into_right.ensures.same c.taken-else-got.ensures.pass
     (gets_all g.V.Keeps.keeps g.V.Keeps.grows g.V.Keeps.part g.N.LotName.values g.N.LotName.threads _ _ c.taken-else-got.result.1 c.args.key
     (subst (λ n. c.args.key < n) c.take-right.ensures.locks c.requires.key) c.into_right.ensures.rest

@@ -12,5 +12,5 @@ at_rest-requires-clause-rest g c κs within =
 pub returns-clause-pass : goal.returns-clause-pass
 returns-clause-pass g c =
     let b = c.given_back-right.ensures in
-    c.at_rest.ensures ∙ (leaves_all c.given_back-right.result c.let_go-right.result.0 c.key-key.result c.args.held.value b.lies c.let_go-right.ensures.went
+    c.at_rest.ensures.pass ∙ (leaves_all c.given_back-right.result c.let_go-right.result.0 c.key-key.result c.args.held.value b.lies c.let_go-right.ensures.went
     ∙ (ap (λ p. leaving p c.key-key.result c.args.held.value) b.same ∙ ap (λ k. leaving c.args.pass k c.args.held.value) c.key-key.ensures))

@@ -7,8 +7,8 @@ taken-pass-requires-clause-owner g c κs within =
     owns_newly g.V.Keeps.keeps g.V.Keeps.grows g.V.Keeps.part g.N.LotName.values g.N.LotName.threads g.V.Keeps.grows_on _ _ c.args.key
     (subst (λ n. c.args.key < n) c.try_take-right.ensures.locks c.requires.key) c.into_right.ensures.rest (rw c.if-got.true at c.try_take-right.ensures.ends)
 
-pub returns-then-got : goal.returns-then-got
-returns-then-got g c =
+pub returns-then-got-clause-gets : goal.returns-then-got-clause-gets
+returns-then-got-clause-gets g c =
     gets_as g.V.Keeps.keeps g.V.Keeps.grows g.V.Keeps.part _ _ _ _ c.args.key _ c.into_right.ensures.same c.taken-pass.ensures.pass
     (gets_all g.V.Keeps.keeps g.V.Keeps.grows g.V.Keeps.part g.N.LotName.values g.N.LotName.threads _ _ c.taken-pass.result.1 c.args.key
     (subst (λ n. c.args.key < n) c.try_take-right.ensures.locks c.requires.key) c.into_right.ensures.rest (rw c.if-got.true at c.try_take-right.ensures.ends)

@@ -1,10 +1,11 @@
 use Rattle.std.proofs.Common.{◌≡◌, ℕ, List, [], ◌∷◌, ◌++◌, Some, None, refl, sym, ◌∙◌, ap}
 use Rattle.lot_bucket.specs.Queue.{line_of}
-use Rattle.lot_bucket.specs.Places.{has_key, root_at, with_root}
+use Rattle.lot_bucket.specs.Places.{root_at, with_root}
 use Rattle.lot_bucket.specs.Contents.{Contents}
 use Rattle.lot_bucket.specs.Agrees.{IsRootOf}
 use Rattle.lot_bucket.specs.Settled.{IsReady, Stays}
-use Rattle.lot_bucket.proofs.Laws.{line_of-push_same, line_of-push_other, has_key-with, root_at-with_same, root_taken, agrees_again}
+use Rattle.lot_bucket.proofs.Laws.{line_of-push_same, line_of-push_other, has_key-with, root_at-with_same, root_taken}
+use Rattle.lot_table.proofs.Lending.{back_stays}
 use Rattle.lot_table.specs.declared.table.tests.Right.{Right}
 use Rattle.lot_table.proofs.table.tests.join_in.Given.{Over}
 use Rattle.lot_table.proofs.table.tests.join_in.Goals.{After-enqueue}
@@ -29,12 +30,7 @@ joined_stays {R} key line owes k t threads keys before out queued after root bac
       same_line = longer ∙ ap (λ xs. xs ++ t ∷ []) own.same_line ∙ sym (line_of-push_same k t before.queue) ∙ sym (ap (λ q. line_of k q) queue);
       paid = paid;
     } in
-    record {
-      agrees = agrees_again key line owes before after k back ready.agrees ready.is_open ready.has (opened ∙ ready.is_open) places (λ j other. ap (λ q. line_of j q) queue ∙ line_of-push_other j k t before.queue other) fits;
-      is_open = opened ∙ ready.is_open;
-      keys = λ j. ap (λ ps. has_key j ps) places ∙ has_key-with j k (Some back) (with_root k None before.places) ∙ has_key-with j k None before.places;
-      room = room;
-    }
+    back_stays key line owes k threads keys before after back ready places opened room (λ j other. ap (λ q. line_of j q) queue ∙ line_of-push_other j k t before.queue other) fits
 
 -- while the root is out
 out : (g : Over) (c : After-enqueue g) → c.enqueue.new.self.places ≡ with_root c.args.key None c.args.bucket.now.places

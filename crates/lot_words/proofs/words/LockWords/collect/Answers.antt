@@ -1,16 +1,20 @@
-use Rattle.std.proofs.Common.{◌<◌, arith, sym, ap, subst, ◌∙◌}
-use Rattle.atomic_table.specs.Seated.{TableId}
-use Rattle.lot_words.specs.World.{letter_at}
-use Rattle.lot_words.specs.Shown.{PassShown, WordsShown}
-use Rattle.lot_words.proofs.Posts.{collects_allows}
+use Rattle.std.proofs.Common.{arith}
+use Rattle.lot_rights.specs.Layout.{letter_at}
+use Rattle.lot_rights.proofs.Places.{pass_at_place}
+use Rattle.lot_words.specs.Rule.{scheme}
+use Rattle.lot_words.proofs.Collecting.{Collecting, collected_none, collected_some, collects}
 use Rattle.lot_words.proofs.words.LockWords.collect.Goals as goal
 
-pub swap-letter-requires : goal.swap-letter-requires
-swap-letter-requires g c =
-    let table = ap (λ (x : PassShown _). x.table) c.pass.view_is ∙ (c.requires ∙ sym (ap (λ (x : WordsShown). x.table) c.self.view_is)) in
-    let near : letter_at c.self.inside.table.shared.table_id.slots c.pass.inside.thread < c.self.inside.table.shared.table_id.words = subst (λ (z : TableId). letter_at z.slots c.pass.inside.thread < z.words) table c.pass.inside.near in (
-      table,
-      omega (arith, c.letter_of_thread-own.ensures, c.self.inside.slots_are),
-      collects_allows g.V.Keeps.keeps g.V.Keeps.grows g.V.Keeps.part c.self.inside.table.shared.key.size c.self.inside.table.shared.table_id.slots c.pass.inside.seat.id g.V.Keeps.grows_itself
-          c.pass.inside.seat.me c.pass.inside.one c.letter_of_thread-own.result (c.letter_of_thread-own.ensures ∙ (λ i. letter_at (c.self.inside.size_is.1 i) (c.pass.inside.thread_is i))),
-    )
+pub swap-pass-requires-clause-allows : goal.swap-pass-requires-clause-allows
+swap-pass-requires-clause-allows g c =
+    let p = c.args.pass.pass in
+    pass_at_place (scheme g.V.Keeps.keeps g.V.Keeps.grows g.V.Keeps.part c.self.inside.words.key.size c.self.inside.words.key.values.value.items) (letter_at p.thread) _ c.letter-place.ensures.is (λ _. 0) p (Collecting g.V.Keeps.keeps g.V.Keeps.grows g.V.Keeps.part p) (collects g.V.Keeps.keeps g.V.Keeps.grows g.V.Keeps.part g.V.Keeps.grows_itself c.self.inside.words.key.size c.self.inside.words.key.values.value.items p)
+
+pub returns-then-letter-eq-NO_LETTER-clause-letter : goal.returns-then-letter-eq-NO_LETTER-clause-letter
+returns-then-letter-eq-NO_LETTER-clause-letter g c = collected_none g.V.Keeps.keeps g.V.Keeps.grows g.V.Keeps.part c.args.pass.pass c.swap-pass.result.0.pass c.swap-pass.result.1 c.if-letter-eq-NO_LETTER.true c.swap-pass.ensures.told
+
+pub overflow_cast-result : goal.overflow_cast-result
+overflow_cast-result g c = let few = c.swap-pass.ensures.told.0 in omega arith
+
+pub returns-clause-letter : goal.returns-clause-letter
+returns-clause-letter g c = collected_some g.V.Keeps.keeps g.V.Keeps.grows g.V.Keeps.part c.args.pass.pass c.swap-pass.result.0.pass c.swap-pass.result.1 c.if-letter-eq-NO_LETTER.false c.swap-pass.ensures.told

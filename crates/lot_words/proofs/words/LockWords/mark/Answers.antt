@@ -1,23 +1,19 @@
-use Rattle.std.proofs.Common.{◌≡◌, ◌<◌, false, arith, sym, ap, subst, ◌∙◌}
-use Rattle.lot_words.specs.Calls.{Aims}
-use Rattle.lot_words.specs.Shown.{PassShown, WordsShown}
-use Rattle.lot_words.proofs.Frees.{marks_allows}
+use Rattle.std.proofs.Common.{◌==◌, sym, subst, ◌<◌}
+use prog.Atomic.{either}
+use Rattle.lot_rights.specs.Layout.{word_at}
+use Rattle.lot_rights.proofs.Places.{pass_at_place}
+use Rattle.lot_words.specs.Rule.{scheme}
+use Rattle.lot_words.specs.Shown.{LockWordsShown}
+use Rattle.lot_words.proofs.Turns.{Marks, marks}
 use Rattle.lot_words.proofs.words.LockWords.mark.Goals as goal
 
-pub compare_exchange-found-requires : goal.compare_exchange-found-requires
-compare_exchange-found-requires g c =
-    let table = ap (λ (x : PassShown _). x.table) c.pass.view_is ∙ (c.requires.table ∙ sym (ap (λ (x : WordsShown). x.table) c.self.view_is)) in
-    let key : c.args.key < c.self.inside.table.shared.key.size.locks = subst (λ (x : WordsShown). c.args.key < x.size.locks) (sym c.self.view_is) c.requires.key in
-    let calm = subst (λ (x : PassShown _). (x.pass.asleep ≡ false) × Aims x.pass c.args.key) (sym c.pass.view_is) c.requires.calm in
-    (table, omega (arith, c.word_of_lock-word.ensures, c.self.inside.words_are, c.self.inside.size_is), rw c.word_of_lock-word.ensures (marks_allows g.V.Keeps.keeps g.V.Keeps.grows g.V.Keeps.part c.self.inside.table.shared.key.size c.self.inside.table.shared.table_id.slots c.pass.inside.seat.id c.args.key key c.pass.inside.seat.me c.pass.inside.one calm.0 calm.1))
-
-pub invariant_of-result : goal.invariant_of-result
-invariant_of-result g c =
-    let told = c.compare_exchange-found.ensures.2 c.args.key c.word_of_lock-word.ensures c.pass.inside.one in
-    (told.0.0, (c.pass.inside.thread_is ∙ sym told.0.1, (rw c.compare_exchange-found.ensures.0 c.pass.inside.near, tt)))
+pub compare_exchange-pass-requires-clause-allows : goal.compare_exchange-pass-requires-clause-allows
+compare_exchange-pass-requires-clause-allows g c =
+    let key = c.args.key in
+    let p = c.args.pass.pass in
+    let here = subst (λ (z : LockWordsShown). key < z.size.locks) (sym c.self.view_is) c.requires.key in
+    pass_at_place (scheme g.V.Keeps.keeps g.V.Keeps.grows g.V.Keeps.part c.self.inside.words.key.size c.self.inside.words.key.values.value.items) (word_at key) _ c.word_of_key-word.ensures (λ n. either (n == 1) 3 n) p (Marks p key)
+    (marks g.V.Keeps.keeps g.V.Keeps.grows g.V.Keeps.part c.self.inside.words.key.size c.self.inside.words.key.values.value.items p key here c.requires.calm.0 c.requires.calm.1)
 
 pub returns-clause-event : goal.returns-clause-event
-returns-clause-event g c = rw (← c.pass.view_is) (c.compare_exchange-found.ensures.2 c.args.key c.word_of_lock-word.ensures c.pass.inside.one).1
-
-pub returns-clause-values : goal.returns-clause-values
-returns-clause-values g c = rw (← c.pass.view_is) (c.compare_exchange-found.ensures.2 c.args.key c.word_of_lock-word.ensures c.pass.inside.one).2
+returns-clause-event g c = c.compare_exchange-pass.ensures.told

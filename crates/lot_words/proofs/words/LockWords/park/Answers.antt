@@ -1,15 +1,25 @@
-use Rattle.std.proofs.Common.{◌<◌, arith, sym, ap, subst, ◌∙◌}
-use Rattle.atomic_table.specs.Seated.{TableId}
-use Rattle.lot_words.specs.Shown.{WordsShown}
-use Rattle.lot_words.proofs.Parks.{parks_allows}
+use Rattle.std.proofs.Common.{ap}
+use Rattle.lot_rights.specs.Layout.{word_at}
+use Rattle.lot_rights.specs.declared.views.RootView.{RootView}
+use Rattle.lot_rights.proofs.Places.{both_at_place}
+use Rattle.lot_words.specs.declared.views.LockRootView.{LockRootView}
+use Rattle.lot_words.specs.Rule.{scheme}
+use Rattle.lot_words.proofs.Names.{park_names}
+use Rattle.lot_words.proofs.Turns.{Parks}
+use Rattle.lot_words.proofs.Roots.{parks}
 use Rattle.lot_words.proofs.words.LockWords.park.Goals as goal
 
-pub load-found-requires : goal.load-found-requires
-load-found-requires g c =
-    let table = c.joined-seat.ensures.table ∙ sym (ap (λ (x : WordsShown). x.table) c.self.view_is) in
-    let key : c.args.root.root.key < c.self.inside.table.shared.table_id.slots = subst (λ (z : TableId). c.args.root.root.key < z.slots) table c.joined-seat.ensures.near.1 in (
-      table,
-      omega (arith, c.word_of_lock.ensures, c.key-key.ensures, c.self.inside.words_are, c.self.inside.slots_are),
-      rw c.word_of_lock.ensures (parks_allows g.V.Keeps.keeps g.V.Keeps.grows g.V.Keeps.part c.self.inside.table.shared.key.size c.self.inside.table.shared.table_id.slots c.joined-seat.result.id
-          c.joined-seat.result.me c.args.pass.pass c.args.pass.values c.args.root.root c.joined-seat.ensures.rights c.key-key.result c.key-key.ensures c.requires.calm.0 c.requires.calm.1),
-    )
+pub load_both-pass-requires-clause-allows : goal.load_both-pass-requires-clause-allows
+load_both-pass-requires-clause-allows g c =
+    let p = c.args.pass.pass in
+    let q = c.args.root.root in
+    both_at_place (scheme g.V.Keeps.keeps g.V.Keeps.grows g.V.Keeps.part c.self.inside.words.key.size c.self.inside.words.key.values.value.items) (word_at q.key) _ c.word-word.ensures.is (λ n. n) p q (Parks p q) (parks g.V.Keeps.keeps g.V.Keeps.grows g.V.Keeps.part c.self.inside.words.key.size c.self.inside.words.key.values.value.items p q c.requires.calm.0 c.requires.calm.1)
+
+pub load_both-pass-requires-clause-names : goal.load_both-pass-requires-clause-names
+load_both-pass-requires-clause-names g c n p' q' told u h = park_names c.args.root.root.own q'.own c.args.pass.pass.thread u _ (ap (λ (z : RootView LockRootView). z.own) told.1) h
+
+pub returns-clause-event : goal.returns-clause-event
+returns-clause-event g c = c.load_both-pass.ensures.told.0
+
+pub returns-clause-root : goal.returns-clause-root
+returns-clause-root g c = c.load_both-pass.ensures.told.1

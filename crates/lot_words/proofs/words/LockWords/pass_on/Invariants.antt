@@ -1,5 +1,9 @@
+use Rattle.std.proofs.Common.{true, false}
+use Rattle.lot_words.proofs.Roots.{Passes}
 use Rattle.lot_words.proofs.words.LockWords.pass_on.Given as goal
 
--- how the lock is passed on
-abbrev pub ghosts-pass_seat : goal.ghosts-pass_seat
-ghosts-pass_seat g a = record { fair = a.fair; more = a.more; threads = a.self.now.size.threads }
+abbrev pub ghosts-load_both : goal.ghosts-load_both
+ghosts-load_both g a = record { then = λ n. Passes a.pass.pass a.root.root a.root.root.own.line true a._about }
+
+abbrev pub ghosts-store_both : goal.ghosts-store_both
+ghosts-store_both g a = record { then = λ n. Passes a.pass.pass a.root.root a.root.root.own.line false a._about }

@@ -1,17 +1,24 @@
-use Rattle.std.proofs.Common.{◌≡◌, ◌<◌, ◌+◌, Some, arith, sym, ap, subst, refl, ◌∙◌}
-use Rattle.atomic_table.specs.Seated.{TableId}
-use Rattle.lot_words.specs.World.{letter_at}
-use Rattle.lot_words.specs.Shown.{RootShown, WordsShown}
-use Rattle.lot_words.proofs.Posts.{posts_allows}
+use Rattle.std.proofs.Common.{◌+◌, ap, inr}
+use Rattle.lot_rights.specs.Layout.{letter_at}
+use Rattle.lot_rights.specs.declared.views.RootView.{RootView}
+use Rattle.lot_rights.proofs.Places.{root_at_place}
+use Rattle.lot_words.specs.declared.views.LockRootView.{LockRootView}
+use Rattle.lot_words.specs.Rule.{scheme}
+use Rattle.lot_words.proofs.Names.{post_names}
+use Rattle.lot_words.proofs.Roots.{Pays, posts}
 use Rattle.lot_words.proofs.words.LockWords.post.Goals as goal
 
-pub store-requires : goal.store-requires
-store-requires g c =
-    let table = ap (λ (x : RootShown). x.table) c.root.view_is ∙ (c.requires.table ∙ sym (ap (λ (x : WordsShown). x.table) c.self.view_is)) in
-    let owes = subst (λ (x : RootShown). x.root.owes ≡ Some (c.args.thread, c.args.token)) (sym c.root.view_is) c.requires.owes in
-    let near : letter_at c.self.inside.table.shared.table_id.slots c.args.thread < c.self.inside.table.shared.table_id.words = subst (λ (z : TableId). letter_at z.slots c.args.thread < z.words) table (c.root.inside.owes_near c.args.thread c.args.token owes) in (
-      table,
-      omega (arith, c.letter_of_thread-place.ensures, c.self.inside.slots_are),
-      posts_allows g.V.Keeps.keeps g.V.Keeps.grows g.V.Keeps.part c.self.inside.table.shared.key.size c.self.inside.table.shared.table_id.slots c.root.inside.seat.id
-          c.root.inside.seat.me c.root.inside.one c.args.thread c.args.token owes (c.args.token + 1) refl c.letter_of_thread-place.result (c.letter_of_thread-place.ensures ∙ ap (λ z. letter_at z c.args.thread) c.self.inside.size_is.1),
-    )
+pub letter_of-letter-requires : goal.letter_of-letter-requires
+letter_of-letter-requires g c = inr (c.args.token, c.requires.owes)
+
+pub store_root-requires-clause-allows : goal.store_root-requires-clause-allows
+store_root-requires-clause-allows g c =
+    let q = c.args.root.root in
+    root_at_place (scheme g.V.Keeps.keeps g.V.Keeps.grows g.V.Keeps.part c.self.inside.words.key.size c.self.inside.words.key.values.value.items) (letter_at c.args.thread) _ c.letter_of-letter.ensures.is (λ _. c.args.token + 1) q (λ _. Pays q c.args.thread c.args.token)
+    (posts g.V.Keeps.keeps g.V.Keeps.grows g.V.Keeps.part c.self.inside.words.key.size c.self.inside.words.key.values.value.items q c.args.thread c.args.token c.requires.owes)
+
+pub store_root-requires-clause-names : goal.store_root-requires-clause-names
+store_root-requires-clause-names g c n q' told u h = post_names c.args.root.root.own q'.own u (ap (λ (z : RootView LockRootView). z.own) told.1) h
+
+pub returns-clause-posted : goal.returns-clause-posted
+returns-clause-posted g c = c.store_root.ensures.told

@@ -1,7 +1,8 @@
 use Rattle.std.proofs.Common.{sym, subst, ◌∙◌}
+use Rattle.lot_rights.specs.declared.views.PassView.{PassView}
 use Rattle.lot_words.specs.declared.views.Place.TheVariants.{InSlot, Out}
 use Rattle.lot_words.specs.Values.{IsIn, IsOut}
-use Rattle.lot_words.proofs.Moves.{same_some, placed_at}
+use Rattle.lot_words.proofs.Moving.{same_some, placed_at}
 use Rattle.lot_words.proofs.words.LockWords.value_out.Goals as goal
 
 pub unreachable-requires : goal.unreachable-requires
@@ -10,7 +11,7 @@ unreachable-requires g c = c.in_default.not-Some c.requires.lies.0 (c.exchange_v
 pub returns-clause-value : goal.returns-clause-value
 returns-clause-value g c =
     let same = same_some c.requires.lies.0 c.in-Some.value (sym (c.exchange_value-pass.ensures.found (InSlot c.requires.lies.0) c.requires.lies.1) ∙ c.in-Some.is) in
-    subst (λ y. IsIn c.args.pass.values c.args.key y) same c.requires.lies.1
+    subst (IsIn c.args.pass.pass.own c.args.key) same c.requires.lies.1
 
 pub returns-clause-out : goal.returns-clause-out
-returns-clause-out g c = subst (λ v. IsOut v c.args.key) (sym c.exchange_value-pass.ensures.values) (placed_at c.args.pass.values c.args.key (InSlot c.requires.lies.0) Out c.requires.lies.1)
+returns-clause-out g c = subst (λ (z : PassView _). IsOut z.own c.args.key) (sym c.exchange_value-pass.ensures.pass.1) (placed_at c.args.pass.pass.own c.args.key (InSlot c.requires.lies.0) Out c.requires.lies.1)

@@ -1,0 +1,352 @@
+-- The turns of each call: whatever world the words stand for, its step leads to one that they stand for then.
+use Rattle.std.proofs.Common.{◌≡◌, ◌≢◌, ℕ, zero, suc, ◌+◌, ◌-◌, ◌<◌, ◌≤◌, ◌&&◌, ◌⊎◌, ◌==◌, Bool, true, false, List, [], ◌∷◌, ◌++◌, take, drop, length, get_or, set, refl, sym, ap, subst, ◌∙◌, inl, inr, ⊎_elim, arith, Option, Some, None}
+use Rattle.std.specs.List.{Contains}
+use Rattle.std.proofs.lemmas.List.{append-nil, set-get_or, length-take, take-append-drop, nil_from_length}
+use mathlib.Core.Option as maybe
+use Rattle.lot_core.specs.World.{put}
+use Rattle.lot_core.specs.Steps.{IsCallCount, SaysMoreBehind, dequeued_count, flag_after_call}
+use Rattle.lot_core.proofs.Members.{some_behind}
+use Rattle.lot_core.specs.Parts.{IsAmongConds, IsCalmIn}
+use Rattle.lot_core.specs.declared.events.Event.TheVariants.{Enlist, Look, Call, Lower, Sweep}
+use Rattle.lot_core.specs.declared.events.Seen.TheVariants.{Bool as Saw, Done, Count}
+use Rattle.lot_core.proofs.Put.{put_same, put_other, put_again}
+use Rattle.lot_rights.specs.declared.views.Access.TheVariants.{Makes, Posts, Collects}
+use Rattle.lot_rights.specs.declared.views.PassView.{PassView}
+use Rattle.lot_rights.specs.declared.views.RootView.{RootView}
+use Rattle.lot_rights.specs.Layout.{word_at, letter_at}
+use Rattle.lot_rights.specs.World.{Spot, awake, queued, owed, lying, letter_of, letters_of, WordsFit}
+use Rattle.lot_rights.specs.Steps.{Notes, RootNotes, PassTurn, BothTurn, AllowsPass, AllowsBoth, AllowsRoot}
+use Rattle.lot_rights.proofs.Worlds.{same_letters, one_letter, word_written, letter_written}
+use Rattle.lot_conds.specs.declared.views.CondPassView.{CondPassView}
+use Rattle.lot_conds.specs.declared.views.CondRootView.{CondRootView}
+use Rattle.lot_conds.specs.declared.views.Size.{Size}
+use Rattle.lot_conds.specs.World.{CondWorld, flag_word, SpotFits, Kept}
+use Rattle.lot_conds.specs.Rule.{key_count, sizes_of, part_of, IsStep, Fits, scheme}
+use Rattle.lot_conds.specs.Calls.{IsCalm, enlisted, lowering, took, swept_pass, woken_pass, enlisted_root, called_root, swept_root, paid_root, FoundNone, Collected, CollectedBy}
+use Rattle.lot_conds.proofs.Machine.{turned, owing, awake_is}
+use Rattle.lot_conds.proofs.Enlists.{is_awake, enlists_kept, lowers_kept}
+use Rattle.lot_conds.proofs.Takes.{took_root, takes_letters, takes_kept}
+use Rattle.lot_conds.proofs.Letters.{waits, waits_out, posts_kept, collects_kept}
+use Rattle.lot_conds.proofs.Rows.{same_part, row_enlist, row_look, row_lower, row_call, row_sweep}
+
+-- ---- a world after an event
+module _ (size : Size) (w : CondWorld) (t : ℕ) (p : CondPassView) (spots : ℕ → Spot) (c : ℕ) (f : Bool) (q : CondRootView) where
+  words_turned : (ws : List ℕ) → Fits size w ws → (x : ℕ) → IsAmongConds size.locks size.conds c → x ≡ flag_word f → letters_of spots ≡ letters_of w.spot → WordsFit flag_word (sizes_of size) (turned w t p spots c f q) (set ws (word_at c) x)
+  words_turned ws ok x among is letters = word_written flag_word (sizes_of size) w (turned w t p spots c f q) ws ok.words c x among
+      (is ∙ sym (ap flag_word (put_same w.word c f))) (λ d ne. ap flag_word (put_other w.word c f d ne)) letters
+
+  passes_else : (u : ℕ) (x : CondPassView) → u ≢ t → (u < size.threads) × (w.pass u ≡ x) → (u < size.threads) × (put w.pass t p u ≡ x)
+  passes_else u x ne h = (h.0, put_other w.pass t p u ne ∙ h.1)
+
+  roots_else : (d : ℕ) (y : CondRootView) → d ≢ c → IsAmongConds size.locks size.conds d × (w.root d ≡ y) → IsAmongConds size.locks size.conds d × (put w.root c q d ≡ y)
+  roots_else d y ne h = (h.0, put_other w.root c q d ne ∙ h.1)
+
+-- the root that is put again
+roots_same : (size : Size) (w : CondWorld) (c d : ℕ) (y : CondRootView) → IsAmongConds size.locks size.conds d × (w.root d ≡ y) → IsAmongConds size.locks size.conds d × (put w.root c (w.root c) d ≡ y)
+roots_same size w c d y h = (h.0, (λ i. put_again w.root c i d) ∙ h.1)
+
+passes_same : (size : Size) (w : CondWorld) (t u : ℕ) (x : CondPassView) → (u < size.threads) × (w.pass u ≡ x) → (u < size.threads) × (put w.pass t (w.pass t) u ≡ x)
+passes_same size w t u x h = (h.0, (λ i. put_again w.pass t i u) ∙ h.1)
+
+-- a thread whose pass is calm is calm in the part of the model
+calm_in : (size : Size) (w : CondWorld) → Kept size.threads (key_count size) w → (t : ℕ) (p : CondPassView) → w.pass t ≡ p → IsCalm p → IsCalmIn (part_of w) t
+calm_in size w ok t p is calm =
+    let home : (w.pass t).out ≡ None = ap (λ (x : CondPassView). x.out) is ∙ calm.0 in (
+      ap (λ (x : CondPassView). x.sweeps) is ∙ calm.1,
+      λ k h. let e : awake ≡ queued k = sym (awake_is size.threads w.root t (w.pass t) (w.spot t) (ok.threads t).spot home) ∙ (ok.threads t).in_line k h in cc,
+    )
+
+-- ---- looking and lowering
+flag_found : (f : Bool) → (flag_word f == 1) ≡ f
+flag_found true = refl
+flag_found false = refl
+
+abbrev pub Looks : PassView CondPassView → ℕ → ℕ → PassView CondPassView → Type 0
+Looks p c n p' = Notes p p.own (Makes (Look p.thread c) (Saw (n == 1))) p'
+
+abbrev pub Lowers : PassView CondPassView → ℕ → PassView CondPassView → Type 0
+Lowers p c p' = Notes p (lowering p.own c) (Makes (Lower p.thread c) Done) p'
+
+module _ (size : Size) (p : PassView CondPassView) (c : ℕ) (among : IsAmongConds size.locks size.conds c) (calm : IsCalm p.own) where
+  pub looks : AllowsPass (scheme size) (word_at c) (λ n. n) p (Looks p c)
+  looks w ws hs ok fit small =
+      let found = ok.words.words c among in
+      record {
+        own = p.own;
+        access = Makes (Look p.thread c) (Saw (get_or ws (word_at c) 0 == 1));
+        world = w;
+        fits = subst (Fits size w) (sym (set-get_or ws (word_at c) 0)) ok;
+        pass = fit;
+        passes = λ u x ne h. h;
+        roots = λ d y h. h;
+        made = (refl, (row_look w size p.thread fit.0 c among (w.pass p.thread) w.spot (calm_in size w ok.kept p.thread p.own fit.1 calm) (get_or ws (word_at c) 0 == 1) (ap (λ z. z == 1) found ∙ flag_found (w.word c)), refl));
+        told = λ k. (k, refl);
+      }
+
+  pub lowers : AllowsPass (scheme size) (word_at c) (λ _. 0) p (λ _. Lowers p c)
+  lowers w ws hs ok fit small =
+      let t : ℕ = p.thread in
+      let p1 : CondPassView = lowering (w.pass t) c in
+      let calm' : (w.pass t).sweeps ≡ None = ap (λ (x : CondPassView). x.sweeps) fit.1 ∙ calm.1 in
+      record {
+        own = lowering p.own c;
+        access = Makes (Lower t c) Done;
+        world = turned w t p1 w.spot c false (w.root c);
+        fits = record {
+          some = ok.some;
+          words = words_turned size w t p1 w.spot c false (w.root c) ws ok 0 among refl refl;
+          kept = lowers_kept size.threads (key_count size) w ok.kept t c fit.0 calm';
+        };
+        pass = (fit.0, put_same w.pass t p1 ∙ ap (λ x. lowering x c) fit.1);
+        passes = passes_else size w t p1 w.spot c false (w.root c);
+        roots = roots_same size w c;
+        made = (refl, (row_lower w size t fit.0 c among p1 w.spot (calm_in size w ok.kept t p.own fit.1 calm) refl, refl));
+        told = λ k. (k, refl);
+      }
+
+-- ---- queueing, calling and sweeping
+and_true : (f : Bool) → (f && true) ≡ f
+and_true true = refl
+and_true false = refl
+
+and_false : (f : Bool) → (f && false) ≡ false
+and_false true = refl
+and_false false = refl
+
+flag_kept : (f more : Bool) (line : List ℕ) → more ≡ true → line ≢ [] → flag_after_call f more line ≡ f
+flag_kept f more [] e some = absurd (some refl)
+flag_kept f more (u ∷ line) e some = ap (λ b. f && b) e ∙ and_true f
+
+flag_cleared : (f more : Bool) (line : List ℕ) → (line ≡ []) ⊎ (more ≡ false) → flag_after_call f more line ≡ false
+flag_cleared f more [] e = refl
+flag_cleared f more (u ∷ line) e = ⊎_elim {C = (f && more) ≡ false} (λ g. absurd (let h : u ∷ line ≡ [] = g in cc)) (λ m. ap (λ b. f && b) m ∙ and_false f) e
+
+-- where somebody is left, more was said, so the flag is as it was
+flag_left : (f more : Bool) (n : ℕ) (line : List ℕ) → SaysMoreBehind n line more → flag_after_call f more line ≡ false → drop n line ≢ [] → f ≡ false
+flag_left f more n line says e some =
+    let behind : n < length line = some_behind n line some in
+    sym (flag_kept f more line (says behind) (λ none_left. let z : length line ≡ 0 = ap length none_left in absurd (omega arith))) ∙ e
+
+other_sweeps : (o : Option ℕ) (c k : ℕ) → o ≡ Some c → k ≢ c → o ≡ Some k → None ≡ Some k
+other_sweeps o c k e ne f = absurd (ne (let g : Some k ≡ Some c = sym f ∙ e in cc))
+
+abbrev pub Enlists : PassView CondPassView → RootView CondRootView → PassView CondPassView → RootView CondRootView → Type 0
+Enlists p q p' q' = Notes p (enlisted p.own q.key) (Makes (Enlist p.thread q.key 0) Done) p' × (q' ≡ record q { own = enlisted_root q.own p.thread })
+
+abbrev pub Calls : PassView CondPassView → RootView CondRootView → ℕ → Bool → PassView CondPassView → RootView CondRootView → Type 0
+Calls p q n more p' q' =
+    Notes p (took p.own q.key (dequeued_count n q.own.line)) (Makes (Call p.thread q.key n more) (Count (dequeued_count n q.own.line))) p' × (q' ≡ record q { own = called_root q.own n })
+
+abbrev pub Sweeps : PassView CondPassView → RootView CondRootView → PassView CondPassView → RootView CondRootView → Type 0
+Sweeps p q p' q' = Notes p (swept_pass p.own q.key (length q.own.line)) (Makes (Sweep p.thread q.key) (Count (length q.own.line))) p' × (q' ≡ record q { own = swept_root q.own })
+
+module _ (size : Size) (p : PassView CondPassView) (q : RootView CondRootView) where
+  abbrev t : ℕ
+  t = p.thread
+
+  abbrev c : ℕ
+  c = q.key
+
+  pub enlists : IsCalm p.own → AllowsBoth (scheme size) (word_at c) (λ _. 1) p q (λ _. Enlists p q)
+  enlists calm w ws hs ok fit root small =
+      let p1 : CondPassView = enlisted (w.pass t) c in
+      let q1 : CondRootView = enlisted_root (w.root c) t in
+      let spots : ℕ → Spot = put w.spot t (queued c) in
+      let home : (w.pass t).out ≡ None = ap (λ (x : CondPassView). x.out) fit.1 ∙ calm.0 in
+      let letters : letters_of spots ≡ letters_of w.spot = same_letters w.spot t (queued c) (ap letter_of (sym (is_awake size.threads (key_count size) w ok.kept t c fit.0 root.0.1 home))) in
+      record {
+        own = enlisted p.own c;
+        its = enlisted_root q.own t;
+        access = Makes (Enlist t c 0) Done;
+        world = turned w t p1 spots c true q1;
+        fits = record {
+          some = ok.some;
+          words = words_turned size w t p1 spots c true q1 ws ok 1 root.0 refl letters;
+          kept = enlists_kept size.threads (key_count size) w ok.kept t c fit.0 root.0.1 home;
+        };
+        pass = (fit.0, put_same w.pass t p1 ∙ ap (λ x. enlisted x c) fit.1);
+        root = (root.0, put_same w.root c q1 ∙ ap (λ x. enlisted_root x t) root.1);
+        passes = passes_else size w t p1 spots c true q1;
+        roots = roots_else size w t p1 spots c true q1;
+        made = (refl, (row_enlist w size t fit.0 c root.0 p1 spots (calm_in size w ok.kept t p.own fit.1 calm) 0 ok.some q1 refl refl, letters));
+        told = λ k. ((k, refl), refl);
+      }
+
+  module _ (calm : IsCalm p.own) (n : ℕ) (more : Bool) (few : IsCallCount n) (says : SaysMoreBehind n q.own.line more) where
+    calls : (w : CondWorld) (ws : List ℕ) (hs : List (maybe.Option (Unit {0}))) → Fits size w ws → (fit : (t < size.threads) × (w.pass t ≡ p.own)) → (root : IsAmongConds size.locks size.conds c × (w.root c ≡ q.own))
+        → (x : ℕ) → x ≡ flag_word (flag_after_call (w.word c) more q.own.line) → BothTurn (scheme size) (word_at c) x p q (Calls p q n more) w ws hs
+    calls w ws hs ok fit root x is =
+        let m : ℕ = key_count size in
+        let line : List ℕ = q.own.line in
+        let line' : (w.root c).line ≡ line = ap (λ (z : CondRootView). z.line) root.1 in
+        let parted : (w.root c).line ≡ take n line ++ drop n line = line' ∙ sym (take-append-drop n line) in
+        let f : Bool = flag_after_call (w.word c) more line in
+        let k : ℕ = dequeued_count n line in
+        let p1 : CondPassView = took (w.pass t) c k in
+        let q1 : CondRootView = took_root (w.root c) (take n line) (drop n line) in
+        let spots : ℕ → Spot = owing c (take n line) w.spot in
+        let letters : letters_of spots ≡ letters_of w.spot = takes_letters size.threads m w ok.kept c root.0.1 (take n line) (drop n line) parted f in
+        let w' : CondWorld = turned w t p1 spots c f q1 in
+        record {
+          own = took p.own c k;
+          its = called_root q.own n;
+          access = Makes (Call t c n more) (Count k);
+          world = w';
+          fits = record {
+            some = ok.some;
+            words = words_turned size w t p1 spots c f q1 ws ok x root.0 is letters;
+            kept = subst (λ z. Kept size.threads m (turned w t (took (w.pass t) c z) spots c f q1)) (length-take n line)
+                (takes_kept size.threads m w ok.kept c root.0.1 (take n line) (drop n line) parted f t fit.0 (w.pass t).sweeps (λ _ _ e. e)
+                (λ e some. (flag_left (w.word c) more n line says e some, (λ g. g))));
+          };
+          pass = (fit.0, put_same w.pass t p1 ∙ ap (λ z. took z c k) fit.1);
+          root = (root.0, put_same w.root c q1 ∙ ap (λ z. took_root z (take n line) (drop n line)) root.1);
+          passes = passes_else size w t p1 spots c f q1;
+          roots = roots_else size w t p1 spots c f q1;
+          made = (
+            refl,
+            (
+              subst (λ z. IsStep size (part_of w) (Call t c n more) (Count (dequeued_count n z)) (part_of (turned w t p1 spots c (flag_after_call (w.word c) more z) q1))) line'
+                  (row_call w size t fit.0 c root.0 p1 spots (calm_in size w ok.kept t p.own fit.1 calm) n more q1 few (subst (λ z. SaysMoreBehind n z more) (sym line') says) refl (ap (drop n) (sym line'))),
+              letters,
+            ),
+          );
+          told = λ i. ((i, refl), refl);
+        }
+
+    pub call_loads : more ≡ true → 0 < dequeued_count n q.own.line → AllowsBoth (scheme size) (word_at c) (λ n. n) p q (λ _. Calls p q n more)
+    call_loads is_more some w ws hs ok fit root small =
+        let kept : flag_after_call (w.word c) more q.own.line ≡ w.word c = flag_kept (w.word c) more q.own.line is_more (λ none_left. let z : length q.own.line ≡ 0 = ap length none_left in absurd (omega arith)) in
+        calls w ws hs ok fit root (get_or ws (word_at c) 0) (ok.words.words c root.0 ∙ ap flag_word (sym kept))
+
+    pub call_stores : (dequeued_count n q.own.line ≡ 0) ⊎ (more ≡ false) → AllowsBoth (scheme size) (word_at c) (λ _. 0) p q (λ _. Calls p q n more)
+    call_stores last w ws hs ok fit root small = calls w ws hs ok fit root 0 (ap flag_word (sym (flag_cleared (w.word c) more q.own.line
+        (⊎_elim {C = (q.own.line ≡ []) ⊎ (more ≡ false)} (λ none_taken. inl (nil_from_length q.own.line (omega (arith, few.0)))) inr last))))
+
+  pub sweeps : p.own.sweeps ≡ Some c → AllowsBoth (scheme size) (word_at c) (λ n. n) p q (λ _. Sweeps p q)
+  sweeps lowered w ws hs ok fit root small =
+      let m : ℕ = key_count size in
+      let lowered' : (w.pass t).sweeps ≡ Some c = ap (λ (z : CondPassView). z.sweeps) fit.1 ∙ lowered in
+      let line : (w.root c).line ≡ q.own.line = ap (λ (z : CondRootView). z.line) root.1 in
+      let line' : (w.root c).line ≡ q.own.line ++ [] = line ∙ sym (append-nil q.own.line) in
+      let f : Bool = w.word c in
+      let p1 : CondPassView = swept_pass (w.pass t) c (length q.own.line) in
+      let q1 : CondRootView = took_root (w.root c) q.own.line [] in
+      let spots : ℕ → Spot = owing c q.own.line w.spot in
+      let letters : letters_of spots ≡ letters_of w.spot = takes_letters size.threads m w ok.kept c root.0.1 q.own.line [] line' f in
+      record {
+        own = swept_pass p.own c (length q.own.line);
+        its = swept_root q.own;
+        access = Makes (Sweep t c) (Count (length q.own.line));
+        world = turned w t p1 spots c f q1;
+        fits = record {
+          some = ok.some;
+          words = words_turned size w t p1 spots c f q1 ws ok (get_or ws (word_at c) 0) root.0 (ok.words.words c root.0) letters;
+          kept = takes_kept size.threads m w ok.kept c root.0.1 q.own.line [] line' f t fit.0 None (λ k ne e. other_sweeps (w.pass t).sweeps c k lowered' ne e) (λ e some. absurd (some refl));
+        };
+        pass = (fit.0, put_same w.pass t p1 ∙ ap (λ z. swept_pass z c (length q.own.line)) fit.1);
+        root = (root.0, put_same w.root c q1 ∙ ap (λ z. took_root z q.own.line []) root.1);
+        passes = passes_else size w t p1 spots c f q1;
+        roots = roots_else size w t p1 spots c f q1;
+        made = (refl, (subst (λ z. IsStep size (part_of w) (Sweep t c) (Count (length z)) (part_of (turned w t p1 spots c f q1))) line (row_sweep w size t fit.0 c root.0 p1 spots lowered' q1 refl refl), letters));
+        told = λ k. ((k, refl), refl);
+      }
+
+-- ---- letters
+abbrev pub Pays : RootView CondRootView → ℕ → RootView CondRootView → Type 0
+Pays q u q' = RootNotes q (paid_root q.own u) (Posts q.key u 0) q'
+
+module _ (size : Size) (q : RootView CondRootView) (u : ℕ) (debt : Contains q.own.owes u) where
+  pub posts : AllowsRoot (scheme size) (letter_at u) (λ _. 1) q (λ _. Pays q u)
+  posts w ws hs ok root small =
+      let m : ℕ = key_count size in
+      let c : ℕ = q.key in
+      let debt' : Contains (w.root c).owes u = subst (λ (z : CondRootView). Contains z.owes u) (sym root.1) debt in
+      let q1 : CondRootView = paid_root (w.root c) u in
+      let spots : ℕ → Spot = put w.spot u (lying c 0) in
+      let w' : CondWorld = turned w u (w.pass u) spots c (w.word c) q1 in
+      record {
+        its = paid_root q.own u;
+        access = Posts c u 0;
+        world = w';
+        fits = record {
+          some = ok.some;
+          words = letter_written flag_word (sizes_of size) w w' ws ok.words u 1 (waits_out size.threads m w ok.kept u c debt').0.0 (sym (ap letter_of (put_same w.spot u (lying c 0))))
+              (λ v ne. ap letter_of (put_other w.spot u (lying c 0) v ne)) (λ d. ap flag_word (λ i. put_again w.word c i d));
+          kept = posts_kept size.threads m w ok.kept u c debt';
+        };
+        root = (root.0, put_same w.root c q1 ∙ ap (λ z. paid_root z u) root.1);
+        passes = passes_same size w u;
+        roots = roots_else size w u (w.pass u) spots c (w.word c) q1;
+        made = (
+          refl,
+          (
+            ap letter_of (waits size.threads m w ok.kept u c debt'),
+            λ i. record { part = same_part w u (w.pass u) spots c q1 refl refl i; letters = one_letter w.spot u (lying c 0) i },
+          ),
+        );
+        told = λ k. (k, refl);
+      }
+
+abbrev pub Collecting : PassView CondPassView → ℕ → PassView CondPassView → Type 0
+Collecting p n q = (n ≤ 1) × CollectedBy p n q
+
+pub collected_none : (p q : PassView CondPassView) (n : ℕ) → n ≡ 0 → Collecting p n q → FoundNone p q
+collected_none p q n e h = subst (λ z. CollectedBy p z q) e h.1
+
+pub collected_some : (p q : PassView CondPassView) (n : ℕ) → n ≢ 0 → Collecting p n q → Collected p (n - 1) q
+collected_some p q zero ne h = absurd (ne refl)
+collected_some p q (suc token) ne h = let e : token ≡ suc token - 1 = omega arith in subst (λ z. Collected p z q) e h.1
+
+module _ (size : Size) (p : PassView CondPassView) where
+  module _ (w : CondWorld) (ws : List ℕ) (hs : List (maybe.Option (Unit {0}))) (ok : Fits size w ws) (fit : (p.thread < size.threads) × (w.pass p.thread ≡ p.own)) where
+    abbrev Turn : ℕ → Type 0
+    Turn n = PassTurn (scheme size) (letter_at p.thread) 0 p (Collecting p n) w ws hs
+
+    -- no letter lies
+    none_lies : letter_of (w.spot p.thread) ≡ 0 → Turn 0
+    none_lies none_there = record {
+      own = p.own;
+      access = Collects p.thread None;
+      world = w;
+      fits = subst (Fits size w) (sym (ap (set ws (letter_at p.thread)) (sym none_there ∙ sym (ok.words.letters p.thread fit.0)) ∙ set-get_or ws (letter_at p.thread) 0)) ok;
+      pass = fit;
+      passes = λ u x ne h. h;
+      roots = λ d y h. h;
+      made = (refl, (none_there, refl));
+      told = λ k. (omega arith, (k, refl));
+    }
+
+    one_lies : (c : ℕ) → w.spot p.thread ≡ lying c 0 → Turn 1
+    one_lies c lies =
+        let t : ℕ = p.thread in
+        let m : ℕ = key_count size in
+        let fits : SpotFits size.threads w.root t (w.pass t) (lying c 0) = subst (SpotFits size.threads w.root t (w.pass t)) lies (ok.kept.threads t).spot in
+        let near : c < m = (ok.kept.threads t).outs c fits.0.1 in
+        let p1 : CondPassView = woken_pass (w.pass t) c in
+        let spots : ℕ → Spot = put w.spot t awake in
+        let w' : CondWorld = turned w t p1 spots c (w.word c) (w.root c) in
+        record {
+          own = woken_pass p.own c;
+          access = Collects t (Some 0);
+          world = w';
+          fits = record {
+            some = ok.some;
+            words = letter_written flag_word (sizes_of size) w w' ws ok.words t 0 fit.0 (sym (ap letter_of (put_same w.spot t awake))) (λ v ne. ap letter_of (put_other w.spot t awake v ne)) (λ d. ap flag_word (λ i. put_again w.word c i d));
+            kept = collects_kept size.threads m w ok.kept t c near lies;
+          };
+          pass = (fit.0, put_same w.pass t p1 ∙ ap (λ z. woken_pass z c) fit.1);
+          passes = passes_else size w t p1 spots c (w.word c) (w.root c);
+          roots = roots_same size w c;
+          made = (refl, (ap letter_of lies, λ i. record { part = same_part w t p1 spots c (w.root c) refl refl i; letters = one_letter w.spot t awake i }));
+          told = λ k. (omega arith, (refl, (c, (sym (ap (λ (z : CondPassView). z.out) fit.1) ∙ fits.0.1, (k, refl)))));
+        }
+
+    by_spot : (sp : Spot) → w.spot p.thread ≡ sp → SpotFits size.threads w.root p.thread (w.pass p.thread) sp → Turn (letter_of sp)
+    by_spot awake is fits = none_lies (ap letter_of is)
+    by_spot (queued c) is fits = none_lies (ap letter_of is)
+    by_spot (owed c k) is fits = none_lies (ap letter_of is)
+    by_spot (lying c k) is fits = subst (λ z. Turn (z + 1)) (sym fits.1) (one_lies c (is ∙ ap (lying c) fits.1))
+
+  pub collects : AllowsPass (scheme size) (letter_at p.thread) (λ _. 0) p (Collecting p)
+  collects w ws hs ok fit small = subst (Turn w ws hs ok fit) (sym (ok.words.letters p.thread fit.0)) (by_spot w ws hs ok fit (w.spot p.thread) refl (ok.kept.threads p.thread).spot)

@@ -1,0 +1,5 @@
+use Rattle.lot_conds.proofs.Turns.{Enlists}
+use Rattle.lot_conds.proofs.words.CondWords.enlist.Given as goal
+
+abbrev pub ghosts-store_both : goal.ghosts-store_both
+ghosts-store_both a = record { then = λ n. Enlists a.pass.pass a.root.root }

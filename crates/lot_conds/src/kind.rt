@@ -1,0 +1,38 @@
+//! The kind of table that condition words make.
+use crate::views::{CondPassView, CondRootView, Size};
+use lot_rights::{Kind, PassOf, RootOf};
+
+/// Condition words: a word is 1 where threads may wait on its condition. Contracts alone read it.
+pub struct Conditions;
+
+impl Kind for Conditions {
+    ghost use Rattle.std.specs.Prelude.{◌⊎◌};
+    ghost use Rattle.std.specs.List.{Contains};
+    ghost use Rattle.lot_conds.specs.Rule.{scheme, no_pass, no_root, one_outcome};
+
+    type Slot = ();
+
+    type Pass = CondPassView;
+
+    type Root = CondRootView;
+
+    type Key = Size;
+
+    ghost scheme = { scheme };
+
+    ghost no_pass = { no_pass };
+
+    ghost no_root = { no_root };
+
+    ghost names = { λ q u. Contains q.line u ⊎ Contains q.owes u };
+
+    ghost table_in = { λ o. o.conds };
+
+    ghost one_outcome = { one_outcome };
+}
+
+/// The right to act as one thread on the conditions. Contracts see it as its table and a `PassView`, whose `own` is a `CondPassView`.
+pub type CondPass = PassOf<Conditions>;
+
+/// The right to change the line of one condition. Contracts see it as its table and a `RootView`, whose `own` is a `CondRootView`.
+pub type CondRoot = RootOf<Conditions>;

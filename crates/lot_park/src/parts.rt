@@ -1,0 +1,189 @@
+//! Several tables of rights in one parking lot.
+//!
+//! Each table has a scheme of its own. `Both` makes one scheme of two, whose keys a `Border` tells apart, and
+//! so one of three: the lot of `Both<Both<A, B, K>, C, L>` keeps the roots of all three. A call names its
+//! table by a `Part`: `OfFirst` and `OfSecond` are the sides, and `Whole` ends the way.
+//!
+//! | Table | Part of a lot of `Both<Both<A, B, K>, C, L>` |
+//! |---|---|
+//! | A | `OfFirst<OfFirst<Whole>>` |
+//! | B | `OfFirst<OfSecond<Whole>>` |
+//! | C | `OfSecond<Whole>` |
+//!
+//! The calls' callbacks are handed the table's own roots and passes, and their contracts speak of these
+//! alone: `unpark_one::<S, B, OfFirst<OfSecond<Whole>>, _, _, _>(rt, &lot, key, moment, x, callback)`.
+
+ghost use Rattle.std.specs.Prelude.{◌≡◌, ℕ, ◌<◌, true, []};
+ghost use Rattle.lot_park.specs.Parking.{Tells, MayUnpark, Unparks, UnparkedOne, MayUnparkAll, UnparksAll, UnparkedAll, MayValidate, Validates, ParkedOnce};
+ghost use Rattle.lot_park.specs.Parts.{CallsBack, CallsBackAll, Checks};
+
+use crate::lot::{Parked, ParkingLot};
+use crate::scheme::{Scheme, Token};
+use lot_bucket::{Dequeued, Moment, Root};
+use std::sync::Wait;
+
+pub mod both;
+pub mod side;
+
+pub use both::{Border, Both, EitherRoot, OneOf};
+pub use side::{OfFirst, OfSecond, Part, Whole};
+
+/// `ParkingLot::unpark_one` on a key of one table.
+pub fn unpark_one<
+    S: Scheme,
+    A: Scheme,
+    P: Part<S, A>,
+    W: Wait,
+    X,
+    F: FnOnce(X, A::Root, Dequeued) -> (X, A::Root, Token),
+>(rt: &W, parking: &ParkingLot<S>, key: usize, moment: Moment, x: X, callback: F) -> (X, Dequeued)
+    requires key { key < parking.now.keys }
+    requires serves { P.serves key }
+    requires callable { MayUnpark A.Root.key A.Root.line A.Root.owes key moment.now (F.pre callback x) }
+    requires keeps { Unparks A.Root.key A.Root.line A.Root.owes (λ (t : Token). t.0) key moment.now (F.post callback x) }
+    ensures { UnparkedOne A.Root.key A.Root.line A.Root.owes key moment.now (F.post callback x) result }
+{
+    parking.unpark_one(
+        rt,
+        key,
+        moment,
+        x,
+        |x: X, root: S::Root, told: Dequeued| -> (X, S::Root, Token)
+            requires serves { P.serves (S.Root.key root) }
+            requires callable { (mine : A.Root) → P.whole_root mine ≡ root → F.pre callback x mine told }
+            requires keeps { (mine : A.Root) (o : _) → P.whole_root mine ≡ root → F.post callback x mine told o → P.serves (A.Root.key o.1) }
+            ensures { CallsBack P.whole_root root (λ r. F.post callback x r told) result }
+        { call_back::<S, A, P, X, F>(x, root, told, callback) },
+    )
+}
+
+// Calls back with the root as the table's own.
+fn call_back<
+    S: Scheme,
+    A: Scheme,
+    P: Part<S, A>,
+    X,
+    F: FnOnce(X, A::Root, Dequeued) -> (X, A::Root, Token),
+>(x: X, root: S::Root, told: Dequeued, callback: F) -> (X, S::Root, Token)
+    requires serves { P.serves (S.Root.key root) }
+    requires callable { (mine : A.Root) → P.whole_root mine ≡ root → F.pre callback x mine told }
+    requires keeps { (mine : A.Root) (o : _) → P.whole_root mine ≡ root → F.post callback x mine told o → P.serves (A.Root.key o.1) }
+    ensures { CallsBack P.whole_root root (λ r. F.post callback x r told) result }
+{
+    let mine = P::lower_root(root);
+    let (x, mine, token) = callback(x, mine, told);
+    (x, P::raise_root(mine), token)
+}
+
+/// `ParkingLot::unpark_all` on a key of one table.
+pub fn unpark_all<
+    S: Scheme,
+    A: Scheme,
+    P: Part<S, A>,
+    W: Wait,
+    X,
+    F: FnOnce(X, A::Root, usize) -> (X, A::Root),
+>(rt: &W, parking: &ParkingLot<S>, key: usize, x: X, f: F) -> (X, usize)
+    requires key { key < parking.now.keys }
+    requires serves { P.serves key }
+    requires callable { MayUnparkAll A.Root.key A.Root.line A.Root.owes key (F.pre f x) }
+    requires keeps { UnparksAll A.Root.key A.Root.line A.Root.owes key (F.post f x) }
+    ensures { UnparkedAll A.Root.key A.Root.line A.Root.owes key (F.post f x) result }
+{
+    parking.unpark_all(
+        rt,
+        key,
+        x,
+        |x: X, root: S::Root, count: usize| -> (X, S::Root)
+            requires serves { P.serves (S.Root.key root) }
+            requires callable { (mine : A.Root) → P.whole_root mine ≡ root → F.pre f x mine count }
+            requires keeps { (mine : A.Root) (o : _) → P.whole_root mine ≡ root → F.post f x mine count o → P.serves (A.Root.key o.1) }
+            ensures { CallsBackAll P.whole_root root (λ r. F.post f x r count) result }
+        { call_back_all::<S, A, P, X, F>(x, root, count, f) },
+    )
+}
+
+// Calls back with the root as the table's own.
+fn call_back_all<
+    S: Scheme,
+    A: Scheme,
+    P: Part<S, A>,
+    X,
+    F: FnOnce(X, A::Root, usize) -> (X, A::Root),
+>(x: X, root: S::Root, count: usize, f: F) -> (X, S::Root)
+    requires serves { P.serves (S.Root.key root) }
+    requires callable { (mine : A.Root) → P.whole_root mine ≡ root → F.pre f x mine count }
+    requires keeps { (mine : A.Root) (o : _) → P.whole_root mine ≡ root → F.post f x mine count o → P.serves (A.Root.key o.1) }
+    ensures { CallsBackAll P.whole_root root (λ r. F.post f x r count) result }
+{
+    let mine = P::lower_root(root);
+    let (x, mine) = f(x, mine, count);
+    (x, P::raise_root(mine))
+}
+
+/// `ParkingLot::park_conditionally` on a key of one table, by a pass of that table.
+pub fn park_on<
+    S: Scheme,
+    A: Scheme,
+    P: Part<S, A>,
+    W: Wait,
+    X,
+    V: FnOnce(X, A::Pass, A::Root) -> (X, A::Pass, A::Root, bool),
+    B: FnOnce(X) -> X,
+>(
+    rt: &W,
+    parking: &ParkingLot<S>,
+    pass: A::Pass,
+    key: usize,
+    x: X,
+    validate: V,
+    before_sleep: B,
+) -> (A::Pass, X, Parked)
+    requires key { key < parking.now.keys }
+    requires serves { P.serves key }
+    requires thread { A.thread pass < parking.now.threads }
+    requires callable { MayValidate A.Root.key A.Root.line A.Root.owes key (V.pre validate x pass) }
+    requires keeps { Validates A.Root.key A.Root.line A.Root.owes A.thread key (A.thread pass) (V.post validate x pass) }
+    requires sleeps { (r : A.Root) (o : _) → A.Root.key r ≡ key → A.Root.owes r ≡ [] → V.post validate x pass r o → o.3 ≡ true → B.pre before_sleep o.0 }
+    ensures { ParkedOnce A.Root.key A.Root.line A.Root.owes key (V.post validate x pass) (B.post before_sleep) A.looked result }
+{
+    let raised = P::raise_pass(pass);
+    let (raised, x, parked) = parking.park_conditionally(
+        rt,
+        raised,
+        key,
+        x,
+        |x: X, raised: S::Pass, root: S::Root| -> (X, S::Pass, S::Root, bool)
+            requires own { (own : A.Pass) × (P.whole_pass own ≡ raised) }
+            requires serves { P.serves (S.Root.key root) }
+            requires callable { (own : A.Pass) (mine : A.Root) → P.whole_pass own ≡ raised → P.whole_root mine ≡ root → V.pre validate x own mine }
+            requires keeps { (own : A.Pass) (mine : A.Root) (o : _) → P.whole_pass own ≡ raised → P.whole_root mine ≡ root → V.post validate x own mine o → P.serves (A.Root.key o.2) }
+            ensures { Checks P.whole_root P.whole_pass raised root (λ p r. V.post validate x p r) result }
+        { check::<S, A, P, X, V>(x, raised, root, validate) },
+        before_sleep,
+    );
+    (P::lower_pass(raised), x, parked)
+}
+
+// Validates with the pass and the root as the table's own.
+fn check<
+    S: Scheme,
+    A: Scheme,
+    P: Part<S, A>,
+    X,
+    V: FnOnce(X, A::Pass, A::Root) -> (X, A::Pass, A::Root, bool),
+>(x: X, raised: S::Pass, root: S::Root, validate: V) -> (X, S::Pass, S::Root, bool)
+    requires own { (own : A.Pass) × (P.whole_pass own ≡ raised) }
+    requires serves { P.serves (S.Root.key root) }
+    requires callable { (own : A.Pass) (mine : A.Root) → P.whole_pass own ≡ raised → P.whole_root mine ≡ root → V.pre validate x own mine }
+    requires keeps { (own : A.Pass) (mine : A.Root) (o : _) → P.whole_pass own ≡ raised → P.whole_root mine ≡ root → V.post validate x own mine o → P.serves (A.Root.key o.2) }
+    ensures { Checks P.whole_root P.whole_pass raised root (λ p r. V.post validate x p r) result }
+{
+    let own = P::lower_pass(raised);
+    let mine = P::lower_root(root);
+    let (x, own, mine, queued) = validate(x, own, mine);
+    (x, P::raise_pass(own), P::raise_root(mine), queued)
+}
+
+#[cfg(test)]
+mod tests;

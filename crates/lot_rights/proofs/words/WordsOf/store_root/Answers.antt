@@ -1,0 +1,12 @@
+use Rattle.lot_rights.proofs.Ready.{ready_root, root_stands}
+use Rattle.lot_rights.proofs.words.WordsOf.store_root.Goals as goal
+
+pub store-requires : goal.store-requires
+store-requires g c =
+    ready_root g.K.Kind.scheme _ _ c.self.view_is _ _ c.root.view_is c.root.inside.seat.id c.root.inside.seat.me c.root.inside.one c.args.word (λ _. c.args.new) (λ _. g.N.TellsRoot.then c.args.new) c.requires.table c.requires.word c.requires.allows
+
+pub invariant_of-result : goal.invariant_of-result
+invariant_of-result g c =
+    let told = c.store.ensures.2 in
+    root_stands g.K.Kind.no_root g.K.Kind.names _ _ c.root.view_is c.root.inside.key c.root.inside.key_is c.root.inside.near c.root.inside.small c.root.inside.letters_near _ c.store.ensures.0
+    c.store.new.seat.me told.0 told.1 told.2 (c.requires.names c.args.new told.0 told.3)

@@ -1,0 +1,102 @@
+-- Histories: which accesses were made, the oldest first, and with which rights. An access is an event of the model, or a notice of what a word really was.
+use Rattle.std.specs.Prelude.{◌≡◌, ℕ, ◌+◌, ◌*◌, ◌==◌, cond, List, [], ◌∷◌, Some, None}
+use Rattle.lot_core.specs.World.{put}
+use Rattle.lot_core.specs.declared.events.Event.{Event}
+use Rattle.lot_core.specs.declared.events.Event.TheVariants.{Try, Take, Mark, Park, Free, Pass, Enlist, Look, Call, Lower, Sweep, SemTake, SemMark, SemPark, SemFree, SemPass, SemClear}
+use Rattle.lot_core.specs.declared.events.Seen.{Seen}
+use Rattle.lot_rights.specs.declared.views.Access.{Access}
+use Rattle.lot_rights.specs.declared.views.Access.TheVariants.{Makes, Posts, Collects, Finds}
+use Rattle.lot_rights.specs.declared.views.Entry.{Entry}
+use Rattle.lot_rights.specs.Seating.{times_in, Seated}
+
+-- whose event it is
+abbrev pub maker : Event → ℕ
+maker (Try t l) = t
+maker (Take t l) = t
+maker (Mark t l) = t
+maker (Park t l) = t
+maker (Free t l) = t
+maker (Pass t l fair more) = t
+maker (Enlist t c l) = t
+maker (Look t c) = t
+maker (Call t c n more) = t
+maker (Lower t c) = t
+maker (Sweep t c) = t
+maker (SemTake t k) = t
+maker (SemMark t k) = t
+maker (SemPark t k) = t
+maker (SemFree t k) = t
+maker (SemPass t k more) = t
+maker (SemClear t k) = t
+
+-- the number of the right with which the access was made: a thread's pass, or a key's root
+abbrev pub doer : Access → ℕ
+doer (Makes e saw) = 2 * maker e
+doer (Posts c t token) = 2 * c + 1
+doer (Collects t found) = 2 * t
+doer (Finds t c x) = 2 * t
+
+-- the entries of the right with the number i
+abbrev pub entries_of : ℕ → List Entry → List Entry
+entries_of i [] = []
+entries_of i (x ∷ xs) = cond (doer x.access == i) (x ∷ entries_of i xs) (entries_of i xs)
+
+-- ---- what accesses do
+-- what the words of a table tell: a part of the model's state, and the number in each thread's letter, which is 0 for none and else its token and 1
+pub record Telling (P : Type 0) : Type 0 where
+  pub part : P
+  pub letters : ℕ → ℕ
+
+module _ {P : Type 0} (Step : P → Event → Seen → P → Type 0) (word_in : P → ℕ → ℕ) where
+  -- what the words told when the access was made, and what they tell then
+  abbrev pub Happens : Telling P → Access → Telling P → Type 0
+  Happens a (Makes e saw) b = Step a.part e saw b.part × (b.letters ≡ a.letters)
+  Happens a (Posts c t token) b = (a.letters t ≡ 0) × (b ≡ record a { letters = put a.letters t (token + 1) })
+  Happens a (Collects t None) b = (a.letters t ≡ 0) × (b ≡ a)
+  Happens a (Collects t (Some token)) b = (a.letters t ≡ token + 1) × (b ≡ record a { letters = put a.letters t 0 })
+  Happens a (Finds t c x) b = (x ≡ word_in a.part c) × (b ≡ a)
+
+-- ---- the log
+-- its accesses, of which k were made before, lead from a to b, each at its place and from what the ones before it have led to
+module _ {S : Type 0} (Leads : S → Access → S → Type 0) where
+  abbrev pub Run : S → ℕ → List Entry → S → Type 0
+  Run a k [] b = b ≡ a
+  Run a k (x ∷ xs) b = (x.at ≡ k) × ((c : S) × (Leads a x.access c × Run c (k + 1) xs b))
+
+-- the log without its notices
+abbrev pub with_event : Access → List (Event × Seen) → List (Event × Seen)
+with_event (Makes e saw) es = (e, saw) ∷ es
+with_event (Posts c t token) es = es
+with_event (Collects t found) es = es
+with_event (Finds t c x) es = es
+
+abbrev pub events_in : List Entry → List (Event × Seen)
+events_in [] = []
+events_in (x ∷ xs) = with_event x.access (events_in xs)
+
+-- these events are a run of the model's part from a to b
+module _ {P : Type 0} (Step : P → Event → Seen → P → Type 0) where
+  abbrev pub ModelRun : P → List (Event × Seen) → P → Type 0
+  ModelRun a [] b = b ≡ a
+  ModelRun a (x ∷ xs) b = (c : P) × (Step a x.0 x.1 c × ModelRun c xs b)
+
+-- a right has its own number, and shows the entries that were made with it
+module _ {R : Type 0} (number : R → ℕ) (made : R → List Entry) where
+  abbrev pub Noted : List Entry → R → Type 0
+  Noted log r = made r ≡ entries_of (number r) log
+
+  -- rights of the same numbers, with the same entries
+  abbrev pub SameMade : List R → List R → Type 0
+  SameMade [] [] = Unit {0}
+  SameMade (r ∷ rs) (q ∷ qs) = (number q ≡ number r) × (made q ≡ made r) × SameMade rs qs
+  SameMade _ _ = ⊥
+
+  -- each right has its entries, and with a right that is nowhere nothing was made
+  pub record Listed (log : List Entry) (views : List (List R)) : Type 0 where
+    pub told : Seated number (Noted log) views
+    pub known : (i : ℕ) → times_in number i views ≡ 0 → entries_of i log ≡ []
+
+  -- the log leads from `first` to b, and the rights have its entries
+  pub record Recorded {S : Type 0} (Leads : S → Access → S → Type 0) (first : S) (log : List Entry) (views : List (List R)) (b : S) : Type 0 where
+    pub run : Run Leads first 0 log b
+    pub listed : Listed log views

@@ -1,0 +1,15 @@
+-- Where the words of a table lie: by the number of the key or of the thread alone, so that tables of all kinds agree.
+-- Word 0 is spare, and nothing is ever stored to its line of the cache: each join and split of seats loads it, and so does each move of a value.
+use Rattle.std.specs.Prelude.{ℕ, ◌+◌, ◌*◌, max}
+
+-- the word of a key
+abbrev pub word_at : ℕ → ℕ
+word_at c = 2 * c + 9
+
+-- the letter of a thread: eight words from one to the next, between the words of keys
+abbrev pub letter_at : ℕ → ℕ
+letter_at t = 8 * t + 8
+
+-- the words of a table of so many threads, in which the keys' numbers end before m
+abbrev pub word_count : ℕ → ℕ → ℕ
+word_count n m = max (2 * m) (8 * n) + 8

@@ -1,0 +1,13 @@
+pub mod Closing
+pub mod History
+pub mod Layout
+pub mod Lines
+pub mod Opening
+pub mod Rule
+pub mod Seating
+pub mod Settled
+pub mod Shown
+pub mod Slots
+pub mod Start
+pub mod Steps
+pub mod World

@@ -1,0 +1,41 @@
+-- The laws of the history: the rights settle it, one entry more is one access, and no entry is none.
+use Rattle.std.specs.Prelude.{◌≡◌, ℕ, ◌++◌, List, [], ◌∷◌, length, slice_set}
+use mathlib.Core.Option.{some}
+use lib.ListN.{get_elem?}
+use Rattle.atomic_table.specs.Table.{State}
+use Rattle.lot_core.specs.declared.events.Event.{Event}
+use Rattle.lot_core.specs.declared.events.Seen.{Seen}
+use Rattle.lot_rights.specs.declared.views.Entry.{Entry}
+use Rattle.lot_rights.specs.declared.views.Right.{Right}
+use Rattle.lot_rights.specs.Seating.{times_in}
+use Rattle.lot_rights.specs.History.{doer, events_in, ModelRun, SameMade, Telling}
+use Rattle.lot_rights.specs.Rule.{number, made_with, Scheme, IsRight, Leads, IsHistory, Ruled}
+
+module _ {S P R : Type 0} (k : Scheme S P R) where
+  -- a step of the model has one outcome
+  abbrev pub HasOneOutcome : Type 0
+  HasOneOutcome = (a b c : k.Part) (e : Event) (s : Seen) → k.Step a e s b → k.Step a e s c → b ≡ c
+
+  -- two histories of the same rights are one, and have led to the same
+  abbrev pub RightsSettle : Type 0
+  RightsSettle = (views : List (List (Right P R))) (log log' : List Entry) (a b : Telling k.Part) → IsHistory k log views a → IsHistory k log' views b → (log ≡ log') × (a ≡ b)
+
+  -- Whatever step leads from a table that keeps the rule to one that keeps it: where one right shows one entry more, that access and no other was made, from what the words told just then
+  abbrev pub OneEntryIsOneAccess : Type 0
+  OneEntryIsOneAccess = (s s' : State S (List (Right P R))) (before : Ruled k s) (after : Ruled k s') (id : ℕ) (r r' : Right P R) (rest rest' : List (Right P R)) (x : Entry)
+      → get_elem? s.views id ≡ some (r ∷ rest) → s'.views ≡ slice_set s.views id (r' ∷ rest') → SameMade number made_with rest rest'
+      → number r' ≡ number r → doer x.access ≡ number r → made_with r' ≡ made_with r ++ x ∷ []
+      → (after.log ≡ before.log ++ x ∷ []) × (x.at ≡ length before.log) × Leads k (k.told_by before.world) x.access (k.told_by after.world)
+
+  -- Where no right shows another entry, no access was made, and the words tell the same
+  abbrev pub NoEntryIsNone : Type 0
+  NoEntryIsNone = (s s' : State S (List (Right P R))) (before : Ruled k s) (after : Ruled k s') (id : ℕ) (v v' : List (Right P R))
+      → get_elem? s.views id ≡ some v → s'.views ≡ slice_set s.views id v' → SameMade number made_with v v' → (after.log ≡ before.log) × (k.told_by after.world ≡ k.told_by before.world)
+
+  -- Of every table that keeps the rule: each right is in exactly one place, and the log without its notices is a run of the model to the part that the words tell
+  pub record HasOneRun (s : State S (List (Right P R))) (here : Ruled k s) : Type 0 where
+    pub once : (i : ℕ) → IsRight k i → times_in number i s.views ≡ 1
+    pub model : ModelRun k.Step k.start.part (events_in here.log) (k.told_by here.world).part
+
+  abbrev pub RuledHasOneRun : Type 0
+  RuledHasOneRun = (s : State S (List (Right P R))) (here : Ruled k s) → HasOneRun s here

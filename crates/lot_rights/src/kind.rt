@@ -1,0 +1,76 @@
+//! Kinds of tables.
+ghost use Rattle.std.specs.Prelude.{ℕ};
+
+use crate::views::Right;
+use atomic_table::{Seat, Shared, Table, TableRule};
+use std::alloc::Global;
+use std::collections::LinkedList;
+use std::marker::PhantomData;
+
+/// A kind of table: what its words, slots and rights stand for. Contracts alone read it.
+pub trait Kind {
+    ghost use Rattle.std.specs.Prelude.{ℕ};
+    ghost use Rattle.atomic_table.specs.Seated.{TableId};
+    ghost use Rattle.lot_rights.specs.Rule.{Scheme};
+    ghost use Rattle.lot_rights.specs.Settled.{HasOneOutcome};
+    ghost use Rattle.lot_rights.specs.Opening.{Opening};
+
+    /// What a slot has.
+    type Slot;
+    /// What a pass knows, beside its thread and its entries.
+    type Pass;
+    /// What a root knows, beside its key and its entries.
+    type Root;
+    /// What the table is told when it is made.
+    type Key;
+
+    ghost scheme: { Self.Key → Scheme Self.Slot Self.Pass Self.Root };
+
+    // What no pass and no root knows.
+    ghost no_pass: { Self.Pass };
+
+    ghost no_root: { Self.Root };
+
+    // The root names a thread, whose letter may have to be posted with it.
+    ghost names: { Self.Root → ℕ → Type 0 };
+
+    // The table of this kind, of an opening.
+    ghost table_in: { Opening → TableId };
+
+    // A step of the model has one outcome.
+    ghost one_outcome: { (key : Self.Key) → HasOneOutcome (scheme key) };
+}
+
+/// The rule of a kind: the words, the slots and the rights stand for one world, to which one history has led.
+pub struct RightsRule<K> {
+    of: PhantomData<K>,
+}
+
+impl<K: Kind> TableRule<K::Slot, LinkedList<Right<K::Pass, K::Root>>, K::Key> for RightsRule<K> {
+    ghost use Rattle.lot_rights.specs.Rule.{Ruled};
+    ghost use Rattle.lot_rights.specs.Start.{all_rights};
+
+    ghost holds = { λ key s. Ruled (K.scheme key) s };
+
+    ghost first = { λ key. all_rights (K.scheme key) };
+}
+
+pub type RightsTable<K> = Table<
+    <K as Kind>::Slot,
+    LinkedList<Right<<K as Kind>::Pass, <K as Kind>::Root>>,
+    <K as Kind>::Key,
+    RightsRule<K>,
+    Global,
+>;
+
+pub type RightsShared<K> = Shared<
+    <K as Kind>::Slot,
+    LinkedList<Right<<K as Kind>::Pass, <K as Kind>::Root>>,
+    <K as Kind>::Key,
+    RightsRule<K>,
+>;
+
+pub type RightsSeat<K> = Seat<
+    <K as Kind>::Slot,
+    LinkedList<Right<<K as Kind>::Pass, <K as Kind>::Root>>,
+>;

@@ -1,0 +1,25 @@
+//! What the history means, for every kind: laws, each the contract of a function that does nothing.
+ghost use Rattle.lot_rights.specs.Settled.{RightsSettle, OneEntryIsOneAccess, NoEntryIsNone, RuledHasOneRun};
+
+use crate::kind::Kind;
+
+/// The rights settle the history: two histories of the same rights are one, and have led to the same part of the model and the same
+/// letters.
+pub fn rights_settle_the_history<K: Kind>()
+    ensures { (key : K.Key) → RightsSettle (K.scheme key) }
+{}
+
+/// One entry more in one right is one access, this one, made of what the words told just then; and no other was made.
+pub fn one_entry_is_one_access<K: Kind>()
+    ensures { (key : K.Key) → OneEntryIsOneAccess (K.scheme key) }
+{}
+
+/// Where no right has another entry, no access was made, and the words tell the same.
+pub fn no_entry_is_none<K: Kind>()
+    ensures { (key : K.Key) → NoEntryIsNone (K.scheme key) }
+{}
+
+/// At every moment each right is in exactly one place, and the history without its notices is one run of the model.
+pub fn the_rule_has_one_run<K: Kind>()
+    ensures { (key : K.Key) → RuledHasOneRun (K.scheme key) }
+{}

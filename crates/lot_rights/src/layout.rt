@@ -1,0 +1,33 @@
+//! Where the words of a table lie.
+ghost use Rattle.std.specs.Prelude.{◌≡◌, ◌^◌, ◌<◌};
+ghost use Rattle.lot_rights.specs.Layout.{word_at, letter_at, word_count};
+
+/// The word that nobody writes: joins and splits of seats load it, and so do the moves of values.
+pub(crate) const SPARE_WORD: usize = 0;
+
+/// The place of a key's word: two words from one key to the next, and the first one past the line of the spare word.
+#[inline(always)]
+pub fn word_of_key(key: usize) -> usize
+    requires { word_at key < 2 ^ 64 }
+    ensures { result ≡ word_at key }
+{
+    2 * key + 9
+}
+
+/// The place of a thread's letter, between the words of keys: eight words from one thread to the next.
+#[inline(always)]
+pub(crate) fn letter_of_thread(thread: usize) -> usize
+    requires { letter_at thread < 2 ^ 64 }
+    ensures { result ≡ letter_at thread }
+{
+    8 * thread + 8
+}
+
+/// How many words a table of so many threads has, in which all keys lie below `keys`.
+pub fn words_for(threads: usize, keys: usize) -> usize
+    requires threads { threads < 2 ^ 32 }
+    requires keys { keys < 2 ^ 32 }
+    ensures { result ≡ word_count threads keys }
+{
+    (2 * keys).max(8 * threads) + 8
+}

@@ -1,0 +1,45 @@
+//! Ruled tables of rights: what the tables of lock words, of condition words and of semaphore words have in common, proved once.
+//! A table has words that change in single atomic steps (`atomic_table`); who acts as a thread has its *pass*, who changes a key's
+//! line has that key's *root*. lot_words, lot_conds and lot_sems are short kinds on it.
+//!
+//! ```text
+//!  Kind        what words, slots and rights stand for: a world, which keeps a rule of its own
+//!  WordsOf     the table: each step needs a pass, or a pass and a root, or a root
+//!  PassOf      the right to act as one thread
+//!  RootOf      the right to change the line of one key
+//! ```
+//!
+//! The rule of every table is: there is a world that the words, the slots and the rights stand for, and one history has led to it.
+//! The history has an entry for each access that was made: an event of the model (lot_core), or a notice (a letter that was posted, looked
+//! for or found; a word that was found to be another than was asked for). Each right shows the entries that were made with it, and the
+//! rights settle the history: so one entry more in one right is one access, this one, made of what the words told just then (`laws`).
+//!
+//! A kind proves of each of its calls a *turn*: whatever world the words stand for, the step leads to one that they stand for then. Turns
+//! speak of worlds and of the model alone, never of seats, logs or tables.
+//!
+//! Read `specs/Seating`, `specs/History` and `specs/Rule` first, then `specs/Steps`, and `words` for the steps.
+#![tactic(auto)]
+
+mod closing;
+pub mod fault;
+pub mod kind;
+pub mod laws;
+mod layout;
+pub mod named;
+mod opening;
+pub mod pairs;
+pub mod rights;
+mod slots;
+pub mod tells;
+pub mod views;
+pub mod words;
+
+pub use fault::WordsFault;
+pub use kind::Kind;
+pub use layout::{word_of_key, words_for};
+pub use named::{Name, Named, OfOpening};
+pub use rights::{PassOf, RootOf};
+pub use words::WordsOf;
+
+#[cfg(test)]
+mod tests;

@@ -1,0 +1,151 @@
+//! Opening: all memory first, then the table, then a pass for each thread and a root for each key.
+ghost use Rattle.std.specs.Prelude.{◌≡◌, ℕ, ◌+◌, ◌^◌, ◌<◌, ◌≤◌, ◌++◌, [], Some, slice_get, replicate, vec_len, vec_capacity, IfOk, IfErr};
+ghost use Rattle.atomic_table.specs.Table.{opening};
+ghost use Rattle.lot_rights.specs.Layout.{word_at, letter_at, word_count};
+ghost use Rattle.lot_rights.specs.Rule.{Ruled};
+ghost use Rattle.lot_rights.specs.Start.{passes_from, roots_from, all_rights, pass_at, root_at, OpensWell};
+
+use crate::kind::{Kind, RightsSeat, RightsShared};
+use crate::layout::words_for;
+use crate::rights::{PassOf, RootOf};
+use crate::tells::Deal;
+use crate::words::WordsOf;
+use atomic_table::{Refused, Table};
+use std::alloc::{AllocError, Global};
+
+/// Gives each thread its pass.
+fn deal_passes<K: Kind>(
+    shared: &RightsShared<K>,
+    seat: &mut RightsSeat<K>,
+    threads: usize,
+    passes: &mut Vec<PassOf<K>>,
+)
+    requires table { (seat.old.table_id ≡ shared.now.table_id) × (0 < shared.now.table_id.words) × (shared.now.table_id.words < 2 ^ 64) }
+    requires near { (t : ℕ) → t < threads → letter_at t < shared.now.table_id.words }
+    requires all { seat.old.me ≡ (passes_from (K.scheme shared.now.key) 0 threads ++ roots_from (K.scheme shared.now.key) (K.scheme shared.now.key).first_key (K.scheme shared.now.key).keys, []) }
+    requires room { (vec_len passes.old ≡ 0) × (threads ≤ vec_capacity passes.old) }
+    ensures table { seat.new.table_id ≡ shared.now.table_id }
+    ensures rest { seat.new.me ≡ (roots_from (K.scheme shared.now.key) (K.scheme shared.now.key).first_key (K.scheme shared.now.key).keys, []) }
+    ensures len { vec_len passes.new ≡ threads }
+    ensures each { (k : ℕ) → k < threads → slice_get passes.new.items k ≡ Some (pass_at (K.scheme shared.now.key) shared.now.table_id k) }
+{
+    for thread in 0..threads {
+        let own = shared.split_seat::<Deal>(seat);
+        passes.push_reserved(PassOf { seat: own, thread });
+    }
+}
+
+/// Gives each key its root. The keys' numbers begin at `first`.
+fn deal_roots<K: Kind>(
+    shared: &RightsShared<K>,
+    seat: &mut RightsSeat<K>,
+    first: usize,
+    keys: usize,
+    roots: &mut Vec<RootOf<K>>,
+)
+    requires table { (seat.old.table_id ≡ shared.now.table_id) × (0 < shared.now.table_id.words) × (shared.now.table_id.words < 2 ^ 64) }
+    requires few { first + keys < 2 ^ 32 }
+    requires near { (c : ℕ) → c < first + keys → word_at c < shared.now.table_id.words }
+    requires calm { (c u : ℕ) → ¬ K.names ((K.scheme shared.now.key).fresh_root c) u }
+    requires all { seat.old.me ≡ (roots_from (K.scheme shared.now.key) first keys, []) }
+    requires room { (vec_len roots.old ≡ 0) × (keys ≤ vec_capacity roots.old) }
+    ensures len { vec_len roots.new ≡ keys }
+    ensures each { (k : ℕ) → k < keys → slice_get roots.new.items k ≡ Some (root_at (K.scheme shared.now.key) shared.now.table_id (first + k)) }
+{
+    for i in 0..keys {
+        let own = shared.split_seat::<Deal>(seat);
+        let key = first + i;
+        roots.push_reserved(RootOf { seat: own, key });
+    }
+}
+
+/// The memory of a table's rights, before anything lies in it.
+struct Rooms<K: Kind> {
+    passes: Vec<PassOf<K>>,
+    roots: Vec<RootOf<K>>,
+}
+
+impl<K: Kind> Rooms<K> {
+    fn new(alloc: Global, threads: usize, keys: usize) -> Result<Rooms<K>, AllocError>
+        ensures empty { IfOk result (λ r. (vec_len r.passes ≡ 0) × (vec_len r.roots ≡ 0)) }
+        ensures fits { IfOk result (λ r. (threads ≤ vec_capacity r.passes) × (keys ≤ vec_capacity r.roots)) }
+    {
+        let passes = Vec::with_capacity(alloc, threads)?;
+        match Vec::with_capacity(alloc, keys) {
+            Ok(roots) => Ok(Rooms { passes, roots }),
+            Err(refused) => {
+                passes.destroy_empty();
+                Err(refused)
+            }
+        }
+    }
+}
+
+impl<K: Kind> WordsOf<K> {
+    /// Opens a table with these slots, whose words are all 0. The answer has a pass for each thread and a root for each key, in order,
+    /// where the keys begin at `first`. Where memory is refused, the slots come back.
+    pub fn open(
+        alloc: Global,
+        key: &K::Key,
+        slots: Vec<K::Slot>,
+        threads: usize,
+        first: usize,
+        keys: usize,
+    ) -> Result<(WordsOf<K>, Vec<PassOf<K>>, Vec<RootOf<K>>), Vec<K::Slot>>
+        requires size { ((K.scheme key.now).threads ≡ threads) × ((K.scheme key.now).first_key ≡ first) × ((K.scheme key.now).keys ≡ keys) }
+        requires few { (threads < 2 ^ 32) × (first + keys < 2 ^ 32) }
+        requires calm { (c u : ℕ) → ¬ K.names ((K.scheme key.now).fresh_root c) u }
+        requires opens { OpensWell (K.scheme key.now) (replicate (word_count threads (first + keys)) 0) slots.items }
+        ensures table { IfOk result (λ r. (r.0.table.words ≡ word_count threads (first + keys)) × (r.0.table.slots ≡ vec_len slots) × (r.0.key ≡ key.now)) }
+        ensures passes { IfOk result (λ r. (vec_len r.1 ≡ threads) × ((k : ℕ) → k < threads → slice_get r.1.items k ≡ Some (pass_at (K.scheme key.now) r.0.table k))) }
+        ensures roots { IfOk result (λ r. (vec_len r.2 ≡ keys) × ((k : ℕ) → k < keys → slice_get r.2.items k ≡ Some (root_at (K.scheme key.now) r.0.table (first + k)))) }
+        ensures rule { IfOk result (λ r. Ruled (K.scheme r.0.key) (opening (replicate (word_count threads (first + keys)) 0) slots.items (all_rights (K.scheme r.0.key)))) }
+        ensures back { IfErr result (λ e. e.items ≡ slots.items) }
+    {
+        match vec![in alloc; 0; words_for(threads, first + keys)] {
+            Ok(words) => WordsOf::open_with(alloc, key, words, slots, threads, first, keys),
+            Err(_) => Err(slots),
+        }
+    }
+
+    /// Opens a table with these words and slots, as `open` does with words that are all 0.
+    pub fn open_with(
+        alloc: Global,
+        key: &K::Key,
+        words: Vec<u64>,
+        slots: Vec<K::Slot>,
+        threads: usize,
+        first: usize,
+        keys: usize,
+    ) -> Result<(WordsOf<K>, Vec<PassOf<K>>, Vec<RootOf<K>>), Vec<K::Slot>>
+        requires size { ((K.scheme key.now).threads ≡ threads) × ((K.scheme key.now).first_key ≡ first) × ((K.scheme key.now).keys ≡ keys) }
+        requires few { (threads < 2 ^ 32) × (first + keys < 2 ^ 32) }
+        requires wide { vec_len words ≡ word_count threads (first + keys) }
+        requires calm { (c u : ℕ) → ¬ K.names ((K.scheme key.now).fresh_root c) u }
+        requires opens { OpensWell (K.scheme key.now) words.items slots.items }
+        ensures table { IfOk result (λ r. (r.0.table.words ≡ word_count threads (first + keys)) × (r.0.table.slots ≡ vec_len slots) × (r.0.key ≡ key.now)) }
+        ensures passes { IfOk result (λ r. (vec_len r.1 ≡ threads) × ((k : ℕ) → k < threads → slice_get r.1.items k ≡ Some (pass_at (K.scheme key.now) r.0.table k))) }
+        ensures roots { IfOk result (λ r. (vec_len r.2 ≡ keys) × ((k : ℕ) → k < keys → slice_get r.2.items k ≡ Some (root_at (K.scheme key.now) r.0.table (first + k)))) }
+        ensures rule { IfOk result (λ r. Ruled (K.scheme r.0.key) (opening words.items slots.items (all_rights (K.scheme r.0.key)))) }
+        ensures back { IfErr result (λ e. e.items ≡ slots.items) }
+    {
+        let Rooms {
+            mut passes,
+            mut roots,
+        } = match Rooms::new(alloc, threads, keys) {
+            Ok(rooms) => rooms,
+            Err(_) => return Err(slots),
+        };
+        match Table::new(alloc, words.as_slice(), slots, key) {
+            Ok((table, mut seat)) => {
+                deal_passes(&table.shared, &mut seat, threads, &mut passes);
+                deal_roots(&table.shared, &mut seat, first, keys, &mut roots);
+                Ok((WordsOf { table }, passes, roots))
+            }
+            Err(Refused { slots }) => {
+                passes.destroy_empty();
+                Err(slots)
+            }
+        }
+    }
+}

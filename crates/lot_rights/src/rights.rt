@@ -1,0 +1,114 @@
+//! The rights: a pass for each thread, and a root for each key.
+ghost use Rattle.std.specs.Prelude.{◌≡◌, ℕ, ◌^◌, ◌<◌, ◌∷◌, []};
+ghost use Rattle.lot_rights.specs.Layout.{word_at, letter_at};
+ghost use Rattle.lot_rights.specs.declared.views.Right.TheVariants.{Pass, Root};
+ghost use Rattle.lot_rights.specs.Shown.{the_pass, the_root};
+
+use crate::kind::{Kind, RightsSeat};
+use crate::layout::{letter_of_thread, word_of_key};
+use crate::named::OfOpening;
+use std::marker::Model;
+
+/// The right to act as one thread. Contracts see it as its table and a `PassView`.
+///
+/// It isn't `Drop`: spend it where the table is closed. Each call that takes it gives it back.
+pub struct PassOf<K: Kind> {
+    pub(crate) seat: RightsSeat<K>,
+    pub(crate) thread: usize,
+    pub(crate) ghost one: { seat.me ≡ (Pass (the_pass K.no_pass seat.me.0) ∷ [], []) },
+    pub(crate) ghost thread_is: { thread ≡ (the_pass K.no_pass seat.me.0).thread },
+    pub(crate) ghost near: { letter_at thread < seat.table_id.words },
+    pub(crate) ghost small: { seat.table_id.words < 2 ^ 64 },
+}
+
+impl<K: Kind> Model for PassOf<K> {
+    ghost use Rattle.lot_rights.specs.Shown.{PassShown, the_pass};
+
+    ghost Value = { PassShown K.Pass };
+
+    ghost view = { λ s. record { table = s.seat.table_id; pass = the_pass K.no_pass s.seat.me.0 } };
+}
+
+impl<K: Kind> OfOpening for PassOf<K> {
+    ghost use Rattle.std.specs.Prelude.{◌≡◌};
+
+    ghost is_of = { λ o p. p.table ≡ K.table_in o };
+}
+
+impl<K: Kind> PassOf<K> {
+    /// The number of its thread.
+    pub fn thread(&self) -> usize
+        ensures is { result ≡ self.now.pass.thread }
+        ensures near { letter_at result < self.now.table.words }
+    {
+        self.thread
+    }
+
+    /// The place of its thread's letter.
+    #[inline(always)]
+    pub fn letter(&self) -> usize
+        ensures is { result ≡ letter_at self.now.pass.thread }
+        ensures near { result < self.now.table.words }
+    {
+        letter_of_thread(self.thread)
+    }
+}
+
+/// The right to change what one key's root has. Contracts see it as its table and a `RootView`.
+///
+/// It lies in the bucket of its key, and is only taken out while that bucket is locked. Spend it where the table is closed.
+#[derive(Drop)]
+pub struct RootOf<K: Kind> {
+    pub(crate) seat: RightsSeat<K>,
+    pub(crate) key: usize,
+    pub(crate) ghost one: { seat.me ≡ (Root (the_root K.no_root seat.me.0) ∷ [], []) },
+    pub(crate) ghost key_is: { key ≡ (the_root K.no_root seat.me.0).key },
+    pub(crate) ghost near: { word_at key < seat.table_id.words },
+    pub(crate) ghost small: { seat.table_id.words < 2 ^ 64 },
+    pub(crate) ghost letters_near: { (u : ℕ) → K.names (the_root K.no_root seat.me.0).own u → letter_at u < seat.table_id.words },
+}
+
+impl<K: Kind> Model for RootOf<K> {
+    ghost use Rattle.lot_rights.specs.Shown.{RootShown, the_root};
+
+    ghost Value = { RootShown K.Root };
+
+    ghost view = { λ s. record { table = s.seat.table_id; root = the_root K.no_root s.seat.me.0 } };
+}
+
+impl<K: Kind> OfOpening for RootOf<K> {
+    ghost use Rattle.std.specs.Prelude.{◌≡◌};
+
+    ghost is_of = { λ o q. q.table ≡ K.table_in o };
+}
+
+impl<K: Kind> RootOf<K> {
+    /// The number of its key.
+    pub fn key(&self) -> usize
+        ensures is { result ≡ self.now.root.key }
+        ensures near { word_at result < self.now.table.words }
+        ensures letters { (u : ℕ) → K.names self.now.root.own u → letter_at u < self.now.table.words }
+    {
+        self.key
+    }
+
+    /// The place of its key's word.
+    #[inline(always)]
+    pub fn word(&self) -> usize
+        ensures is { result ≡ word_at self.now.root.key }
+        ensures near { result < self.now.table.words }
+    {
+        word_of_key(self.key)
+    }
+
+    /// The place of the letter of a thread that the root names.
+    #[inline(always)]
+    pub fn letter_of(&self, thread: usize) -> usize
+        requires { K.names self.now.root.own thread }
+        ensures is { result ≡ letter_at thread }
+        ensures near { result < self.now.table.words }
+    {
+        let _seat = &self.seat;
+        letter_of_thread(thread)
+    }
+}

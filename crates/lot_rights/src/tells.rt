@@ -1,0 +1,178 @@
+//! What a step tells the right that makes it. A call picks it by the name that it gives for `N`, which is std's `Brand`.
+use crate::kind::Kind;
+use crate::views::Right;
+use atomic_table::{Join, Play, Split};
+use std::collections::LinkedList;
+use std::marker::{Brand, PhantomData};
+
+/// Of the number found (at a store, the number stored), and the pass after.
+pub trait TellsPass<P> {
+    ghost use Rattle.std.specs.Prelude.{ℕ};
+    ghost use Rattle.lot_rights.specs.declared.views.PassView.{PassView};
+
+    ghost then: { ℕ → PassView P → Type 0 };
+}
+
+impl<P> TellsPass<P> for Brand {
+    ghost then = { λ n p. Unit {0} };
+}
+
+/// Of the number found, and the pass and the root after.
+pub trait TellsBoth<P, R> {
+    ghost use Rattle.std.specs.Prelude.{ℕ};
+    ghost use Rattle.lot_rights.specs.declared.views.PassView.{PassView};
+    ghost use Rattle.lot_rights.specs.declared.views.RootView.{RootView};
+
+    ghost then: { ℕ → PassView P → RootView R → Type 0 };
+}
+
+impl<P, R> TellsBoth<P, R> for Brand {
+    ghost then = { λ n p q. Unit {0} };
+}
+
+/// Of the number found, and the root after.
+pub trait TellsRoot<R> {
+    ghost use Rattle.std.specs.Prelude.{ℕ};
+    ghost use Rattle.lot_rights.specs.declared.views.RootView.{RootView};
+
+    ghost then: { ℕ → RootView R → Type 0 };
+}
+
+impl<R> TellsRoot<R> for Brand {
+    ghost then = { λ n q. Unit {0} };
+}
+
+/// Of a value that leaves its slot and another that comes back: the slot, what the pass knows while the value is out, and what it
+/// knows in the end.
+pub trait Moves<P, S> {
+    ghost use Rattle.std.specs.Prelude.{ℕ};
+
+    ghost slot: { ℕ };
+
+    ghost mid: { P → S → Type 0 };
+
+    ghost back: { P → P → Type 0 };
+}
+
+impl<P, S> Moves<P, S> for Brand {
+    ghost slot = { 0 };
+
+    ghost mid = { λ p x. Unit {0} };
+
+    ghost back = { λ p q. Unit {0} };
+}
+
+/// Of two passes.
+pub trait TellsTwo {
+    ghost fact: { Type 0 };
+}
+
+impl TellsTwo for Brand {
+    ghost fact = { Unit {0} };
+}
+
+pub struct PassStep<K, N> {
+    of: PhantomData<(K, N)>,
+}
+
+impl<K: Kind, N: TellsPass<K::Pass>> Play<K::Slot, LinkedList<Right<K::Pass, K::Root>>>
+    for PassStep<K, N> {
+    ghost use Rattle.lot_rights.specs.Shown.{the_pass};
+    ghost use Rattle.lot_rights.specs.Steps.{ToldPass};
+
+    ghost then = { λ s me n me'. ToldPass (the_pass K.no_pass me.0) N.then n me' };
+}
+
+pub struct BothStep<K, N> {
+    of: PhantomData<(K, N)>,
+}
+
+impl<K: Kind, N: TellsBoth<K::Pass, K::Root>> Play<K::Slot, LinkedList<Right<K::Pass, K::Root>>>
+    for BothStep<K, N> {
+    ghost use Rattle.std.specs.Prelude.{drop};
+    ghost use Rattle.lot_rights.specs.Shown.{the_pass, the_root};
+    ghost use Rattle.lot_rights.specs.Steps.{ToldBoth};
+
+    ghost then = { λ s me n me'. ToldBoth (the_pass K.no_pass me.0) (the_root K.no_root (drop 1 me.0)) N.then n me' };
+}
+
+pub struct RootStep<K, N> {
+    of: PhantomData<(K, N)>,
+}
+
+impl<K: Kind, N: TellsRoot<K::Root>> Play<K::Slot, LinkedList<Right<K::Pass, K::Root>>>
+    for RootStep<K, N> {
+    ghost use Rattle.lot_rights.specs.Shown.{the_root};
+    ghost use Rattle.lot_rights.specs.Steps.{ToldRoot};
+
+    ghost then = { λ s me n me'. ToldRoot (the_root K.no_root me.0) N.then n me' };
+}
+
+pub struct OutStep<K, N> {
+    of: PhantomData<(K, N)>,
+}
+
+impl<K: Kind, N: Moves<K::Pass, K::Slot>> Play<K::Slot, LinkedList<Right<K::Pass, K::Root>>>
+    for OutStep<K, N> {
+    ghost use Rattle.lot_rights.specs.Shown.{the_pass};
+    ghost use Rattle.lot_rights.specs.Slots.{ToldOut};
+
+    ghost then = { λ s me n me'. ToldOut N.slot (the_pass K.no_pass me.0) N.mid me' };
+}
+
+pub struct BackStep<K, N> {
+    of: PhantomData<(K, N)>,
+}
+
+impl<K: Kind, N: Moves<K::Pass, K::Slot>> Play<K::Slot, LinkedList<Right<K::Pass, K::Root>>>
+    for BackStep<K, N> {
+    ghost use Rattle.lot_rights.specs.Shown.{the_pass};
+    ghost use Rattle.lot_rights.specs.Slots.{ToldBack};
+
+    ghost then = { λ s me n me'. ToldBack (the_pass K.no_pass me.0) N.back me' };
+}
+
+pub struct TwoStep<K, N> {
+    of: PhantomData<(K, N)>,
+}
+
+impl<K: Kind, N: TellsTwo> Play<K::Slot, LinkedList<Right<K::Pass, K::Root>>> for TwoStep<K, N> {
+    ghost use Rattle.std.specs.Prelude.{drop};
+    ghost use Rattle.lot_rights.specs.Shown.{the_pass};
+    ghost use Rattle.lot_rights.specs.Steps.{ToldTwo};
+
+    ghost then = { λ s me n me'. ToldTwo (the_pass K.no_pass me.0) (the_pass K.no_pass (drop 1 me.0)) N.fact me me' };
+}
+
+/// The rights of two seats, one after the other.
+pub struct Both;
+
+impl<P, R> Join<LinkedList<Right<P, R>>> for Both {
+    ghost use Rattle.std.specs.Prelude.{◌++◌, []};
+
+    ghost both = { λ v w. v ++ w };
+
+    ghost spent = { [] };
+}
+
+/// The first right of a seat, and the others.
+pub struct FirstAndRest;
+
+impl<P, R> Split<LinkedList<Right<P, R>>> for FirstAndRest {
+    ghost use Rattle.std.specs.Prelude.{take, drop};
+
+    ghost left = { λ v. take 1 v };
+
+    ghost right = { λ v. drop 1 v };
+}
+
+/// The first right of a seat goes to a new one.
+pub struct Deal;
+
+impl<P, R> Split<LinkedList<Right<P, R>>> for Deal {
+    ghost use Rattle.std.specs.Prelude.{take, drop};
+
+    ghost left = { λ v. drop 1 v };
+
+    ghost right = { λ v. take 1 v };
+}

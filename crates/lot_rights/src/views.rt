@@ -1,0 +1,47 @@
+//! What contracts see of rights. No value of these types is made by running code.
+use lot_core::{Event, Seen};
+use std::collections::LinkedList;
+
+/// One single access to a word, as the history tells it.
+pub enum Access {
+    /// An event of the model, and what was seen of it.
+    Makes(Event, Seen),
+    /// A letter was posted: the key whose root owed it, the thread, and the token.
+    Posts(u64, u64, u64),
+    /// A thread looked for its letter: the thread, and the token where a letter lay, which it then has collected.
+    Collects(u64, Option<u64>),
+    /// A thread found the word of a key to be this number, and left it so: the thread, the key, the number.
+    Finds(u64, u64, u64),
+}
+
+/// An access that was made, and how many were made before it in the whole table.
+pub struct Entry {
+    pub at: u64,
+    pub access: Access,
+}
+
+/// A thread's pass.
+pub struct PassView<P> {
+    /// The number of the thread.
+    pub thread: u64,
+    /// The entries of the accesses that were made with this pass, in their order.
+    pub made: LinkedList<Entry>,
+    /// What it knows beside that.
+    pub own: P,
+}
+
+/// The root of a key.
+pub struct RootView<R> {
+    /// The number of the key.
+    pub key: u64,
+    /// The entries of the accesses that were made with this root alone, in their order.
+    pub made: LinkedList<Entry>,
+    /// What it knows beside that.
+    pub own: R,
+}
+
+/// A right: the pass of a thread, or the root of a key.
+pub enum Right<P, R> {
+    Pass(PassView<P>),
+    Root(RootView<R>),
+}

@@ -1,0 +1,10 @@
+pub mod Closes
+pub mod Headlines
+pub mod Machine
+pub mod Names
+pub mod Opens
+pub mod Roots
+pub mod Rows
+pub mod Schedules
+pub mod Turning
+pub mod Turns

@@ -1,0 +1,200 @@
+-- The turns of the calls that take a pass alone: whatever world the words stand for, the step leads to one that they stand for then.
+use Rattle.std.proofs.Common.{◌≡◌, ◌≢◌, ℕ, zero, suc, ◌+◌, ◌-◌, ◌*◌, ◌%◌, ◌^◌, ◌<◌, ◌≤◌, ◌⊎◌, ◌==◌, Bool, true, false, List, get_or, set, refl, sym, ap, subst, ◌∙◌, inl, inr, ⊎_elim, arith, eq-eqb, ne_eqb, MatchBool, Option, Some, None}
+use mathlib.Core.Option as maybe
+use prog.Atomic.{either}
+use Rattle.lot_core.specs.World.{put}
+use Rattle.lot_core.specs.Sums.{bit}
+use Rattle.lot_core.specs.Parts.{PartSeeks}
+use Rattle.lot_core.specs.declared.events.Event.{Event}
+use Rattle.lot_core.specs.declared.events.Event.TheVariants.{SemTake, SemMark, SemFree}
+use Rattle.lot_core.specs.declared.events.Seen.{Seen}
+use Rattle.lot_core.specs.declared.events.Seen.TheVariants.{Bool as Saw, Done}
+use Rattle.lot_rights.specs.declared.views.Access.TheVariants.{Makes, Finds}
+use Rattle.lot_rights.specs.declared.views.PassView.{PassView}
+use Rattle.lot_rights.specs.History.{maker}
+use Rattle.lot_rights.specs.Layout.{word_at}
+use Rattle.lot_rights.specs.World.{awake}
+use Rattle.lot_rights.specs.Steps.{Notes, PassTurn, AllowsPass, pass_after}
+use Rattle.lot_rights.proofs.Puts.{by_test}
+use Rattle.lot_rights.proofs.Staying.{pass_stays}
+use Rattle.lot_sems.specs.declared.taking.Taken.TheVariants.{Got, Empty, Busy}
+use Rattle.lot_sems.specs.declared.views.SemPassView.{SemPassView}
+use Rattle.lot_sems.specs.World.{Numbers, IsAmong, SemWorld, word_of, NoticesFit, PassKnows}
+use Rattle.lot_sems.specs.Rule.{IsStep, Fits, scheme}
+use Rattle.lot_sems.specs.Calls.{IsSeeking, MayTake, MayGive, seeking, got, gave, Found, Tries, Takes}
+use Rattle.lot_sems.proofs.Machine.{awake_is, in_no_line, seeks_letters}
+use Rattle.lot_sems.proofs.Rows.{turned, same_line, row_got, row_empty, row_mark, row_free}
+use Rattle.lot_sems.proofs.Turning.{after, fits_after, pass_after as knows_after, passes_else, out_same, left_few}
+
+-- ---- what each step tells
+-- a load of the word of k, by a thread that only tries
+abbrev pub Looks : PassView SemPassView → ℕ → ℕ → PassView SemPassView → Type 0
+Looks p k zero q = Tries p k Empty q
+Looks p k (suc zero) q = Tries p k Empty q
+Looks p k (suc (suc n)) q = Tries p k Busy q
+
+-- and by a thread that seeks a permit where none is left
+abbrev pub Seeks : PassView SemPassView → ℕ → ℕ → PassView SemPassView → Type 0
+Seeks p k zero q = Takes p k Empty q
+Seeks p k (suc zero) q = Takes p k Empty q
+Seeks p k (suc (suc n)) q = Takes p k Busy q
+
+-- an exchange that takes a permit, where the word was old
+abbrev pub Swaps : PassView SemPassView → ℕ → ℕ → ℕ → PassView SemPassView → Type 0
+Swaps p k old n q = MatchBool (n == old) (Notes p (got p.own k) (Makes (SemTake p.thread k) (Saw true)) q) ((x : ℕ) × Found p k x q)
+
+abbrev pub Marks : PassView SemPassView → ℕ → ℕ → PassView SemPassView → Type 0
+Marks p k n q = MatchBool (n == 0) (Notes p p.own (Makes (SemMark p.thread k) Done) q) ((x : ℕ) × (x ≢ 0) × Found p k x q)
+
+-- an exchange that gives one back
+abbrev pub Frees : PassView SemPassView → ℕ → ℕ → ℕ → PassView SemPassView → Type 0
+Frees p k old n q = MatchBool (n == old) (Notes p (gave p.own k) (Makes (SemFree p.thread k) (Saw true)) q) ((x : ℕ) × Found p k x q)
+
+-- ---- what a number found tells the caller
+pub looks_empty : (p : PassView SemPassView) (k n : ℕ) (q : PassView SemPassView) → n < 2 → Looks p k n q → Tries p k Empty q
+looks_empty p k zero q few h = h
+looks_empty p k (suc zero) q few h = h
+looks_empty p k (suc (suc n)) q few h = absurd (omega arith)
+
+pub looks_busy : (p : PassView SemPassView) (k n : ℕ) (q : PassView SemPassView) → 2 ≤ n → Looks p k n q → Tries p k Busy q
+looks_busy p k zero q some h = absurd (omega arith)
+looks_busy p k (suc zero) q some h = absurd (omega arith)
+looks_busy p k (suc (suc n)) q some h = h
+
+pub seeks_empty : (p : PassView SemPassView) (k n : ℕ) (q : PassView SemPassView) → n < 2 → Seeks p k n q → Takes p k Empty q
+seeks_empty p k zero q few h = h
+seeks_empty p k (suc zero) q few h = h
+seeks_empty p k (suc (suc n)) q few h = absurd (omega arith)
+
+pub seeks_busy : (p : PassView SemPassView) (k n : ℕ) (q : PassView SemPassView) → 2 ≤ n → Seeks p k n q → Takes p k Busy q
+seeks_busy p k zero q some h = absurd (omega arith)
+seeks_busy p k (suc zero) q some h = absurd (omega arith)
+seeks_busy p k (suc (suc n)) q some h = h
+
+-- the exchange was made, or it failed
+pub swapped : (p : PassView SemPassView) (k old n : ℕ) (q : PassView SemPassView) → n ≡ old → Swaps p k old n q → Tries p k Got q
+swapped p k old n q e h = subst (λ b. MatchBool b (Tries p k Got q) ((x : ℕ) × Found p k x q)) (eq-eqb n old e) h
+
+pub unswapped : (p : PassView SemPassView) (k old n : ℕ) (q : PassView SemPassView) → n ≢ old → Swaps p k old n q → Tries p k Busy q
+unswapped p k old n q ne h = subst (λ b. MatchBool b (Tries p k Got q) ((x : ℕ) × Found p k x q)) (ne_eqb n old ne) h
+
+-- ---- words
+pub bit_few : (b : Bool) → bit b ≤ 1
+bit_few true = omega arith
+bit_few false = omega arith
+
+even_clear : (left old : ℕ) (b : Bool) → word_of left b ≡ old → old % 2 ≡ 0 → b ≡ false
+even_clear left old true e even = absurd (let f : 2 * left + 1 ≡ old = e in omega arith)
+even_clear left old false e even = refl
+
+module _ (size : Numbers) (p : PassView SemPassView) (k : ℕ) (among : IsAmong size k) (w : SemWorld) (ws : List ℕ) (hs : List (maybe.Option (Unit {0}))) (ok : Fits size w ws) (fit : PassKnows size w p.thread p.own) where
+  abbrev t : ℕ
+  t = p.thread
+
+  abbrev n : ℕ
+  n = get_or ws (word_at k) 0
+
+  abbrev left : ℕ
+  left = w.part.sems.left k
+
+  found : n ≡ word_of left (w.part.sems.parked k)
+  found = ok.words.words k among
+
+  -- ---- nothing changes
+  finds : (x : ℕ) → x ≡ n → (then : PassView SemPassView → Type 0) → ((i : ℕ) → then (pass_after p p.own i (Finds t k x))) → PassTurn (scheme size) (word_at k) x p then w ws hs
+  finds x is then told = pass_stays (scheme size) (word_at k) x w ws hs ok is p fit (Finds t k x) (refl, (is ∙ found, refl)) then told
+
+  module _ (up : p.own.asleep ≡ false) where
+    up' : w.spot t ≡ awake
+    up' = awake_is (w.spot t) (fit.asleep ∙ up)
+
+    -- ---- an event of a thread that is awake, after which the line is as it was
+    makes : (x l : ℕ) (b : Bool) (o : ℕ) (s : Option ℕ) (own : SemPassView) (e : Event) (saw : Seen) (then : PassView SemPassView → Type 0) → maker e ≡ t
+        → IsStep size w.part e saw (turned w.part t k l b (w.part.sems.line k) o s) → x ≡ word_of l b → s ≡ own.seeks → own.asleep ≡ false → own.out ≡ set p.own.out k o
+        → ((i : ℕ) → then (pass_after p own i (Makes e saw))) → PassTurn (scheme size) (word_at k) x p then w ws hs
+    makes x l b o s own e saw then by step is seeks asleep out told =
+        let line : List ℕ = w.part.sems.line k in
+        record {
+          own = own;
+          access = Makes e saw;
+          world = after size w t k among l b line o s w.spot w.owes;
+          fits = fits_after size w t k among l b line o s w.spot w.owes ws ok x is refl e saw step
+              (subst (λ z. NoticesFit size.threads z (put w.part.seeks t s) w.owes w.spot) (sym (same_line w.part k)) (seeks_letters size.threads w.part.sems.line w.part.seeks w.owes w.spot ok.letters t up' s));
+          pass = knows_after size w t k among l b line o s w.spot w.owes p.own own fit seeks (fit.asleep ∙ (up ∙ sym asleep)) out;
+          passes = passes_else size w t k among l b line o s w.spot w.owes (λ u ne. refl);
+          roots = λ d y h. (h.0, (λ i. same_line w.part k i d) ∙ h.1, h.2);
+          made = ((λ i. 2 * by i), (step, refl));
+          told = told;
+        }
+
+    -- ---- taking
+    module _ (aim : (p.own.seeks ≡ None) ⊎ (p.own.seeks ≡ Some k)) where
+      may : (w.part.seeks t ≡ None) ⊎ PartSeeks w.part t k
+      may = ⊎_elim {C = (w.part.seeks t ≡ None) ⊎ PartSeeks w.part t k} (λ e. inl (fit.seeks ∙ e))
+          (λ e. inr (fit.seeks ∙ e, in_no_line size.threads w.part.sems.line w.part.seeks w.owes w.spot ok.letters t up' k)) aim
+
+      got_turn : (old : ℕ) → 2 ≤ old → n ≡ old → (then : PassView SemPassView → Type 0) → ((i : ℕ) → then (pass_after p (got p.own k) i (Makes (SemTake t k) (Saw true))))
+          → PassTurn (scheme size) (word_at k) (old - 2) p then w ws hs
+      got_turn old some is then told =
+          let few = bit_few (w.part.sems.parked k) in
+          makes (old - 2) (left - 1) (w.part.sems.parked k) (w.part.sems.out k t + 1) None (got p.own k) (SemTake t k) (Saw true) then refl
+          (row_got w.part size t fit.near k among may (λ none. omega (arith, found, is, few))) (omega (arith, found, is, few)) refl up (ap (λ z. set p.own.out k (z + 1)) (sym (fit.out k))) told
+
+      empty_turn : (x : ℕ) → x ≡ n → x < 2 → (then : PassView SemPassView → Type 0) → ((i : ℕ) → then (pass_after p (seeking p.own k) i (Makes (SemTake t k) (Saw false))))
+          → PassTurn (scheme size) (word_at k) x p then w ws hs
+      empty_turn x is few then told =
+          makes x left (w.part.sems.parked k) (w.part.sems.out k t) (Some k) (seeking p.own k) (SemTake t k) (Saw false) then refl
+          (row_empty w.part size t fit.near k among may (omega (arith, found, is))) (is ∙ found) refl up (out_same size w t k p.own fit) told
+
+      swap_turn : (old : ℕ) → 2 ≤ old → PassTurn (scheme size) (word_at k) (either (n == old) (old - 2) n) p (Swaps p k old n) w ws hs
+      swap_turn old some = by_test (λ b. PassTurn (scheme size) (word_at k) (either b (old - 2) n) p (λ q. MatchBool b (Notes p (got p.own k) (Makes (SemTake t k) (Saw true)) q) ((x : ℕ) × Found p k x q)) w ws hs) n old
+          (λ is. got_turn old some is (λ q. Notes p (got p.own k) (Makes (SemTake t k) (Saw true)) q) (λ i. (i, refl)))
+          (λ _. finds n refl (λ q. (x : ℕ) × Found p k x q) (λ i. (n, (i, refl))))
+
+      seek_turn : (x : ℕ) → x ≡ n → PassTurn (scheme size) (word_at k) x p (Seeks p k x) w ws hs
+      seek_turn zero is = empty_turn 0 is (omega arith) (Seeks p k 0) (λ i. (i, refl))
+      seek_turn (suc zero) is = empty_turn (suc zero) is (omega arith) (Seeks p k (suc zero)) (λ i. (i, refl))
+      seek_turn (suc (suc m)) is = finds (suc (suc m)) is (Seeks p k (suc (suc m))) (λ i. (suc (suc m), (i, refl)))
+
+    -- ---- marking
+    mark_turn : p.own.seeks ≡ Some k → PassTurn (scheme size) (word_at k) (either (n == 0) 1 n) p (Marks p k n) w ws hs
+    mark_turn aim = by_test (λ b. PassTurn (scheme size) (word_at k) (either b 1 n) p (λ q. MatchBool b (Notes p p.own (Makes (SemMark t k) Done) q) ((x : ℕ) × (x ≢ 0) × Found p k x q)) w ws hs) n 0
+        (λ is. let none : left ≡ 0 = omega (arith, found, is) in
+        makes 1 left true (w.part.sems.out k t) (w.part.seeks t) p.own (SemMark t k) Done (λ q. Notes p p.own (Makes (SemMark t k) Done) q) refl
+        (row_mark w.part size t fit.near k among (fit.seeks ∙ aim, in_no_line size.threads w.part.sems.line w.part.seeks w.owes w.spot ok.letters t up' k) none)
+        (omega (arith, none)) fit.seeks up (out_same size w t k p.own fit) (λ i. (i, refl)))
+        (λ ne. finds n refl (λ q. (x : ℕ) × (x ≢ 0) × Found p k x q) (λ i. (n, ne, (i, refl))))
+
+    -- ---- giving back
+    free_turn : p.own.seeks ≡ None → 1 ≤ get_or p.own.out k 0 → (old : ℕ) → old % 2 ≡ 0 → PassTurn (scheme size) (word_at k) (either (n == old) ((old + 2) % 2 ^ 64) n) p (Frees p k old n) w ws hs
+    free_turn aim some old even = by_test (λ b. PassTurn (scheme size) (word_at k) (either b ((old + 2) % 2 ^ 64) n) p (λ q. MatchBool b (Notes p (gave p.own k) (Makes (SemFree t k) (Saw true)) q) ((x : ℕ) × Found p k x q)) w ws hs) n old
+        (λ is.
+        let clear : w.part.sems.parked k ≡ false = even_clear left old (w.part.sems.parked k) (sym found ∙ is) even in
+        let bare : word_of left (w.part.sems.parked k) ≡ 2 * left = ap (word_of left) clear ∙ omega arith in
+        let more : word_of (left + 1) (w.part.sems.parked k) ≡ 2 * (left + 1) = ap (word_of (left + 1)) clear ∙ omega arith in
+        let few = left_few size w ws ok k in
+        makes ((old + 2) % 2 ^ 64) (left + 1) (w.part.sems.parked k) (w.part.sems.out k t - 1) (w.part.seeks t) (gave p.own k) (SemFree t k) (Saw true) (λ q. Notes p (gave p.own k) (Makes (SemFree t k) (Saw true)) q) refl
+        (row_free w.part size t fit.near k among (fit.seeks ∙ aim) (subst (λ z. 1 ≤ z) (sym (fit.out k)) some) clear)
+        (omega (arith, found, is, bare, more, few)) fit.seeks up (ap (λ z. set p.own.out k (z - 1)) (sym (fit.out k))) (λ i. (i, refl)))
+        (λ _. finds n refl (λ q. (x : ℕ) × Found p k x q) (λ i. (n, (i, refl))))
+
+  look_turn : (x : ℕ) → x ≡ n → PassTurn (scheme size) (word_at k) x p (Looks p k x) w ws hs
+  look_turn zero is = finds 0 is (Looks p k 0) (λ i. (0, omega arith, (i, refl)))
+  look_turn (suc zero) is = finds (suc zero) is (Looks p k (suc zero)) (λ i. (suc zero, omega arith, (i, refl)))
+  look_turn (suc (suc m)) is = finds (suc (suc m)) is (Looks p k (suc (suc m))) (λ i. (suc (suc m), (i, refl)))
+
+module _ (size : Numbers) (p : PassView SemPassView) (k : ℕ) (among : IsAmong size k) where
+  pub looks : AllowsPass (scheme size) (word_at k) (λ n. n) p (Looks p k)
+  looks w ws hs ok fit small = look_turn size p k among w ws hs ok fit (get_or ws (word_at k) 0) refl
+
+  pub seeks : MayTake p.own k → AllowsPass (scheme size) (word_at k) (λ n. n) p (Seeks p k)
+  seeks may w ws hs ok fit small = seek_turn size p k among w ws hs ok fit may.0 may.1 (get_or ws (word_at k) 0) refl
+
+  pub swaps : MayTake p.own k → (old : ℕ) → 2 ≤ old → AllowsPass (scheme size) (word_at k) (λ n. either (n == old) (old - 2) n) p (Swaps p k old)
+  swaps may old some w ws hs ok fit small = swap_turn size p k among w ws hs ok fit may.0 may.1 old some
+
+  pub marks : IsSeeking p.own k → AllowsPass (scheme size) (word_at k) (λ n. either (n == 0) 1 n) p (Marks p k)
+  marks is w ws hs ok fit small = mark_turn size p k among w ws hs ok fit is.0 is.1
+
+  pub frees : MayGive p.own k → (old : ℕ) → old % 2 ≡ 0 → AllowsPass (scheme size) (word_at k) (λ n. either (n == old) ((old + 2) % 2 ^ 64) n) p (Frees p k old)
+  frees may old even w ws hs ok fit small = free_turn size p k among w ws hs ok fit may.0.0 may.0.1 may.1 old even

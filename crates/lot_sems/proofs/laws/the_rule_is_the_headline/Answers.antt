@@ -1,0 +1,5 @@
+use Rattle.lot_sems.proofs.Headlines.{headline}
+use Rattle.lot_sems.proofs.laws.the_rule_is_the_headline.Goals as goal
+
+pub returns : goal.returns
+returns c = headline

@@ -1,0 +1,31 @@
+use Rattle.std.proofs.Common.{◌≡◌, ◌+◌, ℕ, [], length, replicate, sym, ap, subst, ◌∙◌, arith}
+use Rattle.lot_rights.specs.Layout.{word_count}
+use Rattle.lot_rights.specs.Start.{OpensWell}
+use Rattle.lot_sems.specs.World.{Numbers, numbers}
+use Rattle.lot_sems.specs.Opening.{opening_words, with_permits}
+use Rattle.lot_sems.specs.Rule.{scheme}
+use Rattle.lot_sems.proofs.Opens.{opens_well, as_wide}
+use Rattle.lot_sems.proofs.words.SemWords.open.Goals as goal
+
+pub open_with-requires-clause-wide : goal.open_with-requires-clause-wide
+open_with-requires-clause-wide c =
+    let count = length c.args.permits.items in
+    let len : c.args.permits.len ≡ count = c.args.permits.ok.0 in
+    let wide = as_wide c.in-Ok.words.items c.args.low c.args.permits.items c.args.permits.len in
+    c.fill.new.words.ok.0 ∙ (ap (λ xs. length {A = ℕ} xs) c.fill.ensures.words ∙ (wide ∙ (sym c.in-Ok.words.ok.0 ∙ (c.in-Ok.ensures.len ∙ c.words_for.ensures))))
+
+pub open_with-requires-clause-opens : goal.open_with-requires-clause-opens
+open_with-requires-clause-opens c =
+    let threads = c.args.threads in
+    let low = c.args.low in
+    let permits = c.args.permits.items in
+    let size : Numbers = record { threads = threads; low = low; permits = permits } in
+    let len : c.args.permits.len ≡ length permits = c.args.permits.ok.0 in
+    let keys : c.len-keys.result ≡ length permits = c.len-keys.ensures ∙ len in
+    let zeros : c.in-Ok.words.items ≡ replicate (word_count threads (low + length permits)) 0 =
+    c.in-Ok.ensures.items_if_clones_equal (λ y h. h) ∙ ap (λ n. replicate n 0) (c.words_for.ensures ∙ ap (λ m. word_count threads (low + m)) keys) in
+    let words : c.fill.new.words.items ≡ opening_words size = c.fill.ensures.words ∙ (λ i. with_permits (zeros i) low permits (len i)) in
+    let start : numbers c.new-start.result ≡ size = (λ i. record { threads = c.new-start.ensures.size.0 i; low = c.new-start.ensures.size.1 i; permits = (c.new-start.ensures.permits i).items }) in
+    let well = opens_well size (λ i h. c.fill.ensures.small i (omega arith)) in
+    subst (OpensWell (scheme (numbers c.new-start.result)) c.fill.new.words.items) (sym c.new.ensures.items)
+    (subst (λ ws. OpensWell (scheme (numbers c.new-start.result)) ws []) (sym words) (subst (λ z. OpensWell (scheme z) (opening_words size) []) (sym start) well))

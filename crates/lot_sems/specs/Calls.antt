@@ -1,0 +1,93 @@
+-- What each kind of call does to the rights that it is handed.
+use Rattle.std.specs.Prelude.{◌≡◌, ℕ, zero, suc, ◌+◌, ◌-◌, ◌<◌, ◌≤◌, ◌⊎◌, ◌++◌, if◌then◌else◌, Bool, true, false, List, [], ◌∷◌, slice_index, slice_set, Option, Some, None}
+use Rattle.lot_core.specs.declared.events.Event.TheVariants.{SemTake}
+use Rattle.lot_core.specs.declared.events.Seen.TheVariants.{Bool as Saw}
+use Rattle.lot_rights.specs.declared.views.Access.TheVariants.{Makes, Collects, Finds}
+use Rattle.lot_rights.specs.declared.views.PassView.{PassView}
+use Rattle.lot_rights.specs.Steps.{Notes}
+use Rattle.lot_sems.specs.declared.taking.Taken.{Taken}
+use Rattle.lot_sems.specs.declared.taking.Taken.TheVariants.{Got, Empty, Busy}
+use Rattle.lot_sems.specs.declared.views.SemPassView.{SemPassView}
+use Rattle.lot_sems.specs.declared.views.SemRootView.{SemRootView}
+
+-- ---- the pass
+-- the thread is awake, and seeks nothing
+abbrev pub IsCalm : SemPassView → Type 0
+IsCalm p = (p.asleep ≡ false) × (p.seeks ≡ None)
+
+-- it is awake, and seeks a permit of k
+abbrev pub IsSeeking : SemPassView → ℕ → Type 0
+IsSeeking p k = (p.asleep ≡ false) × (p.seeks ≡ Some k)
+
+-- it may take a permit of k
+abbrev pub MayTake : SemPassView → ℕ → Type 0
+MayTake p k = (p.asleep ≡ false) × ((p.seeks ≡ None) ⊎ (p.seeks ≡ Some k))
+
+-- it is calm, and has a permit of k
+abbrev pub MayGive : SemPassView → ℕ → Type 0
+MayGive p k = IsCalm p × (1 ≤ slice_index p.out k)
+
+abbrev pub seeking : SemPassView → ℕ → SemPassView
+seeking p k = record p { seeks = Some k }
+
+-- one permit of k more is out with it
+abbrev pub got : SemPassView → ℕ → SemPassView
+got p k = record p { seeks = None; out = slice_set p.out k (slice_index p.out k + 1) }
+
+-- one permit of k less
+abbrev pub gave : SemPassView → ℕ → SemPassView
+gave p k = record p { out = slice_set p.out k (slice_index p.out k - 1) }
+
+abbrev pub woken : SemPassView → SemPassView
+woken p = record p { asleep = false }
+
+abbrev pub parked_pass : SemPassView → Bool → SemPassView
+parked_pass p queued = if queued then record p { asleep = true } else p
+
+-- ---- the root
+abbrev pub parked_root : SemRootView → ℕ → Bool → SemRootView
+parked_root q t queued = if queued then record q { line = q.line ++ t ∷ [] } else q
+
+-- the first of the line is taken, and owed a letter
+abbrev pub passed_root : SemRootView → List ℕ → SemRootView
+passed_root q [] = q
+passed_root q (u ∷ us) = record q { line = us; owes = Some u }
+
+abbrev pub paid_root : SemRootView → SemRootView
+paid_root q = record q { owes = None }
+
+-- what a permit that comes back adds to the word, where this is the first of the line: the permit, less the parked bit where nobody may be left behind
+abbrev pub raise_of : Option ℕ → Bool → ℕ
+raise_of None more = 2
+raise_of (Some u) true = 2
+raise_of (Some u) false = 1
+
+-- ---- tries to take a permit of k
+-- q is the pass p, which found this word and left it so
+abbrev pub Found : PassView SemPassView → ℕ → ℕ → PassView SemPassView → Type 0
+Found p k word q = Notes p p.own (Finds p.thread k word) q
+
+abbrev pub Tries : PassView SemPassView → ℕ → Taken → PassView SemPassView → Type 0
+Tries p k Got q = Notes p (got p.own k) (Makes (SemTake p.thread k) (Saw true)) q
+Tries p k Empty q = (word : ℕ) × (word < 2) × Found p k word q
+Tries p k Busy q = (word : ℕ) × Found p k word q
+
+-- the same, where a thread that finds none seeks one
+abbrev pub Takes : PassView SemPassView → ℕ → Taken → PassView SemPassView → Type 0
+Takes p k Got q = Notes p (got p.own k) (Makes (SemTake p.thread k) (Saw true)) q
+Takes p k Empty q = Notes p (seeking p.own k) (Makes (SemTake p.thread k) (Saw false)) q
+Takes p k Busy q = (word : ℕ) × Found p k word q
+
+-- ---- letters
+-- q is the pass p after it found no letter
+abbrev pub FoundNone : PassView SemPassView → PassView SemPassView → Type 0
+FoundNone p q = Notes p p.own (Collects p.thread None) q
+
+-- q is the pass p after it collected its letter, whose token is 0 as all tokens are: it was asleep, and may try again
+abbrev pub Collected : PassView SemPassView → ℕ → PassView SemPassView → Type 0
+Collected p token q = (token ≡ 0) × (p.own.asleep ≡ true) × Notes p (woken p.own) (Collects p.thread (Some token)) q
+
+-- by the number in the letter
+abbrev pub CollectedBy : PassView SemPassView → ℕ → PassView SemPassView → Type 0
+CollectedBy p zero q = FoundNone p q
+CollectedBy p (suc token) q = Collected p token q

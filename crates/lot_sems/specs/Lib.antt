@@ -1,0 +1,8 @@
+pub mod Calls
+pub mod Closing
+pub mod Headline
+pub mod Opening
+pub mod Rule
+pub mod Schedule
+pub mod Shown
+pub mod World

@@ -1,0 +1,73 @@
+-- The rule of a table of semaphore words: there is a world that the words and the rights stand for, and it tells the semaphore part of the model, which is sound.
+use Rattle.std.specs.Prelude.{◌≡◌, ℕ, ◌<◌, ◌⊎◌, false, List, [], length, replicate, Some, None}
+use Rattle.std.specs.List.{Contains}
+use Rattle.std.proofs.Common.{sym, ◌∙◌}
+use Rattle.lot_core.specs.World.{none_taken}
+use Rattle.lot_core.specs.declared.events.Event.{Event}
+use Rattle.lot_core.specs.declared.events.Seen.{Seen}
+use Rattle.lot_core.specs.Parts.{SemaphorePart, SemaphoreStep}
+use Rattle.lot_core.specs.Sound.{IsSoundSemaphorePart}
+use Rattle.lot_rights.specs.Rule.{Scheme}
+use Rattle.lot_rights.specs.Settled.{HasOneOutcome}
+use Rattle.lot_rights.specs.World.{letters_of}
+use Rattle.lot_sems.specs.declared.views.SemPassView.{SemPassView}
+use Rattle.lot_sems.specs.declared.views.SemRootView.{SemRootView}
+use Rattle.lot_sems.specs.World.{Numbers, key_count, permits_of, SemWorld, word_in, SemWordsFit, LettersFit, PassKnows, RootKnows}
+
+-- all permits are left, and nobody is marked, queued or seeking
+abbrev pub opening_part : Numbers → SemaphorePart
+opening_part size = record { sems = none_taken (permits_of size); seeks = λ t. None }
+
+-- a step of the model's semaphore part, in a table of these numbers
+abbrev pub IsStep : Numbers → SemaphorePart → Event → Seen → SemaphorePart → Type 0
+IsStep size a e saw b = SemaphoreStep size.threads size.low (length size.permits) a e saw b
+
+-- permits are conserved, sleepers are marked, no permit is left lying, one line each
+abbrev pub IsSound : Numbers → SemaphorePart → Type 0
+IsSound size a = IsSoundSemaphorePart size.threads (permits_of size) a
+
+-- the words stand for the world, whose part is sound and whose letters fit; a word has room for all permits
+pub record Fits (size : Numbers) (w : SemWorld) (ws : List ℕ) : Type 0 where
+  pub few : (k : ℕ) → permits_of size k < 4294967296
+  pub words : SemWordsFit size w ws
+  pub sound : IsSound size w.part
+  pub letters : LettersFit size.threads w
+
+-- ---- the rights at the opening, among m keys
+abbrev pub fresh_pass : ℕ → SemPassView
+fresh_pass m = record { seeks = None; asleep = false; out = replicate m 0 }
+
+abbrev pub fresh_root : SemRootView
+fresh_root = record { line = []; owes = None }
+
+-- what no pass and no root knows
+abbrev pub no_pass : SemPassView
+no_pass = fresh_pass 0
+
+abbrev pub no_root : SemRootView
+no_root = fresh_root
+
+-- whom a root names: those in its line, and whom it owes a letter
+abbrev pub names : SemRootView → ℕ → Type 0
+names q u = Contains q.line u ⊎ (q.owes ≡ Some u)
+
+abbrev pub scheme : Numbers → Scheme (Unit {0}) SemPassView SemRootView
+scheme size = record {
+  World = SemWorld;
+  Part = SemaphorePart;
+  Fits = λ w ws hs. Fits size w ws;
+  PassFits = PassKnows size;
+  RootFits = RootKnows size;
+  told_by = λ w. record { part = w.part; letters = letters_of w.spot };
+  start = record { part = opening_part size; letters = λ t. 0 };
+  Step = IsStep size;
+  word_in = word_in;
+  threads = size.threads;
+  first_key = size.low;
+  keys = length size.permits;
+  fresh_pass = λ t. fresh_pass (key_count size);
+  fresh_root = λ k. fresh_root;
+}
+
+pub one_outcome : (size : Numbers) → HasOneOutcome (scheme size)
+one_outcome size a b c e s h k = h.2 ∙ sym k.2

@@ -1,0 +1,35 @@
+-- What the schedules of the tests know of the rights of a table with one semaphore, whose number is 1.
+use Rattle.std.specs.Prelude.{◌≡◌, ℕ, true, List, length, Some, None}
+use Rattle.atomic_table.specs.Seated.{TableId}
+use Rattle.lot_rights.specs.Shown.{PassShown, RootShown}
+use Rattle.lot_sems.specs.declared.views.SemPassView.{SemPassView}
+use Rattle.lot_sems.specs.declared.views.SemRootView.{SemRootView}
+use Rattle.lot_sems.specs.World.{Numbers}
+use Rattle.lot_sems.specs.Calls.{IsCalm, IsSeeking, MayGive}
+
+abbrev pub IsOne : Numbers → Type 0
+IsOne size = (size.low ≡ 1) × (length size.permits ≡ 1)
+
+-- a pass of the table, of the thread t
+abbrev pub IsOf : TableId → ℕ → PassShown SemPassView → Type 0
+IsOf table t p = (p.table ≡ table) × (p.pass.thread ≡ t) × (length p.pass.own.out ≡ 2)
+
+-- it is calm
+abbrev pub IsFree : TableId → ℕ → PassShown SemPassView → Type 0
+IsFree table t p = IsOf table t p × IsCalm p.pass.own
+
+-- it is calm, and has a permit
+abbrev pub Has : TableId → ℕ → PassShown SemPassView → Type 0
+Has table t p = IsOf table t p × MayGive p.pass.own 1
+
+-- it seeks one
+abbrev pub Seeks : TableId → ℕ → PassShown SemPassView → Type 0
+Seeks table t p = IsOf table t p × IsSeeking p.pass.own 1
+
+-- it sleeps in the line
+abbrev pub Sleeps : TableId → ℕ → PassShown SemPassView → Type 0
+Sleeps table t p = IsOf table t p × (p.pass.own.asleep ≡ true) × (p.pass.own.seeks ≡ Some 1)
+
+-- the root of the semaphore, with this line, which owes nothing
+abbrev pub HasLine : TableId → List ℕ → RootShown SemRootView → Type 0
+HasLine table line q = (q.table ≡ table) × (q.root.key ≡ 1) × (q.root.own.line ≡ line) × (q.root.own.owes ≡ None)

@@ -1,0 +1,38 @@
+//! The kind of table that semaphore words make.
+use crate::start::Start;
+use crate::views::{SemPassView, SemRootView};
+use lot_rights::{Kind, PassOf, RootOf};
+
+/// Semaphore words: a word is twice the permits that are left of its semaphore, and the parked bit. Contracts alone read it.
+pub struct Semaphores;
+
+impl Kind for Semaphores {
+    ghost use Rattle.lot_sems.specs.World.{numbers};
+    ghost use Rattle.lot_sems.specs.Rule.{scheme, no_pass, no_root, names, one_outcome};
+
+    type Slot = ();
+
+    type Pass = SemPassView;
+
+    type Root = SemRootView;
+
+    type Key = Start;
+
+    ghost scheme = { λ start. scheme (numbers start) };
+
+    ghost no_pass = { no_pass };
+
+    ghost no_root = { no_root };
+
+    ghost names = { names };
+
+    ghost table_in = { λ o. o.sems };
+
+    ghost one_outcome = { λ start. one_outcome (numbers start) };
+}
+
+/// The right to act as one thread on the semaphores. Contracts see it as its table and a `PassView`, whose `own` is a `SemPassView`.
+pub type SemPass = PassOf<Semaphores>;
+
+/// The right to change the line of one semaphore. Contracts see it as its table and a `RootView`, whose `own` is a `SemRootView`.
+pub type SemRoot = RootOf<Semaphores>;

@@ -1,0 +1,59 @@
+//! Opening: the table, a pass for each thread and a root for each semaphore.
+ghost use Rattle.std.specs.Prelude.{◌≡◌, ℕ, ◌+◌, ◌<◌, ◌≤◌, [], Some, length, slice_get, slice_index, vec_len, IfOk};
+ghost use Rattle.atomic_table.specs.Table.{opening};
+ghost use Rattle.lot_core.specs.declared.state.TheConstants.{MAX_THREADS, MAX_KEYS};
+ghost use Rattle.lot_rights.specs.Layout.{word_at, word_count};
+ghost use Rattle.lot_rights.specs.Rule.{Ruled};
+ghost use Rattle.lot_rights.specs.Start.{all_rights, pass_at, root_at};
+ghost use Rattle.lot_sems.specs.Opening.{with_permits, opening_words};
+ghost use Rattle.lot_sems.specs.Rule.{scheme};
+
+use crate::kind::{SemPass, SemRoot};
+use crate::start::Start;
+use crate::words::{PERMIT, SemWords};
+use lot_rights::{WordsFault, WordsOf, word_of_key, words_for};
+use std::alloc::Global;
+
+/// Writes each semaphore's permits into its word.
+fn fill(words: &mut Vec<u64>, low: usize, permits: &Vec<u32>)
+    requires room { low + vec_len permits.now ≤ MAX_KEYS }
+    requires words { (k : ℕ) → k < low + vec_len permits.now → word_at k < vec_len words.old }
+    ensures words { words.new.items ≡ with_permits words.old.items low permits.now.items (vec_len permits.now) }
+    ensures small { (i : ℕ) → i < vec_len permits.now → slice_index permits.now.items i < 4294967296 }
+{
+    for i in 0..permits.len() {
+        words[word_of_key(low + i)] = PERMIT * permits[i] as u64;
+    }
+}
+
+impl SemWords {
+    /// Opens a table for so many threads, with a semaphore for each of these numbers of permits, whose keys begin at `low`. The answer
+    /// has a pass for each thread and a root for each semaphore, in order. There may be no semaphore, and a semaphore without permits.
+    pub fn open(
+        alloc: Global,
+        threads: usize,
+        low: usize,
+        permits: Vec<u32>,
+    ) -> Result<(SemWords, Vec<SemPass>, Vec<SemRoot>), WordsFault>
+        requires limits { (0 < threads) × (threads ≤ MAX_THREADS) × (low + vec_len permits ≤ MAX_KEYS) }
+        ensures size { IfOk result (λ r. r.0.size ≡ record { threads = threads; low = low; permits = permits.items }) }
+        ensures passes { IfOk result (λ r. (vec_len r.1 ≡ threads) × ((t : ℕ) → t < threads → slice_get r.1.items t ≡ Some (pass_at (scheme r.0.size) r.0.table t))) }
+        ensures roots { IfOk result (λ r. (vec_len r.2 ≡ vec_len permits) × ((i : ℕ) → i < vec_len permits → slice_get r.2.items i ≡ Some (root_at (scheme r.0.size) r.0.table (low + i)))) }
+        ensures rule { IfOk result (λ r. Ruled (scheme r.0.size) (opening (opening_words r.0.size) [] (all_rights (scheme r.0.size)))) }
+    {
+        let keys = permits.len();
+        let mut words = match vec![in alloc; 0; words_for(threads, low + keys)] {
+            Ok(words) => words,
+            Err(_) => return Err(WordsFault::NoMemory),
+        };
+        fill(&mut words, low, &permits);
+        let start = Start::new(threads, low, &permits);
+        match WordsOf::open_with(alloc, &start, words, Vec::new(alloc), threads, low, keys) {
+            Ok((words, passes, roots)) => Ok((SemWords { words }, passes, roots)),
+            Err(slots) => {
+                slots.destroy_empty();
+                Err(WordsFault::NoMemory)
+            }
+        }
+    }
+}

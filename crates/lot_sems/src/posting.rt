@@ -1,0 +1,57 @@
+//! Letters, by which a thread is told that it was taken from a line.
+ghost use Rattle.std.specs.Prelude.{◌≡◌, MatchOption, Some};
+ghost use Rattle.lot_rights.specs.declared.views.Access.TheVariants.{Posts};
+ghost use Rattle.lot_rights.specs.Steps.{RootNotes};
+ghost use Rattle.lot_sems.specs.World.{IsAmong};
+ghost use Rattle.lot_sems.specs.Calls.{paid_root, FoundNone, Collected};
+
+use crate::kind::{SemPass, SemRoot};
+use crate::words::SemWords;
+use lot_rights::word_of_key;
+use std::marker::Brand;
+
+/// A thread's word where no letter lies.
+const NO_LETTER: u64 = 0;
+
+/// A thread's word where a letter lies. All letters of semaphores have the token 0.
+const LETTER: u64 = 1;
+
+impl SemWords {
+    /// Posts the letter that the root owes, by one store, while the bucket of the semaphore is still locked.
+    pub fn post(&self, root: SemRoot, thread: usize) -> SemRoot
+        requires table { root.table ≡ self.now.table }
+        requires owes { root.root.own.owes ≡ Some thread }
+        ensures table { result.table ≡ root.table }
+        ensures posted { RootNotes root.root (paid_root root.root.own) (Posts root.root.key thread 0) result.root }
+    {
+        let words = &self.words;
+        let letter = root.letter_of(thread);
+        words.store_root::<Brand, usize>(root, letter, LETTER, thread)
+    }
+
+    /// Collects the pass's letter, by one swap, and answers its token, which is 0, where a letter lay: the thread was taken from the
+    /// semaphore's line, and may try again. A pass that does not sleep has no letter. A thread that sleeps calls it until a letter lies;
+    /// what wakes it tells nothing.
+    pub fn collect(&self, pass: SemPass) -> (SemPass, Option<u32>)
+        requires { pass.table ≡ self.now.table }
+        ensures table { result.0.table ≡ pass.table }
+        ensures letter { MatchOption result.1 (FoundNone pass.pass result.0.pass) (λ token. Collected pass.pass token result.0.pass) }
+    {
+        let words = &self.words;
+        let place = pass.letter();
+        let (pass, letter) = words.swap::<Brand, ()>(pass, place, NO_LETTER, ());
+        if letter == NO_LETTER {
+            return (pass, None);
+        }
+        (pass, Some((letter - LETTER) as u32))
+    }
+
+    /// The semaphore's word as it was just now: twice the permits that are left, and 1 more where it is marked as parked. It is an
+    /// observation, of which nothing is promised.
+    #[inline(always)]
+    pub fn bits(&self, key: usize) -> u64
+        requires { IsAmong self.now.size key }
+    {
+        self.words.peek(word_of_key(key))
+    }
+}

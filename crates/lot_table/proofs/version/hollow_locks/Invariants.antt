@@ -1,5 +1,0 @@
-use Rattle.std.proofs.Common.{◌≡◌, ◌≤◌, vec_len, vec_capacity}
-use Rattle.lot_table.proofs.version.hollow_locks.Given as goal
-
-abbrev pub invariant-loop : goal.invariant-loop
-invariant-loop g l = record { count : vec_len l.locks ≡ l.counter; room : l.size ≤ vec_capacity l.locks }

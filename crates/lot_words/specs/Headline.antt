@@ -1,0 +1,55 @@
+-- What a table of lock words promises: at every moment all of this holds, of one world. Each lock has one owner at most, sleepers are marked, someone is trying, each notice is in one place, the values are lawful, and one legal history has led here.
+use Rattle.std.specs.Prelude.{◌≡◌, ◌≢◌, ◌↔◌, ℕ, ◌<◌, ◌⊎◌, true, false, List, [], Option, Some}
+use Rattle.std.specs.List.{Contains}
+use Rattle.atomic_table.specs.Table.{State}
+use Rattle.lot_core.specs.Parts.{LockStep}
+use Rattle.lot_core.specs.Sound.{OneOwner, SleepersAreMarked, IsOnce}
+use Rattle.lot_rights.specs.declared.views.Entry.{Entry}
+use Rattle.lot_rights.specs.declared.views.Right.{Right}
+use Rattle.lot_rights.specs.History.{events_in, ModelRun}
+use Rattle.lot_rights.specs.Rule.{number, RightFits, IsRight, IsHistory}
+use Rattle.lot_rights.specs.Seating.{times_in, Seated}
+use Rattle.lot_rights.specs.World.{awake, queued, owed, waits_on, IsLetter, letters_of, WordsFit}
+use Rattle.lot_words.specs.declared.views.LockPassView.{LockPassView}
+use Rattle.lot_words.specs.declared.views.LockRootView.{LockRootView}
+use Rattle.lot_words.specs.declared.views.Size.{Size}
+use Rattle.lot_words.specs.World.{LockWorld, word_of, Holds, HoldsParked, IsHanded, TellsTrue}
+use Rattle.lot_words.specs.Values.{IsLawful}
+use Rattle.lot_words.specs.Rule.{sizes_of, part_of, opening_part, scheme}
+
+module _ {V : Type 0} (w : LockWorld V) where
+  -- Letters fit: a thread that was queued and has not collected is in the line of the lock that it wants, or is owed a letter by that root alone, or a letter lies for it; the others have none. A letter tells the truth
+  pub record LettersFit : Type 0 where
+    pub asleep : (t : ℕ) → ((w.pass t).asleep ≡ true) ↔ (w.spot t ≢ awake)
+    pub aims : (t l : ℕ) → waits_on (w.spot t) ≡ Some l → (w.pass t).aim ≡ Some l
+    pub lines : (t l : ℕ) → Contains (w.root l).line t ↔ (w.spot t ≡ queued l)
+    pub owes : (t l token : ℕ) → ((w.root l).owes ≡ Some (t, token)) ↔ (w.spot t ≡ owed l token)
+    pub tells : (t l token : ℕ) → IsLetter (w.spot t) l token → TellsTrue (w.word l).owner t token
+    -- one line each, and once
+    pub once_in_line : (l : ℕ) → IsOnce (w.root l).line
+
+  -- of n threads
+  pub record IsSound (n : ℕ) : Type 0 where
+    pub one_owner : OneOwner (part_of w).locks.held (part_of w).locks.has
+    -- who has a lock, and who wants one: his pass says so, unless the lock was handed to him and he has not collected
+    pub has_is : (l t : ℕ) → ((part_of w).locks.has l t ≡ true) ↔ (Holds (w.pass t) l ⊎ IsHanded (w.spot t) l)
+    pub wants_is : (l t : ℕ) → ((part_of w).wants t ≡ Some l) ↔ (((w.pass t).aim ≡ Some l) × ¬ IsHanded (w.spot t) l)
+    pub sleepers_are_marked : SleepersAreMarked (part_of w).locks.line (part_of w).locks.parked
+    pub someone_is_trying : (l : ℕ) → (part_of w).locks.held l ≡ false → (part_of w).locks.line l ≢ [] → (t : ℕ) × ((t < n) × ((part_of w).wants t ≡ Some l) × ¬ Contains (w.root l).line t)
+    pub found_parked : (l t : ℕ) → HoldsParked (w.pass t) l → (part_of w).locks.parked l ≡ true
+
+pub record Headline {V Q : Type 0} (keeps : ℕ → V → Type 0) (grows : V → V → Type 0) (share : ℕ → V → Q) (size : Size) (xs : List V) (s : State (Option V) (List (Right (LockPassView V) LockRootView))) : Type 0 where
+  pub world : LockWorld V
+  -- each word is a lock's two bits or a thread's letter
+  pub words : WordsFit word_of (sizes_of size) world s.words
+  -- each right is in exactly one place, and knows what the world says of it
+  pub rights : Seated number (RightFits (scheme keeps grows share size xs) world) s.views
+  pub in_place : (i : ℕ) → IsRight (scheme keeps grows share size xs) i → times_in number i s.views ≡ 1
+  pub letters : LettersFit world
+  pub sound : IsSound world size.threads
+  -- the values are lawful: those that owners have, and those in the slots where nobody holds the lock
+  pub lawful : IsLawful keeps grows share size.threads size.locks world.pass s.homes
+  -- one legal history, of which the rights have all entries, has led here; without its notices it is a run of the model
+  pub log : List Entry
+  pub history : IsHistory (scheme keeps grows share size xs) log s.views (record { part = part_of world; letters = letters_of world.spot })
+  pub model : ModelRun (LockStep size.threads size.locks) opening_part (events_in log) (part_of world)
