@@ -54,12 +54,12 @@ module _ {V Part : Type 0} (keeps : ℕ → V → Type 0) (grows : V → V → T
     others = λ u t seen else. subst (λ x. part t x ≡ part t value) (seen_newly before after key held got u seen) (others t (λ e. else (e ∙ sym (ap (λ (p : PassView V). p.thread) got.after_is))));
   }
 
-let_go_of : (owns : List Bool) (k : ℕ) → get_or (set owns k false) k false ≡ false
+pub let_go_of : (owns : List Bool) (k : ℕ) → get_or (set owns k false) k false ≡ false
 let_go_of [] k = refl
 let_go_of (b ∷ owns) zero = refl
 let_go_of (b ∷ owns) (suc k) = let_go_of owns k
 
-not_both : (b : Bool) → b ≡ true → b ≡ false → ⊥
+pub not_both : (b : Bool) → b ≡ true → b ≡ false → ⊥
 not_both b e f = cc
 
 unowned : (bs : List Bool) (k j : ℕ) → ((i : ℕ) → get_or bs i false ≡ true → ⊥) → get_or (set (set bs k true) k false) j false ≡ true → ⊥
@@ -87,3 +87,9 @@ left_second grows before after first second both left = record {
       (λ else. both.alone k else other (sym (get_or-set_other before.owns first.key k false false else) ∙ subst (λ (p : PassView _). Owns p k) left owned));
   grown = λ u seen. ⊎_elim (λ same. absurd (both.two same.0)) (λ else. both.grown_second u else.1) (at_set before.seen first.key second.key first.value u (subst (λ (p : PassView _). HasSeen p second.key u) left seen));
 }
+
+-- whoever let go the one lock that it owned owns nothing
+pub left_all : {V : Type 0} (grows : V → V → Type 0) (pass : PassView V) (held : HeldView V) → Holding grows pass held → OwnsNone (leaving pass held.key held.value)
+left_all grows pass held holding = λ k owned. dite (ℕ_discrete k held.key)
+    (λ e. not_both (get_or (set pass.owns held.key false) k false) owned (ap (λ j. get_or (set pass.owns held.key false) j false) e ∙ let_go_of pass.owns held.key))
+    (λ else. holding.alone k else (sym (get_or-set_other pass.owns held.key k false false else) ∙ owned))

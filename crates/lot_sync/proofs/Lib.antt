@@ -1,5 +1,6 @@
 pub mod Rests
 pub mod Turns
+pub mod Places
 pub mod Starts
 pub mod Holdings
 pub mod Waking

@@ -1,6 +1,6 @@
 -- The rights of an opening, and the values that come back when nobody got a lock.
-use Rattle.std.proofs.Common.{◌≡◌, ℕ, ◌<◌, List, [], ◌∷◌, zero, suc, length, get_or, replicate, slice_get, Some, None, refl, sym, ap, subst, ◌∙◌, inl, inr, arith}
-use Rattle.std.proofs.lemmas.List.{length-replicate}
+use Rattle.std.proofs.Common.{◌≡◌, ℕ, ◌+◌, ◌<◌, ◌++◌, List, [], ◌∷◌, map, zero, suc, length, get_or, replicate, slice_get, Some, None, refl, sym, ap, subst, ◌∙◌, inl, inr, arith}
+use Rattle.std.proofs.lemmas.List.{length-replicate, length-map}
 use mathlib.Core.Option.{some, some-injective}
 use lib.ListN.{get_elem?}
 use Rattle.atomic_table.specs.Seated.{TableId}
@@ -17,7 +17,16 @@ use Rattle.lot_words.specs.World.{IsHeld}
 use Rattle.lot_words.specs.Values.{HasSeen}
 use Rattle.lot_words.specs.Closing.{HoldsNone}
 use Rattle.lot_sync.specs.Passes.{IsFresh}
-use Rattle.lot_sync.specs.Opened.{IsOpened}
+use Rattle.lot_conds.specs.declared.views.CondRootView.{CondRootView}
+use Rattle.lot_park.specs.declared.parts.both.OneOf.{OneOf}
+use Rattle.lot_park.specs.declared.parts.both.OneOf.TheVariants.{First, Second}
+use Rattle.lot_park.specs.Parking.{debts}
+use Rattle.lot_waits.specs.Counts.{CountsView, uncounted}
+use Rattle.lot_waits.specs.Opening.{IsIdleRoot}
+use Rattle.lot_sync.specs.Opened.{AreUnused, IsOpened}
+use Rattle.lot_sync.specs.Passes.{AreCounts, debts_of}
+use Rattle.lot_sync.specs.Starting.{ArePaired, IsFreeRoot, IsIdleAt}
+use Rattle.lot_sync.proofs.Places.{at_both, at_mapped}
 use Rattle.lot_sync.proofs.Turns.{some_at}
 
 some_one : {A : Type 0} (x y : A) → Some x ≡ Some y → x ≡ y
@@ -56,8 +65,8 @@ unheld zero l is = is
 unheld (suc m) zero is = is
 unheld (suc m) (suc l) is = unheld m l is
 
-module _ {V : Type 0} (grows : V → V → Type 0) (itself : (x : V) → grows x x) (values : List V) (threads : ℕ) (words : LockWordsShown) (passes : List (PassShown (LockPassView V))) (roots : List (RootShown LockRootView))
-    (opened : IsOpened values threads words passes roots) where
+module _ {V : Type 0} (grows : V → V → Type 0) (itself : (x : V) → grows x x) (values : List V) (threads : ℕ) (words : LockWordsShown) (passes : List (PassShown (LockPassView V)))
+    (unused : AreUnused values threads words passes) where
   fresh_at : (t : ℕ) → t < threads → IsFresh grows words.table values threads (pass_at words.table values t)
   fresh_at t near = record {
     is_of = refl;
@@ -75,19 +84,10 @@ module _ {V : Type 0} (grows : V → V → Type 0) (itself : (x : V) → grows x
   }
 
   passes_at : (t : ℕ) → t < length passes → slice_get passes t ≡ Some (pass_at words.table values t)
-  passes_at t near = opened.passes_are t (subst (λ n. t < n) opened.passes_long near)
-
-  roots_at : (l : ℕ) → l < length roots → slice_get roots l ≡ Some (root_at words.table l)
-  roots_at l near = opened.roots_are l (subst (λ n. l < n) opened.roots_long near)
+  passes_at t near = unused.passes_are t (subst (λ n. t < n) unused.passes_long near)
 
   pub passes_fresh : All (IsFresh grows words.table values threads) passes
-  passes_fresh = all_by_place (IsFresh grows words.table values threads) (pass_at words.table values) passes passes_at (λ t near. fresh_at t (subst (λ n. t < n) opened.passes_long near))
-
-  pub roots_own : All (λ (r : RootShown LockRootView). r.table ≡ words.table) roots
-  roots_own = all_by_place (λ (r : RootShown LockRootView). r.table ≡ words.table) (root_at words.table) roots roots_at (λ l near. refl)
-
-  pub root_is : (l : ℕ) (r : RootShown LockRootView) → slice_get roots l ≡ Some r → r ≡ root_at words.table l
-  root_is l r at = (stands_at (root_at words.table) roots roots_at l r at).1
+  passes_fresh = all_by_place (IsFresh grows words.table values threads) (pass_at words.table values) passes passes_at (λ t near. fresh_at t (subst (λ n. t < n) unused.passes_long near))
 
   pub passes_own : All (λ (p : PassShown (LockPassView V)). p.table ≡ words.table) passes
   passes_own = All-weaker (IsFresh grows words.table values threads) (λ (p : PassShown (LockPassView V)). p.table ≡ words.table) (λ p f. f.is_of) passes passes_fresh
@@ -97,27 +97,66 @@ module _ {V : Type 0} (grows : V → V → Type 0) (itself : (x : V) → grows x
 
   pub each_thread : (t : ℕ) → t < words.size.threads → Any (λ (p : PassShown (LockPassView V)). p.pass.thread ≡ t) passes
   each_thread t near = some_by_place (λ (p : PassShown (LockPassView V)). p.pass.thread ≡ t) (pass_at words.table values) passes passes_at t
-      (subst (λ n. t < n) (opened.words_threads ∙ sym opened.passes_long) near) refl
-
-  pub each_key : (k : ℕ) → k < words.size.locks → Any (λ (r : RootShown LockRootView). r.root.key ≡ k) roots
-  each_key k near = some_by_place (λ (r : RootShown LockRootView). r.root.key ≡ k) (root_at words.table) roots roots_at k
-      (subst (λ n. k < n) (opened.words_locks ∙ sym opened.roots_long) near) refl
+      (subst (λ n. t < n) (unused.words_threads ∙ sym unused.passes_long) near) refl
 
   pub values_back : (back : List V) → length back ≡ words.size.locks
       → ((l : ℕ) (y : V) → slice_get back l ≡ Some y → Any (λ (p : PassShown (LockPassView V)). HasSeen p.pass.own l y) passes) → back ≡ values
-  values_back back long left = same_by_place back values (long ∙ opened.words_locks) (λ l y at.
+  values_back back long left = same_by_place back values (long ∙ unused.words_locks) (λ l y at.
       let saw = any_all (λ (p : PassShown (LockPassView V)). HasSeen p.pass.own l y) (λ (p : PassShown (LockPassView V)). p.pass.own.seen ≡ values) passes (left l y at) seen_all in
       subst (λ xs. get_elem? xs l ≡ some y) saw.2 saw.1)
     where
       seen_all : All (λ (p : PassShown (LockPassView V)). p.pass.own.seen ≡ values) passes
       seen_all = all_by_place (λ (p : PassShown (LockPassView V)). p.pass.own.seen ≡ values) (pass_at words.table values) passes passes_at (λ t near. refl)
 
-  -- the roots are idle, as the parking lot asks
-  pub roots_idle : (i : ℕ) (r : RootShown LockRootView) → slice_get roots i ≡ Some r → (r.root.key ≡ i) × (r.root.own.line ≡ []) × (r.root.own.owes ≡ None)
-  roots_idle i r at = let e = root_is i r at in (ap (λ (q : RootShown LockRootView). q.root.key) e, ap (λ (q : RootShown LockRootView). q.root.own.line) e, ap (λ (q : RootShown LockRootView). q.root.own.owes) e)
+  -- the passes, and waiters that have counted nothing, each at the place of its thread
+  pub passes_paired : (keys n : ℕ) (waiters : List CountsView) → n ≡ threads → ((t : ℕ) → t < n → slice_get waiters t ≡ Some (uncounted keys t)) → ArePaired keys passes waiters
+  passes_paired keys n waiters same are i p q at here =
+      let found = stands_at (pass_at words.table values) passes passes_at i p at in
+      let near : i < n = subst (λ m. i < m) (unused.passes_long ∙ sym same) found.0 in
+      let is : q ≡ uncounted keys i = some_one q (uncounted keys i) (sym here ∙ are i near) in
+      record {
+        same_thread = ap (λ (c : CountsView). c.thread) is ∙ sym (ap (λ (r : PassShown (LockPassView V)). r.pass.thread) found.1);
+        called_long = ap (λ (c : CountsView). length c.called) is ∙ length-replicate keys 0;
+        woken_long = ap (λ (c : CountsView). length c.woken) is ∙ length-replicate keys 0;
+      }
 
 -- the same under the names of the lot
 pub fresh_named : {V : Type 0} (grows : V → V → Type 0) (table table' : TableId) (values values' : List V) (threads threads' : ℕ) (passes : List (PassShown (LockPassView V))) → table ≡ table' → values ≡ values' → threads ≡ threads'
     → All (IsFresh grows table values threads) passes → All (IsFresh grows table' values' threads') passes
 fresh_named grows table table' values values' threads threads' passes e f h all =
     subst (λ t. All (IsFresh grows t values' threads') passes) e (subst (λ vs. All (IsFresh grows table vs threads') passes) f (subst (λ n. All (IsFresh grows table values n) passes) h all))
+
+module _ {V : Type 0} (values : List V) (threads : ℕ) (words : LockWordsShown) (passes : List (PassShown (LockPassView V))) (roots : List (RootShown LockRootView))
+    (opened : IsOpened values threads words passes roots) where
+  roots_at : (l : ℕ) → l < length roots → slice_get roots l ≡ Some (root_at words.table l)
+  roots_at l near = opened.roots_are l (subst (λ n. l < n) opened.roots_long near)
+
+  pub roots_own : All (λ (r : RootShown LockRootView). r.table ≡ words.table) roots
+  roots_own = all_by_place (λ (r : RootShown LockRootView). r.table ≡ words.table) (root_at words.table) roots roots_at (λ l near. refl)
+
+  pub root_is : (l : ℕ) (r : RootShown LockRootView) → slice_get roots l ≡ Some r → r ≡ root_at words.table l
+  root_is l r at = (stands_at (root_at words.table) roots roots_at l r at).1
+
+  -- under the name of the lot
+  pub roots_free : (table : TableId) (named : List V) → words.table ≡ table → values ≡ named → All (IsFreeRoot table (length named)) roots
+  roots_free table named e f = all_by_place (IsFreeRoot table (length named)) (root_at words.table) roots roots_at
+      (λ l near. (e, subst (λ n. l < n) (opened.roots_long ∙ ap length f) near))
+
+  pub each_key : (k : ℕ) → k < length values → Any (λ (r : RootShown LockRootView). r.root.key ≡ k) roots
+  each_key k near = some_by_place (λ (r : RootShown LockRootView). r.root.key ≡ k) (root_at words.table) roots roots_at k
+      (subst (λ n. k < n) (sym opened.roots_long) near) refl
+
+  -- the roots are idle, as the parking lot asks
+  pub roots_idle : (i : ℕ) (r : RootShown LockRootView) → slice_get roots i ≡ Some r → (r.root.key ≡ i) × (r.root.own.line ≡ []) × (r.root.own.owes ≡ None)
+  roots_idle i r at = let e = root_is i r at in (ap (λ (q : RootShown LockRootView). q.root.key) e, ap (λ (q : RootShown LockRootView). q.root.own.line) e, ap (λ (q : RootShown LockRootView). q.root.own.owes) e)
+
+-- the roots of both tables are idle, as the parking lot asks
+pub idle_all : (locks : ℕ) (ls : List (RootShown LockRootView)) (cs : List (RootShown CondRootView)) → length ls ≡ locks
+    → ((i : ℕ) (r : RootShown LockRootView) → slice_get ls i ≡ Some r → (r.root.key ≡ i) × (r.root.own.line ≡ []) × (r.root.own.owes ≡ None))
+    → ((i : ℕ) (r : RootShown CondRootView) → slice_get cs i ≡ Some r → IsIdleRoot (locks + i) r)
+    → (i : ℕ) (root : OneOf (RootShown LockRootView) (RootShown CondRootView)) → slice_get (map First ls ++ map Second cs) i ≡ Some root → IsIdleAt i root
+idle_all locks ls cs long first second =
+    at_both IsIdleAt (map First ls) (map Second cs)
+    (at_mapped First IsIdleAt ls (λ i r at. let e = first i r at in record { named = e.0; empty = e.1; paid = ap debts_of e.2 }))
+    (λ i root at. subst (λ n. IsIdleAt (n + i) root) (sym (length-map ls First ∙ long))
+    (at_mapped Second (λ n. IsIdleAt (locks + n)) cs (λ n r h. let e = second n r h in record { named = e.named; empty = e.empty; paid = ap debts e.paid }) i root at))

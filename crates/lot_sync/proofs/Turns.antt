@@ -5,7 +5,7 @@ use Rattle.std.proofs.lemmas.List.{reverse-append, map-append}
 use mathlib.Core.Logic.{dite}
 use native.Mathlib.Decide.{ℕ_discrete}
 use Rattle.std.specs.List.{All, Any}
-use Rattle.std.proofs.lemmas.List.Elements.{All-nil, All-push, All-head, All-tail}
+use Rattle.std.proofs.lemmas.List.Elements.{All-nil, All-cons, All-push, All-head, All-tail}
 use Rattle.std.proofs.lemmas.List.Quantifiers.{Any-push}
 use Rattle.lot_rights.proofs.Totals.{any_cases}
 use Rattle.lot_sync.specs.Lot.{PassView}
@@ -41,11 +41,19 @@ module _ {A B : Type 0} (f : A → B) where
   some_before P [] (k, y, near, is, holds) = absurd (omega (arith, near))
   some_before P (x ∷ xs) some = ⊎_elim {C = Any (λ y. P (f y)) (x ∷ xs)} (λ here. (zero, x, omega arith, refl, here)) (λ later. any_later (λ y. P (f y)) x xs (some_before P xs later)) (any_cases P (f x) (map f xs) some)
 
+  pub some_after : (P : B → Type 0) (xs : List A) → Any (λ x. P (f x)) xs → Any P (map f xs)
+  some_after P [] (k, y, near, is, holds) = absurd (omega (arith, near))
+  some_after P (x ∷ xs) some = ⊎_elim {C = Any P (f x ∷ map f xs)} (λ here. (zero, f x, omega arith, refl, here)) (λ later. any_later P (f x) (map f xs) (some_after P xs later)) (any_cases (λ z. P (f z)) x xs some)
+
+  pub all_before : (P : B → Type 0) (xs : List A) → All P (map f xs) → All (λ x. P (f x)) xs
+  all_before P [] all = All-nil (λ x. P (f x))
+  all_before P (x ∷ xs) all = All-cons (λ y. P (f y)) x xs (All-head P (f x) (map f xs) all) (all_before P xs (All-tail P (f x) (map f xs) all))
+
   pub map_turned : (xs : List A) → map f (reverse xs) ≡ reverse (map f xs)
   map_turned [] = refl
   map_turned (x ∷ xs) = ap (map f) (reverse-append (x ∷ []) xs) ∙ (map-append f (reverse xs) (x ∷ []) ∙ (ap (λ ys. ys ++ f x ∷ []) (map_turned xs) ∙ sym (reverse-append (f x ∷ []) (map f xs))))
 
-any_more : {A : Type 0} (P : A → Type 0) (xs : List A) (x : A) → Any P xs → Any P (xs ++ x ∷ [])
+pub any_more : {A : Type 0} (P : A → Type 0) (xs : List A) (x : A) → Any P xs → Any P (xs ++ x ∷ [])
 any_more P xs x (k, y, near, is, holds) = (k, y, grind (arith, common_steps), grind (arith, common_steps), holds)
 
 -- one pass more is there

@@ -1,7 +1,8 @@
 -- What tests have of a pass: that it owns one lock, or two, with values that it may give back, or that it tries to get one.
 use Rattle.std.specs.Prelude.{◌≡◌, ◌≢◌, ℕ, zero, suc, List}
-use Rattle.lot_sync.specs.Lot.{PassView, HeldView, Owns, OwnsNone, HasSeen}
-use Rattle.lot_sync.specs.Passes.{Standing, IsAtRest, IsTryingFor, sees}
+use Rattle.lot_sync.specs.Lot.{PassView, HeldView, Owns, HasSeen}
+use Rattle.lot_words.specs.World.{Holds}
+use Rattle.lot_sync.specs.Passes.{Standing, IsAtRest, IsTryingFor}
 
 -- what a thread counted of the numbers that two threads counted
 abbrev pub own_share : ℕ → ℕ → ℕ → ℕ
@@ -29,5 +30,5 @@ module _ {V : Type 0} (grows : V → V → Type 0) where
   pub record Seeks (opening : List V) (threads key : ℕ) (right : Standing V) : Type 0 where
     pub before : Standing V
     pub rest : IsAtRest grows opening threads before
-    pub none : OwnsNone (sees before)
+    pub none : (k : ℕ) → ¬ Holds before.own k
     pub trying : IsTryingFor before key right

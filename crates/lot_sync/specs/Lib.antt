@@ -3,4 +3,5 @@ pub mod Values
 pub mod Passes
 pub mod Released
 pub mod Opened
+pub mod Starting
 pub mod Holding

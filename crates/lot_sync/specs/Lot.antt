@@ -1,17 +1,36 @@
 -- What a lot, its passes and its held values are seen as.
-use Rattle.std.specs.Prelude.{◌≡◌, ℕ, Bool, true, false, List, length, slice_set, slice_index_or}
+use Rattle.lot_rights.specs.Opening.{Opening}
+use Rattle.lot_waits.specs.Counts.{CountsView}
+use Rattle.lot_waits.specs.Ledger.{IsLedger}
+use Rattle.std.specs.Prelude.{◌≡◌, ℕ, ◌+◌, ◌<◌, ◌≤◌, Bool, true, false, List, length, map, slice_set, slice_index, slice_index_or}
 use mathlib.Core.Option.{some}
 use lib.ListN.{get_elem?}
 
 pub record LotView : Type 0 where
   pub threads : ℕ
   pub locks : ℕ
+  pub conds : ℕ
 
--- a pass: its thread, which locks it owns, and what it has seen of each value
+-- what a name tells of a lot: its tables, its number of threads, the values that it opened with, and its numbers of keys
+pub record LotNames (V : Type 0) : Type 0 where
+  pub opening : Opening
+  pub threads : ℕ
+  pub values : List V
+  pub locks : ℕ
+  pub conds : ℕ
+
+-- the number of a condition: they follow the locks'
+abbrev pub IsCond : LotView → ℕ → Type 0
+IsCond lot c = (lot.locks ≤ c) × (c < lot.locks + lot.conds)
+
+-- a pass: its thread, which locks it owns, what it has seen of each value, and by key how many sleepers it took from the
+-- condition's line and how many of its own waits ended
 pub record PassView (V : Type 0) : Type 0 where
   pub thread : ℕ
   pub owns : List Bool
   pub seen : List V
+  pub called : List ℕ
+  pub woken : List ℕ
 
 -- a value that was taken from its lock
 pub record HeldView (V : Type 0) : Type 0 where
@@ -25,9 +44,12 @@ module _ {V : Type 0} where
   abbrev pub OwnsNone : PassView V → Type 0
   OwnsNone p = (key : ℕ) → ¬ Owns p key
 
-  -- the pass knows of each lock whether it owns it, and what it has seen of its value
-  abbrev pub IsWide : ℕ → PassView V → Type 0
-  IsWide locks p = (length p.owns ≡ locks) × (length p.seen ≡ locks)
+  -- the pass knows of each lock whether it owns it and what it has seen of its value, and of each key what it counted
+  pub record IsWide (lot : LotView) (p : PassView V) : Type 0 where
+    pub owns : length p.owns ≡ lot.locks
+    pub seen : length p.seen ≡ lot.locks
+    pub called : length p.called ≡ lot.locks + lot.conds
+    pub woken : length p.woken ≡ lot.locks + lot.conds
 
   -- u is what the pass has seen of the key's value
   abbrev pub HasSeen : PassView V → ℕ → V → Type 0
@@ -41,6 +63,23 @@ module _ {V : Type 0} where
   abbrev pub leaving : PassView V → ℕ → V → PassView V
   leaving p key value = record p { owns = slice_set p.owns key false; seen = slice_set p.seen key value }
 
+  -- one wait more on the condition has ended
+  abbrev pub waking : PassView V → ℕ → PassView V
+  waking p c = record p { woken = slice_set p.woken c (slice_index p.woken c + 1) }
+
+  -- so many sleepers more were taken from the condition's line
+  abbrev pub calling : PassView V → ℕ → ℕ → PassView V
+  calling p c count = record p { called = slice_set p.called c (slice_index p.called c + count) }
+
   -- each opening value grows to what the pass has seen of it
   abbrev pub HasGrown : (V → V → Type 0) → List V → PassView V → Type 0
   HasGrown grows opening p = (key : ℕ) (u v : V) → get_elem? opening key ≡ some u → HasSeen p key v → grows u v
+
+  -- what the pass counted, of each condition by its key
+  abbrev pub counts_of : PassView V → CountsView
+  counts_of p = record { thread = p.thread; called = p.called; woken = p.woken }
+
+  -- of each condition, modulo 2^64, the sleepers that these passes took from its line, and the waits of theirs that ended;
+  -- they are equal
+  abbrev pub IsLedgerOf : LotView → List (PassView V) → List ℕ → List ℕ → Type 0
+  IsLedgerOf lot passes called woken = IsLedger lot.locks lot.conds (map counts_of passes) called woken

@@ -1,5 +1,5 @@
 -- How a pass of lot_words stands between two calls, and while it waits for a lock.
-use Rattle.std.specs.Prelude.{◌≡◌, ◌≢◌, ℕ, zero, suc, ◌<◌, Bool, true, false, List, [], ◌∷◌, map, length, slice_set, Option, Some, None}
+use Rattle.std.specs.Prelude.{◌≡◌, ◌≢◌, ℕ, zero, suc, ◌<◌, ◌+◌, Bool, true, false, List, [], ◌∷◌, map, length, slice_set, Option, Some, None}
 use mathlib.Core.Option.{some}
 use lib.ListN.{get_elem?}
 use Rattle.atomic_table.specs.Seated.{TableId}
@@ -15,8 +15,11 @@ use Rattle.lot_words.specs.World.{Holds, HoldsParked}
 use Rattle.lot_words.specs.Values.{IsOut, IsIn, FoundOk}
 use Rattle.lot_words.specs.Calls.{gripped, woken, placed}
 use Rattle.lot_words.specs.Closing.{HoldsNone}
+use Rattle.lot_conds.specs.Shown.{CondWordsShown}
 use Rattle.lot_park.specs.Lots.{LotView}
-use Rattle.lot_sync.specs.Lot.{PassView}
+use Rattle.lot_park.specs.Parts.{Tables}
+use Rattle.lot_waits.specs.Counts.{CountsView}
+use Rattle.lot_sync.specs.Lot.{PassView, LotNames}
 
 -- a pass: its thread, and what it knows; not the entries that were made with it
 pub record Standing (V : Type 0) : Type 0 where
@@ -32,11 +35,17 @@ module _ {V : Type 0} where
   abbrev pub stands : PassShown (LockPassView V) → Standing V
   stands p = record { thread = p.pass.thread; own = p.pass.own }
 
-  abbrev pub sees : Standing V → PassView V
-  sees r = record { thread = r.thread; owns = map is_held r.own.holds; seen = r.own.seen }
+  -- what the caller sees of a pass that has counted so much
+  abbrev pub sees : CountsView → Standing V → PassView V
+  sees q r = record { thread = r.thread; owns = map is_held r.own.holds; seen = r.own.seen; called = q.called; woken = q.woken }
 
+  -- the pass, but for its counts
+  abbrev pub lock_side : PassView V → PassView V
+  lock_side p = record p { called = []; woken = [] }
+
+  -- what is seen of a lock's pass alone
   abbrev pub seen_as : PassShown (LockPassView V) → PassView V
-  seen_as p = sees (stands p)
+  seen_as p = record { thread = p.pass.thread; owns = map is_held p.pass.own.holds; seen = p.pass.own.seen; called = []; woken = [] }
 
   -- the pass, where the value of the lock is at this place
   abbrev pub putting : Standing V → ℕ → Place V → Standing V
@@ -82,6 +91,10 @@ module _ {V : Type 0} where
   -- it wants the lock, and is in no line
   abbrev pub Wants : Standing V → ℕ → Type 0
   Wants r key = (r.own.aim ≡ Some key) × (r.own.asleep ≡ false)
+
+  -- it owns the lock, whose value lies in its slot
+  abbrev pub MayLetGo : Standing V → ℕ → Type 0
+  MayLetGo r key = (r.own.aim ≡ None) × (r.own.asleep ≡ false) × Holds r.own key × ((y : V) × IsIn r.own key y)
 
   -- it owns the lock, which it found parked, and whose value lies in its slot
   abbrev pub MayPass : Standing V → ℕ → Type 0
@@ -146,6 +159,12 @@ module _ {V Part : Type 0} (keeps : ℕ → V → Type 0) (grows : V → V → T
   IsLooked p None q = q ≡ p
   IsLooked p (Some token) q = IsCollected p token q
 
+-- what a thread counted, by key
+pub record AreCounts (keys thread : ℕ) (q : CountsView) : Type 0 where
+  pub same_thread : q.thread ≡ thread
+  pub called_long : length q.called ≡ keys
+  pub woken_long : length q.woken ≡ keys
+
 -- ---- roots
 -- the letters that a root owes, as a list
 abbrev pub debts_of : Option (ℕ × ℕ) → List (ℕ × ℕ)
@@ -154,11 +173,14 @@ debts_of (Some debt) = debt ∷ []
 
 -- ---- the lot
 -- what joins the parts of a lot
-pub record IsLot {V : Type 0} (opening : Opening) (named_threads : ℕ) (values : List V) (threads locks : ℕ) (parking : LotView LockWordsShown) : Type 0 where
-  pub words : parking.scheme.table ≡ opening.locks
-  pub words_threads : parking.scheme.size.threads ≡ named_threads
-  pub words_locks : parking.scheme.size.locks ≡ length values
-  pub parking_threads : parking.threads ≡ named_threads
-  pub parking_keys : parking.keys ≡ length values
-  pub own_threads : threads ≡ named_threads
-  pub own_locks : locks ≡ length values
+pub record IsLot {V : Type 0} (names : LotNames V) (threads locks conds : ℕ) (parking : LotView (Tables LockWordsShown CondWordsShown)) : Type 0 where
+  pub words : parking.scheme.first.table ≡ names.opening.locks
+  pub words_threads : parking.scheme.first.size.threads ≡ names.threads
+  pub words_locks : parking.scheme.first.size.locks ≡ length names.values
+  pub conds_threads : parking.scheme.second.size.threads ≡ names.threads
+  pub named_locks : names.locks ≡ length names.values
+  pub parking_threads : parking.threads ≡ names.threads
+  pub parking_keys : parking.keys ≡ length names.values + names.conds
+  pub own_threads : threads ≡ names.threads
+  pub own_locks : locks ≡ length names.values
+  pub own_conds : conds ≡ names.conds

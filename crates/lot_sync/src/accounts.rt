@@ -1,6 +1,7 @@
 //! A caller of its own: accounts that never go below zero, and whose history only grows.
 ghost use Rattle.std.specs.Prelude.{◌≡◌, ◌+◌, ◌≤◌, ◌<◌, ℕ, true, false, MatchBool, length, vec_len, vec_capacity};
 ghost use Rattle.lot_sync.specs.Lot.{OwnsNone};
+ghost use Rattle.lot_sync.specs.Opened.{IsNamed};
 ghost use Rattle.lot_sync.specs.Holding.{Holding, HoldingBoth};
 ghost use Rattle.lot_sync.specs.Opened.{KeepAll};
 
@@ -228,7 +229,7 @@ fn open_and_book<N: LotName<Account> + Send + Sync, T: Wait + Abort>(
     alloc: Global,
     opened: Opened<Account>,
 )
-    requires names { (opened.table ≡ N.opening.locks) × (opened.threads ≡ N.threads) × (opened.values ≡ N.values) }
+    requires named { IsNamed (record { opening = N.opening; threads = N.threads; values = N.values; locks = N.locks; conds = N.conds }) opened }
     requires sizes { (opened.threads ≡ 2) × (length opened.values ≡ 2) }
 {
     let Ok(passes) = Vec::with_capacity(alloc, 2) else {

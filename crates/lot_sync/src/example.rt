@@ -1,6 +1,7 @@
 //! The smallest caller, which docs/USE.md shows: threads that raise a number under lock 0.
 ghost use Rattle.std.specs.Prelude.{◌≡◌, ◌<◌, ℕ, length};
 ghost use Rattle.lot_sync.specs.Lot.{OwnsNone};
+ghost use Rattle.lot_sync.specs.Opened.{IsNamed};
 
 use crate::{Lot, LotName, Moment, Opened, Pass};
 use lot_words::Keeps;
@@ -50,7 +51,7 @@ fn raised<N: LotName<Number> + Send, W: Wait + Abort>(
     alloc: Global,
     opened: Opened<Number>,
 ) -> u64
-    requires names { (opened.table ≡ N.opening.locks) × (opened.threads ≡ N.threads) × (opened.values ≡ N.values) }
+    requires named { IsNamed (record { opening = N.opening; threads = N.threads; values = N.values; locks = N.locks; conds = N.conds }) opened }
     requires sizes { (opened.threads ≡ 1) × (length opened.values ≡ 1) }
 {
     let Ok(mut passes) = Vec::with_capacity(alloc, 1) else {

@@ -22,6 +22,7 @@ pub mod held;
 mod lock;
 pub mod lot;
 mod moves;
+mod notifying;
 pub mod opened;
 pub mod pass;
 mod pool;
@@ -34,16 +35,20 @@ mod shares;
 mod sleepers;
 mod start;
 mod steps;
+mod tables;
 #[cfg(test)]
 mod tests;
 mod unlock;
+mod waiting;
+#[cfg(test)]
+mod waits;
 
-pub use closing::Ledger;
 pub use fault::{OpenFault, RegisterFault};
 pub use held::Held;
 pub use lot::Lot;
 pub use lot_core::{MAX_KEYS, MAX_THREADS};
 pub use lot_park::Moment;
+pub use lot_waits::{Ledger, WaitName};
 pub use opened::Opened;
 pub use pass::{LotName, Pass};
 pub use released::Released;

@@ -2,7 +2,7 @@
 ghost use Rattle.std.specs.Prelude.{◌≡◌, ℕ, ◌+◌, ◌<◌, ◌≤◌, true, false, MatchBool, MatchOption, length, [], ◌∷◌, ◌++◌};
 ghost use Rattle.lot_sync.specs.Lot.{Owns, IsWide};
 ghost use Rattle.lot_sync.specs.Values.{Gets};
-ghost use Rattle.lot_sync.specs.Passes.{Wants, IsTryingFor, IsOwner, sees, IsNewOwner};
+ghost use Rattle.lot_sync.specs.Passes.{Wants, IsTryingFor, IsOwner, sees, AreCounts, IsNewOwner};
 ghost use Rattle.lot_words.specs.World.{Holds};
 ghost use Rattle.lot_words.specs.Values.{IsIn};
 ghost use Rattle.lot_words.specs.Calls.{Aims};
@@ -13,7 +13,10 @@ use crate::lot::{Lot, PARKED};
 use crate::pass::{LotName, Pass};
 use crate::scheme::{LockScheme, NamedPass};
 use crate::steps::{HANDOFF, LockSteps};
-use lot_park::{Parked, ParkingLot};
+use crate::tables::{Locks, LotScheme};
+use lot_park::parts::{Part, park_on};
+use lot_park::{Parked, ParkingLot, Scheme};
+use lot_waits::Waiter;
 use lot_words::Keeps;
 use std::sync::Wait;
 use std::thread;
@@ -41,14 +44,15 @@ impl<V: Keeps + Send, N: LotName<V> + Send> Lot<V, N> {
         requires key { key < self.now.locks }
         requires free { ¬ Owns pass key }
         ensures gets { MatchOption result.1 (result.0 ≡ pass) (λ held. Gets V.keeps V.grows V.part pass key held result.0) }
-        ensures wide { IsWide self.now.locks result.0 }
+        ensures wide { IsWide self.now result.0 }
     {
-        let (right, got) = self.try_take(pass.into_right(), key);
+        let (right, waiter) = pass.apart();
+        let (right, got) = self.try_take(right, key);
         if got {
-            let (pass, held) = self.taken(right, key);
+            let (pass, held) = self.taken(right, waiter, key);
             (pass, Some(held))
         } else {
-            (self.at_rest(right), None)
+            (self.at_rest(right, waiter), None)
         }
     }
 
@@ -59,7 +63,7 @@ impl<V: Keeps + Send, N: LotName<V> + Send> Lot<V, N> {
         requires key { key < self.now.locks }
         requires free { ¬ Owns pass key }
         ensures gets { Gets V.keeps V.grows V.part pass key result.1 result.0 }
-        ensures wide { IsWide self.now.locks result.0 }
+        ensures wide { IsWide self.now result.0 }
     {
         self.lock_after(rt, pass, key, &AtOnce)
     }
@@ -76,14 +80,15 @@ impl<V: Keeps + Send, N: LotName<V> + Send> Lot<V, N> {
         requires key { key < self.now.locks }
         requires free { ¬ Owns pass key }
         ensures gets { Gets V.keeps V.grows V.part pass key result.1 result.0 }
-        ensures wide { IsWide self.now.locks result.0 }
+        ensures wide { IsWide self.now result.0 }
     {
-        let (right, got) = self.take(pass.into_right(), key);
+        let (right, waiter) = pass.apart();
+        let (right, got) = self.take(right, key);
         if got {
-            self.taken(right, key)
+            self.taken(right, waiter, key)
         } else {
             let right = self.lock_slowly(rt, right, key, before);
-            self.taken(right, key)
+            self.taken(right, waiter, key)
         }
     }
 
@@ -115,15 +120,21 @@ impl<V: Keeps + Send, N: LotName<V> + Send> Lot<V, N> {
 
     /// The owner takes the value out.
     #[inline(always)]
-    pub(crate) fn taken(&self, right: NamedPass<V, N>, key: usize) -> (Pass<V, N>, Held<V, N>)
+    pub(crate) fn taken(
+        &self,
+        right: NamedPass<V, N>,
+        waiter: Waiter<N>,
+        key: usize,
+    ) -> (Pass<V, N>, Held<V, N>)
         requires key { key < self.now.locks }
         requires owner { IsNewOwner V.grows N.values N.threads right key }
+        requires counts { AreCounts (N.locks + N.conds) right.thread waiter }
         ensures held { (result.1.key ≡ key) × IsIn right.own key result.1.value }
-        ensures pass { result.0 ≡ sees right }
-        ensures wide { IsWide self.now.locks result.0 }
+        ensures pass { result.0 ≡ sees waiter right }
+        ensures wide { IsWide self.now result.0 }
     {
         let (right, value) = self.value_out(right, key);
-        (self.at_rest(right), Held::new(key, value))
+        (self.at_rest(right, waiter), Held::new(key, value))
     }
 
     /// Gets a lock that was found held.
@@ -197,17 +208,20 @@ impl<V: Keeps + Send, N: LotName<V> + Send> Lot<V, N> {
 /// Sleeps in the line of the lock while it is held and parked, and answers whether the lock was handed over.
 pub(crate) fn park<V: Keeps + Send, N: LotName<V> + Send, R: Wait, B: BeforeSleep>(
     rt: &R,
-    parking: &ParkingLot<LockScheme<V, N>>,
+    parking: &ParkingLot<LotScheme<V, N>>,
     pass: NamedPass<V, N>,
     key: usize,
     before: &B,
 ) -> (NamedPass<V, N>, bool)
     requires thread { pass.thread < parking.now.threads }
-    requires key { key < parking.now.keys }
+    requires key { (key < parking.now.keys) × (key < length N.values) }
     requires trying { Wants pass key }
     ensures { MatchBool result.1 (IsOwner V.keeps V.grows V.part pass key result.0) (IsTryingFor pass key result.0) }
 {
-    let (pass, parked) = sleep(rt, parking, pass, key, before);
+    let scheme = parking.scheme().first();
+    let (pass, parked) = sleep::<LotScheme<V, N>, LockScheme<V, N>, Locks, R, B>(
+        rt, parking, scheme, pass, key, before,
+    );
     match parked {
         Parked::Invalid => (pass, false),
         Parked::Woken(token) => (pass, token == HANDOFF),
@@ -215,31 +229,33 @@ pub(crate) fn park<V: Keeps + Send, N: LotName<V> + Send, R: Wait, B: BeforeSlee
 }
 
 /// Parks with the validation of a lock.
-fn sleep<S: LockSteps, R: Wait, B: BeforeSleep>(
+fn sleep<S: Scheme, A: LockSteps, P: Part<S, A>, R: Wait, B: BeforeSleep>(
     rt: &R,
     parking: &ParkingLot<S>,
-    pass: S::Pass,
+    scheme: &A,
+    pass: A::Pass,
     key: usize,
     before: &B,
-) -> (S::Pass, Parked)
-    requires thread { S.thread pass < parking.now.threads }
+) -> (A::Pass, Parked)
+    requires thread { A.thread pass < parking.now.threads }
     requires key { key < parking.now.keys }
-    requires trying { S.wants pass key }
-    ensures { Ends result.1 (S.tries pass key result.0) (λ token. (mid : S.Pass) × S.sleeps pass key mid × Awaited S.looked mid token result.0) }
+    requires serves { P.serves key }
+    requires trying { A.wants pass key }
+    ensures { Ends result.1 (A.tries pass key result.0) (λ token. (mid : A.Pass) × A.sleeps pass key mid × Awaited A.looked mid token result.0) }
 {
-    let scheme = parking.scheme();
-    let (pass, (), parked) = parking.park_conditionally(
+    let (pass, (), parked) = park_on::<S, A, P, R, (), _, _>(
         rt,
+        parking,
         pass,
         key,
         (),
-        |x: (), pass: S::Pass, root: S::Root| -> ((), S::Pass, S::Root, bool)
-            requires { S.wants pass (S.Root.key root) }
-            ensures pass { MatchBool result.3 (S.sleeps pass (S.Root.key root) result.1) (S.tries pass (S.Root.key root) result.1) }
-            ensures thread { S.thread result.1 ≡ S.thread pass }
-            ensures key { S.Root.key result.2 ≡ S.Root.key root }
-            ensures owes { S.Root.owes result.2 ≡ S.Root.owes root }
-            ensures root { MatchBool result.3 (S.Root.line result.2 ≡ S.Root.line root ++ S.thread pass ∷ []) (result.2 ≡ root) }
+        |x: (), pass: A::Pass, root: A::Root| -> ((), A::Pass, A::Root, bool)
+            requires { A.wants pass (A.Root.key root) }
+            ensures pass { MatchBool result.3 (A.sleeps pass (A.Root.key root) result.1) (A.tries pass (A.Root.key root) result.1) }
+            ensures thread { A.thread result.1 ≡ A.thread pass }
+            ensures key { A.Root.key result.2 ≡ A.Root.key root }
+            ensures owes { A.Root.owes result.2 ≡ A.Root.owes root }
+            ensures root { MatchBool result.3 (A.Root.line result.2 ≡ A.Root.line root ++ A.thread pass ∷ []) (result.2 ≡ root) }
         {
             let (pass, root, queued) = scheme.queue(pass, root);
             (x, pass, root, queued)

@@ -4,9 +4,10 @@ ghost use Rattle.std.specs.Prelude.{◌≡◌, ℕ, ◌+◌, ◌<◌, ◌≤◌,
 use crate::pass::LotName;
 use crate::pool::Pool;
 use crate::scheme::LockScheme;
+use crate::tables::LotScheme;
 use lot_park::ParkingLot;
+use lot_waits::CondScheme;
 use lot_words::{Keeps, LockWords};
-use std::alloc::Global;
 use std::marker::Model;
 use std::sync::{Mutex, Wait};
 
@@ -18,11 +19,11 @@ pub(crate) const PARKED: u64 = 2;
 
 /// Locks that guard values, for a number of threads.
 pub struct Lot<V: Keeps + Send, N: LotName<V> + Send> {
-    pub(crate) parking: ParkingLot<LockScheme<V, N>>,
+    pub(crate) parking: ParkingLot<LotScheme<V, N>>,
     pub(crate) pool: Mutex<Pool<V, N>>,
     pub(crate) threads: usize,
     pub(crate) locks: usize,
-    pub(crate) alloc: Global,
+    pub(crate) conds: usize,
 }
 
 impl<V: Keeps + Send, N: LotName<V> + Send> Model for Lot<V, N> {
@@ -32,9 +33,9 @@ impl<V: Keeps + Send, N: LotName<V> + Send> Model for Lot<V, N> {
 
     ghost Value = { LotView };
 
-    ghost view = { λ s. record { threads = s.threads; locks = s.locks } };
+    ghost view = { λ s. record { threads = s.threads; locks = s.locks; conds = s.conds } };
 
-    ghost invariant = { λ s. IsLot N.opening N.threads N.values s.threads s.locks s.parking };
+    ghost invariant = { λ s. IsLot (record { opening = N.opening; threads = N.threads; values = N.values; locks = N.locks; conds = N.conds }) s.threads s.locks s.conds s.parking };
 }
 
 impl<V: Keeps + Send, N: LotName<V> + Send> Lot<V, N> {
@@ -43,8 +44,9 @@ impl<V: Keeps + Send, N: LotName<V> + Send> Lot<V, N> {
         ensures named { result.now.table ≡ N.opening.locks }
         ensures locks { (result.now.size.locks ≡ self.now.locks) × (self.now.locks ≡ length N.values) }
         ensures threads { self.now.threads ≡ N.threads }
+        ensures keys { (self.now.locks ≡ N.locks) × (self.now.conds ≡ N.conds) }
     {
-        self.parking.scheme().words()
+        self.parking.scheme().first().words()
     }
 
     /// How many threads can have a pass at a time.
@@ -61,6 +63,13 @@ impl<V: Keeps + Send, N: LotName<V> + Send> Lot<V, N> {
         self.locks
     }
 
+    /// How many conditions there are. Their numbers follow the locks'.
+    pub fn conds(&self) -> usize
+        ensures { result ≡ self.now.conds }
+    {
+        self.conds
+    }
+
     /// Whether somebody owns the lock at some moment of this call. It is an observation: nothing is promised of it.
     pub fn is_held(&self, key: usize) -> bool
         requires { key < self.now.locks }
@@ -68,9 +77,9 @@ impl<V: Keeps + Send, N: LotName<V> + Send> Lot<V, N> {
         self.words().bits(key) & HELD != 0
     }
 
-    /// How many threads wait in the line of the lock at some moment of this call.
+    /// How many threads wait in the line of the lock or the condition at some moment of this call.
     pub fn line_length<R: Wait>(&self, rt: &R, key: usize) -> usize
-        requires { key < self.now.locks }
+        requires { key < self.now.locks + self.now.conds }
     {
         self.parking.line_length(rt, key)
     }

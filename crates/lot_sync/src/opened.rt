@@ -1,10 +1,14 @@
 //! Opening a lot: first its tables, then, under a name, the lot itself.
 ghost use Rattle.std.specs.Prelude.{◌≡◌, ℕ, ◌+◌, ◌<◌, ◌≤◌, List, Some, slice_get, vec_len, IfOk, IfErr, OnErr};
+ghost use Rattle.lot_core.specs.declared.state.TheConstants.{MAX_KEYS};
+ghost use Rattle.lot_sync.specs.Opened.{IsOpened};
 
 use crate::fault::OpenFault;
 use crate::lot::Lot;
 use crate::pass::LotName;
+use crate::start::close_unused;
 use lot_core::{MAX_KEYS, MAX_THREADS};
+use lot_waits::OpenedConds;
 use lot_words::{Keeps, LockPass, LockRoot, LockWords, WordsFault};
 use std::alloc::Global;
 use std::marker::Model;
@@ -15,6 +19,7 @@ pub struct Opened<V: Keeps + Send> {
     pub(crate) words: LockWords<V>,
     pub(crate) passes: Vec<LockPass<V>>,
     pub(crate) roots: Vec<LockRoot<V>>,
+    pub(crate) conds: OpenedConds,
     pub(crate) threads: usize,
     pub(crate) values: Snapshot<Vec<V>>,
 }
@@ -24,18 +29,18 @@ impl<V: Keeps + Send> Model for Opened<V> {
 
     ghost Value = { OpenedView V };
 
-    ghost use Rattle.lot_sync.specs.Opened.{IsOpened};
+    ghost use Rattle.lot_sync.specs.Opened.{IsOpened, HasConds};
 
-    ghost view = { λ s. record { table = s.words.table; threads = s.threads; values = s.values.value.items } };
+    ghost view = { λ s. record { table = s.words.table; conds_table = s.conds.table; threads = s.threads; values = s.values.value.items; conds = s.conds.conds } };
 
-    ghost invariant = { λ s. IsOpened s.values.value.items s.threads s.words s.passes.items s.roots.items };
+    ghost invariant = { λ s. IsOpened s.values.value.items s.threads s.words s.passes.items s.roots.items × HasConds s.values.value.items s.threads s.conds };
 }
 
 impl<V: Keeps + Send, N: LotName<V> + Send> Lot<V, N> {
     ghost use Rattle.lot_sync.specs.Opened.{KeepAll, IsThreadCount, IsKeyCount, Refuses};
 
-    /// Opens the words of a lot for so many threads, with a lock for each value. Call it at std's `Brand` for N, and then
-    /// `start` in a function that is generic over the name. Conditions are not there yet: there have to be none.
+    /// Opens the words of a lot for so many threads, with a lock for each value, and so many conditions, whose numbers
+    /// follow the locks'. Call it at std's `Brand` for N, and then `start` in a function that is generic over the name.
     ///
     /// `BadThreads`, `BadKeys` and `NoMemory` are tested in this order, and the values come back with each.
     pub fn open(
@@ -45,7 +50,7 @@ impl<V: Keeps + Send, N: LotName<V> + Send> Lot<V, N> {
         conds: usize,
     ) -> Result<Opened<V>, (OpenFault, Vec<V>)>
         requires { KeepAll V.keeps values.items }
-        ensures opened { IfOk result (λ o. (o.threads ≡ threads) × (o.values ≡ values.items)) }
+        ensures opened { IfOk result (λ o. (o.threads ≡ threads) × (o.values ≡ values.items) × (o.conds ≡ conds)) }
         ensures limits { IfOk result (λ _. IsThreadCount threads × IsKeyCount (vec_len values) conds) }
         ensures fault { IfErr result (λ e. Refuses threads (vec_len values) conds e.0) }
         ensures back { IfErr result (λ e. e.1.items ≡ values.items) }
@@ -53,19 +58,51 @@ impl<V: Keeps + Send, N: LotName<V> + Send> Lot<V, N> {
         if threads < 1 || threads > MAX_THREADS {
             return Err((OpenFault::BadThreads, values));
         }
-        if conds != 0 || values.is_empty() || values.len() > MAX_KEYS {
+        let locks = values.len();
+        if locks < 1 || locks > MAX_KEYS || conds > MAX_KEYS - locks {
             return Err((OpenFault::BadKeys, values));
         }
         let opening = Snapshot::of(&values);
         match LockWords::open(alloc, threads, values) {
-            Ok((words, passes, roots)) => Ok(Opened {
-                words,
-                passes,
-                roots,
-                threads,
-                values: opening,
-            }),
+            Ok((words, passes, roots)) => {
+                with_conds(alloc, threads, words, passes, roots, opening, conds)
+            }
             Err((WordsFault::NoMemory, values)) => Err((OpenFault::NoMemory, values)),
+        }
+    }
+}
+
+/// Opens the conditions beside the locks. Where they can't be had, the locks are closed again.
+fn with_conds<V: Keeps + Send>(
+    alloc: Global,
+    threads: usize,
+    words: LockWords<V>,
+    passes: Vec<LockPass<V>>,
+    roots: Vec<LockRoot<V>>,
+    values: Snapshot<Vec<V>>,
+    conds: usize,
+) -> Result<Opened<V>, (OpenFault, Vec<V>)>
+    requires opened { IsOpened values.value.items threads words passes.items roots.items }
+    requires some { 0 < vec_len roots }
+    requires few { vec_len roots + conds ≤ MAX_KEYS }
+    ensures opened { IfOk result (λ o. (o.threads ≡ threads) × (o.values ≡ values.value.items) × (o.conds ≡ conds)) }
+    ensures fault { IfErr result (λ e. e.0 ≡ OpenFault.NoMemory) }
+    ensures back { IfErr result (λ e. e.1.items ≡ values.value.items) }
+{
+    match OpenedConds::open(alloc, threads, roots.len(), conds) {
+        Ok(conds) => Ok(Opened {
+            words,
+            passes,
+            roots,
+            conds,
+            threads,
+            values,
+        }),
+        Err(WordsFault::NoMemory) => {
+            Err((
+                OpenFault::NoMemory,
+                close_unused(words, passes, roots, values),
+            ))
         }
     }
 }

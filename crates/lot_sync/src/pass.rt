@@ -2,13 +2,14 @@
 ghost use Rattle.std.specs.Prelude.{◌≡◌, ℕ, List};
 
 use crate::scheme::NamedPass;
-use lot_words::{Keeps, Name};
+use lot_waits::{WaitName, Waiter};
+use lot_words::Keeps;
 use std::marker::{Brand, Model};
 
-/// Names one opening of a lot: its tables, its number of threads and the values that it opened with.
+/// Names one opening of a lot: its tables, its numbers of threads and keys, and the values that it opened with.
 ///
 /// A program opens first, and then calls, with std's `Brand` for N, a function that is generic over `N: LotName<V>`.
-pub trait LotName<V>: Name {
+pub trait LotName<V>: WaitName {
     ghost threads: { ℕ };
 
     ghost values: { List V };
@@ -25,22 +26,25 @@ impl<V> LotName<V> for Brand {
 /// The right to act as one thread. It must be spent, by `Lot::leave` or `Lot::close`.
 pub struct Pass<V: Keeps + Send, N: LotName<V> + Send> {
     pub(crate) right: NamedPass<V, N>,
+    pub(crate) waiter: Waiter<N>,
 }
 
 impl<V: Keeps + Send, N: LotName<V> + Send> Model for Pass<V, N> {
+    ghost use Rattle.std.specs.Prelude.{◌+◌};
     ghost use Rattle.lot_sync.specs.Lot.{PassView};
 
     ghost Value = { PassView V };
 
-    ghost use Rattle.lot_sync.specs.Passes.{sees, IsAtRest};
+    ghost use Rattle.lot_sync.specs.Passes.{sees, IsAtRest, AreCounts};
 
-    ghost view = { λ s. sees s.right };
+    ghost view = { λ s. sees s.waiter s.right };
 
-    ghost invariant = { λ s. IsAtRest V.grows N.values N.threads s.right };
+    ghost invariant = { λ s. IsAtRest V.grows N.values N.threads s.right × AreCounts (N.locks + N.conds) s.right.thread s.waiter };
 }
 
 impl<V: Keeps + Send, N: LotName<V> + Send> Pass<V, N> {
-    ghost use Rattle.lot_sync.specs.Passes.{sees, IsAtRest};
+    ghost use Rattle.std.specs.Prelude.{◌+◌};
+    ghost use Rattle.lot_sync.specs.Passes.{sees, IsAtRest, AreCounts};
 
     /// The number of the thread.
     pub fn thread(&self) -> usize
@@ -49,18 +53,22 @@ impl<V: Keeps + Send, N: LotName<V> + Send> Pass<V, N> {
         self.right.thread()
     }
 
-    pub(crate) fn at_rest(right: NamedPass<V, N>) -> Pass<V, N>
+    #[inline(always)]
+    pub(crate) fn at_rest(right: NamedPass<V, N>, waiter: Waiter<N>) -> Pass<V, N>
         requires rest { IsAtRest V.grows N.values N.threads right }
-        ensures { result ≡ sees right }
+        requires counts { AreCounts (N.locks + N.conds) right.thread waiter }
+        ensures { result ≡ sees waiter right }
     {
-        Pass { right }
+        Pass { right, waiter }
     }
 
-    pub(crate) fn into_right(self) -> NamedPass<V, N>
-        ensures rest { IsAtRest V.grows N.values N.threads result }
-        ensures same { self ≡ sees result }
+    #[inline(always)]
+    pub(crate) fn apart(self) -> (NamedPass<V, N>, Waiter<N>)
+        ensures rest { IsAtRest V.grows N.values N.threads result.0 }
+        ensures counts { AreCounts (N.locks + N.conds) result.0.thread result.1 }
+        ensures same { self ≡ sees result.1 result.0 }
     {
-        let Pass { right } = self;
-        right
+        let Pass { right, waiter } = self;
+        (right, waiter)
     }
 }

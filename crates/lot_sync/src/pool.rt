@@ -3,7 +3,8 @@ ghost use Rattle.std.specs.Prelude.{◌≡◌, ℕ, ◌+◌, ◌-◌, ◌*◌, �
 ghost use Rattle.lot_sync.specs.Lot.{OwnsNone};
 
 use crate::pass::{LotName, Pass};
-use crate::scheme::KeyRoot;
+use crate::tables::LotRoot;
+use lot_waits::{CondKeyRoot, Waiter};
 use lot_words::{Keeps, LockPass, LockRoot};
 
 /// A pass that owns no lock.
@@ -12,13 +13,19 @@ pub(crate) struct Idle<V: Keeps + Send, N: LotName<V> + Send> {
     ghost free: { OwnsNone pass },
 }
 
-/// The room that `Lot::close` fills, made when the lot starts.
+/// The room that `Lot::close` fills. The lists held the rights before the lot started.
 pub(crate) struct ClosingRoom<V: Keeps + Send, N: LotName<V> + Send> {
     pub(crate) passes: Vec<LockPass<V>>,
+    pub(crate) waiters: Vec<Waiter<N>>,
+    pub(crate) named: Vec<LotRoot<V, N>>,
     pub(crate) roots: Vec<LockRoot<V>>,
-    pub(crate) named: Vec<KeyRoot<V, N>>,
-    ghost empty: { (vec_len passes ≡ 0) × (vec_len roots ≡ 0) × (vec_len named ≡ 0) },
-    ghost wide: { (N.threads ≤ vec_capacity passes) × (length N.values ≤ vec_capacity roots) × (length N.values ≤ vec_capacity named) },
+    pub(crate) cond_roots: Vec<CondKeyRoot<N>>,
+    pub(crate) conds: lot_waits::ClosingRoom,
+    ghost no_rights: { (vec_len passes ≡ 0) × (vec_len waiters ≡ 0) },
+    ghost no_roots: { (vec_len named ≡ 0) × (vec_len roots ≡ 0) × (vec_len cond_roots ≡ 0) },
+    ghost for_rights: { (N.threads ≤ vec_capacity passes) × (N.threads ≤ vec_capacity waiters) },
+    ghost for_roots: { (length N.values + N.conds ≤ vec_capacity named) × (length N.values ≤ vec_capacity roots) × (N.conds ≤ vec_capacity cond_roots) },
+    ghost for_conds: { (N.threads ≤ conds.threads) × (conds.conds ≡ N.conds) },
 }
 
 /// The passes that are in.

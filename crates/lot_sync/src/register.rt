@@ -7,7 +7,7 @@ use crate::fault::RegisterFault;
 use crate::lot::Lot;
 use crate::pass::{LotName, Pass};
 use crate::pool::Pool;
-use crate::scheme::LockScheme;
+use crate::tables::LotScheme;
 use lot_park::{Grown, ParkingLot};
 use lot_words::Keeps;
 use std::sync::Wait;
@@ -20,7 +20,7 @@ impl<V: Keeps + Send, N: LotName<V> + Send> Lot<V, N> {
     pub fn register<R: Wait>(&self, rt: &R) -> Result<Pass<V, N>, RegisterFault>
         ensures thread { IfOk result (λ pass. pass.thread < self.now.threads) }
         ensures free { IfOk result OwnsNone }
-        ensures wide { IfOk result (IsWide self.now.locks) }
+        ensures wide { IfOk result (IsWide self.now) }
         ensures grown { IfOk result (λ pass. HasGrown V.grows N.values pass) }
     {
         let mut pool = self.pool.lock(rt);
@@ -57,7 +57,7 @@ impl<V: Keeps + Send, N: LotName<V> + Send> Lot<V, N> {
         ensures same { self.new ≡ self.old }
         ensures thread { IfSome result (λ pass. pass.thread < self.old.threads) }
         ensures free { IfSome result OwnsNone }
-        ensures wide { IfSome result (IsWide self.old.locks) }
+        ensures wide { IfSome result (IsWide self.old) }
         ensures grown { IfSome result (λ pass. HasGrown V.grows N.values pass) }
     {
         let mut pool = self.pool.lock(rt);
@@ -77,7 +77,7 @@ impl<V: Keeps + Send, N: LotName<V> + Send> Lot<V, N> {
 /// comes with what the table answered, which has three buckets for each pass that is out.
 fn register_in<V: Keeps + Send, N: LotName<V> + Send, R: Wait>(
     rt: &R,
-    parking: &ParkingLot<LockScheme<V, N>>,
+    parking: &ParkingLot<LotScheme<V, N>>,
     pool: &mut Pool<V, N>,
     threads: usize,
 ) -> Result<(Pass<V, N>, Grown), RegisterFault>

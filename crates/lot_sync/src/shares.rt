@@ -1,6 +1,7 @@
 //! A caller with parts: what a thread left of its own in a lock is there when it comes back, whoever came between.
 ghost use Rattle.std.specs.Prelude.{◌≡◌, ◌≢◌, ◌+◌, ◌≤◌, ◌<◌, ℕ, length};
 ghost use Rattle.lot_sync.specs.Lot.{OwnsNone, IsWide, HasSeen};
+ghost use Rattle.lot_sync.specs.Opened.{IsNamed};
 ghost use Rattle.lot_sync.specs.Holding.{own_share};
 
 use crate::accounts::close_two;
@@ -75,7 +76,7 @@ fn leave_own<N: LotName<Shares> + Send + Sync, T: Wait + Abort>(
     requires free { OwnsNone pass }
     ensures same { result.0.thread ≡ pass.thread }
     ensures free { OwnsNone result.0 }
-    ensures wide { IsWide lot.now.locks result.0 }
+    ensures wide { IsWide lot.now result.0 }
     ensures left { (u : Shares) → HasSeen result.0 0 u → own_share pass.thread u.zero u.one ≡ result.1 }
 {
     let thread = pass.thread();
@@ -143,7 +144,7 @@ fn play<N: LotName<Shares> + Send + Sync, T: Wait + Abort>(
     alloc: Global,
     opened: Opened<Shares>,
 )
-    requires names { (opened.table ≡ N.opening.locks) × (opened.threads ≡ N.threads) × (opened.values ≡ N.values) }
+    requires named { IsNamed (record { opening = N.opening; threads = N.threads; values = N.values; locks = N.locks; conds = N.conds }) opened }
     requires sizes { (opened.threads ≡ 2) × (length opened.values ≡ 1) }
 {
     let Ok(passes) = Vec::with_capacity(alloc, 2) else {

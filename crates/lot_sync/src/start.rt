@@ -1,20 +1,25 @@
 //! Starting a lot under its name: its roots go to the parking lot, its passes into the pool.
-ghost use Rattle.std.specs.Prelude.{◌≡◌, ℕ, ◌+◌, ◌<◌, ◌≤◌, List, [], Some, slice_get, length, vec_len, vec_capacity, reverse, IfOk, IfErr};
-ghost use Rattle.std.specs.List.{All};
+ghost use Rattle.std.specs.Prelude.{◌≡◌, ℕ, ◌+◌, ◌<◌, ◌≤◌, List, [], ◌++◌, Some, map, slice_get, length, vec_len, vec_capacity, reverse, IfOk, IfErr};
+ghost use Rattle.std.specs.List.{All, Any};
 ghost use Rattle.lot_rights.specs.Shown.{RootShown};
 ghost use Rattle.lot_words.specs.declared.views.LockRootView.{LockRootView};
-ghost use Rattle.lot_sync.specs.Opened.{IsOpened};
-ghost use Rattle.lot_core.specs.declared.state.TheConstants.{MAX_THREADS};
-ghost use Rattle.lot_sync.specs.Passes.{IsFresh};
-ghost use Rattle.lot_park.specs.Lots.{AreIdle};
+ghost use Rattle.lot_core.specs.declared.state.TheConstants.{MAX_THREADS, MAX_KEYS};
+ghost use Rattle.lot_park.specs.declared.parts.both.OneOf.TheVariants.{First, Second};
+ghost use Rattle.lot_sync.specs.Opened.{AreUnused, IsNamed};
+ghost use Rattle.lot_sync.specs.Passes.{IsFresh, AreCounts};
+ghost use Rattle.lot_sync.specs.Starting.{ArePaired, IsFreeRoot, IsFreeCond};
 
+use crate::closing::unname_roots;
 use crate::fault::OpenFault;
 use crate::lot::Lot;
 use crate::opened::Opened;
 use crate::pass::{LotName, Pass};
 use crate::pool::{ClosingRoom, Idle, Pool};
 use crate::scheme::{KeyRoot, LockScheme, NamedPass};
+use crate::tables::{LotRoot, LotScheme};
+use lot_park::parts::{Both, EitherRoot};
 use lot_park::{ParkFault, ParkingLot};
+use lot_waits::{CondKeyRoot, Room, Waiter, settle};
 use lot_words::{Keeps, LockPass, LockRoot, LockWords};
 use std::alloc::{AllocError, Global};
 use std::snapshot::Snapshot;
@@ -23,101 +28,153 @@ use std::sync::Mutex;
 /// The memory of a lot, before anything lies in it.
 struct Rooms<V: Keeps + Send, N: LotName<V> + Send> {
     idle: Vec<Idle<V, N>>,
-    named: Vec<KeyRoot<V, N>>,
-    closing: ClosingRoom<V, N>,
-    ghost empty: { (vec_len idle ≡ 0) × (vec_len named ≡ 0) },
-    ghost wide: { (N.threads ≤ vec_capacity idle) × (length N.values ≤ vec_capacity named) },
+    named: Vec<LotRoot<V, N>>,
+    closing: Vec<LotRoot<V, N>>,
+    conds: Room<N>,
+    ghost empty: { (vec_len idle ≡ 0) × (vec_len named ≡ 0) × (vec_len closing ≡ 0) },
+    ghost for_passes: { N.threads ≤ vec_capacity idle },
+    ghost for_roots: { (length N.values + N.conds ≤ vec_capacity named) × (length N.values + N.conds ≤ vec_capacity closing) },
+    ghost for_conds: { (conds.threads ≡ N.threads) × (conds.conds ≡ N.conds) },
 }
 
 impl<V: Keeps + Send, N: LotName<V> + Send> Rooms<V, N> {
-    fn new(alloc: Global, threads: usize, locks: usize) -> Result<Rooms<V, N>, AllocError>
-        requires { (threads ≡ N.threads) × (locks ≡ length N.values) × (threads ≤ MAX_THREADS) }
+    fn new(
+        alloc: Global,
+        threads: usize,
+        locks: usize,
+        conds: usize,
+    ) -> Result<Rooms<V, N>, AllocError>
+        requires threads { (threads ≡ N.threads) × (threads ≤ MAX_THREADS) }
+        requires keys { (locks ≡ length N.values) × (conds ≡ N.conds) × (locks + conds ≤ MAX_KEYS) }
     {
-        let named = Vec::with_capacity(alloc, locks)?;
-        let out = Vec::with_capacity(alloc, locks)?;
-        let roots = Vec::with_capacity(alloc, locks)?;
-        let idle = Vec::with_capacity(alloc, threads)?;
-        match Vec::with_capacity(alloc, threads) {
-            Ok(passes) => Ok(Rooms {
+        let (named, closing) = root_lists(alloc, locks + conds)?;
+        let idle = match Vec::with_capacity(alloc, threads) {
+            Ok(idle) => idle,
+            Err(refused) => {
+                named.destroy_empty();
+                closing.destroy_empty();
+                return Err(refused);
+            }
+        };
+        match Room::new(alloc, threads, conds) {
+            Ok(room) => Ok(Rooms {
                 idle,
                 named,
-                closing: ClosingRoom {
-                    passes,
-                    roots,
-                    named: out,
-                },
+                closing,
+                conds: room,
             }),
             Err(refused) => {
                 idle.destroy_empty();
+                named.destroy_empty();
+                closing.destroy_empty();
                 Err(refused)
             }
         }
     }
 }
 
-/// Names the roots, in order. Their own room stays.
+/// The lists that hand the roots to the parking lot, and back.
+fn root_lists<V: Keeps + Send, N: LotName<V> + Send>(
+    alloc: Global,
+    keys: usize,
+) -> Result<(Vec<LotRoot<V, N>>, Vec<LotRoot<V, N>>), AllocError>
+    ensures empty { IfOk result (λ r. (vec_len r.0 ≡ 0) × (vec_len r.1 ≡ 0)) }
+    ensures wide { IfOk result (λ r. (keys ≤ vec_capacity r.0) × (keys ≤ vec_capacity r.1)) }
+{
+    let named = Vec::with_capacity(alloc, keys)?;
+    match Vec::with_capacity(alloc, keys) {
+        Ok(closing) => Ok((named, closing)),
+        Err(refused) => {
+            named.destroy_empty();
+            Err(refused)
+        }
+    }
+}
+
+/// Names the roots of the locks, in order. Their own room stays.
 fn name_roots<V: Keeps + Send, N: LotName<V> + Send>(
     roots: &mut Vec<LockRoot<V>>,
-    named: &mut Vec<KeyRoot<V, N>>,
+    named: &mut Vec<LotRoot<V, N>>,
 )
-    requires own { All (λ (r : RootShown LockRootView). r.table ≡ N.opening.locks) roots.old.items }
+    requires free { All (IsFreeRoot N.opening.locks (length N.values)) roots.old.items }
     requires room { (vec_len named.old ≡ 0) × (vec_len roots.old ≤ vec_capacity named.old) }
-    ensures same { named.new.items ≡ roots.old.items }
+    ensures same { named.new.items ≡ map First roots.old.items }
+    ensures long { vec_len named.new ≡ vec_len roots.old }
     ensures empty { (vec_len roots.new ≡ 0) × (vec_capacity roots.new ≡ vec_capacity roots.old) }
+    ensures room { vec_capacity named.new ≡ vec_capacity named.old }
 {
     while let Some(root) = roots.pop() {
-        named.push_reserved(KeyRoot::new(root));
+        named.push_reserved(name_root(root));
     }
     named.reverse();
 }
 
-/// Takes the names off again, in order.
-pub(crate) fn unname_roots<V: Keeps + Send, N: LotName<V> + Send>(
-    mut named: Vec<KeyRoot<V, N>>,
-    roots: &mut Vec<LockRoot<V>>,
-)
-    requires room { (vec_len roots.old ≡ 0) × (vec_len named ≤ vec_capacity roots.old) }
-    ensures same { roots.new.items ≡ named.items }
-    ensures own { All (λ (r : RootShown LockRootView). r.table ≡ N.opening.locks) roots.new.items }
+fn name_root<V: Keeps + Send, N: LotName<V> + Send>(root: LockRoot<V>) -> LotRoot<V, N>
+    requires free { IsFreeRoot N.opening.locks (length N.values) root }
+    ensures same { result ≡ First root }
 {
-    while let Some(root) = named.pop() {
-        roots.push_reserved(root.into_root());
-    }
-    roots.reverse();
+    EitherRoot::first(KeyRoot::new(root))
 }
 
-/// Puts all passes into the pool. Their own room stays.
+/// Appends the roots of the conditions, in order. Their own room stays.
+fn add_roots<V: Keeps + Send, N: LotName<V> + Send>(
+    roots: &mut Vec<CondKeyRoot<N>>,
+    named: &mut Vec<LotRoot<V, N>>,
+)
+    requires free { All (IsFreeCond (length N.values)) roots.old.items }
+    requires room { vec_len named.old + vec_len roots.old ≤ vec_capacity named.old }
+    ensures same { named.new.items ≡ named.old.items ++ map Second roots.old.items }
+    ensures long { vec_len named.new ≡ vec_len named.old + vec_len roots.old }
+    ensures empty { (vec_len roots.new ≡ 0) × (vec_capacity roots.new ≡ vec_capacity roots.old) }
+{
+    roots.reverse();
+    while let Some(root) = roots.pop() {
+        named.push_reserved(EitherRoot::second(root));
+    }
+}
+
+/// Puts all passes into the pool, each with its thread's waiter. Their own room stays.
 fn fill<V: Keeps + Send, N: LotName<V> + Send>(
     passes: &mut Vec<LockPass<V>>,
+    waiters: &mut Vec<Waiter<N>>,
     idle: &mut Vec<Idle<V, N>>,
 )
     requires idle { All (IsFresh V.grows N.opening.locks N.values N.threads) passes.old.items }
+    requires paired { ArePaired (N.locks + N.conds) passes.old.items waiters.old.items }
+    requires long { vec_len waiters.old ≡ vec_len passes.old }
     requires room { (vec_len idle.old ≡ 0) × (vec_len passes.old ≤ vec_capacity idle.old) }
     ensures long { vec_len idle.new ≡ vec_len passes.old }
     ensures room { vec_capacity idle.new ≡ vec_capacity idle.old }
-    ensures empty { vec_len passes.new ≡ 0 }
+    ensures empty { (vec_len passes.new ≡ 0) × (vec_len waiters.new ≡ 0) }
+    ensures rooms { (vec_capacity passes.new ≡ vec_capacity passes.old) × (vec_capacity waiters.new ≡ vec_capacity waiters.old) }
 {
     while let Some(right) = passes.pop() {
-        idle.push_reserved(make_idle(right));
+        idle.push_reserved(make_idle(right, waiters.take_last()));
     }
 }
 
-fn make_idle<V: Keeps + Send, N: LotName<V> + Send>(right: LockPass<V>) -> Idle<V, N>
-    requires { IsFresh V.grows N.opening.locks N.values N.threads right }
+fn make_idle<V: Keeps + Send, N: LotName<V> + Send>(
+    right: LockPass<V>,
+    waiter: Waiter<N>,
+) -> Idle<V, N>
+    requires fresh { IsFresh V.grows N.opening.locks N.values N.threads right }
+    requires counts { AreCounts (N.locks + N.conds) right.pass.thread waiter }
 {
     Idle {
-        pass: Pass::at_rest(NamedPass::new(right)),
+        pass: Pass::at_rest(NamedPass::new(right), waiter),
     }
 }
 
 /// Closes words whose locks nobody ever got: the values that they opened with come back.
-fn close_unused<V: Keeps + Send>(
+pub(crate) fn close_unused<V: Keeps + Send>(
     words: LockWords<V>,
     passes: Vec<LockPass<V>>,
     roots: Vec<LockRoot<V>>,
     values: Snapshot<Vec<V>>,
 ) -> Vec<V>
-    requires { IsOpened values.value.items words.size.threads words passes.items roots.items }
+    requires unused { AreUnused values.value.items words.size.threads words passes.items }
+    requires own { All (λ (r : RootShown LockRootView). r.table ≡ words.table) roots.items }
+    requires roots { (k : ℕ) → k < length values.value.items → Any (λ (r : RootShown LockRootView). r.root.key ≡ k) roots.items }
     ensures { result.items ≡ values.value.items }
 {
     let _ = values;
@@ -133,104 +190,94 @@ impl<V: Keeps + Send> Opened<V> {
             words,
             passes,
             roots,
+            conds,
             threads: _,
             values,
         } = self;
+        conds.close();
         close_unused(words, passes, roots, values)
     }
 
-    /// Starts the lot under the name N: its passes are in, and its locks are free.
+    /// Starts the lot under the name N: its passes are in, its locks are free, and nobody waits on its conditions.
     ///
     /// `NoMemory` where a request for memory was refused: the opening values come back.
     pub fn start<N: LotName<V> + Send>(
         self,
         alloc: Global,
     ) -> Result<Lot<V, N>, (OpenFault, Vec<V>)>
-        requires names { (self.table ≡ N.opening.locks) × (self.threads ≡ N.threads) × (self.values ≡ N.values) }
-        ensures lot { IfOk result (λ lot. (lot.threads ≡ self.threads) × (lot.locks ≡ length self.values)) }
+        requires named { IsNamed (record { opening = N.opening; threads = N.threads; values = N.values; locks = N.locks; conds = N.conds }) self }
+        ensures lot { IfOk result (λ lot. (lot.threads ≡ self.threads) × (lot.locks ≡ length self.values) × (lot.conds ≡ self.conds)) }
         ensures back { IfErr result (λ e. (e.0 ≡ OpenFault.NoMemory) × (e.1.items ≡ self.values)) }
     {
-        let Opened {
-            words,
-            passes,
-            roots,
-            threads,
-            values,
-        } = self;
-        match Rooms::<V, N>::new(alloc, threads, roots.len()) {
-            Ok(rooms) => started(alloc, words, passes, roots, values, rooms),
-            Err(_) => Err((
-                OpenFault::NoMemory,
-                close_unused(words, passes, roots, values),
-            )),
+        match Rooms::<V, N>::new(alloc, self.threads, self.roots.len(), self.conds.conds()) {
+            Ok(rooms) => started(alloc, self, rooms),
+            Err(_) => Err((OpenFault::NoMemory, self.close())),
         }
     }
 }
 
 fn started<V: Keeps + Send, N: LotName<V> + Send>(
     alloc: Global,
-    words: LockWords<V>,
-    mut passes: Vec<LockPass<V>>,
-    mut roots: Vec<LockRoot<V>>,
-    values: Snapshot<Vec<V>>,
+    opened: Opened<V>,
     rooms: Rooms<V, N>,
 ) -> Result<Lot<V, N>, (OpenFault, Vec<V>)>
-    requires opened { IsOpened values.value.items words.size.threads words passes.items roots.items }
-    requires names { (words.table ≡ N.opening.locks) × (words.size.threads ≡ N.threads) × (values.value.items ≡ N.values) }
-    ensures lot { IfOk result (λ lot. (lot.threads ≡ words.size.threads) × (lot.locks ≡ length values.value.items)) }
-    ensures back { IfErr result (λ e. (e.0 ≡ OpenFault.NoMemory) × (e.1.items ≡ values.value.items)) }
+    requires named { IsNamed (record { opening = N.opening; threads = N.threads; values = N.values; locks = N.locks; conds = N.conds }) opened }
+    ensures lot { IfOk result (λ lot. (lot.threads ≡ opened.threads) × (lot.locks ≡ length opened.values) × (lot.conds ≡ opened.conds)) }
+    ensures back { IfErr result (λ e. (e.0 ≡ OpenFault.NoMemory) × (e.1.items ≡ opened.values)) }
 {
+    let Opened {
+        words,
+        mut passes,
+        mut roots,
+        conds,
+        threads,
+        values,
+    } = opened;
     let Rooms {
         mut idle,
         mut named,
         closing,
+        conds: room,
     } = rooms;
-    let threads = passes.len();
     let locks = roots.len();
     name_roots(&mut roots, &mut named);
-    match ParkingLot::open(alloc, threads, named, LockScheme::new(words)) {
+    let (conds, mut waiters, mut cond_roots, room) = conds.name::<N>(room);
+    let cond_count = cond_roots.len();
+    add_roots(&mut cond_roots, &mut named);
+    match ParkingLot::open(
+        alloc,
+        threads,
+        named,
+        Both::new(LockScheme::new(words), conds),
+    ) {
         Ok(parking) => {
-            fill(&mut passes, &mut idle);
-            passes.destroy_empty();
+            fill(&mut passes, &mut waiters, &mut idle);
+            let room = ClosingRoom {
+                passes,
+                waiters,
+                named: closing,
+                roots,
+                cond_roots,
+                conds: room,
+            };
             Ok(Lot {
                 parking,
-                pool: Mutex::new(Pool::new(idle, closing)),
+                pool: Mutex::new(Pool::new(idle, room)),
                 threads,
                 locks,
-                alloc,
+                conds: cond_count,
             })
         }
         Err((ParkFault::NoMemory, named, scheme)) => {
-            unname_roots(named, &mut roots);
-            Err(not_started(scheme.into_words(), passes, roots, values, idle, closing))
+            idle.destroy_empty();
+            closing.destroy_empty();
+            unname_roots(named, &mut roots, &mut cond_roots);
+            let (words, conds) = scheme.apart();
+            let _nothing = settle(conds, waiters, cond_roots, room);
+            Err((
+                OpenFault::NoMemory,
+                close_unused(words.into_words(), passes, roots, values),
+            ))
         }
     }
-}
-
-/// The answer of a refused start: the opening values come back.
-fn not_started<V: Keeps + Send, N: LotName<V> + Send>(
-    words: LockWords<V>,
-    passes: Vec<LockPass<V>>,
-    roots: Vec<LockRoot<V>>,
-    values: Snapshot<Vec<V>>,
-    idle: Vec<Idle<V, N>>,
-    closing: ClosingRoom<V, N>,
-) -> (OpenFault, Vec<V>)
-    requires opened { IsOpened values.value.items words.size.threads words passes.items roots.items }
-    requires none { vec_len idle ≡ 0 }
-    ensures { (result.0 ≡ OpenFault.NoMemory) × (result.1.items ≡ values.value.items) }
-{
-    idle.destroy_empty();
-    drop_room(closing);
-    let back = close_unused(words, passes, roots, values);
-    (OpenFault::NoMemory, back)
-}
-
-fn drop_room<V: Keeps + Send, N: LotName<V> + Send>(room: ClosingRoom<V, N>) {
-    let ClosingRoom {
-        passes,
-        roots: _,
-        named: _,
-    } = room;
-    passes.destroy_empty();
 }

@@ -1,12 +1,15 @@
-//! The two steps on a lock's word that are made while its bucket is locked: the parking lot's callbacks make them.
+//! The steps on a lock's word by which it is waited for and let go. The parking lot's callbacks make two of them, while its bucket is
+//! locked.
 ghost use Rattle.std.specs.Prelude.{◌≡◌, ℕ, Bool, true, false, [], ◌∷◌, ◌++◌, MatchBool, drop, ◌||◌};
+ghost use Rattle.std.specs.Prelude.{◌<◌};
+ghost use Rattle.lot_sync.specs.Passes.{MayLetGo, LetsGo, IsFoundParked};
 ghost use Rattle.lot_sync.specs.Released.{decision, token_told};
 ghost use Rattle.lot_park.specs.Parking.{Tells, debt};
 
 use crate::released::Released;
 use crate::scheme::{KeyRoot, LockScheme, NamedPass};
 use lot_park::{Scheme, Token, UnparkResult};
-use lot_words::{Keeps, Name};
+use lot_words::{Keeps, LockWords, Name};
 
 /// The token of a direct handoff: whoever finds it owns the lock already.
 pub(crate) const HANDOFF: Token = Token(1);
@@ -31,6 +34,12 @@ pub(crate) trait LockSteps: Scheme {
     /// The pass owns the lock of the key, which it found parked, and whose value lies in its slot.
     ghost may_pass: { Self.Pass → ℕ → Type 0 };
 
+    /// The table has a lock of the key.
+    ghost has: { Self → ℕ → Type 0 };
+
+    /// The pass owns the lock of the key, whose value lies in its slot.
+    ghost may_let_go: { Self.Pass → ℕ → Type 0 };
+
     /// The pass before, and the pass that has let the lock of the key go.
     ghost lets_go: { Self.Pass → ℕ → Self.Pass → Type 0 };
 
@@ -42,6 +51,13 @@ pub(crate) trait LockSteps: Scheme {
         ensures key { Self.Root.key result.1 ≡ Self.Root.key root }
         ensures owes { Self.Root.owes result.1 ≡ Self.Root.owes root }
         ensures root { MatchBool result.2 (Self.Root.line result.1 ≡ Self.Root.line root ++ Self.thread pass ∷ []) (result.1 ≡ root) };
+
+    /// One compare-exchange: the lock is let go where nobody is parked. Else it is still owned, and what is made of it then is made of
+    /// the pass before.
+    fn free(&self, pass: Self::Pass, key: usize) -> (Self::Pass, bool)
+        requires has { has self.now key }
+        requires may { may_let_go pass key }
+        ensures { MatchBool result.1 (lets_go pass key result.0) (may_pass result.0 key × ((after : Self.Pass) → lets_go result.0 key after → lets_go pass key after)) };
 
     /// The callback of a slow unlock: the lock is handed to the sleeper that was taken where the release is fair, and left to
     /// whoever comes first otherwise. What it decides is what the unlock answers.
@@ -63,7 +79,8 @@ pub(crate) trait LockSteps: Scheme {
 }
 
 impl<V: Keeps + Send, N: Name + Send> LockSteps for LockScheme<V, N> {
-    ghost use Rattle.lot_sync.specs.Passes.{Wants, IsTryingFor, IsAsleepFor, MayPass, LetsGo};
+    ghost use Rattle.std.specs.Prelude.{◌<◌};
+    ghost use Rattle.lot_sync.specs.Passes.{Wants, IsTryingFor, IsAsleepFor, MayLetGo, MayPass, LetsGo};
 
     ghost wants = { Wants };
 
@@ -72,6 +89,10 @@ impl<V: Keeps + Send, N: Name + Send> LockSteps for LockScheme<V, N> {
     ghost sleeps = { IsAsleepFor };
 
     ghost may_pass = { MayPass };
+
+    ghost has = { λ s key. key < s.size.locks };
+
+    ghost may_let_go = { MayLetGo };
 
     ghost lets_go = { LetsGo };
 
@@ -82,6 +103,11 @@ impl<V: Keeps + Send, N: Name + Send> LockSteps for LockScheme<V, N> {
     ) -> (NamedPass<V, N>, KeyRoot<V, N>, bool) {
         let (pass, root, queued) = self.words().park(pass.into_pass(), root.into_root());
         (NamedPass::new(pass), KeyRoot::new(root), queued)
+    }
+
+    #[inline(always)]
+    fn free(&self, pass: NamedPass<V, N>, key: usize) -> (NamedPass<V, N>, bool) {
+        free(self.words(), pass, key)
     }
 
     fn hand_over(
@@ -106,4 +132,20 @@ impl<V: Keeps + Send, N: Name + Send> LockSteps for LockScheme<V, N> {
         };
         (NamedPass::new(pass), KeyRoot::new(root), token, released)
     }
+}
+
+/// The lock is let go where nobody is parked, and else found parked.
+#[inline(always)]
+pub(crate) fn free<V: Keeps, N: Name>(
+    words: &LockWords<V>,
+    pass: NamedPass<V, N>,
+    key: usize,
+) -> (NamedPass<V, N>, bool)
+    requires table { words.now.table ≡ N.opening.locks }
+    requires key { key < words.now.size.locks }
+    requires may { MayLetGo pass key }
+    ensures { MatchBool result.1 (LetsGo pass key result.0) (IsFoundParked pass key result.0) }
+{
+    let (pass, freed) = words.free(pass.into_pass(), key);
+    (NamedPass::new(pass), freed)
 }

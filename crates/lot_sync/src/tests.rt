@@ -1,14 +1,15 @@
 //! Worked rows of a lot, with the words that they leave.
-ghost use Rattle.std.specs.Prelude.{◌≡◌, ◌≤◌, ◌<◌, ℕ, MatchOption, length, vec_len, vec_capacity};
+ghost use Rattle.std.specs.Prelude.{◌≡◌, ◌+◌, ◌≤◌, ◌<◌, ℕ, MatchOption, length, vec_len, vec_capacity};
 ghost use Rattle.std.specs.List.{All, Any};
 ghost use Rattle.lot_sync.specs.Lot.{PassView, OwnsNone};
+ghost use Rattle.lot_sync.specs.Opened.{IsNamed};
 ghost use Rattle.lot_sync.specs.Holding.{Holding};
 
 use crate::sleepers::{
     after_a_handoff, first_of_two_sleepers, growth_with_sleepers, invalid_parking,
     other_key_in_the_bucket,
 };
-use crate::{Held, Lot, LotName, Moment, OpenFault, Opened, Pass, RegisterFault, Released};
+use crate::{Held, Ledger, Lot, LotName, Moment, OpenFault, Opened, Pass, RegisterFault, Released};
 use lot_words::Keeps;
 use std::alloc::Global;
 use std::marker::Brand;
@@ -135,14 +136,14 @@ pub(crate) fn word<N: LotName<Count> + Send + Sync>(lot: &Lot<Count, N>, key: us
     lot.words().bits(key)
 }
 
-/// Whether so many are in the line of the lock, asked a bounded number of times.
+/// Whether so many are in the line of the lock or the condition, asked a bounded number of times.
 pub(crate) fn in_line<N: LotName<Count> + Send + Sync, T: Wait>(
     rt: &T,
     lot: &Lot<Count, N>,
     key: usize,
     count: usize,
 ) -> bool
-    requires { key < lot.now.locks }
+    requires { key < lot.now.locks + lot.now.conds }
 {
     for _ in 0..ASKINGS {
         if lot.line_length(rt, key) == count {
@@ -214,7 +215,7 @@ fn play<N: LotName<Count> + Send + Sync, T: Threads + Wait + Sync + Abort>(
     opened: Opened<Count>,
     row: Row,
 )
-    requires names { (opened.table ≡ N.opening.locks) × (opened.threads ≡ N.threads) × (opened.values ≡ N.values) }
+    requires named { IsNamed (record { opening = N.opening; threads = N.threads; values = N.values; locks = N.locks; conds = N.conds }) opened }
     requires sizes { (opened.threads ≡ threads) × (length opened.values ≡ 14) }
 {
     let Ok(passes) = Vec::with_capacity(alloc, threads) else {
@@ -223,8 +224,9 @@ fn play<N: LotName<Count> + Send + Sync, T: Threads + Wait + Sync + Abort>(
     match opened.start::<N>(alloc) {
         Ok(lot) => {
             let how = play_row(rt, &lot, row);
-            let values = end(rt, lot, passes, threads, how);
+            let (values, ledger) = end(rt, lot, passes, threads, how);
             assert_eq!(rt; values.len(), LOCKS);
+            assert!(rt; ledger.called.is_empty() && ledger.woken.is_empty());
         }
         Err(_) => panic!(rt; "not started"),
     }
@@ -278,7 +280,7 @@ fn next_left<N: LotName<Count> + Send + Sync, T: Wait + Abort>(
 
 /// How a test gets all passes of a lot, by number.
 #[derive(Clone, Copy)]
-enum Gathered {
+pub(crate) enum Gathered {
     Left,
     Registered,
 }
@@ -319,15 +321,16 @@ fn gather<N: LotName<Count> + Send + Sync, T: Wait + Abort>(
 }
 
 /// All passes are in, each once.
-fn end<N: LotName<Count> + Send + Sync, T: Wait + Abort>(
+pub(crate) fn end<N: LotName<Count> + Send + Sync, T: Wait + Abort>(
     rt: &T,
     mut lot: Lot<Count, N>,
     mut passes: Vec<Pass<Count, N>>,
     threads: usize,
     how: Gathered,
-) -> Vec<Count>
+) -> (Vec<Count>, Ledger)
     requires threads { lot.threads ≡ threads }
     requires room { (vec_len passes ≡ 0) × (threads ≤ vec_capacity passes) }
+    ensures ledger { (vec_len result.1.called ≡ lot.conds) × (vec_len result.1.woken ≡ lot.conds) }
 {
     gather(rt, &mut lot, &mut passes, threads, how);
     match lot.take_left(rt) {
@@ -338,9 +341,7 @@ fn end<N: LotName<Count> + Send + Sync, T: Wait + Abort>(
         Ok(_pass) => panic!(rt; "a pass was given twice"),
         Err(fault) => assert_eq!(rt; fault, RegisterFault::Full),
     }
-    let (values, ledger) = lot.close(rt, passes);
-    assert!(rt; ledger.called.is_empty() && ledger.woken.is_empty());
-    values
+    lot.close(rt, passes)
 }
 
 /// The sizes of the table, each with the first thread number that it serves, where passes are given one by one.
@@ -754,14 +755,17 @@ fn started_and_closed<N: LotName<Count> + Send + Sync, T: Wait + Abort>(
     alloc: Global,
     opened: Opened<Count>,
 ) -> Vec<Count>
-    requires names { (opened.table ≡ N.opening.locks) × (opened.threads ≡ N.threads) × (opened.values ≡ N.values) }
+    requires named { IsNamed (record { opening = N.opening; threads = N.threads; values = N.values; locks = N.locks; conds = N.conds }) opened }
     requires one { opened.threads ≡ 1 }
 {
     let Ok(passes) = Vec::with_capacity(alloc, 1) else {
         return opened.close();
     };
     match opened.start::<N>(alloc) {
-        Ok(lot) => end(rt, lot, passes, 1, Gathered::Left),
+        Ok(lot) => {
+            let (values, _) = end(rt, lot, passes, 1, Gathered::Left);
+            values
+        }
         Err((fault, values)) => {
             passes.destroy_empty();
             assert_eq!(rt; fault, OpenFault::NoMemory);

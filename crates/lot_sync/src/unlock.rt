@@ -3,7 +3,7 @@
 ghost use Rattle.std.specs.Prelude.{◌≡◌, ◌≢◌, ℕ, ◌+◌, ◌<◌, ◌≤◌, true, false, MatchBool, MatchOption, [], drop, length, ◌||◌};
 ghost use Rattle.lot_sync.specs.Lot.{Owns, IsWide, leaving};
 ghost use Rattle.lot_sync.specs.Values.{MayGiveBack};
-ghost use Rattle.lot_sync.specs.Passes.{IsNewOwner, IsFoundParked, MayPass, LetsGo, sees};
+ghost use Rattle.lot_sync.specs.Passes.{IsNewOwner, IsFoundParked, MayPass, LetsGo, AreCounts, sees};
 ghost use Rattle.lot_sync.specs.Released.{IsFitting, decision};
 ghost use Rattle.lot_words.specs.Values.{IsIn, HasSeen};
 ghost use Rattle.lot_park.specs.Parking.{Tells, debt};
@@ -12,9 +12,12 @@ use crate::held::Held;
 use crate::lot::Lot;
 use crate::pass::{LotName, Pass};
 use crate::released::Released;
-use crate::scheme::NamedPass;
-use crate::steps::LockSteps;
-use lot_park::{Moment, ParkingLot, Token, UnparkResult};
+use crate::scheme::{LockScheme, NamedPass};
+use crate::steps::{LockSteps, free};
+use crate::tables::{Locks, LotScheme};
+use lot_park::parts::{Part, unpark_one};
+use lot_park::{Moment, ParkingLot, Scheme, Token, UnparkResult};
+use lot_waits::Waiter;
 use lot_words::Keeps;
 use std::sync::Wait;
 
@@ -35,7 +38,7 @@ impl<V: Keeps + Send, N: LotName<V> + Send> Lot<V, N> {
         requires owns { Owns pass held.key }
         requires back { MayGiveBack V.keeps V.grows V.part pass held }
         ensures pass { result.0 ≡ leaving pass held.key held.value }
-        ensures wide { IsWide self.now.locks result.0 }
+        ensures wide { IsWide self.now result.0 }
         ensures fits { IsFitting result.1 false moment.now }
     {
         self.release(rt, pass, held, moment, false)
@@ -54,7 +57,7 @@ impl<V: Keeps + Send, N: LotName<V> + Send> Lot<V, N> {
         requires owns { Owns pass held.key }
         requires back { MayGiveBack V.keeps V.grows V.part pass held }
         ensures pass { result.0 ≡ leaving pass held.key held.value }
-        ensures wide { IsWide self.now.locks result.0 }
+        ensures wide { IsWide self.now result.0 }
         ensures fits { IsFitting result.1 true moment.now }
     {
         self.release(rt, pass, held, moment, true)
@@ -71,16 +74,16 @@ impl<V: Keeps + Send, N: LotName<V> + Send> Lot<V, N> {
         requires owns { Owns pass held.key }
         requires back { MayGiveBack V.keeps V.grows V.part pass held }
         ensures freed { MatchOption result.1 (result.0 ≡ leaving pass held.key held.value) (λ back. (back ≡ held) × (result.0 ≡ pass)) }
-        ensures wide { IsWide self.now.locks result.0 }
+        ensures wide { IsWide self.now result.0 }
     {
         let key = held.key();
-        let right = self.given_back(pass, held, key);
+        let (right, waiter) = self.given_back(pass, held, key);
         let (right, freed) = self.free(right, key);
         if freed {
-            (self.at_rest(right), None)
+            (self.at_rest(right, waiter), None)
         } else {
             let (right, value) = self.value_out(right, key);
-            (self.at_rest(right), Some(Held::new(key, value)))
+            (self.at_rest(right, waiter), Some(Held::new(key, value)))
         }
     }
 
@@ -97,28 +100,35 @@ impl<V: Keeps + Send, N: LotName<V> + Send> Lot<V, N> {
         requires owns { Owns pass held.key }
         requires back { MayGiveBack V.keeps V.grows V.part pass held }
         ensures pass { result.0 ≡ leaving pass held.key held.value }
-        ensures wide { IsWide self.now.locks result.0 }
+        ensures wide { IsWide self.now result.0 }
         ensures fits { IsFitting result.1 fair moment.now }
     {
         let key = held.key();
-        let right = self.given_back(pass, held, key);
+        let (right, waiter) = self.given_back(pass, held, key);
         let (right, released) = self.let_go(rt, right, key, moment, fair);
-        (self.at_rest(right), released)
+        (self.at_rest(right, waiter), released)
     }
 
     /// The value goes back into its slot.
     #[inline(always)]
-    fn given_back(&self, pass: Pass<V, N>, held: Held<V, N>, key: usize) -> NamedPass<V, N>
+    pub(crate) fn given_back(
+        &self,
+        pass: Pass<V, N>,
+        held: Held<V, N>,
+        key: usize,
+    ) -> (NamedPass<V, N>, Waiter<N>)
         requires key { (held.key ≡ key) × (key < self.now.locks) }
         requires owns { Owns pass key }
         requires back { MayGiveBack V.keeps V.grows V.part pass held }
-        ensures owner { IsNewOwner V.grows N.values N.threads result key }
-        ensures lies { IsIn result.own key held.value }
-        ensures grown { (u : V) → HasSeen result.own key u → V.grows u held.value }
-        ensures same { sees result ≡ pass }
+        ensures owner { IsNewOwner V.grows N.values N.threads result.0 key }
+        ensures lies { IsIn result.0.own key held.value }
+        ensures grown { (u : V) → HasSeen result.0.own key u → V.grows u held.value }
+        ensures counts { AreCounts (N.locks + N.conds) result.0.thread result.1 }
+        ensures same { sees result.1 result.0 ≡ pass }
         ensures locks { key < length N.values }
     {
-        self.value_in(pass.into_right(), key, held.into_value())
+        let (right, waiter) = pass.apart();
+        (self.value_in(right, key, held.into_value()), waiter)
     }
 
     /// One compare-exchange: the lock is let go where nobody is parked.
@@ -128,8 +138,7 @@ impl<V: Keeps + Send, N: LotName<V> + Send> Lot<V, N> {
         requires owner { IsNewOwner V.grows N.values N.threads right key }
         ensures { MatchBool result.1 (LetsGo right key result.0) (IsFoundParked right key result.0) }
     {
-        let (right, freed) = self.words().free(right.into_pass(), key);
-        (NamedPass::new(right), freed)
+        free(self.words(), right, key)
     }
 
     #[inline(always)]
@@ -146,67 +155,83 @@ impl<V: Keeps + Send, N: LotName<V> + Send> Lot<V, N> {
         ensures went { LetsGo right key result.0 }
         ensures fits { IsFitting result.1 fair moment.now }
     {
-        let (right, freed) = self.free(right, key);
-        if freed {
-            (right, Released::Quiet)
-        } else {
-            self.let_go_slowly(rt, right, key, moment, fair)
-        }
-    }
-
-    /// The lock was found parked: one sleeper is taken from its line, if any is there.
-    #[cold]
-    #[inline(never)]
-    fn let_go_slowly<R: Wait>(
-        &self,
-        rt: &R,
-        right: NamedPass<V, N>,
-        key: usize,
-        moment: Moment,
-        fair: bool,
-    ) -> (NamedPass<V, N>, Released)
-        requires key { key < self.now.locks }
-        requires parked { MayPass right key }
-        ensures went { LetsGo right key result.0 }
-        ensures fits { IsFitting result.1 fair moment.now }
-    {
-        unpark(rt, &self.parking, right, key, moment, fair)
+        let scheme = self.parking.scheme().first();
+        let_go::<LotScheme<V, N>, LockScheme<V, N>, Locks, R>(
+            rt,
+            &self.parking,
+            scheme,
+            right,
+            key,
+            moment,
+            fair,
+        )
     }
 }
 
-/// Takes one sleeper from the line of the lock, and hands the lock to it or lets it go. What the callback decides is answered.
-fn unpark<S: LockSteps, R: Wait>(
+/// Lets the lock go: at once where nobody is parked.
+#[inline(always)]
+pub(crate) fn let_go<S: Scheme, A: LockSteps, P: Part<S, A>, R: Wait>(
     rt: &R,
     parking: &ParkingLot<S>,
-    right: S::Pass,
+    scheme: &A,
+    right: A::Pass,
     key: usize,
     moment: Moment,
     fair: bool,
-) -> (S::Pass, Released)
+) -> (A::Pass, Released)
     requires key { key < parking.now.keys }
-    requires may { S.may_pass right key }
-    ensures went { S.lets_go right key result.0 }
+    requires serves { P.serves key }
+    requires has { A.has scheme.now key }
+    requires may { A.may_let_go right key }
+    ensures went { A.lets_go right key result.0 }
     ensures fits { IsFitting result.1 fair moment.now }
 {
-    let scheme = parking.scheme();
-    let (went, _) = parking.unpark_one(
+    let (right, freed) = scheme.free(right, key);
+    if freed {
+        (right, Released::Quiet)
+    } else {
+        unpark::<S, A, P, R>(rt, parking, scheme, right, key, moment, fair)
+    }
+}
+
+/// The lock was found parked: takes one sleeper from its line, if any is there, and hands the lock to it or lets it go. What the
+/// callback decides is answered.
+#[cold]
+#[inline(never)]
+fn unpark<S: Scheme, A: LockSteps, P: Part<S, A>, R: Wait>(
+    rt: &R,
+    parking: &ParkingLot<S>,
+    scheme: &A,
+    right: A::Pass,
+    key: usize,
+    moment: Moment,
+    fair: bool,
+) -> (A::Pass, Released)
+    requires key { key < parking.now.keys }
+    requires serves { P.serves key }
+    requires may { A.may_pass right key }
+    ensures went { A.lets_go right key result.0 }
+    ensures fits { IsFitting result.1 fair moment.now }
+{
+    let (went, _) = unpark_one::<S, A, P, R, (A::Pass, Released), _>(
         rt,
+        parking,
         key,
         moment,
         (right, Released::Nobody),
-        |x: (S::Pass, Released), root: S::Root, told: UnparkResult| -> (
-            (S::Pass, Released),
-            S::Root,
+        |x: (A::Pass, Released), root: A::Root, told: UnparkResult| -> (
+            (A::Pass, Released),
+            A::Root,
             Token,
         )
-            requires may { S.may_pass x.0 (S.Root.key root) }
-            requires clear { S.Root.owes root ≡ [] }
-            requires told { (now : ℕ) × Tells (S.Root.line root) now told }
-            ensures went { S.lets_go x.0 (S.Root.key root) result.0.0 }
-            ensures key { S.Root.key result.1 ≡ S.Root.key root }
-            ensures line { S.Root.line result.1 ≡ drop 1 (S.Root.line root) }
+            requires may { A.may_pass x.0 (A.Root.key root) }
+            requires clear { A.Root.owes root ≡ [] }
+            requires told { (now : ℕ) × Tells (A.Root.line root) now told }
+            ensures went { A.lets_go x.0 (A.Root.key root) result.0.0 }
+            ensures key { A.Root.key result.1 ≡ A.Root.key root }
+            ensures line { A.Root.line result.1 ≡ drop 1 (A.Root.line root) }
             ensures decided { result.0.1 ≡ decision told.thread (fair || told.fair) }
-            ensures owes { S.Root.owes result.1 ≡ debt told.thread result.2.0 }
+            ensures owes { A.Root.owes result.1 ≡ debt told.thread result.2.0 }
         {
             let (pass, root, token, released) = scheme.hand_over(x.0, root, told, fair);
             ((pass, released), root, token)

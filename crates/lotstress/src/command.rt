@@ -3,6 +3,7 @@
 use crate::count::{Counting, count};
 use crate::failure::Failure;
 use crate::number::number;
+use crate::relay::{Relaying, relay};
 use crate::replay::replay;
 use arrayvec::ArrayString;
 use lot_core::{MAX_KEYS, MAX_THREADS};
@@ -74,6 +75,10 @@ fn text_of<T: Threads + Wait + Sync, F: Read + Drop>(
             let numbers = counting(threads, locks, rounds, seed);
             count(rt, alloc, &numbers.ok_or(Failure::BadCommandLine)?)
         }
+        ["relay", threads, rounds, seed] => {
+            let numbers = relaying(threads, rounds, seed);
+            relay(rt, alloc, &numbers.ok_or(Failure::BadCommandLine)?)
+        }
         _ => Err(Failure::BadCommandLine),
     }
 }
@@ -82,6 +87,14 @@ fn counting(threads: &str, locks: &str, rounds: &str, seed: &str) -> Option<Coun
     Some(Counting {
         threads: number(threads, 1, MAX_THREADS as u64)? as usize,
         locks: number(locks, 1, MAX_KEYS as u64)? as usize,
+        rounds: number(rounds, 0, MAX_ROUNDS)?,
+        seed: number(seed, 0, u64::MAX)?,
+    })
+}
+
+fn relaying(threads: &str, rounds: &str, seed: &str) -> Option<Relaying> {
+    Some(Relaying {
+        threads: number(threads, 2, MAX_THREADS as u64)? as usize,
         rounds: number(rounds, 0, MAX_ROUNDS)?,
         seed: number(seed, 0, u64::MAX)?,
     })

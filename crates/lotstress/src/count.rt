@@ -1,28 +1,25 @@
 //! `count`: threads that lock, count themselves and unlock, on real locks.
-ghost use Rattle.std.specs.Prelude.{◌≡◌, ◌≤◌, ◌<◌, ◌+◌, ℕ, length, vec_len, vec_capacity, IfOk, IsTrue, MatchBool};
+ghost use Rattle.std.specs.Prelude.{◌≡◌, ◌≤◌, ◌<◌, ◌+◌, ℕ, length, vec_len, IfOk, MatchBool};
 ghost use Rattle.lot_core.specs.declared.state.TheConstants.{MAX_THREADS, MAX_KEYS};
-ghost use Rattle.lot_journal.specs.Journal.{GoesOn, calls_of};
 ghost use Rattle.lot_sync.specs.Lot.{OwnsNone};
-ghost use Rattle.lotstress.specs.Counters.{total_after, IsLegalCount, AllLegal, IsAdded, OwnIsMore};
+ghost use Rattle.lot_sync.specs.Opened.{IsNamed};
+ghost use Rattle.lotstress.specs.Counters.{AllLegal};
 ghost use Rattle.lotstress.specs.Works.{WorksOn};
 
 use crate::command::report;
 use crate::counter::{Add, Counter};
 use crate::failure::Failure;
 use crate::gate::{Gate, OpenGate, Point};
+use crate::workers::{Flags, all_start, close, enter, moment, start};
 use lot_journal::Journal;
-use lot_sync::{Held, Lot, LotName, Moment, OpenFault, Opened, Pass};
+use lot_sync::{Held, Lot, LotName, OpenFault, Opened, Pass};
+use lot_words::Keeps;
 use std::alloc::{AllocError, Global};
 use std::fmt::Write as _;
 use std::io::Write;
 use std::marker::Brand;
 use std::sync::Wait;
-use std::sync::atomic::{AtomicU64, Ordering};
-use std::thread;
 use std::thread::Threads;
-
-/// How much later each round of a worker is than the one before, in nanoseconds. No clock is read.
-const ROUND: u64 = 500_000;
 
 /// How many threads, how many locks, how many rounds of each thread, and the seed of the random words.
 #[derive(Drop)]
@@ -91,107 +88,58 @@ fn run<N: LotName<Journal<Counter>> + Send + Sync, T: Threads + Wait + Sync, G: 
     counting: &Counting,
     opened: Opened<Journal<Counter>>,
 ) -> Result<String, Failure>
-    requires names { (opened.table ≡ N.opening.locks) × (opened.threads ≡ N.threads) × (opened.values ≡ N.values) }
+    requires named { IsNamed (record { opening = N.opening; threads = N.threads; values = N.values; locks = N.locks; conds = N.conds }) opened }
     requires sizes { (opened.threads ≡ counting.now.threads) × (length opened.values ≡ counting.now.locks) }
 {
-    let passes = match Vec::with_capacity(alloc, counting.threads) {
-        Ok(passes) => passes,
-        Err(refused) => {
-            let _ = opened.close();
-            return Err(Failure::from(refused));
-        }
+    let (lot, passes) = match start::<Journal<Counter>, N>(alloc, counting.threads, opened) {
+        Ok(started) => started,
+        Err(failure) => return Err(failure),
     };
-    match opened.start::<N>(alloc) {
-        Ok(lot) => {
-            let outcome = work_all(rt, gate, counting, &lot);
-            let journals = close(rt, lot, passes, counting.threads);
-            outcome?;
-            print(alloc, journals.as_slice())
-        }
-        Err(_) => {
-            passes.destroy_empty();
-            Err(Failure::NoMemory)
-        }
-    }
+    let outcome = count_all(rt, gate, counting, &lot);
+    let (journals, _) = close(rt, lot, passes, counting.threads);
+    outcome?;
+    print(alloc, journals.as_slice())
 }
-
-/// What the workers tell one another.
-#[derive(Drop)]
-struct Flags {
-    /// 0 until all workers were started; then 1, or 2 where one could not be started.
-    go: AtomicU64,
-    /// 1 where a worker got no pass, or no memory for a call.
-    refused: AtomicU64,
-}
-
-const WAIT: u64 = 0;
-
-const GO: u64 = 1;
-
-const END: u64 = 2;
 
 /// Runs the workers to their end.
-fn work_all<N: LotName<Journal<Counter>> + Send + Sync, T: Threads + Wait + Sync, G: Gate + Sync>(
-    rt: &T,
-    gate: &G,
-    counting: &Counting,
-    lot: &Lot<Journal<Counter>, N>,
-) -> Result<(), Failure>
+fn count_all<
+    V: Counts + Send + Sync,
+    N: LotName<V> + Send + Sync,
+    T: Threads + Wait + Sync,
+    G: Gate + Sync,
+>(rt: &T, gate: &G, counting: &Counting, lot: &Lot<V, N>) -> Result<(), Failure>
     requires { (lot.now.threads ≡ counting.now.threads) × (lot.now.locks ≡ counting.now.locks) }
 {
-    let flags = Flags {
-        go: AtomicU64::new(WAIT),
-        refused: AtomicU64::new(0),
-    };
-    if !start_all(rt, gate, counting, lot, &flags) {
-        return Err(Failure::CannotStartWorker);
-    }
-    if flags.refused.load(Ordering::SeqCst) != 0 {
-        return Err(Failure::NoMemory);
-    }
-    Ok(())
+    let flags = Flags::new();
+    let started = start_all(rt, gate, counting, lot, &flags);
+    flags.outcome(started)
 }
 
-/// Starts the workers and waits for their end. Answers whether all could be started; else they end without a round.
-fn start_all<N: LotName<Journal<Counter>> + Send + Sync, T: Threads + Wait + Sync, G: Gate + Sync>(
-    rt: &T,
-    gate: &G,
-    counting: &Counting,
-    lot: &Lot<Journal<Counter>, N>,
-    flags: &Flags,
-) -> bool
+/// Starts the workers and waits for their end. Answers whether all could be started.
+fn start_all<
+    V: Counts + Send + Sync,
+    N: LotName<V> + Send + Sync,
+    T: Threads + Wait + Sync,
+    G: Gate + Sync,
+>(rt: &T, gate: &G, counting: &Counting, lot: &Lot<V, N>, flags: &Flags) -> bool
     requires { (lot.now.threads ≡ counting.now.threads) × (lot.now.locks ≡ counting.now.locks) }
 {
-    thread::scope(
-        thread::scope_env(),
+    all_start(
         rt,
-        |scope| -> bool
+        counting.threads,
+        flags,
+        &|worker: usize|
             requires { (lot.now.threads ≡ counting.now.threads) × (lot.now.locks ≡ counting.now.locks) }
         {
-            let mut started = true;
-            for worker in 0..counting.threads {
-                let job = move ||
-                    requires { (lot.now.threads ≡ counting.now.threads) × (lot.now.locks ≡ counting.now.locks) }
-                {
-                    work(rt, lot, gate, flags, counting, worker);
-                };
-                if scope.spawn(job).is_err() {
-                    started = false;
-                    break;
-                }
-            }
-            flags
-                .go
-                .store(if started { GO } else { END }, Ordering::SeqCst);
-            started
+            work(rt, lot, gate, flags, counting, worker);
         },
     )
 }
 
-/// One worker: it waits until all were started, and then goes its rounds. Where memory is refused to one, it ends there.
-fn work<N: LotName<Journal<Counter>> + Send + Sync, T: Wait, G: Gate>(
+/// One worker: it waits until all may go, and then goes its rounds. Where memory is refused to one, it ends there.
+fn work<V: Counts + Send + Sync, N: LotName<V> + Send + Sync, T: Wait, G: Gate>(
     rt: &T,
-    lot: &Lot<Journal<Counter>, N>,
+    lot: &Lot<V, N>,
     gate: &G,
     flags: &Flags,
     counting: &Counting,
@@ -199,47 +147,32 @@ fn work<N: LotName<Journal<Counter>> + Send + Sync, T: Wait, G: Gate>(
 )
     requires { (lot.now.threads ≡ counting.now.threads) × (lot.now.locks ≡ counting.now.locks) }
 {
-    let Ok(pass) = lot.register(rt) else {
-        flags.refused.store(1, Ordering::SeqCst);
+    let Some(pass) = enter(rt, lot, flags) else {
         return;
     };
     let mut pass = pass;
-    if may_go(rt, flags) {
-        for round in 0..counting.rounds {
-            let (gone, called) = go_round(rt, lot, gate, counting, worker, round, pass);
-            pass = gone;
-            if !called {
-                flags.refused.store(1, Ordering::SeqCst);
-                break;
-            }
+    for round in 0..counting.rounds {
+        let (gone, called) = go_round(rt, lot, gate, counting, worker, round, pass);
+        pass = gone;
+        if !called {
+            flags.refuse();
+            break;
         }
     }
     lot.leave(rt, pass);
 }
 
-/// Whether all workers were started.
-fn may_go<T: Wait>(rt: &T, flags: &Flags) -> bool {
-    for _ in rt.forever() {
-        let go = flags.go.load(Ordering::SeqCst);
-        if go != WAIT {
-            return go == GO;
-        }
-        thread::yield_now();
-    }
-    unreachable!()
-}
-
 /// One round of a worker: it locks the round's key, adds one to its counter and unlocks. Answers whether there was memory for
 /// the call.
-fn go_round<N: LotName<Journal<Counter>> + Send + Sync, T: Wait, G: Gate>(
+fn go_round<V: Counts + Send + Sync, N: LotName<V> + Send + Sync, T: Wait, G: Gate>(
     rt: &T,
-    lot: &Lot<Journal<Counter>, N>,
+    lot: &Lot<V, N>,
     gate: &G,
     counting: &Counting,
     worker: usize,
     round: u64,
-    pass: Pass<Journal<Counter>, N>,
-) -> (Pass<Journal<Counter>, N>, bool)
+    pass: Pass<V, N>,
+) -> (Pass<V, N>, bool)
     requires sizes { (lot.now.threads ≡ counting.now.threads) × (lot.now.locks ≡ counting.now.locks) }
     requires free { OwnsNone pass }
     ensures { OwnsNone result.0 }
@@ -255,67 +188,41 @@ fn go_round<N: LotName<Journal<Counter>> + Send + Sync, T: Wait, G: Gate>(
     (pass, called)
 }
 
-/// The owner calls `Add(1)`. False, with nothing changed, where memory was refused.
-fn add_one<N>(held: &mut Held<Journal<Counter>, N>, thread: usize) -> bool
-    requires kept { IsLegalCount held.old.value }
-    ensures works { WorksOn (λ key journal. IsLegalCount journal) GoesOn calls_of held.old thread held.new }
-    ensures added { MatchBool result (IsAdded held.old.value thread (record { 0 = 1 }) held.new.value) (held.new.value ≡ held.old.value) }
-    ensures own { IsTrue result → OwnIsMore held.old.value thread (record { 0 = 1 }) (total_after held.old.value.object (record { 0 = 1 })) held.new.value }
+/// The owner's thread counts itself. False, with nothing changed, where memory was refused.
+fn add_one<V: Counts, N>(held: &mut Held<V, N>, thread: usize) -> bool
+    requires kept { V.keeps held.old.key held.old.value }
+    ensures works { WorksOn V.keeps V.grows V.part held.old thread held.new }
+    ensures counted { MatchBool result (V.is_counted held.old.value thread held.new.value) (held.new.value ≡ held.old.value) }
 {
-    held.value_mut().call(thread, Add(1)).is_ok()
+    let key = held.key();
+    held.value_mut().count_up(key, thread)
 }
 
-/// The moment of a worker's release in a round.
-fn moment(seed: u64, worker: u64, round: u64) -> Moment {
-    let word = seed
-        .wrapping_add(worker)
-        .wrapping_mul(2_654_435_761)
-        .wrapping_add(round.wrapping_mul(40_503));
-    Moment {
-        now: round.wrapping_mul(ROUND),
-        word,
-    }
+/// What the workers do with a value: they count themselves. The workers are generic over it, since a lot of journals has more types than
+/// the toolchain follows in a closure that a thread runs.
+pub(crate) trait Counts: Keeps {
+    ghost use Rattle.std.specs.Prelude.{◌≡◌, ◌≢◌, ℕ, MatchBool};
+
+    /// The value before, a thread, and the value in which that thread is counted once more.
+    ghost is_counted: { Self → ℕ → Self → Type 0 };
+
+    /// Counts the thread. False, with nothing changed, where memory was refused.
+    fn count_up(&mut self, key: usize, thread: usize) -> bool
+        requires kept { Self.keeps key self.old }
+        ensures kept { Self.keeps key self.new }
+        ensures grown { Self.grows self.old self.new }
+        ensures others { (t : ℕ) → t ≢ thread → Self.part t self.old ≡ Self.part t self.new }
+        ensures counted { MatchBool result (is_counted self.old thread self.new) (self.new ≡ self.old) };
 }
 
-/// Takes all passes and ends the lot.
-fn close<N: LotName<Journal<Counter>> + Send + Sync, T: Wait>(
-    rt: &T,
-    mut lot: Lot<Journal<Counter>, N>,
-    mut passes: Vec<Pass<Journal<Counter>, N>>,
-    threads: usize,
-) -> Vec<Journal<Counter>>
-    requires threads { lot.threads ≡ threads }
-    requires room { (vec_len passes ≡ 0) × (threads ≤ vec_capacity passes) }
-    ensures { vec_len result ≡ lot.locks }
-{
-    for thread in 0..threads {
-        let pass = take_pass(rt, &mut lot, thread);
-        passes.push_reserved(pass);
-    }
-    let (journals, _) = lot.close(rt, passes);
-    journals
-}
+impl Counts for Journal<Counter> {
+    ghost use Rattle.lotstress.specs.Counters.{total_after, IsAdded, OwnIsMore};
 
-/// Takes the pass of one thread.
-fn take_pass<N: LotName<Journal<Counter>> + Send + Sync, T: Wait>(
-    rt: &T,
-    lot: &mut Lot<Journal<Counter>, N>,
-    thread: usize,
-) -> Pass<Journal<Counter>, N>
-    ensures same { (lot.new.threads ≡ lot.old.threads) × (lot.new.locks ≡ lot.old.locks) }
-    ensures thread { result.thread ≡ thread }
-    ensures free { OwnsNone result }
-{
-    for _ in rt.forever() {
-        if let Some(pass) = lot.take_left(rt) {
-            if pass.thread() == thread {
-                return pass;
-            }
-            lot.leave(rt, pass);
-        }
-        thread::yield_now();
+    ghost is_counted = { λ old thread new. IsAdded old thread (record { 0 = 1 }) new × OwnIsMore old thread (record { 0 = 1 }) (total_after old.object (record { 0 = 1 })) new };
+
+    fn count_up(&mut self, _key: usize, thread: usize) -> bool {
+        self.call(thread, Add(1)).is_ok()
     }
-    unreachable!()
 }
 
 /// A line for each lock, and one for the sum.

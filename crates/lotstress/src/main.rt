@@ -1,21 +1,26 @@
 //! `lotstress` runs locks under load, and schedules through the proved model:
 //!
 //! - `lotstress count THREADS LOCKS ROUNDS SEED`: workers lock, count and unlock; prints what each lock counted.
+//! - `lotstress relay THREADS ROUNDS SEED`: producers put numbers into a buffer, consumers take them, and both wait on conditions; prints
+//!   what was put and taken, and whether the conditions' ledger is balanced.
 //! - `lotstress replay FILE`: runs a script of events and prints the state that it leaves.
 //!
-//! It stands on `lot_sync` (the locks), `lot_journal` (what they guard) and `lot_core` (the model).
+//! It stands on `lot_sync` (the locks and conditions), `lot_journal` (what they guard) and `lot_core` (the model).
 #![tactic(auto)]
 
+mod buffer;
 mod command;
 mod count;
 mod counter;
 mod failure;
 mod gate;
 mod number;
+mod relay;
 mod replay;
 #[cfg(test)]
 mod tests;
 mod words;
+mod workers;
 
 use command::{report, run_command};
 use failure::Failure;

@@ -40,7 +40,13 @@ fn script_failure(fault: ScriptFault) -> Failure {
 }
 
 fn run_script(alloc: Global, script: &Script) -> Result<State, Failure> {
-    let opened = State::open(alloc, script.threads, script.locks, script.conds);
+    let opened = State::open_with(
+        alloc,
+        script.threads,
+        script.locks,
+        script.conds,
+        script.permits.as_slice(),
+    );
     let mut state = opened.map_err(|fault| match fault {
         CoreFault::BadLimits => Failure::BadLimits,
         _ => Failure::NoMemory,

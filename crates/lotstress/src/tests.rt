@@ -3,6 +3,7 @@
 use crate::command::run_command;
 use crate::count::{Counting, count_with};
 use crate::gate::{Gate, Point};
+use crate::relay::{Relaying, relay_with};
 use std::alloc::{AllocError, Global};
 use std::io::Write;
 use std::process::Abort;
@@ -229,7 +230,46 @@ fn scripts_are_replayed(rt: HostRuntime) {
     }
 }
 
-const WRONG_WORDS: [(&str, &[&str]); 17] = [
+/// The same with semaphores.
+const PERMITS: [(&str, &str, &str, &str, u8); 3] = [
+    (
+        "permit_passed_on",
+        "open 2 1 0 1\nstake 0 1\nstake 1 1\nsmark 1 1\nspark 1 1\nspass 0 1 0\n",
+        "lock 0 word 0 owner - line -\nsem 1 left 1 out 0 parked 0 line -\nthread 0 calm\nthread 1 seeks 1\n",
+        "",
+        0,
+    ),
+    (
+        "permit_taken_then",
+        "open 2 1 0 1\nstake 0 1\nstake 1 1\nsmark 1 1\nspark 1 1\nspass 0 1 0\nstake 1 1\n",
+        "lock 0 word 0 owner - line -\nsem 1 left 0 out 1 parked 0 line -\nthread 0 calm\nthread 1 calm\n",
+        "",
+        0,
+    ),
+    (
+        "permit_that_is_not_out",
+        "open 1 1 0 0\nsfree 0 1\n",
+        "",
+        "event 1 refused\n",
+        2,
+    ),
+];
+
+#[test]
+fn permits_are_replayed(rt: HostRuntime) {
+    for (name, script, out, faults, status) in PERMITS {
+        check(
+            &rt,
+            rt.alloc(),
+            name,
+            &["replay", "script"],
+            Some(script.as_bytes()),
+            (out, faults, status),
+        );
+    }
+}
+
+const WRONG_WORDS: [(&str, &[&str]); 25] = [
     ("no words", &[]),
     ("unknown command", &["sleep", "1"]),
     ("replay without a file", &["replay"]),
@@ -252,7 +292,18 @@ const WRONG_WORDS: [(&str, &[&str]); 17] = [
         "a seed of 2^64",
         &["count", "2", "1", "1", "18446744073709551616"],
     ),
-    ("relay, which is not there yet", &["relay", "1", "3", "1"]),
+    ("relay of one thread", &["relay", "1", "3", "1"]),
+    ("relay of no threads", &["relay", "0", "3", "1"]),
+    ("relay of 65 threads", &["relay", "65", "3", "1"]),
+    ("relay of 10001 rounds", &["relay", "2", "10001", "1"]),
+    ("relay without a seed", &["relay", "2", "3"]),
+    ("relay with a word too many", &["relay", "2", "3", "1", "1"]),
+    ("relay with a leading zero", &["relay", "02", "3", "1"]),
+    ("relay with a letter", &["relay", "2", "3x", "1"]),
+    (
+        "relay with a seed of 2^64",
+        &["relay", "2", "3", "18446744073709551616"],
+    ),
 ];
 
 #[test]
@@ -311,6 +362,48 @@ const COUNTS: [(&str, &[&str], &str); 7] = [
 fn all_rounds_are_counted(rt: HostRuntime) {
     for _ in 0..10u8 {
         for (name, words, out) in COUNTS {
+            check(&rt, rt.alloc(), name, words, None, (out, "", 0));
+        }
+    }
+}
+
+const RELAYS: [(&str, &[&str], &str); 6] = [
+    (
+        "two producers and two consumers",
+        &["relay", "4", "10", "3"],
+        "put 20\ntaken 20\nsum 110\nbalanced\n",
+    ),
+    (
+        "nothing to relay",
+        &["relay", "2", "0", "9"],
+        "put 0\ntaken 0\nsum 0\nbalanced\n",
+    ),
+    (
+        "a consumer more",
+        &["relay", "5", "3", "1"],
+        "put 6\ntaken 6\nsum 12\nbalanced\n",
+    ),
+    (
+        "one of each",
+        &["relay", "2", "1000", "7"],
+        "put 1000\ntaken 1000\nsum 500500\nbalanced\n",
+    ),
+    (
+        "the greatest seed",
+        &["relay", "3", "5", "18446744073709551615"],
+        "put 5\ntaken 5\nsum 15\nbalanced\n",
+    ),
+    (
+        "64 threads",
+        &["relay", "64", "500", "7"],
+        "put 16000\ntaken 16000\nsum 4008000\nbalanced\n",
+    ),
+];
+
+#[test]
+fn all_numbers_are_relayed(rt: HostRuntime) {
+    for _ in 0..10u8 {
+        for (name, words, out) in RELAYS {
             check(&rt, rt.alloc(), name, words, None, (out, "", 0));
         }
     }
@@ -504,6 +597,50 @@ impl Gate for Meeting {
         }
         self.missed.store(1, Ordering::SeqCst);
     }
+}
+
+/// Holds the consumer, worker 1, before its first lock, until the producer, worker 0, has owned the lock in its fourth round.
+#[derive(Drop)]
+struct Filled {
+    full: AtomicU64,
+    missed: AtomicU64,
+}
+
+impl Gate for Filled {
+    fn reached(&self, worker: usize, round: u64, point: Point) {
+        if worker == 0 && round == 3 && point == Point::BeforeRelease {
+            self.full.store(1, Ordering::SeqCst);
+        }
+        if worker != 1 || round != 0 || point != Point::BeforeLock {
+            return;
+        }
+        for _ in 0..ASKINGS {
+            if self.full.load(Ordering::SeqCst) != 0 {
+                return;
+            }
+            thread::yield_now();
+        }
+        self.missed.store(1, Ordering::SeqCst);
+    }
+}
+
+#[test]
+fn producer_fills_the_buffer_first(rt: HostRuntime) {
+    let filled = Filled {
+        full: AtomicU64::new(0),
+        missed: AtomicU64::new(0),
+    };
+    let relaying = Relaying {
+        threads: 2,
+        rounds: 9,
+        seed: 7,
+    };
+    let mut out = Vec::new(rt.alloc());
+    let mut faults = Vec::new(rt.alloc());
+    let status = relay_with(&rt, rt.alloc(), &filled, &relaying, &mut out, &mut faults);
+    assert_eq!(rt; filled.missed.load(Ordering::SeqCst), 0);
+    assert!(rt; out.as_slice() == b"put 9\ntaken 9\nsum 45\nbalanced\n".as_slice());
+    assert_eq!(rt; status, 0);
 }
 
 #[test]

@@ -2,14 +2,16 @@
 ghost use Rattle.std.specs.Prelude.{◌≡◌, ◌<◌, ℕ, length, vec_len};
 ghost use Rattle.lot_journal.specs.Journal.{JournalView, GoesOn, calls_of};
 ghost use Rattle.lot_sync.specs.Lot.{OwnsNone, IsWide, HasSeen};
+ghost use Rattle.lot_sync.specs.Opened.{IsNamed};
 ghost use Rattle.lotstress.specs.Counters.{AllLegal, IsThere};
 ghost use Rattle.lotstress.specs.declared.counter.Add.{Add};
 ghost use Rattle.lotstress.specs.declared.counter.Counter.{Counter};
 
-use super::{add_one, close, go_round, new_journals};
+use super::{add_one, go_round, new_journals};
 use crate::count::Counting;
 use crate::counter::{Add, Counter};
 use crate::gate::OpenGate;
+use crate::workers::close;
 use lot_journal::{Entry, Journal};
 use lot_sync::{Lot, LotName, Moment, Opened, Pass};
 use std::alloc::Global;
@@ -78,7 +80,7 @@ fn call_once<N: LotName<Journal<Counter>> + Send + Sync, T: Wait + Abort>(
     requires free { OwnsNone pass }
     ensures same { result.thread ≡ pass.thread }
     ensures free { OwnsNone result }
-    ensures wide { IsWide lot.now.locks result }
+    ensures wide { IsWide lot.now result }
     ensures there { (seen now : JournalView Counter Add ℕ) → HasSeen pass 0 seen → HasSeen result 0 now → IsThere pass.thread (record { 0 = 1 }) seen now }
 {
     let thread = pass.thread();
@@ -139,7 +141,7 @@ fn add_in_turn<N: LotName<Journal<Counter>> + Send + Sync, T: Wait + Abort>(
     alloc: Global,
     opened: Opened<Journal<Counter>>,
 )
-    requires names { (opened.table ≡ N.opening.locks) × (opened.threads ≡ N.threads) × (opened.values ≡ N.values) }
+    requires named { IsNamed (record { opening = N.opening; threads = N.threads; values = N.values; locks = N.locks; conds = N.conds }) opened }
     requires sizes { (opened.threads ≡ 2) × (length opened.values ≡ 1) }
 {
     let Ok(passes) = Vec::with_capacity(alloc, 2) else {
@@ -156,7 +158,7 @@ fn add_in_turn<N: LotName<Journal<Counter>> + Send + Sync, T: Wait + Abort>(
     let (one, zero) = call_and_look(rt, &lot, one, zero);
     lot.leave(rt, one);
     lot.leave(rt, zero);
-    let journals = close(rt, lot, passes, 2);
+    let (journals, _) = close(rt, lot, passes, 2);
     assert_eq!(rt; journals.len(), 1);
     assert_eq!(rt; journals[0].object().total, 4);
 }

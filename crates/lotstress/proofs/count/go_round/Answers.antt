@@ -1,14 +1,12 @@
 use Rattle.std.proofs.Common.{ap, ◌∙◌}
-use Rattle.lot_journal.specs.Journal.{GoesOn, calls_of}
 use Rattle.lot_sync.specs.Lot.{leaving}
-use Rattle.lotstress.specs.Counters.{IsLegalCount}
 use Rattle.lot_sync.proofs.Holdings.{owns_none_again}
 use Rattle.lotstress.proofs.Rounds.{may_give_back}
 use Rattle.lotstress.proofs.count.go_round.Goals as goal
 
 pub unlock-pass-requires-clause-back : goal.unlock-pass-requires-clause-back
 unlock-pass-requires-clause-back g c κs within =
-    may_give_back (λ key journal. IsLegalCount journal) GoesOn calls_of c.args.pass c.lock-pass.result.0 _ c.thread-thread.result c.lock-pass.result.1 c.add_one-called.new.held
+    may_give_back g.V.Keeps.keeps g.V.Keeps.grows g.V.Keeps.part c.args.pass c.lock-pass.result.0 _ c.thread-thread.result c.lock-pass.result.1 c.add_one-called.new.held
     c.lock-pass.ensures.gets c.thread-thread.ensures c.add_one-called.ensures.works
 
 pub returns : goal.returns

@@ -6,5 +6,5 @@ use Rattle.lot_sync.proofs.lot.Lot.check_apart.Goals as goal
 
 pub returns-clause-apart : goal.returns-clause-apart
 returns-clause-apart g c = λ key a b. c.check_apart-first.ensures.locks key
-    (owned_held c.into_pass.result.pass.own.holds key (subst (λ p. Owns p key) (c.into_right.ensures.same ∙ ap sees c.into_pass.ensures.same) a))
-    (owned_held c.into_pass-2.result.pass.own.holds key (subst (λ p. Owns p key) (c.into_right-2.ensures.same ∙ ap sees c.into_pass-2.ensures.same) b))
+    (owned_held c.into_pass.result.pass.own.holds key (subst (λ p. Owns p key) (c.apart-first.ensures.same ∙ ap (sees c.apart-first.result.1) c.into_pass.ensures.same) a))
+    (owned_held c.into_pass-2.result.pass.own.holds key (subst (λ p. Owns p key) (c.apart-second.ensures.same ∙ ap (sees c.apart-second.result.1) c.into_pass-2.ensures.same) b))

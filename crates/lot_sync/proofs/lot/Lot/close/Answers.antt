@@ -1,44 +1,80 @@
-use Rattle.std.proofs.Common.{◌≡◌, ℕ, ◌<◌, ◌++◌, List, [], length, vec_len, rules, Some, slice_get, subst, sym, ap, ◌∙◌}
+use Rattle.std.proofs.Common.{◌≡◌, ℕ, ◌+◌, ◌<◌, ◌≤◌, ◌++◌, List, [], length, map, vec_len, rules, Some, slice_get, subst, sym, ap, ◌∙◌, arith}
 use Rattle.std.proofs.lemmas.List.Elements.{All-weaker, All-map}
+use Rattle.std.specs.List.{All, Any}
 use Rattle.lot_rights.specs.Shown.{PassShown, RootShown}
 use Rattle.lot_words.specs.declared.views.LockPassView.{LockPassView}
 use Rattle.lot_words.specs.declared.views.LockRootView.{LockRootView}
 use Rattle.lot_words.specs.Shown.{LockWordsShown}
-use Rattle.std.specs.List.{All, Any}
 use Rattle.lot_words.specs.Values.{FoundOk}
-use Rattle.lot_sync.specs.Lot.{PassView, LotView}
+use Rattle.lot_conds.specs.declared.views.CondRootView.{CondRootView}
+use Rattle.lot_conds.specs.Shown.{CondWordsShown}
+use Rattle.lot_park.specs.Parts.{Tables}
+use Rattle.lot_park.specs.declared.parts.both.OneOf.{OneOf}
+use Rattle.lot_waits.specs.Counts.{CountsView}
+use Rattle.lot_sync.specs.Lot.{PassView, LotView, counts_of}
 use Rattle.lot_sync.specs.Values.{GoesOnTo}
-use Rattle.lot_sync.specs.Passes.{seen_as}
-use Rattle.lot_sync.proofs.Turns.{some_at, some_before, no_elements}
+use Rattle.lot_words.specs.Closing.{HoldsNone}
+use Rattle.lot_sync.specs.Passes.{seen_as, lock_side, IsFree}
+use Rattle.lot_sync.proofs.Turns.{some_before, some_after, all_before, no_elements}
 use Rattle.lot_sync.proofs.lot.Lot.close.Goals as goal
 
-pub close-values-requires-clause-passes : goal.close-values-requires-clause-passes
-close-values-requires-clause-passes g c = λ t near.
-    some_before seen_as (λ (p : PassView _). p.thread ≡ t) c.gather.new.rights.items
-    (subst (Any (λ (p : PassView _). p.thread ≡ t)) (sym c.gather.ensures.same) (c.requires.all t
-    (subst (λ n. t < n) (ap (λ (w : LockWordsShown). w.size.threads) (c.into_words.ensures.same ∙ c.close-scheme.ensures.scheme)
-    ∙ (c.self.invariant.words_threads ∙ (sym c.self.invariant.own_threads ∙ ap (λ (v : LotView). v.threads) c.self.view_is))) near)))
+goes_on : {V Part : Type 0} (keeps : ℕ → V → Type 0) (grows : V → V → Type 0) (part : ℕ → V → Part) (values : List V) (passes : List (PassView V)) (rights : List (PassShown (LockPassView V))) → map seen_as rights ≡ map lock_side passes
+    → All (λ (p : PassShown (LockPassView V)). (l : ℕ) (y : V) → slice_get values l ≡ Some y → FoundOk keeps grows part l p.pass.thread p.pass.own y) rights → All (GoesOnTo keeps grows part values) passes
+goes_on {V} {Part} keeps grows part values passes rights same found =
+    All-weaker (λ (p : PassView V). GoesOnTo keeps grows part values (lock_side p)) (GoesOnTo keeps grows part values) (λ p goes. record { kept = goes.kept; grown = goes.grown; mine = goes.mine }) passes
+    (all_before lock_side (GoesOnTo keeps grows part values) passes (subst (All (GoesOnTo keeps grows part values)) same
+    (All-map (GoesOnTo keeps grows part values) seen_as rights
+    (All-weaker (λ (p : PassShown (LockPassView V)). (l : ℕ) (y : V) → slice_get values l ≡ Some y → FoundOk keeps grows part l p.pass.thread p.pass.own y) (λ (p : PassShown (LockPassView V)). GoesOnTo keeps grows part values (seen_as p))
+    (λ p is. record {
+      kept = λ key v at. (is key v at).kept;
+      grown = λ key u v at seen. (is key v at).grown u seen;
+      mine = λ key u v at seen. (is key v at).mine u seen;
+    }) rights found))))
 
-pub close-values-requires-clause-roots : goal.close-values-requires-clause-roots
-close-values-requires-clause-roots g c = λ k near.
-    let out = c.close-scheme.ensures.roots in
+pub unname_roots-requires-clause-keys : goal.unname_roots-requires-clause-keys
+unname_roots-requires-clause-keys g c κs within =
     let before = c.into_inner-idle.result.room.named in
-    let none : before.items ≡ [] = no_elements before.items (let n : length before.items ≡ vec_len before = search rules in n ∙ c.into_inner-idle.result.room.empty.2) in
-    let all : out.roots ≡ c.unname_roots.new.roots.items = sym (c.unname_roots.ensures.same ∙ (out.appended ∙ ap (λ (rs : List (RootShown LockRootView)). rs ++ out.roots) none)) in
-    let keys : c.into_words.result.size.locks ≡ length out.roots =
-    ap (λ (w : LockWordsShown). w.size.locks) (c.into_words.ensures.same ∙ c.close-scheme.ensures.scheme)
-    ∙ (c.self.invariant.words_locks ∙ (sym c.self.invariant.parking_keys ∙ sym out.each)) in
-    subst (Any (λ (q : RootShown LockRootView). q.root.key ≡ k)) all
-    (some_at (λ (q : RootShown LockRootView). q.root.key ≡ k) out.roots k (subst (λ n. k < n) keys near) (λ q at. out.named k q at))
+    let none : before.items ≡ [] = no_elements before.items (let n : length before.items ≡ vec_len before = search rules in n ∙ c.into_inner-idle.result.room.no_roots.0) in
+    let roots_are : c.close-scheme.new.out.items ≡ c.close-scheme.ensures.roots.roots =
+    c.close-scheme.ensures.roots.appended ∙ ap (λ (rs : List (OneOf (RootShown LockRootView) (RootShown CondRootView))). rs ++ c.close-scheme.ensures.roots.roots) none in
+    λ i r at. c.close-scheme.ensures.roots.named i r (subst (λ (rs : List (OneOf (RootShown LockRootView) (RootShown CondRootView))). slice_get rs i ≡ Some r) roots_are at)
+
+pub settle-ledger-requires-clause-waiters : goal.settle-ledger-requires-clause-waiters
+settle-ledger-requires-clause-waiters g c = λ t near.
+    subst (Any (λ (q : CountsView). q.thread ≡ t)) (sym c.gather.ensures.counts)
+    (some_after counts_of (λ (q : CountsView). q.thread ≡ t) c.args.passes.items (c.requires.all t (subst (λ n. t < n) (sym c.self.invariant.own_threads ∙ ap (λ (v : LotView). v.threads) c.self.view_is)
+    (subst (λ n. t < n) (ap (λ (s : CondWordsShown). s.size.threads) (c.apart-words.ensures.1 ∙ ap (λ (s : Tables LockWordsShown CondWordsShown). s.second) c.close-scheme.ensures.scheme) ∙ c.self.invariant.conds_threads) near))))
+
+pub settle-ledger-requires-clause-roots : goal.settle-ledger-requires-clause-roots
+settle-ledger-requires-clause-roots g c =
+    let before = c.into_inner-idle.result.room.named in
+    let none : before.items ≡ [] = no_elements before.items (let n : length before.items ≡ vec_len before = search rules in n ∙ c.into_inner-idle.result.room.no_roots.0) in
+    let roots_are : c.close-scheme.new.out.items ≡ c.close-scheme.ensures.roots.roots =
+    c.close-scheme.ensures.roots.appended ∙ ap (λ (rs : List (OneOf (RootShown LockRootView) (RootShown CondRootView))). rs ++ c.close-scheme.ensures.roots.roots) none in
+    let long : vec_len c.close-scheme.new.out ≡ length g.N.LotName.values + g.N.WaitName.conds =
+    (let n : vec_len c.close-scheme.new.out ≡ length c.close-scheme.new.out.items = search rules in n ∙ (ap length roots_are ∙ (c.close-scheme.ensures.roots.each ∙ c.self.invariant.parking_keys))) in
+    λ k among.
+    let border = c.self.invariant.named_locks in
+    let from = among.0 in
+    let below = among.1 in
+    c.unname_roots.ensures.conds k (omega (arith, from, border)) (omega (arith, below, border, long))
+
+pub close-requires-clause-table : goal.close-requires-clause-table
+close-requires-clause-table g c =
+    let named = sym c.into_words.ensures.named in (
+      subst (λ t. All (λ (p : PassShown (LockPassView g.row.V.Denot)). p.table ≡ t) c.gather.new.rights.items) named (All-weaker (IsFree g.N.Name.opening.locks) (λ (p : PassShown (LockPassView g.row.V.Denot)). p.table ≡ g.N.Name.opening.locks) (λ p free. free.is_of) c.gather.new.rights.items c.gather.ensures.free),
+      subst (λ t. All (λ (r : RootShown LockRootView). r.table ≡ t) c.unname_roots.new.roots.items) named c.unname_roots.ensures.own,
+    )
+
+pub close-requires-clause-idle : goal.close-requires-clause-idle
+close-requires-clause-idle g c = All-weaker (IsFree g.N.Name.opening.locks) HoldsNone (λ p free. free.free) c.gather.new.rights.items c.gather.ensures.free
+
+pub close-requires-clause-passes : goal.close-requires-clause-passes
+close-requires-clause-passes g c = λ t near.
+    some_before seen_as (λ (p : PassView _). p.thread ≡ t) c.gather.new.rights.items
+    (subst (Any (λ (p : PassView _). p.thread ≡ t)) (sym c.gather.ensures.same) (some_after lock_side (λ (p : PassView _). p.thread ≡ t) c.args.passes.items (c.requires.all t (subst (λ n. t < n) (sym c.self.invariant.own_threads ∙ ap (λ (v : LotView). v.threads) c.self.view_is)
+    (subst (λ n. t < n) (ap (λ (w : LockWordsShown). w.size.threads) (c.into_words.ensures.same ∙ (c.apart-words.ensures.0 ∙ ap (λ (s : Tables LockWordsShown CondWordsShown). s.first) c.close-scheme.ensures.scheme)) ∙ c.self.invariant.words_threads) near)))))
 
 pub returns-clause-values : goal.returns-clause-values
 returns-clause-values g c =
-    subst (All (GoesOnTo g.V.Keeps.keeps g.V.Keeps.grows g.V.Keeps.part c.close-values.result.items)) c.gather.ensures.same
-    (All-map (GoesOnTo g.V.Keeps.keeps g.V.Keeps.grows g.V.Keeps.part c.close-values.result.items) seen_as c.gather.new.rights.items
-    (All-weaker (λ (p : PassShown (LockPassView g.row.V.Denot)). (l : ℕ) (y : g.row.V.Denot) → slice_get c.close-values.result.items l ≡ Some y → FoundOk g.V.Keeps.keeps g.V.Keeps.grows g.V.Keeps.part l p.pass.thread p.pass.own y)
-    (λ (p : PassShown (LockPassView g.row.V.Denot)). GoesOnTo g.V.Keeps.keeps g.V.Keeps.grows g.V.Keeps.part c.close-values.result.items (seen_as p))
-    (λ p found. record {
-      kept = λ key v at. (found key v at).kept;
-      grown = λ key u v at seen. (found key v at).grown u seen;
-      mine = λ key u v at seen. (found key v at).mine u seen;
-    }) c.gather.new.rights.items c.close-values.ensures.found))
+    goes_on g.V.Keeps.keeps g.V.Keeps.grows g.V.Keeps.part c.close.result.items c.args.passes.items c.gather.new.rights.items c.gather.ensures.same c.close.ensures.found

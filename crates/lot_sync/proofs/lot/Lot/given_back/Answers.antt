@@ -1,29 +1,33 @@
-use Rattle.std.proofs.Common.{ℕ, ◌<◌, length, subst, sym}
+use Rattle.std.proofs.Common.{ℕ, ◌<◌, length, subst, sym, ap}
 use Rattle.lot_words.specs.Values.{IsIn, HasSeen, MayLeave}
 use Rattle.lot_sync.specs.Lot.{Owns}
 use Rattle.lot_sync.specs.Values.{MayGiveBack}
-use Rattle.lot_sync.proofs.Rests.{may_leave, owned_within, owns_again, lies_in}
+use Rattle.lot_sync.specs.Passes.{Standing}
+use Rattle.lot_sync.proofs.Rests.{may_leave, owned_within, owns_again, lies_in, counts_on}
 use Rattle.lot_sync.proofs.lot.Lot.given_back.Goals as goal
 
 pub value_in-requires-clause-lawful : goal.value_in-requires-clause-lawful
 value_in-requires-clause-lawful g c κs within =
-    subst (λ v. (x : _) × HasSeen c.into_right.result.own c.args.key x × MayLeave g.V.Keeps.keeps g.V.Keeps.grows g.V.Keeps.part c.args.key c.into_right.result.thread x v) (sym c.into_value.ensures)
-    (may_leave g.V.Keeps.keeps g.V.Keeps.grows g.V.Keeps.part g.V.Keeps.grows g.N.LotName.values g.N.LotName.threads c.into_right.result c.args.held c.args.key
-    c.requires.key.0 (owned_within _ _ _ c.into_right.result c.args.key c.into_right.ensures.rest (subst (λ p. Owns p c.args.key) c.into_right.ensures.same c.requires.owns)) c.into_right.ensures.rest
-    (subst (λ p. MayGiveBack g.V.Keeps.keeps g.V.Keeps.grows g.V.Keeps.part p c.args.held) c.into_right.ensures.same c.requires.back))
+    subst (λ v. (x : _) × HasSeen c.apart-right.result.0.own c.args.key x × MayLeave g.V.Keeps.keeps g.V.Keeps.grows g.V.Keeps.part c.args.key c.apart-right.result.0.thread x v) (sym c.into_value.ensures)
+    (may_leave g.V.Keeps.keeps g.V.Keeps.grows g.V.Keeps.part c.apart-right.result.1 g.V.Keeps.grows g.N.LotName.values g.N.LotName.threads c.apart-right.result.0 c.args.held c.args.key
+    c.requires.key.0 (owned_within _ _ _ c.apart-right.result.1 c.apart-right.result.0 c.args.key c.apart-right.ensures.rest (subst (λ p. Owns p c.args.key) c.apart-right.ensures.same c.requires.owns)) c.apart-right.ensures.rest
+    (subst (λ p. MayGiveBack g.V.Keeps.keeps g.V.Keeps.grows g.V.Keeps.part p c.args.held) c.apart-right.ensures.same c.requires.back))
 
 pub returns-clause-owner : goal.returns-clause-owner
 returns-clause-owner g c =
-    let owns = subst (λ p. Owns p c.args.key) c.into_right.ensures.same c.requires.owns in
-    owns_again g.V.Keeps.grows g.N.LotName.values g.N.LotName.threads c.into_right.result c.value_in.result c.args.key c.into_value.result
-    (owned_within _ _ _ c.into_right.result c.args.key c.into_right.ensures.rest owns) c.into_right.ensures.rest owns c.value_in.ensures
+    let owns = subst (λ p. Owns p c.args.key) c.apart-right.ensures.same c.requires.owns in
+    owns_again g.V.Keeps.grows g.N.LotName.values g.N.LotName.threads c.apart-right.result.1 c.apart-right.result.0 c.value_in.result c.args.key c.into_value.result
+    (owned_within _ _ _ c.apart-right.result.1 c.apart-right.result.0 c.args.key c.apart-right.ensures.rest owns) c.apart-right.ensures.rest owns c.value_in.ensures
 
 pub returns-clause-lies : goal.returns-clause-lies
 returns-clause-lies g c =
     subst (λ v. IsIn c.value_in.result.own c.args.key v) c.into_value.ensures
-    (lies_in c.into_right.result c.value_in.result c.args.key c.into_value.result c.value_in.ensures
-    (subst (λ n. c.args.key < n) (sym c.into_right.ensures.rest.places_long)
-    (owned_within _ _ _ c.into_right.result c.args.key c.into_right.ensures.rest (subst (λ p. Owns p c.args.key) c.into_right.ensures.same c.requires.owns))))
+    (lies_in c.apart-right.result.0 c.value_in.result c.args.key c.into_value.result c.value_in.ensures
+    (subst (λ n. c.args.key < n) (sym c.apart-right.ensures.rest.places_long)
+    (owned_within _ _ _ c.apart-right.result.1 c.apart-right.result.0 c.args.key c.apart-right.ensures.rest (subst (λ p. Owns p c.args.key) c.apart-right.ensures.same c.requires.owns))))
 
 pub returns-clause-locks : goal.returns-clause-locks
-returns-clause-locks g c = owned_within _ _ _ c.into_right.result c.args.key c.into_right.ensures.rest (subst (λ p. Owns p c.args.key) c.into_right.ensures.same c.requires.owns)
+returns-clause-locks g c = owned_within _ _ _ c.apart-right.result.1 c.apart-right.result.0 c.args.key c.apart-right.ensures.rest (subst (λ p. Owns p c.args.key) c.apart-right.ensures.same c.requires.owns)
+
+pub returns-clause-counts : goal.returns-clause-counts
+returns-clause-counts g c = counts_on _ c.apart-right.result.0.thread c.value_in.result.thread c.apart-right.result.1 (ap (λ (r : Standing g.row.V.Denot). r.thread) c.value_in.ensures) c.apart-right.ensures.counts

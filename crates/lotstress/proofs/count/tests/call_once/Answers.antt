@@ -26,4 +26,4 @@ returns-clause-there g c = λ seen now had has.
     (subst (λ j. IsThere c.thread-thread.result one seen j) left
     (is_there c.thread-thread.result one seen c.lock-pass.result.1.value c.add_one-called.new.held.value (c.lock-pass.ensures.gets.grown seen had)
     (subst (λ t. calls_of t seen ≡ calls_of t c.lock-pass.result.1.value) (sym c.thread-thread.ensures) (c.lock-pass.ensures.gets.mine seen had))
-    (rw c.if-called.true at c.add_one-called.ensures.added) (c.add_one-called.ensures.own c.if-called.true)))
+    (rw c.if-called.true at c.add_one-called.ensures.counted).0 (rw c.if-called.true at c.add_one-called.ensures.counted).1))

@@ -1,0 +1,91 @@
+use Rattle.std.proofs.Common.{◌≡◌, ◌≢◌, ℕ, ◌+◌, ◌<◌, ◌≤◌, ◌++◌, ◌∷◌, List, [], length, vec_len, vec_capacity, rules, slice_get, Some, subst, sym, ap, ◌∙◌, arith}
+use Rattle.std.specs.List.{All, Any}
+use Rattle.std.proofs.lemmas.List.Elements.{All-push}
+use Rattle.std.proofs.lemmas.List.Quantifiers.{Any-push}
+use mathlib.Core.Logic.{dite}
+use native.Mathlib.Decide.{ℕ_discrete}
+use Rattle.lot_rights.specs.Shown.{RootShown}
+use Rattle.lot_words.specs.declared.views.LockRootView.{LockRootView}
+use Rattle.lot_conds.specs.declared.views.CondRootView.{CondRootView}
+use Rattle.lot_park.specs.Parts.{IsOnItsSide}
+use Rattle.lot_park.specs.declared.parts.both.OneOf.{OneOf}
+use Rattle.lot_park.specs.declared.parts.both.OneOf.TheVariants.{First, Second}
+use Rattle.lot_sync.specs.Starting.{key_of}
+use Rattle.lot_sync.proofs.Places.{at_before, at_last}
+use Rattle.lot_sync.proofs.Turns.{any_more}
+use Rattle.lot_sync.proofs.closing.unname_roots.Goals as goal
+
+-- the key of the root that was popped is the number of those that are left
+popped_key : (xs left : List (OneOf (RootShown LockRootView) (RootShown CondRootView))) (x y : OneOf (RootShown LockRootView) (RootShown CondRootView)) (n : ℕ) → xs ≡ left ++ x ∷ [] → length left ≡ n → y ≡ x
+    → ((i : ℕ) (r : OneOf (RootShown LockRootView) (RootShown CondRootView)) → slice_get xs i ≡ Some r → key_of r ≡ i) → key_of y ≡ n
+popped_key xs left x y n items long same keys = ap key_of same ∙ (keys (length left) x (subst (λ zs. slice_get zs (length left) ≡ Some x) (sym items) (at_last left x)) ∙ long)
+
+pub loop-root-preserved-in-First : goal.loop-root-preserved-in-First
+loop-root-preserved-in-First g c =
+    let inv = c.loop-root.invariant in
+    let left = c.pop.new.self.items in
+    let fewer = c.in-Some.ensures.len in
+    let more = c.push_reserved.ensures.len in
+    let cap = c.push_reserved.ensures.capacity in
+    let long : length left ≡ vec_len c.pop.new.self = search rules in
+    let side : c.in-First.root.root.key < length g.N.LotName.values =
+    subst (λ (o : OneOf (RootShown LockRootView) (RootShown CondRootView)). IsOnItsSide (length g.N.LotName.values) (λ (r : RootShown LockRootView). r.root.key) (λ (r : RootShown CondRootView). r.root.key) o) c.in-First.is c.into_one.ensures.side in
+    let key : c.in-First.root.root.key ≡ vec_len c.pop.new.self =
+    popped_key c.loop-root.named.items left c.in-Some.root (First c.in-First.root) (vec_len c.pop.new.self) c.in-Some.ensures.items long (sym c.in-First.is ∙ c.into_one.ensures.same) inv.keys in
+    let is : c.into_root.result.root.key ≡ vec_len c.pop.new.self = ap (λ (r : RootShown LockRootView). r.root.key) c.into_root.ensures.same ∙ key in
+    let few = inv.few (omega (arith, fewer, key, side)) in
+    record {
+      keys = λ i r at. inv.keys i r (subst (λ zs. slice_get zs i ≡ Some r) (sym c.in-Some.ensures.items) (at_before left (c.in-Some.root ∷ []) i r at));
+      own = subst (All (λ (r : RootShown LockRootView). r.table ≡ g.N.Name.opening.locks)) (sym c.push_reserved.ensures.items)
+          (All-push (λ (r : RootShown LockRootView). r.table ≡ g.N.Name.opening.locks) c.loop-root.roots.items c.into_root.result inv.own c.into_root.ensures.named);
+      many = λ past. absurd (omega (arith, past, key, side));
+      few = λ near. (omega (arith, few.0, more, fewer), few.1);
+      roots = λ k from below. subst (Any (λ (r : RootShown LockRootView). r.root.key ≡ k)) (sym c.push_reserved.ensures.items)
+          (dite (ℕ_discrete k (vec_len c.pop.new.self))
+          (λ e. Any-push (λ (r : RootShown LockRootView). r.root.key ≡ k) c.loop-root.roots.items c.into_root.result (is ∙ sym e))
+          (λ else. any_more (λ (r : RootShown LockRootView). r.root.key ≡ k) c.loop-root.roots.items c.into_root.result (inv.roots k (omega (arith, from, else, fewer)) below)));
+      conds = λ k from past near. inv.conds k (omega (arith, past, key, side, fewer)) past near;
+      room = let wide = inv.room in omega (arith, wide, cap);
+      cond_room = inv.cond_room;
+    }
+
+pub push_reserved-requires-in-Second : goal.push_reserved-requires-in-Second
+push_reserved-requires-in-Second g c =
+    let inv = c.loop-root.invariant in
+    let left = c.pop.new.self.items in
+    let fewer = c.in-Some.ensures.len in
+    let long : length left ≡ vec_len c.pop.new.self = search rules in
+    let side : length g.N.LotName.values ≤ c.in-Second.root.root.key =
+    subst (λ (o : OneOf (RootShown LockRootView) (RootShown CondRootView)). IsOnItsSide (length g.N.LotName.values) (λ (r : RootShown LockRootView). r.root.key) (λ (r : RootShown CondRootView). r.root.key) o) c.in-Second.is c.into_one.ensures.side in
+    let key : c.in-Second.root.root.key ≡ vec_len c.pop.new.self =
+    popped_key c.loop-root.named.items left c.in-Some.root (Second c.in-Second.root) (vec_len c.pop.new.self) c.in-Some.ensures.items long (sym c.in-Second.is ∙ c.into_one.ensures.same) inv.keys in
+    let many = inv.many (omega (arith, fewer, key, side)) in
+    let wide = inv.cond_room in
+    omega (arith, many.1, wide, fewer, key, side)
+
+pub loop-root-preserved : goal.loop-root-preserved
+loop-root-preserved g c =
+    let inv = c.loop-root.invariant in
+    let left = c.pop.new.self.items in
+    let fewer = c.in-Some.ensures.len in
+    let more = c.push_reserved-in-Second.ensures.len in
+    let cap = c.push_reserved-in-Second.ensures.capacity in
+    let long : length left ≡ vec_len c.pop.new.self = search rules in
+    let side : length g.N.LotName.values ≤ c.in-Second.root.root.key =
+    subst (λ (o : OneOf (RootShown LockRootView) (RootShown CondRootView)). IsOnItsSide (length g.N.LotName.values) (λ (r : RootShown LockRootView). r.root.key) (λ (r : RootShown CondRootView). r.root.key) o) c.in-Second.is c.into_one.ensures.side in
+    let key : c.in-Second.root.root.key ≡ vec_len c.pop.new.self =
+    popped_key c.loop-root.named.items left c.in-Some.root (Second c.in-Second.root) (vec_len c.pop.new.self) c.in-Some.ensures.items long (sym c.in-Second.is ∙ c.into_one.ensures.same) inv.keys in
+    let many = inv.many (omega (arith, fewer, key, side)) in
+    record {
+      keys = λ i r at. inv.keys i r (subst (λ zs. slice_get zs i ≡ Some r) (sym c.in-Some.ensures.items) (at_before left (c.in-Some.root ∷ []) i r at));
+      own = inv.own;
+      many = λ past. (many.0, omega (arith, many.1, more, fewer));
+      few = λ near. (omega (arith, near, many.0, key, side), omega (arith, near, many.1, more, fewer, key, side));
+      roots = λ k from below. absurd (omega (arith, from, below, key, side));
+      conds = λ k from past near. subst (Any (λ (r : RootShown CondRootView). r.root.key ≡ k)) (sym c.push_reserved-in-Second.ensures.items)
+          (dite (ℕ_discrete k (vec_len c.pop.new.self))
+          (λ e. Any-push (λ (r : RootShown CondRootView). r.root.key ≡ k) c.loop-root.cond_roots.items c.in-Second.root (key ∙ sym e))
+          (λ else. any_more (λ (r : RootShown CondRootView). r.root.key ≡ k) c.loop-root.cond_roots.items c.in-Second.root (inv.conds k (omega (arith, from, else, fewer)) past near)));
+      room = inv.room;
+      cond_room = let wide = inv.cond_room in omega (arith, wide, cap);
+    }

@@ -1,0 +1,67 @@
+//! Notifying the threads that wait on a condition, as WTF's `Condition` does.
+ghost use Rattle.std.specs.Prelude.{◌≡◌, MatchBool};
+ghost use Rattle.lot_sync.specs.Lot.{IsWide, IsCond, calling};
+
+use crate::lot::Lot;
+use crate::pass::{LotName, Pass};
+use crate::tables::{Conds, LotScheme};
+use lot_park::Moment;
+use lot_words::Keeps;
+use std::sync::Wait;
+
+impl<V: Keeps + Send, N: LotName<V> + Send> Lot<V, N> {
+    /// Whether somebody may wait on the condition at some moment of this call. It is an observation: nothing is promised of it.
+    pub fn has_waiters(&self, pass: Pass<V, N>, cond: usize) -> (Pass<V, N>, bool)
+        requires cond { IsCond self.now cond }
+        ensures same { result.0 ≡ pass }
+        ensures wide { IsWide self.now result.0 }
+    {
+        let (right, waiter) = pass.apart();
+        let (waiter, has) = lot_waits::has_waiters(self.parking.scheme().second(), waiter, cond);
+        (self.at_rest(right, waiter), has)
+    }
+
+    /// Takes the first thread of the condition's line, if any, and answers whether it took one. Where nobody waits it is one load, and
+    /// no bucket is locked.
+    pub fn notify_one<R: Wait>(
+        &self,
+        rt: &R,
+        pass: Pass<V, N>,
+        cond: usize,
+        moment: Moment,
+    ) -> (Pass<V, N>, bool)
+        requires cond { IsCond self.now cond }
+        ensures counted { MatchBool result.1 (result.0 ≡ calling pass cond 1) (result.0 ≡ pass) }
+        ensures wide { IsWide self.now result.0 }
+    {
+        let (right, waiter) = pass.apart();
+        let scheme = self.parking.scheme().second();
+        let (waiter, taken) = lot_waits::notify_one::<LotScheme<V, N>, N, Conds, R>(
+            rt,
+            &self.parking,
+            scheme,
+            waiter,
+            cond,
+            moment,
+        );
+        (self.at_rest(right, waiter), taken)
+    }
+
+    /// Takes all threads of the condition's line, and answers how many. Where nobody waits it is one load, and no bucket is locked.
+    pub fn notify_all<R: Wait>(&self, rt: &R, pass: Pass<V, N>, cond: usize) -> (Pass<V, N>, usize)
+        requires cond { IsCond self.now cond }
+        ensures counted { result.0 ≡ calling pass cond result.1 }
+        ensures wide { IsWide self.now result.0 }
+    {
+        let (right, waiter) = pass.apart();
+        let scheme = self.parking.scheme().second();
+        let (waiter, taken) = lot_waits::notify_all::<LotScheme<V, N>, N, Conds, R>(
+            rt,
+            &self.parking,
+            scheme,
+            waiter,
+            cond,
+        );
+        (self.at_rest(right, waiter), taken)
+    }
+}

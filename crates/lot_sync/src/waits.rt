@@ -1,0 +1,181 @@
+//! Threads that wait on a condition and are notified, in the running code.
+ghost use Rattle.std.specs.Prelude.{◌≡◌, ◌≤◌, ◌<◌, ℕ, length};
+ghost use Rattle.lot_sync.specs.Lot.{OwnsNone, IsCond};
+ghost use Rattle.lot_sync.specs.Opened.{IsNamed};
+ghost use Rattle.lot_sync.specs.Holding.{Holding};
+
+use crate::tests::{Count, Gathered, end, enter, in_line, own, release};
+use crate::{Held, Lot, LotName, Moment, Opened, Pass};
+use std::alloc::Global;
+use std::marker::Brand;
+use std::process::Abort;
+use std::sync::Wait;
+use std::test::*;
+use std::thread;
+use std::thread::Threads;
+
+/// The lot's one condition: its number follows that of the one lock.
+const COND: usize = 1;
+
+/// `wait`, and what the test has of it.
+fn wait_once<N: LotName<Count> + Send + Sync, T: Wait>(
+    rt: &T,
+    lot: &Lot<Count, N>,
+    pass: Pass<Count, N>,
+    held: Held<Count, N>,
+    cond: usize,
+) -> (Pass<Count, N>, Held<Count, N>)
+    requires key { held.key < lot.now.locks }
+    requires cond { IsCond lot.now cond }
+    requires holding { Holding (λ x y. x.n ≤ y.n) pass held }
+    ensures key { result.1.key ≡ held.key }
+    ensures holding { Holding (λ x y. x.n ≤ y.n) result.0 result.1 }
+{
+    lot.wait(rt, pass, held, cond, Moment { now: 0, word: 7 })
+}
+
+/// `notify_one`, and what the test has of it.
+fn call_one<N: LotName<Count> + Send + Sync, T: Wait>(
+    rt: &T,
+    lot: &Lot<Count, N>,
+    pass: Pass<Count, N>,
+    cond: usize,
+) -> (Pass<Count, N>, bool)
+    requires cond { IsCond lot.now cond }
+    requires free { OwnsNone pass }
+    ensures free { OwnsNone result.0 }
+{
+    lot.notify_one(rt, pass, cond, Moment { now: 0, word: 7 })
+}
+
+/// `notify_all`, and what the test has of it.
+fn call_all<N: LotName<Count> + Send + Sync, T: Wait>(
+    rt: &T,
+    lot: &Lot<Count, N>,
+    pass: Pass<Count, N>,
+    cond: usize,
+) -> (Pass<Count, N>, usize)
+    requires cond { IsCond lot.now cond }
+    requires free { OwnsNone pass }
+    ensures free { OwnsNone result.0 }
+{
+    lot.notify_all(rt, pass, cond)
+}
+
+/// A thread that waits once, with lock 0.
+fn wait_and_leave<N: LotName<Count> + Send + Sync, T: Wait + Abort>(rt: &T, lot: &Lot<Count, N>)
+    requires { (lot.now.locks ≡ 1) × (lot.now.conds ≡ 1) }
+{
+    let pass = enter(rt, lot);
+    let (pass, held) = own(rt, lot, pass, 0);
+    let (pass, held) = wait_once(rt, lot, pass, held, COND);
+    let (pass, _) = release(rt, lot, pass, held, 0);
+    lot.leave(rt, pass);
+}
+
+/// On a condition on which nobody waits there is nobody to take.
+fn nobody_waits<N: LotName<Count> + Send + Sync, T: Wait + Abort>(
+    rt: &T,
+    lot: &Lot<Count, N>,
+    pass: Pass<Count, N>,
+) -> Pass<Count, N>
+    requires sizes { (lot.now.locks ≡ 1) × (lot.now.conds ≡ 1) }
+    requires free { OwnsNone pass }
+    ensures { OwnsNone result }
+{
+    let (pass, has) = lot.has_waiters(pass, COND);
+    assert!(rt; !has);
+    let (pass, took) = call_one(rt, lot, pass, COND);
+    assert!(rt; !took);
+    let (pass, count) = call_all(rt, lot, pass, COND);
+    assert_eq!(rt; count, 0);
+    pass
+}
+
+/// Three threads wait: one is taken, then the other two, then nobody.
+fn three_are_notified<N: LotName<Count> + Send + Sync, T: Wait + Abort>(
+    rt: &T,
+    lot: &Lot<Count, N>,
+    pass: Pass<Count, N>,
+)
+    requires sizes { (lot.now.locks ≡ 1) × (lot.now.conds ≡ 1) }
+    requires free { OwnsNone pass }
+{
+    assert!(rt; in_line(rt, lot, COND, 3));
+    let (pass, has) = lot.has_waiters(pass, COND);
+    assert!(rt; has);
+    let (pass, took) = call_one(rt, lot, pass, COND);
+    assert!(rt; took);
+    assert_eq!(rt; lot.line_length(rt, COND), 2);
+    let (pass, count) = call_all(rt, lot, pass, COND);
+    assert_eq!(rt; count, 2);
+    let pass = nobody_waits(rt, lot, pass);
+    lot.leave(rt, pass);
+}
+
+fn three_wait<N: LotName<Count> + Send + Sync, T: Threads + Wait + Sync + Abort>(
+    rt: &T,
+    lot: &Lot<Count, N>,
+)
+    requires { (lot.now.locks ≡ 1) × (lot.now.conds ≡ 1) }
+{
+    thread::scope(
+        thread::scope_env(),
+        rt,
+        |scope|
+            requires { (lot.now.locks ≡ 1) × (lot.now.conds ≡ 1) }
+        {
+            let pass = enter(rt, lot);
+            let pass = nobody_waits(rt, lot, pass);
+            let first = move ||
+                requires { (lot.now.locks ≡ 1) × (lot.now.conds ≡ 1) }
+            { wait_and_leave(rt, lot) };
+            assert!(rt; scope.spawn(first).is_ok());
+            let second = move ||
+                requires { (lot.now.locks ≡ 1) × (lot.now.conds ≡ 1) }
+            { wait_and_leave(rt, lot) };
+            assert!(rt; scope.spawn(second).is_ok());
+            let third = move ||
+                requires { (lot.now.locks ≡ 1) × (lot.now.conds ≡ 1) }
+            { wait_and_leave(rt, lot) };
+            assert!(rt; scope.spawn(third).is_ok());
+            three_are_notified(rt, lot, pass);
+        },
+    );
+}
+
+/// Starts the lot, lets three threads wait and be notified, closes it, and looks at the ledger.
+fn play<N: LotName<Count> + Send + Sync, T: Threads + Wait + Sync + Abort>(
+    rt: &T,
+    alloc: Global,
+    opened: Opened<Count>,
+)
+    requires named { IsNamed (record { opening = N.opening; threads = N.threads; values = N.values; locks = N.locks; conds = N.conds }) opened }
+    requires sizes { (opened.threads ≡ 4) × (length opened.values ≡ 1) × (opened.conds ≡ 1) }
+{
+    let Ok(passes) = Vec::with_capacity(alloc, 4) else {
+        panic!(rt; "no memory")
+    };
+    match opened.start::<N>(alloc) {
+        Ok(lot) => {
+            three_wait(rt, &lot);
+            let (_, ledger) = end(rt, lot, passes, 4, Gathered::Left);
+            assert_eq!(rt; ledger.called.len(), 1);
+            assert_eq!(rt; ledger.woken.len(), 1);
+            assert_eq!(rt; ledger.called[0], 3);
+            assert_eq!(rt; ledger.woken[0], 3);
+        }
+        Err(_) => panic!(rt; "not started"),
+    }
+}
+
+#[test]
+fn three_waits_are_notified(rt: HostRuntime) {
+    let Ok(values) = vec![in rt.alloc(); Count { n: 7 }; 1] else {
+        panic!(&rt; "no memory")
+    };
+    match Lot::<Count, Brand>::open(rt.alloc(), 4, values, 1) {
+        Ok(opened) => play::<Brand, HostRuntime>(&rt, rt.alloc(), opened),
+        Err(_) => panic!(&rt; "not opened"),
+    }
+}

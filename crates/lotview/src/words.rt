@@ -1,0 +1,40 @@
+//! The words of the command line.
+
+use crate::failure::Failure;
+use std::alloc::Global;
+use std::env::{self, Env, FillError};
+use std::io;
+
+/// The arguments after the program's own name, which need not be text.
+#[derive(Drop)]
+struct WithoutName<'a, E: Env> {
+    rt: &'a E,
+}
+
+impl<E: Env> Env for WithoutName<'_, E> {
+    fn arg(&self, i: usize, buf: &mut [u8]) -> Result<usize, FillError> {
+        match i.checked_add(1) {
+            Some(next) => self.rt.arg(next, buf),
+            None => Err(FillError::NotPresent),
+        }
+    }
+
+    fn var(&self, name: &str, buf: &mut [u8]) -> Result<usize, FillError> {
+        self.rt.var(name, buf)
+    }
+
+    fn var_at(&self, i: usize, buf: &mut [u8]) -> Result<usize, FillError> {
+        self.rt.var_at(i, buf)
+    }
+}
+
+/// The words that follow the program's name. Words that are not text are a bad command line.
+pub fn words<E: Env>(rt: &E, alloc: Global) -> Result<Vec<String>, Failure> {
+    match env::args(&(WithoutName { rt }, alloc)) {
+        Ok(arguments) => Ok(arguments.collect::<Vec<String>>(alloc)?),
+        Err(error) => Err(match error.kind() {
+            io::ErrorKind::OutOfMemory => Failure::NoMemory,
+            _ => Failure::BadCommandLine,
+        }),
+    }
+}
