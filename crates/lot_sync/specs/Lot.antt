@@ -1,8 +1,9 @@
 -- What a lot, its passes and its held values are seen as.
 use Rattle.lot_rights.specs.Opening.{Opening}
 use Rattle.lot_waits.specs.Counts.{CountsView}
+use Rattle.lot_kinds.specs.Rights.{RightsView}
 use Rattle.lot_waits.specs.Ledger.{IsLedger}
-use Rattle.std.specs.Prelude.{◌≡◌, ℕ, ◌+◌, ◌<◌, ◌≤◌, Bool, true, false, List, length, map, slice_set, slice_index, slice_index_or}
+use Rattle.std.specs.Prelude.{◌≡◌, ℕ, ◌+◌, ◌-◌, ◌<◌, ◌≤◌, Bool, true, false, List, length, map, slice_set, slice_index, slice_index_or}
 use mathlib.Core.Option.{some}
 use lib.ListN.{get_elem?}
 
@@ -10,27 +11,36 @@ pub record LotView : Type 0 where
   pub threads : ℕ
   pub locks : ℕ
   pub conds : ℕ
+  pub sems : ℕ
 
--- what a name tells of a lot: its tables, its number of threads, the values that it opened with, and its numbers of keys
+-- what a name tells of a lot: its tables, its number of threads, the values that it opened with, its numbers of locks and conditions, the
+-- number of its first semaphore, and how many permits each semaphore has at the opening
 pub record LotNames (V : Type 0) : Type 0 where
   pub opening : Opening
   pub threads : ℕ
   pub values : List V
   pub locks : ℕ
   pub conds : ℕ
+  pub low : ℕ
+  pub permits : List ℕ
 
 -- the number of a condition: they follow the locks'
 abbrev pub IsCond : LotView → ℕ → Type 0
 IsCond lot c = (lot.locks ≤ c) × (c < lot.locks + lot.conds)
 
+-- the number of a semaphore: they follow the conditions'
+abbrev pub IsSem : LotView → ℕ → Type 0
+IsSem lot k = (lot.locks + lot.conds ≤ k) × (k < lot.locks + lot.conds + lot.sems)
+
 -- a pass: its thread, which locks it owns, what it has seen of each value, and by key how many sleepers it took from the
--- condition's line and how many of its own waits ended
+-- condition's line, how many of its own waits ended, and how many permits of the semaphore it holds
 pub record PassView (V : Type 0) : Type 0 where
   pub thread : ℕ
   pub owns : List Bool
   pub seen : List V
   pub called : List ℕ
   pub woken : List ℕ
+  pub permits : List ℕ
 
 -- a value that was taken from its lock
 pub record HeldView (V : Type 0) : Type 0 where
@@ -41,15 +51,22 @@ module _ {V : Type 0} where
   abbrev pub Owns : PassView V → ℕ → Type 0
   Owns p key = slice_index_or p.owns key false ≡ true
 
-  abbrev pub OwnsNone : PassView V → Type 0
-  OwnsNone p = (key : ℕ) → ¬ Owns p key
+  -- how many permits of the semaphore it holds
+  abbrev pub permits_with : PassView V → ℕ → ℕ
+  permits_with p key = slice_index p.permits key
 
-  -- the pass knows of each lock whether it owns it and what it has seen of its value, and of each key what it counted
+  -- it owns no lock, and holds no permit
+  pub record OwnsNone (p : PassView V) : Type 0 where
+    pub no_lock : (key : ℕ) → ¬ Owns p key
+    pub no_permit : (key : ℕ) → permits_with p key ≡ 0
+
+  -- the pass knows of each lock whether it owns it and what it has seen of its value, and of each key what it counted and holds
   pub record IsWide (lot : LotView) (p : PassView V) : Type 0 where
     pub owns : length p.owns ≡ lot.locks
     pub seen : length p.seen ≡ lot.locks
     pub called : length p.called ≡ lot.locks + lot.conds
     pub woken : length p.woken ≡ lot.locks + lot.conds
+    pub permits : length p.permits ≡ lot.locks + lot.conds + lot.sems
 
   -- u is what the pass has seen of the key's value
   abbrev pub HasSeen : PassView V → ℕ → V → Type 0
@@ -71,9 +88,21 @@ module _ {V : Type 0} where
   abbrev pub calling : PassView V → ℕ → ℕ → PassView V
   calling p c count = record p { called = slice_set p.called c (slice_index p.called c + count) }
 
+  -- one permit of the semaphore more
+  abbrev pub one_more : PassView V → ℕ → PassView V
+  one_more p k = record p { permits = slice_set p.permits k (permits_with p k + 1) }
+
+  -- one permit of the semaphore less
+  abbrev pub one_less : PassView V → ℕ → PassView V
+  one_less p k = record p { permits = slice_set p.permits k (permits_with p k - 1) }
+
   -- each opening value grows to what the pass has seen of it
   abbrev pub HasGrown : (V → V → Type 0) → List V → PassView V → Type 0
   HasGrown grows opening p = (key : ℕ) (u v : V) → get_elem? opening key ≡ some u → HasSeen p key v → grows u v
+
+  -- the rights that the pass has beside those on locks
+  abbrev pub rights_of : PassView V → RightsView
+  rights_of p = record { thread = p.thread; called = p.called; woken = p.woken; permits = p.permits }
 
   -- what the pass counted, of each condition by its key
   abbrev pub counts_of : PassView V → CountsView

@@ -6,7 +6,7 @@ use Rattle.lot_rights.specs.Shown.{PassShown, RootShown}
 use Rattle.lot_words.specs.declared.views.LockPassView.{LockPassView}
 use Rattle.lot_words.specs.declared.views.LockRootView.{LockRootView}
 use Rattle.lot_words.specs.Shown.{LockWordsShown, pass_at, root_at}
-use Rattle.lot_waits.specs.Opening.{OpenedCondsView}
+use Rattle.lot_kinds.specs.Opening.{OpenedKindsView}
 use Rattle.lot_sync.specs.Lot.{LotNames}
 use Rattle.lot_sync.specs.declared.fault.OpenFault.{OpenFault}
 use Rattle.lot_sync.specs.declared.fault.OpenFault.TheVariants.{BadThreads, BadKeys, NoMemory}
@@ -14,9 +14,12 @@ use Rattle.lot_sync.specs.declared.fault.OpenFault.TheVariants.{BadThreads, BadK
 pub record OpenedView (V : Type 0) : Type 0 where
   pub table : TableId
   pub conds_table : TableId
+  pub sems_table : TableId
   pub threads : ℕ
   pub values : List V
   pub conds : ℕ
+  pub low : ℕ
+  pub permits : List ℕ
 
 -- each value keeps the rule of its key
 abbrev pub KeepAll : {V : Type 0} → (ℕ → V → Type 0) → List V → Type 0
@@ -38,29 +41,32 @@ pub record IsOpened {V : Type 0} (values : List V) (threads : ℕ) (words : Lock
   pub roots_long : length roots ≡ length values
   pub roots_are : (l : ℕ) → l < length values → slice_get roots l ≡ Some (root_at words.table l)
 
--- the conditions are those of as many threads, and their numbers follow the locks'
-pub record HasConds {V : Type 0} (values : List V) (threads : ℕ) (conds : OpenedCondsView) : Type 0 where
-  pub same_threads : conds.threads ≡ threads
-  pub after_locks : conds.locks ≡ length values
-  pub few_keys : length values + conds.conds ≤ MAX_KEYS
+-- the conditions and semaphores are those of as many threads, and their numbers follow the locks'
+pub record HasKinds {V : Type 0} (values : List V) (threads : ℕ) (kinds : OpenedKindsView) : Type 0 where
+  pub same_threads : kinds.conds.threads ≡ threads
+  pub after_locks : kinds.conds.locks ≡ length values
+  pub few_keys : length values + kinds.conds.conds + length kinds.sems.permits ≤ MAX_KEYS
 
 -- the name is that of this opening
 pub record IsNamed {V : Type 0} (names : LotNames V) (opened : OpenedView V) : Type 0 where
   pub locks_table : opened.table ≡ names.opening.locks
   pub conds_table : opened.conds_table ≡ names.opening.conds
+  pub sems_table : opened.sems_table ≡ names.opening.sems
   pub threads : opened.threads ≡ names.threads
   pub values : opened.values ≡ names.values
   pub locks : length opened.values ≡ names.locks
   pub conds : opened.conds ≡ names.conds
+  pub low : opened.low ≡ names.low
+  pub permits : opened.permits ≡ names.permits
 
 abbrev pub IsThreadCount : ℕ → Type 0
 IsThreadCount threads = (1 ≤ threads) × (threads ≤ MAX_THREADS)
 
-abbrev pub IsKeyCount : ℕ → ℕ → Type 0
-IsKeyCount locks conds = (1 ≤ locks) × (locks + conds ≤ MAX_KEYS)
+abbrev pub IsKeyCount : ℕ → ℕ → ℕ → Type 0
+IsKeyCount locks conds sems = (1 ≤ locks) × (locks + conds + sems ≤ MAX_KEYS)
 
--- why so many threads, locks and conditions are refused
-abbrev pub Refuses : ℕ → ℕ → ℕ → OpenFault → Type 0
-Refuses threads locks conds BadThreads = ¬ IsThreadCount threads
-Refuses threads locks conds BadKeys = IsThreadCount threads × (¬ IsKeyCount locks conds)
-Refuses threads locks conds NoMemory = IsThreadCount threads × IsKeyCount locks conds
+-- why so many threads, locks, conditions and semaphores are refused
+abbrev pub Refuses : ℕ → ℕ → ℕ → ℕ → OpenFault → Type 0
+Refuses threads locks conds sems BadThreads = ¬ IsThreadCount threads
+Refuses threads locks conds sems BadKeys = IsThreadCount threads × (¬ IsKeyCount locks conds sems)
+Refuses threads locks conds sems NoMemory = IsThreadCount threads × IsKeyCount locks conds sems

@@ -16,9 +16,10 @@ use Rattle.lot_words.specs.Values.{IsOut, IsIn, FoundOk}
 use Rattle.lot_words.specs.Calls.{gripped, woken, placed}
 use Rattle.lot_words.specs.Closing.{HoldsNone}
 use Rattle.lot_conds.specs.Shown.{CondWordsShown}
+use Rattle.lot_sems.specs.Shown.{SemWordsShown}
 use Rattle.lot_park.specs.Lots.{LotView}
 use Rattle.lot_park.specs.Parts.{Tables}
-use Rattle.lot_waits.specs.Counts.{CountsView}
+use Rattle.lot_kinds.specs.Rights.{RightsView}
 use Rattle.lot_sync.specs.Lot.{PassView, LotNames}
 
 -- a pass: its thread, and what it knows; not the entries that were made with it
@@ -35,17 +36,17 @@ module _ {V : Type 0} where
   abbrev pub stands : PassShown (LockPassView V) → Standing V
   stands p = record { thread = p.pass.thread; own = p.pass.own }
 
-  -- what the caller sees of a pass that has counted so much
-  abbrev pub sees : CountsView → Standing V → PassView V
-  sees q r = record { thread = r.thread; owns = map is_held r.own.holds; seen = r.own.seen; called = q.called; woken = q.woken }
+  -- what the caller sees of a pass that has these rights beside
+  abbrev pub sees : RightsView → Standing V → PassView V
+  sees q r = record { thread = r.thread; owns = map is_held r.own.holds; seen = r.own.seen; called = q.called; woken = q.woken; permits = q.permits }
 
-  -- the pass, but for its counts
+  -- the pass, but for its rights beside those on locks
   abbrev pub lock_side : PassView V → PassView V
-  lock_side p = record p { called = []; woken = [] }
+  lock_side p = record p { called = []; woken = []; permits = [] }
 
   -- what is seen of a lock's pass alone
   abbrev pub seen_as : PassShown (LockPassView V) → PassView V
-  seen_as p = record { thread = p.pass.thread; owns = map is_held p.pass.own.holds; seen = p.pass.own.seen; called = []; woken = [] }
+  seen_as p = record { thread = p.pass.thread; owns = map is_held p.pass.own.holds; seen = p.pass.own.seen; called = []; woken = []; permits = [] }
 
   -- the pass, where the value of the lock is at this place
   abbrev pub putting : Standing V → ℕ → Place V → Standing V
@@ -159,11 +160,9 @@ module _ {V Part : Type 0} (keeps : ℕ → V → Type 0) (grows : V → V → T
   IsLooked p None q = q ≡ p
   IsLooked p (Some token) q = IsCollected p token q
 
--- what a thread counted, by key
-pub record AreCounts (keys thread : ℕ) (q : CountsView) : Type 0 where
-  pub same_thread : q.thread ≡ thread
-  pub called_long : length q.called ≡ keys
-  pub woken_long : length q.woken ≡ keys
+-- they are the thread's own
+abbrev pub AreRightsOf : ℕ → RightsView → Type 0
+AreRightsOf thread q = q.thread ≡ thread
 
 -- ---- roots
 -- the letters that a root owes, as a list
@@ -173,14 +172,17 @@ debts_of (Some debt) = debt ∷ []
 
 -- ---- the lot
 -- what joins the parts of a lot
-pub record IsLot {V : Type 0} (names : LotNames V) (threads locks conds : ℕ) (parking : LotView (Tables LockWordsShown CondWordsShown)) : Type 0 where
+pub record IsLot {V : Type 0} (names : LotNames V) (threads locks conds sems : ℕ) (parking : LotView (Tables LockWordsShown (Tables CondWordsShown SemWordsShown))) : Type 0 where
   pub words : parking.scheme.first.table ≡ names.opening.locks
   pub words_threads : parking.scheme.first.size.threads ≡ names.threads
   pub words_locks : parking.scheme.first.size.locks ≡ length names.values
-  pub conds_threads : parking.scheme.second.size.threads ≡ names.threads
+  pub conds_threads : parking.scheme.second.first.size.threads ≡ names.threads
+  pub sems_threads : parking.scheme.second.second.size.threads ≡ names.threads
   pub named_locks : names.locks ≡ length names.values
+  pub named_low : names.low ≡ names.locks + names.conds
   pub parking_threads : parking.threads ≡ names.threads
-  pub parking_keys : parking.keys ≡ length names.values + names.conds
+  pub parking_keys : parking.keys ≡ length names.values + names.conds + length names.permits
   pub own_threads : threads ≡ names.threads
   pub own_locks : locks ≡ length names.values
   pub own_conds : conds ≡ names.conds
+  pub own_sems : sems ≡ length names.permits

@@ -4,35 +4,35 @@ use Rattle.atomic_table.specs.Seated.{TableId}
 use Rattle.lot_rights.specs.Shown.{PassShown, RootShown}
 use Rattle.lot_words.specs.declared.views.LockPassView.{LockPassView}
 use Rattle.lot_words.specs.declared.views.LockRootView.{LockRootView}
-use Rattle.lot_conds.specs.declared.views.CondRootView.{CondRootView}
+use Rattle.lot_kinds.specs.Opening.{KindRootShown, line_of, owes_of}
+use Rattle.lot_kinds.specs.Opening.{key_of as kind_key}
 use Rattle.lot_park.specs.Parts.{of_either}
 use Rattle.lot_park.specs.declared.parts.both.OneOf.{OneOf}
-use Rattle.lot_waits.specs.Counts.{CountsView}
-use Rattle.lot_park.specs.Parking.{debts}
-use Rattle.lot_sync.specs.Passes.{AreCounts, debts_of}
+use Rattle.lot_kinds.specs.Rights.{RightsView}
+use Rattle.lot_sync.specs.Passes.{AreRightsOf, debts_of}
 
 -- the root of a lock of this table, whose number is below the border
 abbrev pub IsFreeRoot : TableId → ℕ → RootShown LockRootView → Type 0
 IsFreeRoot table border r = (r.table ≡ table) × (r.root.key < border)
 
--- the root of a condition, whose number is not
-abbrev pub IsFreeCond : ℕ → RootShown CondRootView → Type 0
-IsFreeCond border r = border ≤ r.root.key
+-- the root of a condition or of a semaphore, whose number is not
+abbrev pub IsFreeKind : ℕ → KindRootShown → Type 0
+IsFreeKind border r = border ≤ kind_key r
 
--- at each place stand the pass and the counts of one thread
-abbrev pub ArePaired : {V : Type 0} → ℕ → List (PassShown (LockPassView V)) → List CountsView → Type 0
-ArePaired keys passes waiters = (i : ℕ) (p : PassShown (LockPassView _)) (q : CountsView) → slice_get passes i ≡ Some p → slice_get waiters i ≡ Some q → AreCounts keys p.pass.thread q
+-- at each place stand the pass and the rights of one thread
+abbrev pub ArePaired : {V : Type 0} → List (PassShown (LockPassView V)) → List RightsView → Type 0
+ArePaired passes rights = (i : ℕ) (p : PassShown (LockPassView _)) (q : RightsView) → slice_get passes i ≡ Some p → slice_get rights i ≡ Some q → AreRightsOf p.pass.thread q
 
--- the key of a root of either table
-abbrev pub key_of : OneOf (RootShown LockRootView) (RootShown CondRootView) → ℕ
-key_of root = of_either (λ (r : RootShown LockRootView). r.root.key) (λ (r : RootShown CondRootView). r.root.key) root
+-- the key of a root of any table
+abbrev pub key_of : OneOf (RootShown LockRootView) KindRootShown → ℕ
+key_of root = of_either (λ (r : RootShown LockRootView). r.root.key) kind_key root
 
 -- on the key k nobody waits, and its root owes nothing
-pub record IsIdleAt (k : ℕ) (root : OneOf (RootShown LockRootView) (RootShown CondRootView)) : Type 0 where
+pub record IsIdleAt (k : ℕ) (root : OneOf (RootShown LockRootView) KindRootShown) : Type 0 where
   pub named : key_of root ≡ k
-  pub empty : of_either (λ (r : RootShown LockRootView). r.root.own.line) (λ (r : RootShown CondRootView). r.root.own.line) root ≡ []
-  pub paid : of_either (λ (r : RootShown LockRootView). debts_of r.root.own.owes) (λ (r : RootShown CondRootView). debts r.root.own.owes) root ≡ []
+  pub empty : of_either (λ (r : RootShown LockRootView). r.root.own.line) line_of root ≡ []
+  pub paid : of_either (λ (r : RootShown LockRootView). debts_of r.root.own.owes) owes_of root ≡ []
 
 -- what stands at i has the key i
-abbrev pub StandAtKeys : List (OneOf (RootShown LockRootView) (RootShown CondRootView)) → Type 0
-StandAtKeys roots = (i : ℕ) (r : OneOf (RootShown LockRootView) (RootShown CondRootView)) → slice_get roots i ≡ Some r → key_of r ≡ i
+abbrev pub StandAtKeys : List (OneOf (RootShown LockRootView) KindRootShown) → Type 0
+StandAtKeys roots = (i : ℕ) (r : OneOf (RootShown LockRootView) KindRootShown) → slice_get roots i ≡ Some r → key_of r ≡ i

@@ -229,7 +229,7 @@ fn open_and_book<N: LotName<Account> + Send + Sync, T: Wait + Abort>(
     alloc: Global,
     opened: Opened<Account>,
 )
-    requires named { IsNamed (record { opening = N.opening; threads = N.threads; values = N.values; locks = N.locks; conds = N.conds }) opened }
+    requires named { IsNamed (record { opening = N.opening; threads = N.threads; values = N.values; locks = N.locks; conds = N.conds; low = N.low; permits = N.permits }) opened }
     requires sizes { (opened.threads ≡ 2) × (length opened.values ≡ 2) }
 {
     let Ok(passes) = Vec::with_capacity(alloc, 2) else {

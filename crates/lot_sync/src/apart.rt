@@ -15,14 +15,14 @@ impl<V: Keeps + Send, N: LotName<V> + Send> Lot<V, N> {
         ensures threads { first.thread ≢ second.thread }
         ensures apart { (key : ℕ) → Owns first key → ¬ Owns second key }
     {
-        let (first, first_waiter) = first.apart();
-        let (second, second_waiter) = second.apart();
+        let (first, first_kinds) = first.apart();
+        let (second, second_kinds) = second.apart();
         let (first, second) = self
             .words()
             .check_apart(first.into_pass(), second.into_pass());
         (
-            Pass::at_rest(NamedPass::new(first), first_waiter),
-            Pass::at_rest(NamedPass::new(second), second_waiter),
+            Pass::at_rest(NamedPass::new(first), first_kinds),
+            Pass::at_rest(NamedPass::new(second), second_kinds),
         )
     }
 }

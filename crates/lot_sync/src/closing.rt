@@ -3,10 +3,11 @@ ghost use Rattle.std.specs.Prelude.{◌≡◌, ℕ, ◌+◌, ◌<◌, ◌≤◌,
 ghost use Rattle.std.specs.List.{All, Any};
 ghost use Rattle.lot_rights.specs.Shown.{RootShown};
 ghost use Rattle.lot_words.specs.declared.views.LockRootView.{LockRootView};
-ghost use Rattle.lot_conds.specs.declared.views.CondRootView.{CondRootView};
-ghost use Rattle.lot_sync.specs.Lot.{PassView, OwnsNone, IsLedgerOf, counts_of};
+ghost use Rattle.lot_sync.specs.Lot.{PassView, OwnsNone, IsLedgerOf, rights_of};
 ghost use Rattle.lot_sync.specs.Values.{GoesOnTo};
 ghost use Rattle.lot_sync.specs.Passes.{seen_as, lock_side, IsFree};
+ghost use Rattle.lot_kinds.specs.Opening.{StandFrom};
+ghost use Rattle.lot_kinds.specs.Opening.{key_of as kind_key};
 ghost use Rattle.lot_sync.specs.Starting.{StandAtKeys};
 
 use crate::lot::Lot;
@@ -15,7 +16,8 @@ use crate::pool::{ClosingRoom, Idle, Pool};
 use crate::tables::LotRoot;
 use lot_park::Root;
 use lot_park::parts::OneOf;
-use lot_waits::{CondKeyRoot, Ledger, Waiter, settle};
+use lot_kinds::{KindRoot, Rights, settle};
+use lot_waits::Ledger;
 use lot_words::{Keeps, LockPass, LockRoot};
 use std::sync::Wait;
 use std::thread;
@@ -39,22 +41,23 @@ impl<V: Keeps + Send, N: LotName<V> + Send> Lot<V, N> {
             threads: _,
             locks: _,
             conds: _,
+            sems: _,
         } = self;
         let Pool { idle, room } = pool.into_inner();
         none_left(rt, idle);
         let ClosingRoom {
             passes: mut rights,
-            mut waiters,
+            mut kinds,
             mut named,
             mut roots,
-            mut cond_roots,
-            conds: room,
+            mut kind_roots,
+            room,
         } = room;
         let scheme = parking.close(rt, &mut named);
-        unname_roots(named, &mut roots, &mut cond_roots);
-        gather(passes, &mut rights, &mut waiters);
-        let (words, conds) = scheme.apart();
-        let ledger = settle(conds, waiters, cond_roots, room);
+        unname_roots(named, &mut roots, &mut kind_roots);
+        gather(passes, &mut rights, &mut kinds);
+        let (words, kind_scheme) = scheme.apart();
+        let ledger = settle(kind_scheme, kinds, kind_roots, room);
         (words.into_words().close(rights, roots), ledger)
     }
 }
@@ -75,45 +78,46 @@ fn none_left<V: Keeps + Send, N: LotName<V> + Send, R: Wait>(rt: &R, idle: Vec<I
 pub(crate) fn unname_roots<V: Keeps + Send, N: LotName<V> + Send>(
     mut named: Vec<LotRoot<V, N>>,
     roots: &mut Vec<LockRoot<V>>,
-    cond_roots: &mut Vec<CondKeyRoot<N>>,
+    kind_roots: &mut Vec<KindRoot<N>>,
 )
     requires keys { StandAtKeys named.items }
     requires locks { length N.values ≤ vec_len named }
     requires room { (vec_len roots.old ≡ 0) × (length N.values ≤ vec_capacity roots.old) }
-    requires cond_room { (vec_len cond_roots.old ≡ 0) × (vec_len named ≤ length N.values + vec_capacity cond_roots.old) }
+    requires kind_room { (vec_len kind_roots.old ≡ 0) × (vec_len named ≤ length N.values + vec_capacity kind_roots.old) }
     ensures own { All (λ (r : RootShown LockRootView). r.table ≡ N.opening.locks) roots.new.items }
-    ensures long { vec_len cond_roots.new + length N.values ≡ vec_len named }
+    ensures long { vec_len kind_roots.new + length N.values ≡ vec_len named }
     ensures roots { (k : ℕ) → k < length N.values → Any (λ (r : RootShown LockRootView). r.root.key ≡ k) roots.new.items }
-    ensures conds { (k : ℕ) → length N.values ≤ k → k < vec_len named → Any (λ (r : RootShown CondRootView). r.root.key ≡ k) cond_roots.new.items }
+    ensures kinds { StandFrom kind_key (length N.values) kind_roots.new.items }
 {
     while let Some(root) = named.pop() {
         match root.into_one() {
             OneOf::First(root) => roots.push_reserved(root.into_root()),
-            OneOf::Second(root) => cond_roots.push_reserved(root),
+            OneOf::Second(root) => kind_roots.push_reserved(root),
         }
     }
     named.destroy_empty();
+    kind_roots.reverse();
 }
 
 /// Takes the passes apart, in order.
 fn gather<V: Keeps + Send, N: LotName<V> + Send>(
     mut passes: Vec<Pass<V, N>>,
     rights: &mut Vec<LockPass<V>>,
-    waiters: &mut Vec<Waiter<N>>,
+    kinds: &mut Vec<Rights<N>>,
 )
     requires free { All OwnsNone passes.items }
     requires room { (vec_len rights.old ≡ 0) × (vec_len passes ≤ vec_capacity rights.old) }
-    requires waiters { (vec_len waiters.old ≡ 0) × (vec_len passes ≤ vec_capacity waiters.old) }
+    requires kinds { (vec_len kinds.old ≡ 0) × (vec_len passes ≤ vec_capacity kinds.old) }
     ensures same { map seen_as rights.new.items ≡ map lock_side passes.items }
-    ensures counts { waiters.new.items ≡ map counts_of passes.items }
+    ensures beside { kinds.new.items ≡ map rights_of passes.items }
     ensures free { All (IsFree N.opening.locks) rights.new.items }
 {
     while let Some(pass) = passes.pop() {
-        let (right, waiter) = pass.apart();
+        let (right, one) = pass.apart();
         rights.push_reserved(right.into_pass());
-        waiters.push_reserved(waiter);
+        kinds.push_reserved(one);
     }
     passes.destroy_empty();
     rights.reverse();
-    waiters.reverse();
+    kinds.reverse();
 }

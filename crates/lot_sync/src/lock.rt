@@ -2,7 +2,7 @@
 ghost use Rattle.std.specs.Prelude.{◌≡◌, ℕ, ◌+◌, ◌<◌, ◌≤◌, true, false, MatchBool, MatchOption, length, [], ◌∷◌, ◌++◌};
 ghost use Rattle.lot_sync.specs.Lot.{Owns, IsWide};
 ghost use Rattle.lot_sync.specs.Values.{Gets};
-ghost use Rattle.lot_sync.specs.Passes.{Wants, IsTryingFor, IsOwner, sees, AreCounts, IsNewOwner};
+ghost use Rattle.lot_sync.specs.Passes.{Wants, IsTryingFor, IsOwner, sees, AreRightsOf, IsNewOwner};
 ghost use Rattle.lot_words.specs.World.{Holds};
 ghost use Rattle.lot_words.specs.Values.{IsIn};
 ghost use Rattle.lot_words.specs.Calls.{Aims};
@@ -16,7 +16,7 @@ use crate::steps::{HANDOFF, LockSteps};
 use crate::tables::{Locks, LotScheme};
 use lot_park::parts::{Part, park_on};
 use lot_park::{Parked, ParkingLot, Scheme};
-use lot_waits::Waiter;
+use lot_kinds::Rights;
 use lot_words::Keeps;
 use std::sync::Wait;
 use std::thread;
@@ -46,13 +46,13 @@ impl<V: Keeps + Send, N: LotName<V> + Send> Lot<V, N> {
         ensures gets { MatchOption result.1 (result.0 ≡ pass) (λ held. Gets V.keeps V.grows V.part pass key held result.0) }
         ensures wide { IsWide self.now result.0 }
     {
-        let (right, waiter) = pass.apart();
+        let (right, kinds) = pass.apart();
         let (right, got) = self.try_take(right, key);
         if got {
-            let (pass, held) = self.taken(right, waiter, key);
+            let (pass, held) = self.taken(right, kinds, key);
             (pass, Some(held))
         } else {
-            (self.at_rest(right, waiter), None)
+            (self.at_rest(right, kinds), None)
         }
     }
 
@@ -82,13 +82,13 @@ impl<V: Keeps + Send, N: LotName<V> + Send> Lot<V, N> {
         ensures gets { Gets V.keeps V.grows V.part pass key result.1 result.0 }
         ensures wide { IsWide self.now result.0 }
     {
-        let (right, waiter) = pass.apart();
+        let (right, kinds) = pass.apart();
         let (right, got) = self.take(right, key);
         if got {
-            self.taken(right, waiter, key)
+            self.taken(right, kinds, key)
         } else {
             let right = self.lock_slowly(rt, right, key, before);
-            self.taken(right, waiter, key)
+            self.taken(right, kinds, key)
         }
     }
 
@@ -123,18 +123,18 @@ impl<V: Keeps + Send, N: LotName<V> + Send> Lot<V, N> {
     pub(crate) fn taken(
         &self,
         right: NamedPass<V, N>,
-        waiter: Waiter<N>,
+        kinds: Rights<N>,
         key: usize,
     ) -> (Pass<V, N>, Held<V, N>)
         requires key { key < self.now.locks }
         requires owner { IsNewOwner V.grows N.values N.threads right key }
-        requires counts { AreCounts (N.locks + N.conds) right.thread waiter }
+        requires own { AreRightsOf right.thread kinds }
         ensures held { (result.1.key ≡ key) × IsIn right.own key result.1.value }
-        ensures pass { result.0 ≡ sees waiter right }
+        ensures pass { result.0 ≡ sees kinds right }
         ensures wide { IsWide self.now result.0 }
     {
         let (right, value) = self.value_out(right, key);
-        (self.at_rest(right, waiter), Held::new(key, value))
+        (self.at_rest(right, kinds), Held::new(key, value))
     }
 
     /// Gets a lock that was found held.

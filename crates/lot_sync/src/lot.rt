@@ -6,7 +6,6 @@ use crate::pool::Pool;
 use crate::scheme::LockScheme;
 use crate::tables::LotScheme;
 use lot_park::ParkingLot;
-use lot_waits::CondScheme;
 use lot_words::{Keeps, LockWords};
 use std::marker::Model;
 use std::sync::{Mutex, Wait};
@@ -24,6 +23,7 @@ pub struct Lot<V: Keeps + Send, N: LotName<V> + Send> {
     pub(crate) threads: usize,
     pub(crate) locks: usize,
     pub(crate) conds: usize,
+    pub(crate) sems: usize,
 }
 
 impl<V: Keeps + Send, N: LotName<V> + Send> Model for Lot<V, N> {
@@ -33,9 +33,9 @@ impl<V: Keeps + Send, N: LotName<V> + Send> Model for Lot<V, N> {
 
     ghost Value = { LotView };
 
-    ghost view = { λ s. record { threads = s.threads; locks = s.locks; conds = s.conds } };
+    ghost view = { λ s. record { threads = s.threads; locks = s.locks; conds = s.conds; sems = s.sems } };
 
-    ghost invariant = { λ s. IsLot (record { opening = N.opening; threads = N.threads; values = N.values; locks = N.locks; conds = N.conds }) s.threads s.locks s.conds s.parking };
+    ghost invariant = { λ s. IsLot (record { opening = N.opening; threads = N.threads; values = N.values; locks = N.locks; conds = N.conds; low = N.low; permits = N.permits }) s.threads s.locks s.conds s.sems s.parking };
 }
 
 impl<V: Keeps + Send, N: LotName<V> + Send> Lot<V, N> {
@@ -44,7 +44,7 @@ impl<V: Keeps + Send, N: LotName<V> + Send> Lot<V, N> {
         ensures named { result.now.table ≡ N.opening.locks }
         ensures locks { (result.now.size.locks ≡ self.now.locks) × (self.now.locks ≡ length N.values) }
         ensures threads { self.now.threads ≡ N.threads }
-        ensures keys { (self.now.locks ≡ N.locks) × (self.now.conds ≡ N.conds) }
+        ensures keys { (self.now.locks ≡ N.locks) × (self.now.conds ≡ N.conds) × (self.now.sems ≡ length N.permits) × (N.low ≡ N.locks + N.conds) }
     {
         self.parking.scheme().first().words()
     }
@@ -70,6 +70,13 @@ impl<V: Keeps + Send, N: LotName<V> + Send> Lot<V, N> {
         self.conds
     }
 
+    /// How many semaphores there are. Their numbers follow the conditions'.
+    pub fn sems(&self) -> usize
+        ensures { result ≡ self.now.sems }
+    {
+        self.sems
+    }
+
     /// Whether somebody owns the lock at some moment of this call. It is an observation: nothing is promised of it.
     pub fn is_held(&self, key: usize) -> bool
         requires { key < self.now.locks }
@@ -77,9 +84,9 @@ impl<V: Keeps + Send, N: LotName<V> + Send> Lot<V, N> {
         self.words().bits(key) & HELD != 0
     }
 
-    /// How many threads wait in the line of the lock or the condition at some moment of this call.
+    /// How many threads wait in the line of the lock, the condition or the semaphore at some moment of this call.
     pub fn line_length<R: Wait>(&self, rt: &R, key: usize) -> usize
-        requires { key < self.now.locks + self.now.conds }
+        requires { key < self.now.locks + self.now.conds + self.now.sems }
     {
         self.parking.line_length(rt, key)
     }

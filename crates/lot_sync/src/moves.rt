@@ -4,25 +4,26 @@ ghost use Rattle.lot_words.specs.declared.views.Place.TheVariants.{InSlot, Out};
 ghost use Rattle.lot_words.specs.World.{Holds};
 ghost use Rattle.lot_words.specs.Values.{IsIn, IsOut, HasSeen, MayLeave};
 ghost use Rattle.lot_sync.specs.Lot.{IsWide};
-ghost use Rattle.lot_sync.specs.Passes.{IsAtRest, AreCounts, sees, putting};
+ghost use Rattle.lot_sync.specs.Passes.{IsAtRest, AreRightsOf, sees, putting};
 
 use crate::lot::Lot;
 use crate::pass::{LotName, Pass};
 use crate::scheme::NamedPass;
-use lot_waits::Waiter;
+use lot_kinds::Rights;
 use lot_words::Keeps;
 
 impl<V: Keeps + Send, N: LotName<V> + Send> Lot<V, N> {
     /// What the caller of a lock or an unlock is handed back.
     #[inline(always)]
-    pub(crate) fn at_rest(&self, right: NamedPass<V, N>, waiter: Waiter<N>) -> Pass<V, N>
+    pub(crate) fn at_rest(&self, right: NamedPass<V, N>, kinds: Rights<N>) -> Pass<V, N>
         requires rest { IsAtRest V.grows N.values N.threads right }
-        requires counts { AreCounts (N.locks + N.conds) right.thread waiter }
-        ensures pass { result ≡ sees waiter right }
+        requires own { AreRightsOf right.thread kinds }
+        ensures pass { result ≡ sees kinds right }
         ensures wide { IsWide self.now result }
     {
         let _words = self.words();
-        Pass::at_rest(right, waiter)
+        kinds.thread();
+        Pass::at_rest(right, kinds)
     }
 
     #[inline(always)]

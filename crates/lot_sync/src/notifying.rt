@@ -6,6 +6,7 @@ use crate::lot::Lot;
 use crate::pass::{LotName, Pass};
 use crate::tables::{Conds, LotScheme};
 use lot_park::Moment;
+use lot_kinds::Rights;
 use lot_words::Keeps;
 use std::sync::Wait;
 
@@ -16,9 +17,11 @@ impl<V: Keeps + Send, N: LotName<V> + Send> Lot<V, N> {
         ensures same { result.0 ≡ pass }
         ensures wide { IsWide self.now result.0 }
     {
-        let (right, waiter) = pass.apart();
-        let (waiter, has) = lot_waits::has_waiters(self.parking.scheme().second(), waiter, cond);
-        (self.at_rest(right, waiter), has)
+        let (right, kinds) = pass.apart();
+        let (waiter, seeker) = kinds.apart();
+        let scheme = self.parking.scheme().second().first();
+        let (waiter, has) = lot_waits::has_waiters(scheme, waiter, cond);
+        (self.at_rest(right, Rights::new(waiter, seeker)), has)
     }
 
     /// Takes the first thread of the condition's line, if any, and answers whether it took one. Where nobody waits it is one load, and
@@ -34,8 +37,9 @@ impl<V: Keeps + Send, N: LotName<V> + Send> Lot<V, N> {
         ensures counted { MatchBool result.1 (result.0 ≡ calling pass cond 1) (result.0 ≡ pass) }
         ensures wide { IsWide self.now result.0 }
     {
-        let (right, waiter) = pass.apart();
-        let scheme = self.parking.scheme().second();
+        let (right, kinds) = pass.apart();
+        let (waiter, seeker) = kinds.apart();
+        let scheme = self.parking.scheme().second().first();
         let (waiter, taken) = lot_waits::notify_one::<LotScheme<V, N>, N, Conds, R>(
             rt,
             &self.parking,
@@ -44,7 +48,7 @@ impl<V: Keeps + Send, N: LotName<V> + Send> Lot<V, N> {
             cond,
             moment,
         );
-        (self.at_rest(right, waiter), taken)
+        (self.at_rest(right, Rights::new(waiter, seeker)), taken)
     }
 
     /// Takes all threads of the condition's line, and answers how many. Where nobody waits it is one load, and no bucket is locked.
@@ -53,8 +57,9 @@ impl<V: Keeps + Send, N: LotName<V> + Send> Lot<V, N> {
         ensures counted { result.0 ≡ calling pass cond result.1 }
         ensures wide { IsWide self.now result.0 }
     {
-        let (right, waiter) = pass.apart();
-        let scheme = self.parking.scheme().second();
+        let (right, kinds) = pass.apart();
+        let (waiter, seeker) = kinds.apart();
+        let scheme = self.parking.scheme().second().first();
         let (waiter, taken) = lot_waits::notify_all::<LotScheme<V, N>, N, Conds, R>(
             rt,
             &self.parking,
@@ -62,6 +67,6 @@ impl<V: Keeps + Send, N: LotName<V> + Send> Lot<V, N> {
             waiter,
             cond,
         );
-        (self.at_rest(right, waiter), taken)
+        (self.at_rest(right, Rights::new(waiter, seeker)), taken)
     }
 }

@@ -4,10 +4,10 @@ ghost use Rattle.lot_sync.specs.Lot.{OwnsNone};
 
 use crate::pass::{LotName, Pass};
 use crate::tables::LotRoot;
-use lot_waits::{CondKeyRoot, Waiter};
+use lot_kinds::{KindRoot, Rights};
 use lot_words::{Keeps, LockPass, LockRoot};
 
-/// A pass that owns no lock.
+/// A pass that owns no lock and holds no permit.
 pub(crate) struct Idle<V: Keeps + Send, N: LotName<V> + Send> {
     pub(crate) pass: Pass<V, N>,
     ghost free: { OwnsNone pass },
@@ -16,16 +16,16 @@ pub(crate) struct Idle<V: Keeps + Send, N: LotName<V> + Send> {
 /// The room that `Lot::close` fills. The lists held the rights before the lot started.
 pub(crate) struct ClosingRoom<V: Keeps + Send, N: LotName<V> + Send> {
     pub(crate) passes: Vec<LockPass<V>>,
-    pub(crate) waiters: Vec<Waiter<N>>,
+    pub(crate) kinds: Vec<Rights<N>>,
     pub(crate) named: Vec<LotRoot<V, N>>,
     pub(crate) roots: Vec<LockRoot<V>>,
-    pub(crate) cond_roots: Vec<CondKeyRoot<N>>,
-    pub(crate) conds: lot_waits::ClosingRoom,
-    ghost no_rights: { (vec_len passes ≡ 0) × (vec_len waiters ≡ 0) },
-    ghost no_roots: { (vec_len named ≡ 0) × (vec_len roots ≡ 0) × (vec_len cond_roots ≡ 0) },
-    ghost for_rights: { (N.threads ≤ vec_capacity passes) × (N.threads ≤ vec_capacity waiters) },
-    ghost for_roots: { (length N.values + N.conds ≤ vec_capacity named) × (length N.values ≤ vec_capacity roots) × (N.conds ≤ vec_capacity cond_roots) },
-    ghost for_conds: { (N.threads ≤ conds.threads) × (conds.conds ≡ N.conds) },
+    pub(crate) kind_roots: Vec<KindRoot<N>>,
+    pub(crate) room: lot_kinds::ClosingRoom<N>,
+    ghost no_rights: { (vec_len passes ≡ 0) × (vec_len kinds ≡ 0) },
+    ghost no_roots: { (vec_len named ≡ 0) × (vec_len roots ≡ 0) × (vec_len kind_roots ≡ 0) },
+    ghost for_rights: { (N.threads ≤ vec_capacity passes) × (N.threads ≤ vec_capacity kinds) },
+    ghost for_roots: { (length N.values + N.conds + length N.permits ≤ vec_capacity named) × (length N.values ≤ vec_capacity roots) × (N.conds + length N.permits ≤ vec_capacity kind_roots) },
+    ghost for_kinds: { (N.threads ≤ room.threads) × (room.conds ≡ N.conds) × (length N.permits ≤ room.sems) },
 }
 
 /// The passes that are in.

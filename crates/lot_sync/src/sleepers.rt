@@ -1,14 +1,14 @@
 //! Rows with a thread that is held before it looks for its letter, and of a parking that comes too late.
 ghost use Rattle.std.specs.Prelude.{◌≡◌, ◌≤◌, ◌<◌, ◌+◌, ◌≢◌, ℕ};
 ghost use Rattle.lot_sync.specs.Lot.{OwnsNone};
-ghost use Rattle.lot_sync.specs.Passes.{AreCounts};
+ghost use Rattle.lot_sync.specs.Passes.{AreRightsOf};
 ghost use Rattle.lot_sync.specs.Holding.{Holding, HoldingBoth, Seeks};
 
 use crate::lock::{BeforeSleep, park};
 use crate::scheme::NamedPass;
 use crate::tests::{Count, enter, in_line, is_raised, own, release, word};
 use crate::{Held, Lot, LotName, Moment, Pass, Released};
-use lot_waits::Waiter;
+use lot_kinds::Rights;
 use std::process::Abort;
 use std::sync::Wait;
 use std::sync::atomic::{AtomicU64, Ordering};
@@ -442,18 +442,18 @@ fn seek<N: LotName<Count> + Send + Sync, T: Wait + Abort>(
     lot: &Lot<Count, N>,
     pass: Pass<Count, N>,
     key: usize,
-) -> (NamedPass<Count, N>, Waiter<N>)
+) -> (NamedPass<Count, N>, Rights<N>)
     requires key { key < lot.now.locks }
     requires free { OwnsNone pass }
     ensures seeks { Seeks (λ x y. x.n ≤ y.n) N.values N.threads key result.0 }
-    ensures counts { AreCounts (N.locks + N.conds) result.0.thread result.1 }
+    ensures own { AreRightsOf result.0.thread result.1 }
 {
-    let (right, waiter) = pass.apart();
+    let (right, kinds) = pass.apart();
     let (right, got) = lot.take(right, key);
     if got {
         panic!(rt; "a held lock was got")
     }
-    (right, waiter)
+    (right, kinds)
 }
 
 /// It finds the lock held again.
@@ -516,18 +516,18 @@ fn get<N: LotName<Count> + Send + Sync, T: Wait + Abort>(
     rt: &T,
     lot: &Lot<Count, N>,
     right: NamedPass<Count, N>,
-    waiter: Waiter<N>,
+    kinds: Rights<N>,
     key: usize,
 ) -> (Pass<Count, N>, Held<Count, N>)
     requires key { key < lot.now.locks }
     requires seeks { Seeks (λ x y. x.n ≤ y.n) N.values N.threads key right }
-    requires counts { AreCounts (N.locks + N.conds) right.thread waiter }
+    requires own { AreRightsOf right.thread kinds }
     ensures key { result.1.key ≡ key }
     ensures holding { Holding (λ x y. x.n ≤ y.n) result.0 result.1 }
 {
     let (right, got) = lot.take(right, key);
     if got {
-        lot.taken(right, waiter, key)
+        lot.taken(right, kinds, key)
     } else {
         panic!(rt; "a free lock was not got")
     }
@@ -545,7 +545,7 @@ pub(crate) fn invalid_parking<N: LotName<Count> + Send + Sync, T: Wait + Abort>(
     let one = enter(rt, lot);
     let two = enter(rt, lot);
     let (zero, held) = own(rt, lot, zero, 0);
-    let (one, waiter) = seek(rt, lot, one, 0);
+    let (one, kinds) = seek(rt, lot, one, 0);
     let one = mark(rt, lot, one, 0);
     assert_eq!(rt; word(lot, 0), 3);
     let (zero, released) = release(rt, lot, zero, held, 0);
@@ -557,7 +557,7 @@ pub(crate) fn invalid_parking<N: LotName<Count> + Send + Sync, T: Wait + Abort>(
     let one = seek_again(rt, lot, one, 0);
     let (two, released) = release(rt, lot, two, held, 0);
     assert_eq!(rt; released, Released::Quiet);
-    let (one, held) = get(rt, lot, one, waiter, 0);
+    let (one, held) = get(rt, lot, one, kinds, 0);
     assert_eq!(rt; word(lot, 0), 1);
     let (one, released) = release(rt, lot, one, held, 0);
     assert_eq!(rt; released, Released::Quiet);

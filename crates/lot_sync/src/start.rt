@@ -6,8 +6,9 @@ ghost use Rattle.lot_words.specs.declared.views.LockRootView.{LockRootView};
 ghost use Rattle.lot_core.specs.declared.state.TheConstants.{MAX_THREADS, MAX_KEYS};
 ghost use Rattle.lot_park.specs.declared.parts.both.OneOf.TheVariants.{First, Second};
 ghost use Rattle.lot_sync.specs.Opened.{AreUnused, IsNamed};
-ghost use Rattle.lot_sync.specs.Passes.{IsFresh, AreCounts};
-ghost use Rattle.lot_sync.specs.Starting.{ArePaired, IsFreeRoot, IsFreeCond};
+ghost use Rattle.lot_sync.specs.Passes.{IsFresh, AreRightsOf};
+ghost use Rattle.lot_kinds.specs.Rights.{HoldsNone};
+ghost use Rattle.lot_sync.specs.Starting.{ArePaired, IsFreeRoot, IsFreeKind};
 
 use crate::closing::unname_roots;
 use crate::fault::OpenFault;
@@ -19,7 +20,7 @@ use crate::scheme::{KeyRoot, LockScheme, NamedPass};
 use crate::tables::{LotRoot, LotScheme};
 use lot_park::parts::{Both, EitherRoot};
 use lot_park::{ParkFault, ParkingLot};
-use lot_waits::{CondKeyRoot, Room, Waiter, settle};
+use lot_kinds::{KindRoot, Rights, Room, settle};
 use lot_words::{Keeps, LockPass, LockRoot, LockWords};
 use std::alloc::{AllocError, Global};
 use std::snapshot::Snapshot;
@@ -30,11 +31,11 @@ struct Rooms<V: Keeps + Send, N: LotName<V> + Send> {
     idle: Vec<Idle<V, N>>,
     named: Vec<LotRoot<V, N>>,
     closing: Vec<LotRoot<V, N>>,
-    conds: Room<N>,
+    kinds: Room<N>,
     ghost empty: { (vec_len idle ≡ 0) × (vec_len named ≡ 0) × (vec_len closing ≡ 0) },
     ghost for_passes: { N.threads ≤ vec_capacity idle },
-    ghost for_roots: { (length N.values + N.conds ≤ vec_capacity named) × (length N.values + N.conds ≤ vec_capacity closing) },
-    ghost for_conds: { (conds.threads ≡ N.threads) × (conds.conds ≡ N.conds) },
+    ghost for_roots: { (length N.values + N.conds + length N.permits ≤ vec_capacity named) × (length N.values + N.conds + length N.permits ≤ vec_capacity closing) },
+    ghost for_kinds: { (kinds.threads ≡ N.threads) × (kinds.conds ≡ N.conds) × (kinds.sems ≡ length N.permits) },
 }
 
 impl<V: Keeps + Send, N: LotName<V> + Send> Rooms<V, N> {
@@ -43,11 +44,12 @@ impl<V: Keeps + Send, N: LotName<V> + Send> Rooms<V, N> {
         threads: usize,
         locks: usize,
         conds: usize,
+        sems: usize,
     ) -> Result<Rooms<V, N>, AllocError>
         requires threads { (threads ≡ N.threads) × (threads ≤ MAX_THREADS) }
-        requires keys { (locks ≡ length N.values) × (conds ≡ N.conds) × (locks + conds ≤ MAX_KEYS) }
+        requires keys { (locks ≡ length N.values) × (conds ≡ N.conds) × (sems ≡ length N.permits) × (locks + conds + sems ≤ MAX_KEYS) }
     {
-        let (named, closing) = root_lists(alloc, locks + conds)?;
+        let (named, closing) = root_lists(alloc, locks + conds + sems)?;
         let idle = match Vec::with_capacity(alloc, threads) {
             Ok(idle) => idle,
             Err(refused) => {
@@ -56,12 +58,12 @@ impl<V: Keeps + Send, N: LotName<V> + Send> Rooms<V, N> {
                 return Err(refused);
             }
         };
-        match Room::new(alloc, threads, conds) {
+        match Room::new(alloc, threads, conds, sems) {
             Ok(room) => Ok(Rooms {
                 idle,
                 named,
                 closing,
-                conds: room,
+                kinds: room,
             }),
             Err(refused) => {
                 idle.destroy_empty();
@@ -116,12 +118,12 @@ fn name_root<V: Keeps + Send, N: LotName<V> + Send>(root: LockRoot<V>) -> LotRoo
     EitherRoot::first(KeyRoot::new(root))
 }
 
-/// Appends the roots of the conditions, in order. Their own room stays.
+/// Appends the roots of the conditions and semaphores, in order. Their own room stays.
 fn add_roots<V: Keeps + Send, N: LotName<V> + Send>(
-    roots: &mut Vec<CondKeyRoot<N>>,
+    roots: &mut Vec<KindRoot<N>>,
     named: &mut Vec<LotRoot<V, N>>,
 )
-    requires free { All (IsFreeCond (length N.values)) roots.old.items }
+    requires free { All (IsFreeKind (length N.values)) roots.old.items }
     requires room { vec_len named.old + vec_len roots.old ≤ vec_capacity named.old }
     ensures same { named.new.items ≡ named.old.items ++ map Second roots.old.items }
     ensures long { vec_len named.new ≡ vec_len named.old + vec_len roots.old }
@@ -133,35 +135,37 @@ fn add_roots<V: Keeps + Send, N: LotName<V> + Send>(
     }
 }
 
-/// Puts all passes into the pool, each with its thread's waiter. Their own room stays.
+/// Puts all passes into the pool, each with its thread's rights beside. Their own room stays.
 fn fill<V: Keeps + Send, N: LotName<V> + Send>(
     passes: &mut Vec<LockPass<V>>,
-    waiters: &mut Vec<Waiter<N>>,
+    kinds: &mut Vec<Rights<N>>,
     idle: &mut Vec<Idle<V, N>>,
 )
     requires idle { All (IsFresh V.grows N.opening.locks N.values N.threads) passes.old.items }
-    requires paired { ArePaired (N.locks + N.conds) passes.old.items waiters.old.items }
-    requires long { vec_len waiters.old ≡ vec_len passes.old }
+    requires paired { ArePaired passes.old.items kinds.old.items }
+    requires long { vec_len kinds.old ≡ vec_len passes.old }
+    requires none { All HoldsNone kinds.old.items }
     requires room { (vec_len idle.old ≡ 0) × (vec_len passes.old ≤ vec_capacity idle.old) }
     ensures long { vec_len idle.new ≡ vec_len passes.old }
     ensures room { vec_capacity idle.new ≡ vec_capacity idle.old }
-    ensures empty { (vec_len passes.new ≡ 0) × (vec_len waiters.new ≡ 0) }
-    ensures rooms { (vec_capacity passes.new ≡ vec_capacity passes.old) × (vec_capacity waiters.new ≡ vec_capacity waiters.old) }
+    ensures empty { (vec_len passes.new ≡ 0) × (vec_len kinds.new ≡ 0) }
+    ensures rooms { (vec_capacity passes.new ≡ vec_capacity passes.old) × (vec_capacity kinds.new ≡ vec_capacity kinds.old) }
 {
     while let Some(right) = passes.pop() {
-        idle.push_reserved(make_idle(right, waiters.take_last()));
+        idle.push_reserved(make_idle(right, kinds.take_last()));
     }
 }
 
 fn make_idle<V: Keeps + Send, N: LotName<V> + Send>(
     right: LockPass<V>,
-    waiter: Waiter<N>,
+    kinds: Rights<N>,
 ) -> Idle<V, N>
     requires fresh { IsFresh V.grows N.opening.locks N.values N.threads right }
-    requires counts { AreCounts (N.locks + N.conds) right.pass.thread waiter }
+    requires own { AreRightsOf right.pass.thread kinds }
+    requires none { HoldsNone kinds }
 {
     Idle {
-        pass: Pass::at_rest(NamedPass::new(right), waiter),
+        pass: Pass::at_rest(NamedPass::new(right), kinds),
     }
 }
 
@@ -190,26 +194,27 @@ impl<V: Keeps + Send> Opened<V> {
             words,
             passes,
             roots,
-            conds,
+            kinds,
             threads: _,
             values,
         } = self;
-        conds.close();
+        kinds.close();
         close_unused(words, passes, roots, values)
     }
 
-    /// Starts the lot under the name N: its passes are in, its locks are free, and nobody waits on its conditions.
+    /// Starts the lot under the name N: its passes are in, its locks are free, nobody waits on its conditions, and all permits are left.
     ///
     /// `NoMemory` where a request for memory was refused: the opening values come back.
     pub fn start<N: LotName<V> + Send>(
         self,
         alloc: Global,
     ) -> Result<Lot<V, N>, (OpenFault, Vec<V>)>
-        requires named { IsNamed (record { opening = N.opening; threads = N.threads; values = N.values; locks = N.locks; conds = N.conds }) self }
-        ensures lot { IfOk result (λ lot. (lot.threads ≡ self.threads) × (lot.locks ≡ length self.values) × (lot.conds ≡ self.conds)) }
+        requires named { IsNamed (record { opening = N.opening; threads = N.threads; values = N.values; locks = N.locks; conds = N.conds; low = N.low; permits = N.permits }) self }
+        ensures lot { IfOk result (λ lot. (lot.threads ≡ self.threads) × (lot.locks ≡ length self.values) × (lot.conds ≡ self.conds) × (lot.sems ≡ length self.permits)) }
         ensures back { IfErr result (λ e. (e.0 ≡ OpenFault.NoMemory) × (e.1.items ≡ self.values)) }
     {
-        match Rooms::<V, N>::new(alloc, self.threads, self.roots.len(), self.conds.conds()) {
+        let (conds, sems) = (self.kinds.conds(), self.kinds.sems());
+        match Rooms::<V, N>::new(alloc, self.threads, self.roots.len(), conds, sems) {
             Ok(rooms) => started(alloc, self, rooms),
             Err(_) => Err((OpenFault::NoMemory, self.close())),
         }
@@ -221,15 +226,15 @@ fn started<V: Keeps + Send, N: LotName<V> + Send>(
     opened: Opened<V>,
     rooms: Rooms<V, N>,
 ) -> Result<Lot<V, N>, (OpenFault, Vec<V>)>
-    requires named { IsNamed (record { opening = N.opening; threads = N.threads; values = N.values; locks = N.locks; conds = N.conds }) opened }
-    ensures lot { IfOk result (λ lot. (lot.threads ≡ opened.threads) × (lot.locks ≡ length opened.values) × (lot.conds ≡ opened.conds)) }
+    requires named { IsNamed (record { opening = N.opening; threads = N.threads; values = N.values; locks = N.locks; conds = N.conds; low = N.low; permits = N.permits }) opened }
+    ensures lot { IfOk result (λ lot. (lot.threads ≡ opened.threads) × (lot.locks ≡ length opened.values) × (lot.conds ≡ opened.conds) × (lot.sems ≡ length opened.permits)) }
     ensures back { IfErr result (λ e. (e.0 ≡ OpenFault.NoMemory) × (e.1.items ≡ opened.values)) }
 {
     let Opened {
         words,
         mut passes,
         mut roots,
-        conds,
+        kinds,
         threads,
         values,
     } = opened;
@@ -237,43 +242,43 @@ fn started<V: Keeps + Send, N: LotName<V> + Send>(
         mut idle,
         mut named,
         closing,
-        conds: room,
+        kinds: room,
     } = rooms;
-    let locks = roots.len();
+    let (locks, conds, sems) = (roots.len(), kinds.conds(), kinds.sems());
     name_roots(&mut roots, &mut named);
-    let (conds, mut waiters, mut cond_roots, room) = conds.name::<N>(room);
-    let cond_count = cond_roots.len();
-    add_roots(&mut cond_roots, &mut named);
+    let (scheme, mut kinds, mut kind_roots, room) = kinds.name::<N>(room);
+    add_roots(&mut kind_roots, &mut named);
     match ParkingLot::open(
         alloc,
         threads,
         named,
-        Both::new(LockScheme::new(words), conds),
+        Both::new(LockScheme::new(words), scheme),
     ) {
         Ok(parking) => {
-            fill(&mut passes, &mut waiters, &mut idle);
+            fill(&mut passes, &mut kinds, &mut idle);
             let room = ClosingRoom {
                 passes,
-                waiters,
+                kinds,
                 named: closing,
                 roots,
-                cond_roots,
-                conds: room,
+                kind_roots,
+                room,
             };
             Ok(Lot {
                 parking,
                 pool: Mutex::new(Pool::new(idle, room)),
                 threads,
                 locks,
-                conds: cond_count,
+                conds,
+                sems,
             })
         }
         Err((ParkFault::NoMemory, named, scheme)) => {
             idle.destroy_empty();
             closing.destroy_empty();
-            unname_roots(named, &mut roots, &mut cond_roots);
-            let (words, conds) = scheme.apart();
-            let _nothing = settle(conds, waiters, cond_roots, room);
+            unname_roots(named, &mut roots, &mut kind_roots);
+            let (words, scheme) = scheme.apart();
+            let _nothing = settle(scheme, kinds, kind_roots, room);
             Err((
                 OpenFault::NoMemory,
                 close_unused(words.into_words(), passes, roots, values),

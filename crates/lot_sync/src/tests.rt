@@ -215,7 +215,7 @@ fn play<N: LotName<Count> + Send + Sync, T: Threads + Wait + Sync + Abort>(
     opened: Opened<Count>,
     row: Row,
 )
-    requires named { IsNamed (record { opening = N.opening; threads = N.threads; values = N.values; locks = N.locks; conds = N.conds }) opened }
+    requires named { IsNamed (record { opening = N.opening; threads = N.threads; values = N.values; locks = N.locks; conds = N.conds; low = N.low; permits = N.permits }) opened }
     requires sizes { (opened.threads ≡ threads) × (length opened.values ≡ 14) }
 {
     let Ok(passes) = Vec::with_capacity(alloc, threads) else {
@@ -755,7 +755,7 @@ fn started_and_closed<N: LotName<Count> + Send + Sync, T: Wait + Abort>(
     alloc: Global,
     opened: Opened<Count>,
 ) -> Vec<Count>
-    requires named { IsNamed (record { opening = N.opening; threads = N.threads; values = N.values; locks = N.locks; conds = N.conds }) opened }
+    requires named { IsNamed (record { opening = N.opening; threads = N.threads; values = N.values; locks = N.locks; conds = N.conds; low = N.low; permits = N.permits }) opened }
     requires one { opened.threads ≡ 1 }
 {
     let Ok(passes) = Vec::with_capacity(alloc, 1) else {

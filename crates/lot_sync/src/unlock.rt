@@ -3,7 +3,7 @@
 ghost use Rattle.std.specs.Prelude.{◌≡◌, ◌≢◌, ℕ, ◌+◌, ◌<◌, ◌≤◌, true, false, MatchBool, MatchOption, [], drop, length, ◌||◌};
 ghost use Rattle.lot_sync.specs.Lot.{Owns, IsWide, leaving};
 ghost use Rattle.lot_sync.specs.Values.{MayGiveBack};
-ghost use Rattle.lot_sync.specs.Passes.{IsNewOwner, IsFoundParked, MayPass, LetsGo, AreCounts, sees};
+ghost use Rattle.lot_sync.specs.Passes.{IsNewOwner, IsFoundParked, MayPass, LetsGo, AreRightsOf, sees};
 ghost use Rattle.lot_sync.specs.Released.{IsFitting, decision};
 ghost use Rattle.lot_words.specs.Values.{IsIn, HasSeen};
 ghost use Rattle.lot_park.specs.Parking.{Tells, debt};
@@ -17,7 +17,7 @@ use crate::steps::{LockSteps, free};
 use crate::tables::{Locks, LotScheme};
 use lot_park::parts::{Part, unpark_one};
 use lot_park::{Moment, ParkingLot, Scheme, Token, UnparkResult};
-use lot_waits::Waiter;
+use lot_kinds::Rights;
 use lot_words::Keeps;
 use std::sync::Wait;
 
@@ -77,13 +77,13 @@ impl<V: Keeps + Send, N: LotName<V> + Send> Lot<V, N> {
         ensures wide { IsWide self.now result.0 }
     {
         let key = held.key();
-        let (right, waiter) = self.given_back(pass, held, key);
+        let (right, kinds) = self.given_back(pass, held, key);
         let (right, freed) = self.free(right, key);
         if freed {
-            (self.at_rest(right, waiter), None)
+            (self.at_rest(right, kinds), None)
         } else {
             let (right, value) = self.value_out(right, key);
-            (self.at_rest(right, waiter), Some(Held::new(key, value)))
+            (self.at_rest(right, kinds), Some(Held::new(key, value)))
         }
     }
 
@@ -104,9 +104,9 @@ impl<V: Keeps + Send, N: LotName<V> + Send> Lot<V, N> {
         ensures fits { IsFitting result.1 fair moment.now }
     {
         let key = held.key();
-        let (right, waiter) = self.given_back(pass, held, key);
+        let (right, kinds) = self.given_back(pass, held, key);
         let (right, released) = self.let_go(rt, right, key, moment, fair);
-        (self.at_rest(right, waiter), released)
+        (self.at_rest(right, kinds), released)
     }
 
     /// The value goes back into its slot.
@@ -116,19 +116,19 @@ impl<V: Keeps + Send, N: LotName<V> + Send> Lot<V, N> {
         pass: Pass<V, N>,
         held: Held<V, N>,
         key: usize,
-    ) -> (NamedPass<V, N>, Waiter<N>)
+    ) -> (NamedPass<V, N>, Rights<N>)
         requires key { (held.key ≡ key) × (key < self.now.locks) }
         requires owns { Owns pass key }
         requires back { MayGiveBack V.keeps V.grows V.part pass held }
         ensures owner { IsNewOwner V.grows N.values N.threads result.0 key }
         ensures lies { IsIn result.0.own key held.value }
         ensures grown { (u : V) → HasSeen result.0.own key u → V.grows u held.value }
-        ensures counts { AreCounts (N.locks + N.conds) result.0.thread result.1 }
+        ensures own { AreRightsOf result.0.thread result.1 }
         ensures same { sees result.1 result.0 ≡ pass }
         ensures locks { key < length N.values }
     {
-        let (right, waiter) = pass.apart();
-        (self.value_in(right, key, held.into_value()), waiter)
+        let (right, kinds) = pass.apart();
+        (self.value_in(right, key, held.into_value()), kinds)
     }
 
     /// One compare-exchange: the lock is let go where nobody is parked.

@@ -15,6 +15,7 @@ use crate::tables::{Conds, Locks, LotScheme};
 use crate::unlock::let_go;
 use lot_park::parts::Part;
 use lot_park::{Moment, ParkingLot, Scheme};
+use lot_kinds::Rights;
 use lot_waits::{CondScheme, WaitName, Waiter, wait_on};
 use lot_words::Keeps;
 use std::sync::Wait;
@@ -40,12 +41,13 @@ impl<V: Keeps + Send, N: LotName<V> + Send> Lot<V, N> {
         ensures wide { IsWide self.now result.0 }
     {
         let key = held.key();
-        let (right, waiter) = self.given_back(pass, held, key);
+        let (right, kinds) = self.given_back(pass, held, key);
+        let (waiter, seeker) = kinds.apart();
         let scheme = self.parking.scheme();
         let (waiter, right) = sleep_on::<LotScheme<V, N>, N, Conds, LockScheme<V, N>, Locks, R>(
             rt,
             &self.parking,
-            scheme.second(),
+            scheme.second().first(),
             waiter,
             cond,
             scheme.first(),
@@ -53,7 +55,7 @@ impl<V: Keeps + Send, N: LotName<V> + Send> Lot<V, N> {
             key,
             moment,
         );
-        let pass = self.at_rest(right, waiter);
+        let pass = self.at_rest(right, Rights::new(waiter, seeker));
         self.lock(rt, pass, key)
     }
 }

@@ -150,7 +150,7 @@ fn play<N: LotName<Count> + Send + Sync, T: Threads + Wait + Sync + Abort>(
     alloc: Global,
     opened: Opened<Count>,
 )
-    requires named { IsNamed (record { opening = N.opening; threads = N.threads; values = N.values; locks = N.locks; conds = N.conds }) opened }
+    requires named { IsNamed (record { opening = N.opening; threads = N.threads; values = N.values; locks = N.locks; conds = N.conds; low = N.low; permits = N.permits }) opened }
     requires sizes { (opened.threads ≡ 4) × (length opened.values ≡ 1) × (opened.conds ≡ 1) }
 {
     let Ok(passes) = Vec::with_capacity(alloc, 4) else {

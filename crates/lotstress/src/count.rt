@@ -88,7 +88,7 @@ fn run<N: LotName<Journal<Counter>> + Send + Sync, T: Threads + Wait + Sync, G: 
     counting: &Counting,
     opened: Opened<Journal<Counter>>,
 ) -> Result<String, Failure>
-    requires named { IsNamed (record { opening = N.opening; threads = N.threads; values = N.values; locks = N.locks; conds = N.conds }) opened }
+    requires named { IsNamed (record { opening = N.opening; threads = N.threads; values = N.values; locks = N.locks; conds = N.conds; low = N.low; permits = N.permits }) opened }
     requires sizes { (opened.threads ≡ counting.now.threads) × (length opened.values ≡ counting.now.locks) }
 {
     let (lot, passes) = match start::<Journal<Counter>, N>(alloc, counting.threads, opened) {

@@ -1,0 +1,3 @@
+pub mod Rights
+pub mod Opening
+pub mod Room
