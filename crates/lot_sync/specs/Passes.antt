@@ -13,7 +13,7 @@ use Rattle.lot_words.specs.declared.views.Place.TheVariants.{InSlot}
 use Rattle.lot_words.specs.Shown.{LockWordsShown}
 use Rattle.lot_words.specs.World.{Holds, HoldsParked}
 use Rattle.lot_words.specs.Values.{IsOut, IsIn, FoundOk}
-use Rattle.lot_words.specs.Calls.{gripped, woken, placed}
+use Rattle.lot_words.specs.Calls.{Aims, gripped, woken, placed}
 use Rattle.lot_words.specs.Closing.{HoldsNone}
 use Rattle.lot_conds.specs.Shown.{CondWordsShown}
 use Rattle.lot_sems.specs.Shown.{SemWordsShown}
@@ -93,6 +93,10 @@ module _ {V : Type 0} where
   abbrev pub Wants : Standing V → ℕ → Type 0
   Wants r key = (r.own.aim ≡ Some key) × (r.own.asleep ≡ false)
 
+  -- it is awake, and wants no other lock
+  abbrev pub MayTake : Standing V → ℕ → Type 0
+  MayTake r key = (r.own.asleep ≡ false) × Aims r.own key
+
   -- it owns the lock, whose value lies in its slot
   abbrev pub MayLetGo : Standing V → ℕ → Type 0
   MayLetGo r key = (r.own.aim ≡ None) × (r.own.asleep ≡ false) × Holds r.own key × ((y : V) × IsIn r.own key y)
@@ -106,6 +110,15 @@ module _ {V : Type 0} where
     pub thread : now.thread ≡ before.thread
     pub holds : now.own.holds ≡ before.own.holds
     pub aims : now.own.aim ≡ Some key
+    pub awake : now.own.asleep ≡ false
+    pub places : now.own.places ≡ before.own.places
+    pub seen : now.own.seen ≡ before.own.seen
+
+  -- the pass before, which wants the lock or none
+  pub record IsAwakeFor (before : Standing V) (key : ℕ) (now : Standing V) : Type 0 where
+    pub thread : now.thread ≡ before.thread
+    pub holds : now.own.holds ≡ before.own.holds
+    pub aims : Aims now.own key
     pub awake : now.own.asleep ≡ false
     pub places : now.own.places ≡ before.own.places
     pub seen : now.own.seen ≡ before.own.seen

@@ -6,9 +6,9 @@
 //!
 //! | Call | Where nobody contends | Else |
 //! |---|---|---|
-//! | `lock` | one fetch-or | up to 40 spins, then a sleep in the lock's line |
-//! | `unlock` | one compare-exchange | the first of the line is taken: the lock is handed to it, or it tries again |
-//! | `try_lock`, `unlock_unparked` | one read-modify-write | an answer at once |
+//! | `lock` | one compare-exchange | up to 40 yields, then a sleep in the lock's line |
+//! | `unlock`, `unlock_asking` | one compare-exchange | the first of the line is taken: the lock is handed to it, or it tries again |
+//! | `try_lock`, `unlock_unparked` | one compare-exchange | an answer at once |
 #![tactic(auto)]
 
 #[cfg(test)]

@@ -1,15 +1,15 @@
-//! Getting a lock, as WTF's `Lock::lock` does: barging, a few spins, and then the line.
+//! Getting a lock, as WTF's `Lock::lock` does: one compare-exchange, a few yields, and then the line.
 ghost use Rattle.std.specs.Prelude.{◌≡◌, ℕ, ◌+◌, ◌<◌, ◌≤◌, true, false, MatchBool, MatchOption, length, [], ◌∷◌, ◌++◌};
 ghost use Rattle.lot_sync.specs.Lot.{Owns, IsWide};
 ghost use Rattle.lot_sync.specs.Values.{Gets};
-ghost use Rattle.lot_sync.specs.Passes.{Wants, IsTryingFor, IsOwner, sees, AreRightsOf, IsNewOwner};
+ghost use Rattle.lot_sync.specs.Passes.{Wants, MayTake, IsTryingFor, IsAwakeFor, IsOwner, sees, AreRightsOf, IsNewOwner};
 ghost use Rattle.lot_words.specs.World.{Holds};
 ghost use Rattle.lot_words.specs.Values.{IsIn};
 ghost use Rattle.lot_words.specs.Calls.{Aims};
 ghost use Rattle.lot_park.specs.Parking.{Ends, Awaited};
 
 use crate::held::Held;
-use crate::lot::{Lot, PARKED};
+use crate::lot::{HELD, Lot, PARKED};
 use crate::pass::{LotName, Pass};
 use crate::scheme::{LockScheme, NamedPass};
 use crate::steps::{HANDOFF, LockSteps};
@@ -23,6 +23,9 @@ use std::thread;
 
 /// How often one call of `lock` yields before it parks.
 const SPINS: u32 = 40;
+
+/// How often it yields before it looks at the word again: each look takes the word's line from its owner.
+const YIELDS: u32 = 8;
 
 /// What a thread does that was queued, before it sleeps. No bucket is locked then.
 pub(crate) trait BeforeSleep {
@@ -38,7 +41,8 @@ impl BeforeSleep for AtOnce {
 }
 
 impl<V: Keeps + Send, N: LotName<V> + Send> Lot<V, N> {
-    /// Gets the lock where nobody owns it, and else leaves all as it was. One read-modify-write of the lock's word.
+    /// Gets the lock where nobody owns it, and else leaves all as it was. Where nobody owns it and nobody is parked, it is one
+    /// read-modify-write of the lock's word, and else two.
     #[inline(always)]
     pub fn try_lock(&self, pass: Pass<V, N>, key: usize) -> (Pass<V, N>, Option<Held<V, N>>)
         requires key { key < self.now.locks }
@@ -56,8 +60,8 @@ impl<V: Keeps + Send, N: LotName<V> + Send> Lot<V, N> {
         }
     }
 
-    /// Gets the lock, waiting for it where somebody owns it. Where nobody does, it is one read-modify-write of the
-    /// lock's word.
+    /// Gets the lock, waiting for it where somebody owns it. Where nobody does and nobody is parked, it is one read-modify-write
+    /// of the lock's word.
     #[inline(always)]
     pub fn lock<R: Wait>(&self, rt: &R, pass: Pass<V, N>, key: usize) -> (Pass<V, N>, Held<V, N>)
         requires key { key < self.now.locks }
@@ -83,7 +87,7 @@ impl<V: Keeps + Send, N: LotName<V> + Send> Lot<V, N> {
         ensures wide { IsWide self.now result.0 }
     {
         let (right, kinds) = pass.apart();
-        let (right, got) = self.take(right, key);
+        let (right, got) = self.take_free(right, key);
         if got {
             self.taken(right, kinds, key)
         } else {
@@ -92,11 +96,23 @@ impl<V: Keeps + Send, N: LotName<V> + Send> Lot<V, N> {
         }
     }
 
-    /// Takes the lock where nobody owns it, and wants it otherwise.
+    /// Takes the lock where nobody owns it and nobody is marked as parked. Else all is as it was.
     #[inline(always)]
+    fn take_free(&self, pass: NamedPass<V, N>, key: usize) -> (NamedPass<V, N>, bool)
+        requires key { key < self.now.locks }
+        requires may { MayTake pass key }
+        ensures ends { MatchBool result.1 (IsOwner V.keeps V.grows V.part pass key result.0) (result.0 ≡ pass) }
+        ensures locks { self.now.locks ≡ length N.values }
+        ensures threads { self.now.threads ≡ N.threads }
+    {
+        let (pass, got) = self.words().take_free(pass.into_pass(), key);
+        (NamedPass::new(pass), got)
+    }
+
+    /// Takes the lock where nobody owns it, and wants it otherwise.
     pub(crate) fn take(&self, pass: NamedPass<V, N>, key: usize) -> (NamedPass<V, N>, bool)
         requires key { key < self.now.locks }
-        requires calm { (pass.own.asleep ≡ false) × Aims pass.own key }
+        requires may { MayTake pass key }
         ensures ends { MatchBool result.1 (IsOwner V.keeps V.grows V.part pass key result.0) (IsTryingFor pass key result.0) }
         ensures locks { self.now.locks ≡ length N.values }
         ensures threads { self.now.threads ≡ N.threads }
@@ -105,7 +121,19 @@ impl<V: Keeps + Send, N: LotName<V> + Send> Lot<V, N> {
         (NamedPass::new(pass), got)
     }
 
-    /// Takes the lock where nobody owns it.
+    /// The same where a look says that nobody owns it: a word that is held is not written.
+    fn take_unheld(&self, pass: NamedPass<V, N>, key: usize) -> (NamedPass<V, N>, bool)
+        requires key { key < self.now.locks }
+        requires may { MayTake pass key }
+        ensures { MatchBool result.1 (IsOwner V.keeps V.grows V.part pass key result.0) (IsAwakeFor pass key result.0) }
+    {
+        if self.words().bits(key) & HELD != 0 {
+            return (pass, false);
+        }
+        self.take(pass, key)
+    }
+
+    /// Takes the lock where nobody owns it: at once where nobody is marked as parked, else past the sleepers.
     #[inline(always)]
     fn try_take(&self, pass: NamedPass<V, N>, key: usize) -> (NamedPass<V, N>, bool)
         requires key { key < self.now.locks }
@@ -114,6 +142,10 @@ impl<V: Keeps + Send, N: LotName<V> + Send> Lot<V, N> {
         ensures locks { self.now.locks ≡ length N.values }
         ensures threads { self.now.threads ≡ N.threads }
     {
+        let (pass, got) = self.take_free(pass, key);
+        if got {
+            return (pass, true);
+        }
         let (pass, got) = self.words().try_take(pass.into_pass(), key);
         (NamedPass::new(pass), got)
     }
@@ -137,7 +169,7 @@ impl<V: Keeps + Send, N: LotName<V> + Send> Lot<V, N> {
         (self.at_rest(right, kinds), Held::new(key, value))
     }
 
-    /// Gets a lock that was found held.
+    /// Gets a lock that was found held or parked. It waits before it looks: a look takes the word's line from its owner.
     #[cold]
     #[inline(never)]
     fn lock_slowly<R: Wait, B: BeforeSleep>(
@@ -149,17 +181,17 @@ impl<V: Keeps + Send, N: LotName<V> + Send> Lot<V, N> {
     ) -> NamedPass<V, N>
         requires key { key < self.now.locks }
         requires thread { pass.thread < self.now.threads }
-        requires trying { Wants pass key }
+        requires may { MayTake pass key }
         ensures { IsOwner V.keeps V.grows V.part pass key result }
     {
         let mut pass = pass;
         let mut spins = 0;
         for _ in rt.forever() {
-            let (waited, handed) = self.wait_for(rt, pass, key, &mut spins, before);
-            if handed {
+            let (waited, got) = self.wait_for(rt, pass, key, &mut spins, before);
+            if got {
                 return waited;
             }
-            let (tried, got) = self.take(waited, key);
+            let (tried, got) = self.take_unheld(waited, key);
             if got {
                 return tried;
             }
@@ -168,8 +200,8 @@ impl<V: Keeps + Send, N: LotName<V> + Send> Lot<V, N> {
         unreachable!()
     }
 
-    /// Steps 2 to 4 of getting a lock that was found held: spin a while, mark the lock as parked, and sleep in its line.
-    /// Answers whether the lock was handed over meanwhile; else the caller tries again.
+    /// Yields some times where the lock is unparked and this call has yields left, and else sleeps in its line. Answers whether the
+    /// lock was got meanwhile; else the caller tries again.
     fn wait_for<R: Wait, B: BeforeSleep>(
         &self,
         rt: &R,
@@ -180,18 +212,38 @@ impl<V: Keeps + Send, N: LotName<V> + Send> Lot<V, N> {
     ) -> (NamedPass<V, N>, bool)
         requires key { key < self.now.locks }
         requires thread { pass.thread < self.now.threads }
-        requires trying { Wants pass key }
+        requires may { MayTake pass key }
         requires spins { spins.old ≤ SPINS }
         ensures spins { spins.new ≤ SPINS }
-        ensures ends { MatchBool result.1 (IsOwner V.keeps V.grows V.part pass key result.0) (IsTryingFor pass key result.0) }
+        ensures ends { MatchBool result.1 (IsOwner V.keeps V.grows V.part pass key result.0) (IsAwakeFor pass key result.0) }
     {
-        let words = self.words();
-        let is_parked = words.bits(key) & PARKED != 0;
+        let is_parked = self.words().bits(key) & PARKED != 0;
         if !is_parked && *spins < SPINS {
-            *spins += 1;
-            thread::yield_now();
+            *spins = back_off(*spins);
             return (pass, false);
         }
+        let (pass, got) = self.take(pass, key);
+        if got {
+            return (pass, true);
+        }
+        self.sleep_in_line(rt, pass, key, is_parked, before)
+    }
+
+    /// Marks the lock as parked where it was not seen so, and sleeps in its line. Answers whether it was handed over.
+    fn sleep_in_line<R: Wait, B: BeforeSleep>(
+        &self,
+        rt: &R,
+        pass: NamedPass<V, N>,
+        key: usize,
+        is_parked: bool,
+        before: &B,
+    ) -> (NamedPass<V, N>, bool)
+        requires key { key < self.now.locks }
+        requires thread { pass.thread < self.now.threads }
+        requires trying { Wants pass key }
+        ensures { MatchBool result.1 (IsOwner V.keeps V.grows V.part pass key result.0) (IsTryingFor pass key result.0) }
+    {
+        let words = self.words();
         if is_parked {
             return park(rt, &self.parking, pass, key, before);
         }
@@ -203,6 +255,18 @@ impl<V: Keeps + Send, N: LotName<V> + Send> Lot<V, N> {
             (pass, false)
         }
     }
+}
+
+/// Yields until it is time to look at the word again, and answers how often this call of `lock` has yielded then.
+fn back_off(spins: u32) -> u32
+    requires { spins < SPINS }
+    ensures { (spins < result) × (result ≤ SPINS) }
+{
+    let end = SPINS.min(spins + YIELDS);
+    for _ in spins..end {
+        thread::yield_now();
+    }
+    end
 }
 
 /// Sleeps in the line of the lock while it is held and parked, and answers whether the lock was handed over.

@@ -1,10 +1,11 @@
 //! Letting a lock go, as WTF's `Lock::unlock` does: one compare-exchange where nobody waits, else one sleeper is taken from
 //! the line, and the lock is handed to it or left to whoever comes first.
-ghost use Rattle.std.specs.Prelude.{◌≡◌, ◌≢◌, ℕ, ◌+◌, ◌<◌, ◌≤◌, true, false, MatchBool, MatchOption, [], drop, length, ◌||◌};
+ghost use Rattle.std.specs.Prelude.{◌≡◌, ◌≢◌, ◌⊎◌, ℕ, ◌+◌, ◌<◌, ◌≤◌, true, false, MatchBool, MatchOption, [], drop, length, ◌||◌};
 ghost use Rattle.lot_sync.specs.Lot.{Owns, IsWide, leaving};
 ghost use Rattle.lot_sync.specs.Values.{MayGiveBack};
 ghost use Rattle.lot_sync.specs.Passes.{IsNewOwner, IsFoundParked, MayPass, LetsGo, AreRightsOf, sees};
 ghost use Rattle.lot_sync.specs.Released.{IsFitting, decision};
+ghost use Rattle.lot_sync.specs.declared.released.Released.TheVariants.{Quiet};
 ghost use Rattle.lot_words.specs.Values.{IsIn, HasSeen};
 ghost use Rattle.lot_park.specs.Parking.{Tells, debt};
 
@@ -24,8 +25,7 @@ use std::sync::Wait;
 impl<V: Keeps + Send, N: LotName<V> + Send> Lot<V, N> {
     /// Lets the lock go. Where nobody is parked it is one read-modify-write of the lock's word.
     ///
-    /// The moment is read only where somebody is parked: a caller that has to ask a clock for it tries
-    /// `unlock_unparked` first.
+    /// The moment is looked at only where somebody is parked: a caller that has to ask a clock for it calls `unlock_asking`.
     #[inline(always)]
     pub fn unlock<R: Wait>(
         &self,
@@ -42,6 +42,55 @@ impl<V: Keeps + Send, N: LotName<V> + Send> Lot<V, N> {
         ensures fits { IsFitting result.1 false moment.now }
     {
         self.release(rt, pass, held, moment, false)
+    }
+
+    /// Lets the lock go, and asks for the moment only where somebody is parked, as WTF's `Lock::unlock` reads the clock there
+    /// alone: `lot.unlock_asking(rt, pass, held, || now())`.
+    #[inline(always)]
+    pub fn unlock_asking<R: Wait, M: FnOnce() -> Moment>(
+        &self,
+        rt: &R,
+        pass: Pass<V, N>,
+        held: Held<V, N>,
+        moment: M,
+    ) -> (Pass<V, N>, Released)
+    where
+        M: Drop,
+        requires key { held.key < self.now.locks }
+        requires owns { Owns pass held.key }
+        requires back { MayGiveBack V.keeps V.grows V.part pass held }
+        requires callable { M.pre moment }
+        ensures pass { result.0 ≡ leaving pass held.key held.value }
+        ensures wide { IsWide self.now result.0 }
+        ensures fits { (result.1 ≡ Quiet) ⊎ ((m : _) × M.post moment m × IsFitting result.1 false m.now) }
+    {
+        let (pass, parked) = self.unlock_unparked(pass, held);
+        match parked {
+            None => (pass, Released::Quiet),
+            Some(held) => self.unlock_parked(rt, pass, held, moment),
+        }
+    }
+
+    /// Lets a lock go that was found parked.
+    #[cold]
+    #[inline(never)]
+    fn unlock_parked<R: Wait, M: FnOnce() -> Moment>(
+        &self,
+        rt: &R,
+        pass: Pass<V, N>,
+        held: Held<V, N>,
+        moment: M,
+    ) -> (Pass<V, N>, Released)
+        requires key { held.key < self.now.locks }
+        requires owns { Owns pass held.key }
+        requires back { MayGiveBack V.keeps V.grows V.part pass held }
+        requires callable { M.pre moment }
+        ensures pass { result.0 ≡ leaving pass held.key held.value }
+        ensures wide { IsWide self.now result.0 }
+        ensures fits { (m : _) × M.post moment m × IsFitting result.1 false m.now }
+    {
+        let now = moment();
+        self.unlock(rt, pass, held, now)
     }
 
     /// Lets the lock go, and hands it to the first thread of its line, if any.
