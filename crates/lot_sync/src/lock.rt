@@ -17,6 +17,7 @@ use crate::tables::{Locks, LotScheme};
 use lot_park::parts::{Part, park_on};
 use lot_park::{Parked, ParkingLot, Scheme};
 use lot_kinds::Rights;
+use lot_waits::BeforeSweep;
 use lot_words::Keeps;
 use std::sync::Wait;
 use std::thread;
@@ -32,10 +33,15 @@ pub(crate) trait BeforeSleep {
     fn run(&self);
 }
 
-/// `lock` goes to sleep at once.
-struct AtOnce;
+/// Nothing: `lock`, `wait` and `notify_all` go on at once.
+pub(crate) struct AtOnce;
 
 impl BeforeSleep for AtOnce {
+    #[inline(always)]
+    fn run(&self) {}
+}
+
+impl BeforeSweep for AtOnce {
     #[inline(always)]
     fn run(&self) {}
 }

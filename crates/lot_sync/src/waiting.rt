@@ -7,6 +7,7 @@ ghost use Rattle.lot_sync.specs.Lot.{Owns, IsWide, IsCond, leaving, waking};
 ghost use Rattle.lot_sync.specs.Values.{Gets, MayGiveBack};
 
 use crate::held::Held;
+use crate::lock::{AtOnce, BeforeSleep};
 use crate::lot::Lot;
 use crate::pass::{LotName, Pass};
 use crate::scheme::LockScheme;
@@ -40,11 +41,31 @@ impl<V: Keeps + Send, N: LotName<V> + Send> Lot<V, N> {
         ensures gets { Gets V.keeps V.grows V.part (waking (leaving pass held.key held.value) cond) held.key result.1 result.0 }
         ensures wide { IsWide self.now result.0 }
     {
+        self.wait_after(rt, pass, held, cond, moment, &AtOnce)
+    }
+
+    /// `wait` with an action after the thread is queued, before its lock is let go.
+    pub(crate) fn wait_after<R: Wait, B: BeforeSleep>(
+        &self,
+        rt: &R,
+        pass: Pass<V, N>,
+        held: Held<V, N>,
+        cond: usize,
+        moment: Moment,
+        before: &B,
+    ) -> (Pass<V, N>, Held<V, N>)
+        requires key { held.key < self.now.locks }
+        requires owns { Owns pass held.key }
+        requires back { MayGiveBack V.keeps V.grows V.part pass held }
+        requires cond { IsCond self.now cond }
+        ensures gets { Gets V.keeps V.grows V.part (waking (leaving pass held.key held.value) cond) held.key result.1 result.0 }
+        ensures wide { IsWide self.now result.0 }
+    {
         let key = held.key();
         let (right, kinds) = self.given_back(pass, held, key);
         let (waiter, seeker) = kinds.apart();
         let scheme = self.parking.scheme();
-        let (waiter, right) = sleep_on::<LotScheme<V, N>, N, Conds, LockScheme<V, N>, Locks, R>(
+        let (waiter, right) = sleep_on::<LotScheme<V, N>, N, Conds, LockScheme<V, N>, Locks, R, B>(
             rt,
             &self.parking,
             scheme.second().first(),
@@ -54,13 +75,14 @@ impl<V: Keeps + Send, N: LotName<V> + Send> Lot<V, N> {
             right,
             key,
             moment,
+            before,
         );
         let pass = self.at_rest(right, Rights::new(waiter, seeker));
         self.lock(rt, pass, key)
     }
 }
 
-/// Waits on the condition, and lets the lock go between the queueing and the sleep. Written for every scheme of locks, since the
+/// Waits on the condition, and lets the lock go between the queueing and the sleep, after the given action. Written for every scheme of locks, since the
 /// passes of a kind of table can't be named in a closure's signature.
 fn sleep_on<
     S: Scheme,
@@ -69,6 +91,7 @@ fn sleep_on<
     A: LockSteps,
     L: Part<S, A>,
     R: Wait,
+    B: BeforeSleep,
 >(
     rt: &R,
     parking: &ParkingLot<S>,
@@ -79,6 +102,7 @@ fn sleep_on<
     right: A::Pass,
     key: usize,
     moment: Moment,
+    before: &B,
 ) -> (Waiter<N>, A::Pass)
     requires cond { IsAmongConds N.locks N.conds cond × (cond < parking.now.keys) × C.serves cond }
     requires thread { waiter.thread < parking.now.threads }
@@ -99,6 +123,7 @@ fn sleep_on<
             requires may { A.may_let_go right key }
             ensures { A.lets_go right key result }
         {
+            before.run();
             let (right, _) = let_go::<S, A, L, R>(rt, parking, locks, right, key, moment, false);
             right
         },

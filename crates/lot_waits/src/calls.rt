@@ -4,7 +4,7 @@ ghost use Rattle.lot_core.specs.Parts.{IsAmongConds};
 ghost use Rattle.lot_waits.specs.Counts.{IsWide, woke, took};
 
 use crate::name::WaitName;
-use crate::notifying::{call_all, call_one, look};
+use crate::notifying::{AtOnce, BeforeSweep, call_all, call_one, look};
 use crate::scheme::CondScheme;
 use crate::waiter::Waiter;
 use crate::waiting::sleep_on;
@@ -101,7 +101,32 @@ pub fn notify_all<S: Scheme, N: WaitName + Send, P: Part<S, CondScheme<N>>, R: W
     ensures waiter { result.0 ≡ took waiter cond result.1 }
     ensures wide { IsWide (N.locks + N.conds) result.0 }
 {
+    notify_all_after::<S, N, P, R, AtOnce>(rt, parking, scheme, waiter, cond, &AtOnce)
+}
+
+/// `notify_all` with an action between the store that clears the flag and the taking of the line, while no bucket is locked: a thread that begins to
+/// wait there is taken too. Where the flag is clear the action is not run.
+pub fn notify_all_after<
+    S: Scheme,
+    N: WaitName + Send,
+    P: Part<S, CondScheme<N>>,
+    R: Wait,
+    B: BeforeSweep,
+>(
+    rt: &R,
+    parking: &ParkingLot<S>,
+    scheme: &CondScheme<N>,
+    waiter: Waiter<N>,
+    cond: usize,
+    before: &B,
+) -> (Waiter<N>, usize)
+    requires cond { IsAmongConds N.locks N.conds cond }
+    requires key { cond < parking.now.keys }
+    requires serves { P.serves cond }
+    ensures waiter { result.0 ≡ took waiter cond result.1 }
+    ensures wide { IsWide (N.locks + N.conds) result.0 }
+{
     let (right, locks, tallies) = waiter.apart();
-    let (right, count) = call_all::<S, N, P, R>(rt, parking, scheme, right, cond);
+    let (right, count) = call_all::<S, N, P, R, B>(rt, parking, scheme, right, cond, before);
     (Waiter::taken(right, locks, tallies, cond, count), count)
 }

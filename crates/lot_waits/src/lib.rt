@@ -28,9 +28,10 @@ mod tallies;
 pub mod waiter;
 mod waiting;
 
-pub use calls::{has_waiters, notify_all, notify_one, wait_on};
+pub use calls::{has_waiters, notify_all, notify_all_after, notify_one, wait_on};
 pub use closing::{Ledger, settle};
 pub use name::WaitName;
+pub use notifying::BeforeSweep;
 pub use opening::OpenedConds;
 pub use room::{ClosingRoom, Room};
 pub use scheme::{CondKeyRoot, CondScheme, NamedCond};

@@ -100,13 +100,33 @@ fn count_of(taken: Option<usize>) -> usize
     }
 }
 
+/// What a thread does that has cleared a condition's flag, before it takes the line. No bucket is locked then.
+pub trait BeforeSweep {
+    fn run(&self);
+}
+
+/// Nothing: a notification of all goes on at once.
+pub(crate) struct AtOnce;
+
+impl BeforeSweep for AtOnce {
+    #[inline(always)]
+    fn run(&self) {}
+}
+
 /// Takes all threads of the condition's line, and answers how many. Where the flag is clear it is one load, and locks no bucket.
-pub(crate) fn call_all<S: Scheme, N: WaitName + Send, P: Part<S, CondScheme<N>>, R: Wait>(
+pub(crate) fn call_all<
+    S: Scheme,
+    N: WaitName + Send,
+    P: Part<S, CondScheme<N>>,
+    R: Wait,
+    B: BeforeSweep,
+>(
     rt: &R,
     parking: &ParkingLot<S>,
     scheme: &CondScheme<N>,
     pass: NamedCond<N>,
     cond: usize,
+    before: &B,
 ) -> (NamedCond<N>, usize)
     requires cond { IsAmongConds N.locks N.conds cond }
     requires key { cond < parking.now.keys }
@@ -119,6 +139,7 @@ pub(crate) fn call_all<S: Scheme, N: WaitName + Send, P: Part<S, CondScheme<N>>,
         return (pass, 0);
     }
     let pass = lower(scheme, pass, cond);
+    before.run();
     unpark_all::<S, CondScheme<N>, P, R, NamedCond<N>, _>(
         rt,
         parking,

@@ -3,7 +3,7 @@ ghost use Rattle.std.specs.Prelude.{◌≡◌, ℕ, ◌≤◌, vec_len, vec_capa
 ghost use Rattle.lot_conds.specs.Schedule.{IsFree, IsEmpty};
 ghost use Rattle.lot_waits.specs.Rights.{IsCalmStanding, calling, waking, HasKeys};
 
-use crate::notifying::{call_all, call_one, look};
+use crate::notifying::{AtOnce, call_all, call_one, look};
 use crate::waiting::sleep_on;
 use crate::{CondKeyRoot, CondScheme, NamedCond, WaitName};
 use lot_conds::{CondPass, CondRoot, CondWords};
@@ -138,7 +138,9 @@ fn notified_before_sleep<N: WaitName + Send, R: Wait + Abort>(
     );
     let (one, took) = call_one::<TwoTables<N>, N, TheConds, R>(rt, lot, conds, one, 1, EARLY);
     assert!(rt; !took);
-    let (one, count) = call_all::<TwoTables<N>, N, TheConds, R>(rt, lot, conds, one, 1);
+    let (one, count) = call_all::<TwoTables<N>, N, TheConds, R, AtOnce>(
+        rt, lot, conds, one, 1, &AtOnce,
+    );
     assert_eq!(rt; count, 0);
     (zero, one)
 }
@@ -169,7 +171,9 @@ fn all_notified_before_sleep<N: WaitName + Send, R: Wait + Abort>(
             requires calm { IsCalmStanding one }
             ensures { result ≡ calling one 1 1 }
         {
-            let (one, count) = call_all::<TwoTables<N>, N, TheConds, R>(rt, lot, conds, one, 1);
+            let (one, count) = call_all::<TwoTables<N>, N, TheConds, R, AtOnce>(
+                rt, lot, conds, one, 1, &AtOnce,
+            );
             assert_eq!(rt; count, 1);
             one
         },

@@ -463,6 +463,67 @@ fn longest_scripts(rt: HostRuntime) -> Result<(), Fail> {
     Ok(())
 }
 
+#[test]
+fn most_keys(rt: HostRuntime) -> Result<(), Fail> {
+    for (script, locks) in [("open 64 1 1023\n", 1u16), ("open 64 1024 0\n", 1024)] {
+        let mut want = String::new(rt.alloc());
+        for key in 0..locks {
+            writeln!(want, "lock {key} word 0 owner - line -")?;
+        }
+        for key in locks..1024 {
+            writeln!(want, "cond {key} flag 0 line -")?;
+        }
+        for thread in 0..64u8 {
+            writeln!(want, "thread {thread} calm")?;
+        }
+        check(
+            &rt,
+            rt.alloc(),
+            script,
+            &["replay", "f"],
+            Some(script.as_bytes()),
+            (want.as_str(), "", 0),
+        );
+    }
+    Ok(())
+}
+
+/// The lines of a script in which a thread gets a lock past a sleeper.
+const BARGING: [&str; 9] = [
+    "open 4 1 0\n",
+    "take 0 0\n",
+    "take 1 0\n",
+    "mark 1 0\n",
+    "park 1 0\n",
+    "take 2 0\n",
+    "park 2 0\n",
+    "pass 0 0 0 1\n",
+    "take 3 0\n",
+];
+
+// A script that is cut within a line has a bad last line; one that is cut behind a line is a script.
+#[test]
+fn a_cut_script_is_answered_for_each_byte(rt: HostRuntime) -> Result<(), Fail> {
+    let alloc = rt.alloc();
+    let mut script = String::new(alloc);
+    for (i, line) in BARGING.iter().enumerate() {
+        let number = i + 1;
+        let fault = format!(in alloc; "bad script line {number}\n")?;
+        for c in line.chars() {
+            script.push(c)?;
+            if c != '\n' {
+                refused(&rt, alloc, &script, script.as_bytes(), &fault);
+            }
+        }
+        let mut out = Vec::new(alloc);
+        let mut faults = Vec::new(alloc);
+        let file = Some(script.as_bytes());
+        let status = run_command(&rt, alloc, &["replay", "f"], file, &mut out, &mut faults);
+        assert_eq!(rt; (status, faults.len()), (0, 0), "{script}");
+    }
+    Ok(())
+}
+
 /// `replay` of a file with these bytes says that much.
 fn refused<R: Threads + Wait + Sync + Abort>(
     rt: &R,

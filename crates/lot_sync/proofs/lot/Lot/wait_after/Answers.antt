@@ -3,7 +3,7 @@ use Rattle.lot_sync.specs.Lot.{PassView, Owns}
 use Rattle.lot_sync.specs.Values.{Gets}
 use Rattle.lot_sync.proofs.Rests.{rests_free, leaves_woken, gets_as}
 use Rattle.lot_sync.proofs.Holdings.{let_go_of, not_both}
-use Rattle.lot_sync.proofs.lot.Lot.wait.Goals as goal
+use Rattle.lot_sync.proofs.lot.Lot.wait_after.Goals as goal
 
 pub at_rest-pass-requires-clause-rest : goal.at_rest-pass-requires-clause-rest
 at_rest-pass-requires-clause-rest g c κs within =

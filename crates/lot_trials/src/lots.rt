@@ -1,0 +1,369 @@
+//! Threads that register with a lot, beside one that sleeps on a lock.
+ghost use Rattle.std.specs.Prelude.{◌≡◌, ℕ, ◌≤◌, ◌<◌, length, vec_len, vec_capacity};
+ghost use Rattle.lot_sync.specs.Lot.{OwnsNone};
+ghost use Rattle.lot_sync.specs.Opened.{IsNamed};
+
+use lot_sync::{Lot, LotName, Moment, OpenFault, Opened, Pass, RegisterFault, Released};
+use lot_words::Keeps;
+use std::alloc::Global;
+use std::marker::Brand;
+use std::process::Abort;
+use std::sync::Wait;
+use std::sync::atomic::{AtomicU64, Ordering};
+use std::test::*;
+use std::thread;
+use std::thread::Threads;
+
+/// A number, of which nothing is kept.
+#[derive(Clone, Copy)]
+struct Number {
+    n: u64,
+}
+
+impl Keeps for Number {
+    ghost use Rattle.std.specs.Prelude.{Unit, tt};
+
+    type Part = ();
+
+    ghost keeps = { λ key number. Unit {0} };
+
+    ghost grows = { λ old new. Unit {0} };
+
+    ghost part = { λ thread number. tt };
+
+    ghost grows_itself = { λ number. tt };
+
+    ghost grows_on = { λ x y z p q. tt };
+}
+
+/// How often a test asks before it fails.
+const ASKINGS: u64 = 10_000_000;
+
+/// Whether memory may be refused.
+#[derive(Clone, Copy, PartialEq, Eq)]
+pub(crate) enum Memory {
+    Ample,
+    MayBeRefused,
+}
+
+/// What the threads of a trial share.
+#[derive(Drop)]
+struct Shared {
+    memory: Memory,
+    /// How many threads have come so far as their test wants.
+    come: AtomicU64,
+    /// Raised when they may go on.
+    go: AtomicU64,
+}
+
+impl Shared {
+    fn new(memory: Memory) -> Shared {
+        Shared {
+            memory,
+            come: AtomicU64::new(0),
+            go: AtomicU64::new(0),
+        }
+    }
+}
+
+/// Whether the word comes to so many, asked a bounded number of times.
+fn comes_to(word: &AtomicU64, count: u64) -> bool {
+    for _ in 0..ASKINGS {
+        if word.load(Ordering::SeqCst) >= count {
+            return true;
+        }
+        thread::yield_now();
+    }
+    false
+}
+
+/// Whether one thread sleeps on lock 0, asked a bounded number of times.
+fn somebody_sleeps<N: LotName<Number> + Send + Sync, T: Wait>(rt: &T, lot: &Lot<Number, N>) -> bool
+    requires { 0 < lot.now.locks }
+{
+    for _ in 0..ASKINGS {
+        if lot.line_length(rt, 0) == 1 {
+            return true;
+        }
+        thread::yield_now();
+    }
+    false
+}
+
+/// The pass of this number. Where memory is refused, the table and the line are as before, and the next registration gives it.
+fn enter<N: LotName<Number> + Send + Sync, T: Wait + Abort>(
+    rt: &T,
+    lot: &Lot<Number, N>,
+    shared: &Shared,
+) -> Pass<Number, N>
+    requires { 0 < lot.now.locks }
+    ensures { OwnsNone result }
+{
+    let before = (lot.table_size(rt), lot.line_length(rt, 0));
+    match lot.register(rt) {
+        Ok(pass) => pass,
+        Err(fault) => {
+            assert_eq!(rt; fault, RegisterFault::NoMemory);
+            assert!(rt; shared.memory == Memory::MayBeRefused);
+            assert_eq!(rt; (lot.table_size(rt), lot.line_length(rt, 0)), before);
+            match lot.register(rt) {
+                Ok(pass) => pass,
+                Err(_) => panic!(rt; "refused again"),
+            }
+        }
+    }
+}
+
+/// Sleeps on lock 0, and gets it.
+fn sleeper<N: LotName<Number> + Send + Sync, T: Wait + Abort>(
+    rt: &T,
+    lot: &Lot<Number, N>,
+    shared: &Shared,
+)
+    requires { 0 < lot.now.locks }
+{
+    let pass = enter(rt, lot, shared);
+    assert_eq!(rt; pass.thread(), 1);
+    let (pass, mut held) = lot.lock(rt, pass, 0);
+    held.value_mut().n = 9;
+    let (pass, _) = lot.unlock(rt, pass, held, Moment { now: 0, word: 7 });
+    lot.leave(rt, pass);
+}
+
+/// Three threads more register, and the last of them makes the table grow past the sleeper.
+fn three_more<N: LotName<Number> + Send + Sync, T: Wait + Abort>(
+    rt: &T,
+    lot: &Lot<Number, N>,
+    shared: &Shared,
+)
+    requires { 0 < lot.now.locks }
+{
+    assert!(rt; somebody_sleeps(rt, lot));
+    let two = enter(rt, lot, shared);
+    let three = enter(rt, lot, shared);
+    assert_eq!(rt; lot.table_size(rt), 12);
+    let four = enter(rt, lot, shared);
+    assert_eq!(rt; (two.thread(), three.thread(), four.thread()), (2, 3, 4));
+    assert_eq!(rt; lot.table_size(rt), 30);
+    assert_eq!(rt; lot.line_length(rt, 0), 1);
+    lot.leave(rt, four);
+    lot.leave(rt, three);
+    lot.leave(rt, two);
+}
+
+/// The table grows past a sleeper, which is served then.
+fn grow_past_a_sleeper<N: LotName<Number> + Send + Sync, T: Threads + Wait + Sync + Abort>(
+    rt: &T,
+    lot: &Lot<Number, N>,
+    shared: &Shared,
+)
+    requires { 0 < lot.now.locks }
+{
+    thread::scope(
+        thread::scope_env(),
+        rt,
+        |scope|
+            requires { 0 < lot.now.locks }
+        {
+            let pass = enter(rt, lot, shared);
+            let (pass, held) = lot.lock(rt, pass, 0);
+            let job = move ||
+                requires { 0 < lot.now.locks }
+            { sleeper(rt, lot, shared) };
+            let sleeps = scope.spawn(job).is_ok();
+            if sleeps {
+                three_more(rt, lot, shared);
+            }
+            let (pass, released) = lot.unlock(rt, pass, held, Moment { now: 0, word: 7 });
+            let want = if sleeps {
+                Released::Woke
+            } else {
+                Released::Quiet
+            };
+            assert_eq!(rt; released, want);
+            lot.leave(rt, pass);
+        },
+    );
+}
+
+/// Registers, waits for the other, and leaves when it may.
+fn register_beside<N: LotName<Number> + Send + Sync, T: Wait + Abort>(
+    rt: &T,
+    lot: &Lot<Number, N>,
+    shared: &Shared,
+)
+    requires { 0 < lot.now.locks }
+{
+    let pass = enter(rt, lot, shared);
+    shared.come.fetch_add(1, Ordering::SeqCst);
+    assert!(rt; comes_to(&shared.go, 1));
+    lot.leave(rt, pass);
+}
+
+/// Four threads have registered, and then two at once: whichever lets the table grow, it is large enough, and no pass is left.
+fn two_at_once<N: LotName<Number> + Send + Sync, T: Threads + Wait + Sync + Abort>(
+    rt: &T,
+    lot: &Lot<Number, N>,
+    shared: &Shared,
+)
+    requires { 0 < lot.now.locks }
+{
+    thread::scope(
+        thread::scope_env(),
+        rt,
+        |scope|
+            requires { 0 < lot.now.locks }
+        {
+            let zero = enter(rt, lot, shared);
+            let one = enter(rt, lot, shared);
+            let two = enter(rt, lot, shared);
+            let three = enter(rt, lot, shared);
+            assert_eq!(rt; lot.table_size(rt), 12);
+            let fifth = move ||
+                requires { 0 < lot.now.locks }
+            { register_beside(rt, lot, shared) };
+            assert!(rt; scope.spawn(fifth).is_ok());
+            let sixth = move ||
+                requires { 0 < lot.now.locks }
+            { register_beside(rt, lot, shared) };
+            assert!(rt; scope.spawn(sixth).is_ok());
+            assert!(rt; comes_to(&shared.come, 2));
+            let size = lot.table_size(rt);
+            assert!(rt; size == 30 || size == 36, "the size is {size}");
+            match lot.register(rt) {
+                Ok(_) => panic!(rt; "a seventh pass"),
+                Err(fault) => assert_eq!(rt; fault, RegisterFault::Full),
+            }
+            shared.go.store(1, Ordering::SeqCst);
+            lot.leave(rt, zero);
+            lot.leave(rt, one);
+            lot.leave(rt, two);
+            lot.leave(rt, three);
+        },
+    );
+}
+
+/// What is tried on a lot.
+#[derive(Clone, Copy, PartialEq, Eq)]
+enum Trial {
+    GrowPastASleeper,
+    TwoAtOnce,
+}
+
+/// The pass of the thread, which was left.
+fn take_pass<N: LotName<Number> + Send + Sync, T: Wait + Abort>(
+    rt: &T,
+    lot: &mut Lot<Number, N>,
+    thread: usize,
+) -> Pass<Number, N>
+    ensures same { lot.new ≡ lot.old }
+    ensures thread { result.thread ≡ thread }
+    ensures free { OwnsNone result }
+{
+    match lot.take_left(rt) {
+        Some(pass) => {
+            let left = pass.thread();
+            if left == thread {
+                pass
+            } else {
+                panic!(rt; "thread {left} was left before {thread}")
+            }
+        }
+        None => panic!(rt; "{thread} is not in"),
+    }
+}
+
+/// All passes were left. Gives the values back.
+fn end<N: LotName<Number> + Send + Sync, T: Wait + Abort>(
+    rt: &T,
+    mut lot: Lot<Number, N>,
+    mut passes: Vec<Pass<Number, N>>,
+    threads: usize,
+) -> Vec<Number>
+    requires threads { lot.threads ≡ threads }
+    requires room { (vec_len passes ≡ 0) × (threads ≤ vec_capacity passes) }
+{
+    for thread in 0..threads {
+        let pass = take_pass(rt, &mut lot, thread);
+        passes.push_reserved(pass);
+    }
+    let (values, _) = lot.close(rt, passes);
+    values
+}
+
+/// Starts the lot, tries, and closes it. Gives the values back, also where memory is refused at the start.
+fn play<N: LotName<Number> + Send + Sync, T: Threads + Wait + Sync + Abort>(
+    rt: &T,
+    alloc: Global,
+    opened: Opened<Number>,
+    threads: usize,
+    trial: Trial,
+    shared: &Shared,
+) -> Vec<Number>
+    requires named { IsNamed (record { opening = N.opening; threads = N.threads; values = N.values; locks = N.locks; conds = N.conds }) opened }
+    requires sizes { (opened.threads ≡ threads) × (0 < length opened.values) }
+{
+    let Ok(passes) = Vec::with_capacity(alloc, threads) else {
+        assert!(rt; shared.memory == Memory::MayBeRefused);
+        return opened.close();
+    };
+    match opened.start::<N>(alloc) {
+        Ok(lot) => {
+            match trial {
+                Trial::GrowPastASleeper => grow_past_a_sleeper(rt, &lot, shared),
+                Trial::TwoAtOnce => two_at_once(rt, &lot, shared),
+            }
+            end(rt, lot, passes, threads)
+        }
+        Err((fault, values)) => {
+            passes.destroy_empty();
+            assert_eq!(rt; fault, OpenFault::NoMemory);
+            assert!(rt; shared.memory == Memory::MayBeRefused);
+            values
+        }
+    }
+}
+
+/// Tries on a lot for so many threads, with one lock and one condition.
+fn tried<T: Threads + Wait + Sync + Abort>(
+    rt: &T,
+    alloc: Global,
+    threads: usize,
+    trial: Trial,
+    shared: &Shared,
+) {
+    let Ok(mut values) = vec![in alloc; Number { n: 7 }; 2] else {
+        assert!(rt; shared.memory == Memory::MayBeRefused);
+        return;
+    };
+    values[1] = Number { n: 8 };
+    let values = match Lot::<Number, Brand>::open(alloc, threads, values, 1) {
+        Ok(opened) => play::<Brand, T>(rt, alloc, opened, threads, trial, shared),
+        Err((fault, values)) => {
+            assert_eq!(rt; fault, OpenFault::NoMemory);
+            assert!(rt; shared.memory == Memory::MayBeRefused);
+            values
+        }
+    };
+    assert_eq!(rt; values.len(), 2);
+    assert!(rt; values[0].n == 7 || values[0].n == 9);
+    assert_eq!(rt; values[1].n, 8);
+}
+
+#[test]
+fn a_refused_registration_changes_nothing(rt: HostRuntime) {
+    let shared = Shared::new(Memory::MayBeRefused);
+    tried(&rt, rt.alloc(), 5, Trial::GrowPastASleeper, &shared);
+}
+
+#[test]
+fn nothing_answers_no_memory_for_nothing(rt: HostRuntime) {
+    let shared = Shared::new(Memory::Ample);
+    tried(&rt, rt.alloc(), 5, Trial::GrowPastASleeper, &shared);
+}
+
+#[test]
+fn two_threads_register_at_once(rt: HostRuntime) {
+    let shared = Shared::new(Memory::Ample);
+    tried(&rt, rt.alloc(), 6, Trial::TwoAtOnce, &shared);
+}
