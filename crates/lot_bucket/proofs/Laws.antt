@@ -1,7 +1,7 @@
 -- The laws of lines and places that upper layers cite.
-use Rattle.std.proofs.Common.{◌≡◌, ◌≢◌, ℕ, ◌≤◌, inl, inr, true, false, List, [], ◌∷◌, ◌++◌, drop, length, Option, Some, None, refl, sym, ◌∙◌, ap, subst, arith}
+use Rattle.std.proofs.Common.{◌≡◌, ◌≢◌, ℕ, zero, suc, ◌≤◌, inl, inr, true, false, List, [], ◌∷◌, ◌++◌, drop, length, Option, Some, None, refl, sym, ◌∙◌, ap, subst, arith}
 use Rattle.std.proofs.lemmas.Bool.Decides.{eqb_tells}
-use Rattle.lot_bucket.specs.Queue.{line_of, without_first, without_key, first_of}
+use Rattle.lot_bucket.specs.Queue.{line_of, without_count, without_first, without_key, first_of}
 use Rattle.lot_bucket.specs.Places.{has_key, root_at, with_root}
 use Rattle.lot_bucket.specs.Contents.{Contents}
 use Rattle.lot_bucket.specs.Agrees.{IsRootOf, AgreesOpen, Agrees}
@@ -22,22 +22,24 @@ line_of-push_other j k t (p ∷ queue) other =
       | inr e ↦ rw e.0 (line_of-push_other j k t queue other)
     ]
 
-pub line_of-without_first_same : (k : ℕ) (queue : List (ℕ × ℕ)) → line_of k (without_first k queue) ≡ drop 1 (line_of k queue)
-line_of-without_first_same k [] = refl
-line_of-without_first_same k (p ∷ queue) =
+pub line_of-without_count_same : (n k : ℕ) (queue : List (ℕ × ℕ)) → line_of k (without_count n k queue) ≡ drop n (line_of k queue)
+line_of-without_count_same zero k queue = refl
+line_of-without_count_same (suc n) k [] = refl
+line_of-without_count_same (suc n) k (p ∷ queue) =
     elim (eqb_tells p.1 k) [
-      | inl e ↦ rw e.0 refl
-      | inr e ↦ rw e.0 (rw e.0 (line_of-without_first_same k queue))
+      | inl e ↦ rw e.0 (line_of-without_count_same n k queue)
+      | inr e ↦ rw e.0 (rw e.0 (line_of-without_count_same (suc n) k queue))
     ]
 
-pub line_of-without_first_other : (j k : ℕ) (queue : List (ℕ × ℕ)) → k ≢ j → line_of j (without_first k queue) ≡ line_of j queue
-line_of-without_first_other j k [] other = refl
-line_of-without_first_other j k (p ∷ queue) other =
+pub line_of-without_count_other : (j n k : ℕ) (queue : List (ℕ × ℕ)) → k ≢ j → line_of j (without_count n k queue) ≡ line_of j queue
+line_of-without_count_other j zero k queue other = refl
+line_of-without_count_other j (suc n) k [] other = refl
+line_of-without_count_other j (suc n) k (p ∷ queue) other =
     elim (eqb_tells p.1 k) [
-      | inl e ↦ rw e.0 (elim (eqb_tells p.1 j) [ inl f ↦ absurd (other (sym e.1 ∙ f.1)) | inr f ↦ rw f.0 refl ])
+      | inl e ↦ rw e.0 (elim (eqb_tells p.1 j) [ inl f ↦ absurd (other (sym e.1 ∙ f.1)) | inr f ↦ rw f.0 (line_of-without_count_other j n k queue other) ])
       | inr e ↦ rw e.0 (elim (eqb_tells p.1 j) [
-        | inl f ↦ rw f.0 (ap (λ xs. p.0 ∷ xs) (line_of-without_first_other j k queue other))
-        | inr f ↦ rw f.0 (line_of-without_first_other j k queue other)
+        | inl f ↦ rw f.0 (ap (λ xs. p.0 ∷ xs) (line_of-without_count_other j (suc n) k queue other))
+        | inr f ↦ rw f.0 (line_of-without_count_other j (suc n) k queue other)
       ])
     ]
 

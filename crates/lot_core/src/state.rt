@@ -14,7 +14,7 @@ mod opening;
 mod sems;
 
 /// The greatest number of threads.
-pub const MAX_THREADS: usize = 64;
+pub const MAX_THREADS: usize = 256;
 
 /// The greatest number of locks, conditions and semaphores together.
 pub const MAX_KEYS: usize = 1024;

@@ -9,7 +9,7 @@ mod scripts;
 
 #[test]
 fn opening_keeps_to_the_limits(rt: HostRuntime) {
-    for (threads, locks, conds) in [(1, 1, 0), (64, 1, 1023), (64, 1024, 0)] {
+    for (threads, locks, conds) in [(1, 1, 0), (256, 1, 1023), (256, 1024, 0)] {
         assert!(rt;
             State::open(rt.alloc(), threads, locks, conds).is_ok(),
             "{threads} {locks} {conds}"
@@ -18,9 +18,9 @@ fn opening_keeps_to_the_limits(rt: HostRuntime) {
     for (threads, locks, conds) in [
         (0, 1, 0),
         (1, 0, 5),
-        (65, 1, 0),
+        (257, 1, 0),
         (9999, 1, 0),
-        (64, 2, 1023),
+        (256, 2, 1023),
     ] {
         let refused = State::open(rt.alloc(), threads, locks, conds).err();
         assert_eq!(rt;
@@ -33,8 +33,8 @@ fn opening_keeps_to_the_limits(rt: HostRuntime) {
 
 #[test]
 fn semaphores_are_keys_too(rt: HostRuntime) {
-    assert!(rt; State::open_with(rt.alloc(), 64, 1, 1021, &[0, 9999]).is_ok());
-    let refused = State::open_with(rt.alloc(), 64, 1, 1022, &[0, 9999]).err();
+    assert!(rt; State::open_with(rt.alloc(), 256, 1, 1021, &[0, 9999]).is_ok());
+    let refused = State::open_with(rt.alloc(), 256, 1, 1022, &[0, 9999]).err();
     assert_eq!(rt; refused, Some(CoreFault::BadLimits));
 }
 

@@ -1,3 +1,4 @@
+mod All
 mod Under
 pub mod Debts
 pub mod Idle

@@ -1,10 +1,10 @@
 -- What a parking call on the whole lot says of the one table whose roots and passes it was called with.
 use Rattle.std.proofs.Common.{◌≡◌, ℕ, zero, suc, true, false, Bool, List, length, Option, Some, None, refl, sym, ◌∙◌, ap, subst}
 use Rattle.lot_bucket.specs.declared.taking.Dequeued.{Dequeued}
-use Rattle.lot_park.specs.Parking.{Tells, LooksInVain, Awaited, UnparkedOne, UnparkedAll, Ends, ParkedOnce}
+use Rattle.lot_park.specs.Parking.{Tells, TellsCount, LooksInVain, Awaited, UnparkedOne, UnparkedCount, Ends, ParkedOnce}
 use Rattle.lot_park.specs.declared.lot.Parked.{Parked}
 use Rattle.lot_park.specs.declared.lot.Parked.TheVariants.{Invalid, Woken}
-use Rattle.lot_park.specs.Parts.{CallsBack, CallsBackAll, Checks}
+use Rattle.lot_park.specs.Parts.{CallsBack, CallsBackCount, Checks}
 
 module _ {R W : Type 0} (whole : R → W) (key : R → ℕ) (line : R → List ℕ) (owes : R → List (ℕ × ℕ)) (whole_key : W → ℕ) (whole_line : W → List ℕ) (whole_owes : W → List (ℕ × ℕ))
     (same_key : (r : R) → whole_key (whole r) ≡ key r) (same_line : (r : R) → whole_line (whole r) ≡ line r) (same_owes : (r : R) → whole_owes (whole r) ≡ owes r) where
@@ -21,15 +21,16 @@ module _ {R W : Type 0} (whole : R → W) (key : R → ℕ) (line : R → List �
         same = u.same ∙ ap (λ (o : X × W × T). o.0) u.called.answered;
       }
 
-  pub unparked_all : {X : Type 0} (k : ℕ) (answers : R → ℕ → X × R → Type 0) (result : X × ℕ)
-      → UnparkedAll whole_key whole_line whole_owes {X = X} k (λ root count. CallsBackAll whole root (λ r. answers r count)) result → UnparkedAll key line owes k answers result
-  unparked_all {X} k answers result u =
+  pub unparked_count : {X : Type 0} (threads k n : ℕ) (answers : R → ℕ → Bool → X × R → Type 0) (result : X × ℕ)
+      → UnparkedCount whole_key whole_line whole_owes {X = X} threads k n (λ root taken more. CallsBackCount whole root (λ r. answers r taken more)) result → UnparkedCount key line owes threads k n answers result
+  unparked_count {X} threads k n answers result u =
       record {
         root = u.called.mine;
+        more = u.more;
         answer = u.called.answer;
         named = sym (same_key u.called.mine) ∙ ap (λ w. whole_key w) u.called.stands ∙ u.named;
         paid = sym (same_owes u.called.mine) ∙ ap (λ w. whole_owes w) u.called.stands ∙ u.paid;
-        whole = u.whole ∙ ap (λ l. length l) (ap (λ w. whole_line w) (sym u.called.stands) ∙ same_line u.called.mine);
+        told = subst (λ (l : List ℕ). TellsCount threads n l result.1 u.more) (ap (λ w. whole_line w) (sym u.called.stands) ∙ same_line u.called.mine) u.told;
         called = u.called.called;
         same = u.same ∙ ap (λ (o : X × W). o.0) u.called.answered;
       }

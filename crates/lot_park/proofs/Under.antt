@@ -1,18 +1,23 @@
 -- What is known under a bucket's lock while a key's root is out, and after it is back.
-use Rattle.std.proofs.Common.{◌≡◌, ◌≢◌, ℕ, ◌<◌, true, false, not, ◌&&◌, cond, Bool, List, [], ◌∷◌, ◌++◌, length, drop, Option, Some, None, refl, sym, ◌∙◌, ap, subst, arith}
+use Rattle.std.proofs.Common.{◌≡◌, ◌≢◌, ℕ, zero, suc, ◌<◌, ◌≤◌, true, false, not, ◌&&◌, cond, Bool, List, [], ◌∷◌, ◌++◌, length, drop, min, Option, Some, None, refl, sym, ◌∙◌, ap, subst, arith}
 use Rattle.std.specs.Prelude.{nat_lt, is_some, ◌==◌}
-use Rattle.std.proofs.lemmas.Bool.{ltb-true}
+use Rattle.std.proofs.lemmas.Bool.{ltb-true, lt-ltb}
+use Rattle.std.proofs.lemmas.List.{drop_all, nil_from_length}
 use Rattle.std.proofs.Math.Dec.{eqb-suc-zero}
-use Rattle.lot_bucket.specs.Queue.{line_of, without_first, without_key, first_of}
+use Rattle.lot_bucket.specs.Queue.{line_of, without_count, without_first, first_of}
 use Rattle.lot_bucket.specs.Places.{has_key, root_at, with_root}
 use Rattle.lot_bucket.specs.Contents.{Contents}
 use Rattle.lot_bucket.specs.Agrees.{IsRootOf}
 use Rattle.lot_bucket.specs.Settled.{Stays}
-use Rattle.lot_bucket.specs.Taking.{TakesOne}
+use Rattle.lot_bucket.specs.Taking.{TakesOne, TakesFirst}
 use Rattle.lot_bucket.specs.declared.taking.Moment.{Moment}
 use Rattle.lot_bucket.specs.declared.taking.Dequeued.{Dequeued}
-use Rattle.lot_bucket.proofs.Laws.{line_of-push_same, line_of-push_other, line_of-without_first_same, line_of-without_first_other, line_of-without_key_same, line_of-without_key_other, has_key-with, root_at-with_same, root_taken, agrees_again}
-use Rattle.lot_park.specs.Parking.{IsOpenFor, Tells}
+use Rattle.lot_bucket.proofs.Laws.{line_of-push_same, line_of-push_other, line_of-without_count_same, line_of-without_count_other, has_key-with, root_at-with_same, root_taken, agrees_again}
+use Rattle.lot_park.specs.Parking.{IsOpenFor, Tells, TellsCount}
+
+empty_of : (xs : List (ℕ × ℕ)) → not (length xs == 0) ≡ false → xs ≡ []
+empty_of [] e = refl
+empty_of (x ∷ xs) e = absurd (let f = rw (eqb-suc-zero (length xs)) at e in let f' : true ≡ false = f in cc)
 
 -- what an unparking tells, where nobody of the line is left if the queue is empty
 tells_of : (line : List ℕ) (left : List (ℕ × ℕ)) (next now : ℕ) (told : Dequeued) → told.thread ≡ first_of line
@@ -32,10 +37,6 @@ tells_of (t ∷ line) left next now told thread more fair last =
       more = λ m. rw thread refl;
       fair = λ f. (rw thread refl, (let past : next < now = ltb-true next now (sym fair ∙ f) in omega arith));
     }
-  where
-    empty_of : (xs : List (ℕ × ℕ)) → not (length xs == 0) ≡ false → xs ≡ []
-    empty_of [] e = refl
-    empty_of (x ∷ xs) e = absurd (let f = rw (eqb-suc-zero (length xs)) at e in let f' : true ≡ false = f in cc)
 
 pub tells : {R : Type 0} (line : R → List ℕ) (k : ℕ) (moment : Moment) (before taken after : Contents R) (root : R) (told : Dequeued)
     → line root ≡ line_of k before.queue → taken.queue ≡ before.queue → TakesOne k moment taken after told → Tells (line root) moment.now told
@@ -43,7 +44,32 @@ tells line k moment before taken after root told same out takes =
     let own : line root ≡ line_of k taken.queue = same ∙ ap (λ q. line_of k q) (sym out) in
     let left : after.queue ≡ without_first k taken.queue = ap (λ (c : Contents _). c.queue) takes.left in
     rw own (tells_of (line_of k taken.queue) after.queue taken.next_fair moment.now told takes.thread takes.more takes.fair
-    (λ e. sym (line_of-without_first_same k taken.queue) ∙ ap (λ q. line_of k q) (sym left ∙ e)))
+    (λ e. sym (line_of-without_count_same 1 k taken.queue) ∙ ap (λ q. line_of k q) (sym left ∙ e)))
+
+-- what an unparking of at most n tells, where nobody of the line is left if the queue is empty
+tells_first : (threads n : ℕ) (line : List ℕ) (left : List (ℕ × ℕ)) (taken : ℕ) (more : Bool) → length line ≤ threads → taken ≡ min n (length line)
+    → more ≡ (nat_lt 0 taken && not (length left == 0)) → (left ≡ [] → drop n line ≡ []) → TellsCount threads n line taken more
+tells_first threads n line left zero more short number others last =
+    record {
+      number = number;
+      alone = λ some m. drop_all n line (omega (arith, number));
+      others = λ m. absurd (let e : true ≡ false = sym m ∙ others in cc);
+      short = short;
+    }
+tells_first threads n line left (suc taken) more short number others last =
+    record {
+      number = number;
+      alone = λ some m. last (empty_of left (rw (lt-ltb 0 (suc taken) (omega arith)) at (sym others ∙ m)));
+      others = λ m. omega arith;
+      short = short;
+    }
+
+pub tells_count : {R : Type 0} (k n threads : ℕ) (before out after : Contents R) (threads_out : List ℕ) (taken : ℕ) (more : Bool)
+    → out.queue ≡ before.queue → length (line_of k before.queue) ≤ threads → TakesFirst n k out after threads_out taken more → TellsCount threads n (line_of k before.queue) taken more
+tells_count k n threads before out after threads_out taken more same short takes =
+    let left : after.queue ≡ without_count n k out.queue = ap (λ (c : Contents _). c.queue) takes.left in
+    rw (sym same) (tells_first threads n (line_of k out.queue) after.queue taken more (rw same short) takes.number takes.others
+    (λ e. sym (line_of-without_count_same n k out.queue) ∙ ap (λ q. line_of k q) (sym left ∙ e)))
 
 -- the queue after a parking
 abbrev pub joined : Bool → ℕ → ℕ → List (ℕ × ℕ) → List (ℕ × ℕ)
@@ -62,11 +88,11 @@ module _ {R : Type 0} (key : R → ℕ) (line : R → List ℕ) (owes : R → Li
   root_joined k t false queue root after own named paid longer same =
       record { named = named; same_line = ap (λ r. line r) (same refl) ∙ own.same_line; paid = paid }
 
-  -- the root that an unparking leaves
-  pub root_shorter : (k : ℕ) (queue : List (ℕ × ℕ)) (root after : R) → IsRootOf key line owes k queue root → key after ≡ k → line after ≡ drop 1 (line root) → owes after ≡ []
-      → IsRootOf key line owes k (without_first k queue) after
-  root_shorter k queue root after own named shorter paid =
-      record { named = named; same_line = shorter ∙ ap (λ xs. drop 1 xs) own.same_line ∙ sym (line_of-without_first_same k queue); paid = paid }
+  -- the root that an unparking of the first n leaves
+  pub root_shorter : (k n : ℕ) (queue : List (ℕ × ℕ)) (root after : R) → IsRootOf key line owes k queue root → key after ≡ k → line after ≡ drop n (line root) → owes after ≡ []
+      → IsRootOf key line owes k (without_count n k queue) after
+  root_shorter k n queue root after own named shorter paid =
+      record { named = named; same_line = shorter ∙ ap (λ xs. drop n xs) own.same_line ∙ sym (line_of-without_count_same n k queue); paid = paid }
 
   -- the root that was taken out
   pub own_root : (k : ℕ) (b : Contents R) (root : R) → IsOpenFor key line owes k b → root_at k b.places ≡ Some root → IsRootOf key line owes k b.queue root
@@ -102,38 +128,33 @@ module _ {R : Type 0} (key : R → ℕ) (line : R → List ℕ) (owes : R → Li
       queue =
           ap (λ (c : Contents R). c.queue) put ∙ ap (λ (c : Contents R). c.queue) queues ∙ ap (λ q. joined joins t k q) (ap (λ (c : Contents R). c.queue) took)
 
-  -- after an unparking: the root was out, one was taken, the root is back
-  pub unparked_stays : (k : ℕ) (moment : Moment) (before out taken after : Contents R) (root back : R) (told : Dequeued) → IsOpenFor key line owes k before → root_at k before.places ≡ Some root
+  -- after an unparking: the root was out, the first n were taken, the root is back
+  pub unparked_stays : (k n : ℕ) (before taken after : Contents R) (root back : R) → IsOpenFor key line owes k before → root_at k before.places ≡ Some root
+      → taken.opened ≡ before.opened → taken.room ≡ before.room → taken.places ≡ with_root k None before.places → taken.queue ≡ without_count n k before.queue
+      → after ≡ record taken { places = with_root k (Some back) taken.places }
+      → key back ≡ k → line back ≡ drop n (line root) → owes back ≡ [] → Stays key line owes before after
+  unparked_stays k n before taken after root back ready at opened room places left put named shorter paid =
+      stays_again before after k back ready
+      (ap (λ (c : Contents R). c.opened) put ∙ opened)
+      (ap (λ (c : Contents R). c.room) put ∙ room)
+      (ap (λ (c : Contents R). c.places) put ∙ ap (λ ps. with_root k (Some back) ps) places)
+      (λ j other. ap (λ q. line_of j q) queue ∙ line_of-without_count_other j n k before.queue other)
+      (subst (λ (q : List (ℕ × ℕ)). IsRootOf key line owes k q back) (sym queue) (root_shorter k n before.queue root back (own_root k before root ready at) named shorter paid))
+    where
+      queue : after.queue ≡ without_count n k before.queue
+      queue = ap (λ (c : Contents R). c.queue) put ∙ left
+
+  -- the same where one was taken at a moment
+  pub one_unparked_stays : (k : ℕ) (moment : Moment) (before out taken after : Contents R) (root back : R) (told : Dequeued) → IsOpenFor key line owes k before → root_at k before.places ≡ Some root
       → out ≡ record before { places = with_root k None before.places } → TakesOne k moment out taken told
       → after ≡ record taken { places = with_root k (Some back) taken.places }
       → key back ≡ k → line back ≡ drop 1 (line root) → owes back ≡ [] → Stays key line owes before after
-  unparked_stays k moment before out taken after root back told ready at took takes put named shorter paid =
-      stays_again before after k back ready
-      (ap (λ (c : Contents R). c.opened) put ∙ ap (λ (c : Contents R). c.opened) takes.left ∙ ap (λ (c : Contents R). c.opened) took)
-      (ap (λ (c : Contents R). c.room) put ∙ ap (λ (c : Contents R). c.room) takes.left ∙ ap (λ (c : Contents R). c.room) took)
-      (ap (λ (c : Contents R). c.places) put ∙ ap (λ ps. with_root k (Some back) ps) (ap (λ (c : Contents R). c.places) takes.left ∙ ap (λ (c : Contents R). c.places) took))
-      (λ j other. ap (λ q. line_of j q) queue ∙ line_of-without_first_other j k before.queue other)
-      (subst (λ (q : List (ℕ × ℕ)). IsRootOf key line owes k q back) (sym queue) (root_shorter k before.queue root back (own_root k before root ready at) named shorter paid))
-    where
-      queue : after.queue ≡ without_first k before.queue
-      queue =
-          ap (λ (c : Contents R). c.queue) put ∙ ap (λ (c : Contents R). c.queue) takes.left ∙ ap (λ q. without_first k q) (ap (λ (c : Contents R). c.queue) took)
-
-  -- after an unparking of all: the root and the line were out, the root is back
-  pub emptied_stays : (k : ℕ) (before out after : Contents R) (root back : R) → IsOpenFor key line owes k before → root_at k before.places ≡ Some root
-      → out ≡ record before { places = with_root k None before.places; queue = without_key k before.queue }
-      → after ≡ record out { places = with_root k (Some back) out.places }
-      → key back ≡ k → line back ≡ [] → owes back ≡ [] → Stays key line owes before after
-  emptied_stays k before out after root back ready at took put named nobody paid =
-      stays_again before after k back ready
-      (ap (λ (c : Contents R). c.opened) put ∙ ap (λ (c : Contents R). c.opened) took)
-      (ap (λ (c : Contents R). c.room) put ∙ ap (λ (c : Contents R). c.room) took)
-      (ap (λ (c : Contents R). c.places) put ∙ ap (λ ps. with_root k (Some back) ps) (ap (λ (c : Contents R). c.places) took))
-      (λ j other. ap (λ q. line_of j q) queue ∙ line_of-without_key_other j k before.queue other)
-      (record { named = named; same_line = nobody ∙ sym (ap (λ q. line_of k q) queue ∙ line_of-without_key_same k before.queue); paid = paid })
-    where
-      queue : after.queue ≡ without_key k before.queue
-      queue = ap (λ (c : Contents R). c.queue) put ∙ ap (λ (c : Contents R). c.queue) took
+  one_unparked_stays k moment before out taken after root back told ready at took takes =
+      unparked_stays k 1 before taken after root back ready at
+      (ap (λ (c : Contents R). c.opened) takes.left ∙ ap (λ (c : Contents R). c.opened) took)
+      (ap (λ (c : Contents R). c.room) takes.left ∙ ap (λ (c : Contents R). c.room) took)
+      (ap (λ (c : Contents R). c.places) takes.left ∙ ap (λ (c : Contents R). c.places) took)
+      (ap (λ (c : Contents R). c.queue) takes.left ∙ ap (λ q. without_first k q) (ap (λ (c : Contents R). c.queue) took))
 
 -- the key's place is there, and empty, while its root is out
 pub place_has : {R : Type 0} (k : ℕ) (places out : List (ℕ × Option R)) → has_key k places ≡ true → out ≡ with_root k None places → has_key k out ≡ true

@@ -1,6 +1,6 @@
 -- What the callbacks of the parking lot are told, and what is asked of them. Of a root three things are
 -- known, by functions: its key, its line, and the letters that it owes, as pairs of thread and token.
-use Rattle.std.specs.Prelude.{◌≡◌, ℕ, zero, suc, ◌<◌, ◌==◌, ◌&&◌, cond, Bool, true, false, List, [], ◌∷◌, ◌++◌, drop, length, Option, Some, None, IsSome}
+use Rattle.std.specs.Prelude.{◌≡◌, ℕ, zero, suc, ◌<◌, ◌≤◌, ◌==◌, ◌&&◌, cond, min, Bool, true, false, List, [], ◌∷◌, ◌++◌, take, drop, length, Option, Some, None, IsSome}
 use Rattle.lot_bucket.specs.Queue.{first_of}
 use Rattle.lot_bucket.specs.Places.{has_key}
 use Rattle.lot_bucket.specs.Contents.{Contents}
@@ -15,6 +15,14 @@ pub record Tells (line : List ℕ) (now : ℕ) (told : Dequeued) : Type 0 where
   pub alone : IsSome told.thread → told.more ≡ false → drop 1 line ≡ []
   pub more : told.more ≡ true → IsSome told.thread
   pub fair : told.fair ≡ true → IsSome told.thread × (0 < now)
+
+-- what an unparking of at most n tells of the line that it finds: how many it took, and whether more may wait. No line is longer than
+-- the lot has threads.
+pub record TellsCount (threads n : ℕ) (line : List ℕ) (taken : ℕ) (more : Bool) : Type 0 where
+  pub number : taken ≡ min n (length line)
+  pub alone : 1 ≤ n → more ≡ false → drop n line ≡ []
+  pub others : more ≡ true → 0 < taken
+  pub short : length line ≤ threads
 
 -- the letter that is owed to the thread that was taken, if one was
 abbrev pub debt : Option ℕ → ℕ → List (ℕ × ℕ)
@@ -90,6 +98,16 @@ module _ {R : Type 0} (key : R → ℕ) (line : R → List ℕ) (owes : R → Li
       (root : R) (answer : X × R) → key root ≡ k → owes root ≡ [] → answers root (length (line root)) answer
       → (key answer.1 ≡ k) × (line answer.1 ≡ []) × (owes answer.1 ≡ debts (line root))
 
+  -- The callback of an unparking of at most n may be called with the key's root and what is told.
+  abbrev pub MayUnparkCount : ℕ → ℕ → ℕ → (R → ℕ → Bool → Type 0) → Type 0
+  MayUnparkCount threads k n may = (root : R) (taken : ℕ) (more : Bool) → key root ≡ k → owes root ≡ [] → TellsCount threads n (line root) taken more → may root taken more
+
+  -- It gives the root back without the first n of its line, owing token 0 to each of these.
+  abbrev pub UnparksCount : {X : Type 0} → ℕ → ℕ → ℕ → (R → ℕ → Bool → X × R → Type 0) → Type 0
+  UnparksCount {X} threads k n answers =
+      (root : R) (taken : ℕ) (more : Bool) (answer : X × R) → key root ≡ k → owes root ≡ [] → TellsCount threads n (line root) taken more → answers root taken more answer
+      → (key answer.1 ≡ k) × (line answer.1 ≡ drop n (line root)) × (owes answer.1 ≡ debts (take n (line root)))
+
   -- An unparking called its callback once, with some root of the key, and answers what that answered and
   -- what it was told.
   pub record UnparkedOne {X T : Type 0} (k now : ℕ) (answers : R → Dequeued → X × R × T → Type 0) (result : X × Dequeued) : Type 0 where
@@ -110,6 +128,17 @@ module _ {R : Type 0} (key : R → ℕ) (line : R → List ℕ) (owes : R → Li
     pub paid : owes root ≡ []
     pub whole : result.1 ≡ length (line root)
     pub called : answers root result.1 answer
+    pub same : result.0 ≡ answer.0
+
+  -- An unparking of at most n called its callback once, with some root of the key, and answers how many it took.
+  pub record UnparkedCount {X : Type 0} (threads k n : ℕ) (answers : R → ℕ → Bool → X × R → Type 0) (result : X × ℕ) : Type 0 where
+    pub root : R
+    pub more : Bool
+    pub answer : X × R
+    pub named : key root ≡ k
+    pub paid : owes root ≡ []
+    pub told : TellsCount threads n (line root) result.1 more
+    pub called : answers root result.1 more answer
     pub same : result.0 ≡ answer.0
 
   -- A validation was called once, with some root of the key.

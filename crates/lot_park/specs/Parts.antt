@@ -37,7 +37,7 @@ module _ {R W : Type 0} (whole : R → W) where
     pub answered : result ≡ (answer.0, whole answer.1, answer.2)
 
   -- the same of a callback that answers no token
-  pub record CallsBackAll {X : Type 0} (root : W) (answers : R → X × R → Type 0) (result : X × W) : Type 0 where
+  pub record CallsBackCount {X : Type 0} (root : W) (answers : R → X × R → Type 0) (result : X × W) : Type 0 where
     pub mine : R
     pub answer : X × R
     pub stands : whole mine ≡ root

@@ -147,6 +147,22 @@ pub(crate) fn passed(rt: &impl Abort, right: Right, taken: Option<usize>, token:
     right
 }
 
+// The right without the first so many of its line, or without all where they are fewer, owing token 0 to each of these.
+pub(crate) fn passed_first(rt: &impl Abort, right: Right, count: usize) -> Right
+    requires { right.owes.items ≡ [] }
+    ensures key { result.key ≡ right.key }
+    ensures line { result.line.items ≡ drop count right.line.items }
+    ensures owes { result.owes.items ≡ debts (take count right.line.items) }
+{
+    let mut right = right;
+    let taken = count.min(right.line.len());
+    for _ in 0..taken {
+        let thread = right.line.remove(0);
+        right.owes.push((thread, 0)).expect(rt, "memory");
+    }
+    right
+}
+
 // The right with nobody in its line, owing token 0 to each that was there.
 pub(crate) fn passed_all(rt: &impl Abort, right: Right) -> Right
     requires { right.owes.items ≡ [] }
@@ -154,14 +170,8 @@ pub(crate) fn passed_all(rt: &impl Abort, right: Right) -> Right
     ensures line { result.line.items ≡ [] }
     ensures owes { result.owes.items ≡ debts right.line.items }
 {
-    let Right { key, line, owes } = right;
-    let mut owes = owes;
-    for thread in &line {
-        owes.push((*thread, 0)).expect(rt, "memory");
-    }
-    let mut line = line;
-    line.clear();
-    Right { key, line, owes }
+    let all = right.line.len();
+    passed_first(rt, right, all)
 }
 
 pub(crate) const EARLY: Moment = Moment { now: 0, word: 0 };

@@ -8,6 +8,7 @@
 //! |---|---|---|
 //! | `park_conditionally` | the validation looks, and queues the thread | the action before sleep; then sleep until a letter is there |
 //! | `unpark_one` | the first of the line is taken, the callback decides on the token, the letter is posted | wake |
+//! | `unpark_count` | the first few of the line are taken, the callback is told how many and whether more may wait, the letters are posted | wake |
 //! | `unpark_all` | the whole line is taken, the callback is told how many, the letters are posted | wake |
 //!
 //! A letter carries all that a sleeper is told; a wake only ends a sleep, and the sleeper then looks for

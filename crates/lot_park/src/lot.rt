@@ -1,6 +1,6 @@
 ghost use Rattle.std.specs.Prelude.{◌≡◌, ℕ, ◌+◌, ◌<◌, ◌≤◌, Bool, true, false, List, [], ◌∷◌, ◌++◌, length, drop, vec_len, vec_capacity, IfOk, IfErr};
 
-use crate::parking::{park_in, unpark_all_in, unpark_in};
+use crate::parking::{park_in, unpark_count_in, unpark_in};
 use crate::scheme::{Scheme, Token};
 use crate::taken::{MOST_THREADS, Taken};
 use crossbeam_utils::CachePadded;
@@ -55,7 +55,7 @@ impl<S: Scheme> Model for ParkingLot<S> {
 impl<S: Scheme> ParkingLot<S> {
     ghost use Rattle.lot_park.specs.Lots.{LotView, AreIdle, Appends};
     ghost use Rattle.lot_table.specs.Sizes.{Serves};
-    ghost use Rattle.lot_park.specs.Parking.{IsOpenFor, MayUnpark, Unparks, UnparkedOne, MayUnparkAll, UnparksAll, UnparkedAll, MayValidate, Validates, Validated, Awaited, ParkedOnce};
+    ghost use Rattle.lot_park.specs.Parking.{IsOpenFor, MayUnpark, Unparks, UnparkedOne, MayUnparkAll, UnparksAll, UnparkedAll, MayUnparkCount, UnparksCount, UnparkedCount, MayValidate, Validates, Validated, Awaited, ParkedOnce};
 
     /// A lot for so many threads, with a key for each root: root `i` is that of key `i`.
     ///
@@ -220,6 +220,36 @@ impl<S: Scheme> ParkingLot<S> {
         requires keeps { UnparksAll S.Root.key S.Root.line S.Root.owes key (F.post f x) }
         ensures { UnparkedAll S.Root.key S.Root.line S.Root.owes key (F.post f x) result }
     {
+        self.unpark_count(
+            rt,
+            key,
+            self.threads(),
+            x,
+            |x: X, root: S::Root, taken: usize, _more: bool| -> (X, S::Root)
+                requires { F.pre f x root taken }
+                ensures { F.post f x root taken result }
+            { f(x, root, taken) },
+        )
+    }
+
+    /// Takes the first `count` threads of the key's line, or all where they are fewer, tells each of them token 0, and answers
+    /// how many it took.
+    ///
+    /// `f` is called once, under the lock of the key's bucket, with that number and whether more may wait: false means that
+    /// nobody is left in the line, where `count` is not 0.
+    pub fn unpark_count<W: Wait, X, F: FnOnce(X, S::Root, usize, bool) -> (X, S::Root)>(
+        &self,
+        rt: &W,
+        key: usize,
+        count: usize,
+        x: X,
+        f: F,
+    ) -> (X, usize)
+        requires key { key < self.now.keys }
+        requires callable { MayUnparkCount S.Root.key S.Root.line S.Root.owes self.now.threads key count (F.pre f x) }
+        requires keeps { UnparksCount S.Root.key S.Root.line S.Root.owes self.now.threads key count (F.post f x) }
+        ensures { UnparkedCount S.Root.key S.Root.line S.Root.owes self.now.threads key count (F.post f x) result }
+    {
         let scheme = &self.scheme;
         let (x, taken) = self.table.with_bucket(
             rt,
@@ -228,12 +258,19 @@ impl<S: Scheme> ParkingLot<S> {
             |bucket: &mut Bucket<S::Root>, x: X| -> (X, Taken)
                 requires ready { IsOpenFor S.Root.key S.Root.line S.Root.owes key bucket.old }
                 requires few { bucket.old.room ≤ MOST_THREADS }
-                requires callable { MayUnparkAll S.Root.key S.Root.line S.Root.owes key (F.pre f x) }
-                requires keeps { UnparksAll S.Root.key S.Root.line S.Root.owes key (F.post f x) }
-            { unpark_all_in(scheme, bucket, key, x, f) },
+                requires callable { MayUnparkCount S.Root.key S.Root.line S.Root.owes bucket.old.room key count (F.pre f x) }
+                requires keeps { UnparksCount S.Root.key S.Root.line S.Root.owes bucket.old.room key count (F.post f x) }
+            { unpark_count_in(scheme, bucket, key, count, x, f) },
         );
         self.wake_all(rt, &taken);
         (x, taken.count)
+    }
+
+    // How many threads the lot is for: no line is longer.
+    pub(crate) fn threads(&self) -> usize
+        ensures { result ≡ self.now.threads }
+    {
+        self.records.len()
     }
 
     fn wake<W: Wait>(&self, rt: &W, taken: Option<usize>) {

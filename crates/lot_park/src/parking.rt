@@ -1,10 +1,10 @@
 //! What is done under the lock of a bucket.
 
 ghost use Rattle.std.specs.Prelude.{◌≡◌, ℕ, ◌<◌, ◌≤◌, List, [], ◌∷◌, ◌++◌, Option, Some, None, IsSome, length, take, if◌then◌else◌};
-ghost use Rattle.lot_bucket.specs.Queue.{line_of, without_key};
+ghost use Rattle.lot_bucket.specs.Queue.{line_of, without_count};
 ghost use Rattle.lot_bucket.specs.Places.{root_at, with_root};
 ghost use Rattle.lot_bucket.specs.Settled.{Stays};
-ghost use Rattle.lot_park.specs.Parking.{IsOpenFor, debt, debts, MayUnpark, Unparks, UnparkedOne, MayUnparkAll, UnparksAll, UnparkedAll, MayValidate, Validates, Validated};
+ghost use Rattle.lot_park.specs.Parking.{IsOpenFor, TellsCount, debt, debts, MayUnpark, Unparks, UnparkedOne, MayUnparkCount, UnparksCount, UnparkedCount, MayValidate, Validates, Validated};
 
 use crate::scheme::{Scheme, Token};
 use crate::taken::{MOST_THREADS, Taken};
@@ -56,27 +56,28 @@ pub fn unpark_in<S: Scheme, X, F: FnOnce(X, S::Root, Dequeued) -> (X, S::Root, T
     (x, told)
 }
 
-/// Takes the whole line of the key, and posts a letter with token 0 to each of it.
-pub fn unpark_all_in<S: Scheme, X, F: FnOnce(X, S::Root, usize) -> (X, S::Root)>(
+/// Takes the first `count` of the key's line, or all where they are fewer, and posts a letter with token 0 to each.
+pub fn unpark_count_in<S: Scheme, X, F: FnOnce(X, S::Root, usize, bool) -> (X, S::Root)>(
     scheme: &S,
     bucket: &mut Bucket<S::Root>,
     key: usize,
+    count: usize,
     x: X,
     f: F,
 ) -> (X, Taken)
     requires ready { IsOpenFor S.Root.key S.Root.line S.Root.owes key bucket.old }
     requires few { bucket.old.room ≤ MOST_THREADS }
-    requires callable { MayUnparkAll S.Root.key S.Root.line S.Root.owes key (F.pre f x) }
-    requires keeps { UnparksAll S.Root.key S.Root.line S.Root.owes key (F.post f x) }
+    requires callable { MayUnparkCount S.Root.key S.Root.line S.Root.owes bucket.old.room key count (F.pre f x) }
+    requires keeps { UnparksCount S.Root.key S.Root.line S.Root.owes bucket.old.room key count (F.post f x) }
     ensures stays { Stays S.Root.key S.Root.line S.Root.owes bucket.old bucket.new }
-    ensures called { UnparkedAll S.Root.key S.Root.line S.Root.owes key (F.post f x) (result.0, result.1.count) }
+    ensures called { UnparkedCount S.Root.key S.Root.line S.Root.owes bucket.old.room key count (F.post f x) (result.0, result.1.count) }
 {
     let mut threads = [0; MOST_THREADS];
-    let (root, count) = take_line(bucket, key, &mut threads);
-    let (x, root) = f(x, root, count);
-    let root = pay_all(scheme, root, &threads[..count]);
+    let (root, taken, more) = take_first(bucket, key, count, &mut threads);
+    let (x, root) = f(x, root, taken, more);
+    let root = pay_all(scheme, root, &threads[..taken]);
     bucket.put_root(key, root);
-    (x, taken_of(threads, count))
+    (x, taken_of(threads, taken))
 }
 
 fn taken_of(threads: [usize; MOST_THREADS], count: usize) -> Taken
@@ -87,20 +88,26 @@ fn taken_of(threads: [usize; MOST_THREADS], count: usize) -> Taken
     Taken { threads, count }
 }
 
-// Takes the root out, and the whole line, which it writes to the front of `out`.
-fn take_line<R: Root>(bucket: &mut Bucket<R>, key: usize, out: &mut [usize]) -> (R, usize)
+// Takes the root out, and the first `count` of the line, which it writes to the front of `out`. It answers how many they
+// were, and whether more may wait.
+fn take_first<R: Root>(
+    bucket: &mut Bucket<R>,
+    key: usize,
+    count: usize,
+    out: &mut [usize],
+) -> (R, usize, bool)
     requires root { IsSome (root_at key bucket.old.places) }
     requires few { bucket.old.room ≤ length out.old }
     ensures root { root_at key bucket.old.places ≡ Some result.0 }
-    ensures count { result.1 ≡ length (line_of key bucket.old.queue) }
+    ensures told { TellsCount bucket.old.room count (line_of key bucket.old.queue) result.1 result.2 }
     ensures within { result.1 ≤ bucket.old.room }
-    ensures line { take result.1 out.new ≡ line_of key bucket.old.queue }
-    ensures left { bucket.new ≡ record bucket.old { places = with_root key None bucket.old.places; queue = without_key key bucket.old.queue } }
+    ensures line { take result.1 out.new ≡ take count (line_of key bucket.old.queue) }
+    ensures left { bucket.new ≡ record bucket.old { places = with_root key None bucket.old.places; queue = without_count count key bucket.old.queue } }
 {
     let _waiting = bucket.len();
     let root = bucket.take_root(key);
-    let count = bucket.dequeue_all(key, out);
-    (root, count)
+    let (taken, more) = bucket.dequeue_count(key, count, out);
+    (root, taken, more)
 }
 
 // Posts a letter with token 0 to each of the threads, to whom the root owes them.

@@ -14,8 +14,8 @@
 //! alone: `unpark_one::<S, B, OfFirst<OfSecond<Whole>>, _, _, _>(rt, &lot, key, moment, x, callback)`.
 
 ghost use Rattle.std.specs.Prelude.{◌≡◌, ℕ, ◌<◌, true, []};
-ghost use Rattle.lot_park.specs.Parking.{Tells, MayUnpark, Unparks, UnparkedOne, MayUnparkAll, UnparksAll, UnparkedAll, MayValidate, Validates, ParkedOnce};
-ghost use Rattle.lot_park.specs.Parts.{CallsBack, CallsBackAll, Checks};
+ghost use Rattle.lot_park.specs.Parking.{Tells, MayUnpark, Unparks, UnparkedOne, MayUnparkAll, UnparksAll, UnparkedAll, MayUnparkCount, UnparksCount, UnparkedCount, MayValidate, Validates, ParkedOnce};
+ghost use Rattle.lot_park.specs.Parts.{CallsBack, CallsBackCount, Checks};
 
 use crate::lot::{Parked, ParkingLot};
 use crate::scheme::{Scheme, Token};
@@ -90,34 +90,63 @@ pub fn unpark_all<
     requires keeps { UnparksAll A.Root.key A.Root.line A.Root.owes key (F.post f x) }
     ensures { UnparkedAll A.Root.key A.Root.line A.Root.owes key (F.post f x) result }
 {
-    parking.unpark_all(
+    unpark_count::<S, A, P, W, X, _>(
+        rt,
+        parking,
+        key,
+        parking.threads(),
+        x,
+        |x: X, root: A::Root, taken: usize, _more: bool| -> (X, A::Root)
+            requires { F.pre f x root taken }
+            ensures { F.post f x root taken result }
+        { f(x, root, taken) },
+    )
+}
+
+/// `ParkingLot::unpark_count` on a key of one table.
+pub fn unpark_count<
+    S: Scheme,
+    A: Scheme,
+    P: Part<S, A>,
+    W: Wait,
+    X,
+    F: FnOnce(X, A::Root, usize, bool) -> (X, A::Root),
+>(rt: &W, parking: &ParkingLot<S>, key: usize, count: usize, x: X, f: F) -> (X, usize)
+    requires key { key < parking.now.keys }
+    requires serves { P.serves key }
+    requires callable { MayUnparkCount A.Root.key A.Root.line A.Root.owes parking.now.threads key count (F.pre f x) }
+    requires keeps { UnparksCount A.Root.key A.Root.line A.Root.owes parking.now.threads key count (F.post f x) }
+    ensures { UnparkedCount A.Root.key A.Root.line A.Root.owes parking.now.threads key count (F.post f x) result }
+{
+    parking.unpark_count(
         rt,
         key,
+        count,
         x,
-        |x: X, root: S::Root, count: usize| -> (X, S::Root)
+        |x: X, root: S::Root, taken: usize, more: bool| -> (X, S::Root)
             requires serves { P.serves (S.Root.key root) }
-            requires callable { (mine : A.Root) → P.whole_root mine ≡ root → F.pre f x mine count }
-            requires keeps { (mine : A.Root) (o : _) → P.whole_root mine ≡ root → F.post f x mine count o → P.serves (A.Root.key o.1) }
-            ensures { CallsBackAll P.whole_root root (λ r. F.post f x r count) result }
-        { call_back_all::<S, A, P, X, F>(x, root, count, f) },
+            requires callable { (mine : A.Root) → P.whole_root mine ≡ root → F.pre f x mine taken more }
+            requires keeps { (mine : A.Root) (o : _) → P.whole_root mine ≡ root → F.post f x mine taken more o → P.serves (A.Root.key o.1) }
+            ensures { CallsBackCount P.whole_root root (λ r. F.post f x r taken more) result }
+        { call_back_count::<S, A, P, X, F>(x, root, taken, more, f) },
     )
 }
 
 // Calls back with the root as the table's own.
-fn call_back_all<
+fn call_back_count<
     S: Scheme,
     A: Scheme,
     P: Part<S, A>,
     X,
-    F: FnOnce(X, A::Root, usize) -> (X, A::Root),
->(x: X, root: S::Root, count: usize, f: F) -> (X, S::Root)
+    F: FnOnce(X, A::Root, usize, bool) -> (X, A::Root),
+>(x: X, root: S::Root, taken: usize, more: bool, f: F) -> (X, S::Root)
     requires serves { P.serves (S.Root.key root) }
-    requires callable { (mine : A.Root) → P.whole_root mine ≡ root → F.pre f x mine count }
-    requires keeps { (mine : A.Root) (o : _) → P.whole_root mine ≡ root → F.post f x mine count o → P.serves (A.Root.key o.1) }
-    ensures { CallsBackAll P.whole_root root (λ r. F.post f x r count) result }
+    requires callable { (mine : A.Root) → P.whole_root mine ≡ root → F.pre f x mine taken more }
+    requires keeps { (mine : A.Root) (o : _) → P.whole_root mine ≡ root → F.post f x mine taken more o → P.serves (A.Root.key o.1) }
+    ensures { CallsBackCount P.whole_root root (λ r. F.post f x r taken more) result }
 {
     let mine = P::lower_root(root);
-    let (x, mine) = f(x, mine, count);
+    let (x, mine) = f(x, mine, taken, more);
     (x, P::raise_root(mine))
 }
 

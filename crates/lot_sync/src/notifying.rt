@@ -1,5 +1,6 @@
 //! Notifying the threads that wait on a condition, as WTF's `Condition` does.
-ghost use Rattle.std.specs.Prelude.{◌≡◌, MatchBool};
+ghost use Rattle.std.specs.Prelude.{◌≡◌, ◌≤◌, MatchBool};
+ghost use Rattle.lot_core.specs.Steps.{IsCallCount};
 ghost use Rattle.lot_sync.specs.Lot.{IsWide, IsCond, calling};
 
 use crate::lock::AtOnce;
@@ -51,6 +52,36 @@ impl<V: Keeps + Send, N: LotName<V> + Send> Lot<V, N> {
             moment,
         );
         (self.at_rest(right, Rights::new(waiter, seeker)), taken)
+    }
+
+    /// Takes the first `count` threads of the condition's line, or all where they are fewer, in one visit of the bucket, and answers how
+    /// many they were; `count` is 1 to 256. Where nobody waits it is one load, and no bucket is locked. After a change that so many
+    /// threads wait for, as after putting three items: `let (pass, woken) = lot.notify_some(rt, pass, cond, 3);`
+    pub fn notify_some<R: Wait>(
+        &self,
+        rt: &R,
+        pass: Pass<V, N>,
+        cond: usize,
+        count: usize,
+    ) -> (Pass<V, N>, usize)
+        requires cond { IsCond self.now cond }
+        requires count { IsCallCount count }
+        ensures counted { result.0 ≡ calling pass cond result.1 }
+        ensures most { result.1 ≤ count }
+        ensures wide { IsWide self.now result.0 }
+    {
+        let (right, kinds) = pass.apart();
+        let (waiter, seeker) = kinds.apart();
+        let scheme = self.parking.scheme().second().first();
+        let (waiter, some) = lot_waits::notify_some::<LotScheme<V, N>, N, Conds, R>(
+            rt,
+            &self.parking,
+            scheme,
+            waiter,
+            cond,
+            count,
+        );
+        (self.at_rest(right, waiter), some)
     }
 
     /// Takes all threads of the condition's line, and answers how many. Where nobody waits it is one load, and no bucket is locked.

@@ -345,7 +345,16 @@ pub(crate) fn end<N: LotName<Count> + Send + Sync, T: Wait + Abort>(
 }
 
 /// The sizes of the table, each with the first thread number that it serves, where passes are given one by one.
-const SIZES: [(usize, usize); 6] = [(0, 3), (1, 12), (4, 30), (10, 66), (22, 138), (46, 282)];
+const SIZES: [(usize, usize); 8] = [
+    (0, 3),
+    (1, 12),
+    (4, 30),
+    (10, 66),
+    (22, 138),
+    (46, 282),
+    (94, 570),
+    (190, 1146),
+];
 
 /// The size that the table has when the pass of this number was given.
 fn wanted_size(thread: usize) -> usize {
@@ -702,7 +711,7 @@ fn passes_are_given_least_number_first(rt: HostRuntime) {
 
 #[test]
 fn registration_and_growth_succeed(rt: HostRuntime) {
-    on_lot(&rt, rt.alloc(), 64, Row::Growth);
+    on_lot(&rt, rt.alloc(), 256, Row::Growth);
 }
 
 #[test]
@@ -711,7 +720,7 @@ fn a_written_value_is_found(rt: HostRuntime) {
 }
 
 const REFUSED: [(usize, usize, usize, OpenFault); 3] = [
-    (65, 1, 0, OpenFault::BadThreads),
+    (257, 1, 0, OpenFault::BadThreads),
     (1, 0, 0, OpenFault::BadKeys),
     (1, 1, 1024, OpenFault::BadKeys),
 ];

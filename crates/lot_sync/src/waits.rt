@@ -1,5 +1,6 @@
 //! Threads that wait on a condition and are notified, in the running code.
 ghost use Rattle.std.specs.Prelude.{◌≡◌, ◌≤◌, ◌<◌, ℕ, length};
+ghost use Rattle.lot_core.specs.Steps.{IsCallCount};
 ghost use Rattle.lot_sync.specs.Lot.{OwnsNone, IsCond};
 ghost use Rattle.lot_sync.specs.Opened.{IsNamed};
 ghost use Rattle.lot_sync.specs.Holding.{Holding};
@@ -14,8 +15,11 @@ use std::test::*;
 use std::thread;
 use std::thread::Threads;
 
-/// The lot's one condition: its number follows that of the one lock.
+/// The lot's first condition: its number follows that of the one lock.
 const COND: usize = 1;
+
+/// The lot's last condition, which lies in the bucket of the first where there are 12 buckets.
+const LAST: usize = 13;
 
 /// `wait`, and what the test has of it.
 fn wait_once<N: LotName<Count> + Send + Sync, T: Wait>(
@@ -62,13 +66,36 @@ fn call_all<N: LotName<Count> + Send + Sync, T: Wait>(
     lot.notify_all(rt, pass, cond)
 }
 
+/// `notify_some`, and what the test has of it: how many were taken, and whether the flag is set then.
+fn call_some<N: LotName<Count> + Send + Sync, T: Wait>(
+    rt: &T,
+    lot: &Lot<Count, N>,
+    pass: Pass<Count, N>,
+    cond: usize,
+    count: usize,
+) -> (Pass<Count, N>, (usize, bool))
+    requires cond { IsCond lot.now cond }
+    requires count { IsCallCount count }
+    requires free { OwnsNone pass }
+    ensures free { OwnsNone result.0 }
+{
+    let (pass, taken) = lot.notify_some(rt, pass, cond, count);
+    let (pass, has) = lot.has_waiters(pass, cond);
+    (pass, (taken, has))
+}
+
 /// A thread that waits once, with lock 0.
-fn wait_and_leave<N: LotName<Count> + Send + Sync, T: Wait + Abort>(rt: &T, lot: &Lot<Count, N>)
-    requires { (lot.now.locks ≡ 1) × (lot.now.conds ≡ 1) }
+fn wait_and_leave<N: LotName<Count> + Send + Sync, T: Wait + Abort>(
+    rt: &T,
+    lot: &Lot<Count, N>,
+    cond: usize,
+)
+    requires sizes { (lot.now.locks ≡ 1) × (lot.now.conds ≡ 13) }
+    requires cond { IsCond lot.now cond }
 {
     let pass = enter(rt, lot);
     let (pass, held) = own(rt, lot, pass, 0);
-    let (pass, held) = wait_once(rt, lot, pass, held, COND);
+    let (pass, held) = wait_once(rt, lot, pass, held, cond);
     let (pass, _) = release(rt, lot, pass, held, 0);
     lot.leave(rt, pass);
 }
@@ -79,7 +106,7 @@ fn nobody_waits<N: LotName<Count> + Send + Sync, T: Wait + Abort>(
     lot: &Lot<Count, N>,
     pass: Pass<Count, N>,
 ) -> Pass<Count, N>
-    requires sizes { (lot.now.locks ≡ 1) × (lot.now.conds ≡ 1) }
+    requires sizes { (lot.now.locks ≡ 1) × (lot.now.conds ≡ 13) }
     requires free { OwnsNone pass }
     ensures { OwnsNone result }
 {
@@ -98,7 +125,7 @@ fn three_are_notified<N: LotName<Count> + Send + Sync, T: Wait + Abort>(
     lot: &Lot<Count, N>,
     pass: Pass<Count, N>,
 )
-    requires sizes { (lot.now.locks ≡ 1) × (lot.now.conds ≡ 1) }
+    requires sizes { (lot.now.locks ≡ 1) × (lot.now.conds ≡ 13) }
     requires free { OwnsNone pass }
 {
     assert!(rt; in_line(rt, lot, COND, 3));
@@ -113,68 +140,147 @@ fn three_are_notified<N: LotName<Count> + Send + Sync, T: Wait + Abort>(
     lot.leave(rt, pass);
 }
 
-fn three_wait<N: LotName<Count> + Send + Sync, T: Threads + Wait + Sync + Abort>(
+/// Three threads wait, alone in their bucket: two are taken, then the other one, then nobody.
+fn three_are_notified_by_count<N: LotName<Count> + Send + Sync, T: Wait + Abort>(
+    rt: &T,
+    lot: &Lot<Count, N>,
+    pass: Pass<Count, N>,
+)
+    requires sizes { (lot.now.locks ≡ 1) × (lot.now.conds ≡ 13) }
+    requires free { OwnsNone pass }
+{
+    assert!(rt; in_line(rt, lot, COND, 3));
+    let (pass, taken) = call_some(rt, lot, pass, COND, 2);
+    assert_eq!(rt; taken, (2, true));
+    let (pass, taken) = call_some(rt, lot, pass, COND, 5);
+    assert_eq!(rt; taken, (1, false));
+    let (pass, taken) = call_some(rt, lot, pass, COND, 1);
+    assert_eq!(rt; taken, (0, false));
+    lot.leave(rt, pass);
+}
+
+/// Two conditions in one bucket with a waiting thread each: the flag stays until nobody else is in the bucket, or nobody is taken.
+fn two_are_notified_by_count<N: LotName<Count> + Send + Sync, T: Wait + Abort>(
+    rt: &T,
+    lot: &Lot<Count, N>,
+    pass: Pass<Count, N>,
+)
+    requires sizes { (lot.now.locks ≡ 1) × (lot.now.conds ≡ 13) }
+    requires free { OwnsNone pass }
+{
+    assert_eq!(rt; lot.table_size(rt), 12);
+    assert!(rt; in_line(rt, lot, COND, 1));
+    assert!(rt; in_line(rt, lot, LAST, 1));
+    let (pass, taken) = call_some(rt, lot, pass, LAST, 4);
+    assert_eq!(rt; taken, (1, true));
+    let (pass, taken) = call_some(rt, lot, pass, LAST, 4);
+    assert_eq!(rt; taken, (0, false));
+    let (pass, taken) = call_some(rt, lot, pass, COND, 256);
+    assert_eq!(rt; taken, (1, false));
+    lot.leave(rt, pass);
+}
+
+/// How a test notifies.
+#[derive(Clone, Copy, PartialEq, Eq)]
+enum By {
+    OneAndAll,
+    Count,
+}
+
+fn two_wait<N: LotName<Count> + Send + Sync, T: Threads + Wait + Sync + Abort>(
     rt: &T,
     lot: &Lot<Count, N>,
 )
-    requires { (lot.now.locks ≡ 1) × (lot.now.conds ≡ 1) }
+    requires { (lot.now.locks ≡ 1) × (lot.now.conds ≡ 13) }
 {
     thread::scope(
         thread::scope_env(),
         rt,
         |scope|
-            requires { (lot.now.locks ≡ 1) × (lot.now.conds ≡ 1) }
+            requires { (lot.now.locks ≡ 1) × (lot.now.conds ≡ 13) }
         {
             let pass = enter(rt, lot);
-            let pass = nobody_waits(rt, lot, pass);
             let first = move ||
-                requires { (lot.now.locks ≡ 1) × (lot.now.conds ≡ 1) }
-            { wait_and_leave(rt, lot) };
+                requires { (lot.now.locks ≡ 1) × (lot.now.conds ≡ 13) }
+            { wait_and_leave(rt, lot, COND) };
             assert!(rt; scope.spawn(first).is_ok());
-            let second = move ||
-                requires { (lot.now.locks ≡ 1) × (lot.now.conds ≡ 1) }
-            { wait_and_leave(rt, lot) };
-            assert!(rt; scope.spawn(second).is_ok());
-            let third = move ||
-                requires { (lot.now.locks ≡ 1) × (lot.now.conds ≡ 1) }
-            { wait_and_leave(rt, lot) };
-            assert!(rt; scope.spawn(third).is_ok());
-            three_are_notified(rt, lot, pass);
+            let last = move ||
+                requires { (lot.now.locks ≡ 1) × (lot.now.conds ≡ 13) }
+            { wait_and_leave(rt, lot, LAST) };
+            assert!(rt; scope.spawn(last).is_ok());
+            two_are_notified_by_count(rt, lot, pass);
         },
     );
 }
 
-/// Starts the lot, lets three threads wait and be notified, closes it, and looks at the ledger.
+fn three_wait<N: LotName<Count> + Send + Sync, T: Threads + Wait + Sync + Abort>(
+    rt: &T,
+    lot: &Lot<Count, N>,
+    by: By,
+)
+    requires { (lot.now.locks ≡ 1) × (lot.now.conds ≡ 13) }
+{
+    thread::scope(
+        thread::scope_env(),
+        rt,
+        |scope|
+            requires { (lot.now.locks ≡ 1) × (lot.now.conds ≡ 13) }
+        {
+            let pass = enter(rt, lot);
+            let pass = nobody_waits(rt, lot, pass);
+            let first = move ||
+                requires { (lot.now.locks ≡ 1) × (lot.now.conds ≡ 13) }
+            { wait_and_leave(rt, lot, COND) };
+            assert!(rt; scope.spawn(first).is_ok());
+            let second = move ||
+                requires { (lot.now.locks ≡ 1) × (lot.now.conds ≡ 13) }
+            { wait_and_leave(rt, lot, COND) };
+            assert!(rt; scope.spawn(second).is_ok());
+            let third = move ||
+                requires { (lot.now.locks ≡ 1) × (lot.now.conds ≡ 13) }
+            { wait_and_leave(rt, lot, COND) };
+            assert!(rt; scope.spawn(third).is_ok());
+            match by {
+                By::OneAndAll => three_are_notified(rt, lot, pass),
+                By::Count => three_are_notified_by_count(rt, lot, pass),
+            }
+        },
+    );
+}
+
+/// Starts the lot, lets threads wait and be notified, closes it, and looks at the ledger.
 fn play<N: LotName<Count> + Send + Sync, T: Threads + Wait + Sync + Abort>(
     rt: &T,
     alloc: Global,
     opened: Opened<Count>,
 )
     requires named { IsNamed (record { opening = N.opening; threads = N.threads; values = N.values; locks = N.locks; conds = N.conds; low = N.low; permits = N.permits }) opened }
-    requires sizes { (opened.threads ≡ 4) × (length opened.values ≡ 1) × (opened.conds ≡ 1) }
+    requires sizes { (opened.threads ≡ 4) × (length opened.values ≡ 1) × (opened.conds ≡ 13) }
 {
     let Ok(passes) = Vec::with_capacity(alloc, 4) else {
         panic!(rt; "no memory")
     };
     match opened.start::<N>(alloc) {
         Ok(lot) => {
-            three_wait(rt, &lot);
+            three_wait(rt, &lot, By::OneAndAll);
+            three_wait(rt, &lot, By::Count);
+            two_wait(rt, &lot);
             let (_, ledger) = end(rt, lot, passes, 4, Gathered::Left);
-            assert_eq!(rt; ledger.called.len(), 1);
-            assert_eq!(rt; ledger.woken.len(), 1);
-            assert_eq!(rt; ledger.called[0], 3);
-            assert_eq!(rt; ledger.woken[0], 3);
+            assert_eq!(rt; ledger.called.len(), 13);
+            assert_eq!(rt; ledger.woken.len(), 13);
+            assert_eq!(rt; (ledger.called[0], ledger.called[12]), (7, 1));
+            assert_eq!(rt; (ledger.woken[0], ledger.woken[12]), (7, 1));
         }
         Err(_) => panic!(rt; "not started"),
     }
 }
 
 #[test]
-fn three_waits_are_notified(rt: HostRuntime) {
+fn waits_are_notified(rt: HostRuntime) {
     let Ok(values) = vec![in rt.alloc(); Count { n: 7 }; 1] else {
         panic!(&rt; "no memory")
     };
-    match Lot::<Count, Brand>::open(rt.alloc(), 4, values, 1) {
+    match Lot::<Count, Brand>::open(rt.alloc(), 4, values, 13) {
         Ok(opened) => play::<Brand, HostRuntime>(&rt, rt.alloc(), opened),
         Err(_) => panic!(&rt; "not opened"),
     }

@@ -14,7 +14,7 @@ use Rattle.lot_bucket.specs.Taking.{TakesOne}
 use Rattle.lot_bucket.specs.declared.taking.Moment.{Moment}
 use Rattle.lot_bucket.specs.declared.taking.Dequeued.{Dequeued}
 use Rattle.lot_bucket.proofs.Slots.{rootless}
-use Rattle.lot_bucket.proofs.Laws.{line_of-without_first_same, without_key-without_first, without_key_none, first_of_line, line_of-without_key_same, line_of-without_key_other, line_fits, root_at-with_same, root_at-with_other, has_key-with}
+use Rattle.lot_bucket.proofs.Laws.{line_of-without_count_same, without_key-without_first, without_key_none, first_of_line, line_of-without_key_same, line_of-without_key_other, line_fits, root_at-with_same, root_at-with_other, has_key-with}
 use Rattle.lot_table.specs.Buckets.{bucket_of, queued, KeepsLines, AreWhole, AreFilled, AreEmpty, MayRegrow}
 
 pub line_of-append : (k : ℕ) (p q : List (ℕ × ℕ)) → line_of k (p ++ q) ≡ line_of k p ++ line_of k q
@@ -80,7 +80,7 @@ module _ {R : Type 0} where
     pub room : length to.queue + length (line_of k from.queue) ≤ to.room
 
   first_moves : (k t : ℕ) (from : Contents R) → first_of (line_of k from.queue) ≡ Some t → line_of k from.queue ≡ t ∷ line_of k (without_first k from.queue)
-  first_moves k t from first = first_of_line t (line_of k from.queue) (sym first) ∙ ap (λ l. t ∷ l) (sym (line_of-without_first_same k from.queue))
+  first_moves k t from first = first_of_line t (line_of k from.queue) (sym first) ∙ ap (λ l. t ∷ l) (sym (line_of-without_count_same 1 k from.queue))
 
   pub moving_smaller : (k t : ℕ) (from b : Contents R) → first_of (line_of k from.queue) ≡ Some t → b ≡ record from { queue = without_first k from.queue }
       → length (line_of k b.queue) < length (line_of k from.queue)
@@ -128,7 +128,7 @@ module _ {R : Type 0} where
   pub leaving_ends : (k : ℕ) (from0 from b : Contents R) → IsLeaving k from0 from → line_of k from.queue ≡ [] → b ≡ record from { queue = without_first k from.queue }
       → b ≡ record from0 { queue = without_key k from0.queue }
   leaving_ends k from0 from b i none taken =
-      let empty : line_of k (without_first k from.queue) ≡ [] = line_of-without_first_same k from.queue ∙ ap (λ l. drop 1 l) none in
+      let empty : line_of k (without_first k from.queue) ≡ [] = line_of-without_count_same 1 k from.queue ∙ ap (λ l. drop 1 l) none in
       let same : without_first k from.queue ≡ without_key k from0.queue = sym (without_key_none k (without_first k from.queue) empty) ∙ without_key-without_first k from.queue ∙ i.others in
       taken ∙ ap (λ (x : Contents R). record x { queue = without_first k from.queue }) i.from_is ∙ ap (λ (q : List (ℕ × ℕ)). record from0 { queue = q }) same
 

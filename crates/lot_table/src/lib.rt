@@ -6,7 +6,7 @@
 //!   first version      3 buckets   closed and empty, once it was left
 //!   cell 0            12 buckets   closed and empty
 //!   cell 1            30 buckets   open: the newest version that is set
-//!   cells 2 to 4       not set
+//!   cells 2 to 6       not set
 //! ```
 //!
 //! The bucket of key `k` is bucket `k mod size` of the newest version. Versions are read without a lock, and

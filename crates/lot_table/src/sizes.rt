@@ -7,14 +7,14 @@ use std::alloc::AllocError;
 use thiserror::Error;
 
 /// How many threads a table can be made for.
-pub const MOST_THREADS: usize = 64;
+pub const MOST_THREADS: usize = 256;
 
 /// How many buckets a table has at first.
 pub const FIRST_SIZE: usize = 3;
 
 /// How many versions a table can have. For the most threads, that come one by one, the sizes are 3, 12, 30,
-/// 66, 138 and 282.
-pub const MOST_VERSIONS: usize = 6;
+/// 66, 138, 282, 570 and 1146.
+pub const MOST_VERSIONS: usize = 8;
 
 // A table that has fewer buckets for each thread grows to twice as many.
 const BUCKETS_PER_THREAD: usize = 3;

@@ -1,9 +1,10 @@
 -- What an unparking does to the pass that notifies and to the root of the condition.
-use Rattle.std.proofs.Common.{◌≡◌, ℕ, ◌+◌, List, [], ◌∷◌, ◌++◌, take, slice_index, slice_set, Option, Some, None, refl, sym, ap, ◌∙◌, MatchBool, arith}
+use Rattle.std.proofs.Common.{◌≡◌, ℕ, ◌+◌, ◌≤◌, Bool, true, false, List, [], ◌∷◌, ◌++◌, length, take, drop, slice_index, slice_set, Option, Some, None, refl, sym, ap, ◌∙◌, MatchBool, arith}
 use Rattle.std.specs.Option.{is_some}
-use Rattle.std.proofs.lemmas.List.{set-get_or}
+use Rattle.std.proofs.lemmas.List.{set-get_or, length-drop}
 use Rattle.lot_bucket.specs.Queue.{first_of}
-use Rattle.lot_park.specs.Parking.{debt, debts}
+use Rattle.lot_core.specs.Steps.{SaysMoreBehind}
+use Rattle.lot_park.specs.Parking.{TellsCount, debt, debts}
 use Rattle.lot_waits.specs.Rights.{CondStanding, calling, one_of}
 
 -- ---- the pass
@@ -19,6 +20,14 @@ none_taken p c =
 pub taken_or_not : (p q : CondStanding) (c : ℕ) (thread : Option ℕ) → q ≡ calling p c (one_of thread) → MatchBool (is_some thread) (q ≡ calling p c 1) (q ≡ p)
 taken_or_not p q c None same = same ∙ sym (none_taken p c)
 taken_or_not p q c (Some thread) same = same
+
+-- ---- what the lot tells
+-- where some of the line are left, more may wait
+pub says_more : (threads n : ℕ) (line : List ℕ) (taken : ℕ) (more : Bool) → 1 ≤ n → TellsCount threads n line taken more → SaysMoreBehind n line more
+says_more threads n line taken true some told longer = refl
+says_more threads n line taken false some told longer =
+    let none : drop n line ≡ [] = told.alone some refl in
+    absurd (omega (arith, longer, length-drop n line, ap length none))
 
 -- ---- the root's letters
 pub none_owed : (owes : List ℕ) → debts owes ≡ [] → owes ≡ []

@@ -1,10 +1,11 @@
 //! What a waiter can do on a condition.
-ghost use Rattle.std.specs.Prelude.{◌≡◌, ℕ, ◌+◌, ◌<◌, MatchBool};
+ghost use Rattle.std.specs.Prelude.{◌≡◌, ℕ, ◌+◌, ◌<◌, ◌≤◌, MatchBool};
 ghost use Rattle.lot_core.specs.Parts.{IsAmongConds};
+ghost use Rattle.lot_core.specs.Steps.{IsCallCount};
 ghost use Rattle.lot_waits.specs.Counts.{IsWide, woke, took};
 
 use crate::name::WaitName;
-use crate::notifying::{AtOnce, BeforeSweep, call_all, call_one, look};
+use crate::notifying::{AtOnce, BeforeSweep, call_all, call_one, call_some, look};
 use crate::scheme::CondScheme;
 use crate::waiter::Waiter;
 use crate::waiting::sleep_on;
@@ -84,6 +85,30 @@ pub fn notify_one<S: Scheme, N: WaitName + Send, P: Part<S, CondScheme<N>>, R: W
         return (Waiter::taken(right, locks, tallies, cond, 1), true);
     }
     (Waiter::new(right, locks, tallies), false)
+}
+
+/// Takes the first `count` threads of the condition's line, or all where they are fewer, in one visit of the bucket, and answers how many
+/// they were: `count` times `notify_one`, that nobody can come between. Where the flag is clear it is one load, and locks no bucket. The
+/// threads are woken after the bucket is unlocked. It takes no memory.
+pub fn notify_some<S: Scheme, N: WaitName + Send, P: Part<S, CondScheme<N>>, R: Wait>(
+    rt: &R,
+    parking: &ParkingLot<S>,
+    scheme: &CondScheme<N>,
+    waiter: Waiter<N>,
+    cond: usize,
+    count: usize,
+) -> (Waiter<N>, usize)
+    requires cond { IsAmongConds N.locks N.conds cond }
+    requires key { cond < parking.now.keys }
+    requires serves { P.serves cond }
+    requires count { IsCallCount count }
+    ensures waiter { result.0 ≡ took waiter cond result.1 }
+    ensures most { result.1 ≤ count }
+    ensures wide { IsWide (N.locks + N.conds) result.0 }
+{
+    let (right, locks, tallies) = waiter.apart();
+    let (right, taken) = call_some::<S, N, P, R>(rt, parking, scheme, right, cond, count);
+    (Waiter::taken(right, locks, tallies, cond, taken), taken)
 }
 
 /// Takes all threads of the condition's line, and answers how many: WTF's `Condition::notifyAll`. Where the flag is clear it is one load,

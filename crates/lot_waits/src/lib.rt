@@ -8,6 +8,7 @@
 //! |---|---|---|
 //! | `wait_on` | | the thread is queued, acts, and sleeps until a notification takes it |
 //! | `notify_one` | one load of the flag | the first of the line is taken, and its letter posted; the flag is cleared where no more may wait |
+//! | `notify_some` | one load of the flag | the first few of the line are taken in one visit of the bucket, and their letters posted; the flag as in `notify_one` |
 //! | `notify_all` | one load of the flag | one store clears the flag; then all of the line are taken, and their letters posted |
 //!
 //! A wait ends by its letter alone, and then the `Waiter` has counted one wait more. Whoever takes sleepers counts them too. Where all
@@ -28,7 +29,7 @@ mod tallies;
 pub mod waiter;
 mod waiting;
 
-pub use calls::{has_waiters, notify_all, notify_all_after, notify_one, wait_on};
+pub use calls::{has_waiters, notify_all, notify_all_after, notify_one, notify_some, wait_on};
 pub use closing::{Ledger, settle};
 pub use name::WaitName;
 pub use notifying::BeforeSweep;

@@ -1,13 +1,14 @@
-//! Notifying the threads that wait on a condition, as WTF's `Condition::notifyOne` and `Condition::notifyAll` do.
-ghost use Rattle.std.specs.Prelude.{◌≡◌, ℕ, ◌<◌, [], length, MatchBool};
+//! Notifying the threads that wait on a condition, as WTF's `Condition::notifyOne` and `Condition::notifyAll` do, and several of them at once.
+ghost use Rattle.std.specs.Prelude.{◌≡◌, ℕ, ◌<◌, ◌≤◌, [], length, MatchBool};
 ghost use Rattle.lot_core.specs.Parts.{IsAmongConds};
-ghost use Rattle.lot_park.specs.Parking.{Tells};
+ghost use Rattle.lot_core.specs.Steps.{IsCallCount, SaysMoreBehind, dequeued_count};
+ghost use Rattle.lot_park.specs.Parking.{Tells, TellsCount};
 ghost use Rattle.lot_conds.specs.Calls.{called_root, swept_root};
 ghost use Rattle.lot_waits.specs.Rights.{IsCalmStanding, calling, setting_out, HasToSweep, sweeping, with_root, one_of};
 
 use crate::name::WaitName;
 use crate::scheme::{CondKeyRoot, CondScheme, NamedCond};
-use lot_park::parts::{Part, unpark_all, unpark_one};
+use lot_park::parts::{Part, unpark_all, unpark_count, unpark_one};
 use lot_park::{Moment, ParkingLot, Scheme, Token, UnparkResult};
 use std::sync::Wait;
 
@@ -66,28 +67,33 @@ pub(crate) fn call_one<S: Scheme, N: WaitName + Send, P: Part<S, CondScheme<N>>,
             ensures root { result.1 ≡ with_root root (called_root root.root.own 1) }
             ensures token { result.2.0 ≡ 0 }
         {
-            let (pass, root) = call(scheme, pass, root, told);
+            let taken = count_of(told.thread);
+            let (pass, root) = call(scheme, pass, root, 1, taken, told.more);
             (pass, root, TAKEN)
         },
     );
     (pass, told.thread.is_some())
 }
 
-/// Takes the thread of which the parking lot tells, while the condition's bucket is locked. The flag stays where more may wait.
+/// Takes the first `count` threads of the condition's line, or all where they are fewer, while its bucket is locked; `taken` is how many
+/// they are. The flag stays where more may wait.
 fn call<N: WaitName>(
     scheme: &CondScheme<N>,
     pass: NamedCond<N>,
     root: CondKeyRoot<N>,
-    told: UnparkResult,
+    count: usize,
+    taken: usize,
+    more: bool,
 ) -> (NamedCond<N>, CondKeyRoot<N>)
     requires calm { IsCalmStanding pass }
-    requires told { (now : ℕ) × Tells root.root.own.line now told }
-    ensures pass { result.0 ≡ calling pass root.root.key (one_of told.thread) }
-    ensures root { result.1 ≡ with_root root (called_root root.root.own 1) }
+    requires count { IsCallCount count }
+    requires taken { dequeued_count count root.root.own.line ≡ taken }
+    requires more { SaysMoreBehind count root.root.own.line more }
+    ensures pass { result.0 ≡ calling pass root.root.key taken }
+    ensures root { result.1 ≡ with_root root (called_root root.root.own count) }
 {
-    let taken = count_of(told.thread);
     let words = scheme.words();
-    let (pass, root) = words.call(pass.into_pass(), root.into_root(), 1, taken, told.more);
+    let (pass, root) = words.call(pass.into_pass(), root.into_root(), count, taken, more);
     (NamedCond::new(pass), CondKeyRoot::new(root))
 }
 
@@ -111,6 +117,47 @@ pub(crate) struct AtOnce;
 impl BeforeSweep for AtOnce {
     #[inline(always)]
     fn run(&self) {}
+}
+
+/// Takes the first `count` threads of the condition's line, or all where they are fewer, and answers how many they were. Where the flag is
+/// clear it is one load, and locks no bucket.
+pub(crate) fn call_some<S: Scheme, N: WaitName + Send, P: Part<S, CondScheme<N>>, R: Wait>(
+    rt: &R,
+    parking: &ParkingLot<S>,
+    scheme: &CondScheme<N>,
+    pass: NamedCond<N>,
+    cond: usize,
+    count: usize,
+) -> (NamedCond<N>, usize)
+    requires cond { IsAmongConds N.locks N.conds cond }
+    requires key { cond < parking.now.keys }
+    requires serves { P.serves cond }
+    requires calm { IsCalmStanding pass }
+    requires count { IsCallCount count }
+    ensures pass { result.0 ≡ calling pass cond result.1 }
+    ensures most { result.1 ≤ count }
+{
+    let (pass, waits) = look(scheme, pass, cond);
+    if !waits {
+        return (pass, 0);
+    }
+    unpark_count::<S, CondScheme<N>, P, R, NamedCond<N>, _>(
+        rt,
+        parking,
+        cond,
+        count,
+        pass,
+        |pass: NamedCond<N>, root: CondKeyRoot<N>, taken: usize, more: bool| -> (
+            NamedCond<N>,
+            CondKeyRoot<N>,
+        )
+            requires calm { IsCalmStanding pass }
+            requires count { IsCallCount count }
+            requires told { (threads : ℕ) × TellsCount threads count root.root.own.line taken more }
+            ensures pass { result.0 ≡ calling pass root.root.key taken }
+            ensures root { result.1 ≡ with_root root (called_root root.root.own count) }
+        { call(scheme, pass, root, count, taken, more) },
+    )
 }
 
 /// Takes all threads of the condition's line, and answers how many. Where the flag is clear it is one load, and locks no bucket.

@@ -123,7 +123,7 @@ const REPLAYS: [(&str, &str, &str, &str, u8); 32] = [
         "bad script line 2\n",
         1,
     ),
-    ("too_many_threads", "open 65 1 0\n", "", "bad limits\n", 1),
+    ("too_many_threads", "open 257 1 0\n", "", "bad limits\n", 1),
     ("empty_file", "", "", "bad script line 1\n", 1),
     (
         "between_lower_and_sweep",
@@ -185,7 +185,7 @@ const REPLAYS: [(&str, &str, &str, &str, u8); 32] = [
     ("empty_line", "open 1 1 0\n\n", "", "bad script line 2\n", 1),
     (
         "bad_line_before_bad_limits",
-        "open 65 1 0\nzzz\n",
+        "open 257 1 0\nzzz\n",
         "",
         "bad script line 2\n",
         1,
@@ -280,7 +280,7 @@ const WRONG_WORDS: [(&str, &[&str]); 25] = [
         &["count", "2", "1", "1000", "7", "7"],
     ),
     ("no threads", &["count", "0", "1", "1", "0"]),
-    ("65 threads", &["count", "65", "1", "1", "0"]),
+    ("257 threads", &["count", "257", "1", "1", "0"]),
     ("no locks", &["count", "1", "0", "1", "0"]),
     ("1025 locks", &["count", "1", "1025", "1", "0"]),
     ("10001 rounds", &["count", "2", "1", "10001", "0"]),
@@ -294,7 +294,7 @@ const WRONG_WORDS: [(&str, &[&str]); 25] = [
     ),
     ("relay of one thread", &["relay", "1", "3", "1"]),
     ("relay of no threads", &["relay", "0", "3", "1"]),
-    ("relay of 65 threads", &["relay", "65", "3", "1"]),
+    ("relay of 257 threads", &["relay", "257", "3", "1"]),
     ("relay of 10001 rounds", &["relay", "2", "10001", "1"]),
     ("relay without a seed", &["relay", "2", "3"]),
     ("relay with a word too many", &["relay", "2", "3", "1", "1"]),
@@ -320,7 +320,7 @@ fn wrong_words_are_refused(rt: HostRuntime) {
     }
 }
 
-const COUNTS: [(&str, &[&str], &str); 7] = [
+const COUNTS: [(&str, &[&str], &str); 8] = [
     (
         "two threads",
         &["count", "2", "1", "1000", "7"],
@@ -352,6 +352,11 @@ const COUNTS: [(&str, &[&str], &str); 7] = [
         "lock 0 total 6400\nsum 6400\n",
     ),
     (
+        "256 threads",
+        &["count", "256", "1", "2", "9"],
+        "lock 0 total 512\nsum 512\n",
+    ),
+    (
         "three locks",
         &["count", "8", "3", "1000", "1"],
         "lock 0 total 2667\nlock 1 total 2667\nlock 2 total 2666\nsum 8000\n",
@@ -367,7 +372,7 @@ fn all_rounds_are_counted(rt: HostRuntime) {
     }
 }
 
-const RELAYS: [(&str, &[&str], &str); 6] = [
+const RELAYS: [(&str, &[&str], &str); 7] = [
     (
         "two producers and two consumers",
         &["relay", "4", "10", "3"],
@@ -398,6 +403,11 @@ const RELAYS: [(&str, &[&str], &str); 6] = [
         &["relay", "64", "500", "7"],
         "put 16000\ntaken 16000\nsum 4008000\nbalanced\n",
     ),
+    (
+        "256 threads",
+        &["relay", "256", "1", "0"],
+        "put 128\ntaken 128\nsum 128\nbalanced\n",
+    ),
 ];
 
 #[test]
@@ -416,7 +426,7 @@ fn most_threads_and_locks(rt: HostRuntime) -> Result<(), Fail> {
         writeln!(want, "lock {key} total 0")?;
     }
     want.push_str("sum 0\n")?;
-    let words = ["count", "64", "1024", "0", "18446744073709551615"];
+    let words = ["count", "256", "1024", "0", "18446744073709551615"];
     check(
         &rt,
         rt.alloc(),

@@ -47,8 +47,8 @@ const REFUSED: [(&str, &str, u8); 9] = [
     ("", "bad script line 1\n", 1),
     ("open 1 1 0", "bad script line 1\n", 1),
     ("open 1 1 0\ntry 0  0\n", "bad script line 2\n", 1),
-    ("open 65 1 0\nzzz\n", "bad script line 2\n", 1),
-    ("open 65 1 0\n", "bad limits\n", 1),
+    ("open 257 1 0\nzzz\n", "bad script line 2\n", 1),
+    ("open 257 1 0\n", "bad limits\n", 1),
     ("open 64 1 0 1 2\ntry 64 0\n", "event 1 refused\n", 2),
     ("open 1 1 0\nfree 0 0\n", "event 1 refused\n", 2),
     (

@@ -111,7 +111,7 @@ fn the_first_bad_line_is_named(rt: HostRuntime) {
         ("open 1 1 0\npass 0 0 2 0\n", 2),
         ("open 1 1 1\nsome 0 1 1\n", 2),
         ("open 1 1 1\ncall 0 1 1 1\n", 2),
-        ("open 65 1 0\nzzz\n", 2),
+        ("open 257 1 0\nzzz\n", 2),
     ] {
         let fault = parse_script(rt.alloc(), text).err();
         assert_eq!(rt; fault, Some(ScriptFault::BadLine(line)), "{text:?}");

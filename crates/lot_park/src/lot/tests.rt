@@ -5,7 +5,8 @@ ghost use Rattle.lot_park.specs.Lots.{AreIdle};
 use super::{Parked, ParkingLot};
 use crate::letters::{
     ASKINGS, EARLY, Letters, Pass, QUIET_ASKINGS, Right, THREADS, Told, has_length_within,
-    idle_right, is_told_within, joined, no_letters, note, nothing_told, passed, passed_all, taken,
+    idle_right, is_told_within, joined, no_letters, note, nothing_told, passed, passed_all,
+    passed_first, taken,
 };
 use crate::scheme::Token;
 use lot_bucket::Dequeued;
@@ -101,6 +102,27 @@ fn unpark_all<R: Wait + Abort>(rt: &R, lot: &ParkingLot<Letters>, key: usize) ->
         { (x, passed_all(rt, root)) },
     );
     count
+}
+
+// How many of the line it took, and whether more may wait.
+fn unpark_first<R: Wait + Abort>(
+    rt: &R,
+    lot: &ParkingLot<Letters>,
+    key: usize,
+    count: usize,
+) -> (usize, bool)
+    requires { key < lot.now.keys }
+{
+    let (more, taken) = lot.unpark_count(
+        rt,
+        key,
+        count,
+        false,
+        |_more: bool, root: Right, _taken: usize, more: bool| -> (bool, Right)
+            requires clear { root.owes.items ≡ [] }
+        { (more, passed_first(rt, root, count)) },
+    );
+    (taken, more)
 }
 
 // The roots come back in key order.
@@ -340,6 +362,45 @@ fn a_whole_line_is_unparked(rt: HostRuntime) {
     let lot = open(&rt, rt.alloc());
     let told = nothing_told();
     unparks_all_of_a_key(&rt, &lot, &told);
+    close(&rt, rt.alloc(), lot);
+}
+
+fn unparks_the_first_of_three<R: Threads + Wait + Abort + Sync>(
+    rt: &R,
+    lot: &ParkingLot<Letters>,
+    told: &Told,
+)
+    requires { (lot.now.threads ≡ THREADS) × (lot.now.keys ≡ KEYS) }
+{
+    thread::scope(
+        thread::scope_env(),
+        rt,
+        |scope|
+            requires { (lot.now.threads ≡ THREADS) × (lot.now.keys ≡ KEYS) }
+        {
+            for thread in 0..THREADS {
+                let sleeper = move ||
+                    requires { (lot.now.threads ≡ THREADS) × (lot.now.keys ≡ KEYS) × (thread < THREADS) }
+                { sleep(rt, lot, thread, 1, told) };
+                assert!(rt; scope.spawn(sleeper).is_ok());
+                assert!(rt; has_length_within(rt, lot, 1, thread + 1));
+            }
+            assert_eq!(rt; unpark_first(rt, lot, 1, 0), (0, false));
+            assert_eq!(rt; unpark_first(rt, lot, 1, 2), (2, true));
+            assert!(rt; is_told_within(told, 0, 0, ASKINGS));
+            assert!(rt; is_told_within(told, 1, 0, ASKINGS));
+            assert!(rt; !is_told_within(told, 2, 0, QUIET_ASKINGS));
+            assert_eq!(rt; unpark_first(rt, lot, 1, 5), (1, false));
+            assert_eq!(rt; unpark_first(rt, lot, 1, 1), (0, false));
+        },
+    );
+}
+
+#[test]
+fn the_first_of_a_line_are_unparked(rt: HostRuntime) {
+    let lot = open(&rt, rt.alloc());
+    let told = nothing_told();
+    unparks_the_first_of_three(&rt, &lot, &told);
     close(&rt, rt.alloc(), lot);
 }
 

@@ -83,14 +83,16 @@ fn end<R: Wait + Abort>(rt: &R, alloc: Global, table: Table<Right>)
 }
 
 // Each with what becomes of the table, once the threads before have come one by one.
-static GROWTHS: [(usize, Grown); 7] = [
+static GROWTHS: [(usize, Grown); 9] = [
     (1, Grown::Kept(3)),
     (2, Grown::Grew(3, 12)),
     (5, Grown::Grew(12, 30)),
     (11, Grown::Grew(30, 66)),
     (23, Grown::Grew(66, 138)),
     (47, Grown::Grew(138, 282)),
-    (MOST_THREADS, Grown::Kept(282)),
+    (95, Grown::Grew(282, 570)),
+    (191, Grown::Grew(570, 1146)),
+    (MOST_THREADS, Grown::Kept(1146)),
 ];
 
 fn expect_growth(rt: &impl Abort, threads: usize, grown: Grown, size: usize) {

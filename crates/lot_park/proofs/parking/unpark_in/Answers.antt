@@ -3,7 +3,7 @@ use Rattle.lot_bucket.specs.Contents.{Contents}
 use Rattle.lot_bucket.specs.Places.{with_root}
 use Rattle.lot_bucket.specs.Agrees.{IsRootOf}
 use Rattle.lot_park.specs.Parking.{Tells}
-use Rattle.lot_park.proofs.Under.{own_root, tells, unparked_stays, place_has, place_empty}
+use Rattle.lot_park.proofs.Under.{own_root, tells, one_unparked_stays, place_has, place_empty}
 use Rattle.lot_park.proofs.parking.unpark_in.Given.{Over}
 use Rattle.lot_park.proofs.parking.unpark_in.Goals.{After-dequeue_one-told}
 use Rattle.lot_park.proofs.parking.unpark_in.Goals as goal
@@ -40,7 +40,7 @@ pub returns-clause-stays : goal.returns-clause-stays
 returns-clause-stays g c =
     let at = (goal.at.returns-clause-stays g c).After-dequeue_one-told in
     let kept = c.requires.keeps c.take_root-root.result c.dequeue_one-told.result c.callback-x.result (own g at).named (own g at).paid (told g at) c.callback-x.ensures in
-    unparked_stays g.S.Root.Root.key g.S.Root.Root.line g.S.Root.Root.owes c.args.key c.args.moment c.args.bucket.now c.take_root-root.new.self c.dequeue_one-told.new.self c.put_root.new.self
+    one_unparked_stays g.S.Root.Root.key g.S.Root.Root.line g.S.Root.Root.owes c.args.key c.args.moment c.args.bucket.now c.take_root-root.new.self c.dequeue_one-told.new.self c.put_root.new.self
     c.take_root-root.result c.pay-root.result c.dequeue_one-told.result c.requires.ready c.take_root-root.ensures.root c.take_root-root.ensures.left c.dequeue_one-told.ensures c.put_root.ensures
     (c.pay-root.ensures.key ∙ kept.0) (c.pay-root.ensures.line ∙ kept.1) c.pay-root.ensures.paid
 

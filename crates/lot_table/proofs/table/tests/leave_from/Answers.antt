@@ -7,7 +7,7 @@ use Rattle.lot_bucket.specs.Settled.{IsReady, Stays}
 use Rattle.lot_bucket.specs.Taking.{TakesOne}
 use Rattle.lot_bucket.specs.declared.taking.Moment.{Moment}
 use Rattle.lot_bucket.specs.declared.taking.Dequeued.{Dequeued}
-use Rattle.lot_bucket.proofs.Laws.{line_of-without_first_same, line_of-without_first_other, has_key-with, root_at-with_same, root_taken}
+use Rattle.lot_bucket.proofs.Laws.{line_of-without_count_same, line_of-without_count_other, has_key-with, root_at-with_same, root_taken}
 use Rattle.lot_table.proofs.Lending.{back_stays}
 use Rattle.lot_table.specs.declared.table.tests.Right.{Right}
 use Rattle.lot_table.proofs.table.tests.leave_from.Goals as goal
@@ -28,10 +28,10 @@ left_stays {R} key line owes k threads keys moment before out taken after told r
     let own = root_taken key line owes before k root ready.agrees ready.is_open ready.has at in
     let fits : IsRootOf key line owes k after.queue back = record {
       named = named ∙ own.named;
-      same_line = shorter ∙ ap (λ xs. drop 1 xs) own.same_line ∙ sym (line_of-without_first_same k before.queue) ∙ sym (ap (λ q. line_of k q) queue);
+      same_line = shorter ∙ ap (λ xs. drop 1 xs) own.same_line ∙ sym (line_of-without_count_same 1 k before.queue) ∙ sym (ap (λ q. line_of k q) queue);
       paid = paid;
     } in
-    back_stays key line owes k threads keys before after back ready places opened room (λ j other. ap (λ q. line_of j q) queue ∙ line_of-without_first_other j k before.queue other) fits
+    back_stays key line owes k threads keys before after back ready places opened room (λ j other. ap (λ q. line_of j q) queue ∙ line_of-without_count_other j 1 k before.queue other) fits
 
 pub put_root-requires-clause-has : goal.put_root-requires-clause-has
 put_root-requires-clause-has c =

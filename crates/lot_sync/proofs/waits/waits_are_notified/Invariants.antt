@@ -1,5 +1,5 @@
 use Rattle.std.proofs.Common.{length}
-use Rattle.lot_sync.proofs.waits.three_waits_are_notified.Given as goal
+use Rattle.lot_sync.proofs.waits.waits_are_notified.Given as goal
 
 abbrev pub ghosts-play-N-Name : goal.ghosts-play-N-Name
 ghosts-play-N-Name g a = record { opening = record { locks = a.opened.table; conds = a.opened.conds_table; sems = a.opened.table } }

@@ -1,5 +1,5 @@
 use Rattle.std.proofs.Common.{ap}
-use Rattle.lot_park.proofs.parts.call_back_all.Goals as goal
+use Rattle.lot_park.proofs.parts.call_back_count.Goals as goal
 
 pub returns : goal.returns
 returns g c =

@@ -1,0 +1,7 @@
+use Rattle.lot_park.proofs.All.{unparked_all}
+use Rattle.lot_park.proofs.lot.ParkingLot.unpark_all.Goals as goal
+
+pub returns : goal.returns
+returns g c =
+    unparked_all g.S.Root.Root.key g.S.Root.Root.line g.S.Root.Root.owes c.args.self.now.threads c.args.key c.threads.result (goal.F-post g c.args.f c.args.x) c.unpark_count.result
+    c.threads.ensures c.unpark_count.ensures
