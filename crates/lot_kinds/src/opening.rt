@@ -46,7 +46,7 @@ impl OpenedKinds {
     ) -> Result<OpenedKinds, WordsFault>
         requires limits { (0 < threads) × (threads ≤ MAX_THREADS) × (0 < locks) × (locks + conds + length permits.now ≤ MAX_KEYS) }
         ensures conds { IfOk result (λ o. (o.conds.threads ≡ threads) × (o.conds.locks ≡ locks) × (o.conds.conds ≡ conds)) }
-        ensures sems { IfOk result (λ o. (o.sems.threads ≡ threads) × (o.sems.permits ≡ permits.now)) }
+        ensures sems { IfOk result (λ o. (o.sems.threads ≡ threads) × (o.sems.low ≡ locks + conds) × (o.sems.permits ≡ permits.now)) }
     {
         let conditions = OpenedConds::open(alloc, threads, locks, conds)?;
         match open_sems(alloc, threads, locks + conds, permits) {

@@ -1,6 +1,6 @@
 //! What a thread has beside the locks: its rights on conditions and on semaphores.
 ghost use Rattle.std.specs.Prelude.{◌≡◌, ℕ, ◌+◌, length};
-ghost use Rattle.lot_kinds.specs.Rights.{joined, AreOfOne, counts_of, permits_of};
+ghost use Rattle.lot_kinds.specs.Rights.{IsWide, joined, AreOfOne, counts_of, permits_of};
 
 use lot_permits::{PermitName, Seeker};
 use lot_waits::{WaitName, Waiter};
@@ -31,6 +31,15 @@ impl<N: WaitName + PermitName> Rights<N> {
         ensures { result ≡ joined waiter seeker }
     {
         Rights { waiter, seeker }
+    }
+
+    /// The number of the thread.
+    #[inline(always)]
+    pub fn thread(&self) -> usize
+        ensures thread { result ≡ self.now.thread }
+        ensures wide { IsWide (N.locks + N.conds) (N.low + length N.permits) self.now }
+    {
+        self.waiter.thread()
     }
 
     /// The right on conditions and the right on semaphores.

@@ -14,9 +14,11 @@ use Rattle.lot_words.specs.declared.views.Place.TheVariants.{InSlot, Out}
 use Rattle.lot_words.specs.World.{IsHeld, IsFound, Holds}
 use Rattle.lot_words.specs.Values.{IsOut, IsIn, HasSeen, FoundOk, MayLeave}
 use Rattle.lot_waits.specs.Counts.{CountsView, woke}
+use Rattle.lot_permits.specs.Permits.{PermitsView}
+use Rattle.lot_kinds.specs.Rights.{RightsView, joined}
 use Rattle.lot_sync.specs.Lot.{PassView, HeldView, Owns, leaving, waking}
 use Rattle.lot_sync.specs.Values.{Gets, MayGiveBack}
-use Rattle.lot_sync.specs.Passes.{Standing, is_held, sees, putting, IsAtRest, AreCounts, IsNewOwner, IsOwner, IsTryingFor, IsFoundParked, LetsGo, MayLetGo, MayPass}
+use Rattle.lot_sync.specs.Passes.{Standing, is_held, sees, putting, IsAtRest, AreRightsOf, IsNewOwner, IsOwner, IsTryingFor, IsFoundParked, LetsGo, MayLetGo, MayPass}
 
 -- ---- holds
 pub held_here : (hs : List Hold) (l : ℕ) → l < length hs → IsHeld (get_or (set hs l Held) l NotHeld)
@@ -98,28 +100,30 @@ module _ {V : Type 0} where
   )
 
   -- what the callers of an unlock see
-  pub leaves_all : (q : CountsView) (before after : Standing V) (key : ℕ) (value : V) → IsIn before.own key value → LetsGo before key after → sees q after ≡ leaving (sees q before) key value
+  pub leaves_all : (q : RightsView) (before after : Standing V) (key : ℕ) (value : V) → IsIn before.own key value → LetsGo before key after → sees q after ≡ leaving (sees q before) key value
   leaves_all q before after key value lies went = λ i. record {
     thread = went.thread i;
     owns = (ap (map is_held) went.holds ∙ map-set is_held before.own.holds key NotHeld) i;
     seen = went.seen value lies i;
     called = q.called;
     woken = q.woken;
+    permits = q.permits;
   }
 
   -- what the callers of an unlock see that found the lock parked
-  pub stays_all : (q : CountsView) (before mid after : Standing V) (key : ℕ) → Holds before.own key → IsFoundParked before key mid → after ≡ putting mid key Out → sees q after ≡ sees q before
+  pub stays_all : (q : RightsView) (before mid after : Standing V) (key : ℕ) → Holds before.own key → IsFoundParked before key mid → after ≡ putting mid key Out → sees q after ≡ sees q before
   stays_all q before mid after key holds found moved = ap (sees q) moved ∙ (λ i. record {
     thread = found.thread i;
     owns = (ap (map is_held) found.holds ∙ owned_parked before.own.holds key holds) i;
     seen = found.seen i;
     called = q.called;
     woken = q.woken;
+    permits = q.permits;
   })
 
 module _ {V : Type 0} (grows : V → V → Type 0) (opening : List V) (threads : ℕ) where
   -- an owned lock is one of the lot
-  pub owned_within : (q : CountsView) (r : Standing V) (key : ℕ) → IsAtRest grows opening threads r → Owns (sees q r) key → key < length opening
+  pub owned_within : (q : RightsView) (r : Standing V) (key : ℕ) → IsAtRest grows opening threads r → Owns (sees q r) key → key < length opening
   owned_within q r key rest owns = subst (λ n. key < n) rest.holds_long (held_near r.own.holds key (owned_held r.own.holds key owns))
 
   -- the new owner took the value out
@@ -169,7 +173,7 @@ module _ {V : Type 0} (grows : V → V → Type 0) (opening : List V) (threads :
           seen_at k e = reads before.own.seen key (let w = own.seen_long in omega (arith, w))
 
   -- the value was put back into the slot
-  pub owns_again : (q : CountsView) (before after : Standing V) (key : ℕ) (value : V) → key < length opening → IsAtRest grows opening threads before → Owns (sees q before) key
+  pub owns_again : (q : RightsView) (before after : Standing V) (key : ℕ) (value : V) → key < length opening → IsAtRest grows opening threads before → Owns (sees q before) key
       → after ≡ putting before key (InSlot value) → IsNewOwner grows opening threads after key
   owns_again q before after key value near rest owns moved = subst (λ (r : Standing V). IsNewOwner grows opening threads r key) (sym moved) (record {
     is_thread = rest.is_thread;
@@ -229,7 +233,7 @@ module _ {V Part : Type 0} (keeps : ℕ → V → Type 0) (grows : V → V → T
           (at_set before.own.seen key l own.value v s)
 
   -- what the callers of lock see
-  pub gets_all : (q : CountsView) (opening : List V) (threads : ℕ) (before after : Standing V) (held : HeldView V) (key : ℕ) → key < length opening → IsAtRest grows opening threads before
+  pub gets_all : (q : RightsView) (opening : List V) (threads : ℕ) (before after : Standing V) (held : HeldView V) (key : ℕ) → key < length opening → IsAtRest grows opening threads before
       → IsOwner keeps grows part before key after → held.key ≡ key → IsIn after.own key held.value → Gets keeps grows part (sees q before) key held (sees q after)
   gets_all q opening threads before after held key near rest own key_is lies = record {
     key_is = key_is;
@@ -242,6 +246,7 @@ module _ {V Part : Type 0} (keeps : ℕ → V → Type 0) (grows : V → V → T
       seen = (own.seen ∙ ap (set before.own.seen key) same) i;
       called = q.called;
       woken = q.woken;
+      permits = q.permits;
     };
     owns = held_owned after.own.holds key (subst (λ hs. IsHeld (get_or hs key NotHeld)) (sym own.holds) (held_here before.own.holds key (let w = rest.holds_long in omega (arith, w))));
     seen = subst (λ vs. get_elem? vs key ≡ some held.value) (sym (own.seen ∙ ap (set before.own.seen key) same)) (set_here before.own.seen key held.value (let w = rest.seen_long in omega (arith, w)));
@@ -272,20 +277,20 @@ module _ {V Part : Type 0} (keeps : ℕ → V → Type 0) (grows : V → V → T
   gets_as before after before' after' key held e f gets = subst (λ p. Gets keeps grows part p key held after) (sym e) (subst (λ p. Gets keeps grows part before' key held p) (sym f) gets)
 
   -- what may be given back may be left
-  pub may_leave : (q : CountsView) (grown : V → V → Type 0) (opening : List V) (threads : ℕ) (before : Standing V) (held : HeldView V) (key : ℕ) → held.key ≡ key → key < length opening
+  pub may_leave : (q : RightsView) (grown : V → V → Type 0) (opening : List V) (threads : ℕ) (before : Standing V) (held : HeldView V) (key : ℕ) → held.key ≡ key → key < length opening
       → IsAtRest grown opening threads before → MayGiveBack keeps grows part (sees q before) held
       → (x : V) × HasSeen before.own key x × MayLeave keeps grows part key before.thread x held.value
   may_leave q grown opening threads before held key same near rest back = let had = reads before.own.seen key (let w = rest.seen_long in omega (arith, w)) in
       let seen = subst (λ k. HasSeen before.own k had.0) (sym same) had.1 in
       (had.0, had.1, record { kept = subst (λ k. keeps k held.value) same back.kept; grown = back.grown had.0 seen; others = λ u else. back.others had.0 u seen else })
 
--- the counts go on being those of the thread
-pub counts_on : (keys : ℕ) (t u : ℕ) (q : CountsView) → u ≡ t → AreCounts keys t q → AreCounts keys u q
-counts_on keys t u q same counts = record { same_thread = counts.same_thread ∙ sym same; called_long = counts.called_long; woken_long = counts.woken_long }
+-- the rights go on being the thread's
+pub own_on : (t u : ℕ) (q : RightsView) → u ≡ t → AreRightsOf t q → AreRightsOf u q
+own_on t u q same own = own ∙ sym same
 
 -- the lock was let go, and one wait more on the condition has ended
-pub leaves_woken : {V : Type 0} (pass seen : PassView V) (w q : CountsView) (before after : Standing V) (key named cond : ℕ) (value : V) → seen ≡ sees q after → q ≡ woke w cond → IsIn before.own key value → LetsGo before key after
-    → sees w before ≡ pass → key ≡ named → seen ≡ waking (leaving pass named value) cond
-leaves_woken pass seen w q before after key named cond value e counts lies went same is =
-    e ∙ (ap (λ c. sees c after) counts ∙ (leaves_all (woke w cond) before after key value lies went
-    ∙ (ap (λ p. waking (leaving p key value) cond) same ∙ ap (λ k. waking (leaving pass k value) cond) is)))
+pub leaves_woken : {V : Type 0} (pass seen : PassView V) (w q : CountsView) (p : PermitsView) (before after : Standing V) (key named cond : ℕ) (value : V) → seen ≡ sees (joined q p) after → q ≡ woke w cond → IsIn before.own key value
+    → LetsGo before key after → sees (joined w p) before ≡ pass → key ≡ named → seen ≡ waking (leaving pass named value) cond
+leaves_woken pass seen w q p before after key named cond value e counts lies went same is =
+    e ∙ (ap (λ c. sees (joined c p) after) counts ∙ (leaves_all (joined (woke w cond) p) before after key value lies went
+    ∙ (ap (λ x. waking (leaving x key value) cond) same ∙ ap (λ k. waking (leaving pass k value) cond) is)))

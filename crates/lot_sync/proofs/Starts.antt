@@ -1,5 +1,5 @@
 -- The rights of an opening, and the values that come back when nobody got a lock.
-use Rattle.std.proofs.Common.{◌≡◌, ℕ, ◌+◌, ◌<◌, ◌++◌, List, [], ◌∷◌, map, zero, suc, length, get_or, replicate, slice_get, Some, None, refl, sym, ap, subst, ◌∙◌, inl, inr, arith}
+use Rattle.std.proofs.Common.{◌≡◌, ℕ, ◌+◌, ◌<◌, ◌++◌, List, [], ◌∷◌, map, zero, suc, length, get_or, replicate, slice_get, slice_index, Some, None, refl, sym, ap, subst, ◌∙◌, inl, inr, arith}
 use Rattle.std.proofs.lemmas.List.{length-replicate, length-map}
 use mathlib.Core.Option.{some, some-injective}
 use lib.ListN.{get_elem?}
@@ -17,41 +17,22 @@ use Rattle.lot_words.specs.World.{IsHeld}
 use Rattle.lot_words.specs.Values.{HasSeen}
 use Rattle.lot_words.specs.Closing.{HoldsNone}
 use Rattle.lot_sync.specs.Passes.{IsFresh}
-use Rattle.lot_conds.specs.declared.views.CondRootView.{CondRootView}
 use Rattle.lot_park.specs.declared.parts.both.OneOf.{OneOf}
 use Rattle.lot_park.specs.declared.parts.both.OneOf.TheVariants.{First, Second}
-use Rattle.lot_park.specs.Parking.{debts}
-use Rattle.lot_waits.specs.Counts.{CountsView, uncounted}
-use Rattle.lot_waits.specs.Opening.{IsIdleRoot}
+use Rattle.lot_kinds.specs.Rights.{RightsView, unused}
+use Rattle.lot_kinds.specs.Rights.{HoldsNone as HoldsNoPermit}
+use Rattle.lot_kinds.specs.Opening.{KindRootShown}
+use Rattle.lot_kinds.specs.Opening.{IsIdleAt as IsIdleKind}
 use Rattle.lot_sync.specs.Opened.{AreUnused, IsOpened}
-use Rattle.lot_sync.specs.Passes.{AreCounts, debts_of}
+use Rattle.lot_sync.specs.Passes.{debts_of}
 use Rattle.lot_sync.specs.Starting.{ArePaired, IsFreeRoot, IsIdleAt}
-use Rattle.lot_sync.proofs.Places.{at_both, at_mapped}
-use Rattle.lot_sync.proofs.Turns.{some_at}
-
-some_one : {A : Type 0} (x y : A) → Some x ≡ Some y → x ≡ y
-some_one x y e = cc
+use Rattle.lot_kinds.proofs.Places.{at_both, at_mapped}
+use Rattle.lot_waits.proofs.Turns.{some_at, some_one, stands_at, all_by_place, some_by_place}
 
 none_some : {A : Type 0} (x : A) → None ≡ Some x → ⊥
 none_some x e = cc
 
--- ---- lists whose elements are known by their places
 module _ {A : Type 0} where
-  -- what stands at i is f i
-  pub stands_at : (f : ℕ → A) (xs : List A) → ((k : ℕ) → k < length xs → slice_get xs k ≡ Some (f k)) → (i : ℕ) (x : A) → slice_get xs i ≡ Some x → (i < length xs) × (x ≡ f i)
-  stands_at f [] are i x at = absurd (none_some x at)
-  stands_at f (y ∷ xs) are zero x at = (omega arith, some_one x (f zero) (sym at ∙ are zero (omega arith)))
-  stands_at f (y ∷ xs) are (suc i) x at = let r = stands_at (λ k. f (suc k)) xs (λ k near. are (suc k) (omega arith)) i x at in (omega (arith, r.0), r.1)
-
-  pub all_by_place : (P : A → Type 0) (f : ℕ → A) (xs : List A) → ((k : ℕ) → k < length xs → slice_get xs k ≡ Some (f k)) → ((k : ℕ) → k < length xs → P (f k)) → All P xs
-  all_by_place P f [] are holds = All-nil P
-  all_by_place P f (x ∷ xs) are holds = All-cons P x xs
-      (subst P (sym (some_one x (f zero) (are zero (omega arith)))) (holds zero (omega arith)))
-      (all_by_place P (λ k. f (suc k)) xs (λ k near. are (suc k) (omega arith)) (λ k near. holds (suc k) (omega arith)))
-
-  pub some_by_place : (P : A → Type 0) (f : ℕ → A) (xs : List A) → ((k : ℕ) → k < length xs → slice_get xs k ≡ Some (f k)) → (i : ℕ) → i < length xs → P (f i) → Any P xs
-  some_by_place P f xs are i near holds = some_at P xs i near (λ x at. subst P (sym (stands_at f xs are i x at).1) holds)
-
   -- two lists of one length whose elements agree
   pub same_by_place : (xs ys : List A) → length xs ≡ length ys → ((i : ℕ) (x : A) → slice_get xs i ≡ Some x → get_elem? ys i ≡ some x) → xs ≡ ys
   same_by_place [] [] e same = refl
@@ -66,7 +47,7 @@ unheld (suc m) zero is = is
 unheld (suc m) (suc l) is = unheld m l is
 
 module _ {V : Type 0} (grows : V → V → Type 0) (itself : (x : V) → grows x x) (values : List V) (threads : ℕ) (words : LockWordsShown) (passes : List (PassShown (LockPassView V)))
-    (unused : AreUnused values threads words passes) where
+    (unused_passes : AreUnused values threads words passes) where
   fresh_at : (t : ℕ) → t < threads → IsFresh grows words.table values threads (pass_at words.table values t)
   fresh_at t near = record {
     is_of = refl;
@@ -84,10 +65,10 @@ module _ {V : Type 0} (grows : V → V → Type 0) (itself : (x : V) → grows x
   }
 
   passes_at : (t : ℕ) → t < length passes → slice_get passes t ≡ Some (pass_at words.table values t)
-  passes_at t near = unused.passes_are t (subst (λ n. t < n) unused.passes_long near)
+  passes_at t near = unused_passes.passes_are t (subst (λ n. t < n) unused_passes.passes_long near)
 
   pub passes_fresh : All (IsFresh grows words.table values threads) passes
-  passes_fresh = all_by_place (IsFresh grows words.table values threads) (pass_at words.table values) passes passes_at (λ t near. fresh_at t (subst (λ n. t < n) unused.passes_long near))
+  passes_fresh = all_by_place (IsFresh grows words.table values threads) (pass_at words.table values) passes passes_at (λ t near. fresh_at t (subst (λ n. t < n) unused_passes.passes_long near))
 
   pub passes_own : All (λ (p : PassShown (LockPassView V)). p.table ≡ words.table) passes
   passes_own = All-weaker (IsFresh grows words.table values threads) (λ (p : PassShown (LockPassView V)). p.table ≡ words.table) (λ p f. f.is_of) passes passes_fresh
@@ -97,28 +78,24 @@ module _ {V : Type 0} (grows : V → V → Type 0) (itself : (x : V) → grows x
 
   pub each_thread : (t : ℕ) → t < words.size.threads → Any (λ (p : PassShown (LockPassView V)). p.pass.thread ≡ t) passes
   each_thread t near = some_by_place (λ (p : PassShown (LockPassView V)). p.pass.thread ≡ t) (pass_at words.table values) passes passes_at t
-      (subst (λ n. t < n) (unused.words_threads ∙ sym unused.passes_long) near) refl
+      (subst (λ n. t < n) (unused_passes.words_threads ∙ sym unused_passes.passes_long) near) refl
 
   pub values_back : (back : List V) → length back ≡ words.size.locks
       → ((l : ℕ) (y : V) → slice_get back l ≡ Some y → Any (λ (p : PassShown (LockPassView V)). HasSeen p.pass.own l y) passes) → back ≡ values
-  values_back back long left = same_by_place back values (long ∙ unused.words_locks) (λ l y at.
+  values_back back long left = same_by_place back values (long ∙ unused_passes.words_locks) (λ l y at.
       let saw = any_all (λ (p : PassShown (LockPassView V)). HasSeen p.pass.own l y) (λ (p : PassShown (LockPassView V)). p.pass.own.seen ≡ values) passes (left l y at) seen_all in
       subst (λ xs. get_elem? xs l ≡ some y) saw.2 saw.1)
     where
       seen_all : All (λ (p : PassShown (LockPassView V)). p.pass.own.seen ≡ values) passes
       seen_all = all_by_place (λ (p : PassShown (LockPassView V)). p.pass.own.seen ≡ values) (pass_at words.table values) passes passes_at (λ t near. refl)
 
-  -- the passes, and waiters that have counted nothing, each at the place of its thread
-  pub passes_paired : (keys n : ℕ) (waiters : List CountsView) → n ≡ threads → ((t : ℕ) → t < n → slice_get waiters t ≡ Some (uncounted keys t)) → ArePaired keys passes waiters
-  passes_paired keys n waiters same are i p q at here =
+  -- the passes, and rights that are not used yet, each at the place of its thread
+  pub passes_paired : (counted held n : ℕ) (rights : List RightsView) → n ≡ threads → ((t : ℕ) → t < n → slice_get rights t ≡ Some (unused counted held t)) → ArePaired passes rights
+  passes_paired counted held n rights same are i p q at here =
       let found = stands_at (pass_at words.table values) passes passes_at i p at in
-      let near : i < n = subst (λ m. i < m) (unused.passes_long ∙ sym same) found.0 in
-      let is : q ≡ uncounted keys i = some_one q (uncounted keys i) (sym here ∙ are i near) in
-      record {
-        same_thread = ap (λ (c : CountsView). c.thread) is ∙ sym (ap (λ (r : PassShown (LockPassView V)). r.pass.thread) found.1);
-        called_long = ap (λ (c : CountsView). length c.called) is ∙ length-replicate keys 0;
-        woken_long = ap (λ (c : CountsView). length c.woken) is ∙ length-replicate keys 0;
-      }
+      let near : i < n = subst (λ m. i < m) (unused_passes.passes_long ∙ sym same) found.0 in
+      let is : q ≡ unused counted held i = some_one q (unused counted held i) (sym here ∙ are i near) in
+      ap (λ (r : RightsView). r.thread) is ∙ sym (ap (λ (r : PassShown (LockPassView V)). r.pass.thread) found.1)
 
 -- the same under the names of the lot
 pub fresh_named : {V : Type 0} (grows : V → V → Type 0) (table table' : TableId) (values values' : List V) (threads threads' : ℕ) (passes : List (PassShown (LockPassView V))) → table ≡ table' → values ≡ values' → threads ≡ threads'
@@ -150,13 +127,22 @@ module _ {V : Type 0} (values : List V) (threads : ℕ) (words : LockWordsShown)
   pub roots_idle : (i : ℕ) (r : RootShown LockRootView) → slice_get roots i ≡ Some r → (r.root.key ≡ i) × (r.root.own.line ≡ []) × (r.root.own.owes ≡ None)
   roots_idle i r at = let e = root_is i r at in (ap (λ (q : RootShown LockRootView). q.root.key) e, ap (λ (q : RootShown LockRootView). q.root.own.line) e, ap (λ (q : RootShown LockRootView). q.root.own.owes) e)
 
--- the roots of both tables are idle, as the parking lot asks
-pub idle_all : (locks : ℕ) (ls : List (RootShown LockRootView)) (cs : List (RootShown CondRootView)) → length ls ≡ locks
+-- the roots of all tables are idle, as the parking lot asks
+pub idle_all : (locks : ℕ) (ls : List (RootShown LockRootView)) (ks : List KindRootShown) → length ls ≡ locks
     → ((i : ℕ) (r : RootShown LockRootView) → slice_get ls i ≡ Some r → (r.root.key ≡ i) × (r.root.own.line ≡ []) × (r.root.own.owes ≡ None))
-    → ((i : ℕ) (r : RootShown CondRootView) → slice_get cs i ≡ Some r → IsIdleRoot (locks + i) r)
-    → (i : ℕ) (root : OneOf (RootShown LockRootView) (RootShown CondRootView)) → slice_get (map First ls ++ map Second cs) i ≡ Some root → IsIdleAt i root
-idle_all locks ls cs long first second =
-    at_both IsIdleAt (map First ls) (map Second cs)
+    → ((i : ℕ) (r : KindRootShown) → slice_get ks i ≡ Some r → IsIdleKind (locks + i) r)
+    → (i : ℕ) (root : OneOf (RootShown LockRootView) KindRootShown) → slice_get (map First ls ++ map Second ks) i ≡ Some root → IsIdleAt i root
+idle_all locks ls ks long first second =
+    at_both IsIdleAt (map First ls) (map Second ks)
     (at_mapped First IsIdleAt ls (λ i r at. let e = first i r at in record { named = e.0; empty = e.1; paid = ap debts_of e.2 }))
     (λ i root at. subst (λ n. IsIdleAt (n + i) root) (sym (length-map ls First ∙ long))
-    (at_mapped Second (λ n. IsIdleAt (locks + n)) cs (λ n r h. let e = second n r h in record { named = e.named; empty = e.empty; paid = ap debts e.paid }) i root at))
+    (at_mapped Second (λ n. IsIdleAt (locks + n)) ks (λ n r h. let e = second n r h in record { named = e.named; empty = e.empty; paid = e.paid }) i root at))
+
+-- rights that are not used yet hold no permit
+zero_at : (n k : ℕ) → slice_index (replicate {A = ℕ} n 0) k ≡ 0
+zero_at zero k = refl
+zero_at (suc n) zero = refl
+zero_at (suc n) (suc k) = zero_at n k
+
+pub none_held : (counted held n : ℕ) (rights : List RightsView) → length rights ≡ n → ((t : ℕ) → t < n → slice_get rights t ≡ Some (unused counted held t)) → All HoldsNoPermit rights
+none_held counted held n rights long are = all_by_place HoldsNoPermit (unused counted held) rights (λ k near. are k (subst (λ m. k < m) long near)) (λ k near i. zero_at held i)

@@ -45,6 +45,7 @@ pub record IsOpened {V : Type 0} (values : List V) (threads : ℕ) (words : Lock
 pub record HasKinds {V : Type 0} (values : List V) (threads : ℕ) (kinds : OpenedKindsView) : Type 0 where
   pub same_threads : kinds.conds.threads ≡ threads
   pub after_locks : kinds.conds.locks ≡ length values
+  pub follow : kinds.sems.low ≡ kinds.conds.locks + kinds.conds.conds
   pub few_keys : length values + kinds.conds.conds + length kinds.sems.permits ≤ MAX_KEYS
 
 -- the name is that of this opening

@@ -81,7 +81,7 @@ impl<V: Keeps + Send, N: LotName<V> + Send> Lot<V, N> {
             cond,
             count,
         );
-        (self.at_rest(right, waiter), some)
+        (self.at_rest(right, Rights::new(waiter, seeker)), some)
     }
 
     /// Takes all threads of the condition's line, and answers how many. Where nobody waits it is one load, and no bucket is locked.

@@ -3,11 +3,10 @@ use Rattle.std.proofs.lemmas.List.{map-append}
 use Rattle.std.specs.List.{All}
 use Rattle.std.proofs.lemmas.List.Elements.{All-push}
 use Rattle.lot_rights.proofs.Gathers.{all_popped}
-use Rattle.lot_waits.specs.Counts.{CountsView}
-use Rattle.lot_sync.specs.Lot.{PassView, Owns, OwnsNone, counts_of}
+use Rattle.lot_sync.specs.Lot.{PassView, Owns, OwnsNone, rights_of}
 use Rattle.lot_sync.specs.Passes.{sees, seen_as, lock_side, IsFree}
 use Rattle.lot_sync.proofs.Rests.{held_owned}
-use Rattle.lot_sync.proofs.Turns.{moves_on, all_turned, map_turned, no_elements}
+use Rattle.lot_waits.proofs.Turns.{moves_on, all_turned, map_turned, no_elements}
 use Rattle.lot_sync.proofs.closing.gather.Goals as goal
 
 pub loop-pass-preserved : goal.loop-pass-preserved
@@ -22,16 +21,16 @@ loop-pass-preserved g c =
           (ap (map seen_as) c.push_reserved.ensures.items ∙ (map-append seen_as c.loop-pass.rights.items (c.into_pass.result ∷ []) ∙ ap (λ p. map seen_as c.loop-pass.rights.items ++ p ∷ []) (sym (ap lock_side same))))
           ∙ moves_on (map lock_side c.loop-pass.passes.items) (map lock_side left) (lock_side c.in-Some.pass) (map seen_as c.loop-pass.rights.items) (map lock_side c.args.passes.items)
           (ap (map lock_side) c.in-Some.ensures.items ∙ map-append lock_side left (c.in-Some.pass ∷ [])) inv.moved;
-      counted = ap (λ ps. map counts_of left ++ reverse ps) (c.push_reserved-in-Some.ensures.items ∙ ap (λ q. c.loop-pass.waiters.items ++ q ∷ []) (λ i. record { thread = (c.apart-right.ensures.counts.same_thread ∙ sym (ap (λ (p : PassView _). p.thread) c.apart-right.ensures.same)) i; called = (sym (ap (λ (p : PassView _). p.called) c.apart-right.ensures.same)) i; woken = (sym (ap (λ (p : PassView _). p.woken) c.apart-right.ensures.same)) i }))
-          ∙ moves_on (map counts_of c.loop-pass.passes.items) (map counts_of left) (counts_of c.in-Some.pass) c.loop-pass.waiters.items (map counts_of c.args.passes.items)
-          (ap (map counts_of) c.in-Some.ensures.items ∙ map-append counts_of left (c.in-Some.pass ∷ [])) inv.counted;
+      beside = ap (λ qs. map rights_of left ++ reverse qs) (c.push_reserved-in-Some.ensures.items ∙ ap (λ q. c.loop-pass.kinds.items ++ q ∷ []) (λ i. record { thread = (c.apart-right.ensures.own ∙ sym (ap (λ (p : PassView _). p.thread) c.apart-right.ensures.same)) i; called = (sym (ap (λ (p : PassView _). p.called) c.apart-right.ensures.same)) i; woken = (sym (ap (λ (p : PassView _). p.woken) c.apart-right.ensures.same)) i; permits = (sym (ap (λ (p : PassView _). p.permits) c.apart-right.ensures.same)) i }))
+          ∙ moves_on (map rights_of c.loop-pass.passes.items) (map rights_of left) (rights_of c.in-Some.pass) c.loop-pass.kinds.items (map rights_of c.args.passes.items)
+          (ap (map rights_of) c.in-Some.ensures.items ∙ map-append rights_of left (c.in-Some.pass ∷ [])) inv.beside;
       taken = subst (All (IsFree g.N.Name.opening.locks)) (sym c.push_reserved.ensures.items)
           (All-push (IsFree g.N.Name.opening.locks) c.loop-pass.rights.items c.into_pass.result inv.taken
-          (record { is_of = c.into_pass.ensures.named; free = λ l holds. parts.1 l (subst (λ p. Owns p l) (sym same) (held_owned c.into_pass.result.pass.own.holds l holds)) }));
+          (record { is_of = c.into_pass.ensures.named; free = λ l holds. parts.1.no_lock l (subst (λ p. Owns p l) (sym same) (held_owned c.into_pass.result.pass.own.holds l holds)) }));
       count = omega (arith, c.in-Some.ensures.len);
       both = omega arith;
       fits = omega arith;
-      waiters_fit = omega arith;
+      kinds_fit = omega arith;
     }
 
 pub returns-clause-same : goal.returns-clause-same

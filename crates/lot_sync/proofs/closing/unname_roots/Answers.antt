@@ -1,24 +1,29 @@
-use Rattle.std.proofs.Common.{◌≡◌, ◌≢◌, ℕ, ◌+◌, ◌<◌, ◌≤◌, ◌++◌, ◌∷◌, List, [], length, vec_len, vec_capacity, rules, slice_get, Some, subst, sym, ap, ◌∙◌, arith}
+use Rattle.std.proofs.Common.{◌≡◌, ◌≢◌, ℕ, ◌+◌, ◌<◌, ◌≤◌, ◌++◌, ◌∷◌, List, [], length, reverse, suc, vec_len, vec_capacity, rules, slice_get, Some, subst, sym, ap, ◌∙◌, arith}
 use Rattle.std.specs.List.{All, Any}
+use Rattle.std.proofs.lemmas.List.{reverse-append}
 use Rattle.std.proofs.lemmas.List.Elements.{All-push}
 use Rattle.std.proofs.lemmas.List.Quantifiers.{Any-push}
 use mathlib.Core.Logic.{dite}
 use native.Mathlib.Decide.{ℕ_discrete}
 use Rattle.lot_rights.specs.Shown.{RootShown}
 use Rattle.lot_words.specs.declared.views.LockRootView.{LockRootView}
-use Rattle.lot_conds.specs.declared.views.CondRootView.{CondRootView}
+use Rattle.lot_kinds.specs.Opening.{KindRootShown, StandFrom}
+use Rattle.lot_kinds.specs.Opening.{key_of as kind_key}
 use Rattle.lot_park.specs.Parts.{IsOnItsSide}
 use Rattle.lot_park.specs.declared.parts.both.OneOf.{OneOf}
 use Rattle.lot_park.specs.declared.parts.both.OneOf.TheVariants.{First, Second}
 use Rattle.lot_sync.specs.Starting.{key_of}
-use Rattle.lot_sync.proofs.Places.{at_before, at_last}
-use Rattle.lot_sync.proofs.Turns.{any_more}
+use Rattle.lot_kinds.proofs.Places.{at_before, at_last, any_more, stand_before}
 use Rattle.lot_sync.proofs.closing.unname_roots.Goals as goal
 
 -- the key of the root that was popped is the number of those that are left
-popped_key : (xs left : List (OneOf (RootShown LockRootView) (RootShown CondRootView))) (x y : OneOf (RootShown LockRootView) (RootShown CondRootView)) (n : ℕ) → xs ≡ left ++ x ∷ [] → length left ≡ n → y ≡ x
-    → ((i : ℕ) (r : OneOf (RootShown LockRootView) (RootShown CondRootView)) → slice_get xs i ≡ Some r → key_of r ≡ i) → key_of y ≡ n
+popped_key : (xs left : List (OneOf (RootShown LockRootView) KindRootShown)) (x y : OneOf (RootShown LockRootView) KindRootShown) (n : ℕ) → xs ≡ left ++ x ∷ [] → length left ≡ n → y ≡ x
+    → ((i : ℕ) (r : OneOf (RootShown LockRootView) KindRootShown) → slice_get xs i ≡ Some r → key_of r ≡ i) → key_of y ≡ n
 popped_key xs left x y n items long same keys = ap key_of same ∙ (keys (length left) x (subst (λ zs. slice_get zs (length left) ≡ Some x) (sym items) (at_last left x)) ∙ long)
+
+-- the root that was popped stands before those that were popped earlier
+turned : (ks ks' : List KindRootShown) (x : KindRootShown) (n : ℕ) → ks' ≡ ks ++ x ∷ [] → kind_key x ≡ n → StandFrom kind_key (suc n) (reverse ks) → StandFrom kind_key n (reverse ks')
+turned ks ks' x n items is stand = subst (StandFrom kind_key n) (sym (ap reverse items ∙ reverse-append ks (x ∷ []))) (stand_before kind_key n x (reverse ks) is stand)
 
 pub loop-root-preserved-in-First : goal.loop-root-preserved-in-First
 loop-root-preserved-in-First g c =
@@ -29,7 +34,7 @@ loop-root-preserved-in-First g c =
     let cap = c.push_reserved.ensures.capacity in
     let long : length left ≡ vec_len c.pop.new.self = search rules in
     let side : c.in-First.root.root.key < length g.N.LotName.values =
-    subst (λ (o : OneOf (RootShown LockRootView) (RootShown CondRootView)). IsOnItsSide (length g.N.LotName.values) (λ (r : RootShown LockRootView). r.root.key) (λ (r : RootShown CondRootView). r.root.key) o) c.in-First.is c.into_one.ensures.side in
+    subst (λ (o : OneOf (RootShown LockRootView) KindRootShown). IsOnItsSide (length g.N.LotName.values) (λ (r : RootShown LockRootView). r.root.key) kind_key o) c.in-First.is c.into_one.ensures.side in
     let key : c.in-First.root.root.key ≡ vec_len c.pop.new.self =
     popped_key c.loop-root.named.items left c.in-Some.root (First c.in-First.root) (vec_len c.pop.new.self) c.in-Some.ensures.items long (sym c.in-First.is ∙ c.into_one.ensures.same) inv.keys in
     let is : c.into_root.result.root.key ≡ vec_len c.pop.new.self = ap (λ (r : RootShown LockRootView). r.root.key) c.into_root.ensures.same ∙ key in
@@ -44,9 +49,10 @@ loop-root-preserved-in-First g c =
           (dite (ℕ_discrete k (vec_len c.pop.new.self))
           (λ e. Any-push (λ (r : RootShown LockRootView). r.root.key ≡ k) c.loop-root.roots.items c.into_root.result (is ∙ sym e))
           (λ else. any_more (λ (r : RootShown LockRootView). r.root.key ≡ k) c.loop-root.roots.items c.into_root.result (inv.roots k (omega (arith, from, else, fewer)) below)));
-      conds = λ k from past near. inv.conds k (omega (arith, past, key, side, fewer)) past near;
+      kinds = λ past. absurd (omega (arith, past, key, side));
+      kinds_left = λ near. inv.kinds_left (omega (arith, fewer, key, side));
       room = let wide = inv.room in omega (arith, wide, cap);
-      cond_room = inv.cond_room;
+      kind_room = inv.kind_room;
     }
 
 pub push_reserved-requires-in-Second : goal.push_reserved-requires-in-Second
@@ -55,12 +61,12 @@ push_reserved-requires-in-Second g c =
     let left = c.pop.new.self.items in
     let fewer = c.in-Some.ensures.len in
     let long : length left ≡ vec_len c.pop.new.self = search rules in
-    let side : length g.N.LotName.values ≤ c.in-Second.root.root.key =
-    subst (λ (o : OneOf (RootShown LockRootView) (RootShown CondRootView)). IsOnItsSide (length g.N.LotName.values) (λ (r : RootShown LockRootView). r.root.key) (λ (r : RootShown CondRootView). r.root.key) o) c.in-Second.is c.into_one.ensures.side in
-    let key : c.in-Second.root.root.key ≡ vec_len c.pop.new.self =
+    let side : length g.N.LotName.values ≤ kind_key c.in-Second.root =
+    subst (λ (o : OneOf (RootShown LockRootView) KindRootShown). IsOnItsSide (length g.N.LotName.values) (λ (r : RootShown LockRootView). r.root.key) kind_key o) c.in-Second.is c.into_one.ensures.side in
+    let key : kind_key c.in-Second.root ≡ vec_len c.pop.new.self =
     popped_key c.loop-root.named.items left c.in-Some.root (Second c.in-Second.root) (vec_len c.pop.new.self) c.in-Some.ensures.items long (sym c.in-Second.is ∙ c.into_one.ensures.same) inv.keys in
     let many = inv.many (omega (arith, fewer, key, side)) in
-    let wide = inv.cond_room in
+    let wide = inv.kind_room in
     omega (arith, many.1, wide, fewer, key, side)
 
 pub loop-root-preserved : goal.loop-root-preserved
@@ -71,9 +77,9 @@ loop-root-preserved g c =
     let more = c.push_reserved-in-Second.ensures.len in
     let cap = c.push_reserved-in-Second.ensures.capacity in
     let long : length left ≡ vec_len c.pop.new.self = search rules in
-    let side : length g.N.LotName.values ≤ c.in-Second.root.root.key =
-    subst (λ (o : OneOf (RootShown LockRootView) (RootShown CondRootView)). IsOnItsSide (length g.N.LotName.values) (λ (r : RootShown LockRootView). r.root.key) (λ (r : RootShown CondRootView). r.root.key) o) c.in-Second.is c.into_one.ensures.side in
-    let key : c.in-Second.root.root.key ≡ vec_len c.pop.new.self =
+    let side : length g.N.LotName.values ≤ kind_key c.in-Second.root =
+    subst (λ (o : OneOf (RootShown LockRootView) KindRootShown). IsOnItsSide (length g.N.LotName.values) (λ (r : RootShown LockRootView). r.root.key) kind_key o) c.in-Second.is c.into_one.ensures.side in
+    let key : kind_key c.in-Second.root ≡ vec_len c.pop.new.self =
     popped_key c.loop-root.named.items left c.in-Some.root (Second c.in-Second.root) (vec_len c.pop.new.self) c.in-Some.ensures.items long (sym c.in-Second.is ∙ c.into_one.ensures.same) inv.keys in
     let many = inv.many (omega (arith, fewer, key, side)) in
     record {
@@ -82,10 +88,15 @@ loop-root-preserved g c =
       many = λ past. (many.0, omega (arith, many.1, more, fewer));
       few = λ near. (omega (arith, near, many.0, key, side), omega (arith, near, many.1, more, fewer, key, side));
       roots = λ k from below. absurd (omega (arith, from, below, key, side));
-      conds = λ k from past near. subst (Any (λ (r : RootShown CondRootView). r.root.key ≡ k)) (sym c.push_reserved-in-Second.ensures.items)
-          (dite (ℕ_discrete k (vec_len c.pop.new.self))
-          (λ e. Any-push (λ (r : RootShown CondRootView). r.root.key ≡ k) c.loop-root.cond_roots.items c.in-Second.root (key ∙ sym e))
-          (λ else. any_more (λ (r : RootShown CondRootView). r.root.key ≡ k) c.loop-root.cond_roots.items c.in-Second.root (inv.conds k (omega (arith, from, else, fewer)) past near)));
+      kinds = λ past. turned c.loop-root.kind_roots.items c.push_reserved-in-Second.new.self.items c.in-Second.root (vec_len c.pop.new.self) c.push_reserved-in-Second.ensures.items key
+          (subst (λ n. StandFrom kind_key n (reverse c.loop-root.kind_roots.items)) fewer (inv.kinds (omega (arith, fewer, key, side))));
+      kinds_left = λ near. turned c.loop-root.kind_roots.items c.push_reserved-in-Second.new.self.items c.in-Second.root (length g.N.LotName.values) c.push_reserved-in-Second.ensures.items (omega (arith, key, near, side))
+          (subst (λ n. StandFrom kind_key n (reverse c.loop-root.kind_roots.items)) (omega (arith, fewer, key, near, side)) (inv.kinds (omega (arith, fewer, key, side))));
       room = inv.room;
-      cond_room = let wide = inv.cond_room in omega (arith, wide, cap);
+      kind_room = let wide = inv.kind_room in omega (arith, wide, cap);
     }
+
+pub returns-clause-kinds : goal.returns-clause-kinds
+returns-clause-kinds g c =
+    let none = c.in_default.ensures.cases.0 in
+    subst (StandFrom kind_key (length g.N.LotName.values)) (sym c.reverse.ensures.items) (c.loop-root.invariant.kinds_left (omega (arith, none)))

@@ -1,19 +1,21 @@
 use Rattle.std.proofs.Common.{◌≡◌, ◌+◌, ◌≤◌, vec_len, vec_capacity}
 use Rattle.std.specs.List.{All}
 use Rattle.lot_sync.specs.Passes.{IsFresh}
+use Rattle.lot_kinds.specs.Rights.{HoldsNone}
 use Rattle.lot_sync.specs.Starting.{ArePaired}
 use Rattle.lot_sync.proofs.start.fill.Given as goal
 
 abbrev pub invariant-loop-right : goal.invariant-loop-right
 invariant-loop-right g l = record {
   idle : All (IsFresh g.V.Keeps.grows g.N.Name.opening.locks g.N.LotName.values g.N.LotName.threads) l.passes.items;
-  paired : ArePaired (g.N.WaitName.locks + g.N.WaitName.conds) l.passes.items l.waiters.items;
-  both : vec_len l.waiters ≡ vec_len l.passes;
+  paired : ArePaired l.passes.items l.kinds.items;
+  none : All HoldsNone l.kinds.items;
+  both : vec_len l.kinds ≡ vec_len l.passes;
   count : vec_len l.passes + vec_len l.idle ≡ vec_len l.initial.passes;
   fits : vec_len l.initial.passes ≤ vec_capacity l.idle;
   room : vec_capacity l.idle ≡ vec_capacity l.initial.idle;
   passes_room : vec_capacity l.passes ≡ vec_capacity l.initial.passes;
-  waiters_room : vec_capacity l.waiters ≡ vec_capacity l.initial.waiters;
+  kinds_room : vec_capacity l.kinds ≡ vec_capacity l.initial.kinds;
 }
 
 abbrev pub decreases-loop-right : goal.decreases-loop-right

@@ -1,13 +1,16 @@
 use Rattle.std.proofs.Common.{subst, sym, ap, ◌∙◌}
-use Rattle.lot_sync.specs.Lot.{Owns}
+use Rattle.lot_sync.specs.Lot.{PassView, Owns, permits_with}
 use Rattle.lot_sync.specs.Passes.{Standing, sees}
-use Rattle.lot_sync.proofs.Rests.{owned_held, counts_on}
+use Rattle.lot_sync.proofs.Rests.{owned_held, own_on}
 use Rattle.lot_sync.proofs.start.make_idle.Goals as goal
 
-pub at_rest-requires-clause-counts : goal.at_rest-requires-clause-counts
-at_rest-requires-clause-counts g c κs within = counts_on _ _ _ c.args.waiter (ap (λ (r : Standing g.row.V.Denot). r.thread) c.new.ensures) c.requires.counts
+pub at_rest-requires-clause-own : goal.at_rest-requires-clause-own
+at_rest-requires-clause-own g c κs within = own_on _ _ c.args.kinds (ap (λ (r : Standing g.row.V.Denot). r.thread) c.new.ensures) c.requires.own
 
 pub invariant_of-result : goal.invariant_of-result
 invariant_of-result g c = record {
-  free = λ key owns. c.requires.fresh.free key (owned_held c.args.right.pass.own.holds key (subst (λ p. Owns p key) (c.at_rest.ensures ∙ ap (sees c.args.waiter) c.new.ensures) owns));
+  free = record {
+    no_lock = λ key owns. c.requires.fresh.free key (owned_held c.args.right.pass.own.holds key (subst (λ p. Owns p key) (c.at_rest.ensures ∙ ap (sees c.args.kinds) c.new.ensures) owns));
+    no_permit = λ key. ap (λ (p : PassView _). permits_with p key) c.at_rest.ensures ∙ c.requires.none key;
+  };
 }

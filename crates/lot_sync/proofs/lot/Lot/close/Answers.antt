@@ -1,4 +1,5 @@
-use Rattle.std.proofs.Common.{◌≡◌, ℕ, ◌+◌, ◌<◌, ◌≤◌, ◌++◌, List, [], length, map, vec_len, rules, Some, slice_get, subst, sym, ap, ◌∙◌, arith}
+use Rattle.std.proofs.Common.{◌≡◌, ℕ, ◌+◌, ◌<◌, ◌≤◌, ◌++◌, List, [], ◌∷◌, length, map, refl, vec_len, rules, Some, slice_get, subst, sym, ap, ◌∙◌, arith}
+use Rattle.std.proofs.lemmas.List.{length-map}
 use Rattle.std.proofs.lemmas.List.Elements.{All-weaker, All-map}
 use Rattle.std.specs.List.{All, Any}
 use Rattle.lot_rights.specs.Shown.{PassShown, RootShown}
@@ -6,17 +7,29 @@ use Rattle.lot_words.specs.declared.views.LockPassView.{LockPassView}
 use Rattle.lot_words.specs.declared.views.LockRootView.{LockRootView}
 use Rattle.lot_words.specs.Shown.{LockWordsShown}
 use Rattle.lot_words.specs.Values.{FoundOk}
-use Rattle.lot_conds.specs.declared.views.CondRootView.{CondRootView}
 use Rattle.lot_conds.specs.Shown.{CondWordsShown}
+use Rattle.lot_sems.specs.Shown.{SemWordsShown}
 use Rattle.lot_park.specs.Parts.{Tables}
 use Rattle.lot_park.specs.declared.parts.both.OneOf.{OneOf}
-use Rattle.lot_waits.specs.Counts.{CountsView}
-use Rattle.lot_sync.specs.Lot.{PassView, LotView, counts_of}
+use Rattle.lot_kinds.specs.Rights.{RightsView}
+use Rattle.lot_kinds.specs.Rights.{HoldsNone as HoldsNoPermit}
+use Rattle.lot_kinds.specs.Rights.{counts_of as kind_counts}
+use Rattle.lot_waits.specs.Ledger.{IsLedger}
+use Rattle.lot_kinds.specs.Opening.{KindRootShown, StandFrom}
+use Rattle.lot_kinds.specs.Opening.{key_of as kind_key}
+use Rattle.lot_sync.specs.Lot.{PassView, LotView, OwnsNone, counts_of, rights_of}
 use Rattle.lot_sync.specs.Values.{GoesOnTo}
 use Rattle.lot_words.specs.Closing.{HoldsNone}
 use Rattle.lot_sync.specs.Passes.{seen_as, lock_side, IsFree}
-use Rattle.lot_sync.proofs.Turns.{some_before, some_after, all_before, no_elements}
+use Rattle.lot_waits.proofs.Turns.{some_before, no_elements}
+use Rattle.lot_kinds.proofs.Places.{some_after}
+use Rattle.lot_sync.proofs.Turns.{all_before}
 use Rattle.lot_sync.proofs.lot.Lot.close.Goals as goal
+
+-- what the rights of the passes tell of waits
+counted : {V : Type 0} (passes : List (PassView V)) → map kind_counts (map rights_of passes) ≡ map counts_of passes
+counted [] = refl
+counted (p ∷ ps) = ap (λ cs. counts_of p ∷ cs) (counted ps)
 
 goes_on : {V Part : Type 0} (keeps : ℕ → V → Type 0) (grows : V → V → Type 0) (part : ℕ → V → Part) (values : List V) (passes : List (PassView V)) (rights : List (PassShown (LockPassView V))) → map seen_as rights ≡ map lock_side passes
     → All (λ (p : PassShown (LockPassView V)). (l : ℕ) (y : V) → slice_get values l ≡ Some y → FoundOk keeps grows part l p.pass.thread p.pass.own y) rights → All (GoesOnTo keeps grows part values) passes
@@ -36,28 +49,48 @@ unname_roots-requires-clause-keys g c κs within =
     let before = c.into_inner-idle.result.room.named in
     let none : before.items ≡ [] = no_elements before.items (let n : length before.items ≡ vec_len before = search rules in n ∙ c.into_inner-idle.result.room.no_roots.0) in
     let roots_are : c.close-scheme.new.out.items ≡ c.close-scheme.ensures.roots.roots =
-    c.close-scheme.ensures.roots.appended ∙ ap (λ (rs : List (OneOf (RootShown LockRootView) (RootShown CondRootView))). rs ++ c.close-scheme.ensures.roots.roots) none in
-    λ i r at. c.close-scheme.ensures.roots.named i r (subst (λ (rs : List (OneOf (RootShown LockRootView) (RootShown CondRootView))). slice_get rs i ≡ Some r) roots_are at)
+    c.close-scheme.ensures.roots.appended ∙ ap (λ (rs : List (OneOf (RootShown LockRootView) KindRootShown)). rs ++ c.close-scheme.ensures.roots.roots) none in
+    λ i r at. c.close-scheme.ensures.roots.named i r (subst (λ (rs : List (OneOf (RootShown LockRootView) KindRootShown)). slice_get rs i ≡ Some r) roots_are at)
 
-pub settle-ledger-requires-clause-waiters : goal.settle-ledger-requires-clause-waiters
-settle-ledger-requires-clause-waiters g c = λ t near.
-    subst (Any (λ (q : CountsView). q.thread ≡ t)) (sym c.gather.ensures.counts)
-    (some_after counts_of (λ (q : CountsView). q.thread ≡ t) c.args.passes.items (c.requires.all t (subst (λ n. t < n) (sym c.self.invariant.own_threads ∙ ap (λ (v : LotView). v.threads) c.self.view_is)
-    (subst (λ n. t < n) (ap (λ (s : CondWordsShown). s.size.threads) (c.apart-words.ensures.1 ∙ ap (λ (s : Tables LockWordsShown CondWordsShown). s.second) c.close-scheme.ensures.scheme) ∙ c.self.invariant.conds_threads) near))))
+pub settle-ledger-requires-clause-room : goal.settle-ledger-requires-clause-room
+settle-ledger-requires-clause-room g c =
+    let room = c.into_inner-idle.result.room in
+    let fits = room.for_kinds in
+    let all : length c.args.passes.items ≡ vec_len c.args.passes = search rules in
+    let some : length c.gather.new.kinds.items ≡ vec_len c.gather.new.kinds = search rules in
+    let same : length c.gather.new.kinds.items ≡ length c.args.passes.items = ap length c.gather.ensures.beside ∙ length-map c.args.passes.items rights_of in
+    let count = c.requires.count in
+    let threads : c.args.self.threads ≡ g.N.LotName.threads = ap (λ (v : LotView). v.threads) (sym c.self.view_is) ∙ c.self.invariant.own_threads in
+    (omega (arith, all, some, same, count, threads, fits.0), fits.1, fits.2)
 
-pub settle-ledger-requires-clause-roots : goal.settle-ledger-requires-clause-roots
-settle-ledger-requires-clause-roots g c =
+pub settle-ledger-requires-clause-threads : goal.settle-ledger-requires-clause-threads
+settle-ledger-requires-clause-threads g c = λ t near.
+    subst (Any (λ (q : RightsView). q.thread ≡ t)) (sym c.gather.ensures.beside)
+    (some_after rights_of (λ (q : RightsView). q.thread ≡ t) c.args.passes.items (c.requires.all t (subst (λ n. t < n) (sym c.self.invariant.own_threads ∙ ap (λ (v : LotView). v.threads) c.self.view_is)
+    (subst (λ n. t < n) (ap (λ (s : Tables CondWordsShown SemWordsShown). s.first.size.threads) (c.apart-words.ensures.1 ∙ ap (λ (s : Tables LockWordsShown (Tables CondWordsShown SemWordsShown)). s.second) c.close-scheme.ensures.scheme) ∙ c.self.invariant.conds_threads) near))))
+
+pub settle-ledger-requires-clause-same_threads : goal.settle-ledger-requires-clause-same_threads
+settle-ledger-requires-clause-same_threads g c =
+    let scheme = c.apart-words.ensures.1 ∙ ap (λ (s : Tables LockWordsShown (Tables CondWordsShown SemWordsShown)). s.second) c.close-scheme.ensures.scheme in
+    ap (λ (s : Tables CondWordsShown SemWordsShown). s.second.size.threads) scheme ∙ (c.self.invariant.sems_threads ∙ sym (ap (λ (s : Tables CondWordsShown SemWordsShown). s.first.size.threads) scheme ∙ c.self.invariant.conds_threads))
+
+pub settle-ledger-requires-clause-back : goal.settle-ledger-requires-clause-back
+settle-ledger-requires-clause-back g c =
+    subst (All HoldsNoPermit) (sym c.gather.ensures.beside) (All-map HoldsNoPermit rights_of c.args.passes.items (All-weaker OwnsNone (λ (p : PassView _). HoldsNoPermit (rights_of p)) (λ p free. free.no_permit) c.args.passes.items c.requires.free))
+
+pub settle-ledger-requires-clause-keys : goal.settle-ledger-requires-clause-keys
+settle-ledger-requires-clause-keys g c =
     let before = c.into_inner-idle.result.room.named in
     let none : before.items ≡ [] = no_elements before.items (let n : length before.items ≡ vec_len before = search rules in n ∙ c.into_inner-idle.result.room.no_roots.0) in
     let roots_are : c.close-scheme.new.out.items ≡ c.close-scheme.ensures.roots.roots =
-    c.close-scheme.ensures.roots.appended ∙ ap (λ (rs : List (OneOf (RootShown LockRootView) (RootShown CondRootView))). rs ++ c.close-scheme.ensures.roots.roots) none in
-    let long : vec_len c.close-scheme.new.out ≡ length g.N.LotName.values + g.N.WaitName.conds =
+    c.close-scheme.ensures.roots.appended ∙ ap (λ (rs : List (OneOf (RootShown LockRootView) KindRootShown)). rs ++ c.close-scheme.ensures.roots.roots) none in
+    let long : vec_len c.close-scheme.new.out ≡ length g.N.LotName.values + g.N.WaitName.conds + length g.N.PermitName.permits =
     (let n : vec_len c.close-scheme.new.out ≡ length c.close-scheme.new.out.items = search rules in n ∙ (ap length roots_are ∙ (c.close-scheme.ensures.roots.each ∙ c.self.invariant.parking_keys))) in
-    λ k among.
-    let border = c.self.invariant.named_locks in
-    let from = among.0 in
-    let below = among.1 in
-    c.unname_roots.ensures.conds k (omega (arith, from, border)) (omega (arith, below, border, long))
+    let unnamed = c.unname_roots.ensures.long in
+    (c.self.invariant.named_low, omega (arith, long, unnamed))
+
+pub settle-ledger-requires-clause-roots : goal.settle-ledger-requires-clause-roots
+settle-ledger-requires-clause-roots g c = subst (λ n. StandFrom kind_key n c.unname_roots.new.kind_roots.items) (sym c.self.invariant.named_locks) c.unname_roots.ensures.kinds
 
 pub close-requires-clause-table : goal.close-requires-clause-table
 close-requires-clause-table g c =
@@ -73,8 +106,16 @@ pub close-requires-clause-passes : goal.close-requires-clause-passes
 close-requires-clause-passes g c = λ t near.
     some_before seen_as (λ (p : PassView _). p.thread ≡ t) c.gather.new.rights.items
     (subst (Any (λ (p : PassView _). p.thread ≡ t)) (sym c.gather.ensures.same) (some_after lock_side (λ (p : PassView _). p.thread ≡ t) c.args.passes.items (c.requires.all t (subst (λ n. t < n) (sym c.self.invariant.own_threads ∙ ap (λ (v : LotView). v.threads) c.self.view_is)
-    (subst (λ n. t < n) (ap (λ (w : LockWordsShown). w.size.threads) (c.into_words.ensures.same ∙ (c.apart-words.ensures.0 ∙ ap (λ (s : Tables LockWordsShown CondWordsShown). s.first) c.close-scheme.ensures.scheme)) ∙ c.self.invariant.words_threads) near)))))
+    (subst (λ n. t < n) (ap (λ (w : LockWordsShown). w.size.threads) (c.into_words.ensures.same ∙ (c.apart-words.ensures.0 ∙ ap (λ (s : Tables LockWordsShown (Tables CondWordsShown SemWordsShown)). s.first) c.close-scheme.ensures.scheme)) ∙ c.self.invariant.words_threads) near)))))
 
 pub returns-clause-values : goal.returns-clause-values
 returns-clause-values g c =
     goes_on g.V.Keeps.keeps g.V.Keeps.grows g.V.Keeps.part c.close.result.items c.args.passes.items c.gather.new.rights.items c.gather.ensures.same c.close.ensures.found
+
+pub returns-clause-ledger : goal.returns-clause-ledger
+returns-clause-ledger g c =
+    let locks : g.N.WaitName.locks ≡ c.args.self.locks = c.self.invariant.named_locks ∙ (sym c.self.invariant.own_locks ∙ ap (λ (v : LotView). v.locks) c.self.view_is) in
+    let conds : g.N.WaitName.conds ≡ c.args.self.conds = sym c.self.invariant.own_conds ∙ ap (λ (v : LotView). v.conds) c.self.view_is in
+    subst (λ n. IsLedger n c.args.self.conds (map counts_of c.args.passes.items) c.settle-ledger.result.called.items c.settle-ledger.result.woken.items) locks
+    (subst (λ n. IsLedger g.N.WaitName.locks n (map counts_of c.args.passes.items) c.settle-ledger.result.called.items c.settle-ledger.result.woken.items) conds
+    (subst (λ qs. IsLedger g.N.WaitName.locks g.N.WaitName.conds qs c.settle-ledger.result.called.items c.settle-ledger.result.woken.items) (ap (map kind_counts) c.gather.ensures.beside ∙ counted c.args.passes.items) c.settle-ledger.ensures))

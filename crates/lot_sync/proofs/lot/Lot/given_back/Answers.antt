@@ -3,7 +3,7 @@ use Rattle.lot_words.specs.Values.{IsIn, HasSeen, MayLeave}
 use Rattle.lot_sync.specs.Lot.{Owns}
 use Rattle.lot_sync.specs.Values.{MayGiveBack}
 use Rattle.lot_sync.specs.Passes.{Standing}
-use Rattle.lot_sync.proofs.Rests.{may_leave, owned_within, owns_again, lies_in, counts_on}
+use Rattle.lot_sync.proofs.Rests.{may_leave, owned_within, owns_again, lies_in, own_on}
 use Rattle.lot_sync.proofs.lot.Lot.given_back.Goals as goal
 
 pub value_in-requires-clause-lawful : goal.value_in-requires-clause-lawful
@@ -29,5 +29,5 @@ returns-clause-lies g c =
 pub returns-clause-locks : goal.returns-clause-locks
 returns-clause-locks g c = owned_within _ _ _ c.apart-right.result.1 c.apart-right.result.0 c.args.key c.apart-right.ensures.rest (subst (λ p. Owns p c.args.key) c.apart-right.ensures.same c.requires.owns)
 
-pub returns-clause-counts : goal.returns-clause-counts
-returns-clause-counts g c = counts_on _ c.apart-right.result.0.thread c.value_in.result.thread c.apart-right.result.1 (ap (λ (r : Standing g.row.V.Denot). r.thread) c.value_in.ensures) c.apart-right.ensures.counts
+pub returns-clause-own : goal.returns-clause-own
+returns-clause-own g c = own_on c.apart-right.result.0.thread c.value_in.result.thread c.apart-right.result.1 (ap (λ (r : Standing g.row.V.Denot). r.thread) c.value_in.ensures) c.apart-right.ensures.own

@@ -1,6 +1,6 @@
 use Rattle.std.proofs.Common.{◌<◌, subst}
 use Rattle.lot_sync.specs.Passes.{IsOwner}
-use Rattle.lot_sync.proofs.Rests.{owns_newly, gets_all, gets_as, counts_on}
+use Rattle.lot_sync.proofs.Rests.{owns_newly, gets_all, gets_as, own_on}
 use Rattle.lot_sync.proofs.lot.Lot.lock_after.Goals as goal
 
 pub taken-requires-clause-owner : goal.taken-requires-clause-owner
@@ -29,10 +29,10 @@ returns-else-got-clause-gets g c =
     (subst (λ r. IsOwner g.V.Keeps.keeps g.V.Keeps.grows g.V.Keeps.part r c.args.key c.lock_slowly-right.result) (rw c.if-got.false at c.take_free-right.ensures.ends) c.lock_slowly-right.ensures)
     c.taken-else-got.ensures.held.0 c.taken-else-got.ensures.held.1)
 
-pub taken-requires-clause-counts : goal.taken-requires-clause-counts
-taken-requires-clause-counts g c κs within = counts_on _ _ _ c.apart-right.result.1 (rw c.if-got.true at c.take_free-right.ensures.ends).thread c.apart-right.ensures.counts
+pub taken-requires-clause-own : goal.taken-requires-clause-own
+taken-requires-clause-own g c κs within = own_on _ _ c.apart-right.result.1 (rw c.if-got.true at c.take_free-right.ensures.ends).thread c.apart-right.ensures.own
 
-pub taken-requires-else-got-clause-counts : goal.taken-requires-else-got-clause-counts
-taken-requires-else-got-clause-counts g c κs within =
-    counts_on _ _ _ c.apart-right.result.1
-    (subst (λ r. IsOwner g.V.Keeps.keeps g.V.Keeps.grows g.V.Keeps.part r c.args.key c.lock_slowly-right.result) (rw c.if-got.false at c.take_free-right.ensures.ends) c.lock_slowly-right.ensures).thread c.apart-right.ensures.counts
+pub taken-requires-else-got-clause-own : goal.taken-requires-else-got-clause-own
+taken-requires-else-got-clause-own g c κs within =
+    own_on _ _ c.apart-right.result.1
+    (subst (λ r. IsOwner g.V.Keeps.keeps g.V.Keeps.grows g.V.Keeps.part r c.args.key c.lock_slowly-right.result) (rw c.if-got.false at c.take_free-right.ensures.ends) c.lock_slowly-right.ensures).thread c.apart-right.ensures.own

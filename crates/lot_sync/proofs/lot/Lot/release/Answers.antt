@@ -1,6 +1,6 @@
 use Rattle.std.proofs.Common.{ap, ◌∙◌}
 use Rattle.lot_sync.specs.Lot.{leaving}
-use Rattle.lot_sync.proofs.Rests.{rests_free, leaves_all, counts_on}
+use Rattle.lot_sync.proofs.Rests.{rests_free, leaves_all, own_on}
 use Rattle.lot_sync.proofs.lot.Lot.release.Goals as goal
 
 pub at_rest-requires-clause-rest : goal.at_rest-requires-clause-rest
@@ -15,5 +15,5 @@ returns-clause-pass g c =
     c.at_rest.ensures.pass ∙ (leaves_all c.given_back-right.result.1 c.given_back-right.result.0 c.let_go-right.result.0 c.key-key.result c.args.held.value b.lies c.let_go-right.ensures.went
     ∙ (ap (λ p. leaving p c.key-key.result c.args.held.value) b.same ∙ ap (λ k. leaving c.args.pass k c.args.held.value) c.key-key.ensures))
 
-pub at_rest-requires-clause-counts : goal.at_rest-requires-clause-counts
-at_rest-requires-clause-counts g c κs within = counts_on _ _ _ c.given_back-right.result.1 c.let_go-right.ensures.went.thread c.given_back-right.ensures.counts
+pub at_rest-requires-clause-own : goal.at_rest-requires-clause-own
+at_rest-requires-clause-own g c κs within = own_on _ _ c.given_back-right.result.1 c.let_go-right.ensures.went.thread c.given_back-right.ensures.own

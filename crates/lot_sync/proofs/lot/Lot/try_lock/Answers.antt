@@ -1,5 +1,5 @@
 use Rattle.std.proofs.Common.{◌<◌, subst}
-use Rattle.lot_sync.proofs.Rests.{owns_newly, gets_all, gets_as, counts_on}
+use Rattle.lot_sync.proofs.Rests.{owns_newly, gets_all, gets_as, own_on}
 use Rattle.lot_sync.proofs.lot.Lot.try_lock.Goals as goal
 
 pub taken-pass-requires-clause-owner : goal.taken-pass-requires-clause-owner
@@ -14,5 +14,5 @@ returns-then-got-clause-gets g c =
     (subst (λ n. c.args.key < n) c.try_take-right.ensures.locks c.requires.key) c.apart-right.ensures.rest (rw c.if-got.true at c.try_take-right.ensures.ends)
     c.taken-pass.ensures.held.0 c.taken-pass.ensures.held.1)
 
-pub taken-pass-requires-clause-counts : goal.taken-pass-requires-clause-counts
-taken-pass-requires-clause-counts g c κs within = counts_on _ _ _ c.apart-right.result.1 (rw c.if-got.true at c.try_take-right.ensures.ends).thread c.apart-right.ensures.counts
+pub taken-pass-requires-clause-own : goal.taken-pass-requires-clause-own
+taken-pass-requires-clause-own g c κs within = own_on _ _ c.apart-right.result.1 (rw c.if-got.true at c.try_take-right.ensures.ends).thread c.apart-right.ensures.own

@@ -4,7 +4,7 @@ use mathlib.Core.Option.{some}
 use lib.ListN.{get_elem?}
 use Rattle.lot_words.specs.declared.views.Place.TheVariants.{InSlot}
 use Rattle.lot_sync.specs.Passes.{Standing}
-use Rattle.lot_sync.proofs.Rests.{rests_free, rests_parked, leaves_all, stays_all, one_lies, counts_on}
+use Rattle.lot_sync.proofs.Rests.{rests_free, rests_parked, leaves_all, stays_all, one_lies, own_on}
 use Rattle.lot_sync.proofs.lot.Lot.unlock_unparked.Goals as goal
 
 pub at_rest-requires-clause-rest : goal.at_rest-requires-clause-rest
@@ -37,9 +37,9 @@ returns-else-freed-clause-freed g c =
           c.value_out-right.ensures.out ∙ b.same),
     )
 
-pub at_rest-requires-clause-counts : goal.at_rest-requires-clause-counts
-at_rest-requires-clause-counts g c κs within = counts_on _ _ _ c.given_back-right.result.1 (rw c.if-freed.true at c.free-right.ensures).thread c.given_back-right.ensures.counts
+pub at_rest-requires-clause-own : goal.at_rest-requires-clause-own
+at_rest-requires-clause-own g c κs within = own_on _ _ c.given_back-right.result.1 (rw c.if-freed.true at c.free-right.ensures).thread c.given_back-right.ensures.own
 
-pub at_rest-requires-else-freed-clause-counts : goal.at_rest-requires-else-freed-clause-counts
-at_rest-requires-else-freed-clause-counts g c κs within =
-    counts_on _ _ _ c.given_back-right.result.1 (ap (λ (r : Standing g.row.V.Denot). r.thread) c.value_out-right.ensures.out ∙ (rw c.if-freed.false at c.free-right.ensures).thread) c.given_back-right.ensures.counts
+pub at_rest-requires-else-freed-clause-own : goal.at_rest-requires-else-freed-clause-own
+at_rest-requires-else-freed-clause-own g c κs within =
+    own_on _ _ c.given_back-right.result.1 (ap (λ (r : Standing g.row.V.Denot). r.thread) c.value_out-right.ensures.out ∙ (rw c.if-freed.false at c.free-right.ensures).thread) c.given_back-right.ensures.own
