@@ -1,0 +1,4 @@
+pub mod Owed
+pub mod Slept
+pub mod Starts
+pub mod Tries

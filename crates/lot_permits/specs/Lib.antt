@@ -1,0 +1,4 @@
+pub mod Rights
+pub mod Permits
+pub mod Opening
+pub mod Room

@@ -1,0 +1,72 @@
+-- How a pass of lot_sems stands between two calls, and while it seeks a permit.
+use Rattle.std.specs.Prelude.{◌≡◌, ℕ, Bool, true, List, Option, Some, None}
+use Rattle.lot_rights.specs.Shown.{PassShown, RootShown}
+use Rattle.lot_rights.specs.declared.views.PassView.{PassView}
+use Rattle.lot_sems.specs.declared.taking.Taken.{Taken}
+use Rattle.lot_sems.specs.declared.taking.Taken.TheVariants.{Got, Empty, Busy}
+use Rattle.lot_sems.specs.declared.views.SemPassView.{SemPassView}
+use Rattle.lot_sems.specs.declared.views.SemRootView.{SemRootView}
+use Rattle.lot_sems.specs.World.{Numbers}
+use Rattle.lot_sems.specs.Calls.{IsCalm, seeking, got, gave, woken, parked_pass}
+
+-- a pass: its thread, and what it knows; not the entries that were made with it
+pub record SemStanding : Type 0 where
+  pub thread : ℕ
+  pub own : SemPassView
+
+abbrev pub standing : PassView SemPassView → SemStanding
+standing p = record { thread = p.thread; own = p.own }
+
+abbrev pub sem_stands : PassShown SemPassView → SemStanding
+sem_stands p = standing p.pass
+
+-- it is awake, and seeks nothing
+abbrev pub IsCalmStanding : SemStanding → Type 0
+IsCalmStanding r = IsCalm r.own
+
+-- the pass, which seeks a permit of k
+abbrev pub wanting : SemStanding → ℕ → SemStanding
+wanting r k = record { thread = r.thread; own = seeking r.own k }
+
+-- the pass, which has got a permit of k
+abbrev pub getting : SemStanding → ℕ → SemStanding
+getting r k = record { thread = r.thread; own = got r.own k }
+
+-- the pass, which has given a permit of k back
+abbrev pub giving : SemStanding → ℕ → SemStanding
+giving r k = record { thread = r.thread; own = gave r.own k }
+
+-- the pass, asleep in a line where it was queued
+abbrev pub queueing : SemStanding → Bool → SemStanding
+queueing r queued = record { thread = r.thread; own = parked_pass r.own queued }
+
+-- the pass, awake again
+abbrev pub waking : SemStanding → SemStanding
+waking r = record { thread = r.thread; own = woken r.own }
+
+-- ---- what became of a try to take a permit of k: q is the pass p after it
+abbrev pub HasTried : SemStanding → ℕ → Taken → SemStanding → Type 0
+HasTried p k Got q = q ≡ getting p k
+HasTried p k Empty q = q ≡ p
+HasTried p k Busy q = q ≡ p
+
+-- the same, where a thread that finds none seeks one
+abbrev pub HasTaken : SemStanding → ℕ → Taken → SemStanding → Type 0
+HasTaken p k Got q = q ≡ getting p k
+HasTaken p k Empty q = q ≡ wanting p k
+HasTaken p k Busy q = q ≡ p
+
+-- ---- letters
+-- a look for a letter: where none lay, the pass stands as before; all letters have the token 0, and whoever finds one slept
+abbrev pub IsSemLooked : SemStanding → Option ℕ → SemStanding → Type 0
+IsSemLooked p None q = q ≡ p
+IsSemLooked p (Some token) q = (token ≡ 0) × (p.own.asleep ≡ true) × (q ≡ waking p)
+
+-- ---- the root, and the table
+-- a root, of which this is known now
+abbrev pub with_root : RootShown SemRootView → SemRootView → RootShown SemRootView
+with_root r own = record r { root = record r.root { own = own } }
+
+-- a table whose first semaphore has this number, and whose semaphores opened with these permits
+abbrev pub HasSems : Numbers → ℕ → List ℕ → Type 0
+HasSems size low permits = (size.low ≡ low) × (size.permits ≡ permits)
