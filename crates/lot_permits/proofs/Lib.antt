@@ -1,3 +1,4 @@
+pub mod Held
 pub mod Owed
 pub mod Slept
 pub mod Starts

@@ -20,3 +20,6 @@ pub use permit::{Freed, Permit, Tried};
 pub use room::{ClosingRoom, Room};
 pub use scheme::{NamedSem, SemKeyRoot, SemScheme};
 pub use seeker::Seeker;
+
+#[cfg(test)]
+mod tests;
