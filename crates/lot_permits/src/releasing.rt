@@ -5,13 +5,14 @@ ghost use Rattle.lot_core.specs.Parts.{IsAmongSemaphores};
 ghost use Rattle.lot_park.specs.Parking.{Tells, debt};
 ghost use Rattle.lot_sems.specs.Calls.{MayGive, passed_root};
 ghost use Rattle.lot_permits.specs.Rights.{giving, with_root};
-ghost use Rattle.lot_permits.specs.Freed.{freed_by};
+ghost use Rattle.lot_permits.specs.Freed.{freed_by, GivesBack};
 
 use crate::name::PermitName;
 use crate::permit::Freed;
 use crate::scheme::{NamedSem, SemKeyRoot, SemScheme};
 use lot_park::parts::{Part, unpark_one};
 use lot_park::{Moment, ParkingLot, Scheme, Token, UnparkResult};
+use lot_sems::{SemPass, SemRoot, SemWords};
 use std::sync::Wait;
 
 /// The token of all letters of semaphores: whoever finds it tries again.
@@ -93,8 +94,7 @@ fn unpark<S: Scheme, N: PermitName + Send, P: Part<S, SemScheme<N>>, R: Wait>(
     given
 }
 
-/// Gives the permit back, while the semaphore's bucket is locked, and takes the thread from the line of which the parking lot tells. The
-/// parked bit stays where more may wait.
+/// Gives the permit back, while the semaphore's bucket is locked, and takes the thread from the line of which the parking lot tells.
 fn give_on<N: PermitName>(
     scheme: &SemScheme<N>,
     pass: NamedSem<N>,
@@ -108,13 +108,32 @@ fn give_on<N: PermitName>(
     ensures root { result.1 ≡ with_root root (passed_root root.root.own root.root.own.line) }
     ensures decided { result.2 ≡ freed_by told.thread }
 {
-    let words = scheme.words();
-    let (pass, root) = words.pass_on(pass.into_pass(), root.into_root(), told.thread, told.more);
+    let (pass, root, freed) = pass_on(scheme.words(), pass.into_pass(), root.into_root(), told);
+    (NamedSem::new(pass), SemKeyRoot::new(root), freed)
+}
+
+/// The permit goes back, and the parked bit stays where more may wait. Where nobody was in the line, the bit is cleared.
+fn pass_on(
+    words: &SemWords,
+    pass: SemPass,
+    root: SemRoot,
+    told: UnparkResult,
+) -> (SemPass, SemRoot, Freed)
+    requires table { (pass.table ≡ words.now.table) × (root.table ≡ words.now.table) }
+    requires may { MayGive pass.pass.own root.root.key }
+    requires clear { debt root.root.own.owes 0 ≡ [] }
+    requires told { (now : ℕ) × Tells root.root.own.line now told }
+    ensures table { (result.0.table ≡ pass.table) × (result.1.table ≡ root.table) }
+    ensures entries { GivesBack pass.pass root.root.key told.more told.thread result.0.pass }
+    ensures root { result.1.root ≡ record root.root { own = passed_root root.root.own root.root.own.line } }
+    ensures decided { result.2 ≡ freed_by told.thread }
+{
+    let (pass, root) = words.pass_on(pass, root, told.thread, told.more);
     match told.thread {
-        Some(_) => (NamedSem::new(pass), SemKeyRoot::new(root), Freed::Woke),
+        Some(_) => (pass, root, Freed::Woke),
         None => {
             let (pass, root) = words.clear(pass, root);
-            (NamedSem::new(pass), SemKeyRoot::new(root), Freed::Nobody)
+            (pass, root, Freed::Nobody)
         }
     }
 }

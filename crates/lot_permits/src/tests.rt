@@ -4,7 +4,7 @@ ghost use Rattle.lot_core.specs.Parts.{IsAmongSemaphores};
 ghost use Rattle.lot_permits.specs.Permits.{HasPermit, HoldsNone, IsWide, one_less, one_more, opening_permits, permits_with};
 
 use crate::{
-    Freed, OpenedSems, Permit, PermitName, Room, SemScheme, Seeker, Tried, acquire, check_permits,
+    Freed, OpenedSems, Permit, PermitName, Room, Seeker, SemScheme, Tried, acquire, check_permits,
     permits_left, release, settle, try_acquire,
 };
 use lot_park::parts::Whole;
@@ -134,7 +134,11 @@ fn sit<N: PermitName, T: Wait + Abort>(rt: &T, seats: &Mutex<Seats<N>>, seeker: 
     seats.idle.push_reserved(Idle { seeker });
 }
 
-fn stand<N: PermitName, T: Wait + Abort>(rt: &T, seats: &Mutex<Seats<N>>, thread: usize) -> Seeker<N>
+fn stand<N: PermitName, T: Wait + Abort>(
+    rt: &T,
+    seats: &Mutex<Seats<N>>,
+    thread: usize,
+) -> Seeker<N>
     requires sems { (N.low ≡ 0) × (length N.permits ≡ 2) }
     ensures none { HoldsNone result }
     ensures thread { result.thread ≡ thread }
@@ -149,11 +153,7 @@ fn stand<N: PermitName, T: Wait + Abort>(rt: &T, seats: &Mutex<Seats<N>>, thread
 }
 
 // Gets the permit of semaphore 1, and gives it back.
-fn sleeper<N: PermitName + Send, T: Wait + Abort>(
-    rt: &T,
-    lot: &Parking<N>,
-    seats: &Mutex<Seats<N>>,
-)
+fn sleeper<N: PermitName + Send, T: Wait + Abort>(rt: &T, lot: &Parking<N>, seats: &Mutex<Seats<N>>)
     requires sems { (N.low ≡ 0) × (length N.permits ≡ 2) }
     requires sizes { (lot.now.threads ≡ 2) × (lot.now.keys ≡ 2) }
 {
@@ -187,16 +187,20 @@ fn a_sleeper_gets_it<N: PermitName + Send + Sync, T: Threads + Wait + Sync + Abo
     rt: &T,
     lot: &Parking<N>,
     seats: &Mutex<Seats<N>>,
-)
+) -> Seeker<N>
     requires sems { (N.low ≡ 0) × (length N.permits ≡ 2) }
     requires sizes { (lot.now.threads ≡ 2) × (lot.now.keys ≡ 2) }
+    ensures none { HoldsNone result }
+    ensures thread { result.thread ≡ 0 }
 {
     thread::scope(
         thread::scope_env(),
         rt,
-        |scope|
+        |scope| -> Seeker<N>
             requires sems { (N.low ≡ 0) × (length N.permits ≡ 2) }
             requires sizes { (lot.now.threads ≡ 2) × (lot.now.keys ≡ 2) }
+            ensures none { HoldsNone result }
+            ensures thread { result.thread ≡ 0 }
         {
             let seeker = stand(rt, seats, 0);
             let (seeker, permit) = got(rt, lot.scheme(), seeker, 1);
@@ -205,9 +209,9 @@ fn a_sleeper_gets_it<N: PermitName + Send + Sync, T: Threads + Wait + Sync + Abo
                 requires sizes { (lot.now.threads ≡ 2) × (lot.now.keys ≡ 2) }
             { sleeper(rt, lot, seats) };
             assert!(rt; scope.spawn(job).is_ok());
-            sit(rt, seats, wake(rt, lot, seeker, permit));
+            wake(rt, lot, seeker, permit)
         },
-    );
+    )
 }
 
 // A semaphore of which two threads have a permit opened with two at least.
@@ -244,4 +248,78 @@ fn one_for_each<N: PermitName + Send, T: Wait + Abort>(
     let (zero, _) = give_back(rt, lot, zero, first);
     let (one, _) = give_back(rt, lot, one, second);
     (zero, one)
+}
+
+// Plays on the lot with both seekers, and gives them back.
+fn play_rows<N: PermitName + Send + Sync, T: Threads + Wait + Sync + Abort>(
+    rt: &T,
+    alloc: Global,
+    lot: &Parking<N>,
+    zero: Seeker<N>,
+    one: Seeker<N>,
+) -> (Seeker<N>, Seeker<N>)
+    requires sems { (N.low ≡ 0) × (length N.permits ≡ 2) }
+    requires sizes { (lot.now.threads ≡ 2) × (lot.now.keys ≡ 2) }
+    requires none { HoldsNone zero × HoldsNone one }
+    requires wide { IsWide 2 zero × IsWide 2 one }
+    ensures none { HoldsNone result.0 × HoldsNone result.1 }
+    ensures threads { (result.0.thread ≡ 0) × (result.1.thread ≡ 1) }
+{
+    let Ok(idle) = Vec::with_capacity(alloc, THREADS) else {
+        panic!(rt; "no memory")
+    };
+    let seats = Mutex::new(Seats { idle });
+    let zero = two_and_no_third(rt, lot, zero);
+    let (zero, one) = one_for_each(rt, lot, zero, one);
+    sit(rt, &seats, one);
+    sit(rt, &seats, zero);
+    let zero = a_sleeper_gets_it(rt, lot, &seats);
+    let one = stand(rt, &seats, 1);
+    let Seats { idle } = seats.into_inner();
+    assert!(rt; idle.is_empty());
+    idle.destroy_empty();
+    (zero, one)
+}
+
+// Names the semaphores, plays on a lot of them, and settles them.
+fn play<N: PermitName + Send + Sync, T: Threads + Wait + Sync + Abort>(
+    rt: &T,
+    alloc: Global,
+    opened: OpenedSems,
+)
+    requires names { (opened.table ≡ N.opening.sems) × (opened.low ≡ N.low) × (opened.permits ≡ N.permits) }
+    requires sizes { (opened.threads ≡ 2) × (opened.low ≡ 0) × (length opened.permits ≡ 2) }
+{
+    let Ok(room) = Room::<N>::new(alloc, THREADS, 2) else {
+        panic!(rt; "no memory")
+    };
+    let Ok(mut back) = Vec::with_capacity(alloc, 2) else {
+        panic!(rt; "no memory")
+    };
+    let (scheme, mut seekers, roots, room) = opened.name(room);
+    let one = seekers.take_last();
+    let zero = seekers.take_last();
+    let lot = match ParkingLot::open(alloc, THREADS, roots, scheme) {
+        Ok(lot) => lot,
+        Err(_refused) => panic!(rt; "no memory"),
+    };
+    let (zero, one) = play_rows(rt, alloc, &lot, zero, one);
+    seekers.push_reserved(zero);
+    seekers.push_reserved(one);
+    let scheme = lot.close(rt, &mut back);
+    settle(scheme, seekers, back, room);
+}
+
+// `try_acquire` answers Got, Got and Empty, and a release answers Quiet; where a thread sleeps, Woke.
+#[test]
+fn try_acquire_succeeds(rt: HostRuntime) {
+    let Ok(mut permits) = Vec::with_capacity(rt.alloc(), 2) else {
+        panic!(&rt; "no memory")
+    };
+    permits.push_reserved(2);
+    permits.push_reserved(1);
+    match OpenedSems::open(rt.alloc(), THREADS, 0, permits) {
+        Ok(opened) => play::<Brand, HostRuntime>(&rt, rt.alloc(), opened),
+        Err(fault) => assert_eq!(&rt; fault, WordsFault::NoMemory),
+    }
 }
