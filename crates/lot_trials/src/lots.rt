@@ -21,8 +21,6 @@ struct Number {
 }
 
 impl Keeps for Number {
-    ghost use Rattle.std.specs.Prelude.{Unit, tt};
-
     type Part = ();
 
     ghost keeps = { λ key number. Unit {0} };
