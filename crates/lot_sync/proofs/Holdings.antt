@@ -5,7 +5,7 @@ use Rattle.atomic_table.proofs.Lists.{at_set}
 use mathlib.Core.Logic.{dite}
 use mathlib.Core.Option.{some-injective}
 use native.Mathlib.Decide.{ℕ_discrete}
-use Rattle.lot_sync.specs.Lot.{PassView, HeldView, Owns, OwnsNone, HasSeen, owning, leaving}
+use Rattle.lot_sync.specs.Lot.{PassView, HeldView, Owns, OwnsNone, HasSeen, owning, leaving, permits_with}
 use Rattle.lot_sync.specs.Values.{Gets, MayGiveBack}
 use Rattle.lot_sync.specs.Holding.{Holding, HoldingBoth}
 
@@ -19,7 +19,8 @@ module _ {V Part : Type 0} (keeps : ℕ → V → Type 0) (grows : V → V → T
   pub got_holds : (before after : PassView V) (key : ℕ) (held : HeldView V) → OwnsNone before → Gets keeps grows part before key held after → Holding grows after held
   got_holds before after key held none got = record {
     owns = subst (λ k. Owns after k) (sym got.key_is) got.owns;
-    alone = λ k other owned. none k (sym (get_or-set_other before.owns key k true false (λ e. other (e ∙ sym got.key_is))) ∙ subst (λ (p : PassView V). Owns p k) got.after_is owned);
+    alone = λ k other owned. none.no_lock k (sym (get_or-set_other before.owns key k true false (λ e. other (e ∙ sym got.key_is))) ∙ subst (λ (p : PassView V). Owns p k) got.after_is owned);
+    no_permit = λ k. ap (λ (p : PassView V). permits_with p k) got.after_is ∙ none.no_permit k;
     grown = grown_newly before after key held got;
   }
 
@@ -37,6 +38,7 @@ module _ {V Part : Type 0} (keeps : ℕ → V → Type 0) (grows : V → V → T
     owns_second = subst (λ k. Owns after k) (sym got.key_is) got.owns;
     alone = λ k not_first not_second owned. holds.alone k not_first
         (sym (get_or-set_other before.owns key k true false (λ e. not_second (e ∙ sym got.key_is))) ∙ subst (λ (p : PassView V). Owns p k) got.after_is owned);
+    no_permit = λ k. ap (λ (p : PassView V). permits_with p k) got.after_is ∙ holds.no_permit k;
     grown_first = λ u seen. ⊎_elim (λ same. absurd (two (sym same.0))) (λ else. holds.grown u else.1) (at_set before.seen key first.key second.value u (subst (λ (p : PassView V). HasSeen p first.key u) got.after_is seen));
     grown_second = grown_newly before after key second got;
   }
@@ -71,8 +73,10 @@ unowned (b ∷ bs) (suc k) (suc j) none e = unowned bs k j (λ i h. none (suc i)
 
 -- whoever owned nothing, got a lock and let it go again owns nothing
 pub owns_none_again : {V : Type 0} (p q r : PassView V) (k : ℕ) (x y : V) → OwnsNone p → q ≡ owning p k x → r ≡ leaving q k y → OwnsNone r
-owns_none_again p q r k x y none e f j h =
-    unowned p.owns k j none (subst (λ (z : PassView _). get_or (set z.owns k false) j false ≡ true) e (subst (λ (z : PassView _). get_or z.owns j false ≡ true) f h))
+owns_none_again p q r k x y none e f = record {
+  no_lock = λ j h. unowned p.owns k j none.no_lock (subst (λ (z : PassView _). get_or (set z.owns k false) j false ≡ true) e (subst (λ (z : PassView _). get_or z.owns j false ≡ true) f h));
+  no_permit = λ j. ap (λ (z : PassView _). permits_with z j) f ∙ (ap (λ (z : PassView _). permits_with z j) e ∙ none.no_permit j);
+}
 
 -- what was left is what the pass has seen
 pub seen_left : {V : Type 0} (p q : PassView V) (k : ℕ) (y u : V) → q ≡ leaving p k y → HasSeen q k u → y ≡ u
@@ -85,11 +89,15 @@ left_second grows before after first second both left = record {
   alone = λ k other owned. dite (ℕ_discrete k first.key)
       (λ e. not_both (get_or (set before.owns first.key false) k false) (subst (λ (p : PassView _). Owns p k) left owned) (ap (λ j. get_or (set before.owns first.key false) j false) e ∙ let_go_of before.owns first.key))
       (λ else. both.alone k else other (sym (get_or-set_other before.owns first.key k false false else) ∙ subst (λ (p : PassView _). Owns p k) left owned));
+  no_permit = λ k. ap (λ (p : PassView _). permits_with p k) left ∙ both.no_permit k;
   grown = λ u seen. ⊎_elim (λ same. absurd (both.two same.0)) (λ else. both.grown_second u else.1) (at_set before.seen first.key second.key first.value u (subst (λ (p : PassView _). HasSeen p second.key u) left seen));
 }
 
 -- whoever let go the one lock that it owned owns nothing
 pub left_all : {V : Type 0} (grows : V → V → Type 0) (pass : PassView V) (held : HeldView V) → Holding grows pass held → OwnsNone (leaving pass held.key held.value)
-left_all grows pass held holding = λ k owned. dite (ℕ_discrete k held.key)
-    (λ e. not_both (get_or (set pass.owns held.key false) k false) owned (ap (λ j. get_or (set pass.owns held.key false) j false) e ∙ let_go_of pass.owns held.key))
-    (λ else. holding.alone k else (sym (get_or-set_other pass.owns held.key k false false else) ∙ owned))
+left_all grows pass held holding = record {
+  no_lock = λ k owned. dite (ℕ_discrete k held.key)
+      (λ e. not_both (get_or (set pass.owns held.key false) k false) owned (ap (λ j. get_or (set pass.owns held.key false) j false) e ∙ let_go_of pass.owns held.key))
+      (λ else. holding.alone k else (sym (get_or-set_other pass.owns held.key k false false else) ∙ owned));
+  no_permit = holding.no_permit;
+}

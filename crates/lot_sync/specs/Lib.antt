@@ -1,6 +1,7 @@
 pub mod Lot
 pub mod Values
 pub mod Passes
+pub mod Permits
 pub mod Released
 pub mod Opened
 pub mod Starting

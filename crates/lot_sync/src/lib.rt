@@ -13,6 +13,7 @@
 
 #[cfg(test)]
 mod accounts;
+mod acquiring;
 mod apart;
 mod closing;
 #[cfg(test)]
@@ -48,6 +49,7 @@ pub use held::Held;
 pub use lot::Lot;
 pub use lot_core::{MAX_KEYS, MAX_THREADS};
 pub use lot_park::Moment;
+pub use lot_permits::{Freed, Permit, PermitName, Tried};
 pub use lot_waits::{Ledger, WaitName};
 pub use opened::Opened;
 pub use pass::{LotName, Pass};

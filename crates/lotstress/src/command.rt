@@ -3,6 +3,7 @@
 use crate::count::{Counting, count};
 use crate::failure::Failure;
 use crate::number::number;
+use crate::pool::{Pooling, pool};
 use crate::relay::{Relaying, relay};
 use crate::replay::replay;
 use arrayvec::ArrayString;
@@ -15,6 +16,9 @@ use std::thread::Threads;
 
 /// The greatest number of rounds of one thread.
 const MAX_ROUNDS: u64 = 10_000;
+
+/// The greatest number of permits.
+const MAX_PERMITS: u64 = 9_999;
 
 /// Room for the longest text of a fault: some words and a number of 20 digits.
 const LONGEST_FAULT: usize = 48;
@@ -79,6 +83,10 @@ fn text_of<T: Threads + Wait + Sync, F: Read + Drop>(
             let numbers = relaying(threads, rounds, seed);
             relay(rt, alloc, &numbers.ok_or(Failure::BadCommandLine)?)
         }
+        ["pool", threads, permits, rounds, seed] => {
+            let numbers = pooling(threads, permits, rounds, seed);
+            pool(rt, alloc, &numbers.ok_or(Failure::BadCommandLine)?)
+        }
         _ => Err(Failure::BadCommandLine),
     }
 }
@@ -95,6 +103,15 @@ fn counting(threads: &str, locks: &str, rounds: &str, seed: &str) -> Option<Coun
 fn relaying(threads: &str, rounds: &str, seed: &str) -> Option<Relaying> {
     Some(Relaying {
         threads: number(threads, 2, MAX_THREADS as u64)? as usize,
+        rounds: number(rounds, 0, MAX_ROUNDS)?,
+        seed: number(seed, 0, u64::MAX)?,
+    })
+}
+
+fn pooling(threads: &str, permits: &str, rounds: &str, seed: &str) -> Option<Pooling> {
+    Some(Pooling {
+        threads: number(threads, 1, MAX_THREADS as u64)? as usize,
+        permits: number(permits, 1, MAX_PERMITS)? as u32,
         rounds: number(rounds, 0, MAX_ROUNDS)?,
         seed: number(seed, 0, u64::MAX)?,
     })

@@ -3,9 +3,11 @@
 //! - `lotstress count THREADS LOCKS ROUNDS SEED`: workers lock, count and unlock; prints what each lock counted.
 //! - `lotstress relay THREADS ROUNDS SEED`: producers put numbers into a buffer, consumers take them, and both wait on conditions; prints
 //!   what was put and taken, and whether the conditions' ledger is balanced.
+//! - `lotstress pool THREADS PERMITS ROUNDS SEED`: workers share the permits of a semaphore; prints how many rounds were done, and whether
+//!   never more workers than permits were in.
 //! - `lotstress replay FILE`: runs a script of events and prints the state that it leaves.
 //!
-//! It stands on `lot_sync` (the locks and conditions), `lot_journal` (what they guard) and `lot_core` (the model).
+//! It stands on `lot_sync` (the locks, conditions and semaphores), `lot_journal` (what they guard) and `lot_core` (the model).
 #![tactic(auto)]
 
 mod buffer;
@@ -14,7 +16,9 @@ mod count;
 mod counter;
 mod failure;
 mod gate;
+mod inside;
 mod number;
+mod pool;
 mod relay;
 mod replay;
 #[cfg(test)]

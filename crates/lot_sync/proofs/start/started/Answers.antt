@@ -123,8 +123,8 @@ invariant_of-result g c =
       parking_keys = ap (λ (l : LotView (Tables LockWordsShown (Tables CondWordsShown SemWordsShown))). l.keys) ok ∙ keys;
       own_threads = threads_are names o c.args.opened c.opened.view_is c.requires.named;
       own_locks = c.len-locks.ensures ∙ roots_long;
-      own_conds = c.conds-locks.ensures ∙ conds_are names o c.args.opened c.opened.view_is c.requires.named;
-      own_sems = c.sems-locks.ensures ∙ sems_are names o c.args.opened c.opened.view_is c.requires.named;
+      own_conds = c.conds-conds.ensures ∙ conds_are names o c.args.opened c.opened.view_is c.requires.named;
+      own_sems = c.sems-sems.ensures ∙ sems_are names o c.args.opened c.opened.view_is c.requires.named;
     }
 
 pub unname_roots-requires-clause-keys : goal.unname_roots-requires-clause-keys
@@ -167,7 +167,7 @@ unname_roots-requires-clause-kind_room g c κs within =
     (c.add_roots.ensures.empty.0, subst (λ v. vec_len v ≤ length g.N.LotName.values + vec_capacity c.add_roots.new.roots) (sym c.in-Err-NoMemory-default-default.ensures.err.0) (omega (arith, keys, kinds, room, fits)))
 
 pub settle-nothing-requires-clause-room : goal.settle-nothing-requires-clause-room
-settle-nothing-requires-clause-room g c =
+settle-nothing-requires-clause-room g c κs within =
     let names : LotNames g.row.V.Denot = record { opening = g.N.Name.opening; threads = g.N.LotName.threads; values = g.N.LotName.values; locks = g.N.WaitName.locks; conds = g.N.WaitName.conds; low = g.N.PermitName.low; permits = g.N.PermitName.permits } in
     let o : OpenedView g.row.V.Denot = record { table = c.opened.inside.words.table; conds_table = c.opened.inside.kinds.conds.table; sems_table = c.opened.inside.kinds.sems.table; threads = c.opened.inside.threads; values = c.opened.inside.values.value.items; conds = c.opened.inside.kinds.conds.conds; low = c.opened.inside.kinds.sems.low; permits = c.opened.inside.kinds.sems.permits } in
     let first = c.name-scheme.ensures.counts.0 in
@@ -176,7 +176,7 @@ settle-nothing-requires-clause-room g c =
     (omega (arith, first, wide), room.1 ∙ conds_are names o c.args.opened c.opened.view_is c.requires.named, (let sems = room.2 in let same = sems_are names o c.args.opened c.opened.view_is c.requires.named in omega (arith, sems, same)))
 
 pub settle-nothing-requires-clause-threads : goal.settle-nothing-requires-clause-threads
-settle-nothing-requires-clause-threads g c = λ t near.
+settle-nothing-requires-clause-threads g c κs within = λ t near.
     let scheme : c.apart-words.result.1 ≡ c.name-scheme.result.0 =
     c.apart-words.ensures.1 ∙ (ap (λ (s : Tables LockWordsShown (Tables CondWordsShown SemWordsShown)). s.second) c.in-Err-NoMemory-default-default.ensures.err.1 ∙ ap (λ (s : Tables LockWordsShown (Tables CondWordsShown SemWordsShown)). s.second) c.new-2.ensures) in
     let long : length c.name-scheme.result.1.items ≡ c.opened.inside.kinds.conds.threads = (let n : length c.name-scheme.result.1.items ≡ vec_len c.name-scheme.result.1 = search rules in n ∙ c.name-scheme.ensures.counts.0) in
@@ -185,18 +185,18 @@ settle-nothing-requires-clause-threads g c = λ t near.
     (subst (λ n. t < n) (ap (λ (s : Tables CondWordsShown SemWordsShown). s.first.size.threads) scheme ∙ (c.name-scheme.ensures.threads.0 ∙ sym long)) near) refl
 
 pub settle-nothing-requires-clause-same_threads : goal.settle-nothing-requires-clause-same_threads
-settle-nothing-requires-clause-same_threads g c =
+settle-nothing-requires-clause-same_threads g c κs within =
     let scheme : c.apart-words.result.1 ≡ c.name-scheme.result.0 =
     c.apart-words.ensures.1 ∙ (ap (λ (s : Tables LockWordsShown (Tables CondWordsShown SemWordsShown)). s.second) c.in-Err-NoMemory-default-default.ensures.err.1 ∙ ap (λ (s : Tables LockWordsShown (Tables CondWordsShown SemWordsShown)). s.second) c.new-2.ensures) in
     ap (λ (s : Tables CondWordsShown SemWordsShown). s.second.size.threads) scheme ∙ (c.name-scheme.ensures.threads.1 ∙ sym (ap (λ (s : Tables CondWordsShown SemWordsShown). s.first.size.threads) scheme ∙ c.name-scheme.ensures.threads.0))
 
 pub settle-nothing-requires-clause-back : goal.settle-nothing-requires-clause-back
-settle-nothing-requires-clause-back g c =
+settle-nothing-requires-clause-back g c κs within =
     let long : length c.name-scheme.result.1.items ≡ c.opened.inside.kinds.conds.threads = (let n : length c.name-scheme.result.1.items ≡ vec_len c.name-scheme.result.1 = search rules in n ∙ c.name-scheme.ensures.counts.0) in
     none_held (g.N.WaitName.locks + g.N.WaitName.conds) (g.N.PermitName.low + length g.N.PermitName.permits) c.opened.inside.kinds.conds.threads c.name-scheme.result.1.items long c.name-scheme.ensures.rights
 
 pub settle-nothing-requires-clause-keys : goal.settle-nothing-requires-clause-keys
-settle-nothing-requires-clause-keys g c =
+settle-nothing-requires-clause-keys g c κs within =
     let names : LotNames g.row.V.Denot = record { opening = g.N.Name.opening; threads = g.N.LotName.threads; values = g.N.LotName.values; locks = g.N.WaitName.locks; conds = g.N.WaitName.conds; low = g.N.PermitName.low; permits = g.N.PermitName.permits } in
     let o : OpenedView g.row.V.Denot = record { table = c.opened.inside.words.table; conds_table = c.opened.inside.kinds.conds.table; sems_table = c.opened.inside.kinds.sems.table; threads = c.opened.inside.threads; values = c.opened.inside.values.value.items; conds = c.opened.inside.kinds.conds.conds; low = c.opened.inside.kinds.sems.low; permits = c.opened.inside.kinds.sems.permits } in
     let roots_long : vec_len c.opened.inside.roots ≡ length g.N.LotName.values =
@@ -213,7 +213,7 @@ settle-nothing-requires-clause-keys g c =
     )
 
 pub settle-nothing-requires-clause-roots : goal.settle-nothing-requires-clause-roots
-settle-nothing-requires-clause-roots g c =
+settle-nothing-requires-clause-roots g c κs within =
     let names : LotNames g.row.V.Denot = record { opening = g.N.Name.opening; threads = g.N.LotName.threads; values = g.N.LotName.values; locks = g.N.WaitName.locks; conds = g.N.WaitName.conds; low = g.N.PermitName.low; permits = g.N.PermitName.permits } in
     let o : OpenedView g.row.V.Denot = record { table = c.opened.inside.words.table; conds_table = c.opened.inside.kinds.conds.table; sems_table = c.opened.inside.kinds.sems.table; threads = c.opened.inside.threads; values = c.opened.inside.values.value.items; conds = c.opened.inside.kinds.conds.conds; low = c.opened.inside.kinds.sems.low; permits = c.opened.inside.kinds.sems.permits } in
     subst (λ n. StandFrom kind_key n c.unname_roots.new.kind_roots.items) (locks_are names o c.args.opened c.opened.view_is c.requires.named) c.unname_roots.ensures.kinds

@@ -53,7 +53,7 @@ unname_roots-requires-clause-keys g c κs within =
     λ i r at. c.close-scheme.ensures.roots.named i r (subst (λ (rs : List (OneOf (RootShown LockRootView) KindRootShown)). slice_get rs i ≡ Some r) roots_are at)
 
 pub settle-ledger-requires-clause-room : goal.settle-ledger-requires-clause-room
-settle-ledger-requires-clause-room g c =
+settle-ledger-requires-clause-room g c κs within =
     let room = c.into_inner-idle.result.room in
     let fits = room.for_kinds in
     let all : length c.args.passes.items ≡ vec_len c.args.passes = search rules in
@@ -64,22 +64,22 @@ settle-ledger-requires-clause-room g c =
     (omega (arith, all, some, same, count, threads, fits.0), fits.1, fits.2)
 
 pub settle-ledger-requires-clause-threads : goal.settle-ledger-requires-clause-threads
-settle-ledger-requires-clause-threads g c = λ t near.
+settle-ledger-requires-clause-threads g c κs within = λ t near.
     subst (Any (λ (q : RightsView). q.thread ≡ t)) (sym c.gather.ensures.beside)
     (some_after rights_of (λ (q : RightsView). q.thread ≡ t) c.args.passes.items (c.requires.all t (subst (λ n. t < n) (sym c.self.invariant.own_threads ∙ ap (λ (v : LotView). v.threads) c.self.view_is)
     (subst (λ n. t < n) (ap (λ (s : Tables CondWordsShown SemWordsShown). s.first.size.threads) (c.apart-words.ensures.1 ∙ ap (λ (s : Tables LockWordsShown (Tables CondWordsShown SemWordsShown)). s.second) c.close-scheme.ensures.scheme) ∙ c.self.invariant.conds_threads) near))))
 
 pub settle-ledger-requires-clause-same_threads : goal.settle-ledger-requires-clause-same_threads
-settle-ledger-requires-clause-same_threads g c =
+settle-ledger-requires-clause-same_threads g c κs within =
     let scheme = c.apart-words.ensures.1 ∙ ap (λ (s : Tables LockWordsShown (Tables CondWordsShown SemWordsShown)). s.second) c.close-scheme.ensures.scheme in
     ap (λ (s : Tables CondWordsShown SemWordsShown). s.second.size.threads) scheme ∙ (c.self.invariant.sems_threads ∙ sym (ap (λ (s : Tables CondWordsShown SemWordsShown). s.first.size.threads) scheme ∙ c.self.invariant.conds_threads))
 
 pub settle-ledger-requires-clause-back : goal.settle-ledger-requires-clause-back
-settle-ledger-requires-clause-back g c =
+settle-ledger-requires-clause-back g c κs within =
     subst (All HoldsNoPermit) (sym c.gather.ensures.beside) (All-map HoldsNoPermit rights_of c.args.passes.items (All-weaker OwnsNone (λ (p : PassView _). HoldsNoPermit (rights_of p)) (λ p free. free.no_permit) c.args.passes.items c.requires.free))
 
 pub settle-ledger-requires-clause-keys : goal.settle-ledger-requires-clause-keys
-settle-ledger-requires-clause-keys g c =
+settle-ledger-requires-clause-keys g c κs within =
     let before = c.into_inner-idle.result.room.named in
     let none : before.items ≡ [] = no_elements before.items (let n : length before.items ≡ vec_len before = search rules in n ∙ c.into_inner-idle.result.room.no_roots.0) in
     let roots_are : c.close-scheme.new.out.items ≡ c.close-scheme.ensures.roots.roots =
@@ -90,7 +90,7 @@ settle-ledger-requires-clause-keys g c =
     (c.self.invariant.named_low, omega (arith, long, unnamed))
 
 pub settle-ledger-requires-clause-roots : goal.settle-ledger-requires-clause-roots
-settle-ledger-requires-clause-roots g c = subst (λ n. StandFrom kind_key n c.unname_roots.new.kind_roots.items) (sym c.self.invariant.named_locks) c.unname_roots.ensures.kinds
+settle-ledger-requires-clause-roots g c κs within = subst (λ n. StandFrom kind_key n c.unname_roots.new.kind_roots.items) (sym c.self.invariant.named_locks) c.unname_roots.ensures.kinds
 
 pub close-requires-clause-table : goal.close-requires-clause-table
 close-requires-clause-table g c =

@@ -3,8 +3,12 @@ use Rattle.lot_words.specs.Values.{IsIn, HasSeen, MayLeave}
 use Rattle.lot_sync.specs.Lot.{Owns}
 use Rattle.lot_sync.specs.Values.{MayGiveBack}
 use Rattle.lot_sync.specs.Passes.{Standing}
-use Rattle.lot_sync.proofs.Rests.{may_leave, owned_within, owns_again, lies_in, own_on}
+use Rattle.lot_sync.proofs.Rests.{may_leave, owned_within, owns_again, lies_in, own_on, owned_held}
 use Rattle.lot_sync.proofs.lot.Lot.given_back.Goals as goal
+
+pub value_in-requires-clause-holds : goal.value_in-requires-clause-holds
+value_in-requires-clause-holds g c κs within =
+    let holds = owned_held c.apart-right.result.0.own.holds c.args.key (subst (λ p. Owns p c.args.key) c.apart-right.ensures.same c.requires.owns) in (holds, c.apart-right.ensures.rest.out c.args.key holds)
 
 pub value_in-requires-clause-lawful : goal.value_in-requires-clause-lawful
 value_in-requires-clause-lawful g c κs within =

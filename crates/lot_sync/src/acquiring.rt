@@ -1,0 +1,115 @@
+//! Permits of counting semaphores, on the same parking lot as the locks. WTF has no semaphore on its lot: a permit is got and given back
+//! as a lock is, and a release leaves it to whoever comes first.
+ghost use Rattle.std.specs.Prelude.{◌≡◌, ◌≢◌, ℕ, ◌+◌, ◌≤◌};
+ghost use Rattle.lot_permits.specs.Permits.{opening_permits};
+ghost use Rattle.lot_sync.specs.Lot.{IsWide, IsSem, one_more, one_less, permits_with};
+ghost use Rattle.lot_sync.specs.Permits.{HasPermit, TriesToGet};
+
+use crate::lot::Lot;
+use crate::pass::{LotName, Pass};
+use crate::tables::{LotScheme, Sems};
+use lot_kinds::Rights;
+use lot_park::Moment;
+use lot_permits::{Freed, Permit, Tried};
+use lot_words::Keeps;
+use std::sync::Wait;
+
+impl<V: Keeps + Send, N: LotName<V> + Send> Lot<V, N> {
+    /// Gets a permit where one is left, and else leaves all as it was. It never waits: a load, and where that found a permit, one
+    /// compare-exchange.
+    ///
+    /// `Empty` where the load found none; `Busy` where the exchange failed, since another thread changed the semaphore meanwhile.
+    #[inline(always)]
+    pub fn try_acquire(&self, pass: Pass<V, N>, key: usize) -> (Pass<V, N>, Tried<N>)
+        requires key { IsSem self.now key }
+        ensures tries { TriesToGet pass key result.1 result.0 }
+        ensures wide { IsWide self.now result.0 }
+    {
+        let (right, kinds) = pass.apart();
+        let (waiter, seeker) = kinds.apart();
+        let scheme = self.parking.scheme().second().second();
+        let (seeker, tried) = lot_permits::try_acquire(scheme, seeker, key);
+        (self.at_rest(right, Rights::new(waiter, seeker)), tried)
+    }
+
+    /// Gets a permit, waiting for it where none is left. Where one is, it is a load and one compare-exchange. It takes no memory.
+    #[inline(always)]
+    pub fn acquire<R: Wait>(
+        &self,
+        rt: &R,
+        pass: Pass<V, N>,
+        key: usize,
+    ) -> (Pass<V, N>, Permit<N>)
+        requires key { IsSem self.now key }
+        ensures permit { (result.1.key ≡ key) × (result.1.thread ≡ pass.thread) }
+        ensures pass { result.0 ≡ one_more pass key }
+        ensures wide { IsWide self.now result.0 }
+    {
+        let (right, kinds) = pass.apart();
+        let (waiter, seeker) = kinds.apart();
+        let scheme = self.parking.scheme().second().second();
+        let (seeker, permit) = lot_permits::acquire::<LotScheme<V, N>, N, Sems, R>(
+            rt,
+            &self.parking,
+            scheme,
+            seeker,
+            key,
+        );
+        (self.at_rest(right, Rights::new(waiter, seeker)), permit)
+    }
+
+    /// Gives a permit back: `Quiet` where nobody was parked, `Woke` where the first of the semaphore's line was woken, who tries again, and
+    /// `Nobody` where the slow way found nobody there. Where nobody is parked it is one compare-exchange. It takes no memory.
+    #[inline(always)]
+    pub fn release<R: Wait>(
+        &self,
+        rt: &R,
+        pass: Pass<V, N>,
+        permit: Permit<N>,
+        moment: Moment,
+    ) -> (Pass<V, N>, Freed)
+        requires key { IsSem self.now permit.key }
+        requires has { HasPermit pass permit }
+        ensures pass { result.0 ≡ one_less pass permit.key }
+        ensures wide { IsWide self.now result.0 }
+    {
+        let (right, kinds) = pass.apart();
+        let (waiter, seeker) = kinds.apart();
+        let scheme = self.parking.scheme().second().second();
+        let (seeker, freed) = lot_permits::release::<LotScheme<V, N>, N, Sems, R>(
+            rt,
+            &self.parking,
+            scheme,
+            seeker,
+            permit,
+            moment,
+        );
+        (self.at_rest(right, Rights::new(waiter, seeker)), freed)
+    }
+
+    /// Shows that two passes are of different threads, and that of each semaphore both hold together at most as many permits as there
+    /// were at the opening. It changes nothing.
+    pub fn check_permits(&self, first: Pass<V, N>, second: Pass<V, N>) -> (Pass<V, N>, Pass<V, N>)
+        ensures same { (result.0 ≡ first) × (result.1 ≡ second) }
+        ensures threads { first.thread ≢ second.thread }
+        ensures permits { (k : ℕ) → permits_with first k + permits_with second k ≤ opening_permits N.low N.permits k }
+    {
+        let (first, first_kinds) = first.apart();
+        let (first_waiter, first_seeker) = first_kinds.apart();
+        let (second, second_kinds) = second.apart();
+        let (second_waiter, second_seeker) = second_kinds.apart();
+        let scheme = self.parking.scheme().second().second();
+        let (one, two) = lot_permits::check_permits(scheme, first_seeker, second_seeker);
+        (
+            Pass::at_rest(first, Rights::new(first_waiter, one)),
+            Pass::at_rest(second, Rights::new(second_waiter, two)),
+        )
+    }
+
+    /// How many permits of the semaphore were left at some moment of this call. It is an observation: nothing is promised of it.
+    pub fn permits_left(&self, key: usize) -> u64
+        requires { IsSem self.now key }
+    {
+        lot_permits::permits_left(self.parking.scheme().second().second(), key)
+    }
+}
