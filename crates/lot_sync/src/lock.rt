@@ -206,8 +206,8 @@ impl<V: Keeps + Send, N: LotName<V> + Send> Lot<V, N> {
         unreachable!()
     }
 
-    /// Yields some times where the lock is unparked and this call has yields left, and else sleeps in its line. Answers whether the
-    /// lock was got meanwhile; else the caller tries again.
+    /// Yields some times, the first time without a look, and from then on where the lock is unparked and this call has yields left; else
+    /// sleeps in the lock's line. Answers whether the lock was got meanwhile; else the caller tries again.
     fn wait_for<R: Wait, B: BeforeSleep>(
         &self,
         rt: &R,
@@ -223,7 +223,7 @@ impl<V: Keeps + Send, N: LotName<V> + Send> Lot<V, N> {
         ensures spins { spins.new ≤ SPINS }
         ensures ends { MatchBool result.1 (IsOwner V.keeps V.grows V.part pass key result.0) (IsAwakeFor pass key result.0) }
     {
-        let is_parked = self.words().bits(key) & PARKED != 0;
+        let is_parked = *spins > 0 && self.words().bits(key) & PARKED != 0;
         if !is_parked && *spins < SPINS {
             *spins = back_off(*spins);
             return (pass, false);
