@@ -41,7 +41,7 @@ impl<V: Keeps + Send, N: LotName<V> + Send> Lot<V, N> {
         ensures wide { IsWide self.now result.0 }
         ensures fits { IsFitting result.1 false moment.now }
     {
-        self.release(rt, pass, held, moment, false)
+        self.unlock_as(rt, pass, held, moment, false)
     }
 
     /// Lets the lock go, and asks for the moment only where somebody is parked, as WTF's `Lock::unlock` reads the clock there
@@ -109,7 +109,7 @@ impl<V: Keeps + Send, N: LotName<V> + Send> Lot<V, N> {
         ensures wide { IsWide self.now result.0 }
         ensures fits { IsFitting result.1 true moment.now }
     {
-        self.release(rt, pass, held, moment, true)
+        self.unlock_as(rt, pass, held, moment, true)
     }
 
     /// Lets the lock go where nobody is parked; else the held value comes back, and the lock is still owned.
@@ -137,7 +137,7 @@ impl<V: Keeps + Send, N: LotName<V> + Send> Lot<V, N> {
     }
 
     #[inline(always)]
-    fn release<R: Wait>(
+    fn unlock_as<R: Wait>(
         &self,
         rt: &R,
         pass: Pass<V, N>,

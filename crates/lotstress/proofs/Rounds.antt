@@ -1,11 +1,8 @@
 -- One round of a worker: what it may give back, and that it owns nothing afterwards.
 use Rattle.std.proofs.Common.{◌≡◌, ℕ, ◌<◌, ◌+◌, Bool, true, false, List, [], ◌∷◌, zero, suc, get_or, set, refl, sym, ap, subst, ◌∙◌, ⊎_elim, ◌++◌}
 use Rattle.atomic_table.proofs.Lists.{at_set}
-use Rattle.lot_sync.specs.Lot.{PassView, HeldView, OwnsNone, HasSeen, owning, leaving}
+use Rattle.lot_sync.specs.Lot.{PassView, HeldView, HasSeen, owning, leaving}
 use Rattle.lot_sync.specs.Values.{Gets, MayGiveBack}
-use Rattle.std.specs.List.{All, Any}
-use Rattle.std.proofs.lemmas.List.Elements.{All-push}
-use Rattle.lot_sync.proofs.Turns.{all_threads}
 use Rattle.std.proofs.Common.{append_assoc}
 use Rattle.lot_journal.specs.declared.entry.Entry.{Entry}
 use Rattle.lot_journal.specs.Journal.{JournalView, GoesOn, calls_of}
@@ -36,19 +33,6 @@ module _ {V Part : Type 0} (keeps : ℕ → V → Type 0) (grows : V → V → T
   pub read_may_go_back : (itself : (x : V) → grows x x) (before after : PassView V) (key : ℕ) (held : HeldView V) → Gets keeps grows part before key held after → MayGiveBack keeps grows part after held
   read_may_go_back itself before after key held gets =
       may_give_back before after key before.thread held held gets refl (record { key_same = refl; kept = subst (λ k. keeps k held.value) (sym gets.key_is) gets.kept; grown = itself held.value; others = λ t else. refl })
-
-module _ {V : Type 0} where
-  -- each thread below n has its pass in the list
-  abbrev pub AreThere : List (PassView V) → ℕ → Type 0
-  AreThere passes n = (t : ℕ) → t < n → Any (λ (p : PassView V). p.thread ≡ t) passes
-
-  -- one pass more is there
-  pub more_are_there : (before after : List (PassView V)) (pass : PassView V) (n : ℕ) → after ≡ before ++ pass ∷ [] → pass.thread ≡ n → AreThere before n → AreThere after (n + 1)
-  more_are_there before after pass n is thread there t near = subst (Any (λ (p : PassView V). p.thread ≡ t)) (sym is)
-      (all_threads before pass n thread there t near)
-
-  pub more_are_free : (before after : List (PassView V)) (pass : PassView V) → after ≡ before ++ pass ∷ [] → All OwnsNone before → OwnsNone pass → All OwnsNone after
-  more_are_free before after pass is free own = subst (All OwnsNone) (sym is) (All-push OwnsNone before pass free own)
 
 -- ---- a call is in the history
 abbrev entry_of : ℕ → Add → ℕ → Entry Add ℕ

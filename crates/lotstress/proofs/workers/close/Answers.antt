@@ -1,5 +1,5 @@
 use Rattle.std.proofs.Common.{◌∙◌, arith}
-use Rattle.lotstress.proofs.Rounds.{more_are_there, more_are_free}
+use Rattle.lot_sync.proofs.Turns.{more_are_there, more_are_free}
 use Rattle.lotstress.proofs.workers.close.Goals as goal
 
 pub loop-thread-preserved : goal.loop-thread-preserved

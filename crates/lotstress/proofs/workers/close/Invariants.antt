@@ -1,7 +1,7 @@
 use Rattle.std.proofs.Common.{◌≡◌, ◌≤◌, vec_len, vec_capacity}
 use Rattle.std.specs.List.{All}
 use Rattle.lot_sync.specs.Lot.{OwnsNone}
-use Rattle.lotstress.proofs.Rounds.{AreThere}
+use Rattle.lot_sync.proofs.Turns.{AreThere}
 use Rattle.lotstress.proofs.workers.close.Given as goal
 
 abbrev pub invariant-loop-thread : goal.invariant-loop-thread

@@ -1,7 +1,7 @@
 use Rattle.std.proofs.Common.{ap, ◌∙◌}
 use Rattle.lot_sync.specs.Lot.{leaving}
 use Rattle.lot_sync.proofs.Rests.{rests_free, leaves_all, own_on}
-use Rattle.lot_sync.proofs.lot.Lot.release.Goals as goal
+use Rattle.lot_sync.proofs.lot.Lot.unlock_as.Goals as goal
 
 pub at_rest-requires-clause-rest : goal.at_rest-requires-clause-rest
 at_rest-requires-clause-rest g c κs within =
