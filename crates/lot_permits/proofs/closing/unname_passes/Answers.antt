@@ -26,7 +26,8 @@ loop-seeker-preserved g c =
 
 pub returns-clause-same : goal.returns-clause-same
 returns-clause-same g c =
-    let none : c.loop-seeker.seekers.items ≡ [] = no_elements c.loop-seeker.seekers.items (let n : length c.loop-seeker.seekers.items ≡ vec_len c.loop-seeker.seekers = search rules in n ∙ c.in_default.ensures.cases.0) in
+    let len : length c.loop-seeker.seekers.items ≡ vec_len c.loop-seeker.seekers = search rules in
+    let none : c.loop-seeker.seekers.items ≡ [] = no_elements c.loop-seeker.seekers.items (len ∙ c.in_default.ensures.cases.0) in
     ap (map shown_permits) c.reverse.ensures.items
     ∙ (map_turned shown_permits c.loop-seeker.passes.items ∙ subst (λ qs. qs ++ reverse (map shown_permits c.loop-seeker.passes.items) ≡ c.args.seekers.items) none c.loop-seeker.invariant.moved)
 

@@ -1,12 +1,12 @@
 use Rattle.std.proofs.Common.{rules, ◌≡◌, ◌++◌, ◌+◌, ℕ, List, [], length, sym, ap, subst, ◌∙◌, arith}
 use Rattle.std.specs.List.{All, Any}
 use Rattle.std.proofs.lemmas.List.Elements.{All-nil, All-push}
+use Rattle.lot_core.proofs.Rows.{get_or_replicate}
 use Rattle.lot_rights.specs.Shown.{RootShown}
 use Rattle.lot_rights.proofs.Dealt.{dealt_last, none_back, one_back}
 use Rattle.lot_sems.specs.declared.views.SemRootView.{SemRootView}
 use Rattle.lot_waits.proofs.Turns.{no_elements, some_at}
 use Rattle.lot_permits.specs.Permits.{PermitsView, HoldsNone, without_permits}
-use Rattle.lot_permits.proofs.Held.{holds_none}
 use Rattle.lot_permits.proofs.tests.play.Goals as goal
 
 pub play_rows-zero-requires-clause-none : goal.play_rows-zero-requires-clause-none
@@ -16,7 +16,7 @@ play_rows-zero-requires-clause-none g c κs within =
     let one = dealt_last (without_permits keys) 1 c.name-scheme.result.1.items c.take_last-one.new.self.items c.take_last-one.result c.take_last-one.ensures.items
     (len, λ t near. c.name-scheme.ensures.seekers t (omega (arith, near, c.requires.sizes.0))) in
     let zero = dealt_last (without_permits keys) 0 c.take_last-one.new.self.items c.take_last-zero.new.self.items c.take_last-zero.result c.take_last-zero.ensures.items one.1 in
-    (subst HoldsNone (sym zero.0) (holds_none keys 0), subst HoldsNone (sym one.0) (holds_none keys 1))
+    (subst HoldsNone (sym zero.0) (λ k. get_or_replicate 0 keys k), subst HoldsNone (sym one.0) (λ k. get_or_replicate 0 keys k))
 
 pub settle-requires-clause-seekers : goal.settle-requires-clause-seekers
 settle-requires-clause-seekers g c =
