@@ -1,0 +1,202 @@
+//! A crew: the threads of a plan work on one lot, and end.
+ghost use Rattle.std.specs.Prelude.{◌≡◌, ◌≤◌, ◌<◌, ℕ, length, vec_len, vec_capacity};
+ghost use Rattle.lot_sync.specs.Lot.{OwnsNone};
+ghost use Rattle.lot_sync.specs.Opened.{IsNamed};
+
+use crate::clock::now;
+use crate::failure::Failure;
+use crate::meeting::Meeting;
+use crate::plan::{Job, Plan};
+use crate::relay::{consume, produce};
+use crate::rounds::{count, share, wait};
+use crate::summary::{Done, Summary};
+use crate::times::Times;
+use crate::value::Number;
+use lot_sync::{Lot, LotName, Opened, Pass};
+use std::alloc::Global;
+use std::marker::Brand;
+use std::sync::Wait;
+use std::thread::{Threads, map_indices};
+use std::time::{Clock, Duration};
+
+/// Opens a lot, lets the crew work, closes the lot, and answers what was done.
+pub fn run<T: Threads + Wait + Clock + Sync>(
+    rt: &T,
+    alloc: Global,
+    plan: &Plan,
+) -> Result<Summary, Failure> {
+    let begin = now(rt);
+    let values = vec![in alloc; Number { n: 0 }; plan.locks]?;
+    match Lot::<Number, Brand>::open(alloc, plan.threads, values, plan.conds) {
+        Ok(opened) => run_on::<Brand, T>(rt, alloc, plan, opened, begin),
+        Err(_) => Err(Failure::NoMemory),
+    }
+}
+
+fn run_on<N: LotName<Number> + Send + Sync, T: Threads + Wait + Clock + Sync>(
+    rt: &T,
+    alloc: Global,
+    plan: &Plan,
+    opened: Opened<Number>,
+    begin: u64,
+) -> Result<Summary, Failure>
+    requires named { IsNamed (record { opening = N.opening; threads = N.threads; values = N.values; locks = N.locks; conds = N.conds }) opened }
+    requires sizes { (opened.threads ≡ plan.now.threads) × (length opened.values ≡ plan.now.locks) }
+{
+    let Ok(passes) = Vec::with_capacity(alloc, plan.threads) else {
+        let _ = opened.close();
+        return Err(Failure::NoMemory);
+    };
+    let Ok(lot) = opened.start::<N>(alloc) else {
+        passes.destroy_empty();
+        return Err(Failure::NoMemory);
+    };
+    let done = work_all(rt, alloc, plan, &lot);
+    let values = close(rt, lot, passes, plan.threads);
+    let mut summary = Summary::new(alloc, done?, begin, now(rt))?;
+    for number in values.iter() {
+        summary.sum = summary.sum.wrapping_add(number.n);
+    }
+    Ok(summary)
+}
+
+/// Runs the crew to its end; where the work has a time, one thread more sleeps for so long.
+fn work_all<N: LotName<Number> + Send + Sync, T: Threads + Wait + Clock + Sync>(
+    rt: &T,
+    alloc: Global,
+    plan: &Plan,
+    lot: &Lot<Number, N>,
+) -> Result<Vec<Option<Done>>, Failure>
+    requires { lot.now.locks ≡ plan.now.locks }
+{
+    let meeting = Meeting::new();
+    let all = match plan.millis() {
+        Some(_) => plan.threads + 1,
+        None => plan.threads,
+    };
+    let done = map_indices(
+        rt,
+        alloc,
+        all,
+        &|worker: usize| -> Option<Done>
+            requires { lot.now.locks ≡ plan.now.locks }
+        {
+            match plan.millis() {
+                Some(millis) if worker == plan.threads => {
+                    meeting.join(all as u64);
+                    rt.sleep(Duration::from_millis(millis));
+                    meeting.end();
+                    None
+                }
+                _ => work(rt, alloc, plan, lot, &meeting, all, worker),
+            }
+        },
+    )?;
+    Ok(done)
+}
+
+/// One thread: it registers, meets the others, works, and leaves.
+fn work<N: LotName<Number> + Send, T: Wait + Clock>(
+    rt: &T,
+    alloc: Global,
+    plan: &Plan,
+    lot: &Lot<Number, N>,
+    meeting: &Meeting,
+    all: usize,
+    worker: usize,
+) -> Option<Done>
+    requires { lot.now.locks ≡ plan.now.locks }
+{
+    let registered = lot.register(rt);
+    meeting.join(all as u64);
+    let Ok(pass) = registered else {
+        return None;
+    };
+    let Ok(mut times) = Times::new(alloc) else {
+        lot.leave(rt, pass);
+        return None;
+    };
+    let begin = now(rt);
+    let (pass, rounds) = go(rt, plan, lot, meeting, worker, pass, &mut times);
+    let end = now(rt);
+    lot.leave(rt, pass);
+    Some(Done {
+        begin,
+        end,
+        rounds,
+        times,
+    })
+}
+
+/// The work of the plan.
+fn go<N: LotName<Number> + Send, T: Wait + Clock>(
+    rt: &T,
+    plan: &Plan,
+    lot: &Lot<Number, N>,
+    meeting: &Meeting,
+    worker: usize,
+    pass: Pass<Number, N>,
+    times: &mut Times,
+) -> (Pass<Number, N>, u64)
+    requires locks { lot.now.locks ≡ plan.now.locks }
+    requires free { OwnsNone pass }
+    ensures { OwnsNone result.0 }
+{
+    match plan.job {
+        Job::Count(rounds) => (count(rt, lot, worker, pass, rounds), rounds),
+        Job::Share(_) => share(rt, lot, meeting, worker, pass),
+        Job::Wait(held, outside, _) => {
+            (
+                wait(rt, lot, meeting, pass, (held, outside), times),
+                times.count(),
+            )
+        }
+        Job::Relay(producers, rounds) if lot.locks() == 1 && lot.conds() == 2 => {
+            if worker < producers {
+                (produce(rt, lot, pass, rounds), rounds)
+            } else {
+                let taken = plan.taken(producers, rounds, worker);
+                (consume(rt, lot, pass, taken), 0)
+            }
+        }
+        Job::Relay(..) | Job::Start => (pass, 0),
+    }
+}
+
+/// Takes all passes and ends the lot.
+fn close<N: LotName<Number> + Send, T: Wait>(
+    rt: &T,
+    mut lot: Lot<Number, N>,
+    mut passes: Vec<Pass<Number, N>>,
+    threads: usize,
+) -> Vec<Number>
+    requires threads { lot.threads ≡ threads }
+    requires room { (vec_len passes ≡ 0) × (threads ≤ vec_capacity passes) }
+{
+    for thread in 0..threads {
+        let pass = take_pass(rt, &mut lot, thread);
+        passes.push_reserved(pass);
+    }
+    lot.close(rt, passes).0
+}
+
+/// Takes the pass of one thread.
+fn take_pass<N: LotName<Number> + Send, T: Wait>(
+    rt: &T,
+    lot: &mut Lot<Number, N>,
+    thread: usize,
+) -> Pass<Number, N>
+    ensures same { (lot.new.threads ≡ lot.old.threads) × (lot.new.locks ≡ lot.old.locks) }
+    ensures thread { result.thread ≡ thread }
+    ensures free { OwnsNone result }
+{
+    for _ in rt.forever() {
+        if let Some(pass) = lot.take_left(rt) {
+            if pass.thread() == thread {
+                return pass;
+            }
+            lot.leave(rt, pass);
+        }
+    }
+    unreachable!()
+}

@@ -1,0 +1,54 @@
+//! `lotbench` runs one piece of work on the locks and prints how long it took, on one line:
+//!
+//! - `lotbench count THREADS LOCKS ROUNDS`: each thread locks a lock by chance, adds one to its number and unlocks, so many times.
+//! - `lotbench share THREADS MILLIS`: the same on one lock, for so long; how often the threads got it that got it least and most often.
+//! - `lotbench relay PRODUCERS CONSUMERS ROUNDS`: producers put into a buffer, consumers take from it, and both wait on conditions.
+//! - `lotbench wait THREADS HELD OUTSIDE MILLIS`: how long it takes from asking for a lock to owning it, where each thread holds it for
+//!   so many nanoseconds and stays outside for so many.
+//! - `lotbench start THREADS LOCKS`: a lot is opened and started, all its threads register, and it is closed.
+//!
+//! Without words it prints nothing. It stands on the public calls of `lot_sync` alone.
+#![tactic(auto)]
+
+mod clock;
+mod command;
+mod crew;
+mod failure;
+mod meeting;
+mod plan;
+mod relay;
+mod rounds;
+mod summary;
+#[cfg(test)]
+mod tests;
+mod times;
+mod value;
+
+use command::run_command;
+use std::env;
+use std::process::ExitCode;
+
+fn main(rt: HostRuntime) -> ExitCode {
+    let alloc = rt.alloc();
+    let Ok(args) = env::args(&rt) else {
+        return ExitCode::from(1);
+    };
+    let Ok(words) = args.skip(1).collect::<Vec<String>>(alloc) else {
+        return ExitCode::from(3);
+    };
+    let Ok(views) = words
+        .iter()
+        .map(|word| word.as_str())
+        .collect::<Vec<&str>>(alloc)
+    else {
+        return ExitCode::from(3);
+    };
+    let status = run_command(
+        &rt,
+        alloc,
+        views.as_slice(),
+        &mut rt.stdout(),
+        &mut rt.stderr(),
+    );
+    ExitCode::from(status)
+}

@@ -1,0 +1,119 @@
+//! What a crew is to do.
+ghost use Rattle.std.specs.Prelude.{◌≤◌, ◌+◌, IfSome};
+ghost use Rattle.lot_core.specs.declared.state.TheConstants.{MAX_THREADS, MAX_KEYS};
+
+use lot_sync::{MAX_KEYS, MAX_THREADS};
+
+/// The work of each thread.
+#[derive(Clone, Copy)]
+pub enum Job {
+    /// So many rounds on locks by chance.
+    Count(u64),
+    /// Rounds on lock 0 for so many milliseconds.
+    Share(u64),
+    /// So many producers put so many times each, and the other threads take.
+    Relay(usize, u64),
+    /// Rounds on lock 0 for so many milliseconds, the lock being held for so many nanoseconds, and so many outside.
+    Wait(u64, u64, u64),
+    /// Nothing.
+    Start,
+}
+
+/// How many threads, locks and conditions, and the work.
+#[derive(Clone, Copy)]
+pub struct Plan {
+    pub threads: usize,
+    pub locks: usize,
+    pub conds: usize,
+    pub job: Job,
+    ghost threads_fit: { (1 ≤ threads) × (threads ≤ MAX_THREADS) },
+    ghost locks_fit: { (1 ≤ locks) × (locks + conds ≤ MAX_KEYS) },
+}
+
+impl Plan {
+    /// How long the work goes on, in milliseconds, where it has a time.
+    pub fn millis(&self) -> Option<u64> {
+        match self.job {
+            Job::Share(millis) | Job::Wait(_, _, millis) => Some(millis),
+            _ => None,
+        }
+    }
+
+    /// How often a consumer takes: together they take all that is put.
+    pub fn taken(&self, producers: usize, rounds: u64, worker: usize) -> u64 {
+        let consumers = self.threads.saturating_sub(producers).max(1) as u64;
+        let all = (producers as u64).saturating_mul(rounds);
+        let number = worker.saturating_sub(producers) as u64;
+        let rest = if number < all % consumers { 1 } else { 0 };
+        all / consumers + rest
+    }
+}
+
+/// The most milliseconds of a run.
+const MOST_MILLIS: u64 = 100_000;
+
+/// The most nanoseconds of a section.
+const MOST_NANOS: u64 = 1_000_000_000;
+
+/// The most rounds of a thread.
+const MOST_ROUNDS: u64 = 1_000_000_000;
+
+/// The plan that the words of a command line spell.
+pub fn plan_of(words: &[&str]) -> Option<Plan> {
+    match words {
+        ["count", threads, locks, rounds] => {
+            let rounds = number(rounds, MOST_ROUNDS)?;
+            sized(threads, locks, Job::Count(rounds))
+        }
+        ["share", threads, millis] => sized(threads, "1", Job::Share(number(millis, MOST_MILLIS)?)),
+        ["relay", producers, consumers, rounds] => relaying(producers, consumers, rounds),
+        ["wait", threads, held, outside, millis] => {
+            let held = number(held, MOST_NANOS)?;
+            let outside = number(outside, MOST_NANOS)?;
+            let millis = number(millis, MOST_MILLIS)?;
+            sized(threads, "1", Job::Wait(held, outside, millis))
+        }
+        ["start", threads, locks] => sized(threads, locks, Job::Start),
+        _ => None,
+    }
+}
+
+fn relaying(producers: &str, consumers: &str, rounds: &str) -> Option<Plan> {
+    let producers = number(producers, MAX_THREADS as u64)? as usize;
+    let consumers = number(consumers, MAX_THREADS as u64)? as usize;
+    let rounds = number(rounds, MOST_ROUNDS)?;
+    if producers == 0 || consumers == 0 || producers + consumers > MAX_THREADS {
+        return None;
+    }
+    Some(Plan {
+        threads: producers + consumers,
+        locks: 1,
+        conds: 2,
+        job: Job::Relay(producers, rounds),
+    })
+}
+
+fn sized(threads: &str, locks: &str, job: Job) -> Option<Plan> {
+    let threads = number(threads, MAX_THREADS as u64)? as usize;
+    let locks = number(locks, MAX_KEYS as u64)? as usize;
+    if threads == 0 || locks == 0 {
+        return None;
+    }
+    Some(Plan {
+        threads,
+        locks,
+        conds: 0,
+        job,
+    })
+}
+
+/// The number that the word spells, where it is no greater.
+fn number(word: &str, greatest: u64) -> Option<u64>
+    ensures { IfSome result (λ n. n ≤ greatest) }
+{
+    let n = word.parse::<u64>().ok()?;
+    if n > greatest {
+        return None;
+    }
+    Some(n)
+}

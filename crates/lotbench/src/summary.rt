@@ -1,0 +1,100 @@
+//! What a crew has done, and the line that tells it.
+use crate::failure::Failure;
+use crate::plan::{Job, Plan};
+use crate::times::Times;
+use std::alloc::{AllocError, Global};
+use std::fmt::Write as _;
+
+/// What one thread has done: when it began and ended, in nanoseconds, and how many rounds it made.
+#[derive(Drop)]
+pub struct Done {
+    pub begin: u64,
+    pub end: u64,
+    pub rounds: u64,
+    pub times: Times,
+}
+
+/// What all have done.
+#[derive(Drop)]
+pub struct Summary {
+    /// The sum of the locks' numbers.
+    pub sum: u64,
+    /// From the first thread's begin to the last one's end, in nanoseconds.
+    pub nanos: u64,
+    /// From before the opening to after the closing.
+    pub life: u64,
+    /// The rounds of the thread that made least, of the one that made most, and of all.
+    pub least: u64,
+    pub most: u64,
+    pub all: u64,
+    pub times: Times,
+}
+
+impl Summary {
+    pub fn new(
+        alloc: Global,
+        done: Vec<Option<Done>>,
+        opened: u64,
+        closed: u64,
+    ) -> Result<Summary, AllocError> {
+        let mut begin = u64::MAX;
+        let mut end = 0;
+        let mut summary = Summary {
+            sum: 0,
+            nanos: 0,
+            life: closed.wrapping_sub(opened),
+            least: u64::MAX,
+            most: 0,
+            all: 0,
+            times: Times::new(alloc)?,
+        };
+        for one in done.iter() {
+            if let Some(one) = one {
+                begin = begin.min(one.begin);
+                end = one.end.max(end);
+                summary.least = summary.least.min(one.rounds);
+                summary.most = summary.most.max(one.rounds);
+                summary.all = summary.all.wrapping_add(one.rounds);
+                summary.times.add(&one.times);
+            }
+        }
+        summary.nanos = end.saturating_sub(begin);
+        Ok(summary)
+    }
+
+    /// The line, after the words of the command.
+    pub fn line(&self, alloc: Global, plan: &Plan, words: &[&str]) -> Result<String, Failure> {
+        let mut text = String::new(alloc);
+        write!(text, "lot")?;
+        for word in words.iter() {
+            write!(text, " {word}")?;
+        }
+        match plan.job {
+            Job::Count(_) | Job::Relay(..) => {
+                writeln!(
+                    text,
+                    " sum={} rounds={} ns={}",
+                    self.sum, self.all, self.nanos
+                )?
+            }
+            Job::Share(_) => writeln!(
+                text,
+                " sum={} rounds={} ns={} least={} most={}",
+                self.sum, self.all, self.nanos, self.least, self.most
+            )?,
+            Job::Wait(..) => writeln!(
+                text,
+                " sum={} rounds={} ns={} p50={} p99={} p999={} most={}",
+                self.sum,
+                self.all,
+                self.nanos,
+                self.times.part(500),
+                self.times.part(990),
+                self.times.part(999),
+                self.times.most()
+            )?,
+            Job::Start => writeln!(text, " ns={}", self.life)?,
+        }
+        Ok(text)
+    }
+}
