@@ -298,7 +298,7 @@ fn play<N: LotName<Number> + Send + Sync, T: Threads + Wait + Sync + Abort>(
     trial: Trial,
     shared: &Shared,
 ) -> Vec<Number>
-    requires named { IsNamed (record { opening = N.opening; threads = N.threads; values = N.values; locks = N.locks; conds = N.conds }) opened }
+    requires named { IsNamed (record { opening = N.opening; threads = N.threads; values = N.values; locks = N.locks; conds = N.conds; low = N.low; permits = N.permits }) opened }
     requires sizes { (opened.threads ≡ threads) × (0 < length opened.values) }
 {
     let Ok(passes) = Vec::with_capacity(alloc, threads) else {
