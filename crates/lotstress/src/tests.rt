@@ -320,7 +320,7 @@ fn wrong_words_are_refused(rt: HostRuntime) {
     }
 }
 
-const COUNTS: [(&str, &[&str], &str); 8] = [
+const COUNTS: [(&str, &[&str], &str); 7] = [
     (
         "two threads",
         &["count", "2", "1", "1000", "7"],
@@ -352,11 +352,6 @@ const COUNTS: [(&str, &[&str], &str); 8] = [
         "lock 0 total 6400\nsum 6400\n",
     ),
     (
-        "256 threads",
-        &["count", "256", "1", "2", "9"],
-        "lock 0 total 512\nsum 512\n",
-    ),
-    (
         "three locks",
         &["count", "8", "3", "1000", "1"],
         "lock 0 total 2667\nlock 1 total 2667\nlock 2 total 2666\nsum 8000\n",
@@ -372,7 +367,7 @@ fn all_rounds_are_counted(rt: HostRuntime) {
     }
 }
 
-const RELAYS: [(&str, &[&str], &str); 7] = [
+const RELAYS: [(&str, &[&str], &str); 6] = [
     (
         "two producers and two consumers",
         &["relay", "4", "10", "3"],
@@ -403,11 +398,6 @@ const RELAYS: [(&str, &[&str], &str); 7] = [
         &["relay", "64", "500", "7"],
         "put 16000\ntaken 16000\nsum 4008000\nbalanced\n",
     ),
-    (
-        "256 threads",
-        &["relay", "256", "1", "0"],
-        "put 128\ntaken 128\nsum 128\nbalanced\n",
-    ),
 ];
 
 #[test]
@@ -416,6 +406,27 @@ fn all_numbers_are_relayed(rt: HostRuntime) {
         for (name, words, out) in RELAYS {
             check(&rt, rt.alloc(), name, words, None, (out, "", 0));
         }
+    }
+}
+
+/// As many threads as there may be.
+const MOST_THREADS: [(&str, &[&str], &str); 2] = [
+    (
+        "256 threads that count",
+        &["count", "256", "1", "2", "9"],
+        "lock 0 total 512\nsum 512\n",
+    ),
+    (
+        "256 threads that relay",
+        &["relay", "256", "1", "0"],
+        "put 128\ntaken 128\nsum 128\nbalanced\n",
+    ),
+];
+
+#[test]
+fn most_threads(rt: HostRuntime) {
+    for (name, words, out) in MOST_THREADS {
+        check(&rt, rt.alloc(), name, words, None, (out, "", 0));
     }
 }
 

@@ -16,7 +16,7 @@ owes_on : (n : ℕ) (all line : List ℕ) (thread : ℕ) (owes after : List (ℕ
 owes_on n all line thread owes after lt same first owed pushed =
     let is : thread ≡ get_or all n 0 = first ∙ ap (λ l. get_or l 0 thread) (same ∙ drop-cons all n 0 lt) in
     pushed ∙ ap (λ ds. ds ++ (thread, 0) ∷ []) owed ∙ ap (λ x. debts (take n all) ++ (x, 0) ∷ []) is
-        ∙ sym (debts-push (take n all) (get_or all n 0)) ∙ ap (λ l. debts l) (sym (take_more all n 0 lt))
+    ∙ sym (debts-push (take n all) (get_or all n 0)) ∙ ap (λ l. debts l) (sym (take_more all n 0 lt))
 
 pub loop-preserved : goal.loop-preserved
 loop-preserved g c =
