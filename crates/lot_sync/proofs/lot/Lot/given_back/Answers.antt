@@ -3,7 +3,7 @@ use Rattle.lot_words.specs.Values.{IsIn, HasSeen, MayLeave}
 use Rattle.lot_sync.specs.Lot.{Owns}
 use Rattle.lot_sync.specs.Values.{MayGiveBack}
 use Rattle.lot_sync.specs.Passes.{Standing}
-use Rattle.lot_sync.proofs.Rests.{may_leave, owned_within, owns_again, lies_in, counts_on}
+use Rattle.lot_sync.proofs.Rests.{owned_held, may_leave, owned_within, owns_again, lies_in, counts_on}
 use Rattle.lot_sync.proofs.lot.Lot.given_back.Goals as goal
 
 pub value_in-requires-clause-lawful : goal.value_in-requires-clause-lawful
@@ -31,3 +31,8 @@ returns-clause-locks g c = owned_within _ _ _ c.apart-right.result.1 c.apart-rig
 
 pub returns-clause-counts : goal.returns-clause-counts
 returns-clause-counts g c = counts_on _ c.apart-right.result.0.thread c.value_in.result.thread c.apart-right.result.1 (ap (λ (r : Standing g.row.V.Denot). r.thread) c.value_in.ensures) c.apart-right.ensures.counts
+
+pub value_in-requires-clause-holds : goal.value_in-requires-clause-holds
+value_in-requires-clause-holds g c κs within =
+    let held = owned_held c.apart-right.result.0.own.holds c.args.key (subst (λ p. Owns p c.args.key) c.apart-right.ensures.same c.requires.owns) in
+    (held, c.apart-right.ensures.rest.out c.args.key held)
