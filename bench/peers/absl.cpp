@@ -16,4 +16,8 @@ struct Peer {
     };
 };
 
-int main(int argc, char** argv) { return bench::main<Peer>(argc, argv); }
+int main(int argc, char** argv) {
+    // A library that was built for debugging would look for deadlocks at each lock.
+    absl::SetMutexDeadlockDetectionMode(absl::OnDeadlockCycle::kIgnore);
+    return bench::main<Peer>(argc, argv);
+}

@@ -55,6 +55,7 @@ fn gather<N: WaitName>(mut waiters: Vec<Waiter<N>>, passes: &mut Vec<CondPass>, 
 {
     while let Some(waiter) = waiters.pop() {
         let (right, _, tallies) = waiter.apart();
+        let tallies = Box::into_inner(tallies);
         add(&mut sums.called, &tallies.called);
         add(&mut sums.woken, &tallies.woken);
         passes.push_reserved(right.into_pass());

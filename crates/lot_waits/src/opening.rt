@@ -122,13 +122,13 @@ impl OpenedConds {
 /// Names the passes, in order. Their own room stays.
 fn name_passes<N: WaitName>(
     passes: &mut Vec<CondPass>,
-    mut tallies: Vec<Tallies>,
+    mut tallies: Vec<Box<Tallies>>,
     locks: usize,
     waiters: &mut Vec<Waiter<N>>,
 )
     requires locks { locks ≡ N.locks }
     requires new { All (IsNewPass N.opening.conds (N.locks + N.conds)) passes.old.items }
-    requires zeros { All (AreZeros N.conds) tallies.items × (vec_len tallies ≡ vec_len passes.old) }
+    requires zeros { All (λ t. AreZeros N.conds t.value) tallies.items × (vec_len tallies ≡ vec_len passes.old) }
     requires room { IsFor (vec_len passes.old) waiters.old }
     ensures same { waiters.new.items ≡ map shown_counts passes.old.items }
     ensures long { vec_len waiters.new ≡ vec_len passes.old }

@@ -13,7 +13,7 @@ use std::marker::Model;
 
 /// The memory that naming and closing want. Contracts see for how many threads and conditions it is.
 pub struct Room<N: WaitName> {
-    tallies: Vec<Tallies>,
+    tallies: Vec<Box<Tallies>>,
     waiters: Vec<Waiter<N>>,
     roots: Vec<CondKeyRoot<N>>,
     sums: Tallies,
@@ -29,7 +29,7 @@ impl<N: WaitName> Model for Room<N> {
 
     ghost view = { λ s. record { threads = vec_len s.tallies; conds = vec_len s.sums.called } };
 
-    ghost invariant = { λ s. All (AreZeros (vec_len s.sums.called)) s.tallies.items × IsFor (vec_len s.tallies) s.waiters × IsFor (vec_len s.sums.called) s.roots × AreZeros (vec_len s.sums.called) s.sums };
+    ghost invariant = { λ s. All (λ t. AreZeros (vec_len s.sums.called) t.value) s.tallies.items × IsFor (vec_len s.tallies) s.waiters × IsFor (vec_len s.sums.called) s.roots × AreZeros (vec_len s.sums.called) s.sums };
 }
 
 impl<N: WaitName> Room<N> {
@@ -57,8 +57,15 @@ impl<N: WaitName> Room<N> {
 
 impl<N: WaitName> Room<N> {
     /// The tallies of each thread, the lists of waiters and of roots, and the sums.
-    pub(crate) fn apart(self) -> (Vec<Tallies>, Vec<Waiter<N>>, Vec<CondKeyRoot<N>>, Tallies)
-        ensures tallies { (vec_len result.0 ≡ self.threads) × All (AreZeros self.conds) result.0.items }
+    pub(crate) fn apart(
+        self,
+    ) -> (
+        Vec<Box<Tallies>>,
+        Vec<Waiter<N>>,
+        Vec<CondKeyRoot<N>>,
+        Tallies,
+    )
+        ensures tallies { (vec_len result.0 ≡ self.threads) × All (λ t. AreZeros self.conds t.value) result.0.items }
         ensures lists { IsFor self.threads result.1 × IsFor self.conds result.2 }
         ensures sums { AreZeros self.conds result.3 }
     {
@@ -85,13 +92,14 @@ impl<N: WaitName> Drop for Room<N> {
     }
 }
 
-fn tallies_for(alloc: Global, threads: usize, conds: usize) -> Result<Vec<Tallies>, AllocError>
+fn tallies_for(alloc: Global, threads: usize, conds: usize) -> Result<Vec<Box<Tallies>>, AllocError>
     ensures long { IfOk result (λ t. vec_len t ≡ threads) }
-    ensures zeros { IfOk result (λ t. All (AreZeros conds) t.items) }
+    ensures zeros { IfOk result (λ ts. All (λ t. AreZeros conds t.value) ts.items) }
 {
     let mut tallies = Vec::with_capacity(alloc, threads)?;
     for _ in 0..threads {
-        tallies.push_reserved(Tallies::new(alloc, conds)?);
+        let none = Tallies::new(alloc, conds)?;
+        tallies.push_reserved(Box::new(alloc, none)?);
     }
     Ok(tallies)
 }

@@ -13,7 +13,8 @@ use std::marker::Model;
 pub struct Waiter<N: WaitName> {
     right: NamedCond<N>,
     locks: usize,
-    tallies: Tallies,
+    // Apart from the rest, since whoever locks and unlocks moves the waiter along and counts nothing.
+    tallies: Box<Tallies>,
 }
 
 impl<N: WaitName> Model for Waiter<N> {
@@ -23,7 +24,7 @@ impl<N: WaitName> Model for Waiter<N> {
 
     ghost view = { λ s. counts_in s.right };
 
-    ghost invariant = { λ s. IsWaiter N.locks N.conds s.right s.locks s.tallies.called.items s.tallies.woken.items };
+    ghost invariant = { λ s. IsWaiter N.locks N.conds s.right s.locks s.tallies.value.called.items s.tallies.value.woken.items };
 }
 
 impl<N: WaitName> Waiter<N> {
@@ -35,10 +36,10 @@ impl<N: WaitName> Waiter<N> {
         self.right.thread()
     }
 
-    pub(crate) fn new(right: NamedCond<N>, locks: usize, tallies: Tallies) -> Waiter<N>
+    pub(crate) fn new(right: NamedCond<N>, locks: usize, tallies: Box<Tallies>) -> Waiter<N>
         requires locks { locks ≡ N.locks }
         requires calm { IsCalmStanding right }
-        requires kept { AreKept N.locks N.conds (counts_in right) tallies.called.items tallies.woken.items }
+        requires kept { AreKept N.locks N.conds (counts_in right) tallies.value.called.items tallies.value.woken.items }
         ensures same { result ≡ counts_in right }
         ensures wide { IsWide (N.locks + N.conds) result }
     {
@@ -50,11 +51,11 @@ impl<N: WaitName> Waiter<N> {
     }
 
     /// The right, the number of locks and what is kept of its counts.
-    pub(crate) fn apart(self) -> (NamedCond<N>, usize, Tallies)
+    pub(crate) fn apart(self) -> (NamedCond<N>, usize, Box<Tallies>)
         ensures same { self ≡ counts_in result.0 }
         ensures calm { IsCalmStanding result.0 }
         ensures locks { result.1 ≡ N.locks }
-        ensures kept { AreKept N.locks N.conds self result.2.called.items result.2.woken.items }
+        ensures kept { AreKept N.locks N.conds self result.2.value.called.items result.2.value.woken.items }
     {
         let Waiter {
             right,
@@ -68,13 +69,13 @@ impl<N: WaitName> Waiter<N> {
     pub(crate) fn woken(
         right: NamedCond<N>,
         locks: usize,
-        mut tallies: Tallies,
+        mut tallies: Box<Tallies>,
         cond: usize,
     ) -> Waiter<N>
         requires locks { locks ≡ N.locks }
         requires cond { IsAmongConds N.locks N.conds cond }
         requires calm { IsCalmStanding right }
-        requires was { (q : CountsView) × AreKept N.locks N.conds q tallies.called.items tallies.woken.items × (counts_in right ≡ woke q cond) }
+        requires was { (q : CountsView) × AreKept N.locks N.conds q tallies.value.called.items tallies.value.woken.items × (counts_in right ≡ woke q cond) }
         ensures same { result ≡ counts_in right }
         ensures wide { IsWide (N.locks + N.conds) result }
     {
@@ -86,14 +87,14 @@ impl<N: WaitName> Waiter<N> {
     pub(crate) fn taken(
         right: NamedCond<N>,
         locks: usize,
-        mut tallies: Tallies,
+        mut tallies: Box<Tallies>,
         cond: usize,
         count: usize,
     ) -> Waiter<N>
         requires locks { locks ≡ N.locks }
         requires cond { IsAmongConds N.locks N.conds cond }
         requires calm { IsCalmStanding right }
-        requires was { (q : CountsView) × AreKept N.locks N.conds q tallies.called.items tallies.woken.items × (counts_in right ≡ took q cond count) }
+        requires was { (q : CountsView) × AreKept N.locks N.conds q tallies.value.called.items tallies.value.woken.items × (counts_in right ≡ took q cond count) }
         ensures same { result ≡ counts_in right }
         ensures wide { IsWide (N.locks + N.conds) result }
     {

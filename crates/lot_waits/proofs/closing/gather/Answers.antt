@@ -3,7 +3,8 @@ use Rattle.std.proofs.lemmas.List.{map-append}
 use Rattle.std.specs.List.{All}
 use Rattle.std.proofs.lemmas.List.Elements.{All-push}
 use Rattle.lot_waits.specs.Rights.{CondStanding}
-use Rattle.lot_waits.specs.Counts.{CountsView, counts_in, shown_counts}
+use Rattle.lot_waits.specs.Counts.{CountsView, AreKept, counts_in, shown_counts}
+use Rattle.lot_waits.specs.declared.tallies.Tallies.{Tallies}
 use Rattle.lot_waits.specs.Ledger.{AreSums, called_at, woken_at}
 use Rattle.lot_waits.specs.Opening.{IsIn}
 use Rattle.lot_waits.proofs.Turns.{moves_on, all_turned, map_turned, no_elements}
@@ -16,6 +17,7 @@ loop-waiter-preserved g c =
     let left = c.pop.new.self.items in
     let right = c.into_pass.result in
     let same : c.in-Some.waiter ≡ shown_counts right = c.apart-right.ensures.same ∙ ap counts_in c.into_pass.ensures.same in
+    let kept = subst (λ (t : Tallies). AreKept g.N.WaitName.locks g.N.WaitName.conds c.in-Some.waiter t.called.items t.woken.items) (sym c.into_inner-tallies.ensures) c.apart-right.ensures.kept in
     let before : List CountsView = map shown_counts c.loop-waiter.passes.items in
     let gathered : map shown_counts c.push_reserved.new.self.items ≡ before ++ c.in-Some.waiter ∷ [] =
     ap (map shown_counts) c.push_reserved.ensures.items ∙ (map-append shown_counts c.loop-waiter.passes.items (right ∷ []) ∙ ap (λ q. before ++ q ∷ []) (sym same)) in
@@ -25,11 +27,11 @@ loop-waiter-preserved g c =
           (c.into_pass.ensures.named, ap (λ (r : CondStanding). r.own.out) (sym c.into_pass.ensures.same) ∙ c.apart-right.ensures.calm.0));
       moved = ap (λ qs. left ++ reverse qs) gathered ∙ moves_on c.loop-waiter.waiters.items left c.in-Some.waiter before c.args.waiters.items c.in-Some.ensures.items inv.moved;
       called = subst (λ qs. AreSums g.N.WaitName.locks g.N.WaitName.conds called_at qs c.add.new.numbers.items) (sym gathered)
-          (sums_pushed g.N.WaitName.locks g.N.WaitName.conds called_at before c.in-Some.waiter c.in-Some.waiter.called c.loop-waiter.sums.called.items c.apart-right.result.2.called.items c.add.new.numbers.items
-          (λ i. refl) c.apart-right.ensures.kept.called_are inv.called c.add.ensures);
+          (sums_pushed g.N.WaitName.locks g.N.WaitName.conds called_at before c.in-Some.waiter c.in-Some.waiter.called c.loop-waiter.sums.called.items c.into_inner-tallies.result.called.items c.add.new.numbers.items
+          (λ i. refl) kept.called_are inv.called c.add.ensures);
       woken = subst (λ qs. AreSums g.N.WaitName.locks g.N.WaitName.conds woken_at qs c.add-in-Some.new.numbers.items) (sym gathered)
-          (sums_pushed g.N.WaitName.locks g.N.WaitName.conds woken_at before c.in-Some.waiter c.in-Some.waiter.woken c.loop-waiter.sums.woken.items c.apart-right.result.2.woken.items c.add-in-Some.new.numbers.items
-          (λ i. refl) c.apart-right.ensures.kept.woken_are inv.woken c.add-in-Some.ensures);
+          (sums_pushed g.N.WaitName.locks g.N.WaitName.conds woken_at before c.in-Some.waiter c.in-Some.waiter.woken c.loop-waiter.sums.woken.items c.into_inner-tallies.result.woken.items c.add-in-Some.new.numbers.items
+          (λ i. refl) kept.woken_are inv.woken c.add-in-Some.ensures);
       count = omega (arith, c.in-Some.ensures.len, c.push_reserved.ensures.len, inv.count);
       fits = omega (arith, c.push_reserved.ensures.capacity, inv.fits);
     }

@@ -8,7 +8,7 @@ use Rattle.lot_waits.proofs.opening.name_passes.Given as goal
 abbrev pub invariant-loop-pass : goal.invariant-loop-pass
 invariant-loop-pass g l = record {
   new : All (IsNewPass g.N.Name.opening.conds (g.N.WaitName.locks + g.N.WaitName.conds)) l.passes.items;
-  zeros : All (AreZeros g.N.WaitName.conds) l.tallies.items;
+  zeros : All (λ t. AreZeros g.N.WaitName.conds t.value) l.tallies.items;
   paired : vec_len l.tallies ≡ vec_len l.passes;
   moved : map shown_counts l.passes.items ++ reverse l.waiters.items ≡ map shown_counts l.initial.passes.items;
   count : vec_len l.passes + vec_len l.waiters ≡ vec_len l.initial.passes;

@@ -7,5 +7,5 @@ abbrev pub invariant-loop : goal.invariant-loop
 invariant-loop l = record {
   long : vec_len l.tallies ≡ l.counter;
   room : l.fn.threads ≤ vec_capacity l.tallies;
-  zeros : All (AreZeros l.fn.conds) l.tallies.items;
+  zeros : All (λ t. AreZeros l.fn.conds t.value) l.tallies.items;
 }
