@@ -80,7 +80,7 @@ fn new_journals(alloc: Global, locks: usize) -> Result<Vec<Journal<Counter>>, Al
     Ok(journals)
 }
 
-/// Starts the lot, lets the workers run, and prints what the locks counted.
+/// Lets the workers run on a lot of the journals, and prints what the locks counted.
 fn run<N: LotName<Journal<Counter>> + Send + Sync, T: Threads + Wait + Sync, G: Gate + Sync>(
     rt: &T,
     alloc: Global,
@@ -91,14 +91,34 @@ fn run<N: LotName<Journal<Counter>> + Send + Sync, T: Threads + Wait + Sync, G: 
     requires named { IsNamed (record { opening = N.opening; threads = N.threads; values = N.values; locks = N.locks; conds = N.conds; low = N.low; permits = N.permits }) opened }
     requires sizes { (opened.threads ≡ counting.now.threads) × (length opened.values ≡ counting.now.locks) }
 {
-    let (lot, passes) = match start::<Journal<Counter>, N>(alloc, counting.threads, opened) {
+    let journals = run_workers::<Journal<Counter>, N, T, G>(rt, alloc, gate, counting, opened)?;
+    print(alloc, journals.as_slice())
+}
+
+/// Starts the lot, lets the workers run, and ends it: the values that they leave.
+fn run_workers<
+    V: Counts + Send + Sync,
+    N: LotName<V> + Send + Sync,
+    T: Threads + Wait + Sync,
+    G: Gate + Sync,
+>(
+    rt: &T,
+    alloc: Global,
+    gate: &G,
+    counting: &Counting,
+    opened: Opened<V>,
+) -> Result<Vec<V>, Failure>
+    requires named { IsNamed (record { opening = N.opening; threads = N.threads; values = N.values; locks = N.locks; conds = N.conds; low = N.low; permits = N.permits }) opened }
+    requires sizes { (opened.threads ≡ counting.now.threads) × (length opened.values ≡ counting.now.locks) }
+{
+    let (lot, passes) = match start::<V, N>(alloc, counting.threads, opened) {
         Ok(started) => started,
         Err(failure) => return Err(failure),
     };
     let outcome = count_all(rt, gate, counting, &lot);
-    let (journals, _) = close(rt, lot, passes, counting.threads);
+    let (values, _) = close(rt, lot, passes, counting.threads);
     outcome?;
-    print(alloc, journals.as_slice())
+    Ok(values)
 }
 
 /// Runs the workers to their end.

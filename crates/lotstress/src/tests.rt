@@ -409,6 +409,60 @@ fn all_numbers_are_relayed(rt: HostRuntime) {
     }
 }
 
+const POOLS: [(&str, &[&str], &str); 4] = [
+    (
+        "four threads on two permits",
+        &["pool", "4", "2", "10", "1"],
+        "done 40\nwithin\n",
+    ),
+    (
+        "nothing to do",
+        &["pool", "2", "9999", "0", "18446744073709551615"],
+        "done 0\nwithin\n",
+    ),
+    (
+        "64 threads on one permit",
+        &["pool", "64", "1", "100", "7"],
+        "done 6400\nwithin\n",
+    ),
+    (
+        "eight threads on three permits",
+        &["pool", "8", "3", "1000", "1"],
+        "done 8000\nwithin\n",
+    ),
+];
+
+const WRONG_POOLS: [(&str, &[&str]); 6] = [
+    ("pool of no permits", &["pool", "4", "0", "1", "1"]),
+    ("pool of 10000 permits", &["pool", "4", "10000", "1", "1"]),
+    ("pool of no threads", &["pool", "0", "1", "1", "1"]),
+    ("pool of 257 threads", &["pool", "257", "1", "1", "1"]),
+    ("pool without a seed", &["pool", "4", "1", "1"]),
+    (
+        "pool with a word too many",
+        &["pool", "4", "1", "1", "1", "1"],
+    ),
+];
+
+#[test]
+fn permits_are_shared(rt: HostRuntime) {
+    for (name, words) in WRONG_POOLS {
+        check(
+            &rt,
+            rt.alloc(),
+            name,
+            words,
+            None,
+            ("", "bad command line\n", 1),
+        );
+    }
+    for _ in 0..10u8 {
+        for (name, words, out) in POOLS {
+            check(&rt, rt.alloc(), name, words, None, (out, "", 0));
+        }
+    }
+}
+
 /// As many threads as there may be.
 const MOST_THREADS: [(&str, &[&str], &str); 2] = [
     (
