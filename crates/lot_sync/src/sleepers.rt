@@ -1,5 +1,6 @@
 //! Rows with a thread that is held before it looks for its letter, and of a parking that comes too late.
 ghost use Rattle.std.specs.Prelude.{◌≡◌, ◌≤◌, ◌<◌, ◌+◌, ◌≢◌, ℕ};
+ghost use Rattle.lot_kinds.specs.Rights.{HoldsNone};
 ghost use Rattle.lot_sync.specs.Lot.{OwnsNone};
 ghost use Rattle.lot_sync.specs.Passes.{AreRightsOf};
 ghost use Rattle.lot_sync.specs.Holding.{Holding, HoldingBoth, Seeks};
@@ -447,6 +448,7 @@ fn seek<N: LotName<Count> + Send + Sync, T: Wait + Abort>(
     requires free { OwnsNone pass }
     ensures seeks { Seeks (λ x y. x.n ≤ y.n) N.values N.threads key result.0 }
     ensures own { AreRightsOf result.0.thread result.1 }
+    ensures none { HoldsNone result.1 }
 {
     let (right, kinds) = pass.apart();
     let (right, got) = lot.take(right, key);
@@ -522,6 +524,7 @@ fn get<N: LotName<Count> + Send + Sync, T: Wait + Abort>(
     requires key { key < lot.now.locks }
     requires seeks { Seeks (λ x y. x.n ≤ y.n) N.values N.threads key right }
     requires own { AreRightsOf right.thread kinds }
+    requires none { HoldsNone kinds }
     ensures key { result.1.key ≡ key }
     ensures holding { Holding (λ x y. x.n ≤ y.n) result.0 result.1 }
 {
