@@ -48,7 +48,7 @@ impl<V: Keeps + Send, N: LotName<V> + Send> Lot<V, N> {
         conds: usize,
     ) -> Result<Opened<V>, (OpenFault, Vec<V>)>
         requires { KeepAll V.keeps values.items }
-        ensures opened { IfOk result (λ o. (o.threads ≡ threads) × (o.values ≡ values.items) × (o.conds ≡ conds) × (o.permits ≡ [])) }
+        ensures opened { IfOk result (λ o. (o.threads ≡ threads) × (o.values ≡ values.items) × (o.conds ≡ conds) × (o.low ≡ vec_len values + conds) × (o.permits ≡ [])) }
         ensures limits { IfOk result (λ _. IsThreadCount threads × IsKeyCount (vec_len values) conds 0) }
         ensures fault { IfErr result (λ e. Refuses threads (vec_len values) conds 0 e.0) }
         ensures back { IfErr result (λ e. e.1.items ≡ values.items) }
@@ -69,7 +69,7 @@ impl<V: Keeps + Send, N: LotName<V> + Send> Lot<V, N> {
         permits: &[u32],
     ) -> Result<Opened<V>, (OpenFault, Vec<V>)>
         requires { KeepAll V.keeps values.items }
-        ensures opened { IfOk result (λ o. (o.threads ≡ threads) × (o.values ≡ values.items) × (o.conds ≡ conds) × (o.permits ≡ permits.now)) }
+        ensures opened { IfOk result (λ o. (o.threads ≡ threads) × (o.values ≡ values.items) × (o.conds ≡ conds) × (o.low ≡ vec_len values + conds) × (o.permits ≡ permits.now)) }
         ensures limits { IfOk result (λ _. IsThreadCount threads × IsKeyCount (vec_len values) conds (length permits.now)) }
         ensures fault { IfErr result (λ e. Refuses threads (vec_len values) conds (length permits.now) e.0) }
         ensures back { IfErr result (λ e. e.1.items ≡ values.items) }
@@ -111,7 +111,7 @@ fn with_kinds<V: Keeps + Send>(
     requires opened { IsOpened values.value.items threads words passes.items roots.items }
     requires some { 0 < vec_len roots }
     requires few { vec_len roots + conds + length permits.now ≤ MAX_KEYS }
-    ensures opened { IfOk result (λ o. (o.threads ≡ threads) × (o.values ≡ values.value.items) × (o.conds ≡ conds) × (o.permits ≡ permits.now)) }
+    ensures opened { IfOk result (λ o. (o.threads ≡ threads) × (o.values ≡ values.value.items) × (o.conds ≡ conds) × (o.low ≡ vec_len roots + conds) × (o.permits ≡ permits.now)) }
     ensures fault { IfErr result (λ e. e.0 ≡ OpenFault.NoMemory) }
     ensures back { IfErr result (λ e. e.1.items ≡ values.value.items) }
 {
