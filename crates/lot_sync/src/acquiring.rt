@@ -34,12 +34,7 @@ impl<V: Keeps + Send, N: LotName<V> + Send> Lot<V, N> {
 
     /// Gets a permit, waiting for it where none is left. Where one is, it is a load and one compare-exchange. It takes no memory.
     #[inline(always)]
-    pub fn acquire<R: Wait>(
-        &self,
-        rt: &R,
-        pass: Pass<V, N>,
-        key: usize,
-    ) -> (Pass<V, N>, Permit<N>)
+    pub fn acquire<R: Wait>(&self, rt: &R, pass: Pass<V, N>, key: usize) -> (Pass<V, N>, Permit<N>)
         requires key { IsSem self.now key }
         ensures permit { (result.1.key ≡ key) × (result.1.thread ≡ pass.thread) }
         ensures pass { result.0 ≡ one_more pass key }

@@ -16,9 +16,9 @@ use crate::released::Released;
 use crate::scheme::{LockScheme, NamedPass};
 use crate::steps::{LockSteps, free};
 use crate::tables::{Locks, LotScheme};
+use lot_kinds::Rights;
 use lot_park::parts::{Part, unpark_one};
 use lot_park::{Moment, ParkingLot, Scheme, Token, UnparkResult};
-use lot_kinds::Rights;
 use lot_words::Keeps;
 use std::sync::Wait;
 

@@ -12,8 +12,10 @@ new-requires g c =
     let less = c.take_last.ensures.len in
     let fewer = c.in-Some.ensures.len in
     let same : vec_len c.take_last.new.self ≡ vec_len c.pop.new.self = omega (arith, both, less, fewer) in
-    record { one = (pairs_popped (g.N.WaitName.locks + g.N.WaitName.conds) (g.N.PermitName.low + length g.N.PermitName.permits) c.loop-waiter.waiters.items c.pop.new.self.items c.in-Some.waiter
-    c.loop-waiter.seekers.items c.take_last.new.self.items c.take_last.result c.in-Some.ensures.items c.take_last.ensures.items (some ∙ (same ∙ sym left)) c.loop-waiter.invariant.paired).1 }
+    record {
+      one = (pairs_popped (g.N.WaitName.locks + g.N.WaitName.conds) (g.N.PermitName.low + length g.N.PermitName.permits) c.loop-waiter.waiters.items c.pop.new.self.items c.in-Some.waiter
+          c.loop-waiter.seekers.items c.take_last.new.self.items c.take_last.result c.in-Some.ensures.items c.take_last.ensures.items (some ∙ (same ∙ sym left)) c.loop-waiter.invariant.paired).1;
+    }
 
 pub loop-waiter-preserved : goal.loop-waiter-preserved
 loop-waiter-preserved g c =

@@ -207,8 +207,8 @@ settle-nothing-requires-clause-keys g c κs within =
     let unnamed = c.unname_roots.ensures.long in
     let is = ap (λ v. vec_len v) c.in-Err-NoMemory-default-default.ensures.err.0 in (
       sym (low_is names o c.args.opened c.opened.view_is c.requires.named)
-      ∙ (c.opened.invariant.1.follow ∙ (ap (λ n. n + c.opened.inside.kinds.conds.conds) (c.opened.invariant.1.after_locks ∙ (ap length (values_are names o c.args.opened c.opened.view_is c.requires.named) ∙ locks_are names o c.args.opened c.opened.view_is c.requires.named))
-      ∙ ap (λ n. g.N.WaitName.locks + n) (conds_are names o c.args.opened c.opened.view_is c.requires.named))),
+          ∙ (c.opened.invariant.1.follow ∙ (ap (λ n. n + c.opened.inside.kinds.conds.conds) (c.opened.invariant.1.after_locks ∙ (ap length (values_are names o c.args.opened c.opened.view_is c.requires.named) ∙ locks_are names o c.args.opened c.opened.view_is c.requires.named))
+          ∙ ap (λ n. g.N.WaitName.locks + n) (conds_are names o c.args.opened c.opened.view_is c.requires.named))),
       omega (arith, unnamed, is, keys),
     )
 
