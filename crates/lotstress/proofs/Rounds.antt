@@ -3,12 +3,6 @@ use Rattle.std.proofs.Common.{◌≡◌, ℕ, ◌<◌, ◌+◌, Bool, true, fals
 use Rattle.atomic_table.proofs.Lists.{at_set}
 use Rattle.lot_sync.specs.Lot.{PassView, HeldView, HasSeen, owning, leaving}
 use Rattle.lot_sync.specs.Values.{Gets, MayGiveBack}
-use Rattle.std.proofs.Common.{append_assoc}
-use Rattle.lot_journal.specs.declared.entry.Entry.{Entry}
-use Rattle.lot_journal.specs.Journal.{JournalView, GoesOn, calls_of}
-use Rattle.lotstress.specs.declared.counter.Add.{Add}
-use Rattle.lotstress.specs.declared.counter.Counter.{Counter}
-use Rattle.lotstress.specs.Counters.{total_after, IsAdded, OwnIsMore, IsThere}
 use Rattle.lotstress.specs.Works.{WorksOn}
 
 -- what the pass has seen of the key is what it found there
@@ -33,28 +27,3 @@ module _ {V Part : Type 0} (keeps : ℕ → V → Type 0) (grows : V → V → T
   pub read_may_go_back : (itself : (x : V) → grows x x) (before after : PassView V) (key : ℕ) (held : HeldView V) → Gets keeps grows part before key held after → MayGiveBack keeps grows part after held
   read_may_go_back itself before after key held gets =
       may_give_back before after key before.thread held held gets refl (record { key_same = refl; kept = subst (λ k. keeps k held.value) (sym gets.key_is) gets.kept; grown = itself held.value; others = λ t else. refl })
-
--- ---- a call is in the history
-abbrev entry_of : ℕ → Add → ℕ → Entry Add ℕ
-entry_of thread call answer = record { thread = thread; call = call; reply = answer }
-
--- what was found goes on from what was seen, and then the thread called
-pub is_there : (thread : ℕ) (call : Add) (seen found now : JournalView Counter Add ℕ) → GoesOn seen found → calls_of thread seen ≡ calls_of thread found → IsAdded found thread call now
-    → OwnIsMore found thread call (total_after found.object call) now → IsThere thread call seen now
-is_there thread call seen found now on mine added own = record {
-  answer = total_after found.object call;
-  between = on.history.0;
-  more = [];
-  history = added.history ∙ ap (λ h. h ++ entry_of thread call (total_after found.object call) ∷ []) (sym on.history.1);
-  once = own ∙ ap (λ h. h ++ entry_of thread call (total_after found.object call) ∷ []) (sym mine);
-}
-
--- it is still there where only others called since
-pub still_there : (thread : ℕ) (call : Add) (seen mid now : JournalView Counter Add ℕ) → IsThere thread call seen mid → GoesOn mid now → calls_of thread mid ≡ calls_of thread now → IsThere thread call seen now
-still_there thread call seen mid now there on same = record {
-  answer = there.answer;
-  between = there.between;
-  more = there.more ++ on.history.0;
-  history = sym on.history.1 ∙ (ap (λ h. h ++ on.history.0) there.history ∙ append_assoc (seen.history ++ there.between) (entry_of thread call there.answer ∷ there.more) on.history.0);
-  once = sym same ∙ there.once;
-}

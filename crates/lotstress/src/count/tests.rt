@@ -1,13 +1,10 @@
 //! The history that the passes of two threads leave behind a real lock.
 ghost use Rattle.std.specs.Prelude.{◌≡◌, ◌<◌, ℕ, length, vec_len};
-ghost use Rattle.lot_journal.specs.Journal.{JournalView, GoesOn, calls_of};
 ghost use Rattle.lot_sync.specs.Lot.{OwnsNone, IsWide, HasSeen};
 ghost use Rattle.lot_sync.specs.Opened.{IsNamed};
-ghost use Rattle.lotstress.specs.Counters.{AllLegal, IsThere};
-ghost use Rattle.lotstress.specs.declared.counter.Add.{Add};
-ghost use Rattle.lotstress.specs.declared.counter.Counter.{Counter};
+ghost use Rattle.lotstress.specs.Counters.{AllLegal};
 
-use super::{add_one, go_round, new_journals};
+use super::{Counts, add_one, go_round, new_journals};
 use crate::count::Counting;
 use crate::counter::{Add, Counter};
 use crate::gate::OpenGate;
@@ -19,11 +16,53 @@ use std::marker::Brand;
 use std::process::Abort;
 use std::sync::Wait;
 
+/// What the callers conclude of a value. They are generic over it, since a lot of journals has more types than the toolchain follows.
+trait Tells: Counts {
+    ghost use Rattle.std.specs.Prelude.{◌≡◌, ℕ};
+
+    /// The thread was counted in the second value once, behind all of the first.
+    ghost is_there: { ℕ → Self → Self → Type 0 };
+
+    /// What was found goes on from what was seen, and then the thread was counted.
+    ghost there: { (thread : ℕ) (seen found now : Self) → Self.grows seen found → Self.part thread seen ≡ Self.part thread found → Self.is_counted found thread now → is_there thread seen now };
+
+    /// It is still there where only others were counted since.
+    ghost still_there: { (thread : ℕ) (seen mid now : Self) → is_there thread seen mid → Self.grows mid now → Self.part thread mid ≡ Self.part thread now → is_there thread seen now };
+
+    /// Whether thread 0 and then thread 1 were counted, and nobody else.
+    fn has_both(&self) -> bool;
+}
+
+impl Tells for Journal<Counter> {
+    ghost use Rattle.lotstress.specs.Counters.{IsThere};
+    ghost use Rattle.lotstress.specs.Theres.{found_there, left_there};
+
+    ghost is_there = { λ thread seen now. IsThere thread (record { 0 = 1 }) seen now };
+
+    ghost there = { λ thread seen found now on mine counted. found_there thread seen found now on mine counted };
+
+    ghost still_there = { λ thread seen mid now there on same. left_there thread seen mid now there on same };
+
+    fn has_both(&self) -> bool {
+        let history = [entry(0, 1), entry(1, 2)];
+        self.history() == history.as_slice()
+    }
+}
+
+/// The thread called `Add(1)`, and was replied this total.
+fn entry(thread: usize, total: u64) -> Entry<Add, u64> {
+    Entry {
+        thread,
+        call: Add(1),
+        reply: total,
+    }
+}
+
 /// A pass that owns no lock.
-fn enter<N: LotName<Journal<Counter>> + Send + Sync, T: Wait + Abort>(
+fn enter<V: Tells + Send + Sync, N: LotName<V> + Send + Sync, T: Wait + Abort>(
     rt: &T,
-    lot: &Lot<Journal<Counter>, N>,
-) -> Pass<Journal<Counter>, N>
+    lot: &Lot<V, N>,
+) -> Pass<V, N>
     ensures { OwnsNone result }
 {
     match lot.register(rt) {
@@ -33,11 +72,11 @@ fn enter<N: LotName<Journal<Counter>> + Send + Sync, T: Wait + Abort>(
 }
 
 /// Locks lock 0, adds one and unlocks.
-fn add<N: LotName<Journal<Counter>> + Send + Sync, T: Wait + Abort>(
+fn add<V: Tells + Send + Sync, N: LotName<V> + Send + Sync, T: Wait + Abort>(
     rt: &T,
-    lot: &Lot<Journal<Counter>, N>,
-    pass: Pass<Journal<Counter>, N>,
-) -> Pass<Journal<Counter>, N>
+    lot: &Lot<V, N>,
+    pass: Pass<V, N>,
+) -> Pass<V, N>
     requires sizes { (lot.now.threads ≡ 2) × (lot.now.locks ≡ 1) }
     requires free { OwnsNone pass }
     ensures { OwnsNone result }
@@ -54,34 +93,33 @@ fn add<N: LotName<Journal<Counter>> + Send + Sync, T: Wait + Abort>(
 }
 
 /// Locks lock 0, finds the calls of both threads, and unlocks.
-fn find_history<N: LotName<Journal<Counter>> + Send + Sync, T: Wait + Abort>(
+fn find_history<V: Tells + Send + Sync, N: LotName<V> + Send + Sync, T: Wait + Abort>(
     rt: &T,
-    lot: &Lot<Journal<Counter>, N>,
-    pass: Pass<Journal<Counter>, N>,
-) -> Pass<Journal<Counter>, N>
+    lot: &Lot<V, N>,
+    pass: Pass<V, N>,
+) -> Pass<V, N>
     requires key { 0 < lot.now.locks }
     requires free { OwnsNone pass }
     ensures { OwnsNone result }
 {
     let (pass, held) = lot.lock(rt, pass, 0);
-    let history = [entry(0, 1), entry(1, 2)];
-    assert_eq!(rt; held.value().history(), history.as_slice());
+    assert!(rt; held.value().has_both());
     let (pass, _) = lot.unlock(rt, pass, held, Moment { now: 0, word: 0 });
     pass
 }
 
 /// Locks lock 0, adds one and unlocks: the call is there, behind all that was seen.
-fn call_once<N: LotName<Journal<Counter>> + Send + Sync, T: Wait + Abort>(
+fn call_once<V: Tells + Send + Sync, N: LotName<V> + Send + Sync, T: Wait + Abort>(
     rt: &T,
-    lot: &Lot<Journal<Counter>, N>,
-    pass: Pass<Journal<Counter>, N>,
-) -> Pass<Journal<Counter>, N>
+    lot: &Lot<V, N>,
+    pass: Pass<V, N>,
+) -> Pass<V, N>
     requires key { 0 < lot.now.locks }
     requires free { OwnsNone pass }
     ensures same { result.thread ≡ pass.thread }
     ensures free { OwnsNone result }
     ensures wide { IsWide lot.now result }
-    ensures there { (seen now : JournalView Counter Add ℕ) → HasSeen pass 0 seen → HasSeen result 0 now → IsThere pass.thread (record { 0 = 1 }) seen now }
+    ensures there { (seen now : V) → HasSeen pass 0 seen → HasSeen result 0 now → V.is_there pass.thread seen now }
 {
     let thread = pass.thread();
     let (pass, mut held) = lot.lock(rt, pass, 0);
@@ -95,15 +133,15 @@ fn call_once<N: LotName<Journal<Counter>> + Send + Sync, T: Wait + Abort>(
 }
 
 /// Locks lock 0 and unlocks: what the pass sees has gone on from what it had seen, without a call of its own.
-fn look<N: LotName<Journal<Counter>> + Send + Sync, T: Wait>(
+fn look<V: Tells + Send + Sync, N: LotName<V> + Send + Sync, T: Wait>(
     rt: &T,
-    lot: &Lot<Journal<Counter>, N>,
-    pass: Pass<Journal<Counter>, N>,
-) -> Pass<Journal<Counter>, N>
+    lot: &Lot<V, N>,
+    pass: Pass<V, N>,
+) -> Pass<V, N>
     requires key { 0 < lot.now.locks }
     requires free { OwnsNone pass }
     ensures free { OwnsNone result }
-    ensures on { (seen now : JournalView Counter Add ℕ) → HasSeen pass 0 seen → HasSeen result 0 now → GoesOn seen now × (calls_of pass.thread seen ≡ calls_of pass.thread now) }
+    ensures on { (seen now : V) → HasSeen pass 0 seen → HasSeen result 0 now → V.grows seen now × (V.part pass.thread seen ≡ V.part pass.thread now) }
 {
     let (pass, held) = lot.lock(rt, pass, 0);
     let (pass, _) = lot.unlock(rt, pass, held, Moment { now: 0, word: 0 });
@@ -111,38 +149,30 @@ fn look<N: LotName<Journal<Counter>> + Send + Sync, T: Wait>(
 }
 
 /// The thread calls once, another may come between, and the thread looks: its call is in the history, after all that it had seen, once.
-fn call_and_look<N: LotName<Journal<Counter>> + Send + Sync, T: Wait + Abort>(
+fn call_and_look<V: Tells + Send + Sync, N: LotName<V> + Send + Sync, T: Wait + Abort>(
     rt: &T,
-    lot: &Lot<Journal<Counter>, N>,
-    pass: Pass<Journal<Counter>, N>,
-    other: Pass<Journal<Counter>, N>,
-) -> (Pass<Journal<Counter>, N>, Pass<Journal<Counter>, N>)
+    lot: &Lot<V, N>,
+    pass: Pass<V, N>,
+    other: Pass<V, N>,
+) -> (Pass<V, N>, Pass<V, N>)
     requires key { 0 < lot.now.locks }
     requires free { OwnsNone pass × OwnsNone other }
     ensures free { OwnsNone result.0 × OwnsNone result.1 }
-    ensures there { (seen now : JournalView Counter Add ℕ) → HasSeen pass 0 seen → HasSeen result.0 0 now → IsThere pass.thread (record { 0 = 1 }) seen now }
+    ensures there { (seen now : V) → HasSeen pass 0 seen → HasSeen result.0 0 now → V.is_there pass.thread seen now }
 {
     let pass = call_once(rt, lot, pass);
     let other = call_once(rt, lot, other);
     (look(rt, lot, pass), other)
 }
 
-/// The thread called `Add(1)`, and was replied this total.
-fn entry(thread: usize, total: u64) -> Entry<Add, u64> {
-    Entry {
-        thread,
-        call: Add(1),
-        reply: total,
-    }
-}
-
-fn add_in_turn<N: LotName<Journal<Counter>> + Send + Sync, T: Wait + Abort>(
+fn add_in_turn<V: Tells + Send + Sync, N: LotName<V> + Send + Sync, T: Wait + Abort>(
     rt: &T,
     alloc: Global,
-    opened: Opened<Journal<Counter>>,
-)
+    opened: Opened<V>,
+) -> Vec<V>
     requires named { IsNamed (record { opening = N.opening; threads = N.threads; values = N.values; locks = N.locks; conds = N.conds; low = N.low; permits = N.permits }) opened }
     requires sizes { (opened.threads ≡ 2) × (length opened.values ≡ 1) }
+    ensures { vec_len result ≡ 1 }
 {
     let Ok(passes) = Vec::with_capacity(alloc, 2) else {
         panic!(rt; "no memory")
@@ -158,16 +188,17 @@ fn add_in_turn<N: LotName<Journal<Counter>> + Send + Sync, T: Wait + Abort>(
     let (one, zero) = call_and_look(rt, &lot, one, zero);
     lot.leave(rt, one);
     lot.leave(rt, zero);
-    let (journals, _) = close(rt, lot, passes, 2);
-    assert_eq!(rt; journals.len(), 1);
-    assert_eq!(rt; journals[0].object().total, 4);
+    close(rt, lot, passes, 2).0
 }
 
 fn open_and_add<T: Wait + Abort>(rt: &T, alloc: Global, journals: Vec<Journal<Counter>>)
     requires { (vec_len journals ≡ 1) × AllLegal journals.items }
 {
     match Lot::<Journal<Counter>, Brand>::open(alloc, 2, journals, 0) {
-        Ok(opened) => add_in_turn::<Brand, T>(rt, alloc, opened),
+        Ok(opened) => {
+            let journals = add_in_turn::<Journal<Counter>, Brand, T>(rt, alloc, opened);
+            assert_eq!(rt; journals[0].object().total, 4);
+        }
         Err(_) => panic!(rt; "not opened"),
     }
 }

@@ -1,12 +1,10 @@
 use Rattle.std.proofs.Common.{◌≡◌, ◌<◌, sym, subst}
-use Rattle.lot_journal.specs.Journal.{calls_of}
 use Rattle.lot_sync.proofs.Rests.{reads}
-use Rattle.lotstress.proofs.Rounds.{still_there}
 use Rattle.lotstress.proofs.count.tests.call_and_look.Goals as goal
 
 pub returns-clause-there : goal.returns-clause-there
 returns-clause-there g c = λ seen now had has.
     let mid = reads c.call_once-pass.result.seen 0 (subst (λ n. 0 < n) (sym c.call_once-pass.ensures.wide.seen) c.requires.key) in
     let on = c.look.ensures.on mid.0 now mid.1 has in
-    still_there c.args.pass.thread (record { 0 = 1 }) seen mid.0 now (c.call_once-pass.ensures.there seen mid.0 had mid.1) on.0
-    (subst (λ t. calls_of t mid.0 ≡ calls_of t now) c.call_once-pass.ensures.same on.1)
+    g.V.Tells.still_there c.args.pass.thread seen mid.0 now (c.call_once-pass.ensures.there seen mid.0 had mid.1) on.0
+    (subst (λ t. g.V.Keeps.part t mid.0 ≡ g.V.Keeps.part t now) c.call_once-pass.ensures.same on.1)

@@ -1,15 +1,12 @@
 use Rattle.std.proofs.Common.{◌≡◌, sym, subst, ap, ◌∙◌}
-use Rattle.lot_journal.specs.Journal.{GoesOn, calls_of}
 use Rattle.lot_sync.specs.Lot.{leaving}
 use Rattle.lot_sync.proofs.Holdings.{owns_none_again, seen_left}
-use Rattle.lotstress.specs.declared.counter.Add.{Add}
-use Rattle.lotstress.specs.Counters.{IsLegalCount, IsThere}
-use Rattle.lotstress.proofs.Rounds.{may_give_back, is_there}
+use Rattle.lotstress.proofs.Rounds.{may_give_back}
 use Rattle.lotstress.proofs.count.tests.call_once.Goals as goal
 
 pub unlock-pass-requires-clause-back : goal.unlock-pass-requires-clause-back
 unlock-pass-requires-clause-back g c κs within =
-    may_give_back (λ key journal. IsLegalCount journal) GoesOn calls_of c.args.pass c.lock-pass.result.0 0 c.thread-thread.result c.lock-pass.result.1 c.add_one-called.new.held
+    may_give_back g.V.Keeps.keeps g.V.Keeps.grows g.V.Keeps.part c.args.pass c.lock-pass.result.0 0 c.thread-thread.result c.lock-pass.result.1 c.add_one-called.new.held
     c.lock-pass.ensures.gets c.thread-thread.ensures c.add_one-called.ensures.works
 
 pub returns-clause-free : goal.returns-clause-free
@@ -21,9 +18,8 @@ pub returns-clause-there : goal.returns-clause-there
 returns-clause-there g c = λ seen now had has.
     let left = seen_left c.lock-pass.result.0 c.unlock-pass.result.0 0 c.add_one-called.new.held.value now
     (c.unlock-pass.ensures.pass ∙ ap (λ k. leaving c.lock-pass.result.0 k c.add_one-called.new.held.value) (c.add_one-called.ensures.works.key_same ∙ c.lock-pass.ensures.gets.key_is)) has in
-    let one : Add = record { 0 = 1 } in
-    subst (λ t. IsThere t one seen now) c.thread-thread.ensures
-    (subst (λ j. IsThere c.thread-thread.result one seen j) left
-    (is_there c.thread-thread.result one seen c.lock-pass.result.1.value c.add_one-called.new.held.value (c.lock-pass.ensures.gets.grown seen had)
-    (subst (λ t. calls_of t seen ≡ calls_of t c.lock-pass.result.1.value) (sym c.thread-thread.ensures) (c.lock-pass.ensures.gets.mine seen had))
-    (rw c.if-called.true at c.add_one-called.ensures.counted).0 (rw c.if-called.true at c.add_one-called.ensures.counted).1))
+    subst (λ t. g.V.Tells.is_there t seen now) c.thread-thread.ensures
+    (subst (λ j. g.V.Tells.is_there c.thread-thread.result seen j) left
+    (g.V.Tells.there c.thread-thread.result seen c.lock-pass.result.1.value c.add_one-called.new.held.value (c.lock-pass.ensures.gets.grown seen had)
+    (subst (λ t. g.V.Keeps.part t seen ≡ g.V.Keeps.part t c.lock-pass.result.1.value) (sym c.thread-thread.ensures) (c.lock-pass.ensures.gets.mine seen had))
+    (rw c.if-called.true at c.add_one-called.ensures.counted)))

@@ -1,14 +1,12 @@
 use Rattle.std.proofs.Common.{ap, ◌∙◌}
-use Rattle.lot_journal.specs.Journal.{GoesOn, calls_of, goes_on_itself}
 use Rattle.lot_sync.specs.Lot.{leaving}
-use Rattle.lotstress.specs.Counters.{IsLegalCount}
 use Rattle.lot_sync.proofs.Holdings.{owns_none_again}
 use Rattle.lotstress.proofs.Rounds.{read_may_go_back}
 use Rattle.lotstress.proofs.count.tests.find_history.Goals as goal
 
 pub unlock-pass-requires-clause-back : goal.unlock-pass-requires-clause-back
 unlock-pass-requires-clause-back g c κs within =
-    read_may_go_back (λ key journal. IsLegalCount journal) GoesOn calls_of goes_on_itself c.args.pass c.lock-pass.result.0 _ c.lock-pass.result.1 c.lock-pass.ensures.gets
+    read_may_go_back g.V.Keeps.keeps g.V.Keeps.grows g.V.Keeps.part g.V.Keeps.grows_itself c.args.pass c.lock-pass.result.0 _ c.lock-pass.result.1 c.lock-pass.ensures.gets
 
 pub returns : goal.returns
 returns g c =

@@ -1,14 +1,12 @@
 use Rattle.std.proofs.Common.{◌≡◌, sym, subst, ap, ◌∙◌}
-use Rattle.lot_journal.specs.Journal.{GoesOn, calls_of, goes_on_itself}
 use Rattle.lot_sync.specs.Lot.{leaving}
 use Rattle.lot_sync.proofs.Holdings.{owns_none_again, seen_left}
-use Rattle.lotstress.specs.Counters.{IsLegalCount}
 use Rattle.lotstress.proofs.Rounds.{read_may_go_back}
 use Rattle.lotstress.proofs.count.tests.look.Goals as goal
 
 pub unlock-pass-requires-clause-back : goal.unlock-pass-requires-clause-back
 unlock-pass-requires-clause-back g c κs within =
-    read_may_go_back (λ key journal. IsLegalCount journal) GoesOn calls_of goes_on_itself c.args.pass c.lock-pass.result.0 _ c.lock-pass.result.1 c.lock-pass.ensures.gets
+    read_may_go_back g.V.Keeps.keeps g.V.Keeps.grows g.V.Keeps.part g.V.Keeps.grows_itself c.args.pass c.lock-pass.result.0 _ c.lock-pass.result.1 c.lock-pass.ensures.gets
 
 pub returns-clause-free : goal.returns-clause-free
 returns-clause-free g c =
@@ -19,5 +17,5 @@ pub returns-clause-on : goal.returns-clause-on
 returns-clause-on g c = λ seen now had has.
     let left = seen_left c.lock-pass.result.0 c.unlock-pass.result.0 0 c.lock-pass.result.1.value now
     (c.unlock-pass.ensures.pass ∙ ap (λ k. leaving c.lock-pass.result.0 k c.lock-pass.result.1.value) c.lock-pass.ensures.gets.key_is) has in
-    subst (λ j. GoesOn seen j × (calls_of c.args.pass.thread seen ≡ calls_of c.args.pass.thread j)) left
+    subst (λ j. g.V.Keeps.grows seen j × (g.V.Keeps.part c.args.pass.thread seen ≡ g.V.Keeps.part c.args.pass.thread j)) left
     (c.lock-pass.ensures.gets.grown seen had, c.lock-pass.ensures.gets.mine seen had)

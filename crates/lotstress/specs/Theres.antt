@@ -1,0 +1,35 @@
+-- A call that is in the history stays there.
+use Rattle.std.specs.Prelude.{◌≡◌, ◌++◌, ℕ, [], ◌∷◌}
+use Rattle.std.proofs.Common.{sym, ap, ◌∙◌, append_assoc}
+use Rattle.lot_journal.specs.declared.entry.Entry.{Entry}
+use Rattle.lot_journal.specs.Journal.{JournalView, GoesOn, calls_of}
+use Rattle.lotstress.specs.declared.counter.Add.{Add}
+use Rattle.lotstress.specs.declared.counter.Counter.{Counter}
+use Rattle.lotstress.specs.Counters.{total_after, IsAdded, OwnIsMore, IsThere}
+
+abbrev one : Add
+one = record { 0 = 1 }
+
+abbrev entry_of : ℕ → ℕ → Entry Add ℕ
+entry_of thread answer = record { thread = thread; call = one; reply = answer }
+
+-- what was found goes on from what was seen, and then the thread called
+pub found_there : (thread : ℕ) (seen found now : JournalView Counter Add ℕ) → GoesOn seen found → calls_of thread seen ≡ calls_of thread found
+    → IsAdded found thread one now × OwnIsMore found thread one (total_after found.object one) now → IsThere thread one seen now
+found_there thread seen found now on mine counted = record {
+  answer = total_after found.object one;
+  between = on.history.0;
+  more = [];
+  history = counted.0.history ∙ ap (λ h. h ++ entry_of thread (total_after found.object one) ∷ []) (sym on.history.1);
+  once = counted.1 ∙ ap (λ h. h ++ entry_of thread (total_after found.object one) ∷ []) (sym mine);
+}
+
+-- it is still there where only others called since
+pub left_there : (thread : ℕ) (seen mid now : JournalView Counter Add ℕ) → IsThere thread one seen mid → GoesOn mid now → calls_of thread mid ≡ calls_of thread now → IsThere thread one seen now
+left_there thread seen mid now there on same = record {
+  answer = there.answer;
+  between = there.between;
+  more = there.more ++ on.history.0;
+  history = sym on.history.1 ∙ (ap (λ h. h ++ on.history.0) there.history ∙ append_assoc (seen.history ++ there.between) (entry_of thread there.answer ∷ there.more) on.history.0);
+  once = sym same ∙ there.once;
+}
