@@ -7,6 +7,17 @@ use Rattle.lotstress.specs.declared.counter.Add.{Add}
 use Rattle.lotstress.specs.declared.counter.Counter.{Counter}
 use Rattle.lotstress.specs.Counters.{total_after, IsAdded, OwnIsMore, IsThere}
 
+-- the thread was counted once in what went on from the value that it had seen, and the value that it sees now has gone on from there
+-- without it
+pub record IsCountedOnce {V Part : Type 0} (grows : V → V → Type 0) (part : ℕ → V → Part) (is_counted : V → ℕ → V → Type 0) (thread : ℕ) (seen now : V) : Type 0 where
+  pub found : V
+  pub counted : V
+  pub on : grows seen found
+  pub mine : part thread seen ≡ part thread found
+  pub once : is_counted found thread counted
+  pub later : grows counted now
+  pub same : part thread counted ≡ part thread now
+
 abbrev one : Add
 one = record { 0 = 1 }
 
@@ -33,3 +44,8 @@ left_there thread seen mid now there on same = record {
   history = sym on.history.1 ∙ (ap (λ h. h ++ on.history.0) there.history ∙ append_assoc (seen.history ++ there.between) (entry_of thread there.answer ∷ there.more) on.history.0);
   once = sym same ∙ there.once;
 }
+
+-- so the call of a thread that was counted in a journal is in the history, after all that it had seen, once
+pub counted_is_there : (thread : ℕ) (seen now : JournalView Counter Add ℕ)
+    → IsCountedOnce GoesOn calls_of (λ old t new. IsAdded old t one new × OwnIsMore old t one (total_after old.object one) new) thread seen now → IsThere thread one seen now
+counted_is_there thread seen now c = left_there thread seen c.counted now (found_there thread seen c.found c.counted c.on c.mine c.once) c.later c.same

@@ -3,6 +3,7 @@ ghost use Rattle.std.specs.Prelude.{◌≡◌, ◌<◌, ℕ, length, vec_len};
 ghost use Rattle.lot_sync.specs.Lot.{OwnsNone, IsWide, HasSeen};
 ghost use Rattle.lot_sync.specs.Opened.{IsNamed};
 ghost use Rattle.lotstress.specs.Counters.{AllLegal};
+ghost use Rattle.lotstress.specs.Theres.{IsCountedOnce};
 
 use super::{Counts, add_one, go_round, new_journals};
 use crate::count::Counting;
@@ -16,33 +17,13 @@ use std::marker::Brand;
 use std::process::Abort;
 use std::sync::Wait;
 
-/// What the callers conclude of a value. They are generic over it, since a lot of journals has more types than the toolchain follows.
+/// What the test looks for in a value. Its callers are generic over it, since a lot of journals has more types than the toolchain follows.
 trait Tells: Counts {
-    ghost use Rattle.std.specs.Prelude.{◌≡◌, ℕ};
-
-    /// The thread was counted in the second value once, behind all of the first.
-    ghost is_there: { ℕ → Self → Self → Type 0 };
-
-    /// What was found goes on from what was seen, and then the thread was counted.
-    ghost there: { (thread : ℕ) (seen found now : Self) → Self.grows seen found → Self.part thread seen ≡ Self.part thread found → Self.is_counted found thread now → is_there thread seen now };
-
-    /// It is still there where only others were counted since.
-    ghost still_there: { (thread : ℕ) (seen mid now : Self) → is_there thread seen mid → Self.grows mid now → Self.part thread mid ≡ Self.part thread now → is_there thread seen now };
-
     /// Whether thread 0 and then thread 1 were counted, and nobody else.
     fn has_both(&self) -> bool;
 }
 
 impl Tells for Journal<Counter> {
-    ghost use Rattle.lotstress.specs.Counters.{IsThere};
-    ghost use Rattle.lotstress.specs.Theres.{found_there, left_there};
-
-    ghost is_there = { λ thread seen now. IsThere thread (record { 0 = 1 }) seen now };
-
-    ghost there = { λ thread seen found now on mine counted. found_there thread seen found now on mine counted };
-
-    ghost still_there = { λ thread seen mid now there on same. left_there thread seen mid now there on same };
-
     fn has_both(&self) -> bool {
         let history = [entry(0, 1), entry(1, 2)];
         self.history() == history.as_slice()
@@ -119,7 +100,7 @@ fn call_once<V: Tells + Send + Sync, N: LotName<V> + Send + Sync, T: Wait + Abor
     ensures same { result.thread ≡ pass.thread }
     ensures free { OwnsNone result }
     ensures wide { IsWide lot.now result }
-    ensures there { (seen now : V) → HasSeen pass 0 seen → HasSeen result 0 now → V.is_there pass.thread seen now }
+    ensures there { (seen now : V) → HasSeen pass 0 seen → HasSeen result 0 now → IsCountedOnce V.grows V.part V.is_counted pass.thread seen now }
 {
     let thread = pass.thread();
     let (pass, mut held) = lot.lock(rt, pass, 0);
@@ -158,7 +139,7 @@ fn call_and_look<V: Tells + Send + Sync, N: LotName<V> + Send + Sync, T: Wait + 
     requires key { 0 < lot.now.locks }
     requires free { OwnsNone pass × OwnsNone other }
     ensures free { OwnsNone result.0 × OwnsNone result.1 }
-    ensures there { (seen now : V) → HasSeen pass 0 seen → HasSeen result.0 0 now → V.is_there pass.thread seen now }
+    ensures there { (seen now : V) → HasSeen pass 0 seen → HasSeen result.0 0 now → IsCountedOnce V.grows V.part V.is_counted pass.thread seen now }
 {
     let pass = call_once(rt, lot, pass);
     let other = call_once(rt, lot, other);

@@ -1,4 +1,4 @@
-use Rattle.std.proofs.Common.{◌≡◌, ◌<◌, sym, subst}
+use Rattle.std.proofs.Common.{◌≡◌, ◌<◌, sym, subst, ◌∙◌}
 use Rattle.lot_sync.proofs.Rests.{reads}
 use Rattle.lotstress.proofs.count.tests.call_and_look.Goals as goal
 
@@ -6,5 +6,13 @@ pub returns-clause-there : goal.returns-clause-there
 returns-clause-there g c = λ seen now had has.
     let mid = reads c.call_once-pass.result.seen 0 (subst (λ n. 0 < n) (sym c.call_once-pass.ensures.wide.seen) c.requires.key) in
     let on = c.look.ensures.on mid.0 now mid.1 has in
-    g.V.Tells.still_there c.args.pass.thread seen mid.0 now (c.call_once-pass.ensures.there seen mid.0 had mid.1) on.0
-    (subst (λ t. g.V.Keeps.part t mid.0 ≡ g.V.Keeps.part t now) c.call_once-pass.ensures.same on.1)
+    let there = c.call_once-pass.ensures.there seen mid.0 had mid.1 in
+    record {
+      found = there.found;
+      counted = there.counted;
+      on = there.on;
+      mine = there.mine;
+      once = there.once;
+      later = g.V.Keeps.grows_on there.counted mid.0 now there.later on.0;
+      same = there.same ∙ subst (λ t. g.V.Keeps.part t mid.0 ≡ g.V.Keeps.part t now) c.call_once-pass.ensures.same on.1;
+    }

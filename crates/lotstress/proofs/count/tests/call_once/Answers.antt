@@ -18,8 +18,13 @@ pub returns-clause-there : goal.returns-clause-there
 returns-clause-there g c = λ seen now had has.
     let left = seen_left c.lock-pass.result.0 c.unlock-pass.result.0 0 c.add_one-called.new.held.value now
     (c.unlock-pass.ensures.pass ∙ ap (λ k. leaving c.lock-pass.result.0 k c.add_one-called.new.held.value) (c.add_one-called.ensures.works.key_same ∙ c.lock-pass.ensures.gets.key_is)) has in
-    subst (λ t. g.V.Tells.is_there t seen now) c.thread-thread.ensures
-    (subst (λ j. g.V.Tells.is_there c.thread-thread.result seen j) left
-    (g.V.Tells.there c.thread-thread.result seen c.lock-pass.result.1.value c.add_one-called.new.held.value (c.lock-pass.ensures.gets.grown seen had)
-    (subst (λ t. g.V.Keeps.part t seen ≡ g.V.Keeps.part t c.lock-pass.result.1.value) (sym c.thread-thread.ensures) (c.lock-pass.ensures.gets.mine seen had))
-    (rw c.if-called.true at c.add_one-called.ensures.counted)))
+    let counted = rw c.if-called.true at c.add_one-called.ensures.counted in
+    record {
+      found = c.lock-pass.result.1.value;
+      counted = c.add_one-called.new.held.value;
+      on = c.lock-pass.ensures.gets.grown seen had;
+      mine = c.lock-pass.ensures.gets.mine seen had;
+      once = subst (λ t. g.V.Counts.is_counted c.lock-pass.result.1.value t c.add_one-called.new.held.value) c.thread-thread.ensures counted;
+      later = subst (λ v. g.V.Keeps.grows c.add_one-called.new.held.value v) left (g.V.Keeps.grows_itself c.add_one-called.new.held.value);
+      same = ap (λ v. g.V.Keeps.part c.args.pass.thread v) left;
+    }
