@@ -5,7 +5,7 @@ use Rattle.std.proofs.lemmas.Grind.{common_steps}
 use Rattle.std.proofs.lemmas.List.{reverse-append}
 use Rattle.std.proofs.lemmas.List.Elements.{All-nil, All-cons}
 use Rattle.lot_rights.proofs.Totals.{any_cases}
-use Rattle.lot_waits.proofs.Turns.{some_one}
+use Rattle.lot_rights.proofs.Turns.{some_one}
 use Rattle.lot_kinds.specs.Opening.{StandFrom}
 
 none_some : {A : Type 0} (x : A) → None ≡ Some x → ⊥

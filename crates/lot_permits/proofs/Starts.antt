@@ -10,7 +10,7 @@ use Rattle.lot_sems.specs.declared.views.SemRootView.{SemRootView}
 use Rattle.lot_sems.specs.World.{key_count}
 use Rattle.lot_sems.specs.Rule.{scheme}
 use Rattle.lot_sems.specs.Shown.{SemWordsShown}
-use Rattle.lot_waits.proofs.Turns.{stands_at, all_by_place, some_by_place}
+use Rattle.lot_rights.proofs.Turns.{stands_at, all_by_place, some_by_place}
 use Rattle.lot_permits.specs.Permits.{shown_permits, without_permits}
 use Rattle.lot_permits.specs.Opening.{AreOpened, IsNewPass, IsOwnRoot, IsIdleRoot}
 

@@ -15,5 +15,6 @@ pub mod Settling
 pub mod Staying
 pub mod Stepping
 pub mod Totals
+pub mod Turns
 pub mod Uniques
 pub mod Worlds

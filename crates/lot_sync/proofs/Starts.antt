@@ -27,7 +27,7 @@ use Rattle.lot_sync.specs.Opened.{AreUnused, IsOpened}
 use Rattle.lot_sync.specs.Passes.{debts_of}
 use Rattle.lot_sync.specs.Starting.{ArePaired, IsFreeRoot, IsIdleAt}
 use Rattle.lot_kinds.proofs.Places.{at_both, at_mapped}
-use Rattle.lot_waits.proofs.Turns.{some_at, some_one, stands_at, all_by_place, some_by_place}
+use Rattle.lot_rights.proofs.Turns.{some_at, some_one, stands_at, all_by_place, some_by_place}
 
 none_some : {A : Type 0} (x : A) → None ≡ Some x → ⊥
 none_some x e = cc

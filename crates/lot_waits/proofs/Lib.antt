@@ -1,7 +1,6 @@
 pub mod Owed
 pub mod Taken
 pub mod Waited
-pub mod Turns
 pub mod Counts
 pub mod Sums
 pub mod Starts

@@ -12,7 +12,7 @@ use Rattle.lot_conds.specs.Rule.{scheme}
 use Rattle.lot_conds.specs.Shown.{CondWordsShown}
 use Rattle.lot_waits.specs.Counts.{CountsView, AreKept, wrap, kept, uncounted, shown_counts}
 use Rattle.lot_waits.specs.Opening.{AreOpened, IsNewPass, IsOwnRoot, IsIdleRoot}
-use Rattle.lot_waits.proofs.Turns.{some_at, stands_at, all_by_place, some_by_place}
+use Rattle.lot_rights.proofs.Turns.{some_at, stands_at, all_by_place, some_by_place}
 
 wrapped_zeros : (n : ℕ) → map wrap (replicate {A = ℕ} n 0) ≡ replicate {A = ℕ} n 0
 wrapped_zeros zero = refl

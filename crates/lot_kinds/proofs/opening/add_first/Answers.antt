@@ -1,7 +1,7 @@
 use Rattle.std.proofs.Common.{◌≡◌, ◌+◌, ◌++◌, ◌∷◌, [], length, map, ap, ◌∙◌, reverse, vec_len, rules, arith}
 use Rattle.std.proofs.lemmas.List.{map-append}
 use Rattle.lot_park.specs.declared.parts.both.OneOf.TheVariants.{First}
-use Rattle.lot_waits.proofs.Turns.{moves_on}
+use Rattle.lot_rights.proofs.Turns.{moves_on}
 use Rattle.lot_kinds.specs.Opening.{condition_key}
 use Rattle.lot_kinds.proofs.Places.{stand_popped}
 use Rattle.lot_kinds.proofs.opening.add_first.Goals as goal

@@ -4,7 +4,7 @@ use Rattle.lot_core.specs.Parts.{IsAmongSemaphores}
 use Rattle.lot_rights.specs.Shown.{RootShown}
 use Rattle.lot_sems.specs.declared.views.SemRootView.{SemRootView}
 use Rattle.lot_sems.specs.Shown.{SemWordsShown}
-use Rattle.lot_waits.proofs.Turns.{some_before}
+use Rattle.lot_rights.proofs.Turns.{some_before}
 use Rattle.lot_permits.specs.Permits.{PermitsView, shown_permits}
 use Rattle.lot_permits.proofs.closing.settle.Goals as goal
 

@@ -2,7 +2,7 @@ use Rattle.std.proofs.Common.{◌≡◌, ◌++◌, ◌∷◌, [], List, length, 
 use Rattle.std.proofs.lemmas.List.{map-append}
 use Rattle.std.specs.List.{All}
 use Rattle.std.proofs.lemmas.List.Elements.{All-push}
-use Rattle.lot_waits.proofs.Turns.{moves_on, all_turned, map_turned, no_elements}
+use Rattle.lot_rights.proofs.Turns.{moves_on, all_turned, map_turned, no_elements}
 use Rattle.lot_permits.specs.Permits.{PermitsView, permits_in, shown_permits}
 use Rattle.lot_permits.specs.Opening.{IsOwnPass}
 use Rattle.lot_permits.proofs.closing.unname_passes.Goals as goal

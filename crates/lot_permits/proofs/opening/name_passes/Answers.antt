@@ -3,7 +3,7 @@ use Rattle.std.proofs.lemmas.List.{map-append}
 use Rattle.lot_rights.proofs.Gathers.{all_popped}
 use Rattle.lot_permits.specs.Permits.{permits_in, shown_permits}
 use Rattle.lot_permits.specs.Opening.{IsNewPass}
-use Rattle.lot_waits.proofs.Turns.{moves_on}
+use Rattle.lot_rights.proofs.Turns.{moves_on}
 use Rattle.lot_permits.proofs.opening.name_passes.Goals as goal
 
 pub loop-pass-preserved : goal.loop-pass-preserved

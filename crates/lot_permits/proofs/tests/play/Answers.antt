@@ -5,7 +5,7 @@ use Rattle.lot_core.proofs.Rows.{get_or_replicate}
 use Rattle.lot_rights.specs.Shown.{RootShown}
 use Rattle.lot_rights.proofs.Dealt.{dealt_last, none_back, one_back}
 use Rattle.lot_sems.specs.declared.views.SemRootView.{SemRootView}
-use Rattle.lot_waits.proofs.Turns.{no_elements, some_at}
+use Rattle.lot_rights.proofs.Turns.{no_elements, some_at}
 use Rattle.lot_permits.specs.Permits.{PermitsView, HoldsNone, without_permits}
 use Rattle.lot_permits.proofs.tests.play.Goals as goal
 

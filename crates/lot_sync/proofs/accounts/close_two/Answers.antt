@@ -2,7 +2,7 @@ use Rattle.std.proofs.Common.{◌≡◌, ℕ, ◌<◌, ◌+◌, List, length, ve
 use Rattle.std.specs.List.{All, Any}
 use Rattle.std.proofs.lemmas.List.Elements.{All-nil, All-push}
 use Rattle.lot_sync.specs.Lot.{LotView, PassView, OwnsNone}
-use Rattle.lot_waits.proofs.Turns.{no_elements}
+use Rattle.lot_rights.proofs.Turns.{no_elements}
 use Rattle.lot_sync.proofs.Turns.{all_threads}
 use Rattle.lot_sync.proofs.accounts.close_two.Goals as goal
 

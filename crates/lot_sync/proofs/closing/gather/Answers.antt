@@ -6,7 +6,7 @@ use Rattle.lot_rights.proofs.Gathers.{all_popped}
 use Rattle.lot_sync.specs.Lot.{PassView, Owns, OwnsNone, rights_of}
 use Rattle.lot_sync.specs.Passes.{sees, seen_as, lock_side, IsFree}
 use Rattle.lot_sync.proofs.Rests.{held_owned}
-use Rattle.lot_waits.proofs.Turns.{moves_on, all_turned, map_turned, no_elements}
+use Rattle.lot_rights.proofs.Turns.{moves_on, all_turned, map_turned, no_elements}
 use Rattle.lot_sync.proofs.closing.gather.Goals as goal
 
 pub loop-pass-preserved : goal.loop-pass-preserved

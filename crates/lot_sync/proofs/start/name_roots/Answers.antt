@@ -3,7 +3,7 @@ use Rattle.std.proofs.lemmas.List.{map-append}
 use Rattle.lot_park.specs.declared.parts.both.OneOf.TheVariants.{First}
 use Rattle.lot_rights.proofs.Gathers.{all_popped}
 use Rattle.lot_sync.specs.Starting.{IsFreeRoot}
-use Rattle.lot_waits.proofs.Turns.{moves_on}
+use Rattle.lot_rights.proofs.Turns.{moves_on}
 use Rattle.lot_sync.proofs.start.name_roots.Goals as goal
 
 pub name_root-requires-clause-free : goal.name_root-requires-clause-free

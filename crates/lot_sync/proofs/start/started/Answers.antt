@@ -17,7 +17,7 @@ use Rattle.lot_sync.specs.Lot.{LotNames}
 use Rattle.lot_sync.specs.Opened.{OpenedView, IsNamed}
 use Rattle.lot_sync.specs.Starting.{IsFreeKind, IsIdleAt}
 use Rattle.lot_kinds.proofs.Places.{all_at}
-use Rattle.lot_waits.proofs.Turns.{some_by_place}
+use Rattle.lot_rights.proofs.Turns.{some_by_place}
 use Rattle.lot_sync.proofs.Starts.{passes_fresh, passes_paired, roots_free, roots_idle, idle_all, fresh_named, none_held}
 use Rattle.lot_sync.proofs.start.started.Goals as goal
 

@@ -7,7 +7,7 @@ use Rattle.lot_waits.specs.Counts.{CountsView, AreKept, counts_in, shown_counts}
 use Rattle.lot_waits.specs.declared.tallies.Tallies.{Tallies}
 use Rattle.lot_waits.specs.Ledger.{AreSums, called_at, woken_at}
 use Rattle.lot_waits.specs.Opening.{IsIn}
-use Rattle.lot_waits.proofs.Turns.{moves_on, all_turned, map_turned, no_elements}
+use Rattle.lot_rights.proofs.Turns.{moves_on, all_turned, map_turned, no_elements}
 use Rattle.lot_waits.proofs.Sums.{sums_pushed, sums_turned}
 use Rattle.lot_waits.proofs.closing.gather.Goals as goal
 

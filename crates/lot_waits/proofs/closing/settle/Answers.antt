@@ -5,7 +5,7 @@ use Rattle.lot_rights.specs.Shown.{RootShown}
 use Rattle.lot_conds.specs.declared.views.CondRootView.{CondRootView}
 use Rattle.lot_conds.specs.Shown.{CondWordsShown}
 use Rattle.lot_waits.specs.Counts.{CountsView, shown_counts}
-use Rattle.lot_waits.proofs.Turns.{some_before}
+use Rattle.lot_rights.proofs.Turns.{some_before}
 use Rattle.lot_waits.proofs.Sums.{ledger_balanced}
 use Rattle.lot_waits.proofs.closing.settle.Goals as goal
 

@@ -5,7 +5,7 @@ use Rattle.lot_waits.specs.Rights.{CondStanding}
 use Rattle.lot_waits.specs.Counts.{counts_in, shown_counts}
 use Rattle.lot_waits.specs.Opening.{IsNewPass}
 use Rattle.lot_waits.specs.Room.{AreZeros}
-use Rattle.lot_waits.proofs.Turns.{moves_on}
+use Rattle.lot_rights.proofs.Turns.{moves_on}
 use Rattle.lot_waits.proofs.Starts.{kept_of_none}
 use Rattle.lot_waits.proofs.opening.name_passes.Goals as goal
 

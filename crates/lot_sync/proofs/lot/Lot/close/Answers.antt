@@ -21,7 +21,7 @@ use Rattle.lot_sync.specs.Lot.{PassView, LotView, OwnsNone, counts_of, rights_of
 use Rattle.lot_sync.specs.Values.{GoesOnTo}
 use Rattle.lot_words.specs.Closing.{HoldsNone}
 use Rattle.lot_sync.specs.Passes.{seen_as, lock_side, IsFree}
-use Rattle.lot_waits.proofs.Turns.{some_before, no_elements}
+use Rattle.lot_rights.proofs.Turns.{some_before, no_elements}
 use Rattle.lot_kinds.proofs.Places.{some_after}
 use Rattle.lot_sync.proofs.Turns.{all_before}
 use Rattle.lot_sync.proofs.lot.Lot.close.Goals as goal
