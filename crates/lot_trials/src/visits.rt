@@ -118,7 +118,11 @@ fn play<V: Visited + Send, N: LotName<V> + Send + Sync, T: Threads + Wait + Sync
 }
 
 /// Opens a lot for two threads, with this value behind one lock.
-fn visited<T: Threads + Wait + Sync + Abort>(rt: &T, alloc: Global, visits: Visits) -> Vec<Visits> {
+fn on_visits<T: Threads + Wait + Sync + Abort>(
+    rt: &T,
+    alloc: Global,
+    visits: Visits,
+) -> Vec<Visits> {
     let Ok(mut values) = Vec::with_capacity(alloc, 1) else {
         panic!(rt; "no memory")
     };
@@ -134,7 +138,7 @@ fn threads_share_a_lot_whose_values_may_only_be_sent(rt: HostRuntime) {
     let visits = Visits {
         number: Cell::new(0),
     };
-    let values = visited(&rt, rt.alloc(), visits);
+    let values = on_visits(&rt, rt.alloc(), visits);
     assert_eq!(&rt; values.len(), 1);
     assert_eq!(&rt; values[0].number.get(), 2 * ROUNDS);
 }
