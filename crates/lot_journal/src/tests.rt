@@ -155,7 +155,7 @@ fn two_threads_count(rt: HostRuntime) {
 }
 
 /// What a lock that threads share may guard.
-fn share<V: Keeps + Send + Sync>(_value: &V) {}
+fn share<V: Keeps + Send>(_value: &V) {}
 
 #[test]
 fn a_counter_counts_modulo_two_to_the_64(rt: HostRuntime) {

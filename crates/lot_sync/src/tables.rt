@@ -6,10 +6,12 @@ use crate::scheme::{KeyRoot, LockScheme};
 use lot_kinds::{KindRoot, KindScheme};
 use lot_park::parts::{Border, Both, EitherRoot, OfFirst, OfSecond, Whole};
 use std::marker::PhantomData;
+use std::sync::Mutex;
 
 /// The keys of locks end where those of conditions begin.
 pub struct AfterLocks<V, N> {
-    of: PhantomData<(V, N)>,
+    // A `Mutex` may be shared wherever its value may be sent, and so may this.
+    of: PhantomData<(Mutex<V>, N)>,
 }
 
 impl<V, N: LotName<V>> Border for AfterLocks<V, N> {

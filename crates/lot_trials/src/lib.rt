@@ -8,3 +8,5 @@
 mod calls;
 #[cfg(test)]
 mod lots;
+#[cfg(test)]
+mod visits;

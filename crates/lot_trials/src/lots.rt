@@ -249,11 +249,11 @@ enum Trial {
 }
 
 /// The pass of the thread, which was left.
-fn take_pass<N: LotName<Number> + Send + Sync, T: Wait + Abort>(
+fn take_pass<V: Keeps + Send, N: LotName<V> + Send + Sync, T: Wait + Abort>(
     rt: &T,
-    lot: &mut Lot<Number, N>,
+    lot: &mut Lot<V, N>,
     thread: usize,
-) -> Pass<Number, N>
+) -> Pass<V, N>
     ensures same { lot.new ≡ lot.old }
     ensures thread { result.thread ≡ thread }
     ensures free { OwnsNone result }
@@ -272,12 +272,12 @@ fn take_pass<N: LotName<Number> + Send + Sync, T: Wait + Abort>(
 }
 
 /// All passes were left. Gives the values back.
-fn end<N: LotName<Number> + Send + Sync, T: Wait + Abort>(
+pub(crate) fn end<V: Keeps + Send, N: LotName<V> + Send + Sync, T: Wait + Abort>(
     rt: &T,
-    mut lot: Lot<Number, N>,
-    mut passes: Vec<Pass<Number, N>>,
+    mut lot: Lot<V, N>,
+    mut passes: Vec<Pass<V, N>>,
     threads: usize,
-) -> Vec<Number>
+) -> Vec<V>
     requires threads { lot.threads ≡ threads }
     requires room { (vec_len passes ≡ 0) × (threads ≤ vec_capacity passes) }
 {

@@ -4,6 +4,7 @@ pub mod Emptying
 pub mod Headlines
 pub mod Holding
 pub mod Letters
+pub mod Lone
 pub mod Machine
 pub mod Moving
 pub mod Names

@@ -50,6 +50,6 @@ impl<V: Keeps> LockWords<V> {
         ensures history { IsToldTo self.size passes.items roots.items }
     {
         let LockWords { words, room } = self;
-        take_values(words.close(passes, roots), room)
+        take_values(words.close(passes, roots), room.into_inner())
     }
 }

@@ -27,6 +27,7 @@
 
 mod apart;
 mod closing;
+mod exclusive;
 pub mod keeps;
 pub mod kind;
 pub mod laws;

@@ -8,6 +8,7 @@ ghost use Rattle.lot_rights.specs.Start.{all_rights};
 ghost use Rattle.lot_words.specs.Rule.{scheme};
 ghost use Rattle.lot_words.specs.Shown.{pass_at, root_at};
 
+use crate::exclusive::Exclusive;
 use crate::keeps::Keeps;
 use crate::kind::{LockPass, LockRoot};
 use crate::shelf::{shelve, unshelve};
@@ -43,7 +44,7 @@ impl<V: Keeps> LockWords<V> {
             Ok((words, passes, roots)) => Ok((
                 LockWords {
                     words,
-                    room: values,
+                    room: Exclusive::new(values),
                 },
                 passes,
                 roots,

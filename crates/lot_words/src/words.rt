@@ -3,6 +3,7 @@ ghost use Rattle.std.specs.Prelude.{◌≡◌, ◌<◌, ◌≤◌, vec_len, vec_
 ghost use Rattle.lot_core.specs.declared.state.TheConstants.{MAX_THREADS, MAX_KEYS};
 ghost use Rattle.lot_rights.specs.Layout.{word_count};
 
+use crate::exclusive::Exclusive;
 use crate::keeps::Keeps;
 use crate::kind::Locks;
 use lot_rights::{OfOpening, WordsOf};
@@ -24,12 +25,12 @@ pub(crate) const HELD_AND_PARKED: u64 = 3;
 pub struct LockWords<V: Keeps> {
     pub(crate) words: WordsOf<Locks<V>>,
     // `close` puts the values here.
-    pub(crate) room: Vec<V>,
+    pub(crate) room: Exclusive<Vec<V>>,
     pub(crate) ghost some: { 0 < words.key.size.threads },
     pub(crate) ghost few: { (words.key.size.threads ≤ MAX_THREADS) × (words.key.size.locks ≤ MAX_KEYS) },
     pub(crate) ghost words_are: { words.table.words ≡ word_count words.key.size.threads words.key.size.locks },
     pub(crate) ghost slots_are: { words.table.slots ≡ words.key.size.locks },
-    pub(crate) ghost room_fits: { (vec_len room ≡ 0) × (words.key.size.locks ≤ vec_capacity room) },
+    pub(crate) ghost room_fits: { (vec_len room.value ≡ 0) × (words.key.size.locks ≤ vec_capacity room.value) },
 }
 
 impl<V: Keeps> Model for LockWords<V> {

@@ -97,7 +97,7 @@ fn run<N: LotName<Journal<Counter>> + Send + Sync, T: Threads + Wait + Sync, G: 
 
 /// Starts the lot, lets the workers run, and ends it: the values that they leave.
 fn run_workers<
-    V: Counts + Send + Sync,
+    V: Counts + Send,
     N: LotName<V> + Send + Sync,
     T: Threads + Wait + Sync,
     G: Gate + Sync,
@@ -123,7 +123,7 @@ fn run_workers<
 
 /// Runs the workers to their end.
 fn count_all<
-    V: Counts + Send + Sync,
+    V: Counts + Send,
     N: LotName<V> + Send + Sync,
     T: Threads + Wait + Sync,
     G: Gate + Sync,
@@ -137,7 +137,7 @@ fn count_all<
 
 /// Starts the workers and waits for their end. Answers whether all could be started.
 fn start_all<
-    V: Counts + Send + Sync,
+    V: Counts + Send,
     N: LotName<V> + Send + Sync,
     T: Threads + Wait + Sync,
     G: Gate + Sync,
@@ -157,7 +157,7 @@ fn start_all<
 }
 
 /// One worker: it waits until all may go, and then goes its rounds. Where memory is refused to one, it ends there.
-fn work<V: Counts + Send + Sync, N: LotName<V> + Send + Sync, T: Wait, G: Gate>(
+fn work<V: Counts + Send, N: LotName<V> + Send + Sync, T: Wait, G: Gate>(
     rt: &T,
     lot: &Lot<V, N>,
     gate: &G,
@@ -184,7 +184,7 @@ fn work<V: Counts + Send + Sync, N: LotName<V> + Send + Sync, T: Wait, G: Gate>(
 
 /// One round of a worker: it locks the round's key, adds one to its counter and unlocks. Answers whether there was memory for
 /// the call.
-fn go_round<V: Counts + Send + Sync, N: LotName<V> + Send + Sync, T: Wait, G: Gate>(
+fn go_round<V: Counts + Send, N: LotName<V> + Send + Sync, T: Wait, G: Gate>(
     rt: &T,
     lot: &Lot<V, N>,
     gate: &G,

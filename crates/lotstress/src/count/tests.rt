@@ -40,7 +40,7 @@ fn entry(thread: usize, total: u64) -> Entry<Add, u64> {
 }
 
 /// A pass that owns no lock.
-fn enter<V: Tells + Send + Sync, N: LotName<V> + Send + Sync, T: Wait + Abort>(
+fn enter<V: Tells + Send, N: LotName<V> + Send + Sync, T: Wait + Abort>(
     rt: &T,
     lot: &Lot<V, N>,
 ) -> Pass<V, N>
@@ -53,7 +53,7 @@ fn enter<V: Tells + Send + Sync, N: LotName<V> + Send + Sync, T: Wait + Abort>(
 }
 
 /// Locks lock 0, adds one and unlocks.
-fn add<V: Tells + Send + Sync, N: LotName<V> + Send + Sync, T: Wait + Abort>(
+fn add<V: Tells + Send, N: LotName<V> + Send + Sync, T: Wait + Abort>(
     rt: &T,
     lot: &Lot<V, N>,
     pass: Pass<V, N>,
@@ -74,7 +74,7 @@ fn add<V: Tells + Send + Sync, N: LotName<V> + Send + Sync, T: Wait + Abort>(
 }
 
 /// Locks lock 0, finds the calls of both threads, and unlocks.
-fn find_history<V: Tells + Send + Sync, N: LotName<V> + Send + Sync, T: Wait + Abort>(
+fn find_history<V: Tells + Send, N: LotName<V> + Send + Sync, T: Wait + Abort>(
     rt: &T,
     lot: &Lot<V, N>,
     pass: Pass<V, N>,
@@ -90,7 +90,7 @@ fn find_history<V: Tells + Send + Sync, N: LotName<V> + Send + Sync, T: Wait + A
 }
 
 /// Locks lock 0, adds one and unlocks: the call is there, behind all that was seen.
-fn call_once<V: Tells + Send + Sync, N: LotName<V> + Send + Sync, T: Wait + Abort>(
+fn call_once<V: Tells + Send, N: LotName<V> + Send + Sync, T: Wait + Abort>(
     rt: &T,
     lot: &Lot<V, N>,
     pass: Pass<V, N>,
@@ -114,7 +114,7 @@ fn call_once<V: Tells + Send + Sync, N: LotName<V> + Send + Sync, T: Wait + Abor
 }
 
 /// Locks lock 0 and unlocks: what the pass sees has gone on from what it had seen, without a call of its own.
-fn look<V: Tells + Send + Sync, N: LotName<V> + Send + Sync, T: Wait>(
+fn look<V: Tells + Send, N: LotName<V> + Send + Sync, T: Wait>(
     rt: &T,
     lot: &Lot<V, N>,
     pass: Pass<V, N>,
@@ -130,7 +130,7 @@ fn look<V: Tells + Send + Sync, N: LotName<V> + Send + Sync, T: Wait>(
 }
 
 /// The thread calls once, another may come between, and the thread looks: its call is in the history, after all that it had seen, once.
-fn call_and_look<V: Tells + Send + Sync, N: LotName<V> + Send + Sync, T: Wait + Abort>(
+fn call_and_look<V: Tells + Send, N: LotName<V> + Send + Sync, T: Wait + Abort>(
     rt: &T,
     lot: &Lot<V, N>,
     pass: Pass<V, N>,
@@ -146,7 +146,7 @@ fn call_and_look<V: Tells + Send + Sync, N: LotName<V> + Send + Sync, T: Wait + 
     (look(rt, lot, pass), other)
 }
 
-fn add_in_turn<V: Tells + Send + Sync, N: LotName<V> + Send + Sync, T: Wait + Abort>(
+fn add_in_turn<V: Tells + Send, N: LotName<V> + Send + Sync, T: Wait + Abort>(
     rt: &T,
     alloc: Global,
     opened: Opened<V>,

@@ -108,6 +108,13 @@ close-requires-clause-passes g c = λ t near.
     (subst (Any (λ (p : PassView _). p.thread ≡ t)) (sym c.gather.ensures.same) (some_after lock_side (λ (p : PassView _). p.thread ≡ t) c.args.passes.items (c.requires.all t (subst (λ n. t < n) (sym c.self.invariant.own_threads ∙ ap (λ (v : LotView). v.threads) c.self.view_is)
     (subst (λ n. t < n) (ap (λ (w : LockWordsShown). w.size.threads) (c.into_words.ensures.same ∙ (c.apart-words.ensures.0 ∙ ap (λ (s : Tables LockWordsShown (Tables CondWordsShown SemWordsShown)). s.first) c.close-scheme.ensures.scheme)) ∙ c.self.invariant.words_threads) near)))))
 
+pub close-requires-clause-roots : goal.close-requires-clause-roots
+close-requires-clause-roots g c = λ l near.
+    c.unname_roots.ensures.roots l (subst (λ n. l < n)
+    (ap (λ (w : LockWordsShown). w.size.locks)
+    (c.into_words.ensures.same ∙ (c.apart-words.ensures.0 ∙ ap (λ (s : Tables LockWordsShown (Tables CondWordsShown SemWordsShown)). s.first) c.close-scheme.ensures.scheme))
+    ∙ c.self.invariant.words_locks) near)
+
 pub returns-clause-values : goal.returns-clause-values
 returns-clause-values g c =
     goes_on g.V.Keeps.keeps g.V.Keeps.grows g.V.Keeps.part c.close.result.items c.args.passes.items c.gather.new.rights.items c.gather.ensures.same c.close.ensures.found

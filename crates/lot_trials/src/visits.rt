@@ -1,0 +1,144 @@
+//! Threads share a lot whose values may be sent to a thread, and not be shared.
+ghost use Rattle.std.specs.Prelude.{◌≡◌, ◌<◌, length};
+ghost use Rattle.lot_sync.specs.Opened.{IsNamed};
+
+use crate::lots::end;
+use lot_sync::{Lot, LotName, Moment, Opened};
+use lot_words::Keeps;
+use std::alloc::Global;
+use std::cell::Cell;
+use std::marker::Brand;
+use std::process::Abort;
+use std::sync::Wait;
+use std::test::*;
+use std::thread;
+use std::thread::Threads;
+
+/// How often a lock was visited. A reference changes it, so no two threads may have one at once.
+struct Visits {
+    number: Cell<u64>,
+}
+
+impl Drop for Visits {
+    fn drop(self) {
+        let Self { number } = self;
+        drop(number);
+    }
+}
+
+impl Keeps for Visits {
+    type Part = ();
+
+    ghost keeps = { λ key visits. Unit {0} };
+
+    ghost grows = { λ old new. Unit {0} };
+
+    ghost part = { λ thread visits. tt };
+
+    ghost grows_itself = { λ visits. tt };
+
+    ghost grows_on = { λ x y z p q. tt };
+}
+
+/// A value that counts its visits.
+trait Visited: Keeps {
+    fn visit(&self);
+}
+
+impl Visited for Visits {
+    fn visit(&self) {
+        self.number.set(self.number.get().wrapping_add(1));
+    }
+}
+
+/// How often each thread visits.
+const ROUNDS: u64 = 100;
+
+/// Locks lock 0, visits its value and unlocks.
+fn visit_often<V: Visited + Send, N: LotName<V> + Send + Sync, T: Wait + Abort>(
+    rt: &T,
+    lot: &Lot<V, N>,
+)
+    requires { 0 < lot.now.locks }
+{
+    let Ok(mut pass) = lot.register(rt) else {
+        panic!(rt; "no pass is in")
+    };
+    for _ in 0..ROUNDS {
+        let (owner, held) = lot.lock(rt, pass, 0);
+        held.value().visit();
+        let (left, _) = lot.unlock(rt, owner, held, Moment { now: 0, word: 7 });
+        pass = left;
+    }
+    lot.leave(rt, pass);
+}
+
+/// Two threads visit at once. All that is asked of the values is that they may be sent.
+fn two_visit<V: Visited + Send, N: LotName<V> + Send + Sync, T: Threads + Wait + Sync + Abort>(
+    rt: &T,
+    lot: &Lot<V, N>,
+)
+    requires { 0 < lot.now.locks }
+{
+    thread::scope(
+        thread::scope_env(),
+        rt,
+        |scope|
+            requires { 0 < lot.now.locks }
+        {
+            let first = move ||
+                requires { 0 < lot.now.locks }
+            { visit_often(rt, lot) };
+            assert!(rt; scope.spawn(first).is_ok());
+            let second = move ||
+                requires { 0 < lot.now.locks }
+            { visit_often(rt, lot) };
+            assert!(rt; scope.spawn(second).is_ok());
+        },
+    );
+}
+
+/// Starts the lot, lets two threads visit, and closes it.
+fn play<V: Visited + Send, N: LotName<V> + Send + Sync, T: Threads + Wait + Sync + Abort>(
+    rt: &T,
+    alloc: Global,
+    opened: Opened<V>,
+) -> Vec<V>
+    requires named { IsNamed (record { opening = N.opening; threads = N.threads; values = N.values; locks = N.locks; conds = N.conds; low = N.low; permits = N.permits }) opened }
+    requires sizes { (opened.threads ≡ 2) × (0 < length opened.values) }
+{
+    let Ok(passes) = Vec::with_capacity(alloc, 2) else {
+        panic!(rt; "no memory")
+    };
+    let Ok(lot) = opened.start::<N>(alloc) else {
+        panic!(rt; "not started")
+    };
+    two_visit(rt, &lot);
+    end(rt, lot, passes, 2)
+}
+
+/// Opens a lot for two threads, with this value behind one lock.
+fn on_visits<T: Threads + Wait + Sync + Abort>(
+    rt: &T,
+    alloc: Global,
+    visits: Visits,
+) -> Vec<Visits> {
+    let Ok(mut values) = Vec::with_capacity(alloc, 1) else {
+        panic!(rt; "no memory")
+    };
+    values.push_reserved(visits);
+    let Ok(opened) = Lot::<Visits, Brand>::open(alloc, 2, values, 1) else {
+        panic!(rt; "not opened")
+    };
+    play::<Visits, Brand, T>(rt, alloc, opened)
+}
+
+#[test]
+fn threads_share_a_lot_whose_values_may_only_be_sent(rt: HostRuntime) {
+    let visits = Visits {
+        number: Cell::new(0),
+    };
+    let values = on_visits(&rt, rt.alloc(), visits);
+    assert_eq!(&rt; values.len(), 1);
+    assert_eq!(&rt; values[0].number.get(), 2 * ROUNDS);
+}
