@@ -66,8 +66,21 @@ impl<V: Keeps + Send, N: LotName<V> + Send> Lot<V, N> {
     {
         let key = held.key();
         let (right, kinds) = self.given_back(pass, held, key);
-        let (right, released) = self.let_go_asking(rt, right, key, moment);
-        (self.at_rest(right, kinds), released)
+        let scheme = self.parking.scheme().first();
+        let (right, freed) = scheme.free(right, key);
+        if freed {
+            (self.at_rest(right, kinds), Released::Quiet)
+        } else {
+            let (right, released) = unpark_asking::<LotScheme<V, N>, LockScheme<V, N>, Locks, R, M>(
+                rt,
+                &self.parking,
+                scheme,
+                right,
+                key,
+                moment,
+            );
+            (self.at_rest(right, kinds), released)
+        }
     }
 
     /// Lets the lock go, and hands it to the first thread of its line, if any.
@@ -191,39 +204,6 @@ impl<V: Keeps + Send, N: LotName<V> + Send> Lot<V, N> {
             moment,
             fair,
         )
-    }
-
-    /// The same, at a moment that is asked for where somebody is parked.
-    #[inline(always)]
-    fn let_go_asking<R: Wait, M: FnOnce() -> Moment>(
-        &self,
-        rt: &R,
-        right: NamedPass<V, N>,
-        key: usize,
-        moment: M,
-    ) -> (NamedPass<V, N>, Released)
-    where
-        M: Drop,
-        requires key { key < self.now.locks }
-        requires owner { IsNewOwner V.grows N.values N.threads right key }
-        requires callable { M.pre moment }
-        ensures went { LetsGo right key result.0 }
-        ensures fits { (result.1 ≡ Quiet) ⊎ ((m : _) × M.post moment m × IsFitting result.1 false m.now) }
-    {
-        let scheme = self.parking.scheme().first();
-        let (right, freed) = scheme.free(right, key);
-        if freed {
-            (right, Released::Quiet)
-        } else {
-            unpark_asking::<LotScheme<V, N>, LockScheme<V, N>, Locks, R, M>(
-                rt,
-                &self.parking,
-                scheme,
-                right,
-                key,
-                moment,
-            )
-        }
     }
 }
 
