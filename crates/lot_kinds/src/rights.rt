@@ -42,6 +42,18 @@ impl<N: WaitName + PermitName> Rights<N> {
         self.waiter.thread()
     }
 
+    /// The same rights, put together anew, as `Waiter::rebuilt` does it.
+    #[inline(always)]
+    pub fn rebuilt(self) -> Rights<N>
+        ensures { result ≡ self }
+    {
+        let Rights { waiter, seeker } = self;
+        Rights {
+            waiter: waiter.rebuilt(),
+            seeker,
+        }
+    }
+
     /// The right on conditions and the right on semaphores.
     #[inline(always)]
     pub fn apart(self) -> (Waiter<N>, Seeker<N>)

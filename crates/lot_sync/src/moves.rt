@@ -23,7 +23,7 @@ impl<V: Keeps + Send, N: LotName<V> + Send> Lot<V, N> {
     {
         let _words = self.words();
         kinds.thread();
-        Pass::at_rest(right, kinds)
+        Pass::at_rest(right, kinds.rebuilt())
     }
 
     #[inline(always)]

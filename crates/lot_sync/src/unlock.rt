@@ -64,33 +64,23 @@ impl<V: Keeps + Send, N: LotName<V> + Send> Lot<V, N> {
         ensures wide { IsWide self.now result.0 }
         ensures fits { (result.1 ≡ Quiet) ⊎ ((m : _) × M.post moment m × IsFitting result.1 false m.now) }
     {
-        let (pass, parked) = self.unlock_unparked(pass, held);
-        match parked {
-            None => (pass, Released::Quiet),
-            Some(held) => self.unlock_parked(rt, pass, held, moment),
+        let key = held.key();
+        let (right, kinds) = self.given_back(pass, held, key);
+        let scheme = self.parking.scheme().first();
+        let (right, freed) = scheme.free(right, key);
+        if freed {
+            (self.at_rest(right, kinds), Released::Quiet)
+        } else {
+            let (right, released) = unpark_asking::<LotScheme<V, N>, LockScheme<V, N>, Locks, R, M>(
+                rt,
+                &self.parking,
+                scheme,
+                right,
+                key,
+                moment,
+            );
+            (self.at_rest(right, kinds), released)
         }
-    }
-
-    /// Lets a lock go that was found parked.
-    #[cold]
-    #[inline(never)]
-    fn unlock_parked<R: Wait, M: FnOnce() -> Moment>(
-        &self,
-        rt: &R,
-        pass: Pass<V, N>,
-        held: Held<V, N>,
-        moment: M,
-    ) -> (Pass<V, N>, Released)
-        requires key { held.key < self.now.locks }
-        requires owns { Owns pass held.key }
-        requires back { MayGiveBack V.keeps V.grows V.part pass held }
-        requires callable { M.pre moment }
-        ensures pass { result.0 ≡ leaving pass held.key held.value }
-        ensures wide { IsWide self.now result.0 }
-        ensures fits { (m : _) × M.post moment m × IsFitting result.1 false m.now }
-    {
-        let now = moment();
-        self.unlock(rt, pass, held, now)
     }
 
     /// Lets the lock go, and hands it to the first thread of its line, if any.
@@ -241,6 +231,29 @@ pub(crate) fn let_go<S: Scheme, A: LockSteps, P: Part<S, A>, R: Wait>(
     } else {
         unpark::<S, A, P, R>(rt, parking, scheme, right, key, moment, fair)
     }
+}
+
+/// The lock was found parked: asks for the moment, and takes one sleeper from its line. It is handed no more of a pass than the right on
+/// the lock, so that whoever finds a lock unparked moves nothing else.
+#[cold]
+#[inline(never)]
+fn unpark_asking<S: Scheme, A: LockSteps, P: Part<S, A>, R: Wait, M: FnOnce() -> Moment>(
+    rt: &R,
+    parking: &ParkingLot<S>,
+    scheme: &A,
+    right: A::Pass,
+    key: usize,
+    moment: M,
+) -> (A::Pass, Released)
+    requires key { key < parking.now.keys }
+    requires serves { P.serves key }
+    requires may { A.may_pass right key }
+    requires callable { M.pre moment }
+    ensures went { A.lets_go right key result.0 }
+    ensures fits { (m : _) × M.post moment m × IsFitting result.1 false m.now }
+{
+    let now = moment();
+    unpark::<S, A, P, R>(rt, parking, scheme, right, key, now, false)
 }
 
 /// The lock was found parked: takes one sleeper from its line, if any is there, and hands the lock to it or lets it go. What the

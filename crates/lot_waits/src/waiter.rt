@@ -36,6 +36,23 @@ impl<N: WaitName> Waiter<N> {
         self.right.thread()
     }
 
+    /// The same waiter, put together anew: moved part by part it stays in registers, and moved as a whole it goes through memory.
+    #[inline(always)]
+    pub fn rebuilt(self) -> Waiter<N>
+        ensures { result ≡ self }
+    {
+        let Waiter {
+            right,
+            locks,
+            tallies,
+        } = self;
+        Waiter {
+            right,
+            locks,
+            tallies,
+        }
+    }
+
     pub(crate) fn new(right: NamedCond<N>, locks: usize, tallies: Box<Tallies>) -> Waiter<N>
         requires locks { locks ≡ N.locks }
         requires calm { IsCalmStanding right }

@@ -1,7 +1,7 @@
 use Rattle.std.proofs.Common.{◌≡◌, ℕ, ◌+◌, length, map, subst, sym, ap, ◌∙◌, arith}
 use Rattle.std.proofs.lemmas.List.{length-map}
 use Rattle.lot_sync.specs.Lot.{IsWide}
-use Rattle.lot_sync.specs.Passes.{is_held}
+use Rattle.lot_sync.specs.Passes.{is_held, sees}
 use Rattle.lot_sync.proofs.lot.Lot.at_rest.Goals as goal
 
 pub returns-clause-wide : goal.returns-clause-wide
@@ -13,7 +13,7 @@ returns-clause-wide g c =
     let conds = words.keys.1 in
     let sems = words.keys.2 in
     let low = words.keys.3 in
-    subst (λ p. IsWide c.args.self.now p) (sym c.at_rest.ensures) (record {
+    subst (λ p. IsWide c.args.self.now p) (sym (c.at_rest.ensures ∙ ap (λ k. sees k c.args.right) c.rebuilt.ensures)) (record {
       owns = length-map c.args.right.own.holds is_held ∙ (rest.holds_long ∙ sym words.locks.1);
       seen = rest.seen_long ∙ sym words.locks.1;
       called = let long = kinds.called_long in omega (arith, long, locks, conds);
