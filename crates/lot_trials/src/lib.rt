@@ -7,4 +7,6 @@
 #[cfg(test)]
 mod calls;
 #[cfg(test)]
+mod ledger;
+#[cfg(test)]
 mod lots;
