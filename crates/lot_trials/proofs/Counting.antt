@@ -1,6 +1,7 @@
 -- One wait and one notification: what the passes end as, and what a ledger of both tells.
-use Rattle.std.proofs.Common.{◌≡◌, ◌≢◌, ℕ, ◌+◌, ◌<◌, List, [], ◌∷◌, ◌++◌, map, length, slice_index, slice_set, sum_by, refl, sym, ap, subst, ◌∙◌, arith}
+use Rattle.std.proofs.Common.{◌≡◌, ◌≢◌, ℕ, ◌+◌, ◌<◌, List, [], ◌∷◌, ◌++◌, map, length, slice_index, slice_index_or, slice_set, sum_by, true, false, refl, sym, ap, subst, ◌∙◌, arith}
 use Rattle.std.proofs.lemmas.List.{length-set, get_or-set_same}
+use Rattle.std.proofs.lemmas.List.Sums.{sum_by-cons}
 use Rattle.std.specs.List.{All, Any}
 use Rattle.std.proofs.lemmas.List.Elements.{All-nil, All-cons}
 use Rattle.std.proofs.lemmas.List.Quantifiers.{Any-push}
@@ -21,9 +22,6 @@ none_still p q owns permits none = record {
 }
 
 module _ {V Part : Type 0} (keeps : ℕ → V → Type 0) (grows : V → V → Type 0) (part : ℕ → V → Part) where
-  got_here : (p q : PassView V) (k : ℕ) (held : HeldView V) → Gets keeps grows part p k held q → q ≡ owning p k held.value
-  got_here p q k held got = got.after_is
-
   -- it got the lock, waited with it once, and let it go
   pub ends_waited : (lot : LotView) (p q r s : PassView V) (held again : HeldView V) → OwnsNone p → Gets keeps grows part p 0 held q
       → Gets keeps grows part (waking (leaving q held.key held.value) 1) held.key again r → s ≡ leaving r again.key again.value → IsWide lot s → EndsAs lot (waking p 1) s
@@ -71,7 +69,10 @@ module _ {V : Type 0} (lot : LotView) (first second a b : PassView V) (one_lock 
     (first_none : HasCountedNone 1 first) (second_none : HasCountedNone 1 second) where
   sum_is : (count_at : ℕ → CountsView → ℕ) (sums : List ℕ) → AreSums lot.locks lot.conds count_at (counts_of a ∷ counts_of b ∷ []) sums → count_at 1 (counts_of a) + count_at 1 (counts_of b) ≡ 1 → sums ≡ 1 ∷ []
   sum_is count_at sums are one = one_alone sums (are.long ∙ one_cond)
-      (are.each 0 (omega (arith, one_cond)) ∙ (ap (λ n. wrap (sum_by (count_at (n + 0)) (counts_of a ∷ counts_of b ∷ []))) one_lock ∙ ap wrap one))
+      (are.each 0 (omega (arith, one_cond)) ∙ (ap (λ n. wrap (sum_by (count_at (n + 0)) (counts_of a ∷ counts_of b ∷ []))) one_lock ∙ ap wrap total))
+    where
+      total : sum_by (count_at 1) (counts_of a ∷ counts_of b ∷ []) ≡ 1
+      total = omega (arith, sum_by-cons (count_at 1) (counts_of a) (counts_of b ∷ []), sum_by-cons (count_at 1) (counts_of b) [], one)
 
   wide_a : length a.woken ≡ 2
   wide_a = omega (arith, waited.wide.woken, one_lock, one_cond)

@@ -89,7 +89,32 @@ fn call_here<N: LotName<Number> + Send + Sync, T: Wait + Abort>(
     }
 }
 
-/// One thread waits once, by the first pass, and another notifies it, by the second. A closure can't hold a pass, so both are lent.
+/// One thread waits once, by the pass that lies in the first place, and another notifies it, by the one in the second: a closure can't hold a pass.
+fn side_by_side<N: LotName<Number> + Send + Sync, T: Threads + Wait + Sync + Abort>(
+    rt: &T,
+    lot: &Lot<Number, N>,
+    first: &mut Option<Pass<Number, N>>,
+    second: &mut Option<Pass<Number, N>>,
+)
+    requires sizes { (lot.now.locks ≡ 1) × (lot.now.conds ≡ 1) }
+    requires free { IsSomeAnd first.old OwnsNone × IsSomeAnd second.old OwnsNone }
+    ensures waited { EndsThere lot.now (λ p. waking p 1) first.old first.new }
+    ensures called { EndsThere lot.now (λ p. calling p 1 1) second.old second.new }
+{
+    let mut waits = ||
+        requires sizes { (lot.now.locks ≡ 1) × (lot.now.conds ≡ 1) }
+        requires free { IsSomeAnd first.now OwnsNone }
+        ensures { EndsThere lot.entry.now (λ p. waking p 1) first.entry.now first.exit.now }
+    { wait_here(rt, lot, first) };
+    let mut calls = ||
+        requires sizes { (lot.now.locks ≡ 1) × (lot.now.conds ≡ 1) }
+        requires free { IsSomeAnd second.now OwnsNone }
+        ensures { EndsThere lot.entry.now (λ p. calling p 1 1) second.entry.now second.exit.now }
+    { call_here(rt, lot, second) };
+    thread::join_mut(rt, &mut waits, &mut calls);
+}
+
+/// One thread waits once, by the first pass, and another notifies it, by the second.
 fn wait_and_call<N: LotName<Number> + Send + Sync, T: Threads + Wait + Sync + Abort>(
     rt: &T,
     lot: &Lot<Number, N>,
@@ -103,19 +128,7 @@ fn wait_and_call<N: LotName<Number> + Send + Sync, T: Threads + Wait + Sync + Ab
 {
     let mut waits = Some(first);
     let mut calls = Some(second);
-    thread::join_mut(
-        rt,
-        &mut ||
-            requires sizes { (lot.now.locks ≡ 1) × (lot.now.conds ≡ 1) }
-            requires free { IsSomeAnd waits OwnsNone }
-            ensures { EndsThere lot.entry.now (λ p. waking p 1) waits.entry waits.exit }
-        { wait_here(rt, lot, &mut waits) },
-        &mut ||
-            requires sizes { (lot.now.locks ≡ 1) × (lot.now.conds ≡ 1) }
-            requires free { IsSomeAnd calls OwnsNone }
-            ensures { EndsThere lot.entry.now (λ p. calling p 1 1) calls.entry calls.exit }
-        { call_here(rt, lot, &mut calls) },
-    );
+    side_by_side(rt, lot, &mut waits, &mut calls);
     (waits.unwrap(), calls.unwrap())
 }
 
