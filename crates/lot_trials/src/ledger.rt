@@ -90,11 +90,11 @@ fn call_here<N: LotName<Number> + Send + Sync, T: Wait + Abort>(
 }
 
 /// One thread waits once, by the pass that lies in the first place, and another notifies it, by the one in the second: a closure can't hold a pass.
-fn side_by_side<N: LotName<Number> + Send + Sync, T: Threads + Wait + Sync + Abort>(
-    rt: &T,
-    lot: &Lot<Number, N>,
-    first: &mut Option<Pass<Number, N>>,
-    second: &mut Option<Pass<Number, N>>,
+fn side_by_side<'a, N: LotName<Number> + Send + Sync, T: Threads + Wait + Sync + Abort>(
+    rt: &'a T,
+    lot: &'a Lot<Number, N>,
+    first: &'a mut Option<Pass<Number, N>>,
+    second: &'a mut Option<Pass<Number, N>>,
 )
     requires sizes { (lot.now.locks ≡ 1) × (lot.now.conds ≡ 1) }
     requires free { IsSomeAnd first.old OwnsNone × IsSomeAnd second.old OwnsNone }
