@@ -9,6 +9,7 @@ use mathlib.Core.Logic.{dite}
 use native.Mathlib.Decide.{ℕ_discrete}
 use Rattle.lot_waits.specs.Counts.{CountsView, wrap}
 use Rattle.lot_waits.specs.Ledger.{AreSums, called_at, woken_at}
+use Rattle.lot_waits.proofs.Turns.{no_elements}
 use Rattle.lot_sync.specs.Lot.{LotView, PassView, HeldView, OwnsNone, IsWide, IsLedgerOf, counts_of, owning, leaving, waking, calling}
 use Rattle.lot_sync.specs.Values.{Gets}
 use Rattle.lot_sync.proofs.Holdings.{owns_none_again}
@@ -97,3 +98,13 @@ module _ {V : Type 0} (lot : LotView) (first second a b : PassView V) (one_lock 
   -- one sleeper was taken, and one wait ended
   pub tells_one : (taken ended : List ℕ) → IsLedgerOf lot (a ∷ b ∷ []) taken ended → (taken ≡ 1 ∷ []) × (ended ≡ 1 ∷ [])
   tells_one taken ended ledger = (sum_is called_at taken ledger.called_sums called_sum, sum_is woken_at ended ledger.woken_sums woken_sum)
+
+module _ {V : Type 0} where
+  -- two passes that were pushed, where none was before
+  pub gathered : (xs ys zs : List (PassView V)) (p q a b : PassView V) → length xs ≡ 0 → ys ≡ xs ++ p ∷ [] → zs ≡ ys ++ q ∷ [] → p ≡ a → q ≡ b → zs ≡ a ∷ b ∷ []
+  gathered xs ys zs p q a b none one two first second =
+      two ∙ (ap (λ vs. vs ++ q ∷ []) one ∙ (ap (λ vs. (vs ++ p ∷ []) ++ q ∷ []) (no_elements xs none) ∙ (ap (λ v. v ∷ q ∷ []) first ∙ ap (λ v. a ∷ v ∷ []) second)))
+
+  -- it is of the thread that it was of
+  pub same_thread : (lot : LotView) (wanted after : PassView V) → EndsAs lot wanted after → after.thread ≡ wanted.thread
+  same_thread lot wanted after ends = ap (λ (q : CountsView). q.thread) ends.counts
