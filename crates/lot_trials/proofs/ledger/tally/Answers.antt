@@ -1,4 +1,4 @@
-use Rattle.std.proofs.Common.{◌≡◌, ℕ, ◌<◌, List, [], ◌∷◌, length, vec_len, rules, subst, sym, ap, ◌∙◌, arith}
+use Rattle.std.proofs.Common.{◌≡◌, List, length, vec_len, rules, subst, sym, ◌∙◌, arith}
 use Rattle.std.specs.List.{All, Any}
 use Rattle.lot_sync.specs.Lot.{PassView, OwnsNone, IsLedgerOf, waking, calling}
 use Rattle.lot_trials.proofs.Counting.{both_threads, both_free, gathered, same_thread, tells_one}
