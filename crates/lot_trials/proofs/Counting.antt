@@ -25,13 +25,16 @@ none_still p q owns permits none = record {
 module _ {V Part : Type 0} (keeps : ℕ → V → Type 0) (grows : V → V → Type 0) (part : ℕ → V → Part) where
   -- it got the lock, waited with it once, and let it go
   pub ends_waited : (lot : LotView) (p q r s : PassView V) (held again : HeldView V) → OwnsNone p → Gets keeps grows part p 0 held q
-      → Gets keeps grows part (waking (leaving q held.key held.value) 1) held.key again r → s ≡ leaving r again.key again.value → IsWide lot s → EndsAs lot (waking p 1) s
+      → Gets keeps grows part (waking (leaving q held.key held.value) 1) held.key again r → s ≡ leaving r again.key again.value
+      → IsWide lot s → EndsAs lot (waking p 1) s
   ends_waited lot p q r s held again none got woke left wide = record {
     counts = ap counts_of left ∙ (ap counts_of woke.after_is ∙ ap (λ (v : PassView V). counts_of (waking v 1)) got.after_is);
     free =
         let out : PassView V = leaving q held.key held.value in
-        let first : OwnsNone out = owns_none_again p q out held.key held.value held.value none (got.after_is ∙ ap (λ k. owning p k held.value) (sym got.key_is)) refl in
-        owns_none_again (waking out 1) r s held.key again.value again.value (none_still out (waking out 1) refl refl first) woke.after_is (left ∙ ap (λ k. leaving r k again.value) woke.key_is);
+        let at : q ≡ owning p held.key held.value = got.after_is ∙ ap (λ k. owning p k held.value) (sym got.key_is) in
+        let first : OwnsNone out = owns_none_again p q out held.key held.value held.value none at refl in
+        owns_none_again (waking out 1) r s held.key again.value again.value (none_still out (waking out 1) refl refl first)
+        woke.after_is (left ∙ ap (λ k. leaving r k again.value) woke.key_is);
     wide = wide;
   }
 
@@ -40,7 +43,8 @@ module _ {V : Type 0} where
   pub ends_called : (lot : LotView) (p q r : PassView V) → OwnsNone p → q ≡ p → r ≡ calling q 1 1 → IsWide lot r → EndsAs lot (calling p 1 1) r
   ends_called lot p q r none same took wide = record {
     counts = ap counts_of took ∙ ap (λ (v : PassView V). counts_of (calling v 1 1)) same;
-    free = none_still p r (ap (λ (v : PassView V). v.owns) took ∙ ap (λ (v : PassView V). v.owns) same) (ap (λ (v : PassView V). v.permits) took ∙ ap (λ (v : PassView V). v.permits) same) none;
+    free = none_still p r (ap (λ (v : PassView V). v.owns) took ∙ ap (λ (v : PassView V). v.owns) same)
+        (ap (λ (v : PassView V). v.permits) took ∙ ap (λ (v : PassView V). v.permits) same) none;
     wide = wide;
   }
 
@@ -66,11 +70,14 @@ one_alone (x ∷ y ∷ ys) long is = absurd (omega (arith, long))
 raised_at : (xs : List ℕ) → length (slice_set xs 1 (slice_index xs 1 + 1)) ≡ 2 → slice_index xs 1 ≡ 0 → slice_index (slice_set xs 1 (slice_index xs 1 + 1)) 1 ≡ 1
 raised_at xs long none = get_or-set_same xs 1 (slice_index xs 1 + 1) 0 (omega (arith, long, length-set xs 1 (slice_index xs 1 + 1))) ∙ ap (λ n. n + 1) none
 
-module _ {V : Type 0} (lot : LotView) (first second a b : PassView V) (one_lock : lot.locks ≡ 1) (one_cond : lot.conds ≡ 1) (waited : EndsAs lot (waking first 1) a) (called : EndsAs lot (calling second 1 1) b)
+module _ {V : Type 0} (lot : LotView) (first second a b : PassView V) (one_lock : lot.locks ≡ 1) (one_cond : lot.conds ≡ 1)
+    (waited : EndsAs lot (waking first 1) a) (called : EndsAs lot (calling second 1 1) b)
     (first_none : HasCountedNone 1 first) (second_none : HasCountedNone 1 second) where
-  sum_is : (count_at : ℕ → CountsView → ℕ) (sums : List ℕ) → AreSums lot.locks lot.conds count_at (counts_of a ∷ counts_of b ∷ []) sums → count_at 1 (counts_of a) + count_at 1 (counts_of b) ≡ 1 → sums ≡ 1 ∷ []
+  sum_is : (count_at : ℕ → CountsView → ℕ) (sums : List ℕ) → AreSums lot.locks lot.conds count_at (counts_of a ∷ counts_of b ∷ []) sums
+      → count_at 1 (counts_of a) + count_at 1 (counts_of b) ≡ 1 → sums ≡ 1 ∷ []
   sum_is count_at sums are one = one_alone sums (are.long ∙ one_cond)
-      (are.each 0 (omega (arith, one_cond)) ∙ (ap (λ n. wrap (sum_by (count_at (n + 0)) (counts_of a ∷ counts_of b ∷ []))) one_lock ∙ ap wrap total))
+      (are.each 0 (omega (arith, one_cond))
+      ∙ (ap (λ n. wrap (sum_by (count_at (n + 0)) (counts_of a ∷ counts_of b ∷ []))) one_lock ∙ ap wrap total))
     where
       total : sum_by (count_at 1) (counts_of a ∷ counts_of b ∷ []) ≡ 1
       total = omega (arith, sum_by-cons (count_at 1) (counts_of a) (counts_of b ∷ []), sum_by-cons (count_at 1) (counts_of b) [], one)
@@ -101,9 +108,13 @@ module _ {V : Type 0} (lot : LotView) (first second a b : PassView V) (one_lock 
 
 module _ {V : Type 0} where
   -- two passes that were pushed, where none was before
-  pub gathered : (xs ys zs : List (PassView V)) (p q a b : PassView V) → length xs ≡ 0 → ys ≡ xs ++ p ∷ [] → zs ≡ ys ++ q ∷ [] → p ≡ a → q ≡ b → zs ≡ a ∷ b ∷ []
-  gathered xs ys zs p q a b none one two first second =
-      two ∙ (ap (λ vs. vs ++ q ∷ []) one ∙ (ap (λ vs. (vs ++ p ∷ []) ++ q ∷ []) (no_elements xs none) ∙ (ap (λ v. v ∷ q ∷ []) first ∙ ap (λ v. a ∷ v ∷ []) second)))
+  pub gathered : (xs ys zs : List (PassView V)) (pair : PassView V × PassView V) (a b : PassView V) → length xs ≡ 0
+      → ys ≡ xs ++ pair.0 ∷ [] → zs ≡ ys ++ pair.1 ∷ [] → (pair.0 ≡ a) × (pair.1 ≡ b) → zs ≡ a ∷ b ∷ []
+  gathered xs ys zs pair a b none one two same =
+      two
+      ∙ (ap (λ vs. vs ++ pair.1 ∷ []) one
+      ∙ (ap (λ vs. (vs ++ pair.0 ∷ []) ++ pair.1 ∷ []) (no_elements xs none)
+      ∙ (ap (λ v. v ∷ pair.1 ∷ []) same.0 ∙ ap (λ v. a ∷ v ∷ []) same.1)))
 
   -- it is of the thread that it was of
   pub same_thread : (lot : LotView) (wanted after : PassView V) → EndsAs lot wanted after → after.thread ≡ wanted.thread

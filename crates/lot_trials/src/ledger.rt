@@ -1,5 +1,5 @@
 //! One thread waits once on a condition, and another notifies it: what the ledger tells then, concluded from the contracts of the public calls alone.
-ghost use Rattle.std.specs.Prelude.{◌≡◌, ◌≢◌, ℕ, ◌≤◌, ◌<◌, [], ◌∷◌, length, vec_len, vec_capacity, IsSomeAnd};
+ghost use Rattle.std.specs.Prelude.{◌≡◌, ◌≤◌, ◌<◌, [], ◌∷◌, length, vec_len, vec_capacity, IsSomeAnd};
 ghost use Rattle.lot_sync.specs.Lot.{OwnsNone, waking, calling};
 ghost use Rattle.lot_sync.specs.Opened.{IsNamed};
 ghost use Rattle.lot_trials.specs.Counting.{HasCountedNone, EndsAs, EndsThere};
@@ -145,8 +145,7 @@ fn tally<N: LotName<Number> + Send + Sync, T: Threads + Wait + Sync + Abort>(
     requires threads { (first.thread < 2) × (second.thread < 2) }
     requires free { OwnsNone first × OwnsNone second }
     requires room { (vec_len passes ≡ 0) × (2 ≤ vec_capacity passes) }
-    ensures called { HasCountedNone 1 first → HasCountedNone 1 second → result.called.items ≡ 1 ∷ [] }
-    ensures woken { HasCountedNone 1 first → HasCountedNone 1 second → result.woken.items ≡ 1 ∷ [] }
+    ensures { HasCountedNone 1 first → HasCountedNone 1 second → (result.called.items ≡ 1 ∷ []) × (result.woken.items ≡ 1 ∷ []) }
 {
     let (first, second) = wait_and_call(rt, &lot, first, second);
     let (first, second) = lot.check_apart(first, second);
