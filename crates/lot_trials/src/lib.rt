@@ -7,6 +7,8 @@
 #[cfg(test)]
 mod calls;
 #[cfg(test)]
+mod ledger;
+#[cfg(test)]
 mod lots;
 #[cfg(test)]
 mod visits;

@@ -16,8 +16,8 @@ use std::thread::Threads;
 
 /// A number, of which nothing is kept.
 #[derive(Clone, Copy)]
-struct Number {
-    n: u64,
+pub(crate) struct Number {
+    pub(crate) n: u64,
 }
 
 impl Keeps for Number {
@@ -35,7 +35,7 @@ impl Keeps for Number {
 }
 
 /// How often a test asks before it fails.
-const ASKINGS: u64 = 10_000_000;
+pub(crate) const ASKINGS: u64 = 10_000_000;
 
 /// Whether memory may be refused.
 #[derive(Clone, Copy, PartialEq, Eq)]

@@ -1,0 +1,121 @@
+-- One wait and one notification: what the passes end as, and what a ledger of both tells.
+use Rattle.std.proofs.Common.{◌≡◌, ◌≢◌, ℕ, ◌+◌, ◌<◌, List, [], ◌∷◌, ◌++◌, length, slice_index, slice_index_or, slice_set, sum_by, true, false, refl, sym, ap, subst, ◌∙◌, arith}
+use Rattle.std.proofs.lemmas.List.{length-set, get_or-set_same}
+use Rattle.std.proofs.lemmas.List.Sums.{sum_by-cons}
+use Rattle.std.specs.List.{All, Any}
+use Rattle.std.proofs.lemmas.List.Elements.{All-nil, All-cons}
+use Rattle.std.proofs.lemmas.List.Quantifiers.{Any-push}
+use mathlib.Core.Logic.{dite}
+use native.Mathlib.Decide.{ℕ_discrete}
+use Rattle.lot_waits.specs.Counts.{CountsView, wrap}
+use Rattle.lot_waits.specs.Ledger.{AreSums, called_at, woken_at}
+use Rattle.lot_waits.proofs.Turns.{no_elements}
+use Rattle.lot_sync.specs.Lot.{LotView, PassView, HeldView, OwnsNone, IsWide, IsLedgerOf, counts_of, owning, leaving, waking, calling}
+use Rattle.lot_sync.specs.Values.{Gets}
+use Rattle.lot_sync.proofs.Holdings.{owns_none_again}
+use Rattle.lot_trials.specs.Counting.{HasCountedNone, EndsAs}
+
+-- what is counted does not change what is owned
+none_still : {V : Type 0} (p q : PassView V) → q.owns ≡ p.owns → q.permits ≡ p.permits → OwnsNone p → OwnsNone q
+none_still p q owns permits none = record {
+  no_lock = λ k owned. none.no_lock k (subst (λ xs. slice_index_or xs k false ≡ true) owns owned);
+  no_permit = λ k. ap (λ xs. slice_index xs k) permits ∙ none.no_permit k;
+}
+
+module _ {V Part : Type 0} (keeps : ℕ → V → Type 0) (grows : V → V → Type 0) (part : ℕ → V → Part) where
+  -- it got the lock, waited with it once, and let it go
+  pub ends_waited : (lot : LotView) (p q r s : PassView V) (held again : HeldView V) → OwnsNone p → Gets keeps grows part p 0 held q
+      → Gets keeps grows part (waking (leaving q held.key held.value) 1) held.key again r → s ≡ leaving r again.key again.value
+      → IsWide lot s → EndsAs lot (waking p 1) s
+  ends_waited lot p q r s held again none got woke left wide = record {
+    counts = ap counts_of left ∙ (ap counts_of woke.after_is ∙ ap (λ (v : PassView V). counts_of (waking v 1)) got.after_is);
+    free =
+        let out : PassView V = leaving q held.key held.value in
+        let at : q ≡ owning p held.key held.value = got.after_is ∙ ap (λ k. owning p k held.value) (sym got.key_is) in
+        let first : OwnsNone out = owns_none_again p q out held.key held.value held.value none at refl in
+        owns_none_again (waking out 1) r s held.key again.value again.value (none_still out (waking out 1) refl refl first)
+        woke.after_is (left ∙ ap (λ k. leaving r k again.value) woke.key_is);
+    wide = wide;
+  }
+
+module _ {V : Type 0} where
+  -- it took one sleeper
+  pub ends_called : (lot : LotView) (p q r : PassView V) → OwnsNone p → q ≡ p → r ≡ calling q 1 1 → IsWide lot r → EndsAs lot (calling p 1 1) r
+  ends_called lot p q r none same took wide = record {
+    counts = ap counts_of took ∙ ap (λ (v : PassView V). counts_of (calling v 1 1)) same;
+    free = none_still p r (ap (λ (v : PassView V). v.owns) took ∙ ap (λ (v : PassView V). v.owns) same)
+        (ap (λ (v : PassView V). v.permits) took ∙ ap (λ (v : PassView V). v.permits) same) none;
+    wide = wide;
+  }
+
+  -- two passes of two threads are those of both threads
+  pub both_threads : (a b : PassView V) → a.thread < 2 → b.thread < 2 → a.thread ≢ b.thread → (t : ℕ) → t < 2 → Any (λ (p : PassView V). p.thread ≡ t) (a ∷ b ∷ [])
+  both_threads a b low high apart t near = dite (ℕ_discrete b.thread t)
+      (λ e. Any-push (λ (p : PassView V). p.thread ≡ t) (a ∷ []) b e)
+      (λ else. any_first (omega (arith, low, high, apart, near, else)))
+    where
+      any_first : a.thread ≡ t → Any (λ (p : PassView V). p.thread ≡ t) (a ∷ b ∷ [])
+      any_first e = (0, a, omega arith, refl, e)
+
+  pub both_free : (a b : PassView V) → OwnsNone a → OwnsNone b → All OwnsNone (a ∷ b ∷ [])
+  both_free a b first second = All-cons OwnsNone a (b ∷ []) first (All-cons OwnsNone b [] second (All-nil OwnsNone))
+
+-- ---- the ledger of two passes and one condition
+one_alone : (xs : List ℕ) → length xs ≡ 1 → slice_index xs 0 ≡ 1 → xs ≡ 1 ∷ []
+one_alone [] long is = absurd (omega (arith, long))
+one_alone (x ∷ []) long is = ap (λ y. y ∷ []) is
+one_alone (x ∷ y ∷ ys) long is = absurd (omega (arith, long))
+
+-- a list in which the number at 1 was none, and was raised by one
+raised_at : (xs : List ℕ) → length (slice_set xs 1 (slice_index xs 1 + 1)) ≡ 2 → slice_index xs 1 ≡ 0 → slice_index (slice_set xs 1 (slice_index xs 1 + 1)) 1 ≡ 1
+raised_at xs long none = get_or-set_same xs 1 (slice_index xs 1 + 1) 0 (omega (arith, long, length-set xs 1 (slice_index xs 1 + 1))) ∙ ap (λ n. n + 1) none
+
+module _ {V : Type 0} (lot : LotView) (first second a b : PassView V) (one_lock : lot.locks ≡ 1) (one_cond : lot.conds ≡ 1)
+    (waited : EndsAs lot (waking first 1) a) (called : EndsAs lot (calling second 1 1) b)
+    (first_none : HasCountedNone 1 first) (second_none : HasCountedNone 1 second) where
+  sum_is : (count_at : ℕ → CountsView → ℕ) (sums : List ℕ) → AreSums lot.locks lot.conds count_at (counts_of a ∷ counts_of b ∷ []) sums
+      → count_at 1 (counts_of a) + count_at 1 (counts_of b) ≡ 1 → sums ≡ 1 ∷ []
+  sum_is count_at sums are one = one_alone sums (are.long ∙ one_cond)
+      (are.each 0 (omega (arith, one_cond))
+      ∙ (ap (λ n. wrap (sum_by (count_at (n + 0)) (counts_of a ∷ counts_of b ∷ []))) one_lock ∙ ap wrap total))
+    where
+      total : sum_by (count_at 1) (counts_of a ∷ counts_of b ∷ []) ≡ 1
+      total = omega (arith, sum_by-cons (count_at 1) (counts_of a) (counts_of b ∷ []), sum_by-cons (count_at 1) (counts_of b) [], one)
+
+  wide_a : length a.woken ≡ 2
+  wide_a = omega (arith, waited.wide.woken, one_lock, one_cond)
+
+  wide_b : length b.called ≡ 2
+  wide_b = omega (arith, called.wide.called, one_lock, one_cond)
+
+  called_sum : called_at 1 (counts_of a) + called_at 1 (counts_of b) ≡ 1
+  called_sum =
+      let of_a : called_at 1 (counts_of a) ≡ 0 = ap (called_at 1) waited.counts ∙ first_none.0 in
+      let is : b.called ≡ slice_set second.called 1 (slice_index second.called 1 + 1) = ap (λ (q : CountsView). q.called) called.counts in
+      let of_b : called_at 1 (counts_of b) ≡ 1 = ap (λ xs. slice_index xs 1) is ∙ raised_at second.called (sym (ap length is) ∙ wide_b) second_none.0 in
+      omega (arith, of_a, of_b)
+
+  woken_sum : woken_at 1 (counts_of a) + woken_at 1 (counts_of b) ≡ 1
+  woken_sum =
+      let is : a.woken ≡ slice_set first.woken 1 (slice_index first.woken 1 + 1) = ap (λ (q : CountsView). q.woken) waited.counts in
+      let of_a : woken_at 1 (counts_of a) ≡ 1 = ap (λ xs. slice_index xs 1) is ∙ raised_at first.woken (sym (ap length is) ∙ wide_a) first_none.1 in
+      let of_b : woken_at 1 (counts_of b) ≡ 0 = ap (woken_at 1) called.counts ∙ second_none.1 in
+      omega (arith, of_a, of_b)
+
+  -- one sleeper was taken, and one wait ended
+  pub tells_one : (taken ended : List ℕ) → IsLedgerOf lot (a ∷ b ∷ []) taken ended → (taken ≡ 1 ∷ []) × (ended ≡ 1 ∷ [])
+  tells_one taken ended ledger = (sum_is called_at taken ledger.called_sums called_sum, sum_is woken_at ended ledger.woken_sums woken_sum)
+
+module _ {V : Type 0} where
+  -- two passes that were pushed, where none was before
+  pub gathered : (xs ys zs : List (PassView V)) (pair : PassView V × PassView V) (a b : PassView V) → length xs ≡ 0
+      → ys ≡ xs ++ pair.0 ∷ [] → zs ≡ ys ++ pair.1 ∷ [] → (pair.0 ≡ a) × (pair.1 ≡ b) → zs ≡ a ∷ b ∷ []
+  gathered xs ys zs pair a b none one two same =
+      two
+      ∙ (ap (λ vs. vs ++ pair.1 ∷ []) one
+      ∙ (ap (λ vs. (vs ++ pair.0 ∷ []) ++ pair.1 ∷ []) (no_elements xs none)
+      ∙ (ap (λ v. v ∷ pair.1 ∷ []) same.0 ∙ ap (λ v. a ∷ v ∷ []) same.1)))
+
+  -- it is of the thread that it was of
+  pub same_thread : (lot : LotView) (wanted after : PassView V) → EndsAs lot wanted after → after.thread ≡ wanted.thread
+  same_thread lot wanted after ends = ap (λ (q : CountsView). q.thread) ends.counts

@@ -1,0 +1,18 @@
+-- What a pass has counted of a condition when a call or a trial of it ends.
+use Rattle.std.specs.Prelude.{◌≡◌, ℕ, Option, IsSomeAnd, slice_index}
+use Rattle.lot_sync.specs.Lot.{LotView, PassView, OwnsNone, IsWide, counts_of}
+
+module _ {V : Type 0} where
+  -- it has taken nobody from the condition's line, and no wait of its own on it has ended
+  abbrev pub HasCountedNone : ℕ → PassView V → Type 0
+  HasCountedNone c p = (slice_index p.called c ≡ 0) × (slice_index p.woken c ≡ 0)
+
+  -- a pass of the lot that owns no lock and holds no permit, is of the thread and has counted what the wanted one has
+  pub record EndsAs (lot : LotView) (wanted after : PassView V) : Type 0 where
+    pub counts : counts_of after ≡ counts_of wanted
+    pub free : OwnsNone after
+    pub wide : IsWide lot after
+
+  -- the pass that lay there went through calls that count it so, and lies there again
+  abbrev pub EndsThere : LotView → (PassView V → PassView V) → Option (PassView V) → Option (PassView V) → Type 0
+  EndsThere lot counted before after = IsSomeAnd before (λ p. IsSomeAnd after (λ q. EndsAs lot (counted p) q))

@@ -1,0 +1,203 @@
+//! One thread waits once on a condition, and another notifies it: what the ledger tells then, concluded from the contracts of the public calls alone.
+ghost use Rattle.std.specs.Prelude.{◌≡◌, ◌≤◌, ◌<◌, [], ◌∷◌, length, vec_len, vec_capacity, IsSomeAnd};
+ghost use Rattle.lot_sync.specs.Lot.{OwnsNone, waking, calling};
+ghost use Rattle.lot_sync.specs.Opened.{IsNamed};
+ghost use Rattle.lot_trials.specs.Counting.{HasCountedNone, EndsAs, EndsThere};
+
+use crate::lots::{ASKINGS, Number};
+use lot_sync::{Ledger, Lot, LotName, Moment, Opened, Pass};
+use std::alloc::Global;
+use std::marker::Brand;
+use std::process::Abort;
+use std::sync::Wait;
+use std::test::*;
+use std::thread;
+use std::thread::Threads;
+
+/// The one condition: its number follows that of the one lock.
+const COND: usize = 1;
+
+/// Waits once on the condition, with lock 0.
+fn wait_once<N: LotName<Number> + Send + Sync, T: Wait>(
+    rt: &T,
+    lot: &Lot<Number, N>,
+    pass: Pass<Number, N>,
+) -> Pass<Number, N>
+    requires sizes { (lot.now.locks ≡ 1) × (lot.now.conds ≡ 1) }
+    requires free { OwnsNone pass }
+    ensures { EndsAs lot.now (waking pass 1) result }
+{
+    let moment = Moment { now: 0, word: 7 };
+    let (pass, held) = lot.lock(rt, pass, 0);
+    let (pass, held) = lot.wait(rt, pass, held, COND, moment);
+    let (pass, _) = lot.unlock(rt, pass, held, moment);
+    pass
+}
+
+/// Notifies one, asking a bounded number of times until somebody waits.
+fn call_once<N: LotName<Number> + Send + Sync, T: Wait + Abort>(
+    rt: &T,
+    lot: &Lot<Number, N>,
+    mut pass: Pass<Number, N>,
+) -> Pass<Number, N>
+    requires sizes { (lot.now.locks ≡ 1) × (lot.now.conds ≡ 1) }
+    requires free { OwnsNone pass }
+    ensures { EndsAs lot.now (calling pass 1 1) result }
+{
+    for _ in 0..ASKINGS {
+        let (asked, took) = lot.notify_one(rt, pass, COND, Moment { now: 0, word: 7 });
+        if took {
+            return asked;
+        }
+        pass = asked;
+        thread::yield_now();
+    }
+    panic!(rt; "nobody waits")
+}
+
+/// `wait_once` by the pass that lies here.
+fn wait_here<N: LotName<Number> + Send + Sync, T: Wait>(
+    rt: &T,
+    lot: &Lot<Number, N>,
+    here: &mut Option<Pass<Number, N>>,
+)
+    requires sizes { (lot.now.locks ≡ 1) × (lot.now.conds ≡ 1) }
+    requires free { IsSomeAnd here.old OwnsNone }
+    ensures { EndsThere lot.now (λ p. waking p 1) here.old here.new }
+{
+    let pass = wait_once(rt, lot, here.take().unwrap());
+    match here.replace(pass) {
+        None => {}
+        Some(_) => unreachable!(),
+    }
+}
+
+/// `call_once` by the pass that lies here.
+fn call_here<N: LotName<Number> + Send + Sync, T: Wait + Abort>(
+    rt: &T,
+    lot: &Lot<Number, N>,
+    here: &mut Option<Pass<Number, N>>,
+)
+    requires sizes { (lot.now.locks ≡ 1) × (lot.now.conds ≡ 1) }
+    requires free { IsSomeAnd here.old OwnsNone }
+    ensures { EndsThere lot.now (λ p. calling p 1 1) here.old here.new }
+{
+    let pass = call_once(rt, lot, here.take().unwrap());
+    match here.replace(pass) {
+        None => {}
+        Some(_) => unreachable!(),
+    }
+}
+
+/// One thread waits once, by the pass that lies in the first place, and another notifies it, by the one in the second: a closure can't hold a pass.
+fn side_by_side<'a, N: LotName<Number> + Send + Sync, T: Threads + Wait + Sync + Abort>(
+    rt: &'a T,
+    lot: &'a Lot<Number, N>,
+    first: &'a mut Option<Pass<Number, N>>,
+    second: &'a mut Option<Pass<Number, N>>,
+)
+    requires sizes { (lot.now.locks ≡ 1) × (lot.now.conds ≡ 1) }
+    requires free { IsSomeAnd first.old OwnsNone × IsSomeAnd second.old OwnsNone }
+    ensures waited { EndsThere lot.now (λ p. waking p 1) first.old first.new }
+    ensures called { EndsThere lot.now (λ p. calling p 1 1) second.old second.new }
+{
+    let mut waits = ||
+        requires sizes { (lot.now.locks ≡ 1) × (lot.now.conds ≡ 1) }
+        requires free { IsSomeAnd first.now OwnsNone }
+        ensures { EndsThere lot.entry.now (λ p. waking p 1) first.entry.now first.exit.now }
+    { wait_here(rt, lot, first) };
+    let mut calls = ||
+        requires sizes { (lot.now.locks ≡ 1) × (lot.now.conds ≡ 1) }
+        requires free { IsSomeAnd second.now OwnsNone }
+        ensures { EndsThere lot.entry.now (λ p. calling p 1 1) second.entry.now second.exit.now }
+    { call_here(rt, lot, second) };
+    thread::join_mut(rt, &mut waits, &mut calls);
+}
+
+/// One thread waits once, by the first pass, and another notifies it, by the second.
+fn wait_and_call<N: LotName<Number> + Send + Sync, T: Threads + Wait + Sync + Abort>(
+    rt: &T,
+    lot: &Lot<Number, N>,
+    first: Pass<Number, N>,
+    second: Pass<Number, N>,
+) -> (Pass<Number, N>, Pass<Number, N>)
+    requires sizes { (lot.now.locks ≡ 1) × (lot.now.conds ≡ 1) }
+    requires free { OwnsNone first × OwnsNone second }
+    ensures waited { EndsAs lot.now (waking first 1) result.0 }
+    ensures called { EndsAs lot.now (calling second 1 1) result.1 }
+{
+    let mut waits = Some(first);
+    let mut calls = Some(second);
+    side_by_side(rt, lot, &mut waits, &mut calls);
+    (waits.unwrap(), calls.unwrap())
+}
+
+/// The two passes of a lot wait and notify, and the lot is closed with them. Where neither had counted anything before, the ledger tells of one sleeper
+/// that was taken and of one wait that ended.
+fn tally<N: LotName<Number> + Send + Sync, T: Threads + Wait + Sync + Abort>(
+    rt: &T,
+    lot: Lot<Number, N>,
+    first: Pass<Number, N>,
+    second: Pass<Number, N>,
+    mut passes: Vec<Pass<Number, N>>,
+) -> Ledger
+    requires sizes { (lot.threads ≡ 2) × (lot.locks ≡ 1) × (lot.conds ≡ 1) }
+    requires threads { (first.thread < 2) × (second.thread < 2) }
+    requires free { OwnsNone first × OwnsNone second }
+    requires room { (vec_len passes ≡ 0) × (2 ≤ vec_capacity passes) }
+    ensures { HasCountedNone 1 first → HasCountedNone 1 second → (result.called.items ≡ 1 ∷ []) × (result.woken.items ≡ 1 ∷ []) }
+{
+    let (first, second) = wait_and_call(rt, &lot, first, second);
+    let (first, second) = lot.check_apart(first, second);
+    passes.push_reserved(first);
+    passes.push_reserved(second);
+    let (_, ledger) = lot.close(rt, passes);
+    ledger
+}
+
+/// A pass that nobody had before it.
+fn enter<N: LotName<Number> + Send + Sync, T: Wait + Abort>(
+    rt: &T,
+    lot: &Lot<Number, N>,
+) -> Pass<Number, N>
+    ensures thread { result.thread < lot.now.threads }
+    ensures free { OwnsNone result }
+{
+    match lot.register(rt) {
+        Ok(pass) => pass,
+        Err(_) => panic!(rt; "no pass is in"),
+    }
+}
+
+/// Starts the lot, whose passes were never out, and looks at what is counted.
+fn play<N: LotName<Number> + Send + Sync, T: Threads + Wait + Sync + Abort>(
+    rt: &T,
+    alloc: Global,
+    opened: Opened<Number>,
+)
+    requires named { IsNamed (record { opening = N.opening; threads = N.threads; values = N.values; locks = N.locks; conds = N.conds; low = N.low; permits = N.permits }) opened }
+    requires sizes { (opened.threads ≡ 2) × (length opened.values ≡ 1) × (opened.conds ≡ 1) }
+{
+    let Ok(passes) = Vec::with_capacity(alloc, 2) else {
+        panic!(rt; "no memory")
+    };
+    let Ok(lot) = opened.start::<N>(alloc) else {
+        panic!(rt; "not started")
+    };
+    let first = enter(rt, &lot);
+    let second = enter(rt, &lot);
+    let ledger = tally(rt, lot, first, second, passes);
+    assert_eq!(rt; ledger.called.as_slice(), [1].as_slice());
+    assert_eq!(rt; ledger.woken.as_slice(), [1].as_slice());
+}
+
+#[test]
+fn one_wait_and_one_notification_are_counted(rt: HostRuntime) {
+    let Ok(values) = vec![in rt.alloc(); Number { n: 7 }; 1] else {
+        panic!(&rt; "no memory")
+    };
+    match Lot::<Number, Brand>::open(rt.alloc(), 2, values, 1) {
+        Ok(opened) => play::<Brand, HostRuntime>(&rt, rt.alloc(), opened),
+        Err(_) => panic!(&rt; "not opened"),
+    }
+}
