@@ -9,7 +9,7 @@ use mathlib.Core.Logic.{dite}
 use native.Mathlib.Decide.{ℕ_discrete}
 use Rattle.lot_waits.specs.Counts.{CountsView, wrap}
 use Rattle.lot_waits.specs.Ledger.{AreSums, called_at, woken_at}
-use Rattle.lot_waits.proofs.Turns.{no_elements}
+use Rattle.lot_rights.proofs.Turns.{no_elements}
 use Rattle.lot_sync.specs.Lot.{LotView, PassView, HeldView, OwnsNone, IsWide, IsLedgerOf, counts_of, owning, leaving, waking, calling}
 use Rattle.lot_sync.specs.Values.{Gets}
 use Rattle.lot_sync.proofs.Holdings.{owns_none_again}
