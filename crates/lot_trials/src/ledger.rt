@@ -17,7 +17,7 @@ use std::thread::Threads;
 /// The one condition: its number follows that of the one lock.
 const COND: usize = 1;
 
-/// Waits once on the condition, with lock 0.
+/// Waits once on the condition, with lock 0: one wait more has ended, and nothing else is counted.
 fn wait_once<N: LotName<Number> + Send + Sync, T: Wait>(
     rt: &T,
     lot: &Lot<Number, N>,
@@ -34,7 +34,7 @@ fn wait_once<N: LotName<Number> + Send + Sync, T: Wait>(
     pass
 }
 
-/// Notifies one, asking a bounded number of times until somebody waits.
+/// Notifies one, asking a bounded number of times until somebody was taken: one sleeper more was taken, and nothing else is counted.
 fn call_once<N: LotName<Number> + Send + Sync, T: Wait + Abort>(
     rt: &T,
     lot: &Lot<Number, N>,
@@ -89,7 +89,8 @@ fn call_here<N: LotName<Number> + Send + Sync, T: Wait + Abort>(
     }
 }
 
-/// One thread waits once, by the pass that lies in the first place, and another notifies it, by the one in the second: a closure can't hold a pass.
+/// One thread waits once, by the pass that lies in the first place, and another notifies it, by the one in the second. The places are lent, since a
+/// closure can't hold a pass.
 fn side_by_side<'a, N: LotName<Number> + Send + Sync, T: Threads + Wait + Sync + Abort>(
     rt: &'a T,
     lot: &'a Lot<Number, N>,
@@ -155,7 +156,7 @@ fn tally<N: LotName<Number> + Send + Sync, T: Threads + Wait + Sync + Abort>(
     ledger
 }
 
-/// A pass that nobody had before it.
+/// A pass of one of the lot's threads, which owns nothing.
 fn enter<N: LotName<Number> + Send + Sync, T: Wait + Abort>(
     rt: &T,
     lot: &Lot<Number, N>,
