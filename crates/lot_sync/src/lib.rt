@@ -29,6 +29,8 @@ pub mod pass;
 mod pool;
 mod register;
 pub mod released;
+#[cfg(test)]
+mod schedules;
 mod scheme;
 #[cfg(test)]
 mod shares;

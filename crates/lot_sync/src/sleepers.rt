@@ -42,7 +42,7 @@ impl<T: Wait + Abort> BeforeSleep for Never<'_, T> {
 }
 
 /// `lock` of a thread that looks for its letter only after the gate was opened, and what the test has of it.
-fn own_at_gate<N: LotName<Count> + Send + Sync, T: Wait + Abort>(
+pub(crate) fn own_at_gate<N: LotName<Count> + Send + Sync, T: Wait + Abort>(
     rt: &T,
     lot: &Lot<Count, N>,
     pass: Pass<Count, N>,
@@ -313,7 +313,7 @@ fn let_both_go<N: LotName<Count> + Send + Sync, T: Wait + Abort>(
 }
 
 /// The thread sleeps on the lock, gets it, and lets it go at moment 0.
-fn sleeper<N: LotName<Count> + Send + Sync, T: Wait + Abort>(
+pub(crate) fn sleeper<N: LotName<Count> + Send + Sync, T: Wait + Abort>(
     rt: &T,
     lot: &Lot<Count, N>,
     key: usize,

@@ -5,6 +5,7 @@ ghost use Rattle.lot_sync.specs.Lot.{PassView, OwnsNone};
 ghost use Rattle.lot_sync.specs.Opened.{IsNamed};
 ghost use Rattle.lot_sync.specs.Holding.{Holding};
 
+use crate::schedules::{Schedule, follow};
 use crate::sleepers::{
     after_a_handoff, first_of_two_sleepers, growth_with_sleepers, invalid_parking,
     other_key_in_the_bucket,
@@ -46,7 +47,7 @@ impl Keeps for Count {
 const LOCKS: usize = 14;
 
 /// How often a test asks before it fails.
-const ASKINGS: u64 = 10_000_000;
+pub(crate) const ASKINGS: u64 = 10_000_000;
 
 pub(crate) fn enter<N: LotName<Count> + Send + Sync, T: Wait + Abort>(
     rt: &T,
@@ -91,7 +92,7 @@ pub(crate) fn release<N: LotName<Count> + Send + Sync, T: Wait>(
 }
 
 /// `unlock_fairly` at moment 0.
-fn release_fairly<N: LotName<Count> + Send + Sync, T: Wait>(
+pub(crate) fn release_fairly<N: LotName<Count> + Send + Sync, T: Wait>(
     rt: &T,
     lot: &Lot<Count, N>,
     pass: Pass<Count, N>,
@@ -105,7 +106,7 @@ fn release_fairly<N: LotName<Count> + Send + Sync, T: Wait>(
 }
 
 /// `try_lock`, and what the test has of it.
-fn try_own<N: LotName<Count> + Send + Sync>(
+pub(crate) fn try_own<N: LotName<Count> + Send + Sync>(
     lot: &Lot<Count, N>,
     pass: Pass<Count, N>,
     key: usize,
@@ -189,6 +190,7 @@ pub(crate) enum Row {
     OtherKeyInTheBucket,
     InvalidParking,
     Growth,
+    Scheduled(Schedule),
 }
 
 /// Plays the row on a lot for so many threads.
@@ -201,7 +203,7 @@ pub(crate) fn on_lot<T: Threads + Wait + Sync + Abort>(
     let Ok(values) = vec![in alloc; Count { n: 7 }; LOCKS] else {
         panic!(rt; "no memory")
     };
-    match Lot::<Count, Brand>::open(alloc, threads, values, 0) {
+    match Lot::<Count, Brand>::open(alloc, threads, values, 1) {
         Ok(opened) => play::<Brand, T>(rt, alloc, threads, opened, row),
         Err(_) => panic!(rt; "not opened"),
     }
@@ -216,31 +218,33 @@ fn play<N: LotName<Count> + Send + Sync, T: Threads + Wait + Sync + Abort>(
     row: Row,
 )
     requires named { IsNamed (record { opening = N.opening; threads = N.threads; values = N.values; locks = N.locks; conds = N.conds; low = N.low; permits = N.permits }) opened }
-    requires sizes { (opened.threads ≡ threads) × (length opened.values ≡ 14) }
+    requires sizes { (opened.threads ≡ threads) × (length opened.values ≡ 14) × (opened.conds ≡ 1) }
 {
     let Ok(passes) = Vec::with_capacity(alloc, threads) else {
         panic!(rt; "no memory")
     };
     match opened.start::<N>(alloc) {
         Ok(lot) => {
-            let how = play_row(rt, &lot, row);
+            let (how, waits) = play_row(rt, &lot, row);
             let (values, ledger) = end(rt, lot, passes, threads, how);
             assert_eq!(rt; values.len(), LOCKS);
-            assert!(rt; ledger.called.is_empty() && ledger.woken.is_empty());
+            assert_eq!(rt; (ledger.called[0], ledger.woken[0]), (waits, waits));
         }
         Err(_) => panic!(rt; "not started"),
     }
 }
 
+/// Answers how the passes are had then, and how many waits have ended.
 fn play_row<N: LotName<Count> + Send + Sync, T: Threads + Wait + Sync + Abort>(
     rt: &T,
     lot: &Lot<Count, N>,
     row: Row,
-) -> Gathered
-    requires { lot.now.locks ≡ 14 }
+) -> (Gathered, u64)
+    requires { (lot.now.locks ≡ 14) × (lot.now.conds ≡ 1) }
 {
     match row {
-        Row::Growth => return Gathered::Registered,
+        Row::Growth => return (Gathered::Registered, 0),
+        Row::Scheduled(schedule) => return (Gathered::Left, follow(rt, lot, schedule)),
         Row::TryLockAndUnlockUnparked => try_and_unlock_unparked(rt, lot),
         Row::Quiet => quiet_row(rt, lot),
         Row::Sleeper(way) => sleeper_row(rt, lot, way),
@@ -253,7 +257,7 @@ fn play_row<N: LotName<Count> + Send + Sync, T: Threads + Wait + Sync + Abort>(
         Row::OtherKeyInTheBucket => other_key_in_the_bucket(rt, lot),
         Row::InvalidParking => invalid_parking(rt, lot),
     }
-    Gathered::Left
+    (Gathered::Left, 0)
 }
 
 fn next_left<N: LotName<Count> + Send + Sync, T: Wait + Abort>(

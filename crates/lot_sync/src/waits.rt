@@ -39,7 +39,7 @@ fn wait_once<N: LotName<Count> + Send + Sync, T: Wait>(
 }
 
 /// `notify_one`, and what the test has of it.
-fn call_one<N: LotName<Count> + Send + Sync, T: Wait>(
+pub(crate) fn call_one<N: LotName<Count> + Send + Sync, T: Wait>(
     rt: &T,
     lot: &Lot<Count, N>,
     pass: Pass<Count, N>,

@@ -1,0 +1,432 @@
+//! Waits, notifications and growth in an order that is made by hand: threads are held at flags while others act.
+ghost use Rattle.std.specs.Prelude.{◌≡◌, ◌≤◌, ◌<◌};
+ghost use Rattle.lot_sync.specs.Lot.{OwnsNone};
+ghost use Rattle.lot_sync.specs.Holding.{Holding};
+
+use crate::lock::{AtOnce, BeforeSleep};
+use crate::sleepers::{own_at_gate, sleeper};
+use crate::tests::{
+    ASKINGS, Count, Row, enter, in_line, is_raised, on_lot, own, release, release_fairly, try_own,
+    word,
+};
+use crate::waits::call_one;
+use crate::{Held, Lot, LotName, Moment, Pass, Released};
+use lot_waits::BeforeSweep;
+use std::process::Abort;
+use std::sync::Wait;
+use std::sync::atomic::{AtomicU64, Ordering};
+use std::test::*;
+use std::thread;
+use std::thread::Threads;
+
+/// The lot's one condition: its number follows those of the locks.
+const COND: usize = 14;
+
+/// What the threads of a schedule tell each other.
+#[derive(Drop)]
+struct Flags {
+    /// Raised by the first of two threads that meet, or where it may go on.
+    first: AtomicU64,
+    /// Raised by the second.
+    second: AtomicU64,
+    /// Raised by a thread that owns its lock again.
+    back: AtomicU64,
+}
+
+impl Flags {
+    fn new() -> Flags {
+        Flags {
+            first: AtomicU64::new(0),
+            second: AtomicU64::new(0),
+            back: AtomicU64::new(0),
+        }
+    }
+}
+
+/// A thread raises its flag here, and is held until the other one is raised.
+#[derive(Drop)]
+struct Meeting<'a, T> {
+    rt: &'a T,
+    own: &'a AtomicU64,
+    other: &'a AtomicU64,
+}
+
+impl<T: Wait + Abort> Meeting<'_, T> {
+    fn meet(&self) {
+        self.own.store(1, Ordering::SeqCst);
+        assert!(self.rt; is_raised(self.other));
+    }
+}
+
+impl<T: Wait + Abort> BeforeSleep for Meeting<'_, T> {
+    fn run(&self) {
+        self.meet();
+    }
+}
+
+impl<T: Wait + Abort> BeforeSweep for Meeting<'_, T> {
+    fn run(&self) {
+        self.meet();
+    }
+}
+
+/// `wait` with an action after the thread is queued, and what the test has of it.
+fn wait_after<N: LotName<Count> + Send + Sync, T: Wait, B: BeforeSleep>(
+    rt: &T,
+    lot: &Lot<Count, N>,
+    pass: Pass<Count, N>,
+    held: Held<Count, N>,
+    before: &B,
+) -> (Pass<Count, N>, Held<Count, N>)
+    requires sizes { (lot.now.locks ≡ 14) × (lot.now.conds ≡ 1) }
+    requires key { held.key ≡ 0 }
+    requires holding { Holding (λ x y. x.n ≤ y.n) pass held }
+    ensures key { result.1.key ≡ 0 }
+    ensures holding { Holding (λ x y. x.n ≤ y.n) result.0 result.1 }
+{
+    let moment = Moment { now: 0, word: 7 };
+    lot.wait_after(rt, pass, held, COND, moment, before)
+}
+
+/// `notify_all` with an action after the flag is cleared, and what the test has of it.
+fn call_all_after<N: LotName<Count> + Send + Sync, T: Wait, B: BeforeSweep>(
+    rt: &T,
+    lot: &Lot<Count, N>,
+    pass: Pass<Count, N>,
+    before: &B,
+) -> (Pass<Count, N>, usize)
+    requires sizes { (lot.now.locks ≡ 14) × (lot.now.conds ≡ 1) }
+    requires free { OwnsNone pass }
+    ensures free { OwnsNone result.0 }
+{
+    lot.notify_all_after(rt, pass, COND, before)
+}
+
+/// A thread that waits once, with the lock, and says when it owns the lock again.
+fn wait_once<N: LotName<Count> + Send + Sync, T: Wait + Abort, B: BeforeSleep>(
+    rt: &T,
+    lot: &Lot<Count, N>,
+    before: &B,
+    back: &AtomicU64,
+)
+    requires { (lot.now.locks ≡ 14) × (lot.now.conds ≡ 1) }
+{
+    let pass = enter(rt, lot);
+    let (pass, held) = own(rt, lot, pass, 0);
+    let (pass, held) = wait_after(rt, lot, pass, held, before);
+    assert!(rt; lot.is_held(0));
+    back.store(1, Ordering::SeqCst);
+    let (pass, _) = release(rt, lot, pass, held, 0);
+    lot.leave(rt, pass);
+}
+
+/// The one thread of the condition's line is taken, and then nobody.
+fn take_one<N: LotName<Count> + Send + Sync, T: Wait + Abort>(rt: &T, lot: &Lot<Count, N>)
+    requires { (lot.now.locks ≡ 14) × (lot.now.conds ≡ 1) }
+{
+    assert_eq!(rt; lot.line_length(rt, COND), 1);
+    let pass = enter(rt, lot);
+    let (pass, took) = call_one(rt, lot, pass, COND);
+    assert!(rt; took);
+    assert_eq!(rt; lot.line_length(rt, COND), 0);
+    let (pass, took) = call_one(rt, lot, pass, COND);
+    assert!(rt; !took);
+    lot.leave(rt, pass);
+}
+
+/// A thread is taken that is queued on the condition and owns its lock still: it lets the lock go, does not sleep, and gets it again.
+fn taken_before_its_sleep<N: LotName<Count> + Send + Sync, T: Threads + Wait + Sync + Abort>(
+    rt: &T,
+    lot: &Lot<Count, N>,
+    flags: &Flags,
+)
+    requires { (lot.now.locks ≡ 14) × (lot.now.conds ≡ 1) }
+{
+    thread::scope(
+        thread::scope_env(),
+        rt,
+        |scope|
+            requires { (lot.now.locks ≡ 14) × (lot.now.conds ≡ 1) }
+        {
+            let waiter = move ||
+                requires { (lot.now.locks ≡ 14) × (lot.now.conds ≡ 1) }
+            {
+                let before = Meeting {
+                    rt,
+                    own: &flags.first,
+                    other: &flags.second,
+                };
+                wait_once(rt, lot, &before, &flags.back)
+            };
+            assert!(rt; scope.spawn(waiter).is_ok());
+            assert!(rt; is_raised(&flags.first));
+            assert_eq!(rt; word(lot, 0), 1);
+            take_one(rt, lot);
+            assert_eq!(rt; word(lot, 0), 1);
+            flags.second.store(1, Ordering::SeqCst);
+            assert!(rt; is_raised(&flags.back));
+        },
+    );
+}
+
+/// Whether nobody owns the lock, asked a bounded number of times.
+fn is_free<N: LotName<Count> + Send + Sync>(lot: &Lot<Count, N>) -> bool
+    requires { lot.now.locks ≡ 14 }
+{
+    for _ in 0..ASKINGS {
+        if !lot.is_held(0) {
+            return true;
+        }
+        thread::yield_now();
+    }
+    false
+}
+
+/// A thread waits, and another one owns the lock meanwhile.
+fn own_meanwhile<N: LotName<Count> + Send + Sync, T: Wait + Abort>(rt: &T, lot: &Lot<Count, N>)
+    requires { (lot.now.locks ≡ 14) × (lot.now.conds ≡ 1) }
+{
+    assert!(rt; is_free(lot), "a wait keeps its lock");
+    let pass = enter(rt, lot);
+    let (pass, got) = try_own(lot, pass, 0);
+    let Some(held) = got else {
+        panic!(rt; "the lock of a thread that waits was not got")
+    };
+    assert_eq!(rt; lot.line_length(rt, COND), 1);
+    let (pass, released) = release(rt, lot, pass, held, 0);
+    assert_eq!(rt; released, Released::Quiet);
+    lot.leave(rt, pass);
+}
+
+/// A thread that sleeps on the condition has let its lock go, and gets it again when it is taken.
+fn lets_go<N: LotName<Count> + Send + Sync, T: Threads + Wait + Sync + Abort>(
+    rt: &T,
+    lot: &Lot<Count, N>,
+    flags: &Flags,
+)
+    requires { (lot.now.locks ≡ 14) × (lot.now.conds ≡ 1) }
+{
+    thread::scope(
+        thread::scope_env(),
+        rt,
+        |scope|
+            requires { (lot.now.locks ≡ 14) × (lot.now.conds ≡ 1) }
+        {
+            let waiter = move ||
+                requires { (lot.now.locks ≡ 14) × (lot.now.conds ≡ 1) }
+            { wait_once(rt, lot, &AtOnce, &flags.back) };
+            assert!(rt; scope.spawn(waiter).is_ok());
+            assert!(rt; in_line(rt, lot, COND, 1));
+            own_meanwhile(rt, lot);
+            take_one(rt, lot);
+            assert!(rt; is_raised(&flags.back));
+        },
+    );
+}
+
+/// It waits when the condition's flag was cleared, before the line is taken.
+fn wait_late<N: LotName<Count> + Send + Sync, T: Wait + Abort>(
+    rt: &T,
+    lot: &Lot<Count, N>,
+    flags: &Flags,
+)
+    requires { (lot.now.locks ≡ 14) × (lot.now.conds ≡ 1) }
+{
+    assert!(rt; is_raised(&flags.first));
+    // It finds its own flag raised, so it is not held.
+    let before = Meeting {
+        rt,
+        own: &flags.second,
+        other: &flags.second,
+    };
+    wait_once(rt, lot, &before, &flags.back);
+}
+
+/// The line is taken with who came late, whose wait has set the flag again. The next notification finds nobody, and clears it.
+fn sweep_both<N: LotName<Count> + Send + Sync, T: Wait + Abort>(
+    rt: &T,
+    lot: &Lot<Count, N>,
+    flags: &Flags,
+)
+    requires { (lot.now.locks ≡ 14) × (lot.now.conds ≡ 1) }
+{
+    let pass = enter(rt, lot);
+    let before = Meeting {
+        rt,
+        own: &flags.first,
+        other: &flags.second,
+    };
+    let (pass, count) = call_all_after(rt, lot, pass, &before);
+    assert_eq!(rt; count, 2);
+    assert_eq!(rt; lot.line_length(rt, COND), 0);
+    let (pass, has) = lot.has_waiters(pass, COND);
+    assert!(rt; has);
+    let (pass, took) = call_one(rt, lot, pass, COND);
+    assert!(rt; !took);
+    let (pass, has) = lot.has_waiters(pass, COND);
+    assert!(rt; !has);
+    lot.leave(rt, pass);
+}
+
+fn one_waits_late<N: LotName<Count> + Send + Sync, T: Threads + Wait + Sync + Abort>(
+    rt: &T,
+    lot: &Lot<Count, N>,
+    flags: &Flags,
+)
+    requires { (lot.now.locks ≡ 14) × (lot.now.conds ≡ 1) }
+{
+    thread::scope(
+        thread::scope_env(),
+        rt,
+        |scope|
+            requires { (lot.now.locks ≡ 14) × (lot.now.conds ≡ 1) }
+        {
+            let early = move ||
+                requires { (lot.now.locks ≡ 14) × (lot.now.conds ≡ 1) }
+            { wait_once(rt, lot, &AtOnce, &flags.back) };
+            assert!(rt; scope.spawn(early).is_ok());
+            assert!(rt; in_line(rt, lot, COND, 1));
+            let late = move ||
+                requires { (lot.now.locks ≡ 14) × (lot.now.conds ≡ 1) }
+            { wait_late(rt, lot, flags) };
+            assert!(rt; scope.spawn(late).is_ok());
+            sweep_both(rt, lot, flags);
+        },
+    );
+}
+
+/// The lock was handed to it before the table grew, and it looks for its letter after.
+fn own_after_growth<N: LotName<Count> + Send + Sync, T: Wait + Abort>(
+    rt: &T,
+    lot: &Lot<Count, N>,
+    flags: &Flags,
+)
+    requires { (lot.now.locks ≡ 14) × (lot.now.conds ≡ 1) }
+{
+    let pass = enter(rt, lot);
+    let (pass, held) = own_at_gate(rt, lot, pass, 0, &flags.first);
+    assert_eq!(rt; lot.table_size(rt), 30);
+    assert_eq!(rt; word(lot, 0), 3);
+    assert_eq!(rt; lot.line_length(rt, 0), 1);
+    flags.back.store(1, Ordering::SeqCst);
+    let (pass, released) = release(rt, lot, pass, held, 0);
+    assert_eq!(rt; released, Released::Woke);
+    lot.leave(rt, pass);
+}
+
+/// The lock is handed over, and the fifth registration lets the table grow before the new owner knows.
+fn hand_over_and_grow<N: LotName<Count> + Send + Sync, T: Wait + Abort>(
+    rt: &T,
+    lot: &Lot<Count, N>,
+    flags: &Flags,
+    pass: Pass<Count, N>,
+    held: Held<Count, N>,
+)
+    requires sizes { (lot.now.locks ≡ 14) × (lot.now.conds ≡ 1) × (held.key ≡ 0) }
+    requires holding { Holding (λ x y. x.n ≤ y.n) pass held }
+{
+    let (pass, released) = release_fairly(rt, lot, pass, held);
+    assert_eq!(rt; released, Released::Handed);
+    let fourth = enter(rt, lot);
+    assert_eq!(rt; lot.table_size(rt), 12);
+    let fifth = enter(rt, lot);
+    assert_eq!(rt; lot.table_size(rt), 30);
+    assert_eq!(rt; word(lot, 0), 3);
+    flags.first.store(1, Ordering::SeqCst);
+    assert!(rt; is_raised(&flags.back));
+    lot.leave(rt, fifth);
+    lot.leave(rt, fourth);
+    lot.leave(rt, pass);
+}
+
+fn handed_before_growth<N: LotName<Count> + Send + Sync, T: Threads + Wait + Sync + Abort>(
+    rt: &T,
+    lot: &Lot<Count, N>,
+    flags: &Flags,
+)
+    requires { (lot.now.locks ≡ 14) × (lot.now.conds ≡ 1) }
+{
+    thread::scope(
+        thread::scope_env(),
+        rt,
+        |scope|
+            requires { (lot.now.locks ≡ 14) × (lot.now.conds ≡ 1) }
+        {
+            let pass = enter(rt, lot);
+            let (pass, held) = own(rt, lot, pass, 0);
+            let first = move ||
+                requires { (lot.now.locks ≡ 14) × (lot.now.conds ≡ 1) }
+            { own_after_growth(rt, lot, flags) };
+            assert!(rt; scope.spawn(first).is_ok());
+            assert!(rt; in_line(rt, lot, 0, 1));
+            let second = move ||
+                requires { (lot.now.locks ≡ 14) × (lot.now.conds ≡ 1) }
+            { sleeper(rt, lot, 0, Released::Quiet) };
+            assert!(rt; scope.spawn(second).is_ok());
+            assert!(rt; in_line(rt, lot, 0, 2));
+            hand_over_and_grow(rt, lot, flags, pass, held);
+        },
+    );
+}
+
+#[derive(Clone, Copy)]
+pub(crate) enum Schedule {
+    TakenBeforeItsSleep,
+    LetsGo,
+    WaitsLate,
+    HandedBeforeGrowth,
+}
+
+/// Plays the schedule, and answers how many waits ended.
+pub(crate) fn follow<N: LotName<Count> + Send + Sync, T: Threads + Wait + Sync + Abort>(
+    rt: &T,
+    lot: &Lot<Count, N>,
+    schedule: Schedule,
+) -> u64
+    requires { (lot.now.locks ≡ 14) × (lot.now.conds ≡ 1) }
+{
+    let flags = Flags::new();
+    match schedule {
+        Schedule::TakenBeforeItsSleep => taken_before_its_sleep(rt, lot, &flags),
+        Schedule::LetsGo => lets_go(rt, lot, &flags),
+        Schedule::WaitsLate => {
+            one_waits_late(rt, lot, &flags);
+            return 2;
+        }
+        Schedule::HandedBeforeGrowth => {
+            handed_before_growth(rt, lot, &flags);
+            return 0;
+        }
+    }
+    1
+}
+
+#[test]
+fn notifications_are_answered(rt: HostRuntime) {
+    on_lot(
+        &rt,
+        rt.alloc(),
+        2,
+        Row::Scheduled(Schedule::TakenBeforeItsSleep),
+    );
+}
+
+#[test]
+fn a_wait_lets_go(rt: HostRuntime) {
+    on_lot(&rt, rt.alloc(), 2, Row::Scheduled(Schedule::LetsGo));
+}
+
+#[test]
+fn who_waits_after_the_flag_was_cleared_is_taken(rt: HostRuntime) {
+    on_lot(&rt, rt.alloc(), 3, Row::Scheduled(Schedule::WaitsLate));
+}
+
+#[test]
+fn a_handoff_outlives_a_growth(rt: HostRuntime) {
+    on_lot(
+        &rt,
+        rt.alloc(),
+        5,
+        Row::Scheduled(Schedule::HandedBeforeGrowth),
+    );
+}
