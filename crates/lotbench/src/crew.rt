@@ -153,10 +153,10 @@ fn go<N: LotName<Number> + Send, T: Wait + Clock>(
         }
         Job::Relay(producers, rounds) if lot.locks() == 1 && lot.conds() == 2 => {
             if worker < producers {
-                (produce(rt, lot, pass, rounds), rounds)
+                (produce(rt, lot, worker, pass, rounds), rounds)
             } else {
                 let taken = plan.taken(producers, rounds, worker);
-                (consume(rt, lot, pass, taken), 0)
+                (consume(rt, lot, worker, pass, taken), 0)
             }
         }
         Job::Relay(..) | Job::Start => (pass, 0),

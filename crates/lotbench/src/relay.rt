@@ -4,6 +4,7 @@ ghost use Rattle.lot_sync.specs.Lot.{OwnsNone};
 ghost use Rattle.lotbench.specs.Buffers.{HasBuffer};
 
 use crate::clock::moment;
+use crate::rounds::Random;
 use crate::value::Number;
 use lot_sync::{Held, Lot, LotName, Moment, Pass};
 use std::sync::Wait;
@@ -25,6 +26,7 @@ const NEVER_FAIR: Moment = Moment { now: 0, word: 0 };
 pub fn produce<N: LotName<Number> + Send, T: Wait + Clock>(
     rt: &T,
     lot: &Lot<Number, N>,
+    worker: usize,
     pass: Pass<Number, N>,
     rounds: u64,
 ) -> Pass<Number, N>
@@ -33,11 +35,13 @@ pub fn produce<N: LotName<Number> + Send, T: Wait + Clock>(
     ensures { OwnsNone result }
 {
     let mut pass = pass;
+    let mut random = Random::new(worker);
     for _ in 0..rounds {
-        let (owner, mut held) = get(rt, lot, pass, NOT_FULL);
+        let word = random.next();
+        let (owner, mut held) = get(rt, lot, pass, NOT_FULL, word);
         let number = held.value_mut();
         number.n = number.n.wrapping_add(1);
-        let (owner, _) = lot.unlock_asking(rt, owner, held, || moment(rt, 0));
+        let (owner, _) = lot.unlock_asking(rt, owner, held, || moment(rt, word));
         let (told, _) = lot.notify_one(rt, owner, NOT_EMPTY, NEVER_FAIR);
         pass = told;
     }
@@ -48,6 +52,7 @@ pub fn produce<N: LotName<Number> + Send, T: Wait + Clock>(
 pub fn consume<N: LotName<Number> + Send, T: Wait + Clock>(
     rt: &T,
     lot: &Lot<Number, N>,
+    worker: usize,
     pass: Pass<Number, N>,
     rounds: u64,
 ) -> Pass<Number, N>
@@ -56,11 +61,13 @@ pub fn consume<N: LotName<Number> + Send, T: Wait + Clock>(
     ensures { OwnsNone result }
 {
     let mut pass = pass;
+    let mut random = Random::new(worker);
     for _ in 0..rounds {
-        let (owner, mut held) = get(rt, lot, pass, NOT_EMPTY);
+        let word = random.next();
+        let (owner, mut held) = get(rt, lot, pass, NOT_EMPTY, word);
         let number = held.value_mut();
         number.n = number.n.wrapping_sub(1);
-        let (owner, _) = lot.unlock_asking(rt, owner, held, || moment(rt, 0));
+        let (owner, _) = lot.unlock_asking(rt, owner, held, || moment(rt, word));
         let (told, _) = lot.notify_one(rt, owner, NOT_FULL, NEVER_FAIR);
         pass = told;
     }
@@ -73,6 +80,7 @@ fn get<N: LotName<Number> + Send, T: Wait + Clock>(
     lot: &Lot<Number, N>,
     pass: Pass<Number, N>,
     cond: usize,
+    word: u64,
 ) -> (Pass<Number, N>, Held<Number, N>)
     requires keys { (lot.now.locks ≡ 1) × (lot.now.conds ≡ 2) }
     requires cond { (1 ≤ cond) × (cond < 3) }
@@ -90,7 +98,7 @@ fn get<N: LotName<Number> + Send, T: Wait + Clock>(
         if !has_to_wait {
             return (pass, held);
         }
-        let (woken, found) = lot.wait(rt, pass, held, cond, moment(rt, 0));
+        let (woken, found) = lot.wait(rt, pass, held, cond, moment(rt, word));
         pass = woken;
         held = found;
     }
