@@ -202,7 +202,11 @@ pub(crate) fn call_all<
 }
 
 /// Clears the condition's flag; `sweep` has to follow.
-fn lower<N: WaitName>(scheme: &CondScheme<N>, pass: NamedCond<N>, cond: usize) -> NamedCond<N>
+pub(crate) fn lower<N: WaitName>(
+    scheme: &CondScheme<N>,
+    pass: NamedCond<N>,
+    cond: usize,
+) -> NamedCond<N>
     requires cond { IsAmongConds N.locks N.conds cond }
     requires calm { IsCalmStanding pass }
     ensures { result ≡ setting_out pass cond }
@@ -211,7 +215,7 @@ fn lower<N: WaitName>(scheme: &CondScheme<N>, pass: NamedCond<N>, cond: usize) -
 }
 
 /// Takes the whole line, while the condition's bucket is locked.
-fn sweep<N: WaitName>(
+pub(crate) fn sweep<N: WaitName>(
     scheme: &CondScheme<N>,
     pass: NamedCond<N>,
     root: CondKeyRoot<N>,

@@ -1,13 +1,14 @@
 //! Waits and notifications in a lot of two tables, of which the first is one of locks that nobody takes.
-ghost use Rattle.std.specs.Prelude.{◌≡◌, ℕ, ◌≤◌, vec_len, vec_capacity};
+ghost use Rattle.std.specs.Prelude.{◌≡◌, ℕ, ◌≤◌, length, vec_len, vec_capacity};
+ghost use Rattle.lot_conds.specs.Calls.{swept_root};
 ghost use Rattle.lot_conds.specs.Schedule.{IsFree, IsEmpty};
-ghost use Rattle.lot_waits.specs.Rights.{IsCalmStanding, calling, waking, HasKeys};
+ghost use Rattle.lot_waits.specs.Rights.{IsCalmStanding, HasToSweep, calling, sweeping, waking, with_root, HasKeys};
 
-use crate::notifying::{AtOnce, call_all, call_one, look};
+use crate::notifying::{AtOnce, call_all, call_one, look, lower, sweep};
 use crate::waiting::sleep_on;
 use crate::{CondKeyRoot, CondScheme, NamedCond, WaitName};
 use lot_conds::{CondPass, CondRoot, CondWords};
-use lot_park::parts::{Border, Both, EitherRoot, OfSecond, OneOf, Whole};
+use lot_park::parts::{Border, Both, EitherRoot, OfSecond, OneOf, Whole, unpark_all};
 use lot_park::{Moment, ParkingLot, Root, Scheme, Token};
 use std::alloc::Global;
 use std::marker::Brand;
@@ -183,6 +184,71 @@ fn all_notified_before_sleep<N: WaitName + Send, R: Wait + Abort>(
     (zero, one)
 }
 
+// Takes the line of the condition whose flag this thread has cleared: one thread is there.
+fn take_line<N: WaitName + Send, R: Wait + Abort>(
+    rt: &R,
+    lot: &ParkingLot<TwoTables<N>>,
+    one: NamedCond<N>,
+) -> NamedCond<N>
+    requires keys { (N.locks ≡ 1) × (N.conds ≡ 1) × (lot.now.keys ≡ 2) }
+    requires lowered { HasToSweep one 1 }
+    ensures { result ≡ sweeping one 1 1 }
+{
+    let conds = lot.scheme().second();
+    let (one, count) = unpark_all::<TwoTables<N>, CondScheme<N>, TheConds, R, NamedCond<N>, _>(
+        rt,
+        lot,
+        1,
+        one,
+        |pass: NamedCond<N>, root: CondKeyRoot<N>, count: usize| -> (NamedCond<N>, CondKeyRoot<N>)
+            requires lowered { HasToSweep pass root.root.key }
+            requires count { count ≡ length root.root.own.line }
+            ensures pass { result.0 ≡ sweeping pass root.root.key count }
+            ensures root { result.1 ≡ with_root root (swept_root root.root.own) }
+        { sweep(conds, pass, root, count) },
+    );
+    assert_eq!(rt; count, 1);
+    one
+}
+
+// The flag is cleared before a thread waits, and the line is taken after that: the thread is taken, and the flag that it set stays. The next
+// notification finds nobody, and clears it.
+fn taken_after_the_flag_was_cleared<N: WaitName + Send, R: Wait + Abort>(
+    rt: &R,
+    lot: &ParkingLot<TwoTables<N>>,
+    zero: NamedCond<N>,
+    one: NamedCond<N>,
+) -> (NamedCond<N>, NamedCond<N>)
+    requires keys { (N.locks ≡ 1) × (N.conds ≡ 1) × (lot.now.threads ≡ 2) × (lot.now.keys ≡ 2) }
+    requires zero { IsCalmStanding zero × (zero.thread ≡ 0) }
+    requires one { IsCalmStanding one }
+    ensures zero { result.0 ≡ waking zero 1 }
+    ensures one { result.1 ≡ calling one 1 1 }
+{
+    let conds = lot.scheme().second();
+    let one = lower(conds, one, 1);
+    let (zero, one) = sleep_on::<TwoTables<N>, N, TheConds, R, NamedCond<N>, _>(
+        rt,
+        lot,
+        conds,
+        zero,
+        1,
+        one,
+        |one: NamedCond<N>| -> NamedCond<N>
+            requires keys { (N.locks ≡ 1) × (N.conds ≡ 1) × (lot.now.keys ≡ 2) }
+            requires lowered { HasToSweep one 1 }
+            ensures { result ≡ sweeping one 1 1 }
+        { take_line(rt, lot, one) },
+    );
+    let (one, set) = look(conds, one, 1);
+    assert!(rt; set);
+    let (one, took) = call_one::<TwoTables<N>, N, TheConds, R>(rt, lot, conds, one, 1, EARLY);
+    assert!(rt; !took);
+    let (one, set) = look(conds, one, 1);
+    assert!(rt; !set);
+    (zero, one)
+}
+
 // Takes the root of the condition from those that the lot gave back.
 fn condition_of<N: WaitName + Send>(
     rt: &impl Abort,
@@ -226,6 +292,7 @@ fn play<N: WaitName + Send, R: Wait + Abort>(
     let lot = open::<N>(rt, alloc, words, root);
     let (zero, one) = notified_before_sleep(rt, &lot, NamedCond::new(zero), NamedCond::new(one));
     let (zero, one) = all_notified_before_sleep(rt, &lot, zero, one);
+    let (zero, one) = taken_after_the_flag_was_cleared(rt, &lot, zero, one);
     let Ok(mut left) = Vec::with_capacity(alloc, 2) else {
         panic!(rt; "no memory")
     };

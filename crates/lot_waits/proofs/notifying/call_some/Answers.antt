@@ -1,4 +1,4 @@
-use Rattle.std.proofs.Common.{◌∙◌, ap, take, arith}
+use Rattle.std.proofs.Common.{◌∙◌, ap, take}
 use Rattle.lot_rights.specs.Shown.{RootShown}
 use Rattle.lot_conds.specs.declared.views.CondRootView.{CondRootView}
 use Rattle.lot_park.specs.Parking.{debts}
