@@ -70,7 +70,7 @@ impl<T: Wait + Abort> BeforeSweep for Meeting<'_, T> {
     }
 }
 
-/// `wait` with an action after the thread is queued, and what the test has of it.
+/// `wait` with an action after the thread is queued, and what the test has of it. A thread that sleeps on the lock is handed it.
 fn wait_after<N: LotName<Count> + Send + Sync, T: Wait, B: BeforeSleep>(
     rt: &T,
     lot: &Lot<Count, N>,
@@ -84,7 +84,7 @@ fn wait_after<N: LotName<Count> + Send + Sync, T: Wait, B: BeforeSleep>(
     ensures key { result.1.key ≡ 0 }
     ensures holding { Holding (λ x y. x.n ≤ y.n) result.0 result.1 }
 {
-    let moment = Moment { now: 0, word: 7 };
+    let moment = Moment { now: 5, word: 7 };
     lot.wait_after(rt, pass, held, COND, moment, before)
 }
 
@@ -163,6 +163,72 @@ fn taken_before_its_sleep<N: LotName<Count> + Send + Sync, T: Threads + Wait + S
             assert_eq!(rt; word(lot, 0), 1);
             take_one(rt, lot);
             assert_eq!(rt; word(lot, 0), 1);
+            flags.second.store(1, Ordering::SeqCst);
+            assert!(rt; is_raised(&flags.back));
+        },
+    );
+}
+
+/// Takes the thread that waits, while this one owns the lock.
+fn call_owning<N: LotName<Count> + Send + Sync, T: Wait + Abort>(
+    rt: &T,
+    lot: &Lot<Count, N>,
+    pass: Pass<Count, N>,
+    held: &Held<Count, N>,
+) -> Pass<Count, N>
+    requires sizes { (lot.now.locks ≡ 14) × (lot.now.conds ≡ 1) }
+    requires holding { Holding (λ x y. x.n ≤ y.n) pass held.now }
+    ensures { Holding (λ x y. x.n ≤ y.n) result held.now }
+{
+    let (told, took) = lot.notify_one(rt, pass, COND, Moment { now: 0, word: 7 });
+    assert!(rt; took);
+    told
+}
+
+/// A thread that sleeps on the lock, is handed it by the other one's wait, and notifies.
+fn call_as_owner<N: LotName<Count> + Send + Sync, T: Wait + Abort>(rt: &T, lot: &Lot<Count, N>)
+    requires { (lot.now.locks ≡ 14) × (lot.now.conds ≡ 1) }
+{
+    let pass = enter(rt, lot);
+    let (pass, held) = own(rt, lot, pass, 0);
+    assert_eq!(rt; word(lot, 0), 3);
+    let pass = call_owning(rt, lot, pass, &held);
+    assert_eq!(rt; lot.line_length(rt, COND), 0);
+    let (pass, _) = release(rt, lot, pass, held, 0);
+    lot.leave(rt, pass);
+}
+
+/// A wait hands the lock to the thread in its line, which takes the waiting thread from the condition's line: that one gets the lock again.
+fn handed_by_a_wait<N: LotName<Count> + Send + Sync, T: Threads + Wait + Sync + Abort>(
+    rt: &T,
+    lot: &Lot<Count, N>,
+    flags: &Flags,
+)
+    requires { (lot.now.locks ≡ 14) × (lot.now.conds ≡ 1) }
+{
+    thread::scope(
+        thread::scope_env(),
+        rt,
+        |scope|
+            requires { (lot.now.locks ≡ 14) × (lot.now.conds ≡ 1) }
+        {
+            let waiter = move ||
+                requires { (lot.now.locks ≡ 14) × (lot.now.conds ≡ 1) }
+            {
+                let before = Meeting {
+                    rt,
+                    own: &flags.first,
+                    other: &flags.second,
+                };
+                wait_once(rt, lot, &before, &flags.back)
+            };
+            assert!(rt; scope.spawn(waiter).is_ok());
+            assert!(rt; is_raised(&flags.first));
+            let caller = move ||
+                requires { (lot.now.locks ≡ 14) × (lot.now.conds ≡ 1) }
+            { call_as_owner(rt, lot) };
+            assert!(rt; scope.spawn(caller).is_ok());
+            assert!(rt; in_line(rt, lot, 0, 1));
             flags.second.store(1, Ordering::SeqCst);
             assert!(rt; is_raised(&flags.back));
         },
@@ -372,6 +438,7 @@ fn handed_before_growth<N: LotName<Count> + Send + Sync, T: Threads + Wait + Syn
 #[derive(Clone, Copy)]
 pub(crate) enum Schedule {
     TakenBeforeItsSleep,
+    HandedByAWait,
     LetsGo,
     WaitsLate,
     HandedBeforeGrowth,
@@ -388,6 +455,7 @@ pub(crate) fn follow<N: LotName<Count> + Send + Sync, T: Threads + Wait + Sync +
     let flags = Flags::new();
     match schedule {
         Schedule::TakenBeforeItsSleep => taken_before_its_sleep(rt, lot, &flags),
+        Schedule::HandedByAWait => handed_by_a_wait(rt, lot, &flags),
         Schedule::LetsGo => lets_go(rt, lot, &flags),
         Schedule::WaitsLate => {
             one_waits_late(rt, lot, &flags);
@@ -409,6 +477,11 @@ fn notifications_are_answered(rt: HostRuntime) {
         2,
         Row::Scheduled(Schedule::TakenBeforeItsSleep),
     );
+}
+
+#[test]
+fn a_wait_hands_its_lock_over(rt: HostRuntime) {
+    on_lot(&rt, rt.alloc(), 2, Row::Scheduled(Schedule::HandedByAWait));
 }
 
 #[test]
