@@ -48,14 +48,12 @@ impl OpenedKinds {
         ensures conds { IfOk result (λ o. (o.conds.threads ≡ threads) × (o.conds.locks ≡ locks) × (o.conds.conds ≡ conds)) }
         ensures sems { IfOk result (λ o. (o.sems.threads ≡ threads) × (o.sems.low ≡ locks + conds) × (o.sems.permits ≡ permits.now)) }
     {
-        let conditions = OpenedConds::open(alloc, threads, locks, conds)?;
-        match open_sems(alloc, threads, locks + conds, permits) {
-            Ok(sems) => Ok(OpenedKinds {
-                conds: conditions,
-                sems,
-            }),
+        // The list of words that semaphores open with is given back before the table of the conditions is made.
+        let sems = open_sems(alloc, threads, locks + conds, permits)?;
+        match OpenedConds::open(alloc, threads, locks, conds) {
+            Ok(conds) => Ok(OpenedKinds { conds, sems }),
             Err(refused) => {
-                conditions.close();
+                sems.close();
                 Err(refused)
             }
         }

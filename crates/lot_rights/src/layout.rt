@@ -2,8 +2,13 @@
 ghost use Rattle.std.specs.Prelude.{◌≡◌, ◌^◌, ◌<◌};
 ghost use Rattle.lot_rights.specs.Layout.{word_at, letter_at, word_count};
 
+use lot_core::MAX_KEYS;
+
 /// The word that nobody writes: joins and splits of seats load it, and so do the moves of values.
 pub(crate) const SPARE_WORD: usize = 0;
+
+/// How many words a table of as many threads or keys as a lot can have takes: each asks for as many.
+pub(crate) const MOST_WORDS: usize = 2 * MAX_KEYS + 8;
 
 /// The place of a key's word: two words from one key to the next, and the first one past the line of the spare word.
 #[inline(always)]

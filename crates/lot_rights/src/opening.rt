@@ -1,17 +1,28 @@
 //! Opening: all memory first, then the table, then a pass for each thread and a root for each key.
-ghost use Rattle.std.specs.Prelude.{◌≡◌, ℕ, ◌+◌, ◌^◌, ◌<◌, ◌≤◌, ◌++◌, [], Some, slice_get, replicate, vec_len, vec_capacity, IfOk, IfErr};
+ghost use Rattle.std.specs.Prelude.{◌≡◌, ℕ, ◌+◌, ◌^◌, ◌<◌, ◌≤◌, ◌++◌, [], Some, slice_get, replicate, length, vec_len, vec_capacity, IfOk, IfErr};
 ghost use Rattle.atomic_table.specs.Table.{opening};
 ghost use Rattle.lot_rights.specs.Layout.{word_at, letter_at, word_count};
 ghost use Rattle.lot_rights.specs.Rule.{Ruled};
 ghost use Rattle.lot_rights.specs.Start.{passes_from, roots_from, all_rights, pass_at, root_at, OpensWell};
 
 use crate::kind::{Kind, RightsSeat, RightsShared};
-use crate::layout::words_for;
+use crate::layout::{MOST_WORDS, words_for};
 use crate::rights::{PassOf, RootOf};
 use crate::tells::Deal;
 use crate::words::WordsOf;
 use atomic_table::{Refused, Table};
 use std::alloc::{AllocError, Global};
+
+/// The words of a table at its opening, for as many threads and keys as a lot can have: so none are made only to be copied.
+static ZEROS: [u64; MOST_WORDS] = [0; MOST_WORDS];
+
+/// So many words that are all 0.
+fn zeros(count: usize) -> &'static [u64]
+    requires { count ≤ MOST_WORDS }
+    ensures { result.now ≡ replicate count 0 }
+{
+    &ZEROS[..count]
+}
 
 /// Gives each thread its pass.
 fn deal_passes<K: Kind>(
@@ -102,8 +113,14 @@ impl<K: Kind> WordsOf<K> {
         ensures rule { IfOk result (λ r. Ruled (K.scheme r.0.key) (opening (replicate (word_count threads (first + keys)) 0) slots.items (all_rights (K.scheme r.0.key)))) }
         ensures back { IfErr result (λ e. e.items ≡ slots.items) }
     {
-        match vec![in alloc; 0; words_for(threads, first + keys)] {
-            Ok(words) => WordsOf::open_with(alloc, key, words, slots, threads, first, keys),
+        let count = words_for(threads, first + keys);
+        if count <= MOST_WORDS {
+            return WordsOf::open_with(alloc, key, zeros(count), slots, threads, first, keys);
+        }
+        match vec![in alloc; 0; count] {
+            Ok(words) => {
+                WordsOf::open_with(alloc, key, words.as_slice(), slots, threads, first, keys)
+            }
             Err(_) => Err(slots),
         }
     }
@@ -112,7 +129,7 @@ impl<K: Kind> WordsOf<K> {
     pub fn open_with(
         alloc: Global,
         key: &K::Key,
-        words: Vec<u64>,
+        words: &[u64],
         slots: Vec<K::Slot>,
         threads: usize,
         first: usize,
@@ -120,13 +137,13 @@ impl<K: Kind> WordsOf<K> {
     ) -> Result<(WordsOf<K>, Vec<PassOf<K>>, Vec<RootOf<K>>), Vec<K::Slot>>
         requires size { ((K.scheme key.now).threads ≡ threads) × ((K.scheme key.now).first_key ≡ first) × ((K.scheme key.now).keys ≡ keys) }
         requires few { (threads < 2 ^ 32) × (first + keys < 2 ^ 32) }
-        requires wide { vec_len words ≡ word_count threads (first + keys) }
+        requires wide { length words.now ≡ word_count threads (first + keys) }
         requires calm { (c u : ℕ) → ¬ K.names ((K.scheme key.now).fresh_root c) u }
-        requires opens { OpensWell (K.scheme key.now) words.items slots.items }
+        requires opens { OpensWell (K.scheme key.now) words.now slots.items }
         ensures table { IfOk result (λ r. (r.0.table.words ≡ word_count threads (first + keys)) × (r.0.table.slots ≡ vec_len slots) × (r.0.key ≡ key.now)) }
         ensures passes { IfOk result (λ r. (vec_len r.1 ≡ threads) × ((k : ℕ) → k < threads → slice_get r.1.items k ≡ Some (pass_at (K.scheme key.now) r.0.table k))) }
         ensures roots { IfOk result (λ r. (vec_len r.2 ≡ keys) × ((k : ℕ) → k < keys → slice_get r.2.items k ≡ Some (root_at (K.scheme key.now) r.0.table (first + k)))) }
-        ensures rule { IfOk result (λ r. Ruled (K.scheme r.0.key) (opening words.items slots.items (all_rights (K.scheme r.0.key)))) }
+        ensures rule { IfOk result (λ r. Ruled (K.scheme r.0.key) (opening words.now slots.items (all_rights (K.scheme r.0.key)))) }
         ensures back { IfErr result (λ e. e.items ≡ slots.items) }
     {
         let Rooms {
@@ -136,7 +153,7 @@ impl<K: Kind> WordsOf<K> {
             Ok(rooms) => rooms,
             Err(_) => return Err(slots),
         };
-        match Table::new(alloc, words.as_slice(), slots, key) {
+        match Table::new(alloc, words, slots, key) {
             Ok((table, mut seat)) => {
                 deal_passes(&table.shared, &mut seat, threads, &mut passes);
                 deal_roots(&table.shared, &mut seat, first, keys, &mut roots);

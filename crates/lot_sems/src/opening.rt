@@ -48,7 +48,15 @@ impl SemWords {
         };
         fill(&mut words, low, &permits);
         let start = Start::new(threads, low, &permits);
-        match WordsOf::open_with(alloc, &start, words, Vec::new(alloc), threads, low, keys) {
+        match WordsOf::open_with(
+            alloc,
+            &start,
+            words.as_slice(),
+            Vec::new(alloc),
+            threads,
+            low,
+            keys,
+        ) {
             Ok((words, passes, roots)) => Ok((SemWords { words }, passes, roots)),
             Err(slots) => {
                 slots.destroy_empty();

@@ -12,7 +12,7 @@ open_with-requires-clause-wide c =
     let count = length c.args.permits.items in
     let len : c.args.permits.len ≡ count = c.args.permits.ok.0 in
     let wide = as_wide c.in-Ok.words.items c.args.low c.args.permits.items c.args.permits.len in
-    c.fill.new.words.ok.0 ∙ (ap (λ xs. length {A = ℕ} xs) c.fill.ensures.words ∙ (wide ∙ (sym c.in-Ok.words.ok.0 ∙ (c.in-Ok.ensures.len ∙ c.words_for.ensures))))
+    ap (λ xs. length {A = ℕ} xs) c.as_slice.ensures.value ∙ (ap (λ xs. length {A = ℕ} xs) c.fill.ensures.words ∙ (wide ∙ (sym c.in-Ok.words.ok.0 ∙ (c.in-Ok.ensures.len ∙ c.words_for.ensures))))
 
 pub open_with-requires-clause-opens : goal.open_with-requires-clause-opens
 open_with-requires-clause-opens c =
@@ -27,5 +27,5 @@ open_with-requires-clause-opens c =
     let words : c.fill.new.words.items ≡ opening_words size = c.fill.ensures.words ∙ (λ i. with_permits (zeros i) low permits (len i)) in
     let start : numbers c.new-start.result ≡ size = (λ i. record { threads = c.new-start.ensures.size.0 i; low = c.new-start.ensures.size.1 i; permits = (c.new-start.ensures.permits i).items }) in
     let well = opens_well size (λ i h. c.fill.ensures.small i (omega arith)) in
-    subst (OpensWell (scheme (numbers c.new-start.result)) c.fill.new.words.items) (sym c.new.ensures.items)
-    (subst (λ ws. OpensWell (scheme (numbers c.new-start.result)) ws []) (sym words) (subst (λ z. OpensWell (scheme z) (opening_words size) []) (sym start) well))
+    subst (OpensWell (scheme (numbers c.new-start.result)) c.as_slice.result.now) (sym c.new.ensures.items)
+    (subst (λ ws. OpensWell (scheme (numbers c.new-start.result)) ws []) (sym (c.as_slice.ensures.value ∙ words)) (subst (λ z. OpensWell (scheme z) (opening_words size) []) (sym start) well))
