@@ -1,25 +1,27 @@
 -- What a thread has beside the locks, as contracts see it.
-use Rattle.std.specs.Prelude.{◌≡◌, ℕ, List, [], ◌∷◌, length, replicate, slice_get, Some}
+use Rattle.std.specs.Prelude.{◌≡◌, ℕ, List, [], ◌∷◌, length, replicate, slice_get, Option, Some, None}
 use Rattle.lot_waits.specs.Counts.{CountsView}
+use Rattle.lot_permits.specs.declared.permit.Freed.{Freed}
 use Rattle.lot_permits.specs.Permits.{PermitsView}
 use Rattle.lot_permits.specs.Permits.{HoldsNone as HoldsNoPermit}
 
 -- a thread, and by key: the sleepers that it took from the condition's line, its own waits that ended, and the permits of the
--- semaphore that it holds
+-- semaphore that it holds; and how its last release of a permit ended, if there was one
 pub record RightsView : Type 0 where
   pub thread : ℕ
   pub called : List ℕ
   pub woken : List ℕ
   pub permits : List ℕ
+  pub freed : Option Freed
 
 abbrev pub joined : CountsView → PermitsView → RightsView
-joined counts permits = record { thread = counts.thread; called = counts.called; woken = counts.woken; permits = permits.permits }
+joined counts permits = record { thread = counts.thread; called = counts.called; woken = counts.woken; permits = permits.permits; freed = permits.freed }
 
 abbrev pub counts_of : RightsView → CountsView
 counts_of r = record { thread = r.thread; called = r.called; woken = r.woken }
 
 abbrev pub permits_of : RightsView → PermitsView
-permits_of r = record { thread = r.thread; permits = r.permits }
+permits_of r = record { thread = r.thread; permits = r.permits; freed = r.freed }
 
 -- both are of one thread, and know so many keys
 pub record AreOfOne (counted held : ℕ) (counts : CountsView) (permits : PermitsView) : Type 0 where
@@ -38,9 +40,9 @@ pub record IsWide (counted held : ℕ) (r : RightsView) : Type 0 where
 abbrev pub HoldsNone : RightsView → Type 0
 HoldsNone r = HoldsNoPermit (permits_of r)
 
--- the thread t, which has counted nothing and holds nothing yet
+-- the thread t, which has counted nothing, holds nothing yet and has released nothing
 abbrev pub unused : ℕ → ℕ → ℕ → RightsView
-unused counted held t = record { thread = t; called = replicate counted 0; woken = replicate counted 0; permits = replicate held 0 }
+unused counted held t = record { thread = t; called = replicate counted 0; woken = replicate counted 0; permits = replicate held 0; freed = None }
 
 -- ---- lists
 -- at each place stand the rights of one thread

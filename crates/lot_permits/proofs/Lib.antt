@@ -1,3 +1,4 @@
+pub mod Noted
 pub mod Owed
 pub mod Slept
 pub mod Starts

@@ -11,7 +11,7 @@ woke : (before mid : SemStanding) (token : ℕ) (after : SemStanding) → before
 woke before mid token after awake queued a =
     let kept = awaited_keeps IsSemLooked (λ (p q : SemStanding). q ≡ p) (λ p. refl) (λ p m q same look. look ∙ same) mid token after a in
     let found : IsSemLooked mid (Some token) after = subst (λ (m : SemStanding). IsSemLooked m (Some token) after) kept.1 kept.2 in
-    found.2 ∙ (ap waking queued ∙ ap (λ b. record { thread = before.thread; own = record before.own { asleep = b } }) (sym awake))
+    found.2 ∙ (ap waking queued ∙ ap (λ b. record before { own = record before.own { asleep = b } }) (sym awake))
 
 -- a parking, whatever its validation said
 pub slept : (Refused Acted : Type 0) (how : Parked) (before mid after : SemStanding) (says : Bool) → before.own.asleep ≡ false → mid ≡ queueing before says

@@ -8,14 +8,17 @@ use Rattle.lot_sems.specs.declared.views.SemPassView.{SemPassView}
 use Rattle.lot_sems.specs.declared.views.SemRootView.{SemRootView}
 use Rattle.lot_sems.specs.World.{Numbers}
 use Rattle.lot_sems.specs.Calls.{IsCalm, seeking, got, gave, woken, parked_pass}
+use Rattle.lot_permits.specs.declared.permit.Freed.{Freed}
+use Rattle.lot_permits.specs.Freed.{freed_in}
 
--- a pass: its thread, and what it knows; not the entries that were made with it
+-- a pass: its thread, what it knows, and of the entries that were made with it how the last release ended, if there was one
 pub record SemStanding : Type 0 where
   pub thread : ℕ
   pub own : SemPassView
+  pub freed : Option Freed
 
 abbrev pub standing : PassView SemPassView → SemStanding
-standing p = record { thread = p.thread; own = p.own }
+standing p = record { thread = p.thread; own = p.own; freed = freed_in p.made }
 
 abbrev pub sem_stands : PassShown SemPassView → SemStanding
 sem_stands p = standing p.pass
@@ -26,23 +29,23 @@ IsCalmStanding r = IsCalm r.own
 
 -- the pass, which seeks a permit of k
 abbrev pub wanting : SemStanding → ℕ → SemStanding
-wanting r k = record { thread = r.thread; own = seeking r.own k }
+wanting r k = record r { own = seeking r.own k }
 
 -- the pass, which has got a permit of k
 abbrev pub getting : SemStanding → ℕ → SemStanding
-getting r k = record { thread = r.thread; own = got r.own k }
+getting r k = record r { own = got r.own k }
 
--- the pass, which has given a permit of k back
-abbrev pub giving : SemStanding → ℕ → SemStanding
-giving r k = record { thread = r.thread; own = gave r.own k }
+-- the pass, which has given a permit of k back by a release that ended like this
+abbrev pub giving : SemStanding → ℕ → Freed → SemStanding
+giving r k freed = record { thread = r.thread; own = gave r.own k; freed = Some freed }
 
 -- the pass, asleep in a line where it was queued
 abbrev pub queueing : SemStanding → Bool → SemStanding
-queueing r queued = record { thread = r.thread; own = parked_pass r.own queued }
+queueing r queued = record r { own = parked_pass r.own queued }
 
 -- the pass, awake again
 abbrev pub waking : SemStanding → SemStanding
-waking r = record { thread = r.thread; own = woken r.own }
+waking r = record r { own = woken r.own }
 
 -- ---- what became of a try to take a permit of k: q is the pass p after it
 abbrev pub HasTried : SemStanding → ℕ → Taken → SemStanding → Type 0

@@ -70,7 +70,8 @@ pub fn acquire<S: Scheme, N: PermitName + Send, P: Part<S, SemScheme<N>>, R: Wai
 /// Gives a permit back. Where nobody is parked it is one compare-exchange of the semaphore's word; else the first thread of the line, if
 /// any, is taken from it and woken after the bucket is unlocked. It takes no memory.
 ///
-/// The permit is left to whoever comes first: a thread that was woken tries again.
+/// The permit is left to whoever comes first: a thread that was woken tries again. The seeker shows what was answered, since how its last
+/// release ended is read off the entries of the history.
 #[inline(always)]
 pub fn release<S: Scheme, N: PermitName + Send, P: Part<S, SemScheme<N>>, R: Wait>(
     rt: &R,
@@ -83,7 +84,7 @@ pub fn release<S: Scheme, N: PermitName + Send, P: Part<S, SemScheme<N>>, R: Wai
     requires has { HasPermit seeker permit }
     requires key { permit.key < parking.now.keys }
     requires serves { P.serves permit.key }
-    ensures seeker { result.0 ≡ one_less seeker permit.key }
+    ensures seeker { result.0 ≡ one_less seeker permit.key result.1 }
     ensures wide { IsWide (N.low + length N.permits) result.0 }
 {
     let key = permit.into_key();

@@ -19,6 +19,7 @@ const SPINS: u32 = 40;
 const PARKED: u64 = 1;
 
 /// Takes a permit where one is left, and else leaves all as it was.
+#[tactic(auto, using(crate::proofs::Noted::tried))]
 #[inline(always)]
 pub(crate) fn try_take<N: PermitName>(
     scheme: &SemScheme<N>,
@@ -34,6 +35,7 @@ pub(crate) fn try_take<N: PermitName>(
 }
 
 /// Takes a permit where one is left; where a load finds none, the thread seeks one from now on.
+#[tactic(auto, using(crate::proofs::Noted::taken))]
 #[inline(always)]
 pub(crate) fn take<N: PermitName>(
     scheme: &SemScheme<N>,
@@ -120,6 +122,7 @@ fn wait_for<S: Scheme, N: PermitName + Send, P: Part<S, SemScheme<N>>, R: Wait>(
 }
 
 /// Marks the semaphore as parked where no permit is left, by one compare-exchange, and says whether it did.
+#[tactic(auto, using(crate::proofs::Noted::marked))]
 fn mark<N: PermitName>(scheme: &SemScheme<N>, pass: NamedSem<N>, key: usize) -> (NamedSem<N>, bool)
     requires key { IsAmongSemaphores N.low (length N.permits) key }
     requires seeks { IsSeeking pass.own key }

@@ -31,7 +31,7 @@ pub(crate) fn give<S: Scheme, N: PermitName + Send, P: Part<S, SemScheme<N>>, R:
     requires key { IsAmongSemaphores N.low (length N.permits) key × (key < parking.now.keys) }
     requires serves { P.serves key }
     requires may { MayGive pass.own key }
-    ensures { result.0 ≡ giving pass key }
+    ensures { result.0 ≡ giving pass key result.1 }
 {
     let (pass, freed) = free(scheme, pass, key);
     if freed {
@@ -42,11 +42,12 @@ pub(crate) fn give<S: Scheme, N: PermitName + Send, P: Part<S, SemScheme<N>>, R:
 }
 
 /// One compare-exchange: the permit is given back where nobody is parked. Else the thread still has it.
+#[tactic(auto, using(crate::proofs::Noted::freed))]
 #[inline(always)]
 fn free<N: PermitName>(scheme: &SemScheme<N>, pass: NamedSem<N>, key: usize) -> (NamedSem<N>, bool)
     requires key { IsAmongSemaphores N.low (length N.permits) key }
     requires may { MayGive pass.own key }
-    ensures { MatchBool result.1 (result.0 ≡ giving pass key) (result.0 ≡ pass) }
+    ensures { MatchBool result.1 (result.0 ≡ giving pass key Freed.Quiet) (result.0 ≡ pass) }
 {
     let (pass, freed) = scheme.words().free(pass.into_pass(), key);
     (NamedSem::new(pass), freed)
@@ -66,7 +67,7 @@ fn unpark<S: Scheme, N: PermitName + Send, P: Part<S, SemScheme<N>>, R: Wait>(
     requires key { key < parking.now.keys }
     requires serves { P.serves key }
     requires may { MayGive pass.own key }
-    ensures { result.0 ≡ giving pass key }
+    ensures { result.0 ≡ giving pass key result.1 }
 {
     let (given, _) = unpark_one::<S, SemScheme<N>, P, R, (NamedSem<N>, Freed), _>(
         rt,
@@ -82,7 +83,7 @@ fn unpark<S: Scheme, N: PermitName + Send, P: Part<S, SemScheme<N>>, R: Wait>(
             requires may { MayGive x.0.own root.root.key }
             requires clear { debt root.root.own.owes 0 ≡ [] }
             requires told { (now : ℕ) × Tells root.root.own.line now told }
-            ensures pass { result.0.0 ≡ giving x.0 root.root.key }
+            ensures pass { result.0.0 ≡ giving x.0 root.root.key result.0.1 }
             ensures decided { result.0.1 ≡ freed_by told.thread }
             ensures root { result.1 ≡ with_root root (passed_root root.root.own root.root.own.line) }
             ensures token { result.2.0 ≡ 0 }
@@ -95,6 +96,7 @@ fn unpark<S: Scheme, N: PermitName + Send, P: Part<S, SemScheme<N>>, R: Wait>(
 }
 
 /// Gives the permit back, while the semaphore's bucket is locked, and takes the thread from the line of which the parking lot tells.
+#[tactic(auto, using(crate::proofs::Noted::gave_back))]
 fn give_on<N: PermitName>(
     scheme: &SemScheme<N>,
     pass: NamedSem<N>,
@@ -104,7 +106,7 @@ fn give_on<N: PermitName>(
     requires may { MayGive pass.own root.root.key }
     requires clear { debt root.root.own.owes 0 ≡ [] }
     requires told { (now : ℕ) × Tells root.root.own.line now told }
-    ensures pass { result.0 ≡ giving pass root.root.key }
+    ensures pass { result.0 ≡ giving pass root.root.key result.2 }
     ensures root { result.1 ≡ with_root root (passed_root root.root.own root.root.own.line) }
     ensures decided { result.2 ≡ freed_by told.thread }
 {

@@ -1,5 +1,5 @@
 //! Permits that come and go, in a lot of one table: semaphore 0 has two permits, and semaphore 1 has one.
-ghost use Rattle.std.specs.Prelude.{◌≡◌, ℕ, ◌+◌, ◌<◌, ◌≤◌, [], ◌∷◌, length, vec_len, vec_capacity};
+ghost use Rattle.std.specs.Prelude.{◌≡◌, ℕ, ◌+◌, ◌<◌, ◌≤◌, [], ◌∷◌, length, Some, vec_len, vec_capacity};
 ghost use Rattle.lot_core.specs.Parts.{IsAmongSemaphores};
 ghost use Rattle.lot_permits.specs.Permits.{HasPermit, HoldsNone, IsWide, one_less, one_more, opening_permits, permits_with};
 
@@ -64,7 +64,7 @@ fn found_none<N: PermitName>(
     }
 }
 
-// Gives a permit back at moment 0, and says what became of it.
+// Gives a permit back at moment 0, and says what became of it; the seeker shows the same.
 fn give_back<N: PermitName + Send, T: Wait>(
     rt: &T,
     lot: &Parking<N>,
@@ -73,7 +73,7 @@ fn give_back<N: PermitName + Send, T: Wait>(
 ) -> (Seeker<N>, Freed)
     requires has { HasPermit seeker permit }
     requires key { permit.key < lot.now.keys }
-    ensures { result.0 ≡ one_less seeker permit.key }
+    ensures { result.0 ≡ one_less seeker permit.key result.1 }
 {
     release::<SemScheme<N>, N, Whole, T>(rt, lot, lot.scheme(), seeker, permit, EARLY)
 }
@@ -86,7 +86,7 @@ fn two_and_no_third<N: PermitName + Send, T: Wait + Abort>(
 ) -> Seeker<N>
     requires sems { (N.low ≡ 0) × (length N.permits ≡ 2) × (lot.now.keys ≡ 2) }
     requires wide { IsWide 2 seeker }
-    ensures { result ≡ seeker }
+    ensures { result ≡ record seeker { freed = Some Freed.Quiet } }
 {
     let scheme = lot.scheme();
     let (seeker, one) = got(rt, scheme, seeker, 0);
@@ -174,7 +174,7 @@ fn wake<N: PermitName + Send, T: Wait + Abort>(
 ) -> Seeker<N>
     requires keys { (permit.key ≡ 1) × (lot.now.keys ≡ 2) }
     requires has { HasPermit seeker permit }
-    ensures { result ≡ one_less seeker 1 }
+    ensures { result ≡ one_less seeker 1 Freed.Woke }
 {
     assert!(rt; is_in_line(rt, lot, 1));
     let (seeker, freed) = give_back(rt, lot, seeker, permit);
@@ -238,15 +238,17 @@ fn one_for_each<N: PermitName + Send, T: Wait + Abort>(
     requires sems { (N.low ≡ 0) × (length N.permits ≡ 2) × (lot.now.keys ≡ 2) }
     requires none { HoldsNone zero × HoldsNone one }
     requires wide { IsWide 2 zero × IsWide 2 one }
-    ensures { (result.0 ≡ zero) × (result.1 ≡ one) }
+    ensures { (result.0 ≡ record zero { freed = Some Freed.Quiet }) × (result.1 ≡ record one { freed = Some Freed.Quiet }) }
 {
     let scheme = lot.scheme();
     let (zero, first) = got(rt, scheme, zero, 0);
     let (one, second) = got(rt, scheme, one, 0);
     let (zero, one) = two_of_two(scheme, zero, one, 0);
     let zero = found_none(rt, scheme, zero, 0);
-    let (zero, _) = give_back(rt, lot, zero, first);
-    let (one, _) = give_back(rt, lot, one, second);
+    let (zero, freed) = give_back(rt, lot, zero, first);
+    assert_eq!(rt; freed, Freed::Quiet);
+    let (one, freed) = give_back(rt, lot, one, second);
+    assert_eq!(rt; freed, Freed::Quiet);
     (zero, one)
 }
 

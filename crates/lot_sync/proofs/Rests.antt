@@ -108,6 +108,7 @@ module _ {V : Type 0} where
     called = q.called;
     woken = q.woken;
     permits = q.permits;
+    freed = q.freed;
   }
 
   -- what the callers of an unlock see that found the lock parked
@@ -119,6 +120,7 @@ module _ {V : Type 0} where
     called = q.called;
     woken = q.woken;
     permits = q.permits;
+    freed = q.freed;
   })
 
 module _ {V : Type 0} (grows : V → V → Type 0) (opening : List V) (threads : ℕ) where
@@ -247,6 +249,7 @@ module _ {V Part : Type 0} (keeps : ℕ → V → Type 0) (grows : V → V → T
       called = q.called;
       woken = q.woken;
       permits = q.permits;
+      freed = q.freed;
     };
     owns = held_owned after.own.holds key (subst (λ hs. IsHeld (get_or hs key NotHeld)) (sym own.holds) (held_here before.own.holds key (let w = rest.holds_long in omega (arith, w))));
     seen = subst (λ vs. get_elem? vs key ≡ some held.value) (sym (own.seen ∙ ap (set before.own.seen key) same)) (set_here before.own.seen key held.value (let w = rest.seen_long in omega (arith, w)));

@@ -1,9 +1,10 @@
 -- What a lot, its passes and its held values are seen as.
 use Rattle.lot_rights.specs.Opening.{Opening}
 use Rattle.lot_waits.specs.Counts.{CountsView}
+use Rattle.lot_permits.specs.declared.permit.Freed.{Freed}
 use Rattle.lot_kinds.specs.Rights.{RightsView}
 use Rattle.lot_waits.specs.Ledger.{IsLedger}
-use Rattle.std.specs.Prelude.{◌≡◌, ℕ, ◌+◌, ◌-◌, ◌<◌, ◌≤◌, Bool, true, false, List, length, map, slice_set, slice_index, slice_index_or}
+use Rattle.std.specs.Prelude.{◌≡◌, ℕ, ◌+◌, ◌-◌, ◌<◌, ◌≤◌, Bool, true, false, List, length, map, slice_set, slice_index, slice_index_or, Option, Some}
 use mathlib.Core.Option.{some}
 use lib.ListN.{get_elem?}
 
@@ -33,7 +34,8 @@ abbrev pub IsSem : LotView → ℕ → Type 0
 IsSem lot k = (lot.locks + lot.conds ≤ k) × (k < lot.locks + lot.conds + lot.sems)
 
 -- a pass: its thread, which locks it owns, what it has seen of each value, and by key how many sleepers it took from the
--- condition's line, how many of its own waits ended, and how many permits of the semaphore it holds
+-- condition's line, how many of its own waits ended, and how many permits of the semaphore it holds; and how its last release of a permit
+-- ended, if there was one
 pub record PassView (V : Type 0) : Type 0 where
   pub thread : ℕ
   pub owns : List Bool
@@ -41,6 +43,7 @@ pub record PassView (V : Type 0) : Type 0 where
   pub called : List ℕ
   pub woken : List ℕ
   pub permits : List ℕ
+  pub freed : Option Freed
 
 -- a value that was taken from its lock
 pub record HeldView (V : Type 0) : Type 0 where
@@ -92,9 +95,9 @@ module _ {V : Type 0} where
   abbrev pub one_more : PassView V → ℕ → PassView V
   one_more p k = record p { permits = slice_set p.permits k (permits_with p k + 1) }
 
-  -- one permit of the semaphore less
-  abbrev pub one_less : PassView V → ℕ → PassView V
-  one_less p k = record p { permits = slice_set p.permits k (permits_with p k - 1) }
+  -- one permit of the semaphore less, after a release that ended like this
+  abbrev pub one_less : PassView V → ℕ → Freed → PassView V
+  one_less p k freed = record p { permits = slice_set p.permits k (permits_with p k - 1); freed = Some freed }
 
   -- each opening value grows to what the pass has seen of it
   abbrev pub HasGrown : (V → V → Type 0) → List V → PassView V → Type 0
@@ -102,7 +105,7 @@ module _ {V : Type 0} where
 
   -- the rights that the pass has beside those on locks
   abbrev pub rights_of : PassView V → RightsView
-  rights_of p = record { thread = p.thread; called = p.called; woken = p.woken; permits = p.permits }
+  rights_of p = record { thread = p.thread; called = p.called; woken = p.woken; permits = p.permits; freed = p.freed }
 
   -- what the pass counted, of each condition by its key
   abbrev pub counts_of : PassView V → CountsView

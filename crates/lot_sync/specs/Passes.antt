@@ -38,15 +38,15 @@ module _ {V : Type 0} where
 
   -- what the caller sees of a pass that has these rights beside
   abbrev pub sees : RightsView → Standing V → PassView V
-  sees q r = record { thread = r.thread; owns = map is_held r.own.holds; seen = r.own.seen; called = q.called; woken = q.woken; permits = q.permits }
+  sees q r = record { thread = r.thread; owns = map is_held r.own.holds; seen = r.own.seen; called = q.called; woken = q.woken; permits = q.permits; freed = q.freed }
 
   -- the pass, but for its rights beside those on locks
   abbrev pub lock_side : PassView V → PassView V
-  lock_side p = record p { called = []; woken = []; permits = [] }
+  lock_side p = record p { called = []; woken = []; permits = []; freed = None }
 
   -- what is seen of a lock's pass alone
   abbrev pub seen_as : PassShown (LockPassView V) → PassView V
-  seen_as p = record { thread = p.pass.thread; owns = map is_held p.pass.own.holds; seen = p.pass.own.seen; called = []; woken = []; permits = [] }
+  seen_as p = record { thread = p.pass.thread; owns = map is_held p.pass.own.holds; seen = p.pass.own.seen; called = []; woken = []; permits = []; freed = None }
 
   -- the pass, where the value of the lock is at this place
   abbrev pub putting : Standing V → ℕ → Place V → Standing V

@@ -55,6 +55,8 @@ impl<V: Keeps + Send, N: LotName<V> + Send> Lot<V, N> {
 
     /// Gives a permit back: `Quiet` where nobody was parked, `Woke` where the first of the semaphore's line was woken, who tries again, and
     /// `Nobody` where the slow way found nobody there. Where nobody is parked it is one compare-exchange. It takes no memory.
+    ///
+    /// The pass shows what was answered: how its last release ended.
     #[inline(always)]
     pub fn release<R: Wait>(
         &self,
@@ -65,7 +67,7 @@ impl<V: Keeps + Send, N: LotName<V> + Send> Lot<V, N> {
     ) -> (Pass<V, N>, Freed)
         requires key { IsSem self.now permit.key }
         requires has { HasPermit pass permit }
-        ensures pass { result.0 ≡ one_less pass permit.key }
+        ensures pass { result.0 ≡ one_less pass permit.key result.1 }
         ensures wide { IsWide self.now result.0 }
     {
         let (right, kinds) = pass.apart();

@@ -3,11 +3,16 @@ use Rattle.std.proofs.lemmas.List.{map-append}
 use Rattle.std.specs.List.{All}
 use Rattle.std.proofs.lemmas.List.Elements.{All-push}
 use Rattle.lot_rights.proofs.Gathers.{all_popped}
+use Rattle.lot_kinds.specs.Rights.{RightsView}
 use Rattle.lot_sync.specs.Lot.{PassView, Owns, OwnsNone, rights_of}
-use Rattle.lot_sync.specs.Passes.{sees, seen_as, lock_side, IsFree}
+use Rattle.lot_sync.specs.Passes.{Standing, sees, seen_as, lock_side, IsFree}
 use Rattle.lot_sync.proofs.Rests.{held_owned}
 use Rattle.lot_rights.proofs.Turns.{moves_on, all_turned, map_turned, no_elements}
 use Rattle.lot_sync.proofs.closing.gather.Goals as goal
+
+-- the rights of a pass beside those on locks, as the pass shows them
+rights_are : {V : Type 0} (q : RightsView) (r : Standing V) (p : PassView V) → p ≡ sees q r → q.thread ≡ r.thread → q ≡ rights_of p
+rights_are q r p same own = ap (λ t. record q { thread = t }) own ∙ ap rights_of (sym same)
 
 pub loop-pass-preserved : goal.loop-pass-preserved
 loop-pass-preserved g c =
@@ -21,7 +26,9 @@ loop-pass-preserved g c =
           (ap (map seen_as) c.push_reserved.ensures.items ∙ (map-append seen_as c.loop-pass.rights.items (c.into_pass.result ∷ []) ∙ ap (λ p. map seen_as c.loop-pass.rights.items ++ p ∷ []) (sym (ap lock_side same))))
           ∙ moves_on (map lock_side c.loop-pass.passes.items) (map lock_side left) (lock_side c.in-Some.pass) (map seen_as c.loop-pass.rights.items) (map lock_side c.args.passes.items)
           (ap (map lock_side) c.in-Some.ensures.items ∙ map-append lock_side left (c.in-Some.pass ∷ [])) inv.moved;
-      beside = ap (λ qs. map rights_of left ++ reverse qs) (c.push_reserved-in-Some.ensures.items ∙ ap (λ q. c.loop-pass.kinds.items ++ q ∷ []) (λ i. record { thread = (c.apart-right.ensures.own ∙ sym (ap (λ (p : PassView _). p.thread) c.apart-right.ensures.same)) i; called = (sym (ap (λ (p : PassView _). p.called) c.apart-right.ensures.same)) i; woken = (sym (ap (λ (p : PassView _). p.woken) c.apart-right.ensures.same)) i; permits = (sym (ap (λ (p : PassView _). p.permits) c.apart-right.ensures.same)) i }))
+      beside = ap (λ qs. map rights_of left ++ reverse qs)
+          (c.push_reserved-in-Some.ensures.items
+          ∙ ap (λ q. c.loop-pass.kinds.items ++ q ∷ []) (rights_are c.apart-right.result.1 c.apart-right.result.0 c.in-Some.pass c.apart-right.ensures.same c.apart-right.ensures.own))
           ∙ moves_on (map rights_of c.loop-pass.passes.items) (map rights_of left) (rights_of c.in-Some.pass) c.loop-pass.kinds.items (map rights_of c.args.passes.items)
           (ap (map rights_of) c.in-Some.ensures.items ∙ map-append rights_of left (c.in-Some.pass ∷ [])) inv.beside;
       taken = subst (All (IsFree g.N.Name.opening.locks)) (sym c.push_reserved.ensures.items)

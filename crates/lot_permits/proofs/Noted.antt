@@ -1,0 +1,72 @@
+-- How a pass stands after one entry more.
+use Rattle.std.proofs.Common.{◌≡◌, ◌≢◌, ℕ, Bool, true, false, List, [], ◌∷◌, ◌++◌, Option, Some, None, MatchBool, MatchOption, refl, sym, ap, ◌∙◌}
+use Rattle.lot_core.specs.declared.events.Event.TheVariants.{SemTake, SemMark, SemPark, SemFree, SemPass as Passes, SemClear}
+use Rattle.lot_core.specs.declared.events.Seen.TheVariants.{Bool as Saw, Done, Sleeper}
+use Rattle.lot_rights.specs.declared.views.Access.{Access}
+use Rattle.lot_rights.specs.declared.views.Access.TheVariants.{Makes, Collects, Finds}
+use Rattle.lot_rights.specs.declared.views.Entry.{Entry}
+use Rattle.lot_rights.specs.declared.views.PassView.{PassView}
+use Rattle.lot_rights.specs.Steps.{Notes}
+use Rattle.lot_sems.specs.declared.views.SemPassView.{SemPassView}
+use Rattle.lot_sems.specs.declared.taking.Taken.{Taken}
+use Rattle.lot_sems.specs.declared.taking.Taken.TheVariants.{Got, Empty, Busy}
+use Rattle.lot_sems.specs.Calls.{gave, got, seeking, woken, parked_pass, Tries, Takes, FoundNone, Collected}
+use Rattle.lot_permits.specs.declared.permit.Freed.{Freed}
+use Rattle.lot_permits.specs.declared.permit.Freed.TheVariants.{Quiet}
+use Rattle.lot_permits.specs.Freed.{freed_after, freed_from, freed_in, freed_by, GivesBack}
+use Rattle.lot_permits.specs.Rights.{SemStanding, standing, giving, queueing, waking, HasTried, HasTaken, IsSemLooked}
+
+-- the last entry is read last
+freed_pushed : (before : Option Freed) (entries : List Entry) (e : Entry) → freed_from before (entries ++ e ∷ []) ≡ freed_after (freed_from before entries) e.access
+freed_pushed before [] e = refl
+freed_pushed before (d ∷ entries) e = freed_pushed (freed_after before d.access) entries e
+
+-- a pass that knows this now, with this one entry more
+pub noted : (p : PassView SemPassView) (own : SemPassView) (a : Access) (q : PassView SemPassView) → Notes p own a q
+    → standing q ≡ record { thread = p.thread; own = own; freed = freed_after (freed_in p.made) a }
+noted p own a q (k, is) = ap standing is ∙ ap (λ f. record { thread = p.thread; own = own; freed = f }) (freed_pushed None p.made (record { at = k; access = a }))
+
+-- ---- tries
+pub tried : (p : PassView SemPassView) (k : ℕ) (became : Taken) (q : PassView SemPassView) → Tries p k became q → HasTried (standing p) k became (standing q)
+tried p k Got q note = noted p (got p.own k) (Makes (SemTake p.thread k) (Saw true)) q note
+tried p k Empty q (word, _, note) = noted p p.own (Finds p.thread k word) q note
+tried p k Busy q (word, note) = noted p p.own (Finds p.thread k word) q note
+
+pub taken : (p : PassView SemPassView) (k : ℕ) (became : Taken) (q : PassView SemPassView) → Takes p k became q → HasTaken (standing p) k became (standing q)
+taken p k Got q note = noted p (got p.own k) (Makes (SemTake p.thread k) (Saw true)) q note
+taken p k Empty q note = noted p (seeking p.own k) (Makes (SemTake p.thread k) (Saw false)) q note
+taken p k Busy q (word, note) = noted p p.own (Finds p.thread k word) q note
+
+-- ---- the line
+pub marked : (p : PassView SemPassView) (k : ℕ) (does : Bool) (q : PassView SemPassView)
+    → MatchBool does (Notes p p.own (Makes (SemMark p.thread k) Done) q) ((word : ℕ) × (word ≢ 0) × Notes p p.own (Finds p.thread k word) q) → standing q ≡ standing p
+marked p k true q note = noted p p.own (Makes (SemMark p.thread k) Done) q note
+marked p k false q (word, _, note) = noted p p.own (Finds p.thread k word) q note
+
+pub queued : (p : PassView SemPassView) (k : ℕ) (does : Bool) (q : PassView SemPassView)
+    → Notes p (parked_pass p.own does) (Makes (SemPark p.thread k) (Saw does)) q → standing q ≡ queueing (standing p) does
+queued p k does q note = noted p (parked_pass p.own does) (Makes (SemPark p.thread k) (Saw does)) q note
+
+-- ---- releases
+-- by the one exchange
+pub freed : (p : PassView SemPassView) (k : ℕ) (does : Bool) (q : PassView SemPassView)
+    → MatchBool does (Notes p (gave p.own k) (Makes (SemFree p.thread k) (Saw true)) q) ((word : ℕ) × Notes p p.own (Finds p.thread k word) q)
+    → MatchBool does (standing q ≡ giving (standing p) k Quiet) (standing q ≡ standing p)
+freed p k true q note = noted p (gave p.own k) (Makes (SemFree p.thread k) (Saw true)) q note
+freed p k false q (word, note) = noted p p.own (Finds p.thread k word) q note
+
+-- while the bucket is locked
+pub gave_back : (p : PassView SemPassView) (k : ℕ) (more : Bool) (first : Option ℕ) (q : PassView SemPassView) → GivesBack p k more first q → standing q ≡ giving (standing p) k (freed_by first)
+gave_back p k more (Some thread) q note = noted p (gave p.own k) (Makes (Passes p.thread k more) (Sleeper (Some thread))) q note
+gave_back p k more None q (m, passed, cleared) =
+    noted m m.own (Makes (SemClear p.thread k) Done) q cleared ∙ noted p (gave p.own k) (Makes (Passes p.thread k more) (Sleeper None)) m passed
+
+-- ---- letters
+pub looked : (p q : PassView SemPassView) (before after : SemStanding) (letter : Option ℕ) → before ≡ standing p → after ≡ standing q
+    → MatchOption letter (FoundNone p q) (λ token. Collected p token q) → MatchOption letter (after ≡ before) (λ token. IsSemLooked before (Some token) after)
+looked p q before after None is_p is_q note = is_q ∙ (noted p p.own (Collects p.thread None) q note ∙ sym is_p)
+looked p q before after (Some token) is_p is_q (is_zero, asleep, note) = (
+  is_zero,
+  ap (λ (r : SemStanding). r.own.asleep) is_p ∙ asleep,
+  is_q ∙ (noted p (woken p.own) (Collects p.thread (Some token)) q note ∙ ap waking (sym is_p)),
+)
