@@ -17,7 +17,6 @@ use Rattle.lot_words.specs.World.{IsHeld}
 use Rattle.lot_words.specs.Values.{HasSeen}
 use Rattle.lot_words.specs.Closing.{HoldsNone}
 use Rattle.lot_sync.specs.Passes.{IsFresh}
-use Rattle.lot_park.specs.declared.parts.both.OneOf.{OneOf}
 use Rattle.lot_park.specs.declared.parts.both.OneOf.TheVariants.{First, Second}
 use Rattle.lot_kinds.specs.Rights.{RightsView, unused}
 use Rattle.lot_kinds.specs.Rights.{HoldsNone as HoldsNoPermit}
@@ -26,6 +25,7 @@ use Rattle.lot_kinds.specs.Opening.{IsIdleAt as IsIdleKind}
 use Rattle.lot_sync.specs.Opened.{AreUnused, IsOpened}
 use Rattle.lot_sync.specs.Passes.{debts_of}
 use Rattle.lot_sync.specs.Starting.{ArePaired, IsFreeRoot, IsIdleAt}
+use Rattle.lot_sync.specs.Tables.{LotRootShown}
 use Rattle.lot_kinds.proofs.Places.{at_both, at_mapped}
 use Rattle.lot_rights.proofs.Turns.{some_at, some_one, stands_at, all_by_place, some_by_place}
 
@@ -131,7 +131,7 @@ module _ {V : Type 0} (values : List V) (threads : ℕ) (words : LockWordsShown)
 pub idle_all : (locks : ℕ) (ls : List (RootShown LockRootView)) (ks : List KindRootShown) → length ls ≡ locks
     → ((i : ℕ) (r : RootShown LockRootView) → slice_get ls i ≡ Some r → (r.root.key ≡ i) × (r.root.own.line ≡ []) × (r.root.own.owes ≡ None))
     → ((i : ℕ) (r : KindRootShown) → slice_get ks i ≡ Some r → IsIdleKind (locks + i) r)
-    → (i : ℕ) (root : OneOf (RootShown LockRootView) KindRootShown) → slice_get (map First ls ++ map Second ks) i ≡ Some root → IsIdleAt i root
+    → (i : ℕ) (root : LotRootShown) → slice_get (map First ls ++ map Second ks) i ≡ Some root → IsIdleAt i root
 idle_all locks ls ks long first second =
     at_both IsIdleAt (map First ls) (map Second ks)
     (at_mapped First IsIdleAt ls (λ i r at. let e = first i r at in record { named = e.0; empty = e.1; paid = ap debts_of e.2 }))

@@ -3,6 +3,7 @@ pub mod Values
 pub mod Passes
 pub mod Permits
 pub mod Released
+pub mod Tables
 pub mod Opened
 pub mod Starting
 pub mod Holding

@@ -184,8 +184,12 @@ debts_of None = []
 debts_of (Some debt) = debt ∷ []
 
 -- ---- the lot
+-- all tables
+abbrev pub LotSchemeShown : Type 0
+LotSchemeShown = Tables LockWordsShown (Tables CondWordsShown SemWordsShown)
+
 -- what joins the parts of a lot
-pub record IsLot {V : Type 0} (names : LotNames V) (threads locks conds sems : ℕ) (parking : LotView (Tables LockWordsShown (Tables CondWordsShown SemWordsShown))) : Type 0 where
+pub record IsLot {V : Type 0} (names : LotNames V) (threads locks conds sems : ℕ) (parking : LotView LotSchemeShown) : Type 0 where
   pub words : parking.scheme.first.table ≡ names.opening.locks
   pub words_threads : parking.scheme.first.size.threads ≡ names.threads
   pub words_locks : parking.scheme.first.size.locks ≡ length names.values

@@ -27,7 +27,7 @@ impl<V: Keeps + Send, N: LotName<V> + Send> Lot<V, N> {
     {
         let (right, kinds) = pass.apart();
         let (waiter, seeker) = kinds.apart();
-        let scheme = self.parking.scheme().second().second();
+        let scheme = self.parking.scheme().sems();
         let (seeker, tried) = lot_permits::try_acquire(scheme, seeker, key);
         (self.at_rest(right, Rights::new(waiter, seeker)), tried)
     }
@@ -42,7 +42,7 @@ impl<V: Keeps + Send, N: LotName<V> + Send> Lot<V, N> {
     {
         let (right, kinds) = pass.apart();
         let (waiter, seeker) = kinds.apart();
-        let scheme = self.parking.scheme().second().second();
+        let scheme = self.parking.scheme().sems();
         let (seeker, permit) = lot_permits::acquire::<LotScheme<V, N>, N, Sems, R>(
             rt,
             &self.parking,
@@ -72,7 +72,7 @@ impl<V: Keeps + Send, N: LotName<V> + Send> Lot<V, N> {
     {
         let (right, kinds) = pass.apart();
         let (waiter, seeker) = kinds.apart();
-        let scheme = self.parking.scheme().second().second();
+        let scheme = self.parking.scheme().sems();
         let (seeker, freed) = lot_permits::release::<LotScheme<V, N>, N, Sems, R>(
             rt,
             &self.parking,
@@ -95,7 +95,7 @@ impl<V: Keeps + Send, N: LotName<V> + Send> Lot<V, N> {
         let (first_waiter, first_seeker) = first_kinds.apart();
         let (second, second_kinds) = second.apart();
         let (second_waiter, second_seeker) = second_kinds.apart();
-        let scheme = self.parking.scheme().second().second();
+        let scheme = self.parking.scheme().sems();
         let (one, two) = lot_permits::check_permits(scheme, first_seeker, second_seeker);
         (
             Pass::at_rest(first, Rights::new(first_waiter, one)),
@@ -107,6 +107,6 @@ impl<V: Keeps + Send, N: LotName<V> + Send> Lot<V, N> {
     pub fn permits_left(&self, key: usize) -> u64
         requires { IsSem self.now key }
     {
-        lot_permits::permits_left(self.parking.scheme().second().second(), key)
+        lot_permits::permits_left(self.parking.scheme().sems(), key)
     }
 }

@@ -288,7 +288,7 @@ pub(crate) fn park<V: Keeps + Send, N: LotName<V> + Send, R: Wait, B: BeforeSlee
     requires trying { Wants pass key }
     ensures { MatchBool result.1 (IsOwner V.keeps V.grows V.part pass key result.0) (IsTryingFor pass key result.0) }
 {
-    let scheme = parking.scheme().first();
+    let scheme = parking.scheme().locks();
     let (pass, parked) = sleep::<LotScheme<V, N>, LockScheme<V, N>, Locks, R, B>(
         rt, parking, scheme, pass, key, before,
     );

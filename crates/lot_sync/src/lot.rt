@@ -46,7 +46,7 @@ impl<V: Keeps + Send, N: LotName<V> + Send> Lot<V, N> {
         ensures threads { self.now.threads ≡ N.threads }
         ensures keys { (self.now.locks ≡ N.locks) × (self.now.conds ≡ N.conds) × (self.now.sems ≡ length N.permits) × (N.low ≡ N.locks + N.conds) }
     {
-        self.parking.scheme().first().words()
+        self.parking.scheme().locks().words()
     }
 
     /// How many threads can have a pass at a time.

@@ -22,7 +22,7 @@ impl<V: Keeps + Send, N: LotName<V> + Send> Lot<V, N> {
     {
         let (right, kinds) = pass.apart();
         let (waiter, seeker) = kinds.apart();
-        let scheme = self.parking.scheme().second().first();
+        let scheme = self.parking.scheme().conds();
         let (waiter, has) = lot_waits::has_waiters(scheme, waiter, cond);
         (self.at_rest(right, Rights::new(waiter, seeker)), has)
     }
@@ -42,7 +42,7 @@ impl<V: Keeps + Send, N: LotName<V> + Send> Lot<V, N> {
     {
         let (right, kinds) = pass.apart();
         let (waiter, seeker) = kinds.apart();
-        let scheme = self.parking.scheme().second().first();
+        let scheme = self.parking.scheme().conds();
         let (waiter, taken) = lot_waits::notify_one::<LotScheme<V, N>, N, Conds, R>(
             rt,
             &self.parking,
@@ -72,7 +72,7 @@ impl<V: Keeps + Send, N: LotName<V> + Send> Lot<V, N> {
     {
         let (right, kinds) = pass.apart();
         let (waiter, seeker) = kinds.apart();
-        let scheme = self.parking.scheme().second().first();
+        let scheme = self.parking.scheme().conds();
         let (waiter, some) = lot_waits::notify_some::<LotScheme<V, N>, N, Conds, R>(
             rt,
             &self.parking,
@@ -107,7 +107,7 @@ impl<V: Keeps + Send, N: LotName<V> + Send> Lot<V, N> {
     {
         let (right, kinds) = pass.apart();
         let (waiter, seeker) = kinds.apart();
-        let scheme = self.parking.scheme().second().first();
+        let scheme = self.parking.scheme().conds();
         let (waiter, taken) = lot_waits::notify_all_after::<LotScheme<V, N>, N, Conds, R, B>(
             rt,
             &self.parking,

@@ -19,7 +19,6 @@ use crate::pool::{ClosingRoom, Idle, Pool};
 use crate::scheme::{KeyRoot, LockScheme, NamedPass};
 use crate::tables::{LotRoot, LotScheme};
 use lot_kinds::{KindRoot, Rights, Room, settle};
-use lot_park::parts::{Both, EitherRoot};
 use lot_park::{ParkFault, ParkingLot};
 use lot_words::{Keeps, LockPass, LockRoot, LockWords};
 use std::alloc::{AllocError, Global};
@@ -115,7 +114,7 @@ fn name_root<V: Keeps + Send, N: LotName<V> + Send>(root: LockRoot<V>) -> LotRoo
     requires free { IsFreeRoot N.opening.locks (length N.values) root }
     ensures same { result ≡ First root }
 {
-    EitherRoot::first(KeyRoot::new(root))
+    LotRoot::of_lock(KeyRoot::new(root))
 }
 
 /// Appends the roots of the conditions and semaphores, in order. Their own room stays.
@@ -131,7 +130,7 @@ fn add_roots<V: Keeps + Send, N: LotName<V> + Send>(
 {
     roots.reverse();
     while let Some(root) = roots.pop() {
-        named.push_reserved(EitherRoot::second(root));
+        named.push_reserved(LotRoot::of_kind(root));
     }
 }
 
@@ -252,7 +251,7 @@ fn started<V: Keeps + Send, N: LotName<V> + Send>(
         alloc,
         threads,
         named,
-        Both::new(LockScheme::new(words), scheme),
+        LotScheme::new(LockScheme::new(words), scheme),
     ) {
         Ok(parking) => {
             fill(&mut passes, &mut kinds, &mut idle);

@@ -66,7 +66,7 @@ impl<V: Keeps + Send, N: LotName<V> + Send> Lot<V, N> {
     {
         let key = held.key();
         let (right, kinds) = self.given_back(pass, held, key);
-        let scheme = self.parking.scheme().first();
+        let scheme = self.parking.scheme().locks();
         let (right, freed) = scheme.free(right, key);
         if freed {
             (self.at_rest(right, kinds), Released::Quiet)
@@ -194,7 +194,7 @@ impl<V: Keeps + Send, N: LotName<V> + Send> Lot<V, N> {
         ensures went { LetsGo right key result.0 }
         ensures fits { IsFitting result.1 fair moment.now }
     {
-        let scheme = self.parking.scheme().first();
+        let scheme = self.parking.scheme().locks();
         let_go::<LotScheme<V, N>, LockScheme<V, N>, Locks, R>(
             rt,
             &self.parking,

@@ -68,10 +68,10 @@ impl<V: Keeps + Send, N: LotName<V> + Send> Lot<V, N> {
         let (waiter, right) = sleep_on::<LotScheme<V, N>, N, Conds, LockScheme<V, N>, Locks, R, B>(
             rt,
             &self.parking,
-            scheme.second().first(),
+            scheme.conds(),
             waiter,
             cond,
-            scheme.first(),
+            scheme.locks(),
             right,
             key,
             moment,

@@ -2,7 +2,10 @@
 ghost use Rattle.std.specs.Prelude.{◌≡◌, ◌<◌, ℕ, length, vec_len};
 ghost use Rattle.lot_sync.specs.Lot.{OwnsNone, IsWide, HasSeen};
 ghost use Rattle.lot_sync.specs.Opened.{IsNamed};
-ghost use Rattle.lotstress.specs.Counters.{AllLegal};
+ghost use Rattle.lot_journal.specs.Journal.{JournalView};
+ghost use Rattle.lotstress.specs.Counters.{AllLegal, IsThere};
+ghost use Rattle.lotstress.specs.declared.counter.Add.{Add};
+ghost use Rattle.lotstress.specs.declared.counter.Counter.{Counter};
 ghost use Rattle.lotstress.specs.Theres.{IsCountedOnce};
 
 use super::{Counts, add_one, go_round, new_journals};
@@ -19,11 +22,27 @@ use std::sync::Wait;
 
 /// What the test looks for in a value. Its callers are generic over it, since a lot of journals has more types than the toolchain follows.
 trait Tells: Counts {
+    ghost use Rattle.std.specs.Prelude.{ℕ};
+    ghost use Rattle.lotstress.specs.Theres.{IsCountedOnce};
+
+    /// What the value of now tells of a thread that was counted once since the value that it had seen.
+    ghost is_there: { ℕ → Self → Self → Type 0 };
+
+    ghost there_once_counted: { (thread : ℕ) (seen now : Self) → IsCountedOnce Self.grows Self.part is_counted thread seen now → is_there thread seen now };
+
     /// Whether thread 0 and then thread 1 were counted, and nobody else.
     fn has_both(&self) -> bool;
 }
 
 impl Tells for Journal<Counter> {
+    ghost use Rattle.lotstress.specs.Counters.{IsThere};
+    ghost use Rattle.lotstress.specs.Theres.{counted_is_there};
+
+    /// The call of the thread is in the history, after all that the thread had seen, once.
+    ghost is_there = { λ thread seen now. IsThere thread (record { 0 = 1 }) seen now };
+
+    ghost there_once_counted = { counted_is_there };
+
     fn has_both(&self) -> bool {
         let history = [entry(0, 1), entry(1, 2)];
         self.history() == history.as_slice()
@@ -139,11 +158,26 @@ fn call_and_look<V: Tells + Send, N: LotName<V> + Send + Sync, T: Wait + Abort>(
     requires key { 0 < lot.now.locks }
     requires free { OwnsNone pass × OwnsNone other }
     ensures free { OwnsNone result.0 × OwnsNone result.1 }
-    ensures there { (seen now : V) → HasSeen pass 0 seen → HasSeen result.0 0 now → IsCountedOnce V.grows V.part V.is_counted pass.thread seen now }
+    ensures there { (seen now : V) → HasSeen pass 0 seen → HasSeen result.0 0 now → V.is_there pass.thread seen now }
 {
     let pass = call_once(rt, lot, pass);
     let other = call_once(rt, lot, other);
     (look(rt, lot, pass), other)
+}
+
+/// The same of a lot of journals.
+fn call_and_look_in_journal<N: LotName<Journal<Counter>> + Send + Sync, T: Wait + Abort>(
+    rt: &T,
+    lot: &Lot<Journal<Counter>, N>,
+    pass: Pass<Journal<Counter>, N>,
+    other: Pass<Journal<Counter>, N>,
+) -> (Pass<Journal<Counter>, N>, Pass<Journal<Counter>, N>)
+    requires key { 0 < lot.now.locks }
+    requires free { OwnsNone pass × OwnsNone other }
+    ensures free { OwnsNone result.0 × OwnsNone result.1 }
+    ensures there { (seen now : JournalView Counter Add ℕ) → HasSeen pass 0 seen → HasSeen result.0 0 now → IsThere pass.thread (record { 0 = 1 }) seen now }
+{
+    call_and_look::<Journal<Counter>, N, T>(rt, lot, pass, other)
 }
 
 fn add_in_turn<V: Tells + Send, N: LotName<V> + Send + Sync, T: Wait + Abort>(

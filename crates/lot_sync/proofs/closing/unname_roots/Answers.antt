@@ -10,15 +10,14 @@ use Rattle.lot_words.specs.declared.views.LockRootView.{LockRootView}
 use Rattle.lot_kinds.specs.Opening.{KindRootShown, StandFrom}
 use Rattle.lot_kinds.specs.Opening.{key_of as kind_key}
 use Rattle.lot_park.specs.Parts.{IsOnItsSide}
-use Rattle.lot_park.specs.declared.parts.both.OneOf.{OneOf}
 use Rattle.lot_park.specs.declared.parts.both.OneOf.TheVariants.{First, Second}
-use Rattle.lot_sync.specs.Starting.{key_of}
+use Rattle.lot_sync.specs.Tables.{LotRootShown, key_of, lock_key}
 use Rattle.lot_kinds.proofs.Places.{at_before, at_last, any_more, stand_before}
 use Rattle.lot_sync.proofs.closing.unname_roots.Goals as goal
 
 -- the key of the root that was popped is the number of those that are left
-popped_key : (xs left : List (OneOf (RootShown LockRootView) KindRootShown)) (x y : OneOf (RootShown LockRootView) KindRootShown) (n : ℕ) → xs ≡ left ++ x ∷ [] → length left ≡ n → y ≡ x
-    → ((i : ℕ) (r : OneOf (RootShown LockRootView) KindRootShown) → slice_get xs i ≡ Some r → key_of r ≡ i) → key_of y ≡ n
+popped_key : (xs left : List LotRootShown) (x y : LotRootShown) (n : ℕ) → xs ≡ left ++ x ∷ [] → length left ≡ n → y ≡ x
+    → ((i : ℕ) (r : LotRootShown) → slice_get xs i ≡ Some r → key_of r ≡ i) → key_of y ≡ n
 popped_key xs left x y n items long same keys = ap key_of same ∙ (keys (length left) x (subst (λ zs. slice_get zs (length left) ≡ Some x) (sym items) (at_last left x)) ∙ long)
 
 -- the root that was popped stands before those that were popped earlier
@@ -34,7 +33,7 @@ loop-root-preserved-in-First g c =
     let cap = c.push_reserved.ensures.capacity in
     let long : length left ≡ vec_len c.pop.new.self = search rules in
     let side : c.in-First.root.root.key < length g.N.LotName.values =
-    subst (λ (o : OneOf (RootShown LockRootView) KindRootShown). IsOnItsSide (length g.N.LotName.values) (λ (r : RootShown LockRootView). r.root.key) kind_key o) c.in-First.is c.into_one.ensures.side in
+    subst (λ (o : LotRootShown). IsOnItsSide (length g.N.LotName.values) lock_key kind_key o) c.in-First.is c.into_one.ensures.side in
     let key : c.in-First.root.root.key ≡ vec_len c.pop.new.self =
     popped_key c.loop-root.named.items left c.in-Some.root (First c.in-First.root) (vec_len c.pop.new.self) c.in-Some.ensures.items long (sym c.in-First.is ∙ c.into_one.ensures.same) inv.keys in
     let is : c.into_root.result.root.key ≡ vec_len c.pop.new.self = ap (λ (r : RootShown LockRootView). r.root.key) c.into_root.ensures.same ∙ key in
@@ -62,7 +61,7 @@ push_reserved-requires-in-Second g c =
     let fewer = c.in-Some.ensures.len in
     let long : length left ≡ vec_len c.pop.new.self = search rules in
     let side : length g.N.LotName.values ≤ kind_key c.in-Second.root =
-    subst (λ (o : OneOf (RootShown LockRootView) KindRootShown). IsOnItsSide (length g.N.LotName.values) (λ (r : RootShown LockRootView). r.root.key) kind_key o) c.in-Second.is c.into_one.ensures.side in
+    subst (λ (o : LotRootShown). IsOnItsSide (length g.N.LotName.values) lock_key kind_key o) c.in-Second.is c.into_one.ensures.side in
     let key : kind_key c.in-Second.root ≡ vec_len c.pop.new.self =
     popped_key c.loop-root.named.items left c.in-Some.root (Second c.in-Second.root) (vec_len c.pop.new.self) c.in-Some.ensures.items long (sym c.in-Second.is ∙ c.into_one.ensures.same) inv.keys in
     let many = inv.many (omega (arith, fewer, key, side)) in
@@ -78,7 +77,7 @@ loop-root-preserved g c =
     let cap = c.push_reserved-in-Second.ensures.capacity in
     let long : length left ≡ vec_len c.pop.new.self = search rules in
     let side : length g.N.LotName.values ≤ kind_key c.in-Second.root =
-    subst (λ (o : OneOf (RootShown LockRootView) KindRootShown). IsOnItsSide (length g.N.LotName.values) (λ (r : RootShown LockRootView). r.root.key) kind_key o) c.in-Second.is c.into_one.ensures.side in
+    subst (λ (o : LotRootShown). IsOnItsSide (length g.N.LotName.values) lock_key kind_key o) c.in-Second.is c.into_one.ensures.side in
     let key : kind_key c.in-Second.root ≡ vec_len c.pop.new.self =
     popped_key c.loop-root.named.items left c.in-Some.root (Second c.in-Second.root) (vec_len c.pop.new.self) c.in-Some.ensures.items long (sym c.in-Second.is ∙ c.into_one.ensures.same) inv.keys in
     let many = inv.many (omega (arith, fewer, key, side)) in

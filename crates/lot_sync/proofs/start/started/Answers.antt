@@ -8,14 +8,15 @@ use Rattle.lot_conds.specs.Shown.{CondWordsShown}
 use Rattle.lot_sems.specs.Shown.{SemWordsShown}
 use Rattle.lot_park.specs.Lots.{LotView}
 use Rattle.lot_park.specs.Parts.{Tables}
-use Rattle.lot_park.specs.declared.parts.both.OneOf.{OneOf}
 use Rattle.lot_park.specs.declared.parts.both.OneOf.TheVariants.{First, Second}
 use Rattle.lot_kinds.specs.Rights.{RightsView, unused}
-use Rattle.lot_kinds.specs.Opening.{KindRootShown, StandFrom}
+use Rattle.lot_kinds.specs.Opening.{StandFrom}
 use Rattle.lot_kinds.specs.Opening.{key_of as kind_key}
 use Rattle.lot_sync.specs.Lot.{LotNames}
 use Rattle.lot_sync.specs.Opened.{OpenedView, IsNamed}
 use Rattle.lot_sync.specs.Starting.{IsFreeKind, IsIdleAt}
+use Rattle.lot_sync.specs.Tables.{LotRootShown}
+use Rattle.lot_sync.specs.Passes.{LotSchemeShown}
 use Rattle.lot_kinds.proofs.Places.{all_at}
 use Rattle.lot_rights.proofs.Turns.{some_by_place}
 use Rattle.lot_sync.proofs.Starts.{passes_fresh, passes_paired, roots_free, roots_idle, idle_all, fresh_named, none_held}
@@ -68,12 +69,12 @@ pub open-requires-clause-idle : goal.open-requires-clause-idle
 open-requires-clause-idle g c κs within =
     let names : LotNames g.row.V.Denot = record { opening = g.N.Name.opening; threads = g.N.LotName.threads; values = g.N.LotName.values; locks = g.N.WaitName.locks; conds = g.N.WaitName.conds; low = g.N.PermitName.low; permits = g.N.PermitName.permits } in
     let o : OpenedView g.row.V.Denot = record { table = c.opened.inside.words.table; conds_table = c.opened.inside.kinds.conds.table; sems_table = c.opened.inside.kinds.sems.table; threads = c.opened.inside.threads; values = c.opened.inside.values.value.items; conds = c.opened.inside.kinds.conds.conds; low = c.opened.inside.kinds.sems.low; permits = c.opened.inside.kinds.sems.permits } in
-    let idle : (i : ℕ) (root : OneOf (RootShown LockRootView) KindRootShown) → slice_get c.add_roots.new.named.items i ≡ Some root → IsIdleAt i root = (λ i root at.
+    let idle : (i : ℕ) (root : LotRootShown) → slice_get c.add_roots.new.named.items i ≡ Some root → IsIdleAt i root = (λ i root at.
     idle_all g.N.WaitName.locks c.opened.inside.roots.items c.name-scheme.result.2.items (c.opened.invariant.0.roots_long ∙ (ap length (values_are names o c.args.opened c.opened.view_is c.requires.named) ∙ locks_are names o c.args.opened c.opened.view_is c.requires.named))
     (λ n r h. roots_idle c.opened.inside.values.value.items c.opened.inside.threads c.opened.inside.words c.opened.inside.passes.items c.opened.inside.roots.items c.opened.invariant.0 n r h)
     c.name-scheme.ensures.roots i root
-    (subst (λ (rs : List (OneOf (RootShown LockRootView) KindRootShown)). slice_get rs i ≡ Some root)
-    (c.add_roots.ensures.same ∙ ap (λ (rs : List (OneOf (RootShown LockRootView) KindRootShown)). rs ++ map Second c.name-scheme.result.2.items) c.name_roots.ensures.same) at)) in
+    (subst (λ (rs : List LotRootShown). slice_get rs i ≡ Some root)
+    (c.add_roots.ensures.same ∙ ap (λ (rs : List LotRootShown). rs ++ map Second c.name-scheme.result.2.items) c.name_roots.ensures.same) at)) in
     λ i root at. let e = (idle i root at) in record { named = e.named; same_line = e.empty; paid = e.paid }
 
 pub fill-requires-clause-idle : goal.fill-requires-clause-idle
@@ -106,9 +107,9 @@ invariant_of-result g c =
     let ok = c.in-Ok.ensures.ok in
     let scheme = c.new-2.ensures in
     let words : c.in-Ok.parking.scheme.first ≡ c.opened.inside.words =
-    ap (λ (l : LotView (Tables LockWordsShown (Tables CondWordsShown SemWordsShown))). l.scheme.first) ok ∙ (ap (λ (t : Tables LockWordsShown (Tables CondWordsShown SemWordsShown)). t.first) scheme ∙ c.new.ensures) in
+    ap (λ (l : LotView LotSchemeShown). l.scheme.first) ok ∙ (ap (λ (t : LotSchemeShown). t.first) scheme ∙ c.new.ensures) in
     let kinds : c.in-Ok.parking.scheme.second ≡ c.name-scheme.result.0 =
-    ap (λ (l : LotView (Tables LockWordsShown (Tables CondWordsShown SemWordsShown))). l.scheme.second) ok ∙ ap (λ (t : Tables LockWordsShown (Tables CondWordsShown SemWordsShown)). t.second) scheme in
+    ap (λ (l : LotView LotSchemeShown). l.scheme.second) ok ∙ ap (λ (t : LotSchemeShown). t.second) scheme in
     record {
       words = ap (λ (w : LockWordsShown). w.table) words ∙ table_is names o c.args.opened c.opened.view_is c.requires.named;
       words_threads = ap (λ (w : LockWordsShown). w.size.threads) words ∙ (c.opened.invariant.0.unused.words_threads ∙ threads_are names o c.args.opened c.opened.view_is c.requires.named);
@@ -119,8 +120,8 @@ invariant_of-result g c =
       named_low = sym (low_is names o c.args.opened c.opened.view_is c.requires.named)
           ∙ (c.opened.invariant.1.follow ∙ (ap (λ n. n + c.opened.inside.kinds.conds.conds) (c.opened.invariant.1.after_locks ∙ (ap length (values_are names o c.args.opened c.opened.view_is c.requires.named) ∙ locks_are names o c.args.opened c.opened.view_is c.requires.named))
           ∙ ap (λ n. g.N.WaitName.locks + n) (conds_are names o c.args.opened c.opened.view_is c.requires.named)));
-      parking_threads = ap (λ (l : LotView (Tables LockWordsShown (Tables CondWordsShown SemWordsShown))). l.threads) ok ∙ threads_are names o c.args.opened c.opened.view_is c.requires.named;
-      parking_keys = ap (λ (l : LotView (Tables LockWordsShown (Tables CondWordsShown SemWordsShown))). l.keys) ok ∙ keys;
+      parking_threads = ap (λ (l : LotView LotSchemeShown). l.threads) ok ∙ threads_are names o c.args.opened c.opened.view_is c.requires.named;
+      parking_keys = ap (λ (l : LotView LotSchemeShown). l.keys) ok ∙ keys;
       own_threads = threads_are names o c.args.opened c.opened.view_is c.requires.named;
       own_locks = c.len-locks.ensures ∙ roots_long;
       own_conds = c.conds-conds.ensures ∙ conds_are names o c.args.opened c.opened.view_is c.requires.named;
@@ -131,14 +132,14 @@ pub unname_roots-requires-clause-keys : goal.unname_roots-requires-clause-keys
 unname_roots-requires-clause-keys g c κs within =
     let names : LotNames g.row.V.Denot = record { opening = g.N.Name.opening; threads = g.N.LotName.threads; values = g.N.LotName.values; locks = g.N.WaitName.locks; conds = g.N.WaitName.conds; low = g.N.PermitName.low; permits = g.N.PermitName.permits } in
     let o : OpenedView g.row.V.Denot = record { table = c.opened.inside.words.table; conds_table = c.opened.inside.kinds.conds.table; sems_table = c.opened.inside.kinds.sems.table; threads = c.opened.inside.threads; values = c.opened.inside.values.value.items; conds = c.opened.inside.kinds.conds.conds; low = c.opened.inside.kinds.sems.low; permits = c.opened.inside.kinds.sems.permits } in
-    let idle : (i : ℕ) (root : OneOf (RootShown LockRootView) KindRootShown) → slice_get c.add_roots.new.named.items i ≡ Some root → IsIdleAt i root = (λ i root at.
+    let idle : (i : ℕ) (root : LotRootShown) → slice_get c.add_roots.new.named.items i ≡ Some root → IsIdleAt i root = (λ i root at.
     idle_all g.N.WaitName.locks c.opened.inside.roots.items c.name-scheme.result.2.items (c.opened.invariant.0.roots_long ∙ (ap length (values_are names o c.args.opened c.opened.view_is c.requires.named) ∙ locks_are names o c.args.opened c.opened.view_is c.requires.named))
     (λ n r h. roots_idle c.opened.inside.values.value.items c.opened.inside.threads c.opened.inside.words c.opened.inside.passes.items c.opened.inside.roots.items c.opened.invariant.0 n r h)
     c.name-scheme.ensures.roots i root
-    (subst (λ (rs : List (OneOf (RootShown LockRootView) KindRootShown)). slice_get rs i ≡ Some root)
-    (c.add_roots.ensures.same ∙ ap (λ (rs : List (OneOf (RootShown LockRootView) KindRootShown)). rs ++ map Second c.name-scheme.result.2.items) c.name_roots.ensures.same) at)) in
+    (subst (λ (rs : List LotRootShown). slice_get rs i ≡ Some root)
+    (c.add_roots.ensures.same ∙ ap (λ (rs : List LotRootShown). rs ++ map Second c.name-scheme.result.2.items) c.name_roots.ensures.same) at)) in
     λ i r at.
-    (idle i r (subst (λ (rs : List (OneOf (RootShown LockRootView) KindRootShown)). slice_get rs i ≡ Some r) (ap (λ v. v.items) c.in-Err-NoMemory-default-default.ensures.err.0) at)).named
+    (idle i r (subst (λ (rs : List LotRootShown). slice_get rs i ≡ Some r) (ap (λ v. v.items) c.in-Err-NoMemory-default-default.ensures.err.0) at)).named
 
 pub unname_roots-requires-clause-locks : goal.unname_roots-requires-clause-locks
 unname_roots-requires-clause-locks g c κs within =
@@ -178,7 +179,7 @@ settle-nothing-requires-clause-room g c κs within =
 pub settle-nothing-requires-clause-threads : goal.settle-nothing-requires-clause-threads
 settle-nothing-requires-clause-threads g c κs within = λ t near.
     let scheme : c.apart-words.result.1 ≡ c.name-scheme.result.0 =
-    c.apart-words.ensures.1 ∙ (ap (λ (s : Tables LockWordsShown (Tables CondWordsShown SemWordsShown)). s.second) c.in-Err-NoMemory-default-default.ensures.err.1 ∙ ap (λ (s : Tables LockWordsShown (Tables CondWordsShown SemWordsShown)). s.second) c.new-2.ensures) in
+    c.apart-words.ensures.1 ∙ (ap (λ (s : LotSchemeShown). s.second) c.in-Err-NoMemory-default-default.ensures.err.1 ∙ ap (λ (s : LotSchemeShown). s.second) c.new-2.ensures) in
     let long : length c.name-scheme.result.1.items ≡ c.opened.inside.kinds.conds.threads = (let n : length c.name-scheme.result.1.items ≡ vec_len c.name-scheme.result.1 = search rules in n ∙ c.name-scheme.ensures.counts.0) in
     some_by_place (λ (q : RightsView). q.thread ≡ t) (unused (g.N.WaitName.locks + g.N.WaitName.conds) (g.N.PermitName.low + length g.N.PermitName.permits)) c.name-scheme.result.1.items
     (λ k low. c.name-scheme.ensures.rights k (subst (λ n. k < n) long low)) t
@@ -187,7 +188,7 @@ settle-nothing-requires-clause-threads g c κs within = λ t near.
 pub settle-nothing-requires-clause-same_threads : goal.settle-nothing-requires-clause-same_threads
 settle-nothing-requires-clause-same_threads g c κs within =
     let scheme : c.apart-words.result.1 ≡ c.name-scheme.result.0 =
-    c.apart-words.ensures.1 ∙ (ap (λ (s : Tables LockWordsShown (Tables CondWordsShown SemWordsShown)). s.second) c.in-Err-NoMemory-default-default.ensures.err.1 ∙ ap (λ (s : Tables LockWordsShown (Tables CondWordsShown SemWordsShown)). s.second) c.new-2.ensures) in
+    c.apart-words.ensures.1 ∙ (ap (λ (s : LotSchemeShown). s.second) c.in-Err-NoMemory-default-default.ensures.err.1 ∙ ap (λ (s : LotSchemeShown). s.second) c.new-2.ensures) in
     ap (λ (s : Tables CondWordsShown SemWordsShown). s.second.size.threads) scheme ∙ (c.name-scheme.ensures.threads.1 ∙ sym (ap (λ (s : Tables CondWordsShown SemWordsShown). s.first.size.threads) scheme ∙ c.name-scheme.ensures.threads.0))
 
 pub settle-nothing-requires-clause-back : goal.settle-nothing-requires-clause-back
@@ -223,6 +224,6 @@ close_unused-requires-clause-own g c κs within =
     let names : LotNames g.row.V.Denot = record { opening = g.N.Name.opening; threads = g.N.LotName.threads; values = g.N.LotName.values; locks = g.N.WaitName.locks; conds = g.N.WaitName.conds; low = g.N.PermitName.low; permits = g.N.PermitName.permits } in
     let o : OpenedView g.row.V.Denot = record { table = c.opened.inside.words.table; conds_table = c.opened.inside.kinds.conds.table; sems_table = c.opened.inside.kinds.sems.table; threads = c.opened.inside.threads; values = c.opened.inside.values.value.items; conds = c.opened.inside.kinds.conds.conds; low = c.opened.inside.kinds.sems.low; permits = c.opened.inside.kinds.sems.permits } in
     let words : c.into_words.result ≡ c.opened.inside.words =
-    c.into_words.ensures.same ∙ (c.apart-words.ensures.0 ∙ (ap (λ (s : Tables LockWordsShown (Tables CondWordsShown SemWordsShown)). s.first) c.in-Err-NoMemory-default-default.ensures.err.1
-    ∙ (ap (λ (s : Tables LockWordsShown (Tables CondWordsShown SemWordsShown)). s.first) c.new-2.ensures ∙ c.new.ensures))) in
+    c.into_words.ensures.same ∙ (c.apart-words.ensures.0 ∙ (ap (λ (s : LotSchemeShown). s.first) c.in-Err-NoMemory-default-default.ensures.err.1
+    ∙ (ap (λ (s : LotSchemeShown). s.first) c.new-2.ensures ∙ c.new.ensures))) in
     subst (λ t. All (λ (r : RootShown LockRootView). r.table ≡ t) c.unname_roots.new.roots.items) (sym (ap (λ (w : LockWordsShown). w.table) words ∙ table_is names o c.args.opened c.opened.view_is c.requires.named)) c.unname_roots.ensures.own

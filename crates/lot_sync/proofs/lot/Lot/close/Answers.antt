@@ -10,17 +10,18 @@ use Rattle.lot_words.specs.Values.{FoundOk}
 use Rattle.lot_conds.specs.Shown.{CondWordsShown}
 use Rattle.lot_sems.specs.Shown.{SemWordsShown}
 use Rattle.lot_park.specs.Parts.{Tables}
-use Rattle.lot_park.specs.declared.parts.both.OneOf.{OneOf}
 use Rattle.lot_kinds.specs.Rights.{RightsView}
 use Rattle.lot_kinds.specs.Rights.{HoldsNone as HoldsNoPermit}
 use Rattle.lot_kinds.specs.Rights.{counts_of as kind_counts}
 use Rattle.lot_waits.specs.Ledger.{IsLedger}
-use Rattle.lot_kinds.specs.Opening.{KindRootShown, StandFrom}
+use Rattle.lot_kinds.specs.Opening.{StandFrom}
 use Rattle.lot_kinds.specs.Opening.{key_of as kind_key}
 use Rattle.lot_sync.specs.Lot.{PassView, LotView, OwnsNone, counts_of, rights_of}
 use Rattle.lot_sync.specs.Values.{GoesOnTo}
 use Rattle.lot_words.specs.Closing.{HoldsNone}
 use Rattle.lot_sync.specs.Passes.{seen_as, lock_side, IsFree}
+use Rattle.lot_sync.specs.Tables.{LotRootShown}
+use Rattle.lot_sync.specs.Passes.{LotSchemeShown}
 use Rattle.lot_rights.proofs.Turns.{some_before, no_elements}
 use Rattle.lot_kinds.proofs.Places.{some_after}
 use Rattle.lot_sync.proofs.Turns.{all_before}
@@ -49,8 +50,8 @@ unname_roots-requires-clause-keys g c κs within =
     let before = c.into_inner-idle.result.room.named in
     let none : before.items ≡ [] = no_elements before.items (let n : length before.items ≡ vec_len before = search rules in n ∙ c.into_inner-idle.result.room.no_roots.0) in
     let roots_are : c.close-scheme.new.out.items ≡ c.close-scheme.ensures.roots.roots =
-    c.close-scheme.ensures.roots.appended ∙ ap (λ (rs : List (OneOf (RootShown LockRootView) KindRootShown)). rs ++ c.close-scheme.ensures.roots.roots) none in
-    λ i r at. c.close-scheme.ensures.roots.named i r (subst (λ (rs : List (OneOf (RootShown LockRootView) KindRootShown)). slice_get rs i ≡ Some r) roots_are at)
+    c.close-scheme.ensures.roots.appended ∙ ap (λ (rs : List LotRootShown). rs ++ c.close-scheme.ensures.roots.roots) none in
+    λ i r at. c.close-scheme.ensures.roots.named i r (subst (λ (rs : List LotRootShown). slice_get rs i ≡ Some r) roots_are at)
 
 pub settle-ledger-requires-clause-room : goal.settle-ledger-requires-clause-room
 settle-ledger-requires-clause-room g c κs within =
@@ -67,11 +68,11 @@ pub settle-ledger-requires-clause-threads : goal.settle-ledger-requires-clause-t
 settle-ledger-requires-clause-threads g c κs within = λ t near.
     subst (Any (λ (q : RightsView). q.thread ≡ t)) (sym c.gather.ensures.beside)
     (some_after rights_of (λ (q : RightsView). q.thread ≡ t) c.args.passes.items (c.requires.all t (subst (λ n. t < n) (sym c.self.invariant.own_threads ∙ ap (λ (v : LotView). v.threads) c.self.view_is)
-    (subst (λ n. t < n) (ap (λ (s : Tables CondWordsShown SemWordsShown). s.first.size.threads) (c.apart-words.ensures.1 ∙ ap (λ (s : Tables LockWordsShown (Tables CondWordsShown SemWordsShown)). s.second) c.close-scheme.ensures.scheme) ∙ c.self.invariant.conds_threads) near))))
+    (subst (λ n. t < n) (ap (λ (s : Tables CondWordsShown SemWordsShown). s.first.size.threads) (c.apart-words.ensures.1 ∙ ap (λ (s : LotSchemeShown). s.second) c.close-scheme.ensures.scheme) ∙ c.self.invariant.conds_threads) near))))
 
 pub settle-ledger-requires-clause-same_threads : goal.settle-ledger-requires-clause-same_threads
 settle-ledger-requires-clause-same_threads g c κs within =
-    let scheme = c.apart-words.ensures.1 ∙ ap (λ (s : Tables LockWordsShown (Tables CondWordsShown SemWordsShown)). s.second) c.close-scheme.ensures.scheme in
+    let scheme = c.apart-words.ensures.1 ∙ ap (λ (s : LotSchemeShown). s.second) c.close-scheme.ensures.scheme in
     ap (λ (s : Tables CondWordsShown SemWordsShown). s.second.size.threads) scheme ∙ (c.self.invariant.sems_threads ∙ sym (ap (λ (s : Tables CondWordsShown SemWordsShown). s.first.size.threads) scheme ∙ c.self.invariant.conds_threads))
 
 pub settle-ledger-requires-clause-back : goal.settle-ledger-requires-clause-back
@@ -83,7 +84,7 @@ settle-ledger-requires-clause-keys g c κs within =
     let before = c.into_inner-idle.result.room.named in
     let none : before.items ≡ [] = no_elements before.items (let n : length before.items ≡ vec_len before = search rules in n ∙ c.into_inner-idle.result.room.no_roots.0) in
     let roots_are : c.close-scheme.new.out.items ≡ c.close-scheme.ensures.roots.roots =
-    c.close-scheme.ensures.roots.appended ∙ ap (λ (rs : List (OneOf (RootShown LockRootView) KindRootShown)). rs ++ c.close-scheme.ensures.roots.roots) none in
+    c.close-scheme.ensures.roots.appended ∙ ap (λ (rs : List LotRootShown). rs ++ c.close-scheme.ensures.roots.roots) none in
     let long : vec_len c.close-scheme.new.out ≡ length g.N.LotName.values + g.N.WaitName.conds + length g.N.PermitName.permits =
     (let n : vec_len c.close-scheme.new.out ≡ length c.close-scheme.new.out.items = search rules in n ∙ (ap length roots_are ∙ (c.close-scheme.ensures.roots.each ∙ c.self.invariant.parking_keys))) in
     let unnamed = c.unname_roots.ensures.long in
@@ -106,13 +107,13 @@ pub close-requires-clause-passes : goal.close-requires-clause-passes
 close-requires-clause-passes g c = λ t near.
     some_before seen_as (λ (p : PassView _). p.thread ≡ t) c.gather.new.rights.items
     (subst (Any (λ (p : PassView _). p.thread ≡ t)) (sym c.gather.ensures.same) (some_after lock_side (λ (p : PassView _). p.thread ≡ t) c.args.passes.items (c.requires.all t (subst (λ n. t < n) (sym c.self.invariant.own_threads ∙ ap (λ (v : LotView). v.threads) c.self.view_is)
-    (subst (λ n. t < n) (ap (λ (w : LockWordsShown). w.size.threads) (c.into_words.ensures.same ∙ (c.apart-words.ensures.0 ∙ ap (λ (s : Tables LockWordsShown (Tables CondWordsShown SemWordsShown)). s.first) c.close-scheme.ensures.scheme)) ∙ c.self.invariant.words_threads) near)))))
+    (subst (λ n. t < n) (ap (λ (w : LockWordsShown). w.size.threads) (c.into_words.ensures.same ∙ (c.apart-words.ensures.0 ∙ ap (λ (s : LotSchemeShown). s.first) c.close-scheme.ensures.scheme)) ∙ c.self.invariant.words_threads) near)))))
 
 pub close-requires-clause-roots : goal.close-requires-clause-roots
 close-requires-clause-roots g c = λ l near.
     c.unname_roots.ensures.roots l (subst (λ n. l < n)
     (ap (λ (w : LockWordsShown). w.size.locks)
-    (c.into_words.ensures.same ∙ (c.apart-words.ensures.0 ∙ ap (λ (s : Tables LockWordsShown (Tables CondWordsShown SemWordsShown)). s.first) c.close-scheme.ensures.scheme))
+    (c.into_words.ensures.same ∙ (c.apart-words.ensures.0 ∙ ap (λ (s : LotSchemeShown). s.first) c.close-scheme.ensures.scheme))
     ∙ c.self.invariant.words_locks) near)
 
 pub returns-clause-values : goal.returns-clause-values

@@ -1,0 +1,39 @@
+-- What is told of a root and of a pass of any of a lot's tables.
+use Rattle.std.specs.Prelude.{ℕ, List, Option}
+use Rattle.lot_rights.specs.Shown.{RootShown}
+use Rattle.lot_words.specs.declared.views.LockRootView.{LockRootView}
+use Rattle.lot_waits.specs.Rights.{CondStanding, IsCondLooked}
+use Rattle.lot_permits.specs.Rights.{SemStanding, IsSemLooked}
+use Rattle.lot_kinds.specs.Opening.{KindRootShown}
+use Rattle.lot_kinds.specs.Opening.{key_of as kind_key, line_of as kind_line, owes_of as kind_owes}
+use Rattle.lot_park.specs.Parts.{of_either, LookedBy}
+use Rattle.lot_park.specs.declared.parts.both.OneOf.{OneOf}
+use Rattle.lot_sync.specs.Passes.{Standing, IsLooked, debts_of}
+
+-- ---- the root of a key of any table
+abbrev pub LotRootShown : Type 0
+LotRootShown = OneOf (RootShown LockRootView) KindRootShown
+
+abbrev pub lock_key : RootShown LockRootView → ℕ
+lock_key r = r.root.key
+
+abbrev pub key_of : LotRootShown → ℕ
+key_of = of_either lock_key kind_key
+
+abbrev pub line_of : LotRootShown → List ℕ
+line_of = of_either (λ (r : RootShown LockRootView). r.root.own.line) kind_line
+
+abbrev pub owes_of : LotRootShown → List (ℕ × ℕ)
+owes_of = of_either (λ (r : RootShown LockRootView). debts_of r.root.own.owes) kind_owes
+
+-- ---- a pass of any table
+abbrev pub LotStanding : Type 0 → Type 0
+LotStanding V = OneOf (Standing V) (OneOf CondStanding SemStanding)
+
+module _ {V : Type 0} where
+  abbrev pub thread_of : LotStanding V → ℕ
+  thread_of = of_either (λ (p : Standing V). p.thread) (of_either (λ (p : CondStanding). p.thread) (λ (p : SemStanding). p.thread))
+
+module _ {V Part : Type 0} (keeps : ℕ → V → Type 0) (grows : V → V → Type 0) (part : ℕ → V → Part) where
+  abbrev pub HasLooked : LotStanding V → Option ℕ → LotStanding V → Type 0
+  HasLooked = LookedBy (IsLooked keeps grows part) (LookedBy IsCondLooked IsSemLooked)
