@@ -28,25 +28,26 @@ trait Tells: Counts {
     /// What the value of now tells of a thread that was counted once since the value that it had seen.
     ghost is_there: { ℕ → Self → Self → Type 0 };
 
-    ghost there_once_counted: { (thread : ℕ) (seen now : Self) → IsCountedOnce Self.grows Self.part is_counted thread seen now → is_there thread seen now };
-
     /// Whether thread 0 and then thread 1 were counted, and nobody else.
     fn has_both(&self) -> bool;
+
+    ghost there_once_counted: { (thread : ℕ) (seen now : Self) → IsCountedOnce Self.grows Self.part Self.is_counted thread seen now → is_there thread seen now };
 }
 
 impl Tells for Journal<Counter> {
     ghost use Rattle.lotstress.specs.Counters.{IsThere};
-    ghost use Rattle.lotstress.specs.Theres.{counted_is_there};
 
     /// The call of the thread is in the history, after all that the thread had seen, once.
     ghost is_there = { λ thread seen now. IsThere thread (record { 0 = 1 }) seen now };
-
-    ghost there_once_counted = { counted_is_there };
 
     fn has_both(&self) -> bool {
         let history = [entry(0, 1), entry(1, 2)];
         self.history() == history.as_slice()
     }
+
+    ghost use Rattle.lotstress.specs.Theres.{counted_is_there};
+
+    ghost there_once_counted = { counted_is_there };
 }
 
 /// The thread called `Add(1)`, and was replied this total.

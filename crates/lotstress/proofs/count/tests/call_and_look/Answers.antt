@@ -7,7 +7,8 @@ returns-clause-there g c = λ seen now had has.
     let mid = reads c.call_once-pass.result.seen 0 (subst (λ n. 0 < n) (sym c.call_once-pass.ensures.wide.seen) c.requires.key) in
     let on = c.look.ensures.on mid.0 now mid.1 has in
     let there = c.call_once-pass.ensures.there seen mid.0 had mid.1 in
-    g.V.Tells.there_once_counted c.args.pass.thread seen now (record {
+    let laws = g.met.V.Tells g.world.𝓛 g.world.𝓜 g.world.𝓡 ((λ s x. x), (λ x. x), (λ x. x), λ x. x) in
+    laws.there_once_counted c.args.pass.thread seen now (record {
       found = there.found;
       counted = there.counted;
       on = there.on;
