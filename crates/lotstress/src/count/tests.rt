@@ -181,11 +181,11 @@ fn call_and_look_in_journal<N: LotName<Journal<Counter>> + Send + Sync, T: Wait 
     call_and_look::<Journal<Counter>, N, T>(rt, lot, pass, other)
 }
 
-fn add_in_turn<V: Tells + Send, N: LotName<V> + Send + Sync, T: Wait + Abort>(
+fn add_in_turn<N: LotName<Journal<Counter>> + Send + Sync, T: Wait + Abort>(
     rt: &T,
     alloc: Global,
-    opened: Opened<V>,
-) -> Vec<V>
+    opened: Opened<Journal<Counter>>,
+) -> Vec<Journal<Counter>>
     requires named { IsNamed (record { opening = N.opening; threads = N.threads; values = N.values; locks = N.locks; conds = N.conds; low = N.low; permits = N.permits }) opened }
     requires sizes { (opened.threads ≡ 2) × (length opened.values ≡ 1) }
     ensures { vec_len result ≡ 1 }
@@ -201,7 +201,7 @@ fn add_in_turn<V: Tells + Send, N: LotName<V> + Send + Sync, T: Wait + Abort>(
     let zero = add(rt, &lot, zero);
     let one = add(rt, &lot, one);
     let zero = find_history(rt, &lot, zero);
-    let (one, zero) = call_and_look(rt, &lot, one, zero);
+    let (one, zero) = call_and_look_in_journal(rt, &lot, one, zero);
     lot.leave(rt, one);
     lot.leave(rt, zero);
     close(rt, lot, passes, 2).0
@@ -212,7 +212,7 @@ fn open_and_add<T: Wait + Abort>(rt: &T, alloc: Global, journals: Vec<Journal<Co
 {
     match Lot::<Journal<Counter>, Brand>::open(alloc, 2, journals, 0) {
         Ok(opened) => {
-            let journals = add_in_turn::<Journal<Counter>, Brand, T>(rt, alloc, opened);
+            let journals = add_in_turn::<Brand, T>(rt, alloc, opened);
             assert_eq!(rt; journals[0].object().total, 4);
         }
         Err(_) => panic!(rt; "not opened"),
