@@ -133,6 +133,3 @@ impl Queue {
         taken
     }
 }
-
-#[cfg(test)]
-mod tests;

@@ -6,6 +6,5 @@ pub mod Machine
 pub mod Names
 pub mod Opens
 pub mod Rows
-pub mod Schedules
 pub mod Takes
 pub mod Turns

@@ -2,6 +2,5 @@ pub mod Calls
 pub mod Closing
 pub mod Headline
 pub mod Rule
-pub mod Schedule
 pub mod Shown
 pub mod World

@@ -33,6 +33,3 @@ pub mod words;
 pub use kind::{CondPass, CondRoot};
 pub use lot_rights::WordsFault;
 pub use words::CondWords;
-
-#[cfg(test)]
-mod tests;

@@ -52,6 +52,3 @@ pub use laws::{every_run_is_sound, parts_follow, spelled_scripts_are_read};
 pub use printing::print_state;
 pub use script::{MAX_LINES, Script, ScriptFault, parse_script};
 pub use state::{CoreFault, MAX_KEYS, MAX_THREADS, State};
-
-#[cfg(test)]
-mod tests;

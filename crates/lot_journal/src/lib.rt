@@ -23,6 +23,3 @@ pub use entry::Entry;
 pub use fault::JournalFault;
 pub use journal::Journal;
 pub use sequential::Sequential;
-
-#[cfg(test)]
-mod tests;

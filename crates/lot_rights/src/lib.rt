@@ -40,6 +40,3 @@ pub use layout::{word_of_key, words_for};
 pub use named::{Name, Named, OfOpening};
 pub use rights::{PassOf, RootOf};
 pub use words::WordsOf;
-
-#[cfg(test)]
-mod tests;

@@ -5,6 +5,5 @@ pub mod Names
 pub mod Opens
 pub mod Roots
 pub mod Rows
-pub mod Schedules
 pub mod Turning
 pub mod Turns

@@ -3,6 +3,5 @@ pub mod Closing
 pub mod Headline
 pub mod Opening
 pub mod Rule
-pub mod Schedule
 pub mod Shown
 pub mod World

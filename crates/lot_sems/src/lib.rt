@@ -43,6 +43,3 @@ pub use kind::{SemPass, SemRoot};
 pub use lot_rights::WordsFault;
 pub use taking::Taken;
 pub use words::SemWords;
-
-#[cfg(test)]
-mod tests;

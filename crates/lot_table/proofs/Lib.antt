@@ -1,5 +1,5 @@
 mod Guarding
-mod Lending
+pub mod Lending
 mod Making
 mod Moving
 mod Roots

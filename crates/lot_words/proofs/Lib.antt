@@ -11,7 +11,6 @@ pub mod Names
 pub mod Opens
 pub mod Roots
 pub mod Rows
-pub mod Schedules
 pub mod Shelves
 pub mod Turns
 pub mod Valuing

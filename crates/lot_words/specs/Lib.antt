@@ -2,7 +2,6 @@ pub mod Calls
 pub mod Closing
 pub mod Headline
 pub mod Rule
-pub mod Schedule
 pub mod Shelf
 pub mod Shown
 pub mod Values

@@ -46,6 +46,3 @@ pub use keeps::Keeps;
 pub use kind::{LockPass, LockRoot};
 pub use lot_rights::{Name, Named, OfOpening, WordsFault};
 pub use words::LockWords;
-
-#[cfg(test)]
-mod tests;

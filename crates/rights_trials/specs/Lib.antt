@@ -1,0 +1,3 @@
+pub mod CondSchedules
+pub mod LockSchedules
+pub mod SemSchedules

@@ -1,0 +1,200 @@
+//! Scripts and printed states: worked examples, bad lines, and texts that are cut.
+
+use lot_core::{MAX_LINES, ScriptFault, State, parse_script, print_state};
+use std::alloc::Global;
+use std::test::Fail;
+
+// The printed state after the script, or the number of its first refused event.
+fn replayed(alloc: Global, text: &str) -> Result<Result<String, usize>, Fail> {
+    let script = parse_script(alloc, text)?;
+    let mut state = State::open_with(
+        alloc,
+        script.threads,
+        script.locks,
+        script.conds,
+        &script.permits,
+    )?;
+    if let Err((i, _)) = state.run(&script.events) {
+        return Ok(Err(i));
+    }
+    Ok(Ok(print_state(alloc, &state)?))
+}
+
+/// A script, and what is printed of the state that it leaves.
+const PRINTED: [(&str, &str, &str); 8] = [
+    (
+        "opening",
+        "open 1 1 0\n",
+        "lock 0 word 0 owner - line -\nthread 0 calm\n",
+    ),
+    (
+        "handoff",
+        "open 2 1 0\ntake 0 0\ntake 1 0\nmark 1 0\npark 1 0\npass 0 0 1 0\n",
+        "lock 0 word 3 owner 1 line -\nthread 0 calm\nthread 1 calm\n",
+    ),
+    (
+        "barging_past_a_sleeper",
+        "open 4 1 0\ntake 0 0\ntake 1 0\nmark 1 0\npark 1 0\ntake 2 0\npark 2 0\npass 0 0 0 1\ntake 3 0\n",
+        "lock 0 word 3 owner 3 line 2\nthread 0 calm\nthread 1 wants 0\nthread 2 wants 0\nthread 3 calm\n",
+    ),
+    (
+        "lowered_before_the_sweep",
+        "open 4 1 1\ntake 0 0\nenlist 0 1 0\nfree 0 0\ntake 1 0\nenlist 1 1 0\nfree 1 0\ntake 2 0\nenlist 2 1 0\nfree 2 0\nlower 3 1\n",
+        "lock 0 word 0 owner - line -\ncond 1 flag 0 line 0,1,2\nthread 0 rest 1 0\nthread 1 rest 1 0\nthread 2 rest 1 0\nthread 3 sweeps 1\n",
+    ),
+    (
+        "two_of_three_are_called",
+        "open 4 1 1\ntake 0 0\nenlist 0 1 0\nfree 0 0\ntake 1 0\nenlist 1 1 0\nfree 1 0\ntake 2 0\nenlist 2 1 0\nfree 2 0\nsome 3 1 2 1\n",
+        "lock 0 word 0 owner - line -\ncond 1 flag 1 line 2\nthread 0 rest 1 0\nthread 1 rest 1 0\nthread 2 rest 1 0\nthread 3 calm\n",
+    ),
+    (
+        "two_of_one_are_called",
+        "open 4 1 1\ntake 0 0\nenlist 0 1 0\nfree 0 0\ntake 1 0\nenlist 1 1 0\nfree 1 0\ntake 2 0\nenlist 2 1 0\nfree 2 0\nsome 3 1 2 1\nsome 3 1 2 0\n",
+        "lock 0 word 0 owner - line -\ncond 1 flag 0 line -\nthread 0 rest 1 0\nthread 1 rest 1 0\nthread 2 rest 1 0\nthread 3 calm\n",
+    ),
+    (
+        "a_permit_is_passed_to_a_sleeper",
+        "open 2 1 0 1\nstake 0 1\nstake 1 1\nsmark 1 1\nspark 1 1\nspass 0 1 0\n",
+        "lock 0 word 0 owner - line -\nsem 1 left 1 out 0 parked 0 line -\nthread 0 calm\nthread 1 seeks 1\n",
+    ),
+    (
+        "the_woken_sleeper_takes_it",
+        "open 2 1 0 1\nstake 0 1\nstake 1 1\nsmark 1 1\nspark 1 1\nspass 0 1 0\nstake 1 1\n",
+        "lock 0 word 0 owner - line -\nsem 1 left 0 out 1 parked 0 line -\nthread 0 calm\nthread 1 calm\n",
+    ),
+];
+
+/// A script, and the number of its first refused event, counted from 0.
+const REFUSED: [(&str, &str, usize); 5] = [
+    ("look_at_a_lock", "open 1 1 0\nlook 0 0\n", 0),
+    ("free_twice", "open 1 1 0\ntry 0 0\nfree 0 0\nfree 0 0\n", 2),
+    (
+        "more_has_to_be_said_where_one_is_left",
+        "open 4 1 1\ntake 0 0\nenlist 0 1 0\nfree 0 0\ntake 1 0\nenlist 1 1 0\nfree 1 0\ntake 2 0\nenlist 2 1 0\nfree 2 0\nsome 3 1 2 0\n",
+        9,
+    ),
+    (
+        "none_are_called",
+        "open 4 1 1\ntake 0 0\nenlist 0 1 0\nfree 0 0\ntake 1 0\nenlist 1 1 0\nfree 1 0\ntake 2 0\nenlist 2 1 0\nfree 2 0\nsome 3 1 0 1\n",
+        9,
+    ),
+    ("no_permit_to_give_back", "open 1 1 0 0\nsfree 0 1\n", 0),
+];
+
+#[test]
+fn nothing_answers_no_memory_for_nothing(rt: HostRuntime) -> Result<(), Fail> {
+    for (name, text, printed) in PRINTED {
+        let answer = replayed(rt.alloc(), text)?
+            .ok()
+            .ok_or("an event was refused")?;
+        assert_eq!(rt; answer.as_str(), printed, "{name}");
+    }
+    for (name, text, event) in REFUSED {
+        let answer = replayed(rt.alloc(), text)?;
+        assert_eq!(rt; answer.err(), Some(event), "{name}");
+    }
+    Ok(())
+}
+
+#[test]
+fn the_first_bad_line_is_named(rt: HostRuntime) {
+    for (text, line) in [
+        ("", 1),
+        ("open 01 1 0\n", 1),
+        ("open 10000 1 0\n", 1),
+        ("open 1 1 0\r\n", 1),
+        ("open 1 1\n", 1),
+        ("open 1 1 0 01\n", 1),
+        ("open 1 1 0 1 \n", 1),
+        ("open 1 1 0\n\n", 2),
+        ("open 1 1 0\ntry 0  0\n", 2),
+        ("open 1 1 0\npass 0 0 2 0\n", 2),
+        ("open 1 1 1\nsome 0 1 1\n", 2),
+        ("open 1 1 1\ncall 0 1 1 1\n", 2),
+        ("open 257 1 0\nzzz\n", 2),
+    ] {
+        let fault = parse_script(rt.alloc(), text).err();
+        assert_eq!(rt; fault, Some(ScriptFault::BadLine(line)), "{text:?}");
+    }
+}
+
+/// A release that lets a barger in past a sleeper, and the state after each of its lines.
+const BARGING: [(&str, &str); 9] = [
+    (
+        "open 4 1 0\n",
+        "lock 0 word 0 owner - line -\nthread 0 calm\nthread 1 calm\nthread 2 calm\nthread 3 calm\n",
+    ),
+    (
+        "take 0 0\n",
+        "lock 0 word 1 owner 0 line -\nthread 0 calm\nthread 1 calm\nthread 2 calm\nthread 3 calm\n",
+    ),
+    (
+        "take 1 0\n",
+        "lock 0 word 1 owner 0 line -\nthread 0 calm\nthread 1 wants 0\nthread 2 calm\nthread 3 calm\n",
+    ),
+    (
+        "mark 1 0\n",
+        "lock 0 word 3 owner 0 line -\nthread 0 calm\nthread 1 wants 0\nthread 2 calm\nthread 3 calm\n",
+    ),
+    (
+        "park 1 0\n",
+        "lock 0 word 3 owner 0 line 1\nthread 0 calm\nthread 1 wants 0\nthread 2 calm\nthread 3 calm\n",
+    ),
+    (
+        "take 2 0\n",
+        "lock 0 word 3 owner 0 line 1\nthread 0 calm\nthread 1 wants 0\nthread 2 wants 0\nthread 3 calm\n",
+    ),
+    (
+        "park 2 0\n",
+        "lock 0 word 3 owner 0 line 1,2\nthread 0 calm\nthread 1 wants 0\nthread 2 wants 0\nthread 3 calm\n",
+    ),
+    (
+        "pass 0 0 0 1\n",
+        "lock 0 word 2 owner - line 2\nthread 0 calm\nthread 1 wants 0\nthread 2 wants 0\nthread 3 calm\n",
+    ),
+    (
+        "take 3 0\n",
+        "lock 0 word 3 owner 3 line 2\nthread 0 calm\nthread 1 wants 0\nthread 2 wants 0\nthread 3 calm\n",
+    ),
+];
+
+// A text that is cut within a line has a bad last line; one that is cut behind a line is a script.
+#[test]
+fn a_cut_text_is_answered_for_each_byte(rt: HostRuntime) -> Result<(), Fail> {
+    let mut text = String::new(rt.alloc());
+    for (i, (line, printed)) in BARGING.iter().enumerate() {
+        for c in line.chars() {
+            let fault = parse_script(rt.alloc(), &text).err();
+            let bad = if text.as_str().ends_with('\n') {
+                None
+            } else {
+                Some(ScriptFault::BadLine(i + 1))
+            };
+            assert_eq!(rt; fault, bad, "{text}");
+            text.push(c)?;
+        }
+        let answer = replayed(rt.alloc(), &text)?
+            .ok()
+            .ok_or("an event was refused")?;
+        assert_eq!(rt; answer.as_str(), *printed, "{text}");
+    }
+    Ok(())
+}
+
+#[test]
+fn a_script_has_at_most_its_lines(rt: HostRuntime) -> Result<(), Fail> {
+    let mut text = String::from_str(rt.alloc(), "open 1 1 1\n")?;
+    for _ in 1..MAX_LINES {
+        text.push_str("look 0 1\n")?;
+    }
+    let script = parse_script(rt.alloc(), &text)?;
+    assert_eq!(rt; script.events.len(), MAX_LINES - 1);
+    let mut state = State::open(rt.alloc(), script.threads, script.locks, script.conds)?;
+    assert_eq!(rt; state.run(&script.events), Ok(()));
+    text.push_str("look 0 1\n")?;
+    assert_eq!(rt;
+        parse_script(rt.alloc(), &text).err(),
+        Some(ScriptFault::BadLine(MAX_LINES + 1))
+    );
+    Ok(())
+}
