@@ -20,7 +20,7 @@ use std::marker::Brand;
 use std::process::Abort;
 use std::sync::Wait;
 
-/// What the test looks for in a value. Its callers are generic over it, since a lot of journals has more types than the toolchain follows.
+/// What the test looks for in a value, and what a value tells of a thread that was counted in it.
 trait Tells: Counts {
     ghost use Rattle.std.specs.Prelude.{ℕ};
     ghost use Rattle.lotstress.specs.Theres.{IsCountedOnce};
