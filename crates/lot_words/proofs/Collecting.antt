@@ -33,7 +33,8 @@ module _ {V Q : Type 0} (keeps : ℕ → V → Type 0) (grows : V → V → Type
   collected_some p q zero ne h = absurd (ne refl)
   collected_some p q (suc token) ne h = let e : token ≡ suc token - 1 = omega arith in subst (λ z. Collected keeps grows share p z q) e h.1
 
-  module _ (itself : (x : V) → grows x x) (size : Size) (xs : List V) (p : PassView (LockPassView V)) (w : LockWorld V) (ws : List ℕ) (hs : List (maybe.Option (Option V))) (ok : Fits keeps grows share size w ws hs)
+  module _ (itself : (x : V) → grows x x) (size : Size) (xs : List V) (p : PassView (LockPassView V)) (w : LockWorld V) (ws : List ℕ) (hs : List (maybe.Option (Option V)))
+      (ok : Fits keeps grows share size w ws hs)
       (fit : (p.thread < size.threads) × (w.pass p.thread ≡ p.own)) where
     abbrev t : ℕ
     t = p.thread
@@ -49,12 +50,14 @@ module _ {V Q : Type 0} (keeps : ℕ → V → Type 0) (grows : V → V → Type
 
     -- no letter lies
     none_lies : letter_of (w.spot t) ≡ 0 → Turn 0
-    none_lies none_there = pass_stays (scheme keeps grows share size xs) (letter_at t) 0 w ws hs ok (sym (ok.words.letters t fit.0 ∙ none_there)) p fit (Collects t None) (refl, (none_there, refl)) (Collecting p 0) (λ k. (omega arith, (k, refl)))
+    none_lies none_there = pass_stays (scheme keeps grows share size xs) (letter_at t) 0 w ws hs ok (sym (ok.words.letters t fit.0 ∙ none_there)) p fit (Collects t None)
+        (refl, (none_there, refl)) (Collecting p 0) (λ k. (omega arith, (k, refl)))
 
     -- a letter lies: the pass is awake then
     wakes : (f : LockPassView V → LockPassView V) (token l : ℕ) → w.spot t ≡ lying l token → wants_of awake (f (w.pass t)).aim ≡ wants_of (lying l token) (w.pass t).aim
         → Kept n m (record w { pass = put w.pass t (f (w.pass t)); spot = put w.spot t awake }) → IsLawful keeps grows share n m (put w.pass t (f (w.pass t))) hs
-        → (then : PassView (LockPassView V) → Type 0) → ((k : ℕ) → then (pass_after p (f p.own) k (Collects t (Some token)))) → PassTurn (scheme keeps grows share size xs) (letter_at t) 0 p then w ws hs
+        → (then : PassView (LockPassView V) → Type 0) → ((k : ℕ) → then (pass_after p (f p.own) k (Collects t (Some token))))
+            → PassTurn (scheme keeps grows share size xs) (letter_at t) 0 p then w ws hs
     wakes f token l lies want kept lawful then told =
         let p1 : LockPassView V = f (w.pass t) in
         let w' : LockWorld V = record w { pass = put w.pass t p1; spot = put w.spot t awake } in
@@ -77,7 +80,8 @@ module _ {V Q : Type 0} (keeps : ℕ → V → Type 0) (grows : V → V → Type
     module _ (l : ℕ) where
       barges : w.spot t ≡ lying l 0 → Turn 1
       barges lies = wakes woken 0 l lies refl (wakes_kept n m w ok.kept t l lies)
-          (same_values keeps grows share n m w.pass hs ok.lawful t (woken (w.pass t)) (λ k. record { down = λ h. h; up = λ h. h; places = refl; seen = refl }) (refl, refl)) (Collecting p 1) (λ k. (omega arith, (k, refl)))
+          (same_values keeps grows share n m w.pass hs ok.lawful t (woken (w.pass t)) (λ k. record { down = λ h. h; up = λ h. h; places = refl; seen = refl }) (refl, refl)) (Collecting p 1)
+              (λ k. (omega arith, (k, refl)))
 
       handed : w.spot t ≡ lying l 1 → Turn 2
       handed lies =
@@ -85,7 +89,8 @@ module _ {V Q : Type 0} (keeps : ℕ → V → Type 0) (grows : V → V → Type
           let own = handed_owner n m w ok.kept t l lies in
           let x : V = ok.lawful.value l in
           let mine : ¬ Holds (w.pass t) l = (ok.kept.threads t).handed l (subst (λ z. IsHanded z l) (sym lies) (refl, refl)) in
-          let nobody : (u : ℕ) → ¬ Holds (w.pass u) l = (λ u h. let f : (w.word l).owner ≡ suc u = (ok.kept.threads u).holds l h in let same : u ≡ t = omega arith in mine (subst (λ z. Holds (w.pass z) l) same h)) in
+          let nobody : (u : ℕ) → ¬ Holds (w.pass u) l = (λ u h. let f : (w.word l).owner ≡ suc u = (ok.kept.threads u).holds l h in let same : u ≡ t = omega arith in mine
+              (subst (λ z. Holds (w.pass z) l) same h)) in
           let long : l < length (w.pass t).holds = (let e = (ok.kept.threads t).long in omega arith) in
           wakes (λ z. woken (gripped z l x)) 1 l lies refl (handed_kept n m w ok.kept t l lies x)
           (gets_value keeps grows share n m w.pass hs ok.lawful t fit.0 l near itself nobody (woken (gripped (w.pass t) l x))
@@ -107,7 +112,8 @@ module _ {V Q : Type 0} (keeps : ℕ → V → Type 0) (grows : V → V → Type
           ))
 
     by_token : (l k : ℕ) → w.spot t ≡ lying l k → TellsTrue (w.word l).owner t k → Turn (k + 1)
-    by_token l k lies truly = ⊎_elim {C = Turn (k + 1)} (λ e. subst (λ z. Turn (z + 1)) (sym e) (barges l (lies ∙ ap (lying l) e))) (λ e. subst (λ z. Turn (z + 1)) (sym e.0) (handed l (lies ∙ ap (lying l) e.0))) truly
+    by_token l k lies truly = ⊎_elim {C = Turn (k + 1)} (λ e. subst (λ z. Turn (z + 1)) (sym e) (barges l (lies ∙ ap (lying l) e)))
+        (λ e. subst (λ z. Turn (z + 1)) (sym e.0) (handed l (lies ∙ ap (lying l) e.0))) truly
 
     by_spot : (sp : Spot) → w.spot t ≡ sp → SpotFits n w.word w.root t (w.pass t) sp → Turn (letter_of sp)
     by_spot awake is fits = none_lies (ap letter_of is)

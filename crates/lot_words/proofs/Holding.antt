@@ -46,15 +46,19 @@ module _ {V : Type 0} (n m : ℕ) (w : LockWorld V) (ok : Kept n m w) (t : ℕ) 
               (record {
                 long = length-set xs l Held ∙ me.long;
                 aims = λ k a. absurd (no_aim k a);
-                holds = λ k. set_elim xs l k Held (λ h. IsHeld h → (word k).owner ≡ suc t) lock_near (λ e _. subst (λ z. (word z).owner ≡ suc t) (sym e) (ap (λ (z : LockWord). z.owner) (put_same w.word l y))) (λ ne h. ap (λ (z : LockWord). z.owner) (put_other w.word l y k ne) ∙ me.holds k h);
-                found = λ k. set_elim xs l k Held (λ h. IsFound h → (word k).parked ≡ true) lock_near (λ e h. absurd h) (λ ne h. ap (λ (z : LockWord). z.parked) (put_other w.word l y k ne) ∙ me.found k h);
+                holds = λ k. set_elim xs l k Held (λ h. IsHeld h → (word k).owner ≡ suc t) lock_near
+                    (λ e _. subst (λ z. (word z).owner ≡ suc t) (sym e) (ap (λ (z : LockWord). z.owner) (put_same w.word l y)))
+                    (λ ne h. ap (λ (z : LockWord). z.owner) (put_other w.word l y k ne) ∙ me.holds k h);
+                found = λ k. set_elim xs l k Held (λ h. IsFound h → (word k).parked ≡ true) lock_near (λ e h. absurd h)
+                    (λ ne h. ap (λ (z : LockWord). z.parked) (put_other w.word l y k ne) ∙ me.found k h);
                 spot = subst (SpotFits n word w.root t p) (sym is_awake) up;
                 in_line = me.in_line;
                 is_owed = me.is_owed;
                 handed = λ k h. absurd (not_handed k h);
               })
               (λ v ne. thread_on n m w.word word w.root w.root v (w.pass v) (w.spot v)
-              (λ k. put_elim (λ z. (w.word k).owner ≡ suc v → z.owner ≡ suc v) w.word l y k (λ kl e. absurd (let f : (w.word l).owner ≡ suc v = subst (λ z. (w.word z).owner ≡ suc v) kl e in omega arith)) (λ _ e. e))
+              (λ k. put_elim (λ z. (w.word k).owner ≡ suc v → z.owner ≡ suc v) w.word l y k
+                  (λ kl e. absurd (let f : (w.word l).owner ≡ suc v = subst (λ z. (w.word z).owner ≡ suc v) kl e in omega arith)) (λ _ e. e))
               (λ k _. put_elim (λ z. (w.word k).parked ≡ true → z.parked ≡ true) w.word l y k (λ kl e. subst (λ z. (w.word z).parked ≡ true) kl e) (λ _ e. e))
               (same_roots v w.root) (ok.threads v));
           locks = each_word n (put w.pass t p) w.spot w l y (w.root l)
@@ -62,12 +66,14 @@ module _ {V : Type 0} (n m : ℕ) (w : LockWorld V) (ok : Kept n m w) (t : ℕ) 
                 once = (ok.locks l).once;
                 had = λ v e. let tv : t ≡ v = omega arith in (
                   omega arith,
-                  inl (subst (λ z. Holds (put w.pass t p z) l) tv (subst (λ (z : LockPassView V). Holds z l) (sym (put_same w.pass t p)) (subst IsHeld (sym (get_or-set_same xs l Held NotHeld lock_near)) tt))),
+                  inl (subst (λ z. Holds (put w.pass t p z) l) tv (subst (λ (z : LockPassView V). Holds z l) (sym (put_same w.pass t p))
+                      (subst IsHeld (sym (get_or-set_same xs l Held NotHeld lock_near)) tt))),
                 );
                 parks = (ok.locks l).parks;
                 tried = λ e _. absurd (omega arith);
               })
-              (λ k ne. lock_stays n k (w.word k) (w.root k) w.pass w.spot t p w.spot (ok.locks k) (λ h. subst IsHeld (sym (get_or-set_other xs l k Held NotHeld ne)) h) (λ v h. h) (λ _ a. absurd (ne (aims k a))) (λ _ v _ h. h));
+              (λ k ne. lock_stays n k (w.word k) (w.root k) w.pass w.spot t p w.spot (ok.locks k) (λ h. subst IsHeld (sym (get_or-set_other xs l k Held NotHeld ne)) h) (λ v h. h)
+                  (λ _ a. absurd (ne (aims k a))) (λ _ v _ h. h));
         }
 
     -- the thread finds the lock held, and wants it
@@ -125,7 +131,8 @@ module _ {V : Type 0} (n m : ℕ) (w : LockWorld V) (ok : Kept n m w) (t : ℕ) 
                 aims = me.aims;
                 holds = me.holds;
                 found = me.found;
-                spot = subst (SpotFits n w.word root t p) (sym (put_same w.spot t (queued l))) ((near, refl, aim), subst (λ (z : LockRootView). Contains z.line t) (sym (put_same w.root l q)) (Contains-push (w.root l).line t));
+                spot = subst (SpotFits n w.word root t p) (sym (put_same w.spot t (queued l)))
+                    ((near, refl, aim), subst (λ (z : LockRootView). Contains z.line t) (sym (put_same w.root l q)) (Contains-push (w.root l).line t));
                 in_line = λ k. put_elim (λ z. Contains z.line t → spots t ≡ queued k) w.root l q k (λ e _. put_same w.spot t (queued l) ∙ ap queued (sym e)) (λ _ h. absurd (in_no_line k h));
                 is_owed = λ k c. put_elim (λ z. z.owes ≡ Some (t, c) → spots t ≡ owed k c) w.root l q k (λ _ h. absurd (is_owed_nothing l c h)) (λ _ h. absurd (is_owed_nothing k c h));
                 handed = λ k h. absurd (subst (λ z. IsHanded z k) (put_same w.spot t (queued l)) h);
@@ -152,20 +159,25 @@ module _ {V : Type 0} (n m : ℕ) (w : LockWorld V) (ok : Kept n m w) (t : ℕ) 
                 (record {
                   long = length-set xs l NotHeld ∙ me.long;
                   aims = me.aims;
-                  holds = λ k. set_elim xs l k NotHeld (λ h. IsHeld h → (word k).owner ≡ suc t) lock_near (λ e h. absurd h) (λ ne h. ap (λ (z : LockWord). z.owner) (put_other w.word l x k ne) ∙ me.holds k h);
-                  found = λ k. set_elim xs l k NotHeld (λ h. IsFound h → (word k).parked ≡ true) lock_near (λ e h. absurd h) (λ ne h. ap (λ (z : LockWord). z.parked) (put_other w.word l x k ne) ∙ me.found k h);
+                  holds = λ k. set_elim xs l k NotHeld (λ h. IsHeld h → (word k).owner ≡ suc t) lock_near (λ e h. absurd h)
+                      (λ ne h. ap (λ (z : LockWord). z.owner) (put_other w.word l x k ne) ∙ me.holds k h);
+                  found = λ k. set_elim xs l k NotHeld (λ h. IsFound h → (word k).parked ≡ true) lock_near (λ e h. absurd h)
+                      (λ ne h. ap (λ (z : LockWord). z.parked) (put_other w.word l x k ne) ∙ me.found k h);
                   spot = subst (SpotFits n word w.root t p) (sym is_awake) up;
                   in_line = me.in_line;
                   is_owed = me.is_owed;
                   handed = λ k h. absurd (not_handed k h);
                 })
                 (λ v ne. thread_on n m w.word word w.root w.root v (w.pass v) (w.spot v)
-                (λ k. put_elim (λ z. (w.word k).owner ≡ suc v → z.owner ≡ suc v) w.word l x k (λ kl e. absurd (ne (let f : (w.word l).owner ≡ suc v = subst (λ z. (w.word z).owner ≡ suc v) kl e in omega arith))) (λ _ e. e))
-                (λ k e. put_elim (λ z. (w.word k).parked ≡ true → z.parked ≡ true) w.word l x k (λ kl _. absurd (ne (let f : (w.word l).owner ≡ suc v = subst (λ z. (w.word z).owner ≡ suc v) kl e in omega arith))) (λ _ e. e))
+                (λ k. put_elim (λ z. (w.word k).owner ≡ suc v → z.owner ≡ suc v) w.word l x k
+                    (λ kl e. absurd (ne (let f : (w.word l).owner ≡ suc v = subst (λ z. (w.word z).owner ≡ suc v) kl e in omega arith))) (λ _ e. e))
+                (λ k e. put_elim (λ z. (w.word k).parked ≡ true → z.parked ≡ true) w.word l x k
+                    (λ kl _. absurd (ne (let f : (w.word l).owner ≡ suc v = subst (λ z. (w.word z).owner ≡ suc v) kl e in omega arith))) (λ _ e. e))
                 (same_roots v w.root) (ok.threads v));
             locks = each_word n (put w.pass t p) w.spot w l x (w.root l)
                 (record { once = (ok.locks l).once; had = λ v e. absurd (omega arith); parks = λ some. absurd (some nobody); tried = λ _ some. absurd (some nobody) })
-                (λ k ne. lock_stays n k (w.word k) (w.root k) w.pass w.spot t p w.spot (ok.locks k) (λ h. subst IsHeld (sym (get_or-set_other xs l k NotHeld NotHeld ne)) h) (λ v h. h) (λ _ a. a) (λ _ v _ h. h));
+                (λ k ne. lock_stays n k (w.word k) (w.root k) w.pass w.spot t p w.spot (ok.locks k) (λ h. subst IsHeld (sym (get_or-set_other xs l k NotHeld NotHeld ne)) h) (λ v h. h)
+                    (λ _ a. a) (λ _ v _ h. h));
           }
 
       -- the owner finds the lock parked
@@ -180,12 +192,14 @@ module _ {V : Type 0} (n m : ℕ) (w : LockWorld V) (ok : Kept n m w) (t : ℕ) 
                   long = length-set xs l FoundParked ∙ me.long;
                   aims = me.aims;
                   holds = λ k. set_elim xs l k FoundParked (λ h. IsHeld h → (w.word k).owner ≡ suc t) lock_near (λ e _. me.holds k (subst (Holds (w.pass t)) (sym e) has)) (λ ne h. me.holds k h);
-                  found = λ k. set_elim xs l k FoundParked (λ h. IsFound h → (w.word k).parked ≡ true) lock_near (λ e _. subst (λ z. (w.word z).parked ≡ true) (sym e) is_parked) (λ ne h. me.found k h);
+                  found = λ k. set_elim xs l k FoundParked (λ h. IsFound h → (w.word k).parked ≡ true) lock_near (λ e _. subst (λ z. (w.word z).parked ≡ true) (sym e) is_parked)
+                      (λ ne h. me.found k h);
                   spot = subst (SpotFits n w.word w.root t p) (sym is_awake) up;
                   in_line = me.in_line;
                   is_owed = me.is_owed;
                   handed = λ k h. absurd (not_handed k h);
                 })
                 (λ v _. ok.threads v);
-            locks = λ k. lock_stays n k (w.word k) (w.root k) w.pass w.spot t p w.spot (ok.locks k) (λ h. set_elim xs l k FoundParked IsHeld lock_near (λ _. tt) (λ _. h)) (λ v h. h) (λ _ a. a) (λ _ v _ h. h);
+            locks = λ k. lock_stays n k (w.word k) (w.root k) w.pass w.spot t p w.spot (ok.locks k) (λ h. set_elim xs l k FoundParked IsHeld lock_near (λ _. tt) (λ _. h)) (λ v h. h)
+                (λ _ a. a) (λ _ v _ h. h);
           }

@@ -30,7 +30,8 @@ module _ {V : Type 0} (n m : ℕ) (w : LockWorld V) (ok : Kept n m w) where
   out_on u sp out v h = put_elim IsOutside w.spot u sp v (λ _. out) (λ _. h)
 
   -- ---- the lock is passed on
-  module _ (t l : ℕ) (near : t < n) (here : l < m) (up : (w.pass t).asleep ≡ false) (has : Holds (w.pass t) l) (u : ℕ) (us : List ℕ) (line : (w.root l).line ≡ u ∷ us) (paid : (w.root l).owes ≡ None) where
+  module _ (t l : ℕ) (near : t < n) (here : l < m) (up : (w.pass t).asleep ≡ false) (has : Holds (w.pass t) l) (u : ℕ) (us : List ℕ) (line : (w.root l).line ≡ u ∷ us)
+      (paid : (w.root l).owes ≡ None) where
     first_in : Contains (w.root l).line u
     first_in = subst (λ z. Contains z u) (sym line) (in_head u us)
 
@@ -45,7 +46,8 @@ module _ {V : Type 0} (n m : ℕ) (w : LockWorld V) (ok : Kept n m w) where
 
     -- the first of the line is owed the token k, which says whether it is the owner then
     pub passes_kept : (y : V) (k o : ℕ) (b : Bool) → ((k ≡ 0) × (o ≡ 0)) ⊎ ((k ≡ 1) × (o ≡ suc u)) → (us ≢ [] → b ≡ true)
-        → Kept n m (record w { pass = put w.pass t (let_go (w.pass t) l y); spot = put w.spot u (owed l k); word = put w.word l (record { owner = o; parked = b }); root = put w.root l (record (w.root l) { line = us; owes = Some (u, k) }) })
+        → Kept n m (record w { pass = put w.pass t (let_go (w.pass t) l y); spot = put w.spot u (owed l k); word = put w.word l (record { owner = o; parked = b });
+            root = put w.root l (record (w.root l) { line = us; owes = Some (u, k) }) })
     passes_kept y k o b token more =
         let xs = (w.pass t).holds in
         let me = ok.threads t in
@@ -59,7 +61,8 @@ module _ {V : Type 0} (n m : ℕ) (w : LockWorld V) (ok : Kept n m w) where
         let long : l < length xs = lock_near n m w ok t near up l here in
         let own : (w.word l).owner ≡ suc t = me.holds l has in
         let once : IsOnce (u ∷ us) = subst IsOnce line (ok.locks l).once in
-        let not_mine : (v : ℕ) → v ≢ t → (j : ℕ) → j ≡ l → (w.word j).owner ≡ suc v → ⊥ = (λ v vt j jl e. vt (let f : (w.word l).owner ≡ suc v = subst (λ z. (w.word z).owner ≡ suc v) jl e in omega arith)) in
+        let not_mine : (v : ℕ) → v ≢ t → (j : ℕ) → j ≡ l → (w.word j).owner ≡ suc v → ⊥ = (λ v vt j jl e. vt
+            (let f : (w.word l).owner ≡ suc v = subst (λ z. (w.word z).owner ≡ suc v) jl e in omega arith)) in
         let owner_on : (v : ℕ) → v ≢ t → (j : ℕ) → (w.word j).owner ≡ suc v → (word j).owner ≡ suc v
         = (λ v vt j. put_elim (λ z. (w.word j).owner ≡ suc v → z.owner ≡ suc v) w.word l x j (λ jl e. absurd (not_mine v vt j jl e)) (λ _ e. e)) in
         let parked_on : (v : ℕ) → v ≢ t → (j : ℕ) → (w.word j).owner ≡ suc v → (w.word j).parked ≡ true → (word j).parked ≡ true
@@ -70,10 +73,13 @@ module _ {V : Type 0} (n m : ℕ) (w : LockWorld V) (ok : Kept n m w) where
               (record {
                 long = length-set xs l NotHeld ∙ me.long;
                 aims = me.aims;
-                holds = λ j. set_elim xs l j NotHeld (λ h. IsHeld h → (word j).owner ≡ suc t) long (λ e h. absurd h) (λ jl h. ap (λ (z : LockWord). z.owner) (put_other w.word l x j jl) ∙ me.holds j h);
-                found = λ j. set_elim xs l j NotHeld (λ h. IsFound h → (word j).parked ≡ true) long (λ e h. absurd h) (λ jl h. ap (λ (z : LockWord). z.parked) (put_other w.word l x j jl) ∙ me.found j h);
+                holds = λ j. set_elim xs l j NotHeld (λ h. IsHeld h → (word j).owner ≡ suc t) long (λ e h. absurd h)
+                    (λ jl h. ap (λ (z : LockWord). z.owner) (put_other w.word l x j jl) ∙ me.holds j h);
+                found = λ j. set_elim xs l j NotHeld (λ h. IsFound h → (word j).parked ≡ true) long (λ e h. absurd h)
+                    (λ jl h. ap (λ (z : LockWord). z.parked) (put_other w.word l x j jl) ∙ me.found j h);
                 spot = subst (SpotFits n word root t p) (sym (is_awake n m w ok t near up)) up;
-                in_line = λ j. put_elim (λ z. Contains z.line t → w.spot t ≡ queued j) w.root l q j (λ e h. absurd (in_no_line n m w ok t near up l (subst (λ z. Contains z t) (sym line) (in_tail u us t h)))) (λ _ h. me.in_line j h);
+                in_line = λ j. put_elim (λ z. Contains z.line t → w.spot t ≡ queued j) w.root l q j
+                    (λ e h. absurd (in_no_line n m w ok t near up l (subst (λ z. Contains z t) (sym line) (in_tail u us t h)))) (λ _ h. me.in_line j h);
                 is_owed = λ j c. put_elim (λ z. z.owes ≡ Some (t, c) → w.spot t ≡ owed j c) w.root l q j (λ e h. absurd (apart (same_debt u k t c h).0)) (λ _ h. me.is_owed j c h);
                 handed = λ j h. absurd (not_handed n m w ok t near up j h);
               }))
@@ -89,8 +95,10 @@ module _ {V : Type 0} (n m : ℕ) (w : LockWorld V) (ok : Kept n m w) where
                   subst (λ (z : LockRootView). z.owes ≡ Some (u, k)) (sym (put_same w.root l q)) refl,
                   subst (λ (z : LockWord). TellsTrue z.owner u k) (sym (put_same w.word l x)) (⊎_elim {C = TellsTrue o u k} (λ h. inl h.0) (λ h. inr h) token),
                 );
-                in_line = λ j. put_elim (λ z. Contains z.line u → owed l k ≡ queued j) w.root l q j (λ _ h. absurd (head_left u us once h)) (λ jl h. absurd (jl (let f : queued j ≡ queued l = sym (first.in_line j h) ∙ first_waits in cc)));
-                is_owed = λ j c. put_elim (λ z. z.owes ≡ Some (u, c) → owed l k ≡ owed j c) w.root l q j (λ e h. ap (λ z. owed z k) (sym e) ∙ ap (owed j) (same_debt u k u c h).1) (λ _ h. absurd (let g : queued l ≡ owed j c = sym first_waits ∙ first.is_owed j c h in cc));
+                in_line = λ j. put_elim (λ z. Contains z.line u → owed l k ≡ queued j) w.root l q j (λ _ h. absurd (head_left u us once h))
+                    (λ jl h. absurd (jl (let f : queued j ≡ queued l = sym (first.in_line j h) ∙ first_waits in cc)));
+                is_owed = λ j c. put_elim (λ z. z.owes ≡ Some (u, c) → owed l k ≡ owed j c) w.root l q j (λ e h. ap (λ z. owed z k) (sym e) ∙ ap (owed j) (same_debt u k u c h).1)
+                    (λ _ h. absurd (let g : queued l ≡ owed j c = sym first_waits ∙ first.is_owed j c h in cc));
                 handed = λ j h a. not_mine u apart j (sym h.0) (first.holds j a);
               }))
               (λ vu. thread_on n m w.word word w.root root v (w.pass v) (w.spot v) (owner_on v vt) (parked_on v vt)
@@ -105,7 +113,8 @@ module _ {V : Type 0} (n m : ℕ) (w : LockWorld V) (ok : Kept n m w) where
                 once = once_tail u us once;
                 had = λ v e. ⊎_elim {C = (v < n) × (Holds (put w.pass t p v) l ⊎ IsHanded (spots v) l)}
                     (λ z. absurd (let f = z.1 in omega arith))
-                    (λ z. let uv : u ≡ v = (let f = z.1 in omega arith) in subst (λ i. (i < n) × (Holds (put w.pass t p i) l ⊎ IsHanded (spots i) l)) uv (first_sleeps.0, inr (subst (λ s. IsHanded s l) (sym (put_same w.spot u (owed l k))) (refl, z.0))))
+                    (λ z. let uv : u ≡ v = (let f = z.1 in omega arith) in subst (λ i. (i < n) × (Holds (put w.pass t p i) l ⊎ IsHanded (spots i) l)) uv
+                        (first_sleeps.0, inr (subst (λ s. IsHanded s l) (sym (put_same w.spot u (owed l k))) (refl, z.0))))
                     token;
                 parks = more;
                 tried = λ e some. (
@@ -137,7 +146,8 @@ module _ {V : Type 0} (n m : ℕ) (w : LockWorld V) (ok : Kept n m w) where
         let me = ok.threads u in
         let stays : (j : ℕ) → LockFits n w.pass spots j (w.word j) (w.root j) = (λ j. let a = ok.locks j in record {
           once = a.once;
-          had = λ v e. let h = a.had v e in (h.0, ⊎_elim {C = Holds (w.pass v) j ⊎ IsHanded (spots v) j} inl (λ g. inr (hands_on u (lying l k) j (λ i. subst (λ z. IsHanded z j) debtor_waits i) v g)) h.1);
+          had = λ v e. let h = a.had v e in (h.0, ⊎_elim {C = Holds (w.pass v) j ⊎ IsHanded (spots v) j} inl
+              (λ g. inr (hands_on u (lying l k) j (λ i. subst (λ z. IsHanded z j) debtor_waits i) v g)) h.1);
           parks = a.parks;
           tried = λ e some. let h = a.tried e some in (h.0, (h.1.0, h.1.1, out_on u (lying l k) (lying_out l k) h.0 h.1.2));
         }) in
@@ -150,8 +160,10 @@ module _ {V : Type 0} (n m : ℕ) (w : LockWorld V) (ok : Kept n m w) where
                 holds = me.holds;
                 found = me.found;
                 spot = (debtor_fits.0, debtor_fits.2);
-                in_line = λ j. put_elim (λ z. Contains z.line u → lying l k ≡ queued j) w.root l q j (λ _ h. absurd (let f : owed l k ≡ queued l = sym debtor_waits ∙ me.in_line l h in cc)) (λ _ h. absurd (let f : owed l k ≡ queued j = sym debtor_waits ∙ me.in_line j h in cc));
-                is_owed = λ j c. put_elim (λ z. z.owes ≡ Some (u, c) → lying l k ≡ owed j c) w.root l q j (λ _ h. absurd (no_debt None (u, c) refl h)) (λ jl h. absurd (jl (let f : owed j c ≡ owed l k = sym (me.is_owed j c h) ∙ debtor_waits in cc)));
+                in_line = λ j. put_elim (λ z. Contains z.line u → lying l k ≡ queued j) w.root l q j (λ _ h. absurd (let f : owed l k ≡ queued l = sym debtor_waits ∙ me.in_line l h in cc))
+                    (λ _ h. absurd (let f : owed l k ≡ queued j = sym debtor_waits ∙ me.in_line j h in cc));
+                is_owed = λ j c. put_elim (λ z. z.owes ≡ Some (u, c) → lying l k ≡ owed j c) w.root l q j (λ _ h. absurd (no_debt None (u, c) refl h))
+                    (λ jl h. absurd (jl (let f : owed j c ≡ owed l k = sym (me.is_owed j c h) ∙ debtor_waits in cc)));
                 handed = λ j h. me.handed j (subst (λ z. IsHanded z j) (sym debtor_waits) h);
               }))
               (λ vu. thread_on n m w.word w.word w.root root v (w.pass v) (w.spot v) (λ k e. e) (λ k _ e. e)
@@ -224,7 +236,8 @@ module _ {V : Type 0} (n m : ℕ) (w : LockWorld V) (ok : Kept n m w) where
                   once = (ok.locks l).once;
                   had = λ v e. let tv : t ≡ v = omega arith in (
                     subst (λ z. z < n) tv lies_fits.0.0,
-                    inl (subst (λ z. Holds (put w.pass t p z) l) tv (subst (λ (z : LockPassView V). Holds z l) (sym (put_same w.pass t p)) (subst IsHeld (sym (get_or-set_same xs l Held NotHeld long)) tt))),
+                    inl (subst (λ z. Holds (put w.pass t p z) l) tv (subst (λ (z : LockPassView V). Holds z l) (sym (put_same w.pass t p))
+                        (subst IsHeld (sym (get_or-set_same xs l Held NotHeld long)) tt))),
                   );
                   parks = (ok.locks l).parks;
                   tried = λ e _. absurd (omega arith);

@@ -112,12 +112,14 @@ module _ {V : Type 0} (n : ℕ) where
           (λ a. inl (put_elim (λ y. Holds y k) pass t p v (λ vt. holds (subst (λ z. Holds (pass z) k) vt a)) (λ _. a))) (λ a. inr (hands v a)) h.1,
     );
     parks = ok.parks;
-    tried = λ e some. let h = ok.tried e some in (h.0, (h.1.0, put_elim (λ y. y.aim ≡ Some k) pass t p h.0 (λ vt. aims e (subst (λ z. (pass z).aim ≡ Some k) vt h.1.1)) (λ _. h.1.1), outs e h.0 h.1.1 h.1.2));
+    tried = λ e some. let h = ok.tried e some in (h.0, (h.1.0, put_elim (λ y. y.aim ≡ Some k) pass t p h.0 (λ vt. aims e (subst (λ z. (pass z).aim ≡ Some k) vt h.1.1)) (λ _. h.1.1), outs e
+        h.0 h.1.1 h.1.2));
   }
 
   -- ---- the whole world
   module _ (m : ℕ) (w : LockWorld V) (word : ℕ → LockWord) (root : ℕ → LockRootView) (spots : ℕ → Spot) where
-    pub each_thread : (t : ℕ) (p : LockPassView V) → ThreadFits n word root m t p (spots t) → ((v : ℕ) → v ≢ t → ThreadFits n word root m v (w.pass v) (spots v)) → (v : ℕ) → ThreadFits n word root m v (put w.pass t p v) (spots v)
+    pub each_thread : (t : ℕ) (p : LockPassView V) → ThreadFits n word root m t p (spots t) → ((v : ℕ) → v ≢ t → ThreadFits n word root m v (w.pass v) (spots v)) → (v : ℕ)
+        → ThreadFits n word root m v (put w.pass t p v) (spots v)
     each_thread t p mine others v = put_elim (λ y. ThreadFits n word root m v y (spots v)) w.pass t p v (λ e. subst (λ z. ThreadFits n word root m z p (spots z)) (sym e) mine) (others v)
 
   module _ (pass : ℕ → LockPassView V) (spots : ℕ → Spot) (w : LockWorld V) (l : ℕ) (x : LockWord) (q : LockRootView) where
@@ -128,4 +130,5 @@ module _ {V : Type 0} (n : ℕ) where
     each_root here elsewhere k = put_elim (λ y. LockFits n pass spots k (w.word k) y) w.root l q k (λ e. subst (λ z. LockFits n pass spots z (w.word z) q) (sym e) here) (elsewhere k)
 
     pub each_both : LockFits n pass spots l x q → ((k : ℕ) → k ≢ l → LockFits n pass spots k (w.word k) (w.root k)) → (k : ℕ) → LockFits n pass spots k (put w.word l x k) (put w.root l q k)
-    each_both here elsewhere k = by_test (λ b. LockFits n pass spots k (if b then x else w.word k) (if b then q else w.root k)) k l (λ e. subst (λ z. LockFits n pass spots z x q) (sym e) here) (elsewhere k)
+    each_both here elsewhere k = by_test (λ b. LockFits n pass spots k (if b then x else w.word k) (if b then q else w.root k)) k l
+        (λ e. subst (λ z. LockFits n pass spots z x q) (sym e) here) (elsewhere k)

@@ -50,7 +50,8 @@ abbrev pub Leaves : {V : Type 0} → PassView (LockPassView V) → ℕ → LockP
 Leaves {V} p l own y = (own ≡ placed p.own l Moving) × ((pl : Place V) → get_elem? p.own.places l ≡ some pl → y ≡ in_slot pl)
 
 module _ {V Q : Type 0} (keeps : ℕ → V → Type 0) (grows : V → V → Type 0) (share : ℕ → V → Q) (size : Size) (xs : List V) where
-  module _ (t l : ℕ) (here : l < size.locks) (own : LockPassView V) (holds : Holds own l) (w : LockWorld V) (ws : List ℕ) (hs : List (maybe.Option (Option V))) (ok : Fits keeps grows share size w ws hs)
+  module _ (t l : ℕ) (here : l < size.locks) (own : LockPassView V) (holds : Holds own l) (w : LockWorld V) (ws : List ℕ) (hs : List (maybe.Option (Option V)))
+      (ok : Fits keeps grows share size w ws hs)
       (fit : (t < size.threads) × (w.pass t ≡ own)) where
     has : Holds (w.pass t) l
     has = subst (λ z. Holds z l) (sym fit.1) holds
@@ -68,10 +69,12 @@ module _ {V Q : Type 0} (keeps : ℕ → V → Type 0) (grows : V → V → Type
         words = record { wide = ok.words.wide; words = ok.words.words; letters = ok.words.letters };
         kept = record {
           threads = each_thread size.threads size.locks w w.word w.root w.spot t (placed (w.pass t) l pl)
-              (let a = ok.kept.threads t in record { long = a.long; aims = a.aims; holds = a.holds; found = a.found; spot = a.spot; in_line = a.in_line; is_owed = a.is_owed; handed = a.handed }) (λ v _. ok.kept.threads v);
+              (let a = ok.kept.threads t in record { long = a.long; aims = a.aims; holds = a.holds; found = a.found; spot = a.spot; in_line = a.in_line; is_owed = a.is_owed;
+                  handed = a.handed }) (λ v _. ok.kept.threads v);
           locks = λ k. lock_stays size.threads k (w.word k) (w.root k) w.pass w.spot t (placed (w.pass t) l pl) w.spot (ok.kept.locks k) (λ h. h) (λ v h. h) (λ _ a. a) (λ _ v _ h. h);
         };
-        lawful = subst (IsLawful keeps grows share size.threads size.locks (put w.pass t (placed (w.pass t) l pl))) (sym is) (moves_value keeps grows share size.threads size.locks w.pass hs ok.lawful t fit.0 l here has only pl may);
+        lawful = subst (IsLawful keeps grows share size.threads size.locks (put w.pass t (placed (w.pass t) l pl))) (sym is)
+            (moves_value keeps grows share size.threads size.locks w.pass hs ok.lawful t fit.0 l here has only pl may);
       };
       pass = (fit.0, put_same w.pass t (placed (w.pass t) l pl) ∙ ap (λ z. placed z l pl) fit.1);
       passes = λ u y ne h. (h.0, put_other w.pass t (placed (w.pass t) l pl) u ne ∙ h.1);

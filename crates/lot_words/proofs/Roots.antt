@@ -31,7 +31,8 @@ use Rattle.lot_words.proofs.Valuing.{same_values}
 
 -- ---- what each step tells
 abbrev pub Passes : {V : Type 0} → PassView (LockPassView V) → RootView LockRootView → List ℕ → Bool → Bool → PassView (LockPassView V) → RootView LockRootView → Type 0
-Passes {V} p q line fair more p' q' = ((y : V) → IsIn p.own q.key y → Notes p (let_go p.own q.key y) (Makes (Pass p.thread q.key fair more) (Sleeper (first line))) p') × (q' ≡ record q { own = passed_root q.own fair line })
+Passes {V} p q line fair more p' q' = ((y : V) → IsIn p.own q.key y → Notes p (let_go p.own q.key y) (Makes (Pass p.thread q.key fair more) (Sleeper (first line))) p')
+    × (q' ≡ record q { own = passed_root q.own fair line })
 
 abbrev pub Pays : RootView LockRootView → ℕ → ℕ → RootView LockRootView → Type 0
 Pays q u k q' = RootNotes q (paid_root q.own) (Posts q.key u k) q'
@@ -68,7 +69,8 @@ module _ {V Q : Type 0} (keeps : ℕ → V → Type 0) (grows : V → V → Type
     found = ok.words.words l root.0
 
     -- the world changes in the pass, notices, words and the root
-    turn_both : (x : ℕ) (then : PassView (LockPassView V) → RootView LockRootView → Type 0) (f : LockPassView V → LockPassView V) (g : LockRootView → LockRootView) (spots : ℕ → Spot) (word : ℕ → LockWord)
+    turn_both : (x : ℕ) (then : PassView (LockPassView V) → RootView LockRootView → Type 0) (f : LockPassView V → LockPassView V) (g : LockRootView → LockRootView) (spots : ℕ → Spot)
+        (word : ℕ → LockWord)
         → Fits keeps grows share size (record { pass = put w.pass t (f (w.pass t)); spot = spots; word = word; root = put w.root l (g (w.root l)) }) (set ws (word_at l) x) hs → (a : Access)
         → IsMade (scheme keeps grows share size xs) (2 * t) w a (record { pass = put w.pass t (f (w.pass t)); spot = spots; word = word; root = put w.root l (g (w.root l)) })
         → ((n : ℕ) → then (pass_after p (f p.own) n a) (record q { own = g q.own })) → BothTurn (scheme keeps grows share size xs) (word_at l) x p q then w ws hs
@@ -94,7 +96,8 @@ module _ {V Q : Type 0} (keeps : ℕ → V → Type 0) (grows : V → V → Type
         let up' : (w.pass t).asleep ≡ false = ap (λ (z : LockPassView V). z.asleep) fit.1 ∙ up in
         both_stay (scheme keeps grows share size xs) (word_at l) x w ws hs ok is p fit (Makes (Park t l) (Saw false))
         (refl, (row_park_not w size.threads size.locks ok.kept t fit.0 up' l here (aim_of ∙ aim) not_both, refl)) q (Parks p q x) root
-        (λ k. subst (λ z. Notes p (parked_pass p.own z) (Makes (Park t l) (Saw z)) (pass_after p p.own k (Makes (Park t l) (Saw false))) × (record q { own = q.own } ≡ record q { own = parked_root q.own t z })) (sym three) ((k, refl), refl))
+        (λ k. subst (λ z. Notes p (parked_pass p.own z) (Makes (Park t l) (Saw z)) (pass_after p p.own k (Makes (Park t l) (Saw false)))
+            × (record q { own = q.own } ≡ record q { own = parked_root q.own t z })) (sym three) ((k, refl), refl))
 
     park_turn : p.own.asleep ≡ false → p.own.aim ≡ Some l → (h b : Bool) → is_owned (w.word l).owner ≡ h → (w.word l).parked ≡ b
         → BothTurn (scheme keeps grows share size xs) (word_at l) (bits_of h b) p q (Parks p q (bits_of h b)) w ws hs
@@ -106,9 +109,11 @@ module _ {V Q : Type 0} (keeps : ℕ → V → Type 0) (grows : V → V → Type
         let letters : letters_of spots ≡ letters_of w.spot = same_letters w.spot t (queued l) (ap letter_of (sym awake_now)) in
         turn_both 3 (Parks p q 3) sleeping (λ z. record z { line = z.line ++ t ∷ [] }) spots w.word
         (record {
-          words = words_stay size w (put w.pass t (sleeping (w.pass t))) spots (put w.root l (record (w.root l) { line = (w.root l).line ++ t ∷ [] })) ws ok.words letters (word_at l) 3 (sym (found ∙ (λ i. bits_of (h i) (b i))));
+          words = words_stay size w (put w.pass t (sleeping (w.pass t))) spots (put w.root l (record (w.root l) { line = (w.root l).line ++ t ∷ [] })) ws ok.words letters (word_at l) 3
+              (sym (found ∙ (λ i. bits_of (h i) (b i))));
           kept = parks_kept size.threads size.locks w ok.kept t fit.0 up' l here held b (aim_of ∙ aim);
-          lawful = same_values keeps grows share size.threads size.locks w.pass hs ok.lawful t (sleeping (w.pass t)) (λ k. record { down = λ h. h; up = λ h. h; places = refl; seen = refl }) (refl, refl);
+          lawful = same_values keeps grows share size.threads size.locks w.pass hs ok.lawful t (sleeping (w.pass t)) (λ k. record { down = λ h. h; up = λ h. h; places = refl; seen = refl })
+              (refl, refl);
         })
         (Makes (Park t l) (Saw true)) (refl, (row_park w size.threads size.locks ok.kept t fit.0 up' l here held (aim_of ∙ aim) b, letters)) (λ k. ((k, refl), refl))
     park_turn up aim false false h b = park_misses up aim 0 (sym (found ∙ (λ i. bits_of (h i) (b i)))) (λ i. h i && b i) refl
@@ -116,7 +121,8 @@ module _ {V Q : Type 0} (keeps : ℕ → V → Type 0) (grows : V → V → Type
     park_turn up aim true false h b = park_misses up aim 1 (sym (found ∙ (λ i. bits_of (h i) (b i)))) (λ i. h i && b i) refl
 
     -- ---- passing on
-    module _ (itself : (x : V) → grows x x) (on : (a b c : V) → grows a b → grows b c → grows a c) (up : p.own.asleep ≡ false) (aim : p.own.aim ≡ None) (holds : HoldsParked p.own l) (y : V) (lies : IsIn p.own l y)
+    module _ (itself : (x : V) → grows x x) (on : (a b c : V) → grows a b → grows b c → grows a c) (up : p.own.asleep ≡ false) (aim : p.own.aim ≡ None) (holds : HoldsParked p.own l) (y : V)
+        (lies : IsIn p.own l y)
         (paid : q.own.owes ≡ None) where
       up' : (w.pass t).asleep ≡ false
       up' = ap (λ (z : LockPassView V). z.asleep) fit.1 ∙ up
@@ -175,7 +181,8 @@ module _ {V Q : Type 0} (keeps : ℕ → V → Type 0) (grows : V → V → Type
           let letters : letters_of spots ≡ letters_of w.spot = same_letters w.spot u (owed l 0) (ap letter_of (sym waits)) in
           turn_both x (Passes p q (u ∷ us) false more) (λ z. let_go z l y) (λ r. record r { line = us; owes = Some (u, 0) }) spots (put w.word l z)
           (record {
-            words = words_after size w (put w.pass t (let_go (w.pass t) l y)) spots (put w.root l (record (w.root l) { line = us; owes = Some (u, 0) })) ws ok.words letters l here z x (is ∙ left_word more u);
+            words = words_after size w (put w.pass t (let_go (w.pass t) l y)) spots (put w.root l (record (w.root l) { line = us; owes = Some (u, 0) })) ws ok.words letters l here z x
+                (is ∙ left_word more u);
             kept = passes_kept size.threads size.locks w ok.kept t l fit.0 here up' has u us line' owes_none y 0 0 more (inl (refl, refl)) (more_left u us more says);
             lawful = lawful';
           })
@@ -184,7 +191,8 @@ module _ {V Q : Type 0} (keeps : ℕ → V → Type 0) (grows : V → V → Type
           (left_told (u ∷ us) false more line)
 
       -- the lock is handed to the first, by a load
-      load_turn : (more : Bool) (u : ℕ) (us : List ℕ) → q.own.line ≡ u ∷ us → BothTurn (scheme keeps grows share size xs) (word_at l) (get_or ws (word_at l) 0) p q (Passes p q (u ∷ us) true more) w ws hs
+      load_turn : (more : Bool) (u : ℕ) (us : List ℕ) → q.own.line ≡ u ∷ us → BothTurn (scheme keeps grows share size xs) (word_at l) (get_or ws (word_at l) 0) p q
+          (Passes p q (u ∷ us) true more) w ws hs
       load_turn more u us line =
           let z : LockWord = record { owner = suc u; parked = (w.word l).parked } in
           let line' = says_now (u ∷ us) line in
@@ -193,7 +201,8 @@ module _ {V Q : Type 0} (keeps : ℕ → V → Type 0) (grows : V → V → Type
           let letters : letters_of spots ≡ letters_of w.spot = same_letters w.spot u (owed l 1) (ap letter_of (sym waits)) in
           turn_both (get_or ws (word_at l) 0) (Passes p q (u ∷ us) true more) (λ z. let_go z l y) (λ r. record r { line = us; owes = Some (u, 1) }) spots (put w.word l z)
           (record {
-            words = words_after size w (put w.pass t (let_go (w.pass t) l y)) spots (put w.root l (record (w.root l) { line = us; owes = Some (u, 1) })) ws ok.words letters l here z (get_or ws (word_at l) 0)
+            words = words_after size w (put w.pass t (let_go (w.pass t) l y)) spots (put w.root l (record (w.root l) { line = us; owes = Some (u, 1) })) ws ok.words letters l here z
+                (get_or ws (word_at l) 0)
                 (found ∙ ap (λ o. bits_of (is_owned o) (w.word l).parked) own_is);
             kept = passes_kept size.threads size.locks w ok.kept t l fit.0 here up' has u us line' owes_none y 1 (suc u) (w.word l).parked (inr (refl, refl)) (λ _. parked);
             lawful = lawful';
@@ -202,20 +211,25 @@ module _ {V Q : Type 0} (keeps : ℕ → V → Type 0) (grows : V → V → Type
           (refl, (row_pass_fair w size.threads size.locks ok.kept t fit.0 up' l here has (aim_of ∙ aim) y u us line' parked owes_none more, letters))
           (left_told (u ∷ us) true more line)
 
-  pub parks : (p : PassView (LockPassView V)) (q : RootView LockRootView) → p.own.asleep ≡ false → p.own.aim ≡ Some q.key → AllowsBoth (scheme keeps grows share size xs) (word_at q.key) (λ n. n) p q (Parks p q)
+  pub parks : (p : PassView (LockPassView V)) (q : RootView LockRootView) → p.own.asleep ≡ false → p.own.aim ≡ Some q.key
+      → AllowsBoth (scheme keeps grows share size xs) (word_at q.key) (λ n. n) p q (Parks p q)
   parks p q up aim w ws hs ok fit root small =
       let n : bits_of (is_owned (w.word q.key).owner) (w.word q.key).parked ≡ get_or ws (word_at q.key) 0 = sym (ok.words.words q.key root.0) in
-      subst (λ n. BothTurn (scheme keeps grows share size xs) (word_at q.key) n p q (Parks p q n) w ws hs) n (park_turn p q w ws hs ok fit root up aim (is_owned (w.word q.key).owner) (w.word q.key).parked refl refl)
+      subst (λ n. BothTurn (scheme keeps grows share size xs) (word_at q.key) n p q (Parks p q n) w ws hs) n
+          (park_turn p q w ws hs ok fit root up aim (is_owned (w.word q.key).owner) (w.word q.key).parked refl refl)
 
-  module _ (itself : (x : V) → grows x x) (on : (a b c : V) → grows a b → grows b c → grows a c) (p : PassView (LockPassView V)) (q : RootView LockRootView) (up : p.own.asleep ≡ false) (aim : p.own.aim ≡ None)
+  module _ (itself : (x : V) → grows x x) (on : (a b c : V) → grows a b → grows b c → grows a c) (p : PassView (LockPassView V)) (q : RootView LockRootView) (up : p.own.asleep ≡ false)
+      (aim : p.own.aim ≡ None)
       (holds : HoldsParked p.own q.key) (y : V) (lies : IsIn p.own q.key y) (paid : q.own.owes ≡ None) (more : Bool) where
-    pub stores : SaysMore q.own.line more → (x : ℕ) → x ≡ word_left (first q.own.line) more → AllowsBoth (scheme keeps grows share size xs) (word_at q.key) (λ _. x) p q (λ _. Passes p q q.own.line false more)
+    pub stores : SaysMore q.own.line more → (x : ℕ) → x ≡ word_left (first q.own.line) more
+        → AllowsBoth (scheme keeps grows share size xs) (word_at q.key) (λ _. x) p q (λ _. Passes p q q.own.line false more)
     stores says x is w ws hs ok fit root small = store_turn p q w ws hs ok fit root itself on up aim holds y lies paid more q.own.line refl says x is
 
     pub loads : (first q.own.line ≡ None → ⊥) → AllowsBoth (scheme keeps grows share size xs) (word_at q.key) (λ n. n) p q (λ _. Passes p q q.own.line true more)
     loads some w ws hs ok fit root small = by_first q.own.line refl some
       where
-        by_first : (line : List ℕ) → q.own.line ≡ line → (first line ≡ None → ⊥) → BothTurn (scheme keeps grows share size xs) (word_at q.key) (get_or ws (word_at q.key) 0) p q (Passes p q line true more) w ws hs
+        by_first : (line : List ℕ) → q.own.line ≡ line → (first line ≡ None → ⊥) → BothTurn (scheme keeps grows share size xs) (word_at q.key) (get_or ws (word_at q.key) 0) p q
+            (Passes p q line true more) w ws hs
         by_first [] is some = absurd (some refl)
         by_first (u ∷ us) is some = load_turn p q w ws hs ok fit root itself on up aim holds y lies paid more u us is
 

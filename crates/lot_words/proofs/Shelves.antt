@@ -51,4 +51,5 @@ module _ {V : Type 0} where
   same_values_back (x ∷ xs) [] e = absurd (cons_none (Some x) (filled xs) e) where
     cons_none : (s : Option V) (ss : List (Option V)) → s ∷ ss ≡ [] → ⊥
     cons_none s ss e = cc
-  same_values_back (x ∷ xs) (y ∷ ys) e = ap (λ z. z ∷ xs) (some_one x y (heads (Some x) (Some y) (filled xs) (filled ys) e)) ∙ ap (λ zs. y ∷ zs) (same_values_back xs ys (tails (Some x) (Some y) (filled xs) (filled ys) e))
+  same_values_back (x ∷ xs) (y ∷ ys) e = ap (λ z. z ∷ xs) (some_one x y (heads (Some x) (Some y) (filled xs) (filled ys) e))
+      ∙ ap (λ zs. y ∷ zs) (same_values_back xs ys (tails (Some x) (Some y) (filled xs) (filled ys) e))

@@ -76,7 +76,8 @@ abbrev pub Marks : {V : Type 0} → PassView (LockPassView V) → ℕ → ℕ �
 Marks p l n q = MatchBool (n == 1) (Notes p p.own (Makes (Mark p.thread l) Done) q) ((x : ℕ) × (x ≢ 1) × Notes p p.own (Finds p.thread l x) q)
 
 abbrev pub Frees : {V : Type 0} → PassView (LockPassView V) → ℕ → ℕ → PassView (LockPassView V) → Type 0
-Frees {V} p l n q = MatchBool (n == 1) ((y : V) → IsIn p.own l y → Notes p (let_go p.own l y) (Makes (Free p.thread l) (Saw true)) q) (Notes p (found_parked p.own l) (Makes (Free p.thread l) (Saw false)) q)
+Frees {V} p l n q = MatchBool (n == 1) ((y : V) → IsIn p.own l y → Notes p (let_go p.own l y) (Makes (Free p.thread l) (Saw true)) q)
+    (Notes p (found_parked p.own l) (Makes (Free p.thread l) (Saw false)) q)
 
 abbrev pub Parks : {V : Type 0} → PassView (LockPassView V) → RootView LockRootView → ℕ → PassView (LockPassView V) → RootView LockRootView → Type 0
 Parks p q n p' q' = Notes p (parked_pass p.own (n == 3)) (Makes (Park p.thread q.key) (Saw (n == 3))) p' × (q' ≡ record q { own = parked_root q.own p.thread (n == 3) })
@@ -84,7 +85,8 @@ Parks p q n p' q' = Notes p (parked_pass p.own (n == 3)) (Makes (Park p.thread q
 -- ---- words and letters after a step
 module _ {V : Type 0} (size : Size) (w : LockWorld V) (pass : ℕ → LockPassView V) (spots : ℕ → Spot) (root : ℕ → LockRootView) (ws : List ℕ) (ok : WordsFit word_of (sizes_of size) w ws)
     (same : letters_of spots ≡ letters_of w.spot) where
-  pub words_after : (l : ℕ) → l < size.locks → (y : LockWord) (x : ℕ) → x ≡ word_of y → WordsFit word_of (sizes_of size) (record { pass = pass; spot = spots; word = put w.word l y; root = root }) (set ws (word_at l) x)
+  pub words_after : (l : ℕ) → l < size.locks → (y : LockWord) (x : ℕ) → x ≡ word_of y → WordsFit word_of (sizes_of size)
+      (record { pass = pass; spot = spots; word = put w.word l y; root = root }) (set ws (word_at l) x)
   words_after l here y x is = word_written word_of (sizes_of size) w (record { pass = pass; spot = spots; word = put w.word l y; root = root }) ws ok l x (omega arith, omega arith)
       (is ∙ sym (ap word_of (put_same w.word l y))) (λ d ne. ap word_of (put_other w.word l y d ne)) same
 
@@ -94,8 +96,10 @@ module _ {V : Type 0} (size : Size) (w : LockWorld V) (pass : ℕ → LockPassVi
 
 module _ {V Q : Type 0} (keeps : ℕ → V → Type 0) (grows : V → V → Type 0) (share : ℕ → V → Q) (size : Size) (xs : List V) where
   -- ---- a pass's turn, where the world changes in the pass and in words
-  module _ (i x : ℕ) (p : PassView (LockPassView V)) (then : PassView (LockPassView V) → Type 0) (w : LockWorld V) (ws : List ℕ) (hs : List (maybe.Option (Option V))) (fit : (p.thread < size.threads) × (w.pass p.thread ≡ p.own)) where
-    pub turn_at : (f : LockPassView V → LockPassView V) (word : ℕ → LockWord) → Fits keeps grows share size (record w { pass = put w.pass p.thread (f (w.pass p.thread)); word = word }) (set ws i x) hs → (a : Access)
+  module _ (i x : ℕ) (p : PassView (LockPassView V)) (then : PassView (LockPassView V) → Type 0) (w : LockWorld V) (ws : List ℕ) (hs : List (maybe.Option (Option V)))
+      (fit : (p.thread < size.threads) × (w.pass p.thread ≡ p.own)) where
+    pub turn_at : (f : LockPassView V → LockPassView V) (word : ℕ → LockWord) → Fits keeps grows share size (record w { pass = put w.pass p.thread (f (w.pass p.thread)); word = word })
+        (set ws i x) hs → (a : Access)
         → IsMade (scheme keeps grows share size xs) (2 * p.thread) w a (record w { pass = put w.pass p.thread (f (w.pass p.thread)); word = word }) → ((n : ℕ) → then (pass_after p (f p.own) n a))
         → PassTurn (scheme keeps grows share size xs) i x p then w ws hs
     turn_at f word fits a made told = record {
@@ -111,7 +115,8 @@ module _ {V Q : Type 0} (keeps : ℕ → V → Type 0) (grows : V → V → Type
     }
 
   -- ---- take and try
-  module _ (itself : (x : V) → grows x x) (p : PassView (LockPassView V)) (l : ℕ) (here : l < size.locks) (up : p.own.asleep ≡ false) (w : LockWorld V) (ws : List ℕ) (hs : List (maybe.Option (Option V)))
+  module _ (itself : (x : V) → grows x x) (p : PassView (LockPassView V)) (l : ℕ) (here : l < size.locks) (up : p.own.asleep ≡ false) (w : LockWorld V) (ws : List ℕ)
+      (hs : List (maybe.Option (Option V)))
       (ok : Fits keeps grows share size w ws hs) (fit : (p.thread < size.threads) × (w.pass p.thread ≡ p.own)) where
     abbrev t : ℕ
     t = p.thread
@@ -143,7 +148,8 @@ module _ {V Q : Type 0} (keeps : ℕ → V → Type 0) (grows : V → V → Type
 
       -- the pass gets the lock, with the value that it finds
       got_turn : (aims : Aims p.own l) (a : Access) (then : PassView (LockPassView V) → Type 0) (x : ℕ) → x ≡ bit_or (get_or ws (word_at l) 0) 1
-          → IsMade (scheme keeps grows share size xs) (2 * t) w a (record w { pass = put w.pass t (gripped (w.pass t) l value); word = put w.word l (record { owner = suc t; parked = (w.word l).parked }) })
+          → IsMade (scheme keeps grows share size xs) (2 * t) w a (record w { pass = put w.pass t (gripped (w.pass t) l value);
+              word = put w.word l (record { owner = suc t; parked = (w.word l).parked }) })
           → ((n : ℕ) → then (pass_after p (gripped p.own l value) n a)) → PassTurn (scheme keeps grows share size xs) (word_at l) x p then w ws hs
       got_turn aims a then x is made told =
           let y : LockWord = record { owner = suc t; parked = (w.word l).parked } in
@@ -153,9 +159,11 @@ module _ {V Q : Type 0} (keeps : ℕ → V → Type 0) (grows : V → V → Type
             words = words_after size w (put w.pass t p1) w.spot w.root ws ok.words refl l here y x (is ∙ (ap (λ z. bit_or z 1) free_word ∙ or_one (w.word l).parked));
             kept = gets_kept size.threads size.locks w ok.kept t fit.0 up' l here unheld (aims' aims) value;
             lawful = gets_value keeps grows share size.threads size.locks w.pass hs ok.lawful t fit.0 l here itself nobody p1
-                (gripped_same keeps grows share size.threads size.locks w.pass hs ok.lawful t fit.0 l here value) (gripped_wide keeps grows share size.threads size.locks w.pass hs ok.lawful t fit.0 l here value)
+                (gripped_same keeps grows share size.threads size.locks w.pass hs ok.lawful t fit.0 l here value)
+                    (gripped_wide keeps grows share size.threads size.locks w.pass hs ok.lawful t fit.0 l here value)
                 (subst IsHeld (sym (get_or-set_same (w.pass t).holds l Held NotHeld (lock_near size.threads size.locks w ok.kept t fit.0 up' l here))) tt)
-                (gripped_lies keeps grows share size.threads size.locks w.pass hs ok.lawful t fit.0 l here value) (gripped_seen keeps grows share size.threads size.locks w.pass hs ok.lawful t fit.0 l here value);
+                (gripped_lies keeps grows share size.threads size.locks w.pass hs ok.lawful t fit.0 l here value)
+                    (gripped_seen keeps grows share size.threads size.locks w.pass hs ok.lawful t fit.0 l here value);
           })
           a made told
 
@@ -182,7 +190,8 @@ module _ {V Q : Type 0} (keeps : ℕ → V → Type 0) (grows : V → V → Type
         (record {
           words = words_stay size w (put w.pass t (wishing (w.pass t) l)) w.spot w.root ws ok.words refl (word_at l) x (same_word held x refl);
           kept = wants_kept size.threads size.locks w ok.kept t fit.0 up' l here held (aims' aims);
-          lawful = same_values keeps grows share size.threads size.locks w.pass hs ok.lawful t (wishing (w.pass t) l) (λ k. record { down = λ h. h; up = λ h. h; places = refl; seen = refl }) (refl, refl);
+          lawful = same_values keeps grows share size.threads size.locks w.pass hs ok.lawful t (wishing (w.pass t) l) (λ k. record { down = λ h. h; up = λ h. h; places = refl; seen = refl })
+              (refl, refl);
         })
         (Makes (Take t l) (Saw false))
         (refl, (row_take_held w size.threads size.locks ok.kept t fit.0 up' l here held (aims' aims), refl))
@@ -229,7 +238,8 @@ module _ {V Q : Type 0} (keeps : ℕ → V → Type 0) (grows : V → V → Type
     -- the word is x, and not the number that was asked for
     misses : (asked x : ℕ) → x ≡ get_or ws (word_at l) 0 → x ≢ asked
         → PassTurn (scheme keeps grows share size xs) (word_at l) x p (λ q. (y : ℕ) × (y ≢ asked) × Notes p p.own (Finds p.thread l y) q) w ws hs
-    misses asked x is ne = pass_stays (scheme keeps grows share size xs) (word_at l) x w ws hs ok is p fit (Finds p.thread l x) (refl, (is ∙ found_of, refl)) (λ q. (y : ℕ) × (y ≢ asked) × Notes p p.own (Finds p.thread l y) q) (λ k. (x, ne, (k, refl)))
+    misses asked x is ne = pass_stays (scheme keeps grows share size xs) (word_at l) x w ws hs ok is p fit (Finds p.thread l x) (refl, (is ∙ found_of, refl))
+        (λ q. (y : ℕ) × (y ≢ asked) × Notes p p.own (Finds p.thread l y) q) (λ k. (x, ne, (k, refl)))
 
     mark_turn : Aims p.own l → (h b : Bool) → is_owned (w.word l).owner ≡ h → (w.word l).parked ≡ b
         → PassTurn (scheme keeps grows share size xs) (word_at l) (either (bits_of h b == 1) 3 (bits_of h b)) p (Marks p l (bits_of h b)) w ws hs
@@ -276,13 +286,15 @@ module _ {V Q : Type 0} (keeps : ℕ → V → Type 0) (grows : V → V → Type
         -- the value stays in the slot of the lock that the pass lets go
         pub left_lawful : IsLawful keeps grows share size.threads size.locks (put w.pass p.thread (let_go (w.pass p.thread) l y)) hs
         left_lawful = leaves_value keeps grows share size.threads size.locks w.pass hs ok.lawful p.thread fit.0 l here has only itself on y lies_of
-            (λ h. subst IsHeld (get_or-set_same (w.pass p.thread).holds l NotHeld NotHeld near_in) h) (let_go_same keeps grows share size.threads size.locks w.pass hs ok.lawful p.thread fit.0 l here y)
+            (λ h. subst IsHeld (get_or-set_same (w.pass p.thread).holds l NotHeld NotHeld near_in) h)
+                (let_go_same keeps grows share size.threads size.locks w.pass hs ok.lawful p.thread fit.0 l here y)
 
         free_turn : (b : Bool) → (w.word l).parked ≡ b
             → PassTurn (scheme keeps grows share size xs) (word_at l) (either (bits_of true b == 1) 0 (bits_of true b)) p (Frees p l (bits_of true b)) w ws hs
         free_turn false b =
             let x : LockWord = record { owner = 0; parked = (w.word l).parked } in
-            let nobody : (w.root l).line ≡ [] = by_line (λ xs. ((xs ≢ []) → (w.word l).parked ≡ true) → xs ≡ []) (w.root l).line (λ _ _. refl) (λ u us _ parks. absurd (let f : true ≡ false = sym (parks (λ e. cc)) ∙ b in cc)) (ok.kept.locks l).parks in
+            let nobody : (w.root l).line ≡ [] = by_line (λ xs. ((xs ≢ []) → (w.word l).parked ≡ true) → xs ≡ []) (w.root l).line (λ _ _. refl)
+                (λ u us _ parks. absurd (let f : true ≡ false = sym (parks (λ e. cc)) ∙ b in cc)) (ok.kept.locks l).parks in
             turn_at (word_at l) 0 p (Frees p l 1) w ws hs fit (λ z. let_go z l y) (put w.word l x)
             (record {
               words = words_after size w (put w.pass p.thread (let_go (w.pass p.thread) l y)) w.spot w.root ws ok.words refl l here x 0 (ap (bits_of false) (sym b));
@@ -312,7 +324,8 @@ module _ {V Q : Type 0} (keeps : ℕ → V → Type 0) (grows : V → V → Type
             }
 
   -- ---- taking where the word is 0
-  module _ (itself : (x : V) → grows x x) (p : PassView (LockPassView V)) (l : ℕ) (here : l < size.locks) (up : p.own.asleep ≡ false) (aims : Aims p.own l) (w : LockWorld V) (ws : List ℕ) (hs : List (maybe.Option (Option V)))
+  module _ (itself : (x : V) → grows x x) (p : PassView (LockPassView V)) (l : ℕ) (here : l < size.locks) (up : p.own.asleep ≡ false) (aims : Aims p.own l) (w : LockWorld V) (ws : List ℕ)
+      (hs : List (maybe.Option (Option V)))
       (ok : Fits keeps grows share size w ws hs) (fit : (p.thread < size.threads) × (w.pass p.thread ≡ p.own)) where
     take_free_turn : (h b : Bool) → is_owned (w.word l).owner ≡ h → (w.word l).parked ≡ b
         → PassTurn (scheme keeps grows share size xs) (word_at l) (either (bits_of h b == 0) 1 (bits_of h b)) p (TakesFree keeps grows share p l (bits_of h b)) w ws hs
@@ -335,12 +348,15 @@ module _ {V Q : Type 0} (keeps : ℕ → V → Type 0) (grows : V → V → Type
 
   pub marks : (p : PassView (LockPassView V)) (l : ℕ) → l < size.locks → p.own.asleep ≡ false → Aims p.own l
       → AllowsPass (scheme keeps grows share size xs) (word_at l) (λ n. either (n == 1) 3 n) p (Marks p l)
-  marks p l here up aims w ws hs ok fit small = subst (λ n. PassTurn (scheme keeps grows share size xs) (word_at l) (either (n == 1) 3 n) p (Marks p l n) w ws hs) (is_found p l here up w ws hs ok fit (is_owned (w.word l).owner) (w.word l).parked refl refl)
+  marks p l here up aims w ws hs ok fit small = subst (λ n. PassTurn (scheme keeps grows share size xs) (word_at l) (either (n == 1) 3 n) p (Marks p l n) w ws hs)
+      (is_found p l here up w ws hs ok fit (is_owned (w.word l).owner) (w.word l).parked refl refl)
       (mark_turn p l here up w ws hs ok fit aims (is_owned (w.word l).owner) (w.word l).parked refl refl)
 
-  pub frees : ((x : V) → grows x x) → ((a b c : V) → grows a b → grows b c → grows a c) → (p : PassView (LockPassView V)) (l : ℕ) → l < size.locks → p.own.asleep ≡ false → p.own.aim ≡ None → Holds p.own l
+  pub frees : ((x : V) → grows x x) → ((a b c : V) → grows a b → grows b c → grows a c) → (p : PassView (LockPassView V)) (l : ℕ) → l < size.locks → p.own.asleep ≡ false → p.own.aim ≡ None
+      → Holds p.own l
       → (y : V) → IsIn p.own l y → AllowsPass (scheme keeps grows share size xs) (word_at l) (λ n. either (n == 1) 0 n) p (Frees p l)
   frees itself on p l here up aim holds y lies w ws hs ok fit small =
       let own = own_is p l here up w ws hs ok fit holds aim in
-      subst (λ n. PassTurn (scheme keeps grows share size xs) (word_at l) (either (n == 1) 0 n) p (Frees p l n) w ws hs) (is_found p l here up w ws hs ok fit true (w.word l).parked (ap is_owned own) refl)
+      subst (λ n. PassTurn (scheme keeps grows share size xs) (word_at l) (either (n == 1) 0 n) p (Frees p l n) w ws hs)
+          (is_found p l here up w ws hs ok fit true (w.word l).parked (ap is_owned own) refl)
       (free_turn p l here up w ws hs ok fit holds aim itself on y lies (w.word l).parked refl)

@@ -27,12 +27,14 @@ same_of k p = record { down = λ h. h; up = λ h. h; places = refl; seen = refl 
 
 module _ {V Q : Type 0} (keeps : ℕ → V → Type 0) (grows : V → V → Type 0) (share : ℕ → V → Q) where
   -- a lock of which all know the same
-  same_value : (n : ℕ) (pass pass' : ℕ → LockPassView V) (homes homes' : List (maybe.Option (Option V))) (k : ℕ) (x : V) → ((u : ℕ) → SameOf k (pass u) (pass' u)) → get_elem? homes' k ≡ get_elem? homes k
+  same_value : (n : ℕ) (pass pass' : ℕ → LockPassView V) (homes homes' : List (maybe.Option (Option V))) (k : ℕ) (x : V) → ((u : ℕ) → SameOf k (pass u) (pass' u))
+      → get_elem? homes' k ≡ get_elem? homes k
       → ValueOk keeps grows share n pass homes k x → ValueOk keeps grows share n pass' homes' k x
   same_value n pass pass' homes homes' k x same home ok = record {
     kept = ok.kept;
     idle = λ nobody. home ∙ ok.idle (λ u h. nobody u ((same u).up h));
-    owned = λ u h. let o = ok.owned u ((same u).down h) in record { place = o.place; place_is = (same u).places ∙ o.place_is; home = home ∙ o.home; found = (same u).seen ∙ o.found; lawful = o.lawful };
+    owned = λ u h. let o = ok.owned u ((same u).down h) in record { place = o.place; place_is = (same u).places ∙ o.place_is; home = home ∙ o.home; found = (same u).seen ∙ o.found;
+        lawful = o.lawful };
     seen = λ u near. let s = ok.seen u near in record { seen = s.seen; seen_is = (same u).seen ∙ s.seen_is; grown = s.grown; mine = λ away. s.mine (λ h. away ((same u).up h)) };
     witness = let w = ok.witness in (w.0, (w.1.0, (same w.0).seen ∙ w.1.1));
   }
@@ -88,7 +90,8 @@ module _ {V Q : Type 0} (keeps : ℕ → V → Type 0) (grows : V → V → Type
       owns_value h = (ok.each l here).owned t h
 
       -- t gets l, which nobody has: it holds it then, and has the value x that it found
-      pub gets_value : ((x : V) → grows x x) → ((u : ℕ) → ¬ Holds (pass u) l) → (p : LockPassView V) → ((k : ℕ) → k ≢ l → SameOf k (pass t) p) → IsAsWide p → Holds p l → IsIn p l (ok.value l) → HasSeen p l (ok.value l)
+      pub gets_value : ((x : V) → grows x x) → ((u : ℕ) → ¬ Holds (pass u) l) → (p : LockPassView V) → ((k : ℕ) → k ≢ l → SameOf k (pass t) p) → IsAsWide p → Holds p l
+          → IsIn p l (ok.value l) → HasSeen p l (ok.value l)
           → IsLawful keeps grows share n m (put pass t p) homes
       gets_value itself nobody p same wide mine lies seen = let e = ok.each l here in let x = ok.value l in
           changes_at l p homes x same (λ k ne. refl) refl wide
@@ -96,14 +99,16 @@ module _ {V Q : Type 0} (keeps : ℕ → V → Type 0) (grows : V → V → Type
             kept = e.kept;
             idle = λ away. absurd (away t (subst (λ z. Holds z l) (sym (put_same pass t p)) mine));
             owned = λ u. put_elim (λ z. Holds z l → OwnerOk keeps grows share homes l u z x) pass t p u
-                (λ _ _. record { place = InSlot x; place_is = lies; home = e.idle nobody; found = seen; lawful = record { kept = e.kept; grown = itself x; others = λ w ne. refl } }) (λ _ h. absurd (nobody u h));
+                (λ _ _. record { place = InSlot x; place_is = lies; home = e.idle nobody; found = seen; lawful = record { kept = e.kept; grown = itself x; others = λ w ne. refl } })
+                    (λ _ h. absurd (nobody u h));
             seen = λ u u_near. put_elim (λ z. SeenOk keeps grows share l u z x) pass t p u (λ _. record { seen = x; seen_is = seen; grown = itself x; mine = λ away. refl }) (λ _. e.seen u u_near);
             witness = (t, (near, subst (λ z. HasSeen z l x) (sym (put_same pass t p)) seen));
           })
 
       module _ (holds : Holds (pass t) l) (only : (u : ℕ) → Holds (pass u) l → u ≡ t) where
         -- t lets l go, with the value y in its slot
-        pub leaves_value : ((x : V) → grows x x) → ((a b c : V) → grows a b → grows b c → grows a c) → (y : V) → IsIn (pass t) l y → (¬ Holds (let_go (pass t) l y) l) → ((k : ℕ) → k ≢ l → SameOf k (pass t) (let_go (pass t) l y))
+        pub leaves_value : ((x : V) → grows x x) → ((a b c : V) → grows a b → grows b c → grows a c) → (y : V) → IsIn (pass t) l y → (¬ Holds (let_go (pass t) l y) l)
+            → ((k : ℕ) → k ≢ l → SameOf k (pass t) (let_go (pass t) l y))
             → IsLawful keeps grows share n m (put pass t (let_go (pass t) l y)) homes
         leaves_value itself on y lies gone same = let e = ok.each l here in let x = ok.value l in let p : LockPassView V = let_go (pass t) l y in
             let o = e.owned t holds in let is : o.place ≡ InSlot y = some-injective o.place (InSlot y) (sym o.place_is ∙ lies) in
@@ -124,13 +129,16 @@ module _ {V Q : Type 0} (keeps : ℕ → V → Type 0) (grows : V → V → Type
         moves_value pl may = let e = ok.each l here in let x = ok.value l in let p : LockPassView V = placed (pass t) l pl in let home : maybe.Option (Option V) = home_of pl in
             let deep : l < length homes = omega (arith, ok.deep) in
             let same : (u : ℕ) → SeenOk keeps grows share l u (pass u) x → SeenOk keeps grows share l u (put pass t p u) x = (λ u s. put_elim (λ z. SeenOk keeps grows share l u z x) pass t p u
-            (λ ut. let r : SeenOk keeps grows share l u (pass t) x = subst (λ z. SeenOk keeps grows share l u (pass z) x) ut s in record { seen = r.seen; seen_is = r.seen_is; grown = r.grown; mine = r.mine }) (λ _. s)) in
-            changes_at l p (set homes l home) x (λ k ne. record { down = λ h. h; up = λ h. h; places = set_else (pass t).places l k pl ne; seen = refl }) (λ k ne. set_else homes l k home ne) (length-set homes l home) (length-set (pass t).places l pl, refl)
+            (λ ut. let r : SeenOk keeps grows share l u (pass t) x = subst (λ z. SeenOk keeps grows share l u (pass z) x) ut s in record
+                { seen = r.seen; seen_is = r.seen_is; grown = r.grown; mine = r.mine }) (λ _. s)) in
+            changes_at l p (set homes l home) x (λ k ne. record { down = λ h. h; up = λ h. h; places = set_else (pass t).places l k pl ne; seen = refl }) (λ k ne. set_else homes l k home ne)
+                (length-set homes l home) (length-set (pass t).places l pl, refl)
             (record {
               kept = e.kept;
               idle = λ away. absurd (away t (subst (λ z. Holds z l) (sym (put_same pass t p)) holds));
               owned = λ u. put_elim (λ z. Holds z l → OwnerOk keeps grows share (set homes l home) l u z x) pass t p u
-                  (λ ut _. record { place = pl; place_is = set_here (pass t).places l pl in_places; home = set_here homes l home deep; found = (e.owned t holds).found; lawful = subst (λ z. MayLie keeps grows share l z x pl) (sym ut) may })
+                  (λ ut _. record { place = pl; place_is = set_here (pass t).places l pl in_places; home = set_here homes l home deep; found = (e.owned t holds).found;
+                      lawful = subst (λ z. MayLie keeps grows share l z x pl) (sym ut) may })
                   (λ ne h. absurd (ne (only u h)));
               seen = λ u u_near. same u (e.seen u u_near);
               witness = let w = e.witness in (w.0, (w.1.0, put_elim (λ z. HasSeen z l x) pass t p w.0 (λ wt. subst (λ z. HasSeen (pass z) l x) wt w.1.1) (λ _. w.1.1)));

@@ -1,4 +1,5 @@
--- What a table of lock words promises: at every moment all of this holds, of one world. Each lock has one owner at most, sleepers are marked, someone is trying, each notice is in one place, the values are lawful, and one legal history has led here.
+-- What a table of lock words promises: at every moment all of this holds, of one world. Each lock has one owner at most, sleepers are
+-- marked, someone is trying, each notice is in one place, the values are lawful, and one legal history has led here.
 use Rattle.std.specs.Prelude.{◌≡◌, ◌≢◌, ◌↔◌, ℕ, ◌<◌, ◌⊎◌, true, false, List, [], Option, Some}
 use Rattle.std.specs.List.{Contains}
 use Rattle.atomic_table.specs.Table.{State}
@@ -18,7 +19,8 @@ use Rattle.lot_words.specs.Values.{IsLawful}
 use Rattle.lot_words.specs.Rule.{sizes_of, part_of, opening_part, scheme}
 
 module _ {V : Type 0} (w : LockWorld V) where
-  -- Letters fit: a thread that was queued and has not collected is in the line of the lock that it wants, or is owed a letter by that root alone, or a letter lies for it; the others have none. A letter tells the truth
+  -- Letters fit: a thread that was queued and has not collected is in the line of the lock that it wants, or is owed a letter by that root
+  -- alone, or a letter lies for it; the others have none. A letter tells the truth
   pub record LettersFit : Type 0 where
     pub asleep : (t : ℕ) → ((w.pass t).asleep ≡ true) ↔ (w.spot t ≢ awake)
     pub aims : (t l : ℕ) → waits_on (w.spot t) ≡ Some l → (w.pass t).aim ≡ Some l
@@ -38,7 +40,8 @@ module _ {V : Type 0} (w : LockWorld V) where
     pub someone_is_trying : (l : ℕ) → (part_of w).locks.held l ≡ false → (part_of w).locks.line l ≢ [] → (t : ℕ) × ((t < n) × ((part_of w).wants t ≡ Some l) × ¬ Contains (w.root l).line t)
     pub found_parked : (l t : ℕ) → HoldsParked (w.pass t) l → (part_of w).locks.parked l ≡ true
 
-pub record Headline {V Q : Type 0} (keeps : ℕ → V → Type 0) (grows : V → V → Type 0) (share : ℕ → V → Q) (size : Size) (xs : List V) (s : State (Option V) (List (Right (LockPassView V) LockRootView))) : Type 0 where
+pub record Headline {V Q : Type 0} (keeps : ℕ → V → Type 0) (grows : V → V → Type 0) (share : ℕ → V → Q) (size : Size) (xs : List V)
+    (s : State (Option V) (List (Right (LockPassView V) LockRootView))) : Type 0 where
   pub world : LockWorld V
   -- each word is a lock's two bits or a thread's letter
   pub words : WordsFit word_of (sizes_of size) world s.words

@@ -9,4 +9,5 @@ pub unreachable-requires : goal.unreachable-requires
 unreachable-requires g c = c.in_default.not-None (c.exchange_value-pass.ensures.found Out c.requires.holds.1)
 
 pub returns-clause-lies : goal.returns-clause-lies
-returns-clause-lies g c = subst (λ (z : PassView _). IsIn z.own c.args.key c.args.value) (sym c.exchange_value-pass.ensures.pass.1) (placed_at c.args.pass.pass.own c.args.key Out (InSlot c.args.value) c.requires.holds.1)
+returns-clause-lies g c = subst (λ (z : PassView _). IsIn z.own c.args.key c.args.value) (sym c.exchange_value-pass.ensures.pass.1)
+    (placed_at c.args.pass.pass.own c.args.key Out (InSlot c.args.value) c.requires.holds.1)

@@ -14,4 +14,5 @@ returns-clause-value g c =
     subst (IsIn c.args.pass.pass.own c.args.key) same c.requires.lies.1
 
 pub returns-clause-out : goal.returns-clause-out
-returns-clause-out g c = subst (λ (z : PassView _). IsOut z.own c.args.key) (sym c.exchange_value-pass.ensures.pass.1) (placed_at c.args.pass.pass.own c.args.key (InSlot c.requires.lies.0) Out c.requires.lies.1)
+returns-clause-out g c = subst (λ (z : PassView _). IsOut z.own c.args.key) (sym c.exchange_value-pass.ensures.pass.1)
+    (placed_at c.args.pass.pass.own c.args.key (InSlot c.requires.lies.0) Out c.requires.lies.1)
