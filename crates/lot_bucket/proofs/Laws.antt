@@ -164,7 +164,8 @@ module _ {R : Type 0} (key : R → ℕ) (line : R → List ℕ) (owes : R → Li
       pairs : (j : ℕ) → has_key j after.places ≡ false → line_of j after.queue ≡ []
       pairs j h =
           elim (eqb_tells k j) [
-            | inl e ↦ absurd (let f : has_key j before.places ≡ true = subst (λ (n : ℕ). has_key n before.places ≡ true) e.1 has in let g : has_key j before.places ≡ false = sym (keys j) ∙ h in let x : true ≡ false = sym f ∙ g in cc)
+            | inl e ↦ absurd (let f : has_key j before.places ≡ true = subst (λ (n : ℕ). has_key n before.places ≡ true) e.1 has in let g : has_key j before.places ≡ false = sym (keys j)
+                ∙ h in let x : true ≡ false = sym f ∙ g in cc)
             | inr e ↦ lines j e.1 ∙ was.pairs j (sym (keys j) ∙ h)
           ]
 

@@ -47,7 +47,8 @@ module _ (size : Size) (passes : List (PassShown CondPassView)) (roots : List (R
         let f : PassShown CondPassView → ℕ = (λ p. get_or (of p.pass.own) c 0) in
         let g : ℕ → ℕ = (λ t. get_or (of (w.pass t)) c 0) in
         sum_is CondRootView size.threads g f passes
-        (All-weaker Fits (λ (p : PassShown CondPassView). (p.pass.thread < size.threads) × (f p ≡ g p.pass.thread)) (λ p fit. (fit.0, sym (ap (λ z. get_or (of z) c 0) fit.1))) passes ended.left.passes_fit)
+        (All-weaker Fits (λ (p : PassShown CondPassView). (p.pass.thread < size.threads) × (f p ≡ g p.pass.thread)) (λ p fit. (fit.0, sym (ap (λ z. get_or (of z) c 0) fit.1))) passes
+        ended.left.passes_fit)
         (held_once CondRootView passes roots ended.left.once) all
 
     pub balanced : (c : ℕ) → called_in passes c ≡ woken_in passes c

@@ -38,8 +38,10 @@ module _ (n m : ℕ) (w : CondWorld) (ok : Kept n m w) where
           woken = me.woken;
           outs = me.outs;
           spot = subst (SpotFits n (put w.root c q) u (w.pass u)) (sym (put_same w.spot u (lying c 0))) (waits_out.0, refl);
-          in_line = λ k. put_elim (λ x. Contains x.line u → spots u ≡ queued k) w.root c q k (λ e h. absurd (not_both (w.spot u) c c 0 (me.in_line c h) waits)) (λ _ h. absurd (not_both (w.spot u) k c 0 (me.in_line k h) waits));
-          is_owed = λ k. put_elim (λ x. Contains x.owes u → spots u ≡ owed k 0) w.root c q k (λ e h. absurd (without_none u owes (ok.conds c).owed_once h)) (λ ne h. absurd (ne (owed_same (w.spot u) k c (me.is_owed k h) waits)));
+          in_line = λ k. put_elim (λ x. Contains x.line u → spots u ≡ queued k) w.root c q k (λ e h. absurd (not_both (w.spot u) c c 0 (me.in_line c h) waits))
+              (λ _ h. absurd (not_both (w.spot u) k c 0 (me.in_line k h) waits));
+          is_owed = λ k. put_elim (λ x. Contains x.owes u → spots u ≡ owed k 0) w.root c q k (λ e h. absurd (without_none u owes (ok.conds c).owed_once h))
+              (λ ne h. absurd (ne (owed_same (w.spot u) k c (me.is_owed k h) waits)));
         })
         (λ v vu. subst (ThreadFits n m (put w.root c q) v (w.pass v)) (sym (put_other w.spot u (lying c 0) v vu))
         (thread_on n m w.root (put w.root c q) v (w.pass v) (w.spot v)
@@ -87,4 +89,5 @@ module _ (n m : ℕ) (w : CondWorld) (ok : Kept n m w) where
             omega (arith, before.ledger, woken, mine, called, taken, gone, was);
       })
       (λ k ne. cond_stays n k (w.word k) (w.root k) w.pass w.spot t p spots (ok.conds k) refl (get_or-set_other xs c k x 0 ne) (λ e. e)
-      (λ v. put_elim (λ y. taken_from k y ≡ taken_from k (w.spot v)) w.spot t awake v (λ vt. sym (taken_else k c ne) ∙ (sym (ap (taken_from k) lies) ∙ ap (λ z. taken_from k (w.spot z)) (sym vt))) (λ _. refl)))
+      (λ v. put_elim (λ y. taken_from k y ≡ taken_from k (w.spot v)) w.spot t awake v (λ vt. sym (taken_else k c ne)
+      ∙ (sym (ap (taken_from k) lies) ∙ ap (λ z. taken_from k (w.spot z)) (sym vt))) (λ _. refl)))

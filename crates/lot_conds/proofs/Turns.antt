@@ -1,5 +1,42 @@
 -- The turns of each call: whatever world the words stand for, its step leads to one that they stand for then.
-use Rattle.std.proofs.Common.{◌≡◌, ◌≢◌, ℕ, zero, suc, ◌+◌, ◌-◌, ◌<◌, ◌≤◌, ◌&&◌, ◌⊎◌, ◌==◌, Bool, true, false, List, [], ◌∷◌, ◌++◌, take, drop, length, get_or, set, refl, sym, ap, subst, ◌∙◌, inl, inr, ⊎_elim, arith, Option, Some, None}
+use Rattle.std.proofs.Common.{
+  ◌≡◌,
+  ◌≢◌,
+  ℕ,
+  zero,
+  suc,
+  ◌+◌,
+  ◌-◌,
+  ◌<◌,
+  ◌≤◌,
+  ◌&&◌,
+  ◌⊎◌,
+  ◌==◌,
+  Bool,
+  true,
+  false,
+  List,
+  [],
+  ◌∷◌,
+  ◌++◌,
+  take,
+  drop,
+  length,
+  get_or,
+  set,
+  refl,
+  sym,
+  ap,
+  subst,
+  ◌∙◌,
+  inl,
+  inr,
+  ⊎_elim,
+  arith,
+  Option,
+  Some,
+  None,
+}
 use Rattle.std.specs.List.{Contains}
 use Rattle.std.proofs.lemmas.List.{append-nil, set-get_or, length-take, take-append-drop, nil_from_length}
 use mathlib.Core.Option as maybe
@@ -31,7 +68,8 @@ use Rattle.lot_conds.proofs.Rows.{same_part, row_enlist, row_look, row_lower, ro
 
 -- ---- a world after an event
 module _ (size : Size) (w : CondWorld) (t : ℕ) (p : CondPassView) (spots : ℕ → Spot) (c : ℕ) (f : Bool) (q : CondRootView) where
-  words_turned : (ws : List ℕ) → Fits size w ws → (x : ℕ) → IsAmongConds size.locks size.conds c → x ≡ flag_word f → letters_of spots ≡ letters_of w.spot → WordsFit flag_word (sizes_of size) (turned w t p spots c f q) (set ws (word_at c) x)
+  words_turned : (ws : List ℕ) → Fits size w ws → (x : ℕ) → IsAmongConds size.locks size.conds c → x ≡ flag_word f → letters_of spots ≡ letters_of w.spot
+      → WordsFit flag_word (sizes_of size) (turned w t p spots c f q) (set ws (word_at c) x)
   words_turned ws ok x among is letters = word_written flag_word (sizes_of size) w (turned w t p spots c f q) ws ok.words c x among
       (is ∙ sym (ap flag_word (put_same w.word c f))) (λ d ne. ap flag_word (put_other w.word c f d ne)) letters
 
@@ -79,7 +117,14 @@ module _ (size : Size) (p : PassView CondPassView) (c : ℕ) (among : IsAmongCon
         pass = fit;
         passes = λ u x ne h. h;
         roots = λ d y h. h;
-        made = (refl, (row_look w size p.thread fit.0 c among (w.pass p.thread) w.spot (calm_in size w ok.kept p.thread p.own fit.1 calm) (get_or ws (word_at c) 0 == 1) (ap (λ z. z == 1) found ∙ flag_found (w.word c)), refl));
+        made = (
+          refl,
+          (
+            row_look w size p.thread fit.0 c among (w.pass p.thread) w.spot (calm_in size w ok.kept p.thread p.own fit.1 calm) (get_or ws (word_at c) 0 == 1)
+                (ap (λ z. z == 1) found ∙ flag_found (w.word c)),
+            refl,
+          ),
+        );
         told = λ k. (k, refl);
       }
 
@@ -173,7 +218,8 @@ module _ (size : Size) (p : PassView CondPassView) (q : RootView CondRootView) w
       }
 
   module _ (calm : IsCalm p.own) (n : ℕ) (more : Bool) (few : IsCallCount n) (says : SaysMoreBehind n q.own.line more) where
-    calls : (w : CondWorld) (ws : List ℕ) (hs : List (maybe.Option (Unit {0}))) → Fits size w ws → (fit : (t < size.threads) × (w.pass t ≡ p.own)) → (root : IsAmongConds size.locks size.conds c × (w.root c ≡ q.own))
+    calls : (w : CondWorld) (ws : List ℕ) (hs : List (maybe.Option (Unit {0}))) → Fits size w ws → (fit : (t < size.threads) × (w.pass t ≡ p.own))
+        → (root : IsAmongConds size.locks size.conds c × (w.root c ≡ q.own))
         → (x : ℕ) → x ≡ flag_word (flag_after_call (w.word c) more q.own.line) → BothTurn (scheme size) (word_at c) x p q (Calls p q n more) w ws hs
     calls w ws hs ok fit root x is =
         let m : ℕ = key_count size in
@@ -207,7 +253,8 @@ module _ (size : Size) (p : PassView CondPassView) (q : RootView CondRootView) w
             refl,
             (
               subst (λ z. IsStep size (part_of w) (Call t c n more) (Count (dequeued_count n z)) (part_of (turned w t p1 spots c (flag_after_call (w.word c) more z) q1))) line'
-                  (row_call w size t fit.0 c root.0 p1 spots (calm_in size w ok.kept t p.own fit.1 calm) n more q1 few (subst (λ z. SaysMoreBehind n z more) (sym line') says) refl (ap (drop n) (sym line'))),
+                  (row_call w size t fit.0 c root.0 p1 spots (calm_in size w ok.kept t p.own fit.1 calm) n more q1 few (subst (λ z. SaysMoreBehind n z more) (sym line') says) refl
+                  (ap (drop n) (sym line'))),
               letters,
             ),
           );
@@ -216,7 +263,8 @@ module _ (size : Size) (p : PassView CondPassView) (q : RootView CondRootView) w
 
     pub call_loads : more ≡ true → 0 < dequeued_count n q.own.line → AllowsBoth (scheme size) (word_at c) (λ n. n) p q (λ _. Calls p q n more)
     call_loads is_more some w ws hs ok fit root small =
-        let kept : flag_after_call (w.word c) more q.own.line ≡ w.word c = flag_kept (w.word c) more q.own.line is_more (λ none_left. let z : length q.own.line ≡ 0 = ap length none_left in absurd (omega arith)) in
+        let kept : flag_after_call (w.word c) more q.own.line ≡ w.word c = flag_kept (w.word c) more q.own.line is_more
+        (λ none_left. let z : length q.own.line ≡ 0 = ap length none_left in absurd (omega arith)) in
         calls w ws hs ok fit root (get_or ws (word_at c) 0) (ok.words.words c root.0 ∙ ap flag_word (sym kept))
 
     pub call_stores : (dequeued_count n q.own.line ≡ 0) ⊎ (more ≡ false) → AllowsBoth (scheme size) (word_at c) (λ _. 0) p q (λ _. Calls p q n more)
@@ -248,7 +296,14 @@ module _ (size : Size) (p : PassView CondPassView) (q : RootView CondRootView) w
         root = (root.0, put_same w.root c q1 ∙ ap (λ z. took_root z q.own.line []) root.1);
         passes = passes_else size w t p1 spots c f q1;
         roots = roots_else size w t p1 spots c f q1;
-        made = (refl, (subst (λ z. IsStep size (part_of w) (Sweep t c) (Count (length z)) (part_of (turned w t p1 spots c f q1))) line (row_sweep w size t fit.0 c root.0 p1 spots lowered' q1 refl refl), letters));
+        made = (
+          refl,
+          (
+            subst (λ z. IsStep size (part_of w) (Sweep t c) (Count (length z)) (part_of (turned w t p1 spots c f q1))) line
+                (row_sweep w size t fit.0 c root.0 p1 spots lowered' q1 refl refl),
+            letters,
+          ),
+        );
         told = λ k. ((k, refl), refl);
       }
 
@@ -332,7 +387,8 @@ module _ (size : Size) (p : PassView CondPassView) where
           world = w';
           fits = record {
             some = ok.some;
-            words = letter_written flag_word (sizes_of size) w w' ws ok.words t 0 fit.0 (sym (ap letter_of (put_same w.spot t awake))) (λ v ne. ap letter_of (put_other w.spot t awake v ne)) (λ d. ap flag_word (λ i. put_again w.word c i d));
+            words = letter_written flag_word (sizes_of size) w w' ws ok.words t 0 fit.0 (sym (ap letter_of (put_same w.spot t awake))) (λ v ne. ap letter_of (put_other w.spot t awake v ne))
+                (λ d. ap flag_word (λ i. put_again w.word c i d));
             kept = collects_kept size.threads m w ok.kept t c near lies;
           };
           pass = (fit.0, put_same w.pass t p1 ∙ ap (λ z. woken_pass z c) fit.1);

@@ -1,4 +1,5 @@
--- What a table of condition words promises: at every moment all of this holds, of one world. Each notice is in one place; nobody is forgotten behind a clear flag; the ledger is balanced; and one legal history has led here.
+-- What a table of condition words promises: at every moment all of this holds, of one world. Each notice is in one place; nobody is
+-- forgotten behind a clear flag; the ledger is balanced; and one legal history has led here.
 use Rattle.std.specs.Prelude.{◌≡◌, ◌≢◌, ◌↔◌, ℕ, ◌+◌, ◌<◌, false, List, [], slice_index, Some}
 use Rattle.std.specs.List.{Contains}
 use Rattle.atomic_table.specs.Table.{State}

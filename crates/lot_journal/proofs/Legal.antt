@@ -29,7 +29,8 @@ module _ {O C R : Type 0} (after : O → C → O) (reply : O → C → R) where
       → IsLegalJournal after reply old → IsLegalJournal after reply new
   legal_called old thread call answer new is legal =
       let joined = legal_joined old.opening old.object new.object old.history (record { thread = thread; call = call; reply = answer } ∷ []) legal (sym is.answered, sym is.object) in
-      subst (λ h. IsLegal after reply new.opening h new.object) (sym is.history) (subst (λ o. IsLegal after reply o (old.history ++ record { thread = thread; call = call; reply = answer } ∷ []) new.object) (sym is.opening) joined)
+      subst (λ h. IsLegal after reply new.opening h new.object) (sym is.history) (subst (λ o. IsLegal after reply o
+      (old.history ++ record { thread = thread; call = call; reply = answer } ∷ []) new.object) (sym is.opening) joined)
 
 -- what a filter leaves out entirely fails its test everywhere
 none_pass : {X : Type 0} (p : X → Bool) (xs : List X) → filter p xs ≡ [] → All (λ x. p x ≡ false) xs

@@ -25,14 +25,16 @@ pairs_long (q ∷ qs) [] e = absurd (omega (arith, e))
 pairs_long (q ∷ qs) (p ∷ ps) e = let rest = pairs_long qs ps (omega (arith, e)) in omega (arith, rest)
 
 -- what stands at a place of both
-pub pairs_at : (qs : List CountsView) (ps : List PermitsView) (i : ℕ) (q : CountsView) (p : PermitsView) → slice_get qs i ≡ Some q → slice_get ps i ≡ Some p → slice_get (pairs qs ps) i ≡ Some (joined q p)
+pub pairs_at : (qs : List CountsView) (ps : List PermitsView) (i : ℕ) (q : CountsView) (p : PermitsView) → slice_get qs i ≡ Some q → slice_get ps i ≡ Some p
+    → slice_get (pairs qs ps) i ≡ Some (joined q p)
 pairs_at [] ps i q p at here = absurd (none_some q at)
 pairs_at (s ∷ qs) [] i q p at here = absurd (none_some p here)
 pairs_at (s ∷ qs) (r ∷ ps) zero q p at here = ap (λ z. Some (joined z r)) (some_one s q at) ∙ ap (λ z. Some (joined q z)) (some_one r p here)
 pairs_at (s ∷ qs) (r ∷ ps) (suc i) q p at here = pairs_at qs ps i q p at here
 
 -- the last of both are of one thread, and so are those before them
-pub pairs_popped : (counted held : ℕ) (qs left : List CountsView) (q : CountsView) (ps rest : List PermitsView) (p : PermitsView) → qs ≡ left ++ q ∷ [] → ps ≡ rest ++ p ∷ [] → length rest ≡ length left
+pub pairs_popped : (counted held : ℕ) (qs left : List CountsView) (q : CountsView) (ps rest : List PermitsView) (p : PermitsView) → qs ≡ left ++ q ∷ [] → ps ≡ rest ++ p ∷ []
+    → length rest ≡ length left
     → ArePaired counted held qs ps → ArePaired counted held left rest × AreOfOne counted held q p
 pairs_popped counted held qs left q ps rest p e f same paired =
     let both : ArePaired counted held (left ++ q ∷ []) (rest ++ p ∷ []) = subst (λ zs. ArePaired counted held zs (rest ++ p ∷ [])) e (subst (λ zs. ArePaired counted held qs zs) f paired) in (

@@ -48,7 +48,8 @@ at_mapped f P (x ∷ xs) holds (suc i) y at = at_mapped f (λ n. P (suc n)) xs (
 -- P holds of one that is mapped
 pub some_after : {A B : Type 0} (f : A → B) (P : B → Type 0) (xs : List A) → Any (λ x. P (f x)) xs → Any P (map f xs)
 some_after f P [] (k, y, near, is, holds) = absurd (omega (arith, near))
-some_after f P (x ∷ xs) some = ⊎_elim {C = Any P (f x ∷ map f xs)} (λ here. (zero, f x, omega arith, refl, here)) (λ later. any_later P (f x) (map f xs) (some_after f P xs later)) (any_cases (λ z. P (f z)) x xs some)
+some_after f P (x ∷ xs) some = ⊎_elim {C = Any P (f x ∷ map f xs)} (λ here. (zero, f x, omega arith, refl, here)) (λ later. any_later P (f x) (map f xs) (some_after f P xs later))
+    (any_cases (λ z. P (f z)) x xs some)
 
 pub any_more : {A : Type 0} (P : A → Type 0) (xs : List A) (x : A) → Any P xs → Any P (xs ++ x ∷ [])
 any_more P xs x (k, y, near, is, holds) = (k, y, grind (arith, common_steps), grind (arith, common_steps), holds)

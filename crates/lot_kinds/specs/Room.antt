@@ -21,7 +21,8 @@ pub record HasRoom {A B C D : Type 0} (count : ℕ) (conds : CondRoomView) (sems
   pub for_roots : IsFor (conds.conds + count) roots
 
 -- empty lists for so many threads and semaphores and for the conditions, and rooms for at least as much as goes into them
-pub record HasClosingRoom {A B C D E F G H : Type 0} (threads count : ℕ) (waiters : Vec A B) (seekers : Vec C D) (cond_roots : Vec E F) (sem_roots : Vec G H) (conds : CondRoomView) (sems : SemRoomView) : Type 0 where
+pub record HasClosingRoom {A B C D E F G H : Type 0} (threads count : ℕ) (waiters : Vec A B) (seekers : Vec C D) (cond_roots : Vec E F) (sem_roots : Vec G H) (conds : CondRoomView)
+    (sems : SemRoomView) : Type 0 where
   pub for_waiters : IsFor threads waiters
   pub for_seekers : IsFor threads seekers
   pub for_conds : IsFor conds.conds cond_roots

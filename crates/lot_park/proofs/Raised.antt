@@ -22,7 +22,8 @@ module _ {R W : Type 0} (whole : R → W) (key : R → ℕ) (line : R → List �
       }
 
   pub unparked_count : {X : Type 0} (threads k n : ℕ) (answers : R → ℕ → Bool → X × R → Type 0) (result : X × ℕ)
-      → UnparkedCount whole_key whole_line whole_owes {X = X} threads k n (λ root taken more. CallsBackCount whole root (λ r. answers r taken more)) result → UnparkedCount key line owes threads k n answers result
+      → UnparkedCount whole_key whole_line whole_owes {X = X} threads k n (λ root taken more. CallsBackCount whole root (λ r. answers r taken more)) result
+      → UnparkedCount key line owes threads k n answers result
   unparked_count {X} threads k n answers result u =
       record {
         root = u.called.mine;

@@ -77,7 +77,8 @@ module _ {S P R : Type 0} (k : Scheme S P R) (s : State S (List (Right P R))) (r
   }
 
 -- what is left to tell when the words are gone
-abbrev pub ended_recounted : {S P R : Type 0} (k : Scheme S P R) (passes : List (PassShown P)) (roots : List (RootShown R)) (ws : List ℕ) (xs : List S) → Ended k passes roots ws xs → IsRecounted k.Step k.start.part passes roots
+abbrev pub ended_recounted : {S P R : Type 0} (k : Scheme S P R) (passes : List (PassShown P)) (roots : List (RootShown R)) (ws : List ℕ) (xs : List S) → Ended k passes roots ws xs
+    → IsRecounted k.Step k.start.part passes roots
 ended_recounted k passes roots ws xs e = record {
   log = e.log;
   part = (k.told_by e.left.world).part;

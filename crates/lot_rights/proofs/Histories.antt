@@ -86,7 +86,8 @@ module _ {R : Type 0} (number : R → ℕ) (made : R → List Entry) where
     -- the rights at the seat change, but not what they show
     pub listed_stays : (v v' : List R) → Listed number made log views → get_elem? views id ≡ some v → SameMade number made v v' → Listed number made log (set views id v')
     listed_stays v v' ok at alike = record {
-      told = reseats number (Noted number made log) (Noted number made log) views id v v' ok.told at (λ j. omega (arith, alike_times v v' alike j)) (λ q away h. h) (alike_noted log v v' alike (ok.told.named id v at));
+      told = reseats number (Noted number made log) (Noted number made log) views id v v' ok.told at (λ j. omega (arith, alike_times v v' alike j)) (λ q away h. h)
+          (alike_noted log v v' alike (ok.told.named id v at));
       known = λ u away. ok.known u (omega (arith, times_set number u views id v v' at, alike_times v v' alike u));
     }
 

@@ -48,7 +48,8 @@ pub in_without : (t u : ℕ) (xs : List ℕ) → t ≢ u → Contains xs t → C
 in_without t u [] ne h = h
 in_without t u (x ∷ xs) ne h = by_test (λ b. Contains (cond b xs (x ∷ without u xs)) t) x u
     (λ e. ⊎_elim {C = Contains xs t} (λ f. absurd (ne (sym f ∙ e))) (λ i. i) (in_cases x xs t h))
-    (λ _. ⊎_elim {C = Contains (x ∷ without u xs) t} (λ f. subst (Contains (x ∷ without u xs)) f (in_head x (without u xs))) (λ i. in_tail x (without u xs) t (in_without t u xs ne i)) (in_cases x xs t h))
+    (λ _. ⊎_elim {C = Contains (x ∷ without u xs) t} (λ f. subst (Contains (x ∷ without u xs)) f (in_head x (without u xs))) (λ i. in_tail x (without u xs) t (in_without t u xs ne i))
+    (in_cases x xs t h))
 
 pub without_in : (t u : ℕ) (xs : List ℕ) → Contains (without u xs) t → Contains xs t
 without_in t u [] = λ h. h

@@ -19,7 +19,8 @@ abbrev pub knowing : {P : Type 0} → PassView P → P → PassView P
 knowing p own = record p { own = own }
 
 module _ {S P R : Type 0} (k : Scheme S P R) where
-  moves : (s : State S (List (Right P R))) (ru : Ruled k s) (id : ℕ) (p : PassView P) → get_elem? s.views id ≡ some (Pass p ∷ []) → (own : P) (homes : List (Option S)) → SlotTurn k p.thread own ru.world s.words homes → (i : ℕ)
+  moves : (s : State S (List (Right P R))) (ru : Ruled k s) (id : ℕ) (p : PassView P) → get_elem? s.views id ≡ some (Pass p ∷ []) → (own : P) (homes : List (Option S))
+      → SlotTurn k p.thread own ru.world s.words homes → (i : ℕ)
       → Ruled k (record { words = set s.words i (slice_index s.words i); homes = homes; views = set s.views id (Pass (knowing p own) ∷ []) })
   moves s ru id p at own homes turn i = record {
     world = turn.world;
@@ -27,7 +28,8 @@ module _ {S P R : Type 0} (k : Scheme S P R) where
     seats = reseats number (RightFits k ru.world) (RightFits k turn.world) s.views id (Pass p ∷ []) (Pass (knowing p own) ∷ []) ru.seats at (λ j. omega arith) others (turn.pass, tt);
     present = λ j is. omega (arith, ru.present j is, times_set number j s.views id (Pass p ∷ []) (Pass (knowing p own) ∷ []) at);
     log = ru.log;
-    recorded = records_stay number made_with (Leads k) k.start ru.log s.views (k.told_by ru.world) ru.recorded id (k.told_by turn.world) turn.same (Pass p ∷ []) (Pass (knowing p own) ∷ []) at (refl, refl, tt);
+    recorded = records_stay number made_with (Leads k) k.start ru.log s.views (k.told_by ru.world) ru.recorded id (k.told_by turn.world) turn.same (Pass p ∷ []) (Pass (knowing p own) ∷ [])
+        at (refl, refl, tt);
   }
     where
       others : (r : Right P R) → times {R = Right P R} number (number r) (Pass p ∷ []) ≡ 0 → RightFits k ru.world r → RightFits k turn.world r
@@ -59,8 +61,10 @@ module _ {S P R : Type 0} (k : Scheme S P R) where
       pub takes_out : me ≡ (Pass p ∷ [], []) → (mid : P → S → Type 0) → AllowsOut k l p mid → Allows (Ruled k) slots id me 0 (λ n. n) (λ _ me'. ToldOut l (the_pass nobody me.0) mid me')
       takes_out is mid allows = subst (λ (m : Me S (List (Right P R))). Allows (Ruled k) slots id m 0 (λ n. n) (λ _ me'. ToldOut l (the_pass nobody m.0) mid me')) (sym is) (out_at p mid allows)
 
-      pub gives_back : (y : S) → me ≡ (Pass p ∷ [], (l, y) ∷ []) → (back : P → P → Type 0) → AllowsBack k l p.thread p.own y (back p.own) → Allows (Ruled k) slots id me 0 (λ n. n) (λ _ me'. ToldBack (the_pass nobody me.0) back me')
-      gives_back y is back allows = subst (λ (m : Me S (List (Right P R))). Allows (Ruled k) slots id m 0 (λ n. n) (λ _ me'. ToldBack (the_pass nobody m.0) back me')) (sym is) (back_at p y back allows)
+      pub gives_back : (y : S) → me ≡ (Pass p ∷ [], (l, y) ∷ []) → (back : P → P → Type 0) → AllowsBack k l p.thread p.own y (back p.own)
+          → Allows (Ruled k) slots id me 0 (λ n. n) (λ _ me'. ToldBack (the_pass nobody me.0) back me')
+      gives_back y is back allows = subst (λ (m : Me S (List (Right P R))). Allows (Ruled k) slots id m 0 (λ n. n) (λ _ me'. ToldBack (the_pass nobody m.0) back me')) (sym is)
+          (back_at p y back allows)
 
 -- ---- what the seat carries between the two loads
 -- what the slot taken last holds

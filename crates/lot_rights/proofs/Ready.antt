@@ -57,18 +57,21 @@ module _ {S P R Key : Type 0} (scheme : Key → Scheme S P R) (inside now : Word
       let told : TellsOfTwo (scheme inside.key) p q fact = subst (λ (x : WordsShown Key). TellsOfTwo (scheme x.key) p q fact) (sym is) tells in (
         e,
         some,
-        subst (λ (m : Me S (List (Right P R))). Allows (Ruled (scheme inside.key)) inside.table.slots id m 0 (λ n. n) (λ _ me'. ToldTwo (the_pass nobody m.0) (the_pass nobody (drop 1 m.0)) fact m me')) (sym two)
+        subst (λ (m : Me S (List (Right P R))). Allows (Ruled (scheme inside.key)) inside.table.slots id m 0 (λ n. n)
+            (λ _ me'. ToldTwo (the_pass nobody m.0) (the_pass nobody (drop 1 m.0)) fact m me')) (sym two)
             (steps_two (scheme inside.key) inside.table.slots id (Pass p ∷ Pass q ∷ [], []) p q 0 fact refl told),
       )
 
 -- ---- a root after its step
-module _ {S P R : Type 0} (nothing : R) (names : R → ℕ → Type 0) (mine shown : RootShown R) (is : mine ≡ shown) (key : ℕ) (key_is : key ≡ mine.root.key) (near : word_at key < mine.table.words) (small : mine.table.words < 2 ^ 64)
+module _ {S P R : Type 0} (nothing : R) (names : R → ℕ → Type 0) (mine shown : RootShown R) (is : mine ≡ shown) (key : ℕ) (key_is : key ≡ mine.root.key)
+    (near : word_at key < mine.table.words) (small : mine.table.words < 2 ^ 64)
     (letters : (u : ℕ) → names mine.root.own u → letter_at u < mine.table.words) (table : TableId) (same : table ≡ mine.table)
     (me : Me S (List (Right P R))) (q : RootView R) (its : q.key ≡ mine.root.key) (e : me ≡ (Root q ∷ [], [])) (few : (u : ℕ) → names q.own u → names shown.root.own u) where
   root_is : the_root nothing me.0 ≡ q
   root_is = ap (λ (m : Me S (List (Right P R))). the_root nothing m.0) e
 
-  pub root_stands : (me ≡ (Root (the_root nothing me.0) ∷ [], [])) × (key ≡ (the_root nothing me.0).key × (word_at key < table.words × (table.words < 2 ^ 64 × (((u : ℕ) → names (the_root nothing me.0).own u → letter_at u < table.words) × Unit {0}))))
+  pub root_stands : (me ≡ (Root (the_root nothing me.0) ∷ [], [])) × (key ≡ (the_root nothing me.0).key
+      × (word_at key < table.words × (table.words < 2 ^ 64 × (((u : ℕ) → names (the_root nothing me.0).own u → letter_at u < table.words) × Unit {0}))))
   root_stands =
       let words : table.words ≡ mine.table.words = ap (λ (z : TableId). z.words) same in (
         subst (λ (m : Me S (List (Right P R))). m ≡ (Root (the_root nothing m.0) ∷ [], [])) (sym e) refl,

@@ -21,7 +21,8 @@ use Rattle.lot_rights.proofs.Histories.{alike_times, records_more}
 module _ {S P R : Type 0} (k : Scheme S P R) where
   -- the first right at the seat makes one entry, and the others beside it show the same entries
   pub makes : (s : State S (List (Right P R))) (ru : Ruled k s) (id : ℕ) (r r' : Right P R) (v v' : List (Right P R)) (world : k.World) (words : List ℕ) (homes : List (Option S)) (access : Access)
-      → get_elem? s.views id ≡ some (r ∷ v) → k.Fits world words homes → number r' ≡ number r → made_with r' ≡ made_with r ++ (record { at = length ru.log; access = access }) ∷ [] → SameMade number made_with v v'
+      → get_elem? s.views id ≡ some (r ∷ v) → k.Fits world words homes → number r' ≡ number r → made_with r' ≡ made_with r ++ (record { at = length ru.log; access = access }) ∷ []
+      → SameMade number made_with v v'
       → ((q : Right P R) → times {R = Right P R} number (number q) (r ∷ v) ≡ 0 → RightFits k ru.world q → RightFits k world q) → Each {R = Right P R} number (RightFits k world) (r' ∷ v')
       → doer access ≡ number r → Leads k (k.told_by ru.world) access (k.told_by world)
       → Ruled k (record { words = words; homes = homes; views = set s.views id (r' ∷ v') })
@@ -44,7 +45,8 @@ module _ {S P R : Type 0} (k : Scheme S P R) where
 
   pub not_its : (q y : RootView R) (v : List (Right P R)) → times {R = Right P R} number (2 * y.key + 1) (Root q ∷ v) ≡ 0 → y.key ≢ q.key
   not_its q y v none e =
-      let one : 1 ≤ times {R = Right P R} number (2 * y.key + 1) (Root q ∷ v) = subst (λ c. 1 ≤ times {R = Right P R} number (2 * c + 1) (Root q ∷ v)) (sym e) (times_head number (Root q) v) in omega arith
+      let one : 1 ≤ times {R = Right P R} number (2 * y.key + 1) (Root q ∷ v) = subst (λ c. 1 ≤ times {R = Right P R} number (2 * c + 1) (Root q ∷ v)) (sym e)
+      (times_head number (Root q) v) in omega arith
 
   module _ (slots id : ℕ) (me : Me S (List (Right P R))) where
     pub steps_pass : (p : PassView P) (i : ℕ) (f : ℕ → ℕ) (then : ℕ → PassView P → Type 0) → me ≡ (Pass p ∷ [], []) → AllowsPass k i f p then → Allows (Ruled k) slots id me i f (ToldPass p then)

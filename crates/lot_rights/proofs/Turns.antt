@@ -55,7 +55,8 @@ module _ {A : Type 0} where
 module _ {A B : Type 0} (f : A → B) where
   pub some_before : (P : B → Type 0) (xs : List A) → Any P (map f xs) → Any (λ x. P (f x)) xs
   some_before P [] (k, y, near, is, holds) = absurd (omega (arith, near))
-  some_before P (x ∷ xs) some = ⊎_elim {C = Any (λ y. P (f y)) (x ∷ xs)} (λ here. (zero, x, omega arith, refl, here)) (λ later. any_later (λ y. P (f y)) x xs (some_before P xs later)) (any_cases P (f x) (map f xs) some)
+  some_before P (x ∷ xs) some = ⊎_elim {C = Any (λ y. P (f y)) (x ∷ xs)} (λ here. (zero, x, omega arith, refl, here)) (λ later. any_later (λ y. P (f y)) x xs (some_before P xs later))
+      (any_cases P (f x) (map f xs) some)
 
   pub map_turned : (xs : List A) → map f (reverse xs) ≡ reverse (map f xs)
   map_turned [] = refl

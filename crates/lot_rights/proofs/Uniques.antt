@@ -122,7 +122,8 @@ module _ {R : Type 0} (number : R → ℕ) (made : R → List Entry) where
 
     module _ (one : OneOutcome Leads) (log log' : List Entry) (views : List (List R)) (id : ℕ) (a b : S) (ok : Recorded number made Leads first log views a) where
       -- where the first right at the seat shows one entry more, and the others are alike, the history has just that entry more, made of what there was
-      pub one_more : (x : Entry) (r r' : R) (v v' : List R) → get_elem? views id ≡ some (r ∷ v) → doer x.access ≡ number r → number r' ≡ number r → made r' ≡ made r ++ x ∷ [] → SameMade number made v v'
+      pub one_more : (x : Entry) (r r' : R) (v v' : List R) → get_elem? views id ≡ some (r ∷ v) → doer x.access ≡ number r → number r' ≡ number r → made r' ≡ made r ++ x ∷ []
+          → SameMade number made v v'
           → Recorded number made Leads first log' (set views id (r' ∷ v')) b → (log' ≡ log ++ x ∷ []) × (x.at ≡ length log) × Leads a x.access b
       one_more x r r' v v' at by same more alike ok' =
           let l : Listed number made (log ++ x ∷ []) (set views id (r' ∷ v')) = listed_more number made log views id x r r' v v' ok.listed at by same more alike in

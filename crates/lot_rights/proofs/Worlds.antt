@@ -31,7 +31,8 @@ module _ {P R W : Type 0} (number_in : W → ℕ) (z : Sizes) (w w' : World P R 
   }
 
   -- the letter of t becomes x, and no other letter or word changes
-  pub letter_written : (t x : ℕ) → t < z.threads → x ≡ letter_of (w'.spot t) → ((u : ℕ) → u ≢ t → letter_of (w'.spot u) ≡ letter_of (w.spot u)) → ((d : ℕ) → number_in (w'.word d) ≡ number_in (w.word d))
+  pub letter_written : (t x : ℕ) → t < z.threads → x ≡ letter_of (w'.spot t) → ((u : ℕ) → u ≢ t → letter_of (w'.spot u) ≡ letter_of (w.spot u))
+      → ((d : ℕ) → number_in (w'.word d) ≡ number_in (w.word d))
       → WordsFit number_in z w' (set ws (letter_at t) x)
   letter_written t x near is others words = record {
     wide = length-set ws (letter_at t) x ∙ ok.wide;

@@ -1,5 +1,40 @@
 -- The turns of the calls that take a semaphore's root, and of those that post and collect letters.
-use Rattle.std.proofs.Common.{◌≡◌, ◌≢◌, ℕ, zero, suc, ◌+◌, ◌-◌, ◌*◌, ◌%◌, ◌^◌, ◌<◌, ◌≤◌, ◌&&◌, ◌==◌, Bool, true, false, List, [], ◌∷◌, ◌++◌, get_or, set, bit_and, refl, sym, ap, subst, ◌∙◌, arith, ne_eqb, Option, Some, None}
+use Rattle.std.proofs.Common.{
+  ◌≡◌,
+  ◌≢◌,
+  ℕ,
+  zero,
+  suc,
+  ◌+◌,
+  ◌-◌,
+  ◌*◌,
+  ◌%◌,
+  ◌^◌,
+  ◌<◌,
+  ◌≤◌,
+  ◌&&◌,
+  ◌==◌,
+  Bool,
+  true,
+  false,
+  List,
+  [],
+  ◌∷◌,
+  ◌++◌,
+  get_or,
+  set,
+  bit_and,
+  refl,
+  sym,
+  ap,
+  subst,
+  ◌∙◌,
+  arith,
+  ne_eqb,
+  Option,
+  Some,
+  None,
+}
 use Rattle.std.specs.List.{Contains}
 use Rattle.std.proofs.lemmas.Nat.Bits.{and_high_mask}
 use mathlib.Core.Option as maybe
@@ -128,9 +163,11 @@ module _ (size : Numbers) (p : PassView SemPassView) (q : RootView SemRootView) 
         (λ p' q'. Notes p (record p.own { asleep = true }) (Makes (SemPark t k) (Saw true)) p' × (q' ≡ record q { own = record q.own { line = q.own.line ++ t ∷ [] } })) refl
         (row_queued w.part size t fit.near k root.0 (fit.seeks ∙ aim, out_of k) both) found (same_letters w.spot t (queued k) (ap letter_of (sym up')))
         (park_letters size.threads w.part.sems.line w.part.seeks w.owes w.spot ok.letters t up' k)
-        (λ u ne. ap sleeps (put_other w.spot t (queued k) u ne)) (λ d ne. refl) refl (ap sleeps (put_same w.spot t (queued k))) (out_same size w t k p.own fit) (ap (λ z. z ++ t ∷ []) root.1) root.2 (λ i. ((i, refl), refl)))
+        (λ u ne. ap sleeps (put_other w.spot t (queued k) u ne)) (λ d ne. refl) refl (ap sleeps (put_same w.spot t (queued k))) (out_same size w t k p.own fit) (ap (λ z. z ++ t ∷ []) root.1)
+        root.2 (λ i. ((i, refl), refl)))
         (λ _ neither.
-        both_stay (scheme size) (word_at k) n w ws hs ok refl p fit (Makes (SemPark t k) (Saw false)) (refl, (row_not_queued w.part size t fit.near k root.0 (fit.seeks ∙ aim, out_of k) neither, refl)) q
+        both_stay (scheme size) (word_at k) n w ws hs ok refl p fit (Makes (SemPark t k) (Saw false))
+        (refl, (row_not_queued w.part size t fit.near k root.0 (fit.seeks ∙ aim, out_of k) neither, refl)) q
         (λ p' q'. Notes p p.own (Makes (SemPark t k) (Saw false)) p' × (q' ≡ record q { own = q.own })) root (λ i. ((i, refl), refl)))
         (sym (one_says left parked) ∙ ap (λ z. z == 1) (sym found))
 
@@ -163,14 +200,16 @@ module _ (size : Numbers) (p : PassView SemPassView) (q : RootView SemRootView) 
         let debt : w.owes k ≡ None = root.2 ∙ free in
         let seek = ok.sound.seeks k u inside in
         let queued_here : w.spot u ≡ queued k = was_queued size.threads w.part.sems.line w.part.seeks w.owes w.spot ok.letters k u rest here (ok.sound.once k) debt seek in
-        makes ((n + raise_of (Some u) more) % 2 ^ 64) (left + 1) more rest (w.part.sems.out k t - 1) (put w.spot u (owed k 0)) (put w.owes k (Some u)) (gave p.own k) (record q.own { line = rest; owes = Some u })
+        makes ((n + raise_of (Some u) more) % 2 ^ 64) (left + 1) more rest (w.part.sems.out k t - 1) (put w.spot u (owed k 0)) (put w.owes k (Some u)) (gave p.own k)
+        (record q.own { line = rest; owes = Some u })
         (SemPass t k more) (Sleeper (Some u)) (Passes p q (u ∷ rest) more) refl
         (row_pass w.part size t fit.near k root.0 calm' more u rest some' here (subst (λ z. SaysMore z more) (sym root.1) says)) (omega (arith, found, up, room, bit_few more))
         (same_letters w.spot u (owed k 0) (ap letter_of (sym queued_here)))
         (pass_letters size.threads w.part.sems.line w.part.seeks w.owes w.spot ok.letters k u rest here (ok.sound.once k) debt seek)
         (λ v ne. pass_sleeps size.threads w.part.sems.line w.part.seeks w.owes w.spot ok.letters k u rest here (ok.sound.once k) debt seek v)
         (λ d ne. put_other w.owes k (Some u) d ne) refl
-        (pass_sleeps size.threads w.part.sems.line w.part.seeks w.owes w.spot ok.letters k u rest here (ok.sound.once k) debt seek t ∙ fit.asleep) out_now refl (put_same w.owes k (Some u)) (λ i. ((i, refl), refl))
+        (pass_sleeps size.threads w.part.sems.line w.part.seeks w.owes w.spot ok.letters k u rest here (ok.sound.once k) debt seek t ∙ fit.asleep) out_now refl (put_same w.owes k (Some u))
+        (λ i. ((i, refl), refl))
 
   -- ---- clearing
   clear_turn : n < 2 ^ 64 → IsCalm p.own → q.own.line ≡ [] → BothTurn (scheme size) (word_at k) (bit_and n (2 ^ 64 - 2)) p q (Clears p q) w ws hs
@@ -255,7 +294,8 @@ module _ (size : Numbers) (p : PassView SemPassView) where
           world = w';
           fits = record {
             few = ok.few;
-            words = letter_written (λ n. n) (sizes_of size) (told_in w) (told_in w') ws ok.words t 0 fit.near (sym (ap letter_of (put_same w.spot t awake))) (λ v ne. ap letter_of (put_other w.spot t awake v ne)) (λ d. refl);
+            words = letter_written (λ n. n) (sizes_of size) (told_in w) (told_in w') ws ok.words t 0 fit.near (sym (ap letter_of (put_same w.spot t awake)))
+                (λ v ne. ap letter_of (put_other w.spot t awake v ne)) (λ d. refl);
             sound = ok.sound;
             letters = collect_letters size.threads w.part.sems.line w.part.seeks w.owes w.spot ok.letters t k 0 lies;
           };

@@ -27,7 +27,8 @@ module _ (size : Numbers) (a : SemaphorePart) where
 
   pub sound_after : (e : Event) (saw : Seen) (b : SemaphorePart) → IsStep size a e saw b → IsSound size a → IsSound size b
   sound_after e saw b step h =
-      let is : IsSound size (semaphore_part_after a e) = part_sound size.threads (permits_of size) (semaphore_part_after a e) (part_kept size.threads size.low _ (permits_of size) a e (kept h) step.0) in
+      let is : IsSound size (semaphore_part_after a e) = part_sound size.threads (permits_of size) (semaphore_part_after a e)
+      (part_kept size.threads size.low _ (permits_of size) a e (kept h) step.0) in
       subst (IsSound size) (sym step.2) is
 
 pub some_left : (l : ℕ) → l ≢ 0 → (l == 0) ≡ false
@@ -68,7 +69,10 @@ module _ (a : SemaphorePart) where
             ap (λ b. Saw (not b)) (sym e),
             part_is t k (z.left k - 1) (z.parked k) (z.line k) (z.out k t + 1) None (put z.left k (z.left k - 1)) z.parked z.line (put z.out k (put (z.out k) t (z.out k t + 1))) (put a.seeks t None)
                 refl (same_parked k) (same_line k) refl refl
-                ∙ ap (λ b. record { sems = if b then z else record z { left = put z.left k (z.left k - 1); out = put z.out k (put (z.out k) t (z.out k t + 1)) }; seeks = put a.seeks t (if b then Some k else None) }) (sym e),
+                ∙ ap (λ b. record {
+                  sems = if b then z else record z { left = put z.left k (z.left k - 1); out = put z.out k (put (z.out k) t (z.out k t + 1)) };
+                  seeks = put a.seeks t (if b then Some k else None);
+                }) (sym e),
           )
 
       -- none is left
@@ -80,7 +84,10 @@ module _ (a : SemaphorePart) where
             ap (λ b. Saw (not b)) (sym e),
             part_is t k (z.left k) (z.parked k) (z.line k) (z.out k t) (Some k) z.left z.parked z.line z.out (put a.seeks t (Some k))
                 (same_left k) (same_parked k) (same_line k) (same_out k t) refl
-                ∙ ap (λ b. record { sems = if b then z else record z { left = put z.left k (z.left k - 1); out = put z.out k (put (z.out k) t (z.out k t + 1)) }; seeks = put a.seeks t (if b then Some k else None) }) (sym e),
+                ∙ ap (λ b. record {
+                  sems = if b then z else record z { left = put z.left k (z.left k - 1); out = put z.out k (put (z.out k) t (z.out k t + 1)) };
+                  seeks = put a.seeks t (if b then Some k else None);
+                }) (sym e),
           )
 
     module _ (seeks : PartSeeks a t k) where
@@ -92,7 +99,8 @@ module _ (a : SemaphorePart) where
             part_is t k (z.left k) true (z.line k) (z.out k t) (a.seeks t) z.left (put z.parked k true) z.line z.out a.seeks (same_left k) refl (same_line k) (same_out k t) (same_seeks t),
           )
 
-      pub row_queued : (none_left a.sems k && a.sems.parked k) ≡ true → IsStep size a (SemPark t k) (Saw true) (turned a t k (a.sems.left k) (a.sems.parked k) (a.sems.line k ++ t ∷ []) (a.sems.out k t) (a.seeks t))
+      pub row_queued : (none_left a.sems k && a.sems.parked k) ≡ true → IsStep size a (SemPark t k) (Saw true)
+          (turned a t k (a.sems.left k) (a.sems.parked k) (a.sems.line k ++ t ∷ []) (a.sems.out k t) (a.seeks t))
       row_queued e =
           let z = a.sems in (
             (near, among, seeks),
@@ -106,7 +114,8 @@ module _ (a : SemaphorePart) where
       row_not_queued e = ((near, among, seeks), ap Saw (sym e), ap (λ b. record a { sems = if b then with_sem_line a.sems k (a.sems.line k ++ t ∷ []) else a.sems }) (sym e))
 
     module _ (calm : a.seeks t ≡ None) where
-      pub row_free : 1 ≤ a.sems.out k t → a.sems.parked k ≡ false → IsStep size a (SemFree t k) (Saw true) (turned a t k (a.sems.left k + 1) (a.sems.parked k) (a.sems.line k) (a.sems.out k t - 1) (a.seeks t))
+      pub row_free : 1 ≤ a.sems.out k t → a.sems.parked k ≡ false → IsStep size a (SemFree t k) (Saw true)
+          (turned a t k (a.sems.left k + 1) (a.sems.parked k) (a.sems.line k) (a.sems.out k t - 1) (a.seeks t))
       row_free some e =
           let z = a.sems in (
             (near, among, calm, some),
@@ -134,7 +143,8 @@ module _ (a : SemaphorePart) where
           let z = a.sems in (
             (near, among, calm, some, says),
             ap (λ xs. Sleeper (first xs)) (sym e),
-            part_is t k (z.left k + 1) more rest (z.out k t - 1) (a.seeks t) (put z.left k (z.left k + 1)) (put z.parked k more) (put z.line k rest) (put z.out k (put (z.out k) t (z.out k t - 1))) a.seeks
+            part_is t k (z.left k + 1) more rest (z.out k t - 1) (a.seeks t) (put z.left k (z.left k + 1)) (put z.parked k more) (put z.line k rest)
+                (put z.out k (put (z.out k) t (z.out k t - 1))) a.seeks
                 refl refl refl refl (same_seeks t)
                 ∙ ap (λ xs. record a { sems = seeker_woken (permit_given z t k) k more xs }) (sym e),
           )

@@ -31,7 +31,8 @@ module _ (size : Numbers) (w : SemWorld) (t k : ℕ) (among : IsAmong size k) (l
   abbrev pub after : SemWorld
   after = record { part = turned w.part t k l b xs o s; spot = spots; owes = owes }
 
-  pub fits_after : (ws : List ℕ) → Fits size w ws → (x : ℕ) → x ≡ word_of l b → letters_of spots ≡ letters_of w.spot → (e : Event) (saw : Seen) → IsStep size w.part e saw (turned w.part t k l b xs o s)
+  pub fits_after : (ws : List ℕ) → Fits size w ws → (x : ℕ) → x ≡ word_of l b → letters_of spots ≡ letters_of w.spot → (e : Event) (saw : Seen)
+      → IsStep size w.part e saw (turned w.part t k l b xs o s)
       → LettersFit size.threads after → Fits size after (set ws (word_at k) x)
   fits_after ws ok x is same e saw step letters = record {
     few = ok.few;

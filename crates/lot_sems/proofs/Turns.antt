@@ -1,5 +1,41 @@
 -- The turns of the calls that take a pass alone: whatever world the words stand for, the step leads to one that they stand for then.
-use Rattle.std.proofs.Common.{◌≡◌, ◌≢◌, ℕ, zero, suc, ◌+◌, ◌-◌, ◌*◌, ◌%◌, ◌^◌, ◌<◌, ◌≤◌, ◌⊎◌, ◌==◌, Bool, true, false, List, get_or, set, refl, sym, ap, subst, ◌∙◌, inl, inr, ⊎_elim, arith, eq-eqb, ne_eqb, MatchBool, Option, Some, None}
+use Rattle.std.proofs.Common.{
+  ◌≡◌,
+  ◌≢◌,
+  ℕ,
+  zero,
+  suc,
+  ◌+◌,
+  ◌-◌,
+  ◌*◌,
+  ◌%◌,
+  ◌^◌,
+  ◌<◌,
+  ◌≤◌,
+  ◌⊎◌,
+  ◌==◌,
+  Bool,
+  true,
+  false,
+  List,
+  get_or,
+  set,
+  refl,
+  sym,
+  ap,
+  subst,
+  ◌∙◌,
+  inl,
+  inr,
+  ⊎_elim,
+  arith,
+  eq-eqb,
+  ne_eqb,
+  MatchBool,
+  Option,
+  Some,
+  None,
+}
 use mathlib.Core.Option as maybe
 use prog.Atomic.{either}
 use Rattle.lot_core.specs.World.{put}
@@ -87,7 +123,8 @@ even_clear : (left old : ℕ) (b : Bool) → word_of left b ≡ old → old % 2 
 even_clear left old true e even = absurd (let f : 2 * left + 1 ≡ old = e in omega arith)
 even_clear left old false e even = refl
 
-module _ (size : Numbers) (p : PassView SemPassView) (k : ℕ) (among : IsAmong size k) (w : SemWorld) (ws : List ℕ) (hs : List (maybe.Option (Unit {0}))) (ok : Fits size w ws) (fit : PassKnows size w p.thread p.own) where
+module _ (size : Numbers) (p : PassView SemPassView) (k : ℕ) (among : IsAmong size k) (w : SemWorld) (ws : List ℕ) (hs : List (maybe.Option (Unit {0}))) (ok : Fits size w ws)
+    (fit : PassKnows size w p.thread p.own) where
   abbrev t : ℕ
   t = p.thread
 
@@ -119,7 +156,8 @@ module _ (size : Numbers) (p : PassView SemPassView) (k : ℕ) (among : IsAmong 
           access = Makes e saw;
           world = after size w t k among l b line o s w.spot w.owes;
           fits = fits_after size w t k among l b line o s w.spot w.owes ws ok x is refl e saw step
-              (subst (λ z. NoticesFit size.threads z (put w.part.seeks t s) w.owes w.spot) (sym (same_line w.part k)) (seeks_letters size.threads w.part.sems.line w.part.seeks w.owes w.spot ok.letters t up' s));
+              (subst (λ z. NoticesFit size.threads z (put w.part.seeks t s) w.owes w.spot) (sym (same_line w.part k))
+              (seeks_letters size.threads w.part.sems.line w.part.seeks w.owes w.spot ok.letters t up' s));
           pass = knows_after size w t k among l b line o s w.spot w.owes p.own own fit seeks (fit.asleep ∙ (up ∙ sym asleep)) out;
           passes = passes_else size w t k among l b line o s w.spot w.owes (λ u ne. refl);
           roots = λ d y h. (h.0, (λ i. same_line w.part k i d) ∙ h.1, h.2);
@@ -147,7 +185,8 @@ module _ (size : Numbers) (p : PassView SemPassView) (k : ℕ) (among : IsAmong 
           (row_empty w.part size t fit.near k among may (omega (arith, found, is))) (is ∙ found) refl up (out_same size w t k p.own fit) told
 
       swap_turn : (old : ℕ) → 2 ≤ old → PassTurn (scheme size) (word_at k) (either (n == old) (old - 2) n) p (Swaps p k old n) w ws hs
-      swap_turn old some = by_test (λ b. PassTurn (scheme size) (word_at k) (either b (old - 2) n) p (λ q. MatchBool b (Notes p (got p.own k) (Makes (SemTake t k) (Saw true)) q) ((x : ℕ) × Found p k x q)) w ws hs) n old
+      swap_turn old some = by_test (λ b. PassTurn (scheme size) (word_at k) (either b (old - 2) n) p
+          (λ q. MatchBool b (Notes p (got p.own k) (Makes (SemTake t k) (Saw true)) q) ((x : ℕ) × Found p k x q)) w ws hs) n old
           (λ is. got_turn old some is (λ q. Notes p (got p.own k) (Makes (SemTake t k) (Saw true)) q) (λ i. (i, refl)))
           (λ _. finds n refl (λ q. (x : ℕ) × Found p k x q) (λ i. (n, (i, refl))))
 
@@ -167,13 +206,15 @@ module _ (size : Numbers) (p : PassView SemPassView) (k : ℕ) (among : IsAmong 
 
     -- ---- giving back
     free_turn : p.own.seeks ≡ None → 1 ≤ get_or p.own.out k 0 → (old : ℕ) → old % 2 ≡ 0 → PassTurn (scheme size) (word_at k) (either (n == old) ((old + 2) % 2 ^ 64) n) p (Frees p k old n) w ws hs
-    free_turn aim some old even = by_test (λ b. PassTurn (scheme size) (word_at k) (either b ((old + 2) % 2 ^ 64) n) p (λ q. MatchBool b (Notes p (gave p.own k) (Makes (SemFree t k) (Saw true)) q) ((x : ℕ) × Found p k x q)) w ws hs) n old
+    free_turn aim some old even = by_test (λ b. PassTurn (scheme size) (word_at k) (either b ((old + 2) % 2 ^ 64) n) p
+        (λ q. MatchBool b (Notes p (gave p.own k) (Makes (SemFree t k) (Saw true)) q) ((x : ℕ) × Found p k x q)) w ws hs) n old
         (λ is.
         let clear : w.part.sems.parked k ≡ false = even_clear left old (w.part.sems.parked k) (sym found ∙ is) even in
         let bare : word_of left (w.part.sems.parked k) ≡ 2 * left = ap (word_of left) clear ∙ omega arith in
         let more : word_of (left + 1) (w.part.sems.parked k) ≡ 2 * (left + 1) = ap (word_of (left + 1)) clear ∙ omega arith in
         let few = left_few size w ws ok k in
-        makes ((old + 2) % 2 ^ 64) (left + 1) (w.part.sems.parked k) (w.part.sems.out k t - 1) (w.part.seeks t) (gave p.own k) (SemFree t k) (Saw true) (λ q. Notes p (gave p.own k) (Makes (SemFree t k) (Saw true)) q) refl
+        makes ((old + 2) % 2 ^ 64) (left + 1) (w.part.sems.parked k) (w.part.sems.out k t - 1) (w.part.seeks t) (gave p.own k) (SemFree t k) (Saw true)
+        (λ q. Notes p (gave p.own k) (Makes (SemFree t k) (Saw true)) q) refl
         (row_free w.part size t fit.near k among (fit.seeks ∙ aim) (subst (λ z. 1 ≤ z) (sym (fit.out k)) some) clear)
         (omega (arith, found, is, bare, more, few)) fit.seeks up (ap (λ z. set p.own.out k (z - 1)) (sym (fit.out k))) (λ i. (i, refl)))
         (λ _. finds n refl (λ q. (x : ℕ) × Found p k x q) (λ i. (n, (i, refl))))

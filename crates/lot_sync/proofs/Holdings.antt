@@ -13,7 +13,8 @@ module _ {V Part : Type 0} (keeps : ℕ → V → Type 0) (grows : V → V → T
   -- all that the pass has seen of a lock that it got grows to the value
   grown_newly : (before after : PassView V) (key : ℕ) (held : HeldView V) → Gets keeps grows part before key held after → (u : V) → HasSeen after held.key u → grows u held.value
   grown_newly before after key held got u seen =
-      ⊎_elim (λ same. subst (λ x. grows x held.value) same.1 (itself held.value)) (λ other. absurd (other.0 got.key_is)) (at_set before.seen key held.key held.value u (subst (λ (p : PassView V). HasSeen p held.key u) got.after_is seen))
+      ⊎_elim (λ same. subst (λ x. grows x held.value) same.1 (itself held.value)) (λ other. absurd (other.0 got.key_is))
+      (at_set before.seen key held.key held.value u (subst (λ (p : PassView V). HasSeen p held.key u) got.after_is seen))
 
   -- what is got is held
   pub got_holds : (before after : PassView V) (key : ℕ) (held : HeldView V) → OwnsNone before → Gets keeps grows part before key held after → Holding grows after held
@@ -31,7 +32,8 @@ module _ {V Part : Type 0} (keeps : ℕ → V → Type 0) (grows : V → V → T
   tried_holds before after key (Some held) none got = (got.key_is, got_holds before after key held none got)
 
   -- a second lock is got
-  pub got_both : (before after : PassView V) (first second : HeldView V) (key : ℕ) → key ≢ first.key → Holding grows before first → Gets keeps grows part before key second after → HoldingBoth grows after first second
+  pub got_both : (before after : PassView V) (first second : HeldView V) (key : ℕ) → key ≢ first.key → Holding grows before first → Gets keeps grows part before key second after
+      → HoldingBoth grows after first second
   got_both before after first second key two holds got = record {
     two = λ e. two (sym got.key_is ∙ e);
     owns_first = subst (λ (p : PassView V). Owns p first.key) (sym got.after_is) (get_or-set_other before.owns key first.key true false (λ e. two (sym e)) ∙ holds.owns);
@@ -39,7 +41,8 @@ module _ {V Part : Type 0} (keeps : ℕ → V → Type 0) (grows : V → V → T
     alone = λ k not_first not_second owned. holds.alone k not_first
         (sym (get_or-set_other before.owns key k true false (λ e. not_second (e ∙ sym got.key_is))) ∙ subst (λ (p : PassView V). Owns p k) got.after_is owned);
     no_permit = λ k. ap (λ (p : PassView V). permits_with p k) got.after_is ∙ holds.no_permit k;
-    grown_first = λ u seen. ⊎_elim (λ same. absurd (two (sym same.0))) (λ else. holds.grown u else.1) (at_set before.seen key first.key second.value u (subst (λ (p : PassView V). HasSeen p first.key u) got.after_is seen));
+    grown_first = λ u seen. ⊎_elim (λ same. absurd (two (sym same.0))) (λ else. holds.grown u else.1)
+        (at_set before.seen key first.key second.value u (subst (λ (p : PassView V). HasSeen p first.key u) got.after_is seen));
     grown_second = grown_newly before after key second got;
   }
 
@@ -83,14 +86,17 @@ pub seen_left : {V : Type 0} (p q : PassView V) (k : ℕ) (y u : V) → q ≡ le
 seen_left p q k y u e at = ⊎_elim (λ here. here.1) (λ else. absurd (else.0 refl)) (at_set p.seen k k y u (subst (λ (z : PassView _). HasSeen z k u) e at))
 
 -- the first of two locks is let go, and the second is still held
-pub left_second : {V : Type 0} (grows : V → V → Type 0) (before after : PassView V) (first second : HeldView V) → HoldingBoth grows before first second → after ≡ leaving before first.key first.value → Holding grows after second
+pub left_second : {V : Type 0} (grows : V → V → Type 0) (before after : PassView V) (first second : HeldView V) → HoldingBoth grows before first second
+    → after ≡ leaving before first.key first.value → Holding grows after second
 left_second grows before after first second both left = record {
   owns = subst (λ (p : PassView _). Owns p second.key) (sym left) (get_or-set_other before.owns first.key second.key false false both.two ∙ both.owns_second);
   alone = λ k other owned. dite (ℕ_discrete k first.key)
-      (λ e. not_both (get_or (set before.owns first.key false) k false) (subst (λ (p : PassView _). Owns p k) left owned) (ap (λ j. get_or (set before.owns first.key false) j false) e ∙ let_go_of before.owns first.key))
+      (λ e. not_both (get_or (set before.owns first.key false) k false) (subst (λ (p : PassView _). Owns p k) left owned)
+      (ap (λ j. get_or (set before.owns first.key false) j false) e ∙ let_go_of before.owns first.key))
       (λ else. both.alone k else other (sym (get_or-set_other before.owns first.key k false false else) ∙ subst (λ (p : PassView _). Owns p k) left owned));
   no_permit = λ k. ap (λ (p : PassView _). permits_with p k) left ∙ both.no_permit k;
-  grown = λ u seen. ⊎_elim (λ same. absurd (both.two same.0)) (λ else. both.grown_second u else.1) (at_set before.seen first.key second.key first.value u (subst (λ (p : PassView _). HasSeen p second.key u) left seen));
+  grown = λ u seen. ⊎_elim (λ same. absurd (both.two same.0)) (λ else. both.grown_second u else.1)
+      (at_set before.seen first.key second.key first.value u (subst (λ (p : PassView _). HasSeen p second.key u) left seen));
 }
 
 -- whoever let go the one lock that it owned owns nothing

@@ -8,7 +8,8 @@ use Rattle.lot_sync.specs.Passes.{AreRightsOf}
 use Rattle.lot_sync.specs.Starting.{ArePaired}
 
 -- the last pass and the last rights are of one thread, and so are those before them
-pub pairs_popped : {V : Type 0} (xs left : List (PassShown (LockPassView V))) (x : PassShown (LockPassView V)) (ys rest : List RightsView) (y : RightsView) → xs ≡ left ++ x ∷ [] → ys ≡ rest ++ y ∷ [] → length rest ≡ length left
+pub pairs_popped : {V : Type 0} (xs left : List (PassShown (LockPassView V))) (x : PassShown (LockPassView V)) (ys rest : List RightsView) (y : RightsView) → xs ≡ left ++ x ∷ []
+    → ys ≡ rest ++ y ∷ [] → length rest ≡ length left
     → ArePaired xs ys → ArePaired left rest × AreRightsOf x.pass.thread y
 pairs_popped xs left x ys rest y e f same paired =
     let both : ArePaired (left ++ x ∷ []) (rest ++ y ∷ []) = subst (λ zs. ArePaired zs (rest ++ y ∷ [])) e (subst (λ zs. ArePaired xs zs) f paired) in (

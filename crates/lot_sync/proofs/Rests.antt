@@ -147,7 +147,8 @@ module _ {V : Type 0} (grows : V → V → Type 0) (opening : List V) (threads :
           (λ else. set_else before.own.places key l Out else ∙ own.out l else holds)
 
   -- whoever let a lock go is at rest
-  pub rests_free : ((x y z : V) → grows x y → grows y z → grows x z) → (before after : Standing V) (key : ℕ) (value : V) → key < length opening → IsNewOwner grows opening threads before key → IsIn before.own key value
+  pub rests_free : ((x y z : V) → grows x y → grows y z → grows x z) → (before after : Standing V) (key : ℕ) (value : V) → key < length opening → IsNewOwner grows opening threads before key
+      → IsIn before.own key value
       → ((u : V) → HasSeen before.own key u → grows u value) → LetsGo before key after → IsAtRest grows opening threads after
   rests_free through before after key value near own lies grown went = record {
     is_thread = subst (λ t. t < threads) (sym went.thread) own.is_thread;
@@ -167,7 +168,8 @@ module _ {V : Type 0} (grows : V → V → Type 0) (opening : List V) (threads :
 
       grown_at : (l : ℕ) (u v : V) → get_elem? opening l ≡ some u → get_elem? (set before.own.seen key value) l ≡ some v → grows u v
       grown_at l u v o s = ⊎_elim
-          (λ here. let had = seen_at l here.0 in subst (grows u) here.1 (through u had.0 value (own.grown l u had.0 o (subst (λ k. HasSeen before.own k had.0) (sym here.0) had.1)) (grown had.0 had.1)))
+          (λ here. let had = seen_at l here.0 in subst (grows u) here.1 (through u had.0 value (own.grown l u had.0 o (subst (λ k. HasSeen before.own k had.0) (sym here.0) had.1))
+          (grown had.0 had.1)))
           (λ else. own.grown l u v o else.1)
           (at_set before.own.seen key l value v s)
         where
@@ -201,16 +203,19 @@ module _ {V : Type 0} (grows : V → V → Type 0) (opening : List V) (threads :
     holds_long = ap length found.holds ∙ (length-set before.own.holds key FoundParked ∙ own.holds_long);
     places_long = ap length found.places ∙ own.places_long;
     seen_long = ap length found.seen ∙ own.seen_long;
-    holds = subst (λ hs. IsHeld (get_or hs key NotHeld)) (sym found.holds) (subst IsHeld (sym (get_or-set_same before.own.holds key FoundParked NotHeld (let w = own.holds_long in omega (arith, w)))) tt);
+    holds = subst (λ hs. IsHeld (get_or hs key NotHeld)) (sym found.holds) (subst IsHeld (sym
+        (get_or-set_same before.own.holds key FoundParked NotHeld (let w = own.holds_long in omega (arith, w)))) tt);
     value = own.value;
     lies = subst (λ ps. get_elem? ps key ≡ some (InSlot own.value)) (sym found.places) own.lies;
-    out = λ l else holds. subst (λ ps. get_elem? ps l ≡ some Out) (sym found.places) (own.out l else (held_else before.own.holds key l FoundParked else (subst (λ hs. IsHeld (get_or hs l NotHeld)) found.holds holds)));
+    out = λ l else holds. subst (λ ps. get_elem? ps l ≡ some Out) (sym found.places) (own.out l else
+        (held_else before.own.holds key l FoundParked else (subst (λ hs. IsHeld (get_or hs l NotHeld)) found.holds holds)));
     grown = λ l u v o s. own.grown l u v o (subst (λ vs. get_elem? vs l ≡ some v) found.seen s);
   }) moved
 
 module _ {V Part : Type 0} (keeps : ℕ → V → Type 0) (grows : V → V → Type 0) (part : ℕ → V → Part) where
   -- whoever got a lock, and did not hold it, is its new owner
-  pub owns_newly : (opening : List V) (threads : ℕ) → ((x y z : V) → grows x y → grows y z → grows x z) → (before after : Standing V) (key : ℕ) → key < length opening → IsAtRest grows opening threads before
+  pub owns_newly : (opening : List V) (threads : ℕ) → ((x y z : V) → grows x y → grows y z → grows x z) → (before after : Standing V) (key : ℕ) → key < length opening
+      → IsAtRest grows opening threads before
       → IsOwner keeps grows part before key after → IsNewOwner grows opening threads after key
   owns_newly opening threads through before after key near rest own = record {
     is_thread = subst (λ t. t < threads) (sym own.thread) rest.is_thread;
@@ -276,7 +281,8 @@ module _ {V Part : Type 0} (keeps : ℕ → V → Type 0) (grows : V → V → T
     seen = q.seen ∙ ap (λ vs. set vs key q.value) p.seen;
   }
 
-  pub gets_as : (before after before' after' : PassView V) (key : ℕ) (held : HeldView V) → before ≡ before' → after ≡ after' → Gets keeps grows part before' key held after' → Gets keeps grows part before key held after
+  pub gets_as : (before after before' after' : PassView V) (key : ℕ) (held : HeldView V) → before ≡ before' → after ≡ after' → Gets keeps grows part before' key held after'
+      → Gets keeps grows part before key held after
   gets_as before after before' after' key held e f gets = subst (λ p. Gets keeps grows part p key held after) (sym e) (subst (λ p. Gets keeps grows part before' key held p) (sym f) gets)
 
   -- what may be given back may be left
@@ -292,7 +298,8 @@ pub own_on : (t u : ℕ) (q : RightsView) → u ≡ t → AreRightsOf t q → Ar
 own_on t u q same own = own ∙ sym same
 
 -- the lock was let go, and one wait more on the condition has ended
-pub leaves_woken : {V : Type 0} (pass seen : PassView V) (w q : CountsView) (p : PermitsView) (before after : Standing V) (key named cond : ℕ) (value : V) → seen ≡ sees (joined q p) after → q ≡ woke w cond → IsIn before.own key value
+pub leaves_woken : {V : Type 0} (pass seen : PassView V) (w q : CountsView) (p : PermitsView) (before after : Standing V) (key named cond : ℕ) (value : V) → seen ≡ sees (joined q p) after
+    → q ≡ woke w cond → IsIn before.own key value
     → LetsGo before key after → sees (joined w p) before ≡ pass → key ≡ named → seen ≡ waking (leaving pass named value) cond
 leaves_woken pass seen w q p before after key named cond value e counts lies went same is =
     e ∙ (ap (λ c. sees (joined c p) after) counts ∙ (leaves_all (joined (woke w cond) p) before after key value lies went

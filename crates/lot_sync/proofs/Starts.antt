@@ -98,7 +98,8 @@ module _ {V : Type 0} (grows : V → V → Type 0) (itself : (x : V) → grows x
       ap (λ (r : RightsView). r.thread) is ∙ sym (ap (λ (r : PassShown (LockPassView V)). r.pass.thread) found.1)
 
 -- the same under the names of the lot
-pub fresh_named : {V : Type 0} (grows : V → V → Type 0) (table table' : TableId) (values values' : List V) (threads threads' : ℕ) (passes : List (PassShown (LockPassView V))) → table ≡ table' → values ≡ values' → threads ≡ threads'
+pub fresh_named : {V : Type 0} (grows : V → V → Type 0) (table table' : TableId) (values values' : List V) (threads threads' : ℕ) (passes : List (PassShown (LockPassView V)))
+    → table ≡ table' → values ≡ values' → threads ≡ threads'
     → All (IsFresh grows table values threads) passes → All (IsFresh grows table' values' threads') passes
 fresh_named grows table table' values values' threads threads' passes e f h all =
     subst (λ t. All (IsFresh grows t values' threads') passes) e (subst (λ vs. All (IsFresh grows table vs threads') passes) f (subst (λ n. All (IsFresh grows table values n) passes) h all))
@@ -125,7 +126,12 @@ module _ {V : Type 0} (values : List V) (threads : ℕ) (words : LockWordsShown)
 
   -- the roots are idle, as the parking lot asks
   pub roots_idle : (i : ℕ) (r : RootShown LockRootView) → slice_get roots i ≡ Some r → (r.root.key ≡ i) × (r.root.own.line ≡ []) × (r.root.own.owes ≡ None)
-  roots_idle i r at = let e = root_is i r at in (ap (λ (q : RootShown LockRootView). q.root.key) e, ap (λ (q : RootShown LockRootView). q.root.own.line) e, ap (λ (q : RootShown LockRootView). q.root.own.owes) e)
+  roots_idle i r at = let e = root_is i r at in (
+    ap (λ (q : RootShown LockRootView). q.root.key) e,
+    ap (λ (q : RootShown LockRootView). q.root.own.line) e,
+    ap
+        (λ (q : RootShown LockRootView). q.root.own.owes) e,
+  )
 
 -- the roots of all tables are idle, as the parking lot asks
 pub idle_all : (locks : ℕ) (ls : List (RootShown LockRootView)) (ks : List KindRootShown) → length ls ≡ locks

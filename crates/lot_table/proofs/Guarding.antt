@@ -29,7 +29,8 @@ module _ {R : Type 0} where
       → ((i : ℕ) (d : Contents R) → i < n → IsWhole key line owes (length gs) i keys (get_or (under gs) i d))
       → (i : ℕ) (d : Contents R) → i < n + 1 → IsWhole key line owes (length gs) i keys (get_or (under gs) i d)
   whole_next key line owes keys n gs g s lt at is here before i d bound =
-      let own : (e : Contents R) → get_or (under gs) n e ≡ s.bucket = λ e. get_under gs n g e lt ∙ ap (λ (x : MutexGuard (Lying R)). (mutex_guard_value x).bucket) (sym at) ∙ ap (λ (x : Lying R). x.bucket) (sym is) in
+      let own : (e : Contents R) → get_or (under gs) n e ≡ s.bucket = λ e. get_under gs n g e lt ∙ ap (λ (x : MutexGuard (Lying R)). (mutex_guard_value x).bucket) (sym at)
+      ∙ ap (λ (x : Lying R). x.bucket) (sym is) in
       below_more (λ (j : ℕ). (e : Contents R) → IsWhole key line owes (length gs) j keys (get_or (under gs) j e)) n (λ j l e. before j e l) (λ e. rw (own e) here) i bound d
 
   pub sum_next : (n sum len : ℕ) (gs : List (MutexGuard (Lying R))) (g : MutexGuard (Lying R)) (s : Lying R) (b : Contents R) → n < length gs

@@ -1,5 +1,45 @@
 -- What has become of the buckets while keys are moved from the old ones to the new ones.
-use Rattle.std.proofs.Common.{◌≡◌, ◌≢◌, ℕ, suc, ◌+◌, ◌<◌, ◌≤◌, ◌%◌, ◌&&◌, true, false, inl, inr, List, [], ◌∷◌, ◌++◌, length, map, get_or, set, Option, Some, None, IsSome, refl, sym, ◌∙◌, ap, subst, arith, append-nil, append_assoc, drop, Bool, eq-eqb, length-append, get_or-set_same, get_or-set_other}
+use Rattle.std.proofs.Common.{
+  ◌≡◌,
+  ◌≢◌,
+  ℕ,
+  suc,
+  ◌+◌,
+  ◌<◌,
+  ◌≤◌,
+  ◌%◌,
+  ◌&&◌,
+  true,
+  false,
+  inl,
+  inr,
+  List,
+  [],
+  ◌∷◌,
+  ◌++◌,
+  length,
+  map,
+  get_or,
+  set,
+  Option,
+  Some,
+  None,
+  IsSome,
+  refl,
+  sym,
+  ◌∙◌,
+  ap,
+  subst,
+  arith,
+  append-nil,
+  append_assoc,
+  drop,
+  Bool,
+  eq-eqb,
+  length-append,
+  get_or-set_same,
+  get_or-set_other,
+}
 use Rattle.std.specs.Prelude.{nat_lt, ◌==◌, is_some}
 use Rattle.std.proofs.Math.Bool.{and-false}
 use Rattle.std.proofs.lemmas.Bool.{ne_eqb, lt-ltb, le-ltb, ltb-true}
@@ -14,7 +54,18 @@ use Rattle.lot_bucket.specs.Taking.{TakesOne}
 use Rattle.lot_bucket.specs.declared.taking.Moment.{Moment}
 use Rattle.lot_bucket.specs.declared.taking.Dequeued.{Dequeued}
 use Rattle.lot_bucket.proofs.Slots.{rootless}
-use Rattle.lot_bucket.proofs.Laws.{line_of-without_count_same, without_key-without_first, without_key_none, first_of_line, line_of-without_key_same, line_of-without_key_other, line_fits, root_at-with_same, root_at-with_other, has_key-with}
+use Rattle.lot_bucket.proofs.Laws.{
+  line_of-without_count_same,
+  without_key-without_first,
+  without_key_none,
+  first_of_line,
+  line_of-without_key_same,
+  line_of-without_key_other,
+  line_fits,
+  root_at-with_same,
+  root_at-with_other,
+  has_key-with,
+}
 use Rattle.lot_table.specs.Buckets.{bucket_of, queued, KeepsLines, AreWhole, AreFilled, AreEmpty, MayRegrow}
 
 pub line_of-append : (k : ℕ) (p q : List (ℕ × ℕ)) → line_of k (p ++ q) ≡ line_of k p ++ line_of k q
@@ -296,7 +347,8 @@ module _ {R : Type 0} where
       let g : length to.queue ≡ length (get_or new j s).queue = ap (λ (x : Contents R). length x.queue) is_to in
       let l : length b.queue ≡ length (without_key k from.queue) = ap (λ (q : List (ℕ × ℕ)). length q) left in
       let put : length c.queue ≡ length to.queue + length (line_of k from.queue) =
-      ap (λ (q : List (ℕ × ℕ)). length q) come ∙ length-append to.queue (map (λ (t : ℕ). (t, k)) (line_of k from.queue)) ∙ ap (λ (n : ℕ). length to.queue + n) (length-map (line_of k from.queue) (λ (t : ℕ). (t, k))) in
+      ap (λ (q : List (ℕ × ℕ)). length q) come ∙ length-append to.queue (map (λ (t : ℕ). (t, k)) (line_of k from.queue))
+      ∙ ap (λ (n : ℕ). length to.queue + n) (length-map (line_of k from.queue) (λ (t : ℕ). (t, k))) in
       omega (arith, length-without_key k from.queue)
 
 pub has_own : (k size i n : ℕ) (has : Bool) → has ≡ (k % size == i && nat_lt k n) → k % size ≡ i → k < n → has ≡ true
@@ -452,7 +504,8 @@ module _ {R : Type 0} (key : R → ℕ) (line : R → List ℕ) (owes : R → Li
           record {
             old_len = length-set old (m % length old0) b ∙ a.old_len;
             new_len = length-set new (m % length new0) c ∙ a.new_len;
-            left = some_left m old0 old (m % length old0) b a.old_len (nobody_else key line owes n old0 may.whole m) (no_root_else key line owes n old0 may.whole m) (λ d. left_here m (get_or old0 (m % length old0) d) from b (own_old d) (left_now d) left) a.left;
+            left = some_left m old0 old (m % length old0) b a.old_len (nobody_else key line owes n old0 may.whole m) (no_root_else key line owes n old0 may.whole m)
+                (λ d. left_here m (get_or old0 (m % length old0) d) from b (own_old d) (left_now d) left) a.left;
             come = some_come m old0 new0 old new (m % length new0) c refl at_new
                 (λ d. come_here m (length new0) old0 (get_or new0 (m % length new0) d) to c (line_of m from.queue) (root_at m from.places) (own_new d) (come_now d)
                 (λ e. (left_now e).kept_line m (omega arith)) (λ e. (left_now e).kept_root m (omega arith)) come) a;
@@ -470,7 +523,11 @@ module _ {R : Type 0} (key : R → ℕ) (line : R → List ℕ) (owes : R → Li
         let at_new : k % length new0 < length new0 = omega (arith, may.some_new) in
         let come = a.come (k % length new0) d at_new in
         rw (a.new_len) (elim (leb_tells n k) [
-          | inl e ↦ (come.no_line k (λ lt. absurd (omega (arith, e.1))) ∙ sym (nobody_past key line owes n old0 may.whole k (k % length old0) d at_old e.1), come.no_root k (λ lt. absurd (omega (arith, e.1))) ∙ sym (no_root_past key line owes n old0 may.whole k (k % length old0) d at_old e.1))
+          | inl e ↦ (
+            come.no_line k (λ lt. absurd (omega (arith, e.1))) ∙ sym (nobody_past key line owes n old0 may.whole k (k % length old0) d at_old e.1),
+            come.no_root k
+                (λ lt. absurd (omega (arith, e.1))) ∙ sym (no_root_past key line owes n old0 may.whole k (k % length old0) d at_old e.1),
+          )
           | inr e ↦ (come.come_line k d e.1 refl, come.come_root k d e.1 refl)
         ])
 
@@ -479,9 +536,17 @@ module _ {R : Type 0} (key : R → ℕ) (line : R → List ℕ) (owes : R → Li
         let lt : i < length new0 = omega (arith, a.new_len) in
         let come = a.come i d lt in
         let laid : (k : ℕ) → has_key k (get_or new i d).places ≡ (k % length new0 == i && nat_lt k n) = λ k. come.keys k ∙ (may.fresh i d lt).laid_out k in
-        rw (a.new_len) (record { agrees = record { roots = in_place i d lt; pairs = λ k none. come.no_line k (λ l at. absurd (let f : true ≡ false = sym (has_own k (length new0) i n _ (laid k) at l) ∙ none in cc)) }; laid_out = laid })
+        rw (a.new_len) (record {
+          agrees = record {
+            roots = in_place i d lt;
+            pairs = λ k none. come.no_line k
+                (λ l at. absurd (let f : true ≡ false = sym (has_own k (length new0) i n _ (laid k) at l) ∙ none in cc));
+          };
+          laid_out = laid;
+        })
       where
-        in_place : (i : ℕ) (d : Contents R) → i < length new0 → (k : ℕ) → has_key k (get_or new i d).places ≡ true → (root : R) × (root_at k (get_or new i d).places ≡ Some root) × IsRootOf key line owes k (get_or new i d).queue root
+        in_place : (i : ℕ) (d : Contents R) → i < length new0 → (k : ℕ) → has_key k (get_or new i d).places ≡ true → (root : R) × (root_at k (get_or new i d).places ≡ Some root)
+            × IsRootOf key line owes k (get_or new i d).queue root
         in_place i d lt k has =
             let come = a.come i d lt in
             let is = own_of_has k (length new0) i n _ (come.keys k ∙ (may.fresh i d lt).laid_out k) has in

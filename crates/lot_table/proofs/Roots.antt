@@ -1,5 +1,40 @@
 -- How the buckets of a new table get their roots, and how those of the last version give them back.
-use Rattle.std.proofs.Common.{◌≡◌, ◌≢◌, ℕ, zero, suc, ◌+◌, ◌<◌, ◌≤◌, ◌%◌, ◌&&◌, true, inl, inr, List, [], ◌∷◌, ◌++◌, length, get_or, set, Some, None, refl, sym, ◌∙◌, ap, subst, arith, append_assoc, append-nil, length-append, get_or-set_same, get_or-set_other, ◌⊎◌}
+use Rattle.std.proofs.Common.{
+  ◌≡◌,
+  ◌≢◌,
+  ℕ,
+  zero,
+  suc,
+  ◌+◌,
+  ◌<◌,
+  ◌≤◌,
+  ◌%◌,
+  ◌&&◌,
+  true,
+  inl,
+  inr,
+  List,
+  [],
+  ◌∷◌,
+  ◌++◌,
+  length,
+  get_or,
+  set,
+  Some,
+  None,
+  refl,
+  sym,
+  ◌∙◌,
+  ap,
+  subst,
+  arith,
+  append_assoc,
+  append-nil,
+  length-append,
+  get_or-set_same,
+  get_or-set_other,
+  ◌⊎◌,
+}
 use Rattle.std.specs.Prelude.{nat_lt, slice_get, ◌==◌}
 use Rattle.std.proofs.lemmas.Bool.Decides.{eqb_tells}
 use Rattle.std.proofs.lemmas.List.{get_or_default, length-set}
@@ -56,12 +91,14 @@ module _ {R : Type 0} where
     pub filling_has : has_key (length rest) (get_or buckets (length rest % length before) r).places ≡ true
     filling_has =
         f.has (length rest % length before) (length rest) r
-        ∙ has_own (length rest) (length before) (length rest % length before) (length roots) _ ((fresh (length rest % length before) r bound).laid_out (length rest)) refl (omega (arith, count, f.within))
+        ∙ has_own (length rest) (length before) (length rest % length before) (length roots) _ ((fresh (length rest % length before) r bound).laid_out (length rest)) refl
+        (omega (arith, count, f.within))
 
     pub filling_empty : root_at (length rest) (get_or buckets (length rest % length before) r).places ≡ None
     filling_empty = f.empty (length rest % length before) (length rest) r bound (omega (arith, count))
 
-    pub filling_more : (c : Contents R) → c ≡ record (get_or buckets (length rest % length before) r) { places = with_root (length rest) (Some root) (get_or buckets (length rest % length before) r).places }
+    pub filling_more : (c : Contents R) → c ≡ record (get_or buckets (length rest % length before) r)
+        { places = with_root (length rest) (Some root) (get_or buckets (length rest % length before) r).places }
         → AreFilling roots rest before (set buckets (length rest % length before) c)
     filling_more c put =
         record {
@@ -103,7 +140,8 @@ module _ {R : Type 0} where
         empty : (i k : ℕ) (d : Contents R) → i < length before → k < length rest → root_at k (get_or (set buckets (length rest % length before) c) i d).places ≡ None
         empty i k d lt l =
             elim (eqb_tells i (length rest % length before)) [
-              | inl e ↦ rw (e.1, here d, places d) (root_at-with_other k (length rest) (Some root) (get_or buckets (length rest % length before) d).places (λ x. omega arith) ∙ f.empty (length rest % length before) k d bound (omega (arith, count)))
+              | inl e ↦ rw (e.1, here d, places d) (root_at-with_other k (length rest) (Some root) (get_or buckets (length rest % length before) d).places (λ x. omega arith)
+                  ∙ f.empty (length rest % length before) k d bound (omega (arith, count)))
               | inr e ↦ rw (there i d e.1) (f.empty i k d lt (omega (arith, count)))
             ]
 
@@ -113,11 +151,13 @@ module _ {R : Type 0} where
         full : (k : ℕ) (d : Contents R) → length rest ≤ k → k < length roots → root_at k (get_or (set buckets (length rest % length before) c) (k % length before) d).places ≡ slice_get roots k
         full k d le lt =
             elim (eqb_tells (length rest) k) [
-              | inl e ↦ rw (← e.1) (rw (here d, places d) (root_at-with_same (length rest) (Some root) (get_or buckets (length rest % length before) d).places (ap (λ (x : Contents R). has_key (length rest) x.places) (sym (was d)) ∙ filling_has) ∙ sym own))
+              | inl e ↦ rw (← e.1) (rw (here d, places d) (root_at-with_same (length rest) (Some root) (get_or buckets (length rest % length before) d).places
+                  (ap (λ (x : Contents R). has_key (length rest) x.places) (sym (was d)) ∙ filling_has) ∙ sym own))
               | inr e ↦
                   let later : length left ≤ k = omega (arith, count, le, e.1) in
                   elim (eqb_tells (k % length before) (length rest % length before)) [
-                    | inl a ↦ rw (a.1, here d, places d) (root_at-with_other k (length rest) (Some root) (get_or buckets (length rest % length before) d).places e.1 ∙ ap (λ (i : ℕ). root_at k (get_or buckets i d).places) (sym a.1) ∙ f.full k d later lt)
+                    | inl a ↦ rw (a.1, here d, places d) (root_at-with_other k (length rest) (Some root) (get_or buckets (length rest % length before) d).places e.1
+                        ∙ ap (λ (i : ℕ). root_at k (get_or buckets i d).places) (sym a.1) ∙ f.full k d later lt)
                     | inr a ↦ rw (there (k % length before) d a.1) (f.full k d later lt)
                   ]
             ]
@@ -133,7 +173,8 @@ module _ {R : Type 0} where
       elim (slice_get-push k xs x y at) [ inl e ↦ inl e | inr e ↦ inr (ap (λ n. suc n) e.0, e.1) ]
 
 module _ {R : Type 0} (key : R → ℕ) (line : R → List ℕ) (owes : R → List (ℕ × ℕ)) where
-  pub filling_ends : (threads : ℕ) (roots left : List R) (before buckets : List (Contents R)) → AreFresh (length roots) threads before → AreIdle key line owes roots → AreFilling roots left before buckets
+  pub filling_ends : (threads : ℕ) (roots left : List R) (before buckets : List (Contents R)) → AreFresh (length roots) threads before → AreIdle key line owes roots
+      → AreFilling roots left before buckets
       → length left ≡ 0 → AreFilled key line owes (length roots) buckets
   filling_ends threads roots left before buckets fresh idle f none i d lt =
       rw (f.len) (record { agrees = record { roots = in_place; pairs = λ k none. ap (λ q. line_of k q) nobody }; laid_out = laid })
@@ -185,7 +226,10 @@ module _ {R : Type 0} (key : R → ℕ) (line : R → List ℕ) (owes : R → Li
     taking_root = (found.0, (t.left (m % length opening) r place).kept_root m (omega arith) ∙ found.1)
 
     pub taking_more : (c : Contents R) (after : List R) (root : R) → root_at m (get_or buckets (m % length opening) r).places ≡ Some root
-        → c ≡ record (get_or buckets (m % length opening) r) { places = with_root m None (get_or buckets (m % length opening) r).places; queue = without_key m (get_or buckets (m % length opening) r).queue } → after ≡ out ++ root ∷ []
+        → c ≡ record (get_or buckets (m % length opening) r) {
+          places = with_root m None (get_or buckets (m % length opening) r).places;
+          queue = without_key m (get_or buckets (m % length opening) r).queue;
+        } → after ≡ out ++ root ∷ []
         → AreTaking (m + 1) opening (set buckets (m % length opening) c) before after
     unfolding found taking_root
     taking_more c after root at took pushed =

@@ -66,7 +66,7 @@ module _ {V Q : Type 0} (keeps : ℕ → V → Type 0) (grows : V → V → Type
       last_found = All-weaker Fits (λ (p : PassShown (LockPassView V)). (l : ℕ) (y : V) → slice_get vs l ≡ Some y → FoundOk keeps grows share l p.pass.thread p.pass.own y)
           (λ p fit l y e. subst (λ z. FoundOk keeps grows share l p.pass.thread z y) fit.1 (subst (FoundOk keeps grows share l p.pass.thread (w.pass p.pass.thread)) (same_at l y e)
           (finds_value keeps grows share size.threads size.locks w.pass ended.left.homes ended.left.fits.lawful p.pass.thread fit.0 l (lock_of l y e) (nobody p.pass.thread l)))) passes
-              ended.left.passes_fit
+          ended.left.passes_fit
 
       -- some pass has seen it
       pub last_seen : (l : ℕ) (y : V) → slice_get vs l ≡ Some y → Any (λ (p : PassShown (LockPassView V)). HasSeen p.pass.own l y) passes

@@ -57,7 +57,7 @@ module _ {V Q : Type 0} (keeps : ℕ → V → Type 0) (grows : V → V → Type
     wakes : (f : LockPassView V → LockPassView V) (token l : ℕ) → w.spot t ≡ lying l token → wants_of awake (f (w.pass t)).aim ≡ wants_of (lying l token) (w.pass t).aim
         → Kept n m (record w { pass = put w.pass t (f (w.pass t)); spot = put w.spot t awake }) → IsLawful keeps grows share n m (put w.pass t (f (w.pass t))) hs
         → (then : PassView (LockPassView V) → Type 0) → ((k : ℕ) → then (pass_after p (f p.own) k (Collects t (Some token))))
-            → PassTurn (scheme keeps grows share size xs) (letter_at t) 0 p then w ws hs
+        → PassTurn (scheme keeps grows share size xs) (letter_at t) 0 p then w ws hs
     wakes f token l lies want kept lawful then told =
         let p1 : LockPassView V = f (w.pass t) in
         let w' : LockWorld V = record w { pass = put w.pass t p1; spot = put w.spot t awake } in
@@ -81,7 +81,7 @@ module _ {V Q : Type 0} (keeps : ℕ → V → Type 0) (grows : V → V → Type
       barges : w.spot t ≡ lying l 0 → Turn 1
       barges lies = wakes woken 0 l lies refl (wakes_kept n m w ok.kept t l lies)
           (same_values keeps grows share n m w.pass hs ok.lawful t (woken (w.pass t)) (λ k. record { down = λ h. h; up = λ h. h; places = refl; seen = refl }) (refl, refl)) (Collecting p 1)
-              (λ k. (omega arith, (k, refl)))
+          (λ k. (omega arith, (k, refl)))
 
       handed : w.spot t ≡ lying l 1 → Turn 2
       handed lies =
@@ -90,7 +90,7 @@ module _ {V Q : Type 0} (keeps : ℕ → V → Type 0) (grows : V → V → Type
           let x : V = ok.lawful.value l in
           let mine : ¬ Holds (w.pass t) l = (ok.kept.threads t).handed l (subst (λ z. IsHanded z l) (sym lies) (refl, refl)) in
           let nobody : (u : ℕ) → ¬ Holds (w.pass u) l = (λ u h. let f : (w.word l).owner ≡ suc u = (ok.kept.threads u).holds l h in let same : u ≡ t = omega arith in mine
-              (subst (λ z. Holds (w.pass z) l) same h)) in
+          (subst (λ z. Holds (w.pass z) l) same h)) in
           let long : l < length (w.pass t).holds = (let e = (ok.kept.threads t).long in omega arith) in
           wakes (λ z. woken (gripped z l x)) 1 l lies refl (handed_kept n m w ok.kept t l lies x)
           (gets_value keeps grows share n m w.pass hs ok.lawful t fit.0 l near itself nobody (woken (gripped (w.pass t) l x))

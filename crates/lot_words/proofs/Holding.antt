@@ -58,7 +58,7 @@ module _ {V : Type 0} (n m : ℕ) (w : LockWorld V) (ok : Kept n m w) (t : ℕ) 
               })
               (λ v ne. thread_on n m w.word word w.root w.root v (w.pass v) (w.spot v)
               (λ k. put_elim (λ z. (w.word k).owner ≡ suc v → z.owner ≡ suc v) w.word l y k
-                  (λ kl e. absurd (let f : (w.word l).owner ≡ suc v = subst (λ z. (w.word z).owner ≡ suc v) kl e in omega arith)) (λ _ e. e))
+              (λ kl e. absurd (let f : (w.word l).owner ≡ suc v = subst (λ z. (w.word z).owner ≡ suc v) kl e in omega arith)) (λ _ e. e))
               (λ k _. put_elim (λ z. (w.word k).parked ≡ true → z.parked ≡ true) w.word l y k (λ kl e. subst (λ z. (w.word z).parked ≡ true) kl e) (λ _ e. e))
               (same_roots v w.root) (ok.threads v));
           locks = each_word n (put w.pass t p) w.spot w l y (w.root l)
@@ -73,7 +73,7 @@ module _ {V : Type 0} (n m : ℕ) (w : LockWorld V) (ok : Kept n m w) (t : ℕ) 
                 tried = λ e _. absurd (omega arith);
               })
               (λ k ne. lock_stays n k (w.word k) (w.root k) w.pass w.spot t p w.spot (ok.locks k) (λ h. subst IsHeld (sym (get_or-set_other xs l k Held NotHeld ne)) h) (λ v h. h)
-                  (λ _ a. absurd (ne (aims k a))) (λ _ v _ h. h));
+              (λ _ a. absurd (ne (aims k a))) (λ _ v _ h. h));
         }
 
     -- the thread finds the lock held, and wants it
@@ -170,14 +170,14 @@ module _ {V : Type 0} (n m : ℕ) (w : LockWorld V) (ok : Kept n m w) (t : ℕ) 
                 })
                 (λ v ne. thread_on n m w.word word w.root w.root v (w.pass v) (w.spot v)
                 (λ k. put_elim (λ z. (w.word k).owner ≡ suc v → z.owner ≡ suc v) w.word l x k
-                    (λ kl e. absurd (ne (let f : (w.word l).owner ≡ suc v = subst (λ z. (w.word z).owner ≡ suc v) kl e in omega arith))) (λ _ e. e))
+                (λ kl e. absurd (ne (let f : (w.word l).owner ≡ suc v = subst (λ z. (w.word z).owner ≡ suc v) kl e in omega arith))) (λ _ e. e))
                 (λ k e. put_elim (λ z. (w.word k).parked ≡ true → z.parked ≡ true) w.word l x k
-                    (λ kl _. absurd (ne (let f : (w.word l).owner ≡ suc v = subst (λ z. (w.word z).owner ≡ suc v) kl e in omega arith))) (λ _ e. e))
+                (λ kl _. absurd (ne (let f : (w.word l).owner ≡ suc v = subst (λ z. (w.word z).owner ≡ suc v) kl e in omega arith))) (λ _ e. e))
                 (same_roots v w.root) (ok.threads v));
             locks = each_word n (put w.pass t p) w.spot w l x (w.root l)
                 (record { once = (ok.locks l).once; had = λ v e. absurd (omega arith); parks = λ some. absurd (some nobody); tried = λ _ some. absurd (some nobody) })
                 (λ k ne. lock_stays n k (w.word k) (w.root k) w.pass w.spot t p w.spot (ok.locks k) (λ h. subst IsHeld (sym (get_or-set_other xs l k NotHeld NotHeld ne)) h) (λ v h. h)
-                    (λ _ a. a) (λ _ v _ h. h));
+                (λ _ a. a) (λ _ v _ h. h));
           }
 
       -- the owner finds the lock parked

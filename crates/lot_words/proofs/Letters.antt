@@ -1,5 +1,34 @@
 -- A lock is passed on to the first of its line, a letter is posted, a letter is collected: the rule of threads and locks is kept.
-use Rattle.std.proofs.Common.{◌≡◌, ◌≢◌, ℕ, suc, ◌<◌, ◌⊎◌, if◌then◌else◌, Bool, true, false, List, [], ◌∷◌, length, refl, sym, ap, subst, ◌∙◌, inl, inr, ⊎_elim, arith, length-set, get_or-set_same, get_or-set_other, Some, None}
+use Rattle.std.proofs.Common.{
+  ◌≡◌,
+  ◌≢◌,
+  ℕ,
+  suc,
+  ◌<◌,
+  ◌⊎◌,
+  if◌then◌else◌,
+  Bool,
+  true,
+  false,
+  List,
+  [],
+  ◌∷◌,
+  length,
+  refl,
+  sym,
+  ap,
+  subst,
+  ◌∙◌,
+  inl,
+  inr,
+  ⊎_elim,
+  arith,
+  length-set,
+  get_or-set_same,
+  get_or-set_other,
+  Some,
+  None,
+}
 use Rattle.std.specs.List.{Contains}
 use mathlib.Core.Logic.{dite}
 use native.Mathlib.Decide.{ℕ_discrete}
@@ -46,8 +75,12 @@ module _ {V : Type 0} (n m : ℕ) (w : LockWorld V) (ok : Kept n m w) where
 
     -- the first of the line is owed the token k, which says whether it is the owner then
     pub passes_kept : (y : V) (k o : ℕ) (b : Bool) → ((k ≡ 0) × (o ≡ 0)) ⊎ ((k ≡ 1) × (o ≡ suc u)) → (us ≢ [] → b ≡ true)
-        → Kept n m (record w { pass = put w.pass t (let_go (w.pass t) l y); spot = put w.spot u (owed l k); word = put w.word l (record { owner = o; parked = b });
-            root = put w.root l (record (w.root l) { line = us; owes = Some (u, k) }) })
+        → Kept n m (record w {
+          pass = put w.pass t (let_go (w.pass t) l y);
+          spot = put w.spot u (owed l k);
+          word = put w.word l (record { owner = o; parked = b });
+          root = put w.root l (record (w.root l) { line = us; owes = Some (u, k) });
+        })
     passes_kept y k o b token more =
         let xs = (w.pass t).holds in
         let me = ok.threads t in
@@ -62,7 +95,7 @@ module _ {V : Type 0} (n m : ℕ) (w : LockWorld V) (ok : Kept n m w) where
         let own : (w.word l).owner ≡ suc t = me.holds l has in
         let once : IsOnce (u ∷ us) = subst IsOnce line (ok.locks l).once in
         let not_mine : (v : ℕ) → v ≢ t → (j : ℕ) → j ≡ l → (w.word j).owner ≡ suc v → ⊥ = (λ v vt j jl e. vt
-            (let f : (w.word l).owner ≡ suc v = subst (λ z. (w.word z).owner ≡ suc v) jl e in omega arith)) in
+        (let f : (w.word l).owner ≡ suc v = subst (λ z. (w.word z).owner ≡ suc v) jl e in omega arith)) in
         let owner_on : (v : ℕ) → v ≢ t → (j : ℕ) → (w.word j).owner ≡ suc v → (word j).owner ≡ suc v
         = (λ v vt j. put_elim (λ z. (w.word j).owner ≡ suc v → z.owner ≡ suc v) w.word l x j (λ jl e. absurd (not_mine v vt j jl e)) (λ _ e. e)) in
         let parked_on : (v : ℕ) → v ≢ t → (j : ℕ) → (w.word j).owner ≡ suc v → (w.word j).parked ≡ true → (word j).parked ≡ true
@@ -114,7 +147,7 @@ module _ {V : Type 0} (n m : ℕ) (w : LockWorld V) (ok : Kept n m w) where
                 had = λ v e. ⊎_elim {C = (v < n) × (Holds (put w.pass t p v) l ⊎ IsHanded (spots v) l)}
                     (λ z. absurd (let f = z.1 in omega arith))
                     (λ z. let uv : u ≡ v = (let f = z.1 in omega arith) in subst (λ i. (i < n) × (Holds (put w.pass t p i) l ⊎ IsHanded (spots i) l)) uv
-                        (first_sleeps.0, inr (subst (λ s. IsHanded s l) (sym (put_same w.spot u (owed l k))) (refl, z.0))))
+                    (first_sleeps.0, inr (subst (λ s. IsHanded s l) (sym (put_same w.spot u (owed l k))) (refl, z.0))))
                     token;
                 parks = more;
                 tried = λ e some. (
@@ -146,8 +179,11 @@ module _ {V : Type 0} (n m : ℕ) (w : LockWorld V) (ok : Kept n m w) where
         let me = ok.threads u in
         let stays : (j : ℕ) → LockFits n w.pass spots j (w.word j) (w.root j) = (λ j. let a = ok.locks j in record {
           once = a.once;
-          had = λ v e. let h = a.had v e in (h.0, ⊎_elim {C = Holds (w.pass v) j ⊎ IsHanded (spots v) j} inl
-              (λ g. inr (hands_on u (lying l k) j (λ i. subst (λ z. IsHanded z j) debtor_waits i) v g)) h.1);
+          had = λ v e. let h = a.had v e in (
+            h.0,
+            ⊎_elim {C = Holds (w.pass v) j ⊎ IsHanded (spots v) j} inl
+                (λ g. inr (hands_on u (lying l k) j (λ i. subst (λ z. IsHanded z j) debtor_waits i) v g)) h.1,
+          );
           parks = a.parks;
           tried = λ e some. let h = a.tried e some in (h.0, (h.1.0, h.1.1, out_on u (lying l k) (lying_out l k) h.0 h.1.2));
         }) in

@@ -1,5 +1,31 @@
 -- How a change of the world keeps the rule of threads and locks.
-use Rattle.std.proofs.Common.{◌≡◌, ◌≢◌, ℕ, suc, ◌<◌, ◌⊎◌, if◌then◌else◌, true, false, List, length, get_or, set, refl, sym, ap, subst, inl, inr, ⊎_elim, get_or-set_same, get_or-set_other, Option, Some, None}
+use Rattle.std.proofs.Common.{
+  ◌≡◌,
+  ◌≢◌,
+  ℕ,
+  suc,
+  ◌<◌,
+  ◌⊎◌,
+  if◌then◌else◌,
+  true,
+  false,
+  List,
+  length,
+  get_or,
+  set,
+  refl,
+  sym,
+  ap,
+  subst,
+  inl,
+  inr,
+  ⊎_elim,
+  get_or-set_same,
+  get_or-set_other,
+  Option,
+  Some,
+  None,
+}
 use Rattle.std.specs.List.{Contains}
 use mathlib.Core.Logic.{dite}
 use native.Mathlib.Decide.{ℕ_discrete}
@@ -112,8 +138,15 @@ module _ {V : Type 0} (n : ℕ) where
           (λ a. inl (put_elim (λ y. Holds y k) pass t p v (λ vt. holds (subst (λ z. Holds (pass z) k) vt a)) (λ _. a))) (λ a. inr (hands v a)) h.1,
     );
     parks = ok.parks;
-    tried = λ e some. let h = ok.tried e some in (h.0, (h.1.0, put_elim (λ y. y.aim ≡ Some k) pass t p h.0 (λ vt. aims e (subst (λ z. (pass z).aim ≡ Some k) vt h.1.1)) (λ _. h.1.1), outs e
-        h.0 h.1.1 h.1.2));
+    tried = λ e some. let h = ok.tried e some in (
+      h.0,
+      (
+        h.1.0,
+        put_elim (λ y. y.aim ≡ Some k) pass t p h.0 (λ vt. aims e (subst (λ z. (pass z).aim ≡ Some k) vt h.1.1)) (λ _. h.1.1),
+        outs e
+            h.0 h.1.1 h.1.2,
+      ),
+    );
   }
 
   -- ---- the whole world

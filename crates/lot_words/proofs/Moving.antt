@@ -69,8 +69,16 @@ module _ {V Q : Type 0} (keeps : ℕ → V → Type 0) (grows : V → V → Type
         words = record { wide = ok.words.wide; words = ok.words.words; letters = ok.words.letters };
         kept = record {
           threads = each_thread size.threads size.locks w w.word w.root w.spot t (placed (w.pass t) l pl)
-              (let a = ok.kept.threads t in record { long = a.long; aims = a.aims; holds = a.holds; found = a.found; spot = a.spot; in_line = a.in_line; is_owed = a.is_owed;
-                  handed = a.handed }) (λ v _. ok.kept.threads v);
+              (let a = ok.kept.threads t in record {
+                long = a.long;
+                aims = a.aims;
+                holds = a.holds;
+                found = a.found;
+                spot = a.spot;
+                in_line = a.in_line;
+                is_owed = a.is_owed;
+                handed = a.handed;
+              }) (λ v _. ok.kept.threads v);
           locks = λ k. lock_stays size.threads k (w.word k) (w.root k) w.pass w.spot t (placed (w.pass t) l pl) w.spot (ok.kept.locks k) (λ h. h) (λ v h. h) (λ _ a. a) (λ _ v _ h. h);
         };
         lawful = subst (IsLawful keeps grows share size.threads size.locks (put w.pass t (placed (w.pass t) l pl))) (sym is)

@@ -97,7 +97,7 @@ module _ {V Q : Type 0} (keeps : ℕ → V → Type 0) (grows : V → V → Type
         both_stay (scheme keeps grows share size xs) (word_at l) x w ws hs ok is p fit (Makes (Park t l) (Saw false))
         (refl, (row_park_not w size.threads size.locks ok.kept t fit.0 up' l here (aim_of ∙ aim) not_both, refl)) q (Parks p q x) root
         (λ k. subst (λ z. Notes p (parked_pass p.own z) (Makes (Park t l) (Saw z)) (pass_after p p.own k (Makes (Park t l) (Saw false)))
-            × (record q { own = q.own } ≡ record q { own = parked_root q.own t z })) (sym three) ((k, refl), refl))
+        × (record q { own = q.own } ≡ record q { own = parked_root q.own t z })) (sym three) ((k, refl), refl))
 
     park_turn : p.own.asleep ≡ false → p.own.aim ≡ Some l → (h b : Bool) → is_owned (w.word l).owner ≡ h → (w.word l).parked ≡ b
         → BothTurn (scheme keeps grows share size xs) (word_at l) (bits_of h b) p q (Parks p q (bits_of h b)) w ws hs
@@ -216,7 +216,7 @@ module _ {V Q : Type 0} (keeps : ℕ → V → Type 0) (grows : V → V → Type
   parks p q up aim w ws hs ok fit root small =
       let n : bits_of (is_owned (w.word q.key).owner) (w.word q.key).parked ≡ get_or ws (word_at q.key) 0 = sym (ok.words.words q.key root.0) in
       subst (λ n. BothTurn (scheme keeps grows share size xs) (word_at q.key) n p q (Parks p q n) w ws hs) n
-          (park_turn p q w ws hs ok fit root up aim (is_owned (w.word q.key).owner) (w.word q.key).parked refl refl)
+      (park_turn p q w ws hs ok fit root up aim (is_owned (w.word q.key).owner) (w.word q.key).parked refl refl)
 
   module _ (itself : (x : V) → grows x x) (on : (a b c : V) → grows a b → grows b c → grows a c) (p : PassView (LockPassView V)) (q : RootView LockRootView) (up : p.own.asleep ≡ false)
       (aim : p.own.aim ≡ None)

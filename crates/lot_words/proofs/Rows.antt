@@ -1,5 +1,38 @@
 -- What each kind of event is to the lock part of the model: a step of lot_core's.
-use Rattle.std.proofs.Common.{◌≡◌, ◌≢◌, ℕ, zero, suc, ◌<◌, ◌==◌, ◌&&◌, ◌⊎◌, not, Bool, true, false, cond, List, [], ◌∷◌, ◌++◌, length, refl, sym, ap, ◌∙◌, inl, inr, ⊎_elim, arith, eq-eqb, ne_eqb, Option, Some, None}
+use Rattle.std.proofs.Common.{
+  ◌≡◌,
+  ◌≢◌,
+  ℕ,
+  zero,
+  suc,
+  ◌<◌,
+  ◌==◌,
+  ◌&&◌,
+  ◌⊎◌,
+  not,
+  Bool,
+  true,
+  false,
+  cond,
+  List,
+  [],
+  ◌∷◌,
+  ◌++◌,
+  length,
+  refl,
+  sym,
+  ap,
+  ◌∙◌,
+  inl,
+  inr,
+  ⊎_elim,
+  arith,
+  eq-eqb,
+  ne_eqb,
+  Option,
+  Some,
+  None,
+}
 use Rattle.std.specs.List.{Contains}
 use mathlib.Core.Path.{fun_ext}
 use Rattle.lot_core.specs.World.{put}
@@ -111,8 +144,10 @@ module _ {V : Type 0} (w : LockWorld V) where
         got = record w { pass = put w.pass t (gripped (w.pass t) l x); word = put w.word l (record { owner = suc t; parked = (w.word l).parked }) }
 
         got_part : (want : ℕ → Option ℕ) → put wants t None ≡ want
-            → part_of got ≡ record { locks = record (part_of w).locks { held = put (part_of w).locks.held l true; has = put (part_of w).locks.has l (put ((part_of w).locks.has l) t true) };
-                wants = want }
+            → part_of got ≡ record {
+              locks = record (part_of w).locks { held = put (part_of w).locks.held l true; has = put (part_of w).locks.has l (put ((part_of w).locks.has l) t true) };
+              wants = want;
+            }
         got_part want is = let y : LockWord = record { owner = suc t; parked = (w.word l).parked } in λ i. record {
           locks = record {
             held = held_now l y i;
@@ -128,14 +163,20 @@ module _ {V : Type 0} (w : LockWorld V) where
 
         pub row_take_free : Aims (w.pass t) l → LockStep n m (part_of w) (Take t l) (Saw true) (part_of got)
         row_take_free aims =
-            let then : Bool → LockPart = λ c. record { locks = cond c (part_of w).locks (record (part_of w).locks
-                { held = put (part_of w).locks.held l true; has = put (part_of w).locks.has l (put ((part_of w).locks.has l) t true) }); wants = put wants t (cond c (Some l) None) } in
+            let then : Bool → LockPart = λ c. record {
+              locks = cond c (part_of w).locks (record (part_of w).locks
+                  { held = put (part_of w).locks.held l true; has = put (part_of w).locks.has l (put ((part_of w).locks.has l) t true) });
+              wants = put wants t (cond c (Some l) None);
+            } in
             ((near, here, may_try aims), ap (λ c. Saw (not c)) free_now, got_part (put wants t None) refl ∙ ap then free_now)
 
         pub row_try_free : (w.pass t).aim ≡ None → LockStep n m (part_of w) (Try t l) (Saw true) (part_of got)
         row_try_free aim =
-            let then : Bool → LockPart = λ c. record { locks = cond c (part_of w).locks (record (part_of w).locks
-                { held = put (part_of w).locks.held l true; has = put (part_of w).locks.has l (put ((part_of w).locks.has l) t true) }); wants = wants } in
+            let then : Bool → LockPart = λ c. record {
+              locks = cond c (part_of w).locks (record (part_of w).locks
+                  { held = put (part_of w).locks.held l true; has = put (part_of w).locks.has l (put ((part_of w).locks.has l) t true) });
+              wants = wants;
+            } in
             ((near, here, wants_now ∙ aim), ap (λ c. Saw (not c)) free_now, got_part wants (ap (put wants t) (sym (wants_now ∙ aim)) ∙ put_again wants t) ∙ ap then free_now)
 
       module _ (held : (w.word l).owner ≢ 0) where
@@ -144,18 +185,27 @@ module _ {V : Type 0} (w : LockWorld V) where
 
         pub row_take_held : Aims (w.pass t) l → LockStep n m (part_of w) (Take t l) (Saw false) (part_of (record w { pass = put w.pass t (wishing (w.pass t) l) }))
         row_take_held aims =
-            let then : Bool → LockPart = λ c. record { locks = cond c (part_of w).locks (record (part_of w).locks
-                { held = put (part_of w).locks.held l true; has = put (part_of w).locks.has l (put ((part_of w).locks.has l) t true) }); wants = put wants t (cond c (Some l) None) } in (
+            let then : Bool → LockPart = λ c. record {
+              locks = cond c (part_of w).locks (record (part_of w).locks
+                  { held = put (part_of w).locks.held l true; has = put (part_of w).locks.has l (put ((part_of w).locks.has l) t true) });
+              wants = put wants t (cond c (Some l) None);
+            } in (
               (near, here, may_try aims),
               ap (λ c. Saw (not c)) held_now_is,
-              (λ i. record { locks = (part_of w).locks; wants = wants_put t (wishing (w.pass t) l) w.spot (Some l) (ap (λ z. wants_of z (Some l)) (is_awake n m w ok t near up))
-                  (λ v ne. refl) i }) ∙ ap then held_now_is,
+              (λ i. record {
+                locks = (part_of w).locks;
+                wants = wants_put t (wishing (w.pass t) l) w.spot (Some l) (ap (λ z. wants_of z (Some l)) (is_awake n m w ok t near up))
+                    (λ v ne. refl) i;
+              }) ∙ ap then held_now_is,
             )
 
         pub row_try_held : (w.pass t).aim ≡ None → LockStep n m (part_of w) (Try t l) (Saw false) (part_of w)
         row_try_held aim =
-            let then : Bool → LockPart = λ c. record { locks = cond c (part_of w).locks (record (part_of w).locks
-                { held = put (part_of w).locks.held l true; has = put (part_of w).locks.has l (put ((part_of w).locks.has l) t true) }); wants = wants } in
+            let then : Bool → LockPart = λ c. record {
+              locks = cond c (part_of w).locks (record (part_of w).locks
+                  { held = put (part_of w).locks.held l true; has = put (part_of w).locks.has l (put ((part_of w).locks.has l) t true) });
+              wants = wants;
+            } in
             ((near, here, wants_now ∙ aim), ap (λ c. Saw (not c)) held_now_is, ap then held_now_is)
 
         pub row_mark : Aims (w.pass t) l → LockStep n m (part_of w) (Mark t l) Done (part_of (record w { word = put w.word l (record { owner = (w.word l).owner; parked = true }) }))
@@ -174,23 +224,34 @@ module _ {V : Type 0} (w : LockWorld V) where
         )
 
         pub row_park : (w.pass t).aim ≡ Some l → (w.word l).parked ≡ true
-            → LockStep n m (part_of w) (Park t l) (Saw true) (part_of (record w { pass = put w.pass t (sleeping (w.pass t)); spot = put w.spot t (queued l);
-                root = put w.root l (record (w.root l) { line = (w.root l).line ++ t ∷ [] }) }))
+            → LockStep n m (part_of w) (Park t l) (Saw true) (part_of (record w {
+              pass = put w.pass t (sleeping (w.pass t));
+              spot = put w.spot t (queued l);
+              root = put w.root l (record (w.root l) { line = (w.root l).line ++ t ∷ [] });
+            }))
         row_park aim parked =
             let both : true ≡ (is_owned (w.word l).owner && (w.word l).parked) = (λ i. held_now_is i && sym parked i) in
             let q : LockRootView = record (w.root l) { line = (w.root l).line ++ t ∷ [] } in
-            let then : Bool → LockPart = λ c. record { locks = cond c (record (part_of w).locks { line = put (part_of w).locks.line l ((part_of w).locks.line l ++ t ∷ []) })
-                (part_of w).locks; wants = wants } in (
+            let then : Bool → LockPart = λ c. record {
+              locks = cond c (record (part_of w).locks { line = put (part_of w).locks.line l ((part_of w).locks.line l ++ t ∷ []) })
+                  (part_of w).locks;
+              wants = wants;
+            } in (
               (near, here, wants_now ∙ aim, not_in_line),
               ap Saw both,
-              (λ i. record { locks = record (part_of w).locks { line = line_now l q i }; wants = wants_same t (sleeping (w.pass t)) (put w.spot t (queued l)) refl
-                  (spot_same t (queued l) (sym wants_now)) i }) ∙ ap then both,
+              (λ i. record {
+                locks = record (part_of w).locks { line = line_now l q i };
+                wants = wants_same t (sleeping (w.pass t)) (put w.spot t (queued l)) refl
+                    (spot_same t (queued l) (sym wants_now)) i;
+              }) ∙ ap then both,
             )
 
       pub row_park_not : (w.pass t).aim ≡ Some l → (is_owned (w.word l).owner && (w.word l).parked) ≡ false → LockStep n m (part_of w) (Park t l) (Saw false) (part_of w)
       row_park_not aim not_both =
-          let then : Bool → LockPart = λ c. record { locks = cond c (record (part_of w).locks { line = put (part_of w).locks.line l ((part_of w).locks.line l ++ t ∷ []) }) (part_of w).locks;
-              wants = wants } in
+          let then : Bool → LockPart = λ c. record {
+            locks = cond c (record (part_of w).locks { line = put (part_of w).locks.line l ((part_of w).locks.line l ++ t ∷ []) }) (part_of w).locks;
+            wants = wants;
+          } in
           ((near, here, wants_now ∙ aim, not_in_line), ap Saw (sym not_both), ap then (sym not_both))
 
       -- ---- free and pass
@@ -202,23 +263,39 @@ module _ {V : Type 0} (w : LockWorld V) where
         has_it = eq-eqb (w.word l).owner (suc t) owner_is
 
         abbrev let_go_part : (ℕ → Bool) → (ℕ → List ℕ) → LockPart
-        let_go_part parked line = record { locks = record { held = put (part_of w).locks.held l false; parked = parked; line = line;
-            has = put (part_of w).locks.has l (put ((part_of w).locks.has l) t false) }; wants = wants }
+        let_go_part parked line = record {
+          locks = record {
+            held = put (part_of w).locks.held l false;
+            parked = parked;
+            line = line;
+            has = put (part_of w).locks.has l (put ((part_of w).locks.has l) t false);
+          };
+          wants = wants;
+        }
 
         module _ (y : V) where
           pub row_free : (w.word l).parked ≡ false
-              → LockStep n m (part_of w) (Free t l) (Saw true) (part_of (record w { pass = put w.pass t (let_go (w.pass t) l y);
-                  word = put w.word l (record { owner = 0; parked = (w.word l).parked }) }))
+              → LockStep n m (part_of w) (Free t l) (Saw true) (part_of (record w {
+                pass = put w.pass t (let_go (w.pass t) l y);
+                word = put w.word l (record { owner = 0; parked = (w.word l).parked });
+              }))
           row_free unparked =
               let x : LockWord = record { owner = 0; parked = (w.word l).parked } in
               let e : false ≡ (w.word l).parked = sym unparked in
-              let then : Bool → LockPart = λ c. record { locks = cond c (part_of w).locks (record (part_of w).locks
-                  { held = put (part_of w).locks.held l false; has = put (part_of w).locks.has l (put ((part_of w).locks.has l) t false) }); wants = wants } in (
+              let then : Bool → LockPart = λ c. record {
+                locks = cond c (part_of w).locks (record (part_of w).locks
+                    { held = put (part_of w).locks.held l false; has = put (part_of w).locks.has l (put ((part_of w).locks.has l) t false) });
+                wants = wants;
+              } in (
                 (near, here, has_it, wants_now ∙ aim),
                 ap (λ c. Saw (not c)) e,
                 (λ i. record {
-                  locks = record { held = held_now l x i; parked = parked_same l x refl i; line = (part_of w).locks.line;
-                      has = has_now l x (put ((part_of w).locks.has l) t false) (has_loses (w.word l).owner t owner_is) i };
+                  locks = record {
+                    held = held_now l x i;
+                    parked = parked_same l x refl i;
+                    line = (part_of w).locks.line;
+                    has = has_now l x (put ((part_of w).locks.has l) t false) (has_loses (w.word l).owner t owner_is) i;
+                  };
                   wants = wants_same t (let_go (w.pass t) l y) w.spot refl (λ v. refl) i;
                 }) ∙ ap then e,
               )
@@ -226,13 +303,17 @@ module _ {V : Type 0} (w : LockWorld V) where
           -- nobody is in the line
           pub row_pass_none : (more : Bool) → (w.word l).parked ≡ true → (w.root l).line ≡ []
               → LockStep n m (part_of w) (Pass t l false more) (Sleeper None) (part_of (record w
-                  { pass = put w.pass t (let_go (w.pass t) l y); word = put w.word l (record { owner = 0; parked = false }) }))
+              { pass = put w.pass t (let_go (w.pass t) l y); word = put w.word l (record { owner = 0; parked = false }) }))
           row_pass_none more parked line = let x : LockWord = record { owner = 0; parked = false } in (
             (near, here, has_it, parked, wants_now ∙ aim, (λ _ two. absurd (let f : length (w.root l).line ≡ 0 = ap length line in omega arith))),
             ap (λ z. Sleeper (first z)) (sym line),
             (λ i. record {
-              locks = record { held = held_now l x i; parked = parked_now l x i; line = (part_of w).locks.line;
-                  has = has_now l x (put ((part_of w).locks.has l) t false) (has_loses (w.word l).owner t owner_is) i };
+              locks = record {
+                held = held_now l x i;
+                parked = parked_now l x i;
+                line = (part_of w).locks.line;
+                has = has_now l x (put ((part_of w).locks.has l) t false) (has_loses (w.word l).owner t owner_is) i;
+              };
               wants = wants_same t (let_go (w.pass t) l y) w.spot refl (λ v. refl) i;
             }) ∙ (let then : List ℕ → LockPart = λ z. record { locks = passed_line (part_of w).locks t l false more z; wants = wants } in ap then (sym line)),
           )
@@ -242,8 +323,12 @@ module _ {V : Type 0} (w : LockWorld V) where
             waits = first_waits n m w ok t l near here up has u us line paid
 
             abbrev passed : ℕ → LockWord → LockWorld V
-            passed k x = record w { pass = put w.pass t (let_go (w.pass t) l y); spot = put w.spot u (owed l k); word = put w.word l x;
-                root = put w.root l (record (w.root l) { line = us; owes = Some (u, k) }) }
+            passed k x = record w {
+              pass = put w.pass t (let_go (w.pass t) l y);
+              spot = put w.spot u (owed l k);
+              word = put w.word l x;
+              root = put w.root l (record (w.root l) { line = us; owes = Some (u, k) });
+            }
 
             -- the lock is let go, and the first may try
             pub row_pass_plain : (more : Bool) → SaysMore (w.root l).line more → LockStep n m (part_of w) (Pass t l false more) (Sleeper (Some u))
@@ -252,8 +337,12 @@ module _ {V : Type 0} (w : LockWorld V) where
               (near, here, has_it, parked, wants_now ∙ aim, (λ _. says)),
               ap (λ z. Sleeper (first z)) (sym line),
               (λ i. record {
-                locks = record { held = held_now l x i; parked = parked_now l x i; line = line_now l q i;
-                    has = has_now l x (put ((part_of w).locks.has l) t false) (has_loses (w.word l).owner t owner_is) i };
+                locks = record {
+                  held = held_now l x i;
+                  parked = parked_now l x i;
+                  line = line_now l q i;
+                  has = has_now l x (put ((part_of w).locks.has l) t false) (has_loses (w.word l).owner t owner_is) i;
+                };
                 wants = wants_same t (let_go (w.pass t) l y) (put w.spot u (owed l 0)) refl (spot_same u (owed l 0) (ap (λ z. wants_of z (w.pass u).aim) (sym waits))) i;
               }) ∙ (let then : List ℕ → LockPart = λ z. record { locks = passed_line (part_of w).locks t l false more z; wants = wants } in ap then (sym line)),
             )
@@ -276,13 +365,16 @@ module _ {V : Type 0} (w : LockWorld V) where
                     };
                     wants = is_put (λ v. wants_of (spots v) (put w.pass t p v).aim) wants u None (ap (λ z. wants_of z (put w.pass t p u).aim) (put_same w.spot u (owed l 1)))
                         (λ v ne. ap (λ z. wants_of z (put w.pass t p v).aim) (put_other w.spot u (owed l 1) v ne)
-                            ∙ put_elim (λ z. wants_of (w.spot v) z.aim ≡ wants v) w.pass t p v (λ vt. ap (λ z. wants_of (w.spot v) (w.pass z).aim) (sym vt)) (λ _. refl)) i;
+                        ∙ put_elim (λ z. wants_of (w.spot v) z.aim ≡ wants v) w.pass t p v (λ vt. ap (λ z. wants_of (w.spot v) (w.pass z).aim) (sym vt)) (λ _. refl)) i;
                   }) ∙ (let then : List ℕ → LockPart = λ z. record { locks = passed_line (part_of w).locks t l true more z; wants = served wants z } in ap then (sym line)),
                 )
 
         pub row_free_parked : (w.word l).parked ≡ true → LockStep n m (part_of w) (Free t l) (Saw false) (part_of (record w { pass = put w.pass t (found_parked (w.pass t) l) }))
         row_free_parked parked =
             let e : true ≡ (w.word l).parked = sym parked in
-            let then : Bool → LockPart = λ c. record { locks = cond c (part_of w).locks (record (part_of w).locks
-                { held = put (part_of w).locks.held l false; has = put (part_of w).locks.has l (put ((part_of w).locks.has l) t false) }); wants = wants } in
+            let then : Bool → LockPart = λ c. record {
+              locks = cond c (part_of w).locks (record (part_of w).locks
+                  { held = put (part_of w).locks.held l false; has = put (part_of w).locks.has l (put ((part_of w).locks.has l) t false) });
+              wants = wants;
+            } in
             ((near, here, has_it, wants_now ∙ aim), ap (λ c. Saw (not c)) e, same_pass t (found_parked (w.pass t) l) refl ∙ ap then e)

@@ -1,5 +1,38 @@
 -- The turns of each call: whatever world the words stand for, its step leads to one that they stand for then.
-use Rattle.std.proofs.Common.{◌≡◌, ◌≢◌, ℕ, zero, suc, ◌*◌, ◌<◌, ◌%◌, ◌⊎◌, ◌==◌, Bool, true, false, List, [], length, get_or, set, bit_or, refl, sym, ap, subst, ◌∙◌, inl, inr, ⊎_elim, arith, get_or-set_same, MatchBool, Option, None}
+use Rattle.std.proofs.Common.{
+  ◌≡◌,
+  ◌≢◌,
+  ℕ,
+  zero,
+  suc,
+  ◌*◌,
+  ◌<◌,
+  ◌%◌,
+  ◌⊎◌,
+  ◌==◌,
+  Bool,
+  true,
+  false,
+  List,
+  [],
+  length,
+  get_or,
+  set,
+  bit_or,
+  refl,
+  sym,
+  ap,
+  subst,
+  ◌∙◌,
+  inl,
+  inr,
+  ⊎_elim,
+  arith,
+  get_or-set_same,
+  MatchBool,
+  Option,
+  None,
+}
 use mathlib.Core.Option as maybe
 use mathlib.Core.Option.{some, some-injective}
 use prog.Atomic.{either}
@@ -148,8 +181,10 @@ module _ {V Q : Type 0} (keeps : ℕ → V → Type 0) (grows : V → V → Type
 
       -- the pass gets the lock, with the value that it finds
       got_turn : (aims : Aims p.own l) (a : Access) (then : PassView (LockPassView V) → Type 0) (x : ℕ) → x ≡ bit_or (get_or ws (word_at l) 0) 1
-          → IsMade (scheme keeps grows share size xs) (2 * t) w a (record w { pass = put w.pass t (gripped (w.pass t) l value);
-              word = put w.word l (record { owner = suc t; parked = (w.word l).parked }) })
+          → IsMade (scheme keeps grows share size xs) (2 * t) w a (record w {
+            pass = put w.pass t (gripped (w.pass t) l value);
+            word = put w.word l (record { owner = suc t; parked = (w.word l).parked });
+          })
           → ((n : ℕ) → then (pass_after p (gripped p.own l value) n a)) → PassTurn (scheme keeps grows share size xs) (word_at l) x p then w ws hs
       got_turn aims a then x is made told =
           let y : LockWord = record { owner = suc t; parked = (w.word l).parked } in
@@ -160,10 +195,10 @@ module _ {V Q : Type 0} (keeps : ℕ → V → Type 0) (grows : V → V → Type
             kept = gets_kept size.threads size.locks w ok.kept t fit.0 up' l here unheld (aims' aims) value;
             lawful = gets_value keeps grows share size.threads size.locks w.pass hs ok.lawful t fit.0 l here itself nobody p1
                 (gripped_same keeps grows share size.threads size.locks w.pass hs ok.lawful t fit.0 l here value)
-                    (gripped_wide keeps grows share size.threads size.locks w.pass hs ok.lawful t fit.0 l here value)
+                (gripped_wide keeps grows share size.threads size.locks w.pass hs ok.lawful t fit.0 l here value)
                 (subst IsHeld (sym (get_or-set_same (w.pass t).holds l Held NotHeld (lock_near size.threads size.locks w ok.kept t fit.0 up' l here))) tt)
                 (gripped_lies keeps grows share size.threads size.locks w.pass hs ok.lawful t fit.0 l here value)
-                    (gripped_seen keeps grows share size.threads size.locks w.pass hs ok.lawful t fit.0 l here value);
+                (gripped_seen keeps grows share size.threads size.locks w.pass hs ok.lawful t fit.0 l here value);
           })
           a made told
 
@@ -287,14 +322,14 @@ module _ {V Q : Type 0} (keeps : ℕ → V → Type 0) (grows : V → V → Type
         pub left_lawful : IsLawful keeps grows share size.threads size.locks (put w.pass p.thread (let_go (w.pass p.thread) l y)) hs
         left_lawful = leaves_value keeps grows share size.threads size.locks w.pass hs ok.lawful p.thread fit.0 l here has only itself on y lies_of
             (λ h. subst IsHeld (get_or-set_same (w.pass p.thread).holds l NotHeld NotHeld near_in) h)
-                (let_go_same keeps grows share size.threads size.locks w.pass hs ok.lawful p.thread fit.0 l here y)
+            (let_go_same keeps grows share size.threads size.locks w.pass hs ok.lawful p.thread fit.0 l here y)
 
         free_turn : (b : Bool) → (w.word l).parked ≡ b
             → PassTurn (scheme keeps grows share size xs) (word_at l) (either (bits_of true b == 1) 0 (bits_of true b)) p (Frees p l (bits_of true b)) w ws hs
         free_turn false b =
             let x : LockWord = record { owner = 0; parked = (w.word l).parked } in
             let nobody : (w.root l).line ≡ [] = by_line (λ xs. ((xs ≢ []) → (w.word l).parked ≡ true) → xs ≡ []) (w.root l).line (λ _ _. refl)
-                (λ u us _ parks. absurd (let f : true ≡ false = sym (parks (λ e. cc)) ∙ b in cc)) (ok.kept.locks l).parks in
+            (λ u us _ parks. absurd (let f : true ≡ false = sym (parks (λ e. cc)) ∙ b in cc)) (ok.kept.locks l).parks in
             turn_at (word_at l) 0 p (Frees p l 1) w ws hs fit (λ z. let_go z l y) (put w.word l x)
             (record {
               words = words_after size w (put w.pass p.thread (let_go (w.pass p.thread) l y)) w.spot w.root ws ok.words refl l here x 0 (ap (bits_of false) (sym b));
@@ -358,5 +393,5 @@ module _ {V Q : Type 0} (keeps : ℕ → V → Type 0) (grows : V → V → Type
   frees itself on p l here up aim holds y lies w ws hs ok fit small =
       let own = own_is p l here up w ws hs ok fit holds aim in
       subst (λ n. PassTurn (scheme keeps grows share size xs) (word_at l) (either (n == 1) 0 n) p (Frees p l n) w ws hs)
-          (is_found p l here up w ws hs ok fit true (w.word l).parked (ap is_owned own) refl)
+      (is_found p l here up w ws hs ok fit true (w.word l).parked (ap is_owned own) refl)
       (free_turn p l here up w ws hs ok fit holds aim itself on y lies (w.word l).parked refl)

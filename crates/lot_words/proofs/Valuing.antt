@@ -33,8 +33,13 @@ module _ {V Q : Type 0} (keeps : ℕ → V → Type 0) (grows : V → V → Type
   same_value n pass pass' homes homes' k x same home ok = record {
     kept = ok.kept;
     idle = λ nobody. home ∙ ok.idle (λ u h. nobody u ((same u).up h));
-    owned = λ u h. let o = ok.owned u ((same u).down h) in record { place = o.place; place_is = (same u).places ∙ o.place_is; home = home ∙ o.home; found = (same u).seen ∙ o.found;
-        lawful = o.lawful };
+    owned = λ u h. let o = ok.owned u ((same u).down h) in record {
+      place = o.place;
+      place_is = (same u).places ∙ o.place_is;
+      home = home ∙ o.home;
+      found = (same u).seen ∙ o.found;
+      lawful = o.lawful;
+    };
     seen = λ u near. let s = ok.seen u near in record { seen = s.seen; seen_is = (same u).seen ∙ s.seen_is; grown = s.grown; mine = λ away. s.mine (λ h. away ((same u).up h)) };
     witness = let w = ok.witness in (w.0, (w.1.0, (same w.0).seen ∙ w.1.1));
   }
@@ -100,7 +105,7 @@ module _ {V Q : Type 0} (keeps : ℕ → V → Type 0) (grows : V → V → Type
             idle = λ away. absurd (away t (subst (λ z. Holds z l) (sym (put_same pass t p)) mine));
             owned = λ u. put_elim (λ z. Holds z l → OwnerOk keeps grows share homes l u z x) pass t p u
                 (λ _ _. record { place = InSlot x; place_is = lies; home = e.idle nobody; found = seen; lawful = record { kept = e.kept; grown = itself x; others = λ w ne. refl } })
-                    (λ _ h. absurd (nobody u h));
+                (λ _ h. absurd (nobody u h));
             seen = λ u u_near. put_elim (λ z. SeenOk keeps grows share l u z x) pass t p u (λ _. record { seen = x; seen_is = seen; grown = itself x; mine = λ away. refl }) (λ _. e.seen u u_near);
             witness = (t, (near, subst (λ z. HasSeen z l x) (sym (put_same pass t p)) seen));
           })
@@ -130,15 +135,20 @@ module _ {V Q : Type 0} (keeps : ℕ → V → Type 0) (grows : V → V → Type
             let deep : l < length homes = omega (arith, ok.deep) in
             let same : (u : ℕ) → SeenOk keeps grows share l u (pass u) x → SeenOk keeps grows share l u (put pass t p u) x = (λ u s. put_elim (λ z. SeenOk keeps grows share l u z x) pass t p u
             (λ ut. let r : SeenOk keeps grows share l u (pass t) x = subst (λ z. SeenOk keeps grows share l u (pass z) x) ut s in record
-                { seen = r.seen; seen_is = r.seen_is; grown = r.grown; mine = r.mine }) (λ _. s)) in
+            { seen = r.seen; seen_is = r.seen_is; grown = r.grown; mine = r.mine }) (λ _. s)) in
             changes_at l p (set homes l home) x (λ k ne. record { down = λ h. h; up = λ h. h; places = set_else (pass t).places l k pl ne; seen = refl }) (λ k ne. set_else homes l k home ne)
-                (length-set homes l home) (length-set (pass t).places l pl, refl)
+            (length-set homes l home) (length-set (pass t).places l pl, refl)
             (record {
               kept = e.kept;
               idle = λ away. absurd (away t (subst (λ z. Holds z l) (sym (put_same pass t p)) holds));
               owned = λ u. put_elim (λ z. Holds z l → OwnerOk keeps grows share (set homes l home) l u z x) pass t p u
-                  (λ ut _. record { place = pl; place_is = set_here (pass t).places l pl in_places; home = set_here homes l home deep; found = (e.owned t holds).found;
-                      lawful = subst (λ z. MayLie keeps grows share l z x pl) (sym ut) may })
+                  (λ ut _. record {
+                    place = pl;
+                    place_is = set_here (pass t).places l pl in_places;
+                    home = set_here homes l home deep;
+                    found = (e.owned t holds).found;
+                    lawful = subst (λ z. MayLie keeps grows share l z x pl) (sym ut) may;
+                  })
                   (λ ne h. absurd (ne (only u h)));
               seen = λ u u_near. same u (e.seen u u_near);
               witness = let w = e.witness in (w.0, (w.1.0, put_elim (λ z. HasSeen z l x) pass t p w.0 (λ wt. subst (λ z. HasSeen (pass z) l x) wt w.1.1) (λ _. w.1.1)));

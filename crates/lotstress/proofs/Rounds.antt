@@ -11,7 +11,8 @@ seen_found p q k x u e at = ⊎_elim (λ here. here.1) (λ else. absurd (else.0 
 
 module _ {V Part : Type 0} (keeps : ℕ → V → Type 0) (grows : V → V → Type 0) (part : ℕ → V → Part) where
   -- what an owner worked on may be given back
-  pub may_give_back : (before after : PassView V) (key thread : ℕ) (held worked : HeldView V) → Gets keeps grows part before key held after → thread ≡ before.thread → WorksOn keeps grows part held thread worked
+  pub may_give_back : (before after : PassView V) (key thread : ℕ) (held worked : HeldView V) → Gets keeps grows part before key held after → thread ≡ before.thread
+      → WorksOn keeps grows part held thread worked
       → MayGiveBack keeps grows part after worked
   may_give_back before after key thread held worked gets own work = record {
     kept = work.kept;
@@ -24,6 +25,12 @@ module _ {V Part : Type 0} (keeps : ℕ → V → Type 0) (grows : V → V → T
       found u seen = seen_found before after key held.value u gets.after_is (subst (λ k. HasSeen after k u) (work.key_same ∙ gets.key_is) seen)
 
   -- a value that was only read may be given back
-  pub read_may_go_back : (itself : (x : V) → grows x x) (before after : PassView V) (key : ℕ) (held : HeldView V) → Gets keeps grows part before key held after → MayGiveBack keeps grows part after held
+  pub read_may_go_back : (itself : (x : V) → grows x x) (before after : PassView V) (key : ℕ) (held : HeldView V) → Gets keeps grows part before key held after
+      → MayGiveBack keeps grows part after held
   read_may_go_back itself before after key held gets =
-      may_give_back before after key before.thread held held gets refl (record { key_same = refl; kept = subst (λ k. keeps k held.value) (sym gets.key_is) gets.kept; grown = itself held.value; others = λ t else. refl })
+      may_give_back before after key before.thread held held gets refl (record {
+        key_same = refl;
+        kept = subst (λ k. keeps k held.value) (sym gets.key_is) gets.kept;
+        grown = itself held.value;
+        others = λ t else. refl;
+      })

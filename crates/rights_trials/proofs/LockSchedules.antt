@@ -44,15 +44,19 @@ module _ {V : Type 0} (p : PassShown (LockPassView V)) (z : TableId) (t l : ℕ)
         by_bool false h = subst (λ (y : PassView (LockPassView V)). IsCalm y.own) (sym h.1) (up, aim)
 
   -- to whom it was handed owns it
-  pub was_handed : {Q : Type 0} (keeps : ℕ → V → Type 0) (grows : V → V → Type 0) (share : ℕ → V → Q) (q : PassView (LockPassView V)) (o : Option ℕ) → p.pass.own.aim ≡ Some l → o ≡ Some 1 → MatchOption o (FoundNone p.pass q) (λ token. Collected keeps grows share p.pass token q)
+  pub was_handed : {Q : Type 0} (keeps : ℕ → V → Type 0) (grows : V → V → Type 0) (share : ℕ → V → Q) (q : PassView (LockPassView V)) (o : Option ℕ) → p.pass.own.aim ≡ Some l → o ≡ Some 1
+      → MatchOption o (FoundNone p.pass q) (λ token. Collected keeps grows share p.pass token q)
       → Owns q.own l × (q.own.holds ≡ set p.pass.own.holds l Held)
   was_handed keeps grows share q o aim one letter =
       let h : Collected keeps grows share p.pass 1 q = subst (λ o. MatchOption o (FoundNone p.pass q) (λ token. Collected keeps grows share p.pass token q)) one letter in
       let same : h.1.0 ≡ l = (let e : Some h.1.0 ≡ Some l = sym h.1.1 ∙ aim in cc) in
       let x : V = h.1.2.0 in
       let is_now : q.own ≡ woken (gripped p.pass.own l x) = ap (λ (y : PassView (LockPassView V)). y.own) h.1.2.2.1 ∙ ap (λ k. woken (gripped p.pass.own k x)) same in (
-        subst (λ y. Owns y l) (sym is_now)
-            ((refl, refl), subst IsHeld (sym (get_or-set_same p.pass.own.holds l Held NotHeld (omega (arith, is.2)))) tt, (x, set_here p.pass.own.places l (InSlot x) (omega (arith, is.3)), set_here p.pass.own.seen l x (omega (arith, is.4)))),
+        subst (λ y. Owns y l) (sym is_now) (
+          (refl, refl),
+          subst IsHeld (sym (get_or-set_same p.pass.own.holds l Held NotHeld (omega (arith, is.2)))) tt,
+          (x, set_here p.pass.own.places l (InSlot x) (omega (arith, is.3)), set_here p.pass.own.seen l x (omega (arith, is.4))),
+        ),
         ap (λ (y : LockPassView V). y.holds) is_now,
       )
 

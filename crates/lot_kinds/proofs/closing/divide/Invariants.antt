@@ -12,7 +12,8 @@ invariant-loop-root g l = record {
   many : g.N.WaitName.conds ≤ vec_len l.roots → (vec_len l.conds ≡ 0) × (vec_len l.sems + vec_len l.roots ≡ vec_len l.initial.roots);
   few : vec_len l.roots ≤ g.N.WaitName.conds → (vec_len l.conds + vec_len l.roots ≡ g.N.WaitName.conds) × (vec_len l.sems + g.N.WaitName.conds ≡ vec_len l.initial.roots);
   conds : (k : ℕ) → g.N.WaitName.locks + vec_len l.roots ≤ k → k < g.N.WaitName.locks + g.N.WaitName.conds → Any (λ (r : RootShown CondRootView). r.root.key ≡ k) l.conds.items;
-  sems : (k : ℕ) → g.N.WaitName.locks + vec_len l.roots ≤ k → g.N.PermitName.low ≤ k → k < g.N.WaitName.locks + vec_len l.initial.roots → Any (λ (r : RootShown SemRootView). r.root.key ≡ k) l.sems.items;
+  sems : (k : ℕ) → g.N.WaitName.locks + vec_len l.roots ≤ k → g.N.PermitName.low ≤ k → k < g.N.WaitName.locks + vec_len l.initial.roots
+      → Any (λ (r : RootShown SemRootView). r.root.key ≡ k) l.sems.items;
   room : g.N.WaitName.conds ≤ vec_capacity l.conds;
   sem_room : vec_len l.initial.roots ≤ g.N.WaitName.conds + vec_capacity l.sems;
 }

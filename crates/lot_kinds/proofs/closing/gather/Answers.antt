@@ -23,10 +23,12 @@ loop-one-preserved g c =
 
 pub returns-clause-waiters : goal.returns-clause-waiters
 returns-clause-waiters g c =
-    let none : c.loop-one.rights.items ≡ [] = no_elements c.loop-one.rights.items (let n : length c.loop-one.rights.items ≡ vec_len c.loop-one.rights = search rules in n ∙ c.in_default.ensures.cases.0) in
+    let none : c.loop-one.rights.items ≡ [] = no_elements c.loop-one.rights.items (let n : length c.loop-one.rights.items ≡ vec_len c.loop-one.rights = search rules in n
+    ∙ c.in_default.ensures.cases.0) in
     c.reverse.ensures.items ∙ subst (λ rs. map counts_of rs ++ reverse c.loop-one.waiters.items ≡ map counts_of c.args.rights.items) none c.loop-one.invariant.counted
 
 pub returns-clause-seekers : goal.returns-clause-seekers
 returns-clause-seekers g c =
-    let none : c.loop-one.rights.items ≡ [] = no_elements c.loop-one.rights.items (let n : length c.loop-one.rights.items ≡ vec_len c.loop-one.rights = search rules in n ∙ c.in_default.ensures.cases.0) in
+    let none : c.loop-one.rights.items ≡ [] = no_elements c.loop-one.rights.items (let n : length c.loop-one.rights.items ≡ vec_len c.loop-one.rights = search rules in n
+    ∙ c.in_default.ensures.cases.0) in
     c.reverse-2.ensures.items ∙ subst (λ rs. map permits_of rs ++ reverse c.loop-one.seekers.items ≡ map permits_of c.args.rights.items) none c.loop-one.invariant.held

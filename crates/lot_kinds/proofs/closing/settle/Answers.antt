@@ -44,4 +44,5 @@ settle-requires-2-clause-room g c =
 pub settle-requires-2-clause-waiters : goal.settle-requires-2-clause-waiters
 settle-requires-2-clause-waiters g c = λ t near.
     subst (Any (λ (q : CountsView). q.thread ≡ t)) (sym c.gather.ensures.waiters)
-    (some_after counts_of (λ (q : CountsView). q.thread ≡ t) c.args.rights.items (c.requires.threads t (subst (λ n. t < n) (ap (λ (w : CondWordsShown). w.size.threads) c.apart-conditions.ensures.0) near)))
+    (some_after counts_of (λ (q : CountsView). q.thread ≡ t) c.args.rights.items (c.requires.threads t
+    (subst (λ n. t < n) (ap (λ (w : CondWordsShown). w.size.threads) c.apart-conditions.ensures.0) near)))

@@ -32,7 +32,8 @@ loop-waiter-preserved g c =
           c.loop-waiter.seekers.items c.take_last.new.self.items c.take_last.result c.in-Some.ensures.items c.take_last.ensures.items (some ∙ (same ∙ sym left)) inv.paired).0;
       both = same;
       moved = ap (λ rs. pairs c.pop.new.self.items c.take_last.new.self.items ++ reverse rs) (c.push_reserved.ensures.items ∙ ap (λ r. c.loop-waiter.rights.items ++ r ∷ []) c.new.ensures)
-          ∙ moves_on (pairs c.loop-waiter.waiters.items c.loop-waiter.seekers.items) (pairs c.pop.new.self.items c.take_last.new.self.items) pair c.loop-waiter.rights.items (pairs c.args.waiters.now.items c.args.seekers.now.items)
+          ∙ moves_on (pairs c.loop-waiter.waiters.items c.loop-waiter.seekers.items) (pairs c.pop.new.self.items c.take_last.new.self.items) pair c.loop-waiter.rights.items
+          (pairs c.args.waiters.now.items c.args.seekers.now.items)
           (ap (λ qs. pairs qs c.loop-waiter.seekers.items) c.in-Some.ensures.items
           ∙ (ap (λ ps. pairs (c.pop.new.self.items ++ c.in-Some.waiter ∷ []) ps) c.take_last.ensures.items
           ∙ pairs_pushed c.pop.new.self.items c.take_last.new.self.items c.in-Some.waiter c.take_last.result (some ∙ (same ∙ sym left)))) inv.moved;

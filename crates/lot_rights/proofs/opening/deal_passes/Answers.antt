@@ -11,7 +11,8 @@ split_seat-own-requires g c =
     let k = g.K.Kind.scheme c.args.shared.now.key in
     let t = c.loop-thread.thread in
     let roots = roots_from k k.first_key k.keys in
-    let is = c.loop-thread.invariant.rest ∙ ap (λ v. (v ++ roots, [])) (next_from (λ u. Pass (new_pass k.fresh_pass u)) t (t + 1) (c.args.threads - t) (c.args.threads - (t + 1)) refl (omega arith)) in (
+    let is = c.loop-thread.invariant.rest ∙ ap (λ v. (v ++ roots, [])) (next_from (λ u. Pass (new_pass k.fresh_pass u)) t (t + 1) (c.args.threads - t) (c.args.threads - (t + 1)) refl
+    (omega arith)) in (
       c.loop-thread.invariant.table,
       c.requires.table.1,
       deals k c.loop-thread.seat.id c.loop-thread.seat.me.0 (Pass (new_pass k.fresh_pass t)) (passes_from k (t + 1) (c.args.threads - (t + 1)) ++ roots) (ap (λ m. m.0) is),
@@ -28,7 +29,10 @@ invariant_of-push_reserved g c =
       one_pass g.K.Kind.no_pass g.K.Kind.no_root own (new_pass k.fresh_pass t) dealt,
       (
         sym (ap (λ p. p.thread) (pass_seen g.K.Kind.no_pass g.K.Kind.no_root own (new_pass k.fresh_pass t) dealt)),
-        (subst (λ z. letter_at t < z.words) (sym (c.split_seat-own.ensures.3 ∙ c.loop-thread.invariant.table)) (c.requires.near t c.loop-thread-test.true), (subst (λ z. z.words < 2 ^ 64) (sym (c.split_seat-own.ensures.3 ∙ c.loop-thread.invariant.table)) c.requires.table.2, tt)),
+        (
+          subst (λ z. letter_at t < z.words) (sym (c.split_seat-own.ensures.3 ∙ c.loop-thread.invariant.table)) (c.requires.near t c.loop-thread-test.true),
+          (subst (λ z. z.words < 2 ^ 64) (sym (c.split_seat-own.ensures.3 ∙ c.loop-thread.invariant.table)) c.requires.table.2, tt),
+        ),
       ),
     )
 

@@ -23,7 +23,8 @@ pub split_seat-own-requires : goal.split_seat-own-requires
 split_seat-own-requires g c =
     let k = g.K.Kind.scheme c.args.shared.now.key in
     let i = c.loop-i.i in
-    let is = c.loop-i.invariant.rest ∙ ap (λ v. (v, [])) (next_from (λ d. Root (new_root k.fresh_root d)) (c.args.first + i) (c.args.first + (i + 1)) (c.args.keys - i) (c.args.keys - (i + 1)) (omega arith) (omega arith)) in (
+    let is = c.loop-i.invariant.rest ∙ ap (λ v. (v, [])) (next_from (λ d. Root (new_root k.fresh_root d)) (c.args.first + i) (c.args.first + (i + 1)) (c.args.keys - i)
+    (c.args.keys - (i + 1)) (omega arith) (omega arith)) in (
       c.loop-i.invariant.table,
       c.requires.table.1,
       deals k c.loop-i.seat.id c.loop-i.seat.me.0 (Root (new_root k.fresh_root (c.args.first + i))) (roots_from k (c.args.first + (i + 1)) (c.args.keys - (i + 1))) (ap (λ m. m.0) is),
@@ -34,7 +35,8 @@ invariant_of-push_reserved g c =
     let k = g.K.Kind.scheme c.args.shared.now.key in
     let i = c.loop-i.i in
     let key = c.args.first + i in
-    let is = c.loop-i.invariant.rest ∙ ap (λ v. (v, [])) (next_from (λ d. Root (new_root k.fresh_root d)) key (c.args.first + (i + 1)) (c.args.keys - i) (c.args.keys - (i + 1)) (omega arith) (omega arith)) in
+    let is = c.loop-i.invariant.rest ∙ ap (λ v. (v, [])) (next_from (λ d. Root (new_root k.fresh_root d)) key (c.args.first + (i + 1)) (c.args.keys - i) (c.args.keys - (i + 1)) (omega arith)
+    (omega arith)) in
     let own = c.split_seat-own.result.me in
     let dealt = dealt_out c.loop-i.seat.me (Root (new_root k.fresh_root key)) (roots_from k (c.args.first + (i + 1)) (c.args.keys - (i + 1))) is own c.split_seat-own.ensures.4 in
     let seen = root_seen g.K.Kind.no_pass g.K.Kind.no_root own (new_root k.fresh_root key) dealt in (

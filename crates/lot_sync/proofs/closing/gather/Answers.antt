@@ -18,12 +18,14 @@ pub loop-pass-preserved : goal.loop-pass-preserved
 loop-pass-preserved g c =
     let inv = c.loop-pass.invariant in
     let left = c.pop.new.self.items in
-    let same : c.in-Some.pass ≡ sees c.apart-right.result.1 (record { thread = c.into_pass.result.pass.thread; own = c.into_pass.result.pass.own }) = c.apart-right.ensures.same ∙ ap (sees c.apart-right.result.1) c.into_pass.ensures.same in
+    let same : c.in-Some.pass ≡ sees c.apart-right.result.1 (record { thread = c.into_pass.result.pass.thread; own = c.into_pass.result.pass.own }) = c.apart-right.ensures.same
+    ∙ ap (sees c.apart-right.result.1) c.into_pass.ensures.same in
     let parts = all_popped OwnsNone c.loop-pass.passes.items left c.in-Some.pass c.in-Some.ensures.items inv.free in
     record {
       free = parts.0;
       moved = ap (λ ps. map lock_side left ++ reverse ps)
-          (ap (map seen_as) c.push_reserved.ensures.items ∙ (map-append seen_as c.loop-pass.rights.items (c.into_pass.result ∷ []) ∙ ap (λ p. map seen_as c.loop-pass.rights.items ++ p ∷ []) (sym (ap lock_side same))))
+          (ap (map seen_as) c.push_reserved.ensures.items ∙ (map-append seen_as c.loop-pass.rights.items (c.into_pass.result ∷ [])
+          ∙ ap (λ p. map seen_as c.loop-pass.rights.items ++ p ∷ []) (sym (ap lock_side same))))
           ∙ moves_on (map lock_side c.loop-pass.passes.items) (map lock_side left) (lock_side c.in-Some.pass) (map seen_as c.loop-pass.rights.items) (map lock_side c.args.passes.items)
           (ap (map lock_side) c.in-Some.ensures.items ∙ map-append lock_side left (c.in-Some.pass ∷ [])) inv.moved;
       beside = ap (λ qs. map rights_of left ++ reverse qs)
@@ -42,9 +44,11 @@ loop-pass-preserved g c =
 
 pub returns-clause-same : goal.returns-clause-same
 returns-clause-same g c =
-    let none : c.loop-pass.passes.items ≡ [] = no_elements c.loop-pass.passes.items (let n : length c.loop-pass.passes.items ≡ vec_len c.loop-pass.passes = search rules in n ∙ c.in_default.ensures.cases.0) in
+    let none : c.loop-pass.passes.items ≡ [] = no_elements c.loop-pass.passes.items (let n : length c.loop-pass.passes.items ≡ vec_len c.loop-pass.passes = search rules in n
+    ∙ c.in_default.ensures.cases.0) in
     ap (map seen_as) c.reverse.ensures.items
-    ∙ (map_turned seen_as c.loop-pass.rights.items ∙ subst (λ ps. map lock_side ps ++ reverse (map seen_as c.loop-pass.rights.items) ≡ map lock_side c.args.passes.items) none c.loop-pass.invariant.moved)
+    ∙ (map_turned seen_as c.loop-pass.rights.items ∙ subst (λ ps. map lock_side ps ++ reverse (map seen_as c.loop-pass.rights.items) ≡ map lock_side c.args.passes.items) none
+    c.loop-pass.invariant.moved)
 
 pub returns-clause-free : goal.returns-clause-free
 returns-clause-free g c =

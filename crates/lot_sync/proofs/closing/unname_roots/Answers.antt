@@ -88,9 +88,12 @@ loop-root-preserved g c =
       few = λ near. (omega (arith, near, many.0, key, side), omega (arith, near, many.1, more, fewer, key, side));
       roots = λ k from below. absurd (omega (arith, from, below, key, side));
       kinds = λ past. turned c.loop-root.kind_roots.items c.push_reserved-in-Second.new.self.items c.in-Second.root (vec_len c.pop.new.self) c.push_reserved-in-Second.ensures.items key
-          (let was : vec_len c.loop-root.named ≡ suc (vec_len c.pop.new.self) = omega (arith, fewer) in subst (λ n. StandFrom kind_key n (reverse c.loop-root.kind_roots.items)) was (inv.kinds (omega (arith, fewer, key, side))));
-      kinds_left = λ near. turned c.loop-root.kind_roots.items c.push_reserved-in-Second.new.self.items c.in-Second.root (length g.N.LotName.values) c.push_reserved-in-Second.ensures.items (omega (arith, key, near, side))
-          (let was : vec_len c.loop-root.named ≡ suc (length g.N.LotName.values) = omega (arith, fewer, key, near, side) in subst (λ n. StandFrom kind_key n (reverse c.loop-root.kind_roots.items)) was (inv.kinds (omega (arith, fewer, key, side))));
+          (let was : vec_len c.loop-root.named ≡ suc (vec_len c.pop.new.self) = omega (arith, fewer) in subst (λ n. StandFrom kind_key n (reverse c.loop-root.kind_roots.items)) was
+          (inv.kinds (omega (arith, fewer, key, side))));
+      kinds_left = λ near. turned c.loop-root.kind_roots.items c.push_reserved-in-Second.new.self.items c.in-Second.root (length g.N.LotName.values) c.push_reserved-in-Second.ensures.items
+          (omega (arith, key, near, side))
+          (let was : vec_len c.loop-root.named ≡ suc (length g.N.LotName.values) = omega (arith, fewer, key, near, side) in subst
+          (λ n. StandFrom kind_key n (reverse c.loop-root.kind_roots.items)) was (inv.kinds (omega (arith, fewer, key, side))));
       room = inv.room;
       kind_room = let wide = inv.kind_room in omega (arith, wide, cap);
     }

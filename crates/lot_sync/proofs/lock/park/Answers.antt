@@ -15,6 +15,7 @@ returns-in-Woken g c =
     let key = c.args.key in
     let token = c.in-Woken.token.0 in
     let woken : (mid : Standing g.row.V.Denot) × IsAsleepFor before key mid × Awaited (IsLooked keeps grows part) mid token after =
-    subst (λ (z : Parked). Ends z (IsTryingFor before key after) (λ t. (mid : Standing g.row.V.Denot) × IsAsleepFor before key mid × Awaited (IsLooked keeps grows part) mid t after)) c.in-Woken.is c.sleep-pass.ensures
+    subst (λ (z : Parked). Ends z (IsTryingFor before key after) (λ t. (mid : Standing g.row.V.Denot) × IsAsleepFor before key mid × Awaited (IsLooked keeps grows part) mid t after))
+    c.in-Woken.is c.sleep-pass.ensures
     in
     subst (λ b. MatchBool b (IsOwner keeps grows part before key after) (IsTryingFor before key after)) (sym c.eq.ensures) (woken_ends keeps grows part before woken.0 after key token woken.1 woken.2)

@@ -17,7 +17,8 @@ pub returns-clause-holding : goal.returns-clause-holding
 returns-clause-holding g c =
     let s = c.requires.seeks in
     subst (λ (p : PassView Count). Holding (λ (x y : Count). x.n ≤ y.n) p c.taken.result.1) (sym c.taken.ensures.pass)
-    (got_holds _ (λ (x y : Count). x.n ≤ y.n) _ (λ (x : Count). le_refl x.n) (sees c.args.kinds s.before) (sees c.args.kinds c.take-right.result.0) c.args.key c.taken.result.1 (record { no_lock = λ k owned. s.none k (owned_held s.before.own.holds k owned); no_permit = c.requires.none })
+    (got_holds _ (λ (x y : Count). x.n ≤ y.n) _ (λ (x : Count). le_refl x.n) (sees c.args.kinds s.before) (sees c.args.kinds c.take-right.result.0) c.args.key c.taken.result.1
+    (record { no_lock = λ k owned. s.none k (owned_held s.before.own.holds k owned); no_permit = c.requires.none })
     (gets_all _ _ _ c.args.kinds g.N.LotName.values g.N.LotName.threads s.before c.take-right.result.0 c.taken.result.1 c.args.key
     (subst (λ n. c.args.key < n) c.take-right.ensures.locks c.requires.key) s.rest (owns_on _ _ _ c.args.key _ _ _ s.trying (rw c.if-got.true at c.take-right.ensures.ends))
     c.taken.ensures.held.0 c.taken.ensures.held.1))

@@ -31,7 +31,8 @@ loop-right-preserved g c =
     let fewer = c.in-Some.ensures.len in
     let same : vec_len c.take_last.new.self ≡ vec_len c.pop.new.self = omega (arith, both, less, fewer) in
     record {
-      idle = (all_popped (IsFresh g.V.Keeps.grows g.N.Name.opening.locks g.N.LotName.values g.N.LotName.threads) c.loop-right.passes.items c.pop.new.self.items c.in-Some.right c.in-Some.ensures.items inv.idle).0;
+      idle = (all_popped (IsFresh g.V.Keeps.grows g.N.Name.opening.locks g.N.LotName.values g.N.LotName.threads) c.loop-right.passes.items c.pop.new.self.items c.in-Some.right
+          c.in-Some.ensures.items inv.idle).0;
       paired = (pairs_popped c.loop-right.passes.items c.pop.new.self.items c.in-Some.right c.loop-right.kinds.items c.take_last.new.self.items c.take_last.result
           c.in-Some.ensures.items c.take_last.ensures.items (some ∙ (same ∙ sym left)) inv.paired).0;
       none = (all_popped HoldsNone c.loop-right.kinds.items c.take_last.new.self.items c.take_last.result c.take_last.ensures.items inv.none).0;

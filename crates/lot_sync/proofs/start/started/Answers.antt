@@ -53,24 +53,76 @@ keys_are roots kinds locks conds sems first all e f h k = omega (arith, e, f, h,
 
 pub name_roots-requires-clause-free : goal.name_roots-requires-clause-free
 name_roots-requires-clause-free g c κs within =
-    let names : LotNames g.row.V.Denot = record { opening = g.N.Name.opening; threads = g.N.LotName.threads; values = g.N.LotName.values; locks = g.N.WaitName.locks; conds = g.N.WaitName.conds; low = g.N.PermitName.low; permits = g.N.PermitName.permits } in
-    let o : OpenedView g.row.V.Denot = record { table = c.opened.inside.words.table; conds_table = c.opened.inside.kinds.conds.table; sems_table = c.opened.inside.kinds.sems.table; threads = c.opened.inside.threads; values = c.opened.inside.values.value.items; conds = c.opened.inside.kinds.conds.conds; low = c.opened.inside.kinds.sems.low; permits = c.opened.inside.kinds.sems.permits } in
+    let names : LotNames g.row.V.Denot = record {
+      opening = g.N.Name.opening;
+      threads = g.N.LotName.threads;
+      values = g.N.LotName.values;
+      locks = g.N.WaitName.locks;
+      conds = g.N.WaitName.conds;
+      low = g.N.PermitName.low;
+      permits = g.N.PermitName.permits;
+    } in
+    let o : OpenedView g.row.V.Denot = record {
+      table = c.opened.inside.words.table;
+      conds_table = c.opened.inside.kinds.conds.table;
+      sems_table = c.opened.inside.kinds.sems.table;
+      threads = c.opened.inside.threads;
+      values = c.opened.inside.values.value.items;
+      conds = c.opened.inside.kinds.conds.conds;
+      low = c.opened.inside.kinds.sems.low;
+      permits = c.opened.inside.kinds.sems.permits;
+    } in
     roots_free c.opened.inside.values.value.items c.opened.inside.threads c.opened.inside.words c.opened.inside.passes.items c.opened.inside.roots.items c.opened.invariant.0
     g.N.Name.opening.locks g.N.LotName.values (table_is names o c.args.opened c.opened.view_is c.requires.named) (values_are names o c.args.opened c.opened.view_is c.requires.named)
 
 pub add_roots-requires-clause-free : goal.add_roots-requires-clause-free
 add_roots-requires-clause-free g c κs within =
-    let names : LotNames g.row.V.Denot = record { opening = g.N.Name.opening; threads = g.N.LotName.threads; values = g.N.LotName.values; locks = g.N.WaitName.locks; conds = g.N.WaitName.conds; low = g.N.PermitName.low; permits = g.N.PermitName.permits } in
-    let o : OpenedView g.row.V.Denot = record { table = c.opened.inside.words.table; conds_table = c.opened.inside.kinds.conds.table; sems_table = c.opened.inside.kinds.sems.table; threads = c.opened.inside.threads; values = c.opened.inside.values.value.items; conds = c.opened.inside.kinds.conds.conds; low = c.opened.inside.kinds.sems.low; permits = c.opened.inside.kinds.sems.permits } in
+    let names : LotNames g.row.V.Denot = record {
+      opening = g.N.Name.opening;
+      threads = g.N.LotName.threads;
+      values = g.N.LotName.values;
+      locks = g.N.WaitName.locks;
+      conds = g.N.WaitName.conds;
+      low = g.N.PermitName.low;
+      permits = g.N.PermitName.permits;
+    } in
+    let o : OpenedView g.row.V.Denot = record {
+      table = c.opened.inside.words.table;
+      conds_table = c.opened.inside.kinds.conds.table;
+      sems_table = c.opened.inside.kinds.sems.table;
+      threads = c.opened.inside.threads;
+      values = c.opened.inside.values.value.items;
+      conds = c.opened.inside.kinds.conds.conds;
+      low = c.opened.inside.kinds.sems.low;
+      permits = c.opened.inside.kinds.sems.permits;
+    } in
     all_at (IsFreeKind (length g.N.LotName.values)) c.name-scheme.result.2.items
     (λ i q at. let is = (c.name-scheme.ensures.roots i q at).named in let border = locks_are names o c.args.opened c.opened.view_is c.requires.named in omega (arith, is, border))
 
 pub open-requires-clause-idle : goal.open-requires-clause-idle
 open-requires-clause-idle g c κs within =
-    let names : LotNames g.row.V.Denot = record { opening = g.N.Name.opening; threads = g.N.LotName.threads; values = g.N.LotName.values; locks = g.N.WaitName.locks; conds = g.N.WaitName.conds; low = g.N.PermitName.low; permits = g.N.PermitName.permits } in
-    let o : OpenedView g.row.V.Denot = record { table = c.opened.inside.words.table; conds_table = c.opened.inside.kinds.conds.table; sems_table = c.opened.inside.kinds.sems.table; threads = c.opened.inside.threads; values = c.opened.inside.values.value.items; conds = c.opened.inside.kinds.conds.conds; low = c.opened.inside.kinds.sems.low; permits = c.opened.inside.kinds.sems.permits } in
+    let names : LotNames g.row.V.Denot = record {
+      opening = g.N.Name.opening;
+      threads = g.N.LotName.threads;
+      values = g.N.LotName.values;
+      locks = g.N.WaitName.locks;
+      conds = g.N.WaitName.conds;
+      low = g.N.PermitName.low;
+      permits = g.N.PermitName.permits;
+    } in
+    let o : OpenedView g.row.V.Denot = record {
+      table = c.opened.inside.words.table;
+      conds_table = c.opened.inside.kinds.conds.table;
+      sems_table = c.opened.inside.kinds.sems.table;
+      threads = c.opened.inside.threads;
+      values = c.opened.inside.values.value.items;
+      conds = c.opened.inside.kinds.conds.conds;
+      low = c.opened.inside.kinds.sems.low;
+      permits = c.opened.inside.kinds.sems.permits;
+    } in
     let idle : (i : ℕ) (root : LotRootShown) → slice_get c.add_roots.new.named.items i ≡ Some root → IsIdleAt i root = (λ i root at.
-    idle_all g.N.WaitName.locks c.opened.inside.roots.items c.name-scheme.result.2.items (c.opened.invariant.0.roots_long ∙ (ap length (values_are names o c.args.opened c.opened.view_is c.requires.named) ∙ locks_are names o c.args.opened c.opened.view_is c.requires.named))
+    idle_all g.N.WaitName.locks c.opened.inside.roots.items c.name-scheme.result.2.items (c.opened.invariant.0.roots_long
+    ∙ (ap length (values_are names o c.args.opened c.opened.view_is c.requires.named) ∙ locks_are names o c.args.opened c.opened.view_is c.requires.named))
     (λ n r h. roots_idle c.opened.inside.values.value.items c.opened.inside.threads c.opened.inside.words c.opened.inside.passes.items c.opened.inside.roots.items c.opened.invariant.0 n r h)
     c.name-scheme.ensures.roots i root
     (subst (λ (rs : List LotRootShown). slice_get rs i ≡ Some root)
@@ -79,30 +131,71 @@ open-requires-clause-idle g c κs within =
 
 pub fill-requires-clause-idle : goal.fill-requires-clause-idle
 fill-requires-clause-idle g c κs within =
-    let names : LotNames g.row.V.Denot = record { opening = g.N.Name.opening; threads = g.N.LotName.threads; values = g.N.LotName.values; locks = g.N.WaitName.locks; conds = g.N.WaitName.conds; low = g.N.PermitName.low; permits = g.N.PermitName.permits } in
-    let o : OpenedView g.row.V.Denot = record { table = c.opened.inside.words.table; conds_table = c.opened.inside.kinds.conds.table; sems_table = c.opened.inside.kinds.sems.table; threads = c.opened.inside.threads; values = c.opened.inside.values.value.items; conds = c.opened.inside.kinds.conds.conds; low = c.opened.inside.kinds.sems.low; permits = c.opened.inside.kinds.sems.permits } in
-    fresh_named g.V.Keeps.grows c.opened.inside.words.table g.N.Name.opening.locks c.opened.inside.values.value.items g.N.LotName.values c.opened.inside.threads g.N.LotName.threads c.opened.inside.passes.items
-    (table_is names o c.args.opened c.opened.view_is c.requires.named) (values_are names o c.args.opened c.opened.view_is c.requires.named) (threads_are names o c.args.opened c.opened.view_is c.requires.named)
+    let names : LotNames g.row.V.Denot = record {
+      opening = g.N.Name.opening;
+      threads = g.N.LotName.threads;
+      values = g.N.LotName.values;
+      locks = g.N.WaitName.locks;
+      conds = g.N.WaitName.conds;
+      low = g.N.PermitName.low;
+      permits = g.N.PermitName.permits;
+    } in
+    let o : OpenedView g.row.V.Denot = record {
+      table = c.opened.inside.words.table;
+      conds_table = c.opened.inside.kinds.conds.table;
+      sems_table = c.opened.inside.kinds.sems.table;
+      threads = c.opened.inside.threads;
+      values = c.opened.inside.values.value.items;
+      conds = c.opened.inside.kinds.conds.conds;
+      low = c.opened.inside.kinds.sems.low;
+      permits = c.opened.inside.kinds.sems.permits;
+    } in
+    fresh_named g.V.Keeps.grows c.opened.inside.words.table g.N.Name.opening.locks c.opened.inside.values.value.items g.N.LotName.values c.opened.inside.threads g.N.LotName.threads
+    c.opened.inside.passes.items
+    (table_is names o c.args.opened c.opened.view_is c.requires.named) (values_are names o c.args.opened c.opened.view_is c.requires.named)
+    (threads_are names o c.args.opened c.opened.view_is c.requires.named)
     (passes_fresh g.V.Keeps.grows g.V.Keeps.grows_itself c.opened.inside.values.value.items c.opened.inside.threads c.opened.inside.words c.opened.inside.passes.items c.opened.invariant.0.unused)
 
 pub fill-requires-clause-paired : goal.fill-requires-clause-paired
 fill-requires-clause-paired g c κs within =
     passes_paired g.V.Keeps.grows g.V.Keeps.grows_itself c.opened.inside.values.value.items c.opened.inside.threads c.opened.inside.words c.opened.inside.passes.items c.opened.invariant.0.unused
-    (g.N.WaitName.locks + g.N.WaitName.conds) (g.N.PermitName.low + length g.N.PermitName.permits) c.opened.inside.kinds.conds.threads c.name-scheme.result.1.items c.opened.invariant.1.same_threads c.name-scheme.ensures.rights
+    (g.N.WaitName.locks + g.N.WaitName.conds) (g.N.PermitName.low + length g.N.PermitName.permits) c.opened.inside.kinds.conds.threads c.name-scheme.result.1.items
+    c.opened.invariant.1.same_threads c.name-scheme.ensures.rights
 
 pub fill-requires-clause-none : goal.fill-requires-clause-none
 fill-requires-clause-none g c κs within =
-    let long : length c.name-scheme.result.1.items ≡ c.opened.inside.kinds.conds.threads = (let n : length c.name-scheme.result.1.items ≡ vec_len c.name-scheme.result.1 = search rules in n ∙ c.name-scheme.ensures.counts.0) in
-    none_held (g.N.WaitName.locks + g.N.WaitName.conds) (g.N.PermitName.low + length g.N.PermitName.permits) c.opened.inside.kinds.conds.threads c.name-scheme.result.1.items long c.name-scheme.ensures.rights
+    let long : length c.name-scheme.result.1.items ≡ c.opened.inside.kinds.conds.threads =
+    (let n : length c.name-scheme.result.1.items ≡ vec_len c.name-scheme.result.1 = search rules in n ∙ c.name-scheme.ensures.counts.0) in
+    none_held (g.N.WaitName.locks + g.N.WaitName.conds) (g.N.PermitName.low + length g.N.PermitName.permits) c.opened.inside.kinds.conds.threads c.name-scheme.result.1.items long
+    c.name-scheme.ensures.rights
 
 pub invariant_of-result : goal.invariant_of-result
 invariant_of-result g c =
-    let names : LotNames g.row.V.Denot = record { opening = g.N.Name.opening; threads = g.N.LotName.threads; values = g.N.LotName.values; locks = g.N.WaitName.locks; conds = g.N.WaitName.conds; low = g.N.PermitName.low; permits = g.N.PermitName.permits } in
-    let o : OpenedView g.row.V.Denot = record { table = c.opened.inside.words.table; conds_table = c.opened.inside.kinds.conds.table; sems_table = c.opened.inside.kinds.sems.table; threads = c.opened.inside.threads; values = c.opened.inside.values.value.items; conds = c.opened.inside.kinds.conds.conds; low = c.opened.inside.kinds.sems.low; permits = c.opened.inside.kinds.sems.permits } in
+    let names : LotNames g.row.V.Denot = record {
+      opening = g.N.Name.opening;
+      threads = g.N.LotName.threads;
+      values = g.N.LotName.values;
+      locks = g.N.WaitName.locks;
+      conds = g.N.WaitName.conds;
+      low = g.N.PermitName.low;
+      permits = g.N.PermitName.permits;
+    } in
+    let o : OpenedView g.row.V.Denot = record {
+      table = c.opened.inside.words.table;
+      conds_table = c.opened.inside.kinds.conds.table;
+      sems_table = c.opened.inside.kinds.sems.table;
+      threads = c.opened.inside.threads;
+      values = c.opened.inside.values.value.items;
+      conds = c.opened.inside.kinds.conds.conds;
+      low = c.opened.inside.kinds.sems.low;
+      permits = c.opened.inside.kinds.sems.permits;
+    } in
     let roots_long : vec_len c.opened.inside.roots ≡ length g.N.LotName.values =
-    (let n : vec_len c.opened.inside.roots ≡ length c.opened.inside.roots.items = search rules in n ∙ (c.opened.invariant.0.roots_long ∙ ap length (values_are names o c.args.opened c.opened.view_is c.requires.named))) in
+    (let n : vec_len c.opened.inside.roots ≡ length c.opened.inside.roots.items = search rules in n
+    ∙ (c.opened.invariant.0.roots_long ∙ ap length (values_are names o c.args.opened c.opened.view_is c.requires.named))) in
     let keys : vec_len c.add_roots.new.named ≡ length g.N.LotName.values + g.N.WaitName.conds + length g.N.PermitName.permits =
-    keys_are (vec_len c.opened.inside.roots) (vec_len c.name-scheme.result.2) (length g.N.LotName.values) g.N.WaitName.conds (length g.N.PermitName.permits) (vec_len c.name_roots.new.named) (vec_len c.add_roots.new.named)
+    keys_are (vec_len c.opened.inside.roots) (vec_len c.name-scheme.result.2) (length g.N.LotName.values) g.N.WaitName.conds (length g.N.PermitName.permits) (vec_len c.name_roots.new.named)
+    (vec_len c.add_roots.new.named)
     roots_long (c.name-scheme.ensures.counts.1 ∙ kinds_are names o c.args.opened c.opened.view_is c.requires.named) c.name_roots.ensures.long c.add_roots.ensures.long in
     let ok = c.in-Ok.ensures.ok in
     let scheme = c.new-2.ensures in
@@ -114,11 +207,14 @@ invariant_of-result g c =
       words = ap (λ (w : LockWordsShown). w.table) words ∙ table_is names o c.args.opened c.opened.view_is c.requires.named;
       words_threads = ap (λ (w : LockWordsShown). w.size.threads) words ∙ (c.opened.invariant.0.unused.words_threads ∙ threads_are names o c.args.opened c.opened.view_is c.requires.named);
       words_locks = ap (λ (w : LockWordsShown). w.size.locks) words ∙ (c.opened.invariant.0.unused.words_locks ∙ ap length (values_are names o c.args.opened c.opened.view_is c.requires.named));
-      conds_threads = ap (λ (t : Tables CondWordsShown SemWordsShown). t.first.size.threads) kinds ∙ (c.name-scheme.ensures.threads.0 ∙ (c.opened.invariant.1.same_threads ∙ threads_are names o c.args.opened c.opened.view_is c.requires.named));
-      sems_threads = ap (λ (t : Tables CondWordsShown SemWordsShown). t.second.size.threads) kinds ∙ (c.name-scheme.ensures.threads.1 ∙ (c.opened.invariant.1.same_threads ∙ threads_are names o c.args.opened c.opened.view_is c.requires.named));
+      conds_threads = ap (λ (t : Tables CondWordsShown SemWordsShown). t.first.size.threads) kinds
+          ∙ (c.name-scheme.ensures.threads.0 ∙ (c.opened.invariant.1.same_threads ∙ threads_are names o c.args.opened c.opened.view_is c.requires.named));
+      sems_threads = ap (λ (t : Tables CondWordsShown SemWordsShown). t.second.size.threads) kinds
+          ∙ (c.name-scheme.ensures.threads.1 ∙ (c.opened.invariant.1.same_threads ∙ threads_are names o c.args.opened c.opened.view_is c.requires.named));
       named_locks = sym (locks_are names o c.args.opened c.opened.view_is c.requires.named);
       named_low = sym (low_is names o c.args.opened c.opened.view_is c.requires.named)
-          ∙ (c.opened.invariant.1.follow ∙ (ap (λ n. n + c.opened.inside.kinds.conds.conds) (c.opened.invariant.1.after_locks ∙ (ap length (values_are names o c.args.opened c.opened.view_is c.requires.named) ∙ locks_are names o c.args.opened c.opened.view_is c.requires.named))
+          ∙ (c.opened.invariant.1.follow ∙ (ap (λ n. n + c.opened.inside.kinds.conds.conds)
+          (c.opened.invariant.1.after_locks ∙ (ap length (values_are names o c.args.opened c.opened.view_is c.requires.named) ∙ locks_are names o c.args.opened c.opened.view_is c.requires.named))
           ∙ ap (λ n. g.N.WaitName.locks + n) (conds_are names o c.args.opened c.opened.view_is c.requires.named)));
       parking_threads = ap (λ (l : LotView LotSchemeShown). l.threads) ok ∙ threads_are names o c.args.opened c.opened.view_is c.requires.named;
       parking_keys = ap (λ (l : LotView LotSchemeShown). l.keys) ok ∙ keys;
@@ -130,10 +226,28 @@ invariant_of-result g c =
 
 pub unname_roots-requires-clause-keys : goal.unname_roots-requires-clause-keys
 unname_roots-requires-clause-keys g c κs within =
-    let names : LotNames g.row.V.Denot = record { opening = g.N.Name.opening; threads = g.N.LotName.threads; values = g.N.LotName.values; locks = g.N.WaitName.locks; conds = g.N.WaitName.conds; low = g.N.PermitName.low; permits = g.N.PermitName.permits } in
-    let o : OpenedView g.row.V.Denot = record { table = c.opened.inside.words.table; conds_table = c.opened.inside.kinds.conds.table; sems_table = c.opened.inside.kinds.sems.table; threads = c.opened.inside.threads; values = c.opened.inside.values.value.items; conds = c.opened.inside.kinds.conds.conds; low = c.opened.inside.kinds.sems.low; permits = c.opened.inside.kinds.sems.permits } in
+    let names : LotNames g.row.V.Denot = record {
+      opening = g.N.Name.opening;
+      threads = g.N.LotName.threads;
+      values = g.N.LotName.values;
+      locks = g.N.WaitName.locks;
+      conds = g.N.WaitName.conds;
+      low = g.N.PermitName.low;
+      permits = g.N.PermitName.permits;
+    } in
+    let o : OpenedView g.row.V.Denot = record {
+      table = c.opened.inside.words.table;
+      conds_table = c.opened.inside.kinds.conds.table;
+      sems_table = c.opened.inside.kinds.sems.table;
+      threads = c.opened.inside.threads;
+      values = c.opened.inside.values.value.items;
+      conds = c.opened.inside.kinds.conds.conds;
+      low = c.opened.inside.kinds.sems.low;
+      permits = c.opened.inside.kinds.sems.permits;
+    } in
     let idle : (i : ℕ) (root : LotRootShown) → slice_get c.add_roots.new.named.items i ≡ Some root → IsIdleAt i root = (λ i root at.
-    idle_all g.N.WaitName.locks c.opened.inside.roots.items c.name-scheme.result.2.items (c.opened.invariant.0.roots_long ∙ (ap length (values_are names o c.args.opened c.opened.view_is c.requires.named) ∙ locks_are names o c.args.opened c.opened.view_is c.requires.named))
+    idle_all g.N.WaitName.locks c.opened.inside.roots.items c.name-scheme.result.2.items (c.opened.invariant.0.roots_long
+    ∙ (ap length (values_are names o c.args.opened c.opened.view_is c.requires.named) ∙ locks_are names o c.args.opened c.opened.view_is c.requires.named))
     (λ n r h. roots_idle c.opened.inside.values.value.items c.opened.inside.threads c.opened.inside.words c.opened.inside.passes.items c.opened.inside.roots.items c.opened.invariant.0 n r h)
     c.name-scheme.ensures.roots i root
     (subst (λ (rs : List LotRootShown). slice_get rs i ≡ Some root)
@@ -143,44 +257,106 @@ unname_roots-requires-clause-keys g c κs within =
 
 pub unname_roots-requires-clause-locks : goal.unname_roots-requires-clause-locks
 unname_roots-requires-clause-locks g c κs within =
-    let names : LotNames g.row.V.Denot = record { opening = g.N.Name.opening; threads = g.N.LotName.threads; values = g.N.LotName.values; locks = g.N.WaitName.locks; conds = g.N.WaitName.conds; low = g.N.PermitName.low; permits = g.N.PermitName.permits } in
-    let o : OpenedView g.row.V.Denot = record { table = c.opened.inside.words.table; conds_table = c.opened.inside.kinds.conds.table; sems_table = c.opened.inside.kinds.sems.table; threads = c.opened.inside.threads; values = c.opened.inside.values.value.items; conds = c.opened.inside.kinds.conds.conds; low = c.opened.inside.kinds.sems.low; permits = c.opened.inside.kinds.sems.permits } in
+    let names : LotNames g.row.V.Denot = record {
+      opening = g.N.Name.opening;
+      threads = g.N.LotName.threads;
+      values = g.N.LotName.values;
+      locks = g.N.WaitName.locks;
+      conds = g.N.WaitName.conds;
+      low = g.N.PermitName.low;
+      permits = g.N.PermitName.permits;
+    } in
+    let o : OpenedView g.row.V.Denot = record {
+      table = c.opened.inside.words.table;
+      conds_table = c.opened.inside.kinds.conds.table;
+      sems_table = c.opened.inside.kinds.sems.table;
+      threads = c.opened.inside.threads;
+      values = c.opened.inside.values.value.items;
+      conds = c.opened.inside.kinds.conds.conds;
+      low = c.opened.inside.kinds.sems.low;
+      permits = c.opened.inside.kinds.sems.permits;
+    } in
     let roots_long : vec_len c.opened.inside.roots ≡ length g.N.LotName.values =
-    (let n : vec_len c.opened.inside.roots ≡ length c.opened.inside.roots.items = search rules in n ∙ (c.opened.invariant.0.roots_long ∙ ap length (values_are names o c.args.opened c.opened.view_is c.requires.named))) in
+    (let n : vec_len c.opened.inside.roots ≡ length c.opened.inside.roots.items = search rules in n
+    ∙ (c.opened.invariant.0.roots_long ∙ ap length (values_are names o c.args.opened c.opened.view_is c.requires.named))) in
     let keys : vec_len c.add_roots.new.named ≡ length g.N.LotName.values + g.N.WaitName.conds + length g.N.PermitName.permits =
-    keys_are (vec_len c.opened.inside.roots) (vec_len c.name-scheme.result.2) (length g.N.LotName.values) g.N.WaitName.conds (length g.N.PermitName.permits) (vec_len c.name_roots.new.named) (vec_len c.add_roots.new.named)
+    keys_are (vec_len c.opened.inside.roots) (vec_len c.name-scheme.result.2) (length g.N.LotName.values) g.N.WaitName.conds (length g.N.PermitName.permits) (vec_len c.name_roots.new.named)
+    (vec_len c.add_roots.new.named)
     roots_long (c.name-scheme.ensures.counts.1 ∙ kinds_are names o c.args.opened c.opened.view_is c.requires.named) c.name_roots.ensures.long c.add_roots.ensures.long in
     let long = keys in
     subst (λ v. length g.N.LotName.values ≤ vec_len v) (sym c.in-Err-NoMemory-default-default.ensures.err.0) (omega (arith, long))
 
 pub unname_roots-requires-clause-kind_room : goal.unname_roots-requires-clause-kind_room
 unname_roots-requires-clause-kind_room g c κs within =
-    let names : LotNames g.row.V.Denot = record { opening = g.N.Name.opening; threads = g.N.LotName.threads; values = g.N.LotName.values; locks = g.N.WaitName.locks; conds = g.N.WaitName.conds; low = g.N.PermitName.low; permits = g.N.PermitName.permits } in
-    let o : OpenedView g.row.V.Denot = record { table = c.opened.inside.words.table; conds_table = c.opened.inside.kinds.conds.table; sems_table = c.opened.inside.kinds.sems.table; threads = c.opened.inside.threads; values = c.opened.inside.values.value.items; conds = c.opened.inside.kinds.conds.conds; low = c.opened.inside.kinds.sems.low; permits = c.opened.inside.kinds.sems.permits } in
+    let names : LotNames g.row.V.Denot = record {
+      opening = g.N.Name.opening;
+      threads = g.N.LotName.threads;
+      values = g.N.LotName.values;
+      locks = g.N.WaitName.locks;
+      conds = g.N.WaitName.conds;
+      low = g.N.PermitName.low;
+      permits = g.N.PermitName.permits;
+    } in
+    let o : OpenedView g.row.V.Denot = record {
+      table = c.opened.inside.words.table;
+      conds_table = c.opened.inside.kinds.conds.table;
+      sems_table = c.opened.inside.kinds.sems.table;
+      threads = c.opened.inside.threads;
+      values = c.opened.inside.values.value.items;
+      conds = c.opened.inside.kinds.conds.conds;
+      low = c.opened.inside.kinds.sems.low;
+      permits = c.opened.inside.kinds.sems.permits;
+    } in
     let roots_long : vec_len c.opened.inside.roots ≡ length g.N.LotName.values =
-    (let n : vec_len c.opened.inside.roots ≡ length c.opened.inside.roots.items = search rules in n ∙ (c.opened.invariant.0.roots_long ∙ ap length (values_are names o c.args.opened c.opened.view_is c.requires.named))) in
+    (let n : vec_len c.opened.inside.roots ≡ length c.opened.inside.roots.items = search rules in n
+    ∙ (c.opened.invariant.0.roots_long ∙ ap length (values_are names o c.args.opened c.opened.view_is c.requires.named))) in
     let keys : vec_len c.add_roots.new.named ≡ length g.N.LotName.values + g.N.WaitName.conds + length g.N.PermitName.permits =
-    keys_are (vec_len c.opened.inside.roots) (vec_len c.name-scheme.result.2) (length g.N.LotName.values) g.N.WaitName.conds (length g.N.PermitName.permits) (vec_len c.name_roots.new.named) (vec_len c.add_roots.new.named)
+    keys_are (vec_len c.opened.inside.roots) (vec_len c.name-scheme.result.2) (length g.N.LotName.values) g.N.WaitName.conds (length g.N.PermitName.permits) (vec_len c.name_roots.new.named)
+    (vec_len c.add_roots.new.named)
     roots_long (c.name-scheme.ensures.counts.1 ∙ kinds_are names o c.args.opened c.opened.view_is c.requires.named) c.name_roots.ensures.long c.add_roots.ensures.long in
     let kinds = c.name-scheme.ensures.counts.1 ∙ kinds_are names o c.args.opened c.opened.view_is c.requires.named in
     let room = c.add_roots.ensures.empty.1 in
-    let fits : vec_len c.name-scheme.result.2 ≤ vec_capacity c.name-scheme.result.2 = search rules in
-    (c.add_roots.ensures.empty.0, subst (λ v. vec_len v ≤ length g.N.LotName.values + vec_capacity c.add_roots.new.roots) (sym c.in-Err-NoMemory-default-default.ensures.err.0) (omega (arith, keys, kinds, room, fits)))
+    let fits : vec_len c.name-scheme.result.2 ≤ vec_capacity c.name-scheme.result.2 = search rules in (
+      c.add_roots.ensures.empty.0,
+      subst (λ v. vec_len v ≤ length g.N.LotName.values + vec_capacity c.add_roots.new.roots) (sym c.in-Err-NoMemory-default-default.ensures.err.0)
+          (omega (arith, keys, kinds, room, fits)),
+    )
 
 pub settle-nothing-requires-clause-room : goal.settle-nothing-requires-clause-room
 settle-nothing-requires-clause-room g c κs within =
-    let names : LotNames g.row.V.Denot = record { opening = g.N.Name.opening; threads = g.N.LotName.threads; values = g.N.LotName.values; locks = g.N.WaitName.locks; conds = g.N.WaitName.conds; low = g.N.PermitName.low; permits = g.N.PermitName.permits } in
-    let o : OpenedView g.row.V.Denot = record { table = c.opened.inside.words.table; conds_table = c.opened.inside.kinds.conds.table; sems_table = c.opened.inside.kinds.sems.table; threads = c.opened.inside.threads; values = c.opened.inside.values.value.items; conds = c.opened.inside.kinds.conds.conds; low = c.opened.inside.kinds.sems.low; permits = c.opened.inside.kinds.sems.permits } in
+    let names : LotNames g.row.V.Denot = record {
+      opening = g.N.Name.opening;
+      threads = g.N.LotName.threads;
+      values = g.N.LotName.values;
+      locks = g.N.WaitName.locks;
+      conds = g.N.WaitName.conds;
+      low = g.N.PermitName.low;
+      permits = g.N.PermitName.permits;
+    } in
+    let o : OpenedView g.row.V.Denot = record {
+      table = c.opened.inside.words.table;
+      conds_table = c.opened.inside.kinds.conds.table;
+      sems_table = c.opened.inside.kinds.sems.table;
+      threads = c.opened.inside.threads;
+      values = c.opened.inside.values.value.items;
+      conds = c.opened.inside.kinds.conds.conds;
+      low = c.opened.inside.kinds.sems.low;
+      permits = c.opened.inside.kinds.sems.permits;
+    } in
     let first = c.name-scheme.ensures.counts.0 in
     let room = c.name-scheme.ensures.room in
-    let wide = room.0 in
-    (omega (arith, first, wide), room.1 ∙ conds_are names o c.args.opened c.opened.view_is c.requires.named, (let sems = room.2 in let same = sems_are names o c.args.opened c.opened.view_is c.requires.named in omega (arith, sems, same)))
+    let wide = room.0 in (
+      omega (arith, first, wide),
+      room.1 ∙ conds_are names o c.args.opened c.opened.view_is c.requires.named,
+      (let sems = room.2 in let same = sems_are names o c.args.opened c.opened.view_is c.requires.named in omega (arith, sems, same)),
+    )
 
 pub settle-nothing-requires-clause-threads : goal.settle-nothing-requires-clause-threads
 settle-nothing-requires-clause-threads g c κs within = λ t near.
     let scheme : c.apart-words.result.1 ≡ c.name-scheme.result.0 =
     c.apart-words.ensures.1 ∙ (ap (λ (s : LotSchemeShown). s.second) c.in-Err-NoMemory-default-default.ensures.err.1 ∙ ap (λ (s : LotSchemeShown). s.second) c.new-2.ensures) in
-    let long : length c.name-scheme.result.1.items ≡ c.opened.inside.kinds.conds.threads = (let n : length c.name-scheme.result.1.items ≡ vec_len c.name-scheme.result.1 = search rules in n ∙ c.name-scheme.ensures.counts.0) in
+    let long : length c.name-scheme.result.1.items ≡ c.opened.inside.kinds.conds.threads =
+    (let n : length c.name-scheme.result.1.items ≡ vec_len c.name-scheme.result.1 = search rules in n ∙ c.name-scheme.ensures.counts.0) in
     some_by_place (λ (q : RightsView). q.thread ≡ t) (unused (g.N.WaitName.locks + g.N.WaitName.conds) (g.N.PermitName.low + length g.N.PermitName.permits)) c.name-scheme.result.1.items
     (λ k low. c.name-scheme.ensures.rights k (subst (λ n. k < n) long low)) t
     (subst (λ n. t < n) (ap (λ (s : Tables CondWordsShown SemWordsShown). s.first.size.threads) scheme ∙ (c.name-scheme.ensures.threads.0 ∙ sym long)) near) refl
@@ -189,41 +365,99 @@ pub settle-nothing-requires-clause-same_threads : goal.settle-nothing-requires-c
 settle-nothing-requires-clause-same_threads g c κs within =
     let scheme : c.apart-words.result.1 ≡ c.name-scheme.result.0 =
     c.apart-words.ensures.1 ∙ (ap (λ (s : LotSchemeShown). s.second) c.in-Err-NoMemory-default-default.ensures.err.1 ∙ ap (λ (s : LotSchemeShown). s.second) c.new-2.ensures) in
-    ap (λ (s : Tables CondWordsShown SemWordsShown). s.second.size.threads) scheme ∙ (c.name-scheme.ensures.threads.1 ∙ sym (ap (λ (s : Tables CondWordsShown SemWordsShown). s.first.size.threads) scheme ∙ c.name-scheme.ensures.threads.0))
+    ap (λ (s : Tables CondWordsShown SemWordsShown). s.second.size.threads) scheme ∙ (c.name-scheme.ensures.threads.1
+    ∙ sym (ap (λ (s : Tables CondWordsShown SemWordsShown). s.first.size.threads) scheme ∙ c.name-scheme.ensures.threads.0))
 
 pub settle-nothing-requires-clause-back : goal.settle-nothing-requires-clause-back
 settle-nothing-requires-clause-back g c κs within =
-    let long : length c.name-scheme.result.1.items ≡ c.opened.inside.kinds.conds.threads = (let n : length c.name-scheme.result.1.items ≡ vec_len c.name-scheme.result.1 = search rules in n ∙ c.name-scheme.ensures.counts.0) in
-    none_held (g.N.WaitName.locks + g.N.WaitName.conds) (g.N.PermitName.low + length g.N.PermitName.permits) c.opened.inside.kinds.conds.threads c.name-scheme.result.1.items long c.name-scheme.ensures.rights
+    let long : length c.name-scheme.result.1.items ≡ c.opened.inside.kinds.conds.threads =
+    (let n : length c.name-scheme.result.1.items ≡ vec_len c.name-scheme.result.1 = search rules in n ∙ c.name-scheme.ensures.counts.0) in
+    none_held (g.N.WaitName.locks + g.N.WaitName.conds) (g.N.PermitName.low + length g.N.PermitName.permits) c.opened.inside.kinds.conds.threads c.name-scheme.result.1.items long
+    c.name-scheme.ensures.rights
 
 pub settle-nothing-requires-clause-keys : goal.settle-nothing-requires-clause-keys
 settle-nothing-requires-clause-keys g c κs within =
-    let names : LotNames g.row.V.Denot = record { opening = g.N.Name.opening; threads = g.N.LotName.threads; values = g.N.LotName.values; locks = g.N.WaitName.locks; conds = g.N.WaitName.conds; low = g.N.PermitName.low; permits = g.N.PermitName.permits } in
-    let o : OpenedView g.row.V.Denot = record { table = c.opened.inside.words.table; conds_table = c.opened.inside.kinds.conds.table; sems_table = c.opened.inside.kinds.sems.table; threads = c.opened.inside.threads; values = c.opened.inside.values.value.items; conds = c.opened.inside.kinds.conds.conds; low = c.opened.inside.kinds.sems.low; permits = c.opened.inside.kinds.sems.permits } in
+    let names : LotNames g.row.V.Denot = record {
+      opening = g.N.Name.opening;
+      threads = g.N.LotName.threads;
+      values = g.N.LotName.values;
+      locks = g.N.WaitName.locks;
+      conds = g.N.WaitName.conds;
+      low = g.N.PermitName.low;
+      permits = g.N.PermitName.permits;
+    } in
+    let o : OpenedView g.row.V.Denot = record {
+      table = c.opened.inside.words.table;
+      conds_table = c.opened.inside.kinds.conds.table;
+      sems_table = c.opened.inside.kinds.sems.table;
+      threads = c.opened.inside.threads;
+      values = c.opened.inside.values.value.items;
+      conds = c.opened.inside.kinds.conds.conds;
+      low = c.opened.inside.kinds.sems.low;
+      permits = c.opened.inside.kinds.sems.permits;
+    } in
     let roots_long : vec_len c.opened.inside.roots ≡ length g.N.LotName.values =
-    (let n : vec_len c.opened.inside.roots ≡ length c.opened.inside.roots.items = search rules in n ∙ (c.opened.invariant.0.roots_long ∙ ap length (values_are names o c.args.opened c.opened.view_is c.requires.named))) in
+    (let n : vec_len c.opened.inside.roots ≡ length c.opened.inside.roots.items = search rules in n
+    ∙ (c.opened.invariant.0.roots_long ∙ ap length (values_are names o c.args.opened c.opened.view_is c.requires.named))) in
     let keys : vec_len c.add_roots.new.named ≡ length g.N.LotName.values + g.N.WaitName.conds + length g.N.PermitName.permits =
-    keys_are (vec_len c.opened.inside.roots) (vec_len c.name-scheme.result.2) (length g.N.LotName.values) g.N.WaitName.conds (length g.N.PermitName.permits) (vec_len c.name_roots.new.named) (vec_len c.add_roots.new.named)
+    keys_are (vec_len c.opened.inside.roots) (vec_len c.name-scheme.result.2) (length g.N.LotName.values) g.N.WaitName.conds (length g.N.PermitName.permits) (vec_len c.name_roots.new.named)
+    (vec_len c.add_roots.new.named)
     roots_long (c.name-scheme.ensures.counts.1 ∙ kinds_are names o c.args.opened c.opened.view_is c.requires.named) c.name_roots.ensures.long c.add_roots.ensures.long in
     let unnamed = c.unname_roots.ensures.long in
     let is = ap (λ v. vec_len v) c.in-Err-NoMemory-default-default.ensures.err.0 in (
       sym (low_is names o c.args.opened c.opened.view_is c.requires.named)
-          ∙ (c.opened.invariant.1.follow ∙ (ap (λ n. n + c.opened.inside.kinds.conds.conds) (c.opened.invariant.1.after_locks ∙ (ap length (values_are names o c.args.opened c.opened.view_is c.requires.named) ∙ locks_are names o c.args.opened c.opened.view_is c.requires.named))
+          ∙ (c.opened.invariant.1.follow ∙ (ap (λ n. n + c.opened.inside.kinds.conds.conds)
+          (c.opened.invariant.1.after_locks ∙ (ap length (values_are names o c.args.opened c.opened.view_is c.requires.named) ∙ locks_are names o c.args.opened c.opened.view_is c.requires.named))
           ∙ ap (λ n. g.N.WaitName.locks + n) (conds_are names o c.args.opened c.opened.view_is c.requires.named))),
       omega (arith, unnamed, is, keys),
     )
 
 pub settle-nothing-requires-clause-roots : goal.settle-nothing-requires-clause-roots
 settle-nothing-requires-clause-roots g c κs within =
-    let names : LotNames g.row.V.Denot = record { opening = g.N.Name.opening; threads = g.N.LotName.threads; values = g.N.LotName.values; locks = g.N.WaitName.locks; conds = g.N.WaitName.conds; low = g.N.PermitName.low; permits = g.N.PermitName.permits } in
-    let o : OpenedView g.row.V.Denot = record { table = c.opened.inside.words.table; conds_table = c.opened.inside.kinds.conds.table; sems_table = c.opened.inside.kinds.sems.table; threads = c.opened.inside.threads; values = c.opened.inside.values.value.items; conds = c.opened.inside.kinds.conds.conds; low = c.opened.inside.kinds.sems.low; permits = c.opened.inside.kinds.sems.permits } in
+    let names : LotNames g.row.V.Denot = record {
+      opening = g.N.Name.opening;
+      threads = g.N.LotName.threads;
+      values = g.N.LotName.values;
+      locks = g.N.WaitName.locks;
+      conds = g.N.WaitName.conds;
+      low = g.N.PermitName.low;
+      permits = g.N.PermitName.permits;
+    } in
+    let o : OpenedView g.row.V.Denot = record {
+      table = c.opened.inside.words.table;
+      conds_table = c.opened.inside.kinds.conds.table;
+      sems_table = c.opened.inside.kinds.sems.table;
+      threads = c.opened.inside.threads;
+      values = c.opened.inside.values.value.items;
+      conds = c.opened.inside.kinds.conds.conds;
+      low = c.opened.inside.kinds.sems.low;
+      permits = c.opened.inside.kinds.sems.permits;
+    } in
     subst (λ n. StandFrom kind_key n c.unname_roots.new.kind_roots.items) (locks_are names o c.args.opened c.opened.view_is c.requires.named) c.unname_roots.ensures.kinds
 
 pub close_unused-requires-clause-own : goal.close_unused-requires-clause-own
 close_unused-requires-clause-own g c κs within =
-    let names : LotNames g.row.V.Denot = record { opening = g.N.Name.opening; threads = g.N.LotName.threads; values = g.N.LotName.values; locks = g.N.WaitName.locks; conds = g.N.WaitName.conds; low = g.N.PermitName.low; permits = g.N.PermitName.permits } in
-    let o : OpenedView g.row.V.Denot = record { table = c.opened.inside.words.table; conds_table = c.opened.inside.kinds.conds.table; sems_table = c.opened.inside.kinds.sems.table; threads = c.opened.inside.threads; values = c.opened.inside.values.value.items; conds = c.opened.inside.kinds.conds.conds; low = c.opened.inside.kinds.sems.low; permits = c.opened.inside.kinds.sems.permits } in
+    let names : LotNames g.row.V.Denot = record {
+      opening = g.N.Name.opening;
+      threads = g.N.LotName.threads;
+      values = g.N.LotName.values;
+      locks = g.N.WaitName.locks;
+      conds = g.N.WaitName.conds;
+      low = g.N.PermitName.low;
+      permits = g.N.PermitName.permits;
+    } in
+    let o : OpenedView g.row.V.Denot = record {
+      table = c.opened.inside.words.table;
+      conds_table = c.opened.inside.kinds.conds.table;
+      sems_table = c.opened.inside.kinds.sems.table;
+      threads = c.opened.inside.threads;
+      values = c.opened.inside.values.value.items;
+      conds = c.opened.inside.kinds.conds.conds;
+      low = c.opened.inside.kinds.sems.low;
+      permits = c.opened.inside.kinds.sems.permits;
+    } in
     let words : c.into_words.result ≡ c.opened.inside.words =
     c.into_words.ensures.same ∙ (c.apart-words.ensures.0 ∙ (ap (λ (s : LotSchemeShown). s.first) c.in-Err-NoMemory-default-default.ensures.err.1
     ∙ (ap (λ (s : LotSchemeShown). s.first) c.new-2.ensures ∙ c.new.ensures))) in
-    subst (λ t. All (λ (r : RootShown LockRootView). r.table ≡ t) c.unname_roots.new.roots.items) (sym (ap (λ (w : LockWordsShown). w.table) words ∙ table_is names o c.args.opened c.opened.view_is c.requires.named)) c.unname_roots.ensures.own
+    subst (λ t. All (λ (r : RootShown LockRootView). r.table ≡ t) c.unname_roots.new.roots.items)
+    (sym (ap (λ (w : LockWordsShown). w.table) words ∙ table_is names o c.args.opened c.opened.view_is c.requires.named)) c.unname_roots.ensures.own

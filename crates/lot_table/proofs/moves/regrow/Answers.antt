@@ -12,14 +12,16 @@ loop-key-init g c = record {
 
 below : (g : Over) (c : Else-not-has_key g) → c.loop-key.key < c.requires.0
 below g c =
-    is_key g.R.Root.key g.R.Root.line g.R.Root.owes c.requires.0 c.args.old.now c.args.new.now c.requires.1 c.loop-key.key c.loop-key.old c.loop-key.new c.loop-key.invariant.moved c.index-old-key.result (sym c.if-not-has_key.ensures)
+    is_key g.R.Root.key g.R.Root.line g.R.Root.owes c.requires.0 c.args.old.now c.args.new.now c.requires.1 c.loop-key.key c.loop-key.old c.loop-key.new c.loop-key.invariant.moved
+    c.index-old-key.result (sym c.if-not-has_key.ensures)
 
 -- a key was not there, so all were moved
 all : (g : Over) (c : Then-not-has_key g) → AreMoved c.requires.0 c.args.old.now c.args.new.now c.loop-key.old c.loop-key.new
 all g c =
     moved_ends g.R.Root.key g.R.Root.line g.R.Root.owes c.requires.0 c.args.old.now c.args.new.now c.requires.1 c.loop-key.key c.loop-key.old c.loop-key.new
     (c.loop-key.invariant.within c.requires.0 c.requires.1)
-    (no_key g.R.Root.key g.R.Root.line g.R.Root.owes c.requires.0 c.args.old.now c.args.new.now c.requires.1 c.loop-key.key c.loop-key.old c.loop-key.new c.loop-key.invariant.moved c.index-old-key.result (sym c.if-not-has_key.ensures))
+    (no_key g.R.Root.key g.R.Root.line g.R.Root.owes c.requires.0 c.args.old.now c.args.new.now c.requires.1 c.loop-key.key c.loop-key.old c.loop-key.new c.loop-key.invariant.moved
+    c.index-old-key.result (sym c.if-not-has_key.ensures))
     c.loop-key.invariant.moved
 
 pub returns-then-not-has_key-clause-lines : goal.returns-then-not-has_key-clause-lines
@@ -57,7 +59,8 @@ move_key-requires-clause-room g c κs within =
 pub loop-key-preserved : goal.loop-key-preserved
 loop-key-preserved g c = record {
   within = λ n may.
-      let lt : c.loop-key.key < n = is_key g.R.Root.key g.R.Root.line g.R.Root.owes n c.args.old.now c.args.new.now may c.loop-key.key c.loop-key.old c.loop-key.new c.loop-key.invariant.moved c.index-old-key.result (sym c.if-not-has_key.ensures) in
+      let lt : c.loop-key.key < n = is_key g.R.Root.key g.R.Root.line g.R.Root.owes n c.args.old.now c.args.new.now may c.loop-key.key c.loop-key.old c.loop-key.new
+      c.loop-key.invariant.moved c.index-old-key.result (sym c.if-not-has_key.ensures) in
       omega arith;
   moved =
       moved_more g.R.Root.key g.R.Root.line g.R.Root.owes c.requires.0 c.args.old.now c.args.new.now c.requires.1 c.loop-key.key c.loop-key.old c.loop-key.new c.loop-key.invariant.moved

@@ -46,5 +46,7 @@ put_root-requires-clause-room g c =
 
 pub returns : goal.returns
 returns g c =
-    joined_stays (λ (r : Right). r.key) (λ (r : Right). r.line.items) (λ (r : Right). []) c.args.key c.args.thread c.requires.ready.0 c.requires.ready.1 c.args.bucket.now c.take_root-right.new.self c.enqueue.new.self c.put_root.new.self
-    c.take_root-right.result c.joined-right.result c.requires.ready.2 c.take_root-right.ensures.root c.take_root-right.ensures.left c.enqueue.ensures c.put_root.ensures c.joined-right.ensures.key c.joined-right.ensures.line refl
+    joined_stays (λ (r : Right). r.key) (λ (r : Right). r.line.items) (λ (r : Right). []) c.args.key c.args.thread c.requires.ready.0 c.requires.ready.1 c.args.bucket.now
+    c.take_root-right.new.self c.enqueue.new.self c.put_root.new.self
+    c.take_root-right.result c.joined-right.result c.requires.ready.2 c.take_root-right.ensures.root c.take_root-right.ensures.left c.enqueue.ensures c.put_root.ensures
+    c.joined-right.ensures.key c.joined-right.ensures.line refl

@@ -45,6 +45,7 @@ put_root-requires-clause-room c =
 
 pub returns-clause-stays : goal.returns-clause-stays
 returns-clause-stays c =
-    left_stays (λ (r : Right). r.key) (λ (r : Right). r.line.items) (λ (r : Right). []) c.args.key c.requires.0 c.requires.1 _ c.args.bucket.now c.take_root-right.new.self c.dequeue_one-taken.new.self c.put_root.new.self
+    left_stays (λ (r : Right). r.key) (λ (r : Right). r.line.items) (λ (r : Right). []) c.args.key c.requires.0 c.requires.1 _ c.args.bucket.now c.take_root-right.new.self
+    c.dequeue_one-taken.new.self c.put_root.new.self
     c.dequeue_one-taken.result c.take_root-right.result c.advanced.result c.requires.2 c.take_root-right.ensures.root c.take_root-right.ensures.left c.dequeue_one-taken.ensures c.put_root.ensures
     c.advanced.ensures.key c.advanced.ensures.line refl

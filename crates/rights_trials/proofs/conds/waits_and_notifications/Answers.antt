@@ -33,7 +33,8 @@ pub one_wait-zero-requires-clause-root : goal.one_wait-zero-requires-clause-root
 one_wait-zero-requires-clause-root g c =
     let words = c.in-Ok.words in
     let len : length c.in-Ok.roots.items ≡ 1 = search rules in
-    let root = dealt_last (λ k. root_at (scheme words.size) words.table (1 + k)) 0 c.in-Ok.roots.items c.take_last-root.new.self.items c.take_last-root.result c.take_last-root.ensures.items (len, c.in-Ok.ensures.roots.1) in
+    let root = dealt_last (λ k. root_at (scheme words.size) words.table (1 + k)) 0 c.in-Ok.roots.items c.take_last-root.new.self.items c.take_last-root.result c.take_last-root.ensures.items
+    (len, c.in-Ok.ensures.roots.1) in
     fresh_is_empty words.size words.table c.take_last-root.result root.0
 
 pub two_waits-zero-requires-clause-two : goal.two_waits-zero-requires-clause-two
@@ -41,7 +42,8 @@ two_waits-zero-requires-clause-two g c =
     let words = c.in-Ok.words in
     let right = pass_at (scheme words.size) words.table in
     let len : length c.in-Ok.passes.items ≡ 3 = search rules in
-    fresh_is_free words.size words.table 2 c.take_last-two.result (dealt_last right 2 c.in-Ok.passes.items c.take_last-two.new.self.items c.take_last-two.result c.take_last-two.ensures.items (len, c.in-Ok.ensures.passes.1)).0
+    fresh_is_free words.size words.table 2 c.take_last-two.result (dealt_last right 2 c.in-Ok.passes.items c.take_last-two.new.self.items c.take_last-two.result c.take_last-two.ensures.items
+    (len, c.in-Ok.ensures.passes.1)).0
 
 pub close-requires-clause-passes : goal.close-requires-clause-passes
 close-requires-clause-passes g c =

@@ -24,7 +24,8 @@ hand_over-zero-requires-clause-one g c =
     let xs = c.push_reserved-2.new.self.items in
     let two : length xs ≡ 2 = search rules in
     let len : length c.in-Ok.passes.items ≡ 2 = search rules in
-    fresh_calm z xs two 1 c.take_last-one.result (dealt_last (pass_at z xs) 1 c.in-Ok.passes.items c.take_last-one.new.self.items c.take_last-one.result c.take_last-one.ensures.items (len, c.in-Ok.ensures.passes.1)).0
+    fresh_calm z xs two 1 c.take_last-one.result (dealt_last (pass_at z xs) 1 c.in-Ok.passes.items c.take_last-one.new.self.items c.take_last-one.result c.take_last-one.ensures.items
+    (len, c.in-Ok.ensures.passes.1)).0
 
 pub hand_over-zero-requires-clause-root : goal.hand_over-zero-requires-clause-root
 hand_over-zero-requires-clause-root g c =

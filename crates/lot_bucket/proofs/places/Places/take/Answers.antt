@@ -15,7 +15,8 @@ unwrap-requires g c =
 pub invariant_of-self : goal.invariant_of-self
 invariant_of-self g c = (
   even_kept c.self.inside.first c.self.inside.step c.in-Some.place c.self.inside.slots.items c.index_mut-slot.result.now c.take.new.self c.index_mut-slot.ensures.value c.self.invariant.0,
-  first_kept c.args.key c.in-Some.place c.self.inside.slots.items c.args.self.now c.index_mut-slot.result.now c.take.new.self c.self.view_is c.in-Some.ensures c.index_mut-slot.ensures.value c.self.invariant.1,
+  first_kept c.args.key c.in-Some.place c.self.inside.slots.items c.args.self.now c.index_mut-slot.result.now c.take.new.self c.self.view_is c.in-Some.ensures c.index_mut-slot.ensures.value
+      c.self.invariant.1,
 )
 
 pub returns-clause-root : goal.returns-clause-root

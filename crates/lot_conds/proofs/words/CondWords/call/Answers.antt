@@ -21,7 +21,8 @@ load_both-pass-requires-clause-allows c =
     let q = c.args.root.root in
     let n = c.args.count in
     let size = c.self.inside.words.key in
-    both_at_place (scheme size) (word_at q.key) _ c.word-word.ensures.is (λ n. n) p q (λ _. Calls p q n c.args.more) (call_loads size p q c.requires.calm n c.args.more c.requires.count c.requires.more c.if-more.true (subst (λ k. 0 < k) (sym c.requires.taken) c.if-taken-gt0.true))
+    both_at_place (scheme size) (word_at q.key) _ c.word-word.ensures.is (λ n. n) p q (λ _. Calls p q n c.args.more)
+    (call_loads size p q c.requires.calm n c.args.more c.requires.count c.requires.more c.if-more.true (subst (λ k. 0 < k) (sym c.requires.taken) c.if-taken-gt0.true))
 
 pub load_both-pass-requires-clause-names : goal.load_both-pass-requires-clause-names
 load_both-pass-requires-clause-names c n p' q' told u h = inl (call_names c.args.root.root.own q'.own c.args.count u (ap (λ (z : RootView CondRootView). z.own) told.1) h)
@@ -36,7 +37,8 @@ store_both-requires-clause-allows c =
       | else-more-via-then-more+else-taken-gt0 w ↦ inl (let e = c.requires.taken in let none = w.if-taken-gt0.false in omega arith)
       | else-more-via-else-more w ↦ inr w.if-more.false
     ] in
-    both_at_place (scheme size) (word_at q.key) _ c.word-word.ensures.is (λ _. 0) p q (λ _. Calls p q n c.args.more) (call_stores size p q c.requires.calm n c.args.more c.requires.count c.requires.more last)
+    both_at_place (scheme size) (word_at q.key) _ c.word-word.ensures.is (λ _. 0) p q (λ _. Calls p q n c.args.more)
+    (call_stores size p q c.requires.calm n c.args.more c.requires.count c.requires.more last)
 
 pub store_both-requires-clause-names : goal.store_both-requires-clause-names
 store_both-requires-clause-names c n p' q' told u h = inl (call_names c.args.root.root.own q'.own c.args.count u (ap (λ (z : RootView CondRootView). z.own) told.1) h)

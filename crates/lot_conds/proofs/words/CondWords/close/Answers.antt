@@ -20,4 +20,5 @@ returns-clause-balanced c =
 
 pub returns-clause-history : goal.returns-clause-history
 returns-clause-history c = told_to c.args.self.size c.args.passes.items c.args.roots.items (slots_items c.close.result.words) (slots_items c.close.result.slots)
-    (subst (λ (z : CondWordsShown). Ended (scheme z.size) c.args.passes.items c.args.roots.items (slots_items c.close.result.words) (slots_items c.close.result.slots)) c.self.view_is c.close.ensures.ended)
+    (subst (λ (z : CondWordsShown). Ended (scheme z.size) c.args.passes.items c.args.roots.items (slots_items c.close.result.words) (slots_items c.close.result.slots)) c.self.view_is
+    c.close.ensures.ended)

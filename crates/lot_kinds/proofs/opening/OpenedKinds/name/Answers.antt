@@ -15,8 +15,10 @@ pub pair-requires-clause-paired : goal.pair-requires-clause-paired
 pair-requires-clause-paired g c κs within =
     let s = c.self.inside in
     let same = c.self.invariant.same_threads in
-    let many : length c.name-conds.result.1.items ≡ s.conds.threads = (let n : length c.name-conds.result.1.items ≡ vec_len c.name-conds.result.1 = search rules in n ∙ c.name-conds.ensures.counts.0) in
-    let long : length c.name-sems.result.1.items ≡ s.conds.threads = (let n : length c.name-sems.result.1.items ≡ vec_len c.name-sems.result.1 = search rules in n ∙ (c.name-sems.ensures.counts.0 ∙ same)) in
+    let many : length c.name-conds.result.1.items ≡ s.conds.threads = (let n : length c.name-conds.result.1.items ≡ vec_len c.name-conds.result.1 = search rules in n
+    ∙ c.name-conds.ensures.counts.0) in
+    let long : length c.name-sems.result.1.items ≡ s.conds.threads = (let n : length c.name-sems.result.1.items ≡ vec_len c.name-sems.result.1 = search rules in n
+    ∙ (c.name-sems.ensures.counts.0 ∙ same)) in
     new_paired (g.N.WaitName.locks + g.N.WaitName.conds) (g.N.PermitName.low + length g.N.PermitName.permits) s.conds.threads c.name-conds.result.1.items c.name-sems.result.1.items many long
     c.name-conds.ensures.waiters (λ t near. c.name-sems.ensures.seekers t (omega (arith, near, same)))
 
@@ -37,9 +39,12 @@ returns-clause-rights g c =
     let s = c.self.inside in
     let same = c.self.invariant.same_threads in
     let threads : s.conds.threads ≡ c.args.self.conds.threads = ap (λ (o : OpenedKindsView). o.conds.threads) c.self.view_is in
-    let many : length c.name-conds.result.1.items ≡ s.conds.threads = (let n : length c.name-conds.result.1.items ≡ vec_len c.name-conds.result.1 = search rules in n ∙ c.name-conds.ensures.counts.0) in
-    let long : length c.name-sems.result.1.items ≡ s.conds.threads = (let n : length c.name-sems.result.1.items ≡ vec_len c.name-sems.result.1 = search rules in n ∙ (c.name-sems.ensures.counts.0 ∙ same)) in
-    λ t near. subst (λ (rs : List RightsView). slice_get rs t ≡ Some (unused (g.N.WaitName.locks + g.N.WaitName.conds) (g.N.PermitName.low + length g.N.PermitName.permits) t)) (sym c.pair.ensures.same)
+    let many : length c.name-conds.result.1.items ≡ s.conds.threads = (let n : length c.name-conds.result.1.items ≡ vec_len c.name-conds.result.1 = search rules in n
+    ∙ c.name-conds.ensures.counts.0) in
+    let long : length c.name-sems.result.1.items ≡ s.conds.threads = (let n : length c.name-sems.result.1.items ≡ vec_len c.name-sems.result.1 = search rules in n
+    ∙ (c.name-sems.ensures.counts.0 ∙ same)) in
+    λ t near. subst (λ (rs : List RightsView). slice_get rs t ≡ Some (unused (g.N.WaitName.locks + g.N.WaitName.conds) (g.N.PermitName.low + length g.N.PermitName.permits) t))
+    (sym c.pair.ensures.same)
     (new_at (g.N.WaitName.locks + g.N.WaitName.conds) (g.N.PermitName.low + length g.N.PermitName.permits) s.conds.threads c.name-conds.result.1.items c.name-sems.result.1.items many long
     c.name-conds.ensures.waiters (λ i here. c.name-sems.ensures.seekers i (omega (arith, here, same))) t (omega (arith, near, threads)))
 
@@ -57,7 +62,9 @@ returns-clause-roots g c =
     (let firsts : length {A = KindRootShown} (map First conds) ≡ length conds = length-map conds First in omega (arith, locks, low, follow, count, n, firsts)) in
     λ i root at.
     at_both (λ m (r : KindRootShown). IsIdleAt (g.N.WaitName.locks + m) r) (map First conds) (map Second sems)
-    (at_mapped First (λ m (r : KindRootShown). IsIdleAt (g.N.WaitName.locks + m) r) conds (λ m r h. let e = c.name-conds.ensures.roots m r h in record { named = e.named; empty = e.empty; paid = ap debts e.paid }))
+    (at_mapped First (λ m (r : KindRootShown). IsIdleAt (g.N.WaitName.locks + m) r) conds (λ m r h. let e = c.name-conds.ensures.roots m r h in record
+    { named = e.named; empty = e.empty; paid = ap debts e.paid }))
     (λ m root' here. subst (λ k. IsIdleAt k root') (let same : g.N.PermitName.low + m ≡ g.N.WaitName.locks + (length {A = KindRootShown} (map First conds) + m) = omega (arith, border) in same)
-    (at_mapped Second (λ j (r : KindRootShown). IsIdleAt (g.N.PermitName.low + j) r) sems (λ j r h. let e = c.name-sems.ensures.roots j r h in record { named = e.named; empty = e.empty; paid = ap (λ o. debt o 0) e.paid }) m root' here))
+    (at_mapped Second (λ j (r : KindRootShown). IsIdleAt (g.N.PermitName.low + j) r) sems (λ j r h. let e = c.name-sems.ensures.roots j r h in record
+    { named = e.named; empty = e.empty; paid = ap (λ o. debt o 0) e.paid }) m root' here))
     i root (subst (λ (rs : List KindRootShown). slice_get rs i ≡ Some root) c.join.ensures.same at)

@@ -25,7 +25,8 @@ compare_exchange-pass-requires-clause-allows c =
     let size = numbers c.self.inside.words.key in
     let among = subst (λ (z : SemWordsShown). IsAmong z.size key) (sym c.self.view_is) c.requires.key in
     let seen = c.peek-was.result in
-    pass_at_place (scheme size) (word_at key) _ c.word_of_key-word.ensures (λ n. either (n == seen) (seen - 2) n) p (Swaps p key seen) (swaps size p key among (c.requires.calm.0, inl c.requires.calm.1) seen c.if-was-lt-PERMIT.false)
+    pass_at_place (scheme size) (word_at key) _ c.word_of_key-word.ensures (λ n. either (n == seen) (seen - 2) n) p (Swaps p key seen)
+    (swaps size p key among (c.requires.calm.0, inl c.requires.calm.1) seen c.if-was-lt-PERMIT.false)
 
 pub returns-then-was-lt-PERMIT-clause-entry : goal.returns-then-was-lt-PERMIT-clause-entry
 returns-then-was-lt-PERMIT-clause-entry c =

@@ -32,13 +32,17 @@ counted : {V : Type 0} (passes : List (PassView V)) → map kind_counts (map rig
 counted [] = refl
 counted (p ∷ ps) = ap (λ cs. counts_of p ∷ cs) (counted ps)
 
-goes_on : {V Part : Type 0} (keeps : ℕ → V → Type 0) (grows : V → V → Type 0) (part : ℕ → V → Part) (values : List V) (passes : List (PassView V)) (rights : List (PassShown (LockPassView V))) → map seen_as rights ≡ map lock_side passes
-    → All (λ (p : PassShown (LockPassView V)). (l : ℕ) (y : V) → slice_get values l ≡ Some y → FoundOk keeps grows part l p.pass.thread p.pass.own y) rights → All (GoesOnTo keeps grows part values) passes
+goes_on : {V Part : Type 0} (keeps : ℕ → V → Type 0) (grows : V → V → Type 0) (part : ℕ → V → Part) (values : List V) (passes : List (PassView V))
+    (rights : List (PassShown (LockPassView V))) → map seen_as rights ≡ map lock_side passes
+    → All (λ (p : PassShown (LockPassView V)). (l : ℕ) (y : V) → slice_get values l ≡ Some y → FoundOk keeps grows part l p.pass.thread p.pass.own y) rights
+    → All (GoesOnTo keeps grows part values) passes
 goes_on {V} {Part} keeps grows part values passes rights same found =
-    All-weaker (λ (p : PassView V). GoesOnTo keeps grows part values (lock_side p)) (GoesOnTo keeps grows part values) (λ p goes. record { kept = goes.kept; grown = goes.grown; mine = goes.mine }) passes
+    All-weaker (λ (p : PassView V). GoesOnTo keeps grows part values (lock_side p)) (GoesOnTo keeps grows part values)
+    (λ p goes. record { kept = goes.kept; grown = goes.grown; mine = goes.mine }) passes
     (all_before lock_side (GoesOnTo keeps grows part values) passes (subst (All (GoesOnTo keeps grows part values)) same
     (All-map (GoesOnTo keeps grows part values) seen_as rights
-    (All-weaker (λ (p : PassShown (LockPassView V)). (l : ℕ) (y : V) → slice_get values l ≡ Some y → FoundOk keeps grows part l p.pass.thread p.pass.own y) (λ (p : PassShown (LockPassView V)). GoesOnTo keeps grows part values (seen_as p))
+    (All-weaker (λ (p : PassShown (LockPassView V)). (l : ℕ) (y : V) → slice_get values l ≡ Some y → FoundOk keeps grows part l p.pass.thread p.pass.own y)
+    (λ (p : PassShown (LockPassView V)). GoesOnTo keeps grows part values (seen_as p))
     (λ p is. record {
       kept = λ key v at. (is key v at).kept;
       grown = λ key u v at seen. (is key v at).grown u seen;
@@ -67,17 +71,21 @@ settle-ledger-requires-clause-room g c κs within =
 pub settle-ledger-requires-clause-threads : goal.settle-ledger-requires-clause-threads
 settle-ledger-requires-clause-threads g c κs within = λ t near.
     subst (Any (λ (q : RightsView). q.thread ≡ t)) (sym c.gather.ensures.beside)
-    (some_after rights_of (λ (q : RightsView). q.thread ≡ t) c.args.passes.items (c.requires.all t (subst (λ n. t < n) (sym c.self.invariant.own_threads ∙ ap (λ (v : LotView). v.threads) c.self.view_is)
-    (subst (λ n. t < n) (ap (λ (s : Tables CondWordsShown SemWordsShown). s.first.size.threads) (c.apart-words.ensures.1 ∙ ap (λ (s : LotSchemeShown). s.second) c.close-scheme.ensures.scheme) ∙ c.self.invariant.conds_threads) near))))
+    (some_after rights_of (λ (q : RightsView). q.thread ≡ t) c.args.passes.items (c.requires.all t
+    (subst (λ n. t < n) (sym c.self.invariant.own_threads ∙ ap (λ (v : LotView). v.threads) c.self.view_is)
+    (subst (λ n. t < n) (ap (λ (s : Tables CondWordsShown SemWordsShown). s.first.size.threads)
+    (c.apart-words.ensures.1 ∙ ap (λ (s : LotSchemeShown). s.second) c.close-scheme.ensures.scheme) ∙ c.self.invariant.conds_threads) near))))
 
 pub settle-ledger-requires-clause-same_threads : goal.settle-ledger-requires-clause-same_threads
 settle-ledger-requires-clause-same_threads g c κs within =
     let scheme = c.apart-words.ensures.1 ∙ ap (λ (s : LotSchemeShown). s.second) c.close-scheme.ensures.scheme in
-    ap (λ (s : Tables CondWordsShown SemWordsShown). s.second.size.threads) scheme ∙ (c.self.invariant.sems_threads ∙ sym (ap (λ (s : Tables CondWordsShown SemWordsShown). s.first.size.threads) scheme ∙ c.self.invariant.conds_threads))
+    ap (λ (s : Tables CondWordsShown SemWordsShown). s.second.size.threads) scheme ∙ (c.self.invariant.sems_threads
+    ∙ sym (ap (λ (s : Tables CondWordsShown SemWordsShown). s.first.size.threads) scheme ∙ c.self.invariant.conds_threads))
 
 pub settle-ledger-requires-clause-back : goal.settle-ledger-requires-clause-back
 settle-ledger-requires-clause-back g c κs within =
-    subst (All HoldsNoPermit) (sym c.gather.ensures.beside) (All-map HoldsNoPermit rights_of c.args.passes.items (All-weaker OwnsNone (λ (p : PassView _). HoldsNoPermit (rights_of p)) (λ p free. free.no_permit) c.args.passes.items c.requires.free))
+    subst (All HoldsNoPermit) (sym c.gather.ensures.beside) (All-map HoldsNoPermit rights_of c.args.passes.items
+    (All-weaker OwnsNone (λ (p : PassView _). HoldsNoPermit (rights_of p)) (λ p free. free.no_permit) c.args.passes.items c.requires.free))
 
 pub settle-ledger-requires-clause-keys : goal.settle-ledger-requires-clause-keys
 settle-ledger-requires-clause-keys g c κs within =
@@ -96,7 +104,9 @@ settle-ledger-requires-clause-roots g c κs within = subst (λ n. StandFrom kind
 pub close-requires-clause-table : goal.close-requires-clause-table
 close-requires-clause-table g c =
     let named = sym c.into_words.ensures.named in (
-      subst (λ t. All (λ (p : PassShown (LockPassView g.row.V.Denot)). p.table ≡ t) c.gather.new.rights.items) named (All-weaker (IsFree g.N.Name.opening.locks) (λ (p : PassShown (LockPassView g.row.V.Denot)). p.table ≡ g.N.Name.opening.locks) (λ p free. free.is_of) c.gather.new.rights.items c.gather.ensures.free),
+      subst (λ t. All (λ (p : PassShown (LockPassView g.row.V.Denot)). p.table ≡ t) c.gather.new.rights.items) named
+          (All-weaker (IsFree g.N.Name.opening.locks) (λ (p : PassShown (LockPassView g.row.V.Denot)). p.table ≡ g.N.Name.opening.locks) (λ p free. free.is_of) c.gather.new.rights.items
+          c.gather.ensures.free),
       subst (λ t. All (λ (r : RootShown LockRootView). r.table ≡ t) c.unname_roots.new.roots.items) named c.unname_roots.ensures.own,
     )
 
@@ -106,8 +116,10 @@ close-requires-clause-idle g c = All-weaker (IsFree g.N.Name.opening.locks) Hold
 pub close-requires-clause-passes : goal.close-requires-clause-passes
 close-requires-clause-passes g c = λ t near.
     some_before seen_as (λ (p : PassView _). p.thread ≡ t) c.gather.new.rights.items
-    (subst (Any (λ (p : PassView _). p.thread ≡ t)) (sym c.gather.ensures.same) (some_after lock_side (λ (p : PassView _). p.thread ≡ t) c.args.passes.items (c.requires.all t (subst (λ n. t < n) (sym c.self.invariant.own_threads ∙ ap (λ (v : LotView). v.threads) c.self.view_is)
-    (subst (λ n. t < n) (ap (λ (w : LockWordsShown). w.size.threads) (c.into_words.ensures.same ∙ (c.apart-words.ensures.0 ∙ ap (λ (s : LotSchemeShown). s.first) c.close-scheme.ensures.scheme)) ∙ c.self.invariant.words_threads) near)))))
+    (subst (Any (λ (p : PassView _). p.thread ≡ t)) (sym c.gather.ensures.same) (some_after lock_side (λ (p : PassView _). p.thread ≡ t) c.args.passes.items
+    (c.requires.all t (subst (λ n. t < n) (sym c.self.invariant.own_threads ∙ ap (λ (v : LotView). v.threads) c.self.view_is)
+    (subst (λ n. t < n) (ap (λ (w : LockWordsShown). w.size.threads) (c.into_words.ensures.same
+    ∙ (c.apart-words.ensures.0 ∙ ap (λ (s : LotSchemeShown). s.first) c.close-scheme.ensures.scheme)) ∙ c.self.invariant.words_threads) near)))))
 
 pub close-requires-clause-roots : goal.close-requires-clause-roots
 close-requires-clause-roots g c = λ l near.
@@ -126,4 +138,5 @@ returns-clause-ledger g c =
     let conds : g.N.WaitName.conds ≡ c.args.self.conds = sym c.self.invariant.own_conds ∙ ap (λ (v : LotView). v.conds) c.self.view_is in
     subst (λ n. IsLedger n c.args.self.conds (map counts_of c.args.passes.items) c.settle-ledger.result.called.items c.settle-ledger.result.woken.items) locks
     (subst (λ n. IsLedger g.N.WaitName.locks n (map counts_of c.args.passes.items) c.settle-ledger.result.called.items c.settle-ledger.result.woken.items) conds
-    (subst (λ qs. IsLedger g.N.WaitName.locks g.N.WaitName.conds qs c.settle-ledger.result.called.items c.settle-ledger.result.woken.items) (ap (map kind_counts) c.gather.ensures.beside ∙ counted c.args.passes.items) c.settle-ledger.ensures))
+    (subst (λ qs. IsLedger g.N.WaitName.locks g.N.WaitName.conds qs c.settle-ledger.result.called.items c.settle-ledger.result.woken.items)
+    (ap (map kind_counts) c.gather.ensures.beside ∙ counted c.args.passes.items) c.settle-ledger.ensures))

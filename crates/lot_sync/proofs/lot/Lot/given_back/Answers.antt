@@ -8,13 +8,19 @@ use Rattle.lot_sync.proofs.lot.Lot.given_back.Goals as goal
 
 pub value_in-requires-clause-holds : goal.value_in-requires-clause-holds
 value_in-requires-clause-holds g c κs within =
-    let holds = owned_held c.apart-right.result.0.own.holds c.args.key (subst (λ p. Owns p c.args.key) c.apart-right.ensures.same c.requires.owns) in (holds, c.apart-right.ensures.rest.out c.args.key holds)
+    let holds = owned_held c.apart-right.result.0.own.holds c.args.key (subst (λ p. Owns p c.args.key) c.apart-right.ensures.same c.requires.owns) in (
+      holds,
+      c.apart-right.ensures.rest.out
+          c.args.key holds,
+    )
 
 pub value_in-requires-clause-lawful : goal.value_in-requires-clause-lawful
 value_in-requires-clause-lawful g c κs within =
-    subst (λ v. (x : _) × HasSeen c.apart-right.result.0.own c.args.key x × MayLeave g.V.Keeps.keeps g.V.Keeps.grows g.V.Keeps.part c.args.key c.apart-right.result.0.thread x v) (sym c.into_value.ensures)
+    subst (λ v. (x : _) × HasSeen c.apart-right.result.0.own c.args.key x × MayLeave g.V.Keeps.keeps g.V.Keeps.grows g.V.Keeps.part c.args.key c.apart-right.result.0.thread x v)
+    (sym c.into_value.ensures)
     (may_leave g.V.Keeps.keeps g.V.Keeps.grows g.V.Keeps.part c.apart-right.result.1 g.V.Keeps.grows g.N.LotName.values g.N.LotName.threads c.apart-right.result.0 c.args.held c.args.key
-    c.requires.key.0 (owned_within _ _ _ c.apart-right.result.1 c.apart-right.result.0 c.args.key c.apart-right.ensures.rest (subst (λ p. Owns p c.args.key) c.apart-right.ensures.same c.requires.owns)) c.apart-right.ensures.rest
+    c.requires.key.0 (owned_within _ _ _ c.apart-right.result.1 c.apart-right.result.0 c.args.key c.apart-right.ensures.rest
+    (subst (λ p. Owns p c.args.key) c.apart-right.ensures.same c.requires.owns)) c.apart-right.ensures.rest
     (subst (λ p. MayGiveBack g.V.Keeps.keeps g.V.Keeps.grows g.V.Keeps.part p c.args.held) c.apart-right.ensures.same c.requires.back))
 
 pub returns-clause-owner : goal.returns-clause-owner
@@ -31,7 +37,9 @@ returns-clause-lies g c =
     (owned_within _ _ _ c.apart-right.result.1 c.apart-right.result.0 c.args.key c.apart-right.ensures.rest (subst (λ p. Owns p c.args.key) c.apart-right.ensures.same c.requires.owns))))
 
 pub returns-clause-locks : goal.returns-clause-locks
-returns-clause-locks g c = owned_within _ _ _ c.apart-right.result.1 c.apart-right.result.0 c.args.key c.apart-right.ensures.rest (subst (λ p. Owns p c.args.key) c.apart-right.ensures.same c.requires.owns)
+returns-clause-locks g c = owned_within _ _ _ c.apart-right.result.1 c.apart-right.result.0 c.args.key c.apart-right.ensures.rest
+    (subst (λ p. Owns p c.args.key) c.apart-right.ensures.same c.requires.owns)
 
 pub returns-clause-own : goal.returns-clause-own
-returns-clause-own g c = own_on c.apart-right.result.0.thread c.value_in.result.thread c.apart-right.result.1 (ap (λ (r : Standing g.row.V.Denot). r.thread) c.value_in.ensures) c.apart-right.ensures.own
+returns-clause-own g c = own_on c.apart-right.result.0.thread c.value_in.result.thread c.apart-right.result.1 (ap (λ (r : Standing g.row.V.Denot). r.thread) c.value_in.ensures)
+    c.apart-right.ensures.own

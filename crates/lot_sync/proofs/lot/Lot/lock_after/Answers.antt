@@ -35,4 +35,5 @@ taken-requires-clause-own g c κs within = own_on _ _ c.apart-right.result.1 (rw
 pub taken-requires-else-got-clause-own : goal.taken-requires-else-got-clause-own
 taken-requires-else-got-clause-own g c κs within =
     own_on _ _ c.apart-right.result.1
-    (subst (λ r. IsOwner g.V.Keeps.keeps g.V.Keeps.grows g.V.Keeps.part r c.args.key c.lock_slowly-right.result) (rw c.if-got.false at c.take_free-right.ensures.ends) c.lock_slowly-right.ensures).thread c.apart-right.ensures.own
+    (subst (λ r. IsOwner g.V.Keeps.keeps g.V.Keeps.grows g.V.Keeps.part r c.args.key c.lock_slowly-right.result) (rw c.if-got.false at c.take_free-right.ensures.ends)
+    c.lock_slowly-right.ensures).thread c.apart-right.ensures.own

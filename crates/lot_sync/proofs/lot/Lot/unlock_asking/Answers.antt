@@ -15,7 +15,8 @@ at_rest-requires-clause-own g c κs within = own_on _ _ c.given_back-right.resul
 pub returns-then-freed-clause-pass : goal.returns-then-freed-clause-pass
 returns-then-freed-clause-pass g c =
     let b = c.given_back-right.ensures in
-    c.at_rest.ensures.pass ∙ (leaves_all c.given_back-right.result.1 c.given_back-right.result.0 c.free-right.result.0 c.key-key.result c.args.held.value b.lies (rw c.if-freed.true at c.free-right.ensures)
+    c.at_rest.ensures.pass ∙ (leaves_all c.given_back-right.result.1 c.given_back-right.result.0 c.free-right.result.0 c.key-key.result c.args.held.value b.lies
+    (rw c.if-freed.true at c.free-right.ensures)
     ∙ (ap (λ p. leaving p c.key-key.result c.args.held.value) b.same ∙ ap (λ k. leaving c.args.pass k c.args.held.value) c.key-key.ensures))
 
 pub at_rest-requires-else-freed-clause-rest : goal.at_rest-requires-else-freed-clause-rest

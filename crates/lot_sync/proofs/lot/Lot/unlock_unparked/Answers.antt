@@ -22,7 +22,8 @@ at_rest-requires-else-freed-clause-rest g c κs within =
 pub returns-then-freed-clause-freed : goal.returns-then-freed-clause-freed
 returns-then-freed-clause-freed g c =
     let b = c.given_back-right.ensures in
-    c.at_rest.ensures.pass ∙ (leaves_all c.given_back-right.result.1 c.given_back-right.result.0 c.free-right.result.0 c.key-key.result c.args.held.value b.lies (rw c.if-freed.true at c.free-right.ensures)
+    c.at_rest.ensures.pass ∙ (leaves_all c.given_back-right.result.1 c.given_back-right.result.0 c.free-right.result.0 c.key-key.result c.args.held.value b.lies
+    (rw c.if-freed.true at c.free-right.ensures)
     ∙ (ap (λ p. leaving p c.key-key.result c.args.held.value) b.same ∙ ap (λ k. leaving c.args.pass k c.args.held.value) c.key-key.ensures))
 
 pub returns-else-freed-clause-freed : goal.returns-else-freed-clause-freed
@@ -42,4 +43,5 @@ at_rest-requires-clause-own g c κs within = own_on _ _ c.given_back-right.resul
 
 pub at_rest-requires-else-freed-clause-own : goal.at_rest-requires-else-freed-clause-own
 at_rest-requires-else-freed-clause-own g c κs within =
-    own_on _ _ c.given_back-right.result.1 (ap (λ (r : Standing g.row.V.Denot). r.thread) c.value_out-right.ensures.out ∙ (rw c.if-freed.false at c.free-right.ensures).thread) c.given_back-right.ensures.own
+    own_on _ _ c.given_back-right.result.1 (ap (λ (r : Standing g.row.V.Denot). r.thread) c.value_out-right.ensures.out ∙ (rw c.if-freed.false at c.free-right.ensures).thread)
+    c.given_back-right.ensures.own

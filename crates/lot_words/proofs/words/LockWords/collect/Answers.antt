@@ -9,8 +9,8 @@ pub swap-pass-requires-clause-allows : goal.swap-pass-requires-clause-allows
 swap-pass-requires-clause-allows g c =
     let p = c.args.pass.pass in
     pass_at_place (scheme g.V.Keeps.keeps g.V.Keeps.grows g.V.Keeps.part c.self.inside.words.key.size c.self.inside.words.key.values.value.items) (letter_at p.thread) _
-        c.letter-place.ensures.is (λ _. 0) p (Collecting g.V.Keeps.keeps g.V.Keeps.grows g.V.Keeps.part p)
-        (collects g.V.Keeps.keeps g.V.Keeps.grows g.V.Keeps.part g.V.Keeps.grows_itself c.self.inside.words.key.size c.self.inside.words.key.values.value.items p)
+    c.letter-place.ensures.is (λ _. 0) p (Collecting g.V.Keeps.keeps g.V.Keeps.grows g.V.Keeps.part p)
+    (collects g.V.Keeps.keeps g.V.Keeps.grows g.V.Keeps.part g.V.Keeps.grows_itself c.self.inside.words.key.size c.self.inside.words.key.values.value.items p)
 
 pub returns-then-letter-eq-NO_LETTER-clause-letter : goal.returns-then-letter-eq-NO_LETTER-clause-letter
 returns-then-letter-eq-NO_LETTER-clause-letter g c = collected_none g.V.Keeps.keeps g.V.Keeps.grows g.V.Keeps.part c.args.pass.pass c.swap-pass.result.0.pass c.swap-pass.result.1

@@ -19,10 +19,10 @@ load_both-pass-requires-clause-allows g c =
     let p = c.args.pass.pass in
     let q = c.args.root.root in
     both_at_place (scheme g.V.Keeps.keeps g.V.Keeps.grows g.V.Keeps.part c.self.inside.words.key.size c.self.inside.words.key.values.value.items) (word_at q.key) _ c.word-word.ensures.is
-        (λ n. n) p q (λ _. Passes p q q.own.line true c.args.more)
+    (λ n. n) p q (λ _. Passes p q q.own.line true c.args.more)
     (loads g.V.Keeps.keeps g.V.Keeps.grows g.V.Keeps.part c.self.inside.words.key.size c.self.inside.words.key.values.value.items g.V.Keeps.grows_itself g.V.Keeps.grows_on p q
-        c.requires.holds.0 c.requires.holds.1 c.requires.holds.2 c.requires.lies.0 c.requires.lies.1 c.requires.first.1 c.args.more
-        (λ none_first. let e : true ≡ false = sym c.if-fair.true ∙ c.requires.fair (sym c.requires.first.0 ∙ none_first) in cc))
+    c.requires.holds.0 c.requires.holds.1 c.requires.holds.2 c.requires.lies.0 c.requires.lies.1 c.requires.first.1 c.args.more
+    (λ none_first. let e : true ≡ false = sym c.if-fair.true ∙ c.requires.fair (sym c.requires.first.0 ∙ none_first) in cc))
 
 pub load_both-pass-requires-clause-names : goal.load_both-pass-requires-clause-names
 load_both-pass-requires-clause-names g c n p' q' told u h = inl (pass_names c.args.root.root.own q'.own true u (ap (λ (z : RootView LockRootView). z.own) told.1) h)
@@ -32,10 +32,10 @@ store_both-requires-clause-allows g c =
     let p = c.args.pass.pass in
     let q = c.args.root.root in
     both_at_place (scheme g.V.Keeps.keeps g.V.Keeps.grows g.V.Keeps.part c.self.inside.words.key.size c.self.inside.words.key.values.value.items) (word_at q.key) _ c.word-word.ensures.is
-        (λ _. c.word_after-left.result) p q (λ _. Passes p q q.own.line false c.args.more)
+    (λ _. c.word_after-left.result) p q (λ _. Passes p q q.own.line false c.args.more)
     (stores g.V.Keeps.keeps g.V.Keeps.grows g.V.Keeps.part c.self.inside.words.key.size c.self.inside.words.key.values.value.items g.V.Keeps.grows_itself g.V.Keeps.grows_on p q
-        c.requires.holds.0 c.requires.holds.1 c.requires.holds.2 c.requires.lies.0 c.requires.lies.1 c.requires.first.1 c.args.more (c.requires.more c.if-fair.false) c.word_after-left.result
-        (c.word_after-left.ensures ∙ ap (λ o. word_left o c.args.more) (sym c.requires.first.0)))
+    c.requires.holds.0 c.requires.holds.1 c.requires.holds.2 c.requires.lies.0 c.requires.lies.1 c.requires.first.1 c.args.more (c.requires.more c.if-fair.false) c.word_after-left.result
+    (c.word_after-left.ensures ∙ ap (λ o. word_left o c.args.more) (sym c.requires.first.0)))
 
 pub store_both-requires-clause-names : goal.store_both-requires-clause-names
 store_both-requires-clause-names g c n p' q' told u h = inl (pass_names c.args.root.root.own q'.own false u (ap (λ (z : RootView LockRootView). z.own) told.1) h)
@@ -46,7 +46,7 @@ returns-then-fair-clause-event g c y lies =
     let q = c.args.root.root in
     subst (λ o. Notes p (let_go p.own q.key y) (Makes (Pass p.thread q.key c.args.fair c.args.more) (Sleeper o)) c.load_both-pass.result.0.pass) c.requires.first.0
     (subst (λ b. Notes p (let_go p.own q.key y) (Makes (Pass p.thread q.key b c.args.more) (Sleeper (first q.own.line))) c.load_both-pass.result.0.pass) (sym c.if-fair.true)
-        (c.load_both-pass.ensures.told.0 y lies))
+    (c.load_both-pass.ensures.told.0 y lies))
 
 pub returns-then-fair-clause-root : goal.returns-then-fair-clause-root
 returns-then-fair-clause-root g c =
@@ -59,7 +59,7 @@ returns-else-fair-clause-event g c y lies =
     let q = c.args.root.root in
     subst (λ o. Notes p (let_go p.own q.key y) (Makes (Pass p.thread q.key c.args.fair c.args.more) (Sleeper o)) c.store_both.result.0.pass) c.requires.first.0
     (subst (λ b. Notes p (let_go p.own q.key y) (Makes (Pass p.thread q.key b c.args.more) (Sleeper (first q.own.line))) c.store_both.result.0.pass) (sym c.if-fair.false)
-        (c.store_both.ensures.told.0 y lies))
+    (c.store_both.ensures.told.0 y lies))
 
 pub returns-else-fair-clause-root : goal.returns-else-fair-clause-root
 returns-else-fair-clause-root g c =
