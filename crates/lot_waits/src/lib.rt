@@ -37,8 +37,3 @@ pub use opening::OpenedConds;
 pub use room::{ClosingRoom, Room};
 pub use scheme::{CondKeyRoot, CondScheme, NamedCond};
 pub use waiter::Waiter;
-
-#[cfg(test)]
-mod tests;
-#[cfg(test)]
-mod tests_ledger;

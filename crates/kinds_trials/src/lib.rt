@@ -1,0 +1,9 @@
+//! Trials of waits and notifications on a parking lot through their public calls: it has tests and nothing else.
+#![tactic(auto)]
+
+#[cfg(test)]
+mod ledger;
+#[cfg(test)]
+mod tables;
+#[cfg(test)]
+mod waits;
