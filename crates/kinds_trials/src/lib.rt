@@ -1,8 +1,10 @@
-//! Trials of waits and notifications on a parking lot through their public calls: it has tests and nothing else.
+//! Trials of waits, notifications and permits on a parking lot through their public calls: it has tests and nothing else.
 #![tactic(auto)]
 
 #[cfg(test)]
 mod ledger;
+#[cfg(test)]
+mod permits;
 #[cfg(test)]
 mod tables;
 #[cfg(test)]

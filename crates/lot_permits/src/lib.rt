@@ -36,6 +36,3 @@ pub use permit::{Freed, Permit, Tried};
 pub use room::{ClosingRoom, Room};
 pub use scheme::{NamedSem, SemKeyRoot, SemScheme};
 pub use seeker::Seeker;
-
-#[cfg(test)]
-mod tests;

@@ -3,12 +3,12 @@ ghost use Rattle.std.specs.Prelude.{◌≡◌, ℕ, ◌+◌, ◌<◌, ◌≤◌,
 ghost use Rattle.lot_core.specs.Parts.{IsAmongSemaphores};
 ghost use Rattle.lot_permits.specs.Permits.{HasPermit, HoldsNone, IsWide, one_less, one_more, opening_permits, permits_with};
 
-use crate::{
+use lot_park::parts::Whole;
+use lot_park::{Moment, ParkingLot};
+use lot_permits::{
     Freed, OpenedSems, Permit, PermitName, Room, Seeker, SemScheme, Tried, acquire, check_permits,
     permits_left, release, settle, try_acquire,
 };
-use lot_park::parts::Whole;
-use lot_park::{Moment, ParkingLot};
 use lot_rights::WordsFault;
 use std::alloc::Global;
 use std::marker::Brand;
