@@ -6,8 +6,8 @@ use crate::name::PermitName;
 use crate::scheme::NamedSem;
 use std::marker::Model;
 
-/// The right to act as one thread on semaphores. Contracts see the thread, and by key how many permits it holds. It must be spent, by
-/// `settle`.
+/// The right to act as one thread on semaphores. Contracts see the thread, by key how many permits it holds, and how its last release
+/// ended. It must be spent, by `settle`.
 pub struct Seeker<N: PermitName> {
     right: NamedSem<N>,
 }
