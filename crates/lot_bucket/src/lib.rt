@@ -29,3 +29,6 @@ pub use bucket::{Bucket, BucketFault};
 pub use root::Root;
 pub use settled::Settled;
 pub use taking::{Dequeued, Moment};
+
+#[cfg(test)]
+mod tests;

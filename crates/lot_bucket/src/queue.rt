@@ -133,3 +133,6 @@ impl Queue {
         taken
     }
 }
+
+#[cfg(test)]
+mod tests;

@@ -19,6 +19,8 @@
 //! Several tables of rights share one lot by `parts`, each with its own keys, letters and passes.
 #![tactic(auto)]
 
+#[cfg(test)]
+mod letters;
 pub mod lot;
 mod parking;
 pub mod parts;

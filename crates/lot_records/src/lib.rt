@@ -54,3 +54,6 @@ impl Default for Record {
         Record::new()
     }
 }
+
+#[cfg(test)]
+mod tests;

@@ -1,5 +1,5 @@
 mod Guarding
-pub mod Lending
+mod Lending
 mod Making
 mod Moving
 mod Roots

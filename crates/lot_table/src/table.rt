@@ -280,3 +280,6 @@ fn put_all<R: Root>(fresh: &mut [Bucket<R>], roots: Vec<R>)
     }
     roots.destroy_empty();
 }
+
+#[cfg(test)]
+mod tests;

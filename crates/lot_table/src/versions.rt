@@ -40,6 +40,12 @@ impl<R: Root> Versions<R> {
         (&self.first, next)
     }
 
+    // The version in that cell, where it is set.
+    #[cfg(test)]
+    pub fn later_at(&self, cell: usize) -> Option<&Version<R>> {
+        self.later.get(cell)?.get()
+    }
+
     /// The newest version, once nobody else has the table. The others are spent.
     pub fn into_newest<W: Wait>(self, rt: &W) -> Version<R> {
         let Versions { first, mut later } = self;

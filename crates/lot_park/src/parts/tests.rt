@@ -1,0 +1,193 @@
+ghost use Rattle.std.specs.Prelude.{◌≡◌, ℕ, ◌+◌, ◌<◌, ◌≤◌, [], vec_len, vec_capacity};
+ghost use Rattle.lot_bucket.specs.Agrees.{IsRootOf};
+ghost use Rattle.lot_bucket.specs.Queue.{first_of};
+ghost use Rattle.lot_park.specs.Lots.{AreIdle};
+
+use super::{park_on, unpark_all, unpark_one};
+use crate::letters::{
+    ASKINGS, EARLY, Letters, Pass, QUIET_ASKINGS, Right, THREADS, Told, has_length_within,
+    idle_right, is_told_within, joined, no_letters, note, nothing_told, passed, passed_all, taken,
+};
+use crate::lot::ParkingLot;
+use crate::parts::both::{Border, Both, EitherRoot};
+use crate::parts::side::{OfFirst, OfSecond, Part, Whole};
+use crate::scheme::{Scheme, Token};
+use lot_bucket::{Dequeued, Root};
+use std::alloc::Global;
+use std::process::Abort;
+use std::sync::Wait;
+use std::test::Fail;
+use std::thread;
+use std::thread::Threads;
+
+// Three tables with a key each: the first two are one part of the lot, the third is the other.
+const KEYS: usize = 3;
+
+struct OneKey;
+
+impl Border for OneKey {
+    ghost border = { 1 };
+}
+
+struct TwoKeys;
+
+impl Border for TwoKeys {
+    ghost border = { 2 };
+}
+
+type TwoTables = Both<Letters, Letters, OneKey>;
+
+type ThreeTables = Both<TwoTables, Letters, TwoKeys>;
+
+type TheFirst = OfFirst<OfFirst<Whole>>;
+
+type TheSecond = OfFirst<OfSecond<Whole>>;
+
+type TheThird = OfSecond<Whole>;
+
+fn with_root<R: Root + Drop>(rt: &impl Abort, roots: Vec<R>, root: R) -> Vec<R>
+    requires idle { AreIdle R.key R.line R.owes roots.items }
+    requires root { IsRootOf R.key R.line R.owes (vec_len roots) [] root }
+    ensures len { vec_len result ≡ vec_len roots + 1 }
+    ensures idle { AreIdle R.key R.line R.owes result.items }
+{
+    let mut roots = roots;
+    roots.push(root).expect(rt, "memory");
+    roots
+}
+
+fn open(rt: &impl Abort, alloc: Global) -> ParkingLot<ThreeTables>
+    ensures threads { result.threads ≡ THREADS }
+    ensures keys { result.keys ≡ KEYS }
+{
+    let first = EitherRoot::first(EitherRoot::first(idle_right(alloc, 0)));
+    let second = EitherRoot::first(EitherRoot::second(idle_right(alloc, 1)));
+    let third = EitherRoot::second(idle_right(alloc, 2));
+    let roots = with_root(rt, Vec::new(alloc), first);
+    let roots = with_root(rt, roots, second);
+    let roots = with_root(rt, roots, third);
+    let schemes = Both::new(Both::new(no_letters(), no_letters()), no_letters());
+    match ParkingLot::open(alloc, THREADS, roots, schemes) {
+        Ok(lot) => lot,
+        Err(_refused) => panic!(rt; "memory"),
+    }
+}
+
+fn sleep<S: Scheme, P: Part<S, Letters>, R: Wait + Abort>(
+    rt: &R,
+    lot: &ParkingLot<S>,
+    thread: usize,
+    key: usize,
+    told: &Told,
+)
+    requires there { (thread < lot.now.threads) × (key < lot.now.keys) }
+    requires serves { P.serves key }
+{
+    let (_pass, (), parked) = park_on::<S, Letters, P, R, (), _, _>(
+        rt,
+        lot,
+        Pass { thread },
+        key,
+        (),
+        |x: (), pass: Pass, root: Right| -> ((), Pass, Right, bool) {
+            let root = joined(rt, root, pass.thread);
+            (x, pass, root, true)
+        },
+        |x: ()| x,
+    );
+    note(told, thread, parked);
+}
+
+fn unpark<S: Scheme, P: Part<S, Letters>, R: Wait + Abort>(
+    rt: &R,
+    lot: &ParkingLot<S>,
+    key: usize,
+    token: u32,
+) -> Dequeued
+    requires there { key < lot.now.keys }
+    requires serves { P.serves key }
+{
+    let ((), told) = unpark_one::<S, Letters, P, R, (), _>(
+        rt,
+        lot,
+        key,
+        EARLY,
+        (),
+        |x: (), root: Right, told: Dequeued| -> ((), Right, Token)
+            requires clear { root.owes.items ≡ [] }
+            requires first { told.thread ≡ first_of root.line.items }
+        { (x, passed(rt, root, told.thread, token), Token(token)) },
+    );
+    told
+}
+
+fn unpark_line<S: Scheme, P: Part<S, Letters>, R: Wait + Abort>(
+    rt: &R,
+    lot: &ParkingLot<S>,
+    key: usize,
+) -> usize
+    requires there { key < lot.now.keys }
+    requires serves { P.serves key }
+{
+    let ((), count) = unpark_all::<S, Letters, P, R, (), _>(
+        rt,
+        lot,
+        key,
+        (),
+        |x: (), root: Right, _count: usize| -> ((), Right)
+            requires clear { root.owes.items ≡ [] }
+        { (x, passed_all(rt, root)) },
+    );
+    count
+}
+
+// A sleeper on the first table's key and one on the third's: each is told through its own table.
+fn each_table_tells_its_own<R: Threads + Wait + Abort + Sync>(
+    rt: &R,
+    lot: &ParkingLot<ThreeTables>,
+    told: &Told,
+)
+    requires { (lot.now.threads ≡ THREADS) × (lot.now.keys ≡ KEYS) }
+{
+    thread::scope(
+        thread::scope_env(),
+        rt,
+        |scope|
+            requires { (lot.now.threads ≡ THREADS) × (lot.now.keys ≡ KEYS) }
+        {
+            let first = move ||
+                requires { (lot.now.threads ≡ THREADS) × (lot.now.keys ≡ KEYS) }
+            { sleep::<ThreeTables, TheFirst, R>(rt, lot, 0, 0, told) };
+            assert!(rt; scope.spawn(first).is_ok());
+            let third = move ||
+                requires { (lot.now.threads ≡ THREADS) × (lot.now.keys ≡ KEYS) }
+            { sleep::<ThreeTables, TheThird, R>(rt, lot, 1, 2, told) };
+            assert!(rt; scope.spawn(third).is_ok());
+            assert!(rt; has_length_within(rt, lot, 0, 1));
+            assert!(rt; has_length_within(rt, lot, 2, 1));
+            assert_eq!(rt;
+                unpark::<ThreeTables, TheSecond, R>(rt, lot, 1, 5).thread,
+                None
+            );
+            assert_eq!(rt;
+                unpark::<ThreeTables, TheThird, R>(rt, lot, 2, 6).thread,
+                Some(1)
+            );
+            assert!(rt; is_told_within(told, 1, 6, ASKINGS));
+            assert!(rt; !is_told_within(told, 0, 6, QUIET_ASKINGS));
+            assert_eq!(rt; unpark_line::<ThreeTables, TheFirst, R>(rt, lot, 0), 1);
+            assert!(rt; is_told_within(told, 0, 0, ASKINGS));
+        },
+    );
+}
+
+#[test]
+fn three_tables_share_a_lot(rt: HostRuntime) {
+    let lot = open(&rt, rt.alloc());
+    let told = nothing_told();
+    each_table_tells_its_own(&rt, &lot, &told);
+    let mut roots = Vec::with_capacity(rt.alloc(), KEYS).expect(&rt, "memory");
+    let (two, _third) = lot.close(&rt, &mut roots).apart();
+    let (_first, _second) = two.apart();
+    assert_eq!(rt; roots.len(), KEYS);
+}
