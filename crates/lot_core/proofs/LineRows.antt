@@ -1,37 +1,6 @@
 -- The lines of a `Lines`, one by one.
-use Rattle.std.proofs.Common.{
-  ◌≡◌,
-  ◌<◌,
-  ◌+◌,
-  ◌-◌,
-  ◌++◌,
-  ℕ,
-  List,
-  [],
-  ◌∷◌,
-  length,
-  drop,
-  get_or,
-  map,
-  refl,
-  sym,
-  ap,
-  ◌∙◌,
-  arith,
-  subst,
-  Global,
-  inl,
-  inr,
-  option_to_list,
-  deque_len,
-  IsSome,
-  IfSome,
-  Bor,
-  Option,
-  Some,
-  None,
-  Decides,
-}
+use Rattle.std.proofs.Common.{◌≡◌, ◌<◌, ◌+◌, ◌-◌, ◌++◌, ℕ, List, [], ◌∷◌, length, drop, get_or, map, refl, sym, ap, ◌∙◌, arith, subst, Global, inl, inr, option_to_list, deque_len, IsSome, IfSome}
+use Rattle.std.proofs.Common.{Bor, Option, Some, None, Decides}
 use Rattle.std.proofs.lemmas.List.{length-map, drop-drop}
 use Rattle.std.specs.declared.collections.VecDeque.{VecDeque}
 use Rattle.std.specs.Vec.{with_item}

@@ -1,41 +1,6 @@
 -- The turns of the calls that take a pass alone: whatever world the words stand for, the step leads to one that they stand for then.
-use Rattle.std.proofs.Common.{
-  ◌≡◌,
-  ◌≢◌,
-  ℕ,
-  zero,
-  suc,
-  ◌+◌,
-  ◌-◌,
-  ◌*◌,
-  ◌%◌,
-  ◌^◌,
-  ◌<◌,
-  ◌≤◌,
-  ◌⊎◌,
-  ◌==◌,
-  Bool,
-  true,
-  false,
-  List,
-  get_or,
-  set,
-  refl,
-  sym,
-  ap,
-  subst,
-  ◌∙◌,
-  inl,
-  inr,
-  ⊎_elim,
-  arith,
-  eq-eqb,
-  ne_eqb,
-  MatchBool,
-  Option,
-  Some,
-  None,
-}
+use Rattle.std.proofs.Common.{◌≡◌, ◌≢◌, ℕ, zero, suc, ◌+◌, ◌-◌, ◌*◌, ◌%◌, ◌^◌, ◌<◌, ◌≤◌, ◌⊎◌, ◌==◌, Bool, true, false, List, get_or, set, refl, sym, ap, subst, ◌∙◌, inl, inr, ⊎_elim, arith}
+use Rattle.std.proofs.Common.{eq-eqb, ne_eqb, MatchBool, Option, Some, None}
 use mathlib.Core.Option as maybe
 use prog.Atomic.{either}
 use Rattle.lot_core.specs.World.{put}

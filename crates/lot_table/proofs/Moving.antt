@@ -1,45 +1,6 @@
 -- What has become of the buckets while keys are moved from the old ones to the new ones.
-use Rattle.std.proofs.Common.{
-  ◌≡◌,
-  ◌≢◌,
-  ℕ,
-  suc,
-  ◌+◌,
-  ◌<◌,
-  ◌≤◌,
-  ◌%◌,
-  ◌&&◌,
-  true,
-  false,
-  inl,
-  inr,
-  List,
-  [],
-  ◌∷◌,
-  ◌++◌,
-  length,
-  map,
-  get_or,
-  set,
-  Option,
-  Some,
-  None,
-  IsSome,
-  refl,
-  sym,
-  ◌∙◌,
-  ap,
-  subst,
-  arith,
-  append-nil,
-  append_assoc,
-  drop,
-  Bool,
-  eq-eqb,
-  length-append,
-  get_or-set_same,
-  get_or-set_other,
-}
+use Rattle.std.proofs.Common.{◌≡◌, ◌≢◌, ℕ, suc, ◌+◌, ◌<◌, ◌≤◌, ◌%◌, ◌&&◌, true, false, inl, inr, List, [], ◌∷◌, ◌++◌, length, map, get_or, set, Option, Some, None, IsSome, refl, sym, ◌∙◌, ap}
+use Rattle.std.proofs.Common.{subst, arith, append-nil, append_assoc, drop, Bool, eq-eqb, length-append, get_or-set_same, get_or-set_other}
 use Rattle.std.specs.Prelude.{nat_lt, ◌==◌, is_some}
 use Rattle.std.proofs.Math.Bool.{and-false}
 use Rattle.std.proofs.lemmas.Bool.{ne_eqb, lt-ltb, le-ltb, ltb-true}
@@ -54,18 +15,8 @@ use Rattle.lot_bucket.specs.Taking.{TakesOne}
 use Rattle.lot_bucket.specs.declared.taking.Moment.{Moment}
 use Rattle.lot_bucket.specs.declared.taking.Dequeued.{Dequeued}
 use Rattle.lot_bucket.proofs.Slots.{rootless}
-use Rattle.lot_bucket.proofs.Laws.{
-  line_of-without_count_same,
-  without_key-without_first,
-  without_key_none,
-  first_of_line,
-  line_of-without_key_same,
-  line_of-without_key_other,
-  line_fits,
-  root_at-with_same,
-  root_at-with_other,
-  has_key-with,
-}
+use Rattle.lot_bucket.proofs.Laws.{line_of-without_count_same, without_key-without_first, without_key_none, first_of_line, line_of-without_key_same, line_of-without_key_other, line_fits}
+use Rattle.lot_bucket.proofs.Laws.{root_at-with_same, root_at-with_other, has_key-with}
 use Rattle.lot_table.specs.Buckets.{bucket_of, queued, KeepsLines, AreWhole, AreFilled, AreEmpty, MayRegrow}
 
 pub line_of-append : (k : ℕ) (p q : List (ℕ × ℕ)) → line_of k (p ++ q) ≡ line_of k p ++ line_of k q

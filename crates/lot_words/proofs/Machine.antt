@@ -1,31 +1,6 @@
 -- How a change of the world keeps the rule of threads and locks.
-use Rattle.std.proofs.Common.{
-  ◌≡◌,
-  ◌≢◌,
-  ℕ,
-  suc,
-  ◌<◌,
-  ◌⊎◌,
-  if◌then◌else◌,
-  true,
-  false,
-  List,
-  length,
-  get_or,
-  set,
-  refl,
-  sym,
-  ap,
-  subst,
-  inl,
-  inr,
-  ⊎_elim,
-  get_or-set_same,
-  get_or-set_other,
-  Option,
-  Some,
-  None,
-}
+use Rattle.std.proofs.Common.{◌≡◌, ◌≢◌, ℕ, suc, ◌<◌, ◌⊎◌, if◌then◌else◌, true, false, List, length, get_or, set, refl, sym, ap, subst, inl, inr, ⊎_elim, get_or-set_same, get_or-set_other, Option}
+use Rattle.std.proofs.Common.{Some, None}
 use Rattle.std.specs.List.{Contains}
 use mathlib.Core.Logic.{dite}
 use native.Mathlib.Decide.{ℕ_discrete}

@@ -1,38 +1,6 @@
 -- The turns of each call: whatever world the words stand for, its step leads to one that they stand for then.
-use Rattle.std.proofs.Common.{
-  ◌≡◌,
-  ◌≢◌,
-  ℕ,
-  zero,
-  suc,
-  ◌*◌,
-  ◌<◌,
-  ◌%◌,
-  ◌⊎◌,
-  ◌==◌,
-  Bool,
-  true,
-  false,
-  List,
-  [],
-  length,
-  get_or,
-  set,
-  bit_or,
-  refl,
-  sym,
-  ap,
-  subst,
-  ◌∙◌,
-  inl,
-  inr,
-  ⊎_elim,
-  arith,
-  get_or-set_same,
-  MatchBool,
-  Option,
-  None,
-}
+use Rattle.std.proofs.Common.{◌≡◌, ◌≢◌, ℕ, zero, suc, ◌*◌, ◌<◌, ◌%◌, ◌⊎◌, ◌==◌, Bool, true, false, List, [], length, get_or, set, bit_or, refl, sym, ap, subst, ◌∙◌, inl, inr, ⊎_elim, arith}
+use Rattle.std.proofs.Common.{get_or-set_same, MatchBool, Option, None}
 use mathlib.Core.Option as maybe
 use mathlib.Core.Option.{some, some-injective}
 use prog.Atomic.{either}
