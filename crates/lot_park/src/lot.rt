@@ -42,10 +42,10 @@ pub struct ParkingLot<S: Scheme> {
 
 impl<S: Scheme> Model for ParkingLot<S> {
     ghost use Rattle.std.specs.Prelude.{◌≡◌, ◌≤◌, vec_len};
-    ghost use Rattle.lot_park.specs.Lots.{LotView};
+    ghost use Rattle.lot_park.specs.Lots.{ParkingView};
     ghost use Rattle.lot_park.specs.declared.taken.TheConstants.{MOST_THREADS};
 
-    ghost Value = { LotView S };
+    ghost Value = { ParkingView S };
 
     ghost view = { λ l. record { scheme = l.scheme; threads = l.table.threads; keys = l.table.keys } };
 
@@ -53,7 +53,7 @@ impl<S: Scheme> Model for ParkingLot<S> {
 }
 
 impl<S: Scheme> ParkingLot<S> {
-    ghost use Rattle.lot_park.specs.Lots.{LotView, AreIdle, Appends};
+    ghost use Rattle.lot_park.specs.Lots.{ParkingView, AreIdle, Appends};
     ghost use Rattle.lot_table.specs.Sizes.{Serves};
     ghost use Rattle.lot_park.specs.Parking.{IsOpenFor, MayUnpark, Unparks, UnparkedOne, MayUnparkAll, UnparksAll, UnparkedAll, MayUnparkCount, UnparksCount, UnparkedCount, MayValidate, Validates, Validated, Awaited, ParkedOnce};
 

@@ -5,6 +5,7 @@ use Rattle.atomic_table.proofs.Lists.{at_set}
 use mathlib.Core.Logic.{dite}
 use mathlib.Core.Option.{some-injective}
 use native.Mathlib.Decide.{ℕ_discrete}
+use Rattle.lot_sync.specs.declared.released.Released.{Released}
 use Rattle.lot_sync.specs.Lot.{PassView, HeldView, Owns, OwnsNone, HasSeen, owning, leaving, permits_with}
 use Rattle.lot_sync.specs.Values.{Gets, MayGiveBack}
 use Rattle.lot_sync.specs.Holding.{Holding, HoldingBoth}
@@ -75,20 +76,20 @@ unowned (b ∷ bs) (suc k) zero none e = none zero e
 unowned (b ∷ bs) (suc k) (suc j) none e = unowned bs k j (λ i h. none (suc i) h) e
 
 -- whoever owned nothing, got a lock and let it go again owns nothing
-pub owns_none_again : {V : Type 0} (p q r : PassView V) (k : ℕ) (x y : V) → OwnsNone p → q ≡ owning p k x → r ≡ leaving q k y → OwnsNone r
-owns_none_again p q r k x y none e f = record {
+pub owns_none_again : {V : Type 0} (p q r : PassView V) (k : ℕ) (x y : V) (became : Released) → OwnsNone p → q ≡ owning p k x → r ≡ leaving q k y became → OwnsNone r
+owns_none_again p q r k x y became none e f = record {
   no_lock = λ j h. unowned p.owns k j none.no_lock (subst (λ (z : PassView _). get_or (set z.owns k false) j false ≡ true) e (subst (λ (z : PassView _). get_or z.owns j false ≡ true) f h));
   no_permit = λ j. ap (λ (z : PassView _). permits_with z j) f ∙ (ap (λ (z : PassView _). permits_with z j) e ∙ none.no_permit j);
 }
 
 -- what was left is what the pass has seen
-pub seen_left : {V : Type 0} (p q : PassView V) (k : ℕ) (y u : V) → q ≡ leaving p k y → HasSeen q k u → y ≡ u
-seen_left p q k y u e at = ⊎_elim (λ here. here.1) (λ else. absurd (else.0 refl)) (at_set p.seen k k y u (subst (λ (z : PassView _). HasSeen z k u) e at))
+pub seen_left : {V : Type 0} (p q : PassView V) (k : ℕ) (y u : V) (became : Released) → q ≡ leaving p k y became → HasSeen q k u → y ≡ u
+seen_left p q k y u became e at = ⊎_elim (λ here. here.1) (λ else. absurd (else.0 refl)) (at_set p.seen k k y u (subst (λ (z : PassView _). HasSeen z k u) e at))
 
 -- the first of two locks is let go, and the second is still held
-pub left_second : {V : Type 0} (grows : V → V → Type 0) (before after : PassView V) (first second : HeldView V) → HoldingBoth grows before first second
-    → after ≡ leaving before first.key first.value → Holding grows after second
-left_second grows before after first second both left = record {
+pub left_second : {V : Type 0} (grows : V → V → Type 0) (before after : PassView V) (first second : HeldView V) (became : Released) → HoldingBoth grows before first second
+    → after ≡ leaving before first.key first.value became → Holding grows after second
+left_second grows before after first second became both left = record {
   owns = subst (λ (p : PassView _). Owns p second.key) (sym left) (get_or-set_other before.owns first.key second.key false false both.two ∙ both.owns_second);
   alone = λ k other owned. dite (ℕ_discrete k first.key)
       (λ e. not_both (get_or (set before.owns first.key false) k false) (subst (λ (p : PassView _). Owns p k) left owned)
@@ -100,8 +101,8 @@ left_second grows before after first second both left = record {
 }
 
 -- whoever let go the one lock that it owned owns nothing
-pub left_all : {V : Type 0} (grows : V → V → Type 0) (pass : PassView V) (held : HeldView V) → Holding grows pass held → OwnsNone (leaving pass held.key held.value)
-left_all grows pass held holding = record {
+pub left_all : {V : Type 0} (grows : V → V → Type 0) (pass : PassView V) (held : HeldView V) (became : Released) → Holding grows pass held → OwnsNone (leaving pass held.key held.value became)
+left_all grows pass held became holding = record {
   no_lock = λ k owned. dite (ℕ_discrete k held.key)
       (λ e. not_both (get_or (set pass.owns held.key false) k false) owned (ap (λ j. get_or (set pass.owns held.key false) j false) e ∙ let_go_of pass.owns held.key))
       (λ else. holding.alone k else (sym (get_or-set_other pass.owns held.key k false false else) ∙ owned));

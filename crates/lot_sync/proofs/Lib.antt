@@ -1,3 +1,4 @@
+pub mod Noted
 pub mod Rests
 pub mod Turns
 pub mod Places

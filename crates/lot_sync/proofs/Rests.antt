@@ -16,6 +16,8 @@ use Rattle.lot_words.specs.Values.{IsOut, IsIn, HasSeen, FoundOk, MayLeave}
 use Rattle.lot_waits.specs.Counts.{CountsView, woke}
 use Rattle.lot_permits.specs.Permits.{PermitsView}
 use Rattle.lot_kinds.specs.Rights.{RightsView, joined}
+use Rattle.lot_sync.specs.declared.released.Released.{Released}
+use Rattle.lot_sync.specs.declared.released.Released.TheVariants.{Quiet}
 use Rattle.lot_sync.specs.Lot.{PassView, HeldView, Owns, leaving, waking}
 use Rattle.lot_sync.specs.Values.{Gets, MayGiveBack}
 use Rattle.lot_sync.specs.Passes.{Standing, is_held, sees, putting, IsAtRest, AreRightsOf, IsNewOwner, IsOwner, IsTryingFor, IsFoundParked, LetsGo, MayLetGo, MayPass}
@@ -75,19 +77,20 @@ module _ {V : Type 0} where
   lies_in before after key value moved near = subst (λ (r : Standing V). IsIn r.own key value) (sym moved) (set_here before.own.places key (InSlot value) near)
 
   -- found parked, and let go then
-  pub goes_then : (a b c : Standing V) (key : ℕ) → IsFoundParked a key b → LetsGo b key c → LetsGo a key c
-  goes_then a b c key found went = record {
+  pub goes_then : (a b c : Standing V) (key : ℕ) (became : Released) → IsFoundParked a key b → LetsGo b key became c → LetsGo a key became c
+  goes_then a b c key became found went = record {
     thread = went.thread ∙ found.thread;
     holds = went.holds ∙ (ap (λ hs. set hs key NotHeld) found.holds ∙ set-set a.own.holds key FoundParked NotHeld);
     aim = went.aim ∙ found.aim;
     asleep = went.asleep ∙ found.asleep;
     places = went.places ∙ found.places;
     seen = λ y lies. went.seen y (subst (λ ps. get_elem? ps key ≡ some (InSlot y)) (sym found.places) lies) ∙ ap (λ vs. set vs key y) found.seen;
+    released = went.released;
   }
 
   -- let go, or found parked: then it may be passed on, and whatever lets it go then lets it go
-  pub freed_or_parked : (freed : Bool) (a r : Standing V) (key : ℕ) → MayLetGo a key → MatchBool freed (LetsGo a key r) (IsFoundParked a key r)
-      → MatchBool freed (LetsGo a key r) (MayPass r key × ((after : Standing V) → LetsGo r key after → LetsGo a key after))
+  pub freed_or_parked : (freed : Bool) (a r : Standing V) (key : ℕ) → MayLetGo a key → MatchBool freed (LetsGo a key Quiet r) (IsFoundParked a key r)
+      → MatchBool freed (LetsGo a key Quiet r) (MayPass r key × ((became : Released) (after : Standing V) → LetsGo r key became after → LetsGo a key became after))
   freed_or_parked true a r key may went = went
   freed_or_parked false a r key (aimless, awake, holds, (value, lies)) found = (
     (
@@ -96,15 +99,17 @@ module _ {V : Type 0} where
       subst IsFound (sym (ap (λ hs. get_or hs key NotHeld) found.holds ∙ get_or-set_same a.own.holds key FoundParked NotHeld (held_near a.own.holds key holds))) tt,
       (value, subst (λ ps. get_elem? ps key ≡ some (InSlot value)) (sym found.places) lies),
     ),
-    λ after went. goes_then a r after key found went,
+    λ became after went. goes_then a r after key became found went,
   )
 
   -- what the callers of an unlock see
-  pub leaves_all : (q : RightsView) (before after : Standing V) (key : ℕ) (value : V) → IsIn before.own key value → LetsGo before key after → sees q after ≡ leaving (sees q before) key value
-  leaves_all q before after key value lies went = λ i. record {
+  pub leaves_all : (q : RightsView) (before after : Standing V) (key : ℕ) (value : V) (became : Released) → IsIn before.own key value → LetsGo before key became after
+      → sees q after ≡ leaving (sees q before) key value became
+  leaves_all q before after key value became lies went = λ i. record {
     thread = went.thread i;
     owns = (ap (map is_held) went.holds ∙ map-set is_held before.own.holds key NotHeld) i;
     seen = went.seen value lies i;
+    released = went.released i;
     called = q.called;
     woken = q.woken;
     permits = q.permits;
@@ -117,6 +122,7 @@ module _ {V : Type 0} where
     thread = found.thread i;
     owns = (ap (map is_held) found.holds ∙ owned_parked before.own.holds key holds) i;
     seen = found.seen i;
+    released = found.released i;
     called = q.called;
     woken = q.woken;
     permits = q.permits;
@@ -147,10 +153,10 @@ module _ {V : Type 0} (grows : V → V → Type 0) (opening : List V) (threads :
           (λ else. set_else before.own.places key l Out else ∙ own.out l else holds)
 
   -- whoever let a lock go is at rest
-  pub rests_free : ((x y z : V) → grows x y → grows y z → grows x z) → (before after : Standing V) (key : ℕ) (value : V) → key < length opening → IsNewOwner grows opening threads before key
-      → IsIn before.own key value
-      → ((u : V) → HasSeen before.own key u → grows u value) → LetsGo before key after → IsAtRest grows opening threads after
-  rests_free through before after key value near own lies grown went = record {
+  pub rests_free : ((x y z : V) → grows x y → grows y z → grows x z) → (before after : Standing V) (key : ℕ) (value : V) (became : Released) → key < length opening
+      → IsNewOwner grows opening threads before key → IsIn before.own key value
+      → ((u : V) → HasSeen before.own key u → grows u value) → LetsGo before key became after → IsAtRest grows opening threads after
+  rests_free through before after key value became near own lies grown went = record {
     is_thread = subst (λ t. t < threads) (sym went.thread) own.is_thread;
     aimless = went.aim ∙ own.aimless;
     awake = went.asleep ∙ own.awake;
@@ -251,6 +257,7 @@ module _ {V Part : Type 0} (keeps : ℕ → V → Type 0) (grows : V → V → T
       thread = own.thread i;
       owns = (ap (map is_held) own.holds ∙ map-set is_held before.own.holds key Held) i;
       seen = (own.seen ∙ ap (set before.own.seen key) same) i;
+      released = own.released i;
       called = q.called;
       woken = q.woken;
       permits = q.permits;
@@ -279,6 +286,7 @@ module _ {V Part : Type 0} (keeps : ℕ → V → Type 0) (grows : V → V → T
     };
     places = q.places ∙ ap (λ ps. set ps key (InSlot q.value)) p.places;
     seen = q.seen ∙ ap (λ vs. set vs key q.value) p.seen;
+    released = q.released ∙ p.released;
   }
 
   pub gets_as : (before after before' after' : PassView V) (key : ℕ) (held : HeldView V) → before ≡ before' → after ≡ after' → Gets keeps grows part before' key held after'
@@ -298,9 +306,9 @@ pub own_on : (t u : ℕ) (q : RightsView) → u ≡ t → AreRightsOf t q → Ar
 own_on t u q same own = own ∙ sym same
 
 -- the lock was let go, and one wait more on the condition has ended
-pub leaves_woken : {V : Type 0} (pass seen : PassView V) (w q : CountsView) (p : PermitsView) (before after : Standing V) (key named cond : ℕ) (value : V) → seen ≡ sees (joined q p) after
-    → q ≡ woke w cond → IsIn before.own key value
-    → LetsGo before key after → sees (joined w p) before ≡ pass → key ≡ named → seen ≡ waking (leaving pass named value) cond
-leaves_woken pass seen w q p before after key named cond value e counts lies went same is =
-    e ∙ (ap (λ c. sees (joined c p) after) counts ∙ (leaves_all (joined (woke w cond) p) before after key value lies went
-    ∙ (ap (λ x. waking (leaving x key value) cond) same ∙ ap (λ k. waking (leaving pass k value) cond) is)))
+pub leaves_woken : {V : Type 0} (pass seen : PassView V) (w q : CountsView) (p : PermitsView) (before after : Standing V) (key named cond : ℕ) (value : V) (became : Released)
+    → seen ≡ sees (joined q p) after → q ≡ woke w cond → IsIn before.own key value
+    → LetsGo before key became after → sees (joined w p) before ≡ pass → key ≡ named → seen ≡ waking (leaving pass named value became) cond
+leaves_woken pass seen w q p before after key named cond value became e counts lies went same is =
+    e ∙ (ap (λ c. sees (joined c p) after) counts ∙ (leaves_all (joined (woke w cond) p) before after key value became lies went
+    ∙ (ap (λ x. waking (leaving x key value became) cond) same ∙ ap (λ k. waking (leaving pass k value became) cond) is)))

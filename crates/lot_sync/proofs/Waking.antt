@@ -31,25 +31,27 @@ module _ {V Part : Type 0} (keeps : ℕ → V → Type 0) (grows : V → V → T
   -- a sleeper that collected its letter tries again, or owns the lock
   wakes : (before mid after : Standing V) (key token : ℕ) → IsAsleepFor before key mid → IsCollected keeps grows part mid token after
       → MatchBool (token == 1) (IsOwner keeps grows part before key after) (IsTryingFor before key after)
-  wakes before mid after key zero s e = record {
-    thread = e.0 ∙ s.thread;
-    holds = ap (λ (z : LockPassView V). z.holds) e.1 ∙ s.holds;
-    aims = ap (λ (z : LockPassView V). z.aim) e.1 ∙ s.aims;
-    awake = ap (λ (z : LockPassView V). z.asleep) e.1;
-    places = ap (λ (z : LockPassView V). z.places) e.1 ∙ s.places;
-    seen = ap (λ (z : LockPassView V). z.seen) e.1 ∙ s.seen;
+  wakes before mid after key zero s is = record {
+    thread = ap (λ (r : Standing V). r.thread) is ∙ s.thread;
+    holds = ap (λ (r : Standing V). r.own.holds) is ∙ s.holds;
+    aims = ap (λ (r : Standing V). r.own.aim) is ∙ s.aims;
+    awake = ap (λ (r : Standing V). r.own.asleep) is;
+    places = ap (λ (r : Standing V). r.own.places) is ∙ s.places;
+    seen = ap (λ (r : Standing V). r.own.seen) is ∙ s.seen;
+    released = ap (λ (r : Standing V). r.released) is ∙ s.released;
   }
-  wakes before mid after key (suc zero) s (e, thread, (l, aim, (x, found, own))) =
+  wakes before mid after key (suc zero) s (e, (l, aim, (x, found, is))) =
       let same : l ≡ key = (let f : Some l ≡ Some key = sym aim ∙ s.aims in cc) in
       record {
-        thread = thread ∙ s.thread;
-        holds = ap (λ (z : LockPassView V). z.holds) own ∙ (λ i. slice_set (s.holds i) (same i) Held);
-        aimless = ap (λ (z : LockPassView V). z.aim) own;
-        awake = ap (λ (z : LockPassView V). z.asleep) own;
+        thread = ap (λ (r : Standing V). r.thread) is ∙ s.thread;
+        holds = ap (λ (r : Standing V). r.own.holds) is ∙ (λ i. slice_set (s.holds i) (same i) Held);
+        aimless = ap (λ (r : Standing V). r.own.aim) is;
+        awake = ap (λ (r : Standing V). r.own.asleep) is;
         value = x;
         found = found_as l key mid.thread before.thread mid.own before.own x same s.thread s.seen found;
-        places = ap (λ (z : LockPassView V). z.places) own ∙ (λ i. slice_set (s.places i) (same i) (InSlot x));
-        seen = ap (λ (z : LockPassView V). z.seen) own ∙ (λ i. slice_set (s.seen i) (same i) x);
+        places = ap (λ (r : Standing V). r.own.places) is ∙ (λ i. slice_set (s.places i) (same i) (InSlot x));
+        seen = ap (λ (r : Standing V). r.own.seen) is ∙ (λ i. slice_set (s.seen i) (same i) x);
+        released = ap (λ (r : Standing V). r.released) is ∙ s.released;
       }
   wakes before mid after key (suc (suc k)) s e = absurd (omega (arith, e.0))
 

@@ -4,6 +4,7 @@ use Rattle.lot_waits.specs.Counts.{CountsView}
 use Rattle.lot_permits.specs.declared.permit.Freed.{Freed}
 use Rattle.lot_kinds.specs.Rights.{RightsView}
 use Rattle.lot_waits.specs.Ledger.{IsLedger}
+use Rattle.lot_sync.specs.declared.released.Released.{Released}
 use Rattle.std.specs.Prelude.{◌≡◌, ℕ, ◌+◌, ◌-◌, ◌<◌, ◌≤◌, Bool, true, false, List, length, map, slice_set, slice_index, slice_index_or, Option, Some}
 use mathlib.Core.Option.{some}
 use lib.ListN.{get_elem?}
@@ -34,12 +35,13 @@ abbrev pub IsSem : LotView → ℕ → Type 0
 IsSem lot k = (lot.locks + lot.conds ≤ k) × (k < lot.locks + lot.conds + lot.sems)
 
 -- a pass: its thread, which locks it owns, what it has seen of each value, and by key how many sleepers it took from the
--- condition's line, how many of its own waits ended, and how many permits of the semaphore it holds; and how its last release of a permit
--- ended, if there was one
+-- condition's line, how many of its own waits ended, and how many permits of the semaphore it holds; and how the last lock that it let go was
+-- released, and its last permit, if there was one
 pub record PassView (V : Type 0) : Type 0 where
   pub thread : ℕ
   pub owns : List Bool
   pub seen : List V
+  pub released : Option Released
   pub called : List ℕ
   pub woken : List ℕ
   pub permits : List ℕ
@@ -79,9 +81,9 @@ module _ {V : Type 0} where
   abbrev pub owning : PassView V → ℕ → V → PassView V
   owning p key value = record p { owns = slice_set p.owns key true; seen = slice_set p.seen key value }
 
-  -- the pass let the lock go, and left the value there
-  abbrev pub leaving : PassView V → ℕ → V → PassView V
-  leaving p key value = record p { owns = slice_set p.owns key false; seen = slice_set p.seen key value }
+  -- the pass let the lock go, and left the value there; this became of the lock
+  abbrev pub leaving : PassView V → ℕ → V → Released → PassView V
+  leaving p key value became = record p { owns = slice_set p.owns key false; seen = slice_set p.seen key value; released = Some became }
 
   -- one wait more on the condition has ended
   abbrev pub waking : PassView V → ℕ → PassView V

@@ -5,6 +5,7 @@ use lib.ListN.{get_elem?}
 use Rattle.atomic_table.specs.Seated.{TableId}
 use Rattle.lot_rights.specs.Opening.{Opening}
 use Rattle.lot_rights.specs.Shown.{PassShown}
+use Rattle.lot_rights.specs.declared.views.PassView.{PassView as PassMade}
 use Rattle.lot_words.specs.declared.views.Hold.{Hold}
 use Rattle.lot_words.specs.declared.views.Hold.TheVariants.{NotHeld, Held, FoundParked}
 use Rattle.lot_words.specs.declared.views.LockPassView.{LockPassView}
@@ -17,15 +18,18 @@ use Rattle.lot_words.specs.Calls.{Aims, gripped, woken, placed}
 use Rattle.lot_words.specs.Closing.{HoldsNone}
 use Rattle.lot_conds.specs.Shown.{CondWordsShown}
 use Rattle.lot_sems.specs.Shown.{SemWordsShown}
-use Rattle.lot_park.specs.Lots.{LotView}
+use Rattle.lot_park.specs.Lots.{ParkingView}
 use Rattle.lot_park.specs.Parts.{Tables}
 use Rattle.lot_kinds.specs.Rights.{RightsView}
+use Rattle.lot_sync.specs.declared.released.Released.{Released}
 use Rattle.lot_sync.specs.Lot.{PassView, LotNames}
+use Rattle.lot_sync.specs.Released.{released_in}
 
--- a pass: its thread, and what it knows; not the entries that were made with it
+-- a pass: its thread, what it knows, and how the last lock that it let go was released; not the entries that were made with it
 pub record Standing (V : Type 0) : Type 0 where
   pub thread : ℕ
   pub own : LockPassView V
+  pub released : Option Released
 
 abbrev pub is_held : Hold → Bool
 is_held NotHeld = false
@@ -33,12 +37,25 @@ is_held Held = true
 is_held FoundParked = true
 
 module _ {V : Type 0} where
+  -- how a pass stands
+  abbrev pub standing : PassMade (LockPassView V) → Standing V
+  standing p = record { thread = p.thread; own = p.own; released = released_in p.made }
+
   abbrev pub stands : PassShown (LockPassView V) → Standing V
-  stands p = record { thread = p.pass.thread; own = p.pass.own }
+  stands p = standing p.pass
 
   -- what the caller sees of a pass that has these rights beside
   abbrev pub sees : RightsView → Standing V → PassView V
-  sees q r = record { thread = r.thread; owns = map is_held r.own.holds; seen = r.own.seen; called = q.called; woken = q.woken; permits = q.permits; freed = q.freed }
+  sees q r = record {
+    thread = r.thread;
+    owns = map is_held r.own.holds;
+    seen = r.own.seen;
+    released = r.released;
+    called = q.called;
+    woken = q.woken;
+    permits = q.permits;
+    freed = q.freed;
+  }
 
   -- the pass, but for its rights beside those on locks
   abbrev pub lock_side : PassView V → PassView V
@@ -46,11 +63,20 @@ module _ {V : Type 0} where
 
   -- what is seen of a lock's pass alone
   abbrev pub seen_as : PassShown (LockPassView V) → PassView V
-  seen_as p = record { thread = p.pass.thread; owns = map is_held p.pass.own.holds; seen = p.pass.own.seen; called = []; woken = []; permits = []; freed = None }
+  seen_as p = record {
+    thread = p.pass.thread;
+    owns = map is_held p.pass.own.holds;
+    seen = p.pass.own.seen;
+    released = released_in p.pass.made;
+    called = [];
+    woken = [];
+    permits = [];
+    freed = None;
+  }
 
   -- the pass, where the value of the lock is at this place
   abbrev pub putting : Standing V → ℕ → Place V → Standing V
-  putting r key place = record { thread = r.thread; own = placed r.own key place }
+  putting r key place = record r { own = placed r.own key place }
 
   -- it wants no lock, is awake, and has out the value of each lock that it holds; what it has seen has grown from the
   -- opening values
@@ -113,6 +139,7 @@ module _ {V : Type 0} where
     pub awake : now.own.asleep ≡ false
     pub places : now.own.places ≡ before.own.places
     pub seen : now.own.seen ≡ before.own.seen
+    pub released : now.released ≡ before.released
 
   -- the pass before, which wants the lock or none
   pub record IsAwakeFor (before : Standing V) (key : ℕ) (now : Standing V) : Type 0 where
@@ -122,6 +149,7 @@ module _ {V : Type 0} where
     pub awake : now.own.asleep ≡ false
     pub places : now.own.places ≡ before.own.places
     pub seen : now.own.seen ≡ before.own.seen
+    pub released : now.released ≡ before.released
 
   -- the same, queued in the line of the lock that it wants
   pub record IsAsleepFor (before : Standing V) (key : ℕ) (now : Standing V) : Type 0 where
@@ -131,6 +159,7 @@ module _ {V : Type 0} where
     pub asleep : now.own.asleep ≡ true
     pub places : now.own.places ≡ before.own.places
     pub seen : now.own.seen ≡ before.own.seen
+    pub released : now.released ≡ before.released
 
   -- the lock was found parked, and is still held
   pub record IsFoundParked (before : Standing V) (key : ℕ) (now : Standing V) : Type 0 where
@@ -140,15 +169,17 @@ module _ {V : Type 0} where
     pub asleep : now.own.asleep ≡ before.own.asleep
     pub places : now.own.places ≡ before.own.places
     pub seen : now.own.seen ≡ before.own.seen
+    pub released : now.released ≡ before.released
 
-  -- the lock was let go, and what lay in its slot was left there
-  pub record LetsGo (before : Standing V) (key : ℕ) (after : Standing V) : Type 0 where
+  -- the lock was let go, and what lay in its slot was left there; this became of the lock
+  pub record LetsGo (before : Standing V) (key : ℕ) (became : Released) (after : Standing V) : Type 0 where
     pub thread : after.thread ≡ before.thread
     pub holds : after.own.holds ≡ slice_set before.own.holds key NotHeld
     pub aim : after.own.aim ≡ before.own.aim
     pub asleep : after.own.asleep ≡ before.own.asleep
     pub places : after.own.places ≡ before.own.places
     pub seen : (y : V) → IsIn before.own key y → after.own.seen ≡ slice_set before.own.seen key y
+    pub released : after.released ≡ Some became
 
 module _ {V Part : Type 0} (keeps : ℕ → V → Type 0) (grows : V → V → Type 0) (part : ℕ → V → Part) where
   -- the lock was got, with its value in the slot
@@ -161,12 +192,13 @@ module _ {V Part : Type 0} (keeps : ℕ → V → Type 0) (grows : V → V → T
     pub found : FoundOk keeps grows part key before.thread before.own value
     pub places : after.own.places ≡ slice_set before.own.places key (InSlot value)
     pub seen : after.own.seen ≡ slice_set before.own.seen key value
+    pub released : after.released ≡ before.released
 
   -- a letter was collected: with token 0 the thread may try again, and with token 1 it has the lock that it wanted
   abbrev pub IsCollected : Standing V → ℕ → Standing V → Type 0
-  IsCollected p zero q = (q.thread ≡ p.thread) × (q.own ≡ woken p.own)
+  IsCollected p zero q = q ≡ record p { own = woken p.own }
   IsCollected p (suc k) q =
-      (k ≡ 0) × (q.thread ≡ p.thread) × ((l : ℕ) × (p.own.aim ≡ Some l) × ((x : V) × FoundOk keeps grows part l p.thread p.own x × (q.own ≡ woken (gripped p.own l x))))
+      (k ≡ 0) × ((l : ℕ) × (p.own.aim ≡ Some l) × ((x : V) × FoundOk keeps grows part l p.thread p.own x × (q ≡ record p { own = woken (gripped p.own l x) })))
 
   -- a look for a letter: where none lay, the pass stands as before
   abbrev pub IsLooked : Standing V → Option ℕ → Standing V → Type 0
@@ -189,7 +221,7 @@ abbrev pub LotSchemeShown : Type 0
 LotSchemeShown = Tables LockWordsShown (Tables CondWordsShown SemWordsShown)
 
 -- what joins the parts of a lot
-pub record IsLot {V : Type 0} (names : LotNames V) (threads locks conds sems : ℕ) (parking : LotView LotSchemeShown) : Type 0 where
+pub record IsLot {V : Type 0} (names : LotNames V) (threads locks conds sems : ℕ) (parking : ParkingView LotSchemeShown) : Type 0 where
   pub words : parking.scheme.first.table ≡ names.opening.locks
   pub words_threads : parking.scheme.first.size.threads ≡ names.threads
   pub words_locks : parking.scheme.first.size.locks ≡ length names.values

@@ -1,5 +1,11 @@
--- What an unlock may answer, and what its answer comes from.
-use Rattle.std.specs.Prelude.{◌≡◌, ℕ, ◌<◌, Bool, true, false, Option, Some, None}
+-- What an unlock may answer, and what its answer comes from; and how the last one of a thread ended, as the entries tell that were made with
+-- its pass.
+use Rattle.std.specs.Prelude.{◌≡◌, ℕ, ◌<◌, Bool, true, false, List, [], ◌∷◌, Option, Some, None}
+use Rattle.lot_core.specs.declared.events.Event.TheVariants.{Free, Pass as Passes}
+use Rattle.lot_core.specs.declared.events.Seen.TheVariants.{Bool as Saw, Sleeper}
+use Rattle.lot_rights.specs.declared.views.Access.{Access}
+use Rattle.lot_rights.specs.declared.views.Access.TheVariants.{Makes}
+use Rattle.lot_rights.specs.declared.views.Entry.{Entry}
 use Rattle.lot_sync.specs.declared.released.Released.{Released}
 use Rattle.lot_sync.specs.declared.released.Released.TheVariants.{Quiet, Nobody, Woke, Handed}
 
@@ -23,3 +29,19 @@ IsFitting Quiet fair now = Unit {0}
 IsFitting Nobody fair now = Unit {0}
 IsFitting Woke fair now = fair ≡ false
 IsFitting Handed fair now = fair ≡ false → 0 < now
+
+-- ---- how the last unlock ended
+-- after one access more, where it ended like this before: by the one exchange, nobody was parked; and else by what was decided of the first
+-- of the line
+abbrev pub released_after : Option Released → Access → Option Released
+released_after before (Makes (Free t l) (Saw true)) = Some Quiet
+released_after before (Makes (Passes t l fair more) (Sleeper first)) = Some (decision first fair)
+released_after before _ = before
+
+abbrev pub released_from : Option Released → List Entry → Option Released
+released_from before [] = before
+released_from before (e ∷ entries) = released_from (released_after before e.access) entries
+
+-- after these entries; where none is that of an unlock, None
+abbrev pub released_in : List Entry → Option Released
+released_in entries = released_from None entries

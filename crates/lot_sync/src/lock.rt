@@ -103,6 +103,7 @@ impl<V: Keeps + Send, N: LotName<V> + Send> Lot<V, N> {
     }
 
     /// Takes the lock where nobody owns it and nobody is marked as parked. Else all is as it was.
+    #[tactic(auto, using(crate::proofs::Noted::took_free))]
     #[inline(always)]
     fn take_free(&self, pass: NamedPass<V, N>, key: usize) -> (NamedPass<V, N>, bool)
         requires key { key < self.now.locks }
@@ -116,6 +117,7 @@ impl<V: Keeps + Send, N: LotName<V> + Send> Lot<V, N> {
     }
 
     /// Takes the lock where nobody owns it, and wants it otherwise.
+    #[tactic(auto, using(crate::proofs::Noted::took))]
     pub(crate) fn take(&self, pass: NamedPass<V, N>, key: usize) -> (NamedPass<V, N>, bool)
         requires key { key < self.now.locks }
         requires may { MayTake pass key }
@@ -140,6 +142,7 @@ impl<V: Keeps + Send, N: LotName<V> + Send> Lot<V, N> {
     }
 
     /// Takes the lock where nobody owns it: at once where nobody is marked as parked, else past the sleepers.
+    #[tactic(auto, using(crate::proofs::Noted::tried))]
     #[inline(always)]
     fn try_take(&self, pass: NamedPass<V, N>, key: usize) -> (NamedPass<V, N>, bool)
         requires key { key < self.now.locks }
@@ -236,6 +239,7 @@ impl<V: Keeps + Send, N: LotName<V> + Send> Lot<V, N> {
     }
 
     /// Marks the lock as parked where it was not seen so, and sleeps in its line. Answers whether it was handed over.
+    #[tactic(auto, using(crate::proofs::Noted::marked))]
     fn sleep_in_line<R: Wait, B: BeforeSleep>(
         &self,
         rt: &R,

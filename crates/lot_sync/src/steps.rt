@@ -4,6 +4,8 @@ ghost use Rattle.std.specs.Prelude.{◌≡◌, ℕ, Bool, true, false, [], ◌�
 ghost use Rattle.std.specs.Prelude.{◌<◌};
 ghost use Rattle.lot_sync.specs.Passes.{MayLetGo, LetsGo, IsFoundParked};
 ghost use Rattle.lot_sync.specs.Released.{decision, token_told};
+ghost use Rattle.lot_sync.specs.declared.released.Released.{Released};
+ghost use Rattle.lot_sync.specs.declared.released.Released.TheVariants.{Quiet};
 ghost use Rattle.lot_park.specs.Parking.{Tells, debt};
 
 use crate::released::Released;
@@ -21,6 +23,7 @@ pub(crate) const BARGING: Token = Token(0);
 /// can't be named in a closure's signature.
 pub(crate) trait LockSteps: Scheme {
     ghost use Rattle.std.specs.Prelude.{ℕ};
+    ghost use Rattle.lot_sync.specs.declared.released.Released.{Released};
 
     /// The pass wants the lock of the key, and is in no line.
     ghost wants: { Self.Pass → ℕ → Type 0 };
@@ -40,8 +43,8 @@ pub(crate) trait LockSteps: Scheme {
     /// The pass owns the lock of the key, whose value lies in its slot.
     ghost may_let_go: { Self.Pass → ℕ → Type 0 };
 
-    /// The pass before, and the pass that has let the lock of the key go.
-    ghost lets_go: { Self.Pass → ℕ → Self.Pass → Type 0 };
+    /// The pass before, and the pass that has let the lock of the key go, of which this became.
+    ghost lets_go: { Self.Pass → ℕ → Released → Self.Pass → Type 0 };
 
     /// The validation of a parking: the thread is queued where the lock is held and parked.
     fn queue(&self, pass: Self::Pass, root: Self::Root) -> (Self::Pass, Self::Root, bool)
@@ -57,7 +60,8 @@ pub(crate) trait LockSteps: Scheme {
     fn free(&self, pass: Self::Pass, key: usize) -> (Self::Pass, bool)
         requires has { has self.now key }
         requires may { may_let_go pass key }
-        ensures { MatchBool result.1 (lets_go pass key result.0) (may_pass result.0 key × ((after : Self.Pass) → lets_go result.0 key after → lets_go pass key after)) };
+        ensures { MatchBool result.1 (lets_go pass key Quiet result.0)
+            (may_pass result.0 key × ((became : Released) (after : Self.Pass) → lets_go result.0 key became after → lets_go pass key became after)) };
 
     /// The callback of a slow unlock: the lock is handed to the sleeper that was taken where the release is fair, and left to
     /// whoever comes first otherwise. What it decides is what the unlock answers.
@@ -71,7 +75,7 @@ pub(crate) trait LockSteps: Scheme {
         requires may { may_pass pass (Self.Root.key root) }
         requires clear { Self.Root.owes root ≡ [] }
         requires told { (now : ℕ) × Tells (Self.Root.line root) now told }
-        ensures went { lets_go pass (Self.Root.key root) result.0 }
+        ensures went { lets_go pass (Self.Root.key root) result.3 result.0 }
         ensures key { Self.Root.key result.1 ≡ Self.Root.key root }
         ensures line { Self.Root.line result.1 ≡ drop 1 (Self.Root.line root) }
         ensures decided { result.3 ≡ decision told.thread (fair || told.fair) }
@@ -135,6 +139,7 @@ impl<V: Keeps + Send, N: Name + Send> LockSteps for LockScheme<V, N> {
 }
 
 /// The lock is let go where nobody is parked, and else found parked.
+#[tactic(auto, using(crate::proofs::Noted::freed))]
 #[inline(always)]
 pub(crate) fn free<V: Keeps, N: Name>(
     words: &LockWords<V>,
@@ -144,7 +149,7 @@ pub(crate) fn free<V: Keeps, N: Name>(
     requires table { words.now.table ≡ N.opening.locks }
     requires key { key < words.now.size.locks }
     requires may { MayLetGo pass key }
-    ensures { MatchBool result.1 (LetsGo pass key result.0) (IsFoundParked pass key result.0) }
+    ensures { MatchBool result.1 (LetsGo pass key Quiet result.0) (IsFoundParked pass key result.0) }
 {
     let (pass, freed) = words.free(pass.into_pass(), key);
     (NamedPass::new(pass), freed)

@@ -23,7 +23,8 @@ use lot_words::Keeps;
 use std::sync::Wait;
 
 impl<V: Keeps + Send, N: LotName<V> + Send> Lot<V, N> {
-    /// Lets the lock go. Where nobody is parked it is one read-modify-write of the lock's word.
+    /// Lets the lock go. Where nobody is parked it is one read-modify-write of the lock's word. The pass shows what was answered: how the
+    /// last lock that it let go was released.
     ///
     /// The moment is looked at only where somebody is parked: a caller that has to ask a clock for it calls `unlock_asking`.
     #[inline(always)]
@@ -37,7 +38,7 @@ impl<V: Keeps + Send, N: LotName<V> + Send> Lot<V, N> {
         requires key { held.key < self.now.locks }
         requires owns { Owns pass held.key }
         requires back { MayGiveBack V.keeps V.grows V.part pass held }
-        ensures pass { result.0 ≡ leaving pass held.key held.value }
+        ensures pass { result.0 ≡ leaving pass held.key held.value result.1 }
         ensures wide { IsWide self.now result.0 }
         ensures fits { IsFitting result.1 false moment.now }
     {
@@ -60,7 +61,7 @@ impl<V: Keeps + Send, N: LotName<V> + Send> Lot<V, N> {
         requires owns { Owns pass held.key }
         requires back { MayGiveBack V.keeps V.grows V.part pass held }
         requires callable { M.pre moment }
-        ensures pass { result.0 ≡ leaving pass held.key held.value }
+        ensures pass { result.0 ≡ leaving pass held.key held.value result.1 }
         ensures wide { IsWide self.now result.0 }
         ensures fits { (result.1 ≡ Quiet) ⊎ ((m : _) × M.post moment m × IsFitting result.1 false m.now) }
     {
@@ -95,14 +96,14 @@ impl<V: Keeps + Send, N: LotName<V> + Send> Lot<V, N> {
         requires key { held.key < self.now.locks }
         requires owns { Owns pass held.key }
         requires back { MayGiveBack V.keeps V.grows V.part pass held }
-        ensures pass { result.0 ≡ leaving pass held.key held.value }
+        ensures pass { result.0 ≡ leaving pass held.key held.value result.1 }
         ensures wide { IsWide self.now result.0 }
         ensures fits { IsFitting result.1 true moment.now }
     {
         self.unlock_as(rt, pass, held, moment, true)
     }
 
-    /// Lets the lock go where nobody is parked; else the held value comes back, and the lock is still owned.
+    /// Lets the lock go where nobody is parked, which the pass shows as `Quiet`; else the held value comes back, and the lock is still owned.
     #[inline(always)]
     pub fn unlock_unparked(
         &self,
@@ -112,7 +113,7 @@ impl<V: Keeps + Send, N: LotName<V> + Send> Lot<V, N> {
         requires key { held.key < self.now.locks }
         requires owns { Owns pass held.key }
         requires back { MayGiveBack V.keeps V.grows V.part pass held }
-        ensures freed { MatchOption result.1 (result.0 ≡ leaving pass held.key held.value) (λ back. (back ≡ held) × (result.0 ≡ pass)) }
+        ensures freed { MatchOption result.1 (result.0 ≡ leaving pass held.key held.value Quiet) (λ back. (back ≡ held) × (result.0 ≡ pass)) }
         ensures wide { IsWide self.now result.0 }
     {
         let key = held.key();
@@ -138,7 +139,7 @@ impl<V: Keeps + Send, N: LotName<V> + Send> Lot<V, N> {
         requires key { held.key < self.now.locks }
         requires owns { Owns pass held.key }
         requires back { MayGiveBack V.keeps V.grows V.part pass held }
-        ensures pass { result.0 ≡ leaving pass held.key held.value }
+        ensures pass { result.0 ≡ leaving pass held.key held.value result.1 }
         ensures wide { IsWide self.now result.0 }
         ensures fits { IsFitting result.1 fair moment.now }
     {
@@ -175,7 +176,7 @@ impl<V: Keeps + Send, N: LotName<V> + Send> Lot<V, N> {
     fn free(&self, right: NamedPass<V, N>, key: usize) -> (NamedPass<V, N>, bool)
         requires key { key < self.now.locks }
         requires owner { IsNewOwner V.grows N.values N.threads right key }
-        ensures { MatchBool result.1 (LetsGo right key result.0) (IsFoundParked right key result.0) }
+        ensures { MatchBool result.1 (LetsGo right key Quiet result.0) (IsFoundParked right key result.0) }
     {
         free(self.words(), right, key)
     }
@@ -191,7 +192,7 @@ impl<V: Keeps + Send, N: LotName<V> + Send> Lot<V, N> {
     ) -> (NamedPass<V, N>, Released)
         requires key { key < self.now.locks }
         requires owner { IsNewOwner V.grows N.values N.threads right key }
-        ensures went { LetsGo right key result.0 }
+        ensures went { LetsGo right key result.1 result.0 }
         ensures fits { IsFitting result.1 fair moment.now }
     {
         let scheme = self.parking.scheme().locks();
@@ -222,7 +223,7 @@ pub(crate) fn let_go<S: Scheme, A: LockSteps, P: Part<S, A>, R: Wait>(
     requires serves { P.serves key }
     requires has { A.has scheme.now key }
     requires may { A.may_let_go right key }
-    ensures went { A.lets_go right key result.0 }
+    ensures went { A.lets_go right key result.1 result.0 }
     ensures fits { IsFitting result.1 fair moment.now }
 {
     let (right, freed) = scheme.free(right, key);
@@ -249,7 +250,7 @@ fn unpark_asking<S: Scheme, A: LockSteps, P: Part<S, A>, R: Wait, M: FnOnce() ->
     requires serves { P.serves key }
     requires may { A.may_pass right key }
     requires callable { M.pre moment }
-    ensures went { A.lets_go right key result.0 }
+    ensures went { A.lets_go right key result.1 result.0 }
     ensures fits { (m : _) × M.post moment m × IsFitting result.1 false m.now }
 {
     let now = moment();
@@ -272,7 +273,7 @@ fn unpark<S: Scheme, A: LockSteps, P: Part<S, A>, R: Wait>(
     requires key { key < parking.now.keys }
     requires serves { P.serves key }
     requires may { A.may_pass right key }
-    ensures went { A.lets_go right key result.0 }
+    ensures went { A.lets_go right key result.1 result.0 }
     ensures fits { IsFitting result.1 fair moment.now }
 {
     let (went, _) = unpark_one::<S, A, P, R, (A::Pass, Released), _>(
@@ -289,7 +290,7 @@ fn unpark<S: Scheme, A: LockSteps, P: Part<S, A>, R: Wait>(
             requires may { A.may_pass x.0 (A.Root.key root) }
             requires clear { A.Root.owes root ≡ [] }
             requires told { (now : ℕ) × Tells (A.Root.line root) now told }
-            ensures went { A.lets_go x.0 (A.Root.key root) result.0.0 }
+            ensures went { A.lets_go x.0 (A.Root.key root) result.0.1 result.0.0 }
             ensures key { A.Root.key result.1 ≡ A.Root.key root }
             ensures line { A.Root.line result.1 ≡ drop 1 (A.Root.line root) }
             ensures decided { result.0.1 ≡ decision told.thread (fair || told.fair) }

@@ -1,10 +1,12 @@
 //! Waiting on a condition, as WTF's `Condition::wait` does: the thread is queued and its lock let go, and when a notification has taken
 //! it from the line it gets the lock again.
-ghost use Rattle.std.specs.Prelude.{◌≡◌, ℕ, ◌+◌, ◌<◌};
+ghost use Rattle.std.specs.Prelude.{◌≡◌, ℕ, ◌+◌, ◌<◌, false};
 ghost use Rattle.lot_core.specs.Parts.{IsAmongConds};
 ghost use Rattle.lot_waits.specs.Counts.{woke};
-ghost use Rattle.lot_sync.specs.Lot.{Owns, IsWide, IsCond, leaving, waking};
-ghost use Rattle.lot_sync.specs.Values.{Gets, MayGiveBack};
+ghost use Rattle.lot_sync.specs.Lot.{Owns, IsWide, IsCond};
+ghost use Rattle.lot_sync.specs.Released.{IsFitting};
+ghost use Rattle.lot_sync.specs.Values.{MayGiveBack, WaitsAndGets};
+ghost use Rattle.lot_sync.specs.declared.released.Released.{Released};
 
 use crate::held::Held;
 use crate::lock::{AtOnce, BeforeSleep};
@@ -25,7 +27,7 @@ impl<V: Keeps + Send, N: LotName<V> + Send> Lot<V, N> {
     /// Lets the lock go, waits on the condition until a notification takes the thread, and gets the lock again. The lock is let go when
     /// the thread is in the condition's line, so no notification is missed that comes after it.
     ///
-    /// The moment is that of the unlock. What the caller waited for may be gone again when the lock is got: wait in a loop.
+    /// The moment is that of the unlock, of which the pass shows how it ended. What the caller waited for may be gone again when the lock is got: wait in a loop.
     pub fn wait<R: Wait>(
         &self,
         rt: &R,
@@ -38,7 +40,7 @@ impl<V: Keeps + Send, N: LotName<V> + Send> Lot<V, N> {
         requires owns { Owns pass held.key }
         requires back { MayGiveBack V.keeps V.grows V.part pass held }
         requires cond { IsCond self.now cond }
-        ensures gets { Gets V.keeps V.grows V.part (waking (leaving pass held.key held.value) cond) held.key result.1 result.0 }
+        ensures gets { WaitsAndGets V.keeps V.grows V.part pass held cond moment.now result.1 result.0 }
         ensures wide { IsWide self.now result.0 }
     {
         self.wait_after(rt, pass, held, cond, moment, &AtOnce)
@@ -58,7 +60,7 @@ impl<V: Keeps + Send, N: LotName<V> + Send> Lot<V, N> {
         requires owns { Owns pass held.key }
         requires back { MayGiveBack V.keeps V.grows V.part pass held }
         requires cond { IsCond self.now cond }
-        ensures gets { Gets V.keeps V.grows V.part (waking (leaving pass held.key held.value) cond) held.key result.1 result.0 }
+        ensures gets { WaitsAndGets V.keeps V.grows V.part pass held cond moment.now result.1 result.0 }
         ensures wide { IsWide self.now result.0 }
     {
         let key = held.key();
@@ -109,7 +111,7 @@ fn sleep_on<
     requires key { (key < parking.now.keys) × L.serves key × A.has locks.now key }
     requires may { A.may_let_go right key }
     ensures woke { result.0 ≡ woke waiter cond }
-    ensures went { A.lets_go right key result.1 }
+    ensures went { (became : Released) × IsFitting became false moment.now × A.lets_go right key became result.1 }
 {
     wait_on::<S, N, C, R, A::Pass, _>(
         rt,
@@ -121,7 +123,7 @@ fn sleep_on<
         |right: A::Pass| -> A::Pass
             requires key { (key < parking.now.keys) × L.serves key × A.has locks.now key }
             requires may { A.may_let_go right key }
-            ensures { A.lets_go right key result }
+            ensures { (became : Released) × IsFitting became false moment.now × A.lets_go right key became result }
         {
             before.run();
             let (right, _) = let_go::<S, A, L, R>(rt, parking, locks, right, key, moment, false);

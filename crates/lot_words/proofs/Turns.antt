@@ -25,7 +25,7 @@ use Rattle.lot_words.specs.declared.views.Size.{Size}
 use Rattle.lot_words.specs.World.{LockWord, LockWorld, is_owned, bits_of, word_of, IsHeld, Holds}
 use Rattle.lot_words.specs.Values.{IsIn, FoundOk, IsLawful}
 use Rattle.lot_words.specs.Rule.{sizes_of, Fits, scheme}
-use Rattle.lot_words.specs.Calls.{Aims, gripped, wishing, let_go, found_parked, parked_pass, parked_root, Gets}
+use Rattle.lot_words.specs.Calls.{Aims, gripped, wishing, let_go, found_parked, parked_pass, parked_root, GetsBy}
 use Rattle.lot_words.proofs.Machine.{no_aim, set_elim}
 use Rattle.lot_words.proofs.Holding.{lock_near, gets_kept, wants_kept, marks_kept, frees_kept, finds_kept}
 use Rattle.lot_words.proofs.Rows.{owned_true, row_take_free, row_take_held, row_try_free, row_try_held, row_mark, row_free, row_free_parked}
@@ -65,13 +65,13 @@ same_in p l x y a b = let e : InSlot x ≡ InSlot y = some-injective (InSlot x) 
 module _ {V Q : Type 0} (keeps : ℕ → V → Type 0) (grows : V → V → Type 0) (share : ℕ → V → Q) where
   -- ---- what each step tells
   abbrev pub Takes : PassView (LockPassView V) → ℕ → ℕ → PassView (LockPassView V) → Type 0
-  Takes p l n q = MatchBool (n % 2 == 0) (Gets keeps grows share p l (Makes (Take p.thread l) (Saw true)) q) (Notes p (wishing p.own l) (Makes (Take p.thread l) (Saw false)) q)
+  Takes p l n q = MatchBool (n % 2 == 0) (GetsBy keeps grows share p l (Makes (Take p.thread l) (Saw true)) q) (Notes p (wishing p.own l) (Makes (Take p.thread l) (Saw false)) q)
 
   abbrev pub Tries : PassView (LockPassView V) → ℕ → ℕ → PassView (LockPassView V) → Type 0
-  Tries p l n q = MatchBool (n % 2 == 0) (Gets keeps grows share p l (Makes (Try p.thread l) (Saw true)) q) (Notes p p.own (Makes (Try p.thread l) (Saw false)) q)
+  Tries p l n q = MatchBool (n % 2 == 0) (GetsBy keeps grows share p l (Makes (Try p.thread l) (Saw true)) q) (Notes p p.own (Makes (Try p.thread l) (Saw false)) q)
 
   abbrev pub TakesFree : PassView (LockPassView V) → ℕ → ℕ → PassView (LockPassView V) → Type 0
-  TakesFree p l n q = MatchBool (n == 0) (Gets keeps grows share p l (Makes (Take p.thread l) (Saw true)) q) ((x : ℕ) × (x ≢ 0) × Notes p p.own (Finds p.thread l x) q)
+  TakesFree p l n q = MatchBool (n == 0) (GetsBy keeps grows share p l (Makes (Take p.thread l) (Saw true)) q) ((x : ℕ) × (x ≢ 0) × Notes p p.own (Finds p.thread l x) q)
 
 abbrev pub Marks : {V : Type 0} → PassView (LockPassView V) → ℕ → ℕ → PassView (LockPassView V) → Type 0
 Marks p l n q = MatchBool (n == 1) (Notes p p.own (Makes (Mark p.thread l) Done) q) ((x : ℕ) × (x ≢ 1) × Notes p p.own (Finds p.thread l x) q)

@@ -74,8 +74,8 @@ FoundNone p q = Notes p p.own (Collects p.thread None) q
 
 module _ {V Q : Type 0} (keeps : ℕ → V → Type 0) (grows : V → V → Type 0) (share : ℕ → V → Q) where
   -- q is the pass p after it got the lock l, by this access, with the value that it found
-  abbrev pub Gets : PassView (LockPassView V) → ℕ → Access → PassView (LockPassView V) → Type 0
-  Gets p l a q = (x : V) × FoundOk keeps grows share l p.thread p.own x × Notes p (gripped p.own l x) a q
+  abbrev pub GetsBy : PassView (LockPassView V) → ℕ → Access → PassView (LockPassView V) → Type 0
+  GetsBy p l a q = (x : V) × FoundOk keeps grows share l p.thread p.own x × Notes p (gripped p.own l x) a q
 
   -- q is the pass p after it collected a letter: a barging opportunity, or the lock itself, with the value that it found
   abbrev pub Collected : PassView (LockPassView V) → ℕ → PassView (LockPassView V) → Type 0

@@ -12,7 +12,7 @@ use Rattle.lot_words.specs.declared.views.LockPassView.{LockPassView}
 use Rattle.lot_words.specs.declared.views.LockRootView.{LockRootView}
 use Rattle.lot_words.specs.declared.views.Place.TheVariants.{InSlot, Out}
 use Rattle.lot_words.specs.World.{IsHeld}
-use Rattle.lot_words.specs.Calls.{gripped, wishing, woken, Gets, FoundNone, Collected}
+use Rattle.lot_words.specs.Calls.{gripped, wishing, woken, GetsBy, FoundNone, Collected}
 use Rattle.rights_trials.specs.LockSchedules.{IsPass, IsCalm, Wants, Owns, IsRoot}
 use Rattle.lot_words.specs.Shown.{pass_at, root_at}
 
@@ -26,20 +26,20 @@ module _ {V : Type 0} (p : PassShown (LockPassView V)) (z : TableId) (t l : ℕ)
   )
 
   module _ {Q : Type 0} (keeps : ℕ → V → Type 0) (grows : V → V → Type 0) (share : ℕ → V → Q) (a c : Access) (q : PassView (LockPassView V)) (b : Bool) (up : p.pass.own.asleep ≡ false) where
-    got : Gets keeps grows share p.pass l a q → Owns q.own l
+    got : GetsBy keeps grows share p.pass l a q → Owns q.own l
     got h = subst (λ (y : PassView (LockPassView V)). Owns y.own l) (sym h.2.1) (grips h.0 up)
 
-    pub took : MatchBool b (Gets keeps grows share p.pass l a q) (Notes p.pass (wishing p.pass.own l) c q) → MatchBool b (Owns q.own l) (Wants q.own l)
+    pub took : MatchBool b (GetsBy keeps grows share p.pass l a q) (Notes p.pass (wishing p.pass.own l) c q) → MatchBool b (Owns q.own l) (Wants q.own l)
     took = by_bool b
       where
-        by_bool : (b : Bool) → MatchBool b (Gets keeps grows share p.pass l a q) (Notes p.pass (wishing p.pass.own l) c q) → MatchBool b (Owns q.own l) (Wants q.own l)
+        by_bool : (b : Bool) → MatchBool b (GetsBy keeps grows share p.pass l a q) (Notes p.pass (wishing p.pass.own l) c q) → MatchBool b (Owns q.own l) (Wants q.own l)
         by_bool true h = got h
         by_bool false h = subst (λ (y : PassView (LockPassView V)). Wants y.own l) (sym h.1) (up, refl)
 
-    pub tried : p.pass.own.aim ≡ None → MatchBool b (Gets keeps grows share p.pass l a q) (Notes p.pass p.pass.own c q) → MatchBool b (Owns q.own l) (IsCalm q.own)
+    pub tried : p.pass.own.aim ≡ None → MatchBool b (GetsBy keeps grows share p.pass l a q) (Notes p.pass p.pass.own c q) → MatchBool b (Owns q.own l) (IsCalm q.own)
     tried aim = by_bool b
       where
-        by_bool : (b : Bool) → MatchBool b (Gets keeps grows share p.pass l a q) (Notes p.pass p.pass.own c q) → MatchBool b (Owns q.own l) (IsCalm q.own)
+        by_bool : (b : Bool) → MatchBool b (GetsBy keeps grows share p.pass l a q) (Notes p.pass p.pass.own c q) → MatchBool b (Owns q.own l) (IsCalm q.own)
         by_bool true h = got h
         by_bool false h = subst (λ (y : PassView (LockPassView V)). IsCalm y.own) (sym h.1) (up, aim)
 

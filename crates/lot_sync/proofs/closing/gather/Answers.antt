@@ -5,7 +5,7 @@ use Rattle.std.proofs.lemmas.List.Elements.{All-push}
 use Rattle.lot_rights.proofs.Gathers.{all_popped}
 use Rattle.lot_kinds.specs.Rights.{RightsView}
 use Rattle.lot_sync.specs.Lot.{PassView, Owns, OwnsNone, rights_of}
-use Rattle.lot_sync.specs.Passes.{Standing, sees, seen_as, lock_side, IsFree}
+use Rattle.lot_sync.specs.Passes.{Standing, stands, sees, seen_as, lock_side, IsFree}
 use Rattle.lot_sync.proofs.Rests.{held_owned}
 use Rattle.lot_rights.proofs.Turns.{moves_on, all_turned, map_turned, no_elements}
 use Rattle.lot_sync.proofs.closing.gather.Goals as goal
@@ -18,7 +18,7 @@ pub loop-pass-preserved : goal.loop-pass-preserved
 loop-pass-preserved g c =
     let inv = c.loop-pass.invariant in
     let left = c.pop.new.self.items in
-    let same : c.in-Some.pass ≡ sees c.apart-right.result.1 (record { thread = c.into_pass.result.pass.thread; own = c.into_pass.result.pass.own }) = c.apart-right.ensures.same
+    let same : c.in-Some.pass ≡ sees c.apart-right.result.1 (stands c.into_pass.result) = c.apart-right.ensures.same
     ∙ ap (sees c.apart-right.result.1) c.into_pass.ensures.same in
     let parts = all_popped OwnsNone c.loop-pass.passes.items left c.in-Some.pass c.in-Some.ensures.items inv.free in
     record {

@@ -6,7 +6,7 @@ use Rattle.lot_words.specs.Shown.{LockWordsShown}
 use Rattle.lot_words.specs.declared.views.LockRootView.{LockRootView}
 use Rattle.lot_conds.specs.Shown.{CondWordsShown}
 use Rattle.lot_sems.specs.Shown.{SemWordsShown}
-use Rattle.lot_park.specs.Lots.{LotView}
+use Rattle.lot_park.specs.Lots.{ParkingView}
 use Rattle.lot_park.specs.Parts.{Tables}
 use Rattle.lot_park.specs.declared.parts.both.OneOf.TheVariants.{First, Second}
 use Rattle.lot_kinds.specs.Rights.{RightsView, unused}
@@ -22,30 +22,12 @@ use Rattle.lot_rights.proofs.Turns.{some_by_place}
 use Rattle.lot_sync.proofs.Starts.{passes_fresh, passes_paired, roots_free, roots_idle, idle_all, fresh_named, none_held}
 use Rattle.lot_sync.proofs.start.started.Goals as goal
 
-module _ {V : Type 0} (names : LotNames V) (o opened : OpenedView V) (same : o ≡ opened) (named : IsNamed names opened) where
-  table_is : o.table ≡ names.opening.locks
-  table_is = ap (λ (x : OpenedView V). x.table) same ∙ named.locks_table
+-- what the name tells of the opening
+locks_are : {V : Type 0} {names : LotNames V} {opened : OpenedView V} → IsNamed names opened → length names.values ≡ names.locks
+locks_are named = sym (ap length named.values) ∙ named.locks
 
-  threads_are : o.threads ≡ names.threads
-  threads_are = ap (λ (x : OpenedView V). x.threads) same ∙ named.threads
-
-  values_are : o.values ≡ names.values
-  values_are = ap (λ (x : OpenedView V). x.values) same ∙ named.values
-
-  locks_are : length names.values ≡ names.locks
-  locks_are = sym (ap length values_are) ∙ (ap (λ (x : OpenedView V). length x.values) same ∙ named.locks)
-
-  conds_are : o.conds ≡ names.conds
-  conds_are = ap (λ (x : OpenedView V). x.conds) same ∙ named.conds
-
-  low_is : o.low ≡ names.low
-  low_is = ap (λ (x : OpenedView V). x.low) same ∙ named.low
-
-  sems_are : length o.permits ≡ length names.permits
-  sems_are = ap (λ (x : OpenedView V). length x.permits) same ∙ ap length named.permits
-
-  kinds_are : o.conds + length o.permits ≡ names.conds + length names.permits
-  kinds_are = ap (λ n. n + length o.permits) conds_are ∙ ap (λ n. names.conds + n) sems_are
+kinds_are : {V : Type 0} {names : LotNames V} {opened : OpenedView V} → IsNamed names opened → opened.conds + length opened.permits ≡ names.conds + length names.permits
+kinds_are named = let conds = named.conds in let sems = ap length named.permits in omega (arith, conds, sems)
 
 -- how many roots there are of all tables
 keys_are : (roots kinds locks conds sems first all : ℕ) → roots ≡ locks → kinds ≡ conds + sems → first ≡ roots → all ≡ first + kinds → all ≡ locks + conds + sems
@@ -53,76 +35,22 @@ keys_are roots kinds locks conds sems first all e f h k = omega (arith, e, f, h,
 
 pub name_roots-requires-clause-free : goal.name_roots-requires-clause-free
 name_roots-requires-clause-free g c κs within =
-    let names : LotNames g.row.V.Denot = record {
-      opening = g.N.Name.opening;
-      threads = g.N.LotName.threads;
-      values = g.N.LotName.values;
-      locks = g.N.WaitName.locks;
-      conds = g.N.WaitName.conds;
-      low = g.N.PermitName.low;
-      permits = g.N.PermitName.permits;
-    } in
-    let o : OpenedView g.row.V.Denot = record {
-      table = c.opened.inside.words.table;
-      conds_table = c.opened.inside.kinds.conds.table;
-      sems_table = c.opened.inside.kinds.sems.table;
-      threads = c.opened.inside.threads;
-      values = c.opened.inside.values.value.items;
-      conds = c.opened.inside.kinds.conds.conds;
-      low = c.opened.inside.kinds.sems.low;
-      permits = c.opened.inside.kinds.sems.permits;
-    } in
+    let named = rw (sym c.opened.view_is) at c.requires.named in
     roots_free c.opened.inside.values.value.items c.opened.inside.threads c.opened.inside.words c.opened.inside.passes.items c.opened.inside.roots.items c.opened.invariant.0
-    g.N.Name.opening.locks g.N.LotName.values (table_is names o c.args.opened c.opened.view_is c.requires.named) (values_are names o c.args.opened c.opened.view_is c.requires.named)
+    g.N.Name.opening.locks g.N.LotName.values named.locks_table named.values
 
 pub add_roots-requires-clause-free : goal.add_roots-requires-clause-free
 add_roots-requires-clause-free g c κs within =
-    let names : LotNames g.row.V.Denot = record {
-      opening = g.N.Name.opening;
-      threads = g.N.LotName.threads;
-      values = g.N.LotName.values;
-      locks = g.N.WaitName.locks;
-      conds = g.N.WaitName.conds;
-      low = g.N.PermitName.low;
-      permits = g.N.PermitName.permits;
-    } in
-    let o : OpenedView g.row.V.Denot = record {
-      table = c.opened.inside.words.table;
-      conds_table = c.opened.inside.kinds.conds.table;
-      sems_table = c.opened.inside.kinds.sems.table;
-      threads = c.opened.inside.threads;
-      values = c.opened.inside.values.value.items;
-      conds = c.opened.inside.kinds.conds.conds;
-      low = c.opened.inside.kinds.sems.low;
-      permits = c.opened.inside.kinds.sems.permits;
-    } in
+    let named = rw (sym c.opened.view_is) at c.requires.named in
     all_at (IsFreeKind (length g.N.LotName.values)) c.name-scheme.result.2.items
-    (λ i q at. let is = (c.name-scheme.ensures.roots i q at).named in let border = locks_are names o c.args.opened c.opened.view_is c.requires.named in omega (arith, is, border))
+    (λ i q at. let is = (c.name-scheme.ensures.roots i q at).named in let border = locks_are named in omega (arith, is, border))
 
 pub open-requires-clause-idle : goal.open-requires-clause-idle
 open-requires-clause-idle g c κs within =
-    let names : LotNames g.row.V.Denot = record {
-      opening = g.N.Name.opening;
-      threads = g.N.LotName.threads;
-      values = g.N.LotName.values;
-      locks = g.N.WaitName.locks;
-      conds = g.N.WaitName.conds;
-      low = g.N.PermitName.low;
-      permits = g.N.PermitName.permits;
-    } in
-    let o : OpenedView g.row.V.Denot = record {
-      table = c.opened.inside.words.table;
-      conds_table = c.opened.inside.kinds.conds.table;
-      sems_table = c.opened.inside.kinds.sems.table;
-      threads = c.opened.inside.threads;
-      values = c.opened.inside.values.value.items;
-      conds = c.opened.inside.kinds.conds.conds;
-      low = c.opened.inside.kinds.sems.low;
-      permits = c.opened.inside.kinds.sems.permits;
-    } in
+    let named = rw (sym c.opened.view_is) at c.requires.named in
     let idle : (i : ℕ) (root : LotRootShown) → slice_get c.add_roots.new.named.items i ≡ Some root → IsIdleAt i root = (λ i root at.
     idle_all g.N.WaitName.locks c.opened.inside.roots.items c.name-scheme.result.2.items (c.opened.invariant.0.roots_long
-    ∙ (ap length (values_are names o c.args.opened c.opened.view_is c.requires.named) ∙ locks_are names o c.args.opened c.opened.view_is c.requires.named))
+    ∙ (ap length named.values ∙ locks_are named))
     (λ n r h. roots_idle c.opened.inside.values.value.items c.opened.inside.threads c.opened.inside.words c.opened.inside.passes.items c.opened.inside.roots.items c.opened.invariant.0 n r h)
     c.name-scheme.ensures.roots i root
     (subst (λ (rs : List LotRootShown). slice_get rs i ≡ Some root)
@@ -131,29 +59,11 @@ open-requires-clause-idle g c κs within =
 
 pub fill-requires-clause-idle : goal.fill-requires-clause-idle
 fill-requires-clause-idle g c κs within =
-    let names : LotNames g.row.V.Denot = record {
-      opening = g.N.Name.opening;
-      threads = g.N.LotName.threads;
-      values = g.N.LotName.values;
-      locks = g.N.WaitName.locks;
-      conds = g.N.WaitName.conds;
-      low = g.N.PermitName.low;
-      permits = g.N.PermitName.permits;
-    } in
-    let o : OpenedView g.row.V.Denot = record {
-      table = c.opened.inside.words.table;
-      conds_table = c.opened.inside.kinds.conds.table;
-      sems_table = c.opened.inside.kinds.sems.table;
-      threads = c.opened.inside.threads;
-      values = c.opened.inside.values.value.items;
-      conds = c.opened.inside.kinds.conds.conds;
-      low = c.opened.inside.kinds.sems.low;
-      permits = c.opened.inside.kinds.sems.permits;
-    } in
+    let named = rw (sym c.opened.view_is) at c.requires.named in
     fresh_named g.V.Keeps.grows c.opened.inside.words.table g.N.Name.opening.locks c.opened.inside.values.value.items g.N.LotName.values c.opened.inside.threads g.N.LotName.threads
     c.opened.inside.passes.items
-    (table_is names o c.args.opened c.opened.view_is c.requires.named) (values_are names o c.args.opened c.opened.view_is c.requires.named)
-    (threads_are names o c.args.opened c.opened.view_is c.requires.named)
+    named.locks_table named.values
+    named.threads
     (passes_fresh g.V.Keeps.grows g.V.Keeps.grows_itself c.opened.inside.values.value.items c.opened.inside.threads c.opened.inside.words c.opened.inside.passes.items c.opened.invariant.0.unused)
 
 pub fill-requires-clause-paired : goal.fill-requires-clause-paired
@@ -171,83 +81,47 @@ fill-requires-clause-none g c κs within =
 
 pub invariant_of-result : goal.invariant_of-result
 invariant_of-result g c =
-    let names : LotNames g.row.V.Denot = record {
-      opening = g.N.Name.opening;
-      threads = g.N.LotName.threads;
-      values = g.N.LotName.values;
-      locks = g.N.WaitName.locks;
-      conds = g.N.WaitName.conds;
-      low = g.N.PermitName.low;
-      permits = g.N.PermitName.permits;
-    } in
-    let o : OpenedView g.row.V.Denot = record {
-      table = c.opened.inside.words.table;
-      conds_table = c.opened.inside.kinds.conds.table;
-      sems_table = c.opened.inside.kinds.sems.table;
-      threads = c.opened.inside.threads;
-      values = c.opened.inside.values.value.items;
-      conds = c.opened.inside.kinds.conds.conds;
-      low = c.opened.inside.kinds.sems.low;
-      permits = c.opened.inside.kinds.sems.permits;
-    } in
+    let named = rw (sym c.opened.view_is) at c.requires.named in
     let roots_long : vec_len c.opened.inside.roots ≡ length g.N.LotName.values =
     (let n : vec_len c.opened.inside.roots ≡ length c.opened.inside.roots.items = search rules in n
-    ∙ (c.opened.invariant.0.roots_long ∙ ap length (values_are names o c.args.opened c.opened.view_is c.requires.named))) in
+    ∙ (c.opened.invariant.0.roots_long ∙ ap length named.values)) in
     let keys : vec_len c.add_roots.new.named ≡ length g.N.LotName.values + g.N.WaitName.conds + length g.N.PermitName.permits =
     keys_are (vec_len c.opened.inside.roots) (vec_len c.name-scheme.result.2) (length g.N.LotName.values) g.N.WaitName.conds (length g.N.PermitName.permits) (vec_len c.name_roots.new.named)
     (vec_len c.add_roots.new.named)
-    roots_long (c.name-scheme.ensures.counts.1 ∙ kinds_are names o c.args.opened c.opened.view_is c.requires.named) c.name_roots.ensures.long c.add_roots.ensures.long in
+    roots_long (c.name-scheme.ensures.counts.1 ∙ kinds_are named) c.name_roots.ensures.long c.add_roots.ensures.long in
     let ok = c.in-Ok.ensures.ok in
     let scheme = c.new-2.ensures in
     let words : c.in-Ok.parking.scheme.first ≡ c.opened.inside.words =
-    ap (λ (l : LotView LotSchemeShown). l.scheme.first) ok ∙ (ap (λ (t : LotSchemeShown). t.first) scheme ∙ c.new.ensures) in
+    ap (λ (l : ParkingView LotSchemeShown). l.scheme.first) ok ∙ (ap (λ (t : LotSchemeShown). t.first) scheme ∙ c.new.ensures) in
     let kinds : c.in-Ok.parking.scheme.second ≡ c.name-scheme.result.0 =
-    ap (λ (l : LotView LotSchemeShown). l.scheme.second) ok ∙ ap (λ (t : LotSchemeShown). t.second) scheme in
+    ap (λ (l : ParkingView LotSchemeShown). l.scheme.second) ok ∙ ap (λ (t : LotSchemeShown). t.second) scheme in
     record {
-      words = ap (λ (w : LockWordsShown). w.table) words ∙ table_is names o c.args.opened c.opened.view_is c.requires.named;
-      words_threads = ap (λ (w : LockWordsShown). w.size.threads) words ∙ (c.opened.invariant.0.unused.words_threads ∙ threads_are names o c.args.opened c.opened.view_is c.requires.named);
-      words_locks = ap (λ (w : LockWordsShown). w.size.locks) words ∙ (c.opened.invariant.0.unused.words_locks ∙ ap length (values_are names o c.args.opened c.opened.view_is c.requires.named));
+      words = ap (λ (w : LockWordsShown). w.table) words ∙ named.locks_table;
+      words_threads = ap (λ (w : LockWordsShown). w.size.threads) words ∙ (c.opened.invariant.0.unused.words_threads ∙ named.threads);
+      words_locks = ap (λ (w : LockWordsShown). w.size.locks) words ∙ (c.opened.invariant.0.unused.words_locks ∙ ap length named.values);
       conds_threads = ap (λ (t : Tables CondWordsShown SemWordsShown). t.first.size.threads) kinds
-          ∙ (c.name-scheme.ensures.threads.0 ∙ (c.opened.invariant.1.same_threads ∙ threads_are names o c.args.opened c.opened.view_is c.requires.named));
+          ∙ (c.name-scheme.ensures.threads.0 ∙ (c.opened.invariant.1.same_threads ∙ named.threads));
       sems_threads = ap (λ (t : Tables CondWordsShown SemWordsShown). t.second.size.threads) kinds
-          ∙ (c.name-scheme.ensures.threads.1 ∙ (c.opened.invariant.1.same_threads ∙ threads_are names o c.args.opened c.opened.view_is c.requires.named));
-      named_locks = sym (locks_are names o c.args.opened c.opened.view_is c.requires.named);
-      named_low = sym (low_is names o c.args.opened c.opened.view_is c.requires.named)
+          ∙ (c.name-scheme.ensures.threads.1 ∙ (c.opened.invariant.1.same_threads ∙ named.threads));
+      named_locks = sym (locks_are named);
+      named_low = sym named.low
           ∙ (c.opened.invariant.1.follow ∙ (ap (λ n. n + c.opened.inside.kinds.conds.conds)
-          (c.opened.invariant.1.after_locks ∙ (ap length (values_are names o c.args.opened c.opened.view_is c.requires.named) ∙ locks_are names o c.args.opened c.opened.view_is c.requires.named))
-          ∙ ap (λ n. g.N.WaitName.locks + n) (conds_are names o c.args.opened c.opened.view_is c.requires.named)));
-      parking_threads = ap (λ (l : LotView LotSchemeShown). l.threads) ok ∙ threads_are names o c.args.opened c.opened.view_is c.requires.named;
-      parking_keys = ap (λ (l : LotView LotSchemeShown). l.keys) ok ∙ keys;
-      own_threads = threads_are names o c.args.opened c.opened.view_is c.requires.named;
+          (c.opened.invariant.1.after_locks ∙ (ap length named.values ∙ locks_are named))
+          ∙ ap (λ n. g.N.WaitName.locks + n) named.conds));
+      parking_threads = ap (λ (l : ParkingView LotSchemeShown). l.threads) ok ∙ named.threads;
+      parking_keys = ap (λ (l : ParkingView LotSchemeShown). l.keys) ok ∙ keys;
+      own_threads = named.threads;
       own_locks = c.len-locks.ensures ∙ roots_long;
-      own_conds = c.conds-conds.ensures ∙ conds_are names o c.args.opened c.opened.view_is c.requires.named;
-      own_sems = c.sems-sems.ensures ∙ sems_are names o c.args.opened c.opened.view_is c.requires.named;
+      own_conds = c.conds-conds.ensures ∙ named.conds;
+      own_sems = c.sems-sems.ensures ∙ ap length named.permits;
     }
 
 pub unname_roots-requires-clause-keys : goal.unname_roots-requires-clause-keys
 unname_roots-requires-clause-keys g c κs within =
-    let names : LotNames g.row.V.Denot = record {
-      opening = g.N.Name.opening;
-      threads = g.N.LotName.threads;
-      values = g.N.LotName.values;
-      locks = g.N.WaitName.locks;
-      conds = g.N.WaitName.conds;
-      low = g.N.PermitName.low;
-      permits = g.N.PermitName.permits;
-    } in
-    let o : OpenedView g.row.V.Denot = record {
-      table = c.opened.inside.words.table;
-      conds_table = c.opened.inside.kinds.conds.table;
-      sems_table = c.opened.inside.kinds.sems.table;
-      threads = c.opened.inside.threads;
-      values = c.opened.inside.values.value.items;
-      conds = c.opened.inside.kinds.conds.conds;
-      low = c.opened.inside.kinds.sems.low;
-      permits = c.opened.inside.kinds.sems.permits;
-    } in
+    let named = rw (sym c.opened.view_is) at c.requires.named in
     let idle : (i : ℕ) (root : LotRootShown) → slice_get c.add_roots.new.named.items i ≡ Some root → IsIdleAt i root = (λ i root at.
     idle_all g.N.WaitName.locks c.opened.inside.roots.items c.name-scheme.result.2.items (c.opened.invariant.0.roots_long
-    ∙ (ap length (values_are names o c.args.opened c.opened.view_is c.requires.named) ∙ locks_are names o c.args.opened c.opened.view_is c.requires.named))
+    ∙ (ap length named.values ∙ locks_are named))
     (λ n r h. roots_idle c.opened.inside.values.value.items c.opened.inside.threads c.opened.inside.words c.opened.inside.passes.items c.opened.inside.roots.items c.opened.invariant.0 n r h)
     c.name-scheme.ensures.roots i root
     (subst (λ (rs : List LotRootShown). slice_get rs i ≡ Some root)
@@ -257,64 +131,28 @@ unname_roots-requires-clause-keys g c κs within =
 
 pub unname_roots-requires-clause-locks : goal.unname_roots-requires-clause-locks
 unname_roots-requires-clause-locks g c κs within =
-    let names : LotNames g.row.V.Denot = record {
-      opening = g.N.Name.opening;
-      threads = g.N.LotName.threads;
-      values = g.N.LotName.values;
-      locks = g.N.WaitName.locks;
-      conds = g.N.WaitName.conds;
-      low = g.N.PermitName.low;
-      permits = g.N.PermitName.permits;
-    } in
-    let o : OpenedView g.row.V.Denot = record {
-      table = c.opened.inside.words.table;
-      conds_table = c.opened.inside.kinds.conds.table;
-      sems_table = c.opened.inside.kinds.sems.table;
-      threads = c.opened.inside.threads;
-      values = c.opened.inside.values.value.items;
-      conds = c.opened.inside.kinds.conds.conds;
-      low = c.opened.inside.kinds.sems.low;
-      permits = c.opened.inside.kinds.sems.permits;
-    } in
+    let named = rw (sym c.opened.view_is) at c.requires.named in
     let roots_long : vec_len c.opened.inside.roots ≡ length g.N.LotName.values =
     (let n : vec_len c.opened.inside.roots ≡ length c.opened.inside.roots.items = search rules in n
-    ∙ (c.opened.invariant.0.roots_long ∙ ap length (values_are names o c.args.opened c.opened.view_is c.requires.named))) in
+    ∙ (c.opened.invariant.0.roots_long ∙ ap length named.values)) in
     let keys : vec_len c.add_roots.new.named ≡ length g.N.LotName.values + g.N.WaitName.conds + length g.N.PermitName.permits =
     keys_are (vec_len c.opened.inside.roots) (vec_len c.name-scheme.result.2) (length g.N.LotName.values) g.N.WaitName.conds (length g.N.PermitName.permits) (vec_len c.name_roots.new.named)
     (vec_len c.add_roots.new.named)
-    roots_long (c.name-scheme.ensures.counts.1 ∙ kinds_are names o c.args.opened c.opened.view_is c.requires.named) c.name_roots.ensures.long c.add_roots.ensures.long in
+    roots_long (c.name-scheme.ensures.counts.1 ∙ kinds_are named) c.name_roots.ensures.long c.add_roots.ensures.long in
     let long = keys in
     subst (λ v. length g.N.LotName.values ≤ vec_len v) (sym c.in-Err-NoMemory-default-default.ensures.err.0) (omega (arith, long))
 
 pub unname_roots-requires-clause-kind_room : goal.unname_roots-requires-clause-kind_room
 unname_roots-requires-clause-kind_room g c κs within =
-    let names : LotNames g.row.V.Denot = record {
-      opening = g.N.Name.opening;
-      threads = g.N.LotName.threads;
-      values = g.N.LotName.values;
-      locks = g.N.WaitName.locks;
-      conds = g.N.WaitName.conds;
-      low = g.N.PermitName.low;
-      permits = g.N.PermitName.permits;
-    } in
-    let o : OpenedView g.row.V.Denot = record {
-      table = c.opened.inside.words.table;
-      conds_table = c.opened.inside.kinds.conds.table;
-      sems_table = c.opened.inside.kinds.sems.table;
-      threads = c.opened.inside.threads;
-      values = c.opened.inside.values.value.items;
-      conds = c.opened.inside.kinds.conds.conds;
-      low = c.opened.inside.kinds.sems.low;
-      permits = c.opened.inside.kinds.sems.permits;
-    } in
+    let named = rw (sym c.opened.view_is) at c.requires.named in
     let roots_long : vec_len c.opened.inside.roots ≡ length g.N.LotName.values =
     (let n : vec_len c.opened.inside.roots ≡ length c.opened.inside.roots.items = search rules in n
-    ∙ (c.opened.invariant.0.roots_long ∙ ap length (values_are names o c.args.opened c.opened.view_is c.requires.named))) in
+    ∙ (c.opened.invariant.0.roots_long ∙ ap length named.values)) in
     let keys : vec_len c.add_roots.new.named ≡ length g.N.LotName.values + g.N.WaitName.conds + length g.N.PermitName.permits =
     keys_are (vec_len c.opened.inside.roots) (vec_len c.name-scheme.result.2) (length g.N.LotName.values) g.N.WaitName.conds (length g.N.PermitName.permits) (vec_len c.name_roots.new.named)
     (vec_len c.add_roots.new.named)
-    roots_long (c.name-scheme.ensures.counts.1 ∙ kinds_are names o c.args.opened c.opened.view_is c.requires.named) c.name_roots.ensures.long c.add_roots.ensures.long in
-    let kinds = c.name-scheme.ensures.counts.1 ∙ kinds_are names o c.args.opened c.opened.view_is c.requires.named in
+    roots_long (c.name-scheme.ensures.counts.1 ∙ kinds_are named) c.name_roots.ensures.long c.add_roots.ensures.long in
+    let kinds = c.name-scheme.ensures.counts.1 ∙ kinds_are named in
     let room = c.add_roots.ensures.empty.1 in
     let fits : vec_len c.name-scheme.result.2 ≤ vec_capacity c.name-scheme.result.2 = search rules in (
       c.add_roots.ensures.empty.0,
@@ -324,31 +162,13 @@ unname_roots-requires-clause-kind_room g c κs within =
 
 pub settle-nothing-requires-clause-room : goal.settle-nothing-requires-clause-room
 settle-nothing-requires-clause-room g c κs within =
-    let names : LotNames g.row.V.Denot = record {
-      opening = g.N.Name.opening;
-      threads = g.N.LotName.threads;
-      values = g.N.LotName.values;
-      locks = g.N.WaitName.locks;
-      conds = g.N.WaitName.conds;
-      low = g.N.PermitName.low;
-      permits = g.N.PermitName.permits;
-    } in
-    let o : OpenedView g.row.V.Denot = record {
-      table = c.opened.inside.words.table;
-      conds_table = c.opened.inside.kinds.conds.table;
-      sems_table = c.opened.inside.kinds.sems.table;
-      threads = c.opened.inside.threads;
-      values = c.opened.inside.values.value.items;
-      conds = c.opened.inside.kinds.conds.conds;
-      low = c.opened.inside.kinds.sems.low;
-      permits = c.opened.inside.kinds.sems.permits;
-    } in
+    let named = rw (sym c.opened.view_is) at c.requires.named in
     let first = c.name-scheme.ensures.counts.0 in
     let room = c.name-scheme.ensures.room in
     let wide = room.0 in (
       omega (arith, first, wide),
-      room.1 ∙ conds_are names o c.args.opened c.opened.view_is c.requires.named,
-      (let sems = room.2 in let same = sems_are names o c.args.opened c.opened.view_is c.requires.named in omega (arith, sems, same)),
+      room.1 ∙ named.conds,
+      (let sems = room.2 in let same = ap length named.permits in omega (arith, sems, same)),
     )
 
 pub settle-nothing-requires-clause-threads : goal.settle-nothing-requires-clause-threads
@@ -377,87 +197,33 @@ settle-nothing-requires-clause-back g c κs within =
 
 pub settle-nothing-requires-clause-keys : goal.settle-nothing-requires-clause-keys
 settle-nothing-requires-clause-keys g c κs within =
-    let names : LotNames g.row.V.Denot = record {
-      opening = g.N.Name.opening;
-      threads = g.N.LotName.threads;
-      values = g.N.LotName.values;
-      locks = g.N.WaitName.locks;
-      conds = g.N.WaitName.conds;
-      low = g.N.PermitName.low;
-      permits = g.N.PermitName.permits;
-    } in
-    let o : OpenedView g.row.V.Denot = record {
-      table = c.opened.inside.words.table;
-      conds_table = c.opened.inside.kinds.conds.table;
-      sems_table = c.opened.inside.kinds.sems.table;
-      threads = c.opened.inside.threads;
-      values = c.opened.inside.values.value.items;
-      conds = c.opened.inside.kinds.conds.conds;
-      low = c.opened.inside.kinds.sems.low;
-      permits = c.opened.inside.kinds.sems.permits;
-    } in
+    let named = rw (sym c.opened.view_is) at c.requires.named in
     let roots_long : vec_len c.opened.inside.roots ≡ length g.N.LotName.values =
     (let n : vec_len c.opened.inside.roots ≡ length c.opened.inside.roots.items = search rules in n
-    ∙ (c.opened.invariant.0.roots_long ∙ ap length (values_are names o c.args.opened c.opened.view_is c.requires.named))) in
+    ∙ (c.opened.invariant.0.roots_long ∙ ap length named.values)) in
     let keys : vec_len c.add_roots.new.named ≡ length g.N.LotName.values + g.N.WaitName.conds + length g.N.PermitName.permits =
     keys_are (vec_len c.opened.inside.roots) (vec_len c.name-scheme.result.2) (length g.N.LotName.values) g.N.WaitName.conds (length g.N.PermitName.permits) (vec_len c.name_roots.new.named)
     (vec_len c.add_roots.new.named)
-    roots_long (c.name-scheme.ensures.counts.1 ∙ kinds_are names o c.args.opened c.opened.view_is c.requires.named) c.name_roots.ensures.long c.add_roots.ensures.long in
+    roots_long (c.name-scheme.ensures.counts.1 ∙ kinds_are named) c.name_roots.ensures.long c.add_roots.ensures.long in
     let unnamed = c.unname_roots.ensures.long in
     let is = ap (λ v. vec_len v) c.in-Err-NoMemory-default-default.ensures.err.0 in (
-      sym (low_is names o c.args.opened c.opened.view_is c.requires.named)
+      sym named.low
           ∙ (c.opened.invariant.1.follow ∙ (ap (λ n. n + c.opened.inside.kinds.conds.conds)
-          (c.opened.invariant.1.after_locks ∙ (ap length (values_are names o c.args.opened c.opened.view_is c.requires.named) ∙ locks_are names o c.args.opened c.opened.view_is c.requires.named))
-          ∙ ap (λ n. g.N.WaitName.locks + n) (conds_are names o c.args.opened c.opened.view_is c.requires.named))),
+          (c.opened.invariant.1.after_locks ∙ (ap length named.values ∙ locks_are named))
+          ∙ ap (λ n. g.N.WaitName.locks + n) named.conds)),
       omega (arith, unnamed, is, keys),
     )
 
 pub settle-nothing-requires-clause-roots : goal.settle-nothing-requires-clause-roots
 settle-nothing-requires-clause-roots g c κs within =
-    let names : LotNames g.row.V.Denot = record {
-      opening = g.N.Name.opening;
-      threads = g.N.LotName.threads;
-      values = g.N.LotName.values;
-      locks = g.N.WaitName.locks;
-      conds = g.N.WaitName.conds;
-      low = g.N.PermitName.low;
-      permits = g.N.PermitName.permits;
-    } in
-    let o : OpenedView g.row.V.Denot = record {
-      table = c.opened.inside.words.table;
-      conds_table = c.opened.inside.kinds.conds.table;
-      sems_table = c.opened.inside.kinds.sems.table;
-      threads = c.opened.inside.threads;
-      values = c.opened.inside.values.value.items;
-      conds = c.opened.inside.kinds.conds.conds;
-      low = c.opened.inside.kinds.sems.low;
-      permits = c.opened.inside.kinds.sems.permits;
-    } in
-    subst (λ n. StandFrom kind_key n c.unname_roots.new.kind_roots.items) (locks_are names o c.args.opened c.opened.view_is c.requires.named) c.unname_roots.ensures.kinds
+    let named = rw (sym c.opened.view_is) at c.requires.named in
+    subst (λ n. StandFrom kind_key n c.unname_roots.new.kind_roots.items) (locks_are named) c.unname_roots.ensures.kinds
 
 pub close_unused-requires-clause-own : goal.close_unused-requires-clause-own
 close_unused-requires-clause-own g c κs within =
-    let names : LotNames g.row.V.Denot = record {
-      opening = g.N.Name.opening;
-      threads = g.N.LotName.threads;
-      values = g.N.LotName.values;
-      locks = g.N.WaitName.locks;
-      conds = g.N.WaitName.conds;
-      low = g.N.PermitName.low;
-      permits = g.N.PermitName.permits;
-    } in
-    let o : OpenedView g.row.V.Denot = record {
-      table = c.opened.inside.words.table;
-      conds_table = c.opened.inside.kinds.conds.table;
-      sems_table = c.opened.inside.kinds.sems.table;
-      threads = c.opened.inside.threads;
-      values = c.opened.inside.values.value.items;
-      conds = c.opened.inside.kinds.conds.conds;
-      low = c.opened.inside.kinds.sems.low;
-      permits = c.opened.inside.kinds.sems.permits;
-    } in
+    let named = rw (sym c.opened.view_is) at c.requires.named in
     let words : c.into_words.result ≡ c.opened.inside.words =
     c.into_words.ensures.same ∙ (c.apart-words.ensures.0 ∙ (ap (λ (s : LotSchemeShown). s.first) c.in-Err-NoMemory-default-default.ensures.err.1
     ∙ (ap (λ (s : LotSchemeShown). s.first) c.new-2.ensures ∙ c.new.ensures))) in
     subst (λ t. All (λ (r : RootShown LockRootView). r.table ≡ t) c.unname_roots.new.roots.items)
-    (sym (ap (λ (w : LockWordsShown). w.table) words ∙ table_is names o c.args.opened c.opened.view_is c.requires.named)) c.unname_roots.ensures.own
+    (sym (ap (λ (w : LockWordsShown). w.table) words ∙ named.locks_table)) c.unname_roots.ensures.own

@@ -1,5 +1,6 @@
 use Rattle.std.proofs.Common.{ap, ◌∙◌}
 use Rattle.lot_sync.specs.Lot.{leaving}
+use Rattle.lot_sync.specs.declared.released.Released.TheVariants.{Quiet}
 use Rattle.lot_sync.proofs.Rests.{rests_free, leaves_all, own_on}
 use Rattle.lot_sync.proofs.lot.Lot.unlock_asking.Goals as goal
 
@@ -7,7 +8,7 @@ pub at_rest-requires-clause-rest : goal.at_rest-requires-clause-rest
 at_rest-requires-clause-rest g c κs within =
     let b = c.given_back-right.ensures in
     rests_free g.V.Keeps.grows g.N.LotName.values g.N.LotName.threads g.V.Keeps.grows_on c.given_back-right.result.0 c.free-right.result.0 c.key-key.result c.args.held.value
-    b.locks b.owner b.lies b.grown (rw c.if-freed.true at c.free-right.ensures)
+    Quiet b.locks b.owner b.lies b.grown (rw c.if-freed.true at c.free-right.ensures)
 
 pub at_rest-requires-clause-own : goal.at_rest-requires-clause-own
 at_rest-requires-clause-own g c κs within = own_on _ _ c.given_back-right.result.1 (rw c.if-freed.true at c.free-right.ensures).thread c.given_back-right.ensures.own
@@ -15,23 +16,25 @@ at_rest-requires-clause-own g c κs within = own_on _ _ c.given_back-right.resul
 pub returns-then-freed-clause-pass : goal.returns-then-freed-clause-pass
 returns-then-freed-clause-pass g c =
     let b = c.given_back-right.ensures in
-    c.at_rest.ensures.pass ∙ (leaves_all c.given_back-right.result.1 c.given_back-right.result.0 c.free-right.result.0 c.key-key.result c.args.held.value b.lies
+    c.at_rest.ensures.pass ∙ (leaves_all c.given_back-right.result.1 c.given_back-right.result.0 c.free-right.result.0 c.key-key.result c.args.held.value Quiet b.lies
     (rw c.if-freed.true at c.free-right.ensures)
-    ∙ (ap (λ p. leaving p c.key-key.result c.args.held.value) b.same ∙ ap (λ k. leaving c.args.pass k c.args.held.value) c.key-key.ensures))
+    ∙ (ap (λ p. leaving p c.key-key.result c.args.held.value Quiet) b.same ∙ ap (λ k. leaving c.args.pass k c.args.held.value Quiet) c.key-key.ensures))
 
 pub at_rest-requires-else-freed-clause-rest : goal.at_rest-requires-else-freed-clause-rest
 at_rest-requires-else-freed-clause-rest g c κs within =
     let b = c.given_back-right.ensures in
     rests_free g.V.Keeps.grows g.N.LotName.values g.N.LotName.threads g.V.Keeps.grows_on c.given_back-right.result.0 c.unpark_asking-right.result.0 c.key-key.result c.args.held.value
-    b.locks b.owner b.lies b.grown ((rw c.if-freed.false at c.free-right.ensures).1 c.unpark_asking-right.result.0 c.unpark_asking-right.ensures.went)
+    c.unpark_asking-right.result.1 b.locks b.owner b.lies b.grown ((rw c.if-freed.false at c.free-right.ensures).1 c.unpark_asking-right.result.1 c.unpark_asking-right.result.0 c.unpark_asking-right.ensures.went)
 
 pub at_rest-requires-else-freed-clause-own : goal.at_rest-requires-else-freed-clause-own
 at_rest-requires-else-freed-clause-own g c κs within =
-    own_on _ _ c.given_back-right.result.1 ((rw c.if-freed.false at c.free-right.ensures).1 c.unpark_asking-right.result.0 c.unpark_asking-right.ensures.went).thread c.given_back-right.ensures.own
+    own_on _ _ c.given_back-right.result.1 ((rw c.if-freed.false at c.free-right.ensures).1 c.unpark_asking-right.result.1 c.unpark_asking-right.result.0 c.unpark_asking-right.ensures.went).thread c.given_back-right.ensures.own
 
 pub returns-else-freed-clause-pass : goal.returns-else-freed-clause-pass
 returns-else-freed-clause-pass g c =
     let b = c.given_back-right.ensures in
-    let went = (rw c.if-freed.false at c.free-right.ensures).1 c.unpark_asking-right.result.0 c.unpark_asking-right.ensures.went in
-    c.at_rest-else-freed.ensures.pass ∙ (leaves_all c.given_back-right.result.1 c.given_back-right.result.0 c.unpark_asking-right.result.0 c.key-key.result c.args.held.value b.lies went
-    ∙ (ap (λ p. leaving p c.key-key.result c.args.held.value) b.same ∙ ap (λ k. leaving c.args.pass k c.args.held.value) c.key-key.ensures))
+    let went = (rw c.if-freed.false at c.free-right.ensures).1 c.unpark_asking-right.result.1 c.unpark_asking-right.result.0 c.unpark_asking-right.ensures.went in
+    c.at_rest-else-freed.ensures.pass ∙ (leaves_all c.given_back-right.result.1 c.given_back-right.result.0 c.unpark_asking-right.result.0 c.key-key.result c.args.held.value
+    c.unpark_asking-right.result.1 b.lies went
+    ∙ (ap (λ p. leaving p c.key-key.result c.args.held.value c.unpark_asking-right.result.1) b.same
+    ∙ ap (λ k. leaving c.args.pass k c.args.held.value c.unpark_asking-right.result.1) c.key-key.ensures))

@@ -1,5 +1,6 @@
 use Rattle.std.proofs.Common.{◌≡◌, subst, sym, ap, ◌∙◌}
 use Rattle.lot_sync.specs.Lot.{leaving}
+use Rattle.lot_sync.specs.declared.released.Released.TheVariants.{Quiet}
 use mathlib.Core.Option.{some}
 use lib.ListN.{get_elem?}
 use Rattle.lot_words.specs.declared.views.Place.TheVariants.{InSlot}
@@ -11,7 +12,7 @@ pub at_rest-requires-clause-rest : goal.at_rest-requires-clause-rest
 at_rest-requires-clause-rest g c κs within =
     let b = c.given_back-right.ensures in
     rests_free g.V.Keeps.grows g.N.LotName.values g.N.LotName.threads g.V.Keeps.grows_on c.given_back-right.result.0 c.free-right.result.0 c.key-key.result c.args.held.value
-    b.locks b.owner b.lies b.grown (rw c.if-freed.true at c.free-right.ensures)
+    Quiet b.locks b.owner b.lies b.grown (rw c.if-freed.true at c.free-right.ensures)
 
 pub at_rest-requires-else-freed-clause-rest : goal.at_rest-requires-else-freed-clause-rest
 at_rest-requires-else-freed-clause-rest g c κs within =
@@ -22,9 +23,9 @@ at_rest-requires-else-freed-clause-rest g c κs within =
 pub returns-then-freed-clause-freed : goal.returns-then-freed-clause-freed
 returns-then-freed-clause-freed g c =
     let b = c.given_back-right.ensures in
-    c.at_rest.ensures.pass ∙ (leaves_all c.given_back-right.result.1 c.given_back-right.result.0 c.free-right.result.0 c.key-key.result c.args.held.value b.lies
+    c.at_rest.ensures.pass ∙ (leaves_all c.given_back-right.result.1 c.given_back-right.result.0 c.free-right.result.0 c.key-key.result c.args.held.value Quiet b.lies
     (rw c.if-freed.true at c.free-right.ensures)
-    ∙ (ap (λ p. leaving p c.key-key.result c.args.held.value) b.same ∙ ap (λ k. leaving c.args.pass k c.args.held.value) c.key-key.ensures))
+    ∙ (ap (λ p. leaving p c.key-key.result c.args.held.value Quiet) b.same ∙ ap (λ k. leaving c.args.pass k c.args.held.value Quiet) c.key-key.ensures))
 
 pub returns-else-freed-clause-freed : goal.returns-else-freed-clause-freed
 returns-else-freed-clause-freed g c =
