@@ -1,5 +1,6 @@
 -- How a pass stands after one entry more.
 use Rattle.std.proofs.Common.{◌≡◌, ◌≢◌, ℕ, Bool, true, false, List, [], ◌∷◌, ◌++◌, Option, Some, None, MatchBool, MatchOption, refl, sym, ap, ◌∙◌}
+use Rattle.std.proofs.lemmas.List.Sums.{fold-append}
 use Rattle.lot_core.specs.declared.events.Event.TheVariants.{SemTake, SemMark, SemPark, SemFree, SemPass as Passes, SemClear}
 use Rattle.lot_core.specs.declared.events.Seen.TheVariants.{Bool as Saw, Done, Sleeper}
 use Rattle.lot_rights.specs.declared.views.Access.{Access}
@@ -13,18 +14,14 @@ use Rattle.lot_sems.specs.declared.taking.Taken.TheVariants.{Got, Empty, Busy}
 use Rattle.lot_sems.specs.Calls.{gave, got, seeking, woken, parked_pass, Tries, Takes, FoundNone, Collected}
 use Rattle.lot_permits.specs.declared.permit.Freed.{Freed}
 use Rattle.lot_permits.specs.declared.permit.Freed.TheVariants.{Quiet}
-use Rattle.lot_permits.specs.Freed.{freed_after, freed_from, freed_in, freed_by, GivesBack}
+use Rattle.lot_permits.specs.Freed.{freed_after, freed_in, freed_by, GivesBack}
 use Rattle.lot_permits.specs.Rights.{SemStanding, standing, giving, queueing, waking, HasTried, HasTaken, IsSemLooked}
-
--- the last entry is read last
-freed_pushed : (before : Option Freed) (entries : List Entry) (e : Entry) → freed_from before (entries ++ e ∷ []) ≡ freed_after (freed_from before entries) e.access
-freed_pushed before [] e = refl
-freed_pushed before (d ∷ entries) e = freed_pushed (freed_after before d.access) entries e
 
 -- a pass that knows this now, with this one entry more
 pub noted : (p : PassView SemPassView) (own : SemPassView) (a : Access) (q : PassView SemPassView) → Notes p own a q
     → standing q ≡ record { thread = p.thread; own = own; freed = freed_after (freed_in p.made) a }
-noted p own a q (k, is) = ap standing is ∙ ap (λ f. record { thread = p.thread; own = own; freed = f }) (freed_pushed None p.made (record { at = k; access = a }))
+noted p own a q (k, is) = ap standing is ∙ ap (λ f. record { thread = p.thread; own = own; freed = f }) 
+    (fold-append (λ before (e : Entry). freed_after before e.access) None p.made (record { at = k; access = a } ∷ []))
 
 -- ---- tries
 pub tried : (p : PassView SemPassView) (k : ℕ) (became : Taken) (q : PassView SemPassView) → Tries p k became q → HasTried (standing p) k became (standing q)

@@ -1,6 +1,7 @@
 -- How releases end: what one does while the semaphore's bucket is locked, by the thread that it takes from the line, if any; and how the last
 -- one of a thread ended, as the entries tell that were made with its pass.
-use Rattle.std.specs.Prelude.{ℕ, Bool, true, List, [], ◌∷◌, Option, Some, None}
+use Rattle.std.specs.Prelude.{ℕ, Bool, true, List, Option, Some, None}
+use Rattle.std.specs.List.{fold}
 use Rattle.lot_core.specs.declared.events.Event.TheVariants.{SemFree, SemPass as Passes, SemClear}
 use Rattle.lot_core.specs.declared.events.Seen.TheVariants.{Bool as Saw, Done, Sleeper}
 use Rattle.lot_rights.specs.declared.views.Access.{Access}
@@ -32,10 +33,6 @@ freed_after before (Makes (Passes t k more) (Sleeper (Some thread))) = Some Woke
 freed_after before (Makes (Passes t k more) (Sleeper None)) = Some Nobody
 freed_after before _ = before
 
-abbrev pub freed_from : Option Freed → List Entry → Option Freed
-freed_from before [] = before
-freed_from before (e ∷ entries) = freed_from (freed_after before e.access) entries
-
 -- after these entries; where none is that of a release, None
 abbrev pub freed_in : List Entry → Option Freed
-freed_in entries = freed_from None entries
+freed_in entries = fold (λ before (e : Entry). freed_after before e.access) None entries

@@ -1,5 +1,6 @@
 -- How a pass of locks stands after one entry more.
 use Rattle.std.proofs.Common.{◌≡◌, ◌≢◌, ℕ, zero, suc, Bool, true, false, ◌&&◌, MatchBool, MatchOption, List, [], ◌∷◌, ◌++◌, Option, Some, None, refl, sym, ap, subst, ◌∙◌}
+use Rattle.std.proofs.lemmas.List.Sums.{fold-append}
 use Rattle.lot_core.specs.declared.events.Event.TheVariants.{Try, Take, Mark, Park, Free, Pass as Passes}
 use Rattle.lot_core.specs.declared.events.Seen.TheVariants.{Bool as Saw, Done, Sleeper}
 use Rattle.lot_rights.specs.declared.views.Access.{Access}
@@ -12,25 +13,21 @@ use Rattle.lot_words.specs.Values.{IsIn}
 use Rattle.lot_words.specs.Calls.{gripped, wishing, sleeping, woken, let_go, found_parked, parked_pass, GetsBy, FoundNone, Collected}
 use Rattle.lot_sync.specs.declared.released.Released.{Released}
 use Rattle.lot_sync.specs.declared.released.Released.TheVariants.{Quiet}
-use Rattle.lot_sync.specs.Released.{decision, released_after, released_from, released_in}
+use Rattle.lot_sync.specs.Released.{decision, released_after, released_in}
 use Rattle.lot_sync.specs.Passes.{Standing, standing, Wants, IsTryingFor, IsAsleepFor, IsFoundParked, LetsGo, IsOwner, IsLooked}
-
--- the last entry is read last
-released_pushed : (before : Option Released) (entries : List Entry) (e : Entry) → released_from before (entries ++ e ∷ []) ≡ released_after (released_from before entries) e.access
-released_pushed before [] e = refl
-released_pushed before (d ∷ entries) e = released_pushed (released_after before d.access) entries e
 
 module _ {V : Type 0} where
   -- a pass that knows this now, with this one entry more
   pub noted : (p : PassView (LockPassView V)) (own : LockPassView V) (a : Access) (q : PassView (LockPassView V)) → Notes p own a q
       → standing q ≡ record { thread = p.thread; own = own; released = released_after (released_in p.made) a }
-  noted p own a q (k, is) = ap standing is ∙ ap (λ r. record { thread = p.thread; own = own; released = r }) (released_pushed None p.made (record { at = k; access = a }))
+  noted p own a q (k, is) = ap standing is ∙ ap (λ r. record { thread = p.thread; own = own; released = r }) 
+      (fold-append (λ before (e : Entry). released_after before e.access) None p.made (record { at = k; access = a } ∷ []))
 
   -- ---- the line
   wishes : (p q : PassView (LockPassView V)) (key : ℕ) (own : LockPassView V) → p.own.asleep ≡ false → own ≡ wishing p.own key → standing q ≡ record (standing p) { own = own }
       → IsTryingFor (standing p) key (standing q)
   wishes p q key own awake wants is = subst (IsTryingFor (standing p) key) (sym (is ∙ ap (λ o. record (standing p) { own = o }) wants))
-      (record { thread = refl; holds = refl; aims = refl; awake = awake; places = refl; seen = refl; released = refl })
+      (record { thread = refl; holds = refl; aims = refl; asleep = awake; places = refl; seen = refl; released = refl })
 
   pub marked : (p : PassView (LockPassView V)) (key : ℕ) (does : Bool) (q : PassView (LockPassView V))
       → MatchBool does (Notes p p.own (Makes (Mark p.thread key) Done) q) ((word : ℕ) × (word ≢ 1) × Notes p p.own (Finds p.thread key word) q) → standing q ≡ standing p
@@ -44,7 +41,7 @@ module _ {V : Type 0} where
       (record { thread = refl; holds = refl; aims = aims; asleep = refl; places = refl; seen = refl; released = refl })
   queued p q before after key false is_p is_q (aims, awake) note = subst (IsTryingFor before key)
       (sym (is_q ∙ (noted p p.own (Makes (Park p.thread key) (Saw false)) q note ∙ sym is_p)))
-      (record { thread = refl; holds = refl; aims = aims; awake = awake; places = refl; seen = refl; released = refl })
+      (record { thread = refl; holds = refl; aims = aims; asleep = awake; places = refl; seen = refl; released = refl })
 
   -- ---- releases
   leaves : (p q : PassView (LockPassView V)) (key : ℕ) (a : Access) (became : Released) → ((y : V) × IsIn p.own key y)

@@ -35,7 +35,7 @@ module _ {V Part : Type 0} (keeps : ℕ → V → Type 0) (grows : V → V → T
     thread = ap (λ (r : Standing V). r.thread) is ∙ s.thread;
     holds = ap (λ (r : Standing V). r.own.holds) is ∙ s.holds;
     aims = ap (λ (r : Standing V). r.own.aim) is ∙ s.aims;
-    awake = ap (λ (r : Standing V). r.own.asleep) is;
+    asleep = ap (λ (r : Standing V). r.own.asleep) is;
     places = ap (λ (r : Standing V). r.own.places) is ∙ s.places;
     seen = ap (λ (r : Standing V). r.own.seen) is ∙ s.seen;
     released = ap (λ (r : Standing V). r.released) is ∙ s.released;

@@ -131,35 +131,27 @@ module _ {V : Type 0} where
   abbrev pub MayPass : Standing V → ℕ → Type 0
   MayPass r key = (r.own.aim ≡ None) × (r.own.asleep ≡ false) × HoldsParked r.own key × ((y : V) × IsIn r.own key y)
 
-  -- the pass before, but for the lock that it wants
-  pub record IsTryingFor (before : Standing V) (key : ℕ) (now : Standing V) : Type 0 where
+  -- the pass before, but for what it wants and whether it sleeps
+  pub record IsAsBefore (wants : Option ℕ → Type 0) (sleeps : Bool) (before now : Standing V) : Type 0 where
     pub thread : now.thread ≡ before.thread
     pub holds : now.own.holds ≡ before.own.holds
-    pub aims : now.own.aim ≡ Some key
-    pub awake : now.own.asleep ≡ false
+    pub aims : wants now.own.aim
+    pub asleep : now.own.asleep ≡ sleeps
     pub places : now.own.places ≡ before.own.places
     pub seen : now.own.seen ≡ before.own.seen
     pub released : now.released ≡ before.released
 
-  -- the pass before, which wants the lock or none
-  pub record IsAwakeFor (before : Standing V) (key : ℕ) (now : Standing V) : Type 0 where
-    pub thread : now.thread ≡ before.thread
-    pub holds : now.own.holds ≡ before.own.holds
-    pub aims : Aims now.own key
-    pub awake : now.own.asleep ≡ false
-    pub places : now.own.places ≡ before.own.places
-    pub seen : now.own.seen ≡ before.own.seen
-    pub released : now.released ≡ before.released
+  -- the pass before, which wants the lock and is in no line
+  abbrev pub IsTryingFor : Standing V → ℕ → Standing V → Type 0
+  IsTryingFor before key now = IsAsBefore (λ aim. aim ≡ Some key) false before now
 
-  -- the same, queued in the line of the lock that it wants
-  pub record IsAsleepFor (before : Standing V) (key : ℕ) (now : Standing V) : Type 0 where
-    pub thread : now.thread ≡ before.thread
-    pub holds : now.own.holds ≡ before.own.holds
-    pub aims : now.own.aim ≡ Some key
-    pub asleep : now.own.asleep ≡ true
-    pub places : now.own.places ≡ before.own.places
-    pub seen : now.own.seen ≡ before.own.seen
-    pub released : now.released ≡ before.released
+  -- the pass before, which is in no line, and wants the lock or none
+  abbrev pub IsAwakeFor : Standing V → ℕ → Standing V → Type 0
+  IsAwakeFor before key now = IsAsBefore (λ aim. (k : ℕ) → aim ≡ Some k → k ≡ key) false before now
+
+  -- the pass before, queued in the line of the lock that it wants
+  abbrev pub IsAsleepFor : Standing V → ℕ → Standing V → Type 0
+  IsAsleepFor before key now = IsAsBefore (λ aim. aim ≡ Some key) true before now
 
   -- the lock was found parked, and is still held
   pub record IsFoundParked (before : Standing V) (key : ℕ) (now : Standing V) : Type 0 where

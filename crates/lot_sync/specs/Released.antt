@@ -1,6 +1,7 @@
 -- What an unlock may answer, and what its answer comes from; and how the last one of a thread ended, as the entries tell that were made with
 -- its pass.
-use Rattle.std.specs.Prelude.{◌≡◌, ℕ, ◌<◌, Bool, true, false, List, [], ◌∷◌, Option, Some, None}
+use Rattle.std.specs.Prelude.{◌≡◌, ℕ, ◌<◌, Bool, true, false, List, Option, Some, None}
+use Rattle.std.specs.List.{fold}
 use Rattle.lot_core.specs.declared.events.Event.TheVariants.{Free, Pass as Passes}
 use Rattle.lot_core.specs.declared.events.Seen.TheVariants.{Bool as Saw, Sleeper}
 use Rattle.lot_rights.specs.declared.views.Access.{Access}
@@ -38,10 +39,6 @@ released_after before (Makes (Free t l) (Saw true)) = Some Quiet
 released_after before (Makes (Passes t l fair more) (Sleeper first)) = Some (decision first fair)
 released_after before _ = before
 
-abbrev pub released_from : Option Released → List Entry → Option Released
-released_from before [] = before
-released_from before (e ∷ entries) = released_from (released_after before e.access) entries
-
 -- after these entries; where none is that of an unlock, None
 abbrev pub released_in : List Entry → Option Released
-released_in entries = released_from None entries
+released_in entries = fold (λ before (e : Entry). released_after before e.access) None entries

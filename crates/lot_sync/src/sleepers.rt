@@ -478,6 +478,7 @@ fn seek_again<N: LotName<Count> + Send + Sync, T: Wait + Abort>(
 }
 
 /// It marks the lock as parked.
+#[tactic(auto, using(crate::proofs::Noted::marked))]
 fn mark<N: LotName<Count> + Send + Sync, T: Wait + Abort>(
     rt: &T,
     lot: &Lot<Count, N>,

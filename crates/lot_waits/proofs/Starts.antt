@@ -32,7 +32,8 @@ kept_of_none locks conds q called woken c w kc kw = record {
   woken_are = kw ∙ (sym (kept_zeros locks conds) ∙ ap (kept locks) (sym w));
 }
 
-module _ (threads locks conds : ℕ) (words : CondWordsShown) (passes : List (PassShown CondPassView)) (roots : List (RootShown CondRootView)) (opened : AreOpened threads locks conds words passes roots) where
+module _ (threads locks conds : ℕ) (words : CondWordsShown) (passes : List (PassShown CondPassView)) (roots : List (RootShown CondRootView))
+    (opened : AreOpened threads locks conds words passes roots) where
   abbrev pass_of : ℕ → PassShown CondPassView
   pass_of t = pass_at (scheme words.size) words.table t
 

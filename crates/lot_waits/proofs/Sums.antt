@@ -41,7 +41,8 @@ sum_turned f [] = refl
 sum_turned f (x ∷ xs) =
     ap (sum_by f) (reverse-append (x ∷ []) xs) ∙ (sum_by_push f (reverse xs) x ∙ omega (arith, sum_turned f xs, sum_by-cons f x xs))
 
-pub sums_turned : (locks conds : ℕ) (count_at : ℕ → CountsView → ℕ) (waiters : List CountsView) (sums : List ℕ) → AreSums locks conds count_at waiters sums → AreSums locks conds count_at (reverse waiters) sums
+pub sums_turned : (locks conds : ℕ) (count_at : ℕ → CountsView → ℕ) (waiters : List CountsView) (sums : List ℕ)
+    → AreSums locks conds count_at waiters sums → AreSums locks conds count_at (reverse waiters) sums
 sums_turned locks conds count_at waiters sums are = record {
   long = are.long;
   each = λ i near. are.each i near ∙ ap wrap (sym (sum_turned (count_at (locks + i)) waiters));

@@ -27,18 +27,19 @@ loop-waiter-preserved g c =
           (c.into_pass.ensures.named, ap (λ (r : CondStanding). r.own.out) (sym c.into_pass.ensures.same) ∙ c.apart-right.ensures.calm.0));
       moved = ap (λ qs. left ++ reverse qs) gathered ∙ moves_on c.loop-waiter.waiters.items left c.in-Some.waiter before c.args.waiters.items c.in-Some.ensures.items inv.moved;
       called = subst (λ qs. AreSums g.N.WaitName.locks g.N.WaitName.conds called_at qs c.add.new.numbers.items) (sym gathered)
-          (sums_pushed g.N.WaitName.locks g.N.WaitName.conds called_at before c.in-Some.waiter c.in-Some.waiter.called c.loop-waiter.sums.called.items c.into_inner-tallies.result.called.items c.add.new.numbers.items
-          (λ i. refl) kept.called_are inv.called c.add.ensures);
+          (sums_pushed g.N.WaitName.locks g.N.WaitName.conds called_at before c.in-Some.waiter c.in-Some.waiter.called c.loop-waiter.sums.called.items c.into_inner-tallies.result.called.items
+          c.add.new.numbers.items (λ i. refl) kept.called_are inv.called c.add.ensures);
       woken = subst (λ qs. AreSums g.N.WaitName.locks g.N.WaitName.conds woken_at qs c.add-in-Some.new.numbers.items) (sym gathered)
-          (sums_pushed g.N.WaitName.locks g.N.WaitName.conds woken_at before c.in-Some.waiter c.in-Some.waiter.woken c.loop-waiter.sums.woken.items c.into_inner-tallies.result.woken.items c.add-in-Some.new.numbers.items
-          (λ i. refl) kept.woken_are inv.woken c.add-in-Some.ensures);
+          (sums_pushed g.N.WaitName.locks g.N.WaitName.conds woken_at before c.in-Some.waiter c.in-Some.waiter.woken c.loop-waiter.sums.woken.items c.into_inner-tallies.result.woken.items
+          c.add-in-Some.new.numbers.items (λ i. refl) kept.woken_are inv.woken c.add-in-Some.ensures);
       count = omega (arith, c.in-Some.ensures.len, c.push_reserved.ensures.len, inv.count);
       fits = omega (arith, c.push_reserved.ensures.capacity, inv.fits);
     }
 
 pub returns-clause-same : goal.returns-clause-same
 returns-clause-same g c =
-    let none : c.loop-waiter.waiters.items ≡ [] = no_elements c.loop-waiter.waiters.items (let n : length c.loop-waiter.waiters.items ≡ vec_len c.loop-waiter.waiters = search rules in n ∙ c.in_default.ensures.cases.0) in
+    let none : c.loop-waiter.waiters.items ≡ [] = no_elements c.loop-waiter.waiters.items
+    (let n : length c.loop-waiter.waiters.items ≡ vec_len c.loop-waiter.waiters = search rules in n ∙ c.in_default.ensures.cases.0) in
     ap (map shown_counts) c.reverse.ensures.items
     ∙ (map_turned shown_counts c.loop-waiter.passes.items ∙ subst (λ qs. qs ++ reverse (map shown_counts c.loop-waiter.passes.items) ≡ c.args.waiters.items) none c.loop-waiter.invariant.moved)
 
@@ -48,14 +49,16 @@ returns-clause-own g c =
 
 pub returns-clause-called : goal.returns-clause-called
 returns-clause-called g c =
-    let none : c.loop-waiter.waiters.items ≡ [] = no_elements c.loop-waiter.waiters.items (let n : length c.loop-waiter.waiters.items ≡ vec_len c.loop-waiter.waiters = search rules in n ∙ c.in_default.ensures.cases.0) in
+    let none : c.loop-waiter.waiters.items ≡ [] = no_elements c.loop-waiter.waiters.items
+    (let n : length c.loop-waiter.waiters.items ≡ vec_len c.loop-waiter.waiters = search rules in n ∙ c.in_default.ensures.cases.0) in
     subst (λ qs. AreSums g.N.WaitName.locks g.N.WaitName.conds called_at qs c.loop-waiter.sums.called.items)
     (subst (λ qs. qs ++ reverse (map shown_counts c.loop-waiter.passes.items) ≡ c.args.waiters.items) none c.loop-waiter.invariant.moved)
     (sums_turned g.N.WaitName.locks g.N.WaitName.conds called_at (map shown_counts c.loop-waiter.passes.items) c.loop-waiter.sums.called.items c.loop-waiter.invariant.called)
 
 pub returns-clause-woken : goal.returns-clause-woken
 returns-clause-woken g c =
-    let none : c.loop-waiter.waiters.items ≡ [] = no_elements c.loop-waiter.waiters.items (let n : length c.loop-waiter.waiters.items ≡ vec_len c.loop-waiter.waiters = search rules in n ∙ c.in_default.ensures.cases.0) in
+    let none : c.loop-waiter.waiters.items ≡ [] = no_elements c.loop-waiter.waiters.items
+    (let n : length c.loop-waiter.waiters.items ≡ vec_len c.loop-waiter.waiters = search rules in n ∙ c.in_default.ensures.cases.0) in
     subst (λ qs. AreSums g.N.WaitName.locks g.N.WaitName.conds woken_at qs c.loop-waiter.sums.woken.items)
     (subst (λ qs. qs ++ reverse (map shown_counts c.loop-waiter.passes.items) ≡ c.args.waiters.items) none c.loop-waiter.invariant.moved)
     (sums_turned g.N.WaitName.locks g.N.WaitName.conds woken_at (map shown_counts c.loop-waiter.passes.items) c.loop-waiter.sums.woken.items c.loop-waiter.invariant.woken)

@@ -11,8 +11,10 @@ use Rattle.lot_waits.proofs.opening.name_passes.Goals as goal
 
 pub new-requires-clause-kept : goal.new-requires-clause-kept
 new-requires-clause-kept g c =
-    let new = (all_popped (IsNewPass g.N.Name.opening.conds (g.N.WaitName.locks + g.N.WaitName.conds)) c.loop-pass.passes.items c.pop.new.self.items c.in-Some.pass c.in-Some.ensures.items c.loop-pass.invariant.new).1 in
-    let zeros = (all_popped (λ t. AreZeros g.N.WaitName.conds t.value) c.loop-pass.tallies.items c.take_last.new.self.items c.take_last.result c.take_last.ensures.items c.loop-pass.invariant.zeros).1 in
+    let new = (all_popped (IsNewPass g.N.Name.opening.conds (g.N.WaitName.locks + g.N.WaitName.conds)) c.loop-pass.passes.items c.pop.new.self.items c.in-Some.pass
+    c.in-Some.ensures.items c.loop-pass.invariant.new).1 in
+    let zeros = (all_popped (λ t. AreZeros g.N.WaitName.conds t.value) c.loop-pass.tallies.items c.take_last.new.self.items c.take_last.result
+    c.take_last.ensures.items c.loop-pass.invariant.zeros).1 in
     kept_of_none g.N.WaitName.locks g.N.WaitName.conds (counts_in c.new-right.result) c.take_last.result.value.called.items c.take_last.result.value.woken.items
     (ap (λ (r : CondStanding). r.own.called) c.new-right.ensures ∙ new.called) (ap (λ (r : CondStanding). r.own.woken) c.new-right.ensures ∙ new.woken) zeros.0 zeros.1
 

@@ -13,4 +13,5 @@ pub returns : goal.returns
 returns g c =
     owns_none_again c.args.pass c.lock-pass.result.0 c.unlock-pass.result.0 _ c.lock-pass.result.1.value c.add_one-called.new.held.value c.unlock-pass.result.1
     c.requires.free c.lock-pass.ensures.gets.after_is
-    (c.unlock-pass.ensures.pass ∙ ap (λ k. leaving c.lock-pass.result.0 k c.add_one-called.new.held.value c.unlock-pass.result.1) (c.add_one-called.ensures.works.key_same ∙ c.lock-pass.ensures.gets.key_is))
+    (c.unlock-pass.ensures.pass ∙ ap (λ k. leaving c.lock-pass.result.0 k c.add_one-called.new.held.value c.unlock-pass.result.1)
+    (c.add_one-called.ensures.works.key_same ∙ c.lock-pass.ensures.gets.key_is))

@@ -24,11 +24,14 @@ pub at_rest-requires-else-freed-clause-rest : goal.at_rest-requires-else-freed-c
 at_rest-requires-else-freed-clause-rest g c κs within =
     let b = c.given_back-right.ensures in
     rests_free g.V.Keeps.grows g.N.LotName.values g.N.LotName.threads g.V.Keeps.grows_on c.given_back-right.result.0 c.unpark_asking-right.result.0 c.key-key.result c.args.held.value
-    c.unpark_asking-right.result.1 b.locks b.owner b.lies b.grown ((rw c.if-freed.false at c.free-right.ensures).1 c.unpark_asking-right.result.1 c.unpark_asking-right.result.0 c.unpark_asking-right.ensures.went)
+    c.unpark_asking-right.result.1 b.locks b.owner b.lies b.grown
+    ((rw c.if-freed.false at c.free-right.ensures).1 c.unpark_asking-right.result.1 c.unpark_asking-right.result.0 c.unpark_asking-right.ensures.went)
 
 pub at_rest-requires-else-freed-clause-own : goal.at_rest-requires-else-freed-clause-own
 at_rest-requires-else-freed-clause-own g c κs within =
-    own_on _ _ c.given_back-right.result.1 ((rw c.if-freed.false at c.free-right.ensures).1 c.unpark_asking-right.result.1 c.unpark_asking-right.result.0 c.unpark_asking-right.ensures.went).thread c.given_back-right.ensures.own
+    own_on _ _ c.given_back-right.result.1
+    ((rw c.if-freed.false at c.free-right.ensures).1 c.unpark_asking-right.result.1 c.unpark_asking-right.result.0 c.unpark_asking-right.ensures.went).thread
+    c.given_back-right.ensures.own
 
 pub returns-else-freed-clause-pass : goal.returns-else-freed-clause-pass
 returns-else-freed-clause-pass g c =

@@ -13,12 +13,14 @@ pub returns-clause-free : goal.returns-clause-free
 returns-clause-free g c =
     owns_none_again c.args.pass c.lock-pass.result.0 c.unlock-pass.result.0 0 c.lock-pass.result.1.value c.add_one-called.new.held.value c.unlock-pass.result.1
     c.requires.free c.lock-pass.ensures.gets.after_is
-    (c.unlock-pass.ensures.pass ∙ ap (λ k. leaving c.lock-pass.result.0 k c.add_one-called.new.held.value c.unlock-pass.result.1) (c.add_one-called.ensures.works.key_same ∙ c.lock-pass.ensures.gets.key_is))
+    (c.unlock-pass.ensures.pass ∙ ap (λ k. leaving c.lock-pass.result.0 k c.add_one-called.new.held.value c.unlock-pass.result.1)
+    (c.add_one-called.ensures.works.key_same ∙ c.lock-pass.ensures.gets.key_is))
 
 pub returns-clause-there : goal.returns-clause-there
 returns-clause-there g c = λ seen now had has.
     let left = seen_left c.lock-pass.result.0 c.unlock-pass.result.0 0 c.add_one-called.new.held.value now c.unlock-pass.result.1
-    (c.unlock-pass.ensures.pass ∙ ap (λ k. leaving c.lock-pass.result.0 k c.add_one-called.new.held.value c.unlock-pass.result.1) (c.add_one-called.ensures.works.key_same ∙ c.lock-pass.ensures.gets.key_is)) has in
+    (c.unlock-pass.ensures.pass ∙ ap (λ k. leaving c.lock-pass.result.0 k c.add_one-called.new.held.value c.unlock-pass.result.1)
+    (c.add_one-called.ensures.works.key_same ∙ c.lock-pass.ensures.gets.key_is)) has in
     let counted = rw c.if-called.true at c.add_one-called.ensures.counted in
     record {
       found = c.lock-pass.result.1.value;
