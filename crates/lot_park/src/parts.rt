@@ -151,15 +151,7 @@ fn call_back_count<
 }
 
 /// `ParkingLot::park_conditionally` on a key of one table, by a pass of that table.
-pub fn park_on<
-    S: Scheme,
-    A: Scheme,
-    P: Part<S, A>,
-    W: Wait,
-    X,
-    V: FnOnce(X, A::Pass, A::Root) -> (X, A::Pass, A::Root, bool),
-    B: FnOnce(X) -> X,
->(
+pub fn park_on<S: Scheme, A: Scheme, P: Part<S, A>, W: Wait, X, V, B: FnOnce(X) -> X>(
     rt: &W,
     parking: &ParkingLot<S>,
     pass: A::Pass,
@@ -168,6 +160,8 @@ pub fn park_on<
     validate: V,
     before_sleep: B,
 ) -> (A::Pass, X, Parked)
+where
+    V: FnOnce(X, A::Pass, A::Root) -> (X, A::Pass, A::Root, bool),
     requires key { key < parking.now.keys }
     requires serves { P.serves key }
     requires thread { A.thread pass < parking.now.threads }

@@ -86,15 +86,7 @@ impl<V: Keeps + Send, N: LotName<V> + Send> Lot<V, N> {
 
 /// Waits on the condition, and lets the lock go between the queueing and the sleep, after the given action. Written for every scheme of locks, since the
 /// passes of a kind of table can't be named in a closure's signature.
-fn sleep_on<
-    S: Scheme,
-    N: WaitName + Send,
-    C: Part<S, CondScheme<N>>,
-    A: LockSteps,
-    L: Part<S, A>,
-    R: Wait,
-    B: BeforeSleep,
->(
+fn sleep_on<S: Scheme, N: WaitName + Send, C, A: LockSteps, L, R: Wait, B: BeforeSleep>(
     rt: &R,
     parking: &ParkingLot<S>,
     conds: &CondScheme<N>,
@@ -106,6 +98,9 @@ fn sleep_on<
     moment: Moment,
     before: &B,
 ) -> (Waiter<N>, A::Pass)
+where
+    C: Part<S, CondScheme<N>>,
+    L: Part<S, A>,
     requires cond { IsAmongConds N.locks N.conds cond × (cond < parking.now.keys) × C.serves cond }
     requires thread { waiter.thread < parking.now.threads }
     requires key { (key < parking.now.keys) × L.serves key × A.has locks.now key }

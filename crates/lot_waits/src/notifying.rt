@@ -15,6 +15,9 @@ use std::sync::Wait;
 /// The token of all letters of conditions.
 const TAKEN: Token = Token(0);
 
+/// What the callback of a notification hands back.
+type Called<N> = (NamedCond<N>, CondKeyRoot<N>, Token);
+
 /// Whether threads may wait on the condition, by one load of its flag.
 #[inline(always)]
 pub(crate) fn look<N: WaitName>(
@@ -56,11 +59,7 @@ pub(crate) fn call_one<S: Scheme, N: WaitName + Send, P: Part<S, CondScheme<N>>,
         cond,
         moment,
         pass,
-        |pass: NamedCond<N>, root: CondKeyRoot<N>, told: UnparkResult| -> (
-            NamedCond<N>,
-            CondKeyRoot<N>,
-            Token,
-        )
+        |pass: NamedCond<N>, root: CondKeyRoot<N>, told: UnparkResult| -> Called<N>
             requires calm { IsCalmStanding pass }
             requires told { (now : ℕ) × Tells root.root.own.line now told }
             ensures pass { result.0 ≡ calling pass root.root.key (one_of told.thread) }

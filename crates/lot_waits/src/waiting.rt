@@ -14,14 +14,7 @@ use std::sync::Wait;
 /// it before it sleeps, it does not sleep.
 ///
 /// The action runs with no bucket locked: a wait lets its lock go there.
-pub(crate) fn sleep_on<
-    S: Scheme,
-    N: WaitName + Send,
-    P: Part<S, CondScheme<N>>,
-    R: Wait,
-    X,
-    B: FnOnce(X) -> X,
->(
+pub(crate) fn sleep_on<S: Scheme, N: WaitName + Send, P, R: Wait, X, B: FnOnce(X) -> X>(
     rt: &R,
     parking: &ParkingLot<S>,
     scheme: &CondScheme<N>,
@@ -30,6 +23,8 @@ pub(crate) fn sleep_on<
     x: X,
     before: B,
 ) -> (NamedCond<N>, X)
+where
+    P: Part<S, CondScheme<N>>,
     requires cond { IsAmongConds N.locks N.conds cond }
     requires key { cond < parking.now.keys }
     requires serves { P.serves cond }

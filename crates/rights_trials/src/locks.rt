@@ -45,22 +45,57 @@ fn try_take(words: &LockWords<Tally>, pass: LockPass<Tally>, key: usize) -> (Loc
     words.try_take(pass, key)
 }
 
-// Adds one to the value, and answers what it was.
+// The lock is free, and is got.
+fn get(
+    rt: &impl Abort,
+    words: &LockWords<Tally>,
+    pass: LockPass<Tally>,
+    key: usize,
+) -> LockPass<Tally>
+    requires size { (words.now.size.locks ≡ 2) × (key < 2) }
+    requires pass { IsPass words.now.table pass.pass.thread pass × IsCalm pass.pass.own }
+    ensures pass { IsPass words.now.table pass.pass.thread result × Owns result.pass.own key }
+    ensures holds { result.pass.own.holds ≡ slice_set pass.pass.own.holds key Held }
+{
+    let (pass, got) = take(words, pass, key);
+    assert!(rt; got);
+    pass
+}
+
+// The lock is held, and is wanted from now on.
+fn want(
+    rt: &impl Abort,
+    words: &LockWords<Tally>,
+    pass: LockPass<Tally>,
+    key: usize,
+) -> LockPass<Tally>
+    requires size { (words.now.size.locks ≡ 2) × (key < 2) }
+    requires pass { IsPass words.now.table pass.pass.thread pass × IsCalm pass.pass.own }
+    ensures pass { IsPass words.now.table pass.pass.thread result × Wants result.pass.own key }
+    ensures holds { result.pass.own.holds ≡ pass.pass.own.holds }
+{
+    let (pass, got) = take(words, pass, key);
+    assert!(rt; !got);
+    pass
+}
+
+// Finds this in the lock, and adds one.
 fn count(
     rt: &impl Abort,
     words: &LockWords<Tally>,
     pass: LockPass<Tally>,
     key: usize,
-) -> (LockPass<Tally>, u64)
+    found: u64,
+) -> LockPass<Tally>
+    requires found { found < 1000 }
     requires size { (words.now.size.locks ≡ 2) × (key < 2) }
     requires pass { IsPass words.now.table pass.pass.thread pass × Owns pass.pass.own key }
-    ensures pass { IsPass words.now.table pass.pass.thread result.0 × MayFree result.0.pass.own key }
-    ensures holds { result.0.pass.own.holds ≡ pass.pass.own.holds }
+    ensures pass { IsPass words.now.table pass.pass.thread result × MayFree result.pass.own key }
+    ensures holds { result.pass.own.holds ≡ pass.pass.own.holds }
 {
     let (pass, tally) = words.value_out(pass, key);
-    let total = tally.total;
-    assert!(rt; total < 1000);
-    (words.value_in(pass, key, Tally { total: total + 1 }), total)
+    assert_eq!(rt; tally.total, found);
+    words.value_in(pass, key, Tally { total: found + 1 })
 }
 
 fn free(words: &LockWords<Tally>, pass: LockPass<Tally>, key: usize) -> (LockPass<Tally>, bool)
@@ -71,6 +106,62 @@ fn free(words: &LockWords<Tally>, pass: LockPass<Tally>, key: usize) -> (LockPas
     ensures holds { MatchBool result.1 (result.0.pass.own.holds ≡ slice_set pass.pass.own.holds key NotHeld) (result.0.pass.own.holds ≡ slice_set pass.pass.own.holds key FoundParked) }
 {
     words.free(pass, key)
+}
+
+// Lets the lock go, which nobody has marked as parked.
+fn let_go(
+    rt: &impl Abort,
+    words: &LockWords<Tally>,
+    pass: LockPass<Tally>,
+    key: usize,
+) -> LockPass<Tally>
+    requires size { (words.now.size.locks ≡ 2) × (key < 2) }
+    requires pass { IsPass words.now.table pass.pass.thread pass × MayFree pass.pass.own key }
+    ensures pass { IsPass words.now.table pass.pass.thread result × IsCalm result.pass.own }
+    ensures holds { result.pass.own.holds ≡ slice_set pass.pass.own.holds key NotHeld }
+{
+    let (pass, freed) = free(words, pass, key);
+    assert!(rt; freed);
+    pass
+}
+
+// Finds the lock parked, which it would let go.
+fn find_parked(
+    rt: &impl Abort,
+    words: &LockWords<Tally>,
+    pass: LockPass<Tally>,
+    key: usize,
+) -> LockPass<Tally>
+    requires size { (words.now.size.locks ≡ 2) × (key < 2) }
+    requires pass { IsPass words.now.table pass.pass.thread pass × MayFree pass.pass.own key }
+    ensures pass { IsPass words.now.table pass.pass.thread result × MayPass result.pass.own key }
+    ensures holds { result.pass.own.holds ≡ slice_set pass.pass.own.holds key FoundParked }
+{
+    let (pass, freed) = free(words, pass, key);
+    assert!(rt; !freed);
+    pass
+}
+
+// Marks the held lock as parked, and goes into its line, which is empty.
+fn lie_down(
+    rt: &impl Abort,
+    words: &LockWords<Tally>,
+    pass: LockPass<Tally>,
+    root: LockRoot<Tally>,
+    key: usize,
+) -> (LockPass<Tally>, LockRoot<Tally>)
+    requires size { (words.now.size.locks ≡ 2) × (key < 2) }
+    requires pass { IsPass words.now.table pass.pass.thread pass × Wants pass.pass.own key }
+    requires root { IsRoot words.now.table key [] root }
+    ensures pass { IsPass words.now.table pass.pass.thread result.0 × Sleeps result.0.pass.own key }
+    ensures holds { result.0.pass.own.holds ≡ pass.pass.own.holds }
+    ensures root { IsRoot words.now.table key (pass.pass.thread ∷ []) result.1 }
+{
+    let (pass, marked) = words.mark(pass, key);
+    assert!(rt; marked);
+    let (pass, root, queued) = words.park(pass, root);
+    assert!(rt; queued);
+    (pass, root)
 }
 
 // Passes the lock on, where at most one is in the line.
@@ -124,34 +215,25 @@ fn hand_over(
     ensures root { (result.2.table ≡ words.now.table) × (result.2.root.key ≡ 0) }
 {
     assert_eq!(rt; words.bits(0), 0);
-    let (zero, got) = take(words, zero, 0);
-    assert!(rt; got);
+    let zero = get(rt, words, zero, 0);
     assert_eq!(rt; words.bits(0), 1);
-    let (zero, total) = count(rt, words, zero, 0);
-    assert_eq!(rt; total, 7);
+    let zero = count(rt, words, zero, 0, 7);
     let (one, got) = try_take(words, one, 0);
     assert!(rt; !got);
-    let (one, got) = take(words, one, 0);
-    assert!(rt; !got);
+    let one = want(rt, words, one, 0);
     assert_eq!(rt; words.bits(0), 1);
-    let (one, marked) = words.mark(one, 0);
-    assert!(rt; marked);
+    let (one, root) = lie_down(rt, words, one, root, 0);
     assert_eq!(rt; words.bits(0), 3);
-    let (one, root, queued) = words.park(one, root);
-    assert!(rt; queued);
     let (one, letter) = collect(words, one, 0);
     assert_eq!(rt; letter, None);
-    let (zero, freed) = free(words, zero, 0);
-    assert!(rt; !freed);
+    let zero = find_parked(rt, words, zero, 0);
     let (zero, root) = pass_on(words, zero, root, Some(1), true);
     assert_eq!(rt; words.bits(0), 3);
     let root = words.post(root, 1, 1);
     let (one, letter) = collect(words, one, 0);
     assert_eq!(rt; letter, Some(1));
-    let (one, total) = count(rt, words, one, 0);
-    assert_eq!(rt; total, 8);
-    let (one, freed) = free(words, one, 0);
-    assert!(rt; !freed);
+    let one = count(rt, words, one, 0, 8);
+    let one = find_parked(rt, words, one, 0);
     let (one, root) = pass_on(words, one, root, None, false);
     assert_eq!(rt; words.bits(0), 0);
     (zero, one, root)
@@ -176,27 +258,19 @@ fn barge_in(
 {
     let (zero, got) = try_take(words, zero, 1);
     assert!(rt; got);
-    let (zero, total) = count(rt, words, zero, 1);
-    assert_eq!(rt; total, 40);
-    let (one, got) = take(words, one, 1);
-    assert!(rt; !got);
-    let (one, marked) = words.mark(one, 1);
-    assert!(rt; marked);
-    let (one, root, queued) = words.park(one, root);
-    assert!(rt; queued);
-    let (zero, freed) = free(words, zero, 1);
-    assert!(rt; !freed);
+    let zero = count(rt, words, zero, 1, 40);
+    let one = want(rt, words, one, 1);
+    let (one, root) = lie_down(rt, words, one, root, 1);
+    let zero = find_parked(rt, words, zero, 1);
     let (zero, root) = pass_on(words, zero, root, Some(1), false);
     assert_eq!(rt; words.bits(1), 0);
-    let (zero, got) = take(words, zero, 1);
-    assert!(rt; got);
+    let zero = get(rt, words, zero, 1);
     let root = words.post(root, 1, 0);
     let (one, letter) = collect(words, one, 1);
     assert_eq!(rt; letter, Some(0));
     let (one, got) = take_again(words, one, 1);
     assert!(rt; !got);
-    let (zero, freed) = free(words, zero, 1);
-    assert!(rt; freed);
+    let zero = let_go(rt, words, zero, 1);
     assert_eq!(rt; words.bits(1), 0);
     let (one, marked) = words.mark(one, 1);
     assert!(rt; !marked);
@@ -204,8 +278,7 @@ fn barge_in(
     assert!(rt; !queued);
     let (one, got) = take_again(words, one, 1);
     assert!(rt; got);
-    let (one, freed) = free(words, one, 1);
-    assert!(rt; freed);
+    let one = let_go(rt, words, one, 1);
     (zero, one, root)
 }
 

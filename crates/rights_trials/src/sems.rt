@@ -41,6 +41,27 @@ fn give(rt: &impl Abort, words: &SemWords, pass: SemPass) -> SemPass
     pass
 }
 
+// Marks the semaphore as parked.
+fn mark(rt: &impl Abort, words: &SemWords, pass: SemPass) -> SemPass
+    requires size { IsOne words.now.size }
+    requires pass { Seeks words.now.table pass.pass.thread pass }
+    ensures { Seeks words.now.table pass.pass.thread result }
+{
+    let (pass, marked) = words.mark(pass, 1);
+    assert!(rt; marked);
+    pass
+}
+
+// Looks for a letter where none lies.
+fn look_in_vain(rt: &impl Abort, words: &SemWords, pass: SemPass) -> SemPass
+    requires { Sleeps words.now.table pass.pass.thread pass }
+    ensures { Sleeps words.now.table pass.pass.thread result }
+{
+    let (pass, letter) = words.collect(pass);
+    assert_eq!(rt; letter, None);
+    pass
+}
+
 // Queues the thread, where no permit is left.
 fn lie_down(rt: &impl Abort, words: &SemWords, pass: SemPass, root: SemRoot) -> (SemPass, SemRoot)
     requires size { IsOne words.now.size }
@@ -87,16 +108,14 @@ fn one_permit(
     let zero = get(rt, words, zero);
     let one = seek(rt, words, one);
     assert_eq!(rt; words.bits(1), 0);
-    let (one, marked) = words.mark(one, 1);
-    assert!(rt; marked);
+    let one = mark(rt, words, one);
     let (one, root) = lie_down(rt, words, one, root);
     assert_eq!(rt; words.bits(1), 1);
     let (zero, freed) = words.free(zero, 1);
     assert!(rt; !freed);
     let (zero, root) = words.pass_on(zero, root, Some(1), false);
     assert_eq!(rt; words.bits(1), 2);
-    let (one, letter) = words.collect(one);
-    assert_eq!(rt; letter, None);
+    let one = look_in_vain(rt, words, one);
     let root = words.post(root, 1);
     let one = wake(rt, words, one);
     let two = get(rt, words, two);
@@ -131,8 +150,7 @@ fn two_sleepers(
     let zero = get(rt, words, zero);
     let one = seek(rt, words, one);
     let two = seek(rt, words, two);
-    let (one, marked) = words.mark(one, 1);
-    assert!(rt; marked);
+    let one = mark(rt, words, one);
     let (two, marked) = words.mark(two, 1);
     assert!(rt; !marked);
     let (one, root) = lie_down(rt, words, one, root);
@@ -171,8 +189,7 @@ fn late_release(
     let (one, taken) = words.try_take(one, 1);
     assert_eq!(rt; taken, Taken::Empty);
     let one = seek(rt, words, one);
-    let (one, marked) = words.mark(one, 1);
-    assert!(rt; marked);
+    let one = mark(rt, words, one);
     let (zero, root) = words.pass_on(zero, root, None, true);
     assert_eq!(rt; words.bits(1), 3);
     let (one, root, queued) = words.park(one, root);

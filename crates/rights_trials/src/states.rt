@@ -64,6 +64,35 @@ fn a_semaphore_event_answers_what_its_thread_sees(rt: HostRuntime) -> Result<(),
     Ok(())
 }
 
+// The thread goes into the line of the condition 1, with the lock 0.
+fn enlist(thread: usize) -> Event {
+    Event::Enlist {
+        thread,
+        key: 1,
+        lock: 0,
+    }
+}
+
+// The thread hands the lock 0 to the last of its line.
+fn hand_over(thread: usize) -> Event {
+    Event::Pass {
+        thread,
+        key: 0,
+        fair: true,
+        more: false,
+    }
+}
+
+// The thread takes so many from the line of the condition 1.
+fn call(thread: usize, count: usize) -> Event {
+    Event::Call {
+        thread,
+        key: 1,
+        count,
+        more: true,
+    }
+}
+
 #[test]
 fn an_event_answers_what_its_thread_sees(rt: HostRuntime) -> Result<(), Fail> {
     let mut state = State::open(rt.alloc(), 2, 1, 1)?;
@@ -73,42 +102,11 @@ fn an_event_answers_what_its_thread_sees(rt: HostRuntime) -> Result<(), Fail> {
         (Event::Mark { thread: 1, key: 0 }, Seen::Done),
         (Event::Park { thread: 1, key: 0 }, Seen::Bool(true)),
         (Event::Free { thread: 0, key: 0 }, Seen::Bool(false)),
-        (
-            Event::Enlist {
-                thread: 0,
-                key: 1,
-                lock: 0,
-            },
-            Seen::Done,
-        ),
-        (
-            Event::Pass {
-                thread: 0,
-                key: 0,
-                fair: true,
-                more: false,
-            },
-            Seen::Sleeper(Some(1)),
-        ),
+        (enlist(0), Seen::Done),
+        (hand_over(0), Seen::Sleeper(Some(1))),
         (Event::Look { thread: 1, key: 1 }, Seen::Bool(true)),
-        (
-            Event::Call {
-                thread: 1,
-                key: 1,
-                count: 2,
-                more: true,
-            },
-            Seen::Count(1),
-        ),
-        (
-            Event::Call {
-                thread: 1,
-                key: 1,
-                count: 1,
-                more: true,
-            },
-            Seen::Count(0),
-        ),
+        (call(1, 2), Seen::Count(1)),
+        (call(1, 1), Seen::Count(0)),
         (Event::Lower { thread: 1, key: 1 }, Seen::Done),
         (Event::Sweep { thread: 1, key: 1 }, Seen::Count(0)),
     ] {

@@ -17,6 +17,12 @@ const DRAWS: usize = 10_000;
 
 const KINDS: usize = 17;
 
+// The first kind of event on a condition.
+const COND_KINDS: usize = 6;
+
+// The first kind of event on a semaphore.
+const SEM_KINDS: usize = 11;
+
 const THREADS: u64 = 16;
 
 fn below(rng: &mut Xoshiro256PlusPlus, bound: u64) -> usize
@@ -31,54 +37,86 @@ fn below(rng: &mut Xoshiro256PlusPlus, bound: u64) -> usize
 fn drawn_event(rng: &mut Xoshiro256PlusPlus, kind: usize) -> Event {
     let thread = below(rng, THREADS);
     let sleeper = 1 + below(rng, THREADS - 1);
-    let lock = below(rng, 2);
-    let cond = 2 + below(rng, 2);
-    let sem = 4 + below(rng, 2);
-    let count = 1 + below(rng, 4);
-    let fair = below(rng, 2) == 0;
     let more = below(rng, 2) == 0;
+    if kind < COND_KINDS {
+        lock_event(rng, kind, thread, sleeper, more)
+    } else if kind < SEM_KINDS {
+        cond_event(rng, kind, thread, sleeper, more)
+    } else {
+        sem_event(rng, kind, thread, sleeper, more)
+    }
+}
+
+fn lock_event(
+    rng: &mut Xoshiro256PlusPlus,
+    kind: usize,
+    thread: usize,
+    sleeper: usize,
+    more: bool,
+) -> Event {
+    let key = below(rng, 2);
     match kind {
-        0 => Event::Try { thread, key: lock },
-        1 => Event::Take { thread, key: lock },
-        2 => Event::Mark { thread, key: lock },
+        0 => Event::Try { thread, key },
+        1 => Event::Take { thread, key },
+        2 => Event::Mark { thread, key },
         3 => Event::Park {
             thread: sleeper,
-            key: lock,
+            key,
         },
-        4 => Event::Free { thread, key: lock },
-        5 => Event::Pass {
+        4 => Event::Free { thread, key },
+        _ => Event::Pass {
             thread,
-            key: lock,
-            fair,
+            key,
+            fair: below(rng, 2) == 0,
             more,
         },
+    }
+}
+
+fn cond_event(
+    rng: &mut Xoshiro256PlusPlus,
+    kind: usize,
+    thread: usize,
+    sleeper: usize,
+    more: bool,
+) -> Event {
+    let key = 2 + below(rng, 2);
+    match kind {
         6 => Event::Enlist {
             thread: sleeper,
-            key: cond,
-            lock,
+            key,
+            lock: below(rng, 2),
         },
-        7 => Event::Look { thread, key: cond },
+        7 => Event::Look { thread, key },
         8 => Event::Call {
             thread,
-            key: cond,
-            count,
+            key,
+            count: 1 + below(rng, 4),
             more,
         },
-        9 => Event::Lower { thread, key: cond },
-        10 => Event::Sweep { thread, key: cond },
-        11 => Event::SemTake { thread, key: sem },
-        12 => Event::SemMark { thread, key: sem },
+        9 => Event::Lower { thread, key },
+        _ => Event::Sweep { thread, key },
+    }
+}
+
+fn sem_event(
+    rng: &mut Xoshiro256PlusPlus,
+    kind: usize,
+    thread: usize,
+    sleeper: usize,
+    more: bool,
+) -> Event {
+    let key = 4 + below(rng, 2);
+    match kind {
+        11 => Event::SemTake { thread, key },
+        12 => Event::SemMark { thread, key },
         13 => Event::SemPark {
             thread: sleeper,
-            key: sem,
+            key,
         },
-        14 => Event::SemFree { thread, key: sem },
-        15 => Event::SemPass {
-            thread,
-            key: sem,
-            more,
-        },
-        _ => Event::SemClear { thread, key: sem },
+        14 => Event::SemFree { thread, key },
+        15 => Event::SemPass { thread, key, more },
+        _ => Event::SemClear { thread, key },
     }
 }
 
