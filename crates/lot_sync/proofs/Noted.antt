@@ -1,5 +1,5 @@
 -- How a pass of locks stands after one entry more.
-use Rattle.std.proofs.Common.{◌≡◌, ◌≢◌, ℕ, zero, suc, Bool, true, false, ◌&&◌, MatchBool, MatchOption, List, [], ◌∷◌, ◌++◌, Option, Some, None, refl, sym, ap, subst, ◌∙◌}
+use Rattle.std.proofs.Common.{◌≡◌, ◌≢◌, ℕ, zero, suc, Bool, true, false, MatchBool, MatchOption, [], ◌∷◌, Option, Some, None, refl, sym, ap, subst, ◌∙◌}
 use Rattle.std.proofs.lemmas.List.Sums.{fold-append}
 use Rattle.lot_core.specs.declared.events.Event.TheVariants.{Try, Take, Mark, Park, Free, Pass as Passes}
 use Rattle.lot_core.specs.declared.events.Seen.TheVariants.{Bool as Saw, Done, Sleeper}
@@ -20,7 +20,7 @@ module _ {V : Type 0} where
   -- a pass that knows this now, with this one entry more
   pub noted : (p : PassView (LockPassView V)) (own : LockPassView V) (a : Access) (q : PassView (LockPassView V)) → Notes p own a q
       → standing q ≡ record { thread = p.thread; own = own; released = released_after (released_in p.made) a }
-  noted p own a q (k, is) = ap standing is ∙ ap (λ r. record { thread = p.thread; own = own; released = r }) 
+  noted p own a q (k, is) = ap standing is ∙ ap (λ r. record { thread = p.thread; own = own; released = r })
       (fold-append (λ before (e : Entry). released_after before e.access) None p.made (record { at = k; access = a } ∷ []))
 
   -- ---- the line

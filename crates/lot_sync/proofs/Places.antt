@@ -1,5 +1,5 @@
 -- The last pass and the last rights of two lists.
-use Rattle.std.proofs.Common.{◌≡◌, ℕ, List, [], ◌∷◌, ◌++◌, length, slice_get, Some, subst}
+use Rattle.std.proofs.Common.{◌≡◌, List, [], ◌∷◌, ◌++◌, length, slice_get, Some, subst}
 use Rattle.lot_rights.specs.Shown.{PassShown}
 use Rattle.lot_words.specs.declared.views.LockPassView.{LockPassView}
 use Rattle.lot_kinds.specs.Rights.{RightsView}

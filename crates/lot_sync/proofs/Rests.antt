@@ -1,6 +1,6 @@
 -- A pass gets a lock and lets it go, and is at rest again.
 use Rattle.std.proofs.Common.{◌≡◌, ◌≢◌, ℕ, ◌<◌, Bool, true, false, MatchBool, List, [], ◌∷◌, zero, suc, length, map, set, get_or, refl, sym, ap, subst, ◌∙◌, ⊎_elim, length-set, arith}
-use Rattle.std.proofs.lemmas.List.{get_or-set_same, get_or-set_other, length-map, map-set, set-set, set-get_or}
+use Rattle.std.proofs.lemmas.List.{get_or-set_same, get_or-set_other, map-set, set-set, set-get_or}
 use mathlib.Core.Option.{some, some-injective}
 use mathlib.Core.Logic.{dite}
 use native.Mathlib.Decide.{ℕ_discrete}
@@ -8,11 +8,10 @@ use lib.ListN.{get_elem?}
 use Rattle.atomic_table.proofs.Lists.{set_here, set_else, at_set}
 use Rattle.lot_words.specs.declared.views.Hold.{Hold}
 use Rattle.lot_words.specs.declared.views.Hold.TheVariants.{NotHeld, Held, FoundParked}
-use Rattle.lot_words.specs.declared.views.LockPassView.{LockPassView}
 use Rattle.lot_words.specs.declared.views.Place.{Place}
 use Rattle.lot_words.specs.declared.views.Place.TheVariants.{InSlot, Out}
 use Rattle.lot_words.specs.World.{IsHeld, IsFound, Holds}
-use Rattle.lot_words.specs.Values.{IsOut, IsIn, HasSeen, FoundOk, MayLeave}
+use Rattle.lot_words.specs.Values.{IsOut, IsIn, HasSeen, MayLeave}
 use Rattle.lot_waits.specs.Counts.{CountsView, woke}
 use Rattle.lot_permits.specs.Permits.{PermitsView}
 use Rattle.lot_kinds.specs.Rights.{RightsView, joined}

@@ -1,5 +1,5 @@
 -- The rights of an opening, and the values that come back when nobody got a lock.
-use Rattle.std.proofs.Common.{◌≡◌, ℕ, ◌+◌, ◌<◌, ◌++◌, List, [], ◌∷◌, map, zero, suc, length, get_or, replicate, slice_get, slice_index, Some, None, refl, sym, ap, subst, ◌∙◌, inl, inr, arith}
+use Rattle.std.proofs.Common.{◌≡◌, ℕ, ◌+◌, ◌<◌, ◌++◌, List, [], ◌∷◌, map, zero, suc, length, get_or, replicate, slice_get, slice_index, Some, None, refl, sym, ap, subst, ◌∙◌, arith}
 use Rattle.std.proofs.lemmas.List.{length-replicate, length-map}
 use mathlib.Core.Option.{some, some-injective}
 use lib.ListN.{get_elem?}
@@ -7,7 +7,7 @@ use Rattle.atomic_table.specs.Seated.{TableId}
 use Rattle.lot_words.specs.declared.views.Hold.TheVariants.{NotHeld}
 use Rattle.lot_words.specs.declared.views.Place.TheVariants.{Out}
 use Rattle.std.specs.List.{All, Any}
-use Rattle.std.proofs.lemmas.List.Elements.{All-nil, All-cons, All-weaker}
+use Rattle.std.proofs.lemmas.List.Elements.{All-weaker}
 use Rattle.lot_rights.specs.Shown.{PassShown, RootShown}
 use Rattle.lot_rights.proofs.Totals.{any_all}
 use Rattle.lot_words.specs.declared.views.LockPassView.{LockPassView}
@@ -27,7 +27,7 @@ use Rattle.lot_sync.specs.Passes.{debts_of}
 use Rattle.lot_sync.specs.Starting.{ArePaired, IsFreeRoot, IsIdleAt}
 use Rattle.lot_sync.specs.Tables.{LotRootShown}
 use Rattle.lot_kinds.proofs.Places.{at_both, at_mapped}
-use Rattle.lot_rights.proofs.Turns.{some_at, some_one, stands_at, all_by_place, some_by_place}
+use Rattle.lot_rights.proofs.Turns.{some_one, stands_at, all_by_place, some_by_place}
 
 none_some : {A : Type 0} (x : A) → None ≡ Some x → ⊥
 none_some x e = cc

@@ -1,5 +1,5 @@
 -- How a pass stands that slept in a lock's line and found its letter.
-use Rattle.std.proofs.Common.{◌≡◌, ℕ, zero, suc, ◌==◌, refl, sym, ap, subst, ◌∙◌, arith, slice_set, MatchBool, Option, Some, None}
+use Rattle.std.proofs.Common.{◌≡◌, ℕ, zero, suc, ◌==◌, sym, ap, subst, ◌∙◌, arith, slice_set, MatchBool, Some}
 use mathlib.Core.Option.{some}
 use lib.ListN.{get_elem?}
 use Rattle.lot_park.specs.Parking.{LooksInVain, Awaited}

@@ -3,7 +3,6 @@ use Rattle.std.specs.Prelude.{◌≡◌, ◌≢◌, ℕ, zero, suc, ◌<◌, ◌
 use mathlib.Core.Option.{some}
 use lib.ListN.{get_elem?}
 use Rattle.atomic_table.specs.Seated.{TableId}
-use Rattle.lot_rights.specs.Opening.{Opening}
 use Rattle.lot_rights.specs.Shown.{PassShown}
 use Rattle.lot_rights.specs.declared.views.PassView.{PassView as PassMade}
 use Rattle.lot_words.specs.declared.views.Hold.{Hold}

@@ -1,4 +1,4 @@
-use Rattle.std.proofs.Common.{◌≡◌, ℕ, sym, subst, MatchBool}
+use Rattle.std.proofs.Common.{sym, subst, MatchBool}
 use Rattle.lot_park.specs.declared.lot.Parked.{Parked}
 use Rattle.lot_park.specs.Parking.{Ends, Awaited}
 use Rattle.lot_sync.specs.Passes.{Standing, IsAsleepFor, IsTryingFor, IsOwner, IsLooked}

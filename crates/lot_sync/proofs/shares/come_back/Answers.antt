@@ -1,5 +1,4 @@
-use Rattle.std.proofs.Common.{◌≡◌, ◌<◌, sym, subst, ◌∙◌, ap}
-use Rattle.lot_sync.specs.declared.shares.Shares.{Shares}
+use Rattle.std.proofs.Common.{◌<◌, sym, subst, ◌∙◌, ap}
 use Rattle.lot_sync.specs.Holding.{own_share}
 use Rattle.lot_sync.proofs.Rests.{reads}
 use Rattle.lot_sync.proofs.shares.come_back.Goals as goal

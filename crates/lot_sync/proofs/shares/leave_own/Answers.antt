@@ -1,6 +1,6 @@
-use Rattle.std.proofs.Common.{◌≡◌, ◌≤◌, le_refl, sym, ap, subst, ◌∙◌, refl}
+use Rattle.std.proofs.Common.{◌≡◌, ◌≤◌, le_refl, sym, ap, subst, ◌∙◌}
 use Rattle.lot_sync.specs.declared.shares.Shares.{Shares}
-use Rattle.lot_sync.specs.Lot.{HasSeen, PassView, leaving}
+use Rattle.lot_sync.specs.Lot.{leaving}
 use Rattle.lot_sync.specs.Holding.{own_share}
 use Rattle.lot_sync.proofs.Holdings.{may_go_back, owns_none_again, seen_left}
 use Rattle.lot_sync.proofs.shares.leave_own.Goals as goal

@@ -1,4 +1,4 @@
-use Rattle.std.proofs.Common.{◌≡◌, ◌≤◌, le_refl, ◌∙◌}
+use Rattle.std.proofs.Common.{◌≤◌, le_refl, ◌∙◌}
 use Rattle.lot_sync.specs.declared.tests.Count.{Count}
 use Rattle.lot_sync.proofs.Holdings.{got_both}
 use Rattle.lot_sync.proofs.sleepers.own_both.Goals as goal

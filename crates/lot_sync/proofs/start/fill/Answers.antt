@@ -1,5 +1,4 @@
-use Rattle.std.proofs.Common.{◌≡◌, ◌+◌, length, vec_len, rules, ◌∙◌, sym, arith}
-use Rattle.std.specs.List.{All}
+use Rattle.std.proofs.Common.{◌≡◌, length, vec_len, rules, ◌∙◌, sym, arith}
 use Rattle.lot_rights.proofs.Gathers.{all_popped}
 use Rattle.lot_kinds.specs.Rights.{HoldsNone}
 use Rattle.lot_sync.specs.Passes.{IsFresh}

@@ -1,4 +1,4 @@
-use Rattle.std.proofs.Common.{subst, sym, ap, ◌∙◌}
+use Rattle.std.proofs.Common.{subst, ap, ◌∙◌}
 use Rattle.lot_sync.specs.Lot.{PassView, Owns, permits_with}
 use Rattle.lot_sync.specs.Passes.{Standing, sees}
 use Rattle.lot_sync.proofs.Rests.{owned_held, own_on}

@@ -1,6 +1,5 @@
-use Rattle.std.proofs.Common.{◌≡◌, ℕ, ◌+◌, ◌<◌, ◌≤◌, ◌++◌, List, [], length, map, vec_len, vec_capacity, rules, None, Some, slice_get, refl, subst, sym, ap, ◌∙◌, arith}
-use Rattle.std.specs.List.{All, Any}
-use Rattle.std.proofs.lemmas.List.Elements.{All-weaker}
+use Rattle.std.proofs.Common.{◌≡◌, ℕ, ◌+◌, ◌<◌, ◌≤◌, ◌++◌, List, length, map, vec_len, vec_capacity, rules, Some, slice_get, refl, subst, sym, ap, ◌∙◌, arith}
+use Rattle.std.specs.List.{All}
 use Rattle.lot_rights.specs.Shown.{RootShown}
 use Rattle.lot_words.specs.Shown.{LockWordsShown}
 use Rattle.lot_words.specs.declared.views.LockRootView.{LockRootView}
@@ -8,7 +7,7 @@ use Rattle.lot_conds.specs.Shown.{CondWordsShown}
 use Rattle.lot_sems.specs.Shown.{SemWordsShown}
 use Rattle.lot_park.specs.Lots.{ParkingView}
 use Rattle.lot_park.specs.Parts.{Tables}
-use Rattle.lot_park.specs.declared.parts.both.OneOf.TheVariants.{First, Second}
+use Rattle.lot_park.specs.declared.parts.both.OneOf.TheVariants.{Second}
 use Rattle.lot_kinds.specs.Rights.{RightsView, unused}
 use Rattle.lot_kinds.specs.Opening.{StandFrom}
 use Rattle.lot_kinds.specs.Opening.{key_of as kind_key}

@@ -1,4 +1,4 @@
-use Rattle.std.proofs.Common.{ℕ, ◌<◌, length, subst, sym, ap}
+use Rattle.std.proofs.Common.{◌<◌, subst, sym, ap}
 use Rattle.lot_words.specs.Values.{IsIn, HasSeen, MayLeave}
 use Rattle.lot_sync.specs.Lot.{Owns}
 use Rattle.lot_sync.specs.Values.{MayGiveBack}

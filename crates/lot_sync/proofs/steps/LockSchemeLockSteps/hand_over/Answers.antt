@@ -12,7 +12,7 @@ pub returns-clause-went : goal.returns-clause-went
 returns-clause-went g c =
     let same = ap (λ (r : RootShown LockRootView). r.root.key) c.into_root.ensures.same in
     let is : c.match-told.released.1 ≡ decision c.args.told.thread c.if-is_some.hands = elim c.match-told.branch [
-      in-None w ↦ ap (λ z. z.1) w.released-is ∙ ap (λ o. decision o c.if-is_some.hands) (sym w.in-None.is)
+      | in-None w ↦ ap (λ z. z.1) w.released-is ∙ ap (λ o. decision o c.if-is_some.hands) (sym w.in-None.is)
       | in-Some w ↦ ap (λ z. z.1) w.released-is ∙ (ap (decision (Some w.in-Some.field-0)) (sym w.if-hands.true) ∙ ap (λ o. decision o c.if-is_some.hands) (sym w.in-Some.is))
       | in-Some-2 w ↦ ap (λ z. z.1) w.released-is ∙ (ap (decision (Some w.in-Some.field-0)) (sym w.if-hands.false) ∙ ap (λ o. decision o c.if-is_some.hands) (sym w.in-Some.is))
     ] in
