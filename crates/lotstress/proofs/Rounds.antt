@@ -1,7 +1,7 @@
 -- One round of a worker: what it may give back, and that it owns nothing afterwards.
-use Rattle.std.proofs.Common.{◌≡◌, ℕ, ◌<◌, ◌+◌, Bool, true, false, List, [], ◌∷◌, zero, suc, get_or, set, refl, sym, ap, subst, ◌∙◌, ⊎_elim, ◌++◌}
+use Rattle.std.proofs.Common.{◌≡◌, ℕ, refl, sym, ap, subst, ◌∙◌, ⊎_elim}
 use Rattle.atomic_table.proofs.Lists.{at_set}
-use Rattle.lot_sync.specs.Lot.{PassView, HeldView, HasSeen, owning, leaving}
+use Rattle.lot_sync.specs.Lot.{PassView, HeldView, HasSeen, owning}
 use Rattle.lot_sync.specs.Values.{Gets, MayGiveBack}
 use Rattle.lotstress.specs.Works.{WorksOn}
 

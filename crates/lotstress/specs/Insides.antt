@@ -1,5 +1,5 @@
 -- How many workers have a permit, and how the count goes on.
-use Rattle.std.specs.Prelude.{◌≡◌, ◌+◌, ◌-◌, ◌≤◌, ℕ, min, max}
+use Rattle.std.specs.Prelude.{◌≡◌, ◌+◌, ◌-◌, ◌≤◌, min, max}
 use Rattle.std.proofs.Common.{le_refl, le_trans}
 use Rattle.lotstress.specs.declared.inside.Inside.{Inside}
 use Rattle.lotstress.specs.Buffers.{most}
