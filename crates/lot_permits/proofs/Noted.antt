@@ -1,5 +1,5 @@
 -- How a pass stands after one entry more.
-use Rattle.std.proofs.Common.{◌≡◌, ◌≢◌, ℕ, Bool, true, false, List, [], ◌∷◌, ◌++◌, Option, Some, None, MatchBool, MatchOption, refl, sym, ap, ◌∙◌}
+use Rattle.std.proofs.Common.{◌≡◌, ◌≢◌, ℕ, Bool, true, false, [], ◌∷◌, Option, Some, None, MatchBool, MatchOption, sym, ap, ◌∙◌}
 use Rattle.std.proofs.lemmas.List.Sums.{fold-append}
 use Rattle.lot_core.specs.declared.events.Event.TheVariants.{SemTake, SemMark, SemPark, SemFree, SemPass as Passes, SemClear}
 use Rattle.lot_core.specs.declared.events.Seen.TheVariants.{Bool as Saw, Done, Sleeper}
@@ -12,7 +12,6 @@ use Rattle.lot_sems.specs.declared.views.SemPassView.{SemPassView}
 use Rattle.lot_sems.specs.declared.taking.Taken.{Taken}
 use Rattle.lot_sems.specs.declared.taking.Taken.TheVariants.{Got, Empty, Busy}
 use Rattle.lot_sems.specs.Calls.{gave, got, seeking, woken, parked_pass, Tries, Takes, FoundNone, Collected}
-use Rattle.lot_permits.specs.declared.permit.Freed.{Freed}
 use Rattle.lot_permits.specs.declared.permit.Freed.TheVariants.{Quiet}
 use Rattle.lot_permits.specs.Freed.{freed_after, freed_in, freed_by, GivesBack}
 use Rattle.lot_permits.specs.Rights.{SemStanding, standing, giving, queueing, waking, HasTried, HasTaken, IsSemLooked}
@@ -20,7 +19,7 @@ use Rattle.lot_permits.specs.Rights.{SemStanding, standing, giving, queueing, wa
 -- a pass that knows this now, with this one entry more
 pub noted : (p : PassView SemPassView) (own : SemPassView) (a : Access) (q : PassView SemPassView) → Notes p own a q
     → standing q ≡ record { thread = p.thread; own = own; freed = freed_after (freed_in p.made) a }
-noted p own a q (k, is) = ap standing is ∙ ap (λ f. record { thread = p.thread; own = own; freed = f }) 
+noted p own a q (k, is) = ap standing is ∙ ap (λ f. record { thread = p.thread; own = own; freed = f })
     (fold-append (λ before (e : Entry). freed_after before e.access) None p.made (record { at = k; access = a } ∷ []))
 
 -- ---- tries
