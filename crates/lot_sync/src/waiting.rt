@@ -27,7 +27,8 @@ impl<V: Keeps + Send, N: LotName<V> + Send> Lot<V, N> {
     /// Lets the lock go, waits on the condition until a notification takes the thread, and gets the lock again. The lock is let go when
     /// the thread is in the condition's line, so no notification is missed that comes after it.
     ///
-    /// The moment is that of the unlock, of which the pass shows how it ended. What the caller waited for may be gone again when the lock is got: wait in a loop.
+    /// The moment is that of the unlock, of which the pass shows how it ended. What the caller waited for may be gone again when the lock
+    /// is got: wait in a loop.
     pub fn wait<R: Wait>(
         &self,
         rt: &R,

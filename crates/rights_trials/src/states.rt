@@ -73,7 +73,7 @@ fn enlist(thread: usize) -> Event {
     }
 }
 
-// The thread hands the lock 0 to the last of its line.
+// The thread hands the lock 0 to the only one in its line.
 fn hand_over(thread: usize) -> Event {
     Event::Pass {
         thread,
