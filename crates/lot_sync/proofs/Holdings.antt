@@ -5,7 +5,7 @@ use Rattle.atomic_table.proofs.Lists.{at_set}
 use mathlib.Core.Logic.{dite}
 use mathlib.Core.Option.{some-injective}
 use native.Mathlib.Decide.{ℕ_discrete}
-use Rattle.lot_sync.specs.declared.released.Released.{Released}
+use Rattle.lot_locks.specs.declared.released.Released.{Released}
 use Rattle.lot_sync.specs.Lot.{PassView, HeldView, Owns, OwnsNone, HasSeen, owning, leaving, permits_with}
 use Rattle.lot_sync.specs.Values.{Gets, MayGiveBack}
 use Rattle.lot_sync.specs.Holding.{Holding, HoldingBoth}

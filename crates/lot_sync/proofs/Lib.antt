@@ -1,7 +1,5 @@
-pub mod Noted
 pub mod Rests
 pub mod Turns
 pub mod Places
 pub mod Starts
 pub mod Holdings
-pub mod Waking

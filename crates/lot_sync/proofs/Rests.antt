@@ -15,11 +15,13 @@ use Rattle.lot_words.specs.Values.{IsOut, IsIn, HasSeen, MayLeave}
 use Rattle.lot_waits.specs.Counts.{CountsView, woke}
 use Rattle.lot_permits.specs.Permits.{PermitsView}
 use Rattle.lot_kinds.specs.Rights.{RightsView, joined}
-use Rattle.lot_sync.specs.declared.released.Released.{Released}
-use Rattle.lot_sync.specs.declared.released.Released.TheVariants.{Quiet}
+use Rattle.lot_locks.specs.declared.released.Released.{Released}
+use Rattle.lot_locks.specs.declared.released.Released.TheVariants.{Quiet}
+use Rattle.lot_locks.proofs.Freed.{held_near}
 use Rattle.lot_sync.specs.Lot.{PassView, HeldView, Owns, leaving, waking}
 use Rattle.lot_sync.specs.Values.{Gets, MayGiveBack}
-use Rattle.lot_sync.specs.Passes.{Standing, is_held, sees, putting, IsAtRest, AreRightsOf, IsNewOwner, IsOwner, IsTryingFor, IsFoundParked, LetsGo, MayLetGo, MayPass}
+use Rattle.lot_locks.specs.Standing.{Standing, putting, IsOwner, IsTryingFor, IsFoundParked, LetsGo, MayLetGo, MayPass}
+use Rattle.lot_sync.specs.Passes.{is_held, sees, IsAtRest, AreRightsOf, IsNewOwner}
 
 -- ---- holds
 pub held_here : (hs : List Hold) (l : ℕ) → l < length hs → IsHeld (get_or (set hs l Held) l NotHeld)
@@ -52,12 +54,6 @@ held_owned (Held ∷ hs) zero h = refl
 held_owned (FoundParked ∷ hs) zero h = refl
 held_owned (h ∷ hs) (suc l) i = held_owned hs l i
 
--- what is held is within
-pub held_near : (hs : List Hold) (l : ℕ) → IsHeld (get_or hs l NotHeld) → l < length hs
-held_near [] l h = absurd h
-held_near (h ∷ hs) zero is = omega arith
-held_near (h ∷ hs) (suc l) is = let near = held_near hs l is in omega (arith, near)
-
 -- a held lock that is found parked is held as before
 pub owned_parked : (hs : List Hold) (l : ℕ) → IsHeld (get_or hs l NotHeld) → map is_held (set hs l FoundParked) ≡ map is_held hs
 owned_parked hs l holds =
@@ -74,32 +70,6 @@ module _ {V : Type 0} where
   -- the value that was put into a slot lies there
   pub lies_in : (before after : Standing V) (key : ℕ) (value : V) → after ≡ putting before key (InSlot value) → key < length before.own.places → IsIn after.own key value
   lies_in before after key value moved near = subst (λ (r : Standing V). IsIn r.own key value) (sym moved) (set_here before.own.places key (InSlot value) near)
-
-  -- found parked, and let go then
-  pub goes_then : (a b c : Standing V) (key : ℕ) (became : Released) → IsFoundParked a key b → LetsGo b key became c → LetsGo a key became c
-  goes_then a b c key became found went = record {
-    thread = went.thread ∙ found.thread;
-    holds = went.holds ∙ (ap (λ hs. set hs key NotHeld) found.holds ∙ set-set a.own.holds key FoundParked NotHeld);
-    aim = went.aim ∙ found.aim;
-    asleep = went.asleep ∙ found.asleep;
-    places = went.places ∙ found.places;
-    seen = λ y lies. went.seen y (subst (λ ps. get_elem? ps key ≡ some (InSlot y)) (sym found.places) lies) ∙ ap (λ vs. set vs key y) found.seen;
-    released = went.released;
-  }
-
-  -- let go, or found parked: then it may be passed on, and whatever lets it go then lets it go
-  pub freed_or_parked : (freed : Bool) (a r : Standing V) (key : ℕ) → MayLetGo a key → MatchBool freed (LetsGo a key Quiet r) (IsFoundParked a key r)
-      → MatchBool freed (LetsGo a key Quiet r) (MayPass r key × ((became : Released) (after : Standing V) → LetsGo r key became after → LetsGo a key became after))
-  freed_or_parked true a r key may went = went
-  freed_or_parked false a r key (aimless, awake, holds, (value, lies)) found = (
-    (
-      found.aim ∙ aimless,
-      found.asleep ∙ awake,
-      subst IsFound (sym (ap (λ hs. get_or hs key NotHeld) found.holds ∙ get_or-set_same a.own.holds key FoundParked NotHeld (held_near a.own.holds key holds))) tt,
-      (value, subst (λ ps. get_elem? ps key ≡ some (InSlot value)) (sym found.places) lies),
-    ),
-    λ became after went. goes_then a r after key became found went,
-  )
 
   -- what the callers of an unlock see
   pub leaves_all : (q : RightsView) (before after : Standing V) (key : ℕ) (value : V) (became : Released) → IsIn before.own key value → LetsGo before key became after

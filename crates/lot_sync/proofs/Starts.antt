@@ -23,7 +23,7 @@ use Rattle.lot_kinds.specs.Rights.{HoldsNone as HoldsNoPermit}
 use Rattle.lot_kinds.specs.Opening.{KindRootShown}
 use Rattle.lot_kinds.specs.Opening.{IsIdleAt as IsIdleKind}
 use Rattle.lot_sync.specs.Opened.{AreUnused, IsOpened}
-use Rattle.lot_sync.specs.Passes.{debts_of}
+use Rattle.lot_locks.specs.Standing.{debts_of}
 use Rattle.lot_sync.specs.Starting.{ArePaired, IsFreeRoot, IsIdleAt}
 use Rattle.lot_sync.specs.Tables.{LotRootShown}
 use Rattle.lot_kinds.proofs.Places.{at_both, at_mapped}

@@ -2,7 +2,8 @@
 use Rattle.std.specs.Prelude.{◌≡◌, ◌≢◌, ℕ, zero, suc, List}
 use Rattle.lot_sync.specs.Lot.{PassView, HeldView, Owns, HasSeen, permits_with}
 use Rattle.lot_words.specs.World.{Holds}
-use Rattle.lot_sync.specs.Passes.{Standing, IsAtRest, IsTryingFor}
+use Rattle.lot_locks.specs.Standing.{Standing, IsTryingFor}
+use Rattle.lot_sync.specs.Passes.{IsAtRest}
 
 -- what a thread counted of the numbers that two threads counted
 abbrev pub own_share : ℕ → ℕ → ℕ → ℕ

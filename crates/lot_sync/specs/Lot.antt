@@ -4,7 +4,7 @@ use Rattle.lot_waits.specs.Counts.{CountsView}
 use Rattle.lot_permits.specs.declared.permit.Freed.{Freed}
 use Rattle.lot_kinds.specs.Rights.{RightsView}
 use Rattle.lot_waits.specs.Ledger.{IsLedger}
-use Rattle.lot_sync.specs.declared.released.Released.{Released}
+use Rattle.lot_locks.specs.declared.released.Released.{Released}
 use Rattle.std.specs.Prelude.{◌≡◌, ℕ, ◌+◌, ◌-◌, ◌<◌, ◌≤◌, Bool, true, false, List, length, map, slice_set, slice_index, slice_index_or, Option, Some}
 use mathlib.Core.Option.{some}
 use lib.ListN.{get_elem?}

@@ -8,7 +8,7 @@ use Rattle.lot_kinds.specs.Opening.{KindRootShown}
 use Rattle.lot_kinds.specs.Opening.{key_of as kind_key, line_of as kind_line, owes_of as kind_owes}
 use Rattle.lot_park.specs.Parts.{of_either, LookedBy}
 use Rattle.lot_park.specs.declared.parts.both.OneOf.{OneOf}
-use Rattle.lot_sync.specs.Passes.{Standing, IsLooked, debts_of}
+use Rattle.lot_locks.specs.Standing.{Standing, IsLooked, debts_of}
 
 -- ---- the root of a key of any table
 abbrev pub LotRootShown : Type 0

@@ -1,8 +1,8 @@
 -- What is said of values: what an owner finds in a lock, and what he may give back.
 use Rattle.std.specs.Prelude.{◌≡◌, ◌≢◌, ℕ, false, List, Some, slice_get}
-use Rattle.lot_sync.specs.declared.released.Released.{Released}
+use Rattle.lot_locks.specs.declared.released.Released.{Released}
 use Rattle.lot_sync.specs.Lot.{PassView, HeldView, Owns, HasSeen, owning, leaving, waking}
-use Rattle.lot_sync.specs.Released.{IsFitting}
+use Rattle.lot_locks.specs.Released.{IsFitting}
 
 module _ {V Part : Type 0} (keeps : ℕ → V → Type 0) (grows : V → V → Type 0) (part : ℕ → V → Part) where
   -- the lock was got: its value keeps the rule, goes on from all that the pass had seen of it, and has the pass's own part

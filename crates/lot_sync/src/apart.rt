@@ -4,7 +4,7 @@ ghost use Rattle.lot_sync.specs.Lot.{Owns};
 
 use crate::lot::Lot;
 use crate::pass::{LotName, Pass};
-use crate::scheme::NamedPass;
+use lot_locks::NamedPass;
 use lot_words::Keeps;
 
 impl<V: Keeps + Send, N: LotName<V> + Send> Lot<V, N> {
@@ -17,9 +17,8 @@ impl<V: Keeps + Send, N: LotName<V> + Send> Lot<V, N> {
     {
         let (first, first_kinds) = first.apart();
         let (second, second_kinds) = second.apart();
-        let (first, second) = self
-            .words()
-            .check_apart(first.into_pass(), second.into_pass());
+        let words = self.lock_scheme().words();
+        let (first, second) = words.check_apart(first.into_pass(), second.into_pass());
         (
             Pass::at_rest(NamedPass::new(first), first_kinds),
             Pass::at_rest(NamedPass::new(second), second_kinds),

@@ -1,8 +1,8 @@
 //! Locks that guard values, for a number of threads: WTF's `Lock` on its parking lot.
 //!
-//! It stands on `lot_words` (ruled words, letters and values) and on `lot_park` (queues and sleep), which never name each other:
-//! here both meet. Open a `Lot` with the values that its locks guard, start it under a name, let each thread register for its
-//! `Pass`, and lock: whoever gets a lock is handed its value as a `Held`, and spends it by an unlock.
+//! It stands on `lot_locks`, `lot_waits` and `lot_permits`, each over any parking lot, and puts them on one. Open a `Lot` with the values
+//! that its locks guard, start it under a name, let each thread register for its `Pass`, and lock: whoever gets a lock is handed its value
+//! as a `Held`, and spends it by an unlock.
 //!
 //! | Call | Where nobody contends | Else |
 //! |---|---|---|
@@ -22,22 +22,18 @@ mod fault;
 pub mod held;
 mod lock;
 pub mod lot;
-mod moves;
 mod notifying;
 pub mod opened;
 pub mod pass;
 mod pool;
 mod register;
-pub mod released;
 #[cfg(test)]
 mod schedules;
-mod scheme;
 #[cfg(test)]
 mod shares;
 #[cfg(test)]
 mod sleepers;
 mod start;
-mod steps;
 mod tables;
 #[cfg(test)]
 mod tests;
@@ -50,9 +46,9 @@ pub use fault::{OpenFault, RegisterFault};
 pub use held::Held;
 pub use lot::Lot;
 pub use lot_core::{MAX_KEYS, MAX_THREADS};
+pub use lot_locks::Released;
 pub use lot_park::Moment;
 pub use lot_permits::{Freed, Permit, PermitName, Tried};
 pub use lot_waits::{Ledger, WaitName};
 pub use opened::Opened;
 pub use pass::{LotName, Pass};
-pub use released::Released;

@@ -1,20 +1,17 @@
 //! A lot: locks that guard values, and the passes of its threads.
 ghost use Rattle.std.specs.Prelude.{◌≡◌, ℕ, ◌+◌, ◌<◌, ◌≤◌, List, length};
+ghost use Rattle.lot_sync.specs.Lot.{IsWide};
+ghost use Rattle.lot_sync.specs.Passes.{IsAtRest, AreRightsOf, sees};
 
-use crate::pass::LotName;
+use crate::pass::{LotName, Pass};
 use crate::pool::Pool;
-use crate::scheme::LockScheme;
 use crate::tables::LotScheme;
+use lot_kinds::Rights;
+use lot_locks::{LockScheme, NamedPass};
 use lot_park::ParkingLot;
-use lot_words::{Keeps, LockWords};
+use lot_words::Keeps;
 use std::marker::Model;
 use std::sync::{Mutex, Wait};
-
-/// The bit of a lock word that says that somebody owns the lock.
-pub(crate) const HELD: u64 = 1;
-
-/// The bit of a lock word that says that somebody may wait in its line.
-pub(crate) const PARKED: u64 = 2;
 
 /// Locks that guard values, for a number of threads.
 pub struct Lot<V: Keeps + Send, N: LotName<V> + Send> {
@@ -39,14 +36,27 @@ impl<V: Keeps + Send, N: LotName<V> + Send> Model for Lot<V, N> {
 }
 
 impl<V: Keeps + Send, N: LotName<V> + Send> Lot<V, N> {
+    /// The table of the locks.
     #[inline(always)]
-    pub(crate) fn words(&self) -> &LockWords<V>
-        ensures named { result.now.table ≡ N.opening.locks }
+    pub(crate) fn lock_scheme(&self) -> &LockScheme<V, N>
         ensures locks { (result.now.size.locks ≡ self.now.locks) × (self.now.locks ≡ length N.values) }
         ensures threads { self.now.threads ≡ N.threads }
         ensures keys { (self.now.locks ≡ N.locks) × (self.now.conds ≡ N.conds) × (self.now.sems ≡ length N.permits) × (N.low ≡ N.locks + N.conds) }
     {
-        self.parking.scheme().locks().words()
+        self.parking.scheme().locks()
+    }
+
+    /// What a call hands back to the thread: its pass, put together anew.
+    #[inline(always)]
+    pub(crate) fn at_rest(&self, right: NamedPass<V, N>, kinds: Rights<N>) -> Pass<V, N>
+        requires rest { IsAtRest V.grows N.values N.threads right }
+        requires own { AreRightsOf right.thread kinds }
+        ensures pass { result ≡ sees kinds right }
+        ensures wide { IsWide self.now result }
+    {
+        let _scheme = self.lock_scheme();
+        kinds.thread();
+        Pass::at_rest(right, kinds.rebuilt())
     }
 
     /// How many threads can have a pass at a time.
@@ -81,7 +91,7 @@ impl<V: Keeps + Send, N: LotName<V> + Send> Lot<V, N> {
     pub fn is_held(&self, key: usize) -> bool
         requires { key < self.now.locks }
     {
-        self.words().bits(key) & HELD != 0
+        self.lock_scheme().is_held(key)
     }
 
     /// How many threads wait in the line of the lock, the condition or the semaphore at some moment of this call.

@@ -1,8 +1,8 @@
 //! The right to act as one thread of a lot.
 ghost use Rattle.std.specs.Prelude.{◌≡◌, ℕ, List};
 
-use crate::scheme::NamedPass;
 use lot_kinds::Rights;
+use lot_locks::NamedPass;
 use lot_permits::PermitName;
 use lot_waits::WaitName;
 use lot_words::Keeps;

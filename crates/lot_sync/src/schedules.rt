@@ -3,7 +3,7 @@ ghost use Rattle.std.specs.Prelude.{◌≡◌, ◌≤◌, ◌<◌};
 ghost use Rattle.lot_sync.specs.Lot.{OwnsNone};
 ghost use Rattle.lot_sync.specs.Holding.{Holding};
 
-use crate::lock::{AtOnce, BeforeSleep};
+use crate::lock::AtOnce;
 use crate::sleepers::{own_at_gate, sleeper};
 use crate::tests::{
     ASKINGS, Count, Row, enter, in_line, is_raised, on_lot, own, release, release_fairly, try_own,
@@ -11,6 +11,7 @@ use crate::tests::{
 };
 use crate::waits::call_one;
 use crate::{Held, Lot, LotName, Moment, Pass, Released};
+use lot_locks::BeforeSleep;
 use lot_waits::BeforeSweep;
 use std::process::Abort;
 use std::sync::Wait;

@@ -5,11 +5,11 @@ ghost use Rattle.lot_sync.specs.Lot.{OwnsNone};
 ghost use Rattle.lot_sync.specs.Passes.{AreRightsOf};
 ghost use Rattle.lot_sync.specs.Holding.{Holding, HoldingBoth, Seeks};
 
-use crate::lock::{BeforeSleep, park};
-use crate::scheme::NamedPass;
+use crate::tables::{Locks, LotScheme};
 use crate::tests::{Count, enter, in_line, is_raised, own, release, word};
 use crate::{Held, Lot, LotName, Moment, Pass, Released};
 use lot_kinds::Rights;
+use lot_locks::{BeforeSleep, NamedPass, park};
 use std::process::Abort;
 use std::sync::Wait;
 use std::sync::atomic::{AtomicU64, Ordering};
@@ -451,7 +451,7 @@ fn seek<N: LotName<Count> + Send + Sync, T: Wait + Abort>(
     ensures none { HoldsNone result.1 }
 {
     let (right, kinds) = pass.apart();
-    let (right, got) = lot.take(right, key);
+    let (right, got) = lot.lock_scheme().take(right, key);
     if got {
         panic!(rt; "a held lock was got")
     }
@@ -470,7 +470,7 @@ fn seek_again<N: LotName<Count> + Send + Sync, T: Wait + Abort>(
     ensures seeks { Seeks (λ x y. x.n ≤ y.n) N.values N.threads key result }
     ensures thread { result.thread ≡ right.thread }
 {
-    let (right, got) = lot.take(right, key);
+    let (right, got) = lot.lock_scheme().take(right, key);
     if got {
         panic!(rt; "a held lock was got")
     }
@@ -478,7 +478,7 @@ fn seek_again<N: LotName<Count> + Send + Sync, T: Wait + Abort>(
 }
 
 /// It marks the lock as parked.
-#[tactic(auto, using(crate::proofs::Noted::marked))]
+#[tactic(auto, using(lot_locks::proofs::Noted::marked))]
 fn mark<N: LotName<Count> + Send + Sync, T: Wait + Abort>(
     rt: &T,
     lot: &Lot<Count, N>,
@@ -490,7 +490,8 @@ fn mark<N: LotName<Count> + Send + Sync, T: Wait + Abort>(
     ensures seeks { Seeks (λ x y. x.n ≤ y.n) N.values N.threads key result }
     ensures thread { result.thread ≡ right.thread }
 {
-    let (right, marked) = lot.words().mark(right.into_pass(), key);
+    let words = lot.lock_scheme().words();
+    let (right, marked) = words.mark(right.into_pass(), key);
     assert!(rt; marked);
     NamedPass::new(right)
 }
@@ -507,7 +508,15 @@ fn park_in_vain<N: LotName<Count> + Send + Sync, T: Wait + Abort>(
     ensures seeks { Seeks (λ x y. x.n ≤ y.n) N.values N.threads key result }
     ensures thread { result.thread ≡ right.thread }
 {
-    let (right, handed) = park(rt, &lot.parking, right, key, &Never { rt });
+    let scheme = lot.lock_scheme();
+    let (right, handed) = park::<LotScheme<Count, N>, Count, N, Locks, T, Never<'_, T>>(
+        rt,
+        &lot.parking,
+        scheme,
+        right,
+        key,
+        &Never { rt },
+    );
     if handed {
         panic!(rt; "a lock was handed to a thread that was not queued")
     }
@@ -529,7 +538,7 @@ fn get<N: LotName<Count> + Send + Sync, T: Wait + Abort>(
     ensures key { result.1.key ≡ key }
     ensures holding { Holding (λ x y. x.n ≤ y.n) result.0 result.1 }
 {
-    let (right, got) = lot.take(right, key);
+    let (right, got) = lot.lock_scheme().take(right, key);
     if got {
         lot.taken(right, kinds, key)
     } else {

@@ -9,8 +9,8 @@ ghost use Rattle.lot_park.specs.declared.parts.both.OneOf.TheVariants.{First, Se
 ghost use Rattle.lot_sync.specs.Tables.{lock_key};
 
 use crate::pass::LotName;
-use crate::scheme::{KeyRoot, LockScheme, NamedPass};
 use lot_kinds::{KindRoot, KindScheme};
+use lot_locks::{KeyRoot, LockScheme, NamedPass};
 use lot_park::parts::{Border, Both, EitherRoot, OfFirst, OfSecond, OneOf, Part, Whole};
 use lot_park::{Root, Scheme, Token};
 use lot_permits::{NamedSem, SemScheme};

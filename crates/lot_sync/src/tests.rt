@@ -134,7 +134,7 @@ fn free<N: LotName<Count> + Send + Sync>(
 pub(crate) fn word<N: LotName<Count> + Send + Sync>(lot: &Lot<Count, N>, key: usize) -> u64
     requires { key < lot.now.locks }
 {
-    lot.words().bits(key)
+    lot.lock_scheme().words().bits(key)
 }
 
 /// Whether so many are in the line of the lock or the condition, asked a bounded number of times.

@@ -11,7 +11,7 @@ use Rattle.lot_waits.specs.Counts.{CountsView, wrap}
 use Rattle.lot_waits.specs.Ledger.{AreSums, called_at, woken_at}
 use Rattle.lot_rights.proofs.Turns.{no_elements}
 use Rattle.lot_sync.specs.Lot.{LotView, PassView, HeldView, OwnsNone, IsWide, IsLedgerOf, counts_of, owning, leaving, waking, calling}
-use Rattle.lot_sync.specs.declared.released.Released.{Released}
+use Rattle.lot_locks.specs.declared.released.Released.{Released}
 use Rattle.lot_sync.specs.Values.{Gets, WaitsAndGets}
 use Rattle.lot_sync.proofs.Holdings.{owns_none_again}
 use Rattle.lot_trials.specs.Counting.{HasCountedNone, EndsAs}

@@ -5,7 +5,8 @@ use Rattle.std.proofs.lemmas.List.Elements.{All-push}
 use Rattle.lot_rights.proofs.Gathers.{all_popped}
 use Rattle.lot_kinds.specs.Rights.{RightsView}
 use Rattle.lot_sync.specs.Lot.{PassView, Owns, OwnsNone, rights_of}
-use Rattle.lot_sync.specs.Passes.{Standing, stands, sees, seen_as, lock_side, IsFree}
+use Rattle.lot_locks.specs.Standing.{Standing, stands}
+use Rattle.lot_sync.specs.Passes.{sees, seen_as, lock_side, IsFree}
 use Rattle.lot_sync.proofs.Rests.{held_owned}
 use Rattle.lot_rights.proofs.Turns.{moves_on, all_turned, map_turned, no_elements}
 use Rattle.lot_sync.proofs.closing.gather.Goals as goal

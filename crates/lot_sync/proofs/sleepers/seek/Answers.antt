@@ -8,7 +8,7 @@ returns-clause-seeks g c = record {
   before = c.apart-right.result.0;
   rest = c.apart-right.ensures.rest;
   none = λ k holds. c.requires.free.no_lock k (subst (λ p. Owns p k) (sym c.apart-right.ensures.same) (held_owned c.apart-right.result.0.own.holds k holds));
-  trying = rw c.if-got.false at c.take-right.ensures.ends;
+  trying = rw c.if-got.false at c.take-right.ensures;
 }
 
 pub returns-clause-none : goal.returns-clause-none

@@ -1,6 +1,7 @@
 use Rattle.std.proofs.Common.{subst, ap, ◌∙◌}
 use Rattle.lot_sync.specs.Lot.{PassView, Owns, permits_with}
-use Rattle.lot_sync.specs.Passes.{Standing, sees}
+use Rattle.lot_locks.specs.Standing.{Standing}
+use Rattle.lot_sync.specs.Passes.{sees}
 use Rattle.lot_sync.proofs.Rests.{owned_held, own_on}
 use Rattle.lot_sync.proofs.start.make_idle.Goals as goal
 

@@ -6,7 +6,7 @@ use Rattle.lot_sync.proofs.lot.Lot.at_rest.Goals as goal
 
 pub returns-clause-wide : goal.returns-clause-wide
 returns-clause-wide g c =
-    let words = c.words-words.ensures in
+    let words = c.lock_scheme-scheme.ensures in
     let rest = c.requires.rest in
     let kinds = c.thread.ensures.wide in
     let locks = words.keys.0 in

@@ -1,6 +1,7 @@
 use Rattle.std.proofs.Common.{subst, ap, ◌<◌}
-use Rattle.lot_sync.specs.Passes.{Standing}
-use Rattle.lot_sync.proofs.Rests.{held_near, rests_again, own_on}
+use Rattle.lot_locks.specs.Standing.{Standing}
+use Rattle.lot_locks.proofs.Freed.{held_near}
+use Rattle.lot_sync.proofs.Rests.{rests_again, own_on}
 use Rattle.lot_sync.proofs.lot.Lot.taken.Goals as goal
 
 pub at_rest-requires-clause-rest : goal.at_rest-requires-clause-rest

@@ -1,6 +1,6 @@
 use Rattle.std.proofs.Common.{ap, ◌∙◌}
 use Rattle.lot_sync.specs.Lot.{leaving}
-use Rattle.lot_sync.specs.declared.released.Released.TheVariants.{Quiet}
+use Rattle.lot_locks.specs.declared.released.Released.TheVariants.{Quiet}
 use Rattle.lot_sync.proofs.Rests.{rests_free, leaves_all, own_on}
 use Rattle.lot_sync.proofs.lot.Lot.unlock_asking.Goals as goal
 

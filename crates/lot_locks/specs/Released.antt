@@ -1,0 +1,44 @@
+-- What an unlock may answer, and what its answer comes from; and how the last one of a thread ended, as the entries tell that were made with
+-- its pass.
+use Rattle.std.specs.Prelude.{◌≡◌, ℕ, ◌<◌, Bool, true, false, List, Option, Some, None}
+use Rattle.std.specs.List.{fold}
+use Rattle.lot_core.specs.declared.events.Event.TheVariants.{Free, Pass as Passes}
+use Rattle.lot_core.specs.declared.events.Seen.TheVariants.{Bool as Saw, Sleeper}
+use Rattle.lot_rights.specs.declared.views.Access.{Access}
+use Rattle.lot_rights.specs.declared.views.Access.TheVariants.{Makes}
+use Rattle.lot_rights.specs.declared.views.Entry.{Entry}
+use Rattle.lot_locks.specs.declared.released.Released.{Released}
+use Rattle.lot_locks.specs.declared.released.Released.TheVariants.{Quiet, Nobody, Woke, Handed}
+
+-- what is decided of the first of the line, if any
+abbrev pub decision : Option ℕ → Bool → Released
+decision None hands = Nobody
+decision (Some thread) true = Handed
+decision (Some thread) false = Woke
+
+-- the token by which a sleeper is told the answer: 1 exactly where the lock was handed to it
+abbrev pub token_told : Released → ℕ
+token_told Quiet = 0
+token_told Nobody = 0
+token_told Woke = 0
+token_told Handed = 1
+
+-- a fair release leaves no lock to whoever comes first, and a release that is not asked to be fair hands over only after
+-- the moment 0
+abbrev pub IsFitting : Released → Bool → ℕ → Type 0
+IsFitting Quiet fair now = Unit {0}
+IsFitting Nobody fair now = Unit {0}
+IsFitting Woke fair now = fair ≡ false
+IsFitting Handed fair now = fair ≡ false → 0 < now
+
+-- ---- how the last unlock ended
+-- after one access more, where it ended like this before: by the one exchange, nobody was parked; and else by what was decided of the first
+-- of the line
+abbrev pub released_after : Option Released → Access → Option Released
+released_after before (Makes (Free t l) (Saw true)) = Some Quiet
+released_after before (Makes (Passes t l fair more) (Sleeper first)) = Some (decision first fair)
+released_after before _ = before
+
+-- after these entries; where none is that of an unlock, None
+abbrev pub released_in : List Entry → Option Released
+released_in entries = fold (λ before (e : Entry). released_after before e.access) None entries
