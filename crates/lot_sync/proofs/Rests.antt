@@ -1,6 +1,6 @@
 -- A pass gets a lock and lets it go, and is at rest again.
-use Rattle.std.proofs.Common.{◌≡◌, ◌≢◌, ℕ, ◌<◌, Bool, true, false, MatchBool, List, [], ◌∷◌, zero, suc, length, map, set, get_or, refl, sym, ap, subst, ◌∙◌, ⊎_elim, length-set, arith}
-use Rattle.std.proofs.lemmas.List.{get_or-set_same, get_or-set_other, map-set, set-set, set-get_or}
+use Rattle.std.proofs.Common.{◌≡◌, ◌≢◌, ℕ, ◌<◌, true, false, List, [], ◌∷◌, zero, suc, length, map, set, get_or, refl, sym, ap, subst, ◌∙◌, ⊎_elim, length-set, arith}
+use Rattle.std.proofs.lemmas.List.{get_or-set_same, get_or-set_other, map-set, set-get_or}
 use mathlib.Core.Option.{some, some-injective}
 use mathlib.Core.Logic.{dite}
 use native.Mathlib.Decide.{ℕ_discrete}
@@ -16,11 +16,10 @@ use Rattle.lot_waits.specs.Counts.{CountsView, woke}
 use Rattle.lot_permits.specs.Permits.{PermitsView}
 use Rattle.lot_kinds.specs.Rights.{RightsView, joined}
 use Rattle.lot_locks.specs.declared.released.Released.{Released}
-use Rattle.lot_locks.specs.declared.released.Released.TheVariants.{Quiet}
 use Rattle.lot_locks.proofs.Freed.{held_near}
 use Rattle.lot_sync.specs.Lot.{PassView, HeldView, Owns, leaving, waking}
 use Rattle.lot_sync.specs.Values.{Gets, MayGiveBack}
-use Rattle.lot_locks.specs.Standing.{Standing, putting, IsOwner, IsTryingFor, IsFoundParked, LetsGo, MayLetGo, MayPass}
+use Rattle.lot_locks.specs.Standing.{Standing, putting, IsOwner, IsTryingFor, IsFoundParked, LetsGo}
 use Rattle.lot_sync.specs.Passes.{is_held, sees, IsAtRest, AreRightsOf, IsNewOwner}
 
 -- ---- holds
