@@ -7,7 +7,7 @@
 //! |---|---|---|
 //! | `take_free`, `try_take` | one compare-exchange | an answer at once; `try_take` makes a second one |
 //! | `get_slowly` | | up to 40 yields, then a sleep in the lock's line |
-//! | `free` | one compare-exchange | the lock is marked as found parked, and still owned |
+//! | `free_unparked` | one compare-exchange | the lock is marked as found parked, and still owned |
 //! | `let_go`, `unpark_asking` | one compare-exchange | the first of the line is taken: the lock is handed to it, or it tries again |
 //!
 //! A pass is told by how it stands (`Standing`): what it knows of the locks, and how the last lock that it let go was released. Each
