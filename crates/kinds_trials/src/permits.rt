@@ -295,14 +295,11 @@ fn play<N: PermitName + Send + Sync, T: Threads + Wait + Sync + Abort>(
     let Ok(room) = Room::<N>::new(alloc, THREADS, 2) else {
         panic!(rt; "no memory")
     };
-    let Ok(mut back) = Vec::with_capacity(alloc, 2) else {
-        panic!(rt; "no memory")
-    };
     let (scheme, mut seekers, roots, room) = opened.name(room);
     let one = seekers.take_last();
     let zero = seekers.take_last();
-    let lot = match ParkingLot::open(alloc, THREADS, roots, scheme) {
-        Ok(lot) => lot,
+    let (lot, mut back) = match ParkingLot::open(alloc, THREADS, roots, scheme) {
+        Ok(opened) => opened,
         Err(_refused) => panic!(rt; "no memory"),
     };
     let (zero, one) = play_rows(rt, alloc, &lot, zero, one);

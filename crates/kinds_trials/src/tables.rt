@@ -83,7 +83,10 @@ pub(crate) fn open<N: WaitName + Send>(
     roots.push_reserved(EitherRoot::first(LockRoot { owed: None }));
     roots.push_reserved(EitherRoot::second(root));
     match ParkingLot::open(alloc, THREADS, roots, Both::new(NoLocks, scheme)) {
-        Ok(lot) => lot,
+        Ok((lot, room)) => {
+            room.destroy_empty();
+            lot
+        }
         Err(_refused) => panic!(rt; "no memory"),
     }
 }

@@ -1,13 +1,13 @@
 -- Where the place of a key is.
 use Rattle.std.proofs.Common.{◌≡◌, ◌≢◌, ℕ, zero, suc, ◌+◌, ◌*◌, ◌<◌, ◌≤◌, true, false, List, [], ◌∷◌, ◌++◌, length, map, take, get_or, set, inl, inr, ◌-◌, ◌/◌, ◌%◌, MatchOption, Option, Some}
-use Rattle.std.proofs.Common.{None, refl, sym, ◌∙◌, ap, subst, arith, eq-eqb}
+use Rattle.std.proofs.Common.{None, refl, sym, ◌∙◌, ap, subst, arith, add-one, eq-eqb}
 use Rattle.std.proofs.lemmas.Bool.{ne_eqb}
-use Rattle.std.proofs.lemmas.List.{get_or-map, length-map, take_all}
+use Rattle.std.proofs.lemmas.List.{get_or-map, length-map, map-append, take_all}
 use Rattle.std.proofs.Math.Nat.{mul-le-mul_right, mul-mod_left, mul-div_cancel}
 use Rattle.std.proofs.lemmas.Option.{get_or_from_slice_get}
 use Rattle.std.proofs.lemmas.Bool.Decides.{eqb_tells}
 use Rattle.std.proofs.Math.Seq.{map-set_same}
-use Rattle.lot_bucket.specs.Places.{empty_places, has_key, root_at, with_root, AreEven, AreWithout, LieFirst, AreBare, IsPlaceOf}
+use Rattle.lot_bucket.specs.Places.{empty_places, spaced, has_key, root_at, with_root, AreEven, AreWithout, LieFirst, AreBare, IsPlaceOf}
 
 module _ {R : Type 0} where
   -- the places before i are of other keys, and the one at i is of key k
@@ -172,6 +172,35 @@ even_new R keys places n first step made all first_is even rises =
     let same : map (λ (p : ℕ × Option R). p.0) places ≡ keys =
     ap (λ ps. map (λ (p : ℕ × Option R). p.0) ps) made ∙ keys_of_empty R (take n keys) ∙ take_all n keys all in
     subst (λ (ks : List ℕ). AreEven first step ks) (sym same) (rw first_is (even rises))
+
+-- one evenly spaced key more
+spaced_more : (first step n : ℕ) → spaced first step (suc n) ≡ spaced first step n ++ (first + n * step) ∷ []
+spaced_more first step zero = ap (λ k. k ∷ []) (let h : first ≡ first + 0 * step = omega arith in h)
+spaced_more first step (suc n) =
+    let next : first + step + n * step ≡ first + suc n * step = omega arith in
+    ap (λ ks. first ∷ ks) (spaced_more (first + step) step n ∙ ap (λ k. spaced (first + step) step n ++ k ∷ []) next)
+
+pub length-spaced : (first step n : ℕ) → length (spaced first step n) ≡ n
+length-spaced first step zero = refl
+length-spaced first step (suc n) = ap (λ m. suc m) (length-spaced (first + step) step n)
+
+pub even_spaced : (R : Type 0) (first step n : ℕ) → AreEven first step (map (λ (p : ℕ × Option R). p.0) (empty_places (spaced first step n)))
+even_spaced R first step n = rw (keys_of_empty R (spaced first step n)) (even first n)
+  where
+    even : (m count : ℕ) → AreEven m step (spaced m step count)
+    even m zero i lt = absurd (omega arith)
+    even m (suc count) zero lt = omega arith
+    even m (suc count) (suc i) lt = even (m + step) count i (omega arith) ∙ omega arith
+
+pub slot_more : (R : Type 0) (first step n : ℕ) (slots pushed : List (ℕ × Option R)) → slots ≡ empty_places (spaced first step n)
+    → pushed ≡ slots ++ (first + n * step, None) ∷ [] → pushed ≡ empty_places (spaced first step (n + 1))
+slot_more R first step n slots pushed made push =
+    let more : empty_places {R = R} (spaced first step n ++ (first + n * step) ∷ []) ≡ empty_places (spaced first step n) ++ (first + n * step, None) ∷ [] =
+    map-append (λ (k : ℕ). (k, None)) (spaced first step n) ((first + n * step) ∷ []) in
+    rw add-one (push ∙ ap (λ ps. ps ++ (first + n * step, None) ∷ []) made ∙ sym more ∙ ap (λ ks. empty_places ks) (sym (spaced_more first step n)))
+
+pub first_spaced : (R : Type 0) (first step n : ℕ) → LieFirst {R = R} (empty_places (spaced first step n))
+first_spaced R first step n = first_empty R (spaced first step n)
 
 -- where a key that stands at some distance is
 pub divided : (first step key : ℕ) → 0 < step → first ≤ key → (key - first) % step ≡ 0 → first + (key - first) / step * step ≡ key

@@ -1,5 +1,5 @@
 -- A bucket has a place for each of its keys, a pair of the key and its root where that is in.
-use Rattle.std.specs.Prelude.{◌≡◌, ℕ, ◌+◌, ◌*◌, ◌<◌, ◌==◌, if◌then◌else◌, Bool, true, false, List, [], ◌∷◌, Option, Some, None, length, map, slice_index, slice_get, slice_set}
+use Rattle.std.specs.Prelude.{◌≡◌, ℕ, zero, suc, ◌+◌, ◌*◌, ◌<◌, ◌==◌, if◌then◌else◌, Bool, true, false, List, [], ◌∷◌, Option, Some, None, length, map, slice_index, slice_get, slice_set}
 
 module _ {R : Type 0} where
   -- a place for each key, with no root in it
@@ -36,6 +36,11 @@ module _ {R : Type 0} where
   abbrev pub AreBare : List (ℕ × Option R) → Type 0
   AreBare [] = Unit {0}
   AreBare (p ∷ places) = (p.1 ≡ None) × AreBare places
+
+-- so many keys: first, and then each is the one before and step
+abbrev pub spaced : ℕ → ℕ → ℕ → List ℕ
+spaced first step zero = []
+spaced first step (suc n) = first ∷ spaced (first + step) step n
 
 -- each key is the one before and step
 abbrev pub AreEven : ℕ → ℕ → List ℕ → Type 0

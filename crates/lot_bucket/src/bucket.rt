@@ -1,6 +1,6 @@
-ghost use Rattle.std.specs.Prelude.{◌≡◌, ℕ, ◌+◌, ◌<◌, ◌≤◌, ◌↔◌, Bool, true, false, List, [], ◌∷◌, ◌++◌, Option, length, map, take, min, Any, IfOk, IsTrue, IsSome};
+ghost use Rattle.std.specs.Prelude.{◌≡◌, ℕ, ◌+◌, ◌-◌, ◌*◌, ◌^◌, ◌<◌, ◌≤◌, ◌↔◌, Bool, true, false, List, [], ◌∷◌, ◌++◌, Option, length, map, take, min, Any, IfOk, IsTrue, IsSome};
 ghost use Rattle.lot_bucket.specs.Queue.{line_of, without_key};
-ghost use Rattle.lot_bucket.specs.Places.{empty_places, has_key, root_at, with_root};
+ghost use Rattle.lot_bucket.specs.Places.{empty_places, spaced, has_key, root_at, with_root};
 
 use crate::places::Places;
 use crate::queue::Queue;
@@ -58,6 +58,23 @@ impl<R> Bucket<R> {
     {
         let queue = Queue::new(alloc, room)?;
         let places = Places::new(alloc, keys)?;
+        Ok(Bucket::closed(queue, places))
+    }
+
+    /// A closed bucket with `count` keys, and room for so many threads: the keys are `first`, and then each is
+    /// the one before and `step`. It makes no list of them; no later call takes memory.
+    pub fn spaced(
+        alloc: Global,
+        room: usize,
+        first: usize,
+        step: usize,
+        count: usize,
+    ) -> Result<Bucket<R>, BucketFault>
+        requires { first + (count - 1) * step < 2 ^ 64 }
+        ensures { IfOk result (λ b. b ≡ record { room = room; places = empty_places (spaced first step count); queue = []; opened = false; next_fair = 0 }) }
+    {
+        let queue = Queue::new(alloc, room)?;
+        let places = Places::spaced(alloc, first, step, count)?;
         Ok(Bucket::closed(queue, places))
     }
 

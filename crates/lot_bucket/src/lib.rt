@@ -11,7 +11,7 @@
 //! ```
 //!
 //! The queue lies in a fixed row of places, and each place in use knows the next. So a thread that is
-//! taken out of the middle moves no other, and no call but `new` takes memory.
+//! taken out of the middle moves no other, and no call but `new` and `spaced` takes memory.
 //!
 //! `Bucket` is the bucket itself. `Settled` is what lies behind its lock: a bucket that agrees with its
 //! roots, so that whoever takes the lock may count on it, and whoever lets it go has to see to it.

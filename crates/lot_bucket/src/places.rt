@@ -1,5 +1,5 @@
-ghost use Rattle.std.specs.Prelude.{◌≡◌, ◌≢◌, ℕ, ◌+◌, ◌*◌, ◌<◌, Bool, true, false, List, [], ◌∷◌, Option, length, map, slice_index, IfOk, IsTrue, IsSome, MatchOption};
-ghost use Rattle.lot_bucket.specs.Places.{empty_places, has_key, root_at, with_root, AreEven, LieFirst, IsPlaceOf};
+ghost use Rattle.std.specs.Prelude.{◌≡◌, ◌≢◌, ℕ, ◌+◌, ◌-◌, ◌*◌, ◌^◌, ◌<◌, Bool, true, false, List, [], ◌∷◌, Option, length, map, slice_index, IfOk, IsTrue, IsSome, MatchOption};
+ghost use Rattle.lot_bucket.specs.Places.{empty_places, spaced, has_key, root_at, with_root, AreEven, LieFirst, IsPlaceOf};
 
 use std::alloc::{AllocError, Global};
 use std::marker::Model;
@@ -39,6 +39,23 @@ impl<R> Places<R> {
             first: first_of(keys),
             step: spacing(keys),
         })
+    }
+
+    /// Places for `count` keys: `first`, and then each is the one before and `step`.
+    pub fn spaced(
+        alloc: Global,
+        first: usize,
+        step: usize,
+        count: usize,
+    ) -> Result<Places<R>, AllocError>
+        requires { first + (count - 1) * step < 2 ^ 64 }
+        ensures { IfOk result (λ p. p ≡ empty_places (spaced first step count)) }
+    {
+        let mut slots = Vec::with_capacity(alloc, count)?;
+        for place in 0..count {
+            slots.push_reserved((first + place * step, None));
+        }
+        Ok(Places { slots, first, step })
     }
 
     pub fn hollow(alloc: Global) -> Places<R>

@@ -326,3 +326,14 @@ fn keys_need_not_be_evenly_spaced(rt: HostRuntime) -> Result<(), Fail> {
     bucket.discard();
     Ok(())
 }
+
+#[test]
+#[tactic(auto, using(crate::proofs::Slots::rootless_empty))]
+fn keys_are_evenly_spaced(rt: HostRuntime) -> Result<(), Fail> {
+    let bucket: Bucket<Named> = Bucket::spaced(rt.alloc(), ROOM, 1, 12, 3)?;
+    for (key, has) in [(0, false), (1, true), (13, true), (25, true), (37, false)] {
+        assert_eq!(rt; bucket.has_key(key), has, "key {key}");
+    }
+    bucket.discard();
+    Ok(())
+}

@@ -1,5 +1,5 @@
 -- What a parking call on the whole lot says of the one table whose roots and passes it was called with.
-use Rattle.std.proofs.Common.{◌≡◌, ℕ, zero, suc, true, false, Bool, List, length, Option, Some, None, refl, sym, ◌∙◌, ap, subst}
+use Rattle.std.proofs.Common.{◌≡◌, ℕ, zero, suc, true, false, Bool, List, Option, Some, None, refl, sym, ◌∙◌, ap, subst}
 use Rattle.lot_bucket.specs.declared.taking.Dequeued.{Dequeued}
 use Rattle.lot_park.specs.Parking.{Tells, TellsCount, LooksInVain, Awaited, UnparkedOne, UnparkedCount, Ends, ParkedOnce}
 use Rattle.lot_park.specs.declared.lot.Parked.{Parked}

@@ -59,27 +59,32 @@ impl<S: Scheme> ParkingLot<S> {
 
     /// A lot for so many threads, with a key for each root: root `i` is that of key `i`.
     ///
-    /// Roots and scheme come back where a request for memory was refused.
+    /// The list of the roots comes back: empty and with all its room, which is enough for `close`, or with the
+    /// roots, and the scheme beside it, where a request for memory was refused.
     pub fn open(
         alloc: Global,
         threads: usize,
         roots: Vec<S::Root>,
         scheme: S,
-    ) -> Result<ParkingLot<S>, (ParkFault, Vec<S::Root>, S)>
+    ) -> Result<(ParkingLot<S>, Vec<S::Root>), (ParkFault, Vec<S::Root>, S)>
         requires few { threads ≤ MOST_THREADS }
         requires idle { AreIdle S.Root.key S.Root.line S.Root.owes roots.items }
-        ensures ok { IfOk result (λ l. l ≡ record { scheme = scheme; threads = threads; keys = vec_len roots }) }
+        ensures ok { IfOk result (λ r. r.0 ≡ record { scheme = scheme; threads = threads; keys = vec_len roots }) }
+        ensures room { IfOk result (λ r. (vec_len r.1 ≡ 0) × (vec_capacity r.1 ≡ vec_capacity roots)) }
         ensures err { IfErr result (λ e. (e.1 ≡ roots) × (e.2 ≡ scheme)) }
     {
         let Ok(records) = new_records(alloc, threads) else {
             return Err((ParkFault::NoMemory, roots, scheme));
         };
         match Table::new(alloc, threads, roots) {
-            Ok(table) => Ok(ParkingLot {
-                scheme,
-                table,
-                records,
-            }),
+            Ok((table, room)) => Ok((
+                ParkingLot {
+                    scheme,
+                    table,
+                    records,
+                },
+                room,
+            )),
             Err((TableFault::NoMemory, roots)) => Err((ParkFault::NoMemory, roots, scheme)),
         }
     }

@@ -29,11 +29,10 @@ use std::sync::Mutex;
 struct Rooms<V: Keeps + Send, N: LotName<V> + Send> {
     idle: Vec<Idle<V, N>>,
     named: Vec<LotRoot<V, N>>,
-    closing: Vec<LotRoot<V, N>>,
     kinds: Room<N>,
-    ghost empty: { (vec_len idle ≡ 0) × (vec_len named ≡ 0) × (vec_len closing ≡ 0) },
+    ghost empty: { (vec_len idle ≡ 0) × (vec_len named ≡ 0) },
     ghost for_passes: { N.threads ≤ vec_capacity idle },
-    ghost for_roots: { (length N.values + N.conds + length N.permits ≤ vec_capacity named) × (length N.values + N.conds + length N.permits ≤ vec_capacity closing) },
+    ghost for_roots: { length N.values + N.conds + length N.permits ≤ vec_capacity named },
     ghost for_kinds: { (kinds.threads ≡ N.threads) × (kinds.conds ≡ N.conds) × (kinds.sems ≡ length N.permits) },
 }
 
@@ -48,12 +47,11 @@ impl<V: Keeps + Send, N: LotName<V> + Send> Rooms<V, N> {
         requires threads { (threads ≡ N.threads) × (threads ≤ MAX_THREADS) }
         requires keys { (locks ≡ length N.values) × (conds ≡ N.conds) × (sems ≡ length N.permits) × (locks + conds + sems ≤ MAX_KEYS) }
     {
-        let (named, closing) = root_lists(alloc, locks + conds + sems)?;
+        let named = Vec::with_capacity(alloc, locks + conds + sems)?;
         let idle = match Vec::with_capacity(alloc, threads) {
             Ok(idle) => idle,
             Err(refused) => {
                 named.destroy_empty();
-                closing.destroy_empty();
                 return Err(refused);
             }
         };
@@ -61,33 +59,13 @@ impl<V: Keeps + Send, N: LotName<V> + Send> Rooms<V, N> {
             Ok(room) => Ok(Rooms {
                 idle,
                 named,
-                closing,
                 kinds: room,
             }),
             Err(refused) => {
                 idle.destroy_empty();
                 named.destroy_empty();
-                closing.destroy_empty();
                 Err(refused)
             }
-        }
-    }
-}
-
-/// The lists that hand the roots to the parking lot, and back.
-fn root_lists<V: Keeps + Send, N: LotName<V> + Send>(
-    alloc: Global,
-    keys: usize,
-) -> Result<(Vec<LotRoot<V, N>>, Vec<LotRoot<V, N>>), AllocError>
-    ensures empty { IfOk result (λ r. (vec_len r.0 ≡ 0) × (vec_len r.1 ≡ 0)) }
-    ensures wide { IfOk result (λ r. (keys ≤ vec_capacity r.0) × (keys ≤ vec_capacity r.1)) }
-{
-    let named = Vec::with_capacity(alloc, keys)?;
-    match Vec::with_capacity(alloc, keys) {
-        Ok(closing) => Ok((named, closing)),
-        Err(refused) => {
-            named.destroy_empty();
-            Err(refused)
         }
     }
 }
@@ -127,6 +105,7 @@ fn add_roots<V: Keeps + Send, N: LotName<V> + Send>(
     ensures same { named.new.items ≡ named.old.items ++ map Second roots.old.items }
     ensures long { vec_len named.new ≡ vec_len named.old + vec_len roots.old }
     ensures empty { (vec_len roots.new ≡ 0) × (vec_capacity roots.new ≡ vec_capacity roots.old) }
+    ensures room { vec_capacity named.new ≡ vec_capacity named.old }
 {
     roots.reverse();
     while let Some(root) = roots.pop() {
@@ -240,7 +219,6 @@ fn started<V: Keeps + Send, N: LotName<V> + Send>(
     let Rooms {
         mut idle,
         mut named,
-        closing,
         kinds: room,
     } = rooms;
     let (locks, conds, sems) = (roots.len(), kinds.conds(), kinds.sems());
@@ -253,12 +231,12 @@ fn started<V: Keeps + Send, N: LotName<V> + Send>(
         named,
         LotScheme::new(LockScheme::new(words), scheme),
     ) {
-        Ok(parking) => {
+        Ok((parking, named)) => {
             fill(&mut passes, &mut kinds, &mut idle);
             let room = ClosingRoom {
                 passes,
                 kinds,
-                named: closing,
+                named,
                 roots,
                 kind_roots,
                 room,
@@ -274,7 +252,6 @@ fn started<V: Keeps + Send, N: LotName<V> + Send>(
         }
         Err((ParkFault::NoMemory, named, scheme)) => {
             idle.destroy_empty();
-            closing.destroy_empty();
             unname_roots(named, &mut roots, &mut kind_roots);
             let (words, scheme) = scheme.apart();
             let _nothing = settle(scheme, kinds, kind_roots, room);

@@ -1,14 +1,19 @@
 -- How the buckets of a new table are made.
-use Rattle.std.proofs.Common.{◌≡◌, ◌≢◌, ℕ, ◌+◌, ◌<◌, ◌%◌, ◌&&◌, true, false, inl, inr, List, [], ◌∷◌, ◌++◌, length, get_or, None, refl, sym, ◌∙◌, ap, arith, eq-eqb, length-append}
-use Rattle.std.specs.Prelude.{nat_lt, ◌==◌, if◌then◌else◌}
-use Rattle.std.proofs.lemmas.Bool.{ne_eqb, lt-ltb, le-ltb}
+use Rattle.std.proofs.Common.{◌≡◌, ℕ, ◌+◌, ◌-◌, ◌*◌, ◌/◌, ◌<◌, ◌≤◌, ◌%◌, ◌&&◌, true, false, inl, inr, List, [], ◌∷◌, ◌++◌, length, get_or, Option, None, refl, sym, ◌∙◌, ap, arith, length-append}
+use Rattle.std.specs.Prelude.{nat_lt, ◌==◌}
+use Rattle.std.proofs.lemmas.Bool.{lt-ltb, le-ltb}
 use Rattle.std.proofs.lemmas.Bool.Decides.{eqb_tells, leb_tells}
+use Rattle.std.specs.Int.{div_ceil}
+use Rattle.std.proofs.lemmas.Grind.{div_ceil_times}
 use Rattle.std.proofs.Math.ListN.{get_or-append}
 use Rattle.std.proofs.Math.Seq.{get_or-append_seam}
-use Rattle.lot_bucket.specs.Places.{empty_places, has_key, root_at}
+use Rattle.std.proofs.lemmas.List.{length-map}
+use Rattle.std.proofs.Math.Nat.{mul-le-mul_right, mod-add-div', add-mul-mod_self_right, mod-eq_of_lt}
+use Rattle.lot_bucket.specs.Places.{empty_places, spaced, has_key}
+use Rattle.lot_bucket.proofs.Slots.{length-spaced, even_spaced, even_place, even_without, rootless_empty}
 use Rattle.lot_bucket.specs.Contents.{Contents}
 use Rattle.lot_bucket.specs.Settled.{IsWhole}
-use Rattle.lot_table.specs.Buckets.{is_among, IsFresh, IsFilled}
+use Rattle.lot_table.specs.Buckets.{IsFresh, IsFilled}
 
 -- one more element at the end of a list, each of which has P of its number
 pub each_more : {A : Type 0} (P : ℕ → A → Type 0) (n : ℕ) (xs ys : List A) (x : A) → ys ≡ xs ++ x ∷ [] → length xs ≡ n
@@ -36,58 +41,61 @@ each_rest {A} P xs ys x is each i d lt =
     let here : get_or ys i d ≡ get_or xs i d = rw is (get_or-append xs (x ∷ []) d i lt) in
     rw here at (each i d l)
 
-is_among-push : (k x : ℕ) (keys : List ℕ) → is_among k (keys ++ x ∷ []) ≡ (if x == k then true else is_among k keys)
-is_among-push k x [] = refl
-is_among-push k x (y ∷ keys) =
-    elim (eqb_tells y k) [
-      | inl e ↦ rw e.0 (elim (eqb_tells x k) [ inl f ↦ rw f.0 refl | inr f ↦ rw f.0 refl ])
-      | inr e ↦ rw e.0 (is_among-push k x keys)
-    ]
+-- the keys of a bucket, counted
+module _ (R : Type 0) (size number keys left count : ℕ) (lt : number < size) (from : left ≡ keys - number) (counted : count ≡ div_ceil left size) where
+  abbrev pub places : List (ℕ × Option R)
+  places = empty_places (spaced number size count)
 
-nat_lt-next : (k m : ℕ) → m ≢ k → nat_lt k (m + 1) ≡ nat_lt k m
-nat_lt-next k m other =
-    elim (leb_tells m k) [
-      | inl e ↦ le-ltb k (m + 1) (omega (arith, e.1)) ∙ sym (le-ltb k m e.1)
-      | inr e ↦ lt-ltb k (m + 1) (omega (arith, e.1)) ∙ sym (lt-ltb k m e.1)
-    ]
+  count_of : length places ≡ count
+  count_of = length-map (spaced number size count) (λ (k : ℕ). (k, None)) ∙ length-spaced number size count
 
--- key m is one of the bucket's own
-pub own_more : (size number m : ℕ) (own pushed : List ℕ) → pushed ≡ own ++ m ∷ [] → m % size ≡ number
-    → ((k : ℕ) → is_among k own ≡ (k % size == number && nat_lt k m)) → (k : ℕ) → is_among k pushed ≡ (k % size == number && nat_lt k (m + 1))
-own_more size number m own pushed is at among k =
-    rw (is, is_among-push k m own) (elim (eqb_tells m k) [
-      | inl e ↦ rw (e.0) (rw (← e.1, eq-eqb (m % size) number at, lt-ltb m (m + 1) (omega arith)) refl)
-      | inr e ↦ rw (e.0, nat_lt-next k m e.1) (among k)
-    ])
+  bounds : (left ≤ count * size) × (count * size < left + size)
+  bounds = rw counted (div_ceil_times left size (omega arith))
 
--- key m is not
-pub own_same : (size number m : ℕ) (own : List ℕ) → m % size ≢ number
-    → ((k : ℕ) → is_among k own ≡ (k % size == number && nat_lt k m)) → (k : ℕ) → is_among k own ≡ (k % size == number && nat_lt k (m + 1))
-own_same size number m own at among k =
-    elim (eqb_tells m k) [
-      | inl e ↦ among k ∙ rw (← e.1, ne_eqb (m % size) number at) refl
-      | inr e ↦ rw (nat_lt-next k m e.1) (among k)
-    ]
+  last_below : (j : ℕ) → j < count → number + j * size < keys
+  last_below j l = let more : (j + 1) * size ≤ count * size = mul-le-mul_right size (let h : j + 1 ≤ count = omega arith in h) in omega (arith, bounds.1)
 
-has_empty : (R : Type 0) (k : ℕ) (keys : List ℕ) → has_key k (empty_places {R = R} keys) ≡ is_among k keys
-has_empty R k [] = refl
-has_empty R k (x ∷ keys) = elim (eqb_tells x k) [ inl e ↦ rw e.0 refl | inr e ↦ rw e.0 (has_empty R k keys) ]
+  pub last_fits : (limit : ℕ) → number < limit → keys < limit → number + (count - 1) * size < limit
+  last_fits limit few many =
+      elim (leb_tells count 0) [
+        | inl e ↦ let none : count - 1 ≡ 0 = omega (arith, e.1) in rw none (omega arith)
+        | inr e ↦ omega (arith, last_below (count - 1) (omega (arith, e.1)))
+      ]
 
-rootless_empty : (R : Type 0) (k : ℕ) (keys : List ℕ) → root_at k (empty_places {R = R} keys) ≡ None
-rootless_empty R k [] = refl
-rootless_empty R k (x ∷ keys) = elim (eqb_tells x k) [ inl e ↦ rw e.0 refl | inr e ↦ rw e.0 (rootless_empty R k keys) ]
+  -- they are the keys that leave number
+  laid_out : (k : ℕ) → has_key k places ≡ (k % size == number && nat_lt k keys)
+  laid_out k =
+      let even = even_spaced R number size count in
+      elim (eqb_tells (k % size) number) [
+        | inl e ↦
+            elim (leb_tells keys k) [
+              | inl f ↦
+                  rw (e.0, le-ltb k keys f.1) (even_without number size k places even (λ j l same. let below : number + j * size < keys = last_below j (omega (arith, count_of, l)) in omega arith))
+              | inr f ↦
+                  let at : number + k / size * size ≡ k = ap (λ n. n + k / size * size) (sym e.1) ∙ mod-add-div' k size in
+                  let here : k / size < count = within k (k / size) at f.1 in
+                  rw (e.0, lt-ltb k keys f.1) (even_place number size k (k / size) places (omega arith) even (omega (arith, count_of, here)) at).has
+            ]
+        | inr e ↦ rw e.0 (even_without number size k places even (λ j l same. e.1 (ap (λ n. n % size) (sym same) ∙ add-mul-mod_self_right number j size ∙ mod-eq_of_lt lt)))
+      ]
+    where
+      within : (m j : ℕ) → number + j * size ≡ m → m < keys → j < count
+      within m j is below =
+          elim (leb_tells count j) [
+            | inl e ↦ absurd (let more : count * size ≤ j * size = mul-le-mul_right size e.1 in omega (arith, bounds.0))
+            | inr e ↦ e.1
+          ]
 
-pub fresh_made : (R : Type 0) (size number keys threads : ℕ) (own : List ℕ) (b : Contents R) → ((k : ℕ) → is_among k own ≡ (k % size == number && nat_lt k keys))
-    → b ≡ record { room = threads; places = empty_places own; queue = []; opened = false; next_fair = 0 } → IsFresh size number keys threads b
-fresh_made R size number keys threads own b among is =
-    let places : b.places ≡ empty_places own = ap (λ (c : Contents R). c.places) is in
-    record {
-      closed = ap (λ (c : Contents R). c.opened) is;
-      laid_out = λ k. rw places (has_empty R k own ∙ among k);
-      rootless = λ k. rw places (rootless_empty R k own);
-      empty = ap (λ (c : Contents R). c.queue) is;
-      room = ap (λ (c : Contents R). c.room) is;
-    }
+  pub fresh_made : (threads : ℕ) (b : Contents R) → b ≡ record { room = threads; places = places; queue = []; opened = false; next_fair = 0 } → IsFresh size number keys threads b
+  fresh_made threads b is =
+      let same : b.places ≡ places = ap (λ (c : Contents R). c.places) is in
+      record {
+        closed = ap (λ (c : Contents R). c.opened) is;
+        laid_out = λ k. rw same (laid_out k);
+        rootless = λ k. rw same (rootless_empty R k (spaced number size count));
+        empty = ap (λ (c : Contents R). c.queue) is;
+        room = ap (λ (c : Contents R). c.room) is;
+      }
 
 -- a filled bucket that was opened
 pub opened_whole : {R : Type 0} (key : R → ℕ) (line : R → List ℕ) (owes : R → List (ℕ × ℕ)) (size number keys : ℕ) (b c : Contents R) → IsFilled key line owes size number keys b

@@ -1,16 +1,11 @@
 -- How keys lie in the buckets of a table: key k in bucket k mod size.
-use Rattle.std.specs.Prelude.{◌≡◌, ℕ, ◌<◌, ◌≤◌, ◌%◌, ◌^◌, ◌==◌, if◌then◌else◌, Bool, true, false, List, [], ◌∷◌, None, length, slice_index_or}
+use Rattle.std.specs.Prelude.{◌≡◌, ℕ, ◌<◌, ◌≤◌, ◌%◌, ◌^◌, false, List, [], None, length, slice_index_or}
 use Rattle.std.specs.List.{sum_by}
 use Rattle.lot_bucket.specs.Queue.{line_of}
 use Rattle.lot_bucket.specs.Places.{root_at}
 use Rattle.lot_bucket.specs.Contents.{Contents}
 use Rattle.lot_bucket.specs.Agrees.{AgreesOpen, AgreesClosed}
 use Rattle.lot_bucket.specs.Settled.{IsLaidOut, IsWhole}
-
--- whether k is one of these keys
-abbrev pub is_among : ℕ → List ℕ → Bool
-is_among k [] = false
-is_among k (x ∷ keys) = if x == k then true else is_among k keys
 
 module _ {R : Type 0} where
   -- the bucket of key k; b stands for it where there are no buckets

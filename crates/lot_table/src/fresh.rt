@@ -1,25 +1,28 @@
 //! The new buckets of a table, and their keys.
 
-ghost use Rattle.std.specs.Prelude.{◌≡◌, ℕ, ◌<◌, ◌%◌, ◌==◌, nat_lt, ◌&&◌, IfOk, slice_index_or, vec_len};
+ghost use Rattle.std.specs.Prelude.{◌≡◌, ℕ, ◌<◌, ◌≤◌, IfOk, slice_index_or, vec_len, vec_capacity};
 ghost use Rattle.lot_bucket.specs.Agrees.{IsSpent};
-ghost use Rattle.lot_table.specs.Buckets.{is_among, IsFresh, AreFresh};
+ghost use Rattle.lot_table.specs.Buckets.{IsFresh, AreFresh};
 
 use crate::sizes::TableFault;
 use lot_bucket::{Bucket, Root};
-use std::alloc::{AllocError, Global};
+use std::alloc::Global;
 
-/// The closed, empty buckets of a table of so many buckets, with room for so many threads in each.
+/// The closed, empty buckets of a table of so many buckets, with room for so many threads in each. The list of
+/// them has room for `most`.
 pub fn fresh_buckets<R: Root>(
     alloc: Global,
+    most: usize,
     size: usize,
     keys: usize,
     threads: usize,
 ) -> Result<Vec<Bucket<R>>, TableFault>
-    requires { 0 < size }
+    requires { size ≤ most }
     ensures len { IfOk result (λ v. vec_len v ≡ size) }
     ensures fresh { IfOk result (λ v. AreFresh keys threads v.items) }
+    ensures room { IfOk result (λ v. most ≤ vec_capacity v) }
 {
-    let mut buckets = Vec::with_capacity(alloc, size)?;
+    let mut buckets = Vec::with_capacity(alloc, most)?;
     for number in 0..size {
         match fresh_bucket(alloc, number, size, keys, threads) {
             Ok(bucket) => buckets.push_reserved(bucket),
@@ -43,6 +46,7 @@ pub fn discard_all<R: Root>(buckets: Vec<Bucket<R>>)
     buckets.destroy_empty();
 }
 
+// The keys of a bucket are those below `keys` that leave `number` when they are divided by `size`.
 fn fresh_bucket<R: Root>(
     alloc: Global,
     number: usize,
@@ -50,24 +54,9 @@ fn fresh_bucket<R: Root>(
     keys: usize,
     threads: usize,
 ) -> Result<Bucket<R>, TableFault>
-    requires { 0 < size }
+    requires { number < size }
     ensures { IfOk result (λ b. IsFresh size number keys threads b) }
 {
-    let own = keys_of(alloc, number, size, keys)?;
-    Ok(Bucket::new(alloc, threads, own.as_slice())?)
-}
-
-// The keys below `keys` that leave `number` when they are divided by `size`.
-fn keys_of(alloc: Global, number: usize, size: usize, keys: usize) -> Result<Vec<usize>, AllocError>
-    requires { 0 < size }
-    ensures { IfOk result (λ v. (k : ℕ) → is_among k v.items ≡ (k % size == number && nat_lt k keys)) }
-{
-    let mut own = Vec::with_capacity(alloc, keys.div_ceil(size))?;
-    for key in 0..keys {
-        if key % size != number {
-            continue;
-        }
-        own.push(key)?;
-    }
-    Ok(own)
+    let count = keys.saturating_sub(number).div_ceil(size);
+    Ok(Bucket::spaced(alloc, threads, number, size, count)?)
 }

@@ -76,7 +76,7 @@ fn supplies_for<'a, W: Wait, R: Root>(
 {
     let guards = Vec::with_capacity(alloc, left)?;
     let grown = Version::hollow(alloc, size)?;
-    let fresh = match fresh_buckets(alloc, size, keys, threads) {
+    let fresh = match fresh_buckets(alloc, size, size, keys, threads) {
         Ok(fresh) => fresh,
         Err(fault) => {
             grown.discard(rt);

@@ -2,7 +2,7 @@ ghost use Rattle.std.specs.Prelude.{◌≡◌, ◌≢◌, ℕ, ◌+◌, ◌*◌,
 ghost use Rattle.std.specs.Sync.Mutex.{mutex_guard_value};
 ghost use Rattle.lot_bucket.specs.Settled.{IsReady, HasPlaceFor, Stays};
 ghost use Rattle.lot_table.specs.Roots.{AreIdle, Appends};
-ghost use Rattle.lot_table.specs.Sizes.{Serves};
+ghost use Rattle.lot_table.specs.Sizes.{Serves, grown_size_of};
 ghost use Rattle.lot_table.specs.Buckets.{AreFresh, AreFilled};
 ghost use Rattle.lot_table.specs.declared.sizes.TheConstants.{MOST_THREADS, FIRST_SIZE, MOST_VERSIONS};
 
@@ -50,15 +50,17 @@ impl<R: Root> Table<R> {
     /// A table for so many threads, with a key for each root: root `i` is that of key `i`. It has three
     /// buckets at first.
     ///
-    /// The roots come back where a request for memory was refused.
+    /// The list of the roots comes back: empty and with all its room, which is enough for `close`, or with the
+    /// roots where a request for memory was refused.
     pub fn new(
         alloc: Global,
         threads: usize,
         roots: Vec<R>,
-    ) -> Result<Table<R>, (TableFault, Vec<R>)>
+    ) -> Result<(Table<R>, Vec<R>), (TableFault, Vec<R>)>
         requires few { threads ≤ MOST_THREADS }
         requires idle { AreIdle R.key R.line R.owes roots.items }
-        ensures ok { IfOk result (λ t. t ≡ record { threads = threads; keys = vec_len roots }) }
+        ensures ok { IfOk result (λ r. r.0 ≡ record { threads = threads; keys = vec_len roots }) }
+        ensures room { IfOk result (λ r. (vec_len r.1 ≡ 0) × (vec_capacity r.1 ≡ vec_capacity roots)) }
         ensures err { IfErr result (λ e. e.1 ≡ roots) }
     {
         let keys = roots.len();
@@ -70,16 +72,18 @@ impl<R: Root> Table<R> {
             locks,
             mut fresh,
             cells,
-            closing,
         } = parts;
-        put_all(fresh.as_mut_slice(), roots);
-        Ok(Table {
-            versions: Versions::new(Version::of(fresh, keys, locks), cells),
-            closing: Mutex::new(Closing::new(closing)),
+        let mut roots = roots;
+        put_all(fresh.as_mut_slice(), &mut roots);
+        let (first, row) = Version::of(fresh, keys, locks);
+        let table = Table {
+            versions: Versions::new(first, cells),
+            closing: Mutex::new(Closing::new(row)),
             grower: Grower::new(alloc),
             threads,
             keys,
-        })
+        };
+        Ok((table, roots))
     }
 
     /// How many buckets the newest version has; a moment later it may be more.
@@ -221,13 +225,12 @@ impl<R: Root> Table<R> {
     }
 }
 
-// What a table is made of: room for the locks of the first version and its buckets, room for the cells of the
-// versions after it, and for the buckets of any version.
+// What a table is made of: room for the locks of the first version, its buckets in a list that has room for those
+// of any version, and room for the cells of the versions after it.
 struct Parts<R: Root> {
     locks: Vec<Mutex<Settled<R>>>,
     fresh: Vec<Bucket<R>>,
     cells: Vec<OnceLock<Version<R>>>,
-    closing: Vec<Bucket<R>>,
 }
 
 fn parts_for<R: Root>(alloc: Global, threads: usize, keys: usize) -> Result<Parts<R>, TableFault>
@@ -235,17 +238,14 @@ fn parts_for<R: Root>(alloc: Global, threads: usize, keys: usize) -> Result<Part
     ensures locks { IfOk result (λ p. (vec_len p.locks ≡ 0) × (FIRST_SIZE ≤ vec_capacity p.locks)) }
     ensures fresh { IfOk result (λ p. (vec_len p.fresh ≡ FIRST_SIZE) × AreFresh keys threads p.fresh.items) }
     ensures cells { IfOk result (λ p. (vec_len p.cells ≡ 0) × (MOST_VERSIONS ≤ vec_capacity p.cells + 1)) }
-    ensures closing { IfOk result (λ p. p.closing.items ≡ []) }
+    ensures closing { IfOk result (λ p. FIRST_SIZE + grown_size_of 0 threads ≤ vec_capacity p.fresh) }
 {
     let mut locks = Vec::new(alloc);
     let mut cells = Vec::new(alloc);
-    let mut closing = Vec::new(alloc);
     let most = FIRST_SIZE + grown_size(0, threads);
-    let has_room = locks.reserve(FIRST_SIZE).is_ok()
-        && cells.reserve(MOST_VERSIONS - 1).is_ok()
-        && closing.reserve(most).is_ok();
+    let has_room = locks.reserve(FIRST_SIZE).is_ok() && cells.reserve(MOST_VERSIONS - 1).is_ok();
     let made = if has_room {
-        fresh_buckets(alloc, FIRST_SIZE, keys, threads)
+        fresh_buckets(alloc, most, FIRST_SIZE, keys, threads)
     } else {
         Err(TableFault::NoMemory)
     };
@@ -254,31 +254,28 @@ fn parts_for<R: Root>(alloc: Global, threads: usize, keys: usize) -> Result<Part
             locks,
             fresh,
             cells,
-            closing,
         }),
         Err(fault) => {
             locks.destroy_empty();
             cells.destroy_empty();
-            closing.destroy_empty();
             Err(fault)
         }
     }
 }
 
-// Puts each root into the bucket of its key.
-fn put_all<R: Root>(fresh: &mut [Bucket<R>], roots: Vec<R>)
+// Puts each root into the bucket of its key, and leaves the list empty.
+fn put_all<R: Root>(fresh: &mut [Bucket<R>], roots: &mut Vec<R>)
     requires some { 0 < length fresh.old }
-    requires fresh { (threads : ℕ) × AreFresh (length roots.items) threads fresh.old }
-    requires idle { AreIdle R.key R.line R.owes roots.items }
-    ensures { AreFilled R.key R.line R.owes (length roots.items) fresh.new }
+    requires fresh { (threads : ℕ) × AreFresh (length roots.old.items) threads fresh.old }
+    requires idle { AreIdle R.key R.line R.owes roots.old.items }
+    ensures filled { AreFilled R.key R.line R.owes (length roots.old.items) fresh.new }
+    ensures room { (vec_len roots.new ≡ 0) × (vec_capacity roots.new ≡ vec_capacity roots.old) }
 {
     let size = fresh.len();
-    let mut roots = roots;
     while let Some(root) = roots.pop() {
         let key = roots.len();
         fresh[key % size].put_root(key, root);
     }
-    roots.destroy_empty();
 }
 
 #[cfg(test)]

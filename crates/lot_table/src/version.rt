@@ -43,13 +43,20 @@ impl<R: Root> Version<R> {
         Ok(Version { buckets })
     }
 
-    /// The version of these buckets, which are opened. `locks` has room for them.
-    pub fn of(buckets: Vec<Bucket<R>>, keys: usize, locks: Vec<Mutex<Settled<R>>>) -> Version<R>
+    /// The version of these buckets, which are opened, and the list that they lay in, with its room. `locks` has
+    /// room for them.
+    pub fn of(
+        buckets: Vec<Bucket<R>>,
+        keys: usize,
+        locks: Vec<Mutex<Settled<R>>>,
+    ) -> (Version<R>, Vec<Bucket<R>>)
         requires some { 0 < vec_len buckets }
         requires empty { vec_len locks ≡ 0 }
         requires room { vec_len buckets ≤ vec_capacity locks }
         requires filled { AreFilled R.key R.line R.owes keys buckets.items }
-        ensures { result.size ≡ vec_len buckets }
+        ensures size { result.0.size ≡ vec_len buckets }
+        ensures empty { result.1.items ≡ [] }
+        ensures room { vec_capacity result.1 ≡ vec_capacity buckets }
     {
         let size = buckets.len();
         let mut filled = buckets;
@@ -59,9 +66,8 @@ impl<R: Root> Version<R> {
             bucket.open();
             locks.push_reserved(Mutex::new(Settled::new(bucket, number, size, keys)));
         }
-        filled.destroy_empty();
         locks.reverse();
-        Version { buckets: locks }
+        (Version { buckets: locks }, filled)
     }
 
     /// How many buckets it has.

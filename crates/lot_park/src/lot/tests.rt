@@ -41,7 +41,10 @@ fn open(rt: &impl Abort, alloc: Global) -> ParkingLot<Letters>
 {
     let rights = idle_rights(alloc).expect(rt, "memory");
     match ParkingLot::open(alloc, THREADS, rights, no_letters()) {
-        Ok(lot) => lot,
+        Ok((lot, room)) => {
+            room.destroy_empty();
+            lot
+        }
         Err(_refused) => panic!(rt; "memory"),
     }
 }

@@ -68,7 +68,10 @@ fn open(rt: &impl Abort, alloc: Global) -> ParkingLot<ThreeTables>
     let roots = with_root(rt, roots, third);
     let schemes = Both::new(Both::new(no_letters(), no_letters()), no_letters());
     match ParkingLot::open(alloc, THREADS, roots, schemes) {
-        Ok(lot) => lot,
+        Ok((lot, room)) => {
+            room.destroy_empty();
+            lot
+        }
         Err(_refused) => panic!(rt; "memory"),
     }
 }

@@ -56,7 +56,10 @@ fn made(rt: &impl Abort, alloc: Global) -> Table<Right>
 {
     let rights = idle_rights(alloc).expect(rt, "memory");
     match Table::new(alloc, THREADS, rights) {
-        Ok(table) => table,
+        Ok((table, room)) => {
+            room.destroy_empty();
+            table
+        }
         Err(_refused) => panic!(rt; "memory"),
     }
 }

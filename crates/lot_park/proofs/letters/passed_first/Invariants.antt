@@ -1,4 +1,4 @@
-use Rattle.std.proofs.Common.{◌≡◌, ℕ, ◌+◌, ◌++◌, drop, take, length}
+use Rattle.std.proofs.Common.{◌≡◌, drop, take}
 use Rattle.lot_park.specs.Parking.{debts}
 use Rattle.lot_park.proofs.letters.passed_first.Given as goal
 

@@ -1,5 +1,5 @@
-use Rattle.std.proofs.Common.{◌≡◌, ◌≤◌, length, ap, ◌∙◌, arith}
-use Rattle.lot_bucket.specs.Queue.{line_of, without_count}
+use Rattle.std.proofs.Common.{◌≡◌, ◌≤◌, length, ap, arith}
+use Rattle.lot_bucket.specs.Queue.{line_of}
 use Rattle.lot_bucket.specs.Contents.{Contents}
 use Rattle.lot_bucket.proofs.Laws.{line_fits}
 use Rattle.lot_park.proofs.Under.{tells_count}

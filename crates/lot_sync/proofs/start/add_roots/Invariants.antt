@@ -11,6 +11,7 @@ invariant-loop-root g l = record {
   count : vec_len l.named + vec_len l.roots ≡ vec_len l.initial.named + vec_len l.initial.roots;
   fits : vec_len l.named + vec_len l.roots ≤ vec_capacity l.named;
   room : vec_capacity l.roots ≡ vec_capacity l.initial.roots;
+  named_room : vec_capacity l.named ≡ vec_capacity l.initial.named;
 }
 
 abbrev pub decreases-loop-root : goal.decreases-loop-root

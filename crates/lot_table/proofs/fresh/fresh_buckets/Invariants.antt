@@ -6,6 +6,6 @@ use Rattle.lot_table.proofs.fresh.fresh_buckets.Given as goal
 abbrev pub invariant-loop-number : goal.invariant-loop-number
 invariant-loop-number g l = record {
   count : vec_len l.buckets ≡ l.number;
-  room : l.size ≤ vec_capacity l.buckets;
+  room : l.most ≤ vec_capacity l.buckets;
   fresh : (i : ℕ) (d : Contents g.row.R.Denot) → i < length l.buckets.items → IsFresh l.size i l.keys l.threads (get_or l.buckets.items i d);
 }

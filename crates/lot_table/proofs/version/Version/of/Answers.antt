@@ -16,6 +16,7 @@ pub loop-bucket-preserved : goal.loop-bucket-preserved
 loop-bucket-preserved g c = record {
   count = omega (arith, c.push_reserved.ensures.len, c.in-Some.ensures.len, c.loop-bucket.invariant.count);
   room = omega (arith, c.push_reserved.ensures.capacity, c.loop-bucket.invariant.room);
+  kept = omega (arith, c.in-Some.ensures.capacity, c.loop-bucket.invariant.kept);
   filled =
       each_rest (λ (i : ℕ) (b : Contents g.row.R.Denot). IsFilled g.R.Root.key g.R.Root.line g.R.Root.owes c.len-size.result i c.args.keys b) c.pop.new.self.items c.loop-bucket.filled.items
       c.in-Some.bucket
