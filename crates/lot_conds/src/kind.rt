@@ -1,5 +1,5 @@
 //! The kind of table that condition words make.
-use crate::views::{CondPassView, CondRootView, Size};
+use crate::views::{PassKnowledge, RootKnowledge, Size};
 use lot_rights::{Kind, PassOf, RootOf};
 
 /// Condition words: a word is 1 where threads may wait on its condition. Contracts alone read it.
@@ -12,9 +12,9 @@ impl Kind for Conditions {
 
     type Slot = ();
 
-    type Pass = CondPassView;
+    type Pass = PassKnowledge;
 
-    type Root = CondRootView;
+    type Root = RootKnowledge;
 
     type Key = Size;
 

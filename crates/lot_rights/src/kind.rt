@@ -1,11 +1,9 @@
 //! Kinds of tables.
 ghost use Rattle.std.specs.Prelude.{ℕ};
 
-use crate::views::Right;
 use atomic_table::{Seat, Shared, Table, TableRule};
 use std::alloc::Global;
-use std::collections::LinkedList;
-use std::marker::PhantomData;
+use std::marker::{Model, PhantomData};
 
 /// A kind of table: what its words, slots and rights stand for. Contracts alone read it.
 pub trait Kind {
@@ -17,9 +15,9 @@ pub trait Kind {
 
     /// What a slot has.
     type Slot;
-    /// What a pass knows, beside its thread and its entries.
+    /// What a pass knows, beside its thread and its entries. No value of it is made: name a struct without fields, and its view tells.
     type Pass;
-    /// What a root knows, beside its key and its entries.
+    /// What a root knows, beside its key and its entries. Of it as of `Pass`.
     type Root;
     /// What the table is told when it is made.
     type Key;
@@ -41,12 +39,27 @@ pub trait Kind {
     ghost one_outcome: { (key : Self.Key) → HasOneOutcome (scheme key) };
 }
 
+/// What contracts see of a seat: the list of its rights. It has no fields, and no value of it is made by running code; so a table's type
+/// does not spell out what its rights know.
+pub struct RightsView<K: Kind> {
+    of: PhantomData<K>,
+}
+
+impl<K: Kind> Model for RightsView<K> {
+    ghost use Rattle.std.specs.Prelude.{List, []};
+    ghost use Rattle.lot_rights.specs.declared.views.Right.{Right};
+
+    ghost Value = { List (Right K.Pass K.Root) };
+
+    ghost view = { λ _. [] };
+}
+
 /// The rule of a kind: the words, the slots and the rights stand for one world, to which one history has led.
 pub struct RightsRule<K> {
     of: PhantomData<K>,
 }
 
-impl<K: Kind> TableRule<K::Slot, LinkedList<Right<K::Pass, K::Root>>, K::Key> for RightsRule<K> {
+impl<K: Kind> TableRule<K::Slot, RightsView<K>, K::Key> for RightsRule<K> {
     ghost use Rattle.lot_rights.specs.Rule.{Ruled};
     ghost use Rattle.lot_rights.specs.Start.{all_rights};
 
@@ -57,7 +70,7 @@ impl<K: Kind> TableRule<K::Slot, LinkedList<Right<K::Pass, K::Root>>, K::Key> fo
 
 pub type RightsTable<K> = Table<
     <K as Kind>::Slot,
-    LinkedList<Right<<K as Kind>::Pass, <K as Kind>::Root>>,
+    RightsView<K>,
     <K as Kind>::Key,
     RightsRule<K>,
     Global,
@@ -65,12 +78,9 @@ pub type RightsTable<K> = Table<
 
 pub type RightsShared<K> = Shared<
     <K as Kind>::Slot,
-    LinkedList<Right<<K as Kind>::Pass, <K as Kind>::Root>>,
+    RightsView<K>,
     <K as Kind>::Key,
     RightsRule<K>,
 >;
 
-pub type RightsSeat<K> = Seat<
-    <K as Kind>::Slot,
-    LinkedList<Right<<K as Kind>::Pass, <K as Kind>::Root>>,
->;
+pub type RightsSeat<K> = Seat<<K as Kind>::Slot, RightsView<K>>;

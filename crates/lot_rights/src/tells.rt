@@ -1,8 +1,6 @@
 //! What a step tells the right that makes it. A call picks it by the name that it gives for `N`, which is std's `Brand`.
-use crate::kind::Kind;
-use crate::views::Right;
+use crate::kind::{Kind, RightsView};
 use atomic_table::{Join, Play, Split};
-use std::collections::LinkedList;
 use std::marker::{Brand, PhantomData};
 
 /// Of the number found (at a store, the number stored), and the pass after.
@@ -75,8 +73,7 @@ pub struct PassStep<K, N> {
     of: PhantomData<(K, N)>,
 }
 
-impl<K: Kind, N: TellsPass<K::Pass>> Play<K::Slot, LinkedList<Right<K::Pass, K::Root>>>
-    for PassStep<K, N> {
+impl<K: Kind, N: TellsPass<K::Pass>> Play<K::Slot, RightsView<K>> for PassStep<K, N> {
     ghost use Rattle.lot_rights.specs.Shown.{the_pass};
     ghost use Rattle.lot_rights.specs.Steps.{ToldPass};
 
@@ -87,8 +84,7 @@ pub struct BothStep<K, N> {
     of: PhantomData<(K, N)>,
 }
 
-impl<K: Kind, N: TellsBoth<K::Pass, K::Root>> Play<K::Slot, LinkedList<Right<K::Pass, K::Root>>>
-    for BothStep<K, N> {
+impl<K: Kind, N: TellsBoth<K::Pass, K::Root>> Play<K::Slot, RightsView<K>> for BothStep<K, N> {
     ghost use Rattle.std.specs.Prelude.{drop};
     ghost use Rattle.lot_rights.specs.Shown.{the_pass, the_root};
     ghost use Rattle.lot_rights.specs.Steps.{ToldBoth};
@@ -100,8 +96,7 @@ pub struct RootStep<K, N> {
     of: PhantomData<(K, N)>,
 }
 
-impl<K: Kind, N: TellsRoot<K::Root>> Play<K::Slot, LinkedList<Right<K::Pass, K::Root>>>
-    for RootStep<K, N> {
+impl<K: Kind, N: TellsRoot<K::Root>> Play<K::Slot, RightsView<K>> for RootStep<K, N> {
     ghost use Rattle.lot_rights.specs.Shown.{the_root};
     ghost use Rattle.lot_rights.specs.Steps.{ToldRoot};
 
@@ -112,8 +107,7 @@ pub struct OutStep<K, N> {
     of: PhantomData<(K, N)>,
 }
 
-impl<K: Kind, N: Moves<K::Pass, K::Slot>> Play<K::Slot, LinkedList<Right<K::Pass, K::Root>>>
-    for OutStep<K, N> {
+impl<K: Kind, N: Moves<K::Pass, K::Slot>> Play<K::Slot, RightsView<K>> for OutStep<K, N> {
     ghost use Rattle.lot_rights.specs.Shown.{the_pass};
     ghost use Rattle.lot_rights.specs.Slots.{ToldOut};
 
@@ -124,8 +118,7 @@ pub struct BackStep<K, N> {
     of: PhantomData<(K, N)>,
 }
 
-impl<K: Kind, N: Moves<K::Pass, K::Slot>> Play<K::Slot, LinkedList<Right<K::Pass, K::Root>>>
-    for BackStep<K, N> {
+impl<K: Kind, N: Moves<K::Pass, K::Slot>> Play<K::Slot, RightsView<K>> for BackStep<K, N> {
     ghost use Rattle.lot_rights.specs.Shown.{the_pass};
     ghost use Rattle.lot_rights.specs.Slots.{ToldBack};
 
@@ -136,7 +129,7 @@ pub struct TwoStep<K, N> {
     of: PhantomData<(K, N)>,
 }
 
-impl<K: Kind, N: TellsTwo> Play<K::Slot, LinkedList<Right<K::Pass, K::Root>>> for TwoStep<K, N> {
+impl<K: Kind, N: TellsTwo> Play<K::Slot, RightsView<K>> for TwoStep<K, N> {
     ghost use Rattle.std.specs.Prelude.{drop};
     ghost use Rattle.lot_rights.specs.Shown.{the_pass};
     ghost use Rattle.lot_rights.specs.Steps.{ToldTwo};
@@ -147,7 +140,7 @@ impl<K: Kind, N: TellsTwo> Play<K::Slot, LinkedList<Right<K::Pass, K::Root>>> fo
 /// The rights of two seats, one after the other.
 pub struct Both;
 
-impl<P, R> Join<LinkedList<Right<P, R>>> for Both {
+impl<K: Kind> Join<RightsView<K>> for Both {
     ghost use Rattle.std.specs.Prelude.{◌++◌, []};
 
     ghost both = { λ v w. v ++ w };
@@ -158,7 +151,7 @@ impl<P, R> Join<LinkedList<Right<P, R>>> for Both {
 /// The first right of a seat, and the others.
 pub struct FirstAndRest;
 
-impl<P, R> Split<LinkedList<Right<P, R>>> for FirstAndRest {
+impl<K: Kind> Split<RightsView<K>> for FirstAndRest {
     ghost use Rattle.std.specs.Prelude.{take, drop};
 
     ghost left = { λ v. take 1 v };
@@ -169,7 +162,7 @@ impl<P, R> Split<LinkedList<Right<P, R>>> for FirstAndRest {
 /// The first right of a seat goes to a new one.
 pub struct Deal;
 
-impl<P, R> Split<LinkedList<Right<P, R>>> for Deal {
+impl<K: Kind> Split<RightsView<K>> for Deal {
     ghost use Rattle.std.specs.Prelude.{take, drop};
 
     ghost left = { λ v. drop 1 v };

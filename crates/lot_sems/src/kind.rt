@@ -1,6 +1,6 @@
 //! The kind of table that semaphore words make.
 use crate::start::Start;
-use crate::views::{SemPassView, SemRootView};
+use crate::views::{PassKnowledge, RootKnowledge};
 use lot_rights::{Kind, PassOf, RootOf};
 
 /// Semaphore words: a word is twice the permits that are left of its semaphore, and the parked bit. Contracts alone read it.
@@ -12,9 +12,9 @@ impl Kind for Semaphores {
 
     type Slot = ();
 
-    type Pass = SemPassView;
+    type Pass = PassKnowledge;
 
-    type Root = SemRootView;
+    type Root = RootKnowledge;
 
     type Key = Start;
 

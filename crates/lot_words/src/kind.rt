@@ -1,7 +1,7 @@
 //! The kind of table that lock words make.
 use crate::keeps::Keeps;
 use crate::start::Start;
-use crate::views::{LockPassView, LockRootView};
+use crate::views::{PassKnowledge, RootKnowledge};
 use lot_rights::{Kind, PassOf, RootOf};
 use std::marker::PhantomData;
 
@@ -15,9 +15,9 @@ impl<V: Keeps> Kind for Locks<V> {
 
     type Slot = Option<V>;
 
-    type Pass = LockPassView<V>;
+    type Pass = PassKnowledge<V>;
 
-    type Root = LockRootView;
+    type Root = RootKnowledge;
 
     type Key = Start<V>;
 
