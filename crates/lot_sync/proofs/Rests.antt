@@ -10,7 +10,7 @@ use Rattle.lot_words.specs.declared.views.Hold.{Hold}
 use Rattle.lot_words.specs.declared.views.Hold.TheVariants.{NotHeld, Held, FoundParked}
 use Rattle.lot_words.specs.declared.views.Place.{Place}
 use Rattle.lot_words.specs.declared.views.Place.TheVariants.{InSlot, Out}
-use Rattle.lot_words.specs.World.{IsHeld, IsFound, Holds}
+use Rattle.lot_words.specs.World.{IsHeld, Holds}
 use Rattle.lot_words.specs.Values.{IsOut, IsIn, HasSeen, MayLeave}
 use Rattle.lot_waits.specs.Counts.{CountsView, woke}
 use Rattle.lot_permits.specs.Permits.{PermitsView}

@@ -30,7 +30,8 @@ settle-requires-clause-seekers g c =
 pub settle-requires-clause-roots : goal.settle-requires-clause-roots
 settle-requires-clause-roots g c =
     let closed = c.close-scheme.ensures.roots in
-    let all : c.close-scheme.new.out.items ≡ closed.roots = closed.appended ∙ ap (λ (qs : List (RootShown SemRootView)). qs ++ closed.roots) c.in-Ok-with_capacity.ensures.items in
+    let none = no_elements c.in-Ok-open.opened.1.items (sym c.in-Ok-open.opened.1.ok.0 ∙ c.in-Ok-open.ensures.room.0) in
+    let all : c.close-scheme.new.out.items ≡ closed.roots = closed.appended ∙ ap (λ (qs : List (RootShown SemRootView)). qs ++ closed.roots) none in
     let two : length closed.roots ≡ 2 = search (rules, closed.each) in
     let low : g.N.PermitName.low ≡ 0 = sym c.requires.names.1 ∙ c.requires.sizes.1 in
     let sems : length g.N.PermitName.permits ≡ 2 = ap (λ (ps : List ℕ). length ps) (sym c.requires.names.2) ∙ c.requires.sizes.2 in
