@@ -1,7 +1,7 @@
 //! The command line: what is run and written, and with which status it ends.
 use crate::crew::run;
-use crate::failure::Failure;
 use crate::plan::plan_of;
+use lot_command::{Failure, report};
 use std::alloc::Global;
 use std::io::Write;
 use std::sync::Wait;
@@ -19,16 +19,7 @@ pub fn run_command<T: Threads + Wait + Clock + Sync, W: Write, E: Write>(
     if words.is_empty() {
         return 0;
     }
-    let written = text_of(rt, alloc, words).and_then(|text| out
-        .write_all(text.as_bytes())
-        .map_err(|_| Failure::CannotWrite));
-    match written {
-        Ok(()) => 0,
-        Err(failure) => {
-            let _ = writeln!(faults, "{failure}");
-            failure.status()
-        }
-    }
+    report(text_of(rt, alloc, words), out, faults)
 }
 
 fn text_of<T: Threads + Wait + Clock + Sync>(

@@ -1,10 +1,9 @@
 //! A crew: the threads of a plan work on one lot, and end.
-ghost use Rattle.std.specs.Prelude.{◌≡◌, ◌≤◌, ◌<◌, ℕ, length, vec_len, vec_capacity};
+ghost use Rattle.std.specs.Prelude.{◌≡◌, length};
 ghost use Rattle.lot_sync.specs.Lot.{OwnsNone};
 ghost use Rattle.lot_sync.specs.Opened.{IsNamed};
 
 use crate::clock::now;
-use crate::failure::Failure;
 use crate::meeting::Meeting;
 use crate::plan::{Job, Plan};
 use crate::relay::{consume, produce};
@@ -12,6 +11,8 @@ use crate::rounds::{count, share, wait};
 use crate::summary::{Done, Summary};
 use crate::times::Times;
 use crate::value::Number;
+use lot_command::Failure;
+use lot_load::workers::{close, start};
 use lot_sync::{Lot, LotName, Opened, Pass};
 use std::alloc::Global;
 use std::marker::Brand;
@@ -43,16 +44,12 @@ fn run_on<N: LotName<Number> + Send + Sync, T: Threads + Wait + Clock + Sync>(
     requires named { IsNamed (record { opening = N.opening; threads = N.threads; values = N.values; locks = N.locks; conds = N.conds; low = N.low; permits = N.permits }) opened }
     requires sizes { (opened.threads ≡ plan.now.threads) × (length opened.values ≡ plan.now.locks) }
 {
-    let Ok(passes) = Vec::with_capacity(alloc, plan.threads) else {
-        let _ = opened.close();
-        return Err(Failure::NoMemory);
-    };
-    let Ok(lot) = opened.start::<N>(alloc) else {
-        passes.destroy_empty();
-        return Err(Failure::NoMemory);
+    let (lot, passes) = match start::<Number, N>(alloc, plan.threads, opened) {
+        Ok(started) => started,
+        Err(failure) => return Err(failure),
     };
     let done = work_all(rt, alloc, plan, &lot);
-    let values = close(rt, lot, passes, plan.threads);
+    let (values, _) = close(rt, lot, passes, plan.threads);
     let mut summary = Summary::new(alloc, done?, begin, now(rt))?;
     for number in values.iter() {
         summary.sum = summary.sum.wrapping_add(number.n);
@@ -161,42 +158,4 @@ fn go<N: LotName<Number> + Send, T: Wait + Clock>(
         }
         Job::Relay(..) | Job::Start => (pass, 0),
     }
-}
-
-/// Takes all passes and ends the lot.
-fn close<N: LotName<Number> + Send, T: Wait>(
-    rt: &T,
-    mut lot: Lot<Number, N>,
-    mut passes: Vec<Pass<Number, N>>,
-    threads: usize,
-) -> Vec<Number>
-    requires threads { lot.threads ≡ threads }
-    requires room { (vec_len passes ≡ 0) × (threads ≤ vec_capacity passes) }
-{
-    for thread in 0..threads {
-        let pass = take_pass(rt, &mut lot, thread);
-        passes.push_reserved(pass);
-    }
-    lot.close(rt, passes).0
-}
-
-/// Takes the pass of one thread.
-fn take_pass<N: LotName<Number> + Send, T: Wait>(
-    rt: &T,
-    lot: &mut Lot<Number, N>,
-    thread: usize,
-) -> Pass<Number, N>
-    ensures same { (lot.new.threads ≡ lot.old.threads) × (lot.new.locks ≡ lot.old.locks) }
-    ensures thread { result.thread ≡ thread }
-    ensures free { OwnsNone result }
-{
-    for _ in rt.forever() {
-        if let Some(pass) = lot.take_left(rt) {
-            if pass.thread() == thread {
-                return pass;
-            }
-            lot.leave(rt, pass);
-        }
-    }
-    unreachable!()
 }

@@ -7,13 +7,13 @@
 //!   so many nanoseconds and stays outside for so many.
 //! - `lotbench start THREADS LOCKS`: a lot is opened and started, all its threads register, and it is closed.
 //!
-//! Without words it prints nothing. It stands on the public calls of `lot_sync` alone.
+//! Without words it prints nothing. It stands on the public calls of `lot_sync` alone; `lot_load` starts and
+//! ends its lots, and `lot_command` reads its numbers and tells what came of them.
 #![tactic(auto)]
 
 mod clock;
 mod command;
 mod crew;
-mod failure;
 mod meeting;
 mod plan;
 mod relay;
@@ -25,23 +25,25 @@ mod times;
 mod value;
 
 use command::run_command;
-use std::env;
+use lot_command::{Failure, report, words};
 use std::process::ExitCode;
 
 fn main(rt: HostRuntime) -> ExitCode {
     let alloc = rt.alloc();
-    let Ok(args) = env::args(&rt) else {
-        return ExitCode::from(1);
-    };
-    let Ok(words) = args.skip(1).collect::<Vec<String>>(alloc) else {
-        return ExitCode::from(3);
+    let words = match words(&rt, alloc) {
+        Ok(words) => words,
+        Err(failure) => {
+            let status = report(Err(failure), &mut rt.stdout(), &mut rt.stderr());
+            return ExitCode::from(status);
+        }
     };
     let Ok(views) = words
         .iter()
         .map(|word| word.as_str())
         .collect::<Vec<&str>>(alloc)
     else {
-        return ExitCode::from(3);
+        let status = report(Err(Failure::NoMemory), &mut rt.stdout(), &mut rt.stderr());
+        return ExitCode::from(status);
     };
     let status = run_command(
         &rt,

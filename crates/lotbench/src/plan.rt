@@ -1,7 +1,8 @@
 //! What a crew is to do.
-ghost use Rattle.std.specs.Prelude.{◌≤◌, ◌+◌, IfSome};
+ghost use Rattle.std.specs.Prelude.{◌≤◌, ◌+◌};
 ghost use Rattle.lot_core.specs.declared.state.TheConstants.{MAX_THREADS, MAX_KEYS};
 
+use lot_command::number;
 use lot_sync::{MAX_KEYS, MAX_THREADS};
 
 /// The work of each thread.
@@ -62,15 +63,19 @@ const MOST_ROUNDS: u64 = 1_000_000_000;
 pub fn plan_of(words: &[&str]) -> Option<Plan> {
     match words {
         ["count", threads, locks, rounds] => {
-            let rounds = number(rounds, MOST_ROUNDS)?;
+            let rounds = number(rounds, 0, MOST_ROUNDS)?;
             sized(threads, locks, Job::Count(rounds))
         }
-        ["share", threads, millis] => sized(threads, "1", Job::Share(number(millis, MOST_MILLIS)?)),
+        ["share", threads, millis] => sized(
+            threads,
+            "1",
+            Job::Share(number(millis, 0, MOST_MILLIS)?),
+        ),
         ["relay", producers, consumers, rounds] => relaying(producers, consumers, rounds),
         ["wait", threads, held, outside, millis] => {
-            let held = number(held, MOST_NANOS)?;
-            let outside = number(outside, MOST_NANOS)?;
-            let millis = number(millis, MOST_MILLIS)?;
+            let held = number(held, 0, MOST_NANOS)?;
+            let outside = number(outside, 0, MOST_NANOS)?;
+            let millis = number(millis, 0, MOST_MILLIS)?;
             sized(threads, "1", Job::Wait(held, outside, millis))
         }
         ["start", threads, locks] => sized(threads, locks, Job::Start),
@@ -79,10 +84,10 @@ pub fn plan_of(words: &[&str]) -> Option<Plan> {
 }
 
 fn relaying(producers: &str, consumers: &str, rounds: &str) -> Option<Plan> {
-    let producers = number(producers, MAX_THREADS as u64)? as usize;
-    let consumers = number(consumers, MAX_THREADS as u64)? as usize;
-    let rounds = number(rounds, MOST_ROUNDS)?;
-    if producers == 0 || consumers == 0 || producers + consumers > MAX_THREADS {
+    let producers = number(producers, 1, MAX_THREADS as u64)? as usize;
+    let consumers = number(consumers, 1, MAX_THREADS as u64)? as usize;
+    let rounds = number(rounds, 0, MOST_ROUNDS)?;
+    if producers + consumers > MAX_THREADS {
         return None;
     }
     Some(Plan {
@@ -94,26 +99,12 @@ fn relaying(producers: &str, consumers: &str, rounds: &str) -> Option<Plan> {
 }
 
 fn sized(threads: &str, locks: &str, job: Job) -> Option<Plan> {
-    let threads = number(threads, MAX_THREADS as u64)? as usize;
-    let locks = number(locks, MAX_KEYS as u64)? as usize;
-    if threads == 0 || locks == 0 {
-        return None;
-    }
+    let threads = number(threads, 1, MAX_THREADS as u64)? as usize;
+    let locks = number(locks, 1, MAX_KEYS as u64)? as usize;
     Some(Plan {
         threads,
         locks,
         conds: 0,
         job,
     })
-}
-
-/// The number that the word spells, where it is no greater.
-fn number(word: &str, greatest: u64) -> Option<u64>
-    ensures { IfSome result (λ n. n ≤ greatest) }
-{
-    let n = word.parse::<u64>().ok()?;
-    if n > greatest {
-        return None;
-    }
-    Some(n)
 }

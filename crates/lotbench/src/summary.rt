@@ -1,7 +1,7 @@
 //! What a crew has done, and the line that tells it.
-use crate::failure::Failure;
 use crate::plan::{Job, Plan};
 use crate::times::Times;
+use lot_command::Failure;
 use std::alloc::{AllocError, Global};
 use std::fmt::Write as _;
 

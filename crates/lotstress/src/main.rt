@@ -7,31 +7,14 @@
 //!   never more workers than permits were in.
 //! - `lotstress replay FILE`: runs a script of events and prints the state that it leaves.
 //!
-//! It stands on `lot_sync` (the locks, conditions and semaphores), `lot_journal` (what they guard) and `lot_core` (the model).
+//! It stands on `lot_load`, which runs them, and on `lot_command`, which reads the words and tells what came of them.
 #![tactic(auto)]
 
-mod buffer;
-mod command;
-mod count;
-mod counter;
-mod failure;
-mod gate;
-mod inside;
-mod number;
-mod pool;
-mod relay;
-mod replay;
-#[cfg(test)]
-mod tests;
-mod words;
-mod workers;
-
-use command::{report, run_command};
-use failure::Failure;
+use lot_command::{Failure, report, words};
+use lot_load::run_command;
 use std::alloc::Global;
 use std::fs::File;
 use std::process::ExitCode;
-use words::words;
 
 fn main(rt: HostRuntime) -> ExitCode {
     let alloc = rt.alloc();

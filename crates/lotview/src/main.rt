@@ -1,12 +1,11 @@
 //! `lotview FILE` runs a script of events through the proved model and draws the run, as SVG on standard output: a lane
 //! for each thread, a column for each event.
 //!
-//! It stands on `lot_core` (the model). Every event is made there; what is drawn is derived from what its thread saw.
+//! It stands on `lot_core` (the model) and `lot_command` (the command line). Every event is made there; what is drawn is derived from what its thread saw.
 #![tactic(auto)]
 
 mod command;
 mod drawing;
-mod failure;
 mod labels;
 mod layout;
 mod marks;
@@ -14,14 +13,12 @@ mod replay;
 mod run;
 #[cfg(test)]
 mod tests;
-mod words;
 
-use command::{report, run_command};
-use failure::Failure;
+use command::run_command;
+use lot_command::{Failure, report, words};
 use std::alloc::Global;
 use std::fs::File;
 use std::process::ExitCode;
-use words::words;
 
 fn main(rt: HostRuntime) -> ExitCode {
     let alloc = rt.alloc();

@@ -1,0 +1,800 @@
+//! The program's texts and statuses, and workers that are held at a gate.
+
+use lot_load::count::{Counting, count_with};
+use lot_load::gate::{Gate, Point};
+use lot_load::relay::{Relaying, relay_with};
+use lot_load::run_command;
+use std::alloc::{AllocError, Global};
+use std::io::Write;
+use std::process::Abort;
+use std::sync::Wait;
+use std::sync::atomic::{AtomicU64, Ordering};
+use std::test::Fail;
+use std::thread::Threads;
+use std::{io, thread};
+
+/// Runs the words, with the file, and compares what is written and the status.
+fn check<R: Threads + Wait + Sync + Abort>(
+    rt: &R,
+    alloc: Global,
+    name: &str,
+    words: &[&str],
+    file: Option<&[u8]>,
+    want: (&str, &str, u8),
+) {
+    let mut out = Vec::new(alloc);
+    let mut faults = Vec::new(alloc);
+    let status = run_command(rt, alloc, words, file, &mut out, &mut faults);
+    assert!(rt; out.as_slice() == want.0.as_bytes(), "output of {name}");
+    assert!(rt; faults.as_slice() == want.1.as_bytes(), "faults of {name}");
+    assert_eq!(rt; status, want.2, "status of {name}");
+}
+
+/// A script, what is printed of it, the fault, and the status.
+const REPLAYS: [(&str, &str, &str, &str, u8); 32] = [
+    (
+        "opening",
+        "open 1 1 0\n",
+        "lock 0 word 0 owner - line -\nthread 0 calm\n",
+        "",
+        0,
+    ),
+    (
+        "handoff",
+        "open 2 1 0\ntake 0 0\ntake 1 0\nmark 1 0\npark 1 0\npass 0 0 1 0\n",
+        "lock 0 word 3 owner 1 line -\nthread 0 calm\nthread 1 calm\n",
+        "",
+        0,
+    ),
+    (
+        "handoff_then_release",
+        "open 2 1 0\ntake 0 0\ntake 1 0\nmark 1 0\npark 1 0\npass 0 0 1 0\npass 1 0 0 0\n",
+        "lock 0 word 0 owner - line -\nthread 0 calm\nthread 1 calm\n",
+        "",
+        0,
+    ),
+    (
+        "barging_past_a_sleeper",
+        "open 4 1 0\ntake 0 0\ntake 1 0\nmark 1 0\npark 1 0\ntake 2 0\npark 2 0\npass 0 0 0 1\ntake 3 0\n",
+        "lock 0 word 3 owner 3 line 2\nthread 0 calm\nthread 1 wants 0\nthread 2 wants 0\nthread 3 calm\n",
+        "",
+        0,
+    ),
+    (
+        "more_has_to_be_said",
+        "open 4 1 0\ntake 0 0\ntake 1 0\nmark 1 0\npark 1 0\ntake 2 0\npark 2 0\npass 0 0 0 0\ntake 3 0\n",
+        "",
+        "event 7 refused\n",
+        2,
+    ),
+    (
+        "notified_before_it_sleeps",
+        "open 2 1 1\ntake 0 0\nenlist 0 1 0\ncall 1 1 0\nfree 0 0\ntake 0 0\n",
+        "lock 0 word 1 owner 0 line -\ncond 1 flag 0 line -\nthread 0 calm\nthread 1 calm\n",
+        "",
+        0,
+    ),
+    (
+        "enlisted_while_the_flag_was_lowered",
+        "open 3 1 1\nlower 1 1\ntake 2 0\nenlist 2 1 0\nsweep 1 1\n",
+        "lock 0 word 1 owner 2 line -\ncond 1 flag 1 line -\nthread 0 calm\nthread 1 calm\nthread 2 bed 1 0\n",
+        "",
+        0,
+    ),
+    (
+        "the_next_call_clears_the_flag",
+        "open 3 1 1\nlower 1 1\ntake 2 0\nenlist 2 1 0\nsweep 1 1\ncall 0 1 0\n",
+        "lock 0 word 1 owner 2 line -\ncond 1 flag 0 line -\nthread 0 calm\nthread 1 calm\nthread 2 bed 1 0\n",
+        "",
+        0,
+    ),
+    (
+        "marked_and_released_meanwhile",
+        "open 3 1 0\ntake 0 0\ntake 1 0\nmark 1 0\npass 0 0 0 0\ntake 2 0\npark 1 0\n",
+        "lock 0 word 1 owner 2 line -\nthread 0 calm\nthread 1 wants 0\nthread 2 calm\n",
+        "",
+        0,
+    ),
+    (
+        "three_rest",
+        "open 4 1 1\ntake 0 0\nenlist 0 1 0\nfree 0 0\ntake 1 0\nenlist 1 1 0\nfree 1 0\ntake 2 0\nenlist 2 1 0\nfree 2 0\n",
+        "lock 0 word 0 owner - line -\ncond 1 flag 1 line 0,1,2\nthread 0 rest 1 0\nthread 1 rest 1 0\nthread 2 rest 1 0\nthread 3 calm\n",
+        "",
+        0,
+    ),
+    (
+        "all_are_swept",
+        "open 4 1 1\ntake 0 0\nenlist 0 1 0\nfree 0 0\ntake 1 0\nenlist 1 1 0\nfree 1 0\ntake 2 0\nenlist 2 1 0\nfree 2 0\nlower 3 1\nsweep 3 1\n",
+        "lock 0 word 0 owner - line -\ncond 1 flag 0 line -\nthread 0 rest 1 0\nthread 1 rest 1 0\nthread 2 rest 1 0\nthread 3 calm\n",
+        "",
+        0,
+    ),
+    (
+        "free_without_the_lock",
+        "open 1 1 0\nfree 0 0\n",
+        "",
+        "event 1 refused\n",
+        2,
+    ),
+    (
+        "two_spaces",
+        "open 1 1 0\ntry 0  0\n",
+        "",
+        "bad script line 2\n",
+        1,
+    ),
+    ("too_many_threads", "open 257 1 0\n", "", "bad limits\n", 1),
+    ("empty_file", "", "", "bad script line 1\n", 1),
+    (
+        "between_lower_and_sweep",
+        "open 4 1 1\ntake 0 0\nenlist 0 1 0\nfree 0 0\ntake 1 0\nenlist 1 1 0\nfree 1 0\ntake 2 0\nenlist 2 1 0\nfree 2 0\nlower 3 1\n",
+        "lock 0 word 0 owner - line -\ncond 1 flag 0 line 0,1,2\nthread 0 rest 1 0\nthread 1 rest 1 0\nthread 2 rest 1 0\nthread 3 sweeps 1\n",
+        "",
+        0,
+    ),
+    (
+        "wait_notified_by_the_next_owner",
+        "open 2 1 1\ntake 0 0\nenlist 0 1 0\ntake 1 0\nmark 1 0\npark 1 0\npass 0 0 1 0\ncall 1 1 0\npass 1 0 0 0\ntake 0 0\n",
+        "lock 0 word 1 owner 0 line -\ncond 1 flag 0 line -\nthread 0 calm\nthread 1 calm\n",
+        "",
+        0,
+    ),
+    (
+        "sweep_takes_who_came_after_the_lowering",
+        "open 3 1 1\ntake 0 0\nenlist 0 1 0\nfree 0 0\nlower 1 1\ntake 2 0\nenlist 2 1 0\nfree 2 0\nsweep 1 1\ncall 1 1 0\n",
+        "lock 0 word 0 owner - line -\ncond 1 flag 0 line -\nthread 0 rest 1 0\nthread 1 calm\nthread 2 rest 1 0\n",
+        "",
+        0,
+    ),
+    (
+        "sweeping_thread_is_not_calm",
+        "open 2 1 1\nlower 0 1\ntry 0 0\n",
+        "",
+        "event 2 refused\n",
+        2,
+    ),
+    ("no_line_feed", "open 1 1 0", "", "bad script line 1\n", 1),
+    (
+        "leading_zero",
+        "open 01 1 0\n",
+        "",
+        "bad script line 1\n",
+        1,
+    ),
+    (
+        "five_digits",
+        "open 10000 1 0\n",
+        "",
+        "bad script line 1\n",
+        1,
+    ),
+    (
+        "carriage_return",
+        "open 1 1 0\r\n",
+        "",
+        "bad script line 1\n",
+        1,
+    ),
+    (
+        "flag_of_two",
+        "open 1 1 0\npass 0 0 2 0\n",
+        "",
+        "bad script line 2\n",
+        1,
+    ),
+    ("empty_line", "open 1 1 0\n\n", "", "bad script line 2\n", 1),
+    (
+        "bad_line_before_bad_limits",
+        "open 257 1 0\nzzz\n",
+        "",
+        "bad script line 2\n",
+        1,
+    ),
+    ("no_threads", "open 0 1 0\n", "", "bad limits\n", 1),
+    ("no_locks", "open 1 0 5\n", "", "bad limits\n", 1),
+    (
+        "far_too_many_threads",
+        "open 9999 1 0\n",
+        "",
+        "bad limits\n",
+        1,
+    ),
+    ("too_many_keys", "open 64 2 1023\n", "", "bad limits\n", 1),
+    (
+        "thread_out_of_range",
+        "open 1 1 0\ntry 1 0\n",
+        "",
+        "event 1 refused\n",
+        2,
+    ),
+    (
+        "key_out_of_range",
+        "open 1 1 0\ntry 0 1\n",
+        "",
+        "event 1 refused\n",
+        2,
+    ),
+];
+
+#[test]
+fn scripts_are_replayed(rt: HostRuntime) {
+    for (name, script, out, faults, status) in REPLAYS {
+        check(
+            &rt,
+            rt.alloc(),
+            name,
+            &["replay", "script"],
+            Some(script.as_bytes()),
+            (out, faults, status),
+        );
+    }
+}
+
+/// The same with semaphores.
+const PERMITS: [(&str, &str, &str, &str, u8); 3] = [
+    (
+        "permit_passed_on",
+        "open 2 1 0 1\nstake 0 1\nstake 1 1\nsmark 1 1\nspark 1 1\nspass 0 1 0\n",
+        "lock 0 word 0 owner - line -\nsem 1 left 1 out 0 parked 0 line -\nthread 0 calm\nthread 1 seeks 1\n",
+        "",
+        0,
+    ),
+    (
+        "permit_taken_then",
+        "open 2 1 0 1\nstake 0 1\nstake 1 1\nsmark 1 1\nspark 1 1\nspass 0 1 0\nstake 1 1\n",
+        "lock 0 word 0 owner - line -\nsem 1 left 0 out 1 parked 0 line -\nthread 0 calm\nthread 1 calm\n",
+        "",
+        0,
+    ),
+    (
+        "permit_that_is_not_out",
+        "open 1 1 0 0\nsfree 0 1\n",
+        "",
+        "event 1 refused\n",
+        2,
+    ),
+];
+
+#[test]
+fn permits_are_replayed(rt: HostRuntime) {
+    for (name, script, out, faults, status) in PERMITS {
+        check(
+            &rt,
+            rt.alloc(),
+            name,
+            &["replay", "script"],
+            Some(script.as_bytes()),
+            (out, faults, status),
+        );
+    }
+}
+
+const WRONG_WORDS: [(&str, &[&str]); 25] = [
+    ("no words", &[]),
+    ("unknown command", &["sleep", "1"]),
+    ("replay without a file", &["replay"]),
+    ("replay of two files", &["replay", "a", "b"]),
+    ("count without a seed", &["count", "2", "1", "1000"]),
+    (
+        "count with a word too many",
+        &["count", "2", "1", "1000", "7", "7"],
+    ),
+    ("no threads", &["count", "0", "1", "1", "0"]),
+    ("257 threads", &["count", "257", "1", "1", "0"]),
+    ("no locks", &["count", "1", "0", "1", "0"]),
+    ("1025 locks", &["count", "1", "1025", "1", "0"]),
+    ("10001 rounds", &["count", "2", "1", "10001", "0"]),
+    ("a leading zero", &["count", "2", "1", "01", "0"]),
+    ("a sign", &["count", "+2", "1", "1", "0"]),
+    ("an empty word", &["count", "", "1", "1", "0"]),
+    ("a letter", &["count", "2", "1", "1x", "0"]),
+    (
+        "a seed of 2^64",
+        &["count", "2", "1", "1", "18446744073709551616"],
+    ),
+    ("relay of one thread", &["relay", "1", "3", "1"]),
+    ("relay of no threads", &["relay", "0", "3", "1"]),
+    ("relay of 257 threads", &["relay", "257", "3", "1"]),
+    ("relay of 10001 rounds", &["relay", "2", "10001", "1"]),
+    ("relay without a seed", &["relay", "2", "3"]),
+    ("relay with a word too many", &["relay", "2", "3", "1", "1"]),
+    ("relay with a leading zero", &["relay", "02", "3", "1"]),
+    ("relay with a letter", &["relay", "2", "3x", "1"]),
+    (
+        "relay with a seed of 2^64",
+        &["relay", "2", "3", "18446744073709551616"],
+    ),
+];
+
+#[test]
+fn wrong_words_are_refused(rt: HostRuntime) {
+    for (name, words) in WRONG_WORDS {
+        check(
+            &rt,
+            rt.alloc(),
+            name,
+            words,
+            None,
+            ("", "bad command line\n", 1),
+        );
+    }
+}
+
+const COUNTS: [(&str, &[&str], &str); 7] = [
+    (
+        "two threads",
+        &["count", "2", "1", "1000", "7"],
+        "lock 0 total 2000\nsum 2000\n",
+    ),
+    (
+        "no rounds",
+        &["count", "2", "1", "0", "0"],
+        "lock 0 total 0\nsum 0\n",
+    ),
+    (
+        "three threads",
+        &["count", "3", "1", "5", "1"],
+        "lock 0 total 15\nsum 15\n",
+    ),
+    (
+        "two locks",
+        &["count", "3", "2", "5", "1"],
+        "lock 0 total 8\nlock 1 total 7\nsum 15\n",
+    ),
+    (
+        "one thread",
+        &["count", "1", "1", "3", "0"],
+        "lock 0 total 3\nsum 3\n",
+    ),
+    (
+        "64 threads",
+        &["count", "64", "1", "100", "7"],
+        "lock 0 total 6400\nsum 6400\n",
+    ),
+    (
+        "three locks",
+        &["count", "8", "3", "1000", "1"],
+        "lock 0 total 2667\nlock 1 total 2667\nlock 2 total 2666\nsum 8000\n",
+    ),
+];
+
+#[test]
+fn all_rounds_are_counted(rt: HostRuntime) {
+    for _ in 0..10u8 {
+        for (name, words, out) in COUNTS {
+            check(&rt, rt.alloc(), name, words, None, (out, "", 0));
+        }
+    }
+}
+
+const RELAYS: [(&str, &[&str], &str); 6] = [
+    (
+        "two producers and two consumers",
+        &["relay", "4", "10", "3"],
+        "put 20\ntaken 20\nsum 110\nbalanced\n",
+    ),
+    (
+        "nothing to relay",
+        &["relay", "2", "0", "9"],
+        "put 0\ntaken 0\nsum 0\nbalanced\n",
+    ),
+    (
+        "a consumer more",
+        &["relay", "5", "3", "1"],
+        "put 6\ntaken 6\nsum 12\nbalanced\n",
+    ),
+    (
+        "one of each",
+        &["relay", "2", "1000", "7"],
+        "put 1000\ntaken 1000\nsum 500500\nbalanced\n",
+    ),
+    (
+        "the greatest seed",
+        &["relay", "3", "5", "18446744073709551615"],
+        "put 5\ntaken 5\nsum 15\nbalanced\n",
+    ),
+    (
+        "64 threads",
+        &["relay", "64", "500", "7"],
+        "put 16000\ntaken 16000\nsum 4008000\nbalanced\n",
+    ),
+];
+
+#[test]
+fn all_numbers_are_relayed(rt: HostRuntime) {
+    for _ in 0..10u8 {
+        for (name, words, out) in RELAYS {
+            check(&rt, rt.alloc(), name, words, None, (out, "", 0));
+        }
+    }
+}
+
+const POOLS: [(&str, &[&str], &str); 4] = [
+    (
+        "four threads on two permits",
+        &["pool", "4", "2", "10", "1"],
+        "done 40\nwithin\n",
+    ),
+    (
+        "nothing to do",
+        &["pool", "2", "9999", "0", "18446744073709551615"],
+        "done 0\nwithin\n",
+    ),
+    (
+        "64 threads on one permit",
+        &["pool", "64", "1", "100", "7"],
+        "done 6400\nwithin\n",
+    ),
+    (
+        "eight threads on three permits",
+        &["pool", "8", "3", "1000", "1"],
+        "done 8000\nwithin\n",
+    ),
+];
+
+const WRONG_POOLS: [(&str, &[&str]); 6] = [
+    ("pool of no permits", &["pool", "4", "0", "1", "1"]),
+    ("pool of 10000 permits", &["pool", "4", "10000", "1", "1"]),
+    ("pool of no threads", &["pool", "0", "1", "1", "1"]),
+    ("pool of 257 threads", &["pool", "257", "1", "1", "1"]),
+    ("pool without a seed", &["pool", "4", "1", "1"]),
+    (
+        "pool with a word too many",
+        &["pool", "4", "1", "1", "1", "1"],
+    ),
+];
+
+#[test]
+fn permits_are_shared(rt: HostRuntime) {
+    for (name, words) in WRONG_POOLS {
+        check(
+            &rt,
+            rt.alloc(),
+            name,
+            words,
+            None,
+            ("", "bad command line\n", 1),
+        );
+    }
+    for _ in 0..10u8 {
+        for (name, words, out) in POOLS {
+            check(&rt, rt.alloc(), name, words, None, (out, "", 0));
+        }
+    }
+}
+
+/// As many threads as there may be.
+const MOST_THREADS: [(&str, &[&str], &str); 2] = [
+    (
+        "256 threads that count",
+        &["count", "256", "1", "2", "9"],
+        "lock 0 total 512\nsum 512\n",
+    ),
+    (
+        "256 threads that relay",
+        &["relay", "256", "1", "0"],
+        "put 128\ntaken 128\nsum 128\nbalanced\n",
+    ),
+];
+
+#[test]
+fn most_threads(rt: HostRuntime) {
+    for (name, words, out) in MOST_THREADS {
+        check(&rt, rt.alloc(), name, words, None, (out, "", 0));
+    }
+}
+
+#[test]
+fn most_threads_and_locks(rt: HostRuntime) -> Result<(), Fail> {
+    let mut want = String::new(rt.alloc());
+    for key in 0..1024u16 {
+        writeln!(want, "lock {key} total 0")?;
+    }
+    want.push_str("sum 0\n")?;
+    let words = ["count", "256", "1024", "0", "18446744073709551615"];
+    check(
+        &rt,
+        rt.alloc(),
+        "most threads and locks",
+        &words,
+        None,
+        (want.as_str(), "", 0),
+    );
+    Ok(())
+}
+
+/// A script of so many lines after the first.
+fn long_script(alloc: Global, lines: u32) -> Result<String, AllocError> {
+    let mut script = String::from_str(alloc, "open 1 1 0\n")?;
+    for _ in 0..lines {
+        script.push_str("try 0 0\n")?;
+    }
+    Ok(script)
+}
+
+#[test]
+fn longest_scripts(rt: HostRuntime) -> Result<(), Fail> {
+    let alloc = rt.alloc();
+    let longest = long_script(alloc, 99_999)?;
+    let owned = "lock 0 word 1 owner 0 line -\nthread 0 calm\n";
+    check(
+        &rt,
+        alloc,
+        "longest script",
+        &["replay", "f"],
+        Some(longest.as_bytes()),
+        (owned, "", 0),
+    );
+    let longer = long_script(alloc, 100_000)?;
+    let fault = "bad script line 100001\n";
+    check(
+        &rt,
+        alloc,
+        "a line too many",
+        &["replay", "f"],
+        Some(longer.as_bytes()),
+        ("", fault, 1),
+    );
+    Ok(())
+}
+
+#[test]
+fn most_keys(rt: HostRuntime) -> Result<(), Fail> {
+    for (script, locks) in [("open 64 1 1023\n", 1u16), ("open 64 1024 0\n", 1024)] {
+        let mut want = String::new(rt.alloc());
+        for key in 0..locks {
+            writeln!(want, "lock {key} word 0 owner - line -")?;
+        }
+        for key in locks..1024 {
+            writeln!(want, "cond {key} flag 0 line -")?;
+        }
+        for thread in 0..64u8 {
+            writeln!(want, "thread {thread} calm")?;
+        }
+        check(
+            &rt,
+            rt.alloc(),
+            script,
+            &["replay", "f"],
+            Some(script.as_bytes()),
+            (want.as_str(), "", 0),
+        );
+    }
+    Ok(())
+}
+
+/// The lines of a script in which a thread gets a lock past a sleeper.
+const BARGING: [&str; 9] = [
+    "open 4 1 0\n",
+    "take 0 0\n",
+    "take 1 0\n",
+    "mark 1 0\n",
+    "park 1 0\n",
+    "take 2 0\n",
+    "park 2 0\n",
+    "pass 0 0 0 1\n",
+    "take 3 0\n",
+];
+
+// A script that is cut within a line has a bad last line; one that is cut behind a line is a script.
+#[test]
+fn a_cut_script_is_answered_for_each_byte(rt: HostRuntime) -> Result<(), Fail> {
+    let alloc = rt.alloc();
+    let mut script = String::new(alloc);
+    for (i, line) in BARGING.iter().enumerate() {
+        let number = i + 1;
+        let fault = format!(in alloc; "bad script line {number}\n")?;
+        for c in line.chars() {
+            script.push(c)?;
+            if c != '\n' {
+                refused(&rt, alloc, &script, script.as_bytes(), &fault);
+            }
+        }
+        let mut out = Vec::new(alloc);
+        let mut faults = Vec::new(alloc);
+        let file = Some(script.as_bytes());
+        let status = run_command(&rt, alloc, &["replay", "f"], file, &mut out, &mut faults);
+        assert_eq!(rt; (status, faults.len()), (0, 0), "{script}");
+    }
+    Ok(())
+}
+
+/// `replay` of a file with these bytes says that much.
+fn refused<R: Threads + Wait + Sync + Abort>(
+    rt: &R,
+    alloc: Global,
+    name: &str,
+    bytes: &[u8],
+    fault: &str,
+) {
+    check(
+        rt,
+        alloc,
+        name,
+        &["replay", "f"],
+        Some(bytes),
+        ("", fault, 1),
+    );
+}
+
+#[test]
+fn unreadable_files(rt: HostRuntime) -> Result<(), Fail> {
+    let alloc = rt.alloc();
+    check(
+        &rt,
+        alloc,
+        "no such file",
+        &["replay", "f"],
+        None,
+        ("", "cannot read file\n", 1),
+    );
+    refused(
+        &rt,
+        alloc,
+        "not UTF-8",
+        b"open 1 1 0\n\xff\n".as_slice(),
+        "cannot read file\n",
+    );
+    let large = vec![in alloc; b'\n'; 4_000_001]?;
+    refused(
+        &rt,
+        alloc,
+        "4,000,001 bytes",
+        large.as_slice(),
+        "cannot read file\n",
+    );
+    let fits = vec![in alloc; b'\n'; 4_000_000]?;
+    refused(
+        &rt,
+        alloc,
+        "4,000,000 bytes",
+        fits.as_slice(),
+        "bad script line 1\n",
+    );
+    Ok(())
+}
+
+/// A writer that takes nothing.
+#[derive(Drop)]
+struct Full;
+
+impl Write for Full {
+    fn write(&mut self, _buf: &[u8]) -> io::Result<usize> {
+        Ok(0)
+    }
+
+    fn flush(&mut self) -> io::Result<()> {
+        Ok(())
+    }
+}
+
+/// Takes all bytes, and counts the writes.
+#[derive(Drop)]
+struct Counted {
+    bytes: Vec<u8>,
+    writes: u64,
+}
+
+impl Write for Counted {
+    fn write(&mut self, buf: &[u8]) -> io::Result<usize> {
+        self.writes = self.writes.saturating_add(1);
+        self.bytes.write(buf)
+    }
+
+    fn flush(&mut self) -> io::Result<()> {
+        Ok(())
+    }
+}
+
+#[test]
+fn output_that_cannot_be_written(rt: HostRuntime) {
+    let mut faults = Counted {
+        bytes: Vec::new(rt.alloc()),
+        writes: 0,
+    };
+    let file: Option<&[u8]> = None;
+    let status = run_command(
+        &rt,
+        rt.alloc(),
+        &["count", "1", "1", "0", "0"],
+        file,
+        &mut Full,
+        &mut faults,
+    );
+    assert!(rt; faults.bytes.as_slice() == b"cannot write\n".as_slice());
+    assert_eq!(rt; faults.writes, 1);
+    assert_eq!(rt; status, 1);
+}
+
+/// Holds worker 0 in its first round, where it owns its lock, until worker 1 owns its own there.
+#[derive(Drop)]
+struct Meeting {
+    arrived: AtomicU64,
+    missed: AtomicU64,
+}
+
+/// How often a held worker asks before it gives up.
+const ASKINGS: u64 = 10_000_000;
+
+impl Gate for Meeting {
+    fn reached(&self, worker: usize, round: u64, point: Point) {
+        if round != 0 || point != Point::Owning {
+            return;
+        }
+        if worker == 1 {
+            self.arrived.store(1, Ordering::SeqCst);
+            return;
+        }
+        for _ in 0..ASKINGS {
+            if self.arrived.load(Ordering::SeqCst) != 0 {
+                return;
+            }
+            thread::yield_now();
+        }
+        self.missed.store(1, Ordering::SeqCst);
+    }
+}
+
+/// Holds the consumer, worker 1, before its first lock, until the producer, worker 0, has owned the lock in its fourth round.
+#[derive(Drop)]
+struct Filled {
+    full: AtomicU64,
+    missed: AtomicU64,
+}
+
+impl Gate for Filled {
+    fn reached(&self, worker: usize, round: u64, point: Point) {
+        if worker == 0 && round == 3 && point == Point::BeforeRelease {
+            self.full.store(1, Ordering::SeqCst);
+        }
+        if worker != 1 || round != 0 || point != Point::BeforeLock {
+            return;
+        }
+        for _ in 0..ASKINGS {
+            if self.full.load(Ordering::SeqCst) != 0 {
+                return;
+            }
+            thread::yield_now();
+        }
+        self.missed.store(1, Ordering::SeqCst);
+    }
+}
+
+#[test]
+fn producer_fills_the_buffer_first(rt: HostRuntime) {
+    let filled = Filled {
+        full: AtomicU64::new(0),
+        missed: AtomicU64::new(0),
+    };
+    let relaying = Relaying {
+        threads: 2,
+        rounds: 9,
+        seed: 7,
+    };
+    let mut out = Vec::new(rt.alloc());
+    let mut faults = Vec::new(rt.alloc());
+    let status = relay_with(&rt, rt.alloc(), &filled, &relaying, &mut out, &mut faults);
+    assert_eq!(rt; filled.missed.load(Ordering::SeqCst), 0);
+    assert!(rt; out.as_slice() == b"put 9\ntaken 9\nsum 45\nbalanced\n".as_slice());
+    assert_eq!(rt; status, 0);
+}
+
+#[test]
+fn two_workers_meet(rt: HostRuntime) {
+    let meeting = Meeting {
+        arrived: AtomicU64::new(0),
+        missed: AtomicU64::new(0),
+    };
+    let counting = Counting {
+        threads: 2,
+        locks: 2,
+        rounds: 10,
+        seed: 7,
+    };
+    let mut out = Vec::new(rt.alloc());
+    let mut faults = Vec::new(rt.alloc());
+    let status = count_with(&rt, rt.alloc(), &meeting, &counting, &mut out, &mut faults);
+    assert_eq!(rt; meeting.missed.load(Ordering::SeqCst), 0);
+    assert!(rt; out.as_slice() == b"lock 0 total 10\nlock 1 total 10\nsum 20\n".as_slice());
+    assert_eq!(rt; status, 0);
+}

@@ -1,0 +1,50 @@
+//! What a program answers where it has no result.
+ghost use Rattle.std.specs.Prelude.{◌≤◌};
+
+use std::alloc::AllocError;
+
+/// Each failure has one text and one exit status.
+#[derive(Clone, Copy, Debug, PartialEq, Eq, thiserror::Error)]
+pub enum Failure {
+    #[error("bad command line")]
+    BadCommandLine,
+    #[error("cannot read file")]
+    CannotReadFile,
+    /// The line is counted from 1.
+    #[error("bad script line {0}")]
+    BadScriptLine(usize),
+    #[error("bad limits")]
+    BadLimits,
+    /// The event is counted from 1.
+    #[error("event {0} refused")]
+    EventRefused(usize),
+    #[error("no memory")]
+    NoMemory,
+    #[error("cannot start a worker")]
+    CannotStartWorker,
+    #[error("cannot write")]
+    CannotWrite,
+}
+
+impl Failure {
+    /// 1 for what the caller can mend, 2 for an event that the model refuses, 3 for what the machine lacks.
+    pub fn status(self) -> u8
+        ensures { (1 ≤ result) × (result ≤ 3) }
+    {
+        match self {
+            Failure::BadCommandLine
+            | Failure::CannotReadFile
+            | Failure::BadScriptLine(_)
+            | Failure::BadLimits
+            | Failure::CannotWrite => 1,
+            Failure::EventRefused(_) => 2,
+            Failure::NoMemory | Failure::CannotStartWorker => 3,
+        }
+    }
+}
+
+impl From<AllocError> for Failure {
+    fn from(_: AllocError) -> Failure {
+        Failure::NoMemory
+    }
+}

@@ -1,0 +1,40 @@
+//! What is written of an outcome, and where.
+ghost use Rattle.std.specs.Prelude.{◌≤◌, OnErr};
+
+use crate::failure::Failure;
+use arrayvec::ArrayString;
+use std::fmt::Write as _;
+use std::io::Write;
+
+/// Room for the longest text of a fault: some words and a number of 20 digits.
+const LONGEST_FAULT: usize = 48;
+
+/// Writes the text to `out`, or the failure to `faults`, and answers the exit status, which is 0 only where the whole
+/// text was taken. Of a failure nothing is written to `out`.
+pub fn report<W: Write, E: Write>(
+    outcome: Result<String, Failure>,
+    out: &mut W,
+    faults: &mut E,
+) -> u8
+    ensures { OnErr outcome (1 ≤ result) }
+{
+    let written = outcome.and_then(|text| match out.write_all(text.as_bytes()) {
+        Ok(()) => Ok(()),
+        Err(_) => Err(Failure::CannotWrite),
+    });
+    match written {
+        Ok(()) => 0,
+        Err(failure) => {
+            tell(failure, faults);
+            failure.status()
+        }
+    }
+}
+
+/// Writes the fault's line by one write, so that the lines of several programs never mix. A fault that cannot be written is still told by
+/// the status.
+fn tell<E: Write>(failure: Failure, faults: &mut E) {
+    let mut line: ArrayString<LONGEST_FAULT> = ArrayString::new();
+    let _ = writeln!(line, "{failure}");
+    let _ = faults.write_all(line.as_bytes());
+}

@@ -1,0 +1,4 @@
+pub mod Counters
+pub mod Works
+pub mod Buffers
+pub mod Insides

@@ -1,0 +1,215 @@
+//! `pool`: threads that share some permits, and count under a lock how many have one at a time.
+ghost use Rattle.std.specs.Prelude.{◌≡◌, ◌≤◌, ℕ, [], ◌∷◌, length};
+ghost use Rattle.lot_core.specs.declared.state.TheConstants.{MAX_THREADS};
+ghost use Rattle.lot_sync.specs.Lot.{Owns, OwnsNone};
+ghost use Rattle.lot_sync.specs.Opened.{IsNamed};
+
+use crate::gate::{Gate, OpenGate, Point};
+use crate::inside::Inside;
+use crate::workers::{Flags, all_start, close, enter, moment, start};
+use lot_command::{Failure, report};
+use lot_sync::{Lot, LotName, OpenFault, Opened, Pass};
+use std::alloc::Global;
+use std::fmt::Write as _;
+use std::io::Write;
+use std::marker::Brand;
+use std::sync::Wait;
+use std::thread::Threads;
+
+/// The key of the lock that guards the count.
+const COUNT: usize = 0;
+
+/// The key of the semaphore, after the lock's.
+const POOL: usize = 1;
+
+/// How many threads, how many permits they share, how many rounds of each thread, and the seed of the random words.
+#[derive(Drop)]
+pub struct Pooling {
+    pub threads: usize,
+    pub permits: u32,
+    pub rounds: u64,
+    pub seed: u64,
+    ghost threads_fit: { (1 ≤ threads) × (threads ≤ MAX_THREADS) },
+}
+
+/// How many rounds were done, and whether never more workers than permits were in, printed.
+pub fn pool<T: Threads + Wait + Sync>(
+    rt: &T,
+    alloc: Global,
+    pooling: &Pooling,
+) -> Result<String, Failure> {
+    pooled(rt, alloc, &OpenGate, pooling)
+}
+
+/// `pool` with a gate that can hold the workers; answers the exit status.
+pub fn pool_with<T: Threads + Wait + Sync, G: Gate + Sync, W: Write, E: Write>(
+    rt: &T,
+    alloc: Global,
+    gate: &G,
+    pooling: &Pooling,
+    out: &mut W,
+    faults: &mut E,
+) -> u8 {
+    report(pooled(rt, alloc, gate, pooling), out, faults)
+}
+
+fn pooled<T: Threads + Wait + Sync, G: Gate + Sync>(
+    rt: &T,
+    alloc: Global,
+    gate: &G,
+    pooling: &Pooling,
+) -> Result<String, Failure> {
+    let mut counts = Vec::with_capacity(alloc, 1)?;
+    counts.push_reserved(Inside::new());
+    let permits = [pooling.permits];
+    match Lot::<Inside, Brand>::open_with(alloc, pooling.threads, counts, 0, &permits) {
+        Ok(opened) => run::<Brand, T, G>(rt, alloc, gate, pooling, opened),
+        Err((OpenFault::NoMemory, _)) => Err(Failure::NoMemory),
+        Err(_) => unreachable!(),
+    }
+}
+
+/// Starts the lot, lets the workers run, and prints what was counted.
+fn run<N: LotName<Inside> + Send + Sync, T: Threads + Wait + Sync, G: Gate + Sync>(
+    rt: &T,
+    alloc: Global,
+    gate: &G,
+    pooling: &Pooling,
+    opened: Opened<Inside>,
+) -> Result<String, Failure>
+    requires named { IsNamed (record { opening = N.opening; threads = N.threads; values = N.values; locks = N.locks; conds = N.conds; low = N.low; permits = N.permits }) opened }
+    requires sizes { (opened.threads ≡ pooling.now.threads) × (length opened.values ≡ 1) × (opened.conds ≡ 0) × (length opened.permits ≡ 1) }
+{
+    let (lot, passes) = match start::<Inside, N>(alloc, pooling.threads, opened) {
+        Ok(started) => started,
+        Err(failure) => return Err(failure),
+    };
+    let outcome = pool_all(rt, gate, pooling, &lot);
+    let (counts, _) = close(rt, lot, passes, pooling.threads);
+    outcome?;
+    print(alloc, &counts[0], pooling.permits)
+}
+
+/// Runs the workers to their end.
+fn pool_all<N: LotName<Inside> + Send + Sync, T: Threads + Wait + Sync, G: Gate + Sync>(
+    rt: &T,
+    gate: &G,
+    pooling: &Pooling,
+    lot: &Lot<Inside, N>,
+) -> Result<(), Failure>
+    requires { (lot.now.locks ≡ 1) × (lot.now.conds ≡ 0) × (lot.now.sems ≡ 1) }
+{
+    let flags = Flags::new();
+    let started = start_all(rt, gate, pooling, lot, &flags);
+    flags.outcome(started)
+}
+
+/// Starts the workers and waits for their end. Answers whether all could be started.
+fn start_all<N: LotName<Inside> + Send + Sync, T: Threads + Wait + Sync, G: Gate + Sync>(
+    rt: &T,
+    gate: &G,
+    pooling: &Pooling,
+    lot: &Lot<Inside, N>,
+    flags: &Flags,
+) -> bool
+    requires { (lot.now.locks ≡ 1) × (lot.now.conds ≡ 0) × (lot.now.sems ≡ 1) }
+{
+    all_start(
+        rt,
+        pooling.threads,
+        flags,
+        &|worker: usize|
+            requires { (lot.now.locks ≡ 1) × (lot.now.conds ≡ 0) × (lot.now.sems ≡ 1) }
+        {
+            work(rt, lot, gate, flags, pooling, worker);
+        },
+    )
+}
+
+/// One worker: it waits until all may go, and then goes its rounds.
+fn work<N: LotName<Inside> + Send + Sync, T: Wait, G: Gate>(
+    rt: &T,
+    lot: &Lot<Inside, N>,
+    gate: &G,
+    flags: &Flags,
+    pooling: &Pooling,
+    worker: usize,
+)
+    requires { (lot.now.locks ≡ 1) × (lot.now.conds ≡ 0) × (lot.now.sems ≡ 1) }
+{
+    let Some(pass) = enter(rt, lot, flags) else {
+        return;
+    };
+    let mut pass = pass;
+    for round in 0..pooling.rounds {
+        pass = go_round(rt, lot, gate, pooling, worker, round, pass);
+    }
+    lot.leave(rt, pass);
+}
+
+/// One round of a worker: it gets a permit, counts itself in and out again, and gives the permit back.
+fn go_round<N: LotName<Inside> + Send + Sync, T: Wait, G: Gate>(
+    rt: &T,
+    lot: &Lot<Inside, N>,
+    gate: &G,
+    pooling: &Pooling,
+    worker: usize,
+    round: u64,
+    pass: Pass<Inside, N>,
+) -> Pass<Inside, N>
+    requires sizes { (lot.now.locks ≡ 1) × (lot.now.conds ≡ 0) × (lot.now.sems ≡ 1) }
+    requires free { OwnsNone pass }
+    ensures { OwnsNone result }
+{
+    let moment = moment(pooling.seed, worker as u64, round);
+    gate.reached(worker, round, Point::BeforeLock);
+    let (pass, permit) = lot.acquire(rt, pass, POOL);
+    gate.reached(worker, round, Point::Owning);
+    let pass = count_in(rt, lot, pass);
+    let pass = count_out(rt, lot, pass);
+    gate.reached(worker, round, Point::BeforeRelease);
+    let (pass, _) = lot.release(rt, pass, permit, moment);
+    pass
+}
+
+fn count_in<N: LotName<Inside> + Send + Sync, T: Wait>(
+    rt: &T,
+    lot: &Lot<Inside, N>,
+    pass: Pass<Inside, N>,
+) -> Pass<Inside, N>
+    requires sizes { lot.now.locks ≡ 1 }
+    requires free { (k : ℕ) → ¬ Owns pass k }
+    ensures free { (k : ℕ) → ¬ Owns result k }
+    ensures same { (result.thread ≡ pass.thread) × (result.permits ≡ pass.permits) }
+{
+    let (pass, mut held) = lot.lock(rt, pass, COUNT);
+    held.value_mut().count_in();
+    lot.unlock(rt, pass, held, moment(0, 0, 0)).0
+}
+
+fn count_out<N: LotName<Inside> + Send + Sync, T: Wait>(
+    rt: &T,
+    lot: &Lot<Inside, N>,
+    pass: Pass<Inside, N>,
+) -> Pass<Inside, N>
+    requires sizes { lot.now.locks ≡ 1 }
+    requires free { (k : ℕ) → ¬ Owns pass k }
+    ensures free { (k : ℕ) → ¬ Owns result k }
+    ensures same { (result.thread ≡ pass.thread) × (result.permits ≡ pass.permits) }
+{
+    let (pass, mut held) = lot.lock(rt, pass, COUNT);
+    held.value_mut().count_out();
+    lot.unlock(rt, pass, held, moment(0, 0, 0)).0
+}
+
+/// A line for the rounds that were done, and one for whether never more workers than permits were in.
+fn print(alloc: Global, counts: &Inside, permits: u32) -> Result<String, Failure> {
+    let mut text = String::new(alloc);
+    writeln!(text, "done {}", counts.done)?;
+    if counts.most <= permits as u64 {
+        writeln!(text, "within")?;
+    } else {
+        writeln!(text, "over")?;
+    }
+    Ok(text)
+}

@@ -1,0 +1,320 @@
+//! `relay`: producers put numbers into a buffer that consumers take, and wait on two conditions.
+ghost use Rattle.std.specs.Prelude.{◌≡◌, ◌≤◌, ◌<◌, length};
+ghost use Rattle.lot_core.specs.declared.state.TheConstants.{MAX_THREADS};
+ghost use Rattle.lot_sync.specs.Lot.{OwnsNone};
+ghost use Rattle.lot_sync.specs.Opened.{IsNamed};
+ghost use Rattle.lot_load.specs.Buffers.{HasBuffer};
+
+use crate::buffer::{Buffer, Taken};
+use crate::gate::{Gate, OpenGate, Point};
+use crate::workers::{Flags, close, enter, let_go, moment, start};
+use lot_command::{Failure, report};
+use lot_sync::{Held, Ledger, Lot, LotName, Moment, OpenFault, Opened, Pass};
+use std::alloc::Global;
+use std::fmt::Write as _;
+use std::io::Write;
+use std::marker::Brand;
+use std::sync::Wait;
+use std::thread;
+use std::thread::Threads;
+
+/// The lock of the buffer.
+const BUFFER: usize = 0;
+
+/// The condition on which producers wait.
+const NOT_FULL: usize = 1;
+
+/// The condition on which consumers wait.
+const NOT_EMPTY: usize = 2;
+
+/// How many threads, how many numbers each producer puts, and the seed of the random words.
+#[derive(Drop)]
+pub struct Relaying {
+    pub threads: usize,
+    pub rounds: u64,
+    pub seed: u64,
+    ghost threads_fit: { (2 ≤ threads) × (threads ≤ MAX_THREADS) },
+}
+
+impl Relaying {
+    /// How many of the threads are producers.
+    fn producers(&self) -> usize {
+        self.threads / 2
+    }
+
+    /// How many numbers all producers put.
+    fn total(&self) -> u64 {
+        (self.producers() as u64).saturating_mul(self.rounds)
+    }
+
+    /// Whether a thread that wants to act has to wait on the condition.
+    fn has_to_wait(&self, buffer: &Buffer, cond: usize) -> bool {
+        if cond == NOT_FULL {
+            buffer.is_full()
+        } else {
+            buffer.is_empty() && buffer.taken < self.total()
+        }
+    }
+}
+
+/// What was put and taken, printed.
+pub fn relay<T: Threads + Wait + Sync>(
+    rt: &T,
+    alloc: Global,
+    relaying: &Relaying,
+) -> Result<String, Failure> {
+    relayed(rt, alloc, &OpenGate, relaying)
+}
+
+/// `relay` with a gate that can hold the workers; answers the exit status.
+pub fn relay_with<T: Threads + Wait + Sync, G: Gate + Sync, W: Write, E: Write>(
+    rt: &T,
+    alloc: Global,
+    gate: &G,
+    relaying: &Relaying,
+    out: &mut W,
+    faults: &mut E,
+) -> u8 {
+    report(relayed(rt, alloc, gate, relaying), out, faults)
+}
+
+fn relayed<T: Threads + Wait + Sync, G: Gate + Sync>(
+    rt: &T,
+    alloc: Global,
+    gate: &G,
+    relaying: &Relaying,
+) -> Result<String, Failure> {
+    let mut buffers = Vec::with_capacity(alloc, 1)?;
+    buffers.push_reserved(Buffer::new());
+    match Lot::<Buffer, Brand>::open(alloc, relaying.threads, buffers, 2) {
+        Ok(opened) => run::<Brand, T, G>(rt, alloc, gate, relaying, opened),
+        Err((OpenFault::NoMemory, _)) => Err(Failure::NoMemory),
+        Err(_) => unreachable!(),
+    }
+}
+
+/// Starts the lot, lets the workers run, and prints what was put and taken.
+fn run<N: LotName<Buffer> + Send + Sync, T: Threads + Wait + Sync, G: Gate + Sync>(
+    rt: &T,
+    alloc: Global,
+    gate: &G,
+    relaying: &Relaying,
+    opened: Opened<Buffer>,
+) -> Result<String, Failure>
+    requires named { IsNamed (record { opening = N.opening; threads = N.threads; values = N.values; locks = N.locks; conds = N.conds; low = N.low; permits = N.permits }) opened }
+    requires sizes { (opened.threads ≡ relaying.now.threads) × (length opened.values ≡ 1) × (opened.conds ≡ 2) }
+{
+    let (lot, passes) = match start::<Buffer, N>(alloc, relaying.threads, opened) {
+        Ok(started) => started,
+        Err(failure) => return Err(failure),
+    };
+    let outcome = relay_all(rt, gate, relaying, &lot);
+    let (buffers, ledger) = close(rt, lot, passes, relaying.threads);
+    outcome?;
+    print(alloc, &buffers[0], &ledger)
+}
+
+/// Runs the workers to their end.
+fn relay_all<N: LotName<Buffer> + Send + Sync, T: Threads + Wait + Sync, G: Gate + Sync>(
+    rt: &T,
+    gate: &G,
+    relaying: &Relaying,
+    lot: &Lot<Buffer, N>,
+) -> Result<(), Failure>
+    requires { (lot.now.locks ≡ 1) × (lot.now.conds ≡ 2) }
+{
+    let flags = Flags::new();
+    let started = start_all(rt, gate, relaying, lot, &flags);
+    flags.outcome(started)
+}
+
+/// Starts the workers and waits for their end. Answers whether all could be started.
+fn start_all<N: LotName<Buffer> + Send + Sync, T: Threads + Wait + Sync, G: Gate + Sync>(
+    rt: &T,
+    gate: &G,
+    relaying: &Relaying,
+    lot: &Lot<Buffer, N>,
+    flags: &Flags,
+) -> bool
+    requires { (lot.now.locks ≡ 1) × (lot.now.conds ≡ 2) }
+{
+    thread::scope(
+        thread::scope_env(),
+        rt,
+        |scope| -> bool
+            requires { (lot.now.locks ≡ 1) × (lot.now.conds ≡ 2) }
+        {
+            let mut started = true;
+            for worker in 0..relaying.threads {
+                let job = move ||
+                    requires { (lot.now.locks ≡ 1) × (lot.now.conds ≡ 2) }
+                {
+                    work(rt, lot, gate, flags, relaying, worker);
+                };
+                if scope.spawn(job).is_err() {
+                    started = false;
+                    break;
+                }
+            }
+            let_go(rt, flags, relaying.threads, started);
+            started
+        },
+    )
+}
+
+/// One worker: it waits until all may go, and then puts numbers or takes them.
+fn work<N: LotName<Buffer> + Send + Sync, T: Wait, G: Gate>(
+    rt: &T,
+    lot: &Lot<Buffer, N>,
+    gate: &G,
+    flags: &Flags,
+    relaying: &Relaying,
+    worker: usize,
+)
+    requires { (lot.now.locks ≡ 1) × (lot.now.conds ≡ 2) }
+{
+    let Some(pass) = enter(rt, lot, flags) else {
+        return;
+    };
+    let relays = Relays {
+        rt,
+        lot,
+        gate,
+        relaying,
+    };
+    let pass = if worker < relaying.producers() {
+        relays.produce(worker, pass)
+    } else {
+        relays.consume(worker, pass)
+    };
+    lot.leave(rt, pass);
+}
+
+/// What a worker is lent.
+#[derive(Drop)]
+struct Relays<'a, N: LotName<Buffer> + Send + Sync, T: Wait, G: Gate> {
+    rt: &'a T,
+    lot: &'a Lot<Buffer, N>,
+    gate: &'a G,
+    relaying: &'a Relaying,
+    ghost keys: { (lot.now.locks ≡ 1) × (lot.now.conds ≡ 2) },
+}
+
+impl<N: LotName<Buffer> + Send + Sync, T: Wait, G: Gate> Relays<'_, N, T, G> {
+    /// Puts the numbers from 1 on, one in each round.
+    fn produce(&self, worker: usize, pass: Pass<Buffer, N>) -> Pass<Buffer, N>
+        requires { OwnsNone pass }
+        ensures { OwnsNone result }
+    {
+        let mut pass = pass;
+        for round in 0..self.relaying.rounds {
+            let (gone, put) = self.put_next(worker, round, pass);
+            pass = gone;
+            if !put {
+                break;
+            }
+        }
+        pass
+    }
+
+    /// Takes numbers, one in each round, until all were taken.
+    fn consume(&self, worker: usize, pass: Pass<Buffer, N>) -> Pass<Buffer, N>
+        requires { OwnsNone pass }
+        ensures { OwnsNone result }
+    {
+        let mut pass = pass;
+        for round in 0..self.relaying.total() {
+            let (gone, taken) = self.take_next(worker, round, pass);
+            pass = gone;
+            if !taken {
+                break;
+            }
+        }
+        pass
+    }
+
+    /// Puts the round's number when there is a place, and notifies a consumer. False where the buffer refused it.
+    fn put_next(&self, worker: usize, round: u64, pass: Pass<Buffer, N>) -> (Pass<Buffer, N>, bool)
+        requires { OwnsNone pass }
+        ensures { OwnsNone result.0 }
+    {
+        let moment = moment(self.relaying.seed, worker as u64, round);
+        self.gate.reached(worker, round, Point::BeforeLock);
+        let (pass, mut held) = self.get(pass, NOT_FULL, moment);
+        self.gate.reached(worker, round, Point::Owning);
+        let put = held.value_mut().put(round.saturating_add(1));
+        self.gate.reached(worker, round, Point::BeforeRelease);
+        let (pass, _) = self.lot.unlock(self.rt, pass, held, moment);
+        let (pass, _) = self.lot.notify_one(self.rt, pass, NOT_EMPTY, moment);
+        (pass, put)
+    }
+
+    /// Takes a number when one lies there, and notifies a producer. False where none will come any more.
+    fn take_next(&self, worker: usize, round: u64, pass: Pass<Buffer, N>) -> (Pass<Buffer, N>, bool)
+        requires { OwnsNone pass }
+        ensures { OwnsNone result.0 }
+    {
+        let moment = moment(self.relaying.seed, worker as u64, round);
+        self.gate.reached(worker, round, Point::BeforeLock);
+        let (pass, mut held) = self.get(pass, NOT_EMPTY, moment);
+        self.gate.reached(worker, round, Point::Owning);
+        let taken = held.value_mut().take();
+        let is_last = held.value().taken == self.relaying.total();
+        self.gate.reached(worker, round, Point::BeforeRelease);
+        let (pass, _) = self.lot.unlock(self.rt, pass, held, moment);
+        match taken {
+            Taken::Got(_) => (self.tell_taken(pass, is_last, moment), true),
+            Taken::Empty | Taken::TooMuch => (pass, false),
+        }
+    }
+
+    /// Notifies a producer; and, after the last number, all consumers.
+    fn tell_taken(&self, pass: Pass<Buffer, N>, is_last: bool, moment: Moment) -> Pass<Buffer, N>
+        requires { OwnsNone pass }
+        ensures { OwnsNone result }
+    {
+        let (pass, _) = self.lot.notify_one(self.rt, pass, NOT_FULL, moment);
+        if is_last {
+            self.lot.notify_all(self.rt, pass, NOT_EMPTY).0
+        } else {
+            pass
+        }
+    }
+
+    /// Locks the buffer, and waits on the condition while it has to.
+    fn get(
+        &self,
+        pass: Pass<Buffer, N>,
+        cond: usize,
+        moment: Moment,
+    ) -> (Pass<Buffer, N>, Held<Buffer, N>)
+        requires free { OwnsNone pass }
+        requires cond { (1 ≤ cond) × (cond < 3) }
+        ensures { HasBuffer result.0 result.1 }
+    {
+        let (mut pass, mut held) = self.lot.lock(self.rt, pass, BUFFER);
+        for _ in self.rt.forever() {
+            if !self.relaying.has_to_wait(held.value(), cond) {
+                return (pass, held);
+            }
+            let (woken, found) = self.lot.wait(self.rt, pass, held, cond, moment);
+            pass = woken;
+            held = found;
+        }
+        unreachable!()
+    }
+}
+
+/// A line for each number of the buffer, and whether each sleeper that was taken from a condition's line is one wait that ended.
+fn print(alloc: Global, buffer: &Buffer, ledger: &Ledger) -> Result<String, Failure> {
+    let mut text = String::new(alloc);
+    writeln!(text, "put {}", buffer.put)?;
+    writeln!(text, "taken {}", buffer.taken)?;
+    writeln!(text, "sum {}", buffer.sum)?;
+    if ledger.called.as_slice() == ledger.woken.as_slice() {
+        writeln!(text, "balanced")?;
+    } else {
+        writeln!(text, "not balanced")?;
+    }
+    Ok(text)
+}

@@ -1,5 +1,0 @@
-pub mod Counters
-pub mod Works
-pub mod Buffers
-pub mod Insides
-pub mod Theres
