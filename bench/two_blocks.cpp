@@ -1,0 +1,79 @@
+// What it costs that words and values lie in two blocks: the round of `count`, with each value beside its word, or apart from it.
+//
+//     c++ -O2 -pthread bench/two_blocks.cpp -o /tmp/two_blocks && /tmp/two_blocks apart 4 1024 2000000
+//
+// The first word is `beside` (one line of the cache for each lock), `apart` (two, as the lot has them), or `asked` (apart, where the value's line
+// is asked for before the exchange). It prints the nanoseconds of a round of all threads.
+#include <atomic>
+#include <chrono>
+#include <cstdint>
+#include <cstdio>
+#include <cstdlib>
+#include <cstring>
+#include <sched.h>
+#include <thread>
+#include <vector>
+
+struct alignas(16) Word {
+    std::atomic<uint64_t> held{0};
+    volatile uint64_t value = 0;
+};
+
+struct alignas(16) Slot {
+    volatile uint64_t tag = 1;
+    volatile uint64_t value = 0;
+};
+
+enum class Way { beside, apart, asked };
+
+static std::atomic<int> here{0};
+
+static void add_one(Word& word, Slot& slot, Way way) {
+    if (way == Way::beside) {
+        word.value = word.value + 1;
+        return;
+    }
+    uint64_t value = slot.value;
+    slot.tag = 0;
+    slot.value = value + 1;
+    slot.tag = 1;
+}
+
+static void work(int thread, int threads, long rounds, std::vector<Word>& words, std::vector<Slot>& slots, Way way) {
+    uint64_t random = 88172645463325252u + uint64_t(thread) * 0x9E3779B97F4A7C15u;
+    here.fetch_add(1);
+    while (here.load() < threads)
+        sched_yield();
+    for (long round = 0; round < rounds; round++) {
+        random ^= random << 13;
+        random ^= random >> 7;
+        random ^= random << 17;
+        size_t key = random % words.size();
+        if (way == Way::asked)
+            __builtin_prefetch((const void*)&slots[key], 1);
+        for (uint64_t free = 0; !words[key].held.compare_exchange_strong(free, 1); free = 0)
+            for (int yields = 0; yields < 8; yields++)
+                sched_yield();
+        add_one(words[key], slots[key], way);
+        uint64_t owned = 1;
+        words[key].held.compare_exchange_strong(owned, 0);
+    }
+}
+
+int main(int count, char** arguments) {
+    if (count != 5)
+        return 1;
+    Way way = !strcmp(arguments[1], "beside") ? Way::beside : !strcmp(arguments[1], "apart") ? Way::apart : Way::asked;
+    int threads = atoi(arguments[2]);
+    std::vector<Word> words(strtoul(arguments[3], nullptr, 10));
+    std::vector<Slot> slots(words.size());
+    long rounds = atol(arguments[4]);
+    std::vector<std::thread> all;
+    auto begin = std::chrono::steady_clock::now();
+    for (int thread = 0; thread < threads; thread++)
+        all.emplace_back([&, thread] { work(thread, threads, rounds, words, slots, way); });
+    for (auto& one : all)
+        one.join();
+    std::chrono::duration<double, std::nano> time = std::chrono::steady_clock::now() - begin;
+    printf("%s %d %zu: %.1f\n", arguments[1], threads, words.size(), time.count() / (double(threads) * rounds));
+}
