@@ -6,22 +6,15 @@ ghost use Rattle.lot_park.specs.Parking.{Ends, Awaited};
 use crate::scheme::{LockScheme, NamedPass};
 use crate::steps::{HANDOFF, LockSteps};
 use lot_park::parts::{Part, park_on};
-use lot_park::{Parked, ParkingLot, Scheme};
+use lot_park::{Parked, ParkingLot, Scheme, Spins};
 use lot_words::{Keeps, Name};
 use std::sync::Wait;
-use std::thread;
 
 /// The bit of a lock word that says that somebody owns the lock.
 const HELD: u64 = 1;
 
 /// The bit of a lock word that says that somebody may wait in its line.
 const PARKED: u64 = 2;
-
-/// How often one call yields before it parks.
-const SPINS: u32 = 40;
-
-/// How often it yields before it looks at the word again: each look takes the word's line from its owner.
-const YIELDS: u32 = 8;
 
 /// What a thread does that was queued, before it sleeps. No bucket is locked then.
 pub trait BeforeSleep {
@@ -130,7 +123,7 @@ where
     ensures { IsOwner V.keeps V.grows V.part pass key result }
 {
     let mut pass = pass;
-    let mut spins = 0;
+    let mut spins = Spins::none();
     for _ in rt.forever() {
         let (waited, got) = wait_for::<S, V, N, P, R, B>(
             rt, parking, scheme, pass, key, &mut spins, before,
@@ -155,7 +148,7 @@ fn wait_for<S, V, N, P, R: Wait, B: BeforeSleep>(
     scheme: &LockScheme<V, N>,
     pass: NamedPass<V, N>,
     key: usize,
-    spins: &mut u32,
+    spins: &mut Spins,
     before: &B,
 ) -> (NamedPass<V, N>, bool)
 where
@@ -167,13 +160,11 @@ where
     requires serves { P.serves key }
     requires thread { pass.thread < parking.now.threads }
     requires may { MayTake pass key }
-    requires spins { spins.old ≤ SPINS }
-    ensures spins { spins.new ≤ SPINS }
-    ensures ends { MatchBool result.1 (IsOwner V.keeps V.grows V.part pass key result.0) (IsAwakeFor pass key result.0) }
+    ensures { MatchBool result.1 (IsOwner V.keeps V.grows V.part pass key result.0) (IsAwakeFor pass key result.0) }
 {
-    let is_parked = *spins > 0 && scheme.is_parked(key);
-    if !is_parked && *spins < SPINS {
-        *spins = back_off(*spins);
+    let is_parked = spins.has_begun() && scheme.is_parked(key);
+    if !is_parked && spins.has_more() {
+        spins.back_off();
         return (pass, false);
     }
     let (pass, got) = scheme.take(pass, key);
@@ -213,18 +204,6 @@ where
     } else {
         (pass, false)
     }
-}
-
-/// Yields until it is time to look at the word again, and answers how often this call has yielded then.
-fn back_off(spins: u32) -> u32
-    requires { spins < SPINS }
-    ensures { (spins < result) × (result ≤ SPINS) }
-{
-    let end = SPINS.min(spins + YIELDS);
-    for _ in spins..end {
-        thread::yield_now();
-    }
-    end
 }
 
 /// Sleeps in the line of the lock while it is held and parked, and answers whether the lock was handed over.

@@ -16,6 +16,8 @@
 //! look for a letter does, also one that finds none, the scheme says (`looked`), and a parking's contract
 //! chains the looks (`Awaited`).
 //!
+//! Whoever wants a lock or a permit yields some times before it parks: `Spins` counts them.
+//!
 //! Several tables of rights share one lot by `parts`, each with its own keys, letters and passes.
 #![tactic(auto)]
 
@@ -25,10 +27,12 @@ pub mod lot;
 mod parking;
 pub mod parts;
 pub mod scheme;
+mod spins;
 mod taken;
 
 pub use lot::{ParkFault, Parked, ParkingLot};
 pub use lot_bucket::{Dequeued as UnparkResult, Moment, Root};
 pub use lot_table::{Grown, TableFault};
 pub use scheme::{Scheme, Token};
+pub use spins::Spins;
 pub use taken::MOST_THREADS;

@@ -7,13 +7,9 @@ ghost use Rattle.lot_permits.specs.Rights.{IsCalmStanding, HasTried, HasTaken, g
 use crate::name::PermitName;
 use crate::scheme::{NamedSem, SemKeyRoot, SemScheme};
 use lot_park::parts::{Part, park_on};
-use lot_park::{ParkingLot, Scheme};
+use lot_park::{ParkingLot, Scheme, Spins};
 use lot_sems::Taken;
 use std::sync::Wait;
-use std::thread;
-
-/// How often one call of `acquire` yields before it parks.
-const SPINS: u32 = 40;
 
 /// The bit of a semaphore's word that says that threads may be parked.
 const PARKED: u64 = 1;
@@ -70,7 +66,7 @@ pub(crate) fn get_slowly<S: Scheme, N: PermitName + Send, P: Part<S, SemScheme<N
 {
     let mut pass = pass;
     let mut taken = first;
-    let mut spins = 0;
+    let mut spins = Spins::none();
     for _ in rt.forever() {
         let waited = match taken {
             Taken::Empty => wait_for::<S, N, P, R>(rt, parking, scheme, pass, key, &mut spins),
@@ -86,28 +82,25 @@ pub(crate) fn get_slowly<S: Scheme, N: PermitName + Send, P: Part<S, SemScheme<N
     unreachable!()
 }
 
-/// What a thread does that found no permit left: it spins a while, marks the semaphore as parked, and sleeps in its line. Its pass comes
-/// back as it was, and the caller tries again.
+/// What a thread does that found no permit left: it yields some times, the first time without a look, marks the semaphore as parked, and
+/// sleeps in its line. Its pass comes back as it was, and the caller tries again.
 fn wait_for<S: Scheme, N: PermitName + Send, P: Part<S, SemScheme<N>>, R: Wait>(
     rt: &R,
     parking: &ParkingLot<S>,
     scheme: &SemScheme<N>,
     pass: NamedSem<N>,
     key: usize,
-    spins: &mut u32,
+    spins: &mut Spins,
 ) -> NamedSem<N>
     requires key { IsAmongSemaphores N.low (length N.permits) key × (key < parking.now.keys) }
     requires serves { P.serves key }
     requires thread { pass.thread < parking.now.threads }
     requires seeks { IsSeeking pass.own key }
-    requires spins { spins.old ≤ SPINS }
-    ensures spins { spins.new ≤ SPINS }
-    ensures same { result ≡ pass }
+    ensures { result ≡ pass }
 {
-    let is_parked = scheme.words().bits(key) & PARKED != 0;
-    if !is_parked && *spins < SPINS {
-        *spins += 1;
-        thread::yield_now();
+    let is_parked = spins.has_begun() && scheme.words().bits(key) & PARKED != 0;
+    if !is_parked && spins.has_more() {
+        spins.back_off();
         return pass;
     }
     if is_parked {
