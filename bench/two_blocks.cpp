@@ -2,8 +2,9 @@
 //
 //     c++ -O2 -pthread bench/two_blocks.cpp -o /tmp/two_blocks && /tmp/two_blocks apart 4 1024 2000000
 //
-// The first word is `beside` (one line of the cache for each lock), `apart` (two, as the lot has them), or `asked` (apart, where the value's line
-// is asked for before the exchange). It prints the nanoseconds of a round of all threads.
+// The first word is `beside` (one line of the cache for each lock), `apart` (two, as the lot has them), `asked` (apart, where the value's line
+// is asked for before the exchange, to be read), or `asked_to_write` (the same, to be written: x86's prefetchw, which a compiler gives for
+// __builtin_prefetch under -mprfchw alone). It prints the nanoseconds of a round of all threads.
 #include <atomic>
 #include <chrono>
 #include <cstdint>
@@ -24,9 +25,25 @@ struct alignas(16) Slot {
     volatile uint64_t value = 0;
 };
 
-enum class Way { beside, apart, asked };
+enum class Way { beside, apart, asked, asked_to_write };
 
 static std::atomic<int> here{0};
+
+static void ask_to_write(const Slot& slot) {
+#if defined(__x86_64__)
+    asm volatile("prefetchw %0" : : "m"(slot));
+#else
+    __builtin_prefetch(&slot, 1);
+#endif
+}
+
+static Way way_of(const char* word) {
+    if (!strcmp(word, "beside"))
+        return Way::beside;
+    if (!strcmp(word, "asked"))
+        return Way::asked;
+    return strcmp(word, "asked_to_write") ? Way::apart : Way::asked_to_write;
+}
 
 static void add_one(Word& word, Slot& slot, Way way) {
     if (way == Way::beside) {
@@ -50,7 +67,9 @@ static void work(int thread, int threads, long rounds, std::vector<Word>& words,
         random ^= random << 17;
         size_t key = random % words.size();
         if (way == Way::asked)
-            __builtin_prefetch((const void*)&slots[key], 1);
+            __builtin_prefetch(&slots[key], 0);
+        if (way == Way::asked_to_write)
+            ask_to_write(slots[key]);
         for (uint64_t free = 0; !words[key].held.compare_exchange_strong(free, 1); free = 0)
             for (int yields = 0; yields < 8; yields++)
                 sched_yield();
@@ -63,7 +82,7 @@ static void work(int thread, int threads, long rounds, std::vector<Word>& words,
 int main(int count, char** arguments) {
     if (count != 5)
         return 1;
-    Way way = !strcmp(arguments[1], "beside") ? Way::beside : !strcmp(arguments[1], "apart") ? Way::apart : Way::asked;
+    Way way = way_of(arguments[1]);
     int threads = atoi(arguments[2]);
     std::vector<Word> words(strtoul(arguments[3], nullptr, 10));
     std::vector<Slot> slots(words.size());

@@ -1,12 +1,10 @@
 -- The rights of threads, in pairs.
-use Rattle.std.proofs.Common.{◌≡◌, ℕ, ◌<◌, zero, suc, List, [], ◌∷◌, ◌++◌, length, replicate, slice_get, Some, None, refl, sym, ap, subst, ◌∙◌, arith}
+use Rattle.std.proofs.Common.{◌≡◌, ℕ, ◌<◌, zero, suc, List, [], ◌∷◌, ◌++◌, length, slice_get, Some, None, refl, sym, ap, subst, ◌∙◌, arith}
 use Rattle.std.proofs.lemmas.List.{length-replicate}
-use Rattle.std.specs.List.{All}
-use Rattle.std.proofs.lemmas.List.Elements.{All-nil, All-cons}
 use Rattle.lot_waits.specs.Counts.{CountsView, uncounted}
 use Rattle.lot_rights.proofs.Turns.{some_one, stands_at}
 use Rattle.lot_permits.specs.Permits.{PermitsView, without_permits}
-use Rattle.lot_kinds.specs.Rights.{RightsView, joined, pairs, AreOfOne, ArePaired, unused}
+use Rattle.lot_kinds.specs.Rights.{joined, pairs, AreOfOne, ArePaired, unused}
 use Rattle.lot_kinds.proofs.Places.{at_before, at_last}
 
 none_some : {A : Type 0} (x : A) → None ≡ Some x → ⊥

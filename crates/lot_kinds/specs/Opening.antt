@@ -1,5 +1,5 @@
 -- The conditions and the semaphores of a lot between their opening and their naming.
-use Rattle.std.specs.Prelude.{◌≡◌, ℕ, ◌+◌, List, [], length, slice_get, Some}
+use Rattle.std.specs.Prelude.{◌≡◌, ℕ, ◌+◌, List, [], slice_get, Some}
 use Rattle.lot_rights.specs.Opening.{Opening}
 use Rattle.lot_rights.specs.Shown.{RootShown}
 use Rattle.lot_conds.specs.declared.views.CondRootView.{CondRootView}

@@ -4,6 +4,7 @@ ghost use Rattle.std.specs.Prelude.{◌≡◌, None};
 ghost use Rattle.lot_conds.specs.Calls.{took, woken_pass};
 ghost use Rattle.rights_trials.specs.CondSchedules.{IsFree, IsEmpty};
 
+use crate::asserts::equal;
 use lot_conds::{CondPass, CondRoot, CondWords};
 use std::process::Abort;
 use std::test::*;
@@ -34,13 +35,13 @@ fn one_wait(
     ensures one { IsFree words.now.table 1 result.1 × (result.1.pass.own ≡ took one.pass.own 1 1) }
     ensures root { IsEmpty words.now.table result.2 }
 {
-    assert_eq!(rt; words.bits(1), 0);
+    equal(rt, words.bits(1), 0);
     let (zero, root) = words.enlist(zero, root);
-    assert_eq!(rt; words.bits(1), 1);
+    equal(rt, words.bits(1), 1);
     let (one, set) = words.look(one, 1);
     assert!(rt; set);
     let (one, root) = words.call(one, root, 1, 1, false);
-    assert_eq!(rt; words.bits(1), 0);
+    equal(rt, words.bits(1), 0);
     let (zero, letter) = words.collect(zero);
     assert_eq!(rt; letter, None);
     let root = words.post(root, 0);
@@ -67,14 +68,14 @@ fn late_wait(
     ensures root { IsEmpty words.now.table result.2 }
 {
     let zero = words.lower(zero, 1);
-    assert_eq!(rt; words.bits(1), 0);
+    equal(rt, words.bits(1), 0);
     let (one, root) = words.enlist(one, root);
-    assert_eq!(rt; words.bits(1), 1);
+    equal(rt, words.bits(1), 1);
     let (zero, root) = words.sweep(zero, root, 1);
-    assert_eq!(rt; words.bits(1), 1);
+    equal(rt, words.bits(1), 1);
     let root = words.post(root, 1);
     let (zero, root) = words.call(zero, root, 1, 0, true);
-    assert_eq!(rt; words.bits(1), 0);
+    equal(rt, words.bits(1), 0);
     (zero, collect(rt, words, one), root)
 }
 
@@ -101,9 +102,9 @@ fn two_waits(
     let (zero, root) = words.enlist(zero, root);
     let (one, root) = words.enlist(one, root);
     let (two, root) = words.call(two, root, 1, 1, true);
-    assert_eq!(rt; words.bits(1), 1);
+    equal(rt, words.bits(1), 1);
     let (two, root) = words.call(two, root, 4, 1, true);
-    assert_eq!(rt; words.bits(1), 1);
+    equal(rt, words.bits(1), 1);
     let root = words.post(root, 1);
     let root = words.post(root, 0);
     (collect(rt, words, zero), collect(rt, words, one), two, root)
@@ -131,7 +132,7 @@ fn two_at_once(
     let (zero, root) = words.enlist(zero, root);
     let (one, root) = words.enlist(one, root);
     let (two, root) = words.call(two, root, 2, 2, false);
-    assert_eq!(rt; words.bits(1), 0);
+    equal(rt, words.bits(1), 0);
     let root = words.post(root, 0);
     let root = words.post(root, 1);
     (collect(rt, words, zero), collect(rt, words, one), two, root)

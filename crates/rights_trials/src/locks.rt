@@ -5,6 +5,7 @@ ghost use Rattle.lot_core.specs.Steps.{first as first_of};
 ghost use Rattle.lot_words.specs.Calls.{passed_root};
 ghost use Rattle.rights_trials.specs.LockSchedules.{IsPass, IsCalm, Wants, Sleeps, Owns, MayFree, MayPass, IsRoot};
 
+use crate::asserts::equal;
 use crate::tally::Tally;
 use lot_words::{LockPass, LockRoot, LockWords};
 use std::process::Abort;
@@ -214,28 +215,28 @@ fn hand_over(
     ensures one { IsPass words.now.table 1 result.1 × IsCalm result.1.pass.own × (result.1.pass.own.holds ≡ NotHeld ∷ NotHeld ∷ []) }
     ensures root { (result.2.table ≡ words.now.table) × (result.2.root.key ≡ 0) }
 {
-    assert_eq!(rt; words.bits(0), 0);
+    equal(rt, words.bits(0), 0);
     let zero = get(rt, words, zero, 0);
-    assert_eq!(rt; words.bits(0), 1);
+    equal(rt, words.bits(0), 1);
     let zero = count(rt, words, zero, 0, 7);
     let (one, got) = try_take(words, one, 0);
     assert!(rt; !got);
     let one = want(rt, words, one, 0);
-    assert_eq!(rt; words.bits(0), 1);
+    equal(rt, words.bits(0), 1);
     let (one, root) = lie_down(rt, words, one, root, 0);
-    assert_eq!(rt; words.bits(0), 3);
+    equal(rt, words.bits(0), 3);
     let (one, letter) = collect(words, one, 0);
     assert_eq!(rt; letter, None);
     let zero = find_parked(rt, words, zero, 0);
     let (zero, root) = pass_on(words, zero, root, Some(1), true);
-    assert_eq!(rt; words.bits(0), 3);
+    equal(rt, words.bits(0), 3);
     let root = words.post(root, 1, 1);
     let (one, letter) = collect(words, one, 0);
     assert_eq!(rt; letter, Some(1));
     let one = count(rt, words, one, 0, 8);
     let one = find_parked(rt, words, one, 0);
     let (one, root) = pass_on(words, one, root, None, false);
-    assert_eq!(rt; words.bits(0), 0);
+    equal(rt, words.bits(0), 0);
     (zero, one, root)
 }
 
@@ -263,7 +264,7 @@ fn barge_in(
     let (one, root) = lie_down(rt, words, one, root, 1);
     let zero = find_parked(rt, words, zero, 1);
     let (zero, root) = pass_on(words, zero, root, Some(1), false);
-    assert_eq!(rt; words.bits(1), 0);
+    equal(rt, words.bits(1), 0);
     let zero = get(rt, words, zero, 1);
     let root = words.post(root, 1, 0);
     let (one, letter) = collect(words, one, 1);
@@ -271,7 +272,7 @@ fn barge_in(
     let (one, got) = take_again(words, one, 1);
     assert!(rt; !got);
     let zero = let_go(rt, words, zero, 1);
-    assert_eq!(rt; words.bits(1), 0);
+    equal(rt, words.bits(1), 0);
     let (one, marked) = words.mark(one, 1);
     assert!(rt; !marked);
     let (one, root, queued) = words.park(one, root);

@@ -4,6 +4,7 @@ ghost use Rattle.std.specs.Prelude.{◌≡◌, [], ◌∷◌};
 ghost use Rattle.rights_trials.specs.SemSchedules.{IsOne, IsOf, IsFree, Has, Seeks, Sleeps, HasLine};
 ghost use Rattle.lot_sems.specs.Calls.{MayTake};
 
+use crate::asserts::equal;
 use lot_sems::{SemPass, SemRoot, SemWords, Taken};
 use std::process::Abort;
 use std::test::*;
@@ -104,17 +105,17 @@ fn one_permit(
     ensures two { IsFree words.now.table 2 result.2 }
     ensures root { HasLine words.now.table [] result.3 }
 {
-    assert_eq!(rt; words.bits(1), 2);
+    equal(rt, words.bits(1), 2);
     let zero = get(rt, words, zero);
     let one = seek(rt, words, one);
-    assert_eq!(rt; words.bits(1), 0);
+    equal(rt, words.bits(1), 0);
     let one = mark(rt, words, one);
     let (one, root) = lie_down(rt, words, one, root);
-    assert_eq!(rt; words.bits(1), 1);
+    equal(rt, words.bits(1), 1);
     let (zero, freed) = words.free(zero, 1);
     assert!(rt; !freed);
     let (zero, root) = words.pass_on(zero, root, Some(1), false);
-    assert_eq!(rt; words.bits(1), 2);
+    equal(rt, words.bits(1), 2);
     let one = look_in_vain(rt, words, one);
     let root = words.post(root, 1);
     let one = wake(rt, words, one);
@@ -122,9 +123,9 @@ fn one_permit(
     let one = seek(rt, words, one);
     let two = give(rt, words, two);
     let one = get(rt, words, one);
-    assert_eq!(rt; words.bits(1), 0);
+    equal(rt, words.bits(1), 0);
     let one = give(rt, words, one);
-    assert_eq!(rt; words.bits(1), 2);
+    equal(rt, words.bits(1), 2);
     (zero, one, two, root)
 }
 
@@ -157,12 +158,12 @@ fn two_sleepers(
     let (two, root, queued) = words.park(two, root);
     assert!(rt; queued);
     let (zero, root) = words.pass_on(zero, root, Some(1), true);
-    assert_eq!(rt; words.bits(1), 3);
+    equal(rt, words.bits(1), 3);
     let root = words.post(root, 1);
     let one = get(rt, words, wake(rt, words, one));
-    assert_eq!(rt; words.bits(1), 1);
+    equal(rt, words.bits(1), 1);
     let (one, root) = words.pass_on(one, root, Some(2), false);
-    assert_eq!(rt; words.bits(1), 2);
+    equal(rt, words.bits(1), 2);
     let root = words.post(root, 2);
     let two = give(rt, words, get(rt, words, wake(rt, words, two)));
     (zero, one, two, root)
@@ -191,11 +192,11 @@ fn late_release(
     let one = seek(rt, words, one);
     let one = mark(rt, words, one);
     let (zero, root) = words.pass_on(zero, root, None, true);
-    assert_eq!(rt; words.bits(1), 3);
+    equal(rt, words.bits(1), 3);
     let (one, root, queued) = words.park(one, root);
     assert!(rt; !queued);
     let (zero, root) = words.clear(zero, root);
-    assert_eq!(rt; words.bits(1), 2);
+    equal(rt, words.bits(1), 2);
     let one = give(rt, words, get(rt, words, one));
     (zero, one, root)
 }

@@ -1,4 +1,4 @@
-use Rattle.std.proofs.Common.{◌≡◌, ◌++◌, ◌∷◌, [], length, map, sym, ap, ◌∙◌, subst, reverse, vec_len, rules, arith}
+use Rattle.std.proofs.Common.{◌≡◌, ◌++◌, ◌∷◌, [], length, map, ap, ◌∙◌, subst, reverse, vec_len, rules, arith}
 use Rattle.std.proofs.lemmas.List.{map-append}
 use Rattle.lot_rights.proofs.Turns.{moves_on, no_elements}
 use Rattle.lot_kinds.specs.Rights.{counts_of, permits_of}

@@ -1,7 +1,7 @@
-use Rattle.std.proofs.Common.{◌≡◌, ◌+◌, ◌++◌, ◌∷◌, [], length, map, ap, ◌∙◌, reverse, subst, vec_len, rules, arith}
+use Rattle.std.proofs.Common.{◌+◌, ◌++◌, ◌∷◌, [], map, ap, ◌∙◌, reverse, rules, arith}
 use Rattle.std.proofs.lemmas.List.{map-append}
-use Rattle.lot_park.specs.declared.parts.both.OneOf.TheVariants.{First, Second}
-use Rattle.lot_rights.proofs.Turns.{moves_on, no_elements}
+use Rattle.lot_park.specs.declared.parts.both.OneOf.TheVariants.{Second}
+use Rattle.lot_rights.proofs.Turns.{moves_on}
 use Rattle.lot_kinds.specs.Opening.{semaphore_key}
 use Rattle.lot_kinds.proofs.Places.{stand_popped}
 use Rattle.lot_kinds.proofs.opening.join.Goals as goal

@@ -1,4 +1,4 @@
-use Rattle.std.proofs.Common.{◌≡◌, ◌+◌, ◌++◌, ◌∷◌, [], length, ap, sym, subst, ◌∙◌, reverse, vec_len, rules, arith}
+use Rattle.std.proofs.Common.{◌≡◌, ◌+◌, ◌++◌, ◌∷◌, [], length, ap, sym, ◌∙◌, reverse, vec_len, rules, arith}
 use Rattle.lot_rights.proofs.Turns.{moves_on}
 use Rattle.lot_kinds.specs.Rights.{joined, pairs}
 use Rattle.lot_kinds.proofs.Pairs.{pairs_popped, pairs_pushed}

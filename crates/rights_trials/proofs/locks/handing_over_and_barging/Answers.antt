@@ -1,4 +1,4 @@
-use Rattle.std.proofs.Common.{rules, ◌≡◌, ℕ, ◌+◌, ◌<◌, length, vec_len, ap, ◌∙◌, arith}
+use Rattle.std.proofs.Common.{rules, ◌≡◌, ℕ, ◌<◌, length, vec_len, ap, ◌∙◌, arith}
 use Rattle.lot_rights.specs.Shown.{PassShown, RootShown}
 use Rattle.lot_rights.proofs.Dealt.{dealt_last, none_back, one_back}
 use Rattle.rights_trials.specs.declared.tally.Tally.{Tally}

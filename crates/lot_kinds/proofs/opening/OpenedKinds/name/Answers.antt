@@ -1,8 +1,5 @@
-use Rattle.std.proofs.Common.{◌≡◌, ℕ, ◌+◌, ◌<◌, ◌≤◌, ◌++◌, List, length, map, slice_get, Some, vec_len, vec_capacity, rules, sym, ap, subst, ◌∙◌, arith}
+use Rattle.std.proofs.Common.{◌≡◌, ◌+◌, List, length, map, slice_get, Some, vec_len, rules, sym, ap, subst, ◌∙◌, arith}
 use Rattle.std.proofs.lemmas.List.{length-map}
-use Rattle.lot_rights.specs.Shown.{RootShown}
-use Rattle.lot_conds.specs.declared.views.CondRootView.{CondRootView}
-use Rattle.lot_sems.specs.declared.views.SemRootView.{SemRootView}
 use Rattle.lot_park.specs.declared.parts.both.OneOf.TheVariants.{First, Second}
 use Rattle.lot_park.specs.Parking.{debts, debt}
 use Rattle.lot_kinds.specs.Rights.{RightsView, unused}
