@@ -22,6 +22,8 @@
 #![tactic(auto)]
 
 #[cfg(test)]
+mod asserts;
+#[cfg(test)]
 mod letters;
 pub mod lot;
 mod parking;
