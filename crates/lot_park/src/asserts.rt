@@ -1,11 +1,6 @@
-//! Assertions that are one call: what a macro writes at its place, each function that makes many would be checked with.
+//! An assertion that is one call: what `assert_eq!` writes at its place, each function that makes many would be checked with.
 use std::fmt::Debug;
 use std::process::Abort;
-
-/// It is so, or the test fails.
-pub(crate) fn check(rt: &impl Abort, is_so: bool) {
-    assert!(rt; is_so);
-}
 
 /// What was found is what was wanted, or the test fails.
 pub(crate) fn equal<T: PartialEq + Debug + Copy>(rt: &impl Abort, found: T, wanted: T) {

@@ -3,6 +3,7 @@ ghost use Rattle.std.specs.Prelude.{◌≡◌, ℕ, ◌≤◌, ◌<◌, length, 
 ghost use Rattle.lot_sync.specs.Lot.{OwnsNone};
 ghost use Rattle.lot_sync.specs.Opened.{IsNamed};
 
+use crate::asserts::equal;
 use lot_sync::{Lot, LotName, Moment, OpenFault, Opened, Pass, RegisterFault, Released};
 use lot_words::Keeps;
 use std::alloc::Global;
@@ -101,9 +102,9 @@ fn enter<N: LotName<Number> + Send + Sync, T: Wait + Abort>(
     match lot.register(rt) {
         Ok(pass) => pass,
         Err(fault) => {
-            assert_eq!(rt; fault, RegisterFault::NoMemory);
+            equal(rt, fault, RegisterFault::NoMemory);
             assert!(rt; shared.memory == Memory::MayBeRefused);
-            assert_eq!(rt; (lot.table_size(rt), lot.line_length(rt, 0)), before);
+            equal(rt, (lot.table_size(rt), lot.line_length(rt, 0)), before);
             match lot.register(rt) {
                 Ok(pass) => pass,
                 Err(_) => panic!(rt; "refused again"),
@@ -121,7 +122,7 @@ fn sleeper<N: LotName<Number> + Send + Sync, T: Wait + Abort>(
     requires { 0 < lot.now.locks }
 {
     let pass = enter(rt, lot, shared);
-    assert_eq!(rt; pass.thread(), 1);
+    equal(rt, pass.thread(), 1);
     let (pass, mut held) = lot.lock(rt, pass, 0);
     held.value_mut().n = 9;
     let (pass, _) = lot.unlock(rt, pass, held, Moment { now: 0, word: 7 });
@@ -139,11 +140,11 @@ fn three_more<N: LotName<Number> + Send + Sync, T: Wait + Abort>(
     assert!(rt; somebody_sleeps(rt, lot));
     let two = enter(rt, lot, shared);
     let three = enter(rt, lot, shared);
-    assert_eq!(rt; lot.table_size(rt), 12);
+    equal(rt, lot.table_size(rt), 12);
     let four = enter(rt, lot, shared);
-    assert_eq!(rt; (two.thread(), three.thread(), four.thread()), (2, 3, 4));
-    assert_eq!(rt; lot.table_size(rt), 30);
-    assert_eq!(rt; lot.line_length(rt, 0), 1);
+    equal(rt, (two.thread(), three.thread(), four.thread()), (2, 3, 4));
+    equal(rt, lot.table_size(rt), 30);
+    equal(rt, lot.line_length(rt, 0), 1);
     lot.leave(rt, four);
     lot.leave(rt, three);
     lot.leave(rt, two);
@@ -178,7 +179,7 @@ fn grow_past_a_sleeper<N: LotName<Number> + Send + Sync, T: Threads + Wait + Syn
             } else {
                 Released::Quiet
             };
-            assert_eq!(rt; released, want);
+            equal(rt, released, want);
             lot.leave(rt, pass);
         },
     );
@@ -216,7 +217,7 @@ fn two_at_once<N: LotName<Number> + Send + Sync, T: Threads + Wait + Sync + Abor
             let one = enter(rt, lot, shared);
             let two = enter(rt, lot, shared);
             let three = enter(rt, lot, shared);
-            assert_eq!(rt; lot.table_size(rt), 12);
+            equal(rt, lot.table_size(rt), 12);
             let fifth = move ||
                 requires { 0 < lot.now.locks }
             { register_beside(rt, lot, shared) };
@@ -315,7 +316,7 @@ fn play<N: LotName<Number> + Send + Sync, T: Threads + Wait + Sync + Abort>(
         }
         Err((fault, values)) => {
             passes.destroy_empty();
-            assert_eq!(rt; fault, OpenFault::NoMemory);
+            equal(rt, fault, OpenFault::NoMemory);
             assert!(rt; shared.memory == Memory::MayBeRefused);
             values
         }
@@ -338,7 +339,7 @@ fn tried<T: Threads + Wait + Sync + Abort>(
     let values = match Lot::<Number, Brand>::open(alloc, threads, values, 1) {
         Ok(opened) => play::<Brand, T>(rt, alloc, opened, threads, trial, shared),
         Err((fault, values)) => {
-            assert_eq!(rt; fault, OpenFault::NoMemory);
+            equal(rt, fault, OpenFault::NoMemory);
             assert!(rt; shared.memory == Memory::MayBeRefused);
             values
         }

@@ -3,7 +3,7 @@ ghost use Rattle.lot_bucket.specs.Queue.{first_of};
 ghost use Rattle.lot_park.specs.Lots.{AreIdle};
 
 use super::{Parked, ParkingLot};
-use crate::asserts::{check, equal};
+use crate::asserts::equal;
 use crate::letters::{
     ASKINGS, EARLY, Letters, Pass, QUIET_ASKINGS, Right, THREADS, Told, has_length_within,
     idle_right, is_told_within, joined, no_letters, note, nothing_told, passed, passed_all,
@@ -172,15 +172,15 @@ fn unparks_a_sleeper<R: Threads + Wait + Abort + Sync>(
             let sleeper = move ||
                 requires { (lot.now.threads ≡ THREADS) × (lot.now.keys ≡ KEYS) }
             { sleep(rt, lot, 1, 0, told) };
-            check(rt, scope.spawn(sleeper).is_ok());
-            check(rt, has_length_within(rt, lot, 0, 1));
+            assert!(rt; scope.spawn(sleeper).is_ok());
+            assert!(rt; has_length_within(rt, lot, 0, 1));
             lot.wake(rt, Some(1));
             assert!(rt;
                 !is_told_within(told, 1, 7, QUIET_ASKINGS),
                 "a wake is no letter"
             );
             equal(rt, unpark(rt, lot, 0, 7), taken(1, false));
-            check(rt, is_told_within(told, 1, 7, ASKINGS));
+            assert!(rt; is_told_within(told, 1, 7, ASKINGS));
         },
     );
 }
@@ -215,17 +215,17 @@ fn looks_once_a_wake<R: Threads + Wait + Abort + Sync>(
             let sleeper = move ||
                 requires { (lot.now.threads ≡ THREADS) × (lot.now.keys ≡ KEYS) }
             { sleep(rt, lot, 1, 0, told) };
-            check(rt, scope.spawn(sleeper).is_ok());
-            check(rt, has_looked_within(lot, 1, 1, ASKINGS));
+            assert!(rt; scope.spawn(sleeper).is_ok());
+            assert!(rt; has_looked_within(lot, 1, 1, ASKINGS));
             assert!(rt; !has_looked_within(lot, 1, 2, QUIET_ASKINGS), "it sleeps");
             lot.wake(rt, Some(1));
-            check(rt, has_looked_within(lot, 1, 2, ASKINGS));
+            assert!(rt; has_looked_within(lot, 1, 2, ASKINGS));
             assert!(rt;
                 !has_looked_within(lot, 1, 3, QUIET_ASKINGS),
                 "it sleeps again"
             );
             equal(rt, unpark(rt, lot, 0, 2), taken(1, false));
-            check(rt, is_told_within(told, 1, 2, ASKINGS));
+            assert!(rt; is_told_within(told, 1, 2, ASKINGS));
             assert!(rt; !has_looked_within(lot, 1, 4, 1), "it has found its letter");
         },
     );
@@ -264,8 +264,8 @@ fn grows_under_a_sleeper<R: Threads + Wait + Abort + Sync>(
             let sleeper = move ||
                 requires { (lot.now.threads ≡ THREADS) × (lot.now.keys ≡ KEYS) }
             { sleep(rt, lot, 2, 1, told) };
-            check(rt, scope.spawn(sleeper).is_ok());
-            check(rt, has_length_within(rt, lot, 1, 1));
+            assert!(rt; scope.spawn(sleeper).is_ok());
+            assert!(rt; has_length_within(rt, lot, 1, 1));
             match lot.ensure(rt, 2) {
                 Ok(grown) => assert_eq!(rt; grown, Grown::Grew(3, 12)),
                 Err(_refused) => panic!(rt; "memory"),
@@ -273,7 +273,7 @@ fn grows_under_a_sleeper<R: Threads + Wait + Abort + Sync>(
             equal(rt, lot.size(rt), 12);
             equal(rt, lot.line_length(rt, 1), 1);
             equal(rt, unpark(rt, lot, 1, 4), taken(2, false));
-            check(rt, is_told_within(told, 2, 4, ASKINGS));
+            assert!(rt; is_told_within(told, 2, 4, ASKINGS));
         },
     );
 }
@@ -303,16 +303,16 @@ fn unparks_one_of_two_keys<R: Threads + Wait + Abort + Sync>(
             let first = move ||
                 requires { (lot.now.threads ≡ THREADS) × (lot.now.keys ≡ KEYS) }
             { sleep(rt, lot, 1, 0, told) };
-            check(rt, scope.spawn(first).is_ok());
-            check(rt, has_length_within(rt, lot, 0, 1));
+            assert!(rt; scope.spawn(first).is_ok());
+            assert!(rt; has_length_within(rt, lot, 0, 1));
             let second = move ||
                 requires { (lot.now.threads ≡ THREADS) × (lot.now.keys ≡ KEYS) }
             { sleep(rt, lot, 2, OTHER, told) };
-            check(rt, scope.spawn(second).is_ok());
-            check(rt, has_length_within(rt, lot, OTHER, 1));
+            assert!(rt; scope.spawn(second).is_ok());
+            assert!(rt; has_length_within(rt, lot, OTHER, 1));
             equal(rt, unpark(rt, lot, 0, 3), taken(1, true));
-            check(rt, is_told_within(told, 1, 3, ASKINGS));
-            check(rt, !is_told_within(told, 2, 3, QUIET_ASKINGS));
+            assert!(rt; is_told_within(told, 1, 3, ASKINGS));
+            assert!(rt; !is_told_within(told, 2, 3, QUIET_ASKINGS));
             equal(
                 rt,
                 (lot.line_length(rt, 0), lot.line_length(rt, OTHER)),
@@ -347,16 +347,16 @@ fn unparks_all_of_a_key<R: Threads + Wait + Abort + Sync>(
             let first = move ||
                 requires { (lot.now.threads ≡ THREADS) × (lot.now.keys ≡ KEYS) }
             { sleep(rt, lot, 0, 1, told) };
-            check(rt, scope.spawn(first).is_ok());
+            assert!(rt; scope.spawn(first).is_ok());
             let second = move ||
                 requires { (lot.now.threads ≡ THREADS) × (lot.now.keys ≡ KEYS) }
             { sleep(rt, lot, 2, 1, told) };
-            check(rt, scope.spawn(second).is_ok());
-            check(rt, has_length_within(rt, lot, 1, 2));
+            assert!(rt; scope.spawn(second).is_ok());
+            assert!(rt; has_length_within(rt, lot, 1, 2));
             equal(rt, unpark_all(rt, lot, 0), 0);
             equal(rt, unpark_all(rt, lot, 1), 2);
-            check(rt, is_told_within(told, 0, 0, ASKINGS));
-            check(rt, is_told_within(told, 2, 0, ASKINGS));
+            assert!(rt; is_told_within(told, 0, 0, ASKINGS));
+            assert!(rt; is_told_within(told, 2, 0, ASKINGS));
             equal(rt, unpark_all(rt, lot, 1), 0);
         },
     );
@@ -387,14 +387,14 @@ fn unparks_the_first_of_three<R: Threads + Wait + Abort + Sync>(
                 let sleeper = move ||
                     requires { (lot.now.threads ≡ THREADS) × (lot.now.keys ≡ KEYS) × (thread < THREADS) }
                 { sleep(rt, lot, thread, 1, told) };
-                check(rt, scope.spawn(sleeper).is_ok());
-                check(rt, has_length_within(rt, lot, 1, thread + 1));
+                assert!(rt; scope.spawn(sleeper).is_ok());
+                assert!(rt; has_length_within(rt, lot, 1, thread + 1));
             }
             equal(rt, unpark_first(rt, lot, 1, 0), (0, false));
             equal(rt, unpark_first(rt, lot, 1, 2), (2, true));
-            check(rt, is_told_within(told, 0, 0, ASKINGS));
-            check(rt, is_told_within(told, 1, 0, ASKINGS));
-            check(rt, !is_told_within(told, 2, 0, QUIET_ASKINGS));
+            assert!(rt; is_told_within(told, 0, 0, ASKINGS));
+            assert!(rt; is_told_within(told, 1, 0, ASKINGS));
+            assert!(rt; !is_told_within(told, 2, 0, QUIET_ASKINGS));
             equal(rt, unpark_first(rt, lot, 1, 5), (1, false));
             equal(rt, unpark_first(rt, lot, 1, 1), (0, false));
         },

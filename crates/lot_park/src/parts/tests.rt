@@ -4,7 +4,7 @@ ghost use Rattle.lot_bucket.specs.Queue.{first_of};
 ghost use Rattle.lot_park.specs.Lots.{AreIdle};
 
 use super::{park_on, unpark_all, unpark_one};
-use crate::asserts::{check, equal};
+use crate::asserts::equal;
 use crate::letters::{
     ASKINGS, EARLY, Letters, Pass, QUIET_ASKINGS, Right, THREADS, Told, has_length_within,
     idle_right, is_told_within, joined, no_letters, note, nothing_told, passed, passed_all, taken,
@@ -162,13 +162,13 @@ fn each_table_tells_its_own<R: Threads + Wait + Abort + Sync>(
             let first = move ||
                 requires { (lot.now.threads ≡ THREADS) × (lot.now.keys ≡ KEYS) }
             { sleep::<ThreeTables, TheFirst, R>(rt, lot, 0, 0, told) };
-            check(rt, scope.spawn(first).is_ok());
+            assert!(rt; scope.spawn(first).is_ok());
             let third = move ||
                 requires { (lot.now.threads ≡ THREADS) × (lot.now.keys ≡ KEYS) }
             { sleep::<ThreeTables, TheThird, R>(rt, lot, 1, 2, told) };
-            check(rt, scope.spawn(third).is_ok());
-            check(rt, has_length_within(rt, lot, 0, 1));
-            check(rt, has_length_within(rt, lot, 2, 1));
+            assert!(rt; scope.spawn(third).is_ok());
+            assert!(rt; has_length_within(rt, lot, 0, 1));
+            assert!(rt; has_length_within(rt, lot, 2, 1));
             equal(
                 rt,
                 unpark::<ThreeTables, TheSecond, R>(rt, lot, 1, 5).thread,
@@ -179,10 +179,10 @@ fn each_table_tells_its_own<R: Threads + Wait + Abort + Sync>(
                 unpark::<ThreeTables, TheThird, R>(rt, lot, 2, 6).thread,
                 Some(1),
             );
-            check(rt, is_told_within(told, 1, 6, ASKINGS));
-            check(rt, !is_told_within(told, 0, 6, QUIET_ASKINGS));
+            assert!(rt; is_told_within(told, 1, 6, ASKINGS));
+            assert!(rt; !is_told_within(told, 0, 6, QUIET_ASKINGS));
             equal(rt, unpark_line::<ThreeTables, TheFirst, R>(rt, lot, 0), 1);
-            check(rt, is_told_within(told, 0, 0, ASKINGS));
+            assert!(rt; is_told_within(told, 0, 0, ASKINGS));
         },
     );
 }
