@@ -5,6 +5,7 @@ ghost use Rattle.lot_sync.specs.Opened.{IsNamed};
 ghost use Rattle.lot_sync.specs.Holding.{Holding, HoldingBoth};
 ghost use Rattle.lot_sync.specs.Opened.{KeepAll};
 
+use crate::asserts::equal;
 use crate::{Held, Lot, LotName, Moment, Opened, Pass};
 use lot_words::Keeps;
 use std::alloc::Global;
@@ -111,7 +112,7 @@ fn book<N: LotName<Account> + Send + Sync, T: Wait + Abort>(
 {
     let (pass, mut held) = own(rt, lot, pass);
     let account = *held.value();
-    assert_eq!(rt; account.paid_in - account.paid_out, balance);
+    equal(rt, account.paid_in - account.paid_out, balance);
     *held.value_mut() = booked(account, paid.0, paid.1);
     release(rt, lot, pass, held)
 }
@@ -240,9 +241,9 @@ fn open_and_book<N: LotName<Account> + Send + Sync, T: Wait + Abort>(
             book_in_turn(rt, &lot);
             move_in_turn(rt, &lot);
             let accounts = close_two(rt, lot, passes);
-            assert_eq!(rt; accounts.len(), 2);
-            assert_eq!(rt; (accounts[0].paid_in, accounts[0].paid_out), (10, 8));
-            assert_eq!(rt; (accounts[1].paid_in, accounts[1].paid_out), (3, 0));
+            equal(rt, accounts.len(), 2);
+            equal(rt, (accounts[0].paid_in, accounts[0].paid_out), (10, 8));
+            equal(rt, (accounts[1].paid_in, accounts[1].paid_out), (3, 0));
         }
         Err(_) => panic!(rt; "not started"),
     }

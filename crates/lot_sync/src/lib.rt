@@ -15,6 +15,8 @@
 mod accounts;
 mod acquiring;
 mod apart;
+#[cfg(test)]
+mod asserts;
 mod closing;
 #[cfg(test)]
 mod example;

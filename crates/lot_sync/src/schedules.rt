@@ -3,11 +3,12 @@ ghost use Rattle.std.specs.Prelude.{◌≡◌, ◌≤◌, ◌<◌};
 ghost use Rattle.lot_sync.specs.Lot.{OwnsNone};
 ghost use Rattle.lot_sync.specs.Holding.{Holding};
 
+use crate::asserts::{equal, started};
 use crate::lock::AtOnce;
 use crate::sleepers::{own_at_gate, sleeper};
 use crate::tests::{
-    ASKINGS, Count, Row, enter, in_line, is_raised, on_lot, own, release, release_fairly, try_own,
-    word,
+    ASKINGS, Count, Row, await_flag, await_line, enter, on_lot, own, release, release_fairly,
+    try_own, word,
 };
 use crate::waits::call_one;
 use crate::{Held, Lot, LotName, Moment, Pass, Released};
@@ -55,7 +56,7 @@ struct Meeting<'a, T> {
 impl<T: Wait + Abort> Meeting<'_, T> {
     fn meet(&self) {
         self.own.store(1, Ordering::SeqCst);
-        assert!(self.rt; is_raised(self.other));
+        await_flag(self.rt, self.other);
     }
 }
 
@@ -125,11 +126,11 @@ fn wait_once<N: LotName<Count> + Send + Sync, T: Wait + Abort, B: BeforeSleep>(
 fn take_one<N: LotName<Count> + Send + Sync, T: Wait + Abort>(rt: &T, lot: &Lot<Count, N>)
     requires { (lot.now.locks ≡ 14) × (lot.now.conds ≡ 1) }
 {
-    assert_eq!(rt; lot.line_length(rt, COND), 1);
+    equal(rt, lot.line_length(rt, COND), 1);
     let pass = enter(rt, lot);
     let (pass, took) = call_one(rt, lot, pass, COND);
     assert!(rt; took);
-    assert_eq!(rt; lot.line_length(rt, COND), 0);
+    equal(rt, lot.line_length(rt, COND), 0);
     let (pass, took) = call_one(rt, lot, pass, COND);
     assert!(rt; !took);
     lot.leave(rt, pass);
@@ -159,13 +160,13 @@ fn taken_before_its_sleep<N: LotName<Count> + Send + Sync, T: Threads + Wait + S
                 };
                 wait_once(rt, lot, &before, &flags.back)
             };
-            assert!(rt; scope.spawn(waiter).is_ok());
-            assert!(rt; is_raised(&flags.first));
-            assert_eq!(rt; word(lot, 0), 1);
+            started(rt, scope.spawn(waiter).is_ok());
+            await_flag(rt, &flags.first);
+            equal(rt, word(lot, 0), 1);
             take_one(rt, lot);
-            assert_eq!(rt; word(lot, 0), 1);
+            equal(rt, word(lot, 0), 1);
             flags.second.store(1, Ordering::SeqCst);
-            assert!(rt; is_raised(&flags.back));
+            await_flag(rt, &flags.back);
         },
     );
 }
@@ -192,9 +193,9 @@ fn call_as_owner<N: LotName<Count> + Send + Sync, T: Wait + Abort>(rt: &T, lot: 
 {
     let pass = enter(rt, lot);
     let (pass, held) = own(rt, lot, pass, 0);
-    assert_eq!(rt; word(lot, 0), 3);
+    equal(rt, word(lot, 0), 3);
     let pass = call_owning(rt, lot, pass, &held);
-    assert_eq!(rt; lot.line_length(rt, COND), 0);
+    equal(rt, lot.line_length(rt, COND), 0);
     let (pass, _) = release(rt, lot, pass, held, 0);
     lot.leave(rt, pass);
 }
@@ -223,15 +224,15 @@ fn handed_by_a_wait<N: LotName<Count> + Send + Sync, T: Threads + Wait + Sync + 
                 };
                 wait_once(rt, lot, &before, &flags.back)
             };
-            assert!(rt; scope.spawn(waiter).is_ok());
-            assert!(rt; is_raised(&flags.first));
+            started(rt, scope.spawn(waiter).is_ok());
+            await_flag(rt, &flags.first);
             let caller = move ||
                 requires { (lot.now.locks ≡ 14) × (lot.now.conds ≡ 1) }
             { call_as_owner(rt, lot) };
-            assert!(rt; scope.spawn(caller).is_ok());
-            assert!(rt; in_line(rt, lot, 0, 1));
+            started(rt, scope.spawn(caller).is_ok());
+            await_line(rt, lot, 0, 1);
             flags.second.store(1, Ordering::SeqCst);
-            assert!(rt; is_raised(&flags.back));
+            await_flag(rt, &flags.back);
         },
     );
 }
@@ -259,9 +260,9 @@ fn own_meanwhile<N: LotName<Count> + Send + Sync, T: Wait + Abort>(rt: &T, lot: 
     let Some(held) = got else {
         panic!(rt; "the lock of a thread that waits was not got")
     };
-    assert_eq!(rt; lot.line_length(rt, COND), 1);
+    equal(rt, lot.line_length(rt, COND), 1);
     let (pass, released) = release(rt, lot, pass, held, 0);
-    assert_eq!(rt; released, Released::Quiet);
+    equal(rt, released, Released::Quiet);
     lot.leave(rt, pass);
 }
 
@@ -282,11 +283,11 @@ fn lets_go<N: LotName<Count> + Send + Sync, T: Threads + Wait + Sync + Abort>(
             let waiter = move ||
                 requires { (lot.now.locks ≡ 14) × (lot.now.conds ≡ 1) }
             { wait_once(rt, lot, &AtOnce, &flags.back) };
-            assert!(rt; scope.spawn(waiter).is_ok());
-            assert!(rt; in_line(rt, lot, COND, 1));
+            started(rt, scope.spawn(waiter).is_ok());
+            await_line(rt, lot, COND, 1);
             own_meanwhile(rt, lot);
             take_one(rt, lot);
-            assert!(rt; is_raised(&flags.back));
+            await_flag(rt, &flags.back);
         },
     );
 }
@@ -299,7 +300,7 @@ fn wait_late<N: LotName<Count> + Send + Sync, T: Wait + Abort>(
 )
     requires { (lot.now.locks ≡ 14) × (lot.now.conds ≡ 1) }
 {
-    assert!(rt; is_raised(&flags.first));
+    await_flag(rt, &flags.first);
     // It finds its own flag raised, so it is not held.
     let before = Meeting {
         rt,
@@ -324,8 +325,8 @@ fn sweep_both<N: LotName<Count> + Send + Sync, T: Wait + Abort>(
         other: &flags.second,
     };
     let (pass, count) = call_all_after(rt, lot, pass, &before);
-    assert_eq!(rt; count, 2);
-    assert_eq!(rt; lot.line_length(rt, COND), 0);
+    equal(rt, count, 2);
+    equal(rt, lot.line_length(rt, COND), 0);
     let (pass, has) = lot.has_waiters(pass, COND);
     assert!(rt; has);
     let (pass, took) = call_one(rt, lot, pass, COND);
@@ -351,12 +352,12 @@ fn one_waits_late<N: LotName<Count> + Send + Sync, T: Threads + Wait + Sync + Ab
             let early = move ||
                 requires { (lot.now.locks ≡ 14) × (lot.now.conds ≡ 1) }
             { wait_once(rt, lot, &AtOnce, &flags.back) };
-            assert!(rt; scope.spawn(early).is_ok());
-            assert!(rt; in_line(rt, lot, COND, 1));
+            started(rt, scope.spawn(early).is_ok());
+            await_line(rt, lot, COND, 1);
             let late = move ||
                 requires { (lot.now.locks ≡ 14) × (lot.now.conds ≡ 1) }
             { wait_late(rt, lot, flags) };
-            assert!(rt; scope.spawn(late).is_ok());
+            started(rt, scope.spawn(late).is_ok());
             sweep_both(rt, lot, flags);
         },
     );
@@ -372,12 +373,12 @@ fn own_after_growth<N: LotName<Count> + Send + Sync, T: Wait + Abort>(
 {
     let pass = enter(rt, lot);
     let (pass, held) = own_at_gate(rt, lot, pass, 0, &flags.first);
-    assert_eq!(rt; lot.table_size(rt), 30);
-    assert_eq!(rt; word(lot, 0), 3);
-    assert_eq!(rt; lot.line_length(rt, 0), 1);
+    equal(rt, lot.table_size(rt), 30);
+    equal(rt, word(lot, 0), 3);
+    equal(rt, lot.line_length(rt, 0), 1);
     flags.back.store(1, Ordering::SeqCst);
     let (pass, released) = release(rt, lot, pass, held, 0);
-    assert_eq!(rt; released, Released::Woke);
+    equal(rt, released, Released::Woke);
     lot.leave(rt, pass);
 }
 
@@ -393,14 +394,14 @@ fn hand_over_and_grow<N: LotName<Count> + Send + Sync, T: Wait + Abort>(
     requires holding { Holding (λ x y. x.n ≤ y.n) pass held }
 {
     let (pass, released) = release_fairly(rt, lot, pass, held);
-    assert_eq!(rt; released, Released::Handed);
+    equal(rt, released, Released::Handed);
     let fourth = enter(rt, lot);
-    assert_eq!(rt; lot.table_size(rt), 12);
+    equal(rt, lot.table_size(rt), 12);
     let fifth = enter(rt, lot);
-    assert_eq!(rt; lot.table_size(rt), 30);
-    assert_eq!(rt; word(lot, 0), 3);
+    equal(rt, lot.table_size(rt), 30);
+    equal(rt, word(lot, 0), 3);
     flags.first.store(1, Ordering::SeqCst);
-    assert!(rt; is_raised(&flags.back));
+    await_flag(rt, &flags.back);
     lot.leave(rt, fifth);
     lot.leave(rt, fourth);
     lot.leave(rt, pass);
@@ -424,13 +425,13 @@ fn handed_before_growth<N: LotName<Count> + Send + Sync, T: Threads + Wait + Syn
             let first = move ||
                 requires { (lot.now.locks ≡ 14) × (lot.now.conds ≡ 1) }
             { own_after_growth(rt, lot, flags) };
-            assert!(rt; scope.spawn(first).is_ok());
-            assert!(rt; in_line(rt, lot, 0, 1));
+            started(rt, scope.spawn(first).is_ok());
+            await_line(rt, lot, 0, 1);
             let second = move ||
                 requires { (lot.now.locks ≡ 14) × (lot.now.conds ≡ 1) }
             { sleeper(rt, lot, 0, Released::Quiet) };
-            assert!(rt; scope.spawn(second).is_ok());
-            assert!(rt; in_line(rt, lot, 0, 2));
+            started(rt, scope.spawn(second).is_ok());
+            await_line(rt, lot, 0, 2);
             hand_over_and_grow(rt, lot, flags, pass, held);
         },
     );

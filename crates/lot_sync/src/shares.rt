@@ -5,6 +5,7 @@ ghost use Rattle.lot_sync.specs.Opened.{IsNamed};
 ghost use Rattle.lot_sync.specs.Holding.{own_share};
 
 use crate::accounts::close_two;
+use crate::asserts::equal;
 use crate::{Lot, LotName, Moment, Opened, Pass};
 use lot_words::Keeps;
 use std::alloc::Global;
@@ -156,14 +157,14 @@ fn play<N: LotName<Shares> + Send + Sync, T: Wait + Abort>(
     let zero = enter(rt, &lot);
     let one = enter(rt, &lot);
     let (zero, one, left, found) = come_back(rt, &lot, zero, one);
-    assert_eq!(rt; (left, found), (1, 1));
+    equal(rt, (left, found), (1, 1));
     let (one, zero, left, found) = come_back(rt, &lot, one, zero);
-    assert_eq!(rt; (left, found), (2, 2));
+    equal(rt, (left, found), (2, 2));
     lot.leave(rt, zero);
     lot.leave(rt, one);
     let shares = close_two(rt, lot, passes);
-    assert_eq!(rt; shares.len(), 1);
-    assert_eq!(rt; (shares[0].zero, shares[0].one), (2, 2));
+    equal(rt, shares.len(), 1);
+    equal(rt, (shares[0].zero, shares[0].one), (2, 2));
 }
 
 #[test]

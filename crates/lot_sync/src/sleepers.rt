@@ -5,8 +5,9 @@ ghost use Rattle.lot_sync.specs.Lot.{OwnsNone};
 ghost use Rattle.lot_sync.specs.Passes.{AreRightsOf};
 ghost use Rattle.lot_sync.specs.Holding.{Holding, HoldingBoth, Seeks};
 
+use crate::asserts::{equal, started};
 use crate::tables::{Locks, LotScheme};
-use crate::tests::{Count, enter, in_line, is_raised, own, release, word};
+use crate::tests::{Count, await_flag, await_line, enter, own, release, word};
 use crate::{Held, Lot, LotName, Moment, Pass, Released};
 use lot_kinds::Rights;
 use lot_locks::{BeforeSleep, NamedPass, park};
@@ -25,7 +26,7 @@ struct AtGate<'a, T> {
 
 impl<T: Wait + Abort> BeforeSleep for AtGate<'_, T> {
     fn run(&self) {
-        assert!(self.rt; is_raised(self.gate));
+        await_flag(self.rt, self.gate);
     }
 }
 
@@ -86,11 +87,11 @@ fn first_sleeper<N: LotName<Count> + Send + Sync, T: Wait + Abort>(
     requires { lot.now.locks ≡ 14 }
 {
     let pass = enter(rt, lot);
-    assert_eq!(rt; pass.thread(), 1);
+    equal(rt, pass.thread(), 1);
     let (pass, held) = own_at_gate(rt, lot, pass, 0, &flags.gate);
-    assert_eq!(rt; flags.second.load(Ordering::SeqCst), 1);
+    equal(rt, flags.second.load(Ordering::SeqCst), 1);
     let (pass, released) = release(rt, lot, pass, held, 0);
-    assert_eq!(rt; released, Released::Quiet);
+    equal(rt, released, Released::Quiet);
     lot.leave(rt, pass);
 }
 
@@ -103,11 +104,11 @@ fn second_sleeper<N: LotName<Count> + Send + Sync, T: Wait + Abort>(
     requires { lot.now.locks ≡ 14 }
 {
     let pass = enter(rt, lot);
-    assert_eq!(rt; pass.thread(), 2);
+    equal(rt, pass.thread(), 2);
     let (pass, held) = own(rt, lot, pass, 0);
     flags.second.store(1, Ordering::SeqCst);
     let (pass, released) = release(rt, lot, pass, held, 0);
-    assert_eq!(rt; released, Released::Woke);
+    equal(rt, released, Released::Woke);
     lot.leave(rt, pass);
 }
 
@@ -140,13 +141,13 @@ fn two_sleepers<N: LotName<Count> + Send + Sync, T: Threads + Wait + Sync + Abor
             let first = move ||
                 requires { lot.now.locks ≡ 14 }
             { first_sleeper(rt, lot, flags) };
-            assert!(rt; scope.spawn(first).is_ok());
-            assert!(rt; in_line(rt, lot, 0, 1));
+            started(rt, scope.spawn(first).is_ok());
+            await_line(rt, lot, 0, 1);
             let second = move ||
                 requires { lot.now.locks ≡ 14 }
             { second_sleeper(rt, lot, flags) };
-            assert!(rt; scope.spawn(second).is_ok());
-            assert!(rt; in_line(rt, lot, 0, 2));
+            started(rt, scope.spawn(second).is_ok());
+            await_line(rt, lot, 0, 2);
             barge(rt, lot, flags, pass, held);
         },
     );
@@ -164,17 +165,17 @@ fn barge<N: LotName<Count> + Send + Sync, T: Wait + Abort>(
     requires holding { Holding (λ x y. x.n ≤ y.n) pass held }
 {
     let (pass, released) = release(rt, lot, pass, held, 0);
-    assert_eq!(rt; released, Released::Woke);
-    assert_eq!(rt; word(lot, 0), 2);
-    assert_eq!(rt; lot.line_length(rt, 0), 1);
+    equal(rt, released, Released::Woke);
+    equal(rt, word(lot, 0), 2);
+    equal(rt, lot.line_length(rt, 0), 1);
     let barger = enter(rt, lot);
-    assert_eq!(rt; barger.thread(), 3);
+    equal(rt, barger.thread(), 3);
     let (barger, held) = own(rt, lot, barger, 0);
-    assert_eq!(rt; word(lot, 0), 3);
+    equal(rt, word(lot, 0), 3);
     flags.gate.store(1, Ordering::SeqCst);
-    assert!(rt; in_line(rt, lot, 0, 2));
+    await_line(rt, lot, 0, 2);
     let (barger, released) = release(rt, lot, barger, held, 0);
-    assert_eq!(rt; released, Released::Woke);
+    equal(rt, released, Released::Woke);
     lot.leave(rt, barger);
     lot.leave(rt, pass);
 }
@@ -224,12 +225,12 @@ fn sleeper_on_zero<N: LotName<Count> + Send + Sync, T: Wait + Abort>(
     requires { lot.now.locks ≡ 14 }
 {
     let pass = enter(rt, lot);
-    assert_eq!(rt; pass.thread(), 1);
+    equal(rt, pass.thread(), 1);
     let (pass, held) = own_at_gate(rt, lot, pass, 0, &flags.gate);
-    assert_eq!(rt; word(lot, 0), 3);
+    equal(rt, word(lot, 0), 3);
     let (pass, released) = release(rt, lot, pass, held, 0);
-    assert_eq!(rt; released, Released::Nobody);
-    assert_eq!(rt; word(lot, 0), 0);
+    equal(rt, released, Released::Nobody);
+    equal(rt, word(lot, 0), 0);
     flags.first.store(1, Ordering::SeqCst);
     lot.leave(rt, pass);
 }
@@ -239,11 +240,11 @@ fn sleeper_on_twelve<N: LotName<Count> + Send + Sync, T: Wait + Abort>(rt: &T, l
     requires { lot.now.locks ≡ 14 }
 {
     let pass = enter(rt, lot);
-    assert_eq!(rt; pass.thread(), 2);
+    equal(rt, pass.thread(), 2);
     let (pass, held) = own(rt, lot, pass, 12);
     let (pass, released) = release(rt, lot, pass, held, 0);
-    assert_eq!(rt; released, Released::Quiet);
-    assert_eq!(rt; word(lot, 12), 0);
+    equal(rt, released, Released::Quiet);
+    equal(rt, word(lot, 12), 0);
     lot.leave(rt, pass);
 }
 
@@ -276,15 +277,15 @@ fn sleepers_on_both<N: LotName<Count> + Send + Sync, T: Threads + Wait + Sync + 
             let first = move ||
                 requires { lot.now.locks ≡ 14 }
             { sleeper_on_zero(rt, lot, flags) };
-            assert!(rt; scope.spawn(first).is_ok());
-            assert!(rt; in_line(rt, lot, 0, 1));
+            started(rt, scope.spawn(first).is_ok());
+            await_line(rt, lot, 0, 1);
             let second = move ||
                 requires { lot.now.locks ≡ 14 }
             { sleeper_on_twelve(rt, lot) };
-            assert!(rt; scope.spawn(second).is_ok());
-            assert!(rt; in_line(rt, lot, 12, 1));
+            started(rt, scope.spawn(second).is_ok());
+            await_line(rt, lot, 12, 1);
             let (pass, twelve, released) = release_first(rt, lot, pass, zero, twelve);
-            assert_eq!(rt; released, Released::Woke);
+            equal(rt, released, Released::Woke);
             let_both_go(rt, lot, flags, pass, twelve);
         },
     );
@@ -301,14 +302,14 @@ fn let_both_go<N: LotName<Count> + Send + Sync, T: Wait + Abort>(
     requires key { (held.key < lot.now.locks) × (lot.now.locks ≡ 14) }
     requires holding { Holding (λ x y. x.n ≤ y.n) pass held }
 {
-    assert_eq!(rt; lot.table_size(rt), 12);
-    assert_eq!(rt; word(lot, 0), 2);
-    assert_eq!(rt; lot.line_length(rt, 0), 0);
+    equal(rt, lot.table_size(rt), 12);
+    equal(rt, word(lot, 0), 2);
+    equal(rt, lot.line_length(rt, 0), 0);
     flags.gate.store(1, Ordering::SeqCst);
-    assert!(rt; is_raised(&flags.first));
-    assert_eq!(rt; lot.line_length(rt, 12), 1);
+    await_flag(rt, &flags.first);
+    equal(rt, lot.line_length(rt, 12), 1);
     let (pass, released) = release(rt, lot, pass, held, 0);
-    assert_eq!(rt; released, Released::Woke);
+    equal(rt, released, Released::Woke);
     lot.leave(rt, pass);
 }
 
@@ -324,7 +325,7 @@ pub(crate) fn sleeper<N: LotName<Count> + Send + Sync, T: Wait + Abort>(
     let pass = enter(rt, lot);
     let (pass, held) = own(rt, lot, pass, key);
     let (pass, released) = release(rt, lot, pass, held, 0);
-    assert_eq!(rt; released, want);
+    equal(rt, released, want);
     lot.leave(rt, pass);
 }
 
@@ -347,18 +348,18 @@ pub(crate) fn growth_with_sleepers<
             let first = move ||
                 requires { lot.now.locks ≡ 14 }
             { sleeper(rt, lot, 13, Released::Woke) };
-            assert!(rt; scope.spawn(first).is_ok());
-            assert!(rt; in_line(rt, lot, 13, 1));
+            started(rt, scope.spawn(first).is_ok());
+            await_line(rt, lot, 13, 1);
             let second = move ||
                 requires { lot.now.locks ≡ 14 }
             { sleeper(rt, lot, 1, Released::Quiet) };
-            assert!(rt; scope.spawn(second).is_ok());
-            assert!(rt; in_line(rt, lot, 1, 1));
+            started(rt, scope.spawn(second).is_ok());
+            await_line(rt, lot, 1, 1);
             let third = move ||
                 requires { lot.now.locks ≡ 14 }
             { sleeper(rt, lot, 13, Released::Quiet) };
-            assert!(rt; scope.spawn(third).is_ok());
-            assert!(rt; in_line(rt, lot, 13, 2));
+            started(rt, scope.spawn(third).is_ok());
+            await_line(rt, lot, 13, 2);
             grow(rt, lot, pass, thirteen, one);
         },
     );
@@ -375,17 +376,17 @@ fn grow<N: LotName<Count> + Send + Sync, T: Wait + Abort>(
     requires keys { (thirteen.key ≡ 13) × (one.key ≡ 1) × (lot.now.locks ≡ 14) }
     requires both { HoldingBoth (λ x y. x.n ≤ y.n) pass thirteen one }
 {
-    assert_eq!(rt; lot.table_size(rt), 12);
+    equal(rt, lot.table_size(rt), 12);
     let fifth = enter(rt, lot);
-    assert_eq!(rt; fifth.thread(), 4);
-    assert_eq!(rt; lot.table_size(rt), 30);
-    assert_eq!(rt; lot.line_length(rt, 13), 2);
-    assert_eq!(rt; lot.line_length(rt, 1), 1);
+    equal(rt, fifth.thread(), 4);
+    equal(rt, lot.table_size(rt), 30);
+    equal(rt, lot.line_length(rt, 13), 2);
+    equal(rt, lot.line_length(rt, 1), 1);
     lot.leave(rt, fifth);
     let (pass, one, released) = release_first(rt, lot, pass, thirteen, one);
-    assert_eq!(rt; released, Released::Woke);
+    equal(rt, released, Released::Woke);
     let (pass, released) = release(rt, lot, pass, one, 0);
-    assert_eq!(rt; released, Released::Woke);
+    equal(rt, released, Released::Woke);
     lot.leave(rt, pass);
 }
 
@@ -400,9 +401,9 @@ fn handed<N: LotName<Count> + Send + Sync, T: Wait + Abort>(
 {
     let pass = enter(rt, lot);
     let (pass, held) = own(rt, lot, pass, 0);
-    assert!(rt; in_line(rt, lot, 0, 1));
+    await_line(rt, lot, 0, 1);
     let (pass, released) = release(rt, lot, pass, held, now);
-    assert_eq!(rt; released, want);
+    equal(rt, released, want);
     lot.leave(rt, pass);
 }
 
@@ -426,10 +427,10 @@ pub(crate) fn after_a_handoff<N: LotName<Count> + Send + Sync, T: Threads + Wait
             let job = move ||
                 requires { lot.now.locks ≡ 14 }
             { handed(rt, lot, now, want) };
-            assert!(rt; scope.spawn(job).is_ok());
-            assert!(rt; in_line(rt, lot, 0, 1));
+            started(rt, scope.spawn(job).is_ok());
+            await_line(rt, lot, 0, 1);
             let (pass, released) = release(rt, lot, pass, held, 5);
-            assert_eq!(rt; released, Released::Handed);
+            equal(rt, released, Released::Handed);
             let (pass, held) = own(rt, lot, pass, 0);
             let (pass, _) = release(rt, lot, pass, held, 0);
             lot.leave(rt, pass);
@@ -560,20 +561,20 @@ pub(crate) fn invalid_parking<N: LotName<Count> + Send + Sync, T: Wait + Abort>(
     let (zero, held) = own(rt, lot, zero, 0);
     let (one, kinds) = seek(rt, lot, one, 0);
     let one = mark(rt, lot, one, 0);
-    assert_eq!(rt; word(lot, 0), 3);
+    equal(rt, word(lot, 0), 3);
     let (zero, released) = release(rt, lot, zero, held, 0);
-    assert_eq!(rt; released, Released::Nobody);
+    equal(rt, released, Released::Nobody);
     let (two, held) = own(rt, lot, two, 0);
-    assert_eq!(rt; word(lot, 0), 1);
+    equal(rt, word(lot, 0), 1);
     let one = park_in_vain(rt, lot, one, 0);
-    assert_eq!(rt; lot.line_length(rt, 0), 0);
+    equal(rt, lot.line_length(rt, 0), 0);
     let one = seek_again(rt, lot, one, 0);
     let (two, released) = release(rt, lot, two, held, 0);
-    assert_eq!(rt; released, Released::Quiet);
+    equal(rt, released, Released::Quiet);
     let (one, held) = get(rt, lot, one, kinds, 0);
-    assert_eq!(rt; word(lot, 0), 1);
+    equal(rt, word(lot, 0), 1);
     let (one, released) = release(rt, lot, one, held, 0);
-    assert_eq!(rt; released, Released::Quiet);
+    equal(rt, released, Released::Quiet);
     lot.leave(rt, zero);
     lot.leave(rt, one);
     lot.leave(rt, two);

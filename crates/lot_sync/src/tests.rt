@@ -5,6 +5,7 @@ ghost use Rattle.lot_sync.specs.Lot.{PassView, OwnsNone};
 ghost use Rattle.lot_sync.specs.Opened.{IsNamed};
 ghost use Rattle.lot_sync.specs.Holding.{Holding};
 
+use crate::asserts::{equal, started};
 use crate::schedules::{Schedule, follow};
 use crate::sleepers::{
     after_a_handoff, first_of_two_sleepers, growth_with_sleepers, invalid_parking,
@@ -137,33 +138,33 @@ pub(crate) fn word<N: LotName<Count> + Send + Sync>(lot: &Lot<Count, N>, key: us
     lot.lock_scheme().words().bits(key)
 }
 
-/// Whether so many are in the line of the lock or the condition, asked a bounded number of times.
-pub(crate) fn in_line<N: LotName<Count> + Send + Sync, T: Wait>(
+/// Waits until so many are in the line of the lock or the condition, asking a bounded number of times, or the test fails.
+pub(crate) fn await_line<N: LotName<Count> + Send + Sync, T: Wait + Abort>(
     rt: &T,
     lot: &Lot<Count, N>,
     key: usize,
     count: usize,
-) -> bool
+)
     requires { key < lot.now.locks + lot.now.conds }
 {
     for _ in 0..ASKINGS {
         if lot.line_length(rt, key) == count {
-            return true;
+            return;
         }
         thread::yield_now();
     }
-    false
+    panic!(rt; "{count} never are in the line of {key}")
 }
 
-/// Whether the flag is raised, asked a bounded number of times.
-pub(crate) fn is_raised(flag: &AtomicU64) -> bool {
+/// Waits until the flag is raised, asking a bounded number of times, or the test fails.
+pub(crate) fn await_flag(rt: &impl Abort, flag: &AtomicU64) {
     for _ in 0..ASKINGS {
         if flag.load(Ordering::SeqCst) != 0 {
-            return true;
+            return;
         }
         thread::yield_now();
     }
-    false
+    panic!(rt; "a flag is never raised")
 }
 
 /// How the first thread lets the lock go on which the second sleeps.
@@ -227,8 +228,8 @@ fn play<N: LotName<Count> + Send + Sync, T: Threads + Wait + Sync + Abort>(
         Ok(lot) => {
             let (how, waits) = play_row(rt, &lot, row);
             let (values, ledger) = end(rt, lot, passes, threads, how);
-            assert_eq!(rt; values.len(), LOCKS);
-            assert_eq!(rt; (ledger.called[0], ledger.woken[0]), (waits, waits));
+            equal(rt, values.len(), LOCKS);
+            equal(rt, (ledger.called[0], ledger.woken[0]), (waits, waits));
         }
         Err(_) => panic!(rt; "not started"),
     }
@@ -381,7 +382,7 @@ fn next_registered<N: LotName<Count> + Send + Sync, T: Wait + Abort>(
     ensures free { OwnsNone result }
 {
     let pass = enter(rt, lot);
-    assert_eq!(rt; lot.table_size(rt), wanted_size(thread));
+    equal(rt, lot.table_size(rt), wanted_size(thread));
     let given = pass.thread();
     if given == thread {
         pass
@@ -397,18 +398,18 @@ fn try_and_unlock_unparked<N: LotName<Count> + Send + Sync, T: Wait + Abort>(
     requires { lot.now.locks ≡ 14 }
 {
     let pass = enter(rt, lot);
-    assert_eq!(rt; word(lot, 0), 0);
+    equal(rt, word(lot, 0), 0);
     let (pass, got) = try_own(lot, pass, 0);
     let Some(held) = got else {
         panic!(rt; "a free lock was not got")
     };
-    assert_eq!(rt; word(lot, 0), 1);
+    equal(rt, word(lot, 0), 1);
     let (pass, back) = free(lot, pass, held);
     match back {
         Some(_held) => panic!(rt; "a lock that nobody waits for was not let go"),
         None => {}
     }
-    assert_eq!(rt; word(lot, 0), 0);
+    equal(rt, word(lot, 0), 0);
     lot.leave(rt, pass);
 }
 
@@ -423,10 +424,10 @@ fn quiet_row<N: LotName<Count> + Send + Sync, T: Wait + Abort>(rt: &T, lot: &Lot
         Some(_held) => panic!(rt; "a held lock was got"),
         None => {}
     }
-    assert_eq!(rt; word(lot, 0), 1);
+    equal(rt, word(lot, 0), 1);
     let (zero, released) = release(rt, lot, zero, held, 0);
-    assert_eq!(rt; released, Released::Quiet);
-    assert_eq!(rt; word(lot, 0), 0);
+    equal(rt, released, Released::Quiet);
+    equal(rt, word(lot, 0), 0);
     lot.leave(rt, one);
     lot.leave(rt, zero);
 }
@@ -448,10 +449,10 @@ fn second<N: LotName<Count> + Send + Sync, T: Wait + Abort>(
     requires { lot.now.locks ≡ 14 }
 {
     let pass = enter(rt, lot);
-    assert_eq!(rt; pass.thread(), 1);
+    equal(rt, pass.thread(), 1);
     let (pass, held) = own(rt, lot, pass, 0);
     flags.owns.store(1, Ordering::SeqCst);
-    assert!(rt; is_raised(&flags.go));
+    await_flag(rt, &flags.go);
     let (pass, released) = release(rt, lot, pass, held, 12);
     // A barging opportunity with nobody left in the queue clears the parked bit; a handoff leaves it.
     let want = if way == Way::Barging {
@@ -459,8 +460,8 @@ fn second<N: LotName<Count> + Send + Sync, T: Wait + Abort>(
     } else {
         Released::Nobody
     };
-    assert_eq!(rt; released, want);
-    assert_eq!(rt; word(lot, 0), 0);
+    equal(rt, released, want);
+    equal(rt, word(lot, 0), 0);
     lot.leave(rt, pass);
 }
 
@@ -484,8 +485,8 @@ fn beside_a_sleeper<N: LotName<Count> + Send + Sync, T: Threads + Wait + Sync + 
             let job = move ||
                 requires { lot.now.locks ≡ 14 }
             { second(rt, lot, flags, way) };
-            assert!(rt; scope.spawn(job).is_ok());
-            assert!(rt; in_line(rt, lot, 0, 1));
+            started(rt, scope.spawn(job).is_ok());
+            await_line(rt, lot, 0, 1);
             let_go(rt, lot, flags, way, pass, held);
         },
     );
@@ -503,7 +504,7 @@ fn let_go<N: LotName<Count> + Send + Sync, T: Wait + Abort>(
     requires key { (held.key < lot.now.locks) × (lot.now.locks ≡ 14) }
     requires holding { Holding (λ x y. x.n ≤ y.n) pass held }
 {
-    assert_eq!(rt; word(lot, 0), 3);
+    equal(rt, word(lot, 0), 3);
     let (pass, back) = free(lot, pass, held);
     let Some(held) = back else {
         panic!(rt; "a lock with a sleeper was let go without it")
@@ -515,13 +516,13 @@ fn let_go<N: LotName<Count> + Send + Sync, T: Wait + Abort>(
         Way::Barging => release(rt, lot, pass, held, 0),
     };
     if way == Way::Barging {
-        assert_eq!(rt; released, Released::Woke);
+        equal(rt, released, Released::Woke);
     } else {
-        assert_eq!(rt; released, Released::Handed);
-        assert_eq!(rt; word(lot, 0), 3);
+        equal(rt, released, Released::Handed);
+        equal(rt, word(lot, 0), 3);
     }
-    assert_eq!(rt; lot.line_length(rt, 0), 0);
-    assert!(rt; is_raised(&flags.owns));
+    equal(rt, lot.line_length(rt, 0), 0);
+    await_flag(rt, &flags.owns);
     flags.go.store(1, Ordering::SeqCst);
     lot.leave(rt, pass);
 }
@@ -553,9 +554,9 @@ fn meet<N: LotName<Count> + Send + Sync, T: Wait + Abort>(
     let pass = enter(rt, lot);
     let (pass, held) = own(rt, lot, pass, key);
     own_flag.store(1, Ordering::SeqCst);
-    assert!(rt; is_raised(other_flag));
+    await_flag(rt, other_flag);
     let (pass, released) = release(rt, lot, pass, held, 0);
-    assert_eq!(rt; released, Released::Quiet);
+    equal(rt, released, Released::Quiet);
     lot.leave(rt, pass);
 }
 
@@ -576,7 +577,7 @@ fn side_by_side<N: LotName<Count> + Send + Sync, T: Threads + Wait + Sync + Abor
             let job = move ||
                 requires { lot.now.locks ≡ 14 }
             { meet(rt, lot, 1, one, zero) };
-            assert!(rt; scope.spawn(job).is_ok());
+            started(rt, scope.spawn(job).is_ok());
             meet(rt, lot, 0, zero, one);
         },
     );
@@ -601,9 +602,9 @@ fn register_in_order<N: LotName<Count> + Send + Sync, T: Wait + Abort>(
         let zero = enter(rt, lot);
         let one = enter(rt, lot);
         let two = enter(rt, lot);
-        assert_eq!(rt; zero.thread(), 0);
-        assert_eq!(rt; one.thread(), 1);
-        assert_eq!(rt; two.thread(), 2);
+        equal(rt, zero.thread(), 0);
+        equal(rt, one.thread(), 1);
+        equal(rt, two.thread(), 2);
         match lot.register(rt) {
             Ok(_) => panic!(rt; "a fourth pass"),
             Err(fault) => assert_eq!(rt; fault, RegisterFault::Full),
@@ -640,7 +641,7 @@ fn add<N: LotName<Count> + Send + Sync, T: Wait + Abort>(
 {
     let (pass, mut held) = own(rt, lot, pass, 0);
     let found = held.value().n;
-    assert_eq!(rt; found, want);
+    equal(rt, found, want);
     assert!(rt; found < 1000);
     *held.value_mut() = Count { n: found + 1 };
     let (pass, _) = release(rt, lot, pass, held, 0);
@@ -781,7 +782,7 @@ fn started_and_closed<N: LotName<Count> + Send + Sync, T: Wait + Abort>(
         }
         Err((fault, values)) => {
             passes.destroy_empty();
-            assert_eq!(rt; fault, OpenFault::NoMemory);
+            equal(rt, fault, OpenFault::NoMemory);
             values
         }
     }
@@ -793,7 +794,7 @@ fn opened_and_closed<T: Wait + Abort>(rt: &T, alloc: Global, values: Vec<Count>)
     match Lot::<Count, Brand>::open(alloc, 1, values, 0) {
         Ok(opened) => started_and_closed::<Brand, T>(rt, alloc, opened),
         Err((fault, values)) => {
-            assert_eq!(rt; fault, OpenFault::NoMemory);
+            equal(rt, fault, OpenFault::NoMemory);
             values
         }
     }

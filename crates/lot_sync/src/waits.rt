@@ -5,7 +5,8 @@ ghost use Rattle.lot_sync.specs.Lot.{OwnsNone, IsCond};
 ghost use Rattle.lot_sync.specs.Opened.{IsNamed};
 ghost use Rattle.lot_sync.specs.Holding.{Holding};
 
-use crate::tests::{Count, Gathered, end, enter, in_line, own, release};
+use crate::asserts::{equal, started};
+use crate::tests::{Count, Gathered, await_line, end, enter, own, release};
 use crate::{Held, Lot, LotName, Moment, Opened, Pass};
 use std::alloc::Global;
 use std::marker::Brand;
@@ -115,7 +116,7 @@ fn nobody_waits<N: LotName<Count> + Send + Sync, T: Wait + Abort>(
     let (pass, took) = call_one(rt, lot, pass, COND);
     assert!(rt; !took);
     let (pass, count) = call_all(rt, lot, pass, COND);
-    assert_eq!(rt; count, 0);
+    equal(rt, count, 0);
     pass
 }
 
@@ -128,14 +129,14 @@ fn three_are_notified<N: LotName<Count> + Send + Sync, T: Wait + Abort>(
     requires sizes { (lot.now.locks ≡ 1) × (lot.now.conds ≡ 13) }
     requires free { OwnsNone pass }
 {
-    assert!(rt; in_line(rt, lot, COND, 3));
+    await_line(rt, lot, COND, 3);
     let (pass, has) = lot.has_waiters(pass, COND);
     assert!(rt; has);
     let (pass, took) = call_one(rt, lot, pass, COND);
     assert!(rt; took);
-    assert_eq!(rt; lot.line_length(rt, COND), 2);
+    equal(rt, lot.line_length(rt, COND), 2);
     let (pass, count) = call_all(rt, lot, pass, COND);
-    assert_eq!(rt; count, 2);
+    equal(rt, count, 2);
     let pass = nobody_waits(rt, lot, pass);
     lot.leave(rt, pass);
 }
@@ -149,13 +150,13 @@ fn three_are_notified_by_count<N: LotName<Count> + Send + Sync, T: Wait + Abort>
     requires sizes { (lot.now.locks ≡ 1) × (lot.now.conds ≡ 13) }
     requires free { OwnsNone pass }
 {
-    assert!(rt; in_line(rt, lot, COND, 3));
+    await_line(rt, lot, COND, 3);
     let (pass, taken) = call_some(rt, lot, pass, COND, 2);
-    assert_eq!(rt; taken, (2, true));
+    equal(rt, taken, (2, true));
     let (pass, taken) = call_some(rt, lot, pass, COND, 5);
-    assert_eq!(rt; taken, (1, false));
+    equal(rt, taken, (1, false));
     let (pass, taken) = call_some(rt, lot, pass, COND, 1);
-    assert_eq!(rt; taken, (0, false));
+    equal(rt, taken, (0, false));
     lot.leave(rt, pass);
 }
 
@@ -168,15 +169,15 @@ fn two_are_notified_by_count<N: LotName<Count> + Send + Sync, T: Wait + Abort>(
     requires sizes { (lot.now.locks ≡ 1) × (lot.now.conds ≡ 13) }
     requires free { OwnsNone pass }
 {
-    assert_eq!(rt; lot.table_size(rt), 12);
-    assert!(rt; in_line(rt, lot, COND, 1));
-    assert!(rt; in_line(rt, lot, LAST, 1));
+    equal(rt, lot.table_size(rt), 12);
+    await_line(rt, lot, COND, 1);
+    await_line(rt, lot, LAST, 1);
     let (pass, taken) = call_some(rt, lot, pass, LAST, 4);
-    assert_eq!(rt; taken, (1, true));
+    equal(rt, taken, (1, true));
     let (pass, taken) = call_some(rt, lot, pass, LAST, 4);
-    assert_eq!(rt; taken, (0, false));
+    equal(rt, taken, (0, false));
     let (pass, taken) = call_some(rt, lot, pass, COND, 256);
-    assert_eq!(rt; taken, (1, false));
+    equal(rt, taken, (1, false));
     lot.leave(rt, pass);
 }
 
@@ -203,11 +204,11 @@ fn two_wait<N: LotName<Count> + Send + Sync, T: Threads + Wait + Sync + Abort>(
             let first = move ||
                 requires { (lot.now.locks ≡ 1) × (lot.now.conds ≡ 13) }
             { wait_and_leave(rt, lot, COND) };
-            assert!(rt; scope.spawn(first).is_ok());
+            started(rt, scope.spawn(first).is_ok());
             let last = move ||
                 requires { (lot.now.locks ≡ 1) × (lot.now.conds ≡ 13) }
             { wait_and_leave(rt, lot, LAST) };
-            assert!(rt; scope.spawn(last).is_ok());
+            started(rt, scope.spawn(last).is_ok());
             two_are_notified_by_count(rt, lot, pass);
         },
     );
@@ -231,15 +232,15 @@ fn three_wait<N: LotName<Count> + Send + Sync, T: Threads + Wait + Sync + Abort>
             let first = move ||
                 requires { (lot.now.locks ≡ 1) × (lot.now.conds ≡ 13) }
             { wait_and_leave(rt, lot, COND) };
-            assert!(rt; scope.spawn(first).is_ok());
+            started(rt, scope.spawn(first).is_ok());
             let second = move ||
                 requires { (lot.now.locks ≡ 1) × (lot.now.conds ≡ 13) }
             { wait_and_leave(rt, lot, COND) };
-            assert!(rt; scope.spawn(second).is_ok());
+            started(rt, scope.spawn(second).is_ok());
             let third = move ||
                 requires { (lot.now.locks ≡ 1) × (lot.now.conds ≡ 13) }
             { wait_and_leave(rt, lot, COND) };
-            assert!(rt; scope.spawn(third).is_ok());
+            started(rt, scope.spawn(third).is_ok());
             match by {
                 By::OneAndAll => three_are_notified(rt, lot, pass),
                 By::Count => three_are_notified_by_count(rt, lot, pass),
@@ -266,10 +267,10 @@ fn play<N: LotName<Count> + Send + Sync, T: Threads + Wait + Sync + Abort>(
             three_wait(rt, &lot, By::Count);
             two_wait(rt, &lot);
             let (_, ledger) = end(rt, lot, passes, 4, Gathered::Left);
-            assert_eq!(rt; ledger.called.len(), 13);
-            assert_eq!(rt; ledger.woken.len(), 13);
-            assert_eq!(rt; (ledger.called[0], ledger.called[12]), (7, 1));
-            assert_eq!(rt; (ledger.woken[0], ledger.woken[12]), (7, 1));
+            equal(rt, ledger.called.len(), 13);
+            equal(rt, ledger.woken.len(), 13);
+            equal(rt, (ledger.called[0], ledger.called[12]), (7, 1));
+            equal(rt, (ledger.woken[0], ledger.woken[12]), (7, 1));
         }
         Err(_) => panic!(rt; "not started"),
     }

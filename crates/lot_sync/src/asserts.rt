@@ -1,0 +1,13 @@
+//! Assertions that are one call: what a macro writes at its place, each function that makes many would be checked with.
+use std::fmt::Debug;
+use std::process::Abort;
+
+/// What was found is what was wanted, or the test fails.
+pub(crate) fn equal<T: PartialEq + Debug + Copy>(rt: &impl Abort, found: T, wanted: T) {
+    assert_eq!(rt; found, wanted);
+}
+
+/// A thread was started, or the test fails.
+pub(crate) fn started(rt: &impl Abort, is_started: bool) {
+    assert!(rt; is_started, "a thread could not be started");
+}
