@@ -1,5 +1,21 @@
 //! Assertions that are one call: what a macro writes at its place, a schedule that makes many would be checked with.
+ghost use Rattle.std.specs.Prelude.{◌≡◌, true};
+
 use std::process::Abort;
+
+/// It is so, or the test fails.
+pub(crate) fn is_so(rt: &impl Abort, is_so: bool)
+    ensures { is_so ≡ true }
+{
+    assert!(rt; is_so);
+}
+
+/// The letter is the one that is wanted, or the test fails.
+pub(crate) fn letter_is(rt: &impl Abort, letter: Option<u32>, wanted: Option<u32>)
+    ensures { letter ≡ wanted }
+{
+    assert_eq!(rt; letter, wanted);
+}
 
 /// The number is the one that is wanted, or the test fails.
 pub(crate) fn equal(rt: &impl Abort, found: u64, wanted: u64) {

@@ -4,7 +4,7 @@ ghost use Rattle.std.specs.Prelude.{◌≡◌, None};
 ghost use Rattle.lot_conds.specs.Calls.{took, woken_pass};
 ghost use Rattle.rights_trials.specs.CondSchedules.{IsFree, IsEmpty};
 
-use crate::asserts::equal;
+use crate::asserts::{equal, is_so, letter_is};
 use lot_conds::{CondPass, CondRoot, CondWords};
 use std::process::Abort;
 use std::test::*;
@@ -15,7 +15,7 @@ fn collect(rt: &impl Abort, words: &CondWords, pass: CondPass) -> CondPass
     ensures { IsFree words.now.table pass.pass.thread result }
 {
     let (pass, letter) = words.collect(pass);
-    assert_eq!(rt; letter, Some(0));
+    letter_is(rt, letter, Some(0));
     pass
 }
 
@@ -39,14 +39,14 @@ fn one_wait(
     let (zero, root) = words.enlist(zero, root);
     equal(rt, words.bits(1), 1);
     let (one, set) = words.look(one, 1);
-    assert!(rt; set);
+    is_so(rt, set);
     let (one, root) = words.call(one, root, 1, 1, false);
     equal(rt, words.bits(1), 0);
     let (zero, letter) = words.collect(zero);
-    assert_eq!(rt; letter, None);
+    letter_is(rt, letter, None);
     let root = words.post(root, 0);
     let (zero, letter) = words.collect(zero);
-    assert_eq!(rt; letter, Some(0));
+    letter_is(rt, letter, Some(0));
     (zero, one, root)
 }
 

@@ -5,7 +5,7 @@ ghost use Rattle.lot_core.specs.Steps.{first as first_of};
 ghost use Rattle.lot_words.specs.Calls.{passed_root};
 ghost use Rattle.rights_trials.specs.LockSchedules.{IsPass, IsCalm, Wants, Sleeps, Owns, MayFree, MayPass, IsRoot};
 
-use crate::asserts::equal;
+use crate::asserts::{equal, letter_is};
 use crate::tally::Tally;
 use lot_words::{LockPass, LockRoot, LockWords};
 use std::process::Abort;
@@ -226,13 +226,13 @@ fn hand_over(
     let (one, root) = lie_down(rt, words, one, root, 0);
     equal(rt, words.bits(0), 3);
     let (one, letter) = collect(words, one, 0);
-    assert_eq!(rt; letter, None);
+    letter_is(rt, letter, None);
     let zero = find_parked(rt, words, zero, 0);
     let (zero, root) = pass_on(words, zero, root, Some(1), true);
     equal(rt, words.bits(0), 3);
     let root = words.post(root, 1, 1);
     let (one, letter) = collect(words, one, 0);
-    assert_eq!(rt; letter, Some(1));
+    letter_is(rt, letter, Some(1));
     let one = count(rt, words, one, 0, 8);
     let one = find_parked(rt, words, one, 0);
     let (one, root) = pass_on(words, one, root, None, false);
@@ -268,7 +268,7 @@ fn barge_in(
     let zero = get(rt, words, zero, 1);
     let root = words.post(root, 1, 0);
     let (one, letter) = collect(words, one, 1);
-    assert_eq!(rt; letter, Some(0));
+    letter_is(rt, letter, Some(0));
     let (one, got) = take_again(words, one, 1);
     assert!(rt; !got);
     let zero = let_go(rt, words, zero, 1);

@@ -4,7 +4,7 @@ ghost use Rattle.std.specs.Prelude.{◌≡◌, [], ◌∷◌};
 ghost use Rattle.rights_trials.specs.SemSchedules.{IsOne, IsOf, IsFree, Has, Seeks, Sleeps, HasLine};
 ghost use Rattle.lot_sems.specs.Calls.{MayTake};
 
-use crate::asserts::equal;
+use crate::asserts::{equal, letter_is};
 use lot_sems::{SemPass, SemRoot, SemWords, Taken};
 use std::process::Abort;
 use std::test::*;
@@ -59,7 +59,7 @@ fn look_in_vain(rt: &impl Abort, words: &SemWords, pass: SemPass) -> SemPass
     ensures { Sleeps words.now.table pass.pass.thread result }
 {
     let (pass, letter) = words.collect(pass);
-    assert_eq!(rt; letter, None);
+    letter_is(rt, letter, None);
     pass
 }
 
@@ -82,7 +82,7 @@ fn wake(rt: &impl Abort, words: &SemWords, pass: SemPass) -> SemPass
     ensures { Seeks words.now.table pass.pass.thread result }
 {
     let (pass, letter) = words.collect(pass);
-    assert_eq!(rt; letter, Some(0));
+    letter_is(rt, letter, Some(0));
     pass
 }
 
