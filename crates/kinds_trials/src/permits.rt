@@ -3,6 +3,7 @@ ghost use Rattle.std.specs.Prelude.{◌≡◌, ℕ, ◌+◌, ◌<◌, ◌≤◌,
 ghost use Rattle.lot_core.specs.Parts.{IsAmongSemaphores};
 ghost use Rattle.lot_permits.specs.Permits.{HasPermit, HoldsNone, IsWide, one_less, one_more, opening_permits, permits_with};
 
+use crate::asserts::freed_is;
 use lot_park::parts::Whole;
 use lot_park::{Moment, ParkingLot};
 use lot_permits::{
@@ -94,9 +95,9 @@ fn two_and_no_third<N: PermitName + Send, T: Wait + Abort>(
     let seeker = found_none(rt, scheme, seeker, 0);
     assert_eq!(rt; permits_left(scheme, 0), 0);
     let (seeker, freed) = give_back(rt, lot, seeker, two);
-    assert_eq!(rt; freed, Freed::Quiet);
+    freed_is(rt, freed, Freed::Quiet);
     let (seeker, freed) = give_back(rt, lot, seeker, one);
-    assert_eq!(rt; freed, Freed::Quiet);
+    freed_is(rt, freed, Freed::Quiet);
     seeker
 }
 
@@ -161,7 +162,7 @@ fn sleeper<N: PermitName + Send, T: Wait + Abort>(rt: &T, lot: &Parking<N>, seat
     let scheme = lot.scheme();
     let (seeker, permit) = acquire::<SemScheme<N>, N, Whole, T>(rt, lot, scheme, seeker, 1);
     let (seeker, freed) = give_back(rt, lot, seeker, permit);
-    assert_eq!(rt; freed, Freed::Quiet);
+    freed_is(rt, freed, Freed::Quiet);
     sit(rt, seats, seeker);
 }
 
@@ -178,7 +179,7 @@ fn wake<N: PermitName + Send, T: Wait + Abort>(
 {
     assert!(rt; is_in_line(rt, lot, 1));
     let (seeker, freed) = give_back(rt, lot, seeker, permit);
-    assert_eq!(rt; freed, Freed::Woke);
+    freed_is(rt, freed, Freed::Woke);
     seeker
 }
 
@@ -246,9 +247,9 @@ fn one_for_each<N: PermitName + Send, T: Wait + Abort>(
     let (zero, one) = two_of_two(scheme, zero, one, 0);
     let zero = found_none(rt, scheme, zero, 0);
     let (zero, freed) = give_back(rt, lot, zero, first);
-    assert_eq!(rt; freed, Freed::Quiet);
+    freed_is(rt, freed, Freed::Quiet);
     let (one, freed) = give_back(rt, lot, one, second);
-    assert_eq!(rt; freed, Freed::Quiet);
+    freed_is(rt, freed, Freed::Quiet);
     (zero, one)
 }
 

@@ -3,6 +3,7 @@ ghost use Rattle.std.specs.Prelude.{◌≡◌, ◌<◌, IsSome, IsSomeAnd};
 ghost use Rattle.lot_waits.specs.Counts.{took as took_more, woke};
 ghost use Rattle.kinds_trials.specs.Waits.{EndsThere};
 
+use crate::asserts::{count_is, is_not, is_so};
 use crate::tables::{THREADS, TheConds, TwoTables, condition_of, open};
 use lot_park::{Moment, ParkingLot};
 use lot_waits::{
@@ -50,14 +51,14 @@ fn notified_before_sleep<N: WaitName + Send + Sync, R: Wait + Abort>(
             let (one, took) = notify_one::<TwoTables<N>, N, TheConds, R>(
                 rt, lot, conds, one, 1, EARLY,
             );
-            assert!(rt; took);
+            is_so(rt, took);
             one
         },
     );
     let (one, took) = notify_one::<TwoTables<N>, N, TheConds, R>(rt, lot, conds, one, 1, EARLY);
-    assert!(rt; !took);
+    is_not(rt, took);
     let (one, count) = notify_all::<TwoTables<N>, N, TheConds, R>(rt, lot, conds, one, 1);
-    assert_eq!(rt; count, 0);
+    count_is(rt, count, 0);
     (zero, one)
 }
 
@@ -86,12 +87,12 @@ fn all_notified_before_sleep<N: WaitName + Send + Sync, R: Wait + Abort>(
             ensures { result ≡ took_more one 1 1 }
         {
             let (one, count) = notify_all::<TwoTables<N>, N, TheConds, R>(rt, lot, conds, one, 1);
-            assert_eq!(rt; count, 1);
+            count_is(rt, count, 1);
             one
         },
     );
     let (one, set) = has_waiters(conds, one, 1);
-    assert!(rt; !set);
+    is_not(rt, set);
     (zero, one)
 }
 
@@ -177,18 +178,18 @@ fn take_both<N: WaitName + Send + Sync, R: Wait + Abort>(
     ensures { result ≡ took_more one 1 2 }
 {
     let conds = lot.scheme().second();
-    assert!(rt; is_raised(&signs.early));
+    is_so(rt, is_raised(&signs.early));
     let between = Between { rt, signs };
     let (one, count) = notify_all_after::<TwoTables<N>, N, TheConds, R, Between<'_, R>>(
         rt, lot, conds, one, 1, &between,
     );
-    assert_eq!(rt; count, 2);
+    count_is(rt, count, 2);
     let (one, set) = has_waiters(conds, one, 1);
-    assert!(rt; set);
+    is_so(rt, set);
     let (one, took) = notify_one::<TwoTables<N>, N, TheConds, R>(rt, lot, conds, one, 1, EARLY);
-    assert!(rt; !took);
+    is_not(rt, took);
     let (one, set) = has_waiters(conds, one, 1);
-    assert!(rt; !set);
+    is_not(rt, set);
     one
 }
 
@@ -221,7 +222,7 @@ fn wait_late<N: WaitName + Send + Sync, R: Wait + Abort>(
     requires thread { IsSomeAnd here.old (λ p. p.thread < 3) }
     ensures { EndsThere (λ p. woke p 1) here.old here.new }
 {
-    assert!(rt; is_raised(&signs.cleared));
+    is_so(rt, is_raised(&signs.cleared));
     wait_here(rt, lot, here, &signs.late);
 }
 

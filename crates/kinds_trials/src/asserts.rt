@@ -1,0 +1,33 @@
+//! Assertions that are one call: what a macro writes at its place, a schedule that makes many would be checked with.
+ghost use Rattle.std.specs.Prelude.{◌≡◌, true, false};
+
+use lot_permits::Freed;
+use std::process::Abort;
+
+/// It is so, or the test fails.
+pub(crate) fn is_so(rt: &impl Abort, is_so: bool)
+    ensures { is_so ≡ true }
+{
+    assert!(rt; is_so);
+}
+
+/// It is not so, or the test fails.
+pub(crate) fn is_not(rt: &impl Abort, is_so: bool)
+    ensures { is_so ≡ false }
+{
+    assert!(rt; !is_so);
+}
+
+/// So many were found, or the test fails.
+pub(crate) fn count_is(rt: &impl Abort, count: usize, wanted: usize)
+    ensures { count ≡ wanted }
+{
+    assert_eq!(rt; count, wanted);
+}
+
+/// The permit was released so, or the test fails.
+pub(crate) fn freed_is(rt: &impl Abort, freed: Freed, wanted: Freed)
+    ensures { freed ≡ wanted }
+{
+    assert_eq!(rt; freed, wanted);
+}
