@@ -37,12 +37,15 @@ static void ask_to_write(const Slot& slot) {
 #endif
 }
 
-static Way way_of(const char* word) {
-    if (!strcmp(word, "beside"))
-        return Way::beside;
-    if (!strcmp(word, "asked"))
-        return Way::asked;
-    return strcmp(word, "asked_to_write") ? Way::apart : Way::asked_to_write;
+static const char* const WORDS[] = {"beside", "apart", "asked", "asked_to_write"};
+
+static bool read_way(const char* word, Way& way) {
+    for (int each = 0; each < 4; each++)
+        if (!strcmp(word, WORDS[each])) {
+            way = Way(each);
+            return true;
+        }
+    return false;
 }
 
 static void add_one(Word& word, Slot& slot, Way way) {
@@ -80,9 +83,9 @@ static void work(int thread, int threads, long rounds, std::vector<Word>& words,
 }
 
 int main(int count, char** arguments) {
-    if (count != 5)
+    Way way;
+    if (count != 5 || !read_way(arguments[1], way))
         return 1;
-    Way way = way_of(arguments[1]);
     int threads = atoi(arguments[2]);
     std::vector<Word> words(strtoul(arguments[3], nullptr, 10));
     std::vector<Slot> slots(words.size());

@@ -1,4 +1,4 @@
-//! Assertions that are one call: what a macro writes at its place, a schedule that makes many would be checked with.
+//! Assertions as calls: what a macro writes at its place would be checked with all that the schedule around it knows.
 ghost use Rattle.std.specs.Prelude.{◌≡◌, true, false};
 
 use lot_permits::Freed;

@@ -1,4 +1,4 @@
-//! Assertions that are one call: what a macro writes at its place, each function that makes many would be checked with.
+//! Assertions as calls: what a macro writes at its place would be checked with all that the function around it knows.
 use std::fmt::Debug;
 use std::process::Abort;
 

@@ -1,4 +1,4 @@
-//! An assertion that is one call: what `assert_eq!` writes at its place, each function that makes many would be checked with.
+//! An assertion as a call: what `assert_eq!` writes at its place would be checked with all that the function around it knows.
 use std::fmt::Debug;
 use std::process::Abort;
 
