@@ -10,7 +10,7 @@ use crate::pool::Pool;
 use crate::tables::LotScheme;
 use lot_park::{Grown, ParkingLot};
 use lot_words::Keeps;
-use std::sync::Wait;
+use std::sync::{MutexGuard, Wait};
 use std::thread;
 
 impl<V: Keeps + Send, N: LotName<V> + Send> Lot<V, N> {
@@ -25,7 +25,7 @@ impl<V: Keeps + Send, N: LotName<V> + Send> Lot<V, N> {
     {
         let mut pool = self.pool.lock(rt);
         let registered = register_in(rt, &self.parking, &mut *pool, self.threads);
-        drop(pool);
+        let _ = MutexGuard::unlock(pool);
         match registered {
             Ok((pass, _grown)) => {
                 let _ = &pass.right;
@@ -44,9 +44,10 @@ impl<V: Keeps + Send, N: LotName<V> + Send> Lot<V, N> {
             let pool_now = &mut *pool;
             if !pool_now.is_full(self.threads) {
                 pool_now.put(pass);
+                let _ = MutexGuard::unlock(pool);
                 return;
             }
-            drop(pool);
+            let _ = MutexGuard::unlock(pool);
             thread::yield_now();
         }
         unreachable!()
@@ -62,7 +63,7 @@ impl<V: Keeps + Send, N: LotName<V> + Send> Lot<V, N> {
     {
         let mut pool = self.pool.lock(rt);
         let taken = (*pool).take_least();
-        drop(pool);
+        let _ = MutexGuard::unlock(pool);
         match taken {
             Some(pass) => {
                 let _ = &pass.right;
