@@ -1,4 +1,4 @@
-use Rattle.std.proofs.Common.{◌≡◌, ◌+◌, ◌++◌, ◌∷◌, [], length, map, ap, ◌∙◌, reverse, vec_len, rules, arith}
+use Rattle.std.proofs.Common.{◌≡◌, ◌++◌, ◌∷◌, [], length, map, ap, ◌∙◌, reverse, vec_len, rules, arith}
 use Rattle.std.proofs.lemmas.List.{map-append}
 use Rattle.lot_park.specs.declared.parts.both.OneOf.TheVariants.{First}
 use Rattle.lot_rights.proofs.Turns.{moves_on}

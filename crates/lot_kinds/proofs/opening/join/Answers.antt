@@ -1,4 +1,4 @@
-use Rattle.std.proofs.Common.{◌+◌, ◌++◌, ◌∷◌, [], map, ap, ◌∙◌, reverse, rules, arith}
+use Rattle.std.proofs.Common.{◌++◌, ◌∷◌, [], map, ap, ◌∙◌, reverse, arith}
 use Rattle.std.proofs.lemmas.List.{map-append}
 use Rattle.lot_park.specs.declared.parts.both.OneOf.TheVariants.{Second}
 use Rattle.lot_rights.proofs.Turns.{moves_on}
