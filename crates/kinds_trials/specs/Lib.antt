@@ -1,1 +1,2 @@
+pub mod OneLock
 pub mod Waits

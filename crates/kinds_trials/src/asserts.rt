@@ -1,6 +1,7 @@
 //! Assertions as calls: what a macro writes at its place would be checked with all that the schedule around it knows.
 ghost use Rattle.std.specs.Prelude.{◌≡◌, true, false};
 
+use lot_locks::Released;
 use lot_permits::Freed;
 use std::process::Abort;
 
@@ -30,4 +31,11 @@ pub(crate) fn freed_is(rt: &impl Abort, freed: Freed, wanted: Freed)
     ensures { freed ≡ wanted }
 {
     assert_eq!(rt; freed, wanted);
+}
+
+/// The lock was released so, or the test fails.
+pub(crate) fn released_is(rt: &impl Abort, released: Released, wanted: Released)
+    ensures { released ≡ wanted }
+{
+    assert_eq!(rt; released, wanted);
 }

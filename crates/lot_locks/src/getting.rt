@@ -30,7 +30,7 @@ impl<V: Keeps, N: Name> LockScheme<V, N> {
     }
 
     /// Whether the lock is marked as parked at some moment of this call.
-    fn is_parked(&self, key: usize) -> bool
+    pub fn is_parked(&self, key: usize) -> bool
         requires { key < self.now.size.locks }
     {
         self.words().bits(key) & PARKED != 0

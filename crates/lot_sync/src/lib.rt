@@ -11,15 +11,9 @@
 //! | `try_lock`, `unlock_unparked` | one compare-exchange | an answer at once |
 #![tactic(auto)]
 
-#[cfg(test)]
-mod accounts;
 mod acquiring;
 mod apart;
-#[cfg(test)]
-mod asserts;
 mod closing;
-#[cfg(test)]
-mod example;
 mod fault;
 pub mod held;
 mod lock;
@@ -29,26 +23,16 @@ pub mod opened;
 pub mod pass;
 mod pool;
 mod register;
-#[cfg(test)]
-mod schedules;
-#[cfg(test)]
-mod shares;
-#[cfg(test)]
-mod sleepers;
 mod start;
 mod tables;
-#[cfg(test)]
-mod tests;
 mod unlock;
 mod waiting;
-#[cfg(test)]
-mod waits;
 
 pub use fault::{OpenFault, RegisterFault};
 pub use held::Held;
 pub use lot::Lot;
 pub use lot_core::{MAX_KEYS, MAX_THREADS};
-pub use lot_locks::Released;
+pub use lot_locks::{BeforeSleep, Released};
 pub use lot_park::Moment;
 pub use lot_permits::{Freed, Permit, PermitName, Tried};
 pub use lot_waits::{Ledger, WaitName};

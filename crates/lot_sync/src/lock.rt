@@ -11,19 +11,13 @@ use crate::pass::{LotName, Pass};
 use crate::tables::{Locks, LotScheme};
 use lot_kinds::Rights;
 use lot_locks::{BeforeSleep, NamedPass, get_slowly};
-use lot_waits::BeforeSweep;
 use lot_words::Keeps;
 use std::sync::Wait;
 
-/// Nothing: `lock`, `wait` and `notify_all` go on at once.
+/// Nothing: `lock` and `wait` go on at once.
 pub(crate) struct AtOnce;
 
 impl BeforeSleep for AtOnce {
-    #[inline(always)]
-    fn run(&self) {}
-}
-
-impl BeforeSweep for AtOnce {
     #[inline(always)]
     fn run(&self) {}
 }
@@ -60,9 +54,11 @@ impl<V: Keeps + Send, N: LotName<V> + Send> Lot<V, N> {
         self.lock_after(rt, pass, key, &AtOnce)
     }
 
-    /// `lock` with an action before each sleep.
+    /// `lock` with an action before each sleep, for a runtime that has to know that its thread will sleep: `lot.lock_after(rt, pass, key,
+    /// &leave_the_processor)`. The thread is queued then and no bucket is locked; the action must not park. Where the lock is got without
+    /// a sleep it does not run.
     #[inline(always)]
-    pub(crate) fn lock_after<R: Wait, B: BeforeSleep>(
+    pub fn lock_after<R: Wait, B: BeforeSleep>(
         &self,
         rt: &R,
         pass: Pass<V, N>,

@@ -94,6 +94,14 @@ impl<V: Keeps + Send, N: LotName<V> + Send> Lot<V, N> {
         self.lock_scheme().is_held(key)
     }
 
+    /// Whether the lock is marked as parked at some moment of this call: somebody may wait in its line, and who lets it go looks there. It is
+    /// an observation: nothing is promised of it.
+    pub fn is_parked(&self, key: usize) -> bool
+        requires { key < self.now.locks }
+    {
+        self.lock_scheme().is_parked(key)
+    }
+
     /// How many threads wait in the line of the lock, the condition or the semaphore at some moment of this call.
     pub fn line_length<R: Wait>(&self, rt: &R, key: usize) -> usize
         requires { key < self.now.locks + self.now.conds + self.now.sems }

@@ -3,13 +3,11 @@ ghost use Rattle.std.specs.Prelude.{◌≡◌, ◌≤◌, MatchBool};
 ghost use Rattle.lot_core.specs.Steps.{IsCallCount};
 ghost use Rattle.lot_sync.specs.Lot.{IsWide, IsCond, calling};
 
-use crate::lock::AtOnce;
 use crate::lot::Lot;
 use crate::pass::{LotName, Pass};
 use crate::tables::{Conds, LotScheme};
 use lot_kinds::Rights;
 use lot_park::Moment;
-use lot_waits::BeforeSweep;
 use lot_words::Keeps;
 use std::sync::Wait;
 
@@ -90,31 +88,15 @@ impl<V: Keeps + Send, N: LotName<V> + Send> Lot<V, N> {
         ensures counted { result.0 ≡ calling pass cond result.1 }
         ensures wide { IsWide self.now result.0 }
     {
-        self.notify_all_after(rt, pass, cond, &AtOnce)
-    }
-
-    /// `notify_all` with an action after the flag is cleared, before the line is taken.
-    pub(crate) fn notify_all_after<R: Wait, B: BeforeSweep>(
-        &self,
-        rt: &R,
-        pass: Pass<V, N>,
-        cond: usize,
-        before: &B,
-    ) -> (Pass<V, N>, usize)
-        requires cond { IsCond self.now cond }
-        ensures counted { result.0 ≡ calling pass cond result.1 }
-        ensures wide { IsWide self.now result.0 }
-    {
         let (right, kinds) = pass.apart();
         let (waiter, seeker) = kinds.apart();
         let scheme = self.parking.scheme().conds();
-        let (waiter, taken) = lot_waits::notify_all_after::<LotScheme<V, N>, N, Conds, R, B>(
+        let (waiter, taken) = lot_waits::notify_all::<LotScheme<V, N>, N, Conds, R>(
             rt,
             &self.parking,
             scheme,
             waiter,
             cond,
-            before,
         );
         (self.at_rest(right, Rights::new(waiter, seeker)), taken)
     }

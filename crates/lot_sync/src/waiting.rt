@@ -45,8 +45,9 @@ impl<V: Keeps + Send, N: LotName<V> + Send> Lot<V, N> {
         self.wait_after(rt, pass, held, cond, moment, &AtOnce)
     }
 
-    /// `wait` with an action after the thread is queued, before its lock is let go.
-    pub(crate) fn wait_after<R: Wait, B: BeforeSleep>(
+    /// `wait` with an action after the thread is queued on the condition, before its lock is let go; it must not park. How the lock is got
+    /// again is `lock`'s way, without it.
+    pub fn wait_after<R: Wait, B: BeforeSleep>(
         &self,
         rt: &R,
         pass: Pass<V, N>,

@@ -1,7 +1,0 @@
-use Rattle.std.proofs.Common.{◌≤◌, le_refl}
-use Rattle.lot_sync.specs.declared.tests.Count.{Count}
-use Rattle.lot_sync.proofs.Holdings.{tried_holds}
-use Rattle.lot_sync.proofs.tests.try_own.Goals as goal
-
-pub returns : goal.returns
-returns g c = tried_holds _ (λ (x y : Count). x.n ≤ y.n) _ (λ (x : Count). le_refl x.n) c.args.pass c.try_lock.result.0 c.args.key c.try_lock.result.1 c.requires.free c.try_lock.ensures.gets
