@@ -5,19 +5,16 @@ ghost use Rattle.lot_locks.specs.Standing.{MayTake, Wants};
 ghost use Rattle.kinds_trials.specs.OneLock.{HasNone, IsCalm, HasIt};
 
 use crate::asserts::{count_is, is_not, is_so, released_is};
+use crate::tables::{EARLY, THREADS};
 use lot_locks::{BeforeSleep, KeyRoot, LockScheme, NamedPass, Released, let_go, park};
+use lot_park::ParkingLot;
 use lot_park::parts::Whole;
-use lot_park::{Moment, ParkingLot};
 use lot_words::{Keeps, LockPass, LockRoot, LockWords, Name};
 use std::alloc::Global;
 use std::marker::Brand;
 use std::process::Abort;
 use std::sync::Wait;
 use std::test::*;
-
-const THREADS: usize = 3;
-
-const EARLY: Moment = Moment { now: 0, word: 7 };
 
 // What the lock guards.
 #[derive(Drop)]
@@ -87,7 +84,7 @@ fn mark<N: Name + Send>(rt: &impl Abort, scheme: &OneLock<N>, pass: Right<N>) ->
     NamedPass::new(pass)
 }
 
-// Lets the lock go, which becomes of it what is wanted.
+// Lets the lock go at moment 0, and this becomes of it.
 fn release<N: Name + Send, R: Wait + Abort>(
     rt: &R,
     lot: &ParkingLot<OneLock<N>>,

@@ -4,8 +4,9 @@ ghost use Rattle.lot_core.specs.Parts.{IsAmongSemaphores};
 ghost use Rattle.lot_permits.specs.Permits.{HasPermit, HoldsNone, IsWide, one_less, one_more, opening_permits, permits_with};
 
 use crate::asserts::freed_is;
+use crate::tables::EARLY;
+use lot_park::ParkingLot;
 use lot_park::parts::Whole;
-use lot_park::{Moment, ParkingLot};
 use lot_permits::{
     Freed, OpenedSems, Permit, PermitName, Room, Seeker, SemScheme, Tried, acquire, check_permits,
     permits_left, release, settle, try_acquire,
@@ -20,8 +21,6 @@ use std::thread;
 use std::thread::Threads;
 
 const THREADS: usize = 2;
-
-const EARLY: Moment = Moment { now: 0, word: 7 };
 
 /// How often a test asks before it fails.
 const ASKINGS: u64 = 10_000_000;

@@ -3,7 +3,7 @@ ghost use Rattle.std.specs.Prelude.{◌≡◌, ℕ, ◌≤◌, vec_len, vec_capa
 ghost use Rattle.lot_waits.specs.Opening.{IsIdleRoot};
 
 use lot_park::parts::{Border, Both, EitherRoot, OfSecond, OneOf, Whole};
-use lot_park::{ParkingLot, Root, Scheme, Token};
+use lot_park::{Moment, ParkingLot, Root, Scheme, Token};
 use lot_waits::{CondKeyRoot, CondScheme, WaitName};
 use std::alloc::Global;
 use std::process::Abort;
@@ -64,6 +64,9 @@ pub(crate) type TwoTables<N> = Both<NoLocks, CondScheme<N>, OneLock>;
 pub(crate) type TheConds = OfSecond<Whole>;
 
 pub(crate) const THREADS: usize = 3;
+
+// At this moment no release is fair, unless it is asked to be.
+pub(crate) const EARLY: Moment = Moment { now: 0, word: 7 };
 
 // A lot for the condition 1.
 pub(crate) fn open<N: WaitName + Send>(

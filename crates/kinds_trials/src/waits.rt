@@ -4,8 +4,8 @@ ghost use Rattle.lot_waits.specs.Counts.{took as took_more, woke};
 ghost use Rattle.kinds_trials.specs.Waits.{EndsThere};
 
 use crate::asserts::{count_is, is_not, is_so};
-use crate::tables::{THREADS, TheConds, TwoTables, condition_of, open};
-use lot_park::{Moment, ParkingLot};
+use crate::tables::{EARLY, THREADS, TheConds, TwoTables, condition_of, open};
+use lot_park::ParkingLot;
 use lot_waits::{
     BeforeSweep, Ledger, OpenedConds, Room, WaitName, Waiter, has_waiters, notify_all,
     notify_all_after, notify_one, settle, wait_on,
@@ -21,8 +21,6 @@ use std::thread::Threads;
 
 // How often a thread asks for what is to come.
 const ASKINGS: u64 = 10_000_000;
-
-const EARLY: Moment = Moment { now: 0, word: 7 };
 
 // The thread is taken from the line before it sleeps, by a notification of the action before sleep: it does not sleep. Then nobody waits.
 fn notified_before_sleep<N: WaitName + Send + Sync, R: Wait + Abort>(
