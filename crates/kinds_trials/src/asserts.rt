@@ -2,6 +2,7 @@
 ghost use Rattle.std.specs.Prelude.{◌≡◌, true, false};
 
 use lot_locks::Released;
+use lot_park::Parked;
 use lot_permits::Freed;
 use std::process::Abort;
 
@@ -38,4 +39,11 @@ pub(crate) fn released_is(rt: &impl Abort, released: Released, wanted: Released)
     ensures { released ≡ wanted }
 {
     assert_eq!(rt; released, wanted);
+}
+
+/// The parking ended so, or the test fails.
+pub(crate) fn parked_is(rt: &impl Abort, parked: Parked, wanted: Parked)
+    ensures { parked ≡ wanted }
+{
+    assert_eq!(rt; parked, wanted);
 }

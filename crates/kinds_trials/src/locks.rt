@@ -4,11 +4,12 @@ ghost use Rattle.lot_words.specs.Shown.{pass_at, root_at};
 ghost use Rattle.lot_locks.specs.Standing.{MayTake, Wants};
 ghost use Rattle.kinds_trials.specs.OneLock.{HasNone, IsCalm, HasIt};
 
-use crate::asserts::{count_is, is_not, is_so, released_is};
+use crate::asserts::{count_is, is_not, is_so, parked_is, released_is};
 use crate::tables::{EARLY, THREADS};
-use lot_locks::{BeforeSleep, KeyRoot, LockScheme, NamedPass, Released, let_go, park};
-use lot_park::ParkingLot;
+use lot_locks::{KeyRoot, LockScheme, NamedPass, Released, let_go};
 use lot_park::parts::Whole;
+use lot_park::seeking::park;
+use lot_park::{BeforeSleep, Parked, ParkingLot};
 use lot_words::{Keeps, LockPass, LockRoot, LockWords, Name};
 use std::alloc::Global;
 use std::marker::Brand;
@@ -115,7 +116,7 @@ fn park_in_vain<N: Name + Send, R: Wait + Abort>(
     ensures { HasNone pass.thread result × Wants result 0 }
 {
     let scheme = lot.scheme();
-    let (pass, handed) = park::<OneLock<N>, Nothing, N, Whole, R, Never<'_, R>>(
+    let (pass, parked) = park::<OneLock<N>, OneLock<N>, Whole, R, Never<'_, R>>(
         rt,
         lot,
         scheme,
@@ -123,7 +124,7 @@ fn park_in_vain<N: Name + Send, R: Wait + Abort>(
         0,
         &Never { rt },
     );
-    is_not(rt, handed);
+    parked_is(rt, parked, Parked::Invalid);
     pass
 }
 

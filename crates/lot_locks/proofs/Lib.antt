@@ -1,3 +1,4 @@
 pub mod Noted
 pub mod Freed
 pub mod Waking
+pub mod Seeking

@@ -19,7 +19,7 @@ module _ {V Part : Type 0} (keeps : ℕ → V → Type 0) (grows : V → V → T
   collected p q token a = subst (λ z. IsCollected keeps grows part z token q) (same_in_vain a.looks p a.last a.in_vain) a.found
 
   -- of the same lock, thread and knowledge the same was found
-  found_as : (l k t u : ℕ) (p q : LockPassView V) (x : V) → l ≡ k → t ≡ u → p.seen ≡ q.seen → FoundOk keeps grows part l t p x → FoundOk keeps grows part k u q x
+  pub found_as : (l k t u : ℕ) (p q : LockPassView V) (x : V) → l ≡ k → t ≡ u → p.seen ≡ q.seen → FoundOk keeps grows part l t p x → FoundOk keeps grows part k u q x
   found_as l k t u p q x e f g h =
       let at : FoundOk keeps grows part k u p x = subst (λ n. FoundOk keeps grows part n u p x) e (subst (λ n. FoundOk keeps grows part l n p x) f h) in
       record {

@@ -1,9 +1,11 @@
 -- What an unlock may answer, and what its answer comes from; and how the last one of a thread ended, as the entries tell that were made with
 -- its pass.
-use Rattle.std.specs.Prelude.{◌≡◌, ℕ, ◌<◌, Bool, true, false, List, Option, Some, None}
+use Rattle.std.specs.Prelude.{◌≡◌, ℕ, ◌<◌, ◌||◌, Bool, true, false, List, drop, Option, Some, None}
 use Rattle.std.specs.List.{fold}
 use Rattle.lot_core.specs.declared.events.Event.TheVariants.{Free, Pass as Passes}
 use Rattle.lot_core.specs.declared.events.Seen.TheVariants.{Bool as Saw, Sleeper}
+use Rattle.lot_bucket.specs.declared.taking.Dequeued.{Dequeued}
+use Rattle.lot_park.specs.Parking.{debt}
 use Rattle.lot_rights.specs.declared.views.Access.{Access}
 use Rattle.lot_rights.specs.declared.views.Access.TheVariants.{Makes}
 use Rattle.lot_rights.specs.declared.views.Entry.{Entry}
@@ -22,6 +24,15 @@ token_told Quiet = 0
 token_told Nobody = 0
 token_told Woke = 0
 token_told Handed = 1
+
+-- What the callback of an unlock does, which is told of the first of the line: it takes that thread from the line, decides what becomes of
+-- the lock, and owes the thread a letter that tells it.
+pub record HandsOver {R : Type 0} (key : R → ℕ) (line : R → List ℕ) (owes : R → List (ℕ × ℕ)) (root : R) (told : Dequeued) (fair : Bool) (root_now : R) (became : Released) (token : ℕ) : Type 0 where
+  pub named : key root_now ≡ key root
+  pub lined : line root_now ≡ drop 1 (line root)
+  pub decided : became ≡ decision told.thread (fair || told.fair)
+  pub tells : token ≡ token_told became
+  pub owing : owes root_now ≡ debt told.thread token
 
 -- a fair release leaves no lock to whoever comes first, and a release that is not asked to be fair hands over only after
 -- the moment 0

@@ -9,6 +9,8 @@ use Rattle.lot_words.specs.declared.views.Place.TheVariants.{InSlot}
 use Rattle.lot_words.specs.World.{Holds, HoldsParked}
 use Rattle.lot_words.specs.Values.{IsIn, FoundOk}
 use Rattle.lot_words.specs.Calls.{Aims, gripped, woken, placed}
+use Rattle.lot_park.specs.declared.seeking.Seeking.{Seeking}
+use Rattle.lot_park.specs.declared.seeking.Seeking.TheVariants.{Got, Waits, Parks, Tries}
 use Rattle.lot_locks.specs.declared.released.Released.{Released}
 use Rattle.lot_locks.specs.Released.{released_in}
 
@@ -100,6 +102,13 @@ module _ {V Part : Type 0} (keeps : ℕ → V → Type 0) (grows : V → V → T
     pub places : after.own.places ≡ slice_set before.own.places key (InSlot value)
     pub seen : after.own.seen ≡ slice_set before.own.seen key value
     pub released : after.released ≡ before.released
+
+  -- how far a thread is that seeks the lock, and that stood so before
+  abbrev pub Seeks : Standing V → ℕ → Seeking → Standing V → Type 0
+  Seeks before key Got now = IsOwner before key now
+  Seeks before key Waits now = IsAwakeFor before key now
+  Seeks before key Parks now = IsTryingFor before key now
+  Seeks before key Tries now = IsAwakeFor before key now
 
   -- a letter was collected: with token 0 the thread may try again, and with token 1 it has the lock that it wanted
   abbrev pub IsCollected : Standing V → ℕ → Standing V → Type 0

@@ -1,12 +1,11 @@
 //! Getting a lock, as WTF's `Lock::lock` does: one compare-exchange, a few yields, and then the line.
-ghost use Rattle.std.specs.Prelude.{◌≡◌, ℕ, ◌<◌, ◌≤◌, true, false, MatchBool, [], ◌∷◌, ◌++◌, None};
-ghost use Rattle.lot_locks.specs.Standing.{Wants, MayTake, IsTryingFor, IsAwakeFor, IsOwner};
-ghost use Rattle.lot_park.specs.Parking.{Ends, Awaited};
+ghost use Rattle.std.specs.Prelude.{◌≡◌, ◌<◌, false, MatchBool, None};
+ghost use Rattle.lot_locks.specs.Standing.{Wants, MayTake, IsTryingFor, IsOwner};
 
-use crate::scheme::{LockScheme, NamedPass};
-use crate::steps::{HANDOFF, LockSteps};
-use lot_park::parts::{Part, park_on};
-use lot_park::{Parked, ParkingLot, Scheme, Spins};
+use crate::scheme::{KeyRoot, LockScheme, NamedPass};
+use crate::steps::HANDOFF;
+use lot_park::parts::Part;
+use lot_park::{BeforeSleep, ParkingLot, Scheme, Seeking, Sought, Token, get_or_park};
 use lot_words::{Keeps, Name};
 use std::sync::Wait;
 
@@ -16,24 +15,12 @@ const HELD: u64 = 1;
 /// The bit of a lock word that says that somebody may wait in its line.
 const PARKED: u64 = 2;
 
-/// What a thread does that was queued, before it sleeps. No bucket is locked then.
-pub trait BeforeSleep {
-    fn run(&self);
-}
-
 impl<V: Keeps, N: Name> LockScheme<V, N> {
     /// Whether somebody owns the lock at some moment of this call.
     pub fn is_held(&self, key: usize) -> bool
         requires { key < self.now.size.locks }
     {
         self.words().bits(key) & HELD != 0
-    }
-
-    /// Whether the lock is marked as parked at some moment of this call.
-    pub fn is_parked(&self, key: usize) -> bool
-        requires { key < self.now.size.locks }
-    {
-        self.words().bits(key) & PARKED != 0
     }
 
     /// Takes the lock where nobody owns it and nobody is marked as parked. Else all is as it was.
@@ -57,18 +44,6 @@ impl<V: Keeps, N: Name> LockScheme<V, N> {
     {
         let (pass, got) = self.words().take(pass.into_pass(), key);
         (NamedPass::new(pass), got)
-    }
-
-    /// The same where a look says that nobody owns it: a word that is held is not written.
-    fn take_unheld(&self, pass: NamedPass<V, N>, key: usize) -> (NamedPass<V, N>, bool)
-        requires key { key < self.now.size.locks }
-        requires may { MayTake pass key }
-        ensures { MatchBool result.1 (IsOwner V.keeps V.grows V.part pass key result.0) (IsAwakeFor pass key result.0) }
-    {
-        if self.is_held(key) {
-            return (pass, false);
-        }
-        self.take(pass, key)
     }
 
     /// Takes the lock where nobody owns it: at once where nobody is marked as parked, else past the sleepers.
@@ -99,10 +74,71 @@ impl<V: Keeps, N: Name> LockScheme<V, N> {
     }
 }
 
-/// Gets a lock that was found held or parked. It waits before it looks: a look takes the word's line from its owner. Before each sleep
-/// it does what `before` says.
+impl<V: Keeps + Send, N: Name + Send> Sought for LockScheme<V, N> {
+    ghost use Rattle.std.specs.Prelude.{◌<◌};
+    ghost use Rattle.lot_locks.specs.Standing.{IsAsleepFor, Seeks};
+
+    ghost has = { λ s key. key < s.size.locks };
+
+    ghost seeks = { Seeks V.keeps V.grows V.part };
+
+    ghost sleeps = { IsAsleepFor };
+
+    fn is_parked(&self, key: usize) -> bool {
+        self.words().bits(key) & PARKED != 0
+    }
+
+    /// A word that is held is not written.
+    fn take_again(&self, pass: NamedPass<V, N>, key: usize) -> (NamedPass<V, N>, Seeking) {
+        if self.is_held(key) {
+            return (pass, Seeking::Waits);
+        }
+        let (pass, got) = self.take(pass, key);
+        let now = if got { Seeking::Got } else { Seeking::Waits };
+        (pass, now)
+    }
+
+    /// It takes the lock where nobody owns it by now.
+    fn line_up(
+        &self,
+        pass: NamedPass<V, N>,
+        key: usize,
+        is_parked: bool,
+    ) -> (NamedPass<V, N>, Seeking) {
+        let (pass, got) = self.take(pass, key);
+        if got {
+            return (pass, Seeking::Got);
+        }
+        if is_parked {
+            return (pass, Seeking::Parks);
+        }
+        let (pass, marked) = self.mark(pass, key);
+        let now = if marked {
+            Seeking::Parks
+        } else {
+            Seeking::Tries
+        };
+        (pass, now)
+    }
+
+    fn queue(
+        &self,
+        pass: NamedPass<V, N>,
+        root: KeyRoot<V, N>,
+    ) -> (NamedPass<V, N>, KeyRoot<V, N>, bool) {
+        let (pass, root, queued) = self.words().park(pass.into_pass(), root.into_root());
+        (NamedPass::new(pass), KeyRoot::new(root), queued)
+    }
+
+    fn is_handed(token: Token) -> bool {
+        token == HANDOFF
+    }
+}
+
+/// Gets a lock that was found held or parked. It waits before it looks, and before each sleep it does what `before` says.
 #[cold]
 #[inline(never)]
+#[tactic(auto, using(crate::proofs::Seeking::laws))]
 pub fn get_slowly<S, V, N, P, R: Wait, B: BeforeSleep>(
     rt: &R,
     parking: &ParkingLot<S>,
@@ -122,155 +158,13 @@ where
     requires may { MayTake pass key }
     ensures { IsOwner V.keeps V.grows V.part pass key result }
 {
-    let mut pass = pass;
-    let mut spins = Spins::none();
-    for _ in rt.forever() {
-        let (waited, got) = wait_for::<S, V, N, P, R, B>(
-            rt, parking, scheme, pass, key, &mut spins, before,
-        );
-        if got {
-            return waited;
-        }
-        let (tried, got) = scheme.take_unheld(waited, key);
-        if got {
-            return tried;
-        }
-        pass = tried;
-    }
-    unreachable!()
-}
-
-/// Yields some times, the first time without a look, and from then on where the lock is unparked and this call has yields left; else
-/// sleeps in the lock's line. Answers whether the lock was got meanwhile; else the caller tries again.
-fn wait_for<S, V, N, P, R: Wait, B: BeforeSleep>(
-    rt: &R,
-    parking: &ParkingLot<S>,
-    scheme: &LockScheme<V, N>,
-    pass: NamedPass<V, N>,
-    key: usize,
-    spins: &mut Spins,
-    before: &B,
-) -> (NamedPass<V, N>, bool)
-where
-    S: Scheme,
-    V: Keeps + Send,
-    N: Name + Send,
-    P: Part<S, LockScheme<V, N>>,
-    requires key { (key < scheme.now.size.locks) × (key < parking.now.keys) }
-    requires serves { P.serves key }
-    requires thread { pass.thread < parking.now.threads }
-    requires may { MayTake pass key }
-    ensures { MatchBool result.1 (IsOwner V.keeps V.grows V.part pass key result.0) (IsAwakeFor pass key result.0) }
-{
-    let is_parked = spins.has_begun() && scheme.is_parked(key);
-    if !is_parked && spins.has_more() {
-        spins.back_off();
-        return (pass, false);
-    }
-    let (pass, got) = scheme.take(pass, key);
-    if got {
-        return (pass, true);
-    }
-    sleep_in_line::<S, V, N, P, R, B>(rt, parking, scheme, pass, key, is_parked, before)
-}
-
-/// Marks the lock as parked where it was not seen so, and sleeps in its line. Answers whether it was handed over.
-fn sleep_in_line<S, V, N, P, R: Wait, B: BeforeSleep>(
-    rt: &R,
-    parking: &ParkingLot<S>,
-    scheme: &LockScheme<V, N>,
-    pass: NamedPass<V, N>,
-    key: usize,
-    is_parked: bool,
-    before: &B,
-) -> (NamedPass<V, N>, bool)
-where
-    S: Scheme,
-    V: Keeps + Send,
-    N: Name + Send,
-    P: Part<S, LockScheme<V, N>>,
-    requires key { (key < scheme.now.size.locks) × (key < parking.now.keys) }
-    requires serves { P.serves key }
-    requires thread { pass.thread < parking.now.threads }
-    requires trying { Wants pass key }
-    ensures { MatchBool result.1 (IsOwner V.keeps V.grows V.part pass key result.0) (IsTryingFor pass key result.0) }
-{
-    if is_parked {
-        return park::<S, V, N, P, R, B>(rt, parking, scheme, pass, key, before);
-    }
-    let (pass, marked) = scheme.mark(pass, key);
-    if marked {
-        park::<S, V, N, P, R, B>(rt, parking, scheme, pass, key, before)
-    } else {
-        (pass, false)
-    }
-}
-
-/// Sleeps in the line of the lock while it is held and parked, and answers whether the lock was handed over.
-pub fn park<S, V, N, P, R: Wait, B: BeforeSleep>(
-    rt: &R,
-    parking: &ParkingLot<S>,
-    scheme: &LockScheme<V, N>,
-    pass: NamedPass<V, N>,
-    key: usize,
-    before: &B,
-) -> (NamedPass<V, N>, bool)
-where
-    S: Scheme,
-    V: Keeps + Send,
-    N: Name + Send,
-    P: Part<S, LockScheme<V, N>>,
-    requires thread { pass.thread < parking.now.threads }
-    requires key { key < parking.now.keys }
-    requires serves { P.serves key }
-    requires trying { Wants pass key }
-    ensures { MatchBool result.1 (IsOwner V.keeps V.grows V.part pass key result.0) (IsTryingFor pass key result.0) }
-{
-    let (pass, parked) = sleep::<S, LockScheme<V, N>, P, R, B>(
-        rt, parking, scheme, pass, key, before,
-    );
-    match parked {
-        Parked::Invalid => (pass, false),
-        Parked::Woken(token) => (pass, token == HANDOFF),
-    }
-}
-
-/// Parks with the validation of a lock.
-fn sleep<S: Scheme, A: LockSteps, P: Part<S, A>, R: Wait, B: BeforeSleep>(
-    rt: &R,
-    parking: &ParkingLot<S>,
-    scheme: &A,
-    pass: A::Pass,
-    key: usize,
-    before: &B,
-) -> (A::Pass, Parked)
-    requires thread { A.thread pass < parking.now.threads }
-    requires key { key < parking.now.keys }
-    requires serves { P.serves key }
-    requires trying { A.wants pass key }
-    ensures { Ends result.1 (A.tries pass key result.0) (λ token. (mid : A.Pass) × A.sleeps pass key mid × Awaited A.looked mid token result.0) }
-{
-    let (pass, (), parked) = park_on::<S, A, P, R, (), _, _>(
+    get_or_park::<S, LockScheme<V, N>, P, R, B>(
         rt,
         parking,
+        scheme,
         pass,
         key,
-        (),
-        |x: (), pass: A::Pass, root: A::Root| -> ((), A::Pass, A::Root, bool)
-            requires { A.wants pass (A.Root.key root) }
-            ensures pass { MatchBool result.3 (A.sleeps pass (A.Root.key root) result.1) (A.tries pass (A.Root.key root) result.1) }
-            ensures thread { A.thread result.1 ≡ A.thread pass }
-            ensures key { A.Root.key result.2 ≡ A.Root.key root }
-            ensures owes { A.Root.owes result.2 ≡ A.Root.owes root }
-            ensures root { MatchBool result.3 (A.Root.line result.2 ≡ A.Root.line root ++ A.thread pass ∷ []) (result.2 ≡ root) }
-        {
-            let (pass, root, queued) = scheme.queue(pass, root);
-            (x, pass, root, queued)
-        },
-        |x: ()| -> () {
-            before.run();
-            x
-        },
-    );
-    (pass, parked)
+        Seeking::Waits,
+        before,
+    )
 }

@@ -21,7 +21,7 @@ pub mod scheme;
 pub mod steps;
 mod values;
 
-pub use getting::{BeforeSleep, get_slowly, park};
+pub use getting::get_slowly;
 pub use released::Released;
 pub use releasing::{let_go, unpark_asking};
 pub use scheme::{KeyRoot, LockScheme, NamedPass};

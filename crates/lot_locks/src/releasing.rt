@@ -1,10 +1,10 @@
 //! Letting a lock go, as WTF's `Lock::unlock` does: one compare-exchange where nobody waits, else one sleeper is taken from
 //! the line, and the lock is handed to it or left to whoever comes first.
-ghost use Rattle.std.specs.Prelude.{◌≡◌, ℕ, ◌<◌, false, MatchBool, [], drop, ◌||◌};
+ghost use Rattle.std.specs.Prelude.{◌≡◌, ℕ, ◌<◌, false, MatchBool, []};
 ghost use Rattle.lot_locks.specs.Standing.{MayLetGo, LetsGo, IsFoundParked};
-ghost use Rattle.lot_locks.specs.Released.{IsFitting, decision};
+ghost use Rattle.lot_locks.specs.Released.{IsFitting, HandsOver};
 ghost use Rattle.lot_locks.specs.declared.released.Released.TheVariants.{Quiet};
-ghost use Rattle.lot_park.specs.Parking.{Tells, debt};
+ghost use Rattle.lot_park.specs.Parking.{Tells};
 
 use crate::released::Released;
 use crate::scheme::{LockScheme, NamedPass};
@@ -111,10 +111,7 @@ fn unpark<S: Scheme, A: LockSteps, P: Part<S, A>, R: Wait>(
             requires clear { A.Root.owes root ≡ [] }
             requires told { (now : ℕ) × Tells (A.Root.line root) now told }
             ensures went { A.lets_go x.0 (A.Root.key root) result.0.1 result.0.0 }
-            ensures key { A.Root.key result.1 ≡ A.Root.key root }
-            ensures line { A.Root.line result.1 ≡ drop 1 (A.Root.line root) }
-            ensures decided { result.0.1 ≡ decision told.thread (fair || told.fair) }
-            ensures owes { A.Root.owes result.1 ≡ debt told.thread result.2.0 }
+            ensures hands { HandsOver A.Root.key A.Root.line A.Root.owes root told fair result.1 result.0.1 result.2.0 }
         {
             let (pass, root, token, released) = scheme.hand_over(x.0, root, told, fair);
             ((pass, released), root, token)

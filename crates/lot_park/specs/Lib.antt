@@ -1,3 +1,4 @@
 pub mod Parking
 pub mod Lots
 pub mod Parts
+pub mod Seeking

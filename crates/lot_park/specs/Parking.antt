@@ -1,6 +1,6 @@
 -- What the callbacks of the parking lot are told, and what is asked of them. Of a root three things are
 -- known, by functions: its key, its line, and the letters that it owes, as pairs of thread and token.
-use Rattle.std.specs.Prelude.{◌≡◌, ℕ, zero, suc, ◌<◌, ◌≤◌, ◌==◌, ◌&&◌, cond, min, Bool, true, false, List, [], ◌∷◌, ◌++◌, take, drop, length, Option, Some, None, IsSome}
+use Rattle.std.specs.Prelude.{◌≡◌, ℕ, zero, suc, ◌<◌, ◌≤◌, ◌==◌, ◌&&◌, cond, min, Bool, true, false, List, [], ◌∷◌, ◌++◌, take, drop, length, Option, Some, None, IsSome, MatchBool}
 use Rattle.lot_bucket.specs.Queue.{first_of}
 use Rattle.lot_bucket.specs.Places.{has_key}
 use Rattle.lot_bucket.specs.Contents.{Contents}
@@ -87,6 +87,13 @@ module _ {R : Type 0} (key : R → ℕ) (line : R → List ℕ) (owes : R → Li
       (root : R) (answer : X × P × R × Bool) → key root ≡ k → owes root ≡ [] → answers root answer
       → (thread answer.1 ≡ caller) × (key answer.2 ≡ k) × (owes answer.2 ≡ [])
       × (answer.3 ≡ true → line answer.2 ≡ line root ++ caller ∷ []) × (answer.3 ≡ false → answer.2 ≡ root)
+
+  -- A validation queued the thread, last in the line; or it did not, and the root is as it was.
+  pub record Queues {P : Type 0} (thread : P → ℕ) (pass : P) (root : R) (queued : Bool) (pass_now : P) (root_now : R) : Type 0 where
+    pub caller : thread pass_now ≡ thread pass
+    pub named : key root_now ≡ key root
+    pub owing : owes root_now ≡ owes root
+    pub lined : MatchBool queued (line root_now ≡ line root ++ thread pass ∷ []) (root_now ≡ root)
 
   -- The callback of an unparking of all may be called with the key's root and how many were taken.
   abbrev pub MayUnparkAll : ℕ → (R → ℕ → Type 0) → Type 0

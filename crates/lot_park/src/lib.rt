@@ -16,7 +16,7 @@
 //! look for a letter does, also one that finds none, the scheme says (`looked`), and a parking's contract
 //! chains the looks (`Awaited`).
 //!
-//! Whoever wants a lock or a permit yields some times before it parks: `Spins` counts them.
+//! Whoever seeks a lock or a permit gets it by `get_or_park`: it yields up to 40 times, and then parks.
 //!
 //! Several tables of rights share one lot by `parts`, each with its own keys, letters and passes.
 #![tactic(auto)]
@@ -29,6 +29,7 @@ pub mod lot;
 mod parking;
 pub mod parts;
 pub mod scheme;
+pub mod seeking;
 mod spins;
 mod taken;
 
@@ -36,5 +37,5 @@ pub use lot::{ParkFault, Parked, ParkingLot};
 pub use lot_bucket::{Dequeued as UnparkResult, Moment, Root};
 pub use lot_table::{Grown, TableFault};
 pub use scheme::{Scheme, Token};
-pub use spins::Spins;
+pub use seeking::{AtOnce, BeforeSleep, Seeking, Sought, get_or_park};
 pub use taken::MOST_THREADS;

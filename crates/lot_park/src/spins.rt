@@ -10,38 +10,37 @@ const MOST_SPINS: u32 = 40;
 /// How often it yields before it looks at the word again: each look takes the word's line of the cache from its owner.
 const YIELDS: u32 = 8;
 
-/// How often one call has yielded so far, at most 40 times. Whoever wants a lock or a permit yields while `has_more`, and looks between
-/// two times at what it waits for; then it parks.
+/// How often one call has yielded so far, at most 40 times.
 #[derive(Clone, Copy)]
-pub struct Spins {
+pub(crate) struct Spins {
     made: u32,
     ghost few: { made ≤ MOST_SPINS },
 }
 
 impl Spins {
     /// It has not yielded.
-    pub fn none() -> Spins
+    pub(crate) fn none() -> Spins
         ensures { result.made ≡ 0 }
     {
         Spins { made: 0 }
     }
 
     /// Whether it has yielded: before that, a look comes too early.
-    pub fn has_begun(self) -> bool
+    pub(crate) fn has_begun(self) -> bool
         ensures { IsTrue result ↔ (0 < self.made) }
     {
         self.made > 0
     }
 
     /// Whether it may yield again.
-    pub fn has_more(self) -> bool
+    pub(crate) fn has_more(self) -> bool
         ensures { IsTrue result ↔ (self.made < MOST_SPINS) }
     {
         self.made < MOST_SPINS
     }
 
     /// Yields until it is time to look again.
-    pub fn back_off(&mut self)
+    pub(crate) fn back_off(&mut self)
         requires { self.old.made < MOST_SPINS }
         ensures { self.old.made < self.new.made }
     {

@@ -7,7 +7,9 @@ use Rattle.lot_sems.specs.declared.taking.Taken.TheVariants.{Got, Empty, Busy}
 use Rattle.lot_sems.specs.declared.views.SemPassView.{SemPassView}
 use Rattle.lot_sems.specs.declared.views.SemRootView.{SemRootView}
 use Rattle.lot_sems.specs.World.{Numbers}
-use Rattle.lot_sems.specs.Calls.{IsCalm, seeking, got, gave, woken, parked_pass}
+use Rattle.lot_sems.specs.Calls.{IsCalm, IsSeeking, MayTake, seeking, got, gave, woken, parked_pass}
+use Rattle.lot_park.specs.declared.seeking.Seeking.{Seeking}
+use Rattle.lot_park.specs.declared.seeking.Seeking.TheVariants.{Got as HasGot, Waits, Parks, Tries}
 use Rattle.lot_permits.specs.declared.permit.Freed.{Freed}
 use Rattle.lot_permits.specs.Freed.{freed_in}
 
@@ -73,3 +75,27 @@ with_root r own = record r { root = record r.root { own = own } }
 -- a table whose first semaphore has this number, and whose semaphores opened with these permits
 abbrev pub HasSems : Numbers → ℕ → List ℕ → Type 0
 HasSems size low permits = (size.low ≡ low) × (size.permits ≡ permits)
+
+-- ---- seeking a permit
+-- how far a thread is after such a try
+abbrev pub after_try : Taken → Seeking
+after_try Got = HasGot
+after_try Empty = Waits
+after_try Busy = Tries
+
+-- the thread, which stands so now, and with a permit as it would have stood with it before
+pub record IsOnItsWay (stands : SemPassView → ℕ → Type 0) (before : SemStanding) (k : ℕ) (now : SemStanding) : Type 0 where
+  pub thread : now.thread ≡ before.thread
+  pub does : stands now.own k
+  pub gets : getting now k ≡ getting before k
+
+-- how far a thread is that seeks a permit of k, and that stood so before
+abbrev pub Seeks : SemStanding → ℕ → Seeking → SemStanding → Type 0
+Seeks before k HasGot now = now ≡ getting before k
+Seeks before k Waits now = IsOnItsWay IsSeeking before k now
+Seeks before k Parks now = IsOnItsWay IsSeeking before k now
+Seeks before k Tries now = IsOnItsWay MayTake before k now
+
+-- the thread, which seeks a permit of k, asleep in its line
+abbrev pub SleepsFor : SemStanding → ℕ → SemStanding → Type 0
+SleepsFor before k asleep = IsSeeking before.own k × (asleep ≡ queueing before true)

@@ -10,17 +10,10 @@ use crate::lot::Lot;
 use crate::pass::{LotName, Pass};
 use crate::tables::{Locks, LotScheme};
 use lot_kinds::Rights;
-use lot_locks::{BeforeSleep, NamedPass, get_slowly};
+use lot_locks::{NamedPass, get_slowly};
+use lot_park::{AtOnce, BeforeSleep};
 use lot_words::Keeps;
 use std::sync::Wait;
-
-/// Nothing: `lock` and `wait` go on at once.
-pub(crate) struct AtOnce;
-
-impl BeforeSleep for AtOnce {
-    #[inline(always)]
-    fn run(&self) {}
-}
 
 impl<V: Keeps + Send, N: LotName<V> + Send> Lot<V, N> {
     /// Gets the lock where nobody owns it, and else leaves all as it was. Where nobody owns it and nobody is parked, it is one

@@ -8,7 +8,7 @@ use crate::pool::Pool;
 use crate::tables::LotScheme;
 use lot_kinds::Rights;
 use lot_locks::{LockScheme, NamedPass};
-use lot_park::ParkingLot;
+use lot_park::{ParkingLot, Sought};
 use lot_words::Keeps;
 use std::marker::Model;
 use std::sync::{Mutex, Wait};

@@ -9,14 +9,13 @@ ghost use Rattle.lot_sync.specs.Values.{MayGiveBack, WaitsAndGets};
 ghost use Rattle.lot_locks.specs.declared.released.Released.{Released};
 
 use crate::held::Held;
-use crate::lock::AtOnce;
 use crate::lot::Lot;
 use crate::pass::{LotName, Pass};
 use crate::tables::{Conds, Locks, LotScheme};
 use lot_kinds::Rights;
-use lot_locks::{BeforeSleep, LockScheme, LockSteps, let_go};
+use lot_locks::{LockScheme, LockSteps, let_go};
 use lot_park::parts::Part;
-use lot_park::{Moment, ParkingLot, Scheme};
+use lot_park::{AtOnce, BeforeSleep, Moment, ParkingLot, Scheme};
 use lot_waits::{CondScheme, WaitName, Waiter, wait_on};
 use lot_words::Keeps;
 use std::sync::Wait;
