@@ -7,25 +7,12 @@
 //!   so many nanoseconds and stays outside for so many.
 //! - `lotbench start THREADS LOCKS`: a lot is opened and started, all its threads register, and it is closed.
 //!
-//! Without words it prints nothing. It stands on the public calls of `lot_sync` alone; `lot_load` starts and
-//! ends its lots, and `lot_command` reads its numbers and tells what came of them.
+//! Without words it prints nothing. It stands on `lot_measure`, which does the work, and on `lot_command`, which reads the words and tells
+//! what came of them.
 #![tactic(auto)]
 
-mod clock;
-mod command;
-mod crew;
-mod meeting;
-mod plan;
-mod relay;
-mod rounds;
-mod summary;
-#[cfg(test)]
-mod tests;
-mod times;
-mod value;
-
-use command::run_command;
 use lot_command::{Failure, report, words};
+use lot_measure::run_command;
 use std::process::ExitCode;
 
 fn main(rt: HostRuntime) -> ExitCode {

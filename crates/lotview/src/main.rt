@@ -1,21 +1,11 @@
 //! `lotview FILE` runs a script of events through the proved model and draws the run, as SVG on standard output: a lane
 //! for each thread, a column for each event.
 //!
-//! It stands on `lot_core` (the model) and `lot_command` (the command line). Every event is made there; what is drawn is derived from what its thread saw.
+//! It stands on `lot_draw`, which makes the picture, and on `lot_command`, which reads the words and tells what came of them.
 #![tactic(auto)]
 
-mod command;
-mod drawing;
-mod labels;
-mod layout;
-mod marks;
-mod replay;
-mod run;
-#[cfg(test)]
-mod tests;
-
-use command::run_command;
 use lot_command::{Failure, report, words};
+use lot_draw::run_command;
 use std::alloc::Global;
 use std::fs::File;
 use std::process::ExitCode;
