@@ -31,6 +31,7 @@ pub struct Summary {
 }
 
 impl Summary {
+    /// What the threads have done together, in a lot that was opened and closed at these moments.
     pub fn new(
         alloc: Global,
         done: Vec<Option<Done>>,
