@@ -1,7 +1,7 @@
 //! A lot: locks that guard values, and the passes of its threads.
 ghost use Rattle.std.specs.Prelude.{◌≡◌, ℕ, ◌+◌, ◌<◌, ◌≤◌, List, length};
 ghost use Rattle.lot_sync.specs.Lot.{IsWide};
-ghost use Rattle.lot_sync.specs.Passes.{IsAtRest, AreRightsOf, sees};
+ghost use Rattle.lot_sync.specs.Passes.{IsAtRest, IsLot, AreRightsOf, sees};
 
 use crate::pass::{LotName, Pass};
 use crate::pool::Pool;
@@ -36,6 +36,28 @@ impl<V: Keeps + Send, N: LotName<V> + Send> Model for Lot<V, N> {
 }
 
 impl<V: Keeps + Send, N: LotName<V> + Send> Lot<V, N> {
+    /// A lot of these tables, with all passes in the pool.
+    pub(crate) fn of(
+        parking: ParkingLot<LotScheme<V, N>>,
+        pool: Pool<V, N>,
+        threads: usize,
+        locks: usize,
+        conds: usize,
+        sems: usize,
+    ) -> Lot<V, N>
+        requires lot { IsLot (record { opening = N.opening; threads = N.threads; values = N.values; locks = N.locks; conds = N.conds; low = N.low; permits = N.permits }) threads locks conds sems parking }
+        ensures { result ≡ record { threads = threads; locks = locks; conds = conds; sems = sems } }
+    {
+        Lot {
+            parking,
+            pool: Mutex::new(pool),
+            threads,
+            locks,
+            conds,
+            sems,
+        }
+    }
+
     /// The table of the locks.
     #[inline(always)]
     pub(crate) fn lock_scheme(&self) -> &LockScheme<V, N>

@@ -18,12 +18,11 @@ use crate::pass::{LotName, Pass};
 use crate::pool::{ClosingRoom, Idle, Pool};
 use crate::tables::{LotRoot, LotScheme};
 use lot_kinds::{KindRoot, Rights, Room, settle};
-use lot_locks::{KeyRoot, LockScheme, NamedPass};
+use lot_locks::{KeyRoot, NamedPass};
 use lot_park::{ParkFault, ParkingLot};
 use lot_words::{Keeps, LockPass, LockRoot, LockWords};
 use std::alloc::{AllocError, Global};
 use std::snapshot::Snapshot;
-use std::sync::Mutex;
 
 /// The memory of a lot, before anything lies in it.
 struct Rooms<V: Keeps + Send, N: LotName<V> + Send> {
@@ -147,6 +146,37 @@ fn make_idle<V: Keeps + Send, N: LotName<V> + Send>(
     }
 }
 
+/// The pool of all passes, each with its thread's rights beside. The lists that are empty then are the room for closing.
+fn pool_of<V: Keeps + Send, N: LotName<V> + Send>(
+    mut passes: Vec<LockPass<V>>,
+    mut kinds: Vec<Rights<N>>,
+    mut idle: Vec<Idle<V, N>>,
+    named: Vec<LotRoot<V, N>>,
+    roots: Vec<LockRoot<V>>,
+    kind_roots: Vec<KindRoot<N>>,
+    room: lot_kinds::ClosingRoom<N>,
+) -> Pool<V, N>
+    requires idle { All (IsFresh V.grows N.opening.locks N.values N.threads) passes.items }
+    requires paired { ArePaired passes.items kinds.items }
+    requires long { (vec_len kinds ≡ vec_len passes) × (vec_len passes ≤ N.threads) }
+    requires none { All HoldsNone kinds.items }
+    requires empty { (vec_len idle ≡ 0) × (vec_len named ≡ 0) × (vec_len roots ≡ 0) × (vec_len kind_roots ≡ 0) }
+    requires for_rights { (N.threads ≤ vec_capacity idle) × (N.threads ≤ vec_capacity passes) × (N.threads ≤ vec_capacity kinds) }
+    requires for_roots { (length N.values + N.conds + length N.permits ≤ vec_capacity named) × (length N.values ≤ vec_capacity roots) × (N.conds + length N.permits ≤ vec_capacity kind_roots) }
+    requires for_kinds { (N.threads ≤ room.threads) × (room.conds ≡ N.conds) × (length N.permits ≤ room.sems) }
+{
+    fill(&mut passes, &mut kinds, &mut idle);
+    let room = ClosingRoom {
+        passes,
+        kinds,
+        named,
+        roots,
+        kind_roots,
+        room,
+    };
+    Pool::new(idle, room)
+}
+
 /// Closes words whose locks nobody ever got: the values that they opened with come back.
 pub(crate) fn close_unused<V: Keeps + Send>(
     words: LockWords<V>,
@@ -210,55 +240,33 @@ fn started<V: Keeps + Send, N: LotName<V> + Send>(
 {
     let Opened {
         words,
-        mut passes,
+        passes,
         mut roots,
         kinds,
         threads,
         values,
     } = opened;
     let Rooms {
-        mut idle,
+        idle,
         mut named,
         kinds: room,
     } = rooms;
     let (locks, conds, sems) = (roots.len(), kinds.conds(), kinds.sems());
     name_roots(&mut roots, &mut named);
-    let (scheme, mut kinds, mut kind_roots, room) = kinds.name::<N>(room);
+    let (scheme, kinds, mut kind_roots, room) = kinds.name::<N>(room);
     add_roots(&mut kind_roots, &mut named);
-    match ParkingLot::open(
-        alloc,
-        threads,
-        named,
-        LotScheme::new(LockScheme::new(words), scheme),
-    ) {
+    match ParkingLot::open(alloc, threads, named, LotScheme::new(words, scheme)) {
         Ok((parking, named)) => {
-            fill(&mut passes, &mut kinds, &mut idle);
-            let room = ClosingRoom {
-                passes,
-                kinds,
-                named,
-                roots,
-                kind_roots,
-                room,
-            };
-            Ok(Lot {
-                parking,
-                pool: Mutex::new(Pool::new(idle, room)),
-                threads,
-                locks,
-                conds,
-                sems,
-            })
+            let pool = pool_of(passes, kinds, idle, named, roots, kind_roots, room);
+            Ok(Lot::of(parking, pool, threads, locks, conds, sems))
         }
         Err((ParkFault::NoMemory, named, scheme)) => {
             idle.destroy_empty();
             unname_roots(named, &mut roots, &mut kind_roots);
             let (words, scheme) = scheme.apart();
             let _nothing = settle(scheme, kinds, kind_roots, room);
-            Err((
-                OpenFault::NoMemory,
-                close_unused(words.into_words(), passes, roots, values),
-            ))
+            let values = close_unused(words.into_words(), passes, roots, values);
+            Err((OpenFault::NoMemory, values))
         }
     }
 }

@@ -15,7 +15,7 @@ use lot_park::parts::{Border, Both, EitherRoot, OfFirst, OfSecond, OneOf, Part, 
 use lot_park::{Root, Scheme, Token};
 use lot_permits::{NamedSem, SemScheme};
 use lot_waits::{CondScheme, NamedCond};
-use lot_words::Keeps;
+use lot_words::{Keeps, LockWords};
 use std::marker::{Model, PhantomData};
 use std::sync::Mutex;
 
@@ -103,11 +103,13 @@ impl<V: Keeps + Send, N: LotName<V> + Send> Model for LotScheme<V, N> {
 }
 
 impl<V: Keeps + Send, N: LotName<V> + Send> LotScheme<V, N> {
-    pub(crate) fn new(locks: LockScheme<V, N>, kinds: KindScheme<N>) -> LotScheme<V, N>
-        ensures { result ≡ record { first = locks; second = kinds } }
+    /// The words of the locks get the lot's name here; the kinds have it.
+    pub(crate) fn new(words: LockWords<V>, kinds: KindScheme<N>) -> LotScheme<V, N>
+        requires { words.table ≡ N.opening.locks }
+        ensures { result ≡ record { first = words; second = kinds } }
     {
         LotScheme {
-            joined: Both::new(locks, kinds),
+            joined: Both::new(LockScheme::new(words), kinds),
         }
     }
 

@@ -56,8 +56,8 @@ open-requires-clause-idle g c κs within =
     (c.add_roots.ensures.same ∙ ap (λ (rs : List LotRootShown). rs ++ map Second c.name-scheme.result.2.items) c.name_roots.ensures.same) at)) in
     λ i root at. let e = (idle i root at) in record { named = e.named; same_line = e.empty; paid = e.paid }
 
-pub fill-requires-clause-idle : goal.fill-requires-clause-idle
-fill-requires-clause-idle g c κs within =
+pub pool_of-pool-requires-clause-idle : goal.pool_of-pool-requires-clause-idle
+pool_of-pool-requires-clause-idle g c κs within =
     let named = rw (sym c.opened.view_is) at c.requires.named in
     fresh_named g.V.Keeps.grows c.opened.inside.words.table g.N.Name.opening.locks c.opened.inside.values.value.items g.N.LotName.values c.opened.inside.threads g.N.LotName.threads
     c.opened.inside.passes.items
@@ -65,21 +65,21 @@ fill-requires-clause-idle g c κs within =
     named.threads
     (passes_fresh g.V.Keeps.grows g.V.Keeps.grows_itself c.opened.inside.values.value.items c.opened.inside.threads c.opened.inside.words c.opened.inside.passes.items c.opened.invariant.0.unused)
 
-pub fill-requires-clause-paired : goal.fill-requires-clause-paired
-fill-requires-clause-paired g c κs within =
+pub pool_of-pool-requires-clause-paired : goal.pool_of-pool-requires-clause-paired
+pool_of-pool-requires-clause-paired g c κs within =
     passes_paired g.V.Keeps.grows g.V.Keeps.grows_itself c.opened.inside.values.value.items c.opened.inside.threads c.opened.inside.words c.opened.inside.passes.items c.opened.invariant.0.unused
     (g.N.WaitName.locks + g.N.WaitName.conds) (g.N.PermitName.low + length g.N.PermitName.permits) c.opened.inside.kinds.conds.threads c.name-scheme.result.1.items
     c.opened.invariant.1.same_threads c.name-scheme.ensures.rights
 
-pub fill-requires-clause-none : goal.fill-requires-clause-none
-fill-requires-clause-none g c κs within =
+pub pool_of-pool-requires-clause-none : goal.pool_of-pool-requires-clause-none
+pool_of-pool-requires-clause-none g c κs within =
     let long : length c.name-scheme.result.1.items ≡ c.opened.inside.kinds.conds.threads =
     (let n : length c.name-scheme.result.1.items ≡ vec_len c.name-scheme.result.1 = search rules in n ∙ c.name-scheme.ensures.counts.0) in
     none_held (g.N.WaitName.locks + g.N.WaitName.conds) (g.N.PermitName.low + length g.N.PermitName.permits) c.opened.inside.kinds.conds.threads c.name-scheme.result.1.items long
     c.name-scheme.ensures.rights
 
-pub invariant_of-result : goal.invariant_of-result
-invariant_of-result g c =
+pub of-requires-clause-lot : goal.of-requires-clause-lot
+of-requires-clause-lot g c κs within =
     let named = rw (sym c.opened.view_is) at c.requires.named in
     let roots_long : vec_len c.opened.inside.roots ≡ length g.N.LotName.values =
     (let n : vec_len c.opened.inside.roots ≡ length c.opened.inside.roots.items = search rules in n
@@ -89,9 +89,9 @@ invariant_of-result g c =
     (vec_len c.add_roots.new.named)
     roots_long (c.name-scheme.ensures.counts.1 ∙ kinds_are named) c.name_roots.ensures.long c.add_roots.ensures.long in
     let ok = c.in-Ok.ensures.ok in
-    let scheme = c.new-2.ensures in
+    let scheme = c.new.ensures in
     let words : c.in-Ok.parking.scheme.first ≡ c.opened.inside.words =
-    ap (λ (l : ParkingView LotSchemeShown). l.scheme.first) ok ∙ (ap (λ (t : LotSchemeShown). t.first) scheme ∙ c.new.ensures) in
+    ap (λ (l : ParkingView LotSchemeShown). l.scheme.first) ok ∙ ap (λ (t : LotSchemeShown). t.first) scheme in
     let kinds : c.in-Ok.parking.scheme.second ≡ c.name-scheme.result.0 =
     ap (λ (l : ParkingView LotSchemeShown). l.scheme.second) ok ∙ ap (λ (t : LotSchemeShown). t.second) scheme in
     record {
@@ -173,7 +173,7 @@ settle-nothing-requires-clause-room g c κs within =
 pub settle-nothing-requires-clause-threads : goal.settle-nothing-requires-clause-threads
 settle-nothing-requires-clause-threads g c κs within = λ t near.
     let scheme : c.apart-words.result.1 ≡ c.name-scheme.result.0 =
-    c.apart-words.ensures.1 ∙ (ap (λ (s : LotSchemeShown). s.second) c.in-Err-NoMemory-default-default.ensures.err.1 ∙ ap (λ (s : LotSchemeShown). s.second) c.new-2.ensures) in
+    c.apart-words.ensures.1 ∙ (ap (λ (s : LotSchemeShown). s.second) c.in-Err-NoMemory-default-default.ensures.err.1 ∙ ap (λ (s : LotSchemeShown). s.second) c.new.ensures) in
     let long : length c.name-scheme.result.1.items ≡ c.opened.inside.kinds.conds.threads =
     (let n : length c.name-scheme.result.1.items ≡ vec_len c.name-scheme.result.1 = search rules in n ∙ c.name-scheme.ensures.counts.0) in
     some_by_place (λ (q : RightsView). q.thread ≡ t) (unused (g.N.WaitName.locks + g.N.WaitName.conds) (g.N.PermitName.low + length g.N.PermitName.permits)) c.name-scheme.result.1.items
@@ -183,7 +183,7 @@ settle-nothing-requires-clause-threads g c κs within = λ t near.
 pub settle-nothing-requires-clause-same_threads : goal.settle-nothing-requires-clause-same_threads
 settle-nothing-requires-clause-same_threads g c κs within =
     let scheme : c.apart-words.result.1 ≡ c.name-scheme.result.0 =
-    c.apart-words.ensures.1 ∙ (ap (λ (s : LotSchemeShown). s.second) c.in-Err-NoMemory-default-default.ensures.err.1 ∙ ap (λ (s : LotSchemeShown). s.second) c.new-2.ensures) in
+    c.apart-words.ensures.1 ∙ (ap (λ (s : LotSchemeShown). s.second) c.in-Err-NoMemory-default-default.ensures.err.1 ∙ ap (λ (s : LotSchemeShown). s.second) c.new.ensures) in
     ap (λ (s : Tables CondWordsShown SemWordsShown). s.second.size.threads) scheme ∙ (c.name-scheme.ensures.threads.1
     ∙ sym (ap (λ (s : Tables CondWordsShown SemWordsShown). s.first.size.threads) scheme ∙ c.name-scheme.ensures.threads.0))
 
@@ -218,11 +218,11 @@ settle-nothing-requires-clause-roots g c κs within =
     let named = rw (sym c.opened.view_is) at c.requires.named in
     subst (λ n. StandFrom kind_key n c.unname_roots.new.kind_roots.items) (locks_are named) c.unname_roots.ensures.kinds
 
-pub close_unused-requires-clause-own : goal.close_unused-requires-clause-own
-close_unused-requires-clause-own g c κs within =
+pub close_unused-values-requires-clause-own : goal.close_unused-values-requires-clause-own
+close_unused-values-requires-clause-own g c κs within =
     let named = rw (sym c.opened.view_is) at c.requires.named in
     let words : c.into_words.result ≡ c.opened.inside.words =
     c.into_words.ensures.same ∙ (c.apart-words.ensures.0 ∙ (ap (λ (s : LotSchemeShown). s.first) c.in-Err-NoMemory-default-default.ensures.err.1
-    ∙ (ap (λ (s : LotSchemeShown). s.first) c.new-2.ensures ∙ c.new.ensures))) in
+    ∙ ap (λ (s : LotSchemeShown). s.first) c.new.ensures)) in
     subst (λ t. All (λ (r : RootShown LockRootView). r.table ≡ t) c.unname_roots.new.roots.items)
     (sym (ap (λ (w : LockWordsShown). w.table) words ∙ named.locks_table)) c.unname_roots.ensures.own
