@@ -4,6 +4,7 @@ use Rattle.std.proofs.lemmas.Bool.Decides.{eqb_tells}
 use Rattle.lot_bucket.specs.Queue.{line_of, without_count, without_first, without_key, first_of}
 use Rattle.lot_bucket.specs.Places.{has_key, root_at, with_root}
 use Rattle.lot_bucket.specs.Contents.{Contents}
+use Rattle.lot_bucket.specs.KeyLine.{KeyLine}
 use Rattle.lot_bucket.specs.Agrees.{IsRootOf, AgreesOpen, Agrees}
 
 pub line_of-push_same : (k t : ℕ) (queue : List (ℕ × ℕ)) → line_of k (queue ++ (t, k) ∷ []) ≡ line_of k queue ++ t ∷ []
@@ -123,24 +124,24 @@ module _ {R : Type 0} where
         ])
       ]
 
-module _ {R : Type 0} (key : R → ℕ) (line : R → List ℕ) (owes : R → List (ℕ × ℕ)) where
+module _ {R : Type 0} (view : R → KeyLine) where
   -- the root that is taken out of an open bucket that agrees
-  pub root_taken : (b : Contents R) (k : ℕ) (root : R) → Agrees key line owes b → b.opened ≡ true → has_key k b.places ≡ true
-      → root_at k b.places ≡ Some root → IsRootOf key line owes k b.queue root
+  pub root_taken : (b : Contents R) (k : ℕ) (root : R) → Agrees view b → b.opened ≡ true → has_key k b.places ≡ true
+      → root_at k b.places ≡ Some root → IsRootOf view k b.queue root
   root_taken b k root agrees is_open has at =
       let own = (agrees.open_agrees is_open).roots k has in
       let same : own.0 ≡ root = let e : Some own.0 ≡ Some root = sym own.1 ∙ at in cc in
-      subst (λ (r : R). IsRootOf key line owes k b.queue r) same own.2
+      subst (λ (r : R). IsRootOf view k b.queue r) same own.2
 
   -- The restoring law: where a key's root was taken out and is back, fits its key's line and owes nothing,
   -- and the lines of other keys are as before, the bucket agrees again.
-  pub agrees_again : (before after : Contents R) (k : ℕ) (root : R) → Agrees key line owes before → before.opened ≡ true → has_key k before.places ≡ true
+  pub agrees_again : (before after : Contents R) (k : ℕ) (root : R) → Agrees view before → before.opened ≡ true → has_key k before.places ≡ true
       → after.opened ≡ true → after.places ≡ with_root k (Some root) (with_root k None before.places)
-      → ((j : ℕ) → k ≢ j → line_of j after.queue ≡ line_of j before.queue) → IsRootOf key line owes k after.queue root → Agrees key line owes after
+      → ((j : ℕ) → k ≢ j → line_of j after.queue ≡ line_of j before.queue) → IsRootOf view k after.queue root → Agrees view after
   agrees_again before after k root agrees was_open has is_open places lines fits =
       record { open_agrees = λ _. opened; closed_agrees = λ closed. absurd (let e : true ≡ false = sym is_open ∙ closed in cc) }
     where
-      was : AgreesOpen key line owes before
+      was : AgreesOpen view before
       was = agrees.open_agrees was_open
 
       keys : (j : ℕ) → has_key j after.places ≡ has_key j before.places
@@ -152,10 +153,10 @@ module _ {R : Type 0} (key : R → ℕ) (line : R → List ℕ) (owes : R → Li
       others : (j : ℕ) → k ≢ j → root_at j after.places ≡ root_at j before.places
       others j other = rw places (root_at-with_other j k (Some root) (with_root k None before.places) other ∙ root_at-with_other j k None before.places other)
 
-      roots : (j : ℕ) → has_key j after.places ≡ true → (r : R) × (root_at j after.places ≡ Some r) × IsRootOf key line owes j after.queue r
+      roots : (j : ℕ) → has_key j after.places ≡ true → (r : R) × (root_at j after.places ≡ Some r) × IsRootOf view j after.queue r
       roots j h =
           elim (eqb_tells k j) [
-            | inl e ↦ let P : ℕ → Type 0 = λ n. (r : R) × (root_at n after.places ≡ Some r) × IsRootOf key line owes n after.queue r in subst P e.1 (root, own, fits)
+            | inl e ↦ let P : ℕ → Type 0 = λ n. (r : R) × (root_at n after.places ≡ Some r) × IsRootOf view n after.queue r in subst P e.1 (root, own, fits)
             | inr e ↦
                 let old = was.roots j (sym (keys j) ∙ h) in
                 (old.0, others j e.1 ∙ old.1, record { named = old.2.named; same_line = old.2.same_line ∙ sym (lines j e.1); paid = old.2.paid })
@@ -169,5 +170,5 @@ module _ {R : Type 0} (key : R → ℕ) (line : R → List ℕ) (owes : R → Li
             | inr e ↦ lines j e.1 ∙ was.pairs j (sym (keys j) ∙ h)
           ]
 
-      opened : AgreesOpen key line owes after
+      opened : AgreesOpen view after
       opened = record { roots = roots; pairs = pairs }

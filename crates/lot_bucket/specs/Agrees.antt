@@ -2,6 +2,7 @@ use Rattle.std.specs.Prelude.{◌≡◌, ℕ, true, false, List, [], Some, None}
 use Rattle.lot_bucket.specs.Queue.{line_of}
 use Rattle.lot_bucket.specs.Places.{has_key, root_at}
 use Rattle.lot_bucket.specs.Contents.{Contents}
+use Rattle.lot_bucket.specs.KeyLine.{KeyLine}
 
 -- a closed bucket in which nothing is left, so that it may be discarded
 pub record IsSpent {R : Type 0} (b : Contents R) : Type 0 where
@@ -9,13 +10,12 @@ pub record IsSpent {R : Type 0} (b : Contents R) : Type 0 where
   pub empty : b.queue ≡ []
   pub rootless : (k : ℕ) → root_at k b.places ≡ None
 
--- Of a root three things are known: its key, its line, and the letters that it owes.
-module _ {R : Type 0} (key : R → ℕ) (line : R → List ℕ) (owes : R → List (ℕ × ℕ)) where
+module _ {R : Type 0} (view : R → KeyLine) where
   -- the root of key k, whose line is what the queue has of that key, and which owes nothing
   pub record IsRootOf (k : ℕ) (queue : List (ℕ × ℕ)) (root : R) : Type 0 where
-    pub named : key root ≡ k
-    pub same_line : line root ≡ line_of k queue
-    pub paid : owes root ≡ []
+    pub named : (view root).key ≡ k
+    pub same_line : (view root).line ≡ line_of k queue
+    pub paid : (view root).owes ≡ []
 
   -- an open bucket has the roots of exactly its keys, and only its keys wait
   pub record AgreesOpen (b : Contents R) : Type 0 where

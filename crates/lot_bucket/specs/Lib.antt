@@ -4,5 +4,6 @@ pub mod Links
 pub mod Places
 pub mod Contents
 pub mod Taking
+pub mod KeyLine
 pub mod Agrees
 pub mod Settled

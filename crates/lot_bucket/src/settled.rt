@@ -25,13 +25,13 @@ impl<R: Root> Model for Settled<R> {
 
     ghost view = { λ s. record { bucket = s.bucket; number = s.number; size = s.size; keys = s.keys } };
 
-    ghost invariant = { λ s. IsSettled R.key R.line R.owes (record { bucket = s.bucket; number = s.number; size = s.size; keys = s.keys }) };
+    ghost invariant = { λ s. IsSettled R.view (record { bucket = s.bucket; number = s.number; size = s.size; keys = s.keys }) };
 }
 
 impl<R: Root> Settled<R> {
     /// The open bucket `number` of a table of `size` buckets for so many keys.
     pub fn new(bucket: Bucket<R>, number: usize, size: usize, keys: usize) -> Settled<R>
-        requires { IsWhole R.key R.line R.owes size number keys bucket }
+        requires { IsWhole R.view size number keys bucket }
         ensures { result ≡ record { bucket = bucket; number = number; size = size; keys = keys } }
     {
         Settled {
@@ -63,7 +63,7 @@ impl<R: Root> Settled<R> {
 
     /// Whether it is the open bucket of the key, in a table for so many keys, with room for just all threads.
     pub fn is_ready(&self, key: usize, threads: usize, keys: usize) -> bool
-        ensures ready { IsTrue result → IsReady R.key R.line R.owes key threads keys self.now.bucket }
+        ensures ready { IsTrue result → IsReady R.view key threads keys self.now.bucket }
         ensures exact { IsTrue result ↔ (self.now.bucket.opened ≡ true) × (0 < self.now.size) × (self.now.number ≡ key % self.now.size) × (self.now.keys ≡ keys) × (key < keys) × (self.now.bucket.room ≡ threads) }
     {
         self.bucket.is_open()
@@ -76,7 +76,7 @@ impl<R: Root> Settled<R> {
 
     /// Whether it is the open bucket `number` of a table of `size` buckets for so many keys.
     pub fn is_whole(&self, number: usize, size: usize, keys: usize) -> bool
-        ensures whole { IsTrue result → IsWhole R.key R.line R.owes size number keys self.now.bucket }
+        ensures whole { IsTrue result → IsWhole R.view size number keys self.now.bucket }
         ensures exact { IsTrue result ↔ (self.now.bucket.opened ≡ true) × (self.now.number ≡ number) × (self.now.size ≡ size) × (self.now.keys ≡ keys) }
     {
         self.bucket.is_open() && self.number == number && self.size == size && self.keys == keys
@@ -94,7 +94,7 @@ impl<R: Root> Settled<R> {
     pub fn lend<X, Y, F: FnOnce(&mut Bucket<R>, X) -> (X, Y)>(&mut self, x: X, f: F) -> (X, Y)
         requires is_open { self.old.bucket.opened ≡ true }
         requires callable { (b : _) → b.now ≡ self.old.bucket → F.pre f b x }
-        requires keeps { (b : _) (r : _) (b' : _) → b.now ≡ self.old.bucket → F.post f b x r b' → Stays R.key R.line R.owes b.now b'.now }
+        requires keeps { (b : _) (r : _) (b' : _) → b.now ≡ self.old.bucket → F.post f b x r b' → Stays R.view b.now b'.now }
         ensures { (b : _) × (b' : _) × (b.now ≡ self.old.bucket) × (self.new ≡ record self.old { bucket = b'.now }) × F.post f b x result b' }
     {
         f(&mut self.bucket, x)
@@ -103,7 +103,7 @@ impl<R: Root> Settled<R> {
     /// The bucket itself, once no lock is needed round it.
     pub fn into_bucket(self) -> Bucket<R>
         ensures same { result ≡ self.bucket }
-        ensures settled { IsSettled R.key R.line R.owes self }
+        ensures settled { IsSettled R.view self }
     {
         let Settled {
             bucket,

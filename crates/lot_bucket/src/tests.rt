@@ -12,11 +12,7 @@ struct Named {
 }
 
 impl Root for Named {
-    ghost key = { λ r. r.key };
-
-    ghost line = { λ _. [] };
-
-    ghost owes = { λ _. [] };
+    ghost view = { λ r. record { key = r.key; line = []; owes = [] } };
 }
 
 const ROOM: usize = 4;

@@ -12,4 +12,4 @@ returns-then-key-keys-clause-ready g c wide =
     let among : c.args.key < c.args.keys = grind (arith, common_steps) in
     let room : lying.bucket.room ≡ c.args.threads = grind (arith, common_steps) in
     rw (← c.self.view_is)
-    (ready g.R.Root.key g.R.Root.line g.R.Root.owes c.args.key c.args.threads c.args.keys _ c.self.invariant opened number all among room)
+    (ready g.R.Root.view c.args.key c.args.threads c.args.keys _ c.self.invariant opened number all among room)
