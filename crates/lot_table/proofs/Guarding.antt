@@ -5,6 +5,7 @@ use Rattle.std.proofs.lemmas.List.Sums.{sum_by_more}
 use Rattle.std.specs.declared.sync.MutexGuard.{MutexGuard}
 use Rattle.std.specs.Sync.Mutex.{mutex_guard_value}
 use Rattle.lot_bucket.specs.Contents.{Contents}
+use Rattle.lot_bucket.specs.KeyLine.{KeyLine}
 use Rattle.lot_bucket.specs.Settled.{Lying, IsWhole}
 use Rattle.lot_table.specs.Buckets.{queued}
 use Rattle.lot_table.specs.Tables.{under}
@@ -24,14 +25,14 @@ module _ {R : Type 0} where
   pub length-under : (gs : List (MutexGuard (Lying R))) → length (under gs) ≡ length gs
   length-under gs = length-map gs (λ (x : MutexGuard (Lying R)). (mutex_guard_value x).bucket)
 
-  pub whole_next : (key : R → ℕ) (line : R → List ℕ) (owes : R → List (ℕ × ℕ)) (keys n : ℕ) (gs : List (MutexGuard (Lying R))) (g : MutexGuard (Lying R)) (s : Lying R) → n < length gs
-      → g ≡ get_or gs n g → s ≡ mutex_guard_value g → IsWhole key line owes (length gs) n keys s.bucket
-      → ((i : ℕ) (d : Contents R) → i < n → IsWhole key line owes (length gs) i keys (get_or (under gs) i d))
-      → (i : ℕ) (d : Contents R) → i < n + 1 → IsWhole key line owes (length gs) i keys (get_or (under gs) i d)
-  whole_next key line owes keys n gs g s lt at is here before i d bound =
+  pub whole_next : (view : R → KeyLine) (keys n : ℕ) (gs : List (MutexGuard (Lying R))) (g : MutexGuard (Lying R)) (s : Lying R) → n < length gs
+      → g ≡ get_or gs n g → s ≡ mutex_guard_value g → IsWhole view (length gs) n keys s.bucket
+      → ((i : ℕ) (d : Contents R) → i < n → IsWhole view (length gs) i keys (get_or (under gs) i d))
+      → (i : ℕ) (d : Contents R) → i < n + 1 → IsWhole view (length gs) i keys (get_or (under gs) i d)
+  whole_next view keys n gs g s lt at is here before i d bound =
       let own : (e : Contents R) → get_or (under gs) n e ≡ s.bucket = λ e. get_under gs n g e lt ∙ ap (λ (x : MutexGuard (Lying R)). (mutex_guard_value x).bucket) (sym at)
       ∙ ap (λ (x : Lying R). x.bucket) (sym is) in
-      below_more (λ (j : ℕ). (e : Contents R) → IsWhole key line owes (length gs) j keys (get_or (under gs) j e)) n (λ j l e. before j e l) (λ e. rw (own e) here) i bound d
+      below_more (λ (j : ℕ). (e : Contents R) → IsWhole view (length gs) j keys (get_or (under gs) j e)) n (λ j l e. before j e l) (λ e. rw (own e) here) i bound d
 
   pub sum_next : (n sum len : ℕ) (gs : List (MutexGuard (Lying R))) (g : MutexGuard (Lying R)) (s : Lying R) (b : Contents R) → n < length gs
       → g ≡ get_or gs n g → s ≡ mutex_guard_value g → b ≡ s.bucket → sum ≡ queued (take n (under gs)) → len ≡ length b.queue → sum + len ≡ queued (take (n + 1) (under gs))

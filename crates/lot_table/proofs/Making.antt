@@ -12,6 +12,7 @@ use Rattle.std.proofs.Math.Nat.{mul-le-mul_right, mod-add-div', add-mul-mod_self
 use Rattle.lot_bucket.specs.Places.{empty_places, spaced, has_key}
 use Rattle.lot_bucket.proofs.Slots.{length-spaced, even_spaced, even_place, even_without, rootless_empty}
 use Rattle.lot_bucket.specs.Contents.{Contents}
+use Rattle.lot_bucket.specs.KeyLine.{KeyLine}
 use Rattle.lot_bucket.specs.Settled.{IsWhole}
 use Rattle.lot_table.specs.Buckets.{IsFresh, IsFilled}
 
@@ -98,7 +99,7 @@ module _ (R : Type 0) (size number keys left count : ℕ) (lt : number < size) (
       }
 
 -- a filled bucket that was opened
-pub opened_whole : {R : Type 0} (key : R → ℕ) (line : R → List ℕ) (owes : R → List (ℕ × ℕ)) (size number keys : ℕ) (b c : Contents R) → IsFilled key line owes size number keys b
-    → c ≡ record b { opened = true } → IsWhole key line owes size number keys c
-opened_whole key line owes size number keys b c filled is =
+pub opened_whole : {R : Type 0} (view : R → KeyLine) (size number keys : ℕ) (b c : Contents R) → IsFilled view size number keys b
+    → c ≡ record b { opened = true } → IsWhole view size number keys c
+opened_whole view size number keys b c filled is =
     rw is (record { is_open = refl; agrees = record { roots = filled.agrees.roots; pairs = filled.agrees.pairs }; laid_out = filled.laid_out })

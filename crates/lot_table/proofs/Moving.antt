@@ -10,6 +10,7 @@ use Rattle.std.proofs.lemmas.List.{get_or_default, length-map, length-set}
 use Rattle.lot_bucket.specs.Queue.{line_of, without_first, without_key, first_of}
 use Rattle.lot_bucket.specs.Places.{has_key, root_at, with_root}
 use Rattle.lot_bucket.specs.Contents.{Contents}
+use Rattle.lot_bucket.specs.KeyLine.{KeyLine}
 use Rattle.lot_bucket.specs.Agrees.{IsRootOf}
 use Rattle.lot_bucket.specs.Taking.{TakesOne}
 use Rattle.lot_bucket.specs.declared.taking.Moment.{Moment}
@@ -320,9 +321,9 @@ own_of_has k size i n has laid own =
     ]
 
 -- open buckets are those of one number of keys
-at_most : {R : Type 0} (key : R → ℕ) (line : R → List ℕ) (owes : R → List (ℕ × ℕ)) (n m : ℕ) (buckets : List (Contents R)) (d : Contents R) → 0 < length buckets
-    → AreWhole key line owes n buckets → AreWhole key line owes m buckets → n ≤ m
-at_most key line owes n m buckets d some whole other =
+at_most : {R : Type 0} (view : R → KeyLine) (n m : ℕ) (buckets : List (Contents R)) (d : Contents R) → 0 < length buckets
+    → AreWhole view n buckets → AreWhole view m buckets → n ≤ m
+at_most view n m buckets d some whole other =
     elim (leb_tells n m) [
       | inl e ↦ e.1
       | inr e ↦
@@ -331,14 +332,14 @@ at_most key line owes n m buckets d some whole other =
           ∙ has_past m (length buckets) (m % length buckets) m _ ((other (m % length buckets) d at).laid_out m) (omega arith) in cc)
     ]
 
-pub one_number : {R : Type 0} (key : R → ℕ) (line : R → List ℕ) (owes : R → List (ℕ × ℕ)) (n m : ℕ) (buckets : List (Contents R)) → 0 < length buckets
-    → AreWhole key line owes n buckets → AreWhole key line owes m buckets → n ≡ m
-one_number {R} key line owes n m buckets some whole other =
+pub one_number : {R : Type 0} (view : R → KeyLine) (n m : ℕ) (buckets : List (Contents R)) → 0 < length buckets
+    → AreWhole view n buckets → AreWhole view m buckets → n ≡ m
+one_number {R} view n m buckets some whole other =
     let d : Contents R = record { room = 0; places = []; queue = []; opened = false; next_fair = 0 } in
-    let le : n ≤ m = at_most key line owes n m buckets d some whole other in
-    let ge : m ≤ n = at_most key line owes m n buckets d some other whole in omega arith
+    let le : n ≤ m = at_most view n m buckets d some whole other in
+    let ge : m ≤ n = at_most view m n buckets d some other whole in omega arith
 
-module _ {R : Type 0} (key : R → ℕ) (line : R → List ℕ) (owes : R → List (ℕ × ℕ)) (n : ℕ) (old0 : List (Contents R)) (whole : AreWhole key line owes n old0) where
+module _ {R : Type 0} (view : R → KeyLine) (n : ℕ) (old0 : List (Contents R)) (whole : AreWhole view n old0) where
   pub nobody_else : (m i : ℕ) (d : Contents R) → i < length old0 → i ≢ m % length old0 → line_of m (get_or old0 i d).queue ≡ []
   nobody_else m i d lt other = (whole i d lt).agrees.pairs m (has_not m (length old0) i n _ ((whole i d lt).laid_out m) (λ e. other (sym e)))
 
@@ -352,7 +353,7 @@ module _ {R : Type 0} (key : R → ℕ) (line : R → List ℕ) (owes : R → Li
   no_root_past k i d lt le = rootless k (get_or old0 i d).places (has_past k (length old0) i n _ ((whole i d lt).laid_out k) le)
 
   -- where all keys were moved, nothing is left
-  pub emptied : (old : List (Contents R)) → length old ≡ length old0 → AreLeft n old0 old → AreEmpty key line owes old
+  pub emptied : (old : List (Contents R)) → length old ≡ length old0 → AreLeft n old0 old → AreEmpty view old
   emptied old len left i d bound =
       let lt : i < length old0 = omega (arith, len) in
       let l = left i d lt in
@@ -367,7 +368,7 @@ module _ {R : Type 0} (key : R → ℕ) (line : R → List ℕ) (owes : R → Li
         ]);
       }
 
-module _ {R : Type 0} (key : R → ℕ) (line : R → List ℕ) (owes : R → List (ℕ × ℕ)) (n : ℕ) (old0 new0 : List (Contents R)) (may : MayRegrow key line owes n old0 new0) where
+module _ {R : Type 0} (view : R → KeyLine) (n : ℕ) (old0 new0 : List (Contents R)) (may : MayRegrow view n old0 new0) where
   pub moved_begins : AreMoved 0 old0 new0 old0 new0
   moved_begins =
       record {
@@ -455,7 +456,7 @@ module _ {R : Type 0} (key : R → ℕ) (line : R → List ℕ) (owes : R → Li
           record {
             old_len = length-set old (m % length old0) b ∙ a.old_len;
             new_len = length-set new (m % length new0) c ∙ a.new_len;
-            left = some_left m old0 old (m % length old0) b a.old_len (nobody_else key line owes n old0 may.whole m) (no_root_else key line owes n old0 may.whole m)
+            left = some_left m old0 old (m % length old0) b a.old_len (nobody_else view n old0 may.whole m) (no_root_else view n old0 may.whole m)
                 (λ d. left_here m (get_or old0 (m % length old0) d) from b (own_old d) (left_now d) left) a.left;
             come = some_come m old0 new0 old new (m % length new0) c refl at_new
                 (λ d. come_here m (length new0) old0 (get_or new0 (m % length new0) d) to c (line_of m from.queue) (root_at m from.places) (own_new d) (come_now d)
@@ -475,14 +476,14 @@ module _ {R : Type 0} (key : R → ℕ) (line : R → List ℕ) (owes : R → Li
         let come = a.come (k % length new0) d at_new in
         rw (a.new_len) (elim (leb_tells n k) [
           | inl e ↦ (
-            come.no_line k (λ lt. absurd (omega (arith, e.1))) ∙ sym (nobody_past key line owes n old0 may.whole k (k % length old0) d at_old e.1),
+            come.no_line k (λ lt. absurd (omega (arith, e.1))) ∙ sym (nobody_past view n old0 may.whole k (k % length old0) d at_old e.1),
             come.no_root k
-                (λ lt. absurd (omega (arith, e.1))) ∙ sym (no_root_past key line owes n old0 may.whole k (k % length old0) d at_old e.1),
+                (λ lt. absurd (omega (arith, e.1))) ∙ sym (no_root_past view n old0 may.whole k (k % length old0) d at_old e.1),
           )
           | inr e ↦ (come.come_line k d e.1 refl, come.come_root k d e.1 refl)
         ])
 
-    pub moved_filled : AreFilled key line owes n new
+    pub moved_filled : AreFilled view n new
     moved_filled i d bound =
         let lt : i < length new0 = omega (arith, a.new_len) in
         let come = a.come i d lt in
@@ -497,7 +498,7 @@ module _ {R : Type 0} (key : R → ℕ) (line : R → List ℕ) (owes : R → Li
         })
       where
         in_place : (i : ℕ) (d : Contents R) → i < length new0 → (k : ℕ) → has_key k (get_or new i d).places ≡ true → (root : R) × (root_at k (get_or new i d).places ≡ Some root)
-            × IsRootOf key line owes k (get_or new i d).queue root
+            × IsRootOf view k (get_or new i d).queue root
         in_place i d lt k has =
             let come = a.come i d lt in
             let is = own_of_has k (length new0) i n _ (come.keys k ∙ (may.fresh i d lt).laid_out k) has in
@@ -506,8 +507,8 @@ module _ {R : Type 0} (key : R → ℕ) (line : R → List ℕ) (owes : R → Li
             let own = whole.agrees.roots k (has_own k (length old0) (k % length old0) n _ (whole.laid_out k) refl is.1) in
             (own.0, come.come_root k d is.1 is.0 ∙ own.1, record { named = own.2.named; same_line = own.2.same_line ∙ sym (come.come_line k d is.1 is.0); paid = own.2.paid })
 
-    pub moved_empty : AreEmpty key line owes old
-    moved_empty = emptied key line owes n old0 may.whole old a.old_len a.left
+    pub moved_empty : AreEmpty view old
+    moved_empty = emptied view n old0 may.whole old a.old_len a.left
 
-    pub moved_filled_for : (keys : ℕ) → AreWhole key line owes keys old0 → AreFilled key line owes keys new
-    moved_filled_for keys whole = subst (λ (x : ℕ). AreFilled key line owes x new) (one_number key line owes n keys old0 may.some_old may.whole whole) moved_filled
+    pub moved_filled_for : (keys : ℕ) → AreWhole view keys old0 → AreFilled view keys new
+    moved_filled_for keys whole = subst (λ (x : ℕ). AreFilled view x new) (one_number view n keys old0 may.some_old may.whole whole) moved_filled

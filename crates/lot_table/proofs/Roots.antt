@@ -8,6 +8,7 @@ use Rattle.std.proofs.lemmas.Option.{slice_get_cases}
 use Rattle.lot_bucket.specs.Queue.{line_of, without_key}
 use Rattle.lot_bucket.specs.Places.{has_key, root_at, with_root}
 use Rattle.lot_bucket.specs.Contents.{Contents}
+use Rattle.lot_bucket.specs.KeyLine.{KeyLine}
 use Rattle.lot_bucket.specs.Agrees.{IsRootOf}
 use Rattle.lot_bucket.proofs.Laws.{root_at-with_same, root_at-with_other, has_key-with}
 use Rattle.lot_table.specs.Buckets.{AreFresh, AreWhole, AreFilled, AreEmpty}
@@ -138,10 +139,10 @@ module _ {R : Type 0} where
   slice_get-push (suc k) (z ∷ xs) x y at =
       elim (slice_get-push k xs x y at) [ inl e ↦ inl e | inr e ↦ inr (ap (λ n. suc n) e.0, e.1) ]
 
-module _ {R : Type 0} (key : R → ℕ) (line : R → List ℕ) (owes : R → List (ℕ × ℕ)) where
-  pub filling_ends : (threads : ℕ) (roots left : List R) (before buckets : List (Contents R)) → AreFresh (length roots) threads before → AreIdle key line owes roots
+module _ {R : Type 0} (view : R → KeyLine) where
+  pub filling_ends : (threads : ℕ) (roots left : List R) (before buckets : List (Contents R)) → AreFresh (length roots) threads before → AreIdle view roots
       → AreFilling roots left before buckets
-      → length left ≡ 0 → AreFilled key line owes (length roots) buckets
+      → length left ≡ 0 → AreFilled view (length roots) buckets
   filling_ends threads roots left before buckets fresh idle f none i d lt =
       rw (f.len) (record { agrees = record { roots = in_place; pairs = λ k none. ap (λ q. line_of k q) nobody }; laid_out = laid })
     where
@@ -154,19 +155,19 @@ module _ {R : Type 0} (key : R → ℕ) (line : R → List ℕ) (owes : R → Li
       laid : (k : ℕ) → has_key k (get_or buckets i d).places ≡ (k % length before == i && nat_lt k (length roots))
       laid k = f.has i k d ∙ (fresh i d bound).laid_out k
 
-      in_place : (k : ℕ) → has_key k (get_or buckets i d).places ≡ true → (root : R) × (root_at k (get_or buckets i d).places ≡ Some root) × IsRootOf key line owes k (get_or buckets i d).queue root
+      in_place : (k : ℕ) → has_key k (get_or buckets i d).places ≡ true → (root : R) × (root_at k (get_or buckets i d).places ≡ Some root) × IsRootOf view k (get_or buckets i d).queue root
       in_place k own =
           let is = own_of_has k (length before) i (length roots) _ (laid k) own in
           let at = some_at k roots is.1 in (
             at.0,
             ap (λ (n : ℕ). root_at k (get_or buckets n d).places) (sym is.0) ∙ f.full k d (omega (arith, none)) is.1 ∙ at.1,
-            subst (λ (q : List (ℕ × ℕ)). IsRootOf key line owes k q at.0) (sym nobody) (idle k at.0 at.1),
+            subst (λ (q : List (ℕ × ℕ)). IsRootOf view k q at.0) (sym nobody) (idle k at.0 at.1),
           )
 
   -- the roots of the keys below m were appended, and the others are in their buckets
   pub record AreTaking (m : ℕ) (opening buckets : List (Contents R)) (before out : List R) : Type 0 where
     pub len : length buckets ≡ length opening
-    pub taken : Appends key owes m before out
+    pub taken : Appends view m before out
     pub left : AreLeft m opening buckets
 
   pub taking_begins : (buckets : List (Contents R)) (out : List R) → AreTaking 0 buckets buckets out out
@@ -177,12 +178,12 @@ module _ {R : Type 0} (key : R → ℕ) (line : R → List ℕ) (owes : R → Li
         left = left_begins buckets;
       }
 
-  module _ (keys m : ℕ) (opening buckets : List (Contents R)) (before out : List R) (r : Contents R) (whole : AreWhole key line owes keys opening) (some : 0 < length opening) (lt : m < keys)
+  module _ (keys m : ℕ) (opening buckets : List (Contents R)) (before out : List R) (r : Contents R) (whole : AreWhole view keys opening) (some : 0 < length opening) (lt : m < keys)
       (t : AreTaking m opening buckets before out) where
     place : m % length opening < length opening
     place = omega (arith, some)
 
-    found : (x : R) × (root_at m (get_or opening (m % length opening) r).places ≡ Some x) × IsRootOf key line owes m (get_or opening (m % length opening) r).queue x
+    found : (x : R) × (root_at m (get_or opening (m % length opening) r).places ≡ Some x) × IsRootOf view m (get_or opening (m % length opening) r).queue x
     found =
         (whole (m % length opening) r place).agrees.roots m
         (has_own m (length opening) (m % length opening) keys _ ((whole (m % length opening) r place).laid_out m) refl lt)
@@ -208,13 +209,13 @@ module _ {R : Type 0} (key : R → ℕ) (line : R → List ℕ) (owes : R → Li
             named = λ j x e. elim (slice_get-push j t.taken.roots root x e) [ inl f ↦ t.taken.named j x f | inr f ↦ rw (← f.1, f.0, t.taken.each) own.named ];
             paid = λ j x e. elim (slice_get-push j t.taken.roots root x e) [ inl f ↦ t.taken.paid j x f | inr f ↦ rw (← f.1) own.paid ];
           };
-          left = some_left m opening buckets (m % length opening) c t.len (nobody_else key line owes keys opening whole m) (no_root_else key line owes keys opening whole m) here t.left;
+          left = some_left m opening buckets (m % length opening) c t.len (nobody_else view keys opening whole m) (no_root_else view keys opening whole m) here t.left;
         }
       where
-        own : IsRootOf key line owes m (get_or opening (m % length opening) r).queue root
+        own : IsRootOf view m (get_or opening (m % length opening) r).queue root
         own =
             let same : found.0 ≡ root = let e : Some found.0 ≡ Some root = sym taking_root.1 ∙ at in cc in
-            subst (λ (x : R). IsRootOf key line owes m (get_or opening (m % length opening) r).queue x) same found.2
+            subst (λ (x : R). IsRootOf view m (get_or opening (m % length opening) r).queue x) same found.2
 
         here : (d : Contents R) → IsLeft (m + 1) (get_or opening (m % length opening) d) c
         here d =
@@ -223,7 +224,7 @@ module _ {R : Type 0} (key : R → ℕ) (line : R → List ℕ) (owes : R → Li
             (rw (get_or_default buckets (m % length opening) r d (omega (arith, t.len, place))) (t.left (m % length opening) d place)) took
 
   -- once all keys' roots are out, nothing is left
-  pub taking_ends : (keys m : ℕ) (opening buckets : List (Contents R)) (before out : List R) → AreWhole key line owes keys opening → m ≡ keys
-      → AreTaking m opening buckets before out → AreEmpty key line owes buckets
+  pub taking_ends : (keys m : ℕ) (opening buckets : List (Contents R)) (before out : List R) → AreWhole view keys opening → m ≡ keys
+      → AreTaking m opening buckets before out → AreEmpty view buckets
   taking_ends keys m opening buckets before out whole all t =
-      emptied key line owes keys opening whole buckets t.len (rw all at t.left)
+      emptied view keys opening whole buckets t.len (rw all at t.left)

@@ -4,6 +4,7 @@ use Rattle.std.specs.List.{sum_by}
 use Rattle.lot_bucket.specs.Queue.{line_of}
 use Rattle.lot_bucket.specs.Places.{root_at}
 use Rattle.lot_bucket.specs.Contents.{Contents}
+use Rattle.lot_bucket.specs.KeyLine.{KeyLine}
 use Rattle.lot_bucket.specs.Agrees.{AgreesOpen, AgreesClosed}
 use Rattle.lot_bucket.specs.Settled.{IsLaidOut, IsWhole}
 
@@ -34,14 +35,14 @@ module _ {R : Type 0} where
   abbrev pub AreFresh : ℕ → ℕ → List (Contents R) → Type 0
   AreFresh keys threads buckets = (i : ℕ) (b : Contents R) → i < length buckets → IsFresh (length buckets) i keys threads (slice_index_or buckets i b)
 
-module _ {R : Type 0} (key : R → ℕ) (line : R → List ℕ) (owes : R → List (ℕ × ℕ)) where
+module _ {R : Type 0} (view : R → KeyLine) where
   -- the open buckets of a table for so many keys
   abbrev pub AreWhole : ℕ → List (Contents R) → Type 0
-  AreWhole keys buckets = (i : ℕ) (b : Contents R) → i < length buckets → IsWhole key line owes (length buckets) i keys (slice_index_or buckets i b)
+  AreWhole keys buckets = (i : ℕ) (b : Contents R) → i < length buckets → IsWhole view (length buckets) i keys (slice_index_or buckets i b)
 
   -- a bucket that has all its roots, and could be opened
   pub record IsFilled (size number keys : ℕ) (b : Contents R) : Type 0 where
-    pub agrees : AgreesOpen key line owes b
+    pub agrees : AgreesOpen view b
     pub laid_out : IsLaidOut size number keys b
 
   abbrev pub AreFilled : ℕ → List (Contents R) → Type 0
@@ -49,7 +50,7 @@ module _ {R : Type 0} (key : R → ℕ) (line : R → List ℕ) (owes : R → Li
 
   -- nothing is in these buckets, so they could be closed
   abbrev pub AreEmpty : List (Contents R) → Type 0
-  AreEmpty buckets = (i : ℕ) (b : Contents R) → i < length buckets → AgreesClosed key line owes (slice_index_or buckets i b)
+  AreEmpty buckets = (i : ℕ) (b : Contents R) → i < length buckets → AgreesClosed view (slice_index_or buckets i b)
 
   -- from open buckets, to new ones of which each has room for all who wait
   pub record MayRegrow (keys : ℕ) (old new : List (Contents R)) : Type 0 where

@@ -27,7 +27,7 @@ impl<R: Root> Closing<R> {
     /// Appends each key's root to `out`, in key order, and spends the buckets. It takes no memory.
     pub fn close<W: Wait>(self, rt: &W, newest: Version<R>, keys: usize, out: &mut Vec<R>)
         requires { vec_len out.old + keys ≤ vec_capacity out.old }
-        ensures { Appends R.key R.owes keys out.old.items out.new.items }
+        ensures { Appends R.view keys out.old.items out.new.items }
     {
         let Closing { row } = self;
         let mut buckets = newest.into_buckets(rt, keys, row);
@@ -38,10 +38,10 @@ impl<R: Root> Closing<R> {
 
 fn hand_out<R: Root>(buckets: &mut [Bucket<R>], keys: usize, out: &mut Vec<R>)
     requires some { 0 < length buckets.old }
-    requires whole { AreWhole R.key R.line R.owes keys buckets.old }
+    requires whole { AreWhole R.view keys buckets.old }
     requires room { vec_len out.old + keys ≤ vec_capacity out.old }
-    ensures roots { Appends R.key R.owes keys out.old.items out.new.items }
-    ensures left { AreEmpty R.key R.line R.owes buckets.new }
+    ensures roots { Appends R.view keys out.old.items out.new.items }
+    ensures left { AreEmpty R.view buckets.new }
 {
     let size = buckets.len();
     for key in 0..keys {
@@ -62,7 +62,7 @@ fn root_out<R: Root>(bucket: &mut Bucket<R>, key: usize) -> R
 
 /// Closes and spends buckets in which nothing is left.
 pub fn spend_empty<R: Root>(buckets: Vec<Bucket<R>>)
-    requires { AreEmpty R.key R.line R.owes buckets.items }
+    requires { AreEmpty R.view buckets.items }
 {
     let mut buckets = buckets;
     while let Some(mut bucket) = buckets.pop() {

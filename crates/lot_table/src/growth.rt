@@ -164,7 +164,7 @@ fn lock_all<'a, W: Wait, R: Root>(
 
 // Whether all these buckets are in use, and at most so many threads wait in them.
 fn are_whole<R: Root>(guards: &[MutexGuard<'_, Settled<R>>], keys: usize, threads: usize) -> bool
-    ensures whole { IsTrue result → AreWhole R.key R.line R.owes keys (under guards.now) }
+    ensures whole { IsTrue result → AreWhole R.view keys (under guards.now) }
     ensures few { IsTrue result → queued (under guards.now) ≤ threads }
 {
     let mut waiting = 0;
@@ -205,7 +205,7 @@ fn move_over<W: Wait, R: Root>(
     keys: usize,
 )
     requires some { 0 < vec_len guards }
-    requires whole { AreWhole R.key R.line R.owes keys (under guards.items) }
+    requires whole { AreWhole R.view keys (under guards.items) }
     requires old { (old.items ≡ []) × (vec_len guards ≤ vec_capacity old) }
     requires fresh { (threads : ℕ) × AreFresh keys threads fresh.items × (queued (under guards.items) ≤ threads) }
     requires sizes { vec_len fresh ≡ published.now.size }

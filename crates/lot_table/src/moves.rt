@@ -16,10 +16,10 @@ const NEVER: Moment = Moment { now: 0, word: 0 };
 /// The caller has the old buckets out from under their locks, and the new ones are not in use yet. It takes
 /// no memory.
 pub fn regrow<R: Root>(old: &mut [Bucket<R>], new: &mut [Bucket<R>])
-    requires { (keys : ℕ) × MayRegrow R.key R.line R.owes keys old.old new.old }
+    requires { (keys : ℕ) × MayRegrow R.view keys old.old new.old }
     ensures lines { KeepsLines old.old new.new }
-    ensures filled { (keys : ℕ) → AreWhole R.key R.line R.owes keys old.old → AreFilled R.key R.line R.owes keys new.new }
-    ensures left { AreEmpty R.key R.line R.owes old.new }
+    ensures filled { (keys : ℕ) → AreWhole R.view keys old.old → AreFilled R.view keys new.new }
+    ensures left { AreEmpty R.view old.new }
 {
     let size = old.len();
     let grown = new.len();

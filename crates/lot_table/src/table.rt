@@ -58,7 +58,7 @@ impl<R: Root> Table<R> {
         roots: Vec<R>,
     ) -> Result<(Table<R>, Vec<R>), (TableFault, Vec<R>)>
         requires few { threads ≤ MOST_THREADS }
-        requires idle { AreIdle R.key R.line R.owes roots.items }
+        requires idle { AreIdle R.view roots.items }
         ensures ok { IfOk result (λ r. r.0 ≡ record { threads = threads; keys = vec_len roots }) }
         ensures room { IfOk result (λ r. (vec_len r.1 ≡ 0) × (vec_capacity r.1 ≡ vec_capacity roots)) }
         ensures err { IfErr result (λ e. e.1 ≡ roots) }
@@ -105,9 +105,9 @@ impl<R: Root> Table<R> {
         x: X,
         f: F,
     ) -> (X, Y)
-        requires callable { (b : _) → IsReady R.key R.line R.owes key self.now.threads self.now.keys b.now → F.pre f b x }
-        requires keeps { (b : _) (r : _) (b' : _) → IsReady R.key R.line R.owes key self.now.threads self.now.keys b.now → F.post f b x r b' → Stays R.key R.line R.owes b.now b'.now }
-        ensures { (b : _) × (b' : _) × IsReady R.key R.line R.owes key self.now.threads self.now.keys b.now × F.post f b x result b' × Stays R.key R.line R.owes b.now b'.now }
+        requires callable { (b : _) → IsReady R.view key self.now.threads self.now.keys b.now → F.pre f b x }
+        requires keeps { (b : _) (r : _) (b' : _) → IsReady R.view key self.now.threads self.now.keys b.now → F.post f b x r b' → Stays R.view b.now b'.now }
+        ensures { (b : _) × (b' : _) × IsReady R.view key self.now.threads self.now.keys b.now × F.post f b x result b' × Stays R.view b.now b'.now }
     {
         let mut guard = self.lock_ready(rt, key);
         let ready = &mut *guard;
@@ -123,9 +123,9 @@ impl<R: Root> Table<R> {
         x: X,
         f: F,
     ) -> (X, Y)
-        requires callable { (b : _) → IsReady R.key R.line R.owes key self.now.threads self.now.keys b.now → HasPlaceFor thread b.now → F.pre f b x }
-        requires keeps { (b : _) (r : _) (b' : _) → IsReady R.key R.line R.owes key self.now.threads self.now.keys b.now → HasPlaceFor thread b.now → F.post f b x r b' → Stays R.key R.line R.owes b.now b'.now }
-        ensures { (b : _) × (b' : _) × IsReady R.key R.line R.owes key self.now.threads self.now.keys b.now × HasPlaceFor thread b.now × F.post f b x result b' × Stays R.key R.line R.owes b.now b'.now }
+        requires callable { (b : _) → IsReady R.view key self.now.threads self.now.keys b.now → HasPlaceFor thread b.now → F.pre f b x }
+        requires keeps { (b : _) (r : _) (b' : _) → IsReady R.view key self.now.threads self.now.keys b.now → HasPlaceFor thread b.now → F.post f b x r b' → Stays R.view b.now b'.now }
+        ensures { (b : _) × (b' : _) × IsReady R.view key self.now.threads self.now.keys b.now × HasPlaceFor thread b.now × F.post f b x result b' × Stays R.view b.now b'.now }
     {
         let mut guard = self.lock_with_place(rt, key, thread);
         let settled = &mut *guard;
@@ -133,7 +133,7 @@ impl<R: Root> Table<R> {
     }
 
     fn lock_ready<W: Wait>(&self, rt: &W, key: usize) -> MutexGuard<'_, Settled<R>>
-        ensures { IsReady R.key R.line R.owes key self.now.threads self.now.keys (mutex_guard_value result).bucket }
+        ensures { IsReady R.view key self.now.threads self.now.keys (mutex_guard_value result).bucket }
     {
         for _ in rt.forever() {
             let (version, _next) = self.versions.newest();
@@ -153,7 +153,7 @@ impl<R: Root> Table<R> {
         key: usize,
         thread: usize,
     ) -> MutexGuard<'_, Settled<R>>
-        ensures ready { IsReady R.key R.line R.owes key self.now.threads self.now.keys (mutex_guard_value result).bucket }
+        ensures ready { IsReady R.view key self.now.threads self.now.keys (mutex_guard_value result).bucket }
         ensures place { HasPlaceFor thread (mutex_guard_value result).bucket }
     {
         for _ in rt.forever() {
@@ -211,7 +211,7 @@ impl<R: Root> Table<R> {
     /// Appends each key's root to `out`, in key order. It takes no memory.
     pub fn close<W: Wait>(self, rt: &W, out: &mut Vec<R>)
         requires { vec_len out.old + self.keys ≤ vec_capacity out.old }
-        ensures { Appends R.key R.owes self.keys out.old.items out.new.items }
+        ensures { Appends R.view self.keys out.old.items out.new.items }
     {
         let Table {
             versions,
@@ -267,8 +267,8 @@ fn parts_for<R: Root>(alloc: Global, threads: usize, keys: usize) -> Result<Part
 fn put_all<R: Root>(fresh: &mut [Bucket<R>], roots: &mut Vec<R>)
     requires some { 0 < length fresh.old }
     requires fresh { (threads : ℕ) × AreFresh (length roots.old.items) threads fresh.old }
-    requires idle { AreIdle R.key R.line R.owes roots.old.items }
-    ensures filled { AreFilled R.key R.line R.owes (length roots.old.items) fresh.new }
+    requires idle { AreIdle R.view roots.old.items }
+    ensures filled { AreFilled R.view (length roots.old.items) fresh.new }
     ensures room { (vec_len roots.new ≡ 0) × (vec_capacity roots.new ≡ vec_capacity roots.old) }
 {
     let size = fresh.len();

@@ -53,7 +53,7 @@ impl<R: Root> Version<R> {
         requires some { 0 < vec_len buckets }
         requires empty { vec_len locks ≡ 0 }
         requires room { vec_len buckets ≤ vec_capacity locks }
-        requires filled { AreFilled R.key R.line R.owes keys buckets.items }
+        requires filled { AreFilled R.view keys buckets.items }
         ensures size { result.0.size ≡ vec_len buckets }
         ensures empty { result.1.items ≡ [] }
         ensures room { vec_capacity result.1 ≡ vec_capacity buckets }
@@ -88,7 +88,7 @@ impl<R: Root> Version<R> {
     /// Opens the new buckets, and puts each behind its lock, where a closed bucket lies that is spent.
     pub fn fill<W: Wait>(&self, rt: &W, fresh: Vec<Bucket<R>>, keys: usize)
         requires count { self.now.size ≡ vec_len fresh }
-        requires filled { AreFilled R.key R.line R.owes keys fresh.items }
+        requires filled { AreFilled R.view keys fresh.items }
     {
         let size = fresh.len();
         let mut fresh = fresh;
@@ -107,7 +107,7 @@ impl<R: Root> Version<R> {
     pub fn into_buckets<W: Wait>(self, rt: &W, keys: usize, row: Vec<Bucket<R>>) -> Vec<Bucket<R>>
         requires { row.items ≡ [] }
         ensures some { 0 < vec_len result }
-        ensures whole { AreWhole R.key R.line R.owes keys result.items }
+        ensures whole { AreWhole R.view keys result.items }
     {
         let Version { buckets: mut locks } = self;
         let size = locks.len();
@@ -141,7 +141,7 @@ fn taken_whole<W: Wait, R: Root>(
     size: usize,
     keys: usize,
 ) -> Bucket<R>
-    ensures { IsWhole R.key R.line R.owes size number keys result }
+    ensures { IsWhole R.view size number keys result }
 {
     if !settled.is_whole(number, size, keys) {
         wait_without_end(rt);

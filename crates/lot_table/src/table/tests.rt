@@ -31,16 +31,12 @@ struct Right {
 }
 
 impl Root for Right {
-    ghost key = { λ r. r.key };
-
-    ghost line = { λ r. r.line.items };
-
-    ghost owes = { λ _. [] };
+    ghost view = { λ r. record { key = r.key; line = r.line.items; owes = [] } };
 }
 
 fn idle_rights(alloc: Global) -> Result<Vec<Right>, AllocError>
     ensures len { IfOk result (λ v. vec_len v ≡ KEYS) }
-    ensures idle { IfOk result (λ v. AreIdle (λ (r : Right). r.key) (λ (r : Right). r.line.items) (λ (_ : Right). []) v.items) }
+    ensures idle { IfOk result (λ v. AreIdle ⟦<Right as Root>⟧.view v.items) }
 {
     let mut rights = Vec::new(alloc);
     for key in 0..KEYS {
@@ -136,9 +132,9 @@ fn joined(rt: &impl Abort, right: Right, thread: usize) -> Right
 
 // Queues the thread on the key, in the bucket and in the root's line.
 fn join_in(rt: &impl Abort, bucket: &mut Bucket<Right>, key: usize, thread: usize)
-    requires ready { (threads keys : ℕ) × IsReady (λ (r : Right). r.key) (λ (r : Right). r.line.items) (λ (_ : Right). []) key threads keys bucket.old }
+    requires ready { (threads keys : ℕ) × IsReady ⟦<Right as Root>⟧.view key threads keys bucket.old }
     requires room { length bucket.old.queue < bucket.old.room }
-    ensures { Stays (λ (r : Right). r.key) (λ (r : Right). r.line.items) (λ (_ : Right). []) bucket.old bucket.new }
+    ensures { Stays ⟦<Right as Root>⟧.view bucket.old bucket.new }
 {
     let right = bucket.take_root(key);
     let right = joined(rt, right, thread);
@@ -153,7 +149,7 @@ fn queue_up<R: Wait + Abort>(rt: &R, table: &Table<Right>, thread: usize, key: u
         thread,
         (),
         |bucket: &mut Bucket<Right>, x: ()| -> ((), ())
-            requires ready { (threads keys : ℕ) × IsReady (λ (r : Right). r.key) (λ (r : Right). r.line.items) (λ (_ : Right). []) key threads keys bucket.old }
+            requires ready { (threads keys : ℕ) × IsReady (λ (r : Right). record { key = r.key; line = r.line.items; owes = [] }) key threads keys bucket.old }
             requires room { length bucket.old.queue < bucket.old.room }
         {
             join_in(rt, bucket, key, thread);
@@ -176,9 +172,9 @@ fn advanced(right: Right) -> Right
 
 // Takes the first thread of the key, from the bucket and from the root's line.
 fn leave_from(bucket: &mut Bucket<Right>, key: usize) -> Option<usize>
-    requires { (threads keys : ℕ) × IsReady (λ (r : Right). r.key) (λ (r : Right). r.line.items) (λ (_ : Right). []) key threads keys bucket.old }
+    requires { (threads keys : ℕ) × IsReady ⟦<Right as Root>⟧.view key threads keys bucket.old }
     ensures first { result ≡ first_of (line_of key bucket.old.queue) }
-    ensures stays { Stays (λ (r : Right). r.key) (λ (r : Right). r.line.items) (λ (_ : Right). []) bucket.old bucket.new }
+    ensures stays { Stays ⟦<Right as Root>⟧.view bucket.old bucket.new }
 {
     let right = bucket.take_root(key);
     let taken = bucket.dequeue_one(key, NEVER).thread;
@@ -192,7 +188,7 @@ fn left_first<W: Wait>(rt: &W, table: &Table<Right>, key: usize) -> Option<usize
         key,
         (),
         |bucket: &mut Bucket<Right>, x: ()| -> ((), Option<usize>)
-            requires { (threads keys : ℕ) × IsReady (λ (r : Right). r.key) (λ (r : Right). r.line.items) (λ (_ : Right). []) key threads keys bucket.old }
+            requires { (threads keys : ℕ) × IsReady (λ (r : Right). record { key = r.key; line = r.line.items; owes = [] }) key threads keys bucket.old }
         { (x, leave_from(bucket, key)) },
     );
     taken

@@ -10,6 +10,6 @@ loop-number-preserved g c = record {
       c.loop-number-test.true
       c.index-guards-number-in-loop-number.is c.deref-in-loop-number.ensures c.bucket.ensures c.loop-number.invariant.sum c.len-own.ensures.count;
   whole =
-      whole_next g.R.Root.key g.R.Root.line g.R.Root.owes c.args.keys c.loop-number.number c.args.guards.now c.index-guards-number.result c.deref.result.now c.loop-number-test.true
+      whole_next g.R.Root.view c.args.keys c.loop-number.number c.args.guards.now c.index-guards-number.result c.deref.result.now c.loop-number-test.true
       c.index-guards-number.is c.deref.ensures (c.if-not-is_whole.ensures.whole refl) c.loop-number.invariant.whole;
 }

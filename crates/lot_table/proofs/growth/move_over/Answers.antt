@@ -11,8 +11,8 @@ use Rattle.lot_table.proofs.growth.move_over.Goals as goal
 taken : (g : Over) (c : After-as_mut_slice-3 g) → c.as_mut_slice-2.result.now ≡ under c.args.guards.items
 taken g c = c.as_mut_slice-2.ensures.value ∙ c.take_out.ensures ∙ ap (λ gs. under gs) c.as_mut_slice.ensures.value
 
-whole : (g : Over) (c : After-as_mut_slice-3 g) → AreWhole g.R.Root.key g.R.Root.line g.R.Root.owes c.args.keys c.as_mut_slice-2.result.now
-whole g c = subst (λ (bs : List (Contents g.row.R.Denot)). AreWhole g.R.Root.key g.R.Root.line g.R.Root.owes c.args.keys bs) (sym (taken g c)) c.requires.whole
+whole : (g : Over) (c : After-as_mut_slice-3 g) → AreWhole g.R.Root.view c.args.keys c.as_mut_slice-2.result.now
+whole g c = subst (λ (bs : List (Contents g.row.R.Denot)). AreWhole g.R.Root.view c.args.keys bs) (sym (taken g c)) c.requires.whole
 
 pub regrow-requires-after_bounds : goal.regrow-requires-after_bounds
 regrow-requires-after_bounds g c κs within =

@@ -5,6 +5,6 @@ use Rattle.lot_table.proofs.moves.regrow.Given as goal
 
 abbrev pub invariant-loop-key : goal.invariant-loop-key
 invariant-loop-key g l = record {
-  within : (n : ℕ) → MayRegrow g.R.Root.key g.R.Root.line g.R.Root.owes n l.fn.old l.fn.new → l.key ≤ n;
+  within : (n : ℕ) → MayRegrow g.R.Root.view n l.fn.old l.fn.new → l.key ≤ n;
   moved : AreMoved l.key l.fn.old l.fn.new l.old l.new;
 }

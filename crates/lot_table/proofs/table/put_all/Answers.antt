@@ -33,6 +33,6 @@ loop-root-preserved g c =
 
 pub returns-clause-filled : goal.returns-clause-filled
 returns-clause-filled g c =
-    filling_ends g.R.Root.key g.R.Root.line g.R.Root.owes c.requires.fresh.0 c.args.roots.now.items c.loop-root.roots.items c.args.fresh.now c.loop-root.fresh c.requires.fresh.1 c.requires.idle
+    filling_ends g.R.Root.view c.requires.fresh.0 c.args.roots.now.items c.loop-root.roots.items c.args.fresh.now c.loop-root.fresh c.requires.fresh.1 c.requires.idle
     c.loop-root.invariant.filling
     (omega (arith, c.loop-root.roots.ok.0, c.in_default.ensures.cases.0))

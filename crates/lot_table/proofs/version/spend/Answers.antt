@@ -9,6 +9,6 @@ discard-requires g c =
     elim c.if-is_open.branch [
       | then-is_open w ↦ absurd w.wait_without_end.ensures
       | else-is_open w ↦
-          settled_spent g.R.Root.key g.R.Root.line g.R.Root.owes c.args.settled c.into_bucket.result c.into_bucket.ensures.settled c.into_bucket.ensures.same
+          settled_spent g.R.Root.view c.args.settled c.into_bucket.result c.into_bucket.ensures.settled c.into_bucket.ensures.same
           (sym (ap (λ (b : Contents g.row.R.Denot). b.opened) c.bucket.ensures) ∙ sym c.is_open.ensures ∙ w.if-is_open.false)
     ]

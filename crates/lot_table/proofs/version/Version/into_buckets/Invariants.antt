@@ -7,7 +7,7 @@ abbrev pub invariant-loop-lock : goal.invariant-loop-lock
 invariant-loop-lock g l = record {
   count : vec_len l.row + vec_len l.locks ≡ l.size;
   room : l.size ≤ vec_capacity l.row;
-  whole : (i : ℕ) (d : Contents g.row.R.Denot) → i < length l.row.items → IsWhole g.R.Root.key g.R.Root.line g.R.Root.owes l.size i l.keys (get_or l.row.items i d);
+  whole : (i : ℕ) (d : Contents g.row.R.Denot) → i < length l.row.items → IsWhole g.R.Root.view l.size i l.keys (get_or l.row.items i d);
 }
 
 abbrev pub decreases-loop-lock : goal.decreases-loop-lock
