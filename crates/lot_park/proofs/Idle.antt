@@ -1,6 +1,7 @@
 -- Roots of a lot that is about to be opened.
 use Rattle.std.proofs.Common.{◌≡◌, ℕ, zero, suc, List, [], ◌∷◌, ◌++◌, length, Some}
 use Rattle.std.specs.Prelude.{slice_get}
+use Rattle.lot_bucket.specs.KeyLine.{KeyLine}
 use Rattle.lot_bucket.specs.Agrees.{IsRootOf}
 use Rattle.lot_park.specs.Lots.{AreIdle}
 
@@ -13,7 +14,7 @@ each_pushed Is (y ∷ ys) x each last zero r at = each zero r at
 each_pushed Is (y ∷ ys) x each last (suc i) r at = each_pushed (λ j. Is (suc j)) ys x (λ j z f. each (suc j) z f) last i r at
 
 -- with one more idle root
-pub idle_pushed : {R : Type 0} (key : R → ℕ) (line : R → List ℕ) (owes : R → List (ℕ × ℕ)) (roots after : List R) (root : R) (n : ℕ) → AreIdle key line owes roots → n ≡ length roots
-    → IsRootOf key line owes n [] root → after ≡ roots ++ root ∷ [] → AreIdle key line owes after
-idle_pushed key line owes roots after root n idle long own pushed =
-    rw pushed (each_pushed (λ i r. IsRootOf key line owes i [] r) roots root idle (rw (← long) own))
+pub idle_pushed : {R : Type 0} (view : R → KeyLine) (roots after : List R) (root : R) (n : ℕ) → AreIdle view roots → n ≡ length roots
+    → IsRootOf view n [] root → after ≡ roots ++ root ∷ [] → AreIdle view after
+idle_pushed view roots after root n idle long own pushed =
+    rw pushed (each_pushed (λ i r. IsRootOf view i [] r) roots root idle (rw (← long) own))

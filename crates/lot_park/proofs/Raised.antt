@@ -1,37 +1,39 @@
 -- What a parking call on the whole lot says of the one table whose roots and passes it was called with.
-use Rattle.std.proofs.Common.{◌≡◌, ℕ, zero, suc, true, false, Bool, List, Option, Some, None, refl, sym, ◌∙◌, ap, subst}
+use Rattle.std.proofs.Common.{◌≡◌, ℕ, zero, suc, true, false, Bool, Option, Some, None, refl, sym, ◌∙◌, ap, subst}
+use Rattle.lot_bucket.specs.KeyLine.{KeyLine}
 use Rattle.lot_bucket.specs.declared.taking.Dequeued.{Dequeued}
 use Rattle.lot_park.specs.Parking.{Tells, TellsCount, LooksInVain, Awaited, UnparkedOne, UnparkedCount, Ends, ParkedOnce}
 use Rattle.lot_park.specs.declared.lot.Parked.{Parked}
 use Rattle.lot_park.specs.declared.lot.Parked.TheVariants.{Invalid, Woken}
 use Rattle.lot_park.specs.Parts.{CallsBack, CallsBackCount, Checks}
 
-module _ {R W : Type 0} (whole : R → W) (key : R → ℕ) (line : R → List ℕ) (owes : R → List (ℕ × ℕ)) (whole_key : W → ℕ) (whole_line : W → List ℕ) (whole_owes : W → List (ℕ × ℕ))
-    (same_key : (r : R) → whole_key (whole r) ≡ key r) (same_line : (r : R) → whole_line (whole r) ≡ line r) (same_owes : (r : R) → whole_owes (whole r) ≡ owes r) where
+module _ {R W : Type 0} (whole : R → W) (view : R → KeyLine) (whole_view : W → KeyLine) (same_view : (r : R) → whole_view (whole r) ≡ view r) where
   pub unparked_one : {X T : Type 0} (k now : ℕ) (answers : R → Dequeued → X × R × T → Type 0) (result : X × Dequeued)
-      → UnparkedOne whole_key whole_line whole_owes {X = X} {T = T} k now (λ root told. CallsBack whole root (λ r. answers r told)) result → UnparkedOne key line owes k now answers result
+      → UnparkedOne whole_view {X = X} {T = T} k now (λ root told. CallsBack whole root (λ r. answers r told)) result → UnparkedOne view k now answers result
   unparked_one {X} {T} k now answers result u =
+      let seen : view u.called.mine ≡ whole_view u.root = sym (same_view u.called.mine) ∙ ap whole_view u.called.stands in
       record {
         root = u.called.mine;
         answer = u.called.answer;
-        named = sym (same_key u.called.mine) ∙ ap (λ w. whole_key w) u.called.stands ∙ u.named;
-        paid = sym (same_owes u.called.mine) ∙ ap (λ w. whole_owes w) u.called.stands ∙ u.paid;
-        told = subst (λ (l : List ℕ). Tells l now result.1) (ap (λ w. whole_line w) (sym u.called.stands) ∙ same_line u.called.mine) u.told;
+        named = ap (λ (v : KeyLine). v.key) seen ∙ u.named;
+        paid = ap (λ (v : KeyLine). v.owes) seen ∙ u.paid;
+        told = subst (λ (v : KeyLine). Tells v.line now result.1) (sym seen) u.told;
         called = u.called.called;
         same = u.same ∙ ap (λ (o : X × W × T). o.0) u.called.answered;
       }
 
   pub unparked_count : {X : Type 0} (threads k n : ℕ) (answers : R → ℕ → Bool → X × R → Type 0) (result : X × ℕ)
-      → UnparkedCount whole_key whole_line whole_owes {X = X} threads k n (λ root taken more. CallsBackCount whole root (λ r. answers r taken more)) result
-      → UnparkedCount key line owes threads k n answers result
+      → UnparkedCount whole_view {X = X} threads k n (λ root taken more. CallsBackCount whole root (λ r. answers r taken more)) result
+      → UnparkedCount view threads k n answers result
   unparked_count {X} threads k n answers result u =
+      let seen : view u.called.mine ≡ whole_view u.root = sym (same_view u.called.mine) ∙ ap whole_view u.called.stands in
       record {
         root = u.called.mine;
         more = u.more;
         answer = u.called.answer;
-        named = sym (same_key u.called.mine) ∙ ap (λ w. whole_key w) u.called.stands ∙ u.named;
-        paid = sym (same_owes u.called.mine) ∙ ap (λ w. whole_owes w) u.called.stands ∙ u.paid;
-        told = subst (λ (l : List ℕ). TellsCount threads n l result.1 u.more) (ap (λ w. whole_line w) (sym u.called.stands) ∙ same_line u.called.mine) u.told;
+        named = ap (λ (v : KeyLine). v.key) seen ∙ u.named;
+        paid = ap (λ (v : KeyLine). v.owes) seen ∙ u.paid;
+        told = subst (λ (v : KeyLine). TellsCount threads n v.line result.1 u.more) (sym seen) u.told;
         called = u.called.called;
         same = u.same ∙ ap (λ (o : X × W). o.0) u.called.answered;
       }
@@ -58,8 +60,7 @@ module _ {P Q : Type 0} (whole : P → Q) (looked : P → Option ℕ → P → T
       (after.0, after.1, record { looks = a.looks; last = before.0; in_vain = before.2; found = after.2 })
 
 -- a parking on the whole lot is one on the table
-module _ {R W P Q : Type 0} (whole : R → W) (key : R → ℕ) (line : R → List ℕ) (owes : R → List (ℕ × ℕ)) (whole_key : W → ℕ) (whole_line : W → List ℕ) (whole_owes : W → List (ℕ × ℕ))
-    (same_key : (r : R) → whole_key (whole r) ≡ key r) (same_owes : (r : R) → whole_owes (whole r) ≡ owes r)
+module _ {R W P Q : Type 0} (whole : R → W) (view : R → KeyLine) (whole_view : W → KeyLine) (same_view : (r : R) → whole_view (whole r) ≡ view r)
     (whole_pass : P → Q) (looked : P → Option ℕ → P → Type 0) (whole_looked : Q → Option ℕ → Q → Type 0)
     (same_looks : (p : P) (found : Option ℕ) (q : Q) → whole_looked (whole_pass p) found q → (mine : P) × (whole_pass mine ≡ q) × looked p found mine)
     (one_pass : (p q : P) → whole_pass p ≡ whole_pass q → p ≡ q) where
@@ -76,10 +77,11 @@ module _ {R W P Q : Type 0} (whole : R → W) (key : R → ℕ) (line : R → Li
       (m.0, m.1, (e.0, m.2, e.2))
 
   pub parked_once : {X : Type 0} (k : ℕ) (pass : P) (raised : Q) (answers : P → R → X × P × R × Bool → Type 0) (acts : X → X → Type 0) (result : Q × X × Parked) → raised ≡ whole_pass pass
-      → ParkedOnce whole_key whole_line whole_owes {X = X} {P = Q} k (λ root. Checks whole whole_pass raised root answers) acts whole_looked result
-      → (mine : P) × (whole_pass mine ≡ result.0) × ParkedOnce key line owes {X = X} {P = P} k (answers pass) acts looked (mine, result.1, result.2)
+      → ParkedOnce whole_view {X = X} {P = Q} k (λ root. Checks whole whole_pass raised root answers) acts whole_looked result
+      → (mine : P) × (whole_pass mine ≡ result.0) × ParkedOnce view {X = X} {P = P} k (answers pass) acts looked (mine, result.1, result.2)
   parked_once {X} k pass raised answers acts result is u =
       let o = u.called in
+      let seen : view o.mine ≡ whole_view u.root = sym (same_view o.mine) ∙ ap whole_view o.stands in
       let e = ended acts o.answer result.0 result.1 result.2
       (subst (λ (a : X × Q × W × Bool). Ended {X = X} {Own = Q} {Root = W} whole_looked acts a result.0 result.1 result.2) o.answered u.ends) in (
         e.0,
@@ -87,8 +89,8 @@ module _ {R W P Q : Type 0} (whole : R → W) (key : R → ℕ) (line : R → Li
         record {
           root = o.mine;
           answer = o.answer;
-          named = sym (same_key o.mine) ∙ ap (λ w. whole_key w) o.stands ∙ u.named;
-          paid = sym (same_owes o.mine) ∙ ap (λ w. whole_owes w) o.stands ∙ u.paid;
+          named = ap (λ (v : KeyLine). v.key) seen ∙ u.named;
+          paid = ap (λ (v : KeyLine). v.owes) seen ∙ u.paid;
           called = subst (λ (p : P). answers p o.mine o.answer) (one_pass o.own pass (o.own_stands ∙ is)) o.called;
           ends = e.2;
         },
@@ -96,7 +98,7 @@ module _ {R W P Q : Type 0} (whole : R → W) (key : R → ℕ) (line : R → Li
 
   -- by the pass that was lowered
   pub parked_by : {X : Type 0} (k : ℕ) (answers : R → X × P × R × Bool → Type 0) (acts : X → X → Type 0) (after : Q) (x : X) (parked : Parked) (own : P) → whole_pass own ≡ after
-      → (mine : P) × (whole_pass mine ≡ after) × ParkedOnce key line owes {X = X} {P = P} k answers acts looked (mine, x, parked)
-      → ParkedOnce key line owes {X = X} {P = P} k answers acts looked (own, x, parked)
+      → (mine : P) × (whole_pass mine ≡ after) × ParkedOnce view {X = X} {P = P} k answers acts looked (mine, x, parked)
+      → ParkedOnce view {X = X} {P = P} k answers acts looked (own, x, parked)
   parked_by {X} k answers acts after x parked own lowered u =
-      subst (λ (p : P). ParkedOnce key line owes {X = X} {P = P} k answers acts looked (p, x, parked)) (one_pass u.0 own (u.1 ∙ sym lowered)) u.2
+      subst (λ (p : P). ParkedOnce view {X = X} {P = P} k answers acts looked (p, x, parked)) (one_pass u.0 own (u.1 ∙ sym lowered)) u.2

@@ -7,6 +7,7 @@ use Rattle.std.proofs.Math.Dec.{eqb-suc-zero}
 use Rattle.lot_bucket.specs.Queue.{line_of, without_count, without_first, first_of}
 use Rattle.lot_bucket.specs.Places.{has_key, root_at, with_root}
 use Rattle.lot_bucket.specs.Contents.{Contents}
+use Rattle.lot_bucket.specs.KeyLine.{KeyLine}
 use Rattle.lot_bucket.specs.Agrees.{IsRootOf}
 use Rattle.lot_bucket.specs.Settled.{Stays}
 use Rattle.lot_bucket.specs.Taking.{TakesOne, TakesFirst}
@@ -38,10 +39,10 @@ tells_of (t ∷ line) left next now told thread more fair last =
       fair = λ f. (rw thread refl, (let past : next < now = ltb-true next now (sym fair ∙ f) in omega arith));
     }
 
-pub tells : {R : Type 0} (line : R → List ℕ) (k : ℕ) (moment : Moment) (before taken after : Contents R) (root : R) (told : Dequeued)
-    → line root ≡ line_of k before.queue → taken.queue ≡ before.queue → TakesOne k moment taken after told → Tells (line root) moment.now told
-tells line k moment before taken after root told same out takes =
-    let own : line root ≡ line_of k taken.queue = same ∙ ap (λ q. line_of k q) (sym out) in
+pub tells : {R : Type 0} (view : R → KeyLine) (k : ℕ) (moment : Moment) (before taken after : Contents R) (root : R) (told : Dequeued)
+    → (view root).line ≡ line_of k before.queue → taken.queue ≡ before.queue → TakesOne k moment taken after told → Tells (view root).line moment.now told
+tells view k moment before taken after root told same out takes =
+    let own : (view root).line ≡ line_of k taken.queue = same ∙ ap (λ q. line_of k q) (sym out) in
     let left : after.queue ≡ without_first k taken.queue = ap (λ (c : Contents _). c.queue) takes.left in
     rw own (tells_of (line_of k taken.queue) after.queue taken.next_fair moment.now told takes.thread takes.more takes.fair
     (λ e. sym (line_of-without_count_same 1 k taken.queue) ∙ ap (λ q. line_of k q) (sym left ∙ e)))
@@ -79,76 +80,76 @@ pub line_of-joined_other : (j k t : ℕ) (queued : Bool) (queue : List (ℕ × �
 line_of-joined_other j k t true queue other = line_of-push_other j k t queue other
 line_of-joined_other j k t false queue other = refl
 
-module _ {R : Type 0} (key : R → ℕ) (line : R → List ℕ) (owes : R → List (ℕ × ℕ)) where
+module _ {R : Type 0} (view : R → KeyLine) where
   -- the root that a validation gave back
-  pub root_joined : (k t : ℕ) (queued : Bool) (queue : List (ℕ × ℕ)) (root after : R) → IsRootOf key line owes k queue root → key after ≡ k → owes after ≡ []
-      → (queued ≡ true → line after ≡ line root ++ t ∷ []) → (queued ≡ false → after ≡ root) → IsRootOf key line owes k (joined queued t k queue) after
+  pub root_joined : (k t : ℕ) (queued : Bool) (queue : List (ℕ × ℕ)) (root after : R) → IsRootOf view k queue root → (view after).key ≡ k → (view after).owes ≡ []
+      → (queued ≡ true → (view after).line ≡ (view root).line ++ t ∷ []) → (queued ≡ false → after ≡ root) → IsRootOf view k (joined queued t k queue) after
   root_joined k t true queue root after own named paid longer same =
       record { named = named; same_line = longer refl ∙ ap (λ xs. xs ++ t ∷ []) own.same_line ∙ sym (line_of-push_same k t queue); paid = paid }
   root_joined k t false queue root after own named paid longer same =
-      record { named = named; same_line = ap (λ r. line r) (same refl) ∙ own.same_line; paid = paid }
+      record { named = named; same_line = ap (λ r. (view r).line) (same refl) ∙ own.same_line; paid = paid }
 
   -- the root that an unparking of the first n leaves
-  pub root_shorter : (k n : ℕ) (queue : List (ℕ × ℕ)) (root after : R) → IsRootOf key line owes k queue root → key after ≡ k → line after ≡ drop n (line root) → owes after ≡ []
-      → IsRootOf key line owes k (without_count n k queue) after
+  pub root_shorter : (k n : ℕ) (queue : List (ℕ × ℕ)) (root after : R) → IsRootOf view k queue root → (view after).key ≡ k → (view after).line ≡ drop n (view root).line → (view after).owes ≡ []
+      → IsRootOf view k (without_count n k queue) after
   root_shorter k n queue root after own named shorter paid =
       record { named = named; same_line = shorter ∙ ap (λ xs. drop n xs) own.same_line ∙ sym (line_of-without_count_same n k queue); paid = paid }
 
   -- the root that was taken out
-  pub own_root : (k : ℕ) (b : Contents R) (root : R) → IsOpenFor key line owes k b → root_at k b.places ≡ Some root → IsRootOf key line owes k b.queue root
-  own_root k b root ready at = root_taken key line owes b k root ready.agrees ready.is_open ready.has at
+  pub own_root : (k : ℕ) (b : Contents R) (root : R) → IsOpenFor view k b → root_at k b.places ≡ Some root → IsRootOf view k b.queue root
+  own_root k b root ready at = root_taken view b k root ready.agrees ready.is_open ready.has at
 
   -- with the root back, the bucket stays what it was
-  stays_again : (before after : Contents R) (k : ℕ) (root : R) → IsOpenFor key line owes k before
+  stays_again : (before after : Contents R) (k : ℕ) (root : R) → IsOpenFor view k before
       → after.opened ≡ before.opened → after.room ≡ before.room → after.places ≡ with_root k (Some root) (with_root k None before.places)
-      → ((j : ℕ) → k ≢ j → line_of j after.queue ≡ line_of j before.queue) → IsRootOf key line owes k after.queue root → Stays key line owes before after
+      → ((j : ℕ) → k ≢ j → line_of j after.queue ≡ line_of j before.queue) → IsRootOf view k after.queue root → Stays view before after
   stays_again before after k root ready opened room places lines own =
       record {
-        agrees = agrees_again key line owes before after k root ready.agrees ready.is_open ready.has (opened ∙ ready.is_open) places lines own;
+        agrees = agrees_again view before after k root ready.agrees ready.is_open ready.has (opened ∙ ready.is_open) places lines own;
         is_open = opened ∙ ready.is_open;
         keys = λ j. ap (λ ps. has_key j ps) places ∙ has_key-with j k (Some root) (with_root k None before.places) ∙ has_key-with j k None before.places;
         room = room;
       }
 
   -- after a parking: the root was out, the thread was queued or not, the root is back
-  pub parked_stays : (k t : ℕ) (before out queued after : Contents R) (root back : R) (joins : Bool) → IsOpenFor key line owes k before → root_at k before.places ≡ Some root
+  pub parked_stays : (k t : ℕ) (before out queued after : Contents R) (root back : R) (joins : Bool) → IsOpenFor view k before → root_at k before.places ≡ Some root
       → out ≡ record before { places = with_root k None before.places }
       → queued ≡ record out { queue = joined joins t k out.queue }
       → after ≡ record queued { places = with_root k (Some back) queued.places }
-      → key back ≡ k → owes back ≡ [] → (joins ≡ true → line back ≡ line root ++ t ∷ []) → (joins ≡ false → back ≡ root) → Stays key line owes before after
+      → (view back).key ≡ k → (view back).owes ≡ [] → (joins ≡ true → (view back).line ≡ (view root).line ++ t ∷ []) → (joins ≡ false → back ≡ root) → Stays view before after
   parked_stays k t before out queued after root back joins ready at took queues put named paid longer same =
       stays_again before after k back ready
       (ap (λ (c : Contents R). c.opened) put ∙ ap (λ (c : Contents R). c.opened) queues ∙ ap (λ (c : Contents R). c.opened) took)
       (ap (λ (c : Contents R). c.room) put ∙ ap (λ (c : Contents R). c.room) queues ∙ ap (λ (c : Contents R). c.room) took)
       (ap (λ (c : Contents R). c.places) put ∙ ap (λ ps. with_root k (Some back) ps) (ap (λ (c : Contents R). c.places) queues ∙ ap (λ (c : Contents R). c.places) took))
       (λ j other. ap (λ q. line_of j q) queue ∙ line_of-joined_other j k t joins before.queue other)
-      (subst (λ (q : List (ℕ × ℕ)). IsRootOf key line owes k q back) (sym queue) (root_joined k t joins before.queue root back (own_root k before root ready at) named paid longer same))
+      (subst (λ (q : List (ℕ × ℕ)). IsRootOf view k q back) (sym queue) (root_joined k t joins before.queue root back (own_root k before root ready at) named paid longer same))
     where
       queue : after.queue ≡ joined joins t k before.queue
       queue =
           ap (λ (c : Contents R). c.queue) put ∙ ap (λ (c : Contents R). c.queue) queues ∙ ap (λ q. joined joins t k q) (ap (λ (c : Contents R). c.queue) took)
 
   -- after an unparking: the root was out, the first n were taken, the root is back
-  pub unparked_stays : (k n : ℕ) (before taken after : Contents R) (root back : R) → IsOpenFor key line owes k before → root_at k before.places ≡ Some root
+  pub unparked_stays : (k n : ℕ) (before taken after : Contents R) (root back : R) → IsOpenFor view k before → root_at k before.places ≡ Some root
       → taken.opened ≡ before.opened → taken.room ≡ before.room → taken.places ≡ with_root k None before.places → taken.queue ≡ without_count n k before.queue
       → after ≡ record taken { places = with_root k (Some back) taken.places }
-      → key back ≡ k → line back ≡ drop n (line root) → owes back ≡ [] → Stays key line owes before after
+      → (view back).key ≡ k → (view back).line ≡ drop n (view root).line → (view back).owes ≡ [] → Stays view before after
   unparked_stays k n before taken after root back ready at opened room places left put named shorter paid =
       stays_again before after k back ready
       (ap (λ (c : Contents R). c.opened) put ∙ opened)
       (ap (λ (c : Contents R). c.room) put ∙ room)
       (ap (λ (c : Contents R). c.places) put ∙ ap (λ ps. with_root k (Some back) ps) places)
       (λ j other. ap (λ q. line_of j q) queue ∙ line_of-without_count_other j n k before.queue other)
-      (subst (λ (q : List (ℕ × ℕ)). IsRootOf key line owes k q back) (sym queue) (root_shorter k n before.queue root back (own_root k before root ready at) named shorter paid))
+      (subst (λ (q : List (ℕ × ℕ)). IsRootOf view k q back) (sym queue) (root_shorter k n before.queue root back (own_root k before root ready at) named shorter paid))
     where
       queue : after.queue ≡ without_count n k before.queue
       queue = ap (λ (c : Contents R). c.queue) put ∙ left
 
   -- the same where one was taken at a moment
-  pub one_unparked_stays : (k : ℕ) (moment : Moment) (before out taken after : Contents R) (root back : R) (told : Dequeued) → IsOpenFor key line owes k before → root_at k before.places ≡ Some root
+  pub one_unparked_stays : (k : ℕ) (moment : Moment) (before out taken after : Contents R) (root back : R) (told : Dequeued) → IsOpenFor view k before → root_at k before.places ≡ Some root
       → out ≡ record before { places = with_root k None before.places } → TakesOne k moment out taken told
       → after ≡ record taken { places = with_root k (Some back) taken.places }
-      → key back ≡ k → line back ≡ drop 1 (line root) → owes back ≡ [] → Stays key line owes before after
+      → (view back).key ≡ k → (view back).line ≡ drop 1 (view root).line → (view back).owes ≡ [] → Stays view before after
   one_unparked_stays k moment before out taken after root back told ready at took takes =
       unparked_stays k 1 before taken after root back ready at
       (ap (λ (c : Contents R). c.opened) takes.left ∙ ap (λ (c : Contents R). c.opened) took)

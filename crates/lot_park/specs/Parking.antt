@@ -1,9 +1,10 @@
--- What the callbacks of the parking lot are told, and what is asked of them. Of a root three things are
--- known, by functions: its key, its line, and the letters that it owes, as pairs of thread and token.
+-- What the callbacks of the parking lot are told, and what is asked of them. What a root is seen as is
+-- handed in as a function.
 use Rattle.std.specs.Prelude.{◌≡◌, ℕ, zero, suc, ◌<◌, ◌≤◌, ◌==◌, ◌&&◌, cond, min, Bool, true, false, List, [], ◌∷◌, ◌++◌, take, drop, length, Option, Some, None, IsSome, MatchBool}
 use Rattle.lot_bucket.specs.Queue.{first_of}
 use Rattle.lot_bucket.specs.Places.{has_key}
 use Rattle.lot_bucket.specs.Contents.{Contents}
+use Rattle.lot_bucket.specs.KeyLine.{KeyLine}
 use Rattle.lot_bucket.specs.Agrees.{Agrees}
 use Rattle.lot_bucket.specs.declared.taking.Dequeued.{Dequeued}
 use Rattle.lot_park.specs.declared.lot.Parked.{Parked}
@@ -58,71 +59,71 @@ abbrev pub Ends : Parked → Type 0 → (ℕ → Type 0) → Type 0
 Ends Invalid invalid woken = invalid
 Ends (Woken token) invalid woken = woken token.0
 
-module _ {R : Type 0} (key : R → ℕ) (line : R → List ℕ) (owes : R → List (ℕ × ℕ)) where
+module _ {R : Type 0} (view : R → KeyLine) where
   -- the bucket is open, agrees, and has key k
   pub record IsOpenFor (k : ℕ) (b : Contents R) : Type 0 where
-    pub agrees : Agrees key line owes b
+    pub agrees : Agrees view b
     pub is_open : b.opened ≡ true
     pub has : has_key k b.places ≡ true
 
   -- The callback of an unparking may be called with the key's root, which owes nothing, and what is told.
   abbrev pub MayUnpark : ℕ → ℕ → (R → Dequeued → Type 0) → Type 0
-  MayUnpark k now may = (root : R) (told : Dequeued) → key root ≡ k → owes root ≡ [] → Tells (line root) now told → may root told
+  MayUnpark k now may = (root : R) (told : Dequeued) → (view root).key ≡ k → (view root).owes ≡ [] → Tells (view root).line now told → may root told
 
   -- It gives the root back without the first of its line, owing just that thread the token; or, where
   -- nobody waited, owing nothing.
   abbrev pub Unparks : {X T : Type 0} → (T → ℕ) → ℕ → ℕ → (R → Dequeued → X × R × T → Type 0) → Type 0
   Unparks {X} {T} number k now answers =
-      (root : R) (told : Dequeued) (answer : X × R × T) → key root ≡ k → owes root ≡ [] → Tells (line root) now told → answers root told answer
-      → (key answer.1 ≡ k) × (line answer.1 ≡ drop 1 (line root)) × (owes answer.1 ≡ debt told.thread (number answer.2))
+      (root : R) (told : Dequeued) (answer : X × R × T) → (view root).key ≡ k → (view root).owes ≡ [] → Tells (view root).line now told → answers root told answer
+      → ((view answer.1).key ≡ k) × ((view answer.1).line ≡ drop 1 (view root).line) × ((view answer.1).owes ≡ debt told.thread (number answer.2))
 
   -- The validation of a parking may be called with the key's root, which owes nothing.
   abbrev pub MayValidate : ℕ → (R → Type 0) → Type 0
-  MayValidate k may = (root : R) → key root ≡ k → owes root ≡ [] → may root
+  MayValidate k may = (root : R) → (view root).key ≡ k → (view root).owes ≡ [] → may root
 
   -- Where it says yes, it gives the root back with the caller last in its line; where it says no,
   -- unchanged. The pass stays that of the caller.
   abbrev pub Validates : {X P : Type 0} → (P → ℕ) → ℕ → ℕ → (R → X × P × R × Bool → Type 0) → Type 0
   Validates {X} {P} thread k caller answers =
-      (root : R) (answer : X × P × R × Bool) → key root ≡ k → owes root ≡ [] → answers root answer
-      → (thread answer.1 ≡ caller) × (key answer.2 ≡ k) × (owes answer.2 ≡ [])
-      × (answer.3 ≡ true → line answer.2 ≡ line root ++ caller ∷ []) × (answer.3 ≡ false → answer.2 ≡ root)
+      (root : R) (answer : X × P × R × Bool) → (view root).key ≡ k → (view root).owes ≡ [] → answers root answer
+      → (thread answer.1 ≡ caller) × ((view answer.2).key ≡ k) × ((view answer.2).owes ≡ [])
+      × (answer.3 ≡ true → (view answer.2).line ≡ (view root).line ++ caller ∷ []) × (answer.3 ≡ false → answer.2 ≡ root)
 
   -- A validation queued the thread, last in the line; or it did not, and the root is as it was.
   pub record Queues {P : Type 0} (thread : P → ℕ) (pass : P) (root : R) (queued : Bool) (pass_now : P) (root_now : R) : Type 0 where
     pub caller : thread pass_now ≡ thread pass
-    pub named : key root_now ≡ key root
-    pub owing : owes root_now ≡ owes root
-    pub lined : MatchBool queued (line root_now ≡ line root ++ thread pass ∷ []) (root_now ≡ root)
+    pub named : (view root_now).key ≡ (view root).key
+    pub owing : (view root_now).owes ≡ (view root).owes
+    pub lined : MatchBool queued ((view root_now).line ≡ (view root).line ++ thread pass ∷ []) (root_now ≡ root)
 
   -- The callback of an unparking of all may be called with the key's root and how many were taken.
   abbrev pub MayUnparkAll : ℕ → (R → ℕ → Type 0) → Type 0
-  MayUnparkAll k may = (root : R) → key root ≡ k → owes root ≡ [] → may root (length (line root))
+  MayUnparkAll k may = (root : R) → (view root).key ≡ k → (view root).owes ≡ [] → may root (length (view root).line)
 
   -- It gives the root back with an empty line, owing token 0 to each thread of the line that it had.
   abbrev pub UnparksAll : {X : Type 0} → ℕ → (R → ℕ → X × R → Type 0) → Type 0
   UnparksAll {X} k answers =
-      (root : R) (answer : X × R) → key root ≡ k → owes root ≡ [] → answers root (length (line root)) answer
-      → (key answer.1 ≡ k) × (line answer.1 ≡ []) × (owes answer.1 ≡ debts (line root))
+      (root : R) (answer : X × R) → (view root).key ≡ k → (view root).owes ≡ [] → answers root (length (view root).line) answer
+      → ((view answer.1).key ≡ k) × ((view answer.1).line ≡ []) × ((view answer.1).owes ≡ debts (view root).line)
 
   -- The callback of an unparking of at most n may be called with the key's root and what is told.
   abbrev pub MayUnparkCount : ℕ → ℕ → ℕ → (R → ℕ → Bool → Type 0) → Type 0
-  MayUnparkCount threads k n may = (root : R) (taken : ℕ) (more : Bool) → key root ≡ k → owes root ≡ [] → TellsCount threads n (line root) taken more → may root taken more
+  MayUnparkCount threads k n may = (root : R) (taken : ℕ) (more : Bool) → (view root).key ≡ k → (view root).owes ≡ [] → TellsCount threads n (view root).line taken more → may root taken more
 
   -- It gives the root back without the first n of its line, owing token 0 to each of these.
   abbrev pub UnparksCount : {X : Type 0} → ℕ → ℕ → ℕ → (R → ℕ → Bool → X × R → Type 0) → Type 0
   UnparksCount {X} threads k n answers =
-      (root : R) (taken : ℕ) (more : Bool) (answer : X × R) → key root ≡ k → owes root ≡ [] → TellsCount threads n (line root) taken more → answers root taken more answer
-      → (key answer.1 ≡ k) × (line answer.1 ≡ drop n (line root)) × (owes answer.1 ≡ debts (take n (line root)))
+      (root : R) (taken : ℕ) (more : Bool) (answer : X × R) → (view root).key ≡ k → (view root).owes ≡ [] → TellsCount threads n (view root).line taken more → answers root taken more answer
+      → ((view answer.1).key ≡ k) × ((view answer.1).line ≡ drop n (view root).line) × ((view answer.1).owes ≡ debts (take n (view root).line))
 
   -- An unparking called its callback once, with some root of the key, and answers what that answered and
   -- what it was told.
   pub record UnparkedOne {X T : Type 0} (k now : ℕ) (answers : R → Dequeued → X × R × T → Type 0) (result : X × Dequeued) : Type 0 where
     pub root : R
     pub answer : X × R × T
-    pub named : key root ≡ k
-    pub paid : owes root ≡ []
-    pub told : Tells (line root) now result.1
+    pub named : (view root).key ≡ k
+    pub paid : (view root).owes ≡ []
+    pub told : Tells (view root).line now result.1
     pub called : answers root result.1 answer
     pub same : result.0 ≡ answer.0
 
@@ -131,9 +132,9 @@ module _ {R : Type 0} (key : R → ℕ) (line : R → List ℕ) (owes : R → Li
   pub record UnparkedAll {X : Type 0} (k : ℕ) (answers : R → ℕ → X × R → Type 0) (result : X × ℕ) : Type 0 where
     pub root : R
     pub answer : X × R
-    pub named : key root ≡ k
-    pub paid : owes root ≡ []
-    pub whole : result.1 ≡ length (line root)
+    pub named : (view root).key ≡ k
+    pub paid : (view root).owes ≡ []
+    pub whole : result.1 ≡ length (view root).line
     pub called : answers root result.1 answer
     pub same : result.0 ≡ answer.0
 
@@ -142,9 +143,9 @@ module _ {R : Type 0} (key : R → ℕ) (line : R → List ℕ) (owes : R → Li
     pub root : R
     pub more : Bool
     pub answer : X × R
-    pub named : key root ≡ k
-    pub paid : owes root ≡ []
-    pub told : TellsCount threads n (line root) result.1 more
+    pub named : (view root).key ≡ k
+    pub paid : (view root).owes ≡ []
+    pub told : TellsCount threads n (view root).line result.1 more
     pub called : answers root result.1 more answer
     pub same : result.0 ≡ answer.0
 
@@ -152,8 +153,8 @@ module _ {R : Type 0} (key : R → ℕ) (line : R → List ℕ) (owes : R → Li
   pub record Validated {X P : Type 0} (k : ℕ) (answers : R → X × P × R × Bool → Type 0) (x : X) (pass : P) (queued : Bool) : Type 0 where
     pub root : R
     pub back : R
-    pub named : key root ≡ k
-    pub paid : owes root ≡ []
+    pub named : (view root).key ≡ k
+    pub paid : (view root).owes ≡ []
     pub called : answers root (x, pass, back, queued)
 
   -- A parking called its validation once, with some root of the key. It is invalid exactly where that said
@@ -161,8 +162,8 @@ module _ {R : Type 0} (key : R → ℕ) (line : R → List ℕ) (owes : R → Li
   pub record ParkedOnce {X P : Type 0} (k : ℕ) (answers : R → X × P × R × Bool → Type 0) (acts : X → X → Type 0) (looked : P → Option ℕ → P → Type 0) (result : P × X × Parked) : Type 0 where
     pub root : R
     pub answer : X × P × R × Bool
-    pub named : key root ≡ k
-    pub paid : owes root ≡ []
+    pub named : (view root).key ≡ k
+    pub paid : (view root).owes ≡ []
     pub called : answers root answer
     pub ends : Ends result.2
         ((answer.3 ≡ false) × (result.0 ≡ answer.1) × (result.1 ≡ answer.0))

@@ -1,6 +1,7 @@
 -- Two tables of rights in one parking lot: a root, or a pass, is of the one table or of the other.
 use Rattle.std.specs.Prelude.{◌≡◌, ℕ, ◌<◌, ◌≤◌, Bool, Option}
 use Rattle.std.proofs.Common.{ap}
+use Rattle.lot_bucket.specs.KeyLine.{KeyLine}
 use Rattle.lot_park.specs.declared.parts.both.OneOf.{OneOf}
 use Rattle.lot_park.specs.declared.parts.both.OneOf.TheVariants.{First, Second}
 
@@ -15,9 +16,9 @@ of_either first second (First x) = first x
 of_either first second (Second y) = second y
 
 -- the keys below the border are those of the first table, all others those of the second
-abbrev pub IsOnItsSide : {A B : Type 0} → ℕ → (A → ℕ) → (B → ℕ) → OneOf A B → Type 0
-IsOnItsSide border first second (First x) = first x < border
-IsOnItsSide border first second (Second y) = border ≤ second y
+abbrev pub IsOnItsSide : {A B : Type 0} → ℕ → (A → KeyLine) → (B → KeyLine) → OneOf A B → Type 0
+IsOnItsSide border first second (First x) = (first x).key < border
+IsOnItsSide border first second (Second y) = border ≤ (second y).key
 
 -- a look for a letter, by a pass of the table that it is of
 abbrev pub LookedBy : {A B : Type 0} → (A → Option ℕ → A → Type 0) → (B → Option ℕ → B → Type 0) → OneOf A B → Option ℕ → OneOf A B → Type 0

@@ -29,11 +29,7 @@ pub(crate) struct Right {
 }
 
 impl Root for Right {
-    ghost key = { λ r. r.key };
-
-    ghost line = { λ r. r.line.items };
-
-    ghost owes = { λ r. r.owes.items };
+    ghost view = { λ r. record { key = r.key; line = r.line.items; owes = r.owes.items } };
 }
 
 #[derive(Drop)]

@@ -68,7 +68,7 @@ impl<S: Scheme> ParkingLot<S> {
         scheme: S,
     ) -> Result<(ParkingLot<S>, Vec<S::Root>), (ParkFault, Vec<S::Root>, S)>
         requires few { threads ≤ MOST_THREADS }
-        requires idle { AreIdle S.Root.key S.Root.line S.Root.owes roots.items }
+        requires idle { AreIdle S.Root.view roots.items }
         ensures ok { IfOk result (λ r. r.0 ≡ record { scheme = scheme; threads = threads; keys = vec_len roots }) }
         ensures room { IfOk result (λ r. (vec_len r.1 ≡ 0) × (vec_capacity r.1 ≡ vec_capacity roots)) }
         ensures err { IfErr result (λ e. (e.1 ≡ roots) × (e.2 ≡ scheme)) }
@@ -117,10 +117,10 @@ impl<S: Scheme> ParkingLot<S> {
     ) -> (S::Pass, X, Parked)
         requires key { key < self.now.keys }
         requires thread { S.thread pass < self.now.threads }
-        requires callable { MayValidate S.Root.key S.Root.line S.Root.owes key (V.pre validate x pass) }
-        requires keeps { Validates S.Root.key S.Root.line S.Root.owes S.thread key (S.thread pass) (V.post validate x pass) }
-        requires sleeps { (r : S.Root) (o : _) → S.Root.key r ≡ key → S.Root.owes r ≡ [] → V.post validate x pass r o → o.3 ≡ true → B.pre before_sleep o.0 }
-        ensures { ParkedOnce S.Root.key S.Root.line S.Root.owes key (V.post validate x pass) (B.post before_sleep) S.looked result }
+        requires callable { MayValidate S.Root.view key (V.pre validate x pass) }
+        requires keeps { Validates S.Root.view S.thread key (S.thread pass) (V.post validate x pass) }
+        requires sleeps { (r : S.Root) (o : _) → (S.Root.view r).key ≡ key → (S.Root.view r).owes ≡ [] → V.post validate x pass r o → o.3 ≡ true → B.pre before_sleep o.0 }
+        ensures { ParkedOnce S.Root.view key (V.post validate x pass) (B.post before_sleep) S.looked result }
     {
         let (x, pass, queued) = self.queue_up(rt, pass, key, x, validate);
         if !queued {
@@ -140,9 +140,9 @@ impl<S: Scheme> ParkingLot<S> {
         x: X,
         validate: V,
     ) -> (X, S::Pass, bool)
-        requires callable { MayValidate S.Root.key S.Root.line S.Root.owes key (V.pre validate x pass) }
-        requires keeps { Validates S.Root.key S.Root.line S.Root.owes S.thread key (S.thread pass) (V.post validate x pass) }
-        ensures { Validated S.Root.key S.Root.line S.Root.owes key (V.post validate x pass) result.0 result.1 result.2 }
+        requires callable { MayValidate S.Root.view key (V.pre validate x pass) }
+        requires keeps { Validates S.Root.view S.thread key (S.thread pass) (V.post validate x pass) }
+        ensures { Validated S.Root.view key (V.post validate x pass) result.0 result.1 result.2 }
     {
         let thread = S::thread_of(&pass);
         let ((x, pass), queued) = self.table.with_place_for(
@@ -151,10 +151,10 @@ impl<S: Scheme> ParkingLot<S> {
             thread,
             (x, pass),
             |bucket: &mut Bucket<S::Root>, own: (X, S::Pass)| -> ((X, S::Pass), bool)
-                requires ready { IsOpenFor S.Root.key S.Root.line S.Root.owes key bucket.old }
+                requires ready { IsOpenFor S.Root.view key bucket.old }
                 requires room { length bucket.old.queue < bucket.old.room }
-                requires callable { MayValidate S.Root.key S.Root.line S.Root.owes key (V.pre validate own.0 own.1) }
-                requires keeps { Validates S.Root.key S.Root.line S.Root.owes S.thread key (S.thread own.1) (V.post validate own.0 own.1) }
+                requires callable { MayValidate S.Root.view key (V.pre validate own.0 own.1) }
+                requires keeps { Validates S.Root.view S.thread key (S.thread own.1) (V.post validate own.0 own.1) }
             { park_in::<S, X, V>(bucket, key, own.0, own.1, validate) },
         );
         (x, pass, queued)
@@ -191,9 +191,9 @@ impl<S: Scheme> ParkingLot<S> {
         callback: F,
     ) -> (X, Dequeued)
         requires key { key < self.now.keys }
-        requires callable { MayUnpark S.Root.key S.Root.line S.Root.owes key moment.now (F.pre callback x) }
-        requires keeps { Unparks S.Root.key S.Root.line S.Root.owes (λ (t : Token). t.0) key moment.now (F.post callback x) }
-        ensures { UnparkedOne S.Root.key S.Root.line S.Root.owes key moment.now (F.post callback x) result }
+        requires callable { MayUnpark S.Root.view key moment.now (F.pre callback x) }
+        requires keeps { Unparks S.Root.view (λ (t : Token). t.0) key moment.now (F.post callback x) }
+        ensures { UnparkedOne S.Root.view key moment.now (F.post callback x) result }
     {
         let scheme = &self.scheme;
         let (x, told) = self.table.with_bucket(
@@ -201,9 +201,9 @@ impl<S: Scheme> ParkingLot<S> {
             key,
             x,
             |bucket: &mut Bucket<S::Root>, x: X| -> (X, Dequeued)
-                requires ready { IsOpenFor S.Root.key S.Root.line S.Root.owes key bucket.old }
-                requires callable { MayUnpark S.Root.key S.Root.line S.Root.owes key moment.now (F.pre callback x) }
-                requires keeps { Unparks S.Root.key S.Root.line S.Root.owes (λ (t : Token). t.0) key moment.now (F.post callback x) }
+                requires ready { IsOpenFor S.Root.view key bucket.old }
+                requires callable { MayUnpark S.Root.view key moment.now (F.pre callback x) }
+                requires keeps { Unparks S.Root.view (λ (t : Token). t.0) key moment.now (F.post callback x) }
             { unpark_in(scheme, bucket, key, moment, x, callback) },
         );
         self.wake(rt, told.thread);
@@ -221,9 +221,9 @@ impl<S: Scheme> ParkingLot<S> {
         f: F,
     ) -> (X, usize)
         requires key { key < self.now.keys }
-        requires callable { MayUnparkAll S.Root.key S.Root.line S.Root.owes key (F.pre f x) }
-        requires keeps { UnparksAll S.Root.key S.Root.line S.Root.owes key (F.post f x) }
-        ensures { UnparkedAll S.Root.key S.Root.line S.Root.owes key (F.post f x) result }
+        requires callable { MayUnparkAll S.Root.view key (F.pre f x) }
+        requires keeps { UnparksAll S.Root.view key (F.post f x) }
+        ensures { UnparkedAll S.Root.view key (F.post f x) result }
     {
         self.unpark_count(
             rt,
@@ -251,9 +251,9 @@ impl<S: Scheme> ParkingLot<S> {
         f: F,
     ) -> (X, usize)
         requires key { key < self.now.keys }
-        requires callable { MayUnparkCount S.Root.key S.Root.line S.Root.owes self.now.threads key count (F.pre f x) }
-        requires keeps { UnparksCount S.Root.key S.Root.line S.Root.owes self.now.threads key count (F.post f x) }
-        ensures { UnparkedCount S.Root.key S.Root.line S.Root.owes self.now.threads key count (F.post f x) result }
+        requires callable { MayUnparkCount S.Root.view self.now.threads key count (F.pre f x) }
+        requires keeps { UnparksCount S.Root.view self.now.threads key count (F.post f x) }
+        ensures { UnparkedCount S.Root.view self.now.threads key count (F.post f x) result }
     {
         let scheme = &self.scheme;
         let (x, taken) = self.table.with_bucket(
@@ -261,10 +261,10 @@ impl<S: Scheme> ParkingLot<S> {
             key,
             x,
             |bucket: &mut Bucket<S::Root>, x: X| -> (X, Taken)
-                requires ready { IsOpenFor S.Root.key S.Root.line S.Root.owes key bucket.old }
+                requires ready { IsOpenFor S.Root.view key bucket.old }
                 requires few { bucket.old.room ≤ MOST_THREADS }
-                requires callable { MayUnparkCount S.Root.key S.Root.line S.Root.owes bucket.old.room key count (F.pre f x) }
-                requires keeps { UnparksCount S.Root.key S.Root.line S.Root.owes bucket.old.room key count (F.post f x) }
+                requires callable { MayUnparkCount S.Root.view bucket.old.room key count (F.pre f x) }
+                requires keeps { UnparksCount S.Root.view bucket.old.room key count (F.post f x) }
             { unpark_count_in(scheme, bucket, key, count, x, f) },
         );
         self.wake_all(rt, &taken);
@@ -328,7 +328,7 @@ impl<S: Scheme> ParkingLot<S> {
     pub fn close<W: Wait>(self, rt: &W, out: &mut Vec<S::Root>) -> S
         requires { vec_len out.old + self.keys ≤ vec_capacity out.old }
         ensures scheme { result ≡ self.scheme }
-        ensures roots { Appends S.Root.key S.Root.owes self.keys out.old.items out.new.items }
+        ensures roots { Appends S.Root.view self.keys out.old.items out.new.items }
     {
         let ParkingLot {
             scheme,

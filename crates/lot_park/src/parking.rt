@@ -18,12 +18,12 @@ pub fn park_in<S: Scheme, X, V: FnOnce(X, S::Pass, S::Root) -> (X, S::Pass, S::R
     pass: S::Pass,
     validate: V,
 ) -> ((X, S::Pass), bool)
-    requires ready { IsOpenFor S.Root.key S.Root.line S.Root.owes key bucket.old }
+    requires ready { IsOpenFor S.Root.view key bucket.old }
     requires room { length bucket.old.queue < bucket.old.room }
-    requires callable { MayValidate S.Root.key S.Root.line S.Root.owes key (V.pre validate x pass) }
-    requires keeps { Validates S.Root.key S.Root.line S.Root.owes S.thread key (S.thread pass) (V.post validate x pass) }
-    ensures stays { Stays S.Root.key S.Root.line S.Root.owes bucket.old bucket.new }
-    ensures called { Validated S.Root.key S.Root.line S.Root.owes key (V.post validate x pass) result.0.0 result.0.1 result.1 }
+    requires callable { MayValidate S.Root.view key (V.pre validate x pass) }
+    requires keeps { Validates S.Root.view S.thread key (S.thread pass) (V.post validate x pass) }
+    ensures stays { Stays S.Root.view bucket.old bucket.new }
+    ensures called { Validated S.Root.view key (V.post validate x pass) result.0.0 result.0.1 result.1 }
 {
     let thread = S::thread_of(&pass);
     let root = bucket.take_root(key);
@@ -42,11 +42,11 @@ pub fn unpark_in<S: Scheme, X, F: FnOnce(X, S::Root, Dequeued) -> (X, S::Root, T
     x: X,
     callback: F,
 ) -> (X, Dequeued)
-    requires ready { IsOpenFor S.Root.key S.Root.line S.Root.owes key bucket.old }
-    requires callable { MayUnpark S.Root.key S.Root.line S.Root.owes key moment.now (F.pre callback x) }
-    requires keeps { Unparks S.Root.key S.Root.line S.Root.owes (λ (t : Token). t.0) key moment.now (F.post callback x) }
-    ensures stays { Stays S.Root.key S.Root.line S.Root.owes bucket.old bucket.new }
-    ensures called { UnparkedOne S.Root.key S.Root.line S.Root.owes key moment.now (F.post callback x) result }
+    requires ready { IsOpenFor S.Root.view key bucket.old }
+    requires callable { MayUnpark S.Root.view key moment.now (F.pre callback x) }
+    requires keeps { Unparks S.Root.view (λ (t : Token). t.0) key moment.now (F.post callback x) }
+    ensures stays { Stays S.Root.view bucket.old bucket.new }
+    ensures called { UnparkedOne S.Root.view key moment.now (F.post callback x) result }
 {
     let root = bucket.take_root(key);
     let told = bucket.dequeue_one(key, moment);
@@ -65,12 +65,12 @@ pub fn unpark_count_in<S: Scheme, X, F: FnOnce(X, S::Root, usize, bool) -> (X, S
     x: X,
     f: F,
 ) -> (X, Taken)
-    requires ready { IsOpenFor S.Root.key S.Root.line S.Root.owes key bucket.old }
+    requires ready { IsOpenFor S.Root.view key bucket.old }
     requires few { bucket.old.room ≤ MOST_THREADS }
-    requires callable { MayUnparkCount S.Root.key S.Root.line S.Root.owes bucket.old.room key count (F.pre f x) }
-    requires keeps { UnparksCount S.Root.key S.Root.line S.Root.owes bucket.old.room key count (F.post f x) }
-    ensures stays { Stays S.Root.key S.Root.line S.Root.owes bucket.old bucket.new }
-    ensures called { UnparkedCount S.Root.key S.Root.line S.Root.owes bucket.old.room key count (F.post f x) (result.0, result.1.count) }
+    requires callable { MayUnparkCount S.Root.view bucket.old.room key count (F.pre f x) }
+    requires keeps { UnparksCount S.Root.view bucket.old.room key count (F.post f x) }
+    ensures stays { Stays S.Root.view bucket.old bucket.new }
+    ensures called { UnparkedCount S.Root.view bucket.old.room key count (F.post f x) (result.0, result.1.count) }
 {
     let mut threads = [0; MOST_THREADS];
     let (root, taken, more) = take_first(bucket, key, count, &mut threads);
@@ -112,10 +112,10 @@ fn take_first<R: Root>(
 
 // Posts a letter with token 0 to each of the threads, to whom the root owes them.
 fn pay_all<S: Scheme>(scheme: &S, root: S::Root, threads: &[usize]) -> S::Root
-    requires { S.Root.owes root ≡ debts threads.now }
-    ensures key { S.Root.key result ≡ S.Root.key root }
-    ensures line { S.Root.line result ≡ S.Root.line root }
-    ensures paid { S.Root.owes result ≡ [] }
+    requires { (S.Root.view root).owes ≡ debts threads.now }
+    ensures key { (S.Root.view result).key ≡ (S.Root.view root).key }
+    ensures line { (S.Root.view result).line ≡ (S.Root.view root).line }
+    ensures paid { (S.Root.view result).owes ≡ [] }
 {
     let mut root = root;
     for thread in threads {
@@ -135,10 +135,10 @@ fn enqueue_if<R>(queued: bool, bucket: &mut Bucket<R>, thread: usize, key: usize
 
 // Posts the letter to the thread that was taken, if one was.
 fn pay<S: Scheme>(scheme: &S, root: S::Root, taken: Option<usize>, token: Token) -> S::Root
-    requires { S.Root.owes root ≡ debt taken token.0 }
-    ensures key { S.Root.key result ≡ S.Root.key root }
-    ensures line { S.Root.line result ≡ S.Root.line root }
-    ensures paid { S.Root.owes result ≡ [] }
+    requires { (S.Root.view root).owes ≡ debt taken token.0 }
+    ensures key { (S.Root.view result).key ≡ (S.Root.view root).key }
+    ensures line { (S.Root.view result).line ≡ (S.Root.view root).line }
+    ensures paid { (S.Root.view result).owes ≡ [] }
 {
     match taken {
         Some(thread) => scheme.post(root, thread, token),

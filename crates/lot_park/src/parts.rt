@@ -39,9 +39,9 @@ pub fn unpark_one<
 >(rt: &W, parking: &ParkingLot<S>, key: usize, moment: Moment, x: X, callback: F) -> (X, Dequeued)
     requires key { key < parking.now.keys }
     requires serves { P.serves key }
-    requires callable { MayUnpark A.Root.key A.Root.line A.Root.owes key moment.now (F.pre callback x) }
-    requires keeps { Unparks A.Root.key A.Root.line A.Root.owes (λ (t : Token). t.0) key moment.now (F.post callback x) }
-    ensures { UnparkedOne A.Root.key A.Root.line A.Root.owes key moment.now (F.post callback x) result }
+    requires callable { MayUnpark A.Root.view key moment.now (F.pre callback x) }
+    requires keeps { Unparks A.Root.view (λ (t : Token). t.0) key moment.now (F.post callback x) }
+    ensures { UnparkedOne A.Root.view key moment.now (F.post callback x) result }
 {
     parking.unpark_one(
         rt,
@@ -49,9 +49,9 @@ pub fn unpark_one<
         moment,
         x,
         |x: X, root: S::Root, told: Dequeued| -> (X, S::Root, Token)
-            requires serves { P.serves (S.Root.key root) }
+            requires serves { P.serves (S.Root.view root).key }
             requires callable { (mine : A.Root) → P.whole_root mine ≡ root → F.pre callback x mine told }
-            requires keeps { (mine : A.Root) (o : _) → P.whole_root mine ≡ root → F.post callback x mine told o → P.serves (A.Root.key o.1) }
+            requires keeps { (mine : A.Root) (o : _) → P.whole_root mine ≡ root → F.post callback x mine told o → P.serves (A.Root.view o.1).key }
             ensures { CallsBack P.whole_root root (λ r. F.post callback x r told) result }
         { call_back::<S, A, P, X, F>(x, root, told, callback) },
     )
@@ -65,9 +65,9 @@ fn call_back<
     X,
     F: FnOnce(X, A::Root, Dequeued) -> (X, A::Root, Token),
 >(x: X, root: S::Root, told: Dequeued, callback: F) -> (X, S::Root, Token)
-    requires serves { P.serves (S.Root.key root) }
+    requires serves { P.serves (S.Root.view root).key }
     requires callable { (mine : A.Root) → P.whole_root mine ≡ root → F.pre callback x mine told }
-    requires keeps { (mine : A.Root) (o : _) → P.whole_root mine ≡ root → F.post callback x mine told o → P.serves (A.Root.key o.1) }
+    requires keeps { (mine : A.Root) (o : _) → P.whole_root mine ≡ root → F.post callback x mine told o → P.serves (A.Root.view o.1).key }
     ensures { CallsBack P.whole_root root (λ r. F.post callback x r told) result }
 {
     let mine = P::lower_root(root);
@@ -86,9 +86,9 @@ pub fn unpark_all<
 >(rt: &W, parking: &ParkingLot<S>, key: usize, x: X, f: F) -> (X, usize)
     requires key { key < parking.now.keys }
     requires serves { P.serves key }
-    requires callable { MayUnparkAll A.Root.key A.Root.line A.Root.owes key (F.pre f x) }
-    requires keeps { UnparksAll A.Root.key A.Root.line A.Root.owes key (F.post f x) }
-    ensures { UnparkedAll A.Root.key A.Root.line A.Root.owes key (F.post f x) result }
+    requires callable { MayUnparkAll A.Root.view key (F.pre f x) }
+    requires keeps { UnparksAll A.Root.view key (F.post f x) }
+    ensures { UnparkedAll A.Root.view key (F.post f x) result }
 {
     unpark_count::<S, A, P, W, X, _>(
         rt,
@@ -114,9 +114,9 @@ pub fn unpark_count<
 >(rt: &W, parking: &ParkingLot<S>, key: usize, count: usize, x: X, f: F) -> (X, usize)
     requires key { key < parking.now.keys }
     requires serves { P.serves key }
-    requires callable { MayUnparkCount A.Root.key A.Root.line A.Root.owes parking.now.threads key count (F.pre f x) }
-    requires keeps { UnparksCount A.Root.key A.Root.line A.Root.owes parking.now.threads key count (F.post f x) }
-    ensures { UnparkedCount A.Root.key A.Root.line A.Root.owes parking.now.threads key count (F.post f x) result }
+    requires callable { MayUnparkCount A.Root.view parking.now.threads key count (F.pre f x) }
+    requires keeps { UnparksCount A.Root.view parking.now.threads key count (F.post f x) }
+    ensures { UnparkedCount A.Root.view parking.now.threads key count (F.post f x) result }
 {
     parking.unpark_count(
         rt,
@@ -124,9 +124,9 @@ pub fn unpark_count<
         count,
         x,
         |x: X, root: S::Root, taken: usize, more: bool| -> (X, S::Root)
-            requires serves { P.serves (S.Root.key root) }
+            requires serves { P.serves (S.Root.view root).key }
             requires callable { (mine : A.Root) → P.whole_root mine ≡ root → F.pre f x mine taken more }
-            requires keeps { (mine : A.Root) (o : _) → P.whole_root mine ≡ root → F.post f x mine taken more o → P.serves (A.Root.key o.1) }
+            requires keeps { (mine : A.Root) (o : _) → P.whole_root mine ≡ root → F.post f x mine taken more o → P.serves (A.Root.view o.1).key }
             ensures { CallsBackCount P.whole_root root (λ r. F.post f x r taken more) result }
         { call_back_count::<S, A, P, X, F>(x, root, taken, more, f) },
     )
@@ -140,9 +140,9 @@ fn call_back_count<
     X,
     F: FnOnce(X, A::Root, usize, bool) -> (X, A::Root),
 >(x: X, root: S::Root, taken: usize, more: bool, f: F) -> (X, S::Root)
-    requires serves { P.serves (S.Root.key root) }
+    requires serves { P.serves (S.Root.view root).key }
     requires callable { (mine : A.Root) → P.whole_root mine ≡ root → F.pre f x mine taken more }
-    requires keeps { (mine : A.Root) (o : _) → P.whole_root mine ≡ root → F.post f x mine taken more o → P.serves (A.Root.key o.1) }
+    requires keeps { (mine : A.Root) (o : _) → P.whole_root mine ≡ root → F.post f x mine taken more o → P.serves (A.Root.view o.1).key }
     ensures { CallsBackCount P.whole_root root (λ r. F.post f x r taken more) result }
 {
     let mine = P::lower_root(root);
@@ -165,10 +165,10 @@ where
     requires key { key < parking.now.keys }
     requires serves { P.serves key }
     requires thread { A.thread pass < parking.now.threads }
-    requires callable { MayValidate A.Root.key A.Root.line A.Root.owes key (V.pre validate x pass) }
-    requires keeps { Validates A.Root.key A.Root.line A.Root.owes A.thread key (A.thread pass) (V.post validate x pass) }
-    requires sleeps { (r : A.Root) (o : _) → A.Root.key r ≡ key → A.Root.owes r ≡ [] → V.post validate x pass r o → o.3 ≡ true → B.pre before_sleep o.0 }
-    ensures { ParkedOnce A.Root.key A.Root.line A.Root.owes key (V.post validate x pass) (B.post before_sleep) A.looked result }
+    requires callable { MayValidate A.Root.view key (V.pre validate x pass) }
+    requires keeps { Validates A.Root.view A.thread key (A.thread pass) (V.post validate x pass) }
+    requires sleeps { (r : A.Root) (o : _) → (A.Root.view r).key ≡ key → (A.Root.view r).owes ≡ [] → V.post validate x pass r o → o.3 ≡ true → B.pre before_sleep o.0 }
+    ensures { ParkedOnce A.Root.view key (V.post validate x pass) (B.post before_sleep) A.looked result }
 {
     let raised = P::raise_pass(pass);
     let (raised, x, parked) = parking.park_conditionally(
@@ -178,9 +178,9 @@ where
         x,
         |x: X, raised: S::Pass, root: S::Root| -> (X, S::Pass, S::Root, bool)
             requires own { (own : A.Pass) × (P.whole_pass own ≡ raised) }
-            requires serves { P.serves (S.Root.key root) }
+            requires serves { P.serves (S.Root.view root).key }
             requires callable { (own : A.Pass) (mine : A.Root) → P.whole_pass own ≡ raised → P.whole_root mine ≡ root → V.pre validate x own mine }
-            requires keeps { (own : A.Pass) (mine : A.Root) (o : _) → P.whole_pass own ≡ raised → P.whole_root mine ≡ root → V.post validate x own mine o → P.serves (A.Root.key o.2) }
+            requires keeps { (own : A.Pass) (mine : A.Root) (o : _) → P.whole_pass own ≡ raised → P.whole_root mine ≡ root → V.post validate x own mine o → P.serves (A.Root.view o.2).key }
             ensures { Checks P.whole_root P.whole_pass raised root (λ p r. V.post validate x p r) result }
         { check::<S, A, P, X, V>(x, raised, root, validate) },
         before_sleep,
@@ -197,9 +197,9 @@ fn check<
     V: FnOnce(X, A::Pass, A::Root) -> (X, A::Pass, A::Root, bool),
 >(x: X, raised: S::Pass, root: S::Root, validate: V) -> (X, S::Pass, S::Root, bool)
     requires own { (own : A.Pass) × (P.whole_pass own ≡ raised) }
-    requires serves { P.serves (S.Root.key root) }
+    requires serves { P.serves (S.Root.view root).key }
     requires callable { (own : A.Pass) (mine : A.Root) → P.whole_pass own ≡ raised → P.whole_root mine ≡ root → V.pre validate x own mine }
-    requires keeps { (own : A.Pass) (mine : A.Root) (o : _) → P.whole_pass own ≡ raised → P.whole_root mine ≡ root → V.post validate x own mine o → P.serves (A.Root.key o.2) }
+    requires keeps { (own : A.Pass) (mine : A.Root) (o : _) → P.whole_pass own ≡ raised → P.whole_root mine ≡ root → V.post validate x own mine o → P.serves (A.Root.view o.2).key }
     ensures { Checks P.whole_root P.whole_pass raised root (λ p r. V.post validate x p r) result }
 {
     let own = P::lower_pass(raised);

@@ -31,10 +31,10 @@ pub trait Scheme {
 
     /// Posts one of the letters that the root owes, to the thread `at`.
     fn post(&self, root: Self::Root, at: usize, token: Token) -> Self::Root
-        requires { Contains (Self.Root.owes root) (at, token.0) }
-        ensures key { Self.Root.key result ≡ Self.Root.key root }
-        ensures line { Self.Root.line result ≡ Self.Root.line root }
-        ensures owes { Self.Root.owes result ≡ without_debt at token.0 (Self.Root.owes root) };
+        requires { Contains (Self.Root.view root).owes (at, token.0) }
+        ensures key { (Self.Root.view result).key ≡ (Self.Root.view root).key }
+        ensures line { (Self.Root.view result).line ≡ (Self.Root.view root).line }
+        ensures owes { (Self.Root.view result).owes ≡ without_debt at token.0 (Self.Root.view root).owes };
 
     /// Looks for the letter of the pass's thread, and takes it where one lies.
     fn collect(&self, pass: Self::Pass) -> (Self::Pass, Option<Token>)

@@ -65,9 +65,9 @@ pub trait Sought: Scheme {
 
     /// The validation of a parking: the thread is queued where still none is left and it is marked as parked.
     fn queue(&self, pass: Self::Pass, root: Self::Root) -> (Self::Pass, Self::Root, bool)
-        requires { seeks pass (Self.Root.key root) Parks pass }
-        ensures pass { MatchBool result.2 (sleeps pass (Self.Root.key root) result.0) (seeks pass (Self.Root.key root) Parks result.0) }
-        ensures root { Queues Self.Root.key Self.Root.line Self.Root.owes Self.thread pass root result.2 result.0 result.1 };
+        requires { seeks pass (Self.Root.view root).key Parks pass }
+        ensures pass { MatchBool result.2 (sleeps pass (Self.Root.view root).key result.0) (seeks pass (Self.Root.view root).key Parks result.0) }
+        ensures root { Queues Self.Root.view Self.thread pass root result.2 result.0 result.1 };
 
     /// Whether a thread that was woken with this token was handed what it seeks; else it seeks it still.
     fn is_handed(token: Token) -> bool
@@ -177,9 +177,9 @@ pub fn park<S: Scheme, A: Sought, P: Part<S, A>, R: Wait, B: BeforeSleep>(
         key,
         (),
         |x: (), pass: A::Pass, root: A::Root| -> ((), A::Pass, A::Root, bool)
-            requires { A.seeks pass (A.Root.key root) Parks pass }
-            ensures pass { MatchBool result.3 (A.sleeps pass (A.Root.key root) result.1) (A.seeks pass (A.Root.key root) Parks result.1) }
-            ensures root { Queues A.Root.key A.Root.line A.Root.owes A.thread pass root result.3 result.1 result.2 }
+            requires { A.seeks pass (A.Root.view root).key Parks pass }
+            ensures pass { MatchBool result.3 (A.sleeps pass (A.Root.view root).key result.1) (A.seeks pass (A.Root.view root).key Parks result.1) }
+            ensures root { Queues A.Root.view A.thread pass root result.3 result.1 result.2 }
         {
             let (pass, root, queued) = scheme.queue(pass, root);
             (x, pass, root, queued)

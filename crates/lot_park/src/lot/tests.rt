@@ -10,7 +10,7 @@ use crate::letters::{
     passed_first, taken,
 };
 use crate::scheme::Token;
-use lot_bucket::Dequeued;
+use lot_bucket::{Dequeued, Root};
 use lot_table::Grown;
 use std::alloc::{AllocError, Global};
 use std::process::Abort;
@@ -27,7 +27,7 @@ const OTHER: usize = 3;
 
 fn idle_rights(alloc: Global) -> Result<Vec<Right>, AllocError>
     ensures len { IfOk result (λ v. vec_len v ≡ KEYS) }
-    ensures idle { IfOk result (λ v. AreIdle (λ (r : Right). r.key) (λ (r : Right). r.line.items) (λ (r : Right). r.owes.items) v.items) }
+    ensures idle { IfOk result (λ v. AreIdle ⟦<Right as Root>⟧.view v.items) }
 {
     let mut rights = Vec::new(alloc);
     for key in 0..KEYS {

@@ -34,23 +34,19 @@ impl<A: Root, B: Root, K: Border> Model for EitherRoot<A, B, K> {
 
     ghost view = { λ s. s.root };
 
-    ghost invariant = { λ s. IsOnItsSide K.border A.key B.key s.root };
+    ghost invariant = { λ s. IsOnItsSide K.border A.view B.view s.root };
 }
 
 impl<A: Root, B: Root, K: Border + Send> Root for EitherRoot<A, B, K> {
     ghost use Rattle.lot_park.specs.Parts.{of_either};
 
-    ghost key = { λ r. of_either A.key B.key r };
-
-    ghost line = { λ r. of_either A.line B.line r };
-
-    ghost owes = { λ r. of_either A.owes B.owes r };
+    ghost view = { λ r. of_either A.view B.view r };
 }
 
 impl<A: Root, B: Root, K: Border> EitherRoot<A, B, K> {
     /// The root of a key of the first table.
     pub fn first(root: A) -> EitherRoot<A, B, K>
-        requires { A.key root < K.border }
+        requires { (A.view root).key < K.border }
         ensures { result ≡ First root }
     {
         EitherRoot {
@@ -61,7 +57,7 @@ impl<A: Root, B: Root, K: Border> EitherRoot<A, B, K> {
 
     /// The root of a key of the second table.
     pub fn second(root: B) -> EitherRoot<A, B, K>
-        requires { K.border ≤ B.key root }
+        requires { K.border ≤ (B.view root).key }
         ensures { result ≡ Second root }
     {
         EitherRoot {
@@ -73,7 +69,7 @@ impl<A: Root, B: Root, K: Border> EitherRoot<A, B, K> {
     /// The root itself, of which its key tells whose it is.
     pub fn into_one(self) -> OneOf<A, B>
         ensures same { result ≡ self }
-        ensures side { IsOnItsSide K.border A.key B.key result }
+        ensures side { IsOnItsSide K.border A.view B.view result }
     {
         let EitherRoot { root, of: _ } = self;
         root

@@ -19,12 +19,12 @@ pub trait Part<S: Scheme, A: Scheme> {
 
     /// The table's root, as a root of the lot.
     fn raise_root(root: A::Root) -> S::Root
-        requires { serves (A.Root.key root) }
+        requires { serves (A.Root.view root).key }
         ensures { result ≡ whole_root root };
 
     /// The lot's root of one of the table's keys, as the table's own.
     fn lower_root(root: S::Root) -> A::Root
-        requires { serves (S.Root.key root) }
+        requires { serves (S.Root.view root).key }
         ensures { whole_root result ≡ root };
 
     /// The table's pass, as a pass of the lot.
@@ -39,11 +39,7 @@ pub trait Part<S: Scheme, A: Scheme> {
     // The lot tells of a root and of a pass what the table does.
     ghost one_pass: { (p q : A.Pass) → whole_pass p ≡ whole_pass q → p ≡ q };
 
-    ghost same_key: { (r : A.Root) → S.Root.key (whole_root r) ≡ A.Root.key r };
-
-    ghost same_line: { (r : A.Root) → S.Root.line (whole_root r) ≡ A.Root.line r };
-
-    ghost same_owes: { (r : A.Root) → S.Root.owes (whole_root r) ≡ A.Root.owes r };
+    ghost same_view: { (r : A.Root) → S.Root.view (whole_root r) ≡ A.Root.view r };
 
     ghost same_thread: { (p : A.Pass) → S.thread (whole_pass p) ≡ A.thread p };
 
@@ -80,11 +76,7 @@ impl<S: Scheme> Part<S, S> for Whole {
 
     ghost one_pass = { λ p q same. same };
 
-    ghost same_key = { λ r. refl };
-
-    ghost same_line = { λ r. refl };
-
-    ghost same_owes = { λ r. refl };
+    ghost same_view = { λ r. refl };
 
     ghost same_thread = { λ p. refl };
 
@@ -137,11 +129,7 @@ impl<A: Scheme, B: Scheme, K: Border + Send, Z: Scheme, P: Part<A, Z>> Part<Both
 
     ghost one_pass = { λ p q same. P.one_pass p q (one_first (P.whole_pass p) (P.whole_pass q) same) };
 
-    ghost same_key = { λ r. P.same_key r };
-
-    ghost same_line = { λ r. P.same_line r };
-
-    ghost same_owes = { λ r. P.same_owes r };
+    ghost same_view = { λ r. P.same_view r };
 
     ghost same_thread = { λ p. P.same_thread p };
 
@@ -194,11 +182,7 @@ impl<A: Scheme, B: Scheme, K: Border + Send, Z: Scheme, P: Part<B, Z>> Part<Both
 
     ghost one_pass = { λ p q same. P.one_pass p q (one_second (P.whole_pass p) (P.whole_pass q) same) };
 
-    ghost same_key = { λ r. P.same_key r };
-
-    ghost same_line = { λ r. P.same_line r };
-
-    ghost same_owes = { λ r. P.same_owes r };
+    ghost same_view = { λ r. P.same_view r };
 
     ghost same_thread = { λ p. P.same_thread p };
 

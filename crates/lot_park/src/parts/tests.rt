@@ -47,10 +47,10 @@ type TheSecond = OfFirst<OfSecond<Whole>>;
 type TheThird = OfSecond<Whole>;
 
 fn with_root<R: Root + Drop>(rt: &impl Abort, roots: Vec<R>, root: R) -> Vec<R>
-    requires idle { AreIdle R.key R.line R.owes roots.items }
-    requires root { IsRootOf R.key R.line R.owes (vec_len roots) [] root }
+    requires idle { AreIdle R.view roots.items }
+    requires root { IsRootOf R.view (vec_len roots) [] root }
     ensures len { vec_len result ≡ vec_len roots + 1 }
-    ensures idle { AreIdle R.key R.line R.owes result.items }
+    ensures idle { AreIdle R.view result.items }
 {
     let mut roots = roots;
     roots.push(root).expect(rt, "memory");

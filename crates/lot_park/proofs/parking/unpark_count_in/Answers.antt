@@ -7,12 +7,12 @@ use Rattle.lot_park.proofs.parking.unpark_count_in.Given.{Over}
 use Rattle.lot_park.proofs.parking.unpark_count_in.Goals.{After-take_first-root}
 use Rattle.lot_park.proofs.parking.unpark_count_in.Goals as goal
 
-own : (g : Over) (c : After-take_first-root g) → IsRootOf g.S.Root.Root.key g.S.Root.Root.line g.S.Root.Root.owes c.args.key c.args.bucket.now.queue c.take_first-root.result.0
-own g c = own_root g.S.Root.Root.key g.S.Root.Root.line g.S.Root.Root.owes c.args.key c.args.bucket.now c.take_first-root.result.0 c.requires.ready c.take_first-root.ensures.root
+own : (g : Over) (c : After-take_first-root g) → IsRootOf g.S.Root.Root.view c.args.key c.args.bucket.now.queue c.take_first-root.result.0
+own g c = own_root g.S.Root.Root.view c.args.key c.args.bucket.now c.take_first-root.result.0 c.requires.ready c.take_first-root.ensures.root
 
 -- what the callback is told
 told : (g : Over) (c : After-take_first-root g)
-    → TellsCount c.args.bucket.now.room c.args.count (g.S.Root.Root.line c.take_first-root.result.0) c.take_first-root.result.1 c.take_first-root.result.2
+    → TellsCount c.args.bucket.now.room c.args.count (g.S.Root.Root.view c.take_first-root.result.0).line c.take_first-root.result.1 c.take_first-root.result.2
 told g c = rw (own g c).same_line c.take_first-root.ensures.told
 
 pub f-x-requires : goal.f-x-requires
@@ -33,7 +33,7 @@ returns-clause-stays g c =
     let at = (goal.at.returns-clause-stays g c).After-take_first-root in
     let kept = c.requires.keeps c.take_first-root.result.0 c.take_first-root.result.1 c.take_first-root.result.2 c.f-x.result (own g at).named (own g at).paid (told g at) c.f-x.ensures in
     let left = c.take_first-root.ensures.left in
-    unparked_stays g.S.Root.Root.key g.S.Root.Root.line g.S.Root.Root.owes c.args.key c.args.count c.args.bucket.now c.take_first-root.new.bucket c.put_root.new.self
+    unparked_stays g.S.Root.Root.view c.args.key c.args.count c.args.bucket.now c.take_first-root.new.bucket c.put_root.new.self
     c.take_first-root.result.0 c.pay_all-root.result
     c.requires.ready c.take_first-root.ensures.root
     (ap (λ (b : Contents g.row.S-Root.Denot). b.opened) left) (ap (λ (b : Contents g.row.S-Root.Denot). b.room) left) (ap (λ (b : Contents g.row.S-Root.Denot). b.places) left)

@@ -5,6 +5,6 @@ pub returns : goal.returns
 returns g c =
     let met = g.met.P.Part in
     let u = c.unpark_one.ensures in
-    unparked_one g.P.Part.whole_root g.A.Root.Root.key g.A.Root.Root.line g.A.Root.Root.owes g.S.Root.Root.key g.S.Root.Root.line g.S.Root.Root.owes met.same_key met.same_line met.same_owes
+    unparked_one g.P.Part.whole_root g.A.Root.Root.view g.S.Root.Root.view met.same_view
     c.args.key c.args.moment.now (goal.F-post g c.args.callback c.args.x) c.unpark_one.result
     (record { root = u.root; answer = u.answer; named = u.named; paid = u.paid; told = u.told; called = u.called.1; same = u.same })

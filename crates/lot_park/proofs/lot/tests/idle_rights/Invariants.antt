@@ -6,5 +6,5 @@ use Rattle.lot_park.proofs.lot.tests.idle_rights.Given as goal
 abbrev pub invariant-loop-key : goal.invariant-loop-key
 invariant-loop-key l = record {
   count : length l.rights.items ≡ l.key;
-  idle : AreIdle (λ (r : Right). r.key) (λ (r : Right). r.line.items) (λ (r : Right). r.owes.items) l.rights.items;
+  idle : AreIdle (λ (r : Right). record { key = r.key; line = r.line.items; owes = r.owes.items }) l.rights.items;
 }
