@@ -4,6 +4,7 @@ use Rattle.std.specs.Prelude.{◌≡◌, ℕ, ◌<◌, ◌||◌, Bool, true, fal
 use Rattle.std.specs.List.{fold}
 use Rattle.lot_core.specs.declared.events.Event.TheVariants.{Free, Pass as Passes}
 use Rattle.lot_core.specs.declared.events.Seen.TheVariants.{Bool as Saw, Sleeper}
+use Rattle.lot_bucket.specs.KeyLine.{KeyLine}
 use Rattle.lot_bucket.specs.declared.taking.Dequeued.{Dequeued}
 use Rattle.lot_park.specs.Parking.{debt}
 use Rattle.lot_rights.specs.declared.views.Access.{Access}
@@ -27,12 +28,12 @@ token_told Handed = 1
 
 -- What the callback of an unlock does, which is told of the first of the line: it takes that thread from the line, decides what becomes of
 -- the lock, and owes the thread a letter that tells it.
-pub record HandsOver {R : Type 0} (key : R → ℕ) (line : R → List ℕ) (owes : R → List (ℕ × ℕ)) (root : R) (told : Dequeued) (fair : Bool) (root_now : R) (became : Released) (token : ℕ) : Type 0 where
-  pub named : key root_now ≡ key root
-  pub lined : line root_now ≡ drop 1 (line root)
+pub record HandsOver {R : Type 0} (view : R → KeyLine) (root : R) (told : Dequeued) (fair : Bool) (root_now : R) (became : Released) (token : ℕ) : Type 0 where
+  pub named : (view root_now).key ≡ (view root).key
+  pub lined : (view root_now).line ≡ drop 1 (view root).line
   pub decided : became ≡ decision told.thread (fair || told.fair)
   pub tells : token ≡ token_told became
-  pub owing : owes root_now ≡ debt told.thread token
+  pub owing : (view root_now).owes ≡ debt told.thread token
 
 -- a fair release leaves no lock to whoever comes first, and a release that is not asked to be fair hands over only after
 -- the moment 0

@@ -1,14 +1,16 @@
 -- How a pass stands between two accesses of a lock's word, and what an access makes of it.
 use Rattle.std.specs.Prelude.{◌≡◌, ℕ, zero, suc, Bool, true, false, List, [], ◌∷◌, slice_set, Option, Some, None}
-use Rattle.lot_rights.specs.Shown.{PassShown}
+use Rattle.lot_rights.specs.Shown.{PassShown, RootShown}
 use Rattle.lot_rights.specs.declared.views.PassView.{PassView as PassMade}
 use Rattle.lot_words.specs.declared.views.Hold.TheVariants.{NotHeld, Held, FoundParked}
 use Rattle.lot_words.specs.declared.views.LockPassView.{LockPassView}
+use Rattle.lot_words.specs.declared.views.LockRootView.{LockRootView}
 use Rattle.lot_words.specs.declared.views.Place.{Place}
 use Rattle.lot_words.specs.declared.views.Place.TheVariants.{InSlot}
 use Rattle.lot_words.specs.World.{Holds, HoldsParked}
 use Rattle.lot_words.specs.Values.{IsIn, FoundOk}
 use Rattle.lot_words.specs.Calls.{Aims, gripped, woken, placed}
+use Rattle.lot_bucket.specs.KeyLine.{KeyLine}
 use Rattle.lot_park.specs.declared.seeking.Seeking.{Seeking}
 use Rattle.lot_park.specs.declared.seeking.Seeking.TheVariants.{Got, Waits, Parks, Tries}
 use Rattle.lot_locks.specs.declared.released.Released.{Released}
@@ -126,3 +128,7 @@ module _ {V Part : Type 0} (keeps : ℕ → V → Type 0) (grows : V → V → T
 abbrev pub debts_of : Option (ℕ × ℕ) → List (ℕ × ℕ)
 debts_of None = []
 debts_of (Some debt) = debt ∷ []
+
+-- what the root of a lock is seen as
+abbrev pub lock_view : RootShown LockRootView → KeyLine
+lock_view r = record { key = r.root.key; line = r.root.own.line; owes = debts_of r.root.own.owes }

@@ -107,11 +107,11 @@ fn unpark<S: Scheme, A: LockSteps, P: Part<S, A>, R: Wait>(
             A::Root,
             Token,
         )
-            requires may { A.may_pass x.0 (A.Root.key root) }
-            requires clear { A.Root.owes root ≡ [] }
-            requires told { (now : ℕ) × Tells (A.Root.line root) now told }
-            ensures went { A.lets_go x.0 (A.Root.key root) result.0.1 result.0.0 }
-            ensures hands { HandsOver A.Root.key A.Root.line A.Root.owes root told fair result.1 result.0.1 result.2.0 }
+            requires may { A.may_pass x.0 (A.Root.view root).key }
+            requires clear { (A.Root.view root).owes ≡ [] }
+            requires told { (now : ℕ) × Tells (A.Root.view root).line now told }
+            ensures went { A.lets_go x.0 (A.Root.view root).key result.0.1 result.0.0 }
+            ensures hands { HandsOver A.Root.view root told fair result.1 result.0.1 result.2.0 }
         {
             let (pass, root, token, released) = scheme.hand_over(x.0, root, told, fair);
             ((pass, released), root, token)

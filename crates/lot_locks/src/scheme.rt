@@ -29,13 +29,9 @@ impl<V: Keeps, N: Name> Drop for KeyRoot<V, N> {
 }
 
 impl<V: Keeps + Send, N: Name + Send> Root for KeyRoot<V, N> {
-    ghost use Rattle.lot_locks.specs.Standing.{debts_of};
+    ghost use Rattle.lot_locks.specs.Standing.{lock_view};
 
-    ghost key = { λ r. r.root.key };
-
-    ghost line = { λ r. r.root.own.line };
-
-    ghost owes = { λ r. debts_of r.root.own.owes };
+    ghost view = { lock_view };
 }
 
 impl<V: Keeps, N: Name> KeyRoot<V, N> {

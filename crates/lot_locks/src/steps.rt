@@ -48,11 +48,11 @@ pub trait LockSteps: Sought {
         told: UnparkResult,
         fair: bool,
     ) -> (Self::Pass, Self::Root, Token, Released)
-        requires may { may_pass pass (Self.Root.key root) }
-        requires clear { Self.Root.owes root ≡ [] }
-        requires told { (now : ℕ) × Tells (Self.Root.line root) now told }
-        ensures went { lets_go pass (Self.Root.key root) result.3 result.0 }
-        ensures hands { HandsOver Self.Root.key Self.Root.line Self.Root.owes root told fair result.1 result.3 result.2.0 };
+        requires may { may_pass pass (Self.Root.view root).key }
+        requires clear { (Self.Root.view root).owes ≡ [] }
+        requires told { (now : ℕ) × Tells (Self.Root.view root).line now told }
+        ensures went { lets_go pass (Self.Root.view root).key result.3 result.0 }
+        ensures hands { HandsOver Self.Root.view root told fair result.1 result.3 result.2.0 };
 }
 
 impl<V: Keeps + Send, N: Name + Send> LockSteps for LockScheme<V, N> {
