@@ -18,11 +18,7 @@ impl Root for LockRoot {
     ghost use Rattle.std.specs.Prelude.{[]};
     ghost use Rattle.lot_park.specs.Parking.{debt};
 
-    ghost key = { λ r. 0 };
-
-    ghost line = { λ r. [] };
-
-    ghost owes = { λ r. debt r.owed 0 };
+    ghost view = { λ r. record { key = 0; line = []; owes = debt r.owed 0 } };
 }
 
 // A table whose passes have nothing to look for.

@@ -8,6 +8,8 @@ use Rattle.lot_sems.specs.declared.views.SemPassView.{SemPassView}
 use Rattle.lot_sems.specs.declared.views.SemRootView.{SemRootView}
 use Rattle.lot_sems.specs.World.{Numbers}
 use Rattle.lot_sems.specs.Calls.{IsCalm, IsSeeking, MayTake, seeking, got, gave, woken, parked_pass}
+use Rattle.lot_bucket.specs.KeyLine.{KeyLine}
+use Rattle.lot_park.specs.Parking.{debt}
 use Rattle.lot_park.specs.declared.seeking.Seeking.{Seeking}
 use Rattle.lot_park.specs.declared.seeking.Seeking.TheVariants.{Got as HasGot, Waits, Parks, Tries}
 use Rattle.lot_permits.specs.declared.permit.Freed.{Freed}
@@ -68,6 +70,10 @@ IsSemLooked p None q = q ≡ p
 IsSemLooked p (Some token) q = (token ≡ 0) × (p.own.asleep ≡ true) × (q ≡ waking p)
 
 -- ---- the root, and the table
+-- what the root of a semaphore is seen as: its letter has the token 0
+abbrev pub semaphore_view : RootShown SemRootView → KeyLine
+semaphore_view r = record { key = r.root.key; line = r.root.own.line; owes = debt r.root.own.owes 0 }
+
 -- a root, of which this is known now
 abbrev pub with_root : RootShown SemRootView → SemRootView → RootShown SemRootView
 with_root r own = record r { root = record r.root { own = own } }

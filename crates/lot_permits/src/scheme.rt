@@ -28,13 +28,9 @@ impl<N: PermitName> Model for SemKeyRoot<N> {
 }
 
 impl<N: PermitName + Send> Root for SemKeyRoot<N> {
-    ghost use Rattle.lot_park.specs.Parking.{debt};
+    ghost use Rattle.lot_permits.specs.Rights.{semaphore_view};
 
-    ghost key = { λ r. r.root.key };
-
-    ghost line = { λ r. r.root.own.line };
-
-    ghost owes = { λ r. debt r.root.own.owes 0 };
+    ghost view = { semaphore_view };
 }
 
 impl<N: PermitName> SemKeyRoot<N> {

@@ -5,6 +5,8 @@ use Rattle.lot_conds.specs.declared.views.CondPassView.{CondPassView}
 use Rattle.lot_conds.specs.declared.views.CondRootView.{CondRootView}
 use Rattle.lot_conds.specs.declared.views.Size.{Size}
 use Rattle.lot_conds.specs.Calls.{IsCalm, enlisted, lowering, took, swept_pass, woken_pass}
+use Rattle.lot_bucket.specs.KeyLine.{KeyLine}
+use Rattle.lot_park.specs.Parking.{debts}
 
 -- a pass: its thread, and what it knows; not the entries that were made with it
 pub record CondStanding : Type 0 where
@@ -46,6 +48,10 @@ sweeping r c k = record { thread = r.thread; own = swept_pass r.own c k }
 abbrev pub IsCondLooked : CondStanding → Option ℕ → CondStanding → Type 0
 IsCondLooked p None q = q ≡ p
 IsCondLooked p (Some token) q = (token ≡ 0) × ((c : ℕ) × ((p.own.out ≡ Some c) × (q ≡ waking p c)))
+
+-- what the root of a condition is seen as: all its letters have the token 0
+abbrev pub condition_view : RootShown CondRootView → KeyLine
+condition_view r = record { key = r.root.key; line = r.root.own.line; owes = debts r.root.own.owes }
 
 -- a root, of which this is known now
 abbrev pub with_root : RootShown CondRootView → CondRootView → RootShown CondRootView

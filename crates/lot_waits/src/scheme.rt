@@ -28,13 +28,9 @@ impl<N: WaitName> Model for CondKeyRoot<N> {
 }
 
 impl<N: WaitName + Send> Root for CondKeyRoot<N> {
-    ghost use Rattle.lot_park.specs.Parking.{debts};
+    ghost use Rattle.lot_waits.specs.Rights.{condition_view};
 
-    ghost key = { λ r. r.root.key };
-
-    ghost line = { λ r. r.root.own.line };
-
-    ghost owes = { λ r. debts r.root.own.owes };
+    ghost view = { condition_view };
 }
 
 impl<N: WaitName> CondKeyRoot<N> {
