@@ -3,6 +3,7 @@ use Rattle.std.proofs.Common.{◌≡◌, ℕ, ◌+◌, ◌≤◌, zero, suc, Lis
 use Rattle.std.specs.List.{All, Any}
 use Rattle.std.proofs.lemmas.Grind.{common_steps}
 use Rattle.std.proofs.lemmas.List.Elements.{All-nil, All-cons}
+use Rattle.lot_bucket.specs.KeyLine.{KeyLine}
 use Rattle.lot_rights.proofs.Totals.{any_cases}
 use Rattle.lot_rights.proofs.Turns.{some_one}
 use Rattle.lot_kinds.specs.Opening.{StandFrom}
@@ -54,19 +55,19 @@ pub any_more : {A : Type 0} (P : A → Type 0) (xs : List A) (x : A) → Any P x
 any_more P xs x (k, y, near, is, holds) = (k, y, grind (arith, common_steps), grind (arith, common_steps), holds)
 
 -- ---- keys that count up
-module _ {A : Type 0} (key : A → ℕ) (from : ℕ) where
+module _ {A : Type 0} (view : A → KeyLine) (from : ℕ) where
   -- the last is gone from the list: the others count up as before, and how many there are tells its key
-  pub stand_popped : (xs left : List A) (x : A) → xs ≡ left ++ x ∷ [] → StandFrom key from xs → StandFrom key from left × (key x ≡ from + length left)
+  pub stand_popped : (xs left : List A) (x : A) → xs ≡ left ++ x ∷ [] → StandFrom view from xs → StandFrom view from left × ((view x).key ≡ from + length left)
   stand_popped xs left x e stand = (
     λ i y at. stand i y (subst (λ zs. slice_get zs i ≡ Some y) (sym e) (at_before left (x ∷ []) i y at)),
     stand (length left) x (subst (λ zs. slice_get zs (length left) ≡ Some x) (sym e) (at_last left x)),
   )
 
 -- one before those that count up
-pub stand_before : {A : Type 0} (key : A → ℕ) (from : ℕ) (x : A) (xs : List A) → key x ≡ from → StandFrom key (suc from) xs → StandFrom key from (x ∷ xs)
-stand_before key from x xs is stand zero y at = subst (λ z. key z ≡ from + 0) (some_one x y at) (let here : key x ≡ from + 0 = omega (arith, is) in here)
-stand_before key from x xs is stand (suc i) y at = let later = stand i y at in omega (arith, later)
+pub stand_before : {A : Type 0} (view : A → KeyLine) (from : ℕ) (x : A) (xs : List A) → (view x).key ≡ from → StandFrom view (suc from) xs → StandFrom view from (x ∷ xs)
+stand_before view from x xs is stand zero y at = subst (λ z. (view z).key ≡ from + 0) (some_one x y at) (let here : (view x).key ≡ from + 0 = omega (arith, is) in here)
+stand_before view from x xs is stand (suc i) y at = let later = stand i y at in omega (arith, later)
 
 -- the key of one of them
-pub all_above : {A : Type 0} (key : A → ℕ) (from : ℕ) (xs : List A) → StandFrom key from xs → All (λ x. from ≤ key x) xs
-all_above key from xs stand = all_at (λ x. from ≤ key x) xs (λ i x at. let is = stand i x at in omega (arith, is))
+pub all_above : {A : Type 0} (view : A → KeyLine) (from : ℕ) (xs : List A) → StandFrom view from xs → All (λ x. from ≤ (view x).key) xs
+all_above view from xs stand = all_at (λ x. from ≤ (view x).key) xs (λ i x at. let is = stand i x at in omega (arith, is))

@@ -4,11 +4,13 @@ use Rattle.lot_rights.specs.Opening.{Opening}
 use Rattle.lot_rights.specs.Shown.{RootShown}
 use Rattle.lot_conds.specs.declared.views.CondRootView.{CondRootView}
 use Rattle.lot_sems.specs.declared.views.SemRootView.{SemRootView}
+use Rattle.lot_bucket.specs.KeyLine.{KeyLine}
 use Rattle.lot_park.specs.declared.parts.both.OneOf.{OneOf}
 use Rattle.lot_park.specs.Parts.{of_either}
-use Rattle.lot_park.specs.Parking.{debts, debt}
 use Rattle.lot_waits.specs.Opening.{OpenedCondsView}
+use Rattle.lot_waits.specs.Rights.{condition_view}
 use Rattle.lot_permits.specs.Opening.{OpenedSemsView}
+use Rattle.lot_permits.specs.Rights.{semaphore_view}
 
 pub record OpenedKindsView : Type 0 where
   pub conds : OpenedCondsView
@@ -40,27 +42,15 @@ pub record AreNamed (names : KindNames) (opened : OpenedKindsView) : Type 0 wher
 abbrev pub KindRootShown : Type 0
 KindRootShown = OneOf (RootShown CondRootView) (RootShown SemRootView)
 
-abbrev pub condition_key : RootShown CondRootView → ℕ
-condition_key r = r.root.key
+abbrev pub kind_view : KindRootShown → KeyLine
+kind_view = of_either condition_view semaphore_view
 
-abbrev pub semaphore_key : RootShown SemRootView → ℕ
-semaphore_key r = r.root.key
-
-abbrev pub key_of : KindRootShown → ℕ
-key_of = of_either condition_key semaphore_key
-
-abbrev pub line_of : KindRootShown → List ℕ
-line_of = of_either (λ (r : RootShown CondRootView). r.root.own.line) (λ (r : RootShown SemRootView). r.root.own.line)
-
-abbrev pub owes_of : KindRootShown → List (ℕ × ℕ)
-owes_of = of_either (λ (r : RootShown CondRootView). debts r.root.own.owes) (λ (r : RootShown SemRootView). debt r.root.own.owes 0)
-
--- the keys of what stands in the list count up from here
-abbrev pub StandFrom : {A : Type 0} → (A → ℕ) → ℕ → List A → Type 0
-StandFrom key from xs = (i : ℕ) (x : _) → slice_get xs i ≡ Some x → key x ≡ from + i
+-- the keys of the roots that stand in the list count up from here
+abbrev pub StandFrom : {R : Type 0} → (R → KeyLine) → ℕ → List R → Type 0
+StandFrom view from roots = (i : ℕ) (root : _) → slice_get roots i ≡ Some root → (view root).key ≡ from + i
 
 -- on the key k nobody waits, and its root owes nothing
 pub record IsIdleAt (k : ℕ) (root : KindRootShown) : Type 0 where
-  pub named : key_of root ≡ k
-  pub empty : line_of root ≡ []
-  pub paid : owes_of root ≡ []
+  pub named : (kind_view root).key ≡ k
+  pub empty : (kind_view root).line ≡ []
+  pub paid : (kind_view root).owes ≡ []

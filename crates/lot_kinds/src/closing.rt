@@ -7,7 +7,7 @@ ghost use Rattle.lot_conds.specs.declared.views.CondRootView.{CondRootView};
 ghost use Rattle.lot_sems.specs.declared.views.SemRootView.{SemRootView};
 ghost use Rattle.lot_waits.specs.Ledger.{IsLedger};
 ghost use Rattle.lot_kinds.specs.Rights.{RightsView, HoldsNone, counts_of, permits_of};
-ghost use Rattle.lot_kinds.specs.Opening.{StandFrom, key_of};
+ghost use Rattle.lot_kinds.specs.Opening.{StandFrom, kind_view};
 ghost use Rattle.lot_kinds.specs.Room.{IsFor};
 
 use crate::rights::Rights;
@@ -29,7 +29,7 @@ pub fn settle<N: WaitName + PermitName + Send>(
     requires same_threads { scheme.second.size.threads ≡ scheme.first.size.threads }
     requires back { All HoldsNone rights.items }
     requires keys { (N.low ≡ N.locks + N.conds) × (vec_len roots ≡ N.conds + length N.permits) }
-    requires roots { StandFrom key_of N.locks roots.items }
+    requires roots { StandFrom kind_view N.locks roots.items }
     ensures { IsLedger N.locks N.conds (map counts_of rights.items) result.called.items result.woken.items }
 {
     let (mut waiters, mut seekers, mut conds, mut sems, cond_room, sem_room) = room.apart();
@@ -67,7 +67,7 @@ fn divide<N: WaitName + PermitName + Send>(
     conds: &mut Vec<CondKeyRoot<N>>,
     sems: &mut Vec<SemKeyRoot<N>>,
 )
-    requires keys { StandFrom key_of N.locks roots.items }
+    requires keys { StandFrom kind_view N.locks roots.items }
     requires border { (N.low ≡ N.locks + N.conds) × (N.conds ≤ vec_len roots) }
     requires room { IsFor N.conds conds.old }
     requires sem_room { (vec_len sems.old ≡ 0) × (vec_len roots ≤ N.conds + vec_capacity sems.old) }

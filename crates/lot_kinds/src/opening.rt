@@ -2,8 +2,10 @@
 ghost use Rattle.std.specs.Prelude.{◌≡◌, ℕ, ◌+◌, ◌<◌, ◌≤◌, ◌++◌, map, reverse, length, Some, slice_get, vec_len, vec_capacity, IfOk};
 ghost use Rattle.lot_core.specs.declared.state.TheConstants.{MAX_THREADS, MAX_KEYS};
 ghost use Rattle.lot_park.specs.declared.parts.both.OneOf.TheVariants.{First, Second};
+ghost use Rattle.lot_waits.specs.Rights.{condition_view};
+ghost use Rattle.lot_permits.specs.Rights.{semaphore_view};
 ghost use Rattle.lot_kinds.specs.Rights.{unused, ArePaired, pairs};
-ghost use Rattle.lot_kinds.specs.Opening.{AreNamed, KindRootShown, IsIdleAt, StandFrom, condition_key, semaphore_key};
+ghost use Rattle.lot_kinds.specs.Opening.{AreNamed, KindRootShown, IsIdleAt, StandFrom};
 
 use crate::rights::Rights;
 use crate::room::{ClosingRoom, Room};
@@ -154,8 +156,8 @@ fn join<N: WaitName + PermitName + Send>(
     sems: &mut Vec<SemKeyRoot<N>>,
     roots: &mut Vec<KindRoot<N>>,
 )
-    requires conds { StandFrom condition_key N.locks conds.old.items × (N.locks + vec_len conds.old ≤ N.low) }
-    requires sems { StandFrom semaphore_key N.low sems.old.items }
+    requires conds { StandFrom condition_view N.locks conds.old.items × (N.locks + vec_len conds.old ≤ N.low) }
+    requires sems { StandFrom semaphore_view N.low sems.old.items }
     requires room { (vec_len roots.old ≡ 0) × (vec_len conds.old + vec_len sems.old ≤ vec_capacity roots.old) }
     ensures same { roots.new.items ≡ map First conds.old.items ++ map Second sems.old.items }
     ensures long { vec_len roots.new ≡ vec_len conds.old + vec_len sems.old }
@@ -174,7 +176,7 @@ fn add_first<N: WaitName + PermitName + Send>(
     conds: &mut Vec<CondKeyRoot<N>>,
     roots: &mut Vec<KindRoot<N>>,
 )
-    requires conds { StandFrom condition_key N.locks conds.old.items × (N.locks + vec_len conds.old ≤ N.low) }
+    requires conds { StandFrom condition_view N.locks conds.old.items × (N.locks + vec_len conds.old ≤ N.low) }
     requires room { vec_len roots.old + vec_len conds.old ≤ vec_capacity roots.old }
     ensures same { reverse roots.new.items ≡ map First conds.old.items ++ reverse roots.old.items }
     ensures long { vec_len roots.new ≡ vec_len roots.old + vec_len conds.old }
@@ -186,14 +188,14 @@ fn add_first<N: WaitName + PermitName + Send>(
 }
 
 fn of_cond<N: WaitName + PermitName + Send>(root: CondKeyRoot<N>) -> KindRoot<N>
-    requires key { condition_key root < N.low }
+    requires key { (condition_view root).key < N.low }
     ensures same { result ≡ First root }
 {
     EitherRoot::first(root)
 }
 
 fn of_sem<N: WaitName + PermitName + Send>(root: SemKeyRoot<N>) -> KindRoot<N>
-    requires key { N.low ≤ semaphore_key root }
+    requires key { N.low ≤ (semaphore_view root).key }
     ensures same { result ≡ Second root }
 {
     EitherRoot::second(root)

@@ -1,30 +1,21 @@
 -- What is told of a root and of a pass of any of a lot's tables.
-use Rattle.std.specs.Prelude.{ℕ, List, Option}
+use Rattle.std.specs.Prelude.{ℕ, Option}
 use Rattle.lot_rights.specs.Shown.{RootShown}
 use Rattle.lot_words.specs.declared.views.LockRootView.{LockRootView}
 use Rattle.lot_waits.specs.Rights.{CondStanding, IsCondLooked}
 use Rattle.lot_permits.specs.Rights.{SemStanding, IsSemLooked}
-use Rattle.lot_kinds.specs.Opening.{KindRootShown}
-use Rattle.lot_kinds.specs.Opening.{key_of as kind_key, line_of as kind_line, owes_of as kind_owes}
+use Rattle.lot_kinds.specs.Opening.{KindRootShown, kind_view}
+use Rattle.lot_bucket.specs.KeyLine.{KeyLine}
 use Rattle.lot_park.specs.Parts.{of_either, LookedBy}
 use Rattle.lot_park.specs.declared.parts.both.OneOf.{OneOf}
-use Rattle.lot_locks.specs.Standing.{Standing, IsLooked, debts_of}
+use Rattle.lot_locks.specs.Standing.{Standing, IsLooked, lock_view}
 
 -- ---- the root of a key of any table
 abbrev pub LotRootShown : Type 0
 LotRootShown = OneOf (RootShown LockRootView) KindRootShown
 
-abbrev pub lock_key : RootShown LockRootView → ℕ
-lock_key r = r.root.key
-
-abbrev pub key_of : LotRootShown → ℕ
-key_of = of_either lock_key kind_key
-
-abbrev pub line_of : LotRootShown → List ℕ
-line_of = of_either (λ (r : RootShown LockRootView). r.root.own.line) kind_line
-
-abbrev pub owes_of : LotRootShown → List (ℕ × ℕ)
-owes_of = of_either (λ (r : RootShown LockRootView). debts_of r.root.own.owes) kind_owes
+abbrev pub root_view : LotRootShown → KeyLine
+root_view = of_either lock_view kind_view
 
 -- ---- a pass of any table
 abbrev pub LotStanding : Type 0 → Type 0

@@ -6,8 +6,7 @@ ghost use Rattle.lot_words.specs.declared.views.LockRootView.{LockRootView};
 ghost use Rattle.lot_sync.specs.Lot.{PassView, OwnsNone, IsLedgerOf, rights_of};
 ghost use Rattle.lot_sync.specs.Values.{GoesOnTo};
 ghost use Rattle.lot_sync.specs.Passes.{seen_as, lock_side, IsFree};
-ghost use Rattle.lot_kinds.specs.Opening.{StandFrom};
-ghost use Rattle.lot_kinds.specs.Opening.{key_of as kind_key};
+ghost use Rattle.lot_kinds.specs.Opening.{StandFrom, kind_view};
 ghost use Rattle.lot_sync.specs.Starting.{StandAtKeys};
 
 use crate::lot::Lot;
@@ -87,7 +86,7 @@ pub(crate) fn unname_roots<V: Keeps + Send, N: LotName<V> + Send>(
     ensures own { All (λ (r : RootShown LockRootView). r.table ≡ N.opening.locks) roots.new.items }
     ensures long { vec_len kind_roots.new + length N.values ≡ vec_len named }
     ensures roots { (k : ℕ) → k < length N.values → Any (λ (r : RootShown LockRootView). r.root.key ≡ k) roots.new.items }
-    ensures kinds { StandFrom kind_key (length N.values) kind_roots.new.items }
+    ensures kinds { StandFrom kind_view (length N.values) kind_roots.new.items }
 {
     while let Some(root) = named.pop() {
         match root.into_one() {

@@ -3,10 +3,10 @@
 //! The lot's scheme and its roots are structs of their own, and not other names for those of `lot_park::parts`: whatever is checked of
 //! a lot spells out each type that lies in it, and so these are short.
 ghost use Rattle.std.specs.Prelude.{◌≡◌, ◌<◌, ◌≤◌, length};
-ghost use Rattle.lot_kinds.specs.Opening.{key_of as kind_key};
+ghost use Rattle.lot_kinds.specs.Opening.{kind_view};
+ghost use Rattle.lot_locks.specs.Standing.{lock_view};
 ghost use Rattle.lot_park.specs.Parts.{IsOnItsSide, Tables};
 ghost use Rattle.lot_park.specs.declared.parts.both.OneOf.TheVariants.{First, Second};
-ghost use Rattle.lot_sync.specs.Tables.{lock_key};
 
 use crate::pass::LotName;
 use lot_kinds::{KindRoot, KindScheme};
@@ -49,13 +49,9 @@ impl<V: Keeps + Send, N: LotName<V> + Send> Model for LotRoot<V, N> {
 }
 
 impl<V: Keeps + Send, N: LotName<V> + Send> Root for LotRoot<V, N> {
-    ghost use Rattle.lot_sync.specs.Tables.{key_of, line_of, owes_of};
+    ghost use Rattle.lot_sync.specs.Tables.{root_view};
 
-    ghost key = { key_of };
-
-    ghost line = { line_of };
-
-    ghost owes = { owes_of };
+    ghost view = { root_view };
 }
 
 impl<V: Keeps + Send, N: LotName<V> + Send> LotRoot<V, N> {
@@ -71,7 +67,7 @@ impl<V: Keeps + Send, N: LotName<V> + Send> LotRoot<V, N> {
 
     /// The root of a condition or of a semaphore.
     pub(crate) fn of_kind(root: KindRoot<N>) -> LotRoot<V, N>
-        requires { length N.values ≤ kind_key root }
+        requires { length N.values ≤ (kind_view root).key }
         ensures { result ≡ Second root }
     {
         LotRoot {
@@ -82,7 +78,7 @@ impl<V: Keeps + Send, N: LotName<V> + Send> LotRoot<V, N> {
     /// The root itself, of which its key tells whose it is.
     pub(crate) fn into_one(self) -> OneOf<KeyRoot<V, N>, KindRoot<N>>
         ensures same { result ≡ self }
-        ensures side { IsOnItsSide (length N.values) lock_key kind_key result }
+        ensures side { IsOnItsSide (length N.values) lock_view kind_view result }
     {
         let LotRoot { joined } = self;
         joined.into_one()
@@ -206,11 +202,7 @@ impl<V: Keeps + Send, N: LotName<V> + Send, Z: Scheme, P: Part<Joined<V, N>, Z>>
 
     ghost one_pass = { P.one_pass };
 
-    ghost same_key = { P.same_key };
-
-    ghost same_line = { P.same_line };
-
-    ghost same_owes = { P.same_owes };
+    ghost same_view = { P.same_view };
 
     ghost same_thread = { P.same_thread };
 

@@ -7,7 +7,9 @@ use Rattle.lot_rights.specs.Shown.{RootShown}
 use Rattle.lot_conds.specs.declared.views.CondRootView.{CondRootView}
 use Rattle.lot_sems.specs.declared.views.SemRootView.{SemRootView}
 use Rattle.lot_park.specs.Parts.{IsOnItsSide}
-use Rattle.lot_kinds.specs.Opening.{KindRootShown, condition_key, semaphore_key, key_of}
+use Rattle.lot_waits.specs.Rights.{condition_view}
+use Rattle.lot_permits.specs.Rights.{semaphore_view}
+use Rattle.lot_kinds.specs.Opening.{KindRootShown, kind_view}
 use Rattle.lot_kinds.proofs.Places.{stand_popped, any_more}
 use Rattle.lot_kinds.proofs.closing.divide.Goals as goal
 
@@ -18,9 +20,10 @@ push_reserved-requires g c =
     let fewer = c.in-Some.ensures.len in
     let long : length left ≡ vec_len c.pop.new.self = search rules in
     let side : c.in-First.root.root.key < g.N.PermitName.low =
-    subst (λ (o : KindRootShown). IsOnItsSide g.N.PermitName.low condition_key semaphore_key o) c.in-First.is c.into_one.ensures.side in
+    subst (λ (o : KindRootShown). IsOnItsSide g.N.PermitName.low condition_view semaphore_view o) c.in-First.is c.into_one.ensures.side in
     let key : c.in-First.root.root.key ≡ g.N.WaitName.locks + length left =
-    ap key_of (sym c.in-First.is ∙ c.into_one.ensures.same) ∙ (stand_popped key_of g.N.WaitName.locks c.loop-root.roots.items left c.in-Some.root c.in-Some.ensures.items inv.keys).1 in
+    ap (λ (o : KindRootShown). (kind_view o).key) (sym c.in-First.is ∙ c.into_one.ensures.same)
+    ∙ (stand_popped kind_view g.N.WaitName.locks c.loop-root.roots.items left c.in-Some.root c.in-Some.ensures.items inv.keys).1 in
     let border = c.requires.border.0 in
     let few = inv.few (omega (arith, fewer, key, side, border, long)) in
     let wide = inv.room in
@@ -35,9 +38,9 @@ loop-root-preserved-in-First g c =
     let cap = c.push_reserved.ensures.capacity in
     let long : length left ≡ vec_len c.pop.new.self = search rules in
     let side : c.in-First.root.root.key < g.N.PermitName.low =
-    subst (λ (o : KindRootShown). IsOnItsSide g.N.PermitName.low condition_key semaphore_key o) c.in-First.is c.into_one.ensures.side in
-    let popped = stand_popped key_of g.N.WaitName.locks c.loop-root.roots.items left c.in-Some.root c.in-Some.ensures.items inv.keys in
-    let key : c.in-First.root.root.key ≡ g.N.WaitName.locks + length left = ap key_of (sym c.in-First.is ∙ c.into_one.ensures.same) ∙ popped.1 in
+    subst (λ (o : KindRootShown). IsOnItsSide g.N.PermitName.low condition_view semaphore_view o) c.in-First.is c.into_one.ensures.side in
+    let popped = stand_popped kind_view g.N.WaitName.locks c.loop-root.roots.items left c.in-Some.root c.in-Some.ensures.items inv.keys in
+    let key : c.in-First.root.root.key ≡ g.N.WaitName.locks + length left = ap (λ (o : KindRootShown). (kind_view o).key) (sym c.in-First.is ∙ c.into_one.ensures.same) ∙ popped.1 in
     let border = c.requires.border.0 in
     let few = inv.few (omega (arith, fewer, key, side, border, long)) in
     record {
@@ -60,9 +63,10 @@ push_reserved-requires-in-Second g c =
     let fewer = c.in-Some.ensures.len in
     let long : length left ≡ vec_len c.pop.new.self = search rules in
     let side : g.N.PermitName.low ≤ c.in-Second.root.root.key =
-    subst (λ (o : KindRootShown). IsOnItsSide g.N.PermitName.low condition_key semaphore_key o) c.in-Second.is c.into_one.ensures.side in
+    subst (λ (o : KindRootShown). IsOnItsSide g.N.PermitName.low condition_view semaphore_view o) c.in-Second.is c.into_one.ensures.side in
     let key : c.in-Second.root.root.key ≡ g.N.WaitName.locks + length left =
-    ap key_of (sym c.in-Second.is ∙ c.into_one.ensures.same) ∙ (stand_popped key_of g.N.WaitName.locks c.loop-root.roots.items left c.in-Some.root c.in-Some.ensures.items inv.keys).1 in
+    ap (λ (o : KindRootShown). (kind_view o).key) (sym c.in-Second.is ∙ c.into_one.ensures.same)
+    ∙ (stand_popped kind_view g.N.WaitName.locks c.loop-root.roots.items left c.in-Some.root c.in-Some.ensures.items inv.keys).1 in
     let border = c.requires.border.0 in
     let many = inv.many (omega (arith, fewer, key, side, border, long)) in
     let wide = inv.sem_room in
@@ -77,9 +81,9 @@ loop-root-preserved g c =
     let cap = c.push_reserved-in-Second.ensures.capacity in
     let long : length left ≡ vec_len c.pop.new.self = search rules in
     let side : g.N.PermitName.low ≤ c.in-Second.root.root.key =
-    subst (λ (o : KindRootShown). IsOnItsSide g.N.PermitName.low condition_key semaphore_key o) c.in-Second.is c.into_one.ensures.side in
-    let popped = stand_popped key_of g.N.WaitName.locks c.loop-root.roots.items left c.in-Some.root c.in-Some.ensures.items inv.keys in
-    let key : c.in-Second.root.root.key ≡ g.N.WaitName.locks + length left = ap key_of (sym c.in-Second.is ∙ c.into_one.ensures.same) ∙ popped.1 in
+    subst (λ (o : KindRootShown). IsOnItsSide g.N.PermitName.low condition_view semaphore_view o) c.in-Second.is c.into_one.ensures.side in
+    let popped = stand_popped kind_view g.N.WaitName.locks c.loop-root.roots.items left c.in-Some.root c.in-Some.ensures.items inv.keys in
+    let key : c.in-Second.root.root.key ≡ g.N.WaitName.locks + length left = ap (λ (o : KindRootShown). (kind_view o).key) (sym c.in-Second.is ∙ c.into_one.ensures.same) ∙ popped.1 in
     let border = c.requires.border.0 in
     let many = inv.many (omega (arith, fewer, key, side, border, long)) in
     record {

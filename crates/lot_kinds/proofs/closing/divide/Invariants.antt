@@ -3,12 +3,12 @@ use Rattle.std.specs.List.{Any}
 use Rattle.lot_rights.specs.Shown.{RootShown}
 use Rattle.lot_conds.specs.declared.views.CondRootView.{CondRootView}
 use Rattle.lot_sems.specs.declared.views.SemRootView.{SemRootView}
-use Rattle.lot_kinds.specs.Opening.{StandFrom, key_of}
+use Rattle.lot_kinds.specs.Opening.{StandFrom, kind_view}
 use Rattle.lot_kinds.proofs.closing.divide.Given as goal
 
 abbrev pub invariant-loop-root : goal.invariant-loop-root
 invariant-loop-root g l = record {
-  keys : StandFrom key_of g.N.WaitName.locks l.roots.items;
+  keys : StandFrom kind_view g.N.WaitName.locks l.roots.items;
   many : g.N.WaitName.conds ≤ vec_len l.roots → (vec_len l.conds ≡ 0) × (vec_len l.sems + vec_len l.roots ≡ vec_len l.initial.roots);
   few : vec_len l.roots ≤ g.N.WaitName.conds → (vec_len l.conds + vec_len l.roots ≡ g.N.WaitName.conds) × (vec_len l.sems + g.N.WaitName.conds ≡ vec_len l.initial.roots);
   conds : (k : ℕ) → g.N.WaitName.locks + vec_len l.roots ≤ k → k < g.N.WaitName.locks + g.N.WaitName.conds → Any (λ (r : RootShown CondRootView). r.root.key ≡ k) l.conds.items;

@@ -7,22 +7,23 @@ use mathlib.Core.Logic.{dite}
 use native.Mathlib.Decide.{ℕ_discrete}
 use Rattle.lot_rights.specs.Shown.{RootShown}
 use Rattle.lot_words.specs.declared.views.LockRootView.{LockRootView}
-use Rattle.lot_kinds.specs.Opening.{KindRootShown, StandFrom}
-use Rattle.lot_kinds.specs.Opening.{key_of as kind_key}
+use Rattle.lot_kinds.specs.Opening.{KindRootShown, StandFrom, kind_view}
 use Rattle.lot_park.specs.Parts.{IsOnItsSide}
 use Rattle.lot_park.specs.declared.parts.both.OneOf.TheVariants.{First, Second}
-use Rattle.lot_sync.specs.Tables.{LotRootShown, key_of, lock_key}
+use Rattle.lot_locks.specs.Standing.{lock_view}
+use Rattle.lot_sync.specs.Tables.{LotRootShown, root_view}
 use Rattle.lot_kinds.proofs.Places.{at_before, at_last, any_more, stand_before}
 use Rattle.lot_sync.proofs.closing.unname_roots.Goals as goal
 
 -- the key of the root that was popped is the number of those that are left
 popped_key : (xs left : List LotRootShown) (x y : LotRootShown) (n : ℕ) → xs ≡ left ++ x ∷ [] → length left ≡ n → y ≡ x
-    → ((i : ℕ) (r : LotRootShown) → slice_get xs i ≡ Some r → key_of r ≡ i) → key_of y ≡ n
-popped_key xs left x y n items long same keys = ap key_of same ∙ (keys (length left) x (subst (λ zs. slice_get zs (length left) ≡ Some x) (sym items) (at_last left x)) ∙ long)
+    → ((i : ℕ) (r : LotRootShown) → slice_get xs i ≡ Some r → (root_view r).key ≡ i) → (root_view y).key ≡ n
+popped_key xs left x y n items long same keys =
+    ap (λ (o : LotRootShown). (root_view o).key) same ∙ (keys (length left) x (subst (λ zs. slice_get zs (length left) ≡ Some x) (sym items) (at_last left x)) ∙ long)
 
 -- the root that was popped stands before those that were popped earlier
-turned : (ks ks' : List KindRootShown) (x : KindRootShown) (n : ℕ) → ks' ≡ ks ++ x ∷ [] → kind_key x ≡ n → StandFrom kind_key (suc n) (reverse ks) → StandFrom kind_key n (reverse ks')
-turned ks ks' x n items is stand = subst (StandFrom kind_key n) (sym (ap reverse items ∙ reverse-append ks (x ∷ []))) (stand_before kind_key n x (reverse ks) is stand)
+turned : (ks ks' : List KindRootShown) (x : KindRootShown) (n : ℕ) → ks' ≡ ks ++ x ∷ [] → (kind_view x).key ≡ n → StandFrom kind_view (suc n) (reverse ks) → StandFrom kind_view n (reverse ks')
+turned ks ks' x n items is stand = subst (StandFrom kind_view n) (sym (ap reverse items ∙ reverse-append ks (x ∷ []))) (stand_before kind_view n x (reverse ks) is stand)
 
 pub loop-root-preserved-in-First : goal.loop-root-preserved-in-First
 loop-root-preserved-in-First g c =
@@ -33,7 +34,7 @@ loop-root-preserved-in-First g c =
     let cap = c.push_reserved.ensures.capacity in
     let long : length left ≡ vec_len c.pop.new.self = search rules in
     let side : c.in-First.root.root.key < length g.N.LotName.values =
-    subst (λ (o : LotRootShown). IsOnItsSide (length g.N.LotName.values) lock_key kind_key o) c.in-First.is c.into_one.ensures.side in
+    subst (λ (o : LotRootShown). IsOnItsSide (length g.N.LotName.values) lock_view kind_view o) c.in-First.is c.into_one.ensures.side in
     let key : c.in-First.root.root.key ≡ vec_len c.pop.new.self =
     popped_key c.loop-root.named.items left c.in-Some.root (First c.in-First.root) (vec_len c.pop.new.self) c.in-Some.ensures.items long (sym c.in-First.is ∙ c.into_one.ensures.same) inv.keys in
     let is : c.into_root.result.root.key ≡ vec_len c.pop.new.self = ap (λ (r : RootShown LockRootView). r.root.key) c.into_root.ensures.same ∙ key in
@@ -60,9 +61,9 @@ push_reserved-requires-in-Second g c =
     let left = c.pop.new.self.items in
     let fewer = c.in-Some.ensures.len in
     let long : length left ≡ vec_len c.pop.new.self = search rules in
-    let side : length g.N.LotName.values ≤ kind_key c.in-Second.root =
-    subst (λ (o : LotRootShown). IsOnItsSide (length g.N.LotName.values) lock_key kind_key o) c.in-Second.is c.into_one.ensures.side in
-    let key : kind_key c.in-Second.root ≡ vec_len c.pop.new.self =
+    let side : length g.N.LotName.values ≤ (kind_view c.in-Second.root).key =
+    subst (λ (o : LotRootShown). IsOnItsSide (length g.N.LotName.values) lock_view kind_view o) c.in-Second.is c.into_one.ensures.side in
+    let key : (kind_view c.in-Second.root).key ≡ vec_len c.pop.new.self =
     popped_key c.loop-root.named.items left c.in-Some.root (Second c.in-Second.root) (vec_len c.pop.new.self) c.in-Some.ensures.items long (sym c.in-Second.is ∙ c.into_one.ensures.same) inv.keys in
     let many = inv.many (omega (arith, fewer, key, side)) in
     let wide = inv.kind_room in
@@ -76,9 +77,9 @@ loop-root-preserved g c =
     let more = c.push_reserved-in-Second.ensures.len in
     let cap = c.push_reserved-in-Second.ensures.capacity in
     let long : length left ≡ vec_len c.pop.new.self = search rules in
-    let side : length g.N.LotName.values ≤ kind_key c.in-Second.root =
-    subst (λ (o : LotRootShown). IsOnItsSide (length g.N.LotName.values) lock_key kind_key o) c.in-Second.is c.into_one.ensures.side in
-    let key : kind_key c.in-Second.root ≡ vec_len c.pop.new.self =
+    let side : length g.N.LotName.values ≤ (kind_view c.in-Second.root).key =
+    subst (λ (o : LotRootShown). IsOnItsSide (length g.N.LotName.values) lock_view kind_view o) c.in-Second.is c.into_one.ensures.side in
+    let key : (kind_view c.in-Second.root).key ≡ vec_len c.pop.new.self =
     popped_key c.loop-root.named.items left c.in-Some.root (Second c.in-Second.root) (vec_len c.pop.new.self) c.in-Some.ensures.items long (sym c.in-Second.is ∙ c.into_one.ensures.same) inv.keys in
     let many = inv.many (omega (arith, fewer, key, side)) in
     record {
@@ -88,12 +89,12 @@ loop-root-preserved g c =
       few = λ near. (omega (arith, near, many.0, key, side), omega (arith, near, many.1, more, fewer, key, side));
       roots = λ k from below. absurd (omega (arith, from, below, key, side));
       kinds = λ past. turned c.loop-root.kind_roots.items c.push_reserved-in-Second.new.self.items c.in-Second.root (vec_len c.pop.new.self) c.push_reserved-in-Second.ensures.items key
-          (let was : vec_len c.loop-root.named ≡ suc (vec_len c.pop.new.self) = omega (arith, fewer) in subst (λ n. StandFrom kind_key n (reverse c.loop-root.kind_roots.items)) was
+          (let was : vec_len c.loop-root.named ≡ suc (vec_len c.pop.new.self) = omega (arith, fewer) in subst (λ n. StandFrom kind_view n (reverse c.loop-root.kind_roots.items)) was
           (inv.kinds (omega (arith, fewer, key, side))));
       kinds_left = λ near. turned c.loop-root.kind_roots.items c.push_reserved-in-Second.new.self.items c.in-Second.root (length g.N.LotName.values) c.push_reserved-in-Second.ensures.items
           (omega (arith, key, near, side))
           (let was : vec_len c.loop-root.named ≡ suc (length g.N.LotName.values) = omega (arith, fewer, key, near, side) in subst
-          (λ n. StandFrom kind_key n (reverse c.loop-root.kind_roots.items)) was (inv.kinds (omega (arith, fewer, key, side))));
+          (λ n. StandFrom kind_view n (reverse c.loop-root.kind_roots.items)) was (inv.kinds (omega (arith, fewer, key, side))));
       room = inv.room;
       kind_room = let wide = inv.kind_room in omega (arith, wide, cap);
     }
@@ -101,4 +102,4 @@ loop-root-preserved g c =
 pub returns-clause-kinds : goal.returns-clause-kinds
 returns-clause-kinds g c =
     let none = c.in_default.ensures.cases.0 in
-    subst (StandFrom kind_key (length g.N.LotName.values)) (sym c.reverse.ensures.items) (c.loop-root.invariant.kinds_left (omega (arith, none)))
+    subst (StandFrom kind_view (length g.N.LotName.values)) (sym c.reverse.ensures.items) (c.loop-root.invariant.kinds_left (omega (arith, none)))

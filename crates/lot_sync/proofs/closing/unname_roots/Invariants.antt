@@ -2,8 +2,7 @@ use Rattle.std.proofs.Common.{◌≡◌, ℕ, ◌+◌, ◌<◌, ◌≤◌, lengt
 use Rattle.std.specs.List.{All, Any}
 use Rattle.lot_rights.specs.Shown.{RootShown}
 use Rattle.lot_words.specs.declared.views.LockRootView.{LockRootView}
-use Rattle.lot_kinds.specs.Opening.{StandFrom}
-use Rattle.lot_kinds.specs.Opening.{key_of as kind_key}
+use Rattle.lot_kinds.specs.Opening.{StandFrom, kind_view}
 use Rattle.lot_sync.specs.Starting.{StandAtKeys}
 use Rattle.lot_sync.proofs.closing.unname_roots.Given as goal
 
@@ -14,8 +13,8 @@ invariant-loop-root g l = record {
   many : length g.N.LotName.values ≤ vec_len l.named → (vec_len l.roots ≡ 0) × (vec_len l.kind_roots + vec_len l.named ≡ vec_len l.initial.named);
   few : vec_len l.named ≤ length g.N.LotName.values → (vec_len l.roots + vec_len l.named ≡ length g.N.LotName.values) × (vec_len l.kind_roots + length g.N.LotName.values ≡ vec_len l.initial.named);
   roots : (k : ℕ) → vec_len l.named ≤ k → k < length g.N.LotName.values → Any (λ (r : RootShown LockRootView). r.root.key ≡ k) l.roots.items;
-  kinds : length g.N.LotName.values ≤ vec_len l.named → StandFrom kind_key (vec_len l.named) (reverse l.kind_roots.items);
-  kinds_left : vec_len l.named ≤ length g.N.LotName.values → StandFrom kind_key (length g.N.LotName.values) (reverse l.kind_roots.items);
+  kinds : length g.N.LotName.values ≤ vec_len l.named → StandFrom kind_view (vec_len l.named) (reverse l.kind_roots.items);
+  kinds_left : vec_len l.named ≤ length g.N.LotName.values → StandFrom kind_view (length g.N.LotName.values) (reverse l.kind_roots.items);
   room : length g.N.LotName.values ≤ vec_capacity l.roots;
   kind_room : vec_len l.initial.named ≤ length g.N.LotName.values + vec_capacity l.kind_roots;
 }

@@ -9,8 +9,7 @@ use Rattle.lot_park.specs.Lots.{ParkingView}
 use Rattle.lot_park.specs.Parts.{Tables}
 use Rattle.lot_park.specs.declared.parts.both.OneOf.TheVariants.{Second}
 use Rattle.lot_kinds.specs.Rights.{RightsView, unused}
-use Rattle.lot_kinds.specs.Opening.{StandFrom}
-use Rattle.lot_kinds.specs.Opening.{key_of as kind_key}
+use Rattle.lot_kinds.specs.Opening.{StandFrom, kind_view}
 use Rattle.lot_sync.specs.Lot.{LotNames}
 use Rattle.lot_sync.specs.Opened.{OpenedView, IsNamed}
 use Rattle.lot_sync.specs.Starting.{IsFreeKind, IsIdleAt}
@@ -216,7 +215,7 @@ settle-nothing-requires-clause-keys g c κs within =
 pub settle-nothing-requires-clause-roots : goal.settle-nothing-requires-clause-roots
 settle-nothing-requires-clause-roots g c κs within =
     let named = rw (sym c.opened.view_is) at c.requires.named in
-    subst (λ n. StandFrom kind_key n c.unname_roots.new.kind_roots.items) (locks_are named) c.unname_roots.ensures.kinds
+    subst (λ n. StandFrom kind_view n c.unname_roots.new.kind_roots.items) (locks_are named) c.unname_roots.ensures.kinds
 
 pub close_unused-values-requires-clause-own : goal.close_unused-values-requires-clause-own
 close_unused-values-requires-clause-own g c κs within =

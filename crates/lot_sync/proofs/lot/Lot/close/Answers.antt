@@ -14,8 +14,7 @@ use Rattle.lot_kinds.specs.Rights.{RightsView}
 use Rattle.lot_kinds.specs.Rights.{HoldsNone as HoldsNoPermit}
 use Rattle.lot_kinds.specs.Rights.{counts_of as kind_counts}
 use Rattle.lot_waits.specs.Ledger.{IsLedger}
-use Rattle.lot_kinds.specs.Opening.{StandFrom}
-use Rattle.lot_kinds.specs.Opening.{key_of as kind_key}
+use Rattle.lot_kinds.specs.Opening.{StandFrom, kind_view}
 use Rattle.lot_sync.specs.Lot.{PassView, LotView, OwnsNone, counts_of, rights_of}
 use Rattle.lot_sync.specs.Values.{GoesOnTo}
 use Rattle.lot_words.specs.Closing.{HoldsNone}
@@ -99,7 +98,7 @@ settle-ledger-requires-clause-keys g c κs within =
     (c.self.invariant.named_low, omega (arith, long, unnamed))
 
 pub settle-ledger-requires-clause-roots : goal.settle-ledger-requires-clause-roots
-settle-ledger-requires-clause-roots g c κs within = subst (λ n. StandFrom kind_key n c.unname_roots.new.kind_roots.items) (sym c.self.invariant.named_locks) c.unname_roots.ensures.kinds
+settle-ledger-requires-clause-roots g c κs within = subst (λ n. StandFrom kind_view n c.unname_roots.new.kind_roots.items) (sym c.self.invariant.named_locks) c.unname_roots.ensures.kinds
 
 pub close-requires-clause-table : goal.close-requires-clause-table
 close-requires-clause-table g c =
