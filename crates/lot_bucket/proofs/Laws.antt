@@ -126,8 +126,7 @@ module _ {R : Type 0} where
 
 module _ {R : Type 0} (view : R → KeyLine) where
   -- the root that is taken out of an open bucket that agrees
-  pub root_taken : (b : Contents R) (k : ℕ) (root : R) → Agrees view b → b.opened ≡ true → has_key k b.places ≡ true
-      → root_at k b.places ≡ Some root → IsRootOf view k b.queue root
+  pub root_taken : (b : Contents R) (k : ℕ) (root : R) → Agrees view b → b.opened ≡ true → has_key k b.places ≡ true → root_at k b.places ≡ Some root → IsRootOf view k b.queue root
   root_taken b k root agrees is_open has at =
       let own = (agrees.open_agrees is_open).roots k has in
       let same : own.0 ≡ root = let e : Some own.0 ≡ Some root = sym own.1 ∙ at in cc in

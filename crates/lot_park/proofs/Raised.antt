@@ -23,8 +23,7 @@ module _ {R W : Type 0} (whole : R → W) (view : R → KeyLine) (whole_view : W
       }
 
   pub unparked_count : {X : Type 0} (threads k n : ℕ) (answers : R → ℕ → Bool → X × R → Type 0) (result : X × ℕ)
-      → UnparkedCount whole_view {X = X} threads k n (λ root taken more. CallsBackCount whole root (λ r. answers r taken more)) result
-      → UnparkedCount view threads k n answers result
+      → UnparkedCount whole_view {X = X} threads k n (λ root taken more. CallsBackCount whole root (λ r. answers r taken more)) result → UnparkedCount view threads k n answers result
   unparked_count {X} threads k n answers result u =
       let seen : view u.called.mine ≡ whole_view u.root = sym (same_view u.called.mine) ∙ ap whole_view u.called.stands in
       record {

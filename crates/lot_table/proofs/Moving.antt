@@ -321,8 +321,7 @@ own_of_has k size i n has laid own =
     ]
 
 -- open buckets are those of one number of keys
-at_most : {R : Type 0} (view : R → KeyLine) (n m : ℕ) (buckets : List (Contents R)) (d : Contents R) → 0 < length buckets
-    → AreWhole view n buckets → AreWhole view m buckets → n ≤ m
+at_most : {R : Type 0} (view : R → KeyLine) (n m : ℕ) (buckets : List (Contents R)) (d : Contents R) → 0 < length buckets → AreWhole view n buckets → AreWhole view m buckets → n ≤ m
 at_most view n m buckets d some whole other =
     elim (leb_tells n m) [
       | inl e ↦ e.1
@@ -332,8 +331,7 @@ at_most view n m buckets d some whole other =
           ∙ has_past m (length buckets) (m % length buckets) m _ ((other (m % length buckets) d at).laid_out m) (omega arith) in cc)
     ]
 
-pub one_number : {R : Type 0} (view : R → KeyLine) (n m : ℕ) (buckets : List (Contents R)) → 0 < length buckets
-    → AreWhole view n buckets → AreWhole view m buckets → n ≡ m
+pub one_number : {R : Type 0} (view : R → KeyLine) (n m : ℕ) (buckets : List (Contents R)) → 0 < length buckets → AreWhole view n buckets → AreWhole view m buckets → n ≡ m
 one_number {R} view n m buckets some whole other =
     let d : Contents R = record { room = 0; places = []; queue = []; opened = false; next_fair = 0 } in
     let le : n ≤ m = at_most view n m buckets d some whole other in

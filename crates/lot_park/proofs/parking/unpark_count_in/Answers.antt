@@ -33,8 +33,7 @@ returns-clause-stays g c =
     let at = (goal.at.returns-clause-stays g c).After-take_first-root in
     let kept = c.requires.keeps c.take_first-root.result.0 c.take_first-root.result.1 c.take_first-root.result.2 c.f-x.result (own g at).named (own g at).paid (told g at) c.f-x.ensures in
     let left = c.take_first-root.ensures.left in
-    unparked_stays g.S.Root.Root.view c.args.key c.args.count c.args.bucket.now c.take_first-root.new.bucket c.put_root.new.self
-    c.take_first-root.result.0 c.pay_all-root.result
+    unparked_stays g.S.Root.Root.view c.args.key c.args.count c.args.bucket.now c.take_first-root.new.bucket c.put_root.new.self c.take_first-root.result.0 c.pay_all-root.result
     c.requires.ready c.take_first-root.ensures.root
     (ap (λ (b : Contents g.row.S-Root.Denot). b.opened) left) (ap (λ (b : Contents g.row.S-Root.Denot). b.room) left) (ap (λ (b : Contents g.row.S-Root.Denot). b.places) left)
     (ap (λ (b : Contents g.row.S-Root.Denot). b.queue) left)

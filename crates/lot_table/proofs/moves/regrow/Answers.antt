@@ -18,8 +18,7 @@ below g c =
 -- a key was not there, so all were moved
 all : (g : Over) (c : Then-not-has_key g) → AreMoved c.requires.0 c.args.old.now c.args.new.now c.loop-key.old c.loop-key.new
 all g c =
-    moved_ends g.R.Root.view c.requires.0 c.args.old.now c.args.new.now c.requires.1 c.loop-key.key c.loop-key.old c.loop-key.new
-    (c.loop-key.invariant.within c.requires.0 c.requires.1)
+    moved_ends g.R.Root.view c.requires.0 c.args.old.now c.args.new.now c.requires.1 c.loop-key.key c.loop-key.old c.loop-key.new (c.loop-key.invariant.within c.requires.0 c.requires.1)
     (no_key g.R.Root.view c.requires.0 c.args.old.now c.args.new.now c.requires.1 c.loop-key.key c.loop-key.old c.loop-key.new c.loop-key.invariant.moved
     c.index-old-key.result (sym c.if-not-has_key.ensures))
     c.loop-key.invariant.moved
@@ -73,8 +72,7 @@ last : (g : Over) (c : After-loop-key g) → AreMoved c.requires.0 c.args.old.no
 last g c =
     let le = c.loop-key.invariant.within c.requires.0 c.requires.1 in
     let few = c.requires.1.few in
-    moved_ends g.R.Root.view c.requires.0 c.args.old.now c.args.new.now c.requires.1 c.loop-key.key c.loop-key.old c.loop-key.new
-    le (omega arith) c.loop-key.invariant.moved
+    moved_ends g.R.Root.view c.requires.0 c.args.old.now c.args.new.now c.requires.1 c.loop-key.key c.loop-key.old c.loop-key.new le (omega arith) c.loop-key.invariant.moved
 
 pub returns-clause-lines : goal.returns-clause-lines
 returns-clause-lines g c =

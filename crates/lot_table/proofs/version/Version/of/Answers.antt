@@ -18,7 +18,6 @@ loop-bucket-preserved g c = record {
   room = omega (arith, c.push_reserved.ensures.capacity, c.loop-bucket.invariant.room);
   kept = omega (arith, c.in-Some.ensures.capacity, c.loop-bucket.invariant.kept);
   filled =
-      each_rest (λ (i : ℕ) (b : Contents g.row.R.Denot). IsFilled g.R.Root.view c.len-size.result i c.args.keys b) c.pop.new.self.items c.loop-bucket.filled.items
-      c.in-Some.bucket
+      each_rest (λ (i : ℕ) (b : Contents g.row.R.Denot). IsFilled g.R.Root.view c.len-size.result i c.args.keys b) c.pop.new.self.items c.loop-bucket.filled.items c.in-Some.bucket
       c.in-Some.ensures.items c.loop-bucket.invariant.filled;
 }
