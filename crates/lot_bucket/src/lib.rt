@@ -29,6 +29,3 @@ pub use bucket::{Bucket, BucketFault};
 pub use root::Root;
 pub use settled::Settled;
 pub use taking::{Dequeued, Moment};
-
-#[cfg(test)]
-mod tests;

@@ -21,10 +21,6 @@
 //! Several tables of rights share one lot by `parts`, each with its own keys, letters and passes.
 #![tactic(auto)]
 
-#[cfg(test)]
-mod asserts;
-#[cfg(test)]
-mod letters;
 pub mod lot;
 mod parking;
 pub mod parts;

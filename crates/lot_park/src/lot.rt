@@ -349,6 +349,3 @@ fn new_records(alloc: Global, threads: usize) -> Result<Vec<CachePadded<Record>>
     }
     Ok(records)
 }
-
-#[cfg(test)]
-mod tests;

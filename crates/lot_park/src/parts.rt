@@ -207,6 +207,3 @@ fn check<
     let (x, own, mine, queued) = validate(x, own, mine);
     (x, P::raise_pass(own), P::raise_root(mine), queued)
 }
-
-#[cfg(test)]
-mod tests;

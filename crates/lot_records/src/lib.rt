@@ -54,6 +54,3 @@ impl Default for Record {
         Record::new()
     }
 }
-
-#[cfg(test)]
-mod tests;

@@ -1,5 +1,4 @@
 mod Guarding
-mod Lending
 mod Making
 mod Moving
 mod Roots

@@ -1,12 +1,10 @@
-ghost use Rattle.std.specs.Prelude.{◌≡◌, ℕ, ◌<◌, ◌≤◌, List, [], ◌∷◌, ◌++◌, vec_len, vec_capacity, length, drop, IfOk};
-ghost use Rattle.lot_bucket.specs.Queue.{line_of, first_of};
-ghost use Rattle.lot_bucket.specs.Settled.{IsReady, Stays};
+ghost use Rattle.std.specs.Prelude.{◌≡◌, ◌≤◌, [], vec_len, IfOk};
 ghost use Rattle.lot_table.specs.Roots.{AreIdle};
 
 use super::Table;
-use crate::sizes::{Grown, MOST_THREADS, grown_size};
+use crate::sizes::{Grown, MOST_THREADS};
 use crate::version::Version;
-use lot_bucket::{Bucket, Moment, Root};
+use lot_bucket::{Bucket, Root};
 use std::alloc::{AllocError, Global};
 use std::process::Abort;
 use std::sync::Wait;
@@ -21,37 +19,33 @@ const KEYS: usize = 26;
 // How often a test asks for what is to come.
 const ASKINGS: u64 = 10_000_000;
 
-const NEVER: Moment = Moment { now: 0, word: 0 };
-
-// A root that keeps its line in a list, and owes nothing.
+// A root that knows its key alone.
 #[derive(Drop)]
-struct Right {
+struct Named {
     key: usize,
-    line: Vec<usize>,
 }
 
-impl Root for Right {
-    ghost view = { λ r. record { key = r.key; line = r.line.items; owes = [] } };
+impl Root for Named {
+    ghost view = { λ r. record { key = r.key; line = []; owes = [] } };
 }
 
-fn idle_rights(alloc: Global) -> Result<Vec<Right>, AllocError>
+fn idle_roots(alloc: Global) -> Result<Vec<Named>, AllocError>
     ensures len { IfOk result (λ v. vec_len v ≡ KEYS) }
-    ensures idle { IfOk result (λ v. AreIdle ⟦<Right as Root>⟧.view v.items) }
+    ensures idle { IfOk result (λ v. AreIdle ⟦<Named as Root>⟧.view v.items) }
 {
-    let mut rights = Vec::new(alloc);
+    let mut roots = Vec::new(alloc);
     for key in 0..KEYS {
-        let line = Vec::new(alloc);
-        rights.push(Right { key, line })?;
+        roots.push(Named { key })?;
     }
-    Ok(rights)
+    Ok(roots)
 }
 
-fn made(rt: &impl Abort, alloc: Global) -> Table<Right>
+fn made(rt: &impl Abort, alloc: Global) -> Table<Named>
     ensures threads { result.threads ≡ THREADS }
     ensures keys { result.keys ≡ KEYS }
 {
-    let rights = idle_rights(alloc).expect(rt, "memory");
-    match Table::new(alloc, THREADS, rights) {
+    let roots = idle_roots(alloc).expect(rt, "memory");
+    match Table::new(alloc, THREADS, roots) {
         Ok((table, room)) => {
             room.destroy_empty();
             table
@@ -60,7 +54,7 @@ fn made(rt: &impl Abort, alloc: Global) -> Table<Right>
     }
 }
 
-fn ensured<R: Wait + Abort>(rt: &R, table: &Table<Right>, threads: usize) -> Grown
+fn ensured<R: Wait + Abort>(rt: &R, table: &Table<Named>, threads: usize) -> Grown
     requires { threads ≤ table.now.threads }
 {
     match table.ensure(rt, threads) {
@@ -69,178 +63,20 @@ fn ensured<R: Wait + Abort>(rt: &R, table: &Table<Right>, threads: usize) -> Gro
     }
 }
 
-// Ends the table, and looks whether each key's right came back in its turn.
-fn end<R: Wait + Abort>(rt: &R, alloc: Global, table: Table<Right>)
+// Ends the table, and looks whether each key's root came back in its turn.
+fn end<R: Wait + Abort>(rt: &R, alloc: Global, table: Table<Named>)
     requires { table.keys ≡ KEYS }
 {
-    let mut rights = Vec::with_capacity(alloc, KEYS).expect(rt, "memory");
-    table.close(rt, &mut rights);
-    assert_eq!(rt; rights.len(), KEYS);
-    for (key, right) in rights.iter().enumerate() {
-        assert_eq!(rt; right.key, key);
+    let mut roots = Vec::with_capacity(alloc, KEYS).expect(rt, "memory");
+    table.close(rt, &mut roots);
+    assert_eq!(rt; roots.len(), KEYS);
+    for (key, root) in roots.iter().enumerate() {
+        assert_eq!(rt; root.key, key);
     }
-}
-
-// Each with what becomes of the table, once the threads before have come one by one.
-static GROWTHS: [(usize, Grown); 9] = [
-    (1, Grown::Kept(3)),
-    (2, Grown::Grew(3, 12)),
-    (5, Grown::Grew(12, 30)),
-    (11, Grown::Grew(30, 66)),
-    (23, Grown::Grew(66, 138)),
-    (47, Grown::Grew(138, 282)),
-    (95, Grown::Grew(282, 570)),
-    (191, Grown::Grew(570, 1146)),
-    (MOST_THREADS, Grown::Kept(1146)),
-];
-
-fn expect_growth(rt: &impl Abort, threads: usize, grown: Grown, size: usize) {
-    for (at, expected) in &GROWTHS {
-        if *at == threads {
-            assert_eq!(rt; grown, *expected, "{threads} threads");
-        }
-    }
-    match grown {
-        Grown::Kept(kept) => assert_eq!(rt; kept, size, "{threads} threads"),
-        Grown::Grew(_before, after) => assert_eq!(rt; after, size, "{threads} threads"),
-    }
-}
-
-#[test]
-fn it_grows_as_threads_come(rt: HostRuntime) {
-    let table = made(&rt, rt.alloc());
-    assert_eq!(rt; table.size(&rt), 3);
-    for threads in 1..THREADS + 1 {
-        let before = table.size(&rt);
-        let grown = ensured(&rt, &table, threads);
-        let size = table.size(&rt);
-        assert_eq!(rt; size, grown_size(before, threads));
-        expect_growth(&rt, threads, grown, size);
-    }
-    end(&rt, rt.alloc(), table);
-}
-
-// The right with the thread last in its line.
-fn joined(rt: &impl Abort, right: Right, thread: usize) -> Right
-    ensures key { result.key ≡ right.key }
-    ensures line { result.line.items ≡ right.line.items ++ thread ∷ [] }
-{
-    let mut right = right;
-    right.line.push(thread).expect(rt, "memory");
-    right
-}
-
-// Queues the thread on the key, in the bucket and in the root's line.
-fn join_in(rt: &impl Abort, bucket: &mut Bucket<Right>, key: usize, thread: usize)
-    requires ready { (threads keys : ℕ) × IsReady ⟦<Right as Root>⟧.view key threads keys bucket.old }
-    requires room { length bucket.old.queue < bucket.old.room }
-    ensures { Stays ⟦<Right as Root>⟧.view bucket.old bucket.new }
-{
-    let right = bucket.take_root(key);
-    let right = joined(rt, right, thread);
-    bucket.enqueue(thread, key);
-    bucket.put_root(key, right);
-}
-
-fn queue_up<R: Wait + Abort>(rt: &R, table: &Table<Right>, thread: usize, key: usize) {
-    let ((), ()) = table.with_place_for(
-        rt,
-        key,
-        thread,
-        (),
-        |bucket: &mut Bucket<Right>, x: ()| -> ((), ())
-            requires ready { (threads keys : ℕ) × IsReady (λ (r : Right). record { key = r.key; line = r.line.items; owes = [] }) key threads keys bucket.old }
-            requires room { length bucket.old.queue < bucket.old.room }
-        {
-            join_in(rt, bucket, key, thread);
-            (x, ())
-        },
-    );
-}
-
-// The right without the first thread of its line.
-fn advanced(right: Right) -> Right
-    ensures key { result.key ≡ right.key }
-    ensures line { result.line.items ≡ drop 1 right.line.items }
-{
-    let mut right = right;
-    if !right.line.is_empty() {
-        right.line.remove(0);
-    }
-    right
-}
-
-// Takes the first thread of the key, from the bucket and from the root's line.
-fn leave_from(bucket: &mut Bucket<Right>, key: usize) -> Option<usize>
-    requires { (threads keys : ℕ) × IsReady ⟦<Right as Root>⟧.view key threads keys bucket.old }
-    ensures first { result ≡ first_of (line_of key bucket.old.queue) }
-    ensures stays { Stays ⟦<Right as Root>⟧.view bucket.old bucket.new }
-{
-    let right = bucket.take_root(key);
-    let taken = bucket.dequeue_one(key, NEVER).thread;
-    bucket.put_root(key, advanced(right));
-    taken
-}
-
-fn left_first<W: Wait>(rt: &W, table: &Table<Right>, key: usize) -> Option<usize> {
-    let ((), taken) = table.with_bucket(
-        rt,
-        key,
-        (),
-        |bucket: &mut Bucket<Right>, x: ()| -> ((), Option<usize>)
-            requires { (threads keys : ℕ) × IsReady (λ (r : Right). record { key = r.key; line = r.line.items; owes = [] }) key threads keys bucket.old }
-        { (x, leave_from(bucket, key)) },
-    );
-    taken
-}
-
-fn waiting<W: Wait>(rt: &W, table: &Table<Right>, key: usize) -> usize {
-    let ((), count) = table.with_bucket(rt, key, (), |bucket: &mut Bucket<Right>, x: ()| {
-        (x, bucket.len())
-    });
-    count
-}
-
-#[test]
-fn each_line_keeps_its_order_in_a_growth(rt: HostRuntime) {
-    let table = made(&rt, rt.alloc());
-    assert_eq!(rt; ensured(&rt, &table, 2), Grown::Grew(3, 12));
-    for (thread, key) in [(1, 13), (2, 1), (3, 13)] {
-        queue_up(&rt, &table, thread, key);
-    }
-    assert_eq!(rt; waiting(&rt, &table, 1), 3);
-    assert_eq!(rt; ensured(&rt, &table, 5), Grown::Grew(12, 30));
-    assert_eq!(rt; (waiting(&rt, &table, 13), waiting(&rt, &table, 1)), (2, 1));
-    for thread in [Some(1), Some(3), None] {
-        assert_eq!(rt; left_first(&rt, &table, 13), thread);
-    }
-    for thread in [Some(2), None] {
-        assert_eq!(rt; left_first(&rt, &table, 1), thread);
-    }
-    end(&rt, rt.alloc(), table);
-}
-
-#[test]
-fn two_growers_agree(rt: HostRuntime) {
-    let table = made(&rt, rt.alloc());
-    assert_eq!(rt; ensured(&rt, &table, 2), Grown::Grew(3, 12));
-    let answers = grown_by_two(&rt, &table);
-    match table.size(&rt) {
-        30 => assert_eq!(rt; answers, (Grown::Grew(12, 30), Grown::Kept(30))),
-        36 => assert_eq!(rt; answers, (Grown::Kept(36), Grown::Grew(12, 36))),
-        size => panic!(rt; "grew to {size}"),
-    }
-    end(&rt, rt.alloc(), table);
-}
-
-fn grown_by_two<R: Threads + Wait + Abort + Sync>(rt: &R, table: &Table<Right>) -> (Grown, Grown)
-    requires { table.now.threads ≡ THREADS }
-{
-    join(rt, || ensured(rt, table, 5), || ensured(rt, table, 6))
 }
 
 // Whether the bucket of the newest version is found locked.
-fn is_locked_within(table: &Table<Right>, number: usize) -> bool {
+fn is_locked_within(table: &Table<Named>, number: usize) -> bool {
     let (version, _next) = table.versions.newest();
     if number >= version.size() {
         return false;
@@ -255,11 +91,11 @@ fn is_locked_within(table: &Table<Right>, number: usize) -> bool {
 }
 
 // Holds bucket 1 until bucket 0 is found locked, and then looks whether bucket 2 is open.
-fn look_while_held<W: Wait>(rt: &W, table: &Table<Right>, held: &AtomicU64) -> (bool, bool) {
-    let ((), seen) = table.with_bucket(rt, 1, (), |_bucket: &mut Bucket<Right>, x: ()| {
+fn look_while_held<W: Wait>(rt: &W, table: &Table<Named>, held: &AtomicU64) -> (bool, bool) {
+    let ((), seen) = table.with_bucket(rt, 1, (), |_bucket: &mut Bucket<Named>, x: ()| {
         held.store(1, Ordering::SeqCst);
         let locked = is_locked_within(table, 0);
-        let ((), open) = table.with_bucket(rt, 2, (), |bucket: &mut Bucket<Right>, x: ()| {
+        let ((), open) = table.with_bucket(rt, 2, (), |bucket: &mut Bucket<Named>, x: ()| {
             (x, bucket.is_open())
         });
         (x, (locked, open))
@@ -267,7 +103,7 @@ fn look_while_held<W: Wait>(rt: &W, table: &Table<Right>, held: &AtomicU64) -> (
     seen
 }
 
-fn grow_once_held<R: Wait + Abort>(rt: &R, table: &Table<Right>, held: &AtomicU64) -> Option<Grown>
+fn grow_once_held<R: Wait + Abort>(rt: &R, table: &Table<Named>, held: &AtomicU64) -> Option<Grown>
     requires { table.now.threads ≡ THREADS }
 {
     for _ in 0..ASKINGS {
@@ -281,7 +117,7 @@ fn grow_once_held<R: Wait + Abort>(rt: &R, table: &Table<Right>, held: &AtomicU6
 
 fn grow_while_held<R: Threads + Wait + Abort + Sync>(
     rt: &R,
-    table: &Table<Right>,
+    table: &Table<Named>,
 ) -> ((bool, bool), Option<Grown>)
     requires { table.now.threads ≡ THREADS }
 {
@@ -293,7 +129,7 @@ fn grow_while_held<R: Threads + Wait + Abort + Sync>(
     )
 }
 
-fn are_left<W: Wait>(rt: &W, version: &Version<Right>) -> bool {
+fn are_left<W: Wait>(rt: &W, version: &Version<Named>) -> bool {
     for number in 0..version.size() {
         let guard = version.lock_of(number).lock(rt);
         let bucket = guard.bucket();
@@ -305,7 +141,7 @@ fn are_left<W: Wait>(rt: &W, version: &Version<Right>) -> bool {
 }
 
 // Whether the second version was left.
-fn left_second<W: Wait>(rt: &W, table: &Table<Right>) -> bool {
+fn left_second<W: Wait>(rt: &W, table: &Table<Named>) -> bool {
     match table.versions.later_at(0) {
         Some(version) => version.size() == 12 && are_left(rt, version),
         None => false,

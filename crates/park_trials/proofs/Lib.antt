@@ -1,0 +1,2 @@
+mod Idle
+mod Lending

@@ -1,0 +1,42 @@
+//! How often a test asks, with a yield between two askings.
+ghost use Rattle.std.specs.Prelude.{◌<◌};
+
+use lot_park::{ParkingLot, Scheme};
+use std::sync::Wait;
+use std::sync::atomic::{AtomicU64, Ordering};
+use std::thread;
+
+/// For what is to come.
+pub(crate) const ASKINGS: u64 = 10_000_000;
+
+/// For what is not.
+pub(crate) const QUIET_ASKINGS: u64 = 100_000;
+
+/// Whether the word is found with this number in it.
+pub(crate) fn is_within(word: &AtomicU64, number: u64, askings: u64) -> bool {
+    for _ in 0..askings {
+        if word.load(Ordering::SeqCst) == number {
+            return true;
+        }
+        thread::yield_now();
+    }
+    false
+}
+
+/// Whether the key's line is found to be so long.
+pub(crate) fn has_length_within<S: Scheme, W: Wait>(
+    rt: &W,
+    lot: &ParkingLot<S>,
+    key: usize,
+    length: usize,
+) -> bool
+    requires { key < lot.now.keys }
+{
+    for _ in 0..ASKINGS {
+        if lot.line_length(rt, key) == length {
+            return true;
+        }
+        thread::yield_now();
+    }
+    false
+}

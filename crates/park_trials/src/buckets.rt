@@ -1,0 +1,336 @@
+//! One queue with mixed keys, and its roots.
+ghost use Rattle.std.specs.Prelude.{◌≡◌, ℕ, ◌≤◌, length, List, []};
+ghost use Rattle.lot_bucket.specs.Queue.{without_key};
+
+use lot_bucket::{Bucket, Dequeued, Moment, Root};
+use std::process::Abort;
+use std::test::Fail;
+
+// A root that knows its key alone.
+#[derive(Drop)]
+struct Named {
+    key: usize,
+}
+
+impl Root for Named {
+    ghost view = { λ r. record { key = r.key; line = []; owes = [] } };
+}
+
+const ROOM: usize = 4;
+
+const LAST: u64 = u64::MAX;
+
+// One thread is queued or none, and then one of a key is taken.
+struct Step {
+    queued: &'static [(usize, usize)],
+    key: usize,
+    now: u64,
+    word: u64,
+    taken: Dequeued,
+    next_fair: u64,
+}
+
+struct Row {
+    name: &'static str,
+    steps: &'static [Step],
+    // What is left: each key with its line.
+    left: &'static [(usize, &'static [usize])],
+}
+
+static ROWS: [Row; 7] = [
+    Row {
+        name: "fair once the moment is past, not at it",
+        steps: &[
+            Step {
+                queued: &[(0, 0)],
+                key: 0,
+                now: 1,
+                word: 999,
+                taken: Dequeued {
+                    thread: Some(0),
+                    more: false,
+                    fair: true,
+                },
+                next_fair: 1000,
+            },
+            Step {
+                queued: &[(1, 0)],
+                key: 0,
+                now: 1000,
+                word: 5,
+                taken: Dequeued {
+                    thread: Some(1),
+                    more: false,
+                    fair: false,
+                },
+                next_fair: 1000,
+            },
+        ],
+        left: &[(0, &[])],
+    },
+    Row {
+        name: "a handoff moves the next moment, and a release to nobody leaves it",
+        steps: &[
+            Step {
+                queued: &[(1, 0)],
+                key: 0,
+                now: 5,
+                word: 7,
+                taken: Dequeued {
+                    thread: Some(1),
+                    more: false,
+                    fair: true,
+                },
+                next_fair: 12,
+            },
+            Step {
+                queued: &[],
+                key: 0,
+                now: 12,
+                word: 7,
+                taken: Dequeued {
+                    thread: None,
+                    more: false,
+                    fair: false,
+                },
+                next_fair: 12,
+            },
+        ],
+        left: &[(0, &[])],
+    },
+    Row {
+        name: "at moment 0 it is not fair, and the next moment stays",
+        steps: &[Step {
+            queued: &[(1, 0)],
+            key: 0,
+            now: 0,
+            word: 7,
+            taken: Dequeued {
+                thread: Some(1),
+                more: false,
+                fair: false,
+            },
+            next_fair: 0,
+        }],
+        left: &[(0, &[])],
+    },
+    Row {
+        name: "the next moment stops at the last one",
+        steps: &[
+            Step {
+                queued: &[(0, 0), (1, 0)],
+                key: 0,
+                now: LAST,
+                word: 7,
+                taken: Dequeued {
+                    thread: Some(0),
+                    more: true,
+                    fair: true,
+                },
+                next_fair: LAST,
+            },
+            Step {
+                queued: &[],
+                key: 0,
+                now: LAST,
+                word: 7,
+                taken: Dequeued {
+                    thread: Some(1),
+                    more: false,
+                    fair: false,
+                },
+                next_fair: LAST,
+            },
+        ],
+        left: &[(0, &[])],
+    },
+    Row {
+        name: "a word of a whole millisecond adds nothing",
+        steps: &[Step {
+            queued: &[(0, 0)],
+            key: 0,
+            now: 50,
+            word: 1_000_000,
+            taken: Dequeued {
+                thread: Some(0),
+                more: false,
+                fair: true,
+            },
+            next_fair: 50,
+        }],
+        left: &[(0, &[])],
+    },
+    Row {
+        name: "nobody waits on the key, so nothing changes",
+        steps: &[Step {
+            queued: &[(2, 1)],
+            key: 13,
+            now: 5,
+            word: 0,
+            taken: Dequeued {
+                thread: None,
+                more: false,
+                fair: false,
+            },
+            next_fair: 0,
+        }],
+        left: &[(1, &[2])],
+    },
+    Row {
+        name: "who waits on another key may be more",
+        steps: &[Step {
+            queued: &[(1, 13), (2, 1), (3, 13)],
+            key: 1,
+            now: 0,
+            word: 9,
+            taken: Dequeued {
+                thread: Some(2),
+                more: true,
+                fair: false,
+            },
+            next_fair: 0,
+        }],
+        left: &[(13, &[1, 3])],
+    },
+];
+
+fn queue_all(rt: &impl Abort, bucket: &mut Bucket<Named>, pairs: &[(usize, usize)])
+    ensures places { bucket.new.places ≡ bucket.old.places }
+    ensures opened { bucket.new.opened ≡ bucket.old.opened }
+{
+    for (thread, key) in pairs {
+        assert!(rt; bucket.len() < bucket.room());
+        bucket.enqueue(*thread, *key);
+        assert!(rt; bucket.has_thread(*thread));
+    }
+}
+
+#[tactic(auto, using(lot_bucket::proofs::Laws::line_fits))]
+fn expect_line(rt: &impl Abort, bucket: &mut Bucket<Named>, key: usize, line: &[usize], name: &str)
+    ensures { bucket.new ≡ record bucket.old { queue = without_key key bucket.old.queue } }
+{
+    let mut out = [0; ROOM];
+    assert!(rt; bucket.len() <= out.len());
+    let count = bucket.dequeue_all(key, &mut out);
+    assert_eq!(rt; out.get(..count), Some(line), "{name}");
+}
+
+// Takes the first of a key's line, at most so many as are asked for, and looks who they are and whether more may wait.
+#[tactic(auto, using(lot_bucket::proofs::Laws::line_fits))]
+fn expect_first(
+    rt: &impl Abort,
+    bucket: &mut Bucket<Named>,
+    asked: (usize, usize),
+    line: &[usize],
+    more: bool,
+)
+    ensures places { bucket.new.places ≡ bucket.old.places }
+    ensures opened { bucket.new.opened ≡ bucket.old.opened }
+{
+    let (key, count) = asked;
+    let mut out = [0; ROOM];
+    assert!(rt; bucket.len() <= out.len());
+    let (taken, more_wait) = bucket.dequeue_count(key, count, &mut out);
+    assert_eq!(rt; out.get(..taken), Some(line), "the first {count}");
+    assert_eq!(rt; more_wait, more, "the first {count}");
+}
+
+fn expect_step(rt: &impl Abort, bucket: &mut Bucket<Named>, step: &Step, name: &str)
+    ensures places { bucket.new.places ≡ bucket.old.places }
+    ensures opened { bucket.new.opened ≡ bucket.old.opened }
+{
+    queue_all(rt, bucket, step.queued);
+    let moment = Moment {
+        now: step.now,
+        word: step.word,
+    };
+    let taken = bucket.dequeue_one(step.key, moment);
+    assert_eq!(rt; taken, step.taken, "{name}");
+    assert_eq!(rt; bucket.next_fair(), step.next_fair, "{name}");
+}
+
+fn expect_row(rt: &impl Abort, bucket: &mut Bucket<Named>, row: &Row)
+    ensures places { bucket.new.places ≡ bucket.old.places }
+    ensures opened { bucket.new.opened ≡ bucket.old.opened }
+    ensures empty { bucket.new.queue ≡ [] }
+{
+    for step in row.steps {
+        expect_step(rt, bucket, step, row.name);
+    }
+    for (key, line) in row.left {
+        expect_line(rt, bucket, *key, line, row.name);
+    }
+    assert!(rt; bucket.is_empty(), "{}", row.name);
+}
+
+#[test]
+#[tactic(auto, using(lot_bucket::proofs::Slots::rootless_empty))]
+fn one_is_taken(rt: HostRuntime) -> Result<(), Fail> {
+    for row in &ROWS {
+        let mut bucket: Bucket<Named> = Bucket::new(rt.alloc(), ROOM, &[0, 1, 13])?;
+        expect_row(&rt, &mut bucket, row);
+        bucket.discard();
+    }
+    Ok(())
+}
+
+#[test]
+#[tactic(auto, using(lot_bucket::proofs::Slots::rootless_empty))]
+fn several_are_taken(rt: HostRuntime) -> Result<(), Fail> {
+    let mut bucket: Bucket<Named> = Bucket::new(rt.alloc(), ROOM, &[1, 13])?;
+    queue_all(&rt, &mut bucket, &[(1, 13), (2, 1), (3, 13)]);
+    expect_line(&rt, &mut bucket, 13, &[1, 3], "the line of 13");
+    assert_eq!(rt; bucket.len(), 1);
+    assert_eq!(rt; bucket.line_length(1), 1);
+    assert_eq!(rt; bucket.next_fair(), 0);
+    expect_line(&rt, &mut bucket, 1, &[2], "the line of 1");
+    queue_all(&rt, &mut bucket, &[(1, 13), (2, 13), (3, 13)]);
+    expect_first(&rt, &mut bucket, (13, 2), &[1, 2], true);
+    expect_first(&rt, &mut bucket, (13, 5), &[3], false);
+    expect_first(&rt, &mut bucket, (13, 1), &[], false);
+    assert!(rt; bucket.is_empty());
+    bucket.discard();
+    Ok(())
+}
+
+#[test]
+fn roots_are_taken_out_and_put_back(rt: HostRuntime) -> Result<(), Fail> {
+    let mut bucket = Bucket::new(rt.alloc(), ROOM, &[1, 13])?;
+    assert!(rt; !bucket.is_open());
+    bucket.put_root(1, Named { key: 1 });
+    bucket.put_root(13, Named { key: 13 });
+    bucket.open();
+    assert!(rt; bucket.is_open());
+    assert!(rt; bucket.has_key(13) && !bucket.has_key(7));
+    let root = bucket.take_root(13);
+    assert_eq!(rt; root.key, 13);
+    bucket.put_root(13, root);
+    assert_eq!(rt; bucket.take_root(1).key, 1);
+    bucket.close();
+    assert!(rt; !bucket.is_open());
+    assert_eq!(rt; bucket.take_root(13).key, 13);
+    bucket.discard();
+    Ok(())
+}
+
+#[test]
+#[tactic(auto, using(lot_bucket::proofs::Slots::rootless_empty))]
+fn keys_need_not_be_evenly_spaced(rt: HostRuntime) -> Result<(), Fail> {
+    let bucket: Bucket<Named> = Bucket::new(rt.alloc(), ROOM, &[3, 1, 9])?;
+    for (key, has) in [(1, true), (3, true), (5, false), (9, true)] {
+        assert_eq!(rt; bucket.has_key(key), has, "key {key}");
+    }
+    bucket.discard();
+    Ok(())
+}
+
+#[test]
+#[tactic(auto, using(lot_bucket::proofs::Slots::rootless_empty))]
+fn keys_are_evenly_spaced(rt: HostRuntime) -> Result<(), Fail> {
+    let bucket: Bucket<Named> = Bucket::spaced(rt.alloc(), ROOM, 1, 12, 3)?;
+    for (key, has) in [(0, false), (1, true), (13, true), (25, true), (37, false)] {
+        assert_eq!(rt; bucket.has_key(key), has, "key {key}");
+    }
+    bucket.discard();
+    Ok(())
+}
