@@ -20,8 +20,7 @@ use Rattle.lot_words.specs.Rule.{sizes_of, scheme}
 use Rattle.lot_words.specs.Closing.{HoldsNone, IsToldTo}
 use Rattle.lot_words.proofs.Valuing.{finds_value}
 
-module _ {V Part : Type 0} (rule : CallersRule V Part) (size : Size) (opening : List V) (passes : List (PassShown (LockPassView V)))
-    (roots : List (RootShown LockRootView))
+module _ {V Part : Type 0} (rule : CallersRule V Part) (size : Size) (opening : List V) (passes : List (PassShown (LockPassView V))) (roots : List (RootShown LockRootView))
     (ws : List ℕ) (xs : List (Option V)) (ended : Ended (scheme rule size opening) passes roots ws xs) where
   abbrev w : LockWorld V
   w = ended.left.world
@@ -66,8 +65,7 @@ module _ {V Part : Type 0} (rule : CallersRule V Part) (size : Size) (opening : 
       pub last_found : All (λ (p : PassShown (LockPassView V)). (l : ℕ) (y : V) → slice_get vs l ≡ Some y → FoundOk rule l p.pass.thread p.pass.own y) passes
       last_found = All-weaker Fits (λ (p : PassShown (LockPassView V)). (l : ℕ) (y : V) → slice_get vs l ≡ Some y → FoundOk rule l p.pass.thread p.pass.own y)
           (λ p fit l y e. subst (λ z. FoundOk rule l p.pass.thread z y) fit.1 (subst (FoundOk rule l p.pass.thread (w.pass p.pass.thread)) (same_at l y e)
-          (finds_value rule size.threads size.locks w.pass ended.left.homes ended.left.fits.lawful p.pass.thread fit.0 l (lock_of l y e) (nobody p.pass.thread l)))) passes
-          ended.left.passes_fit
+          (finds_value rule size.threads size.locks w.pass ended.left.homes ended.left.fits.lawful p.pass.thread fit.0 l (lock_of l y e) (nobody p.pass.thread l)))) passes ended.left.passes_fit
 
       -- some pass has seen it
       pub last_seen : (l : ℕ) (y : V) → slice_get vs l ≡ Some y → Any (λ (p : PassShown (LockPassView V)). HasSeen p.pass.own l y) passes

@@ -1,5 +1,5 @@
 -- The turn of a letter that is collected, or looked for in vain.
-use Rattle.std.proofs.Common.{◌≡◌, ◌≢◌, ℕ, zero, suc, ◌+◌, ◌-◌, ◌<◌, ◌≤◌, List, length, refl, sym, ap, subst, ◌∙◌, ⊎_elim, arith, get_or-set_same, Option, Some, None}
+use Rattle.std.proofs.Common.{◌≡◌, ◌≢◌, ℕ, zero, suc, ◌+◌, ◌-◌, ◌<◌, ◌≤◌, false, List, length, refl, sym, ap, subst, ◌∙◌, ⊎_elim, arith, Option, Some, None}
 use mathlib.Core.Option as maybe
 use Rattle.lot_core.specs.World.{put}
 use Rattle.lot_core.proofs.Put.{put_same, put_other}
@@ -10,17 +10,16 @@ use Rattle.lot_rights.specs.World.{Spot, awake, queued, owed, lying, letter_of}
 use Rattle.lot_rights.specs.Steps.{pass_after, PassTurn, AllowsPass}
 use Rattle.lot_rights.proofs.Staying.{pass_stays}
 use Rattle.lot_rights.proofs.Worlds.{one_letter, letter_written}
-use Rattle.lot_words.specs.declared.views.Hold.TheVariants.{NotHeld, Held}
 use Rattle.lot_words.specs.declared.views.LockPassView.{LockPassView}
 use Rattle.lot_words.specs.declared.views.Size.{Size}
 use Rattle.lot_words.specs.CallersRule.{CallersRule}
-use Rattle.lot_words.specs.World.{LockWorld, word_of, IsHeld, Holds, IsHanded, TellsTrue, SpotFits, Kept}
+use Rattle.lot_words.specs.World.{LockWorld, word_of, Holds, IsHanded, TellsTrue, SpotFits, Kept}
 use Rattle.lot_words.specs.Values.{FoundOk, IsLawful}
 use Rattle.lot_words.specs.Rule.{sizes_of, wants_of, Fits, scheme}
 use Rattle.lot_words.specs.Calls.{gripped, woken, FoundNone, Collected, CollectedBy}
 use Rattle.lot_words.proofs.Letters.{wakes_kept, lies_fits, handed_owner, handed_near, handed_kept}
 use Rattle.lot_words.proofs.Rows.{same_collect}
-use Rattle.lot_words.proofs.Valuing.{same_values, finds_value, gets_value, gripped_same, gripped_wide, gripped_lies, gripped_seen}
+use Rattle.lot_words.proofs.Valuing.{same_values, finds_value, gets_value}
 
 module _ {V Part : Type 0} (rule : CallersRule V Part) where
   -- what the swap tells, by the number found
@@ -35,8 +34,7 @@ module _ {V Part : Type 0} (rule : CallersRule V Part) where
   collected_some p q (suc token) ne h = let e : token ≡ suc token - 1 = omega arith in subst (λ z. Collected rule p z q) e h.1
 
   module _ (size : Size) (xs : List V) (p : PassView (LockPassView V)) (w : LockWorld V) (ws : List ℕ) (hs : List (maybe.Option (Option V)))
-      (ok : Fits rule size w ws hs)
-      (fit : (p.thread < size.threads) × (w.pass p.thread ≡ p.own)) where
+      (ok : Fits rule size w ws hs) (fit : (p.thread < size.threads) × (w.pass p.thread ≡ p.own)) where
     abbrev t : ℕ
     t = p.thread
 
@@ -94,12 +92,7 @@ module _ {V Part : Type 0} (rule : CallersRule V Part) where
           (subst (λ z. Holds (w.pass z) l) same h)) in
           let long : l < length (w.pass t).holds = (let e = (ok.kept.threads t).long in omega arith) in
           wakes (λ z. woken (gripped z l x)) 1 l lies refl (handed_kept n m w ok.kept t l lies x)
-          (gets_value rule n m w.pass hs ok.lawful t fit.0 l near nobody (woken (gripped (w.pass t) l x))
-          (λ k ne. let s = gripped_same rule n m w.pass hs ok.lawful t fit.0 l near x k ne in record { down = s.down; up = s.up; places = s.places; seen = s.seen })
-          (gripped_wide rule n m w.pass hs ok.lawful t fit.0 l near x)
-          (subst IsHeld (sym (get_or-set_same (w.pass t).holds l Held NotHeld long)) tt)
-          (gripped_lies rule n m w.pass hs ok.lawful t fit.0 l near x) (gripped_seen rule n m w.pass hs ok.lawful t fit.0 l near x))
-          (Collecting p 2)
+          (gets_value rule n m w.pass hs ok.lawful t fit.0 l near nobody long false) (Collecting p 2)
           (λ k. (
             omega arith,
             (

@@ -52,8 +52,7 @@ Leaves {V} p l own y = (own ≡ placed p.own l Moving) × ((pl : Place V) → ge
 
 module _ {V Part : Type 0} (rule : CallersRule V Part) (size : Size) (xs : List V) where
   module _ (t l : ℕ) (here : l < size.locks) (own : LockPassView V) (holds : Holds own l) (w : LockWorld V) (ws : List ℕ) (hs : List (maybe.Option (Option V)))
-      (ok : Fits rule size w ws hs)
-      (fit : (t < size.threads) × (w.pass t ≡ own)) where
+      (ok : Fits rule size w ws hs) (fit : (t < size.threads) × (w.pass t ≡ own)) where
     has : Holds (w.pass t) l
     has = subst (λ z. Holds z l) (sym fit.1) holds
 

@@ -113,8 +113,7 @@ module _ {V Part : Type 0} (rule : CallersRule V Part) (size : Size) (xs : List 
           words = words_stay size w (put w.pass t (sleeping (w.pass t))) spots (put w.root l (record (w.root l) { line = (w.root l).line ++ t ∷ [] })) ws ok.words letters (word_at l) 3
               (sym (found ∙ (λ i. bits_of (h i) (b i))));
           kept = parks_kept size.threads size.locks w ok.kept t fit.0 up' l here held b (aim_of ∙ aim);
-          lawful = same_values rule size.threads size.locks w.pass hs ok.lawful t (sleeping (w.pass t)) (λ k. record { down = λ h. h; up = λ h. h; places = refl; seen = refl })
-              (refl, refl);
+          lawful = same_values rule size.threads size.locks w.pass hs ok.lawful t (sleeping (w.pass t)) (λ k. record { down = λ h. h; up = λ h. h; places = refl; seen = refl }) (refl, refl);
         })
         (Makes (Park t l) (Saw true)) (refl, (row_park w size.threads size.locks ok.kept t fit.0 up' l here held (aim_of ∙ aim) b, letters)) (λ k. ((k, refl), refl))
     park_turn up aim false false h b = park_misses up aim 0 (sym (found ∙ (λ i. bits_of (h i) (b i)))) (λ i. h i && b i) refl
@@ -123,8 +122,7 @@ module _ {V Part : Type 0} (rule : CallersRule V Part) (size : Size) (xs : List 
 
     -- ---- passing on
     module _ (up : p.own.asleep ≡ false) (aim : p.own.aim ≡ None) (holds : HoldsParked p.own l) (y : V)
-        (lies : IsIn p.own l y)
-        (paid : q.own.owes ≡ None) where
+        (lies : IsIn p.own l y) (paid : q.own.owes ≡ None) where
       up' : (w.pass t).asleep ≡ false
       up' = ap (λ (z : LockPassView V). z.asleep) fit.1 ∙ up
 
@@ -219,9 +217,8 @@ module _ {V Part : Type 0} (rule : CallersRule V Part) (size : Size) (xs : List 
       subst (λ n. BothTurn (scheme rule size xs) (word_at q.key) n p q (Parks p q n) w ws hs) n
       (park_turn p q w ws hs ok fit root up aim (is_owned (w.word q.key).owner) (w.word q.key).parked refl refl)
 
-  module _ (p : PassView (LockPassView V)) (q : RootView LockRootView) (up : p.own.asleep ≡ false)
-      (aim : p.own.aim ≡ None)
-      (holds : HoldsParked p.own q.key) (y : V) (lies : IsIn p.own q.key y) (paid : q.own.owes ≡ None) (more : Bool) where
+  module _ (p : PassView (LockPassView V)) (q : RootView LockRootView) (up : p.own.asleep ≡ false) (aim : p.own.aim ≡ None) (holds : HoldsParked p.own q.key) (y : V)
+      (lies : IsIn p.own q.key y) (paid : q.own.owes ≡ None) (more : Bool) where
     pub stores : SaysMore q.own.line more → (x : ℕ) → x ≡ word_left (first q.own.line) more
         → AllowsBoth (scheme rule size xs) (word_at q.key) (λ _. x) p q (λ _. Passes p q q.own.line false more)
     stores says x is w ws hs ok fit root small = store_turn p q w ws hs ok fit root up aim holds y lies paid more q.own.line refl says x is

@@ -1,5 +1,5 @@
 -- The lawful values stay lawful.
-use Rattle.std.proofs.Common.{◌≡◌, ◌≢◌, ℕ, ◌<◌, List, length, set, Option, refl, sym, ap, subst, ◌∙◌, length-set, arith, get_or-set_other}
+use Rattle.std.proofs.Common.{◌≡◌, ◌≢◌, ℕ, ◌<◌, Bool, List, length, set, Option, refl, sym, ap, subst, ◌∙◌, length-set, arith, get_or-set_same, get_or-set_other}
 use mathlib.Core.Option.{some, none, some-injective}
 use mathlib.Core.Option as maybe
 use lib.ListN.{get_elem?}
@@ -95,12 +95,24 @@ module _ {V Part : Type 0} (rule : CallersRule V Part) where
       pub owns_value : Holds (pass t) l → OwnerOk rule homes l t (pass t) (ok.value l)
       owns_value h = (ok.each l here).owned t h
 
-      -- t gets l, which nobody has: it holds it then, and has the value x that it found
-      pub gets_value : ((u : ℕ) → ¬ Holds (pass u) l) → (p : LockPassView V) → ((k : ℕ) → k ≢ l → SameOf k (pass t) p) → IsAsWide p → Holds p l
-          → IsIn p l (ok.value l) → HasSeen p l (ok.value l)
-          → IsLawful rule n m (put pass t p) homes
-      gets_value nobody p same wide mine lies seen = let e = ok.each l here in let x = ok.value l in
-          changes_at l p homes x same (λ k ne. refl) refl wide
+      -- t gets l, which nobody has: it holds it then, with the value that it found, asleep or awake
+      pub gets_value : ((u : ℕ) → ¬ Holds (pass u) l) → l < length (pass t).holds → (asleep : Bool)
+          → IsLawful rule n m (put pass t (record (gripped (pass t) l (ok.value l)) { asleep = asleep })) homes
+      gets_value nobody long asleep =
+          let e = ok.each l here in
+          let x = ok.value l in
+          let p : LockPassView V = record (gripped (pass t) l x) { asleep = asleep } in
+          let mine : Holds p l = subst IsHeld (sym (get_or-set_same (pass t).holds l Held NotHeld long)) tt in
+          let lies : IsIn p l x = set_here (pass t).places l (InSlot x) in_places in
+          let seen : HasSeen p l x = set_here (pass t).seen l x in_seen in
+          changes_at l p homes x
+          (λ k ne. record {
+            down = λ h. subst IsHeld (get_or-set_other (pass t).holds l k Held NotHeld ne) h;
+            up = λ h. subst IsHeld (sym (get_or-set_other (pass t).holds l k Held NotHeld ne)) h;
+            places = set_else (pass t).places l k (InSlot x) ne;
+            seen = set_else (pass t).seen l k x ne;
+          })
+          (λ k ne. refl) refl (length-set (pass t).places l (InSlot x), length-set (pass t).seen l x)
           (record {
             kept = e.kept;
             idle = λ away. absurd (away t (subst (λ z. Holds z l) (sym (put_same pass t p)) mine));
@@ -113,20 +125,35 @@ module _ {V Part : Type 0} (rule : CallersRule V Part) where
 
       module _ (holds : Holds (pass t) l) (only : (u : ℕ) → Holds (pass u) l → u ≡ t) where
         -- t lets l go, with the value y in its slot
-        pub leaves_value : (y : V) → IsIn (pass t) l y → (¬ Holds (let_go (pass t) l y) l)
-            → ((k : ℕ) → k ≢ l → SameOf k (pass t) (let_go (pass t) l y))
-            → IsLawful rule n m (put pass t (let_go (pass t) l y)) homes
-        leaves_value y lies gone same = let e = ok.each l here in let x = ok.value l in let p : LockPassView V = let_go (pass t) l y in
-            let o = e.owned t holds in let is : o.place ≡ InSlot y = some-injective o.place (InSlot y) (sym o.place_is ∙ lies) in
-            let may : MayLeave rule l t x y = subst (MayLie rule l t x) is o.lawful in
+        pub leaves_value : l < length (pass t).holds → (y : V) → IsIn (pass t) l y → IsLawful rule n m (put pass t (let_go (pass t) l y)) homes
+        leaves_value long y lies =
+            let e = ok.each l here in
+            let x = ok.value l in
+            let p : LockPassView V = let_go (pass t) l y in
+            let gone : ¬ Holds p l = (λ h. subst IsHeld (get_or-set_same (pass t).holds l NotHeld NotHeld long) h) in
             let seen : HasSeen p l y = set_here (pass t).seen l y in_seen in
-            changes_at l p homes y same (λ k ne. refl) refl (refl, length-set (pass t).seen l y)
+            let o = e.owned t holds in
+            let is : o.place ≡ InSlot y = some-injective o.place (InSlot y) (sym o.place_is ∙ lies) in
+            let may : MayLeave rule l t x y = subst (MayLie rule l t x) is o.lawful in
+            changes_at l p homes y
+            (λ k ne. record {
+              down = λ h. subst IsHeld (get_or-set_other (pass t).holds l k NotHeld NotHeld ne) h;
+              up = λ h. subst IsHeld (sym (get_or-set_other (pass t).holds l k NotHeld NotHeld ne)) h;
+              places = refl;
+              seen = set_else (pass t).seen l k y ne;
+            })
+            (λ k ne. refl) refl (refl, length-set (pass t).seen l y)
             (record {
               kept = may.kept;
               idle = λ _. o.home ∙ ap (λ pl. some (home_of pl)) is;
               owned = λ u. put_elim (λ z. Holds z l → OwnerOk rule homes l u z y) pass t p u (λ _ h. absurd (gone h)) (λ ne h. absurd (ne (only u h)));
               seen = λ u u_near. put_elim (λ z. SeenOk rule l u z y) pass t p u (λ _. record { seen = y; seen_is = seen; grown = rule.grows_itself y; mine = λ away. refl })
-                  (λ ne. let s = e.seen u u_near in record { seen = s.seen; seen_is = s.seen_is; grown = rule.grows_on s.seen x y s.grown may.grown; mine = λ away. s.mine away ∙ may.others u ne });
+                  (λ ne. let s = e.seen u u_near in record {
+                    seen = s.seen;
+                    seen_is = s.seen_is;
+                    grown = rule.grows_on s.seen x y s.grown may.grown;
+                    mine = λ away. s.mine away ∙ may.others u ne;
+                  });
               witness = (t, (near, subst (λ z. HasSeen z l y) (sym (put_same pass t p)) seen));
             })
 
@@ -154,29 +181,3 @@ module _ {V Part : Type 0} (rule : CallersRule V Part) where
               seen = λ u u_near. same u (e.seen u u_near);
               witness = let w = e.witness in (w.0, (w.1.0, put_elim (λ z. HasSeen z l x) pass t p w.0 (λ wt. subst (λ z. HasSeen (pass z) l x) wt w.1.1) (λ _. w.1.1)));
             })
-
-      -- ---- the passes of these calls
-      pub gripped_same : (x : V) (k : ℕ) → k ≢ l → SameOf k (pass t) (gripped (pass t) l x)
-      gripped_same x k ne = record {
-        down = λ h. subst IsHeld (get_or-set_other (pass t).holds l k Held NotHeld ne) h;
-        up = λ h. subst IsHeld (sym (get_or-set_other (pass t).holds l k Held NotHeld ne)) h;
-        places = set_else (pass t).places l k (InSlot x) ne;
-        seen = set_else (pass t).seen l k x ne;
-      }
-
-      pub gripped_wide : (x : V) → IsAsWide (gripped (pass t) l x)
-      gripped_wide x = (length-set (pass t).places l (InSlot x), length-set (pass t).seen l x)
-
-      pub gripped_lies : (x : V) → IsIn (gripped (pass t) l x) l x
-      gripped_lies x = set_here (pass t).places l (InSlot x) in_places
-
-      pub gripped_seen : (x : V) → HasSeen (gripped (pass t) l x) l x
-      gripped_seen x = set_here (pass t).seen l x in_seen
-
-      pub let_go_same : (y : V) (k : ℕ) → k ≢ l → SameOf k (pass t) (let_go (pass t) l y)
-      let_go_same y k ne = record {
-        down = λ h. subst IsHeld (get_or-set_other (pass t).holds l k NotHeld NotHeld ne) h;
-        up = λ h. subst IsHeld (sym (get_or-set_other (pass t).holds l k NotHeld NotHeld ne)) h;
-        places = refl;
-        seen = set_else (pass t).seen l k y ne;
-      }
