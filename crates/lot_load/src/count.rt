@@ -210,7 +210,7 @@ pub fn go_round<V: Counts + Send, N: LotName<V> + Send + Sync, T: Wait, G: Gate>
 /// The owner's thread counts itself. False, with nothing changed, where memory was refused.
 pub fn add_one<V: Counts, N>(held: &mut Held<V, N>, thread: usize) -> bool
     requires kept { V.keeps held.old.key held.old.value }
-    ensures works { WorksOn V.keeps V.grows V.part held.old thread held.new }
+    ensures works { WorksOn V.Keeps held.old thread held.new }
     ensures counted { MatchBool result (V.is_counted held.old.value thread held.new.value) (held.new.value ≡ held.old.value) }
 {
     let key = held.key();

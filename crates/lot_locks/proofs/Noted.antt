@@ -9,6 +9,7 @@ use Rattle.lot_rights.specs.declared.views.Entry.{Entry}
 use Rattle.lot_rights.specs.declared.views.PassView.{PassView}
 use Rattle.lot_rights.specs.Steps.{Notes}
 use Rattle.lot_words.specs.declared.views.LockPassView.{LockPassView}
+use Rattle.lot_words.specs.CallersRule.{CallersRule}
 use Rattle.lot_words.specs.Values.{IsIn}
 use Rattle.lot_words.specs.Calls.{gripped, wishing, sleeping, woken, let_go, found_parked, parked_pass, GetsBy, FoundNone, Collected}
 use Rattle.lot_locks.specs.declared.released.Released.{Released}
@@ -74,38 +75,38 @@ module _ {V : Type 0} where
       subst (λ (b : Standing V). LetsGo b key became after) (sym is_p) (subst (LetsGo (standing p) key became) (sym is_q)
       (leaves p q key (Makes (Passes p.thread key fair more) (Sleeper first)) became (subst (λ (b : Standing V). (y : V) × IsIn b.own key y) is_p lies) notes (ap Some (sym is))))
 
-module _ {V Part : Type 0} (keeps : ℕ → V → Type 0) (grows : V → V → Type 0) (part : ℕ → V → Part) where
+module _ {V Part : Type 0} (rule : CallersRule V Part) where
   -- ---- tries
-  gets : (p q : PassView (LockPassView V)) (key : ℕ) (a : Access) → p.own.asleep ≡ false → released_after (released_in p.made) a ≡ released_in p.made → GetsBy keeps grows part p key a q
-      → IsOwner keeps grows part (standing p) key (standing q)
-  gets p q key a awake same (x, found, note) = subst (IsOwner keeps grows part (standing p) key) (sym (noted p (gripped p.own key x) a q note))
+  gets : (p q : PassView (LockPassView V)) (key : ℕ) (a : Access) → p.own.asleep ≡ false → released_after (released_in p.made) a ≡ released_in p.made → GetsBy rule p key a q
+      → IsOwner rule (standing p) key (standing q)
+  gets p q key a awake same (x, found, note) = subst (IsOwner rule (standing p) key) (sym (noted p (gripped p.own key x) a q note))
       (record { thread = refl; holds = refl; aimless = refl; awake = awake; value = x; found = found; places = refl; seen = refl; released = same })
 
   pub took_free : (p : PassView (LockPassView V)) (key : ℕ) (does : Bool) (q : PassView (LockPassView V)) → p.own.asleep ≡ false
-      → MatchBool does (GetsBy keeps grows part p key (Makes (Take p.thread key) (Saw true)) q) ((word : ℕ) × (word ≢ 0) × Notes p p.own (Finds p.thread key word) q)
-      → MatchBool does (IsOwner keeps grows part (standing p) key (standing q)) (standing q ≡ standing p)
+      → MatchBool does (GetsBy rule p key (Makes (Take p.thread key) (Saw true)) q) ((word : ℕ) × (word ≢ 0) × Notes p p.own (Finds p.thread key word) q)
+      → MatchBool does (IsOwner rule (standing p) key (standing q)) (standing q ≡ standing p)
   took_free p key true q awake got = gets p q key (Makes (Take p.thread key) (Saw true)) awake refl got
   took_free p key false q awake (word, _, note) = noted p p.own (Finds p.thread key word) q note
 
   pub took : (p : PassView (LockPassView V)) (key : ℕ) (does : Bool) (q : PassView (LockPassView V)) → p.own.asleep ≡ false
-      → MatchBool does (GetsBy keeps grows part p key (Makes (Take p.thread key) (Saw true)) q) (Notes p (wishing p.own key) (Makes (Take p.thread key) (Saw false)) q)
-      → MatchBool does (IsOwner keeps grows part (standing p) key (standing q)) (IsTryingFor (standing p) key (standing q))
+      → MatchBool does (GetsBy rule p key (Makes (Take p.thread key) (Saw true)) q) (Notes p (wishing p.own key) (Makes (Take p.thread key) (Saw false)) q)
+      → MatchBool does (IsOwner rule (standing p) key (standing q)) (IsTryingFor (standing p) key (standing q))
   took p key true q awake got = gets p q key (Makes (Take p.thread key) (Saw true)) awake refl got
   took p key false q awake note = wishes p q key (wishing p.own key) awake refl (noted p (wishing p.own key) (Makes (Take p.thread key) (Saw false)) q note)
 
   pub tried : (p : PassView (LockPassView V)) (key : ℕ) (does : Bool) (q : PassView (LockPassView V)) → p.own.asleep ≡ false
-      → MatchBool does (GetsBy keeps grows part p key (Makes (Try p.thread key) (Saw true)) q) (Notes p p.own (Makes (Try p.thread key) (Saw false)) q)
-      → MatchBool does (IsOwner keeps grows part (standing p) key (standing q)) (standing q ≡ standing p)
+      → MatchBool does (GetsBy rule p key (Makes (Try p.thread key) (Saw true)) q) (Notes p p.own (Makes (Try p.thread key) (Saw false)) q)
+      → MatchBool does (IsOwner rule (standing p) key (standing q)) (standing q ≡ standing p)
   tried p key true q awake got = gets p q key (Makes (Try p.thread key) (Saw true)) awake refl got
   tried p key false q awake note = noted p p.own (Makes (Try p.thread key) (Saw false)) q note
 
   -- ---- letters
   pub looked : (p q : PassView (LockPassView V)) (before after : Standing V) (letter : Option ℕ) → before ≡ standing p → after ≡ standing q
-      → MatchOption letter (FoundNone p q) (λ token. Collected keeps grows part p token q) → IsLooked keeps grows part before letter after
+      → MatchOption letter (FoundNone p q) (λ token. Collected rule p token q) → IsLooked rule before letter after
   looked p q before after letter is_p is_q told =
-      subst (λ b. IsLooked keeps grows part b letter after) (sym is_p) (subst (IsLooked keeps grows part (standing p) letter) (sym is_q) (looks letter told))
+      subst (λ b. IsLooked rule b letter after) (sym is_p) (subst (IsLooked rule (standing p) letter) (sym is_q) (looks letter told))
     where
-      looks : (letter : Option ℕ) → MatchOption letter (FoundNone p q) (λ token. Collected keeps grows part p token q) → IsLooked keeps grows part (standing p) letter (standing q)
+      looks : (letter : Option ℕ) → MatchOption letter (FoundNone p q) (λ token. Collected rule p token q) → IsLooked rule (standing p) letter (standing q)
       looks None note = noted p p.own (Collects p.thread None) q note
       looks (Some zero) note = noted p (woken p.own) (Collects p.thread (Some 0)) q note
       looks (Some (suc k)) (is, (l, aims, (x, found, note))) = (is, (l, aims, (x, found, noted p (woken (gripped p.own l x)) (Collects p.thread (Some 1)) q note)))

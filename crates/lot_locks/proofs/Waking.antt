@@ -6,22 +6,23 @@ use Rattle.lot_park.specs.Parking.{LooksInVain, Awaited}
 use Rattle.lot_words.specs.declared.views.LockPassView.{LockPassView}
 use Rattle.lot_words.specs.declared.views.Hold.TheVariants.{Held}
 use Rattle.lot_words.specs.declared.views.Place.TheVariants.{InSlot}
+use Rattle.lot_words.specs.CallersRule.{CallersRule}
 use Rattle.lot_words.specs.Values.{FoundOk}
 use Rattle.lot_locks.specs.Standing.{Standing, IsAsleepFor, IsTryingFor, IsOwner, IsCollected, IsLooked}
 
-module _ {V Part : Type 0} (keeps : ℕ → V → Type 0) (grows : V → V → Type 0) (part : ℕ → V → Part) where
+module _ {V Part : Type 0} (rule : CallersRule V Part) where
   -- looks that find nothing leave the pass as it stands
-  same_in_vain : (n : ℕ) (p q : Standing V) → LooksInVain (IsLooked keeps grows part) n p q → q ≡ p
+  same_in_vain : (n : ℕ) (p q : Standing V) → LooksInVain (IsLooked rule) n p q → q ≡ p
   same_in_vain zero p q e = e
   same_in_vain (suc n) p q h = h.2 ∙ same_in_vain n p h.0 h.1
 
-  collected : (p q : Standing V) (token : ℕ) → Awaited (IsLooked keeps grows part) p token q → IsCollected keeps grows part p token q
-  collected p q token a = subst (λ z. IsCollected keeps grows part z token q) (same_in_vain a.looks p a.last a.in_vain) a.found
+  collected : (p q : Standing V) (token : ℕ) → Awaited (IsLooked rule) p token q → IsCollected rule p token q
+  collected p q token a = subst (λ z. IsCollected rule z token q) (same_in_vain a.looks p a.last a.in_vain) a.found
 
   -- of the same lock, thread and knowledge the same was found
-  pub found_as : (l k t u : ℕ) (p q : LockPassView V) (x : V) → l ≡ k → t ≡ u → p.seen ≡ q.seen → FoundOk keeps grows part l t p x → FoundOk keeps grows part k u q x
+  pub found_as : (l k t u : ℕ) (p q : LockPassView V) (x : V) → l ≡ k → t ≡ u → p.seen ≡ q.seen → FoundOk rule l t p x → FoundOk rule k u q x
   found_as l k t u p q x e f g h =
-      let at : FoundOk keeps grows part k u p x = subst (λ n. FoundOk keeps grows part n u p x) e (subst (λ n. FoundOk keeps grows part l n p x) f h) in
+      let at : FoundOk rule k u p x = subst (λ n. FoundOk rule n u p x) e (subst (λ n. FoundOk rule l n p x) f h) in
       record {
         kept = at.kept;
         grown = λ s has. at.grown s (subst (λ z. get_elem? z k ≡ some s) (sym g) has);
@@ -29,8 +30,8 @@ module _ {V Part : Type 0} (keeps : ℕ → V → Type 0) (grows : V → V → T
       }
 
   -- a sleeper that collected its letter tries again, or owns the lock
-  wakes : (before mid after : Standing V) (key token : ℕ) → IsAsleepFor before key mid → IsCollected keeps grows part mid token after
-      → MatchBool (token == 1) (IsOwner keeps grows part before key after) (IsTryingFor before key after)
+  wakes : (before mid after : Standing V) (key token : ℕ) → IsAsleepFor before key mid → IsCollected rule mid token after
+      → MatchBool (token == 1) (IsOwner rule before key after) (IsTryingFor before key after)
   wakes before mid after key zero s is = record {
     thread = ap (λ (r : Standing V). r.thread) is ∙ s.thread;
     holds = ap (λ (r : Standing V). r.own.holds) is ∙ s.holds;
@@ -55,6 +56,6 @@ module _ {V Part : Type 0} (keeps : ℕ → V → Type 0) (grows : V → V → T
       }
   wakes before mid after key (suc (suc k)) s e = absurd (omega (arith, e.0))
 
-  pub woken_ends : (before mid after : Standing V) (key token : ℕ) → IsAsleepFor before key mid → Awaited (IsLooked keeps grows part) mid token after
-      → MatchBool (token == 1) (IsOwner keeps grows part before key after) (IsTryingFor before key after)
+  pub woken_ends : (before mid after : Standing V) (key token : ℕ) → IsAsleepFor before key mid → Awaited (IsLooked rule) mid token after
+      → MatchBool (token == 1) (IsOwner rule before key after) (IsTryingFor before key after)
   woken_ends before mid after key token s a = wakes before mid after key token s (collected mid after token a)

@@ -7,6 +7,7 @@ use Rattle.lot_words.specs.declared.views.LockPassView.{LockPassView}
 use Rattle.lot_words.specs.declared.views.LockRootView.{LockRootView}
 use Rattle.lot_words.specs.declared.views.Place.{Place}
 use Rattle.lot_words.specs.declared.views.Place.TheVariants.{InSlot}
+use Rattle.lot_words.specs.CallersRule.{CallersRule}
 use Rattle.lot_words.specs.World.{Holds, HoldsParked}
 use Rattle.lot_words.specs.Values.{IsIn, FoundOk}
 use Rattle.lot_words.specs.Calls.{Aims, gripped, woken, placed}
@@ -92,7 +93,7 @@ module _ {V : Type 0} where
     pub seen : (y : V) → IsIn before.own key y → after.own.seen ≡ slice_set before.own.seen key y
     pub released : after.released ≡ Some became
 
-module _ {V Part : Type 0} (keeps : ℕ → V → Type 0) (grows : V → V → Type 0) (part : ℕ → V → Part) where
+module _ {V Part : Type 0} (rule : CallersRule V Part) where
   -- the lock was got, with its value in the slot
   pub record IsOwner (before : Standing V) (key : ℕ) (after : Standing V) : Type 0 where
     pub thread : after.thread ≡ before.thread
@@ -100,7 +101,7 @@ module _ {V Part : Type 0} (keeps : ℕ → V → Type 0) (grows : V → V → T
     pub aimless : after.own.aim ≡ None
     pub awake : after.own.asleep ≡ false
     pub value : V
-    pub found : FoundOk keeps grows part key before.thread before.own value
+    pub found : FoundOk rule key before.thread before.own value
     pub places : after.own.places ≡ slice_set before.own.places key (InSlot value)
     pub seen : after.own.seen ≡ slice_set before.own.seen key value
     pub released : after.released ≡ before.released
@@ -116,7 +117,7 @@ module _ {V Part : Type 0} (keeps : ℕ → V → Type 0) (grows : V → V → T
   abbrev pub IsCollected : Standing V → ℕ → Standing V → Type 0
   IsCollected p zero q = q ≡ record p { own = woken p.own }
   IsCollected p (suc k) q =
-      (k ≡ 0) × ((l : ℕ) × (p.own.aim ≡ Some l) × ((x : V) × FoundOk keeps grows part l p.thread p.own x × (q ≡ record p { own = woken (gripped p.own l x) })))
+      (k ≡ 0) × ((l : ℕ) × (p.own.aim ≡ Some l) × ((x : V) × FoundOk rule l p.thread p.own x × (q ≡ record p { own = woken (gripped p.own l x) })))
 
   -- a look for a letter: where none lay, the pass stands as before
   abbrev pub IsLooked : Standing V → Option ℕ → Standing V → Type 0

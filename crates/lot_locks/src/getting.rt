@@ -29,7 +29,7 @@ impl<V: Keeps, N: Name> LockScheme<V, N> {
     pub fn take_free(&self, pass: NamedPass<V, N>, key: usize) -> (NamedPass<V, N>, bool)
         requires key { key < self.now.size.locks }
         requires may { MayTake pass key }
-        ensures { MatchBool result.1 (IsOwner V.keeps V.grows V.part pass key result.0) (result.0 ≡ pass) }
+        ensures { MatchBool result.1 (IsOwner V.Keeps pass key result.0) (result.0 ≡ pass) }
     {
         let (pass, got) = self.words().take_free(pass.into_pass(), key);
         (NamedPass::new(pass), got)
@@ -40,7 +40,7 @@ impl<V: Keeps, N: Name> LockScheme<V, N> {
     pub fn take(&self, pass: NamedPass<V, N>, key: usize) -> (NamedPass<V, N>, bool)
         requires key { key < self.now.size.locks }
         requires may { MayTake pass key }
-        ensures { MatchBool result.1 (IsOwner V.keeps V.grows V.part pass key result.0) (IsTryingFor pass key result.0) }
+        ensures { MatchBool result.1 (IsOwner V.Keeps pass key result.0) (IsTryingFor pass key result.0) }
     {
         let (pass, got) = self.words().take(pass.into_pass(), key);
         (NamedPass::new(pass), got)
@@ -52,7 +52,7 @@ impl<V: Keeps, N: Name> LockScheme<V, N> {
     pub fn try_take(&self, pass: NamedPass<V, N>, key: usize) -> (NamedPass<V, N>, bool)
         requires key { key < self.now.size.locks }
         requires calm { (pass.own.asleep ≡ false) × (pass.own.aim ≡ None) }
-        ensures { MatchBool result.1 (IsOwner V.keeps V.grows V.part pass key result.0) (result.0 ≡ pass) }
+        ensures { MatchBool result.1 (IsOwner V.Keeps pass key result.0) (result.0 ≡ pass) }
     {
         let (pass, got) = self.take_free(pass, key);
         if got {
@@ -80,7 +80,7 @@ impl<V: Keeps + Send, N: Name + Send> Sought for LockScheme<V, N> {
 
     ghost has = { λ s key. key < s.size.locks };
 
-    ghost seeks = { Seeks V.keeps V.grows V.part };
+    ghost seeks = { Seeks V.Keeps };
 
     ghost sleeps = { IsAsleepFor };
 
@@ -156,7 +156,7 @@ where
     requires serves { P.serves key }
     requires thread { pass.thread < parking.now.threads }
     requires may { MayTake pass key }
-    ensures { IsOwner V.keeps V.grows V.part pass key result }
+    ensures { IsOwner V.Keeps pass key result }
 {
     get_or_park::<S, LockScheme<V, N>, P, R, B>(
         rt,

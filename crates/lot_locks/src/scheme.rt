@@ -147,7 +147,7 @@ impl<V: Keeps + Send, N: Name + Send> Scheme for LockScheme<V, N> {
 
     ghost thread = { λ p. p.thread };
 
-    ghost looked = { IsLooked V.keeps V.grows V.part };
+    ghost looked = { IsLooked V.Keeps };
 
     fn thread_of(pass: &NamedPass<V, N>) -> usize {
         pass.thread()

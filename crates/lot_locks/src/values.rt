@@ -27,7 +27,7 @@ impl<V: Keeps, N: Name> LockScheme<V, N> {
     pub fn value_in(&self, pass: NamedPass<V, N>, key: usize, value: V) -> NamedPass<V, N>
         requires key { key < self.now.size.locks }
         requires holds { Holds pass.own key × IsOut pass.own key }
-        requires lawful { (x : V) × HasSeen pass.own key x × MayLeave V.keeps V.grows V.part key pass.thread x value }
+        requires lawful { (x : V) × HasSeen pass.own key x × MayLeave V.Keeps key pass.thread x value }
         ensures { result ≡ putting pass key (InSlot value) }
     {
         NamedPass::new(self.words().value_in(pass.into_pass(), key, value))

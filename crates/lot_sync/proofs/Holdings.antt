@@ -5,20 +5,21 @@ use Rattle.atomic_table.proofs.Lists.{at_set}
 use mathlib.Core.Logic.{dite}
 use mathlib.Core.Option.{some-injective}
 use native.Mathlib.Decide.{ℕ_discrete}
+use Rattle.lot_words.specs.CallersRule.{CallersRule}
 use Rattle.lot_locks.specs.declared.released.Released.{Released}
 use Rattle.lot_sync.specs.Lot.{PassView, HeldView, Owns, OwnsNone, HasSeen, owning, leaving, permits_with}
 use Rattle.lot_sync.specs.Values.{Gets, MayGiveBack}
 use Rattle.lot_sync.specs.Holding.{Holding, HoldingBoth}
 
-module _ {V Part : Type 0} (keeps : ℕ → V → Type 0) (grows : V → V → Type 0) (part : ℕ → V → Part) (itself : (x : V) → grows x x) where
+module _ {V Part : Type 0} (rule : CallersRule V Part) where
   -- all that the pass has seen of a lock that it got grows to the value
-  grown_newly : (before after : PassView V) (key : ℕ) (held : HeldView V) → Gets keeps grows part before key held after → (u : V) → HasSeen after held.key u → grows u held.value
+  grown_newly : (before after : PassView V) (key : ℕ) (held : HeldView V) → Gets rule before key held after → (u : V) → HasSeen after held.key u → rule.grows u held.value
   grown_newly before after key held got u seen =
-      ⊎_elim (λ same. subst (λ x. grows x held.value) same.1 (itself held.value)) (λ other. absurd (other.0 got.key_is))
+      ⊎_elim (λ same. subst (λ x. rule.grows x held.value) same.1 (rule.grows_itself held.value)) (λ other. absurd (other.0 got.key_is))
       (at_set before.seen key held.key held.value u (subst (λ (p : PassView V). HasSeen p held.key u) got.after_is seen))
 
   -- what is got is held
-  pub got_holds : (before after : PassView V) (key : ℕ) (held : HeldView V) → OwnsNone before → Gets keeps grows part before key held after → Holding grows after held
+  pub got_holds : (before after : PassView V) (key : ℕ) (held : HeldView V) → OwnsNone before → Gets rule before key held after → Holding rule.grows after held
   got_holds before after key held none got = record {
     owns = subst (λ k. Owns after k) (sym got.key_is) got.owns;
     alone = λ k other owned. none.no_lock k (sym (get_or-set_other before.owns key k true false (λ e. other (e ∙ sym got.key_is))) ∙ subst (λ (p : PassView V). Owns p k) got.after_is owned);
@@ -28,13 +29,13 @@ module _ {V Part : Type 0} (keeps : ℕ → V → Type 0) (grows : V → V → T
 
   -- where nothing is got, the pass is as before
   pub tried_holds : (before after : PassView V) (key : ℕ) (found : Option (HeldView V)) → OwnsNone before →
-      MatchOption found (after ≡ before) (λ held. Gets keeps grows part before key held after) → MatchOption found (OwnsNone after) (λ held. (held.key ≡ key) × Holding grows after held)
+      MatchOption found (after ≡ before) (λ held. Gets rule before key held after) → MatchOption found (OwnsNone after) (λ held. (held.key ≡ key) × Holding rule.grows after held)
   tried_holds before after key None none same = subst OwnsNone (sym same) none
   tried_holds before after key (Some held) none got = (got.key_is, got_holds before after key held none got)
 
   -- a second lock is got
-  pub got_both : (before after : PassView V) (first second : HeldView V) (key : ℕ) → key ≢ first.key → Holding grows before first → Gets keeps grows part before key second after
-      → HoldingBoth grows after first second
+  pub got_both : (before after : PassView V) (first second : HeldView V) (key : ℕ) → key ≢ first.key → Holding rule.grows before first → Gets rule before key second after
+      → HoldingBoth rule.grows after first second
   got_both before after first second key two holds got = record {
     two = λ e. two (sym got.key_is ∙ e);
     owns_first = subst (λ (p : PassView V). Owns p first.key) (sym got.after_is) (get_or-set_other before.owns key first.key true false (λ e. two (sym e)) ∙ holds.owns);
@@ -48,16 +49,17 @@ module _ {V Part : Type 0} (keeps : ℕ → V → Type 0) (grows : V → V → T
   }
 
   -- the value that was found is what the pass has seen
-  pub seen_newly : (before after : PassView V) (key : ℕ) (held : HeldView V) → Gets keeps grows part before key held after → (u : V) → HasSeen after held.key u → held.value ≡ u
+  pub seen_newly : (before after : PassView V) (key : ℕ) (held : HeldView V) → Gets rule before key held after → (u : V) → HasSeen after held.key u → held.value ≡ u
   seen_newly before after key held got u seen = some-injective held.value u (sym got.seen ∙ subst (λ k. HasSeen after k u) got.key_is seen)
 
   -- a value that keeps the rule, has grown from what was found, and has the others' parts of that may be given back
-  pub may_go_back : (before after : PassView V) (key : ℕ) (held : HeldView V) (value : V) → Gets keeps grows part before key held after → keeps held.key value → grows held.value value
-      → ((t : ℕ) → t ≢ before.thread → part t held.value ≡ part t value) → MayGiveBack keeps grows part after (record { key = held.key; value = value })
+  pub may_go_back : (before after : PassView V) (key : ℕ) (held : HeldView V) (value : V) → Gets rule before key held after → rule.keeps held.key value → rule.grows held.value value
+      → ((t : ℕ) → t ≢ before.thread → rule.part t held.value ≡ rule.part t value) → MayGiveBack rule after (record { key = held.key; value = value })
   may_go_back before after key held value got kept grown others = record {
     kept = kept;
-    grown = λ u seen. subst (λ x. grows x value) (seen_newly before after key held got u seen) grown;
-    others = λ u t seen else. subst (λ x. part t x ≡ part t value) (seen_newly before after key held got u seen) (others t (λ e. else (e ∙ sym (ap (λ (p : PassView V). p.thread) got.after_is))));
+    grown = λ u seen. subst (λ x. rule.grows x value) (seen_newly before after key held got u seen) grown;
+    others = λ u t seen else. subst (λ x. rule.part t x ≡ rule.part t value) (seen_newly before after key held got u seen)
+        (others t (λ e. else (e ∙ sym (ap (λ (p : PassView V). p.thread) got.after_is))));
   }
 
 pub let_go_of : (owns : List Bool) (k : ℕ) → get_or (set owns k false) k false ≡ false

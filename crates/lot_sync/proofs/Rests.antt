@@ -10,6 +10,7 @@ use Rattle.lot_words.specs.declared.views.Hold.{Hold}
 use Rattle.lot_words.specs.declared.views.Hold.TheVariants.{NotHeld, Held, FoundParked}
 use Rattle.lot_words.specs.declared.views.Place.{Place}
 use Rattle.lot_words.specs.declared.views.Place.TheVariants.{InSlot, Out}
+use Rattle.lot_words.specs.CallersRule.{CallersRule}
 use Rattle.lot_words.specs.World.{IsHeld, Holds}
 use Rattle.lot_words.specs.Values.{IsOut, IsIn, HasSeen, MayLeave}
 use Rattle.lot_waits.specs.Counts.{CountsView, woke}
@@ -186,12 +187,11 @@ module _ {V : Type 0} (grows : V → V → Type 0) (opening : List V) (threads :
     grown = λ l u v o s. own.grown l u v o (subst (λ vs. get_elem? vs l ≡ some v) found.seen s);
   }) moved
 
-module _ {V Part : Type 0} (keeps : ℕ → V → Type 0) (grows : V → V → Type 0) (part : ℕ → V → Part) where
+module _ {V Part : Type 0} (rule : CallersRule V Part) where
   -- whoever got a lock, and did not hold it, is its new owner
-  pub owns_newly : (opening : List V) (threads : ℕ) → ((x y z : V) → grows x y → grows y z → grows x z) → (before after : Standing V) (key : ℕ) → key < length opening
-      → IsAtRest grows opening threads before
-      → IsOwner keeps grows part before key after → IsNewOwner grows opening threads after key
-  owns_newly opening threads through before after key near rest own = record {
+  pub owns_newly : (opening : List V) (threads : ℕ) (before after : Standing V) (key : ℕ) → key < length opening → IsAtRest rule.grows opening threads before
+      → IsOwner rule before key after → IsNewOwner rule.grows opening threads after key
+  owns_newly opening threads before after key near rest own = record {
     is_thread = subst (λ t. t < threads) (sym own.thread) rest.is_thread;
     aimless = own.aimless;
     awake = own.awake;
@@ -206,21 +206,21 @@ module _ {V Part : Type 0} (keeps : ℕ → V → Type 0) (grows : V → V → T
     grown = λ l u v o s. grown_at l u v o (subst (λ vs. get_elem? vs l ≡ some v) own.seen s);
   }
     where
-      grown_at : (l : ℕ) (u v : V) → get_elem? opening l ≡ some u → get_elem? (set before.own.seen key own.value) l ≡ some v → grows u v
+      grown_at : (l : ℕ) (u v : V) → get_elem? opening l ≡ some u → get_elem? (set before.own.seen key own.value) l ≡ some v → rule.grows u v
       grown_at l u v o s = ⊎_elim
           (λ here. let had = reads before.own.seen key (let w = rest.seen_long in omega (arith, w)) in
-          subst (grows u) here.1 (through u had.0 own.value (rest.grown l u had.0 o (subst (λ k. HasSeen before.own k had.0) (sym here.0) had.1)) (own.found.grown had.0 had.1)))
+          subst (rule.grows u) here.1 (rule.grows_on u had.0 own.value (rest.grown l u had.0 o (subst (λ k. HasSeen before.own k had.0) (sym here.0) had.1)) (own.found.grown had.0 had.1)))
           (λ else. rest.grown l u v o else.1)
           (at_set before.own.seen key l own.value v s)
 
   -- what the callers of lock see
-  pub gets_all : (q : RightsView) (opening : List V) (threads : ℕ) (before after : Standing V) (held : HeldView V) (key : ℕ) → key < length opening → IsAtRest grows opening threads before
-      → IsOwner keeps grows part before key after → held.key ≡ key → IsIn after.own key held.value → Gets keeps grows part (sees q before) key held (sees q after)
+  pub gets_all : (q : RightsView) (opening : List V) (threads : ℕ) (before after : Standing V) (held : HeldView V) (key : ℕ) → key < length opening → IsAtRest rule.grows opening threads before
+      → IsOwner rule before key after → held.key ≡ key → IsIn after.own key held.value → Gets rule (sees q before) key held (sees q after)
   gets_all q opening threads before after held key near rest own key_is lies = record {
     key_is = key_is;
-    kept = subst (keeps key) same own.found.kept;
-    grown = λ u s. subst (grows u) same (own.found.grown u s);
-    mine = λ u s. own.found.mine u s ∙ ap (part before.thread) same;
+    kept = subst (rule.keeps key) same own.found.kept;
+    grown = λ u s. subst (rule.grows u) same (own.found.grown u s);
+    mine = λ u s. own.found.mine u s ∙ ap (rule.part before.thread) same;
     after_is = λ i. record {
       thread = own.thread i;
       owns = (ap (map is_held) own.holds ∙ map-set is_held before.own.holds key Held) i;
@@ -240,7 +240,7 @@ module _ {V Part : Type 0} (keeps : ℕ → V → Type 0) (grows : V → V → T
           (subst (λ ps. get_elem? ps key ≡ some (InSlot own.value)) (sym own.places) (set_here before.own.places key (InSlot own.value) (let w = rest.places_long in omega (arith, w)))) lies
 
   -- whoever waited for a lock and owns it now
-  pub owns_on : (key : ℕ) (a b c : Standing V) → IsTryingFor a key b → IsOwner keeps grows part b key c → IsOwner keeps grows part a key c
+  pub owns_on : (key : ℕ) (a b c : Standing V) → IsTryingFor a key b → IsOwner rule b key c → IsOwner rule a key c
   owns_on key a b c p q = record {
     thread = q.thread ∙ p.thread;
     holds = q.holds ∙ ap (λ hs. set hs key Held) p.holds;
@@ -250,24 +250,23 @@ module _ {V Part : Type 0} (keeps : ℕ → V → Type 0) (grows : V → V → T
     found = record {
       kept = q.found.kept;
       grown = λ s had. q.found.grown s (subst (λ vs. get_elem? vs key ≡ some s) (sym p.seen) had);
-      mine = λ s had. ap (λ t. part t s) (sym p.thread) ∙ (q.found.mine s (subst (λ vs. get_elem? vs key ≡ some s) (sym p.seen) had) ∙ ap (λ t. part t q.value) p.thread);
+      mine = λ s had. ap (λ t. rule.part t s) (sym p.thread) ∙ (q.found.mine s (subst (λ vs. get_elem? vs key ≡ some s) (sym p.seen) had) ∙ ap (λ t. rule.part t q.value) p.thread);
     };
     places = q.places ∙ ap (λ ps. set ps key (InSlot q.value)) p.places;
     seen = q.seen ∙ ap (λ vs. set vs key q.value) p.seen;
     released = q.released ∙ p.released;
   }
 
-  pub gets_as : (before after before' after' : PassView V) (key : ℕ) (held : HeldView V) → before ≡ before' → after ≡ after' → Gets keeps grows part before' key held after'
-      → Gets keeps grows part before key held after
-  gets_as before after before' after' key held e f gets = subst (λ p. Gets keeps grows part p key held after) (sym e) (subst (λ p. Gets keeps grows part before' key held p) (sym f) gets)
+  pub gets_as : (before after before' after' : PassView V) (key : ℕ) (held : HeldView V) → before ≡ before' → after ≡ after' → Gets rule before' key held after' → Gets rule before key held after
+  gets_as before after before' after' key held e f gets = subst (λ p. Gets rule p key held after) (sym e) (subst (λ p. Gets rule before' key held p) (sym f) gets)
 
   -- what may be given back may be left
-  pub may_leave : (q : RightsView) (grown : V → V → Type 0) (opening : List V) (threads : ℕ) (before : Standing V) (held : HeldView V) (key : ℕ) → held.key ≡ key → key < length opening
-      → IsAtRest grown opening threads before → MayGiveBack keeps grows part (sees q before) held
-      → (x : V) × HasSeen before.own key x × MayLeave keeps grows part key before.thread x held.value
-  may_leave q grown opening threads before held key same near rest back = let had = reads before.own.seen key (let w = rest.seen_long in omega (arith, w)) in
+  pub may_leave : (q : RightsView) (opening : List V) (threads : ℕ) (before : Standing V) (held : HeldView V) (key : ℕ) → held.key ≡ key → key < length opening
+      → IsAtRest rule.grows opening threads before → MayGiveBack rule (sees q before) held
+      → (x : V) × HasSeen before.own key x × MayLeave rule key before.thread x held.value
+  may_leave q opening threads before held key same near rest back = let had = reads before.own.seen key (let w = rest.seen_long in omega (arith, w)) in
       let seen = subst (λ k. HasSeen before.own k had.0) (sym same) had.1 in
-      (had.0, had.1, record { kept = subst (λ k. keeps k held.value) same back.kept; grown = back.grown had.0 seen; others = λ u else. back.others had.0 u seen else })
+      (had.0, had.1, record { kept = subst (λ k. rule.keeps k held.value) same back.kept; grown = back.grown had.0 seen; others = λ u else. back.others had.0 u seen else })
 
 -- the rights go on being the thread's
 pub own_on : (t u : ℕ) (q : RightsView) → u ≡ t → AreRightsOf t q → AreRightsOf u q

@@ -2,6 +2,7 @@
 use Rattle.std.specs.Prelude.{ℕ, Option}
 use Rattle.lot_rights.specs.Shown.{RootShown}
 use Rattle.lot_words.specs.declared.views.LockRootView.{LockRootView}
+use Rattle.lot_words.specs.CallersRule.{CallersRule}
 use Rattle.lot_waits.specs.Rights.{CondStanding, IsCondLooked}
 use Rattle.lot_permits.specs.Rights.{SemStanding, IsSemLooked}
 use Rattle.lot_kinds.specs.Opening.{KindRootShown, kind_view}
@@ -25,6 +26,6 @@ module _ {V : Type 0} where
   abbrev pub thread_of : LotStanding V → ℕ
   thread_of = of_either (λ (p : Standing V). p.thread) (of_either (λ (p : CondStanding). p.thread) (λ (p : SemStanding). p.thread))
 
-module _ {V Part : Type 0} (keeps : ℕ → V → Type 0) (grows : V → V → Type 0) (part : ℕ → V → Part) where
+module _ {V Part : Type 0} (rule : CallersRule V Part) where
   abbrev pub HasLooked : LotStanding V → Option ℕ → LotStanding V → Type 0
-  HasLooked = LookedBy (IsLooked keeps grows part) (LookedBy IsCondLooked IsSemLooked)
+  HasLooked = LookedBy (IsLooked rule) (LookedBy IsCondLooked IsSemLooked)

@@ -1,17 +1,18 @@
 -- What is said of values: what an owner finds in a lock, and what he may give back.
 use Rattle.std.specs.Prelude.{◌≡◌, ◌≢◌, ℕ, false, List, Some, slice_get}
+use Rattle.lot_words.specs.CallersRule.{CallersRule}
 use Rattle.lot_locks.specs.declared.released.Released.{Released}
 use Rattle.lot_sync.specs.Lot.{PassView, HeldView, Owns, HasSeen, owning, leaving, waking}
 use Rattle.lot_locks.specs.Released.{IsFitting}
 
-module _ {V Part : Type 0} (keeps : ℕ → V → Type 0) (grows : V → V → Type 0) (part : ℕ → V → Part) where
+module _ {V Part : Type 0} (rule : CallersRule V Part) where
   -- the lock was got: its value keeps the rule, goes on from all that the pass had seen of it, and has the pass's own part
   -- unchanged; it is seen now, and all else of the pass is as before
   pub record Gets (before : PassView V) (key : ℕ) (held : HeldView V) (after : PassView V) : Type 0 where
     pub key_is : held.key ≡ key
-    pub kept : keeps key held.value
-    pub grown : (u : V) → HasSeen before key u → grows u held.value
-    pub mine : (u : V) → HasSeen before key u → part before.thread u ≡ part before.thread held.value
+    pub kept : rule.keeps key held.value
+    pub grown : (u : V) → HasSeen before key u → rule.grows u held.value
+    pub mine : (u : V) → HasSeen before key u → rule.part before.thread u ≡ rule.part before.thread held.value
     pub after_is : after ≡ owning before key held.value
     pub owns : Owns after key
     pub seen : HasSeen after key held.value
@@ -25,13 +26,13 @@ module _ {V Part : Type 0} (keeps : ℕ → V → Type 0) (grows : V → V → T
   -- the value may be given back: it keeps the rule, has grown from the value found, and has the same part for every
   -- other thread
   pub record MayGiveBack (pass : PassView V) (held : HeldView V) : Type 0 where
-    pub kept : keeps held.key held.value
-    pub grown : (u : V) → HasSeen pass held.key u → grows u held.value
-    pub others : (u : V) (t : ℕ) → HasSeen pass held.key u → t ≢ pass.thread → part t u ≡ part t held.value
+    pub kept : rule.keeps held.key held.value
+    pub grown : (u : V) → HasSeen pass held.key u → rule.grows u held.value
+    pub others : (u : V) (t : ℕ) → HasSeen pass held.key u → t ≢ pass.thread → rule.part t u ≡ rule.part t held.value
 
   -- of each lock the pass knows that the value in the list keeps the rule, goes on from what it had seen, and has its own
   -- part unchanged
   pub record GoesOnTo (values : List V) (p : PassView V) : Type 0 where
-    pub kept : (key : ℕ) (v : V) → slice_get values key ≡ Some v → keeps key v
-    pub grown : (key : ℕ) (u v : V) → slice_get values key ≡ Some v → HasSeen p key u → grows u v
-    pub mine : (key : ℕ) (u v : V) → slice_get values key ≡ Some v → HasSeen p key u → part p.thread u ≡ part p.thread v
+    pub kept : (key : ℕ) (v : V) → slice_get values key ≡ Some v → rule.keeps key v
+    pub grown : (key : ℕ) (u v : V) → slice_get values key ≡ Some v → HasSeen p key u → rule.grows u v
+    pub mine : (key : ℕ) (u v : V) → slice_get values key ≡ Some v → HasSeen p key u → rule.part p.thread u ≡ rule.part p.thread v

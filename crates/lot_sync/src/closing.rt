@@ -31,7 +31,7 @@ impl<V: Keeps + Send, N: LotName<V> + Send> Lot<V, N> {
         requires all { (t : ℕ) → t < self.threads → Any (λ (p : PassView V). p.thread ≡ t) passes.items }
         requires free { All OwnsNone passes.items }
         ensures count { vec_len result.0 ≡ self.locks }
-        ensures values { All (GoesOnTo V.keeps V.grows V.part result.0.items) passes.items }
+        ensures values { All (GoesOnTo V.Keeps result.0.items) passes.items }
         ensures ledger { IsLedgerOf self passes.items result.1.called.items result.1.woken.items }
     {
         let Lot {

@@ -22,7 +22,7 @@ impl<V: Keeps + Send, N: LotName<V> + Send> Lot<V, N> {
     pub fn try_lock(&self, pass: Pass<V, N>, key: usize) -> (Pass<V, N>, Option<Held<V, N>>)
         requires key { key < self.now.locks }
         requires free { ¬ Owns pass key }
-        ensures gets { MatchOption result.1 (result.0 ≡ pass) (λ held. Gets V.keeps V.grows V.part pass key held result.0) }
+        ensures gets { MatchOption result.1 (result.0 ≡ pass) (λ held. Gets V.Keeps pass key held result.0) }
         ensures wide { IsWide self.now result.0 }
     {
         let (right, kinds) = pass.apart();
@@ -41,7 +41,7 @@ impl<V: Keeps + Send, N: LotName<V> + Send> Lot<V, N> {
     pub fn lock<R: Wait>(&self, rt: &R, pass: Pass<V, N>, key: usize) -> (Pass<V, N>, Held<V, N>)
         requires key { key < self.now.locks }
         requires free { ¬ Owns pass key }
-        ensures gets { Gets V.keeps V.grows V.part pass key result.1 result.0 }
+        ensures gets { Gets V.Keeps pass key result.1 result.0 }
         ensures wide { IsWide self.now result.0 }
     {
         self.lock_after(rt, pass, key, &AtOnce)
@@ -60,7 +60,7 @@ impl<V: Keeps + Send, N: LotName<V> + Send> Lot<V, N> {
     ) -> (Pass<V, N>, Held<V, N>)
         requires key { key < self.now.locks }
         requires free { ¬ Owns pass key }
-        ensures gets { Gets V.keeps V.grows V.part pass key result.1 result.0 }
+        ensures gets { Gets V.Keeps pass key result.1 result.0 }
         ensures wide { IsWide self.now result.0 }
     {
         let (right, kinds) = pass.apart();

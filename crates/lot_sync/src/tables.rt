@@ -148,7 +148,7 @@ impl<V: Keeps + Send, N: LotName<V> + Send> Scheme for LotScheme<V, N> {
 
     ghost thread = { thread_of };
 
-    ghost looked = { HasLooked V.keeps V.grows V.part };
+    ghost looked = { HasLooked V.Keeps };
 
     fn thread_of(pass: &JoinedPass<V, N>) -> usize {
         Joined::<V, N>::thread_of(pass)

@@ -33,7 +33,7 @@ impl<V: Keeps + Send, N: LotName<V> + Send> Lot<V, N> {
     ) -> (Pass<V, N>, Released)
         requires key { held.key < self.now.locks }
         requires owns { Owns pass held.key }
-        requires back { MayGiveBack V.keeps V.grows V.part pass held }
+        requires back { MayGiveBack V.Keeps pass held }
         ensures pass { result.0 ≡ leaving pass held.key held.value result.1 }
         ensures wide { IsWide self.now result.0 }
         ensures fits { IsFitting result.1 false moment.now }
@@ -55,7 +55,7 @@ impl<V: Keeps + Send, N: LotName<V> + Send> Lot<V, N> {
         M: Drop,
         requires key { held.key < self.now.locks }
         requires owns { Owns pass held.key }
-        requires back { MayGiveBack V.keeps V.grows V.part pass held }
+        requires back { MayGiveBack V.Keeps pass held }
         requires callable { M.pre moment }
         ensures pass { result.0 ≡ leaving pass held.key held.value result.1 }
         ensures wide { IsWide self.now result.0 }
@@ -91,7 +91,7 @@ impl<V: Keeps + Send, N: LotName<V> + Send> Lot<V, N> {
     ) -> (Pass<V, N>, Released)
         requires key { held.key < self.now.locks }
         requires owns { Owns pass held.key }
-        requires back { MayGiveBack V.keeps V.grows V.part pass held }
+        requires back { MayGiveBack V.Keeps pass held }
         ensures pass { result.0 ≡ leaving pass held.key held.value result.1 }
         ensures wide { IsWide self.now result.0 }
         ensures fits { IsFitting result.1 true moment.now }
@@ -108,7 +108,7 @@ impl<V: Keeps + Send, N: LotName<V> + Send> Lot<V, N> {
     ) -> (Pass<V, N>, Option<Held<V, N>>)
         requires key { held.key < self.now.locks }
         requires owns { Owns pass held.key }
-        requires back { MayGiveBack V.keeps V.grows V.part pass held }
+        requires back { MayGiveBack V.Keeps pass held }
         ensures freed { MatchOption result.1 (result.0 ≡ leaving pass held.key held.value Quiet) (λ back. (back ≡ held) × (result.0 ≡ pass)) }
         ensures wide { IsWide self.now result.0 }
     {
@@ -135,7 +135,7 @@ impl<V: Keeps + Send, N: LotName<V> + Send> Lot<V, N> {
     ) -> (Pass<V, N>, Released)
         requires key { held.key < self.now.locks }
         requires owns { Owns pass held.key }
-        requires back { MayGiveBack V.keeps V.grows V.part pass held }
+        requires back { MayGiveBack V.Keeps pass held }
         ensures pass { result.0 ≡ leaving pass held.key held.value result.1 }
         ensures wide { IsWide self.now result.0 }
         ensures fits { IsFitting result.1 fair moment.now }
@@ -164,7 +164,7 @@ impl<V: Keeps + Send, N: LotName<V> + Send> Lot<V, N> {
     ) -> (NamedPass<V, N>, Rights<N>)
         requires key { (held.key ≡ key) × (key < self.now.locks) }
         requires owns { Owns pass key }
-        requires back { MayGiveBack V.keeps V.grows V.part pass held }
+        requires back { MayGiveBack V.Keeps pass held }
         ensures owner { IsNewOwner V.grows N.values N.threads result.0 key }
         ensures lies { IsIn result.0.own key held.value }
         ensures grown { (u : V) → HasSeen result.0.own key u → V.grows u held.value }

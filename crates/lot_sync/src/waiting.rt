@@ -36,9 +36,9 @@ impl<V: Keeps + Send, N: LotName<V> + Send> Lot<V, N> {
     ) -> (Pass<V, N>, Held<V, N>)
         requires key { held.key < self.now.locks }
         requires owns { Owns pass held.key }
-        requires back { MayGiveBack V.keeps V.grows V.part pass held }
+        requires back { MayGiveBack V.Keeps pass held }
         requires cond { IsCond self.now cond }
-        ensures gets { WaitsAndGets V.keeps V.grows V.part pass held cond moment.now result.1 result.0 }
+        ensures gets { WaitsAndGets V.Keeps pass held cond moment.now result.1 result.0 }
         ensures wide { IsWide self.now result.0 }
     {
         self.wait_after(rt, pass, held, cond, moment, &AtOnce)
@@ -57,9 +57,9 @@ impl<V: Keeps + Send, N: LotName<V> + Send> Lot<V, N> {
     ) -> (Pass<V, N>, Held<V, N>)
         requires key { held.key < self.now.locks }
         requires owns { Owns pass held.key }
-        requires back { MayGiveBack V.keeps V.grows V.part pass held }
+        requires back { MayGiveBack V.Keeps pass held }
         requires cond { IsCond self.now cond }
-        ensures gets { WaitsAndGets V.keeps V.grows V.part pass held cond moment.now result.1 result.0 }
+        ensures gets { WaitsAndGets V.Keeps pass held cond moment.now result.1 result.0 }
         ensures wide { IsWide self.now result.0 }
     {
         let key = held.key();

@@ -7,6 +7,7 @@ use Rattle.std.proofs.lemmas.List.Elements.{All-nil, All-cons}
 use Rattle.std.proofs.lemmas.List.Quantifiers.{Any-push}
 use mathlib.Core.Logic.{dite}
 use native.Mathlib.Decide.{ℕ_discrete}
+use Rattle.lot_words.specs.CallersRule.{CallersRule}
 use Rattle.lot_waits.specs.Counts.{CountsView, wrap}
 use Rattle.lot_waits.specs.Ledger.{AreSums, called_at, woken_at}
 use Rattle.lot_rights.proofs.Turns.{no_elements}
@@ -23,10 +24,10 @@ none_still p q owns permits none = record {
   no_permit = λ k. ap (λ xs. slice_index xs k) permits ∙ none.no_permit k;
 }
 
-module _ {V Part : Type 0} (keeps : ℕ → V → Type 0) (grows : V → V → Type 0) (part : ℕ → V → Part) where
+module _ {V Part : Type 0} (rule : CallersRule V Part) where
   -- it got the lock, waited with it once, and let it go
-  pub ends_waited : (lot : LotView) (p q r s : PassView V) (held again : HeldView V) (now : ℕ) (became : Released) → OwnsNone p → Gets keeps grows part p 0 held q
-      → WaitsAndGets keeps grows part q held 1 now again r → s ≡ leaving r again.key again.value became
+  pub ends_waited : (lot : LotView) (p q r s : PassView V) (held again : HeldView V) (now : ℕ) (became : Released) → OwnsNone p → Gets rule p 0 held q
+      → WaitsAndGets rule q held 1 now again r → s ≡ leaving r again.key again.value became
       → IsWide lot s → EndsAs lot (waking p 1) s
   ends_waited lot p q r s held again now became none got (answer, _, woke) left wide = record {
     counts = ap counts_of left ∙ (ap counts_of woke.after_is ∙ ap (λ (v : PassView V). counts_of (waking v 1)) got.after_is);

@@ -13,21 +13,21 @@ use Rattle.lot_rights.proofs.Totals.{any_all}
 use Rattle.lot_words.specs.declared.views.LockPassView.{LockPassView}
 use Rattle.lot_words.specs.declared.views.LockRootView.{LockRootView}
 use Rattle.lot_words.specs.declared.views.Size.{Size}
+use Rattle.lot_words.specs.CallersRule.{CallersRule}
 use Rattle.lot_words.specs.World.{LockWorld, Holds}
 use Rattle.lot_words.specs.Values.{HasSeen, FoundOk}
 use Rattle.lot_words.specs.Rule.{sizes_of, scheme}
 use Rattle.lot_words.specs.Closing.{HoldsNone, IsToldTo}
 use Rattle.lot_words.proofs.Valuing.{finds_value}
 
-module _ {V Q : Type 0} (keeps : ℕ → V → Type 0) (grows : V → V → Type 0) (share : ℕ → V → Q) (size : Size) (opening : List V) (passes : List (PassShown (LockPassView V)))
-    (roots : List (RootShown LockRootView))
-    (ws : List ℕ) (xs : List (Option V)) (ended : Ended (scheme keeps grows share size opening) passes roots ws xs) where
+module _ {V Part : Type 0} (rule : CallersRule V Part) (size : Size) (opening : List V) (passes : List (PassShown (LockPassView V))) (roots : List (RootShown LockRootView))
+    (ws : List ℕ) (xs : List (Option V)) (ended : Ended (scheme rule size opening) passes roots ws xs) where
   abbrev w : LockWorld V
   w = ended.left.world
 
   pub told_to : IsToldTo size passes roots
   told_to = record {
-    recounted = ended_recounted (scheme keeps grows share size opening) passes roots ws xs ended;
+    recounted = ended_recounted (scheme rule size opening) passes roots ws xs ended;
     lines = All-weaker (λ (q : RootShown LockRootView). RootIs (sizes_of size) w q.root.key q.root.own) (λ (q : RootShown LockRootView). (w.root q.root.key).line ≡ q.root.own.line)
         (λ q is. ap (λ (z : LockRootView). z.line) is.1) roots ended.left.roots_fit;
   }
@@ -62,11 +62,10 @@ module _ {V Q : Type 0} (keeps : ℕ → V → Type 0) (grows : V → V → Type
       same_at l y e = let f : Some (value_at l) ≡ Some y = some-injective (Some (value_at l)) (Some y) (sym (lies_at l (lock_of l y e)) ∙ each l y e) in cc
 
       -- the value in the slot is lawful to each pass
-      pub last_found : All (λ (p : PassShown (LockPassView V)). (l : ℕ) (y : V) → slice_get vs l ≡ Some y → FoundOk keeps grows share l p.pass.thread p.pass.own y) passes
-      last_found = All-weaker Fits (λ (p : PassShown (LockPassView V)). (l : ℕ) (y : V) → slice_get vs l ≡ Some y → FoundOk keeps grows share l p.pass.thread p.pass.own y)
-          (λ p fit l y e. subst (λ z. FoundOk keeps grows share l p.pass.thread z y) fit.1 (subst (FoundOk keeps grows share l p.pass.thread (w.pass p.pass.thread)) (same_at l y e)
-          (finds_value keeps grows share size.threads size.locks w.pass ended.left.homes ended.left.fits.lawful p.pass.thread fit.0 l (lock_of l y e) (nobody p.pass.thread l)))) passes
-          ended.left.passes_fit
+      pub last_found : All (λ (p : PassShown (LockPassView V)). (l : ℕ) (y : V) → slice_get vs l ≡ Some y → FoundOk rule l p.pass.thread p.pass.own y) passes
+      last_found = All-weaker Fits (λ (p : PassShown (LockPassView V)). (l : ℕ) (y : V) → slice_get vs l ≡ Some y → FoundOk rule l p.pass.thread p.pass.own y)
+          (λ p fit l y e. subst (λ z. FoundOk rule l p.pass.thread z y) fit.1 (subst (FoundOk rule l p.pass.thread (w.pass p.pass.thread)) (same_at l y e)
+          (finds_value rule size.threads size.locks w.pass ended.left.homes ended.left.fits.lawful p.pass.thread fit.0 l (lock_of l y e) (nobody p.pass.thread l)))) passes ended.left.passes_fit
 
       -- some pass has seen it
       pub last_seen : (l : ℕ) (y : V) → slice_get vs l ≡ Some y → Any (λ (p : PassShown (LockPassView V)). HasSeen p.pass.own l y) passes

@@ -1,5 +1,5 @@
 -- The turn of a letter that is collected, or looked for in vain.
-use Rattle.std.proofs.Common.{◌≡◌, ◌≢◌, ℕ, zero, suc, ◌+◌, ◌-◌, ◌<◌, ◌≤◌, List, length, refl, sym, ap, subst, ◌∙◌, ⊎_elim, arith, get_or-set_same, Option, Some, None}
+use Rattle.std.proofs.Common.{◌≡◌, ◌≢◌, ℕ, zero, suc, ◌+◌, ◌-◌, ◌<◌, ◌≤◌, false, List, length, refl, sym, ap, subst, ◌∙◌, ⊎_elim, arith, Option, Some, None}
 use mathlib.Core.Option as maybe
 use Rattle.lot_core.specs.World.{put}
 use Rattle.lot_core.proofs.Put.{put_same, put_other}
@@ -10,32 +10,31 @@ use Rattle.lot_rights.specs.World.{Spot, awake, queued, owed, lying, letter_of}
 use Rattle.lot_rights.specs.Steps.{pass_after, PassTurn, AllowsPass}
 use Rattle.lot_rights.proofs.Staying.{pass_stays}
 use Rattle.lot_rights.proofs.Worlds.{one_letter, letter_written}
-use Rattle.lot_words.specs.declared.views.Hold.TheVariants.{NotHeld, Held}
 use Rattle.lot_words.specs.declared.views.LockPassView.{LockPassView}
 use Rattle.lot_words.specs.declared.views.Size.{Size}
-use Rattle.lot_words.specs.World.{LockWorld, word_of, IsHeld, Holds, IsHanded, TellsTrue, SpotFits, Kept}
+use Rattle.lot_words.specs.CallersRule.{CallersRule}
+use Rattle.lot_words.specs.World.{LockWorld, word_of, Holds, IsHanded, TellsTrue, SpotFits, Kept}
 use Rattle.lot_words.specs.Values.{FoundOk, IsLawful}
 use Rattle.lot_words.specs.Rule.{sizes_of, wants_of, Fits, scheme}
 use Rattle.lot_words.specs.Calls.{gripped, woken, FoundNone, Collected, CollectedBy}
 use Rattle.lot_words.proofs.Letters.{wakes_kept, lies_fits, handed_owner, handed_near, handed_kept}
 use Rattle.lot_words.proofs.Rows.{same_collect}
-use Rattle.lot_words.proofs.Valuing.{same_values, finds_value, gets_value, gripped_same, gripped_wide, gripped_lies, gripped_seen}
+use Rattle.lot_words.proofs.Valuing.{same_values, finds_value, gets_value}
 
-module _ {V Q : Type 0} (keeps : ℕ → V → Type 0) (grows : V → V → Type 0) (share : ℕ → V → Q) where
+module _ {V Part : Type 0} (rule : CallersRule V Part) where
   -- what the swap tells, by the number found
   abbrev pub Collecting : PassView (LockPassView V) → ℕ → PassView (LockPassView V) → Type 0
-  Collecting p n q = (n ≤ 2) × CollectedBy keeps grows share p n q
+  Collecting p n q = (n ≤ 2) × CollectedBy rule p n q
 
   pub collected_none : (p q : PassView (LockPassView V)) (n : ℕ) → n ≡ 0 → Collecting p n q → FoundNone p q
-  collected_none p q n e h = subst (λ z. CollectedBy keeps grows share p z q) e h.1
+  collected_none p q n e h = subst (λ z. CollectedBy rule p z q) e h.1
 
-  pub collected_some : (p q : PassView (LockPassView V)) (n : ℕ) → n ≢ 0 → Collecting p n q → Collected keeps grows share p (n - 1) q
+  pub collected_some : (p q : PassView (LockPassView V)) (n : ℕ) → n ≢ 0 → Collecting p n q → Collected rule p (n - 1) q
   collected_some p q zero ne h = absurd (ne refl)
-  collected_some p q (suc token) ne h = let e : token ≡ suc token - 1 = omega arith in subst (λ z. Collected keeps grows share p z q) e h.1
+  collected_some p q (suc token) ne h = let e : token ≡ suc token - 1 = omega arith in subst (λ z. Collected rule p z q) e h.1
 
-  module _ (itself : (x : V) → grows x x) (size : Size) (xs : List V) (p : PassView (LockPassView V)) (w : LockWorld V) (ws : List ℕ) (hs : List (maybe.Option (Option V)))
-      (ok : Fits keeps grows share size w ws hs)
-      (fit : (p.thread < size.threads) × (w.pass p.thread ≡ p.own)) where
+  module _ (size : Size) (xs : List V) (p : PassView (LockPassView V)) (w : LockWorld V) (ws : List ℕ) (hs : List (maybe.Option (Option V)))
+      (ok : Fits rule size w ws hs) (fit : (p.thread < size.threads) × (w.pass p.thread ≡ p.own)) where
     abbrev t : ℕ
     t = p.thread
 
@@ -46,18 +45,18 @@ module _ {V Q : Type 0} (keeps : ℕ → V → Type 0) (grows : V → V → Type
     m = size.locks
 
     abbrev Turn : ℕ → Type 0
-    Turn x = PassTurn (scheme keeps grows share size xs) (letter_at t) 0 p (Collecting p x) w ws hs
+    Turn x = PassTurn (scheme rule size xs) (letter_at t) 0 p (Collecting p x) w ws hs
 
     -- no letter lies
     none_lies : letter_of (w.spot t) ≡ 0 → Turn 0
-    none_lies none_there = pass_stays (scheme keeps grows share size xs) (letter_at t) 0 w ws hs ok (sym (ok.words.letters t fit.0 ∙ none_there)) p fit (Collects t None)
+    none_lies none_there = pass_stays (scheme rule size xs) (letter_at t) 0 w ws hs ok (sym (ok.words.letters t fit.0 ∙ none_there)) p fit (Collects t None)
         (refl, (none_there, refl)) (Collecting p 0) (λ k. (omega arith, (k, refl)))
 
     -- a letter lies: the pass is awake then
     wakes : (f : LockPassView V → LockPassView V) (token l : ℕ) → w.spot t ≡ lying l token → wants_of awake (f (w.pass t)).aim ≡ wants_of (lying l token) (w.pass t).aim
-        → Kept n m (record w { pass = put w.pass t (f (w.pass t)); spot = put w.spot t awake }) → IsLawful keeps grows share n m (put w.pass t (f (w.pass t))) hs
+        → Kept n m (record w { pass = put w.pass t (f (w.pass t)); spot = put w.spot t awake }) → IsLawful rule n m (put w.pass t (f (w.pass t))) hs
         → (then : PassView (LockPassView V) → Type 0) → ((k : ℕ) → then (pass_after p (f p.own) k (Collects t (Some token))))
-        → PassTurn (scheme keeps grows share size xs) (letter_at t) 0 p then w ws hs
+        → PassTurn (scheme rule size xs) (letter_at t) 0 p then w ws hs
     wakes f token l lies want kept lawful then told =
         let p1 : LockPassView V = f (w.pass t) in
         let w' : LockWorld V = record w { pass = put w.pass t p1; spot = put w.spot t awake } in
@@ -80,7 +79,7 @@ module _ {V Q : Type 0} (keeps : ℕ → V → Type 0) (grows : V → V → Type
     module _ (l : ℕ) where
       barges : w.spot t ≡ lying l 0 → Turn 1
       barges lies = wakes woken 0 l lies refl (wakes_kept n m w ok.kept t l lies)
-          (same_values keeps grows share n m w.pass hs ok.lawful t (woken (w.pass t)) (λ k. record { down = λ h. h; up = λ h. h; places = refl; seen = refl }) (refl, refl)) (Collecting p 1)
+          (same_values rule n m w.pass hs ok.lawful t (woken (w.pass t)) (λ k. record { down = λ h. h; up = λ h. h; places = refl; seen = refl }) (refl, refl)) (Collecting p 1)
           (λ k. (omega arith, (k, refl)))
 
       handed : w.spot t ≡ lying l 1 → Turn 2
@@ -93,12 +92,7 @@ module _ {V Q : Type 0} (keeps : ℕ → V → Type 0) (grows : V → V → Type
           (subst (λ z. Holds (w.pass z) l) same h)) in
           let long : l < length (w.pass t).holds = (let e = (ok.kept.threads t).long in omega arith) in
           wakes (λ z. woken (gripped z l x)) 1 l lies refl (handed_kept n m w ok.kept t l lies x)
-          (gets_value keeps grows share n m w.pass hs ok.lawful t fit.0 l near itself nobody (woken (gripped (w.pass t) l x))
-          (λ k ne. let s = gripped_same keeps grows share n m w.pass hs ok.lawful t fit.0 l near x k ne in record { down = s.down; up = s.up; places = s.places; seen = s.seen })
-          (gripped_wide keeps grows share n m w.pass hs ok.lawful t fit.0 l near x)
-          (subst IsHeld (sym (get_or-set_same (w.pass t).holds l Held NotHeld long)) tt)
-          (gripped_lies keeps grows share n m w.pass hs ok.lawful t fit.0 l near x) (gripped_seen keeps grows share n m w.pass hs ok.lawful t fit.0 l near x))
-          (Collecting p 2)
+          (gets_value rule n m w.pass hs ok.lawful t fit.0 l near nobody long false) (Collecting p 2)
           (λ k. (
             omega arith,
             (
@@ -106,7 +100,7 @@ module _ {V Q : Type 0} (keeps : ℕ → V → Type 0) (grows : V → V → Type
               (
                 l,
                 sym (ap (λ (z : LockPassView V). z.aim) fit.1) ∙ (lies_fits n m w ok.kept t l lies).0.2,
-                (x, subst (λ z. FoundOk keeps grows share l t z x) fit.1 (finds_value keeps grows share n m w.pass hs ok.lawful t fit.0 l near mine), (k, refl)),
+                (x, subst (λ z. FoundOk rule l t z x) fit.1 (finds_value rule n m w.pass hs ok.lawful t fit.0 l near mine), (k, refl)),
               ),
             ),
           ))
@@ -121,6 +115,6 @@ module _ {V Q : Type 0} (keeps : ℕ → V → Type 0) (grows : V → V → Type
     by_spot (owed l k) is fits = none_lies (ap letter_of is)
     by_spot (lying l k) is fits = by_token l k is fits.1
 
-  pub collects : ((x : V) → grows x x) → (size : Size) (xs : List V) (p : PassView (LockPassView V)) → AllowsPass (scheme keeps grows share size xs) (letter_at p.thread) (λ _. 0) p (Collecting p)
-  collects itself size xs p w ws hs ok fit small = subst (λ z. PassTurn (scheme keeps grows share size xs) (letter_at p.thread) 0 p (Collecting p z) w ws hs) (sym (ok.words.letters p.thread fit.0))
-      (by_spot itself size xs p w ws hs ok fit (w.spot p.thread) refl (ok.kept.threads p.thread).spot)
+  pub collects : (size : Size) (xs : List V) (p : PassView (LockPassView V)) → AllowsPass (scheme rule size xs) (letter_at p.thread) (λ _. 0) p (Collecting p)
+  collects size xs p w ws hs ok fit small = subst (λ z. PassTurn (scheme rule size xs) (letter_at p.thread) 0 p (Collecting p z) w ws hs) (sym (ok.words.letters p.thread fit.0))
+      (by_spot size xs p w ws hs ok fit (w.spot p.thread) refl (ok.kept.threads p.thread).spot)

@@ -10,6 +10,7 @@ use Rattle.lot_rights.proofs.Settling.{has_one_run}
 use Rattle.lot_words.specs.declared.views.LockPassView.{LockPassView}
 use Rattle.lot_words.specs.declared.views.LockRootView.{LockRootView}
 use Rattle.lot_words.specs.declared.views.Size.{Size}
+use Rattle.lot_words.specs.CallersRule.{CallersRule}
 use Rattle.lot_words.specs.World.{LockWorld, is_owned, IsHanded, TellsTrue, SpotFits, Kept}
 use Rattle.lot_words.specs.Rule.{wants_of, scheme}
 use Rattle.lot_words.specs.Headline.{LettersFit, IsSound, Headline}
@@ -103,9 +104,9 @@ module _ {V : Type 0} (n m : ℕ) (w : LockWorld V) (ok : Kept n m w) where
     found_parked = λ l t. (ok.threads t).found l;
   }
 
-pub headline : {V Q : Type 0} (keeps : ℕ → V → Type 0) (grows : V → V → Type 0) (share : ℕ → V → Q) (size : Size) (xs : List V) (s : State (Option V) (List (Right (LockPassView V) LockRootView)))
-    → Ruled (scheme keeps grows share size xs) s → Headline keeps grows share size xs s
-headline keeps grows share size xs s ru = let run = has_one_run (scheme keeps grows share size xs) s ru in record {
+pub headline : {V Part : Type 0} (rule : CallersRule V Part) (size : Size) (xs : List V) (s : State (Option V) (List (Right (LockPassView V) LockRootView)))
+    → Ruled (scheme rule size xs) s → Headline rule size xs s
+headline rule size xs s ru = let run = has_one_run (scheme rule size xs) s ru in record {
   world = ru.world;
   words = ru.fits.words;
   rights = ru.seats;

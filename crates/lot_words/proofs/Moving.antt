@@ -13,6 +13,7 @@ use Rattle.lot_words.specs.declared.views.LockPassView.{LockPassView}
 use Rattle.lot_words.specs.declared.views.Place.{Place}
 use Rattle.lot_words.specs.declared.views.Place.TheVariants.{InSlot, Out, Moving}
 use Rattle.lot_words.specs.declared.views.Size.{Size}
+use Rattle.lot_words.specs.CallersRule.{CallersRule}
 use Rattle.lot_words.specs.World.{LockWorld, Holds}
 use Rattle.lot_words.specs.Values.{in_slot, place_of, home_of, IsAtHome, HasSeen, MayLie, IsLawful}
 use Rattle.lot_words.specs.Rule.{Fits, scheme}
@@ -49,10 +50,9 @@ placed_twice p l a b = λ i. record p { places = set-set p.places l a b i }
 abbrev pub Leaves : {V : Type 0} → PassView (LockPassView V) → ℕ → LockPassView V → Option V → Type 0
 Leaves {V} p l own y = (own ≡ placed p.own l Moving) × ((pl : Place V) → get_elem? p.own.places l ≡ some pl → y ≡ in_slot pl)
 
-module _ {V Q : Type 0} (keeps : ℕ → V → Type 0) (grows : V → V → Type 0) (share : ℕ → V → Q) (size : Size) (xs : List V) where
+module _ {V Part : Type 0} (rule : CallersRule V Part) (size : Size) (xs : List V) where
   module _ (t l : ℕ) (here : l < size.locks) (own : LockPassView V) (holds : Holds own l) (w : LockWorld V) (ws : List ℕ) (hs : List (maybe.Option (Option V)))
-      (ok : Fits keeps grows share size w ws hs)
-      (fit : (t < size.threads) × (w.pass t ≡ own)) where
+      (ok : Fits rule size w ws hs) (fit : (t < size.threads) × (w.pass t ≡ own)) where
     has : Holds (w.pass t) l
     has = subst (λ z. Holds z l) (sym fit.1) holds
 
@@ -61,8 +61,8 @@ module _ {V Q : Type 0} (keeps : ℕ → V → Type 0) (grows : V → V → Type
     only u h = let a = (ok.kept.threads u).holds l h in let b = (ok.kept.threads t).holds l has in omega (arith, a, b)
 
     -- the value is at the place pl
-    moves : (pl : Place V) → MayLie keeps grows share l t (ok.lawful.value l) pl → (homes : List (maybe.Option (Option V))) → homes ≡ set hs l (home_of pl)
-        → SlotTurn (scheme keeps grows share size xs) t (placed own l pl) w ws homes
+    moves : (pl : Place V) → MayLie rule l t (ok.lawful.value l) pl → (homes : List (maybe.Option (Option V))) → homes ≡ set hs l (home_of pl)
+        → SlotTurn (scheme rule size xs) t (placed own l pl) w ws homes
     moves pl may homes is = record {
       world = record w { pass = put w.pass t (placed (w.pass t) l pl) };
       fits = record {
@@ -81,8 +81,8 @@ module _ {V Q : Type 0} (keeps : ℕ → V → Type 0) (grows : V → V → Type
               }) (λ v _. ok.kept.threads v);
           locks = λ k. lock_stays size.threads k (w.word k) (w.root k) w.pass w.spot t (placed (w.pass t) l pl) w.spot (ok.kept.locks k) (λ h. h) (λ v h. h) (λ _ a. a) (λ _ v _ h. h);
         };
-        lawful = subst (IsLawful keeps grows share size.threads size.locks (put w.pass t (placed (w.pass t) l pl))) (sym is)
-            (moves_value keeps grows share size.threads size.locks w.pass hs ok.lawful t fit.0 l here has only pl may);
+        lawful = subst (IsLawful rule size.threads size.locks (put w.pass t (placed (w.pass t) l pl))) (sym is)
+            (moves_value rule size.threads size.locks w.pass hs ok.lawful t fit.0 l here has only pl may);
       };
       pass = (fit.0, put_same w.pass t (placed (w.pass t) l pl) ∙ ap (λ z. placed z l pl) fit.1);
       passes = λ u y ne h. (h.0, put_other w.pass t (placed (w.pass t) l pl) u ne ∙ h.1);
@@ -91,10 +91,10 @@ module _ {V Q : Type 0} (keeps : ℕ → V → Type 0) (grows : V → V → Type
     }
 
   module _ (p : PassView (LockPassView V)) (l : ℕ) (here : l < size.locks) (holds : Holds p.own l) where
-    pub leaves : (pl : Place V) → get_elem? p.own.places l ≡ some pl → IsAtHome pl → AllowsOut (scheme keeps grows share size xs) l p (Leaves p l)
+    pub leaves : (pl : Place V) → get_elem? p.own.places l ≡ some pl → IsAtHome pl → AllowsOut (scheme rule size xs) l p (Leaves p l)
     leaves pl there home w ws hs ok fit =
         let x : V = ok.lawful.value l in
-        let o = owns_value keeps grows share size.threads size.locks w.pass hs ok.lawful p.thread fit.0 l here (has p.thread l here p.own holds w ws hs ok fit) in
+        let o = owns_value rule size.threads size.locks w.pass hs ok.lawful p.thread fit.0 l here (has p.thread l here p.own holds w ws hs ok fit) in
         let is : o.place ≡ pl = some-injective o.place pl (sym o.place_is ∙ subst (λ z. get_elem? z.places l ≡ some pl) (sym fit.1) there) in
         record {
           value = in_slot pl;
@@ -104,12 +104,12 @@ module _ {V Q : Type 0} (keeps : ℕ → V → Type 0) (grows : V → V → Type
           told = (refl, (λ z at. ap in_slot (some-injective pl z (sym there ∙ at))));
         }
 
-    pub comes_back : (y : Option V) → ((x : V) → HasSeen p.own l x → MayLie keeps grows share l p.thread x (place_of y)) → (own : LockPassView V) (z : Option V) → Leaves p l own z
-        → AllowsBack (scheme keeps grows share size xs) l p.thread own y (λ q. q ≡ placed own l (place_of y))
+    pub comes_back : (y : Option V) → ((x : V) → HasSeen p.own l x → MayLie rule l p.thread x (place_of y)) → (own : LockPassView V) (z : Option V) → Leaves p l own z
+        → AllowsBack (scheme rule size xs) l p.thread own y (λ q. q ≡ placed own l (place_of y))
     comes_back y may own z out w ws hs ok fit =
         let is : own ≡ placed p.own l Moving = out.0 in
         let holds' : Holds own l = subst (λ v. Holds v l) (sym is) holds in
-        let o = owns_value keeps grows share size.threads size.locks w.pass hs ok.lawful p.thread fit.0 l here (has p.thread l here own holds' w ws hs ok fit) in
+        let o = owns_value rule size.threads size.locks w.pass hs ok.lawful p.thread fit.0 l here (has p.thread l here own holds' w ws hs ok fit) in
         let seen : HasSeen p.own l (ok.lawful.value l) = subst (λ v. HasSeen v l (ok.lawful.value l)) (fit.1 ∙ is) o.found in
         record {
           own = placed own l (place_of y);
@@ -118,7 +118,7 @@ module _ {V Q : Type 0} (keeps : ℕ → V → Type 0) (grows : V → V → Type
         }
 
   -- two passes hold no lock both
-  pub apart : (p q : PassView (LockPassView V)) → TellsOfTwo (scheme keeps grows share size xs) p q ((l : ℕ) → Holds p.own l → ¬ Holds q.own l)
+  pub apart : (p q : PassView (LockPassView V)) → TellsOfTwo (scheme rule size xs) p q ((l : ℕ) → Holds p.own l → ¬ Holds q.own l)
   apart p q w ws hs ok fit fits ne l a b =
       let x : (w.word l).owner ≡ suc p.thread = (ok.kept.threads p.thread).holds l (subst (λ z. Holds z l) (sym fit.1) a) in
       let y : (w.word l).owner ≡ suc q.thread = (ok.kept.threads q.thread).holds l (subst (λ z. Holds z l) (sym fits.1) b) in

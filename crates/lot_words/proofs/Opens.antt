@@ -14,6 +14,7 @@ use Rattle.lot_rights.proofs.Worlds.{fresh_words}
 use Rattle.lot_words.specs.declared.views.Hold.TheVariants.{NotHeld}
 use Rattle.lot_words.specs.declared.views.Place.TheVariants.{Out}
 use Rattle.lot_words.specs.declared.views.Size.{Size}
+use Rattle.lot_words.specs.CallersRule.{CallersRule}
 use Rattle.lot_words.specs.World.{LockWorld, word_of, IsHeld, IsFound, Holds, HoldsParked, Kept}
 use Rattle.lot_words.specs.Values.{IsLawful}
 use Rattle.lot_words.specs.Rule.{sizes_of, part_of, opening_part, fresh_pass, fresh_root, scheme}
@@ -56,9 +57,9 @@ module _ {V : Type 0} (xs : List V) where
   fresh_part : part_of fresh_world ≡ opening_part
   fresh_part = λ i. record { locks = record { held = λ l. false; parked = λ l. false; line = λ l. []; has = λ l t. no_owner t i }; wants = λ t. None }
 
-module _ {V Q : Type 0} (keeps : ℕ → V → Type 0) (grows : V → V → Type 0) (share : ℕ → V → Q) (itself : (y : V) → grows y y) (n : ℕ) (pos : 0 < n) where
-  fresh_lawful : (x : V) (xs : List V) → ((k : ℕ) (y : V) → slice_get (x ∷ xs) k ≡ Some y → keeps k y)
-      → IsLawful keeps grows share n (length (x ∷ xs)) (λ t. fresh_pass (x ∷ xs)) (map some (map (λ (y : V). Some y) (x ∷ xs)))
+module _ {V Part : Type 0} (rule : CallersRule V Part) (n : ℕ) (pos : 0 < n) where
+  fresh_lawful : (x : V) (xs : List V) → ((k : ℕ) (y : V) → slice_get (x ∷ xs) k ≡ Some y → rule.keeps k y)
+      → IsLawful rule n (length (x ∷ xs)) (λ t. fresh_pass (x ∷ xs)) (map some (map (λ (y : V). Some y) (x ∷ xs)))
   fresh_lawful x xs keep =
       let all : List V = x ∷ xs in
       let value : ℕ → V = (λ l. get_or all l x) in
@@ -70,14 +71,14 @@ module _ {V Q : Type 0} (keeps : ℕ → V → Type 0) (grows : V → V → Type
           kept = keep l (value l) (slice_get-get_or all l x near);
           idle = λ _. at_map some (map (λ (y : V). Some y) all) l (Some (value l)) (at_map (λ (y : V). Some y) all l (value l) (seen_is l near));
           owned = λ t h. absurd (holds_none all l h);
-          seen = λ t _. record { seen = value l; seen_is = seen_is l near; grown = itself (value l); mine = λ _. refl };
+          seen = λ t _. record { seen = value l; seen_is = seen_is l near; grown = rule.grows_itself (value l); mine = λ _. refl };
           witness = (0, (pos, seen_is l near));
         };
         wide = λ t _. (length-replicate (length all) Out, refl);
       }
 
-  pub opens_well : (m : ℕ) (xs : List V) → 0 < m → m ≡ length xs → ((k : ℕ) (y : V) → slice_get xs k ≡ Some y → keeps k y)
-      → OpensWell (scheme keeps grows share (record { threads = n; locks = m }) xs) (replicate (word_count n (0 + m)) 0) (map (λ (y : V). Some y) xs)
+  pub opens_well : (m : ℕ) (xs : List V) → 0 < m → m ≡ length xs → ((k : ℕ) (y : V) → slice_get xs k ≡ Some y → rule.keeps k y)
+      → OpensWell (scheme rule (record { threads = n; locks = m }) xs) (replicate (word_count n (0 + m)) 0) (map (λ (y : V). Some y) xs)
   opens_well m [] some_lock is keep = absurd (omega arith)
   opens_well m (x ∷ xs) some_lock is keep =
       let all : List V = x ∷ xs in
@@ -87,7 +88,7 @@ module _ {V Q : Type 0} (keeps : ℕ → V → Type 0) (grows : V → V → Type
         fits = record {
           words = fresh_words word_of (sizes_of size) (fresh_world all) (λ l. refl) (λ t. refl);
           kept = subst (λ z. Kept n z (fresh_world all)) (sym is) (fresh_kept all n);
-          lawful = subst (λ z. IsLawful keeps grows share n z (λ t. fresh_pass all) (map some (map (λ (y : V). Some y) all))) (sym is) (fresh_lawful x xs keep);
+          lawful = subst (λ z. IsLawful rule n z (λ t. fresh_pass all) (map some (map (λ (y : V). Some y) all))) (sym is) (fresh_lawful x xs keep);
         };
         passes = λ t near. (near, refl);
         roots = λ l near. (near, refl);

@@ -18,6 +18,7 @@ use Rattle.lot_rights.proofs.Worlds.{same_letters, one_letter, letter_written}
 use Rattle.lot_words.specs.declared.views.LockPassView.{LockPassView}
 use Rattle.lot_words.specs.declared.views.LockRootView.{LockRootView}
 use Rattle.lot_words.specs.declared.views.Size.{Size}
+use Rattle.lot_words.specs.CallersRule.{CallersRule}
 use Rattle.lot_words.specs.World.{LockWord, LockWorld, is_owned, bits_of, word_of, Holds, HoldsParked}
 use Rattle.lot_words.specs.Values.{IsIn, IsLawful}
 use Rattle.lot_words.specs.Rule.{sizes_of, wants_of, Fits, scheme}
@@ -50,8 +51,8 @@ lies_wants : (l k : ℕ) (a : Option ℕ) → wants_of (lying l k) a ≡ wants_o
 lies_wants l zero a = refl
 lies_wants l (suc k) a = refl
 
-module _ {V Q : Type 0} (keeps : ℕ → V → Type 0) (grows : V → V → Type 0) (share : ℕ → V → Q) (size : Size) (xs : List V) where
-  module _ (p : PassView (LockPassView V)) (q : RootView LockRootView) (w : LockWorld V) (ws : List ℕ) (hs : List (maybe.Option (Option V))) (ok : Fits keeps grows share size w ws hs)
+module _ {V Part : Type 0} (rule : CallersRule V Part) (size : Size) (xs : List V) where
+  module _ (p : PassView (LockPassView V)) (q : RootView LockRootView) (w : LockWorld V) (ws : List ℕ) (hs : List (maybe.Option (Option V))) (ok : Fits rule size w ws hs)
       (fit : (p.thread < size.threads) × (w.pass p.thread ≡ p.own)) (root : RootIs (sizes_of size) w q.key q.own) where
     abbrev t : ℕ
     t = p.thread
@@ -71,9 +72,9 @@ module _ {V Q : Type 0} (keeps : ℕ → V → Type 0) (grows : V → V → Type
     -- the world changes in the pass, notices, words and the root
     turn_both : (x : ℕ) (then : PassView (LockPassView V) → RootView LockRootView → Type 0) (f : LockPassView V → LockPassView V) (g : LockRootView → LockRootView) (spots : ℕ → Spot)
         (word : ℕ → LockWord)
-        → Fits keeps grows share size (record { pass = put w.pass t (f (w.pass t)); spot = spots; word = word; root = put w.root l (g (w.root l)) }) (set ws (word_at l) x) hs → (a : Access)
-        → IsMade (scheme keeps grows share size xs) (2 * t) w a (record { pass = put w.pass t (f (w.pass t)); spot = spots; word = word; root = put w.root l (g (w.root l)) })
-        → ((n : ℕ) → then (pass_after p (f p.own) n a) (record q { own = g q.own })) → BothTurn (scheme keeps grows share size xs) (word_at l) x p q then w ws hs
+        → Fits rule size (record { pass = put w.pass t (f (w.pass t)); spot = spots; word = word; root = put w.root l (g (w.root l)) }) (set ws (word_at l) x) hs → (a : Access)
+        → IsMade (scheme rule size xs) (2 * t) w a (record { pass = put w.pass t (f (w.pass t)); spot = spots; word = word; root = put w.root l (g (w.root l)) })
+        → ((n : ℕ) → then (pass_after p (f p.own) n a) (record q { own = g q.own })) → BothTurn (scheme rule size xs) (word_at l) x p q then w ws hs
     turn_both x then f g spots word fits a made told = record {
       own = f p.own;
       its = g q.own;
@@ -91,16 +92,16 @@ module _ {V Q : Type 0} (keeps : ℕ → V → Type 0) (grows : V → V → Type
     -- ---- parking
     -- the word says that the lock is not both held and parked
     park_misses : p.own.asleep ≡ false → p.own.aim ≡ Some l → (x : ℕ) → x ≡ get_or ws (word_at l) 0 → (is_owned (w.word l).owner && (w.word l).parked) ≡ false → (x == 3) ≡ false
-        → BothTurn (scheme keeps grows share size xs) (word_at l) x p q (Parks p q x) w ws hs
+        → BothTurn (scheme rule size xs) (word_at l) x p q (Parks p q x) w ws hs
     park_misses up aim x is not_both three =
         let up' : (w.pass t).asleep ≡ false = ap (λ (z : LockPassView V). z.asleep) fit.1 ∙ up in
-        both_stay (scheme keeps grows share size xs) (word_at l) x w ws hs ok is p fit (Makes (Park t l) (Saw false))
+        both_stay (scheme rule size xs) (word_at l) x w ws hs ok is p fit (Makes (Park t l) (Saw false))
         (refl, (row_park_not w size.threads size.locks ok.kept t fit.0 up' l here (aim_of ∙ aim) not_both, refl)) q (Parks p q x) root
         (λ k. subst (λ z. Notes p (parked_pass p.own z) (Makes (Park t l) (Saw z)) (pass_after p p.own k (Makes (Park t l) (Saw false)))
         × (record q { own = q.own } ≡ record q { own = parked_root q.own t z })) (sym three) ((k, refl), refl))
 
     park_turn : p.own.asleep ≡ false → p.own.aim ≡ Some l → (h b : Bool) → is_owned (w.word l).owner ≡ h → (w.word l).parked ≡ b
-        → BothTurn (scheme keeps grows share size xs) (word_at l) (bits_of h b) p q (Parks p q (bits_of h b)) w ws hs
+        → BothTurn (scheme rule size xs) (word_at l) (bits_of h b) p q (Parks p q (bits_of h b)) w ws hs
     park_turn up aim true true h b =
         let up' : (w.pass t).asleep ≡ false = ap (λ (z : LockPassView V). z.asleep) fit.1 ∙ up in
         let held : (w.word l).owner ≢ 0 = (λ e. let f : true ≡ false = sym h ∙ ap is_owned e in cc) in
@@ -112,8 +113,7 @@ module _ {V Q : Type 0} (keeps : ℕ → V → Type 0) (grows : V → V → Type
           words = words_stay size w (put w.pass t (sleeping (w.pass t))) spots (put w.root l (record (w.root l) { line = (w.root l).line ++ t ∷ [] })) ws ok.words letters (word_at l) 3
               (sym (found ∙ (λ i. bits_of (h i) (b i))));
           kept = parks_kept size.threads size.locks w ok.kept t fit.0 up' l here held b (aim_of ∙ aim);
-          lawful = same_values keeps grows share size.threads size.locks w.pass hs ok.lawful t (sleeping (w.pass t)) (λ k. record { down = λ h. h; up = λ h. h; places = refl; seen = refl })
-              (refl, refl);
+          lawful = same_values rule size.threads size.locks w.pass hs ok.lawful t (sleeping (w.pass t)) (λ k. record { down = λ h. h; up = λ h. h; places = refl; seen = refl }) (refl, refl);
         })
         (Makes (Park t l) (Saw true)) (refl, (row_park w size.threads size.locks ok.kept t fit.0 up' l here held (aim_of ∙ aim) b, letters)) (λ k. ((k, refl), refl))
     park_turn up aim false false h b = park_misses up aim 0 (sym (found ∙ (λ i. bits_of (h i) (b i)))) (λ i. h i && b i) refl
@@ -121,9 +121,8 @@ module _ {V Q : Type 0} (keeps : ℕ → V → Type 0) (grows : V → V → Type
     park_turn up aim true false h b = park_misses up aim 1 (sym (found ∙ (λ i. bits_of (h i) (b i)))) (λ i. h i && b i) refl
 
     -- ---- passing on
-    module _ (itself : (x : V) → grows x x) (on : (a b c : V) → grows a b → grows b c → grows a c) (up : p.own.asleep ≡ false) (aim : p.own.aim ≡ None) (holds : HoldsParked p.own l) (y : V)
-        (lies : IsIn p.own l y)
-        (paid : q.own.owes ≡ None) where
+    module _ (up : p.own.asleep ≡ false) (aim : p.own.aim ≡ None) (holds : HoldsParked p.own l) (y : V)
+        (lies : IsIn p.own l y) (paid : q.own.owes ≡ None) where
       up' : (w.pass t).asleep ≡ false
       up' = ap (λ (z : LockPassView V). z.asleep) fit.1 ∙ up
 
@@ -139,8 +138,8 @@ module _ {V Q : Type 0} (keeps : ℕ → V → Type 0) (grows : V → V → Type
       own_is : (w.word l).owner ≡ suc t
       own_is = (ok.kept.threads t).holds l has
 
-      lawful' : IsLawful keeps grows share size.threads size.locks (put w.pass t (let_go (w.pass t) l y)) hs
-      lawful' = left_lawful keeps grows share size xs p l here up w ws hs ok fit (found_held _ holds) aim itself on y lies
+      lawful' : IsLawful rule size.threads size.locks (put w.pass t (let_go (w.pass t) l y)) hs
+      lawful' = left_lawful rule size xs p l here up w ws hs ok fit (found_held _ holds) aim y lies
 
       owes_none : (w.root l).owes ≡ None
       owes_none = ap (λ (z : LockRootView). z.owes) root.1 ∙ paid
@@ -154,7 +153,7 @@ module _ {V Q : Type 0} (keeps : ℕ → V → Type 0) (grows : V → V → Type
 
       -- the lock is let go, by a store
       store_turn : (more : Bool) (line : List ℕ) → q.own.line ≡ line → SaysMore line more → (x : ℕ) → x ≡ word_left (first line) more
-          → BothTurn (scheme keeps grows share size xs) (word_at l) x p q (Passes p q line false more) w ws hs
+          → BothTurn (scheme rule size xs) (word_at l) x p q (Passes p q line false more) w ws hs
       store_turn more [] line says x is =
           let z : LockWord = record { owner = 0; parked = false } in record {
             own = let_go p.own l y;
@@ -191,7 +190,7 @@ module _ {V Q : Type 0} (keeps : ℕ → V → Type 0) (grows : V → V → Type
           (left_told (u ∷ us) false more line)
 
       -- the lock is handed to the first, by a load
-      load_turn : (more : Bool) (u : ℕ) (us : List ℕ) → q.own.line ≡ u ∷ us → BothTurn (scheme keeps grows share size xs) (word_at l) (get_or ws (word_at l) 0) p q
+      load_turn : (more : Bool) (u : ℕ) (us : List ℕ) → q.own.line ≡ u ∷ us → BothTurn (scheme rule size xs) (word_at l) (get_or ws (word_at l) 0) p q
           (Passes p q (u ∷ us) true more) w ws hs
       load_turn more u us line =
           let z : LockWord = record { owner = suc u; parked = (w.word l).parked } in
@@ -212,29 +211,28 @@ module _ {V Q : Type 0} (keeps : ℕ → V → Type 0) (grows : V → V → Type
           (left_told (u ∷ us) true more line)
 
   pub parks : (p : PassView (LockPassView V)) (q : RootView LockRootView) → p.own.asleep ≡ false → p.own.aim ≡ Some q.key
-      → AllowsBoth (scheme keeps grows share size xs) (word_at q.key) (λ n. n) p q (Parks p q)
+      → AllowsBoth (scheme rule size xs) (word_at q.key) (λ n. n) p q (Parks p q)
   parks p q up aim w ws hs ok fit root small =
       let n : bits_of (is_owned (w.word q.key).owner) (w.word q.key).parked ≡ get_or ws (word_at q.key) 0 = sym (ok.words.words q.key root.0) in
-      subst (λ n. BothTurn (scheme keeps grows share size xs) (word_at q.key) n p q (Parks p q n) w ws hs) n
+      subst (λ n. BothTurn (scheme rule size xs) (word_at q.key) n p q (Parks p q n) w ws hs) n
       (park_turn p q w ws hs ok fit root up aim (is_owned (w.word q.key).owner) (w.word q.key).parked refl refl)
 
-  module _ (itself : (x : V) → grows x x) (on : (a b c : V) → grows a b → grows b c → grows a c) (p : PassView (LockPassView V)) (q : RootView LockRootView) (up : p.own.asleep ≡ false)
-      (aim : p.own.aim ≡ None)
-      (holds : HoldsParked p.own q.key) (y : V) (lies : IsIn p.own q.key y) (paid : q.own.owes ≡ None) (more : Bool) where
+  module _ (p : PassView (LockPassView V)) (q : RootView LockRootView) (up : p.own.asleep ≡ false) (aim : p.own.aim ≡ None) (holds : HoldsParked p.own q.key) (y : V)
+      (lies : IsIn p.own q.key y) (paid : q.own.owes ≡ None) (more : Bool) where
     pub stores : SaysMore q.own.line more → (x : ℕ) → x ≡ word_left (first q.own.line) more
-        → AllowsBoth (scheme keeps grows share size xs) (word_at q.key) (λ _. x) p q (λ _. Passes p q q.own.line false more)
-    stores says x is w ws hs ok fit root small = store_turn p q w ws hs ok fit root itself on up aim holds y lies paid more q.own.line refl says x is
+        → AllowsBoth (scheme rule size xs) (word_at q.key) (λ _. x) p q (λ _. Passes p q q.own.line false more)
+    stores says x is w ws hs ok fit root small = store_turn p q w ws hs ok fit root up aim holds y lies paid more q.own.line refl says x is
 
-    pub loads : (first q.own.line ≡ None → ⊥) → AllowsBoth (scheme keeps grows share size xs) (word_at q.key) (λ n. n) p q (λ _. Passes p q q.own.line true more)
+    pub loads : (first q.own.line ≡ None → ⊥) → AllowsBoth (scheme rule size xs) (word_at q.key) (λ n. n) p q (λ _. Passes p q q.own.line true more)
     loads some w ws hs ok fit root small = by_first q.own.line refl some
       where
-        by_first : (line : List ℕ) → q.own.line ≡ line → (first line ≡ None → ⊥) → BothTurn (scheme keeps grows share size xs) (word_at q.key) (get_or ws (word_at q.key) 0) p q
+        by_first : (line : List ℕ) → q.own.line ≡ line → (first line ≡ None → ⊥) → BothTurn (scheme rule size xs) (word_at q.key) (get_or ws (word_at q.key) 0) p q
             (Passes p q line true more) w ws hs
         by_first [] is some = absurd (some refl)
-        by_first (u ∷ us) is some = load_turn p q w ws hs ok fit root itself on up aim holds y lies paid more u us is
+        by_first (u ∷ us) is some = load_turn p q w ws hs ok fit root up aim holds y lies paid more u us is
 
   -- ---- posting
-  pub posts : (q : RootView LockRootView) (u k : ℕ) → q.own.owes ≡ Some (u, k) → AllowsRoot (scheme keeps grows share size xs) (letter_at u) (λ _. k + 1) q (λ _. Pays q u k)
+  pub posts : (q : RootView LockRootView) (u k : ℕ) → q.own.owes ≡ Some (u, k) → AllowsRoot (scheme rule size xs) (letter_at u) (λ _. k + 1) q (λ _. Pays q u k)
   posts q u k debt w ws hs ok root small =
       let l : ℕ = q.key in
       let debt' : (w.root l).owes ≡ Some (u, k) = ap (λ (z : LockRootView). z.owes) root.1 ∙ debt in

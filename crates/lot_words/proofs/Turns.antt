@@ -1,6 +1,6 @@
 -- The turns of each call: whatever world the words stand for, its step leads to one that they stand for then.
 use Rattle.std.proofs.Common.{◌≡◌, ◌≢◌, ℕ, zero, suc, ◌*◌, ◌<◌, ◌%◌, ◌⊎◌, ◌==◌, Bool, true, false, List, [], length, get_or, set, bit_or, refl, sym, ap, subst, ◌∙◌, inl, inr, ⊎_elim, arith}
-use Rattle.std.proofs.Common.{get_or-set_same, MatchBool, Option, None}
+use Rattle.std.proofs.Common.{MatchBool, Option, None}
 use mathlib.Core.Option as maybe
 use mathlib.Core.Option.{some, some-injective}
 use prog.Atomic.{either}
@@ -17,11 +17,12 @@ use Rattle.lot_rights.specs.World.{Spot, letters_of, WordsFit}
 use Rattle.lot_rights.specs.Steps.{Notes, pass_after, IsMade, PassTurn, AllowsPass}
 use Rattle.lot_rights.proofs.Staying.{same_words, pass_stays}
 use Rattle.lot_rights.proofs.Worlds.{word_written}
-use Rattle.lot_words.specs.declared.views.Hold.TheVariants.{NotHeld, Held, FoundParked}
+use Rattle.lot_words.specs.declared.views.Hold.TheVariants.{FoundParked}
 use Rattle.lot_words.specs.declared.views.LockPassView.{LockPassView}
 use Rattle.lot_words.specs.declared.views.LockRootView.{LockRootView}
 use Rattle.lot_words.specs.declared.views.Place.TheVariants.{InSlot}
 use Rattle.lot_words.specs.declared.views.Size.{Size}
+use Rattle.lot_words.specs.CallersRule.{CallersRule}
 use Rattle.lot_words.specs.World.{LockWord, LockWorld, is_owned, bits_of, word_of, IsHeld, Holds}
 use Rattle.lot_words.specs.Values.{IsIn, FoundOk, IsLawful}
 use Rattle.lot_words.specs.Rule.{sizes_of, Fits, scheme}
@@ -29,7 +30,7 @@ use Rattle.lot_words.specs.Calls.{Aims, gripped, wishing, let_go, found_parked, 
 use Rattle.lot_words.proofs.Machine.{no_aim, set_elim}
 use Rattle.lot_words.proofs.Holding.{lock_near, gets_kept, wants_kept, marks_kept, frees_kept, finds_kept}
 use Rattle.lot_words.proofs.Rows.{owned_true, row_take_free, row_take_held, row_try_free, row_try_held, row_mark, row_free, row_free_parked}
-use Rattle.lot_words.proofs.Valuing.{SameOf, same_values, finds_value, gets_value, leaves_value, gripped_same, gripped_wide, gripped_lies, gripped_seen, let_go_same}
+use Rattle.lot_words.proofs.Valuing.{SameOf, same_values, finds_value, gets_value, leaves_value}
 
 -- ---- words
 or_one : (b : Bool) → bit_or (bits_of false b) 1 ≡ bits_of true b
@@ -62,16 +63,16 @@ match_false b A B e x = subst (λ c. MatchBool c A B) (sym e) x
 pub same_in : {V : Type 0} (p : LockPassView V) (l : ℕ) (x y : V) → IsIn p l x → IsIn p l y → x ≡ y
 same_in p l x y a b = let e : InSlot x ≡ InSlot y = some-injective (InSlot x) (InSlot y) (sym a ∙ b) in cc
 
-module _ {V Q : Type 0} (keeps : ℕ → V → Type 0) (grows : V → V → Type 0) (share : ℕ → V → Q) where
+module _ {V Part : Type 0} (rule : CallersRule V Part) where
   -- ---- what each step tells
   abbrev pub Takes : PassView (LockPassView V) → ℕ → ℕ → PassView (LockPassView V) → Type 0
-  Takes p l n q = MatchBool (n % 2 == 0) (GetsBy keeps grows share p l (Makes (Take p.thread l) (Saw true)) q) (Notes p (wishing p.own l) (Makes (Take p.thread l) (Saw false)) q)
+  Takes p l n q = MatchBool (n % 2 == 0) (GetsBy rule p l (Makes (Take p.thread l) (Saw true)) q) (Notes p (wishing p.own l) (Makes (Take p.thread l) (Saw false)) q)
 
   abbrev pub Tries : PassView (LockPassView V) → ℕ → ℕ → PassView (LockPassView V) → Type 0
-  Tries p l n q = MatchBool (n % 2 == 0) (GetsBy keeps grows share p l (Makes (Try p.thread l) (Saw true)) q) (Notes p p.own (Makes (Try p.thread l) (Saw false)) q)
+  Tries p l n q = MatchBool (n % 2 == 0) (GetsBy rule p l (Makes (Try p.thread l) (Saw true)) q) (Notes p p.own (Makes (Try p.thread l) (Saw false)) q)
 
   abbrev pub TakesFree : PassView (LockPassView V) → ℕ → ℕ → PassView (LockPassView V) → Type 0
-  TakesFree p l n q = MatchBool (n == 0) (GetsBy keeps grows share p l (Makes (Take p.thread l) (Saw true)) q) ((x : ℕ) × (x ≢ 0) × Notes p p.own (Finds p.thread l x) q)
+  TakesFree p l n q = MatchBool (n == 0) (GetsBy rule p l (Makes (Take p.thread l) (Saw true)) q) ((x : ℕ) × (x ≢ 0) × Notes p p.own (Finds p.thread l x) q)
 
 abbrev pub Marks : {V : Type 0} → PassView (LockPassView V) → ℕ → ℕ → PassView (LockPassView V) → Type 0
 Marks p l n q = MatchBool (n == 1) (Notes p p.own (Makes (Mark p.thread l) Done) q) ((x : ℕ) × (x ≢ 1) × Notes p p.own (Finds p.thread l x) q)
@@ -95,14 +96,14 @@ module _ {V : Type 0} (size : Size) (w : LockWorld V) (pass : ℕ → LockPassVi
   words_stay i x is = subst (WordsFit word_of (sizes_of size) (record { pass = pass; spot = spots; word = w.word; root = root })) (same_words ws i x is)
       (record { wide = ok.wide; words = ok.words; letters = λ t near. ok.letters t near ∙ sym (ap (λ f. f t) same) })
 
-module _ {V Q : Type 0} (keeps : ℕ → V → Type 0) (grows : V → V → Type 0) (share : ℕ → V → Q) (size : Size) (xs : List V) where
+module _ {V Part : Type 0} (rule : CallersRule V Part) (size : Size) (xs : List V) where
   -- ---- a pass's turn, where the world changes in the pass and in words
   module _ (i x : ℕ) (p : PassView (LockPassView V)) (then : PassView (LockPassView V) → Type 0) (w : LockWorld V) (ws : List ℕ) (hs : List (maybe.Option (Option V)))
       (fit : (p.thread < size.threads) × (w.pass p.thread ≡ p.own)) where
-    pub turn_at : (f : LockPassView V → LockPassView V) (word : ℕ → LockWord) → Fits keeps grows share size (record w { pass = put w.pass p.thread (f (w.pass p.thread)); word = word })
+    pub turn_at : (f : LockPassView V → LockPassView V) (word : ℕ → LockWord) → Fits rule size (record w { pass = put w.pass p.thread (f (w.pass p.thread)); word = word })
         (set ws i x) hs → (a : Access)
-        → IsMade (scheme keeps grows share size xs) (2 * p.thread) w a (record w { pass = put w.pass p.thread (f (w.pass p.thread)); word = word }) → ((n : ℕ) → then (pass_after p (f p.own) n a))
-        → PassTurn (scheme keeps grows share size xs) i x p then w ws hs
+        → IsMade (scheme rule size xs) (2 * p.thread) w a (record w { pass = put w.pass p.thread (f (w.pass p.thread)); word = word }) → ((n : ℕ) → then (pass_after p (f p.own) n a))
+        → PassTurn (scheme rule size xs) i x p then w ws hs
     turn_at f word fits a made told = record {
       own = f p.own;
       access = a;
@@ -115,10 +116,9 @@ module _ {V Q : Type 0} (keeps : ℕ → V → Type 0) (grows : V → V → Type
       told = told;
     }
 
-  -- ---- take and try
-  module _ (itself : (x : V) → grows x x) (p : PassView (LockPassView V)) (l : ℕ) (here : l < size.locks) (up : p.own.asleep ≡ false) (w : LockWorld V) (ws : List ℕ)
-      (hs : List (maybe.Option (Option V)))
-      (ok : Fits keeps grows share size w ws hs) (fit : (p.thread < size.threads) × (w.pass p.thread ≡ p.own)) where
+  -- ---- the turns of a pass that is awake
+  module _ (p : PassView (LockPassView V)) (l : ℕ) (here : l < size.locks) (up : p.own.asleep ≡ false) (w : LockWorld V) (ws : List ℕ) (hs : List (maybe.Option (Option V)))
+      (ok : Fits rule size w ws hs) (fit : (p.thread < size.threads) × (w.pass p.thread ≡ p.own)) where
     abbrev t : ℕ
     t = p.thread
 
@@ -134,6 +134,18 @@ module _ {V Q : Type 0} (keeps : ℕ → V → Type 0) (grows : V → V → Type
     found : get_or ws (word_at l) 0 ≡ word_of (w.word l)
     found = ok.words.words l (omega arith, omega arith)
 
+    is_found : (h b : Bool) → is_owned (w.word l).owner ≡ h → (w.word l).parked ≡ b → bits_of h b ≡ get_or ws (word_at l) 0
+    is_found h b e f = sym (found ∙ (λ i. bits_of (e i) (f i)))
+
+    long : l < length (w.pass t).holds
+    long = lock_near size.threads size.locks w ok.kept t fit.0 up' l here
+
+    -- the word is x, and not the number that was asked for
+    misses : (asked x : ℕ) → x ≡ get_or ws (word_at l) 0 → x ≢ asked → PassTurn (scheme rule size xs) (word_at l) x p (λ q. (y : ℕ) × (y ≢ asked) × Notes p p.own (Finds t l y) q) w ws hs
+    misses asked x is ne = pass_stays (scheme rule size xs) (word_at l) x w ws hs ok is p fit (Finds t l x) (refl, (is ∙ found, refl)) (λ q. (y : ℕ) × (y ≢ asked) × Notes p p.own (Finds t l y) q)
+        (λ k. (x, ne, (k, refl)))
+
+    -- ---- take and try
     abbrev value : V
     value = ok.lawful.value l
 
@@ -144,29 +156,23 @@ module _ {V Q : Type 0} (keeps : ℕ → V → Type 0) (grows : V → V → Type
       free_word : get_or ws (word_at l) 0 ≡ bits_of false (w.word l).parked
       free_word = found ∙ ap (λ o. bits_of (is_owned o) (w.word l).parked) unheld
 
-      found_ok : FoundOk keeps grows share l t p.own value
-      found_ok = subst (λ z. FoundOk keeps grows share l t z value) fit.1 (finds_value keeps grows share size.threads size.locks w.pass hs ok.lawful t fit.0 l here (nobody t))
+      found_ok : FoundOk rule l t p.own value
+      found_ok = subst (λ z. FoundOk rule l t z value) fit.1 (finds_value rule size.threads size.locks w.pass hs ok.lawful t fit.0 l here (nobody t))
 
       -- the pass gets the lock, with the value that it finds
       got_turn : (aims : Aims p.own l) (a : Access) (then : PassView (LockPassView V) → Type 0) (x : ℕ) → x ≡ bit_or (get_or ws (word_at l) 0) 1
-          → IsMade (scheme keeps grows share size xs) (2 * t) w a (record w {
+          → IsMade (scheme rule size xs) (2 * t) w a (record w {
             pass = put w.pass t (gripped (w.pass t) l value);
             word = put w.word l (record { owner = suc t; parked = (w.word l).parked });
           })
-          → ((n : ℕ) → then (pass_after p (gripped p.own l value) n a)) → PassTurn (scheme keeps grows share size xs) (word_at l) x p then w ws hs
+          → ((n : ℕ) → then (pass_after p (gripped p.own l value) n a)) → PassTurn (scheme rule size xs) (word_at l) x p then w ws hs
       got_turn aims a then x is made told =
           let y : LockWord = record { owner = suc t; parked = (w.word l).parked } in
-          let p1 : LockPassView V = gripped (w.pass t) l value in
           turn_at (word_at l) x p then w ws hs fit (λ z. gripped z l value) (put w.word l y)
           (record {
-            words = words_after size w (put w.pass t p1) w.spot w.root ws ok.words refl l here y x (is ∙ (ap (λ z. bit_or z 1) free_word ∙ or_one (w.word l).parked));
+            words = words_after size w (put w.pass t (gripped (w.pass t) l value)) w.spot w.root ws ok.words refl l here y x (is ∙ (ap (λ z. bit_or z 1) free_word ∙ or_one (w.word l).parked));
             kept = gets_kept size.threads size.locks w ok.kept t fit.0 up' l here unheld (aims' aims) value;
-            lawful = gets_value keeps grows share size.threads size.locks w.pass hs ok.lawful t fit.0 l here itself nobody p1
-                (gripped_same keeps grows share size.threads size.locks w.pass hs ok.lawful t fit.0 l here value)
-                (gripped_wide keeps grows share size.threads size.locks w.pass hs ok.lawful t fit.0 l here value)
-                (subst IsHeld (sym (get_or-set_same (w.pass t).holds l Held NotHeld (lock_near size.threads size.locks w ok.kept t fit.0 up' l here))) tt)
-                (gripped_lies keeps grows share size.threads size.locks w.pass hs ok.lawful t fit.0 l here value)
-                (gripped_seen keeps grows share size.threads size.locks w.pass hs ok.lawful t fit.0 l here value);
+            lawful = gets_value rule size.threads size.locks w.pass hs ok.lawful t fit.0 l here nobody long (w.pass t).asleep;
           })
           a made told
 
@@ -181,87 +187,71 @@ module _ {V Q : Type 0} (keeps : ℕ → V → Type 0) (grows : V → V → Type
     owner_cases zero = inl refl
     owner_cases (suc u) = inr (λ e. omega arith)
 
-    take_turn : Aims p.own l → PassTurn (scheme keeps grows share size xs) (word_at l) (bit_or (get_or ws (word_at l) 0) 1) p (Takes keeps grows share p l (get_or ws (word_at l) 0)) w ws hs
+    take_turn : Aims p.own l → PassTurn (scheme rule size xs) (word_at l) (bit_or (get_or ws (word_at l) 0) 1) p (Takes rule p l (get_or ws (word_at l) 0)) w ws hs
     take_turn aims =
         let n : ℕ = get_or ws (word_at l) 0 in
         let x : ℕ = bit_or n 1 in
-        ⊎_elim {C = PassTurn (scheme keeps grows share size xs) (word_at l) x p (Takes keeps grows share p l n) w ws hs}
-        (λ unheld. got_turn unheld aims (Makes (Take t l) (Saw true)) (Takes keeps grows share p l n) x refl
+        ⊎_elim {C = PassTurn (scheme rule size xs) (word_at l) x p (Takes rule p l n) w ws hs}
+        (λ unheld. got_turn unheld aims (Makes (Take t l) (Saw true)) (Takes rule p l n) x refl
         (refl, (row_take_free w size.threads size.locks ok.kept t fit.0 up' l here unheld value (aims' aims), refl))
         (λ k. match_true (n % 2 == 0) _ _ (ap (λ z. z % 2 == 0) (free_word unheld) ∙ even_unheld (w.word l).parked) (value, found_ok unheld, (k, refl))))
-        (λ held. turn_at (word_at l) x p (Takes keeps grows share p l n) w ws hs fit (λ z. wishing z l) w.word
+        (λ held. turn_at (word_at l) x p (Takes rule p l n) w ws hs fit (λ z. wishing z l) w.word
         (record {
           words = words_stay size w (put w.pass t (wishing (w.pass t) l)) w.spot w.root ws ok.words refl (word_at l) x (same_word held x refl);
           kept = wants_kept size.threads size.locks w ok.kept t fit.0 up' l here held (aims' aims);
-          lawful = same_values keeps grows share size.threads size.locks w.pass hs ok.lawful t (wishing (w.pass t) l) (λ k. record { down = λ h. h; up = λ h. h; places = refl; seen = refl })
-              (refl, refl);
+          lawful = same_values rule size.threads size.locks w.pass hs ok.lawful t (wishing (w.pass t) l) (λ k. record { down = λ h. h; up = λ h. h; places = refl; seen = refl }) (refl, refl);
         })
         (Makes (Take t l) (Saw false))
         (refl, (row_take_held w size.threads size.locks ok.kept t fit.0 up' l here held (aims' aims), refl))
         (λ k. match_false (n % 2 == 0) _ _ (ap (λ z. z % 2 == 0) (held_word held) ∙ odd_held (w.word l).parked) (k, refl)))
         (owner_cases (w.word l).owner)
 
-    try_turn : p.own.aim ≡ None → PassTurn (scheme keeps grows share size xs) (word_at l) (bit_or (get_or ws (word_at l) 0) 1) p (Tries keeps grows share p l (get_or ws (word_at l) 0)) w ws hs
+    try_turn : p.own.aim ≡ None → PassTurn (scheme rule size xs) (word_at l) (bit_or (get_or ws (word_at l) 0) 1) p (Tries rule p l (get_or ws (word_at l) 0)) w ws hs
     try_turn aim =
         let n : ℕ = get_or ws (word_at l) 0 in
         let x : ℕ = bit_or n 1 in
         let aims : Aims p.own l = (λ k e. absurd (no_aim k (sym aim ∙ e))) in
-        ⊎_elim {C = PassTurn (scheme keeps grows share size xs) (word_at l) x p (Tries keeps grows share p l n) w ws hs}
-        (λ unheld. got_turn unheld aims (Makes (Try t l) (Saw true)) (Tries keeps grows share p l n) x refl
+        ⊎_elim {C = PassTurn (scheme rule size xs) (word_at l) x p (Tries rule p l n) w ws hs}
+        (λ unheld. got_turn unheld aims (Makes (Try t l) (Saw true)) (Tries rule p l n) x refl
         (refl, (row_try_free w size.threads size.locks ok.kept t fit.0 up' l here unheld value (aim' ∙ aim), refl))
         (λ k. match_true (n % 2 == 0) _ _ (ap (λ z. z % 2 == 0) (free_word unheld) ∙ even_unheld (w.word l).parked) (value, found_ok unheld, (k, refl))))
-        (λ held. pass_stays (scheme keeps grows share size xs) (word_at l) x w ws hs ok (same_word held x refl) p fit (Makes (Try t l) (Saw false))
-        (refl, (row_try_held w size.threads size.locks ok.kept t fit.0 up' l here held (aim' ∙ aim), refl)) (Tries keeps grows share p l n)
+        (λ held. pass_stays (scheme rule size xs) (word_at l) x w ws hs ok (same_word held x refl) p fit (Makes (Try t l) (Saw false))
+        (refl, (row_try_held w size.threads size.locks ok.kept t fit.0 up' l here held (aim' ∙ aim), refl)) (Tries rule p l n)
         (λ k. match_false (n % 2 == 0) _ _ (ap (λ z. z % 2 == 0) (held_word held) ∙ odd_held (w.word l).parked) (k, refl)))
         (owner_cases (w.word l).owner)
 
-  pub takes : ((x : V) → grows x x) → (p : PassView (LockPassView V)) (l : ℕ) → l < size.locks → p.own.asleep ≡ false → Aims p.own l
-      → AllowsPass (scheme keeps grows share size xs) (word_at l) (λ n. bit_or n 1) p (Takes keeps grows share p l)
-  takes itself p l here up aims w ws hs ok fit small = take_turn itself p l here up w ws hs ok fit aims
+    -- where the word is 0
+    take_free_turn : Aims p.own l → (h b : Bool) → is_owned (w.word l).owner ≡ h → (w.word l).parked ≡ b
+        → PassTurn (scheme rule size xs) (word_at l) (either (bits_of h b == 0) 1 (bits_of h b)) p (TakesFree rule p l (bits_of h b)) w ws hs
+    take_free_turn aims false false h b =
+        let unheld : (w.word l).owner ≡ 0 = unowned (w.word l).owner h in
+        let is_zero : get_or ws (word_at l) 0 ≡ 0 = sym (is_found false false h b) in
+        got_turn unheld aims (Makes (Take t l) (Saw true)) (TakesFree rule p l 0) 1 (sym (ap (λ z. bit_or z 1) is_zero))
+        (refl, (row_take_free w size.threads size.locks ok.kept t fit.0 up' l here unheld value (aims' aims), refl))
+        (λ k. (value, found_ok unheld, (k, refl)))
+    take_free_turn aims true false h b = misses 0 1 (is_found true false h b) (λ e. omega arith)
+    take_free_turn aims false true h b = misses 0 2 (is_found false true h b) (λ e. omega arith)
+    take_free_turn aims true true h b = misses 0 3 (is_found true true h b) (λ e. omega arith)
 
-  pub tries : ((x : V) → grows x x) → (p : PassView (LockPassView V)) (l : ℕ) → l < size.locks → p.own.asleep ≡ false → p.own.aim ≡ None
-      → AllowsPass (scheme keeps grows share size xs) (word_at l) (λ n. bit_or n 1) p (Tries keeps grows share p l)
-  tries itself p l here up aim w ws hs ok fit small = try_turn itself p l here up w ws hs ok fit aim
-
-  -- ---- marking and parking
-  module _ (p : PassView (LockPassView V)) (l : ℕ) (here : l < size.locks) (up : p.own.asleep ≡ false) (w : LockWorld V) (ws : List ℕ) (hs : List (maybe.Option (Option V)))
-      (ok : Fits keeps grows share size w ws hs) (fit : (p.thread < size.threads) × (w.pass p.thread ≡ p.own)) where
-    up_of : (w.pass p.thread).asleep ≡ false
-    up_of = ap (λ (z : LockPassView V). z.asleep) fit.1 ∙ up
-
-    aim_of : (w.pass p.thread).aim ≡ p.own.aim
-    aim_of = ap (λ (z : LockPassView V). z.aim) fit.1
-
-    found_of : get_or ws (word_at l) 0 ≡ word_of (w.word l)
-    found_of = ok.words.words l (omega arith, omega arith)
-
-    is_found : (h b : Bool) → is_owned (w.word l).owner ≡ h → (w.word l).parked ≡ b → bits_of h b ≡ get_or ws (word_at l) 0
-    is_found h b e f = sym (found_of ∙ (λ i. bits_of (e i) (f i)))
-
-    -- the word is x, and not the number that was asked for
-    misses : (asked x : ℕ) → x ≡ get_or ws (word_at l) 0 → x ≢ asked
-        → PassTurn (scheme keeps grows share size xs) (word_at l) x p (λ q. (y : ℕ) × (y ≢ asked) × Notes p p.own (Finds p.thread l y) q) w ws hs
-    misses asked x is ne = pass_stays (scheme keeps grows share size xs) (word_at l) x w ws hs ok is p fit (Finds p.thread l x) (refl, (is ∙ found_of, refl))
-        (λ q. (y : ℕ) × (y ≢ asked) × Notes p p.own (Finds p.thread l y) q) (λ k. (x, ne, (k, refl)))
-
+    -- ---- marking
     mark_turn : Aims p.own l → (h b : Bool) → is_owned (w.word l).owner ≡ h → (w.word l).parked ≡ b
-        → PassTurn (scheme keeps grows share size xs) (word_at l) (either (bits_of h b == 1) 3 (bits_of h b)) p (Marks p l (bits_of h b)) w ws hs
+        → PassTurn (scheme rule size xs) (word_at l) (either (bits_of h b == 1) 3 (bits_of h b)) p (Marks p l (bits_of h b)) w ws hs
     mark_turn aims true false h b =
         let held : (w.word l).owner ≢ 0 = (λ e. let f : true ≡ false = sym h ∙ ap is_owned e in cc) in
         let y : LockWord = record { owner = (w.word l).owner; parked = true } in
         record {
           own = p.own;
-          access = Makes (Mark p.thread l) Done;
+          access = Makes (Mark t l) Done;
           world = record w { word = put w.word l y };
           fits = record {
             words = words_after size w w.pass w.spot w.root ws ok.words refl l here y 3 (ap (λ z. bits_of z true) (sym h));
-            kept = marks_kept size.threads size.locks w ok.kept p.thread fit.0 up_of l here;
+            kept = marks_kept size.threads size.locks w ok.kept t fit.0 up' l here;
             lawful = ok.lawful;
           };
           pass = fit;
           passes = λ u z ne g. g;
           roots = λ d z g. g;
-          made = (refl, (row_mark w size.threads size.locks ok.kept p.thread fit.0 up_of l here held (λ k e. aims k (sym aim_of ∙ e)), refl));
+          made = (refl, (row_mark w size.threads size.locks ok.kept t fit.0 up' l here held (aims' aims), refl));
           told = λ k. (k, refl);
         }
     mark_turn aims false false h b = misses 1 0 (is_found false false h b) (λ e. omega arith)
@@ -270,96 +260,82 @@ module _ {V Q : Type 0} (keeps : ℕ → V → Type 0) (grows : V → V → Type
 
     -- ---- letting go
     module _ (holds : Holds p.own l) (aim : p.own.aim ≡ None) where
-      has : Holds (w.pass p.thread) l
+      has : Holds (w.pass t) l
       has = subst (λ z. Holds z l) (sym fit.1) holds
 
-      own_is : (w.word l).owner ≡ suc p.thread
-      own_is = (ok.kept.threads p.thread).holds l has
+      own_is : (w.word l).owner ≡ suc t
+      own_is = (ok.kept.threads t).holds l has
 
-      only : (u : ℕ) → Holds (w.pass u) l → u ≡ p.thread
+      only : (u : ℕ) → Holds (w.pass u) l → u ≡ t
       only u h = (let f : (w.word l).owner ≡ suc u = (ok.kept.threads u).holds l h in let g = own_is in omega arith)
 
-      near_in : l < length (w.pass p.thread).holds
-      near_in = lock_near size.threads size.locks w ok.kept p.thread fit.0 up_of l here
-
-      module _ (itself : (x : V) → grows x x) (on : (a b c : V) → grows a b → grows b c → grows a c) (y : V) (lies : IsIn p.own l y) where
-        lies_of : IsIn (w.pass p.thread) l y
+      module _ (y : V) (lies : IsIn p.own l y) where
+        lies_of : IsIn (w.pass t) l y
         lies_of = subst (λ z. IsIn z l y) (sym fit.1) lies
 
         -- the value stays in the slot of the lock that the pass lets go
-        pub left_lawful : IsLawful keeps grows share size.threads size.locks (put w.pass p.thread (let_go (w.pass p.thread) l y)) hs
-        left_lawful = leaves_value keeps grows share size.threads size.locks w.pass hs ok.lawful p.thread fit.0 l here has only itself on y lies_of
-            (λ h. subst IsHeld (get_or-set_same (w.pass p.thread).holds l NotHeld NotHeld near_in) h)
-            (let_go_same keeps grows share size.threads size.locks w.pass hs ok.lawful p.thread fit.0 l here y)
+        pub left_lawful : IsLawful rule size.threads size.locks (put w.pass t (let_go (w.pass t) l y)) hs
+        left_lawful = leaves_value rule size.threads size.locks w.pass hs ok.lawful t fit.0 l here has only long y lies_of
 
         free_turn : (b : Bool) → (w.word l).parked ≡ b
-            → PassTurn (scheme keeps grows share size xs) (word_at l) (either (bits_of true b == 1) 0 (bits_of true b)) p (Frees p l (bits_of true b)) w ws hs
+            → PassTurn (scheme rule size xs) (word_at l) (either (bits_of true b == 1) 0 (bits_of true b)) p (Frees p l (bits_of true b)) w ws hs
         free_turn false b =
             let x : LockWord = record { owner = 0; parked = (w.word l).parked } in
             let nobody : (w.root l).line ≡ [] = by_line (λ xs. ((xs ≢ []) → (w.word l).parked ≡ true) → xs ≡ []) (w.root l).line (λ _ _. refl)
             (λ u us _ parks. absurd (let f : true ≡ false = sym (parks (λ e. cc)) ∙ b in cc)) (ok.kept.locks l).parks in
             turn_at (word_at l) 0 p (Frees p l 1) w ws hs fit (λ z. let_go z l y) (put w.word l x)
             (record {
-              words = words_after size w (put w.pass p.thread (let_go (w.pass p.thread) l y)) w.spot w.root ws ok.words refl l here x 0 (ap (bits_of false) (sym b));
-              kept = frees_kept size.threads size.locks w ok.kept p.thread fit.0 up_of l here has y (w.word l).parked nobody;
+              words = words_after size w (put w.pass t (let_go (w.pass t) l y)) w.spot w.root ws ok.words refl l here x 0 (ap (bits_of false) (sym b));
+              kept = frees_kept size.threads size.locks w ok.kept t fit.0 up' l here has y (w.word l).parked nobody;
               lawful = left_lawful;
             })
-            (Makes (Free p.thread l) (Saw true))
-            (refl, (row_free w size.threads size.locks ok.kept p.thread fit.0 up_of l here has (aim_of ∙ aim) y b, refl))
-            (λ k z lies'. (k, ap (λ v. pass_after p (let_go p.own l v) k (Makes (Free p.thread l) (Saw true))) (same_in p.own l y z lies lies')))
+            (Makes (Free t l) (Saw true))
+            (refl, (row_free w size.threads size.locks ok.kept t fit.0 up' l here has (aim' ∙ aim) y b, refl))
+            (λ k z lies'. (k, ap (λ v. pass_after p (let_go p.own l v) k (Makes (Free t l) (Saw true))) (same_in p.own l y z lies lies')))
         free_turn true b =
             turn_at (word_at l) 3 p (Frees p l 3) w ws hs fit (λ z. found_parked z l) w.word
             (record {
-              words = words_stay size w (put w.pass p.thread (found_parked (w.pass p.thread) l)) w.spot w.root ws ok.words refl (word_at l) 3 (is_found true true (ap is_owned own_is) b);
-              kept = finds_kept size.threads size.locks w ok.kept p.thread fit.0 up_of l here has b;
-              lawful = same_values keeps grows share size.threads size.locks w.pass hs ok.lawful p.thread (found_parked (w.pass p.thread) l) still_holds (refl, refl);
+              words = words_stay size w (put w.pass t (found_parked (w.pass t) l)) w.spot w.root ws ok.words refl (word_at l) 3 (is_found true true (ap is_owned own_is) b);
+              kept = finds_kept size.threads size.locks w ok.kept t fit.0 up' l here has b;
+              lawful = same_values rule size.threads size.locks w.pass hs ok.lawful t (found_parked (w.pass t) l) still_holds (refl, refl);
             })
-            (Makes (Free p.thread l) (Saw false))
-            (refl, (row_free_parked w size.threads size.locks ok.kept p.thread fit.0 up_of l here has (aim_of ∙ aim) b, refl))
+            (Makes (Free t l) (Saw false))
+            (refl, (row_free_parked w size.threads size.locks ok.kept t fit.0 up' l here has (aim' ∙ aim) b, refl))
             (λ k. (k, refl))
           where
-            still_holds : (k : ℕ) → SameOf k (w.pass p.thread) (found_parked (w.pass p.thread) l)
+            still_holds : (k : ℕ) → SameOf k (w.pass t) (found_parked (w.pass t) l)
             still_holds k = record {
-              down = set_elim (w.pass p.thread).holds l k FoundParked (λ h. IsHeld h → Holds (w.pass p.thread) k) near_in (λ e _. subst (Holds (w.pass p.thread)) (sym e) has) (λ _ h. h);
-              up = λ h. set_elim (w.pass p.thread).holds l k FoundParked IsHeld near_in (λ _. tt) (λ _. h);
+              down = set_elim (w.pass t).holds l k FoundParked (λ h. IsHeld h → Holds (w.pass t) k) long (λ e _. subst (Holds (w.pass t)) (sym e) has) (λ _ h. h);
+              up = λ h. set_elim (w.pass t).holds l k FoundParked IsHeld long (λ _. tt) (λ _. h);
               places = refl;
               seen = refl;
             }
 
-  -- ---- taking where the word is 0
-  module _ (itself : (x : V) → grows x x) (p : PassView (LockPassView V)) (l : ℕ) (here : l < size.locks) (up : p.own.asleep ≡ false) (aims : Aims p.own l) (w : LockWorld V) (ws : List ℕ)
-      (hs : List (maybe.Option (Option V)))
-      (ok : Fits keeps grows share size w ws hs) (fit : (p.thread < size.threads) × (w.pass p.thread ≡ p.own)) where
-    take_free_turn : (h b : Bool) → is_owned (w.word l).owner ≡ h → (w.word l).parked ≡ b
-        → PassTurn (scheme keeps grows share size xs) (word_at l) (either (bits_of h b == 0) 1 (bits_of h b)) p (TakesFree keeps grows share p l (bits_of h b)) w ws hs
-    take_free_turn false false h b =
-        let unheld : (w.word l).owner ≡ 0 = unowned (w.word l).owner h in
-        let is_zero : get_or ws (word_at l) 0 ≡ 0 = sym (is_found p l here up w ws hs ok fit false false h b) in
-        let v : V = ok.lawful.value l in
-        got_turn itself p l here up w ws hs ok fit unheld aims (Makes (Take p.thread l) (Saw true)) (TakesFree keeps grows share p l 0) 1 (sym (ap (λ z. bit_or z 1) is_zero))
-        (refl, (row_take_free w size.threads size.locks ok.kept p.thread fit.0 (up' itself p l here up w ws hs ok fit) l here unheld v (aims' itself p l here up w ws hs ok fit aims), refl))
-        (λ k. (v, found_ok itself p l here up w ws hs ok fit unheld, (k, refl)))
-    take_free_turn true false h b = misses p l here up w ws hs ok fit 0 1 (is_found p l here up w ws hs ok fit true false h b) (λ e. omega arith)
-    take_free_turn false true h b = misses p l here up w ws hs ok fit 0 2 (is_found p l here up w ws hs ok fit false true h b) (λ e. omega arith)
-    take_free_turn true true h b = misses p l here up w ws hs ok fit 0 3 (is_found p l here up w ws hs ok fit true true h b) (λ e. omega arith)
+  -- ---- each call is allowed
+  pub takes : (p : PassView (LockPassView V)) (l : ℕ) → l < size.locks → p.own.asleep ≡ false → Aims p.own l
+      → AllowsPass (scheme rule size xs) (word_at l) (λ n. bit_or n 1) p (Takes rule p l)
+  takes p l here up aims w ws hs ok fit small = take_turn p l here up w ws hs ok fit aims
 
-  pub takes_free : ((x : V) → grows x x) → (p : PassView (LockPassView V)) (l : ℕ) → l < size.locks → p.own.asleep ≡ false → Aims p.own l
-      → AllowsPass (scheme keeps grows share size xs) (word_at l) (λ n. either (n == 0) 1 n) p (TakesFree keeps grows share p l)
-  takes_free itself p l here up aims w ws hs ok fit small = subst (λ n. PassTurn (scheme keeps grows share size xs) (word_at l) (either (n == 0) 1 n) p (TakesFree keeps grows share p l n) w ws hs)
+  pub tries : (p : PassView (LockPassView V)) (l : ℕ) → l < size.locks → p.own.asleep ≡ false → p.own.aim ≡ None
+      → AllowsPass (scheme rule size xs) (word_at l) (λ n. bit_or n 1) p (Tries rule p l)
+  tries p l here up aim w ws hs ok fit small = try_turn p l here up w ws hs ok fit aim
+
+  pub takes_free : (p : PassView (LockPassView V)) (l : ℕ) → l < size.locks → p.own.asleep ≡ false → Aims p.own l
+      → AllowsPass (scheme rule size xs) (word_at l) (λ n. either (n == 0) 1 n) p (TakesFree rule p l)
+  takes_free p l here up aims w ws hs ok fit small = subst (λ n. PassTurn (scheme rule size xs) (word_at l) (either (n == 0) 1 n) p (TakesFree rule p l n) w ws hs)
       (is_found p l here up w ws hs ok fit (is_owned (w.word l).owner) (w.word l).parked refl refl)
-      (take_free_turn itself p l here up aims w ws hs ok fit (is_owned (w.word l).owner) (w.word l).parked refl refl)
+      (take_free_turn p l here up w ws hs ok fit aims (is_owned (w.word l).owner) (w.word l).parked refl refl)
 
   pub marks : (p : PassView (LockPassView V)) (l : ℕ) → l < size.locks → p.own.asleep ≡ false → Aims p.own l
-      → AllowsPass (scheme keeps grows share size xs) (word_at l) (λ n. either (n == 1) 3 n) p (Marks p l)
-  marks p l here up aims w ws hs ok fit small = subst (λ n. PassTurn (scheme keeps grows share size xs) (word_at l) (either (n == 1) 3 n) p (Marks p l n) w ws hs)
+      → AllowsPass (scheme rule size xs) (word_at l) (λ n. either (n == 1) 3 n) p (Marks p l)
+  marks p l here up aims w ws hs ok fit small = subst (λ n. PassTurn (scheme rule size xs) (word_at l) (either (n == 1) 3 n) p (Marks p l n) w ws hs)
       (is_found p l here up w ws hs ok fit (is_owned (w.word l).owner) (w.word l).parked refl refl)
       (mark_turn p l here up w ws hs ok fit aims (is_owned (w.word l).owner) (w.word l).parked refl refl)
 
-  pub frees : ((x : V) → grows x x) → ((a b c : V) → grows a b → grows b c → grows a c) → (p : PassView (LockPassView V)) (l : ℕ) → l < size.locks → p.own.asleep ≡ false → p.own.aim ≡ None
-      → Holds p.own l
-      → (y : V) → IsIn p.own l y → AllowsPass (scheme keeps grows share size xs) (word_at l) (λ n. either (n == 1) 0 n) p (Frees p l)
-  frees itself on p l here up aim holds y lies w ws hs ok fit small =
+  pub frees : (p : PassView (LockPassView V)) (l : ℕ) → l < size.locks → p.own.asleep ≡ false → p.own.aim ≡ None → Holds p.own l → (y : V) → IsIn p.own l y
+      → AllowsPass (scheme rule size xs) (word_at l) (λ n. either (n == 1) 0 n) p (Frees p l)
+  frees p l here up aim holds y lies w ws hs ok fit small =
       let own = own_is p l here up w ws hs ok fit holds aim in
-      subst (λ n. PassTurn (scheme keeps grows share size xs) (word_at l) (either (n == 1) 0 n) p (Frees p l n) w ws hs)
+      subst (λ n. PassTurn (scheme rule size xs) (word_at l) (either (n == 1) 0 n) p (Frees p l n) w ws hs)
       (is_found p l here up w ws hs ok fit true (w.word l).parked (ap is_owned own) refl)
-      (free_turn p l here up w ws hs ok fit holds aim itself on y lies (w.word l).parked refl)
+      (free_turn p l here up w ws hs ok fit holds aim y lies (w.word l).parked refl)

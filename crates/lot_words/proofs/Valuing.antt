@@ -1,5 +1,5 @@
 -- The lawful values stay lawful.
-use Rattle.std.proofs.Common.{◌≡◌, ◌≢◌, ℕ, ◌<◌, List, length, set, Option, refl, sym, ap, subst, ◌∙◌, length-set, arith, get_or-set_other}
+use Rattle.std.proofs.Common.{◌≡◌, ◌≢◌, ℕ, ◌<◌, Bool, List, length, set, Option, refl, sym, ap, subst, ◌∙◌, length-set, arith, get_or-set_same, get_or-set_other}
 use mathlib.Core.Option.{some, none, some-injective}
 use mathlib.Core.Option as maybe
 use lib.ListN.{get_elem?}
@@ -11,6 +11,7 @@ use Rattle.lot_words.specs.declared.views.Hold.TheVariants.{NotHeld, Held}
 use Rattle.lot_words.specs.declared.views.LockPassView.{LockPassView}
 use Rattle.lot_words.specs.declared.views.Place.{Place}
 use Rattle.lot_words.specs.declared.views.Place.TheVariants.{InSlot}
+use Rattle.lot_words.specs.CallersRule.{CallersRule}
 use Rattle.lot_words.specs.World.{IsHeld, Holds}
 use Rattle.lot_words.specs.Values.{home_of, IsIn, HasSeen, MayLeave, MayLie, FoundOk, OwnerOk, SeenOk, ValueOk, IsLawful}
 use Rattle.lot_words.specs.Calls.{gripped, let_go, placed}
@@ -25,11 +26,11 @@ pub record SameOf {V : Type 0} (k : ℕ) (p p' : LockPassView V) : Type 0 where
 pub same_of : {V : Type 0} (k : ℕ) (p : LockPassView V) → SameOf k p p
 same_of k p = record { down = λ h. h; up = λ h. h; places = refl; seen = refl }
 
-module _ {V Q : Type 0} (keeps : ℕ → V → Type 0) (grows : V → V → Type 0) (share : ℕ → V → Q) where
+module _ {V Part : Type 0} (rule : CallersRule V Part) where
   -- a lock of which all know the same
   same_value : (n : ℕ) (pass pass' : ℕ → LockPassView V) (homes homes' : List (maybe.Option (Option V))) (k : ℕ) (x : V) → ((u : ℕ) → SameOf k (pass u) (pass' u))
       → get_elem? homes' k ≡ get_elem? homes k
-      → ValueOk keeps grows share n pass homes k x → ValueOk keeps grows share n pass' homes' k x
+      → ValueOk rule n pass homes k x → ValueOk rule n pass' homes' k x
   same_value n pass pass' homes homes' k x same home ok = record {
     kept = ok.kept;
     idle = λ nobody. home ∙ ok.idle (λ u h. nobody u ((same u).up h));
@@ -44,7 +45,7 @@ module _ {V Q : Type 0} (keeps : ℕ → V → Type 0) (grows : V → V → Type
     witness = let w = ok.witness in (w.0, (w.1.0, (same w.0).seen ∙ w.1.1));
   }
 
-  module _ (n m : ℕ) (pass : ℕ → LockPassView V) (homes : List (maybe.Option (Option V))) (ok : IsLawful keeps grows share n m pass homes) (t : ℕ) where
+  module _ (n m : ℕ) (pass : ℕ → LockPassView V) (homes : List (maybe.Option (Option V))) (ok : IsLawful rule n m pass homes) (t : ℕ) where
     abbrev pub IsAsWide : LockPassView V → Type 0
     IsAsWide p = (length p.places ≡ length (pass t).places) × (length p.seen ≡ length (pass t).seen)
 
@@ -56,7 +57,7 @@ module _ {V Q : Type 0} (keeps : ℕ → V → Type 0) (grows : V → V → Type
     same_on k p same u = put_elim (SameOf k (pass u)) pass t p u (λ e. subst (λ z. SameOf k (pass z) p) (sym e) same) (λ _. same_of k (pass u))
 
     -- nobody learns of a value, gets a lock or lets one go
-    pub same_values : (p : LockPassView V) → ((k : ℕ) → SameOf k (pass t) p) → IsAsWide p → IsLawful keeps grows share n m (put pass t p) homes
+    pub same_values : (p : LockPassView V) → ((k : ℕ) → SameOf k (pass t) p) → IsAsWide p → IsLawful rule n m (put pass t p) homes
     same_values p same wide = record {
       value = ok.value;
       deep = ok.deep;
@@ -66,12 +67,12 @@ module _ {V Q : Type 0} (keeps : ℕ → V → Type 0) (grows : V → V → Type
 
     -- what t knows, and the slots, change at l alone, whose value is now y
     changes_at : (l : ℕ) (p : LockPassView V) (homes' : List (maybe.Option (Option V))) (y : V) → ((k : ℕ) → k ≢ l → SameOf k (pass t) p) → ((k : ℕ) → k ≢ l → get_elem? homes' k ≡ get_elem? homes k)
-        → length homes' ≡ length homes → IsAsWide p → ValueOk keeps grows share n (put pass t p) homes' l y → IsLawful keeps grows share n m (put pass t p) homes'
+        → length homes' ≡ length homes → IsAsWide p → ValueOk rule n (put pass t p) homes' l y → IsLawful rule n m (put pass t p) homes'
     changes_at l p homes' y same home deep wide at = record {
       value = put ok.value l y;
       deep = deep ∙ ok.deep;
       wide = wide_on p wide;
-      each = λ k near. put_elim (ValueOk keeps grows share n (put pass t p) homes' k) ok.value l y k (λ e. subst (λ z. ValueOk keeps grows share n (put pass t p) homes' z y) (sym e) at)
+      each = λ k near. put_elim (ValueOk rule n (put pass t p) homes' k) ok.value l y k (λ e. subst (λ z. ValueOk rule n (put pass t p) homes' z y) (sym e) at)
           (λ ne. same_value n pass (put pass t p) homes homes' k (ok.value k) (same_on k p (same k ne)) (home k ne) (ok.each k near));
     }
 
@@ -83,99 +84,100 @@ module _ {V Q : Type 0} (keeps : ℕ → V → Type 0) (grows : V → V → Type
       in_seen = let w = ok.wide t near in omega (arith, w.1)
 
       -- what t finds keeps the rule, and goes on from what it had seen
-      pub finds_value : ¬ Holds (pass t) l → FoundOk keeps grows share l t (pass t) (ok.value l)
+      pub finds_value : ¬ Holds (pass t) l → FoundOk rule l t (pass t) (ok.value l)
       finds_value away = let e = ok.each l here in let s = e.seen t near in record {
         kept = e.kept;
-        grown = λ x at. subst (λ v. grows v (ok.value l)) (some-injective s.seen x (sym s.seen_is ∙ at)) s.grown;
-        mine = λ x at. subst (λ v. share t v ≡ share t (ok.value l)) (some-injective s.seen x (sym s.seen_is ∙ at)) (s.mine away);
+        grown = λ x at. subst (λ v. rule.grows v (ok.value l)) (some-injective s.seen x (sym s.seen_is ∙ at)) s.grown;
+        mine = λ x at. subst (λ v. rule.part t v ≡ rule.part t (ok.value l)) (some-injective s.seen x (sym s.seen_is ∙ at)) (s.mine away);
       }
 
       -- what t has of l, which it holds
-      pub owns_value : Holds (pass t) l → OwnerOk keeps grows share homes l t (pass t) (ok.value l)
+      pub owns_value : Holds (pass t) l → OwnerOk rule homes l t (pass t) (ok.value l)
       owns_value h = (ok.each l here).owned t h
 
-      -- t gets l, which nobody has: it holds it then, and has the value x that it found
-      pub gets_value : ((x : V) → grows x x) → ((u : ℕ) → ¬ Holds (pass u) l) → (p : LockPassView V) → ((k : ℕ) → k ≢ l → SameOf k (pass t) p) → IsAsWide p → Holds p l
-          → IsIn p l (ok.value l) → HasSeen p l (ok.value l)
-          → IsLawful keeps grows share n m (put pass t p) homes
-      gets_value itself nobody p same wide mine lies seen = let e = ok.each l here in let x = ok.value l in
-          changes_at l p homes x same (λ k ne. refl) refl wide
+      -- t gets l, which nobody has: it holds it then, with the value that it found, asleep or awake
+      pub gets_value : ((u : ℕ) → ¬ Holds (pass u) l) → l < length (pass t).holds → (asleep : Bool)
+          → IsLawful rule n m (put pass t (record (gripped (pass t) l (ok.value l)) { asleep = asleep })) homes
+      gets_value nobody long asleep =
+          let e = ok.each l here in
+          let x = ok.value l in
+          let p : LockPassView V = record (gripped (pass t) l x) { asleep = asleep } in
+          let mine : Holds p l = subst IsHeld (sym (get_or-set_same (pass t).holds l Held NotHeld long)) tt in
+          let lies : IsIn p l x = set_here (pass t).places l (InSlot x) in_places in
+          let seen : HasSeen p l x = set_here (pass t).seen l x in_seen in
+          changes_at l p homes x
+          (λ k ne. record {
+            down = λ h. subst IsHeld (get_or-set_other (pass t).holds l k Held NotHeld ne) h;
+            up = λ h. subst IsHeld (sym (get_or-set_other (pass t).holds l k Held NotHeld ne)) h;
+            places = set_else (pass t).places l k (InSlot x) ne;
+            seen = set_else (pass t).seen l k x ne;
+          })
+          (λ k ne. refl) refl (length-set (pass t).places l (InSlot x), length-set (pass t).seen l x)
           (record {
             kept = e.kept;
             idle = λ away. absurd (away t (subst (λ z. Holds z l) (sym (put_same pass t p)) mine));
-            owned = λ u. put_elim (λ z. Holds z l → OwnerOk keeps grows share homes l u z x) pass t p u
-                (λ _ _. record { place = InSlot x; place_is = lies; home = e.idle nobody; found = seen; lawful = record { kept = e.kept; grown = itself x; others = λ w ne. refl } })
+            owned = λ u. put_elim (λ z. Holds z l → OwnerOk rule homes l u z x) pass t p u
+                (λ _ _. record { place = InSlot x; place_is = lies; home = e.idle nobody; found = seen; lawful = record { kept = e.kept; grown = rule.grows_itself x; others = λ w ne. refl } })
                 (λ _ h. absurd (nobody u h));
-            seen = λ u u_near. put_elim (λ z. SeenOk keeps grows share l u z x) pass t p u (λ _. record { seen = x; seen_is = seen; grown = itself x; mine = λ away. refl }) (λ _. e.seen u u_near);
+            seen = λ u u_near. put_elim (λ z. SeenOk rule l u z x) pass t p u (λ _. record { seen = x; seen_is = seen; grown = rule.grows_itself x; mine = λ away. refl }) (λ _. e.seen u u_near);
             witness = (t, (near, subst (λ z. HasSeen z l x) (sym (put_same pass t p)) seen));
           })
 
       module _ (holds : Holds (pass t) l) (only : (u : ℕ) → Holds (pass u) l → u ≡ t) where
         -- t lets l go, with the value y in its slot
-        pub leaves_value : ((x : V) → grows x x) → ((a b c : V) → grows a b → grows b c → grows a c) → (y : V) → IsIn (pass t) l y → (¬ Holds (let_go (pass t) l y) l)
-            → ((k : ℕ) → k ≢ l → SameOf k (pass t) (let_go (pass t) l y))
-            → IsLawful keeps grows share n m (put pass t (let_go (pass t) l y)) homes
-        leaves_value itself on y lies gone same = let e = ok.each l here in let x = ok.value l in let p : LockPassView V = let_go (pass t) l y in
-            let o = e.owned t holds in let is : o.place ≡ InSlot y = some-injective o.place (InSlot y) (sym o.place_is ∙ lies) in
-            let may : MayLeave keeps grows share l t x y = subst (MayLie keeps grows share l t x) is o.lawful in
+        pub leaves_value : l < length (pass t).holds → (y : V) → IsIn (pass t) l y → IsLawful rule n m (put pass t (let_go (pass t) l y)) homes
+        leaves_value long y lies =
+            let e = ok.each l here in
+            let x = ok.value l in
+            let p : LockPassView V = let_go (pass t) l y in
+            let gone : ¬ Holds p l = (λ h. subst IsHeld (get_or-set_same (pass t).holds l NotHeld NotHeld long) h) in
             let seen : HasSeen p l y = set_here (pass t).seen l y in_seen in
-            changes_at l p homes y same (λ k ne. refl) refl (refl, length-set (pass t).seen l y)
+            let o = e.owned t holds in
+            let is : o.place ≡ InSlot y = some-injective o.place (InSlot y) (sym o.place_is ∙ lies) in
+            let may : MayLeave rule l t x y = subst (MayLie rule l t x) is o.lawful in
+            changes_at l p homes y
+            (λ k ne. record {
+              down = λ h. subst IsHeld (get_or-set_other (pass t).holds l k NotHeld NotHeld ne) h;
+              up = λ h. subst IsHeld (sym (get_or-set_other (pass t).holds l k NotHeld NotHeld ne)) h;
+              places = refl;
+              seen = set_else (pass t).seen l k y ne;
+            })
+            (λ k ne. refl) refl (refl, length-set (pass t).seen l y)
             (record {
               kept = may.kept;
               idle = λ _. o.home ∙ ap (λ pl. some (home_of pl)) is;
-              owned = λ u. put_elim (λ z. Holds z l → OwnerOk keeps grows share homes l u z y) pass t p u (λ _ h. absurd (gone h)) (λ ne h. absurd (ne (only u h)));
-              seen = λ u u_near. put_elim (λ z. SeenOk keeps grows share l u z y) pass t p u (λ _. record { seen = y; seen_is = seen; grown = itself y; mine = λ away. refl })
-                  (λ ne. let s = e.seen u u_near in record { seen = s.seen; seen_is = s.seen_is; grown = on s.seen x y s.grown may.grown; mine = λ away. s.mine away ∙ may.others u ne });
+              owned = λ u. put_elim (λ z. Holds z l → OwnerOk rule homes l u z y) pass t p u (λ _ h. absurd (gone h)) (λ ne h. absurd (ne (only u h)));
+              seen = λ u u_near. put_elim (λ z. SeenOk rule l u z y) pass t p u (λ _. record { seen = y; seen_is = seen; grown = rule.grows_itself y; mine = λ away. refl })
+                  (λ ne. let s = e.seen u u_near in record {
+                    seen = s.seen;
+                    seen_is = s.seen_is;
+                    grown = rule.grows_on s.seen x y s.grown may.grown;
+                    mine = λ away. s.mine away ∙ may.others u ne;
+                  });
               witness = (t, (near, subst (λ z. HasSeen z l y) (sym (put_same pass t p)) seen));
             })
 
         -- the value of l moves to the place pl
-        pub moves_value : (pl : Place V) → MayLie keeps grows share l t (ok.value l) pl → IsLawful keeps grows share n m (put pass t (placed (pass t) l pl)) (set homes l (home_of pl))
+        pub moves_value : (pl : Place V) → MayLie rule l t (ok.value l) pl → IsLawful rule n m (put pass t (placed (pass t) l pl)) (set homes l (home_of pl))
         moves_value pl may = let e = ok.each l here in let x = ok.value l in let p : LockPassView V = placed (pass t) l pl in let home : maybe.Option (Option V) = home_of pl in
             let deep : l < length homes = omega (arith, ok.deep) in
-            let same : (u : ℕ) → SeenOk keeps grows share l u (pass u) x → SeenOk keeps grows share l u (put pass t p u) x = (λ u s. put_elim (λ z. SeenOk keeps grows share l u z x) pass t p u
-            (λ ut. let r : SeenOk keeps grows share l u (pass t) x = subst (λ z. SeenOk keeps grows share l u (pass z) x) ut s in record
+            let same : (u : ℕ) → SeenOk rule l u (pass u) x → SeenOk rule l u (put pass t p u) x = (λ u s. put_elim (λ z. SeenOk rule l u z x) pass t p u
+            (λ ut. let r : SeenOk rule l u (pass t) x = subst (λ z. SeenOk rule l u (pass z) x) ut s in record
             { seen = r.seen; seen_is = r.seen_is; grown = r.grown; mine = r.mine }) (λ _. s)) in
             changes_at l p (set homes l home) x (λ k ne. record { down = λ h. h; up = λ h. h; places = set_else (pass t).places l k pl ne; seen = refl }) (λ k ne. set_else homes l k home ne)
             (length-set homes l home) (length-set (pass t).places l pl, refl)
             (record {
               kept = e.kept;
               idle = λ away. absurd (away t (subst (λ z. Holds z l) (sym (put_same pass t p)) holds));
-              owned = λ u. put_elim (λ z. Holds z l → OwnerOk keeps grows share (set homes l home) l u z x) pass t p u
+              owned = λ u. put_elim (λ z. Holds z l → OwnerOk rule (set homes l home) l u z x) pass t p u
                   (λ ut _. record {
                     place = pl;
                     place_is = set_here (pass t).places l pl in_places;
                     home = set_here homes l home deep;
                     found = (e.owned t holds).found;
-                    lawful = subst (λ z. MayLie keeps grows share l z x pl) (sym ut) may;
+                    lawful = subst (λ z. MayLie rule l z x pl) (sym ut) may;
                   })
                   (λ ne h. absurd (ne (only u h)));
               seen = λ u u_near. same u (e.seen u u_near);
               witness = let w = e.witness in (w.0, (w.1.0, put_elim (λ z. HasSeen z l x) pass t p w.0 (λ wt. subst (λ z. HasSeen (pass z) l x) wt w.1.1) (λ _. w.1.1)));
             })
-
-      -- ---- the passes of these calls
-      pub gripped_same : (x : V) (k : ℕ) → k ≢ l → SameOf k (pass t) (gripped (pass t) l x)
-      gripped_same x k ne = record {
-        down = λ h. subst IsHeld (get_or-set_other (pass t).holds l k Held NotHeld ne) h;
-        up = λ h. subst IsHeld (sym (get_or-set_other (pass t).holds l k Held NotHeld ne)) h;
-        places = set_else (pass t).places l k (InSlot x) ne;
-        seen = set_else (pass t).seen l k x ne;
-      }
-
-      pub gripped_wide : (x : V) → IsAsWide (gripped (pass t) l x)
-      gripped_wide x = (length-set (pass t).places l (InSlot x), length-set (pass t).seen l x)
-
-      pub gripped_lies : (x : V) → IsIn (gripped (pass t) l x) l x
-      gripped_lies x = set_here (pass t).places l (InSlot x) in_places
-
-      pub gripped_seen : (x : V) → HasSeen (gripped (pass t) l x) l x
-      gripped_seen x = set_here (pass t).seen l x in_seen
-
-      pub let_go_same : (y : V) (k : ℕ) → k ≢ l → SameOf k (pass t) (let_go (pass t) l y)
-      let_go_same y k ne = record {
-        down = λ h. subst IsHeld (get_or-set_other (pass t).holds l k NotHeld NotHeld ne) h;
-        up = λ h. subst IsHeld (sym (get_or-set_other (pass t).holds l k NotHeld NotHeld ne)) h;
-        places = refl;
-        seen = set_else (pass t).seen l k y ne;
-      }

@@ -9,6 +9,7 @@ use Rattle.lot_words.specs.declared.views.LockPassView.{LockPassView}
 use Rattle.lot_words.specs.declared.views.LockRootView.{LockRootView}
 use Rattle.lot_words.specs.declared.views.Place.{Place}
 use Rattle.lot_words.specs.declared.views.Place.TheVariants.{InSlot}
+use Rattle.lot_words.specs.CallersRule.{CallersRule}
 use Rattle.lot_words.specs.Values.{FoundOk}
 
 -- ---- the pass
@@ -72,16 +73,16 @@ word_left (Some u) false = 0
 abbrev pub FoundNone : {V : Type 0} → PassView (LockPassView V) → PassView (LockPassView V) → Type 0
 FoundNone p q = Notes p p.own (Collects p.thread None) q
 
-module _ {V Q : Type 0} (keeps : ℕ → V → Type 0) (grows : V → V → Type 0) (share : ℕ → V → Q) where
+module _ {V Part : Type 0} (rule : CallersRule V Part) where
   -- q is the pass p after it got the lock l, by this access, with the value that it found
   abbrev pub GetsBy : PassView (LockPassView V) → ℕ → Access → PassView (LockPassView V) → Type 0
-  GetsBy p l a q = (x : V) × FoundOk keeps grows share l p.thread p.own x × Notes p (gripped p.own l x) a q
+  GetsBy p l a q = (x : V) × FoundOk rule l p.thread p.own x × Notes p (gripped p.own l x) a q
 
   -- q is the pass p after it collected a letter: a barging opportunity, or the lock itself, with the value that it found
   abbrev pub Collected : PassView (LockPassView V) → ℕ → PassView (LockPassView V) → Type 0
   Collected p zero q = Notes p (woken p.own) (Collects p.thread (Some 0)) q
   Collected p (suc k) q =
-      (k ≡ 0) × ((l : ℕ) × (p.own.aim ≡ Some l) × ((x : V) × FoundOk keeps grows share l p.thread p.own x × Notes p (woken (gripped p.own l x)) (Collects p.thread (Some 1)) q))
+      (k ≡ 0) × ((l : ℕ) × (p.own.aim ≡ Some l) × ((x : V) × FoundOk rule l p.thread p.own x × Notes p (woken (gripped p.own l x)) (Collects p.thread (Some 1)) q))
 
   -- by the number in the letter
   abbrev pub CollectedBy : PassView (LockPassView V) → ℕ → PassView (LockPassView V) → Type 0

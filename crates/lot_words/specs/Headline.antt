@@ -14,6 +14,7 @@ use Rattle.lot_rights.specs.World.{awake, queued, owed, waits_on, IsLetter, lett
 use Rattle.lot_words.specs.declared.views.LockPassView.{LockPassView}
 use Rattle.lot_words.specs.declared.views.LockRootView.{LockRootView}
 use Rattle.lot_words.specs.declared.views.Size.{Size}
+use Rattle.lot_words.specs.CallersRule.{CallersRule}
 use Rattle.lot_words.specs.World.{LockWorld, word_of, Holds, HoldsParked, IsHanded, TellsTrue}
 use Rattle.lot_words.specs.Values.{IsLawful}
 use Rattle.lot_words.specs.Rule.{sizes_of, part_of, opening_part, scheme}
@@ -40,19 +41,19 @@ module _ {V : Type 0} (w : LockWorld V) where
     pub someone_is_trying : (l : ℕ) → (part_of w).locks.held l ≡ false → (part_of w).locks.line l ≢ [] → (t : ℕ) × ((t < n) × ((part_of w).wants t ≡ Some l) × ¬ Contains (w.root l).line t)
     pub found_parked : (l t : ℕ) → HoldsParked (w.pass t) l → (part_of w).locks.parked l ≡ true
 
-pub record Headline {V Q : Type 0} (keeps : ℕ → V → Type 0) (grows : V → V → Type 0) (share : ℕ → V → Q) (size : Size) (xs : List V)
+pub record Headline {V Part : Type 0} (rule : CallersRule V Part) (size : Size) (xs : List V)
     (s : State (Option V) (List (Right (LockPassView V) LockRootView))) : Type 0 where
   pub world : LockWorld V
   -- each word is a lock's two bits or a thread's letter
   pub words : WordsFit word_of (sizes_of size) world s.words
   -- each right is in exactly one place, and knows what the world says of it
-  pub rights : Seated number (RightFits (scheme keeps grows share size xs) world) s.views
-  pub in_place : (i : ℕ) → IsRight (scheme keeps grows share size xs) i → times_in number i s.views ≡ 1
+  pub rights : Seated number (RightFits (scheme rule size xs) world) s.views
+  pub in_place : (i : ℕ) → IsRight (scheme rule size xs) i → times_in number i s.views ≡ 1
   pub letters : LettersFit world
   pub sound : IsSound world size.threads
   -- the values are lawful: those that owners have, and those in the slots where nobody holds the lock
-  pub lawful : IsLawful keeps grows share size.threads size.locks world.pass s.homes
+  pub lawful : IsLawful rule size.threads size.locks world.pass s.homes
   -- one legal history, of which the rights have all entries, has led here; without its notices it is a run of the model
   pub log : List Entry
-  pub history : IsHistory (scheme keeps grows share size xs) log s.views (record { part = part_of world; letters = letters_of world.spot })
+  pub history : IsHistory (scheme rule size xs) log s.views (record { part = part_of world; letters = letters_of world.spot })
   pub model : ModelRun (LockStep size.threads size.locks) opening_part (events_in log) (part_of world)

@@ -1,3 +1,4 @@
+pub mod CallersRule
 pub mod Calls
 pub mod Closing
 pub mod Headline

@@ -12,6 +12,7 @@ use Rattle.lot_words.specs.declared.views.LockPassView.{LockPassView}
 use Rattle.lot_words.specs.declared.views.LockRootView.{LockRootView}
 use Rattle.lot_words.specs.declared.views.Place.TheVariants.{Out}
 use Rattle.lot_words.specs.declared.views.Size.{Size}
+use Rattle.lot_words.specs.CallersRule.{CallersRule}
 use Rattle.lot_words.specs.World.{LockWorld, is_owned, bits_of, word_of, Kept}
 use Rattle.lot_words.specs.Values.{IsLawful}
 
@@ -61,12 +62,12 @@ no_root = fresh_root
 abbrev pub names : LockRootView → ℕ → Type 0
 names q u = Contains q.line u ⊎ ((k : ℕ) × (q.owes ≡ Some (u, k)))
 
-module _ {V Q : Type 0} (keeps : ℕ → V → Type 0) (grows : V → V → Type 0) (share : ℕ → V → Q) where
+module _ {V Part : Type 0} (rule : CallersRule V Part) where
   -- the words and the slots stand for the world, which keeps the rule of threads and locks, and whose values are lawful
   pub record Fits (size : Size) (w : LockWorld V) (ws : List ℕ) (homes : List (maybe.Option (Option V))) : Type 0 where
     pub words : WordsFit word_of (sizes_of size) w ws
     pub kept : Kept size.threads size.locks w
-    pub lawful : IsLawful keeps grows share size.threads size.locks w.pass homes
+    pub lawful : IsLawful rule size.threads size.locks w.pass homes
 
   -- for a table of this size, where xs are the opening values
   abbrev pub scheme : Size → List V → Scheme (Option V) (LockPassView V) LockRootView

@@ -6,6 +6,7 @@ use lib.ListN.{get_elem?}
 use Rattle.lot_words.specs.declared.views.LockPassView.{LockPassView}
 use Rattle.lot_words.specs.declared.views.Place.{Place}
 use Rattle.lot_words.specs.declared.views.Place.TheVariants.{InSlot, Out, Moving}
+use Rattle.lot_words.specs.CallersRule.{CallersRule}
 use Rattle.lot_words.specs.World.{Holds}
 
 module _ {V : Type 0} where
@@ -44,12 +45,12 @@ module _ {V : Type 0} where
   abbrev pub HasSeen : LockPassView V → ℕ → V → Type 0
   HasSeen p l x = get_elem? p.seen l ≡ some x
 
-module _ {V Q : Type 0} (keeps : ℕ → V → Type 0) (grows : V → V → Type 0) (share : ℕ → V → Q) where
+module _ {V Part : Type 0} (rule : CallersRule V Part) where
   -- t may leave the value y in the lock l, where it found x
   pub record MayLeave (l t : ℕ) (x y : V) : Type 0 where
-    pub kept : keeps l y
-    pub grown : grows x y
-    pub others : (u : ℕ) → u ≢ t → share u x ≡ share u y
+    pub kept : rule.keeps l y
+    pub grown : rule.grows x y
+    pub others : (u : ℕ) → u ≢ t → rule.part u x ≡ rule.part u y
 
   abbrev pub MayLie : ℕ → ℕ → V → Place V → Type 0
   MayLie l t x (InSlot y) = MayLeave l t x y
@@ -58,9 +59,9 @@ module _ {V Q : Type 0} (keeps : ℕ → V → Type 0) (grows : V → V → Type
 
   -- the value x that t finds in l: it keeps the rule, has grown from what t had seen of it, and has t's part of that
   pub record FoundOk (l t : ℕ) (p : LockPassView V) (x : V) : Type 0 where
-    pub kept : keeps l x
-    pub grown : (s : V) → HasSeen p l s → grows s x
-    pub mine : (s : V) → HasSeen p l s → share t s ≡ share t x
+    pub kept : rule.keeps l x
+    pub grown : (s : V) → HasSeen p l s → rule.grows s x
+    pub mine : (s : V) → HasSeen p l s → rule.part t s ≡ rule.part t x
 
   -- t has l, and found the value x when it got it; the slots hold what it knows
   pub record OwnerOk (homes : List (maybe.Option (Option V))) (l t : ℕ) (p : LockPassView V) (x : V) : Type 0 where
@@ -74,12 +75,12 @@ module _ {V Q : Type 0} (keeps : ℕ → V → Type 0) (grows : V → V → Type
   pub record SeenOk (l t : ℕ) (p : LockPassView V) (x : V) : Type 0 where
     pub seen : V
     pub seen_is : HasSeen p l seen
-    pub grown : grows seen x
-    pub mine : (¬ Holds p l) → share t seen ≡ share t x
+    pub grown : rule.grows seen x
+    pub mine : (¬ Holds p l) → rule.part t seen ≡ rule.part t x
 
   -- the lock l, whose value is x: what its owner found, or else what lies in its slot. Some thread has seen it
   pub record ValueOk (n : ℕ) (pass : ℕ → LockPassView V) (homes : List (maybe.Option (Option V))) (l : ℕ) (x : V) : Type 0 where
-    pub kept : keeps l x
+    pub kept : rule.keeps l x
     pub idle : ((t : ℕ) → ¬ Holds (pass t) l) → get_elem? homes l ≡ some (some (Some x))
     pub owned : (t : ℕ) → Holds (pass t) l → OwnerOk homes l t (pass t) x
     pub seen : (t : ℕ) → t < n → SeenOk l t (pass t) x

@@ -45,7 +45,7 @@ impl<V: Keeps> LockWords<V> {
         requires passes { (t : ℕ) → t < self.size.threads → Any (λ (p : PassShown (LockPassView V)). p.pass.thread ≡ t) passes.items }
         requires roots { (l : ℕ) → l < self.size.locks → Any (λ (q : RootShown LockRootView). q.root.key ≡ l) roots.items }
         ensures len { vec_len result ≡ self.size.locks }
-        ensures found { All (λ (p : PassShown (LockPassView V)). (l : ℕ) (y : V) → slice_get result.items l ≡ Some y → FoundOk V.keeps V.grows V.part l p.pass.thread p.pass.own y) passes.items }
+        ensures found { All (λ (p : PassShown (LockPassView V)). (l : ℕ) (y : V) → slice_get result.items l ≡ Some y → FoundOk V.Keeps l p.pass.thread p.pass.own y) passes.items }
         ensures left { (l : ℕ) (y : V) → slice_get result.items l ≡ Some y → Any (λ (p : PassShown (LockPassView V)). HasSeen p.pass.own l y) passes.items }
         ensures history { IsToldTo self.size passes.items roots.items }
     {

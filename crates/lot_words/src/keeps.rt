@@ -2,7 +2,7 @@
 ghost use Rattle.std.specs.Prelude.{ℕ};
 
 /// What the values of a lock have to keep. Write an `impl` for the type that your locks guard: every value that is put back
-/// into a lock has to keep the rule, and every owner may then rely on it.
+/// into a lock has to keep the rule, and every owner may then rely on it. Contracts name the rule `V.Keeps`.
 ///
 /// - `keeps k v`: the value `v` may lie in the lock of key `k`.
 /// - `grows a b`: `b` goes on from `a`. Whoever gets a lock finds a value that has grown from all that he had seen of it.

@@ -21,7 +21,7 @@ impl<V: Keeps> Kind for Locks<V> {
 
     type Key = Start<V>;
 
-    ghost scheme = { λ start. scheme V.keeps V.grows V.part start.size start.values.value.items };
+    ghost scheme = { λ start. scheme V.Keeps start.size start.values.value.items };
 
     ghost no_pass = { no_pass };
 
@@ -31,7 +31,7 @@ impl<V: Keeps> Kind for Locks<V> {
 
     ghost table_in = { λ o. o.locks };
 
-    ghost one_outcome = { λ start. one_outcome V.keeps V.grows V.part start.size start.values.value.items };
+    ghost one_outcome = { λ start. one_outcome V.Keeps start.size start.values.value.items };
 }
 
 /// The right to act as one thread on the locks. Contracts see it as its table and a `PassView`, whose `own` is a `LockPassView`.

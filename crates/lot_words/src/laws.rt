@@ -16,7 +16,7 @@ use crate::keeps::Keeps;
 
 /// At every moment the headline holds of one world: what keeps the rule keeps all of it.
 pub fn the_rule_is_the_headline<V: Keeps>()
-    ensures { (size : Size) (xs : List V) (s : State (Option V) (List (Right (LockPassView V) LockRootView))) → Ruled (scheme V.keeps V.grows V.part size xs) s → Headline V.keeps V.grows V.part size xs s }
+    ensures { (size : Size) (xs : List V) (s : State (Option V) (List (Right (LockPassView V) LockRootView))) → Ruled (scheme V.Keeps size xs) s → Headline V.Keeps size xs s }
 {}
 
 /// The history begins at the lock part of the model's opening state.

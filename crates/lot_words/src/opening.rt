@@ -30,7 +30,7 @@ impl<V: Keeps> LockWords<V> {
         ensures size { IfOk result (λ r. (r.0.size.threads ≡ threads) × (r.0.size.locks ≡ vec_len values)) }
         ensures passes { IfOk result (λ r. (vec_len r.1 ≡ threads) × ((k : ℕ) → k < threads → slice_get r.1.items k ≡ Some (pass_at r.0.table values.items k))) }
         ensures roots { IfOk result (λ r. (vec_len r.2 ≡ vec_len values) × ((k : ℕ) → k < vec_len values → slice_get r.2.items k ≡ Some (root_at r.0.table k))) }
-        ensures rule { IfOk result (λ r. Ruled (scheme V.keeps V.grows V.part r.0.size values.items) (opening (replicate (word_count threads (vec_len values)) 0) (map (λ (x : V). Some x) values.items) (all_rights (scheme V.keeps V.grows V.part r.0.size values.items)))) }
+        ensures rule { IfOk result (λ r. Ruled (scheme V.Keeps r.0.size values.items) (opening (replicate (word_count threads (vec_len values)) 0) (map (λ (x : V). Some x) values.items) (all_rights (scheme V.Keeps r.0.size values.items)))) }
         ensures back { IfErr result (λ e. e.1.items ≡ values.items) }
     {
         let locks = values.len();

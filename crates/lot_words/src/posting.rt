@@ -32,7 +32,7 @@ impl<V: Keeps> LockWords<V> {
     pub fn collect(&self, pass: LockPass<V>) -> (LockPass<V>, Option<u32>)
         requires { pass.table ≡ self.now.table }
         ensures table { result.0.table ≡ pass.table }
-        ensures letter { MatchOption result.1 (FoundNone pass.pass result.0.pass) (λ token. Collected V.keeps V.grows V.part pass.pass token result.0.pass) }
+        ensures letter { MatchOption result.1 (FoundNone pass.pass result.0.pass) (λ token. Collected V.Keeps pass.pass token result.0.pass) }
     {
         let words = &self.words;
         let place = pass.letter();

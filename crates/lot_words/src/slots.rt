@@ -37,7 +37,7 @@ impl<V: Keeps> LockWords<V> {
         requires table { pass.table ≡ self.now.table }
         requires key { key < self.now.size.locks }
         requires holds { Holds pass.pass.own key × IsOut pass.pass.own key }
-        requires lawful { (x : V) × HasSeen pass.pass.own key x × MayLeave V.keeps V.grows V.part key pass.pass.thread x value }
+        requires lawful { (x : V) × HasSeen pass.pass.own key x × MayLeave V.Keeps key pass.pass.thread x value }
         ensures pass { (result.table ≡ pass.table) × (result.pass ≡ record pass.pass { own = placed pass.pass.own key (InSlot value) }) }
         ensures lies { IsIn result.pass.own key value }
     {
@@ -58,7 +58,7 @@ impl<V: Keeps> LockWords<V> {
         requires key { key < self.now.size.locks }
         requires holds { Holds pass.pass.own key }
         requires home { (place : Place V) × (get_elem? pass.pass.own.places key ≡ some place) × IsAtHome place }
-        requires lawful { (x : V) → HasSeen pass.pass.own key x → MayLie V.keeps V.grows V.part key pass.pass.thread x (place_of new) }
+        requires lawful { (x : V) → HasSeen pass.pass.own key x → MayLie V.Keeps key pass.pass.thread x (place_of new) }
         ensures pass { (result.0.table ≡ pass.table) × (result.0.pass ≡ record pass.pass { own = placed pass.pass.own key (place_of new) }) }
         ensures found { (place : Place V) → get_elem? pass.pass.own.places key ≡ some place → result.1 ≡ in_slot place }
     {

@@ -21,7 +21,7 @@ impl<V: Keeps> LockWords<V> {
         requires calm { (pass.pass.own.asleep ≡ false) × (pass.pass.own.aim ≡ None) }
         ensures table { result.0.table ≡ pass.table }
         ensures event { MatchBool result.1
-            (GetsBy V.keeps V.grows V.part pass.pass key (Makes (Try pass.pass.thread key) (Saw true)) result.0.pass)
+            (GetsBy V.Keeps pass.pass key (Makes (Try pass.pass.thread key) (Saw true)) result.0.pass)
             (Notes pass.pass pass.pass.own (Makes (Try pass.pass.thread key) (Saw false)) result.0.pass) }
     {
         let words = &self.words;
@@ -38,7 +38,7 @@ impl<V: Keeps> LockWords<V> {
         requires calm { (pass.pass.own.asleep ≡ false) × Aims pass.pass.own key }
         ensures table { result.0.table ≡ pass.table }
         ensures event { MatchBool result.1
-            (GetsBy V.keeps V.grows V.part pass.pass key (Makes (Take pass.pass.thread key) (Saw true)) result.0.pass)
+            (GetsBy V.Keeps pass.pass key (Makes (Take pass.pass.thread key) (Saw true)) result.0.pass)
             (Notes pass.pass (wishing pass.pass.own key) (Makes (Take pass.pass.thread key) (Saw false)) result.0.pass) }
     {
         let words = &self.words;
@@ -55,7 +55,7 @@ impl<V: Keeps> LockWords<V> {
         requires calm { (pass.pass.own.asleep ≡ false) × Aims pass.pass.own key }
         ensures table { result.0.table ≡ pass.table }
         ensures event { MatchBool result.1
-            (GetsBy V.keeps V.grows V.part pass.pass key (Makes (Take pass.pass.thread key) (Saw true)) result.0.pass)
+            (GetsBy V.Keeps pass.pass key (Makes (Take pass.pass.thread key) (Saw true)) result.0.pass)
             ((word : ℕ) × (word ≢ 0) × Notes pass.pass pass.pass.own (Finds pass.pass.thread key word) result.0.pass) }
     {
         let words = &self.words;

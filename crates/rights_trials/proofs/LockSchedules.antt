@@ -11,6 +11,7 @@ use Rattle.lot_words.specs.declared.views.Hold.TheVariants.{NotHeld, Held}
 use Rattle.lot_words.specs.declared.views.LockPassView.{LockPassView}
 use Rattle.lot_words.specs.declared.views.LockRootView.{LockRootView}
 use Rattle.lot_words.specs.declared.views.Place.TheVariants.{InSlot, Out}
+use Rattle.lot_words.specs.CallersRule.{CallersRule}
 use Rattle.lot_words.specs.World.{IsHeld}
 use Rattle.lot_words.specs.Calls.{gripped, wishing, woken, GetsBy, FoundNone, Collected}
 use Rattle.rights_trials.specs.LockSchedules.{IsPass, IsCalm, Wants, Owns, IsRoot}
@@ -25,30 +26,30 @@ module _ {V : Type 0} (p : PassShown (LockPassView V)) (z : TableId) (t l : ℕ)
     (x, set_here p.pass.own.places l (InSlot x) (omega (arith, is.3)), set_here p.pass.own.seen l x (omega (arith, is.4))),
   )
 
-  module _ {Q : Type 0} (keeps : ℕ → V → Type 0) (grows : V → V → Type 0) (share : ℕ → V → Q) (a c : Access) (q : PassView (LockPassView V)) (b : Bool) (up : p.pass.own.asleep ≡ false) where
-    got : GetsBy keeps grows share p.pass l a q → Owns q.own l
+  module _ {Part : Type 0} (rule : CallersRule V Part) (a c : Access) (q : PassView (LockPassView V)) (b : Bool) (up : p.pass.own.asleep ≡ false) where
+    got : GetsBy rule p.pass l a q → Owns q.own l
     got h = subst (λ (y : PassView (LockPassView V)). Owns y.own l) (sym h.2.1) (grips h.0 up)
 
-    pub took : MatchBool b (GetsBy keeps grows share p.pass l a q) (Notes p.pass (wishing p.pass.own l) c q) → MatchBool b (Owns q.own l) (Wants q.own l)
+    pub took : MatchBool b (GetsBy rule p.pass l a q) (Notes p.pass (wishing p.pass.own l) c q) → MatchBool b (Owns q.own l) (Wants q.own l)
     took = by_bool b
       where
-        by_bool : (b : Bool) → MatchBool b (GetsBy keeps grows share p.pass l a q) (Notes p.pass (wishing p.pass.own l) c q) → MatchBool b (Owns q.own l) (Wants q.own l)
+        by_bool : (b : Bool) → MatchBool b (GetsBy rule p.pass l a q) (Notes p.pass (wishing p.pass.own l) c q) → MatchBool b (Owns q.own l) (Wants q.own l)
         by_bool true h = got h
         by_bool false h = subst (λ (y : PassView (LockPassView V)). Wants y.own l) (sym h.1) (up, refl)
 
-    pub tried : p.pass.own.aim ≡ None → MatchBool b (GetsBy keeps grows share p.pass l a q) (Notes p.pass p.pass.own c q) → MatchBool b (Owns q.own l) (IsCalm q.own)
+    pub tried : p.pass.own.aim ≡ None → MatchBool b (GetsBy rule p.pass l a q) (Notes p.pass p.pass.own c q) → MatchBool b (Owns q.own l) (IsCalm q.own)
     tried aim = by_bool b
       where
-        by_bool : (b : Bool) → MatchBool b (GetsBy keeps grows share p.pass l a q) (Notes p.pass p.pass.own c q) → MatchBool b (Owns q.own l) (IsCalm q.own)
+        by_bool : (b : Bool) → MatchBool b (GetsBy rule p.pass l a q) (Notes p.pass p.pass.own c q) → MatchBool b (Owns q.own l) (IsCalm q.own)
         by_bool true h = got h
         by_bool false h = subst (λ (y : PassView (LockPassView V)). IsCalm y.own) (sym h.1) (up, aim)
 
   -- to whom it was handed owns it
-  pub was_handed : {Q : Type 0} (keeps : ℕ → V → Type 0) (grows : V → V → Type 0) (share : ℕ → V → Q) (q : PassView (LockPassView V)) (o : Option ℕ) → p.pass.own.aim ≡ Some l → o ≡ Some 1
-      → MatchOption o (FoundNone p.pass q) (λ token. Collected keeps grows share p.pass token q)
+  pub was_handed : {Part : Type 0} (rule : CallersRule V Part) (q : PassView (LockPassView V)) (o : Option ℕ) → p.pass.own.aim ≡ Some l → o ≡ Some 1
+      → MatchOption o (FoundNone p.pass q) (λ token. Collected rule p.pass token q)
       → Owns q.own l × (q.own.holds ≡ set p.pass.own.holds l Held)
-  was_handed keeps grows share q o aim one letter =
-      let h : Collected keeps grows share p.pass 1 q = subst (λ o. MatchOption o (FoundNone p.pass q) (λ token. Collected keeps grows share p.pass token q)) one letter in
+  was_handed rule q o aim one letter =
+      let h : Collected rule p.pass 1 q = subst (λ o. MatchOption o (FoundNone p.pass q) (λ token. Collected rule p.pass token q)) one letter in
       let same : h.1.0 ≡ l = (let e : Some h.1.0 ≡ Some l = sym h.1.1 ∙ aim in cc) in
       let x : V = h.1.2.0 in
       let is_now : q.own ≡ woken (gripped p.pass.own l x) = ap (λ (y : PassView (LockPassView V)). y.own) h.1.2.2.1 ∙ ap (λ k. woken (gripped p.pass.own k x)) same in (

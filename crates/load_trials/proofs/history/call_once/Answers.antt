@@ -6,7 +6,7 @@ use Rattle.load_trials.proofs.history.call_once.Goals as goal
 
 pub unlock-pass-requires-clause-back : goal.unlock-pass-requires-clause-back
 unlock-pass-requires-clause-back g c κs within =
-    may_give_back g.V.Keeps.keeps g.V.Keeps.grows g.V.Keeps.part c.args.pass c.lock-pass.result.0 0 c.thread-thread.result c.lock-pass.result.1 c.add_one-called.new.held
+    may_give_back g.V.Keeps c.args.pass c.lock-pass.result.0 0 c.thread-thread.result c.lock-pass.result.1 c.add_one-called.new.held
     c.lock-pass.ensures.gets c.thread-thread.ensures c.add_one-called.ensures.works
 
 pub returns-clause-free : goal.returns-clause-free

@@ -6,7 +6,7 @@ use Rattle.load_trials.proofs.history.find_history.Goals as goal
 
 pub unlock-pass-requires-clause-back : goal.unlock-pass-requires-clause-back
 unlock-pass-requires-clause-back g c κs within =
-    read_may_go_back g.V.Keeps.keeps g.V.Keeps.grows g.V.Keeps.part g.V.Keeps.grows_itself c.args.pass c.lock-pass.result.0 _ c.lock-pass.result.1 c.lock-pass.ensures.gets
+    read_may_go_back g.V.Keeps c.args.pass c.lock-pass.result.0 _ c.lock-pass.result.1 c.lock-pass.ensures.gets
 
 pub returns : goal.returns
 returns g c =

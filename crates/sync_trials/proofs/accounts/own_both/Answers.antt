@@ -1,10 +1,8 @@
-use Rattle.std.proofs.Common.{◌≡◌, ◌≤◌, ℕ, le_refl, ◌∙◌, arith}
-use Rattle.sync_trials.specs.declared.accounts.Account.{Account}
+use Rattle.std.proofs.Common.{◌≡◌, ℕ, ◌∙◌, arith}
 use Rattle.lot_sync.proofs.Holdings.{got_both}
 use Rattle.sync_trials.proofs.accounts.own_both.Goals as goal
 
 pub returns-clause-both : goal.returns-clause-both
 returns-clause-both g c =
-    got_both _ (λ (x y : Account). (x.paid_in ≤ y.paid_in) × (x.paid_out ≤ y.paid_out)) _ (λ (x : Account). (le_refl x.paid_in, le_refl x.paid_out)) c.own-pass.result.0 c.lock-pass.result.0
-    c.own-pass.result.1 c.lock-pass.result.1 1
+    got_both _ c.own-pass.result.0 c.lock-pass.result.0 c.own-pass.result.1 c.lock-pass.result.1 1
     (λ e. let one : ℕ = 1 in let f : one ≡ 0 = e ∙ c.own-pass.ensures.key in absurd (omega (arith, f))) c.own-pass.ensures.holding c.lock-pass.ensures.gets

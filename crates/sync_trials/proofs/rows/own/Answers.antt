@@ -1,7 +1,5 @@
-use Rattle.std.proofs.Common.{◌≤◌, le_refl}
-use Rattle.sync_trials.specs.declared.rows.Count.{Count}
 use Rattle.lot_sync.proofs.Holdings.{got_holds}
 use Rattle.sync_trials.proofs.rows.own.Goals as goal
 
 pub returns-clause-holding : goal.returns-clause-holding
-returns-clause-holding g c = got_holds _ (λ (x y : Count). x.n ≤ y.n) _ (λ (x : Count). le_refl x.n) c.args.pass c.lock.result.0 c.args.key c.lock.result.1 c.requires.free c.lock.ensures.gets
+returns-clause-holding g c = got_holds _ c.args.pass c.lock.result.0 c.args.key c.lock.result.1 c.requires.free c.lock.ensures.gets

@@ -1,7 +1,5 @@
-use Rattle.std.proofs.Common.{◌≤◌, le_refl}
-use Rattle.sync_trials.specs.declared.rows.Count.{Count}
 use Rattle.lot_sync.proofs.Holdings.{tried_holds}
 use Rattle.sync_trials.proofs.rows.try_own.Goals as goal
 
 pub returns : goal.returns
-returns g c = tried_holds _ (λ (x y : Count). x.n ≤ y.n) _ (λ (x : Count). le_refl x.n) c.args.pass c.try_lock.result.0 c.args.key c.try_lock.result.1 c.requires.free c.try_lock.ensures.gets
+returns g c = tried_holds _ c.args.pass c.try_lock.result.0 c.args.key c.try_lock.result.1 c.requires.free c.try_lock.ensures.gets

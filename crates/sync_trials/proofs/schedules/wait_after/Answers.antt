@@ -1,4 +1,4 @@
-use Rattle.std.proofs.Common.{◌≤◌, le_refl}
+use Rattle.std.proofs.Common.{◌≤◌}
 use Rattle.sync_trials.specs.declared.rows.Count.{Count}
 use Rattle.lot_sync.specs.Lot.{leaving, waking}
 use Rattle.lot_sync.proofs.Holdings.{got_holds, left_all}
@@ -8,6 +8,5 @@ pub returns-clause-holding : goal.returns-clause-holding
 returns-clause-holding g c =
     let became = c.wait_after.ensures.gets.0 in
     let left = left_all (λ (x y : Count). x.n ≤ y.n) c.args.pass c.args.held became c.requires.holding in
-    got_holds _ (λ (x y : Count). x.n ≤ y.n) _ (λ (x : Count). le_refl x.n)
-    (waking (leaving c.args.pass c.args.held.key c.args.held.value became) 14) c.wait_after.result.0 c.args.held.key c.wait_after.result.1
+    got_holds _ (waking (leaving c.args.pass c.args.held.key c.args.held.value became) 14) c.wait_after.result.0 c.args.held.key c.wait_after.result.1
     (record { no_lock = left.no_lock; no_permit = left.no_permit }) c.wait_after.ensures.gets.2

@@ -1,4 +1,4 @@
-use Rattle.std.proofs.Common.{◌≡◌, ◌≤◌, le_refl, sym, ap, subst, ◌∙◌}
+use Rattle.std.proofs.Common.{◌≡◌, ◌≤◌, sym, ap, subst, ◌∙◌}
 use Rattle.sync_trials.specs.declared.shares.Shares.{Shares}
 use Rattle.lot_sync.specs.Lot.{leaving}
 use Rattle.sync_trials.specs.Shares.{own_share}
@@ -7,8 +7,7 @@ use Rattle.sync_trials.proofs.shares.leave_own.Goals as goal
 
 pub unlock-pass-requires-clause-back : goal.unlock-pass-requires-clause-back
 unlock-pass-requires-clause-back g c κs within =
-    may_go_back (λ key (x : Shares). Unit {0}) (λ (x y : Shares). (x.zero ≤ y.zero) × (x.one ≤ y.one)) (λ thread (x : Shares). own_share thread x.zero x.one)
-    (λ (x : Shares). (le_refl x.zero, le_refl x.one)) c.args.pass c.lock-pass.result.0 0 c.lock-pass.result.1 c.raised-more.result c.lock-pass.ensures.gets tt
+    may_go_back _ c.args.pass c.lock-pass.result.0 0 c.lock-pass.result.1 c.raised-more.result c.lock-pass.ensures.gets tt
     (subst (λ (x : Shares). (x.zero ≤ c.raised-more.result.zero) × (x.one ≤ c.raised-more.result.one)) c.value-found.ensures c.raised-more.ensures.grown)
     (λ t else. subst (λ (x : Shares). own_share t x.zero x.one ≡ own_share t c.raised-more.result.zero c.raised-more.result.one) c.value-found.ensures
     (c.raised-more.ensures.others t (λ e. else (e ∙ c.thread-thread.ensures))))

@@ -5,5 +5,5 @@ use Rattle.lot_locks.proofs.getting.LockSchemeSought.is_handed.Goals as goal
 
 pub returns : goal.returns
 returns g c = λ before asleep now key sleeps found.
-    subst (λ b. MatchBool b (IsOwner g.V.Keeps.keeps g.V.Keeps.grows g.V.Keeps.part before key now) (IsTryingFor before key now)) (sym c.eq.ensures)
-    (woken_ends g.V.Keeps.keeps g.V.Keeps.grows g.V.Keeps.part before asleep now key c.args.token.0 sleeps found)
+    subst (λ b. MatchBool b (IsOwner g.V.Keeps before key now) (IsTryingFor before key now)) (sym c.eq.ensures)
+    (woken_ends g.V.Keeps before asleep now key c.args.token.0 sleeps found)

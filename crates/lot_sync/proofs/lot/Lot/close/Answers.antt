@@ -5,6 +5,7 @@ use Rattle.std.specs.List.{All, Any}
 use Rattle.lot_rights.specs.Shown.{PassShown, RootShown}
 use Rattle.lot_words.specs.declared.views.LockPassView.{LockPassView}
 use Rattle.lot_words.specs.declared.views.LockRootView.{LockRootView}
+use Rattle.lot_words.specs.CallersRule.{CallersRule}
 use Rattle.lot_words.specs.Shown.{LockWordsShown}
 use Rattle.lot_words.specs.Values.{FoundOk}
 use Rattle.lot_conds.specs.Shown.{CondWordsShown}
@@ -31,17 +32,16 @@ counted : {V : Type 0} (passes : List (PassView V)) → map kind_counts (map rig
 counted [] = refl
 counted (p ∷ ps) = ap (λ cs. counts_of p ∷ cs) (counted ps)
 
-goes_on : {V Part : Type 0} (keeps : ℕ → V → Type 0) (grows : V → V → Type 0) (part : ℕ → V → Part) (values : List V) (passes : List (PassView V))
-    (rights : List (PassShown (LockPassView V))) → map seen_as rights ≡ map lock_side passes
-    → All (λ (p : PassShown (LockPassView V)). (l : ℕ) (y : V) → slice_get values l ≡ Some y → FoundOk keeps grows part l p.pass.thread p.pass.own y) rights
-    → All (GoesOnTo keeps grows part values) passes
-goes_on {V} {Part} keeps grows part values passes rights same found =
-    All-weaker (λ (p : PassView V). GoesOnTo keeps grows part values (lock_side p)) (GoesOnTo keeps grows part values)
+goes_on : {V Part : Type 0} (rule : CallersRule V Part) (values : List V) (passes : List (PassView V)) (rights : List (PassShown (LockPassView V))) → map seen_as rights ≡ map lock_side passes
+    → All (λ (p : PassShown (LockPassView V)). (l : ℕ) (y : V) → slice_get values l ≡ Some y → FoundOk rule l p.pass.thread p.pass.own y) rights
+    → All (GoesOnTo rule values) passes
+goes_on {V} rule values passes rights same found =
+    All-weaker (λ (p : PassView V). GoesOnTo rule values (lock_side p)) (GoesOnTo rule values)
     (λ p goes. record { kept = goes.kept; grown = goes.grown; mine = goes.mine }) passes
-    (all_before lock_side (GoesOnTo keeps grows part values) passes (subst (All (GoesOnTo keeps grows part values)) same
-    (All-map (GoesOnTo keeps grows part values) seen_as rights
-    (All-weaker (λ (p : PassShown (LockPassView V)). (l : ℕ) (y : V) → slice_get values l ≡ Some y → FoundOk keeps grows part l p.pass.thread p.pass.own y)
-    (λ (p : PassShown (LockPassView V)). GoesOnTo keeps grows part values (seen_as p))
+    (all_before lock_side (GoesOnTo rule values) passes (subst (All (GoesOnTo rule values)) same
+    (All-map (GoesOnTo rule values) seen_as rights
+    (All-weaker (λ (p : PassShown (LockPassView V)). (l : ℕ) (y : V) → slice_get values l ≡ Some y → FoundOk rule l p.pass.thread p.pass.own y)
+    (λ (p : PassShown (LockPassView V)). GoesOnTo rule values (seen_as p))
     (λ p is. record {
       kept = λ key v at. (is key v at).kept;
       grown = λ key u v at seen. (is key v at).grown u seen;
@@ -129,7 +129,7 @@ close-requires-clause-roots g c = λ l near.
 
 pub returns-clause-values : goal.returns-clause-values
 returns-clause-values g c =
-    goes_on g.V.Keeps.keeps g.V.Keeps.grows g.V.Keeps.part c.close.result.items c.args.passes.items c.gather.new.rights.items c.gather.ensures.same c.close.ensures.found
+    goes_on g.V.Keeps c.close.result.items c.args.passes.items c.gather.new.rights.items c.gather.ensures.same c.close.ensures.found
 
 pub returns-clause-ledger : goal.returns-clause-ledger
 returns-clause-ledger g c =

@@ -16,12 +16,11 @@ value_in-right-requires-clause-holds g c =
 
 pub value_in-right-requires-clause-lawful : goal.value_in-right-requires-clause-lawful
 value_in-right-requires-clause-lawful g c =
-    subst (λ v. (x : _) × HasSeen c.apart-right.result.0.own c.args.key x × MayLeave g.V.Keeps.keeps g.V.Keeps.grows g.V.Keeps.part c.args.key c.apart-right.result.0.thread x v)
-    (sym c.into_value.ensures)
-    (may_leave g.V.Keeps.keeps g.V.Keeps.grows g.V.Keeps.part c.apart-right.result.1 g.V.Keeps.grows g.N.LotName.values g.N.LotName.threads c.apart-right.result.0 c.args.held c.args.key
+    subst (λ v. (x : _) × HasSeen c.apart-right.result.0.own c.args.key x × MayLeave g.V.Keeps c.args.key c.apart-right.result.0.thread x v) (sym c.into_value.ensures)
+    (may_leave g.V.Keeps c.apart-right.result.1 g.N.LotName.values g.N.LotName.threads c.apart-right.result.0 c.args.held c.args.key
     c.requires.key.0 (owned_within _ _ _ c.apart-right.result.1 c.apart-right.result.0 c.args.key c.apart-right.ensures.rest
     (subst (λ p. Owns p c.args.key) c.apart-right.ensures.same c.requires.owns)) c.apart-right.ensures.rest
-    (subst (λ p. MayGiveBack g.V.Keeps.keeps g.V.Keeps.grows g.V.Keeps.part p c.args.held) c.apart-right.ensures.same c.requires.back))
+    (subst (λ p. MayGiveBack g.V.Keeps p c.args.held) c.apart-right.ensures.same c.requires.back))
 
 pub returns-clause-owner : goal.returns-clause-owner
 returns-clause-owner g c =

@@ -27,11 +27,11 @@ pub returns-clause-gets : goal.returns-clause-gets
 returns-clause-gets g c = (
   c.sleep_on-waiter.ensures.went.0,
   c.sleep_on-waiter.ensures.went.1,
-  gets_as g.V.Keeps.keeps g.V.Keeps.grows g.V.Keeps.part _ _ _ _ c.args.held.key _
+  gets_as g.V.Keeps _ _ _ _ c.args.held.key _
       (sym (leaves_woken c.args.pass c.at_rest-pass.result c.apart-waiter.result.0 c.sleep_on-waiter.result.0 c.apart-waiter.result.1 c.given_back-right.result.0 c.sleep_on-waiter.result.1
       c.key-key.result c.args.held.key c.args.cond c.args.held.value
       c.sleep_on-waiter.ensures.went.0
       (c.at_rest-pass.ensures.pass ∙ ap (λ k. sees k c.sleep_on-waiter.result.1) c.new.ensures) c.sleep_on-waiter.ensures.woke c.given_back-right.ensures.lies c.sleep_on-waiter.ensures.went.2
       (ap (λ k. sees k c.given_back-right.result.0) (sym c.apart-waiter.ensures.same) ∙ c.given_back-right.ensures.same) c.key-key.ensures)) refl
-      (subst (λ k. Gets g.V.Keeps.keeps g.V.Keeps.grows g.V.Keeps.part c.at_rest-pass.result k c.lock.result.1 c.lock.result.0) c.key-key.ensures c.lock.ensures.gets),
+      (subst (λ k. Gets g.V.Keeps c.at_rest-pass.result k c.lock.result.1 c.lock.result.0) c.key-key.ensures c.lock.ensures.gets),
 )

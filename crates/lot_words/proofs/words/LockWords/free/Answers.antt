@@ -9,13 +9,12 @@ use Rattle.lot_words.proofs.words.LockWords.free.Goals as goal
 
 pub compare_exchange-pass-requires-clause-allows : goal.compare_exchange-pass-requires-clause-allows
 compare_exchange-pass-requires-clause-allows g c =
+    let start = c.self.inside.words.key in
     let key = c.args.key in
     let p = c.args.pass.pass in
     let here = subst (λ (z : LockWordsShown). key < z.size.locks) (sym c.self.view_is) c.requires.key in
-    pass_at_place (scheme g.V.Keeps.keeps g.V.Keeps.grows g.V.Keeps.part c.self.inside.words.key.size c.self.inside.words.key.values.value.items) (word_at key) _ c.word_of_key-word.ensures
-    (λ n. either (n == 1) 0 n) p (Frees p key)
-    (frees g.V.Keeps.keeps g.V.Keeps.grows g.V.Keeps.part c.self.inside.words.key.size c.self.inside.words.key.values.value.items g.V.Keeps.grows_itself g.V.Keeps.grows_on p key here
-    c.requires.holds.0 c.requires.holds.1 c.requires.holds.2 c.requires.lies.0 c.requires.lies.1)
+    pass_at_place (scheme g.V.Keeps start.size start.values.value.items) (word_at key) _ c.word_of_key-word.ensures (λ n. either (n == 1) 0 n) p (Frees p key)
+    (frees g.V.Keeps start.size start.values.value.items p key here c.requires.holds.0 c.requires.holds.1 c.requires.holds.2 c.requires.lies.0 c.requires.lies.1)
 
 pub returns-clause-event : goal.returns-clause-event
 returns-clause-event g c = c.compare_exchange-pass.ensures.told

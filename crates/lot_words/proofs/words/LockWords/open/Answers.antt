@@ -16,10 +16,10 @@ open-requires-clause-opens g c =
     let locks : size.locks ≡ c.len-locks.result = c.new-start.ensures.size.1 ∙ sym c.len-locks.ensures in
     let keep = subst (λ zs. (k : ℕ) (y : g.row.V.Denot) → slice_get zs k ≡ Some y → g.V.Keeps.keeps k y) (sym same) c.requires.keep in
     let long : size.locks ≡ length ys = omega (arith, c.new-start.ensures.size.1, c.args.values.ok, ap length same) in
-    let well = opens_well g.V.Keeps.keeps g.V.Keeps.grows g.V.Keeps.part g.V.Keeps.grows_itself size.threads (omega (arith, threads, c.requires.limits)) size.locks ys
+    let well = opens_well g.V.Keeps size.threads (omega (arith, threads, c.requires.limits)) size.locks ys
     (omega (arith, c.new-start.ensures.size.1, c.requires.limits)) long keep in
-    subst (λ ws. OpensWell (scheme g.V.Keeps.keeps g.V.Keeps.grows g.V.Keeps.part size ys) ws c.shelve.new.slots.items) (λ i. replicate (word_count (threads i) (0 + locks i)) 0)
-    (subst (OpensWell (scheme g.V.Keeps.keeps g.V.Keeps.grows g.V.Keeps.part size ys) (replicate (word_count size.threads (0 + size.locks)) 0))
+    subst (λ ws. OpensWell (scheme g.V.Keeps size ys) ws c.shelve.new.slots.items) (λ i. replicate (word_count (threads i) (0 + locks i)) 0)
+    (subst (OpensWell (scheme g.V.Keeps size ys) (replicate (word_count size.threads (0 + size.locks)) 0))
     (ap (map (λ (x : g.row.V.Denot). Some x)) same ∙ sym c.shelve.ensures.slots) well)
 
 pub unshelve-requires-clause-full : goal.unshelve-requires-clause-full

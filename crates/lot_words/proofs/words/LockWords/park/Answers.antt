@@ -11,10 +11,11 @@ use Rattle.lot_words.proofs.words.LockWords.park.Goals as goal
 
 pub load_both-pass-requires-clause-allows : goal.load_both-pass-requires-clause-allows
 load_both-pass-requires-clause-allows g c =
+    let start = c.self.inside.words.key in
     let p = c.args.pass.pass in
     let q = c.args.root.root in
-    both_at_place (scheme g.V.Keeps.keeps g.V.Keeps.grows g.V.Keeps.part c.self.inside.words.key.size c.self.inside.words.key.values.value.items) (word_at q.key) _ c.word-word.ensures.is
-    (λ n. n) p q (Parks p q) (parks g.V.Keeps.keeps g.V.Keeps.grows g.V.Keeps.part c.self.inside.words.key.size c.self.inside.words.key.values.value.items p q c.requires.calm.0 c.requires.calm.1)
+    both_at_place (scheme g.V.Keeps start.size start.values.value.items) (word_at q.key) _ c.word-word.ensures.is (λ n. n) p q (Parks p q)
+    (parks g.V.Keeps start.size start.values.value.items p q c.requires.calm.0 c.requires.calm.1)
 
 pub load_both-pass-requires-clause-names : goal.load_both-pass-requires-clause-names
 load_both-pass-requires-clause-names g c n p' q' told u h = park_names c.args.root.root.own q'.own c.args.pass.pass.thread u _ (ap (λ (z : RootView LockRootView). z.own) told.1) h

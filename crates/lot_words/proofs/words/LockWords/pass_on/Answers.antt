@@ -16,12 +16,11 @@ use Rattle.lot_words.proofs.words.LockWords.pass_on.Goals as goal
 
 pub load_both-pass-requires-clause-allows : goal.load_both-pass-requires-clause-allows
 load_both-pass-requires-clause-allows g c =
+    let start = c.self.inside.words.key in
     let p = c.args.pass.pass in
     let q = c.args.root.root in
-    both_at_place (scheme g.V.Keeps.keeps g.V.Keeps.grows g.V.Keeps.part c.self.inside.words.key.size c.self.inside.words.key.values.value.items) (word_at q.key) _ c.word-word.ensures.is
-    (λ n. n) p q (λ _. Passes p q q.own.line true c.args.more)
-    (loads g.V.Keeps.keeps g.V.Keeps.grows g.V.Keeps.part c.self.inside.words.key.size c.self.inside.words.key.values.value.items g.V.Keeps.grows_itself g.V.Keeps.grows_on p q
-    c.requires.holds.0 c.requires.holds.1 c.requires.holds.2 c.requires.lies.0 c.requires.lies.1 c.requires.first.1 c.args.more
+    both_at_place (scheme g.V.Keeps start.size start.values.value.items) (word_at q.key) _ c.word-word.ensures.is (λ n. n) p q (λ _. Passes p q q.own.line true c.args.more)
+    (loads g.V.Keeps start.size start.values.value.items p q c.requires.holds.0 c.requires.holds.1 c.requires.holds.2 c.requires.lies.0 c.requires.lies.1 c.requires.first.1 c.args.more
     (λ none_first. let e : true ≡ false = sym c.if-fair.true ∙ c.requires.fair (sym c.requires.first.0 ∙ none_first) in cc))
 
 pub load_both-pass-requires-clause-names : goal.load_both-pass-requires-clause-names
@@ -29,13 +28,13 @@ load_both-pass-requires-clause-names g c n p' q' told u h = inl (pass_names c.ar
 
 pub store_both-requires-clause-allows : goal.store_both-requires-clause-allows
 store_both-requires-clause-allows g c =
+    let start = c.self.inside.words.key in
     let p = c.args.pass.pass in
     let q = c.args.root.root in
-    both_at_place (scheme g.V.Keeps.keeps g.V.Keeps.grows g.V.Keeps.part c.self.inside.words.key.size c.self.inside.words.key.values.value.items) (word_at q.key) _ c.word-word.ensures.is
+    both_at_place (scheme g.V.Keeps start.size start.values.value.items) (word_at q.key) _ c.word-word.ensures.is
     (λ _. c.word_after-left.result) p q (λ _. Passes p q q.own.line false c.args.more)
-    (stores g.V.Keeps.keeps g.V.Keeps.grows g.V.Keeps.part c.self.inside.words.key.size c.self.inside.words.key.values.value.items g.V.Keeps.grows_itself g.V.Keeps.grows_on p q
-    c.requires.holds.0 c.requires.holds.1 c.requires.holds.2 c.requires.lies.0 c.requires.lies.1 c.requires.first.1 c.args.more (c.requires.more c.if-fair.false) c.word_after-left.result
-    (c.word_after-left.ensures ∙ ap (λ o. word_left o c.args.more) (sym c.requires.first.0)))
+    (stores g.V.Keeps start.size start.values.value.items p q c.requires.holds.0 c.requires.holds.1 c.requires.holds.2 c.requires.lies.0 c.requires.lies.1 c.requires.first.1 c.args.more
+    (c.requires.more c.if-fair.false) c.word_after-left.result (c.word_after-left.ensures ∙ ap (λ o. word_left o c.args.more) (sym c.requires.first.0)))
 
 pub store_both-requires-clause-names : goal.store_both-requires-clause-names
 store_both-requires-clause-names g c n p' q' told u h = inl (pass_names c.args.root.root.own q'.own false u (ap (λ (z : RootView LockRootView). z.own) told.1) h)

@@ -13,10 +13,10 @@ letter_of-letter-requires g c = inr (c.args.token, c.requires.owes)
 
 pub store_root-requires-clause-allows : goal.store_root-requires-clause-allows
 store_root-requires-clause-allows g c =
+    let start = c.self.inside.words.key in
     let q = c.args.root.root in
-    root_at_place (scheme g.V.Keeps.keeps g.V.Keeps.grows g.V.Keeps.part c.self.inside.words.key.size c.self.inside.words.key.values.value.items) (letter_at c.args.thread) _
-    c.letter_of-letter.ensures.is (λ _. c.args.token + 1) q (λ _. Pays q c.args.thread c.args.token)
-    (posts g.V.Keeps.keeps g.V.Keeps.grows g.V.Keeps.part c.self.inside.words.key.size c.self.inside.words.key.values.value.items q c.args.thread c.args.token c.requires.owes)
+    root_at_place (scheme g.V.Keeps start.size start.values.value.items) (letter_at c.args.thread) _ c.letter_of-letter.ensures.is (λ _. c.args.token + 1) q (λ _. Pays q c.args.thread c.args.token)
+    (posts g.V.Keeps start.size start.values.value.items q c.args.thread c.args.token c.requires.owes)
 
 pub store_root-requires-clause-names : goal.store_root-requires-clause-names
 store_root-requires-clause-names g c n q' told u h = post_names c.args.root.root.own q'.own u (ap (λ (z : RootView LockRootView). z.own) told.1) h

@@ -8,12 +8,12 @@ use Rattle.lot_words.proofs.words.LockWords.take.Goals as goal
 
 pub fetch_or-pass-requires-clause-allows : goal.fetch_or-pass-requires-clause-allows
 fetch_or-pass-requires-clause-allows g c =
+    let start = c.self.inside.words.key in
     let key = c.args.key in
     let p = c.args.pass.pass in
     let here = subst (λ (z : LockWordsShown). key < z.size.locks) (sym c.self.view_is) c.requires.key in
-    pass_at_place (scheme g.V.Keeps.keeps g.V.Keeps.grows g.V.Keeps.part c.self.inside.words.key.size c.self.inside.words.key.values.value.items) (word_at key) _ c.word_of_key.ensures
-    (λ n. bit_or n 1) p (Takes g.V.Keeps.keeps g.V.Keeps.grows g.V.Keeps.part p key)
-    (takes g.V.Keeps.keeps g.V.Keeps.grows g.V.Keeps.part c.self.inside.words.key.size c.self.inside.words.key.values.value.items g.V.Keeps.grows_itself p key here c.requires.calm.0 c.requires.calm.1)
+    pass_at_place (scheme g.V.Keeps start.size start.values.value.items) (word_at key) _ c.word_of_key.ensures (λ n. bit_or n 1) p (Takes g.V.Keeps p key)
+    (takes g.V.Keeps start.size start.values.value.items p key here c.requires.calm.0 c.requires.calm.1)
 
 pub returns-clause-event : goal.returns-clause-event
 returns-clause-event g c = c.fetch_or-pass.ensures.told
