@@ -87,7 +87,7 @@ impl BeforeSleep for AtOnce {
     fn run(&self) {}
 }
 
-/// Gets it, by a thread that is so far. It yields up to eight times for one try, and up to 40 times in one call. The first yields come
+/// Gets it, by a thread that is so far. It yields a few times for one look, and up to 40 times in one call. The first yields come
 /// before any look, since a look takes the word's line of the cache from its owner. Before each sleep it does what `before` says.
 #[inline(always)]
 pub fn get_or_park<S: Scheme, A: Sought, P: Part<S, A>, R: Wait, B: BeforeSleep>(
@@ -109,7 +109,7 @@ pub fn get_or_park<S: Scheme, A: Sought, P: Part<S, A>, R: Wait, B: BeforeSleep>
 {
     let mut pass = pass;
     let mut seeking = first;
-    let mut spins = Spins::none();
+    let mut spins = Spins::among(parking.size(rt));
     for _ in rt.forever() {
         let (next, now) = match seeking {
             Seeking::Got => return pass,
