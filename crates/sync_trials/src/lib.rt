@@ -9,6 +9,8 @@ mod asserts;
 #[cfg(test)]
 mod example;
 #[cfg(test)]
+mod permits;
+#[cfg(test)]
 mod rows;
 #[cfg(test)]
 mod schedules;

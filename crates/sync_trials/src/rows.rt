@@ -140,14 +140,14 @@ pub(crate) fn word<N: LotName<Count> + Send + Sync>(lot: &Lot<Count, N>, key: us
     u64::from(lot.is_held(key)) + 2 * u64::from(lot.is_parked(key))
 }
 
-/// Waits until so many are in the line of the lock or the condition, asking a bounded number of times, or the test fails.
+/// Waits until so many are in the line of the lock, the condition or the semaphore, asking a bounded number of times, or the test fails.
 pub(crate) fn await_line<N: LotName<Count> + Send + Sync, T: Wait + Abort>(
     rt: &T,
     lot: &Lot<Count, N>,
     key: usize,
     count: usize,
 )
-    requires { key < lot.now.locks + lot.now.conds }
+    requires { key < lot.now.locks + lot.now.conds + lot.now.sems }
 {
     for _ in 0..ASKINGS {
         if lot.line_length(rt, key) == count {

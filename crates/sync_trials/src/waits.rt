@@ -23,7 +23,7 @@ const COND: usize = 1;
 const LAST: usize = 13;
 
 /// `wait`, and what the test has of it.
-fn wait_once<N: LotName<Count> + Send + Sync, T: Wait>(
+pub(crate) fn wait_once<N: LotName<Count> + Send + Sync, T: Wait>(
     rt: &T,
     lot: &Lot<Count, N>,
     pass: Pass<Count, N>,
