@@ -2,6 +2,7 @@
 ghost use Rattle.std.specs.Prelude.{◌<◌};
 
 use lot_park::{ParkingLot, Scheme};
+use std::process::Abort;
 use std::sync::Wait;
 use std::sync::atomic::{AtomicU64, Ordering};
 use std::thread;
@@ -23,20 +24,20 @@ pub(crate) fn is_within(word: &AtomicU64, number: u64, askings: u64) -> bool {
     false
 }
 
-/// Whether the key's line is found to be so long.
-pub(crate) fn has_length_within<S: Scheme, W: Wait>(
-    rt: &W,
+/// Waits until so many are in the line of the key, or the test fails.
+pub(crate) fn await_line<S: Scheme, T: Wait + Abort>(
+    rt: &T,
     lot: &ParkingLot<S>,
     key: usize,
     length: usize,
-) -> bool
+)
     requires { key < lot.now.keys }
 {
     for _ in 0..ASKINGS {
         if lot.line_length(rt, key) == length {
-            return true;
+            return;
         }
         thread::yield_now();
     }
-    false
+    panic!(rt; "{length} never are in the line of {key}")
 }

@@ -2,9 +2,11 @@
 ghost use Rattle.std.specs.Prelude.{◌≡◌, ◌+◌, ◌≤◌, ◌++◌, length, take, drop};
 ghost use Rattle.lot_park.specs.Parking.{without_debt};
 
-use crate::askings::is_within;
+use crate::askings::{ASKINGS, QUIET_ASKINGS, is_within};
+use crate::asserts::is_so;
 use crate::rights::Right;
 use lot_park::{Parked, Scheme, Token, UnparkResult};
+use std::process::Abort;
 use std::sync::atomic::{AtomicU64, Ordering};
 use std::thread;
 
@@ -128,6 +130,24 @@ pub(crate) fn is_told_within(told: &Told, thread: usize, token: u32, askings: u6
         Some(word) => is_within(word, u64::from(token) + 1, askings),
         None => false,
     }
+}
+
+/// Waits until the thread was told this token, or the test fails.
+pub(crate) fn await_told(rt: &impl Abort, told: &Told, thread: usize, token: u32) {
+    is_so(
+        rt,
+        is_told_within(told, thread, token, ASKINGS),
+        "it is told",
+    );
+}
+
+/// The thread is not told this token, or the test fails.
+pub(crate) fn stays_untold(rt: &impl Abort, told: &Told, thread: usize, token: u32) {
+    is_so(
+        rt,
+        !is_told_within(told, thread, token, QUIET_ASKINGS),
+        "it sleeps on",
+    );
 }
 
 pub(crate) fn taken(thread: usize, more: bool) -> UnparkResult {

@@ -2,11 +2,11 @@
 ghost use Rattle.std.specs.Prelude.{◌≡◌, ◌<◌, []};
 ghost use Rattle.lot_bucket.specs.Queue.{first_of};
 
-use crate::askings::{ASKINGS, QUIET_ASKINGS, has_length_within};
+use crate::askings::{ASKINGS, QUIET_ASKINGS, await_line};
 use crate::asserts::{equal, is_so};
 use crate::letters::{
-    Letters, Pass, THREADS, Told, has_looked_within, is_told_within, no_letters, note,
-    nothing_told, taken,
+    Letters, Pass, THREADS, Told, await_told, has_looked_within, is_told_within, no_letters, note,
+    nothing_told, stays_untold, taken,
 };
 use crate::rights::{EARLY, Right, idle_rights, joined, passed, passed_all, passed_first};
 use lot_park::{Grown, Parked, ParkingLot, Token, UnparkResult};
@@ -164,7 +164,7 @@ fn unparks_a_sleeper<R: Threads + Wait + Abort + Sync>(
                 requires { (lot.now.threads ≡ THREADS) × (lot.now.keys ≡ KEYS) }
             { sleep(rt, lot, 1, 0, told) };
             is_so(rt, scope.spawn(sleeper).is_ok(), "it starts");
-            is_so(rt, has_length_within(rt, lot, 0, 1), "it is in its line");
+            await_line(rt, lot, 0, 1);
             is_so(
                 rt,
                 has_looked_within(lot.scheme(), 1, 1, ASKINGS),
@@ -176,7 +176,7 @@ fn unparks_a_sleeper<R: Threads + Wait + Abort + Sync>(
                 "it sleeps",
             );
             equal(rt, unpark(rt, lot, 0, 7), taken(1, false));
-            is_so(rt, is_told_within(told, 1, 7, ASKINGS), "it is told");
+            await_told(rt, told, 1, 7);
             is_so(
                 rt,
                 !has_looked_within(lot.scheme(), 1, 3, 1),
@@ -212,7 +212,7 @@ fn grows_under_a_sleeper<R: Threads + Wait + Abort + Sync>(
                 requires { (lot.now.threads ≡ THREADS) × (lot.now.keys ≡ KEYS) }
             { sleep(rt, lot, 2, 1, told) };
             is_so(rt, scope.spawn(sleeper).is_ok(), "it starts");
-            is_so(rt, has_length_within(rt, lot, 1, 1), "it is in its line");
+            await_line(rt, lot, 1, 1);
             match lot.ensure(rt, 2) {
                 Ok(grown) => assert_eq!(rt; grown, Grown::Grew(3, 12)),
                 Err(_refused) => panic!(rt; "memory"),
@@ -220,7 +220,7 @@ fn grows_under_a_sleeper<R: Threads + Wait + Abort + Sync>(
             equal(rt, lot.size(rt), 12);
             equal(rt, lot.line_length(rt, 1), 1);
             equal(rt, unpark(rt, lot, 1, 4), taken(2, false));
-            is_so(rt, is_told_within(told, 2, 4, ASKINGS), "it is told");
+            await_told(rt, told, 2, 4);
         },
     );
 }
@@ -251,23 +251,15 @@ fn unparks_one_of_two_keys<R: Threads + Wait + Abort + Sync>(
                 requires { (lot.now.threads ≡ THREADS) × (lot.now.keys ≡ KEYS) }
             { sleep(rt, lot, 1, 0, told) };
             is_so(rt, scope.spawn(first).is_ok(), "it starts");
-            is_so(rt, has_length_within(rt, lot, 0, 1), "it is in its line");
+            await_line(rt, lot, 0, 1);
             let second = move ||
                 requires { (lot.now.threads ≡ THREADS) × (lot.now.keys ≡ KEYS) }
             { sleep(rt, lot, 2, OTHER, told) };
             is_so(rt, scope.spawn(second).is_ok(), "it starts");
-            is_so(
-                rt,
-                has_length_within(rt, lot, OTHER, 1),
-                "it is in its line",
-            );
+            await_line(rt, lot, OTHER, 1);
             equal(rt, unpark(rt, lot, 0, 3), taken(1, true));
-            is_so(rt, is_told_within(told, 1, 3, ASKINGS), "it is told");
-            is_so(
-                rt,
-                !is_told_within(told, 2, 3, QUIET_ASKINGS),
-                "it sleeps on",
-            );
+            await_told(rt, told, 1, 3);
+            stays_untold(rt, told, 2, 3);
             equal(
                 rt,
                 (lot.line_length(rt, 0), lot.line_length(rt, OTHER)),
@@ -307,11 +299,11 @@ fn unparks_all_of_a_key<R: Threads + Wait + Abort + Sync>(
                 requires { (lot.now.threads ≡ THREADS) × (lot.now.keys ≡ KEYS) }
             { sleep(rt, lot, 2, 1, told) };
             is_so(rt, scope.spawn(second).is_ok(), "it starts");
-            is_so(rt, has_length_within(rt, lot, 1, 2), "it is in its line");
+            await_line(rt, lot, 1, 2);
             equal(rt, unpark_all(rt, lot, 0), 0);
             equal(rt, unpark_all(rt, lot, 1), 2);
-            is_so(rt, is_told_within(told, 0, 0, ASKINGS), "it is told");
-            is_so(rt, is_told_within(told, 2, 0, ASKINGS), "it is told");
+            await_told(rt, told, 0, 0);
+            await_told(rt, told, 2, 0);
             equal(rt, unpark_all(rt, lot, 1), 0);
         },
     );
@@ -343,21 +335,13 @@ fn unparks_the_first_of_three<R: Threads + Wait + Abort + Sync>(
                     requires { (lot.now.threads ≡ THREADS) × (lot.now.keys ≡ KEYS) × (thread < THREADS) }
                 { sleep(rt, lot, thread, 1, told) };
                 is_so(rt, scope.spawn(sleeper).is_ok(), "it starts");
-                is_so(
-                    rt,
-                    has_length_within(rt, lot, 1, thread + 1),
-                    "it is in its line",
-                );
+                await_line(rt, lot, 1, thread + 1);
             }
             equal(rt, unpark_first(rt, lot, 1, 0), (0, false));
             equal(rt, unpark_first(rt, lot, 1, 2), (2, true));
-            is_so(rt, is_told_within(told, 0, 0, ASKINGS), "it is told");
-            is_so(rt, is_told_within(told, 1, 0, ASKINGS), "it is told");
-            is_so(
-                rt,
-                !is_told_within(told, 2, 0, QUIET_ASKINGS),
-                "it sleeps on",
-            );
+            await_told(rt, told, 0, 0);
+            await_told(rt, told, 1, 0);
+            stays_untold(rt, told, 2, 0);
             equal(rt, unpark_first(rt, lot, 1, 5), (1, false));
             equal(rt, unpark_first(rt, lot, 1, 1), (0, false));
         },
@@ -449,7 +433,7 @@ fn looks_once_a_wake<R: Threads + Wait + Abort + Sync>(
             is_so(rt, is_told_within(told, 1, 5, 1), "a wake is no letter");
             equal(rt, lot.line_length(rt, 0), 1);
             equal(rt, unpark(rt, lot, 0, 2), taken(1, false));
-            is_so(rt, is_told_within(told, 1, 2, ASKINGS), "it is told");
+            await_told(rt, told, 1, 2);
             is_so(
                 rt,
                 !has_looked_within(lot.scheme(), 1, 5, 1),

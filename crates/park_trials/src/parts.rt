@@ -4,10 +4,10 @@ ghost use Rattle.lot_bucket.specs.Agrees.{IsRootOf};
 ghost use Rattle.lot_bucket.specs.Queue.{first_of};
 ghost use Rattle.lot_park.specs.Lots.{AreIdle};
 
-use crate::askings::{ASKINGS, QUIET_ASKINGS, has_length_within};
+use crate::askings::await_line;
 use crate::asserts::{equal, is_so};
 use crate::letters::{
-    Letters, Pass, THREADS, Told, is_told_within, no_letters, note, nothing_told,
+    Letters, Pass, THREADS, Told, await_told, no_letters, note, nothing_told, stays_untold,
 };
 use crate::rights::{EARLY, Right, idle_right, joined, passed, passed_all};
 use lot_park::parts::{
@@ -166,8 +166,8 @@ fn each_table_tells_its_own<R: Threads + Wait + Abort + Sync>(
                 requires { (lot.now.threads ≡ THREADS) × (lot.now.keys ≡ KEYS) }
             { sleep::<ThreeTables, TheThird, R>(rt, lot, 1, 2, told) };
             is_so(rt, scope.spawn(third).is_ok(), "it starts");
-            is_so(rt, has_length_within(rt, lot, 0, 1), "it is in its line");
-            is_so(rt, has_length_within(rt, lot, 2, 1), "it is in its line");
+            await_line(rt, lot, 0, 1);
+            await_line(rt, lot, 2, 1);
             equal(
                 rt,
                 unpark::<ThreeTables, TheSecond, R>(rt, lot, 1, 5).thread,
@@ -178,14 +178,10 @@ fn each_table_tells_its_own<R: Threads + Wait + Abort + Sync>(
                 unpark::<ThreeTables, TheThird, R>(rt, lot, 2, 6).thread,
                 Some(1),
             );
-            is_so(rt, is_told_within(told, 1, 6, ASKINGS), "it is told");
-            is_so(
-                rt,
-                !is_told_within(told, 0, 6, QUIET_ASKINGS),
-                "it sleeps on",
-            );
+            await_told(rt, told, 1, 6);
+            stays_untold(rt, told, 0, 6);
             equal(rt, unpark_line::<ThreeTables, TheFirst, R>(rt, lot, 0), 1);
-            is_so(rt, is_told_within(told, 0, 0, ASKINGS), "it is told");
+            await_told(rt, told, 0, 0);
         },
     );
 }
