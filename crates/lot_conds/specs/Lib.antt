@@ -1,6 +1,8 @@
-pub mod Calls
-pub mod Closing
-pub mod Headline
-pub mod Rule
-pub mod Shown
+-- condition words, in the order in which one reads
 pub mod World
+pub mod Rule
+pub mod Calls
+pub mod Headline
+pub mod Closing
+-- a part of these
+pub mod Shown

@@ -10,6 +10,7 @@ use lot_table::{Grown, Table, TableFault};
 use std::alloc::{AllocError, Global};
 use std::marker::Model;
 use std::sync::Wait;
+use std::sync::atomic::{AtomicUsize, Ordering};
 use thiserror::Error;
 
 /// Why a parking lot could not be made.
@@ -38,6 +39,8 @@ pub struct ParkingLot<S: Scheme> {
     scheme: S,
     table: Table<S::Root>,
     records: Vec<CachePadded<Record>>,
+    // How many threads are about, as the last growth was told.
+    about: AtomicUsize,
 }
 
 impl<S: Scheme> Model for ParkingLot<S> {
@@ -82,6 +85,7 @@ impl<S: Scheme> ParkingLot<S> {
                     scheme,
                     table,
                     records,
+                    about: AtomicUsize::new(0),
                 },
                 room,
             )),
@@ -314,7 +318,13 @@ impl<S: Scheme> ParkingLot<S> {
         requires { threads ≤ self.now.threads }
         ensures { IfOk result (λ g. Serves threads g) }
     {
+        self.about.store(threads, Ordering::SeqCst);
         self.table.ensure(rt, threads)
+    }
+
+    // How many threads are about, as far as the lot was told (`ensure`).
+    pub(crate) fn threads_about(&self) -> usize {
+        self.about.load(Ordering::SeqCst)
     }
 
     /// How many buckets there are; a moment later it may be more.
@@ -334,6 +344,7 @@ impl<S: Scheme> ParkingLot<S> {
             scheme,
             table,
             records: _,
+            about: _,
         } = self;
         table.close(rt, out);
         scheme

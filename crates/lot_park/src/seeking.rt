@@ -109,7 +109,7 @@ pub fn get_or_park<S: Scheme, A: Sought, P: Part<S, A>, R: Wait, B: BeforeSleep>
 {
     let mut pass = pass;
     let mut seeking = first;
-    let mut spins = Spins::among(parking.size(rt));
+    let mut spins = Spins::among(parking.threads_about());
     for _ in rt.forever() {
         let (next, now) = match seeking {
             Seeking::Got => return pass,

@@ -1,9 +1,11 @@
+-- lock words, in the order in which one reads
 pub mod CallersRule
-pub mod Calls
-pub mod Closing
-pub mod Headline
-pub mod Rule
-pub mod Shelf
-pub mod Shown
-pub mod Values
 pub mod World
+pub mod Values
+pub mod Rule
+pub mod Calls
+pub mod Headline
+pub mod Closing
+-- the parts that these are made of
+pub mod Shown
+pub mod Shelf
