@@ -2,6 +2,7 @@ pub mod Put
 pub mod Rows
 pub mod Sums
 pub mod Members
+pub mod Places
 pub mod Owners
 pub mod Permits
 pub mod Kept

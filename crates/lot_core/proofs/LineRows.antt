@@ -1,6 +1,6 @@
 -- The lines of a `Lines`, one by one.
 use Rattle.std.proofs.Common.{◌≡◌, ◌<◌, ◌+◌, ◌-◌, ◌++◌, ℕ, List, [], ◌∷◌, length, drop, get_or, map, refl, sym, ap, ◌∙◌, arith, subst, Global, inl, inr, option_to_list, deque_len, IsSome, IfSome}
-use Rattle.std.proofs.Common.{Bor, Option, Some, None, Decides}
+use Rattle.std.proofs.Common.{Bor, Option, Some, None, Decides, length-append}
 use Rattle.std.proofs.lemmas.List.{length-map, drop-drop}
 use Rattle.std.specs.declared.collections.VecDeque.{VecDeque}
 use Rattle.std.specs.Vec.{with_item}
@@ -15,7 +15,7 @@ use Rattle.lot_core.specs.Steps.{first}
 use Rattle.lot_core.specs.Rows.{row_from}
 use Rattle.lot_core.proofs.Put.{put_again, put_put, put_same}
 use Rattle.lot_core.specs.Lines.{line_of, HasKey, no_lines}
-use Rattle.lot_core.proofs.Rows.{row_from_before, row_from_past, told_item, told_write, told_none}
+use Rattle.lot_core.proofs.Rows.{row_from_before, row_from_past, told_item, told_write, told_none, none_more}
 
 -- the queue of a key is its line
 pub line_item : (s : Lines) (k : ℕ) (q : VecDeque ℕ Global) → HasKey s k → q ≡ get_or s.lines.items (k - s.low) q → line_of s k ≡ q.items
@@ -53,6 +53,17 @@ line_outside s k other =
 pub lines_empty : (s : Lines) → ((i : ℕ) → get_or (map (λ q. q.items) s.lines.items) i [] ≡ []) → line_of s ≡ no_lines
 unfolding line_of
 lines_empty s each = told_none (λ q. q.items) [] s.low s.lines.items each
+
+-- no queue yet, and one empty queue more
+pub none_begun : (qs : List (VecDeque ℕ Global)) → qs ≡ [] → (length qs ≡ 0) × ((i : ℕ) → get_or (map (λ q. q.items) qs) i [] ≡ [])
+none_begun qs is = (ap length is, (λ i. ap (λ (ps : List (VecDeque ℕ Global)). get_or (map (λ q. q.items) ps) i []) is))
+
+pub one_begun : (qs more : List (VecDeque ℕ Global)) (q : VecDeque ℕ Global) (n : ℕ) → more ≡ qs ++ q ∷ [] → q.items ≡ [] →
+    (length qs ≡ n) × ((i : ℕ) → get_or (map (λ q. q.items) qs) i [] ≡ []) → (length more ≡ n + 1) × ((i : ℕ) → get_or (map (λ q. q.items) more) i [] ≡ [])
+one_begun qs more q n is empty so = (
+  omega (arith, ap length is, length-append qs (q ∷ []), so.0),
+  (λ i. ap (λ (ps : List (VecDeque ℕ Global)). get_or (map (λ q. q.items) ps) i []) is ∙ none_more (λ q. q.items) [] qs q empty so.1 i),
+)
 
 -- the front of a queue is its first
 pub front_first : (q : VecDeque ℕ Global) (o : Option (Bor ℕ)) → (IsSome o ↔ (0 < deque_len q)) →

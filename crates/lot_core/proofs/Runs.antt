@@ -1,9 +1,11 @@
 -- One more event of a run.
-use Rattle.std.proofs.Common.{◌≡◌, ◌<◌, ◌+◌, ◌++◌, ℕ, List, [], ◌∷◌, length, get_or, take, refl, sym, ap, subst, ◌∙◌}
+use Rattle.std.proofs.Common.{◌≡◌, ◌<◌, ◌≤◌, ◌+◌, ◌++◌, ℕ, List, [], ◌∷◌, length, get_or, take, refl, sym, ap, subst, ◌∙◌}
 use Rattle.std.specs.Prelude.{slice_get, Some, Err}
-use Rattle.std.proofs.lemmas.List.{take_more}
+use Rattle.std.proofs.lemmas.List.{take_more, take_all}
+use Rattle.std.proofs.lemmas.Option.{slice_get-get_or}
 use Rattle.lot_core.specs.declared.events.Event.{Event}
 use Rattle.lot_core.specs.declared.state.CoreFault.{CoreFault}
+use Rattle.lot_core.specs.declared.state.CoreFault.TheVariants.{BadLimits, NoMemory, NotEnabled}
 use Rattle.lot_core.specs.World.{World}
 use Rattle.lot_core.specs.Steps.{Allowed, Run, after, after_all}
 use Rattle.lot_core.specs.State.{Answers, StopsAt}
@@ -37,3 +39,20 @@ pub so_stops : (s r q : World) (events : List Event) (i : ℕ) (e : Event) (faul
     Answers r e (Err fault) q → q ≡ r → StopsAt s events i fault q
 so_stops s r q events i e fault so is answers same =
     (so.run, same ∙ so.state, (e, is, subst (λ w. Answers w e (Err fault) q) (sym same) answers))
+
+-- an event that was refused changed nothing
+pub refused_same : (r q : World) (e : Event) (fault : CoreFault) → Answers r e (Err fault) q → q ≡ r
+refused_same r q e NotEnabled answers = answers.1
+refused_same r q e NoMemory answers = answers.2
+refused_same r q e BadLimits answers = absurd answers
+
+-- the event at place i that was refused
+pub so_refused : (s r q : World) (events : List Event) (i : ℕ) (d : Event) (fault : CoreFault) → IsSoFar s events i r → i < length events →
+    Answers r (get_or events i d) (Err fault) q → StopsAt s events i fault q
+so_refused s r q events i d fault so within answers =
+    so_stops s r q events i (get_or events i d) fault so (slice_get-get_or events i d within) answers (refused_same r q (get_or events i d) fault answers)
+
+-- all events
+pub so_all : (s r : World) (events : List Event) (i : ℕ) → IsSoFar s events i r → length events ≤ i → Run s events × (r ≡ after_all s events)
+so_all s r events i so past =
+    let all : take i events ≡ events = take_all i events past in (subst (λ xs. Run s xs) all so.run, so.state ∙ ap (after_all s) all)

@@ -2,7 +2,7 @@
 use Rattle.std.proofs.Common.{zero, suc, inl, inr, ◌≡◌, ◌≢◌, ◌<◌, ◌≤◌, ◌+◌, ◌-◌, ◌++◌, ℕ, Bool, false, List, [], ◌∷◌, length, get_or, map, set, take, replicate, refl, sym, ap, ◌∙◌, arith, subst}
 use Rattle.std.specs.Prelude.{sum, if◌then◌else◌}
 use Rattle.std.specs.List.{All}
-use Rattle.std.proofs.lemmas.List.{length-map, length-set, length-replicate, map-append, take_more}
+use Rattle.std.proofs.lemmas.List.{length-map, length-set, length-replicate, map-append, take_more, take_all}
 use Rattle.std.proofs.lemmas.Bool.{cases_lt, ne_eqb}
 use Rattle.std.proofs.lemmas.List.Elements.{All-push}
 use Rattle.lot_core.specs.declared.semaphores.Semaphore.{Semaphore}
@@ -164,6 +164,13 @@ one_new threads permits xs i m so within permits_are left unparked unused = reco
   unused = none_more (λ m. row 0 m.out.items) (λ t. 0) xs m (ap (row 0) unused ∙ row_none 0 threads) so.unused;
   wide = All-push (λ m. length m.out.items ≡ threads) xs m so.wide (ap length unused ∙ length-replicate threads 0);
 }
+
+-- all of them, and how many they are
+pub all_new : (threads : ℕ) (permits : List ℕ) (xs : List Semaphore) (i : ℕ) → AreNew threads (take i permits) xs → length permits ≤ i → AreNew threads permits xs
+all_new threads permits xs i so past = subst (λ ps. AreNew threads ps xs) (take_all i permits past) so
+
+pub new_count : (threads : ℕ) (permits : List ℕ) (xs : List Semaphore) → AreNew threads permits xs → length xs ≡ length permits
+new_count threads permits xs new = sym (length-map xs (λ m. m.permits)) ∙ ap length new.permits_are
 
 -- such semaphores stand for those of an opening state
 pub new_rows : (threads low : ℕ) (permits : List ℕ) (xs : List Semaphore) (line : ℕ → List ℕ) → AreNew threads permits xs → line ≡ no_lines →

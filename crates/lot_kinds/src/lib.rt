@@ -10,8 +10,7 @@
 //! | `Rights` | `Waiter` | `Seeker` |
 //! | `Room`, `ClosingRoom`, `settle` | the same of lot_waits | the same of lot_permits |
 //!
-//! The keys of semaphores follow those of conditions. A call on one of either reaches its table by the part `Conds` or `Sems` of a lot over
-//! `KindScheme`.
+//! The keys of semaphores follow those of conditions. A lot that keeps both tables names each as a part of its own.
 #![tactic(auto)]
 
 pub mod closing;
@@ -24,4 +23,4 @@ pub use closing::settle;
 pub use opening::OpenedKinds;
 pub use rights::Rights;
 pub use room::{ClosingRoom, Room};
-pub use tables::{AfterConds, Conds, KindRoot, KindScheme, Sems};
+pub use tables::{AfterConds, KindRoot, KindScheme};

@@ -1,5 +1,5 @@
 //! The tables of conditions and of semaphores, as one.
-use lot_park::parts::{Border, Both, EitherRoot, OfFirst, OfSecond, Whole};
+use lot_park::parts::{Border, Both, EitherRoot};
 use lot_permits::{PermitName, SemKeyRoot, SemScheme};
 use lot_waits::{CondKeyRoot, CondScheme};
 use std::marker::PhantomData;
@@ -18,9 +18,3 @@ pub type KindScheme<N> = Both<CondScheme<N>, SemScheme<N>, AfterConds<N>>;
 
 /// The root of a condition or of a semaphore.
 pub type KindRoot<N> = EitherRoot<CondKeyRoot<N>, SemKeyRoot<N>, AfterConds<N>>;
-
-/// The conditions, as a part of both.
-pub type Conds = OfFirst<Whole>;
-
-/// The semaphores, as a part of both.
-pub type Sems = OfSecond<Whole>;

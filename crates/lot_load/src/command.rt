@@ -37,11 +37,22 @@ fn text_of<T: Threads + Wait + Sync, F: Read + Drop>(
     words: &[&str],
     file: Option<F>,
 ) -> Result<String, Failure> {
-    match words {
-        ["replay", _] => match file {
+    if let ["replay", _] = words {
+        return match file {
             Some(file) => replay(alloc, file),
             None => Err(Failure::CannotReadFile),
-        },
+        };
+    }
+    drop(file);
+    text_of_run(rt, alloc, words)
+}
+
+fn text_of_run<T: Threads + Wait + Sync>(
+    rt: &T,
+    alloc: Global,
+    words: &[&str],
+) -> Result<String, Failure> {
+    match words {
         ["count", threads, locks, rounds, seed] => {
             let numbers = counting(threads, locks, rounds, seed);
             count(rt, alloc, &numbers.ok_or(Failure::BadCommandLine)?)

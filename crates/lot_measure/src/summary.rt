@@ -70,32 +70,34 @@ impl Summary {
         for word in words.iter() {
             write!(text, " {word}")?;
         }
-        match plan.job {
-            Job::Count(_) | Job::Relay(..) => {
-                writeln!(
-                    text,
-                    " sum={} rounds={} ns={}",
-                    self.sum, self.all, self.nanos
-                )?
-            }
-            Job::Share(_) => writeln!(
-                text,
-                " sum={} rounds={} ns={} least={} most={}",
-                self.sum, self.all, self.nanos, self.least, self.most
-            )?,
-            Job::Wait(..) => writeln!(
-                text,
-                " sum={} rounds={} ns={} p50={} p99={} p999={} most={}",
-                self.sum,
-                self.all,
-                self.nanos,
-                self.times.part(500),
-                self.times.part(990),
-                self.times.part(999),
-                self.times.most()
-            )?,
-            Job::Start => writeln!(text, " ns={}", self.life)?,
-        }
+        self.push_figures(&plan.job, &mut text)?;
         Ok(text)
+    }
+
+    fn push_figures(&self, job: &Job, text: &mut String) -> Result<(), Failure> {
+        if let Job::Start = job {
+            writeln!(text, " ns={}", self.life)?;
+            return Ok(());
+        }
+        let (sum, rounds, ns) = (self.sum, self.all, self.nanos);
+        write!(text, " sum={sum} rounds={rounds} ns={ns}")?;
+        match job {
+            Job::Share(_) => write!(text, " least={} most={}", self.least, self.most)?,
+            Job::Wait(..) => self.push_times(text)?,
+            _ => {}
+        }
+        writeln!(text)?;
+        Ok(())
+    }
+
+    fn push_times(&self, text: &mut String) -> Result<(), Failure> {
+        let (p50, p99, p999) = (
+            self.times.part(500),
+            self.times.part(990),
+            self.times.part(999),
+        );
+        let most = self.times.most();
+        write!(text, " p50={p50} p99={p99} p999={p999} most={most}")?;
+        Ok(())
     }
 }

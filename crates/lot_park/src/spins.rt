@@ -1,5 +1,5 @@
 //! How often a thread yields before it parks.
-ghost use Rattle.std.specs.Prelude.{◌≡◌, ◌<◌, ◌≤◌, ◌↔◌, ◌+◌, IsTrue};
+ghost use Rattle.std.specs.Prelude.{◌≡◌, ◌<◌, ◌≤◌, ◌↔◌, ◌+◌, min, IsTrue};
 ghost use Rattle.lot_park.specs.declared.spins.TheConstants.{MOST_SPINS, BEFORE_FIRST_LOOK, BEFORE_NEXT_LOOK, FEW_THREADS};
 
 use std::thread;
@@ -66,7 +66,7 @@ impl Spins {
         requires { self.old.made < MOST_SPINS }
         ensures more { self.old.made < self.new.made }
         ensures first { self.old.made ≡ 0 → self.new.made ≡ self.old.for_first_look }
-        ensures next { 0 < self.old.made → self.new.made ≤ self.old.made + self.old.for_next_look }
+        ensures next { 0 < self.old.made → self.new.made ≡ min MOST_SPINS (self.old.made + self.old.for_next_look) }
         ensures kept { (self.new.for_first_look ≡ self.old.for_first_look) × (self.new.for_next_look ≡ self.old.for_next_look) }
     {
         let yields = if self.has_begun() {

@@ -1,7 +1,7 @@
 //! The tables of a lot: the locks' first, and after it those of conditions and of semaphores.
 //!
-//! The lot's scheme and its roots are structs of their own, and not other names for those of `lot_park::parts`: whatever is checked of
-//! a lot spells out each type that lies in it, and so these are short.
+//! The lot's scheme, its roots and its parts are structs of their own, and not other names for those of `lot_park::parts`: whatever is
+//! checked of a lot spells out each type that lies in it and each part that a call names, and so these are short.
 ghost use Rattle.std.specs.Prelude.{◌≡◌, ◌<◌, ◌≤◌, length};
 ghost use Rattle.lot_kinds.specs.Opening.{kind_view};
 ghost use Rattle.lot_locks.specs.Standing.{lock_view};
@@ -11,41 +11,30 @@ ghost use Rattle.lot_park.specs.declared.parts.both.OneOf.TheVariants.{First, Se
 use crate::pass::LotName;
 use lot_kinds::{KindRoot, KindScheme};
 use lot_locks::{KeyRoot, LockScheme, NamedPass};
-use lot_park::parts::{Border, Both, EitherRoot, OfFirst, OfSecond, OneOf, Part, Whole};
+use lot_park::parts::{OneOf, Part};
 use lot_park::{Root, Scheme, Token};
-use lot_permits::{NamedSem, SemScheme};
-use lot_waits::{CondScheme, NamedCond};
+use lot_permits::{NamedSem, SemKeyRoot, SemScheme};
+use lot_waits::{CondKeyRoot, CondScheme, NamedCond};
 use lot_words::{Keeps, LockWords};
-use std::marker::{Model, PhantomData};
-use std::sync::Mutex;
+use std::marker::Model;
 
-/// The keys of locks end where those of conditions begin.
-pub struct AfterLocks<V, N> {
-    // A `Mutex` may be shared wherever its value may be sent, and so may this.
-    of: PhantomData<(Mutex<V>, N)>,
-}
-
-impl<V, N: LotName<V>> Border for AfterLocks<V, N> {
-    ghost border = { length N.values };
-}
-
-type Joined<V, N> = Both<LockScheme<V, N>, KindScheme<N>, AfterLocks<V, N>>;
-
-type JoinedRoot<V, N> = EitherRoot<KeyRoot<V, N>, KindRoot<N>, AfterLocks<V, N>>;
-
-type JoinedPass<V, N> = OneOf<NamedPass<V, N>, OneOf<NamedCond<N>, NamedSem<N>>>;
+/// The pass of any table.
+type LotPass<V, N> = OneOf<NamedPass<V, N>, OneOf<NamedCond<N>, NamedSem<N>>>;
 
 /// The root of a key of any table.
 pub(crate) struct LotRoot<V: Keeps + Send, N: LotName<V> + Send> {
-    joined: JoinedRoot<V, N>,
+    of: OneOf<KeyRoot<V, N>, OneOf<CondKeyRoot<N>, SemKeyRoot<N>>>,
 }
 
 impl<V: Keeps + Send, N: LotName<V> + Send> Model for LotRoot<V, N> {
-    ghost use Rattle.lot_sync.specs.Tables.{LotRootShown};
+    ghost use Rattle.std.specs.Prelude.{length};
+    ghost use Rattle.lot_sync.specs.Tables.{LotRootShown, IsInItsTable};
 
     ghost Value = { LotRootShown };
 
-    ghost view = { λ s. s.joined };
+    ghost view = { λ s. s.of };
+
+    ghost invariant = { λ s. IsInItsTable (length N.values) N.low s.of };
 }
 
 impl<V: Keeps + Send, N: LotName<V> + Send> Root for LotRoot<V, N> {
@@ -61,7 +50,7 @@ impl<V: Keeps + Send, N: LotName<V> + Send> LotRoot<V, N> {
         ensures { result ≡ First root }
     {
         LotRoot {
-            joined: EitherRoot::first(root),
+            of: OneOf::First(root),
         }
     }
 
@@ -71,7 +60,7 @@ impl<V: Keeps + Send, N: LotName<V> + Send> LotRoot<V, N> {
         ensures { result ≡ Second root }
     {
         LotRoot {
-            joined: EitherRoot::second(root),
+            of: OneOf::Second(root.into_one()),
         }
     }
 
@@ -80,14 +69,20 @@ impl<V: Keeps + Send, N: LotName<V> + Send> LotRoot<V, N> {
         ensures same { result ≡ self }
         ensures side { IsOnItsSide (length N.values) lock_view kind_view result }
     {
-        let LotRoot { joined } = self;
-        joined.into_one()
+        let LotRoot { of } = self;
+        match of {
+            OneOf::First(root) => OneOf::First(root),
+            OneOf::Second(OneOf::First(root)) => OneOf::Second(KindRoot::<N>::first(root)),
+            OneOf::Second(OneOf::Second(root)) => OneOf::Second(KindRoot::<N>::second(root)),
+        }
     }
 }
 
 /// All tables, as the parking lot sees them.
 pub(crate) struct LotScheme<V: Keeps + Send, N: LotName<V> + Send> {
-    joined: Joined<V, N>,
+    locks: LockScheme<V, N>,
+    conds: CondScheme<N>,
+    sems: SemScheme<N>,
 }
 
 impl<V: Keeps + Send, N: LotName<V> + Send> Model for LotScheme<V, N> {
@@ -95,7 +90,7 @@ impl<V: Keeps + Send, N: LotName<V> + Send> Model for LotScheme<V, N> {
 
     ghost Value = { LotSchemeShown };
 
-    ghost view = { λ s. s.joined };
+    ghost view = { λ s. record { first = s.locks; second = record { first = s.conds; second = s.sems } } };
 }
 
 impl<V: Keeps + Send, N: LotName<V> + Send> LotScheme<V, N> {
@@ -104,8 +99,11 @@ impl<V: Keeps + Send, N: LotName<V> + Send> LotScheme<V, N> {
         requires { words.table ≡ N.opening.locks }
         ensures { result ≡ record { first = words; second = kinds } }
     {
+        let (conds, sems) = kinds.apart();
         LotScheme {
-            joined: Both::new(LockScheme::new(words), kinds),
+            locks: LockScheme::new(words),
+            conds,
+            sems,
         }
     }
 
@@ -113,29 +111,29 @@ impl<V: Keeps + Send, N: LotName<V> + Send> LotScheme<V, N> {
     pub(crate) fn locks(&self) -> &LockScheme<V, N>
         ensures { result.now ≡ self.now.first }
     {
-        self.joined.first()
+        &self.locks
     }
 
     #[inline(always)]
     pub(crate) fn conds(&self) -> &CondScheme<N>
         ensures { result.now ≡ self.now.second.first }
     {
-        self.joined.second().first()
+        &self.conds
     }
 
     #[inline(always)]
     pub(crate) fn sems(&self) -> &SemScheme<N>
         ensures { result.now ≡ self.now.second.second }
     {
-        self.joined.second().second()
+        &self.sems
     }
 
     /// The schemes of the locks and of the kinds beside them again.
     pub(crate) fn apart(self) -> (LockScheme<V, N>, KindScheme<N>)
         ensures { (result.0 ≡ self.first) × (result.1 ≡ self.second) }
     {
-        let LotScheme { joined } = self;
-        joined.apart()
+        let LotScheme { locks, conds, sems } = self;
+        (locks, KindScheme::<N>::new(conds, sems))
     }
 }
 
@@ -144,76 +142,195 @@ impl<V: Keeps + Send, N: LotName<V> + Send> Scheme for LotScheme<V, N> {
 
     type Root = LotRoot<V, N>;
 
-    type Pass = JoinedPass<V, N>;
+    type Pass = LotPass<V, N>;
 
     ghost thread = { thread_of };
 
     ghost looked = { HasLooked V.Keeps };
 
-    fn thread_of(pass: &JoinedPass<V, N>) -> usize {
-        Joined::<V, N>::thread_of(pass)
+    fn thread_of(pass: &LotPass<V, N>) -> usize {
+        match pass {
+            OneOf::First(pass) => LockScheme::<V, N>::thread_of(pass),
+            OneOf::Second(OneOf::First(pass)) => CondScheme::<N>::thread_of(pass),
+            OneOf::Second(OneOf::Second(pass)) => SemScheme::<N>::thread_of(pass),
+        }
     }
 
     fn post(&self, root: LotRoot<V, N>, at: usize, token: Token) -> LotRoot<V, N> {
-        let LotRoot { joined } = root;
-        LotRoot {
-            joined: self.joined.post(joined, at, token),
+        let LotRoot { of } = root;
+        let of = match of {
+            OneOf::First(root) => OneOf::First(self.locks.post(root, at, token)),
+            OneOf::Second(OneOf::First(root)) => {
+                OneOf::Second(OneOf::First(self.conds.post(root, at, token)))
+            }
+            OneOf::Second(OneOf::Second(root)) => {
+                OneOf::Second(OneOf::Second(self.sems.post(root, at, token)))
+            }
+        };
+        LotRoot { of }
+    }
+
+    fn collect(&self, pass: LotPass<V, N>) -> (LotPass<V, N>, Option<Token>) {
+        match pass {
+            OneOf::First(pass) => {
+                let (pass, letter) = self.locks.collect(pass);
+                (OneOf::First(pass), letter)
+            }
+            OneOf::Second(OneOf::First(pass)) => {
+                let (pass, letter) = self.conds.collect(pass);
+                (OneOf::Second(OneOf::First(pass)), letter)
+            }
+            OneOf::Second(OneOf::Second(pass)) => {
+                let (pass, letter) = self.sems.collect(pass);
+                (OneOf::Second(OneOf::Second(pass)), letter)
+            }
         }
     }
-
-    fn collect(&self, pass: JoinedPass<V, N>) -> (JoinedPass<V, N>, Option<Token>) {
-        self.joined.collect(pass)
-    }
-}
-
-/// The part P of a lot's tables.
-pub(crate) struct InLot<P> {
-    part: PhantomData<P>,
-}
-
-impl<V: Keeps + Send, N: LotName<V> + Send, Z: Scheme, P: Part<Joined<V, N>, Z>> Part<
-    LotScheme<V, N>,
-    Z,
-> for InLot<P> {
-    ghost serves = { P.serves };
-
-    ghost whole_root = { P.whole_root };
-
-    ghost whole_pass = { P.whole_pass };
-
-    fn raise_root(root: Z::Root) -> LotRoot<V, N> {
-        LotRoot {
-            joined: P::raise_root(root),
-        }
-    }
-
-    fn lower_root(root: LotRoot<V, N>) -> Z::Root {
-        let LotRoot { joined } = root;
-        P::lower_root(joined)
-    }
-
-    fn raise_pass(pass: Z::Pass) -> JoinedPass<V, N> {
-        P::raise_pass(pass)
-    }
-
-    fn lower_pass(pass: JoinedPass<V, N>) -> Z::Pass {
-        P::lower_pass(pass)
-    }
-
-    ghost one_pass = { P.one_pass };
-
-    ghost same_view = { P.same_view };
-
-    ghost same_thread = { P.same_thread };
-
-    ghost same_looks = { P.same_looks };
 }
 
 /// The locks, as a part of the lot.
-pub(crate) type Locks = InLot<OfFirst<Whole>>;
+pub(crate) struct Locks;
+
+impl<V: Keeps + Send, N: LotName<V> + Send> Part<LotScheme<V, N>, LockScheme<V, N>> for Locks {
+    ghost use Rattle.std.specs.Prelude.{◌<◌, length, refl};
+    ghost use Rattle.lot_park.specs.declared.parts.both.OneOf.TheVariants.{First};
+    ghost use Rattle.lot_park.specs.Parts.{one_first};
+    ghost use Rattle.lot_sync.specs.Tables.{lock_looks};
+
+    ghost serves = { λ k. k < length N.values };
+
+    ghost whole_root = { λ r. First r };
+
+    ghost whole_pass = { λ p. First p };
+
+    fn raise_root(root: KeyRoot<V, N>) -> LotRoot<V, N> {
+        LotRoot {
+            of: OneOf::First(root),
+        }
+    }
+
+    fn lower_root(root: LotRoot<V, N>) -> KeyRoot<V, N> {
+        let LotRoot { of } = root;
+        match of {
+            OneOf::First(root) => root,
+            OneOf::Second(_other) => unreachable!(),
+        }
+    }
+
+    fn raise_pass(pass: NamedPass<V, N>) -> LotPass<V, N> {
+        OneOf::First(pass)
+    }
+
+    fn lower_pass(pass: LotPass<V, N>) -> NamedPass<V, N> {
+        match pass {
+            OneOf::First(pass) => pass,
+            OneOf::Second(_other) => unreachable!(),
+        }
+    }
+
+    ghost one_pass = { λ p q same. one_first p q same };
+
+    ghost same_view = { λ r. refl };
+
+    ghost same_thread = { λ p. refl };
+
+    ghost same_looks = { lock_looks V.Keeps };
+}
 
 /// The conditions, as a part of the lot.
-pub(crate) type Conds = InLot<OfSecond<lot_kinds::Conds>>;
+pub(crate) struct Conds;
+
+impl<V: Keeps + Send, N: LotName<V> + Send> Part<LotScheme<V, N>, CondScheme<N>> for Conds {
+    ghost use Rattle.std.specs.Prelude.{◌<◌, ◌≤◌, length, refl};
+    ghost use Rattle.lot_park.specs.declared.parts.both.OneOf.TheVariants.{First, Second};
+    ghost use Rattle.lot_park.specs.Parts.{one_first, one_second};
+    ghost use Rattle.lot_sync.specs.Tables.{cond_looks};
+
+    ghost serves = { λ k. (length N.values ≤ k) × (k < N.low) };
+
+    ghost whole_root = { λ r. Second (First r) };
+
+    ghost whole_pass = { λ p. Second (First p) };
+
+    fn raise_root(root: CondKeyRoot<N>) -> LotRoot<V, N> {
+        LotRoot {
+            of: OneOf::Second(OneOf::First(root)),
+        }
+    }
+
+    fn lower_root(root: LotRoot<V, N>) -> CondKeyRoot<N> {
+        let LotRoot { of } = root;
+        match of {
+            OneOf::Second(OneOf::First(root)) => root,
+            _other => unreachable!(),
+        }
+    }
+
+    fn raise_pass(pass: NamedCond<N>) -> LotPass<V, N> {
+        OneOf::Second(OneOf::First(pass))
+    }
+
+    fn lower_pass(pass: LotPass<V, N>) -> NamedCond<N> {
+        match pass {
+            OneOf::Second(OneOf::First(pass)) => pass,
+            _other => unreachable!(),
+        }
+    }
+
+    ghost one_pass = { λ p q same. one_first p q (one_second (First p) (First q) same) };
+
+    ghost same_view = { λ r. refl };
+
+    ghost same_thread = { λ p. refl };
+
+    ghost same_looks = { cond_looks V.Keeps };
+}
 
 /// The semaphores, as a part of the lot.
-pub(crate) type Sems = InLot<OfSecond<lot_kinds::Sems>>;
+pub(crate) struct Sems;
+
+impl<V: Keeps + Send, N: LotName<V> + Send> Part<LotScheme<V, N>, SemScheme<N>> for Sems {
+    ghost use Rattle.std.specs.Prelude.{◌≤◌, length, refl};
+    ghost use Rattle.lot_park.specs.declared.parts.both.OneOf.TheVariants.{Second};
+    ghost use Rattle.lot_park.specs.Parts.{one_second};
+    ghost use Rattle.lot_sync.specs.Tables.{sem_looks};
+
+    ghost serves = { λ k. (length N.values ≤ k) × (N.low ≤ k) };
+
+    ghost whole_root = { λ r. Second (Second r) };
+
+    ghost whole_pass = { λ p. Second (Second p) };
+
+    fn raise_root(root: SemKeyRoot<N>) -> LotRoot<V, N> {
+        LotRoot {
+            of: OneOf::Second(OneOf::Second(root)),
+        }
+    }
+
+    fn lower_root(root: LotRoot<V, N>) -> SemKeyRoot<N> {
+        let LotRoot { of } = root;
+        match of {
+            OneOf::Second(OneOf::Second(root)) => root,
+            _other => unreachable!(),
+        }
+    }
+
+    fn raise_pass(pass: NamedSem<N>) -> LotPass<V, N> {
+        OneOf::Second(OneOf::Second(pass))
+    }
+
+    fn lower_pass(pass: LotPass<V, N>) -> NamedSem<N> {
+        match pass {
+            OneOf::Second(OneOf::Second(pass)) => pass,
+            _other => unreachable!(),
+        }
+    }
+
+    ghost one_pass = { λ p q same. one_second p q (one_second (Second p) (Second q) same) };
+
+    ghost same_view = { λ r. refl };
+
+    ghost same_thread = { λ p. refl };
+
+    ghost same_looks = { sem_looks V.Keeps };
+}

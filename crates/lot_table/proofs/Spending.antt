@@ -1,5 +1,8 @@
 -- Buckets in which nothing is left.
-use Rattle.std.proofs.Common.{◌≡◌, ℕ, false, ap, ◌∙◌}
+use Rattle.std.proofs.Common.{◌≡◌, ℕ, ◌<◌, List, [], ◌∷◌, ◌++◌, Option, Some, length, get_or, false, ap, subst, ◌∙◌, arith, length-append}
+use Rattle.std.specs.Option.{option_to_list}
+use Rattle.std.proofs.Math.Seq.{get_or-append_seam}
+use Rattle.std.proofs.lemmas.List.{get_or_append_left}
 use Rattle.lot_bucket.specs.Places.{root_at}
 use Rattle.lot_bucket.specs.Contents.{Contents}
 use Rattle.lot_bucket.specs.KeyLine.{KeyLine}
@@ -26,3 +29,15 @@ module _ {R : Type 0} (view : R → KeyLine) where
         empty = ap (λ (x : Contents R). x.queue) is ∙ left.empty;
         rootless = λ k. ap (λ (x : Contents R). root_at k x.places) is ∙ left.rootless k;
       }
+
+module _ {X : Type 0} (P : ℕ → X → Type 0) (xs ys : List X) (r : Option X) where
+  -- what is said of each at its place is so of those that are left, where the last was taken out
+  pub all_left : xs ≡ ys ++ option_to_list r → ((i : ℕ) (d : X) → i < length xs → P i (get_or xs i d)) → (i : ℕ) (d : X) → i < length ys → P i (get_or ys i d)
+  all_left is all i d near =
+      subst (λ x. P i x) (ap (λ zs. get_or zs i d) is ∙ get_or_append_left ys (option_to_list r) d i near) (all i d (rw is (omega (arith, length-append ys (option_to_list r), near))))
+
+  -- and of the one that was taken out
+  pub last_out : (x : X) → xs ≡ ys ++ option_to_list r → r ≡ Some x → ((i : ℕ) (d : X) → i < length xs → P i (get_or xs i d)) → P (length ys) x
+  last_out x is some all =
+      let last = is ∙ ap (λ o. ys ++ option_to_list o) some in
+      subst (λ z. P (length ys) z) (ap (λ zs. get_or zs (length ys) x) last ∙ get_or-append_seam ys x [] x) (all (length ys) x (rw last (omega (arith, length-append ys (x ∷ [])))))

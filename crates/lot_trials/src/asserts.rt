@@ -1,8 +1,13 @@
-//! An assertion as a call: what `assert_eq!` writes at its place would be checked with all that the function around it knows.
+//! Assertions as calls: what a macro writes at its place would be checked with all that the function around it knows.
 use std::fmt::Debug;
 use std::process::Abort;
 
 /// What was found is what was wanted, or the test fails.
 pub(crate) fn equal<T: PartialEq + Debug + Copy>(rt: &impl Abort, found: T, wanted: T) {
     assert_eq!(rt; found, wanted);
+}
+
+/// A thread was started, or the test fails.
+pub(crate) fn started(rt: &impl Abort, is_started: bool) {
+    assert!(rt; is_started, "a thread could not be started");
 }

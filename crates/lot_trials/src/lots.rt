@@ -3,7 +3,7 @@ ghost use Rattle.std.specs.Prelude.{◌≡◌, ℕ, ◌≤◌, ◌<◌, length, 
 ghost use Rattle.lot_sync.specs.Lot.{OwnsNone};
 ghost use Rattle.lot_sync.specs.Opened.{IsNamed};
 
-use crate::asserts::equal;
+use crate::asserts::{equal, started};
 use lot_sync::{Lot, LotName, Moment, OpenFault, Opened, Pass, RegisterFault, Released};
 use lot_words::Keeps;
 use std::alloc::Global;
@@ -199,6 +199,24 @@ fn register_beside<N: LotName<Number> + Send + Sync, T: Wait + Abort>(
     lot.leave(rt, pass);
 }
 
+/// Two more have registered: the table is large enough, and no pass is left. They may go.
+fn both_have_come<N: LotName<Number> + Send + Sync, T: Wait + Abort>(
+    rt: &T,
+    lot: &Lot<Number, N>,
+    shared: &Shared,
+)
+    requires { 0 < lot.now.locks }
+{
+    assert!(rt; comes_to(&shared.come, 2));
+    let size = lot.table_size(rt);
+    assert!(rt; size == 30 || size == 36, "the size is {size}");
+    match lot.register(rt) {
+        Ok(_) => panic!(rt; "a seventh pass"),
+        Err(fault) => assert_eq!(rt; fault, RegisterFault::Full),
+    }
+    shared.go.store(1, Ordering::SeqCst);
+}
+
 /// Four threads have registered, and then two at once: whichever lets the table grow, it is large enough, and no pass is left.
 fn two_at_once<N: LotName<Number> + Send + Sync, T: Threads + Wait + Sync + Abort>(
     rt: &T,
@@ -221,19 +239,12 @@ fn two_at_once<N: LotName<Number> + Send + Sync, T: Threads + Wait + Sync + Abor
             let fifth = move ||
                 requires { 0 < lot.now.locks }
             { register_beside(rt, lot, shared) };
-            assert!(rt; scope.spawn(fifth).is_ok());
+            started(rt, scope.spawn(fifth).is_ok());
             let sixth = move ||
                 requires { 0 < lot.now.locks }
             { register_beside(rt, lot, shared) };
-            assert!(rt; scope.spawn(sixth).is_ok());
-            assert!(rt; comes_to(&shared.come, 2));
-            let size = lot.table_size(rt);
-            assert!(rt; size == 30 || size == 36, "the size is {size}");
-            match lot.register(rt) {
-                Ok(_) => panic!(rt; "a seventh pass"),
-                Err(fault) => assert_eq!(rt; fault, RegisterFault::Full),
-            }
-            shared.go.store(1, Ordering::SeqCst);
+            started(rt, scope.spawn(sixth).is_ok());
+            both_have_come(rt, lot, shared);
             lot.leave(rt, zero);
             lot.leave(rt, one);
             lot.leave(rt, two);

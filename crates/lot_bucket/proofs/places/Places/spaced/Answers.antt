@@ -1,5 +1,6 @@
-use Rattle.std.proofs.Common.{arith, ℕ, List, Option, map, sym, subst}
-use Rattle.lot_bucket.specs.Places.{AreEven, LieFirst}
+use Rattle.std.proofs.Common.{◌≡◌, ◌-◌, arith, ℕ, List, Option, map, sym, subst}
+use Rattle.std.proofs.lemmas.Nat.{mul-le}
+use Rattle.lot_bucket.specs.Places.{empty_places, spaced, AreEven, LieFirst}
 use Rattle.lot_bucket.proofs.Slots.{slot_more, even_spaced, first_spaced}
 use Rattle.lot_bucket.proofs.places.Places.spaced.Goals as goal
 
@@ -17,3 +18,13 @@ invariant_of-result g c =
           (even_spaced g.row.R.Denot c.args.first c.args.step c.loop-place.place)),
       subst (λ (ps : List (ℕ × Option g.row.R.Denot)). LieFirst ps) made (first_spaced g.row.R.Denot c.args.first c.args.step c.loop-place.place),
     )
+
+pub overflow_mul-place : goal.overflow_mul-place
+overflow_mul-place g c = omega (arith, mul-le c.loop-place.place c.args.step (c.args.count - 1) c.args.step (omega arith) (omega arith), c.requires)
+
+pub overflow_add-first : goal.overflow_add-first
+overflow_add-first g c = omega (arith, mul-le c.loop-place.place c.args.step (c.args.count - 1) c.args.step (omega arith) (omega arith), c.requires)
+
+pub returns : goal.returns
+returns g c =
+    subst (λ n. c.loop-place.slots.items ≡ empty_places (spaced c.args.first c.args.step n)) (omega arith) c.loop-place.invariant.made

@@ -1,6 +1,8 @@
 use Rattle.std.proofs.Common.{◌≡◌, ◌≢◌, ℕ, ◌<◌, ◌≤◌, List, slice_index_or, length, refl, ap, arith}
+use Rattle.std.proofs.lemmas.List.Edits.{length-remove}
+use Rattle.lot_bucket.specs.Links.{Row}
 use Rattle.lot_bucket.specs.Waiting.{Waiting, lying_at}
-use Rattle.lot_bucket.proofs.Lines.{passed_on, room_for_one, one_taken, none_to_pass}
+use Rattle.lot_bucket.proofs.Lines.{passed_on, room_for_one, one_taken, none_to_take, none_to_pass}
 use Rattle.lot_bucket.proofs.Lying.{length_is, reads, lying_at-remove}
 use Rattle.lot_bucket.proofs.queue.Queue.take_count.Goals.{After-index}
 use Rattle.lot_bucket.proofs.queue.Queue.take_count.Goals as goal
@@ -60,9 +62,42 @@ loop-taken-preserved c =
       taking = rw c.past-cursor.ensures.one (passed_on _ _ _ _ c.loop-taken.out i _ (0, 0) c.loop-taken-test.true (within at) key c.loop-taken.invariant.taking);
     }
 
-pub returns-else-cursor-len-clause-left : goal.returns-else-cursor-len-clause-left
-returns-else-cursor-len-clause-left c =
+pub returns-else-cursor-len : goal.returns-else-cursor-len
+returns-else-cursor-len c =
     let fields = c.loop-taken.self-inside in
-    let over : length (lying_at fields.pairs.items fields.links.used) ≤ c.loop-taken.cursor.passed = omega (arith, length_is fields _ refl) in
-    let done = none_to_pass _ _ _ _ c.loop-taken.out c.loop-taken.cursor.passed c.loop-taken.taken over c.loop-taken.invariant.taking in
-    rw (c.loop-taken.invariant.room, done.left) refl
+    let queue = lying_at fields.pairs.items fields.links.used in
+    let over : length queue ≤ c.loop-taken.cursor.passed = omega (arith, length_is fields queue refl, c.len.ensures.count, c.if-cursor-len.false) in
+    let done = none_to_pass c.args.key c.args.count c.args.self.now.pairs queue c.loop-taken.out c.loop-taken.cursor.passed c.loop-taken.taken over c.loop-taken.invariant.taking in
+    record { taken = done.number; line = done.line; left = rw (c.loop-taken.invariant.room, done.left) refl }
+
+pub place-requires : goal.place-requires
+place-requires c = record { stands = c.loop-taken.invariant.stands; more = rw (← c.len.ensures.count) c.if-cursor-len.true }
+
+pub index-requires : goal.index-requires
+index-requires c = rw (c.loop-taken.self-inside.pairs.ok.0, c.loop-taken.invariant.size) c.place.ensures.place
+
+pub remove-requires : goal.remove-requires
+remove-requires c = record { stands = c.loop-taken.invariant.stands; more = rw (← c.len.ensures.count) c.if-cursor-len.true }
+
+pub past-cursor-requires : goal.past-cursor-requires
+past-cursor-requires c = record { stands = c.loop-taken.invariant.stands; more = rw (← c.len.ensures.count) c.if-cursor-len.true }
+
+pub invariant_of-self : goal.invariant_of-self
+invariant_of-self c = c.loop-taken.invariant.size
+
+pub invariant_of-self-in-loop-taken : goal.invariant_of-self-in-loop-taken
+invariant_of-self-in-loop-taken c = c.loop-taken.invariant.size
+
+pub returns-after-loop-taken : goal.returns-after-loop-taken
+returns-after-loop-taken c =
+    let fields = c.loop-taken.self-inside in
+    let queue = lying_at fields.pairs.items fields.links.used in
+    let done =
+        none_to_take c.args.key c.args.count c.args.self.now.pairs queue c.loop-taken.out c.loop-taken.cursor.passed c.loop-taken.taken c.loop-taken-test.false
+        c.loop-taken.invariant.taking in
+    record { taken = done.number; line = done.line; left = rw (c.loop-taken.invariant.room, done.left) refl }
+
+pub loop-taken-smaller-then-waits_on-key : goal.loop-taken-smaller-then-waits_on-key
+loop-taken-smaller-then-waits_on-key c =
+    let more : c.loop-taken.cursor.passed < length c.loop-taken.self-inside.links.used = rw (← c.len.ensures.count) c.if-cursor-len.true in
+    omega (arith, more, ap (λ (row : Row). length row.used) c.remove.ensures.left, length-remove c.loop-taken.self-inside.links.used c.loop-taken.cursor.passed more)

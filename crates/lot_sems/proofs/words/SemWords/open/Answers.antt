@@ -1,6 +1,9 @@
-use Rattle.std.proofs.Common.{◌≡◌, ◌+◌, ℕ, [], length, replicate, sym, ap, subst, ◌∙◌, arith}
+use Rattle.std.proofs.Common.{◌≡◌, ◌+◌, ◌<◌, ℕ, [], length, replicate, slice_get, Some, sym, ap, subst, ◌∙◌, arith}
+use Rattle.std.specs.Vec.{vec_len}
+use Rattle.atomic_table.specs.Table.{opening}
 use Rattle.lot_rights.specs.Layout.{word_count}
-use Rattle.lot_rights.specs.Start.{OpensWell}
+use Rattle.lot_rights.specs.Rule.{Ruled}
+use Rattle.lot_rights.specs.Start.{OpensWell, all_rights, pass_at, root_at}
 use Rattle.lot_sems.specs.World.{Numbers, numbers}
 use Rattle.lot_sems.specs.Opening.{opening_words, with_permits}
 use Rattle.lot_sems.specs.Rule.{scheme}
@@ -29,3 +32,38 @@ open_with-requires-clause-opens c =
     let well = opens_well size (λ i h. c.fill.ensures.small i (omega arith)) in
     subst (OpensWell (scheme (numbers c.new-start.result)) c.as_slice.result.now) (sym c.new.ensures.items)
     (subst (λ ws. OpensWell (scheme (numbers c.new-start.result)) ws []) (sym (c.as_slice.ensures.value ∙ words)) (subst (λ z. OpensWell (scheme z) (opening_words size) []) (sym start) well))
+
+pub returns-in-Ok-open_with-clause-size : goal.returns-in-Ok-open_with-clause-size
+returns-in-Ok-open_with-clause-size c =
+    ap numbers c.in-Ok-open_with.ensures.table.2
+    ∙ (λ i. record { threads = c.new-start.ensures.size.0 i; low = c.new-start.ensures.size.1 i; permits = (c.new-start.ensures.permits i).items })
+
+pub returns-in-Ok-open_with-clause-passes : goal.returns-in-Ok-open_with-clause-passes
+returns-in-Ok-open_with-clause-passes c =
+    subst (λ z. (vec_len c.in-Ok-open_with.passes ≡ c.args.threads) × ((t : ℕ) → t < c.args.threads
+    → slice_get c.in-Ok-open_with.passes.items t ≡ Some (pass_at (scheme z) c.in-Ok-open_with.words.table t)))
+    (sym (ap numbers c.in-Ok-open_with.ensures.table.2)) c.in-Ok-open_with.ensures.passes
+
+pub returns-in-Ok-open_with-clause-roots : goal.returns-in-Ok-open_with-clause-roots
+returns-in-Ok-open_with-clause-roots c =
+    let start = sym (ap numbers c.in-Ok-open_with.ensures.table.2) in
+    subst (λ n. (vec_len c.in-Ok-open_with.roots ≡ n) × ((i : ℕ) → i < n
+    → slice_get c.in-Ok-open_with.roots.items i ≡ Some (root_at (scheme (numbers c.in-Ok-open_with.words.key)) c.in-Ok-open_with.words.table (c.args.low + i)))) c.len-keys.ensures
+    (subst (λ z. (vec_len c.in-Ok-open_with.roots ≡ c.len-keys.result) × ((i : ℕ) → i < c.len-keys.result
+    → slice_get c.in-Ok-open_with.roots.items i ≡ Some (root_at (scheme z) c.in-Ok-open_with.words.table (c.args.low + i)))) start c.in-Ok-open_with.ensures.roots)
+
+pub returns-in-Ok-open_with-clause-rule : goal.returns-in-Ok-open_with-clause-rule
+returns-in-Ok-open_with-clause-rule c =
+    let threads = c.args.threads in
+    let low = c.args.low in
+    let permits = c.args.permits.items in
+    let size : Numbers = record { threads = threads; low = low; permits = permits } in
+    let now : Numbers = numbers c.in-Ok-open_with.words.key in
+    let len : c.args.permits.len ≡ length permits = c.args.permits.ok.0 in
+    let zeros : c.in-Ok.words.items ≡ replicate (word_count threads (low + length permits)) 0 =
+    c.in-Ok.ensures.items_if_clones_equal (λ y h. h) ∙ ap (λ n. replicate n 0) (c.words_for.ensures ∙ ap (λ m. word_count threads (low + m)) (c.len-keys.ensures ∙ len)) in
+    let words : c.fill.new.words.items ≡ opening_words size = c.fill.ensures.words ∙ (λ i. with_permits (zeros i) low permits (len i)) in
+    let same : now ≡ size = ap numbers c.in-Ok-open_with.ensures.table.2
+    ∙ (λ i. record { threads = c.new-start.ensures.size.0 i; low = c.new-start.ensures.size.1 i; permits = (c.new-start.ensures.permits i).items }) in
+    subst (λ ws. Ruled (scheme now) (opening ws [] (all_rights (scheme now)))) (c.as_slice.ensures.value ∙ (words ∙ sym (ap opening_words same)))
+    (subst (λ slots. Ruled (scheme now) (opening c.as_slice.result.now slots (all_rights (scheme now)))) c.new.ensures.items c.in-Ok-open_with.ensures.rule)

@@ -1,2 +1,0 @@
-pub mod OneLock
-pub mod Waits

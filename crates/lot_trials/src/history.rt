@@ -1,0 +1,227 @@
+//! The history that the passes of two threads leave behind a real lock.
+ghost use Rattle.std.specs.Prelude.{◌≡◌, ◌<◌, ℕ, length, vec_len};
+ghost use Rattle.lot_sync.specs.Lot.{OwnsNone, IsWide, HasSeen};
+ghost use Rattle.lot_sync.specs.Opened.{IsNamed};
+ghost use Rattle.lot_journal.specs.Journal.{JournalView};
+ghost use Rattle.lot_load.specs.Counters.{AllLegal, IsThere};
+ghost use Rattle.lot_load.specs.declared.counter.Add.{Add};
+ghost use Rattle.lot_load.specs.declared.counter.Counter.{Counter};
+ghost use Rattle.lot_trials.specs.Theres.{IsCountedOnce};
+
+use lot_journal::{Entry, Journal};
+use lot_load::count::{Counting, Counts, add_one, go_round, new_journals};
+use lot_load::counter::{Add, Counter};
+use lot_load::gate::OpenGate;
+use lot_load::workers::close;
+use lot_sync::{Lot, LotName, Moment, Opened, Pass};
+use std::alloc::Global;
+use std::marker::Brand;
+use std::process::Abort;
+use std::sync::Wait;
+
+/// What the test looks for in a value, and what a value tells of a thread that was counted in it.
+trait Tells: Counts {
+    ghost use Rattle.std.specs.Prelude.{ℕ};
+    ghost use Rattle.lot_trials.specs.Theres.{IsCountedOnce};
+
+    /// What the value of now tells of a thread that was counted once since the value that it had seen.
+    ghost is_there: { ℕ → Self → Self → Type 0 };
+
+    /// Whether thread 0 and then thread 1 were counted, and nobody else.
+    fn has_both(&self) -> bool;
+
+    ghost there_once_counted: { (thread : ℕ) (seen now : Self) → IsCountedOnce Self.grows Self.part Self.is_counted thread seen now → is_there thread seen now };
+}
+
+impl Tells for Journal<Counter> {
+    ghost use Rattle.lot_load.specs.Counters.{IsThere};
+
+    /// The call of the thread is in the history, after all that the thread had seen, once.
+    ghost is_there = { λ thread seen now. IsThere thread (record { 0 = 1 }) seen now };
+
+    fn has_both(&self) -> bool {
+        let history = [entry(0, 1), entry(1, 2)];
+        self.history() == history.as_slice()
+    }
+
+    ghost use Rattle.lot_trials.specs.Theres.{counted_is_there};
+
+    ghost there_once_counted = { counted_is_there };
+}
+
+/// The thread called `Add(1)`, and was replied this total.
+fn entry(thread: usize, total: u64) -> Entry<Add, u64> {
+    Entry {
+        thread,
+        call: Add(1),
+        reply: total,
+    }
+}
+
+/// A pass that owns no lock.
+fn enter<V: Tells + Send, N: LotName<V> + Send + Sync, T: Wait + Abort>(
+    rt: &T,
+    lot: &Lot<V, N>,
+) -> Pass<V, N>
+    ensures { OwnsNone result }
+{
+    match lot.register(rt) {
+        Ok(pass) => pass,
+        Err(_) => panic!(rt; "no pass is in"),
+    }
+}
+
+/// Locks lock 0, adds one and unlocks.
+fn add<V: Tells + Send, N: LotName<V> + Send + Sync, T: Wait + Abort>(
+    rt: &T,
+    lot: &Lot<V, N>,
+    pass: Pass<V, N>,
+) -> Pass<V, N>
+    requires sizes { (lot.now.threads ≡ 2) × (lot.now.locks ≡ 1) }
+    requires free { OwnsNone pass }
+    ensures { OwnsNone result }
+{
+    let counting = Counting {
+        threads: 2,
+        locks: 1,
+        rounds: 1,
+        seed: 0,
+    };
+    let (pass, called) = go_round(rt, lot, &OpenGate, &counting, 0, 0, pass);
+    assert!(rt; called);
+    pass
+}
+
+/// Locks lock 0, finds the calls of both threads, and unlocks.
+fn find_history<V: Tells + Send, N: LotName<V> + Send + Sync, T: Wait + Abort>(
+    rt: &T,
+    lot: &Lot<V, N>,
+    pass: Pass<V, N>,
+) -> Pass<V, N>
+    requires key { 0 < lot.now.locks }
+    requires free { OwnsNone pass }
+    ensures { OwnsNone result }
+{
+    let (pass, held) = lot.lock(rt, pass, 0);
+    assert!(rt; held.value().has_both());
+    let (pass, _) = lot.unlock(rt, pass, held, Moment { now: 0, word: 0 });
+    pass
+}
+
+/// Locks lock 0, adds one and unlocks: the call is there, behind all that was seen.
+fn call_once<V: Tells + Send, N: LotName<V> + Send + Sync, T: Wait + Abort>(
+    rt: &T,
+    lot: &Lot<V, N>,
+    pass: Pass<V, N>,
+) -> Pass<V, N>
+    requires key { 0 < lot.now.locks }
+    requires free { OwnsNone pass }
+    ensures same { result.thread ≡ pass.thread }
+    ensures free { OwnsNone result }
+    ensures wide { IsWide lot.now result }
+    ensures there { (seen now : V) → HasSeen pass 0 seen → HasSeen result 0 now → IsCountedOnce V.grows V.part V.is_counted pass.thread seen now }
+{
+    let thread = pass.thread();
+    let (pass, mut held) = lot.lock(rt, pass, 0);
+    let called = add_one(&mut held, thread);
+    if called {
+        let (pass, _) = lot.unlock(rt, pass, held, Moment { now: 0, word: 0 });
+        pass
+    } else {
+        panic!(rt; "no memory for a call")
+    }
+}
+
+/// Locks lock 0 and unlocks: what the pass sees has gone on from what it had seen, without a call of its own.
+fn look<V: Tells + Send, N: LotName<V> + Send + Sync, T: Wait>(
+    rt: &T,
+    lot: &Lot<V, N>,
+    pass: Pass<V, N>,
+) -> Pass<V, N>
+    requires key { 0 < lot.now.locks }
+    requires free { OwnsNone pass }
+    ensures free { OwnsNone result }
+    ensures on { (seen now : V) → HasSeen pass 0 seen → HasSeen result 0 now → V.grows seen now × (V.part pass.thread seen ≡ V.part pass.thread now) }
+{
+    let (pass, held) = lot.lock(rt, pass, 0);
+    let (pass, _) = lot.unlock(rt, pass, held, Moment { now: 0, word: 0 });
+    pass
+}
+
+/// The thread calls once, another may come between, and the thread looks: its call is in the history, after all that it had seen, once.
+fn call_and_look<V: Tells + Send, N: LotName<V> + Send + Sync, T: Wait + Abort>(
+    rt: &T,
+    lot: &Lot<V, N>,
+    pass: Pass<V, N>,
+    other: Pass<V, N>,
+) -> (Pass<V, N>, Pass<V, N>)
+    requires key { 0 < lot.now.locks }
+    requires free { OwnsNone pass × OwnsNone other }
+    ensures free { OwnsNone result.0 × OwnsNone result.1 }
+    ensures there { (seen now : V) → HasSeen pass 0 seen → HasSeen result.0 0 now → V.is_there pass.thread seen now }
+{
+    let pass = call_once(rt, lot, pass);
+    let other = call_once(rt, lot, other);
+    (look(rt, lot, pass), other)
+}
+
+/// The same of a lot of journals.
+fn call_and_look_in_journal<N: LotName<Journal<Counter>> + Send + Sync, T: Wait + Abort>(
+    rt: &T,
+    lot: &Lot<Journal<Counter>, N>,
+    pass: Pass<Journal<Counter>, N>,
+    other: Pass<Journal<Counter>, N>,
+) -> (Pass<Journal<Counter>, N>, Pass<Journal<Counter>, N>)
+    requires key { 0 < lot.now.locks }
+    requires free { OwnsNone pass × OwnsNone other }
+    ensures free { OwnsNone result.0 × OwnsNone result.1 }
+    ensures there { (seen now : JournalView Counter Add ℕ) → HasSeen pass 0 seen → HasSeen result.0 0 now → IsThere pass.thread (record { 0 = 1 }) seen now }
+{
+    call_and_look::<Journal<Counter>, N, T>(rt, lot, pass, other)
+}
+
+fn add_in_turn<N: LotName<Journal<Counter>> + Send + Sync, T: Wait + Abort>(
+    rt: &T,
+    alloc: Global,
+    opened: Opened<Journal<Counter>>,
+) -> Vec<Journal<Counter>>
+    requires named { IsNamed (record { opening = N.opening; threads = N.threads; values = N.values; locks = N.locks; conds = N.conds; low = N.low; permits = N.permits }) opened }
+    requires sizes { (opened.threads ≡ 2) × (length opened.values ≡ 1) }
+    ensures { vec_len result ≡ 1 }
+{
+    let Ok(passes) = Vec::with_capacity(alloc, 2) else {
+        panic!(rt; "no memory")
+    };
+    let Ok(lot) = opened.start::<N>(alloc) else {
+        panic!(rt; "not started")
+    };
+    let zero = enter(rt, &lot);
+    let one = enter(rt, &lot);
+    let zero = add(rt, &lot, zero);
+    let one = add(rt, &lot, one);
+    let zero = find_history(rt, &lot, zero);
+    let (one, zero) = call_and_look_in_journal(rt, &lot, one, zero);
+    lot.leave(rt, one);
+    lot.leave(rt, zero);
+    close(rt, lot, passes, 2).0
+}
+
+fn open_and_add<T: Wait + Abort>(rt: &T, alloc: Global, journals: Vec<Journal<Counter>>)
+    requires { (vec_len journals ≡ 1) × AllLegal journals.items }
+{
+    match Lot::<Journal<Counter>, Brand>::open(alloc, 2, journals, 0) {
+        Ok(opened) => {
+            let journals = add_in_turn::<Brand, T>(rt, alloc, opened);
+            assert_eq!(rt; journals[0].object().total, 4);
+        }
+        Err(_) => panic!(rt; "not opened"),
+    }
+}
+
+#[test]
+fn two_threads_leave_one_history(rt: HostRuntime) {
+    let Ok(journals) = new_journals(rt.alloc(), 1) else {
+        panic!(&rt; "no memory")
+    };
+    open_and_add(&rt, rt.alloc(), journals);
+}

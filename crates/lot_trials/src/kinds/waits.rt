@@ -1,0 +1,397 @@
+//! Waits and notifications in a lot of two tables, of which the first is one of locks that nobody takes, and what the ledger says of them.
+ghost use Rattle.std.specs.Prelude.{◌≡◌, ◌<◌, IsSome, IsSomeAnd};
+ghost use Rattle.lot_waits.specs.Counts.{took as took_more, woke};
+ghost use Rattle.lot_trials.specs.Waits.{EndsThere};
+
+use crate::kinds::asserts::{count_is, is_not, is_so};
+use crate::kinds::tables::{EARLY, THREADS, TheConds, TwoTables, condition_of, open};
+use lot_park::ParkingLot;
+use lot_waits::{
+    BeforeSweep, Ledger, OpenedConds, Room, WaitName, Waiter, has_waiters, notify_all,
+    notify_all_after, notify_one, settle, wait_on,
+};
+use std::alloc::Global;
+use std::marker::Brand;
+use std::process::Abort;
+use std::sync::Wait;
+use std::sync::atomic::{AtomicU64, Ordering};
+use std::test::*;
+use std::thread;
+use std::thread::Threads;
+
+// How often a thread asks for what is to come.
+const ASKINGS: u64 = 10_000_000;
+
+// The thread is taken from the line before it sleeps, by a notification of the action before sleep: it does not sleep. Then nobody waits.
+fn notified_before_sleep<N: WaitName + Send + Sync, R: Wait + Abort>(
+    rt: &R,
+    lot: &ParkingLot<TwoTables<N>>,
+    zero: Waiter<N>,
+    one: Waiter<N>,
+) -> (Waiter<N>, Waiter<N>)
+    requires keys { (N.locks ≡ 1) × (N.conds ≡ 1) × (lot.now.threads ≡ 3) × (lot.now.keys ≡ 2) }
+    requires zero { zero.thread ≡ 0 }
+    ensures zero { result.0 ≡ woke zero 1 }
+    ensures one { result.1 ≡ took_more one 1 1 }
+{
+    let conds = lot.scheme().second();
+    let (zero, one) = wait_on::<TwoTables<N>, N, TheConds, R, Waiter<N>, _>(
+        rt,
+        lot,
+        conds,
+        zero,
+        1,
+        one,
+        |one: Waiter<N>| -> Waiter<N>
+            requires keys { (N.locks ≡ 1) × (N.conds ≡ 1) × (lot.now.keys ≡ 2) }
+            ensures { result ≡ took_more one 1 1 }
+        {
+            let (one, took) = notify_one::<TwoTables<N>, N, TheConds, R>(
+                rt, lot, conds, one, 1, EARLY,
+            );
+            is_so(rt, took);
+            one
+        },
+    );
+    let (one, took) = notify_one::<TwoTables<N>, N, TheConds, R>(rt, lot, conds, one, 1, EARLY);
+    is_not(rt, took);
+    let (one, count) = notify_all::<TwoTables<N>, N, TheConds, R>(rt, lot, conds, one, 1);
+    count_is(rt, count, 0);
+    (zero, one)
+}
+
+// The same by a notification of all threads.
+fn all_notified_before_sleep<N: WaitName + Send + Sync, R: Wait + Abort>(
+    rt: &R,
+    lot: &ParkingLot<TwoTables<N>>,
+    zero: Waiter<N>,
+    one: Waiter<N>,
+) -> (Waiter<N>, Waiter<N>)
+    requires keys { (N.locks ≡ 1) × (N.conds ≡ 1) × (lot.now.threads ≡ 3) × (lot.now.keys ≡ 2) }
+    requires zero { zero.thread ≡ 0 }
+    ensures zero { result.0 ≡ woke zero 1 }
+    ensures one { result.1 ≡ took_more one 1 1 }
+{
+    let conds = lot.scheme().second();
+    let (zero, one) = wait_on::<TwoTables<N>, N, TheConds, R, Waiter<N>, _>(
+        rt,
+        lot,
+        conds,
+        zero,
+        1,
+        one,
+        |one: Waiter<N>| -> Waiter<N>
+            requires keys { (N.locks ≡ 1) × (N.conds ≡ 1) × (lot.now.keys ≡ 2) }
+            ensures { result ≡ took_more one 1 1 }
+        {
+            let (one, count) = notify_all::<TwoTables<N>, N, TheConds, R>(rt, lot, conds, one, 1);
+            count_is(rt, count, 1);
+            one
+        },
+    );
+    let (one, set) = has_waiters(conds, one, 1);
+    is_not(rt, set);
+    (zero, one)
+}
+
+// What three threads tell one another: one is in the line, the flag was cleared, and another is in the line.
+#[derive(Drop)]
+struct Signs {
+    early: AtomicU64,
+    cleared: AtomicU64,
+    late: AtomicU64,
+}
+
+fn no_signs() -> Signs {
+    Signs {
+        early: AtomicU64::new(0),
+        cleared: AtomicU64::new(0),
+        late: AtomicU64::new(0),
+    }
+}
+
+fn raise(sign: &AtomicU64) {
+    sign.store(1, Ordering::SeqCst);
+}
+
+fn is_raised(sign: &AtomicU64) -> bool {
+    for _ in 0..ASKINGS {
+        if sign.load(Ordering::SeqCst) == 1 {
+            return true;
+        }
+        thread::yield_now();
+    }
+    false
+}
+
+// Between the clearing of the flag and the taking of the line, the late thread comes into the line.
+#[derive(Drop)]
+struct Between<'a, R> {
+    rt: &'a R,
+    signs: &'a Signs,
+}
+
+impl<R: Abort> BeforeSweep for Between<'_, R> {
+    fn run(&self) {
+        raise(&self.signs.cleared);
+        assert!(self.rt; is_raised(&self.signs.late));
+    }
+}
+
+// Waits, and says so once it is in the line.
+fn wait_once<N: WaitName + Send + Sync, R: Wait + Abort>(
+    rt: &R,
+    lot: &ParkingLot<TwoTables<N>>,
+    waiter: Waiter<N>,
+    queued: &AtomicU64,
+) -> Waiter<N>
+    requires keys { (N.locks ≡ 1) × (N.conds ≡ 1) × (lot.now.threads ≡ 3) × (lot.now.keys ≡ 2) }
+    requires thread { waiter.thread < 3 }
+    ensures { result ≡ woke waiter 1 }
+{
+    let conds = lot.scheme().second();
+    let (waiter, ()) = wait_on::<TwoTables<N>, N, TheConds, R, (), _>(
+        rt,
+        lot,
+        conds,
+        waiter,
+        1,
+        (),
+        |x: ()| {
+            raise(queued);
+            x
+        },
+    );
+    waiter
+}
+
+// Takes both who wait, and the flag that the late one set stays. The next notification finds nobody, and clears it.
+fn take_both<N: WaitName + Send + Sync, R: Wait + Abort>(
+    rt: &R,
+    lot: &ParkingLot<TwoTables<N>>,
+    one: Waiter<N>,
+    signs: &Signs,
+) -> Waiter<N>
+    requires keys { (N.locks ≡ 1) × (N.conds ≡ 1) × (lot.now.keys ≡ 2) }
+    ensures { result ≡ took_more one 1 2 }
+{
+    let conds = lot.scheme().second();
+    is_so(rt, is_raised(&signs.early));
+    let between = Between { rt, signs };
+    let (one, count) = notify_all_after::<TwoTables<N>, N, TheConds, R, Between<'_, R>>(
+        rt, lot, conds, one, 1, &between,
+    );
+    count_is(rt, count, 2);
+    let (one, set) = has_waiters(conds, one, 1);
+    is_so(rt, set);
+    let (one, took) = notify_one::<TwoTables<N>, N, TheConds, R>(rt, lot, conds, one, 1, EARLY);
+    is_not(rt, took);
+    let (one, set) = has_waiters(conds, one, 1);
+    is_not(rt, set);
+    one
+}
+
+// `wait_once` by the waiter that lies here.
+fn wait_here<N: WaitName + Send + Sync, R: Wait + Abort>(
+    rt: &R,
+    lot: &ParkingLot<TwoTables<N>>,
+    here: &mut Option<Waiter<N>>,
+    queued: &AtomicU64,
+)
+    requires keys { (N.locks ≡ 1) × (N.conds ≡ 1) × (lot.now.threads ≡ 3) × (lot.now.keys ≡ 2) }
+    requires thread { IsSomeAnd here.old (λ p. p.thread < 3) }
+    ensures { EndsThere (λ p. woke p 1) here.old here.new }
+{
+    let waiter = wait_once(rt, lot, here.take().unwrap(), queued);
+    match here.replace(waiter) {
+        None => {}
+        Some(_) => unreachable!(),
+    }
+}
+
+// The same, once the flag was cleared.
+fn wait_late<N: WaitName + Send + Sync, R: Wait + Abort>(
+    rt: &R,
+    lot: &ParkingLot<TwoTables<N>>,
+    here: &mut Option<Waiter<N>>,
+    signs: &Signs,
+)
+    requires keys { (N.locks ≡ 1) × (N.conds ≡ 1) × (lot.now.threads ≡ 3) × (lot.now.keys ≡ 2) }
+    requires thread { IsSomeAnd here.old (λ p. p.thread < 3) }
+    ensures { EndsThere (λ p. woke p 1) here.old here.new }
+{
+    is_so(rt, is_raised(&signs.cleared));
+    wait_here(rt, lot, here, &signs.late);
+}
+
+// `take_both` by the waiter that lies here.
+fn take_here<N: WaitName + Send + Sync, R: Wait + Abort>(
+    rt: &R,
+    lot: &ParkingLot<TwoTables<N>>,
+    here: &mut Option<Waiter<N>>,
+    signs: &Signs,
+)
+    requires keys { (N.locks ≡ 1) × (N.conds ≡ 1) × (lot.now.keys ≡ 2) }
+    requires there { IsSome here.old }
+    ensures { EndsThere (λ p. took_more p 1 2) here.old here.new }
+{
+    let waiter = take_both(rt, lot, here.take().unwrap(), signs);
+    match here.replace(waiter) {
+        None => {}
+        Some(_) => unreachable!(),
+    }
+}
+
+// One takes and the late one waits. The places are lent, since a closure can't hold a waiter.
+fn take_beside_the_late<'a, 'b, N: WaitName + Send + Sync, R: Threads + Wait + Abort + Sync>(
+    rt: &'a R,
+    lot: &'a ParkingLot<TwoTables<N>>,
+    second: &'b mut Option<Waiter<N>>,
+    third: &'b mut Option<Waiter<N>>,
+    signs: &'a Signs,
+)
+    requires keys { (N.locks ≡ 1) × (N.conds ≡ 1) × (lot.now.threads ≡ 3) × (lot.now.keys ≡ 2) }
+    requires there { IsSome second.old }
+    requires thread { IsSomeAnd third.old (λ p. p.thread < 3) }
+    ensures took { EndsThere (λ p. took_more p 1 2) second.old second.new }
+    ensures waited { EndsThere (λ p. woke p 1) third.old third.new }
+{
+    let mut takes = ||
+        requires keys { (N.locks ≡ 1) × (N.conds ≡ 1) × (lot.now.keys ≡ 2) }
+        requires there { IsSome second.now }
+        ensures { EndsThere (λ p. took_more p 1 2) second.entry.now second.exit.now }
+    { take_here(rt, lot, second, signs) };
+    let mut waits = ||
+        requires keys { (N.locks ≡ 1) × (N.conds ≡ 1) × (lot.now.threads ≡ 3) × (lot.now.keys ≡ 2) }
+        requires thread { IsSomeAnd third.now (λ p. p.thread < 3) }
+        ensures { EndsThere (λ p. woke p 1) third.entry.now third.exit.now }
+    { wait_late(rt, lot, third, signs) };
+    thread::join_mut(rt, &mut takes, &mut waits);
+}
+
+// One waits early, beside the two others.
+fn all_three<'a, N: WaitName + Send + Sync, R: Threads + Wait + Abort + Sync>(
+    rt: &'a R,
+    lot: &'a ParkingLot<TwoTables<N>>,
+    first: &'a mut Option<Waiter<N>>,
+    second: &'a mut Option<Waiter<N>>,
+    third: &'a mut Option<Waiter<N>>,
+    signs: &'a Signs,
+)
+    requires keys { (N.locks ≡ 1) × (N.conds ≡ 1) × (lot.now.threads ≡ 3) × (lot.now.keys ≡ 2) }
+    requires early { IsSomeAnd first.old (λ p. p.thread < 3) }
+    requires there { IsSome second.old }
+    requires late { IsSomeAnd third.old (λ p. p.thread < 3) }
+    ensures early { EndsThere (λ p. woke p 1) first.old first.new }
+    ensures took { EndsThere (λ p. took_more p 1 2) second.old second.new }
+    ensures late { EndsThere (λ p. woke p 1) third.old third.new }
+{
+    let mut waits = ||
+        requires keys { (N.locks ≡ 1) × (N.conds ≡ 1) × (lot.now.threads ≡ 3) × (lot.now.keys ≡ 2) }
+        requires thread { IsSomeAnd first.now (λ p. p.thread < 3) }
+        ensures { EndsThere (λ p. woke p 1) first.entry.now first.exit.now }
+    { wait_here(rt, lot, first, &signs.early) };
+    let mut others = ||
+        requires keys { (N.locks ≡ 1) × (N.conds ≡ 1) × (lot.now.threads ≡ 3) × (lot.now.keys ≡ 2) }
+        requires there { IsSome second.now }
+        requires late { IsSomeAnd third.now (λ p. p.thread < 3) }
+        ensures took { EndsThere (λ p. took_more p 1 2) second.entry.now second.exit.now }
+        ensures late { EndsThere (λ p. woke p 1) third.entry.now third.exit.now }
+    { take_beside_the_late(rt, lot, second, third, signs) };
+    thread::join_mut(rt, &mut waits, &mut others);
+}
+
+// A thread begins to wait after the flag was cleared and before the line is taken: it is taken with the one that waited before.
+fn taken_after_the_flag_was_cleared<N: WaitName + Send + Sync, R: Threads + Wait + Abort + Sync>(
+    rt: &R,
+    lot: &ParkingLot<TwoTables<N>>,
+    zero: Waiter<N>,
+    one: Waiter<N>,
+    two: Waiter<N>,
+) -> (Waiter<N>, Waiter<N>, Waiter<N>)
+    requires keys { (N.locks ≡ 1) × (N.conds ≡ 1) × (lot.now.threads ≡ 3) × (lot.now.keys ≡ 2) }
+    requires zero { zero.thread ≡ 0 }
+    requires two { two.thread ≡ 2 }
+    ensures zero { result.0 ≡ woke zero 1 }
+    ensures one { result.1 ≡ took_more one 1 2 }
+    ensures two { result.2 ≡ woke two 1 }
+{
+    let signs = no_signs();
+    let mut first = Some(zero);
+    let mut second = Some(one);
+    let mut third = Some(two);
+    all_three(rt, lot, &mut first, &mut second, &mut third, &signs);
+    (first.unwrap(), second.unwrap(), third.unwrap())
+}
+
+// Plays one wait, or all schedules.
+fn played<N: WaitName + Send + Sync, R: Threads + Wait + Abort + Sync>(
+    rt: &R,
+    lot: &ParkingLot<TwoTables<N>>,
+    zero: Waiter<N>,
+    one: Waiter<N>,
+    two: Waiter<N>,
+    all: bool,
+) -> (Waiter<N>, Waiter<N>, Waiter<N>)
+    requires keys { (N.locks ≡ 1) × (N.conds ≡ 1) × (lot.now.threads ≡ 3) × (lot.now.keys ≡ 2) }
+    requires threads { (zero.thread ≡ 0) × (one.thread ≡ 1) × (two.thread ≡ 2) }
+    ensures { (result.0.thread ≡ 0) × (result.1.thread ≡ 1) × (result.2.thread ≡ 2) }
+{
+    let (zero, one) = notified_before_sleep(rt, lot, zero, one);
+    if !all {
+        return (zero, one, two);
+    }
+    let (zero, one) = all_notified_before_sleep(rt, lot, zero, one);
+    taken_after_the_flag_was_cleared(rt, lot, zero, one, two)
+}
+
+// Plays on a lot, and closes it: what the ledger then says.
+fn play<N: WaitName + Send + Sync, R: Threads + Wait + Abort + Sync>(
+    rt: &R,
+    alloc: Global,
+    opened: OpenedConds,
+    all: bool,
+) -> Ledger
+    requires names { (opened.table ≡ N.opening.conds) × (opened.locks ≡ N.locks) × (opened.conds ≡ N.conds) }
+    requires size { (opened.threads ≡ 3) × (opened.locks ≡ 1) × (opened.conds ≡ 1) }
+{
+    let Ok(room) = Room::<N>::new(alloc, THREADS, 1) else {
+        panic!(rt; "no memory")
+    };
+    let (scheme, mut waiters, mut roots, room) = opened.name(room);
+    let two = waiters.take_last();
+    let one = waiters.take_last();
+    let zero = waiters.take_last();
+    let root = roots.take_last();
+    let lot = open::<N>(rt, alloc, scheme, root);
+    let (zero, one, two) = played(rt, &lot, zero, one, two, all);
+    let Ok(mut left) = Vec::with_capacity(alloc, 2) else {
+        panic!(rt; "no memory")
+    };
+    let (_locks, scheme) = lot.close(rt, &mut left).apart();
+    roots.push_reserved(condition_of(rt, left));
+    waiters.push_reserved(zero);
+    waiters.push_reserved(one);
+    waiters.push_reserved(two);
+    settle(scheme, waiters, roots, room)
+}
+
+#[test]
+fn a_ledger_of_one_wait(rt: HostRuntime) {
+    let Ok(opened) = OpenedConds::open(rt.alloc(), THREADS, 1, 1) else {
+        panic!(&rt; "no memory")
+    };
+    let ledger = play::<Brand, HostRuntime>(&rt, rt.alloc(), opened, false);
+    assert_eq!(rt; ledger.called.as_slice(), [1].as_slice());
+    assert_eq!(rt; ledger.woken.as_slice(), [1].as_slice());
+}
+
+#[test]
+fn waits_and_notifications(rt: HostRuntime) {
+    let Ok(opened) = OpenedConds::open(rt.alloc(), THREADS, 1, 1) else {
+        panic!(&rt; "no memory")
+    };
+    let ledger = play::<Brand, HostRuntime>(&rt, rt.alloc(), opened, true);
+    assert_eq!(rt; ledger.called.as_slice(), [4].as_slice());
+    assert_eq!(rt; ledger.woken.as_slice(), [4].as_slice());
+}
