@@ -1,6 +1,8 @@
-use Rattle.std.proofs.Common.{◌≡◌, ℕ, ◌+◌, ◌<◌, List, slice_get, replicate, map, Some, length, Option, sym, ap, subst, ◌∙◌, arith, zero-add}
-use Rattle.std.specs.Vec.{vec_len}
+use Rattle.std.proofs.Common.{◌≡◌, ℕ, ◌+◌, ◌<◌, ◌≤◌, List, slice_get, replicate, map, Some, length, Option, sym, ap, subst, ◌∙◌, arith, zero-add, rules}
+use Rattle.std.proofs.lemmas.List.{length-map}
+use Rattle.std.specs.Vec.{vec_len, vec_capacity}
 use Rattle.atomic_table.specs.Table.{opening}
+use Rattle.lot_core.specs.declared.state.TheConstants.{MAX_THREADS, MAX_KEYS}
 use Rattle.lot_rights.specs.Layout.{word_count}
 use Rattle.lot_rights.specs.Rule.{Ruled}
 use Rattle.lot_rights.specs.Start.{OpensWell, all_rights}
@@ -62,3 +64,34 @@ returns-in-Ok-open-clause-rule g c =
     let same = ap (λ z. z.values.value.items) c.in-Ok-open.ensures.table.2 ∙ ap (λ v. v.items) c.new-start.ensures.values in
     let locks : 0 + c.len-locks.result ≡ vec_len c.args.values = zero-add c.len-locks.result ∙ c.len-locks.ensures in
     opened_rule g.V.Keeps size c.args.threads locks c.shelve.ensures.slots same c.in-Ok-open.ensures.rule
+
+pub invariant_of-result : goal.invariant_of-result
+invariant_of-result g c =
+    let table = c.in-Ok-open.ensures.table in
+    let limits = c.requires.limits in
+    let size = c.in-Ok-open.words.key.size in
+    let threads : size.threads ≡ c.args.threads = ap (λ z. z.size.threads) table.2 ∙ c.new-start.ensures.size.0 in
+    let locks : size.locks ≡ vec_len c.args.values = ap (λ z. z.size.locks) table.2 ∙ c.new-start.ensures.size.1 in
+    let keys : 0 + c.len-locks.result ≡ size.locks = zero-add c.len-locks.result ∙ (c.len-locks.ensures ∙ sym locks) in
+    let long : vec_len c.shelve.new.slots ≡ vec_len c.args.values = c.shelve.new.slots.ok.0
+    ∙ (ap length c.shelve.ensures.slots ∙ (length-map c.args.values.items (λ (x : g.row.V.Denot). Some x) ∙ sym c.args.values.ok.0)) in
+    let fits : vec_len c.args.values ≤ vec_capacity c.args.values = search rules in
+    let room : vec_capacity c.args.values ≡ vec_capacity c.new.result.value = sym (ap (λ v. vec_capacity v) c.new.ensures ∙ c.shelve.ensures.room.1) in
+    (
+      subst (λ n. 0 < n) (sym threads) limits.0,
+      (
+        (subst (λ n. n ≤ MAX_THREADS) (sym threads) limits.1, subst (λ n. n ≤ MAX_KEYS) (sym locks) limits.3),
+        (
+          table.0 ∙ (λ i. word_count (sym threads i) (keys i)),
+          (table.1 ∙ (long ∙ sym locks), ((ap (λ v. vec_len v) c.new.ensures ∙ c.shelve.ensures.room.0, subst (λ n. n ≤ vec_capacity c.new.result.value) (sym locks)
+              (subst (λ n. vec_len c.args.values ≤ n) room fits)), tt)),
+        ),
+      ),
+    )
+
+pub unshelve-requires-clause-room : goal.unshelve-requires-clause-room
+unshelve-requires-clause-room g c =
+    let fits : vec_len c.args.values ≤ vec_capacity c.args.values = search rules in
+    let long : vec_len c.in-Err-open.slots ≡ vec_len c.args.values = c.in-Err-open.slots.ok.0
+    ∙ (ap length (c.in-Err-open.ensures.back ∙ c.shelve.ensures.slots) ∙ (length-map c.args.values.items (λ (x : g.row.V.Denot). Some x) ∙ sym c.args.values.ok.0)) in
+    (c.shelve.ensures.room.0, subst (λ n. vec_len c.in-Err-open.slots ≤ n) (sym c.shelve.ensures.room.1) (subst (λ n. n ≤ vec_capacity c.args.values) (sym long) fits))
