@@ -30,5 +30,5 @@ loop-number-preserved g c = record {
 pub returns-clause-fresh : goal.returns-clause-fresh
 returns-clause-fresh g c i b lt =
     let count : c.args.size ≡ length c.loop-number.buckets.items =
-        omega (arith, c.loop-number.auto.number-end, c.loop-number-test.false, c.loop-number.invariant.count, c.loop-number.buckets.ok.0) in
+    omega (arith, c.loop-number.auto.number-end, c.loop-number-test.false, c.loop-number.invariant.count, c.loop-number.buckets.ok.0) in
     subst (λ (n : ℕ). IsFresh n i c.args.keys c.args.threads (get_or c.loop-number.buckets.items i b)) count (c.loop-number.invariant.fresh i b lt)

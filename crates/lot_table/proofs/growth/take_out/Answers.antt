@@ -13,7 +13,7 @@ pub push_reserved-requires : goal.push_reserved-requires
 push_reserved-requires g c =
     let within : c.loop-number.number ≤ length (under c.args.guards.now) = omega (arith, c.loop-number-test.true, length-under c.args.guards.now) in
     let count : length c.loop-number.old.items ≡ c.loop-number.number =
-        ap (λ (bs : List (Contents g.row.R.Denot)). length bs) c.loop-number.invariant.out ∙ length-take-le c.loop-number.number (under c.args.guards.now) within in
+    ap (λ (bs : List (Contents g.row.R.Denot)). length bs) c.loop-number.invariant.out ∙ length-take-le c.loop-number.number (under c.args.guards.now) within in
     omega (arith, count, c.loop-number.old.ok.0, c.loop-number-test.true, c.loop-number.invariant.room)
 
 pub loop-number-preserved : goal.loop-number-preserved

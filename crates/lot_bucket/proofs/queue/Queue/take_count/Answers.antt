@@ -93,8 +93,8 @@ returns-after-loop-taken c =
     let fields = c.loop-taken.self-inside in
     let queue = lying_at fields.pairs.items fields.links.used in
     let done =
-        none_to_take c.args.key c.args.count c.args.self.now.pairs queue c.loop-taken.out c.loop-taken.cursor.passed c.loop-taken.taken c.loop-taken-test.false
-        c.loop-taken.invariant.taking in
+    none_to_take c.args.key c.args.count c.args.self.now.pairs queue c.loop-taken.out c.loop-taken.cursor.passed c.loop-taken.taken c.loop-taken-test.false
+    c.loop-taken.invariant.taking in
     record { taken = done.number; line = done.line; left = rw (c.loop-taken.invariant.room, done.left) refl }
 
 pub loop-taken-smaller-then-waits_on-key : goal.loop-taken-smaller-then-waits_on-key

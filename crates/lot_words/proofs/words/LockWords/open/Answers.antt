@@ -46,8 +46,10 @@ pub returns-clause-back : goal.returns-clause-back
 returns-clause-back g c = same_values_back c.unshelve.result.items c.args.values.items (c.unshelve.ensures ∙ (c.in-Err-open.ensures.back ∙ c.shelve.ensures.slots))
 
 pub returns-in-Ok-open-clause-size : goal.returns-in-Ok-open-clause-size
-returns-in-Ok-open-clause-size g c = (ap (λ z. z.size.threads) c.in-Ok-open.ensures.table.2 ∙ c.new-start.ensures.size.0,
-    ap (λ z. z.size.locks) c.in-Ok-open.ensures.table.2 ∙ c.new-start.ensures.size.1)
+returns-in-Ok-open-clause-size g c = (
+  ap (λ z. z.size.threads) c.in-Ok-open.ensures.table.2 ∙ c.new-start.ensures.size.0,
+  ap (λ z. z.size.locks) c.in-Ok-open.ensures.table.2 ∙ c.new-start.ensures.size.1,
+)
 
 pub returns-in-Ok-open-clause-passes : goal.returns-in-Ok-open-clause-passes
 returns-in-Ok-open-clause-passes g c =
@@ -55,8 +57,10 @@ returns-in-Ok-open-clause-passes g c =
     → slice_get c.in-Ok-open.passes.items k ≡ Some (pass_at c.in-Ok-open.words.table v k))) (ap (λ v. v.items) c.new-start.ensures.values) c.in-Ok-open.ensures.passes
 
 pub returns-in-Ok-open-clause-roots : goal.returns-in-Ok-open-clause-roots
-returns-in-Ok-open-clause-roots g c = (c.in-Ok-open.ensures.roots.0 ∙ c.len-locks.ensures,
-    λ k near. c.in-Ok-open.ensures.roots.1 k (subst (λ n. k < n) (sym c.len-locks.ensures) near) ∙ ap (λ (l : ℕ). Some (root_at c.in-Ok-open.words.table l)) (zero-add k))
+returns-in-Ok-open-clause-roots g c = (
+  c.in-Ok-open.ensures.roots.0 ∙ c.len-locks.ensures,
+  λ k near. c.in-Ok-open.ensures.roots.1 k (subst (λ n. k < n) (sym c.len-locks.ensures) near) ∙ ap (λ (l : ℕ). Some (root_at c.in-Ok-open.words.table l)) (zero-add k),
+)
 
 pub returns-in-Ok-open-clause-rule : goal.returns-in-Ok-open-clause-rule
 returns-in-Ok-open-clause-rule g c =
@@ -76,15 +80,23 @@ invariant_of-result g c =
     let long : vec_len c.shelve.new.slots ≡ vec_len c.args.values = c.shelve.new.slots.ok.0
     ∙ (ap length c.shelve.ensures.slots ∙ (length-map c.args.values.items (λ (x : g.row.V.Denot). Some x) ∙ sym c.args.values.ok.0)) in
     let fits : vec_len c.args.values ≤ vec_capacity c.args.values = search rules in
-    let room : vec_capacity c.args.values ≡ vec_capacity c.new.result.value = sym (ap (λ v. vec_capacity v) c.new.ensures ∙ c.shelve.ensures.room.1) in
-    (
+    let room : vec_capacity c.args.values ≡ vec_capacity c.new.result.value = sym (ap (λ v. vec_capacity v) c.new.ensures ∙ c.shelve.ensures.room.1) in (
       subst (λ n. 0 < n) (sym threads) limits.0,
       (
         (subst (λ n. n ≤ MAX_THREADS) (sym threads) limits.1, subst (λ n. n ≤ MAX_KEYS) (sym locks) limits.3),
         (
           table.0 ∙ (λ i. word_count (sym threads i) (keys i)),
-          (table.1 ∙ (long ∙ sym locks), ((ap (λ v. vec_len v) c.new.ensures ∙ c.shelve.ensures.room.0, subst (λ n. n ≤ vec_capacity c.new.result.value) (sym locks)
-              (subst (λ n. vec_len c.args.values ≤ n) room fits)), tt)),
+          (
+            table.1 ∙ (long ∙ sym locks),
+            (
+              (
+                ap (λ v. vec_len v) c.new.ensures ∙ c.shelve.ensures.room.0,
+                subst (λ n. n ≤ vec_capacity c.new.result.value) (sym locks)
+                    (subst (λ n. vec_len c.args.values ≤ n) room fits),
+              ),
+              tt,
+            ),
+          ),
         ),
       ),
     )
