@@ -1,7 +1,7 @@
 //! Ending conditions and semaphores.
 ghost use Rattle.std.specs.Prelude.{◌≡◌, ℕ, ◌+◌, ◌<◌, ◌≤◌, map, length, vec_len, vec_capacity};
 ghost use Rattle.std.specs.List.{All, Any};
-ghost use Rattle.lot_core.specs.Parts.{IsAmongConds, IsAmongSemaphores};
+ghost use Rattle.lot_core.specs.Parts.{IsAmongConds};
 ghost use Rattle.lot_rights.specs.Shown.{RootShown};
 ghost use Rattle.lot_conds.specs.declared.views.CondRootView.{CondRootView};
 ghost use Rattle.lot_sems.specs.declared.views.SemRootView.{SemRootView};

@@ -1,7 +1,8 @@
-//! Conditions and semaphores as one: all that a lot has beside its locks.
+//! All kinds of keys as one: the tables of a lot, its name, and what it has beside its locks.
 //!
-//! It stands on lot_waits (conditions over any parking lot) and on lot_permits (semaphores over any parking lot), which never name each
-//! other: here both tables are opened, named and ended together, and a thread's rights on both are one value.
+//! It stands on lot_locks (locks over any parking lot), on lot_waits (conditions) and on lot_permits (semaphores), which never name each
+//! other. `LotScheme` has the tables of all three, as the parking lot sees them, and `Locks`, `Conds` and `Sems` name each as a part of it.
+//! Conditions and semaphores are opened, named and ended together besides, and a thread's rights on both are one value:
 //!
 //! | Here | Conditions | Semaphores |
 //! |---|---|---|
@@ -10,17 +11,31 @@
 //! | `Rights` | `Waiter` | `Seeker` |
 //! | `Room`, `ClosingRoom`, `settle` | the same of lot_waits | the same of lot_permits |
 //!
-//! The keys of semaphores follow those of conditions. A lot that keeps both tables names each as a part of its own.
+//! The keys of locks come first, then those of conditions, and those of semaphores last. The scheme, its roots and its parts are structs of
+//! their own, and not other names for those of `lot_park::parts`: whatever is checked of a lot spells out each type that lies in it and each
+//! part that a call names, and so these are short.
 #![tactic(auto)]
 
 pub mod closing;
+pub mod name;
 pub mod opening;
+pub mod parts;
 pub mod rights;
 pub mod room;
+pub mod root;
+pub mod roots;
+pub mod scheme;
 pub mod tables;
+pub mod waiting;
 
 pub use closing::settle;
+pub use name::LotName;
 pub use opening::OpenedKinds;
+pub use parts::{Conds, Locks, Sems};
 pub use rights::Rights;
 pub use room::{ClosingRoom, Room};
+pub use root::LotRoot;
+pub use roots::{add_roots, name_roots, unname_roots};
+pub use scheme::LotScheme;
 pub use tables::{AfterConds, KindRoot, KindScheme};
+pub use waiting::sleep_on;

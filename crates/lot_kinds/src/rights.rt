@@ -1,5 +1,5 @@
 //! What a thread has beside the locks: its rights on conditions and on semaphores.
-ghost use Rattle.std.specs.Prelude.{◌≡◌, ℕ, ◌+◌, length};
+ghost use Rattle.std.specs.Prelude.{◌≡◌, ◌+◌, length};
 ghost use Rattle.lot_kinds.specs.Rights.{IsWide, joined, AreOfOne, counts_of, permits_of};
 
 use lot_permits::{PermitName, Seeker};

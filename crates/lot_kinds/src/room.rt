@@ -1,5 +1,5 @@
 //! The memory that the naming and the closing of conditions and semaphores want. Neither takes any.
-ghost use Rattle.std.specs.Prelude.{◌≡◌, ℕ, ◌+◌, ◌<◌, ◌≤◌, ◌^◌, vec_len, vec_capacity, IfOk};
+ghost use Rattle.std.specs.Prelude.{◌≡◌, ◌+◌, ◌<◌, ◌≤◌, ◌^◌, IfOk};
 ghost use Rattle.lot_kinds.specs.Room.{IsFor, HasClosingRoom};
 
 use crate::rights::Rights;

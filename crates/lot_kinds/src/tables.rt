@@ -13,7 +13,7 @@ impl<N: PermitName> Border for AfterConds<N> {
     ghost border = { N.low };
 }
 
-/// Both tables, as the parking lot sees them.
+/// Both tables, as one beside that of the locks.
 pub type KindScheme<N> = Both<CondScheme<N>, SemScheme<N>, AfterConds<N>>;
 
 /// The root of a condition or of a semaphore.

@@ -2,3 +2,4 @@ pub mod Counters
 pub mod Works
 pub mod Buffers
 pub mod Insides
+pub mod Numbers

@@ -1,4 +1,4 @@
-//! Locks, conditions and semaphores under load, and scripts replayed: all that `lotstress` runs.
+//! Locks, conditions and semaphores under load, and scripts replayed: all that `lotstress` runs, and in `measure` what `lotbench` does.
 //!
 //! - `count`: workers lock, count and unlock.
 //! - `relay`: producers put numbers into a buffer, consumers take them, and both wait on conditions.
@@ -16,6 +16,7 @@ pub mod count;
 pub mod counter;
 pub mod gate;
 mod inside;
+pub mod measure;
 mod pool;
 pub mod relay;
 mod replay;

@@ -24,8 +24,9 @@ use Rattle.lot_kinds.specs.Opening.{KindRootShown}
 use Rattle.lot_kinds.specs.Opening.{IsIdleAt as IsIdleKind}
 use Rattle.lot_sync.specs.Opened.{AreUnused, IsOpened}
 use Rattle.lot_locks.specs.Standing.{debts_of}
-use Rattle.lot_sync.specs.Starting.{ArePaired, IsFreeRoot, IsIdleAt}
-use Rattle.lot_sync.specs.Tables.{LotRootShown}
+use Rattle.lot_kinds.specs.Roots.{IsFreeRoot, IsIdleAt}
+use Rattle.lot_sync.specs.Starting.{ArePaired}
+use Rattle.lot_kinds.specs.Tables.{LotRootShown}
 use Rattle.lot_kinds.proofs.Places.{at_both, at_mapped}
 use Rattle.lot_rights.proofs.Turns.{some_one, stands_at, all_by_place, some_by_place}
 

@@ -2,7 +2,6 @@ pub mod Lot
 pub mod Values
 pub mod Passes
 pub mod Permits
-pub mod Tables
 pub mod Opened
 pub mod Starting
 pub mod Holding

@@ -7,17 +7,14 @@ use Rattle.lot_rights.specs.Shown.{PassShown}
 use Rattle.lot_words.specs.declared.views.Hold.{Hold}
 use Rattle.lot_words.specs.declared.views.Hold.TheVariants.{NotHeld, Held, FoundParked}
 use Rattle.lot_words.specs.declared.views.LockPassView.{LockPassView}
-use Rattle.lot_words.specs.Shown.{LockWordsShown}
 use Rattle.lot_words.specs.World.{Holds}
 use Rattle.lot_words.specs.Values.{IsOut, IsIn}
 use Rattle.lot_words.specs.Closing.{HoldsNone}
 use Rattle.lot_locks.specs.Standing.{Standing, stands}
 use Rattle.lot_locks.specs.Released.{released_in}
-use Rattle.lot_conds.specs.Shown.{CondWordsShown}
-use Rattle.lot_sems.specs.Shown.{SemWordsShown}
 use Rattle.lot_park.specs.Lots.{ParkingView}
-use Rattle.lot_park.specs.Parts.{Tables}
 use Rattle.lot_kinds.specs.Rights.{RightsView}
+use Rattle.lot_kinds.specs.Tables.{LotSchemeShown}
 use Rattle.lot_sync.specs.Lot.{PassView, LotNames}
 
 abbrev pub is_held : Hold → Bool
@@ -98,10 +95,6 @@ abbrev pub AreRightsOf : ℕ → RightsView → Type 0
 AreRightsOf thread q = q.thread ≡ thread
 
 -- ---- the lot
--- all tables
-abbrev pub LotSchemeShown : Type 0
-LotSchemeShown = Tables LockWordsShown (Tables CondWordsShown SemWordsShown)
-
 -- what joins the parts of a lot
 pub record IsLot {V : Type 0} (names : LotNames V) (threads locks conds sems : ℕ) (parking : ParkingView LotSchemeShown) : Type 0 where
   pub words : parking.scheme.first.table ≡ names.opening.locks

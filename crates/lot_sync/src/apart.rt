@@ -3,7 +3,8 @@ ghost use Rattle.std.specs.Prelude.{◌≡◌, ◌≢◌, ℕ};
 ghost use Rattle.lot_sync.specs.Lot.{Owns};
 
 use crate::lot::Lot;
-use crate::pass::{LotName, Pass};
+use crate::pass::Pass;
+use lot_kinds::LotName;
 use lot_locks::NamedPass;
 use lot_words::Keeps;
 

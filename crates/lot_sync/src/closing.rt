@@ -1,23 +1,16 @@
 //! Closing a lot: the values come back, with what the passes counted.
-ghost use Rattle.std.specs.Prelude.{◌≡◌, ℕ, ◌+◌, ◌<◌, ◌≤◌, [], map, length, vec_len, vec_capacity};
+ghost use Rattle.std.specs.Prelude.{◌≡◌, ℕ, ◌+◌, ◌<◌, ◌≤◌, map, vec_len, vec_capacity};
 ghost use Rattle.std.specs.List.{All, Any};
-ghost use Rattle.lot_rights.specs.Shown.{RootShown};
-ghost use Rattle.lot_words.specs.declared.views.LockRootView.{LockRootView};
 ghost use Rattle.lot_sync.specs.Lot.{PassView, OwnsNone, IsLedgerOf, rights_of};
 ghost use Rattle.lot_sync.specs.Values.{GoesOnTo};
 ghost use Rattle.lot_sync.specs.Passes.{seen_as, lock_side, IsFree};
-ghost use Rattle.lot_kinds.specs.Opening.{StandFrom, kind_view};
-ghost use Rattle.lot_sync.specs.Starting.{StandAtKeys};
 
 use crate::lot::Lot;
-use crate::pass::{LotName, Pass};
+use crate::pass::Pass;
 use crate::pool::{ClosingRoom, Idle, Pool};
-use crate::tables::LotRoot;
-use lot_kinds::{KindRoot, Rights, settle};
-use lot_park::Root;
-use lot_park::parts::OneOf;
+use lot_kinds::{LotName, Rights, settle, unname_roots};
 use lot_waits::Ledger;
-use lot_words::{Keeps, LockPass, LockRoot};
+use lot_words::{Keeps, LockPass};
 use std::sync::Wait;
 use std::thread;
 
@@ -71,31 +64,6 @@ fn none_left<V: Keeps + Send, N: LotName<V> + Send, R: Wait>(rt: &R, idle: Vec<I
         thread::yield_now();
     }
     unreachable!()
-}
-
-/// Takes the names off the roots again. The roots of the locks come first.
-pub(crate) fn unname_roots<V: Keeps + Send, N: LotName<V> + Send>(
-    mut named: Vec<LotRoot<V, N>>,
-    roots: &mut Vec<LockRoot<V>>,
-    kind_roots: &mut Vec<KindRoot<N>>,
-)
-    requires keys { StandAtKeys named.items }
-    requires locks { length N.values ≤ vec_len named }
-    requires room { (vec_len roots.old ≡ 0) × (length N.values ≤ vec_capacity roots.old) }
-    requires kind_room { (vec_len kind_roots.old ≡ 0) × (vec_len named ≤ length N.values + vec_capacity kind_roots.old) }
-    ensures own { All (λ (r : RootShown LockRootView). r.table ≡ N.opening.locks) roots.new.items }
-    ensures long { vec_len kind_roots.new + length N.values ≡ vec_len named }
-    ensures roots { (k : ℕ) → k < length N.values → Any (λ (r : RootShown LockRootView). r.root.key ≡ k) roots.new.items }
-    ensures kinds { StandFrom kind_view (length N.values) kind_roots.new.items }
-{
-    while let Some(root) = named.pop() {
-        match root.into_one() {
-            OneOf::First(root) => roots.push_reserved(root.into_root()),
-            OneOf::Second(root) => kind_roots.push_reserved(root),
-        }
-    }
-    named.destroy_empty();
-    kind_roots.reverse();
 }
 
 /// Takes the passes apart, in order.

@@ -7,9 +7,8 @@ ghost use Rattle.lot_words.specs.Values.{IsIn};
 
 use crate::held::Held;
 use crate::lot::Lot;
-use crate::pass::{LotName, Pass};
-use crate::tables::{Locks, LotScheme};
-use lot_kinds::Rights;
+use crate::pass::Pass;
+use lot_kinds::{Locks, LotName, LotScheme, Rights};
 use lot_locks::{NamedPass, get_slowly};
 use lot_park::{AtOnce, BeforeSleep};
 use lot_words::Keeps;

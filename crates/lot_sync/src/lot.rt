@@ -1,12 +1,11 @@
 //! A lot: locks that guard values, and the passes of its threads.
-ghost use Rattle.std.specs.Prelude.{◌≡◌, ℕ, ◌+◌, ◌<◌, ◌≤◌, List, length};
+ghost use Rattle.std.specs.Prelude.{◌≡◌, ◌+◌, ◌<◌, length};
 ghost use Rattle.lot_sync.specs.Lot.{IsWide};
 ghost use Rattle.lot_sync.specs.Passes.{IsAtRest, IsLot, AreRightsOf, sees};
 
-use crate::pass::{LotName, Pass};
+use crate::pass::Pass;
 use crate::pool::Pool;
-use crate::tables::LotScheme;
-use lot_kinds::Rights;
+use lot_kinds::{LotName, LotScheme, Rights};
 use lot_locks::{LockScheme, NamedPass};
 use lot_park::{ParkingLot, Sought};
 use lot_words::Keeps;

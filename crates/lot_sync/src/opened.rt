@@ -1,14 +1,13 @@
 //! Opening a lot: first its tables, then, under a name, the lot itself.
-ghost use Rattle.std.specs.Prelude.{◌≡◌, ℕ, ◌+◌, ◌<◌, ◌≤◌, List, [], Some, length, slice_get, vec_len, IfOk, IfErr, OnErr};
+ghost use Rattle.std.specs.Prelude.{◌≡◌, ◌+◌, ◌<◌, ◌≤◌, [], length, vec_len, IfOk, IfErr};
 ghost use Rattle.lot_core.specs.declared.state.TheConstants.{MAX_KEYS};
 ghost use Rattle.lot_sync.specs.Opened.{IsOpened};
 
 use crate::fault::OpenFault;
 use crate::lot::Lot;
-use crate::pass::LotName;
 use crate::start::close_unused;
 use lot_core::{MAX_KEYS, MAX_THREADS};
-use lot_kinds::OpenedKinds;
+use lot_kinds::{LotName, OpenedKinds};
 use lot_words::{Keeps, LockPass, LockRoot, LockWords, WordsFault};
 use std::alloc::Global;
 use std::marker::Model;

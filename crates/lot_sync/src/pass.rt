@@ -1,29 +1,10 @@
 //! The right to act as one thread of a lot.
-ghost use Rattle.std.specs.Prelude.{◌≡◌, ℕ, List};
+ghost use Rattle.std.specs.Prelude.{◌≡◌};
 
-use lot_kinds::Rights;
+use lot_kinds::{LotName, Rights};
 use lot_locks::NamedPass;
-use lot_permits::PermitName;
-use lot_waits::WaitName;
 use lot_words::Keeps;
-use std::marker::{Brand, Model};
-
-/// Names one opening of a lot: its tables, its numbers of threads and keys, and the values that it opened with.
-///
-/// A program opens first, and then calls, with std's `Brand` for N, a function that is generic over `N: LotName<V>`.
-pub trait LotName<V>: WaitName + PermitName {
-    ghost threads: { ℕ };
-
-    ghost values: { List V };
-}
-
-impl<V> LotName<V> for Brand {
-    ghost use Rattle.std.specs.Prelude.{[]};
-
-    ghost threads = { 0 };
-
-    ghost values = { [] };
-}
+use std::marker::Model;
 
 /// The right to act as one thread. It must be spent, by `Lot::leave` or `Lot::close`.
 pub struct Pass<V: Keeps + Send, N: LotName<V> + Send> {

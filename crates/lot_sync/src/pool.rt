@@ -1,10 +1,9 @@
 //! The passes that are in, and the room that closing a lot will want.
-ghost use Rattle.std.specs.Prelude.{◌≡◌, ℕ, ◌+◌, ◌-◌, ◌*◌, ◌<◌, ◌≤◌, length, vec_len, vec_capacity, IfSome, IsTrue, ◌↔◌};
+ghost use Rattle.std.specs.Prelude.{◌≡◌, ◌+◌, ◌-◌, ◌<◌, ◌≤◌, length, vec_len, vec_capacity, IfSome, IsTrue, ◌↔◌};
 ghost use Rattle.lot_sync.specs.Lot.{OwnsNone};
 
-use crate::pass::{LotName, Pass};
-use crate::tables::LotRoot;
-use lot_kinds::{KindRoot, Rights};
+use crate::pass::Pass;
+use lot_kinds::{KindRoot, LotName, LotRoot, Rights};
 use lot_words::{Keeps, LockPass, LockRoot};
 
 /// A pass that owns no lock and holds no permit.

@@ -1,13 +1,13 @@
 //! Giving threads their passes, and taking them back.
-ghost use Rattle.std.specs.Prelude.{◌≡◌, ℕ, ◌<◌, ◌≤◌, ◌-◌, IfOk, IfSome, vec_len};
+ghost use Rattle.std.specs.Prelude.{◌≡◌, ◌<◌, ◌-◌, IfOk, IfSome, vec_len};
 ghost use Rattle.lot_table.specs.Sizes.{Serves};
 ghost use Rattle.lot_sync.specs.Lot.{OwnsNone, IsWide, HasGrown};
 
 use crate::fault::RegisterFault;
 use crate::lot::Lot;
-use crate::pass::{LotName, Pass};
+use crate::pass::Pass;
 use crate::pool::Pool;
-use crate::tables::LotScheme;
+use lot_kinds::{LotName, LotScheme};
 use lot_park::{Grown, ParkingLot};
 use lot_words::Keeps;
 use std::sync::{MutexGuard, Wait};

@@ -1,24 +1,24 @@
 //! Starting a lot under its name: its roots go to the parking lot, its passes into the pool.
-ghost use Rattle.std.specs.Prelude.{◌≡◌, ℕ, ◌+◌, ◌<◌, ◌≤◌, List, [], ◌++◌, Some, map, slice_get, length, vec_len, vec_capacity, reverse, IfOk, IfErr};
+ghost use Rattle.std.specs.Prelude.{◌≡◌, ℕ, ◌+◌, ◌<◌, ◌≤◌, Some, length, vec_len, vec_capacity, IfOk, IfErr};
 ghost use Rattle.std.specs.List.{All, Any};
 ghost use Rattle.lot_rights.specs.Shown.{RootShown};
 ghost use Rattle.lot_words.specs.declared.views.LockRootView.{LockRootView};
 ghost use Rattle.lot_core.specs.declared.state.TheConstants.{MAX_THREADS, MAX_KEYS};
-ghost use Rattle.lot_park.specs.declared.parts.both.OneOf.TheVariants.{First, Second};
 ghost use Rattle.lot_sync.specs.Opened.{AreUnused, IsNamed};
 ghost use Rattle.lot_sync.specs.Passes.{IsFresh, AreRightsOf};
 ghost use Rattle.lot_kinds.specs.Rights.{HoldsNone};
-ghost use Rattle.lot_sync.specs.Starting.{ArePaired, IsFreeRoot, IsFreeKind};
+ghost use Rattle.lot_sync.specs.Starting.{ArePaired};
 
-use crate::closing::unname_roots;
 use crate::fault::OpenFault;
 use crate::lot::Lot;
 use crate::opened::Opened;
-use crate::pass::{LotName, Pass};
+use crate::pass::Pass;
 use crate::pool::{ClosingRoom, Idle, Pool};
-use crate::tables::{LotRoot, LotScheme};
-use lot_kinds::{KindRoot, Rights, Room, settle};
-use lot_locks::{KeyRoot, NamedPass};
+use lot_kinds::{
+    KindRoot, LotName, LotRoot, LotScheme, Rights, Room, add_roots, name_roots, settle,
+    unname_roots,
+};
+use lot_locks::NamedPass;
 use lot_park::{ParkFault, ParkingLot};
 use lot_words::{Keeps, LockPass, LockRoot, LockWords};
 use std::alloc::{AllocError, Global};
@@ -66,49 +66,6 @@ impl<V: Keeps + Send, N: LotName<V> + Send> Rooms<V, N> {
                 Err(refused)
             }
         }
-    }
-}
-
-/// Names the roots of the locks, in order. Their own room stays.
-fn name_roots<V: Keeps + Send, N: LotName<V> + Send>(
-    roots: &mut Vec<LockRoot<V>>,
-    named: &mut Vec<LotRoot<V, N>>,
-)
-    requires free { All (IsFreeRoot N.opening.locks (length N.values)) roots.old.items }
-    requires room { (vec_len named.old ≡ 0) × (vec_len roots.old ≤ vec_capacity named.old) }
-    ensures same { named.new.items ≡ map First roots.old.items }
-    ensures long { vec_len named.new ≡ vec_len roots.old }
-    ensures empty { (vec_len roots.new ≡ 0) × (vec_capacity roots.new ≡ vec_capacity roots.old) }
-    ensures room { vec_capacity named.new ≡ vec_capacity named.old }
-{
-    while let Some(root) = roots.pop() {
-        named.push_reserved(name_root(root));
-    }
-    named.reverse();
-}
-
-fn name_root<V: Keeps + Send, N: LotName<V> + Send>(root: LockRoot<V>) -> LotRoot<V, N>
-    requires free { IsFreeRoot N.opening.locks (length N.values) root }
-    ensures same { result ≡ First root }
-{
-    LotRoot::of_lock(KeyRoot::new(root))
-}
-
-/// Appends the roots of the conditions and semaphores, in order. Their own room stays.
-fn add_roots<V: Keeps + Send, N: LotName<V> + Send>(
-    roots: &mut Vec<KindRoot<N>>,
-    named: &mut Vec<LotRoot<V, N>>,
-)
-    requires free { All (IsFreeKind (length N.values)) roots.old.items }
-    requires room { vec_len named.old + vec_len roots.old ≤ vec_capacity named.old }
-    ensures same { named.new.items ≡ named.old.items ++ map Second roots.old.items }
-    ensures long { vec_len named.new ≡ vec_len named.old + vec_len roots.old }
-    ensures empty { (vec_len roots.new ≡ 0) × (vec_capacity roots.new ≡ vec_capacity roots.old) }
-    ensures room { vec_capacity named.new ≡ vec_capacity named.old }
-{
-    roots.reverse();
-    while let Some(root) = roots.pop() {
-        named.push_reserved(LotRoot::of_kind(root));
     }
 }
 

@@ -10,9 +10,8 @@ ghost use Rattle.lot_words.specs.Values.{IsIn, HasSeen};
 
 use crate::held::Held;
 use crate::lot::Lot;
-use crate::pass::{LotName, Pass};
-use crate::tables::{Locks, LotScheme};
-use lot_kinds::Rights;
+use crate::pass::Pass;
+use lot_kinds::{Locks, LotName, LotScheme, Rights};
 use lot_locks::{LockScheme, LockSteps, NamedPass, Released, let_go, unpark_asking};
 use lot_park::Moment;
 use lot_words::Keeps;

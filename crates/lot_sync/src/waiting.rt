@@ -1,22 +1,15 @@
 //! Waiting on a condition, as WTF's `Condition::wait` does: the thread is queued and its lock let go, and when a notification has taken
 //! it from the line it gets the lock again.
-ghost use Rattle.std.specs.Prelude.{◌≡◌, ℕ, ◌+◌, ◌<◌, false};
-ghost use Rattle.lot_core.specs.Parts.{IsAmongConds};
-ghost use Rattle.lot_waits.specs.Counts.{woke};
+ghost use Rattle.std.specs.Prelude.{◌<◌};
 ghost use Rattle.lot_sync.specs.Lot.{Owns, IsWide, IsCond};
-ghost use Rattle.lot_locks.specs.Released.{IsFitting};
 ghost use Rattle.lot_sync.specs.Values.{MayGiveBack, WaitsAndGets};
-ghost use Rattle.lot_locks.specs.declared.released.Released.{Released};
 
 use crate::held::Held;
 use crate::lot::Lot;
-use crate::pass::{LotName, Pass};
-use crate::tables::{Conds, Locks, LotScheme};
-use lot_kinds::Rights;
-use lot_locks::{LockScheme, LockSteps, let_go};
-use lot_park::parts::Part;
-use lot_park::{AtOnce, BeforeSleep, Moment, ParkingLot, Scheme};
-use lot_waits::{CondScheme, WaitName, Waiter, wait_on};
+use crate::pass::Pass;
+use lot_kinds::{Conds, Locks, LotName, LotScheme, Rights, sleep_on};
+use lot_locks::LockScheme;
+use lot_park::{AtOnce, BeforeSleep, Moment};
 use lot_words::Keeps;
 use std::sync::Wait;
 
@@ -81,47 +74,4 @@ impl<V: Keeps + Send, N: LotName<V> + Send> Lot<V, N> {
         let pass = self.at_rest(right, Rights::new(waiter, seeker));
         self.lock(rt, pass, key)
     }
-}
-
-/// Waits on the condition, and lets the lock go between the queueing and the sleep, after the given action. Written for every scheme of locks, since the
-/// passes of a kind of table can't be named in a closure's signature.
-fn sleep_on<S: Scheme, N: WaitName + Send, C, A: LockSteps, L, R: Wait, B: BeforeSleep>(
-    rt: &R,
-    parking: &ParkingLot<S>,
-    conds: &CondScheme<N>,
-    waiter: Waiter<N>,
-    cond: usize,
-    locks: &A,
-    right: A::Pass,
-    key: usize,
-    moment: Moment,
-    before: &B,
-) -> (Waiter<N>, A::Pass)
-where
-    C: Part<S, CondScheme<N>>,
-    L: Part<S, A>,
-    requires cond { IsAmongConds N.locks N.conds cond × (cond < parking.now.keys) × C.serves cond }
-    requires thread { waiter.thread < parking.now.threads }
-    requires key { (key < parking.now.keys) × L.serves key × A.has locks.now key }
-    requires may { A.may_let_go right key }
-    ensures woke { result.0 ≡ woke waiter cond }
-    ensures went { (became : Released) × IsFitting became false moment.now × A.lets_go right key became result.1 }
-{
-    wait_on::<S, N, C, R, A::Pass, _>(
-        rt,
-        parking,
-        conds,
-        waiter,
-        cond,
-        right,
-        |right: A::Pass| -> A::Pass
-            requires key { (key < parking.now.keys) × L.serves key × A.has locks.now key }
-            requires may { A.may_let_go right key }
-            ensures { (became : Released) × IsFitting became false moment.now × A.lets_go right key became result }
-        {
-            before.run();
-            let (right, _) = let_go::<S, A, L, R>(rt, parking, locks, right, key, moment, false);
-            right
-        },
-    )
 }

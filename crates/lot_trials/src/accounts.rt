@@ -218,9 +218,9 @@ fn move_in_turn<N: LotName<Account> + Send + Sync, T: Wait + Abort>(rt: &T, lot:
     let one = enter(rt, lot);
     let zero = book(rt, lot, zero, (5, 0), 0);
     let (zero, done) = transfer(rt, lot, zero, 3);
-    assert!(rt; done);
+    equal(rt, done, true);
     let (one, done) = transfer(rt, lot, one, 3);
-    assert!(rt; !done);
+    equal(rt, done, false);
     lot.leave(rt, one);
     lot.leave(rt, zero);
 }

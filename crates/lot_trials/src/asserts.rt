@@ -11,3 +11,13 @@ pub(crate) fn equal<T: PartialEq + Debug + Copy>(rt: &impl Abort, found: T, want
 pub(crate) fn started(rt: &impl Abort, is_started: bool) {
     assert!(rt; is_started, "a thread could not be started");
 }
+
+/// A text was written as it was wanted, or the test of this name fails.
+pub(crate) fn same_text(rt: &impl Abort, found: &[u8], wanted: &str, name: &str) {
+    assert!(rt; found == wanted.as_bytes(), "{wanted} is wanted of {name}");
+}
+
+/// A run ended with the status that is wanted, or the test of this name fails.
+pub(crate) fn same_status(rt: &impl Abort, found: u8, wanted: u8, name: &str) {
+    assert_eq!(rt; found, wanted, "status of {name}");
+}

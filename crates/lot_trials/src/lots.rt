@@ -76,6 +76,11 @@ fn comes_to(word: &AtomicU64, count: u64) -> bool {
     false
 }
 
+/// A request for memory may be refused in this trial, or the test fails.
+fn may_be_refused(rt: &impl Abort, shared: &Shared) {
+    assert!(rt; shared.memory == Memory::MayBeRefused);
+}
+
 /// Whether one thread sleeps on lock 0, asked a bounded number of times.
 fn somebody_sleeps<N: LotName<Number> + Send + Sync, T: Wait>(rt: &T, lot: &Lot<Number, N>) -> bool
     requires { 0 < lot.now.locks }
@@ -103,7 +108,7 @@ fn enter<N: LotName<Number> + Send + Sync, T: Wait + Abort>(
         Ok(pass) => pass,
         Err(fault) => {
             equal(rt, fault, RegisterFault::NoMemory);
-            assert!(rt; shared.memory == Memory::MayBeRefused);
+            may_be_refused(rt, shared);
             equal(rt, (lot.table_size(rt), lot.line_length(rt, 0)), before);
             match lot.register(rt) {
                 Ok(pass) => pass,
@@ -137,7 +142,7 @@ fn three_more<N: LotName<Number> + Send + Sync, T: Wait + Abort>(
 )
     requires { 0 < lot.now.locks }
 {
-    assert!(rt; somebody_sleeps(rt, lot));
+    equal(rt, somebody_sleeps(rt, lot), true);
     let two = enter(rt, lot, shared);
     let three = enter(rt, lot, shared);
     equal(rt, lot.table_size(rt), 12);
@@ -195,7 +200,7 @@ fn register_beside<N: LotName<Number> + Send + Sync, T: Wait + Abort>(
 {
     let pass = enter(rt, lot, shared);
     shared.come.fetch_add(1, Ordering::SeqCst);
-    assert!(rt; comes_to(&shared.go, 1));
+    equal(rt, comes_to(&shared.go, 1), true);
     lot.leave(rt, pass);
 }
 
@@ -207,12 +212,12 @@ fn both_have_come<N: LotName<Number> + Send + Sync, T: Wait + Abort>(
 )
     requires { 0 < lot.now.locks }
 {
-    assert!(rt; comes_to(&shared.come, 2));
+    equal(rt, comes_to(&shared.come, 2), true);
     let size = lot.table_size(rt);
     assert!(rt; size == 30 || size == 36, "the size is {size}");
     match lot.register(rt) {
         Ok(_) => panic!(rt; "a seventh pass"),
-        Err(fault) => assert_eq!(rt; fault, RegisterFault::Full),
+        Err(fault) => equal(rt, fault, RegisterFault::Full),
     }
     shared.go.store(1, Ordering::SeqCst);
 }
@@ -314,7 +319,7 @@ fn play<N: LotName<Number> + Send + Sync, T: Threads + Wait + Sync + Abort>(
     requires sizes { (opened.threads ≡ threads) × (0 < length opened.values) }
 {
     let Ok(passes) = Vec::with_capacity(alloc, threads) else {
-        assert!(rt; shared.memory == Memory::MayBeRefused);
+        may_be_refused(rt, shared);
         return opened.close();
     };
     match opened.start::<N>(alloc) {
@@ -328,7 +333,7 @@ fn play<N: LotName<Number> + Send + Sync, T: Threads + Wait + Sync + Abort>(
         Err((fault, values)) => {
             passes.destroy_empty();
             equal(rt, fault, OpenFault::NoMemory);
-            assert!(rt; shared.memory == Memory::MayBeRefused);
+            may_be_refused(rt, shared);
             values
         }
     }
@@ -343,7 +348,7 @@ fn tried<T: Threads + Wait + Sync + Abort>(
     shared: &Shared,
 ) {
     let Ok(mut values) = vec![in alloc; Number { n: 7 }; 2] else {
-        assert!(rt; shared.memory == Memory::MayBeRefused);
+        may_be_refused(rt, shared);
         return;
     };
     values[1] = Number { n: 8 };
@@ -351,7 +356,7 @@ fn tried<T: Threads + Wait + Sync + Abort>(
         Ok(opened) => play::<Brand, T>(rt, alloc, opened, threads, trial, shared),
         Err((fault, values)) => {
             equal(rt, fault, OpenFault::NoMemory);
-            assert!(rt; shared.memory == Memory::MayBeRefused);
+            may_be_refused(rt, shared);
             values
         }
     };

@@ -1,8 +1,8 @@
 //! What the work of `lotbench` leaves, whatever time it takes.
 
-use lot_measure::crew::run;
-use lot_measure::plan::plan_of;
-use lot_measure::run_command;
+use lot_load::measure::crew::run;
+use lot_load::measure::plan::plan_of;
+use lot_load::measure::run_command;
 use std::test::*;
 
 #[test]

@@ -150,7 +150,7 @@ fn notify_at_the_fair_moment<N: LotName<Count> + Send + Sync, T: Wait + Abort>(
 {
     await_line(rt, lot, COND, 1);
     let (pass, took) = lot.notify_one(rt, pass, COND, FAIR);
-    assert!(rt; took);
+    equal(rt, took, true);
     pass
 }
 

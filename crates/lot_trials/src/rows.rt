@@ -344,7 +344,7 @@ pub(crate) fn end<N: LotName<Count> + Send + Sync, T: Wait + Abort>(
     }
     match lot.register(rt) {
         Ok(_pass) => panic!(rt; "a pass was given twice"),
-        Err(fault) => assert_eq!(rt; fault, RegisterFault::Full),
+        Err(fault) => equal(rt, fault, RegisterFault::Full),
     }
     lot.close(rt, passes)
 }
@@ -509,7 +509,7 @@ fn let_go<N: LotName<Count> + Send + Sync, T: Wait + Abort>(
     let Some(held) = back else {
         panic!(rt; "a lock with a sleeper was let go without it")
     };
-    assert!(rt; lot.is_held(0));
+    equal(rt, lot.is_held(0), true);
     let (pass, released) = match way {
         Way::WhenFair => release(rt, lot, pass, held, 5),
         Way::Fairly => release_fairly(rt, lot, pass, held),
@@ -607,7 +607,7 @@ fn register_in_order<N: LotName<Count> + Send + Sync, T: Wait + Abort>(
         equal(rt, two.thread(), 2);
         match lot.register(rt) {
             Ok(_) => panic!(rt; "a fourth pass"),
-            Err(fault) => assert_eq!(rt; fault, RegisterFault::Full),
+            Err(fault) => equal(rt, fault, RegisterFault::Full),
         }
         lot.leave(rt, one);
         lot.leave(rt, zero);

@@ -94,7 +94,7 @@ fn wait_once<N: LotName<Count> + Send + Sync, T: Wait + Abort, B: BeforeSleep>(
     let pass = enter(rt, lot);
     let (pass, held) = own(rt, lot, pass, 0);
     let (pass, held) = wait_after(rt, lot, pass, held, before);
-    assert!(rt; lot.is_held(0));
+    equal(rt, lot.is_held(0), true);
     back.store(1, Ordering::SeqCst);
     let (pass, _) = release(rt, lot, pass, held, 0);
     lot.leave(rt, pass);
@@ -107,10 +107,10 @@ fn take_one<N: LotName<Count> + Send + Sync, T: Wait + Abort>(rt: &T, lot: &Lot<
     equal(rt, lot.line_length(rt, COND), 1);
     let pass = enter(rt, lot);
     let (pass, took) = call_one(rt, lot, pass, COND);
-    assert!(rt; took);
+    equal(rt, took, true);
     equal(rt, lot.line_length(rt, COND), 0);
     let (pass, took) = call_one(rt, lot, pass, COND);
-    assert!(rt; !took);
+    equal(rt, took, false);
     lot.leave(rt, pass);
 }
 
@@ -161,7 +161,7 @@ fn call_owning<N: LotName<Count> + Send + Sync, T: Wait + Abort>(
     ensures { Holding (λ x y. x.n ≤ y.n) result held.now }
 {
     let (told, took) = lot.notify_one(rt, pass, COND, Moment { now: 0, word: 7 });
-    assert!(rt; took);
+    equal(rt, took, true);
     told
 }
 

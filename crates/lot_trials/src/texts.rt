@@ -1,5 +1,6 @@
 //! The program's texts and statuses, and workers that are held at a gate.
 
+use crate::asserts::{equal, same_status, same_text};
 use lot_load::count::{Counting, count_with};
 use lot_load::gate::{Gate, Point};
 use lot_load::relay::{Relaying, relay_with};
@@ -25,9 +26,9 @@ fn check<R: Threads + Wait + Sync + Abort>(
     let mut out = Vec::new(alloc);
     let mut faults = Vec::new(alloc);
     let status = run_command(rt, alloc, words, file, &mut out, &mut faults);
-    assert!(rt; out.as_slice() == want.0.as_bytes(), "output of {name}");
-    assert!(rt; faults.as_slice() == want.1.as_bytes(), "faults of {name}");
-    assert_eq!(rt; status, want.2, "status of {name}");
+    same_text(rt, out.as_slice(), want.0, name);
+    same_text(rt, faults.as_slice(), want.1, name);
+    same_status(rt, status, want.2, name);
 }
 
 /// A script, what is printed of it, the fault, and the status.
@@ -701,9 +702,9 @@ fn output_that_cannot_be_written(rt: HostRuntime) {
         &mut Full,
         &mut faults,
     );
-    assert!(rt; faults.bytes.as_slice() == b"cannot write\n".as_slice());
-    assert_eq!(rt; faults.writes, 1);
-    assert_eq!(rt; status, 1);
+    same_text(&rt, faults.bytes.as_slice(), "cannot write\n", "faults");
+    equal(&rt, faults.writes, 1);
+    equal(&rt, status, 1);
 }
 
 /// Holds worker 0 in its first round, where it owns its lock, until worker 1 owns its own there.
@@ -774,9 +775,14 @@ fn producer_fills_the_buffer_first(rt: HostRuntime) {
     let mut out = Vec::new(rt.alloc());
     let mut faults = Vec::new(rt.alloc());
     let status = relay_with(&rt, rt.alloc(), &filled, &relaying, &mut out, &mut faults);
-    assert_eq!(rt; filled.missed.load(Ordering::SeqCst), 0);
-    assert!(rt; out.as_slice() == b"put 9\ntaken 9\nsum 45\nbalanced\n".as_slice());
-    assert_eq!(rt; status, 0);
+    equal(&rt, filled.missed.load(Ordering::SeqCst), 0);
+    same_text(
+        &rt,
+        out.as_slice(),
+        "put 9\ntaken 9\nsum 45\nbalanced\n",
+        "output",
+    );
+    equal(&rt, status, 0);
 }
 
 #[test]
@@ -794,7 +800,12 @@ fn two_workers_meet(rt: HostRuntime) {
     let mut out = Vec::new(rt.alloc());
     let mut faults = Vec::new(rt.alloc());
     let status = count_with(&rt, rt.alloc(), &meeting, &counting, &mut out, &mut faults);
-    assert_eq!(rt; meeting.missed.load(Ordering::SeqCst), 0);
-    assert!(rt; out.as_slice() == b"lock 0 total 10\nlock 1 total 10\nsum 20\n".as_slice());
-    assert_eq!(rt; status, 0);
+    equal(&rt, meeting.missed.load(Ordering::SeqCst), 0);
+    same_text(
+        &rt,
+        out.as_slice(),
+        "lock 0 total 10\nlock 1 total 10\nsum 20\n",
+        "output",
+    );
+    equal(&rt, status, 0);
 }

@@ -2,6 +2,7 @@
 ghost use Rattle.std.specs.Prelude.{◌≡◌, ◌<◌, length};
 ghost use Rattle.lot_sync.specs.Opened.{IsNamed};
 
+use crate::asserts::started;
 use crate::lots::end;
 use lot_sync::{Lot, LotName, Moment, Opened};
 use lot_words::Keeps;
@@ -89,11 +90,11 @@ fn two_visit<V: Visited + Send, N: LotName<V> + Send + Sync, T: Threads + Wait +
             let first = move ||
                 requires { 0 < lot.now.locks }
             { visit_often(rt, lot) };
-            assert!(rt; scope.spawn(first).is_ok());
+            started(rt, scope.spawn(first).is_ok());
             let second = move ||
                 requires { 0 < lot.now.locks }
             { visit_often(rt, lot) };
-            assert!(rt; scope.spawn(second).is_ok());
+            started(rt, scope.spawn(second).is_ok());
         },
     );
 }

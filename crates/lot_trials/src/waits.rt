@@ -112,9 +112,9 @@ fn nobody_waits<N: LotName<Count> + Send + Sync, T: Wait + Abort>(
     ensures { OwnsNone result }
 {
     let (pass, has) = lot.has_waiters(pass, COND);
-    assert!(rt; !has);
+    equal(rt, has, false);
     let (pass, took) = call_one(rt, lot, pass, COND);
-    assert!(rt; !took);
+    equal(rt, took, false);
     let (pass, count) = call_all(rt, lot, pass, COND);
     equal(rt, count, 0);
     pass
@@ -131,9 +131,9 @@ fn three_are_notified<N: LotName<Count> + Send + Sync, T: Wait + Abort>(
 {
     await_line(rt, lot, COND, 3);
     let (pass, has) = lot.has_waiters(pass, COND);
-    assert!(rt; has);
+    equal(rt, has, true);
     let (pass, took) = call_one(rt, lot, pass, COND);
-    assert!(rt; took);
+    equal(rt, took, true);
     equal(rt, lot.line_length(rt, COND), 2);
     let (pass, count) = call_all(rt, lot, pass, COND);
     equal(rt, count, 2);

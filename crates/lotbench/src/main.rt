@@ -7,12 +7,12 @@
 //!   so many nanoseconds and stays outside for so many.
 //! - `lotbench start THREADS LOCKS`: a lot is opened and started, all its threads register, and it is closed.
 //!
-//! Without words it prints nothing. It stands on `lot_measure`, which does the work, and on `lot_command`, which reads the words and tells
+//! Without words it prints nothing. It stands on `lot_load`, which does the work, and on `lot_command`, which reads the words and tells
 //! what came of them.
 #![tactic(auto)]
 
 use lot_command::{Failure, report, words};
-use lot_measure::run_command;
+use lot_load::measure::run_command;
 use std::process::ExitCode;
 
 fn main(rt: HostRuntime) -> ExitCode {

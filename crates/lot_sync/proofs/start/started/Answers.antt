@@ -12,9 +12,9 @@ use Rattle.lot_kinds.specs.Rights.{RightsView, unused}
 use Rattle.lot_kinds.specs.Opening.{StandFrom, kind_view}
 use Rattle.lot_sync.specs.Lot.{LotNames}
 use Rattle.lot_sync.specs.Opened.{OpenedView, IsNamed}
-use Rattle.lot_sync.specs.Starting.{IsFreeKind, IsIdleAt}
-use Rattle.lot_sync.specs.Tables.{LotRootShown}
-use Rattle.lot_sync.specs.Passes.{LotSchemeShown}
+use Rattle.lot_kinds.specs.Roots.{IsFreeKind, IsIdleAt}
+use Rattle.lot_kinds.specs.Tables.{LotRootShown}
+use Rattle.lot_kinds.specs.Tables.{LotSchemeShown}
 use Rattle.lot_kinds.proofs.Places.{all_at}
 use Rattle.lot_rights.proofs.Turns.{some_by_place}
 use Rattle.lot_sync.proofs.Starts.{passes_fresh, passes_paired, roots_free, roots_idle, idle_all, fresh_named, none_held}

@@ -20,8 +20,8 @@ use Rattle.lot_sync.specs.Lot.{PassView, LotView, OwnsNone, counts_of, rights_of
 use Rattle.lot_sync.specs.Values.{GoesOnTo}
 use Rattle.lot_words.specs.Closing.{HoldsNone}
 use Rattle.lot_sync.specs.Passes.{seen_as, lock_side, IsFree}
-use Rattle.lot_sync.specs.Tables.{LotRootShown}
-use Rattle.lot_sync.specs.Passes.{LotSchemeShown}
+use Rattle.lot_kinds.specs.Tables.{LotRootShown}
+use Rattle.lot_kinds.specs.Tables.{LotSchemeShown}
 use Rattle.lot_rights.proofs.Turns.{some_before, no_elements}
 use Rattle.lot_kinds.proofs.Places.{some_after}
 use Rattle.lot_sync.proofs.Turns.{all_before}

@@ -1,4 +1,5 @@
 use Rattle.std.proofs.Common.{◌≡◌, ◌<◌, ◌≤◌, length, vec_len, ap, subst, sym, ◌∙◌, arith}
+use Rattle.lot_core.specs.declared.state.TheConstants.{MAX_KEYS}
 use Rattle.lot_sync.specs.Opened.{IsOpened}
 use Rattle.lot_sync.proofs.lot.Lot.open_with.Goals as goal
 
@@ -10,7 +11,7 @@ with_kinds-requires-clause-opened g c κs within =
       unused = record {
         some_threads = omega arith;
         few_threads = c.if-threads-gt-MAX_THREADS.false;
-        few_locks = subst (λ n. n ≤ 1024) (c.len-locks.ensures ∙ long) few;
+        few_locks = subst (λ n. n ≤ MAX_KEYS) (c.len-locks.ensures ∙ long) few;
         words_threads = c.in-Ok.ensures.size.0;
         words_locks = c.in-Ok.ensures.size.1 ∙ long;
         passes_long = sym c.in-Ok.passes.ok.0 ∙ c.in-Ok.ensures.passes.0;

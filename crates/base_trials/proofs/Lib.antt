@@ -1,0 +1,5 @@
+pub mod CondSchedules
+pub mod LockSchedules
+pub mod SemSchedules
+mod Idle
+mod Lending

@@ -1,0 +1,29 @@
+//! Assertions as calls: what a macro writes at its place would be checked with all that the function around it knows.
+ghost use Rattle.std.specs.Prelude.{◌≡◌, true};
+
+use std::fmt::Debug;
+use std::process::Abort;
+
+/// It is so, or the test fails.
+pub(crate) fn is_so(rt: &impl Abort, is_so: bool, what: &str)
+    ensures { is_so ≡ true }
+{
+    assert!(rt; is_so, "{what}");
+}
+
+/// The letter is the one that is wanted, or the test fails.
+pub(crate) fn letter_is(rt: &impl Abort, letter: Option<u32>, wanted: Option<u32>)
+    ensures { letter ≡ wanted }
+{
+    assert_eq!(rt; letter, wanted);
+}
+
+/// What was found is what was wanted, or the test fails.
+pub(crate) fn equal<T: PartialEq + Debug + Copy>(rt: &impl Abort, found: T, wanted: T) {
+    assert_eq!(rt; found, wanted);
+}
+
+/// A word has the bits that are wanted, or the test fails.
+pub(crate) fn bits_are(rt: &impl Abort, found: u64, wanted: u64) {
+    assert_eq!(rt; found, wanted);
+}

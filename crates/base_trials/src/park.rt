@@ -1,0 +1,10 @@
+//! Places to sleep, buckets and their table, and the parking lot.
+
+mod askings;
+mod buckets;
+mod letters;
+mod lots;
+mod parts;
+mod records;
+mod rights;
+mod tables;

@@ -1,0 +1,452 @@
+//! The calls of the parking lot: who sleeps, who is woken, and what it is told.
+ghost use Rattle.std.specs.Prelude.{◌≡◌, ◌<◌, []};
+ghost use Rattle.lot_bucket.specs.Queue.{first_of};
+
+use super::askings::{ASKINGS, QUIET_ASKINGS, await_line};
+use super::letters::{
+    Letters, Pass, THREADS, Told, await_told, has_looked_within, is_told_within, no_letters, note,
+    nothing_told, stays_untold, taken,
+};
+use super::rights::{EARLY, Right, idle_rights, joined, passed, passed_all, passed_first};
+use crate::asserts::{equal, is_so};
+use lot_park::{Grown, Parked, ParkingLot, Token, UnparkResult};
+use std::alloc::Global;
+use std::process::Abort;
+use std::sync::Wait;
+use std::thread;
+use std::thread::Threads;
+
+const KEYS: usize = 4;
+
+// A key in the bucket of key 0, in a table of the first size.
+const OTHER: usize = 3;
+
+fn open(rt: &impl Abort, alloc: Global) -> ParkingLot<Letters>
+    ensures threads { result.threads ≡ THREADS }
+    ensures keys { result.keys ≡ KEYS }
+{
+    let rights = idle_rights(alloc, KEYS).expect(rt, "memory");
+    match ParkingLot::open(alloc, THREADS, rights, no_letters()) {
+        Ok((lot, room)) => {
+            room.destroy_empty();
+            lot
+        }
+        Err(_refused) => panic!(rt; "memory"),
+    }
+}
+
+// Parks on the key, where `valid` says so.
+fn park<R: Wait + Abort>(
+    rt: &R,
+    lot: &ParkingLot<Letters>,
+    thread: usize,
+    key: usize,
+    valid: bool,
+) -> Parked
+    requires { (thread < lot.now.threads) × (key < lot.now.keys) }
+{
+    let (_pass, (), parked) = lot.park_conditionally(
+        rt,
+        Pass { thread },
+        key,
+        (),
+        |x: (), pass: Pass, root: Right| -> ((), Pass, Right, bool) {
+            let root = if valid {
+                joined(rt, root, pass.thread)
+            } else {
+                root
+            };
+            (x, pass, root, valid)
+        },
+        |x: ()| x,
+    );
+    parked
+}
+
+fn unpark<R: Wait + Abort>(
+    rt: &R,
+    lot: &ParkingLot<Letters>,
+    key: usize,
+    token: u32,
+) -> UnparkResult
+    requires { key < lot.now.keys }
+{
+    let ((), told) = lot.unpark_one(
+        rt,
+        key,
+        EARLY,
+        (),
+        |x: (), root: Right, told: UnparkResult| -> ((), Right, Token)
+            requires clear { root.owes.items ≡ [] }
+            requires first { told.thread ≡ first_of root.line.items }
+        { (x, passed(rt, root, told.thread, token), Token(token)) },
+    );
+    told
+}
+
+fn unpark_all<R: Wait + Abort>(rt: &R, lot: &ParkingLot<Letters>, key: usize) -> usize
+    requires { key < lot.now.keys }
+{
+    let ((), count) = lot.unpark_all(
+        rt,
+        key,
+        (),
+        |x: (), root: Right, _count: usize| -> ((), Right)
+            requires clear { root.owes.items ≡ [] }
+        { (x, passed_all(rt, root)) },
+    );
+    count
+}
+
+// How many of the line it took, and whether more may wait.
+fn unpark_first<R: Wait + Abort>(
+    rt: &R,
+    lot: &ParkingLot<Letters>,
+    key: usize,
+    count: usize,
+) -> (usize, bool)
+    requires { key < lot.now.keys }
+{
+    let (more, taken) = lot.unpark_count(
+        rt,
+        key,
+        count,
+        false,
+        |_more: bool, root: Right, _taken: usize, more: bool| -> (bool, Right)
+            requires clear { root.owes.items ≡ [] }
+        { (more, passed_first(rt, root, count)) },
+    );
+    (taken, more)
+}
+
+// The roots come back in key order.
+fn close<R: Wait + Abort>(rt: &R, alloc: Global, lot: ParkingLot<Letters>)
+    requires { lot.keys ≡ KEYS }
+{
+    let mut rights = Vec::with_capacity(alloc, KEYS).expect(rt, "memory");
+    let _letters = lot.close(rt, &mut rights);
+    equal(rt, rights.len(), KEYS);
+    for (key, right) in rights.iter().enumerate() {
+        equal(rt, right.key, key);
+    }
+}
+
+#[test]
+fn an_invalid_parking_leaves_the_line(rt: HostRuntime) {
+    let lot = open(&rt, rt.alloc());
+    assert_eq!(rt; park(&rt, &lot, 1, 0, false), Parked::Invalid);
+    assert_eq!(rt; lot.line_length(&rt, 0), 0);
+    let _letters = lot.scheme();
+    close(&rt, rt.alloc(), lot);
+}
+
+fn sleep<R: Wait + Abort>(rt: &R, lot: &ParkingLot<Letters>, thread: usize, key: usize, told: &Told)
+    requires { (thread < lot.now.threads) × (key < lot.now.keys) }
+{
+    note(told, thread, park(rt, lot, thread, key, true));
+}
+
+// A sleeper looks for its letter once before it sleeps, and finds it once it is unparked.
+fn unparks_a_sleeper<R: Threads + Wait + Abort + Sync>(
+    rt: &R,
+    lot: &ParkingLot<Letters>,
+    told: &Told,
+)
+    requires { (lot.now.threads ≡ THREADS) × (lot.now.keys ≡ KEYS) }
+{
+    thread::scope(
+        thread::scope_env(),
+        rt,
+        |scope|
+            requires { (lot.now.threads ≡ THREADS) × (lot.now.keys ≡ KEYS) }
+        {
+            let sleeper = move ||
+                requires { (lot.now.threads ≡ THREADS) × (lot.now.keys ≡ KEYS) }
+            { sleep(rt, lot, 1, 0, told) };
+            is_so(rt, scope.spawn(sleeper).is_ok(), "it starts");
+            await_line(rt, lot, 0, 1);
+            is_so(
+                rt,
+                has_looked_within(lot.scheme(), 1, 1, ASKINGS),
+                "it looks",
+            );
+            is_so(
+                rt,
+                !has_looked_within(lot.scheme(), 1, 2, QUIET_ASKINGS),
+                "it sleeps",
+            );
+            equal(rt, unpark(rt, lot, 0, 7), taken(1, false));
+            await_told(rt, told, 1, 7);
+            is_so(
+                rt,
+                !has_looked_within(lot.scheme(), 1, 3, 1),
+                "it has found its letter",
+            );
+        },
+    );
+}
+
+#[test]
+fn a_sleeper_is_told_the_token(rt: HostRuntime) {
+    let lot = open(&rt, rt.alloc());
+    let told = nothing_told();
+    unparks_a_sleeper(&rt, &lot, &told);
+    close(&rt, rt.alloc(), lot);
+}
+
+// The table grows under a sleeper, who is then still in its line.
+fn grows_under_a_sleeper<R: Threads + Wait + Abort + Sync>(
+    rt: &R,
+    lot: &ParkingLot<Letters>,
+    told: &Told,
+)
+    requires { (lot.now.threads ≡ THREADS) × (lot.now.keys ≡ KEYS) }
+{
+    thread::scope(
+        thread::scope_env(),
+        rt,
+        |scope|
+            requires { (lot.now.threads ≡ THREADS) × (lot.now.keys ≡ KEYS) }
+        {
+            let sleeper = move ||
+                requires { (lot.now.threads ≡ THREADS) × (lot.now.keys ≡ KEYS) }
+            { sleep(rt, lot, 2, 1, told) };
+            is_so(rt, scope.spawn(sleeper).is_ok(), "it starts");
+            await_line(rt, lot, 1, 1);
+            match lot.ensure(rt, 2) {
+                Ok(grown) => assert_eq!(rt; grown, Grown::Grew(3, 12)),
+                Err(_refused) => panic!(rt; "memory"),
+            }
+            equal(rt, lot.size(rt), 12);
+            equal(rt, lot.line_length(rt, 1), 1);
+            equal(rt, unpark(rt, lot, 1, 4), taken(2, false));
+            await_told(rt, told, 2, 4);
+        },
+    );
+}
+
+#[test]
+fn a_sleeper_stays_in_its_line_as_the_table_grows(rt: HostRuntime) {
+    let lot = open(&rt, rt.alloc());
+    assert_eq!(rt; lot.size(&rt), 3);
+    let told = nothing_told();
+    grows_under_a_sleeper(&rt, &lot, &told);
+    close(&rt, rt.alloc(), lot);
+}
+
+fn unparks_one_of_two_keys<R: Threads + Wait + Abort + Sync>(
+    rt: &R,
+    lot: &ParkingLot<Letters>,
+    told: &Told,
+)
+    requires { (lot.now.threads ≡ THREADS) × (lot.now.keys ≡ KEYS) }
+{
+    thread::scope(
+        thread::scope_env(),
+        rt,
+        |scope|
+            requires { (lot.now.threads ≡ THREADS) × (lot.now.keys ≡ KEYS) }
+        {
+            let first = move ||
+                requires { (lot.now.threads ≡ THREADS) × (lot.now.keys ≡ KEYS) }
+            { sleep(rt, lot, 1, 0, told) };
+            is_so(rt, scope.spawn(first).is_ok(), "it starts");
+            await_line(rt, lot, 0, 1);
+            let second = move ||
+                requires { (lot.now.threads ≡ THREADS) × (lot.now.keys ≡ KEYS) }
+            { sleep(rt, lot, 2, OTHER, told) };
+            is_so(rt, scope.spawn(second).is_ok(), "it starts");
+            await_line(rt, lot, OTHER, 1);
+            equal(rt, unpark(rt, lot, 0, 3), taken(1, true));
+            await_told(rt, told, 1, 3);
+            stays_untold(rt, told, 2, 3);
+            equal(
+                rt,
+                (lot.line_length(rt, 0), lot.line_length(rt, OTHER)),
+                (0, 1),
+            );
+            equal(rt, unpark(rt, lot, OTHER, 4), taken(2, false));
+        },
+    );
+}
+
+#[test]
+fn another_key_in_the_bucket_keeps_its_line(rt: HostRuntime) {
+    let lot = open(&rt, rt.alloc());
+    let told = nothing_told();
+    unparks_one_of_two_keys(&rt, &lot, &told);
+    close(&rt, rt.alloc(), lot);
+}
+
+fn unparks_all_of_a_key<R: Threads + Wait + Abort + Sync>(
+    rt: &R,
+    lot: &ParkingLot<Letters>,
+    told: &Told,
+)
+    requires { (lot.now.threads ≡ THREADS) × (lot.now.keys ≡ KEYS) }
+{
+    thread::scope(
+        thread::scope_env(),
+        rt,
+        |scope|
+            requires { (lot.now.threads ≡ THREADS) × (lot.now.keys ≡ KEYS) }
+        {
+            let first = move ||
+                requires { (lot.now.threads ≡ THREADS) × (lot.now.keys ≡ KEYS) }
+            { sleep(rt, lot, 0, 1, told) };
+            is_so(rt, scope.spawn(first).is_ok(), "it starts");
+            let second = move ||
+                requires { (lot.now.threads ≡ THREADS) × (lot.now.keys ≡ KEYS) }
+            { sleep(rt, lot, 2, 1, told) };
+            is_so(rt, scope.spawn(second).is_ok(), "it starts");
+            await_line(rt, lot, 1, 2);
+            equal(rt, unpark_all(rt, lot, 0), 0);
+            equal(rt, unpark_all(rt, lot, 1), 2);
+            await_told(rt, told, 0, 0);
+            await_told(rt, told, 2, 0);
+            equal(rt, unpark_all(rt, lot, 1), 0);
+        },
+    );
+}
+
+#[test]
+fn a_whole_line_is_unparked(rt: HostRuntime) {
+    let lot = open(&rt, rt.alloc());
+    let told = nothing_told();
+    unparks_all_of_a_key(&rt, &lot, &told);
+    close(&rt, rt.alloc(), lot);
+}
+
+fn unparks_the_first_of_three<R: Threads + Wait + Abort + Sync>(
+    rt: &R,
+    lot: &ParkingLot<Letters>,
+    told: &Told,
+)
+    requires { (lot.now.threads ≡ THREADS) × (lot.now.keys ≡ KEYS) }
+{
+    thread::scope(
+        thread::scope_env(),
+        rt,
+        |scope|
+            requires { (lot.now.threads ≡ THREADS) × (lot.now.keys ≡ KEYS) }
+        {
+            for thread in 0..THREADS {
+                let sleeper = move ||
+                    requires { (lot.now.threads ≡ THREADS) × (lot.now.keys ≡ KEYS) × (thread < THREADS) }
+                { sleep(rt, lot, thread, 1, told) };
+                is_so(rt, scope.spawn(sleeper).is_ok(), "it starts");
+                await_line(rt, lot, 1, thread + 1);
+            }
+            equal(rt, unpark_first(rt, lot, 1, 0), (0, false));
+            equal(rt, unpark_first(rt, lot, 1, 2), (2, true));
+            await_told(rt, told, 0, 0);
+            await_told(rt, told, 1, 0);
+            stays_untold(rt, told, 2, 0);
+            equal(rt, unpark_first(rt, lot, 1, 5), (1, false));
+            equal(rt, unpark_first(rt, lot, 1, 1), (0, false));
+        },
+    );
+}
+
+#[test]
+fn the_first_of_a_line_are_unparked(rt: HostRuntime) {
+    let lot = open(&rt, rt.alloc());
+    let told = nothing_told();
+    unparks_the_first_of_three(&rt, &lot, &told);
+    close(&rt, rt.alloc(), lot);
+}
+
+// The action before sleep unparks the thread's own key.
+fn unparks_itself<R: Wait + Abort>(
+    rt: &R,
+    lot: &ParkingLot<Letters>,
+) -> (Option<UnparkResult>, Parked)
+    requires { (lot.now.threads ≡ THREADS) × (lot.now.keys ≡ KEYS) }
+{
+    let (_pass, told, parked) = lot.park_conditionally(
+        rt,
+        Pass { thread: 1 },
+        0,
+        None,
+        |x: Option<UnparkResult>, pass: Pass, root: Right| -> (
+            Option<UnparkResult>,
+            Pass,
+            Right,
+            bool,
+        ) {
+            let root = joined(rt, root, pass.thread);
+            (x, pass, root, true)
+        },
+        |_x: Option<UnparkResult>| Some(unpark(rt, lot, 0, 5)),
+    );
+    (told, parked)
+}
+
+#[test]
+fn who_is_unparked_before_its_sleep_does_not_sleep(rt: HostRuntime) {
+    let lot = open(&rt, rt.alloc());
+    let (told, parked) = unparks_itself(&rt, &lot);
+    assert_eq!(rt; told, Some(taken(1, false)));
+    assert_eq!(rt; parked, Parked::Woken(Token(5)));
+    close(&rt, rt.alloc(), lot);
+}
+
+// Parks twice. The first time it does not sleep, so the wake of its own unparking is kept: it ends the first sleep of the second
+// time, for nothing.
+fn sleep_with_a_wake_kept<R: Wait + Abort>(rt: &R, lot: &ParkingLot<Letters>, told: &Told)
+    requires { (lot.now.threads ≡ THREADS) × (lot.now.keys ≡ KEYS) }
+{
+    let (_taken, parked) = unparks_itself(rt, lot);
+    note(told, 1, parked);
+    sleep(rt, lot, 1, 0, told);
+}
+
+// A sleeper looks for its letter before it sleeps, and again each time that a sleep has ended: here before it finds the first
+// letter, before each sleep of the second parking, and before it finds the second letter.
+fn looks_once_a_wake<R: Threads + Wait + Abort + Sync>(
+    rt: &R,
+    lot: &ParkingLot<Letters>,
+    told: &Told,
+)
+    requires { (lot.now.threads ≡ THREADS) × (lot.now.keys ≡ KEYS) }
+{
+    thread::scope(
+        thread::scope_env(),
+        rt,
+        |scope|
+            requires { (lot.now.threads ≡ THREADS) × (lot.now.keys ≡ KEYS) }
+        {
+            let sleeper = move ||
+                requires { (lot.now.threads ≡ THREADS) × (lot.now.keys ≡ KEYS) }
+            { sleep_with_a_wake_kept(rt, lot, told) };
+            is_so(rt, scope.spawn(sleeper).is_ok(), "it starts");
+            is_so(
+                rt,
+                has_looked_within(lot.scheme(), 1, 3, ASKINGS),
+                "it looks again",
+            );
+            is_so(
+                rt,
+                !has_looked_within(lot.scheme(), 1, 4, QUIET_ASKINGS),
+                "it sleeps again",
+            );
+            is_so(rt, is_told_within(told, 1, 5, 1), "a wake is no letter");
+            equal(rt, lot.line_length(rt, 0), 1);
+            equal(rt, unpark(rt, lot, 0, 2), taken(1, false));
+            await_told(rt, told, 1, 2);
+            is_so(
+                rt,
+                !has_looked_within(lot.scheme(), 1, 5, 1),
+                "it has found its letter",
+            );
+        },
+    );
+}
+
+#[test]
+fn a_sleeper_looks_once_a_wake(rt: HostRuntime) {
+    let lot = open(&rt, rt.alloc());
+    let told = nothing_told();
+    looks_once_a_wake(&rt, &lot, &told);
+    close(&rt, rt.alloc(), lot);
+}

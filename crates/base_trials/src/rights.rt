@@ -1,0 +1,9 @@
+//! The words of locks, conditions and semaphores, the state that they follow, and journals.
+
+mod conds;
+mod journal;
+mod locks;
+mod names;
+mod sems;
+mod states;
+mod tally;

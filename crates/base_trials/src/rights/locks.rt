@@ -1,0 +1,310 @@
+//! Schedules of two threads' calls on two locks, made by hand in one thread, with the words that they leave.
+ghost use Rattle.std.specs.Prelude.{false, ◌≡◌, ◌<◌, ◌≤◌, [], ◌∷◌, length, slice_set, MatchBool, Some, None};
+ghost use Rattle.lot_words.specs.declared.views.Hold.TheVariants.{NotHeld, Held, FoundParked};
+ghost use Rattle.lot_core.specs.Steps.{first as first_of};
+ghost use Rattle.lot_words.specs.Calls.{passed_root};
+ghost use Rattle.base_trials.specs.LockSchedules.{IsPass, IsCalm, Wants, Sleeps, Owns, MayFree, MayPass, IsRoot};
+
+use super::tally::Tally;
+use crate::asserts::{bits_are, letter_is};
+use lot_words::{LockPass, LockRoot, LockWords};
+use std::process::Abort;
+use std::test::*;
+
+fn take(words: &LockWords<Tally>, pass: LockPass<Tally>, key: usize) -> (LockPass<Tally>, bool)
+    requires size { (words.now.size.locks ≡ 2) × (key < 2) }
+    requires pass { IsPass words.now.table pass.pass.thread pass × IsCalm pass.pass.own }
+    ensures pass { IsPass words.now.table pass.pass.thread result.0 }
+    ensures answer { MatchBool result.1 (Owns result.0.pass.own key) (Wants result.0.pass.own key) }
+    ensures holds { MatchBool result.1 (result.0.pass.own.holds ≡ slice_set pass.pass.own.holds key Held) (result.0.pass.own.holds ≡ pass.pass.own.holds) }
+{
+    words.take(pass, key)
+}
+
+// A thread that wants the lock takes it again.
+fn take_again(
+    words: &LockWords<Tally>,
+    pass: LockPass<Tally>,
+    key: usize,
+) -> (LockPass<Tally>, bool)
+    requires size { (words.now.size.locks ≡ 2) × (key < 2) }
+    requires pass { IsPass words.now.table pass.pass.thread pass × Wants pass.pass.own key }
+    ensures pass { IsPass words.now.table pass.pass.thread result.0 }
+    ensures answer { MatchBool result.1 (Owns result.0.pass.own key) (Wants result.0.pass.own key) }
+    ensures holds { MatchBool result.1 (result.0.pass.own.holds ≡ slice_set pass.pass.own.holds key Held) (result.0.pass.own.holds ≡ pass.pass.own.holds) }
+{
+    words.take(pass, key)
+}
+
+fn try_take(words: &LockWords<Tally>, pass: LockPass<Tally>, key: usize) -> (LockPass<Tally>, bool)
+    requires size { (words.now.size.locks ≡ 2) × (key < 2) }
+    requires pass { IsPass words.now.table pass.pass.thread pass × IsCalm pass.pass.own }
+    ensures pass { IsPass words.now.table pass.pass.thread result.0 }
+    ensures answer { MatchBool result.1 (Owns result.0.pass.own key) (IsCalm result.0.pass.own) }
+    ensures holds { MatchBool result.1 (result.0.pass.own.holds ≡ slice_set pass.pass.own.holds key Held) (result.0.pass.own.holds ≡ pass.pass.own.holds) }
+{
+    words.try_take(pass, key)
+}
+
+// The lock is free, and is got.
+fn get(
+    rt: &impl Abort,
+    words: &LockWords<Tally>,
+    pass: LockPass<Tally>,
+    key: usize,
+) -> LockPass<Tally>
+    requires size { (words.now.size.locks ≡ 2) × (key < 2) }
+    requires pass { IsPass words.now.table pass.pass.thread pass × IsCalm pass.pass.own }
+    ensures pass { IsPass words.now.table pass.pass.thread result × Owns result.pass.own key }
+    ensures holds { result.pass.own.holds ≡ slice_set pass.pass.own.holds key Held }
+{
+    let (pass, got) = take(words, pass, key);
+    assert!(rt; got);
+    pass
+}
+
+// The lock is held, and is wanted from now on.
+fn want(
+    rt: &impl Abort,
+    words: &LockWords<Tally>,
+    pass: LockPass<Tally>,
+    key: usize,
+) -> LockPass<Tally>
+    requires size { (words.now.size.locks ≡ 2) × (key < 2) }
+    requires pass { IsPass words.now.table pass.pass.thread pass × IsCalm pass.pass.own }
+    ensures pass { IsPass words.now.table pass.pass.thread result × Wants result.pass.own key }
+    ensures holds { result.pass.own.holds ≡ pass.pass.own.holds }
+{
+    let (pass, got) = take(words, pass, key);
+    assert!(rt; !got);
+    pass
+}
+
+// Finds this in the lock, and adds one.
+fn count(
+    rt: &impl Abort,
+    words: &LockWords<Tally>,
+    pass: LockPass<Tally>,
+    key: usize,
+    found: u64,
+) -> LockPass<Tally>
+    requires found { found < 1000 }
+    requires size { (words.now.size.locks ≡ 2) × (key < 2) }
+    requires pass { IsPass words.now.table pass.pass.thread pass × Owns pass.pass.own key }
+    ensures pass { IsPass words.now.table pass.pass.thread result × MayFree result.pass.own key }
+    ensures holds { result.pass.own.holds ≡ pass.pass.own.holds }
+{
+    let (pass, tally) = words.value_out(pass, key);
+    assert_eq!(rt; tally.total, found);
+    words.value_in(pass, key, Tally { total: found + 1 })
+}
+
+fn free(words: &LockWords<Tally>, pass: LockPass<Tally>, key: usize) -> (LockPass<Tally>, bool)
+    requires size { (words.now.size.locks ≡ 2) × (key < 2) }
+    requires pass { IsPass words.now.table pass.pass.thread pass × MayFree pass.pass.own key }
+    ensures pass { IsPass words.now.table pass.pass.thread result.0 }
+    ensures answer { MatchBool result.1 (IsCalm result.0.pass.own) (MayPass result.0.pass.own key) }
+    ensures holds { MatchBool result.1 (result.0.pass.own.holds ≡ slice_set pass.pass.own.holds key NotHeld) (result.0.pass.own.holds ≡ slice_set pass.pass.own.holds key FoundParked) }
+{
+    words.free(pass, key)
+}
+
+// Lets the lock go, which nobody has marked as parked.
+fn let_go(
+    rt: &impl Abort,
+    words: &LockWords<Tally>,
+    pass: LockPass<Tally>,
+    key: usize,
+) -> LockPass<Tally>
+    requires size { (words.now.size.locks ≡ 2) × (key < 2) }
+    requires pass { IsPass words.now.table pass.pass.thread pass × MayFree pass.pass.own key }
+    ensures pass { IsPass words.now.table pass.pass.thread result × IsCalm result.pass.own }
+    ensures holds { result.pass.own.holds ≡ slice_set pass.pass.own.holds key NotHeld }
+{
+    let (pass, freed) = free(words, pass, key);
+    assert!(rt; freed);
+    pass
+}
+
+// Finds the lock parked, which it would let go.
+fn find_parked(
+    rt: &impl Abort,
+    words: &LockWords<Tally>,
+    pass: LockPass<Tally>,
+    key: usize,
+) -> LockPass<Tally>
+    requires size { (words.now.size.locks ≡ 2) × (key < 2) }
+    requires pass { IsPass words.now.table pass.pass.thread pass × MayFree pass.pass.own key }
+    ensures pass { IsPass words.now.table pass.pass.thread result × MayPass result.pass.own key }
+    ensures holds { result.pass.own.holds ≡ slice_set pass.pass.own.holds key FoundParked }
+{
+    let (pass, freed) = free(words, pass, key);
+    assert!(rt; !freed);
+    pass
+}
+
+// Marks the held lock as parked, and goes into its line, which is empty.
+fn lie_down(
+    rt: &impl Abort,
+    words: &LockWords<Tally>,
+    pass: LockPass<Tally>,
+    root: LockRoot<Tally>,
+    key: usize,
+) -> (LockPass<Tally>, LockRoot<Tally>)
+    requires size { (words.now.size.locks ≡ 2) × (key < 2) }
+    requires pass { IsPass words.now.table pass.pass.thread pass × Wants pass.pass.own key }
+    requires root { IsRoot words.now.table key [] root }
+    ensures pass { IsPass words.now.table pass.pass.thread result.0 × Sleeps result.0.pass.own key }
+    ensures holds { result.0.pass.own.holds ≡ pass.pass.own.holds }
+    ensures root { IsRoot words.now.table key (pass.pass.thread ∷ []) result.1 }
+{
+    let (pass, marked) = words.mark(pass, key);
+    assert!(rt; marked);
+    let (pass, root, queued) = words.park(pass, root);
+    assert!(rt; queued);
+    (pass, root)
+}
+
+// Passes the lock on, where at most one is in the line.
+fn pass_on(
+    words: &LockWords<Tally>,
+    pass: LockPass<Tally>,
+    root: LockRoot<Tally>,
+    first: Option<usize>,
+    fair: bool,
+) -> (LockPass<Tally>, LockRoot<Tally>)
+    requires pass { IsPass words.now.table pass.pass.thread pass × MayPass pass.pass.own root.root.key }
+    requires root { (root.table ≡ words.now.table) × (length root.root.own.line ≤ 1) × (root.root.own.owes ≡ None) }
+    requires first { first_of root.root.own.line ≡ first }
+    requires fair { first ≡ None → fair ≡ false }
+    ensures pass { IsPass words.now.table pass.pass.thread result.0 × IsCalm result.0.pass.own }
+    ensures holds { result.0.pass.own.holds ≡ slice_set pass.pass.own.holds root.root.key NotHeld }
+    ensures root { (result.1.table ≡ words.now.table) × (result.1.root.key ≡ root.root.key) × (result.1.root.own ≡ passed_root root.root.own fair root.root.own.line) }
+{
+    words.pass_on(pass, root, first, fair, false)
+}
+
+fn collect(
+    words: &LockWords<Tally>,
+    pass: LockPass<Tally>,
+    key: usize,
+) -> (LockPass<Tally>, Option<u32>)
+    requires pass { IsPass words.now.table pass.pass.thread pass × Sleeps pass.pass.own key }
+    requires key { key < 2 }
+    ensures pass { IsPass words.now.table pass.pass.thread result.0 }
+    ensures barging { result.1 ≡ Some 0 → Wants result.0.pass.own key × (result.0.pass.own.holds ≡ pass.pass.own.holds) }
+    ensures handed { result.1 ≡ Some 1 → Owns result.0.pass.own key × (result.0.pass.own.holds ≡ slice_set pass.pass.own.holds key Held) }
+    ensures none { result.1 ≡ None → Sleeps result.0.pass.own key × (result.0.pass.own.holds ≡ pass.pass.own.holds) }
+{
+    words.collect(pass)
+}
+
+// Two threads take the lock, one after the other: the first hands it to the second, which sleeps by then.
+fn hand_over(
+    rt: &impl Abort,
+    words: &LockWords<Tally>,
+    zero: LockPass<Tally>,
+    one: LockPass<Tally>,
+    root: LockRoot<Tally>,
+) -> (LockPass<Tally>, LockPass<Tally>, LockRoot<Tally>)
+    requires size { words.now.size.locks ≡ 2 }
+    requires zero { IsPass words.now.table 0 zero × IsCalm zero.pass.own × (zero.pass.own.holds ≡ NotHeld ∷ NotHeld ∷ []) }
+    requires one { IsPass words.now.table 1 one × IsCalm one.pass.own × (one.pass.own.holds ≡ NotHeld ∷ NotHeld ∷ []) }
+    requires root { IsRoot words.now.table 0 [] root }
+    ensures zero { IsPass words.now.table 0 result.0 × IsCalm result.0.pass.own × (result.0.pass.own.holds ≡ NotHeld ∷ NotHeld ∷ []) }
+    ensures one { IsPass words.now.table 1 result.1 × IsCalm result.1.pass.own × (result.1.pass.own.holds ≡ NotHeld ∷ NotHeld ∷ []) }
+    ensures root { (result.2.table ≡ words.now.table) × (result.2.root.key ≡ 0) }
+{
+    bits_are(rt, words.bits(0), 0);
+    let zero = get(rt, words, zero, 0);
+    bits_are(rt, words.bits(0), 1);
+    let zero = count(rt, words, zero, 0, 7);
+    let (one, got) = try_take(words, one, 0);
+    assert!(rt; !got);
+    let one = want(rt, words, one, 0);
+    bits_are(rt, words.bits(0), 1);
+    let (one, root) = lie_down(rt, words, one, root, 0);
+    bits_are(rt, words.bits(0), 3);
+    let (one, letter) = collect(words, one, 0);
+    letter_is(rt, letter, None);
+    let zero = find_parked(rt, words, zero, 0);
+    let (zero, root) = pass_on(words, zero, root, Some(1), true);
+    bits_are(rt, words.bits(0), 3);
+    let root = words.post(root, 1, 1);
+    let (one, letter) = collect(words, one, 0);
+    letter_is(rt, letter, Some(1));
+    let one = count(rt, words, one, 0, 8);
+    let one = find_parked(rt, words, one, 0);
+    let (one, root) = pass_on(words, one, root, None, false);
+    bits_are(rt, words.bits(0), 0);
+    (zero, one, root)
+}
+
+// The lock is passed on unfairly, to a sleeper: another barges in between, and the sleeper, which was told that it may try again, finds the
+// lock held. It comes back to park once more, when the lock is free by then, and takes it.
+fn barge_in(
+    rt: &impl Abort,
+    words: &LockWords<Tally>,
+    zero: LockPass<Tally>,
+    one: LockPass<Tally>,
+    root: LockRoot<Tally>,
+) -> (LockPass<Tally>, LockPass<Tally>, LockRoot<Tally>)
+    requires size { words.now.size.locks ≡ 2 }
+    requires zero { IsPass words.now.table 0 zero × IsCalm zero.pass.own × (zero.pass.own.holds ≡ NotHeld ∷ NotHeld ∷ []) }
+    requires one { IsPass words.now.table 1 one × IsCalm one.pass.own × (one.pass.own.holds ≡ NotHeld ∷ NotHeld ∷ []) }
+    requires root { IsRoot words.now.table 1 [] root }
+    ensures zero { IsPass words.now.table 0 result.0 × IsCalm result.0.pass.own × (result.0.pass.own.holds ≡ NotHeld ∷ NotHeld ∷ []) }
+    ensures one { IsPass words.now.table 1 result.1 × IsCalm result.1.pass.own × (result.1.pass.own.holds ≡ NotHeld ∷ NotHeld ∷ []) }
+    ensures root { (result.2.table ≡ words.now.table) × (result.2.root.key ≡ 1) }
+{
+    let (zero, got) = try_take(words, zero, 1);
+    assert!(rt; got);
+    let zero = count(rt, words, zero, 1, 40);
+    let one = want(rt, words, one, 1);
+    let (one, root) = lie_down(rt, words, one, root, 1);
+    let zero = find_parked(rt, words, zero, 1);
+    let (zero, root) = pass_on(words, zero, root, Some(1), false);
+    bits_are(rt, words.bits(1), 0);
+    let zero = get(rt, words, zero, 1);
+    let root = words.post(root, 1, 0);
+    let (one, letter) = collect(words, one, 1);
+    letter_is(rt, letter, Some(0));
+    let (one, got) = take_again(words, one, 1);
+    assert!(rt; !got);
+    let zero = let_go(rt, words, zero, 1);
+    bits_are(rt, words.bits(1), 0);
+    let (one, marked) = words.mark(one, 1);
+    assert!(rt; !marked);
+    let (one, root, queued) = words.park(one, root);
+    assert!(rt; !queued);
+    let (one, got) = take_again(words, one, 1);
+    assert!(rt; got);
+    let one = let_go(rt, words, one, 1);
+    (zero, one, root)
+}
+
+#[test]
+fn handing_over_and_barging(rt: HostRuntime) -> Result<(), Fail> {
+    let alloc = rt.alloc();
+    let mut values = Vec::with_capacity(alloc, 2)?;
+    values.push_reserved(Tally { total: 7 });
+    values.push_reserved(Tally { total: 40 });
+    let Ok((words, mut passes, mut roots)) = LockWords::open(alloc, 2, values) else {
+        return Err("no memory".into());
+    };
+    let one = passes.take_last();
+    let zero = passes.take_last();
+    let second = roots.take_last();
+    let first = roots.take_last();
+    let (zero, one, first) = hand_over(&rt, &words, zero, one, first);
+    let (zero, one, second) = barge_in(&rt, &words, zero, one, second);
+    let (zero, one) = words.check_apart(zero, one);
+    passes.push_reserved(zero);
+    passes.push_reserved(one);
+    roots.push_reserved(first);
+    roots.push_reserved(second);
+    let mut values = words.close(passes, roots);
+    assert_eq!(rt; values.take_last().total, 41);
+    assert_eq!(rt; values.take_last().total, 9);
+    Ok(())
+}

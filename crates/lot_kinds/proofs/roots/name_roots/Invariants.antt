@@ -1,0 +1,18 @@
+use Rattle.std.proofs.Common.{◌≡◌, ◌+◌, ◌≤◌, ◌++◌, length, map, reverse, vec_len, vec_capacity}
+use Rattle.std.specs.List.{All}
+use Rattle.lot_park.specs.declared.parts.both.OneOf.TheVariants.{First}
+use Rattle.lot_kinds.specs.Roots.{IsFreeRoot}
+use Rattle.lot_kinds.proofs.roots.name_roots.Given as goal
+
+abbrev pub invariant-loop-root : goal.invariant-loop-root
+invariant-loop-root g l = record {
+  free : All (IsFreeRoot g.N.Name.opening.locks (length g.N.LotName.values)) l.roots.items;
+  moved : map First l.roots.items ++ reverse l.named.items ≡ map First l.initial.roots.items;
+  count : vec_len l.roots + vec_len l.named ≡ vec_len l.initial.roots;
+  fits : vec_len l.initial.roots ≤ vec_capacity l.named;
+  room : vec_capacity l.roots ≡ vec_capacity l.initial.roots;
+  named_room : vec_capacity l.named ≡ vec_capacity l.initial.named;
+}
+
+abbrev pub decreases-loop-root : goal.decreases-loop-root
+decreases-loop-root g l = vec_len l.roots

@@ -1,0 +1,121 @@
+//! Producers put into a buffer and consumers take from it. The buffer is a number: how many lie there.
+ghost use Rattle.std.specs.Prelude.{◌≡◌, ◌≤◌, ◌<◌};
+ghost use Rattle.lot_sync.specs.Lot.{OwnsNone};
+ghost use Rattle.lot_load.specs.Numbers.{HasNumber};
+
+use super::clock::moment;
+use super::rounds::Random;
+use super::value::Number;
+use lot_sync::{Held, Lot, LotName, Moment, Pass};
+use std::sync::Wait;
+use std::time::Clock;
+
+/// The condition on which producers wait.
+const NOT_FULL: usize = 1;
+
+/// The condition on which consumers wait.
+const NOT_EMPTY: usize = 2;
+
+/// How many the buffer has room for.
+const PLACES: u64 = 16;
+
+/// A notification needs no fair release.
+const NEVER_FAIR: Moment = Moment { now: 0, word: 0 };
+
+/// What a thread of a relay does with the buffer.
+#[derive(Clone, Copy)]
+pub enum Side {
+    /// It puts.
+    Producer,
+    /// It takes.
+    Consumer,
+}
+
+impl Side {
+    /// The condition on which it waits.
+    fn waits_on(self) -> usize
+        ensures { (1 ≤ result) × (result < 3) }
+    {
+        match self {
+            Side::Producer => NOT_FULL,
+            Side::Consumer => NOT_EMPTY,
+        }
+    }
+
+    /// The condition on which the others wait.
+    fn tells(self) -> usize
+        ensures { (1 ≤ result) × (result < 3) }
+    {
+        match self {
+            Side::Producer => NOT_EMPTY,
+            Side::Consumer => NOT_FULL,
+        }
+    }
+
+    /// Whether it has to wait where so many lie in the buffer.
+    fn has_to_wait(self, lie: u64) -> bool {
+        match self {
+            Side::Producer => lie >= PLACES,
+            Side::Consumer => lie == 0,
+        }
+    }
+
+    /// How many lie in the buffer after it.
+    fn leaves(self, lie: u64) -> u64 {
+        match self {
+            Side::Producer => lie.wrapping_add(1),
+            Side::Consumer => lie.wrapping_sub(1),
+        }
+    }
+}
+
+/// Puts or takes so many times.
+pub fn take_part<N: LotName<Number> + Send, T: Wait + Clock>(
+    rt: &T,
+    lot: &Lot<Number, N>,
+    side: Side,
+    worker: usize,
+    pass: Pass<Number, N>,
+    rounds: u64,
+) -> Pass<Number, N>
+    requires keys { (lot.now.locks ≡ 1) × (lot.now.conds ≡ 2) }
+    requires free { OwnsNone pass }
+    ensures { OwnsNone result }
+{
+    let mut pass = pass;
+    let mut random = Random::new(worker);
+    for _ in 0..rounds {
+        let word = random.next();
+        let (owner, mut held) = get(rt, lot, side, pass, word);
+        let number = held.value_mut();
+        number.n = side.leaves(number.n);
+        let (owner, _) = lot.unlock_asking(rt, owner, held, || moment(rt, word));
+        let (told, _) = lot.notify_one(rt, owner, side.tells(), NEVER_FAIR);
+        pass = told;
+    }
+    pass
+}
+
+/// Locks the buffer, and waits on the side's condition while it has to.
+fn get<N: LotName<Number> + Send, T: Wait + Clock>(
+    rt: &T,
+    lot: &Lot<Number, N>,
+    side: Side,
+    pass: Pass<Number, N>,
+    word: u64,
+) -> (Pass<Number, N>, Held<Number, N>)
+    requires keys { (lot.now.locks ≡ 1) × (lot.now.conds ≡ 2) }
+    requires free { OwnsNone pass }
+    ensures { HasNumber result.0 result.1 }
+{
+    let (mut pass, mut held) = lot.lock(rt, pass, 0);
+    for _ in rt.forever() {
+        if !side.has_to_wait(held.value().n) {
+            return (pass, held);
+        }
+        let (woken, found) = lot.wait(rt, pass, held, side.waits_on(), moment(rt, word));
+        pass = woken;
+        held = found;
+    }
+    unreachable!()
+}

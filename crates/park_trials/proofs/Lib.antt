@@ -1,2 +1,0 @@
-mod Idle
-mod Lending

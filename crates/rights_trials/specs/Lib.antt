@@ -1,3 +1,0 @@
-pub mod CondSchedules
-pub mod LockSchedules
-pub mod SemSchedules
