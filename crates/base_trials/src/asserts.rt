@@ -27,3 +27,35 @@ pub(crate) fn equal<T: PartialEq + Debug + Copy>(rt: &impl Abort, found: T, want
 pub(crate) fn bits_are(rt: &impl Abort, found: u64, wanted: u64) {
     assert_eq!(rt; found, wanted);
 }
+
+/// It is so in this row of a table, or the test fails.
+pub(crate) fn is_so_in(rt: &impl Abort, is_so: bool, row: impl Debug + Copy)
+    ensures { is_so ≡ true }
+{
+    assert!(rt; is_so, "{row:?}");
+}
+
+/// What was found in this row of a table is what was wanted, or the test fails.
+pub(crate) fn equal_in<T: PartialEq + Debug + Copy>(
+    rt: &impl Abort,
+    found: T,
+    wanted: T,
+    row: impl Debug + Copy,
+) {
+    assert_eq!(rt; found, wanted, "{row:?}");
+}
+
+/// The text ends so, or the test fails.
+pub(crate) fn ends_with(rt: &impl Abort, text: &str, end: &str) {
+    assert!(rt; text.ends_with(end), "{text} / {end}");
+}
+
+/// The text has the other one in it, or the test fails.
+pub(crate) fn contains(rt: &impl Abort, text: &str, part: &str) {
+    assert!(rt; text.contains(part), "{text} / {part}");
+}
+
+/// The bytes are those of the text, or the test fails.
+pub(crate) fn bytes_are(rt: &impl Abort, found: &[u8], wanted: &str, what: &str, row: &str) {
+    assert!(rt; found == wanted.as_bytes(), "{what} of {row}");
+}

@@ -1,6 +1,6 @@
 //! Scripts and their pictures: those of docs/pictures, byte for byte.
 
-pub const BARGING: (&str, &str) = (
+pub static BARGING: (&str, &str) = (
     "open 3 1 0\ntake 0 0\ntake 1 0\nmark 1 0\npark 1 0\npass 0 0 0 0\ntake 2 0\ntake 1 0\nmark 1 0\npark 1 0\npass 2 0 0 0\ntake 1 0\nfree 1 0\n",
     "<svg xmlns='http://www.w3.org/2000/svg' viewBox='0 0 824 282' width='824' height='282' role='img' font-family='monospace' font-size='11' fill='#222'>
 <title>A run (threads: 3, events: 12)</title>
@@ -62,7 +62,7 @@ pub const BARGING: (&str, &str) = (
 ",
 );
 
-pub const HANDOFF: (&str, &str) = (
+pub static HANDOFF: (&str, &str) = (
     "open 3 1 0\ntake 0 0\ntake 1 0\nmark 1 0\npark 1 0\ntake 2 0\npark 2 0\npass 0 0 1 0\npass 1 0 1 0\npass 2 0 0 0\n",
     "<svg xmlns='http://www.w3.org/2000/svg' viewBox='0 0 632 282' width='632' height='282' role='img' font-family='monospace' font-size='11' fill='#222'>
 <title>A run (threads: 3, events: 9)</title>
@@ -117,7 +117,7 @@ pub const HANDOFF: (&str, &str) = (
 ",
 );
 
-pub const WAIT: (&str, &str) = (
+pub static WAIT: (&str, &str) = (
     "open 2 1 1\ntake 0 0\nenlist 0 1 0\nfree 0 0\ntake 1 0\nlook 1 1\ncall 1 1 0\ntake 0 0\nmark 0 0\npark 0 0\npass 1 0 1 0\npass 0 0 0 0\n",
     "<svg xmlns='http://www.w3.org/2000/svg' viewBox='0 0 760 228' width='760' height='228' role='img' font-family='monospace' font-size='11' fill='#222'>
 <title>A run (threads: 2, events: 11)</title>
@@ -176,7 +176,7 @@ pub const WAIT: (&str, &str) = (
 ",
 );
 
-pub const SEMAPHORE: (&str, &str) = (
+pub static SEMAPHORE: (&str, &str) = (
     "open 3 1 0 1\nstake 0 1\nstake 1 1\nsmark 1 1\nspark 1 1\nstake 2 1\nspark 2 1\nspass 0 1 1\nstake 1 1\nspass 1 1 0\nstake 2 1\nsfree 2 1\n",
     "<svg xmlns='http://www.w3.org/2000/svg' viewBox='0 0 760 282' width='760' height='282' role='img' font-family='monospace' font-size='11' fill='#222'>
 <title>A run (threads: 3, events: 11)</title>

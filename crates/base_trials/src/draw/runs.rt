@@ -1,6 +1,7 @@
 //! What the bars of a run show of its threads is what the model's printed state says of them, after each event.
 
-use lot_core::{Point, Script, State, parse_script, print_state};
+use crate::asserts::{contains, ends_with};
+use lot_core::{Event, Point, Script, State, parse_script, print_state};
 use lot_draw::marks::{Bar, Right, Told};
 use lot_draw::run::Run;
 use std::alloc::{AllocError, Global};
@@ -9,7 +10,7 @@ use std::process::Abort;
 use std::test::Fail;
 
 /// Scripts that come by every point, every line and every way out of one.
-const SCRIPTS: [&str; 6] = [
+static SCRIPTS: [&str; 6] = [
     "open 4 1 0\ntake 0 0\ntake 1 0\nmark 1 0\npark 1 0\ntake 2 0\npark 2 0\npass 0 0 0 1\ntake 3 0\n",
     "open 3 1 0\ntake 0 0\ntake 1 0\nmark 1 0\npark 1 0\ntake 2 0\npark 2 0\npass 0 0 1 0\nfree 1 0\npass 1 0 1 0\n",
     "open 4 1 1\ntake 0 0\nenlist 0 1 0\nfree 0 0\ntake 1 0\nenlist 1 1 0\nfree 1 0\ntake 2 0\nenlist 2 1 0\nlower 3 1\nsweep 3 1\nfree 2 0\ntake 0 0\n",
@@ -17,6 +18,20 @@ const SCRIPTS: [&str; 6] = [
     "open 4 1 0 2 0\nstake 0 1\nstake 0 1\nstake 1 1\nsmark 1 1\nspark 1 1\nstake 2 1\nspark 2 1\nspass 0 1 1\nsfree 0 1\nstake 3 1\nspark 1 1\nspass 3 1 1\nstake 2 1\nspass 2 1 0\nstake 1 1\nsclear 0 1\nsfree 1 1\n",
     "open 2 3 0\ntry 0 0\ntry 0 1\ntry 0 2\nfree 0 1\ntry 1 1\ntry 0 1\nfree 1 1\ntry 0 1\n",
 ];
+
+fn push_numbered(out: &mut String, mark: &str, number: usize) -> Result<(), AllocError> {
+    write!(out, "{mark}{number}")
+}
+
+/// Pushes the numbers, with a comma between two.
+fn push_listed(out: &mut String, numbers: &[(usize, usize)]) -> Result<(), AllocError> {
+    let mut mark = " line ";
+    for (_, number) in numbers {
+        push_numbered(out, mark, *number)?;
+        mark = ",";
+    }
+    Ok(())
+}
 
 fn push_point(out: &mut String, point: Point) -> Result<(), AllocError> {
     match point {
@@ -27,6 +42,14 @@ fn push_point(out: &mut String, point: Point) -> Result<(), AllocError> {
         Point::Sweeps { cond } => write!(out, "sweeps {cond}"),
         Point::Seeks { sem } => write!(out, "seeks {sem}"),
     }
+}
+
+/// The thread's line in the printed state.
+fn push_thread(out: &mut String, thread: usize, point: Point) -> Result<(), AllocError> {
+    push_numbered(out, "thread ", thread)?;
+    out.push_str(" ")?;
+    push_point(out, point)?;
+    out.push_str("\n")
 }
 
 /// A run that is over, with so many events: what its bars show of its end.
@@ -86,25 +109,43 @@ impl Ended<'_> {
         Ok(queued)
     }
 
+    /// What the lock's line in the printed state says of its owner.
+    fn push_owner(&self, out: &mut String, lock: usize) -> Result<(), AllocError> {
+        match self.owner(lock) {
+            Some(owner) => push_numbered(out, " owner ", owner),
+            None => out.push_str(" owner -"),
+        }
+    }
+
     /// The end of the key's line in the printed state: who is in its line.
     fn push_line(&self, alloc: Global, out: &mut String, key: usize) -> Result<(), AllocError> {
         let queued = self.queued(alloc, key)?;
         if queued.is_empty() {
             return out.push_str(" line -");
         }
-        let mut mark = " line ";
-        for (_, sleeper) in queued.iter() {
-            write!(out, "{mark}{sleeper}")?;
-            mark = ",";
+        push_listed(out, queued.as_slice())
+    }
+
+    /// What this line of the printed state, of the key or of a thread, has at its end.
+    fn push_end(
+        &self,
+        alloc: Global,
+        out: &mut String,
+        key: usize,
+        line: &str,
+    ) -> Result<(), AllocError> {
+        if line.starts_with("lock ") {
+            self.push_owner(out, key)?;
         }
-        Ok(())
+        if line.starts_with("thread ") {
+            return Ok(());
+        }
+        self.push_line(alloc, out, key)
     }
 
     fn push_threads(&self, out: &mut String, threads: usize) -> Result<(), AllocError> {
         for thread in 0..threads {
-            write!(out, "thread {thread} ")?;
-            push_point(out, self.point_of(thread))?;
-            out.push_str("\n")?;
+            push_thread(out, thread, self.point_of(thread))?;
         }
         Ok(())
     }
@@ -136,11 +177,18 @@ fn compare<R: Abort>(
     let printed = print_state(alloc, state)?;
     let mut told = String::new(alloc);
     ended.push_threads(&mut told, threads)?;
-    assert!(rt;
-        printed.as_str().ends_with(told.as_str()),
-        "{printed} / {told}"
-    );
-    for (key, line) in printed.as_str().lines().enumerate() {
+    ends_with(rt, printed.as_str(), told.as_str());
+    compare_lines(rt, alloc, ended, printed.as_str())?;
+    Ok(())
+}
+
+fn compare_lines<R: Abort>(
+    rt: &R,
+    alloc: Global,
+    ended: &Ended,
+    printed: &str,
+) -> Result<(), AllocError> {
+    for (key, line) in printed.lines().enumerate() {
         compare_line(rt, alloc, ended, key, line)?;
     }
     Ok(())
@@ -152,29 +200,61 @@ fn compare_line<R: Abort>(
     ended: &Ended,
     key: usize,
     line: &str,
-) -> Result<(), Fail> {
-    let mut want = String::new(alloc);
-    if line.starts_with("lock ") {
-        match ended.owner(key) {
-            Some(owner) => write!(want, " owner {owner}")?,
-            None => want.push_str(" owner -")?,
-        }
-    }
+) -> Result<(), AllocError> {
     if line.starts_with("sem ") {
-        let out = ended.count(Right::Permit { sem: key });
-        assert!(rt;
-            line.contains(format!(in alloc; " out {out} ")?.as_str()),
-            "{line}: {out}"
-        );
+        compare_permits(rt, alloc, ended, key, line)?;
     }
-    if !line.starts_with("thread ") {
-        ended.push_line(alloc, &mut want, key)?;
+    let mut want = String::new(alloc);
+    ended.push_end(alloc, &mut want, key, line)?;
+    ends_with(rt, line, want.as_str());
+    Ok(())
+}
+
+/// Compares how many permits are out at the end of a run with what the semaphore's line says.
+fn compare_permits<R: Abort>(
+    rt: &R,
+    alloc: Global,
+    ended: &Ended,
+    sem: usize,
+    line: &str,
+) -> Result<(), AllocError> {
+    let out = ended.count(Right::Permit { sem });
+    let told = format!(in alloc; " out {out} ")?;
+    contains(rt, line, told.as_str());
+    Ok(())
+}
+
+/// Makes the event, and the run sees it.
+fn step(state: &mut State, run: &mut Run, event: Event) -> Result<(), Fail> {
+    let seen = state.step(event)?;
+    run.see(event, seen)?;
+    Ok(())
+}
+
+/// Makes the events, of which the run sees each, and ends the run there.
+fn run_to_its_end(state: &mut State, run: &mut Run, events: &[Event]) -> Result<(), Fail> {
+    for event in events {
+        step(state, run, *event)?;
     }
-    assert!(rt; line.ends_with(want.as_str()), "{line}: {want}");
+    run.end()?;
     Ok(())
 }
 
 /// Makes the first events of the script, ends the run there, and compares.
+fn compare_run<R: Abort>(
+    rt: &R,
+    alloc: Global,
+    script: &Script,
+    events: usize,
+    state: &mut State,
+) -> Result<(), Fail> {
+    let mut run = Run::new(alloc, script.threads)?;
+    let made = script.events.get(..events).ok_or("too many events")?;
+    run_to_its_end(state, &mut run, made)?;
+    let bars = run.bars.as_slice();
+    compare(rt, alloc, &Ended { bars, events }, script.threads, state)
+}
+
 fn compare_after<R: Abort>(
     rt: &R,
     alloc: Global,
@@ -188,19 +268,12 @@ fn compare_after<R: Abort>(
         script.conds,
         script.permits.as_slice(),
     )?;
-    let mut run = Run::new(alloc, script.threads)?;
-    for event in script.events.iter().take(events) {
-        let seen = state.step(*event)?;
-        run.see(*event, seen)?;
-    }
-    run.end()?;
-    let bars = run.bars.as_slice();
-    compare(rt, alloc, &Ended { bars, events }, script.threads, &state)
+    compare_run(rt, alloc, script, events, &mut state)
 }
 
 #[test]
 fn runs_agree_with_printed_states(rt: HostRuntime) -> Result<(), Fail> {
-    for text in SCRIPTS {
+    for text in &SCRIPTS {
         let script = parse_script(rt.alloc(), text)?;
         for events in 0..script.events.len() + 1 {
             compare_after(&rt, rt.alloc(), &script, events)?;

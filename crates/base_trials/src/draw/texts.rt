@@ -1,6 +1,7 @@
 //! The pictures, and each fault with its status.
 
 use super::pictures::{BARGING, HANDOFF, SEMAPHORE, WAIT};
+use crate::asserts::{bytes_are, equal, equal_in, is_so};
 use lot_draw::run_command;
 use std::alloc::{AllocError, Global};
 use std::io;
@@ -20,27 +21,27 @@ fn check<R: Abort>(
     let mut out = Vec::new(alloc);
     let mut faults = Vec::new(alloc);
     let status = run_command(alloc, words, file, &mut out, &mut faults);
-    assert!(rt; out.as_slice() == want.0.as_bytes(), "output of {name}");
-    assert!(rt; faults.as_slice() == want.1.as_bytes(), "faults of {name}");
-    assert_eq!(rt; status, want.2, "status of {name}");
+    bytes_are(rt, out.as_slice(), want.0, "output", name);
+    bytes_are(rt, faults.as_slice(), want.1, "faults", name);
+    equal_in(rt, status, want.2, name);
+}
+
+fn is_drawn<R: Abort>(rt: &R, alloc: Global, name: &str, drawn: (&str, &str)) {
+    let (script, picture) = drawn;
+    let file = Some(script.as_bytes());
+    check(rt, alloc, name, &["f"], file, (picture, "", 0));
 }
 
 #[test]
 fn scripts_are_drawn(rt: HostRuntime) {
-    let pictures = [
-        ("barging", BARGING),
-        ("handoff", HANDOFF),
-        ("wait", WAIT),
-        ("semaphore", SEMAPHORE),
-    ];
-    for (name, (script, picture)) in pictures {
-        let file = Some(script.as_bytes());
-        check(&rt, rt.alloc(), name, &["f"], file, (picture, "", 0));
-    }
+    is_drawn(&rt, rt.alloc(), "barging", BARGING);
+    is_drawn(&rt, rt.alloc(), "handoff", HANDOFF);
+    is_drawn(&rt, rt.alloc(), "wait", WAIT);
+    is_drawn(&rt, rt.alloc(), "semaphore", SEMAPHORE);
 }
 
 /// A script, the fault, and the status.
-const REFUSED: [(&str, &str, u8); 9] = [
+static REFUSED: [(&str, &str, u8); 9] = [
     ("", "bad script line 1\n", 1),
     ("open 1 1 0", "bad script line 1\n", 1),
     ("open 1 1 0\ntry 0  0\n", "bad script line 2\n", 1),
@@ -58,9 +59,9 @@ const REFUSED: [(&str, &str, u8); 9] = [
 
 #[test]
 fn wrong_scripts_are_refused(rt: HostRuntime) {
-    for (script, fault, status) in REFUSED {
+    for (script, fault, status) in &REFUSED {
         let file = Some(script.as_bytes());
-        check(&rt, rt.alloc(), script, &["f"], file, ("", fault, status));
+        check(&rt, rt.alloc(), script, &["f"], file, ("", *fault, *status));
     }
 }
 
@@ -73,6 +74,20 @@ fn wrong_words_are_refused(rt: HostRuntime) {
     }
 }
 
+/// Checks a file of so many empty lines.
+fn check_empty_lines<R: Abort>(
+    rt: &R,
+    alloc: Global,
+    lines: usize,
+    name: &str,
+    want: (&str, &str, u8),
+) -> Result<(), AllocError> {
+    let bytes = vec![in alloc; b'\n'; lines]?;
+    let file = Some(bytes.as_slice());
+    check(rt, alloc, name, &["f"], file, want);
+    Ok(())
+}
+
 #[test]
 fn unreadable_files(rt: HostRuntime) -> Result<(), Fail> {
     let alloc = rt.alloc();
@@ -80,13 +95,9 @@ fn unreadable_files(rt: HostRuntime) -> Result<(), Fail> {
     check(&rt, alloc, "no such file", &["f"], None, fault);
     let not_text = Some(b"open 1 1 0\n\xff\n".as_slice());
     check(&rt, alloc, "not UTF-8", &["f"], not_text, fault);
-    let large = vec![in alloc; b'\n'; 4_000_001]?;
-    let large = Some(large.as_slice());
-    check(&rt, alloc, "4,000,001 bytes", &["f"], large, fault);
-    let fits = vec![in alloc; b'\n'; 4_000_000]?;
-    let fits = Some(fits.as_slice());
+    check_empty_lines(&rt, alloc, 4_000_001, "4,000,001 bytes", fault)?;
     let bad = ("", "bad script line 1\n", 1);
-    check(&rt, alloc, "4,000,000 bytes", &["f"], fits, bad);
+    check_empty_lines(&rt, alloc, 4_000_000, "4,000,000 bytes", bad)?;
     Ok(())
 }
 
@@ -130,9 +141,15 @@ fn output_that_cannot_be_written(rt: HostRuntime) {
     };
     let file = Some(WAIT.0.as_bytes());
     let status = run_command(rt.alloc(), &["f"], file, &mut Full, &mut faults);
-    assert!(rt; faults.bytes.as_slice() == b"cannot write\n".as_slice());
-    assert_eq!(rt; faults.writes, 1);
-    assert_eq!(rt; status, 1);
+    bytes_are(
+        &rt,
+        faults.bytes.as_slice(),
+        "cannot write\n",
+        "faults",
+        "a full output",
+    );
+    equal(&rt, faults.writes, 1);
+    equal(&rt, status, 1);
 }
 
 /// A script of so many lines after the first.
@@ -144,17 +161,26 @@ fn long_script(alloc: Global, lines: u32) -> Result<String, AllocError> {
     Ok(script)
 }
 
+/// The longest picture is written to its end.
+fn is_drawn_to_its_end<R: Abort>(rt: &R, alloc: Global, script: &str) {
+    let mut out = Vec::new(alloc);
+    let mut faults = Vec::new(alloc);
+    let file = Some(script.as_bytes());
+    let status = run_command(alloc, &["f"], file, &mut out, &mut faults);
+    is_so(
+        rt,
+        out.as_slice().ends_with(b"</svg>\n"),
+        "it is drawn to its end",
+    );
+    is_so(rt, faults.is_empty(), "no fault is told");
+    equal(rt, status, 0);
+}
+
 #[test]
 fn longest_scripts(rt: HostRuntime) -> Result<(), Fail> {
     let alloc = rt.alloc();
     let longest = long_script(alloc, 99_999)?;
-    let mut out = Vec::new(alloc);
-    let mut faults = Vec::new(alloc);
-    let file = Some(longest.as_bytes());
-    let status = run_command(alloc, &["f"], file, &mut out, &mut faults);
-    assert!(rt; out.as_slice().ends_with(b"</svg>\n"));
-    assert!(rt; faults.is_empty());
-    assert_eq!(rt; status, 0);
+    is_drawn_to_its_end(&rt, alloc, longest.as_str());
     let longer = long_script(alloc, 100_000)?;
     let file = Some(longer.as_bytes());
     let fault = ("", "bad script line 100001\n", 1);

@@ -1,7 +1,8 @@
 //! One queue with mixed keys, and its roots.
-ghost use Rattle.std.specs.Prelude.{◌≡◌, ℕ, ◌≤◌, length, List, []};
+ghost use Rattle.std.specs.Prelude.{◌≡◌, []};
 ghost use Rattle.lot_bucket.specs.Queue.{without_key};
 
+use crate::asserts::{equal, equal_in, is_so, is_so_in};
 use lot_bucket::{Bucket, Dequeued, Moment, Root};
 use std::process::Abort;
 use std::test::Fail;
@@ -199,9 +200,9 @@ fn queue_all(rt: &impl Abort, bucket: &mut Bucket<Named>, pairs: &[(usize, usize
     ensures opened { bucket.new.opened ≡ bucket.old.opened }
 {
     for (thread, key) in pairs {
-        assert!(rt; bucket.len() < bucket.room());
+        is_so(rt, bucket.len() < bucket.room(), "there is room");
         bucket.enqueue(*thread, *key);
-        assert!(rt; bucket.has_thread(*thread));
+        is_so(rt, bucket.has_thread(*thread), "it is queued");
     }
 }
 
@@ -210,9 +211,9 @@ fn expect_line(rt: &impl Abort, bucket: &mut Bucket<Named>, key: usize, line: &[
     ensures { bucket.new ≡ record bucket.old { queue = without_key key bucket.old.queue } }
 {
     let mut out = [0; ROOM];
-    assert!(rt; bucket.len() <= out.len());
+    is_so(rt, bucket.len() <= out.len(), "there is room");
     let count = bucket.dequeue_all(key, &mut out);
-    assert_eq!(rt; out.get(..count), Some(line), "{name}");
+    equal_in(rt, out.get(..count), Some(line), name);
 }
 
 // Takes the first of a key's line, at most so many as are asked for, and looks who they are and whether more may wait.
@@ -229,10 +230,10 @@ fn expect_first(
 {
     let (key, count) = asked;
     let mut out = [0; ROOM];
-    assert!(rt; bucket.len() <= out.len());
+    is_so(rt, bucket.len() <= out.len(), "there is room");
     let (taken, more_wait) = bucket.dequeue_count(key, count, &mut out);
-    assert_eq!(rt; out.get(..taken), Some(line), "the first {count}");
-    assert_eq!(rt; more_wait, more, "the first {count}");
+    equal_in(rt, out.get(..taken), Some(line), asked);
+    equal_in(rt, more_wait, more, asked);
 }
 
 fn expect_step(rt: &impl Abort, bucket: &mut Bucket<Named>, step: &Step, name: &str)
@@ -245,8 +246,8 @@ fn expect_step(rt: &impl Abort, bucket: &mut Bucket<Named>, step: &Step, name: &
         word: step.word,
     };
     let taken = bucket.dequeue_one(step.key, moment);
-    assert_eq!(rt; taken, step.taken, "{name}");
-    assert_eq!(rt; bucket.next_fair(), step.next_fair, "{name}");
+    equal_in(rt, taken, step.taken, name);
+    equal_in(rt, bucket.next_fair(), step.next_fair, name);
 }
 
 fn expect_row(rt: &impl Abort, bucket: &mut Bucket<Named>, row: &Row)
@@ -260,7 +261,7 @@ fn expect_row(rt: &impl Abort, bucket: &mut Bucket<Named>, row: &Row)
     for (key, line) in row.left {
         expect_line(rt, bucket, *key, line, row.name);
     }
-    assert!(rt; bucket.is_empty(), "{}", row.name);
+    is_so_in(rt, bucket.is_empty(), row.name);
 }
 
 #[test]
@@ -274,41 +275,60 @@ fn one_is_taken(rt: HostRuntime) -> Result<(), Fail> {
     Ok(())
 }
 
+// One thread waits alone, on this key, and nobody was yet handed anything.
+fn expect_one(rt: &impl Abort, bucket: &Bucket<Named>, key: usize) {
+    equal(rt, bucket.len(), 1);
+    equal(rt, bucket.line_length(key), 1);
+    equal(rt, bucket.next_fair(), 0);
+}
+
+// Of three threads of a key two are taken, then the third, and then nobody is left.
+fn take_two_then_one(rt: &impl Abort, bucket: &mut Bucket<Named>)
+    ensures places { bucket.new.places ≡ bucket.old.places }
+    ensures opened { bucket.new.opened ≡ bucket.old.opened }
+    ensures empty { bucket.new.queue ≡ [] }
+{
+    queue_all(rt, bucket, &[(1, 13), (2, 13), (3, 13)]);
+    expect_first(rt, bucket, (13, 2), &[1, 2], true);
+    expect_first(rt, bucket, (13, 5), &[3], false);
+    expect_first(rt, bucket, (13, 1), &[], false);
+    is_so(rt, bucket.is_empty(), "all are taken");
+}
+
 #[test]
 #[tactic(auto, using(lot_bucket::proofs::Slots::rootless_empty))]
 fn several_are_taken(rt: HostRuntime) -> Result<(), Fail> {
     let mut bucket: Bucket<Named> = Bucket::new(rt.alloc(), ROOM, &[1, 13])?;
     queue_all(&rt, &mut bucket, &[(1, 13), (2, 1), (3, 13)]);
     expect_line(&rt, &mut bucket, 13, &[1, 3], "the line of 13");
-    assert_eq!(rt; bucket.len(), 1);
-    assert_eq!(rt; bucket.line_length(1), 1);
-    assert_eq!(rt; bucket.next_fair(), 0);
+    expect_one(&rt, &bucket, 1);
     expect_line(&rt, &mut bucket, 1, &[2], "the line of 1");
-    queue_all(&rt, &mut bucket, &[(1, 13), (2, 13), (3, 13)]);
-    expect_first(&rt, &mut bucket, (13, 2), &[1, 2], true);
-    expect_first(&rt, &mut bucket, (13, 5), &[3], false);
-    expect_first(&rt, &mut bucket, (13, 1), &[], false);
-    assert!(rt; bucket.is_empty());
+    take_two_then_one(&rt, &mut bucket);
     bucket.discard();
     Ok(())
+}
+
+fn is_open_with_its_keys(rt: &impl Abort, bucket: &Bucket<Named>) {
+    is_so(rt, bucket.is_open(), "it is open");
+    is_so(rt, bucket.has_key(13), "it has the key 13");
+    is_so(rt, !bucket.has_key(7), "it does not have the key 7");
 }
 
 #[test]
 fn roots_are_taken_out_and_put_back(rt: HostRuntime) -> Result<(), Fail> {
     let mut bucket = Bucket::new(rt.alloc(), ROOM, &[1, 13])?;
-    assert!(rt; !bucket.is_open());
+    is_so(&rt, !bucket.is_open(), "it is not yet open");
     bucket.put_root(1, Named { key: 1 });
     bucket.put_root(13, Named { key: 13 });
     bucket.open();
-    assert!(rt; bucket.is_open());
-    assert!(rt; bucket.has_key(13) && !bucket.has_key(7));
+    is_open_with_its_keys(&rt, &bucket);
     let root = bucket.take_root(13);
-    assert_eq!(rt; root.key, 13);
+    equal(&rt, root.key, 13);
     bucket.put_root(13, root);
-    assert_eq!(rt; bucket.take_root(1).key, 1);
+    equal(&rt, bucket.take_root(1).key, 1);
     bucket.close();
-    assert!(rt; !bucket.is_open());
-    assert_eq!(rt; bucket.take_root(13).key, 13);
+    is_so(&rt, !bucket.is_open(), "it is closed");
+    equal(&rt, bucket.take_root(13).key, 13);
     bucket.discard();
     Ok(())
 }
@@ -318,7 +338,7 @@ fn roots_are_taken_out_and_put_back(rt: HostRuntime) -> Result<(), Fail> {
 fn keys_need_not_be_evenly_spaced(rt: HostRuntime) -> Result<(), Fail> {
     let bucket: Bucket<Named> = Bucket::new(rt.alloc(), ROOM, &[3, 1, 9])?;
     for (key, has) in [(1, true), (3, true), (5, false), (9, true)] {
-        assert_eq!(rt; bucket.has_key(key), has, "key {key}");
+        equal_in(&rt, bucket.has_key(key), has, key);
     }
     bucket.discard();
     Ok(())
@@ -329,7 +349,7 @@ fn keys_need_not_be_evenly_spaced(rt: HostRuntime) -> Result<(), Fail> {
 fn keys_are_evenly_spaced(rt: HostRuntime) -> Result<(), Fail> {
     let bucket: Bucket<Named> = Bucket::spaced(rt.alloc(), ROOM, 1, 12, 3)?;
     for (key, has) in [(0, false), (1, true), (13, true), (25, true), (37, false)] {
-        assert_eq!(rt; bucket.has_key(key), has, "key {key}");
+        equal_in(&rt, bucket.has_key(key), has, key);
     }
     bucket.discard();
     Ok(())

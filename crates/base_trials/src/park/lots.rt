@@ -1,5 +1,5 @@
 //! The calls of the parking lot: who sleeps, who is woken, and what it is told.
-ghost use Rattle.std.specs.Prelude.{◌≡◌, ◌<◌, []};
+ghost use Rattle.std.specs.Prelude.{◌≡◌, ◌<◌, ◌≤◌, []};
 ghost use Rattle.lot_bucket.specs.Queue.{first_of};
 
 use super::askings::{ASKINGS, QUIET_ASKINGS, await_line};
@@ -14,7 +14,7 @@ use std::alloc::Global;
 use std::process::Abort;
 use std::sync::Wait;
 use std::thread;
-use std::thread::Threads;
+use std::thread::{Scope, Threads};
 
 const KEYS: usize = 4;
 
@@ -134,8 +134,8 @@ fn close<R: Wait + Abort>(rt: &R, alloc: Global, lot: ParkingLot<Letters>)
 #[test]
 fn an_invalid_parking_leaves_the_line(rt: HostRuntime) {
     let lot = open(&rt, rt.alloc());
-    assert_eq!(rt; park(&rt, &lot, 1, 0, false), Parked::Invalid);
-    assert_eq!(rt; lot.line_length(&rt, 0), 0);
+    equal(&rt, park(&rt, &lot, 1, 0, false), Parked::Invalid);
+    equal(&rt, lot.line_length(&rt, 0), 0);
     let _letters = lot.scheme();
     close(&rt, rt.alloc(), lot);
 }
@@ -144,6 +144,56 @@ fn sleep<R: Wait + Abort>(rt: &R, lot: &ParkingLot<Letters>, thread: usize, key:
     requires { (thread < lot.now.threads) × (key < lot.now.keys) }
 {
     note(told, thread, park(rt, lot, thread, key, true));
+}
+
+// Starts the thread, which sleeps on the key.
+fn start_sleeper<'s, E, R: Wait + Abort + Sync>(
+    scope: &Scope<'s, E>,
+    rt: &'s R,
+    lot: &'s ParkingLot<Letters>,
+    told: &'s Told,
+    sleeper: (usize, usize),
+)
+    requires { (sleeper.0 < lot.now.threads) × (sleeper.1 < lot.now.keys) }
+{
+    let (thread, key) = sleeper;
+    let sleeps = move ||
+        requires { (thread < lot.now.threads) × (key < lot.now.keys) }
+    { sleep(rt, lot, thread, key, told) };
+    is_so(rt, scope.spawn(sleeps).is_ok(), "it starts");
+}
+
+fn looks_before_it_sleeps<R: Wait + Abort>(rt: &R, lot: &ParkingLot<Letters>, told: &Told)
+    requires { (lot.now.threads ≡ THREADS) × (lot.now.keys ≡ KEYS) }
+{
+    await_line(rt, lot, 0, 1);
+    expect_looks(rt, lot, 1, 2);
+    equal(rt, unpark(rt, lot, 0, 7), taken(1, false));
+    await_told(rt, told, 1, 7);
+    expect_no_look(rt, lot, 3);
+}
+
+// Thread 1 looks for its letter so often, and sleeps before it looks more often.
+fn expect_looks(rt: &impl Abort, lot: &ParkingLot<Letters>, times: u64, more: u64) {
+    is_so(
+        rt,
+        has_looked_within(lot.scheme(), 1, times, ASKINGS),
+        "it looks",
+    );
+    is_so(
+        rt,
+        !has_looked_within(lot.scheme(), 1, more, QUIET_ASKINGS),
+        "it sleeps",
+    );
+}
+
+// Thread 1 has found its letter without a look of this number.
+fn expect_no_look(rt: &impl Abort, lot: &ParkingLot<Letters>, times: u64) {
+    is_so(
+        rt,
+        !has_looked_within(lot.scheme(), 1, times, 1),
+        "it has found its letter",
+    );
 }
 
 // A sleeper looks for its letter once before it sleeps, and finds it once it is unparked.
@@ -160,28 +210,8 @@ fn unparks_a_sleeper<R: Threads + Wait + Abort + Sync>(
         |scope|
             requires { (lot.now.threads ≡ THREADS) × (lot.now.keys ≡ KEYS) }
         {
-            let sleeper = move ||
-                requires { (lot.now.threads ≡ THREADS) × (lot.now.keys ≡ KEYS) }
-            { sleep(rt, lot, 1, 0, told) };
-            is_so(rt, scope.spawn(sleeper).is_ok(), "it starts");
-            await_line(rt, lot, 0, 1);
-            is_so(
-                rt,
-                has_looked_within(lot.scheme(), 1, 1, ASKINGS),
-                "it looks",
-            );
-            is_so(
-                rt,
-                !has_looked_within(lot.scheme(), 1, 2, QUIET_ASKINGS),
-                "it sleeps",
-            );
-            equal(rt, unpark(rt, lot, 0, 7), taken(1, false));
-            await_told(rt, told, 1, 7);
-            is_so(
-                rt,
-                !has_looked_within(lot.scheme(), 1, 3, 1),
-                "it has found its letter",
-            );
+            start_sleeper(scope, rt, lot, told, (1, 0));
+            looks_before_it_sleeps(rt, lot, told);
         },
     );
 }
@@ -192,6 +222,26 @@ fn a_sleeper_is_told_the_token(rt: HostRuntime) {
     let told = nothing_told();
     unparks_a_sleeper(&rt, &lot, &told);
     close(&rt, rt.alloc(), lot);
+}
+
+fn grown<R: Wait + Abort>(rt: &R, lot: &ParkingLot<Letters>, threads: usize) -> Grown
+    requires { threads ≤ lot.now.threads }
+{
+    match lot.ensure(rt, threads) {
+        Ok(grown) => grown,
+        Err(_refused) => panic!(rt; "memory"),
+    }
+}
+
+fn grows_and_unparks<R: Wait + Abort>(rt: &R, lot: &ParkingLot<Letters>, told: &Told)
+    requires { (lot.now.threads ≡ THREADS) × (lot.now.keys ≡ KEYS) }
+{
+    await_line(rt, lot, 1, 1);
+    equal(rt, grown(rt, lot, 2), Grown::Grew(3, 12));
+    equal(rt, lot.size(rt), 12);
+    equal(rt, lot.line_length(rt, 1), 1);
+    equal(rt, unpark(rt, lot, 1, 4), taken(2, false));
+    await_told(rt, told, 2, 4);
 }
 
 // The table grows under a sleeper, who is then still in its line.
@@ -208,19 +258,8 @@ fn grows_under_a_sleeper<R: Threads + Wait + Abort + Sync>(
         |scope|
             requires { (lot.now.threads ≡ THREADS) × (lot.now.keys ≡ KEYS) }
         {
-            let sleeper = move ||
-                requires { (lot.now.threads ≡ THREADS) × (lot.now.keys ≡ KEYS) }
-            { sleep(rt, lot, 2, 1, told) };
-            is_so(rt, scope.spawn(sleeper).is_ok(), "it starts");
-            await_line(rt, lot, 1, 1);
-            match lot.ensure(rt, 2) {
-                Ok(grown) => assert_eq!(rt; grown, Grown::Grew(3, 12)),
-                Err(_refused) => panic!(rt; "memory"),
-            }
-            equal(rt, lot.size(rt), 12);
-            equal(rt, lot.line_length(rt, 1), 1);
-            equal(rt, unpark(rt, lot, 1, 4), taken(2, false));
-            await_told(rt, told, 2, 4);
+            start_sleeper(scope, rt, lot, told, (2, 1));
+            grows_and_unparks(rt, lot, told);
         },
     );
 }
@@ -228,10 +267,24 @@ fn grows_under_a_sleeper<R: Threads + Wait + Abort + Sync>(
 #[test]
 fn a_sleeper_stays_in_its_line_as_the_table_grows(rt: HostRuntime) {
     let lot = open(&rt, rt.alloc());
-    assert_eq!(rt; lot.size(&rt), 3);
+    equal(&rt, lot.size(&rt), 3);
     let told = nothing_told();
     grows_under_a_sleeper(&rt, &lot, &told);
     close(&rt, rt.alloc(), lot);
+}
+
+fn unparks_one_key_then_the_other<R: Wait + Abort>(rt: &R, lot: &ParkingLot<Letters>, told: &Told)
+    requires { (lot.now.threads ≡ THREADS) × (lot.now.keys ≡ KEYS) }
+{
+    equal(rt, unpark(rt, lot, 0, 3), taken(1, true));
+    await_told(rt, told, 1, 3);
+    stays_untold(rt, told, 2, 3);
+    equal(
+        rt,
+        (lot.line_length(rt, 0), lot.line_length(rt, OTHER)),
+        (0, 1),
+    );
+    equal(rt, unpark(rt, lot, OTHER, 4), taken(2, false));
 }
 
 fn unparks_one_of_two_keys<R: Threads + Wait + Abort + Sync>(
@@ -247,25 +300,11 @@ fn unparks_one_of_two_keys<R: Threads + Wait + Abort + Sync>(
         |scope|
             requires { (lot.now.threads ≡ THREADS) × (lot.now.keys ≡ KEYS) }
         {
-            let first = move ||
-                requires { (lot.now.threads ≡ THREADS) × (lot.now.keys ≡ KEYS) }
-            { sleep(rt, lot, 1, 0, told) };
-            is_so(rt, scope.spawn(first).is_ok(), "it starts");
+            start_sleeper(scope, rt, lot, told, (1, 0));
             await_line(rt, lot, 0, 1);
-            let second = move ||
-                requires { (lot.now.threads ≡ THREADS) × (lot.now.keys ≡ KEYS) }
-            { sleep(rt, lot, 2, OTHER, told) };
-            is_so(rt, scope.spawn(second).is_ok(), "it starts");
+            start_sleeper(scope, rt, lot, told, (2, OTHER));
             await_line(rt, lot, OTHER, 1);
-            equal(rt, unpark(rt, lot, 0, 3), taken(1, true));
-            await_told(rt, told, 1, 3);
-            stays_untold(rt, told, 2, 3);
-            equal(
-                rt,
-                (lot.line_length(rt, 0), lot.line_length(rt, OTHER)),
-                (0, 1),
-            );
-            equal(rt, unpark(rt, lot, OTHER, 4), taken(2, false));
+            unparks_one_key_then_the_other(rt, lot, told);
         },
     );
 }
@@ -276,6 +315,17 @@ fn another_key_in_the_bucket_keeps_its_line(rt: HostRuntime) {
     let told = nothing_told();
     unparks_one_of_two_keys(&rt, &lot, &told);
     close(&rt, rt.alloc(), lot);
+}
+
+fn unparks_a_line_of_two<R: Wait + Abort>(rt: &R, lot: &ParkingLot<Letters>, told: &Told)
+    requires { (lot.now.threads ≡ THREADS) × (lot.now.keys ≡ KEYS) }
+{
+    await_line(rt, lot, 1, 2);
+    equal(rt, unpark_all(rt, lot, 0), 0);
+    equal(rt, unpark_all(rt, lot, 1), 2);
+    await_told(rt, told, 0, 0);
+    await_told(rt, told, 2, 0);
+    equal(rt, unpark_all(rt, lot, 1), 0);
 }
 
 fn unparks_all_of_a_key<R: Threads + Wait + Abort + Sync>(
@@ -291,20 +341,9 @@ fn unparks_all_of_a_key<R: Threads + Wait + Abort + Sync>(
         |scope|
             requires { (lot.now.threads ≡ THREADS) × (lot.now.keys ≡ KEYS) }
         {
-            let first = move ||
-                requires { (lot.now.threads ≡ THREADS) × (lot.now.keys ≡ KEYS) }
-            { sleep(rt, lot, 0, 1, told) };
-            is_so(rt, scope.spawn(first).is_ok(), "it starts");
-            let second = move ||
-                requires { (lot.now.threads ≡ THREADS) × (lot.now.keys ≡ KEYS) }
-            { sleep(rt, lot, 2, 1, told) };
-            is_so(rt, scope.spawn(second).is_ok(), "it starts");
-            await_line(rt, lot, 1, 2);
-            equal(rt, unpark_all(rt, lot, 0), 0);
-            equal(rt, unpark_all(rt, lot, 1), 2);
-            await_told(rt, told, 0, 0);
-            await_told(rt, told, 2, 0);
-            equal(rt, unpark_all(rt, lot, 1), 0);
+            start_sleeper(scope, rt, lot, told, (0, 1));
+            start_sleeper(scope, rt, lot, told, (2, 1));
+            unparks_a_line_of_two(rt, lot, told);
         },
     );
 }
@@ -315,6 +354,18 @@ fn a_whole_line_is_unparked(rt: HostRuntime) {
     let told = nothing_told();
     unparks_all_of_a_key(&rt, &lot, &told);
     close(&rt, rt.alloc(), lot);
+}
+
+fn unparks_two_then_one<R: Wait + Abort>(rt: &R, lot: &ParkingLot<Letters>, told: &Told)
+    requires { (lot.now.threads ≡ THREADS) × (lot.now.keys ≡ KEYS) }
+{
+    equal(rt, unpark_first(rt, lot, 1, 0), (0, false));
+    equal(rt, unpark_first(rt, lot, 1, 2), (2, true));
+    await_told(rt, told, 0, 0);
+    await_told(rt, told, 1, 0);
+    stays_untold(rt, told, 2, 0);
+    equal(rt, unpark_first(rt, lot, 1, 5), (1, false));
+    equal(rt, unpark_first(rt, lot, 1, 1), (0, false));
 }
 
 fn unparks_the_first_of_three<R: Threads + Wait + Abort + Sync>(
@@ -337,13 +388,7 @@ fn unparks_the_first_of_three<R: Threads + Wait + Abort + Sync>(
                 is_so(rt, scope.spawn(sleeper).is_ok(), "it starts");
                 await_line(rt, lot, 1, thread + 1);
             }
-            equal(rt, unpark_first(rt, lot, 1, 0), (0, false));
-            equal(rt, unpark_first(rt, lot, 1, 2), (2, true));
-            await_told(rt, told, 0, 0);
-            await_told(rt, told, 1, 0);
-            stays_untold(rt, told, 2, 0);
-            equal(rt, unpark_first(rt, lot, 1, 5), (1, false));
-            equal(rt, unpark_first(rt, lot, 1, 1), (0, false));
+            unparks_two_then_one(rt, lot, told);
         },
     );
 }
@@ -386,8 +431,8 @@ fn unparks_itself<R: Wait + Abort>(
 fn who_is_unparked_before_its_sleep_does_not_sleep(rt: HostRuntime) {
     let lot = open(&rt, rt.alloc());
     let (told, parked) = unparks_itself(&rt, &lot);
-    assert_eq!(rt; told, Some(taken(1, false)));
-    assert_eq!(rt; parked, Parked::Woken(Token(5)));
+    equal(&rt, told, Some(taken(1, false)));
+    equal(&rt, parked, Parked::Woken(Token(5)));
     close(&rt, rt.alloc(), lot);
 }
 
@@ -399,6 +444,17 @@ fn sleep_with_a_wake_kept<R: Wait + Abort>(rt: &R, lot: &ParkingLot<Letters>, to
     let (_taken, parked) = unparks_itself(rt, lot);
     note(told, 1, parked);
     sleep(rt, lot, 1, 0, told);
+}
+
+fn looks_again_and_sleeps_on<R: Wait + Abort>(rt: &R, lot: &ParkingLot<Letters>, told: &Told)
+    requires { (lot.now.threads ≡ THREADS) × (lot.now.keys ≡ KEYS) }
+{
+    expect_looks(rt, lot, 3, 4);
+    is_so(rt, is_told_within(told, 1, 5, 1), "a wake is no letter");
+    equal(rt, lot.line_length(rt, 0), 1);
+    equal(rt, unpark(rt, lot, 0, 2), taken(1, false));
+    await_told(rt, told, 1, 2);
+    expect_no_look(rt, lot, 5);
 }
 
 // A sleeper looks for its letter before it sleeps, and again each time that a sleep has ended: here before it finds the first
@@ -420,25 +476,7 @@ fn looks_once_a_wake<R: Threads + Wait + Abort + Sync>(
                 requires { (lot.now.threads ≡ THREADS) × (lot.now.keys ≡ KEYS) }
             { sleep_with_a_wake_kept(rt, lot, told) };
             is_so(rt, scope.spawn(sleeper).is_ok(), "it starts");
-            is_so(
-                rt,
-                has_looked_within(lot.scheme(), 1, 3, ASKINGS),
-                "it looks again",
-            );
-            is_so(
-                rt,
-                !has_looked_within(lot.scheme(), 1, 4, QUIET_ASKINGS),
-                "it sleeps again",
-            );
-            is_so(rt, is_told_within(told, 1, 5, 1), "a wake is no letter");
-            equal(rt, lot.line_length(rt, 0), 1);
-            equal(rt, unpark(rt, lot, 0, 2), taken(1, false));
-            await_told(rt, told, 1, 2);
-            is_so(
-                rt,
-                !has_looked_within(lot.scheme(), 1, 5, 1),
-                "it has found its letter",
-            );
+            looks_again_and_sleeps_on(rt, lot, told);
         },
     );
 }

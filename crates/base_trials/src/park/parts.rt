@@ -18,7 +18,7 @@ use std::alloc::Global;
 use std::process::Abort;
 use std::sync::Wait;
 use std::thread;
-use std::thread::Threads;
+use std::thread::{Scope, Threads};
 
 // Three tables with a key each: the first two are one part of the lot, the third is the other.
 const KEYS: usize = 3;
@@ -39,6 +39,8 @@ type TwoTables = Both<Letters, Letters, OneKey>;
 
 type ThreeTables = Both<TwoTables, Letters, TwoKeys>;
 
+type OneOfThree = EitherRoot<EitherRoot<Right, Right, OneKey>, Right, TwoKeys>;
+
 type TheFirst = OfFirst<OfFirst<Whole>>;
 
 type TheSecond = OfFirst<OfSecond<Whole>>;
@@ -56,16 +58,23 @@ fn with_root<R: Root + Drop>(rt: &impl Abort, roots: Vec<R>, root: R) -> Vec<R>
     roots
 }
 
-fn open(rt: &impl Abort, alloc: Global) -> ParkingLot<ThreeTables>
-    ensures threads { result.threads ≡ THREADS }
-    ensures keys { result.keys ≡ KEYS }
+fn idle_roots(rt: &impl Abort, alloc: Global) -> Vec<OneOfThree>
+    ensures len { vec_len result ≡ KEYS }
+    ensures idle { AreIdle ⟦<OneOfThree as Root>⟧.view result.items }
 {
     let first = EitherRoot::first(EitherRoot::first(idle_right(alloc, 0)));
     let second = EitherRoot::first(EitherRoot::second(idle_right(alloc, 1)));
     let third = EitherRoot::second(idle_right(alloc, 2));
     let roots = with_root(rt, Vec::new(alloc), first);
     let roots = with_root(rt, roots, second);
-    let roots = with_root(rt, roots, third);
+    with_root(rt, roots, third)
+}
+
+fn open(rt: &impl Abort, alloc: Global) -> ParkingLot<ThreeTables>
+    ensures threads { result.threads ≡ THREADS }
+    ensures keys { result.keys ≡ KEYS }
+{
+    let roots = idle_roots(rt, alloc);
     let schemes = Both::new(Both::new(no_letters(), no_letters()), no_letters());
     match ParkingLot::open(alloc, THREADS, roots, schemes) {
         Ok((lot, room)) => {
@@ -99,6 +108,25 @@ fn sleep<S: Scheme, P: Part<S, Letters>, R: Wait + Abort>(
         |x: ()| x,
     );
     note(told, thread, parked);
+}
+
+// Starts the thread, which sleeps on the key.
+fn start_sleeper<'s, E, P: Part<ThreeTables, Letters> + Send + 's, R: Wait + Abort + Sync>(
+    scope: &Scope<'s, E>,
+    rt: &'s R,
+    lot: &'s ParkingLot<ThreeTables>,
+    told: &'s Told,
+    sleeper: (usize, usize),
+)
+    requires there { (sleeper.0 < lot.now.threads) × (sleeper.1 < lot.now.keys) }
+    requires serves { P.serves sleeper.1 }
+{
+    let (thread, key) = sleeper;
+    let sleeps = move ||
+        requires there { (thread < lot.now.threads) × (key < lot.now.keys) }
+        requires serves { P.serves key }
+    { sleep::<ThreeTables, P, R>(rt, lot, thread, key, told) };
+    is_so(rt, scope.spawn(sleeps).is_ok(), "it starts");
 }
 
 fn unpark<S: Scheme, P: Part<S, Letters>, R: Wait + Abort>(
@@ -144,6 +172,22 @@ fn unpark_line<S: Scheme, P: Part<S, Letters>, R: Wait + Abort>(
     count
 }
 
+// Unparks through each table: nobody sleeps on the second's key.
+fn unparks_each<R: Wait + Abort>(rt: &R, lot: &ParkingLot<ThreeTables>, told: &Told)
+    requires { (lot.now.threads ≡ THREADS) × (lot.now.keys ≡ KEYS) }
+{
+    await_line(rt, lot, 0, 1);
+    await_line(rt, lot, 2, 1);
+    let second = unpark::<ThreeTables, TheSecond, R>(rt, lot, 1, 5);
+    equal(rt, second.thread, None);
+    let third = unpark::<ThreeTables, TheThird, R>(rt, lot, 2, 6);
+    equal(rt, third.thread, Some(1));
+    await_told(rt, told, 1, 6);
+    stays_untold(rt, told, 0, 6);
+    equal(rt, unpark_line::<ThreeTables, TheFirst, R>(rt, lot, 0), 1);
+    await_told(rt, told, 0, 0);
+}
+
 // A sleeper on the first table's key and one on the third's: each is told through its own table.
 fn each_table_tells_its_own<R: Threads + Wait + Abort + Sync>(
     rt: &R,
@@ -158,32 +202,21 @@ fn each_table_tells_its_own<R: Threads + Wait + Abort + Sync>(
         |scope|
             requires { (lot.now.threads ≡ THREADS) × (lot.now.keys ≡ KEYS) }
         {
-            let first = move ||
-                requires { (lot.now.threads ≡ THREADS) × (lot.now.keys ≡ KEYS) }
-            { sleep::<ThreeTables, TheFirst, R>(rt, lot, 0, 0, told) };
-            is_so(rt, scope.spawn(first).is_ok(), "it starts");
-            let third = move ||
-                requires { (lot.now.threads ≡ THREADS) × (lot.now.keys ≡ KEYS) }
-            { sleep::<ThreeTables, TheThird, R>(rt, lot, 1, 2, told) };
-            is_so(rt, scope.spawn(third).is_ok(), "it starts");
-            await_line(rt, lot, 0, 1);
-            await_line(rt, lot, 2, 1);
-            equal(
-                rt,
-                unpark::<ThreeTables, TheSecond, R>(rt, lot, 1, 5).thread,
-                None,
-            );
-            equal(
-                rt,
-                unpark::<ThreeTables, TheThird, R>(rt, lot, 2, 6).thread,
-                Some(1),
-            );
-            await_told(rt, told, 1, 6);
-            stays_untold(rt, told, 0, 6);
-            equal(rt, unpark_line::<ThreeTables, TheFirst, R>(rt, lot, 0), 1);
-            await_told(rt, told, 0, 0);
+            start_sleeper::<&(), TheFirst, R>(scope, rt, lot, told, (0, 0));
+            start_sleeper::<&(), TheThird, R>(scope, rt, lot, told, (1, 2));
+            unparks_each(rt, lot, told);
         },
     );
+}
+
+// Each root comes back.
+fn close<R: Wait + Abort>(rt: &R, alloc: Global, lot: ParkingLot<ThreeTables>)
+    requires { lot.keys ≡ KEYS }
+{
+    let mut roots = Vec::with_capacity(alloc, KEYS).expect(rt, "memory");
+    let (two, _third) = lot.close(rt, &mut roots).apart();
+    let (_first, _second) = two.apart();
+    equal(rt, roots.len(), KEYS);
 }
 
 #[test]
@@ -191,8 +224,5 @@ fn three_tables_share_a_lot(rt: HostRuntime) {
     let lot = open(&rt, rt.alloc());
     let told = nothing_told();
     each_table_tells_its_own(&rt, &lot, &told);
-    let mut roots = Vec::with_capacity(rt.alloc(), KEYS).expect(&rt, "memory");
-    let (two, _third) = lot.close(&rt, &mut roots).apart();
-    let (_first, _second) = two.apart();
-    assert_eq!(rt; roots.len(), KEYS);
+    close(&rt, rt.alloc(), lot);
 }

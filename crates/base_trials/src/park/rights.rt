@@ -1,5 +1,5 @@
 //! Roots for tests, which keep their line and their debts in lists.
-ghost use Rattle.std.specs.Prelude.{◌≡◌, ℕ, ◌+◌, List, [], ◌∷◌, ◌++◌, Option, take, drop, vec_len, IfOk};
+ghost use Rattle.std.specs.Prelude.{◌≡◌, ◌+◌, [], ◌∷◌, ◌++◌, Option, take, drop, vec_len, IfOk};
 ghost use Rattle.lot_bucket.specs.Queue.{first_of};
 ghost use Rattle.lot_park.specs.Lots.{AreIdle};
 ghost use Rattle.lot_park.specs.Parking.{debt, debts};

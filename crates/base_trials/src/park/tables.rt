@@ -1,9 +1,10 @@
 //! The table of buckets: it grows as threads come, and each line keeps its order.
-ghost use Rattle.std.specs.Prelude.{◌≡◌, ℕ, ◌<◌, ◌≤◌, ◌++◌, ◌∷◌, [], length, drop};
+ghost use Rattle.std.specs.Prelude.{◌≡◌, ℕ, ◌<◌, ◌≤◌, length, drop};
 ghost use Rattle.lot_bucket.specs.Queue.{line_of, first_of};
 ghost use Rattle.lot_bucket.specs.Settled.{IsReady, Stays};
 
 use super::rights::{EARLY, Right, idle_rights, joined};
+use crate::asserts::{equal, equal_in};
 use lot_bucket::{Bucket, Root};
 use lot_table::{Grown, MOST_THREADS, Table, grown_size};
 use std::alloc::Global;
@@ -44,9 +45,9 @@ fn end<R: Wait + Abort>(rt: &R, alloc: Global, table: Table<Right>)
 {
     let mut rights = Vec::with_capacity(alloc, KEYS).expect(rt, "memory");
     table.close(rt, &mut rights);
-    assert_eq!(rt; rights.len(), KEYS);
+    equal(rt, rights.len(), KEYS);
     for (key, right) in rights.iter().enumerate() {
-        assert_eq!(rt; right.key, key);
+        equal(rt, right.key, key);
     }
 }
 
@@ -66,24 +67,24 @@ static GROWTHS: [(usize, Grown); 9] = [
 fn expect_growth(rt: &impl Abort, threads: usize, grown: Grown, size: usize) {
     for (at, expected) in &GROWTHS {
         if *at == threads {
-            assert_eq!(rt; grown, *expected, "{threads} threads");
+            equal_in(rt, grown, *expected, threads);
         }
     }
     match grown {
-        Grown::Kept(kept) => assert_eq!(rt; kept, size, "{threads} threads"),
-        Grown::Grew(_before, after) => assert_eq!(rt; after, size, "{threads} threads"),
+        Grown::Kept(kept) => equal_in(rt, kept, size, threads),
+        Grown::Grew(_before, after) => equal_in(rt, after, size, threads),
     }
 }
 
 #[test]
 fn it_grows_as_threads_come(rt: HostRuntime) {
     let table = made(&rt, rt.alloc());
-    assert_eq!(rt; table.size(&rt), 3);
+    equal(&rt, table.size(&rt), 3);
     for threads in 1..THREADS + 1 {
         let before = table.size(&rt);
         let grown = ensured(&rt, &table, threads);
         let size = table.size(&rt);
-        assert_eq!(rt; size, grown_size(before, threads));
+        equal(&rt, size, grown_size(before, threads));
         expect_growth(&rt, threads, grown, size);
     }
     end(&rt, rt.alloc(), table);
@@ -150,35 +151,51 @@ fn waiting<W: Wait>(rt: &W, table: &Table<Right>, key: usize) -> usize {
     count
 }
 
+// Queues three threads on two keys of a bucket, and then the table grows, so that each key has a bucket of its own.
+fn grow_under_two_lines<R: Wait + Abort>(rt: &R, table: &Table<Right>)
+    requires { table.now.threads ≡ THREADS }
+{
+    equal(rt, ensured(rt, table, 2), Grown::Grew(3, 12));
+    queue_up(rt, table, 1, 13);
+    queue_up(rt, table, 2, 1);
+    queue_up(rt, table, 3, 13);
+    equal(rt, waiting(rt, table, 1), 3);
+    equal(rt, ensured(rt, table, 5), Grown::Grew(12, 30));
+    equal(rt, (waiting(rt, table, 13), waiting(rt, table, 1)), (2, 1));
+}
+
+// Takes the threads of the key one by one, and looks who they are.
+fn expect_leaving<W: Wait + Abort>(rt: &W, table: &Table<Right>, key: usize, line: &[usize]) {
+    for thread in line {
+        equal(rt, left_first(rt, table, key), Some(*thread));
+    }
+    equal(rt, left_first(rt, table, key), None);
+}
+
 #[test]
 fn each_line_keeps_its_order_in_a_growth(rt: HostRuntime) {
     let table = made(&rt, rt.alloc());
-    assert_eq!(rt; ensured(&rt, &table, 2), Grown::Grew(3, 12));
-    for (thread, key) in [(1, 13), (2, 1), (3, 13)] {
-        queue_up(&rt, &table, thread, key);
-    }
-    assert_eq!(rt; waiting(&rt, &table, 1), 3);
-    assert_eq!(rt; ensured(&rt, &table, 5), Grown::Grew(12, 30));
-    assert_eq!(rt; (waiting(&rt, &table, 13), waiting(&rt, &table, 1)), (2, 1));
-    for thread in [Some(1), Some(3), None] {
-        assert_eq!(rt; left_first(&rt, &table, 13), thread);
-    }
-    for thread in [Some(2), None] {
-        assert_eq!(rt; left_first(&rt, &table, 1), thread);
-    }
+    grow_under_two_lines(&rt, &table);
+    expect_leaving(&rt, &table, 13, &[1, 3]);
+    expect_leaving(&rt, &table, 1, &[2]);
     end(&rt, rt.alloc(), table);
+}
+
+// What two growers answer, of whom one wants room for 5 threads and the other for 6, where the table grew to this size.
+fn wanted_answers(rt: &impl Abort, size: usize) -> (Grown, Grown) {
+    match size {
+        30 => (Grown::Grew(12, 30), Grown::Kept(30)),
+        36 => (Grown::Kept(36), Grown::Grew(12, 36)),
+        _ => panic!(rt; "grew to {size}"),
+    }
 }
 
 #[test]
 fn two_growers_agree(rt: HostRuntime) {
     let table = made(&rt, rt.alloc());
-    assert_eq!(rt; ensured(&rt, &table, 2), Grown::Grew(3, 12));
+    equal(&rt, ensured(&rt, &table, 2), Grown::Grew(3, 12));
     let answers = grown_by_two(&rt, &table);
-    match table.size(&rt) {
-        30 => assert_eq!(rt; answers, (Grown::Grew(12, 30), Grown::Kept(30))),
-        36 => assert_eq!(rt; answers, (Grown::Kept(36), Grown::Grew(12, 36))),
-        size => panic!(rt; "grew to {size}"),
-    }
+    equal(&rt, answers, wanted_answers(&rt, table.size(&rt)));
     end(&rt, rt.alloc(), table);
 }
 

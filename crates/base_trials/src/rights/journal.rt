@@ -1,11 +1,13 @@
 //! Two objects of one thread, and what their journals say.
 ghost use Rattle.std.specs.Prelude.{◌≡◌, []};
 
+use crate::asserts::{equal, equal_in, is_so};
 use StackCall::{Pop, Push};
 use StackReply::{Done, Empty, Full, Got};
 use lot_journal::{Entry, Journal, Sequential};
 use lot_words::Keeps;
 use std::marker::Model;
+use std::process::Abort;
 
 /// Adds this much.
 #[derive(Clone, Copy, Debug, PartialEq, Eq)]
@@ -112,7 +114,7 @@ impl Sequential for Stack4 {
     }
 }
 
-const STACKS: [(&str, &[(StackCall, StackReply)]); 2] = [
+static STACKS: [(&str, &[(StackCall, StackReply)]); 2] = [
     (
         "popped past its bottom",
         &[(Push(5), Done), (Pop, Got(5)), (Pop, Empty)],
@@ -130,14 +132,23 @@ const STACKS: [(&str, &[(StackCall, StackReply)]); 2] = [
     ),
 ];
 
+fn expect_replies(
+    rt: &impl Abort,
+    journal: &mut Journal<Stack4>,
+    calls: &[(StackCall, StackReply)],
+    name: &str,
+) {
+    for (call, reply) in calls {
+        equal_in(rt, journal.call(0, *call), Ok(*reply), (name, *call));
+    }
+    equal_in(rt, journal.history().len(), calls.len(), name);
+}
+
 #[test]
 fn a_stack_replies(rt: HostRuntime) {
-    for (name, calls) in STACKS {
+    for (name, calls) in &STACKS {
         let mut journal = Journal::new(rt.alloc(), Stack4::new(), Stack4::new());
-        for (call, reply) in calls {
-            assert_eq!(rt; journal.call(0, *call), Ok(*reply), "{name} at {call:?}");
-        }
-        assert_eq!(rt; journal.history().len(), calls.len(), "{name}");
+        expect_replies(&rt, &mut journal, calls, name);
     }
 }
 
@@ -145,12 +156,12 @@ fn a_stack_replies(rt: HostRuntime) {
 fn two_threads_count(rt: HostRuntime) {
     let opening = Counter { total: 0 };
     let mut journal = Journal::new(rt.alloc(), opening, opening);
-    assert!(rt; journal.history().is_empty());
-    assert_eq!(rt; journal.call(0, Add(1)), Ok(1));
-    assert_eq!(rt; journal.call(1, Add(1)), Ok(2));
+    is_so(&rt, journal.history().is_empty(), "nobody has called");
+    equal(&rt, journal.call(0, Add(1)), Ok(1));
+    equal(&rt, journal.call(1, Add(1)), Ok(2));
     let history = [entry(0, Add(1), 1), entry(1, Add(1), 2)];
-    assert_eq!(rt; journal.history(), history.as_slice());
-    assert_eq!(rt; *journal.object(), Counter { total: 2 });
+    equal(&rt, journal.history(), history.as_slice());
+    equal(&rt, *journal.object(), Counter { total: 2 });
     share(&journal);
 }
 
@@ -161,7 +172,7 @@ fn share<V: Keeps + Send>(_value: &V) {}
 fn a_counter_counts_modulo_two_to_the_64(rt: HostRuntime) {
     let opening = Counter { total: u64::MAX };
     let mut journal = Journal::new(rt.alloc(), opening, opening);
-    assert_eq!(rt; journal.call(63, Add(2)), Ok(1));
+    equal(&rt, journal.call(63, Add(2)), Ok(1));
 }
 
 fn entry(thread: usize, call: Add, reply: u64) -> Entry<Add, u64> {

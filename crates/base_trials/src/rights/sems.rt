@@ -1,6 +1,6 @@
 //! Schedules of three threads' calls on one semaphore with one permit, made by hand in one thread, with the words that they leave. The
 //! semaphore's number is 1, since one key comes before it.
-ghost use Rattle.std.specs.Prelude.{◌≡◌, [], ◌∷◌};
+ghost use Rattle.std.specs.Prelude.{[], ◌∷◌};
 ghost use Rattle.base_trials.specs.SemSchedules.{IsOne, IsOf, IsFree, Has, Seeks, Sleeps, HasLine};
 ghost use Rattle.lot_sems.specs.Calls.{MayTake};
 

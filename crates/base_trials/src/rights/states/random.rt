@@ -1,9 +1,12 @@
 //! Random scripts: after each event the state is sound.
 ghost use Rattle.std.specs.Prelude.{◌<◌, IfSome};
 
+use crate::asserts::is_so_in;
 use lot_core::{Event, State};
 use rand_xoshiro::Xoshiro256PlusPlus;
 use rand_xoshiro::rand_core::{Rng, SeedableRng};
+use std::alloc::Global;
+use std::process::Abort;
 use std::test::Fail;
 
 const SEED: u64 = 2016;
@@ -133,20 +136,42 @@ fn step_on(rng: &mut Xoshiro256PlusPlus, state: &mut State) -> Option<usize>
     None
 }
 
+// Makes the events of a script, each allowed, and counts those of each kind.
+fn make_events(
+    rt: &impl Abort,
+    rng: &mut Xoshiro256PlusPlus,
+    state: &mut State,
+    made: &mut [u64; KINDS],
+    script: usize,
+) -> Result<(), Fail> {
+    for _ in 0..EVENTS {
+        let kind = step_on(rng, state).ok_or("every event was refused")?;
+        made[kind] = made[kind].saturating_add(1);
+        is_so_in(rt, state.is_sound(), script);
+    }
+    Ok(())
+}
+
+fn run_script(
+    rt: &impl Abort,
+    alloc: Global,
+    rng: &mut Xoshiro256PlusPlus,
+    made: &mut [u64; KINDS],
+    script: usize,
+) -> Result<(), Fail> {
+    let mut state = State::open_with(alloc, THREADS as usize, 2, 2, &[1, 3])?;
+    make_events(rt, rng, &mut state, made, script)
+}
+
 #[test]
 fn random_scripts_stay_sound(rt: HostRuntime) -> Result<(), Fail> {
     let mut rng = Xoshiro256PlusPlus::seed_from_u64(SEED);
     let mut made = [0u64; KINDS];
     for script in 0..SCRIPTS {
-        let mut state = State::open_with(rt.alloc(), THREADS as usize, 2, 2, &[1, 3])?;
-        for _ in 0..EVENTS {
-            let kind = step_on(&mut rng, &mut state).ok_or("every event was refused")?;
-            made[kind] = made[kind].saturating_add(1);
-            assert!(rt; state.is_sound(), "script {script}");
-        }
+        run_script(&rt, rt.alloc(), &mut rng, &mut made, script)?;
     }
     for count in made {
-        assert!(rt; count > 500, "{made:?}");
+        is_so_in(&rt, count > 500, made);
     }
     Ok(())
 }
