@@ -1,48 +1,51 @@
 //! What the work of `lotbench` leaves, whatever time it takes.
 
+use crate::asserts::{equal, is_so, same_text};
 use lot_load::measure::crew::run;
 use lot_load::measure::plan::plan_of;
 use lot_load::measure::run_command;
+use std::alloc::Global;
+use std::process::Abort;
+use std::sync::Wait;
 use std::test::*;
+use std::thread::Threads;
+use std::time::Clock;
+
+/// The plan that the words spell leaves this sum, and this number of rounds.
+fn leaves<T: Threads + Wait + Clock + Sync + Abort>(
+    rt: &T,
+    alloc: Global,
+    words: &[&str],
+    sum: u64,
+    all: u64,
+) {
+    let Some(plan) = plan_of(words) else {
+        panic!(rt; "no plan")
+    };
+    let Ok(summary) = run(rt, alloc, &plan) else {
+        panic!(rt; "no summary")
+    };
+    equal(rt, summary.sum, sum);
+    equal(rt, summary.all, all);
+}
 
 #[test]
 fn threads_count_all_rounds(rt: HostRuntime) {
-    let Some(plan) = plan_of(&["count", "3", "2", "500"]) else {
-        panic!(&rt; "no plan")
-    };
-    let Ok(summary) = run(&rt, rt.alloc(), &plan) else {
-        panic!(&rt; "no summary")
-    };
-    assert_eq!(rt; summary.sum, 1500);
-    assert_eq!(rt; summary.all, 1500);
+    leaves(&rt, rt.alloc(), &["count", "3", "2", "500"], 1500, 1500);
 }
 
 #[test]
 fn what_is_put_is_taken(rt: HostRuntime) {
-    let Some(plan) = plan_of(&["relay", "2", "3", "100"]) else {
-        panic!(&rt; "no plan")
-    };
-    let Ok(summary) = run(&rt, rt.alloc(), &plan) else {
-        panic!(&rt; "no summary")
-    };
-    assert_eq!(rt; summary.sum, 0);
-    assert_eq!(rt; summary.all, 200);
+    leaves(&rt, rt.alloc(), &["relay", "2", "3", "100"], 0, 200);
 }
 
 #[test]
 fn other_words_are_refused(rt: HostRuntime) {
     let mut out: Vec<u8> = Vec::new(rt.alloc());
     let mut faults: Vec<u8> = Vec::new(rt.alloc());
-    assert_eq!(rt;
-        run_command(
-            &rt,
-            rt.alloc(),
-            &["count", "0", "1", "1"],
-            &mut out,
-            &mut faults
-        ),
-        1
-    );
-    assert!(rt; out.as_slice().is_empty());
-    assert!(rt; faults.as_slice() == b"bad command line\n".as_slice());
+    let words = ["count", "0", "1", "1"];
+    let status = run_command(&rt, rt.alloc(), &words, &mut out, &mut faults);
+    equal(&rt, status, 1);
+    is_so(&rt, out.as_slice().is_empty(), "nothing is printed");
+    same_text(&rt, faults.as_slice(), "bad command line\n", "faults");
 }

@@ -1,12 +1,13 @@
 //! The program's texts and statuses, and workers that are held at a gate.
 
-use crate::asserts::{equal, same_status, same_text};
+use crate::asserts::{equal, equal_in, same_status, same_text};
 use lot_load::count::{Counting, count_with};
 use lot_load::gate::{Gate, Point};
 use lot_load::relay::{Relaying, relay_with};
 use lot_load::run_command;
 use std::alloc::{AllocError, Global};
 use std::io::Write;
+use std::ops::Range;
 use std::process::Abort;
 use std::sync::Wait;
 use std::sync::atomic::{AtomicU64, Ordering};
@@ -31,8 +32,49 @@ fn check<R: Threads + Wait + Sync + Abort>(
     same_status(rt, status, want.2, name);
 }
 
+/// Replays each script, and compares what is written and the status.
+fn check_replays<R: Threads + Wait + Sync + Abort>(
+    rt: &R,
+    alloc: Global,
+    rows: &[(&str, &str, &str, &str, u8)],
+) {
+    for (name, script, out, faults, status) in rows {
+        check(
+            rt,
+            alloc,
+            name,
+            &["replay", "script"],
+            Some(script.as_bytes()),
+            (*out, *faults, *status),
+        );
+    }
+}
+
+/// Runs the words of each row, which are no command line.
+fn check_refusals<R: Threads + Wait + Sync + Abort>(
+    rt: &R,
+    alloc: Global,
+    rows: &[(&str, &[&str])],
+) {
+    for (name, words) in rows {
+        let want = ("", "bad command line\n", 1);
+        check(rt, alloc, name, words, None, want);
+    }
+}
+
+/// Runs the words of each row, and compares what is printed.
+fn check_runs<R: Threads + Wait + Sync + Abort>(
+    rt: &R,
+    alloc: Global,
+    rows: &[(&str, &[&str], &str)],
+) {
+    for (name, words, out) in rows {
+        check(rt, alloc, name, words, None, (*out, "", 0));
+    }
+}
+
 /// A script, what is printed of it, the fault, and the status.
-const REPLAYS: [(&str, &str, &str, &str, u8); 32] = [
+static REPLAYS: [(&str, &str, &str, &str, u8); 32] = [
     (
         "opening",
         "open 1 1 0\n",
@@ -219,20 +261,11 @@ const REPLAYS: [(&str, &str, &str, &str, u8); 32] = [
 
 #[test]
 fn scripts_are_replayed(rt: HostRuntime) {
-    for (name, script, out, faults, status) in REPLAYS {
-        check(
-            &rt,
-            rt.alloc(),
-            name,
-            &["replay", "script"],
-            Some(script.as_bytes()),
-            (out, faults, status),
-        );
-    }
+    check_replays(&rt, rt.alloc(), &REPLAYS);
 }
 
 /// The same with semaphores.
-const PERMITS: [(&str, &str, &str, &str, u8); 3] = [
+static PERMITS: [(&str, &str, &str, &str, u8); 3] = [
     (
         "permit_passed_on",
         "open 2 1 0 1\nstake 0 1\nstake 1 1\nsmark 1 1\nspark 1 1\nspass 0 1 0\n",
@@ -258,19 +291,10 @@ const PERMITS: [(&str, &str, &str, &str, u8); 3] = [
 
 #[test]
 fn permits_are_replayed(rt: HostRuntime) {
-    for (name, script, out, faults, status) in PERMITS {
-        check(
-            &rt,
-            rt.alloc(),
-            name,
-            &["replay", "script"],
-            Some(script.as_bytes()),
-            (out, faults, status),
-        );
-    }
+    check_replays(&rt, rt.alloc(), &PERMITS);
 }
 
-const WRONG_WORDS: [(&str, &[&str]); 25] = [
+static WRONG_WORDS: [(&str, &[&str]); 25] = [
     ("no words", &[]),
     ("unknown command", &["sleep", "1"]),
     ("replay without a file", &["replay"]),
@@ -309,19 +333,10 @@ const WRONG_WORDS: [(&str, &[&str]); 25] = [
 
 #[test]
 fn wrong_words_are_refused(rt: HostRuntime) {
-    for (name, words) in WRONG_WORDS {
-        check(
-            &rt,
-            rt.alloc(),
-            name,
-            words,
-            None,
-            ("", "bad command line\n", 1),
-        );
-    }
+    check_refusals(&rt, rt.alloc(), &WRONG_WORDS);
 }
 
-const COUNTS: [(&str, &[&str], &str); 7] = [
+static COUNTS: [(&str, &[&str], &str); 7] = [
     (
         "two threads",
         &["count", "2", "1", "1000", "7"],
@@ -362,13 +377,11 @@ const COUNTS: [(&str, &[&str], &str); 7] = [
 #[test]
 fn all_rounds_are_counted(rt: HostRuntime) {
     for _ in 0..10u8 {
-        for (name, words, out) in COUNTS {
-            check(&rt, rt.alloc(), name, words, None, (out, "", 0));
-        }
+        check_runs(&rt, rt.alloc(), &COUNTS);
     }
 }
 
-const RELAYS: [(&str, &[&str], &str); 6] = [
+static RELAYS: [(&str, &[&str], &str); 6] = [
     (
         "two producers and two consumers",
         &["relay", "4", "10", "3"],
@@ -404,13 +417,11 @@ const RELAYS: [(&str, &[&str], &str); 6] = [
 #[test]
 fn all_numbers_are_relayed(rt: HostRuntime) {
     for _ in 0..10u8 {
-        for (name, words, out) in RELAYS {
-            check(&rt, rt.alloc(), name, words, None, (out, "", 0));
-        }
+        check_runs(&rt, rt.alloc(), &RELAYS);
     }
 }
 
-const POOLS: [(&str, &[&str], &str); 4] = [
+static POOLS: [(&str, &[&str], &str); 4] = [
     (
         "four threads on two permits",
         &["pool", "4", "2", "10", "1"],
@@ -433,7 +444,7 @@ const POOLS: [(&str, &[&str], &str); 4] = [
     ),
 ];
 
-const WRONG_POOLS: [(&str, &[&str]); 6] = [
+static WRONG_POOLS: [(&str, &[&str]); 6] = [
     ("pool of no permits", &["pool", "4", "0", "1", "1"]),
     ("pool of 10000 permits", &["pool", "4", "10000", "1", "1"]),
     ("pool of no threads", &["pool", "0", "1", "1", "1"]),
@@ -447,25 +458,14 @@ const WRONG_POOLS: [(&str, &[&str]); 6] = [
 
 #[test]
 fn permits_are_shared(rt: HostRuntime) {
-    for (name, words) in WRONG_POOLS {
-        check(
-            &rt,
-            rt.alloc(),
-            name,
-            words,
-            None,
-            ("", "bad command line\n", 1),
-        );
-    }
+    check_refusals(&rt, rt.alloc(), &WRONG_POOLS);
     for _ in 0..10u8 {
-        for (name, words, out) in POOLS {
-            check(&rt, rt.alloc(), name, words, None, (out, "", 0));
-        }
+        check_runs(&rt, rt.alloc(), &POOLS);
     }
 }
 
 /// As many threads as there may be.
-const MOST_THREADS: [(&str, &[&str], &str); 2] = [
+static MOST_THREADS: [(&str, &[&str], &str); 2] = [
     (
         "256 threads that count",
         &["count", "256", "1", "2", "9"],
@@ -480,17 +480,32 @@ const MOST_THREADS: [(&str, &[&str], &str); 2] = [
 
 #[test]
 fn most_threads(rt: HostRuntime) {
-    for (name, words, out) in MOST_THREADS {
-        check(&rt, rt.alloc(), name, words, None, (out, "", 0));
+    check_runs(&rt, rt.alloc(), &MOST_THREADS);
+}
+
+/// Pushes the line of the key or the thread of this number.
+fn push_line(out: &mut String, kind: &str, number: u16, end: &str) -> Result<(), AllocError> {
+    writeln!(out, "{kind} {number} {end}")?;
+    Ok(())
+}
+
+/// Pushes the line of each of these keys or threads.
+fn push_lines(
+    out: &mut String,
+    kind: &str,
+    numbers: Range<u16>,
+    end: &str,
+) -> Result<(), AllocError> {
+    for number in numbers {
+        push_line(out, kind, number, end)?;
     }
+    Ok(())
 }
 
 #[test]
 fn most_threads_and_locks(rt: HostRuntime) -> Result<(), Fail> {
     let mut want = String::new(rt.alloc());
-    for key in 0..1024u16 {
-        writeln!(want, "lock {key} total 0")?;
-    }
+    push_lines(&mut want, "lock", 0..1024, "total 0")?;
     want.push_str("sum 0\n")?;
     let words = ["count", "256", "1024", "0", "18446744073709551615"];
     check(
@@ -513,59 +528,62 @@ fn long_script(alloc: Global, lines: u32) -> Result<String, AllocError> {
     Ok(script)
 }
 
+/// Replays a script of so many lines after the first.
+fn check_long_script<R: Threads + Wait + Sync + Abort>(
+    rt: &R,
+    alloc: Global,
+    name: &str,
+    lines: u32,
+    want: (&str, &str, u8),
+) -> Result<(), AllocError> {
+    let script = long_script(alloc, lines)?;
+    let file = Some(script.as_bytes());
+    check(rt, alloc, name, &["replay", "f"], file, want);
+    Ok(())
+}
+
 #[test]
 fn longest_scripts(rt: HostRuntime) -> Result<(), Fail> {
     let alloc = rt.alloc();
-    let longest = long_script(alloc, 99_999)?;
     let owned = "lock 0 word 1 owner 0 line -\nthread 0 calm\n";
-    check(
-        &rt,
-        alloc,
-        "longest script",
-        &["replay", "f"],
-        Some(longest.as_bytes()),
-        (owned, "", 0),
-    );
-    let longer = long_script(alloc, 100_000)?;
+    check_long_script(&rt, alloc, "longest script", 99_999, (owned, "", 0))?;
     let fault = "bad script line 100001\n";
-    check(
-        &rt,
-        alloc,
-        "a line too many",
-        &["replay", "f"],
-        Some(longer.as_bytes()),
-        ("", fault, 1),
-    );
+    check_long_script(&rt, alloc, "a line too many", 100_000, ("", fault, 1))?;
+    Ok(())
+}
+
+/// What is printed of 64 threads and 1024 keys, of which so many are locks and the others conditions, where nothing has happened.
+fn state_of_keys(alloc: Global, locks: u16) -> Result<String, AllocError> {
+    let mut state = String::new(alloc);
+    push_lines(&mut state, "lock", 0..locks, "word 0 owner - line -")?;
+    push_lines(&mut state, "cond", locks..1024, "flag 0 line -")?;
+    push_lines(&mut state, "thread", 0..64, "calm")?;
+    Ok(state)
+}
+
+/// Replays a script that opens 64 threads and 1024 keys, of which so many are locks.
+fn check_keys<R: Threads + Wait + Sync + Abort>(
+    rt: &R,
+    alloc: Global,
+    script: &str,
+    locks: u16,
+) -> Result<(), AllocError> {
+    let state = state_of_keys(alloc, locks)?;
+    let file = Some(script.as_bytes());
+    let want = (state.as_str(), "", 0);
+    check(rt, alloc, script, &["replay", "f"], file, want);
     Ok(())
 }
 
 #[test]
 fn most_keys(rt: HostRuntime) -> Result<(), Fail> {
-    for (script, locks) in [("open 64 1 1023\n", 1u16), ("open 64 1024 0\n", 1024)] {
-        let mut want = String::new(rt.alloc());
-        for key in 0..locks {
-            writeln!(want, "lock {key} word 0 owner - line -")?;
-        }
-        for key in locks..1024 {
-            writeln!(want, "cond {key} flag 0 line -")?;
-        }
-        for thread in 0..64u8 {
-            writeln!(want, "thread {thread} calm")?;
-        }
-        check(
-            &rt,
-            rt.alloc(),
-            script,
-            &["replay", "f"],
-            Some(script.as_bytes()),
-            (want.as_str(), "", 0),
-        );
-    }
+    check_keys(&rt, rt.alloc(), "open 64 1 1023\n", 1)?;
+    check_keys(&rt, rt.alloc(), "open 64 1024 0\n", 1024)?;
     Ok(())
 }
 
 /// The lines of a script in which a thread gets a lock past a sleeper.
-const BARGING: [&str; 9] = [
+static BARGING: [&str; 9] = [
     "open 4 1 0\n",
     "take 0 0\n",
     "take 1 0\n",
@@ -577,25 +595,46 @@ const BARGING: [&str; 9] = [
     "take 3 0\n",
 ];
 
+/// Pushes the line of this number, and replays the script that is cut behind each of its bytes but the last.
+fn push_cut_line<R: Threads + Wait + Sync + Abort>(
+    rt: &R,
+    alloc: Global,
+    script: &mut String,
+    line: &str,
+    number: usize,
+) -> Result<(), AllocError> {
+    let fault = format!(in alloc; "bad script line {number}\n")?;
+    for c in line.chars() {
+        script.push(c)?;
+        if c != '\n' {
+            refused(
+                rt,
+                alloc,
+                script.as_str(),
+                script.as_bytes(),
+                fault.as_str(),
+            );
+        }
+    }
+    Ok(())
+}
+
+/// `replay` of this script ends well and tells no fault.
+fn is_replayed<R: Threads + Wait + Sync + Abort>(rt: &R, alloc: Global, script: &str) {
+    let mut out = Vec::new(alloc);
+    let mut faults = Vec::new(alloc);
+    let file = Some(script.as_bytes());
+    let status = run_command(rt, alloc, &["replay", "f"], file, &mut out, &mut faults);
+    equal_in(rt, (status, faults.len()), (0, 0), script);
+}
+
 // A script that is cut within a line has a bad last line; one that is cut behind a line is a script.
 #[test]
 fn a_cut_script_is_answered_for_each_byte(rt: HostRuntime) -> Result<(), Fail> {
-    let alloc = rt.alloc();
-    let mut script = String::new(alloc);
+    let mut script = String::new(rt.alloc());
     for (i, line) in BARGING.iter().enumerate() {
-        let number = i + 1;
-        let fault = format!(in alloc; "bad script line {number}\n")?;
-        for c in line.chars() {
-            script.push(c)?;
-            if c != '\n' {
-                refused(&rt, alloc, &script, script.as_bytes(), &fault);
-            }
-        }
-        let mut out = Vec::new(alloc);
-        let mut faults = Vec::new(alloc);
-        let file = Some(script.as_bytes());
-        let status = run_command(&rt, alloc, &["replay", "f"], file, &mut out, &mut faults);
-        assert_eq!(rt; (status, faults.len()), (0, 0), "{script}");
+        push_cut_line(&rt, rt.alloc(), &mut script, line, i + 1)?;
+        is_replayed(&rt, rt.alloc(), script.as_str());
     }
     Ok(())
 }
@@ -618,40 +657,30 @@ fn refused<R: Threads + Wait + Sync + Abort>(
     );
 }
 
+/// `replay` of a file of so many empty lines says that much.
+fn empty_lines_refused<R: Threads + Wait + Sync + Abort>(
+    rt: &R,
+    alloc: Global,
+    name: &str,
+    lines: usize,
+    fault: &str,
+) -> Result<(), AllocError> {
+    let bytes = vec![in alloc; b'\n'; lines]?;
+    refused(rt, alloc, name, bytes.as_slice(), fault);
+    Ok(())
+}
+
 #[test]
 fn unreadable_files(rt: HostRuntime) -> Result<(), Fail> {
     let alloc = rt.alloc();
-    check(
-        &rt,
-        alloc,
-        "no such file",
-        &["replay", "f"],
-        None,
-        ("", "cannot read file\n", 1),
-    );
-    refused(
-        &rt,
-        alloc,
-        "not UTF-8",
-        b"open 1 1 0\n\xff\n".as_slice(),
-        "cannot read file\n",
-    );
-    let large = vec![in alloc; b'\n'; 4_000_001]?;
-    refused(
-        &rt,
-        alloc,
-        "4,000,001 bytes",
-        large.as_slice(),
-        "cannot read file\n",
-    );
-    let fits = vec![in alloc; b'\n'; 4_000_000]?;
-    refused(
-        &rt,
-        alloc,
-        "4,000,000 bytes",
-        fits.as_slice(),
-        "bad script line 1\n",
-    );
+    let fault = "cannot read file\n";
+    let want = ("", fault, 1);
+    check(&rt, alloc, "no such file", &["replay", "f"], None, want);
+    let not_text = b"open 1 1 0\n\xff\n".as_slice();
+    refused(&rt, alloc, "not UTF-8", not_text, fault);
+    empty_lines_refused(&rt, alloc, "4,000,001 bytes", 4_000_001, fault)?;
+    let bad = "bad script line 1\n";
+    empty_lines_refused(&rt, alloc, "4,000,000 bytes", 4_000_000, bad)?;
     Ok(())
 }
 
@@ -687,21 +716,24 @@ impl Write for Counted {
     }
 }
 
+/// The status of a `count` whose output takes nothing.
+fn count_into_full<R: Threads + Wait + Sync + Abort>(
+    rt: &R,
+    alloc: Global,
+    faults: &mut Counted,
+) -> u8 {
+    let file: Option<&[u8]> = None;
+    let words = ["count", "1", "1", "0", "0"];
+    run_command(rt, alloc, &words, file, &mut Full, faults)
+}
+
 #[test]
 fn output_that_cannot_be_written(rt: HostRuntime) {
     let mut faults = Counted {
         bytes: Vec::new(rt.alloc()),
         writes: 0,
     };
-    let file: Option<&[u8]> = None;
-    let status = run_command(
-        &rt,
-        rt.alloc(),
-        &["count", "1", "1", "0", "0"],
-        file,
-        &mut Full,
-        &mut faults,
-    );
+    let status = count_into_full(&rt, rt.alloc(), &mut faults);
     same_text(&rt, faults.bytes.as_slice(), "cannot write\n", "faults");
     equal(&rt, faults.writes, 1);
     equal(&rt, status, 1);
@@ -717,6 +749,17 @@ struct Meeting {
 /// How often a held worker asks before it gives up.
 const ASKINGS: u64 = 10_000_000;
 
+/// Asks until the flag is raised, or notes that it was missed.
+fn await_raised(flag: &AtomicU64, missed: &AtomicU64) {
+    for _ in 0..ASKINGS {
+        if flag.load(Ordering::SeqCst) != 0 {
+            return;
+        }
+        thread::yield_now();
+    }
+    missed.store(1, Ordering::SeqCst);
+}
+
 impl Gate for Meeting {
     fn reached(&self, worker: usize, round: u64, point: Point) {
         if round != 0 || point != Point::Owning {
@@ -726,13 +769,7 @@ impl Gate for Meeting {
             self.arrived.store(1, Ordering::SeqCst);
             return;
         }
-        for _ in 0..ASKINGS {
-            if self.arrived.load(Ordering::SeqCst) != 0 {
-                return;
-            }
-            thread::yield_now();
-        }
-        self.missed.store(1, Ordering::SeqCst);
+        await_raised(&self.arrived, &self.missed);
     }
 }
 
@@ -751,14 +788,24 @@ impl Gate for Filled {
         if worker != 1 || round != 0 || point != Point::BeforeLock {
             return;
         }
-        for _ in 0..ASKINGS {
-            if self.full.load(Ordering::SeqCst) != 0 {
-                return;
-            }
-            thread::yield_now();
-        }
-        self.missed.store(1, Ordering::SeqCst);
+        await_raised(&self.full, &self.missed);
     }
+}
+
+/// The numbers are relayed past this gate, at which nothing is missed.
+fn relays_past<R: Threads + Wait + Sync + Abort>(
+    rt: &R,
+    alloc: Global,
+    filled: &Filled,
+    relaying: &Relaying,
+) {
+    let mut out = Vec::new(alloc);
+    let mut faults = Vec::new(alloc);
+    let status = relay_with(rt, alloc, filled, relaying, &mut out, &mut faults);
+    equal(rt, filled.missed.load(Ordering::SeqCst), 0);
+    let want = "put 9\ntaken 9\nsum 45\nbalanced\n";
+    same_text(rt, out.as_slice(), want, "output");
+    equal(rt, status, 0);
 }
 
 #[test]
@@ -772,17 +819,23 @@ fn producer_fills_the_buffer_first(rt: HostRuntime) {
         rounds: 9,
         seed: 7,
     };
-    let mut out = Vec::new(rt.alloc());
-    let mut faults = Vec::new(rt.alloc());
-    let status = relay_with(&rt, rt.alloc(), &filled, &relaying, &mut out, &mut faults);
-    equal(&rt, filled.missed.load(Ordering::SeqCst), 0);
-    same_text(
-        &rt,
-        out.as_slice(),
-        "put 9\ntaken 9\nsum 45\nbalanced\n",
-        "output",
-    );
-    equal(&rt, status, 0);
+    relays_past(&rt, rt.alloc(), &filled, &relaying);
+}
+
+/// The rounds are counted past this gate, at which nothing is missed.
+fn counts_past<R: Threads + Wait + Sync + Abort>(
+    rt: &R,
+    alloc: Global,
+    meeting: &Meeting,
+    counting: &Counting,
+) {
+    let mut out = Vec::new(alloc);
+    let mut faults = Vec::new(alloc);
+    let status = count_with(rt, alloc, meeting, counting, &mut out, &mut faults);
+    equal(rt, meeting.missed.load(Ordering::SeqCst), 0);
+    let want = "lock 0 total 10\nlock 1 total 10\nsum 20\n";
+    same_text(rt, out.as_slice(), want, "output");
+    equal(rt, status, 0);
 }
 
 #[test]
@@ -797,15 +850,5 @@ fn two_workers_meet(rt: HostRuntime) {
         rounds: 10,
         seed: 7,
     };
-    let mut out = Vec::new(rt.alloc());
-    let mut faults = Vec::new(rt.alloc());
-    let status = count_with(&rt, rt.alloc(), &meeting, &counting, &mut out, &mut faults);
-    equal(&rt, meeting.missed.load(Ordering::SeqCst), 0);
-    same_text(
-        &rt,
-        out.as_slice(),
-        "lock 0 total 10\nlock 1 total 10\nsum 20\n",
-        "output",
-    );
-    equal(&rt, status, 0);
+    counts_past(&rt, rt.alloc(), &meeting, &counting);
 }

@@ -1,9 +1,11 @@
 //! Assertions as calls: what a macro writes at its place would be checked with all that the schedule around it knows.
 ghost use Rattle.std.specs.Prelude.{◌≡◌, true, false};
 
+use crate::asserts::equal;
 use lot_locks::Released;
 use lot_park::Parked;
 use lot_permits::Freed;
+use lot_waits::Ledger;
 use std::process::Abort;
 
 /// It is so, or the test fails.
@@ -46,4 +48,10 @@ pub(crate) fn parked_is(rt: &impl Abort, parked: Parked, wanted: Parked)
     ensures { parked ≡ wanted }
 {
     assert_eq!(rt; parked, wanted);
+}
+
+/// So many notifications of each condition were called and so many of its waits woken, the same numbers, or the test fails.
+pub(crate) fn ledger_is(rt: &impl Abort, ledger: &Ledger, wanted: &[u64]) {
+    equal(rt, ledger.called.as_slice(), wanted);
+    equal(rt, ledger.woken.as_slice(), wanted);
 }

@@ -1,6 +1,7 @@
 //! Conditions that are named and settled with nobody there, and what their ledger then says.
 ghost use Rattle.std.specs.Prelude.{◌≡◌};
 
+use crate::kinds::asserts::ledger_is;
 use lot_rights::WordsFault;
 use lot_waits::{OpenedConds, Room, WaitName, settle};
 use std::alloc::Global;
@@ -19,8 +20,7 @@ fn settled_unused<N: WaitName>(rt: &impl Abort, alloc: Global, opened: OpenedCon
     };
     let (scheme, waiters, roots, room) = opened.name(room);
     let ledger = settle(scheme, waiters, roots, room);
-    assert_eq!(rt; ledger.called.as_slice(), [0, 0].as_slice());
-    assert_eq!(rt; ledger.woken.as_slice(), [0, 0].as_slice());
+    ledger_is(rt, &ledger, &[0, 0]);
 }
 
 // Where a request for memory is refused, all that was taken is freed.

@@ -3,7 +3,8 @@ ghost use Rattle.std.specs.Prelude.{◌≡◌, ℕ, ◌+◌, ◌<◌, ◌≤◌,
 ghost use Rattle.lot_core.specs.Parts.{IsAmongSemaphores};
 ghost use Rattle.lot_permits.specs.Permits.{HasPermit, HoldsNone, IsWide, one_less, one_more, opening_permits, permits_with};
 
-use crate::kinds::asserts::freed_is;
+use crate::asserts::equal;
+use crate::kinds::asserts::{count_is, freed_is, is_so};
 use crate::kinds::tables::EARLY;
 use lot_park::ParkingLot;
 use lot_park::parts::Whole;
@@ -92,7 +93,7 @@ fn two_and_no_third<N: PermitName + Send, T: Wait + Abort>(
     let (seeker, one) = got(rt, scheme, seeker, 0);
     let (seeker, two) = got(rt, scheme, seeker, 0);
     let seeker = found_none(rt, scheme, seeker, 0);
-    assert_eq!(rt; permits_left(scheme, 0), 0);
+    equal(rt, permits_left(scheme, 0), 0);
     let (seeker, freed) = give_back(rt, lot, seeker, two);
     freed_is(rt, freed, Freed::Quiet);
     let (seeker, freed) = give_back(rt, lot, seeker, one);
@@ -148,7 +149,7 @@ fn stand<N: PermitName, T: Wait + Abort>(
     let Some(Idle { seeker }) = seats.idle.pop() else {
         panic!(rt; "no seeker is there")
     };
-    assert_eq!(rt; seeker.thread(), thread);
+    count_is(rt, seeker.thread(), thread);
     seeker
 }
 
@@ -176,7 +177,7 @@ fn wake<N: PermitName + Send, T: Wait + Abort>(
     requires has { HasPermit seeker permit }
     ensures { result ≡ one_less seeker 1 Freed.Woke }
 {
-    assert!(rt; is_in_line(rt, lot, 1));
+    is_so(rt, is_in_line(rt, lot, 1));
     let (seeker, freed) = give_back(rt, lot, seeker, permit);
     freed_is(rt, freed, Freed::Woke);
     seeker
@@ -208,7 +209,7 @@ fn a_sleeper_gets_it<N: PermitName + Send + Sync, T: Threads + Wait + Sync + Abo
                 requires sems { (N.low ≡ 0) × (length N.permits ≡ 2) }
                 requires sizes { (lot.now.threads ≡ 2) × (lot.now.keys ≡ 2) }
             { sleeper(rt, lot, seats) };
-            assert!(rt; scope.spawn(job).is_ok());
+            is_so(rt, scope.spawn(job).is_ok());
             wake(rt, lot, seeker, permit)
         },
     )

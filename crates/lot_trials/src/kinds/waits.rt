@@ -3,7 +3,7 @@ ghost use Rattle.std.specs.Prelude.{◌≡◌, ◌<◌, IsSome, IsSomeAnd};
 ghost use Rattle.lot_waits.specs.Counts.{took as took_more, woke};
 ghost use Rattle.lot_trials.specs.Waits.{EndsThere};
 
-use crate::kinds::asserts::{count_is, is_not, is_so};
+use crate::kinds::asserts::{count_is, is_not, is_so, ledger_is};
 use crate::kinds::tables::{EARLY, THREADS, TheConds, TwoTables, condition_of, open};
 use lot_park::ParkingLot;
 use lot_waits::{
@@ -134,7 +134,7 @@ struct Between<'a, R> {
 impl<R: Abort> BeforeSweep for Between<'_, R> {
     fn run(&self) {
         raise(&self.signs.cleared);
-        assert!(self.rt; is_raised(&self.signs.late));
+        is_so(self.rt, is_raised(&self.signs.late));
     }
 }
 
@@ -382,8 +382,7 @@ fn a_ledger_of_one_wait(rt: HostRuntime) {
         panic!(&rt; "no memory")
     };
     let ledger = play::<Brand, HostRuntime>(&rt, rt.alloc(), opened, false);
-    assert_eq!(rt; ledger.called.as_slice(), [1].as_slice());
-    assert_eq!(rt; ledger.woken.as_slice(), [1].as_slice());
+    ledger_is(&rt, &ledger, &[1]);
 }
 
 #[test]
@@ -392,6 +391,5 @@ fn waits_and_notifications(rt: HostRuntime) {
         panic!(&rt; "no memory")
     };
     let ledger = play::<Brand, HostRuntime>(&rt, rt.alloc(), opened, true);
-    assert_eq!(rt; ledger.called.as_slice(), [4].as_slice());
-    assert_eq!(rt; ledger.woken.as_slice(), [4].as_slice());
+    ledger_is(&rt, &ledger, &[4]);
 }
