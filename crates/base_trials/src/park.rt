@@ -5,6 +5,7 @@ mod buckets;
 mod letters;
 mod lots;
 mod parts;
+mod queues;
 mod records;
 mod rights;
 mod tables;

@@ -1,9 +1,3 @@
 pub mod Laws
-mod Ways
-mod Rows
-mod Steps
-mod Openings
-mod Lying
-mod Lines
 mod Settling
 pub mod Slots

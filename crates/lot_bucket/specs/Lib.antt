@@ -1,6 +1,4 @@
 pub mod Queue
-pub mod Waiting
-pub mod Links
 pub mod Places
 pub mod Contents
 pub mod Taking

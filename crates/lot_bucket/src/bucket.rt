@@ -2,9 +2,8 @@ ghost use Rattle.std.specs.Prelude.{◌≡◌, ℕ, ◌+◌, ◌-◌, ◌*◌, �
 ghost use Rattle.lot_bucket.specs.Queue.{line_of, without_key};
 ghost use Rattle.lot_bucket.specs.Places.{empty_places, spaced, has_key, root_at, with_root};
 
-use crate::places::Places;
-use crate::queue::Queue;
 use crate::taking::{Dequeued, Moment};
+use lot_places::{Places, Queue};
 use std::alloc::{AllocError, Global};
 use std::marker::Model;
 use thiserror::Error;

@@ -1,26 +1,22 @@
 //! One bucket of the parking lot: a queue in which threads of many keys wait, and a root for each key.
 //!
-//! Stands on nothing. The table and the parking lot stand on it: each operation on a key locks the
-//! key's bucket, takes the key's root out, changes the queue and the root alike, and puts it back.
+//! Stands on `lot_places`, which has the queue and the places of the roots. The table and the parking lot
+//! stand on it: each operation on a key locks the key's bucket, takes the key's root out, changes the
+//! queue and the root alike, and puts it back.
 //!
 //! ```text
 //!   keys and roots   1 ─ root      13 ─ root      25 ─ (out)
 //!   queue            (thread 1, key 13)  (thread 2, key 1)  (thread 3, key 13)
 //!   line of key 13   1, 3
-//!   places           0: (2, 1)   1: (1, 13)   2: free   3: (3, 13)     in use 1, then 0, then 3
 //! ```
 //!
-//! The queue lies in a fixed row of places, and each place in use knows the next. So a thread that is
-//! taken out of the middle moves no other, and no call but `new` and `spaced` takes memory.
+//! No call but `new` and `spaced` takes memory.
 //!
 //! `Bucket` is the bucket itself. `Settled` is what lies behind its lock: a bucket that agrees with its
 //! roots, so that whoever takes the lock may count on it, and whoever lets it go has to see to it.
 #![tactic(auto)]
 
 pub mod bucket;
-mod links;
-mod places;
-mod queue;
 pub mod root;
 pub mod settled;
 pub mod taking;

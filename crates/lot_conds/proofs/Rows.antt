@@ -4,8 +4,8 @@ use Rattle.std.proofs.lemmas.List.{drop_all}
 use Rattle.lot_core.specs.World.{put}
 use Rattle.lot_core.specs.Steps.{IsCallCount, SaysMoreBehind, dequeued_count, flag_after_call}
 use Rattle.lot_core.specs.Parts.{IsAmongConds, IsCalmIn}
-use Rattle.lot_core.specs.declared.events.Event.TheVariants.{Enlist, Look, Call, Lower, Sweep}
-use Rattle.lot_core.specs.declared.events.Seen.TheVariants.{Bool as Saw, Done, Count}
+use Rattle.lot_events.specs.declared.events.Event.TheVariants.{Enlist, Look, Call, Lower, Sweep}
+use Rattle.lot_events.specs.declared.events.Seen.TheVariants.{Bool as Saw, Done, Count}
 use Rattle.lot_core.proofs.Put.{put_again, told_put, told_same}
 use Rattle.lot_rights.specs.World.{Spot}
 use Rattle.lot_conds.specs.declared.views.CondPassView.{CondPassView}

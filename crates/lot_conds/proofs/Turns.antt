@@ -8,8 +8,8 @@ use Rattle.lot_core.specs.World.{put}
 use Rattle.lot_core.specs.Steps.{IsCallCount, SaysMoreBehind, dequeued_count, flag_after_call}
 use Rattle.lot_core.proofs.Members.{some_behind}
 use Rattle.lot_core.specs.Parts.{IsAmongConds, IsCalmIn}
-use Rattle.lot_core.specs.declared.events.Event.TheVariants.{Enlist, Look, Call, Lower, Sweep}
-use Rattle.lot_core.specs.declared.events.Seen.TheVariants.{Bool as Saw, Done, Count}
+use Rattle.lot_events.specs.declared.events.Event.TheVariants.{Enlist, Look, Call, Lower, Sweep}
+use Rattle.lot_events.specs.declared.events.Seen.TheVariants.{Bool as Saw, Done, Count}
 use Rattle.lot_core.proofs.Put.{put_same, put_other, put_again}
 use Rattle.lot_rights.specs.declared.views.Access.TheVariants.{Makes, Posts, Collects}
 use Rattle.lot_rights.specs.declared.views.PassView.{PassView}

@@ -1,8 +1,8 @@
 -- The rule of a table of condition words: there is a world that the words and the rights stand for, and it tells the condition part of the model.
 use Rattle.std.specs.Prelude.{ℕ, ◌+◌, ◌<◌, false, List, [], replicate, None}
 use Rattle.std.proofs.Common.{sym, ◌∙◌}
-use Rattle.lot_core.specs.declared.events.Event.{Event}
-use Rattle.lot_core.specs.declared.events.Seen.{Seen}
+use Rattle.lot_events.specs.declared.events.Event.{Event}
+use Rattle.lot_events.specs.declared.events.Seen.{Seen}
 use Rattle.lot_core.specs.Parts.{CondPart, CondStep}
 use Rattle.lot_rights.specs.Rule.{Scheme}
 use Rattle.lot_rights.specs.Settled.{HasOneOutcome}

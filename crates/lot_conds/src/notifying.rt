@@ -2,8 +2,8 @@
 ghost use Rattle.std.specs.Prelude.{◌≡◌, length, None, Some};
 ghost use Rattle.lot_core.specs.Steps.{IsCallCount, SaysMoreBehind, dequeued_count};
 ghost use Rattle.lot_core.specs.Parts.{IsAmongConds};
-ghost use Rattle.lot_core.specs.declared.events.Event.TheVariants.{Look, Call, Lower, Sweep};
-ghost use Rattle.lot_core.specs.declared.events.Seen.TheVariants.{Bool as Saw, Done, Count};
+ghost use Rattle.lot_events.specs.declared.events.Event.TheVariants.{Look, Call, Lower, Sweep};
+ghost use Rattle.lot_events.specs.declared.events.Seen.TheVariants.{Bool as Saw, Done, Count};
 ghost use Rattle.lot_rights.specs.declared.views.Access.TheVariants.{Makes};
 ghost use Rattle.lot_rights.specs.Steps.{Notes};
 ghost use Rattle.lot_conds.specs.Calls.{IsCalm, lowering, took, called_root, swept_pass, swept_root};

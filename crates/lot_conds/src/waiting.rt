@@ -2,8 +2,8 @@
 ghost use Rattle.std.specs.Prelude.{◌≡◌, MatchOption};
 ghost use Rattle.std.specs.List.{Contains};
 ghost use Rattle.lot_core.specs.Parts.{IsAmongConds};
-ghost use Rattle.lot_core.specs.declared.events.Event.TheVariants.{Enlist};
-ghost use Rattle.lot_core.specs.declared.events.Seen.TheVariants.{Done};
+ghost use Rattle.lot_events.specs.declared.events.Event.TheVariants.{Enlist};
+ghost use Rattle.lot_events.specs.declared.events.Seen.TheVariants.{Done};
 ghost use Rattle.lot_rights.specs.declared.views.Access.TheVariants.{Makes, Posts};
 ghost use Rattle.lot_rights.specs.Steps.{Notes, RootNotes};
 ghost use Rattle.lot_conds.specs.Calls.{IsCalm, enlisted, enlisted_root, paid_root, FoundNone, Collected};

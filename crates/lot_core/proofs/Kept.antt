@@ -5,8 +5,8 @@ use Rattle.std.specs.Prelude.{if◌then◌else◌}
 use Rattle.std.specs.List.{Contains}
 use Rattle.std.proofs.lemmas.List.Elements.{Contains-push_cases}
 use Rattle.std.proofs.lemmas.Bool.{cases_eq, and_cases}
-use Rattle.lot_core.specs.declared.events.Point.{Point}
-use Rattle.lot_core.specs.declared.events.Point.TheVariants.{Calm, Wants, Bed, Rest, Sweeps, Seeks}
+use Rattle.lot_events.specs.declared.events.Point.{Point}
+use Rattle.lot_events.specs.declared.events.Point.TheVariants.{Calm, Wants, Bed, Rest, Sweeps, Seeks}
 use Rattle.lot_core.specs.World.{World, Semaphores, put}
 use Rattle.lot_core.specs.Steps.{IsThread, IsTrying, MayLetGo, SaysMore, SaysMoreBehind, enlisted, dequeued, flag_after_call, called, swept, released, let_go}
 use Rattle.lot_core.specs.Sound.{Waits, OneOwner, SleepersAreMarked, SomeoneIsTrying, SomeoneSweeps, IsOnce}

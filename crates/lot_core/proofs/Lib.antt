@@ -14,9 +14,6 @@ pub mod Passes
 pub mod Runs
 pub mod Opening
 pub mod Soundness
-pub mod Words
-pub mod Figures
-pub mod Spelled
 pub mod Openings
 pub mod Scripts
 pub mod ReadBack

@@ -1,7 +1,7 @@
 -- The vectors of an opening state stand for the opening state of the model.
 use Rattle.std.proofs.Common.{◌≡◌, ◌+◌, ℕ, Bool, false, List, Option, None, is_some, length, replicate, ap, ◌∙◌}
-use Rattle.lot_core.specs.declared.events.Point.{Point}
-use Rattle.lot_core.specs.declared.events.Point.TheVariants.{Calm}
+use Rattle.lot_events.specs.declared.events.Point.{Point}
+use Rattle.lot_events.specs.declared.events.Point.TheVariants.{Calm}
 use Rattle.lot_core.specs.declared.lines.Lines.{Lines}
 use Rattle.lot_core.specs.World.{World, Semaphores, opening_with, none_taken}
 use Rattle.lot_core.specs.Rows.{told, row, row_from}

@@ -4,8 +4,8 @@ use Rattle.std.specs.Prelude.{codes, flat_map}
 use Rattle.std.specs.List.{AllByRecursion}
 use Rattle.lot_core.specs.Script.{field, line, IsSmall, Opening, NoOpening}
 use Rattle.lot_core.specs.Reading.{rest_behind, field_at, end_at, open_at, ReadsNumbers}
-use Rattle.lot_core.proofs.Figures.{bind_is, bind_some, some_is, Ends, field_takes, field_again, end_takes, end_again}
-use Rattle.lot_core.proofs.Spelled.{rest_behind_takes, regroup, its_line, fields_end}
+use Rattle.lot_events.proofs.Figures.{bind_is, bind_some, some_is, Ends, field_takes, field_again, end_takes, end_again}
+use Rattle.lot_events.proofs.Spelled.{rest_behind_takes, regroup, its_line, fields_end}
 
 -- numbers that were read are spelled
 pub numbers_take : (text numbers rest : List ℕ) → ReadsNumbers text numbers rest → AllByRecursion IsSmall numbers × (text ≡ flat_map field numbers ++ rest)

@@ -1,17 +1,13 @@
--- Functions with one value changed, and cases on a bit and on a line.
+-- Functions with one value changed, and cases on a line.
 use Rattle.std.proofs.Common.{◌≡◌, ◌≢◌, ℕ, Bool, true, false, List, [], ◌∷◌, refl, eq-eqb, subst, sym, ap, ◌∙◌}
 use Rattle.std.specs.Prelude.{◌==◌, if◌then◌else◌}
 use Rattle.std.proofs.lemmas.Bool.{eqb-true, eqb-false}
 use mathlib.Core.Path.{fun_ext}
+pub use Rattle.lot_events.proofs.Cases.{by_bit}
 use Rattle.lot_core.specs.World.{put}
 use Rattle.lot_core.specs.Rows.{told}
 
--- what holds of a bit where it is set, and where it is clear, holds of it
-pub by_bit : (Q : Bool → Type 0) (b : Bool) → (b ≡ true → Q true) → (b ≡ false → Q false) → Q b
-by_bit Q true set clear = set refl
-by_bit Q false set clear = clear refl
-
--- the same of a line: where it is empty, and where it has a first
+-- what holds of a line where it is empty, and where it has a first, holds of it
 pub by_line : (Q : List ℕ → Type 0) (xs : List ℕ) → (xs ≡ [] → Q []) → ((u : ℕ) (rest : List ℕ) → xs ≡ u ∷ rest → Q (u ∷ rest)) → Q xs
 by_line Q [] none some = none refl
 by_line Q (u ∷ rest) none some = some u rest refl

@@ -1,12 +1,12 @@
 -- A spelled script has no bad line, and one text spells one script.
 use Rattle.std.proofs.Common.{◌≡◌, ◌+◌, ◌++◌, ℕ, List, [], ◌∷◌, length, length-append, None, refl, sym, ap, ◌∙◌, subst, ◌⊎◌, arith, append_assoc, inl, inr}
 use Rattle.std.proofs.lemmas.List.{append-nil}
-use Rattle.lot_core.specs.declared.events.Event.{Event}
+use Rattle.lot_events.specs.declared.events.Event.{Event}
 use Rattle.lot_core.specs.declared.script.TheConstants.{MAX_LINES}
 use Rattle.lot_core.specs.Script.{Spells, SpellsAll, SpellsScript, IsFirstBad, NoEvent}
 use Rattle.lot_core.specs.Reading.{event_at, first_of, rest_behind}
-use Rattle.lot_core.proofs.Figures.{some_is}
-use Rattle.lot_core.proofs.Spelled.{event_again}
+use Rattle.lot_events.proofs.Figures.{some_is}
+use Rattle.lot_events.proofs.Spelled.{event_again}
 use Rattle.lot_core.proofs.Openings.{same_opening}
 
 pub nothing_read : event_at [] ≡ None

@@ -1,12 +1,12 @@
 -- What has been read of a script, line by line.
 use Rattle.std.proofs.Common.{◌≡◌, ◌≢◌, ◌<◌, ◌≤◌, ◌+◌, ◌++◌, ℕ, List, [], ◌∷◌, length, length-append, Some, None, refl, sym, ap, ◌∙◌, subst, arith, append_assoc, inl, inr}
 use Rattle.std.proofs.lemmas.List.{append-nil, nil_from_length}
-use Rattle.lot_core.specs.declared.events.Event.{Event}
+use Rattle.lot_events.specs.declared.events.Event.{Event}
 use Rattle.lot_core.specs.declared.script.Script.{Script}
 use Rattle.lot_core.specs.declared.script.TheConstants.{MAX_LINES}
 use Rattle.lot_core.specs.Script.{Opening, Spells, SpellsAll, SpellsScript, GoodUntil, IsFirstBad}
 use Rattle.lot_core.specs.Reading.{event_at, ReadsOpening}
-use Rattle.lot_core.proofs.Spelled.{event_takes, no_event}
+use Rattle.lot_events.proofs.Spelled.{event_takes, no_event}
 
 -- the first line and these events were read, `number` is the next line's, and `rest` is left
 pub record IsSoFar (text : List ℕ) (n l c : ℕ) (ps : List ℕ) (events : List Event) (rest : List ℕ) (number : ℕ) : Type 0 where

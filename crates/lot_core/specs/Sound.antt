@@ -1,8 +1,8 @@
 -- What holds of every state that a run can reach.
 use Rattle.std.specs.Prelude.{◌≡◌, ◌≢◌, ℕ, ◌+◌, ◌<◌, ◌≤◌, ◌==◌, ◌&&◌, ◌⊎◌, ◌↔◌, nat_eq, Bool, true, false, not, List, [], Option, Some, None}
 use Rattle.std.specs.List.{Contains, AllPairs, list_any}
-use Rattle.lot_core.specs.declared.events.Point.{Point}
-use Rattle.lot_core.specs.declared.events.Point.TheVariants.{Wants, Bed, Rest, Sweeps, Seeks}
+use Rattle.lot_events.specs.declared.events.Point.{Point}
+use Rattle.lot_events.specs.declared.events.Point.TheVariants.{Wants, Bed, Rest, Sweeps, Seeks}
 use Rattle.lot_core.specs.Sums.{total, count_below}
 use Rattle.lot_core.specs.World.{World, Semaphores}
 use Rattle.lot_core.specs.Steps.{IsThread, IsTrying}

@@ -1,13 +1,13 @@
 -- What a `State` stands for, and what its calls answer.
 use Rattle.std.specs.Prelude.{take, slice_get, Option, Some, None, is_some, ◌≡◌, ◌==◌, ℕ, Bool, false, List, [], length, Result, Ok, Err}
-use Rattle.lot_core.specs.declared.events.Point.{Point}
-use Rattle.lot_core.specs.declared.events.Point.TheVariants.{Calm}
+use Rattle.lot_events.specs.declared.events.Point.{Point}
+use Rattle.lot_events.specs.declared.events.Point.TheVariants.{Calm}
 use Rattle.lot_core.specs.declared.state.State.{State}
 use Rattle.lot_core.specs.declared.state.CoreFault.{CoreFault}
 use Rattle.lot_core.specs.declared.state.CoreFault.TheVariants.{BadLimits, NoMemory, NotEnabled}
-use Rattle.lot_core.specs.declared.events.Event.{Event}
-use Rattle.lot_core.specs.declared.events.Event.TheVariants.{Park, Enlist, SemPark}
-use Rattle.lot_core.specs.declared.events.Seen.{Seen}
+use Rattle.lot_events.specs.declared.events.Event.{Event}
+use Rattle.lot_events.specs.declared.events.Event.TheVariants.{Park, Enlist, SemPark}
+use Rattle.lot_events.specs.declared.events.Seen.{Seen}
 use Rattle.lot_core.specs.Limits.{Limits}
 use Rattle.lot_core.specs.World.{World, put, opening_with}
 use Rattle.lot_core.specs.Steps.{Allowed, Run, after, after_all, seen}

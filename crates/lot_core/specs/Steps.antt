@@ -1,13 +1,13 @@
 -- The events: where each is allowed, what it changes, and what its thread sees of it.
 use Rattle.std.specs.Prelude.{◌≡◌, ℕ, ◌+◌, ◌-◌, ◌<◌, ◌≤◌, ◌==◌, ◌&&◌, ◌⊎◌, Bool, true, false, not, if◌then◌else◌, List, [], ◌∷◌, ◌++◌, length, drop, min, Option, Some, None}
 use Rattle.std.specs.List.{Contains}
-use Rattle.lot_core.specs.declared.events.Point.{Point}
-use Rattle.lot_core.specs.declared.events.Point.TheVariants.{Calm, Wants, Bed, Rest, Sweeps, Seeks}
-use Rattle.lot_core.specs.declared.events.Event.{Event}
-use Rattle.lot_core.specs.declared.events.Event.TheVariants.{Try, Take, Mark, Park, Free, Pass, Enlist, Look, Call, Lower, Sweep, SemTake, SemMark, SemPark, SemFree, SemPass, SemClear}
-use Rattle.lot_core.specs.declared.events.Seen.{Seen}
-use Rattle.lot_core.specs.declared.events.Seen.TheVariants.{Bool as Saw, Done, Sleeper, Count}
-use Rattle.lot_core.specs.declared.events.TheConstants.{MAX_CALLED}
+use Rattle.lot_events.specs.declared.events.Point.{Point}
+use Rattle.lot_events.specs.declared.events.Point.TheVariants.{Calm, Wants, Bed, Rest, Sweeps, Seeks}
+use Rattle.lot_events.specs.declared.events.Event.{Event}
+use Rattle.lot_events.specs.declared.events.Event.TheVariants.{Try, Take, Mark, Park, Free, Pass, Enlist, Look, Call, Lower, Sweep, SemTake, SemMark, SemPark, SemFree, SemPass, SemClear}
+use Rattle.lot_events.specs.declared.events.Seen.{Seen}
+use Rattle.lot_events.specs.declared.events.Seen.TheVariants.{Bool as Saw, Done, Sleeper, Count}
+use Rattle.lot_events.specs.declared.events.TheConstants.{MAX_CALLED}
 use Rattle.lot_core.specs.World.{World, Locks, Conds, Semaphores, put}
 
 -- who and what there is

@@ -1,7 +1,7 @@
 -- A state of the model.
 use Rattle.std.specs.Prelude.{◌==◌, ℕ, ◌+◌, Bool, false, if◌then◌else◌, List, [], length}
-use Rattle.lot_core.specs.declared.events.Point.{Point}
-use Rattle.lot_core.specs.declared.events.Point.TheVariants.{Calm}
+use Rattle.lot_events.specs.declared.events.Point.{Point}
+use Rattle.lot_events.specs.declared.events.Point.TheVariants.{Calm}
 use Rattle.lot_core.specs.Rows.{row_from}
 
 -- a function with one value changed

@@ -1,7 +1,7 @@
 //! What holds of every run, and what an event of the whole is to its parts: functions that do
 //! nothing, whose contracts are the laws.
 ghost use Rattle.std.specs.Prelude.{◌≡◌, ℕ, List};
-ghost use Rattle.lot_core.specs.declared.events.Event.{Event};
+ghost use Rattle.lot_events.specs.declared.events.Event.{Event};
 ghost use Rattle.lot_core.specs.World.{World, opening_with};
 ghost use Rattle.lot_core.specs.Steps.{Allowed, Run, after_all};
 ghost use Rattle.lot_core.specs.Sound.{IsSound};

@@ -33,22 +33,22 @@
 //! semaphore that are left and those that are out are together its opening number, sleepers in its
 //! line mean that it is parked, and as many threads at least are then seeking as permits are left.
 //!
+//! The events themselves, and how a line spells one, are `lot_events`.
+//!
 //! Read `specs/` in this order: World, Steps, Parts, Sound, then State for the calls, Script and
-//! Printed for the texts.
+//! Printed for the texts; the lines of Script are those of `specs/Spelling` of `lot_events`.
 #![tactic(auto)]
 
-pub mod events;
 pub mod laws;
 mod lines;
 pub mod printing;
-mod reading;
 pub mod script;
 mod semaphores;
 mod sound;
 pub mod state;
 
-pub use events::{Event, MAX_CALLED, Point, Seen};
 pub use laws::{every_run_is_sound, parts_follow, spelled_scripts_are_read};
+pub use lot_events::{Event, MAX_CALLED, Point, Seen};
 pub use printing::print_state;
 pub use script::{MAX_LINES, Script, ScriptFault, parse_script};
 pub use state::{CoreFault, MAX_KEYS, MAX_THREADS, State};

@@ -7,9 +7,9 @@ ghost use Rattle.lot_core.specs.Steps.{IsThread, IsLock, IsCond, IsSemaphore};
 ghost use Rattle.lot_core.specs.State.{world_of};
 ghost use Rattle.lot_core.specs.Printed.{line_text, owner_text, point_text, lock_line, cond_line, sem_line, thread_line, printed};
 
-use crate::events::Point;
 use crate::lines::Lines;
 use crate::state::{CoreFault, State};
+use lot_events::Point;
 use std::alloc::{AllocError, Global};
 
 // The threads of a key's line, in order, or `-`.

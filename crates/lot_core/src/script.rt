@@ -16,8 +16,8 @@
 //! | `spass T K M` | of thread T on semaphore K, more M |
 ghost use Rattle.std.specs.Prelude.{◌≡◌, IfOk, IfErr, Err, None};
 
-use crate::events::Event;
-use crate::reading::{end, event_of, field, opening};
+use lot_events::Event;
+use lot_events::reading::{end, event_of, field, opening};
 use std::alloc::{AllocError, Global};
 use thiserror::Error;
 

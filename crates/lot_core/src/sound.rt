@@ -1,12 +1,12 @@
 //! Whether a state is sound, tested key by key.
 ghost use Rattle.std.specs.Prelude.{◌≡◌, ◌≢◌, ◌↔◌, ℕ, [], IsTrue};
 
-use crate::events::Point;
 use crate::state::State;
+use lot_events::Point;
 
 #[tactic(auto)]
 impl State {
-    ghost use Rattle.lot_core.specs.declared.events.Point.TheVariants.{Sweeps};
+    ghost use Rattle.lot_events.specs.declared.events.Point.TheVariants.{Sweeps};
     ghost use Rattle.lot_core.specs.Steps.{IsThread, IsLock, IsCond, IsSemaphore, IsTrying};
     ghost use Rattle.lot_core.specs.Parts.{semaphore_part};
     ghost use Rattle.lot_core.specs.Sound.{IsSound, Waits, IsMarked, IsSought, IsSwept, AllWant, AllWait, IsSoundLock, IsSoundCond};

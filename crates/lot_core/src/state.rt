@@ -1,11 +1,11 @@
 //! A state of the model, and the events that change it.
 ghost use Rattle.std.specs.Prelude.{◌≡◌, ◌+◌, ◌↔◌, length, IsTrue, IfErr, OnOk};
 ghost use Rattle.lot_core.specs.Lines.{key_count};
-ghost use Rattle.lot_core.specs.declared.events.Point.TheVariants.{Calm};
+ghost use Rattle.lot_events.specs.declared.events.Point.TheVariants.{Calm};
 
-use crate::events::{Event, Point, Seen};
 use crate::lines::Lines;
 use crate::semaphores::Semaphores;
+use lot_events::{Event, Point, Seen};
 use thiserror::Error;
 
 mod conds;

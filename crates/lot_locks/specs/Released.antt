@@ -2,8 +2,8 @@
 -- its pass.
 use Rattle.std.specs.Prelude.{◌≡◌, ℕ, ◌<◌, ◌||◌, Bool, true, false, List, drop, Option, Some, None}
 use Rattle.std.specs.List.{fold}
-use Rattle.lot_core.specs.declared.events.Event.TheVariants.{Free, Pass as Passes}
-use Rattle.lot_core.specs.declared.events.Seen.TheVariants.{Bool as Saw, Sleeper}
+use Rattle.lot_events.specs.declared.events.Event.TheVariants.{Free, Pass as Passes}
+use Rattle.lot_events.specs.declared.events.Seen.TheVariants.{Bool as Saw, Sleeper}
 use Rattle.lot_bucket.specs.KeyLine.{KeyLine}
 use Rattle.lot_bucket.specs.declared.taking.Dequeued.{Dequeued}
 use Rattle.lot_park.specs.Parking.{debt}

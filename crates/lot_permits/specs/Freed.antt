@@ -2,8 +2,8 @@
 -- one of a thread ended, as the entries tell that were made with its pass.
 use Rattle.std.specs.Prelude.{ℕ, Bool, true, List, Option, Some, None}
 use Rattle.std.specs.List.{fold}
-use Rattle.lot_core.specs.declared.events.Event.TheVariants.{SemFree, SemPass as Passes, SemClear}
-use Rattle.lot_core.specs.declared.events.Seen.TheVariants.{Bool as Saw, Done, Sleeper}
+use Rattle.lot_events.specs.declared.events.Event.TheVariants.{SemFree, SemPass as Passes, SemClear}
+use Rattle.lot_events.specs.declared.events.Seen.TheVariants.{Bool as Saw, Done, Sleeper}
 use Rattle.lot_rights.specs.declared.views.Access.{Access}
 use Rattle.lot_rights.specs.declared.views.Access.TheVariants.{Makes}
 use Rattle.lot_rights.specs.declared.views.Entry.{Entry}

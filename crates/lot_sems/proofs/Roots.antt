@@ -6,10 +6,10 @@ use Rattle.std.proofs.lemmas.Nat.Bits.{and_high_mask}
 use mathlib.Core.Option as maybe
 use Rattle.lot_core.specs.World.{put}
 use Rattle.lot_core.specs.Steps.{SaysMore, first, none_left}
-use Rattle.lot_core.specs.declared.events.Event.{Event}
-use Rattle.lot_core.specs.declared.events.Event.TheVariants.{SemPark, SemPass, SemClear}
-use Rattle.lot_core.specs.declared.events.Seen.{Seen}
-use Rattle.lot_core.specs.declared.events.Seen.TheVariants.{Bool as Saw, Done, Sleeper}
+use Rattle.lot_events.specs.declared.events.Event.{Event}
+use Rattle.lot_events.specs.declared.events.Event.TheVariants.{SemPark, SemPass, SemClear}
+use Rattle.lot_events.specs.declared.events.Seen.{Seen}
+use Rattle.lot_events.specs.declared.events.Seen.TheVariants.{Bool as Saw, Done, Sleeper}
 use Rattle.lot_core.proofs.Members.{in_head}
 use Rattle.lot_core.proofs.Put.{by_bit, put_same, put_other}
 use Rattle.lot_rights.specs.declared.views.Access.TheVariants.{Makes, Posts, Collects}

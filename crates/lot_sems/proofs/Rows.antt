@@ -4,10 +4,10 @@ use Rattle.std.specs.Prelude.{if◌then◌else◌}
 use Rattle.lot_core.specs.World.{put}
 use Rattle.lot_core.specs.Steps.{SaysMore, first, none_left, permit_given, with_sem_line, seeker_woken}
 use Rattle.lot_core.specs.Parts.{SemaphorePart, PartSeeks, semaphore_part_after}
-use Rattle.lot_core.specs.declared.events.Event.{Event}
-use Rattle.lot_core.specs.declared.events.Event.TheVariants.{SemTake, SemMark, SemPark, SemFree, SemPass, SemClear}
-use Rattle.lot_core.specs.declared.events.Seen.{Seen}
-use Rattle.lot_core.specs.declared.events.Seen.TheVariants.{Bool as Saw, Done, Sleeper}
+use Rattle.lot_events.specs.declared.events.Event.{Event}
+use Rattle.lot_events.specs.declared.events.Event.TheVariants.{SemTake, SemMark, SemPark, SemFree, SemPass, SemClear}
+use Rattle.lot_events.specs.declared.events.Seen.{Seen}
+use Rattle.lot_events.specs.declared.events.Seen.TheVariants.{Bool as Saw, Done, Sleeper}
 use Rattle.lot_core.proofs.Permits.{IsKeptPart, part_kept, part_sound}
 use Rattle.lot_core.proofs.Put.{put_again}
 use Rattle.lot_sems.specs.World.{Numbers, IsAmong, permits_of}

@@ -6,10 +6,10 @@ use prog.Atomic.{either}
 use Rattle.lot_core.specs.World.{put}
 use Rattle.lot_core.specs.Sums.{bit}
 use Rattle.lot_core.specs.Parts.{PartSeeks}
-use Rattle.lot_core.specs.declared.events.Event.{Event}
-use Rattle.lot_core.specs.declared.events.Event.TheVariants.{SemTake, SemMark, SemFree}
-use Rattle.lot_core.specs.declared.events.Seen.{Seen}
-use Rattle.lot_core.specs.declared.events.Seen.TheVariants.{Bool as Saw, Done}
+use Rattle.lot_events.specs.declared.events.Event.{Event}
+use Rattle.lot_events.specs.declared.events.Event.TheVariants.{SemTake, SemMark, SemFree}
+use Rattle.lot_events.specs.declared.events.Seen.{Seen}
+use Rattle.lot_events.specs.declared.events.Seen.TheVariants.{Bool as Saw, Done}
 use Rattle.lot_rights.specs.declared.views.Access.TheVariants.{Makes, Finds}
 use Rattle.lot_rights.specs.declared.views.PassView.{PassView}
 use Rattle.lot_rights.specs.History.{maker}

@@ -1,7 +1,7 @@
 -- What each kind of call does to the rights that it is handed.
 use Rattle.std.specs.Prelude.{◌≡◌, ℕ, zero, suc, ◌+◌, ◌-◌, ◌<◌, ◌≤◌, ◌⊎◌, ◌++◌, if◌then◌else◌, Bool, true, false, List, [], ◌∷◌, slice_index, slice_set, Option, Some, None}
-use Rattle.lot_core.specs.declared.events.Event.TheVariants.{SemTake}
-use Rattle.lot_core.specs.declared.events.Seen.TheVariants.{Bool as Saw}
+use Rattle.lot_events.specs.declared.events.Event.TheVariants.{SemTake}
+use Rattle.lot_events.specs.declared.events.Seen.TheVariants.{Bool as Saw}
 use Rattle.lot_rights.specs.declared.views.Access.TheVariants.{Makes, Collects, Finds}
 use Rattle.lot_rights.specs.declared.views.PassView.{PassView}
 use Rattle.lot_rights.specs.Steps.{Notes}

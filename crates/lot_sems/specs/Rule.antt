@@ -3,8 +3,8 @@ use Rattle.std.specs.Prelude.{◌≡◌, ℕ, ◌<◌, ◌⊎◌, false, List, [
 use Rattle.std.specs.List.{Contains}
 use Rattle.std.proofs.Common.{sym, ◌∙◌}
 use Rattle.lot_core.specs.World.{none_taken}
-use Rattle.lot_core.specs.declared.events.Event.{Event}
-use Rattle.lot_core.specs.declared.events.Seen.{Seen}
+use Rattle.lot_events.specs.declared.events.Event.{Event}
+use Rattle.lot_events.specs.declared.events.Seen.{Seen}
 use Rattle.lot_core.specs.Parts.{SemaphorePart, SemaphoreStep}
 use Rattle.lot_core.specs.Sound.{IsSoundSemaphorePart}
 use Rattle.lot_rights.specs.Rule.{Scheme}

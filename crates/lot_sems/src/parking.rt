@@ -1,7 +1,7 @@
 //! Queueing on a semaphore.
 ghost use Rattle.std.specs.Prelude.{◌≡◌};
-ghost use Rattle.lot_core.specs.declared.events.Event.TheVariants.{SemPark};
-ghost use Rattle.lot_core.specs.declared.events.Seen.TheVariants.{Bool as Saw};
+ghost use Rattle.lot_events.specs.declared.events.Event.TheVariants.{SemPark};
+ghost use Rattle.lot_events.specs.declared.events.Seen.TheVariants.{Bool as Saw};
 ghost use Rattle.lot_rights.specs.declared.views.Access.TheVariants.{Makes};
 ghost use Rattle.lot_rights.specs.Steps.{Notes};
 ghost use Rattle.lot_sems.specs.Calls.{IsSeeking, parked_pass, parked_root};

@@ -1,7 +1,7 @@
 //! Taking a permit: one load, or one compare-exchange of the semaphore's word.
 ghost use Rattle.std.specs.Prelude.{◌≡◌, ◌≢◌, ℕ, MatchBool};
-ghost use Rattle.lot_core.specs.declared.events.Event.TheVariants.{SemMark};
-ghost use Rattle.lot_core.specs.declared.events.Seen.TheVariants.{Done};
+ghost use Rattle.lot_events.specs.declared.events.Event.TheVariants.{SemMark};
+ghost use Rattle.lot_events.specs.declared.events.Seen.TheVariants.{Done};
 ghost use Rattle.lot_rights.specs.declared.views.Access.TheVariants.{Makes, Finds};
 ghost use Rattle.lot_rights.specs.Steps.{Notes};
 ghost use Rattle.lot_sems.specs.World.{IsAmong};

@@ -93,6 +93,22 @@ impl<R: Root> Table<R> {
         self.versions.newest().0.size()
     }
 
+    /// Whether the bucket of that number in the newest version is locked at some moment of this call. It is an observation: nothing is
+    /// promised of it.
+    pub fn is_locked(&self, number: usize) -> bool {
+        let (version, _next) = self.versions.newest();
+        number < version.size() && version.is_locked(number)
+    }
+
+    /// Whether a version of so many buckets was left for a later one: each of its buckets is found closed and empty, one after the other. It is
+    /// an observation: nothing is promised of it.
+    pub fn was_left<W: Wait>(&self, rt: &W, size: usize) -> bool {
+        match self.versions.of_size(size) {
+            Some(version) => version.is_left(rt),
+            None => false,
+        }
+    }
+
     /// Calls `f` once with the open bucket of the key, under its lock, and answers what it answered.
     ///
     /// What the lock leaves unknown is tested under it before. A closed bucket is let go, and the call begins
@@ -277,6 +293,3 @@ fn put_all<R: Root>(fresh: &mut [Bucket<R>], roots: &mut Vec<R>)
         fresh[key % size].put_root(key, root);
     }
 }
-
-#[cfg(test)]
-mod tests;

@@ -85,6 +85,25 @@ impl<R: Root> Version<R> {
         &self.buckets[number]
     }
 
+    /// Whether the bucket is locked at some moment of this call.
+    pub fn is_locked(&self, number: usize) -> bool
+        requires { number < self.now.size }
+    {
+        self.lock_of(number).try_lock().is_none()
+    }
+
+    /// Whether each bucket is found closed and empty.
+    pub fn is_left<W: Wait>(&self, rt: &W) -> bool {
+        for number in 0..self.size() {
+            let guard = self.lock_of(number).lock(rt);
+            let bucket = guard.bucket();
+            if bucket.is_open() || !bucket.is_empty() {
+                return false;
+            }
+        }
+        true
+    }
+
     /// Opens the new buckets, and puts each behind its lock, where a closed bucket lies that is spent.
     pub fn fill<W: Wait>(&self, rt: &W, fresh: Vec<Bucket<R>>, keys: usize)
         requires count { self.now.size ≡ vec_len fresh }

@@ -40,10 +40,15 @@ impl<R: Root> Versions<R> {
         (&self.first, next)
     }
 
-    // The version in that cell, where it is set.
-    #[cfg(test)]
-    pub fn later_at(&self, cell: usize) -> Option<&Version<R>> {
-        self.later.get(cell)?.get()
+    /// The version of so many buckets, where there is one.
+    pub fn of_size(&self, size: usize) -> Option<&Version<R>> {
+        for cell in self.later.iter() {
+            match cell.get() {
+                Some(version) if version.size() == size => return Some(version),
+                _ => {}
+            }
+        }
+        (self.first.size() == size).then_some(&self.first)
     }
 
     /// The newest version, once nobody else has the table. The others are spent.

@@ -6,8 +6,8 @@ use mathlib.Core.Path.{fun_ext}
 use Rattle.lot_core.specs.World.{put}
 use Rattle.lot_core.specs.Steps.{SaysMore, first, passed_line}
 use Rattle.lot_core.specs.Parts.{LockPart, LockStep, MayTry, served}
-use Rattle.lot_core.specs.declared.events.Event.TheVariants.{Try, Take, Mark, Park, Free, Pass}
-use Rattle.lot_core.specs.declared.events.Seen.TheVariants.{Bool as Saw, Done, Sleeper}
+use Rattle.lot_events.specs.declared.events.Event.TheVariants.{Try, Take, Mark, Park, Free, Pass}
+use Rattle.lot_events.specs.declared.events.Seen.TheVariants.{Bool as Saw, Done, Sleeper}
 use Rattle.lot_core.proofs.Put.{put_same, put_other, put_again, told_put, told_same}
 use Rattle.lot_rights.specs.World.{Spot, awake, queued, owed}
 use Rattle.lot_rights.proofs.Puts.{put_elim, is_put}

@@ -5,8 +5,8 @@ use mathlib.Core.Option as maybe
 use mathlib.Core.Option.{some, some-injective}
 use prog.Atomic.{either}
 use Rattle.lot_core.specs.World.{put}
-use Rattle.lot_core.specs.declared.events.Event.TheVariants.{Try, Take, Mark, Park, Free}
-use Rattle.lot_core.specs.declared.events.Seen.TheVariants.{Bool as Saw, Done}
+use Rattle.lot_events.specs.declared.events.Event.TheVariants.{Try, Take, Mark, Park, Free}
+use Rattle.lot_events.specs.declared.events.Seen.TheVariants.{Bool as Saw, Done}
 use Rattle.lot_core.proofs.Put.{by_line, put_same, put_other}
 use Rattle.lot_rights.specs.declared.views.Access.{Access}
 use Rattle.lot_rights.specs.declared.views.Access.TheVariants.{Makes, Finds}

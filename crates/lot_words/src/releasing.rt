@@ -1,7 +1,7 @@
 //! Letting a lock go.
 ghost use Rattle.std.specs.Prelude.{true, false, ◌≡◌, ℕ, ◌<◌, MatchBool, None};
-ghost use Rattle.lot_core.specs.declared.events.Event.TheVariants.{Free, Pass};
-ghost use Rattle.lot_core.specs.declared.events.Seen.TheVariants.{Bool as Saw, Sleeper};
+ghost use Rattle.lot_events.specs.declared.events.Event.TheVariants.{Free, Pass};
+ghost use Rattle.lot_events.specs.declared.events.Seen.TheVariants.{Bool as Saw, Sleeper};
 ghost use Rattle.lot_core.specs.Steps.{SaysMore, first as first_of};
 ghost use Rattle.lot_rights.specs.declared.views.Access.TheVariants.{Makes};
 ghost use Rattle.lot_rights.specs.Steps.{Notes};

@@ -1,7 +1,7 @@
 //! Getting a lock: one access of its word.
 ghost use Rattle.std.specs.Prelude.{true, false, ◌≡◌, ◌≢◌, ℕ, ◌<◌, MatchBool, None};
-ghost use Rattle.lot_core.specs.declared.events.Event.TheVariants.{Try, Take, Mark};
-ghost use Rattle.lot_core.specs.declared.events.Seen.TheVariants.{Bool as Saw, Done};
+ghost use Rattle.lot_events.specs.declared.events.Event.TheVariants.{Try, Take, Mark};
+ghost use Rattle.lot_events.specs.declared.events.Seen.TheVariants.{Bool as Saw, Done};
 ghost use Rattle.lot_rights.specs.declared.views.Access.TheVariants.{Makes, Finds};
 ghost use Rattle.lot_rights.specs.Steps.{Notes};
 ghost use Rattle.lot_words.specs.Calls.{Aims, wishing, GetsBy};

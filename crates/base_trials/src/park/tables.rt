@@ -3,13 +3,16 @@ ghost use Rattle.std.specs.Prelude.{◌≡◌, ℕ, ◌<◌, ◌≤◌, length, 
 ghost use Rattle.lot_bucket.specs.Queue.{line_of, first_of};
 ghost use Rattle.lot_bucket.specs.Settled.{IsReady, Stays};
 
+use super::askings::{ASKINGS, is_within};
 use super::rights::{EARLY, Right, idle_rights, joined};
-use crate::asserts::{equal, equal_in};
+use crate::asserts::{equal, equal_in, is_so};
 use lot_bucket::{Bucket, Root};
 use lot_table::{Grown, MOST_THREADS, Table, grown_size};
 use std::alloc::Global;
 use std::process::Abort;
 use std::sync::Wait;
+use std::sync::atomic::{AtomicU64, Ordering};
+use std::thread;
 use std::thread::{Threads, join};
 
 const THREADS: usize = MOST_THREADS;
@@ -203,4 +206,77 @@ fn grown_by_two<R: Threads + Wait + Abort + Sync>(rt: &R, table: &Table<Right>) 
     requires { table.now.threads ≡ THREADS }
 {
     join(rt, || ensured(rt, table, 5), || ensured(rt, table, 6))
+}
+
+// Whether the bucket of the newest version is found locked.
+fn is_locked_within(table: &Table<Right>, number: usize) -> bool {
+    for _ in 0..ASKINGS {
+        if table.is_locked(number) {
+            return true;
+        }
+        thread::yield_now();
+    }
+    false
+}
+
+fn is_open<W: Wait>(rt: &W, table: &Table<Right>, key: usize) -> bool {
+    let ((), open) = table.with_bucket(rt, key, (), |bucket: &mut Bucket<Right>, x: ()| {
+        (x, bucket.is_open())
+    });
+    open
+}
+
+// Holds bucket 1 until bucket 0 is found locked, and then looks whether bucket 2 is open.
+fn look_while_held<W: Wait>(rt: &W, table: &Table<Right>, held: &AtomicU64) -> (bool, bool) {
+    let ((), seen) = table.with_bucket(rt, 1, (), |_bucket: &mut Bucket<Right>, x: ()| {
+        held.store(1, Ordering::SeqCst);
+        let locked = is_locked_within(table, 0);
+        (x, (locked, is_open(rt, table, 2)))
+    });
+    seen
+}
+
+// Lets the table grow for five threads once bucket 1 is held.
+fn grow_once_held<R: Wait + Abort>(rt: &R, table: &Table<Right>, held: &AtomicU64) -> Option<Grown>
+    requires { table.now.threads ≡ THREADS }
+{
+    if is_within(held, 1, ASKINGS) {
+        Some(ensured(rt, table, 5))
+    } else {
+        None
+    }
+}
+
+fn grow_while_held<R: Threads + Wait + Abort + Sync>(
+    rt: &R,
+    table: &Table<Right>,
+) -> ((bool, bool), Option<Grown>)
+    requires { table.now.threads ≡ THREADS }
+{
+    let held = AtomicU64::new(0);
+    join(
+        rt,
+        || look_while_held(rt, table, &held),
+        || grow_once_held(rt, table, &held),
+    )
+}
+
+#[test]
+fn a_growth_waits_for_a_held_bucket(rt: HostRuntime) {
+    let table = made(&rt, rt.alloc());
+    equal(&rt, ensured(&rt, &table, 2), Grown::Grew(3, 12));
+    is_so(
+        &rt,
+        !table.was_left(&rt, 12),
+        "the version of 12 buckets is in use",
+    );
+    let (seen, grown) = grow_while_held(&rt, &table);
+    equal(&rt, seen, (true, true));
+    equal(&rt, grown, Some(Grown::Grew(12, 30)));
+    is_so(
+        &rt,
+        table.was_left(&rt, 12),
+        "the version of 12 buckets was left",
+    );
+    end(&rt, rt.alloc(), table);
 }

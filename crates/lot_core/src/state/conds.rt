@@ -1,12 +1,12 @@
 //! The conditions of a state, where each of their events is allowed, and the events.
 ghost use Rattle.std.specs.Prelude.{◌≡◌, ◌↔◌, ◌++◌, ◌∷◌, [], IsTrue, OnOk, OnErr, IfErr};
-ghost use Rattle.lot_core.specs.declared.events.Point.TheVariants.{Sweeps};
-ghost use Rattle.lot_core.specs.declared.events.Event.TheVariants as Event;
+ghost use Rattle.lot_events.specs.declared.events.Point.TheVariants.{Sweeps};
+ghost use Rattle.lot_events.specs.declared.events.Event.TheVariants as Event;
 ghost use Rattle.lot_core.specs.declared.state.CoreFault.TheVariants.{NoMemory};
 ghost use Rattle.lot_core.specs.Steps.{IsCallCount};
 
-use crate::events::{MAX_CALLED, Point, Seen};
 use crate::state::{CoreFault, State};
+use lot_events::{MAX_CALLED, Point, Seen};
 
 #[tactic(auto, using(crate::proofs::Rows::row_read, crate::proofs::Rows::row_from_read, crate::proofs::Rows::row_past, crate::proofs::Rows::row_set, crate::proofs::Rows::row_from_set, crate::proofs::Put::told_put))]
 impl State {

@@ -1,11 +1,11 @@
 //! The locks of a state, where each of their events is allowed, and the events.
 ghost use Rattle.std.specs.Prelude.{◌≡◌, ◌↔◌, ◌++◌, ◌∷◌, [], true, not, IsTrue, OnOk, OnErr, IfErr, drop};
-ghost use Rattle.lot_core.specs.declared.events.Point.TheVariants.{Wants};
-ghost use Rattle.lot_core.specs.declared.events.Event.TheVariants as Event;
+ghost use Rattle.lot_events.specs.declared.events.Point.TheVariants.{Wants};
+ghost use Rattle.lot_events.specs.declared.events.Event.TheVariants as Event;
 ghost use Rattle.lot_core.specs.declared.state.CoreFault.TheVariants.{NoMemory};
 
-use crate::events::{Point, Seen};
 use crate::state::{CoreFault, State};
+use lot_events::{Point, Seen};
 
 #[tactic(auto, using(crate::proofs::Rows::row_read, crate::proofs::Rows::row_from_read, crate::proofs::Rows::row_past, crate::proofs::Rows::row_set, crate::proofs::Rows::row_from_set, crate::proofs::Put::told_put))]
 impl State {

@@ -2,10 +2,10 @@
 ghost use Rattle.std.specs.Prelude.{◌≡◌, ◌↔◌, length, IsTrue, IfOk};
 ghost use Rattle.lot_core.specs.Limits.{Limits};
 
-use crate::events::Point;
 use crate::lines::Lines;
 use crate::semaphores::Semaphores;
 use crate::state::{CoreFault, MAX_KEYS, MAX_THREADS, State};
+use lot_events::Point;
 use std::alloc::{AllocError, Global};
 
 fn is_within_limits(threads: usize, locks: usize, conds: usize, sems: usize) -> bool

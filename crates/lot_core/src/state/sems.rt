@@ -1,11 +1,11 @@
 //! The semaphores of a state, where each of their events is allowed, and the events.
 ghost use Rattle.std.specs.Prelude.{◌≡◌, ◌↔◌, ◌++◌, ◌∷◌, [], IsTrue, OnOk, OnErr, IfErr};
-ghost use Rattle.lot_core.specs.declared.events.Point.TheVariants.{Seeks};
-ghost use Rattle.lot_core.specs.declared.events.Event.TheVariants as Event;
+ghost use Rattle.lot_events.specs.declared.events.Point.TheVariants.{Seeks};
+ghost use Rattle.lot_events.specs.declared.events.Event.TheVariants as Event;
 ghost use Rattle.lot_core.specs.declared.state.CoreFault.TheVariants.{NoMemory};
 
-use crate::events::{Point, Seen};
 use crate::state::{CoreFault, State};
+use lot_events::{Point, Seen};
 
 // Where each event is allowed.
 #[tactic(auto)]

@@ -1,4 +1,4 @@
-use Rattle.lot_core.proofs.Spelled.{one_event}
+use Rattle.lot_events.proofs.Spelled.{one_event}
 use Rattle.lot_core.proofs.ReadBack.{not_bad, one_script}
 use Rattle.lot_core.proofs.laws.spelled_scripts_are_read.Goals as goal
 

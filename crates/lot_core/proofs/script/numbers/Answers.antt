@@ -1,6 +1,6 @@
 use Rattle.std.proofs.Common.{sym, arith, subst}
 use Rattle.lot_core.specs.Reading.{ReadsNumbers}
-use Rattle.lot_core.proofs.Figures.{field_takes}
+use Rattle.lot_events.proofs.Figures.{field_takes}
 use Rattle.lot_core.proofs.Openings.{numbers_push, number_shorter}
 use Rattle.lot_core.proofs.script.numbers.Goals as goal
 

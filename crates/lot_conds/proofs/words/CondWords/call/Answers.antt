@@ -1,7 +1,7 @@
 use Rattle.std.proofs.Common.{◌≡◌, ◌<◌, ◌⊎◌, false, sym, ap, subst, inl, inr, arith}
 use Rattle.lot_core.specs.Steps.{dequeued_count}
-use Rattle.lot_core.specs.declared.events.Event.TheVariants.{Call}
-use Rattle.lot_core.specs.declared.events.Seen.TheVariants.{Count}
+use Rattle.lot_events.specs.declared.events.Event.TheVariants.{Call}
+use Rattle.lot_events.specs.declared.events.Seen.TheVariants.{Count}
 use Rattle.lot_rights.specs.Layout.{word_at}
 use Rattle.lot_rights.specs.Steps.{Notes}
 use Rattle.lot_rights.specs.declared.views.Access.TheVariants.{Makes}

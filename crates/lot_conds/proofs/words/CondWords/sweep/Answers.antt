@@ -1,6 +1,6 @@
 use Rattle.std.proofs.Common.{ap, subst, inl}
-use Rattle.lot_core.specs.declared.events.Event.TheVariants.{Sweep}
-use Rattle.lot_core.specs.declared.events.Seen.TheVariants.{Count}
+use Rattle.lot_events.specs.declared.events.Event.TheVariants.{Sweep}
+use Rattle.lot_events.specs.declared.events.Seen.TheVariants.{Count}
 use Rattle.lot_rights.specs.Layout.{word_at}
 use Rattle.lot_rights.specs.Steps.{Notes}
 use Rattle.lot_rights.specs.declared.views.Access.TheVariants.{Makes}

@@ -1,6 +1,6 @@
 use Rattle.std.proofs.Common.{sym, ap, ℕ, ◌≤◌, length, arith}
-use Rattle.lot_core.specs.declared.events.Point.{Point}
-use Rattle.lot_core.specs.declared.events.Point.TheVariants.{Calm}
+use Rattle.lot_events.specs.declared.events.Point.{Point}
+use Rattle.lot_events.specs.declared.events.Point.TheVariants.{Calm}
 use Rattle.lot_core.specs.State.{world_of}
 use Rattle.lot_core.specs.World.{World}
 use Rattle.lot_core.proofs.Rows.{row_put_past}

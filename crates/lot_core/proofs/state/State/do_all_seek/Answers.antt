@@ -1,5 +1,5 @@
 use Rattle.std.proofs.Common.{◌≡◌, arith, refl}
-use Rattle.lot_core.specs.declared.events.Point.TheVariants.{Seeks}
+use Rattle.lot_events.specs.declared.events.Point.TheVariants.{Seeks}
 use Rattle.lot_core.specs.State.{world_of}
 use Rattle.lot_core.proofs.Places.{place_more, all_places, of_place}
 use Rattle.lot_core.proofs.state.State.do_all_seek.Goals as goal

@@ -1,6 +1,6 @@
 use Rattle.std.proofs.Common.{ℕ, ◌<◌, ◌≡◌}
 use Rattle.std.specs.Prelude.{slice_get, Some}
-use Rattle.lot_core.specs.declared.events.Point.TheVariants.{Wants}
+use Rattle.lot_events.specs.declared.events.Point.TheVariants.{Wants}
 use Rattle.lot_core.specs.State.{world_of}
 use Rattle.lot_core.proofs.state.State.do_all_want.Given as goal
 

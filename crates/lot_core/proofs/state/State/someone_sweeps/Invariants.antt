@@ -1,5 +1,5 @@
 use Rattle.std.proofs.Common.{ℕ, ◌<◌, ◌≡◌}
-use Rattle.lot_core.specs.declared.events.Point.TheVariants.{Sweeps}
+use Rattle.lot_events.specs.declared.events.Point.TheVariants.{Sweeps}
 use Rattle.lot_core.specs.State.{world_of}
 use Rattle.lot_core.proofs.state.State.someone_sweeps.Given as goal
 

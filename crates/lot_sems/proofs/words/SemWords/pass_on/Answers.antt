@@ -1,6 +1,6 @@
 use Rattle.std.proofs.Common.{◌+◌, ◌%◌, ◌^◌, ap, sym, subst, ◌∙◌, inl}
-use Rattle.lot_core.specs.declared.events.Event.TheVariants.{SemPass}
-use Rattle.lot_core.specs.declared.events.Seen.TheVariants.{Sleeper}
+use Rattle.lot_events.specs.declared.events.Event.TheVariants.{SemPass}
+use Rattle.lot_events.specs.declared.events.Seen.TheVariants.{Sleeper}
 use Rattle.lot_rights.specs.Layout.{word_at}
 use Rattle.lot_rights.specs.declared.views.RootView.{RootView}
 use Rattle.lot_rights.specs.declared.views.Access.TheVariants.{Makes}

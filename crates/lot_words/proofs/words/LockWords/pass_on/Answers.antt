@@ -1,7 +1,7 @@
 use Rattle.std.proofs.Common.{◌≡◌, true, false, ap, subst, sym, ◌∙◌, inl}
 use Rattle.lot_core.specs.Steps.{first}
-use Rattle.lot_core.specs.declared.events.Event.TheVariants.{Pass}
-use Rattle.lot_core.specs.declared.events.Seen.TheVariants.{Sleeper}
+use Rattle.lot_events.specs.declared.events.Event.TheVariants.{Pass}
+use Rattle.lot_events.specs.declared.events.Seen.TheVariants.{Sleeper}
 use Rattle.lot_rights.specs.Layout.{word_at}
 use Rattle.lot_rights.specs.declared.views.RootView.{RootView}
 use Rattle.lot_rights.specs.declared.views.Access.TheVariants.{Makes}

@@ -1,0 +1,4 @@
+pub mod Cases
+pub mod Words
+pub mod Figures
+pub mod Spelled

@@ -1,0 +1,4 @@
+pub mod Queue
+pub mod Waiting
+pub mod Links
+pub mod Places

@@ -1,0 +1,22 @@
+//! The two rows of a bucket: places in which threads wait, and places in which roots lie.
+//!
+//! Stands on nothing. The bucket stands on it, and has one row of each.
+//!
+//! ```text
+//!   queue            (thread 1, key 13)  (thread 2, key 1)  (thread 3, key 13)
+//!   its places       0: (2, 1)   1: (1, 13)   2: free   3: (3, 13)     in use 1, then 0, then 3
+//!   line of key 13   1, 3
+//!   keys and roots   1 ─ root      13 ─ root      25 ─ (out)
+//! ```
+//!
+//! `Queue` lies in a fixed row of places, and each place in use knows the next. So a thread that is taken
+//! out of the middle moves no other. `Places` has a place for each key, which evenly spaced keys find by
+//! one division. No call but `new` and `spaced` takes memory.
+#![tactic(auto)]
+
+mod links;
+pub mod places;
+pub mod queue;
+
+pub use places::Places;
+pub use queue::Queue;
