@@ -1,2 +1,4 @@
 pub mod Places
 pub mod Pairs
+pub mod Divided
+pub mod Idle

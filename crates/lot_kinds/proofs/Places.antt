@@ -1,12 +1,9 @@
 -- What stands at the places of a list that was lengthened, turned or mapped.
-use Rattle.std.proofs.Common.{◌≡◌, ℕ, ◌+◌, ◌≤◌, zero, suc, List, [], ◌∷◌, ◌++◌, length, map, slice_get, Some, None, refl, sym, subst, ⊎_elim, arith}
-use Rattle.std.specs.List.{All, Any}
+use Rattle.std.proofs.Common.{◌≡◌, ℕ, ◌+◌, zero, suc, List, [], ◌∷◌, ◌++◌, length, map, slice_get, Some, None, refl, subst, ⊎_elim, arith}
+use Rattle.std.specs.List.{Any}
 use Rattle.std.proofs.lemmas.Grind.{common_steps}
-use Rattle.std.proofs.lemmas.List.Elements.{All-nil, All-cons}
-use Rattle.lot_bucket.specs.KeyLine.{KeyLine}
 use Rattle.lot_rights.proofs.Totals.{any_cases}
 use Rattle.lot_rights.proofs.Turns.{some_one}
-use Rattle.lot_kinds.specs.Opening.{StandFrom}
 
 none_some : {A : Type 0} (x : A) → None ≡ Some x → ⊥
 none_some x e = cc
@@ -30,11 +27,6 @@ module _ {A : Type 0} where
   at_both P (z ∷ xs) ys first second (suc i) x at = at_both (λ n. P (suc n)) xs ys (λ n y h. first (suc n) y h)
       (λ n y h. subst (λ m. P m y) (let later : length (z ∷ xs) + n ≡ suc (length xs + n) = omega arith in later) (second n y h)) i x at
 
-  -- what holds of each by its place holds of all
-  pub all_at : (P : A → Type 0) (xs : List A) → ((i : ℕ) (x : A) → slice_get xs i ≡ Some x → P x) → All P xs
-  all_at P [] holds = All-nil P
-  all_at P (x ∷ xs) holds = All-cons P x xs (holds zero x refl) (all_at P xs (λ i y at. holds (suc i) y at))
-
   -- one of which P holds, behind another
   any_later : (P : A → Type 0) (x : A) (xs : List A) → Any P xs → Any P (x ∷ xs)
   any_later P x xs (k, y, near, is, holds) = (suc k, y, omega (arith, near), is, holds)
@@ -53,21 +45,3 @@ some_after f P (x ∷ xs) some = ⊎_elim {C = Any P (f x ∷ map f xs)} (λ her
 
 pub any_more : {A : Type 0} (P : A → Type 0) (xs : List A) (x : A) → Any P xs → Any P (xs ++ x ∷ [])
 any_more P xs x (k, y, near, is, holds) = (k, y, grind (arith, common_steps), grind (arith, common_steps), holds)
-
--- ---- keys that count up
-module _ {A : Type 0} (view : A → KeyLine) (from : ℕ) where
-  -- the last is gone from the list: the others count up as before, and how many there are tells its key
-  pub stand_popped : (xs left : List A) (x : A) → xs ≡ left ++ x ∷ [] → StandFrom view from xs → StandFrom view from left × ((view x).key ≡ from + length left)
-  stand_popped xs left x e stand = (
-    λ i y at. stand i y (subst (λ zs. slice_get zs i ≡ Some y) (sym e) (at_before left (x ∷ []) i y at)),
-    stand (length left) x (subst (λ zs. slice_get zs (length left) ≡ Some x) (sym e) (at_last left x)),
-  )
-
--- one before those that count up
-pub stand_before : {A : Type 0} (view : A → KeyLine) (from : ℕ) (x : A) (xs : List A) → (view x).key ≡ from → StandFrom view (suc from) xs → StandFrom view from (x ∷ xs)
-stand_before view from x xs is stand zero y at = subst (λ z. (view z).key ≡ from + 0) (some_one x y at) (let here : (view x).key ≡ from + 0 = omega (arith, is) in here)
-stand_before view from x xs is stand (suc i) y at = let later = stand i y at in omega (arith, later)
-
--- the key of one of them
-pub all_above : {A : Type 0} (view : A → KeyLine) (from : ℕ) (xs : List A) → StandFrom view from xs → All (λ x. from ≤ (view x).key) xs
-all_above view from xs stand = all_at (λ x. from ≤ (view x).key) xs (λ i x at. let is = stand i x at in omega (arith, is))

@@ -1,14 +1,15 @@
 -- What is told of the tables of a lot, and of a root and a pass of any of them.
-use Rattle.std.specs.Prelude.{◌≡◌, ℕ, ◌<◌, ◌≤◌, Option, refl}
+use Rattle.std.specs.Prelude.{◌≡◌, ℕ, ◌+◌, ◌<◌, ◌≤◌, Option, refl}
 use Rattle.lot_rights.specs.Shown.{RootShown}
 use Rattle.lot_words.specs.declared.views.LockRootView.{LockRootView}
 use Rattle.lot_words.specs.CallersRule.{CallersRule}
 use Rattle.lot_words.specs.Shown.{LockWordsShown}
+use Rattle.lot_conds.specs.declared.views.CondRootView.{CondRootView}
 use Rattle.lot_conds.specs.Shown.{CondWordsShown}
+use Rattle.lot_sems.specs.declared.views.SemRootView.{SemRootView}
 use Rattle.lot_sems.specs.Shown.{SemWordsShown}
 use Rattle.lot_waits.specs.Rights.{CondStanding, IsCondLooked, condition_view}
 use Rattle.lot_permits.specs.Rights.{SemStanding, IsSemLooked, semaphore_view}
-use Rattle.lot_kinds.specs.Opening.{KindRootShown, kind_view}
 use Rattle.lot_bucket.specs.KeyLine.{KeyLine}
 use Rattle.lot_park.specs.Parts.{Tables, of_either, LookedBy, looks_first, looks_second}
 use Rattle.lot_park.specs.declared.parts.both.OneOf.{OneOf}
@@ -19,12 +20,17 @@ use Rattle.lot_locks.specs.Standing.{Standing, IsLooked, lock_view}
 abbrev pub LotSchemeShown : Type 0
 LotSchemeShown = Tables LockWordsShown (Tables CondWordsShown SemWordsShown)
 
+-- the keys of the conditions follow those of so many locks, and those of the semaphores the conditions'
+pub record Follow (values locks conds low : ℕ) : Type 0 where
+  pub conds_follow : locks ≡ values
+  pub sems_follow : low ≡ locks + conds
+
 -- ---- the root of a key of any table
 abbrev pub LotRootShown : Type 0
-LotRootShown = OneOf (RootShown LockRootView) KindRootShown
+LotRootShown = OneOf (RootShown LockRootView) (OneOf (RootShown CondRootView) (RootShown SemRootView))
 
 abbrev pub root_view : LotRootShown → KeyLine
-root_view = of_either lock_view kind_view
+root_view = of_either lock_view (of_either condition_view semaphore_view)
 
 -- the keys below the border are those of locks, those below `low` are conditions, and all others semaphores
 abbrev pub IsInItsTable : ℕ → ℕ → LotRootShown → Type 0

@@ -1,24 +1,27 @@
-//! Opening conditions and semaphores together, and giving them to an opening that has a name.
-ghost use Rattle.std.specs.Prelude.{◌≡◌, ℕ, ◌+◌, ◌<◌, ◌≤◌, ◌++◌, map, reverse, length, Some, slice_get, vec_len, vec_capacity, IfOk};
+//! Opening conditions and semaphores together, and giving them, with the locks, to an opening that has a name.
+ghost use Rattle.std.specs.Prelude.{◌≡◌, ℕ, ◌+◌, ◌<◌, ◌≤◌, length, Some, slice_get, vec_len, vec_capacity, IfOk};
 ghost use Rattle.lot_core.specs.declared.state.TheConstants.{MAX_THREADS, MAX_KEYS};
-ghost use Rattle.lot_park.specs.declared.parts.both.OneOf.TheVariants.{First, Second};
-ghost use Rattle.lot_waits.specs.Rights.{condition_view};
-ghost use Rattle.lot_permits.specs.Rights.{semaphore_view};
+ghost use Rattle.lot_park.specs.Lots.{AreIdle};
 ghost use Rattle.lot_kinds.specs.Rights.{unused, ArePaired, pairs};
-ghost use Rattle.lot_kinds.specs.Opening.{AreNamed, KindRootShown, IsIdleAt, StandFrom};
+ghost use Rattle.lot_kinds.specs.Opening.{AreNamed};
+ghost use Rattle.lot_kinds.specs.Tables.{root_view};
+ghost use Rattle.lot_kinds.specs.Roots.{AreNew};
 
+use crate::name::LotName;
 use crate::rights::Rights;
 use crate::room::{ClosingRoom, Room};
-use crate::tables::{KindRoot, KindScheme};
-use lot_park::parts::{Both, EitherRoot};
-use lot_permits::{OpenedSems, PermitName, Seeker, SemKeyRoot};
+use crate::root::LotRoot;
+use crate::roots::join;
+use crate::scheme::LotScheme;
+use lot_permits::{OpenedSems, PermitName, Seeker};
 use lot_rights::WordsFault;
-use lot_waits::{CondKeyRoot, OpenedConds, WaitName, Waiter};
+use lot_waits::{OpenedConds, WaitName, Waiter};
+use lot_words::{Keeps, LockRoot, LockWords};
 use std::alloc::Global;
 use std::marker::Model;
 
-/// Conditions and semaphores that are open and have no name yet: call `name` in a function that is generic over the names. It must be
-/// spent, by `name` or `close`.
+/// Conditions and semaphores that are open and have no name yet: call `name`, with the locks beside, in a function that is generic over the
+/// names. It must be spent, by `name` or `close`.
 pub struct OpenedKinds {
     conds: OpenedConds,
     sems: OpenedSems,
@@ -82,36 +85,44 @@ impl OpenedKinds {
         sems.close();
     }
 
-    /// Gives both to the opening that N names: the words, the rights of each thread, and a root for each condition and then for each
-    /// semaphore, in order. It takes no memory but the room's.
-    pub fn name<N: WaitName + PermitName + Send>(
+    /// Gives these and the locks to the opening that N names: the tables of all, the rights of each thread, and a root for each key, in order.
+    /// The roots of the locks are as they opened. It takes no memory but the room's.
+    pub fn name<V: Keeps + Send, N: LotName<V> + Send>(
         self,
-        room: Room<N>,
+        words: LockWords<V>,
+        mut locks: Vec<LockRoot<V>>,
+        room: Room<V, N>,
     ) -> (
-        KindScheme<N>,
+        LotScheme<V, N>,
         Vec<Rights<N>>,
-        Vec<KindRoot<N>>,
-        ClosingRoom<N>,
+        Vec<LotRoot<V, N>>,
+        ClosingRoom<V, N>,
     )
-        requires names { AreNamed (record { opening = N.opening; locks = N.locks; conds = N.conds; low = N.low; permits = N.permits }) self }
-        requires room { (room.threads ≡ self.conds.threads) × (room.conds ≡ self.conds.conds) × (room.sems ≡ length self.sems.permits) }
-        ensures threads { (result.0.first.size.threads ≡ self.conds.threads) × (result.0.second.size.threads ≡ self.conds.threads) }
-        ensures counts { (vec_len result.1 ≡ self.conds.threads) × (vec_len result.2 ≡ self.conds.conds + length self.sems.permits) }
-        ensures rights { (t : ℕ) → t < self.conds.threads → slice_get result.1.items t ≡ Some (unused (N.locks + N.conds) (N.low + length N.permits) t) }
-        ensures roots { (i : ℕ) (root : KindRootShown) → slice_get result.2.items i ≡ Some root → IsIdleAt (N.locks + i) root }
-        ensures room { (result.3.threads ≡ self.conds.threads) × (result.3.conds ≡ self.conds.conds) × (result.3.sems ≡ length self.sems.permits) }
+        requires names { AreNamed (record { opening = N.opening; threads = N.threads; locks = N.locks; conds = N.conds; low = N.low; permits = N.permits }) self }
+        requires locks { (words.table ≡ N.opening.locks) × (N.locks ≡ length N.values) }
+        requires roots { AreNew words.table (length N.values) locks.items }
+        ensures words { result.0.first ≡ words }
+        ensures threads { (result.0.second.first.size.threads ≡ N.threads) × (result.0.second.second.size.threads ≡ N.threads) }
+        ensures counts { (vec_len result.1 ≡ N.threads) × (vec_len result.2 ≡ length N.values + N.conds + length N.permits) }
+        ensures rights { (t : ℕ) → t < N.threads → slice_get result.1.items t ≡ Some (unused (N.locks + N.conds) (N.low + length N.permits) t) }
+        ensures roots { AreIdle root_view result.2.items }
     {
         let OpenedKinds { conds, sems } = self;
         let (cond_room, sem_room, mut rights, mut roots) = room.apart();
         let (conds, mut waiters, mut cond_roots, cond_room) = conds.name::<N>(cond_room);
         let (sems, mut seekers, mut sem_roots, sem_room) = sems.name::<N>(sem_room);
-        let (threads, count) = (waiters.len(), sem_roots.len());
         pair(&mut waiters, &mut seekers, &mut rights);
-        join(&mut cond_roots, &mut sem_roots, &mut roots);
-        let room = ClosingRoom::new(
-            threads, count, waiters, seekers, cond_roots, sem_roots, cond_room, sem_room,
-        );
-        (Both::new(conds, sems), rights, roots, room)
+        join(&mut locks, &mut cond_roots, &mut sem_roots, &mut roots);
+        let room = ClosingRoom {
+            waiters,
+            seekers,
+            locks,
+            conds: cond_roots,
+            sems: sem_roots,
+            cond_room,
+            sem_room,
+        };
+        (LotScheme::new(words, conds, sems), rights, roots, room)
     }
 }
 
@@ -148,55 +159,4 @@ fn pair<N: WaitName + PermitName + Send>(
         rights.push_reserved(Rights::new(waiter, seekers.take_last()));
     }
     rights.reverse();
-}
-
-/// Puts the roots of both tables into one list, in order. The lists' own room stays.
-fn join<N: WaitName + PermitName + Send>(
-    conds: &mut Vec<CondKeyRoot<N>>,
-    sems: &mut Vec<SemKeyRoot<N>>,
-    roots: &mut Vec<KindRoot<N>>,
-)
-    requires conds { StandFrom condition_view N.locks conds.old.items × (N.locks + vec_len conds.old ≤ N.low) }
-    requires sems { StandFrom semaphore_view N.low sems.old.items }
-    requires room { (vec_len roots.old ≡ 0) × (vec_len conds.old + vec_len sems.old ≤ vec_capacity roots.old) }
-    ensures same { roots.new.items ≡ map First conds.old.items ++ map Second sems.old.items }
-    ensures long { vec_len roots.new ≡ vec_len conds.old + vec_len sems.old }
-    ensures empty { (vec_len conds.new ≡ 0) × (vec_len sems.new ≡ 0) }
-    ensures rooms { (vec_capacity conds.new ≡ vec_capacity conds.old) × (vec_capacity sems.new ≡ vec_capacity sems.old) }
-{
-    while let Some(root) = sems.pop() {
-        roots.push_reserved(of_sem(root));
-    }
-    add_first(conds, roots);
-    roots.reverse();
-}
-
-/// Appends the roots of the conditions, the last first.
-fn add_first<N: WaitName + PermitName + Send>(
-    conds: &mut Vec<CondKeyRoot<N>>,
-    roots: &mut Vec<KindRoot<N>>,
-)
-    requires conds { StandFrom condition_view N.locks conds.old.items × (N.locks + vec_len conds.old ≤ N.low) }
-    requires room { vec_len roots.old + vec_len conds.old ≤ vec_capacity roots.old }
-    ensures same { reverse roots.new.items ≡ map First conds.old.items ++ reverse roots.old.items }
-    ensures long { vec_len roots.new ≡ vec_len roots.old + vec_len conds.old }
-    ensures empty { (vec_len conds.new ≡ 0) × (vec_capacity conds.new ≡ vec_capacity conds.old) }
-{
-    while let Some(root) = conds.pop() {
-        roots.push_reserved(of_cond(root));
-    }
-}
-
-fn of_cond<N: WaitName + PermitName + Send>(root: CondKeyRoot<N>) -> KindRoot<N>
-    requires key { (condition_view root).key < N.low }
-    ensures same { result ≡ First root }
-{
-    EitherRoot::first(root)
-}
-
-fn of_sem<N: WaitName + PermitName + Send>(root: SemKeyRoot<N>) -> KindRoot<N>
-    requires key { N.low ≤ (semaphore_view root).key }
-    ensures same { result ≡ Second root }
-{
-    EitherRoot::second(root)
 }

@@ -1,50 +1,54 @@
-//! The memory that the naming and the closing of conditions and semaphores want. Neither takes any.
-ghost use Rattle.std.specs.Prelude.{◌≡◌, ◌+◌, ◌<◌, ◌≤◌, ◌^◌, IfOk};
-ghost use Rattle.lot_kinds.specs.Room.{IsFor, HasClosingRoom};
+//! The memory that the naming and the closing of a lot's rights want. Neither takes any.
+ghost use Rattle.std.specs.Prelude.{◌≡◌, ◌+◌, ◌<◌, ◌^◌, length};
+ghost use Rattle.lot_kinds.specs.Room.{HasRoom};
 
+use crate::name::LotName;
 use crate::rights::Rights;
-use crate::tables::KindRoot;
-use lot_permits::{PermitName, Seeker, SemKeyRoot};
-use lot_waits::{CondKeyRoot, WaitName, Waiter};
+use crate::root::LotRoot;
+use lot_permits::{Seeker, SemKeyRoot};
+use lot_waits::{CondKeyRoot, Waiter};
+use lot_words::{Keeps, LockRoot};
 use std::alloc::{AllocError, Global};
 use std::marker::Model;
 
-/// The memory that naming wants. Contracts see for how many threads, conditions and semaphores it is.
-pub struct Room<N: WaitName + PermitName + Send> {
-    count: usize,
+/// The memory that naming wants: as much as the lot's name tells.
+pub struct Room<V: Keeps + Send, N: LotName<V> + Send> {
     conds: lot_waits::Room<N>,
     sems: lot_permits::Room<N>,
     rights: Vec<Rights<N>>,
-    roots: Vec<KindRoot<N>>,
+    roots: Vec<LotRoot<V, N>>,
 }
 
-impl<N: WaitName + PermitName + Send> Model for Room<N> {
-    ghost use Rattle.lot_kinds.specs.Room.{RoomView, HasRoom};
+// Clauses see nothing of a room.
+impl<V: Keeps + Send, N: LotName<V> + Send> Model for Room<V, N> {
+    ghost use Rattle.std.specs.Prelude.{⊤, length};
+    ghost use Rattle.lot_kinds.specs.Room.{HasRoom};
 
-    ghost Value = { RoomView };
+    ghost Value = { ⊤ };
 
-    ghost view = { λ s. record { threads = s.conds.threads; conds = s.conds.conds; sems = s.count } };
+    ghost view = { λ _. tt };
 
-    ghost invariant = { λ s. HasRoom s.count s.conds s.sems s.rights s.roots };
+    ghost invariant = { λ s. HasRoom N.threads (length N.values) N.conds (length N.permits) s.conds s.sems s.rights s.roots };
 }
 
-impl<N: WaitName + PermitName + Send> Room<N> {
-    /// Room for so many threads, conditions and semaphores.
+impl<V: Keeps + Send, N: LotName<V> + Send> Room<V, N> {
+    /// Room for so many threads, locks, conditions and semaphores.
     pub fn new(
         alloc: Global,
         threads: usize,
+        locks: usize,
         conds: usize,
         sems: usize,
-    ) -> Result<Room<N>, AllocError>
-        requires { conds + sems < 2 ^ 64 }
-        ensures { IfOk result (λ r. (r.threads ≡ threads) × (r.conds ≡ conds) × (r.sems ≡ sems)) }
+    ) -> Result<Room<V, N>, AllocError>
+        requires threads { threads ≡ N.threads }
+        requires keys { (locks ≡ length N.values) × (conds ≡ N.conds) × (sems ≡ length N.permits) }
+        requires few { locks + conds + sems < 2 ^ 64 }
     {
         let cond_room = lot_waits::Room::new(alloc, threads, conds)?;
         let sem_room = lot_permits::Room::new(alloc, threads, sems)?;
-        let roots = Vec::with_capacity(alloc, conds + sems)?;
+        let roots = Vec::with_capacity(alloc, locks + conds + sems)?;
         match Vec::with_capacity(alloc, threads) {
             Ok(rights) => Ok(Room {
-                count: sems,
                 conds: cond_room,
                 sems: sem_room,
                 rights,
@@ -57,21 +61,18 @@ impl<N: WaitName + PermitName + Send> Room<N> {
         }
     }
 
-    /// The rooms of both, and the lists of rights and of roots.
+    /// The rooms of both kinds, and the lists of rights and of roots.
     pub(crate) fn apart(
         self,
     ) -> (
         lot_waits::Room<N>,
         lot_permits::Room<N>,
         Vec<Rights<N>>,
-        Vec<KindRoot<N>>,
+        Vec<LotRoot<V, N>>,
     )
-        ensures conds { (result.0.threads ≡ self.threads) × (result.0.conds ≡ self.conds) }
-        ensures sems { (self.threads ≤ result.1.threads) × (self.sems ≤ result.1.sems) }
-        ensures lists { IsFor self.threads result.2 × IsFor (self.conds + self.sems) result.3 }
+        ensures { HasRoom N.threads (length N.values) N.conds (length N.permits) result.0 result.1 result.2 result.3 }
     {
         let Room {
-            count: _,
             conds,
             sems,
             rights,
@@ -81,10 +82,9 @@ impl<N: WaitName + PermitName + Send> Room<N> {
     }
 }
 
-impl<N: WaitName + PermitName + Send> Drop for Room<N> {
+impl<V: Keeps + Send, N: LotName<V> + Send> Drop for Room<V, N> {
     fn drop(self) {
         let Room {
-            count: _,
             conds: _,
             sems: _,
             rights,
@@ -95,78 +95,25 @@ impl<N: WaitName + PermitName + Send> Drop for Room<N> {
     }
 }
 
-/// The memory that closing wants. Contracts see for how many threads, conditions and semaphores it is.
-pub struct ClosingRoom<N: WaitName + PermitName + Send> {
-    threads: usize,
-    count: usize,
-    waiters: Vec<Waiter<N>>,
-    seekers: Vec<Seeker<N>>,
-    cond_roots: Vec<CondKeyRoot<N>>,
-    sem_roots: Vec<SemKeyRoot<N>>,
-    conds: lot_waits::ClosingRoom,
-    sems: lot_permits::ClosingRoom,
+/// The memory that closing wants, of an opening that was named.
+pub struct ClosingRoom<V: Keeps + Send, N: LotName<V> + Send> {
+    pub(crate) waiters: Vec<Waiter<N>>,
+    pub(crate) seekers: Vec<Seeker<N>>,
+    pub(crate) locks: Vec<LockRoot<V>>,
+    pub(crate) conds: Vec<CondKeyRoot<N>>,
+    pub(crate) sems: Vec<SemKeyRoot<N>>,
+    pub(crate) cond_room: lot_waits::ClosingRoom,
+    pub(crate) sem_room: lot_permits::ClosingRoom,
 }
 
-impl<N: WaitName + PermitName + Send> Model for ClosingRoom<N> {
-    ghost use Rattle.lot_kinds.specs.Room.{RoomView, HasClosingRoom};
+// Clauses see nothing of a room.
+impl<V: Keeps + Send, N: LotName<V> + Send> Model for ClosingRoom<V, N> {
+    ghost use Rattle.std.specs.Prelude.{⊤, length};
+    ghost use Rattle.lot_kinds.specs.Room.{HasClosingRoom};
 
-    ghost Value = { RoomView };
+    ghost Value = { ⊤ };
 
-    ghost view = { λ s. record { threads = s.threads; conds = s.conds.conds; sems = s.count } };
+    ghost view = { λ _. tt };
 
-    ghost invariant = { λ s. HasClosingRoom s.threads s.count s.waiters s.seekers s.cond_roots s.sem_roots s.conds s.sems };
-}
-
-impl<N: WaitName + PermitName + Send> ClosingRoom<N> {
-    pub(crate) fn new(
-        threads: usize,
-        count: usize,
-        waiters: Vec<Waiter<N>>,
-        seekers: Vec<Seeker<N>>,
-        cond_roots: Vec<CondKeyRoot<N>>,
-        sem_roots: Vec<SemKeyRoot<N>>,
-        conds: lot_waits::ClosingRoom,
-        sems: lot_permits::ClosingRoom,
-    ) -> ClosingRoom<N>
-        requires { HasClosingRoom threads count waiters seekers cond_roots sem_roots conds sems }
-        ensures { (result.threads ≡ threads) × (result.conds ≡ conds.conds) × (result.sems ≡ count) }
-    {
-        ClosingRoom {
-            threads,
-            count,
-            waiters,
-            seekers,
-            cond_roots,
-            sem_roots,
-            conds,
-            sems,
-        }
-    }
-
-    /// The lists of waiters, of seekers and of both kinds of root, and the rooms of both.
-    pub(crate) fn apart(
-        self,
-    ) -> (
-        Vec<Waiter<N>>,
-        Vec<Seeker<N>>,
-        Vec<CondKeyRoot<N>>,
-        Vec<SemKeyRoot<N>>,
-        lot_waits::ClosingRoom,
-        lot_permits::ClosingRoom,
-    )
-        ensures same { self.conds ≡ result.4.conds }
-        ensures rooms { HasClosingRoom self.threads self.sems result.0 result.1 result.2 result.3 result.4 result.5 }
-    {
-        let ClosingRoom {
-            threads: _,
-            count: _,
-            waiters,
-            seekers,
-            cond_roots,
-            sem_roots,
-            conds,
-            sems,
-        } = self;
-        (waiters, seekers, cond_roots, sem_roots, conds, sems)
-    }
+    ghost invariant = { λ s. HasClosingRoom N.threads (length N.values) N.locks N.conds N.low (length N.permits) s.waiters s.seekers s.locks s.conds s.sems s.cond_room s.sem_room };
 }

@@ -3,7 +3,6 @@ ghost use Rattle.std.specs.Prelude.{◌≡◌};
 
 use crate::name::LotName;
 use crate::root::{LotPass, LotRoot};
-use crate::tables::KindScheme;
 use lot_locks::LockScheme;
 use lot_park::parts::OneOf;
 use lot_park::{Scheme, Token};
@@ -28,12 +27,15 @@ impl<V: Keeps + Send, N: LotName<V> + Send> Model for LotScheme<V, N> {
 }
 
 impl<V: Keeps + Send, N: LotName<V> + Send> LotScheme<V, N> {
-    /// The words of the locks get the lot's name here; the kinds have it.
-    pub fn new(words: LockWords<V>, kinds: KindScheme<N>) -> LotScheme<V, N>
+    /// The words of the locks get the lot's name here; the other tables have it.
+    pub(crate) fn new(
+        words: LockWords<V>,
+        conds: CondScheme<N>,
+        sems: SemScheme<N>,
+    ) -> LotScheme<V, N>
         requires { words.table ≡ N.opening.locks }
-        ensures { result ≡ record { first = words; second = kinds } }
+        ensures { result ≡ record { first = words; second = record { first = conds; second = sems } } }
     {
-        let (conds, sems) = kinds.apart();
         LotScheme {
             locks: LockScheme::new(words),
             conds,
@@ -62,12 +64,13 @@ impl<V: Keeps + Send, N: LotName<V> + Send> LotScheme<V, N> {
         &self.sems
     }
 
-    /// The schemes of the locks and of the kinds beside them again.
-    pub fn apart(self) -> (LockScheme<V, N>, KindScheme<N>)
-        ensures { (result.0 ≡ self.first) × (result.1 ≡ self.second) }
+    /// The words of the locks, and the schemes of the other tables again.
+    pub(crate) fn apart(self) -> (LockWords<V>, CondScheme<N>, SemScheme<N>)
+        ensures same { (result.0 ≡ self.first) × (result.1 ≡ self.second.first) × (result.2 ≡ self.second.second) }
+        ensures named { result.0.table ≡ N.opening.locks }
     {
         let LotScheme { locks, conds, sems } = self;
-        (locks, KindScheme::<N>::new(conds, sems))
+        (locks.into_words(), conds, sems)
     }
 }
 

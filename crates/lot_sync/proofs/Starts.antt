@@ -1,6 +1,6 @@
 -- The rights of an opening, and the values that come back when nobody got a lock.
-use Rattle.std.proofs.Common.{◌≡◌, ℕ, ◌+◌, ◌<◌, ◌++◌, List, [], ◌∷◌, map, zero, suc, length, get_or, replicate, slice_get, slice_index, Some, None, refl, sym, ap, subst, ◌∙◌, arith}
-use Rattle.std.proofs.lemmas.List.{length-replicate, length-map}
+use Rattle.std.proofs.Common.{◌≡◌, ℕ, ◌<◌, List, [], ◌∷◌, zero, suc, length, get_or, replicate, slice_get, slice_index, Some, None, refl, sym, ap, subst, ◌∙◌, arith}
+use Rattle.std.proofs.lemmas.List.{length-replicate}
 use mathlib.Core.Option.{some, some-injective}
 use lib.ListN.{get_elem?}
 use Rattle.atomic_table.specs.Seated.{TableId}
@@ -17,17 +17,10 @@ use Rattle.lot_words.specs.World.{IsHeld}
 use Rattle.lot_words.specs.Values.{HasSeen}
 use Rattle.lot_words.specs.Closing.{HoldsNone}
 use Rattle.lot_sync.specs.Passes.{IsFresh}
-use Rattle.lot_park.specs.declared.parts.both.OneOf.TheVariants.{First, Second}
 use Rattle.lot_kinds.specs.Rights.{RightsView, unused}
 use Rattle.lot_kinds.specs.Rights.{HoldsNone as HoldsNoPermit}
-use Rattle.lot_kinds.specs.Opening.{KindRootShown}
-use Rattle.lot_kinds.specs.Opening.{IsIdleAt as IsIdleKind}
 use Rattle.lot_sync.specs.Opened.{AreUnused, IsOpened}
-use Rattle.lot_locks.specs.Standing.{debts_of}
-use Rattle.lot_kinds.specs.Roots.{IsFreeRoot, IsIdleAt}
 use Rattle.lot_sync.specs.Starting.{ArePaired}
-use Rattle.lot_kinds.specs.Tables.{LotRootShown}
-use Rattle.lot_kinds.proofs.Places.{at_both, at_mapped}
 use Rattle.lot_rights.proofs.Turns.{some_one, stands_at, all_by_place, some_by_place}
 
 none_some : {A : Type 0} (x : A) → None ≡ Some x → ⊥
@@ -113,37 +106,9 @@ module _ {V : Type 0} (values : List V) (threads : ℕ) (words : LockWordsShown)
   pub roots_own : All (λ (r : RootShown LockRootView). r.table ≡ words.table) roots
   roots_own = all_by_place (λ (r : RootShown LockRootView). r.table ≡ words.table) (root_at words.table) roots roots_at (λ l near. refl)
 
-  pub root_is : (l : ℕ) (r : RootShown LockRootView) → slice_get roots l ≡ Some r → r ≡ root_at words.table l
-  root_is l r at = (stands_at (root_at words.table) roots roots_at l r at).1
-
-  -- under the name of the lot
-  pub roots_free : (table : TableId) (named : List V) → words.table ≡ table → values ≡ named → All (IsFreeRoot table (length named)) roots
-  roots_free table named e f = all_by_place (IsFreeRoot table (length named)) (root_at words.table) roots roots_at
-      (λ l near. (e, subst (λ n. l < n) (opened.roots_long ∙ ap length f) near))
-
   pub each_key : (k : ℕ) → k < length values → Any (λ (r : RootShown LockRootView). r.root.key ≡ k) roots
   each_key k near = some_by_place (λ (r : RootShown LockRootView). r.root.key ≡ k) (root_at words.table) roots roots_at k
       (subst (λ n. k < n) (sym opened.roots_long) near) refl
-
-  -- the roots are idle, as the parking lot asks
-  pub roots_idle : (i : ℕ) (r : RootShown LockRootView) → slice_get roots i ≡ Some r → (r.root.key ≡ i) × (r.root.own.line ≡ []) × (r.root.own.owes ≡ None)
-  roots_idle i r at = let e = root_is i r at in (
-    ap (λ (q : RootShown LockRootView). q.root.key) e,
-    ap (λ (q : RootShown LockRootView). q.root.own.line) e,
-    ap
-        (λ (q : RootShown LockRootView). q.root.own.owes) e,
-  )
-
--- the roots of all tables are idle, as the parking lot asks
-pub idle_all : (locks : ℕ) (ls : List (RootShown LockRootView)) (ks : List KindRootShown) → length ls ≡ locks
-    → ((i : ℕ) (r : RootShown LockRootView) → slice_get ls i ≡ Some r → (r.root.key ≡ i) × (r.root.own.line ≡ []) × (r.root.own.owes ≡ None))
-    → ((i : ℕ) (r : KindRootShown) → slice_get ks i ≡ Some r → IsIdleKind (locks + i) r)
-    → (i : ℕ) (root : LotRootShown) → slice_get (map First ls ++ map Second ks) i ≡ Some root → IsIdleAt i root
-idle_all locks ls ks long first second =
-    at_both IsIdleAt (map First ls) (map Second ks)
-    (at_mapped First IsIdleAt ls (λ i r at. let e = first i r at in record { named = e.0; empty = e.1; paid = ap debts_of e.2 }))
-    (λ i root at. subst (λ n. IsIdleAt (n + i) root) (sym (length-map ls First ∙ long))
-    (at_mapped Second (λ n. IsIdleAt (locks + n)) ks (λ n r h. let e = second n r h in record { named = e.named; empty = e.empty; paid = e.paid }) i root at))
 
 -- rights that are not used yet hold no permit
 zero_at : (n k : ℕ) → slice_index (replicate {A = ℕ} n 0) k ≡ 0

@@ -8,7 +8,7 @@ ghost use Rattle.lot_sync.specs.Passes.{seen_as, lock_side, IsFree};
 use crate::lot::Lot;
 use crate::pass::Pass;
 use crate::pool::{ClosingRoom, Idle, Pool};
-use lot_kinds::{LotName, Rights, settle, unname_roots};
+use lot_kinds::{LotName, Rights, settle};
 use lot_waits::Ledger;
 use lot_words::{Keeps, LockPass};
 use std::sync::Wait;
@@ -41,16 +41,12 @@ impl<V: Keeps + Send, N: LotName<V> + Send> Lot<V, N> {
             passes: mut rights,
             mut kinds,
             mut named,
-            mut roots,
-            mut kind_roots,
             room,
         } = room;
         let scheme = parking.close(rt, &mut named);
-        unname_roots(named, &mut roots, &mut kind_roots);
         gather(passes, &mut rights, &mut kinds);
-        let (words, kind_scheme) = scheme.apart();
-        let ledger = settle(kind_scheme, kinds, kind_roots, room);
-        (words.into_words().close(rights, roots), ledger)
+        let (words, roots, ledger) = settle(scheme, kinds, named, room);
+        (words.close(rights, roots), ledger)
     }
 }
 

@@ -3,8 +3,8 @@ ghost use Rattle.std.specs.Prelude.{◌≡◌, ◌+◌, ◌-◌, ◌<◌, ◌≤
 ghost use Rattle.lot_sync.specs.Lot.{OwnsNone};
 
 use crate::pass::Pass;
-use lot_kinds::{KindRoot, LotName, LotRoot, Rights};
-use lot_words::{Keeps, LockPass, LockRoot};
+use lot_kinds::{LotName, LotRoot, Rights};
+use lot_words::{Keeps, LockPass};
 
 /// A pass that owns no lock and holds no permit.
 pub(crate) struct Idle<V: Keeps + Send, N: LotName<V> + Send> {
@@ -17,14 +17,11 @@ pub(crate) struct ClosingRoom<V: Keeps + Send, N: LotName<V> + Send> {
     pub(crate) passes: Vec<LockPass<V>>,
     pub(crate) kinds: Vec<Rights<N>>,
     pub(crate) named: Vec<LotRoot<V, N>>,
-    pub(crate) roots: Vec<LockRoot<V>>,
-    pub(crate) kind_roots: Vec<KindRoot<N>>,
-    pub(crate) room: lot_kinds::ClosingRoom<N>,
+    pub(crate) room: lot_kinds::ClosingRoom<V, N>,
     ghost no_rights: { (vec_len passes ≡ 0) × (vec_len kinds ≡ 0) },
-    ghost no_roots: { (vec_len named ≡ 0) × (vec_len roots ≡ 0) × (vec_len kind_roots ≡ 0) },
+    ghost no_roots: { vec_len named ≡ 0 },
     ghost for_rights: { (N.threads ≤ vec_capacity passes) × (N.threads ≤ vec_capacity kinds) },
-    ghost for_roots: { (length N.values + N.conds + length N.permits ≤ vec_capacity named) × (length N.values ≤ vec_capacity roots) × (N.conds + length N.permits ≤ vec_capacity kind_roots) },
-    ghost for_kinds: { (N.threads ≤ room.threads) × (room.conds ≡ N.conds) × (length N.permits ≤ room.sems) },
+    ghost for_roots: { length N.values + N.conds + length N.permits ≤ vec_capacity named },
 }
 
 /// The passes that are in.

@@ -14,10 +14,7 @@ use crate::lot::Lot;
 use crate::opened::Opened;
 use crate::pass::Pass;
 use crate::pool::{ClosingRoom, Idle, Pool};
-use lot_kinds::{
-    KindRoot, LotName, LotRoot, LotScheme, Rights, Room, add_roots, name_roots, settle,
-    unname_roots,
-};
+use lot_kinds::{LotName, LotRoot, Rights, Room, settle};
 use lot_locks::NamedPass;
 use lot_park::{ParkFault, ParkingLot};
 use lot_words::{Keeps, LockPass, LockRoot, LockWords};
@@ -27,12 +24,9 @@ use std::snapshot::Snapshot;
 /// The memory of a lot, before anything lies in it.
 struct Rooms<V: Keeps + Send, N: LotName<V> + Send> {
     idle: Vec<Idle<V, N>>,
-    named: Vec<LotRoot<V, N>>,
-    kinds: Room<N>,
-    ghost empty: { (vec_len idle ≡ 0) × (vec_len named ≡ 0) },
+    room: Room<V, N>,
+    ghost empty: { vec_len idle ≡ 0 },
     ghost for_passes: { N.threads ≤ vec_capacity idle },
-    ghost for_roots: { length N.values + N.conds + length N.permits ≤ vec_capacity named },
-    ghost for_kinds: { (kinds.threads ≡ N.threads) × (kinds.conds ≡ N.conds) × (kinds.sems ≡ length N.permits) },
 }
 
 impl<V: Keeps + Send, N: LotName<V> + Send> Rooms<V, N> {
@@ -46,23 +40,11 @@ impl<V: Keeps + Send, N: LotName<V> + Send> Rooms<V, N> {
         requires threads { (threads ≡ N.threads) × (threads ≤ MAX_THREADS) }
         requires keys { (locks ≡ length N.values) × (conds ≡ N.conds) × (sems ≡ length N.permits) × (locks + conds + sems ≤ MAX_KEYS) }
     {
-        let named = Vec::with_capacity(alloc, locks + conds + sems)?;
-        let idle = match Vec::with_capacity(alloc, threads) {
-            Ok(idle) => idle,
-            Err(refused) => {
-                named.destroy_empty();
-                return Err(refused);
-            }
-        };
-        match Room::new(alloc, threads, conds, sems) {
-            Ok(room) => Ok(Rooms {
-                idle,
-                named,
-                kinds: room,
-            }),
+        let idle = Vec::with_capacity(alloc, threads)?;
+        match Room::new(alloc, threads, locks, conds, sems) {
+            Ok(room) => Ok(Rooms { idle, room }),
             Err(refused) => {
                 idle.destroy_empty();
-                named.destroy_empty();
                 Err(refused)
             }
         }
@@ -109,26 +91,21 @@ fn pool_of<V: Keeps + Send, N: LotName<V> + Send>(
     mut kinds: Vec<Rights<N>>,
     mut idle: Vec<Idle<V, N>>,
     named: Vec<LotRoot<V, N>>,
-    roots: Vec<LockRoot<V>>,
-    kind_roots: Vec<KindRoot<N>>,
-    room: lot_kinds::ClosingRoom<N>,
+    room: lot_kinds::ClosingRoom<V, N>,
 ) -> Pool<V, N>
     requires idle { All (IsFresh V.grows N.opening.locks N.values N.threads) passes.items }
     requires paired { ArePaired passes.items kinds.items }
     requires long { (vec_len kinds ≡ vec_len passes) × (vec_len passes ≤ N.threads) }
     requires none { All HoldsNone kinds.items }
-    requires empty { (vec_len idle ≡ 0) × (vec_len named ≡ 0) × (vec_len roots ≡ 0) × (vec_len kind_roots ≡ 0) }
+    requires empty { (vec_len idle ≡ 0) × (vec_len named ≡ 0) }
     requires for_rights { (N.threads ≤ vec_capacity idle) × (N.threads ≤ vec_capacity passes) × (N.threads ≤ vec_capacity kinds) }
-    requires for_roots { (length N.values + N.conds + length N.permits ≤ vec_capacity named) × (length N.values ≤ vec_capacity roots) × (N.conds + length N.permits ≤ vec_capacity kind_roots) }
-    requires for_kinds { (N.threads ≤ room.threads) × (room.conds ≡ N.conds) × (length N.permits ≤ room.sems) }
+    requires for_roots { length N.values + N.conds + length N.permits ≤ vec_capacity named }
 {
     fill(&mut passes, &mut kinds, &mut idle);
     let room = ClosingRoom {
         passes,
         kinds,
         named,
-        roots,
-        kind_roots,
         room,
     };
     Pool::new(idle, room)
@@ -198,31 +175,23 @@ fn started<V: Keeps + Send, N: LotName<V> + Send>(
     let Opened {
         words,
         passes,
-        mut roots,
+        roots,
         kinds,
         threads,
         values,
     } = opened;
-    let Rooms {
-        idle,
-        mut named,
-        kinds: room,
-    } = rooms;
+    let Rooms { idle, room } = rooms;
     let (locks, conds, sems) = (roots.len(), kinds.conds(), kinds.sems());
-    name_roots(&mut roots, &mut named);
-    let (scheme, kinds, mut kind_roots, room) = kinds.name::<N>(room);
-    add_roots(&mut kind_roots, &mut named);
-    match ParkingLot::open(alloc, threads, named, LotScheme::new(words, scheme)) {
+    let (scheme, kinds, named, room) = kinds.name::<V, N>(words, roots, room);
+    match ParkingLot::open(alloc, threads, named, scheme) {
         Ok((parking, named)) => {
-            let pool = pool_of(passes, kinds, idle, named, roots, kind_roots, room);
+            let pool = pool_of(passes, kinds, idle, named, room);
             Ok(Lot::of(parking, pool, threads, locks, conds, sems))
         }
         Err((ParkFault::NoMemory, named, scheme)) => {
             idle.destroy_empty();
-            unname_roots(named, &mut roots, &mut kind_roots);
-            let (words, scheme) = scheme.apart();
-            let _nothing = settle(scheme, kinds, kind_roots, room);
-            let values = close_unused(words.into_words(), passes, roots, values);
+            let (words, roots, _nothing) = settle(scheme, kinds, named, room);
+            let values = close_unused(words, passes, roots, values);
             Err((OpenFault::NoMemory, values))
         }
     }

@@ -1,27 +1,21 @@
-use Rattle.std.proofs.Common.{◌≡◌, ℕ, ◌+◌, ◌<◌, ◌++◌, List, [], ◌∷◌, length, map, refl, vec_len, rules, Some, slice_get, subst, sym, ap, ◌∙◌, arith}
+use Rattle.std.proofs.Common.{◌≡◌, ℕ, ◌<◌, ◌++◌, List, [], ◌∷◌, length, map, refl, vec_len, rules, Some, slice_get, subst, sym, ap, ◌∙◌, arith}
 use Rattle.std.proofs.lemmas.List.{length-map}
 use Rattle.std.proofs.lemmas.List.Elements.{All-weaker, All-map}
 use Rattle.std.specs.List.{All, Any}
-use Rattle.lot_rights.specs.Shown.{PassShown, RootShown}
+use Rattle.lot_rights.specs.Shown.{PassShown}
 use Rattle.lot_words.specs.declared.views.LockPassView.{LockPassView}
-use Rattle.lot_words.specs.declared.views.LockRootView.{LockRootView}
 use Rattle.lot_words.specs.CallersRule.{CallersRule}
 use Rattle.lot_words.specs.Shown.{LockWordsShown}
 use Rattle.lot_words.specs.Values.{FoundOk}
-use Rattle.lot_conds.specs.Shown.{CondWordsShown}
-use Rattle.lot_sems.specs.Shown.{SemWordsShown}
-use Rattle.lot_park.specs.Parts.{Tables}
 use Rattle.lot_kinds.specs.Rights.{RightsView}
 use Rattle.lot_kinds.specs.Rights.{HoldsNone as HoldsNoPermit}
 use Rattle.lot_kinds.specs.Rights.{counts_of as kind_counts}
 use Rattle.lot_waits.specs.Ledger.{IsLedger}
-use Rattle.lot_kinds.specs.Opening.{StandFrom, kind_view}
 use Rattle.lot_sync.specs.Lot.{PassView, LotView, OwnsNone, counts_of, rights_of}
 use Rattle.lot_sync.specs.Values.{GoesOnTo}
 use Rattle.lot_words.specs.Closing.{HoldsNone}
 use Rattle.lot_sync.specs.Passes.{seen_as, lock_side, IsFree}
-use Rattle.lot_kinds.specs.Tables.{LotRootShown}
-use Rattle.lot_kinds.specs.Tables.{LotSchemeShown}
+use Rattle.lot_kinds.specs.Tables.{LotRootShown, LotSchemeShown}
 use Rattle.lot_rights.proofs.Turns.{some_before, no_elements}
 use Rattle.lot_kinds.proofs.Places.{some_after}
 use Rattle.lot_sync.proofs.Turns.{all_before}
@@ -48,66 +42,47 @@ goes_on {V} rule values passes rights same found =
       mine = λ key u v at seen. (is key v at).mine u seen;
     }) rights found))))
 
-pub unname_roots-requires-clause-keys : goal.unname_roots-requires-clause-keys
-unname_roots-requires-clause-keys g c κs within =
-    let before = c.into_inner-idle.result.room.named in
-    let none : before.items ≡ [] = no_elements before.items (let n : length before.items ≡ vec_len before = search rules in n ∙ c.into_inner-idle.result.room.no_roots.0) in
-    let roots_are : c.close-scheme.new.out.items ≡ c.close-scheme.ensures.roots.roots =
-    c.close-scheme.ensures.roots.appended ∙ ap (λ (rs : List LotRootShown). rs ++ c.close-scheme.ensures.roots.roots) none in
-    λ i r at. c.close-scheme.ensures.roots.named i r (subst (λ (rs : List LotRootShown). slice_get rs i ≡ Some r) roots_are at)
+pub settle-words-requires-clause-threads : goal.settle-words-requires-clause-threads
+settle-words-requires-clause-threads g c κs within = (
+  ap (λ (s : LotSchemeShown). s.second.first.size.threads) c.close-scheme.ensures.scheme ∙ c.self.invariant.conds_threads,
+  ap (λ (s : LotSchemeShown). s.second.second.size.threads) c.close-scheme.ensures.scheme ∙ c.self.invariant.sems_threads,
+)
 
-pub settle-ledger-requires-clause-room : goal.settle-ledger-requires-clause-room
-settle-ledger-requires-clause-room g c κs within =
-    let room = c.into_inner-idle.result.room in
-    let fits = room.for_kinds in
+pub settle-words-requires-clause-rights : goal.settle-words-requires-clause-rights
+settle-words-requires-clause-rights g c κs within =
     let all : length c.args.passes.items ≡ vec_len c.args.passes = search rules in
     let some : length c.gather.new.kinds.items ≡ vec_len c.gather.new.kinds = search rules in
     let same : length c.gather.new.kinds.items ≡ length c.args.passes.items = ap length c.gather.ensures.beside ∙ length-map c.args.passes.items rights_of in
     let count = c.requires.count in
-    let threads : c.args.self.threads ≡ g.N.LotName.threads = ap (λ (v : LotView). v.threads) (sym c.self.view_is) ∙ c.self.invariant.own_threads in
-    (omega (arith, all, some, same, count, threads, fits.0), fits.1, fits.2)
+    let threads : c.args.self.threads ≡ g.N.LotName.threads = ap (λ (v : LotView). v.threads) (sym c.self.view_is) ∙ c.self.invariant.own_threads in (
+      omega (arith, all, some, same, count, threads),
+      λ t near. subst (Any (λ (q : RightsView). q.thread ≡ t)) (sym c.gather.ensures.beside)
+          (some_after rights_of (λ (q : RightsView). q.thread ≡ t) c.args.passes.items (c.requires.all t (subst (λ n. t < n) (sym threads) near))),
+    )
 
-pub settle-ledger-requires-clause-threads : goal.settle-ledger-requires-clause-threads
-settle-ledger-requires-clause-threads g c κs within = λ t near.
-    subst (Any (λ (q : RightsView). q.thread ≡ t)) (sym c.gather.ensures.beside)
-    (some_after rights_of (λ (q : RightsView). q.thread ≡ t) c.args.passes.items (c.requires.all t
-    (subst (λ n. t < n) (sym c.self.invariant.own_threads ∙ ap (λ (v : LotView). v.threads) c.self.view_is)
-    (subst (λ n. t < n) (ap (λ (s : Tables CondWordsShown SemWordsShown). s.first.size.threads)
-    (c.apart-words.ensures.1 ∙ ap (λ (s : LotSchemeShown). s.second) c.close-scheme.ensures.scheme) ∙ c.self.invariant.conds_threads) near))))
-
-pub settle-ledger-requires-clause-same_threads : goal.settle-ledger-requires-clause-same_threads
-settle-ledger-requires-clause-same_threads g c κs within =
-    let scheme = c.apart-words.ensures.1 ∙ ap (λ (s : LotSchemeShown). s.second) c.close-scheme.ensures.scheme in
-    ap (λ (s : Tables CondWordsShown SemWordsShown). s.second.size.threads) scheme ∙ (c.self.invariant.sems_threads
-    ∙ sym (ap (λ (s : Tables CondWordsShown SemWordsShown). s.first.size.threads) scheme ∙ c.self.invariant.conds_threads))
-
-pub settle-ledger-requires-clause-back : goal.settle-ledger-requires-clause-back
-settle-ledger-requires-clause-back g c κs within =
+pub settle-words-requires-clause-back : goal.settle-words-requires-clause-back
+settle-words-requires-clause-back g c κs within =
     subst (All HoldsNoPermit) (sym c.gather.ensures.beside) (All-map HoldsNoPermit rights_of c.args.passes.items
     (All-weaker OwnsNone (λ (p : PassView _). HoldsNoPermit (rights_of p)) (λ p free. free.no_permit) c.args.passes.items c.requires.free))
 
-pub settle-ledger-requires-clause-keys : goal.settle-ledger-requires-clause-keys
-settle-ledger-requires-clause-keys g c κs within =
+pub settle-words-requires-clause-roots : goal.settle-words-requires-clause-roots
+settle-words-requires-clause-roots g c κs within =
     let before = c.into_inner-idle.result.room.named in
-    let none : before.items ≡ [] = no_elements before.items (let n : length before.items ≡ vec_len before = search rules in n ∙ c.into_inner-idle.result.room.no_roots.0) in
+    let none : before.items ≡ [] = no_elements before.items (let n : length before.items ≡ vec_len before = search rules in n ∙ c.into_inner-idle.result.room.no_roots) in
     let roots_are : c.close-scheme.new.out.items ≡ c.close-scheme.ensures.roots.roots =
-    c.close-scheme.ensures.roots.appended ∙ ap (λ (rs : List LotRootShown). rs ++ c.close-scheme.ensures.roots.roots) none in
-    let long : vec_len c.close-scheme.new.out ≡ length g.N.LotName.values + g.N.WaitName.conds + length g.N.PermitName.permits =
-    (let n : vec_len c.close-scheme.new.out ≡ length c.close-scheme.new.out.items = search rules in n ∙ (ap length roots_are ∙ (c.close-scheme.ensures.roots.each ∙ c.self.invariant.parking_keys))) in
-    let unnamed = c.unname_roots.ensures.long in
-    (c.self.invariant.named_low, omega (arith, long, unnamed))
-
-pub settle-ledger-requires-clause-roots : goal.settle-ledger-requires-clause-roots
-settle-ledger-requires-clause-roots g c κs within = subst (λ n. StandFrom kind_view n c.unname_roots.new.kind_roots.items) (sym c.self.invariant.named_locks) c.unname_roots.ensures.kinds
+    c.close-scheme.ensures.roots.appended ∙ ap (λ (rs : List LotRootShown). rs ++ c.close-scheme.ensures.roots.roots) none in (
+      (λ i r at. c.close-scheme.ensures.roots.named i r (subst (λ (rs : List LotRootShown). slice_get rs i ≡ Some r) roots_are at)),
+      (let n : vec_len c.close-scheme.new.out ≡ length c.close-scheme.new.out.items = search rules in n
+          ∙ (ap length roots_are ∙ (c.close-scheme.ensures.roots.each ∙ c.self.invariant.parking_keys))),
+    )
 
 pub close-requires-clause-table : goal.close-requires-clause-table
-close-requires-clause-table g c =
-    let named = sym c.into_words.ensures.named in (
-      subst (λ t. All (λ (p : PassShown (LockPassView g.row.V.Denot)). p.table ≡ t) c.gather.new.rights.items) named
-          (All-weaker (IsFree g.N.Name.opening.locks) (λ (p : PassShown (LockPassView g.row.V.Denot)). p.table ≡ g.N.Name.opening.locks) (λ p free. free.is_of) c.gather.new.rights.items
-          c.gather.ensures.free),
-      subst (λ t. All (λ (r : RootShown LockRootView). r.table ≡ t) c.unname_roots.new.roots.items) named c.unname_roots.ensures.own,
-    )
+close-requires-clause-table g c = (
+  subst (λ t. All (λ (p : PassShown (LockPassView g.row.V.Denot)). p.table ≡ t) c.gather.new.rights.items) (sym c.settle-words.ensures.words.1)
+      (All-weaker (IsFree g.N.Name.opening.locks) (λ (p : PassShown (LockPassView g.row.V.Denot)). p.table ≡ g.N.Name.opening.locks) (λ p free. free.is_of) c.gather.new.rights.items
+      c.gather.ensures.free),
+  c.settle-words.ensures.own,
+)
 
 pub close-requires-clause-idle : goal.close-requires-clause-idle
 close-requires-clause-idle g c = All-weaker (IsFree g.N.Name.opening.locks) HoldsNone (λ p free. free.free) c.gather.new.rights.items c.gather.ensures.free
@@ -117,14 +92,13 @@ close-requires-clause-passes g c = λ t near.
     some_before seen_as (λ (p : PassView _). p.thread ≡ t) c.gather.new.rights.items
     (subst (Any (λ (p : PassView _). p.thread ≡ t)) (sym c.gather.ensures.same) (some_after lock_side (λ (p : PassView _). p.thread ≡ t) c.args.passes.items
     (c.requires.all t (subst (λ n. t < n) (sym c.self.invariant.own_threads ∙ ap (λ (v : LotView). v.threads) c.self.view_is)
-    (subst (λ n. t < n) (ap (λ (w : LockWordsShown). w.size.threads) (c.into_words.ensures.same
-    ∙ (c.apart-words.ensures.0 ∙ ap (λ (s : LotSchemeShown). s.first) c.close-scheme.ensures.scheme)) ∙ c.self.invariant.words_threads) near)))))
+    (subst (λ n. t < n) (ap (λ (w : LockWordsShown). w.size.threads) (c.settle-words.ensures.words.0
+    ∙ ap (λ (s : LotSchemeShown). s.first) c.close-scheme.ensures.scheme) ∙ c.self.invariant.words_threads) near)))))
 
 pub close-requires-clause-roots : goal.close-requires-clause-roots
 close-requires-clause-roots g c = λ l near.
-    c.unname_roots.ensures.roots l (subst (λ n. l < n)
-    (ap (λ (w : LockWordsShown). w.size.locks)
-    (c.into_words.ensures.same ∙ (c.apart-words.ensures.0 ∙ ap (λ (s : LotSchemeShown). s.first) c.close-scheme.ensures.scheme))
+    c.settle-words.ensures.roots l (subst (λ n. l < n)
+    (ap (λ (w : LockWordsShown). w.size.locks) (c.settle-words.ensures.words.0 ∙ ap (λ (s : LotSchemeShown). s.first) c.close-scheme.ensures.scheme)
     ∙ c.self.invariant.words_locks) near)
 
 pub returns-clause-values : goal.returns-clause-values
@@ -135,7 +109,7 @@ pub returns-clause-ledger : goal.returns-clause-ledger
 returns-clause-ledger g c =
     let locks : g.N.WaitName.locks ≡ c.args.self.locks = c.self.invariant.named_locks ∙ (sym c.self.invariant.own_locks ∙ ap (λ (v : LotView). v.locks) c.self.view_is) in
     let conds : g.N.WaitName.conds ≡ c.args.self.conds = sym c.self.invariant.own_conds ∙ ap (λ (v : LotView). v.conds) c.self.view_is in
-    subst (λ n. IsLedger n c.args.self.conds (map counts_of c.args.passes.items) c.settle-ledger.result.called.items c.settle-ledger.result.woken.items) locks
-    (subst (λ n. IsLedger g.N.WaitName.locks n (map counts_of c.args.passes.items) c.settle-ledger.result.called.items c.settle-ledger.result.woken.items) conds
-    (subst (λ qs. IsLedger g.N.WaitName.locks g.N.WaitName.conds qs c.settle-ledger.result.called.items c.settle-ledger.result.woken.items)
-    (ap (map kind_counts) c.gather.ensures.beside ∙ counted c.args.passes.items) c.settle-ledger.ensures))
+    subst (λ n. IsLedger n c.args.self.conds (map counts_of c.args.passes.items) c.settle-words.result.2.called.items c.settle-words.result.2.woken.items) locks
+    (subst (λ n. IsLedger g.N.WaitName.locks n (map counts_of c.args.passes.items) c.settle-words.result.2.called.items c.settle-words.result.2.woken.items) conds
+    (subst (λ qs. IsLedger g.N.WaitName.locks g.N.WaitName.conds qs c.settle-words.result.2.called.items c.settle-words.result.2.woken.items)
+    (ap (map kind_counts) c.gather.ensures.beside ∙ counted c.args.passes.items) c.settle-words.ensures.ledger))
