@@ -6,6 +6,7 @@ ghost use Rattle.lot_sync.specs.Holding.{Holding, HoldingBoth};
 ghost use Rattle.lot_sync.specs.Opened.{KeepAll};
 
 use crate::asserts::equal;
+use crate::passes::{end, enter};
 use lot_sync::{Held, Lot, LotName, Moment, Opened, Pass};
 use lot_words::Keeps;
 use std::alloc::Global;
@@ -52,19 +53,6 @@ fn booked(account: Account, paid_in: u64, paid_out: u64) -> Account
             paid_in,
             paid_out: account.paid_out,
         }
-    }
-}
-
-/// A pass that owns no lock.
-fn enter<N: LotName<Account> + Send + Sync, T: Wait + Abort>(
-    rt: &T,
-    lot: &Lot<Account, N>,
-) -> Pass<Account, N>
-    ensures { OwnsNone result }
-{
-    match lot.register(rt) {
-        Ok(pass) => pass,
-        Err(_) => panic!(rt; "no pass is in"),
     }
 }
 
@@ -240,48 +228,13 @@ fn open_and_book<N: LotName<Account> + Send + Sync, T: Wait + Abort>(
         Ok(lot) => {
             book_in_turn(rt, &lot);
             move_in_turn(rt, &lot);
-            let accounts = close_two(rt, lot, passes);
+            let accounts = end(rt, lot, passes, 2);
             equal(rt, accounts.len(), 2);
             equal(rt, (accounts[0].paid_in, accounts[0].paid_out), (10, 8));
             equal(rt, (accounts[1].paid_in, accounts[1].paid_out), (3, 0));
         }
         Err(_) => panic!(rt; "not started"),
     }
-}
-
-/// The pass of the thread.
-fn left<V: Keeps + Send, N: LotName<V> + Send + Sync, T: Wait + Abort>(
-    rt: &T,
-    lot: &mut Lot<V, N>,
-    thread: usize,
-) -> Pass<V, N>
-    ensures same { lot.new ≡ lot.old }
-    ensures thread { result.thread ≡ thread }
-    ensures free { OwnsNone result }
-{
-    let Some(pass) = lot.take_left(rt) else {
-        panic!(rt; "{thread} is not in")
-    };
-    if pass.thread() == thread {
-        return pass;
-    }
-    panic!(rt; "another pass than {thread}")
-}
-
-/// Closes a lot for two threads, whose passes are in.
-pub(crate) fn close_two<V: Keeps + Send, N: LotName<V> + Send + Sync, T: Wait + Abort>(
-    rt: &T,
-    mut lot: Lot<V, N>,
-    mut passes: Vec<Pass<V, N>>,
-) -> Vec<V>
-    requires threads { lot.threads ≡ 2 }
-    requires room { (vec_len passes ≡ 0) × (2 ≤ vec_capacity passes) }
-    ensures { vec_len result ≡ lot.locks }
-{
-    passes.push_reserved(left(rt, &mut lot, 0));
-    passes.push_reserved(left(rt, &mut lot, 1));
-    let (values, _) = lot.close(rt, passes);
-    values
 }
 
 #[test]

@@ -8,6 +8,7 @@ ghost use Rattle.lot_load.specs.declared.counter.Add.{Add};
 ghost use Rattle.lot_load.specs.declared.counter.Counter.{Counter};
 ghost use Rattle.lot_trials.specs.Theres.{IsCountedOnce};
 
+use crate::passes::enter;
 use lot_journal::{Entry, Journal};
 use lot_load::count::{Counting, Counts, add_one, go_round, new_journals};
 use lot_load::counter::{Add, Counter};
@@ -55,19 +56,6 @@ fn entry(thread: usize, total: u64) -> Entry<Add, u64> {
         thread,
         call: Add(1),
         reply: total,
-    }
-}
-
-/// A pass that owns no lock.
-fn enter<V: Tells + Send, N: LotName<V> + Send + Sync, T: Wait + Abort>(
-    rt: &T,
-    lot: &Lot<V, N>,
-) -> Pass<V, N>
-    ensures { OwnsNone result }
-{
-    match lot.register(rt) {
-        Ok(pass) => pass,
-        Err(_) => panic!(rt; "no pass is in"),
     }
 }
 

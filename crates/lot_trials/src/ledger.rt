@@ -5,6 +5,7 @@ ghost use Rattle.lot_sync.specs.Opened.{IsNamed};
 ghost use Rattle.lot_trials.specs.Counting.{HasCountedNone, EndsAs, EndsThere};
 
 use crate::lots::{ASKINGS, Number};
+use crate::passes::enter;
 use lot_sync::{Ledger, Lot, LotName, Moment, Opened, Pass};
 use std::alloc::Global;
 use std::marker::Brand;
@@ -154,20 +155,6 @@ fn tally<N: LotName<Number> + Send + Sync, T: Threads + Wait + Sync + Abort>(
     passes.push_reserved(second);
     let (_, ledger) = lot.close(rt, passes);
     ledger
-}
-
-/// A pass of one of the lot's threads, which owns nothing.
-fn enter<N: LotName<Number> + Send + Sync, T: Wait + Abort>(
-    rt: &T,
-    lot: &Lot<Number, N>,
-) -> Pass<Number, N>
-    ensures thread { result.thread < lot.now.threads }
-    ensures free { OwnsNone result }
-{
-    match lot.register(rt) {
-        Ok(pass) => pass,
-        Err(_) => panic!(rt; "no pass is in"),
-    }
 }
 
 /// Starts the lot, whose passes were never out, and looks at what is counted.

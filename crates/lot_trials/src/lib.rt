@@ -25,6 +25,8 @@ mod lots;
 #[cfg(test)]
 mod measures;
 #[cfg(test)]
+mod passes;
+#[cfg(test)]
 mod permits;
 #[cfg(test)]
 mod rows;

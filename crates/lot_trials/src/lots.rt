@@ -4,6 +4,7 @@ ghost use Rattle.lot_sync.specs.Lot.{OwnsNone};
 ghost use Rattle.lot_sync.specs.Opened.{IsNamed};
 
 use crate::asserts::{equal, started};
+use crate::passes::end;
 use lot_sync::{Lot, LotName, Moment, OpenFault, Opened, Pass, RegisterFault, Released};
 use lot_words::Keeps;
 use std::alloc::Global;
@@ -263,47 +264,6 @@ fn two_at_once<N: LotName<Number> + Send + Sync, T: Threads + Wait + Sync + Abor
 enum Trial {
     GrowPastASleeper,
     TwoAtOnce,
-}
-
-/// The pass of the thread, which was left.
-fn take_pass<V: Keeps + Send, N: LotName<V> + Send + Sync, T: Wait + Abort>(
-    rt: &T,
-    lot: &mut Lot<V, N>,
-    thread: usize,
-) -> Pass<V, N>
-    ensures same { lot.new ≡ lot.old }
-    ensures thread { result.thread ≡ thread }
-    ensures free { OwnsNone result }
-{
-    match lot.take_left(rt) {
-        Some(pass) => {
-            let left = pass.thread();
-            if left == thread {
-                pass
-            } else {
-                panic!(rt; "thread {left} was left before {thread}")
-            }
-        }
-        None => panic!(rt; "{thread} is not in"),
-    }
-}
-
-/// All passes were left. Gives the values back.
-pub(crate) fn end<V: Keeps + Send, N: LotName<V> + Send + Sync, T: Wait + Abort>(
-    rt: &T,
-    mut lot: Lot<V, N>,
-    mut passes: Vec<Pass<V, N>>,
-    threads: usize,
-) -> Vec<V>
-    requires threads { lot.threads ≡ threads }
-    requires room { (vec_len passes ≡ 0) × (threads ≤ vec_capacity passes) }
-{
-    for thread in 0..threads {
-        let pass = take_pass(rt, &mut lot, thread);
-        passes.push_reserved(pass);
-    }
-    let (values, _) = lot.close(rt, passes);
-    values
 }
 
 /// Starts the lot, tries, and closes it. Gives the values back, also where memory is refused at the start.

@@ -4,7 +4,8 @@ ghost use Rattle.lot_sync.specs.Lot.{OwnsNone, IsSem, IsWide, one_more, permits_
 ghost use Rattle.lot_sync.specs.Opened.{IsNamed};
 
 use crate::asserts::{equal, started};
-use crate::rows::{Count, Gathered, await_flag, await_line, end, enter, own, release};
+use crate::passes::enter;
+use crate::rows::{Count, Gathered, await_flag, await_line, end, own, release};
 use crate::waits::wait_once;
 use lot_sync::{Freed, Lot, LotName, Moment, Opened, Pass, Permit, Released, Tried};
 use std::alloc::Global;

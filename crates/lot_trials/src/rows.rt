@@ -6,6 +6,7 @@ ghost use Rattle.lot_sync.specs.Opened.{IsNamed};
 ghost use Rattle.lot_sync.specs.Holding.{Holding};
 
 use crate::asserts::{equal, started};
+use crate::passes::{enter, take_pass};
 use crate::schedules::{Schedule, follow};
 use crate::sleepers::{
     after_a_handoff, first_of_two_sleepers, growth_with_sleepers, other_key_in_the_bucket,
@@ -50,18 +51,6 @@ const LOCKS: usize = 14;
 
 /// How often a test asks before it fails.
 pub(crate) const ASKINGS: u64 = 10_000_000;
-
-pub(crate) fn enter<N: LotName<Count> + Send + Sync, T: Wait + Abort>(
-    rt: &T,
-    lot: &Lot<Count, N>,
-) -> Pass<Count, N>
-    ensures { OwnsNone result }
-{
-    match lot.register(rt) {
-        Ok(pass) => pass,
-        Err(_) => panic!(rt; "no pass is in"),
-    }
-}
 
 /// `lock`, and what the test has of it.
 pub(crate) fn own<N: LotName<Count> + Send + Sync, T: Wait>(
@@ -261,28 +250,6 @@ fn play_row<N: LotName<Count> + Send + Sync, T: Threads + Wait + Sync + Abort>(
     (Gathered::Left, 0)
 }
 
-fn next_left<N: LotName<Count> + Send + Sync, T: Wait + Abort>(
-    rt: &T,
-    lot: &mut Lot<Count, N>,
-    thread: usize,
-) -> Pass<Count, N>
-    ensures same { lot.new ≡ lot.old }
-    ensures thread { result.thread ≡ thread }
-    ensures free { OwnsNone result }
-{
-    match lot.take_left(rt) {
-        Some(pass) => {
-            let left = pass.thread();
-            if left == thread {
-                pass
-            } else {
-                panic!(rt; "thread {left} was left before {thread}")
-            }
-        }
-        None => panic!(rt; "{thread} is not in"),
-    }
-}
-
 /// How a test gets all passes of a lot, by number.
 #[derive(Clone, Copy)]
 pub(crate) enum Gathered {
@@ -301,7 +268,7 @@ fn next_pass<N: LotName<Count> + Send + Sync, T: Wait + Abort>(
     ensures free { OwnsNone result }
 {
     match how {
-        Gathered::Left => next_left(rt, lot, thread),
+        Gathered::Left => take_pass(rt, lot, thread),
         Gathered::Registered => next_registered(rt, lot, thread),
     }
 }

@@ -4,9 +4,10 @@ ghost use Rattle.lot_sync.specs.Lot.{OwnsNone};
 ghost use Rattle.lot_sync.specs.Holding.{Holding};
 
 use crate::asserts::{equal, started};
+use crate::passes::enter;
 use crate::rows::{
-    ASKINGS, Count, Row, await_flag, await_line, enter, on_lot, own, release, release_fairly,
-    try_own, word,
+    ASKINGS, Count, Row, await_flag, await_line, on_lot, own, release, release_fairly, try_own,
+    word,
 };
 use crate::sleepers::{own_at_gate, sleeper};
 use crate::waits::call_one;

@@ -4,8 +4,8 @@ ghost use Rattle.lot_sync.specs.Lot.{OwnsNone, IsWide, HasSeen};
 ghost use Rattle.lot_sync.specs.Opened.{IsNamed};
 ghost use Rattle.lot_trials.specs.Shares.{own_share};
 
-use crate::accounts::close_two;
 use crate::asserts::equal;
+use crate::passes::{end, enter};
 use lot_sync::{Lot, LotName, Moment, Opened, Pass};
 use lot_words::Keeps;
 use std::alloc::Global;
@@ -126,20 +126,6 @@ fn come_back<N: LotName<Shares> + Send + Sync, T: Wait + Abort>(
     (first, other, left, found)
 }
 
-fn enter<N: LotName<Shares> + Send + Sync, T: Wait + Abort>(
-    rt: &T,
-    lot: &Lot<Shares, N>,
-) -> Pass<Shares, N>
-    requires { lot.now.threads ≡ 2 }
-    ensures thread { result.thread < 2 }
-    ensures free { OwnsNone result }
-{
-    match lot.register(rt) {
-        Ok(pass) => pass,
-        Err(_) => panic!(rt; "no pass is in"),
-    }
-}
-
 fn play<N: LotName<Shares> + Send + Sync, T: Wait + Abort>(
     rt: &T,
     alloc: Global,
@@ -162,7 +148,7 @@ fn play<N: LotName<Shares> + Send + Sync, T: Wait + Abort>(
     equal(rt, (left, found), (2, 2));
     lot.leave(rt, zero);
     lot.leave(rt, one);
-    let shares = close_two(rt, lot, passes);
+    let shares = end(rt, lot, passes, 2);
     equal(rt, shares.len(), 1);
     equal(rt, (shares[0].zero, shares[0].one), (2, 2));
 }

@@ -4,7 +4,8 @@ ghost use Rattle.lot_sync.specs.Lot.{OwnsNone};
 ghost use Rattle.lot_sync.specs.Holding.{Holding, HoldingBoth};
 
 use crate::asserts::{equal, started};
-use crate::rows::{Count, await_flag, await_line, enter, own, release, word};
+use crate::passes::enter;
+use crate::rows::{Count, await_flag, await_line, own, release, word};
 use lot_sync::{BeforeSleep, Held, Lot, LotName, Moment, Pass, Released};
 use std::process::Abort;
 use std::sync::Wait;

@@ -3,7 +3,7 @@ ghost use Rattle.std.specs.Prelude.{◌≡◌, ◌<◌, length};
 ghost use Rattle.lot_sync.specs.Opened.{IsNamed};
 
 use crate::asserts::started;
-use crate::lots::end;
+use crate::passes::end;
 use lot_sync::{Lot, LotName, Moment, Opened};
 use lot_words::Keeps;
 use std::alloc::Global;

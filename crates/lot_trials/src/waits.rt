@@ -6,7 +6,8 @@ ghost use Rattle.lot_sync.specs.Opened.{IsNamed};
 ghost use Rattle.lot_sync.specs.Holding.{Holding};
 
 use crate::asserts::{equal, started};
-use crate::rows::{Count, Gathered, await_line, end, enter, own, release};
+use crate::passes::enter;
+use crate::rows::{Count, Gathered, await_line, end, own, release};
 use lot_sync::{Held, Lot, LotName, Moment, Opened, Pass};
 use std::alloc::Global;
 use std::marker::Brand;

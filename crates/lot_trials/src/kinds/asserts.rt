@@ -1,5 +1,5 @@
 //! Assertions as calls: what a macro writes at its place would be checked with all that the schedule around it knows.
-ghost use Rattle.std.specs.Prelude.{◌≡◌, true, false};
+ghost use Rattle.std.specs.Prelude.{◌≡◌, false};
 
 use crate::asserts::equal;
 use lot_locks::Released;
@@ -7,13 +7,6 @@ use lot_park::Parked;
 use lot_permits::Freed;
 use lot_waits::Ledger;
 use std::process::Abort;
-
-/// It is so, or the test fails.
-pub(crate) fn is_so(rt: &impl Abort, is_so: bool)
-    ensures { is_so ≡ true }
-{
-    assert!(rt; is_so);
-}
 
 /// It is not so, or the test fails.
 pub(crate) fn is_not(rt: &impl Abort, is_so: bool)
@@ -50,7 +43,7 @@ pub(crate) fn parked_is(rt: &impl Abort, parked: Parked, wanted: Parked)
     assert_eq!(rt; parked, wanted);
 }
 
-/// So many notifications of each condition were called and so many of its waits woken, the same numbers, or the test fails.
+/// By the ledger, so many sleepers of each condition were taken, and as many of its waits have ended, or the test fails.
 pub(crate) fn ledger_is(rt: &impl Abort, ledger: &Ledger, wanted: &[u64]) {
     equal(rt, ledger.called.as_slice(), wanted);
     equal(rt, ledger.woken.as_slice(), wanted);

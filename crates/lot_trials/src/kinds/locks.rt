@@ -4,7 +4,8 @@ ghost use Rattle.lot_words.specs.Shown.{pass_at, root_at};
 ghost use Rattle.lot_locks.specs.Standing.{MayTake, Wants};
 ghost use Rattle.lot_trials.specs.OneLock.{HasNone, IsCalm, HasIt};
 
-use crate::kinds::asserts::{count_is, is_not, is_so, parked_is, released_is};
+use crate::asserts::is_so;
+use crate::kinds::asserts::{count_is, is_not, parked_is, released_is};
 use crate::kinds::tables::{EARLY, THREADS};
 use lot_locks::{KeyRoot, LockScheme, NamedPass, Released, let_go};
 use lot_park::parts::Whole;
@@ -58,7 +59,7 @@ fn get<N: Name + Send>(rt: &impl Abort, scheme: &OneLock<N>, pass: Right<N>) -> 
     ensures { HasIt pass.thread result }
 {
     let (pass, got) = scheme.take(pass, 0);
-    is_so(rt, got);
+    is_so(rt, got, "the lock is got");
     pass
 }
 
@@ -81,7 +82,7 @@ fn mark<N: Name + Send>(rt: &impl Abort, scheme: &OneLock<N>, pass: Right<N>) ->
     ensures { HasNone pass.thread result × Wants result 0 }
 {
     let (pass, marked) = scheme.words().mark(pass.into_pass(), 0);
-    is_so(rt, marked);
+    is_so(rt, marked, "the lock is held");
     NamedPass::new(pass)
 }
 

@@ -3,8 +3,8 @@ ghost use Rattle.std.specs.Prelude.{◌≡◌, ℕ, ◌+◌, ◌<◌, ◌≤◌,
 ghost use Rattle.lot_core.specs.Parts.{IsAmongSemaphores};
 ghost use Rattle.lot_permits.specs.Permits.{HasPermit, HoldsNone, IsWide, one_less, one_more, opening_permits, permits_with};
 
-use crate::asserts::equal;
-use crate::kinds::asserts::{count_is, freed_is, is_so};
+use crate::asserts::{equal, is_so};
+use crate::kinds::asserts::{count_is, freed_is};
 use crate::kinds::tables::EARLY;
 use lot_park::ParkingLot;
 use lot_park::parts::Whole;
@@ -177,7 +177,7 @@ fn wake<N: PermitName + Send, T: Wait + Abort>(
     requires has { HasPermit seeker permit }
     ensures { result ≡ one_less seeker 1 Freed.Woke }
 {
-    is_so(rt, is_in_line(rt, lot, 1));
+    is_so(rt, is_in_line(rt, lot, 1), "somebody sleeps");
     let (seeker, freed) = give_back(rt, lot, seeker, permit);
     freed_is(rt, freed, Freed::Woke);
     seeker
@@ -209,7 +209,7 @@ fn a_sleeper_gets_it<N: PermitName + Send + Sync, T: Threads + Wait + Sync + Abo
                 requires sems { (N.low ≡ 0) × (length N.permits ≡ 2) }
                 requires sizes { (lot.now.threads ≡ 2) × (lot.now.keys ≡ 2) }
             { sleeper(rt, lot, seats) };
-            is_so(rt, scope.spawn(job).is_ok());
+            is_so(rt, scope.spawn(job).is_ok(), "a thread is started");
             wake(rt, lot, seeker, permit)
         },
     )

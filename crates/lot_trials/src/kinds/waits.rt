@@ -3,7 +3,8 @@ ghost use Rattle.std.specs.Prelude.{◌≡◌, ◌<◌, IsSome, IsSomeAnd};
 ghost use Rattle.lot_waits.specs.Counts.{took as took_more, woke};
 ghost use Rattle.lot_trials.specs.Waits.{EndsThere};
 
-use crate::kinds::asserts::{count_is, is_not, is_so, ledger_is};
+use crate::asserts::is_so;
+use crate::kinds::asserts::{count_is, is_not, ledger_is};
 use crate::kinds::tables::{EARLY, THREADS, TheConds, TwoTables, condition_of, open};
 use lot_park::ParkingLot;
 use lot_waits::{
@@ -49,7 +50,7 @@ fn notified_before_sleep<N: WaitName + Send + Sync, R: Wait + Abort>(
             let (one, took) = notify_one::<TwoTables<N>, N, TheConds, R>(
                 rt, lot, conds, one, 1, EARLY,
             );
-            is_so(rt, took);
+            is_so(rt, took, "somebody is taken");
             one
         },
     );
@@ -134,7 +135,7 @@ struct Between<'a, R> {
 impl<R: Abort> BeforeSweep for Between<'_, R> {
     fn run(&self) {
         raise(&self.signs.cleared);
-        is_so(self.rt, is_raised(&self.signs.late));
+        is_so(self.rt, is_raised(&self.signs.late), "the second has come");
     }
 }
 
@@ -176,14 +177,14 @@ fn take_both<N: WaitName + Send + Sync, R: Wait + Abort>(
     ensures { result ≡ took_more one 1 2 }
 {
     let conds = lot.scheme().second();
-    is_so(rt, is_raised(&signs.early));
+    is_so(rt, is_raised(&signs.early), "the first has come");
     let between = Between { rt, signs };
     let (one, count) = notify_all_after::<TwoTables<N>, N, TheConds, R, Between<'_, R>>(
         rt, lot, conds, one, 1, &between,
     );
     count_is(rt, count, 2);
     let (one, set) = has_waiters(conds, one, 1);
-    is_so(rt, set);
+    is_so(rt, set, "the flag is set");
     let (one, took) = notify_one::<TwoTables<N>, N, TheConds, R>(rt, lot, conds, one, 1, EARLY);
     is_not(rt, took);
     let (one, set) = has_waiters(conds, one, 1);
@@ -220,7 +221,7 @@ fn wait_late<N: WaitName + Send + Sync, R: Wait + Abort>(
     requires thread { IsSomeAnd here.old (λ p. p.thread < 3) }
     ensures { EndsThere (λ p. woke p 1) here.old here.new }
 {
-    is_so(rt, is_raised(&signs.cleared));
+    is_so(rt, is_raised(&signs.cleared), "the flag is cleared");
     wait_here(rt, lot, here, &signs.late);
 }
 

@@ -1,7 +1,7 @@
 use Rattle.std.proofs.Common.{◌≡◌, ◌≤◌, ◌<◌, ℕ, vec_len, vec_capacity}
 use Rattle.std.specs.List.{All, Any}
 use Rattle.lot_sync.specs.Lot.{PassView, OwnsNone}
-use Rattle.lot_trials.proofs.lots.end.Given as goal
+use Rattle.lot_trials.proofs.passes.end.Given as goal
 
 abbrev pub invariant-loop-thread : goal.invariant-loop-thread
 invariant-loop-thread g l = record {

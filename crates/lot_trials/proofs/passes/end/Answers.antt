@@ -3,7 +3,7 @@ use Rattle.std.specs.List.{All, Any}
 use Rattle.std.proofs.lemmas.List.Elements.{All-push}
 use Rattle.lot_sync.specs.Lot.{PassView, LotView, OwnsNone}
 use Rattle.lot_sync.proofs.Turns.{all_threads}
-use Rattle.lot_trials.proofs.lots.end.Goals as goal
+use Rattle.lot_trials.proofs.passes.end.Goals as goal
 
 pub loop-thread-preserved : goal.loop-thread-preserved
 loop-thread-preserved g c =

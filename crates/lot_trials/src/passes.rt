@@ -1,0 +1,61 @@
+//! Passes in tests: how a thread gets one, and how all come back at the end.
+ghost use Rattle.std.specs.Prelude.{◌≡◌, ◌≤◌, ◌<◌, vec_len, vec_capacity};
+ghost use Rattle.lot_sync.specs.Lot.{OwnsNone};
+
+use lot_sync::{Lot, LotName, Pass};
+use lot_words::Keeps;
+use std::process::Abort;
+use std::sync::Wait;
+
+/// A pass of the lot, in which one is.
+pub(crate) fn enter<V: Keeps + Send, N: LotName<V> + Send + Sync, T: Wait + Abort>(
+    rt: &T,
+    lot: &Lot<V, N>,
+) -> Pass<V, N>
+    ensures thread { result.thread < lot.now.threads }
+    ensures free { OwnsNone result }
+{
+    match lot.register(rt) {
+        Ok(pass) => pass,
+        Err(_) => panic!(rt; "no pass is in"),
+    }
+}
+
+/// The pass of this thread, which is the first that was left.
+pub(crate) fn take_pass<V: Keeps + Send, N: LotName<V> + Send + Sync, T: Wait + Abort>(
+    rt: &T,
+    lot: &mut Lot<V, N>,
+    thread: usize,
+) -> Pass<V, N>
+    ensures same { lot.new ≡ lot.old }
+    ensures thread { result.thread ≡ thread }
+    ensures free { OwnsNone result }
+{
+    let Some(pass) = lot.take_left(rt) else {
+        panic!(rt; "{thread} is not in")
+    };
+    let left = pass.thread();
+    if left == thread {
+        return pass;
+    }
+    panic!(rt; "thread {left} was left before {thread}")
+}
+
+/// Ends a lot to which all passes have come back, and gives its values back.
+pub(crate) fn end<V: Keeps + Send, N: LotName<V> + Send + Sync, T: Wait + Abort>(
+    rt: &T,
+    mut lot: Lot<V, N>,
+    mut passes: Vec<Pass<V, N>>,
+    threads: usize,
+) -> Vec<V>
+    requires threads { lot.threads ≡ threads }
+    requires room { (vec_len passes ≡ 0) × (threads ≤ vec_capacity passes) }
+    ensures { vec_len result ≡ lot.locks }
+{
+    for thread in 0..threads {
+        let pass = take_pass(rt, &mut lot, thread);
+        passes.push_reserved(pass);
+    }
+    let (values, _) = lot.close(rt, passes);
+    values
+}
