@@ -50,7 +50,9 @@ module _ (table : TableId) (values : ℕ) (locks : List (RootShown LockRootView)
           (at_mapped (λ r. Second (First r)) (λ i r. IsIdleAt (values + i) r) cs (λ i q at. let e = first i q at in
           record { named = e.named ∙ ap (λ n. n + i) follow.conds_follow; same_line = e.empty; paid = ap debts e.paid }))
           (λ i r at. subst (λ k. IsIdleAt k r)
-          (let long : length {A = LotRootShown} (map (λ r. Second (First r)) cs) ≡ length cs = length-map cs (λ r. Second (First r)) in let first = follow.conds_follow in let last = follow.sems_follow in
+          (let long : length {A = LotRootShown} (map (λ r. Second (First r)) cs) ≡ length cs = length-map cs (λ r. Second (First r)) in
+          let first = follow.conds_follow in
+          let last = follow.sems_follow in
           omega (arith, long, many, first, last))
           (at_mapped (λ r. Second (Second r)) (λ i r. IsIdleAt (low + i) r) ss (λ i q at. let e = second i q at in
           record { named = e.named; same_line = e.empty; paid = ap (λ o. debt o 0) e.paid }) i r at))

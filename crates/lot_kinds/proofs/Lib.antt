@@ -1,4 +1,5 @@
 pub mod Places
 pub mod Pairs
+pub mod LastRoot
 pub mod Divided
 pub mod Idle
