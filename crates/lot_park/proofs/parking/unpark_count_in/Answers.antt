@@ -1,4 +1,4 @@
-use Rattle.std.proofs.Common.{refl, ◌∙◌, ap}
+use Rattle.std.proofs.Common.{rules, refl, ◌∙◌, ap}
 use Rattle.lot_bucket.specs.Contents.{Contents}
 use Rattle.lot_bucket.specs.Agrees.{IsRootOf}
 use Rattle.lot_park.specs.Parking.{TellsCount}
@@ -53,3 +53,6 @@ returns-clause-called g c =
       called = c.f-x.ensures;
       same = refl;
     })
+
+pub pay_all-root-requires-after_bounds : goal.pay_all-root-requires-after_bounds
+pay_all-root-requires-after_bounds g c = search rules

@@ -1,4 +1,4 @@
-use Rattle.std.proofs.Common.{◌≡◌, Some, slice_get, sym, ap, subst, ◌∙◌, ⊎_elim, arith}
+use Rattle.std.proofs.Common.{rules, ◌≡◌, Some, slice_get, sym, ap, subst, ◌∙◌, ⊎_elim, arith}
 use Rattle.std.specs.Slots.{slots_items, slots_len, slots_filled}
 use mathlib.Core.Option.{some, some-injective}
 use lib.ListN.{get_elem?}
@@ -33,3 +33,6 @@ loop-i-preserved g c =
           (ap (λ xs. get_elem? xs c.loop-i.i) (sym inv.items) ∙ (c.in-Some.ensures.value ∙ ap (λ z. some (Some z)) last.1)))
           (get_snoc c.loop-i.room.items c.in-Some.value y k (ap (λ xs. slice_get xs k) (sym c.push_reserved.ensures.items) ∙ e));
     }
+
+pub take-requires : goal.take-requires
+take-requires g c = search rules

@@ -1,4 +1,4 @@
-use Rattle.std.proofs.Common.{◌++◌, ◌∷◌, [], Some, ap, ◌∙◌, subst, arith, reverse}
+use Rattle.std.proofs.Common.{rules, ◌++◌, ◌∷◌, [], Some, ap, ◌∙◌, subst, arith, reverse}
 use Rattle.lot_words.specs.Shelf.{AllSome}
 use Rattle.lot_words.proofs.Shelves.{filled, all_some_init, all_some_last, takes_one}
 use Rattle.lot_words.proofs.shelf.unshelve.Goals as goal
@@ -20,3 +20,6 @@ loop-slot-preserved g c =
       count = omega (arith, c.in-Some.ensures.len);
       fits = omega arith;
     }
+
+pub returns : goal.returns
+returns g c = search rules

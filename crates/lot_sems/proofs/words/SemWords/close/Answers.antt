@@ -1,4 +1,4 @@
-use Rattle.std.proofs.Common.{◌≡◌, ◌<◌, ℕ, sym, subst, arith}
+use Rattle.std.proofs.Common.{rules, ◌≡◌, ◌<◌, ℕ, sym, subst, arith}
 use Rattle.std.specs.List.{Any}
 use Rattle.std.specs.Slots.{slots_items}
 use Rattle.lot_rights.specs.Shown.{PassShown}
@@ -20,3 +20,6 @@ returns c =
       history = subst (λ (z : SemWordsShown). IsToldTo z.size c.args.passes.items c.args.roots.items) c.self.view_is
           (told_to size c.args.passes.items c.args.roots.items (slots_items c.close.result.words) (slots_items c.close.result.slots) c.close.ensures.ended all);
     }
+
+pub close-requires-clause-some : goal.close-requires-clause-some
+close-requires-clause-some c = search rules

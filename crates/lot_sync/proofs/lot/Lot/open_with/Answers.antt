@@ -1,4 +1,4 @@
-use Rattle.std.proofs.Common.{◌≡◌, ◌<◌, ◌≤◌, length, vec_len, ap, subst, sym, ◌∙◌, arith}
+use Rattle.std.proofs.Common.{rules, ◌≡◌, ◌<◌, ◌≤◌, length, vec_len, ap, subst, sym, ◌∙◌, arith}
 use Rattle.lot_core.specs.declared.state.TheConstants.{MAX_KEYS}
 use Rattle.lot_sync.specs.Opened.{IsOpened}
 use Rattle.lot_sync.proofs.lot.Lot.open_with.Goals as goal
@@ -20,3 +20,12 @@ with_kinds-requires-clause-opened g c κs within =
       roots_long = sym c.in-Ok.roots.ok.0 ∙ (c.in-Ok.ensures.roots.0 ∙ long);
       roots_are = λ l near. c.in-Ok.ensures.roots.1 l (subst (λ n. l < n) (sym long) near);
     })
+
+pub returns-then-locks-lt1-clause-fault : goal.returns-then-locks-lt1-clause-fault
+returns-then-locks-lt1-clause-fault g c = search rules
+
+pub open-requires-clause-limits : goal.open-requires-clause-limits
+open-requires-clause-limits g c = search rules
+
+pub returns-in-Err-NoMemory-default-clause-fault : goal.returns-in-Err-NoMemory-default-clause-fault
+returns-in-Err-NoMemory-default-clause-fault g c = search rules

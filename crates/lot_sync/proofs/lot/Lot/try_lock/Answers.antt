@@ -1,4 +1,4 @@
-use Rattle.std.proofs.Common.{◌<◌, subst}
+use Rattle.std.proofs.Common.{rules, ◌<◌, subst}
 use Rattle.lot_sync.proofs.Rests.{owns_newly, gets_all, gets_as, own_on}
 use Rattle.lot_sync.proofs.lot.Lot.try_lock.Goals as goal
 
@@ -16,3 +16,9 @@ returns-then-got-clause-gets g c =
 
 pub taken-pass-requires-clause-own : goal.taken-pass-requires-clause-own
 taken-pass-requires-clause-own g c κs within = own_on _ _ c.apart-right.result.1 (rw c.if-got.true at c.try_take-right.ensures).thread c.apart-right.ensures.own
+
+pub at_rest-requires-clause-rest : goal.at_rest-requires-clause-rest
+at_rest-requires-clause-rest g c = search rules
+
+pub returns-else-got-clause-gets : goal.returns-else-got-clause-gets
+returns-else-got-clause-gets g c = search rules

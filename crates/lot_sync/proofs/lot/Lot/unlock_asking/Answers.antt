@@ -1,4 +1,4 @@
-use Rattle.std.proofs.Common.{ap, ◌∙◌}
+use Rattle.std.proofs.Common.{rules, ap, ◌∙◌}
 use Rattle.lot_sync.specs.Lot.{leaving}
 use Rattle.lot_locks.specs.declared.released.Released.TheVariants.{Quiet}
 use Rattle.lot_sync.proofs.Rests.{rests_free, leaves_all, own_on}
@@ -41,3 +41,6 @@ returns-else-freed-clause-pass g c =
     c.unpark_asking-right.result.1 b.lies went
     ∙ (ap (λ p. leaving p c.key-key.result c.args.held.value c.unpark_asking-right.result.1) b.same
     ∙ ap (λ k. leaving c.args.pass k c.args.held.value c.unpark_asking-right.result.1) c.key-key.ensures))
+
+pub returns-then-freed-clause-fits : goal.returns-then-freed-clause-fits
+returns-then-freed-clause-fits g c = search rules

@@ -1,4 +1,4 @@
-use Rattle.std.proofs.Common.{sym, subst, ◌∙◌}
+use Rattle.std.proofs.Common.{rules, sym, subst, ◌∙◌}
 use Rattle.lot_rights.specs.declared.views.PassView.{PassView}
 use Rattle.lot_words.specs.declared.views.Place.TheVariants.{InSlot, Out}
 use Rattle.lot_words.specs.Values.{IsIn, IsOut}
@@ -16,3 +16,12 @@ returns-clause-value g c =
 pub returns-clause-out : goal.returns-clause-out
 returns-clause-out g c = subst (λ (z : PassView _). IsOut z.own c.args.key) (sym c.exchange_value-pass.ensures.pass.1)
     (placed_at c.args.pass.pass.own c.args.key (InSlot c.requires.lies.0) Out c.requires.lies.1)
+
+pub exchange_value-pass-requires-clause-holds : goal.exchange_value-pass-requires-clause-holds
+exchange_value-pass-requires-clause-holds g c = search rules
+
+pub exchange_value-pass-requires-clause-home : goal.exchange_value-pass-requires-clause-home
+exchange_value-pass-requires-clause-home g c = search rules
+
+pub returns-clause-pass : goal.returns-clause-pass
+returns-clause-pass g c = search rules

@@ -1,0 +1,5 @@
+use Rattle.std.proofs.Common.{rules}
+use Rattle.lot_bucket.proofs.bucket.Bucket.dequeue_all.Goals as goal
+
+pub returns-clause-line : goal.returns-clause-line
+returns-clause-line g c = search rules
