@@ -1,5 +1,6 @@
 pub mod CondSchedules
 pub mod LockSchedules
+pub mod OneLock
 pub mod SemSchedules
 mod Idle
 mod Lending

@@ -1,3 +1,5 @@
 pub mod CondSchedules
 pub mod LockSchedules
+pub mod OneLock
 pub mod SemSchedules
+pub mod Waits

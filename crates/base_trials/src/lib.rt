@@ -6,6 +6,8 @@ mod asserts;
 #[cfg(test)]
 mod draw;
 #[cfg(test)]
+mod kinds;
+#[cfg(test)]
 mod park;
 #[cfg(test)]
 mod rights;

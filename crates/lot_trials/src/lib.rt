@@ -1,6 +1,5 @@
-//! Trials of a lot, of each kind of key on a parking lot, and of what the programs do with lots, through public calls: rows with the words that they
-//! leave, schedules made by hand, mostly with real threads, callers that prove what a user would conclude, and the programs' texts and statuses. It has
-//! tests and nothing else.
+//! Trials of a lot, and of what the programs do with lots, through public calls: rows with the words that they leave, schedules made by hand, mostly with
+//! real threads, callers that prove what a user would conclude, and the programs' texts and statuses. It has tests and nothing else.
 //!
 //! Those whose names begin with `a_refused` end well where any one request for memory, or any one start of a thread, is refused: the call says so,
 //! nothing is lost, and the next call succeeds. `scripts/refused` at the top runs them with each request refused in turn.
@@ -16,8 +15,6 @@ mod calls;
 mod example;
 #[cfg(test)]
 mod history;
-#[cfg(test)]
-mod kinds;
 #[cfg(test)]
 mod ledger;
 #[cfg(test)]

@@ -1,7 +1,7 @@
 //! Waits and notifications in a lot of two tables, of which the first is one of locks that nobody takes, and what the ledger says of them.
 ghost use Rattle.std.specs.Prelude.{◌≡◌, ◌<◌, IsSome, IsSomeAnd};
 ghost use Rattle.lot_waits.specs.Counts.{took as took_more, woke};
-ghost use Rattle.lot_trials.specs.Waits.{EndsThere};
+ghost use Rattle.base_trials.specs.Waits.{EndsThere};
 
 use crate::asserts::is_so;
 use crate::kinds::asserts::{count_is, is_not, ledger_is};

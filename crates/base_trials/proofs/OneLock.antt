@@ -11,7 +11,7 @@ use Rattle.lot_words.specs.Closing.{HoldsNone}
 use Rattle.lot_words.specs.Shown.{pass_at}
 use Rattle.lot_words.specs.World.{IsHeld}
 use Rattle.lot_locks.specs.Standing.{Standing, stands}
-use Rattle.lot_trials.specs.OneLock.{IsCalm}
+use Rattle.base_trials.specs.OneLock.{IsCalm}
 
 unheld : (l : ℕ) → ¬ IsHeld (slice_index_or (NotHeld ∷ []) l NotHeld)
 unheld zero held = held

@@ -7,7 +7,7 @@ use Rattle.lot_rights.proofs.Dealt.{dealt_last, none_back, one_back}
 use Rattle.lot_sems.specs.declared.views.SemRootView.{SemRootView}
 use Rattle.lot_rights.proofs.Turns.{no_elements, some_at}
 use Rattle.lot_permits.specs.Permits.{PermitsView, HoldsNone, without_permits}
-use Rattle.lot_trials.proofs.kinds.permits.play.Goals as goal
+use Rattle.base_trials.proofs.kinds.permits.play.Goals as goal
 
 pub play_rows-zero-requires-clause-none : goal.play_rows-zero-requires-clause-none
 play_rows-zero-requires-clause-none g c κs within =

@@ -5,7 +5,7 @@ use Rattle.lot_words.specs.declared.views.Hold.TheVariants.{NotHeld, Held}
 use Rattle.lot_words.specs.declared.views.Place.TheVariants.{InSlot}
 use Rattle.lot_words.specs.World.{IsHeld}
 use Rattle.lot_words.specs.Values.{IsIn}
-use Rattle.lot_trials.proofs.kinds.locks.get.Goals as goal
+use Rattle.base_trials.proofs.kinds.locks.get.Goals as goal
 
 pub returns : goal.returns
 returns g c =

@@ -7,7 +7,7 @@ use Rattle.lot_rights.proofs.Dealt.{dealt_last, none_back, one_back}
 use Rattle.lot_conds.specs.declared.views.CondRootView.{CondRootView}
 use Rattle.lot_waits.specs.Counts.{CountsView, uncounted}
 use Rattle.lot_waits.specs.Opening.{IsIdleRoot}
-use Rattle.lot_trials.proofs.kinds.waits.play.Goals as goal
+use Rattle.base_trials.proofs.kinds.waits.play.Goals as goal
 
 pub open-lot-requires-clause-root : goal.open-lot-requires-clause-root
 open-lot-requires-clause-root g c κs within =

@@ -1,6 +1,6 @@
 use Rattle.std.proofs.Common.{◌≡◌, ◌+◌, ◌<◌, length, vec_len, subst, ◌∙◌, rules}
 use Rattle.lot_waits.proofs.Starts.{every_thread, every_key}
-use Rattle.lot_trials.proofs.kinds.ledger.settled_unused.Goals as goal
+use Rattle.base_trials.proofs.kinds.ledger.settled_unused.Goals as goal
 
 pub settle-ledger-requires-clause-waiters : goal.settle-ledger-requires-clause-waiters
 settle-ledger-requires-clause-waiters g c = λ t near.

@@ -9,9 +9,9 @@ use Rattle.lot_words.specs.declared.views.LockPassView.{LockPassView}
 use Rattle.lot_words.specs.declared.views.LockRootView.{LockRootView}
 use Rattle.lot_words.specs.Closing.{HoldsNone}
 use Rattle.lot_words.specs.Shown.{pass_at}
-use Rattle.lot_trials.specs.declared.kinds.locks.Nothing.{Nothing}
-use Rattle.lot_trials.proofs.OneLock.{fresh_calm, calm_holds_none}
-use Rattle.lot_trials.proofs.kinds.locks.play.Goals as goal
+use Rattle.base_trials.specs.declared.kinds.locks.Nothing.{Nothing}
+use Rattle.base_trials.proofs.OneLock.{fresh_calm, calm_holds_none}
+use Rattle.base_trials.proofs.kinds.locks.play.Goals as goal
 
 pub new-one-requires : goal.new-one-requires
 new-one-requires g c =

@@ -2,7 +2,7 @@
 ghost use Rattle.std.specs.Prelude.{◌≡◌, ℕ, ◌<◌, List, length, slice_get, Some, vec_len};
 ghost use Rattle.lot_words.specs.Shown.{pass_at, root_at};
 ghost use Rattle.lot_locks.specs.Standing.{MayTake, Wants};
-ghost use Rattle.lot_trials.specs.OneLock.{HasNone, IsCalm, HasIt};
+ghost use Rattle.base_trials.specs.OneLock.{HasNone, IsCalm, HasIt};
 
 use crate::asserts::is_so;
 use crate::kinds::asserts::{count_is, is_not, parked_is, released_is};
