@@ -1,8 +1,25 @@
 //! Assertions as calls: what a macro writes at its place would be checked with all that the function around it knows.
-ghost use Rattle.std.specs.Prelude.{◌≡◌, true};
+ghost use Rattle.std.specs.Prelude.{◌≡◌, ◌≤◌, true, vec_len, vec_capacity};
 
+use std::alloc::Global;
 use std::fmt::Debug;
 use std::process::Abort;
+
+/// The test fails.
+pub(crate) fn failed(rt: &impl Abort, what: &str) -> ! {
+    panic!(rt; "{what}")
+}
+
+/// Room for so many, or the test fails.
+pub(crate) fn room_for<T>(rt: &impl Abort, alloc: Global, count: usize) -> Vec<T>
+    ensures empty { vec_len result ≡ 0 }
+    ensures room { count ≤ vec_capacity result }
+{
+    let Ok(room) = Vec::with_capacity(alloc, count) else {
+        failed(rt, "no memory")
+    };
+    room
+}
 
 /// It is so, or the test fails.
 pub(crate) fn is_so(rt: &impl Abort, is_so: bool, what: &str)

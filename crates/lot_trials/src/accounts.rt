@@ -5,7 +5,7 @@ ghost use Rattle.lot_sync.specs.Opened.{IsNamed};
 ghost use Rattle.lot_sync.specs.Holding.{Holding, HoldingBoth};
 ghost use Rattle.lot_sync.specs.Opened.{KeepAll};
 
-use crate::asserts::equal;
+use crate::asserts::{equal, failed, room_for};
 use crate::passes::{end, enter};
 use lot_sync::{Held, Lot, LotName, Moment, Opened, Pass};
 use lot_words::Keeps;
@@ -221,9 +221,7 @@ fn open_and_book<N: LotName<Account> + Send + Sync, T: Wait + Abort>(
     requires named { IsNamed (record { opening = N.opening; threads = N.threads; values = N.values; locks = N.locks; conds = N.conds; low = N.low; permits = N.permits }) opened }
     requires sizes { (opened.threads ≡ 2) × (length opened.values ≡ 2) }
 {
-    let Ok(passes) = Vec::with_capacity(alloc, 2) else {
-        panic!(rt; "no memory")
-    };
+    let passes = room_for(rt, alloc, 2);
     match opened.start::<N>(alloc) {
         Ok(lot) => {
             book_in_turn(rt, &lot);
@@ -233,7 +231,7 @@ fn open_and_book<N: LotName<Account> + Send + Sync, T: Wait + Abort>(
             equal(rt, (accounts[0].paid_in, accounts[0].paid_out), (10, 8));
             equal(rt, (accounts[1].paid_in, accounts[1].paid_out), (3, 0));
         }
-        Err(_) => panic!(rt; "not started"),
+        Err(_) => failed(rt, "not started"),
     }
 }
 
@@ -244,7 +242,7 @@ fn an_account_is_never_overdrawn(rt: HostRuntime) {
         paid_out: 0,
     };
     let Ok(accounts) = vec![in rt.alloc(); opening; 2] else {
-        panic!(&rt; "no memory")
+        failed(&rt, "no memory")
     };
     on_account(&rt, rt.alloc(), accounts);
 }
@@ -254,6 +252,6 @@ fn on_account<T: Wait + Abort>(rt: &T, alloc: Global, accounts: Vec<Account>)
 {
     match Lot::<Account, Brand>::open(alloc, 2, accounts, 0) {
         Ok(opened) => open_and_book::<Brand, T>(rt, alloc, opened),
-        Err(_) => panic!(rt; "not opened"),
+        Err(_) => failed(rt, "not opened"),
     }
 }

@@ -1,7 +1,7 @@
 //! Calls of one thread, where memory may be refused: a journal's, and those that read a script, make its events and print the state.
 ghost use Rattle.std.specs.Prelude.{◌≡◌};
 
-use crate::asserts::{equal, is_so};
+use crate::asserts::{equal, failed, is_so};
 use lot_core::{CoreFault, Event, Script, ScriptFault, State, parse_script, print_state};
 use lot_journal::{Journal, JournalFault, Sequential};
 use std::alloc::Global;
@@ -51,7 +51,7 @@ fn is_refusal<F: PartialEq + Debug + Copy>(
 fn add_again(rt: &impl Abort, journal: &mut Journal<Total>) -> u64 {
     match journal.call(0, Add(1)) {
         Ok(total) => total,
-        Err(_) => panic!(rt; "refused again"),
+        Err(_) => failed(rt, "refused again"),
     }
 }
 
@@ -94,7 +94,7 @@ const STATE: &str =
 fn parsed_again(rt: &impl Abort, alloc: Global) -> Script {
     match parse_script(alloc, SCRIPT) {
         Ok(script) => script,
-        Err(_) => panic!(rt; "refused again"),
+        Err(_) => failed(rt, "refused again"),
     }
 }
 
@@ -118,7 +118,7 @@ fn open_script(alloc: Global, script: &Script) -> Result<State, CoreFault> {
 fn opened_again(rt: &impl Abort, alloc: Global, script: &Script) -> State {
     match open_script(alloc, script) {
         Ok(state) => state,
-        Err(_) => panic!(rt; "refused again"),
+        Err(_) => failed(rt, "refused again"),
     }
 }
 

@@ -8,6 +8,7 @@ ghost use Rattle.lot_load.specs.declared.counter.Add.{Add};
 ghost use Rattle.lot_load.specs.declared.counter.Counter.{Counter};
 ghost use Rattle.lot_trials.specs.Theres.{IsCountedOnce};
 
+use crate::asserts::{equal, failed, is_so, room_for};
 use crate::passes::enter;
 use lot_journal::{Entry, Journal};
 use lot_load::count::{Counting, Counts, add_one, go_round, new_journals};
@@ -76,7 +77,7 @@ fn add<V: Tells + Send, N: LotName<V> + Send + Sync, T: Wait + Abort>(
         seed: 0,
     };
     let (pass, called) = go_round(rt, lot, &OpenGate, &counting, 0, 0, pass);
-    assert!(rt; called);
+    is_so(rt, called, "the call was made");
     pass
 }
 
@@ -91,7 +92,7 @@ fn find_history<V: Tells + Send, N: LotName<V> + Send + Sync, T: Wait + Abort>(
     ensures { OwnsNone result }
 {
     let (pass, held) = lot.lock(rt, pass, 0);
-    assert!(rt; held.value().has_both());
+    is_so(rt, held.value().has_both(), "both threads called");
     let (pass, _) = lot.unlock(rt, pass, held, Moment { now: 0, word: 0 });
     pass
 }
@@ -116,7 +117,7 @@ fn call_once<V: Tells + Send, N: LotName<V> + Send + Sync, T: Wait + Abort>(
         let (pass, _) = lot.unlock(rt, pass, held, Moment { now: 0, word: 0 });
         pass
     } else {
-        panic!(rt; "no memory for a call")
+        failed(rt, "no memory for a call")
     }
 }
 
@@ -177,11 +178,9 @@ fn add_in_turn<N: LotName<Journal<Counter>> + Send + Sync, T: Wait + Abort>(
     requires sizes { (opened.threads ≡ 2) × (length opened.values ≡ 1) }
     ensures { vec_len result ≡ 1 }
 {
-    let Ok(passes) = Vec::with_capacity(alloc, 2) else {
-        panic!(rt; "no memory")
-    };
+    let passes = room_for(rt, alloc, 2);
     let Ok(lot) = opened.start::<N>(alloc) else {
-        panic!(rt; "not started")
+        failed(rt, "not started")
     };
     let zero = enter(rt, &lot);
     let one = enter(rt, &lot);
@@ -200,16 +199,16 @@ fn open_and_add<T: Wait + Abort>(rt: &T, alloc: Global, journals: Vec<Journal<Co
     match Lot::<Journal<Counter>, Brand>::open(alloc, 2, journals, 0) {
         Ok(opened) => {
             let journals = add_in_turn::<Brand, T>(rt, alloc, opened);
-            assert_eq!(rt; journals[0].object().total, 4);
+            equal(rt, journals[0].object().total, 4);
         }
-        Err(_) => panic!(rt; "not opened"),
+        Err(_) => failed(rt, "not opened"),
     }
 }
 
 #[test]
 fn two_threads_leave_one_history(rt: HostRuntime) {
     let Ok(journals) = new_journals(rt.alloc(), 1) else {
-        panic!(&rt; "no memory")
+        failed(&rt, "no memory")
     };
     open_and_add(&rt, rt.alloc(), journals);
 }

@@ -4,6 +4,7 @@ ghost use Rattle.lot_sync.specs.Lot.{OwnsNone, waking, calling};
 ghost use Rattle.lot_sync.specs.Opened.{IsNamed};
 ghost use Rattle.lot_trials.specs.Counting.{HasCountedNone, EndsAs, EndsThere};
 
+use crate::asserts::{equal, failed, room_for};
 use crate::lots::{ASKINGS, Number};
 use crate::passes::enter;
 use lot_sync::{Ledger, Lot, LotName, Moment, Opened, Pass};
@@ -53,7 +54,7 @@ fn call_once<N: LotName<Number> + Send + Sync, T: Wait + Abort>(
         pass = asked;
         thread::yield_now();
     }
-    panic!(rt; "nobody waits")
+    failed(rt, "nobody waits")
 }
 
 /// `wait_once` by the pass that lies here.
@@ -166,26 +167,24 @@ fn play<N: LotName<Number> + Send + Sync, T: Threads + Wait + Sync + Abort>(
     requires named { IsNamed (record { opening = N.opening; threads = N.threads; values = N.values; locks = N.locks; conds = N.conds; low = N.low; permits = N.permits }) opened }
     requires sizes { (opened.threads ≡ 2) × (length opened.values ≡ 1) × (opened.conds ≡ 1) }
 {
-    let Ok(passes) = Vec::with_capacity(alloc, 2) else {
-        panic!(rt; "no memory")
-    };
+    let passes = room_for(rt, alloc, 2);
     let Ok(lot) = opened.start::<N>(alloc) else {
-        panic!(rt; "not started")
+        failed(rt, "not started")
     };
     let first = enter(rt, &lot);
     let second = enter(rt, &lot);
     let ledger = tally(rt, lot, first, second, passes);
-    assert_eq!(rt; ledger.called.as_slice(), [1].as_slice());
-    assert_eq!(rt; ledger.woken.as_slice(), [1].as_slice());
+    equal(rt, ledger.called.as_slice(), [1].as_slice());
+    equal(rt, ledger.woken.as_slice(), [1].as_slice());
 }
 
 #[test]
 fn one_wait_and_one_notification_are_counted(rt: HostRuntime) {
     let Ok(values) = vec![in rt.alloc(); Number { n: 7 }; 1] else {
-        panic!(&rt; "no memory")
+        failed(&rt, "no memory")
     };
     match Lot::<Number, Brand>::open(rt.alloc(), 2, values, 1) {
         Ok(opened) => play::<Brand, HostRuntime>(&rt, rt.alloc(), opened),
-        Err(_) => panic!(&rt; "not opened"),
+        Err(_) => failed(&rt, "not opened"),
     }
 }

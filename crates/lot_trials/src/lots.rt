@@ -3,7 +3,7 @@ ghost use Rattle.std.specs.Prelude.{◌≡◌, ℕ, ◌≤◌, ◌<◌, length, 
 ghost use Rattle.lot_sync.specs.Lot.{OwnsNone};
 ghost use Rattle.lot_sync.specs.Opened.{IsNamed};
 
-use crate::asserts::{equal, started};
+use crate::asserts::{equal, failed, is_so, started};
 use crate::passes::end;
 use lot_sync::{Lot, LotName, Moment, OpenFault, Opened, Pass, RegisterFault, Released};
 use lot_words::Keeps;
@@ -79,7 +79,11 @@ fn comes_to(word: &AtomicU64, count: u64) -> bool {
 
 /// A request for memory may be refused in this trial, or the test fails.
 fn may_be_refused(rt: &impl Abort, shared: &Shared) {
-    assert!(rt; shared.memory == Memory::MayBeRefused);
+    is_so(
+        rt,
+        shared.memory == Memory::MayBeRefused,
+        "a request may be refused here",
+    );
 }
 
 /// Whether one thread sleeps on lock 0, asked a bounded number of times.
@@ -113,7 +117,7 @@ fn enter<N: LotName<Number> + Send + Sync, T: Wait + Abort>(
             equal(rt, (lot.table_size(rt), lot.line_length(rt, 0)), before);
             match lot.register(rt) {
                 Ok(pass) => pass,
-                Err(_) => panic!(rt; "refused again"),
+                Err(_) => failed(rt, "refused again"),
             }
         }
     }
@@ -215,9 +219,9 @@ fn both_have_come<N: LotName<Number> + Send + Sync, T: Wait + Abort>(
 {
     equal(rt, comes_to(&shared.come, 2), true);
     let size = lot.table_size(rt);
-    assert!(rt; size == 30 || size == 36, "the size is {size}");
+    is_so(rt, size == 30 || size == 36, "the size is 30 or 36");
     match lot.register(rt) {
-        Ok(_) => panic!(rt; "a seventh pass"),
+        Ok(_) => failed(rt, "a seventh pass"),
         Err(fault) => equal(rt, fault, RegisterFault::Full),
     }
     shared.go.store(1, Ordering::SeqCst);
@@ -320,9 +324,13 @@ fn tried<T: Threads + Wait + Sync + Abort>(
             values
         }
     };
-    assert_eq!(rt; values.len(), 2);
-    assert!(rt; values[0].n == 7 || values[0].n == 9);
-    assert_eq!(rt; values[1].n, 8);
+    is_so(rt, values.len() == 2, "two values come back");
+    is_so(
+        rt,
+        values[0].n == 7 || values[0].n == 9,
+        "the first is 7, or 9 after both",
+    );
+    equal(rt, values[1].n, 8);
 }
 
 #[test]

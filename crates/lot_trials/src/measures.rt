@@ -1,6 +1,6 @@
 //! What the work of `lotbench` leaves, whatever time it takes.
 
-use crate::asserts::{equal, is_so, same_text};
+use crate::asserts::{equal, failed, is_so, same_text};
 use lot_load::measure::crew::run;
 use lot_load::measure::plan::plan_of;
 use lot_load::measure::run_command;
@@ -20,10 +20,10 @@ fn leaves<T: Threads + Wait + Clock + Sync + Abort>(
     all: u64,
 ) {
     let Some(plan) = plan_of(words) else {
-        panic!(rt; "no plan")
+        failed(rt, "no plan")
     };
     let Ok(summary) = run(rt, alloc, &plan) else {
-        panic!(rt; "no summary")
+        failed(rt, "no summary")
     };
     equal(rt, summary.sum, sum);
     equal(rt, summary.all, all);

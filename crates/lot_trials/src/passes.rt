@@ -2,6 +2,7 @@
 ghost use Rattle.std.specs.Prelude.{◌≡◌, ◌≤◌, ◌<◌, vec_len, vec_capacity};
 ghost use Rattle.lot_sync.specs.Lot.{OwnsNone};
 
+use crate::asserts::failed;
 use lot_sync::{Lot, LotName, Pass};
 use lot_words::Keeps;
 use std::process::Abort;
@@ -17,7 +18,7 @@ pub(crate) fn enter<V: Keeps + Send, N: LotName<V> + Send + Sync, T: Wait + Abor
 {
     match lot.register(rt) {
         Ok(pass) => pass,
-        Err(_) => panic!(rt; "no pass is in"),
+        Err(_) => failed(rt, "no pass is in"),
     }
 }
 

@@ -3,7 +3,7 @@ ghost use Rattle.std.specs.Prelude.{◌≡◌, ◌<◌, ℕ, length};
 ghost use Rattle.lot_sync.specs.Lot.{OwnsNone, IsSem, IsWide, one_more, permits_with};
 ghost use Rattle.lot_sync.specs.Opened.{IsNamed};
 
-use crate::asserts::{equal, started};
+use crate::asserts::{equal, failed, room_for, started};
 use crate::passes::enter;
 use crate::rows::{Count, Gathered, await_flag, await_line, end, own, release};
 use crate::waits::wait_once;
@@ -272,9 +272,7 @@ fn play<N: LotName<Count> + Send + Sync, T: Threads + Wait + Sync + Abort>(
     requires named { IsNamed (record { opening = N.opening; threads = N.threads; values = N.values; locks = N.locks; conds = N.conds; low = N.low; permits = N.permits }) opened }
     requires sizes { (opened.threads ≡ 2) × (length opened.values ≡ 14) × (opened.conds ≡ 1) × (length opened.permits ≡ 2) }
 {
-    let Ok(passes) = Vec::with_capacity(alloc, 2) else {
-        panic!(rt; "no memory")
-    };
+    let passes = room_for(rt, alloc, 2);
     let flags = Flags {
         has_permit: AtomicU64::new(0),
         owns_beside_permit: AtomicU64::new(0),
@@ -285,7 +283,7 @@ fn play<N: LotName<Count> + Send + Sync, T: Threads + Wait + Sync + Abort>(
             both(rt, &lot, &flags);
             let _ = end(rt, lot, passes, 2, Gathered::Left);
         }
-        Err(_) => panic!(rt; "not started"),
+        Err(_) => failed(rt, "not started"),
     }
 }
 
@@ -294,10 +292,10 @@ fn play<N: LotName<Count> + Send + Sync, T: Threads + Wait + Sync + Abort>(
 #[test]
 fn permits_and_their_moments(rt: HostRuntime) {
     let Ok(values) = vec![in rt.alloc(); Count { n: 7 }; 14] else {
-        panic!(&rt; "no memory")
+        failed(&rt, "no memory")
     };
     match Lot::<Count, Brand>::open_with(rt.alloc(), 2, values, 1, &[2, 1]) {
         Ok(opened) => play::<Brand, HostRuntime>(&rt, rt.alloc(), opened),
-        Err(_) => panic!(&rt; "not opened"),
+        Err(_) => failed(&rt, "not opened"),
     }
 }

@@ -5,7 +5,7 @@ ghost use Rattle.lot_sync.specs.Lot.{PassView, OwnsNone};
 ghost use Rattle.lot_sync.specs.Opened.{IsNamed};
 ghost use Rattle.lot_sync.specs.Holding.{Holding};
 
-use crate::asserts::{equal, started};
+use crate::asserts::{equal, failed, is_so, room_for, started};
 use crate::passes::{enter, take_pass};
 use crate::schedules::{Schedule, follow};
 use crate::sleepers::{
@@ -155,7 +155,7 @@ pub(crate) fn await_flag(rt: &impl Abort, flag: &AtomicU64) {
         }
         thread::yield_now();
     }
-    panic!(rt; "a flag is never raised")
+    failed(rt, "a flag is never raised")
 }
 
 /// How the first thread lets the lock go on which the second sleeps.
@@ -192,11 +192,11 @@ pub(crate) fn on_lot<T: Threads + Wait + Sync + Abort>(
     row: Row,
 ) {
     let Ok(values) = vec![in alloc; Count { n: 7 }; LOCKS] else {
-        panic!(rt; "no memory")
+        failed(rt, "no memory")
     };
     match Lot::<Count, Brand>::open(alloc, threads, values, 1) {
         Ok(opened) => play::<Brand, T>(rt, alloc, threads, opened, row),
-        Err(_) => panic!(rt; "not opened"),
+        Err(_) => failed(rt, "not opened"),
     }
 }
 
@@ -211,9 +211,7 @@ fn play<N: LotName<Count> + Send + Sync, T: Threads + Wait + Sync + Abort>(
     requires named { IsNamed (record { opening = N.opening; threads = N.threads; values = N.values; locks = N.locks; conds = N.conds; low = N.low; permits = N.permits }) opened }
     requires sizes { (opened.threads ≡ threads) × (length opened.values ≡ 14) × (opened.conds ≡ 1) }
 {
-    let Ok(passes) = Vec::with_capacity(alloc, threads) else {
-        panic!(rt; "no memory")
-    };
+    let passes = room_for(rt, alloc, threads);
     match opened.start::<N>(alloc) {
         Ok(lot) => {
             let (how, waits) = play_row(rt, &lot, row);
@@ -221,7 +219,7 @@ fn play<N: LotName<Count> + Send + Sync, T: Threads + Wait + Sync + Abort>(
             equal(rt, values.len(), LOCKS);
             equal(rt, (ledger.called[0], ledger.woken[0]), (waits, waits));
         }
-        Err(_) => panic!(rt; "not started"),
+        Err(_) => failed(rt, "not started"),
     }
 }
 
@@ -306,11 +304,11 @@ pub(crate) fn end<N: LotName<Count> + Send + Sync, T: Wait + Abort>(
 {
     gather(rt, &mut lot, &mut passes, threads, how);
     match lot.take_left(rt) {
-        Some(_pass) => panic!(rt; "a pass was left twice"),
+        Some(_pass) => failed(rt, "a pass was left twice"),
         None => {}
     }
     match lot.register(rt) {
-        Ok(_pass) => panic!(rt; "a pass was given twice"),
+        Ok(_pass) => failed(rt, "a pass was given twice"),
         Err(fault) => equal(rt, fault, RegisterFault::Full),
     }
     lot.close(rt, passes)
@@ -368,12 +366,12 @@ fn try_and_unlock_unparked<N: LotName<Count> + Send + Sync, T: Wait + Abort>(
     equal(rt, word(lot, 0), 0);
     let (pass, got) = try_own(lot, pass, 0);
     let Some(held) = got else {
-        panic!(rt; "a free lock was not got")
+        failed(rt, "a free lock was not got")
     };
     equal(rt, word(lot, 0), 1);
     let (pass, back) = free(lot, pass, held);
     match back {
-        Some(_held) => panic!(rt; "a lock that nobody waits for was not let go"),
+        Some(_held) => failed(rt, "a lock that nobody waits for was not let go"),
         None => {}
     }
     equal(rt, word(lot, 0), 0);
@@ -388,7 +386,7 @@ fn quiet_row<N: LotName<Count> + Send + Sync, T: Wait + Abort>(rt: &T, lot: &Lot
     let (zero, held) = own(rt, lot, zero, 0);
     let (one, got) = try_own(lot, one, 0);
     match got {
-        Some(_held) => panic!(rt; "a held lock was got"),
+        Some(_held) => failed(rt, "a held lock was got"),
         None => {}
     }
     equal(rt, word(lot, 0), 1);
@@ -474,7 +472,7 @@ fn let_go<N: LotName<Count> + Send + Sync, T: Wait + Abort>(
     equal(rt, word(lot, 0), 3);
     let (pass, back) = free(lot, pass, held);
     let Some(held) = back else {
-        panic!(rt; "a lock with a sleeper was let go without it")
+        failed(rt, "a lock with a sleeper was let go without it")
     };
     equal(rt, lot.is_held(0), true);
     let (pass, released) = match way {
@@ -573,7 +571,7 @@ fn register_in_order<N: LotName<Count> + Send + Sync, T: Wait + Abort>(
         equal(rt, one.thread(), 1);
         equal(rt, two.thread(), 2);
         match lot.register(rt) {
-            Ok(_) => panic!(rt; "a fourth pass"),
+            Ok(_) => failed(rt, "a fourth pass"),
             Err(fault) => equal(rt, fault, RegisterFault::Full),
         }
         lot.leave(rt, one);
@@ -609,7 +607,7 @@ fn add<N: LotName<Count> + Send + Sync, T: Wait + Abort>(
     let (pass, mut held) = own(rt, lot, pass, 0);
     let found = held.value().n;
     equal(rt, found, want);
-    assert!(rt; found < 1000);
+    is_so(rt, found < 1000, "few have raised it");
     *held.value_mut() = Count { n: found + 1 };
     let (pass, _) = release(rt, lot, pass, held, 0);
     pass
@@ -696,31 +694,35 @@ const REFUSED: [(usize, usize, usize, OpenFault); 3] = [
 fn bad_limits(rt: HostRuntime) {
     for (threads, locks, conds, want) in REFUSED {
         let Ok(values) = vec![in rt.alloc(); Count { n: 7 }; locks] else {
-            panic!(&rt; "no memory")
+            failed(&rt, "no memory")
         };
         match Lot::<Count, Brand>::open(rt.alloc(), threads, values, conds) {
-            Ok(_) => panic!(&rt; "opened"),
+            Ok(_) => failed(&rt, "opened"),
             Err((fault, values)) => {
-                assert_eq!(rt; fault, want);
-                assert_eq!(rt; values.len(), locks);
+                equal(&rt, fault, want);
+                equal(&rt, values.len(), locks);
             }
         }
     }
 }
 
+/// The values are these two, in this order, or the test fails.
+fn two_are(rt: &impl Abort, values: &[Count], wanted: (u64, u64)) {
+    is_so(rt, values.len() == 2, "two values come back");
+    equal(rt, (values[0].n, values[1].n), wanted);
+}
+
 #[test]
 fn an_opening_that_fails_gives_the_values_back_in_order(rt: HostRuntime) {
     let Ok(mut values) = vec![in rt.alloc(); Count { n: 7 }; 2] else {
-        panic!(&rt; "no memory")
+        failed(&rt, "no memory")
     };
     values[1] = Count { n: 8 };
     match Lot::<Count, Brand>::open(rt.alloc(), 0, values, 0) {
-        Ok(_) => panic!(&rt; "opened"),
+        Ok(_) => failed(&rt, "opened"),
         Err((fault, values)) => {
-            assert_eq!(rt; fault, OpenFault::BadThreads);
-            assert_eq!(rt; values.len(), 2);
-            assert_eq!(rt; values[0].n, 7);
-            assert_eq!(rt; values[1].n, 8);
+            equal(&rt, fault, OpenFault::BadThreads);
+            two_are(&rt, values.as_slice(), (7, 8));
         }
     }
 }
@@ -770,7 +772,5 @@ fn all_values_come_back_in_order(rt: HostRuntime) {
     };
     values[1] = Count { n: 8 };
     let values = opened_and_closed(&rt, rt.alloc(), values);
-    assert_eq!(rt; values.len(), 2);
-    assert_eq!(rt; values[0].n, 7);
-    assert_eq!(rt; values[1].n, 8);
+    two_are(&rt, values.as_slice(), (7, 8));
 }

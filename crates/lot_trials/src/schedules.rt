@@ -3,7 +3,7 @@ ghost use Rattle.std.specs.Prelude.{◌≡◌, ◌≤◌, ◌<◌};
 ghost use Rattle.lot_sync.specs.Lot.{OwnsNone};
 ghost use Rattle.lot_sync.specs.Holding.{Holding};
 
-use crate::asserts::{equal, started};
+use crate::asserts::{equal, failed, is_so, started};
 use crate::passes::enter;
 use crate::rows::{
     ASKINGS, Count, Row, await_flag, await_line, on_lot, own, release, release_fairly, try_own,
@@ -233,11 +233,11 @@ fn is_free<N: LotName<Count> + Send + Sync>(lot: &Lot<Count, N>) -> bool
 fn own_meanwhile<N: LotName<Count> + Send + Sync, T: Wait + Abort>(rt: &T, lot: &Lot<Count, N>)
     requires { (lot.now.locks ≡ 14) × (lot.now.conds ≡ 1) }
 {
-    assert!(rt; is_free(lot), "a wait keeps its lock");
+    is_so(rt, is_free(lot), "a wait lets its lock go");
     let pass = enter(rt, lot);
     let (pass, got) = try_own(lot, pass, 0);
     let Some(held) = got else {
-        panic!(rt; "the lock of a thread that waits was not got")
+        failed(rt, "the lock of a thread that waits was not got")
     };
     equal(rt, lot.line_length(rt, COND), 1);
     let (pass, released) = release(rt, lot, pass, held, 0);

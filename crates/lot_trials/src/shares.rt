@@ -4,7 +4,7 @@ ghost use Rattle.lot_sync.specs.Lot.{OwnsNone, IsWide, HasSeen};
 ghost use Rattle.lot_sync.specs.Opened.{IsNamed};
 ghost use Rattle.lot_trials.specs.Shares.{own_share};
 
-use crate::asserts::equal;
+use crate::asserts::{equal, failed, is_so, room_for};
 use crate::passes::{end, enter};
 use lot_sync::{Lot, LotName, Moment, Opened, Pass};
 use lot_words::Keeps;
@@ -83,7 +83,7 @@ fn leave_own<N: LotName<Shares> + Send + Sync, T: Wait + Abort>(
     let thread = pass.thread();
     let (pass, mut held) = lot.lock(rt, pass, 0);
     let found = *held.value();
-    assert!(rt; own_of(found, thread) < 1000);
+    is_so(rt, own_of(found, thread) < 1000, "the share is small");
     let more = raised(found, thread);
     *held.value_mut() = more;
     let (pass, _) = lot.unlock(rt, pass, held, Moment { now: 0, word: 0 });
@@ -134,11 +134,9 @@ fn play<N: LotName<Shares> + Send + Sync, T: Wait + Abort>(
     requires named { IsNamed (record { opening = N.opening; threads = N.threads; values = N.values; locks = N.locks; conds = N.conds; low = N.low; permits = N.permits }) opened }
     requires sizes { (opened.threads ≡ 2) × (length opened.values ≡ 1) }
 {
-    let Ok(passes) = Vec::with_capacity(alloc, 2) else {
-        panic!(rt; "no memory")
-    };
+    let passes = room_for(rt, alloc, 2);
     let Ok(lot) = opened.start::<N>(alloc) else {
-        panic!(rt; "not started")
+        failed(rt, "not started")
     };
     let zero = enter(rt, &lot);
     let one = enter(rt, &lot);
@@ -156,10 +154,10 @@ fn play<N: LotName<Shares> + Send + Sync, T: Wait + Abort>(
 #[test]
 fn what_a_thread_left_of_its_own_is_there(rt: HostRuntime) {
     let Ok(values) = vec![in rt.alloc(); Shares { zero: 0, one: 0 }; 1] else {
-        panic!(&rt; "no memory")
+        failed(&rt, "no memory")
     };
     match Lot::<Shares, Brand>::open(rt.alloc(), 2, values, 0) {
         Ok(opened) => play::<Brand, HostRuntime>(&rt, rt.alloc(), opened),
-        Err(_) => panic!(&rt; "not opened"),
+        Err(_) => failed(&rt, "not opened"),
     }
 }

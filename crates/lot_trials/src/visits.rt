@@ -2,7 +2,7 @@
 ghost use Rattle.std.specs.Prelude.{◌≡◌, ◌<◌, length};
 ghost use Rattle.lot_sync.specs.Opened.{IsNamed};
 
-use crate::asserts::started;
+use crate::asserts::{equal, failed, is_so, room_for, started};
 use crate::passes::end;
 use lot_sync::{Lot, LotName, Moment, Opened};
 use lot_words::Keeps;
@@ -63,7 +63,7 @@ fn visit_often<V: Visited + Send, N: LotName<V> + Send + Sync, T: Wait + Abort>(
     requires { 0 < lot.now.locks }
 {
     let Ok(mut pass) = lot.register(rt) else {
-        panic!(rt; "no pass is in")
+        failed(rt, "no pass is in")
     };
     for _ in 0..ROUNDS {
         let (owner, held) = lot.lock(rt, pass, 0);
@@ -108,11 +108,9 @@ fn play<V: Visited + Send, N: LotName<V> + Send + Sync, T: Threads + Wait + Sync
     requires named { IsNamed (record { opening = N.opening; threads = N.threads; values = N.values; locks = N.locks; conds = N.conds; low = N.low; permits = N.permits }) opened }
     requires sizes { (opened.threads ≡ 2) × (0 < length opened.values) }
 {
-    let Ok(passes) = Vec::with_capacity(alloc, 2) else {
-        panic!(rt; "no memory")
-    };
+    let passes = room_for(rt, alloc, 2);
     let Ok(lot) = opened.start::<N>(alloc) else {
-        panic!(rt; "not started")
+        failed(rt, "not started")
     };
     two_visit(rt, &lot);
     end(rt, lot, passes, 2)
@@ -124,12 +122,10 @@ fn on_visits<T: Threads + Wait + Sync + Abort>(
     alloc: Global,
     visits: Visits,
 ) -> Vec<Visits> {
-    let Ok(mut values) = Vec::with_capacity(alloc, 1) else {
-        panic!(rt; "no memory")
-    };
+    let mut values = room_for(rt, alloc, 1);
     values.push_reserved(visits);
     let Ok(opened) = Lot::<Visits, Brand>::open(alloc, 2, values, 1) else {
-        panic!(rt; "not opened")
+        failed(rt, "not opened")
     };
     play::<Visits, Brand, T>(rt, alloc, opened)
 }
@@ -140,6 +136,6 @@ fn threads_share_a_lot_whose_values_may_only_be_sent(rt: HostRuntime) {
         number: Cell::new(0),
     };
     let values = on_visits(&rt, rt.alloc(), visits);
-    assert_eq!(&rt; values.len(), 1);
-    assert_eq!(&rt; values[0].number.get(), 2 * ROUNDS);
+    is_so(&rt, values.len() == 1, "one value comes back");
+    equal(&rt, values[0].number.get(), 2 * ROUNDS);
 }

@@ -5,7 +5,7 @@ ghost use Rattle.lot_sync.specs.Lot.{OwnsNone, IsCond};
 ghost use Rattle.lot_sync.specs.Opened.{IsNamed};
 ghost use Rattle.lot_sync.specs.Holding.{Holding};
 
-use crate::asserts::{equal, started};
+use crate::asserts::{equal, failed, room_for, started};
 use crate::passes::enter;
 use crate::rows::{Count, Gathered, await_line, end, own, release};
 use lot_sync::{Held, Lot, LotName, Moment, Opened, Pass};
@@ -259,9 +259,7 @@ fn play<N: LotName<Count> + Send + Sync, T: Threads + Wait + Sync + Abort>(
     requires named { IsNamed (record { opening = N.opening; threads = N.threads; values = N.values; locks = N.locks; conds = N.conds; low = N.low; permits = N.permits }) opened }
     requires sizes { (opened.threads ≡ 4) × (length opened.values ≡ 1) × (opened.conds ≡ 13) }
 {
-    let Ok(passes) = Vec::with_capacity(alloc, 4) else {
-        panic!(rt; "no memory")
-    };
+    let passes = room_for(rt, alloc, 4);
     match opened.start::<N>(alloc) {
         Ok(lot) => {
             three_wait(rt, &lot, By::OneAndAll);
@@ -273,17 +271,17 @@ fn play<N: LotName<Count> + Send + Sync, T: Threads + Wait + Sync + Abort>(
             equal(rt, (ledger.called[0], ledger.called[12]), (7, 1));
             equal(rt, (ledger.woken[0], ledger.woken[12]), (7, 1));
         }
-        Err(_) => panic!(rt; "not started"),
+        Err(_) => failed(rt, "not started"),
     }
 }
 
 #[test]
 fn waits_are_notified(rt: HostRuntime) {
     let Ok(values) = vec![in rt.alloc(); Count { n: 7 }; 1] else {
-        panic!(&rt; "no memory")
+        failed(&rt, "no memory")
     };
     match Lot::<Count, Brand>::open(rt.alloc(), 4, values, 13) {
         Ok(opened) => play::<Brand, HostRuntime>(&rt, rt.alloc(), opened),
-        Err(_) => panic!(&rt; "not opened"),
+        Err(_) => failed(&rt, "not opened"),
     }
 }

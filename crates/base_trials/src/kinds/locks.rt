@@ -4,7 +4,7 @@ ghost use Rattle.lot_words.specs.Shown.{pass_at, root_at};
 ghost use Rattle.lot_locks.specs.Standing.{MayTake, Wants};
 ghost use Rattle.base_trials.specs.OneLock.{HasNone, IsCalm, HasIt};
 
-use crate::asserts::is_so;
+use crate::asserts::{bits_are, failed, is_so};
 use crate::kinds::asserts::{count_is, is_not, parked_is, released_is};
 use crate::kinds::tables::{EARLY, THREADS};
 use lot_locks::{KeyRoot, LockScheme, NamedPass, Released, let_go};
@@ -48,7 +48,7 @@ struct Never<'a, R> {
 
 impl<R: Abort> BeforeSleep for Never<'_, R> {
     fn run(&self) {
-        panic!(self.rt; "a thread sleeps on a lock that is not parked")
+        failed(self.rt, "a thread sleeps on a lock that is not parked")
     }
 }
 
@@ -133,7 +133,7 @@ fn park_in_vain<N: Name + Send, R: Wait + Abort>(
 fn word_is<N: Name>(rt: &impl Abort, scheme: &OneLock<N>, wanted: u64)
     requires size { scheme.now.size.locks ≡ 1 }
 {
-    assert_eq!(rt; scheme.words().bits(0), wanted);
+    bits_are(rt, scheme.words().bits(0), wanted);
 }
 
 // The lock is marked by thread 1, let go, and got by thread 2 before thread 1 parks: the parking is invalid, the line is as it was, and
@@ -184,12 +184,12 @@ fn play<N: Name + Send, R: Wait + Abort>(
     let one: Right<N> = NamedPass::new(passes.take_last());
     let zero: Right<N> = NamedPass::new(passes.take_last());
     let Ok(mut idle) = Vec::with_capacity(alloc, 1) else {
-        panic!(rt; "no memory")
+        failed(rt, "no memory")
     };
     idle.push_reserved(KeyRoot::new(roots.take_last()));
     let (lot, mut back) = match ParkingLot::open(alloc, THREADS, idle, LockScheme::new(words)) {
         Ok(opened) => opened,
-        Err(_refused) => panic!(rt; "no memory"),
+        Err(_refused) => failed(rt, "no memory"),
     };
     let (zero, one, two) = too_late(rt, &lot, zero, one, two);
     passes.push_reserved(zero.into_pass());

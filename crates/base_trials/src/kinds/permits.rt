@@ -3,7 +3,7 @@ ghost use Rattle.std.specs.Prelude.{◌≡◌, ℕ, ◌+◌, ◌<◌, ◌≤◌,
 ghost use Rattle.lot_core.specs.Parts.{IsAmongSemaphores};
 ghost use Rattle.lot_permits.specs.Permits.{HasPermit, HoldsNone, IsWide, one_less, one_more, opening_permits, permits_with};
 
-use crate::asserts::{equal, is_so};
+use crate::asserts::{equal, failed, is_so, room_for};
 use crate::kinds::asserts::{count_is, freed_is};
 use crate::kinds::tables::EARLY;
 use lot_park::ParkingLot;
@@ -42,8 +42,8 @@ fn got<N: PermitName>(
     let (seeker, tried) = try_acquire(scheme, seeker, key);
     match tried {
         Tried::Got(permit) => (seeker, permit),
-        Tried::Empty => panic!(rt; "no permit is left"),
-        Tried::Busy => panic!(rt; "nobody else is there"),
+        Tried::Empty => failed(rt, "no permit is left"),
+        Tried::Busy => failed(rt, "nobody else is there"),
     }
 }
 
@@ -60,8 +60,8 @@ fn found_none<N: PermitName>(
     let (seeker, tried) = try_acquire(scheme, seeker, key);
     match tried {
         Tried::Empty => seeker,
-        Tried::Got(_permit) => panic!(rt; "a permit too many"),
-        Tried::Busy => panic!(rt; "nobody else is there"),
+        Tried::Got(_permit) => failed(rt, "a permit too many"),
+        Tried::Busy => failed(rt, "nobody else is there"),
     }
 }
 
@@ -131,7 +131,7 @@ fn sit<N: PermitName, T: Wait + Abort>(rt: &T, seats: &Mutex<Seats<N>>, seeker: 
 {
     let mut seats = seats.lock(rt);
     let seats = &mut *seats;
-    assert!(rt; seats.idle.len() < THREADS);
+    is_so(rt, seats.idle.len() < THREADS, "a seat is free");
     seats.idle.push_reserved(Idle { seeker });
 }
 
@@ -147,7 +147,7 @@ fn stand<N: PermitName, T: Wait + Abort>(
 {
     let mut seats = seats.lock(rt);
     let Some(Idle { seeker }) = seats.idle.pop() else {
-        panic!(rt; "no seeker is there")
+        failed(rt, "no seeker is there")
     };
     count_is(rt, seeker.thread(), thread);
     seeker
@@ -268,9 +268,7 @@ fn play_rows<N: PermitName + Send + Sync, T: Threads + Wait + Sync + Abort>(
     ensures none { HoldsNone result.0 × HoldsNone result.1 }
     ensures threads { (result.0.thread ≡ 0) × (result.1.thread ≡ 1) }
 {
-    let Ok(idle) = Vec::with_capacity(alloc, THREADS) else {
-        panic!(rt; "no memory")
-    };
+    let idle = room_for(rt, alloc, THREADS);
     let seats = Mutex::new(Seats { idle });
     let zero = two_and_no_third(rt, lot, zero);
     let (zero, one) = one_for_each(rt, lot, zero, one);
@@ -279,7 +277,7 @@ fn play_rows<N: PermitName + Send + Sync, T: Threads + Wait + Sync + Abort>(
     let zero = a_sleeper_gets_it(rt, lot, &seats);
     let one = stand(rt, &seats, 1);
     let Seats { idle } = seats.into_inner();
-    assert!(rt; idle.is_empty());
+    is_so(rt, idle.is_empty(), "nobody sits");
     idle.destroy_empty();
     (zero, one)
 }
@@ -294,14 +292,14 @@ fn play<N: PermitName + Send + Sync, T: Threads + Wait + Sync + Abort>(
     requires sizes { (opened.threads ≡ 2) × (opened.low ≡ 0) × (length opened.permits ≡ 2) }
 {
     let Ok(room) = Room::<N>::new(alloc, THREADS, 2) else {
-        panic!(rt; "no memory")
+        failed(rt, "no memory")
     };
     let (scheme, mut seekers, roots, room) = opened.name(room);
     let one = seekers.take_last();
     let zero = seekers.take_last();
     let (lot, mut back) = match ParkingLot::open(alloc, THREADS, roots, scheme) {
         Ok(opened) => opened,
-        Err(_refused) => panic!(rt; "no memory"),
+        Err(_refused) => failed(rt, "no memory"),
     };
     let (zero, one) = play_rows(rt, alloc, &lot, zero, one);
     seekers.push_reserved(zero);
@@ -313,9 +311,7 @@ fn play<N: PermitName + Send + Sync, T: Threads + Wait + Sync + Abort>(
 // `try_acquire` answers Got, Got and Empty, and a release answers Quiet; where a thread sleeps, Woke.
 #[test]
 fn try_acquire_succeeds(rt: HostRuntime) {
-    let Ok(mut permits) = Vec::with_capacity(rt.alloc(), 2) else {
-        panic!(&rt; "no memory")
-    };
+    let mut permits = room_for(&rt, rt.alloc(), 2);
     permits.push_reserved(2);
     permits.push_reserved(1);
     match OpenedSems::open(rt.alloc(), THREADS, 0, permits) {

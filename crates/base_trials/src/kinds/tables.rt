@@ -2,6 +2,7 @@
 ghost use Rattle.std.specs.Prelude.{◌≡◌, ℕ, ◌≤◌, vec_len, vec_capacity};
 ghost use Rattle.lot_waits.specs.Opening.{IsIdleRoot};
 
+use crate::asserts::{failed, room_for};
 use lot_park::parts::{Border, Both, EitherRoot, OfSecond, OneOf, Whole};
 use lot_park::{Moment, ParkingLot, Root, Scheme, Token};
 use lot_waits::{CondKeyRoot, CondScheme, WaitName};
@@ -76,9 +77,7 @@ pub(crate) fn open<N: WaitName + Send>(
     ensures sizes { (result.threads ≡ THREADS) × (result.keys ≡ 2) }
     ensures words { result.scheme.second ≡ scheme }
 {
-    let Ok(mut roots) = Vec::with_capacity(alloc, 2) else {
-        panic!(rt; "no memory")
-    };
+    let mut roots = room_for(rt, alloc, 2);
     roots.push_reserved(EitherRoot::first(LockRoot { owed: None }));
     roots.push_reserved(EitherRoot::second(root));
     match ParkingLot::open(alloc, THREADS, roots, Both::new(NoLocks, scheme)) {
@@ -86,7 +85,7 @@ pub(crate) fn open<N: WaitName + Send>(
             room.destroy_empty();
             lot
         }
-        Err(_refused) => panic!(rt; "no memory"),
+        Err(_refused) => failed(rt, "no memory"),
     }
 }
 
@@ -106,7 +105,7 @@ pub(crate) fn condition_of<N: WaitName + Send>(
         let _root = root.into_root();
     }
     match last.into_one() {
-        OneOf::First(_lock) => panic!(rt; "no root of the condition"),
+        OneOf::First(_lock) => failed(rt, "no root of the condition"),
         OneOf::Second(root) => CondKeyRoot::new(root.into_root()),
     }
 }

@@ -3,7 +3,7 @@ ghost use Rattle.std.specs.Prelude.{◌≡◌, ◌<◌, IsSome, IsSomeAnd};
 ghost use Rattle.lot_waits.specs.Counts.{took as took_more, woke};
 ghost use Rattle.base_trials.specs.Waits.{EndsThere};
 
-use crate::asserts::is_so;
+use crate::asserts::{failed, is_so, room_for};
 use crate::kinds::asserts::{count_is, is_not, ledger_is};
 use crate::kinds::tables::{EARLY, THREADS, TheConds, TwoTables, condition_of, open};
 use lot_park::ParkingLot;
@@ -357,7 +357,7 @@ fn play<N: WaitName + Send + Sync, R: Threads + Wait + Abort + Sync>(
     requires size { (opened.threads ≡ 3) × (opened.locks ≡ 1) × (opened.conds ≡ 1) }
 {
     let Ok(room) = Room::<N>::new(alloc, THREADS, 1) else {
-        panic!(rt; "no memory")
+        failed(rt, "no memory")
     };
     let (scheme, mut waiters, mut roots, room) = opened.name(room);
     let two = waiters.take_last();
@@ -366,9 +366,7 @@ fn play<N: WaitName + Send + Sync, R: Threads + Wait + Abort + Sync>(
     let root = roots.take_last();
     let lot = open::<N>(rt, alloc, scheme, root);
     let (zero, one, two) = played(rt, &lot, zero, one, two, all);
-    let Ok(mut left) = Vec::with_capacity(alloc, 2) else {
-        panic!(rt; "no memory")
-    };
+    let mut left = room_for(rt, alloc, 2);
     let (_locks, scheme) = lot.close(rt, &mut left).apart();
     roots.push_reserved(condition_of(rt, left));
     waiters.push_reserved(zero);
@@ -380,7 +378,7 @@ fn play<N: WaitName + Send + Sync, R: Threads + Wait + Abort + Sync>(
 #[test]
 fn a_ledger_of_one_wait(rt: HostRuntime) {
     let Ok(opened) = OpenedConds::open(rt.alloc(), THREADS, 1, 1) else {
-        panic!(&rt; "no memory")
+        failed(&rt, "no memory")
     };
     let ledger = play::<Brand, HostRuntime>(&rt, rt.alloc(), opened, false);
     ledger_is(&rt, &ledger, &[1]);
@@ -389,7 +387,7 @@ fn a_ledger_of_one_wait(rt: HostRuntime) {
 #[test]
 fn waits_and_notifications(rt: HostRuntime) {
     let Ok(opened) = OpenedConds::open(rt.alloc(), THREADS, 1, 1) else {
-        panic!(&rt; "no memory")
+        failed(&rt, "no memory")
     };
     let ledger = play::<Brand, HostRuntime>(&rt, rt.alloc(), opened, true);
     ledger_is(&rt, &ledger, &[4]);

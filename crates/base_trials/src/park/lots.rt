@@ -8,7 +8,7 @@ use super::letters::{
     nothing_told, stays_untold, taken,
 };
 use super::rights::{EARLY, Right, idle_rights, joined, passed, passed_all, passed_first};
-use crate::asserts::{equal, is_so};
+use crate::asserts::{equal, failed, is_so, room_for};
 use lot_park::{Grown, Parked, ParkingLot, Token, UnparkResult};
 use std::alloc::Global;
 use std::process::Abort;
@@ -31,7 +31,7 @@ fn open(rt: &impl Abort, alloc: Global) -> ParkingLot<Letters>
             room.destroy_empty();
             lot
         }
-        Err(_refused) => panic!(rt; "memory"),
+        Err(_refused) => failed(rt, "memory"),
     }
 }
 
@@ -123,7 +123,7 @@ fn unpark_first<R: Wait + Abort>(
 fn close<R: Wait + Abort>(rt: &R, alloc: Global, lot: ParkingLot<Letters>)
     requires { lot.keys ≡ KEYS }
 {
-    let mut rights = Vec::with_capacity(alloc, KEYS).expect(rt, "memory");
+    let mut rights = room_for(rt, alloc, KEYS);
     let _letters = lot.close(rt, &mut rights);
     equal(rt, rights.len(), KEYS);
     for (key, right) in rights.iter().enumerate() {
@@ -229,7 +229,7 @@ fn grown<R: Wait + Abort>(rt: &R, lot: &ParkingLot<Letters>, threads: usize) -> 
 {
     match lot.ensure(rt, threads) {
         Ok(grown) => grown,
-        Err(_refused) => panic!(rt; "memory"),
+        Err(_refused) => failed(rt, "memory"),
     }
 }
 

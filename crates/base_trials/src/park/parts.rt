@@ -9,7 +9,7 @@ use super::letters::{
     Letters, Pass, THREADS, Told, await_told, no_letters, note, nothing_told, stays_untold,
 };
 use super::rights::{EARLY, Right, idle_right, joined, passed, passed_all};
-use crate::asserts::{equal, is_so};
+use crate::asserts::{equal, failed, is_so, room_for};
 use lot_park::parts::{
     Border, Both, EitherRoot, OfFirst, OfSecond, Part, Whole, park_on, unpark_all, unpark_one,
 };
@@ -81,7 +81,7 @@ fn open(rt: &impl Abort, alloc: Global) -> ParkingLot<ThreeTables>
             room.destroy_empty();
             lot
         }
-        Err(_refused) => panic!(rt; "memory"),
+        Err(_refused) => failed(rt, "memory"),
     }
 }
 
@@ -213,7 +213,7 @@ fn each_table_tells_its_own<R: Threads + Wait + Abort + Sync>(
 fn close<R: Wait + Abort>(rt: &R, alloc: Global, lot: ParkingLot<ThreeTables>)
     requires { lot.keys ≡ KEYS }
 {
-    let mut roots = Vec::with_capacity(alloc, KEYS).expect(rt, "memory");
+    let mut roots = room_for(rt, alloc, KEYS);
     let (two, _third) = lot.close(rt, &mut roots).apart();
     let (_first, _second) = two.apart();
     equal(rt, roots.len(), KEYS);

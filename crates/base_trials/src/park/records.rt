@@ -1,5 +1,6 @@
 //! Places to sleep.
 use super::askings::{ASKINGS, QUIET_ASKINGS, is_within};
+use crate::asserts::is_so;
 use lot_records::Record;
 use std::process::Abort;
 use std::sync::Wait;
@@ -41,8 +42,12 @@ fn sleeps_and_wakes<R: Threads + Wait + Abort + Sync>(
 ) -> (bool, bool) {
     thread::scope(thread::scope_env(), rt, |scope| -> (bool, bool) {
         let sleeper = move || sleep_between(rt, record, flags);
-        assert!(rt; scope.spawn(sleeper).is_ok());
-        assert!(rt; is_within(&flags.before, RAISED, ASKINGS));
+        is_so(rt, scope.spawn(sleeper).is_ok(), "it starts");
+        is_so(
+            rt,
+            is_within(&flags.before, RAISED, ASKINGS),
+            "it is about to sleep",
+        );
         let early = is_within(&flags.after, RAISED, QUIET_ASKINGS);
         record.wake(rt);
         (!early, is_within(&flags.after, RAISED, ASKINGS))
@@ -54,7 +59,7 @@ fn a_sleeper_sleeps(rt: HostRuntime) {
     let record = Record::new();
     let flags = lowered();
     let (slept, _woke) = sleeps_and_wakes(&rt, &record, &flags);
-    assert!(rt; slept);
+    is_so(&rt, slept, "it sleeps until it is woken");
 }
 
 #[test]
@@ -62,7 +67,7 @@ fn a_wake_wakes(rt: HostRuntime) {
     let record = Record::default();
     let flags = lowered();
     let (_slept, woke) = sleeps_and_wakes(&rt, &record, &flags);
-    assert!(rt; woke);
+    is_so(&rt, woke, "the wake ends its sleep");
 }
 
 // Whether a sleep that begins after a wake ends.
@@ -74,7 +79,7 @@ fn wakes_beforehand<R: Threads + Wait + Abort + Sync>(
     record.wake(rt);
     thread::scope(thread::scope_env(), rt, |scope| -> bool {
         let sleeper = move || sleep_between(rt, record, flags);
-        assert!(rt; scope.spawn(sleeper).is_ok());
+        is_so(rt, scope.spawn(sleeper).is_ok(), "it starts");
         is_within(&flags.after, RAISED, ASKINGS)
     })
 }
@@ -83,5 +88,9 @@ fn wakes_beforehand<R: Threads + Wait + Abort + Sync>(
 fn a_wake_before_the_sleep_is_kept(rt: HostRuntime) {
     let record = Record::new();
     let flags = lowered();
-    assert!(rt; wakes_beforehand(&rt, &record, &flags));
+    is_so(
+        &rt,
+        wakes_beforehand(&rt, &record, &flags),
+        "the wake is kept",
+    );
 }

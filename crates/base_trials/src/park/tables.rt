@@ -5,7 +5,7 @@ ghost use Rattle.lot_bucket.specs.Settled.{IsReady, Stays};
 
 use super::askings::{ASKINGS, is_within};
 use super::rights::{EARLY, Right, idle_rights, joined};
-use crate::asserts::{equal, equal_in, is_so};
+use crate::asserts::{equal, equal_in, failed, is_so, room_for};
 use lot_bucket::{Bucket, Root};
 use lot_table::{Grown, MOST_THREADS, Table, grown_size};
 use std::alloc::Global;
@@ -29,7 +29,7 @@ fn made(rt: &impl Abort, alloc: Global) -> Table<Right>
             room.destroy_empty();
             table
         }
-        Err(_refused) => panic!(rt; "memory"),
+        Err(_refused) => failed(rt, "memory"),
     }
 }
 
@@ -38,7 +38,7 @@ fn ensured<R: Wait + Abort>(rt: &R, table: &Table<Right>, threads: usize) -> Gro
 {
     match table.ensure(rt, threads) {
         Ok(grown) => grown,
-        Err(_refused) => panic!(rt; "memory"),
+        Err(_refused) => failed(rt, "memory"),
     }
 }
 
@@ -46,7 +46,7 @@ fn ensured<R: Wait + Abort>(rt: &R, table: &Table<Right>, threads: usize) -> Gro
 fn end<R: Wait + Abort>(rt: &R, alloc: Global, table: Table<Right>)
     requires { table.keys ≡ KEYS }
 {
-    let mut rights = Vec::with_capacity(alloc, KEYS).expect(rt, "memory");
+    let mut rights = room_for(rt, alloc, KEYS);
     table.close(rt, &mut rights);
     equal(rt, rights.len(), KEYS);
     for (key, right) in rights.iter().enumerate() {

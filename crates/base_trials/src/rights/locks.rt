@@ -6,7 +6,7 @@ ghost use Rattle.lot_words.specs.Calls.{passed_root};
 ghost use Rattle.base_trials.specs.LockSchedules.{IsPass, IsCalm, Wants, Sleeps, Owns, MayFree, MayPass, IsRoot};
 
 use super::tally::Tally;
-use crate::asserts::{bits_are, letter_is};
+use crate::asserts::{bits_are, equal, is_so, letter_is};
 use lot_words::{LockPass, LockRoot, LockWords};
 use std::process::Abort;
 use std::test::*;
@@ -59,7 +59,7 @@ fn get(
     ensures holds { result.pass.own.holds ≡ slice_set pass.pass.own.holds key Held }
 {
     let (pass, got) = take(words, pass, key);
-    assert!(rt; got);
+    is_so(rt, got, "the lock is got");
     pass
 }
 
@@ -76,7 +76,7 @@ fn want(
     ensures holds { result.pass.own.holds ≡ pass.pass.own.holds }
 {
     let (pass, got) = take(words, pass, key);
-    assert!(rt; !got);
+    is_so(rt, !got, "the lock is held");
     pass
 }
 
@@ -122,7 +122,7 @@ fn let_go(
     ensures holds { result.pass.own.holds ≡ slice_set pass.pass.own.holds key NotHeld }
 {
     let (pass, freed) = free(words, pass, key);
-    assert!(rt; freed);
+    is_so(rt, freed, "nobody has marked the lock as parked");
     pass
 }
 
@@ -139,7 +139,7 @@ fn find_parked(
     ensures holds { result.pass.own.holds ≡ slice_set pass.pass.own.holds key FoundParked }
 {
     let (pass, freed) = free(words, pass, key);
-    assert!(rt; !freed);
+    is_so(rt, !freed, "the lock is parked");
     pass
 }
 
@@ -159,9 +159,9 @@ fn lie_down(
     ensures root { IsRoot words.now.table key (pass.pass.thread ∷ []) result.1 }
 {
     let (pass, marked) = words.mark(pass, key);
-    assert!(rt; marked);
+    is_so(rt, marked, "the lock is held");
     let (pass, root, queued) = words.park(pass, root);
-    assert!(rt; queued);
+    is_so(rt, queued, "it is queued");
     (pass, root)
 }
 
@@ -220,7 +220,7 @@ fn hand_over(
     bits_are(rt, words.bits(0), 1);
     let zero = count(rt, words, zero, 0, 7);
     let (one, got) = try_take(words, one, 0);
-    assert!(rt; !got);
+    is_so(rt, !got, "the lock is held");
     let one = want(rt, words, one, 0);
     bits_are(rt, words.bits(0), 1);
     let (one, root) = lie_down(rt, words, one, root, 0);
@@ -258,7 +258,7 @@ fn barge_in(
     ensures root { (result.2.table ≡ words.now.table) × (result.2.root.key ≡ 1) }
 {
     let (zero, got) = try_take(words, zero, 1);
-    assert!(rt; got);
+    is_so(rt, got, "the lock is got");
     let zero = count(rt, words, zero, 1, 40);
     let one = want(rt, words, one, 1);
     let (one, root) = lie_down(rt, words, one, root, 1);
@@ -270,15 +270,15 @@ fn barge_in(
     let (one, letter) = collect(words, one, 1);
     letter_is(rt, letter, Some(0));
     let (one, got) = take_again(words, one, 1);
-    assert!(rt; !got);
+    is_so(rt, !got, "the lock is held");
     let zero = let_go(rt, words, zero, 1);
     bits_are(rt, words.bits(1), 0);
     let (one, marked) = words.mark(one, 1);
-    assert!(rt; !marked);
+    is_so(rt, !marked, "the lock is free");
     let (one, root, queued) = words.park(one, root);
-    assert!(rt; !queued);
+    is_so(rt, !queued, "the lock is not parked");
     let (one, got) = take_again(words, one, 1);
-    assert!(rt; got);
+    is_so(rt, got, "the lock is got");
     let one = let_go(rt, words, one, 1);
     (zero, one, root)
 }
@@ -304,7 +304,7 @@ fn handing_over_and_barging(rt: HostRuntime) -> Result<(), Fail> {
     roots.push_reserved(first);
     roots.push_reserved(second);
     let mut values = words.close(passes, roots);
-    assert_eq!(rt; values.take_last().total, 41);
-    assert_eq!(rt; values.take_last().total, 9);
+    equal(&rt, values.take_last().total, 41);
+    equal(&rt, values.take_last().total, 9);
     Ok(())
 }

@@ -1,6 +1,7 @@
 //! What lies behind a lock is known by the name in its type alone.
 ghost use Rattle.std.specs.Prelude.{◌≡◌};
 
+use crate::asserts::equal;
 use lot_rights::{Name, Named, OfOpening};
 use std::marker::Brand;
 use std::sync::Mutex;
@@ -29,7 +30,7 @@ fn through_a_lock<N: Name>(ticket: Ticket) -> (u64, u64)
 #[test]
 fn a_name_is_picked_after_the_opening(rt: HostRuntime) -> Result<(), Fail> {
     let (seen, kept) = through_a_lock::<Brand>(Ticket { words: 40 });
-    assert_eq!(rt; seen, 40);
-    assert_eq!(rt; kept, 40);
+    equal(&rt, seen, 40);
+    equal(&rt, kept, 40);
     Ok(())
 }

@@ -4,7 +4,7 @@ ghost use Rattle.std.specs.Prelude.{[], ◌∷◌};
 ghost use Rattle.base_trials.specs.SemSchedules.{IsOne, IsOf, IsFree, Has, Seeks, Sleeps, HasLine};
 ghost use Rattle.lot_sems.specs.Calls.{MayTake};
 
-use crate::asserts::{bits_are, letter_is};
+use crate::asserts::{bits_are, is_so, letter_is};
 use lot_sems::{SemPass, SemRoot, SemWords, Taken};
 use std::process::Abort;
 use std::test::*;
@@ -38,7 +38,7 @@ fn give(rt: &impl Abort, words: &SemWords, pass: SemPass) -> SemPass
     ensures { IsFree words.now.table pass.pass.thread result }
 {
     let (pass, freed) = words.free(pass, 1);
-    assert!(rt; freed);
+    is_so(rt, freed, "nobody is marked as parked");
     pass
 }
 
@@ -49,7 +49,7 @@ fn mark(rt: &impl Abort, words: &SemWords, pass: SemPass) -> SemPass
     ensures { Seeks words.now.table pass.pass.thread result }
 {
     let (pass, marked) = words.mark(pass, 1);
-    assert!(rt; marked);
+    is_so(rt, marked, "no permit is left");
     pass
 }
 
@@ -72,7 +72,7 @@ fn lie_down(rt: &impl Abort, words: &SemWords, pass: SemPass, root: SemRoot) -> 
     ensures root { HasLine words.now.table (pass.pass.thread ∷ []) result.1 }
 {
     let (pass, root, queued) = words.park(pass, root);
-    assert!(rt; queued);
+    is_so(rt, queued, "it is queued");
     (pass, root)
 }
 
@@ -113,7 +113,7 @@ fn one_permit(
     let (one, root) = lie_down(rt, words, one, root);
     bits_are(rt, words.bits(1), 1);
     let (zero, freed) = words.free(zero, 1);
-    assert!(rt; !freed);
+    is_so(rt, !freed, "somebody is marked as parked");
     let (zero, root) = words.pass_on(zero, root, Some(1), false);
     bits_are(rt, words.bits(1), 2);
     let one = look_in_vain(rt, words, one);
@@ -153,10 +153,10 @@ fn two_sleepers(
     let two = seek(rt, words, two);
     let one = mark(rt, words, one);
     let (two, marked) = words.mark(two, 1);
-    assert!(rt; !marked);
+    is_so(rt, !marked, "it is marked already");
     let (one, root) = lie_down(rt, words, one, root);
     let (two, root, queued) = words.park(two, root);
-    assert!(rt; queued);
+    is_so(rt, queued, "it is queued");
     let (zero, root) = words.pass_on(zero, root, Some(1), true);
     bits_are(rt, words.bits(1), 3);
     let root = words.post(root, 1);
@@ -194,7 +194,7 @@ fn late_release(
     let (zero, root) = words.pass_on(zero, root, None, true);
     bits_are(rt, words.bits(1), 3);
     let (one, root, queued) = words.park(one, root);
-    assert!(rt; !queued);
+    is_so(rt, !queued, "a permit came back");
     let (zero, root) = words.clear(zero, root);
     bits_are(rt, words.bits(1), 2);
     let one = give(rt, words, get(rt, words, one));
