@@ -2,4 +2,5 @@ pub mod CondSchedules
 pub mod LockSchedules
 pub mod OneLock
 pub mod SemSchedules
+pub mod TwoTables
 pub mod Waits

@@ -4,7 +4,6 @@ mod askings;
 mod buckets;
 mod letters;
 mod lots;
-mod parts;
 mod queues;
 mod records;
 mod rights;

@@ -11,7 +11,7 @@ use Rattle.lot_sems.specs.declared.views.SemRootView.{SemRootView}
 use Rattle.lot_bucket.specs.Agrees.{IsRootOf}
 use Rattle.lot_park.specs.Lots.{AreIdle}
 use Rattle.lot_park.specs.Parking.{debts, debt}
-use Rattle.lot_park.specs.declared.parts.both.OneOf.TheVariants.{First, Second}
+use Rattle.lot_park.specs.declared.parts.one_of.OneOf.TheVariants.{First, Second}
 use Rattle.lot_locks.specs.Standing.{debts_of}
 use Rattle.lot_waits.specs.Opening.{IsIdleRoot as IsIdleCond}
 use Rattle.lot_permits.specs.Opening.{IsIdleRoot as IsIdleSem}

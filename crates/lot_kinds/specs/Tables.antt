@@ -12,8 +12,8 @@ use Rattle.lot_waits.specs.Rights.{CondStanding, IsCondLooked, condition_view}
 use Rattle.lot_permits.specs.Rights.{SemStanding, IsSemLooked, semaphore_view}
 use Rattle.lot_bucket.specs.KeyLine.{KeyLine}
 use Rattle.lot_park.specs.Parts.{Tables, of_either, LookedBy, looks_first, looks_second}
-use Rattle.lot_park.specs.declared.parts.both.OneOf.{OneOf}
-use Rattle.lot_park.specs.declared.parts.both.OneOf.TheVariants.{First, Second}
+use Rattle.lot_park.specs.declared.parts.one_of.OneOf.{OneOf}
+use Rattle.lot_park.specs.declared.parts.one_of.OneOf.TheVariants.{First, Second}
 use Rattle.lot_locks.specs.Standing.{Standing, IsLooked, lock_view}
 
 -- ---- all tables

@@ -15,7 +15,7 @@ pub struct Locks;
 
 impl<V: Keeps + Send, N: LotName<V> + Send> Part<LotScheme<V, N>, LockScheme<V, N>> for Locks {
     ghost use Rattle.std.specs.Prelude.{◌<◌, length, refl};
-    ghost use Rattle.lot_park.specs.declared.parts.both.OneOf.TheVariants.{First};
+    ghost use Rattle.lot_park.specs.declared.parts.one_of.OneOf.TheVariants.{First};
     ghost use Rattle.lot_park.specs.Parts.{one_first};
     ghost use Rattle.lot_kinds.specs.Tables.{lock_looks};
 
@@ -64,7 +64,7 @@ pub struct Conds;
 
 impl<V: Keeps + Send, N: LotName<V> + Send> Part<LotScheme<V, N>, CondScheme<N>> for Conds {
     ghost use Rattle.std.specs.Prelude.{◌<◌, ◌≤◌, length, refl};
-    ghost use Rattle.lot_park.specs.declared.parts.both.OneOf.TheVariants.{First, Second};
+    ghost use Rattle.lot_park.specs.declared.parts.one_of.OneOf.TheVariants.{First, Second};
     ghost use Rattle.lot_park.specs.Parts.{one_first, one_second};
     ghost use Rattle.lot_kinds.specs.Tables.{cond_looks};
 
@@ -113,7 +113,7 @@ pub struct Sems;
 
 impl<V: Keeps + Send, N: LotName<V> + Send> Part<LotScheme<V, N>, SemScheme<N>> for Sems {
     ghost use Rattle.std.specs.Prelude.{◌≤◌, length, refl};
-    ghost use Rattle.lot_park.specs.declared.parts.both.OneOf.TheVariants.{Second};
+    ghost use Rattle.lot_park.specs.declared.parts.one_of.OneOf.TheVariants.{Second};
     ghost use Rattle.lot_park.specs.Parts.{one_second};
     ghost use Rattle.lot_kinds.specs.Tables.{sem_looks};
 

@@ -1,6 +1,6 @@
 //! The root and the pass of a key of any table.
 ghost use Rattle.std.specs.Prelude.{◌≡◌, length};
-ghost use Rattle.lot_park.specs.declared.parts.both.OneOf.TheVariants.{First};
+ghost use Rattle.lot_park.specs.declared.parts.one_of.OneOf.TheVariants.{First};
 ghost use Rattle.lot_kinds.specs.Roots.{IsFreeRoot};
 ghost use Rattle.lot_kinds.specs.Tables.{IsInItsTable};
 

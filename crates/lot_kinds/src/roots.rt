@@ -7,7 +7,7 @@ ghost use Rattle.lot_words.specs.declared.views.LockRootView.{LockRootView};
 ghost use Rattle.lot_conds.specs.declared.views.CondRootView.{CondRootView};
 ghost use Rattle.lot_sems.specs.declared.views.SemRootView.{SemRootView};
 ghost use Rattle.lot_park.specs.Lots.{AreIdle};
-ghost use Rattle.lot_park.specs.declared.parts.both.OneOf.TheVariants.{First};
+ghost use Rattle.lot_park.specs.declared.parts.one_of.OneOf.TheVariants.{First};
 ghost use Rattle.lot_waits.specs.Opening.{IsIdleRoot as IsIdleCond};
 ghost use Rattle.lot_permits.specs.Opening.{IsIdleRoot as IsIdleSem};
 ghost use Rattle.lot_kinds.specs.Room.{IsFor};

@@ -1,9 +1,8 @@
 -- Two tables of rights in one parking lot: a root, or a pass, is of the one table or of the other.
-use Rattle.std.specs.Prelude.{◌≡◌, ℕ, ◌<◌, ◌≤◌, Bool, Option}
+use Rattle.std.specs.Prelude.{◌≡◌, ℕ, Bool, Option}
 use Rattle.std.proofs.Common.{ap}
-use Rattle.lot_bucket.specs.KeyLine.{KeyLine}
-use Rattle.lot_park.specs.declared.parts.both.OneOf.{OneOf}
-use Rattle.lot_park.specs.declared.parts.both.OneOf.TheVariants.{First, Second}
+use Rattle.lot_park.specs.declared.parts.one_of.OneOf.{OneOf}
+use Rattle.lot_park.specs.declared.parts.one_of.OneOf.TheVariants.{First, Second}
 
 -- both schemes
 pub record Tables (A B : Type 0) : Type 0 where
@@ -14,11 +13,6 @@ pub record Tables (A B : Type 0) : Type 0 where
 abbrev pub of_either : {A B C : Type 0} → (A → C) → (B → C) → OneOf A B → C
 of_either first second (First x) = first x
 of_either first second (Second y) = second y
-
--- the keys below the border are those of the first table, all others those of the second
-abbrev pub IsOnItsSide : {A B : Type 0} → ℕ → (A → KeyLine) → (B → KeyLine) → OneOf A B → Type 0
-IsOnItsSide border first second (First x) = (first x).key < border
-IsOnItsSide border first second (Second y) = border ≤ (second y).key
 
 -- a look for a letter, by a pass of the table that it is of
 abbrev pub LookedBy : {A B : Type 0} → (A → Option ℕ → A → Type 0) → (B → Option ℕ → B → Type 0) → OneOf A B → Option ℕ → OneOf A B → Type 0

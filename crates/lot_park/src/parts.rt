@@ -1,17 +1,10 @@
 //! Several tables of rights in one parking lot.
 //!
-//! Each table has a scheme of its own. `Both` makes one scheme of two, whose keys a `Border` tells apart, and
-//! so one of three: the lot of `Both<Both<A, B, K>, C, L>` keeps the roots of all three. A call names its
-//! table by a `Part`: `OfFirst` and `OfSecond` are the sides, and `Whole` ends the way.
-//!
-//! | Table | Part of a lot of `Both<Both<A, B, K>, C, L>` |
-//! |---|---|
-//! | A | `OfFirst<OfFirst<Whole>>` |
-//! | B | `OfFirst<OfSecond<Whole>>` |
-//! | C | `OfSecond<Whole>` |
+//! Each table has a scheme of its own, and the lot one that keeps the roots and passes of all: a root or a pass of two tables is `OneOf` the one
+//! or the other, and so are those of three (`LotScheme` of `lot_kinds`). A call names its table by a `Part`; `Whole` is the only table of a lot.
 //!
 //! The calls' callbacks are handed the table's own roots and passes, and their contracts speak of these
-//! alone: `unpark_one::<S, B, OfFirst<OfSecond<Whole>>, _, _, _>(rt, &lot, key, moment, x, callback)`.
+//! alone: `unpark_one::<S, A, P, _, _, _>(rt, &lot, key, moment, x, callback)` for the part P of the lot of S that is the table of A.
 
 ghost use Rattle.std.specs.Prelude.{◌≡◌, ℕ, ◌<◌, true, []};
 ghost use Rattle.lot_park.specs.Parking.{Tells, MayUnpark, Unparks, UnparkedOne, MayUnparkAll, UnparksAll, UnparkedAll, MayUnparkCount, UnparksCount, UnparkedCount, MayValidate, Validates, ParkedOnce};
@@ -22,11 +15,11 @@ use crate::scheme::{Scheme, Token};
 use lot_bucket::{Dequeued, Moment, Root};
 use std::sync::Wait;
 
-pub mod both;
-pub mod side;
+pub mod one_of;
+pub mod part;
 
-pub use both::{Border, Both, EitherRoot, OneOf};
-pub use side::{OfFirst, OfSecond, Part, Whole};
+pub use one_of::OneOf;
+pub use part::{Part, Whole};
 
 /// `ParkingLot::unpark_one` on a key of one table.
 pub fn unpark_one<

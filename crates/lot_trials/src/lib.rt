@@ -12,6 +12,8 @@ mod asserts;
 #[cfg(test)]
 mod calls;
 #[cfg(test)]
+mod counts;
+#[cfg(test)]
 mod example;
 #[cfg(test)]
 mod history;
@@ -31,8 +33,6 @@ mod rows;
 mod schedules;
 #[cfg(test)]
 mod shares;
-#[cfg(test)]
-mod sleepers;
 #[cfg(test)]
 mod texts;
 #[cfg(test)]

@@ -1,9 +1,9 @@
-//! Threads that register with a lot, beside one that sleeps on a lock.
+//! Threads that register with a lot beside one that sleeps on a lock, where memory may be refused.
 ghost use Rattle.std.specs.Prelude.{◌≡◌, ℕ, ◌≤◌, ◌<◌, length, vec_len, vec_capacity};
 ghost use Rattle.lot_sync.specs.Lot.{OwnsNone};
 ghost use Rattle.lot_sync.specs.Opened.{IsNamed};
 
-use crate::asserts::{equal, failed, is_so, started};
+use crate::asserts::{equal, failed, is_so};
 use crate::passes::end;
 use lot_sync::{Lot, LotName, Moment, OpenFault, Opened, Pass, RegisterFault, Released};
 use lot_words::Keeps;
@@ -11,7 +11,6 @@ use std::alloc::Global;
 use std::marker::Brand;
 use std::process::Abort;
 use std::sync::Wait;
-use std::sync::atomic::{AtomicU64, Ordering};
 use std::test::*;
 use std::thread;
 use std::thread::Threads;
@@ -36,6 +35,9 @@ impl Keeps for Number {
     ghost grows_on = { λ x y z p q. tt };
 }
 
+/// With the fifth pass that is out the table grows a second time.
+const THREADS: usize = 5;
+
 /// How often a test asks before it fails.
 pub(crate) const ASKINGS: u64 = 10_000_000;
 
@@ -46,42 +48,11 @@ pub(crate) enum Memory {
     MayBeRefused,
 }
 
-/// What the threads of a trial share.
-#[derive(Drop)]
-struct Shared {
-    memory: Memory,
-    /// How many threads have come so far as their test wants.
-    come: AtomicU64,
-    /// Raised when they may go on.
-    go: AtomicU64,
-}
-
-impl Shared {
-    fn new(memory: Memory) -> Shared {
-        Shared {
-            memory,
-            come: AtomicU64::new(0),
-            go: AtomicU64::new(0),
-        }
-    }
-}
-
-/// Whether the word comes to so many, asked a bounded number of times.
-fn comes_to(word: &AtomicU64, count: u64) -> bool {
-    for _ in 0..ASKINGS {
-        if word.load(Ordering::SeqCst) >= count {
-            return true;
-        }
-        thread::yield_now();
-    }
-    false
-}
-
 /// A request for memory may be refused in this trial, or the test fails.
-fn may_be_refused(rt: &impl Abort, shared: &Shared) {
+fn may_be_refused(rt: &impl Abort, memory: Memory) {
     is_so(
         rt,
-        shared.memory == Memory::MayBeRefused,
+        memory == Memory::MayBeRefused,
         "a request may be refused here",
     );
 }
@@ -103,7 +74,7 @@ fn somebody_sleeps<N: LotName<Number> + Send + Sync, T: Wait>(rt: &T, lot: &Lot<
 fn enter<N: LotName<Number> + Send + Sync, T: Wait + Abort>(
     rt: &T,
     lot: &Lot<Number, N>,
-    shared: &Shared,
+    memory: Memory,
 ) -> Pass<Number, N>
     requires { 0 < lot.now.locks }
     ensures { OwnsNone result }
@@ -113,7 +84,7 @@ fn enter<N: LotName<Number> + Send + Sync, T: Wait + Abort>(
         Ok(pass) => pass,
         Err(fault) => {
             equal(rt, fault, RegisterFault::NoMemory);
-            may_be_refused(rt, shared);
+            may_be_refused(rt, memory);
             equal(rt, (lot.table_size(rt), lot.line_length(rt, 0)), before);
             match lot.register(rt) {
                 Ok(pass) => pass,
@@ -127,11 +98,11 @@ fn enter<N: LotName<Number> + Send + Sync, T: Wait + Abort>(
 fn sleeper<N: LotName<Number> + Send + Sync, T: Wait + Abort>(
     rt: &T,
     lot: &Lot<Number, N>,
-    shared: &Shared,
+    memory: Memory,
 )
     requires { 0 < lot.now.locks }
 {
-    let pass = enter(rt, lot, shared);
+    let pass = enter(rt, lot, memory);
     equal(rt, pass.thread(), 1);
     let (pass, mut held) = lot.lock(rt, pass, 0);
     held.value_mut().n = 9;
@@ -143,15 +114,15 @@ fn sleeper<N: LotName<Number> + Send + Sync, T: Wait + Abort>(
 fn three_more<N: LotName<Number> + Send + Sync, T: Wait + Abort>(
     rt: &T,
     lot: &Lot<Number, N>,
-    shared: &Shared,
+    memory: Memory,
 )
     requires { 0 < lot.now.locks }
 {
     equal(rt, somebody_sleeps(rt, lot), true);
-    let two = enter(rt, lot, shared);
-    let three = enter(rt, lot, shared);
+    let two = enter(rt, lot, memory);
+    let three = enter(rt, lot, memory);
     equal(rt, lot.table_size(rt), 12);
-    let four = enter(rt, lot, shared);
+    let four = enter(rt, lot, memory);
     equal(rt, (two.thread(), three.thread(), four.thread()), (2, 3, 4));
     equal(rt, lot.table_size(rt), 30);
     equal(rt, lot.line_length(rt, 0), 1);
@@ -164,7 +135,7 @@ fn three_more<N: LotName<Number> + Send + Sync, T: Wait + Abort>(
 fn grow_past_a_sleeper<N: LotName<Number> + Send + Sync, T: Threads + Wait + Sync + Abort>(
     rt: &T,
     lot: &Lot<Number, N>,
-    shared: &Shared,
+    memory: Memory,
 )
     requires { 0 < lot.now.locks }
 {
@@ -174,14 +145,14 @@ fn grow_past_a_sleeper<N: LotName<Number> + Send + Sync, T: Threads + Wait + Syn
         |scope|
             requires { 0 < lot.now.locks }
         {
-            let pass = enter(rt, lot, shared);
+            let pass = enter(rt, lot, memory);
             let (pass, held) = lot.lock(rt, pass, 0);
             let job = move ||
                 requires { 0 < lot.now.locks }
-            { sleeper(rt, lot, shared) };
+            { sleeper(rt, lot, memory) };
             let sleeps = scope.spawn(job).is_ok();
             if sleeps {
-                three_more(rt, lot, shared);
+                three_more(rt, lot, memory);
             }
             let (pass, released) = lot.unlock(rt, pass, held, Moment { now: 0, word: 7 });
             let want = if sleeps {
@@ -195,132 +166,46 @@ fn grow_past_a_sleeper<N: LotName<Number> + Send + Sync, T: Threads + Wait + Syn
     );
 }
 
-/// Registers, waits for the other, and leaves when it may.
-fn register_beside<N: LotName<Number> + Send + Sync, T: Wait + Abort>(
-    rt: &T,
-    lot: &Lot<Number, N>,
-    shared: &Shared,
-)
-    requires { 0 < lot.now.locks }
-{
-    let pass = enter(rt, lot, shared);
-    shared.come.fetch_add(1, Ordering::SeqCst);
-    equal(rt, comes_to(&shared.go, 1), true);
-    lot.leave(rt, pass);
-}
-
-/// Two more have registered: the table is large enough, and no pass is left. They may go.
-fn both_have_come<N: LotName<Number> + Send + Sync, T: Wait + Abort>(
-    rt: &T,
-    lot: &Lot<Number, N>,
-    shared: &Shared,
-)
-    requires { 0 < lot.now.locks }
-{
-    equal(rt, comes_to(&shared.come, 2), true);
-    let size = lot.table_size(rt);
-    is_so(rt, size == 30 || size == 36, "the size is 30 or 36");
-    match lot.register(rt) {
-        Ok(_) => failed(rt, "a seventh pass"),
-        Err(fault) => equal(rt, fault, RegisterFault::Full),
-    }
-    shared.go.store(1, Ordering::SeqCst);
-}
-
-/// Four threads have registered, and then two at once: whichever lets the table grow, it is large enough, and no pass is left.
-fn two_at_once<N: LotName<Number> + Send + Sync, T: Threads + Wait + Sync + Abort>(
-    rt: &T,
-    lot: &Lot<Number, N>,
-    shared: &Shared,
-)
-    requires { 0 < lot.now.locks }
-{
-    thread::scope(
-        thread::scope_env(),
-        rt,
-        |scope|
-            requires { 0 < lot.now.locks }
-        {
-            let zero = enter(rt, lot, shared);
-            let one = enter(rt, lot, shared);
-            let two = enter(rt, lot, shared);
-            let three = enter(rt, lot, shared);
-            equal(rt, lot.table_size(rt), 12);
-            let fifth = move ||
-                requires { 0 < lot.now.locks }
-            { register_beside(rt, lot, shared) };
-            started(rt, scope.spawn(fifth).is_ok());
-            let sixth = move ||
-                requires { 0 < lot.now.locks }
-            { register_beside(rt, lot, shared) };
-            started(rt, scope.spawn(sixth).is_ok());
-            both_have_come(rt, lot, shared);
-            lot.leave(rt, zero);
-            lot.leave(rt, one);
-            lot.leave(rt, two);
-            lot.leave(rt, three);
-        },
-    );
-}
-
-/// What is tried on a lot.
-#[derive(Clone, Copy, PartialEq, Eq)]
-enum Trial {
-    GrowPastASleeper,
-    TwoAtOnce,
-}
-
 /// Starts the lot, tries, and closes it. Gives the values back, also where memory is refused at the start.
 fn play<N: LotName<Number> + Send + Sync, T: Threads + Wait + Sync + Abort>(
     rt: &T,
     alloc: Global,
     opened: Opened<Number>,
-    threads: usize,
-    trial: Trial,
-    shared: &Shared,
+    memory: Memory,
 ) -> Vec<Number>
     requires named { IsNamed (record { opening = N.opening; threads = N.threads; values = N.values; locks = N.locks; conds = N.conds; low = N.low; permits = N.permits }) opened }
-    requires sizes { (opened.threads ≡ threads) × (0 < length opened.values) }
+    requires sizes { (opened.threads ≡ THREADS) × (0 < length opened.values) }
 {
-    let Ok(passes) = Vec::with_capacity(alloc, threads) else {
-        may_be_refused(rt, shared);
+    let Ok(passes) = Vec::with_capacity(alloc, THREADS) else {
+        may_be_refused(rt, memory);
         return opened.close();
     };
     match opened.start::<N>(alloc) {
         Ok(lot) => {
-            match trial {
-                Trial::GrowPastASleeper => grow_past_a_sleeper(rt, &lot, shared),
-                Trial::TwoAtOnce => two_at_once(rt, &lot, shared),
-            }
-            end(rt, lot, passes, threads)
+            grow_past_a_sleeper(rt, &lot, memory);
+            end(rt, lot, passes, THREADS)
         }
         Err((fault, values)) => {
             passes.destroy_empty();
             equal(rt, fault, OpenFault::NoMemory);
-            may_be_refused(rt, shared);
+            may_be_refused(rt, memory);
             values
         }
     }
 }
 
-/// Tries on a lot for so many threads, with one lock and one condition.
-fn tried<T: Threads + Wait + Sync + Abort>(
-    rt: &T,
-    alloc: Global,
-    threads: usize,
-    trial: Trial,
-    shared: &Shared,
-) {
+/// Tries on a lot with two locks and one condition.
+fn tried<T: Threads + Wait + Sync + Abort>(rt: &T, alloc: Global, memory: Memory) {
     let Ok(mut values) = vec![in alloc; Number { n: 7 }; 2] else {
-        may_be_refused(rt, shared);
+        may_be_refused(rt, memory);
         return;
     };
     values[1] = Number { n: 8 };
-    let values = match Lot::<Number, Brand>::open(alloc, threads, values, 1) {
-        Ok(opened) => play::<Brand, T>(rt, alloc, opened, threads, trial, shared),
+    let values = match Lot::<Number, Brand>::open(alloc, THREADS, values, 1) {
+        Ok(opened) => play::<Brand, T>(rt, alloc, opened, memory),
         Err((fault, values)) => {
             equal(rt, fault, OpenFault::NoMemory);
-            may_be_refused(rt, shared);
+            may_be_refused(rt, memory);
             values
         }
     };
@@ -335,18 +220,10 @@ fn tried<T: Threads + Wait + Sync + Abort>(
 
 #[test]
 fn a_refused_registration_changes_nothing(rt: HostRuntime) {
-    let shared = Shared::new(Memory::MayBeRefused);
-    tried(&rt, rt.alloc(), 5, Trial::GrowPastASleeper, &shared);
+    tried(&rt, rt.alloc(), Memory::MayBeRefused);
 }
 
 #[test]
 fn nothing_answers_no_memory_for_nothing(rt: HostRuntime) {
-    let shared = Shared::new(Memory::Ample);
-    tried(&rt, rt.alloc(), 5, Trial::GrowPastASleeper, &shared);
-}
-
-#[test]
-fn two_threads_register_at_once(rt: HostRuntime) {
-    let shared = Shared::new(Memory::Ample);
-    tried(&rt, rt.alloc(), 6, Trial::TwoAtOnce, &shared);
+    tried(&rt, rt.alloc(), Memory::Ample);
 }

@@ -1,405 +1,728 @@
-//! Waits, notifications and growth in an order that is made by hand: threads are held at flags while others act.
-ghost use Rattle.std.specs.Prelude.{◌≡◌, ◌≤◌, ◌<◌};
+//! Schedules: what threads do on a lot one after the other, row by row, and what each row leaves.
+ghost use Rattle.std.specs.Prelude.{◌≡◌, ◌≤◌, ◌<◌, length};
 ghost use Rattle.lot_sync.specs.Lot.{OwnsNone};
-ghost use Rattle.lot_sync.specs.Holding.{Holding};
+ghost use Rattle.lot_sync.specs.Holding.{Holding, HoldingBoth};
+ghost use Rattle.lot_sync.specs.Opened.{IsNamed};
+ghost use Rattle.lot_trials.specs.Schedules.{HasPermits, HasSizes, MayHave};
 
-use crate::asserts::{equal, failed, is_so, started};
-use crate::passes::enter;
-use crate::rows::{
-    ASKINGS, Count, Row, await_flag, await_line, on_lot, own, release, release_fairly, try_own,
-    word,
+use crate::asserts::{equal, failed, is_so, room_for, started};
+use crate::counts::{
+    ASKINGS, Count, Gathered, await_line, call_all, call_one, call_owning, call_some, end, free,
+    is_free, own, own_at_gate, own_second, raise, release, release_fairly, release_first, try_own,
+    wait_at_gate, wait_once, word,
 };
-use crate::sleepers::{own_at_gate, sleeper};
-use crate::waits::call_one;
-use lot_sync::{BeforeSleep, Held, Lot, LotName, Moment, Pass, Released};
+use crate::passes::enter;
+use lot_sync::{
+    Freed, Held, Lot, LotName, Moment, Opened, Pass, Permit, RegisterFault, Released, Tried,
+};
+use std::alloc::Global;
+use std::marker::Brand;
 use std::process::Abort;
 use std::sync::Wait;
 use std::sync::atomic::{AtomicU64, Ordering};
-use std::test::*;
 use std::thread;
 use std::thread::Threads;
 
-/// The lot's one condition: its number follows those of the locks.
-const COND: usize = 14;
+/// The lot of a schedule has so many locks.
+pub(crate) const LOCKS: usize = 14;
 
-/// What the threads of a schedule tell each other.
-#[derive(Drop)]
-struct Flags {
-    /// Raised by the first of two threads that meet, or where it may go on.
-    first: AtomicU64,
-    /// Raised by the second.
-    second: AtomicU64,
-    /// Raised by a thread that owns its lock again.
-    back: AtomicU64,
+/// It has so many conditions, and their numbers follow those of the locks.
+const CONDS: usize = 13;
+
+/// It has a semaphore of two permits and one of one. Their numbers follow those of the conditions.
+const PERMITS: [u32; 2] = [2, 1];
+
+/// What one thread does in a row, or looks for. The words of releases and calls are 7.
+#[derive(Clone, Copy)]
+pub(crate) enum Step {
+    /// Registers, and is given the pass of this number.
+    Register(usize),
+    /// Registers beside another that does, and is given any pass: the next row is made meanwhile.
+    RegisterBeside,
+    /// Registers, and is refused since all passes are out.
+    Full,
+    /// Gives its pass back.
+    Leave,
+    /// Gets this lock.
+    Lock(usize),
+    /// The same, and sleeps before: the next row is made meanwhile.
+    Sleep(usize),
+    /// The same, but looks for its letter only after the gate was opened.
+    SleepAtGate(usize),
+    /// Gets this lock by `try_lock`, or doesn't.
+    TryLock(usize, bool),
+    /// Finds so many behind its lock, and leaves one more.
+    Raise(u64),
+    /// Lets its lock go by `unlock` at this moment, and this becomes of it.
+    Unlock(u64, Released),
+    /// Lets the first of its two locks go at moment 0, and this becomes of it.
+    UnlockFirst(Released),
+    /// Lets its lock go by `unlock_fairly` at moment 0, and this becomes of it.
+    UnlockFairly(Released),
+    /// Lets its lock go by `unlock_unparked`, or has it still.
+    UnlockUnparked(bool),
+    /// Lets its lock go at moment 0, whatever becomes of it.
+    LetGo,
+    /// Waits on this condition, with a release of its lock at this moment, and lets the lock go when it has it again. The next row is made meanwhile.
+    Wait(usize, u64),
+    /// The same at moment 5, but it lets the lock go only after the gate was opened.
+    WaitAtGate(usize),
+    /// Notifies one on this condition at this moment, and takes somebody or nobody.
+    NotifyOne(usize, u64, bool),
+    /// Notifies so many at most, takes so many, and leaves the flag set or not.
+    NotifySome(usize, usize, (usize, bool)),
+    /// Notifies all, and takes so many.
+    NotifyAll(usize, usize),
+    /// The condition's flag is set, or not.
+    HasWaiters(usize, bool),
+    /// Gets a permit of this semaphore.
+    Acquire(usize),
+    /// The same, and sleeps before: the next row is made meanwhile.
+    SleepFor(usize),
+    /// Gets a permit of this semaphore by `try_acquire`, or none is left.
+    TryAcquire(usize, bool),
+    /// Gives its last permit back at this moment, and this becomes of it.
+    Release(u64, Freed),
+    /// The threads that are held at the gate may go on.
+    OpenGate,
+    /// The word of this lock: 1 where it is held, and 2 more where it is parked.
+    Word(usize, u64),
+    /// So many are in the line of this key.
+    Line(usize, usize),
+    /// So many come to be in the line of this key.
+    AwaitLine(usize, usize),
+    /// Nobody owns this lock any more.
+    AwaitFree(usize),
+    /// The table has so many buckets.
+    Size(usize),
+    /// It has the one number of buckets or the other.
+    EitherSize(usize, usize),
 }
 
-impl Flags {
-    fn new() -> Flags {
-        Flags {
-            first: AtomicU64::new(0),
-            second: AtomicU64::new(0),
-            back: AtomicU64::new(0),
+impl Step {
+    /// Whether the next row is made while the thread sleeps.
+    fn sleeps(self) -> bool {
+        match self {
+            Step::Sleep(_) | Step::SleepAtGate(_) | Step::SleepFor(_) => true,
+            Step::Wait(_, _) | Step::WaitAtGate(_) | Step::RegisterBeside => true,
+            _ => false,
         }
     }
 }
 
-/// A thread raises its flag here, and is held until the other one is raised.
+/// What a thread has between its steps.
+pub(crate) enum Standing<P, H, R> {
+    Out,
+    Calm(P),
+    Owner(P, H),
+    OwnerOfTwo(P, H, H),
+    Holder(P, R),
+    HolderOfTwo(P, R, R),
+}
+
+/// What the threads of a schedule share.
 #[derive(Drop)]
-struct Meeting<'a, T> {
-    rt: &'a T,
-    own: &'a AtomicU64,
-    other: &'a AtomicU64,
+struct Stage {
+    /// The number of the row that is made next.
+    turn: AtomicU64,
+    /// Raised when those that are held at the gate may go on.
+    gate: AtomicU64,
 }
 
-impl<T: Wait + Abort> BeforeSleep for Meeting<'_, T> {
-    fn run(&self) {
-        self.own.store(1, Ordering::SeqCst);
-        await_flag(self.rt, self.other);
-    }
-}
-
-/// Nothing: a wait goes on at once.
-struct AtOnce;
-
-impl BeforeSleep for AtOnce {
-    fn run(&self) {}
-}
-
-/// `wait` with an action after the thread is queued, and what the test has of it. A thread that sleeps on the lock is handed it.
-fn wait_after<N: LotName<Count> + Send + Sync, T: Wait, B: BeforeSleep>(
-    rt: &T,
-    lot: &Lot<Count, N>,
-    pass: Pass<Count, N>,
-    held: Held<Count, N>,
-    before: &B,
-) -> (Pass<Count, N>, Held<Count, N>)
-    requires sizes { (lot.now.locks ≡ 14) × (lot.now.conds ≡ 1) }
-    requires key { held.key ≡ 0 }
-    requires holding { Holding (λ x y. x.n ≤ y.n) pass held }
-    ensures key { result.1.key ≡ 0 }
-    ensures holding { Holding (λ x y. x.n ≤ y.n) result.0 result.1 }
-{
-    let moment = Moment { now: 5, word: 7 };
-    lot.wait_after(rt, pass, held, COND, moment, before)
-}
-
-/// A thread that waits once, with the lock, and says when it owns the lock again.
-fn wait_once<N: LotName<Count> + Send + Sync, T: Wait + Abort, B: BeforeSleep>(
-    rt: &T,
-    lot: &Lot<Count, N>,
-    before: &B,
-    back: &AtomicU64,
-)
-    requires { (lot.now.locks ≡ 14) × (lot.now.conds ≡ 1) }
-{
-    let pass = enter(rt, lot);
-    let (pass, held) = own(rt, lot, pass, 0);
-    let (pass, held) = wait_after(rt, lot, pass, held, before);
-    equal(rt, lot.is_held(0), true);
-    back.store(1, Ordering::SeqCst);
-    let (pass, _) = release(rt, lot, pass, held, 0);
-    lot.leave(rt, pass);
-}
-
-/// The one thread of the condition's line is taken, and then nobody.
-fn take_one<N: LotName<Count> + Send + Sync, T: Wait + Abort>(rt: &T, lot: &Lot<Count, N>)
-    requires { (lot.now.locks ≡ 14) × (lot.now.conds ≡ 1) }
-{
-    equal(rt, lot.line_length(rt, COND), 1);
-    let pass = enter(rt, lot);
-    let (pass, took) = call_one(rt, lot, pass, COND);
-    equal(rt, took, true);
-    equal(rt, lot.line_length(rt, COND), 0);
-    let (pass, took) = call_one(rt, lot, pass, COND);
-    equal(rt, took, false);
-    lot.leave(rt, pass);
-}
-
-/// A thread is taken that is queued on the condition and owns its lock still: it lets the lock go, does not sleep, and gets it again.
-fn taken_before_its_sleep<N: LotName<Count> + Send + Sync, T: Threads + Wait + Sync + Abort>(
-    rt: &T,
-    lot: &Lot<Count, N>,
-    flags: &Flags,
-)
-    requires { (lot.now.locks ≡ 14) × (lot.now.conds ≡ 1) }
-{
-    thread::scope(
-        thread::scope_env(),
-        rt,
-        |scope|
-            requires { (lot.now.locks ≡ 14) × (lot.now.conds ≡ 1) }
-        {
-            let waiter = move ||
-                requires { (lot.now.locks ≡ 14) × (lot.now.conds ≡ 1) }
-            {
-                let before = Meeting {
-                    rt,
-                    own: &flags.first,
-                    other: &flags.second,
-                };
-                wait_once(rt, lot, &before, &flags.back)
-            };
-            started(rt, scope.spawn(waiter).is_ok());
-            await_flag(rt, &flags.first);
-            equal(rt, word(lot, 0), 1);
-            take_one(rt, lot);
-            equal(rt, word(lot, 0), 1);
-            flags.second.store(1, Ordering::SeqCst);
-            await_flag(rt, &flags.back);
-        },
-    );
-}
-
-/// Takes the thread that waits, while this one owns the lock.
-fn call_owning<N: LotName<Count> + Send + Sync, T: Wait + Abort>(
-    rt: &T,
-    lot: &Lot<Count, N>,
-    pass: Pass<Count, N>,
-    held: &Held<Count, N>,
-) -> Pass<Count, N>
-    requires sizes { (lot.now.locks ≡ 14) × (lot.now.conds ≡ 1) }
-    requires holding { Holding (λ x y. x.n ≤ y.n) pass held.now }
-    ensures { Holding (λ x y. x.n ≤ y.n) result held.now }
-{
-    let (told, took) = lot.notify_one(rt, pass, COND, Moment { now: 0, word: 7 });
-    equal(rt, took, true);
-    told
-}
-
-/// A thread that sleeps on the lock, is handed it by the other one's wait, and notifies.
-fn call_as_owner<N: LotName<Count> + Send + Sync, T: Wait + Abort>(rt: &T, lot: &Lot<Count, N>)
-    requires { (lot.now.locks ≡ 14) × (lot.now.conds ≡ 1) }
-{
-    let pass = enter(rt, lot);
-    let (pass, held) = own(rt, lot, pass, 0);
-    equal(rt, word(lot, 0), 3);
-    let pass = call_owning(rt, lot, pass, &held);
-    equal(rt, lot.line_length(rt, COND), 0);
-    let (pass, _) = release(rt, lot, pass, held, 0);
-    lot.leave(rt, pass);
-}
-
-/// A wait hands the lock to the thread in its line, which takes the waiting thread from the condition's line: that one gets the lock again.
-fn handed_by_a_wait<N: LotName<Count> + Send + Sync, T: Threads + Wait + Sync + Abort>(
-    rt: &T,
-    lot: &Lot<Count, N>,
-    flags: &Flags,
-)
-    requires { (lot.now.locks ≡ 14) × (lot.now.conds ≡ 1) }
-{
-    thread::scope(
-        thread::scope_env(),
-        rt,
-        |scope|
-            requires { (lot.now.locks ≡ 14) × (lot.now.conds ≡ 1) }
-        {
-            let waiter = move ||
-                requires { (lot.now.locks ≡ 14) × (lot.now.conds ≡ 1) }
-            {
-                let before = Meeting {
-                    rt,
-                    own: &flags.first,
-                    other: &flags.second,
-                };
-                wait_once(rt, lot, &before, &flags.back)
-            };
-            started(rt, scope.spawn(waiter).is_ok());
-            await_flag(rt, &flags.first);
-            let caller = move ||
-                requires { (lot.now.locks ≡ 14) × (lot.now.conds ≡ 1) }
-            { call_as_owner(rt, lot) };
-            started(rt, scope.spawn(caller).is_ok());
-            await_line(rt, lot, 0, 1);
-            flags.second.store(1, Ordering::SeqCst);
-            await_flag(rt, &flags.back);
-        },
-    );
-}
-
-/// Whether nobody owns the lock, asked a bounded number of times.
-fn is_free<N: LotName<Count> + Send + Sync>(lot: &Lot<Count, N>) -> bool
-    requires { lot.now.locks ≡ 14 }
-{
+/// Waits until it is the row's turn, asking a bounded number of times, or the test fails.
+fn await_turn(rt: &impl Abort, stage: &Stage, row: usize) {
     for _ in 0..ASKINGS {
-        if !lot.is_held(0) {
-            return true;
+        if stage.turn.load(Ordering::SeqCst) == row as u64 {
+            return;
         }
         thread::yield_now();
     }
-    false
+    panic!(rt; "row {row} is never made")
 }
 
-/// A thread waits, and another one owns the lock meanwhile.
-fn own_meanwhile<N: LotName<Count> + Send + Sync, T: Wait + Abort>(rt: &T, lot: &Lot<Count, N>)
-    requires { (lot.now.locks ≡ 14) × (lot.now.conds ≡ 1) }
+/// The row was made, or its thread sleeps: the next one may be made.
+fn pass_on(stage: &Stage) {
+    stage.turn.fetch_add(1, Ordering::SeqCst);
+}
+
+/// The key is a lock's, or the test fails.
+fn lock_key(rt: &impl Abort, key: usize)
+    ensures { key < 14 }
 {
-    is_so(rt, is_free(lot), "a wait lets its lock go");
+    is_so(rt, key < LOCKS, "it is the key of a lock");
+}
+
+/// The key is a condition's, or the test fails.
+fn cond_key(rt: &impl Abort, key: usize)
+    ensures { (14 ≤ key) × (key < 27) }
+{
+    is_so(rt, LOCKS <= key, "it is no key of a lock");
+    is_so(rt, key < LOCKS + CONDS, "it is the key of a condition");
+}
+
+/// The key is a semaphore's, or the test fails.
+fn sem_key(rt: &impl Abort, key: usize)
+    ensures { (27 ≤ key) × (key < 29) }
+{
+    is_so(rt, LOCKS + CONDS <= key, "it is no key of a condition");
+    any_key(rt, key);
+}
+
+/// The key is one of the lot's, or the test fails.
+fn any_key(rt: &impl Abort, key: usize)
+    ensures { key < 29 }
+{
+    is_so(rt, key < LOCKS + CONDS + PERMITS.len(), "it is a key");
+}
+
+/// Looks for what the step says, if that is all that it does.
+fn looks<N: LotName<Count> + Send + Sync, T: Wait + Abort>(
+    rt: &T,
+    lot: &Lot<Count, N>,
+    stage: &Stage,
+    step: Step,
+) -> bool
+    requires { HasSizes lot.now }
+{
+    match step {
+        Step::Word(key, wanted) => {
+            lock_key(rt, key);
+            equal(rt, word(lot, key), wanted);
+        }
+        Step::AwaitFree(key) => {
+            lock_key(rt, key);
+            is_so(rt, is_free(lot, key), "a wait lets its lock go");
+        }
+        Step::Line(key, count) => {
+            any_key(rt, key);
+            equal(rt, lot.line_length(rt, key), count);
+        }
+        Step::AwaitLine(key, count) => {
+            any_key(rt, key);
+            await_line(rt, lot, key, count);
+        }
+        Step::Size(buckets) => equal(rt, lot.table_size(rt), buckets),
+        Step::EitherSize(few, many) => {
+            let buckets = lot.table_size(rt);
+            is_so(rt, buckets == few || buckets == many, "it has grown");
+        }
+        Step::OpenGate => stage.gate.store(1, Ordering::SeqCst),
+        Step::Full => is_full(rt, lot),
+        _ => return false,
+    }
+    true
+}
+
+/// No pass is in.
+fn is_full<N: LotName<Count> + Send + Sync, T: Wait + Abort>(rt: &T, lot: &Lot<Count, N>) {
+    match lot.register(rt) {
+        Ok(_pass) => failed(rt, "a pass more than there are"),
+        Err(fault) => equal(rt, fault, RegisterFault::Full),
+    }
+}
+
+/// A step of a thread that has no pass: it registers.
+fn register<N: LotName<Count> + Send + Sync, T: Wait + Abort>(
+    rt: &T,
+    lot: &Lot<Count, N>,
+    step: Step,
+) -> Pass<Count, N>
+    ensures { OwnsNone result }
+{
     let pass = enter(rt, lot);
-    let (pass, got) = try_own(lot, pass, 0);
-    let Some(held) = got else {
-        failed(rt, "the lock of a thread that waits was not got")
-    };
-    equal(rt, lot.line_length(rt, COND), 1);
-    let (pass, released) = release(rt, lot, pass, held, 0);
-    equal(rt, released, Released::Quiet);
-    lot.leave(rt, pass);
+    match step {
+        Step::Register(wanted) => equal(rt, pass.thread(), wanted),
+        Step::RegisterBeside => {}
+        _ => failed(rt, "a thread without a pass registers first"),
+    }
+    pass
 }
 
-/// A thread that sleeps on the condition has let its lock go, and gets it again when it is taken.
-fn lets_go<N: LotName<Count> + Send + Sync, T: Threads + Wait + Sync + Abort>(
+/// A step of a thread that owns nothing, by which it gets a lock or leaves.
+fn when_calm<N: LotName<Count> + Send + Sync, T: Wait + Abort>(
     rt: &T,
     lot: &Lot<Count, N>,
-    flags: &Flags,
-)
-    requires { (lot.now.locks ≡ 14) × (lot.now.conds ≡ 1) }
+    stage: &Stage,
+    pass: Pass<Count, N>,
+    step: Step,
+) -> Standing<Pass<Count, N>, Held<Count, N>, Permit<N>>
+    requires sizes { HasSizes lot.now }
+    requires free { OwnsNone pass }
+    ensures { MayHave result }
 {
-    thread::scope(
-        thread::scope_env(),
-        rt,
-        |scope|
-            requires { (lot.now.locks ≡ 14) × (lot.now.conds ≡ 1) }
-        {
-            let waiter = move ||
-                requires { (lot.now.locks ≡ 14) × (lot.now.conds ≡ 1) }
-            { wait_once(rt, lot, &AtOnce, &flags.back) };
-            started(rt, scope.spawn(waiter).is_ok());
-            await_line(rt, lot, COND, 1);
-            own_meanwhile(rt, lot);
-            take_one(rt, lot);
-            await_flag(rt, &flags.back);
-        },
-    );
+    match step {
+        Step::Lock(key) | Step::Sleep(key) => {
+            lock_key(rt, key);
+            let (pass, held) = own(rt, lot, pass, key);
+            Standing::Owner(pass, held)
+        }
+        Step::SleepAtGate(key) => {
+            lock_key(rt, key);
+            let (pass, held) = own_at_gate(rt, lot, pass, key, &stage.gate);
+            Standing::Owner(pass, held)
+        }
+        Step::TryLock(key, wanted) => tried(rt, lot, pass, key, wanted),
+        Step::Acquire(key) | Step::SleepFor(key) => {
+            sem_key(rt, key);
+            let (pass, permit) = lot.acquire(rt, pass, key);
+            Standing::Holder(pass, permit)
+        }
+        Step::TryAcquire(key, wanted) => try_first(rt, lot, pass, key, wanted),
+        Step::Leave => {
+            lot.leave(rt, pass);
+            Standing::Out
+        }
+        _ => Standing::Calm(notify(rt, lot, pass, step)),
+    }
 }
 
-/// The lock was handed to it before the table grew, and it looks for its letter after.
-fn own_after_growth<N: LotName<Count> + Send + Sync, T: Wait + Abort>(
+/// A step of a thread that owns nothing, by which it notifies.
+fn notify<N: LotName<Count> + Send + Sync, T: Wait + Abort>(
     rt: &T,
     lot: &Lot<Count, N>,
-    flags: &Flags,
-)
-    requires { (lot.now.locks ≡ 14) × (lot.now.conds ≡ 1) }
+    pass: Pass<Count, N>,
+    step: Step,
+) -> Pass<Count, N>
+    requires sizes { HasSizes lot.now }
+    requires free { OwnsNone pass }
+    ensures { OwnsNone result }
 {
-    let pass = enter(rt, lot);
-    let (pass, held) = own_at_gate(rt, lot, pass, 0, &flags.first);
-    equal(rt, lot.table_size(rt), 30);
-    equal(rt, word(lot, 0), 3);
-    equal(rt, lot.line_length(rt, 0), 1);
-    flags.back.store(1, Ordering::SeqCst);
-    let (pass, released) = release(rt, lot, pass, held, 0);
-    equal(rt, released, Released::Woke);
-    lot.leave(rt, pass);
+    match step {
+        Step::NotifyOne(cond, now, wanted) => {
+            cond_key(rt, cond);
+            let (pass, took) = call_one(rt, lot, pass, cond, now);
+            equal(rt, took, wanted);
+            pass
+        }
+        Step::NotifySome(cond, count, wanted) => {
+            cond_key(rt, cond);
+            is_so(rt, 1 <= count, "somebody is asked for");
+            is_so(rt, count <= 256, "no more than there may be");
+            let (pass, taken) = call_some(rt, lot, pass, cond, count);
+            equal(rt, taken, wanted);
+            pass
+        }
+        Step::NotifyAll(cond, wanted) => {
+            cond_key(rt, cond);
+            let (pass, count) = call_all(rt, lot, pass, cond);
+            equal(rt, count, wanted);
+            pass
+        }
+        Step::HasWaiters(cond, wanted) => {
+            cond_key(rt, cond);
+            let (pass, has) = lot.has_waiters(pass, cond);
+            equal(rt, has, wanted);
+            pass
+        }
+        _ => failed(rt, "no step of a thread that owns nothing"),
+    }
 }
 
-/// The lock is handed over, and the fifth registration lets the table grow before the new owner knows.
-fn hand_over_and_grow<N: LotName<Count> + Send + Sync, T: Wait + Abort>(
+/// `try_lock`, with what is wanted of it.
+fn tried<N: LotName<Count> + Send + Sync, T: Wait + Abort>(
     rt: &T,
     lot: &Lot<Count, N>,
-    flags: &Flags,
+    pass: Pass<Count, N>,
+    key: usize,
+    wanted: bool,
+) -> Standing<Pass<Count, N>, Held<Count, N>, Permit<N>>
+    requires sizes { HasSizes lot.now }
+    requires free { OwnsNone pass }
+    ensures { MayHave result }
+{
+    lock_key(rt, key);
+    let (pass, got) = try_own(lot, pass, key);
+    equal(rt, got.is_some(), wanted);
+    match got {
+        Some(held) => Standing::Owner(pass, held),
+        None => Standing::Calm(pass),
+    }
+}
+
+/// A step of a thread that owns one lock.
+fn when_owner<N: LotName<Count> + Send + Sync, T: Wait + Abort>(
+    rt: &T,
+    lot: &Lot<Count, N>,
+    stage: &Stage,
     pass: Pass<Count, N>,
     held: Held<Count, N>,
-)
-    requires sizes { (lot.now.locks ≡ 14) × (lot.now.conds ≡ 1) × (held.key ≡ 0) }
+    step: Step,
+) -> Standing<Pass<Count, N>, Held<Count, N>, Permit<N>>
+    requires sizes { HasSizes lot.now }
+    requires key { held.key < 14 }
     requires holding { Holding (λ x y. x.n ≤ y.n) pass held }
+    ensures { MayHave result }
 {
-    let (pass, released) = release_fairly(rt, lot, pass, held);
-    equal(rt, released, Released::Handed);
-    let fourth = enter(rt, lot);
-    equal(rt, lot.table_size(rt), 12);
-    let fifth = enter(rt, lot);
-    equal(rt, lot.table_size(rt), 30);
-    equal(rt, word(lot, 0), 3);
-    flags.first.store(1, Ordering::SeqCst);
-    await_flag(rt, &flags.back);
-    lot.leave(rt, fifth);
-    lot.leave(rt, fourth);
-    lot.leave(rt, pass);
+    match step {
+        Step::Lock(key) => {
+            lock_key(rt, key);
+            is_so(rt, key != held.key(), "it has this lock");
+            let (pass, first, second) = own_second(rt, lot, pass, held, key);
+            Standing::OwnerOfTwo(pass, first, second)
+        }
+        Step::Raise(wanted) => {
+            let (pass, held) = raise(rt, pass, held, wanted);
+            Standing::Owner(pass, held)
+        }
+        Step::NotifyOne(cond, _, wanted) => {
+            cond_key(rt, cond);
+            let (pass, held, took) = call_owning(rt, lot, pass, held, cond);
+            equal(rt, took, wanted);
+            Standing::Owner(pass, held)
+        }
+        Step::UnlockUnparked(wanted) => freed(rt, lot, pass, held, wanted),
+        Step::Wait(_, _) | Step::WaitAtGate(_) => {
+            Standing::Calm(wait(rt, lot, stage, pass, held, step))
+        }
+        _ => Standing::Calm(let_go(rt, lot, pass, held, step)),
+    }
 }
 
-fn handed_before_growth<N: LotName<Count> + Send + Sync, T: Threads + Wait + Sync + Abort>(
+/// `unlock_unparked`, with what is wanted of it.
+fn freed<N: LotName<Count> + Send + Sync, T: Wait + Abort>(
     rt: &T,
     lot: &Lot<Count, N>,
-    flags: &Flags,
+    pass: Pass<Count, N>,
+    held: Held<Count, N>,
+    wanted: bool,
+) -> Standing<Pass<Count, N>, Held<Count, N>, Permit<N>>
+    requires sizes { HasSizes lot.now }
+    requires key { held.key < 14 }
+    requires holding { Holding (λ x y. x.n ≤ y.n) pass held }
+    ensures { MayHave result }
+{
+    let (pass, back) = free(lot, pass, held);
+    equal(rt, back.is_none(), wanted);
+    match back {
+        Some(held) => Standing::Owner(pass, held),
+        None => Standing::Calm(pass),
+    }
+}
+
+/// A thread that owns a lock waits, has its lock then, and lets it go.
+fn wait<N: LotName<Count> + Send + Sync, T: Wait + Abort>(
+    rt: &T,
+    lot: &Lot<Count, N>,
+    stage: &Stage,
+    pass: Pass<Count, N>,
+    held: Held<Count, N>,
+    step: Step,
+) -> Pass<Count, N>
+    requires sizes { HasSizes lot.now }
+    requires key { held.key < 14 }
+    requires holding { Holding (λ x y. x.n ≤ y.n) pass held }
+    ensures { OwnsNone result }
+{
+    let (pass, held) = match step {
+        Step::Wait(cond, now) => {
+            cond_key(rt, cond);
+            wait_once(rt, lot, pass, held, cond, now)
+        }
+        Step::WaitAtGate(cond) => {
+            cond_key(rt, cond);
+            wait_at_gate(rt, lot, pass, held, cond, &stage.gate)
+        }
+        _ => failed(rt, "no wait"),
+    };
+    is_so(rt, lot.is_held(held.key()), "who waited has its lock");
+    let (pass, _) = release(rt, lot, pass, held, 0);
+    pass
+}
+
+/// A step of a thread that owns one lock, by which it lets it go.
+fn let_go<N: LotName<Count> + Send + Sync, T: Wait + Abort>(
+    rt: &T,
+    lot: &Lot<Count, N>,
+    pass: Pass<Count, N>,
+    held: Held<Count, N>,
+    step: Step,
+) -> Pass<Count, N>
+    requires sizes { HasSizes lot.now }
+    requires key { held.key < 14 }
+    requires holding { Holding (λ x y. x.n ≤ y.n) pass held }
+    ensures { OwnsNone result }
+{
+    match step {
+        Step::Unlock(now, wanted) => {
+            let (pass, released) = release(rt, lot, pass, held, now);
+            equal(rt, released, wanted);
+            pass
+        }
+        Step::UnlockFairly(wanted) => {
+            let (pass, released) = release_fairly(rt, lot, pass, held);
+            equal(rt, released, wanted);
+            pass
+        }
+        Step::LetGo => {
+            let (pass, _) = release(rt, lot, pass, held, 0);
+            pass
+        }
+        _ => failed(rt, "no step of a thread that owns a lock"),
+    }
+}
+
+/// A step of a thread that owns two locks: it lets the first of them go.
+fn when_owner_of_two<N: LotName<Count> + Send + Sync, T: Wait + Abort>(
+    rt: &T,
+    lot: &Lot<Count, N>,
+    pass: Pass<Count, N>,
+    first: Held<Count, N>,
+    second: Held<Count, N>,
+    step: Step,
+) -> Standing<Pass<Count, N>, Held<Count, N>, Permit<N>>
+    requires sizes { HasSizes lot.now }
+    requires keys { (first.key < 14) × (second.key < 14) }
+    requires both { HoldingBoth (λ x y. x.n ≤ y.n) pass first second }
+    ensures { MayHave result }
+{
+    let Step::UnlockFirst(wanted) = step else {
+        failed(rt, "no step of a thread that owns two locks")
+    };
+    let (pass, held, released) = release_first(rt, lot, pass, first, second);
+    equal(rt, released, wanted);
+    Standing::Owner(pass, held)
+}
+
+/// `try_acquire` of a thread that owns nothing, with what is wanted of it.
+fn try_first<N: LotName<Count> + Send + Sync, T: Wait + Abort>(
+    rt: &T,
+    lot: &Lot<Count, N>,
+    pass: Pass<Count, N>,
+    key: usize,
+    wanted: bool,
+) -> Standing<Pass<Count, N>, Held<Count, N>, Permit<N>>
+    requires sizes { HasSizes lot.now }
+    requires free { OwnsNone pass }
+    ensures { MayHave result }
+{
+    sem_key(rt, key);
+    let (pass, tried) = lot.try_acquire(pass, key);
+    match tried {
+        Tried::Got(permit) => {
+            is_so(rt, wanted, "none is left");
+            Standing::Holder(pass, permit)
+        }
+        Tried::Empty => {
+            is_so(rt, !wanted, "one is left");
+            Standing::Calm(pass)
+        }
+        Tried::Busy => failed(rt, "the semaphore was busy"),
+    }
+}
+
+/// A step of a thread that holds one permit: it gets another of the same semaphore, or gives it back.
+fn when_holder<N: LotName<Count> + Send + Sync, T: Wait + Abort>(
+    rt: &T,
+    lot: &Lot<Count, N>,
+    pass: Pass<Count, N>,
+    permit: Permit<N>,
+    step: Step,
+) -> Standing<Pass<Count, N>, Held<Count, N>, Permit<N>>
+    requires sizes { HasSizes lot.now }
+    requires has { HasPermits pass permit 1 }
+    ensures { MayHave result }
+{
+    match step {
+        Step::Acquire(key) => {
+            sem_key(rt, key);
+            is_so(rt, key == permit.key(), "it holds one of this semaphore");
+            let (pass, second) = lot.acquire(rt, pass, key);
+            Standing::HolderOfTwo(pass, permit, second)
+        }
+        Step::Release(now, wanted) => {
+            let (pass, freed) = lot.release(rt, pass, permit, Moment { now, word: 7 });
+            equal(rt, freed, wanted);
+            Standing::Calm(pass)
+        }
+        _ => failed(rt, "no step of a thread that holds a permit"),
+    }
+}
+
+/// A step of a thread that holds two permits: it gives the second back.
+fn when_holder_of_two<N: LotName<Count> + Send + Sync, T: Wait + Abort>(
+    rt: &T,
+    lot: &Lot<Count, N>,
+    pass: Pass<Count, N>,
+    first: Permit<N>,
+    second: Permit<N>,
+    step: Step,
+) -> Standing<Pass<Count, N>, Held<Count, N>, Permit<N>>
+    requires sizes { HasSizes lot.now }
+    requires has { HasPermits pass first 2 }
+    requires same { (second.key ≡ first.key) × (second.thread ≡ first.thread) }
+    ensures { MayHave result }
+{
+    let Step::Release(now, wanted) = step else {
+        failed(rt, "no step of a thread that holds two permits")
+    };
+    let (pass, freed) = lot.release(rt, pass, second, Moment { now, word: 7 });
+    equal(rt, freed, wanted);
+    Standing::Holder(pass, first)
+}
+
+/// Makes a step of a thread.
+fn step_on<N: LotName<Count> + Send + Sync, T: Wait + Abort>(
+    rt: &T,
+    lot: &Lot<Count, N>,
+    stage: &Stage,
+    standing: Standing<Pass<Count, N>, Held<Count, N>, Permit<N>>,
+    step: Step,
+) -> Standing<Pass<Count, N>, Held<Count, N>, Permit<N>>
+    requires sizes { HasSizes lot.now }
+    requires has { MayHave standing }
+    ensures { MayHave result }
+{
+    if looks(rt, lot, stage, step) {
+        return standing;
+    }
+    match standing {
+        Standing::Out => Standing::Calm(register(rt, lot, step)),
+        Standing::Calm(pass) => when_calm(rt, lot, stage, pass, step),
+        Standing::Owner(pass, held) => when_owner(rt, lot, stage, pass, held, step),
+        Standing::OwnerOfTwo(pass, first, second) => {
+            when_owner_of_two(rt, lot, pass, first, second, step)
+        }
+        Standing::Holder(pass, permit) => when_holder(rt, lot, pass, permit, step),
+        Standing::HolderOfTwo(pass, first, second) => {
+            when_holder_of_two(rt, lot, pass, first, second, step)
+        }
+    }
+}
+
+/// Makes the row when it is its turn.
+fn in_turn<N: LotName<Count> + Send + Sync, T: Wait + Abort>(
+    rt: &T,
+    lot: &Lot<Count, N>,
+    stage: &Stage,
+    row: usize,
+    standing: Standing<Pass<Count, N>, Held<Count, N>, Permit<N>>,
+    step: Step,
+) -> Standing<Pass<Count, N>, Held<Count, N>, Permit<N>>
+    requires sizes { HasSizes lot.now }
+    requires has { MayHave standing }
+    ensures { MayHave result }
+{
+    await_turn(rt, stage, row);
+    if step.sleeps() {
+        pass_on(stage);
+        return step_on(rt, lot, stage, standing, step);
+    }
+    let then = step_on(rt, lot, stage, standing, step);
+    pass_on(stage);
+    then
+}
+
+/// Makes the rows of one thread, which has left then.
+fn act<N: LotName<Count> + Send + Sync, T: Wait + Abort>(
+    rt: &T,
+    lot: &Lot<Count, N>,
+    stage: &Stage,
+    rows: &[(usize, Step)],
+    actor: usize,
 )
-    requires { (lot.now.locks ≡ 14) × (lot.now.conds ≡ 1) }
+    requires { HasSizes lot.now }
+{
+    let mut standing = Standing::Out;
+    for row in 0..rows.len() {
+        let (who, step) = rows[row];
+        if who == actor {
+            standing = in_turn(rt, lot, stage, row, standing, step);
+        }
+    }
+    match standing {
+        Standing::Out => {}
+        _ => failed(rt, "a thread has its pass still"),
+    }
+}
+
+/// Starts a thread for each that has a row, and waits for their end.
+fn act_all<N: LotName<Count> + Send + Sync, T: Threads + Wait + Sync + Abort>(
+    rt: &T,
+    lot: &Lot<Count, N>,
+    stage: &Stage,
+    rows: &[(usize, Step)],
+    actors: usize,
+)
+    requires { HasSizes lot.now }
 {
     thread::scope(
         thread::scope_env(),
         rt,
         |scope|
-            requires { (lot.now.locks ≡ 14) × (lot.now.conds ≡ 1) }
+            requires { HasSizes lot.now }
         {
-            let pass = enter(rt, lot);
-            let (pass, held) = own(rt, lot, pass, 0);
-            let first = move ||
-                requires { (lot.now.locks ≡ 14) × (lot.now.conds ≡ 1) }
-            { own_after_growth(rt, lot, flags) };
-            started(rt, scope.spawn(first).is_ok());
-            await_line(rt, lot, 0, 1);
-            let second = move ||
-                requires { (lot.now.locks ≡ 14) × (lot.now.conds ≡ 1) }
-            { sleeper(rt, lot, 0, Released::Quiet) };
-            started(rt, scope.spawn(second).is_ok());
-            await_line(rt, lot, 0, 2);
-            hand_over_and_grow(rt, lot, flags, pass, held);
+            for actor in 0..actors {
+                let job = move ||
+                    requires { HasSizes lot.now }
+                { act(rt, lot, stage, rows, actor) };
+                started(rt, scope.spawn(job).is_ok());
+            }
         },
     );
 }
 
-#[derive(Clone, Copy)]
-pub(crate) enum Schedule {
-    TakenBeforeItsSleep,
-    HandedByAWait,
-    LetsGo,
-    HandedBeforeGrowth,
-}
-
-/// Plays the schedule, and answers how many waits ended.
-pub(crate) fn follow<N: LotName<Count> + Send + Sync, T: Threads + Wait + Sync + Abort>(
-    rt: &T,
-    lot: &Lot<Count, N>,
-    schedule: Schedule,
-) -> u64
-    requires { (lot.now.locks ≡ 14) × (lot.now.conds ≡ 1) }
-{
-    let flags = Flags::new();
-    match schedule {
-        Schedule::TakenBeforeItsSleep => taken_before_its_sleep(rt, lot, &flags),
-        Schedule::HandedByAWait => handed_by_a_wait(rt, lot, &flags),
-        Schedule::LetsGo => lets_go(rt, lot, &flags),
-        Schedule::HandedBeforeGrowth => {
-            handed_before_growth(rt, lot, &flags);
-            return 0;
+/// How many threads have rows.
+fn actors_of(rows: &[(usize, Step)]) -> usize {
+    let mut actors = 0;
+    for (actor, _) in rows {
+        if *actor >= actors {
+            actors = actor.saturating_add(1);
         }
     }
-    1
+    actors
 }
 
-#[test]
-fn notifications_are_answered(rt: HostRuntime) {
-    on_lot(
-        &rt,
-        rt.alloc(),
-        2,
-        Row::Scheduled(Schedule::TakenBeforeItsSleep),
-    );
+/// A lot's schedule.
+#[derive(Clone, Copy)]
+pub(crate) struct Schedule<'a> {
+    /// For how many threads the lot is.
+    pub(crate) threads: usize,
+    /// Which thread makes which step, one row after the other.
+    pub(crate) rows: &'a [(usize, Step)],
+    /// How the passes are had at the end.
+    pub(crate) how: Gathered,
+    /// How many waits end on the first condition, and on the last.
+    pub(crate) waits: (u64, u64),
 }
 
-#[test]
-fn a_wait_hands_its_lock_over(rt: HostRuntime) {
-    on_lot(&rt, rt.alloc(), 2, Row::Scheduled(Schedule::HandedByAWait));
+/// Makes the schedule on a lot of its own, which is closed then.
+pub(crate) fn follow<T: Threads + Wait + Sync + Abort>(
+    rt: &T,
+    alloc: Global,
+    schedule: Schedule<'_>,
+) {
+    let Ok(values) = vec![in alloc; Count { n: 7 }; LOCKS] else {
+        failed(rt, "no memory")
+    };
+    match Lot::<Count, Brand>::open_with(alloc, schedule.threads, values, CONDS, &PERMITS) {
+        Ok(opened) => follow_on::<Brand, T>(rt, alloc, opened, schedule),
+        Err(_) => failed(rt, "not opened"),
+    }
 }
 
-#[test]
-fn a_wait_lets_go(rt: HostRuntime) {
-    on_lot(&rt, rt.alloc(), 2, Row::Scheduled(Schedule::LetsGo));
-}
-
-#[test]
-fn a_handoff_outlives_a_growth(rt: HostRuntime) {
-    on_lot(
-        &rt,
-        rt.alloc(),
-        5,
-        Row::Scheduled(Schedule::HandedBeforeGrowth),
-    );
+/// Makes the schedule on the lot, which is closed then.
+fn follow_on<N: LotName<Count> + Send + Sync, T: Threads + Wait + Sync + Abort>(
+    rt: &T,
+    alloc: Global,
+    opened: Opened<Count>,
+    schedule: Schedule<'_>,
+)
+    requires named { IsNamed (record { opening = N.opening; threads = N.threads; values = N.values; locks = N.locks; conds = N.conds; low = N.low; permits = N.permits }) opened }
+    requires sizes { (opened.threads ≡ schedule.threads) × (length opened.values ≡ 14) × (opened.conds ≡ 13) × (length opened.permits ≡ 2) }
+{
+    let passes = room_for(rt, alloc, schedule.threads);
+    let stage = Stage {
+        turn: AtomicU64::new(0),
+        gate: AtomicU64::new(0),
+    };
+    match opened.start::<N>(alloc) {
+        Ok(lot) => {
+            act_all(rt, &lot, &stage, schedule.rows, actors_of(schedule.rows));
+            let (values, ledger) = end(rt, lot, passes, schedule.threads, schedule.how);
+            equal(rt, values.len(), LOCKS);
+            equal(rt, (ledger.called[0], ledger.called[12]), schedule.waits);
+            equal(rt, (ledger.woken[0], ledger.woken[12]), schedule.waits);
+        }
+        Err(_) => failed(rt, "not started"),
+    }
 }

@@ -87,14 +87,12 @@ fn two_visit<V: Visited + Send, N: LotName<V> + Send + Sync, T: Threads + Wait +
         |scope|
             requires { 0 < lot.now.locks }
         {
-            let first = move ||
-                requires { 0 < lot.now.locks }
-            { visit_often(rt, lot) };
-            started(rt, scope.spawn(first).is_ok());
-            let second = move ||
-                requires { 0 < lot.now.locks }
-            { visit_often(rt, lot) };
-            started(rt, scope.spawn(second).is_ok());
+            for _ in 0..2u8 {
+                let visits = move ||
+                    requires { 0 < lot.now.locks }
+                { visit_often(rt, lot) };
+                started(rt, scope.spawn(visits).is_ok());
+            }
         },
     );
 }

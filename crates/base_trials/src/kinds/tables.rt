@@ -1,64 +1,152 @@
-//! A lot of two tables: one of locks that nobody takes, and one of one condition, whose number is 1.
-ghost use Rattle.std.specs.Prelude.{◌≡◌, ℕ, ◌≤◌, vec_len, vec_capacity};
+//! A lot of two tables: one of a lock that nobody takes, whose number is 0, and one of one condition, whose number is 1.
+ghost use Rattle.std.specs.Prelude.{◌≡◌, ◌≤◌, None, Some, vec_len};
 ghost use Rattle.lot_waits.specs.Opening.{IsIdleRoot};
 
 use crate::asserts::{failed, room_for};
-use lot_park::parts::{Border, Both, EitherRoot, OfSecond, OneOf, Whole};
+use lot_park::parts::Part;
 use lot_park::{Moment, ParkingLot, Root, Scheme, Token};
-use lot_waits::{CondKeyRoot, CondScheme, WaitName};
+use lot_waits::{CondKeyRoot, CondScheme, NamedCond, WaitName};
 use std::alloc::Global;
+use std::marker::Model;
 use std::process::Abort;
 
-// The root of the only lock, whose number is 0: to whom it owes a letter, if to anybody.
-#[derive(Drop)]
-pub(crate) struct LockRoot {
-    owed: Option<usize>,
+/// The root of the condition, or of the lock, which has nothing to tell.
+pub(crate) struct EitherRoot<N: WaitName + Send> {
+    cond: Option<CondKeyRoot<N>>,
 }
 
-impl Root for LockRoot {
-    ghost use Rattle.std.specs.Prelude.{[]};
-    ghost use Rattle.lot_park.specs.Parking.{debt};
+impl<N: WaitName + Send> Model for EitherRoot<N> {
+    ghost use Rattle.std.specs.Prelude.{Option};
+    ghost use Rattle.lot_rights.specs.Shown.{RootShown};
+    ghost use Rattle.lot_conds.specs.declared.views.CondRootView.{CondRootView};
+    ghost use Rattle.base_trials.specs.TwoTables.{IsNoLock};
 
-    ghost view = { λ r. record { key = 0; line = []; owes = debt r.owed 0 } };
+    ghost Value = { Option (RootShown CondRootView) };
+
+    ghost view = { λ s. s.cond };
+
+    ghost invariant = { λ s. IsNoLock s.cond };
 }
 
-// A table whose passes have nothing to look for.
-#[derive(Drop)]
-pub(crate) struct NoLocks;
+impl<N: WaitName + Send> Root for EitherRoot<N> {
+    ghost use Rattle.base_trials.specs.TwoTables.{root_view};
 
-impl Scheme for NoLocks {
-    ghost use Rattle.std.specs.Prelude.{◌≡◌};
+    ghost view = { root_view };
+}
 
-    type Root = LockRoot;
-
-    type Pass = ();
-
-    ghost thread = { λ p. 0 };
-
-    ghost looked = { λ p found q. q ≡ p };
-
-    fn thread_of(_pass: &()) -> usize {
-        0
+impl<N: WaitName + Send> EitherRoot<N> {
+    fn of_lock() -> EitherRoot<N>
+        ensures { result ≡ None }
+    {
+        EitherRoot { cond: None }
     }
 
-    fn post(&self, _root: LockRoot, _at: usize, _token: Token) -> LockRoot {
-        LockRoot { owed: None }
-    }
-
-    fn collect(&self, pass: ()) -> ((), Option<Token>) {
-        (pass, None)
+    fn of_condition(root: CondKeyRoot<N>) -> EitherRoot<N>
+        requires { 1 ≤ root.root.key }
+        ensures { result ≡ Some root }
+    {
+        EitherRoot { cond: Some(root) }
     }
 }
 
-pub(crate) struct OneLock;
-
-impl Border for OneLock {
-    ghost border = { 1 };
+/// The scheme of both tables. Nobody takes the lock, so its passes are those of the condition.
+pub(crate) struct TwoTables<N: WaitName + Send> {
+    conds: CondScheme<N>,
 }
 
-pub(crate) type TwoTables<N> = Both<NoLocks, CondScheme<N>, OneLock>;
+impl<N: WaitName + Send> Model for TwoTables<N> {
+    ghost use Rattle.lot_conds.specs.Shown.{CondWordsShown};
 
-pub(crate) type TheConds = OfSecond<Whole>;
+    ghost Value = { CondWordsShown };
+
+    ghost view = { λ s. s.conds };
+}
+
+impl<N: WaitName + Send> TwoTables<N> {
+    pub(crate) fn conds(&self) -> &CondScheme<N>
+        ensures { result.now ≡ self.now }
+    {
+        &self.conds
+    }
+
+    pub(crate) fn into_conds(self) -> CondScheme<N>
+        ensures { result ≡ self }
+    {
+        let TwoTables { conds } = self;
+        conds
+    }
+}
+
+impl<N: WaitName + Send> Scheme for TwoTables<N> {
+    ghost use Rattle.lot_waits.specs.Rights.{IsCondLooked};
+
+    type Root = EitherRoot<N>;
+
+    type Pass = NamedCond<N>;
+
+    ghost thread = { λ p. p.thread };
+
+    ghost looked = { IsCondLooked };
+
+    fn thread_of(pass: &NamedCond<N>) -> usize {
+        CondScheme::<N>::thread_of(pass)
+    }
+
+    fn post(&self, root: EitherRoot<N>, at: usize, token: Token) -> EitherRoot<N> {
+        let EitherRoot { cond } = root;
+        match cond {
+            Some(root) => EitherRoot {
+                cond: Some(self.conds.post(root, at, token)),
+            },
+            None => unreachable!(),
+        }
+    }
+
+    fn collect(&self, pass: NamedCond<N>) -> (NamedCond<N>, Option<Token>) {
+        self.conds.collect(pass)
+    }
+}
+
+/// The condition, as a part of the lot.
+pub(crate) struct TheConds;
+
+impl<N: WaitName + Send> Part<TwoTables<N>, CondScheme<N>> for TheConds {
+    ghost use Rattle.std.specs.Prelude.{◌≤◌, Some, refl};
+
+    ghost serves = { λ k. 1 ≤ k };
+
+    ghost whole_root = { λ r. Some r };
+
+    ghost whole_pass = { λ p. p };
+
+    fn raise_root(root: CondKeyRoot<N>) -> EitherRoot<N> {
+        EitherRoot { cond: Some(root) }
+    }
+
+    fn lower_root(root: EitherRoot<N>) -> CondKeyRoot<N> {
+        let EitherRoot { cond } = root;
+        match cond {
+            Some(root) => root,
+            None => unreachable!(),
+        }
+    }
+
+    fn raise_pass(pass: NamedCond<N>) -> NamedCond<N> {
+        pass
+    }
+
+    fn lower_pass(pass: NamedCond<N>) -> NamedCond<N> {
+        pass
+    }
+
+    ghost one_pass = { λ p q same. same };
+
+    ghost same_view = { λ r. refl };
+
+    ghost same_thread = { λ p. refl };
+
+    ghost same_looks = { λ p found q looked. (q, refl, looked) };
+}
 
 pub(crate) const THREADS: usize = 3;
 
@@ -75,12 +163,12 @@ pub(crate) fn open<N: WaitName + Send>(
     requires keys { (N.locks ≡ 1) × (N.conds ≡ 1) }
     requires root { IsIdleRoot 1 root }
     ensures sizes { (result.threads ≡ THREADS) × (result.keys ≡ 2) }
-    ensures words { result.scheme.second ≡ scheme }
+    ensures words { result.scheme ≡ scheme }
 {
     let mut roots = room_for(rt, alloc, 2);
-    roots.push_reserved(EitherRoot::first(LockRoot { owed: None }));
-    roots.push_reserved(EitherRoot::second(root));
-    match ParkingLot::open(alloc, THREADS, roots, Both::new(NoLocks, scheme)) {
+    roots.push_reserved(EitherRoot::of_lock());
+    roots.push_reserved(EitherRoot::of_condition(root));
+    match ParkingLot::open(alloc, THREADS, roots, TwoTables { conds: scheme }) {
         Ok((lot, room)) => {
             room.destroy_empty();
             lot
@@ -92,20 +180,20 @@ pub(crate) fn open<N: WaitName + Send>(
 // Takes the root of the condition from those that the lot gave back.
 pub(crate) fn condition_of<N: WaitName + Send>(
     rt: &impl Abort,
-    mut roots: Vec<EitherRoot<LockRoot, CondKeyRoot<N>, OneLock>>,
+    mut roots: Vec<EitherRoot<N>>,
 ) -> CondKeyRoot<N>
     requires count { vec_len roots ≡ 2 }
     requires keys { (N.locks ≡ 1) × (N.conds ≡ 1) }
     ensures { result.root.key ≡ 1 }
 {
-    let last = roots.take_last();
-    let first = roots.take_last();
+    let EitherRoot { cond: last } = roots.take_last();
+    let EitherRoot { cond: first } = roots.take_last();
     roots.destroy_empty();
-    if let OneOf::Second(root) = first.into_one() {
+    if let Some(root) = first {
         let _root = root.into_root();
     }
-    match last.into_one() {
-        OneOf::First(_lock) => failed(rt, "no root of the condition"),
-        OneOf::Second(root) => CondKeyRoot::new(root.into_root()),
+    match last {
+        Some(root) => CondKeyRoot::new(root.into_root()),
+        None => failed(rt, "no root of the condition"),
     }
 }

@@ -1,5 +1,5 @@
 //! Waits and notifications in a lot of two tables, of which the first is one of locks that nobody takes, and what the ledger says of them.
-ghost use Rattle.std.specs.Prelude.{◌≡◌, ◌<◌, IsSome, IsSomeAnd};
+ghost use Rattle.std.specs.Prelude.{◌≡◌, ◌<◌, IsSomeAnd};
 ghost use Rattle.lot_waits.specs.Counts.{took as took_more, woke};
 ghost use Rattle.base_trials.specs.Waits.{EndsThere};
 
@@ -35,7 +35,7 @@ fn notified_before_sleep<N: WaitName + Send + Sync, R: Wait + Abort>(
     ensures zero { result.0 ≡ woke zero 1 }
     ensures one { result.1 ≡ took_more one 1 1 }
 {
-    let conds = lot.scheme().second();
+    let conds = lot.scheme().conds();
     let (zero, one) = wait_on::<TwoTables<N>, N, TheConds, R, Waiter<N>, _>(
         rt,
         lot,
@@ -73,7 +73,7 @@ fn all_notified_before_sleep<N: WaitName + Send + Sync, R: Wait + Abort>(
     ensures zero { result.0 ≡ woke zero 1 }
     ensures one { result.1 ≡ took_more one 1 1 }
 {
-    let conds = lot.scheme().second();
+    let conds = lot.scheme().conds();
     let (zero, one) = wait_on::<TwoTables<N>, N, TheConds, R, Waiter<N>, _>(
         rt,
         lot,
@@ -95,20 +95,11 @@ fn all_notified_before_sleep<N: WaitName + Send + Sync, R: Wait + Abort>(
     (zero, one)
 }
 
-// What three threads tell one another: one is in the line, the flag was cleared, and another is in the line.
+// What two threads tell each other: the flag was cleared, and another is in the line.
 #[derive(Drop)]
 struct Signs {
-    early: AtomicU64,
     cleared: AtomicU64,
     late: AtomicU64,
-}
-
-fn no_signs() -> Signs {
-    Signs {
-        early: AtomicU64::new(0),
-        cleared: AtomicU64::new(0),
-        late: AtomicU64::new(0),
-    }
 }
 
 fn raise(sign: &AtomicU64) {
@@ -139,33 +130,6 @@ impl<R: Abort> BeforeSweep for Between<'_, R> {
     }
 }
 
-// Waits, and says so once it is in the line.
-fn wait_once<N: WaitName + Send + Sync, R: Wait + Abort>(
-    rt: &R,
-    lot: &ParkingLot<TwoTables<N>>,
-    waiter: Waiter<N>,
-    queued: &AtomicU64,
-) -> Waiter<N>
-    requires keys { (N.locks ≡ 1) × (N.conds ≡ 1) × (lot.now.threads ≡ 3) × (lot.now.keys ≡ 2) }
-    requires thread { waiter.thread < 3 }
-    ensures { result ≡ woke waiter 1 }
-{
-    let conds = lot.scheme().second();
-    let (waiter, ()) = wait_on::<TwoTables<N>, N, TheConds, R, (), _>(
-        rt,
-        lot,
-        conds,
-        waiter,
-        1,
-        (),
-        |x: ()| {
-            raise(queued);
-            x
-        },
-    );
-    waiter
-}
-
 // Takes both who wait, and the flag that the late one set stays. The next notification finds nobody, and clears it.
 fn take_both<N: WaitName + Send + Sync, R: Wait + Abort>(
     rt: &R,
@@ -176,8 +140,7 @@ fn take_both<N: WaitName + Send + Sync, R: Wait + Abort>(
     requires keys { (N.locks ≡ 1) × (N.conds ≡ 1) × (lot.now.keys ≡ 2) }
     ensures { result ≡ took_more one 1 2 }
 {
-    let conds = lot.scheme().second();
-    is_so(rt, is_raised(&signs.early), "the first has come");
+    let conds = lot.scheme().conds();
     let between = Between { rt, signs };
     let (one, count) = notify_all_after::<TwoTables<N>, N, TheConds, R, Between<'_, R>>(
         rt, lot, conds, one, 1, &between,
@@ -192,25 +155,37 @@ fn take_both<N: WaitName + Send + Sync, R: Wait + Abort>(
     one
 }
 
-// `wait_once` by the waiter that lies here.
-fn wait_here<N: WaitName + Send + Sync, R: Wait + Abort>(
+// The first waits, and before it sleeps the second takes it, and the late one with it.
+fn wait_and_take<N: WaitName + Send + Sync, R: Wait + Abort>(
     rt: &R,
     lot: &ParkingLot<TwoTables<N>>,
-    here: &mut Option<Waiter<N>>,
-    queued: &AtomicU64,
+    here: &mut Option<(Waiter<N>, Waiter<N>)>,
+    signs: &Signs,
 )
     requires keys { (N.locks ≡ 1) × (N.conds ≡ 1) × (lot.now.threads ≡ 3) × (lot.now.keys ≡ 2) }
-    requires thread { IsSomeAnd here.old (λ p. p.thread < 3) }
-    ensures { EndsThere (λ p. woke p 1) here.old here.new }
+    requires thread { IsSomeAnd here.old (λ p. p.0.thread < 3) }
+    ensures { EndsThere (λ p. (woke p.0 1, took_more p.1 1 2)) here.old here.new }
 {
-    let waiter = wait_once(rt, lot, here.take().unwrap(), queued);
-    match here.replace(waiter) {
+    let (zero, one) = here.take().unwrap();
+    let both = wait_on::<TwoTables<N>, N, TheConds, R, Waiter<N>, _>(
+        rt,
+        lot,
+        lot.scheme().conds(),
+        zero,
+        1,
+        one,
+        |one: Waiter<N>| -> Waiter<N>
+            requires keys { (N.locks ≡ 1) × (N.conds ≡ 1) × (lot.now.keys ≡ 2) }
+            ensures { result ≡ took_more one 1 2 }
+        { take_both(rt, lot, one, signs) },
+    );
+    match here.replace(both) {
         None => {}
         Some(_) => unreachable!(),
     }
 }
 
-// The same, once the flag was cleared.
+// Waits once the flag was cleared, and says so when it is in the line.
 fn wait_late<N: WaitName + Send + Sync, R: Wait + Abort>(
     rt: &R,
     lot: &ParkingLot<TwoTables<N>>,
@@ -222,84 +197,49 @@ fn wait_late<N: WaitName + Send + Sync, R: Wait + Abort>(
     ensures { EndsThere (λ p. woke p 1) here.old here.new }
 {
     is_so(rt, is_raised(&signs.cleared), "the flag is cleared");
-    wait_here(rt, lot, here, &signs.late);
-}
-
-// `take_both` by the waiter that lies here.
-fn take_here<N: WaitName + Send + Sync, R: Wait + Abort>(
-    rt: &R,
-    lot: &ParkingLot<TwoTables<N>>,
-    here: &mut Option<Waiter<N>>,
-    signs: &Signs,
-)
-    requires keys { (N.locks ≡ 1) × (N.conds ≡ 1) × (lot.now.keys ≡ 2) }
-    requires there { IsSome here.old }
-    ensures { EndsThere (λ p. took_more p 1 2) here.old here.new }
-{
-    let waiter = take_both(rt, lot, here.take().unwrap(), signs);
+    let (waiter, ()) = wait_on::<TwoTables<N>, N, TheConds, R, (), _>(
+        rt,
+        lot,
+        lot.scheme().conds(),
+        here.take().unwrap(),
+        1,
+        (),
+        |x: ()| {
+            raise(&signs.late);
+            x
+        },
+    );
     match here.replace(waiter) {
         None => {}
         Some(_) => unreachable!(),
     }
 }
 
-// One takes and the late one waits. The places are lent, since a closure can't hold a waiter.
-fn take_beside_the_late<'a, 'b, N: WaitName + Send + Sync, R: Threads + Wait + Abort + Sync>(
+// Both at once. The places are lent, since a closure can't hold a waiter.
+fn side_by_side<'a, N: WaitName + Send + Sync, R: Threads + Wait + Abort + Sync>(
     rt: &'a R,
     lot: &'a ParkingLot<TwoTables<N>>,
-    second: &'b mut Option<Waiter<N>>,
-    third: &'b mut Option<Waiter<N>>,
+    early: &'a mut Option<(Waiter<N>, Waiter<N>)>,
+    late: &'a mut Option<Waiter<N>>,
     signs: &'a Signs,
 )
     requires keys { (N.locks ≡ 1) × (N.conds ≡ 1) × (lot.now.threads ≡ 3) × (lot.now.keys ≡ 2) }
-    requires there { IsSome second.old }
-    requires thread { IsSomeAnd third.old (λ p. p.thread < 3) }
-    ensures took { EndsThere (λ p. took_more p 1 2) second.old second.new }
-    ensures waited { EndsThere (λ p. woke p 1) third.old third.new }
+    requires early { IsSomeAnd early.old (λ p. p.0.thread < 3) }
+    requires late { IsSomeAnd late.old (λ p. p.thread < 3) }
+    ensures early { EndsThere (λ p. (woke p.0 1, took_more p.1 1 2)) early.old early.new }
+    ensures late { EndsThere (λ p. woke p 1) late.old late.new }
 {
     let mut takes = ||
-        requires keys { (N.locks ≡ 1) × (N.conds ≡ 1) × (lot.now.keys ≡ 2) }
-        requires there { IsSome second.now }
-        ensures { EndsThere (λ p. took_more p 1 2) second.entry.now second.exit.now }
-    { take_here(rt, lot, second, signs) };
+        requires keys { (N.locks ≡ 1) × (N.conds ≡ 1) × (lot.now.threads ≡ 3) × (lot.now.keys ≡ 2) }
+        requires early { IsSomeAnd early.now (λ p. p.0.thread < 3) }
+        ensures { EndsThere (λ p. (woke p.0 1, took_more p.1 1 2)) early.entry.now early.exit.now }
+    { wait_and_take(rt, lot, early, signs) };
     let mut waits = ||
         requires keys { (N.locks ≡ 1) × (N.conds ≡ 1) × (lot.now.threads ≡ 3) × (lot.now.keys ≡ 2) }
-        requires thread { IsSomeAnd third.now (λ p. p.thread < 3) }
-        ensures { EndsThere (λ p. woke p 1) third.entry.now third.exit.now }
-    { wait_late(rt, lot, third, signs) };
+        requires late { IsSomeAnd late.now (λ p. p.thread < 3) }
+        ensures { EndsThere (λ p. woke p 1) late.entry.now late.exit.now }
+    { wait_late(rt, lot, late, signs) };
     thread::join_mut(rt, &mut takes, &mut waits);
-}
-
-// One waits early, beside the two others.
-fn all_three<'a, N: WaitName + Send + Sync, R: Threads + Wait + Abort + Sync>(
-    rt: &'a R,
-    lot: &'a ParkingLot<TwoTables<N>>,
-    first: &'a mut Option<Waiter<N>>,
-    second: &'a mut Option<Waiter<N>>,
-    third: &'a mut Option<Waiter<N>>,
-    signs: &'a Signs,
-)
-    requires keys { (N.locks ≡ 1) × (N.conds ≡ 1) × (lot.now.threads ≡ 3) × (lot.now.keys ≡ 2) }
-    requires early { IsSomeAnd first.old (λ p. p.thread < 3) }
-    requires there { IsSome second.old }
-    requires late { IsSomeAnd third.old (λ p. p.thread < 3) }
-    ensures early { EndsThere (λ p. woke p 1) first.old first.new }
-    ensures took { EndsThere (λ p. took_more p 1 2) second.old second.new }
-    ensures late { EndsThere (λ p. woke p 1) third.old third.new }
-{
-    let mut waits = ||
-        requires keys { (N.locks ≡ 1) × (N.conds ≡ 1) × (lot.now.threads ≡ 3) × (lot.now.keys ≡ 2) }
-        requires thread { IsSomeAnd first.now (λ p. p.thread < 3) }
-        ensures { EndsThere (λ p. woke p 1) first.entry.now first.exit.now }
-    { wait_here(rt, lot, first, &signs.early) };
-    let mut others = ||
-        requires keys { (N.locks ≡ 1) × (N.conds ≡ 1) × (lot.now.threads ≡ 3) × (lot.now.keys ≡ 2) }
-        requires there { IsSome second.now }
-        requires late { IsSomeAnd third.now (λ p. p.thread < 3) }
-        ensures took { EndsThere (λ p. took_more p 1 2) second.entry.now second.exit.now }
-        ensures late { EndsThere (λ p. woke p 1) third.entry.now third.exit.now }
-    { take_beside_the_late(rt, lot, second, third, signs) };
-    thread::join_mut(rt, &mut waits, &mut others);
 }
 
 // A thread begins to wait after the flag was cleared and before the line is taken: it is taken with the one that waited before.
@@ -317,12 +257,15 @@ fn taken_after_the_flag_was_cleared<N: WaitName + Send + Sync, R: Threads + Wait
     ensures one { result.1 ≡ took_more one 1 2 }
     ensures two { result.2 ≡ woke two 1 }
 {
-    let signs = no_signs();
-    let mut first = Some(zero);
-    let mut second = Some(one);
-    let mut third = Some(two);
-    all_three(rt, lot, &mut first, &mut second, &mut third, &signs);
-    (first.unwrap(), second.unwrap(), third.unwrap())
+    let signs = Signs {
+        cleared: AtomicU64::new(0),
+        late: AtomicU64::new(0),
+    };
+    let mut early = Some((zero, one));
+    let mut late = Some(two);
+    side_by_side(rt, lot, &mut early, &mut late, &signs);
+    let (zero, one) = early.unwrap();
+    (zero, one, late.unwrap())
 }
 
 // Plays one wait, or all schedules.
@@ -367,7 +310,7 @@ fn play<N: WaitName + Send + Sync, R: Threads + Wait + Abort + Sync>(
     let lot = open::<N>(rt, alloc, scheme, root);
     let (zero, one, two) = played(rt, &lot, zero, one, two, all);
     let mut left = room_for(rt, alloc, 2);
-    let (_locks, scheme) = lot.close(rt, &mut left).apart();
+    let scheme = lot.close(rt, &mut left).into_conds();
     roots.push_reserved(condition_of(rt, left));
     waiters.push_reserved(zero);
     waiters.push_reserved(one);

@@ -14,7 +14,7 @@ use std::alloc::Global;
 use std::process::Abort;
 use std::sync::Wait;
 use std::thread;
-use std::thread::{Scope, Threads};
+use std::thread::Threads;
 
 const KEYS: usize = 4;
 
@@ -140,33 +140,9 @@ fn an_invalid_parking_leaves_the_line(rt: HostRuntime) {
     close(&rt, rt.alloc(), lot);
 }
 
-fn sleep<R: Wait + Abort>(rt: &R, lot: &ParkingLot<Letters>, thread: usize, key: usize, told: &Told)
-    requires { (thread < lot.now.threads) × (key < lot.now.keys) }
-{
-    note(told, thread, park(rt, lot, thread, key, true));
-}
-
-// Starts the thread, which sleeps on the key.
-fn start_sleeper<'s, E, R: Wait + Abort + Sync>(
-    scope: &Scope<'s, E>,
-    rt: &'s R,
-    lot: &'s ParkingLot<Letters>,
-    told: &'s Told,
-    sleeper: (usize, usize),
-)
-    requires { (sleeper.0 < lot.now.threads) × (sleeper.1 < lot.now.keys) }
-{
-    let (thread, key) = sleeper;
-    let sleeps = move ||
-        requires { (thread < lot.now.threads) × (key < lot.now.keys) }
-    { sleep(rt, lot, thread, key, told) };
-    is_so(rt, scope.spawn(sleeps).is_ok(), "it starts");
-}
-
 fn looks_before_it_sleeps<R: Wait + Abort>(rt: &R, lot: &ParkingLot<Letters>, told: &Told)
     requires { (lot.now.threads ≡ THREADS) × (lot.now.keys ≡ KEYS) }
 {
-    await_line(rt, lot, 0, 1);
     expect_looks(rt, lot, 1, 2);
     equal(rt, unpark(rt, lot, 0, 7), taken(1, false));
     await_told(rt, told, 1, 7);
@@ -196,34 +172,6 @@ fn expect_no_look(rt: &impl Abort, lot: &ParkingLot<Letters>, times: u64) {
     );
 }
 
-// A sleeper looks for its letter once before it sleeps, and finds it once it is unparked.
-fn unparks_a_sleeper<R: Threads + Wait + Abort + Sync>(
-    rt: &R,
-    lot: &ParkingLot<Letters>,
-    told: &Told,
-)
-    requires { (lot.now.threads ≡ THREADS) × (lot.now.keys ≡ KEYS) }
-{
-    thread::scope(
-        thread::scope_env(),
-        rt,
-        |scope|
-            requires { (lot.now.threads ≡ THREADS) × (lot.now.keys ≡ KEYS) }
-        {
-            start_sleeper(scope, rt, lot, told, (1, 0));
-            looks_before_it_sleeps(rt, lot, told);
-        },
-    );
-}
-
-#[test]
-fn a_sleeper_is_told_the_token(rt: HostRuntime) {
-    let lot = open(&rt, rt.alloc());
-    let told = nothing_told();
-    unparks_a_sleeper(&rt, &lot, &told);
-    close(&rt, rt.alloc(), lot);
-}
-
 fn grown<R: Wait + Abort>(rt: &R, lot: &ParkingLot<Letters>, threads: usize) -> Grown
     requires { threads ≤ lot.now.threads }
 {
@@ -236,41 +184,11 @@ fn grown<R: Wait + Abort>(rt: &R, lot: &ParkingLot<Letters>, threads: usize) -> 
 fn grows_and_unparks<R: Wait + Abort>(rt: &R, lot: &ParkingLot<Letters>, told: &Told)
     requires { (lot.now.threads ≡ THREADS) × (lot.now.keys ≡ KEYS) }
 {
-    await_line(rt, lot, 1, 1);
     equal(rt, grown(rt, lot, 2), Grown::Grew(3, 12));
     equal(rt, lot.size(rt), 12);
     equal(rt, lot.line_length(rt, 1), 1);
     equal(rt, unpark(rt, lot, 1, 4), taken(2, false));
     await_told(rt, told, 2, 4);
-}
-
-// The table grows under a sleeper, who is then still in its line.
-fn grows_under_a_sleeper<R: Threads + Wait + Abort + Sync>(
-    rt: &R,
-    lot: &ParkingLot<Letters>,
-    told: &Told,
-)
-    requires { (lot.now.threads ≡ THREADS) × (lot.now.keys ≡ KEYS) }
-{
-    thread::scope(
-        thread::scope_env(),
-        rt,
-        |scope|
-            requires { (lot.now.threads ≡ THREADS) × (lot.now.keys ≡ KEYS) }
-        {
-            start_sleeper(scope, rt, lot, told, (2, 1));
-            grows_and_unparks(rt, lot, told);
-        },
-    );
-}
-
-#[test]
-fn a_sleeper_stays_in_its_line_as_the_table_grows(rt: HostRuntime) {
-    let lot = open(&rt, rt.alloc());
-    equal(&rt, lot.size(&rt), 3);
-    let told = nothing_told();
-    grows_under_a_sleeper(&rt, &lot, &told);
-    close(&rt, rt.alloc(), lot);
 }
 
 fn unparks_one_key_then_the_other<R: Wait + Abort>(rt: &R, lot: &ParkingLot<Letters>, told: &Told)
@@ -287,73 +205,14 @@ fn unparks_one_key_then_the_other<R: Wait + Abort>(rt: &R, lot: &ParkingLot<Lett
     equal(rt, unpark(rt, lot, OTHER, 4), taken(2, false));
 }
 
-fn unparks_one_of_two_keys<R: Threads + Wait + Abort + Sync>(
-    rt: &R,
-    lot: &ParkingLot<Letters>,
-    told: &Told,
-)
-    requires { (lot.now.threads ≡ THREADS) × (lot.now.keys ≡ KEYS) }
-{
-    thread::scope(
-        thread::scope_env(),
-        rt,
-        |scope|
-            requires { (lot.now.threads ≡ THREADS) × (lot.now.keys ≡ KEYS) }
-        {
-            start_sleeper(scope, rt, lot, told, (1, 0));
-            await_line(rt, lot, 0, 1);
-            start_sleeper(scope, rt, lot, told, (2, OTHER));
-            await_line(rt, lot, OTHER, 1);
-            unparks_one_key_then_the_other(rt, lot, told);
-        },
-    );
-}
-
-#[test]
-fn another_key_in_the_bucket_keeps_its_line(rt: HostRuntime) {
-    let lot = open(&rt, rt.alloc());
-    let told = nothing_told();
-    unparks_one_of_two_keys(&rt, &lot, &told);
-    close(&rt, rt.alloc(), lot);
-}
-
 fn unparks_a_line_of_two<R: Wait + Abort>(rt: &R, lot: &ParkingLot<Letters>, told: &Told)
     requires { (lot.now.threads ≡ THREADS) × (lot.now.keys ≡ KEYS) }
 {
-    await_line(rt, lot, 1, 2);
     equal(rt, unpark_all(rt, lot, 0), 0);
     equal(rt, unpark_all(rt, lot, 1), 2);
     await_told(rt, told, 0, 0);
     await_told(rt, told, 2, 0);
     equal(rt, unpark_all(rt, lot, 1), 0);
-}
-
-fn unparks_all_of_a_key<R: Threads + Wait + Abort + Sync>(
-    rt: &R,
-    lot: &ParkingLot<Letters>,
-    told: &Told,
-)
-    requires { (lot.now.threads ≡ THREADS) × (lot.now.keys ≡ KEYS) }
-{
-    thread::scope(
-        thread::scope_env(),
-        rt,
-        |scope|
-            requires { (lot.now.threads ≡ THREADS) × (lot.now.keys ≡ KEYS) }
-        {
-            start_sleeper(scope, rt, lot, told, (0, 1));
-            start_sleeper(scope, rt, lot, told, (2, 1));
-            unparks_a_line_of_two(rt, lot, told);
-        },
-    );
-}
-
-#[test]
-fn a_whole_line_is_unparked(rt: HostRuntime) {
-    let lot = open(&rt, rt.alloc());
-    let told = nothing_told();
-    unparks_all_of_a_key(&rt, &lot, &told);
-    close(&rt, rt.alloc(), lot);
 }
 
 fn unparks_two_then_one<R: Wait + Abort>(rt: &R, lot: &ParkingLot<Letters>, told: &Told)
@@ -366,39 +225,6 @@ fn unparks_two_then_one<R: Wait + Abort>(rt: &R, lot: &ParkingLot<Letters>, told
     stays_untold(rt, told, 2, 0);
     equal(rt, unpark_first(rt, lot, 1, 5), (1, false));
     equal(rt, unpark_first(rt, lot, 1, 1), (0, false));
-}
-
-fn unparks_the_first_of_three<R: Threads + Wait + Abort + Sync>(
-    rt: &R,
-    lot: &ParkingLot<Letters>,
-    told: &Told,
-)
-    requires { (lot.now.threads ≡ THREADS) × (lot.now.keys ≡ KEYS) }
-{
-    thread::scope(
-        thread::scope_env(),
-        rt,
-        |scope|
-            requires { (lot.now.threads ≡ THREADS) × (lot.now.keys ≡ KEYS) }
-        {
-            for thread in 0..THREADS {
-                let sleeper = move ||
-                    requires { (lot.now.threads ≡ THREADS) × (lot.now.keys ≡ KEYS) × (thread < THREADS) }
-                { sleep(rt, lot, thread, 1, told) };
-                is_so(rt, scope.spawn(sleeper).is_ok(), "it starts");
-                await_line(rt, lot, 1, thread + 1);
-            }
-            unparks_two_then_one(rt, lot, told);
-        },
-    );
-}
-
-#[test]
-fn the_first_of_a_line_are_unparked(rt: HostRuntime) {
-    let lot = open(&rt, rt.alloc());
-    let told = nothing_told();
-    unparks_the_first_of_three(&rt, &lot, &told);
-    close(&rt, rt.alloc(), lot);
 }
 
 // The action before sleep unparks the thread's own key.
@@ -436,16 +262,6 @@ fn who_is_unparked_before_its_sleep_does_not_sleep(rt: HostRuntime) {
     close(&rt, rt.alloc(), lot);
 }
 
-// Parks twice. The first time it does not sleep, so the wake of its own unparking is kept: it ends the first sleep of the second
-// time, for nothing.
-fn sleep_with_a_wake_kept<R: Wait + Abort>(rt: &R, lot: &ParkingLot<Letters>, told: &Told)
-    requires { (lot.now.threads ≡ THREADS) × (lot.now.keys ≡ KEYS) }
-{
-    let (_taken, parked) = unparks_itself(rt, lot);
-    note(told, 1, parked);
-    sleep(rt, lot, 1, 0, told);
-}
-
 fn looks_again_and_sleeps_on<R: Wait + Abort>(rt: &R, lot: &ParkingLot<Letters>, told: &Told)
     requires { (lot.now.threads ≡ THREADS) × (lot.now.keys ≡ KEYS) }
 {
@@ -457,12 +273,64 @@ fn looks_again_and_sleeps_on<R: Wait + Abort>(rt: &R, lot: &ParkingLot<Letters>,
     expect_no_look(rt, lot, 5);
 }
 
-// A sleeper looks for its letter before it sleeps, and again each time that a sleep has ended: here before it finds the first
-// letter, before each sleep of the second parking, and before it finds the second letter.
-fn looks_once_a_wake<R: Threads + Wait + Abort + Sync>(
+/// What is tried beside sleepers.
+#[derive(Clone, Copy, PartialEq, Eq)]
+enum Trial {
+    /// A sleeper looks for its letter once before it sleeps, and finds it once it is unparked.
+    Looks,
+    /// The table grows under a sleeper, who is then still in its line.
+    Growth,
+    /// One key is unparked, and then the other.
+    TwoKeys,
+    /// A whole line is unparked.
+    WholeLine,
+    /// The first of a line are unparked.
+    FirstOfLine,
+    /// A sleeper looks for its letter before it sleeps, and again each time that a sleep has ended: here before it finds the first
+    /// letter, before each sleep of the second parking, and before it finds the second letter.
+    KeptWake,
+}
+
+// Sleeps on the key. With a wake that is kept, it parks twice: the first time it does not sleep, so the wake of its own unparking ends the
+// first sleep of the second time, for nothing.
+fn sleep_in<R: Wait + Abort>(
+    rt: &R,
+    lot: &ParkingLot<Letters>,
+    thread: usize,
+    key: usize,
+    told: &Told,
+    trial: Trial,
+)
+    requires sizes { (lot.now.threads ≡ THREADS) × (lot.now.keys ≡ KEYS) }
+    requires there { (thread < THREADS) × (key < KEYS) }
+{
+    if trial == Trial::KeptWake {
+        let (_taken, parked) = unparks_itself(rt, lot);
+        note(told, thread, parked);
+    }
+    note(told, thread, park(rt, lot, thread, key, true));
+}
+
+fn try_on<R: Wait + Abort>(rt: &R, lot: &ParkingLot<Letters>, told: &Told, trial: Trial)
+    requires { (lot.now.threads ≡ THREADS) × (lot.now.keys ≡ KEYS) }
+{
+    match trial {
+        Trial::Looks => looks_before_it_sleeps(rt, lot, told),
+        Trial::Growth => grows_and_unparks(rt, lot, told),
+        Trial::TwoKeys => unparks_one_key_then_the_other(rt, lot, told),
+        Trial::WholeLine => unparks_a_line_of_two(rt, lot, told),
+        Trial::FirstOfLine => unparks_two_then_one(rt, lot, told),
+        Trial::KeptWake => looks_again_and_sleeps_on(rt, lot, told),
+    }
+}
+
+// Tries beside the sleepers, which come one after the other: of each its thread, its key, and how many are in the key's line then.
+fn beside_sleepers<R: Threads + Wait + Abort + Sync>(
     rt: &R,
     lot: &ParkingLot<Letters>,
     told: &Told,
+    sleepers: &[(usize, usize, usize)],
+    trial: Trial,
 )
     requires { (lot.now.threads ≡ THREADS) × (lot.now.keys ≡ KEYS) }
 {
@@ -472,19 +340,65 @@ fn looks_once_a_wake<R: Threads + Wait + Abort + Sync>(
         |scope|
             requires { (lot.now.threads ≡ THREADS) × (lot.now.keys ≡ KEYS) }
         {
-            let sleeper = move ||
-                requires { (lot.now.threads ≡ THREADS) × (lot.now.keys ≡ KEYS) }
-            { sleep_with_a_wake_kept(rt, lot, told) };
-            is_so(rt, scope.spawn(sleeper).is_ok(), "it starts");
-            looks_again_and_sleeps_on(rt, lot, told);
+            for sleeper in sleepers {
+                let (thread, key, length) = *sleeper;
+                is_so(rt, thread < THREADS, "there is such a thread");
+                is_so(rt, key < KEYS, "there is such a key");
+                let sleeps = move ||
+                    requires sizes { (lot.now.threads ≡ THREADS) × (lot.now.keys ≡ KEYS) }
+                    requires there { (thread < THREADS) × (key < KEYS) }
+                { sleep_in(rt, lot, thread, key, told, trial) };
+                is_so(rt, scope.spawn(sleeps).is_ok(), "it starts");
+                await_line(rt, lot, key, length);
+            }
+            try_on(rt, lot, told, trial);
         },
     );
 }
 
+// Opens a lot, tries, and closes it.
+fn tried<R: Threads + Wait + Abort + Sync>(
+    rt: &R,
+    alloc: Global,
+    sleepers: &[(usize, usize, usize)],
+    trial: Trial,
+) {
+    let lot = open(rt, alloc);
+    equal(rt, lot.size(rt), 3);
+    let told = nothing_told();
+    beside_sleepers(rt, &lot, &told, sleepers, trial);
+    close(rt, alloc, lot);
+}
+
+#[test]
+fn a_sleeper_is_told_the_token(rt: HostRuntime) {
+    tried(&rt, rt.alloc(), &[(1, 0, 1)], Trial::Looks);
+}
+
+#[test]
+fn a_sleeper_stays_in_its_line_as_the_table_grows(rt: HostRuntime) {
+    tried(&rt, rt.alloc(), &[(2, 1, 1)], Trial::Growth);
+}
+
+#[test]
+fn another_key_in_the_bucket_keeps_its_line(rt: HostRuntime) {
+    let sleepers = [(1, 0, 1), (2, OTHER, 1)];
+    tried(&rt, rt.alloc(), &sleepers, Trial::TwoKeys);
+}
+
+#[test]
+fn a_whole_line_is_unparked(rt: HostRuntime) {
+    let sleepers = [(0, 1, 1), (2, 1, 2)];
+    tried(&rt, rt.alloc(), &sleepers, Trial::WholeLine);
+}
+
+#[test]
+fn the_first_of_a_line_are_unparked(rt: HostRuntime) {
+    let sleepers = [(0, 1, 1), (1, 1, 2), (2, 1, 3)];
+    tried(&rt, rt.alloc(), &sleepers, Trial::FirstOfLine);
+}
+
 #[test]
 fn a_sleeper_looks_once_a_wake(rt: HostRuntime) {
-    let lot = open(&rt, rt.alloc());
-    let told = nothing_told();
-    looks_once_a_wake(&rt, &lot, &told);
-    close(&rt, rt.alloc(), lot);
+    tried(&rt, rt.alloc(), &[(1, 0, 1)], Trial::KeptWake);
 }

@@ -1,6 +1,6 @@
 use Rattle.std.proofs.Common.{◌++◌, ◌∷◌, [], length, map, ap, ◌∙◌, reverse, arith}
 use Rattle.std.proofs.lemmas.List.{map-append}
-use Rattle.lot_park.specs.declared.parts.both.OneOf.TheVariants.{First}
+use Rattle.lot_park.specs.declared.parts.one_of.OneOf.TheVariants.{First}
 use Rattle.lot_rights.proofs.Gathers.{all_popped}
 use Rattle.lot_rights.proofs.Turns.{moves_on}
 use Rattle.lot_kinds.specs.Roots.{IsFreeRoot}

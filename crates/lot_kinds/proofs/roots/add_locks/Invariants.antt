@@ -1,6 +1,6 @@
 use Rattle.std.proofs.Common.{◌≡◌, ◌+◌, ◌≤◌, ◌++◌, length, map, reverse, vec_len, vec_capacity}
 use Rattle.std.specs.List.{All}
-use Rattle.lot_park.specs.declared.parts.both.OneOf.TheVariants.{First}
+use Rattle.lot_park.specs.declared.parts.one_of.OneOf.TheVariants.{First}
 use Rattle.lot_kinds.specs.Roots.{IsFreeRoot}
 use Rattle.lot_kinds.proofs.roots.add_locks.Given as goal
 

@@ -3,7 +3,7 @@ use Rattle.std.specs.List.{All}
 use Rattle.std.proofs.lemmas.List.Elements.{All-push}
 use Rattle.lot_rights.specs.Shown.{RootShown}
 use Rattle.lot_words.specs.declared.views.LockRootView.{LockRootView}
-use Rattle.lot_park.specs.declared.parts.both.OneOf.TheVariants.{First, Second}
+use Rattle.lot_park.specs.declared.parts.one_of.OneOf.TheVariants.{First, Second}
 use Rattle.lot_kinds.proofs.LastRoot.{IsLast, is_last}
 use Rattle.lot_kinds.proofs.Divided.{has_more, has_else}
 use Rattle.lot_kinds.proofs.roots.divide.Goals as goal

@@ -1,7 +1,7 @@
 use Rattle.std.proofs.Common.{◌≡◌, ◌++◌, List, [], length, map, reverse, vec_len, rules, subst, sym, ap, ◌∙◌}
 use Rattle.std.proofs.lemmas.List.{append-nil}
 use Rattle.lot_park.specs.Lots.{AreIdle}
-use Rattle.lot_park.specs.declared.parts.both.OneOf.TheVariants.{First, Second}
+use Rattle.lot_park.specs.declared.parts.one_of.OneOf.TheVariants.{First, Second}
 use Rattle.lot_rights.proofs.Turns.{no_elements}
 use Rattle.lot_kinds.specs.Tables.{LotRootShown, root_view}
 use Rattle.lot_kinds.proofs.Idle.{all_idle}

@@ -44,7 +44,7 @@ settle-requires-clause-waiters g c = λ t near.
     let first = one_back thread 0 none c.push_reserved-2.new.self.items c.played-zero.result.0 c.push_reserved-2.ensures.items played.0 (none_back thread none) in
     let second = one_back thread 1 c.push_reserved-2.new.self.items c.push_reserved-3.new.self.items c.played-zero.result.1 c.push_reserved-3.ensures.items played.1 first in
     let all = one_back thread 2 c.push_reserved-3.new.self.items c.push_reserved-4.new.self.items c.played-zero.result.2 c.push_reserved-4.ensures.items played.2 second in
-    let threads : c.apart-scheme.result.1.size.threads ≡ 3 = search rules in
+    let threads : c.into_conds-scheme.result.size.threads ≡ 3 = search rules in
     all t (omega (arith, near, threads))
 
 pub settle-requires-clause-roots : goal.settle-requires-clause-roots

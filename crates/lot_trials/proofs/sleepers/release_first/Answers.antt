@@ -1,8 +1,0 @@
-use Rattle.std.proofs.Common.{◌≤◌}
-use Rattle.lot_trials.specs.declared.rows.Count.{Count}
-use Rattle.lot_sync.proofs.Holdings.{left_second}
-use Rattle.lot_trials.proofs.sleepers.release_first.Goals as goal
-
-pub returns-clause-holding : goal.returns-clause-holding
-returns-clause-holding g c = left_second (λ (x y : Count). x.n ≤ y.n) c.args.pass c.unlock-pass.result.0 c.args.first c.args.second c.unlock-pass.result.1
-    c.requires.both c.unlock-pass.ensures.pass
