@@ -10,7 +10,7 @@ use Rattle.lot_permits.specs.declared.permit.Tried.TheVariants.{Got, Empty, Busy
 use Rattle.lot_kinds.specs.Rights.{RightsView, joined}
 use Rattle.lot_locks.specs.Standing.{Standing}
 use Rattle.lot_sync.specs.Lot.{PassView, calling, one_more, one_less}
-use Rattle.lot_sync.specs.Passes.{sees}
+use Rattle.lot_passes.specs.Passes.{sees}
 use Rattle.lot_sync.specs.Permits.{TriesToGet}
 
 module _ {V : Type 0} (p : PassView V) (r : Standing V) (q : RightsView) (w : CountsView) (s : PermitsView) (same : p ≡ sees q r) (apart : q ≡ joined w s) where

@@ -1,6 +1,5 @@
 pub mod Rests
 pub mod Beside
 pub mod Turns
-pub mod Places
 pub mod Starts
 pub mod Holdings

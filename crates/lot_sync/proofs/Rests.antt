@@ -1,5 +1,5 @@
 -- A pass gets a lock and lets it go, and is at rest again.
-use Rattle.std.proofs.Common.{◌≡◌, ◌≢◌, ℕ, ◌<◌, true, false, List, [], ◌∷◌, zero, suc, length, map, set, get_or, refl, sym, ap, subst, ◌∙◌, ⊎_elim, length-set, arith}
+use Rattle.std.proofs.Common.{◌≡◌, ◌≢◌, ℕ, ◌<◌, false, List, [], ◌∷◌, zero, suc, length, map, set, get_or, refl, sym, ap, subst, ◌∙◌, ⊎_elim, length-set, arith}
 use Rattle.std.proofs.lemmas.List.{get_or-set_same, get_or-set_other, map-set, set-get_or}
 use mathlib.Core.Option.{some, some-injective}
 use mathlib.Core.Logic.{dite}
@@ -20,8 +20,9 @@ use Rattle.lot_locks.specs.declared.released.Released.{Released}
 use Rattle.lot_locks.proofs.Freed.{held_near}
 use Rattle.lot_sync.specs.Lot.{PassView, HeldView, Owns, leaving, waking}
 use Rattle.lot_sync.specs.Values.{Gets, MayGiveBack}
+pub use Rattle.lot_passes.proofs.Holds.{owned_held, held_owned, own_on}
 use Rattle.lot_locks.specs.Standing.{Standing, putting, IsOwner, IsTryingFor, IsFoundParked, LetsGo}
-use Rattle.lot_sync.specs.Passes.{is_held, sees, IsAtRest, AreRightsOf, IsNewOwner}
+use Rattle.lot_passes.specs.Passes.{is_held, sees, IsAtRest, IsNewOwner}
 
 -- ---- holds
 pub held_here : (hs : List Hold) (l : ℕ) → l < length hs → IsHeld (get_or (set hs l Held) l NotHeld)
@@ -38,21 +39,6 @@ pub reads : {A : Type 0} (xs : List A) (k : ℕ) → k < length xs → (x : A) �
 reads [] k near = absurd (omega arith)
 reads (x ∷ xs) zero near = (x, refl)
 reads (x ∷ xs) (suc k) near = reads xs k (omega arith)
-
--- the bool of a hold says whether it is held
-pub owned_held : (hs : List Hold) (l : ℕ) → get_or (map is_held hs) l false ≡ true → IsHeld (get_or hs l NotHeld)
-owned_held [] l e = absurd (cc)
-owned_held (NotHeld ∷ hs) zero e = absurd (cc)
-owned_held (Held ∷ hs) zero e = tt
-owned_held (FoundParked ∷ hs) zero e = tt
-owned_held (h ∷ hs) (suc l) e = owned_held hs l e
-
-pub held_owned : (hs : List Hold) (l : ℕ) → IsHeld (get_or hs l NotHeld) → get_or (map is_held hs) l false ≡ true
-held_owned [] l h = absurd h
-held_owned (NotHeld ∷ hs) zero h = absurd h
-held_owned (Held ∷ hs) zero h = refl
-held_owned (FoundParked ∷ hs) zero h = refl
-held_owned (h ∷ hs) (suc l) i = held_owned hs l i
 
 -- a held lock that is found parked is held as before
 pub owned_parked : (hs : List Hold) (l : ℕ) → IsHeld (get_or hs l NotHeld) → map is_held (set hs l FoundParked) ≡ map is_held hs
@@ -267,10 +253,6 @@ module _ {V Part : Type 0} (rule : CallersRule V Part) where
   may_leave q opening threads before held key same near rest back = let had = reads before.own.seen key (let w = rest.seen_long in omega (arith, w)) in
       let seen = subst (λ k. HasSeen before.own k had.0) (sym same) had.1 in
       (had.0, had.1, record { kept = subst (λ k. rule.keeps k held.value) same back.kept; grown = back.grown had.0 seen; others = λ u else. back.others had.0 u seen else })
-
--- the rights go on being the thread's
-pub own_on : (t u : ℕ) (q : RightsView) → u ≡ t → AreRightsOf t q → AreRightsOf u q
-own_on t u q same own = own ∙ sym same
 
 -- the lock was let go, and one wait more on the condition has ended
 pub leaves_woken : {V : Type 0} (pass seen : PassView V) (w q : CountsView) (p : PermitsView) (before after : Standing V) (key named cond : ℕ) (value : V) (became : Released)

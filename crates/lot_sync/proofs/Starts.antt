@@ -16,11 +16,11 @@ use Rattle.lot_words.specs.Shown.{LockWordsShown, pass_at, root_at}
 use Rattle.lot_words.specs.World.{IsHeld}
 use Rattle.lot_words.specs.Values.{HasSeen}
 use Rattle.lot_words.specs.Closing.{HoldsNone}
-use Rattle.lot_sync.specs.Passes.{IsFresh}
+use Rattle.lot_passes.specs.Passes.{IsFresh}
 use Rattle.lot_kinds.specs.Rights.{RightsView, unused}
 use Rattle.lot_kinds.specs.Rights.{HoldsNone as HoldsNoPermit}
 use Rattle.lot_sync.specs.Opened.{AreUnused, IsOpened}
-use Rattle.lot_sync.specs.Starting.{ArePaired}
+use Rattle.lot_passes.specs.Starting.{ArePaired}
 use Rattle.lot_rights.proofs.Turns.{some_one, stands_at, all_by_place, some_by_place}
 
 none_some : {A : Type 0} (x : A) → None ≡ Some x → ⊥

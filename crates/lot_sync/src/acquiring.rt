@@ -6,9 +6,9 @@ ghost use Rattle.lot_sync.specs.Lot.{IsWide, IsSem, one_more, one_less, permits_
 ghost use Rattle.lot_sync.specs.Permits.{HasPermit, TriesToGet};
 
 use crate::lot::Lot;
-use crate::pass::Pass;
 use lot_kinds::{LotName, LotScheme, Rights, Sems};
 use lot_park::Moment;
+use lot_passes::Pass;
 use lot_permits::{Freed, Permit, Tried};
 use lot_words::Keeps;
 use std::sync::Wait;

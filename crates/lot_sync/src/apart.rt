@@ -3,9 +3,9 @@ ghost use Rattle.std.specs.Prelude.{◌≡◌, ◌≢◌, ℕ};
 ghost use Rattle.lot_sync.specs.Lot.{Owns};
 
 use crate::lot::Lot;
-use crate::pass::Pass;
 use lot_kinds::LotName;
 use lot_locks::NamedPass;
+use lot_passes::Pass;
 use lot_words::Keeps;
 
 impl<V: Keeps + Send, N: LotName<V> + Send> Lot<V, N> {

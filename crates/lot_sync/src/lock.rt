@@ -2,15 +2,14 @@
 ghost use Rattle.std.specs.Prelude.{◌≡◌, ◌<◌, MatchOption};
 ghost use Rattle.lot_sync.specs.Lot.{Owns, IsWide};
 ghost use Rattle.lot_sync.specs.Values.{Gets};
-ghost use Rattle.lot_sync.specs.Passes.{sees, AreRightsOf, IsNewOwner};
+ghost use Rattle.lot_passes.specs.Passes.{sees, AreRightsOf, IsNewOwner};
 ghost use Rattle.lot_words.specs.Values.{IsIn};
 
-use crate::held::Held;
 use crate::lot::Lot;
-use crate::pass::Pass;
 use lot_kinds::{Locks, LotName, LotScheme, Rights};
 use lot_locks::{NamedPass, get_slowly};
 use lot_park::{AtOnce, BeforeSleep};
+use lot_passes::{Held, Pass};
 use lot_words::Keeps;
 use std::sync::Wait;
 

@@ -1,13 +1,13 @@
 //! A lot: locks that guard values, and the passes of its threads.
 ghost use Rattle.std.specs.Prelude.{◌≡◌, ◌+◌, ◌<◌, length};
 ghost use Rattle.lot_sync.specs.Lot.{IsWide};
-ghost use Rattle.lot_sync.specs.Passes.{IsAtRest, IsLot, AreRightsOf, sees};
+ghost use Rattle.lot_passes.specs.Passes.{IsAtRest, AreRightsOf, sees};
+ghost use Rattle.lot_sync.specs.Lot.{IsLot};
 
-use crate::pass::Pass;
-use crate::pool::Pool;
 use lot_kinds::{LotName, LotScheme, Rights};
 use lot_locks::{LockScheme, NamedPass};
 use lot_park::{ParkingLot, Sought};
+use lot_passes::{Pass, Pool};
 use lot_words::Keeps;
 use std::marker::Model;
 use std::sync::{Mutex, Wait};
@@ -25,7 +25,7 @@ pub struct Lot<V: Keeps + Send, N: LotName<V> + Send> {
 impl<V: Keeps + Send, N: LotName<V> + Send> Model for Lot<V, N> {
     ghost use Rattle.std.specs.Prelude.{◌≡◌, length};
     ghost use Rattle.lot_sync.specs.Lot.{LotView};
-    ghost use Rattle.lot_sync.specs.Passes.{IsLot};
+    ghost use Rattle.lot_sync.specs.Lot.{IsLot};
 
     ghost Value = { LotView };
 

@@ -4,9 +4,9 @@ ghost use Rattle.lot_core.specs.Steps.{IsCallCount};
 ghost use Rattle.lot_sync.specs.Lot.{IsWide, IsCond, calling};
 
 use crate::lot::Lot;
-use crate::pass::Pass;
 use lot_kinds::{Conds, LotName, LotScheme, Rights};
 use lot_park::Moment;
+use lot_passes::Pass;
 use lot_words::Keeps;
 use std::sync::Wait;
 

@@ -1,14 +1,12 @@
 //! Giving threads their passes, and taking them back.
-ghost use Rattle.std.specs.Prelude.{◌≡◌, ◌<◌, ◌-◌, IfOk, IfSome, vec_len};
+ghost use Rattle.std.specs.Prelude.{◌≡◌, ◌<◌, ◌-◌, IfOk, IfSome};
 ghost use Rattle.lot_table.specs.Sizes.{Serves};
 ghost use Rattle.lot_sync.specs.Lot.{OwnsNone, IsWide, HasGrown};
 
-use crate::fault::RegisterFault;
 use crate::lot::Lot;
-use crate::pass::Pass;
-use crate::pool::Pool;
 use lot_kinds::{LotName, LotScheme};
 use lot_park::{Grown, ParkingLot};
+use lot_passes::{Pass, Pool, RegisterFault};
 use lot_words::Keeps;
 use std::sync::{MutexGuard, Wait};
 use std::thread;
@@ -28,7 +26,7 @@ impl<V: Keeps + Send, N: LotName<V> + Send> Lot<V, N> {
         let _ = MutexGuard::unlock(pool);
         match registered {
             Ok((pass, _grown)) => {
-                let _ = &pass.right;
+                pass.is_whole();
                 Ok(pass)
             }
             Err(fault) => Err(fault),
@@ -66,7 +64,7 @@ impl<V: Keeps + Send, N: LotName<V> + Send> Lot<V, N> {
         let _ = MutexGuard::unlock(pool);
         match taken {
             Some(pass) => {
-                let _ = &pass.right;
+                pass.is_whole();
                 Some(pass)
             }
             None => None,
@@ -84,7 +82,7 @@ fn register_in<V: Keeps + Send, N: LotName<V> + Send, R: Wait>(
 ) -> Result<(Pass<V, N>, Grown), RegisterFault>
     requires { (threads ≡ N.threads) × (parking.now.threads ≡ N.threads) }
     ensures free { IfOk result (λ r. OwnsNone r.0) }
-    ensures served { IfOk result (λ r. Serves (threads - vec_len pool.new.idle) r.1) }
+    ensures served { IfOk result (λ r. Serves (threads - pool.new) r.1) }
 {
     let Some(pass) = pool.take_least() else {
         return Err(RegisterFault::Full);

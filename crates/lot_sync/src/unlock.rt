@@ -3,17 +3,16 @@
 ghost use Rattle.std.specs.Prelude.{◌≡◌, ◌⊎◌, ◌<◌, true, false, MatchOption, length};
 ghost use Rattle.lot_sync.specs.Lot.{Owns, IsWide, leaving};
 ghost use Rattle.lot_sync.specs.Values.{MayGiveBack};
-ghost use Rattle.lot_sync.specs.Passes.{IsNewOwner, AreRightsOf, sees};
+ghost use Rattle.lot_passes.specs.Passes.{IsNewOwner, AreRightsOf, sees};
 ghost use Rattle.lot_locks.specs.Released.{IsFitting};
 ghost use Rattle.lot_locks.specs.declared.released.Released.TheVariants.{Quiet};
 ghost use Rattle.lot_words.specs.Values.{IsIn, HasSeen};
 
-use crate::held::Held;
 use crate::lot::Lot;
-use crate::pass::Pass;
 use lot_kinds::{Locks, LotName, LotScheme, Rights};
 use lot_locks::{LockScheme, LockSteps, NamedPass, Released, let_go, unpark_asking};
 use lot_park::Moment;
+use lot_passes::{Held, Pass};
 use lot_words::Keeps;
 use std::sync::Wait;
 

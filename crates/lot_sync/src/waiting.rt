@@ -4,12 +4,11 @@ ghost use Rattle.std.specs.Prelude.{◌<◌};
 ghost use Rattle.lot_sync.specs.Lot.{Owns, IsWide, IsCond};
 ghost use Rattle.lot_sync.specs.Values.{MayGiveBack, WaitsAndGets};
 
-use crate::held::Held;
 use crate::lot::Lot;
-use crate::pass::Pass;
 use lot_kinds::{Conds, Locks, LotName, LotScheme, Rights, sleep_on};
 use lot_locks::LockScheme;
 use lot_park::{AtOnce, BeforeSleep, Moment};
+use lot_passes::{Held, Pass};
 use lot_words::Keeps;
 use std::sync::Wait;
 

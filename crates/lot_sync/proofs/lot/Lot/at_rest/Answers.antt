@@ -1,7 +1,7 @@
 use Rattle.std.proofs.Common.{subst, sym, ap, ◌∙◌, arith}
 use Rattle.std.proofs.lemmas.List.{length-map}
 use Rattle.lot_sync.specs.Lot.{IsWide}
-use Rattle.lot_sync.specs.Passes.{is_held, sees}
+use Rattle.lot_passes.specs.Passes.{is_held, sees}
 use Rattle.lot_sync.proofs.lot.Lot.at_rest.Goals as goal
 
 pub returns-clause-wide : goal.returns-clause-wide

@@ -1,6 +1,6 @@
 use Rattle.std.proofs.Common.{rules, subst, ap, ◌∙◌}
 use Rattle.lot_sync.specs.Lot.{Owns}
-use Rattle.lot_sync.specs.Passes.{sees}
+use Rattle.lot_passes.specs.Passes.{sees}
 use Rattle.lot_sync.proofs.Rests.{owned_held}
 use Rattle.lot_sync.proofs.lot.Lot.check_apart.Goals as goal
 

@@ -14,7 +14,7 @@ use Rattle.lot_waits.specs.Ledger.{IsLedger}
 use Rattle.lot_sync.specs.Lot.{PassView, LotView, OwnsNone, counts_of, rights_of}
 use Rattle.lot_sync.specs.Values.{GoesOnTo}
 use Rattle.lot_words.specs.Closing.{HoldsNone}
-use Rattle.lot_sync.specs.Passes.{seen_as, lock_side, IsFree}
+use Rattle.lot_passes.specs.Passes.{seen_as, lock_side, IsFree}
 use Rattle.lot_kinds.specs.Tables.{LotRootShown, LotSchemeShown}
 use Rattle.lot_rights.proofs.Turns.{some_before, no_elements}
 use Rattle.lot_kinds.proofs.Places.{some_after}
@@ -67,8 +67,8 @@ settle-words-requires-clause-back g c κs within =
 
 pub settle-words-requires-clause-roots : goal.settle-words-requires-clause-roots
 settle-words-requires-clause-roots g c κs within =
-    let before = c.into_inner-idle.result.room.named in
-    let none : before.items ≡ [] = no_elements before.items (let n : length before.items ≡ vec_len before = search rules in n ∙ c.into_inner-idle.result.room.no_roots) in
+    let before = c.apart-rights.result.2 in
+    let none : before.items ≡ [] = no_elements before.items (let n : length before.items ≡ vec_len before = search rules in n ∙ c.apart-rights.ensures.empty.2) in
     let roots_are : c.close-scheme.new.out.items ≡ c.close-scheme.ensures.roots.roots =
     c.close-scheme.ensures.roots.appended ∙ ap (λ (rs : List LotRootShown). rs ++ c.close-scheme.ensures.roots.roots) none in (
       (λ i r at. c.close-scheme.ensures.roots.named i r (subst (λ (rs : List LotRootShown). slice_get rs i ≡ Some r) roots_are at)),

@@ -1,7 +1,7 @@
 use Rattle.std.proofs.Common.{◌≡◌, true, false, set, get_or, subst, sym, ap, ◌∙◌, refl}
 use Rattle.lot_sync.specs.Lot.{PassView, Owns}
 use Rattle.lot_sync.specs.Values.{Gets}
-use Rattle.lot_sync.specs.Passes.{sees}
+use Rattle.lot_passes.specs.Passes.{sees}
 use Rattle.lot_sync.proofs.Rests.{rests_free, leaves_woken, gets_as}
 use Rattle.lot_sync.proofs.Holdings.{let_go_of, not_both}
 use Rattle.lot_sync.proofs.lot.Lot.wait_after.Goals as goal

@@ -3,7 +3,7 @@ use Rattle.std.specs.Prelude.{◌≡◌, ℕ, List, slice_get, Some}
 use Rattle.lot_rights.specs.Shown.{PassShown}
 use Rattle.lot_words.specs.declared.views.LockPassView.{LockPassView}
 use Rattle.lot_kinds.specs.Rights.{RightsView}
-use Rattle.lot_sync.specs.Passes.{AreRightsOf}
+use Rattle.lot_passes.specs.Passes.{AreRightsOf}
 
 -- at each place stand the pass and the rights of one thread
 abbrev pub ArePaired : {V : Type 0} → List (PassShown (LockPassView V)) → List RightsView → Type 0

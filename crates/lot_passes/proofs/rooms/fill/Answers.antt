@@ -1,9 +1,9 @@
 use Rattle.std.proofs.Common.{◌≡◌, length, vec_len, rules, ◌∙◌, sym, arith}
 use Rattle.lot_rights.proofs.Gathers.{all_popped}
 use Rattle.lot_kinds.specs.Rights.{HoldsNone}
-use Rattle.lot_sync.specs.Passes.{IsFresh}
-use Rattle.lot_sync.proofs.Places.{pairs_popped}
-use Rattle.lot_sync.proofs.start.fill.Goals as goal
+use Rattle.lot_passes.specs.Passes.{IsFresh}
+use Rattle.lot_passes.proofs.Places.{pairs_popped}
+use Rattle.lot_passes.proofs.rooms.fill.Goals as goal
 
 pub make_idle-requires-clause-own : goal.make_idle-requires-clause-own
 make_idle-requires-clause-own g c κs within =

@@ -6,18 +6,18 @@ use lot_locks::NamedPass;
 use lot_words::Keeps;
 use std::marker::Model;
 
-/// The right to act as one thread. It must be spent, by `Lot::leave` or `Lot::close`.
+/// The right to act as one thread. It must be spent, by `leave` or `close` of the lot that gave it.
 pub struct Pass<V: Keeps + Send, N: LotName<V> + Send> {
-    pub(crate) right: NamedPass<V, N>,
-    pub(crate) kinds: Rights<N>,
+    right: NamedPass<V, N>,
+    kinds: Rights<N>,
 }
 
 impl<V: Keeps + Send, N: LotName<V> + Send> Model for Pass<V, N> {
-    ghost use Rattle.lot_sync.specs.Lot.{PassView};
+    ghost use Rattle.lot_passes.specs.Lot.{PassView};
 
     ghost Value = { PassView V };
 
-    ghost use Rattle.lot_sync.specs.Passes.{sees, IsAtRest, AreRightsOf};
+    ghost use Rattle.lot_passes.specs.Passes.{sees, IsAtRest, AreRightsOf};
 
     ghost view = { λ s. sees s.kinds s.right };
 
@@ -25,7 +25,7 @@ impl<V: Keeps + Send, N: LotName<V> + Send> Model for Pass<V, N> {
 }
 
 impl<V: Keeps + Send, N: LotName<V> + Send> Pass<V, N> {
-    ghost use Rattle.lot_sync.specs.Passes.{sees, IsAtRest, AreRightsOf};
+    ghost use Rattle.lot_passes.specs.Passes.{sees, IsAtRest, IsWhole, AreRightsOf};
 
     /// The number of the thread.
     pub fn thread(&self) -> usize
@@ -34,8 +34,18 @@ impl<V: Keeps + Send, N: LotName<V> + Send> Pass<V, N> {
         self.right.thread()
     }
 
+    /// What each pass of a lot is, told of this one.
     #[inline(always)]
-    pub(crate) fn at_rest(right: NamedPass<V, N>, kinds: Rights<N>) -> Pass<V, N>
+    pub fn is_whole(&self)
+        ensures { IsWhole (record { opening = N.opening; threads = N.threads; values = N.values; locks = N.locks; conds = N.conds; low = N.low; permits = N.permits }) V.grows self.now }
+    {
+        let _right = &self.right;
+        self.kinds.thread();
+    }
+
+    /// The pass of these rights of one thread, between two calls.
+    #[inline(always)]
+    pub fn at_rest(right: NamedPass<V, N>, kinds: Rights<N>) -> Pass<V, N>
         requires rest { IsAtRest V.grows N.values N.threads right }
         requires own { AreRightsOf right.thread kinds }
         ensures { result ≡ sees kinds right }
@@ -43,8 +53,9 @@ impl<V: Keeps + Send, N: LotName<V> + Send> Pass<V, N> {
         Pass { right, kinds }
     }
 
+    /// Its rights.
     #[inline(always)]
-    pub(crate) fn apart(self) -> (NamedPass<V, N>, Rights<N>)
+    pub fn apart(self) -> (NamedPass<V, N>, Rights<N>)
         ensures rest { IsAtRest V.grows N.values N.threads result.0 }
         ensures own { AreRightsOf result.0.thread result.1 }
         ensures same { self ≡ sees result.1 result.0 }

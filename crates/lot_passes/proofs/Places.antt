@@ -4,8 +4,8 @@ use Rattle.lot_rights.specs.Shown.{PassShown}
 use Rattle.lot_words.specs.declared.views.LockPassView.{LockPassView}
 use Rattle.lot_kinds.specs.Rights.{RightsView}
 use Rattle.lot_kinds.proofs.Places.{at_before, at_last}
-use Rattle.lot_sync.specs.Passes.{AreRightsOf}
-use Rattle.lot_sync.specs.Starting.{ArePaired}
+use Rattle.lot_passes.specs.Passes.{AreRightsOf}
+use Rattle.lot_passes.specs.Starting.{ArePaired}
 
 -- the last pass and the last rights are of one thread, and so are those before them
 pub pairs_popped : {V : Type 0} (xs left : List (PassShown (LockPassView V))) (x : PassShown (LockPassView V)) (ys rest : List RightsView) (y : RightsView) → xs ≡ left ++ x ∷ []

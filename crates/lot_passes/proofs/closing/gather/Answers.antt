@@ -4,12 +4,12 @@ use Rattle.std.specs.List.{All}
 use Rattle.std.proofs.lemmas.List.Elements.{All-push}
 use Rattle.lot_rights.proofs.Gathers.{all_popped}
 use Rattle.lot_kinds.specs.Rights.{RightsView}
-use Rattle.lot_sync.specs.Lot.{PassView, Owns, OwnsNone, rights_of}
+use Rattle.lot_passes.specs.Lot.{PassView, Owns, OwnsNone, rights_of}
 use Rattle.lot_locks.specs.Standing.{Standing, stands}
-use Rattle.lot_sync.specs.Passes.{sees, seen_as, lock_side, IsFree}
-use Rattle.lot_sync.proofs.Rests.{held_owned}
+use Rattle.lot_passes.specs.Passes.{sees, seen_as, lock_side, IsFree}
+use Rattle.lot_passes.proofs.Holds.{held_owned}
 use Rattle.lot_rights.proofs.Turns.{moves_on, all_turned, map_turned, no_elements}
-use Rattle.lot_sync.proofs.closing.gather.Goals as goal
+use Rattle.lot_passes.proofs.closing.gather.Goals as goal
 
 -- the rights of a pass beside those on locks, as the pass shows them
 rights_are : {V : Type 0} (q : RightsView) (r : Standing V) (p : PassView V) → p ≡ sees q r → q.thread ≡ r.thread → q ≡ rights_of p

@@ -1,7 +1,7 @@
 //! The value of a lock, while its owner has it.
 ghost use Rattle.std.specs.Prelude.{◌≡◌};
 ghost use Rattle.std.specs.Borrow.{Lends, sem};
-ghost use Rattle.lot_sync.specs.contracts.held.Held.{the_row};
+ghost use Rattle.lot_passes.specs.contracts.held.Held.{the_row};
 
 use std::marker::{Model, PhantomData};
 
@@ -15,7 +15,7 @@ pub struct Held<V, N> {
 }
 
 impl<V, N> Model for Held<V, N> {
-    ghost use Rattle.lot_sync.specs.Lot.{HeldView};
+    ghost use Rattle.lot_passes.specs.Lot.{HeldView};
 
     ghost Value = { HeldView V };
 
@@ -23,7 +23,8 @@ impl<V, N> Model for Held<V, N> {
 }
 
 impl<V, N> Held<V, N> {
-    pub(crate) fn new(key: usize, value: V) -> Held<V, N>
+    /// The value, got from the lock of this number.
+    pub fn new(key: usize, value: V) -> Held<V, N>
         ensures key { result.key ≡ key }
         ensures value { result.value ≡ value }
     {
@@ -34,7 +35,8 @@ impl<V, N> Held<V, N> {
         }
     }
 
-    pub(crate) fn into_value(self) -> V
+    /// The value, to be given back to its lock.
+    pub fn into_value(self) -> V
         ensures { result ≡ self.value }
     {
         let Held {

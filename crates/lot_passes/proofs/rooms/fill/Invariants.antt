@@ -1,9 +1,9 @@
 use Rattle.std.proofs.Common.{◌≡◌, ◌+◌, ◌≤◌, vec_len, vec_capacity}
 use Rattle.std.specs.List.{All}
-use Rattle.lot_sync.specs.Passes.{IsFresh}
+use Rattle.lot_passes.specs.Passes.{IsFresh}
 use Rattle.lot_kinds.specs.Rights.{HoldsNone}
-use Rattle.lot_sync.specs.Starting.{ArePaired}
-use Rattle.lot_sync.proofs.start.fill.Given as goal
+use Rattle.lot_passes.specs.Starting.{ArePaired}
+use Rattle.lot_passes.proofs.rooms.fill.Given as goal
 
 abbrev pub invariant-loop-right : goal.invariant-loop-right
 invariant-loop-right g l = record {

@@ -1,8 +1,8 @@
 use Rattle.std.proofs.Common.{◌≡◌, ◌+◌, ◌≤◌, ◌++◌, map, reverse, vec_len, vec_capacity}
 use Rattle.std.specs.List.{All}
-use Rattle.lot_sync.specs.Lot.{OwnsNone, rights_of}
-use Rattle.lot_sync.specs.Passes.{seen_as, lock_side, IsFree}
-use Rattle.lot_sync.proofs.closing.gather.Given as goal
+use Rattle.lot_passes.specs.Lot.{OwnsNone, rights_of}
+use Rattle.lot_passes.specs.Passes.{seen_as, lock_side, IsFree}
+use Rattle.lot_passes.proofs.closing.gather.Given as goal
 
 abbrev pub invariant-loop-pass : goal.invariant-loop-pass
 invariant-loop-pass g l = record {

@@ -1,4 +1,4 @@
--- What a lot's pass is seen as, how it stands between two calls, and what joins the parts of a lot.
+-- What a lot's pass is seen as, and how it stands between two calls.
 use Rattle.std.specs.Prelude.{◌≡◌, ◌≢◌, ℕ, ◌<◌, ◌+◌, Bool, true, false, List, [], map, length, None}
 use mathlib.Core.Option.{some}
 use lib.ListN.{get_elem?}
@@ -12,10 +12,8 @@ use Rattle.lot_words.specs.Values.{IsOut, IsIn}
 use Rattle.lot_words.specs.Closing.{HoldsNone}
 use Rattle.lot_locks.specs.Standing.{Standing, stands}
 use Rattle.lot_locks.specs.Released.{released_in}
-use Rattle.lot_park.specs.Lots.{ParkingView}
 use Rattle.lot_kinds.specs.Rights.{RightsView}
-use Rattle.lot_kinds.specs.Tables.{LotSchemeShown}
-use Rattle.lot_sync.specs.Lot.{PassView, LotNames}
+use Rattle.lot_passes.specs.Lot.{PassView, LotNames, HasGrown}
 
 abbrev pub is_held : Hold → Bool
 is_held NotHeld = false
@@ -90,23 +88,16 @@ module _ {V : Type 0} where
     pub out : (l : ℕ) → l ≢ key → Holds r.own l → IsOut r.own l
     pub grown : (l : ℕ) (u v : V) → get_elem? opening l ≡ some u → get_elem? r.own.seen l ≡ some v → grows u v
 
+-- what each pass of a lot of this name is: of one of its threads, with a number or a value for each key, and gone on from the opening values
+pub record IsWhole {V : Type 0} (names : LotNames V) (grows : V → V → Type 0) (p : PassView V) : Type 0 where
+  pub is_thread : p.thread < names.threads
+  pub owns_long : length p.owns ≡ length names.values
+  pub seen_long : length p.seen ≡ length names.values
+  pub called_long : length p.called ≡ names.locks + names.conds
+  pub woken_long : length p.woken ≡ names.locks + names.conds
+  pub permits_long : length p.permits ≡ names.low + length names.permits
+  pub grown : HasGrown grows names.values p
+
 -- they are the thread's own
 abbrev pub AreRightsOf : ℕ → RightsView → Type 0
 AreRightsOf thread q = q.thread ≡ thread
-
--- ---- the lot
--- what joins the parts of a lot
-pub record IsLot {V : Type 0} (names : LotNames V) (threads locks conds sems : ℕ) (parking : ParkingView LotSchemeShown) : Type 0 where
-  pub words : parking.scheme.first.table ≡ names.opening.locks
-  pub words_threads : parking.scheme.first.size.threads ≡ names.threads
-  pub words_locks : parking.scheme.first.size.locks ≡ length names.values
-  pub conds_threads : parking.scheme.second.first.size.threads ≡ names.threads
-  pub sems_threads : parking.scheme.second.second.size.threads ≡ names.threads
-  pub named_locks : names.locks ≡ length names.values
-  pub named_low : names.low ≡ names.locks + names.conds
-  pub parking_threads : parking.threads ≡ names.threads
-  pub parking_keys : parking.keys ≡ length names.values + names.conds + length names.permits
-  pub own_threads : threads ≡ names.threads
-  pub own_locks : locks ≡ length names.values
-  pub own_conds : conds ≡ names.conds
-  pub own_sems : sems ≡ length names.permits

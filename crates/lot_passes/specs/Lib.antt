@@ -1,0 +1,3 @@
+pub mod Lot
+pub mod Passes
+pub mod Starting

@@ -1,0 +1,163 @@
+//! The passes that are in, and the room that closing a lot will want.
+ghost use Rattle.std.specs.Prelude.{◌≡◌, ◌+◌, ◌-◌, ◌<◌, ◌≤◌, length, vec_len, vec_capacity, IfSome, IsTrue, ◌↔◌};
+ghost use Rattle.lot_passes.specs.Lot.{OwnsNone};
+
+use crate::pass::Pass;
+use lot_kinds::{LotName, LotRoot, Rights};
+use lot_words::{Keeps, LockPass};
+use std::marker::Model;
+use std::sync::Wait;
+use std::thread;
+
+/// A pass that owns no lock and holds no permit.
+pub struct Idle<V: Keeps + Send, N: LotName<V> + Send> {
+    pass: Pass<V, N>,
+    ghost free: { OwnsNone pass },
+}
+
+impl<V: Keeps + Send, N: LotName<V> + Send> Idle<V, N> {
+    pub(crate) fn new(pass: Pass<V, N>) -> Idle<V, N>
+        requires free { OwnsNone pass }
+    {
+        Idle { pass }
+    }
+}
+
+/// The room that closing a lot fills. The lists held the rights before the lot started.
+pub struct ClosingRoom<V: Keeps + Send, N: LotName<V> + Send> {
+    passes: Vec<LockPass<V>>,
+    kinds: Vec<Rights<N>>,
+    named: Vec<LotRoot<V, N>>,
+    room: lot_kinds::ClosingRoom<V, N>,
+    ghost no_rights: { (vec_len passes ≡ 0) × (vec_len kinds ≡ 0) },
+    ghost no_roots: { vec_len named ≡ 0 },
+    ghost for_rights: { (N.threads ≤ vec_capacity passes) × (N.threads ≤ vec_capacity kinds) },
+    ghost for_roots: { length N.values + N.conds + length N.permits ≤ vec_capacity named },
+}
+
+impl<V: Keeps + Send, N: LotName<V> + Send> ClosingRoom<V, N> {
+    /// The room of these lists, which are empty.
+    pub(crate) fn new(
+        passes: Vec<LockPass<V>>,
+        kinds: Vec<Rights<N>>,
+        named: Vec<LotRoot<V, N>>,
+        room: lot_kinds::ClosingRoom<V, N>,
+    ) -> ClosingRoom<V, N>
+        requires empty { (vec_len passes ≡ 0) × (vec_len kinds ≡ 0) × (vec_len named ≡ 0) }
+        requires for_rights { (N.threads ≤ vec_capacity passes) × (N.threads ≤ vec_capacity kinds) }
+        requires for_roots { length N.values + N.conds + length N.permits ≤ vec_capacity named }
+    {
+        ClosingRoom {
+            passes,
+            kinds,
+            named,
+            room,
+        }
+    }
+
+    /// The lists, with room for the passes of all threads, for their rights beside, and for the roots of all keys.
+    pub fn apart(
+        self,
+    ) -> (
+        Vec<LockPass<V>>,
+        Vec<Rights<N>>,
+        Vec<LotRoot<V, N>>,
+        lot_kinds::ClosingRoom<V, N>,
+    )
+        ensures empty { (vec_len result.0 ≡ 0) × (vec_len result.1 ≡ 0) × (vec_len result.2 ≡ 0) }
+        ensures for_rights { (N.threads ≤ vec_capacity result.0) × (N.threads ≤ vec_capacity result.1) }
+        ensures for_roots { length N.values + N.conds + length N.permits ≤ vec_capacity result.2 }
+    {
+        let ClosingRoom {
+            passes,
+            kinds,
+            named,
+            room,
+        } = self;
+        (passes, kinds, named, room)
+    }
+}
+
+/// The passes that are in.
+pub struct Pool<V: Keeps + Send, N: LotName<V> + Send> {
+    idle: Vec<Idle<V, N>>,
+    room: ClosingRoom<V, N>,
+}
+
+impl<V: Keeps + Send, N: LotName<V> + Send> Model for Pool<V, N> {
+    ghost use Rattle.std.specs.Prelude.{ℕ, ◌≤◌, vec_len, vec_capacity};
+
+    /// How many are in.
+    ghost Value = { ℕ };
+
+    ghost view = { λ s. vec_len s.idle };
+
+    ghost invariant = { λ s. (vec_len s.idle ≤ N.threads) × (N.threads ≤ vec_capacity s.idle) };
+}
+
+impl<V: Keeps + Send, N: LotName<V> + Send> Pool<V, N> {
+    /// The pool in which these are.
+    pub(crate) fn new(idle: Vec<Idle<V, N>>, room: ClosingRoom<V, N>) -> Pool<V, N>
+        requires { (vec_len idle ≤ N.threads) × (N.threads ≤ vec_capacity idle) }
+        ensures { result ≡ vec_len idle }
+    {
+        Pool { idle, room }
+    }
+
+    /// The pass of the least number that is in.
+    pub fn take_least(&mut self) -> Option<Pass<V, N>>
+        ensures free { IfSome result OwnsNone }
+        ensures fewer { IfSome result (λ _. (self.new + 1 ≡ self.old) × (self.new < N.threads)) }
+    {
+        if self.idle.is_empty() {
+            return None;
+        }
+        let mut least = 0;
+        for place in 1..self.idle.len() {
+            if self.idle[place].pass.thread() < self.idle[least].pass.thread() {
+                least = place;
+            }
+        }
+        let Idle { pass } = self.idle.swap_remove(least);
+        Some(pass)
+    }
+
+    /// How many passes are out.
+    pub fn count_out(&self, threads: usize) -> usize
+        requires { threads ≡ N.threads }
+        ensures some { result ≡ threads - self.now }
+        ensures few { result ≤ N.threads }
+    {
+        threads - self.idle.len()
+    }
+
+    /// Whether a pass more would fit.
+    pub fn is_full(&self, threads: usize) -> bool
+        requires { threads ≡ N.threads }
+        ensures { IsTrue result ↔ (N.threads ≤ self.now) }
+    {
+        self.idle.len() >= threads
+    }
+
+    /// Takes a pass in.
+    pub fn put(&mut self, pass: Pass<V, N>)
+        requires free { OwnsNone pass }
+        requires room { self.old < N.threads }
+        ensures { self.new ≡ self.old + 1 }
+    {
+        self.idle.push_reserved(Idle { pass });
+    }
+
+    /// The room for closing, once no pass is in. Who closes a lot has all passes, so none is: what no lock's type can say is tested here.
+    pub fn into_room<R: Wait>(self, rt: &R) -> ClosingRoom<V, N> {
+        let Pool { idle, room } = self;
+        if idle.is_empty() {
+            idle.destroy_empty();
+            return room;
+        }
+        for _ in rt.forever() {
+            thread::yield_now();
+        }
+        unreachable!()
+    }
+}
