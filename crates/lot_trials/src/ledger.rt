@@ -5,9 +5,10 @@ ghost use Rattle.lot_sync.specs.Opened.{IsNamed};
 ghost use Rattle.lot_trials.specs.Counting.{HasCountedNone, EndsAs, EndsThere};
 
 use crate::asserts::{equal, failed, room_for};
-use crate::lots::{ASKINGS, Number};
+use crate::counts::ASKINGS;
 use crate::passes::enter;
 use lot_sync::{Ledger, Lot, LotName, Moment, Opened, Pass};
+use lot_words::Keeps;
 use std::alloc::Global;
 use std::marker::Brand;
 use std::process::Abort;
@@ -15,6 +16,26 @@ use std::sync::Wait;
 use std::test::*;
 use std::thread;
 use std::thread::Threads;
+
+/// A number, of which nothing is kept.
+#[derive(Clone, Copy)]
+struct Number {
+    n: u64,
+}
+
+impl Keeps for Number {
+    type Part = ();
+
+    ghost keeps = { λ key number. Unit {0} };
+
+    ghost grows = { λ old new. Unit {0} };
+
+    ghost part = { λ thread number. tt };
+
+    ghost grows_itself = { λ number. tt };
+
+    ghost grows_on = { λ x y z p q. tt };
+}
 
 /// The one condition: its number follows that of the one lock.
 const COND: usize = 1;

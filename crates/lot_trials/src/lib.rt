@@ -20,8 +20,6 @@ mod history;
 #[cfg(test)]
 mod ledger;
 #[cfg(test)]
-mod lots;
-#[cfg(test)]
 mod measures;
 #[cfg(test)]
 mod passes;

@@ -4,7 +4,7 @@ ghost use Rattle.lot_sync.specs.Opened.{IsNamed};
 
 use crate::asserts::{equal, failed, is_so};
 use crate::counts::{Count, Gathered, end};
-use crate::schedules::{Schedule, Step, follow};
+use crate::schedules::{Memory, Schedule, Step, follow};
 use lot_sync::{Lot, LotName, OpenFault, Opened, Released};
 use std::alloc::Global;
 use std::marker::Brand;
@@ -25,6 +25,7 @@ pub(crate) fn on_locks<T: Threads + Wait + Sync + Abort>(
         rows,
         how: Gathered::Left,
         waits: (0, 0),
+        memory: Memory::Ample,
     };
     follow(rt, alloc, schedule);
 }
@@ -322,6 +323,52 @@ fn passes_are_given_least_number_first(rt: HostRuntime) {
     on_locks(&rt, rt.alloc(), 3, &REGISTRATION);
 }
 
+/// The fifth registration makes the table grow past a sleeper, which is served then.
+static GROWTH_PAST_ONE: [(usize, Step); 20] = [
+    (0, Step::Register(0)),
+    (0, Step::Lock(0)),
+    (1, Step::Register(1)),
+    (1, Step::Sleep(0)),
+    (0, Step::AwaitLine(0, 1)),
+    (2, Step::Register(2)),
+    (3, Step::Register(3)),
+    (0, Step::Size(12)),
+    (4, Step::Register(4)),
+    (0, Step::Size(30)),
+    (0, Step::Line(0, 1)),
+    (4, Step::Leave),
+    (3, Step::Leave),
+    (2, Step::Leave),
+    (0, Step::Raise(7)),
+    (0, Step::Unlock(0, Released::Woke)),
+    (1, Step::Raise(8)),
+    (1, Step::Unlock(0, Released::Quiet)),
+    (0, Step::Leave),
+    (1, Step::Leave),
+];
+
+/// The same, where requests may be refused, or where none is refused for nothing.
+fn grow_past_one<T: Threads + Wait + Sync + Abort>(rt: &T, alloc: Global, memory: Memory) {
+    let schedule = Schedule {
+        threads: 5,
+        rows: &GROWTH_PAST_ONE,
+        how: Gathered::Left,
+        waits: (0, 0),
+        memory,
+    };
+    follow(rt, alloc, schedule);
+}
+
+#[test]
+fn a_refused_registration_changes_nothing(rt: HostRuntime) {
+    grow_past_one(&rt, rt.alloc(), Memory::MayBeRefused);
+}
+
+#[test]
+fn nothing_answers_no_memory_for_nothing(rt: HostRuntime) {
+    grow_past_one(&rt, rt.alloc(), Memory::Ample);
+}
+
 /// Four threads have registered, and then two at once: whichever lets the table grow, it is large enough, and no pass is left.
 static TWO_AT_ONCE: [(usize, Step); 16] = [
     (0, Step::Register(0)),
@@ -375,6 +422,7 @@ fn registration_and_growth_succeed(rt: HostRuntime) {
         rows: &[],
         how: Gathered::Registered,
         waits: (0, 0),
+        memory: Memory::Ample,
     };
     follow(&rt, rt.alloc(), schedule);
 }

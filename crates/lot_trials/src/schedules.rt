@@ -1,11 +1,11 @@
 //! Schedules: what threads do on a lot one after the other, row by row, and what each row leaves.
-ghost use Rattle.std.specs.Prelude.{◌≡◌, ◌≤◌, ◌<◌, length};
+ghost use Rattle.std.specs.Prelude.{◌≡◌, ◌≤◌, ◌<◌, length, vec_len, vec_capacity};
 ghost use Rattle.lot_sync.specs.Lot.{OwnsNone};
 ghost use Rattle.lot_sync.specs.Holding.{Holding, HoldingBoth};
 ghost use Rattle.lot_sync.specs.Opened.{IsNamed};
-ghost use Rattle.lot_trials.specs.Schedules.{HasPermits, HasSizes, MayHave};
+ghost use Rattle.lot_trials.specs.Schedules.{HasPermits, HasSizes};
 
-use crate::asserts::{equal, failed, is_so, room_for, started};
+use crate::asserts::{equal, failed, is_so};
 use crate::counts::{
     ASKINGS, Count, Gathered, await_line, call_all, call_one, call_owning, call_some, end, free,
     is_free, own, own_at_gate, own_second, raise, release, release_fairly, release_first, try_own,
@@ -13,7 +13,8 @@ use crate::counts::{
 };
 use crate::passes::enter;
 use lot_sync::{
-    Freed, Held, Lot, LotName, Moment, Opened, Pass, Permit, RegisterFault, Released, Tried,
+    Freed, Held, Lot, LotName, Moment, OpenFault, Opened, Pass, Permit, RegisterFault, Released,
+    Tried,
 };
 use std::alloc::Global;
 use std::marker::Brand;
@@ -110,30 +111,91 @@ impl Step {
     }
 }
 
+/// A pass that owns no lock and holds no permit.
+struct Calm<N: LotName<Count> + Send + Sync> {
+    pass: Pass<Count, N>,
+    ghost free: { OwnsNone pass },
+}
+
+/// A pass that owns one lock.
+struct Owner<N: LotName<Count> + Send + Sync> {
+    pass: Pass<Count, N>,
+    held: Held<Count, N>,
+    ghost key: { held.key < 14 },
+    ghost holding: { Holding (λ x y. x.n ≤ y.n) pass held },
+}
+
+/// A pass that owns two locks.
+struct OwnerOfTwo<N: LotName<Count> + Send + Sync> {
+    pass: Pass<Count, N>,
+    first: Held<Count, N>,
+    second: Held<Count, N>,
+    ghost keys: { (first.key < 14) × (second.key < 14) },
+    ghost both: { HoldingBoth (λ x y. x.n ≤ y.n) pass first second },
+}
+
+/// A pass that holds one permit.
+struct Holder<N: LotName<Count> + Send + Sync> {
+    pass: Pass<Count, N>,
+    permit: Permit<N>,
+    ghost has: { HasPermits pass permit 1 },
+}
+
+/// A pass that holds two permits of one semaphore.
+struct HolderOfTwo<N: LotName<Count> + Send + Sync> {
+    pass: Pass<Count, N>,
+    first: Permit<N>,
+    second: Permit<N>,
+    ghost has: { HasPermits pass first 2 },
+    ghost same: { (second.key ≡ first.key) × (second.thread ≡ first.thread) },
+}
+
 /// What a thread has between its steps.
-pub(crate) enum Standing<P, H, R> {
+enum Standing<N: LotName<Count> + Send + Sync> {
     Out,
-    Calm(P),
-    Owner(P, H),
-    OwnerOfTwo(P, H, H),
-    Holder(P, R),
-    HolderOfTwo(P, R, R),
+    Calm(Calm<N>),
+    Owner(Owner<N>),
+    OwnerOfTwo(OwnerOfTwo<N>),
+    Holder(Holder<N>),
+    HolderOfTwo(HolderOfTwo<N>),
+}
+
+/// Whether requests for memory, and starts of threads, may be refused.
+#[derive(Clone, Copy, PartialEq, Eq)]
+pub(crate) enum Memory {
+    Ample,
+    MayBeRefused,
+}
+
+/// A request was refused, which it may be, or the test fails.
+fn may_be_refused(rt: &impl Abort, memory: Memory) {
+    is_so(
+        rt,
+        memory == Memory::MayBeRefused,
+        "a request may be refused here",
+    );
 }
 
 /// What the threads of a schedule share.
 #[derive(Drop)]
 struct Stage {
+    memory: Memory,
+    /// Raised when a thread could not be started: the others let go of what they have, and leave.
+    given_up: AtomicU64,
     /// The number of the row that is made next.
     turn: AtomicU64,
     /// Raised when those that are held at the gate may go on.
     gate: AtomicU64,
 }
 
-/// Waits until it is the row's turn, asking a bounded number of times, or the test fails.
-fn await_turn(rt: &impl Abort, stage: &Stage, row: usize) {
+/// Waits until it is the row's turn, asking a bounded number of times, or the test fails. False where the schedule is given up.
+fn has_turn(rt: &impl Abort, stage: &Stage, row: usize) -> bool {
     for _ in 0..ASKINGS {
         if stage.turn.load(Ordering::SeqCst) == row as u64 {
-            return;
+            return true;
+        }
+        if stage.given_up.load(Ordering::SeqCst) != 0 {
+            return false;
         }
         thread::yield_now();
     }
@@ -221,58 +283,79 @@ fn is_full<N: LotName<Count> + Send + Sync, T: Wait + Abort>(rt: &T, lot: &Lot<C
     }
 }
 
-/// A step of a thread that has no pass: it registers.
-fn register<N: LotName<Count> + Send + Sync, T: Wait + Abort>(
+/// A pass. Where memory is refused, the table and the line of lock 0 are as before, and the next registration gives it.
+fn registered<N: LotName<Count> + Send + Sync, T: Wait + Abort>(
     rt: &T,
     lot: &Lot<Count, N>,
-    step: Step,
-) -> Pass<Count, N>
-    ensures { OwnsNone result }
+    stage: &Stage,
+) -> Calm<N>
+    requires { HasSizes lot.now }
 {
-    let pass = enter(rt, lot);
+    let before = (lot.table_size(rt), lot.line_length(rt, 0));
+    match lot.register(rt) {
+        Ok(pass) => Calm { pass },
+        Err(fault) => {
+            equal(rt, fault, RegisterFault::NoMemory);
+            may_be_refused(rt, stage.memory);
+            equal(rt, (lot.table_size(rt), lot.line_length(rt, 0)), before);
+            let pass = enter(rt, lot);
+            Calm { pass }
+        }
+    }
+}
+
+/// A step of a thread that has no pass: it registers.
+fn when_out<N: LotName<Count> + Send + Sync, T: Wait + Abort>(
+    rt: &T,
+    lot: &Lot<Count, N>,
+    stage: &Stage,
+    step: Step,
+) -> Calm<N>
+    requires { HasSizes lot.now }
+{
+    let calm = registered(rt, lot, stage);
     match step {
-        Step::Register(wanted) => equal(rt, pass.thread(), wanted),
+        Step::Register(wanted) => equal(rt, calm.pass.thread(), wanted),
         Step::RegisterBeside => {}
         _ => failed(rt, "a thread without a pass registers first"),
     }
-    pass
+    calm
 }
 
-/// A step of a thread that owns nothing, by which it gets a lock or leaves.
+/// A step of a thread that owns nothing, by which it gets a lock or a permit, or leaves.
 fn when_calm<N: LotName<Count> + Send + Sync, T: Wait + Abort>(
     rt: &T,
     lot: &Lot<Count, N>,
     stage: &Stage,
-    pass: Pass<Count, N>,
+    calm: Calm<N>,
     step: Step,
-) -> Standing<Pass<Count, N>, Held<Count, N>, Permit<N>>
-    requires sizes { HasSizes lot.now }
-    requires free { OwnsNone pass }
-    ensures { MayHave result }
+) -> Standing<N>
+    requires { HasSizes lot.now }
 {
+    let Calm { pass } = calm;
     match step {
         Step::Lock(key) | Step::Sleep(key) => {
             lock_key(rt, key);
             let (pass, held) = own(rt, lot, pass, key);
-            Standing::Owner(pass, held)
+            Standing::Owner(Owner { pass, held })
         }
         Step::SleepAtGate(key) => {
             lock_key(rt, key);
             let (pass, held) = own_at_gate(rt, lot, pass, key, &stage.gate);
-            Standing::Owner(pass, held)
+            Standing::Owner(Owner { pass, held })
         }
-        Step::TryLock(key, wanted) => tried(rt, lot, pass, key, wanted),
+        Step::TryLock(key, wanted) => try_to_own(rt, lot, Calm { pass }, key, wanted),
         Step::Acquire(key) | Step::SleepFor(key) => {
             sem_key(rt, key);
             let (pass, permit) = lot.acquire(rt, pass, key);
-            Standing::Holder(pass, permit)
+            Standing::Holder(Holder { pass, permit })
         }
-        Step::TryAcquire(key, wanted) => try_first(rt, lot, pass, key, wanted),
+        Step::TryAcquire(key, wanted) => try_to_hold(rt, lot, Calm { pass }, key, wanted),
         Step::Leave => {
             lot.leave(rt, pass);
             Standing::Out
         }
-        _ => Standing::Calm(notify(rt, lot, pass, step)),
+        _ => Standing::Calm(notify(rt, lot, Calm { pass }, step)),
     }
 }
 
@@ -280,19 +363,18 @@ fn when_calm<N: LotName<Count> + Send + Sync, T: Wait + Abort>(
 fn notify<N: LotName<Count> + Send + Sync, T: Wait + Abort>(
     rt: &T,
     lot: &Lot<Count, N>,
-    pass: Pass<Count, N>,
+    calm: Calm<N>,
     step: Step,
-) -> Pass<Count, N>
-    requires sizes { HasSizes lot.now }
-    requires free { OwnsNone pass }
-    ensures { OwnsNone result }
+) -> Calm<N>
+    requires { HasSizes lot.now }
 {
+    let Calm { pass } = calm;
     match step {
         Step::NotifyOne(cond, now, wanted) => {
             cond_key(rt, cond);
             let (pass, took) = call_one(rt, lot, pass, cond, now);
             equal(rt, took, wanted);
-            pass
+            Calm { pass }
         }
         Step::NotifySome(cond, count, wanted) => {
             cond_key(rt, cond);
@@ -300,42 +382,41 @@ fn notify<N: LotName<Count> + Send + Sync, T: Wait + Abort>(
             is_so(rt, count <= 256, "no more than there may be");
             let (pass, taken) = call_some(rt, lot, pass, cond, count);
             equal(rt, taken, wanted);
-            pass
+            Calm { pass }
         }
         Step::NotifyAll(cond, wanted) => {
             cond_key(rt, cond);
             let (pass, count) = call_all(rt, lot, pass, cond);
             equal(rt, count, wanted);
-            pass
+            Calm { pass }
         }
         Step::HasWaiters(cond, wanted) => {
             cond_key(rt, cond);
             let (pass, has) = lot.has_waiters(pass, cond);
             equal(rt, has, wanted);
-            pass
+            Calm { pass }
         }
         _ => failed(rt, "no step of a thread that owns nothing"),
     }
 }
 
 /// `try_lock`, with what is wanted of it.
-fn tried<N: LotName<Count> + Send + Sync, T: Wait + Abort>(
+fn try_to_own<N: LotName<Count> + Send + Sync, T: Wait + Abort>(
     rt: &T,
     lot: &Lot<Count, N>,
-    pass: Pass<Count, N>,
+    calm: Calm<N>,
     key: usize,
     wanted: bool,
-) -> Standing<Pass<Count, N>, Held<Count, N>, Permit<N>>
-    requires sizes { HasSizes lot.now }
-    requires free { OwnsNone pass }
-    ensures { MayHave result }
+) -> Standing<N>
+    requires { HasSizes lot.now }
 {
+    let Calm { pass } = calm;
     lock_key(rt, key);
     let (pass, got) = try_own(lot, pass, key);
     equal(rt, got.is_some(), wanted);
     match got {
-        Some(held) => Standing::Owner(pass, held),
-        None => Standing::Calm(pass),
+        Some(held) => Standing::Owner(Owner { pass, held }),
+        None => Standing::Calm(Calm { pass }),
     }
 }
 
@@ -344,58 +425,68 @@ fn when_owner<N: LotName<Count> + Send + Sync, T: Wait + Abort>(
     rt: &T,
     lot: &Lot<Count, N>,
     stage: &Stage,
-    pass: Pass<Count, N>,
-    held: Held<Count, N>,
+    owner: Owner<N>,
     step: Step,
-) -> Standing<Pass<Count, N>, Held<Count, N>, Permit<N>>
-    requires sizes { HasSizes lot.now }
-    requires key { held.key < 14 }
-    requires holding { Holding (λ x y. x.n ≤ y.n) pass held }
-    ensures { MayHave result }
+) -> Standing<N>
+    requires { HasSizes lot.now }
 {
     match step {
-        Step::Lock(key) => {
-            lock_key(rt, key);
-            is_so(rt, key != held.key(), "it has this lock");
-            let (pass, first, second) = own_second(rt, lot, pass, held, key);
-            Standing::OwnerOfTwo(pass, first, second)
-        }
+        Step::Lock(key) => Standing::OwnerOfTwo(own_another(rt, lot, owner, key)),
         Step::Raise(wanted) => {
+            let Owner { pass, held } = owner;
             let (pass, held) = raise(rt, pass, held, wanted);
-            Standing::Owner(pass, held)
+            Standing::Owner(Owner { pass, held })
         }
         Step::NotifyOne(cond, _, wanted) => {
             cond_key(rt, cond);
+            let Owner { pass, held } = owner;
             let (pass, held, took) = call_owning(rt, lot, pass, held, cond);
             equal(rt, took, wanted);
-            Standing::Owner(pass, held)
+            Standing::Owner(Owner { pass, held })
         }
-        Step::UnlockUnparked(wanted) => freed(rt, lot, pass, held, wanted),
+        Step::UnlockUnparked(wanted) => try_to_free(rt, lot, owner, wanted),
         Step::Wait(_, _) | Step::WaitAtGate(_) => {
-            Standing::Calm(wait(rt, lot, stage, pass, held, step))
+            Standing::Calm(wait(rt, lot, stage, owner, step))
         }
-        _ => Standing::Calm(let_go(rt, lot, pass, held, step)),
+        _ => Standing::Calm(let_go(rt, lot, owner, step)),
+    }
+}
+
+/// `lock` of another lock.
+fn own_another<N: LotName<Count> + Send + Sync, T: Wait + Abort>(
+    rt: &T,
+    lot: &Lot<Count, N>,
+    owner: Owner<N>,
+    key: usize,
+) -> OwnerOfTwo<N>
+    requires { HasSizes lot.now }
+{
+    let Owner { pass, held } = owner;
+    lock_key(rt, key);
+    is_so(rt, key != held.key(), "it has this lock");
+    let (pass, first, second) = own_second(rt, lot, pass, held, key);
+    OwnerOfTwo {
+        pass,
+        first,
+        second,
     }
 }
 
 /// `unlock_unparked`, with what is wanted of it.
-fn freed<N: LotName<Count> + Send + Sync, T: Wait + Abort>(
+fn try_to_free<N: LotName<Count> + Send + Sync, T: Wait + Abort>(
     rt: &T,
     lot: &Lot<Count, N>,
-    pass: Pass<Count, N>,
-    held: Held<Count, N>,
+    owner: Owner<N>,
     wanted: bool,
-) -> Standing<Pass<Count, N>, Held<Count, N>, Permit<N>>
-    requires sizes { HasSizes lot.now }
-    requires key { held.key < 14 }
-    requires holding { Holding (λ x y. x.n ≤ y.n) pass held }
-    ensures { MayHave result }
+) -> Standing<N>
+    requires { HasSizes lot.now }
 {
+    let Owner { pass, held } = owner;
     let (pass, back) = free(lot, pass, held);
     equal(rt, back.is_none(), wanted);
     match back {
-        Some(held) => Standing::Owner(pass, held),
-        None => Standing::Calm(pass),
+        Some(held) => Standing::Owner(Owner { pass, held }),
+        None => Standing::Calm(Calm { pass }),
     }
 }
 
@@ -404,15 +495,12 @@ fn wait<N: LotName<Count> + Send + Sync, T: Wait + Abort>(
     rt: &T,
     lot: &Lot<Count, N>,
     stage: &Stage,
-    pass: Pass<Count, N>,
-    held: Held<Count, N>,
+    owner: Owner<N>,
     step: Step,
-) -> Pass<Count, N>
-    requires sizes { HasSizes lot.now }
-    requires key { held.key < 14 }
-    requires holding { Holding (λ x y. x.n ≤ y.n) pass held }
-    ensures { OwnsNone result }
+) -> Calm<N>
+    requires { HasSizes lot.now }
 {
+    let Owner { pass, held } = owner;
     let (pass, held) = match step {
         Step::Wait(cond, now) => {
             cond_key(rt, cond);
@@ -426,36 +514,33 @@ fn wait<N: LotName<Count> + Send + Sync, T: Wait + Abort>(
     };
     is_so(rt, lot.is_held(held.key()), "who waited has its lock");
     let (pass, _) = release(rt, lot, pass, held, 0);
-    pass
+    Calm { pass }
 }
 
 /// A step of a thread that owns one lock, by which it lets it go.
 fn let_go<N: LotName<Count> + Send + Sync, T: Wait + Abort>(
     rt: &T,
     lot: &Lot<Count, N>,
-    pass: Pass<Count, N>,
-    held: Held<Count, N>,
+    owner: Owner<N>,
     step: Step,
-) -> Pass<Count, N>
-    requires sizes { HasSizes lot.now }
-    requires key { held.key < 14 }
-    requires holding { Holding (λ x y. x.n ≤ y.n) pass held }
-    ensures { OwnsNone result }
+) -> Calm<N>
+    requires { HasSizes lot.now }
 {
+    let Owner { pass, held } = owner;
     match step {
         Step::Unlock(now, wanted) => {
             let (pass, released) = release(rt, lot, pass, held, now);
             equal(rt, released, wanted);
-            pass
+            Calm { pass }
         }
         Step::UnlockFairly(wanted) => {
             let (pass, released) = release_fairly(rt, lot, pass, held);
             equal(rt, released, wanted);
-            pass
+            Calm { pass }
         }
         Step::LetGo => {
             let (pass, _) = release(rt, lot, pass, held, 0);
-            pass
+            Calm { pass }
         }
         _ => failed(rt, "no step of a thread that owns a lock"),
     }
@@ -465,46 +550,45 @@ fn let_go<N: LotName<Count> + Send + Sync, T: Wait + Abort>(
 fn when_owner_of_two<N: LotName<Count> + Send + Sync, T: Wait + Abort>(
     rt: &T,
     lot: &Lot<Count, N>,
-    pass: Pass<Count, N>,
-    first: Held<Count, N>,
-    second: Held<Count, N>,
+    owner: OwnerOfTwo<N>,
     step: Step,
-) -> Standing<Pass<Count, N>, Held<Count, N>, Permit<N>>
-    requires sizes { HasSizes lot.now }
-    requires keys { (first.key < 14) × (second.key < 14) }
-    requires both { HoldingBoth (λ x y. x.n ≤ y.n) pass first second }
-    ensures { MayHave result }
+) -> Owner<N>
+    requires { HasSizes lot.now }
 {
     let Step::UnlockFirst(wanted) = step else {
         failed(rt, "no step of a thread that owns two locks")
     };
+    let OwnerOfTwo {
+        pass,
+        first,
+        second,
+    } = owner;
     let (pass, held, released) = release_first(rt, lot, pass, first, second);
     equal(rt, released, wanted);
-    Standing::Owner(pass, held)
+    Owner { pass, held }
 }
 
 /// `try_acquire` of a thread that owns nothing, with what is wanted of it.
-fn try_first<N: LotName<Count> + Send + Sync, T: Wait + Abort>(
+fn try_to_hold<N: LotName<Count> + Send + Sync, T: Wait + Abort>(
     rt: &T,
     lot: &Lot<Count, N>,
-    pass: Pass<Count, N>,
+    calm: Calm<N>,
     key: usize,
     wanted: bool,
-) -> Standing<Pass<Count, N>, Held<Count, N>, Permit<N>>
-    requires sizes { HasSizes lot.now }
-    requires free { OwnsNone pass }
-    ensures { MayHave result }
+) -> Standing<N>
+    requires { HasSizes lot.now }
 {
+    let Calm { pass } = calm;
     sem_key(rt, key);
     let (pass, tried) = lot.try_acquire(pass, key);
     match tried {
         Tried::Got(permit) => {
             is_so(rt, wanted, "none is left");
-            Standing::Holder(pass, permit)
+            Standing::Holder(Holder { pass, permit })
         }
         Tried::Empty => {
             is_so(rt, !wanted, "one is left");
-            Standing::Calm(pass)
+            Standing::Calm(Calm { pass })
         }
         Tried::Busy => failed(rt, "the semaphore was busy"),
     }
@@ -514,25 +598,27 @@ fn try_first<N: LotName<Count> + Send + Sync, T: Wait + Abort>(
 fn when_holder<N: LotName<Count> + Send + Sync, T: Wait + Abort>(
     rt: &T,
     lot: &Lot<Count, N>,
-    pass: Pass<Count, N>,
-    permit: Permit<N>,
+    holder: Holder<N>,
     step: Step,
-) -> Standing<Pass<Count, N>, Held<Count, N>, Permit<N>>
-    requires sizes { HasSizes lot.now }
-    requires has { HasPermits pass permit 1 }
-    ensures { MayHave result }
+) -> Standing<N>
+    requires { HasSizes lot.now }
 {
+    let Holder { pass, permit } = holder;
     match step {
         Step::Acquire(key) => {
             sem_key(rt, key);
             is_so(rt, key == permit.key(), "it holds one of this semaphore");
             let (pass, second) = lot.acquire(rt, pass, key);
-            Standing::HolderOfTwo(pass, permit, second)
+            Standing::HolderOfTwo(HolderOfTwo {
+                pass,
+                first: permit,
+                second,
+            })
         }
         Step::Release(now, wanted) => {
             let (pass, freed) = lot.release(rt, pass, permit, Moment { now, word: 7 });
             equal(rt, freed, wanted);
-            Standing::Calm(pass)
+            Standing::Calm(Calm { pass })
         }
         _ => failed(rt, "no step of a thread that holds a permit"),
     }
@@ -542,22 +628,25 @@ fn when_holder<N: LotName<Count> + Send + Sync, T: Wait + Abort>(
 fn when_holder_of_two<N: LotName<Count> + Send + Sync, T: Wait + Abort>(
     rt: &T,
     lot: &Lot<Count, N>,
-    pass: Pass<Count, N>,
-    first: Permit<N>,
-    second: Permit<N>,
+    holder: HolderOfTwo<N>,
     step: Step,
-) -> Standing<Pass<Count, N>, Held<Count, N>, Permit<N>>
-    requires sizes { HasSizes lot.now }
-    requires has { HasPermits pass first 2 }
-    requires same { (second.key ≡ first.key) × (second.thread ≡ first.thread) }
-    ensures { MayHave result }
+) -> Holder<N>
+    requires { HasSizes lot.now }
 {
     let Step::Release(now, wanted) = step else {
         failed(rt, "no step of a thread that holds two permits")
     };
+    let HolderOfTwo {
+        pass,
+        first,
+        second,
+    } = holder;
     let (pass, freed) = lot.release(rt, pass, second, Moment { now, word: 7 });
     equal(rt, freed, wanted);
-    Standing::Holder(pass, first)
+    Holder {
+        pass,
+        permit: first,
+    }
 }
 
 /// Makes a step of a thread.
@@ -565,44 +654,36 @@ fn step_on<N: LotName<Count> + Send + Sync, T: Wait + Abort>(
     rt: &T,
     lot: &Lot<Count, N>,
     stage: &Stage,
-    standing: Standing<Pass<Count, N>, Held<Count, N>, Permit<N>>,
+    standing: Standing<N>,
     step: Step,
-) -> Standing<Pass<Count, N>, Held<Count, N>, Permit<N>>
-    requires sizes { HasSizes lot.now }
-    requires has { MayHave standing }
-    ensures { MayHave result }
+) -> Standing<N>
+    requires { HasSizes lot.now }
 {
     if looks(rt, lot, stage, step) {
         return standing;
     }
     match standing {
-        Standing::Out => Standing::Calm(register(rt, lot, step)),
-        Standing::Calm(pass) => when_calm(rt, lot, stage, pass, step),
-        Standing::Owner(pass, held) => when_owner(rt, lot, stage, pass, held, step),
-        Standing::OwnerOfTwo(pass, first, second) => {
-            when_owner_of_two(rt, lot, pass, first, second, step)
-        }
-        Standing::Holder(pass, permit) => when_holder(rt, lot, pass, permit, step),
-        Standing::HolderOfTwo(pass, first, second) => {
-            when_holder_of_two(rt, lot, pass, first, second, step)
+        Standing::Out => Standing::Calm(when_out(rt, lot, stage, step)),
+        Standing::Calm(calm) => when_calm(rt, lot, stage, calm, step),
+        Standing::Owner(owner) => when_owner(rt, lot, stage, owner, step),
+        Standing::OwnerOfTwo(owner) => Standing::Owner(when_owner_of_two(rt, lot, owner, step)),
+        Standing::Holder(holder) => when_holder(rt, lot, holder, step),
+        Standing::HolderOfTwo(holder) => {
+            Standing::Holder(when_holder_of_two(rt, lot, holder, step))
         }
     }
 }
 
-/// Makes the row when it is its turn.
+/// Makes the row, whose turn it is.
 fn in_turn<N: LotName<Count> + Send + Sync, T: Wait + Abort>(
     rt: &T,
     lot: &Lot<Count, N>,
     stage: &Stage,
-    row: usize,
-    standing: Standing<Pass<Count, N>, Held<Count, N>, Permit<N>>,
+    standing: Standing<N>,
     step: Step,
-) -> Standing<Pass<Count, N>, Held<Count, N>, Permit<N>>
-    requires sizes { HasSizes lot.now }
-    requires has { MayHave standing }
-    ensures { MayHave result }
+) -> Standing<N>
+    requires { HasSizes lot.now }
 {
-    await_turn(rt, stage, row);
     if step.sleeps() {
         pass_on(stage);
         return step_on(rt, lot, stage, standing, step);
@@ -625,13 +706,36 @@ fn act<N: LotName<Count> + Send + Sync, T: Wait + Abort>(
     let mut standing = Standing::Out;
     for row in 0..rows.len() {
         let (who, step) = rows[row];
-        if who == actor {
-            standing = in_turn(rt, lot, stage, row, standing, step);
+        if who == actor && has_turn(rt, stage, row) {
+            standing = in_turn(rt, lot, stage, standing, step);
         }
+    }
+    if stage.given_up.load(Ordering::SeqCst) != 0 {
+        give_up(rt, lot, standing);
+        return;
     }
     match standing {
         Standing::Out => {}
         _ => failed(rt, "a thread has its pass still"),
+    }
+}
+
+/// The thread lets go of the lock that it owns, if it owns one, and leaves.
+fn give_up<N: LotName<Count> + Send + Sync, T: Wait + Abort>(
+    rt: &T,
+    lot: &Lot<Count, N>,
+    standing: Standing<N>,
+)
+    requires { HasSizes lot.now }
+{
+    match standing {
+        Standing::Out => {}
+        Standing::Calm(Calm { pass }) => lot.leave(rt, pass),
+        Standing::Owner(owner) => {
+            let Calm { pass } = let_go(rt, lot, owner, Step::LetGo);
+            lot.leave(rt, pass);
+        }
+        _ => failed(rt, "a schedule that may be given up has one lock at a time"),
     }
 }
 
@@ -655,7 +759,10 @@ fn act_all<N: LotName<Count> + Send + Sync, T: Threads + Wait + Sync + Abort>(
                 let job = move ||
                     requires { HasSizes lot.now }
                 { act(rt, lot, stage, rows, actor) };
-                started(rt, scope.spawn(job).is_ok());
+                if scope.spawn(job).is_err() {
+                    may_be_refused(rt, stage.memory);
+                    stage.given_up.store(1, Ordering::SeqCst);
+                }
             }
         },
     );
@@ -683,6 +790,8 @@ pub(crate) struct Schedule<'a> {
     pub(crate) how: Gathered,
     /// How many waits end on the first condition, and on the last.
     pub(crate) waits: (u64, u64),
+    /// Whether it may be given up.
+    pub(crate) memory: Memory,
 }
 
 /// Makes the schedule on a lot of its own, which is closed then.
@@ -692,12 +801,24 @@ pub(crate) fn follow<T: Threads + Wait + Sync + Abort>(
     schedule: Schedule<'_>,
 ) {
     let Ok(values) = vec![in alloc; Count { n: 7 }; LOCKS] else {
-        failed(rt, "no memory")
+        may_be_refused(rt, schedule.memory);
+        return;
     };
-    match Lot::<Count, Brand>::open_with(alloc, schedule.threads, values, CONDS, &PERMITS) {
+    let values = match Lot::<Count, Brand>::open_with(
+        alloc,
+        schedule.threads,
+        values,
+        CONDS,
+        &PERMITS,
+    ) {
         Ok(opened) => follow_on::<Brand, T>(rt, alloc, opened, schedule),
-        Err(_) => failed(rt, "not opened"),
-    }
+        Err((fault, values)) => {
+            equal(rt, fault, OpenFault::NoMemory);
+            may_be_refused(rt, schedule.memory);
+            values
+        }
+    };
+    equal(rt, values.len(), LOCKS);
 }
 
 /// Makes the schedule on the lot, which is closed then.
@@ -706,23 +827,44 @@ fn follow_on<N: LotName<Count> + Send + Sync, T: Threads + Wait + Sync + Abort>(
     alloc: Global,
     opened: Opened<Count>,
     schedule: Schedule<'_>,
-)
+) -> Vec<Count>
     requires named { IsNamed (record { opening = N.opening; threads = N.threads; values = N.values; locks = N.locks; conds = N.conds; low = N.low; permits = N.permits }) opened }
     requires sizes { (opened.threads ≡ schedule.threads) × (length opened.values ≡ 14) × (opened.conds ≡ 13) × (length opened.permits ≡ 2) }
 {
-    let passes = room_for(rt, alloc, schedule.threads);
+    let Ok(passes) = Vec::with_capacity(alloc, schedule.threads) else {
+        may_be_refused(rt, schedule.memory);
+        return opened.close();
+    };
+    match opened.start::<N>(alloc) {
+        Ok(lot) => followed(rt, lot, passes, schedule),
+        Err((fault, values)) => {
+            passes.destroy_empty();
+            equal(rt, fault, OpenFault::NoMemory);
+            may_be_refused(rt, schedule.memory);
+            values
+        }
+    }
+}
+
+/// Makes the schedule, closes the lot, and looks at its ledger.
+fn followed<N: LotName<Count> + Send + Sync, T: Threads + Wait + Sync + Abort>(
+    rt: &T,
+    lot: Lot<Count, N>,
+    passes: Vec<Pass<Count, N>>,
+    schedule: Schedule<'_>,
+) -> Vec<Count>
+    requires sizes { HasSizes lot × (lot.threads ≡ schedule.threads) }
+    requires room { (vec_len passes ≡ 0) × (schedule.threads ≤ vec_capacity passes) }
+{
     let stage = Stage {
+        memory: schedule.memory,
+        given_up: AtomicU64::new(0),
         turn: AtomicU64::new(0),
         gate: AtomicU64::new(0),
     };
-    match opened.start::<N>(alloc) {
-        Ok(lot) => {
-            act_all(rt, &lot, &stage, schedule.rows, actors_of(schedule.rows));
-            let (values, ledger) = end(rt, lot, passes, schedule.threads, schedule.how);
-            equal(rt, values.len(), LOCKS);
-            equal(rt, (ledger.called[0], ledger.called[12]), schedule.waits);
-            equal(rt, (ledger.woken[0], ledger.woken[12]), schedule.waits);
-        }
-        Err(_) => failed(rt, "not started"),
-    }
+    act_all(rt, &lot, &stage, schedule.rows, actors_of(schedule.rows));
+    let (values, ledger) = end(rt, lot, passes, schedule.threads, schedule.how);
+    equal(rt, (ledger.called[0], ledger.called[12]), schedule.waits);
+    equal(rt, (ledger.woken[0], ledger.woken[12]), schedule.waits);
+    values
 }

@@ -1,7 +1,7 @@
 //! Threads that wait on a condition and are notified, in the running code: they wait in an order that is made by hand, and some are held before they sleep.
 
 use crate::counts::Gathered;
-use crate::schedules::{Schedule, Step, follow};
+use crate::schedules::{Memory, Schedule, Step, follow};
 use lot_sync::Released;
 use std::alloc::Global;
 use std::process::Abort;
@@ -28,6 +28,7 @@ pub(crate) fn on_conds<T: Threads + Wait + Sync + Abort>(
         rows,
         how: Gathered::Left,
         waits,
+        memory: Memory::Ample,
     };
     follow(rt, alloc, schedule);
 }
