@@ -34,9 +34,9 @@ impl<V: Keeps + Send, N: LotName<V> + Send> Pass<V, N> {
         self.right.thread()
     }
 
-    /// What each pass of a lot is, told of this one.
+    /// Shows what each pass of a lot is. It changes nothing.
     #[inline(always)]
-    pub fn is_whole(&self)
+    pub fn check_whole(&self)
         ensures { IsWhole (record { opening = N.opening; threads = N.threads; values = N.values; locks = N.locks; conds = N.conds; low = N.low; permits = N.permits }) V.grows self.now }
     {
         let _right = &self.right;

@@ -1,5 +1,5 @@
 //! The passes that are in, and the room that closing a lot will want.
-ghost use Rattle.std.specs.Prelude.{◌≡◌, ◌+◌, ◌-◌, ◌<◌, ◌≤◌, length, vec_len, vec_capacity, IfSome, IsTrue, ◌↔◌};
+ghost use Rattle.std.specs.Prelude.{◌≡◌, ◌+◌, ◌-◌, ◌<◌, ◌≤◌, length, vec_len, vec_capacity, IfSome, MatchOption, IsTrue, ◌↔◌};
 ghost use Rattle.lot_passes.specs.Lot.{OwnsNone};
 
 use crate::pass::Pass;
@@ -104,10 +104,10 @@ impl<V: Keeps + Send, N: LotName<V> + Send> Pool<V, N> {
         Pool { idle, room }
     }
 
-    /// The pass of the least number that is in.
+    /// The pass of the least number that is in; None where none is.
     pub fn take_least(&mut self) -> Option<Pass<V, N>>
         ensures free { IfSome result OwnsNone }
-        ensures fewer { IfSome result (λ _. (self.new + 1 ≡ self.old) × (self.new < N.threads)) }
+        ensures fewer { MatchOption result ((self.old ≡ 0) × (self.new ≡ 0)) (λ _. (self.new + 1 ≡ self.old) × (self.new < N.threads)) }
     {
         if self.idle.is_empty() {
             return None;

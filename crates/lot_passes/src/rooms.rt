@@ -101,6 +101,7 @@ pub fn pool_of<V: Keeps + Send, N: LotName<V> + Send>(
     requires empty { (vec_len idle ≡ 0) × (vec_len named ≡ 0) }
     requires for_rights { (N.threads ≤ vec_capacity idle) × (N.threads ≤ vec_capacity passes) × (N.threads ≤ vec_capacity kinds) }
     requires for_roots { length N.values + N.conds + length N.permits ≤ vec_capacity named }
+    ensures { result ≡ vec_len passes }
 {
     fill(&mut passes, &mut kinds, &mut idle);
     Pool::new(idle, ClosingRoom::new(passes, kinds, named, room))

@@ -1,5 +1,5 @@
 //! Giving threads their passes, and taking them back.
-ghost use Rattle.std.specs.Prelude.{◌≡◌, ◌<◌, ◌-◌, IfOk, IfSome};
+ghost use Rattle.std.specs.Prelude.{◌≡◌, ◌<◌, ◌-◌, IfOk, IfErr, IfSome};
 ghost use Rattle.lot_table.specs.Sizes.{Serves};
 ghost use Rattle.lot_sync.specs.Lot.{OwnsNone, IsWide, HasGrown};
 
@@ -26,7 +26,7 @@ impl<V: Keeps + Send, N: LotName<V> + Send> Lot<V, N> {
         let _ = MutexGuard::unlock(pool);
         match registered {
             Ok((pass, _grown)) => {
-                pass.is_whole();
+                pass.check_whole();
                 Ok(pass)
             }
             Err(fault) => Err(fault),
@@ -64,7 +64,7 @@ impl<V: Keeps + Send, N: LotName<V> + Send> Lot<V, N> {
         let _ = MutexGuard::unlock(pool);
         match taken {
             Some(pass) => {
-                pass.is_whole();
+                pass.check_whole();
                 Some(pass)
             }
             None => None,
@@ -83,6 +83,7 @@ fn register_in<V: Keeps + Send, N: LotName<V> + Send, R: Wait>(
     requires { (threads ≡ N.threads) × (parking.now.threads ≡ N.threads) }
     ensures free { IfOk result (λ r. OwnsNone r.0) }
     ensures served { IfOk result (λ r. Serves (threads - pool.new) r.1) }
+    ensures refused { IfErr result (λ fault. (pool.new ≡ pool.old) × ((fault ≡ RegisterFault.Full) → pool.old ≡ 0)) }
 {
     let Some(pass) = pool.take_least() else {
         return Err(RegisterFault::Full);

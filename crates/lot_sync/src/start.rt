@@ -1,5 +1,5 @@
 //! Starting a lot under its name: its roots go to the parking lot, its passes into the pool.
-ghost use Rattle.std.specs.Prelude.{◌≡◌, ℕ, ◌+◌, ◌<◌, ◌≤◌, Some, length, vec_len, vec_capacity, IfOk, IfErr};
+ghost use Rattle.std.specs.Prelude.{◌≡◌, ℕ, ◌<◌, length, IfOk, IfErr};
 ghost use Rattle.std.specs.List.{All, Any};
 ghost use Rattle.lot_rights.specs.Shown.{RootShown};
 ghost use Rattle.lot_words.specs.declared.views.LockRootView.{LockRootView};

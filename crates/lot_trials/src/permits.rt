@@ -17,26 +17,29 @@ const BUCKETS: usize = 12;
 /// In a new bucket it is time to be fair at this moment, and after it at none up to 12.
 const FAIR: u64 = 5;
 
-/// Two permits, and none is left then.
-static TWO_PERMITS: [(usize, Step); 13] = [
+/// Two permits for two passes, and then both for one: none is left for a third.
+static TWO_PERMITS: [(usize, Step); 16] = [
     (0, Step::Register(0)),
     (1, Step::Register(1)),
-    (0, Step::Acquire(PAIR)),
-    (0, Step::Acquire(PAIR)),
-    (1, Step::TryAcquire(PAIR, false)),
-    (0, Step::Release(0, Freed::Quiet)),
-    (1, Step::TryAcquire(PAIR, true)),
-    (0, Step::Release(0, Freed::Quiet)),
-    (1, Step::Release(0, Freed::Quiet)),
+    (2, Step::Register(2)),
     (0, Step::TryAcquire(PAIR, true)),
+    (1, Step::TryAcquire(PAIR, true)),
+    (2, Step::TryAcquire(PAIR, false)),
+    (1, Step::Release(0, Freed::Quiet)),
+    (0, Step::Acquire(PAIR)),
+    (2, Step::TryAcquire(PAIR, false)),
     (0, Step::Release(0, Freed::Quiet)),
+    (2, Step::TryAcquire(PAIR, true)),
+    (0, Step::Release(0, Freed::Quiet)),
+    (2, Step::Release(0, Freed::Quiet)),
     (0, Step::Leave),
     (1, Step::Leave),
+    (2, Step::Leave),
 ];
 
 #[test]
 fn permits_are_got_and_given_back(rt: HostRuntime) {
-    on_conds(&rt, rt.alloc(), 2, &TWO_PERMITS, (0, 0));
+    on_conds(&rt, rt.alloc(), 3, &TWO_PERMITS, (0, 0));
 }
 
 /// The one permit is given back at the fair moment while another thread sleeps for it, and a waiting thread is notified then. After each of these the

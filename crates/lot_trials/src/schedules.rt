@@ -178,23 +178,23 @@ fn may_be_refused(rt: &impl Abort, memory: Memory) {
 
 /// What the threads of a schedule share.
 #[derive(Drop)]
-struct Stage {
+struct Progress {
     memory: Memory,
     /// Raised when a thread could not be started: the others let go of what they have, and leave.
     given_up: AtomicU64,
     /// The number of the row that is made next.
-    turn: AtomicU64,
+    next_row: AtomicU64,
     /// Raised when those that are held at the gate may go on.
     gate: AtomicU64,
 }
 
-/// Waits until it is the row's turn, asking a bounded number of times, or the test fails. False where the schedule is given up.
-fn has_turn(rt: &impl Abort, stage: &Stage, row: usize) -> bool {
+/// Waits until all rows before this one are made, asking a bounded number of times, or the test fails. False where the schedule is given up.
+fn may_be_made(rt: &impl Abort, progress: &Progress, row: usize) -> bool {
     for _ in 0..ASKINGS {
-        if stage.turn.load(Ordering::SeqCst) == row as u64 {
+        if progress.next_row.load(Ordering::SeqCst) == row as u64 {
             return true;
         }
-        if stage.given_up.load(Ordering::SeqCst) != 0 {
+        if progress.given_up.load(Ordering::SeqCst) != 0 {
             return false;
         }
         thread::yield_now();
@@ -203,8 +203,8 @@ fn has_turn(rt: &impl Abort, stage: &Stage, row: usize) -> bool {
 }
 
 /// The row was made, or its thread sleeps: the next one may be made.
-fn pass_on(stage: &Stage) {
-    stage.turn.fetch_add(1, Ordering::SeqCst);
+fn allow_next(progress: &Progress) {
+    progress.next_row.fetch_add(1, Ordering::SeqCst);
 }
 
 /// The key is a lock's, or the test fails.
@@ -241,7 +241,7 @@ fn any_key(rt: &impl Abort, key: usize)
 fn looks<N: LotName<Count> + Send + Sync, T: Wait + Abort>(
     rt: &T,
     lot: &Lot<Count, N>,
-    stage: &Stage,
+    progress: &Progress,
     step: Step,
 ) -> bool
     requires { HasSizes lot.now }
@@ -268,7 +268,7 @@ fn looks<N: LotName<Count> + Send + Sync, T: Wait + Abort>(
             let buckets = lot.table_size(rt);
             is_so(rt, buckets == few || buckets == many, "it has grown");
         }
-        Step::OpenGate => stage.gate.store(1, Ordering::SeqCst),
+        Step::OpenGate => progress.gate.store(1, Ordering::SeqCst),
         Step::Full => is_full(rt, lot),
         _ => return false,
     }
@@ -287,7 +287,7 @@ fn is_full<N: LotName<Count> + Send + Sync, T: Wait + Abort>(rt: &T, lot: &Lot<C
 fn registered<N: LotName<Count> + Send + Sync, T: Wait + Abort>(
     rt: &T,
     lot: &Lot<Count, N>,
-    stage: &Stage,
+    progress: &Progress,
 ) -> Calm<N>
     requires { HasSizes lot.now }
 {
@@ -296,7 +296,7 @@ fn registered<N: LotName<Count> + Send + Sync, T: Wait + Abort>(
         Ok(pass) => Calm { pass },
         Err(fault) => {
             equal(rt, fault, RegisterFault::NoMemory);
-            may_be_refused(rt, stage.memory);
+            may_be_refused(rt, progress.memory);
             equal(rt, (lot.table_size(rt), lot.line_length(rt, 0)), before);
             let pass = enter(rt, lot);
             Calm { pass }
@@ -308,12 +308,12 @@ fn registered<N: LotName<Count> + Send + Sync, T: Wait + Abort>(
 fn when_out<N: LotName<Count> + Send + Sync, T: Wait + Abort>(
     rt: &T,
     lot: &Lot<Count, N>,
-    stage: &Stage,
+    progress: &Progress,
     step: Step,
 ) -> Calm<N>
     requires { HasSizes lot.now }
 {
-    let calm = registered(rt, lot, stage);
+    let calm = registered(rt, lot, progress);
     match step {
         Step::Register(wanted) => equal(rt, calm.pass.thread(), wanted),
         Step::RegisterBeside => {}
@@ -326,7 +326,7 @@ fn when_out<N: LotName<Count> + Send + Sync, T: Wait + Abort>(
 fn when_calm<N: LotName<Count> + Send + Sync, T: Wait + Abort>(
     rt: &T,
     lot: &Lot<Count, N>,
-    stage: &Stage,
+    progress: &Progress,
     calm: Calm<N>,
     step: Step,
 ) -> Standing<N>
@@ -341,7 +341,7 @@ fn when_calm<N: LotName<Count> + Send + Sync, T: Wait + Abort>(
         }
         Step::SleepAtGate(key) => {
             lock_key(rt, key);
-            let (pass, held) = own_at_gate(rt, lot, pass, key, &stage.gate);
+            let (pass, held) = own_at_gate(rt, lot, pass, key, &progress.gate);
             Standing::Owner(Owner { pass, held })
         }
         Step::TryLock(key, wanted) => try_to_own(rt, lot, Calm { pass }, key, wanted),
@@ -424,7 +424,7 @@ fn try_to_own<N: LotName<Count> + Send + Sync, T: Wait + Abort>(
 fn when_owner<N: LotName<Count> + Send + Sync, T: Wait + Abort>(
     rt: &T,
     lot: &Lot<Count, N>,
-    stage: &Stage,
+    progress: &Progress,
     owner: Owner<N>,
     step: Step,
 ) -> Standing<N>
@@ -446,7 +446,7 @@ fn when_owner<N: LotName<Count> + Send + Sync, T: Wait + Abort>(
         }
         Step::UnlockUnparked(wanted) => try_to_free(rt, lot, owner, wanted),
         Step::Wait(_, _) | Step::WaitAtGate(_) => {
-            Standing::Calm(wait(rt, lot, stage, owner, step))
+            Standing::Calm(wait(rt, lot, progress, owner, step))
         }
         _ => Standing::Calm(let_go(rt, lot, owner, step)),
     }
@@ -494,7 +494,7 @@ fn try_to_free<N: LotName<Count> + Send + Sync, T: Wait + Abort>(
 fn wait<N: LotName<Count> + Send + Sync, T: Wait + Abort>(
     rt: &T,
     lot: &Lot<Count, N>,
-    stage: &Stage,
+    progress: &Progress,
     owner: Owner<N>,
     step: Step,
 ) -> Calm<N>
@@ -508,7 +508,7 @@ fn wait<N: LotName<Count> + Send + Sync, T: Wait + Abort>(
         }
         Step::WaitAtGate(cond) => {
             cond_key(rt, cond);
-            wait_at_gate(rt, lot, pass, held, cond, &stage.gate)
+            wait_at_gate(rt, lot, pass, held, cond, &progress.gate)
         }
         _ => failed(rt, "no wait"),
     };
@@ -650,22 +650,22 @@ fn when_holder_of_two<N: LotName<Count> + Send + Sync, T: Wait + Abort>(
 }
 
 /// Makes a step of a thread.
-fn step_on<N: LotName<Count> + Send + Sync, T: Wait + Abort>(
+fn make_step<N: LotName<Count> + Send + Sync, T: Wait + Abort>(
     rt: &T,
     lot: &Lot<Count, N>,
-    stage: &Stage,
+    progress: &Progress,
     standing: Standing<N>,
     step: Step,
 ) -> Standing<N>
     requires { HasSizes lot.now }
 {
-    if looks(rt, lot, stage, step) {
+    if looks(rt, lot, progress, step) {
         return standing;
     }
     match standing {
-        Standing::Out => Standing::Calm(when_out(rt, lot, stage, step)),
-        Standing::Calm(calm) => when_calm(rt, lot, stage, calm, step),
-        Standing::Owner(owner) => when_owner(rt, lot, stage, owner, step),
+        Standing::Out => Standing::Calm(when_out(rt, lot, progress, step)),
+        Standing::Calm(calm) => when_calm(rt, lot, progress, calm, step),
+        Standing::Owner(owner) => when_owner(rt, lot, progress, owner, step),
         Standing::OwnerOfTwo(owner) => Standing::Owner(when_owner_of_two(rt, lot, owner, step)),
         Standing::Holder(holder) => when_holder(rt, lot, holder, step),
         Standing::HolderOfTwo(holder) => {
@@ -674,43 +674,43 @@ fn step_on<N: LotName<Count> + Send + Sync, T: Wait + Abort>(
     }
 }
 
-/// Makes the row, whose turn it is.
-fn in_turn<N: LotName<Count> + Send + Sync, T: Wait + Abort>(
+/// Makes a row before which all are made.
+fn make_row<N: LotName<Count> + Send + Sync, T: Wait + Abort>(
     rt: &T,
     lot: &Lot<Count, N>,
-    stage: &Stage,
+    progress: &Progress,
     standing: Standing<N>,
     step: Step,
 ) -> Standing<N>
     requires { HasSizes lot.now }
 {
     if step.sleeps() {
-        pass_on(stage);
-        return step_on(rt, lot, stage, standing, step);
+        allow_next(progress);
+        return make_step(rt, lot, progress, standing, step);
     }
-    let then = step_on(rt, lot, stage, standing, step);
-    pass_on(stage);
+    let then = make_step(rt, lot, progress, standing, step);
+    allow_next(progress);
     then
 }
 
 /// Makes the rows of one thread, which has left then.
-fn act<N: LotName<Count> + Send + Sync, T: Wait + Abort>(
+fn make_rows<N: LotName<Count> + Send + Sync, T: Wait + Abort>(
     rt: &T,
     lot: &Lot<Count, N>,
-    stage: &Stage,
+    progress: &Progress,
     rows: &[(usize, Step)],
-    actor: usize,
+    number: usize,
 )
     requires { HasSizes lot.now }
 {
     let mut standing = Standing::Out;
     for row in 0..rows.len() {
         let (who, step) = rows[row];
-        if who == actor && has_turn(rt, stage, row) {
-            standing = in_turn(rt, lot, stage, standing, step);
+        if who == number && may_be_made(rt, progress, row) {
+            standing = make_row(rt, lot, progress, standing, step);
         }
     }
-    if stage.given_up.load(Ordering::SeqCst) != 0 {
+    if progress.given_up.load(Ordering::SeqCst) != 0 {
         give_up(rt, lot, standing);
         return;
     }
@@ -740,12 +740,12 @@ fn give_up<N: LotName<Count> + Send + Sync, T: Wait + Abort>(
 }
 
 /// Starts a thread for each that has a row, and waits for their end.
-fn act_all<N: LotName<Count> + Send + Sync, T: Threads + Wait + Sync + Abort>(
+fn make_all_rows<N: LotName<Count> + Send + Sync, T: Threads + Wait + Sync + Abort>(
     rt: &T,
     lot: &Lot<Count, N>,
-    stage: &Stage,
+    progress: &Progress,
     rows: &[(usize, Step)],
-    actors: usize,
+    threads: usize,
 )
     requires { HasSizes lot.now }
 {
@@ -755,13 +755,13 @@ fn act_all<N: LotName<Count> + Send + Sync, T: Threads + Wait + Sync + Abort>(
         |scope|
             requires { HasSizes lot.now }
         {
-            for actor in 0..actors {
+            for number in 0..threads {
                 let job = move ||
                     requires { HasSizes lot.now }
-                { act(rt, lot, stage, rows, actor) };
+                { make_rows(rt, lot, progress, rows, number) };
                 if scope.spawn(job).is_err() {
-                    may_be_refused(rt, stage.memory);
-                    stage.given_up.store(1, Ordering::SeqCst);
+                    may_be_refused(rt, progress.memory);
+                    progress.given_up.store(1, Ordering::SeqCst);
                 }
             }
         },
@@ -769,14 +769,14 @@ fn act_all<N: LotName<Count> + Send + Sync, T: Threads + Wait + Sync + Abort>(
 }
 
 /// How many threads have rows.
-fn actors_of(rows: &[(usize, Step)]) -> usize {
-    let mut actors = 0;
-    for (actor, _) in rows {
-        if *actor >= actors {
-            actors = actor.saturating_add(1);
+fn threads_of(rows: &[(usize, Step)]) -> usize {
+    let mut threads = 0;
+    for (number, _) in rows {
+        if *number >= threads {
+            threads = number.saturating_add(1);
         }
     }
-    actors
+    threads
 }
 
 /// A lot's schedule.
@@ -800,10 +800,11 @@ pub(crate) fn follow<T: Threads + Wait + Sync + Abort>(
     alloc: Global,
     schedule: Schedule<'_>,
 ) {
-    let Ok(values) = vec![in alloc; Count { n: 7 }; LOCKS] else {
+    let Ok(mut values) = vec![in alloc; Count { n: 7 }; LOCKS] else {
         may_be_refused(rt, schedule.memory);
         return;
     };
+    values[1] = Count { n: 8 };
     let values = match Lot::<Count, Brand>::open_with(
         alloc,
         schedule.threads,
@@ -818,7 +819,8 @@ pub(crate) fn follow<T: Threads + Wait + Sync + Abort>(
             values
         }
     };
-    equal(rt, values.len(), LOCKS);
+    is_so(rt, values.len() == LOCKS, "all values come back");
+    equal(rt, values[1].n, 8);
 }
 
 /// Makes the schedule on the lot, which is closed then.
@@ -856,13 +858,19 @@ fn followed<N: LotName<Count> + Send + Sync, T: Threads + Wait + Sync + Abort>(
     requires sizes { HasSizes lot × (lot.threads ≡ schedule.threads) }
     requires room { (vec_len passes ≡ 0) × (schedule.threads ≤ vec_capacity passes) }
 {
-    let stage = Stage {
+    let progress = Progress {
         memory: schedule.memory,
         given_up: AtomicU64::new(0),
-        turn: AtomicU64::new(0),
+        next_row: AtomicU64::new(0),
         gate: AtomicU64::new(0),
     };
-    act_all(rt, &lot, &stage, schedule.rows, actors_of(schedule.rows));
+    make_all_rows(
+        rt,
+        &lot,
+        &progress,
+        schedule.rows,
+        threads_of(schedule.rows),
+    );
     let (values, ledger) = end(rt, lot, passes, schedule.threads, schedule.how);
     equal(rt, (ledger.called[0], ledger.called[12]), schedule.waits);
     equal(rt, (ledger.woken[0], ledger.woken[12]), schedule.waits);
