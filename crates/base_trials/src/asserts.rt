@@ -62,14 +62,22 @@ pub(crate) fn equal_in<T: PartialEq + Debug + Copy>(
     assert_eq!(rt; found, wanted, "{row:?}");
 }
 
-/// The text ends so, or the test fails.
-pub(crate) fn ends_with(rt: &impl Abort, text: &str, end: &str) {
-    assert!(rt; text.ends_with(end), "{text} / {end}");
+/// Whether the text is the told one, in which a `?` stands for any byte.
+fn agrees(text: &[u8], told: &[u8]) -> bool {
+    if text.len() != told.len() {
+        return false;
+    }
+    for place in 0..told.len() {
+        if told[place] != b'?' && told[place] != text[place] {
+            return false;
+        }
+    }
+    true
 }
 
-/// The text has the other one in it, or the test fails.
-pub(crate) fn contains(rt: &impl Abort, text: &str, part: &str) {
-    assert!(rt; text.contains(part), "{text} / {part}");
+/// The text is the told one, in which a `?` stands for any byte, or the test fails.
+pub(crate) fn is_as_told(rt: &impl Abort, text: &str, told: &str) {
+    assert!(rt; agrees(text.as_bytes(), told.as_bytes()), "{text} / {told}");
 }
 
 /// The bytes are those of the text, or the test fails.

@@ -1,8 +1,7 @@
-//! Locks, waits, notifications and permits on a parking lot of their own, by the calls of `lot_locks`, `lot_waits` and `lot_permits`.
+//! Locks, waits and notifications on a parking lot of their own, by the calls of `lot_locks` and `lot_waits`.
 
 mod asserts;
 mod ledger;
 mod locks;
-mod permits;
 mod tables;
 mod waits;

@@ -38,3 +38,13 @@ pub fn words<E: Env>(rt: &E, alloc: Global) -> Result<Vec<String>, Failure> {
         }),
     }
 }
+
+/// The words as texts, to be matched.
+pub fn texts_of(alloc: Global, words: &[String]) -> Result<Vec<&str>, Failure> {
+    Ok(
+        words
+            .iter()
+            .map(|word| word.as_str())
+            .collect::<Vec<&str>>(alloc)?,
+    )
+}

@@ -20,7 +20,7 @@ mod numbers;
 mod outcome;
 mod script;
 
-pub use arguments::words;
+pub use arguments::{texts_of, words};
 pub use failure::Failure;
 pub use numbers::number;
 pub use outcome::report;

@@ -52,24 +52,30 @@ fn text_of_run<T: Threads + Wait + Sync>(
     alloc: Global,
     words: &[&str],
 ) -> Result<String, Failure> {
-    match words {
-        ["count", threads, locks, rounds, seed] => {
-            let numbers = counting(threads, locks, rounds, seed);
-            count(rt, alloc, &numbers.ok_or(Failure::BadCommandLine)?)
-        }
-        ["relay", threads, rounds, seed] => {
-            let numbers = relaying(threads, rounds, seed);
-            relay(rt, alloc, &numbers.ok_or(Failure::BadCommandLine)?)
-        }
-        ["pool", threads, permits, rounds, seed] => {
-            let numbers = pooling(threads, permits, rounds, seed);
-            pool(rt, alloc, &numbers.ok_or(Failure::BadCommandLine)?)
-        }
+    let [command, numbers @ ..] = words else {
+        return Err(Failure::BadCommandLine);
+    };
+    match *command {
+        "count" => match counting(numbers) {
+            Some(counting) => count(rt, alloc, &counting),
+            None => Err(Failure::BadCommandLine),
+        },
+        "relay" => match relaying(numbers) {
+            Some(relaying) => relay(rt, alloc, &relaying),
+            None => Err(Failure::BadCommandLine),
+        },
+        "pool" => match pooling(numbers) {
+            Some(pooling) => pool(rt, alloc, &pooling),
+            None => Err(Failure::BadCommandLine),
+        },
         _ => Err(Failure::BadCommandLine),
     }
 }
 
-fn counting(threads: &str, locks: &str, rounds: &str, seed: &str) -> Option<Counting> {
+fn counting(numbers: &[&str]) -> Option<Counting> {
+    let [threads, locks, rounds, seed] = numbers else {
+        return None;
+    };
     Some(Counting {
         threads: number(threads, 1, MAX_THREADS as u64)? as usize,
         locks: number(locks, 1, MAX_KEYS as u64)? as usize,
@@ -78,7 +84,10 @@ fn counting(threads: &str, locks: &str, rounds: &str, seed: &str) -> Option<Coun
     })
 }
 
-fn relaying(threads: &str, rounds: &str, seed: &str) -> Option<Relaying> {
+fn relaying(numbers: &[&str]) -> Option<Relaying> {
+    let [threads, rounds, seed] = numbers else {
+        return None;
+    };
     Some(Relaying {
         threads: number(threads, 2, MAX_THREADS as u64)? as usize,
         rounds: number(rounds, 0, MAX_ROUNDS)?,
@@ -86,7 +95,10 @@ fn relaying(threads: &str, rounds: &str, seed: &str) -> Option<Relaying> {
     })
 }
 
-fn pooling(threads: &str, permits: &str, rounds: &str, seed: &str) -> Option<Pooling> {
+fn pooling(numbers: &[&str]) -> Option<Pooling> {
+    let [threads, permits, rounds, seed] = numbers else {
+        return None;
+    };
     Some(Pooling {
         threads: number(threads, 1, MAX_THREADS as u64)? as usize,
         permits: number(permits, 1, MAX_PERMITS)? as u32,

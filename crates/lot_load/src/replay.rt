@@ -16,7 +16,14 @@ fn run_script(alloc: Global, script: &Script) -> Result<State, Failure> {
     let mut state = open_state(alloc, script)?;
     match state.run(script.events.as_slice()) {
         Ok(()) => Ok(state),
-        Err((_, CoreFault::NoMemory)) => Err(Failure::NoMemory),
-        Err((before, _)) => Err(Failure::EventRefused(before + 1)),
+        Err((before, fault)) => Err(failure_at(before + 1, fault)),
+    }
+}
+
+/// What the fault of a script's event is to whoever runs it.
+fn failure_at(event: usize, fault: CoreFault) -> Failure {
+    match fault {
+        CoreFault::NoMemory => Failure::NoMemory,
+        _ => Failure::EventRefused(event),
     }
 }

@@ -38,24 +38,6 @@ impl Keeps for Account {
     ghost grows_on = { λ x y z a b. (le_trans a.0 b.0, le_trans a.1 b.1) };
 }
 
-/// The account after so much was paid in, and so much out where there is enough.
-fn booked(account: Account, paid_in: u64, paid_out: u64) -> Account
-    requires { account.paid_out ≤ account.paid_in }
-    ensures kept { result.paid_out ≤ result.paid_in }
-    ensures grown { (account.paid_in ≤ result.paid_in) × (account.paid_out ≤ result.paid_out) }
-{
-    let paid_in = account.paid_in.saturating_add(paid_in);
-    let paid_out = account.paid_out.saturating_add(paid_out);
-    if paid_out <= paid_in {
-        Account { paid_in, paid_out }
-    } else {
-        Account {
-            paid_in,
-            paid_out: account.paid_out,
-        }
-    }
-}
-
 /// `lock`, and what this caller has of it.
 fn own<N: LotName<Account> + Send + Sync, T: Wait>(
     rt: &T,
@@ -84,40 +66,6 @@ fn release<N: LotName<Account> + Send + Sync, T: Wait>(
     ensures { OwnsNone result }
 {
     lot.unlock(rt, pass, held, Moment { now: 0, word: 0 }).0
-}
-
-/// Books on account 0, and finds this balance before.
-fn book<N: LotName<Account> + Send + Sync, T: Wait + Abort>(
-    rt: &T,
-    lot: &Lot<Account, N>,
-    pass: Pass<Account, N>,
-    paid: (u64, u64),
-    balance: u64,
-) -> Pass<Account, N>
-    requires key { 0 < lot.now.locks }
-    requires free { OwnsNone pass }
-    ensures { OwnsNone result }
-{
-    let (pass, mut held) = own(rt, lot, pass);
-    let account = *held.value();
-    equal(rt, account.paid_in - account.paid_out, balance);
-    *held.value_mut() = booked(account, paid.0, paid.1);
-    release(rt, lot, pass, held)
-}
-
-/// Two threads' passes book in turn; what would overdraw the account is not paid out.
-fn book_in_turn<N: LotName<Account> + Send + Sync, T: Wait + Abort>(rt: &T, lot: &Lot<Account, N>)
-    requires { 0 < lot.now.locks }
-{
-    let zero = enter(rt, lot);
-    let one = enter(rt, lot);
-    let zero = book(rt, lot, zero, (5, 0), 0);
-    let one = book(rt, lot, one, (0, 7), 5);
-    let one = book(rt, lot, one, (0, 3), 5);
-    let zero = book(rt, lot, zero, (0, 2), 2);
-    let one = book(rt, lot, one, (0, 0), 0);
-    lot.leave(rt, one);
-    lot.leave(rt, zero);
 }
 
 /// Gets both accounts.
@@ -204,7 +152,6 @@ fn move_in_turn<N: LotName<Account> + Send + Sync, T: Wait + Abort>(rt: &T, lot:
 {
     let zero = enter(rt, lot);
     let one = enter(rt, lot);
-    let zero = book(rt, lot, zero, (5, 0), 0);
     let (zero, done) = transfer(rt, lot, zero, 3);
     equal(rt, done, true);
     let (one, done) = transfer(rt, lot, one, 3);
@@ -213,7 +160,7 @@ fn move_in_turn<N: LotName<Account> + Send + Sync, T: Wait + Abort>(rt: &T, lot:
     lot.leave(rt, zero);
 }
 
-fn open_and_book<N: LotName<Account> + Send + Sync, T: Wait + Abort>(
+fn open_and_move<N: LotName<Account> + Send + Sync, T: Wait + Abort>(
     rt: &T,
     alloc: Global,
     opened: Opened<Account>,
@@ -224,12 +171,11 @@ fn open_and_book<N: LotName<Account> + Send + Sync, T: Wait + Abort>(
     let passes = room_for(rt, alloc, 2);
     match opened.start::<N>(alloc) {
         Ok(lot) => {
-            book_in_turn(rt, &lot);
             move_in_turn(rt, &lot);
             let accounts = end(rt, lot, passes, 2);
             equal(rt, accounts.len(), 2);
-            equal(rt, (accounts[0].paid_in, accounts[0].paid_out), (10, 8));
-            equal(rt, (accounts[1].paid_in, accounts[1].paid_out), (3, 0));
+            equal(rt, (accounts[0].paid_in, accounts[0].paid_out), (5, 3));
+            equal(rt, (accounts[1].paid_in, accounts[1].paid_out), (8, 0));
         }
         Err(_) => failed(rt, "not started"),
     }
@@ -238,7 +184,7 @@ fn open_and_book<N: LotName<Account> + Send + Sync, T: Wait + Abort>(
 #[test]
 fn an_account_is_never_overdrawn(rt: HostRuntime) {
     let opening = Account {
-        paid_in: 0,
+        paid_in: 5,
         paid_out: 0,
     };
     let Ok(accounts) = vec![in rt.alloc(); opening; 2] else {
@@ -251,7 +197,7 @@ fn on_account<T: Wait + Abort>(rt: &T, alloc: Global, accounts: Vec<Account>)
     requires { (vec_len accounts ≡ 2) × KeepAll (λ key account. account.paid_out ≤ account.paid_in) accounts.items }
 {
     match Lot::<Account, Brand>::open(alloc, 2, accounts, 0) {
-        Ok(opened) => open_and_book::<Brand, T>(rt, alloc, opened),
+        Ok(opened) => open_and_move::<Brand, T>(rt, alloc, opened),
         Err(_) => failed(rt, "not opened"),
     }
 }

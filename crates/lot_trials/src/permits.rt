@@ -1,8 +1,19 @@
 //! Permits of a lot, and the fair moments of buckets that releases of permits and notifications move on.
+ghost use Rattle.std.specs.Prelude.{◌≡◌, ◌≤◌, length};
+ghost use Rattle.lot_permits.specs.Permits.{opening_permits};
+ghost use Rattle.lot_sync.specs.Lot.{OwnsNone, permits_with};
+ghost use Rattle.lot_sync.specs.Opened.{IsNamed};
 
+use crate::asserts::{equal, failed, room_for};
+use crate::counts::Count;
+use crate::passes::{end, enter};
 use crate::schedules::Step;
 use crate::waits::{COND, on_conds};
-use lot_sync::{Freed, Released};
+use lot_sync::{Freed, Lot, LotName, Moment, Opened, Pass, Released};
+use std::alloc::Global;
+use std::marker::Brand;
+use std::process::Abort;
+use std::sync::Wait;
 use std::test::*;
 
 /// The semaphore of two permits.
@@ -38,7 +49,7 @@ static TWO_PERMITS: [(usize, Step); 16] = [
 ];
 
 #[test]
-fn permits_are_got_and_given_back(rt: HostRuntime) {
+fn try_acquire_succeeds(rt: HostRuntime) {
     on_conds(&rt, rt.alloc(), 3, &TWO_PERMITS, (0, 0));
 }
 
@@ -74,4 +85,70 @@ static MOMENTS: [(usize, Step); 24] = [
 #[test]
 fn permits_and_their_moments(rt: HostRuntime) {
     on_conds(&rt, rt.alloc(), 2, &MOMENTS, (1, 0));
+}
+
+/// Shows that the semaphore, of which two passes hold a permit each, opened with two at least. It changes nothing.
+fn two_of_two<N: LotName<Count> + Send + Sync>(
+    lot: &Lot<Count, N>,
+    first: Pass<Count, N>,
+    second: Pass<Count, N>,
+    key: usize,
+) -> (Pass<Count, N>, Pass<Count, N>)
+    requires both { (1 ≤ permits_with first key) × (1 ≤ permits_with second key) }
+    ensures same { (result.0 ≡ first) × (result.1 ≡ second) }
+    ensures two { 2 ≤ opening_permits N.low N.permits key }
+{
+    lot.check_permits(first, second)
+}
+
+/// Two passes get a permit of semaphore 1 each, and give it back.
+fn hold_both<N: LotName<Count> + Send + Sync, T: Wait>(
+    rt: &T,
+    lot: &Lot<Count, N>,
+    first: Pass<Count, N>,
+    second: Pass<Count, N>,
+) -> (Pass<Count, N>, Pass<Count, N>)
+    requires sizes { (lot.now.locks ≡ 1) × (lot.now.conds ≡ 0) × (lot.now.sems ≡ 1) }
+    requires free { OwnsNone first × OwnsNone second }
+    ensures { OwnsNone result.0 × OwnsNone result.1 }
+{
+    let moment = Moment { now: 0, word: 0 };
+    let (first, one) = lot.acquire(rt, first, 1);
+    let (second, two) = lot.acquire(rt, second, 1);
+    let (first, second) = two_of_two(lot, first, second, 1);
+    let (first, _) = lot.release(rt, first, one, moment);
+    let (second, _) = lot.release(rt, second, two, moment);
+    (first, second)
+}
+
+/// Starts the lot, of one lock and one semaphore, lets two passes hold its permits, and closes it.
+fn play<N: LotName<Count> + Send + Sync, T: Wait + Abort>(
+    rt: &T,
+    alloc: Global,
+    opened: Opened<Count>,
+)
+    requires named { IsNamed (record { opening = N.opening; threads = N.threads; values = N.values; locks = N.locks; conds = N.conds; low = N.low; permits = N.permits }) opened }
+    requires sizes { (opened.threads ≡ 2) × (length opened.values ≡ 1) × (opened.conds ≡ 0) × (length opened.permits ≡ 1) }
+{
+    let passes = room_for(rt, alloc, 2);
+    let Ok(lot) = opened.start::<N>(alloc) else {
+        failed(rt, "not started")
+    };
+    let first = enter(rt, &lot);
+    let second = enter(rt, &lot);
+    let (first, second) = hold_both(rt, &lot, first, second);
+    lot.leave(rt, first);
+    lot.leave(rt, second);
+    equal(rt, end(rt, lot, passes, 2).len(), 1);
+}
+
+#[test]
+fn two_passes_hold_both_permits(rt: HostRuntime) {
+    let Ok(values) = vec![in rt.alloc(); Count { n: 7 }; 1] else {
+        failed(&rt, "no memory")
+    };
+    match Lot::<Count, Brand>::open_with(rt.alloc(), 2, values, 0, &[2]) {
+        Ok(opened) => play::<Brand, HostRuntime>(&rt, rt.alloc(), opened),
+        Err(_) => failed(&rt, "not opened"),
+    }
 }

@@ -11,7 +11,7 @@
 //! what came of them.
 #![tactic(auto)]
 
-use lot_command::{Failure, report, words};
+use lot_command::{report, texts_of, words};
 use lot_load::measure::run_command;
 use std::process::ExitCode;
 
@@ -24,18 +24,17 @@ fn main(rt: HostRuntime) -> ExitCode {
             return ExitCode::from(status);
         }
     };
-    let Ok(views) = words
-        .iter()
-        .map(|word| word.as_str())
-        .collect::<Vec<&str>>(alloc)
-    else {
-        let status = report(Err(Failure::NoMemory), &mut rt.stdout(), &mut rt.stderr());
-        return ExitCode::from(status);
+    let texts = match texts_of(alloc, words.as_slice()) {
+        Ok(texts) => texts,
+        Err(failure) => {
+            let status = report(Err(failure), &mut rt.stdout(), &mut rt.stderr());
+            return ExitCode::from(status);
+        }
     };
     let status = run_command(
         &rt,
         alloc,
-        views.as_slice(),
+        texts.as_slice(),
         &mut rt.stdout(),
         &mut rt.stderr(),
     );

@@ -10,7 +10,7 @@
 //! It stands on `lot_load`, which runs them, and on `lot_command`, which reads the words and tells what came of them.
 #![tactic(auto)]
 
-use lot_command::{Failure, report, words};
+use lot_command::{report, texts_of, words};
 use lot_load::run_command;
 use std::alloc::Global;
 use std::fs::File;
@@ -25,22 +25,21 @@ fn main(rt: HostRuntime) -> ExitCode {
             return ExitCode::from(status);
         }
     };
-    let Ok(views) = words
-        .iter()
-        .map(|word| word.as_str())
-        .collect::<Vec<&str>>(alloc)
-    else {
-        let status = report(Err(Failure::NoMemory), &mut rt.stdout(), &mut rt.stderr());
-        return ExitCode::from(status);
+    let texts = match texts_of(alloc, words.as_slice()) {
+        Ok(texts) => texts,
+        Err(failure) => {
+            let status = report(Err(failure), &mut rt.stdout(), &mut rt.stderr());
+            return ExitCode::from(status);
+        }
     };
-    let file = match views.as_slice() {
+    let file = match texts.as_slice() {
         ["replay", path] => File::open(&rt, *path).ok(),
         _ => None,
     };
     let status = run_command(
         &rt,
         alloc,
-        views.as_slice(),
+        texts.as_slice(),
         file,
         &mut rt.stdout(),
         &mut rt.stderr(),

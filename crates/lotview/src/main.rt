@@ -4,7 +4,7 @@
 //! It stands on `lot_draw`, which makes the picture, and on `lot_command`, which reads the words and tells what came of them.
 #![tactic(auto)]
 
-use lot_command::{Failure, report, words};
+use lot_command::{report, texts_of, words};
 use lot_draw::run_command;
 use std::alloc::Global;
 use std::fs::File;
@@ -19,21 +19,20 @@ fn main(rt: HostRuntime) -> ExitCode {
             return ExitCode::from(status);
         }
     };
-    let Ok(views) = words
-        .iter()
-        .map(|word| word.as_str())
-        .collect::<Vec<&str>>(alloc)
-    else {
-        let status = report(Err(Failure::NoMemory), &mut rt.stdout(), &mut rt.stderr());
-        return ExitCode::from(status);
+    let texts = match texts_of(alloc, words.as_slice()) {
+        Ok(texts) => texts,
+        Err(failure) => {
+            let status = report(Err(failure), &mut rt.stdout(), &mut rt.stderr());
+            return ExitCode::from(status);
+        }
     };
-    let file = match views.as_slice() {
+    let file = match texts.as_slice() {
         [path] => File::open(&rt, *path).ok(),
         _ => None,
     };
     let status = run_command(
         alloc,
-        views.as_slice(),
+        texts.as_slice(),
         file,
         &mut rt.stdout(),
         &mut rt.stderr(),

@@ -1,13 +1,12 @@
 //! What the bars of a run show of its threads is what the model's printed state says of them, after each event.
 
-use crate::asserts::{contains, ends_with};
+use crate::asserts::{failed, is_as_told, is_so};
 use lot_core::{Event, Point, Script, State, parse_script, print_state};
 use lot_draw::marks::{Bar, Right, Told};
 use lot_draw::run::Run;
-use std::alloc::{AllocError, Global};
+use std::alloc::Global;
 use std::fmt::Write as _;
 use std::process::Abort;
-use std::test::Fail;
 
 /// Scripts that come by every point, every line and every way out of one.
 static SCRIPTS: [&str; 6] = [
@@ -19,265 +18,249 @@ static SCRIPTS: [&str; 6] = [
     "open 2 3 0\ntry 0 0\ntry 0 1\ntry 0 2\nfree 0 1\ntry 1 1\ntry 0 1\nfree 1 1\ntry 0 1\n",
 ];
 
-fn push_numbered(out: &mut String, mark: &str, number: usize) -> Result<(), AllocError> {
-    write!(out, "{mark}{number}")
-}
+// What the bars tell of the end of a run with so many events. Those that reach the end say how its threads stand there, and what they have.
 
-/// Pushes the numbers, with a comma between two.
-fn push_listed(out: &mut String, numbers: &[(usize, usize)]) -> Result<(), AllocError> {
-    let mut mark = " line ";
-    for (_, number) in numbers {
-        push_numbered(out, mark, *number)?;
-        mark = ",";
+/// Who has the lock.
+fn owner(bars: &[Bar], events: usize, lock: usize) -> Option<usize> {
+    for bar in bars {
+        if bar.to == events
+            && let Told::Has(Right::Lock { lock: had }) = bar.told
+            && had == lock
+        {
+            return Some(bar.thread);
+        }
     }
-    Ok(())
+    None
 }
 
-fn push_point(out: &mut String, point: Point) -> Result<(), AllocError> {
+/// How many permits of the semaphore are out.
+fn taken(bars: &[Bar], events: usize, sem: usize) -> usize {
+    let mut taken: usize = 0;
+    for bar in bars {
+        if bar.to == events
+            && let Told::Has(Right::Permit { sem: had }) = bar.told
+            && had == sem
+        {
+            taken = taken.saturating_add(1);
+        }
+    }
+    taken
+}
+
+fn point_of(bars: &[Bar], events: usize, thread: usize) -> Point {
+    for bar in bars {
+        if bar.to == events
+            && bar.thread == thread
+            && let Told::Stands(stand) = bar.told
+        {
+            return stand.point;
+        }
+    }
+    Point::Calm
+}
+
+fn is_in_line(bar: &Bar, key: usize) -> bool {
+    match bar.told {
+        Told::Stands(stand) => stand.line() == Some(key),
+        Told::Has(_) => false,
+    }
+}
+
+/// Since which event the thread has been in the key's line. Bars stand in the order in which they end.
+fn queued_since(bars: &[Bar], events: usize, thread: usize, key: usize) -> usize {
+    let mut since = events;
+    for place in 0..bars.len() {
+        let bar = &bars[bars.len() - 1 - place];
+        if bar.thread == thread && bar.to == since && is_in_line(bar, key) {
+            since = bar.from;
+        }
+    }
+    since
+}
+
+/// No thread has this number.
+const NO_THREAD: usize = usize::MAX;
+
+/// Who has been in the key's line since this event. No two threads come to it by one event: where two bars say so, the
+/// answer is the number of no thread.
+fn queued(bars: &[Bar], events: usize, key: usize, since: usize) -> Option<usize> {
+    let mut queued = None;
+    for bar in bars {
+        if bar.to == events
+            && is_in_line(bar, key)
+            && queued_since(bars, events, bar.thread, key) == since
+        {
+            queued = match queued {
+                None => Some(bar.thread),
+                Some(_) => Some(NO_THREAD),
+            };
+        }
+    }
+    queued
+}
+
+// The printed state as the bars tell it, with a `?` for each digit of which they tell nothing.
+
+fn push(rt: &impl Abort, out: &mut String, text: &str) {
+    if out.push_str(text).is_err() {
+        failed(rt, "no memory")
+    }
+}
+
+fn push_number(rt: &impl Abort, out: &mut String, name: &str, number: usize) {
+    if write!(out, "{name}{number}").is_err() {
+        failed(rt, "no memory")
+    }
+}
+
+fn push_point(rt: &impl Abort, out: &mut String, point: Point) {
     match point {
-        Point::Calm => out.push_str("calm"),
-        Point::Wants { lock } => write!(out, "wants {lock}"),
-        Point::Bed { cond, lock } => write!(out, "bed {cond} {lock}"),
-        Point::Rest { cond, lock } => write!(out, "rest {cond} {lock}"),
-        Point::Sweeps { cond } => write!(out, "sweeps {cond}"),
-        Point::Seeks { sem } => write!(out, "seeks {sem}"),
+        Point::Calm => push(rt, out, " calm"),
+        Point::Wants { lock } => push_number(rt, out, " wants ", lock),
+        Point::Bed { cond, lock } => {
+            push_number(rt, out, " bed ", cond);
+            push_number(rt, out, " ", lock);
+        }
+        Point::Rest { cond, lock } => {
+            push_number(rt, out, " rest ", cond);
+            push_number(rt, out, " ", lock);
+        }
+        Point::Sweeps { cond } => push_number(rt, out, " sweeps ", cond),
+        Point::Seeks { sem } => push_number(rt, out, " seeks ", sem),
     }
 }
 
-/// The thread's line in the printed state.
-fn push_thread(out: &mut String, thread: usize, point: Point) -> Result<(), AllocError> {
-    push_numbered(out, "thread ", thread)?;
-    out.push_str(" ")?;
-    push_point(out, point)?;
-    out.push_str("\n")
+fn push_threads(rt: &impl Abort, out: &mut String, bars: &[Bar], events: usize, threads: usize) {
+    for thread in 0..threads {
+        push_number(rt, out, "thread ", thread);
+        push_point(rt, out, point_of(bars, events, thread));
+        push(rt, out, "\n");
+    }
 }
 
-/// A run that is over, with so many events: what its bars show of its end.
-#[derive(Drop)]
-struct Ended<'a> {
-    bars: &'a [Bar],
+fn push_owner(rt: &impl Abort, out: &mut String, owner: Option<usize>) {
+    match owner {
+        Some(owner) => push_number(rt, out, " word ? owner ", owner),
+        None => push(rt, out, " word ? owner -"),
+    }
+}
+
+/// One thread more, if there is one, of a line that begins there in the text.
+fn push_next(rt: &impl Abort, out: &mut String, line: usize, thread: Option<usize>) {
+    let Some(thread) = thread else {
+        return;
+    };
+    if out.len() == line {
+        push_number(rt, out, " line ", thread);
+    } else {
+        push_number(rt, out, ",", thread);
+    }
+}
+
+/// Who is in the key's line, first come first.
+fn push_line(rt: &impl Abort, out: &mut String, bars: &[Bar], events: usize, key: usize) {
+    let line = out.len();
+    for since in 0..events.saturating_add(1) {
+        push_next(rt, out, line, queued(bars, events, key, since));
+    }
+    if out.len() == line {
+        push(rt, out, " line -");
+    }
+    push(rt, out, "\n");
+}
+
+/// The key's line, up to who is in the line of the key. Locks come first, then conditions, then semaphores.
+fn push_key(
+    rt: &impl Abort,
+    out: &mut String,
+    bars: &[Bar],
     events: usize,
-}
-
-impl Ended<'_> {
-    /// What the bar tells of the end, where it reaches it.
-    fn told(&self, bar: &Bar) -> Option<Told> {
-        if bar.to == self.events {
-            Some(bar.told)
-        } else {
-            None
-        }
-    }
-
-    fn point_of(&self, thread: usize) -> Point {
-        for bar in self.bars.iter() {
-            if let Some(Told::Stands(stand)) = self.told(bar)
-                && bar.thread == thread
-            {
-                return stand.point;
-            }
-        }
-        Point::Calm
-    }
-
-    /// Since which event the thread has been in this line. Bars stand in the order in which they end.
-    fn queued_since(&self, thread: usize, line: usize) -> usize {
-        let mut since = self.events;
-        for bar in self.bars.iter().rev() {
-            if bar.thread == thread
-                && bar.to == since
-                && let Told::Stands(stand) = bar.told
-                && stand.line() == Some(line)
-            {
-                since = bar.from;
-            }
-        }
-        since
-    }
-
-    /// Who is in the key's line, first come first, each with the event that brought it there.
-    fn queued(&self, alloc: Global, line: usize) -> Result<Vec<(usize, usize)>, AllocError> {
-        let mut queued = Vec::new(alloc);
-        for bar in self.bars.iter() {
-            if let Some(Told::Stands(stand)) = self.told(bar)
-                && stand.line() == Some(line)
-            {
-                queued.push((self.queued_since(bar.thread, line), bar.thread))?;
-            }
-        }
-        queued.sort()?;
-        Ok(queued)
-    }
-
-    /// What the lock's line in the printed state says of its owner.
-    fn push_owner(&self, out: &mut String, lock: usize) -> Result<(), AllocError> {
-        match self.owner(lock) {
-            Some(owner) => push_numbered(out, " owner ", owner),
-            None => out.push_str(" owner -"),
-        }
-    }
-
-    /// The end of the key's line in the printed state: who is in its line.
-    fn push_line(&self, alloc: Global, out: &mut String, key: usize) -> Result<(), AllocError> {
-        let queued = self.queued(alloc, key)?;
-        if queued.is_empty() {
-            return out.push_str(" line -");
-        }
-        push_listed(out, queued.as_slice())
-    }
-
-    /// What this line of the printed state, of the key or of a thread, has at its end.
-    fn push_end(
-        &self,
-        alloc: Global,
-        out: &mut String,
-        key: usize,
-        line: &str,
-    ) -> Result<(), AllocError> {
-        if line.starts_with("lock ") {
-            self.push_owner(out, key)?;
-        }
-        if line.starts_with("thread ") {
-            return Ok(());
-        }
-        self.push_line(alloc, out, key)
-    }
-
-    fn push_threads(&self, out: &mut String, threads: usize) -> Result<(), AllocError> {
-        for thread in 0..threads {
-            push_thread(out, thread, self.point_of(thread))?;
-        }
-        Ok(())
-    }
-
-    /// How many bars of this right reach the end.
-    fn count(&self, right: Right) -> usize {
-        let told = Some(Told::Has(right));
-        self.bars
-            .iter()
-            .filter(|bar| self.told(bar) == told)
-            .count()
-    }
-
-    fn owner(&self, lock: usize) -> Option<usize> {
-        let told = Some(Told::Has(Right::Lock { lock }));
-        let owned = self.bars.iter().find(|bar| self.told(bar) == told)?;
-        Some(owned.thread)
-    }
-}
-
-/// Compares the end of a run with what is printed of the state that it left.
-fn compare<R: Abort>(
-    rt: &R,
-    alloc: Global,
-    ended: &Ended,
-    threads: usize,
-    state: &State,
-) -> Result<(), Fail> {
-    let printed = print_state(alloc, state)?;
-    let mut told = String::new(alloc);
-    ended.push_threads(&mut told, threads)?;
-    ends_with(rt, printed.as_str(), told.as_str());
-    compare_lines(rt, alloc, ended, printed.as_str())?;
-    Ok(())
-}
-
-fn compare_lines<R: Abort>(
-    rt: &R,
-    alloc: Global,
-    ended: &Ended,
-    printed: &str,
-) -> Result<(), AllocError> {
-    for (key, line) in printed.lines().enumerate() {
-        compare_line(rt, alloc, ended, key, line)?;
-    }
-    Ok(())
-}
-
-fn compare_line<R: Abort>(
-    rt: &R,
-    alloc: Global,
-    ended: &Ended,
     key: usize,
-    line: &str,
-) -> Result<(), AllocError> {
-    if line.starts_with("sem ") {
-        compare_permits(rt, alloc, ended, key, line)?;
+    locks: usize,
+    conds: usize,
+) {
+    if key < locks {
+        push_number(rt, out, "lock ", key);
+        push_owner(rt, out, owner(bars, events, key));
+    } else if key < locks.saturating_add(conds) {
+        push_number(rt, out, "cond ", key);
+        push(rt, out, " flag ?");
+    } else {
+        push_number(rt, out, "sem ", key);
+        push_number(rt, out, " left ? out ", taken(bars, events, key));
+        push(rt, out, " parked ?");
     }
-    let mut want = String::new(alloc);
-    ended.push_end(alloc, &mut want, key, line)?;
-    ends_with(rt, line, want.as_str());
-    Ok(())
 }
 
-/// Compares how many permits are out at the end of a run with what the semaphore's line says.
-fn compare_permits<R: Abort>(
-    rt: &R,
-    alloc: Global,
-    ended: &Ended,
-    sem: usize,
-    line: &str,
-) -> Result<(), AllocError> {
-    let out = ended.count(Right::Permit { sem });
-    let told = format!(in alloc; " out {out} ")?;
-    contains(rt, line, told.as_str());
-    Ok(())
-}
-
-/// Makes the event, and the run sees it.
-fn step(state: &mut State, run: &mut Run, event: Event) -> Result<(), Fail> {
-    let seen = state.step(event)?;
-    run.see(event, seen)?;
-    Ok(())
+fn push_keys(rt: &impl Abort, out: &mut String, bars: &[Bar], script: &Script) {
+    let events = script.events.len();
+    let keys = script
+        .locks
+        .saturating_add(script.conds)
+        .saturating_add(script.permits.len());
+    for key in 0..keys {
+        push_key(rt, out, bars, events, key, script.locks, script.conds);
+        push_line(rt, out, bars, events, key);
+    }
 }
 
 /// Makes the events, of which the run sees each, and ends the run there.
-fn run_to_its_end(state: &mut State, run: &mut Run, events: &[Event]) -> Result<(), Fail> {
+fn runs_to_its_end(state: &mut State, run: &mut Run, events: &[Event]) -> bool {
     for event in events {
-        step(state, run, *event)?;
+        let Ok(seen) = state.step(*event) else {
+            return false;
+        };
+        if run.see(*event, seen).is_err() {
+            return false;
+        }
     }
-    run.end()?;
-    Ok(())
+    run.end().is_ok()
 }
 
-/// Makes the first events of the script, ends the run there, and compares.
-fn compare_run<R: Abort>(
-    rt: &R,
-    alloc: Global,
-    script: &Script,
-    events: usize,
-    state: &mut State,
-) -> Result<(), Fail> {
-    let mut run = Run::new(alloc, script.threads)?;
-    let made = script.events.get(..events).ok_or("too many events")?;
-    run_to_its_end(state, &mut run, made)?;
-    let bars = run.bars.as_slice();
-    compare(rt, alloc, &Ended { bars, events }, script.threads, state)
+/// Compares what the bars tell of the end of the script's run with what is printed of the state there.
+fn compare<R: Abort>(rt: &R, alloc: Global, script: &Script, bars: &[Bar], state: &State) {
+    let Ok(printed) = print_state(alloc, state) else {
+        failed(rt, "no memory")
+    };
+    let mut told = String::new(alloc);
+    push_keys(rt, &mut told, bars, script);
+    push_threads(rt, &mut told, bars, script.events.len(), script.threads);
+    is_as_told(rt, printed.as_str(), told.as_str());
 }
 
-fn compare_after<R: Abort>(
-    rt: &R,
-    alloc: Global,
-    script: &Script,
-    events: usize,
-) -> Result<(), Fail> {
-    let mut state = State::open_with(
+/// Compares the end of the script's run.
+fn compare_run<R: Abort>(rt: &R, alloc: Global, script: &Script) {
+    let Ok(mut state) = State::open_with(
         alloc,
         script.threads,
         script.locks,
         script.conds,
         script.permits.as_slice(),
-    )?;
-    compare_run(rt, alloc, script, events, &mut state)
+    ) else {
+        failed(rt, "no state")
+    };
+    let Ok(mut run) = Run::new(alloc, script.threads) else {
+        failed(rt, "no memory")
+    };
+    let is_run = runs_to_its_end(&mut state, &mut run, script.events.as_slice());
+    is_so(rt, is_run, "the events are made");
+    compare(rt, alloc, script, run.bars.as_slice(), &state);
+}
+
+/// Compares the end of the script's run, and then of each run that ends with fewer of its events.
+fn compare_runs<R: Abort>(rt: &R, alloc: Global, text: &str) {
+    let Ok(mut script) = parse_script(alloc, text) else {
+        failed(rt, "no script")
+    };
+    for _ in 0..script.events.len() + 1 {
+        compare_run(rt, alloc, &script);
+        script.events.pop();
+    }
 }
 
 #[test]
-fn runs_agree_with_printed_states(rt: HostRuntime) -> Result<(), Fail> {
+fn runs_agree_with_printed_states(rt: HostRuntime) {
     for text in &SCRIPTS {
-        let script = parse_script(rt.alloc(), text)?;
-        for events in 0..script.events.len() + 1 {
-            compare_after(&rt, rt.alloc(), &script, events)?;
-        }
+        compare_runs(&rt, rt.alloc(), text);
     }
-    Ok(())
 }

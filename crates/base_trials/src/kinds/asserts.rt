@@ -4,7 +4,6 @@ ghost use Rattle.std.specs.Prelude.{◌≡◌, false};
 use crate::asserts::equal;
 use lot_locks::Released;
 use lot_park::Parked;
-use lot_permits::Freed;
 use lot_waits::Ledger;
 use std::process::Abort;
 
@@ -20,13 +19,6 @@ pub(crate) fn count_is(rt: &impl Abort, count: usize, wanted: usize)
     ensures { count ≡ wanted }
 {
     assert_eq!(rt; count, wanted);
-}
-
-/// The permit was released so, or the test fails.
-pub(crate) fn freed_is(rt: &impl Abort, freed: Freed, wanted: Freed)
-    ensures { freed ≡ wanted }
-{
-    assert_eq!(rt; freed, wanted);
 }
 
 /// The lock was released so, or the test fails.

@@ -268,23 +268,19 @@ fn taken_after_the_flag_was_cleared<N: WaitName + Send + Sync, R: Threads + Wait
     (zero, one, late.unwrap())
 }
 
-// Plays one wait, or all schedules.
+// Plays all schedules.
 fn played<N: WaitName + Send + Sync, R: Threads + Wait + Abort + Sync>(
     rt: &R,
     lot: &ParkingLot<TwoTables<N>>,
     zero: Waiter<N>,
     one: Waiter<N>,
     two: Waiter<N>,
-    all: bool,
 ) -> (Waiter<N>, Waiter<N>, Waiter<N>)
     requires keys { (N.locks ≡ 1) × (N.conds ≡ 1) × (lot.now.threads ≡ 3) × (lot.now.keys ≡ 2) }
     requires threads { (zero.thread ≡ 0) × (one.thread ≡ 1) × (two.thread ≡ 2) }
     ensures { (result.0.thread ≡ 0) × (result.1.thread ≡ 1) × (result.2.thread ≡ 2) }
 {
     let (zero, one) = notified_before_sleep(rt, lot, zero, one);
-    if !all {
-        return (zero, one, two);
-    }
     let (zero, one) = all_notified_before_sleep(rt, lot, zero, one);
     taken_after_the_flag_was_cleared(rt, lot, zero, one, two)
 }
@@ -294,7 +290,6 @@ fn play<N: WaitName + Send + Sync, R: Threads + Wait + Abort + Sync>(
     rt: &R,
     alloc: Global,
     opened: OpenedConds,
-    all: bool,
 ) -> Ledger
     requires names { (opened.table ≡ N.opening.conds) × (opened.locks ≡ N.locks) × (opened.conds ≡ N.conds) }
     requires size { (opened.threads ≡ 3) × (opened.locks ≡ 1) × (opened.conds ≡ 1) }
@@ -308,7 +303,7 @@ fn play<N: WaitName + Send + Sync, R: Threads + Wait + Abort + Sync>(
     let zero = waiters.take_last();
     let root = roots.take_last();
     let lot = open::<N>(rt, alloc, scheme, root);
-    let (zero, one, two) = played(rt, &lot, zero, one, two, all);
+    let (zero, one, two) = played(rt, &lot, zero, one, two);
     let mut left = room_for(rt, alloc, 2);
     let scheme = lot.close(rt, &mut left).into_conds();
     roots.push_reserved(condition_of(rt, left));
@@ -319,19 +314,10 @@ fn play<N: WaitName + Send + Sync, R: Threads + Wait + Abort + Sync>(
 }
 
 #[test]
-fn a_ledger_of_one_wait(rt: HostRuntime) {
-    let Ok(opened) = OpenedConds::open(rt.alloc(), THREADS, 1, 1) else {
-        failed(&rt, "no memory")
-    };
-    let ledger = play::<Brand, HostRuntime>(&rt, rt.alloc(), opened, false);
-    ledger_is(&rt, &ledger, &[1]);
-}
-
-#[test]
 fn waits_and_notifications(rt: HostRuntime) {
     let Ok(opened) = OpenedConds::open(rt.alloc(), THREADS, 1, 1) else {
         failed(&rt, "no memory")
     };
-    let ledger = play::<Brand, HostRuntime>(&rt, rt.alloc(), opened, true);
+    let ledger = play::<Brand, HostRuntime>(&rt, rt.alloc(), opened);
     ledger_is(&rt, &ledger, &[4]);
 }

@@ -61,29 +61,39 @@ const MOST_ROUNDS: u64 = 1_000_000_000;
 
 /// The plan that the words of a command line spell.
 pub fn plan_of(words: &[&str]) -> Option<Plan> {
-    match words {
-        ["count", threads, locks, rounds] => {
-            let rounds = number(rounds, 0, MOST_ROUNDS)?;
-            sized(threads, locks, Job::Count(rounds))
-        }
-        ["share", threads, millis] => sized(
-            threads,
-            "1",
-            Job::Share(number(millis, 0, MOST_MILLIS)?),
-        ),
-        ["relay", producers, consumers, rounds] => relaying(producers, consumers, rounds),
-        ["wait", threads, held, outside, millis] => {
-            let held = number(held, 0, MOST_NANOS)?;
-            let outside = number(outside, 0, MOST_NANOS)?;
-            let millis = number(millis, 0, MOST_MILLIS)?;
-            sized(threads, "1", Job::Wait(held, outside, millis))
-        }
-        ["start", threads, locks] => sized(threads, locks, Job::Start),
+    let [command, numbers @ ..] = words else {
+        return None;
+    };
+    match *command {
+        "count" => counting(numbers),
+        "share" => sharing(numbers),
+        "relay" => relaying(numbers),
+        "wait" => waiting(numbers),
+        "start" => starting(numbers),
         _ => None,
     }
 }
 
-fn relaying(producers: &str, consumers: &str, rounds: &str) -> Option<Plan> {
+fn counting(numbers: &[&str]) -> Option<Plan> {
+    let [threads, locks, rounds] = numbers else {
+        return None;
+    };
+    let rounds = number(rounds, 0, MOST_ROUNDS)?;
+    sized(threads, locks, Job::Count(rounds))
+}
+
+fn sharing(numbers: &[&str]) -> Option<Plan> {
+    let [threads, millis] = numbers else {
+        return None;
+    };
+    let millis = number(millis, 0, MOST_MILLIS)?;
+    sized(threads, "1", Job::Share(millis))
+}
+
+fn relaying(numbers: &[&str]) -> Option<Plan> {
+    let [producers, consumers, rounds] = numbers else {
+        return None;
+    };
     let producers = number(producers, 1, MAX_THREADS as u64)? as usize;
     let consumers = number(consumers, 1, MAX_THREADS as u64)? as usize;
     let rounds = number(rounds, 0, MOST_ROUNDS)?;
@@ -96,6 +106,23 @@ fn relaying(producers: &str, consumers: &str, rounds: &str) -> Option<Plan> {
         conds: 2,
         job: Job::Relay(producers, rounds),
     })
+}
+
+fn waiting(numbers: &[&str]) -> Option<Plan> {
+    let [threads, held, outside, millis] = numbers else {
+        return None;
+    };
+    let held = number(held, 0, MOST_NANOS)?;
+    let outside = number(outside, 0, MOST_NANOS)?;
+    let millis = number(millis, 0, MOST_MILLIS)?;
+    sized(threads, "1", Job::Wait(held, outside, millis))
+}
+
+fn starting(numbers: &[&str]) -> Option<Plan> {
+    let [threads, locks] = numbers else {
+        return None;
+    };
+    sized(threads, locks, Job::Start)
 }
 
 fn sized(threads: &str, locks: &str, job: Job) -> Option<Plan> {
