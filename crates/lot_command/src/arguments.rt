@@ -1,4 +1,5 @@
 //! The words of the command line.
+ghost use Rattle.std.specs.Prelude.{◌≡◌, map, string_bytes, IfOk};
 
 use crate::failure::Failure;
 use std::alloc::Global;
@@ -39,12 +40,13 @@ pub fn words<E: Env>(rt: &E, alloc: Global) -> Result<Vec<String>, Failure> {
     }
 }
 
-/// The words as texts, to be matched.
-pub fn texts_of(alloc: Global, words: &[String]) -> Result<Vec<&str>, Failure> {
-    Ok(
-        words
-            .iter()
-            .map(|word| word.as_str())
-            .collect::<Vec<&str>>(alloc)?,
-    )
+/// The words as texts, each as it is, to be matched; `NoMemory` where room for them is refused.
+pub fn texts_of(alloc: Global, words: &[String]) -> Result<Vec<&str>, Failure>
+    ensures { IfOk result (λ texts. map (λ t. t.now) texts.items ≡ map string_bytes words.now) }
+{
+    let mut texts = Vec::with_capacity(alloc, words.len())?;
+    for i in 0..words.len() {
+        texts.push_reserved(words[i].as_str());
+    }
+    Ok(texts)
 }

@@ -1,4 +1,5 @@
 mod All
+mod Calls
 mod Under
 pub mod Debts
 pub mod Looks

@@ -102,7 +102,7 @@ fn two_of_two<N: LotName<Count> + Send + Sync>(
 }
 
 /// Two passes get a permit of semaphore 1 each, and give it back.
-fn hold_both<N: LotName<Count> + Send + Sync, T: Wait>(
+fn hold_both<N: LotName<Count> + Send + Sync, T: Wait + Abort>(
     rt: &T,
     lot: &Lot<Count, N>,
     first: Pass<Count, N>,
@@ -115,6 +115,7 @@ fn hold_both<N: LotName<Count> + Send + Sync, T: Wait>(
     let moment = Moment { now: 0, word: 0 };
     let (first, one) = lot.acquire(rt, first, 1);
     let (second, two) = lot.acquire(rt, second, 1);
+    equal(rt, lot.permits_left(1), 0);
     let (first, second) = two_of_two(lot, first, second, 1);
     let (first, _) = lot.release(rt, first, one, moment);
     let (second, _) = lot.release(rt, second, two, moment);
@@ -136,6 +137,7 @@ fn play<N: LotName<Count> + Send + Sync, T: Wait + Abort>(
     };
     let first = enter(rt, &lot);
     let second = enter(rt, &lot);
+    equal(rt, lot.permits_left(1), 2);
     let (first, second) = hold_both(rt, &lot, first, second);
     lot.leave(rt, first);
     lot.leave(rt, second);

@@ -1,4 +1,4 @@
-use Rattle.std.proofs.Common.{◌≡◌, ◌++◌, ◌∷◌, [], length, map, ap, ◌∙◌, subst, reverse, vec_len, rules, arith}
+use Rattle.std.proofs.Common.{◌≡◌, ◌++◌, ◌∷◌, [], map, ap, ◌∙◌, subst, sym, reverse, arith}
 use Rattle.std.proofs.lemmas.List.{map-append}
 use Rattle.lot_rights.proofs.Turns.{moves_on, no_elements}
 use Rattle.lot_kinds.specs.Rights.{counts_of, permits_of}
@@ -23,12 +23,10 @@ loop-one-preserved g c =
 
 pub returns-clause-waiters : goal.returns-clause-waiters
 returns-clause-waiters g c =
-    let none : c.loop-one.rights.items ≡ [] = no_elements c.loop-one.rights.items (let n : length c.loop-one.rights.items ≡ vec_len c.loop-one.rights = search rules in n
-    ∙ c.in_default.ensures.cases.0) in
+    let none : c.loop-one.rights.items ≡ [] = no_elements c.loop-one.rights.items (sym c.loop-one.rights.ok.0 ∙ c.in_default.ensures.cases.0) in
     c.reverse.ensures.items ∙ subst (λ rs. map counts_of rs ++ reverse c.loop-one.waiters.items ≡ map counts_of c.args.rights.items) none c.loop-one.invariant.counted
 
 pub returns-clause-seekers : goal.returns-clause-seekers
 returns-clause-seekers g c =
-    let none : c.loop-one.rights.items ≡ [] = no_elements c.loop-one.rights.items (let n : length c.loop-one.rights.items ≡ vec_len c.loop-one.rights = search rules in n
-    ∙ c.in_default.ensures.cases.0) in
+    let none : c.loop-one.rights.items ≡ [] = no_elements c.loop-one.rights.items (sym c.loop-one.rights.ok.0 ∙ c.in_default.ensures.cases.0) in
     c.reverse-2.ensures.items ∙ subst (λ rs. map permits_of rs ++ reverse c.loop-one.seekers.items ≡ map permits_of c.args.rights.items) none c.loop-one.invariant.held

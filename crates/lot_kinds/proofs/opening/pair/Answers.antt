@@ -1,4 +1,4 @@
-use Rattle.std.proofs.Common.{◌≡◌, ◌+◌, ◌++◌, ◌∷◌, [], length, ap, sym, ◌∙◌, reverse, vec_len, rules, arith}
+use Rattle.std.proofs.Common.{◌≡◌, ◌+◌, ◌++◌, ◌∷◌, [], length, ap, sym, ◌∙◌, reverse, vec_len, arith}
 use Rattle.lot_rights.proofs.Turns.{moves_on}
 use Rattle.lot_kinds.specs.Rights.{joined, pairs}
 use Rattle.lot_kinds.proofs.Pairs.{pairs_popped, pairs_pushed}
@@ -6,8 +6,8 @@ use Rattle.lot_kinds.proofs.opening.pair.Goals as goal
 
 pub new-requires : goal.new-requires
 new-requires g c =
-    let some : length c.take_last.new.self.items ≡ vec_len c.take_last.new.self = search rules in
-    let left : length c.pop.new.self.items ≡ vec_len c.pop.new.self = search rules in
+    let some : length c.take_last.new.self.items ≡ vec_len c.take_last.new.self = sym c.take_last.new.self.ok.0 in
+    let left : length c.pop.new.self.items ≡ vec_len c.pop.new.self = sym c.pop.new.self.ok.0 in
     let both = c.loop-waiter.invariant.both in
     let less = c.take_last.ensures.len in
     let fewer = c.in-Some.ensures.len in
@@ -20,8 +20,8 @@ new-requires g c =
 pub loop-waiter-preserved : goal.loop-waiter-preserved
 loop-waiter-preserved g c =
     let inv = c.loop-waiter.invariant in
-    let some : length c.take_last.new.self.items ≡ vec_len c.take_last.new.self = search rules in
-    let left : length c.pop.new.self.items ≡ vec_len c.pop.new.self = search rules in
+    let some : length c.take_last.new.self.items ≡ vec_len c.take_last.new.self = sym c.take_last.new.self.ok.0 in
+    let left : length c.pop.new.self.items ≡ vec_len c.pop.new.self = sym c.pop.new.self.ok.0 in
     let both = inv.both in
     let less = c.take_last.ensures.len in
     let fewer = c.in-Some.ensures.len in

@@ -1,12 +1,32 @@
-use Rattle.std.proofs.Common.{◌≡◌, ◌+◌, ◌<◌, ◌≤◌, length, vec_len, rules, subst, sym, ap, ◌∙◌, arith}
+use Rattle.std.proofs.Common.{◌≡◌, ◌+◌, ◌<◌, ◌≤◌, [], length, vec_len, subst, sym, ap, ◌∙◌, arith}
 use Rattle.std.specs.List.{All}
-use Rattle.std.proofs.lemmas.List.Elements.{All-push}
+use Rattle.std.proofs.lemmas.List.Elements.{All-nil, All-push}
 use Rattle.lot_rights.specs.Shown.{RootShown}
+use Rattle.lot_rights.proofs.Turns.{no_elements}
 use Rattle.lot_words.specs.declared.views.LockRootView.{LockRootView}
 use Rattle.lot_park.specs.declared.parts.one_of.OneOf.TheVariants.{First, Second}
 use Rattle.lot_kinds.proofs.LastRoot.{IsLast, is_last}
 use Rattle.lot_kinds.proofs.Divided.{has_more, has_else}
 use Rattle.lot_kinds.proofs.roots.divide.Goals as goal
+
+pub loop-root-init : goal.loop-root-init
+loop-root-init g c =
+    let all = c.requires.keys.1 in
+    let first = c.requires.follow.conds_follow in
+    let later = c.requires.follow.sems_follow in
+    let room = c.requires.room in
+    let none : c.args.locks.now.items ≡ [] = no_elements c.args.locks.now.items (sym c.args.locks.now.ok.0 ∙ room.0.0) in
+    record {
+      keys = c.requires.keys.0;
+      own = subst (All (λ (r : RootShown LockRootView). r.table ≡ g.N.Name.opening.locks)) (sym none) (All-nil (λ (r : RootShown LockRootView). r.table ≡ g.N.Name.opening.locks));
+      few = omega (arith, all);
+      locks = record { few = omega (arith, room.0.0); each = λ k from near past. absurd (omega (arith, near, past, all)) };
+      conds = record { few = omega (arith, room.1.0); each = λ k from near past. absurd (omega (arith, near, past, all, first)) };
+      sems = record { few = omega (arith, room.2.0); each = λ k from near past. absurd (omega (arith, near, past, all, first, later)) };
+      locks_room = room.0.1;
+      conds_room = room.1.1;
+      sems_room = room.2.1;
+    }
 
 -- ---- the root of a lock
 pub push_reserved-requires : goal.push_reserved-requires
@@ -15,7 +35,7 @@ push_reserved-requires g c =
     let n = vec_len c.pop.new.self in
     let next : vec_len c.loop-root.roots ≡ n + 1 = (let fewer = c.in-Some.ensures.len in omega (arith, fewer)) in
     let last : IsLast (length g.N.LotName.values) g.N.PermitName.low n c.pop.new.self.items (First c.in-First.root) =
-    is_last (First c.in-First.root) c.in-Some.ensures.items (search rules) inv.keys c.into_one.ensures.same c.into_one.ensures.table c.in-First.is in
+    is_last (First c.in-First.root) c.in-Some.ensures.items (sym c.pop.new.self.ok.0) inv.keys c.into_one.ensures.same c.into_one.ensures.table c.in-First.is in
     let key : c.in-First.root.root.key ≡ n = last.key in
     let table : c.in-First.root.root.key < length g.N.LotName.values = last.table in
     let few = inv.locks.few in
@@ -28,7 +48,7 @@ loop-root-preserved-in-First g c =
     let n = vec_len c.pop.new.self in
     let next : vec_len c.loop-root.roots ≡ n + 1 = (let fewer = c.in-Some.ensures.len in omega (arith, fewer)) in
     let last : IsLast (length g.N.LotName.values) g.N.PermitName.low n c.pop.new.self.items (First c.in-First.root) =
-    is_last (First c.in-First.root) c.in-Some.ensures.items (search rules) inv.keys c.into_one.ensures.same c.into_one.ensures.table c.in-First.is in
+    is_last (First c.in-First.root) c.in-Some.ensures.items (sym c.pop.new.self.ok.0) inv.keys c.into_one.ensures.same c.into_one.ensures.table c.in-First.is in
     let key : c.in-First.root.root.key ≡ n = last.key in
     let table : c.in-First.root.root.key < length g.N.LotName.values = last.table in
     let first = c.requires.follow.conds_follow in
@@ -56,7 +76,7 @@ push_reserved-requires-in-Second-First g c =
     let n = vec_len c.pop.new.self in
     let next : vec_len c.loop-root.roots ≡ n + 1 = (let fewer = c.in-Some.ensures.len in omega (arith, fewer)) in
     let last : IsLast (length g.N.LotName.values) g.N.PermitName.low n c.pop.new.self.items (Second (First c.in-Second-First.root)) =
-    is_last (Second (First c.in-Second-First.root)) c.in-Some.ensures.items (search rules) inv.keys c.into_one.ensures.same c.into_one.ensures.table
+    is_last (Second (First c.in-Second-First.root)) c.in-Some.ensures.items (sym c.pop.new.self.ok.0) inv.keys c.into_one.ensures.same c.into_one.ensures.table
     (c.in-Second-First.is ∙ ap (λ o. Second o) c.in-Second-First.field-0-is) in
     let key : c.in-Second-First.root.root.key ≡ n = last.key in
     let above : length g.N.LotName.values ≤ c.in-Second-First.root.root.key = last.table.0 in
@@ -73,7 +93,7 @@ loop-root-preserved-in-Second-First g c =
     let n = vec_len c.pop.new.self in
     let next : vec_len c.loop-root.roots ≡ n + 1 = (let fewer = c.in-Some.ensures.len in omega (arith, fewer)) in
     let last : IsLast (length g.N.LotName.values) g.N.PermitName.low n c.pop.new.self.items (Second (First c.in-Second-First.root)) =
-    is_last (Second (First c.in-Second-First.root)) c.in-Some.ensures.items (search rules) inv.keys c.into_one.ensures.same c.into_one.ensures.table
+    is_last (Second (First c.in-Second-First.root)) c.in-Some.ensures.items (sym c.pop.new.self.ok.0) inv.keys c.into_one.ensures.same c.into_one.ensures.table
     (c.in-Second-First.is ∙ ap (λ o. Second o) c.in-Second-First.field-0-is) in
     let key : c.in-Second-First.root.root.key ≡ n = last.key in
     let above : length g.N.LotName.values ≤ c.in-Second-First.root.root.key = last.table.0 in
@@ -102,7 +122,7 @@ push_reserved-requires-in-Second-Second g c =
     let n = vec_len c.pop.new.self in
     let next : vec_len c.loop-root.roots ≡ n + 1 = (let fewer = c.in-Some.ensures.len in omega (arith, fewer)) in
     let last : IsLast (length g.N.LotName.values) g.N.PermitName.low n c.pop.new.self.items (Second (Second c.in-Second-Second.root)) =
-    is_last (Second (Second c.in-Second-Second.root)) c.in-Some.ensures.items (search rules) inv.keys c.into_one.ensures.same c.into_one.ensures.table
+    is_last (Second (Second c.in-Second-Second.root)) c.in-Some.ensures.items (sym c.pop.new.self.ok.0) inv.keys c.into_one.ensures.same c.into_one.ensures.table
     (c.in-Second-Second.is ∙ ap (λ o. Second o) c.in-Second-Second.field-0-is) in
     let key : c.in-Second-Second.root.root.key ≡ n = last.key in
     let above : g.N.PermitName.low ≤ c.in-Second-Second.root.root.key = last.table.1 in
@@ -118,7 +138,7 @@ loop-root-preserved g c =
     let n = vec_len c.pop.new.self in
     let next : vec_len c.loop-root.roots ≡ n + 1 = (let fewer = c.in-Some.ensures.len in omega (arith, fewer)) in
     let last : IsLast (length g.N.LotName.values) g.N.PermitName.low n c.pop.new.self.items (Second (Second c.in-Second-Second.root)) =
-    is_last (Second (Second c.in-Second-Second.root)) c.in-Some.ensures.items (search rules) inv.keys c.into_one.ensures.same c.into_one.ensures.table
+    is_last (Second (Second c.in-Second-Second.root)) c.in-Some.ensures.items (sym c.pop.new.self.ok.0) inv.keys c.into_one.ensures.same c.into_one.ensures.table
     (c.in-Second-Second.is ∙ ap (λ o. Second o) c.in-Second-Second.field-0-is) in
     let key : c.in-Second-Second.root.root.key ≡ n = last.key in
     let border : length g.N.LotName.values ≤ c.in-Second-Second.root.root.key = last.table.0 in
@@ -139,3 +159,22 @@ loop-root-preserved g c =
       conds_room = inv.conds_room;
       sems_room = omega (arith, wide, inv.sems_room);
     }
+
+-- ---- all are taken apart
+pub returns-clause-own : goal.returns-clause-own
+returns-clause-own g c = c.loop-root.invariant.own
+
+pub returns-clause-few : goal.returns-clause-few
+returns-clause-few g c =
+    let conds = c.loop-root.invariant.conds.few in
+    let sems = c.loop-root.invariant.sems.few in
+    (omega (arith, conds), omega (arith, sems))
+
+pub returns-clause-locks : goal.returns-clause-locks
+returns-clause-locks g c = λ k near. let none = c.in_default.ensures.cases.0 in c.loop-root.invariant.locks.each k (omega arith) near (omega (arith, none))
+
+pub returns-clause-conds : goal.returns-clause-conds
+returns-clause-conds g c = λ k among. let none = c.in_default.ensures.cases.0 in c.loop-root.invariant.conds.each k among.0 among.1 (omega (arith, none))
+
+pub returns-clause-sems : goal.returns-clause-sems
+returns-clause-sems g c = λ k among. let none = c.in_default.ensures.cases.0 in c.loop-root.invariant.sems.each k among.0 among.1 (omega (arith, none))

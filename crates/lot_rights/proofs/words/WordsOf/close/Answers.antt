@@ -1,11 +1,39 @@
-use Rattle.std.proofs.Common.{◌≡◌, [], ◌∷◌, ◌++◌, reverse, refl, ap, subst, ◌∙◌}
+use Rattle.std.proofs.Common.{◌≡◌, [], ◌∷◌, ◌++◌, reverse, refl, sym, ap, subst, ◌∙◌}
+use Rattle.std.specs.List.{All}
 use Rattle.std.specs.Slots.{slots_items}
+use Rattle.atomic_table.specs.Seated.{TableId}
 use Rattle.lot_rights.specs.declared.views.Right.TheVariants.{Pass}
-use Rattle.lot_rights.specs.Shown.{PassShown, WordsShown}
+use Rattle.lot_rights.specs.Shown.{PassShown, RootShown, WordsShown}
 use Rattle.lot_rights.specs.Closing.{roots_in, Ended}
-use Rattle.lot_rights.proofs.Gathers.{gathered}
+use Rattle.lot_rights.proofs.Gathers.{all_popped, gathered}
 use Rattle.lot_rights.proofs.Closes.{ends}
 use Rattle.lot_rights.proofs.words.WordsOf.close.Goals as goal
+
+pub take_last-requires : goal.take_last-requires
+take_last-requires g c = c.requires.some
+
+pub gather_passes-seat-requires-clause-table : goal.gather_passes-seat-requires-clause-table
+gather_passes-seat-requires-clause-table g c =
+    let last = all_popped (λ (p : PassShown _). p.table ≡ c.args.self.table) c.args.passes.items c.take_last.new.self.items c.take_last.result c.take_last.ensures.items c.requires.table.0 in
+    (ap (λ (p : PassShown _). p.table) c.seat.view_is ∙ last.1 ∙ sym (ap (λ (w : WordsShown _). w.table) c.self.view_is), c.self.inside.some)
+
+pub gather_passes-seat-requires-clause-all : goal.gather_passes-seat-requires-clause-all
+gather_passes-seat-requires-clause-all g c =
+    let last = all_popped (λ (p : PassShown _). p.table ≡ c.args.self.table) c.args.passes.items c.take_last.new.self.items c.take_last.result c.take_last.ensures.items c.requires.table.0 in
+    subst (λ (t : TableId). All (λ (p : PassShown _). p.table ≡ t) c.take_last.new.self.items) (sym (ap (λ (w : WordsShown _). w.table) c.self.view_is)) last.0
+
+pub gather_roots-seat-requires-clause-table : goal.gather_roots-seat-requires-clause-table
+gather_roots-seat-requires-clause-table g c = (c.gather_passes-seat.ensures.table, c.self.inside.some)
+
+pub gather_roots-seat-requires-clause-all : goal.gather_roots-seat-requires-clause-all
+gather_roots-seat-requires-clause-all g c =
+    subst (λ (t : TableId). All (λ (q : RootShown _). q.table ≡ t) c.args.roots.items) (sym (ap (λ (w : WordsShown _). w.table) c.self.view_is)) c.requires.table.1
+
+pub close_with-requires : goal.close_with-requires
+close_with-requires g c = c.gather_roots-seat.ensures.table
+
+pub returns-clause-full : goal.returns-clause-full
+returns-clause-full g c = (c.close_with.ensures.values.0, c.close_with.ensures.values.1, c.close_with.ensures.counts.1 ∙ ap (λ (w : WordsShown _). w.table.slots) c.self.view_is)
 
 pub returns-clause-ended : goal.returns-clause-ended
 returns-clause-ended g c =
