@@ -1,4 +1,4 @@
-ghost use Rattle.std.specs.Prelude.{◌≡◌, ℕ, ◌+◌, ◌-◌, ◌*◌, ◌^◌, ◌<◌, ◌≤◌, ◌↔◌, Bool, true, false, List, [], ◌∷◌, ◌++◌, Option, length, map, take, min, Any, IfOk, IsTrue, IsSome};
+ghost use Rattle.std.specs.Prelude.{◌≡◌, ℕ, ◌+◌, ◌-◌, ◌*◌, ◌^◌, ◌<◌, ◌≤◌, ◌↔◌, true, false, [], ◌∷◌, ◌++◌, length, take, min, Any, IfOk, IsTrue, IsSome};
 ghost use Rattle.lot_bucket.specs.Queue.{line_of, without_key};
 ghost use Rattle.lot_bucket.specs.Places.{empty_places, spaced, has_key, root_at, with_root};
 

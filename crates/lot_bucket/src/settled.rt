@@ -1,4 +1,4 @@
-ghost use Rattle.std.specs.Prelude.{◌≡◌, ℕ, ◌<◌, ◌%◌, ◌↔◌, true, false, List, [], IsTrue, length};
+ghost use Rattle.std.specs.Prelude.{◌≡◌, ◌<◌, ◌%◌, ◌↔◌, true, false, [], IsTrue};
 ghost use Rattle.lot_bucket.specs.Settled.{IsSettled, IsWhole, IsReady, HasPlaceFor, Stays};
 
 use crate::bucket::Bucket;

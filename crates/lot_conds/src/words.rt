@@ -1,5 +1,5 @@
 //! The table of condition words.
-ghost use Rattle.std.specs.Prelude.{◌≡◌, ◌+◌, ◌<◌, ◌≤◌};
+ghost use Rattle.std.specs.Prelude.{◌≡◌, ◌<◌, ◌≤◌};
 ghost use Rattle.lot_core.specs.declared.state.TheConstants.{MAX_THREADS, MAX_KEYS};
 ghost use Rattle.lot_rights.specs.Layout.{word_count};
 ghost use Rattle.lot_conds.specs.Rule.{key_count};

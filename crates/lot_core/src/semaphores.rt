@@ -1,7 +1,7 @@
 //! Semaphores: of each its permits, its parked bit and its line of sleepers.
-ghost use Rattle.std.specs.Prelude.{◌≡◌, ◌+◌, ◌-◌, ◌^◌, ◌<◌, ◌≤◌, ◌↔◌, ◌++◌, ◌∷◌, ℕ, [], false, not, length, IsTrue, IfOk, OnOk, OnErr, drop, replicate, slice_index, slice_set, sum};
+ghost use Rattle.std.specs.Prelude.{◌≡◌, ◌+◌, ◌-◌, ◌^◌, ◌<◌, ◌≤◌, ◌↔◌, ◌++◌, ◌∷◌, [], false, not, length, IsTrue, IfOk, OnOk, OnErr, drop, replicate, slice_index, slice_set, sum};
 ghost use Rattle.std.specs.List.{All};
-ghost use Rattle.lot_core.specs.Lines.{line_of, key_count, no_lines};
+ghost use Rattle.lot_core.specs.Lines.{key_count};
 
 use crate::lines::Lines;
 use std::alloc::{AllocError, Global};

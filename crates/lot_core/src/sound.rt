@@ -1,5 +1,5 @@
 //! Whether a state is sound, tested key by key.
-ghost use Rattle.std.specs.Prelude.{◌≡◌, ◌≢◌, ◌↔◌, ℕ, [], IsTrue};
+ghost use Rattle.std.specs.Prelude.{◌≡◌, ◌↔◌, ℕ, IsTrue};
 
 use crate::state::State;
 use lot_events::Point;

@@ -1,7 +1,7 @@
 //! A run as it is seen: from its events and what their threads saw of them.
 
 use crate::marks::{Arrow, Bar, Dot, Right, Stand, Told};
-use lot_core::{Event, Point, Seen};
+use lot_core::{Event, Point};
 use std::alloc::{AllocError, Global};
 
 mod events;

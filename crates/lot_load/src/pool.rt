@@ -1,5 +1,5 @@
 //! `pool`: threads that share some permits, and count under a lock how many have one at a time.
-ghost use Rattle.std.specs.Prelude.{◌≡◌, ◌≤◌, ℕ, [], ◌∷◌, length};
+ghost use Rattle.std.specs.Prelude.{◌≡◌, ◌≤◌, ℕ, length};
 ghost use Rattle.lot_core.specs.declared.state.TheConstants.{MAX_THREADS};
 ghost use Rattle.lot_sync.specs.Lot.{Owns, OwnsNone};
 ghost use Rattle.lot_sync.specs.Opened.{IsNamed};

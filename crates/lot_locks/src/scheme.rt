@@ -1,5 +1,5 @@
 //! How the parking lot posts and collects the letters of locks.
-ghost use Rattle.std.specs.Prelude.{◌≡◌, ℕ, true};
+ghost use Rattle.std.specs.Prelude.{◌≡◌};
 
 use lot_park::{Root, Scheme, Token};
 use lot_words::{Keeps, LockPass, LockRoot, LockWords, Name, Named};

@@ -1,6 +1,6 @@
 //! What is done under the lock of a bucket.
 
-ghost use Rattle.std.specs.Prelude.{◌≡◌, ℕ, ◌<◌, ◌≤◌, List, [], ◌∷◌, ◌++◌, Option, Some, None, IsSome, length, take, if◌then◌else◌};
+ghost use Rattle.std.specs.Prelude.{◌≡◌, ◌<◌, ◌≤◌, [], ◌∷◌, ◌++◌, Option, Some, None, IsSome, length, take, if◌then◌else◌};
 ghost use Rattle.lot_bucket.specs.Queue.{line_of, without_count};
 ghost use Rattle.lot_bucket.specs.Places.{root_at, with_root};
 ghost use Rattle.lot_bucket.specs.Settled.{Stays};

@@ -6,8 +6,8 @@
 //! The calls' callbacks are handed the table's own roots and passes, and their contracts speak of these
 //! alone: `unpark_one::<S, A, P, _, _, _>(rt, &lot, key, moment, x, callback)` for the part P of the lot of S that is the table of A.
 
-ghost use Rattle.std.specs.Prelude.{◌≡◌, ℕ, ◌<◌, true, []};
-ghost use Rattle.lot_park.specs.Parking.{Tells, MayUnpark, Unparks, UnparkedOne, MayUnparkAll, UnparksAll, UnparkedAll, MayUnparkCount, UnparksCount, UnparkedCount, MayValidate, Validates, ParkedOnce};
+ghost use Rattle.std.specs.Prelude.{◌≡◌, ◌<◌, true, []};
+ghost use Rattle.lot_park.specs.Parking.{MayUnpark, Unparks, UnparkedOne, MayUnparkAll, UnparksAll, UnparkedAll, MayUnparkCount, UnparksCount, UnparkedCount, MayValidate, Validates, ParkedOnce};
 ghost use Rattle.lot_park.specs.Parts.{CallsBack, CallsBackCount, Checks};
 
 use crate::lot::{Parked, ParkingLot};

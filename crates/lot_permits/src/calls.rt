@@ -1,7 +1,7 @@
 //! What a seeker can do on a semaphore.
 ghost use Rattle.std.specs.Prelude.{◌≡◌, ◌≢◌, ℕ, ◌+◌, ◌<◌, ◌≤◌, length};
 ghost use Rattle.lot_core.specs.Parts.{IsAmongSemaphores};
-ghost use Rattle.lot_permits.specs.Permits.{HasPermit, IsSeeker, IsWide, one_less, one_more, opening_permits, permits_in, permits_with};
+ghost use Rattle.lot_permits.specs.Permits.{HasPermit, IsWide, one_less, one_more, opening_permits, permits_with};
 ghost use Rattle.lot_permits.specs.Tries.{TriesToGet};
 
 use crate::getting::{get_slowly, take, try_take};

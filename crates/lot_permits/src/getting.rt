@@ -1,5 +1,5 @@
 //! Getting a permit, as WTF's `Lock::lock` gets a lock: barging, a few yields, and then the line.
-ghost use Rattle.std.specs.Prelude.{◌≡◌, ◌<◌, ◌≤◌, length};
+ghost use Rattle.std.specs.Prelude.{◌≡◌, ◌<◌, length};
 ghost use Rattle.lot_core.specs.Parts.{IsAmongSemaphores};
 ghost use Rattle.lot_sems.specs.Calls.{IsSeeking, MayTake};
 ghost use Rattle.lot_permits.specs.Rights.{IsCalmStanding, HasTried, HasTaken, Seeks, after_try, getting};

@@ -1,5 +1,5 @@
 //! How the parking lot posts and collects the letters of semaphores.
-ghost use Rattle.std.specs.Prelude.{◌≡◌, ℕ, length};
+ghost use Rattle.std.specs.Prelude.{◌≡◌, length};
 ghost use Rattle.lot_core.specs.Parts.{IsAmongSemaphores};
 ghost use Rattle.lot_permits.specs.Rights.{HasSems};
 

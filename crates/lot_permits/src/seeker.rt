@@ -1,5 +1,5 @@
 //! The right to act as one thread on semaphores.
-ghost use Rattle.std.specs.Prelude.{◌≡◌, ℕ, ◌+◌, length};
+ghost use Rattle.std.specs.Prelude.{◌≡◌, ◌+◌, length};
 ghost use Rattle.lot_permits.specs.Permits.{IsSeeker, IsWide, permits_in};
 
 use crate::name::PermitName;

@@ -1,4 +1,4 @@
-ghost use Rattle.std.specs.Prelude.{◌≡◌, ◌≢◌, ℕ, ◌+◌, ◌-◌, ◌*◌, ◌^◌, ◌<◌, Bool, true, false, List, [], ◌∷◌, Option, length, map, slice_index, IfOk, IsTrue, IsSome, MatchOption};
+ghost use Rattle.std.specs.Prelude.{◌≡◌, ◌≢◌, ℕ, ◌+◌, ◌-◌, ◌*◌, ◌^◌, ◌<◌, true, false, List, [], Option, map, slice_index, IfOk, IsSome, MatchOption};
 ghost use Rattle.lot_places.specs.Places.{empty_places, spaced, has_key, root_at, with_root, AreEven, LieFirst, IsPlaceOf};
 
 use std::alloc::{AllocError, Global};

@@ -1,5 +1,5 @@
 //! The words of a table, and the steps of a pass on them.
-ghost use Rattle.std.specs.Prelude.{◌≡◌, ℕ, ◌^◌, ◌<◌, ◌==◌, bit_or};
+ghost use Rattle.std.specs.Prelude.{◌≡◌, ◌<◌, ◌==◌, bit_or};
 ghost use prog.Atomic.{either};
 ghost use Rattle.lot_rights.specs.Steps.{AllowsPass};
 

@@ -1,8 +1,8 @@
 //! Opening: the table, a pass for each thread and a root for each semaphore.
-ghost use Rattle.std.specs.Prelude.{◌≡◌, ℕ, ◌+◌, ◌<◌, ◌≤◌, [], Some, length, slice_get, slice_index, vec_len, IfOk};
+ghost use Rattle.std.specs.Prelude.{◌≡◌, ℕ, ◌+◌, ◌<◌, ◌≤◌, [], Some, slice_get, slice_index, vec_len, IfOk};
 ghost use Rattle.atomic_table.specs.Table.{opening};
 ghost use Rattle.lot_core.specs.declared.state.TheConstants.{MAX_THREADS, MAX_KEYS};
-ghost use Rattle.lot_rights.specs.Layout.{word_at, word_count};
+ghost use Rattle.lot_rights.specs.Layout.{word_at};
 ghost use Rattle.lot_rights.specs.Rule.{Ruled};
 ghost use Rattle.lot_rights.specs.Start.{all_rights, pass_at, root_at};
 ghost use Rattle.lot_sems.specs.Opening.{with_permits, opening_words};

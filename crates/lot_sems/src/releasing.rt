@@ -1,5 +1,5 @@
 //! Giving a permit back.
-ghost use Rattle.std.specs.Prelude.{true, false, ◌≡◌, ℕ, ◌≤◌, [], MatchBool, None};
+ghost use Rattle.std.specs.Prelude.{true, ◌≡◌, ℕ, [], MatchBool, None};
 ghost use Rattle.lot_events.specs.declared.events.Event.TheVariants.{SemFree, SemPass as Passes, SemClear};
 ghost use Rattle.lot_events.specs.declared.events.Seen.TheVariants.{Bool as Saw, Done, Sleeper};
 ghost use Rattle.lot_core.specs.Steps.{SaysMore, first as first_of};

@@ -1,6 +1,6 @@
 //! The end of a table: each key's root comes out of its bucket.
 
-ghost use Rattle.std.specs.Prelude.{◌≡◌, ℕ, ◌+◌, ◌<◌, ◌≤◌, List, [], IsSome, Some, None, length, vec_len, vec_capacity};
+ghost use Rattle.std.specs.Prelude.{◌≡◌, ◌+◌, ◌<◌, ◌≤◌, [], IsSome, Some, None, length, vec_len, vec_capacity};
 ghost use Rattle.lot_bucket.specs.Queue.{without_key};
 ghost use Rattle.lot_bucket.specs.Places.{root_at, with_root};
 ghost use Rattle.lot_table.specs.Buckets.{AreWhole, AreEmpty};

@@ -1,8 +1,6 @@
 //! Growth: the one thing that takes memory for a table that is in use.
 
-ghost use Rattle.std.specs.Prelude.{◌≡◌, ℕ, ◌<◌, ◌≤◌, ◌^◌, List, [], length, IsTrue, IfOk, vec_len, vec_capacity};
-ghost use Rattle.std.specs.Sync.Mutex.{mutex_guard_value};
-ghost use Rattle.lot_bucket.specs.Contents.{Contents};
+ghost use Rattle.std.specs.Prelude.{◌≡◌, ℕ, ◌<◌, ◌≤◌, [], length, IsTrue, IfOk, vec_len, vec_capacity};
 ghost use Rattle.lot_table.specs.Buckets.{queued, AreFresh, AreWhole};
 ghost use Rattle.lot_table.specs.Tables.{under};
 

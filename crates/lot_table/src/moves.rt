@@ -1,6 +1,6 @@
 //! The move of lines and roots to the buckets of a larger table.
 
-ghost use Rattle.std.specs.Prelude.{◌≡◌, ℕ, ◌+◌, ◌<◌, ◌≤◌, true, List, [], ◌∷◌, ◌++◌, None, IsSome, length, map};
+ghost use Rattle.std.specs.Prelude.{◌≡◌, ℕ, ◌+◌, ◌<◌, ◌≤◌, true, ◌++◌, None, IsSome, length, map};
 ghost use Rattle.lot_bucket.specs.Queue.{line_of, without_key};
 ghost use Rattle.lot_bucket.specs.Places.{has_key, root_at, with_root};
 ghost use Rattle.lot_table.specs.Buckets.{KeepsLines, AreWhole, AreFilled, AreEmpty, MayRegrow};

@@ -1,6 +1,6 @@
 //! One version of a table.
 
-ghost use Rattle.std.specs.Prelude.{◌≡◌, ℕ, ◌<◌, ◌≤◌, List, [], IfOk, vec_len, vec_capacity};
+ghost use Rattle.std.specs.Prelude.{◌≡◌, ◌<◌, ◌≤◌, [], IfOk, vec_len, vec_capacity};
 ghost use Rattle.lot_bucket.specs.Settled.{IsWhole};
 ghost use Rattle.lot_table.specs.Buckets.{AreWhole, AreFilled};
 

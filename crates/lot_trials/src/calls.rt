@@ -1,5 +1,4 @@
 //! Calls of one thread, where memory may be refused: a journal's, and those that read a script, make its events and print the state.
-ghost use Rattle.std.specs.Prelude.{◌≡◌};
 
 use crate::asserts::{equal, failed, is_so};
 use lot_core::{CoreFault, Event, Script, ScriptFault, State, parse_script, print_state};

@@ -1,5 +1,5 @@
 //! Worked rows of locks, with the words that they leave, and what an opening refuses.
-ghost use Rattle.std.specs.Prelude.{◌≡◌, length, vec_len};
+ghost use Rattle.std.specs.Prelude.{◌≡◌, vec_len};
 ghost use Rattle.lot_sync.specs.Opened.{IsNamed};
 
 use crate::asserts::{equal, failed, is_so};

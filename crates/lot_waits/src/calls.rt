@@ -1,5 +1,5 @@
 //! What a waiter can do on a condition.
-ghost use Rattle.std.specs.Prelude.{◌≡◌, ℕ, ◌+◌, ◌<◌, ◌≤◌, MatchBool};
+ghost use Rattle.std.specs.Prelude.{◌≡◌, ◌+◌, ◌<◌, ◌≤◌, MatchBool};
 ghost use Rattle.lot_core.specs.Parts.{IsAmongConds};
 ghost use Rattle.lot_core.specs.Steps.{IsCallCount};
 ghost use Rattle.lot_waits.specs.Counts.{IsWide, woke, took};

@@ -1,5 +1,5 @@
 //! Notifying the threads that wait on a condition, as WTF's `Condition::notifyOne` and `Condition::notifyAll` do, and several of them at once.
-ghost use Rattle.std.specs.Prelude.{◌≡◌, ℕ, ◌<◌, ◌≤◌, [], length, MatchBool};
+ghost use Rattle.std.specs.Prelude.{◌≡◌, ℕ, ◌<◌, ◌≤◌, length, MatchBool};
 ghost use Rattle.lot_core.specs.Parts.{IsAmongConds};
 ghost use Rattle.lot_core.specs.Steps.{IsCallCount, SaysMoreBehind, dequeued_count};
 ghost use Rattle.lot_park.specs.Parking.{Tells, TellsCount};

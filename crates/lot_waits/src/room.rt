@@ -1,5 +1,5 @@
 //! The memory that the naming and the closing of conditions want. Neither takes any.
-ghost use Rattle.std.specs.Prelude.{◌≡◌, ℕ, ◌≤◌, vec_len, vec_capacity, IfOk};
+ghost use Rattle.std.specs.Prelude.{◌≡◌, ℕ, vec_len, vec_capacity, IfOk};
 ghost use Rattle.std.specs.List.{All};
 ghost use Rattle.lot_waits.specs.Room.{AreZeros, IsFor};
 

@@ -1,5 +1,5 @@
 //! How the parking lot posts and collects the letters of conditions.
-ghost use Rattle.std.specs.Prelude.{◌≡◌, ℕ};
+ghost use Rattle.std.specs.Prelude.{◌≡◌};
 ghost use Rattle.lot_core.specs.Parts.{IsAmongConds};
 ghost use Rattle.lot_waits.specs.Rights.{HasKeys};
 

@@ -1,5 +1,5 @@
 //! The numbers that are kept of counts, modulo 2^64.
-ghost use Rattle.std.specs.Prelude.{◌≡◌, ℕ, ◌+◌, ◌<◌, replicate, slice_index, slice_set, vec_len, IfOk};
+ghost use Rattle.std.specs.Prelude.{◌≡◌, ◌+◌, ◌<◌, slice_index, slice_set, vec_len, IfOk};
 ghost use Rattle.lot_waits.specs.Counts.{wrap};
 ghost use Rattle.lot_waits.specs.Ledger.{AreAdded};
 

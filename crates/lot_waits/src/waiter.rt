@@ -1,5 +1,5 @@
 //! The right to act as one thread on conditions, with its counts.
-ghost use Rattle.std.specs.Prelude.{◌≡◌, ℕ, ◌+◌};
+ghost use Rattle.std.specs.Prelude.{◌≡◌, ◌+◌};
 ghost use Rattle.lot_core.specs.Parts.{IsAmongConds};
 ghost use Rattle.lot_waits.specs.Rights.{IsCalmStanding};
 ghost use Rattle.lot_waits.specs.Counts.{CountsView, AreKept, IsWide, counts_in, woke, took};

@@ -1,5 +1,5 @@
 //! Waiting on a condition, as WTF's `Condition::wait` does between letting the lock go and getting it again.
-ghost use Rattle.std.specs.Prelude.{◌≡◌, ℕ, ◌<◌, true};
+ghost use Rattle.std.specs.Prelude.{◌≡◌, ◌<◌, true};
 ghost use Rattle.lot_core.specs.Parts.{IsAmongConds};
 ghost use Rattle.lot_conds.specs.Calls.{enlisted_root};
 ghost use Rattle.lot_waits.specs.Rights.{IsCalmStanding, enlisting, waking, with_root};

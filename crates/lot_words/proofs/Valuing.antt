@@ -1,6 +1,6 @@
 -- The lawful values stay lawful.
 use Rattle.std.proofs.Common.{◌≡◌, ◌≢◌, ℕ, ◌<◌, Bool, List, length, set, Option, refl, sym, ap, subst, ◌∙◌, length-set, arith, get_or-set_same, get_or-set_other}
-use mathlib.Core.Option.{some, none, some-injective}
+use mathlib.Core.Option.{some, some-injective}
 use mathlib.Core.Option as maybe
 use lib.ListN.{get_elem?}
 use Rattle.atomic_table.proofs.Lists.{set_here, set_else}

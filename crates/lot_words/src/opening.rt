@@ -1,5 +1,5 @@
 //! Opening: the values become what the slots hold; then the table, a pass for each thread and a root for each lock.
-ghost use Rattle.std.specs.Prelude.{◌≡◌, ℕ, ◌<◌, ◌≤◌, Some, slice_get, map, replicate, vec_len, vec_capacity, IfOk, IfErr};
+ghost use Rattle.std.specs.Prelude.{◌≡◌, ℕ, ◌<◌, ◌≤◌, Some, slice_get, map, replicate, vec_len, IfOk, IfErr};
 ghost use Rattle.atomic_table.specs.Table.{opening};
 ghost use Rattle.lot_core.specs.declared.state.TheConstants.{MAX_THREADS, MAX_KEYS};
 ghost use Rattle.lot_rights.specs.Layout.{word_count};

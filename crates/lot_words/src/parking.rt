@@ -1,5 +1,5 @@
 //! Queueing on a lock.
-ghost use Rattle.std.specs.Prelude.{true, false, ◌≡◌, MatchBool, Some};
+ghost use Rattle.std.specs.Prelude.{false, ◌≡◌, Some};
 ghost use Rattle.lot_events.specs.declared.events.Event.TheVariants.{Park};
 ghost use Rattle.lot_events.specs.declared.events.Seen.TheVariants.{Bool as Saw};
 ghost use Rattle.lot_rights.specs.declared.views.Access.TheVariants.{Makes};

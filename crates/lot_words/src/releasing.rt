@@ -1,5 +1,5 @@
 //! Letting a lock go.
-ghost use Rattle.std.specs.Prelude.{true, false, ◌≡◌, ℕ, ◌<◌, MatchBool, None};
+ghost use Rattle.std.specs.Prelude.{true, false, ◌≡◌, ◌<◌, MatchBool, None};
 ghost use Rattle.lot_events.specs.declared.events.Event.TheVariants.{Free, Pass};
 ghost use Rattle.lot_events.specs.declared.events.Seen.TheVariants.{Bool as Saw, Sleeper};
 ghost use Rattle.lot_core.specs.Steps.{SaysMore, first as first_of};

@@ -12,7 +12,6 @@
 
 use lot_command::{report, texts_of, words};
 use lot_load::run_command;
-use std::alloc::Global;
 use std::fs::File;
 use std::process::ExitCode;
 

@@ -6,7 +6,6 @@
 
 use lot_command::{report, texts_of, words};
 use lot_draw::run_command;
-use std::alloc::Global;
 use std::fs::File;
 use std::process::ExitCode;
 

@@ -1,5 +1,5 @@
 //! The semaphores of a state, where each of their events is allowed, and the events.
-ghost use Rattle.std.specs.Prelude.{◌≡◌, ◌↔◌, ◌++◌, ◌∷◌, [], IsTrue, OnOk, OnErr, IfErr};
+ghost use Rattle.std.specs.Prelude.{◌≡◌, ◌↔◌, IsTrue};
 ghost use Rattle.lot_events.specs.declared.events.Point.TheVariants.{Seeks};
 ghost use Rattle.lot_events.specs.declared.events.Event.TheVariants as Event;
 ghost use Rattle.lot_core.specs.declared.state.CoreFault.TheVariants.{NoMemory};
@@ -10,7 +10,7 @@ use lot_events::{Point, Seen};
 // Where each event is allowed.
 #[tactic(auto)]
 impl State {
-    ghost use Rattle.lot_core.specs.Steps.{IsThread, IsSemaphore, IsSeeking, SaysMore, Allowed};
+    ghost use Rattle.lot_core.specs.Steps.{IsThread, IsSemaphore, IsSeeking, Allowed};
     ghost use Rattle.lot_core.specs.State.{world_of};
 
     fn is_at_semaphore(&self, thread: usize, sem: usize) -> bool

@@ -1,5 +1,5 @@
 //! Rounds of one thread: it locks, adds one and unlocks.
-ghost use Rattle.std.specs.Prelude.{◌≡◌, ◌<◌};
+ghost use Rattle.std.specs.Prelude.{◌<◌};
 ghost use Rattle.lot_sync.specs.Lot.{OwnsNone};
 
 use super::clock::{moment, now, spend};
