@@ -3,7 +3,7 @@
 ghost use Rattle.std.specs.Prelude.{◌≡◌, ℕ, List};
 ghost use Rattle.lot_events.specs.declared.events.Event.{Event};
 ghost use Rattle.lot_core.specs.World.{World, opening_with};
-ghost use Rattle.lot_core.specs.Steps.{Allowed, Run, after_all};
+ghost use Rattle.lot_core.specs.Steps.{Allowed, Run, after, after_all, IsReached};
 ghost use Rattle.lot_core.specs.Sound.{IsSound};
 ghost use Rattle.lot_core.specs.Script.{Spells, SpellsScript, IsFirstBad};
 ghost use Rattle.lot_core.specs.Parts.{LockPartAllows, CondPartAllows, SemaphorePartAllows};
@@ -15,6 +15,16 @@ pub fn every_run_is_sound()
     ensures { (threads locks conds : ℕ) (permits : List ℕ) (events : List Event) →
         Run (opening_with threads locks conds permits) events →
         IsSound (after_all (opening_with threads locks conds permits) events) }
+{}
+
+/// An event that is allowed in a sound state leaves a sound state behind, and each opening state is
+/// sound. So is each state that a run from an opening state reaches, and one more event leads from
+/// such a state to another.
+pub fn every_event_keeps_soundness()
+    ensures opening { (threads locks conds : ℕ) (permits : List ℕ) → IsSound (opening_with threads locks conds permits) }
+    ensures event { (s : World) (e : Event) → IsSound s → Allowed s e → IsSound (after s e) }
+    ensures reached { (s : World) → IsReached s → IsSound s }
+    ensures further { (s : World) (e : Event) → IsReached s → Allowed s e → IsReached (after s e) }
 {}
 
 /// An event of the whole is a step of the part that it belongs to, with the same answer, and leaves
