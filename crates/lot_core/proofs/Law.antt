@@ -203,7 +203,7 @@ keys_sound s h = record {
   waiting = λ c t inside. (h.one_line_each.waits c t inside).0;
 }
 
-sems_sound : (s : World) → IsSound s → IsKeptPart s.threads s.permits (semaphore_part s)
+pub sems_sound : (s : World) → IsSound s → IsKeptPart s.threads s.permits (semaphore_part s)
 sems_sound s h k = record {
   conserved = h.permits_conserved k;
   marked = h.seekers_are_marked k;

@@ -6,7 +6,7 @@ use Rattle.lot_events.specs.declared.events.Point.TheVariants.{Wants, Bed, Rest,
 use Rattle.lot_core.specs.Sums.{total, count_below}
 use Rattle.lot_core.specs.World.{World, Semaphores}
 use Rattle.lot_core.specs.Steps.{IsThread, IsTrying}
-use Rattle.lot_core.specs.Parts.{LockPart, CondPart, SemaphorePart, semaphore_part, PartWants}
+use Rattle.lot_core.specs.Parts.{LockPart, lock_part, CondPart, cond_part, SemaphorePart, semaphore_part, PartWants}
 
 -- each thread but once
 abbrev pub IsOnce : List ℕ → Type 0
@@ -101,6 +101,12 @@ pub record IsSoundSemaphorePart (threads : ℕ) (permits : ℕ → ℕ) (a : Sem
   pub permits_are_sought : PermitsAreSought threads a
   pub once : (k : ℕ) → IsOnce (a.sems.line k)
   pub seeks : (k t : ℕ) → Contains (a.sems.line k) t → (t < threads) × (a.seeks t ≡ Some k)
+
+-- all three parts of a state
+pub record ArePartsSound (s : World) : Type 0 where
+  pub locks : IsSoundLockPart s.threads (lock_part s)
+  pub conds : IsSoundCondPart s.threads (cond_part s)
+  pub sems : IsSoundSemaphorePart s.threads s.permits (semaphore_part s)
 
 -- The same, key by key.
 
