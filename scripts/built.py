@@ -52,7 +52,8 @@ def sum_of(name):
 
 def place_of(name, kind):
     """Where the program lies: as it was proved, or as it was made the quick way."""
-    return f"{TOP}/crates/{name}/out/{name}" if kind == PROVED else f"{TOP}/crates/{name}/out/quick/{name}"
+    folder = ("out",) if kind == PROVED else ("out", "quick")
+    return os.path.join(TOP, "crates", name, *folder, name)
 
 
 def is_built(name, kind, checksum):
