@@ -87,7 +87,7 @@ fn run<N: LotName<Journal<Counter>> + Send + Sync, T: Threads + Wait + Sync, G: 
     counting: &Counting,
     opened: Opened<Journal<Counter>>,
 ) -> Result<String, Failure>
-    requires named { IsNamed (record { opening = N.opening; threads = N.threads; values = N.values; locks = N.locks; conds = N.conds; low = N.low; permits = N.permits }) opened }
+    requires named { IsNamed N.LotName opened }
     requires sizes { (opened.threads ≡ counting.now.threads) × (length opened.values ≡ counting.now.locks) }
 {
     let journals = run_workers::<Journal<Counter>, N, T, G>(rt, alloc, gate, counting, opened)?;
@@ -107,7 +107,7 @@ fn run_workers<
     counting: &Counting,
     opened: Opened<V>,
 ) -> Result<Vec<V>, Failure>
-    requires named { IsNamed (record { opening = N.opening; threads = N.threads; values = N.values; locks = N.locks; conds = N.conds; low = N.low; permits = N.permits }) opened }
+    requires named { IsNamed N.LotName opened }
     requires sizes { (opened.threads ≡ counting.now.threads) × (length opened.values ≡ counting.now.locks) }
 {
     let (lot, passes) = match start::<V, N>(alloc, counting.threads, opened) {

@@ -77,7 +77,7 @@ fn run<N: LotName<Inside> + Send + Sync, T: Threads + Wait + Sync, G: Gate + Syn
     pooling: &Pooling,
     opened: Opened<Inside>,
 ) -> Result<String, Failure>
-    requires named { IsNamed (record { opening = N.opening; threads = N.threads; values = N.values; locks = N.locks; conds = N.conds; low = N.low; permits = N.permits }) opened }
+    requires named { IsNamed N.LotName opened }
     requires sizes { (opened.threads ≡ pooling.now.threads) × (length opened.values ≡ 1) × (opened.conds ≡ 0) × (length opened.permits ≡ 1) }
 {
     let (lot, passes) = match start::<Inside, N>(alloc, pooling.threads, opened) {

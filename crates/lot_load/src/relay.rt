@@ -101,7 +101,7 @@ fn run<N: LotName<Buffer> + Send + Sync, T: Threads + Wait + Sync, G: Gate + Syn
     relaying: &Relaying,
     opened: Opened<Buffer>,
 ) -> Result<String, Failure>
-    requires named { IsNamed (record { opening = N.opening; threads = N.threads; values = N.values; locks = N.locks; conds = N.conds; low = N.low; permits = N.permits }) opened }
+    requires named { IsNamed N.LotName opened }
     requires sizes { (opened.threads ≡ relaying.now.threads) × (length opened.values ≡ 1) × (opened.conds ≡ 2) }
 {
     let (lot, passes) = match start::<Buffer, N>(alloc, relaying.threads, opened) {

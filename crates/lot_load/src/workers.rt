@@ -69,7 +69,7 @@ pub fn start<V: Keeps + Send, N: LotName<V> + Send>(
     threads: usize,
     opened: Opened<V>,
 ) -> Result<(Lot<V, N>, Vec<Pass<V, N>>), Failure>
-    requires named { IsNamed (record { opening = N.opening; threads = N.threads; values = N.values; locks = N.locks; conds = N.conds; low = N.low; permits = N.permits }) opened }
+    requires named { IsNamed N.LotName opened }
     requires threads { opened.threads ≡ threads }
     ensures lot { IfOk result (λ r. (r.0.threads ≡ opened.threads) × (r.0.locks ≡ length opened.values) × (r.0.conds ≡ opened.conds) × (r.0.sems ≡ length opened.permits)) }
     ensures room { IfOk result (λ r. (vec_len r.1 ≡ 0) × (threads ≤ vec_capacity r.1)) }

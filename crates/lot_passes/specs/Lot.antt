@@ -15,16 +15,10 @@ pub record LotView : Type 0 where
   pub conds : ℕ
   pub sems : ℕ
 
--- what a name tells of a lot: its tables, its number of threads, the values that it opened with, its numbers of locks and conditions, the
--- number of its first semaphore, and how many permits each semaphore has at the opening
-pub record LotNames (V : Type 0) : Type 0 where
-  pub opening : Opening
-  pub threads : ℕ
-  pub values : List V
-  pub locks : ℕ
-  pub conds : ℕ
-  pub low : ℕ
-  pub permits : List ℕ
+-- what a name tells of a lot: the number of its first semaphore, and how many permits each semaphore has at the opening; its tables; its
+-- numbers of locks, conditions and threads; and the values that it opened with. A clause has it as `N.LotName`
+abbrev pub LotNames : Type 0 → Type 0
+LotNames V = record { low : ℕ; permits : List ℕ; opening : Opening; locks : ℕ; conds : ℕ; threads : ℕ; values : List V }
 
 -- the number of a condition: they follow the locks'
 abbrev pub IsCond : LotView → ℕ → Type 0

@@ -63,11 +63,13 @@ module _ {V : Type 0} where
     pub out : (l : ℕ) → Holds r.own l → IsOut r.own l
     pub grown : (l : ℕ) (u v : V) → get_elem? opening l ≡ some u → get_elem? r.own.seen l ≡ some v → grows u v
 
-  -- a pass of this table that is at rest and holds no lock
+  -- a pass of this table that is at rest, holds no lock, has seen the opening values, and was used for nothing yet
   pub record IsFresh (grows : V → V → Type 0) (table : TableId) (opening : List V) (threads : ℕ) (p : PassShown (LockPassView V)) : Type 0 where
     pub is_of : p.table ≡ table
     pub rest : IsAtRest grows opening threads (stands p)
     pub free : HoldsNone p
+    pub saw : p.pass.own.seen ≡ opening
+    pub unused : p.pass.made ≡ []
 
   -- a pass of this table that holds no lock
   pub record IsFree (table : TableId) (p : PassShown (LockPassView V)) : Type 0 where

@@ -9,6 +9,7 @@ mod fault;
 pub mod held;
 pub mod pass;
 mod pool;
+pub mod resting;
 mod rooms;
 
 pub use closing::gather;
@@ -16,4 +17,5 @@ pub use fault::RegisterFault;
 pub use held::Held;
 pub use pass::Pass;
 pub use pool::{ClosingRoom, Idle, Pool};
+pub use resting::Resting;
 pub use rooms::{Rooms, pool_of};

@@ -37,7 +37,7 @@ impl<V: Keeps + Send, N: LotName<V> + Send> Pass<V, N> {
     /// Shows what each pass of a lot is. It changes nothing.
     #[inline(always)]
     pub fn check_whole(&self)
-        ensures { IsWhole (record { opening = N.opening; threads = N.threads; values = N.values; locks = N.locks; conds = N.conds; low = N.low; permits = N.permits }) V.grows self.now }
+        ensures { IsWhole N.LotName V.grows self.now }
     {
         let _right = &self.right;
         self.kinds.thread();

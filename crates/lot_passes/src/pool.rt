@@ -3,23 +3,46 @@ ghost use Rattle.std.specs.Prelude.{◌≡◌, ◌+◌, ◌-◌, ◌<◌, ◌≤
 ghost use Rattle.lot_passes.specs.Lot.{OwnsNone};
 
 use crate::pass::Pass;
+use crate::resting::Resting;
 use lot_kinds::{LotName, LotRoot, Rights};
 use lot_words::{Keeps, LockPass};
 use std::marker::Model;
 use std::sync::Wait;
 use std::thread;
 
-/// A pass that owns no lock and holds no permit.
-pub struct Idle<V: Keeps + Send, N: LotName<V> + Send> {
+/// A pass that is in: it owns no lock, holds no permit, and keeps what passes that are in keep.
+pub struct Idle<V: Resting + Send, N: LotName<V> + Send> {
     pass: Pass<V, N>,
-    ghost free: { OwnsNone pass },
 }
 
-impl<V: Keeps + Send, N: LotName<V> + Send> Idle<V, N> {
+impl<V: Resting + Send, N: LotName<V> + Send> Model for Idle<V, N> {
+    ghost use Rattle.lot_passes.specs.Lot.{PassView, OwnsNone};
+
+    ghost Value = { PassView V };
+
+    ghost view = { λ s. s.pass };
+
+    ghost invariant = { λ s. OwnsNone s.pass × V.rests s.pass };
+}
+
+impl<V: Resting + Send, N: LotName<V> + Send> Idle<V, N> {
     pub(crate) fn new(pass: Pass<V, N>) -> Idle<V, N>
         requires free { OwnsNone pass }
+        requires rests { V.rests pass }
     {
         Idle { pass }
+    }
+
+    fn thread(&self) -> usize {
+        self.pass.thread()
+    }
+
+    fn into_pass(self) -> Pass<V, N>
+        ensures free { OwnsNone result }
+        ensures rests { V.rests result }
+    {
+        let Idle { pass } = self;
+        pass
     }
 }
 
@@ -79,12 +102,12 @@ impl<V: Keeps + Send, N: LotName<V> + Send> ClosingRoom<V, N> {
 }
 
 /// The passes that are in.
-pub struct Pool<V: Keeps + Send, N: LotName<V> + Send> {
+pub struct Pool<V: Resting + Send, N: LotName<V> + Send> {
     idle: Vec<Idle<V, N>>,
     room: ClosingRoom<V, N>,
 }
 
-impl<V: Keeps + Send, N: LotName<V> + Send> Model for Pool<V, N> {
+impl<V: Resting + Send, N: LotName<V> + Send> Model for Pool<V, N> {
     ghost use Rattle.std.specs.Prelude.{ℕ, ◌≤◌, vec_len, vec_capacity};
 
     /// How many are in.
@@ -95,7 +118,7 @@ impl<V: Keeps + Send, N: LotName<V> + Send> Model for Pool<V, N> {
     ghost invariant = { λ s. (vec_len s.idle ≤ N.threads) × (N.threads ≤ vec_capacity s.idle) };
 }
 
-impl<V: Keeps + Send, N: LotName<V> + Send> Pool<V, N> {
+impl<V: Resting + Send, N: LotName<V> + Send> Pool<V, N> {
     /// The pool in which these are.
     pub(crate) fn new(idle: Vec<Idle<V, N>>, room: ClosingRoom<V, N>) -> Pool<V, N>
         requires { (vec_len idle ≤ N.threads) × (N.threads ≤ vec_capacity idle) }
@@ -107,6 +130,7 @@ impl<V: Keeps + Send, N: LotName<V> + Send> Pool<V, N> {
     /// The pass of the least number that is in; None where none is.
     pub fn take_least(&mut self) -> Option<Pass<V, N>>
         ensures free { IfSome result OwnsNone }
+        ensures rests { IfSome result V.rests }
         ensures fewer { MatchOption result ((self.old ≡ 0) × (self.new ≡ 0)) (λ _. (self.new + 1 ≡ self.old) × (self.new < N.threads)) }
     {
         if self.idle.is_empty() {
@@ -114,12 +138,11 @@ impl<V: Keeps + Send, N: LotName<V> + Send> Pool<V, N> {
         }
         let mut least = 0;
         for place in 1..self.idle.len() {
-            if self.idle[place].pass.thread() < self.idle[least].pass.thread() {
+            if self.idle[place].thread() < self.idle[least].thread() {
                 least = place;
             }
         }
-        let Idle { pass } = self.idle.swap_remove(least);
-        Some(pass)
+        Some(self.idle.swap_remove(least).into_pass())
     }
 
     /// How many passes are out.
@@ -142,10 +165,11 @@ impl<V: Keeps + Send, N: LotName<V> + Send> Pool<V, N> {
     /// Takes a pass in.
     pub fn put(&mut self, pass: Pass<V, N>)
         requires free { OwnsNone pass }
+        requires rests { V.rests pass }
         requires room { self.old < N.threads }
         ensures { self.new ≡ self.old + 1 }
     {
-        self.idle.push_reserved(Idle { pass });
+        self.idle.push_reserved(Idle::new(pass));
     }
 
     /// The room for closing, once no pass is in. Who closes a lot has all passes, so none is: what no lock's type can say is tested here.

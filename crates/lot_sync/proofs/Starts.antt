@@ -20,7 +20,8 @@ use Rattle.lot_passes.specs.Passes.{IsFresh}
 use Rattle.lot_kinds.specs.Rights.{RightsView, unused}
 use Rattle.lot_kinds.specs.Rights.{HoldsNone as HoldsNoPermit}
 use Rattle.lot_sync.specs.Opened.{AreUnused, IsOpened}
-use Rattle.lot_passes.specs.Starting.{ArePaired}
+use Rattle.lot_passes.specs.Lot.{PassView}
+use Rattle.lot_passes.specs.Starting.{ArePaired, HasNothing, Starts}
 use Rattle.lot_rights.proofs.Turns.{some_one, stands_at, all_by_place, some_by_place}
 
 none_some : {A : Type 0} (x : A) → None ≡ Some x → ⊥
@@ -56,6 +57,8 @@ module _ {V : Type 0} (grows : V → V → Type 0) (itself : (x : V) → grows x
       grown = λ l u v o s. subst (grows u) (some-injective u v (sym o ∙ s)) (itself u);
     };
     free = λ l. unheld (length values) l;
+    saw = refl;
+    unused = refl;
   }
 
   passes_at : (t : ℕ) → t < length passes → slice_get passes t ≡ Some (pass_at words.table values t)
@@ -118,3 +121,12 @@ zero_at (suc n) (suc k) = zero_at n k
 
 pub none_held : (counted held n : ℕ) (rights : List RightsView) → length rights ≡ n → ((t : ℕ) → t < n → slice_get rights t ≡ Some (unused counted held t)) → All HoldsNoPermit rights
 none_held counted held n rights long are = all_by_place HoldsNoPermit (unused counted held) rights (λ k near. are k (subst (λ m. k < m) long near)) (λ k near i. zero_at held i)
+
+pub all_nothing : (counted held n : ℕ) (rights : List RightsView) → length rights ≡ n → ((t : ℕ) → t < n → slice_get rights t ≡ Some (unused counted held t)) → All HasNothing rights
+all_nothing counted held n rights long are = all_by_place HasNothing (unused counted held) rights (λ k near. are k (subst (λ m. k < m) long near))
+    (λ k near. record { called_none = zero_at counted; woken_none = zero_at counted; no_permit = zero_at held; gave_none = refl })
+
+-- a pass that starts, under the names of the lot
+pub starts_named : {V : Type 0} (values values' : List V) (threads threads' : ℕ) (p : PassView V) → values' ≡ values → threads' ≡ threads → Starts values threads p → Starts values' threads' p
+starts_named values values' threads threads' p e f start =
+    subst (λ vs. Starts vs threads' p) (sym e) (subst (λ n. Starts values n p) (sym f) start)

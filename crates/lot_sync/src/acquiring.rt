@@ -8,12 +8,11 @@ ghost use Rattle.lot_sync.specs.Permits.{HasPermit, TriesToGet};
 use crate::lot::Lot;
 use lot_kinds::{LotName, LotScheme, Rights, Sems};
 use lot_park::Moment;
-use lot_passes::Pass;
+use lot_passes::{Pass, Resting};
 use lot_permits::{Freed, Permit, Tried};
-use lot_words::Keeps;
 use std::sync::Wait;
 
-impl<V: Keeps + Send, N: LotName<V> + Send> Lot<V, N> {
+impl<V: Resting + Send, N: LotName<V> + Send> Lot<V, N> {
     /// Gets a permit where one is left, and else leaves all as it was. It never waits: a load, and where that found a permit, one
     /// compare-exchange.
     ///
@@ -24,6 +23,7 @@ impl<V: Keeps + Send, N: LotName<V> + Send> Lot<V, N> {
         ensures tries { TriesToGet pass key result.1 result.0 }
         ensures wide { IsWide self.now result.0 }
     {
+        prove!(self.has_sem(key));
         let (right, kinds) = pass.apart();
         let (waiter, seeker) = kinds.apart();
         let scheme = self.parking.scheme().sems();
@@ -39,6 +39,7 @@ impl<V: Keeps + Send, N: LotName<V> + Send> Lot<V, N> {
         ensures pass { result.0 ≡ one_more pass key }
         ensures wide { IsWide self.now result.0 }
     {
+        prove!(self.has_sem(key));
         let (right, kinds) = pass.apart();
         let (waiter, seeker) = kinds.apart();
         let scheme = self.parking.scheme().sems();
@@ -106,6 +107,7 @@ impl<V: Keeps + Send, N: LotName<V> + Send> Lot<V, N> {
     pub fn permits_left(&self, key: usize) -> u64
         requires { IsSem self.now key }
     {
+        prove!(self.has_sem(permit.key()));
         lot_permits::permits_left(self.parking.scheme().sems(), key)
     }
 }

@@ -9,11 +9,10 @@ use crate::lot::Lot;
 use lot_kinds::{Locks, LotName, LotScheme, Rights};
 use lot_locks::{NamedPass, get_slowly};
 use lot_park::{AtOnce, BeforeSleep};
-use lot_passes::{Held, Pass};
-use lot_words::Keeps;
+use lot_passes::{Held, Pass, Resting};
 use std::sync::Wait;
 
-impl<V: Keeps + Send, N: LotName<V> + Send> Lot<V, N> {
+impl<V: Resting + Send, N: LotName<V> + Send> Lot<V, N> {
     /// Gets the lock where nobody owns it, and else leaves all as it was. Where nobody owns it and nobody is parked, it is one
     /// read-modify-write of the lock's word, and else two.
     #[inline(always)]
@@ -23,6 +22,7 @@ impl<V: Keeps + Send, N: LotName<V> + Send> Lot<V, N> {
         ensures gets { MatchOption result.1 (result.0 ≡ pass) (λ held. Gets V.Keeps pass key held result.0) }
         ensures wide { IsWide self.now result.0 }
     {
+        prove!(self.has_lock(key));
         let (right, kinds) = pass.apart();
         let (right, got) = self.lock_scheme().try_take(right, key);
         if got {
@@ -61,6 +61,7 @@ impl<V: Keeps + Send, N: LotName<V> + Send> Lot<V, N> {
         ensures gets { Gets V.Keeps pass key result.1 result.0 }
         ensures wide { IsWide self.now result.0 }
     {
+        prove!(self.has_lock(key));
         let (right, kinds) = pass.apart();
         let scheme = self.lock_scheme();
         let (right, got) = scheme.take_free(right, key);

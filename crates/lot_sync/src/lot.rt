@@ -1,19 +1,18 @@
 //! A lot: locks that guard values, and the passes of its threads.
-ghost use Rattle.std.specs.Prelude.{◌≡◌, ◌+◌, ◌<◌, length};
-ghost use Rattle.lot_sync.specs.Lot.{IsWide};
+ghost use Rattle.std.specs.Prelude.{◌≡◌, ◌+◌, ◌<◌, ◌↔◌, IsTrue, length};
+ghost use Rattle.lot_sync.specs.Lot.{IsWide, IsCond, IsSem};
 ghost use Rattle.lot_passes.specs.Passes.{IsAtRest, AreRightsOf, sees};
 ghost use Rattle.lot_sync.specs.Lot.{IsLot};
 
 use lot_kinds::{LotName, LotScheme, Rights};
 use lot_locks::{LockScheme, NamedPass};
 use lot_park::{ParkingLot, Sought};
-use lot_passes::{Pass, Pool};
-use lot_words::Keeps;
+use lot_passes::{Pass, Pool, Resting};
 use std::marker::Model;
 use std::sync::{Mutex, Wait};
 
 /// Locks that guard values, for a number of threads.
-pub struct Lot<V: Keeps + Send, N: LotName<V> + Send> {
+pub struct Lot<V: Resting + Send, N: LotName<V> + Send> {
     pub(crate) parking: ParkingLot<LotScheme<V, N>>,
     pub(crate) pool: Mutex<Pool<V, N>>,
     pub(crate) threads: usize,
@@ -22,7 +21,7 @@ pub struct Lot<V: Keeps + Send, N: LotName<V> + Send> {
     pub(crate) sems: usize,
 }
 
-impl<V: Keeps + Send, N: LotName<V> + Send> Model for Lot<V, N> {
+impl<V: Resting + Send, N: LotName<V> + Send> Model for Lot<V, N> {
     ghost use Rattle.std.specs.Prelude.{◌≡◌, length};
     ghost use Rattle.lot_sync.specs.Lot.{LotView};
     ghost use Rattle.lot_sync.specs.Lot.{IsLot};
@@ -34,7 +33,7 @@ impl<V: Keeps + Send, N: LotName<V> + Send> Model for Lot<V, N> {
     ghost invariant = { λ s. IsLot (record { opening = N.opening; threads = N.threads; values = N.values; locks = N.locks; conds = N.conds; low = N.low; permits = N.permits }) s.threads s.locks s.conds s.sems s.parking };
 }
 
-impl<V: Keeps + Send, N: LotName<V> + Send> Lot<V, N> {
+impl<V: Resting + Send, N: LotName<V> + Send> Lot<V, N> {
     /// A lot of these tables, with all passes in the pool.
     pub(crate) fn of(
         parking: ParkingLot<LotScheme<V, N>>,
@@ -44,7 +43,7 @@ impl<V: Keeps + Send, N: LotName<V> + Send> Lot<V, N> {
         conds: usize,
         sems: usize,
     ) -> Lot<V, N>
-        requires lot { IsLot (record { opening = N.opening; threads = N.threads; values = N.values; locks = N.locks; conds = N.conds; low = N.low; permits = N.permits }) threads locks conds sems parking }
+        requires lot { IsLot N.LotName threads locks conds sems parking }
         ensures { result ≡ record { threads = threads; locks = locks; conds = conds; sems = sems } }
     {
         Lot {
@@ -108,10 +107,35 @@ impl<V: Keeps + Send, N: LotName<V> + Send> Lot<V, N> {
         self.sems
     }
 
+    /// Whether this is the number of a lock.
+    #[inline(always)]
+    pub(crate) fn has_lock(&self, key: usize) -> bool
+        ensures { IsTrue result ↔ (key < self.now.locks) }
+    {
+        key < self.locks
+    }
+
+    /// Whether this is the number of a condition.
+    #[inline(always)]
+    pub(crate) fn has_cond(&self, key: usize) -> bool
+        ensures { IsTrue result ↔ IsCond self.now key }
+    {
+        key >= self.locks && key - self.locks < self.conds
+    }
+
+    /// Whether this is the number of a semaphore.
+    #[inline(always)]
+    pub(crate) fn has_sem(&self, key: usize) -> bool
+        ensures { IsTrue result ↔ IsSem self.now key }
+    {
+        key >= self.locks && key - self.locks >= self.conds && key - self.locks - self.conds < self.sems
+    }
+
     /// Whether somebody owns the lock at some moment of this call. It is an observation: nothing is promised of it.
     pub fn is_held(&self, key: usize) -> bool
         requires { key < self.now.locks }
     {
+        prove!(self.has_lock(key));
         self.lock_scheme().is_held(key)
     }
 
@@ -120,6 +144,7 @@ impl<V: Keeps + Send, N: LotName<V> + Send> Lot<V, N> {
     pub fn is_parked(&self, key: usize) -> bool
         requires { key < self.now.locks }
     {
+        prove!(self.has_lock(key));
         self.lock_scheme().is_parked(key)
     }
 
@@ -127,6 +152,7 @@ impl<V: Keeps + Send, N: LotName<V> + Send> Lot<V, N> {
     pub fn line_length<R: Wait>(&self, rt: &R, key: usize) -> usize
         requires { key < self.now.locks + self.now.conds + self.now.sems }
     {
+        prove!(self.has_lock(key) || self.has_cond(key) || self.has_sem(key));
         self.parking.line_length(rt, key)
     }
 

@@ -6,17 +6,17 @@ ghost use Rattle.lot_sync.specs.Lot.{IsWide, IsCond, calling};
 use crate::lot::Lot;
 use lot_kinds::{Conds, LotName, LotScheme, Rights};
 use lot_park::Moment;
-use lot_passes::Pass;
-use lot_words::Keeps;
+use lot_passes::{Pass, Resting};
 use std::sync::Wait;
 
-impl<V: Keeps + Send, N: LotName<V> + Send> Lot<V, N> {
+impl<V: Resting + Send, N: LotName<V> + Send> Lot<V, N> {
     /// Whether somebody may wait on the condition at some moment of this call. It is an observation: nothing is promised of it.
     pub fn has_waiters(&self, pass: Pass<V, N>, cond: usize) -> (Pass<V, N>, bool)
         requires cond { IsCond self.now cond }
         ensures same { result.0 ≡ pass }
         ensures wide { IsWide self.now result.0 }
     {
+        prove!(self.has_cond(cond));
         let (right, kinds) = pass.apart();
         let (waiter, seeker) = kinds.apart();
         let scheme = self.parking.scheme().conds();
@@ -37,6 +37,7 @@ impl<V: Keeps + Send, N: LotName<V> + Send> Lot<V, N> {
         ensures counted { MatchBool result.1 (result.0 ≡ calling pass cond 1) (result.0 ≡ pass) }
         ensures wide { IsWide self.now result.0 }
     {
+        prove!(self.has_cond(cond));
         let (right, kinds) = pass.apart();
         let (waiter, seeker) = kinds.apart();
         let scheme = self.parking.scheme().conds();
@@ -67,6 +68,7 @@ impl<V: Keeps + Send, N: LotName<V> + Send> Lot<V, N> {
         ensures most { result.1 ≤ count }
         ensures wide { IsWide self.now result.0 }
     {
+        prove!(self.has_cond(cond));
         let (right, kinds) = pass.apart();
         let (waiter, seeker) = kinds.apart();
         let scheme = self.parking.scheme().conds();
@@ -87,6 +89,7 @@ impl<V: Keeps + Send, N: LotName<V> + Send> Lot<V, N> {
         ensures counted { result.0 ≡ calling pass cond result.1 }
         ensures wide { IsWide self.now result.0 }
     {
+        prove!(self.has_cond(cond));
         let (right, kinds) = pass.apart();
         let (waiter, seeker) = kinds.apart();
         let scheme = self.parking.scheme().conds();

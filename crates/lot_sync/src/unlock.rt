@@ -1,6 +1,6 @@
 //! Letting a lock go, as WTF's `Lock::unlock` does: one compare-exchange where nobody waits, else one sleeper is taken from
 //! the line, and the lock is handed to it or left to whoever comes first.
-ghost use Rattle.std.specs.Prelude.{◌≡◌, ◌⊎◌, ◌<◌, true, false, MatchOption, length};
+ghost use Rattle.std.specs.Prelude.{◌≡◌, ◌⊎◌, ◌<◌, true, false, MatchOption, IfNone, length};
 ghost use Rattle.lot_sync.specs.Lot.{Owns, IsWide, leaving};
 ghost use Rattle.lot_sync.specs.Values.{MayGiveBack};
 ghost use Rattle.lot_passes.specs.Passes.{IsNewOwner, AreRightsOf, sees};
@@ -12,11 +12,10 @@ use crate::lot::Lot;
 use lot_kinds::{Locks, LotName, LotScheme, Rights};
 use lot_locks::{LockScheme, LockSteps, NamedPass, Released, let_go, unpark_asking};
 use lot_park::Moment;
-use lot_passes::{Held, Pass};
-use lot_words::Keeps;
+use lot_passes::{Held, Pass, Resting};
 use std::sync::Wait;
 
-impl<V: Keeps + Send, N: LotName<V> + Send> Lot<V, N> {
+impl<V: Resting + Send, N: LotName<V> + Send> Lot<V, N> {
     /// Lets the lock go. Where nobody is parked it is one read-modify-write of the lock's word. The pass shows what was answered: how the
     /// last lock that it let go was released.
     ///
@@ -34,6 +33,7 @@ impl<V: Keeps + Send, N: LotName<V> + Send> Lot<V, N> {
         requires back { MayGiveBack V.Keeps pass held }
         ensures pass { result.0 ≡ leaving pass held.key held.value result.1 }
         ensures wide { IsWide self.now result.0 }
+        ensures seen { HasSeen result.0 held.key held.value }
         ensures fits { IsFitting result.1 false moment.now }
     {
         self.unlock_as(rt, pass, held, moment, false)
@@ -57,6 +57,7 @@ impl<V: Keeps + Send, N: LotName<V> + Send> Lot<V, N> {
         requires callable { M.pre moment }
         ensures pass { result.0 ≡ leaving pass held.key held.value result.1 }
         ensures wide { IsWide self.now result.0 }
+        ensures seen { HasSeen result.0 held.key held.value }
         ensures fits { (result.1 ≡ Quiet) ⊎ ((m : _) × M.post moment m × IsFitting result.1 false m.now) }
     {
         let key = held.key();
@@ -92,6 +93,7 @@ impl<V: Keeps + Send, N: LotName<V> + Send> Lot<V, N> {
         requires back { MayGiveBack V.Keeps pass held }
         ensures pass { result.0 ≡ leaving pass held.key held.value result.1 }
         ensures wide { IsWide self.now result.0 }
+        ensures seen { HasSeen result.0 held.key held.value }
         ensures fits { IsFitting result.1 true moment.now }
     {
         self.unlock_as(rt, pass, held, moment, true)
@@ -109,6 +111,7 @@ impl<V: Keeps + Send, N: LotName<V> + Send> Lot<V, N> {
         requires back { MayGiveBack V.Keeps pass held }
         ensures freed { MatchOption result.1 (result.0 ≡ leaving pass held.key held.value Quiet) (λ back. (back ≡ held) × (result.0 ≡ pass)) }
         ensures wide { IsWide self.now result.0 }
+        ensures seen { IfNone result.1 (HasSeen result.0 held.key held.value) }
     {
         let key = held.key();
         let (right, kinds) = self.given_back(pass, held, key);
@@ -136,6 +139,7 @@ impl<V: Keeps + Send, N: LotName<V> + Send> Lot<V, N> {
         requires back { MayGiveBack V.Keeps pass held }
         ensures pass { result.0 ≡ leaving pass held.key held.value result.1 }
         ensures wide { IsWide self.now result.0 }
+        ensures seen { HasSeen result.0 held.key held.value }
         ensures fits { IsFitting result.1 fair moment.now }
     {
         let key = held.key();
@@ -170,6 +174,7 @@ impl<V: Keeps + Send, N: LotName<V> + Send> Lot<V, N> {
         ensures same { sees result.1 result.0 ≡ pass }
         ensures locks { key < length N.values }
     {
+        prove!(self.has_lock(key));
         let (right, kinds) = pass.apart();
         let right = self.lock_scheme().value_in(right, key, held.into_value());
         (right, kinds)

@@ -8,11 +8,10 @@ use crate::lot::Lot;
 use lot_kinds::{Conds, Locks, LotName, LotScheme, Rights, sleep_on};
 use lot_locks::LockScheme;
 use lot_park::{AtOnce, BeforeSleep, Moment};
-use lot_passes::{Held, Pass};
-use lot_words::Keeps;
+use lot_passes::{Held, Pass, Resting};
 use std::sync::Wait;
 
-impl<V: Keeps + Send, N: LotName<V> + Send> Lot<V, N> {
+impl<V: Resting + Send, N: LotName<V> + Send> Lot<V, N> {
     /// Lets the lock go, waits on the condition until a notification takes the thread, and gets the lock again. The lock is let go when
     /// the thread is in the condition's line, so no notification is missed that comes after it.
     ///
@@ -54,6 +53,7 @@ impl<V: Keeps + Send, N: LotName<V> + Send> Lot<V, N> {
         ensures gets { WaitsAndGets V.Keeps pass held cond moment.now result.1 result.0 }
         ensures wide { IsWide self.now result.0 }
     {
+        prove!(self.has_cond(cond));
         let key = held.key();
         let (right, kinds) = self.given_back(pass, held, key);
         let (waiter, seeker) = kinds.apart();

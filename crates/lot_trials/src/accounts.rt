@@ -165,7 +165,7 @@ fn open_and_move<N: LotName<Account> + Send + Sync, T: Wait + Abort>(
     alloc: Global,
     opened: Opened<Account>,
 )
-    requires named { IsNamed (record { opening = N.opening; threads = N.threads; values = N.values; locks = N.locks; conds = N.conds; low = N.low; permits = N.permits }) opened }
+    requires named { IsNamed N.LotName opened }
     requires sizes { (opened.threads ≡ 2) × (length opened.values ≡ 2) }
 {
     let passes = room_for(rt, alloc, 2);

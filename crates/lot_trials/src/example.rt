@@ -51,7 +51,7 @@ fn raised<N: LotName<Number> + Send, W: Wait + Abort>(
     alloc: Global,
     opened: Opened<Number>,
 ) -> u64
-    requires named { IsNamed (record { opening = N.opening; threads = N.threads; values = N.values; locks = N.locks; conds = N.conds; low = N.low; permits = N.permits }) opened }
+    requires named { IsNamed N.LotName opened }
     requires sizes { (opened.threads ≡ 1) × (length opened.values ≡ 1) }
 {
     let Ok(mut passes) = Vec::with_capacity(alloc, 1) else {

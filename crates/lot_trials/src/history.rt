@@ -174,7 +174,7 @@ fn add_in_turn<N: LotName<Journal<Counter>> + Send + Sync, T: Wait + Abort>(
     alloc: Global,
     opened: Opened<Journal<Counter>>,
 ) -> Vec<Journal<Counter>>
-    requires named { IsNamed (record { opening = N.opening; threads = N.threads; values = N.values; locks = N.locks; conds = N.conds; low = N.low; permits = N.permits }) opened }
+    requires named { IsNamed N.LotName opened }
     requires sizes { (opened.threads ≡ 2) × (length opened.values ≡ 1) }
     ensures { vec_len result ≡ 1 }
 {

@@ -185,7 +185,7 @@ fn play<N: LotName<Number> + Send + Sync, T: Threads + Wait + Sync + Abort>(
     alloc: Global,
     opened: Opened<Number>,
 )
-    requires named { IsNamed (record { opening = N.opening; threads = N.threads; values = N.values; locks = N.locks; conds = N.conds; low = N.low; permits = N.permits }) opened }
+    requires named { IsNamed N.LotName opened }
     requires sizes { (opened.threads ≡ 2) × (length opened.values ≡ 1) × (opened.conds ≡ 1) }
 {
     let passes = room_for(rt, alloc, 2);

@@ -128,7 +128,7 @@ fn play<N: LotName<Count> + Send + Sync, T: Wait + Abort>(
     alloc: Global,
     opened: Opened<Count>,
 )
-    requires named { IsNamed (record { opening = N.opening; threads = N.threads; values = N.values; locks = N.locks; conds = N.conds; low = N.low; permits = N.permits }) opened }
+    requires named { IsNamed N.LotName opened }
     requires sizes { (opened.threads ≡ 2) × (length opened.values ≡ 1) × (opened.conds ≡ 0) × (length opened.permits ≡ 1) }
 {
     let passes = room_for(rt, alloc, 2);

@@ -476,7 +476,7 @@ fn started_and_closed<N: LotName<Count> + Send + Sync, T: Wait + Abort>(
     alloc: Global,
     opened: Opened<Count>,
 ) -> Vec<Count>
-    requires named { IsNamed (record { opening = N.opening; threads = N.threads; values = N.values; locks = N.locks; conds = N.conds; low = N.low; permits = N.permits }) opened }
+    requires named { IsNamed N.LotName opened }
     requires one { opened.threads ≡ 1 }
 {
     let Ok(passes) = Vec::with_capacity(alloc, 1) else {

@@ -830,7 +830,7 @@ fn follow_on<N: LotName<Count> + Send + Sync, T: Threads + Wait + Sync + Abort>(
     opened: Opened<Count>,
     schedule: Schedule<'_>,
 ) -> Vec<Count>
-    requires named { IsNamed (record { opening = N.opening; threads = N.threads; values = N.values; locks = N.locks; conds = N.conds; low = N.low; permits = N.permits }) opened }
+    requires named { IsNamed N.LotName opened }
     requires sizes { (opened.threads ≡ schedule.threads) × (length opened.values ≡ 14) × (opened.conds ≡ 13) × (length opened.permits ≡ 2) }
 {
     let Ok(passes) = Vec::with_capacity(alloc, schedule.threads) else {

@@ -103,7 +103,7 @@ fn play<V: Visited + Send, N: LotName<V> + Send + Sync, T: Threads + Wait + Sync
     alloc: Global,
     opened: Opened<V>,
 ) -> Vec<V>
-    requires named { IsNamed (record { opening = N.opening; threads = N.threads; values = N.values; locks = N.locks; conds = N.conds; low = N.low; permits = N.permits }) opened }
+    requires named { IsNamed N.LotName opened }
     requires sizes { (opened.threads ≡ 2) × (0 < length opened.values) }
 {
     let passes = room_for(rt, alloc, 2);

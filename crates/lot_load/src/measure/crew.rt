@@ -41,7 +41,7 @@ fn run_on<N: LotName<Number> + Send + Sync, T: Threads + Wait + Clock + Sync>(
     opened: Opened<Number>,
     begin: u64,
 ) -> Result<Summary, Failure>
-    requires named { IsNamed (record { opening = N.opening; threads = N.threads; values = N.values; locks = N.locks; conds = N.conds; low = N.low; permits = N.permits }) opened }
+    requires named { IsNamed N.LotName opened }
     requires sizes { (opened.threads ≡ plan.now.threads) × (length opened.values ≡ plan.now.locks) }
 {
     let (lot, passes) = match start::<Number, N>(alloc, plan.threads, opened) {

@@ -1,7 +1,7 @@
 use Rattle.std.proofs.Common.{◌≡◌, length, vec_len, rules, ◌∙◌, sym, arith}
 use Rattle.lot_rights.proofs.Gathers.{all_popped}
-use Rattle.lot_kinds.specs.Rights.{HoldsNone}
 use Rattle.lot_passes.specs.Passes.{IsFresh}
+use Rattle.lot_passes.specs.Starting.{HasNothing}
 use Rattle.lot_passes.proofs.Places.{pairs_popped}
 use Rattle.lot_passes.proofs.rooms.fill.Goals as goal
 
@@ -18,7 +18,7 @@ make_idle-requires-clause-own g c κs within =
 
 pub make_idle-requires-clause-none : goal.make_idle-requires-clause-none
 make_idle-requires-clause-none g c κs within =
-    (all_popped HoldsNone c.loop-right.kinds.items c.take_last.new.self.items c.take_last.result c.take_last.ensures.items c.loop-right.invariant.none).1
+    (all_popped HasNothing c.loop-right.kinds.items c.take_last.new.self.items c.take_last.result c.take_last.ensures.items c.loop-right.invariant.none).1
 
 pub loop-right-preserved : goal.loop-right-preserved
 loop-right-preserved g c =
@@ -34,7 +34,7 @@ loop-right-preserved g c =
           c.in-Some.ensures.items inv.idle).0;
       paired = (pairs_popped c.loop-right.passes.items c.pop.new.self.items c.in-Some.right c.loop-right.kinds.items c.take_last.new.self.items c.take_last.result
           c.in-Some.ensures.items c.take_last.ensures.items (some ∙ (same ∙ sym left)) inv.paired).0;
-      none = (all_popped HoldsNone c.loop-right.kinds.items c.take_last.new.self.items c.take_last.result c.take_last.ensures.items inv.none).0;
+      none = (all_popped HasNothing c.loop-right.kinds.items c.take_last.new.self.items c.take_last.result c.take_last.ensures.items inv.none).0;
       both = same;
       count = omega (arith, fewer);
       fits = omega arith;

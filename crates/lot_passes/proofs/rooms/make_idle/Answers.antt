@@ -1,8 +1,8 @@
-use Rattle.std.proofs.Common.{subst, ap, ◌∙◌}
-use Rattle.lot_passes.specs.Lot.{PassView, Owns, permits_with}
+use Rattle.std.proofs.Common.{subst, sym, ap, ◌∙◌}
 use Rattle.lot_locks.specs.Standing.{Standing}
 use Rattle.lot_passes.specs.Passes.{sees}
-use Rattle.lot_passes.proofs.Holds.{owned_held, own_on}
+use Rattle.lot_passes.specs.Starting.{Starts}
+use Rattle.lot_passes.proofs.Holds.{own_on, fresh_starts}
 use Rattle.lot_passes.proofs.rooms.make_idle.Goals as goal
 
 pub at_rest-pass-requires-clause-own : goal.at_rest-pass-requires-clause-own
@@ -10,8 +10,10 @@ at_rest-pass-requires-clause-own g c κs within = own_on _ _ c.args.kinds (ap (�
 
 pub new-requires-2-clause-free : goal.new-requires-2-clause-free
 new-requires-2-clause-free g c κs within =
-    let same = c.at_rest-pass.ensures ∙ ap (sees c.args.kinds) c.new.ensures in
-    record {
-      no_lock = λ key owns. c.requires.fresh.free key (owned_held c.args.right.pass.own.holds key (subst (λ p. Owns p key) same owns));
-      no_permit = λ key. ap (λ (p : PassView _). permits_with p key) c.at_rest-pass.ensures ∙ c.requires.none key;
-    }
+    let start = fresh_starts g.V.Keeps.grows g.N.Name.opening.locks g.N.LotName.values g.N.LotName.threads c.args.right c.args.kinds c.requires.fresh c.requires.none in
+    (subst (Starts g.N.LotName.values g.N.LotName.threads) (sym (c.at_rest-pass.ensures ∙ ap (sees c.args.kinds) c.new.ensures)) start).free
+
+pub new-requires-2-clause-rests : goal.new-requires-2-clause-rests
+new-requires-2-clause-rests g c κs within =
+    let start = fresh_starts g.V.Keeps.grows g.N.Name.opening.locks g.N.LotName.values g.N.LotName.threads c.args.right c.args.kinds c.requires.fresh c.requires.none in
+    c.requires.rests c.at_rest-pass.result (subst (Starts g.N.LotName.values g.N.LotName.threads) (sym (c.at_rest-pass.ensures ∙ ap (sees c.args.kinds) c.new.ensures)) start)

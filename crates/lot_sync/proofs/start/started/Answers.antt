@@ -6,7 +6,7 @@ use Rattle.lot_kinds.specs.Tables.{LotSchemeShown, LotRootShown}
 use Rattle.lot_sync.specs.Lot.{LotNames}
 use Rattle.lot_sync.specs.Opened.{OpenedView, IsNamed}
 use Rattle.lot_rights.proofs.Turns.{some_by_place}
-use Rattle.lot_sync.proofs.Starts.{passes_fresh, passes_paired, fresh_named, none_held}
+use Rattle.lot_sync.proofs.Starts.{passes_fresh, passes_paired, fresh_named, none_held, all_nothing, starts_named}
 use Rattle.lot_sync.proofs.start.started.Goals as goal
 
 -- what the name tells of the opening
@@ -55,8 +55,14 @@ pub pool_of-pool-requires-clause-none : goal.pool_of-pool-requires-clause-none
 pool_of-pool-requires-clause-none g c κs within =
     let long : length c.name-scheme.result.1.items ≡ g.N.LotName.threads =
     (let n : length c.name-scheme.result.1.items ≡ vec_len c.name-scheme.result.1 = search rules in n ∙ c.name-scheme.ensures.counts.0) in
-    none_held (g.N.WaitName.locks + g.N.WaitName.conds) (g.N.PermitName.low + length g.N.PermitName.permits) g.N.LotName.threads c.name-scheme.result.1.items long
+    all_nothing (g.N.WaitName.locks + g.N.WaitName.conds) (g.N.PermitName.low + length g.N.PermitName.permits) g.N.LotName.threads c.name-scheme.result.1.items long
     c.name-scheme.ensures.rights
+
+pub pool_of-pool-requires-clause-rests : goal.pool_of-pool-requires-clause-rests
+pool_of-pool-requires-clause-rests g c κs within =
+    let named = rw (sym c.opened.view_is) at c.requires.named in
+    let rests = rw (sym c.opened.view_is) at c.requires.rests in
+    λ p start. rests p (starts_named _ _ _ _ p named.values named.threads start)
 
 pub of-requires-clause-lot : goal.of-requires-clause-lot
 of-requires-clause-lot g c κs within =

@@ -1,6 +1,7 @@
 use Rattle.std.proofs.Common.{ap, ◌∙◌}
 use Rattle.lot_sync.specs.Lot.{leaving}
 use Rattle.lot_sync.proofs.Rests.{rests_free, leaves_all, own_on}
+use Rattle.lot_sync.proofs.Holdings.{sees_left}
 use Rattle.lot_sync.proofs.lot.Lot.unlock_as.Goals as goal
 
 pub at_rest-requires-clause-rest : goal.at_rest-requires-clause-rest
@@ -19,3 +20,6 @@ returns-clause-pass g c =
 
 pub at_rest-requires-clause-own : goal.at_rest-requires-clause-own
 at_rest-requires-clause-own g c κs within = own_on _ _ c.given_back-right.result.1 c.let_go-right.ensures.went.thread c.given_back-right.ensures.own
+
+pub returns-clause-seen : goal.returns-clause-seen
+returns-clause-seen g c = sees_left _ _ _ _ _ c.let_go-right.result.1 c.requires.key c.at_rest.ensures.wide (returns-clause-pass g c)

@@ -2,6 +2,7 @@ use Rattle.std.proofs.Common.{rules, ap, ◌∙◌}
 use Rattle.lot_sync.specs.Lot.{leaving}
 use Rattle.lot_locks.specs.declared.released.Released.TheVariants.{Quiet}
 use Rattle.lot_sync.proofs.Rests.{rests_free, leaves_all, own_on}
+use Rattle.lot_sync.proofs.Holdings.{sees_left}
 use Rattle.lot_sync.proofs.lot.Lot.unlock_asking.Goals as goal
 
 pub at_rest-requires-clause-rest : goal.at_rest-requires-clause-rest
@@ -44,3 +45,10 @@ returns-else-freed-clause-pass g c =
 
 pub returns-then-freed-clause-fits : goal.returns-then-freed-clause-fits
 returns-then-freed-clause-fits g c = search rules
+
+pub returns-then-freed-clause-seen : goal.returns-then-freed-clause-seen
+returns-then-freed-clause-seen g c = sees_left _ _ _ _ _ Quiet c.requires.key c.at_rest.ensures.wide (returns-then-freed-clause-pass g c)
+
+pub returns-else-freed-clause-seen : goal.returns-else-freed-clause-seen
+returns-else-freed-clause-seen g c =
+    sees_left _ _ _ _ _ c.unpark_asking-right.result.1 c.requires.key c.at_rest-else-freed.ensures.wide (returns-else-freed-clause-pass g c)

@@ -5,6 +5,7 @@ use mathlib.Core.Option.{some}
 use lib.ListN.{get_elem?}
 use Rattle.lot_words.specs.declared.views.Place.TheVariants.{InSlot}
 use Rattle.lot_locks.specs.Standing.{Standing}
+use Rattle.lot_sync.proofs.Holdings.{sees_left}
 use Rattle.lot_sync.proofs.Rests.{rests_free, rests_parked, leaves_all, stays_all, one_lies, own_on}
 use Rattle.lot_sync.proofs.lot.Lot.unlock_unparked.Goals as goal
 
@@ -46,3 +47,6 @@ pub at_rest-requires-else-freed-clause-own : goal.at_rest-requires-else-freed-cl
 at_rest-requires-else-freed-clause-own g c κs within =
     own_on _ _ c.given_back-right.result.1 (ap (λ (r : Standing g.row.V.Denot). r.thread) c.value_out-right.ensures.out ∙ (rw c.if-freed.false at c.free_unparked-right.ensures).thread)
     c.given_back-right.ensures.own
+
+pub returns-then-freed-clause-seen : goal.returns-then-freed-clause-seen
+returns-then-freed-clause-seen g c = sees_left _ _ _ _ _ Quiet c.requires.key c.at_rest.ensures.wide (returns-then-freed-clause-freed g c)

@@ -1,0 +1,47 @@
+-- Waits in a row on one condition, with one lock, until its value is as wanted.
+use Rattle.std.specs.Prelude.{◌≡◌, ℕ, zero, suc, ◌+◌, false, true, slice_set, slice_index, Some}
+use Rattle.lot_words.specs.CallersRule.{CallersRule}
+use Rattle.lot_locks.specs.declared.released.Released.{Released}
+use Rattle.lot_locks.specs.Released.{IsFitting}
+use Rattle.lot_sync.specs.Lot.{PassView, HeldView, HasSeen, owning}
+use Rattle.lot_sync.specs.Values.{MayGiveBack}
+
+module _ {V : Type 0} where
+  -- so many waits more on the condition have ended, and this became of the lock at the last of them
+  abbrev pub woken_from : PassView V → ℕ → ℕ → Released → PassView V
+  woken_from p cond count became = record p { woken = slice_set p.woken cond (slice_index p.woken cond + count); released = Some became }
+
+  -- the pass p after so many waits, of which the last ended with this value in the lock
+  abbrev pub AfterWaits : PassView V → ℕ → ℕ → ℕ → V → ℕ → PassView V → Type 0
+  AfterWaits p key cond now found zero q = q ≡ p
+  AfterWaits p key cond now found (suc n) q =
+      (became : Released) × IsFitting became false now × (q ≡ woken_from (owning p key found) cond (suc n) became) × HasSeen q key found
+
+module _ {V Part : Type 0} (rule : CallersRule V Part) where
+  -- the pass waited some times, or not at all; the lock is owned as before, with a value that keeps the rule, goes on from what was held and has
+  -- the pass's own part unchanged; without a wait it is what was held. It may be given back
+  pub record WaitsOn (before : PassView V) (held : HeldView V) (cond now : ℕ) (found : HeldView V) (after : PassView V) : Type 0 where
+    pub count : ℕ
+    pub after_is : AfterWaits before held.key cond now found.value count after
+    pub same : count ≡ 0 → found ≡ held
+    pub key_is : found.key ≡ held.key
+    pub kept : rule.keeps held.key found.value
+    pub grown : rule.grows held.value found.value
+    pub mine : rule.part before.thread held.value ≡ rule.part before.thread found.value
+    pub thread : after.thread ≡ before.thread
+    pub same_owns : after.owns ≡ before.owns
+    pub same_permits : after.permits ≡ before.permits
+    pub back : MayGiveBack rule after found
+
+  -- the lock was got, after some waits or none: its value keeps the rule, goes on from all that the pass had seen of it, and has the pass's own
+  -- part unchanged; it is seen now
+  pub record GetsAfter (before : PassView V) (key : ℕ) (found : HeldView V) (after : PassView V) : Type 0 where
+    pub key_is : found.key ≡ key
+    pub kept : rule.keeps key found.value
+    pub grown : (u : V) → HasSeen before key u → rule.grows u found.value
+    pub mine : (u : V) → HasSeen before key u → rule.part before.thread u ≡ rule.part before.thread found.value
+    pub thread : after.thread ≡ before.thread
+    pub same_owns : after.owns ≡ slice_set before.owns key true
+    pub same_permits : after.permits ≡ before.permits
+    pub seen : HasSeen after key found.value
+    pub back : MayGiveBack rule after found

@@ -1,0 +1,50 @@
+//! The end of a lot.
+ghost use Rattle.std.specs.Prelude.{◌≡◌, ◌≤◌, vec_len, vec_capacity};
+ghost use Rattle.lot_sync.specs.Lot.{OwnsNone};
+ghost use Rattle.lot_calls.specs.Finished.{IsFinished};
+
+use lot_sync::{Ledger, Lot, LotName, Pass};
+use lot_words::Keeps;
+use std::sync::Wait;
+use std::thread;
+
+/// Ends the lot: waits until every pass was left, takes them into the list, which has room for them, and closes. It answers the value of each
+/// lock, in order, and the ledger of the conditions: `let (values, ledger) = finish(rt, lot, Vec::with_capacity(alloc, threads)?);`.
+pub fn finish<V: Keeps + Send, N: LotName<V> + Send, T: Wait>(
+    rt: &T,
+    mut lot: Lot<V, N>,
+    mut passes: Vec<Pass<V, N>>,
+) -> (Vec<V>, Ledger)
+    requires room { (vec_len passes ≡ 0) × (lot.threads ≤ vec_capacity passes) }
+    ensures count { vec_len result.0 ≡ lot.locks }
+    ensures finished { IsFinished V.Keeps lot result.0.items result.1.called.items result.1.woken.items }
+    ensures balanced { result.1.called.items ≡ result.1.woken.items }
+{
+    for thread in 0..lot.threads() {
+        let pass = take_pass(rt, &mut lot, thread);
+        passes.push_reserved(pass);
+    }
+    lot.close(rt, passes)
+}
+
+/// Takes the pass of one thread, when it is in.
+fn take_pass<V: Keeps + Send, N: LotName<V> + Send, T: Wait>(
+    rt: &T,
+    lot: &mut Lot<V, N>,
+    thread: usize,
+) -> Pass<V, N>
+    ensures same { lot.new ≡ lot.old }
+    ensures thread { result.thread ≡ thread }
+    ensures free { OwnsNone result }
+{
+    for _ in rt.forever() {
+        if let Some(pass) = lot.take_left(rt) {
+            if pass.thread() == thread {
+                return pass;
+            }
+            lot.leave(rt, pass);
+        }
+        thread::yield_now();
+    }
+    unreachable!()
+}

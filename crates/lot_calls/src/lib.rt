@@ -1,0 +1,20 @@
+//! What callers of a lot would else write by hand, each made of the lot's own calls: work on a locked value, waiting until a value is as
+//! wanted, and the end of a lot.
+//!
+//! It stands on `lot_sync`, and knows of a lot what its contracts say.
+//!
+//! | Call | Made of |
+//! |---|---|
+//! | `with_lock`, `with_value` | `lock`, the caller's work, `unlock` |
+//! | `wait_until` | `wait`, again and again |
+//! | `lock_until` | `lock`, then `wait_until` |
+//! | `finish` | `take_left` for each thread, then `close` |
+#![tactic(auto)]
+
+mod finishing;
+mod until;
+mod with;
+
+pub use finishing::finish;
+pub use until::{lock_until, wait_until};
+pub use with::{with_lock, with_value};

@@ -1,0 +1,69 @@
+//! Waiting on a condition until a lock's value is as wanted.
+ghost use Rattle.std.specs.Prelude.{◌≡◌, ◌<◌, true};
+ghost use Rattle.lot_sync.specs.Lot.{Owns, OwnsNone, IsWide, IsCond};
+ghost use Rattle.lot_sync.specs.Values.{MayGiveBack};
+ghost use Rattle.lot_sync.specs.Holding.{Holding};
+ghost use Rattle.lot_calls.specs.Waits.{WaitsOn, GetsAfter};
+
+use lot_sync::{Held, Lot, LotName, Moment, Pass};
+use lot_words::Keeps;
+use std::sync::Wait;
+
+/// Waits on the condition until the value is as wanted: `let (pass, held) = wait_until(rt, lot, pass, held, NOT_EMPTY, now, |q| !q.is_empty());`.
+/// Where it is so already there is no wait. The moment is that of the unlock in each wait.
+pub fn wait_until<V: Keeps + Send, N: LotName<V> + Send, T: Wait, F: Fn(&V) -> bool>(
+    rt: &T,
+    lot: &Lot<V, N>,
+    pass: Pass<V, N>,
+    held: Held<V, N>,
+    cond: usize,
+    moment: Moment,
+    ready: F,
+) -> (Pass<V, N>, Held<V, N>)
+    requires key { held.key < lot.now.locks }
+    requires owns { Owns pass held.key }
+    requires wide { IsWide lot.now pass }
+    requires back { MayGiveBack V.Keeps pass held }
+    requires cond { IsCond lot.now cond }
+    requires callable { (v : _) → V.keeps held.key v.now → F.pre ready v }
+    ensures waits { WaitsOn V.Keeps pass held cond moment.now result.1 result.0 }
+    ensures ready { (v : _) × (v.now ≡ result.1.value) × F.post ready v true }
+    ensures owns { Owns result.0 held.key }
+    ensures wide { IsWide lot.now result.0 }
+{
+    let mut pass = pass;
+    let mut held = held;
+    for _ in rt.forever() {
+        if ready(held.value()) {
+            return (pass, held);
+        }
+        let (woken, again) = lot.wait(rt, pass, held, cond, moment);
+        pass = woken;
+        held = again;
+    }
+    unreachable!()
+}
+
+/// Gets the lock when its value is as wanted: `lock`, and then `wait_until`.
+pub fn lock_until<V: Keeps + Send, N: LotName<V> + Send, T: Wait, F: Fn(&V) -> bool>(
+    rt: &T,
+    lot: &Lot<V, N>,
+    pass: Pass<V, N>,
+    key: usize,
+    cond: usize,
+    moment: Moment,
+    ready: F,
+) -> (Pass<V, N>, Held<V, N>)
+    requires key { key < lot.now.locks }
+    requires free { ¬ Owns pass key }
+    requires cond { IsCond lot.now cond }
+    requires callable { (v : _) → V.keeps key v.now → F.pre ready v }
+    ensures gets { GetsAfter V.Keeps pass key result.1 result.0 }
+    ensures holding { OwnsNone pass → Holding V.grows result.0 result.1 }
+    ensures ready { (v : _) × (v.now ≡ result.1.value) × F.post ready v true }
+    ensures owns { Owns result.0 key }
+    ensures wide { IsWide lot.now result.0 }
+{
+    let (pass, held) = lot.lock(rt, pass, key);
+    wait_until(rt, lot, pass, held, cond, moment, ready)
+}

@@ -1,0 +1,32 @@
+//! Work on the value of a lock.
+ghost use Rattle.std.specs.Prelude.{◌≡◌, ◌<◌};
+ghost use Rattle.lot_sync.specs.Lot.{Owns, OwnsNone, IsWide};
+ghost use Rattle.lot_calls.specs.Visits.{MayBecome, Visits};
+
+use lot_sync::{Lot, LotName, Moment, Pass};
+use lot_words::Keeps;
+use std::sync::Wait;
+
+/// Gets the lock, works on its value, and lets the lock go: `let (pass, ()) = with_lock(rt, lot, pass, 0, now, |n| *n += 1);`. The pass may own
+/// other locks. It waits as `lock` and `unlock` do, and the moment is that of the unlock.
+pub fn with_lock<V: Keeps + Send, O, N: LotName<V> + Send, T: Wait, F: FnOnce(&mut V) -> O>(
+    rt: &T,
+    lot: &Lot<V, N>,
+    pass: Pass<V, N>,
+    key: usize,
+    moment: Moment,
+    work: F,
+) -> (Pass<V, N>, O)
+    requires key { key < lot.now.locks }
+    requires free { ¬ Owns pass key }
+    requires callable { (v : _) → V.keeps key v.now → F.pre work v }
+    requires keeps { (v : _) (o : _) (w : _) → V.keeps key v.now → F.post work v o w → MayBecome V.Keeps key pass.thread v.now w.now }
+    ensures visits { (v : _) × (w : _) × F.post work v result.1 w × Visits V.Keeps pass key moment.now v.now w.now result.0 }
+    ensures wide { IsWide lot.now result.0 }
+    ensures free { OwnsNone pass → OwnsNone result.0 }
+{
+    let (pass, mut held) = lot.lock(rt, pass, key);
+    let outcome = work(held.value_mut());
+    let (pass, _) = lot.unlock(rt, pass, held, moment);
+    (pass, outcome)
+}
