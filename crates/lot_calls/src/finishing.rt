@@ -1,9 +1,10 @@
 //! The end of a lot.
 ghost use Rattle.std.specs.Prelude.{◌≡◌, ◌≤◌, vec_len, vec_capacity};
-ghost use Rattle.lot_sync.specs.Lot.{OwnsNone};
+ghost use Rattle.lot_sync.specs.Lot.{OwnsNone, rested};
 ghost use Rattle.lot_calls.specs.Finished.{IsFinished};
 
 use lot_sync::{Ledger, Lot, LotName, Pass};
+use lot_words::Keeps;
 use lot_words::Keeps;
 use std::sync::Wait;
 use std::thread;

@@ -1,5 +1,6 @@
 -- What a lot, its passes and its held values are seen as.
 use Rattle.lot_rights.specs.Opening.{Opening}
+use Rattle.lot_words.specs.Rested.{Rested}
 use Rattle.lot_waits.specs.Counts.{CountsView}
 use Rattle.lot_permits.specs.declared.permit.Freed.{Freed}
 use Rattle.lot_kinds.specs.Rights.{RightsView}
@@ -98,6 +99,10 @@ module _ {V : Type 0} where
   -- each opening value grows to what the pass has seen of it
   abbrev pub HasGrown : (V → V → Type 0) → List V → PassView V → Type 0
   HasGrown grows opening p = (key : ℕ) (u v : V) → get_elem? opening key ≡ some u → HasSeen p key v → grows u v
+
+  -- what the rule of its values may ask of the pass when its thread leaves
+  abbrev pub rested : PassView V → Rested V
+  rested p = record { thread = p.thread; seen = p.seen; called = p.called; woken = p.woken }
 
   -- the rights that the pass has beside those on locks
   abbrev pub rights_of : PassView V → RightsView

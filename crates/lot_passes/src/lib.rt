@@ -9,7 +9,6 @@ mod fault;
 pub mod held;
 pub mod pass;
 mod pool;
-pub mod resting;
 mod rooms;
 
 pub use closing::gather;
@@ -17,5 +16,4 @@ pub use fault::RegisterFault;
 pub use held::Held;
 pub use pass::Pass;
 pub use pool::{ClosingRoom, Idle, Pool};
-pub use resting::Resting;
 pub use rooms::{Rooms, pool_of};

@@ -1,9 +1,8 @@
 //! The passes that are in, and the room that closing a lot will want.
 ghost use Rattle.std.specs.Prelude.{◌≡◌, ◌+◌, ◌-◌, ◌<◌, ◌≤◌, length, vec_len, vec_capacity, IfSome, MatchOption, IsTrue, ◌↔◌};
-ghost use Rattle.lot_passes.specs.Lot.{OwnsNone};
+ghost use Rattle.lot_passes.specs.Lot.{OwnsNone, rested};
 
 use crate::pass::Pass;
-use crate::resting::Resting;
 use lot_kinds::{LotName, LotRoot, Rights};
 use lot_words::{Keeps, LockPass};
 use std::marker::Model;
@@ -11,24 +10,24 @@ use std::sync::Wait;
 use std::thread;
 
 /// A pass that is in: it owns no lock, holds no permit, and keeps what passes that are in keep.
-pub struct Idle<V: Resting + Send, N: LotName<V> + Send> {
+pub struct Idle<V: Keeps + Send, N: LotName<V> + Send> {
     pass: Pass<V, N>,
 }
 
-impl<V: Resting + Send, N: LotName<V> + Send> Model for Idle<V, N> {
-    ghost use Rattle.lot_passes.specs.Lot.{PassView, OwnsNone};
+impl<V: Keeps + Send, N: LotName<V> + Send> Model for Idle<V, N> {
+    ghost use Rattle.lot_passes.specs.Lot.{PassView, OwnsNone, rested};
 
     ghost Value = { PassView V };
 
     ghost view = { λ s. s.pass };
 
-    ghost invariant = { λ s. OwnsNone s.pass × V.rests s.pass };
+    ghost invariant = { λ s. OwnsNone s.pass × V.rests (rested s.pass) };
 }
 
-impl<V: Resting + Send, N: LotName<V> + Send> Idle<V, N> {
+impl<V: Keeps + Send, N: LotName<V> + Send> Idle<V, N> {
     pub(crate) fn new(pass: Pass<V, N>) -> Idle<V, N>
         requires free { OwnsNone pass }
-        requires rests { V.rests pass }
+        requires rests { V.rests (rested pass) }
     {
         Idle { pass }
     }
@@ -39,7 +38,7 @@ impl<V: Resting + Send, N: LotName<V> + Send> Idle<V, N> {
 
     fn into_pass(self) -> Pass<V, N>
         ensures free { OwnsNone result }
-        ensures rests { V.rests result }
+        ensures rests { V.rests (rested result) }
     {
         let Idle { pass } = self;
         pass
@@ -102,12 +101,12 @@ impl<V: Keeps + Send, N: LotName<V> + Send> ClosingRoom<V, N> {
 }
 
 /// The passes that are in.
-pub struct Pool<V: Resting + Send, N: LotName<V> + Send> {
+pub struct Pool<V: Keeps + Send, N: LotName<V> + Send> {
     idle: Vec<Idle<V, N>>,
     room: ClosingRoom<V, N>,
 }
 
-impl<V: Resting + Send, N: LotName<V> + Send> Model for Pool<V, N> {
+impl<V: Keeps + Send, N: LotName<V> + Send> Model for Pool<V, N> {
     ghost use Rattle.std.specs.Prelude.{ℕ, ◌≤◌, vec_len, vec_capacity};
 
     /// How many are in.
@@ -118,7 +117,7 @@ impl<V: Resting + Send, N: LotName<V> + Send> Model for Pool<V, N> {
     ghost invariant = { λ s. (vec_len s.idle ≤ N.threads) × (N.threads ≤ vec_capacity s.idle) };
 }
 
-impl<V: Resting + Send, N: LotName<V> + Send> Pool<V, N> {
+impl<V: Keeps + Send, N: LotName<V> + Send> Pool<V, N> {
     /// The pool in which these are.
     pub(crate) fn new(idle: Vec<Idle<V, N>>, room: ClosingRoom<V, N>) -> Pool<V, N>
         requires { (vec_len idle ≤ N.threads) × (N.threads ≤ vec_capacity idle) }
@@ -130,7 +129,7 @@ impl<V: Resting + Send, N: LotName<V> + Send> Pool<V, N> {
     /// The pass of the least number that is in; None where none is.
     pub fn take_least(&mut self) -> Option<Pass<V, N>>
         ensures free { IfSome result OwnsNone }
-        ensures rests { IfSome result V.rests }
+        ensures rests { IfSome result (λ pass. V.rests (rested pass)) }
         ensures fewer { MatchOption result ((self.old ≡ 0) × (self.new ≡ 0)) (λ _. (self.new + 1 ≡ self.old) × (self.new < N.threads)) }
     {
         if self.idle.is_empty() {
@@ -165,7 +164,7 @@ impl<V: Resting + Send, N: LotName<V> + Send> Pool<V, N> {
     /// Takes a pass in.
     pub fn put(&mut self, pass: Pass<V, N>)
         requires free { OwnsNone pass }
-        requires rests { V.rests pass }
+        requires rests { V.rests (rested pass) }
         requires room { self.old < N.threads }
         ensures { self.new ≡ self.old + 1 }
     {

@@ -3,26 +3,25 @@ ghost use Rattle.std.specs.Prelude.{◌≡◌, ◌+◌, ◌≤◌, length, vec_l
 ghost use Rattle.std.specs.List.{All};
 ghost use Rattle.lot_core.specs.declared.state.TheConstants.{MAX_THREADS, MAX_KEYS};
 ghost use Rattle.lot_passes.specs.Passes.{IsFresh, AreRightsOf};
-ghost use Rattle.lot_passes.specs.Lot.{PassView};
+ghost use Rattle.lot_passes.specs.Lot.{PassView, rested};
 ghost use Rattle.lot_passes.specs.Starting.{ArePaired, HasNothing, Starts};
 
 use crate::pass::Pass;
 use crate::pool::{ClosingRoom, Idle, Pool};
-use crate::resting::Resting;
 use lot_kinds::{LotName, LotRoot, Rights, Room};
 use lot_locks::NamedPass;
-use lot_words::LockPass;
+use lot_words::{Keeps, LockPass};
 use std::alloc::{AllocError, Global};
 
 /// The memory of a lot, before anything lies in it.
-pub struct Rooms<V: Resting + Send, N: LotName<V> + Send> {
+pub struct Rooms<V: Keeps + Send, N: LotName<V> + Send> {
     idle: Vec<Idle<V, N>>,
     room: Room<V, N>,
     ghost empty: { vec_len idle ≡ 0 },
     ghost for_passes: { N.threads ≤ vec_capacity idle },
 }
 
-impl<V: Resting + Send, N: LotName<V> + Send> Rooms<V, N> {
+impl<V: Keeps + Send, N: LotName<V> + Send> Rooms<V, N> {
     /// Room for so many threads and keys.
     pub fn new(
         alloc: Global,
@@ -55,7 +54,7 @@ impl<V: Resting + Send, N: LotName<V> + Send> Rooms<V, N> {
 }
 
 /// Puts all passes into the pool, each with its thread's rights beside. Their own room stays.
-fn fill<V: Resting + Send, N: LotName<V> + Send>(
+fn fill<V: Keeps + Send, N: LotName<V> + Send>(
     passes: &mut Vec<LockPass<V>>,
     kinds: &mut Vec<Rights<N>>,
     idle: &mut Vec<Idle<V, N>>,
@@ -64,7 +63,7 @@ fn fill<V: Resting + Send, N: LotName<V> + Send>(
     requires paired { ArePaired passes.old.items kinds.old.items }
     requires long { vec_len kinds.old ≡ vec_len passes.old }
     requires none { All HasNothing kinds.old.items }
-    requires rests { (p : PassView V) → Starts N.values N.threads p → V.rests p }
+    requires rests { (p : PassView V) → Starts N.values N.threads p → V.rests (rested p) }
     requires room { (vec_len idle.old ≡ 0) × (vec_len passes.old ≤ vec_capacity idle.old) }
     ensures long { vec_len idle.new ≡ vec_len passes.old }
     ensures room { vec_capacity idle.new ≡ vec_capacity idle.old }
@@ -76,21 +75,21 @@ fn fill<V: Resting + Send, N: LotName<V> + Send>(
     }
 }
 
-fn make_idle<V: Resting + Send, N: LotName<V> + Send>(
+fn make_idle<V: Keeps + Send, N: LotName<V> + Send>(
     right: LockPass<V>,
     kinds: Rights<N>,
 ) -> Idle<V, N>
     requires fresh { IsFresh V.grows N.opening.locks N.values N.threads right }
     requires own { AreRightsOf right.pass.thread kinds }
     requires none { HasNothing kinds }
-    requires rests { (p : PassView V) → Starts N.values N.threads p → V.rests p }
+    requires rests { (p : PassView V) → Starts N.values N.threads p → V.rests (rested p) }
 {
     let pass = Pass::at_rest(NamedPass::new(right), kinds);
     Idle::new(pass)
 }
 
 /// The pool of all passes, each with its thread's rights beside. The lists that are empty then are the room for closing.
-pub fn pool_of<V: Resting + Send, N: LotName<V> + Send>(
+pub fn pool_of<V: Keeps + Send, N: LotName<V> + Send>(
     mut passes: Vec<LockPass<V>>,
     mut kinds: Vec<Rights<N>>,
     mut idle: Vec<Idle<V, N>>,
@@ -101,7 +100,7 @@ pub fn pool_of<V: Resting + Send, N: LotName<V> + Send>(
     requires paired { ArePaired passes.items kinds.items }
     requires long { (vec_len kinds ≡ vec_len passes) × (vec_len passes ≤ N.threads) }
     requires none { All HasNothing kinds.items }
-    requires rests { (p : PassView V) → Starts N.values N.threads p → V.rests p }
+    requires rests { (p : PassView V) → Starts N.values N.threads p → V.rests (rested p) }
     requires empty { (vec_len idle ≡ 0) × (vec_len named ≡ 0) }
     requires for_rights { (N.threads ≤ vec_capacity idle) × (N.threads ≤ vec_capacity passes) × (N.threads ≤ vec_capacity kinds) }
     requires for_roots { length N.values + N.conds + length N.permits ≤ vec_capacity named }

@@ -2,7 +2,7 @@
 use Rattle.std.specs.Prelude.{◌≡◌, ℕ, ◌+◌, length}
 use Rattle.lot_park.specs.Lots.{ParkingView}
 use Rattle.lot_kinds.specs.Tables.{LotSchemeShown}
-pub use Rattle.lot_passes.specs.Lot.{LotView, LotNames, IsCond, IsSem, PassView, HeldView, Owns, permits_with, OwnsNone, IsWide, HasSeen, HasGrown}
+pub use Rattle.lot_passes.specs.Lot.{LotView, LotNames, IsCond, IsSem, PassView, HeldView, Owns, permits_with, OwnsNone, IsWide, HasSeen, HasGrown, rested}
 pub use Rattle.lot_passes.specs.Lot.{owning, leaving, waking, calling, one_more, one_less, rights_of, counts_of, IsLedgerOf}
 
 -- what joins the parts of a lot

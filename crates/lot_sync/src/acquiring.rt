@@ -8,11 +8,12 @@ ghost use Rattle.lot_sync.specs.Permits.{HasPermit, TriesToGet};
 use crate::lot::Lot;
 use lot_kinds::{LotName, LotScheme, Rights, Sems};
 use lot_park::Moment;
-use lot_passes::{Pass, Resting};
+use lot_passes::Pass;
 use lot_permits::{Freed, Permit, Tried};
+use lot_words::Keeps;
 use std::sync::Wait;
 
-impl<V: Resting + Send, N: LotName<V> + Send> Lot<V, N> {
+impl<V: Keeps + Send, N: LotName<V> + Send> Lot<V, N> {
     /// Gets a permit where one is left, and else leaves all as it was. It never waits: a load, and where that found a permit, one
     /// compare-exchange.
     ///

@@ -5,9 +5,10 @@ ghost use Rattle.lot_sync.specs.Lot.{Owns};
 use crate::lot::Lot;
 use lot_kinds::LotName;
 use lot_locks::NamedPass;
-use lot_passes::{Pass, Resting};
+use lot_passes::Pass;
+use lot_words::Keeps;
 
-impl<V: Resting + Send, N: LotName<V> + Send> Lot<V, N> {
+impl<V: Keeps + Send, N: LotName<V> + Send> Lot<V, N> {
     /// Shows that two passes are of different threads and own no common lock: each lock has at most one owner. It changes
     /// nothing.
     pub fn check_apart(&self, first: Pass<V, N>, second: Pass<V, N>) -> (Pass<V, N>, Pass<V, N>)

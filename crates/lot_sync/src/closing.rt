@@ -6,11 +6,12 @@ ghost use Rattle.lot_sync.specs.Values.{GoesOnTo};
 
 use crate::lot::Lot;
 use lot_kinds::{LotName, settle};
-use lot_passes::{Pass, Resting, gather};
+use lot_passes::{Pass, gather};
 use lot_waits::Ledger;
+use lot_words::Keeps;
 use std::sync::Wait;
 
-impl<V: Resting + Send, N: LotName<V> + Send> Lot<V, N> {
+impl<V: Keeps + Send, N: LotName<V> + Send> Lot<V, N> {
     /// Ends the lot, with all its passes. The answer has the value of each lock, in order, and what the passes counted for each
     /// condition.
     ///

@@ -30,7 +30,7 @@ pub use lot_core::{MAX_KEYS, MAX_THREADS};
 pub use lot_kinds::LotName;
 pub use lot_locks::Released;
 pub use lot_park::{BeforeSleep, Moment};
-pub use lot_passes::{Held, Pass, RegisterFault, Resting};
+pub use lot_passes::{Held, Pass, RegisterFault};
 pub use lot_permits::{Freed, Permit, PermitName, Tried};
 pub use lot_waits::{Ledger, WaitName};
 pub use opened::Opened;

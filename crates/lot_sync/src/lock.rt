@@ -9,10 +9,11 @@ use crate::lot::Lot;
 use lot_kinds::{Locks, LotName, LotScheme, Rights};
 use lot_locks::{NamedPass, get_slowly};
 use lot_park::{AtOnce, BeforeSleep};
-use lot_passes::{Held, Pass, Resting};
+use lot_passes::{Held, Pass};
+use lot_words::Keeps;
 use std::sync::Wait;
 
-impl<V: Resting + Send, N: LotName<V> + Send> Lot<V, N> {
+impl<V: Keeps + Send, N: LotName<V> + Send> Lot<V, N> {
     /// Gets the lock where nobody owns it, and else leaves all as it was. Where nobody owns it and nobody is parked, it is one
     /// read-modify-write of the lock's word, and else two.
     #[inline(always)]

@@ -7,12 +7,13 @@ ghost use Rattle.lot_sync.specs.Lot.{IsLot};
 use lot_kinds::{LotName, LotScheme, Rights};
 use lot_locks::{LockScheme, NamedPass};
 use lot_park::{ParkingLot, Sought};
-use lot_passes::{Pass, Pool, Resting};
+use lot_passes::{Pass, Pool};
+use lot_words::Keeps;
 use std::marker::Model;
 use std::sync::{Mutex, Wait};
 
 /// Locks that guard values, for a number of threads.
-pub struct Lot<V: Resting + Send, N: LotName<V> + Send> {
+pub struct Lot<V: Keeps + Send, N: LotName<V> + Send> {
     pub(crate) parking: ParkingLot<LotScheme<V, N>>,
     pub(crate) pool: Mutex<Pool<V, N>>,
     pub(crate) threads: usize,
@@ -21,7 +22,7 @@ pub struct Lot<V: Resting + Send, N: LotName<V> + Send> {
     pub(crate) sems: usize,
 }
 
-impl<V: Resting + Send, N: LotName<V> + Send> Model for Lot<V, N> {
+impl<V: Keeps + Send, N: LotName<V> + Send> Model for Lot<V, N> {
     ghost use Rattle.std.specs.Prelude.{◌≡◌, length};
     ghost use Rattle.lot_sync.specs.Lot.{LotView};
     ghost use Rattle.lot_sync.specs.Lot.{IsLot};
@@ -33,7 +34,7 @@ impl<V: Resting + Send, N: LotName<V> + Send> Model for Lot<V, N> {
     ghost invariant = { λ s. IsLot (record { opening = N.opening; threads = N.threads; values = N.values; locks = N.locks; conds = N.conds; low = N.low; permits = N.permits }) s.threads s.locks s.conds s.sems s.parking };
 }
 
-impl<V: Resting + Send, N: LotName<V> + Send> Lot<V, N> {
+impl<V: Keeps + Send, N: LotName<V> + Send> Lot<V, N> {
     /// A lot of these tables, with all passes in the pool.
     pub(crate) fn of(
         parking: ParkingLot<LotScheme<V, N>>,

@@ -6,10 +6,11 @@ ghost use Rattle.lot_sync.specs.Lot.{IsWide, IsCond, calling};
 use crate::lot::Lot;
 use lot_kinds::{Conds, LotName, LotScheme, Rights};
 use lot_park::Moment;
-use lot_passes::{Pass, Resting};
+use lot_passes::Pass;
+use lot_words::Keeps;
 use std::sync::Wait;
 
-impl<V: Resting + Send, N: LotName<V> + Send> Lot<V, N> {
+impl<V: Keeps + Send, N: LotName<V> + Send> Lot<V, N> {
     /// Whether somebody may wait on the condition at some moment of this call. It is an observation: nothing is promised of it.
     pub fn has_waiters(&self, pass: Pass<V, N>, cond: usize) -> (Pass<V, N>, bool)
         requires cond { IsCond self.now cond }

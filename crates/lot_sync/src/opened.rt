@@ -8,7 +8,6 @@ use crate::lot::Lot;
 use crate::start::close_unused;
 use lot_core::{MAX_KEYS, MAX_THREADS};
 use lot_kinds::{LotName, OpenedKinds};
-use lot_passes::Resting;
 use lot_words::{Keeps, LockPass, LockRoot, LockWords, WordsFault};
 use std::alloc::Global;
 use std::marker::Model;
@@ -36,7 +35,7 @@ impl<V: Keeps + Send> Model for Opened<V> {
     ghost invariant = { λ s. IsOpened s.values.value.items s.threads s.words s.passes.items s.roots.items × HasKinds s.values.value.items s.threads s.kinds };
 }
 
-impl<V: Resting + Send, N: LotName<V> + Send> Lot<V, N> {
+impl<V: Keeps + Send, N: LotName<V> + Send> Lot<V, N> {
     ghost use Rattle.lot_sync.specs.Opened.{KeepAll, IsThreadCount, IsKeyCount, Refuses};
 
     /// Opens the words of a lot for so many threads, with a lock for each value, and so many conditions, whose numbers

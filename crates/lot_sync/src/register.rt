@@ -1,23 +1,24 @@
 //! Giving threads their passes, and taking them back.
 ghost use Rattle.std.specs.Prelude.{◌≡◌, ◌<◌, ◌-◌, IfOk, IfErr, IfSome};
 ghost use Rattle.lot_table.specs.Sizes.{Serves};
-ghost use Rattle.lot_sync.specs.Lot.{OwnsNone, IsWide, HasGrown};
+ghost use Rattle.lot_sync.specs.Lot.{OwnsNone, IsWide, HasGrown, rested};
 
 use crate::lot::Lot;
 use lot_kinds::{LotName, LotScheme};
 use lot_park::{Grown, ParkingLot};
-use lot_passes::{Pass, Pool, RegisterFault, Resting};
+use lot_passes::{Pass, Pool, RegisterFault};
+use lot_words::Keeps;
 use std::sync::{MutexGuard, Wait};
 use std::thread;
 
-impl<V: Resting + Send, N: LotName<V> + Send> Lot<V, N> {
+impl<V: Keeps + Send, N: LotName<V> + Send> Lot<V, N> {
     /// Gives the pass of the least number that is in, and lets the table of buckets grow for the passes that are out with it.
     ///
     /// `Full` where all passes are out; `NoMemory` where the table could not grow, and then the pass is in again.
     pub fn register<R: Wait>(&self, rt: &R) -> Result<Pass<V, N>, RegisterFault>
         ensures thread { IfOk result (λ pass. pass.thread < self.now.threads) }
         ensures free { IfOk result OwnsNone }
-        ensures rests { IfOk result V.rests }
+        ensures rests { IfOk result (λ pass. V.rests (rested pass)) }
         ensures wide { IfOk result (IsWide self.now) }
         ensures grown { IfOk result (λ pass. HasGrown V.grows N.values pass) }
     {
@@ -36,7 +37,7 @@ impl<V: Resting + Send, N: LotName<V> + Send> Lot<V, N> {
     /// Takes a pass back, which keeps what passes that are in keep. It is given again to the next thread that registers where it has the least number.
     pub fn leave<R: Wait>(&self, rt: &R, pass: Pass<V, N>)
         requires free { OwnsNone pass }
-        requires rests { V.rests pass }
+        requires rests { V.rests (rested pass) }
     {
         for _ in rt.forever() {
             let mut pool = self.pool.lock(rt);
@@ -57,7 +58,7 @@ impl<V: Resting + Send, N: LotName<V> + Send> Lot<V, N> {
         ensures same { self.new ≡ self.old }
         ensures thread { IfSome result (λ pass. pass.thread < self.old.threads) }
         ensures free { IfSome result OwnsNone }
-        ensures rests { IfSome result V.rests }
+        ensures rests { IfSome result (λ pass. V.rests (rested pass)) }
         ensures wide { IfSome result (IsWide self.old) }
         ensures grown { IfSome result (λ pass. HasGrown V.grows N.values pass) }
     {
@@ -76,7 +77,7 @@ impl<V: Resting + Send, N: LotName<V> + Send> Lot<V, N> {
 
 /// Takes the pass of the least number, and gives it back where the table can't grow. No other thread registers meanwhile. A pass
 /// comes with what the table answered, which has three buckets for each pass that is out.
-fn register_in<V: Resting + Send, N: LotName<V> + Send, R: Wait>(
+fn register_in<V: Keeps + Send, N: LotName<V> + Send, R: Wait>(
     rt: &R,
     parking: &ParkingLot<LotScheme<V, N>>,
     pool: &mut Pool<V, N>,
@@ -84,7 +85,7 @@ fn register_in<V: Resting + Send, N: LotName<V> + Send, R: Wait>(
 ) -> Result<(Pass<V, N>, Grown), RegisterFault>
     requires { (threads ≡ N.threads) × (parking.now.threads ≡ N.threads) }
     ensures free { IfOk result (λ r. OwnsNone r.0) }
-    ensures rests { IfOk result (λ r. V.rests r.0) }
+    ensures rests { IfOk result (λ r. V.rests (rested r.0)) }
     ensures served { IfOk result (λ r. Serves (threads - pool.new) r.1) }
     ensures refused { IfErr result (λ fault. (pool.new ≡ pool.old) × ((fault ≡ RegisterFault.Full) → pool.old ≡ 0)) }
 {

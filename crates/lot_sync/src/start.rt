@@ -4,7 +4,7 @@ ghost use Rattle.std.specs.List.{All, Any};
 ghost use Rattle.lot_rights.specs.Shown.{RootShown};
 ghost use Rattle.lot_words.specs.declared.views.LockRootView.{LockRootView};
 ghost use Rattle.lot_passes.specs.Starting.{Starts};
-ghost use Rattle.lot_sync.specs.Lot.{PassView};
+ghost use Rattle.lot_sync.specs.Lot.{PassView, rested};
 ghost use Rattle.lot_sync.specs.Opened.{AreUnused, IsNamed};
 
 use crate::fault::OpenFault;
@@ -12,7 +12,7 @@ use crate::lot::Lot;
 use crate::opened::Opened;
 use lot_kinds::{LotName, settle};
 use lot_park::{ParkFault, ParkingLot};
-use lot_passes::{Resting, Rooms, pool_of};
+use lot_passes::{Rooms, pool_of};
 use lot_words::{Keeps, LockPass, LockRoot, LockWords};
 use std::alloc::Global;
 use std::snapshot::Snapshot;
@@ -50,9 +50,7 @@ impl<V: Keeps + Send> Opened<V> {
         close_unused(words, passes, roots, values)
     }
 
-}
 
-impl<V: Resting + Send> Opened<V> {
     /// Starts the lot under the name N: its passes are in, its locks are free, nobody waits on its conditions, and all permits are left.
     /// A pass that starts has to keep what passes that are in keep.
     ///
@@ -62,7 +60,7 @@ impl<V: Resting + Send> Opened<V> {
         alloc: Global,
     ) -> Result<Lot<V, N>, (OpenFault, Vec<V>)>
         requires named { IsNamed N.LotName self }
-        requires rests { (p : PassView V) → Starts self.values self.threads p → V.rests p }
+        requires rests { (p : PassView V) → Starts self.values self.threads p → V.rests (rested p) }
         ensures lot { IfOk result (λ lot. (lot.threads ≡ self.threads) × (lot.locks ≡ length self.values) × (lot.conds ≡ self.conds) × (lot.sems ≡ length self.permits)) }
         ensures back { IfErr result (λ e. (e.0 ≡ OpenFault.NoMemory) × (e.1.items ≡ self.values)) }
     {
@@ -74,13 +72,13 @@ impl<V: Resting + Send> Opened<V> {
     }
 }
 
-fn started<V: Resting + Send, N: LotName<V> + Send>(
+fn started<V: Keeps + Send, N: LotName<V> + Send>(
     alloc: Global,
     opened: Opened<V>,
     rooms: Rooms<V, N>,
 ) -> Result<Lot<V, N>, (OpenFault, Vec<V>)>
     requires named { IsNamed N.LotName opened }
-    requires rests { (p : PassView V) → Starts opened.values opened.threads p → V.rests p }
+    requires rests { (p : PassView V) → Starts opened.values opened.threads p → V.rests (rested p) }
     ensures lot { IfOk result (λ lot. (lot.threads ≡ opened.threads) × (lot.locks ≡ length opened.values) × (lot.conds ≡ opened.conds) × (lot.sems ≡ length opened.permits)) }
     ensures back { IfErr result (λ e. (e.0 ≡ OpenFault.NoMemory) × (e.1.items ≡ opened.values)) }
 {

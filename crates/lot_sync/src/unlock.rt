@@ -12,10 +12,11 @@ use crate::lot::Lot;
 use lot_kinds::{Locks, LotName, LotScheme, Rights};
 use lot_locks::{LockScheme, LockSteps, NamedPass, Released, let_go, unpark_asking};
 use lot_park::Moment;
-use lot_passes::{Held, Pass, Resting};
+use lot_passes::{Held, Pass};
+use lot_words::Keeps;
 use std::sync::Wait;
 
-impl<V: Resting + Send, N: LotName<V> + Send> Lot<V, N> {
+impl<V: Keeps + Send, N: LotName<V> + Send> Lot<V, N> {
     /// Lets the lock go. Where nobody is parked it is one read-modify-write of the lock's word. The pass shows what was answered: how the
     /// last lock that it let go was released.
     ///

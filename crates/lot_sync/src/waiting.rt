@@ -8,10 +8,11 @@ use crate::lot::Lot;
 use lot_kinds::{Conds, Locks, LotName, LotScheme, Rights, sleep_on};
 use lot_locks::LockScheme;
 use lot_park::{AtOnce, BeforeSleep, Moment};
-use lot_passes::{Held, Pass, Resting};
+use lot_passes::{Held, Pass};
+use lot_words::Keeps;
 use std::sync::Wait;
 
-impl<V: Resting + Send, N: LotName<V> + Send> Lot<V, N> {
+impl<V: Keeps + Send, N: LotName<V> + Send> Lot<V, N> {
     /// Lets the lock go, waits on the condition until a notification takes the thread, and gets the lock again. The lock is let go when
     /// the thread is in the condition's line, so no notification is missed that comes after it.
     ///

@@ -1,4 +1,5 @@
 -- lock words, in the order in which one reads
+pub mod Rested
 pub mod CallersRule
 pub mod World
 pub mod Values
