@@ -5,7 +5,6 @@ ghost use Rattle.lot_calls.specs.Finished.{IsFinished};
 
 use lot_sync::{Ledger, Lot, LotName, Pass};
 use lot_words::Keeps;
-use lot_words::Keeps;
 use std::sync::Wait;
 use std::thread;
 
@@ -37,6 +36,7 @@ fn take_pass<V: Keeps + Send, N: LotName<V> + Send, T: Wait>(
     ensures same { lot.new ≡ lot.old }
     ensures thread { result.thread ≡ thread }
     ensures free { OwnsNone result }
+    ensures rests { V.rests (rested result) }
 {
     for _ in rt.forever() {
         if let Some(pass) = lot.take_left(rt) {

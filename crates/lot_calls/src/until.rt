@@ -7,7 +7,6 @@ ghost use Rattle.lot_calls.specs.Waits.{WaitsOn, GetsAfter};
 
 use lot_sync::{Held, Lot, LotName, Moment, Pass};
 use lot_words::Keeps;
-use lot_words::Keeps;
 use std::sync::Wait;
 
 /// Waits on the condition until the value is as wanted: `let (pass, held) = wait_until(rt, lot, pass, held, NOT_EMPTY, now, |q| !q.is_empty());`.

@@ -5,7 +5,6 @@ ghost use Rattle.lot_calls.specs.Visits.{MayBecome, Visits};
 
 use lot_sync::{Lot, LotName, Moment, Pass};
 use lot_words::Keeps;
-use lot_words::Keeps;
 use std::sync::Wait;
 
 /// Gets the lock, works on its value, and lets the lock go: `let (pass, ()) = with_lock(rt, lot, pass, 0, now, |n| *n += 1);`. The pass may own

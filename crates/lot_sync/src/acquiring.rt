@@ -66,7 +66,6 @@ impl<V: Keeps + Send, N: LotName<V> + Send> Lot<V, N> {
         permit: Permit<N>,
         moment: Moment,
     ) -> (Pass<V, N>, Freed)
-        requires key { IsSem self.now permit.key }
         requires has { HasPermit pass permit }
         ensures pass { result.0 ≡ one_less pass permit.key result.1 }
         ensures wide { IsWide self.now result.0 }
@@ -108,7 +107,7 @@ impl<V: Keeps + Send, N: LotName<V> + Send> Lot<V, N> {
     pub fn permits_left(&self, key: usize) -> u64
         requires { IsSem self.now key }
     {
-        prove!(self.has_sem(permit.key()));
+        prove!(self.has_sem(key));
         lot_permits::permits_left(self.parking.scheme().sems(), key)
     }
 }
