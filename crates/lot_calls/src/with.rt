@@ -30,3 +30,26 @@ pub fn with_lock<V: Keeps + Send, O, N: LotName<V> + Send, T: Wait, F: FnOnce(&m
     let (pass, _) = lot.unlock(rt, pass, held, moment);
     (pass, outcome)
 }
+
+/// `with_lock` for work that takes the value and gives one back: `let (pass, n) = with_value(rt, lot, pass, 0, now, |v| (v.next(), v.n));`.
+pub fn with_value<V: Keeps + Send, O, N: LotName<V> + Send, T: Wait, F: FnOnce(V) -> (V, O)>(
+    rt: &T,
+    lot: &Lot<V, N>,
+    pass: Pass<V, N>,
+    key: usize,
+    moment: Moment,
+    work: F,
+) -> (Pass<V, N>, O)
+    requires key { key < lot.now.locks }
+    requires free { ¬ Owns pass key }
+    requires callable { (v : V) → V.keeps key v → F.pre work v }
+    requires keeps { (v : V) (left : _) → V.keeps key v → F.post work v left → MayBecome V.Keeps key pass.thread v left.0 }
+    ensures visits { (v : V) × (w : V) × F.post work v (w, result.1) × Visits V.Keeps pass key moment.now v w result.0 }
+    ensures wide { IsWide lot.now result.0 }
+    ensures free { OwnsNone pass → OwnsNone result.0 }
+{
+    let (pass, held) = lot.lock(rt, pass, key);
+    let (held, outcome) = held.replace_with(work);
+    let (pass, _) = lot.unlock(rt, pass, held, moment);
+    (pass, outcome)
+}
