@@ -1,12 +1,12 @@
 //! Letting a lock go, as WTF's `Lock::unlock` does: one compare-exchange where nobody waits, else one sleeper is taken from
 //! the line, and the lock is handed to it or left to whoever comes first.
 ghost use Rattle.std.specs.Prelude.{◌≡◌, ◌⊎◌, ◌<◌, true, false, MatchOption, IfNone, length};
-ghost use Rattle.lot_sync.specs.Lot.{Owns, IsWide, leaving};
+ghost use Rattle.lot_sync.specs.Lot.{Owns, HasSeen, IsWide, leaving};
 ghost use Rattle.lot_sync.specs.Values.{MayGiveBack};
 ghost use Rattle.lot_passes.specs.Passes.{IsNewOwner, AreRightsOf, sees};
 ghost use Rattle.lot_locks.specs.Released.{IsFitting};
 ghost use Rattle.lot_locks.specs.declared.released.Released.TheVariants.{Quiet};
-ghost use Rattle.lot_words.specs.Values.{IsIn, HasSeen};
+ghost use Rattle.lot_words.specs.Values.{IsIn, HasSeen as OwnHasSeen};
 
 use crate::lot::Lot;
 use lot_kinds::{Locks, LotName, LotScheme, Rights};
@@ -170,7 +170,7 @@ impl<V: Keeps + Send, N: LotName<V> + Send> Lot<V, N> {
         requires back { MayGiveBack V.Keeps pass held }
         ensures owner { IsNewOwner V.grows N.values N.threads result.0 key }
         ensures lies { IsIn result.0.own key held.value }
-        ensures grown { (u : V) → HasSeen result.0.own key u → V.grows u held.value }
+        ensures grown { (u : V) → OwnHasSeen result.0.own key u → V.grows u held.value }
         ensures own { AreRightsOf result.0.thread result.1 }
         ensures same { sees result.1 result.0 ≡ pass }
         ensures locks { key < length N.values }

@@ -22,4 +22,4 @@ pub at_rest-requires-clause-own : goal.at_rest-requires-clause-own
 at_rest-requires-clause-own g c κs within = own_on _ _ c.given_back-right.result.1 c.let_go-right.ensures.went.thread c.given_back-right.ensures.own
 
 pub returns-clause-seen : goal.returns-clause-seen
-returns-clause-seen g c = sees_left _ _ _ _ _ c.let_go-right.result.1 c.requires.key c.at_rest.ensures.wide (returns-clause-pass g c)
+returns-clause-seen g c = sees_left _ c.args.pass c.at_rest.result c.args.held.key c.args.held.value c.let_go-right.result.1 c.requires.key c.at_rest.ensures.wide (returns-clause-pass g c)

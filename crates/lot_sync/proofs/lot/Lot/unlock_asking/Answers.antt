@@ -47,8 +47,8 @@ pub returns-then-freed-clause-fits : goal.returns-then-freed-clause-fits
 returns-then-freed-clause-fits g c = search rules
 
 pub returns-then-freed-clause-seen : goal.returns-then-freed-clause-seen
-returns-then-freed-clause-seen g c = sees_left _ _ _ _ _ Quiet c.requires.key c.at_rest.ensures.wide (returns-then-freed-clause-pass g c)
+returns-then-freed-clause-seen g c = sees_left _ c.args.pass c.at_rest.result c.args.held.key c.args.held.value Quiet c.requires.key c.at_rest.ensures.wide (returns-then-freed-clause-pass g c)
 
 pub returns-else-freed-clause-seen : goal.returns-else-freed-clause-seen
 returns-else-freed-clause-seen g c =
-    sees_left _ _ _ _ _ c.unpark_asking-right.result.1 c.requires.key c.at_rest-else-freed.ensures.wide (returns-else-freed-clause-pass g c)
+    sees_left _ c.args.pass c.at_rest-else-freed.result c.args.held.key c.args.held.value c.unpark_asking-right.result.1 c.requires.key c.at_rest-else-freed.ensures.wide (returns-else-freed-clause-pass g c)

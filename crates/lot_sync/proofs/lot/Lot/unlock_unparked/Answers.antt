@@ -49,4 +49,4 @@ at_rest-requires-else-freed-clause-own g c κs within =
     c.given_back-right.ensures.own
 
 pub returns-then-freed-clause-seen : goal.returns-then-freed-clause-seen
-returns-then-freed-clause-seen g c = sees_left _ _ _ _ _ Quiet c.requires.key c.at_rest.ensures.wide (returns-then-freed-clause-freed g c)
+returns-then-freed-clause-seen g c = sees_left _ c.args.pass c.at_rest.result c.args.held.key c.args.held.value Quiet c.requires.key c.at_rest.ensures.wide (returns-then-freed-clause-freed g c)
