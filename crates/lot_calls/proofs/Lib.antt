@@ -1,0 +1,2 @@
+mod Visiting
+mod Waiting

@@ -1,0 +1,142 @@
+-- One wait more on a condition, and a lock that was got and then waited with.
+use Rattle.std.proofs.Common.{◌≡◌, ◌≢◌, ℕ, zero, suc, ◌+◌, ◌<◌, Bool, true, false, List, [], ◌∷◌, length, get_or, set, slice_index, Some, refl, sym, ap, subst, ◌∙◌, arith}
+use Rattle.std.proofs.lemmas.List.{get_or-set_same, set-set}
+use Rattle.atomic_table.proofs.Lists.{set_here}
+use mathlib.Core.Option.{some}
+use lib.ListN.{get_elem?}
+use Rattle.lot_words.specs.CallersRule.{CallersRule}
+use Rattle.lot_locks.specs.declared.released.Released.{Released}
+use Rattle.lot_locks.specs.Released.{IsFitting}
+use Rattle.lot_sync.specs.Lot.{LotView, PassView, HeldView, Owns, OwnsNone, HasSeen, IsWide, owning, leaving, waking}
+use Rattle.lot_sync.specs.Values.{Gets, MayGiveBack, WaitsAndGets}
+use Rattle.lot_sync.specs.Holding.{Holding}
+use Rattle.lot_sync.proofs.Holdings.{may_go_back, got_holds}
+use Rattle.lot_calls.specs.Waits.{woken_from, AfterWaits, WaitsOn, GetsAfter}
+
+-- what was cleared and set again, and was set before, is as before
+pub clear_back : (bs : List Bool) (k : ℕ) → get_or bs k false ≡ true → set (set bs k false) k true ≡ bs
+clear_back [] k owned = refl
+clear_back (true ∷ bs) zero owned = refl
+clear_back (false ∷ bs) zero owned = absurd (cc)
+clear_back (b ∷ bs) (suc k) owned = ap (λ cs. b ∷ cs) (clear_back bs k owned)
+
+-- a count that was raised by n and then by one was raised by one more
+pub raised_more : (ns : List ℕ) (c n : ℕ) → c < length ns → set (set ns c (slice_index ns c + n)) c (slice_index (set ns c (slice_index ns c + n)) c + 1) ≡ set ns c (slice_index ns c + suc n)
+raised_more ns c n near =
+    let at = get_or-set_same ns c (slice_index ns c + n) 0 near in
+    set-set ns c (slice_index ns c + n) (slice_index (set ns c (slice_index ns c + n)) c + 1)
+    ∙ ap (set ns c) (ap (λ m. m + 1) at ∙ omega arith)
+
+module _ {V : Type 0} where
+  -- after one wait more: the pass that waited n times let the lock go, was woken and got the lock again
+  pub waits_once_more : (before pass after : PassView V) (key cond now n : ℕ) (left found before_found : V) (became : Released) → cond < length before.woken → IsFitting became false now
+      → AfterWaits before key cond now before_found n pass → after ≡ owning (waking (leaving pass key left became) cond) key found → HasSeen after key found → AfterWaits before key cond now found (suc n) after
+  waits_once_more before pass after key cond now zero left found before_found became near fits same went seen = (
+    became,
+    fits,
+    went ∙ (ap (λ (p : PassView V). owning (waking (leaving p key left became) cond) key found) same ∙ (λ i. record {
+      thread = before.thread;
+      owns = set-set before.owns key false true i;
+      seen = set-set before.seen key left found i;
+      released = Some became;
+      called = before.called;
+      woken = set before.woken cond (slice_index before.woken cond + 1);
+      permits = before.permits;
+      freed = before.freed;
+    })),
+    seen,
+  )
+  waits_once_more before pass after key cond now (suc n) left found before_found became near fits waited went seen = (
+    became,
+    fits,
+    went ∙ (ap (λ (p : PassView V). owning (waking (leaving p key left became) cond) key found) waited.2 ∙ (λ i. record {
+      thread = before.thread;
+      owns = (set-set (set before.owns key true) key false true ∙ set-set before.owns key true true) i;
+      seen = (set-set (set before.seen key before_found) key left found ∙ set-set before.seen key before_found found) i;
+      released = Some became;
+      called = before.called;
+      woken = raised_more before.woken cond (suc n) near i;
+      permits = before.permits;
+      freed = before.freed;
+    })),
+    seen,
+  )
+
+module _ {V Part : Type 0} (rule : CallersRule V Part) where
+  -- no wait yet
+  pub not_yet : (before : PassView V) (held : HeldView V) (cond now : ℕ) → MayGiveBack rule before held → WaitsOn rule before held cond now held before
+  not_yet before held cond now back = record {
+    count = 0;
+    after_is = refl;
+    same = λ _. refl;
+    key_is = refl;
+    kept = back.kept;
+    grown = rule.grows_itself held.value;
+    mine = refl;
+    thread = refl;
+    same_owns = refl;
+    same_permits = refl;
+    back = back;
+  }
+
+  -- one wait more
+  pub once_more : (lot : LotView) (before pass after : PassView V) (held mid found : HeldView V) (cond now : ℕ) → held.key < lot.locks → cond < length before.woken → IsWide lot pass → Owns pass held.key
+      → WaitsOn rule before held cond now mid pass → WaitsAndGets rule pass mid cond now found after → WaitsOn rule before held cond now found after
+  once_more lot before pass after held mid found cond now is_lock near wide owned waits again = record {
+    count = suc waits.count;
+    after_is = waits_once_more before pass after held.key cond now waits.count mid.value found.value mid.value became near again.1 waits.after_is went seen;
+    same = λ none. absurd (omega (arith, none));
+    key_is = gets.key_is ∙ waits.key_is;
+    kept = subst (λ k. rule.keeps k found.value) waits.key_is gets.kept;
+    grown = rule.grows_on held.value mid.value found.value waits.grown (gets.grown mid.value saw);
+    mine = waits.mine ∙ subst (λ t. rule.part t mid.value ≡ rule.part t found.value) waits.thread (gets.mine mid.value saw);
+    thread = ap (λ (p : PassView V). p.thread) went ∙ waits.thread;
+    same_owns = ap (λ (p : PassView V). p.owns) went ∙ (clear_back pass.owns held.key owned ∙ waits.same_owns);
+    same_permits = ap (λ (p : PassView V). p.permits) went ∙ waits.same_permits;
+    back = may_go_back rule (waking (leaving pass mid.key mid.value became) cond) after mid.key found found.value gets
+        (subst (λ k. rule.keeps k found.value) (sym gets.key_is) gets.kept) (rule.grows_itself found.value) (λ t else. refl);
+  }
+    where
+      became : Released
+      became = again.0
+      gets : Gets rule (waking (leaving pass mid.key mid.value became) cond) mid.key found after
+      gets = again.2
+      went : after ≡ owning (waking (leaving pass held.key mid.value became) cond) held.key found.value
+      went = gets.after_is ∙ ap (λ k. owning (waking (leaving pass k mid.value became) cond) k found.value) waits.key_is
+      saw : HasSeen (waking (leaving pass mid.key mid.value became) cond) mid.key mid.value
+      saw = set_here pass.seen mid.key mid.value (subst (λ n. mid.key < n) (sym wide.seen) (subst (λ k. k < lot.locks) (sym waits.key_is) is_lock))
+      seen : HasSeen after held.key found.value
+      seen = subst (λ k. HasSeen after k found.value) waits.key_is gets.seen
+
+  seen_after : (got after : PassView V) (held found : HeldView V) (cond now n : ℕ) → AfterWaits got held.key cond now found.value n after → (n ≡ 0 → found ≡ held) → HasSeen got held.key held.value
+      → HasSeen after held.key found.value
+  seen_after got after held found cond now zero same is saw =
+      subst (λ (h : HeldView V). HasSeen after held.key h.value) (sym (is refl)) (subst (λ (p : PassView V). HasSeen p held.key held.value) (sym same) saw)
+  seen_after got after held found cond now (suc n) waited is saw = waited.3
+
+  -- the lock was got, and then waited with
+  pub got_after : (before got after : PassView V) (key cond now : ℕ) (held found : HeldView V) → Gets rule before key held got → WaitsOn rule got held cond now found after → GetsAfter rule before key found after
+  got_after before got after key cond now held found gets waits = record {
+    key_is = waits.key_is ∙ gets.key_is;
+    kept = subst (λ k. rule.keeps k found.value) gets.key_is waits.kept;
+    grown = λ u saw. rule.grows_on u held.value found.value (gets.grown u saw) waits.grown;
+    mine = λ u saw. gets.mine u saw ∙ subst (λ t. rule.part t held.value ≡ rule.part t found.value) (ap (λ (p : PassView V). p.thread) gets.after_is) waits.mine;
+    thread = waits.thread ∙ ap (λ (p : PassView V). p.thread) gets.after_is;
+    same_owns = waits.same_owns ∙ ap (λ (p : PassView V). p.owns) gets.after_is;
+    same_permits = waits.same_permits ∙ ap (λ (p : PassView V). p.permits) gets.after_is;
+    seen = subst (λ k. HasSeen after k found.value) gets.key_is
+        (seen_after got after held found cond now waits.count waits.after_is waits.same (subst (λ k. HasSeen got k held.value) (sym gets.key_is) gets.seen));
+    back = waits.back;
+  }
+
+  -- whoever owned nothing before holds the lock then
+  pub after_holds : (before got after : PassView V) (key cond now : ℕ) (held found : HeldView V) → OwnsNone before → Gets rule before key held got → WaitsOn rule got held cond now found after
+      → Holding rule.grows after found
+  after_holds before got after key cond now held found none gets waits =
+      let holds = got_holds rule before got key held none gets in record {
+        owns = subst (λ k. Owns after k) (sym waits.key_is) (ap (λ bs. get_or bs held.key false) waits.same_owns ∙ holds.owns);
+        alone = λ k other owned. holds.alone k (λ e. other (e ∙ sym waits.key_is)) (sym (ap (λ bs. get_or bs k false) waits.same_owns) ∙ owned);
+        no_permit = λ k. ap (λ xs. slice_index xs k) waits.same_permits ∙ holds.no_permit k;
+        grown = waits.back.grown;
+        seen = (found.value, subst (λ k. HasSeen after k found.value) (sym (waits.key_is ∙ gets.key_is)) (got_after before got after key cond now held found gets waits).seen);
+      }

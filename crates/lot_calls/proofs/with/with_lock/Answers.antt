@@ -1,0 +1,17 @@
+use Rattle.std.proofs.Common.{subst, sym}
+use Rattle.lot_calls.proofs.Visiting.{visits}
+use Rattle.lot_calls.proofs.with.with_lock.Goals as goal
+
+pub returns-clause-visits : goal.returns-clause-visits
+returns-clause-visits g c =
+    let found = c.value_mut.result in
+    let left = record found { now = c.work-outcome.new.arg2 } in
+    let gets = c.lock-pass.ensures.gets in
+    let kept = subst (g.V.Keeps.keeps c.args.key) (sym c.value_mut.ensures.value) gets.kept in (
+      found,
+      left,
+      c.work-outcome.ensures,
+      visits g.V.Keeps c.args.pass c.lock-pass.result.0 c.unlock-pass.result.0 c.args.key c.args.moment.now c.lock-pass.result.1 found.now left.now c.unlock-pass.result.1
+          c.requires.free gets c.value_mut.ensures.value (c.requires.keeps found c.work-outcome.result left kept c.work-outcome.ensures) c.unlock-pass.ensures.fits
+          c.unlock-pass.ensures.pass c.unlock-pass.ensures.seen,
+    )
