@@ -1,0 +1,86 @@
+-- The state of the whole model: how a thread stands at a condition, what an access does to it all, and the word of each key.
+use Rattle.std.specs.Prelude.{◌≡◌, ℕ, ◌+◌, true, List, length, nat_lt, if◌then◌else◌}
+use Rattle.lot_core.specs.World.{World, put, opening_with}
+use Rattle.lot_core.specs.Steps.{Allowed, after, seen}
+use Rattle.lot_core.specs.Parts.{AsksOfThread}
+use Rattle.lot_core.specs.Rows.{told, row_from}
+use Rattle.lot_events.specs.declared.events.Point.{Point}
+use Rattle.lot_events.specs.declared.events.Point.TheVariants.{Bed, Rest}
+use Rattle.lot_events.specs.declared.events.Event.{Event}
+use Rattle.lot_events.specs.declared.events.Event.TheVariants.{Take, Free, Pass, Enlist, Lower, Sweep, SemTake}
+use Rattle.lot_events.specs.declared.events.Seen.{Seen}
+use Rattle.lot_events.specs.declared.events.Seen.TheVariants.{Bool as Saw}
+use Rattle.lot_rights.specs.declared.views.Access.{Access}
+use Rattle.lot_rights.specs.declared.views.Access.TheVariants.{Makes}
+use Rattle.lot_rights.specs.History.{maker}
+use Rattle.lot_words.specs.World.{bits_of}
+use Rattle.lot_conds.specs.World.{flag_word}
+use Rattle.lot_sems.specs.World.{word_of}
+use Rattle.lot_whole.specs.declared.views.Stand.{Stand}
+use Rattle.lot_whole.specs.declared.views.Stand.TheVariants.{Idle, AtBed, AtRest}
+use Rattle.lot_whole.specs.Family.{LotSize}
+
+-- ---- standing: what none of the three parts tells of a point
+abbrev pub stand_of : Point → Stand
+stand_of (Bed c l) = AtBed c l
+stand_of (Rest c l) = AtRest c l
+stand_of _ = Idle
+
+-- who lets a lock go at the bed of a condition rests then
+abbrev pub rises : Stand → Stand
+rises (AtBed c l) = AtRest c l
+rises s = s
+
+-- how a thread stands after an event of its own, of which this was seen
+abbrev pub moves : Event → Seen → Stand → Stand
+moves (Take t l) saw s = Idle
+moves (Free t l) (Saw true) s = rises s
+moves (Pass t l fair more) saw s = rises s
+moves (Enlist t c l) saw s = AtBed c l
+moves (Lower t c) saw s = Idle
+moves (Sweep t c) saw s = Idle
+moves (SemTake t k) saw s = Idle
+moves _ saw s = s
+
+abbrev pub moves_by : Access → Stand → Stand
+moves_by (Makes e saw) s = moves e saw s
+moves_by _ s = s
+
+-- ---- the state after an access
+abbrev pub whole_by : Access → World → World
+whole_by (Makes e saw) s = after s e
+whole_by _ s = s
+
+-- state s becomes r by an event that is allowed there, of which this is seen
+abbrev pub WholeStep : World → Event → Seen → World → Type 0
+WholeStep s e saw r = Allowed s e × (saw ≡ seen s e) × (r ≡ after s e)
+
+-- ---- words
+-- the word of each key, whatever its kind
+abbrev pub word_in : LotSize → World → ℕ → ℕ
+word_in z s c =
+    if nat_lt c z.locks then bits_of (s.locks.held c) (s.locks.parked c)
+    else (if nat_lt c (z.locks + z.conds) then flag_word (s.conds.flag c) else word_of (s.sems.left c) (s.sems.parked c))
+
+-- ---- how many there are: no event changes it
+pub record Counts : Type 0 where
+  pub threads : ℕ
+  pub locks : ℕ
+  pub conds : ℕ
+  pub sems : ℕ
+  pub permits : ℕ → ℕ
+
+abbrev pub counts_in : World → Counts
+counts_in s = record { threads = s.threads; locks = s.lock_count; conds = s.cond_count; sems = s.sem_count; permits = s.permits }
+
+abbrev pub counts_of : LotSize → Counts
+counts_of z = record {
+  threads = z.threads;
+  locks = z.locks;
+  conds = z.conds;
+  sems = length z.permits;
+  permits = row_from 0 (z.locks + z.conds) z.permits;
+}
+
+abbrev pub opening_of : LotSize → World
+opening_of z = opening_with z.threads z.locks z.conds z.permits

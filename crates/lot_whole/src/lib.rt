@@ -1,0 +1,12 @@
+//! One ruled table for a whole lot.
+#![tactic(auto)]
+
+pub mod kind;
+pub mod start;
+mod taking;
+pub mod views;
+pub mod words;
+
+pub use kind::{LotPass, LotRoot};
+pub use lot_words::Keeps;
+pub use words::LotWords;
