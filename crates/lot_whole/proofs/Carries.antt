@@ -1,5 +1,5 @@
 -- What each call of a pass carries from its kind to the lot: the one entry tells the access, its thread stands as the event asks, and the lot tells the same.
-use Rattle.std.proofs.Common.{◌≡◌, ◌≢◌, ℕ, ◌+◌, ◌%◌, ◌<◌, ◌⊎◌, ◌==◌, ◌++◌, Bool, true, false, List, [], ◌∷◌, length, bit_or, refl, sym, ap, subst, ◌∙◌, inl, inr, MatchBool, Option, Some, None}
+use Rattle.std.proofs.Common.{◌≡◌, ◌≢◌, ℕ, ◌+◌, ◌%◌, ◌<◌, ◌⊎◌, ◌==◌, ◌++◌, Bool, true, false, List, [], ◌∷◌, length, bit_or, refl, sym, ap, subst, ◌∙◌, inl, inr, arith, MatchBool, Option, Some, None}
 use mathlib.Core.Option as maybe
 use prog.Atomic.{either}
 use Rattle.lot_core.specs.Parts.{AsksOfThread}
@@ -257,7 +257,7 @@ module _ {V Part : Type 0} (rule : CallersRule V Part) (z : LotSize) (xs : List 
   -- ---- locks, with their roots
   module _ (p : PassView (LotPassView V)) (q : RootView LockRootView) where
     pub parks : MayPark p.own q.key → AllowsBoth (lot_scheme rule z xs) (word_at q.key) (λ n. n) p (whole_root lock q) (Parks p q)
-    parks may = lifts_both rule z xs lock (λ n. n) p q (lock_roots.Parks (part_pass lock p) q) (Parks p q) (lock_roots.parks rule (lock_size z) xs (part_pass lock p) q (may.0 lock) may.1)
+    parks may = lifts_both rule z xs lock (λ n. n) p q (locks.Parks (part_pass lock p) q) (Parks p q) (lock_roots.parks rule (lock_size z) xs (part_pass lock p) q (may.0 lock) may.1)
         (λ n own its a told. carry_both lock p q (parked_pass p.own.locks (n == 3)) (parked_root q.own p.thread (n == 3)) (Makes (Park p.thread q.key) (Saw (n == 3))) (Parks p q n)
         (λ up. inr (λ k ne. may.0 k)) (λ w ws hs ok fit root. (tt, tt)) (λ k. ((k, refl), refl)) own its a (told 0).0 (told 0).1)
 

@@ -197,7 +197,7 @@ module _ {V Part : Type 0} (rule : CallersRule V Part) (z : LotSize) (xs : List 
 
       -- ---- the world after the access a
       module _ (pass : ℕ → LotPassView V) (a : Access) (gone : Gone a) where
-        abbrev next : LotWorld rule z xs
+        abbrev pub next : LotWorld rule z xs
         next = record { each = each; words = words; pass = pass; whole = whole_by a w.whole }
 
         pub fits_after : ((t : ℕ) → t < z.threads → PassOk rule z xs next t (pass t)) → LotFits rule z xs next (set ws i x) hs

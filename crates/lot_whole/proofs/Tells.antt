@@ -57,7 +57,7 @@ rest_is (Bed d m) c l e = absurd (let f : AtBed d m ≡ AtRest c l = e in cc)
 rest_is (Rest d m) c l e = let a : d ≡ c = cc in let b : m ≡ l = cc in (λ i. Rest (a i) (b i))
 rest_is _ c l e = absurd (let f : Idle ≡ AtRest c l = e in cc)
 
-out_none : (o : Option ℕ) → is_some o ≡ false → o ≡ None
+pub out_none : (o : Option ℕ) → is_some o ≡ false → o ≡ None
 out_none None e = refl
 out_none (Some x) e = absurd (cc)
 

@@ -140,7 +140,7 @@ rises_is (Sweeps c) = refl
 rises_is (Seeks k) = refl
 
 -- t alone stands so from then on
-abbrev Stands : World → ℕ → (ℕ → Point) → Stand → Type 0
+abbrev pub Stands : World → ℕ → (ℕ → Point) → Stand → Type 0
 Stands s t point to = told stand_of point ≡ put (told stand_of s.point) t to
 
 stays_put : (s : World) (t : ℕ) → Stands s t s.point (stand_of (s.point t))
