@@ -10,8 +10,10 @@ pub mod Opens
 pub mod Places
 pub mod Puts
 pub mod Ready
+pub mod Runs
 pub mod Seats
 pub mod Settling
+pub mod Showing
 pub mod Staying
 pub mod Stepping
 pub mod Totals

@@ -5,7 +5,8 @@ use Rattle.lot_rights.specs.declared.views.Access.TheVariants.{Makes, Posts, Col
 use Rattle.lot_rights.specs.declared.views.Entry.{Entry}
 use Rattle.lot_rights.specs.History.{Telling, Run, with_event, events_in, ModelRun}
 use Rattle.lot_rights.specs.Rule.{number, made_with, Scheme, Leads, IsHistory}
-use Rattle.lot_rights.specs.Settled.{HasOneOutcome, RightsSettle, OneEntryIsOneAccess, NoEntryIsNone, RuledHasOneRun}
+use Rattle.lot_rights.specs.Settled.{HasOneOutcome, RightsSettle, OneEntryIsOneAccess, NoEntryIsNone, RuledSeatsShow, RuledHasOneRun}
+use Rattle.lot_rights.proofs.Showing.{join_shows, split_shows, same_shows, more_shows}
 use Rattle.lot_rights.proofs.Uniques.{OneOutcome, one_history, run_one, one_more, none_more}
 
 module _ {S P R : Type 0} (k : Scheme S P R) where
@@ -41,11 +42,17 @@ module _ {S P R : Type 0} (k : Scheme S P R) where
         (same, run_one (Leads k) one_outcome k.start 0 log a b r.run (subst (λ w. IsHistory k w views b) (sym same) r').run)
 
     pub one_entry : OneEntryIsOneAccess k
-    one_entry s s' before after id r r' rest rest' x at views alike same by more =
-        one_more number made_with (Leads k) k.start one_outcome before.log after.log s.views id (k.told_by before.world) (k.told_by after.world) before.recorded
-        x r r' rest rest' at by same more alike (subst (λ vs. IsHistory k after.log vs (k.told_by after.world)) views after.recorded)
+    one_entry s s' before after x more = one_more number made_with (Leads k) k.start one_outcome before.log after.log s.views s'.views
+        (k.told_by before.world) (k.told_by after.world) before.recorded after.recorded x more
 
     pub no_entry : NoEntryIsNone k
-    no_entry s s' before after id v v' at views alike =
-        none_more number made_with (Leads k) k.start one_outcome before.log after.log s.views id (k.told_by before.world) (k.told_by after.world) before.recorded
-        v v' at alike (subst (λ vs. IsHistory k after.log vs (k.told_by after.world)) views after.recorded)
+    no_entry s s' before after same = none_more number made_with (Leads k) k.start one_outcome before.log after.log s.views s'.views
+        (k.told_by before.world) (k.told_by after.world) before.recorded after.recorded same
+
+  pub seats_show : RuledSeatsShow k
+  seats_show s here = let listed = here.recorded.listed in record {
+    joined = λ id. join_shows number made_with here.log s.views listed id;
+    split = λ id. split_shows number made_with here.log s.views listed id;
+    same = λ id. same_shows number made_with here.log s.views listed id;
+    more = λ id. more_shows number made_with here.log s.views listed id;
+  }

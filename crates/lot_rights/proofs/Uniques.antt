@@ -1,16 +1,13 @@
 -- The rights settle the history: two histories of the same rights are one.
-use Rattle.std.proofs.Common.{◌≡◌, ◌≢◌, ℕ, suc, ◌+◌, ◌≤◌, ◌==◌, List, [], ◌∷◌, ◌++◌, length, set, refl, sym, ap, subst, ◌∙◌, ne_eqb, arith}
+use Rattle.std.proofs.Common.{◌≡◌, ℕ, ◌+◌, ◌≤◌, List, [], ◌∷◌, ◌++◌, length, refl, sym, ap, subst, ◌∙◌, arith}
 use Rattle.std.proofs.lemmas.List.{append-nil}
-use mathlib.Core.Option.{some}
 use mathlib.Core.Logic.{dite}
 use native.Mathlib.Decide.{ℕ_discrete}
-use lib.ListN.{get_elem?}
 use Rattle.lot_rights.specs.declared.views.Access.{Access}
 use Rattle.lot_rights.specs.declared.views.Entry.{Entry}
-use Rattle.lot_rights.specs.Seating.{times, times_in, Each}
-use Rattle.lot_rights.specs.History.{doer, entries_of, Run, Noted, SameMade, Listed, Recorded}
-use Rattle.lot_rights.proofs.Seats.{tick}
-use Rattle.lot_rights.proofs.Histories.{one_of_mine, one_of_others, listed_more, listed_stays}
+use Rattle.lot_rights.specs.History.{doer, entries_of, Run, SameShown, OneMoreShown, Recorded}
+use Rattle.lot_rights.proofs.Histories.{one_of_mine, one_of_others}
+use Rattle.lot_rights.proofs.Showing.{same_entries, more_entries}
 
 -- each entry tells how many came before it
 abbrev pub Placed : ℕ → List Entry → Type 0
@@ -97,44 +94,25 @@ module _ {S : Type 0} (Leads : S → Access → S → Type 0) where
   run_last a k (y ∷ log) x c run = let l = run_last run.1.0 (k + 1) log x c run.1.1.1 in (l.0, ((run.0, (run.1.0, (run.1.1.0, l.1.0))), (omega (arith, l.1.1.0), l.1.1.1)))
 
 -- ---- what the rights show
-module _ {R : Type 0} (number : R → ℕ) (made : R → List Entry) where
-  -- a right whose number stands in the list is in it
-  right_in : (F G : R → Type 0) (i : ℕ) (v : List R) → times number i v ≢ 0 → Each number F v → Each number G v → (r : R) × ((number r ≡ i) × (F r × G r))
-  right_in F G i [] stands f g = absurd (stands refl)
-  right_in F G i (r ∷ v) stands f g = dite (ℕ_discrete (number r) i) (λ e. (r, (e, (f.0, g.0))))
-      (λ ne. let z : tick (number r == i) ≡ 0 = ap tick (ne_eqb (number r) i ne) in right_in F G i v (λ h. stands (omega arith)) f.1 g.1)
+module _ {R : Type 0} (number : R → ℕ) (made : R → List Entry) {S : Type 0} (Leads : S → Access → S → Type 0) (first : S) where
+  -- the rights settle the history
+  pub one_history : (log log' : List Entry) (views : List (List R)) (a b : S) → Recorded number made Leads first log views a → Recorded number made Leads first log' views b → log ≡ log'
+  one_history log log' views a b r r' = sym (same_log log log' (run_placed Leads first 0 log a r.run) (run_placed Leads first 0 log' b r'.run)
+      (same_entries number made log views views r.listed log' r'.listed (λ i. refl)))
 
-  somewhere : (i : ℕ) (views : List (List R)) → times_in number i views ≢ 0 → (j : ℕ) × ((v : List R) × ((get_elem? views j ≡ some v) × (times number i v ≢ 0)))
-  somewhere i [] h = absurd (h refl)
-  somewhere i (v ∷ views) h = dite (ℕ_discrete (times number i v) 0) (λ z. let r = somewhere i views (λ e. h (omega arith)) in (suc r.0, r.1)) (λ ne. (0, (v, (refl, ne))))
+  module _ (one : OneOutcome Leads) (log log' : List Entry) (views views' : List (List R)) (a b : S) (ok : Recorded number made Leads first log views a)
+      (ok' : Recorded number made Leads first log' views' b) where
+    -- where the rights show one entry more, the history has just that entry more, made of what there was
+    pub one_more : (x : Entry) → OneMoreShown number made views x views' → (log' ≡ log ++ x ∷ []) × (x.at ≡ length log) × Leads a x.access b
+    one_more x more =
+        let e : log' ≡ log ++ x ∷ [] = one_more_log log log' x (run_placed Leads first 0 log a ok.run) (run_placed Leads first 0 log' b ok'.run)
+        (more_entries number made log views views' ok.listed log' x ok'.listed more) in
+        let last = run_last Leads first 0 log x b (subst (λ w. Run Leads first 0 w b) e ok'.run) in
+        (e, omega (arith, last.1.1.0), subst (λ z. Leads z x.access b) (run_one Leads one first 0 log last.0 a last.1.0 ok.run) last.1.1.1)
 
-  same_entries : (log log' : List Entry) (views : List (List R)) → Listed number made log views → Listed number made log' views → (i : ℕ) → entries_of i log' ≡ entries_of i log
-  same_entries log log' views l l' i = dite (ℕ_discrete (times_in number i views) 0)
-      (λ z. l'.known i z ∙ sym (l.known i z))
-      (λ ne. let at = somewhere i views ne in
-      let r = right_in (Noted number made log) (Noted number made log') i at.1.0 at.1.1.1 (l.told.named at.0 at.1.0 at.1.1.0) (l'.told.named at.0 at.1.0 at.1.1.0) in
-      subst (λ j. entries_of j log' ≡ entries_of j log) r.1.0 (sym r.1.1.1 ∙ r.1.1.0))
-
-  module _ {S : Type 0} (Leads : S → Access → S → Type 0) (first : S) where
-    -- the rights settle the history
-    pub one_history : (log log' : List Entry) (views : List (List R)) (a b : S) → Recorded number made Leads first log views a → Recorded number made Leads first log' views b → log ≡ log'
-    one_history log log' views a b r r' = sym (same_log log log' (run_placed Leads first 0 log a r.run) (run_placed Leads first 0 log' b r'.run) (same_entries log log' views r.listed r'.listed))
-
-    module _ (one : OneOutcome Leads) (log log' : List Entry) (views : List (List R)) (id : ℕ) (a b : S) (ok : Recorded number made Leads first log views a) where
-      -- where the first right at the seat shows one entry more, and the others are alike, the history has just that entry more, made of what there was
-      pub one_more : (x : Entry) (r r' : R) (v v' : List R) → get_elem? views id ≡ some (r ∷ v) → doer x.access ≡ number r → number r' ≡ number r → made r' ≡ made r ++ x ∷ []
-          → SameMade number made v v'
-          → Recorded number made Leads first log' (set views id (r' ∷ v')) b → (log' ≡ log ++ x ∷ []) × (x.at ≡ length log) × Leads a x.access b
-      one_more x r r' v v' at by same more alike ok' =
-          let l : Listed number made (log ++ x ∷ []) (set views id (r' ∷ v')) = listed_more number made log views id x r r' v v' ok.listed at by same more alike in
-          let e : log' ≡ log ++ x ∷ [] = one_more_log log log' x (run_placed Leads first 0 log a ok.run) (run_placed Leads first 0 log' b ok'.run)
-          (same_entries (log ++ x ∷ []) log' (set views id (r' ∷ v')) l ok'.listed) in
-          let last = run_last Leads first 0 log x b (subst (λ w. Run Leads first 0 w b) e ok'.run) in
-          (e, omega (arith, last.1.1.0), subst (λ z. Leads z x.access b) (run_one Leads one first 0 log last.0 a last.1.0 ok.run) last.1.1.1)
-
-      -- where no right shows another entry, none is made, and all is told as before
-      pub none_more : (v v' : List R) → get_elem? views id ≡ some v → SameMade number made v v' → Recorded number made Leads first log' (set views id v') b → (log' ≡ log) × (b ≡ a)
-      none_more v v' at alike ok' =
-          let l : Listed number made log (set views id v') = listed_stays number made log views id v v' ok.listed at alike in
-          let e : log' ≡ log = same_log log log' (run_placed Leads first 0 log a ok.run) (run_placed Leads first 0 log' b ok'.run) (same_entries log log' (set views id v') l ok'.listed) in
-          (e, run_one Leads one first 0 log b a (subst (λ w. Run Leads first 0 w b) e ok'.run) ok.run)
+    -- where no right shows another entry, none is made, and all is told as before
+    pub none_more : SameShown number made views views' → (log' ≡ log) × (b ≡ a)
+    none_more same =
+        let e : log' ≡ log = same_log log log' (run_placed Leads first 0 log a ok.run) (run_placed Leads first 0 log' b ok'.run)
+        (same_entries number made log views views' ok.listed log' ok'.listed same) in
+        (e, run_one Leads one first 0 log b a (subst (λ w. Run Leads first 0 w b) e ok'.run) ok.run)

@@ -1,5 +1,5 @@
 -- Histories: which accesses were made, the oldest first, and with which rights. An access is an event of the model, or a notice of what a word really was.
-use Rattle.std.specs.Prelude.{◌≡◌, ℕ, ◌+◌, ◌*◌, ◌==◌, cond, List, [], ◌∷◌, Some, None}
+use Rattle.std.specs.Prelude.{◌≡◌, ◌≢◌, ℕ, ◌+◌, ◌*◌, ◌==◌, cond, List, [], ◌∷◌, ◌++◌, Some, None}
 use Rattle.lot_core.specs.World.{put}
 use Rattle.lot_events.specs.declared.events.Event.{Event}
 use Rattle.lot_events.specs.declared.events.Event.TheVariants.{Try, Take, Mark, Park, Free, Pass, Enlist, Look, Call, Lower, Sweep, SemTake, SemMark, SemPark, SemFree, SemPass, SemClear}
@@ -90,6 +90,24 @@ module _ {R : Type 0} (number : R → ℕ) (made : R → List Entry) where
   SameMade [] [] = Unit {0}
   SameMade (r ∷ rs) (q ∷ qs) = (number q ≡ number r) × (made q ≡ made r) × SameMade rs qs
   SameMade _ _ = ⊥
+
+  -- the entries that the right with the number i shows, wherever it is
+  abbrev pub shown_at : ℕ → List R → List Entry
+  shown_at i [] = []
+  shown_at i (r ∷ rs) = cond (number r == i) (made r) [] ++ shown_at i rs
+
+  abbrev pub shown_in : ℕ → List (List R) → List Entry
+  shown_in i [] = []
+  shown_in i (v ∷ vs) = shown_at i v ++ shown_in i vs
+
+  -- each right shows in ws what it shows in vs, wherever it is
+  abbrev pub SameShown : List (List R) → List (List R) → Type 0
+  SameShown vs ws = (i : ℕ) → shown_in i ws ≡ shown_in i vs
+
+  -- the right that made the entry x shows it in ws, after what it shows in vs; each other shows what it shows in vs
+  pub record OneMoreShown (vs : List (List R)) (x : Entry) (ws : List (List R)) : Type 0 where
+    pub more : shown_in (doer x.access) ws ≡ shown_in (doer x.access) vs ++ x ∷ []
+    pub same : (i : ℕ) → i ≢ doer x.access → shown_in i ws ≡ shown_in i vs
 
   -- each right has its entries, and with a right that is nowhere nothing was made
   pub record Listed (log : List Entry) (views : List (List R)) : Type 0 where

@@ -1,5 +1,5 @@
--- The laws of the history: the rights settle it, one entry more is one access, and no entry is none.
-use Rattle.std.specs.Prelude.{◌≡◌, ℕ, ◌++◌, List, [], ◌∷◌, length, slice_set}
+-- The laws of the history: the rights settle it, one entry more is one access, and no entry is none, wherever the rights lie.
+use Rattle.std.specs.Prelude.{◌≡◌, ◌≢◌, ℕ, ◌++◌, ◌⊎◌, List, [], ◌∷◌, length, slice_set}
 use mathlib.Core.Option.{some}
 use lib.ListN.{get_elem?}
 use Rattle.atomic_table.specs.Table.{State}
@@ -8,7 +8,7 @@ use Rattle.lot_events.specs.declared.events.Seen.{Seen}
 use Rattle.lot_rights.specs.declared.views.Entry.{Entry}
 use Rattle.lot_rights.specs.declared.views.Right.{Right}
 use Rattle.lot_rights.specs.Seating.{times_in}
-use Rattle.lot_rights.specs.History.{doer, events_in, ModelRun, SameMade, Telling}
+use Rattle.lot_rights.specs.History.{doer, events_in, ModelRun, SameMade, SameShown, OneMoreShown, Telling}
 use Rattle.lot_rights.specs.Rule.{number, made_with, Scheme, IsRight, Leads, IsHistory, Ruled}
 
 module _ {S P R : Type 0} (k : Scheme S P R) where
@@ -20,17 +20,35 @@ module _ {S P R : Type 0} (k : Scheme S P R) where
   abbrev pub RightsSettle : Type 0
   RightsSettle = (views : List (List (Right P R))) (log log' : List Entry) (a b : Telling k.Part) → IsHistory k log views a → IsHistory k log' views b → (log ≡ log') × (a ≡ b)
 
-  -- Whatever step leads from a table that keeps the rule to one that keeps it: where one right shows one entry more, that access and no other was made, from what the words told just then
+  -- Of two tables that keep the rule: where the rights show one entry more in the second, that access and no other was made, from what
+  -- the words told just then
   abbrev pub OneEntryIsOneAccess : Type 0
-  OneEntryIsOneAccess = (s s' : State S (List (Right P R))) (before : Ruled k s) (after : Ruled k s') (id : ℕ) (r r' : Right P R) (rest rest' : List (Right P R)) (x : Entry)
-      → get_elem? s.views id ≡ some (r ∷ rest) → s'.views ≡ slice_set s.views id (r' ∷ rest') → SameMade number made_with rest rest'
-      → number r' ≡ number r → doer x.access ≡ number r → made_with r' ≡ made_with r ++ x ∷ []
+  OneEntryIsOneAccess = (s s' : State S (List (Right P R))) (before : Ruled k s) (after : Ruled k s') (x : Entry)
+      → OneMoreShown number made_with s.views x s'.views
       → (after.log ≡ before.log ++ x ∷ []) × (x.at ≡ length before.log) × Leads k (k.told_by before.world) x.access (k.told_by after.world)
 
   -- Where no right shows another entry, no access was made, and the words tell the same
   abbrev pub NoEntryIsNone : Type 0
-  NoEntryIsNone = (s s' : State S (List (Right P R))) (before : Ruled k s) (after : Ruled k s') (id : ℕ) (v v' : List (Right P R))
-      → get_elem? s.views id ≡ some v → s'.views ≡ slice_set s.views id v' → SameMade number made_with v v' → (after.log ≡ before.log) × (k.told_by after.world ≡ k.told_by before.world)
+  NoEntryIsNone = (s s' : State S (List (Right P R))) (before : Ruled k s) (after : Ruled k s')
+      → SameShown number made_with s.views s'.views
+      → (after.log ≡ before.log) × (k.told_by after.world ≡ k.told_by before.world)
+
+  -- What the rights of such a table show, where their seats join, split or take a step: they show more only where the first right of a
+  -- seat does
+  pub record SeatsShow (s : State S (List (Right P R))) : Type 0 where
+    pub joined : (id other : ℕ) (v w : List (Right P R)) → get_elem? s.views id ≡ some v → other ≢ id
+        → get_elem? s.views other ≡ some w
+        → SameShown number made_with s.views (slice_set (slice_set s.views id (v ++ w)) other [])
+    pub split : (id : ℕ) (v l r : List (Right P R)) → get_elem? s.views id ≡ some v → (v ≡ l ++ r) ⊎ (v ≡ r ++ l)
+        → SameShown number made_with s.views (slice_set s.views id l ++ r ∷ [])
+    pub same : (id : ℕ) (v v' : List (Right P R)) → get_elem? s.views id ≡ some v → SameMade number made_with v v'
+        → SameShown number made_with s.views (slice_set s.views id v')
+    pub more : (id : ℕ) (r r' : Right P R) (rest rest' : List (Right P R)) (x : Entry) → get_elem? s.views id ≡ some (r ∷ rest)
+        → SameMade number made_with rest rest' → number r' ≡ number r → doer x.access ≡ number r → made_with r' ≡ made_with r ++ x ∷ []
+        → OneMoreShown number made_with s.views x (slice_set s.views id (r' ∷ rest'))
+
+  abbrev pub RuledSeatsShow : Type 0
+  RuledSeatsShow = (s : State S (List (Right P R))) → Ruled k s → SeatsShow s
 
   -- Of every table that keeps the rule: each right is in exactly one place, and the log without its notices is a run of the model to the part that the words tell
   pub record HasOneRun (s : State S (List (Right P R))) (here : Ruled k s) : Type 0 where

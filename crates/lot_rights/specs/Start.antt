@@ -2,11 +2,12 @@
 use Rattle.std.specs.Prelude.{◌≡◌, ℕ, zero, suc, ◌+◌, List, [], ◌∷◌, ◌++◌, map}
 use mathlib.Core.Option.{some}
 use Rattle.atomic_table.specs.Seated.{TableId}
+use Rattle.atomic_table.specs.Table.{opening}
 use Rattle.lot_rights.specs.declared.views.PassView.{PassView}
 use Rattle.lot_rights.specs.declared.views.RootView.{RootView}
 use Rattle.lot_rights.specs.declared.views.Right.{Right}
 use Rattle.lot_rights.specs.declared.views.Right.TheVariants.{Pass, Root}
-use Rattle.lot_rights.specs.Rule.{Scheme, IsThread, IsKey}
+use Rattle.lot_rights.specs.Rule.{Scheme, IsThread, IsKey, Ruled}
 use Rattle.lot_rights.specs.Shown.{PassShown, RootShown}
 
 -- n rights, whose numbers begin at i
@@ -37,6 +38,10 @@ module _ {S P R : Type 0} (k : Scheme S P R) where
     pub passes : (t : ℕ) → IsThread k t → k.PassFits world t (k.fresh_pass t)
     pub roots : (c : ℕ) → IsKey k c → k.RootFits world c (k.fresh_root c)
     pub start : k.told_by world ≡ k.start
+
+  -- a table with these words and slots, all of whose rights are at the first seat, keeps the rule
+  abbrev pub Begins : List ℕ → List S → Type 0
+  Begins ws xs = Ruled k (opening ws xs all_rights)
 
   -- ---- what an opening answers
   abbrev pub pass_at : TableId → ℕ → PassShown P

@@ -1,9 +1,7 @@
 //! Opening: all memory first, then the table, then a pass for each thread and a root for each key.
 ghost use Rattle.std.specs.Prelude.{◌≡◌, ℕ, ◌+◌, ◌^◌, ◌<◌, ◌≤◌, ◌++◌, [], Some, slice_get, replicate, length, vec_len, vec_capacity, IfOk, IfErr};
-ghost use Rattle.atomic_table.specs.Table.{opening};
 ghost use Rattle.lot_rights.specs.Layout.{word_at, letter_at, word_count};
-ghost use Rattle.lot_rights.specs.Rule.{Ruled};
-ghost use Rattle.lot_rights.specs.Start.{passes_from, roots_from, all_rights, pass_at, root_at, OpensWell};
+ghost use Rattle.lot_rights.specs.Start.{passes_from, roots_from, pass_at, root_at, OpensWell, Begins};
 
 use crate::kind::{Kind, RightsSeat, RightsShared};
 use crate::layout::{MOST_WORDS, words_for};
@@ -110,7 +108,7 @@ impl<K: Kind> WordsOf<K> {
         ensures table { IfOk result (λ r. (r.0.table.words ≡ word_count threads (first + keys)) × (r.0.table.slots ≡ vec_len slots) × (r.0.key ≡ key.now)) }
         ensures passes { IfOk result (λ r. (vec_len r.1 ≡ threads) × ((k : ℕ) → k < threads → slice_get r.1.items k ≡ Some (pass_at (K.scheme key.now) r.0.table k))) }
         ensures roots { IfOk result (λ r. (vec_len r.2 ≡ keys) × ((k : ℕ) → k < keys → slice_get r.2.items k ≡ Some (root_at (K.scheme key.now) r.0.table (first + k)))) }
-        ensures rule { IfOk result (λ r. Ruled (K.scheme r.0.key) (opening (replicate (word_count threads (first + keys)) 0) slots.items (all_rights (K.scheme r.0.key)))) }
+        ensures rule { IfOk result (λ r. Begins (K.scheme r.0.key) (replicate (word_count threads (first + keys)) 0) slots.items) }
         ensures back { IfErr result (λ e. e.items ≡ slots.items) }
     {
         let count = words_for(threads, first + keys);
@@ -143,7 +141,7 @@ impl<K: Kind> WordsOf<K> {
         ensures table { IfOk result (λ r. (r.0.table.words ≡ word_count threads (first + keys)) × (r.0.table.slots ≡ vec_len slots) × (r.0.key ≡ key.now)) }
         ensures passes { IfOk result (λ r. (vec_len r.1 ≡ threads) × ((k : ℕ) → k < threads → slice_get r.1.items k ≡ Some (pass_at (K.scheme key.now) r.0.table k))) }
         ensures roots { IfOk result (λ r. (vec_len r.2 ≡ keys) × ((k : ℕ) → k < keys → slice_get r.2.items k ≡ Some (root_at (K.scheme key.now) r.0.table (first + k)))) }
-        ensures rule { IfOk result (λ r. Ruled (K.scheme r.0.key) (opening words.now slots.items (all_rights (K.scheme r.0.key)))) }
+        ensures rule { IfOk result (λ r. Begins (K.scheme r.0.key) words.now slots.items) }
         ensures back { IfErr result (λ e. e.items ≡ slots.items) }
     {
         let Rooms {

@@ -100,7 +100,7 @@ module _ {V Part : Type 0} (rule : CallersRule V Part) where
               (
                 l,
                 sym (ap (λ (z : LockPassView V). z.aim) fit.1) ∙ (lies_fits n m w ok.kept t l lies).0.2,
-                (x, subst (λ z. FoundOk rule l t z x) fit.1 (finds_value rule n m w.pass hs ok.lawful t fit.0 l near mine), (k, refl)),
+                (x, subst (λ z. FoundOk rule l t z x) fit.1 (finds_value rule n m w.pass hs ok.lawful t fit.0 l near long mine), (k, refl)),
               ),
             ),
           ))

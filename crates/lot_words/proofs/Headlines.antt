@@ -90,6 +90,7 @@ module _ {V : Type 0} (n m : ℕ) (w : LockWorld V) (ok : Kept n m w) where
       (λ h. eq-eqb (w.word l).owner (suc t) (⊎_elim {C = (w.word l).owner ≡ suc t} ((ok.threads t).holds l) (handed_owner t l) h)),
     );
     wants_is = λ l t. wants_so t (w.spot t) (ok.threads t).spot l;
+    are_threads = λ l t h. (at_spot t (queued l) ((ok.threads t).in_line l h)).0.0;
     sleepers_are_marked = λ l t h. (ok.locks l).parks (λ e. in_none t (subst (λ z. Contains z t) e h));
     someone_is_trying = λ l unheld line.
         let free = owner_unheld (w.word l).owner unheld in

@@ -1,6 +1,6 @@
 -- The turns of each call: whatever world the words stand for, its step leads to one that they stand for then.
 use Rattle.std.proofs.Common.{◌≡◌, ◌≢◌, ℕ, zero, suc, ◌*◌, ◌<◌, ◌%◌, ◌⊎◌, ◌==◌, Bool, true, false, List, [], length, get_or, set, bit_or, refl, sym, ap, subst, ◌∙◌, inl, inr, ⊎_elim, arith}
-use Rattle.std.proofs.Common.{MatchBool, Option, None}
+use Rattle.std.proofs.Common.{MatchBool, Option, None, Some}
 use mathlib.Core.Option as maybe
 use mathlib.Core.Option.{some, some-injective}
 use prog.Atomic.{either}
@@ -157,7 +157,7 @@ module _ {V Part : Type 0} (rule : CallersRule V Part) (size : Size) (xs : List 
       free_word = found ∙ ap (λ o. bits_of (is_owned o) (w.word l).parked) unheld
 
       found_ok : FoundOk rule l t p.own value
-      found_ok = subst (λ z. FoundOk rule l t z value) fit.1 (finds_value rule size.threads size.locks w.pass hs ok.lawful t fit.0 l here (nobody t))
+      found_ok = subst (λ z. FoundOk rule l t z value) fit.1 (finds_value rule size.threads size.locks w.pass hs ok.lawful t fit.0 l here long (nobody t))
 
       -- the pass gets the lock, with the value that it finds
       got_turn : (aims : Aims p.own l) (a : Access) (then : PassView (LockPassView V) → Type 0) (x : ℕ) → x ≡ bit_or (get_or ws (word_at l) 0) 1
@@ -234,9 +234,10 @@ module _ {V Part : Type 0} (rule : CallersRule V Part) (size : Size) (xs : List 
     take_free_turn aims true true h b = misses 0 3 (is_found true true h b) (λ e. omega arith)
 
     -- ---- marking
-    mark_turn : Aims p.own l → (h b : Bool) → is_owned (w.word l).owner ≡ h → (w.word l).parked ≡ b
+    mark_turn : p.own.aim ≡ Some l → (h b : Bool) → is_owned (w.word l).owner ≡ h → (w.word l).parked ≡ b
         → PassTurn (scheme rule size xs) (word_at l) (either (bits_of h b == 1) 3 (bits_of h b)) p (Marks p l (bits_of h b)) w ws hs
-    mark_turn aims true false h b =
+    mark_turn aim true false h b =
+        let aims : Aims p.own l = (λ k e. let f : Some l ≡ Some k = sym aim ∙ e in cc) in
         let held : (w.word l).owner ≢ 0 = (λ e. let f : true ≡ false = sym h ∙ ap is_owned e in cc) in
         let y : LockWord = record { owner = (w.word l).owner; parked = true } in
         record {
@@ -254,9 +255,9 @@ module _ {V Part : Type 0} (rule : CallersRule V Part) (size : Size) (xs : List 
           made = (refl, (row_mark w size.threads size.locks ok.kept t fit.0 up' l here held (aims' aims), refl));
           told = λ k. (k, refl);
         }
-    mark_turn aims false false h b = misses 1 0 (is_found false false h b) (λ e. omega arith)
-    mark_turn aims false true h b = misses 1 2 (is_found false true h b) (λ e. omega arith)
-    mark_turn aims true true h b = misses 1 3 (is_found true true h b) (λ e. omega arith)
+    mark_turn aim false false h b = misses 1 0 (is_found false false h b) (λ e. omega arith)
+    mark_turn aim false true h b = misses 1 2 (is_found false true h b) (λ e. omega arith)
+    mark_turn aim true true h b = misses 1 3 (is_found true true h b) (λ e. omega arith)
 
     -- ---- letting go
     module _ (holds : Holds p.own l) (aim : p.own.aim ≡ None) where
@@ -326,11 +327,11 @@ module _ {V Part : Type 0} (rule : CallersRule V Part) (size : Size) (xs : List 
       (is_found p l here up w ws hs ok fit (is_owned (w.word l).owner) (w.word l).parked refl refl)
       (take_free_turn p l here up w ws hs ok fit aims (is_owned (w.word l).owner) (w.word l).parked refl refl)
 
-  pub marks : (p : PassView (LockPassView V)) (l : ℕ) → l < size.locks → p.own.asleep ≡ false → Aims p.own l
+  pub marks : (p : PassView (LockPassView V)) (l : ℕ) → l < size.locks → p.own.asleep ≡ false → p.own.aim ≡ Some l
       → AllowsPass (scheme rule size xs) (word_at l) (λ n. either (n == 1) 3 n) p (Marks p l)
-  marks p l here up aims w ws hs ok fit small = subst (λ n. PassTurn (scheme rule size xs) (word_at l) (either (n == 1) 3 n) p (Marks p l n) w ws hs)
+  marks p l here up aim w ws hs ok fit small = subst (λ n. PassTurn (scheme rule size xs) (word_at l) (either (n == 1) 3 n) p (Marks p l n) w ws hs)
       (is_found p l here up w ws hs ok fit (is_owned (w.word l).owner) (w.word l).parked refl refl)
-      (mark_turn p l here up w ws hs ok fit aims (is_owned (w.word l).owner) (w.word l).parked refl refl)
+      (mark_turn p l here up w ws hs ok fit aim (is_owned (w.word l).owner) (w.word l).parked refl refl)
 
   pub frees : (p : PassView (LockPassView V)) (l : ℕ) → l < size.locks → p.own.asleep ≡ false → p.own.aim ≡ None → Holds p.own l → (y : V) → IsIn p.own l y
       → AllowsPass (scheme rule size xs) (word_at l) (λ n. either (n == 1) 0 n) p (Frees p l)

@@ -84,8 +84,9 @@ module _ {V Part : Type 0} (rule : CallersRule V Part) where
       in_seen = let w = ok.wide t near in omega (arith, w.1)
 
       -- what t finds keeps the rule, and goes on from what it had seen
-      pub finds_value : ¬ Holds (pass t) l → FoundOk rule l t (pass t) (ok.value l)
-      finds_value away = let e = ok.each l here in let s = e.seen t near in record {
+      pub finds_value : l < length (pass t).holds → ¬ Holds (pass t) l → FoundOk rule l t (pass t) (ok.value l)
+      finds_value long away = let e = ok.each l here in let s = e.seen t near in record {
+        tells = record { holds = long; places = in_places; seen = in_seen };
         kept = e.kept;
         grown = λ x at. subst (λ v. rule.grows v (ok.value l)) (some-injective s.seen x (sym s.seen_is ∙ at)) s.grown;
         mine = λ x at. subst (λ v. rule.part t v ≡ rule.part t (ok.value l)) (some-injective s.seen x (sym s.seen_is ∙ at)) (s.mine away);

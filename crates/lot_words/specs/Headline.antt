@@ -38,6 +38,8 @@ module _ {V : Type 0} (w : LockWorld V) where
     pub has_is : (l t : ℕ) → ((part_of w).locks.has l t ≡ true) ↔ (Holds (w.pass t) l ⊎ IsHanded (w.spot t) l)
     pub wants_is : (l t : ℕ) → ((part_of w).wants t ≡ Some l) ↔ (((w.pass t).aim ≡ Some l) × ¬ IsHanded (w.spot t) l)
     pub sleepers_are_marked : SleepersAreMarked (part_of w).locks.line (part_of w).locks.parked
+    -- who is in a line is a thread
+    pub are_threads : (l t : ℕ) → Contains ((part_of w).locks.line l) t → t < n
     pub someone_is_trying : (l : ℕ) → (part_of w).locks.held l ≡ false → (part_of w).locks.line l ≢ [] → (t : ℕ) × ((t < n) × ((part_of w).wants t ≡ Some l) × ¬ Contains (w.root l).line t)
     pub found_parked : (l t : ℕ) → HoldsParked (w.pass t) l → (part_of w).locks.parked l ≡ true
 

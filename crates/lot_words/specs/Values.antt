@@ -45,6 +45,18 @@ module _ {V : Type 0} where
   abbrev pub HasSeen : LockPassView V → ℕ → V → Type 0
   HasSeen p l x = get_elem? p.seen l ≡ some x
 
+  -- the pass tells of the lock l: whether it holds it, where the value is, and what it has seen
+  pub record TellsOf (p : LockPassView V) (l : ℕ) : Type 0 where
+    pub holds : l < length p.holds
+    pub places : l < length p.places
+    pub seen : l < length p.seen
+
+  -- it holds l, whose value x lies in its slot, and has seen that value
+  pub record Owns (p : LockPassView V) (l : ℕ) (x : V) : Type 0 where
+    pub holds : Holds p l
+    pub lies : IsIn p l x
+    pub seen : HasSeen p l x
+
 module _ {V Part : Type 0} (rule : CallersRule V Part) where
   -- t may leave the value y in the lock l, where it found x
   pub record MayLeave (l t : ℕ) (x y : V) : Type 0 where
@@ -57,8 +69,9 @@ module _ {V Part : Type 0} (rule : CallersRule V Part) where
   MayLie l t x Out = Unit {0}
   MayLie l t x Moving = Unit {0}
 
-  -- the value x that t finds in l: it keeps the rule, has grown from what t had seen of it, and has t's part of that
+  -- the value x that t finds in l, of which its pass tells: it keeps the rule, has grown from what t had seen of it, and has t's part of that
   pub record FoundOk (l t : ℕ) (p : LockPassView V) (x : V) : Type 0 where
+    pub tells : TellsOf p l
     pub kept : rule.keeps l x
     pub grown : (s : V) → HasSeen p l s → rule.grows s x
     pub mine : (s : V) → HasSeen p l s → rule.part t s ≡ rule.part t x

@@ -5,7 +5,7 @@ ghost use base.Fml.{ftrue};
 use std::marker::Model;
 
 /// A reference to it gives nothing of the value, so threads may share it wherever they may send the value. Its owner takes the value out.
-pub(crate) struct Exclusive<T> {
+pub struct Exclusive<T> {
     pub(crate) value: T,
 }
 
@@ -18,13 +18,13 @@ unsafe impl<T: Send> Send for Exclusive<T> {}
 unsafe impl<T: Send> Sync for Exclusive<T> {}
 
 impl<T> Exclusive<T> {
-    pub(crate) fn new(value: T) -> Exclusive<T>
+    pub fn new(value: T) -> Exclusive<T>
         ensures { result.value ≡ value }
     {
         Exclusive { value }
     }
 
-    pub(crate) fn into_inner(self) -> T
+    pub fn into_inner(self) -> T
         ensures { result ≡ self.value }
     {
         let Exclusive { value } = self;

@@ -27,7 +27,7 @@
 
 mod apart;
 mod closing;
-mod exclusive;
+pub mod exclusive;
 pub mod keeps;
 pub mod kind;
 pub mod laws;
@@ -35,7 +35,7 @@ mod opening;
 mod parking;
 mod posting;
 mod releasing;
-mod shelf;
+pub mod shelf;
 mod slots;
 pub mod start;
 mod taking;

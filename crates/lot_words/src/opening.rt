@@ -1,12 +1,9 @@
 //! Opening: the values become what the slots hold; then the table, a pass for each thread and a root for each lock.
 ghost use Rattle.std.specs.Prelude.{◌≡◌, ℕ, ◌<◌, ◌≤◌, Some, slice_get, map, replicate, vec_len, IfOk, IfErr};
-ghost use Rattle.atomic_table.specs.Table.{opening};
 ghost use Rattle.lot_core.specs.declared.state.TheConstants.{MAX_THREADS, MAX_KEYS};
 ghost use Rattle.lot_rights.specs.Layout.{word_count};
-ghost use Rattle.lot_rights.specs.Rule.{Ruled};
-ghost use Rattle.lot_rights.specs.Start.{all_rights};
-ghost use Rattle.lot_words.specs.Rule.{scheme};
-ghost use Rattle.lot_words.specs.Shown.{pass_at, root_at};
+ghost use Rattle.lot_rights.specs.Start.{Begins};
+ghost use Rattle.lot_words.specs.Shown.{pass_at, root_at, scheme_of};
 
 use crate::exclusive::Exclusive;
 use crate::keeps::Keeps;
@@ -28,9 +25,10 @@ impl<V: Keeps> LockWords<V> {
         requires limits { (0 < threads) × (threads ≤ MAX_THREADS) × (0 < vec_len values) × (vec_len values ≤ MAX_KEYS) }
         requires keep { (k : ℕ) (v : V) → slice_get values.items k ≡ Some v → V.keeps k v }
         ensures size { IfOk result (λ r. (r.0.size.threads ≡ threads) × (r.0.size.locks ≡ vec_len values)) }
+        ensures values { IfOk result (λ r. r.0.values ≡ values.items) }
         ensures passes { IfOk result (λ r. (vec_len r.1 ≡ threads) × ((k : ℕ) → k < threads → slice_get r.1.items k ≡ Some (pass_at r.0.table values.items k))) }
         ensures roots { IfOk result (λ r. (vec_len r.2 ≡ vec_len values) × ((k : ℕ) → k < vec_len values → slice_get r.2.items k ≡ Some (root_at r.0.table k))) }
-        ensures rule { IfOk result (λ r. Ruled (scheme V.Keeps r.0.size values.items) (opening (replicate (word_count threads (vec_len values)) 0) (map (λ (x : V). Some x) values.items) (all_rights (scheme V.Keeps r.0.size values.items)))) }
+        ensures rule { IfOk result (λ r. Begins (scheme_of V.Keeps r.0) (replicate (word_count r.0.size.threads r.0.size.locks) 0) (map (λ (x : V). Some x) r.0.values)) }
         ensures back { IfErr result (λ e. e.1.items ≡ values.items) }
     {
         let locks = values.len();

@@ -1,5 +1,5 @@
 //! Getting a lock: one access of its word.
-ghost use Rattle.std.specs.Prelude.{true, false, ◌≡◌, ◌≢◌, ℕ, ◌<◌, MatchBool, None};
+ghost use Rattle.std.specs.Prelude.{true, false, ◌≡◌, ◌≢◌, ℕ, ◌<◌, MatchBool, None, Some};
 ghost use Rattle.lot_events.specs.declared.events.Event.TheVariants.{Try, Take, Mark};
 ghost use Rattle.lot_events.specs.declared.events.Seen.TheVariants.{Bool as Saw, Done};
 ghost use Rattle.lot_rights.specs.declared.views.Access.TheVariants.{Makes, Finds};
@@ -65,11 +65,11 @@ impl<V: Keeps> LockWords<V> {
     }
 
     /// Marks a held, unparked lock as parked, by one compare-exchange, and says whether it did. The event is Mark; where the word was
-    /// another, the entry says which. A thread that is about to park calls it, as WTF's `Lock::lockSlow` does.
+    /// another, the entry says which. A thread that wants the lock, and is about to park, calls it, as WTF's `Lock::lockSlow` does.
     pub fn mark(&self, pass: LockPass<V>, key: usize) -> (LockPass<V>, bool)
         requires table { pass.table ≡ self.now.table }
         requires key { key < self.now.size.locks }
-        requires calm { (pass.pass.own.asleep ≡ false) × Aims pass.pass.own key }
+        requires calm { (pass.pass.own.asleep ≡ false) × (pass.pass.own.aim ≡ Some key) }
         ensures table { result.0.table ≡ pass.table }
         ensures event { MatchBool result.1
             (Notes pass.pass pass.pass.own (Makes (Mark pass.pass.thread key) Done) result.0.pass)

@@ -36,9 +36,9 @@ pub struct LockWords<V: Keeps> {
 impl<V: Keeps> Model for LockWords<V> {
     ghost use Rattle.lot_words.specs.Shown.{LockWordsShown};
 
-    ghost Value = { LockWordsShown };
+    ghost Value = { LockWordsShown V };
 
-    ghost view = { λ s. record { table = s.words.table; size = s.words.key.size } };
+    ghost view = { λ s. record { table = s.words.table; size = s.words.key.size; values = s.words.key.values.value.items } };
 }
 
 impl<V: Keeps> OfOpening for LockWords<V> {

@@ -1,7 +1,5 @@
 use Rattle.std.proofs.Common.{sym, subst}
-use Rattle.atomic_table.specs.Table.{opening}
-use Rattle.lot_rights.specs.Rule.{Ruled}
-use Rattle.lot_rights.specs.Start.{all_rights}
+use Rattle.lot_rights.specs.Start.{Begins}
 use Rattle.lot_rights.proofs.Opens.{opens}
 use Rattle.lot_rights.proofs.words.WordsOf.open_with.Goals as goal
 
@@ -9,5 +7,5 @@ pub new-requires-2 : goal.new-requires-2
 new-requires-2 g c = opens (g.K.Kind.scheme c.args.key.now) c.args.words.now c.args.slots.items c.requires.opens
 
 pub returns-in-Ok-new-clause-rule : goal.returns-in-Ok-new-clause-rule
-returns-in-Ok-new-clause-rule g c = subst (λ key. Ruled (g.K.Kind.scheme key) (opening c.args.words.now c.args.slots.items (all_rights (g.K.Kind.scheme key)))) (sym c.in-Ok-new.ensures.ok.5)
+returns-in-Ok-new-clause-rule g c = subst (λ key. Begins (g.K.Kind.scheme key) c.args.words.now c.args.slots.items) (sym c.in-Ok-new.ensures.ok.5)
     (opens (g.K.Kind.scheme c.args.key.now) c.args.words.now c.args.slots.items c.requires.opens)

@@ -10,13 +10,13 @@ use Rattle.lot_words.proofs.words.LockWords.exchange_value.Goals as goal
 pub exchange-requires-clause-out : goal.exchange-requires-clause-out
 exchange-requires-clause-out g c =
     let key = c.args.key in
-    let here = subst (λ (z : LockWordsShown). key < z.size.locks) (sym c.self.view_is) c.requires.key in
+    let here = subst (λ (z : LockWordsShown g.row.V.Denot). key < z.size.locks) (sym c.self.view_is) c.requires.key in
     leaves g.V.Keeps c.self.inside.words.key.size c.self.inside.words.key.values.value.items c.args.pass.pass key here c.requires.holds c.requires.home.0 c.requires.home.1 c.requires.home.2
 
 pub exchange-requires-clause-back : goal.exchange-requires-clause-back
 exchange-requires-clause-back g c =
     let key = c.args.key in
-    let here = subst (λ (z : LockWordsShown). key < z.size.locks) (sym c.self.view_is) c.requires.key in
+    let here = subst (λ (z : LockWordsShown g.row.V.Denot). key < z.size.locks) (sym c.self.view_is) c.requires.key in
     comes_back g.V.Keeps c.self.inside.words.key.size c.self.inside.words.key.values.value.items c.args.pass.pass key here c.requires.holds c.args.new c.requires.lawful
 
 pub returns-clause-pass : goal.returns-clause-pass

@@ -1,28 +1,15 @@
-use Rattle.std.proofs.Common.{◌≡◌, ℕ, ◌+◌, ◌<◌, ◌≤◌, List, slice_get, replicate, map, Some, length, Option, sym, ap, subst, ◌∙◌, arith, zero-add, rules}
+use Rattle.std.proofs.Common.{◌≡◌, ℕ, ◌+◌, ◌<◌, ◌≤◌, List, slice_get, replicate, map, Some, length, sym, ap, subst, ◌∙◌, arith, zero-add, rules}
 use Rattle.std.proofs.lemmas.List.{length-map}
 use Rattle.std.specs.Vec.{vec_len, vec_capacity}
-use Rattle.atomic_table.specs.Table.{opening}
 use Rattle.lot_core.specs.declared.state.TheConstants.{MAX_THREADS, MAX_KEYS}
 use Rattle.lot_rights.specs.Layout.{word_count}
-use Rattle.lot_rights.specs.Rule.{Ruled}
-use Rattle.lot_rights.specs.Start.{OpensWell, all_rights}
-use Rattle.lot_words.specs.declared.views.Size.{Size}
-use Rattle.lot_words.specs.CallersRule.{CallersRule}
+use Rattle.lot_rights.specs.Start.{OpensWell, Begins}
 use Rattle.lot_words.specs.Rule.{scheme}
 use Rattle.lot_words.specs.Shelf.{AllSome}
 use Rattle.lot_words.specs.Shown.{pass_at, root_at}
 use Rattle.lot_words.proofs.Opens.{opens_well}
 use Rattle.lot_words.proofs.Shelves.{all_some_filled, same_values_back}
 use Rattle.lot_words.proofs.words.LockWords.open.Goals as goal
-
--- the rule, for the same values, slots and number of locks
-opened_rule : {V Part : Type 0} (rule : CallersRule V Part) (size : Size) (threads : ℕ) {m n : ℕ} → m ≡ n → {ss os : List (Option V)} → ss ≡ os → {xs ys : List V} → xs ≡ ys
-    → Ruled (scheme rule size xs) (opening (replicate (word_count threads m) 0) ss (all_rights (scheme rule size xs)))
-    → Ruled (scheme rule size ys) (opening (replicate (word_count threads n) 0) os (all_rights (scheme rule size ys)))
-opened_rule rule size threads {m} {n} locks {ss} {os} slots {xs} {ys} values ruled =
-    subst (λ zs. Ruled (scheme rule size zs) (opening (replicate (word_count threads n) 0) os (all_rights (scheme rule size zs)))) values
-    (subst (λ zs. Ruled (scheme rule size xs) (opening (replicate (word_count threads n) 0) zs (all_rights (scheme rule size xs)))) slots
-    (subst (λ k. Ruled (scheme rule size xs) (opening (replicate (word_count threads k) 0) ss (all_rights (scheme rule size xs)))) locks ruled))
 
 pub open-requires-clause-opens : goal.open-requires-clause-opens
 open-requires-clause-opens g c =
@@ -62,12 +49,20 @@ returns-in-Ok-open-clause-roots g c = (
   λ k near. c.in-Ok-open.ensures.roots.1 k (subst (λ n. k < n) (sym c.len-locks.ensures) near) ∙ ap (λ (l : ℕ). Some (root_at c.in-Ok-open.words.table l)) (zero-add k),
 )
 
+pub returns-in-Ok-open-clause-values : goal.returns-in-Ok-open-clause-values
+returns-in-Ok-open-clause-values g c = ap (λ z. z.values.value.items) c.in-Ok-open.ensures.table.2 ∙ ap (λ v. v.items) c.new-start.ensures.values
+
 pub returns-in-Ok-open-clause-rule : goal.returns-in-Ok-open-clause-rule
 returns-in-Ok-open-clause-rule g c =
-    let size = c.in-Ok-open.words.key.size in
-    let same = ap (λ z. z.values.value.items) c.in-Ok-open.ensures.table.2 ∙ ap (λ v. v.items) c.new-start.ensures.values in
-    let locks : 0 + c.len-locks.result ≡ vec_len c.args.values = zero-add c.len-locks.result ∙ c.len-locks.ensures in
-    opened_rule g.V.Keeps size c.args.threads locks c.shelve.ensures.slots same c.in-Ok-open.ensures.rule
+    let key = c.in-Ok-open.words.key in
+    let threads : c.args.threads ≡ key.size.threads = sym (ap (λ z. z.size.threads) c.in-Ok-open.ensures.table.2 ∙ c.new-start.ensures.size.0) in
+    let locks : 0 + c.len-locks.result ≡ key.size.locks = zero-add c.len-locks.result
+    ∙ (c.len-locks.ensures ∙ sym (ap (λ z. z.size.locks) c.in-Ok-open.ensures.table.2 ∙ c.new-start.ensures.size.1)) in
+    let slots : c.shelve.new.slots.items ≡ map (λ (x : g.row.V.Denot). Some x) key.values.value.items = c.shelve.ensures.slots
+    ∙ ap (map (λ (x : g.row.V.Denot). Some x)) (sym (ap (λ z. z.values.value.items) c.in-Ok-open.ensures.table.2 ∙ ap (λ v. v.items) c.new-start.ensures.values)) in
+    subst (λ xs. Begins (scheme g.V.Keeps key.size key.values.value.items) (replicate (word_count key.size.threads key.size.locks) 0) xs) slots
+    (subst (λ ws. Begins (scheme g.V.Keeps key.size key.values.value.items) ws c.shelve.new.slots.items) (λ i. replicate (word_count (threads i) (locks i)) 0)
+    c.in-Ok-open.ensures.rule)
 
 pub invariant_of-result : goal.invariant_of-result
 invariant_of-result g c =
