@@ -225,7 +225,7 @@ module _ {V Part : Type 0} (rule : CallersRule V Part) (z : LotSize) (xs : List 
 
     pub marks : MayPark p.own l → AllowsPass (lot_scheme rule z xs) (word_at l) (λ n. either (n == 1) 3 n) p (Marks p l)
     marks may = lifts_pass rule z xs lock (word_at l) (λ n. either (n == 1) 3 n) p (locks.Marks (part_pass lock p) l) (Marks p l)
-        (locks.marks rule (lock_size z) xs (part_pass lock p) l here (may.0 lock) (takes_aims (inl may))) (at_key lock p l is_lock) (carries_marks may)
+        (locks.marks rule (lock_size z) xs (part_pass lock p) l here (may.0 lock) may.1) (at_key lock p l is_lock) (carries_marks may)
 
     -- ---- letting go
     module _ (may : MayLetGo p.own l) (holds : Holds p.own.locks l) (y : V) (lies : IsIn p.own.locks l y) where

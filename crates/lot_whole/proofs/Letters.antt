@@ -1,5 +1,5 @@
 -- Letters that are posted with a root, and collected with a pass: of which kind they are, the pass tells.
-use Rattle.std.proofs.Common.{◌≡◌, ◌≢◌, ℕ, zero, suc, ◌+◌, ◌<◌, ◌≤◌, ◌⊎◌, ◌++◌, Bool, true, false, List, [], ◌∷◌, get_or, refl, sym, ap, subst, ◌∙◌, inl, inr, arith, Option, Some, None}
+use Rattle.std.proofs.Common.{◌≡◌, ◌≢◌, ℕ, zero, suc, ◌+◌, ◌-◌, ◌<◌, ◌≤◌, ◌⊎◌, ◌++◌, Bool, true, false, List, [], ◌∷◌, get_or, refl, sym, ap, subst, ◌∙◌, inl, inr, arith, Option, Some, None}
 use Rattle.std.specs.Prelude.{is_some}
 use Rattle.std.specs.List.{Contains}
 use mathlib.Core.Option as maybe
@@ -28,7 +28,7 @@ use Rattle.lot_whole.specs.declared.views.LotRootView.{LotRootView}
 use Rattle.lot_whole.specs.Family.{Which, lock, cond, sem, LotSize, lock_size, cond_size, sem_size, PassIn, RootIn, away, scheme_of}
 use Rattle.lot_whole.specs.Lot.{own_of, root_from, LotWorld, LotFits, LotPassIs, LotRootIs, lot_scheme}
 use Rattle.lot_whole.specs.Lifts.{part_pass, whole_root, Speaks, Quiet, InPlace, CarriesPass, CarriesRoot}
-use Rattle.lot_whole.specs.Calls.{NotesIn, RootNotesIn, CollectsIn, CollectsLock, CollectsCond, CollectsSem, CollectedBy}
+use Rattle.lot_whole.specs.Calls.{NotesIn, RootNotesIn, CollectsIn, CollectsLock, CollectsCond, CollectsSem, FoundNone, Collected, CollectedBy}
 use Rattle.lot_whole.proofs.Carries.{notes_tell, Carried, carry}
 use Rattle.lot_whole.proofs.Lifts.{lifts_pass, lifts_root}
 use Rattle.lot_whole.proofs.Steps.{root_in}
@@ -161,3 +161,12 @@ module _ {V Part : Type 0} (rule : CallersRule V Part) (z : LotSize) (xs : List 
         made = turn.made;
         told = λ k. by_number rule p (get_or ws (letter_at t) 0) (pass_after p turn.own k turn.access) (turn.told k);
       }
+
+-- ---- what the number found tells the caller
+module _ {V Part : Type 0} (rule : CallersRule V Part) (p q : PassView (LotPassView V)) where
+  pub collected_none : (n : ℕ) → n ≡ 0 → Collecting rule p n q → FoundNone p q
+  collected_none n e h = subst (λ m. CollectedBy rule p m q) e h.1
+
+  pub collected_some : (n : ℕ) → n ≢ 0 → Collecting rule p n q → Collected rule p (n - 1) q
+  collected_some zero ne h = absurd (ne refl)
+  collected_some (suc token) ne h = let e : token ≡ suc token - 1 = omega arith in subst (λ m. Collected rule p m q) e h.1

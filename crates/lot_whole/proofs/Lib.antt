@@ -2,6 +2,8 @@ pub mod Family
 pub mod Whole
 pub mod Steps
 pub mod Lifts
+pub mod Slots
 pub mod Tells
 pub mod Carries
 pub mod Letters
+pub mod Names

@@ -35,6 +35,18 @@ own_from V f s lock = refl
 own_from V f s cond = refl
 own_from V f s sem = refl
 
+-- who is away in one kind at most is so too after a step of the kind j, from which it knows this
+pub apart_after : (V : Type 0) (j : Which) (p : LotPassView V) → ((k m : Which) → away V k (own_of V p k) ≡ true → away V m (own_of V p m) ≡ true → k ≡ m)
+    → (own : PassIn V j) → MayBeAway j p own
+    → (k m : Which) → away V k (dput {X = PassIn V} j own (own_of V p) k) ≡ true → away V m (dput {X = PassIn V} j own (own_of V p) m) ≡ true → k ≡ m
+apart_after V j p apart own may k m = dput_elim {X = PassIn V} (λ k o. away V k o ≡ true → away V m (dput {X = PassIn V} j own (own_of V p) m) ≡ true → k ≡ m) j own (own_of V p)
+    (λ up. dput_elim {X = PassIn V} (λ m o. away V m o ≡ true → j ≡ m) j own (own_of V p) (λ _. refl)
+    (λ m ne there. ⊎_elim {C = j ≡ m} (λ was. apart j m was there) (λ none. absurd (let e : false ≡ true = sym (none m ne) ∙ there in cc)) (may up)) m)
+    (λ k ne up. dput_elim {X = PassIn V} (λ m o. away V m o ≡ true → k ≡ m) j own (own_of V p)
+    (λ there. ⊎_elim {C = k ≡ j} (λ was. apart k j up was) (λ none. absurd (let e : false ≡ true = sym (none k ne) ∙ up in cc)) (may there))
+    (λ m _ there. apart k m up there) m)
+    k
+
 module _ {V Part : Type 0} (rule : CallersRule V Part) (z : LotSize) (xs : List V) where
   -- ---- roots, kind by kind
   pub root_in : (k : Which) (w : LotWorld rule z xs) (d : ℕ) (r : RootIn k) → LotRootIs rule z xs w d (root_from k r) → IsKeyIn z k d × (scheme_of rule z xs k).RootFits (w.each k) d r
@@ -225,21 +237,12 @@ module _ {V Part : Type 0} (rule : CallersRule V Part) (z : LotSize) (xs : List 
 
         -- the pass of the thread t, which knows this now
         module _ (t : ℕ) (p : LotPassView V) (h : PassOk rule z xs w t p) (own : PassIn V j) (may : MayBeAway j p own) where
-          apart_after : (k m : Which) → away V k (dput {X = PassIn V} j own (own_of V p) k) ≡ true → away V m (dput {X = PassIn V} j own (own_of V p) m) ≡ true → k ≡ m
-          apart_after k m = dput_elim {X = PassIn V} (λ k o. away V k o ≡ true → away V m (dput {X = PassIn V} j own (own_of V p) m) ≡ true → k ≡ m) j own (own_of V p)
-              (λ up. dput_elim {X = PassIn V} (λ m o. away V m o ≡ true → j ≡ m) j own (own_of V p) (λ _. refl)
-              (λ m ne there. ⊎_elim {C = j ≡ m} (λ was. h.apart j m was there) (λ none. absurd (let e : false ≡ true = sym (none m ne) ∙ there in cc)) (may up)) m)
-              (λ k ne up. dput_elim {X = PassIn V} (λ m o. away V m o ≡ true → k ≡ m) j own (own_of V p)
-              (λ there. ⊎_elim {C = k ≡ j} (λ was. h.apart k j up was) (λ none. absurd (let e : false ≡ true = sym (none k ne) ∙ up in cc)) (may there))
-              (λ m _ there. h.apart k m up there) m)
-              k
-
           pub pass_turned : (scheme_of rule z xs j).PassFits v t own → stand_of ((whole_by a w.whole).point t) ≡ moves_by a p.stand → PassOk rule z xs next t (lot_own j p own a)
           pass_turned fit stands = record {
             each = λ k. subst (λ o. (scheme_of rule z xs k).PassFits (each k) t o) (sym (own_from V (dput {X = PassIn V} j own (own_of V p)) (moves_by a p.stand) k))
                 (dput_two {X = λ k. (scheme_of rule z xs k).World} {Y = PassIn V} (λ k y o. (scheme_of rule z xs k).PassFits y t o) j v w.each own (own_of V p) fit (λ k ne. h.each k) k);
             apart = λ k m up there.
-                apart_after k m (subst (λ o. away V k o ≡ true) (own_from V (dput {X = PassIn V} j own (own_of V p)) (moves_by a p.stand) k) up)
+                apart_after V j p h.apart own may k m (subst (λ o. away V k o ≡ true) (own_from V (dput {X = PassIn V} j own (own_of V p)) (moves_by a p.stand) k) up)
                 (subst (λ o. away V m o ≡ true) (own_from V (dput {X = PassIn V} j own (own_of V p)) (moves_by a p.stand) m) there);
             stand = stands;
           }

@@ -13,7 +13,8 @@ use Rattle.lot_words.specs.Values.{FoundOk}
 use Rattle.lot_words.specs.declared.views.LockRootView.{LockRootView}
 use Rattle.lot_conds.specs.declared.views.CondRootView.{CondRootView}
 use Rattle.lot_sems.specs.declared.views.SemRootView.{SemRootView}
-use Rattle.lot_words.specs.Calls.{gripped, woken as lock_woken}
+use Rattle.lot_words.specs.declared.views.Place.{Place}
+use Rattle.lot_words.specs.Calls.{gripped, placed, woken as lock_woken}
 use Rattle.lot_conds.specs.Calls.{woken_pass}
 use Rattle.lot_sems.specs.declared.taking.Taken.{Taken}
 use Rattle.lot_sems.specs.declared.taking.Taken.TheVariants.{Got, Empty, Busy}
@@ -33,6 +34,10 @@ NotesIn j p own a q = Notes p (lot_own j p.own own a) a q
 abbrev pub FindsOf : {V : Type 0} → PassView (LotPassView V) → ℕ → ℕ → PassView (LotPassView V) → Type 0
 FindsOf p c word q = Notes p p.own (Finds p.thread c word) q
 
+-- the pass has the value of the lock l at this place
+abbrev pub placed_in : {V : Type 0} → LotPassView V → ℕ → Place V → LotPassView V
+placed_in p l place = record p { locks = placed p.locks l place }
+
 -- a root of a kind, as the kind sees it
 abbrev pub lock_of : RootView LotRootView → RootView LockRootView
 lock_of q = record { key = q.key; made = q.made; own = as_lock q.own }
@@ -49,6 +54,10 @@ RootIs j p own q = q ≡ record p { own = root_from j own }
 
 abbrev pub RootNotesIn : (j : Which) → RootView LotRootView → RootIn j → Access → RootView LotRootView → Type 0
 RootNotesIn j p own a q = RootNotes p (root_from j own) a q
+
+-- q is the pass p after it found no letter
+abbrev pub FoundNone : {V : Type 0} → PassView (LotPassView V) → PassView (LotPassView V) → Type 0
+FoundNone p q = Notes p p.own (Collects p.thread None) q
 
 module _ {V : Type 0} where
   -- ---- tries to take a permit of k
@@ -94,7 +103,7 @@ module _ {V Part : Type 0} (rule : CallersRule V Part) where
 
   -- by the number in the letter
   abbrev pub CollectedBy : PassView (LotPassView V) → ℕ → PassView (LotPassView V) → Type 0
-  CollectedBy p zero q = Notes p p.own (Collects p.thread None) q
+  CollectedBy p zero q = FoundNone p q
   CollectedBy p (suc token) q = Collected p token q
 
 -- ---- words of entries

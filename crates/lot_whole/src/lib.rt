@@ -2,9 +2,12 @@
 #![tactic(auto)]
 
 pub mod kind;
+mod posting;
+mod releasing;
 pub mod start;
 mod taking;
 pub mod views;
+mod waiting;
 pub mod words;
 
 pub use kind::{LotPass, LotRoot};

@@ -50,9 +50,9 @@ impl<V: Keeps> Model for LotWords<V> {
     ghost use Rattle.lot_whole.specs.Rule.{size_of};
     ghost use Rattle.lot_whole.specs.Shown.{LotWordsShown};
 
-    ghost Value = { LotWordsShown };
+    ghost Value = { LotWordsShown V };
 
-    ghost view = { λ s. record { table = s.words.table; size = size_of s.words.key } };
+    ghost view = { λ s. record { table = s.words.table; size = size_of s.words.key; values = s.words.key.values.value.items } };
 }
 
 impl<V: Keeps> OfOpening for LotWords<V> {
