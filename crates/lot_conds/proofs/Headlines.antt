@@ -1,5 +1,6 @@
 -- What keeps the rule keeps the headline.
-use Rattle.std.proofs.Common.{◌≡◌, ℕ, List, subst}
+use Rattle.std.proofs.Common.{◌≡◌, ◌<◌, ℕ, List, subst}
+use Rattle.std.specs.List.{Contains}
 use Rattle.atomic_table.specs.Table.{State}
 use Rattle.lot_rights.specs.declared.views.Right.{Right}
 use Rattle.lot_rights.specs.Rule.{Ruled}
@@ -32,6 +33,9 @@ module _ (n m : ℕ) (w : CondWorld) (ok : Kept n m w) where
     owed_once = λ c. (ok.conds c).owed_once;
   }
 
+  in_line_near : (c t : ℕ) → Contains (w.root c).line t → t < n
+  in_line_near c t h = (at_spot t (queued c) ((ok.threads t).in_line c h)).0.0
+
 pub headline : (size : Size) (s : State (Unit {0}) (List (Right CondPassView CondRootView))) → Ruled (scheme size) s → Headline size s
 headline size s ru = let run = has_one_run (scheme size) s ru in record {
   world = ru.world;
@@ -39,6 +43,7 @@ headline size s ru = let run = has_one_run (scheme size) s ru in record {
   rights = ru.seats;
   in_place = run.once;
   letters = letters_fit size.threads (key_count size) ru.world ru.fits.kept;
+  are_threads = in_line_near size.threads (key_count size) ru.world ru.fits.kept;
   someone_sweeps = λ c. (ru.fits.kept.conds c).swept;
   balanced = λ c. (ru.fits.kept.conds c).ledger;
   log = ru.log;

@@ -6,5 +6,6 @@ pub mod Machine
 pub mod Names
 pub mod Opens
 pub mod Rows
+pub mod Running
 pub mod Takes
 pub mod Turns

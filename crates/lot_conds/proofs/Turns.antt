@@ -15,7 +15,7 @@ use Rattle.lot_rights.specs.declared.views.Access.TheVariants.{Makes, Posts, Col
 use Rattle.lot_rights.specs.declared.views.PassView.{PassView}
 use Rattle.lot_rights.specs.declared.views.RootView.{RootView}
 use Rattle.lot_rights.specs.Layout.{word_at, letter_at}
-use Rattle.lot_rights.specs.World.{Spot, awake, queued, owed, lying, letter_of, letters_of, WordsFit}
+use Rattle.lot_rights.specs.World.{Spot, awake, queued, owed, lying, letter_of, letters_of, IsKeyOf, WordsFit}
 use Rattle.lot_rights.specs.Steps.{Notes, RootNotes, PassTurn, BothTurn, AllowsPass, AllowsBoth, AllowsRoot}
 use Rattle.lot_rights.proofs.Worlds.{same_letters, one_letter, word_written, letter_written}
 use Rattle.lot_conds.specs.declared.views.CondPassView.{CondPassView}
@@ -139,12 +139,13 @@ flag_left f more n line says e some =
 other_sweeps : (o : Option ℕ) (c k : ℕ) → o ≡ Some c → k ≢ c → o ≡ Some k → None ≡ Some k
 other_sweeps o c k e ne f = absurd (ne (let g : Some k ≡ Some c = sym f ∙ e in cc))
 
--- the thread enlists with the lock l
-abbrev pub EnlistsWith : PassView CondPassView → RootView CondRootView → ℕ → PassView CondPassView → RootView CondRootView → Type 0
-EnlistsWith p q l p' q' = Notes p (enlisted p.own q.key) (Makes (Enlist p.thread q.key l) Done) p' × (q' ≡ record q { own = enlisted_root q.own p.thread })
+-- with the lock l
+abbrev pub EnlistsWith : ℕ → PassView CondPassView → RootView CondRootView → PassView CondPassView → RootView CondRootView → Type 0
+EnlistsWith l p q p' q' =
+    Notes p (enlisted p.own q.key) (Makes (Enlist p.thread q.key l) Done) p' × (q' ≡ record q { own = enlisted_root q.own p.thread })
 
 abbrev pub Enlists : PassView CondPassView → RootView CondRootView → PassView CondPassView → RootView CondRootView → Type 0
-Enlists p q p' q' = EnlistsWith p q 0 p' q'
+Enlists = EnlistsWith 0
 
 abbrev pub Calls : PassView CondPassView → RootView CondRootView → ℕ → Bool → PassView CondPassView → RootView CondRootView → Type 0
 Calls p q n more p' q' =
@@ -160,8 +161,10 @@ module _ (size : Size) (p : PassView CondPassView) (q : RootView CondRootView) w
   abbrev c : ℕ
   c = q.key
 
-  pub enlists_with : IsCalm p.own → (l : ℕ) → l < size.locks → AllowsBoth (scheme size) (word_at c) (λ _. 1) p q (λ _. EnlistsWith p q l)
-  enlists_with calm l near w ws hs ok fit root small =
+  enlists_turn : IsCalm p.own → (l : ℕ) → l < size.locks → (w : CondWorld) (ws : List ℕ) (hs : List (maybe.Option (Unit {0}))) → Fits size w ws
+      → (t < size.threads) × (w.pass t ≡ p.own) → IsKeyOf (sizes_of size) c × (w.root c ≡ q.own)
+      → BothTurn (scheme size) (word_at c) 1 p q (EnlistsWith l p q) w ws hs
+  enlists_turn calm l lock w ws hs ok fit root =
       let p1 : CondPassView = enlisted (w.pass t) c in
       let q1 : CondRootView = enlisted_root (w.root c) t in
       let spots : ℕ → Spot = put w.spot t (queued c) in
@@ -181,12 +184,16 @@ module _ (size : Size) (p : PassView CondPassView) (q : RootView CondRootView) w
         root = (root.0, put_same w.root c q1 ∙ ap (λ x. enlisted_root x t) root.1);
         passes = passes_else size w t p1 spots c true q1;
         roots = roots_else size w t p1 spots c true q1;
-        made = (refl, (row_enlist w size t fit.0 c root.0 p1 spots (calm_in size w ok.kept t p.own fit.1 calm) l near q1 refl refl, letters));
+        made = (refl, (row_enlist w size t fit.0 c root.0 p1 spots (calm_in size w ok.kept t p.own fit.1 calm) l lock q1 refl refl, letters));
         told = λ k. ((k, refl), refl);
       }
 
+  pub enlists_with : (l : ℕ) → l < size.locks → IsCalm p.own → AllowsBoth (scheme size) (word_at c) (λ _. 1) p q (λ _. EnlistsWith l p q)
+  enlists_with l lock calm w ws hs ok fit root small = enlists_turn calm l lock w ws hs ok fit root
+
+  -- to a table of conditions alone, which lock it is makes no difference: there is the lock 0
   pub enlists : IsCalm p.own → AllowsBoth (scheme size) (word_at c) (λ _. 1) p q (λ _. Enlists p q)
-  enlists calm w ws hs ok fit root small = enlists_with calm 0 ok.some w ws hs ok fit root small
+  enlists calm w ws hs ok fit root small = enlists_turn calm 0 ok.some w ws hs ok fit root
 
   module _ (calm : IsCalm p.own) (n : ℕ) (more : Bool) (few : IsCallCount n) (says : SaysMoreBehind n q.own.line more) where
     calls : (w : CondWorld) (ws : List ℕ) (hs : List (maybe.Option (Unit {0}))) → Fits size w ws → (fit : (t < size.threads) × (w.pass t ≡ p.own))

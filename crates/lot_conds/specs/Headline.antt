@@ -39,6 +39,8 @@ pub record Headline (size : Size) (s : State (Unit {0}) (List (Right CondPassVie
   pub rights : Seated number (RightFits (scheme size) world) s.views
   pub in_place : (i : ℕ) → IsRight (scheme size) i → times_in number i s.views ≡ 1
   pub letters : LettersFit world
+  -- who is in a line is a thread
+  pub are_threads : (c t : ℕ) → Contains ((part_of world).conds.line c) t → t < size.threads
   -- where the flag is clear and threads are in the line, one thread is about to sweep them
   pub someone_sweeps : (c : ℕ) → (part_of world).conds.flag c ≡ false → (part_of world).conds.line c ≢ [] → (t : ℕ) × ((t < size.threads) × ((part_of world).sweeps t ≡ Some c))
   pub balanced : IsBalanced size.threads world

@@ -4,9 +4,12 @@ ghost use Rattle.std.specs.Prelude.{◌≡◌, ℕ, ◌<◌, List};
 ghost use Rattle.atomic_table.specs.Table.{State};
 ghost use Rattle.lot_core.specs.World.{opening};
 ghost use Rattle.lot_core.specs.Parts.{CondPart, cond_part};
+ghost use Rattle.lot_core.specs.Sound.{IsSoundCondPart};
+ghost use Rattle.lot_events.specs.declared.events.Event.{Event};
 ghost use Rattle.lot_events.specs.declared.events.Event.TheVariants.{Enlist};
 ghost use Rattle.lot_events.specs.declared.events.Seen.{Seen};
 ghost use Rattle.lot_rights.specs.declared.views.Right.{Right};
+ghost use Rattle.lot_rights.specs.History.{ModelRun};
 ghost use Rattle.lot_rights.specs.Rule.{Ruled};
 ghost use Rattle.lot_conds.specs.declared.views.CondPassView.{CondPassView};
 ghost use Rattle.lot_conds.specs.declared.views.CondRootView.{CondRootView};
@@ -17,6 +20,12 @@ ghost use Rattle.lot_conds.specs.Headline.{Headline};
 /// At every moment the headline holds of one world: what keeps the rule keeps all of it.
 pub fn the_rule_is_the_headline()
     ensures { (size : Size) (s : State (Unit {0}) (List (Right CondPassView CondRootView))) → Ruled (scheme size) s → Headline size s }
+{}
+
+/// Every run of the condition part from the opening leads to a sound part: someone sweeps, one line each and once, of threads. So does
+/// the one that `close` tells of.
+pub fn every_run_is_sound()
+    ensures { (size : Size) (events : List (Event × Seen)) (part : CondPart) → ModelRun (IsStep size) opening_part events part → IsSoundCondPart size.threads part }
 {}
 
 /// The history begins at the condition part of the model's opening state.

@@ -1,11 +1,9 @@
 //! Opening: the table, a pass for each thread and a root for each condition.
 ghost use Rattle.std.specs.Prelude.{◌≡◌, ℕ, ◌+◌, ◌<◌, ◌≤◌, [], Some, slice_get, replicate, vec_len, IfOk};
-ghost use Rattle.atomic_table.specs.Table.{opening};
 ghost use Rattle.lot_core.specs.declared.state.TheConstants.{MAX_THREADS, MAX_KEYS};
 ghost use Rattle.lot_rights.specs.Layout.{word_count};
-ghost use Rattle.lot_rights.specs.Rule.{Ruled};
-ghost use Rattle.lot_rights.specs.Start.{all_rights, pass_at, root_at};
-ghost use Rattle.lot_conds.specs.Rule.{scheme};
+ghost use Rattle.lot_rights.specs.Start.{pass_at, root_at, Begins};
+ghost use Rattle.lot_conds.specs.Rule.{key_count, scheme};
 
 use crate::kind::{CondPass, CondRoot};
 use crate::views::Size;
@@ -26,7 +24,7 @@ impl CondWords {
         ensures size { IfOk result (λ r. (r.0.size.threads ≡ threads) × (r.0.size.locks ≡ locks) × (r.0.size.conds ≡ conds)) }
         ensures passes { IfOk result (λ r. (vec_len r.1 ≡ threads) × ((k : ℕ) → k < threads → slice_get r.1.items k ≡ Some (pass_at (scheme r.0.size) r.0.table k))) }
         ensures roots { IfOk result (λ r. (vec_len r.2 ≡ conds) × ((k : ℕ) → k < conds → slice_get r.2.items k ≡ Some (root_at (scheme r.0.size) r.0.table (locks + k)))) }
-        ensures rule { IfOk result (λ r. Ruled (scheme r.0.size) (opening (replicate (word_count threads (locks + conds)) 0) [] (all_rights (scheme r.0.size)))) }
+        ensures rule { IfOk result (λ r. Begins (scheme r.0.size) (replicate (word_count r.0.size.threads (key_count r.0.size)) 0) []) }
     {
         let size = Size {
             threads: threads as u64,

@@ -391,17 +391,23 @@ lock_follows s e ok = record {
   stays = λ other. lock_part_follows s e ok ∙ lock_part_stays (lock_part s) e other;
 }
 
+sleepers_want : (s : World) → IsSound s → SleepersWant s
+sleepers_want s h l t inside = (h.one_line_each.wants l t inside).1
+
+sleepers_wait : (s : World) → IsSound s → (c t : ℕ) → Contains (s.conds.line c) t → Waits s.point c t
+sleepers_wait s h c t inside = (h.one_line_each.waits c t inside).1
+
 pub cond_follows : (s : World) (e : Event) → IsSound s → Allowed s e → CondPartFollows s e
 cond_follows s e h ok =
-    let follows = cond_part_follows s e h.one_line_each.wants ok in
+    let follows = cond_part_follows s e (sleepers_want s h) ok in
     record {
-      steps = λ is. (cond_allowed s e h.one_line_each.waits ok is, cond_seen_follows s e is, follows);
+      steps = λ is. (cond_allowed s e (sleepers_wait s h) ok is, cond_seen_follows s e is, follows);
       stays = λ other. follows ∙ cond_part_stays (cond_part s) e other;
     }
 
 pub semaphore_follows : (s : World) (e : Event) → IsSound s → Allowed s e → SemaphorePartFollows s e
 semaphore_follows s e h ok =
-    let follows = semaphore_part_follows s e h.one_line_each.wants ok in
+    let follows = semaphore_part_follows s e (sleepers_want s h) ok in
     record {
       steps = λ is. (semaphore_allowed s e ok is, semaphore_seen_follows s e is, follows);
       stays = λ other. follows ∙ semaphore_part_stays (semaphore_part s) e other;
@@ -411,7 +417,7 @@ pub lock_part_allows : (s : World) (e : Event) → LockPartAllows s e
 lock_part_allows s e is = ((λ ok. (lock_allowed s e ok is, asked s e ok)), (λ both. lock_allows s e both.0 both.1))
 
 pub cond_part_allows : (s : World) (e : Event) → IsSound s → CondPartAllows s e
-cond_part_allows s e h is = ((λ ok. (cond_allowed s e h.one_line_each.waits ok is, asked s e ok)), (λ both. cond_allows s e both.0 both.1))
+cond_part_allows s e h is = ((λ ok. (cond_allowed s e (sleepers_wait s h) ok is, asked s e ok)), (λ both. cond_allows s e both.0 both.1))
 
 pub semaphore_part_allows : (s : World) (e : Event) → SemaphorePartAllows s e
 semaphore_part_allows s e is = ((λ ok. (semaphore_allowed s e ok is, asked s e ok)), (λ both. semaphore_allows s e both.0 both.1))

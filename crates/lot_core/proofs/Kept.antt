@@ -29,10 +29,11 @@ pub record AreKeysSound (s : World) : Type 0 where
   pub someone_sweeps : SomeoneSweeps s
   pub one_line_each : OneKeyEach s.locks.line s.conds.line s.point
 
--- with it, only threads of the state stand in the locks' lines
+-- with it, only threads of the state stand in their lines
 pub record IsKept (s : World) : Type 0 where
   pub sound : AreKeysSound s
   pub known : (l t : ℕ) → Contains (s.locks.line l) t → IsThread s t
+  pub waiting : (c t : ℕ) → Contains (s.conds.line c) t → IsThread s t
 
 -- it says nothing of the semaphores
 pub sems_kept : (s : World) (z : Semaphores) → IsKept s → IsKept (record s { sems = z })
@@ -45,6 +46,7 @@ sems_kept s z h = record {
     one_line_each = h.sound.one_line_each;
   };
   known = h.known;
+  waiting = h.waiting;
 }
 
 -- t is in no line of a lock or a condition
@@ -156,6 +158,7 @@ move_kept s t p h out tries sweeps = record {
     };
   };
   known = h.known;
+  waiting = h.waiting;
 }
 
 -- t gets the unheld lock l
@@ -176,6 +179,7 @@ got_kept s t l h unheld = record {
     one_line_each = h.sound.one_line_each;
   };
   known = h.known;
+  waiting = h.waiting;
 }
 
 -- l is parked now
@@ -191,6 +195,7 @@ marked_kept s l h = record {
     one_line_each = h.sound.one_line_each;
   };
   known = h.known;
+  waiting = h.waiting;
 }
 
 -- t goes last in l's line
@@ -239,6 +244,7 @@ queued_kept s t l h thread wants out held parked = record {
     | inl a ↦ h.known k u a
     | inr x ↦ subst (λ w. IsThread s w) (sym x.1) thread
   ];
+  waiting = h.waiting;
 }
 
 -- nobody is in the line of an unmarked lock
@@ -266,6 +272,7 @@ freed_kept s t l h has_it unparked = record {
     one_line_each = h.sound.one_line_each;
   };
   known = h.known;
+  waiting = h.waiting;
 }
 
 -- t passes l on where its line is empty
@@ -295,6 +302,7 @@ passed_to_none_kept s t l h has_it empty = record {
     one_line_each = h.sound.one_line_each;
   };
   known = h.known;
+  waiting = h.waiting;
 }
 
 -- the first of a line leaves it
@@ -374,6 +382,7 @@ passed_kept s t l more u rest h has_it is says = record {
     one_line_each = lines_left s l u rest h is;
   };
   known = λ k w inside. h.known k w (left s.locks.line l u rest is k w inside);
+  waiting = h.waiting;
 }
 
 -- t hands l to the first of its line
@@ -405,6 +414,7 @@ handed_kept s t l u rest h has_it is = record {
     one_line_each = lines_left s l u rest h is;
   };
   known = λ k w inside. h.known k w (left s.locks.line l u rest is k w inside);
+  waiting = h.waiting;
 }
 
 -- a thread at the bed of c rests on c once it let go
@@ -443,6 +453,7 @@ let_go_kept s t l h (inr (c, bed)) = subst (λ p. IsKept (move s t p)) (ap relea
     };
   };
   known = h.known;
+  waiting = h.waiting;
 })
 
 -- who tries to get a lock still does where another, at c's bed, joined c's line
@@ -463,8 +474,9 @@ trying_enlisted s t c l u k bed (inr x) =
 abbrev pub with_enlisted : World → ℕ → ℕ → World
 with_enlisted s t c = record s { conds = enlisted s.conds t c }
 
-pub enlisted_kept : (s : World) (t c l : ℕ) → IsKept s → s.point t ≡ Bed c l → IsOutside s t → IsKept (with_enlisted s t c)
-enlisted_kept s t c l h bed out = record {
+pub enlisted_kept : (s : World) (t c l : ℕ) → IsKept s → IsThread s t → s.point t ≡ Bed c l → IsOutside s t →
+    IsKept (with_enlisted s t c)
+enlisted_kept s t c l h thread bed out = record {
   sound = record {
     one_owner = h.sound.one_owner;
     sleepers_are_marked = h.sound.sleepers_are_marked;
@@ -486,6 +498,10 @@ enlisted_kept s t c l h bed out = record {
     };
   };
   known = h.known;
+  waiting = λ d u inside. elim (joined s.conds.line c t d u inside) [
+    | inl a ↦ h.waiting d u a
+    | inr x ↦ subst (λ w. IsThread s w) (sym x.1) thread
+  ];
 }
 
 -- who tries to get a lock still does where lines of conditions only lost threads
@@ -515,6 +531,7 @@ conds_kept s flag line h less once sweeps = record {
     };
   };
   known = h.known;
+  waiting = λ d u inside. h.waiting d u (less d u inside);
 }
 
 -- the first n of c's line leave it, and each flag is clear only where it may be

@@ -1,5 +1,5 @@
 -- Every event that is allowed keeps a sound state sound.
-use Rattle.std.proofs.Common.{◌≡◌, ◌≢◌, ◌⊎◌, ◌+◌, ℕ, Bool, true, false, List, [], ◌∷◌, refl, subst, sym, ap, ◌∙◌, inl, inr}
+use Rattle.std.proofs.Common.{◌≡◌, ◌≢◌, ◌⊎◌, ◌+◌, ◌++◌, ℕ, Bool, true, false, List, [], ◌∷◌, refl, subst, sym, ap, ◌∙◌, inl, inr}
 use Rattle.std.specs.Prelude.{◌&&◌, if◌then◌else◌}
 use Rattle.std.proofs.lemmas.Bool.{and_parts}
 use Rattle.std.proofs.Math.Seq.{drop-length}
@@ -9,14 +9,15 @@ use Rattle.lot_events.specs.declared.events.Event.{Event}
 use Rattle.lot_events.specs.declared.events.Event.TheVariants.{Try, Take, Mark, Park, Free, Pass, Enlist, Look, Call, Lower, Sweep, SemTake, SemMark, SemPark, SemFree, SemPass, SemClear}
 use Rattle.lot_core.specs.Rows.{row_from}
 use Rattle.lot_core.specs.World.{World, put, opening_with}
-use Rattle.lot_core.specs.Steps.{IsThread, IsTrying, IsSeeking, MayLetGo, SaysMore, Allowed, after, Run, after_all, passed_line, swept, handed, let_go}
+use Rattle.lot_core.specs.Steps.{IsThread, IsTrying, IsSeeking, MayLetGo, SaysMore, Allowed, after, Run, after_all, IsReached, passed_line, swept, handed, let_go}
 use Rattle.lot_core.specs.Steps.{with_sem_parked, seeker_queued, permit_taken, permit_freed, permit_passed}
 use Rattle.lot_core.specs.Sound.{IsSound}
-use Rattle.lot_core.specs.Parts.{semaphore_part, semaphore_part_after}
+use Rattle.lot_core.specs.Parts.{sought, semaphore_part, semaphore_part_after}
 use Rattle.lot_core.proofs.Put.{by_bit, by_line, put_same, put_other}
 use Rattle.lot_core.proofs.Members.{once_none, in_none}
 use Rattle.lot_core.proofs.Permits.{IsKeptPart, part_opening}
 use Rattle.lot_core.proofs.Following.{sought_is, part_after, semaphore_part_follows}
+use Rattle.lot_core.proofs.Runs.{run_push, after_push}
 use Rattle.lot_core.proofs.Kept.{IsKept, IsOutside, IsApart, calm_apart, sweeps_apart, seeks_apart, apart_outside, apart_tries_nothing, outside_wants, outside_trying}
 use Rattle.lot_core.proofs.Kept.{trying_one, trying_sweeps_nothing, sems_kept, move, move_kept, with_got, got_kept, marked_kept, with_queued, queued_kept}
 use Rattle.lot_core.proofs.Kept.{with_freed, freed_kept, with_passed_to_none, passed_to_none_kept, with_passed, passed_kept, with_handed, handed_kept}
@@ -109,11 +110,11 @@ pass_kept s t l false more h ok =
     (λ u rest is. let_go_kept (with_passed s t l more rest) t l
     (passed_kept s t l more u rest h ok.2 is (subst (λ xs. SaysMore xs more) is (ok.5 refl))) ok.4)
 
-pub enlist_kept : (s : World) (t c l : ℕ) → IsKept s → s.point t ≡ Calm → IsKept (after s (Enlist t c l))
-enlist_kept s t c l h calm =
+pub enlist_kept : (s : World) (t c l : ℕ) → IsKept s → IsThread s t → s.point t ≡ Calm → IsKept (after s (Enlist t c l))
+enlist_kept s t c l h thread calm =
     let out : IsOutside s t = apart_outside s t Calm h calm_apart calm in
     let at_bed = move_kept s t (Bed c l) h out (λ k clear try. apart_tries_nothing s t k Calm calm_apart calm try) (λ d some e. absurd (cc)) in
-    enlisted_kept (move s t (Bed c l)) t c l at_bed (put_same s.point t (Bed c l)) (record { locks = out.locks; conds = out.conds })
+    enlisted_kept (move s t (Bed c l)) t c l at_bed thread (put_same s.point t (Bed c l)) (record { locks = out.locks; conds = out.conds })
 
 pub lower_kept : (s : World) (t c : ℕ) → IsKept s → IsThread s t → s.point t ≡ Calm → IsKept (after s (Lower t c))
 lower_kept s t c h thread calm =
@@ -151,7 +152,7 @@ keys_kept s (Mark t l) h ok = marked_kept s l h
 keys_kept s (Park t l) h ok = park_kept s t l h ok
 keys_kept s (Free t l) h ok = free_kept s t l h ok
 keys_kept s (Pass t l fair more) h ok = pass_kept s t l fair more h ok
-keys_kept s (Enlist t c l) h ok = enlist_kept s t c l h ok.3
+keys_kept s (Enlist t c l) h ok = enlist_kept s t c l h ok.0 ok.3
 keys_kept s (Look t c) h ok = h
 keys_kept s (Call t c n more) h ok = called_kept s c n more h ok.4
 keys_kept s (Lower t c) h ok = lower_kept s t c h ok.0 ok.2
@@ -162,11 +163,6 @@ keys_kept s (SemPark t k) h ok = sems_kept s (seeker_queued s.sems t k) h
 keys_kept s (SemFree t k) h ok = sems_kept s (permit_freed s.sems t k) h
 keys_kept s (SemPass t k more) h ok = sems_kept s (permit_passed s.sems t k more) h
 keys_kept s (SemClear t k) h ok = sems_kept s (with_sem_parked s.sems k false) h
-
--- what holds of every state that a run can reach
-pub record IsReached (s : World) : Type 0 where
-  pub keys : IsKept s
-  pub sems : IsKeptPart s.threads s.permits (semaphore_part s)
 
 -- no event changes how many threads and permits there are
 pub same_numbers : (s : World) (e : Event) → ((after s e).threads ≡ s.threads) × ((after s e).permits ≡ s.permits)
@@ -188,64 +184,112 @@ same_numbers s (SemFree t k) = (refl, refl)
 same_numbers s (SemPass t k more) = (refl, refl)
 same_numbers s (SemClear t k) = (refl, refl)
 
-pub event_kept : (s : World) (e : Event) → IsReached s → Allowed s e → IsReached (after s e)
-event_kept s e h ok = record {
-  keys = keys_kept s e h.keys ok;
-  sems =
-      let numbers = same_numbers s e in
-      let follows : semaphore_part (after s e) ≡ semaphore_part_after (semaphore_part s) e =
-      semaphore_part_follows s e h.keys.sound.one_line_each.wants ok in
-      subst (λ n. IsKeptPart n (after s e).permits (semaphore_part (after s e))) (sym numbers.0)
-      (subst (λ (p : ℕ → ℕ). IsKeptPart s.threads p (semaphore_part (after s e))) (sym numbers.1)
-      (subst (IsKeptPart s.threads s.permits) (sym follows) (part_after s e h.sems ok)));
-}
-
-pub reached_sound : (s : World) → IsReached s → IsSound s
-reached_sound s h = record {
-  one_owner = h.keys.sound.one_owner;
-  sleepers_are_marked = h.keys.sound.sleepers_are_marked;
-  someone_is_trying = h.keys.sound.someone_is_trying;
-  someone_sweeps = h.keys.sound.someone_sweeps;
-  permits_conserved = λ k. (h.sems k).conserved;
-  seekers_are_marked = λ k. (h.sems k).marked;
-  permits_are_sought = λ k. (h.sems k).sought;
-  one_line_each = record {
-    lock_once = h.keys.sound.one_line_each.lock_once;
-    cond_once = h.keys.sound.one_line_each.cond_once;
-    sem_once = λ k. (h.sems k).once;
-    wants = h.keys.sound.one_line_each.wants;
-    waits = h.keys.sound.one_line_each.waits;
-    seeks = λ k t inside. sought_is (s.point t) k ((h.sems k).named t inside).1;
-  };
-}
-
-pub opening_reached : (threads locks conds : ℕ) (permits : List ℕ) → IsReached (opening_with threads locks conds permits)
-opening_reached threads locks conds permits = record {
-  keys = record {
-    sound = record {
-      one_owner = record { one = λ l t u a b. absurd (cc); some = λ l. ((λ e. absurd (cc)), (λ x. let e = x.1 in absurd (cc))) };
-      sleepers_are_marked = λ l t inside. absurd (in_none t inside);
-      someone_is_trying = λ l clear some. absurd (some refl);
-      someone_sweeps = λ c clear some. absurd (some refl);
-      one_line_each = record {
-        lock_once = λ l. once_none;
-        cond_once = λ c. once_none;
-        wants = λ l t inside. absurd (in_none t inside);
-        waits = λ c t inside. absurd (in_none t inside);
-      };
+-- a sound state, in its two halves
+keys_sound : (s : World) → IsSound s → IsKept s
+keys_sound s h = record {
+  sound = record {
+    one_owner = h.one_owner;
+    sleepers_are_marked = h.sleepers_are_marked;
+    someone_is_trying = h.someone_is_trying;
+    someone_sweeps = h.someone_sweeps;
+    one_line_each = record {
+      lock_once = h.one_line_each.lock_once;
+      cond_once = h.one_line_each.cond_once;
+      wants = λ l t inside. (h.one_line_each.wants l t inside).1;
+      waits = λ c t inside. (h.one_line_each.waits c t inside).1;
     };
-    known = λ l t inside. absurd (in_none t inside);
   };
-  sems = part_opening threads (row_from 0 (locks + conds) permits);
+  known = λ l t inside. (h.one_line_each.wants l t inside).0;
+  waiting = λ c t inside. (h.one_line_each.waits c t inside).0;
 }
 
-pub run_reached : (s : World) (events : List Event) → IsReached s → Run s events → IsReached (after_all s events)
-run_reached s [] h run = h
-run_reached s (e ∷ events) h run = run_reached (after s e) events (event_kept s e h run.0) run.1
+pub sems_sound : (s : World) → IsSound s → IsKeptPart s.threads s.permits (semaphore_part s)
+sems_sound s h k = record {
+  conserved = h.permits_conserved k;
+  marked = h.seekers_are_marked k;
+  sought = h.permits_are_sought k;
+  once = h.one_line_each.sem_once k;
+  named = λ t inside. let is = h.one_line_each.seeks k t inside in (is.0, ap sought is.1);
+}
+
+both_sound : (s : World) → IsKept s → IsKeptPart s.threads s.permits (semaphore_part s) → IsSound s
+both_sound s keys sems = record {
+  one_owner = keys.sound.one_owner;
+  sleepers_are_marked = keys.sound.sleepers_are_marked;
+  someone_is_trying = keys.sound.someone_is_trying;
+  someone_sweeps = keys.sound.someone_sweeps;
+  permits_conserved = λ k. (sems k).conserved;
+  seekers_are_marked = λ k. (sems k).marked;
+  permits_are_sought = λ k. (sems k).sought;
+  one_line_each = record {
+    lock_once = keys.sound.one_line_each.lock_once;
+    cond_once = keys.sound.one_line_each.cond_once;
+    sem_once = λ k. (sems k).once;
+    wants = λ l t inside. (keys.known l t inside, keys.sound.one_line_each.wants l t inside);
+    waits = λ c t inside. (keys.waiting c t inside, keys.sound.one_line_each.waits c t inside);
+    seeks = λ k t inside. let is = (sems k).named t inside in (is.0, sought_is (s.point t) k is.1);
+  };
+}
+
+-- the semaphores' half
+sems_kept_by : (s : World) (e : Event) → IsSound s → Allowed s e → IsKeptPart (after s e).threads (after s e).permits (semaphore_part (after s e))
+sems_kept_by s e h ok =
+    let numbers = same_numbers s e in
+    let follows : semaphore_part (after s e) ≡ semaphore_part_after (semaphore_part s) e =
+    semaphore_part_follows s e (λ l t inside. (h.one_line_each.wants l t inside).1) ok in
+    subst (λ n. IsKeptPart n (after s e).permits (semaphore_part (after s e))) (sym numbers.0)
+    (subst (λ (p : ℕ → ℕ). IsKeptPart s.threads p (semaphore_part (after s e))) (sym numbers.1)
+    (subst (IsKeptPart s.threads s.permits) (sym follows) (part_after s e (sems_sound s h) ok)))
+
+-- an event that is allowed keeps a sound state sound, and so does a run
+pub sound_kept : (s : World) (e : Event) → IsSound s → Allowed s e → IsSound (after s e)
+sound_kept s e h ok = both_sound (after s e) (keys_kept s e (keys_sound s h) ok) (sems_kept_by s e h ok)
+
+pub run_kept : (s : World) (events : List Event) → IsSound s → Run s events → IsSound (after_all s events)
+run_kept s [] h run = h
+run_kept s (e ∷ events) h run = run_kept (after s e) events (sound_kept s e h run.0) run.1
+
+pub opening_sound : (threads locks conds : ℕ) (permits : List ℕ) → IsSound (opening_with threads locks conds permits)
+opening_sound threads locks conds permits = both_sound (opening_with threads locks conds permits) (record {
+  sound = record {
+    one_owner = record { one = λ l t u a b. absurd (cc); some = λ l. ((λ e. absurd (cc)), (λ x. let e = x.1 in absurd (cc))) };
+    sleepers_are_marked = λ l t inside. absurd (in_none t inside);
+    someone_is_trying = λ l clear some. absurd (some refl);
+    someone_sweeps = λ c clear some. absurd (some refl);
+    one_line_each = record {
+      lock_once = λ l. once_none;
+      cond_once = λ c. once_none;
+      wants = λ l t inside. absurd (in_none t inside);
+      waits = λ c t inside. absurd (in_none t inside);
+    };
+  };
+  known = λ l t inside. absurd (in_none t inside);
+  waiting = λ c t inside. absurd (in_none t inside);
+}) (part_opening threads (row_from 0 (locks + conds) permits))
 
 -- every run from an opening state ends in a sound state
 pub runs_are_sound : (threads locks conds : ℕ) (permits : List ℕ) (events : List Event) → Run (opening_with threads locks conds permits) events →
     IsSound (after_all (opening_with threads locks conds permits) events)
 runs_are_sound threads locks conds permits events run =
-    let s : World = opening_with threads locks conds permits in
-    reached_sound (after_all s events) (run_reached s events (opening_reached threads locks conds permits) run)
+    run_kept (opening_with threads locks conds permits) events (opening_sound threads locks conds permits) run
+
+-- so each state that a run reaches is sound
+pub reached_sound : (s : World) → IsReached s → IsSound s
+reached_sound s h = subst IsSound (sym h.ends) (runs_are_sound h.threads h.locks h.conds h.permits h.events h.run)
+
+pub opening_reached : (threads locks conds : ℕ) (permits : List ℕ) → IsReached (opening_with threads locks conds permits)
+opening_reached threads locks conds permits =
+    record { threads = threads; locks = locks; conds = conds; permits = permits; events = []; run = tt; ends = refl }
+
+pub event_kept : (s : World) (e : Event) → IsReached s → Allowed s e → IsReached (after s e)
+event_kept s e h ok =
+    let start : World = opening_with h.threads h.locks h.conds h.permits in
+    record {
+      threads = h.threads;
+      locks = h.locks;
+      conds = h.conds;
+      permits = h.permits;
+      events = h.events ++ e ∷ [];
+      run = run_push start h.events e h.run (subst (λ w. Allowed w e) h.ends ok);
+      ends = ap (λ (w : World). after w e) h.ends ∙ sym (after_push start h.events e);
+    }

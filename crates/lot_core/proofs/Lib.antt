@@ -6,8 +6,11 @@ pub mod Places
 pub mod Owners
 pub mod Permits
 pub mod Kept
+pub mod LockParts
+pub mod CondParts
 pub mod Following
 pub mod Law
+pub mod PartLaws
 pub mod LineRows
 pub mod SemaphoreRows
 pub mod Passes

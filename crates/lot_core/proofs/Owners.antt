@@ -23,37 +23,47 @@ owned_by has t has_it only =
 pub owned_none : (has : ℕ → Bool) → ((u : ℕ) → has u ≡ true → ⊥) → IsOwned false has
 owned_none has none = ((λ u w a b. absurd (none u a)), ((λ e. absurd (cc)), (λ e. absurd (none e.0 e.1))))
 
--- t gets the unheld lock l
+-- t gets it unheld, lets it go, or hands it to u
+pub owned_got : (has : ℕ → Bool) (t : ℕ) → IsOwned false has → IsOwned true (put has t true)
+owned_got has t h =
+    owned_by (put has t true) t (put_same has t true)
+    (at_all (λ u b. (if b then true else has u) ≡ true → u ≡ t) t (λ e. refl)
+    (λ u ne e. let set : false ≡ true = h.1.1 (u, e) in absurd (cc)))
+
+pub owned_left : (held : Bool) (has : ℕ → Bool) (t : ℕ) → IsOwned held has → has t ≡ true → IsOwned false (put has t false)
+owned_left held has t h has_it =
+    owned_none (put has t false)
+    (at_all (λ u b. (if b then false else has u) ≡ true → ⊥) t (λ e. absurd (cc)) (λ u ne e. ne (h.0 u t e has_it)))
+
+pub owned_handed : (held : Bool) (has : ℕ → Bool) (t u : ℕ) → IsOwned held has → has t ≡ true → IsOwned held (put (put has t false) u true)
+owned_handed held has t u h has_it =
+    subst (λ b. IsOwned b (put (put has t false) u true)) (sym (h.1.1 (t, has_it)))
+    (owned_by (put (put has t false) u true) u (put_same (put has t false) u true)
+    (at_all (λ w b. (if b then true else put has t false w) ≡ true → w ≡ u) u (λ e. refl)
+    (at_all (λ w b. w ≢ u → (if b then false else has w) ≡ true → w ≡ u) t (λ ne e. absurd (cc))
+    (λ w other ne e. absurd (other (h.0 w t e has_it))))))
+
+-- the same among all locks
 pub owners_got : (held : ℕ → Bool) (has : ℕ → ℕ → Bool) (l t : ℕ) → OneOwner held has → held l ≡ false →
     OneOwner (put held l true) (put has l (put (has l) t true))
 owners_got held has l t h unheld =
     owners (put held l true) (put has l (put (has l) t true))
     (at_all (λ i b. IsOwned (if b then true else held i) (if b then put (has l) t true else has i)) l
-    (owned_by (put (has l) t true) t (put_same (has l) t true)
-    (at_all (λ u b. (if b then true else has l u) ≡ true → u ≡ t) t (λ e. refl)
-    (λ u ne e. let set : held l ≡ true = (h.some l).1 (u, e) in absurd (cc))))
+    (owned_got (has l) t (subst (λ b. IsOwned b (has l)) unheld (owned held has h l)))
     (λ i ne. owned held has h i))
 
--- t lets l go
 pub owners_left : (held : ℕ → Bool) (has : ℕ → ℕ → Bool) (l t : ℕ) → OneOwner held has → has l t ≡ true →
     OneOwner (put held l false) (put has l (put (has l) t false))
 owners_left held has l t h has_it =
     owners (put held l false) (put has l (put (has l) t false))
     (at_all (λ i b. IsOwned (if b then false else held i) (if b then put (has l) t false else has i)) l
-    (owned_none (put (has l) t false)
-    (at_all (λ u b. (if b then false else has l u) ≡ true → ⊥) t (λ e. absurd (cc))
-    (λ u ne e. ne (h.one l u t e has_it))))
+    (owned_left (held l) (has l) t (owned held has h l) has_it)
     (λ i ne. owned held has h i))
 
--- t hands l to u
 pub owners_handed : (held : ℕ → Bool) (has : ℕ → ℕ → Bool) (l t u : ℕ) → OneOwner held has → has l t ≡ true →
     OneOwner held (put has l (put (put (has l) t false) u true))
 owners_handed held has l t u h has_it =
     owners held (put has l (put (put (has l) t false) u true))
     (at_all (λ i b. IsOwned (held i) (if b then put (put (has l) t false) u true else has i)) l
-    (subst (λ b. IsOwned b (put (put (has l) t false) u true)) (sym ((h.some l).1 (t, has_it)))
-    (owned_by (put (put (has l) t false) u true) u (put_same (put (has l) t false) u true)
-    (at_all (λ w b. (if b then true else put (has l) t false w) ≡ true → w ≡ u) u (λ e. refl)
-    (at_all (λ w b. w ≢ u → (if b then false else has l w) ≡ true → w ≡ u) t (λ ne e. absurd (cc))
-    (λ w other ne e. absurd (other (h.one l w t e has_it)))))))
+    (owned_handed (held l) (has l) t u (owned held has h l) has_it)
     (λ i ne. owned held has h i))

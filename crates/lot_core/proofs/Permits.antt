@@ -8,11 +8,12 @@ use Rattle.std.proofs.lemmas.List.Elements.{Contains-push_cases}
 use Rattle.std.proofs.lemmas.Map.Views.{Contains-from_any, list_any-from_Contains}
 use Rattle.lot_events.specs.declared.events.Event.{Event}
 use Rattle.lot_events.specs.declared.events.Event.TheVariants.{SemTake, SemMark, SemPark, SemFree, SemPass, SemClear}
+use Rattle.lot_events.specs.declared.events.Seen.{Seen}
 use Rattle.lot_core.specs.Sums.{total, bit, count_below}
 use Rattle.lot_core.specs.World.{put, none_taken}
 use Rattle.lot_core.specs.Steps.{SaysMore, none_left, permit_given, seeker_woken}
 use Rattle.lot_core.specs.Sound.{IsOnce, is_seeking, IsSoundSemaphorePart}
-use Rattle.lot_core.specs.Parts.{SemaphorePart, PartSeeks, SemaphoreAllowed, semaphore_part_after}
+use Rattle.lot_core.specs.Parts.{SemaphorePart, PartSeeks, SemaphoreAllowed, semaphore_part_after, SemaphoreStep}
 use Rattle.lot_core.proofs.Sums.{total_same, total_but, total_none, bit_le}
 use Rattle.lot_core.proofs.Put.{by_bit, by_line, at_all, put_same, put_other}
 use Rattle.lot_core.proofs.Members.{in_tail, in_head, in_none, two_from, once_tail, head_left, once_push, once_none}
@@ -312,3 +313,13 @@ part_kept threads low sems permits a (SemPass t k more) h ok = pass_part threads
 part_kept threads low sems permits a (SemClear t k) h ok =
     bit_part threads permits a k false h (clears threads (permits k) k (a.sems.left k) (a.sems.parked k) (a.sems.line k) (a.sems.out k) a.seeks (h k) ok.3)
 part_kept threads low sems permits a _ h ok = absurd ok
+
+-- a step leads from a sound part to a sound part
+pub kept_from_sound : (n : ℕ) (permits : ℕ → ℕ) (a : SemaphorePart) → IsSoundSemaphorePart n permits a → IsKeptPart n permits a
+kept_from_sound n permits a h k =
+    record { conserved = h.permits_conserved k; marked = h.seekers_are_marked k; sought = h.permits_are_sought k; once = h.once k; named = h.seeks k }
+
+pub semaphore_step_sound : (threads low sems : ℕ) (permits : ℕ → ℕ) (a b : SemaphorePart) (e : Event) (saw : Seen) →
+    SemaphoreStep threads low sems a e saw b → IsSoundSemaphorePart threads permits a → IsSoundSemaphorePart threads permits b
+semaphore_step_sound threads low sems permits a b e saw step h = subst (IsSoundSemaphorePart threads permits) (sym step.2)
+    (part_sound threads permits (semaphore_part_after a e) (part_kept threads low sems permits a e (kept_from_sound threads permits a h) step.0))

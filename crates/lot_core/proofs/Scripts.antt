@@ -1,12 +1,11 @@
 -- What has been read of a script, line by line.
-use Rattle.std.proofs.Common.{◌≡◌, ◌≢◌, ◌<◌, ◌≤◌, ◌+◌, ◌++◌, ℕ, List, [], ◌∷◌, length, length-append, Some, None, refl, sym, ap, ◌∙◌, subst, arith, append_assoc, inl, inr}
+use Rattle.std.proofs.Common.{◌≡◌, ◌≢◌, ◌<◌, ◌≤◌, ◌+◌, ◌++◌, ℕ, List, [], ◌∷◌, length, length-append, refl, sym, ap, ◌∙◌, subst, arith, append_assoc, inl, inr}
 use Rattle.std.proofs.lemmas.List.{append-nil, nil_from_length}
 use Rattle.lot_events.specs.declared.events.Event.{Event}
 use Rattle.lot_core.specs.declared.script.Script.{Script}
 use Rattle.lot_core.specs.declared.script.TheConstants.{MAX_LINES}
-use Rattle.lot_core.specs.Script.{Opening, Spells, SpellsAll, SpellsScript, GoodUntil, IsFirstBad}
-use Rattle.lot_core.specs.Reading.{event_at, ReadsOpening}
-use Rattle.lot_events.proofs.Spelled.{event_takes, no_event}
+use Rattle.lot_core.specs.Script.{Opening, Spells, SpellsAll, SpellsScript, GoodUntil, IsFirstBad, BeginsWith, NoEvent, MayWantMemory}
+use Rattle.lot_core.specs.Reading.{ReadsOpening}
 
 -- the first line and these events were read, `number` is the next line's, and `rest` is left
 pub record IsSoFar (text : List ℕ) (n l c : ℕ) (ps : List ℕ) (events : List Event) (rest : List ℕ) (number : ℕ) : Type 0 where
@@ -43,9 +42,8 @@ spells_push lines (x ∷ events) first e (front, spells, (rest, each, parts)) is
 )
 
 pub so_more : (text : List ℕ) (n l c : ℕ) (ps : List ℕ) (events : List Event) (rest : List ℕ) (number : ℕ) (e : Event) (behind : List ℕ) →
-    IsSoFar text n l c ps events rest number → Some (e, behind) ≡ event_at rest → IsSoFar text n l c ps (events ++ e ∷ []) behind (number + 1)
-so_more text n l c ps events rest number e behind so is =
-    let taken = event_takes rest e behind (sym is) in
+    IsSoFar text n l c ps events rest number → BeginsWith rest e behind → IsSoFar text n l c ps (events ++ e ∷ []) behind (number + 1)
+so_more text n l c ps events rest number e behind so taken =
     record {
       first = so.first;
       opens = so.opens;
@@ -82,12 +80,19 @@ pub not_nil : (rest : List ℕ) → 0 < length rest → rest ≢ []
 not_nil rest some e = omega (arith, ap length e)
 
 pub so_bad : (text : List ℕ) (n l c : ℕ) (ps : List ℕ) (events : List Event) (rest : List ℕ) (number : ℕ) →
-    IsSoFar text n l c ps events rest number → number ≤ MAX_LINES + 1 → 0 < length rest → None ≡ event_at rest → IsFirstBad text number
+    IsSoFar text n l c ps events rest number → number ≤ MAX_LINES + 1 → 0 < length rest → NoEvent rest → IsFirstBad text number
 so_bad text n l c ps events rest number so few some none =
-    inr (rest, good_until text n l c ps events rest number so few, not_nil rest some, inl (no_event rest (sym none)))
+    inr (rest, good_until text n l c ps events rest number so few, not_nil rest some, inl none)
 
 pub so_many : (text : List ℕ) (n l c : ℕ) (ps : List ℕ) (events : List Event) (rest : List ℕ) (number : ℕ) →
     IsSoFar text n l c ps events rest number → number ≡ MAX_LINES + 1 → 0 < length rest → IsFirstBad text (MAX_LINES + 1)
 so_many text n l c ps events rest number so last some =
     subst (IsFirstBad text) last
     (inr (rest, good_until text n l c ps events rest number so (omega arith), not_nil rest some, inr last))
+
+-- an event was read, and not kept
+pub so_lacks : (text : List ℕ) (n l c : ℕ) (ps : List ℕ) (events : List Event) (rest : List ℕ) (number : ℕ) (e : Event) (behind : List ℕ) →
+    IsSoFar text n l c ps events rest number → number ≤ MAX_LINES → BeginsWith rest e behind → MayWantMemory text
+so_lacks text n l c ps events rest number e behind so few is =
+    let more = so_more text n l c ps events rest number e behind so is in
+    inr (number + 1, behind, good_until text n l c ps (events ++ e ∷ []) behind (number + 1) more (omega arith), omega (arith, so.count))

@@ -4,7 +4,7 @@ use Rattle.std.specs.Prelude.{IsTrue, ◌==◌}
 use Rattle.std.specs.List.{Contains}
 use Rattle.std.proofs.lemmas.Bool.{cases_lt, eqb-true, eq-eqb, false_from_ne_true}
 use Rattle.lot_events.specs.declared.events.Point.{Point}
-use Rattle.lot_events.specs.declared.events.Point.TheVariants.{Bed, Rest}
+use Rattle.lot_events.specs.declared.events.Point.TheVariants.{Calm, Wants, Bed, Rest, Seeks}
 use Rattle.lot_core.specs.declared.state.State.{State}
 use Rattle.lot_core.specs.World.{World}
 use Rattle.lot_core.specs.Rows.{row}
@@ -15,6 +15,7 @@ use Rattle.lot_core.specs.Semaphores.{sem_count}
 use Rattle.lot_core.specs.Sound.{IsSound, OneOwner, PermitsConserved, is_seeking, Waits, IsOnce, IsSoundLock, IsSoundCond, IsSoundSemaphore}
 use Rattle.lot_core.specs.State.{world_of, owns}
 use Rattle.lot_core.proofs.Members.{in_none, in_head, once_none}
+use Rattle.lot_core.proofs.Rows.{row_past}
 use Rattle.lot_core.proofs.LineRows.{line_outside}
 use Rattle.lot_core.proofs.SemaphoreRows.{conserved}
 use Rattle.lot_core.proofs.Permits.{seeks_outside, seeking_is}
@@ -91,6 +92,17 @@ all_semaphores s each k = elim (cases_lt k s.sems.low) [
   ]
 ]
 
+-- who is not calm is a thread of the state
+near : (s : State) (t : ℕ) → (world_of s).point t ≢ Calm → t < s.threads
+near s t moved = elim (cases_lt t s.threads) [
+  | inl within ↦ within
+  | inr past ↦ absurd (moved (row_past Calm s.points.items t (omega (arith, s.point_each))))
+]
+
+waits_not_calm : (point : ℕ → Point) (c t : ℕ) → Waits point c t → point t ≢ Calm
+waits_not_calm point c t (l, inl bed) e = let no : Calm ≡ Bed c l = sym e ∙ bed in absurd (cc)
+waits_not_calm point c t (l, inr rest) e = let no : Calm ≡ Rest c l = sym e ∙ rest in absurd (cc)
+
 pub sound_from : (s : State) → ((l : ℕ) → IsSoundLock (world_of s) l) → ((c : ℕ) → IsSoundCond (world_of s) c) →
     ((k : ℕ) → IsSoundSemaphore (world_of s) k) → IsSound (world_of s)
 sound_from s locks conds sems = record {
@@ -105,9 +117,9 @@ sound_from s locks conds sems = record {
     lock_once = λ l. (locks l).2;
     cond_once = λ c. (conds c).1;
     sem_once = λ k. (sems k).2;
-    wants = λ l. (locks l).3;
-    waits = λ c. (conds c).2;
-    seeks = λ k. (sems k).3;
+    wants = λ l t inside. let is = (locks l).3 t inside in (near s t (λ e. let no : Calm ≡ Wants l = sym e ∙ is in absurd (cc)), is);
+    waits = λ c t inside. let is = (conds c).2 t inside in (near s t (waits_not_calm (world_of s).point c t is), is);
+    seeks = λ k t inside. let is = (sems k).3 t inside in (near s t (λ e. let no : Calm ≡ Seeks k = sym e ∙ is in absurd (cc)), is);
   };
 }
 
@@ -116,18 +128,18 @@ locks_from s h l = (
   (λ some. let t = first_in ((world_of s).locks.line l) some in h.sleepers_are_marked l t.0 t.1),
   h.someone_is_trying l,
   h.one_line_each.lock_once l,
-  h.one_line_each.wants l,
+  (λ t inside. (h.one_line_each.wants l t inside).1),
 )
 
 pub conds_from : (s : State) → IsSound (world_of s) → (c : ℕ) → IsSoundCond (world_of s) c
-conds_from s h c = (h.someone_sweeps c, h.one_line_each.cond_once c, h.one_line_each.waits c)
+conds_from s h c = (h.someone_sweeps c, h.one_line_each.cond_once c, (λ t inside. (h.one_line_each.waits c t inside).1))
 
 pub semaphores_from : (s : State) → IsSound (world_of s) → (k : ℕ) → IsSoundSemaphore (world_of s) k
 semaphores_from s h k = (
   (λ some. let t = first_in ((world_of s).sems.line k) some in h.seekers_are_marked k t.0 t.1),
   h.permits_are_sought k,
   h.one_line_each.sem_once k,
-  h.one_line_each.seeks k,
+  (λ t inside. (h.one_line_each.seeks k t inside).1),
 )
 
 -- the test of one thread, and one more thread counted

@@ -49,10 +49,13 @@ cond_part s = record { conds = s.conds; sweeps = λ t. swept_by (s.point t) }
 abbrev pub semaphore_part : World → SemaphorePart
 semaphore_part s = record { sems = s.sems; seeks = λ t. sought (s.point t) }
 
--- so far as the lock part tells, t may be trying to get l: it wants nothing, or wants l and is not
--- in l's line
+-- so far as the lock part tells, t is trying to get l: it wants l and is not in l's line
+abbrev pub PartWants : LockPart → ℕ → ℕ → Type 0
+PartWants a t l = (a.wants t ≡ Some l) × (¬ Contains (a.locks.line l) t)
+
+-- and may be trying: it does so, or wants nothing
 abbrev pub MayTry : LockPart → ℕ → ℕ → Type 0
-MayTry a t l = (a.wants t ≡ None) ⊎ ((a.wants t ≡ Some l) × (¬ Contains (a.locks.line l) t))
+MayTry a t l = (a.wants t ≡ None) ⊎ PartWants a t l
 
 -- where an event is allowed, so far as the lock part tells
 abbrev pub LockAllowed : ℕ → ℕ → LockPart → Event → Type 0

@@ -1,11 +1,12 @@
 -- What a script is, and which texts spell it.
-use Rattle.std.specs.Prelude.{◌≡◌, ◌≢◌, ℕ, ◌+◌, ◌<◌, ◌⊎◌, List, [], ◌∷◌, ◌++◌, length, codes, Result, Ok, Err}
+use Rattle.std.specs.Prelude.{◌≡◌, ◌≢◌, ℕ, ◌+◌, ◌<◌, ◌⊎◌, List, [], ◌∷◌, ◌++◌, length, codes, flat_map, Result, Ok, Err}
+use Rattle.std.specs.List.{AllByRecursion}
 use Rattle.lot_events.specs.declared.events.Event.{Event}
 use Rattle.lot_core.specs.declared.script.TheConstants.{MAX_LINES}
 use Rattle.lot_core.specs.declared.script.Script.{Script}
 use Rattle.lot_core.specs.declared.script.ScriptFault.{ScriptFault}
 use Rattle.lot_core.specs.declared.script.ScriptFault.TheVariants.{BadLine, NoMemory}
-pub use Rattle.lot_events.specs.Spelling.{field, line, IsSmall, IsLine, Spells, NoEvent}
+pub use Rattle.lot_events.specs.Spelling.{field, line, IsSmall, IsLine, Spells, BeginsWith, NoEvent}
 
 -- the text is lines that spell these events, one each, in order
 abbrev pub SpellsAll : List ℕ → List Event → Type 0
@@ -50,9 +51,25 @@ IsFirstBad text number =
     ((number ≡ 1) × NoOpening text)
     ⊎ ((rest : List ℕ) × GoodUntil text number rest × (rest ≢ []) × (NoEvent rest ⊎ (number ≡ MAX_LINES + 1)))
 
+-- the text begins as a first line does, and has come to the permits of a first semaphore
+pub record ReachesPermits (text : List ℕ) : Type 0 where
+  pub threads : ℕ
+  pub locks : ℕ
+  pub conds : ℕ
+  pub permits : ℕ
+  pub rest : List ℕ
+  pub small : AllByRecursion IsSmall (threads ∷ locks ∷ conds ∷ permits ∷ [])
+  pub parts : text ≡ codes "open" ++ (flat_map field (threads ∷ locks ∷ conds ∷ permits ∷ []) ++ rest)
+
+-- memory may be wanted for the permits of a first line, and for an event: that of the last of these lines,
+-- all of which are good
+abbrev pub MayWantMemory : List ℕ → Type 0
+MayWantMemory text =
+    ReachesPermits text ⊎ ((number : ℕ) × (rest : List ℕ) × GoodUntil text number rest × (2 < number))
+
 -- what reading a text answers: an accepted script has the numbers and the events that the text's lines
 -- spell
 abbrev pub Reads : List ℕ → Result Script ScriptFault → Type 0
 Reads text (Ok s) = SpellsScript text s.threads s.locks s.conds s.permits.items s.events.items
 Reads text (Err (BadLine number)) = IsFirstBad text number
-Reads text (Err NoMemory) = Unit {0}
+Reads text (Err NoMemory) = MayWantMemory text

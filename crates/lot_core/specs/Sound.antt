@@ -6,7 +6,7 @@ use Rattle.lot_events.specs.declared.events.Point.TheVariants.{Wants, Bed, Rest,
 use Rattle.lot_core.specs.Sums.{total, count_below}
 use Rattle.lot_core.specs.World.{World, Semaphores}
 use Rattle.lot_core.specs.Steps.{IsThread, IsTrying}
-use Rattle.lot_core.specs.Parts.{SemaphorePart, semaphore_part}
+use Rattle.lot_core.specs.Parts.{LockPart, lock_part, CondPart, cond_part, SemaphorePart, semaphore_part, PartWants}
 
 -- each thread but once
 abbrev pub IsOnce : List ℕ → Type 0
@@ -57,14 +57,14 @@ PermitsAreSought threads a = (k : ℕ) → a.sems.line k ≢ [] → a.sems.left 
 abbrev pub Waits : (ℕ → Point) → ℕ → ℕ → Type 0
 Waits point c t = (l : ℕ) × ((point t ≡ Bed c l) ⊎ (point t ≡ Rest c l))
 
--- a thread is in at most one line, once, and its point names that line's key
-pub record OneLineEach (lock_line cond_line sem_line : ℕ → List ℕ) (point : ℕ → Point) : Type 0 where
+-- a thread is in at most one line, once, and its point names that line's key; nobody else is in a line
+pub record OneLineEach (threads : ℕ) (lock_line cond_line sem_line : ℕ → List ℕ) (point : ℕ → Point) : Type 0 where
   pub lock_once : (l : ℕ) → IsOnce (lock_line l)
   pub cond_once : (c : ℕ) → IsOnce (cond_line c)
   pub sem_once : (k : ℕ) → IsOnce (sem_line k)
-  pub wants : (l t : ℕ) → Contains (lock_line l) t → point t ≡ Wants l
-  pub waits : (c t : ℕ) → Contains (cond_line c) t → Waits point c t
-  pub seeks : (k t : ℕ) → Contains (sem_line k) t → point t ≡ Seeks k
+  pub wants : (l t : ℕ) → Contains (lock_line l) t → (t < threads) × (point t ≡ Wants l)
+  pub waits : (c t : ℕ) → Contains (cond_line c) t → (t < threads) × Waits point c t
+  pub seeks : (k t : ℕ) → Contains (sem_line k) t → (t < threads) × (point t ≡ Seeks k)
 
 pub record IsSound (s : World) : Type 0 where
   pub one_owner : OneOwner s.locks.held s.locks.has
@@ -74,15 +74,39 @@ pub record IsSound (s : World) : Type 0 where
   pub permits_conserved : PermitsConserved s.threads s.permits s.sems
   pub seekers_are_marked : SeekersAreMarked s.sems
   pub permits_are_sought : PermitsAreSought s.threads (semaphore_part s)
-  pub one_line_each : OneLineEach s.locks.line s.conds.line s.sems.line s.point
+  pub one_line_each : OneLineEach s.threads s.locks.line s.conds.line s.sems.line s.point
 
--- What of this the semaphore part tells alone.
+-- What of this each part tells alone.
+
+-- of locks: where nobody holds one and its line is not empty, some thread wants it and is not in its line.
+-- In the whole that may be a thread that rests; the part alone always has one that wants the lock
+pub record IsSoundLockPart (threads : ℕ) (a : LockPart) : Type 0 where
+  pub one_owner : OneOwner a.locks.held a.locks.has
+  pub sleepers_are_marked : SleepersAreMarked a.locks.line a.locks.parked
+  pub someone_is_trying : (l : ℕ) → a.locks.held l ≡ false → a.locks.line l ≢ [] → (t : ℕ) × (t < threads) × PartWants a t l
+  pub once : (l : ℕ) → IsOnce (a.locks.line l)
+  pub wants : (l t : ℕ) → Contains (a.locks.line l) t → (t < threads) × (a.wants t ≡ Some l)
+
+-- of conditions: a thread is in at most one line, once, and sweeps nothing there
+pub record IsSoundCondPart (threads : ℕ) (a : CondPart) : Type 0 where
+  pub someone_sweeps : (c : ℕ) → a.conds.flag c ≡ false → a.conds.line c ≢ [] → (t : ℕ) × (t < threads) × (a.sweeps t ≡ Some c)
+  pub once : (c : ℕ) → IsOnce (a.conds.line c)
+  pub one_line : (c d t : ℕ) → Contains (a.conds.line c) t → Contains (a.conds.line d) t → c ≡ d
+  pub waits : (c t : ℕ) → Contains (a.conds.line c) t → (t < threads) × (a.sweeps t ≡ None)
+
+-- of semaphores
 pub record IsSoundSemaphorePart (threads : ℕ) (permits : ℕ → ℕ) (a : SemaphorePart) : Type 0 where
   pub permits_conserved : PermitsConserved threads permits a.sems
   pub seekers_are_marked : SeekersAreMarked a.sems
   pub permits_are_sought : PermitsAreSought threads a
   pub once : (k : ℕ) → IsOnce (a.sems.line k)
   pub seeks : (k t : ℕ) → Contains (a.sems.line k) t → (t < threads) × (a.seeks t ≡ Some k)
+
+-- all three parts of a state
+pub record ArePartsSound (s : World) : Type 0 where
+  pub locks : IsSoundLockPart s.threads (lock_part s)
+  pub conds : IsSoundCondPart s.threads (cond_part s)
+  pub sems : IsSoundSemaphorePart s.threads s.permits (semaphore_part s)
 
 -- The same, key by key.
 

@@ -1,5 +1,5 @@
 -- What a `State` stands for, and what its calls answer.
-use Rattle.std.specs.Prelude.{take, slice_get, Option, Some, None, is_some, ◌≡◌, ◌==◌, ℕ, Bool, false, List, [], length, Result, Ok, Err}
+use Rattle.std.specs.Prelude.{take, slice_get, Option, Some, None, is_some, ◌≡◌, ◌==◌, ◌&&◌, ℕ, Bool, true, false, List, [], length, Result, Ok, Err}
 use Rattle.lot_events.specs.declared.events.Point.{Point}
 use Rattle.lot_events.specs.declared.events.Point.TheVariants.{Calm}
 use Rattle.lot_core.specs.declared.state.State.{State}
@@ -10,7 +10,7 @@ use Rattle.lot_events.specs.declared.events.Event.TheVariants.{Park, Enlist, Sem
 use Rattle.lot_events.specs.declared.events.Seen.{Seen}
 use Rattle.lot_core.specs.Limits.{Limits}
 use Rattle.lot_core.specs.World.{World, put, opening_with}
-use Rattle.lot_core.specs.Steps.{Allowed, Run, after, after_all, seen}
+use Rattle.lot_core.specs.Steps.{Allowed, Run, after, after_all, seen, none_left}
 use Rattle.lot_core.specs.Rows.{told, row, row_from}
 use Rattle.lot_core.specs.Lines.{line_of}
 use Rattle.lot_core.specs.Semaphores.{semaphores_of, permits_of, sem_count}
@@ -62,18 +62,18 @@ with_flag w c flag = record w { conds = record w.conds { flag = put w.conds.flag
 abbrev pub with_cond_line : World → ℕ → List ℕ → World
 with_cond_line w c line = record w { conds = record w.conds { line = put w.conds.line c line } }
 
--- an event for which memory may be wanted
-abbrev pub TakesMemory : Event → Type 0
-TakesMemory (Park t l) = Unit {0}
-TakesMemory (Enlist t c l) = Unit {0}
-TakesMemory (SemPark t k) = Unit {0}
-TakesMemory _ = ⊥
+-- an event for which memory may be wanted: its thread is queued
+abbrev pub TakesMemory : World → Event → Type 0
+TakesMemory s (Park t l) = (s.locks.held l && s.locks.parked l) ≡ true
+TakesMemory s (Enlist t c l) = Unit {0}
+TakesMemory s (SemPark t k) = (none_left s.sems k && s.sems.parked k) ≡ true
+TakesMemory s _ = ⊥
 
 -- what a call answers to an event in state s, where r is the state after it
 abbrev pub Answers : World → Event → Result Seen CoreFault → World → Type 0
 Answers s e (Ok saw) r = Allowed s e × (r ≡ after s e) × (saw ≡ seen s e)
 Answers s e (Err NotEnabled) r = (¬ Allowed s e) × (r ≡ s)
-Answers s e (Err NoMemory) r = Allowed s e × TakesMemory e × (r ≡ s)
+Answers s e (Err NoMemory) r = Allowed s e × TakesMemory s e × (r ≡ s)
 Answers s e (Err BadLimits) r = ⊥
 
 -- what opening a state with these numbers, and the opening numbers of its semaphores, answers

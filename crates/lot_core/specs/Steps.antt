@@ -8,7 +8,7 @@ use Rattle.lot_events.specs.declared.events.Event.TheVariants.{Try, Take, Mark, 
 use Rattle.lot_events.specs.declared.events.Seen.{Seen}
 use Rattle.lot_events.specs.declared.events.Seen.TheVariants.{Bool as Saw, Done, Sleeper, Count}
 use Rattle.lot_events.specs.declared.events.TheConstants.{MAX_CALLED}
-use Rattle.lot_core.specs.World.{World, Locks, Conds, Semaphores, put}
+use Rattle.lot_core.specs.World.{World, Locks, Conds, Semaphores, put, opening_with}
 
 -- who and what there is
 abbrev pub IsThread : World → ℕ → Type 0
@@ -255,3 +255,13 @@ Run s (e ∷ events) = Allowed s e × Run (after s e) events
 abbrev pub after_all : World → List Event → World
 after_all s [] = s
 after_all s (e ∷ events) = after_all (after s e) events
+
+-- a run from an opening state ends in s
+pub record IsReached (s : World) : Type 0 where
+  pub threads : ℕ
+  pub locks : ℕ
+  pub conds : ℕ
+  pub permits : List ℕ
+  pub events : List Event
+  pub run : Run (opening_with threads locks conds permits) events
+  pub ends : s ≡ after_all (opening_with threads locks conds permits) events

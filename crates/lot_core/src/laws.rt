@@ -2,10 +2,12 @@
 //! nothing, whose contracts are the laws.
 ghost use Rattle.std.specs.Prelude.{◌≡◌, ℕ, List};
 ghost use Rattle.lot_events.specs.declared.events.Event.{Event};
+ghost use Rattle.lot_events.specs.declared.events.Seen.{Seen};
 ghost use Rattle.lot_core.specs.World.{World, opening_with};
-ghost use Rattle.lot_core.specs.Steps.{Allowed, Run, after_all};
-ghost use Rattle.lot_core.specs.Sound.{IsSound};
+ghost use Rattle.lot_core.specs.Steps.{Allowed, Run, after, after_all, IsReached};
+ghost use Rattle.lot_core.specs.Sound.{IsSound, IsSoundLockPart, IsSoundCondPart, IsSoundSemaphorePart, ArePartsSound};
 ghost use Rattle.lot_core.specs.Script.{Spells, SpellsScript, IsFirstBad};
+ghost use Rattle.lot_core.specs.Parts.{LockPart, LockStep, CondPart, cond_part, CondStep, SemaphorePart, semaphore_part, SemaphoreStep};
 ghost use Rattle.lot_core.specs.Parts.{LockPartAllows, CondPartAllows, SemaphorePartAllows};
 ghost use Rattle.lot_core.specs.Parts.{LockPartFollows, CondPartFollows, SemaphorePartFollows};
 
@@ -15,6 +17,16 @@ pub fn every_run_is_sound()
     ensures { (threads locks conds : ℕ) (permits : List ℕ) (events : List Event) →
         Run (opening_with threads locks conds permits) events →
         IsSound (after_all (opening_with threads locks conds permits) events) }
+{}
+
+/// An event that is allowed in a sound state leaves a sound state behind, and each opening state is
+/// sound. So is each state that a run from an opening state reaches, and one more event leads from
+/// such a state to another.
+pub fn every_event_keeps_soundness()
+    ensures opening { (threads locks conds : ℕ) (permits : List ℕ) → IsSound (opening_with threads locks conds permits) }
+    ensures event { (s : World) (e : Event) → IsSound s → Allowed s e → IsSound (after s e) }
+    ensures reached { (s : World) → IsReached s → IsSound s }
+    ensures further { (s : World) (e : Event) → IsReached s → Allowed s e → IsReached (after s e) }
 {}
 
 /// An event of the whole is a step of the part that it belongs to, with the same answer, and leaves
@@ -32,6 +44,26 @@ pub fn parts_follow()
     ensures lock_allowed { (s : World) (e : Event) → LockPartAllows s e }
     ensures cond_allowed { (s : World) (e : Event) → IsSound s → CondPartAllows s e }
     ensures semaphore_allowed { (s : World) (e : Event) → SemaphorePartAllows s e }
+{}
+
+/// A step of a part leads from a sound part to a sound part, whatever the other parts do, and the
+/// parts of each opening state are sound: so every run of a part alone keeps it sound.
+///
+/// Of a sound state the condition part and the semaphore part are sound. The lock part need not be:
+/// there a resting thread may be the one that tries to get a lock, and the lock part does not tell
+/// who rests. Of a state that a run reaches it is.
+pub fn every_step_keeps_its_part_sound()
+    ensures opening { (threads locks conds : ℕ) (permits : List ℕ) → ArePartsSound (opening_with threads locks conds permits) }
+    ensures lock_part { (threads locks : ℕ) (a b : LockPart) (e : Event) (saw : Seen) →
+        LockStep threads locks a e saw b → IsSoundLockPart threads a → IsSoundLockPart threads b }
+    ensures cond_part { (threads locks conds : ℕ) (a b : CondPart) (e : Event) (saw : Seen) →
+        CondStep threads locks conds a e saw b → IsSoundCondPart threads a → IsSoundCondPart threads b }
+    ensures semaphore_part { (threads low sems : ℕ) (permits : ℕ → ℕ) (a b : SemaphorePart) (e : Event) (saw : Seen) →
+        SemaphoreStep threads low sems a e saw b →
+        IsSoundSemaphorePart threads permits a → IsSoundSemaphorePart threads permits b }
+    ensures whole { (s : World) → IsSound s →
+        IsSoundCondPart s.threads (cond_part s) × IsSoundSemaphorePart s.threads s.permits (semaphore_part s) }
+    ensures reached { (s : World) → IsReached s → ArePartsSound s }
 {}
 
 /// A text that spells a script has no bad line, and spells no other script: so

@@ -47,7 +47,8 @@ mod semaphores;
 mod sound;
 pub mod state;
 
-pub use laws::{every_run_is_sound, parts_follow, spelled_scripts_are_read};
+pub use laws::{every_event_keeps_soundness, every_run_is_sound, every_step_keeps_its_part_sound};
+pub use laws::{parts_follow, spelled_scripts_are_read};
 pub use lot_events::{Event, MAX_CALLED, Point, Seen};
 pub use printing::print_state;
 pub use script::{MAX_LINES, Script, ScriptFault, parse_script};

@@ -14,7 +14,7 @@
 //! | `some T K N M`, `call T K M` | of thread T on condition K, count N (`call`: 1), more M |
 //! | `stake T K`, `smark T K`, `spark T K`, `sfree T K`, `sclear T K` | of thread T on semaphore K |
 //! | `spass T K M` | of thread T on semaphore K, more M |
-ghost use Rattle.std.specs.Prelude.{◌≡◌, IfOk, IfErr, Err, None};
+ghost use Rattle.std.specs.Prelude.{◌≡◌, ℕ, List, IfOk, IfErr, Err, Some, None};
 
 use lot_events::Event;
 use lot_events::reading::{end, event_of, field, opening};
@@ -58,6 +58,7 @@ ghost use Rattle.lot_core.specs.Reading.{field_at, ReadsNumbers, ReadsOpening};
 fn numbers(alloc: Global, text: &[u8]) -> Result<(Vec<u32>, &[u8]), AllocError>
     ensures read { IfOk result (λ x. ReadsNumbers text.now x.0.items x.1.now) }
     ensures all { IfOk result (λ x. field_at x.1.now ≡ None) }
+    ensures some { IfErr result (λ e. (n : ℕ) × (rest : List ℕ) × (field_at text.now ≡ Some (n, rest))) }
 {
     let mut numbers = Vec::new(alloc);
     let mut rest = text;

@@ -8,7 +8,7 @@ use Rattle.lot_events.specs.declared.events.Event.{Event}
 use Rattle.lot_events.specs.declared.events.Event.TheVariants as event
 use Rattle.lot_events.specs.declared.reading.Kind.{Kind}
 use Rattle.lot_events.specs.declared.reading.Kind.TheVariants.{Try, Take, Mark, Park, Free, Pass, Enlist, Look, Call, CallSome, Lower, Sweep, SemTake, SemMark, SemPark, SemFree, SemPass, SemClear}
-use Rattle.lot_events.specs.Spelling.{bit, field, line, IsSmall, IsLine, Spells, NoEvent}
+use Rattle.lot_events.specs.Spelling.{bit, field, line, IsSmall, IsLine, Spells, BeginsWith, NoEvent}
 use Rattle.lot_events.specs.Reading.{rest_behind, kind_word, kinds, first_of, or_else, field_at, flag_at, end_at, last_at, event_at}
 use Rattle.lot_events.proofs.Cases.{by_bit}
 use Rattle.lot_events.proofs.Figures.{bind_is, bind_some, some_is, Ends, field_takes, field_again, flag_takes, flag_again, end_takes, end_again, bit_small}
@@ -142,8 +142,7 @@ line_read w t x more text a b c rest behind in_text in_a in_b in_c in_rest =
     in_text ∙ ap (λ r. w ++ r) (in_a ∙ ap (λ r. field t ++ r) (in_b ∙ ap (λ r. field x ++ r) (in_c ∙ ap (λ r. flat_map field more ++ r) in_rest)))
     ∙ sym (regroup w (field t) (field x) (flat_map field more) behind)
 
-pub event_takes : (text : List ℕ) (e : Event) (rest : List ℕ) → event_at text ≡ Some (e, rest) →
-    (first : List ℕ) × Spells first e × (text ≡ first ++ rest)
+pub event_takes : (text : List ℕ) (e : Event) (rest : List ℕ) → event_at text ≡ Some (e, rest) → BeginsWith text e rest
 unfolding event_at
 event_takes text e rest is =
     let kind = bind_some _ (first_of kinds text) (e, rest) is in

@@ -48,6 +48,10 @@ Spells text (SemFree t k) = IsLine (codes "sfree") (t ∷ k ∷ []) text
 Spells text (SemPass t k more) = IsLine (codes "spass") (t ∷ k ∷ bit more ∷ []) text
 Spells text (SemClear t k) = IsLine (codes "sclear") (t ∷ k ∷ []) text
 
+-- a line that spells e stands at the front, and `rest` behind it
+abbrev pub BeginsWith : List ℕ → Event → List ℕ → Type 0
+BeginsWith text e rest = (first : List ℕ) × Spells first e × (text ≡ first ++ rest)
+
 -- no line of an event stands at the front
 abbrev pub NoEvent : List ℕ → Type 0
 NoEvent text = (e : Event) (first more : List ℕ) → Spells first e → text ≡ first ++ more → ⊥

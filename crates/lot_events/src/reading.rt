@@ -1,5 +1,5 @@
 //! The lines of a script, read from left to right.
-ghost use Rattle.std.specs.Prelude.{◌≡◌, ◌+◌, ◌*◌, ◌<◌};
+ghost use Rattle.std.specs.Prelude.{◌≡◌, ◌+◌, ◌*◌, ◌<◌, IfSome, IfNone};
 ghost use Rattle.std.specs.Option.{option_map};
 
 use crate::events::Event;
@@ -50,6 +50,7 @@ const KINDS: [Kind; 18] = [
 
 ghost use Rattle.lot_events.specs.declared.reading.Kind.TheVariants as Kind;
 ghost use Rattle.lot_events.specs.Reading.{kind_word, rest_behind, one_more, number_at, field_at, flag_at, end_at, first_of, kinds, last_at, event_at, open_at};
+ghost use Rattle.lot_events.specs.Spelling.{BeginsWith, NoEvent};
 
 fn word_of(kind: Kind) -> &'static [u8]
     ensures { result.now ≡ kind_word kind }
@@ -251,9 +252,9 @@ fn last(kind: Kind, thread: usize, key: usize, text: &[u8]) -> Option<(Event, &[
     }
 }
 
-/// The event that the first line spells, and what stands behind that line.
+// The word, the numbers and the end of the first line, each read from the front of what is left.
 #[tactic(auto, unfolding(crate::specs::Reading::event_at))]
-pub fn event_of(text: &[u8]) -> Option<(Event, &[u8])>
+fn event_read(text: &[u8]) -> Option<(Event, &[u8])>
     ensures { option_map (λ x. (x.0, x.1.now)) result ≡ event_at text.now }
 {
     let (kind, text) = kind_at(text)?;
@@ -262,6 +263,15 @@ pub fn event_of(text: &[u8]) -> Option<(Event, &[u8])>
     let (event, text) = last(kind, thread, key, text)?;
     let text = end(text)?;
     Some((event, text))
+}
+
+/// The event that the first line spells, and what stands behind that line.
+#[tactic(auto, using(crate::proofs::Spelled::event_takes, crate::proofs::Spelled::no_event))]
+pub fn event_of(text: &[u8]) -> Option<(Event, &[u8])>
+    ensures some { IfSome result (λ x. BeginsWith text.now x.0 x.1.now) }
+    ensures none { IfNone result (NoEvent text.now) }
+{
+    event_read(text)
 }
 
 /// The numbers of threads, locks and conditions that open a script, and what stands behind them.

@@ -47,7 +47,7 @@ module _ {V Part : Type 0} (rule : CallersRule V Part) where
     aimless = o.aimless;
     awake = o.awake;
     value = o.value;
-    found = found_as rule key key now.thread before.thread now.own before.own o.value refl s.thread s.seen o.found;
+    found = found_as rule key key now.thread before.thread now.own before.own o.value refl s.thread s.holds s.places s.seen o.found;
     places = o.places ∙ ap (λ places. slice_set places key (InSlot o.value)) s.places;
     seen = o.seen ∙ ap (λ seen. slice_set seen key o.value) s.seen;
     released = o.released ∙ s.released;

@@ -1,5 +1,5 @@
 -- How a pass stands that slept in a lock's line and found its letter.
-use Rattle.std.proofs.Common.{◌≡◌, ℕ, zero, suc, ◌==◌, sym, ap, subst, ◌∙◌, arith, slice_set, MatchBool, Some}
+use Rattle.std.proofs.Common.{◌≡◌, ◌<◌, ℕ, zero, suc, ◌==◌, length, sym, ap, subst, ◌∙◌, arith, slice_set, MatchBool, Some}
 use mathlib.Core.Option.{some}
 use lib.ListN.{get_elem?}
 use Rattle.lot_park.specs.Parking.{LooksInVain, Awaited}
@@ -20,10 +20,16 @@ module _ {V Part : Type 0} (rule : CallersRule V Part) where
   collected p q token a = subst (λ z. IsCollected rule z token q) (same_in_vain a.looks p a.last a.in_vain) a.found
 
   -- of the same lock, thread and knowledge the same was found
-  pub found_as : (l k t u : ℕ) (p q : LockPassView V) (x : V) → l ≡ k → t ≡ u → p.seen ≡ q.seen → FoundOk rule l t p x → FoundOk rule k u q x
-  found_as l k t u p q x e f g h =
+  pub found_as : (l k t u : ℕ) (p q : LockPassView V) (x : V) → l ≡ k → t ≡ u → p.holds ≡ q.holds → p.places ≡ q.places → p.seen ≡ q.seen
+      → FoundOk rule l t p x → FoundOk rule k u q x
+  found_as l k t u p q x e f holds places g h =
       let at : FoundOk rule k u p x = subst (λ n. FoundOk rule n u p x) e (subst (λ n. FoundOk rule l n p x) f h) in
       record {
+        tells = record {
+          holds = subst (λ xs. k < length xs) holds at.tells.holds;
+          places = subst (λ xs. k < length xs) places at.tells.places;
+          seen = subst (λ xs. k < length xs) g at.tells.seen;
+        };
         kept = at.kept;
         grown = λ s has. at.grown s (subst (λ z. get_elem? z k ≡ some s) (sym g) has);
         mine = λ s has. at.mine s (subst (λ z. get_elem? z k ≡ some s) (sym g) has);
@@ -49,7 +55,7 @@ module _ {V Part : Type 0} (rule : CallersRule V Part) where
         aimless = ap (λ (r : Standing V). r.own.aim) is;
         awake = ap (λ (r : Standing V). r.own.asleep) is;
         value = x;
-        found = found_as l key mid.thread before.thread mid.own before.own x same s.thread s.seen found;
+        found = found_as l key mid.thread before.thread mid.own before.own x same s.thread s.holds s.places s.seen found;
         places = ap (λ (r : Standing V). r.own.places) is ∙ (λ i. slice_set (s.places i) (same i) (InSlot x));
         seen = ap (λ (r : Standing V). r.own.seen) is ∙ (λ i. slice_set (s.seen i) (same i) x);
         released = ap (λ (r : Standing V). r.released) is ∙ s.released;

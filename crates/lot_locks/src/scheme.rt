@@ -105,7 +105,7 @@ impl<V: Keeps, N: Name> Model for LockScheme<V, N> {
     ghost use Rattle.lot_words.specs.Shown.{LockWordsShown};
     ghost use Rattle.std.specs.Prelude.{◌≡◌};
 
-    ghost Value = { LockWordsShown };
+    ghost Value = { LockWordsShown V };
 
     ghost view = { λ s. s.words };
 

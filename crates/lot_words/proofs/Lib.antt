@@ -12,6 +12,7 @@ pub mod Opens
 pub mod Owning
 pub mod Roots
 pub mod Rows
+pub mod Running
 pub mod Shelves
 pub mod Turns
 pub mod Valuing

@@ -1,11 +1,16 @@
 use Rattle.std.proofs.Common.{sym, refl, inl, ◌∷◌}
 use Rattle.std.specs.Prelude.{codes}
 use Rattle.lot_core.specs.Script.{line}
-use Rattle.lot_core.proofs.Openings.{no_opening, no_end, opening_takes}
+use Rattle.lot_core.proofs.Openings.{no_opening, no_end, opening_takes, reaches_permits}
 use Rattle.lot_core.proofs.script.first_line.Goals as goal
 
 pub returns-in-None-clause-err : goal.returns-in-None-clause-err
 returns-in-None-clause-err c = inl (refl, no_opening c.args.text.now (sym c.in-None.ensures))
+
+pub returns-in-Err-clause-err : goal.returns-in-Err-clause-err
+returns-in-Err-clause-err c =
+    let found = c.in-Err.ensures.some in
+    inl (reaches_permits c.args.text.now c.in-Some.threads c.in-Some.locks c.in-Some.conds c.in-Some.rest.now found.0 found.1 (sym c.in-Some.ensures) found.2)
 
 pub returns-in-None-end-clause-err : goal.returns-in-None-end-clause-err
 returns-in-None-end-clause-err c =

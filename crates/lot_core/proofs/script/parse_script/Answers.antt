@@ -1,6 +1,6 @@
 use Rattle.std.proofs.Common.{◌+◌, sym, subst, rules, arith}
 use Rattle.lot_core.specs.Reading.{ReadsOpening}
-use Rattle.lot_core.proofs.Scripts.{IsSoFar, so_first, so_more, so_done, so_bad, so_many}
+use Rattle.lot_core.proofs.Scripts.{IsSoFar, so_first, so_more, so_done, so_bad, so_many, so_lacks}
 use Rattle.lot_core.proofs.script.parse_script.Goals as goal
 
 pub loop-number-init : goal.loop-number-init
@@ -19,7 +19,7 @@ pub returns-in-None : goal.returns-in-None
 returns-in-None c =
     let s = c.loop-number.script in
     so_bad c.args.text.now s.threads s.locks s.conds s.permits.items s.events.items c.loop-number.rest.now c.loop-number.number
-    c.loop-number.invariant (omega arith) (search rules) c.in-None.ensures
+    c.loop-number.invariant (omega arith) (search rules) c.in-None.ensures.none
 
 pub loop-number-preserved : goal.loop-number-preserved
 loop-number-preserved c =
@@ -27,7 +27,13 @@ loop-number-preserved c =
     subst (λ events. IsSoFar c.args.text.now s.threads s.locks s.conds s.permits.items events c.in-Some.behind.now (c.loop-number.number + 1))
     (sym c.in-Ok.ensures.items)
     (so_more c.args.text.now s.threads s.locks s.conds s.permits.items s.events.items c.loop-number.rest.now c.loop-number.number
-    c.in-Some.event c.in-Some.behind.now c.loop-number.invariant c.in-Some.ensures)
+    c.in-Some.event c.in-Some.behind.now c.loop-number.invariant c.in-Some.ensures.some)
+
+pub returns-in-Err : goal.returns-in-Err
+returns-in-Err c =
+    let s = c.loop-number.script in
+    so_lacks c.args.text.now s.threads s.locks s.conds s.permits.items s.events.items c.loop-number.rest.now c.loop-number.number
+    c.in-Some.event c.in-Some.behind.now c.loop-number.invariant (omega arith) c.in-Some.ensures.some
 
 pub returns-then-not-is_empty : goal.returns-then-not-is_empty
 returns-then-not-is_empty c =
