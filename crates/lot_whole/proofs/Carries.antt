@@ -303,8 +303,8 @@ module _ {V Part : Type 0} (rule : CallersRule V Part) (z : LotSize) (xs : List 
   -- ---- conditions, with their roots
   module _ (p : PassView (LotPassView V)) (q : RootView CondRootView) where
     pub enlists : IsIdle p.own → (l : ℕ) → l < z.locks → Holds p.own.locks l → AllowsBoth (lot_scheme rule z xs) (word_at q.key) (λ _. 1) p (whole_root cond q) (λ _. Enlists p q l)
-    enlists idle l near holds = lifts_both rule z xs cond (λ _. 1) p q (λ _. conds.EnlistsWith (part_pass cond p) q l) (λ _. Enlists p q l)
-        (conds.enlists_with (cond_size z) (part_pass cond p) q (idle_calms p.own idle) l near)
+    enlists idle l near holds = lifts_both rule z xs cond (λ _. 1) p q (λ _. conds.EnlistsWith l (part_pass cond p) q) (λ _. Enlists p q l)
+        (conds.enlists_with (cond_size z) (part_pass cond p) q l near (idle_calms p.own idle))
         (λ n own its a told. carry_both cond p q (enlisted p.own.conds q.key) (enlisted_root q.own p.thread) (Makes (Enlist p.thread q.key l) Done) (Enlists p q l)
         (λ up. inr (λ k ne. idle.0.up k))
         (λ w ws hs ok fit root. (tt, (idle_calm rule z xs w ws hs ok p.thread p.own fit idle, has rule z xs w ws hs ok p.thread p.own fit l holds))) (λ k. ((k, refl), refl)) own its a (told 0).0 (told 0).1)

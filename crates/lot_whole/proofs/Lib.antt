@@ -6,4 +6,6 @@ pub mod Slots
 pub mod Tells
 pub mod Carries
 pub mod Letters
+pub mod Moments
+pub mod Opens
 pub mod Names

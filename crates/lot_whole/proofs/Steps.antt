@@ -6,9 +6,9 @@ use mathlib.Core.Logic.{dite}
 use mathlib.Core.Path.{fun_ext}
 use native.Mathlib.Decide.{ℕ_discrete}
 use Rattle.lot_core.specs.World.{World, put}
-use Rattle.lot_core.specs.Steps.{after}
+use Rattle.lot_core.specs.Steps.{after, IsReached}
 use Rattle.lot_core.specs.Rows.{told}
-use Rattle.lot_core.proofs.Law.{IsReached, event_kept}
+use Rattle.lot_core.proofs.Law.{event_kept, reached_sound}
 use Rattle.lot_core.proofs.Put.{put_same, put_other, put_again}
 use Rattle.lot_events.specs.declared.events.Point.{Point}
 use Rattle.lot_events.specs.declared.events.Seen.{Seen}
@@ -24,11 +24,11 @@ use Rattle.lot_whole.specs.declared.views.LotRootView.{LotRootView}
 use Rattle.lot_whole.specs.declared.views.LotRootView.TheVariants.{Lock, Cond, Sem}
 use Rattle.lot_whole.specs.declared.views.Stand.{Stand}
 use Rattle.lot_whole.specs.Family.{Which, lock, cond, sem, LotSize, IsKeyIn, PassIn, RootIn, away, homes_in, scheme_of, part_in, dput}
-use Rattle.lot_whole.specs.Whole.{stand_of, moves, moves_by, whole_by, counts_in, counts_of}
+use Rattle.lot_whole.specs.Whole.{Stands, stand_of, moves, moves_by, whole_by, counts_in, counts_of}
 use Rattle.lot_whole.specs.Lot.{own_of, pass_from, root_from, sum_of, LotWorld, letters_in, PassOk, LotFits, LotRootIs, lot_scheme}
 use Rattle.lot_whole.specs.Lifts.{lot_own, MayBeAway, Quiet, Speaks, InPlace}
 use Rattle.lot_whole.proofs.Family.{dput_elim, dput_two, dput_same, three_same, three_one, key_near, letter_near, keys_apart, key_in, letter_in_kind, wide_in, letter_in, word_is}
-use Rattle.lot_whole.proofs.Whole.{counts_after, joins, Stands, stands_move}
+use Rattle.lot_whole.proofs.Whole.{counts_after, joins, stands_move}
 
 pub own_from : (V : Type 0) (f : (j : Which) → PassIn V j) (s : Stand) (k : Which) → own_of V (pass_from V f s) k ≡ f k
 own_from V f s lock = refl
@@ -171,7 +171,7 @@ module _ {V Part : Type 0} (rule : CallersRule V Part) (z : LotSize) (xs : List 
             moved = λ t by. let same : maker e ≡ t = omega (arith, by) in
                 subst (λ u. Stands w.whole u (after w.whole e).point (moves e saw (stand_of (w.whole.point u)))) same
                 (subst (λ s. Stands w.whole (maker e) (after w.whole e).point (moves e s (stand_of (w.whole.point (maker e))))) (sym joined.saw_is)
-                (stands_move w.whole e ok.reached.keys.sound.one_line_each.wants));
+                (stands_move w.whole e (λ l u h. ((reached_sound w.whole ok.reached).one_line_each.wants l u h).1)));
             rests = λ c by. absurd (omega (arith, by));
           }
       gone (Posts c u n) goes speaks = record {

@@ -3,11 +3,11 @@ use Rattle.std.proofs.Common.{◌≡◌, ◌≢◌, ℕ, Bool, true, false, List
 use Rattle.std.specs.Prelude.{not, ◌+◌, if◌then◌else◌}
 use Rattle.std.specs.List.{Contains}
 use Rattle.lot_core.specs.World.{World, put}
-use Rattle.lot_core.specs.Steps.{Allowed, after, seen, released, let_go, handed, none_left}
+use Rattle.lot_core.specs.Steps.{Allowed, after, seen, released, let_go, handed, none_left, IsReached}
 use Rattle.lot_core.specs.Rows.{told}
 use Rattle.lot_core.specs.Parts.{AsksOfThread, LockAllowed, CondAllowed, SemaphoreAllowed, lock_part, cond_part, semaphore_part}
 use Rattle.lot_core.specs.Sound.{IsSound}
-use Rattle.lot_core.proofs.Law.{IsReached, reached_sound}
+use Rattle.lot_core.proofs.Law.{reached_sound}
 use Rattle.lot_core.proofs.Following.{SleepersWant, lock_follows, cond_follows, semaphore_follows, lock_part_allows, cond_part_allows, semaphore_part_allows}
 use Rattle.lot_core.proofs.Members.{in_head}
 use Rattle.lot_core.proofs.Put.{by_bit, put_again, told_put, told_same}
@@ -23,7 +23,7 @@ use Rattle.lot_words.specs.CallersRule.{CallersRule}
 use Rattle.lot_whole.specs.declared.views.Stand.{Stand}
 use Rattle.lot_whole.specs.declared.views.Stand.TheVariants.{Idle, AtBed, AtRest}
 use Rattle.lot_whole.specs.Family.{Which, lock, cond, sem, LotSize, scheme_of, part_in, IsEventIn}
-use Rattle.lot_whole.specs.Whole.{stand_of, rises, moves, Counts, counts_in, counts_of}
+use Rattle.lot_whole.specs.Whole.{Joined, Joins, Stands, StandsMove, stand_of, rises, moves, Counts, counts_in, counts_of}
 
 -- ---- no event changes how many there are
 pub counts_after : (s : World) (e : Event) → counts_in (after s e) ≡ counts_in s
@@ -98,13 +98,6 @@ module _ {V Part : Type 0} (rule : CallersRule V Part) (z : LotSize) (xs : List 
   others_stay s e sound ok cond other = (cond_follows s e sound ok).stays other
   others_stay s e sound ok sem other = (semaphore_follows s e sound ok).stays other
 
-  -- what a step of one kind is to the whole
-  pub record Joined (j : Which) (s : World) (e : Event) (saw : Seen) (b : (scheme_of rule z xs j).Part) : Type 0 where
-    pub allowed : Allowed s e
-    pub saw_is : saw ≡ seen s e
-    pub part : part_in rule z xs j (after s e) ≡ b
-    pub others : (k : Which) → k ≢ j → part_in rule z xs k (after s e) ≡ part_in rule z xs k s
-
   module _ (s : World) (e : Event) (saw : Seen) (reached : IsReached s) (counts : counts_in s ≡ counts_of z) (asks : AsksOfThread s e) where
     sound : IsSound s
     sound = reached_sound s reached
@@ -112,7 +105,7 @@ module _ {V Part : Type 0} (rule : CallersRule V Part) (z : LotSize) (xs : List 
     others : (j : Which) → IsEventIn j e → Allowed s e → (k : Which) → k ≢ j → part_in rule z xs k (after s e) ≡ part_in rule z xs k s
     others j is ok k ne = others_stay s e sound ok k (λ here. ne (one_kind k j e here is))
 
-    pub joins : (j : Which) (b : (scheme_of rule z xs j).Part) → IsEventIn j e → (scheme_of rule z xs j).Step (part_in rule z xs j s) e saw b → Joined j s e saw b
+    pub joins : (j : Which) (b : (scheme_of rule z xs j).Part) → IsEventIn j e → (scheme_of rule z xs j).Step (part_in rule z xs j s) e saw b → Joined rule z xs j s e saw b
     joins lock b is step =
         let here : LockAllowed s.threads s.lock_count (lock_part s) e = subst (λ (c : Counts). LockAllowed c.threads c.locks (lock_part s) e) (sym counts) step.0 in
         let ok : Allowed s e = (lock_part_allows s e is).1 (here, asks) in
@@ -138,10 +131,6 @@ rises_is (Bed c l) = refl
 rises_is (Rest c l) = refl
 rises_is (Sweeps c) = refl
 rises_is (Seeks k) = refl
-
--- t alone stands so from then on
-abbrev pub Stands : World → ℕ → (ℕ → Point) → Stand → Type 0
-Stands s t point to = told stand_of point ≡ put (told stand_of s.point) t to
 
 stays_put : (s : World) (t : ℕ) → Stands s t s.point (stand_of (s.point t))
 stays_put s t = sym (put_again (told stand_of s.point) t)
@@ -185,3 +174,10 @@ stands_move s (SemPark t k) want = stays_put s t
 stands_move s (SemFree t k) want = stays_put s t
 stands_move s (SemPass t k more) want = stays_put s t
 stands_move s (SemClear t k) want = stays_put s t
+
+-- ---- the laws
+pub parts_join : {V Part : Type 0} (rule : CallersRule V Part) (z : LotSize) (xs : List V) → Joins rule z xs
+parts_join rule z xs j s e saw b reached counts is asks step = joins rule z xs s e saw reached counts asks j b is step
+
+pub all_move : StandsMove
+all_move s e reached = stands_move s e (λ l t h. ((reached_sound s reached).one_line_each.wants l t h).1)

@@ -6,5 +6,6 @@ pub mod Rule
 pub mod Lifts
 pub mod Standing
 pub mod Calls
+pub mod Headline
 -- a part of these
 pub mod Shown

@@ -4,7 +4,7 @@ use Rattle.std.specs.List.{Contains}
 use Rattle.std.proofs.Common.{sym, ◌∙◌}
 use mathlib.Core.Option as maybe
 use Rattle.lot_core.specs.World.{World}
-use Rattle.lot_core.proofs.Law.{IsReached}
+use Rattle.lot_core.specs.Steps.{IsReached}
 use Rattle.lot_rights.specs.Layout.{word_at, letter_at, word_count}
 use Rattle.lot_rights.specs.Rule.{Scheme}
 use Rattle.lot_rights.specs.Settled.{HasOneOutcome}

@@ -1,7 +1,7 @@
 -- The state of the whole model: how a thread stands at a condition, what an access does to it all, and the word of each key.
-use Rattle.std.specs.Prelude.{◌≡◌, ℕ, ◌+◌, true, List, length, nat_lt, if◌then◌else◌}
+use Rattle.std.specs.Prelude.{◌≡◌, ◌≢◌, ℕ, ◌+◌, true, List, length, nat_lt, if◌then◌else◌}
 use Rattle.lot_core.specs.World.{World, put, opening_with}
-use Rattle.lot_core.specs.Steps.{Allowed, after, seen}
+use Rattle.lot_core.specs.Steps.{Allowed, after, seen, IsReached}
 use Rattle.lot_core.specs.Parts.{AsksOfThread}
 use Rattle.lot_core.specs.Rows.{told, row_from}
 use Rattle.lot_events.specs.declared.events.Point.{Point}
@@ -18,7 +18,8 @@ use Rattle.lot_conds.specs.World.{flag_word}
 use Rattle.lot_sems.specs.World.{word_of}
 use Rattle.lot_whole.specs.declared.views.Stand.{Stand}
 use Rattle.lot_whole.specs.declared.views.Stand.TheVariants.{Idle, AtBed, AtRest}
-use Rattle.lot_whole.specs.Family.{LotSize}
+use Rattle.lot_words.specs.CallersRule.{CallersRule}
+use Rattle.lot_whole.specs.Family.{Which, LotSize, scheme_of, part_in, IsEventIn}
 
 -- ---- standing: what none of the three parts tells of a point
 abbrev pub stand_of : Point → Stand
@@ -45,6 +46,10 @@ moves _ saw s = s
 abbrev pub moves_by : Access → Stand → Stand
 moves_by (Makes e saw) s = moves e saw s
 moves_by _ s = s
+
+-- t alone stands so from then on
+abbrev pub Stands : World → ℕ → (ℕ → Point) → Stand → Type 0
+Stands s t point to = told stand_of point ≡ put (told stand_of s.point) t to
 
 -- ---- the state after an access
 abbrev pub whole_by : Access → World → World
@@ -84,3 +89,21 @@ counts_of z = record {
 
 abbrev pub opening_of : LotSize → World
 opening_of z = opening_with z.threads z.locks z.conds z.permits
+
+-- ---- how a step of one kind and the whole fit together
+module _ {V Part : Type 0} (rule : CallersRule V Part) (z : LotSize) (xs : List V) where
+  -- what a step of the kind j, whose event leads its part to b, is to the whole: it is allowed there, sees the same, leads the part to the
+  -- same, and leaves the others
+  pub record Joined (j : Which) (s : World) (e : Event) (saw : Seen) (b : (scheme_of rule z xs j).Part) : Type 0 where
+    pub allowed : Allowed s e
+    pub saw_is : saw ≡ seen s e
+    pub part : part_in rule z xs j (after s e) ≡ b
+    pub others : (k : Which) → k ≢ j → part_in rule z xs k (after s e) ≡ part_in rule z xs k s
+
+  abbrev pub Joins : Type 0
+  Joins = (j : Which) (s : World) (e : Event) (saw : Seen) (b : (scheme_of rule z xs j).Part) → IsReached s → counts_in s ≡ counts_of z → IsEventIn j e → AsksOfThread s e
+      → (scheme_of rule z xs j).Step (part_in rule z xs j s) e saw b → Joined j s e saw b
+
+-- and what no part tells: of an event its own thread alone moves
+abbrev pub StandsMove : Type 0
+StandsMove = (s : World) (e : Event) → IsReached s → Stands s (maker e) (after s e).point (moves e (seen s e) (stand_of (s.point (maker e))))

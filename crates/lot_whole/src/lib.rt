@@ -2,6 +2,7 @@
 #![tactic(auto)]
 
 pub mod kind;
+pub mod laws;
 mod posting;
 mod releasing;
 pub mod start;
