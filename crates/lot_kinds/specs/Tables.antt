@@ -17,8 +17,8 @@ use Rattle.lot_park.specs.declared.parts.one_of.OneOf.TheVariants.{First, Second
 use Rattle.lot_locks.specs.Standing.{Standing, IsLooked, lock_view}
 
 -- ---- all tables
-abbrev pub LotSchemeShown : Type 0
-LotSchemeShown = Tables LockWordsShown (Tables CondWordsShown SemWordsShown)
+abbrev pub LotSchemeShown : Type 0 → Type 0
+LotSchemeShown V = Tables (LockWordsShown V) (Tables CondWordsShown SemWordsShown)
 
 -- the keys of the conditions follow those of so many locks, and those of the semaphores the conditions'
 pub record Follow (values locks conds low : ℕ) : Type 0 where

@@ -21,7 +21,7 @@ pub struct LotScheme<V: Keeps + Send, N: LotName<V> + Send> {
 impl<V: Keeps + Send, N: LotName<V> + Send> Model for LotScheme<V, N> {
     ghost use Rattle.lot_kinds.specs.Tables.{LotSchemeShown};
 
-    ghost Value = { LotSchemeShown };
+    ghost Value = { LotSchemeShown V };
 
     ghost view = { λ s. record { first = s.locks; second = record { first = s.conds; second = s.sems } } };
 }
