@@ -5,6 +5,7 @@ pub mod Lifts
 pub mod Slots
 pub mod Tells
 pub mod Carries
+pub mod Seekers
 pub mod Letters
 pub mod Moments
 pub mod Opens

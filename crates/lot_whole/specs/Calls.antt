@@ -1,6 +1,7 @@
 -- What each kind of call does to the rights that it is handed.
-use Rattle.std.specs.Prelude.{◌≡◌, ℕ, zero, suc, ◌<◌, ◌++◌, Bool, true, false, List, map, Option, Some, None}
-use Rattle.lot_events.specs.declared.events.Event.TheVariants.{SemTake}
+use Rattle.std.specs.Prelude.{◌≡◌, ◌≢◌, ◌⊎◌, ◌%◌, ℕ, zero, suc, ◌<◌, ◌++◌, Bool, true, false, List, map, Option, Some, None}
+use Rattle.lot_events.specs.declared.events.Event.TheVariants.{SemTake, SemFree}
+use Rattle.lot_events.specs.declared.events.Event.{Event}
 use Rattle.lot_events.specs.declared.events.Seen.TheVariants.{Bool as Saw}
 use Rattle.lot_rights.specs.declared.views.Access.{Access}
 use Rattle.lot_rights.specs.declared.views.Access.TheVariants.{Makes, Collects, Finds}
@@ -18,7 +19,8 @@ use Rattle.lot_words.specs.Calls.{gripped, placed, woken as lock_woken}
 use Rattle.lot_conds.specs.Calls.{woken_pass}
 use Rattle.lot_sems.specs.declared.taking.Taken.{Taken}
 use Rattle.lot_sems.specs.declared.taking.Taken.TheVariants.{Got, Empty, Busy}
-use Rattle.lot_sems.specs.Calls.{got, seeking, woken as sem_woken}
+use Rattle.lot_sems.specs.declared.views.SemPassView.{SemPassView}
+use Rattle.lot_sems.specs.Calls.{got, gave, seeking, IsAnyLeft, IsUnmarked, woken as sem_woken}
 use Rattle.lot_whole.specs.declared.views.LotPassView.{LotPassView}
 use Rattle.lot_whole.specs.declared.views.LotRootView.{LotRootView}
 use Rattle.lot_whole.specs.Family.{Which, lock, cond, sem, PassIn, RootIn}
@@ -60,17 +62,38 @@ abbrev pub FoundNone : {V : Type 0} → PassView (LotPassView V) → PassView (L
 FoundNone p q = Notes p p.own (Collects p.thread None) q
 
 module _ {V : Type 0} where
-  -- ---- tries to take a permit of k
+  -- ---- looks at the word of k, and exchanges
+  -- a look that found a word of such a kind, and then an exchange, which was made: by this event the thread knows this
+  abbrev pub Exchanges : PassView (LotPassView V) → ℕ → (ℕ → Type 0) → SemPassView → Event → PassView (LotPassView V) → Type 0
+  Exchanges p k could own e q =
+      (word : ℕ) × could word × ((r : PassView (LotPassView V)) × FindsOf p k word r × NotesIn sem r own (Makes e (Saw true)) q)
+
+  -- a look that found a word of such a kind, and then an exchange that found another word than the look
+  abbrev pub Misses : PassView (LotPassView V) → ℕ → (ℕ → Type 0) → PassView (LotPassView V) → Type 0
+  Misses p k could q =
+      (seen found : ℕ) × could seen × (found ≢ seen) × ((r : PassView (LotPassView V)) × FindsOf p k seen r × FindsOf r k found q)
+
+  -- ---- tries to take a permit of k, by an exchange of the word that a look found; or with the look
+  abbrev pub TakesFrom : PassView (LotPassView V) → ℕ → ℕ → Taken → PassView (LotPassView V) → Type 0
+  TakesFrom p k seen Got q = NotesIn sem p (got p.own.sems k) (Makes (SemTake p.thread k) (Saw true)) q
+  TakesFrom p k seen Empty q = ⊥
+  TakesFrom p k seen Busy q = (found : ℕ) × (found ≢ seen) × FindsOf p k found q
+
   abbrev pub TriesPermit : PassView (LotPassView V) → ℕ → Taken → PassView (LotPassView V) → Type 0
-  TriesPermit p k Got q = NotesIn sem p (got p.own.sems k) (Makes (SemTake p.thread k) (Saw true)) q
+  TriesPermit p k Got q = Exchanges p k IsAnyLeft (got p.own.sems k) (SemTake p.thread k) q
   TriesPermit p k Empty q = (word : ℕ) × (word < 2) × FindsOf p k word q
-  TriesPermit p k Busy q = (word : ℕ) × FindsOf p k word q
+  TriesPermit p k Busy q = Misses p k IsAnyLeft q
 
   -- the same, where a thread that finds none seeks one
   abbrev pub TakesPermit : PassView (LotPassView V) → ℕ → Taken → PassView (LotPassView V) → Type 0
-  TakesPermit p k Got q = NotesIn sem p (got p.own.sems k) (Makes (SemTake p.thread k) (Saw true)) q
+  TakesPermit p k Got q = Exchanges p k IsAnyLeft (got p.own.sems k) (SemTake p.thread k) q
   TakesPermit p k Empty q = NotesIn sem p (seeking p.own.sems k) (Makes (SemTake p.thread k) (Saw false)) q
-  TakesPermit p k Busy q = (word : ℕ) × FindsOf p k word q
+  TakesPermit p k Busy q = Misses p k IsAnyLeft q
+
+  -- ---- a try to give a permit of k back at once, and whether it was
+  abbrev pub FreesPermit : PassView (LotPassView V) → ℕ → Bool → PassView (LotPassView V) → Type 0
+  FreesPermit p k true q = Exchanges p k IsUnmarked (gave p.own.sems k) (SemFree p.thread k) q
+  FreesPermit p k false q = ((word : ℕ) × (word % 2 ≡ 1) × FindsOf p k word q) ⊎ Misses p k IsUnmarked q
 
   -- ---- letters of conditions and of semaphores, whose tokens are all 0
   abbrev pub CollectsCond : PassView (LotPassView V) → ℕ → PassView (LotPassView V) → Type 0

@@ -3,6 +3,7 @@
 
 pub mod kind;
 pub mod laws;
+mod permits;
 mod posting;
 mod releasing;
 pub mod start;
