@@ -9,4 +9,5 @@ pub mod Seekers
 pub mod Letters
 pub mod Moments
 pub mod Opens
+pub mod Closes
 pub mod Names

@@ -7,5 +7,6 @@ pub mod Lifts
 pub mod Standing
 pub mod Calls
 pub mod Headline
+pub mod Closing
 -- a part of these
 pub mod Shown

@@ -1,5 +1,5 @@
 //! The table of a lot.
-ghost use Rattle.std.specs.Prelude.{◌≡◌, ◌<◌, ◌≤◌};
+ghost use Rattle.std.specs.Prelude.{◌≡◌, ◌<◌, ◌≤◌, vec_len, vec_capacity};
 ghost use Rattle.lot_core.specs.declared.state.TheConstants.{MAX_THREADS, MAX_KEYS};
 ghost use Rattle.lot_rights.specs.Layout.{word_count};
 ghost use Rattle.lot_whole.specs.Family.{key_count};
@@ -8,6 +8,7 @@ ghost use Rattle.lot_whole.specs.Rule.{size_of};
 use crate::kind::Lot;
 use lot_rights::{OfOpening, WordsOf};
 use lot_words::Keeps;
+use lot_words::exclusive::Exclusive;
 use std::marker::Model;
 
 /// The word of a lock that nobody has, and on which nobody is marked as parked.
@@ -40,10 +41,13 @@ pub(crate) const PERMIT: u64 = 2;
 /// The words of all locks, conditions and semaphores, the letters of all threads, and a slot for each lock's value, under one rule.
 pub struct LotWords<V: Keeps> {
     pub(crate) words: WordsOf<Lot<V>>,
+    // `close` puts the values here.
+    pub(crate) room: Exclusive<Vec<V>>,
     pub(crate) ghost some: { 0 < words.key.threads },
     pub(crate) ghost few: { (words.key.threads ≤ MAX_THREADS) × (key_count (size_of words.key) ≤ MAX_KEYS) },
     pub(crate) ghost words_are: { words.table.words ≡ word_count words.key.threads (key_count (size_of words.key)) },
     pub(crate) ghost slots_are: { words.table.slots ≡ words.key.locks },
+    pub(crate) ghost room_fits: { (vec_len room.value ≡ 0) × (words.key.locks ≤ vec_capacity room.value) },
 }
 
 impl<V: Keeps> Model for LotWords<V> {
