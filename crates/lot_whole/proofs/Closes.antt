@@ -115,6 +115,7 @@ module _ {V Part : Type 0} (rule : CallersRule V Part) (z : LotSize) (opening : 
 
       -- ---- permits
       pub all_out : (k : ℕ) → w.whole.sems.left k + out_with passes k ≡ permits_of z k
+      unfolding left_in
       all_out k =
           let kind = sems.all_out (sem_size z) (map (in_kind sem) passes) [] (w.words sem) [] (left_in sem) (all_in sem) k in
           let same : w.whole.sems.left k ≡ (w.each sem).part.sems.left k = ap (λ (a : SemaphorePart). a.sems.left k) (left.fits.agrees sem) in
