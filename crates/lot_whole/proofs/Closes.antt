@@ -1,5 +1,6 @@
 -- What a closing tells, when all passes came back, none of them holds a lock, and none waits on a condition.
-use Rattle.std.proofs.Common.{◌≡◌, ℕ, zero, suc, ◌+◌, ◌*◌, ◌<◌, ◌≤◌, ◌==◌, cond as if_so, List, [], ◌∷◌, ◌++◌, length, map, refl, sym, ap, subst, ◌∙◌, arith, Option, Some, None, slice_get, get_or, sum_by}
+use Rattle.std.proofs.Common.{◌≡◌, ℕ, zero, suc, ◌+◌, ◌*◌, ◌<◌, ◌≤◌, ◌==◌, cond as if_so, List, [], ◌∷◌, ◌++◌, length, map, refl, sym, ap}
+use Rattle.std.proofs.Common.{subst, ◌∙◌, arith, Option, Some, None, slice_get, get_or, sum_by}
 use Rattle.std.specs.List.{All, Any}
 use Rattle.std.proofs.lemmas.List.{length-map, get_or-map}
 use Rattle.std.proofs.lemmas.List.Elements.{All-weaker, All-map, All-nil}
@@ -30,7 +31,8 @@ use Rattle.lot_sems.proofs.Closes as sems
 use Rattle.lot_whole.specs.declared.views.LotPassView.{LotPassView}
 use Rattle.lot_whole.specs.declared.views.LotRootView.{LotRootView}
 use Rattle.lot_whole.specs.declared.views.LotRootView.TheVariants.{Lock, Cond, Sem}
-use Rattle.lot_whole.specs.Family.{Which, lock, cond, sem, LotSize, lock_size, cond_size, sem_size, SlotOf, PassIn, RootIn, homes_in, scheme_of, part_in}
+use Rattle.lot_whole.specs.Family.{Which, lock, cond, sem, LotSize, lock_size, cond_size, sem_size, SlotOf, PassIn, RootIn, homes_in}
+use Rattle.lot_whole.specs.Family.{scheme_of, part_in}
 use Rattle.lot_whole.specs.Whole.{WholeStep, opening_of}
 use Rattle.lot_whole.specs.Lot.{own_of, LotWorld, PassOk, LotPassIs, LotRootIs, lot_scheme}
 use Rattle.lot_whole.specs.Lifts.{part_pass}
@@ -48,15 +50,18 @@ module _ {A B : Type 0} (f : A → B) (P : B → Type 0) where
 
 sum_images : {A B : Type 0} (f : A → B) (g : B → ℕ) (xs : List A) → sum_by g (map f xs) ≡ sum_by (λ x. g (f x)) xs
 sum_images f g [] = refl
-sum_images f g (x ∷ xs) = sum_by-cons g (f x) (map f xs) ∙ (ap (λ n. g (f x) + n) (sum_images f g xs) ∙ sym (sum_by-cons (λ y. g (f y)) x xs))
+sum_images f g (x ∷ xs) = sum_by-cons g (f x) (map f xs)
+    ∙ (ap (λ n. g (f x) + n) (sum_images f g xs) ∙ sym (sum_by-cons (λ y. g (f y)) x xs))
 
 -- passes of the same threads have the same numbers
-same_times : {P Q : Type 0} (R R' : Type 0) (f : PassShown P → PassShown Q) → ((p : PassShown P) → (f p).pass.thread ≡ p.pass.thread) → (i : ℕ) (passes : List (PassShown P))
+same_times : {P Q : Type 0} (R R' : Type 0) (f : PassShown P → PassShown Q) → ((p : PassShown P) → (f p).pass.thread ≡ p.pass.thread)
+    → (i : ℕ) (passes : List (PassShown P))
     → times {R = Right Q R'} number i (passes_in (map f passes)) ≡ times {R = Right P R} number i (passes_in passes)
 same_times R R' f same i [] = refl
 same_times R R' f same i (p ∷ passes) = λ h. if_so (2 * same p h == i) 1 0 + same_times R R' f same i passes h
 
-module _ {V Part : Type 0} (rule : CallersRule V Part) (z : LotSize) (opening : List V) (passes : List (PassShown (LotPassView V))) (roots : List (RootShown LotRootView)) (ws : List ℕ)
+module _ {V Part : Type 0} (rule : CallersRule V Part) (z : LotSize) (opening : List V) (passes : List (PassShown (LotPassView V)))
+    (roots : List (RootShown LotRootView)) (ws : List ℕ)
     (ys : List (Option V)) where
   -- a pass, as a kind has it
   abbrev in_kind : (j : Which) → PassShown (LotPassView V) → PassShown (PassIn V j)
@@ -71,11 +76,14 @@ module _ {V Part : Type 0} (rule : CallersRule V Part) (z : LotSize) (opening : 
     abbrev w : LotWorld rule z opening
     w = left.world
 
-    passes_fit : (j : Which) → All (λ (p : PassShown (PassIn V j)). (scheme_of rule z opening j).PassFits (w.each j) p.pass.thread p.pass.own) (map (in_kind j) passes)
-    passes_fit j = All-map (λ (p : PassShown (PassIn V j)). (scheme_of rule z opening j).PassFits (w.each j) p.pass.thread p.pass.own) (in_kind j) passes
+    passes_fit : (j : Which) → All
+        (λ (p : PassShown (PassIn V j)). (scheme_of rule z opening j).PassFits (w.each j) p.pass.thread p.pass.own) (map (in_kind j) passes)
+    passes_fit j = All-map (λ (p : PassShown (PassIn V j)). (scheme_of rule z opening j).PassFits (w.each j) p.pass.thread p.pass.own)
+        (in_kind j) passes
         (All-weaker (λ (p : PassShown (LotPassView V)). LotPassIs rule z opening w p.pass.thread p.pass.own)
         (λ (p : PassShown (LotPassView V)). (scheme_of rule z opening j).PassFits (w.each j) p.pass.thread (own_of V p.pass.own j))
-        (λ p fit. (subst (PassOk rule z opening w p.pass.thread) fit.1 (left.fits.passes p.pass.thread fit.0)).each j) passes left.passes_fit)
+        (λ p fit. (subst (PassOk rule z opening w p.pass.thread) fit.1 (left.fits.passes p.pass.thread fit.0)).each j) passes
+            left.passes_fit)
 
     once : (j : Which) (i : ℕ) → times {R = Right (PassIn V j) (RootIn j)} number i (passes_in (map (in_kind j) passes) ++ []) ≤ 1
     once j i = omega (
@@ -118,7 +126,8 @@ module _ {V Part : Type 0} (rule : CallersRule V Part) (z : LotSize) (opening : 
       unfolding left_in
       all_out k =
           let kind = sems.all_out (sem_size z) (map (in_kind sem) passes) [] (w.words sem) [] (left_in sem) (all_in sem) k in
-          let same : w.whole.sems.left k ≡ (w.each sem).part.sems.left k = ap (λ (a : SemaphorePart). a.sems.left k) (left.fits.agrees sem) in
+          let same : w.whole.sems.left k ≡ (w.each sem).part.sems.left k =
+              ap (λ (a : SemaphorePart). a.sems.left k) (left.fits.agrees sem) in
           let sum = sum_images (in_kind sem) (λ (p : PassShown (PassIn V sem)). get_or p.pass.own.out k 0) passes in
           omega (arith, kind, same, sum)
 
@@ -138,25 +147,36 @@ module _ {V Part : Type 0} (rule : CallersRule V Part) (z : LotSize) (opening : 
 
         -- ---- values
         pub last_lies : (l : ℕ) → l < z.locks → (y : V) × (get_elem? ys l ≡ some (Some y))
-        last_lies = locks.last_lies rule (lock_size z) opening (map (in_kind lock) passes) [] (w.words lock) ys (left_in lock) holds_none (all_in lock)
+        last_lies = locks.last_lies rule (lock_size z) opening (map (in_kind lock) passes) [] (w.words lock) ys (left_in lock) holds_none
+            (all_in lock)
 
-        module _ (vs : List V) (len : length vs ≡ z.locks) (each : (k : ℕ) (y : V) → slice_get vs k ≡ Some y → get_elem? ys k ≡ some (Some y)) where
-          pub last_found : All (λ (p : PassShown (LotPassView V)). (l : ℕ) (y : V) → slice_get vs l ≡ Some y → FoundOk rule l p.pass.thread p.pass.own.locks y) passes
-          last_found = all_images (in_kind lock) (λ (p : PassShown (PassIn V lock)). (l : ℕ) (y : V) → slice_get vs l ≡ Some y → FoundOk rule l p.pass.thread p.pass.own y) passes
-              (locks.last_found rule (lock_size z) opening (map (in_kind lock) passes) [] (w.words lock) ys (left_in lock) holds_none (all_in lock) vs len each)
+        module _ (vs : List V) (len : length vs ≡ z.locks)
+            (each : (k : ℕ) (y : V) → slice_get vs k ≡ Some y → get_elem? ys k ≡ some (Some y)) where
+          pub last_found : All (λ (p : PassShown (LotPassView V)). (l : ℕ) (y : V) → slice_get vs l ≡ Some y
+              → FoundOk rule l p.pass.thread p.pass.own.locks y) passes
+          last_found = all_images (in_kind lock)
+              (λ (p : PassShown (PassIn V lock)). (l : ℕ) (y : V) → slice_get vs l ≡ Some y → FoundOk rule l p.pass.thread p.pass.own y)
+              passes
+              (locks.last_found rule (lock_size z) opening (map (in_kind lock) passes) [] (w.words lock) ys (left_in lock) holds_none
+                  (all_in lock) vs len each)
 
-          pub last_seen : (l : ℕ) (y : V) → slice_get vs l ≡ Some y → Any (λ (p : PassShown (LotPassView V)). HasSeen p.pass.own.locks l y) passes
+          pub last_seen : (l : ℕ) (y : V) → slice_get vs l ≡ Some y
+              → Any (λ (p : PassShown (LotPassView V)). HasSeen p.pass.own.locks l y) passes
           last_seen l y e = some_before (in_kind lock) (λ (p : PassShown (PassIn V lock)). HasSeen p.pass.own l y) passes
-              (locks.last_seen rule (lock_size z) opening (map (in_kind lock) passes) [] (w.words lock) ys (left_in lock) holds_none (all_in lock) vs len each l y e)
+              (locks.last_seen rule (lock_size z) opening (map (in_kind lock) passes) [] (w.words lock) ys (left_in lock) holds_none
+                  (all_in lock) vs len each l y e)
 
   -- ---- the history
-  line_is : (v : LotWorld rule z opening) → ((j : Which) → part_in rule z opening j v.whole ≡ ((scheme_of rule z opening j).told_by (v.each j)).part) → (c : ℕ) (q : LotRootView)
+  line_is : (v : LotWorld rule z opening)
+      → ((j : Which) → part_in rule z opening j v.whole ≡ ((scheme_of rule z opening j).told_by (v.each j)).part)
+      → (c : ℕ) (q : LotRootView)
       → LotRootIs rule z opening v c q → LineIs v.whole c q
   line_is v agrees c (Lock q) h = ap (λ (a : LockPart). a.locks.line c) (agrees lock) ∙ ap (λ (r : LockRootView). r.line) h.1.1
   line_is v agrees c (Cond q) h = ap (λ (a : CondPart). a.conds.line c) (agrees cond) ∙ ap (λ (r : CondRootView). r.line) h.1.1
   line_is v agrees c (Sem q) h = ap (λ (a : SemaphorePart). a.sems.line c) (agrees sem) ∙ h.1.1
 
-  pub told_to : Ended (lot_scheme rule z opening) passes roots ws ys → ((t : ℕ) → t < z.threads → Any (λ (p : PassShown (LotPassView V)). p.pass.thread ≡ t) passes) → IsToldTo z passes roots
+  pub told_to : Ended (lot_scheme rule z opening) passes roots ws ys
+      → ((t : ℕ) → t < z.threads → Any (λ (p : PassShown (LotPassView V)). p.pass.thread ≡ t) passes) → IsToldTo z passes roots
   told_to ended all =
       let told = ended_recounted (lot_scheme rule z opening) passes roots ws ys ended in
       record {

@@ -1,5 +1,6 @@
 -- Families over the three kinds, and what is shown of each kind by itself.
-use Rattle.std.proofs.Common.{◌≡◌, ◌≢◌, ℕ, ◌+◌, ◌<◌, ◌⊎◌, Bool, true, false, List, length, get_or, refl, sym, ap, subst, ◌∙◌, inl, inr, arith, Option, Some, None}
+use Rattle.std.proofs.Common.{◌≡◌, ◌≢◌, ℕ, ◌+◌, ◌<◌, ◌⊎◌, Bool, true, false, List, length, get_or, refl, sym, ap, subst, ◌∙◌, inl, inr}
+use Rattle.std.proofs.Common.{arith, Option, Some, None}
 use Rattle.std.specs.Prelude.{nat_lt, if◌then◌else◌, is_some}
 use Rattle.std.proofs.lemmas.Bool.{lt-ltb, le-ltb}
 use mathlib.Core.Option as maybe
@@ -15,7 +16,8 @@ use Rattle.lot_conds.proofs.Machine.{awake_is as cond_awake}
 use Rattle.lot_sems.specs.World.{word_of}
 use Rattle.lot_sems.proofs.Machine.{awake_is as sem_awake}
 use Rattle.lot_words.specs.declared.views.LockPassView.{LockPassView}
-use Rattle.lot_whole.specs.Family.{Which, lock, cond, sem, LotSize, sizes_in, key_count, IsKeyIn, PassIn, RootIn, away, homes_in, scheme_of, part_in, dput}
+use Rattle.lot_whole.specs.Family.{Which, lock, cond, sem, LotSize, sizes_in, key_count, IsKeyIn, PassIn, RootIn, away, homes_in, scheme_of}
+use Rattle.lot_whole.specs.Family.{part_in, dput}
 use Rattle.lot_whole.specs.Whole.{word_in}
 use Rattle.lot_whole.specs.Lot.{sum_of}
 
@@ -33,7 +35,8 @@ which_is sem sem = inl refl
 
 -- ---- families with one value changed
 -- what holds of the new value, and of each other one, holds of all
-pub dput_elim : {X : Which → Type 0} (P : (j : Which) → X j → Type 0) (k : Which) (x : X k) (f : (j : Which) → X j) → P k x → ((j : Which) → j ≢ k → P j (f j)) → (j : Which) → P j (dput {X = X} k x f j)
+pub dput_elim : {X : Which → Type 0} (P : (j : Which) → X j → Type 0) (k : Which) (x : X k) (f : (j : Which) → X j) → P k x
+    → ((j : Which) → j ≢ k → P j (f j)) → (j : Which) → P j (dput {X = X} k x f j)
 dput_elim P lock x f here there lock = here
 dput_elim P lock x f here there cond = there cond (λ e. cc)
 dput_elim P lock x f here there sem = there sem (λ e. cc)
@@ -45,7 +48,8 @@ dput_elim P sem x f here there cond = there cond (λ e. cc)
 dput_elim P sem x f here there sem = here
 
 -- the same of two families at once
-pub dput_two : {X Y : Which → Type 0} (P : (j : Which) → X j → Y j → Type 0) (k : Which) (x : X k) (f : (j : Which) → X j) (y : Y k) (g : (j : Which) → Y j)
+pub dput_two : {X Y : Which → Type 0} (P : (j : Which) → X j → Y j → Type 0) (k : Which) (x : X k) (f : (j : Which) → X j) (y : Y k)
+    (g : (j : Which) → Y j)
     → P k x y → ((j : Which) → j ≢ k → P j (f j) (g j)) → (j : Which) → P j (dput {X = X} k x f j) (dput {X = Y} k y g j)
 dput_two P lock x f y g here there lock = here
 dput_two P lock x f y g here there cond = there cond (λ e. cc)
@@ -110,29 +114,38 @@ no_some None e = refl
 no_some (Some x) e = absurd (cc)
 
 module _ {V Part : Type 0} (rule : CallersRule V Part) (z : LotSize) (xs : List V) where
-  pub wide_in : (j : Which) (w : (scheme_of rule z xs j).World) (ws : List ℕ) (hs : List (maybe.Option (Option V))) → (scheme_of rule z xs j).Fits w ws (homes_in j hs)
+  pub wide_in : (j : Which) (w : (scheme_of rule z xs j).World) (ws : List ℕ) (hs : List (maybe.Option (Option V)))
+      → (scheme_of rule z xs j).Fits w ws (homes_in j hs)
       → length ws ≡ word_count z.threads ((sizes_in z j).first + (sizes_in z j).keys)
   wide_in lock w ws hs ok = ok.words.wide
   wide_in cond w ws hs ok = ok.words.wide
   wide_in sem w ws hs ok = ok.words.wide
 
-  pub letter_in : (j : Which) (w : (scheme_of rule z xs j).World) (ws : List ℕ) (hs : List (maybe.Option (Option V))) → (scheme_of rule z xs j).Fits w ws (homes_in j hs)
+  pub letter_in : (j : Which) (w : (scheme_of rule z xs j).World) (ws : List ℕ) (hs : List (maybe.Option (Option V)))
+      → (scheme_of rule z xs j).Fits w ws (homes_in j hs)
       → (t : ℕ) → t < z.threads → get_or ws (letter_at t) 0 ≡ ((scheme_of rule z xs j).told_by w).letters t
   letter_in lock w ws hs ok = ok.words.letters
   letter_in cond w ws hs ok = ok.words.letters
   letter_in sem w ws hs ok = ok.words.letters
 
   -- who is not away has no letter
-  pub still : (j : Which) (w : (scheme_of rule z xs j).World) (ws : List ℕ) (hs : List (maybe.Option (Option V))) → (scheme_of rule z xs j).Fits w ws (homes_in j hs)
-      → (t : ℕ) (p : PassIn V j) → (scheme_of rule z xs j).PassFits w t p → away V j p ≡ false → ((scheme_of rule z xs j).told_by w).letters t ≡ 0
-  still lock w ws hs ok t p fit up = ap letter_of (lock_awake z.threads w.word w.root t (w.pass t) (w.spot t) (ok.kept.threads t).spot (ap (λ (x : LockPassView V). x.asleep) fit.1 ∙ up))
-  still cond w ws hs ok t p fit up = ap letter_of (cond_awake z.threads w.root t (w.pass t) (w.spot t) (ok.kept.threads t).spot (ap (λ (x : CondPassView). x.out) fit.1 ∙ no_some p.out up))
+  pub still : (j : Which) (w : (scheme_of rule z xs j).World) (ws : List ℕ) (hs : List (maybe.Option (Option V)))
+      → (scheme_of rule z xs j).Fits w ws (homes_in j hs)
+      → (t : ℕ) (p : PassIn V j) → (scheme_of rule z xs j).PassFits w t p → away V j p ≡ false
+          → ((scheme_of rule z xs j).told_by w).letters t ≡ 0
+  still lock w ws hs ok t p fit up =
+      ap letter_of (lock_awake z.threads w.word w.root t (w.pass t) (w.spot t) (ok.kept.threads t).spot
+      (ap (λ (x : LockPassView V). x.asleep) fit.1 ∙ up))
+  still cond w ws hs ok t p fit up =
+      ap letter_of (cond_awake z.threads w.root t (w.pass t) (w.spot t) (ok.kept.threads t).spot
+      (ap (λ (x : CondPassView). x.out) fit.1 ∙ no_some p.out up))
   still sem w ws hs ok t p fit up = ap letter_of (sem_awake (w.spot t) (fit.asleep ∙ up))
 
   -- the word of a key is the word that its kind's part of the state tells
   pub word_is : (j : Which) (s : World) (c : ℕ) → IsKeyIn z j c → word_in z s c ≡ (scheme_of rule z xs j).word_in (part_in rule z xs j s) c
   word_is lock s c is = ap (λ b. if b then bits_of (s.locks.held c) (s.locks.parked c)
-      else (if nat_lt c (z.locks + z.conds) then flag_word (s.conds.flag c) else word_of (s.sems.left c) (s.sems.parked c))) (lt-ltb c z.locks (omega (arith, is.1)))
+      else (if nat_lt c (z.locks + z.conds) then flag_word (s.conds.flag c) else word_of (s.sems.left c) (s.sems.parked c)))
+          (lt-ltb c z.locks (omega (arith, is.1)))
   word_is cond s c is = (λ i. if le-ltb c z.locks is.0 i then bits_of (s.locks.held c) (s.locks.parked c)
       else (if lt-ltb c (z.locks + z.conds) is.1 i then flag_word (s.conds.flag c) else word_of (s.sems.left c) (s.sems.parked c)))
   word_is sem s c is = (λ i. if le-ltb c z.locks (omega (arith, is.0)) i then bits_of (s.locks.held c) (s.locks.parked c)

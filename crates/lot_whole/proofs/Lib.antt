@@ -10,4 +10,6 @@ pub mod Letters
 pub mod Moments
 pub mod Opens
 pub mod Closes
+pub mod Waits
+pub mod Twos
 pub mod Names

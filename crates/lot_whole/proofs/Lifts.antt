@@ -23,28 +23,37 @@ use Rattle.lot_whole.proofs.Steps.{root_in, found, Gone, gone, next, fits_after,
 
 module _ {V Part : Type 0} (rule : CallersRule V Part) (z : LotSize) (xs : List V) where
   -- ---- a step of the thread t, of which the kind's turn is known
-  module _ (j : Which) (w : LotWorld rule z xs) (ws : List ℕ) (hs : List (maybe.Option (Option V))) (ok : LotFits rule z xs w ws hs) (i : ℕ) (place : InPlace rule z xs j w i)
-      (x : ℕ) (v : (scheme_of rule z xs j).World) (fits : (scheme_of rule z xs j).Fits v (set (w.words j) i x) (homes_in j hs)) (a : Access) (g : Gone rule z xs j w ws hs ok i place x v fits a) where
+  module _ (j : Which) (w : LotWorld rule z xs) (ws : List ℕ) (hs : List (maybe.Option (Option V))) (ok : LotFits rule z xs w ws hs)
+      (i : ℕ) (place : InPlace rule z xs j w i)
+      (x : ℕ) (v : (scheme_of rule z xs j).World) (fits : (scheme_of rule z xs j).Fits v (set (w.words j) i x) (homes_in j hs))
+          (a : Access) (g : Gone rule z xs j w ws hs ok i place x v fits a) where
     -- the others stand as they did
     stand_else : (t u : ℕ) → doer a ≡ 2 * t → u ≢ t → stand_of ((whole_by a w.whole).point u) ≡ stand_of (w.whole.point u)
-    stand_else t u by ne = (λ h. g.moved t by h u) ∙ put_other (told stand_of w.whole.point) t (moves_by a (stand_of (w.whole.point t))) u ne
+    stand_else t u by ne = (λ h. g.moved t by h u)
+        ∙ put_other (told stand_of w.whole.point) t (moves_by a (stand_of (w.whole.point t))) u ne
 
-    stand_mine : (t : ℕ) (p : LotPassView V) → doer a ≡ 2 * t → PassOk rule z xs w t p → stand_of ((whole_by a w.whole).point t) ≡ moves_by a p.stand
-    stand_mine t p by h = (λ y. g.moved t by y t) ∙ (put_same (told stand_of w.whole.point) t (moves_by a (stand_of (w.whole.point t))) ∙ ap (moves_by a) h.stand)
+    stand_mine : (t : ℕ) (p : LotPassView V) → doer a ≡ 2 * t → PassOk rule z xs w t p
+        → stand_of ((whole_by a w.whole).point t) ≡ moves_by a p.stand
+    stand_mine t p by h = (λ y. g.moved t by y t)
+        ∙ (put_same (told stand_of w.whole.point) t (moves_by a (stand_of (w.whole.point t))) ∙ ap (moves_by a) h.stand)
 
     -- the pass of t knows this now, and each other what it knew
-    module _ (t : ℕ) (near : t < z.threads) (p : LotPassView V) (mine : PassOk rule z xs w t p) (own : PassIn V j) (by : doer a ≡ 2 * t) (may : MayBeAway j p own)
+    module _ (t : ℕ) (near : t < z.threads) (p : LotPassView V) (mine : PassOk rule z xs w t p) (own : PassIn V j) (by : doer a ≡ 2 * t)
+        (may : MayBeAway j p own)
         (fit : (scheme_of rule z xs j).PassFits v t own)
-        (others : (u : ℕ) (y : PassIn V j) → u ≢ t → (scheme_of rule z xs j).PassFits (w.each j) u y → (scheme_of rule z xs j).PassFits v u y) where
+        (others : (u : ℕ) (y : PassIn V j) → u ≢ t → (scheme_of rule z xs j).PassFits (w.each j) u y
+            → (scheme_of rule z xs j).PassFits v u y) where
       abbrev passes : ℕ → LotPassView V
       passes = put w.pass t (lot_own j p own a)
 
       pub thread_fits : LotFits rule z xs (next rule z xs j w ws hs ok i place x v fits passes a g) (set ws i x) hs
       thread_fits = fits_after rule z xs j w ws hs ok i place x v fits passes a g
-          (λ u here. put_elim (λ y. PassOk rule z xs (next rule z xs j w ws hs ok i place x v fits passes a g) u y) w.pass t (lot_own j p own a) u
+          (λ u here. put_elim (λ y. PassOk rule z xs (next rule z xs j w ws hs ok i place x v fits passes a g) u y) w.pass t
+              (lot_own j p own a) u
           (λ e. subst (λ n. PassOk rule z xs (next rule z xs j w ws hs ok i place x v fits passes a g) n (lot_own j p own a)) (sym e)
           (pass_turned rule z xs j w ws hs ok i place x v fits passes a g t p mine own may fit (stand_mine t p by mine)))
-          (λ ne. pass_stays rule z xs j w ws hs ok i place x v fits passes a g u (w.pass u) (ok.passes u here) (λ y. others u y ne) (stand_else t u by ne)))
+          (λ ne. pass_stays rule z xs j w ws hs ok i place x v fits passes a g u (w.pass u) (ok.passes u here) (λ y. others u y ne)
+              (stand_else t u by ne)))
 
   pub lifts_pass : LiftsPass rule z xs
   lifts_pass j i f p told_of whole allows placed carries w ws hs ok fit small =
@@ -61,10 +70,12 @@ module _ {V Part : Type 0} (rule : CallersRule V Part) (z : LotSize) (xs : List 
         own = own;
         access = turn.access;
         world = next rule z xs j w ws hs ok i place (f n) turn.world turn.fits (put w.pass p.thread own) turn.access g;
-        fits = thread_fits j w ws hs ok i place (f n) turn.world turn.fits turn.access g p.thread fit.0 p.own mine turn.own turn.made.0 carried.0 turn.pass turn.passes;
+        fits = thread_fits j w ws hs ok i place
+            (f n) turn.world turn.fits turn.access g p.thread fit.0 p.own mine turn.own turn.made.0 carried.0 turn.pass turn.passes;
         pass = (fit.0, put_same w.pass p.thread own);
         passes = λ u y ne h. (h.0, put_other w.pass p.thread own u ne ∙ h.1);
-        roots = λ d. roots_after rule z xs j w ws hs ok i place (f n) turn.world turn.fits (put w.pass p.thread own) turn.access g d (turn.roots d);
+        roots = λ d. roots_after rule z xs j w ws hs ok i place (f n) turn.world turn.fits (put w.pass p.thread own) turn.access g d
+            (turn.roots d);
         made = (turn.made.0, g.leads);
         told = carried.2;
       })
@@ -87,11 +98,14 @@ module _ {V Part : Type 0} (rule : CallersRule V Part) (z : LotSize) (xs : List 
         its = root_from j turn.its;
         access = turn.access;
         world = next rule z xs j w ws hs ok i place (f n) turn.world turn.fits (put w.pass p.thread own) turn.access g;
-        fits = thread_fits j w ws hs ok i place (f n) turn.world turn.fits turn.access g p.thread fit.0 p.own mine turn.own turn.made.0 carried.0 turn.pass turn.passes;
+        fits = thread_fits j w ws hs ok i place
+            (f n) turn.world turn.fits turn.access g p.thread fit.0 p.own mine turn.own turn.made.0 carried.0 turn.pass turn.passes;
         pass = (fit.0, put_same w.pass p.thread own);
-        root = root_turned rule z xs j w ws hs ok i place (f n) turn.world turn.fits (put w.pass p.thread own) turn.access g q.key turn.its its.0 turn.root;
+        root = root_turned rule z xs j w ws hs ok i place (f n) turn.world turn.fits
+            (put w.pass p.thread own) turn.access g q.key turn.its its.0 turn.root;
         passes = λ u y ne h. (h.0, put_other w.pass p.thread own u ne ∙ h.1);
-        roots = λ d y ne. roots_after rule z xs j w ws hs ok i place (f n) turn.world turn.fits (put w.pass p.thread own) turn.access g d (λ r. turn.roots d r ne) y;
+        roots = λ d y ne. roots_after rule z xs j w ws hs ok i place (f n) turn.world turn.fits (put w.pass p.thread own) turn.access g d
+            (λ r. turn.roots d r ne) y;
         made = (turn.made.0, g.leads);
         told = carried.2;
       })
@@ -111,11 +125,13 @@ module _ {V Part : Type 0} (rule : CallersRule V Part) (z : LotSize) (xs : List 
         access = turn.access;
         world = next rule z xs j w ws hs ok i place (f n) turn.world turn.fits w.pass turn.access g;
         fits = fits_after rule z xs j w ws hs ok i place (f n) turn.world turn.fits w.pass turn.access g
-            (λ u here. pass_stays rule z xs j w ws hs ok i place (f n) turn.world turn.fits w.pass turn.access g u (w.pass u) (ok.passes u here) (turn.passes u)
+            (λ u here. pass_stays rule z xs j w ws hs ok i place (f n) turn.world turn.fits w.pass turn.access g u (w.pass u)
+                (ok.passes u here) (turn.passes u)
             (ap (λ s. stand_of (s.point u)) (g.rests q.key turn.made.0)));
         root = root_turned rule z xs j w ws hs ok i place (f n) turn.world turn.fits w.pass turn.access g q.key turn.its its.0 turn.root;
         passes = λ u y h. h;
-        roots = λ d y ne. roots_after rule z xs j w ws hs ok i place (f n) turn.world turn.fits w.pass turn.access g d (λ r. turn.roots d r ne) y;
+        roots = λ d y ne. roots_after rule z xs j w ws hs ok i place (f n) turn.world turn.fits w.pass turn.access g d
+            (λ r. turn.roots d r ne) y;
         made = (turn.made.0, g.leads);
         told = carried.1;
       })

@@ -38,7 +38,8 @@ waits_in _ = (lock, 0)
 module _ (s : World) (sound : IsSound s) where
   says : (j : Which) (c t : ℕ) → Contains (line_in s j c) t → waits_in (s.point t) ≡ (j, c)
   says lock l t h = ap waits_in (sound.one_line_each.wants l t h).1
-  says cond c t h = let w = sound.one_line_each.waits c t h in ⊎_elim {C = waits_in (s.point t) ≡ (cond, c)} (ap waits_in) (ap waits_in) w.1.1
+  says cond c t h = let w = sound.one_line_each.waits c t h in
+      ⊎_elim {C = waits_in (s.point t) ≡ (cond, c)} (ap waits_in) (ap waits_in) w.1.1
   says sem k t h = ap waits_in (sound.one_line_each.seeks k t h).1
 
   pub one_line : OneLineOfAll s
@@ -47,7 +48,8 @@ module _ (s : World) (sound : IsSound s) where
       (ap (λ (x : Which × ℕ). x.0) e, ap (λ (x : Which × ℕ). x.1) e)
 
 -- ---- a run of steps is a run of the model
-model_run : (a : World) (events : List (Event × Seen)) (b : World) → ModelRun WholeStep a events b → Run a (map event_of events) × (b ≡ after_all a (map event_of events))
+model_run : (a : World) (events : List (Event × Seen)) (b : World) → ModelRun WholeStep a events b → Run a (map event_of events)
+    × (b ≡ after_all a (map event_of events))
 model_run a [] b run = (tt, run)
 model_run a (x ∷ events) b run =
     let step = run.1.0 in
@@ -57,25 +59,31 @@ model_run a (x ∷ events) b run =
       rest.1 ∙ ap (λ s. after_all s (map event_of events)) is,
     )
 
-pub one_run : (z : LotSize) (events : List (Event × Seen)) (state : World) → IsReached state → ModelRun WholeStep (opening_of z) events state → IsOneRun z events state
+pub one_run : (z : LotSize) (events : List (Event × Seen)) (state : World) → IsReached state
+    → ModelRun WholeStep (opening_of z) events state → IsOneRun z events state
 one_run z events state reached seen =
     let run = model_run (opening_of z) events state seen in
     record { sound = reached_sound state reached; seen = seen; run = run.0; end = run.1 }
 
-module _ {V Part : Type 0} (rule : CallersRule V Part) (z : LotSize) (xs : List V) (s : State (Option V) (List (Right (LotPassView V) LotRootView))) (here : Ruled (lot_scheme rule z xs) s) where
+module _ {V Part : Type 0} (rule : CallersRule V Part) (z : LotSize) (xs : List V)
+    (s : State (Option V) (List (Right (LotPassView V) LotRootView))) (here : Ruled (lot_scheme rule z xs) s) where
   pub one_state : OneState rule z xs s here
   one_state =
       let ok = here.fits in
       record {
         state = here.world.whole;
-        words = λ j c is. ok.keys j c is ∙ (key_told j c is ∙ (ap (λ p. (scheme_of rule z xs j).word_in p c) (sym (ok.agrees j)) ∙ sym (word_is rule z xs j here.world.whole c is)));
+        words = λ j c is. ok.keys j c is
+            ∙ (key_told j c is ∙ (ap (λ p. (scheme_of rule z xs j).word_in p c) (sym (ok.agrees j))
+            ∙ sym (word_is rule z xs j here.world.whole c is)));
         history = one_run z (events_in here.log) here.world.whole ok.reached (has_one_run (lot_scheme rule z xs) s here).model;
         one_line = one_line here.world.whole (reached_sound here.world.whole ok.reached);
         one_letter = λ t near. (ok.passes t near).apart;
       }
     where
       -- the shadow word is what the kind's part says
-      key_told : (j : Which) (c : ℕ) → IsKeyIn z j c → get_or (here.world.words j) (word_at c) 0 ≡ (scheme_of rule z xs j).word_in ((scheme_of rule z xs j).told_by (here.world.each j)).part c
+      key_told : (j : Which) (c : ℕ) → IsKeyIn z j c
+          → get_or (here.world.words j) (word_at c) 0 ≡ (scheme_of rule z xs j).word_in
+          ((scheme_of rule z xs j).told_by (here.world.each j)).part c
       key_told lock = (here.fits.parts lock).words.words
       key_told cond = (here.fits.parts cond).words.words
       key_told sem = (here.fits.parts sem).words.words

@@ -41,14 +41,20 @@ sem_root q is = λ i. record q { own = sem_is q.own is i }
 
 -- whom it names then: those whom the kind says that it named, and maybe one more
 module _ (q q' : LotRootView) (u : ℕ) (More : Type 0) where
-  pub lock_named : IsLockRoot q → (r : LockRootView) → q' ≡ Lock r → (lock_names r u → lock_names (as_lock q) u ⊎ More) → names q' u → names q u ⊎ More
-  lock_named is r e kind h = ⊎_elim {C = names q u ⊎ More} (λ a. inl (subst (λ o. names o u) (lock_is q is) a)) inr (kind (subst (λ o. names o u) e h))
+  pub lock_named : IsLockRoot q → (r : LockRootView) → q' ≡ Lock r → (lock_names r u → lock_names (as_lock q) u ⊎ More) → names q' u
+      → names q u ⊎ More
+  lock_named is r e kind h = ⊎_elim {C = names q u ⊎ More} (λ a. inl (subst (λ o. names o u) (lock_is q is) a)) inr
+      (kind (subst (λ o. names o u) e h))
 
-  pub cond_named : IsCondRoot q → (r : CondRootView) → q' ≡ Cond r → (names (Cond r) u → names (Cond (as_cond q)) u ⊎ More) → names q' u → names q u ⊎ More
-  cond_named is r e kind h = ⊎_elim {C = names q u ⊎ More} (λ a. inl (subst (λ o. names o u) (cond_is q is) a)) inr (kind (subst (λ o. names o u) e h))
+  pub cond_named : IsCondRoot q → (r : CondRootView) → q' ≡ Cond r → (names (Cond r) u → names (Cond (as_cond q)) u ⊎ More) → names q' u
+      → names q u ⊎ More
+  cond_named is r e kind h = ⊎_elim {C = names q u ⊎ More} (λ a. inl (subst (λ o. names o u) (cond_is q is) a)) inr
+      (kind (subst (λ o. names o u) e h))
 
-  pub sem_named : IsSemRoot q → (r : SemRootView) → q' ≡ Sem r → (sem_names r u → sem_names (as_sem q) u ⊎ More) → names q' u → names q u ⊎ More
-  sem_named is r e kind h = ⊎_elim {C = names q u ⊎ More} (λ a. inl (subst (λ o. names o u) (sem_is q is) a)) inr (kind (subst (λ o. names o u) e h))
+  pub sem_named : IsSemRoot q → (r : SemRootView) → q' ≡ Sem r → (sem_names r u → sem_names (as_sem q) u ⊎ More) → names q' u → names q u
+      ⊎ More
+  sem_named is r e kind h = ⊎_elim {C = names q u ⊎ More} (λ a. inl (subst (λ o. names o u) (sem_is q is) a)) inr
+      (kind (subst (λ o. names o u) e h))
 
 -- whom the kind says that it names
 pub lock_names_it : (q : LotRootView) (u : ℕ) → IsLockRoot q → lock_names (as_lock q) u → names q u

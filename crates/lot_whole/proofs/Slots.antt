@@ -36,19 +36,24 @@ homes_else sem hs hs' ne = refl
 
 module _ {V Part : Type 0} (rule : CallersRule V Part) (z : LotSize) (xs : List V) where
   -- a turn of the locks' slots, as one of the lot's
-  slot_turn : (t : ℕ) (p : LotPassView V) (own : LockPassView V) (w : LotWorld rule z xs) (ws : List ℕ) (hs hs' : List (maybe.Option (Option V))) → LotFits rule z xs w ws hs
+  slot_turn : (t : ℕ) (p : LotPassView V) (own : LockPassView V) (w : LotWorld rule z xs) (ws : List ℕ)
+      (hs hs' : List (maybe.Option (Option V))) → LotFits rule z xs w ws hs
       → (fit : (t < z.threads) × (w.pass t ≡ p)) → own.asleep ≡ p.locks.asleep
-      → SlotTurn (scheme_of rule z xs lock) t own (w.each lock) (w.words lock) hs' → SlotTurn (lot_scheme rule z xs) t (record p { locks = own }) w ws hs'
+      → SlotTurn (scheme_of rule z xs lock) t own (w.each lock) (w.words lock) hs'
+          → SlotTurn (lot_scheme rule z xs) t (record p { locks = own }) w ws hs'
   slot_turn t p own w ws hs hs' ok fit same turn = record {
     world = next;
     fits = record {
-      parts = dput_elim {X = λ k. (scheme_of rule z xs k).World} (λ k y. (scheme_of rule z xs k).Fits y (w.words k) (homes_in k hs')) lock turn.world w.each turn.fits
+      parts = dput_elim {X = λ k. (scheme_of rule z xs k).World}
+          (λ k y. (scheme_of rule z xs k).Fits y (w.words k) (homes_in k hs')) lock turn.world w.each turn.fits
           (λ k ne. subst ((scheme_of rule z xs k).Fits (w.each k) (w.words k)) (homes_else k hs hs' ne) (ok.parts k));
       wide = ok.wide;
       keys = ok.keys;
       letters = λ u near. ok.letters u near ∙ sym (letters u);
-      passes = λ u near. put_elim (λ y. PassOk rule z xs next u y) w.pass t new u (λ e. subst (λ n. PassOk rule z xs next n new) (sym e) mine) (λ ne. other u near ne);
-      agrees = dput_elim {X = λ k. (scheme_of rule z xs k).World} (λ k y. part_in rule z xs k w.whole ≡ ((scheme_of rule z xs k).told_by y).part) lock turn.world w.each
+      passes = λ u near. put_elim (λ y. PassOk rule z xs next u y) w.pass t new u
+          (λ e. subst (λ n. PassOk rule z xs next n new) (sym e) mine) (λ ne. other u near ne);
+      agrees = dput_elim {X = λ k. (scheme_of rule z xs k).World}
+          (λ k y. part_in rule z xs k w.whole ≡ ((scheme_of rule z xs k).told_by y).part) lock turn.world w.each
           (ok.agrees lock ∙ sym (λ i. (turn.same i).part)) (λ k ne. ok.agrees k);
       counts = ok.counts;
       reached = ok.reached;
@@ -70,15 +75,18 @@ module _ {V Part : Type 0} (rule : CallersRule V Part) (z : LotSize) (xs : List 
 
       letters : (u : ℕ) → sum_of (letters_in rule z xs next) u ≡ sum_of (letters_in rule z xs w) u
       letters u = three_same (letters_in rule z xs next) (letters_in rule z xs w) u (dput_elim {X = λ k. (scheme_of rule z xs k).World}
-          (λ k y. ((scheme_of rule z xs k).told_by y).letters u ≡ letters_in rule z xs w k u) lock turn.world w.each (λ i. (turn.same i).letters u) (λ k ne. refl))
+          (λ k y. ((scheme_of rule z xs k).told_by y).letters u ≡ letters_in rule z xs w k u) lock turn.world w.each
+              (λ i. (turn.same i).letters u) (λ k ne. refl))
 
       was : PassOk rule z xs w t p
       was = subst (PassOk rule z xs w t) fit.1 (ok.passes t fit.0)
 
       mine : PassOk rule z xs next t new
       mine = record {
-        each = λ k. subst (λ o. (scheme_of rule z xs k).PassFits (each k) t o) (sym (own_from V (dput {X = PassIn V} lock own (own_of V p)) p.stand k))
-            (dput_two {X = λ k. (scheme_of rule z xs k).World} {Y = PassIn V} (λ k y o. (scheme_of rule z xs k).PassFits y t o) lock turn.world w.each own (own_of V p) turn.pass (λ k ne. was.each k) k);
+        each = λ k. subst (λ o. (scheme_of rule z xs k).PassFits (each k) t o)
+            (sym (own_from V (dput {X = PassIn V} lock own (own_of V p)) p.stand k))
+            (dput_two {X = λ k. (scheme_of rule z xs k).World} {Y = PassIn V}
+                (λ k y o. (scheme_of rule z xs k).PassFits y t o) lock turn.world w.each own (own_of V p) turn.pass (λ k ne. was.each k) k);
         apart = apart_new;
         stand = was.stand;
       }
@@ -90,7 +98,8 @@ module _ {V Part : Type 0} (rule : CallersRule V Part) (z : LotSize) (xs : List 
 
       other : (u : ℕ) → u < z.threads → u ≢ t → PassOk rule z xs next u (w.pass u)
       other u near ne = let h = ok.passes u near in record {
-        each = dput_elim {X = λ k. (scheme_of rule z xs k).World} (λ k y. (scheme_of rule z xs k).PassFits y u (own_of V (w.pass u) k)) lock turn.world w.each
+        each = dput_elim {X = λ k. (scheme_of rule z xs k).World}
+            (λ k y. (scheme_of rule z xs k).PassFits y u (own_of V (w.pass u) k)) lock turn.world w.each
             (turn.passes u (own_of V (w.pass u) lock) ne (h.each lock)) (λ k _. h.each k);
         apart = h.apart;
         stand = h.stand;
@@ -101,7 +110,8 @@ module _ {V Part : Type 0} (rule : CallersRule V Part) (z : LotSize) (xs : List 
       by_kind d (Cond r) h = h
       by_kind d (Sem r) h = h
 
-  pub lifts_out : (p : PassView (LotPassView V)) (l : ℕ) (mid : LockPassView V → Option V → Type 0) (told : LotPassView V → Option V → Type 0)
+  pub lifts_out : (p : PassView (LotPassView V)) (l : ℕ) (mid : LockPassView V → Option V → Type 0)
+      (told : LotPassView V → Option V → Type 0)
       → ((own : LockPassView V) (x : Option V) → mid own x → (own.asleep ≡ p.own.locks.asleep) × told (record p.own { locks = own }) x)
       → AllowsOut (scheme_of rule z xs lock) l (part_pass lock p) mid → AllowsOut (lot_scheme rule z xs) l p told
   lifts_out p l mid told carries allows w ws hs ok fit =
@@ -134,14 +144,18 @@ module _ {V Part : Type 0} (rule : CallersRule V Part) (z : LotSize) (xs : List 
 abbrev pub Leaves : {V : Type 0} → PassView (LotPassView V) → ℕ → LotPassView V → Option V → Type 0
 Leaves {V} p l own y = (own ≡ placed_in p.own l Moving) × ((pl : Place V) → get_elem? p.own.locks.places l ≡ some pl → y ≡ in_slot pl)
 
-module _ {V Part : Type 0} (rule : CallersRule V Part) (z : LotSize) (xs : List V) (p : PassView (LotPassView V)) (l : ℕ) (here : l < z.locks) (holds : Holds p.own.locks l) where
+module _ {V Part : Type 0} (rule : CallersRule V Part) (z : LotSize) (xs : List V) (p : PassView (LotPassView V)) (l : ℕ)
+    (here : l < z.locks) (holds : Holds p.own.locks l) where
   pub leaves : (pl : Place V) → get_elem? p.own.locks.places l ≡ some pl → IsAtHome pl → AllowsOut (lot_scheme rule z xs) l p (Leaves p l)
   leaves pl there home = lifts_out rule z xs p l (moving.Leaves (part_pass lock p) l) (Leaves p l)
       (λ own x h. (ap (λ (o : LockPassView V). o.asleep) h.0, (ap (λ o. let q : LotPassView V = record p.own { locks = o } in q) h.0, h.1)))
       (moving.leaves rule (lock_size z) xs (part_pass lock p) l here holds pl there home)
 
-  pub comes_back : (y : Option V) → ((x : V) → HasSeen p.own.locks l x → MayLie rule l p.thread x (place_of y)) → (own : LotPassView V) (x : Option V) → Leaves p l own x
+  pub comes_back : (y : Option V) → ((x : V) → HasSeen p.own.locks l x → MayLie rule l p.thread x (place_of y))
+      → (own : LotPassView V) (x : Option V) → Leaves p l own x
       → AllowsBack (lot_scheme rule z xs) l p.thread own y (λ q. q ≡ placed_in own l (place_of y))
-  comes_back y may own x out = lifts_back rule z xs l p.thread own y (λ q. q ≡ placed own.locks l (place_of y)) (λ q. q ≡ placed_in own l (place_of y))
+  comes_back y may own x out = lifts_back rule z xs l p.thread own y (λ q. q ≡ placed own.locks l (place_of y))
+      (λ q. q ≡ placed_in own l (place_of y))
       (λ q e. (ap (λ (o : LockPassView V). o.asleep) e, ap (λ o. let r : LotPassView V = record own { locks = o } in r) e))
-      (moving.comes_back rule (lock_size z) xs (part_pass lock p) l here holds y may own.locks x (ap (λ (o : LotPassView V). o.locks) out.0, out.1))
+      (moving.comes_back rule (lock_size z) xs (part_pass lock p) l here holds y may own.locks x
+          (ap (λ (o : LotPassView V). o.locks) out.0, out.1))

@@ -1,5 +1,6 @@
 -- What a pass tells of its thread's point in the state of the whole.
-use Rattle.std.proofs.Common.{◌≡◌, ◌≢◌, ℕ, suc, ◌<◌, ◌⊎◌, Bool, true, false, List, refl, sym, ap, subst, ◌∙◌, inl, inr, ⊎_elim, eq-eqb, Option, Some, None}
+use Rattle.std.proofs.Common.{◌≡◌, ◌≢◌, ℕ, suc, ◌<◌, ◌⊎◌, Bool, true, false, List, refl, sym, ap, subst, ◌∙◌, inl, inr, ⊎_elim, eq-eqb}
+use Rattle.std.proofs.Common.{Option, Some, None}
 use Rattle.std.specs.Prelude.{◌+◌, is_some}
 use Rattle.std.specs.List.{Contains}
 use mathlib.Core.Option as maybe
@@ -65,7 +66,8 @@ not_true : (b : Bool) → (b ≡ true → ⊥) → b ≡ false
 not_true true h = absurd (h refl)
 not_true false h = refl
 
-module _ {V Part : Type 0} (rule : CallersRule V Part) (z : LotSize) (xs : List V) (w : LotWorld rule z xs) (ws : List ℕ) (hs : List (maybe.Option (Option V))) (ok : LotFits rule z xs w ws hs) where
+module _ {V Part : Type 0} (rule : CallersRule V Part) (z : LotSize) (xs : List V) (w : LotWorld rule z xs) (ws : List ℕ)
+    (hs : List (maybe.Option (Option V))) (ok : LotFits rule z xs w ws hs) where
   module _ (t : ℕ) (p : LotPassView V) (fit : LotPassIs rule z xs w t p) where
     pub pass_ok : PassOk rule z xs w t p
     pass_ok = subst (PassOk rule z xs w t) fit.1 (ok.passes t fit.0)
@@ -78,8 +80,10 @@ module _ {V Part : Type 0} (rule : CallersRule V Part) (z : LotSize) (xs : List 
     wants up =
         let q = pass_ok.each lock in
         let l = w.each lock in
-        let spot : l.spot t ≡ awake = lock_awake z.threads l.word l.root t (l.pass t) (l.spot t) ((ok.parts lock).kept.threads t).spot (ap (λ (x : LockPassView V). x.asleep) q.1 ∙ up) in
-        ap (λ (a : LockPart). a.wants t) (ok.agrees lock) ∙ (ap (λ s. wants_of s (l.pass t).aim) spot ∙ ap (λ (x : LockPassView V). x.aim) q.1)
+        let spot : l.spot t ≡ awake = lock_awake z.threads l.word l.root t (l.pass t) (l.spot t) ((ok.parts lock).kept.threads t).spot
+            (ap (λ (x : LockPassView V). x.asleep) q.1 ∙ up) in
+        ap (λ (a : LockPart). a.wants t) (ok.agrees lock)
+            ∙ (ap (λ s. wants_of s (l.pass t).aim) spot ∙ ap (λ (x : LockPassView V). x.aim) q.1)
 
     sweeps : swept_by at ≡ p.conds.sweeps
     sweeps = ap (λ (a : CondPart). a.sweeps t) (ok.agrees cond) ∙ ap (λ (x : CondPassView). x.sweeps) (pass_ok.each cond).1
@@ -93,7 +97,8 @@ module _ {V Part : Type 0} (rule : CallersRule V Part) (z : LotSize) (xs : List 
         let v = w.each cond in
         let home = ap (λ (x : CondPassView). x.out) (pass_ok.each cond).1 ∙ out in
         let up : v.spot t ≡ awake = cond_awake z.threads v.root t (v.pass t) (v.spot t) ((ok.parts cond).kept.threads t).spot home in
-        let line : v.spot t ≡ queued c = ((ok.parts cond).kept.threads t).in_line c (subst (λ (a : CondPart). Contains (a.conds.line c) t) (ok.agrees cond) h) in
+        let line : v.spot t ≡ queued c = ((ok.parts cond).kept.threads t).in_line c
+            (subst (λ (a : CondPart). Contains (a.conds.line c) t) (ok.agrees cond) h) in
         let e : awake ≡ queued c = sym up ∙ line in cc
 
     -- who holds a lock has it
@@ -101,7 +106,8 @@ module _ {V Part : Type 0} (rule : CallersRule V Part) (z : LotSize) (xs : List 
     has l h =
         let v = w.each lock in
         ap (λ (a : LockPart). a.locks.has l t) (ok.agrees lock)
-        ∙ eq-eqb (v.word l).owner (suc t) (((ok.parts lock).kept.threads t).holds l (subst (λ (x : LockPassView V). Holds x l) (sym (pass_ok.each lock).1) h))
+        ∙ eq-eqb (v.word l).owner (suc t)
+            (((ok.parts lock).kept.threads t).holds l (subst (λ (x : LockPassView V). Holds x l) (sym (pass_ok.each lock).1) h))
 
     -- ---- where the thread stands
     pub awake_calm : IsAwake p → p.stand ≡ Idle → at ≡ Calm
@@ -117,11 +123,13 @@ module _ {V Part : Type 0} (rule : CallersRule V Part) (z : LotSize) (xs : List 
     may_take l may = ⊎_elim {C = (at ≡ Calm) ⊎ StandsBefore w.whole t l}
         (λ h. inr (may_park l h))
         (λ h. ⊎_elim {C = (at ≡ Calm) ⊎ StandsBefore w.whole t l} (λ idle. inl (awake_calm h.0 idle))
-        (λ rest. inr (inr (rest.0, rest_is at rest.0 l (pass_ok.stand ∙ rest.1), in_no_line (out_none p.conds.out (h.0.up cond)) rest.0))) h.1)
+        (λ rest. inr (inr (rest.0, rest_is at rest.0 l (pass_ok.stand ∙ rest.1), in_no_line (out_none p.conds.out (h.0.up cond)) rest.0)))
+            h.1)
         may
 
     pub may_let_go : (l : ℕ) → MayLetGo p l → LetsGo w.whole t l
-    may_let_go l may = ⊎_elim {C = LetsGo w.whole t l} (λ idle. inl (idle_calm idle)) (λ h. inr (h.2.0, bed_is at h.2.0 l (pass_ok.stand ∙ h.2.1))) may
+    may_let_go l may = ⊎_elim {C = LetsGo w.whole t l} (λ idle. inl (idle_calm idle))
+        (λ h. inr (h.2.0, bed_is at h.2.0 l (pass_ok.stand ∙ h.2.1))) may
 
     pub may_seek : (k : ℕ) → MayTakePermit p k → (at ≡ Calm) ⊎ (at ≡ Seeks k)
     may_seek k may = ⊎_elim {C = (at ≡ Calm) ⊎ (at ≡ Seeks k)} (λ h. inr (seeks_is at k (seeks ∙ h.1))) (λ idle. inl (idle_calm idle)) may
@@ -142,22 +150,27 @@ module _ {V Part : Type 0} (rule : CallersRule V Part) (z : LotSize) (xs : List 
   debtor j u near up = (near, quiet u (w.pass u) (near, refl) j up)
 
   -- to whom a root owes a letter is away in that kind
-  pub lock_debtor : (l u k : ℕ) (q : LockRootView) → (scheme_of rule z xs lock).RootFits (w.each lock) l q → q.owes ≡ Some (u, k) → (u < z.threads) × Quiet rule z xs lock w u
+  pub lock_debtor : (l u k : ℕ) (q : LockRootView) → (scheme_of rule z xs lock).RootFits (w.each lock) l q → q.owes ≡ Some (u, k)
+      → (u < z.threads) × Quiet rule z xs lock w u
   lock_debtor l u k q root debt =
       let v = w.each lock in
       let d = debtor_fits z.threads z.locks v (ok.parts lock).kept u k l (ap (λ (y : LockRootView). y.owes) root.1 ∙ debt) in
       debtor lock u d.0.0 (ap (λ (x : LockPassView V). x.asleep) (sym ((ok.passes u d.0.0).each lock).1) ∙ d.0.1)
 
-  pub cond_debtor : (c u : ℕ) (q : CondRootView) → (scheme_of rule z xs cond).RootFits (w.each cond) c q → Contains q.owes u → (u < z.threads) × Quiet rule z xs cond w u
+  pub cond_debtor : (c u : ℕ) (q : CondRootView) → (scheme_of rule z xs cond).RootFits (w.each cond) c q → Contains q.owes u
+      → (u < z.threads) × Quiet rule z xs cond w u
   cond_debtor c u q root debt =
       let v = w.each cond in
-      let d = waits_out z.threads (z.locks + z.conds) v (ok.parts cond).kept u c (subst (λ (y : CondRootView). Contains y.owes u) (sym root.1) debt) in
+      let d = waits_out z.threads (z.locks + z.conds) v (ok.parts cond).kept u c
+          (subst (λ (y : CondRootView). Contains y.owes u) (sym root.1) debt) in
       debtor cond u d.0.0 (ap is_some (ap (λ (x : CondPassView). x.out) (sym ((ok.passes u d.0.0).each cond).1) ∙ d.0.1))
 
-  pub sem_debtor : (k u : ℕ) (q : SemRootView) → (scheme_of rule z xs sem).RootFits (w.each sem) k q → q.owes ≡ Some u → (u < z.threads) × Quiet rule z xs sem w u
+  pub sem_debtor : (k u : ℕ) (q : SemRootView) → (scheme_of rule z xs sem).RootFits (w.each sem) k q → q.owes ≡ Some u → (u < z.threads)
+      × Quiet rule z xs sem w u
   sem_debtor k u q root debt =
       let v = w.each sem in
       let n = (ok.parts sem).letters in
       let at : v.spot u ≡ owed k 0 = n.is_owed u k (root.2 ∙ debt) in
-      let fits : NoticeFits z.threads v.part.sems.line v.part.seeks v.owes u (owed k 0) = subst (NoticeFits z.threads v.part.sems.line v.part.seeks v.owes u) at (n.fits u) in
+      let fits : NoticeFits z.threads v.part.sems.line v.part.seeks v.owes u (owed k 0) =
+          subst (NoticeFits z.threads v.part.sems.line v.part.seeks v.owes u) at (n.fits u) in
       debtor sem u fits.0 (sym ((ok.passes u fits.0).each sem).asleep ∙ ap sleeps at)

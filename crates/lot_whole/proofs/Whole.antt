@@ -8,13 +8,15 @@ use Rattle.lot_core.specs.Rows.{told}
 use Rattle.lot_core.specs.Parts.{AsksOfThread, LockAllowed, CondAllowed, SemaphoreAllowed, lock_part, cond_part, semaphore_part}
 use Rattle.lot_core.specs.Sound.{IsSound}
 use Rattle.lot_core.proofs.Law.{reached_sound}
-use Rattle.lot_core.proofs.Following.{SleepersWant, lock_follows, cond_follows, semaphore_follows, lock_part_allows, cond_part_allows, semaphore_part_allows}
+use Rattle.lot_core.proofs.Following.{SleepersWant, lock_follows, cond_follows, semaphore_follows, lock_part_allows, cond_part_allows}
+use Rattle.lot_core.proofs.Following.{semaphore_part_allows}
 use Rattle.lot_core.proofs.Members.{in_head}
 use Rattle.lot_core.proofs.Put.{by_bit, put_again, told_put, told_same}
 use Rattle.lot_events.specs.declared.events.Point.{Point}
 use Rattle.lot_events.specs.declared.events.Point.TheVariants.{Calm, Wants, Bed, Rest, Sweeps, Seeks}
 use Rattle.lot_events.specs.declared.events.Event.{Event}
-use Rattle.lot_events.specs.declared.events.Event.TheVariants.{Try, Take, Mark, Park, Free, Pass, Enlist, Look, Call, Lower, Sweep, SemTake, SemMark, SemPark, SemFree, SemPass, SemClear}
+use Rattle.lot_events.specs.declared.events.Event.TheVariants.{Try, Take, Mark, Park, Free, Pass, Enlist, Look, Call, Lower, Sweep, SemTake}
+use Rattle.lot_events.specs.declared.events.Event.TheVariants.{SemMark, SemPark, SemFree, SemPass, SemClear}
 use Rattle.lot_events.specs.declared.events.Seen.{Seen}
 use Rattle.lot_events.specs.declared.events.Seen.TheVariants.{Bool as Saw}
 use Rattle.lot_rights.specs.History.{maker}
@@ -93,7 +95,8 @@ one_kind j k e is here = sym (is_kind j e is) ∙ is_kind k e here
 
 -- ---- the parts of the state after an event
 module _ {V Part : Type 0} (rule : CallersRule V Part) (z : LotSize) (xs : List V) where
-  others_stay : (s : World) (e : Event) → IsSound s → Allowed s e → (k : Which) → (IsEventIn k e → ⊥) → part_in rule z xs k (after s e) ≡ part_in rule z xs k s
+  others_stay : (s : World) (e : Event) → IsSound s → Allowed s e → (k : Which) → (IsEventIn k e → ⊥)
+      → part_in rule z xs k (after s e) ≡ part_in rule z xs k s
   others_stay s e sound ok lock other = (lock_follows s e ok).stays other
   others_stay s e sound ok cond other = (cond_follows s e sound ok).stays other
   others_stay s e sound ok sem other = (semaphore_follows s e sound ok).stays other
@@ -105,14 +108,17 @@ module _ {V Part : Type 0} (rule : CallersRule V Part) (z : LotSize) (xs : List 
     others : (j : Which) → IsEventIn j e → Allowed s e → (k : Which) → k ≢ j → part_in rule z xs k (after s e) ≡ part_in rule z xs k s
     others j is ok k ne = others_stay s e sound ok k (λ here. ne (one_kind k j e here is))
 
-    pub joins : (j : Which) (b : (scheme_of rule z xs j).Part) → IsEventIn j e → (scheme_of rule z xs j).Step (part_in rule z xs j s) e saw b → Joined rule z xs j s e saw b
+    pub joins : (j : Which) (b : (scheme_of rule z xs j).Part) → IsEventIn j e
+        → (scheme_of rule z xs j).Step (part_in rule z xs j s) e saw b → Joined rule z xs j s e saw b
     joins lock b is step =
-        let here : LockAllowed s.threads s.lock_count (lock_part s) e = subst (λ (c : Counts). LockAllowed c.threads c.locks (lock_part s) e) (sym counts) step.0 in
+        let here : LockAllowed s.threads s.lock_count (lock_part s) e =
+            subst (λ (c : Counts). LockAllowed c.threads c.locks (lock_part s) e) (sym counts) step.0 in
         let ok : Allowed s e = (lock_part_allows s e is).1 (here, asks) in
         let follows = (lock_follows s e ok).steps is in
         record { allowed = ok; saw_is = step.1 ∙ sym follows.1; part = follows.2 ∙ sym step.2; others = others lock is ok }
     joins cond b is step =
-        let here : CondAllowed s.threads s.lock_count s.cond_count (cond_part s) e = subst (λ (c : Counts). CondAllowed c.threads c.locks c.conds (cond_part s) e) (sym counts) step.0 in
+        let here : CondAllowed s.threads s.lock_count s.cond_count (cond_part s) e =
+            subst (λ (c : Counts). CondAllowed c.threads c.locks c.conds (cond_part s) e) (sym counts) step.0 in
         let ok : Allowed s e = (cond_part_allows s e sound is).1 (here, asks) in
         let follows = (cond_follows s e sound ok).steps is in
         record { allowed = ok; saw_is = step.1 ∙ sym follows.1; part = follows.2 ∙ sym step.2; others = others cond is ok }
@@ -159,8 +165,10 @@ stands_move s (Take t l) want = goes_to s t (if s.locks.held l then Wants l else
 stands_move s (Mark t l) want = stays_put s t
 stands_move s (Park t l) want = stays_put s t
 stands_move s (Free t l) want =
-    by_bit (λ b. Stands s t (if b then s.point else let_go s.point t) (moves (Free t l) (Saw (not b)) (stand_of (s.point t)))) (s.locks.parked l) (λ _. stays_put s t) (λ _. lets_go s t)
-stands_move s (Pass t l true more) want = hands_over s t l (s.locks.line l) (λ u rest is. want l u (subst (λ us. Contains us u) (sym is) (in_head u rest)))
+    by_bit (λ b. Stands s t (if b then s.point else let_go s.point t) (moves (Free t l) (Saw (not b)) (stand_of (s.point t))))
+        (s.locks.parked l) (λ _. stays_put s t) (λ _. lets_go s t)
+stands_move s (Pass t l true more) want =
+    hands_over s t l (s.locks.line l) (λ u rest is. want l u (subst (λ us. Contains us u) (sym is) (in_head u rest)))
 stands_move s (Pass t l false more) want = lets_go s t
 stands_move s (Enlist t c l) want = goes_to s t (Bed c l) (AtBed c l) refl
 stands_move s (Look t c) want = stays_put s t

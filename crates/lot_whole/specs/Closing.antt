@@ -40,10 +40,12 @@ LineIs s l (Lock q) = s.locks.line l ≡ q.line
 LineIs s c (Cond q) = s.conds.line c ≡ q.line
 LineIs s k (Sem q) = s.sems.line k ≡ q.line
 
--- One history was made with these rights, and each shows its own entries of it, in their order. Without its notices it is one run of the whole
+-- One history was made with these rights, and each shows its own entries of it, in their order. Without its notices
+-- it is one run of the whole
 -- model, from the opening to a sound state, which has the lines that the roots tell; and the permits that it has left and those that are
 -- out with the passes are together all that there were
-pub record IsToldTo {V : Type 0} (z : LotSize) (passes : List (PassShown (LotPassView V))) (roots : List (RootShown LotRootView)) : Type 0 where
+pub record IsToldTo {V : Type 0} (z : LotSize) (passes : List (PassShown (LotPassView V)))
+    (roots : List (RootShown LotRootView)) : Type 0 where
   pub recounted : IsRecounted WholeStep (opening_of z) passes roots
   pub run : IsOneRun z (events_in recounted.log) recounted.part
   pub lines : All (λ (q : RootShown LotRootView). LineIs recounted.part q.root.key q.root.own) roots

@@ -1,4 +1,5 @@
--- What a lot's table promises: at every moment there is one sound state of the whole model that the words stand for, and the history without
+-- What a lot's table promises: at every moment there is one sound state of the whole model that the words stand for,
+-- and the history without
 -- its notices is one run of the model, from the opening to it.
 use Rattle.std.specs.Prelude.{◌≡◌, ◌≢◌, ℕ, ◌<◌, true, false, List, [], map, slice_index, Option}
 use Rattle.std.specs.List.{Contains}
@@ -46,7 +47,8 @@ pub record IsOneRun (z : LotSize) (events : List (Event × Seen)) (state : World
 
 module _ {V Part : Type 0} (rule : CallersRule V Part) (z : LotSize) (xs : List V) where
   -- Of a table that keeps the rule: the state of the whole model that it stands for
-  pub record OneState (s : State (Option V) (List (Right (LotPassView V) LotRootView))) (here : Ruled (lot_scheme rule z xs) s) : Type 0 where
+  pub record OneState (s : State (Option V) (List (Right (LotPassView V) LotRootView)))
+      (here : Ruled (lot_scheme rule z xs) s) : Type 0 where
     pub state : World
     -- the words of all keys stand for it
     pub words : (j : Which) (c : ℕ) → IsKeyIn z j c → slice_index s.words (word_at c) ≡ word_in z state c
@@ -55,11 +57,13 @@ module _ {V Part : Type 0} (rule : CallersRule V Part) (z : LotSize) (xs : List 
     -- one line each, over all kinds
     pub one_line : OneLineOfAll state
     -- a thread waits in one kind at most, also while its letter is owed or lies
-    pub one_letter : (t : ℕ) → t < z.threads → (j k : Which) → away V j (own_of V (here.world.pass t) j) ≡ true → away V k (own_of V (here.world.pass t) k) ≡ true → j ≡ k
+    pub one_letter : (t : ℕ) → t < z.threads → (j k : Which) → away V j (own_of V (here.world.pass t) j) ≡ true
+        → away V k (own_of V (here.world.pass t) k) ≡ true → j ≡ k
 
   -- with it, of the same world, what each kind promises of its own: letters fit in all three, locks have one owner at most and someone
   -- tries to get a free one with sleepers, values are lawful, no sleeper of a condition is forgotten, and the ledger is balanced
-  pub record Promises (s : State (Option V) (List (Right (LotPassView V) LotRootView))) (here : Ruled (lot_scheme rule z xs) s) : Type 0 where
+  pub record Promises (s : State (Option V) (List (Right (LotPassView V) LotRootView)))
+      (here : Ruled (lot_scheme rule z xs) s) : Type 0 where
     pub whole : OneState s here
     pub lock_letters : LockLettersFit (here.world.each lock)
     pub cond_letters : CondLettersFit (here.world.each cond)

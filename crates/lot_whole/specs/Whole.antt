@@ -101,9 +101,11 @@ module _ {V Part : Type 0} (rule : CallersRule V Part) (z : LotSize) (xs : List 
     pub others : (k : Which) → k ≢ j → part_in rule z xs k (after s e) ≡ part_in rule z xs k s
 
   abbrev pub Joins : Type 0
-  Joins = (j : Which) (s : World) (e : Event) (saw : Seen) (b : (scheme_of rule z xs j).Part) → IsReached s → counts_in s ≡ counts_of z → IsEventIn j e → AsksOfThread s e
+  Joins = (j : Which) (s : World) (e : Event) (saw : Seen) (b : (scheme_of rule z xs j).Part) → IsReached s → counts_in s ≡ counts_of z
+      → IsEventIn j e → AsksOfThread s e
       → (scheme_of rule z xs j).Step (part_in rule z xs j s) e saw b → Joined j s e saw b
 
 -- and what no part tells: of an event its own thread alone moves
 abbrev pub StandsMove : Type 0
-StandsMove = (s : World) (e : Event) → IsReached s → Stands s (maker e) (after s e).point (moves e (seen s e) (stand_of (s.point (maker e))))
+StandsMove = (s : World) (e : Event) → IsReached s
+    → Stands s (maker e) (after s e).point (moves e (seen s e) (stand_of (s.point (maker e))))

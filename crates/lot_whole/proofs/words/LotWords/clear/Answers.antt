@@ -16,8 +16,10 @@ fetch_and_both-pass-requires-clause-allows g c =
     let start = c.self.inside.words.key in
     let p = c.args.pass.pass in
     let q = c.args.root.root in
-    both_at_place (scheme g.V.Keeps start) (word_at q.key) _ c.word-word.ensures.is (λ n. bit_and n (2 ^ 64 - 2)) p q (λ _. Clears p (sem_of q))
-    (subst (λ r. AllowsBoth (scheme g.V.Keeps start) (word_at q.key) (λ n. bit_and n (2 ^ 64 - 2)) p r (λ _. Clears p (sem_of q))) (sem_root q c.requires.sem)
+    both_at_place (scheme g.V.Keeps start) (word_at q.key) _ c.word-word.ensures.is (λ n. bit_and n (2 ^ 64 - 2)) p q
+        (λ _. Clears p (sem_of q))
+    (subst (λ r. AllowsBoth (scheme g.V.Keeps start) (word_at q.key) (λ n. bit_and n (2 ^ 64 - 2)) p r (λ _. Clears p (sem_of q)))
+        (sem_root q c.requires.sem)
     (clears g.V.Keeps (size_of start) start.values.value.items p (sem_of q) c.requires.idle c.requires.nobody))
 
 pub fetch_and_both-pass-requires-clause-names : goal.fetch_and_both-pass-requires-clause-names

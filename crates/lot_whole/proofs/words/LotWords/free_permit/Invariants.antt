@@ -8,4 +8,5 @@ abbrev pub ghosts-load : goal.ghosts-load
 ghosts-load g a = record { then = FindsOf a.pass.pass a._about }
 
 abbrev pub ghosts-compare_exchange : goal.ghosts-compare_exchange
-ghosts-compare_exchange g a = let p = a.pass.pass in record { then = Swaps p a._about (gave p.own.sems a._about) (SemFree p.thread a._about) a.old }
+ghosts-compare_exchange g a = let p =
+    a.pass.pass in record { then = Swaps p a._about (gave p.own.sems a._about) (SemFree p.thread a._about) a.old }
