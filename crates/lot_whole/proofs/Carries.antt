@@ -85,7 +85,7 @@ abbrev pub Passes : {V : Type 0} → PassView (LotPassView V) → RootView LockR
     → RootView LotRootView → Type 0
 Passes {V} p q fair more p' q' =
     ((y : V) → IsIn p.own.locks q.key y
-        → NotesIn lock p (let_go p.own.locks q.key y) (Makes (Pass p.thread q.key fair more) (Sleeper (first q.own.line))) p')
+    → NotesIn lock p (let_go p.own.locks q.key y) (Makes (Pass p.thread q.key fair more) (Sleeper (first q.own.line))) p')
     × (q' ≡ whole_root lock (record q { own = passed_root q.own fair q.own.line }))
 
 abbrev pub Enlists : {V : Type 0} → PassView (LotPassView V) → RootView CondRootView → ℕ → PassView (LotPassView V) → RootView LotRootView
@@ -103,7 +103,7 @@ abbrev pub CallsSome : {V : Type 0} → PassView (LotPassView V) → RootView Co
     → RootView LotRootView → Type 0
 CallsSome p q n more p' q' =
     NotesIn cond p (took p.own.conds q.key (dequeued_count n q.own.line))
-        (Makes (Call p.thread q.key n more) (Count (dequeued_count n q.own.line))) p'
+    (Makes (Call p.thread q.key n more) (Count (dequeued_count n q.own.line))) p'
     × (q' ≡ whole_root cond (record q { own = called_root q.own n }))
 
 abbrev pub Sweeps : {V : Type 0} → PassView (LotPassView V) → RootView CondRootView → PassView (LotPassView V) → RootView LotRootView
@@ -126,7 +126,7 @@ module _ {V Part : Type 0} (rule : CallersRule V Part) (z : LotSize) (xs : List 
     -- a step whose entry is known
     pub carry : (own' : PassIn V j) (a' : Access) (whole : PassView (LotPassView V) → Type 0) → MayBeAway j p.own own' → MaySpeak a'
         → ((k : ℕ) → whole (pass_after p (lot_own j p.own own' a') k a')) → (own : PassIn V j) (a : Access)
-            → Notes (part_pass j p) own' a' (pass_after (part_pass j p) own 0 a) → Carried whole own a
+        → Notes (part_pass j p) own' a' (pass_after (part_pass j p) own 0 a) → Carried whole own a
     carry own' a' whole may speaks told own a notes =
         let t = notes_tell (part_pass j p) own own' a a' notes in (
           subst (MayBeAway j p.own) (sym t.0) may,
@@ -152,9 +152,9 @@ module _ {V Part : Type 0} (rule : CallersRule V Part) (z : LotSize) (xs : List 
         → MayBeAway j p.own own' → MaySpeakBoth a'
         → ((k : ℕ) → whole (pass_after p (lot_own j p.own own' a') k a') (whole_root j (record q { own = its' })))
         → (own : PassIn V j) (its : RootIn j) (a : Access) → Notes (part_pass j p) own' a' (pass_after (part_pass j p) own 0 a)
-            → record q { own = its } ≡ record q { own = its' }
+        → record q { own = its } ≡ record q { own = its' }
         → MayBeAway j p.own own × MaySpeakBoth a
-            × ((k : ℕ) → whole (pass_after p (lot_own j p.own own a) k a) (whole_root j (record q { own = its })))
+        × ((k : ℕ) → whole (pass_after p (lot_own j p.own own a) k a) (whole_root j (record q { own = its })))
     carry_both own' its' a' whole may speaks told own its a notes root =
         let t = notes_tell (part_pass j p) own own' a a' notes in
         let r : its ≡ its' = ap (λ (y : RootView (RootIn j)). y.own) root in (
@@ -191,7 +191,7 @@ module _ {V Part : Type 0} (rule : CallersRule V Part) (z : LotSize) (xs : List 
             (pass_after (part_pass lock p) own 0 a))
             (Notes (part_pass lock p) (wishing p.own.locks l) (Makes (Take p.thread l) (Saw false)) (pass_after (part_pass lock p) own 0 a))
             → Carried lock p (λ q. MatchBool b (GetsBy rule p l (Makes (Take p.thread l) (Saw true)) q)
-                (NotesIn lock p (wishing p.own.locks l) (Makes (Take p.thread l) (Saw false)) q)) own a
+            (NotesIn lock p (wishing p.own.locks l) (Makes (Take p.thread l) (Saw false)) q)) own a
         by true h = carry lock p (gripped p.own.locks l h.0) (Makes (Take p.thread l) (Saw true))
             (GetsBy rule p l (Makes (Take p.thread l) (Saw true))) (λ up. inl up) (may_speak may true)
             (λ k. (h.0, h.1, (k, refl))) own a h.2
@@ -202,7 +202,7 @@ module _ {V Part : Type 0} (rule : CallersRule V Part) (z : LotSize) (xs : List 
     pub takes : MayTake p.own l → AllowsPass (lot_scheme rule z xs) (word_at l) (λ n. bit_or n 1) p (Takes rule p l)
     takes may = lifts_pass rule z xs lock (word_at l) (λ n. bit_or n 1) p (locks.Takes rule (part_pass lock p) l) (Takes rule p l)
         (locks.takes rule (lock_size z) xs (part_pass lock p) l here (takes_up may lock) (takes_aims may)) (at_key lock p l is_lock)
-            (carries_takes may)
+        (carries_takes may)
 
     -- ---- the other calls of locks
     idle_aims : IsIdle p.own → Aims p.own.locks l
@@ -216,7 +216,7 @@ module _ {V Part : Type 0} (rule : CallersRule V Part) (z : LotSize) (xs : List 
             (pass_after (part_pass lock p) own 0 a))
             (Notes (part_pass lock p) p.own.locks (Makes (Try p.thread l) (Saw false)) (pass_after (part_pass lock p) own 0 a))
             → Carried lock p (λ q. MatchBool b (GetsBy rule p l (Makes (Try p.thread l) (Saw true)) q)
-                (NotesIn lock p p.own.locks (Makes (Try p.thread l) (Saw false)) q)) own a
+            (NotesIn lock p p.own.locks (Makes (Try p.thread l) (Saw false)) q)) own a
         by true h = carry lock p (gripped p.own.locks l h.0) (Makes (Try p.thread l) (Saw true))
             (GetsBy rule p l (Makes (Try p.thread l) (Saw true))) (λ up. inl up)
             (λ w ws hs ok fit. (tt, idle_calm rule z xs w ws hs ok p.thread p.own fit idle)) (λ k. (h.0, h.1, (k, refl))) own a h.2
@@ -227,7 +227,7 @@ module _ {V Part : Type 0} (rule : CallersRule V Part) (z : LotSize) (xs : List 
     pub tries : IsIdle p.own → AllowsPass (lot_scheme rule z xs) (word_at l) (λ n. bit_or n 1) p (Tries rule p l)
     tries idle = lifts_pass rule z xs lock (word_at l) (λ n. bit_or n 1) p (locks.Tries rule (part_pass lock p) l) (Tries rule p l)
         (locks.tries rule (lock_size z) xs (part_pass lock p) l here (idle.0.up lock) idle.0.aim) (at_key lock p l is_lock)
-            (carries_tries idle)
+        (carries_tries idle)
 
     -- the word was found to be another
     finds : (x m : ℕ) → x ≢ m → (own : LockPassView V) (a : Access)
@@ -244,7 +244,7 @@ module _ {V Part : Type 0} (rule : CallersRule V Part) (z : LotSize) (xs : List 
             (pass_after (part_pass lock p) own 0 a))
             ((x : ℕ) × (x ≢ 0) × Notes (part_pass lock p) p.own.locks (Finds p.thread l x) (pass_after (part_pass lock p) own 0 a))
             → Carried lock p (λ q. MatchBool b (GetsBy rule p l (Makes (Take p.thread l) (Saw true)) q)
-                ((x : ℕ) × (x ≢ 0) × FindsOf p l x q)) own a
+            ((x : ℕ) × (x ≢ 0) × FindsOf p l x q)) own a
         by true h = carry lock p (gripped p.own.locks l h.0) (Makes (Take p.thread l) (Saw true))
             (GetsBy rule p l (Makes (Take p.thread l) (Saw true))) (λ up. inl up) (may_speak may true)
             (λ k. (h.0, h.1, (k, refl))) own a h.2
@@ -254,7 +254,7 @@ module _ {V Part : Type 0} (rule : CallersRule V Part) (z : LotSize) (xs : List 
     takes_free may = lifts_pass rule z xs lock (word_at l) (λ n. either (n == 0) 1 n) p (locks.TakesFree rule (part_pass lock p) l)
         (TakesFree rule p l)
         (locks.takes_free rule (lock_size z) xs (part_pass lock p) l here (takes_up may lock) (takes_aims may)) (at_key lock p l is_lock)
-            (carries_takes_free may)
+        (carries_takes_free may)
 
     carries_marks : MayPark p.own l → CarriesPass rule z xs lock p (locks.Marks (part_pass lock p) l) (Marks p l)
     carries_marks may n own a told = by (n == 1) (told 0)
@@ -263,7 +263,7 @@ module _ {V Part : Type 0} (rule : CallersRule V Part) (z : LotSize) (xs : List 
             (pass_after (part_pass lock p) own 0 a))
             ((x : ℕ) × (x ≢ 1) × Notes (part_pass lock p) p.own.locks (Finds p.thread l x) (pass_after (part_pass lock p) own 0 a))
             → Carried lock p (λ q. MatchBool b (NotesIn lock p p.own.locks (Makes (Mark p.thread l) Done) q)
-                ((x : ℕ) × (x ≢ 1) × FindsOf p l x q)) own a
+            ((x : ℕ) × (x ≢ 1) × FindsOf p l x q)) own a
         by true h = carry lock p p.own.locks (Makes (Mark p.thread l) Done) (NotesIn lock p p.own.locks (Makes (Mark p.thread l) Done))
             (λ up. inl up)
             (λ w ws hs ok fit. (tt, may_park rule z xs w ws hs ok p.thread p.own fit l may)) (λ k. (k, refl)) own a h
@@ -289,15 +289,18 @@ module _ {V Part : Type 0} (rule : CallersRule V Part) (z : LotSize) (xs : List 
               → Notes (part_pass lock p) (let_go p.own.locks l x) (Makes (Free p.thread l) (Saw true))
               (pass_after (part_pass lock p) own 0 a))
               (Notes (part_pass lock p) (found_parked p.own.locks l) (Makes (Free p.thread l) (Saw false))
-                  (pass_after (part_pass lock p) own 0 a))
+              (pass_after (part_pass lock p) own 0 a))
               → Carried lock p (λ q. MatchBool b
-                  ((x : V) → IsIn p.own.locks l x → NotesIn lock p (let_go p.own.locks l x) (Makes (Free p.thread l) (Saw true)) q)
+              ((x : V) → IsIn p.own.locks l x → NotesIn lock p (let_go p.own.locks l x) (Makes (Free p.thread l) (Saw true)) q)
               (NotesIn lock p (found_parked p.own.locks l) (Makes (Free p.thread l) (Saw false)) q)) own a
           by true h = carry lock p (let_go p.own.locks l y) (Makes (Free p.thread l) (Saw true))
               (λ q. (x : V) → IsIn p.own.locks l x → NotesIn lock p (let_go p.own.locks l x) (Makes (Free p.thread l) (Saw true)) q)
-                  (λ up. inl up) (speaks_free true)
-              (λ k x at. (k, ap (λ v. pass_after p (lot_own lock p.own (let_go p.own.locks l v) (Makes (Free p.thread l) (Saw true))) k
-                  (Makes (Free p.thread l) (Saw true))) (locks.same_in p.own.locks l y x lies at)))
+              (λ up. inl up) (speaks_free true)
+              (λ k x at. (
+                k,
+                ap (λ v. pass_after p (lot_own lock p.own (let_go p.own.locks l v) (Makes (Free p.thread l) (Saw true))) k
+                    (Makes (Free p.thread l) (Saw true))) (locks.same_in p.own.locks l y x lies at),
+              ))
               own a (h y lies)
           by false h = carry lock p (found_parked p.own.locks l) (Makes (Free p.thread l) (Saw false))
               (NotesIn lock p (found_parked p.own.locks l) (Makes (Free p.thread l) (Saw false))) (λ up. inl up)
@@ -306,7 +309,7 @@ module _ {V Part : Type 0} (rule : CallersRule V Part) (z : LotSize) (xs : List 
       pub frees : AllowsPass (lot_scheme rule z xs) (word_at l) (λ n. either (n == 1) 0 n) p (Frees p l)
       frees = lifts_pass rule z xs lock (word_at l) (λ n. either (n == 1) 0 n) p (locks.Frees (part_pass lock p) l) (Frees p l)
           (locks.frees rule (lock_size z) xs (part_pass lock p) l here (go_up may).0 (go_up may).1 holds y lies)
-              (at_key lock p l is_lock) carries_frees
+          (at_key lock p l is_lock) carries_frees
 
   -- ---- locks, with their roots
   module _ (p : PassView (LotPassView V)) (q : RootView LockRootView) where
@@ -314,7 +317,7 @@ module _ {V Part : Type 0} (rule : CallersRule V Part) (z : LotSize) (xs : List 
     parks may = lifts_both rule z xs lock (λ n. n) p q (locks.Parks (part_pass lock p) q) (Parks p q)
         (lock_roots.parks rule (lock_size z) xs (part_pass lock p) q (may.0 lock) may.1)
         (λ n own its a told. carry_both lock p q (parked_pass p.own.locks (n == 3)) (parked_root q.own p.thread (n == 3))
-            (Makes (Park p.thread q.key) (Saw (n == 3))) (Parks p q n)
+        (Makes (Park p.thread q.key) (Saw (n == 3))) (Parks p q n)
         (λ up. inr (λ k ne. may.0 k)) (λ w ws hs ok fit root. (tt, tt)) (λ k. ((k, refl), refl)) own its a (told 0).0 (told 0).1)
 
     module _ (may : MayLetGo p.own q.key) (holds : HoldsParked p.own.locks q.key) (y : V) (lies : IsIn p.own.locks q.key y)
@@ -329,8 +332,14 @@ module _ {V Part : Type 0} (rule : CallersRule V Part) (z : LotSize) (xs : List 
           let e : Access = Makes (Pass p.thread q.key fair more) (Sleeper (first q.own.line)) in
           carry_both lock p q (let_go p.own.locks q.key y) (passed_root q.own fair q.own.line) e (Passes p q fair more) (λ up. inl up)
           (λ w ws hs ok fit root. (tt, may_let_go rule z xs w ws hs ok p.thread p.own fit q.key may))
-          (λ k. ((λ x at. (k, ap (λ v. pass_after p (lot_own lock p.own (let_go p.own.locks q.key v) e) k e)
-              (locks.same_in p.own.locks q.key y x lies at))), refl)) own its a
+          (λ k. (
+            (λ x at. (
+              k,
+              ap (λ v. pass_after p (lot_own lock p.own (let_go p.own.locks q.key v) e) k e)
+                  (locks.same_in p.own.locks q.key y x lies at),
+            )),
+            refl,
+          )) own its a
           ((told 0).0 y lies) (told 0).1
 
       pub passes_store : SaysMore q.own.line more → (x : ℕ) → x ≡ word_left (first q.own.line) more
@@ -338,14 +347,14 @@ module _ {V Part : Type 0} (rule : CallersRule V Part) (z : LotSize) (xs : List 
       passes_store says x is = lifts_both rule z xs lock (λ _. x) p q (λ _. lock_roots.Passes (part_pass lock p) q q.own.line false more)
           (λ _. Passes p q false more)
           (lock_roots.stores rule (lock_size z) xs (part_pass lock p) q (let_up may).0 (let_up may).1 holds y lies paid more says x is)
-              (carries_passes false)
+          (carries_passes false)
 
       pub passes_load : (first q.own.line ≡ None → ⊥)
           → AllowsBoth (lot_scheme rule z xs) (word_at q.key) (λ n. n) p (whole_root lock q) (λ _. Passes p q true more)
       passes_load some = lifts_both rule z xs lock (λ n. n) p q (λ _. lock_roots.Passes (part_pass lock p) q q.own.line true more)
           (λ _. Passes p q true more)
           (lock_roots.loads rule (lock_size z) xs (part_pass lock p) q (let_up may).0 (let_up may).1 holds y lies paid more some)
-              (carries_passes true)
+          (carries_passes true)
 
   -- ---- conditions
   idle_calms : (p : LotPassView V) → IsIdle p → IsCalm p.conds
@@ -372,17 +381,23 @@ module _ {V Part : Type 0} (rule : CallersRule V Part) (z : LotSize) (xs : List 
     enlists idle l near holds = lifts_both rule z xs cond (λ _. 1) p q (λ _. conds.EnlistsWith l (part_pass cond p) q) (λ _. Enlists p q l)
         (conds.enlists_with (cond_size z) (part_pass cond p) q l near (idle_calms p.own idle))
         (λ n own its a told. carry_both cond p q (enlisted p.own.conds q.key) (enlisted_root q.own p.thread)
-            (Makes (Enlist p.thread q.key l) Done) (Enlists p q l)
+        (Makes (Enlist p.thread q.key l) Done) (Enlists p q l)
         (λ up. inr (λ k ne. idle.0.up k))
-        (λ w ws hs ok fit root. (tt, (idle_calm rule z xs w ws hs ok p.thread p.own fit idle, has rule z xs w ws hs ok p.thread p.own fit l
-            holds))) (λ k. ((k, refl), refl)) own its a (told 0).0 (told 0).1)
+        (λ w ws hs ok fit root. (
+          tt,
+          (
+            idle_calm rule z xs w ws hs ok p.thread p.own fit idle,
+            has rule z xs w ws hs ok p.thread p.own fit l
+                holds,
+          ),
+        )) (λ k. ((k, refl), refl)) own its a (told 0).0 (told 0).1)
 
     module _ (idle : IsIdle p.own) (n : ℕ) (more : Bool) (few : IsCallCount n) (says : SaysMoreBehind n q.own.line more) where
       carries_calls : CarriesBoth rule z xs cond p q (λ _. conds.Calls (part_pass cond p) q n more) (λ _. CallsSome p q n more)
       carries_calls x own its a told = carry_both cond p q (took p.own.conds q.key (dequeued_count n q.own.line)) (called_root q.own n)
           (Makes (Call p.thread q.key n more) (Count (dequeued_count n q.own.line))) (CallsSome p q n more) (λ up. inl up)
           (λ w ws hs ok fit root. (tt, idle_calm rule z xs w ws hs ok p.thread p.own fit idle)) (λ k. ((k, refl), refl)) own its a
-              (told 0).0 (told 0).1
+          (told 0).0 (told 0).1
 
       pub call_loads : more ≡ true → 0 < dequeued_count n q.own.line
           → AllowsBoth (lot_scheme rule z xs) (word_at q.key) (λ n. n) p (whole_root cond q) (λ _. CallsSome p q n more)
@@ -398,5 +413,5 @@ module _ {V Part : Type 0} (rule : CallersRule V Part) (z : LotSize) (xs : List 
     sweeps may = lifts_both rule z xs cond (λ n. n) p q (λ _. conds.Sweeps (part_pass cond p) q) (λ _. Sweeps p q)
         (conds.sweeps (cond_size z) (part_pass cond p) q may.1)
         (λ n own its a told. carry_both cond p q (swept_pass p.own.conds q.key (length q.own.line)) (swept_root q.own)
-            (Makes (Sweep p.thread q.key) (Count (length q.own.line))) (Sweeps p q)
+        (Makes (Sweep p.thread q.key) (Count (length q.own.line))) (Sweeps p q)
         (λ up. inl up) (λ w ws hs ok fit root. (tt, tt)) (λ k. ((k, refl), refl)) own its a (told 0).0 (told 0).1)

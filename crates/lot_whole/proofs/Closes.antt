@@ -83,16 +83,16 @@ module _ {V Part : Type 0} (rule : CallersRule V Part) (z : LotSize) (opening : 
         (All-weaker (λ (p : PassShown (LotPassView V)). LotPassIs rule z opening w p.pass.thread p.pass.own)
         (λ (p : PassShown (LotPassView V)). (scheme_of rule z opening j).PassFits (w.each j) p.pass.thread (own_of V p.pass.own j))
         (λ p fit. (subst (PassOk rule z opening w p.pass.thread) fit.1 (left.fits.passes p.pass.thread fit.0)).each j) passes
-            left.passes_fit)
+        left.passes_fit)
 
     once : (j : Which) (i : ℕ) → times {R = Right (PassIn V j) (RootIn j)} number i (passes_in (map (in_kind j) passes) ++ []) ≤ 1
     once j i = omega (
-        arith,
-        left.once i,
-        times_append {R = Right (LotPassView V) LotRootView} number i (passes_in passes) (roots_in roots),
-        times_append {R = Right (PassIn V j) (RootIn j)} number i (passes_in (map (in_kind j) passes)) [],
-        same_times LotRootView (RootIn j) (in_kind j) (λ p. refl) i passes,
-      )
+      arith,
+      left.once i,
+      times_append {R = Right (LotPassView V) LotRootView} number i (passes_in passes) (roots_in roots),
+      times_append {R = Right (PassIn V j) (RootIn j)} number i (passes_in (map (in_kind j) passes)) [],
+      same_times LotRootView (RootIn j) (in_kind j) (λ p. refl) i passes,
+    )
 
     deep : (j : Which) → length (homes_in j left.homes) ≡ length (slots_in j)
     deep lock = left.deep
@@ -127,7 +127,7 @@ module _ {V Part : Type 0} (rule : CallersRule V Part) (z : LotSize) (opening : 
       all_out k =
           let kind = sems.all_out (sem_size z) (map (in_kind sem) passes) [] (w.words sem) [] (left_in sem) (all_in sem) k in
           let same : w.whole.sems.left k ≡ (w.each sem).part.sems.left k =
-              ap (λ (a : SemaphorePart). a.sems.left k) (left.fits.agrees sem) in
+          ap (λ (a : SemaphorePart). a.sems.left k) (left.fits.agrees sem) in
           let sum = sum_images (in_kind sem) (λ (p : PassShown (PassIn V sem)). get_or p.pass.own.out k 0) passes in
           omega (arith, kind, same, sum)
 
@@ -158,13 +158,13 @@ module _ {V Part : Type 0} (rule : CallersRule V Part) (z : LotSize) (opening : 
               (λ (p : PassShown (PassIn V lock)). (l : ℕ) (y : V) → slice_get vs l ≡ Some y → FoundOk rule l p.pass.thread p.pass.own y)
               passes
               (locks.last_found rule (lock_size z) opening (map (in_kind lock) passes) [] (w.words lock) ys (left_in lock) holds_none
-                  (all_in lock) vs len each)
+              (all_in lock) vs len each)
 
           pub last_seen : (l : ℕ) (y : V) → slice_get vs l ≡ Some y
               → Any (λ (p : PassShown (LotPassView V)). HasSeen p.pass.own.locks l y) passes
           last_seen l y e = some_before (in_kind lock) (λ (p : PassShown (PassIn V lock)). HasSeen p.pass.own l y) passes
               (locks.last_seen rule (lock_size z) opening (map (in_kind lock) passes) [] (w.words lock) ys (left_in lock) holds_none
-                  (all_in lock) vs len each l y e)
+              (all_in lock) vs len each l y e)
 
   -- ---- the history
   line_is : (v : LotWorld rule z opening)

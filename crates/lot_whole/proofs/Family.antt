@@ -132,7 +132,7 @@ module _ {V Part : Type 0} (rule : CallersRule V Part) (z : LotSize) (xs : List 
   pub still : (j : Which) (w : (scheme_of rule z xs j).World) (ws : List ℕ) (hs : List (maybe.Option (Option V)))
       → (scheme_of rule z xs j).Fits w ws (homes_in j hs)
       → (t : ℕ) (p : PassIn V j) → (scheme_of rule z xs j).PassFits w t p → away V j p ≡ false
-          → ((scheme_of rule z xs j).told_by w).letters t ≡ 0
+      → ((scheme_of rule z xs j).told_by w).letters t ≡ 0
   still lock w ws hs ok t p fit up =
       ap letter_of (lock_awake z.threads w.word w.root t (w.pass t) (w.spot t) (ok.kept.threads t).spot
       (ap (λ (x : LockPassView V). x.asleep) fit.1 ∙ up))
@@ -145,7 +145,7 @@ module _ {V Part : Type 0} (rule : CallersRule V Part) (z : LotSize) (xs : List 
   pub word_is : (j : Which) (s : World) (c : ℕ) → IsKeyIn z j c → word_in z s c ≡ (scheme_of rule z xs j).word_in (part_in rule z xs j s) c
   word_is lock s c is = ap (λ b. if b then bits_of (s.locks.held c) (s.locks.parked c)
       else (if nat_lt c (z.locks + z.conds) then flag_word (s.conds.flag c) else word_of (s.sems.left c) (s.sems.parked c)))
-          (lt-ltb c z.locks (omega (arith, is.1)))
+      (lt-ltb c z.locks (omega (arith, is.1)))
   word_is cond s c is = (λ i. if le-ltb c z.locks is.0 i then bits_of (s.locks.held c) (s.locks.parked c)
       else (if lt-ltb c (z.locks + z.conds) is.1 i then flag_word (s.conds.flag c) else word_of (s.sems.left c) (s.sems.parked c)))
   word_is sem s c is = (λ i. if le-ltb c z.locks (omega (arith, is.0)) i then bits_of (s.locks.held c) (s.locks.parked c)

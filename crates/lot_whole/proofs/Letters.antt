@@ -48,7 +48,7 @@ module _ {V Part : Type 0} (rule : CallersRule V Part) (z : LotSize) (xs : List 
   carry_root : (j : Which) (q : RootView (RootIn j)) (u token : ℕ) (paid : RootIn j)
       → ((w : LotWorld rule z xs) (ws : List ℕ) (hs : List (maybe.Option (Option V))) → LotFits rule z xs w ws hs
       → LotRootIs rule z xs w q.key (root_from j q.own) → (u < z.threads) × Quiet rule z xs j w u)
-          → CarriesRoot rule z xs j q (λ _. RootNotes q paid (Posts q.key u token))
+      → CarriesRoot rule z xs j q (λ _. RootNotes q paid (Posts q.key u token))
       (λ _. RootNotesIn j (whole_root j q) paid (Posts q.key u token))
   carry_root j q u token paid debtor n its a told =
       let t = last_is q its paid a (Posts q.key u token) (told 0) in (
@@ -61,39 +61,39 @@ module _ {V Part : Type 0} (rule : CallersRule V Part) (z : LotSize) (xs : List 
 
   pub posts_lock : (q : RootView LockRootView) (u k : ℕ) → q.own.owes ≡ Some (u, k)
       → AllowsRoot (lot_scheme rule z xs) (letter_at u) (λ _. k + 1) (whole_root lock q)
-          (λ _. RootNotesIn lock (whole_root lock q) (lock_paid q.own) (Posts q.key u k))
+      (λ _. RootNotesIn lock (whole_root lock q) (lock_paid q.own) (Posts q.key u k))
   posts_lock q u k debt =
       let debtor = (λ (w : LotWorld rule z xs) (ws : List ℕ) (hs : List (maybe.Option (Option V))) (ok : LotFits rule z xs w ws hs)
-          (root : LotRootIs rule z xs w q.key (root_from lock q.own)).
+      (root : LotRootIs rule z xs w q.key (root_from lock q.own)).
       lock_debtor rule z xs w ws hs ok q.key u k q.own (root_in rule z xs lock w q.key q.own root).1 debt) in
       lifts_root rule z xs lock (letter_at u) (λ _. k + 1) q (λ _. lock_roots.Pays q u k)
-          (λ _. RootNotesIn lock (whole_root lock q) (lock_paid q.own) (Posts q.key u k))
+      (λ _. RootNotesIn lock (whole_root lock q) (lock_paid q.own) (Posts q.key u k))
       (lock_roots.posts rule (lock_size z) xs q u k debt) (λ w ws hs ok root. place_of lock w u (debtor w ws hs ok root))
-          (carry_root lock q u k (lock_paid q.own) debtor)
+      (carry_root lock q u k (lock_paid q.own) debtor)
 
   pub posts_cond : (q : RootView CondRootView) (u : ℕ) → Contains q.own.owes u
       → AllowsRoot (lot_scheme rule z xs) (letter_at u) (λ _. 1) (whole_root cond q)
-          (λ _. RootNotesIn cond (whole_root cond q) (cond_paid q.own u) (Posts q.key u 0))
+      (λ _. RootNotesIn cond (whole_root cond q) (cond_paid q.own u) (Posts q.key u 0))
   posts_cond q u debt =
       let debtor = (λ (w : LotWorld rule z xs) (ws : List ℕ) (hs : List (maybe.Option (Option V))) (ok : LotFits rule z xs w ws hs)
-          (root : LotRootIs rule z xs w q.key (root_from cond q.own)).
+      (root : LotRootIs rule z xs w q.key (root_from cond q.own)).
       cond_debtor rule z xs w ws hs ok q.key u q.own (root_in rule z xs cond w q.key q.own root).1 debt) in
       lifts_root rule z xs cond (letter_at u) (λ _. 1) q (λ _. cond_turns.Pays q u)
-          (λ _. RootNotesIn cond (whole_root cond q) (cond_paid q.own u) (Posts q.key u 0))
+      (λ _. RootNotesIn cond (whole_root cond q) (cond_paid q.own u) (Posts q.key u 0))
       (cond_turns.posts (cond_size z) q u debt) (λ w ws hs ok root. place_of cond w u (debtor w ws hs ok root))
-          (carry_root cond q u 0 (cond_paid q.own u) debtor)
+      (carry_root cond q u 0 (cond_paid q.own u) debtor)
 
   pub posts_sem : (q : RootView SemRootView) (u : ℕ) → q.own.owes ≡ Some u
       → AllowsRoot (lot_scheme rule z xs) (letter_at u) (λ _. 1) (whole_root sem q)
-          (λ _. RootNotesIn sem (whole_root sem q) (sem_paid q.own) (Posts q.key u 0))
+      (λ _. RootNotesIn sem (whole_root sem q) (sem_paid q.own) (Posts q.key u 0))
   posts_sem q u debt =
       let debtor = (λ (w : LotWorld rule z xs) (ws : List ℕ) (hs : List (maybe.Option (Option V))) (ok : LotFits rule z xs w ws hs)
-          (root : LotRootIs rule z xs w q.key (root_from sem q.own)).
+      (root : LotRootIs rule z xs w q.key (root_from sem q.own)).
       sem_debtor rule z xs w ws hs ok q.key u q.own (root_in rule z xs sem w q.key q.own root).1 debt) in
       lifts_root rule z xs sem (letter_at u) (λ _. 1) q (λ _. sem_roots.Pays q u)
-          (λ _. RootNotesIn sem (whole_root sem q) (sem_paid q.own) (Posts q.key u 0))
+      (λ _. RootNotesIn sem (whole_root sem q) (sem_paid q.own) (Posts q.key u 0))
       (sem_roots.posts (sem_size z) q u debt) (λ w ws hs ok root. place_of sem w u (debtor w ws hs ok root))
-          (carry_root sem q u 0 (sem_paid q.own) debtor)
+      (carry_root sem q u 0 (sem_paid q.own) debtor)
 
 -- ---- collecting
 module _ {V Part : Type 0} (rule : CallersRule V Part) where
@@ -133,7 +133,7 @@ module _ {V Part : Type 0} (rule : CallersRule V Part) (z : LotSize) (xs : List 
       let l = h.1.1.0 in
       let x = h.1.1.2.0 in
       carry rule z xs lock p (lock_woken (gripped p.own.locks l x)) (Collects t (Some 1))
-          (CollectingIn rule p true p.own.conds.out (suc (suc token))) (λ e. absurd (cc)) silent
+      (CollectingIn rule p true p.own.conds.out (suc (suc token))) (λ e. absurd (cc)) silent
       (λ k. (h.0, (h.1.0, (l, h.1.1.1, (x, h.1.1.2.1, (k, refl)))))) own a h.1.1.2.2
 
   from_cond : Silent cond → (c n : ℕ) (own : CondPassView) (a : Access)
@@ -169,7 +169,7 @@ module _ {V Part : Type 0} (rule : CallersRule V Part) (z : LotSize) (xs : List 
       let silent : Silent lock = (λ w ws hs ok fit. quiet rule z xs w ws hs ok t p.own fit lock up) in
       subst (λ o. AllowsPass (lot_scheme rule z xs) (letter_at t) (λ _. 0) p (CollectingIn rule p true o)) at
       (lifts_pass rule z xs lock (letter_at t) (λ _. 0) p (lock_letters.Collecting rule (part_pass lock p))
-          (CollectingIn rule p true p.own.conds.out)
+      (CollectingIn rule p true p.own.conds.out)
       (lock_letters.collects rule (lock_size z) xs (part_pass lock p)) (λ w ws hs ok fit. inr (t, (fit.0, refl, silent w ws hs ok fit)))
       (λ n own a told. from_lock up silent n own a (told 0)))
   by_pass false (Some c) up at =

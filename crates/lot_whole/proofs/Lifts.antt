@@ -26,7 +26,7 @@ module _ {V Part : Type 0} (rule : CallersRule V Part) (z : LotSize) (xs : List 
   module _ (j : Which) (w : LotWorld rule z xs) (ws : List ℕ) (hs : List (maybe.Option (Option V))) (ok : LotFits rule z xs w ws hs)
       (i : ℕ) (place : InPlace rule z xs j w i)
       (x : ℕ) (v : (scheme_of rule z xs j).World) (fits : (scheme_of rule z xs j).Fits v (set (w.words j) i x) (homes_in j hs))
-          (a : Access) (g : Gone rule z xs j w ws hs ok i place x v fits a) where
+      (a : Access) (g : Gone rule z xs j w ws hs ok i place x v fits a) where
     -- the others stand as they did
     stand_else : (t u : ℕ) → doer a ≡ 2 * t → u ≢ t → stand_of ((whole_by a w.whole).point u) ≡ stand_of (w.whole.point u)
     stand_else t u by ne = (λ h. g.moved t by h u)
@@ -42,18 +42,18 @@ module _ {V Part : Type 0} (rule : CallersRule V Part) (z : LotSize) (xs : List 
         (may : MayBeAway j p own)
         (fit : (scheme_of rule z xs j).PassFits v t own)
         (others : (u : ℕ) (y : PassIn V j) → u ≢ t → (scheme_of rule z xs j).PassFits (w.each j) u y
-            → (scheme_of rule z xs j).PassFits v u y) where
+        → (scheme_of rule z xs j).PassFits v u y) where
       abbrev passes : ℕ → LotPassView V
       passes = put w.pass t (lot_own j p own a)
 
       pub thread_fits : LotFits rule z xs (next rule z xs j w ws hs ok i place x v fits passes a g) (set ws i x) hs
       thread_fits = fits_after rule z xs j w ws hs ok i place x v fits passes a g
           (λ u here. put_elim (λ y. PassOk rule z xs (next rule z xs j w ws hs ok i place x v fits passes a g) u y) w.pass t
-              (lot_own j p own a) u
+          (lot_own j p own a) u
           (λ e. subst (λ n. PassOk rule z xs (next rule z xs j w ws hs ok i place x v fits passes a g) n (lot_own j p own a)) (sym e)
           (pass_turned rule z xs j w ws hs ok i place x v fits passes a g t p mine own may fit (stand_mine t p by mine)))
           (λ ne. pass_stays rule z xs j w ws hs ok i place x v fits passes a g u (w.pass u) (ok.passes u here) (λ y. others u y ne)
-              (stand_else t u by ne)))
+          (stand_else t u by ne)))
 
   pub lifts_pass : LiftsPass rule z xs
   lifts_pass j i f p told_of whole allows placed carries w ws hs ok fit small =
@@ -126,7 +126,7 @@ module _ {V Part : Type 0} (rule : CallersRule V Part) (z : LotSize) (xs : List 
         world = next rule z xs j w ws hs ok i place (f n) turn.world turn.fits w.pass turn.access g;
         fits = fits_after rule z xs j w ws hs ok i place (f n) turn.world turn.fits w.pass turn.access g
             (λ u here. pass_stays rule z xs j w ws hs ok i place (f n) turn.world turn.fits w.pass turn.access g u (w.pass u)
-                (ok.passes u here) (turn.passes u)
+            (ok.passes u here) (turn.passes u)
             (ap (λ s. stand_of (s.point u)) (g.rests q.key turn.made.0)));
         root = root_turned rule z xs j w ws hs ok i place (f n) turn.world turn.fits w.pass turn.access g q.key turn.its its.0 turn.root;
         passes = λ u y h. h;

@@ -31,7 +31,7 @@ before_permits : (ws : List ℕ) (low : ℕ) (permits : List ℕ) (i c : ℕ) �
 before_permits ws low permits zero c near = refl
 before_permits ws low permits (suc i) c near =
     get_or-set_other (with_permits ws low permits i) (word_at (low + i)) (word_at c) (2 * get_or permits i 0) 0 (λ e. omega arith)
-        ∙ before_permits ws low permits i c near
+    ∙ before_permits ws low permits i c near
 
 nobody_away : (V : Type 0) (z : LotSize) (xs : List V) (j : Which) → away V j (own_of V (fresh_pass z xs) j) ≡ false
 nobody_away V z xs lock = refl
@@ -41,7 +41,7 @@ nobody_away V z xs sem = refl
 module _ {V Part : Type 0} (rule : CallersRule V Part) (z : LotSize) (xs : List V) (pos : 0 < z.threads) (some : 0 < z.locks)
     (long : z.locks ≡ length xs)
     (keep : (k : ℕ) (y : V) → slice_get xs k ≡ Some y → rule.keeps k y)
-        (small : (i : ℕ) → i < length z.permits → get_or z.permits i 0 < 4294967296) where
+    (small : (i : ℕ) → i < length z.permits → get_or z.permits i 0 < 4294967296) where
   -- what each kind begins with
   abbrev words : Which → List ℕ
   words lock = replicate (word_count z.threads (0 + z.locks)) 0
@@ -79,11 +79,11 @@ module _ {V Part : Type 0} (rule : CallersRule V Part) (z : LotSize) (xs : List 
   keys_agree lock c is = before_permits (replicate (word_count z.threads (key_count z)) 0) (z.locks + z.conds) z.permits
       (length z.permits) c (omega (arith, is.1))
       ∙ (get_or_replicate 0 (word_count z.threads (key_count z)) (word_at c)
-          ∙ sym (get_or_replicate 0 (word_count z.threads (0 + z.locks)) (word_at c)))
+      ∙ sym (get_or_replicate 0 (word_count z.threads (0 + z.locks)) (word_at c)))
   keys_agree cond c is = before_permits (replicate (word_count z.threads (key_count z)) 0) (z.locks + z.conds) z.permits
       (length z.permits) c (omega (arith, is.1))
       ∙ (get_or_replicate 0 (word_count z.threads (key_count z)) (word_at c)
-          ∙ sym (get_or_replicate 0 (word_count z.threads (z.locks + z.conds)) (word_at c)))
+      ∙ sym (get_or_replicate 0 (word_count z.threads (z.locks + z.conds)) (word_at c)))
   keys_agree sem c is = refl
 
   fits_pass : (t : ℕ) → t < z.threads → (j : Which) → (scheme_of rule z xs j).PassFits (well j).world t (own_of V (fresh_pass z xs) j)
@@ -117,19 +117,19 @@ module _ {V Part : Type 0} (rule : CallersRule V Part) (z : LotSize) (xs : List 
   fresh_roots c near = ⊎_elim {C = LotRootIs rule z xs fresh c (fresh_root z c)}
       (λ here. let is : IsKeyIn z lock c = (omega arith, omega arith) in
       subst (λ b. LotRootIs rule z xs fresh c
-          (if b then Lock lock_fresh else (if nat_lt c (z.locks + z.conds) then Cond cond_fresh else Sem sem_fresh)))
-          (sym (lt-ltb c z.locks here))
+      (if b then Lock lock_fresh else (if nat_lt c (z.locks + z.conds) then Cond cond_fresh else Sem sem_fresh)))
+      (sym (lt-ltb c z.locks here))
       (is, (well lock).roots c is))
       (λ past. subst (λ b. LotRootIs rule z xs fresh c
-          (if b then Lock lock_fresh else (if nat_lt c (z.locks + z.conds) then Cond cond_fresh else Sem sem_fresh)))
-          (sym (le-ltb c z.locks past))
+      (if b then Lock lock_fresh else (if nat_lt c (z.locks + z.conds) then Cond cond_fresh else Sem sem_fresh)))
+      (sym (le-ltb c z.locks past))
       (⊎_elim {C = LotRootIs rule z xs fresh c (if nat_lt c (z.locks + z.conds) then Cond cond_fresh else Sem sem_fresh)}
       (λ here. let is : IsKeyIn z cond c = (past, here) in
       subst (λ b. LotRootIs rule z xs fresh c (if b then Cond cond_fresh else Sem sem_fresh)) (sym (lt-ltb c (z.locks + z.conds) here))
-          (is, (well cond).roots c is))
+      (is, (well cond).roots c is))
       (λ behind. let is : IsKeyIn z sem c = (behind, near) in
       subst (λ b. LotRootIs rule z xs fresh c (if b then Cond cond_fresh else Sem sem_fresh)) (sym (le-ltb c (z.locks + z.conds) behind))
-          (is, (well sem).roots c is))
+      (is, (well sem).roots c is))
       (cases_lt c (z.locks + z.conds))))
       (cases_lt c z.locks)
 

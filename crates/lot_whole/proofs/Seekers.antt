@@ -90,9 +90,16 @@ module _ {V : Type 0} where
 
     exchanged : (could : ℕ → Type 0) (own : SemPassView → SemPassView) (e : ℕ → Event) (q : PassView (LotPassView V)) → could seen
         → NotesIn sem r (own r.own.sems) (Makes (e r.thread) (Saw true)) q → Exchanges p k could (own p.own.sems) (e p.thread) q
-    exchanged could own e q may note =
-        (seen, may, (r, look, subst (λ (y : PassView (LotPassView V)). NotesIn sem r (own y.own.sems) (Makes (e y.thread) (Saw true)) q)
-            look.1 note))
+    exchanged could own e q may note = (
+      seen,
+      may,
+      (
+        r,
+        look,
+        subst (λ (y : PassView (LotPassView V)). NotesIn sem r (own y.own.sems) (Makes (e y.thread) (Saw true)) q)
+            look.1 note,
+      ),
+    )
 
     missed : (could : ℕ → Type 0) (n : ℕ) (q : PassView (LotPassView V)) → could seen → n ≢ seen → FindsOf r k n q → Misses p k could q
     missed could n q may ne found = (seen, n, may, ne, (r, look, found))
@@ -150,7 +157,7 @@ module _ {V Part : Type 0} (rule : CallersRule V Part) (z : LotSize) (xs : List 
         (speaks_take may false) (λ i. (i, refl)) own a h
     carries_seeks may (suc zero) own a h =
         carry rule z xs sem p (seeking p.own.sems k) (Makes (SemTake p.thread k) (Saw false)) (Seeks p k (suc zero)) (λ up. inl up)
-            (speaks_take may false) (λ i. (i, refl)) own a h
+        (speaks_take may false) (λ i. (i, refl)) own a h
     carries_seeks may (suc (suc n)) own a h = finds (suc (suc n)) own a h
 
     pub seeks : MayTakePermit p.own k → AllowsPass (lot_scheme rule z xs) (word_at k) (λ n. n) p (Seeks p k)
@@ -162,7 +169,7 @@ module _ {V Part : Type 0} (rule : CallersRule V Part) (z : LotSize) (xs : List 
     carries_swaps : (own' : SemPassView) (e : Event) → own'.asleep ≡ p.own.sems.asleep → MaySpeak rule z xs sem p (Makes e (Saw true))
         → (seen n : ℕ) (own : SemPassView) (a : Access)
         → sems.Swaps (part_pass sem p) k own' e seen n (pass_after (part_pass sem p) own 0 a)
-            → Carried rule z xs sem p (Swaps p k own' e seen n) own a
+        → Carried rule z xs sem p (Swaps p k own' e seen n) own a
     carries_swaps own' e same speaks seen n own a = by (n == seen)
       where
         by : (b : Bool) → MatchBool b (Notes (part_pass sem p) own' (Makes e (Saw true)) (pass_after (part_pass sem p) own 0 a))
@@ -174,22 +181,22 @@ module _ {V Part : Type 0} (rule : CallersRule V Part) (z : LotSize) (xs : List 
 
     pub swaps : MayTakePermit p.own k → (seen : ℕ) → IsAnyLeft seen
         → AllowsPass (lot_scheme rule z xs) (word_at k) (λ n. either (n == seen) (seen - 2) n) p
-            (Swaps p k (got p.own.sems k) (SemTake p.thread k) seen)
+        (Swaps p k (got p.own.sems k) (SemTake p.thread k) seen)
     swaps may seen some = lifts_pass rule z xs sem (word_at k) (λ n. either (n == seen) (seen - 2) n) p
         (sems.Swaps (part_pass sem p) k (got p.own.sems k) (SemTake p.thread k) seen)
         (Swaps p k (got p.own.sems k) (SemTake p.thread k) seen)
-            (sems.swaps (sem_size z) (part_pass sem p) k among (takes_so p.own k may) seen some) (at_key rule z xs sem p k among)
+        (sems.swaps (sem_size z) (part_pass sem p) k among (takes_so p.own k may) seen some) (at_key rule z xs sem p k among)
         (λ n own a told. carries_swaps (got p.own.sems k) (SemTake p.thread k) refl (speaks_take may true) seen n own a (told 0))
 
     pub frees : MayGive p.own k → (seen : ℕ) → IsUnmarked seen
         → AllowsPass (lot_scheme rule z xs) (word_at k) (λ n. either (n == seen) ((seen + 2) % 2 ^ 64) n) p
-            (Swaps p k (gave p.own.sems k) (SemFree p.thread k) seen)
+        (Swaps p k (gave p.own.sems k) (SemFree p.thread k) seen)
     frees may seen clear = lifts_pass rule z xs sem (word_at k) (λ n. either (n == seen) ((seen + 2) % 2 ^ 64) n) p
         (sems.Swaps (part_pass sem p) k (gave p.own.sems k) (SemFree p.thread k) seen)
         (Swaps p k (gave p.own.sems k) (SemFree p.thread k) seen)
-            (sems.frees (sem_size z) (part_pass sem p) k among (calms_so p.own may.0, may.1) seen clear) (at_key rule z xs sem p k among)
+        (sems.frees (sem_size z) (part_pass sem p) k among (calms_so p.own may.0, may.1) seen clear) (at_key rule z xs sem p k among)
         (λ n own a told. carries_swaps (gave p.own.sems k) (SemFree p.thread k) refl
-            (λ w ws hs ok fit. (tt, idle_calm rule z xs w ws hs ok p.thread p.own fit may.0)) seen n own a (told 0))
+        (λ w ws hs ok fit. (tt, idle_calm rule z xs w ws hs ok p.thread p.own fit may.0)) seen n own a (told 0))
 
     carries_marks : (n : ℕ) (own : SemPassView) (a : Access) → sems.Marks (part_pass sem p) k n (pass_after (part_pass sem p) own 0 a)
         → Carried rule z xs sem p (MarksPermit p k n) own a
@@ -199,7 +206,7 @@ module _ {V Part : Type 0} (rule : CallersRule V Part) (z : LotSize) (xs : List 
             (pass_after (part_pass sem p) own 0 a))
             ((x : ℕ) × (x ≢ 0) × Notes (part_pass sem p) p.own.sems (Finds p.thread k x) (pass_after (part_pass sem p) own 0 a))
             → Carried rule z xs sem p (λ q. MatchBool b (NotesIn sem p p.own.sems (Makes (SemMark p.thread k) Done) q)
-                ((x : ℕ) × (x ≢ 0) × FindsOf p k x q)) own a
+            ((x : ℕ) × (x ≢ 0) × FindsOf p k x q)) own a
         by true h = carry rule z xs sem p p.own.sems (Makes (SemMark p.thread k) Done)
             (NotesIn sem p p.own.sems (Makes (SemMark p.thread k) Done)) (λ up. inl up)
             (λ w ws hs ok fit. (tt, tt)) (λ i. (i, refl)) own a h
@@ -210,7 +217,7 @@ module _ {V Part : Type 0} (rule : CallersRule V Part) (z : LotSize) (xs : List 
     pub marks : MaySeek p.own k → AllowsPass (lot_scheme rule z xs) (word_at k) (λ n. either (n == 0) 1 n) p (MarksPermit p k)
     marks may = lifts_pass rule z xs sem (word_at k) (λ n. either (n == 0) 1 n) p (sems.Marks (part_pass sem p) k) (MarksPermit p k)
         (sems.marks (sem_size z) (part_pass sem p) k among (may.0 sem, may.1)) (at_key rule z xs sem p k among)
-            (λ n own a told. carries_marks n own a (told 0))
+        (λ n own a told. carries_marks n own a (told 0))
 
   -- ---- with a root
   module _ (p : PassView (LotPassView V)) (q : RootView SemRootView) where
@@ -218,7 +225,7 @@ module _ {V Part : Type 0} (rule : CallersRule V Part) (z : LotSize) (xs : List 
     parks may = lifts_both rule z xs sem (λ n. n) p q (sem_roots.Parks (part_pass sem p) q) (ParksSem p q)
         (sem_roots.parks (sem_size z) (part_pass sem p) q (may.0 sem, may.1))
         (λ n own its a told. carry_both rule z xs sem p q (parked_pass p.own.sems (n == 1)) (parked_root q.own p.thread (n == 1))
-            (Makes (SemPark p.thread q.key) (Saw (n == 1))) (ParksSem p q n)
+        (Makes (SemPark p.thread q.key) (Saw (n == 1))) (ParksSem p q n)
         (λ up. inr (λ k ne. may.0 k)) (λ w ws hs ok fit root. (tt, tt)) (λ i. ((i, refl), refl)) own its a (told 0).0 (told 0).1)
 
     pub passes : MayGive p.own q.key → q.own.owes ≡ None → (more : Bool) → SaysMore q.own.line more → (x : ℕ)
@@ -229,9 +236,9 @@ module _ {V Part : Type 0} (rule : CallersRule V Part) (z : LotSize) (xs : List 
         (λ _. PassesPermit p q more)
         (sem_roots.passes (sem_size z) (part_pass sem p) q (calms_so p.own may.0, may.1) paid more says x is)
         (λ n own its a told. carry_both rule z xs sem p q (gave p.own.sems q.key) (passed_root q.own q.own.line)
-            (Makes (SemPass p.thread q.key more) (Sleeper (first q.own.line))) (PassesPermit p q more)
+        (Makes (SemPass p.thread q.key more) (Sleeper (first q.own.line))) (PassesPermit p q more)
         (λ up. inl up) (λ w ws hs ok fit root. (tt, idle_calm rule z xs w ws hs ok p.thread p.own fit may.0))
-            (λ i. ((i, refl), refl)) own its a (told 0).0 (told 0).1)
+        (λ i. ((i, refl), refl)) own its a (told 0).0 (told 0).1)
 
     pub clears : IsIdle p.own → q.own.line ≡ []
         → AllowsBoth (lot_scheme rule z xs) (word_at q.key) (λ n. bit_and n (2 ^ 64 - 2)) p (whole_root sem q) (λ _. Clears p q)
@@ -240,4 +247,4 @@ module _ {V Part : Type 0} (rule : CallersRule V Part) (z : LotSize) (xs : List 
         (sem_roots.clears (sem_size z) (part_pass sem p) q (calms_so p.own idle) nobody)
         (λ n own its a told. carry_both rule z xs sem p q p.own.sems q.own (Makes (SemClear p.thread q.key) Done) (Clears p q)
         (λ up. inl up) (λ w ws hs ok fit root. (tt, idle_calm rule z xs w ws hs ok p.thread p.own fit idle))
-            (λ i. ((i, refl), refl)) own its a (told 0).0 (told 0).1)
+        (λ i. ((i, refl), refl)) own its a (told 0).0 (told 0).1)

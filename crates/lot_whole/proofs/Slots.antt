@@ -40,7 +40,7 @@ module _ {V Part : Type 0} (rule : CallersRule V Part) (z : LotSize) (xs : List 
       (hs hs' : List (maybe.Option (Option V))) → LotFits rule z xs w ws hs
       → (fit : (t < z.threads) × (w.pass t ≡ p)) → own.asleep ≡ p.locks.asleep
       → SlotTurn (scheme_of rule z xs lock) t own (w.each lock) (w.words lock) hs'
-          → SlotTurn (lot_scheme rule z xs) t (record p { locks = own }) w ws hs'
+      → SlotTurn (lot_scheme rule z xs) t (record p { locks = own }) w ws hs'
   slot_turn t p own w ws hs hs' ok fit same turn = record {
     world = next;
     fits = record {
@@ -76,7 +76,7 @@ module _ {V Part : Type 0} (rule : CallersRule V Part) (z : LotSize) (xs : List 
       letters : (u : ℕ) → sum_of (letters_in rule z xs next) u ≡ sum_of (letters_in rule z xs w) u
       letters u = three_same (letters_in rule z xs next) (letters_in rule z xs w) u (dput_elim {X = λ k. (scheme_of rule z xs k).World}
           (λ k y. ((scheme_of rule z xs k).told_by y).letters u ≡ letters_in rule z xs w k u) lock turn.world w.each
-              (λ i. (turn.same i).letters u) (λ k ne. refl))
+          (λ i. (turn.same i).letters u) (λ k ne. refl))
 
       was : PassOk rule z xs w t p
       was = subst (PassOk rule z xs w t) fit.1 (ok.passes t fit.0)
@@ -86,7 +86,7 @@ module _ {V Part : Type 0} (rule : CallersRule V Part) (z : LotSize) (xs : List 
         each = λ k. subst (λ o. (scheme_of rule z xs k).PassFits (each k) t o)
             (sym (own_from V (dput {X = PassIn V} lock own (own_of V p)) p.stand k))
             (dput_two {X = λ k. (scheme_of rule z xs k).World} {Y = PassIn V}
-                (λ k y o. (scheme_of rule z xs k).PassFits y t o) lock turn.world w.each own (own_of V p) turn.pass (λ k ne. was.each k) k);
+            (λ k y o. (scheme_of rule z xs k).PassFits y t o) lock turn.world w.each own (own_of V p) turn.pass (λ k ne. was.each k) k);
         apart = apart_new;
         stand = was.stand;
       }
@@ -158,4 +158,4 @@ module _ {V Part : Type 0} (rule : CallersRule V Part) (z : LotSize) (xs : List 
       (λ q. q ≡ placed_in own l (place_of y))
       (λ q e. (ap (λ (o : LockPassView V). o.asleep) e, ap (λ o. let r : LotPassView V = record own { locks = o } in r) e))
       (moving.comes_back rule (lock_size z) xs (part_pass lock p) l here holds y may own.locks x
-          (ap (λ (o : LotPassView V). o.locks) out.0, out.1))
+      (ap (λ (o : LotPassView V). o.locks) out.0, out.1))

@@ -42,13 +42,13 @@ pub apart_after : (V : Type 0) (j : Which) (p : LotPassView V)
     → ((k m : Which) → away V k (own_of V p k) ≡ true → away V m (own_of V p m) ≡ true → k ≡ m)
     → (own : PassIn V j) → MayBeAway j p own
     → (k m : Which) → away V k (dput {X = PassIn V} j own (own_of V p) k) ≡ true
-        → away V m (dput {X = PassIn V} j own (own_of V p) m) ≡ true → k ≡ m
+    → away V m (dput {X = PassIn V} j own (own_of V p) m) ≡ true → k ≡ m
 apart_after V j p apart own may k m =
     dput_elim {X = PassIn V} (λ k o. away V k o ≡ true → away V m (dput {X = PassIn V} j own (own_of V p) m) ≡ true → k ≡ m) j own
     (own_of V p)
     (λ up. dput_elim {X = PassIn V} (λ m o. away V m o ≡ true → j ≡ m) j own (own_of V p) (λ _. refl)
     (λ m ne there. ⊎_elim {C = j ≡ m} (λ was. apart j m was there) (λ none. absurd (let e : false ≡ true = sym (none m ne) ∙ there in cc))
-        (may up)) m)
+    (may up)) m)
     (λ k ne up. dput_elim {X = PassIn V} (λ m o. away V m o ≡ true → k ≡ m) j own (own_of V p)
     (λ there. ⊎_elim {C = k ≡ j} (λ was. apart k j up was) (λ none. absurd (let e : false ≡ true = sym (none k ne) ∙ up in cc)) (may there))
     (λ m _ there. apart k m up there) m)
@@ -141,9 +141,9 @@ module _ {V Part : Type 0} (rule : CallersRule V Part) (z : LotSize) (xs : List 
           let old = letter_in rule z xs j (w.each j) (w.words j) hs (ok.parts j) t near in
           dite (ℕ_discrete (letter_at t) i)
           (λ e. ap (λ n. get_or (set ws i x) n 0) e
-              ∙ (get_or-set_same ws i x 0 inside ∙ (sym (get_or-set_same (w.words j) i x 0 inside_kind)
+          ∙ (get_or-set_same ws i x 0 inside ∙ (sym (get_or-set_same (w.words j) i x 0 inside_kind)
           ∙ (sym (ap (λ n. get_or (set (w.words j) i x) n 0) e)
-              ∙ (new ∙ (sym (mine t) ∙ sym (three_one letters j t (still_quiet t (quiet_here t e)))))))))
+          ∙ (new ∙ (sym (mine t) ∙ sym (three_one letters j t (still_quiet t (quiet_here t e)))))))))
           (λ ne. get_or-set_other ws i (letter_at t) x 0 ne ∙ (ok.letters t near ∙ sym (three_same letters (letters_in rule z xs w) t
           (others_same t (sym new ∙ (get_or-set_other (w.words j) i (letter_at t) x 0 ne ∙ old))))))
 
@@ -185,7 +185,7 @@ module _ {V Part : Type 0} (rule : CallersRule V Part) (z : LotSize) (xs : List 
       pub gone : (a : Access) → Leads (scheme_of rule z xs j) told_j a told_v → Speaks rule z xs j w a → Gone a
       gone (Makes e saw) goes speaks =
           let joined = joins rule z xs w.whole e saw ok.reached ok.counts speaks.1 j told_v.part speaks.0
-              (subst (λ p. (scheme_of rule z xs j).Step p e saw told_v.part) (sym (ok.agrees j)) goes.0) in
+          (subst (λ p. (scheme_of rule z xs j).Step p e saw told_v.part) (sym (ok.agrees j)) goes.0) in
           record {
             leads = ((joined.allowed, joined.saw_is, refl), same_letters goes.1);
             agrees = dput_elim {X = λ k. (scheme_of rule z xs k).World}
@@ -196,13 +196,16 @@ module _ {V Part : Type 0} (rule : CallersRule V Part) (z : LotSize) (xs : List 
             moved = λ t by. let same : maker e ≡ t = omega (arith, by) in
                 subst (λ u. Stands w.whole u (after w.whole e).point (moves e saw (stand_of (w.whole.point u)))) same
                 (subst (λ s. Stands w.whole (maker e) (after w.whole e).point (moves e s (stand_of (w.whole.point (maker e)))))
-                    (sym joined.saw_is)
+                (sym joined.saw_is)
                 (stands_move w.whole e (λ l u h. ((reached_sound w.whole ok.reached).one_line_each.wants l u h).1)));
             rests = λ c by. absurd (omega (arith, by));
           }
       gone (Posts c u n) goes speaks = record {
-        leads = (three_one (letters_in rule z xs w) j u speaks
-            ∙ goes.0, λ h. record { part = w.whole; letters = put_letters u (n + 1) speaks (λ y. (goes.1 y).letters) h });
+        leads = (
+          three_one (letters_in rule z xs w) j u speaks
+              ∙ goes.0,
+          λ h. record { part = w.whole; letters = put_letters u (n + 1) speaks (λ y. (goes.1 y).letters) h },
+        );
         agrees = same_parts (λ y. (goes.1 y).part);
         counts = ok.counts;
         reached = ok.reached;
@@ -218,8 +221,11 @@ module _ {V Part : Type 0} (rule : CallersRule V Part) (z : LotSize) (xs : List 
         rests = λ _ _. refl;
       }
       gone (Collects u (Some n)) goes speaks = record {
-        leads = (three_one (letters_in rule z xs w) j u speaks
-            ∙ goes.0, λ h. record { part = w.whole; letters = put_letters u 0 speaks (λ y. (goes.1 y).letters) h });
+        leads = (
+          three_one (letters_in rule z xs w) j u speaks
+              ∙ goes.0,
+          λ h. record { part = w.whole; letters = put_letters u 0 speaks (λ y. (goes.1 y).letters) h },
+        );
         agrees = same_parts (λ y. (goes.1 y).part);
         counts = ok.counts;
         reached = ok.reached;
@@ -227,8 +233,10 @@ module _ {V Part : Type 0} (rule : CallersRule V Part) (z : LotSize) (xs : List 
         rests = λ _ _. refl;
       }
       gone (Finds u c n) goes speaks = record {
-        leads = (goes.0 ∙ (ap (λ p. (scheme_of rule z xs j).word_in p c) (sym (ok.agrees j)) ∙ sym (word_is rule z xs j w.whole c speaks)),
-            between (same_letters (λ y. (goes.1 y).letters)));
+        leads = (
+          goes.0 ∙ (ap (λ p. (scheme_of rule z xs j).word_in p c) (sym (ok.agrees j)) ∙ sym (word_is rule z xs j w.whole c speaks)),
+          between (same_letters (λ y. (goes.1 y).letters)),
+        );
         agrees = same_parts (λ y. (goes.1 y).part);
         counts = ok.counts;
         reached = ok.reached;
@@ -274,10 +282,10 @@ module _ {V Part : Type 0} (rule : CallersRule V Part) (z : LotSize) (xs : List 
             each = λ k. subst (λ o. (scheme_of rule z xs k).PassFits (each k) t o)
                 (sym (own_from V (dput {X = PassIn V} j own (own_of V p)) (moves_by a p.stand) k))
                 (dput_two {X = λ k. (scheme_of rule z xs k).World} {Y = PassIn V}
-                    (λ k y o. (scheme_of rule z xs k).PassFits y t o) j v w.each own (own_of V p) fit (λ k ne. h.each k) k);
+                (λ k y o. (scheme_of rule z xs k).PassFits y t o) j v w.each own (own_of V p) fit (λ k ne. h.each k) k);
             apart = λ k m up there.
                 apart_after V j p h.apart own may k m
-                    (subst (λ o. away V k o ≡ true) (own_from V (dput {X = PassIn V} j own (own_of V p)) (moves_by a p.stand) k) up)
+                (subst (λ o. away V k o ≡ true) (own_from V (dput {X = PassIn V} j own (own_of V p)) (moves_by a p.stand) k) up)
                 (subst (λ o. away V m o ≡ true) (own_from V (dput {X = PassIn V} j own (own_of V p)) (moves_by a p.stand) m) there);
             stand = stands;
           }

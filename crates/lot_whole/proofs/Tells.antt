@@ -81,9 +81,9 @@ module _ {V Part : Type 0} (rule : CallersRule V Part) (z : LotSize) (xs : List 
         let q = pass_ok.each lock in
         let l = w.each lock in
         let spot : l.spot t ≡ awake = lock_awake z.threads l.word l.root t (l.pass t) (l.spot t) ((ok.parts lock).kept.threads t).spot
-            (ap (λ (x : LockPassView V). x.asleep) q.1 ∙ up) in
+        (ap (λ (x : LockPassView V). x.asleep) q.1 ∙ up) in
         ap (λ (a : LockPart). a.wants t) (ok.agrees lock)
-            ∙ (ap (λ s. wants_of s (l.pass t).aim) spot ∙ ap (λ (x : LockPassView V). x.aim) q.1)
+        ∙ (ap (λ s. wants_of s (l.pass t).aim) spot ∙ ap (λ (x : LockPassView V). x.aim) q.1)
 
     sweeps : swept_by at ≡ p.conds.sweeps
     sweeps = ap (λ (a : CondPart). a.sweeps t) (ok.agrees cond) ∙ ap (λ (x : CondPassView). x.sweeps) (pass_ok.each cond).1
@@ -98,7 +98,7 @@ module _ {V Part : Type 0} (rule : CallersRule V Part) (z : LotSize) (xs : List 
         let home = ap (λ (x : CondPassView). x.out) (pass_ok.each cond).1 ∙ out in
         let up : v.spot t ≡ awake = cond_awake z.threads v.root t (v.pass t) (v.spot t) ((ok.parts cond).kept.threads t).spot home in
         let line : v.spot t ≡ queued c = ((ok.parts cond).kept.threads t).in_line c
-            (subst (λ (a : CondPart). Contains (a.conds.line c) t) (ok.agrees cond) h) in
+        (subst (λ (a : CondPart). Contains (a.conds.line c) t) (ok.agrees cond) h) in
         let e : awake ≡ queued c = sym up ∙ line in cc
 
     -- who holds a lock has it
@@ -107,7 +107,7 @@ module _ {V Part : Type 0} (rule : CallersRule V Part) (z : LotSize) (xs : List 
         let v = w.each lock in
         ap (λ (a : LockPart). a.locks.has l t) (ok.agrees lock)
         ∙ eq-eqb (v.word l).owner (suc t)
-            (((ok.parts lock).kept.threads t).holds l (subst (λ (x : LockPassView V). Holds x l) (sym (pass_ok.each lock).1) h))
+        (((ok.parts lock).kept.threads t).holds l (subst (λ (x : LockPassView V). Holds x l) (sym (pass_ok.each lock).1) h))
 
     -- ---- where the thread stands
     pub awake_calm : IsAwake p → p.stand ≡ Idle → at ≡ Calm
@@ -124,7 +124,7 @@ module _ {V Part : Type 0} (rule : CallersRule V Part) (z : LotSize) (xs : List 
         (λ h. inr (may_park l h))
         (λ h. ⊎_elim {C = (at ≡ Calm) ⊎ StandsBefore w.whole t l} (λ idle. inl (awake_calm h.0 idle))
         (λ rest. inr (inr (rest.0, rest_is at rest.0 l (pass_ok.stand ∙ rest.1), in_no_line (out_none p.conds.out (h.0.up cond)) rest.0)))
-            h.1)
+        h.1)
         may
 
     pub may_let_go : (l : ℕ) → MayLetGo p l → LetsGo w.whole t l
@@ -162,7 +162,7 @@ module _ {V Part : Type 0} (rule : CallersRule V Part) (z : LotSize) (xs : List 
   cond_debtor c u q root debt =
       let v = w.each cond in
       let d = waits_out z.threads (z.locks + z.conds) v (ok.parts cond).kept u c
-          (subst (λ (y : CondRootView). Contains y.owes u) (sym root.1) debt) in
+      (subst (λ (y : CondRootView). Contains y.owes u) (sym root.1) debt) in
       debtor cond u d.0.0 (ap is_some (ap (λ (x : CondPassView). x.out) (sym ((ok.passes u d.0.0).each cond).1) ∙ d.0.1))
 
   pub sem_debtor : (k u : ℕ) (q : SemRootView) → (scheme_of rule z xs sem).RootFits (w.each sem) k q → q.owes ≡ Some u → (u < z.threads)
@@ -172,5 +172,5 @@ module _ {V Part : Type 0} (rule : CallersRule V Part) (z : LotSize) (xs : List 
       let n = (ok.parts sem).letters in
       let at : v.spot u ≡ owed k 0 = n.is_owed u k (root.2 ∙ debt) in
       let fits : NoticeFits z.threads v.part.sems.line v.part.seeks v.owes u (owed k 0) =
-          subst (NoticeFits z.threads v.part.sems.line v.part.seeks v.owes u) at (n.fits u) in
+      subst (NoticeFits z.threads v.part.sems.line v.part.seeks v.owes u) at (n.fits u) in
       debtor sem u fits.0 (sym ((ok.passes u fits.0).each sem).asleep ∙ ap sleeps at)

@@ -27,12 +27,12 @@ module _ {V Part : Type 0} (rule : CallersRule V Part) (z : LotSize) (xs : List 
   sems_apart : (p q : PassView (LotPassView V)) → TellsOfTwo (scheme_of rule z xs sem) (part_pass sem p) (part_pass sem q)
       ((k : ℕ) → get_or p.own.sems.out k 0 + get_or q.own.sems.out k 0 ≤ permits_of z k)
   sems_apart p q w ws hs ok first second ne k = omega (
-      arith,
-      ok.sound.permits_conserved k,
-      first.out k,
-      second.out k,
-      two_of z.threads (w.part.sems.out k) p.thread q.thread ne first.near second.near,
-    )
+    arith,
+    ok.sound.permits_conserved k,
+    first.out k,
+    second.out k,
+    two_of z.threads (w.part.sems.out k) p.thread q.thread ne first.near second.near,
+  )
 
   pub apart : (p q : PassView (LotPassView V)) → TellsOfTwo (lot_scheme rule z xs) p q (AreApart z p q)
   apart p q w ws hs ok fit fits ne = (

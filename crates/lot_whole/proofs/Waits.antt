@@ -88,8 +88,16 @@ module _ {V : Type 0} where
         → IsResting c l r.own
     bed_rests y r free = subst (λ (x : PassView (LotPassView V)). IsResting c l x.own) (sym free.1)
         (at_bed (λ o. IsResting c l (lot_own lock o (let_go o.locks l y) (Makes (Free q.thread l) (Saw true))))
-        (record { asleep = idle.0.up lock; aim = idle.0.aim; out = refl; sweeps = idle.0.sweeps; sem_asleep = idle.0.up sem; seeks =
-            idle.0.seeks; stand = refl }))
+        (record {
+          asleep = idle.0.up lock;
+          aim = idle.0.aim;
+          out = refl;
+          sweeps = idle.0.sweeps;
+          sem_asleep = idle.0.up sem;
+          seeks =
+              idle.0.seeks;
+          stand = refl;
+        }))
 
   -- the letter that it finds is the condition's, and then it may take l again
   pub record Rested (r s : PassView (LotPassView V)) (l : ℕ) : Type 0 where
@@ -153,10 +161,11 @@ module _ {V Part : Type 0} (rule : CallersRule V Part) (r s : PassView (LotPassV
 
     pub woken_note : (own : LotPassView V) × Notes r own (Collects r.thread (Some 0)) s
     woken_note =
-        let h = letter_in false None asleep out in
-        (lot_own sem r.own (sem_woken r.own.sems) (Collects r.thread (Some token)),
-        subst (λ n. Notes r (lot_own sem r.own (sem_woken r.own.sems) (Collects r.thread (Some token))) (Collects r.thread (Some n)) s) h.0
-            h.2)
+        let h = letter_in false None asleep out in (
+          lot_own sem r.own (sem_woken r.own.sems) (Collects r.thread (Some token)),
+          subst (λ n. Notes r (lot_own sem r.own (sem_woken r.own.sems) (Collects r.thread (Some token))) (Collects r.thread (Some n)) s)
+              h.0 h.2,
+        )
 
     pub woken_takes : MayTakePermit s.own k
     woken_takes =
@@ -207,4 +216,4 @@ module _ {V : Type 0} (p q : PassView (LotPassView V)) (k : ℕ) where
       let look = h.2.1 in
       let note = h.2.2 in
       ap (λ (x : PassView (LotPassView V)). x.own) note.1
-          ∙ ap (λ (x : PassView (LotPassView V)). let o : LotPassView V = record x.own { sems = gave p.own.sems k } in o) look.1
+      ∙ ap (λ (x : PassView (LotPassView V)). let o : LotPassView V = record x.own { sems = gave p.own.sems k } in o) look.1

@@ -112,13 +112,13 @@ module _ {V Part : Type 0} (rule : CallersRule V Part) (z : LotSize) (xs : List 
         → (scheme_of rule z xs j).Step (part_in rule z xs j s) e saw b → Joined rule z xs j s e saw b
     joins lock b is step =
         let here : LockAllowed s.threads s.lock_count (lock_part s) e =
-            subst (λ (c : Counts). LockAllowed c.threads c.locks (lock_part s) e) (sym counts) step.0 in
+        subst (λ (c : Counts). LockAllowed c.threads c.locks (lock_part s) e) (sym counts) step.0 in
         let ok : Allowed s e = (lock_part_allows s e is).1 (here, asks) in
         let follows = (lock_follows s e ok).steps is in
         record { allowed = ok; saw_is = step.1 ∙ sym follows.1; part = follows.2 ∙ sym step.2; others = others lock is ok }
     joins cond b is step =
         let here : CondAllowed s.threads s.lock_count s.cond_count (cond_part s) e =
-            subst (λ (c : Counts). CondAllowed c.threads c.locks c.conds (cond_part s) e) (sym counts) step.0 in
+        subst (λ (c : Counts). CondAllowed c.threads c.locks c.conds (cond_part s) e) (sym counts) step.0 in
         let ok : Allowed s e = (cond_part_allows s e sound is).1 (here, asks) in
         let follows = (cond_follows s e sound ok).steps is in
         record { allowed = ok; saw_is = step.1 ∙ sym follows.1; part = follows.2 ∙ sym step.2; others = others cond is ok }
@@ -166,7 +166,7 @@ stands_move s (Mark t l) want = stays_put s t
 stands_move s (Park t l) want = stays_put s t
 stands_move s (Free t l) want =
     by_bit (λ b. Stands s t (if b then s.point else let_go s.point t) (moves (Free t l) (Saw (not b)) (stand_of (s.point t))))
-        (s.locks.parked l) (λ _. stays_put s t) (λ _. lets_go s t)
+    (s.locks.parked l) (λ _. stays_put s t) (λ _. lets_go s t)
 stands_move s (Pass t l true more) want =
     hands_over s t l (s.locks.line l) (λ u rest is. want l u (subst (λ us. Contains us u) (sym is) (in_head u rest)))
 stands_move s (Pass t l false more) want = lets_go s t

@@ -114,7 +114,7 @@ module _ {V Part : Type 0} (rule : CallersRule V Part) where
   CollectsLock p (suc k) q =
       (k ≡ 0) × ((l : ℕ) × (p.own.locks.aim ≡ Some l)
       × ((x : V) × FoundOk rule l p.thread p.own.locks x
-          × NotesIn lock p (lock_woken (gripped p.own.locks l x)) (Collects p.thread (Some 1)) q))
+      × NotesIn lock p (lock_woken (gripped p.own.locks l x)) (Collects p.thread (Some 1)) q))
 
   -- q is the pass p after it collected its letter: by where it is away, it is a lock's, a condition's, or a semaphore's
   abbrev pub CollectsIn : PassView (LotPassView V) → Bool → Option ℕ → ℕ → PassView (LotPassView V) → Type 0

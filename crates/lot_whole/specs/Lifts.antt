@@ -53,7 +53,7 @@ module _ {V Part : Type 0} (rule : CallersRule V Part) (z : LotSize) (xs : List 
       → (ℕ → PassView (LotPassView V) → Type 0) → Type 0
   CarriesPass j p told whole = (n : ℕ) (own : PassIn V j) (a : Access) → ((k : ℕ) → told n (pass_after (part_pass j p) own k a))
       → MayBeAway j p.own own × ((w : LotWorld rule z xs) (ws : List ℕ) (hs : List (maybe.Option (Option V))) → LotFits rule z xs w ws hs
-          → LotPassIs rule z xs w p.thread p.own → Speaks j w a)
+      → LotPassIs rule z xs w p.thread p.own → Speaks j w a)
       × ((k : ℕ) → whole n (pass_after p (lot_own j p.own own a) k a))
 
   abbrev pub LiftsPass : Type 1
@@ -61,7 +61,7 @@ module _ {V Part : Type 0} (rule : CallersRule V Part) (z : LotSize) (xs : List 
       (whole : ℕ → PassView (LotPassView V) → Type 0)
       → AllowsPass (scheme_of rule z xs j) i f (part_pass j p) told
       → ((w : LotWorld rule z xs) (ws : List ℕ) (hs : List (maybe.Option (Option V))) → LotFits rule z xs w ws hs
-          → LotPassIs rule z xs w p.thread p.own → InPlace j w i)
+      → LotPassIs rule z xs w p.thread p.own → InPlace j w i)
       → CarriesPass j p told whole → AllowsPass (lot_scheme rule z xs) i f p whole
 
   -- ---- of a pass and a root
@@ -72,7 +72,7 @@ module _ {V Part : Type 0} (rule : CallersRule V Part) (z : LotSize) (xs : List 
       → ((k : ℕ) → told n (pass_after (part_pass j p) own k a) (record q { own = its }))
       → MayBeAway j p.own own
       × ((w : LotWorld rule z xs) (ws : List ℕ) (hs : List (maybe.Option (Option V))) → LotFits rule z xs w ws hs
-          → LotPassIs rule z xs w p.thread p.own
+      → LotPassIs rule z xs w p.thread p.own
       → LotRootIs rule z xs w q.key (root_from j q.own) → Speaks j w a)
       × ((k : ℕ) → whole n (pass_after p (lot_own j p.own own a) k a) (whole_root j (record q { own = its })))
 
@@ -88,7 +88,7 @@ module _ {V Part : Type 0} (rule : CallersRule V Part) (z : LotSize) (xs : List 
       → Type 0
   CarriesRoot j q told whole = (n : ℕ) (its : RootIn j) (a : Access) → ((k : ℕ) → told n (root_after q its k a))
       → ((w : LotWorld rule z xs) (ws : List ℕ) (hs : List (maybe.Option (Option V))) → LotFits rule z xs w ws hs
-          → LotRootIs rule z xs w q.key (root_from j q.own) → Speaks j w a)
+      → LotRootIs rule z xs w q.key (root_from j q.own) → Speaks j w a)
       × ((k : ℕ) → whole n (root_after (whole_root j q) (root_from j its) k a))
 
   abbrev pub LiftsRoot : Type 1
@@ -96,5 +96,5 @@ module _ {V Part : Type 0} (rule : CallersRule V Part) (z : LotSize) (xs : List 
       (whole : ℕ → RootView LotRootView → Type 0)
       → AllowsRoot (scheme_of rule z xs j) i f q told
       → ((w : LotWorld rule z xs) (ws : List ℕ) (hs : List (maybe.Option (Option V))) → LotFits rule z xs w ws hs
-          → LotRootIs rule z xs w q.key (root_from j q.own) → InPlace j w i)
+      → LotRootIs rule z xs w q.key (root_from j q.own) → InPlace j w i)
       → CarriesRoot j q told whole → AllowsRoot (lot_scheme rule z xs) i f (whole_root j q) whole

@@ -1,5 +1,6 @@
-//! Whole chains of calls, each proved from the contracts of its calls alone: so what a call asks of a pass is what the call before it
-//! leaves. lot_sync's waits, notifications, acquires and releases are such chains, with the parking lot between the calls.
+//! Whole chains of calls, each proved from the contracts of its calls alone: so what a call asks of a pass is what
+//! the call before it leaves. lot_sync's waits, notifications, acquires and releases are such chains, with the
+//! parking lot between the calls.
 ghost use Rattle.std.specs.Prelude.{◌≡◌, ◌<◌, length, MatchOption, None};
 ghost use Rattle.lot_core.specs.Steps.{SaysMore, first as first_of};
 ghost use Rattle.lot_rights.specs.declared.views.PassView.{PassView};
@@ -31,8 +32,8 @@ pub enum Waited {
 }
 
 impl<V: Keeps> LotWords<V> {
-    /// Waits on the root's condition, as far as it comes without sleeping: enlists, lets the lock go, looks for the letter once, and takes
-    /// the lock again.
+    /// Waits on the root's condition, as far as it comes without sleeping: enlists, lets the lock go, looks for the
+    /// letter once, and takes the lock again.
     pub fn wait_once(
         &self,
         pass: LotPass<V>,
@@ -63,7 +64,12 @@ impl<V: Keeps> LotWords<V> {
     }
 
     /// Takes all sleepers of the root's condition: lowers its flag, and sweeps it.
-    pub fn call_all(&self, pass: LotPass<V>, root: LotRoot<V>, taken: usize) -> (LotPass<V>, LotRoot<V>)
+    pub fn call_all(
+        &self,
+        pass: LotPass<V>,
+        root: LotRoot<V>,
+        taken: usize,
+    ) -> (LotPass<V>, LotRoot<V>)
         requires table { (pass.table ≡ self.now.table) × (root.table ≡ self.now.table) }
         requires key { IsKeyIn self.now.size cond root.root.key }
         requires cond { IsCondRoot root.root.own }
@@ -77,14 +83,21 @@ impl<V: Keeps> LotWords<V> {
         self.sweep(pass, root, taken)
     }
 
-    /// Seeks a permit of the root's semaphore: takes one, or marks the semaphore, queues, looks for the letter once, and where it lies
-    /// tries again; what came of that try is answered.
-    pub fn seek_once(&self, pass: LotPass<V>, root: LotRoot<V>) -> (LotPass<V>, LotRoot<V>, Option<Taken>)
+    /// Seeks a permit of the root's semaphore: takes one, or marks the semaphore, queues, looks for the letter once,
+    /// and where it lies tries again; what came of that try is answered.
+    pub fn seek_once(
+        &self,
+        pass: LotPass<V>,
+        root: LotRoot<V>,
+    ) -> (LotPass<V>, LotRoot<V>, Option<Taken>)
         requires table { (pass.table ≡ self.now.table) × (root.table ≡ self.now.table) }
         requires key { IsKeyIn self.now.size sem root.root.key }
         requires sem { IsSemRoot root.root.own }
         requires idle { IsIdle pass.pass.own }
-        ensures slept { MatchOption result.2 (Unit {0}) (λ became. (told : PassView (LotPassView V)) × Adds pass.pass (word_of_seek pass.pass.thread root.root.key) told × TakesPermit told root.root.key became result.0.pass) }
+        ensures slept { MatchOption result.2 (Unit {0})
+            (λ became. (told : PassView (LotPassView V))
+            × Adds pass.pass (word_of_seek pass.pass.thread root.root.key) told
+            × TakesPermit told root.root.key became result.0.pass) }
     {
         let key = root.key();
         let (pass, taken) = self.take_permit(pass, key);

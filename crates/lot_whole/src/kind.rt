@@ -5,7 +5,8 @@ use lot_rights::{Kind, PassOf, RootOf};
 use lot_words::Keeps;
 use std::marker::PhantomData;
 
-/// The words of a whole lot: of its locks, conditions and semaphores, with a slot for each lock's value. Contracts alone read it.
+/// The words of a whole lot: of its locks, conditions and semaphores, with a slot for each lock's value. Contracts
+/// alone read it.
 pub struct Lot<V> {
     of: PhantomData<V>,
 }
@@ -38,6 +39,6 @@ impl<V: Keeps> Kind for Lot<V> {
 /// The right to act as one thread. Contracts see it as its table and a `PassView`, whose `own` is a `LotPassView`.
 pub type LotPass<V> = PassOf<Lot<V>>;
 
-/// The right to change the line of one key, of whatever kind. Contracts see it as its table and a `RootView`, whose `own` is a
-/// `LotRootView`.
+/// The right to change the line of one key, of whatever kind. Contracts see it as its table and a `RootView`, whose
+/// `own` is a `LotRootView`.
 pub type LotRoot<V> = RootOf<Lot<V>>;

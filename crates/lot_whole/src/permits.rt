@@ -19,8 +19,8 @@ use std::marker::Brand;
 /// All bits of a word but the parked bit.
 const ALL_BUT_PARKED: u64 = u64::MAX - 1;
 
-/// What is added to the word of a semaphore of which a permit comes back, and of whose line this was the first: the permit, less the
-/// parked bit where nobody may be left behind that thread.
+/// What is added to the word of a semaphore of which a permit comes back, and of whose line this was the first: the
+/// permit, less the parked bit where nobody may be left behind that thread.
 #[inline(always)]
 fn raise(first: Option<usize>, more: bool) -> u64
     ensures { result ≡ raise_of first more }
@@ -32,8 +32,9 @@ fn raise(first: Option<usize>, more: bool) -> u64
 }
 
 impl<V: Keeps> LotWords<V> {
-    /// Takes a permit where one is left, and else leaves all as it was: a look, and where that found a permit, one compare-exchange of the
-    /// word that was seen. Busy is answered where the exchange found another word. The event is SemTake.
+    /// Takes a permit where one is left, and else leaves all as it was: a look, and where that found a permit, one
+    /// compare-exchange of the word that was seen. Busy is answered where the exchange found another word. The event
+    /// is SemTake.
     #[inline(always)]
     pub fn try_take_permit(&self, pass: LotPass<V>, key: usize) -> (LotPass<V>, Taken)
         requires table { pass.table ≡ self.now.table }
@@ -50,8 +51,9 @@ impl<V: Keeps> LotWords<V> {
         self.take_from(pass, key, was)
     }
 
-    /// Takes a permit where one is left, as `try_take_permit` does; where the look finds none, the thread seeks one from now on: the first
-    /// step of getting a permit, and each further try. The event is SemTake. A thread that sleeps can't take.
+    /// Takes a permit where one is left, as `try_take_permit` does; where the look finds none, the thread seeks one
+    /// from now on: the first step of getting a permit, and each further try. The event is SemTake. A thread that
+    /// sleeps can't take.
     #[inline(always)]
     pub fn take_permit(&self, pass: LotPass<V>, key: usize) -> (LotPass<V>, Taken)
         requires table { pass.table ≡ self.now.table }
@@ -68,8 +70,8 @@ impl<V: Keeps> LotWords<V> {
         self.take_from(pass, key, seen)
     }
 
-    /// Takes a permit from the word that a look found, by one compare-exchange: Got, or Busy where it found another word. The event is
-    /// SemTake.
+    /// Takes a permit from the word that a look found, by one compare-exchange: Got, or Busy where it found another
+    /// word. The event is SemTake.
     #[inline(always)]
     fn take_from(&self, pass: LotPass<V>, key: usize, seen: u64) -> (LotPass<V>, Taken)
         requires table { pass.table ≡ self.now.table }
@@ -95,8 +97,9 @@ impl<V: Keeps> LotWords<V> {
         (pass, taken)
     }
 
-    /// Marks a semaphore of which no permit is left as parked, by one compare-exchange, and says whether it did. The event is SemMark;
-    /// where the word was another, the entry says which. A thread that is about to park calls it, as in WTF's `Lock::lockSlow`.
+    /// Marks a semaphore of which no permit is left as parked, by one compare-exchange, and says whether it did. The
+    /// event is SemMark; where the word was another, the entry says which. A thread that is about to park calls it,
+    /// as in WTF's `Lock::lockSlow`.
     pub fn mark_permit(&self, pass: LotPass<V>, key: usize) -> (LotPass<V>, bool)
         requires table { pass.table ≡ self.now.table }
         requires key { IsKeyIn self.now.size sem key }
@@ -114,19 +117,18 @@ impl<V: Keeps> LotWords<V> {
         (pass, found == NONE_LEFT)
     }
 
-    /// Queues the thread last on the root's semaphore where no permit is left and it is marked as parked, by one load, and says whether
-    /// it did: the validation of a park, which runs while the bucket of the semaphore is locked. The event is SemPark.
-    pub fn park_permit(
-        &self,
-        pass: LotPass<V>,
-        root: LotRoot<V>,
-    ) -> (LotPass<V>, LotRoot<V>, bool)
+    /// Queues the thread last on the root's semaphore where no permit is left and it is marked as parked, by one
+    /// load, and says whether it did: the validation of a park, which runs while the bucket of the semaphore is
+    /// locked. The event is SemPark.
+    pub fn park_permit(&self, pass: LotPass<V>, root: LotRoot<V>) -> (LotPass<V>, LotRoot<V>, bool)
         requires table { (pass.table ≡ self.now.table) × (root.table ≡ self.now.table) }
         requires sem { IsSemRoot root.root.own }
         requires seeks { MaySeek pass.pass.own root.root.key }
         ensures table { (result.0.table ≡ pass.table) × (result.1.table ≡ root.table) }
-        ensures entry { NotesIn sem pass.pass (parked_pass pass.pass.own.sems result.2) (Makes (SemPark pass.pass.thread root.root.key) (Saw result.2)) result.0.pass }
-        ensures root { RootIs sem root.root (parked_root (as_sem root.root.own) pass.pass.thread result.2) result.1.root }
+        ensures entry { NotesIn sem pass.pass (parked_pass pass.pass.own.sems result.2)
+            (Makes (SemPark pass.pass.thread root.root.key) (Saw result.2)) result.0.pass }
+        ensures root { RootIs sem root.root
+            (parked_root (as_sem root.root.own) pass.pass.thread result.2) result.1.root }
     {
         let words = &self.words;
         let word = root.word();
@@ -134,9 +136,10 @@ impl<V: Keeps> LotWords<V> {
         (pass, root, found == SEM_PARKED)
     }
 
-    /// Gives a permit back where nobody is marked as parked, and says whether it did: the fast path of a release. It is a look, and where
-    /// that found nobody marked, one compare-exchange of the word that was seen. Where somebody is marked, or the exchange found another
-    /// word, the thread still has the permit, and `pass_permit` may follow. The event is SemFree.
+    /// Gives a permit back where nobody is marked as parked, and says whether it did: the fast path of a release. It
+    /// is a look, and where that found nobody marked, one compare-exchange of the word that was seen. Where somebody
+    /// is marked, or the exchange found another word, the thread still has the permit, and `pass_permit` may follow.
+    /// The event is SemFree.
     #[inline(always)]
     pub fn free_permit(&self, pass: LotPass<V>, key: usize) -> (LotPass<V>, bool)
         requires table { pass.table ≡ self.now.table }
@@ -161,9 +164,10 @@ impl<V: Keeps> LotWords<V> {
         (pass, found == seen)
     }
 
-    /// Gives a permit back, by one fetch-add, while the bucket of the semaphore is locked. `first` is the first of the line, to whom the
-    /// root then owes a letter, with which that thread may try again; the parked bit goes where there was one and no more threads may
-    /// wait. With an empty line the bit stays, and `clear` may follow. The event is SemPass.
+    /// Gives a permit back, by one fetch-add, while the bucket of the semaphore is locked. `first` is the first of
+    /// the line, to whom the root then owes a letter, with which that thread may try again; the parked bit goes where
+    /// there was one and no more threads may wait. With an empty line the bit stays, and `clear` may follow. The
+    /// event is SemPass.
     ///
     /// Where two threads or more are in the line, `more` has to be true.
     pub fn pass_permit(
@@ -179,8 +183,10 @@ impl<V: Keeps> LotWords<V> {
         requires first { (first_of (as_sem root.root.own).line ≡ first) × ((as_sem root.root.own).owes ≡ None) }
         requires more { SaysMore (as_sem root.root.own).line more }
         ensures table { (result.0.table ≡ pass.table) × (result.1.table ≡ root.table) }
-        ensures entry { NotesIn sem pass.pass (gave pass.pass.own.sems root.root.key) (Makes (Passes pass.pass.thread root.root.key more) (Sleeper first)) result.0.pass }
-        ensures root { RootIs sem root.root (passed_root (as_sem root.root.own) (as_sem root.root.own).line) result.1.root }
+        ensures entry { NotesIn sem pass.pass (gave pass.pass.own.sems root.root.key)
+            (Makes (Passes pass.pass.thread root.root.key more) (Sleeper first)) result.0.pass }
+        ensures root { RootIs sem root.root
+            (passed_root (as_sem root.root.own) (as_sem root.root.own).line) result.1.root }
     {
         let words = &self.words;
         let word = root.word();
@@ -189,15 +195,16 @@ impl<V: Keeps> LotWords<V> {
         (pass, root)
     }
 
-    /// Clears the parked bit of a semaphore in whose line nobody is, by one fetch-and, while the bucket of the semaphore is locked. The
-    /// event is SemClear.
+    /// Clears the parked bit of a semaphore in whose line nobody is, by one fetch-and, while the bucket of the
+    /// semaphore is locked. The event is SemClear.
     pub fn clear(&self, pass: LotPass<V>, root: LotRoot<V>) -> (LotPass<V>, LotRoot<V>)
         requires table { (pass.table ≡ self.now.table) × (root.table ≡ self.now.table) }
         requires sem { IsSemRoot root.root.own }
         requires idle { IsIdle pass.pass.own }
         requires nobody { (as_sem root.root.own).line ≡ [] }
         ensures table { (result.0.table ≡ pass.table) × (result.1.table ≡ root.table) }
-        ensures entry { NotesIn sem pass.pass pass.pass.own.sems (Makes (SemClear pass.pass.thread root.root.key) Done) result.0.pass }
+        ensures entry { NotesIn sem pass.pass pass.pass.own.sems
+            (Makes (SemClear pass.pass.thread root.root.key) Done) result.0.pass }
         ensures root { result.1.root ≡ root.root }
     {
         let words = &self.words;

@@ -27,47 +27,53 @@ impl<V: Keeps> LotWords<V> {
         requires lock { IsLockRoot root.root.own }
         requires owes { (as_lock root.root.own).owes ≡ Some (thread, token) }
         ensures table { result.table ≡ root.table }
-        ensures posted { RootNotesIn lock root.root (lock_paid (as_lock root.root.own)) (Posts root.root.key thread token) result.root }
+        ensures posted { RootNotesIn lock root.root (lock_paid (as_lock root.root.own))
+            (Posts root.root.key thread token) result.root }
     {
         let words = &self.words;
         let letter = root.letter_of(thread);
         words.store_root::<Brand, (usize, u32)>(root, letter, token as u64 + 1, (thread, token))
     }
 
-    /// Posts a letter that the root of a condition owes, by one store, while the bucket of the condition is still locked.
+    /// Posts a letter that the root of a condition owes, by one store, while the bucket of the condition is still
+    /// locked.
     pub fn post_cond(&self, root: LotRoot<V>, thread: usize) -> LotRoot<V>
         requires table { root.table ≡ self.now.table }
         requires cond { IsCondRoot root.root.own }
         requires owes { Contains (as_cond root.root.own).owes thread }
         ensures table { result.table ≡ root.table }
-        ensures posted { RootNotesIn cond root.root (cond_paid (as_cond root.root.own) thread) (Posts root.root.key thread 0) result.root }
+        ensures posted { RootNotesIn cond root.root (cond_paid (as_cond root.root.own) thread)
+            (Posts root.root.key thread 0) result.root }
     {
         let words = &self.words;
         let letter = root.letter_of(thread);
         words.store_root::<Brand, usize>(root, letter, LETTER, thread)
     }
 
-    /// Posts the letter that the root of a semaphore owes, by one store, while the bucket of the semaphore is still locked.
+    /// Posts the letter that the root of a semaphore owes, by one store, while the bucket of the semaphore is still
+    /// locked.
     pub fn post_sem(&self, root: LotRoot<V>, thread: usize) -> LotRoot<V>
         requires table { root.table ≡ self.now.table }
         requires sem { IsSemRoot root.root.own }
         requires owes { (as_sem root.root.own).owes ≡ Some thread }
         ensures table { result.table ≡ root.table }
-        ensures posted { RootNotesIn sem root.root (sem_paid (as_sem root.root.own)) (Posts root.root.key thread 0) result.root }
+        ensures posted { RootNotesIn sem root.root (sem_paid (as_sem root.root.own))
+            (Posts root.root.key thread 0) result.root }
     {
         let words = &self.words;
         let letter = root.letter_of(thread);
         words.store_root::<Brand, usize>(root, letter, LETTER, thread)
     }
 
-    /// Collects the pass's letter, by one swap, and answers its token where a letter lay. Whose letter it is the pass tells: of a lock,
-    /// with token 0 where the thread may try again, and 1 where the lock was handed to it; of a condition, whose wait has ended; or of a
-    /// semaphore, with which it may try again. A pass that is away nowhere has no letter. A thread that sleeps calls it until a letter
-    /// lies; what wakes it tells nothing.
+    /// Collects the pass's letter, by one swap, and answers its token where a letter lay. Whose letter it is the pass
+    /// tells: of a lock, with token 0 where the thread may try again, and 1 where the lock was handed to it; of a
+    /// condition, whose wait has ended; or of a semaphore, with which it may try again. A pass that is away nowhere
+    /// has no letter. A thread that sleeps calls it until a letter lies; what wakes it tells nothing.
     pub fn collect(&self, pass: LotPass<V>) -> (LotPass<V>, Option<u32>)
         requires { pass.table ≡ self.now.table }
         ensures table { result.0.table ≡ pass.table }
-        ensures letter { MatchOption result.1 (FoundNone pass.pass result.0.pass) (λ token. Collected V.Keeps pass.pass token result.0.pass) }
+        ensures letter { MatchOption result.1 (FoundNone pass.pass result.0.pass)
+            (λ token. Collected V.Keeps pass.pass token result.0.pass) }
     {
         let words = &self.words;
         let place = pass.letter();

@@ -33,9 +33,9 @@ fn word_after(first: Option<usize>, more: bool) -> u64
 }
 
 impl<V: Keeps> LotWords<V> {
-    /// Lets the lock go where nobody is marked as parked on it, by one compare-exchange, and says whether it did: the fast path of
-    /// WTF's `Lock::unlock`, and the action before sleep of a wait. Where it did not, the lock is still held, and `pass_on` may follow.
-    /// The event is Free.
+    /// Lets the lock go where nobody is marked as parked on it, by one compare-exchange, and says whether it did: the
+    /// fast path of WTF's `Lock::unlock`, and the action before sleep of a wait. Where it did not, the lock is still
+    /// held, and `pass_on` may follow. The event is Free.
     #[inline(always)]
     pub fn free(&self, pass: LotPass<V>, key: usize) -> (LotPass<V>, bool)
         requires table { pass.table ≡ self.now.table }
@@ -45,8 +45,10 @@ impl<V: Keeps> LotWords<V> {
         requires lies { (y : V) × IsIn pass.pass.own.locks key y }
         ensures table { result.0.table ≡ pass.table }
         ensures event { MatchBool result.1
-            ((y : V) → IsIn pass.pass.own.locks key y → NotesIn lock pass.pass (let_go pass.pass.own.locks key y) (Makes (Free pass.pass.thread key) (Saw true)) result.0.pass)
-            (NotesIn lock pass.pass (found_parked pass.pass.own.locks key) (Makes (Free pass.pass.thread key) (Saw false)) result.0.pass) }
+            ((y : V) → IsIn pass.pass.own.locks key y → NotesIn lock pass.pass (let_go pass.pass.own.locks key y)
+            (Makes (Free pass.pass.thread key) (Saw true)) result.0.pass)
+            (NotesIn lock pass.pass (found_parked pass.pass.own.locks key)
+            (Makes (Free pass.pass.thread key) (Saw false)) result.0.pass) }
     {
         let words = &self.words;
         let word = word_of_key(key);
@@ -54,12 +56,14 @@ impl<V: Keeps> LotWords<V> {
         (pass, found == HELD)
     }
 
-    /// Passes on a lock that `free` found parked, by one access, while the bucket of the lock is locked: the callback of WTF's
-    /// `Lock::unlockSlow`. `first` is the first of the line. Where the pass is fair, that thread gets the lock: its word stays, by
-    /// one load. Else the lock is let go by one store, marked as parked where more threads may wait. The root then owes that thread
-    /// a letter, with token 1 where the pass is fair and else 0. The event is Pass.
+    /// Passes on a lock that `free` found parked, by one access, while the bucket of the lock is locked: the callback
+    /// of WTF's `Lock::unlockSlow`. `first` is the first of the line. Where the pass is fair, that thread gets the
+    /// lock: its word stays, by one load. Else the lock is let go by one store, marked as parked where more threads
+    /// may wait. The root then owes that thread a letter, with token 1 where the pass is fair and else 0. The event
+    /// is Pass.
     ///
-    /// Where two threads or more are in the line and the pass isn't fair, `more` has to be true; a pass to nobody can't be fair.
+    /// Where two threads or more are in the line and the pass isn't fair, `more` has to be true; a pass to nobody
+    /// can't be fair.
     pub fn pass_on(
         &self,
         pass: LotPass<V>,
@@ -77,8 +81,11 @@ impl<V: Keeps> LotWords<V> {
         requires more { fair ≡ false → SaysMore (as_lock root.root.own).line more }
         requires fair { first ≡ None → fair ≡ false }
         ensures table { (result.0.table ≡ pass.table) × (result.1.table ≡ root.table) }
-        ensures event { (y : V) → IsIn pass.pass.own.locks root.root.key y → NotesIn lock pass.pass (let_go pass.pass.own.locks root.root.key y) (Makes (Pass pass.pass.thread root.root.key fair more) (Sleeper first)) result.0.pass }
-        ensures root { RootIs lock root.root (passed_root (as_lock root.root.own) fair (as_lock root.root.own).line) result.1.root }
+        ensures event { (y : V) → IsIn pass.pass.own.locks root.root.key y
+            → NotesIn lock pass.pass (let_go pass.pass.own.locks root.root.key y)
+            (Makes (Pass pass.pass.thread root.root.key fair more) (Sleeper first)) result.0.pass }
+        ensures root { RootIs lock root.root
+            (passed_root (as_lock root.root.own) fair (as_lock root.root.own).line) result.1.root }
     {
         let words = &self.words;
         let word = root.word();
@@ -98,7 +105,8 @@ impl<V: Keeps> LotWords<V> {
         requires key { key < self.now.size.locks }
         requires holds { Holds pass.pass.own.locks key }
         requires lies { (y : V) × IsIn pass.pass.own.locks key y }
-        ensures pass { (result.0.table ≡ pass.table) × (result.0.pass ≡ record pass.pass { own = placed_in pass.pass.own key Out }) }
+        ensures pass { (result.0.table ≡ pass.table)
+            × (result.0.pass ≡ record pass.pass { own = placed_in pass.pass.own key Out }) }
         ensures value { IsIn pass.pass.own.locks key result.1 }
         ensures out { IsOut result.0.pass.own.locks key }
     {
@@ -107,15 +115,16 @@ impl<V: Keeps> LotWords<V> {
         (pass, value)
     }
 
-    /// Puts a value into the lock's slot, out of which the pass took one. It keeps the caller's rule, has grown from the value that the
-    /// pass found when it got the lock, and has the other threads' parts of that.
+    /// Puts a value into the lock's slot, out of which the pass took one. It keeps the caller's rule, has grown from
+    /// the value that the pass found when it got the lock, and has the other threads' parts of that.
     #[inline]
     pub fn value_in(&self, pass: LotPass<V>, key: usize, value: V) -> LotPass<V>
         requires table { pass.table ≡ self.now.table }
         requires key { key < self.now.size.locks }
         requires holds { Holds pass.pass.own.locks key × IsOut pass.pass.own.locks key }
         requires lawful { (x : V) × HasSeen pass.pass.own.locks key x × MayLeave V.Keeps key pass.pass.thread x value }
-        ensures pass { (result.table ≡ pass.table) × (result.pass ≡ record pass.pass { own = placed_in pass.pass.own key (InSlot value) }) }
+        ensures pass { (result.table ≡ pass.table)
+            × (result.pass ≡ record pass.pass { own = placed_in pass.pass.own key (InSlot value) }) }
         ensures lies { IsIn result.pass.own.locks key value }
     {
         let (pass, found) = self.exchange_value(pass, key, Some(value));
@@ -135,9 +144,12 @@ impl<V: Keeps> LotWords<V> {
         requires key { key < self.now.size.locks }
         requires holds { Holds pass.pass.own.locks key }
         requires home { (place : Place V) × (get_elem? pass.pass.own.locks.places key ≡ some place) × IsAtHome place }
-        requires lawful { (x : V) → HasSeen pass.pass.own.locks key x → MayLie V.Keeps key pass.pass.thread x (place_of new) }
-        ensures pass { (result.0.table ≡ pass.table) × (result.0.pass ≡ record pass.pass { own = placed_in pass.pass.own key (place_of new) }) }
-        ensures found { (place : Place V) → get_elem? pass.pass.own.locks.places key ≡ some place → result.1 ≡ in_slot place }
+        requires lawful { (x : V) → HasSeen pass.pass.own.locks key x
+            → MayLie V.Keeps key pass.pass.thread x (place_of new) }
+        ensures pass { (result.0.table ≡ pass.table)
+            × (result.0.pass ≡ record pass.pass { own = placed_in pass.pass.own key (place_of new) }) }
+        ensures found { (place : Place V) → get_elem? pass.pass.own.locks.places key ≡ some place
+            → result.1 ≡ in_slot place }
     {
         let words = &self.words;
         words.exchange::<Brand, ()>(pass, key, new, ())

@@ -31,8 +31,9 @@ impl<V: Keeps> LotWords<V> {
         (pass, was % 2 == 0)
     }
 
-    /// Gets the lock where it is unheld, and else the thread wants it from now on: the first step of WTF's `Lock::lock`, and each
-    /// further try of its slow path, also of a thread that rests on a condition. The event is Take. A thread that sleeps can't take.
+    /// Gets the lock where it is unheld, and else the thread wants it from now on: the first step of WTF's
+    /// `Lock::lock`, and each further try of its slow path, also of a thread that rests on a condition. The event is
+    /// Take. A thread that sleeps can't take.
     #[inline(always)]
     pub fn take(&self, pass: LotPass<V>, key: usize) -> (LotPass<V>, bool)
         requires table { pass.table ≡ self.now.table }
@@ -41,15 +42,17 @@ impl<V: Keeps> LotWords<V> {
         ensures table { result.0.table ≡ pass.table }
         ensures event { MatchBool result.1
             (GetsBy V.Keeps pass.pass key (Makes (Take pass.pass.thread key) (Saw true)) result.0.pass)
-            (NotesIn lock pass.pass (wishing pass.pass.own.locks key) (Makes (Take pass.pass.thread key) (Saw false)) result.0.pass) }
+            (NotesIn lock pass.pass (wishing pass.pass.own.locks key)
+            (Makes (Take pass.pass.thread key) (Saw false)) result.0.pass) }
     {
         let words = &self.words;
         let (pass, found) = words.fetch_or::<Brand, usize>(pass, word_of_key(key), HELD, key);
         (pass, found % 2 == 0)
     }
 
-    /// Gets the lock where its word is 0, by one compare-exchange; the event is Take. Else no event is made, the pass is as it was, and
-    /// the entry says what the word was. A `lock` that begins so leaves the line of a contended word alone.
+    /// Gets the lock where its word is 0, by one compare-exchange; the event is Take. Else no event is made, the pass
+    /// is as it was, and the entry says what the word was. A `lock` that begins so leaves the line of a contended
+    /// word alone.
     #[inline(always)]
     pub fn take_free(&self, pass: LotPass<V>, key: usize) -> (LotPass<V>, bool)
         requires table { pass.table ≡ self.now.table }
@@ -66,8 +69,9 @@ impl<V: Keeps> LotWords<V> {
         (pass, found == UNHELD)
     }
 
-    /// Marks a held, unparked lock as parked, by one compare-exchange, and says whether it did. The event is Mark; where the word was
-    /// another, the entry says which. A thread that wants the lock, and is about to park, calls it, as WTF's `Lock::lockSlow` does.
+    /// Marks a held, unparked lock as parked, by one compare-exchange, and says whether it did. The event is Mark;
+    /// where the word was another, the entry says which. A thread that wants the lock, and is about to park, calls
+    /// it, as WTF's `Lock::lockSlow` does.
     pub fn mark(&self, pass: LotPass<V>, key: usize) -> (LotPass<V>, bool)
         requires table { pass.table ≡ self.now.table }
         requires key { key < self.now.size.locks }
@@ -89,15 +93,18 @@ impl<V: Keeps> LotWords<V> {
         (pass, found == HELD)
     }
 
-    /// Queues the thread last on the root's lock where the lock is held and parked, by one load, and says whether it did: the
-    /// validation of WTF's `Lock::lockSlow`, which runs while the bucket of the lock is locked. The event is Park.
+    /// Queues the thread last on the root's lock where the lock is held and parked, by one load, and says whether it
+    /// did: the validation of WTF's `Lock::lockSlow`, which runs while the bucket of the lock is locked. The event is
+    /// Park.
     pub fn park(&self, pass: LotPass<V>, root: LotRoot<V>) -> (LotPass<V>, LotRoot<V>, bool)
         requires table { (pass.table ≡ self.now.table) × (root.table ≡ self.now.table) }
         requires lock { IsLockRoot root.root.own }
         requires may { MayPark pass.pass.own root.root.key }
         ensures table { (result.0.table ≡ pass.table) × (result.1.table ≡ root.table) }
-        ensures event { NotesIn lock pass.pass (parked_pass pass.pass.own.locks result.2) (Makes (Park pass.pass.thread root.root.key) (Saw result.2)) result.0.pass }
-        ensures root { RootIs lock root.root (parked_root (as_lock root.root.own) pass.pass.thread result.2) result.1.root }
+        ensures event { NotesIn lock pass.pass (parked_pass pass.pass.own.locks result.2)
+            (Makes (Park pass.pass.thread root.root.key) (Saw result.2)) result.0.pass }
+        ensures root { RootIs lock root.root
+            (parked_root (as_lock root.root.own) pass.pass.thread result.2) result.1.root }
     {
         let words = &self.words;
         let word = root.word();

@@ -1,12 +1,12 @@
-//! What contracts see of the rights: a pass is one of each kind, with how the thread stands; a root is that of one kind.
-//! No value of these types is made by running code.
+//! What contracts see of the rights: a pass is one of each kind, with how the thread stands; a root is that of one
+//! kind. No value of these types is made by running code.
 use lot_conds::views::{CondPassView, CondRootView};
 use lot_sems::views::{SemPassView, SemRootView};
 use lot_words::views::{LockPassView, LockRootView};
 use std::marker::{Model, PhantomData};
 
-/// How a thread stands at a condition, which no kind tells alone: nowhere, at the bed of a condition with a lock that it has yet to let
-/// go, or at rest on a condition after it let the lock go.
+/// How a thread stands at a condition, which no kind tells alone: nowhere, at the bed of a condition with a lock that
+/// it has yet to let go, or at rest on a condition after it let the lock go.
 pub enum Stand {
     Idle,
     AtBed(u64, u64),
@@ -28,7 +28,8 @@ pub enum LotRootView {
     Sem(SemRootView),
 }
 
-/// Names a `LotPassView` where a type is asked for. It has no fields, so the type of a table does not spell out what a pass knows.
+/// Names a `LotPassView` where a type is asked for. It has no fields, so the type of a table does not spell out what
+/// a pass knows.
 pub struct PassKnowledge<V> {
     of: PhantomData<V>,
 }
@@ -42,7 +43,8 @@ impl<V> Model for PassKnowledge<V> {
     ghost view = { λ _. no_pass };
 }
 
-/// Names a `LotRootView` where a type is asked for. It has no fields, so the type of a table does not spell out what a root knows.
+/// Names a `LotRootView` where a type is asked for. It has no fields, so the type of a table does not spell out what
+/// a root knows.
 pub struct RootKnowledge;
 
 impl Model for RootKnowledge {

@@ -17,9 +17,10 @@ use lot_words::Keeps;
 use std::marker::Brand;
 
 impl<V: Keeps> LotWords<V> {
-    /// Queues the thread last on the root's condition and sets its flag, by one store: the validation of WTF's `Condition::wait`,
-    /// which runs while the bucket of the condition is locked. The thread has the lock, and is at the condition's bed with it then: it
-    /// lets the lock go by `free`, or `free` and `pass_on`. The event is Enlist, and names the lock.
+    /// Queues the thread last on the root's condition and sets its flag, by one store: the validation of WTF's
+    /// `Condition::wait`, which runs while the bucket of the condition is locked. The thread has the lock, and is at
+    /// the condition's bed with it then: it lets the lock go by `free`, or `free` and `pass_on`. The event is Enlist,
+    /// and names the lock.
     pub fn enlist(
         &self,
         pass: LotPass<V>,
@@ -31,7 +32,8 @@ impl<V: Keeps> LotWords<V> {
         requires idle { IsIdle pass.pass.own }
         requires lock { (lock < self.now.size.locks) × Holds pass.pass.own.locks lock }
         ensures table { (result.0.table ≡ pass.table) × (result.1.table ≡ root.table) }
-        ensures event { NotesIn cond pass.pass (enlisted pass.pass.own.conds root.root.key) (Makes (Enlist pass.pass.thread root.root.key lock) Done) result.0.pass }
+        ensures event { NotesIn cond pass.pass (enlisted pass.pass.own.conds root.root.key)
+            (Makes (Enlist pass.pass.thread root.root.key lock) Done) result.0.pass }
         ensures root { RootIs cond root.root (enlisted_root (as_cond root.root.own) pass.pass.thread) result.1.root }
     {
         let words = &self.words;
@@ -39,38 +41,40 @@ impl<V: Keeps> LotWords<V> {
         words.store_both::<Brand, usize>(pass, root, word, HAS_WAITERS, lock)
     }
 
-    /// Whether the condition's flag is set, by one load: the fast path of WTF's `Condition::notifyOne`. Where it is clear, nobody is in
-    /// the line but threads that another is about to sweep. The event is Look.
+    /// Whether the condition's flag is set, by one load: the fast path of WTF's `Condition::notifyOne`. Where it is
+    /// clear, nobody is in the line but threads that another is about to sweep. The event is Look.
     #[inline(always)]
     pub fn look(&self, pass: LotPass<V>, key: usize) -> (LotPass<V>, bool)
         requires table { pass.table ≡ self.now.table }
         requires key { IsKeyIn self.now.size cond key }
         requires idle { IsIdle pass.pass.own }
         ensures table { result.0.table ≡ pass.table }
-        ensures event { NotesIn cond pass.pass pass.pass.own.conds (Makes (Look pass.pass.thread key) (Saw result.1)) result.0.pass }
+        ensures event { NotesIn cond pass.pass pass.pass.own.conds
+            (Makes (Look pass.pass.thread key) (Saw result.1)) result.0.pass }
     {
         let words = &self.words;
         let (pass, found) = words.load::<Brand, usize>(pass, word_of_key(key), key);
         (pass, found == HAS_WAITERS)
     }
 
-    /// Clears the condition's flag, by one store: the first step of WTF's `Condition::notifyAll`, which locks no bucket. `sweep` has to
-    /// follow. The event is Lower.
+    /// Clears the condition's flag, by one store: the first step of WTF's `Condition::notifyAll`, which locks no
+    /// bucket. `sweep` has to follow. The event is Lower.
     pub fn lower(&self, pass: LotPass<V>, key: usize) -> LotPass<V>
         requires table { pass.table ≡ self.now.table }
         requires key { IsKeyIn self.now.size cond key }
         requires idle { IsIdle pass.pass.own }
         ensures table { result.table ≡ pass.table }
-        ensures event { NotesIn cond pass.pass (lowering pass.pass.own.conds key) (Makes (Lower pass.pass.thread key) Done) result.pass }
+        ensures event { NotesIn cond pass.pass (lowering pass.pass.own.conds key)
+            (Makes (Lower pass.pass.thread key) Done) result.pass }
     {
         let words = &self.words;
         words.store::<Brand, usize>(pass, word_of_key(key), CLEAR, key)
     }
 
-    /// Takes the first `count` threads of the condition's line, or all where they are fewer, by one access, while the bucket of the
-    /// condition is locked: the callback of WTF's `Condition::notifyOne`, for one or several. `taken` is how many they are. Where more
-    /// threads may wait the flag stays, by one load; else, and where nobody was in the line, one store clears it. The root then owes each
-    /// of those threads a letter. The event is Call.
+    /// Takes the first `count` threads of the condition's line, or all where they are fewer, by one access, while the
+    /// bucket of the condition is locked: the callback of WTF's `Condition::notifyOne`, for one or several. `taken`
+    /// is how many they are. Where more threads may wait the flag stays, by one load; else, and where nobody was in
+    /// the line, one store clears it. The root then owes each of those threads a letter. The event is Call.
     ///
     /// Where more than `count` threads are in the line, `more` has to be true.
     pub fn call(
@@ -88,7 +92,8 @@ impl<V: Keeps> LotWords<V> {
         requires taken { dequeued_count count (as_cond root.root.own).line ≡ taken }
         requires more { SaysMoreBehind count (as_cond root.root.own).line more }
         ensures table { (result.0.table ≡ pass.table) × (result.1.table ≡ root.table) }
-        ensures event { NotesIn cond pass.pass (took pass.pass.own.conds root.root.key taken) (Makes (Call pass.pass.thread root.root.key count more) (Count taken)) result.0.pass }
+        ensures event { NotesIn cond pass.pass (took pass.pass.own.conds root.root.key taken)
+            (Makes (Call pass.pass.thread root.root.key count more) (Count taken)) result.0.pass }
         ensures root { RootIs cond root.root (called_root (as_cond root.root.own) count) result.1.root }
     {
         let words = &self.words;
@@ -106,15 +111,22 @@ impl<V: Keeps> LotWords<V> {
         }
     }
 
-    /// Takes all threads of the condition's line, by one load, while the bucket of the condition is locked: the second step of WTF's
-    /// `Condition::notifyAll`. `taken` is how many they are. The root then owes each of them a letter. The event is Sweep.
-    pub fn sweep(&self, pass: LotPass<V>, root: LotRoot<V>, taken: usize) -> (LotPass<V>, LotRoot<V>)
+    /// Takes all threads of the condition's line, by one load, while the bucket of the condition is locked: the
+    /// second step of WTF's `Condition::notifyAll`. `taken` is how many they are. The root then owes each of them a
+    /// letter. The event is Sweep.
+    pub fn sweep(
+        &self,
+        pass: LotPass<V>,
+        root: LotRoot<V>,
+        taken: usize,
+    ) -> (LotPass<V>, LotRoot<V>)
         requires table { (pass.table ≡ self.now.table) × (root.table ≡ self.now.table) }
         requires cond { IsCondRoot root.root.own }
         requires lowered { MaySweep pass.pass.own root.root.key }
         requires taken { length (as_cond root.root.own).line ≡ taken }
         ensures table { (result.0.table ≡ pass.table) × (result.1.table ≡ root.table) }
-        ensures event { NotesIn cond pass.pass (swept_pass pass.pass.own.conds root.root.key taken) (Makes (Sweep pass.pass.thread root.root.key) (Count taken)) result.0.pass }
+        ensures event { NotesIn cond pass.pass (swept_pass pass.pass.own.conds root.root.key taken)
+            (Makes (Sweep pass.pass.thread root.root.key) (Count taken)) result.0.pass }
         ensures root { RootIs cond root.root (swept_root (as_cond root.root.own)) result.1.root }
     {
         let words = &self.words;

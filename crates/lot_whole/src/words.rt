@@ -32,13 +32,15 @@ pub(crate) const HAS_WAITERS: u64 = 1;
 /// The word of a semaphore of which no permit is left, and on which nobody is marked as parked.
 pub(crate) const NONE_LEFT: u64 = 0;
 
-/// The word of a semaphore of which no permit is left, and on which threads are marked as parked; and the bit that says so.
+/// The word of a semaphore of which no permit is left, and on which threads are marked as parked; and the bit that
+/// says so.
 pub(crate) const SEM_PARKED: u64 = 1;
 
 /// One permit, in a word.
 pub(crate) const PERMIT: u64 = 2;
 
-/// The words of all locks, conditions and semaphores, the letters of all threads, and a slot for each lock's value, under one rule.
+/// The words of all locks, conditions and semaphores, the letters of all threads, and a slot for each lock's value,
+/// under one rule.
 pub struct LotWords<V: Keeps> {
     pub(crate) words: WordsOf<Lot<V>>,
     // `close` puts the values here.
@@ -56,7 +58,12 @@ impl<V: Keeps> Model for LotWords<V> {
 
     ghost Value = { LotWordsShown V };
 
-    ghost view = { λ s. record { table = s.words.table; size = size_of s.words.key; values = s.words.key.values.value.items } };
+    ghost view = { λ s. record {
+      table = s.words.table;
+      size = size_of s.words.key;
+      values =
+          s.words.key.values.value.items;
+    } };
 }
 
 impl<V: Keeps> OfOpening for LotWords<V> {

@@ -25,17 +25,17 @@ load_both-pass-requires-clause-allows g c =
     let p = c.args.pass.pass in
     let q = c.args.root.root in
     both_at_place (scheme g.V.Keeps start) (word_at q.key) _ c.word-word.ensures.is (λ n. n) p q
-        (λ _. CallsSome p (cond_of q) c.args.count c.args.more)
+    (λ _. CallsSome p (cond_of q) c.args.count c.args.more)
     (subst (λ r. AllowsBoth (scheme g.V.Keeps start) (word_at q.key) (λ n. n) p r (λ _. CallsSome p (cond_of q) c.args.count c.args.more))
-        (cond_root q c.requires.cond)
+    (cond_root q c.requires.cond)
     (call_loads g.V.Keeps (size_of start) start.values.value.items p
-        (cond_of q) c.requires.idle c.args.count c.args.more c.requires.count c.requires.more c.if-more.true
-        (subst (λ k. 0 < k) (sym c.requires.taken) c.if-taken-gt0.true)))
+    (cond_of q) c.requires.idle c.args.count c.args.more c.requires.count c.requires.more c.if-more.true
+    (subst (λ k. 0 < k) (sym c.requires.taken) c.if-taken-gt0.true)))
 
 pub load_both-pass-requires-clause-names : goal.load_both-pass-requires-clause-names
 load_both-pass-requires-clause-names g c n p' q' told u h =
     cond_named c.args.root.root.own q'.own u (u ≡ c.args.pass.pass.thread) c.requires.cond _
-        (ap (λ (z : RootView LotRootView). z.own) told.1)
+    (ap (λ (z : RootView LotRootView). z.own) told.1)
     (λ named. inl (call_names (cond_of c.args.root.root).own _ c.args.count u refl named)) h
 
 pub store_both-requires-clause-allows : goal.store_both-requires-clause-allows
@@ -48,16 +48,16 @@ store_both-requires-clause-allows g c =
       | else-more-via-else-more w ↦ inr w.if-more.false
     ] in
     both_at_place (scheme g.V.Keeps start) (word_at q.key) _ c.word-word.ensures.is (λ _. 0) p q
-        (λ _. CallsSome p (cond_of q) c.args.count c.args.more)
+    (λ _. CallsSome p (cond_of q) c.args.count c.args.more)
     (subst (λ r. AllowsBoth (scheme g.V.Keeps start) (word_at q.key) (λ _. 0) p r (λ _. CallsSome p (cond_of q) c.args.count c.args.more))
-        (cond_root q c.requires.cond)
+    (cond_root q c.requires.cond)
     (call_stores g.V.Keeps (size_of start) start.values.value.items p
-        (cond_of q) c.requires.idle c.args.count c.args.more c.requires.count c.requires.more last))
+    (cond_of q) c.requires.idle c.args.count c.args.more c.requires.count c.requires.more last))
 
 pub store_both-requires-clause-names : goal.store_both-requires-clause-names
 store_both-requires-clause-names g c n p' q' told u h =
     cond_named c.args.root.root.own q'.own u (u ≡ c.args.pass.pass.thread) c.requires.cond _
-        (ap (λ (z : RootView LotRootView). z.own) told.1)
+    (ap (λ (z : RootView LotRootView). z.own) told.1)
     (λ named. inl (call_names (cond_of c.args.root.root).own _ c.args.count u refl named)) h
 
 pub returns-then-taken-gt0-clause-event : goal.returns-then-taken-gt0-clause-event
@@ -65,8 +65,8 @@ returns-then-taken-gt0-clause-event g c =
     let p = c.args.pass.pass in
     let q = c.args.root.root in
     subst (λ k. NotesIn cond p (took p.own.conds q.key k)
-        (Makes (Call p.thread q.key c.args.count c.args.more) (Count k)) c.load_both-pass.result.0.pass) c.requires.taken
-        c.load_both-pass.ensures.told.0
+    (Makes (Call p.thread q.key c.args.count c.args.more) (Count k)) c.load_both-pass.result.0.pass) c.requires.taken
+    c.load_both-pass.ensures.told.0
 
 pub returns-then-taken-gt0-clause-root : goal.returns-then-taken-gt0-clause-root
 returns-then-taken-gt0-clause-root g c = c.load_both-pass.ensures.told.1
@@ -76,8 +76,8 @@ returns-else-more-clause-event g c =
     let p = c.args.pass.pass in
     let q = c.args.root.root in
     subst (λ k. NotesIn cond p (took p.own.conds q.key k)
-        (Makes (Call p.thread q.key c.args.count c.args.more) (Count k)) c.store_both.result.0.pass) c.requires.taken
-        c.store_both.ensures.told.0
+    (Makes (Call p.thread q.key c.args.count c.args.more) (Count k)) c.store_both.result.0.pass) c.requires.taken
+    c.store_both.ensures.told.0
 
 pub returns-else-more-clause-root : goal.returns-else-more-clause-root
 returns-else-more-clause-root g c = c.store_both.ensures.told.1

@@ -13,7 +13,7 @@ pub sweep-requires-clause-lowered : goal.sweep-requires-clause-lowered
 sweep-requires-clause-lowered g c =
     let q = c.lower-pass.result.pass in
     subst (λ k. MaySweep q.own k) c.key-key.ensures.is
-        (lowered_sweeps c.args.pass.pass q c.key-key.result c.requires.idle c.lower-pass.ensures.event)
+    (lowered_sweeps c.args.pass.pass q c.key-key.result c.requires.idle c.lower-pass.ensures.event)
 
 pub returns-clause-idle : goal.returns-clause-idle
 returns-clause-idle g c =
@@ -21,5 +21,5 @@ returns-clause-idle g c =
     let r = c.sweep.result.0.pass in
     swept_idle c.args.pass.pass q c.args.root.root.key c.requires.idle
     (subst (λ n. NotesIn cond c.args.pass.pass (lowering c.args.pass.pass.own.conds n) (Makes (Lower c.args.pass.pass.thread n) Done) q)
-        c.key-key.ensures.is c.lower-pass.ensures.event)
+    c.key-key.ensures.is c.lower-pass.ensures.event)
     c.args.taken r c.sweep.ensures.event

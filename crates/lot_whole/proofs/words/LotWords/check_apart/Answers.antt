@@ -18,5 +18,5 @@ returns-clause-permits g c =
     let p = c.args.first.pass in
     let q = c.args.second.pass in
     subst (λ (z : LotWordsShown g.row.V.Denot). (k : ℕ)
-        → slice_index_or p.own.sems.out k 0 + slice_index_or q.own.sems.out k 0 ≤ permits_of z.size k) c.self.view_is
-        c.check_two.ensures.apart.1.1
+    → slice_index_or p.own.sems.out k 0 + slice_index_or q.own.sems.out k 0 ≤ permits_of z.size k) c.self.view_is
+    c.check_two.ensures.apart.1.1

@@ -17,9 +17,9 @@ fetch_and_both-pass-requires-clause-allows g c =
     let p = c.args.pass.pass in
     let q = c.args.root.root in
     both_at_place (scheme g.V.Keeps start) (word_at q.key) _ c.word-word.ensures.is (λ n. bit_and n (2 ^ 64 - 2)) p q
-        (λ _. Clears p (sem_of q))
+    (λ _. Clears p (sem_of q))
     (subst (λ r. AllowsBoth (scheme g.V.Keeps start) (word_at q.key) (λ n. bit_and n (2 ^ 64 - 2)) p r (λ _. Clears p (sem_of q)))
-        (sem_root q c.requires.sem)
+    (sem_root q c.requires.sem)
     (clears g.V.Keeps (size_of start) start.values.value.items p (sem_of q) c.requires.idle c.requires.nobody))
 
 pub fetch_and_both-pass-requires-clause-names : goal.fetch_and_both-pass-requires-clause-names

@@ -15,7 +15,7 @@ swap-pass-requires-clause-allows g c =
 pub returns-then-letter-eq-NO_LETTER-clause-letter : goal.returns-then-letter-eq-NO_LETTER-clause-letter
 returns-then-letter-eq-NO_LETTER-clause-letter g c =
     collected_none g.V.Keeps c.args.pass.pass c.swap-pass.result.0.pass c.swap-pass.result.1 c.if-letter-eq-NO_LETTER.true
-        c.swap-pass.ensures.told
+    c.swap-pass.ensures.told
 
 pub overflow_cast-result : goal.overflow_cast-result
 overflow_cast-result g c = let few = c.swap-pass.ensures.told.0 in omega arith

@@ -17,7 +17,7 @@ exchange-requires-clause-out g c =
     let start = c.self.inside.words.key in
     let here = subst (λ (z : LotWordsShown g.row.V.Denot). key < z.size.locks) (sym c.self.view_is) c.requires.key in
     leaves g.V.Keeps (size_of start) start.values.value.items c.args.pass.pass key here c.requires.holds c.requires.home.0
-        c.requires.home.1 c.requires.home.2
+    c.requires.home.1 c.requires.home.2
 
 pub exchange-requires-clause-back : goal.exchange-requires-clause-back
 exchange-requires-clause-back g c =
@@ -31,7 +31,7 @@ returns-clause-pass g c =
     let p = c.args.pass.pass in
     let told = c.exchange.ensures.told in
     let twice = ap (λ (o : LockPassView _). let r : LotPassView _ = record p.own { locks = o } in r)
-        (placed_twice p.own.locks c.args.key Moving (place_of c.args.new)) in
+    (placed_twice p.own.locks c.args.key Moving (place_of c.args.new)) in
     let own = told.2 ∙ (ap (λ z. placed_in z c.args.key (place_of c.args.new)) told.1.0 ∙ twice) in
     (c.exchange.ensures.table, c.exchange.ensures.same ∙ ap (λ z. let q : PassView _ = record p { own = z } in q) own)
 

@@ -16,7 +16,7 @@ compare_exchange-pass-requires-clause-allows g c =
     let here = subst (λ (z : LotWordsShown g.row.V.Denot). key < z.size.locks) (sym c.self.view_is) c.requires.key in
     pass_at_place (scheme g.V.Keeps start) (word_at key) _ c.word_of_key-word.ensures (λ n. either (n == 1) 0 n) p (Frees p key)
     (frees g.V.Keeps (size_of start) start.values.value.items p key here c.requires.may c.requires.holds c.requires.lies.0
-        c.requires.lies.1)
+    c.requires.lies.1)
 
 pub returns-clause-event : goal.returns-clause-event
 returns-clause-event g c = c.compare_exchange-pass.ensures.told

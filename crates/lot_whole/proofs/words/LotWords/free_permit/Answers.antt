@@ -20,7 +20,7 @@ load-pass-requires-clause-allows g c =
     let p = c.args.pass.pass in
     let among = subst (λ (z : LotWordsShown g.row.V.Denot). IsKeyIn z.size sem key) (sym c.self.view_is) c.requires.key in
     pass_at_place (scheme g.V.Keeps start) (word_at key) _ c.word_of_key-word.ensures (λ n. n) p (FindsOf p key)
-        (looks g.V.Keeps (size_of start) start.values.value.items p key among)
+    (looks g.V.Keeps (size_of start) start.values.value.items p key among)
 
 pub compare_exchange-pass-requires-clause-allows : goal.compare_exchange-pass-requires-clause-allows
 compare_exchange-pass-requires-clause-allows g c =
@@ -34,7 +34,7 @@ compare_exchange-pass-requires-clause-allows g c =
     let clear : IsUnmarked seen = omega (arith, and_mask seen 1, c.if-seen-ne0.false) in
     pass_at_place (scheme g.V.Keeps start) (word_at key) _ c.word_of_key-word.ensures (λ n. either (n == seen) ((seen + 2) % 2 ^ 64) n) r
     (Swaps r key (gave r.own.sems key) (SemFree r.thread key) seen)
-        (frees g.V.Keeps (size_of start) start.values.value.items r key among may seen clear)
+    (frees g.V.Keeps (size_of start) start.values.value.items r key among may seen clear)
 
 pub returns-then-seen-ne0-clause-entries : goal.returns-then-seen-ne0-clause-entries
 returns-then-seen-ne0-clause-entries g c =

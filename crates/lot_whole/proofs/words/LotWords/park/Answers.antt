@@ -24,7 +24,7 @@ load_both-pass-requires-clause-allows g c =
 pub load_both-pass-requires-clause-names : goal.load_both-pass-requires-clause-names
 load_both-pass-requires-clause-names g c n p' q' told u h =
     lock_named c.args.root.root.own q'.own u (u ≡ c.args.pass.pass.thread) c.requires.lock _
-        (ap (λ (z : RootView LotRootView). z.own) told.1)
+    (ap (λ (z : RootView LotRootView). z.own) told.1)
     (λ named. park_names (lock_of c.args.root.root).own _ c.args.pass.pass.thread u _ refl named) h
 
 pub returns-clause-event : goal.returns-clause-event

@@ -25,17 +25,17 @@ load_both-pass-requires-clause-allows g c =
     let p = c.args.pass.pass in
     let q = c.args.root.root in
     both_at_place (scheme g.V.Keeps start) (word_at q.key) _ c.word-word.ensures.is (λ n. n) p q
-        (λ _. Passes p (lock_of q) true c.args.more)
+    (λ _. Passes p (lock_of q) true c.args.more)
     (subst (λ r. AllowsBoth (scheme g.V.Keeps start) (word_at q.key) (λ n. n) p r (λ _. Passes p (lock_of q) true c.args.more))
-        (lock_root q c.requires.lock)
+    (lock_root q c.requires.lock)
     (passes_load g.V.Keeps (size_of start) start.values.value.items p
-        (lock_of q) c.requires.may c.requires.holds c.requires.lies.0 c.requires.lies.1 c.requires.first.1 c.args.more
+    (lock_of q) c.requires.may c.requires.holds c.requires.lies.0 c.requires.lies.1 c.requires.first.1 c.args.more
     (λ none_first. let e : true ≡ false = sym c.if-fair.true ∙ c.requires.fair (sym c.requires.first.0 ∙ none_first) in cc)))
 
 pub load_both-pass-requires-clause-names : goal.load_both-pass-requires-clause-names
 load_both-pass-requires-clause-names g c n p' q' told u h =
     lock_named c.args.root.root.own q'.own u (u ≡ c.args.pass.pass.thread) c.requires.lock _
-        (ap (λ (z : RootView LotRootView). z.own) told.1)
+    (ap (λ (z : RootView LotRootView). z.own) told.1)
     (λ named. inl (pass_names (lock_of c.args.root.root).own _ true u refl named)) h
 
 pub store_both-requires-clause-allows : goal.store_both-requires-clause-allows
@@ -44,18 +44,18 @@ store_both-requires-clause-allows g c =
     let p = c.args.pass.pass in
     let q = c.args.root.root in
     both_at_place (scheme g.V.Keeps start) (word_at q.key) _ c.word-word.ensures.is (λ _. c.word_after-left.result) p q
-        (λ _. Passes p (lock_of q) false c.args.more)
+    (λ _. Passes p (lock_of q) false c.args.more)
     (subst (λ r. AllowsBoth (scheme g.V.Keeps start) (word_at q.key) (λ _. c.word_after-left.result) p r
-        (λ _. Passes p (lock_of q) false c.args.more)) (lock_root q c.requires.lock)
+    (λ _. Passes p (lock_of q) false c.args.more)) (lock_root q c.requires.lock)
     (passes_store g.V.Keeps (size_of start) start.values.value.items p
-        (lock_of q) c.requires.may c.requires.holds c.requires.lies.0 c.requires.lies.1 c.requires.first.1 c.args.more
+    (lock_of q) c.requires.may c.requires.holds c.requires.lies.0 c.requires.lies.1 c.requires.first.1 c.args.more
     (c.requires.more c.if-fair.false) c.word_after-left.result
-        (c.word_after-left.ensures ∙ ap (λ o. word_left o c.args.more) (sym c.requires.first.0))))
+    (c.word_after-left.ensures ∙ ap (λ o. word_left o c.args.more) (sym c.requires.first.0))))
 
 pub store_both-requires-clause-names : goal.store_both-requires-clause-names
 store_both-requires-clause-names g c n p' q' told u h =
     lock_named c.args.root.root.own q'.own u (u ≡ c.args.pass.pass.thread) c.requires.lock _
-        (ap (λ (z : RootView LotRootView). z.own) told.1)
+    (ap (λ (z : RootView LotRootView). z.own) told.1)
     (λ named. inl (pass_names (lock_of c.args.root.root).own _ false u refl named)) h
 
 pub returns-then-fair-clause-event : goal.returns-then-fair-clause-event
@@ -63,9 +63,9 @@ returns-then-fair-clause-event g c y lies =
     let p = c.args.pass.pass in
     let q = lock_of c.args.root.root in
     subst (λ o. NotesIn lock p (let_go p.own.locks q.key y)
-        (Makes (Pass p.thread q.key c.args.fair c.args.more) (Sleeper o)) c.load_both-pass.result.0.pass) c.requires.first.0
+    (Makes (Pass p.thread q.key c.args.fair c.args.more) (Sleeper o)) c.load_both-pass.result.0.pass) c.requires.first.0
     (subst (λ b. NotesIn lock p (let_go p.own.locks q.key y)
-        (Makes (Pass p.thread q.key b c.args.more) (Sleeper (first q.own.line))) c.load_both-pass.result.0.pass) (sym c.if-fair.true)
+    (Makes (Pass p.thread q.key b c.args.more) (Sleeper (first q.own.line))) c.load_both-pass.result.0.pass) (sym c.if-fair.true)
     (c.load_both-pass.ensures.told.0 y lies))
 
 pub returns-then-fair-clause-root : goal.returns-then-fair-clause-root
@@ -78,9 +78,9 @@ returns-else-fair-clause-event g c y lies =
     let p = c.args.pass.pass in
     let q = lock_of c.args.root.root in
     subst (λ o. NotesIn lock p (let_go p.own.locks q.key y)
-        (Makes (Pass p.thread q.key c.args.fair c.args.more) (Sleeper o)) c.store_both.result.0.pass) c.requires.first.0
+    (Makes (Pass p.thread q.key c.args.fair c.args.more) (Sleeper o)) c.store_both.result.0.pass) c.requires.first.0
     (subst (λ b. NotesIn lock p (let_go p.own.locks q.key y)
-        (Makes (Pass p.thread q.key b c.args.more) (Sleeper (first q.own.line))) c.store_both.result.0.pass) (sym c.if-fair.false)
+    (Makes (Pass p.thread q.key b c.args.more) (Sleeper (first q.own.line))) c.store_both.result.0.pass) (sym c.if-fair.false)
     (c.store_both.ensures.told.0 y lies))
 
 pub returns-else-fair-clause-root : goal.returns-else-fair-clause-root

@@ -22,11 +22,11 @@ fetch_add_both-pass-requires-clause-allows g c =
     let p = c.args.pass.pass in
     let q = c.args.root.root in
     both_at_place (scheme g.V.Keeps start) (word_at q.key) _ c.word-word.ensures.is (λ n. (n + c.raise-given.result) % 2 ^ 64) p q
-        (λ _. PassesPermit p (sem_of q) c.args.more)
+    (λ _. PassesPermit p (sem_of q) c.args.more)
     (subst (λ r. AllowsBoth (scheme g.V.Keeps start) (word_at q.key) (λ n. (n + c.raise-given.result) % 2 ^ 64) p r
-        (λ _. PassesPermit p (sem_of q) c.args.more)) (sem_root q c.requires.sem)
+    (λ _. PassesPermit p (sem_of q) c.args.more)) (sem_root q c.requires.sem)
     (passes g.V.Keeps (size_of start) start.values.value.items p
-        (sem_of q) c.requires.may c.requires.first.1 c.args.more c.requires.more c.raise-given.result
+    (sem_of q) c.requires.may c.requires.first.1 c.args.more c.requires.more c.raise-given.result
     (c.raise-given.ensures ∙ ap (λ o. raise_of o c.args.more) (sym c.requires.first.0))))
 
 pub fetch_add_both-pass-requires-clause-names : goal.fetch_add_both-pass-requires-clause-names
@@ -39,8 +39,8 @@ returns-clause-entry g c =
     let p = c.args.pass.pass in
     let q = c.args.root.root in
     subst (λ o. NotesIn sem p (gave p.own.sems q.key)
-        (Makes (SemPass p.thread q.key c.args.more) (Sleeper o)) c.fetch_add_both-pass.result.0.pass) c.requires.first.0
-        c.fetch_add_both-pass.ensures.told.0
+    (Makes (SemPass p.thread q.key c.args.more) (Sleeper o)) c.fetch_add_both-pass.result.0.pass) c.requires.first.0
+    c.fetch_add_both-pass.ensures.told.0
 
 pub returns-clause-root : goal.returns-clause-root
 returns-clause-root g c = c.fetch_add_both-pass.ensures.told.1

@@ -22,9 +22,9 @@ store_root-requires-clause-allows g c =
     let start = c.self.inside.words.key in
     let q = c.args.root.root in
     root_at_place (scheme g.V.Keeps start) (letter_at c.args.thread) _ c.letter_of-letter.ensures.is (λ _. c.args.token + 1) q
-        (λ _. RootNotesIn lock q (lock_paid (lock_of q).own) (Posts q.key c.args.thread c.args.token))
+    (λ _. RootNotesIn lock q (lock_paid (lock_of q).own) (Posts q.key c.args.thread c.args.token))
     (subst (λ r. AllowsRoot (scheme g.V.Keeps start) (letter_at c.args.thread) (λ _. c.args.token + 1) r
-        (λ _. RootNotesIn lock r (lock_paid (lock_of q).own) (Posts q.key c.args.thread c.args.token))) (lock_root q c.requires.lock)
+    (λ _. RootNotesIn lock r (lock_paid (lock_of q).own) (Posts q.key c.args.thread c.args.token))) (lock_root q c.requires.lock)
     (posts_lock g.V.Keeps (size_of start) start.values.value.items (lock_of q) c.args.thread c.args.token c.requires.owes))
 
 pub store_root-requires-clause-names : goal.store_root-requires-clause-names

@@ -22,9 +22,9 @@ store_root-requires-clause-allows g c =
     let start = c.self.inside.words.key in
     let q = c.args.root.root in
     root_at_place (scheme g.V.Keeps start) (letter_at c.args.thread) _ c.letter_of-letter.ensures.is (λ _. 1) q
-        (λ _. RootNotesIn cond q (cond_paid (cond_of q).own c.args.thread) (Posts q.key c.args.thread 0))
+    (λ _. RootNotesIn cond q (cond_paid (cond_of q).own c.args.thread) (Posts q.key c.args.thread 0))
     (subst (λ r. AllowsRoot (scheme g.V.Keeps start) (letter_at c.args.thread) (λ _. 1) r
-        (λ _. RootNotesIn cond r (cond_paid (cond_of q).own c.args.thread) (Posts q.key c.args.thread 0))) (cond_root q c.requires.cond)
+    (λ _. RootNotesIn cond r (cond_paid (cond_of q).own c.args.thread) (Posts q.key c.args.thread 0))) (cond_root q c.requires.cond)
     (posts_cond g.V.Keeps (size_of start) start.values.value.items (cond_of q) c.args.thread c.requires.owes))
 
 pub store_root-requires-clause-names : goal.store_root-requires-clause-names

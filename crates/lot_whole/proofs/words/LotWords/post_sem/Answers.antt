@@ -22,9 +22,9 @@ store_root-requires-clause-allows g c =
     let start = c.self.inside.words.key in
     let q = c.args.root.root in
     root_at_place (scheme g.V.Keeps start) (letter_at c.args.thread) _ c.letter_of-letter.ensures.is (λ _. 1) q
-        (λ _. RootNotesIn sem q (sem_paid (sem_of q).own) (Posts q.key c.args.thread 0))
+    (λ _. RootNotesIn sem q (sem_paid (sem_of q).own) (Posts q.key c.args.thread 0))
     (subst (λ r. AllowsRoot (scheme g.V.Keeps start) (letter_at c.args.thread) (λ _. 1) r
-        (λ _. RootNotesIn sem r (sem_paid (sem_of q).own) (Posts q.key c.args.thread 0))) (sem_root q c.requires.sem)
+    (λ _. RootNotesIn sem r (sem_paid (sem_of q).own) (Posts q.key c.args.thread 0))) (sem_root q c.requires.sem)
     (posts_sem g.V.Keeps (size_of start) start.values.value.items (sem_of q) c.args.thread c.requires.owes))
 
 pub store_root-requires-clause-names : goal.store_root-requires-clause-names

@@ -28,7 +28,7 @@ park_permit-pass-requires-clause-seeks g c =
     let k = c.key-key.result in
     let seeks = empty_seeks k p q c.requires.idle (subst (λ b. TakesPermit p k b q) c.in-Empty.is c.take_permit-pass.ensures.entries) in
     subst (λ n. MaySeek r.own n) c.key-key.ensures.is
-        (marked_seeks k q r seeks (when_so c.mark_permit-pass.result.1 _ _ c.if-not-marked.false c.mark_permit-pass.ensures.entry))
+    (marked_seeks k q r seeks (when_so c.mark_permit-pass.result.1 _ _ c.if-not-marked.false c.mark_permit-pass.ensures.entry))
 
 pub take_permit-pass-requires-2-clause-may : goal.take_permit-pass-requires-2-clause-may
 take_permit-pass-requires-2-clause-may g c =
@@ -39,16 +39,16 @@ take_permit-pass-requires-2-clause-may g c =
     let v = c.collect-pass.result.0.pass in
     let k = c.key-key.result in
     let seeks = marked_seeks k q r
-        (empty_seeks k p q c.requires.idle (subst (λ b. TakesPermit p k b q) c.in-Empty.is c.take_permit-pass.ensures.entries))
+    (empty_seeks k p q c.requires.idle (subst (λ b. TakesPermit p k b q) c.in-Empty.is c.take_permit-pass.ensures.entries))
     (when_so c.mark_permit-pass.result.1 _ _ c.if-not-marked.false c.mark_permit-pass.ensures.entry) in
     let parked = subst (λ n. NotesIn sem r (parked_pass r.own.sems true) (Makes (SemPark r.thread n) (Saw true)) s)
-        (sym c.key-key.ensures.is)
+    (sym c.key-key.ensures.is)
     (subst (λ b. NotesIn sem r (parked_pass r.own.sems b) (Makes (SemPark r.thread c.args.root.root.key) (Saw b)) s) c.if-not-queued.false
-        c.park_permit-pass.ensures.entry) in
+    c.park_permit-pass.ensures.entry) in
     let letter = subst (λ o. MatchOption o (FoundNone s v) (λ token. Collected g.V.Keeps s token v)) c.in-Some.is
-        c.collect-pass.ensures.letter in
+    c.collect-pass.ensures.letter in
     woken_takes g.V.Keeps s v c.in-Some._token letter k (queued_up k r s seeks parked) (queued_in k r s seeks parked)
-        (queued_seeks k r s seeks parked)
+    (queued_seeks k r s seeks parked)
 
 pub returns : goal.returns
 returns g c =
@@ -63,16 +63,18 @@ returns g c =
     let marked = when_so c.mark_permit-pass.result.1 _ _ c.if-not-marked.false c.mark_permit-pass.ensures.entry in
     let seeks = marked_seeks k q r (empty_seeks k p q c.requires.idle empty) marked in
     let parked = subst (λ n. NotesIn sem r (parked_pass r.own.sems true) (Makes (SemPark r.thread n) (Saw true)) s)
-        (sym c.key-key.ensures.is)
+    (sym c.key-key.ensures.is)
     (subst (λ b. NotesIn sem r (parked_pass r.own.sems b) (Makes (SemPark r.thread c.args.root.root.key) (Saw b)) s) c.if-not-queued.false
-        c.park_permit-pass.ensures.entry) in
+    c.park_permit-pass.ensures.entry) in
     let letter = subst (λ o. MatchOption o (FoundNone s v) (λ token. Collected g.V.Keeps s token v)) c.in-Some.is
-        c.collect-pass.ensures.letter in
+    c.collect-pass.ensures.letter in
     let woken = woken_note g.V.Keeps s v c.in-Some._token letter k (queued_up k r s seeks parked) (queued_in k r s seeks parked)
-        (queued_seeks k r s seeks parked) in
+    (queued_seeks k r s seeks parked) in
     let adds = adds_four p q r s v _ _ _ woken.0 (λ t. Makes (SemTake t k) (Saw false)) (λ t. Makes (SemMark t k) Done)
-        (λ t. Makes (SemPark t k) (Saw true)) (λ t. Collects t (Some 0))
+    (λ t. Makes (SemPark t k) (Saw true)) (λ t. Collects t (Some 0))
     empty marked parked woken.1 in
-    record { slept = subst (λ n. (told : PassView (LotPassView _)) × Adds p (word_of_seek p.thread n) told
-        × TakesPermit told n c.take_permit-pass-2.result.1 u) c.key-key.ensures.is
-        (v, adds, c.take_permit-pass-2.ensures.entries) }
+    record {
+      slept = subst (λ n. (told : PassView (LotPassView _)) × Adds p (word_of_seek p.thread n) told
+          × TakesPermit told n c.take_permit-pass-2.result.1 u) c.key-key.ensures.is
+          (v, adds, c.take_permit-pass-2.ensures.entries);
+    }

@@ -29,7 +29,7 @@ load_both-pass-requires-clause-allows g c =
 pub load_both-pass-requires-clause-names : goal.load_both-pass-requires-clause-names
 load_both-pass-requires-clause-names g c n p' q' told u h =
     cond_named c.args.root.root.own q'.own u (u ≡ c.args.pass.pass.thread) c.requires.cond _
-        (ap (λ (z : RootView LotRootView). z.own) told.1)
+    (ap (λ (z : RootView LotRootView). z.own) told.1)
     (λ named. inl (sweep_names (cond_of c.args.root.root).own _ u refl named)) h
 
 pub returns-clause-event : goal.returns-clause-event
@@ -37,7 +37,7 @@ returns-clause-event g c =
     let p = c.args.pass.pass in
     let q = c.args.root.root in
     subst (λ n. NotesIn cond p (swept_pass p.own.conds q.key n) (Makes (Sweep p.thread q.key) (Count n)) c.load_both-pass.result.0.pass)
-        c.requires.taken c.load_both-pass.ensures.told.0
+    c.requires.taken c.load_both-pass.ensures.told.0
 
 pub returns-clause-root : goal.returns-clause-root
 returns-clause-root g c = c.load_both-pass.ensures.told.1

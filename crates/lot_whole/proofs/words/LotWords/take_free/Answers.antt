@@ -15,7 +15,7 @@ compare_exchange-pass-requires-clause-allows g c =
     let p = c.args.pass.pass in
     let here = subst (λ (z : LotWordsShown g.row.V.Denot). key < z.size.locks) (sym c.self.view_is) c.requires.key in
     pass_at_place (scheme g.V.Keeps start) (word_at key) _ c.word_of_key-place.ensures (λ n. either (n == 0) 1 n) p
-        (TakesFree g.V.Keeps p key)
+    (TakesFree g.V.Keeps p key)
     (takes_free g.V.Keeps (size_of start) start.values.value.items p key here c.requires.may)
 
 pub returns-clause-event : goal.returns-clause-event

@@ -21,7 +21,7 @@ compare_exchange-pass-requires-clause-allows g c =
     let among = subst (λ (z : LotWordsShown g.row.V.Denot). IsKeyIn z.size sem key) (sym c.self.view_is) c.requires.key in
     pass_at_place (scheme g.V.Keeps start) (word_at key) _ c.word_of_key.ensures (λ n. either (n == seen) (seen - 2) n) p
     (Swaps p key (got p.own.sems key) (SemTake p.thread key) seen)
-        (swaps g.V.Keeps (size_of start) start.values.value.items p key among c.requires.may seen c.requires.left)
+    (swaps g.V.Keeps (size_of start) start.values.value.items p key among c.requires.may seen c.requires.left)
 
 pub returns-clause-entry : goal.returns-clause-entry
 returns-clause-entry g c =

@@ -15,7 +15,7 @@ load-pass-requires-clause-allows g c =
     let p = c.args.pass.pass in
     let among = subst (λ (z : LotWordsShown g.row.V.Denot). IsKeyIn z.size sem key) (sym c.self.view_is) c.requires.key in
     pass_at_place (scheme g.V.Keeps start) (word_at key) _ c.word_of_key.ensures (λ n. n) p (Seeks p key)
-        (seeks g.V.Keeps (size_of start) start.values.value.items p key among c.requires.may)
+    (seeks g.V.Keeps (size_of start) start.values.value.items p key among c.requires.may)
 
 pub take_from-requires-clause-may : goal.take_from-requires-clause-may
 take_from-requires-clause-may g c =
@@ -24,7 +24,7 @@ take_from-requires-clause-may g c =
     let key = c.args.key in
     let seen = c.load-pass.result.1 in
     after_look p r key seen (seeks_left p key seen r c.if-seen-lt-PERMIT.false c.load-pass.ensures.told)
-        (λ own. MayTakePermit own key) c.requires.may
+    (λ own. MayTakePermit own key) c.requires.may
 
 pub returns-then-seen-lt-PERMIT-clause-entries : goal.returns-then-seen-lt-PERMIT-clause-entries
 returns-then-seen-lt-PERMIT-clause-entries g c =

@@ -16,14 +16,14 @@ load-pass-requires-clause-allows g c =
     let p = c.args.pass.pass in
     let among = subst (λ (z : LotWordsShown g.row.V.Denot). IsKeyIn z.size sem key) (sym c.self.view_is) c.requires.key in
     pass_at_place (scheme g.V.Keeps start) (word_at key) _ c.word_of_key.ensures (λ n. n) p (FindsOf p key)
-        (looks g.V.Keeps (size_of start) start.values.value.items p key among)
+    (looks g.V.Keeps (size_of start) start.values.value.items p key among)
 
 pub take_from-requires-clause-may : goal.take_from-requires-clause-may
 take_from-requires-clause-may g c =
     let key = c.args.key in
     let p = c.args.pass.pass in
     after_look p c.load-pass.result.0.pass key c.load-pass.result.1 c.load-pass.ensures.told (λ own. MayTakePermit own key)
-        (idle_takes p.own key c.requires.idle)
+    (idle_takes p.own key c.requires.idle)
 
 pub returns-then-was-lt-PERMIT-clause-entries : goal.returns-then-was-lt-PERMIT-clause-entries
 returns-then-was-lt-PERMIT-clause-entries g c = (c.load-pass.result.1, c.if-was-lt-PERMIT.true, c.load-pass.ensures.told)

@@ -24,7 +24,7 @@ take-pass-requires-clause-may g c =
     let lies = bed_keeps p q k l c.requires.idle c.enlist-pass.ensures.event (λ o. IsIn o l y) c.requires.lies.1 in
     let free = when_so c.free-pass.result.1 _ _ c.if-not-freed.false c.free-pass.ensures.event y lies in
     let letter = subst (λ o. MatchOption o (FoundNone r s) (λ token. Collected g.V.Keeps r token s)) c.in-Some.is
-        c.collect-pass.ensures.letter in
+    c.collect-pass.ensures.letter in
     (rest_takes g.V.Keeps r s c.in-Some._token letter k l (bed_rests p q k l c.requires.idle c.enlist-pass.ensures.event y r free)).may
 
 pub returns-then-got : goal.returns-then-got
@@ -39,13 +39,15 @@ returns-then-got g c =
     let lies = bed_keeps p q k l c.requires.idle c.enlist-pass.ensures.event (λ o. IsIn o l y) c.requires.lies.1 in
     let free = when_so c.free-pass.result.1 _ _ c.if-not-freed.false c.free-pass.ensures.event y lies in
     let letter = subst (λ o. MatchOption o (FoundNone r s) (λ token. Collected g.V.Keeps r token s)) c.in-Some.is
-        c.collect-pass.ensures.letter in
+    c.collect-pass.ensures.letter in
     let rested = rest_takes g.V.Keeps r s c.in-Some._token letter k l
-        (bed_rests p q k l c.requires.idle c.enlist-pass.ensures.event y r free) in
+    (bed_rests p q k l c.requires.idle c.enlist-pass.ensures.event y r free) in
     let got = when_so c.take-pass.result.1 _ _ c.if-got.true c.take-pass.ensures.event in
-    record { made = adds_four p q r s c.take-pass.result.0.pass _ _ rested.own _ (λ t. Makes (Enlist t k l) Done)
-        (λ t. Makes (Free t l) (Saw true)) (λ t. Collects t (Some 0))
-        (λ t. Makes (Take t l) (Saw true)) c.enlist-pass.ensures.event free rested.note got.2 }
+    record {
+      made = adds_four p q r s c.take-pass.result.0.pass _ _ rested.own _ (λ t. Makes (Enlist t k l) Done)
+          (λ t. Makes (Free t l) (Saw true)) (λ t. Collects t (Some 0))
+          (λ t. Makes (Take t l) (Saw true)) c.enlist-pass.ensures.event free rested.note got.2;
+    }
 
 pub returns : goal.returns
 returns g c =
@@ -59,10 +61,12 @@ returns g c =
     let lies = bed_keeps p q k l c.requires.idle c.enlist-pass.ensures.event (λ o. IsIn o l y) c.requires.lies.1 in
     let free = when_so c.free-pass.result.1 _ _ c.if-not-freed.false c.free-pass.ensures.event y lies in
     let letter = subst (λ o. MatchOption o (FoundNone r s) (λ token. Collected g.V.Keeps r token s)) c.in-Some.is
-        c.collect-pass.ensures.letter in
+    c.collect-pass.ensures.letter in
     let rested = rest_takes g.V.Keeps r s c.in-Some._token letter k l
-        (bed_rests p q k l c.requires.idle c.enlist-pass.ensures.event y r free) in
+    (bed_rests p q k l c.requires.idle c.enlist-pass.ensures.event y r free) in
     let missed = when_not c.take-pass.result.1 _ _ c.if-got.false c.take-pass.ensures.event in
-    record { made = adds_four p q r s c.take-pass.result.0.pass _ _ rested.own _ (λ t. Makes (Enlist t k l) Done)
-        (λ t. Makes (Free t l) (Saw true)) (λ t. Collects t (Some 0))
-        (λ t. Makes (Take t l) (Saw false)) c.enlist-pass.ensures.event free rested.note missed }
+    record {
+      made = adds_four p q r s c.take-pass.result.0.pass _ _ rested.own _ (λ t. Makes (Enlist t k l) Done)
+          (λ t. Makes (Free t l) (Saw true)) (λ t. Collects t (Some 0))
+          (λ t. Makes (Take t l) (Saw false)) c.enlist-pass.ensures.event free rested.note missed;
+    }
