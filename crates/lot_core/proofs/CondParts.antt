@@ -1,5 +1,6 @@
 -- What each condition event keeps of the condition part.
-use Rattle.std.proofs.Common.{◌≡◌, ◌≢◌, ◌⊎◌, ◌<◌, ◌++◌, ℕ, Bool, true, false, List, [], ◌∷◌, length, drop, Option, Some, None, refl, subst, sym, ap, ◌∙◌, inl, inr}
+use Rattle.std.proofs.Common.{◌≡◌, ◌≢◌, ◌⊎◌, ◌<◌, ◌++◌, ℕ, Bool, true, false, List, [], ◌∷◌, length, drop, Option, Some, None}
+use Rattle.std.proofs.Common.{refl, subst, sym, ap, ◌∙◌, inl, inr}
 use Rattle.std.proofs.Math.Seq.{drop-nil, drop-length}
 use Rattle.std.specs.Prelude.{if◌then◌else◌}
 use Rattle.std.specs.List.{Contains}
@@ -63,16 +64,18 @@ module _ (n : ℕ) (a : CondPart) (h : IsSoundCondPart n a) where
       let xs : List ℕ = a.conds.line c in
       shrunk (put a.conds.flag c (flag_after_call (a.conds.flag c) more xs)) (put a.conds.line c (drop k xs)) a.sweeps
       (less_dropped c k) (once_dropped c k) (λ d u inside. (h.waits d u inside).1)
-      (at_all (λ d b. (if b then flag_after_call (a.conds.flag c) more xs else a.conds.flag d) ≡ false → (if b then drop k xs else a.conds.line d) ≢ [] →
-      (u : ℕ) × (u < n) × (a.sweeps u ≡ Some d)) c
-      (λ clear some. h.someone_sweeps c (flag_left (a.conds.flag c) more k xs says clear some) (λ none. some (ap (drop k) none ∙ drop-nil k)))
+      (at_all (λ d b. (if b then flag_after_call (a.conds.flag c) more xs else a.conds.flag d) ≡ false →
+      (if b then drop k xs else a.conds.line d) ≢ [] → (u : ℕ) × (u < n) × (a.sweeps u ≡ Some d)) c
+      (λ clear some. h.someone_sweeps c (flag_left (a.conds.flag c) more k xs says clear some)
+      (λ none. some (ap (drop k) none ∙ drop-nil k)))
       (λ d ne clear some. h.someone_sweeps d clear some))
 
   lower_part : (t c : ℕ) → t < n → IsCalmIn a t → IsSoundCondPart n (cond_part_after a (Lower t c))
   lower_part t c near calm =
       shrunk (put a.conds.flag c false) a.conds.line (put a.sweeps t (Some c)) (λ d u inside. inside) h.once
       (λ d u inside. put_other a.sweeps t (Some c) u (λ e. calm.1 d (subst (Contains (a.conds.line d)) e inside)) ∙ (h.waits d u inside).1)
-      (at_all (λ d b. (if b then false else a.conds.flag d) ≡ false → a.conds.line d ≢ [] → (u : ℕ) × (u < n) × (put a.sweeps t (Some c) u ≡ Some d)) c
+      (at_all (λ d b. (if b then false else a.conds.flag d) ≡ false → a.conds.line d ≢ [] →
+      (u : ℕ) × (u < n) × (put a.sweeps t (Some c) u ≡ Some d)) c
       (λ clear some. (t, near, put_same a.sweeps t (Some c)))
       (λ d ne clear some. let w = h.someone_sweeps d clear some in (w.0, w.1, put_other a.sweeps t (Some c) w.0 (another w.0 d w.2) ∙ w.2)))
     where
@@ -82,12 +85,16 @@ module _ (n : ℕ) (a : CondPart) (h : IsSoundCondPart n a) where
   sweep_part : (t c : ℕ) → a.sweeps t ≡ Some c → IsSoundCondPart n (cond_part_after a (Sweep t c))
   sweep_part t c sweeps =
       let xs : List ℕ = a.conds.line c in
-      shrunk a.conds.flag (put a.conds.line c (drop (length xs) xs)) (put a.sweeps t None) (less_dropped c (length xs)) (once_dropped c (length xs))
-      (λ d u inside. at_all (λ u b. a.sweeps u ≡ None → (if b then None else a.sweeps u) ≡ None) t (λ is. refl) (λ u ne is. is) u (h.waits d u inside).1)
-      (at_all (λ d b. a.conds.flag d ≡ false → (if b then drop (length xs) xs else a.conds.line d) ≢ [] → (u : ℕ) × (u < n) × (put a.sweeps t None u ≡ Some d)) c
+      shrunk a.conds.flag (put a.conds.line c (drop (length xs) xs)) (put a.sweeps t None)
+      (less_dropped c (length xs)) (once_dropped c (length xs)) (λ d u inside. still u (h.waits d u inside).1)
+      (at_all (λ d b. a.conds.flag d ≡ false → (if b then drop (length xs) xs else a.conds.line d) ≢ [] →
+      (u : ℕ) × (u < n) × (put a.sweeps t None u ≡ Some d)) c
       (λ clear some. absurd (some (drop-length xs)))
       (λ d ne clear some. let w = h.someone_sweeps d clear some in (w.0, w.1, put_other a.sweeps t None w.0 (another w.0 d ne w.2) ∙ w.2)))
     where
+      still : (u : ℕ) → a.sweeps u ≡ None → put a.sweeps t None u ≡ None
+      still = at_all (λ u b. a.sweeps u ≡ None → (if b then None else a.sweeps u) ≡ None) t (λ is. refl) (λ u ne is. is)
+
       another : (u d : ℕ) → d ≢ c → a.sweeps u ≡ Some d → u ≢ t
       another u d ne is e = let here : a.sweeps u ≡ Some c = ap a.sweeps e ∙ sweeps in ne (let same : d ≡ c = cc in same)
 

@@ -232,7 +232,8 @@ both_sound s keys sems = record {
 }
 
 -- the semaphores' half
-sems_kept_by : (s : World) (e : Event) → IsSound s → Allowed s e → IsKeptPart (after s e).threads (after s e).permits (semaphore_part (after s e))
+sems_kept_by : (s : World) (e : Event) → IsSound s → Allowed s e →
+    IsKeptPart (after s e).threads (after s e).permits (semaphore_part (after s e))
 sems_kept_by s e h ok =
     let numbers = same_numbers s e in
     let follows : semaphore_part (after s e) ≡ semaphore_part_after (semaphore_part s) e =

@@ -1,5 +1,6 @@
 -- What each lock event keeps of the lock part.
-use Rattle.std.proofs.Common.{◌≡◌, ◌≢◌, ◌<◌, ◌++◌, ℕ, Bool, true, false, List, [], ◌∷◌, Option, Some, None, refl, subst, sym, ap, ◌∙◌, inl, inr}
+use Rattle.std.proofs.Common.{◌≡◌, ◌≢◌, ◌<◌, ◌++◌, ℕ, Bool, true, false, List, [], ◌∷◌, Option, Some, None}
+use Rattle.std.proofs.Common.{refl, subst, sym, ap, ◌∙◌, inl, inr}
 use Rattle.std.specs.Prelude.{◌&&◌, if◌then◌else◌}
 use Rattle.std.specs.List.{Contains}
 use Rattle.std.proofs.lemmas.Bool.{and_parts}
@@ -23,7 +24,8 @@ pub record IsKeptLock (n l : ℕ) (held parked : Bool) (line : List ℕ) (has : 
   pub once : IsOnce line
   pub named : (t : ℕ) → Contains line t → (t < n) × (wants t ≡ Some l)
 
-module _ (n l : ℕ) (held parked : Bool) (line : List ℕ) (has : ℕ → Bool) (wants : ℕ → Option ℕ) (h : IsKeptLock n l held parked line has wants) where
+module _ (n l : ℕ) (held parked : Bool) (line : List ℕ) (has : ℕ → Bool) (wants : ℕ → Option ℕ)
+    (h : IsKeptLock n l held parked line has wants) where
   -- t gets it unheld
   gets : (t : ℕ) → held ≡ false → IsKeptLock n l true parked line (put has t true) wants
   gets t unheld = record {
@@ -35,7 +37,8 @@ module _ (n l : ℕ) (held parked : Bool) (line : List ℕ) (has : ℕ → Bool)
   }
 
   -- t wants another thing, where it is not in the line and nobody needs it to try
-  turns : (t : ℕ) (o : Option ℕ) → (Contains line t → ⊥) → (held ≡ false → wants t ≢ Some l) → IsKeptLock n l held parked line has (put wants t o)
+  turns : (t : ℕ) (o : Option ℕ) → (Contains line t → ⊥) → (held ≡ false → wants t ≢ Some l) →
+      IsKeptLock n l held parked line has (put wants t o)
   turns t o outside apart = record {
     owned = h.owned;
     marked = h.marked;
@@ -136,7 +139,8 @@ sound_from_kept n a h = record {
 module _ (n : ℕ) (a : LockPart) (h : IsKeptLockPart n a) (t l : ℕ) where
   -- lock i, where t gets l
   got_at : a.locks.held l ≡ false → (i : ℕ) →
-      IsKeptLock n i (put a.locks.held l true i) (a.locks.parked i) (a.locks.line i) (put a.locks.has l (put (a.locks.has l) t true) i) a.wants
+      IsKeptLock n i (put a.locks.held l true i) (a.locks.parked i) (a.locks.line i)
+      (put a.locks.has l (put (a.locks.has l) t true) i) a.wants
   got_at unheld =
       at_all (λ i b. IsKeptLock n i (if b then true else a.locks.held i) (a.locks.parked i) (a.locks.line i)
       (if b then put (a.locks.has l) t true else a.locks.has i) a.wants) l
@@ -165,6 +169,10 @@ module _ (n : ℕ) (a : LockPart) (h : IsKeptLockPart n a) (t l : ℕ) where
       | inr x ↦ x.1 (subst (λ j. Contains (a.locks.line j) t) (aims_at i ((h i).named t inside).1) inside)
     ]
 
+    still_held : (i : ℕ) → put a.locks.held l true i ≡ false → i ≡ l → ⊥
+    still_held =
+        at_all (λ i b. (if b then true else a.locks.held i) ≡ false → i ≡ l → ⊥) l (λ clear same. absurd (cc)) (λ i ne clear same. ne same)
+
     take_part : IsKeptLockPart n (lock_part_after a (Take t l))
     take_part =
         let s = a.locks in
@@ -174,8 +182,8 @@ module _ (n : ℕ) (a : LockPart) (h : IsKeptLockPart n a) (t l : ℕ) where
         })) (s.held l)
         (λ held i. turns n i (s.held i) (s.parked i) (s.line i) (s.has i) a.wants (h i) t (Some l) (outside i)
         (λ clear is. let unheld : s.held l ≡ false = subst (λ j. s.held j ≡ false) (aims_at i is) clear in absurd (cc)))
-        (λ unheld i. turns n i (put s.held l true i) (s.parked i) (s.line i) (put s.has l (put (s.has l) t true) i) a.wants (got_at unheld i) t None
-        (outside i) (λ clear is. at_all (λ j b. (if b then true else s.held j) ≡ false → j ≡ l → ⊥) l (λ e same. absurd (cc)) (λ j ne e same. ne same) i clear (aims_at i is)))
+        (λ unheld i. turns n i (put s.held l true i) (s.parked i) (s.line i) (put s.has l (put (s.has l) t true) i) a.wants
+        (got_at unheld i) t None (outside i) (λ clear is. still_held i clear (aims_at i is)))
 
   mark_part : IsKeptLockPart n (lock_part_after a (Mark t l))
   mark_part =
@@ -186,7 +194,8 @@ module _ (n : ℕ) (a : LockPart) (h : IsKeptLockPart n a) (t l : ℕ) where
   park_part : t < n → a.wants t ≡ Some l → (Contains (a.locks.line l) t → ⊥) → IsKeptLockPart n (lock_part_after a (Park t l))
   park_part near is out =
       let s = a.locks in
-      by_bit (λ b. IsKeptLockPart n (record a { locks = if b then record s { line = put s.line l (s.line l ++ t ∷ []) } else s })) (s.held l && s.parked l)
+      by_bit (λ b. IsKeptLockPart n (record a { locks = if b then record s { line = put s.line l (s.line l ++ t ∷ []) } else s }))
+      (s.held l && s.parked l)
       (λ both.
       let parts = and_parts (s.held l) (s.parked l) both in
       at_all (λ i b. IsKeptLock n i (s.held i) (s.parked i) (if b then s.line l ++ t ∷ [] else s.line i) (s.has i) a.wants) l
@@ -197,7 +206,8 @@ module _ (n : ℕ) (a : LockPart) (h : IsKeptLockPart n a) (t l : ℕ) where
   module _ (has_it : a.locks.has l t ≡ true) where
     -- lock i, where t lets l go and nobody is queued there
     left_at : (bit : Bool) → a.locks.line l ≡ [] → (i : ℕ) →
-        IsKeptLock n i (put a.locks.held l false i) (put a.locks.parked l bit i) (a.locks.line i) (put a.locks.has l (put (a.locks.has l) t false) i) a.wants
+        IsKeptLock n i (put a.locks.held l false i) (put a.locks.parked l bit i) (a.locks.line i)
+        (put a.locks.has l (put (a.locks.has l) t false) i) a.wants
     left_at bit empty =
         let s = a.locks in
         at_all (λ i b. IsKeptLock n i (if b then false else s.held i) (if b then bit else s.parked i) (s.line i)
@@ -213,7 +223,8 @@ module _ (n : ℕ) (a : LockPart) (h : IsKeptLockPart n a) (t l : ℕ) where
         })) (s.parked l)
         (λ parked. h)
         (λ unparked.
-        at_all (λ i b. IsKeptLock n i (if b then false else s.held i) (s.parked i) (s.line i) (if b then put (s.has l) t false else s.has i) a.wants) l
+        at_all (λ i b. IsKeptLock n i (if b then false else s.held i) (s.parked i) (s.line i)
+        (if b then put (s.has l) t false else s.has i) a.wants) l
         (leaves n l (s.held l) (s.parked l) (s.line l) (s.has l) a.wants (h l) t (s.parked l) has_it
         (unmarked_none n l (s.held l) (s.parked l) (s.line l) (s.has l) a.wants (h l) unparked))
         (λ i ne. h i))
@@ -254,10 +265,11 @@ module _ (n : ℕ) (a : LockPart) (h : IsKeptLockPart n a) (t l : ℕ) where
           (passes n l (s.held l) (s.parked l) (s.line l) (s.has l) a.wants (h l) t u rest has_it is more says)
           (λ i ne. h i)
 
-    pass_part : (fair more : Bool) → (fair ≡ false → SaysMore (a.locks.line l) more) → IsKeptLockPart n (lock_part_after a (Pass t l fair more))
+    pass_part : (fair more : Bool) → (fair ≡ false → SaysMore (a.locks.line l) more) →
+        IsKeptLockPart n (lock_part_after a (Pass t l fair more))
     pass_part true more says =
-        by_line (λ xs. IsKeptLockPart n (record { locks = passed_line a.locks t l true more xs; wants = served a.wants xs })) (a.locks.line l)
-        (λ none. left_at false none) (λ u rest is. hand_part u rest is)
+        by_line (λ xs. IsKeptLockPart n (record { locks = passed_line a.locks t l true more xs; wants = served a.wants xs }))
+        (a.locks.line l) (λ none. left_at false none) (λ u rest is. hand_part u rest is)
     pass_part false more says =
         by_line (λ xs. IsKeptLockPart n (record a { locks = passed_line a.locks t l false more xs })) (a.locks.line l)
         (λ none. left_at false none) (λ u rest is. unfair_part u rest is more (subst (λ xs. SaysMore xs more) is (says refl)))
@@ -278,11 +290,13 @@ pub lock_step_sound : (threads locks : ℕ) (a b : LockPart) (e : Event) (saw : 
 lock_step_sound threads locks a b e saw step h = subst (IsSoundLockPart threads) (sym step.2)
     (sound_from_kept threads (lock_part_after a e) (lock_part_kept threads locks a e (kept_from_sound threads a h) step.0))
 
-pub lock_opening_sound : (threads locks conds : ℕ) (permits : List ℕ) → IsSoundLockPart threads (lock_part (opening_with threads locks conds permits))
-lock_opening_sound threads locks conds permits = sound_from_kept threads (lock_part (opening_with threads locks conds permits)) (λ l. record {
-  owned = owned_none (λ t. false) (λ u e. absurd (cc));
-  marked = λ t inside. absurd (in_none t inside);
-  tried = λ clear some. absurd (some refl);
-  once = once_none;
-  named = λ t inside. absurd (in_none t inside);
-})
+pub lock_opening_sound : (threads locks conds : ℕ) (permits : List ℕ) →
+    IsSoundLockPart threads (lock_part (opening_with threads locks conds permits))
+lock_opening_sound threads locks conds permits =
+    sound_from_kept threads (lock_part (opening_with threads locks conds permits)) (λ l. record {
+      owned = owned_none (λ t. false) (λ u e. absurd (cc));
+      marked = λ t inside. absurd (in_none t inside);
+      tried = λ clear some. absurd (some refl);
+      once = once_none;
+      named = λ t inside. absurd (in_none t inside);
+    })

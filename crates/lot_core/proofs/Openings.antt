@@ -134,7 +134,8 @@ reaches_permits text n l c behind p rest opens reads =
       permits = p;
       rest = rest;
       small = (first.0.0, (first.0.1.0, (first.0.1.1.0, (permits.0, tt))));
-      parts = first.1 ∙ ap (λ r. codes "open" ++ (field n ++ (field l ++ (field c ++ r)))) permits.1 ∙ ap (λ r. codes "open" ++ r) (four_parts (field n) (field l) (field c) (field p) rest);
+      parts = first.1 ∙ ap (λ r. codes "open" ++ (field n ++ (field l ++ (field c ++ r)))) permits.1
+          ∙ ap (λ r. codes "open" ++ r) (four_parts (field n) (field l) (field c) (field p) rest);
     }
 
 -- where something else than the end of the line stands behind the numbers

@@ -7,7 +7,7 @@ use Rattle.lot_events.specs.declared.events.Event.TheVariants.{Try, Take, Mark, 
 use Rattle.lot_core.specs.World.{World, opening_with}
 use Rattle.lot_core.specs.Steps.{Allowed, Run, after, after_all, IsReached}
 use Rattle.lot_core.specs.Sound.{IsSound, Waits, IsSoundLockPart, IsSoundCondPart, IsSoundSemaphorePart, ArePartsSound}
-use Rattle.lot_core.specs.Parts.{swept_by, lock_part, cond_part, semaphore_part, lock_part_after}
+use Rattle.lot_core.specs.Parts.{swept_by, lock_part, cond_part, semaphore_part, lock_part_after, lock_seen, LockPart, IsLockEvent}
 use Rattle.lot_core.proofs.Permits.{part_sound}
 use Rattle.lot_core.proofs.LockParts.{lock_step_sound, lock_opening_sound}
 use Rattle.lot_core.proofs.Following.{lock_allowed, lock_part_follows}
@@ -35,21 +35,29 @@ cond_part_sound s h = record {
 semaphore_part_sound : (s : World) → IsSound s → IsSoundSemaphorePart s.threads s.permits (semaphore_part s)
 semaphore_part_sound s h = part_sound s.threads s.permits (semaphore_part s) (sems_sound s h)
 
-pub whole_parts_sound : (s : World) → IsSound s → IsSoundCondPart s.threads (cond_part s) × IsSoundSemaphorePart s.threads s.permits (semaphore_part s)
+pub whole_parts_sound : (s : World) → IsSound s →
+    IsSoundCondPart s.threads (cond_part s) × IsSoundSemaphorePart s.threads s.permits (semaphore_part s)
 whole_parts_sound s h = (cond_part_sound s h, semaphore_part_sound s h)
 
 -- an event of the whole keeps the lock part sound
-lock_after : (s : World) (e : Event) → IsSoundLockPart s.threads (lock_part s) → Allowed s e → IsSoundLockPart s.threads (lock_part_after (lock_part s) e)
-lock_after s (Try t l) h ok = lock_step_sound s.threads s.lock_count (lock_part s) _ (Try t l) _ (lock_allowed s (Try t l) ok tt, refl, refl) h
-lock_after s (Take t l) h ok = lock_step_sound s.threads s.lock_count (lock_part s) _ (Take t l) _ (lock_allowed s (Take t l) ok tt, refl, refl) h
-lock_after s (Mark t l) h ok = lock_step_sound s.threads s.lock_count (lock_part s) _ (Mark t l) _ (lock_allowed s (Mark t l) ok tt, refl, refl) h
-lock_after s (Park t l) h ok = lock_step_sound s.threads s.lock_count (lock_part s) _ (Park t l) _ (lock_allowed s (Park t l) ok tt, refl, refl) h
-lock_after s (Free t l) h ok = lock_step_sound s.threads s.lock_count (lock_part s) _ (Free t l) _ (lock_allowed s (Free t l) ok tt, refl, refl) h
-lock_after s (Pass t l fair more) h ok =
-    lock_step_sound s.threads s.lock_count (lock_part s) _ (Pass t l fair more) _ (lock_allowed s (Pass t l fair more) ok tt, refl, refl) h
+lock_stepped : (s : World) (e : Event) → IsSoundLockPart s.threads (lock_part s) → Allowed s e → IsLockEvent e →
+    IsSoundLockPart s.threads (lock_part_after (lock_part s) e)
+lock_stepped s e h ok is =
+    let a : LockPart = lock_part s in
+    lock_step_sound s.threads s.lock_count a (lock_part_after a e) e (lock_seen a e) (lock_allowed s e ok is, refl, refl) h
+
+lock_after : (s : World) (e : Event) → IsSoundLockPart s.threads (lock_part s) → Allowed s e →
+    IsSoundLockPart s.threads (lock_part_after (lock_part s) e)
+lock_after s (Try t l) h ok = lock_stepped s (Try t l) h ok tt
+lock_after s (Take t l) h ok = lock_stepped s (Take t l) h ok tt
+lock_after s (Mark t l) h ok = lock_stepped s (Mark t l) h ok tt
+lock_after s (Park t l) h ok = lock_stepped s (Park t l) h ok tt
+lock_after s (Free t l) h ok = lock_stepped s (Free t l) h ok tt
+lock_after s (Pass t l fair more) h ok = lock_stepped s (Pass t l fair more) h ok tt
 lock_after s _ h ok = h
 
-lock_kept : (s : World) (e : Event) → IsSoundLockPart s.threads (lock_part s) → Allowed s e → IsSoundLockPart (after s e).threads (lock_part (after s e))
+lock_kept : (s : World) (e : Event) → IsSoundLockPart s.threads (lock_part s) → Allowed s e →
+    IsSoundLockPart (after s e).threads (lock_part (after s e))
 lock_kept s e h ok =
     subst (λ n. IsSoundLockPart n (lock_part (after s e))) (sym (same_numbers s e).0)
     (subst (IsSoundLockPart s.threads) (sym (lock_part_follows s e ok)) (lock_after s e h ok))
@@ -60,8 +68,10 @@ lock_run_kept s [] h run = h
 lock_run_kept s (e ∷ events) h run = lock_run_kept (after s e) events (lock_kept s e h run.0) run.1
 
 lock_reached : (s : World) → IsReached s → IsSoundLockPart s.threads (lock_part s)
-lock_reached s h = subst (λ (w : World). IsSoundLockPart w.threads (lock_part w)) (sym h.ends)
-    (lock_run_kept (opening_with h.threads h.locks h.conds h.permits) h.events (lock_opening_sound h.threads h.locks h.conds h.permits) h.run)
+lock_reached s h =
+    let start : World = opening_with h.threads h.locks h.conds h.permits in
+    subst (λ (w : World). IsSoundLockPart w.threads (lock_part w)) (sym h.ends)
+    (lock_run_kept start h.events (lock_opening_sound h.threads h.locks h.conds h.permits) h.run)
 
 pub reached_parts : (s : World) → IsReached s → ArePartsSound s
 reached_parts s h = record {

@@ -42,7 +42,8 @@ spells_push lines (x ∷ events) first e (front, spells, (rest, each, parts)) is
 )
 
 pub so_more : (text : List ℕ) (n l c : ℕ) (ps : List ℕ) (events : List Event) (rest : List ℕ) (number : ℕ) (e : Event) (behind : List ℕ) →
-    IsSoFar text n l c ps events rest number → BeginsWith rest e behind → IsSoFar text n l c ps (events ++ e ∷ []) behind (number + 1)
+    IsSoFar text n l c ps events rest number → BeginsWith rest e behind →
+    IsSoFar text n l c ps (events ++ e ∷ []) behind (number + 1)
 so_more text n l c ps events rest number e behind so taken =
     record {
       first = so.first;

@@ -117,9 +117,13 @@ sound_from s locks conds sems = record {
     lock_once = λ l. (locks l).2;
     cond_once = λ c. (conds c).1;
     sem_once = λ k. (sems k).2;
-    wants = λ l t inside. let is = (locks l).3 t inside in (near s t (λ e. let no : Calm ≡ Wants l = sym e ∙ is in absurd (cc)), is);
+    wants = λ l t inside.
+        let is = (locks l).3 t inside in
+        (near s t (λ e. let no : Calm ≡ Wants l = sym e ∙ is in absurd (cc)), is);
     waits = λ c t inside. let is = (conds c).2 t inside in (near s t (waits_not_calm (world_of s).point c t is), is);
-    seeks = λ k t inside. let is = (sems k).3 t inside in (near s t (λ e. let no : Calm ≡ Seeks k = sym e ∙ is in absurd (cc)), is);
+    seeks = λ k t inside.
+        let is = (sems k).3 t inside in
+        (near s t (λ e. let no : Calm ≡ Seeks k = sym e ∙ is in absurd (cc)), is);
   };
 }
 

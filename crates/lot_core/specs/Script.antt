@@ -61,8 +61,8 @@ pub record ReachesPermits (text : List ℕ) : Type 0 where
   pub small : AllByRecursion IsSmall (threads ∷ locks ∷ conds ∷ permits ∷ [])
   pub parts : text ≡ codes "open" ++ (flat_map field (threads ∷ locks ∷ conds ∷ permits ∷ []) ++ rest)
 
--- memory may be wanted for the permits of a first line, and for an event: that of the last of these lines,
--- all of which are good
+-- memory may be wanted for the permits of a first line, or for an event: that of the line before `number`,
+-- where all lines up to there are good
 abbrev pub MayWantMemory : List ℕ → Type 0
 MayWantMemory text =
     ReachesPermits text ⊎ ((number : ℕ) × (rest : List ℕ) × GoodUntil text number rest × (2 < number))

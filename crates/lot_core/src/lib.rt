@@ -1,7 +1,8 @@
 //! The model of the parking lot's locks, conditions and semaphores, made runnable: seventeen events,
-//! each a single access of one thread to the word of one key, and the states between them. That
-//! every run keeps its state sound is proved here once, for all that stands above: lot_words rules
-//! its table of lock words by the lock part of this model, and the program replays scripts of events.
+//! each a single access of one thread to the word of one key, and the states between them. That an
+//! event keeps a sound state sound, and a step of a part that part, is proved here once, for all that
+//! stands above: lot_words rules its table of lock words by the lock part of this model, and the
+//! program replays scripts of events.
 //!
 //! | Event | Allowed where | What it does |
 //! |---|---|---|
@@ -29,9 +30,10 @@
 //!
 //! A state is *sound* where each lock has at most one owner, sleepers in a lock's line mean that it
 //! is parked, a free lock with sleepers has some thread that is trying, a clear flag with sleepers
-//! has some thread that sweeps, and each thread is in one line at most; where the permits of a
-//! semaphore that are left and those that are out are together its opening number, sleepers in its
-//! line mean that it is parked, and as many threads at least are then seeking as permits are left.
+//! has some thread that sweeps, each thread is in one line at most, and only threads of the state are
+//! in any; where the permits of a semaphore that are left and those that are out are together its
+//! opening number, sleepers in its line mean that it is parked, and as many threads at least are then
+//! seeking as permits are left.
 //!
 //! The events themselves, and how a line spells one, are `lot_events`.
 //!
@@ -47,8 +49,10 @@ mod semaphores;
 mod sound;
 pub mod state;
 
-pub use laws::{every_event_keeps_soundness, every_run_is_sound, every_step_keeps_its_part_sound};
-pub use laws::{parts_follow, spelled_scripts_are_read};
+pub use laws::{
+    every_event_keeps_soundness, every_run_is_sound, every_step_keeps_its_part_sound, parts_follow,
+    spelled_scripts_are_read,
+};
 pub use lot_events::{Event, MAX_CALLED, Point, Seen};
 pub use printing::print_state;
 pub use script::{MAX_LINES, Script, ScriptFault, parse_script};

@@ -32,7 +32,7 @@ pub enum ScriptFault {
     /// is bad.
     #[error("bad script line {0}")]
     BadLine(usize),
-    /// Memory was wanted and not had, before a bad line was read.
+    /// Memory was wanted and not had, and no line read so far is bad.
     #[error("no memory")]
     NoMemory,
 }
@@ -54,7 +54,7 @@ pub struct Script {
 ghost use Rattle.lot_core.specs.Script.{Reads};
 ghost use Rattle.lot_core.specs.Reading.{field_at, ReadsNumbers, ReadsOpening};
 
-// The numbers that stand at the front, each behind a space.
+// The numbers that stand at the front, each behind a space. Only where there is one is memory wanted.
 fn numbers(alloc: Global, text: &[u8]) -> Result<(Vec<u32>, &[u8]), AllocError>
     ensures read { IfOk result (λ x. ReadsNumbers text.now x.0.items x.1.now) }
     ensures all { IfOk result (λ x. field_at x.1.now ≡ None) }
@@ -99,8 +99,9 @@ fn first_line(alloc: Global, text: &[u8]) -> Result<(Script, &[u8]), ScriptFault
 /// Reads a whole script.
 ///
 /// The answer names the first line that is not as it should be, whatever stands behind it; numbers
-/// that no state has are no fault of the text. NoMemory comes only where the list of events could
-/// not grow before a bad line was read.
+/// that no state has are no fault of the text. NoMemory comes only where a list could not grow: that
+/// of events, where the lines so far are good and one of them is an event's, or that of permits, where
+/// the first line has come to those of a first semaphore.
 pub fn parse_script(alloc: Global, text: &str) -> Result<Script, ScriptFault>
     ensures { Reads text.now result }
 {

@@ -211,11 +211,12 @@ impl State {
 
     /// Whether the state is sound: one owner for each lock, sleepers are marked, someone is trying
     /// where a free lock has sleepers, someone sweeps where a clear flag has some, permits are
-    /// conserved, and sought where a semaphore has sleepers, and no thread is in two lines or twice
-    /// in one.
+    /// conserved, and sought where a semaphore has sleepers, no thread is in two lines or twice in
+    /// one, and who is in a line is a thread of the state.
     ///
     /// Every state that [`open`](State::open) and [`step`](State::step) can make is sound
-    /// ([`every_run_is_sound`](crate::every_run_is_sound)): a test may ask, a program need not.
+    /// ([`every_event_keeps_soundness`](crate::every_event_keeps_soundness)): a test may ask, a
+    /// program need not.
     pub fn is_sound(&self) -> bool
         ensures { IsTrue result ↔ IsSound (world_of self.now) }
     {

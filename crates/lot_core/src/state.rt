@@ -136,8 +136,9 @@ impl State {
     /// Makes the event, and says what its thread sees of it.
     ///
     /// It answers NotEnabled exactly where the event is not allowed, also for a thread or key out
-    /// of range, and NoMemory where a line could not take one thread more, which only `Park`,
-    /// `Enlist` and `SemPark` ask of it. After either the state is as it was.
+    /// of range, and NoMemory where a line could not take one thread more, which only an `Enlist`
+    /// asks of it, and a `Park` or `SemPark` that queues its thread. After either the state is as it
+    /// was.
     pub fn step(&mut self, e: Event) -> Result<Seen, CoreFault>
         ensures { Answers (world_of self.old) e result (world_of self.new) }
     {

@@ -1,8 +1,8 @@
 //! Random scripts: after each event the state is sound.
 ghost use Rattle.std.specs.Prelude.{◌<◌, IfSome};
 
-use crate::asserts::is_so_in;
-use lot_core::{Event, State};
+use crate::asserts::{equal_in, is_so_in};
+use lot_core::{CoreFault, Event, State};
 use rand_xoshiro::Xoshiro256PlusPlus;
 use rand_xoshiro::rand_core::{Rng, SeedableRng};
 use std::alloc::Global;
@@ -123,14 +123,16 @@ fn sem_event(
     }
 }
 
-// Makes an allowed event, and answers its kind.
-fn step_on(rng: &mut Xoshiro256PlusPlus, state: &mut State) -> Option<usize>
+// Makes an allowed event, and answers its kind. What is refused is refused since it is not allowed.
+fn step_on(rt: &impl Abort, rng: &mut Xoshiro256PlusPlus, state: &mut State) -> Option<usize>
     ensures { IfSome result (λ kind. kind < KINDS) }
 {
     for _ in 0..DRAWS {
         let kind = below(rng, KINDS as u64);
-        if state.step(drawn_event(rng, kind)).is_ok() {
-            return Some(kind);
+        let event = drawn_event(rng, kind);
+        match state.step(event) {
+            Ok(_) => return Some(kind),
+            Err(fault) => equal_in(rt, fault, CoreFault::NotEnabled, event),
         }
     }
     None
@@ -145,7 +147,7 @@ fn make_events(
     script: usize,
 ) -> Result<(), Fail> {
     for _ in 0..EVENTS {
-        let kind = step_on(rng, state).ok_or("every event was refused")?;
+        let kind = step_on(rt, rng, state).ok_or("every event was refused")?;
         made[kind] = made[kind].saturating_add(1);
         is_so_in(rt, state.is_sound(), script);
     }

@@ -1,12 +1,12 @@
 //! Scripts and printed states: worked examples, bad lines, and texts that are cut.
 
 use crate::asserts::{equal, equal_in};
-use lot_core::{MAX_LINES, Script, ScriptFault, State, parse_script, print_state};
+use lot_core::{CoreFault, MAX_LINES, Script, ScriptFault, State, parse_script, print_state};
 use std::alloc::{AllocError, Global};
 use std::process::Abort;
 use std::test::Fail;
 
-// The printed state after the script, or the number of its first refused event.
+// The printed state after the script, or the number of its first event that is not allowed.
 fn replayed(alloc: Global, text: &str) -> Result<Result<String, usize>, Fail> {
     let script = parse_script(alloc, text)?;
     replayed_script(alloc, &script)
@@ -20,10 +20,11 @@ fn replayed_script(alloc: Global, script: &Script) -> Result<Result<String, usiz
         script.conds,
         &script.permits,
     )?;
-    if let Err((i, _)) = state.run(&script.events) {
-        return Ok(Err(i));
+    match state.run(&script.events) {
+        Ok(()) => Ok(Ok(print_state(alloc, &state)?)),
+        Err((i, CoreFault::NotEnabled)) => Ok(Err(i)),
+        Err((_, fault)) => Err(Fail::from(fault)),
     }
-    Ok(Ok(print_state(alloc, &state)?))
 }
 
 // The script leaves a state of which this is printed, or the test fails.
@@ -53,7 +54,7 @@ fn expect_refused(
 }
 
 /// A script, and what is printed of the state that it leaves.
-static PRINTED: [(&str, &str, &str); 8] = [
+static PRINTED: [(&str, &str, &str); 12] = [
     (
         "opening",
         "open 1 1 0\n",
@@ -93,6 +94,26 @@ static PRINTED: [(&str, &str, &str); 8] = [
         "the_woken_sleeper_takes_it",
         "open 2 1 0 1\nstake 0 1\nstake 1 1\nsmark 1 1\nspark 1 1\nspass 0 1 0\nstake 1 1\n",
         "lock 0 word 0 owner - line -\nsem 1 left 0 out 1 parked 0 line -\nthread 0 calm\nthread 1 calm\n",
+    ),
+    (
+        "nobody_is_queued_on_an_unheld_lock",
+        "open 3 1 0\ntake 0 0\ntake 1 0\nmark 1 0\npark 1 0\ntake 2 0\npass 0 0 0 1\npark 2 0\n",
+        "lock 0 word 2 owner - line -\nthread 0 calm\nthread 1 wants 0\nthread 2 wants 0\n",
+    ),
+    (
+        "nobody_is_queued_on_an_unmarked_lock",
+        "open 2 1 0\ntake 0 0\ntake 1 0\npark 1 0\n",
+        "lock 0 word 1 owner 0 line -\nthread 0 calm\nthread 1 wants 0\n",
+    ),
+    (
+        "nobody_is_queued_on_an_unmarked_semaphore",
+        "open 2 1 0 1\nstake 0 1\nstake 1 1\nspark 1 1\n",
+        "lock 0 word 0 owner - line -\nsem 1 left 0 out 1 parked 0 line -\nthread 0 calm\nthread 1 seeks 1\n",
+    ),
+    (
+        "nobody_is_queued_where_a_permit_is_left",
+        "open 2 1 0 1\nstake 0 1\nstake 1 1\nsmark 1 1\nspass 0 1 1\nspark 1 1\n",
+        "lock 0 word 0 owner - line -\nsem 1 left 1 out 0 parked 1 line -\nthread 0 calm\nthread 1 seeks 1\n",
     ),
 ];
 

@@ -10,7 +10,8 @@ returns-in-None-clause-err c = inl (refl, no_opening c.args.text.now (sym c.in-N
 pub returns-in-Err-clause-err : goal.returns-in-Err-clause-err
 returns-in-Err-clause-err c =
     let found = c.in-Err.ensures.some in
-    inl (reaches_permits c.args.text.now c.in-Some.threads c.in-Some.locks c.in-Some.conds c.in-Some.rest.now found.0 found.1 (sym c.in-Some.ensures) found.2)
+    inl (reaches_permits c.args.text.now c.in-Some.threads c.in-Some.locks c.in-Some.conds c.in-Some.rest.now found.0 found.1
+    (sym c.in-Some.ensures) found.2)
 
 pub returns-in-None-end-clause-err : goal.returns-in-None-end-clause-err
 returns-in-None-end-clause-err c =
