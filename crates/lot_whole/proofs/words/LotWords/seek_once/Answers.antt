@@ -7,7 +7,8 @@ use Rattle.lot_whole.specs.Family.{sem}
 use Rattle.lot_whole.specs.Standing.{MaySeek}
 use Rattle.lot_rights.specs.declared.views.PassView.{PassView}
 use Rattle.lot_whole.specs.declared.views.LotPassView.{LotPassView}
-use Rattle.lot_whole.specs.Chains.{word_of_seek}
+use Rattle.lot_whole.specs.declared.chains.Sought.TheVariants.{Again}
+use Rattle.lot_whole.specs.Chains.{SoughtBy}
 use Rattle.lot_whole.specs.Calls.{Adds, NotesIn, FoundNone, Collected, TakesPermit}
 use Rattle.lot_whole.proofs.Waits.{adds_four, when_so, empty_seeks, marked_seeks, queued_up, queued_in, queued_seeks, woken_note}
 use Rattle.lot_whole.proofs.Waits.{woken_takes}
@@ -50,8 +51,8 @@ take_permit-pass-requires-2-clause-may g c =
     woken_takes g.V.Keeps s v c.in-Some._token letter k (queued_up k r s seeks parked) (queued_in k r s seeks parked)
     (queued_seeks k r s seeks parked)
 
-pub returns : goal.returns
-returns g c =
+pub returns-clause-made : goal.returns-clause-made
+returns-clause-made g c =
     let p = c.args.pass.pass in
     let q = c.take_permit-pass.result.0.pass in
     let r = c.mark_permit-pass.result.0.pass in
@@ -68,13 +69,8 @@ returns g c =
     c.park_permit-pass.ensures.entry) in
     let letter = subst (λ o. MatchOption o (FoundNone s v) (λ token. Collected g.V.Keeps s token v)) c.in-Some.is
     c.collect-pass.ensures.letter in
-    let woken = woken_note g.V.Keeps s v c.in-Some._token letter k (queued_up k r s seeks parked) (queued_in k r s seeks parked)
-    (queued_seeks k r s seeks parked) in
+    let up = queued_up k r s seeks parked in
+    let woken = woken_note g.V.Keeps s v c.in-Some._token letter k up (queued_in k r s seeks parked) (queued_seeks k r s seeks parked) in
     let adds = adds_four p q r s v _ _ _ woken.0 (λ t. Makes (SemTake t k) (Saw false)) (λ t. Makes (SemMark t k) Done)
-    (λ t. Makes (SemPark t k) (Saw true)) (λ t. Collects t (Some 0))
-    empty marked parked woken.1 in
-    record {
-      slept = subst (λ n. (told : PassView (LotPassView _)) × Adds p (word_of_seek p.thread n) told
-          × TakesPermit told n c.take_permit-pass-2.result.1 u) c.key-key.ensures.is
-          (v, adds, c.take_permit-pass-2.ensures.entries);
-    }
+    (λ t. Makes (SemPark t k) (Saw true)) (λ t. Collects t (Some 0)) empty marked parked woken.1 in
+    subst (λ n. SoughtBy p n (Again c.take_permit-pass-2.result.1) u) c.key-key.ensures.is (v, adds, c.take_permit-pass-2.ensures.entries)

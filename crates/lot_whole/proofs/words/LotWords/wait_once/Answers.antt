@@ -27,8 +27,8 @@ take-pass-requires-clause-may g c =
     c.collect-pass.ensures.letter in
     (rest_takes g.V.Keeps r s c.in-Some._token letter k l (bed_rests p q k l c.requires.idle c.enlist-pass.ensures.event y r free)).may
 
-pub returns-then-got : goal.returns-then-got
-returns-then-got g c =
+pub returns-then-got-clause-made : goal.returns-then-got-clause-made
+returns-then-got-clause-made g c =
     let p = c.args.pass.pass in
     let q = c.enlist-pass.result.0.pass in
     let r = c.free-pass.result.0.pass in
@@ -43,14 +43,12 @@ returns-then-got g c =
     let rested = rest_takes g.V.Keeps r s c.in-Some._token letter k l
     (bed_rests p q k l c.requires.idle c.enlist-pass.ensures.event y r free) in
     let got = when_so c.take-pass.result.1 _ _ c.if-got.true c.take-pass.ensures.event in
-    record {
-      made = adds_four p q r s c.take-pass.result.0.pass _ _ rested.own _ (λ t. Makes (Enlist t k l) Done)
-          (λ t. Makes (Free t l) (Saw true)) (λ t. Collects t (Some 0))
-          (λ t. Makes (Take t l) (Saw true)) c.enlist-pass.ensures.event free rested.note got.2;
-    }
+    adds_four p q r s c.take-pass.result.0.pass _ _ rested.own _ (λ t. Makes (Enlist t k l) Done)
+    (λ t. Makes (Free t l) (Saw true)) (λ t. Collects t (Some 0))
+    (λ t. Makes (Take t l) (Saw true)) c.enlist-pass.ensures.event free rested.note got.2
 
-pub returns : goal.returns
-returns g c =
+pub returns-clause-made : goal.returns-clause-made
+returns-clause-made g c =
     let p = c.args.pass.pass in
     let q = c.enlist-pass.result.0.pass in
     let r = c.free-pass.result.0.pass in
@@ -65,8 +63,6 @@ returns g c =
     let rested = rest_takes g.V.Keeps r s c.in-Some._token letter k l
     (bed_rests p q k l c.requires.idle c.enlist-pass.ensures.event y r free) in
     let missed = when_not c.take-pass.result.1 _ _ c.if-got.false c.take-pass.ensures.event in
-    record {
-      made = adds_four p q r s c.take-pass.result.0.pass _ _ rested.own _ (λ t. Makes (Enlist t k l) Done)
-          (λ t. Makes (Free t l) (Saw true)) (λ t. Collects t (Some 0))
-          (λ t. Makes (Take t l) (Saw false)) c.enlist-pass.ensures.event free rested.note missed;
-    }
+    adds_four p q r s c.take-pass.result.0.pass _ _ rested.own _ (λ t. Makes (Enlist t k l) Done)
+    (λ t. Makes (Free t l) (Saw true)) (λ t. Collects t (Some 0))
+    (λ t. Makes (Take t l) (Saw false)) c.enlist-pass.ensures.event free rested.note missed
