@@ -1,10 +1,9 @@
 -- What each call of a pass carries from its kind to the lot: the one entry tells the access, its thread stands as the
 -- event asks, and the lot tells the same.
-use Rattle.std.proofs.Common.{◌≡◌, ◌≢◌, ℕ, ◌+◌, ◌%◌, ◌<◌, ◌⊎◌, ◌==◌, ◌++◌, Bool, true, false, List, [], ◌∷◌, length, bit_or, refl, sym, ap}
+use Rattle.std.proofs.Common.{◌≡◌, ◌≢◌, ℕ, ◌%◌, ◌<◌, ◌⊎◌, ◌==◌, ◌++◌, Bool, true, false, List, [], ◌∷◌, length, bit_or, refl, sym, ap}
 use Rattle.std.proofs.Common.{subst, ◌∙◌, inl, inr, arith, MatchBool, Option, Some, None}
 use mathlib.Core.Option as maybe
 use prog.Atomic.{either}
-use Rattle.lot_core.specs.Parts.{AsksOfThread}
 use Rattle.lot_core.specs.Steps.{IsCallCount, SaysMore, SaysMoreBehind, dequeued_count, first}
 use Rattle.lot_events.specs.declared.events.Event.TheVariants.{Try, Take, Mark, Park, Free, Pass, Enlist, Look, Call, Lower, Sweep}
 use Rattle.lot_events.specs.declared.events.Seen.TheVariants.{Bool as Saw, Done, Sleeper, Count}
@@ -14,7 +13,7 @@ use Rattle.lot_rights.specs.declared.views.Entry.{Entry}
 use Rattle.lot_rights.specs.declared.views.PassView.{PassView}
 use Rattle.lot_rights.specs.declared.views.RootView.{RootView}
 use Rattle.lot_rights.specs.Layout.{word_at}
-use Rattle.lot_rights.specs.Steps.{Notes, with_entry, pass_after, root_after, AllowsPass, AllowsBoth}
+use Rattle.lot_rights.specs.Steps.{Notes, pass_after, AllowsPass, AllowsBoth}
 use Rattle.lot_words.specs.CallersRule.{CallersRule}
 use Rattle.lot_words.specs.World.{Holds, HoldsParked}
 use Rattle.lot_words.specs.Values.{IsIn, FoundOk}
@@ -29,9 +28,8 @@ use Rattle.lot_conds.specs.declared.views.CondRootView.{CondRootView}
 use Rattle.lot_conds.proofs.Turns as conds
 use Rattle.lot_whole.specs.declared.views.LotPassView.{LotPassView}
 use Rattle.lot_whole.specs.declared.views.LotRootView.{LotRootView}
-use Rattle.lot_whole.specs.declared.views.Stand.TheVariants.{Idle, AtRest}
-use Rattle.lot_whole.specs.Family.{Which, lock, cond, sem, LotSize, lock_size, cond_size, IsKeyIn, PassIn, RootIn, away, scheme_of}
-use Rattle.lot_whole.specs.Lot.{own_of, root_from, LotWorld, LotFits, LotPassIs, LotRootIs, lot_scheme}
+use Rattle.lot_whole.specs.Family.{Which, lock, cond, LotSize, lock_size, cond_size, IsKeyIn, PassIn, RootIn}
+use Rattle.lot_whole.specs.Lot.{root_from, LotWorld, LotFits, LotPassIs, LotRootIs, lot_scheme}
 use Rattle.lot_whole.specs.Lifts.{part_pass, whole_root, lot_own, MayBeAway, Speaks, InPlace, CarriesPass, CarriesBoth}
 use Rattle.lot_whole.specs.Standing.{IsUp, IsIdle, MayTake, MayLetGo, MayPark, MaySweep}
 use Rattle.lot_whole.specs.Calls.{NotesIn, FindsOf, GetsBy}

@@ -1,17 +1,15 @@
 -- What a closing tells, when all passes came back, none of them holds a lock, and none waits on a condition.
-use Rattle.std.proofs.Common.{◌≡◌, ℕ, zero, suc, ◌+◌, ◌*◌, ◌<◌, ◌≤◌, ◌==◌, cond as if_so, List, [], ◌∷◌, ◌++◌, length, map, refl, sym, ap}
-use Rattle.std.proofs.Common.{subst, ◌∙◌, arith, Option, Some, None, slice_get, get_or, sum_by}
+use Rattle.std.proofs.Common.{◌≡◌, ℕ, ◌+◌, ◌*◌, ◌<◌, ◌≤◌, ◌==◌, cond as if_so, List, [], ◌∷◌, ◌++◌, length, map, refl, sym, ap}
+use Rattle.std.proofs.Common.{subst, ◌∙◌, arith, Option, Some, slice_get, get_or, sum_by}
 use Rattle.std.specs.List.{All, Any}
 use Rattle.std.proofs.lemmas.List.{length-map, get_or-map}
 use Rattle.std.proofs.lemmas.List.Elements.{All-weaker, All-map, All-nil}
 use Rattle.std.proofs.lemmas.List.Sums.{sum_by-cons}
-use mathlib.Core.Option as maybe
 use mathlib.Core.Option.{some, some-ne-none}
 use lib.ListN.{get_elem?}
-use Rattle.lot_core.specs.World.{World}
 use Rattle.lot_core.specs.Parts.{LockPart, CondPart, SemaphorePart}
 use Rattle.lot_rights.specs.declared.views.Right.{Right}
-use Rattle.lot_rights.specs.Closing.{passes_in, roots_in, Left, Ended, IsRecounted}
+use Rattle.lot_rights.specs.Closing.{passes_in, roots_in, Left, Ended}
 use Rattle.lot_rights.specs.History.{events_in}
 use Rattle.lot_rights.specs.Rule.{number}
 use Rattle.lot_rights.specs.Seating.{times}
@@ -33,7 +31,6 @@ use Rattle.lot_whole.specs.declared.views.LotRootView.{LotRootView}
 use Rattle.lot_whole.specs.declared.views.LotRootView.TheVariants.{Lock, Cond, Sem}
 use Rattle.lot_whole.specs.Family.{Which, lock, cond, sem, LotSize, lock_size, cond_size, sem_size, SlotOf, PassIn, RootIn, homes_in}
 use Rattle.lot_whole.specs.Family.{scheme_of, part_in}
-use Rattle.lot_whole.specs.Whole.{WholeStep, opening_of}
 use Rattle.lot_whole.specs.Lot.{own_of, LotWorld, PassOk, LotPassIs, LotRootIs, lot_scheme}
 use Rattle.lot_whole.specs.Lifts.{part_pass}
 use Rattle.lot_whole.specs.Closing.{HasDone, called_in, woken_in, out_with, permits_of, LineIs, IsToldTo}

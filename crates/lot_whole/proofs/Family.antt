@@ -1,5 +1,5 @@
 -- Families over the three kinds, and what is shown of each kind by itself.
-use Rattle.std.proofs.Common.{◌≡◌, ◌≢◌, ℕ, ◌+◌, ◌<◌, ◌⊎◌, Bool, true, false, List, length, get_or, refl, sym, ap, subst, ◌∙◌, inl, inr}
+use Rattle.std.proofs.Common.{◌≡◌, ◌≢◌, ℕ, ◌+◌, ◌<◌, ◌⊎◌, false, List, length, get_or, refl, ap, ◌∙◌, inl, inr}
 use Rattle.std.proofs.Common.{arith, Option, Some, None}
 use Rattle.std.specs.Prelude.{nat_lt, if◌then◌else◌, is_some}
 use Rattle.std.proofs.lemmas.Bool.{lt-ltb, le-ltb}
@@ -16,7 +16,7 @@ use Rattle.lot_conds.proofs.Machine.{awake_is as cond_awake}
 use Rattle.lot_sems.specs.World.{word_of}
 use Rattle.lot_sems.proofs.Machine.{awake_is as sem_awake}
 use Rattle.lot_words.specs.declared.views.LockPassView.{LockPassView}
-use Rattle.lot_whole.specs.Family.{Which, lock, cond, sem, LotSize, sizes_in, key_count, IsKeyIn, PassIn, RootIn, away, homes_in, scheme_of}
+use Rattle.lot_whole.specs.Family.{Which, lock, cond, sem, LotSize, sizes_in, key_count, IsKeyIn, PassIn, away, homes_in, scheme_of}
 use Rattle.lot_whole.specs.Family.{part_in, dput}
 use Rattle.lot_whole.specs.Whole.{word_in}
 use Rattle.lot_whole.specs.Lot.{sum_of}

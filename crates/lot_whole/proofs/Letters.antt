@@ -1,6 +1,6 @@
 -- Letters that are posted with a root, and collected with a pass: of which kind they are, the pass tells.
-use Rattle.std.proofs.Common.{◌≡◌, ◌≢◌, ℕ, zero, suc, ◌+◌, ◌-◌, ◌<◌, ◌≤◌, ◌⊎◌, ◌++◌, Bool, true, false, List, [], ◌∷◌, get_or, refl, sym}
-use Rattle.std.proofs.Common.{ap, subst, ◌∙◌, inl, inr, arith, Option, Some, None}
+use Rattle.std.proofs.Common.{◌≡◌, ◌≢◌, ℕ, zero, suc, ◌+◌, ◌-◌, ◌<◌, ◌≤◌, Bool, true, false, List, get_or, refl, sym}
+use Rattle.std.proofs.Common.{ap, subst, inl, inr, arith, Option, Some, None}
 use Rattle.std.specs.Prelude.{is_some}
 use Rattle.std.specs.List.{Contains}
 use mathlib.Core.Option as maybe
@@ -25,11 +25,10 @@ use Rattle.lot_sems.specs.declared.views.SemPassView.{SemPassView}
 use Rattle.lot_sems.specs.declared.views.SemRootView.{SemRootView}
 use Rattle.lot_sems.proofs.Roots as sem_roots
 use Rattle.lot_whole.specs.declared.views.LotPassView.{LotPassView}
-use Rattle.lot_whole.specs.declared.views.LotRootView.{LotRootView}
-use Rattle.lot_whole.specs.Family.{Which, lock, cond, sem, LotSize, lock_size, cond_size, sem_size, PassIn, RootIn, away, scheme_of}
+use Rattle.lot_whole.specs.Family.{Which, lock, cond, sem, LotSize, lock_size, cond_size, sem_size, RootIn, away}
 use Rattle.lot_whole.specs.Lot.{own_of, root_from, LotWorld, LotFits, LotPassIs, LotRootIs, lot_scheme}
-use Rattle.lot_whole.specs.Lifts.{part_pass, whole_root, Speaks, Quiet, InPlace, CarriesPass, CarriesRoot}
-use Rattle.lot_whole.specs.Calls.{NotesIn, RootNotesIn, CollectsIn, CollectsLock, CollectsCond, CollectsSem, FoundNone, Collected}
+use Rattle.lot_whole.specs.Lifts.{part_pass, whole_root, Speaks, Quiet, InPlace, CarriesRoot}
+use Rattle.lot_whole.specs.Calls.{RootNotesIn, CollectsIn, FoundNone, Collected}
 use Rattle.lot_whole.specs.Calls.{CollectedBy}
 use Rattle.lot_whole.proofs.Carries.{notes_tell, Carried, carry}
 use Rattle.lot_whole.proofs.Lifts.{lifts_pass, lifts_root}

@@ -1,24 +1,20 @@
 -- What a kind allows, the lot allows.
-use Rattle.std.proofs.Common.{◌≡◌, ◌≢◌, ℕ, ◌+◌, ◌*◌, ◌^◌, ◌<◌, ◌⊎◌, List, get_or, set, refl, sym, ap, subst, ◌∙◌, inl, arith, Option}
+use Rattle.std.proofs.Common.{◌≡◌, ◌≢◌, ℕ, ◌*◌, ◌^◌, ◌<◌, List, get_or, set, refl, sym, ap, subst, ◌∙◌, inl, Option}
 use mathlib.Core.Option as maybe
 use Rattle.lot_core.specs.World.{put}
 use Rattle.lot_core.specs.Rows.{told}
 use Rattle.lot_core.proofs.Put.{put_same, put_other}
 use Rattle.lot_rights.specs.declared.views.Access.{Access}
-use Rattle.lot_rights.specs.declared.views.PassView.{PassView}
-use Rattle.lot_rights.specs.declared.views.RootView.{RootView}
 use Rattle.lot_rights.specs.History.{doer}
 use Rattle.lot_rights.specs.Layout.{word_at}
-use Rattle.lot_rights.specs.Rule.{Leads}
 use Rattle.lot_rights.specs.Steps.{PassTurn, BothTurn, RootTurn}
 use Rattle.lot_rights.proofs.Puts.{put_elim}
 use Rattle.lot_words.specs.CallersRule.{CallersRule}
 use Rattle.lot_whole.specs.declared.views.LotPassView.{LotPassView}
-use Rattle.lot_whole.specs.declared.views.LotRootView.{LotRootView}
-use Rattle.lot_whole.specs.Family.{Which, LotSize, IsKeyIn, PassIn, RootIn, homes_in, scheme_of}
+use Rattle.lot_whole.specs.Family.{Which, LotSize, PassIn, homes_in, scheme_of}
 use Rattle.lot_whole.specs.Whole.{stand_of, moves_by, whole_by}
-use Rattle.lot_whole.specs.Lot.{own_of, root_from, LotWorld, PassOk, LotFits, LotPassIs, LotRootIs, lot_scheme}
-use Rattle.lot_whole.specs.Lifts.{part_pass, whole_root, lot_own, MayBeAway, Speaks, InPlace, LiftsPass, LiftsBoth, LiftsRoot}
+use Rattle.lot_whole.specs.Lot.{root_from, LotWorld, PassOk, LotFits, lot_scheme}
+use Rattle.lot_whole.specs.Lifts.{part_pass, whole_root, lot_own, MayBeAway, InPlace, LiftsPass, LiftsBoth, LiftsRoot}
 use Rattle.lot_whole.proofs.Steps.{root_in, found, Gone, gone, next, fits_after, pass_stays, pass_turned, roots_after, root_turned}
 
 module _ {V Part : Type 0} (rule : CallersRule V Part) (z : LotSize) (xs : List V) where

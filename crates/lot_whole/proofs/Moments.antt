@@ -1,10 +1,10 @@
 -- At every moment: what keeps the rule of a lot stands for one state of the whole.
-use Rattle.std.proofs.Common.{◌≡◌, ◌≢◌, ℕ, ◌<◌, ◌⊎◌, ◌+◌, List, [], ◌∷◌, map, get_or, refl, sym, ap, subst, ◌∙◌, ⊎_elim, Option}
+use Rattle.std.proofs.Common.{◌≡◌, ℕ, ◌+◌, List, [], ◌∷◌, map, get_or, sym, ap, subst, ◌∙◌, ⊎_elim, Option}
 use Rattle.std.specs.List.{Contains}
 use Rattle.atomic_table.specs.Table.{State}
 use Rattle.lot_core.specs.World.{World}
 use Rattle.lot_core.specs.Steps.{Run, after_all, IsReached}
-use Rattle.lot_core.specs.Sound.{IsSound, Waits}
+use Rattle.lot_core.specs.Sound.{IsSound}
 use Rattle.lot_core.proofs.Law.{reached_sound}
 use Rattle.lot_events.specs.declared.events.Point.{Point}
 use Rattle.lot_events.specs.declared.events.Point.TheVariants.{Wants, Bed, Rest, Seeks}
@@ -20,9 +20,9 @@ use Rattle.lot_words.proofs.Headlines as locks
 use Rattle.lot_conds.proofs.Headlines as conds
 use Rattle.lot_whole.specs.declared.views.LotPassView.{LotPassView}
 use Rattle.lot_whole.specs.declared.views.LotRootView.{LotRootView}
-use Rattle.lot_whole.specs.Family.{Which, lock, cond, sem, LotSize, IsKeyIn, homes_in, scheme_of}
-use Rattle.lot_whole.specs.Whole.{WholeStep, word_in, opening_of}
-use Rattle.lot_whole.specs.Lot.{LotWorld, LotFits, lot_scheme}
+use Rattle.lot_whole.specs.Family.{Which, lock, cond, sem, LotSize, IsKeyIn, scheme_of}
+use Rattle.lot_whole.specs.Whole.{WholeStep, opening_of}
+use Rattle.lot_whole.specs.Lot.{lot_scheme}
 use Rattle.lot_whole.specs.Headline.{line_in, OneLineOfAll, event_of, IsOneRun, OneState, Promises}
 use Rattle.lot_whole.proofs.Family.{word_is}
 

@@ -1,5 +1,5 @@
 -- Roots of one kind, and whom they name after a step.
-use Rattle.std.proofs.Common.{◌≡◌, ℕ, ◌⊎◌, Bool, refl, sym, ap, subst, inl, inr, ⊎_elim}
+use Rattle.std.proofs.Common.{◌≡◌, ℕ, ◌⊎◌, refl, subst, inl, inr, ⊎_elim}
 use Rattle.lot_rights.specs.declared.views.RootView.{RootView}
 use Rattle.lot_words.specs.declared.views.LockRootView.{LockRootView}
 use Rattle.lot_words.specs.Rule.{names as lock_names}

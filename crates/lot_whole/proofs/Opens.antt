@@ -1,13 +1,13 @@
 -- The rule of a lot holds of its table at the opening.
-use Rattle.std.proofs.Common.{◌≡◌, ℕ, zero, suc, ◌+◌, ◌<◌, ◌≤◌, true, false, Bool, List, [], length, map, replicate, get_or, refl, sym, ap}
-use Rattle.std.proofs.Common.{subst, ◌∙◌, ⊎_elim, arith, get_or-set_other, Some, None, slice_get}
+use Rattle.std.proofs.Common.{◌≡◌, ℕ, zero, suc, ◌+◌, ◌<◌, true, false, List, [], length, map, replicate, get_or, refl, sym}
+use Rattle.std.proofs.Common.{subst, ◌∙◌, ⊎_elim, arith, get_or-set_other, Some, slice_get}
 use Rattle.std.specs.Prelude.{◌*◌, nat_lt, if◌then◌else◌}
 use Rattle.std.proofs.lemmas.Bool.{cases_lt, lt-ltb, le-ltb}
 use mathlib.Core.Option as maybe
 use mathlib.Core.Path.{fun_ext}
 use Rattle.lot_core.proofs.Law.{opening_reached}
 use Rattle.lot_core.proofs.Rows.{get_or_replicate}
-use Rattle.lot_rights.specs.Layout.{word_at, letter_at, word_count}
+use Rattle.lot_rights.specs.Layout.{word_at, word_count}
 use Rattle.lot_rights.specs.Start.{OpensWell}
 use Rattle.lot_words.specs.CallersRule.{CallersRule}
 use Rattle.lot_words.specs.Rule.{fresh_root as lock_fresh}
@@ -17,13 +17,12 @@ use Rattle.lot_conds.proofs.Opens as conds
 use Rattle.lot_sems.specs.Opening.{with_permits, opening_words}
 use Rattle.lot_sems.specs.Rule.{fresh_root as sem_fresh}
 use Rattle.lot_sems.proofs.Opens as sems
-use Rattle.lot_whole.specs.declared.views.LotPassView.{LotPassView}
 use Rattle.lot_whole.specs.declared.views.LotRootView.TheVariants.{Lock, Cond, Sem}
-use Rattle.lot_whole.specs.Family.{Which, lock, cond, sem, LotSize, lock_size, cond_size, sem_size, key_count, IsKeyIn, SlotOf, away}
+use Rattle.lot_whole.specs.Family.{Which, lock, cond, sem, LotSize, cond_size, sem_size, key_count, IsKeyIn, SlotOf, away}
 use Rattle.lot_whole.specs.Family.{homes_in, scheme_of, part_in}
 use Rattle.lot_whole.specs.Whole.{opening_of}
-use Rattle.lot_whole.specs.Lot.{own_of, sum_of, fresh_pass, fresh_root, LotWorld, letters_in, PassOk, LotFits, LotRootIs, lot_scheme}
-use Rattle.lot_whole.proofs.Family.{three_same, wide_in, letter_in}
+use Rattle.lot_whole.specs.Lot.{own_of, sum_of, fresh_pass, fresh_root, LotWorld, letters_in, LotFits, LotRootIs, lot_scheme}
+use Rattle.lot_whole.proofs.Family.{wide_in, letter_in}
 
 -- the permits are written behind the words of locks and conditions
 before_permits : (ws : List ℕ) (low : ℕ) (permits : List ℕ) (i c : ℕ) → c < low

@@ -1,7 +1,6 @@
 -- What the calls of semaphores carry to the lot.
-use Rattle.std.proofs.Common.{◌≡◌, ◌≢◌, ℕ, zero, suc, ◌+◌, ◌-◌, ◌%◌, ◌^◌, ◌<◌, ◌≤◌, ◌⊎◌, ◌==◌, Bool, true, false, List, [], bit_and, refl}
-use Rattle.std.proofs.Common.{sym, ap, subst, ◌∙◌, inl, inr, arith, eq-eqb, ne_eqb, MatchBool, Option, None}
-use mathlib.Core.Option as maybe
+use Rattle.std.proofs.Common.{◌≡◌, ◌≢◌, ℕ, zero, suc, ◌+◌, ◌-◌, ◌%◌, ◌^◌, ◌<◌, ◌==◌, Bool, true, false, List, [], bit_and, refl}
+use Rattle.std.proofs.Common.{sym, subst, ◌∙◌, inl, inr, arith, eq-eqb, ne_eqb, MatchBool, None}
 use prog.Atomic.{either}
 use Rattle.lot_core.specs.Steps.{SaysMore, first}
 use Rattle.lot_events.specs.declared.events.Event.{Event}
@@ -27,9 +26,9 @@ use Rattle.lot_sems.proofs.Roots as sem_roots
 use Rattle.lot_whole.specs.declared.views.LotPassView.{LotPassView}
 use Rattle.lot_whole.specs.declared.views.LotRootView.{LotRootView}
 use Rattle.lot_whole.specs.Family.{sem, LotSize, sem_size, IsKeyIn}
-use Rattle.lot_whole.specs.Lot.{LotWorld, LotFits, LotPassIs, lot_scheme}
+use Rattle.lot_whole.specs.Lot.{lot_scheme}
 use Rattle.lot_whole.specs.Lifts.{part_pass, whole_root}
-use Rattle.lot_whole.specs.Standing.{IsUp, IsIdle, MayTakePermit, MaySeek, MayGive}
+use Rattle.lot_whole.specs.Standing.{IsIdle, MayTakePermit, MaySeek, MayGive}
 use Rattle.lot_whole.specs.Calls.{NotesIn, FindsOf, Exchanges, Misses, TakesFrom, TriesPermit, TakesPermit, FreesPermit}
 use Rattle.lot_whole.proofs.Carries.{MaySpeak, Carried, carry, carry_both, at_key}
 use Rattle.lot_whole.proofs.Lifts.{lifts_pass, lifts_both}

@@ -1,13 +1,12 @@
 -- Values that leave their slots and come back: what the locks allow, the lot allows.
-use Rattle.std.proofs.Common.{◌≡◌, ◌≢◌, ℕ, ◌<◌, false, true, List, [], set, refl, sym, ap, subst, ◌∙◌, inl, Option, Some}
+use Rattle.std.proofs.Common.{◌≡◌, ◌≢◌, ℕ, ◌<◌, true, List, set, refl, sym, ap, subst, ◌∙◌, inl, Option}
 use mathlib.Core.Option as maybe
 use mathlib.Core.Option.{some, none}
 use lib.ListN.{get_elem?}
 use mathlib.Core.Path.{fun_ext}
-use Rattle.lot_core.specs.World.{World, put}
+use Rattle.lot_core.specs.World.{put}
 use Rattle.lot_core.proofs.Put.{put_same, put_other}
 use Rattle.lot_rights.specs.declared.views.PassView.{PassView}
-use Rattle.lot_rights.specs.History.{Telling}
 use Rattle.lot_rights.specs.Slots.{SlotTurn, AllowsOut, AllowsBack}
 use Rattle.lot_rights.proofs.Puts.{put_elim}
 use Rattle.lot_words.specs.CallersRule.{CallersRule}

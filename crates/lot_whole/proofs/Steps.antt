@@ -1,5 +1,5 @@
 -- One step of a kind j, as a step of the lot: words and letters, the state of the whole, passes and roots.
-use Rattle.std.proofs.Common.{◌≡◌, ◌≢◌, ℕ, ◌+◌, ◌*◌, ◌<◌, ◌⊎◌, true, false, List, length, get_or, set, refl, sym, ap, subst, ◌∙◌, ⊎_elim}
+use Rattle.std.proofs.Common.{◌≡◌, ◌≢◌, ℕ, ◌+◌, ◌*◌, ◌<◌, true, false, List, length, get_or, set, refl, sym, ap, subst, ◌∙◌, ⊎_elim}
 use Rattle.std.proofs.Common.{arith, length-set, get_or-set_same, get_or-set_other}
 use Rattle.std.proofs.Common.{Option, Some, None}
 use mathlib.Core.Option as maybe
@@ -11,8 +11,6 @@ use Rattle.lot_core.specs.Steps.{after, IsReached}
 use Rattle.lot_core.specs.Rows.{told}
 use Rattle.lot_core.proofs.Law.{event_kept, reached_sound}
 use Rattle.lot_core.proofs.Put.{put_same, put_other, put_again}
-use Rattle.lot_events.specs.declared.events.Point.{Point}
-use Rattle.lot_events.specs.declared.events.Seen.{Seen}
 use Rattle.lot_rights.specs.declared.views.Access.{Access}
 use Rattle.lot_rights.specs.declared.views.Access.TheVariants.{Makes, Posts, Collects, Finds}
 use Rattle.lot_rights.specs.History.{Telling, doer, maker}

@@ -28,7 +28,7 @@ use Rattle.lot_whole.specs.Family.{Which, lock, cond, sem, LotSize, away, scheme
 use Rattle.lot_whole.specs.Whole.{stand_of}
 use Rattle.lot_whole.specs.Lot.{own_of, LotWorld, PassOk, LotFits, LotPassIs}
 use Rattle.lot_whole.specs.Lifts.{Quiet}
-use Rattle.lot_whole.specs.Standing.{IsUp, IsAwake, IsIdle, MayTake, MayLetGo, MayPark, MayTakePermit}
+use Rattle.lot_whole.specs.Standing.{IsAwake, IsIdle, MayTake, MayLetGo, MayPark, MayTakePermit}
 use Rattle.lot_whole.proofs.Family.{still}
 
 -- ---- points

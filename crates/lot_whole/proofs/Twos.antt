@@ -1,5 +1,5 @@
 -- What two passes tell: what a kind tells of two, the lot tells.
-use Rattle.std.proofs.Common.{◌≡◌, ℕ, ◌+◌, ◌≤◌, List, get_or, arith}
+use Rattle.std.proofs.Common.{ℕ, ◌+◌, ◌≤◌, List, get_or, arith}
 use Rattle.lot_rights.specs.declared.views.PassView.{PassView}
 use Rattle.lot_rights.specs.Steps.{TellsOfTwo}
 use Rattle.lot_words.specs.CallersRule.{CallersRule}

@@ -1,26 +1,26 @@
 -- What one call of a chain leaves is what the next one asks for.
-use Rattle.std.proofs.Common.{◌≡◌, ℕ, ◌+◌, ◌++◌, Bool, true, false, List, [], ◌∷◌, map, append_assoc, refl, sym, ap, subst, ◌∙◌, inl, inr}
+use Rattle.std.proofs.Common.{◌≡◌, ℕ, ◌++◌, Bool, true, false, List, [], ◌∷◌, append_assoc, refl, sym, ap, subst, ◌∙◌, inl, inr}
 use Rattle.std.proofs.Common.{MatchBool, Option, Some, None}
 use Rattle.std.specs.Prelude.{is_some}
 use Rattle.std.proofs.lemmas.List.{map-append}
-use Rattle.lot_events.specs.declared.events.Event.TheVariants.{Take, Free, Enlist, Lower, Sweep, SemTake, SemMark, SemPark, SemFree}
+use Rattle.lot_events.specs.declared.events.Event.TheVariants.{Free, Enlist, Lower, Sweep, SemTake, SemMark, SemPark}
 use Rattle.lot_events.specs.declared.events.Seen.TheVariants.{Bool as Saw, Done, Count}
 use Rattle.lot_rights.specs.declared.views.Access.{Access}
-use Rattle.lot_rights.specs.declared.views.Access.TheVariants.{Makes, Collects, Finds}
+use Rattle.lot_rights.specs.declared.views.Access.TheVariants.{Makes, Collects}
 use Rattle.lot_rights.specs.declared.views.Entry.{Entry}
 use Rattle.lot_rights.specs.declared.views.PassView.{PassView}
-use Rattle.lot_rights.specs.Steps.{Notes, pass_after}
+use Rattle.lot_rights.specs.Steps.{Notes}
 use Rattle.lot_words.specs.CallersRule.{CallersRule}
 use Rattle.lot_words.specs.declared.views.LockPassView.{LockPassView}
 use Rattle.lot_words.specs.Calls.{let_go}
 use Rattle.lot_conds.specs.Calls.{enlisted, lowering, swept_pass, woken_pass}
 use Rattle.lot_sems.specs.Calls.{seeking, gave, parked_pass, woken as sem_woken}
 use Rattle.lot_whole.specs.declared.views.LotPassView.{LotPassView}
-use Rattle.lot_whole.specs.declared.views.Stand.TheVariants.{Idle, AtBed, AtRest}
-use Rattle.lot_whole.specs.Family.{Which, lock, cond, sem}
+use Rattle.lot_whole.specs.declared.views.Stand.TheVariants.{AtRest}
+use Rattle.lot_whole.specs.Family.{lock, cond, sem}
 use Rattle.lot_whole.specs.Lifts.{lot_own}
-use Rattle.lot_whole.specs.Standing.{IsUp, IsAwake, IsIdle, MayTake, MayLetGo, MaySweep, MayTakePermit, MaySeek}
-use Rattle.lot_whole.specs.Calls.{Adds, NotesIn, FindsOf, CollectsIn, Collected, FreesPermit}
+use Rattle.lot_whole.specs.Standing.{IsUp, IsIdle, MayTake, MayLetGo, MaySweep, MayTakePermit, MaySeek}
+use Rattle.lot_whole.specs.Calls.{Adds, NotesIn, CollectsIn, Collected, FreesPermit}
 use Rattle.lot_whole.proofs.Tells.{out_none}
 
 -- ---- words

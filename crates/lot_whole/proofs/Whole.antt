@@ -1,5 +1,5 @@
 -- An event that its own part allows is one of the whole, where its thread stands as it asks; and how threads stand after it.
-use Rattle.std.proofs.Common.{◌≡◌, ◌≢◌, ℕ, Bool, true, false, List, [], ◌∷◌, refl, sym, ap, subst, ◌∙◌}
+use Rattle.std.proofs.Common.{◌≡◌, ◌≢◌, ℕ, true, false, List, [], ◌∷◌, refl, sym, ap, subst, ◌∙◌}
 use Rattle.std.specs.Prelude.{not, ◌+◌, if◌then◌else◌}
 use Rattle.std.specs.List.{Contains}
 use Rattle.lot_core.specs.World.{World, put}
@@ -23,7 +23,7 @@ use Rattle.lot_rights.specs.History.{maker}
 use Rattle.lot_rights.proofs.Puts.{put_elim}
 use Rattle.lot_words.specs.CallersRule.{CallersRule}
 use Rattle.lot_whole.specs.declared.views.Stand.{Stand}
-use Rattle.lot_whole.specs.declared.views.Stand.TheVariants.{Idle, AtBed, AtRest}
+use Rattle.lot_whole.specs.declared.views.Stand.TheVariants.{Idle, AtBed}
 use Rattle.lot_whole.specs.Family.{Which, lock, cond, sem, LotSize, scheme_of, part_in, IsEventIn}
 use Rattle.lot_whole.specs.Whole.{Joined, Joins, Stands, StandsMove, stand_of, rises, moves, Counts, counts_in, counts_of}
 

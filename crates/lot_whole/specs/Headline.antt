@@ -1,7 +1,7 @@
 -- What a lot's table promises: at every moment there is one sound state of the whole model that the words stand for,
 -- and the history without
 -- its notices is one run of the model, from the opening to it.
-use Rattle.std.specs.Prelude.{◌≡◌, ◌≢◌, ℕ, ◌<◌, true, false, List, [], map, slice_index, Option}
+use Rattle.std.specs.Prelude.{◌≡◌, ℕ, ◌<◌, true, List, map, slice_index, Option}
 use Rattle.std.specs.List.{Contains}
 use Rattle.atomic_table.specs.Table.{State}
 use Rattle.lot_core.specs.World.{World}
@@ -22,7 +22,7 @@ use Rattle.lot_whole.specs.declared.views.LotPassView.{LotPassView}
 use Rattle.lot_whole.specs.declared.views.LotRootView.{LotRootView}
 use Rattle.lot_whole.specs.Family.{Which, lock, cond, sem, LotSize, IsKeyIn, away}
 use Rattle.lot_whole.specs.Whole.{WholeStep, word_in, opening_of}
-use Rattle.lot_whole.specs.Lot.{own_of, LotWorld, lot_scheme}
+use Rattle.lot_whole.specs.Lot.{own_of, lot_scheme}
 
 -- the line of a key of the kind
 abbrev pub line_in : World → Which → ℕ → List ℕ

@@ -47,54 +47,55 @@ module _ {V Part : Type 0} (rule : CallersRule V Part) (z : LotSize) (xs : List 
   abbrev pub InPlace : Which → LotWorld rule z xs → ℕ → Type 0
   InPlace j w i = ((c : ℕ) × (IsKeyIn z j c × (i ≡ word_at c))) ⊎ ((u : ℕ) × ((u < z.threads) × (i ≡ letter_at u) × Quiet j w u))
 
+  -- so in each world that the words can stand for, and that knows the pass; the root; or both
+  abbrev pub KnowingPass : PassView (LotPassView V) → (LotWorld rule z xs → Type 0) → Type 0
+  KnowingPass p Fact = (w : LotWorld rule z xs) (ws : List ℕ) (hs : List (maybe.Option (Option V))) → LotFits rule z xs w ws hs
+      → LotPassIs rule z xs w p.thread p.own → Fact w
+
+  abbrev pub KnowingRoot : (j : Which) → RootView (RootIn j) → (LotWorld rule z xs → Type 0) → Type 0
+  KnowingRoot j q Fact = (w : LotWorld rule z xs) (ws : List ℕ) (hs : List (maybe.Option (Option V))) → LotFits rule z xs w ws hs
+      → LotRootIs rule z xs w q.key (root_from j q.own) → Fact w
+
+  abbrev pub KnowingBoth : (j : Which) → PassView (LotPassView V) → RootView (RootIn j) → (LotWorld rule z xs → Type 0) → Type 0
+  KnowingBoth j p q Fact = (w : LotWorld rule z xs) (ws : List ℕ) (hs : List (maybe.Option (Option V))) → LotFits rule z xs w ws hs
+      → LotPassIs rule z xs w p.thread p.own → LotRootIs rule z xs w q.key (root_from j q.own) → Fact w
+
   -- ---- of a pass
   -- what the kind's step tells of the pass, `told`, is enough for the lot's step to be one of the whole, and to tell `whole`
   abbrev pub CarriesPass : (j : Which) → PassView (LotPassView V) → (ℕ → PassView (PassIn V j) → Type 0)
       → (ℕ → PassView (LotPassView V) → Type 0) → Type 0
   CarriesPass j p told whole = (n : ℕ) (own : PassIn V j) (a : Access) → ((k : ℕ) → told n (pass_after (part_pass j p) own k a))
-      → MayBeAway j p.own own × ((w : LotWorld rule z xs) (ws : List ℕ) (hs : List (maybe.Option (Option V))) → LotFits rule z xs w ws hs
-      → LotPassIs rule z xs w p.thread p.own → Speaks j w a)
-      × ((k : ℕ) → whole n (pass_after p (lot_own j p.own own a) k a))
+      → MayBeAway j p.own own × KnowingPass p (λ w. Speaks j w a) × ((k : ℕ) → whole n (pass_after p (lot_own j p.own own a) k a))
 
   abbrev pub LiftsPass : Type 1
   LiftsPass = (j : Which) (i : ℕ) (f : ℕ → ℕ) (p : PassView (LotPassView V)) (told : ℕ → PassView (PassIn V j) → Type 0)
       (whole : ℕ → PassView (LotPassView V) → Type 0)
-      → AllowsPass (scheme_of rule z xs j) i f (part_pass j p) told
-      → ((w : LotWorld rule z xs) (ws : List ℕ) (hs : List (maybe.Option (Option V))) → LotFits rule z xs w ws hs
-      → LotPassIs rule z xs w p.thread p.own → InPlace j w i)
-      → CarriesPass j p told whole → AllowsPass (lot_scheme rule z xs) i f p whole
+      → AllowsPass (scheme_of rule z xs j) i f (part_pass j p) told → KnowingPass p (λ w. InPlace j w i) → CarriesPass j p told whole
+      → AllowsPass (lot_scheme rule z xs) i f p whole
 
   -- ---- of a pass and a root
   abbrev pub CarriesBoth : (j : Which) → PassView (LotPassView V) → RootView (RootIn j)
-      → (ℕ → PassView (PassIn V j) → RootView (RootIn j) → Type 0)
-      → (ℕ → PassView (LotPassView V) → RootView LotRootView → Type 0) → Type 0
+      → (ℕ → PassView (PassIn V j) → RootView (RootIn j) → Type 0) → (ℕ → PassView (LotPassView V) → RootView LotRootView → Type 0) → Type 0
   CarriesBoth j p q told whole = (n : ℕ) (own : PassIn V j) (its : RootIn j) (a : Access)
       → ((k : ℕ) → told n (pass_after (part_pass j p) own k a) (record q { own = its }))
-      → MayBeAway j p.own own
-      × ((w : LotWorld rule z xs) (ws : List ℕ) (hs : List (maybe.Option (Option V))) → LotFits rule z xs w ws hs
-      → LotPassIs rule z xs w p.thread p.own
-      → LotRootIs rule z xs w q.key (root_from j q.own) → Speaks j w a)
+      → MayBeAway j p.own own × KnowingBoth j p q (λ w. Speaks j w a)
       × ((k : ℕ) → whole n (pass_after p (lot_own j p.own own a) k a) (whole_root j (record q { own = its })))
 
   abbrev pub LiftsBoth : Type 1
   LiftsBoth = (j : Which) (f : ℕ → ℕ) (p : PassView (LotPassView V)) (q : RootView (RootIn j))
       (told : ℕ → PassView (PassIn V j) → RootView (RootIn j) → Type 0)
       (whole : ℕ → PassView (LotPassView V) → RootView LotRootView → Type 0)
-      → AllowsBoth (scheme_of rule z xs j) (word_at q.key) f (part_pass j p) q told
-      → CarriesBoth j p q told whole → AllowsBoth (lot_scheme rule z xs) (word_at q.key) f p (whole_root j q) whole
+      → AllowsBoth (scheme_of rule z xs j) (word_at q.key) f (part_pass j p) q told → CarriesBoth j p q told whole
+      → AllowsBoth (lot_scheme rule z xs) (word_at q.key) f p (whole_root j q) whole
 
-  -- ---- of a root, which posts a letter of the thread u
+  -- ---- of a root
   abbrev pub CarriesRoot : (j : Which) → RootView (RootIn j) → (ℕ → RootView (RootIn j) → Type 0) → (ℕ → RootView LotRootView → Type 0)
       → Type 0
   CarriesRoot j q told whole = (n : ℕ) (its : RootIn j) (a : Access) → ((k : ℕ) → told n (root_after q its k a))
-      → ((w : LotWorld rule z xs) (ws : List ℕ) (hs : List (maybe.Option (Option V))) → LotFits rule z xs w ws hs
-      → LotRootIs rule z xs w q.key (root_from j q.own) → Speaks j w a)
-      × ((k : ℕ) → whole n (root_after (whole_root j q) (root_from j its) k a))
+      → KnowingRoot j q (λ w. Speaks j w a) × ((k : ℕ) → whole n (root_after (whole_root j q) (root_from j its) k a))
 
   abbrev pub LiftsRoot : Type 1
   LiftsRoot = (j : Which) (i : ℕ) (f : ℕ → ℕ) (q : RootView (RootIn j)) (told : ℕ → RootView (RootIn j) → Type 0)
       (whole : ℕ → RootView LotRootView → Type 0)
-      → AllowsRoot (scheme_of rule z xs j) i f q told
-      → ((w : LotWorld rule z xs) (ws : List ℕ) (hs : List (maybe.Option (Option V))) → LotFits rule z xs w ws hs
-      → LotRootIs rule z xs w q.key (root_from j q.own) → InPlace j w i)
-      → CarriesRoot j q told whole → AllowsRoot (lot_scheme rule z xs) i f (whole_root j q) whole
+      → AllowsRoot (scheme_of rule z xs j) i f q told → KnowingRoot j q (λ w. InPlace j w i) → CarriesRoot j q told whole
+      → AllowsRoot (lot_scheme rule z xs) i f (whole_root j q) whole

@@ -18,7 +18,7 @@ use Rattle.lot_whole.specs.declared.views.LotRootView.{LotRootView}
 use Rattle.lot_whole.specs.declared.views.LotRootView.TheVariants.{Lock, Cond, Sem}
 use Rattle.lot_whole.specs.declared.views.Stand.{Stand}
 use Rattle.lot_whole.specs.declared.views.Stand.TheVariants.{Idle}
-use Rattle.lot_whole.specs.Family.{Which, lock, cond, sem, LotSize, lock_size, cond_size, sem_size, key_count, IsKeyIn, PassIn, RootIn}
+use Rattle.lot_whole.specs.Family.{Which, lock, cond, sem, LotSize, cond_size, sem_size, key_count, IsKeyIn, PassIn, RootIn}
 use Rattle.lot_whole.specs.Family.{away, homes_in, scheme_of, part_in}
 use Rattle.lot_whole.specs.Whole.{stand_of, WholeStep, word_in, counts_in, counts_of, opening_of}
 

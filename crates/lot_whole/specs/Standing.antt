@@ -1,6 +1,5 @@
 -- How a thread stands, as its pass tells it: what the calls ask for.
 use Rattle.std.specs.Prelude.{◌≡◌, ℕ, ◌≤◌, ◌⊎◌, false, slice_index, Some, None}
-use Rattle.lot_rights.specs.declared.views.RootView.{RootView}
 use Rattle.lot_words.specs.declared.views.LockRootView.{LockRootView}
 use Rattle.lot_words.specs.Rule.{no_root as no_lock_root}
 use Rattle.lot_conds.specs.declared.views.CondRootView.{CondRootView}

@@ -21,7 +21,7 @@
 //! | `free`, `pass_on`, `value_out`, `value_in` | locks | has let the lock go; has its value out, or back |
 //! | `enlist` | conditions | is at the condition's bed, with the lock that the event names |
 //! | `look`, `lower`, `call`, `sweep` | conditions | knows the flag; has taken sleepers from the line |
-//! | `try_take_permit`, `take_permit`, `mark_permit`, `park_permit` | semaphores | has a permit more, seeks one, or sleeps |
+//! | `try_take_permit`, `take_permit`, `mark_permit`, `park_permit` | semaphores | has one more, seeks one, or sleeps |
 //! | `free_permit`, `pass_permit`, `clear` | semaphores | has one permit less |
 //! | `post`, `post_cond`, `post_sem`, `collect` | letters | (the root owes one letter less); is awake again |
 //!

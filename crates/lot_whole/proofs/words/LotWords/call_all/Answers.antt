@@ -1,4 +1,4 @@
-use Rattle.std.proofs.Common.{subst, sym}
+use Rattle.std.proofs.Common.{subst}
 use Rattle.lot_events.specs.declared.events.Event.TheVariants.{Lower}
 use Rattle.lot_events.specs.declared.events.Seen.TheVariants.{Done}
 use Rattle.lot_rights.specs.declared.views.Access.TheVariants.{Makes}

@@ -8,8 +8,7 @@ use Rattle.lot_whole.specs.Rule.{size_of, scheme}
 use Rattle.lot_whole.specs.Shown.{LotWordsShown}
 use Rattle.lot_conds.proofs.Names.{enlist_names}
 use Rattle.lot_whole.proofs.Carries.{Enlists, enlists}
-use Rattle.lot_whole.specs.Calls.{NotesIn, cond_of}
-use Rattle.lot_whole.specs.Family.{cond}
+use Rattle.lot_whole.specs.Calls.{cond_of}
 use Rattle.lot_whole.proofs.Names.{cond_root, cond_named}
 use Rattle.lot_whole.proofs.words.LotWords.enlist.Goals as goal
 

@@ -5,7 +5,6 @@ use Rattle.lot_rights.specs.Steps.{AllowsBoth}
 use Rattle.lot_rights.proofs.Places.{both_at_place}
 use Rattle.lot_whole.specs.declared.views.LotRootView.{LotRootView}
 use Rattle.lot_whole.specs.Rule.{size_of, scheme}
-use Rattle.lot_whole.specs.Shown.{LotWordsShown}
 use Rattle.lot_words.proofs.Names.{park_names}
 use Rattle.lot_whole.specs.Calls.{lock_of}
 use Rattle.lot_whole.proofs.Carries.{Parks, parks}

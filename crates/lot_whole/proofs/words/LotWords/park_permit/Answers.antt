@@ -4,9 +4,8 @@ use Rattle.lot_rights.specs.Layout.{word_at}
 use Rattle.lot_rights.specs.Steps.{AllowsBoth}
 use Rattle.lot_rights.proofs.Places.{both_at_place}
 use Rattle.lot_whole.specs.declared.views.LotRootView.{LotRootView}
-use Rattle.lot_whole.specs.Family.{sem}
 use Rattle.lot_whole.specs.Rule.{size_of, scheme}
-use Rattle.lot_whole.specs.Calls.{NotesIn, sem_of}
+use Rattle.lot_whole.specs.Calls.{sem_of}
 use Rattle.lot_whole.proofs.Names.{sem_root, sem_named}
 use Rattle.lot_sems.proofs.Names.{park_names}
 use Rattle.lot_whole.proofs.Seekers.{ParksSem, parks}

@@ -9,7 +9,6 @@ use Rattle.lot_rights.specs.Steps.{AllowsBoth}
 use Rattle.lot_rights.proofs.Places.{both_at_place}
 use Rattle.lot_whole.specs.declared.views.LotRootView.{LotRootView}
 use Rattle.lot_whole.specs.Rule.{size_of, scheme}
-use Rattle.lot_whole.specs.Shown.{LotWordsShown}
 use Rattle.lot_words.specs.Calls.{let_go, passed_root, word_left}
 use Rattle.lot_words.proofs.Names.{pass_names}
 use Rattle.lot_whole.specs.Family.{lock}

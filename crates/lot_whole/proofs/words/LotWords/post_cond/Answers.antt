@@ -1,4 +1,4 @@
-use Rattle.std.proofs.Common.{◌≡◌, ◌+◌, ap, subst, refl, inl, inr}
+use Rattle.std.proofs.Common.{ap, subst, refl, inl, inr}
 use Rattle.lot_rights.specs.declared.views.Access.TheVariants.{Posts}
 use Rattle.lot_rights.specs.declared.views.RootView.{RootView}
 use Rattle.lot_rights.specs.Layout.{letter_at}

@@ -1,15 +1,13 @@
-use Rattle.std.proofs.Common.{◌≡◌, ℕ, true, false, subst, sym, MatchOption, Some}
+use Rattle.std.proofs.Common.{true, false, subst, sym, MatchOption, Some}
 use Rattle.lot_events.specs.declared.events.Event.TheVariants.{SemTake, SemMark, SemPark}
 use Rattle.lot_events.specs.declared.events.Seen.TheVariants.{Bool as Saw, Done}
 use Rattle.lot_rights.specs.declared.views.Access.TheVariants.{Makes, Collects}
 use Rattle.lot_sems.specs.Calls.{parked_pass}
 use Rattle.lot_whole.specs.Family.{sem}
 use Rattle.lot_whole.specs.Standing.{MaySeek}
-use Rattle.lot_rights.specs.declared.views.PassView.{PassView}
-use Rattle.lot_whole.specs.declared.views.LotPassView.{LotPassView}
 use Rattle.lot_whole.specs.declared.chains.Sought.TheVariants.{Again}
 use Rattle.lot_whole.specs.Chains.{SoughtBy}
-use Rattle.lot_whole.specs.Calls.{Adds, NotesIn, FoundNone, Collected, TakesPermit}
+use Rattle.lot_whole.specs.Calls.{NotesIn, FoundNone, Collected, TakesPermit}
 use Rattle.lot_whole.proofs.Waits.{adds_four, when_so, empty_seeks, marked_seeks, queued_up, queued_in, queued_seeks, woken_note}
 use Rattle.lot_whole.proofs.Waits.{woken_takes}
 use Rattle.lot_whole.proofs.words.LotWords.seek_once.Goals as goal

@@ -8,7 +8,6 @@ use Rattle.lot_rights.specs.Steps.{AllowsBoth}
 use Rattle.lot_rights.proofs.Places.{both_at_place}
 use Rattle.lot_whole.specs.declared.views.LotRootView.{LotRootView}
 use Rattle.lot_whole.specs.Rule.{size_of, scheme}
-use Rattle.lot_whole.specs.Shown.{LotWordsShown}
 use Rattle.lot_conds.specs.Calls.{swept_pass}
 use Rattle.lot_conds.proofs.Names.{sweep_names}
 use Rattle.lot_whole.proofs.Carries.{Sweeps, sweeps}

@@ -1,7 +1,6 @@
 use Rattle.std.proofs.Common.{bit_or, sym, subst, ◌<◌}
 use Rattle.lot_rights.specs.Layout.{word_at}
 use Rattle.lot_rights.proofs.Places.{pass_at_place}
-use Rattle.lot_whole.specs.Family.{cond, IsKeyIn}
 use Rattle.lot_whole.specs.Rule.{size_of, scheme}
 use Rattle.lot_whole.specs.Shown.{LotWordsShown}
 use Rattle.lot_whole.proofs.Carries.{Takes, takes}

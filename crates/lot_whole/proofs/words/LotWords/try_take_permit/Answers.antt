@@ -1,4 +1,4 @@
-use Rattle.std.proofs.Common.{◌==◌, sym, subst}
+use Rattle.std.proofs.Common.{sym, subst}
 use Rattle.lot_rights.specs.Layout.{word_at}
 use Rattle.lot_rights.proofs.Places.{pass_at_place}
 use Rattle.lot_whole.specs.Family.{sem, IsKeyIn}

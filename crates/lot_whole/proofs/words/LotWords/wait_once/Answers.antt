@@ -1,11 +1,10 @@
-use Rattle.std.proofs.Common.{◌≡◌, ℕ, true, false, subst, sym, MatchOption, Some}
+use Rattle.std.proofs.Common.{true, false, subst, MatchOption, Some}
 use Rattle.lot_events.specs.declared.events.Event.TheVariants.{Take, Free, Enlist}
 use Rattle.lot_events.specs.declared.events.Seen.TheVariants.{Bool as Saw, Done}
 use Rattle.lot_rights.specs.declared.views.Access.TheVariants.{Makes, Collects}
-use Rattle.lot_words.specs.declared.views.LockPassView.{LockPassView}
 use Rattle.lot_words.specs.Values.{IsIn}
 use Rattle.lot_whole.specs.Calls.{FoundNone, Collected}
-use Rattle.lot_whole.proofs.Waits.{Rested, adds_four, when_so, when_not, bed_lets_go, bed_keeps, bed_rests, rest_takes}
+use Rattle.lot_whole.proofs.Waits.{adds_four, when_so, when_not, bed_lets_go, bed_keeps, bed_rests, rest_takes}
 use Rattle.lot_whole.proofs.words.LotWords.wait_once.Goals as goal
 
 pub free-pass-requires-clause-may : goal.free-pass-requires-clause-may
