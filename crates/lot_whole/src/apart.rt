@@ -1,0 +1,37 @@
+//! Two passes of one table are of two threads: no lock is held by both, and they have together no more permits than
+//! there are.
+ghost use Rattle.std.specs.Prelude.{◌≡◌, ◌≢◌, ℕ, ◌+◌, ◌<◌, ◌≤◌, slice_index};
+ghost use Rattle.lot_words.specs.World.{Holds};
+ghost use Rattle.lot_whole.specs.Family.{key_count};
+ghost use Rattle.lot_whole.specs.Closing.{permits_of};
+
+use crate::kind::LotPass;
+use crate::words::LotWords;
+use lot_rights::word_of_key;
+use lot_words::Keeps;
+use std::marker::Brand;
+
+impl<V: Keeps> LotWords<V> {
+    /// Gives both passes back as they were. The point is what it proves: at most one pass holds a lock, the permits
+    /// that both have are together at most as many as at the opening, and a thread has one pass.
+    pub fn check_apart(&self, first: LotPass<V>, second: LotPass<V>) -> (LotPass<V>, LotPass<V>)
+        requires table { (first.table ≡ self.now.table) × (second.table ≡ self.now.table) }
+        ensures same { (result.0 ≡ first) × (result.1 ≡ second) }
+        ensures threads { first.pass.thread ≢ second.pass.thread }
+        ensures locks { (l : ℕ) → Holds first.pass.own.locks l → ¬ Holds second.pass.own.locks l }
+        ensures permits { (k : ℕ) → slice_index first.pass.own.sems.out k + slice_index second.pass.own.sems.out k ≤
+            permits_of self.now.size k }
+    {
+        let words = &self.words;
+        words.check_two::<Brand>(first, second)
+    }
+
+    /// The word of a key as it was just now: a lock's bits, a condition's flag, or twice the permits that a semaphore
+    /// has left and its parked bit. It is an observation, of which nothing is promised.
+    #[inline(always)]
+    pub fn bits(&self, key: usize) -> u64
+        requires { key < key_count self.now.size }
+    {
+        self.words.peek(word_of_key(key))
+    }
+}

@@ -1,0 +1,54 @@
+//! One ruled table for a whole lot: its locks with their values, its conditions and its semaphores, under one rule
+//! and in one history. For whatever keeps the rule there is one sound state of the whole model (lot_core) that the
+//! words, rights and values stand for, and the history without its notices is one run of the model from the opening
+//! to it. `close` hands that run back.
+//!
+//! No crate stands on it yet: lot_sync runs the three tables of lot_words, lot_conds and lot_sems, each usable alone,
+//! whose worlds and steps this crate takes as they are. What a kind allows for its own words, the lot allows for all
+//! (`specs/Lifts`).
+//!
+//! ```text
+//!  LotPass  for each thread        LotRoot  for each key      LotWords  a word for each key, a letter for each thread
+//!    locks  as lot_words has it      Lock, Cond or Sem,         one history, in which each call is one entry,
+//!    conds  as lot_conds has it      as its kind has it         or a look and an exchange, which are two
+//!    sems   as lot_sems has it
+//!    stand  idle, at a condition's bed, or at rest on it
+//! ```
+//!
+//! | Calls | of | The pass then |
+//! |---|---|---|
+//! | `try_take`, `take`, `take_free`, `mark`, `park` | locks | has the lock, wants it, or sleeps in its line |
+//! | `free`, `pass_on`, `value_out`, `value_in` | locks | has let the lock go; has its value out, or back |
+//! | `enlist` | conditions | is at the condition's bed, with the lock that the event names |
+//! | `look`, `lower`, `call`, `sweep` | conditions | knows the flag; has taken sleepers from the line |
+//! | `try_take_permit`, `take_permit`, `mark_permit`, `park_permit` | semaphores | has one more, seeks one, or sleeps |
+//! | `free_permit`, `pass_permit`, `clear` | semaphores | has one permit less |
+//! | `post`, `post_cond`, `post_sem`, `collect` | letters | (the root owes one letter less); is awake again |
+//!
+//! A thread waits in one kind at most, so one word serves for its letters of all kinds, and its pass tells whose
+//! letter lies there. `chains` has whole waits, notifications, acquires and releases, each proved from the contracts
+//! of its calls alone.
+//!
+//! Read `specs/Family` first (the three kinds as one family), then `specs/Whole`, `specs/Lot` (the rule),
+//! `specs/Standing` and `specs/Calls`, and `specs/Headline` and `specs/Closing` for what it promises.
+#![tactic(auto)]
+
+mod apart;
+pub mod chains;
+mod closing;
+pub mod kind;
+pub mod laws;
+mod opening;
+mod permits;
+mod posting;
+mod releasing;
+pub mod start;
+mod taking;
+pub mod views;
+mod waiting;
+pub mod words;
+
+pub use kind::{LotPass, LotRoot};
+pub use lot_rights::WordsFault;
+pub use lot_words::Keeps;
+pub use words::LotWords;
