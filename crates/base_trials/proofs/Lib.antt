@@ -1,6 +1,7 @@
 pub mod CondSchedules
 pub mod LockSchedules
 pub mod OneLock
+pub mod Owners
 pub mod SemSchedules
 pub mod Sound
 mod Idle

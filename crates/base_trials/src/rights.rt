@@ -4,6 +4,7 @@ mod conds;
 mod journal;
 mod locks;
 mod names;
+mod owners;
 mod sems;
 mod states;
 mod tally;

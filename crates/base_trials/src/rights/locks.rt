@@ -5,6 +5,7 @@ ghost use Rattle.lot_core.specs.Steps.{first as first_of};
 ghost use Rattle.lot_words.specs.Calls.{passed_root};
 ghost use Rattle.base_trials.specs.LockSchedules.{IsPass, IsCalm, Wants, Sleeps, Owns, MayFree, MayPass, IsRoot};
 
+use super::owners::{close_soundly, collect_any, take_any};
 use super::tally::Tally;
 use crate::asserts::{bits_are, equal, is_so, letter_is};
 use lot_words::{LockPass, LockRoot, LockWords};
@@ -18,7 +19,7 @@ fn take(words: &LockWords<Tally>, pass: LockPass<Tally>, key: usize) -> (LockPas
     ensures answer { MatchBool result.1 (Owns result.0.pass.own key) (Wants result.0.pass.own key) }
     ensures holds { MatchBool result.1 (result.0.pass.own.holds ≡ slice_set pass.pass.own.holds key Held) (result.0.pass.own.holds ≡ pass.pass.own.holds) }
 {
-    words.take(pass, key)
+    take_any(words, pass, key)
 }
 
 // A thread that wants the lock takes it again.
@@ -33,7 +34,7 @@ fn take_again(
     ensures answer { MatchBool result.1 (Owns result.0.pass.own key) (Wants result.0.pass.own key) }
     ensures holds { MatchBool result.1 (result.0.pass.own.holds ≡ slice_set pass.pass.own.holds key Held) (result.0.pass.own.holds ≡ pass.pass.own.holds) }
 {
-    words.take(pass, key)
+    take_any(words, pass, key)
 }
 
 fn try_take(words: &LockWords<Tally>, pass: LockPass<Tally>, key: usize) -> (LockPass<Tally>, bool)
@@ -196,7 +197,7 @@ fn collect(
     ensures handed { result.1 ≡ Some 1 → Owns result.0.pass.own key × (result.0.pass.own.holds ≡ slice_set pass.pass.own.holds key Held) }
     ensures none { result.1 ≡ None → Sleeps result.0.pass.own key × (result.0.pass.own.holds ≡ pass.pass.own.holds) }
 {
-    words.collect(pass)
+    collect_any(words, pass)
 }
 
 // Two threads take the lock, one after the other: the first hands it to the second, which sleeps by then.
@@ -303,7 +304,7 @@ fn handing_over_and_barging(rt: HostRuntime) -> Result<(), Fail> {
     passes.push_reserved(one);
     roots.push_reserved(first);
     roots.push_reserved(second);
-    let mut values = words.close(passes, roots);
+    let mut values = close_soundly(words, passes, roots);
     equal(&rt, values.take_last().total, 41);
     equal(&rt, values.take_last().total, 9);
     Ok(())

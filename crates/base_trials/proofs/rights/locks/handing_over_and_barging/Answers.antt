@@ -50,8 +50,8 @@ barge_in-zero-requires-clause-root g c =
     let second = dealt_last (root_at z) 1 c.in-Ok.roots.items c.take_last-second.new.self.items c.take_last-second.result c.take_last-second.ensures.items (len, each) in
     fresh_root_is z xs two 1 c.take_last-second.result second.0
 
-pub close-values-requires-clause-passes : goal.close-values-requires-clause-passes
-close-values-requires-clause-passes g c =
+pub close_soundly-values-requires-clause-passes : goal.close_soundly-values-requires-clause-passes
+close_soundly-values-requires-clause-passes g c =
     let thread = λ (p : PassShown (LockPassView Tally)). p.pass.thread in
     let none_left = c.take_last-zero.new.self.items in
     let is_zero = ap thread c.check_apart-zero.ensures.same.0 ∙ c.barge_in-zero.ensures.zero.0.1 in
@@ -60,8 +60,8 @@ close-values-requires-clause-passes g c =
     let one = one_back thread 1 c.push_reserved-3.new.self.items c.push_reserved-4.new.self.items c.check_apart-zero.result.1 c.push_reserved-4.ensures.items is_one zero in
     λ t near. one t (omega (arith, near, c.in-Ok.ensures.size.0))
 
-pub close-values-requires-clause-roots : goal.close-values-requires-clause-roots
-close-values-requires-clause-roots g c =
+pub close_soundly-values-requires-clause-roots : goal.close_soundly-values-requires-clause-roots
+close_soundly-values-requires-clause-roots g c =
     let key = λ (q : RootShown LockRootView). q.root.key in
     let none_left = c.take_last-first.new.self.items in
     let n : vec_len c.push_reserved-2.new.self ≡ 2 = search rules in
