@@ -18,6 +18,7 @@ use Rattle.lot_permits.specs.Permits.{PermitsView}
 use Rattle.lot_kinds.specs.Rights.{RightsView, joined}
 use Rattle.lot_locks.specs.declared.released.Released.{Released}
 use Rattle.lot_locks.proofs.Freed.{held_near}
+use Rattle.lot_locks.proofs.Waking.{found_as}
 use Rattle.lot_sync.specs.Lot.{PassView, HeldView, Owns, leaving, waking}
 use Rattle.lot_sync.specs.Values.{Gets, MayGiveBack}
 pub use Rattle.lot_passes.proofs.Holds.{owned_held, held_owned, own_on}
@@ -233,11 +234,7 @@ module _ {V Part : Type 0} (rule : CallersRule V Part) where
     aimless = q.aimless;
     awake = q.awake;
     value = q.value;
-    found = record {
-      kept = q.found.kept;
-      grown = λ s had. q.found.grown s (subst (λ vs. get_elem? vs key ≡ some s) (sym p.seen) had);
-      mine = λ s had. ap (λ t. rule.part t s) (sym p.thread) ∙ (q.found.mine s (subst (λ vs. get_elem? vs key ≡ some s) (sym p.seen) had) ∙ ap (λ t. rule.part t q.value) p.thread);
-    };
+    found = found_as rule key key b.thread a.thread b.own a.own q.value refl p.thread p.holds p.places p.seen q.found;
     places = q.places ∙ ap (λ ps. set ps key (InSlot q.value)) p.places;
     seen = q.seen ∙ ap (λ vs. set vs key q.value) p.seen;
     released = q.released ∙ p.released;

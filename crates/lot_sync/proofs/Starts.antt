@@ -41,7 +41,7 @@ unheld zero l is = is
 unheld (suc m) zero is = is
 unheld (suc m) (suc l) is = unheld m l is
 
-module _ {V : Type 0} (grows : V → V → Type 0) (itself : (x : V) → grows x x) (values : List V) (threads : ℕ) (words : LockWordsShown) (passes : List (PassShown (LockPassView V)))
+module _ {V : Type 0} (grows : V → V → Type 0) (itself : (x : V) → grows x x) (values : List V) (threads : ℕ) (words : LockWordsShown V) (passes : List (PassShown (LockPassView V)))
     (unused_passes : AreUnused values threads words passes) where
   fresh_at : (t : ℕ) → t < threads → IsFresh grows words.table values threads (pass_at words.table values t)
   fresh_at t near = record {
@@ -101,7 +101,7 @@ pub fresh_named : {V : Type 0} (grows : V → V → Type 0) (table table' : Tabl
 fresh_named grows table table' values values' threads threads' passes e f h all =
     subst (λ t. All (IsFresh grows t values' threads') passes) e (subst (λ vs. All (IsFresh grows table vs threads') passes) f (subst (λ n. All (IsFresh grows table values n) passes) h all))
 
-module _ {V : Type 0} (values : List V) (threads : ℕ) (words : LockWordsShown) (passes : List (PassShown (LockPassView V))) (roots : List (RootShown LockRootView))
+module _ {V : Type 0} (values : List V) (threads : ℕ) (words : LockWordsShown V) (passes : List (PassShown (LockPassView V))) (roots : List (RootShown LockRootView))
     (opened : IsOpened values threads words passes roots) where
   roots_at : (l : ℕ) → l < length roots → slice_get roots l ≡ Some (root_at words.table l)
   roots_at l near = opened.roots_are l (subst (λ n. l < n) opened.roots_long near)

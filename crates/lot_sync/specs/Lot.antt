@@ -6,7 +6,7 @@ pub use Rattle.lot_passes.specs.Lot.{LotView, LotNames, IsCond, IsSem, PassView,
 pub use Rattle.lot_passes.specs.Lot.{owning, leaving, waking, calling, one_more, one_less, rights_of, counts_of, IsLedgerOf}
 
 -- what joins the parts of a lot
-pub record IsLot {V : Type 0} (names : LotNames V) (threads locks conds sems : ℕ) (parking : ParkingView LotSchemeShown) : Type 0 where
+pub record IsLot {V : Type 0} (names : LotNames V) (threads locks conds sems : ℕ) (parking : ParkingView (LotSchemeShown V)) : Type 0 where
   pub words : parking.scheme.first.table ≡ names.opening.locks
   pub words_threads : parking.scheme.first.size.threads ≡ names.threads
   pub words_locks : parking.scheme.first.size.locks ≡ length names.values

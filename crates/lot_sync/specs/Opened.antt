@@ -26,7 +26,7 @@ abbrev pub KeepAll : {V : Type 0} → (ℕ → V → Type 0) → List V → Type
 KeepAll {V} keeps values = (key : ℕ) (v : V) → slice_get values key ≡ Some v → keeps key v
 
 -- nobody has used these words yet: there is a pass for each thread, in order
-pub record AreUnused {V : Type 0} (values : List V) (threads : ℕ) (words : LockWordsShown) (passes : List (PassShown (LockPassView V))) : Type 0 where
+pub record AreUnused {V : Type 0} (values : List V) (threads : ℕ) (words : LockWordsShown V) (passes : List (PassShown (LockPassView V))) : Type 0 where
   pub some_threads : 0 < threads
   pub few_threads : threads ≤ MAX_THREADS
   pub few_locks : length values ≤ MAX_KEYS
@@ -36,7 +36,7 @@ pub record AreUnused {V : Type 0} (values : List V) (threads : ℕ) (words : Loc
   pub passes_are : (t : ℕ) → t < threads → slice_get passes t ≡ Some (pass_at words.table values t)
 
 -- the rights of the opening: a pass for each thread and a root for each lock, in order
-pub record IsOpened {V : Type 0} (values : List V) (threads : ℕ) (words : LockWordsShown) (passes : List (PassShown (LockPassView V))) (roots : List (RootShown LockRootView)) : Type 0 where
+pub record IsOpened {V : Type 0} (values : List V) (threads : ℕ) (words : LockWordsShown V) (passes : List (PassShown (LockPassView V))) (roots : List (RootShown LockRootView)) : Type 0 where
   pub unused : AreUnused values threads words passes
   pub roots_long : length roots ≡ length values
   pub roots_are : (l : ℕ) → l < length values → slice_get roots l ≡ Some (root_at words.table l)

@@ -68,23 +68,23 @@ pub of-requires-clause-lot : goal.of-requires-clause-lot
 of-requires-clause-lot g c κs within =
     let named = rw (sym c.opened.view_is) at c.requires.named in
     let ok = c.in-Ok.ensures.ok in
-    let words : c.in-Ok.parking.scheme.first ≡ c.opened.inside.words = ap (λ (l : ParkingView LotSchemeShown). l.scheme.first) ok ∙ c.name-scheme.ensures.words in
+    let words : c.in-Ok.parking.scheme.first ≡ c.opened.inside.words = ap (λ (l : ParkingView (LotSchemeShown g.row.V.Denot)). l.scheme.first) ok ∙ c.name-scheme.ensures.words in
     let roots_long : vec_len c.opened.inside.roots ≡ length g.N.LotName.values =
     (let n : vec_len c.opened.inside.roots ≡ length c.opened.inside.roots.items = search rules in n
     ∙ (c.opened.invariant.0.roots_long ∙ ap length named.values)) in
     record {
-      words = ap (λ (w : LockWordsShown). w.table) words ∙ named.locks_table;
-      words_threads = ap (λ (w : LockWordsShown). w.size.threads) words ∙ (c.opened.invariant.0.unused.words_threads ∙ named.threads);
-      words_locks = ap (λ (w : LockWordsShown). w.size.locks) words ∙ (c.opened.invariant.0.unused.words_locks ∙ ap length named.values);
-      conds_threads = ap (λ (l : ParkingView LotSchemeShown). l.scheme.second.first.size.threads) ok ∙ c.name-scheme.ensures.threads.0;
-      sems_threads = ap (λ (l : ParkingView LotSchemeShown). l.scheme.second.second.size.threads) ok ∙ c.name-scheme.ensures.threads.1;
+      words = ap (λ (w : LockWordsShown g.row.V.Denot). w.table) words ∙ named.locks_table;
+      words_threads = ap (λ (w : LockWordsShown g.row.V.Denot). w.size.threads) words ∙ (c.opened.invariant.0.unused.words_threads ∙ named.threads);
+      words_locks = ap (λ (w : LockWordsShown g.row.V.Denot). w.size.locks) words ∙ (c.opened.invariant.0.unused.words_locks ∙ ap length named.values);
+      conds_threads = ap (λ (l : ParkingView (LotSchemeShown g.row.V.Denot)). l.scheme.second.first.size.threads) ok ∙ c.name-scheme.ensures.threads.0;
+      sems_threads = ap (λ (l : ParkingView (LotSchemeShown g.row.V.Denot)). l.scheme.second.second.size.threads) ok ∙ c.name-scheme.ensures.threads.1;
       named_locks = sym (locks_are named);
       named_low = sym named.low
           ∙ (c.opened.invariant.1.follow ∙ (ap (λ n. n + c.opened.inside.kinds.conds.conds)
           (c.opened.invariant.1.after_locks ∙ (ap length named.values ∙ locks_are named))
           ∙ ap (λ n. g.N.WaitName.locks + n) named.conds));
-      parking_threads = ap (λ (l : ParkingView LotSchemeShown). l.threads) ok ∙ named.threads;
-      parking_keys = ap (λ (l : ParkingView LotSchemeShown). l.keys) ok ∙ c.name-scheme.ensures.counts.1;
+      parking_threads = ap (λ (l : ParkingView (LotSchemeShown g.row.V.Denot)). l.threads) ok ∙ named.threads;
+      parking_keys = ap (λ (l : ParkingView (LotSchemeShown g.row.V.Denot)). l.keys) ok ∙ c.name-scheme.ensures.counts.1;
       own_threads = named.threads;
       own_locks = c.len-locks.ensures ∙ roots_long;
       own_conds = c.conds-conds.ensures ∙ named.conds;
@@ -94,8 +94,8 @@ of-requires-clause-lot g c κs within =
 pub settle-words-requires-clause-threads : goal.settle-words-requires-clause-threads
 settle-words-requires-clause-threads g c κs within =
     let same = c.in-Err-NoMemory-default-default.ensures.err.1 in (
-      ap (λ (s : LotSchemeShown). s.second.first.size.threads) same ∙ c.name-scheme.ensures.threads.0,
-      ap (λ (s : LotSchemeShown). s.second.second.size.threads) same ∙ c.name-scheme.ensures.threads.1,
+      ap (λ (s : LotSchemeShown g.row.V.Denot). s.second.first.size.threads) same ∙ c.name-scheme.ensures.threads.0,
+      ap (λ (s : LotSchemeShown g.row.V.Denot). s.second.second.size.threads) same ∙ c.name-scheme.ensures.threads.1,
     )
 
 pub settle-words-requires-clause-rights : goal.settle-words-requires-clause-rights

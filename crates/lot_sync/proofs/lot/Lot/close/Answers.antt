@@ -44,8 +44,8 @@ goes_on {V} rule values passes rights same found =
 
 pub settle-words-requires-clause-threads : goal.settle-words-requires-clause-threads
 settle-words-requires-clause-threads g c κs within = (
-  ap (λ (s : LotSchemeShown). s.second.first.size.threads) c.close-scheme.ensures.scheme ∙ c.self.invariant.conds_threads,
-  ap (λ (s : LotSchemeShown). s.second.second.size.threads) c.close-scheme.ensures.scheme ∙ c.self.invariant.sems_threads,
+  ap (λ (s : LotSchemeShown g.row.V.Denot). s.second.first.size.threads) c.close-scheme.ensures.scheme ∙ c.self.invariant.conds_threads,
+  ap (λ (s : LotSchemeShown g.row.V.Denot). s.second.second.size.threads) c.close-scheme.ensures.scheme ∙ c.self.invariant.sems_threads,
 )
 
 pub settle-words-requires-clause-rights : goal.settle-words-requires-clause-rights
@@ -92,13 +92,13 @@ close-requires-clause-passes g c = λ t near.
     some_before seen_as (λ (p : PassView _). p.thread ≡ t) c.gather.new.rights.items
     (subst (Any (λ (p : PassView _). p.thread ≡ t)) (sym c.gather.ensures.same) (some_after lock_side (λ (p : PassView _). p.thread ≡ t) c.args.passes.items
     (c.requires.all t (subst (λ n. t < n) (sym c.self.invariant.own_threads ∙ ap (λ (v : LotView). v.threads) c.self.view_is)
-    (subst (λ n. t < n) (ap (λ (w : LockWordsShown). w.size.threads) (c.settle-words.ensures.words.0
-    ∙ ap (λ (s : LotSchemeShown). s.first) c.close-scheme.ensures.scheme) ∙ c.self.invariant.words_threads) near)))))
+    (subst (λ n. t < n) (ap (λ (w : LockWordsShown g.row.V.Denot). w.size.threads) (c.settle-words.ensures.words.0
+    ∙ ap (λ (s : LotSchemeShown g.row.V.Denot). s.first) c.close-scheme.ensures.scheme) ∙ c.self.invariant.words_threads) near)))))
 
 pub close-requires-clause-roots : goal.close-requires-clause-roots
 close-requires-clause-roots g c = λ l near.
     c.settle-words.ensures.roots l (subst (λ n. l < n)
-    (ap (λ (w : LockWordsShown). w.size.locks) (c.settle-words.ensures.words.0 ∙ ap (λ (s : LotSchemeShown). s.first) c.close-scheme.ensures.scheme)
+    (ap (λ (w : LockWordsShown g.row.V.Denot). w.size.locks) (c.settle-words.ensures.words.0 ∙ ap (λ (s : LotSchemeShown g.row.V.Denot). s.first) c.close-scheme.ensures.scheme)
     ∙ c.self.invariant.words_locks) near)
 
 pub returns-clause-values : goal.returns-clause-values
