@@ -17,7 +17,7 @@ use atomic_table::Closed;
 use std::alloc::Global;
 
 /// Takes the value out of each slot, in order.
-fn take_values<V: Drop>(mut closed: Closed<Option<V>, Global>, mut room: Vec<V>) -> Vec<V>
+pub fn take_values<V: Drop>(mut closed: Closed<Option<V>, Global>, mut room: Vec<V>) -> Vec<V>
     requires full { IsFull closed.words × IsFull closed.slots }
     requires lie { (k : ℕ) → k < slots_len closed.slots → (y : V) × (get_elem? (slots_items closed.slots) k ≡ some (Some y)) }
     requires room { (vec_len room ≡ 0) × (slots_len closed.slots ≤ vec_capacity room) }

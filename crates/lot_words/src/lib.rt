@@ -26,7 +26,7 @@
 #![tactic(auto)]
 
 mod apart;
-mod closing;
+pub mod closing;
 pub mod exclusive;
 pub mod keeps;
 pub mod kind;

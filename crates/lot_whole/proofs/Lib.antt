@@ -1,0 +1,13 @@
+pub mod Family
+pub mod Whole
+pub mod Steps
+pub mod Lifts
+pub mod Slots
+pub mod Tells
+pub mod Carries
+pub mod Seekers
+pub mod Letters
+pub mod Moments
+pub mod Opens
+pub mod Closes
+pub mod Names

@@ -1,0 +1,163 @@
+-- What a pass tells of its thread's point in the state of the whole.
+use Rattle.std.proofs.Common.{◌≡◌, ◌≢◌, ℕ, suc, ◌<◌, ◌⊎◌, Bool, true, false, List, refl, sym, ap, subst, ◌∙◌, inl, inr, ⊎_elim, eq-eqb, Option, Some, None}
+use Rattle.std.specs.Prelude.{◌+◌, is_some}
+use Rattle.std.specs.List.{Contains}
+use mathlib.Core.Option as maybe
+use Rattle.lot_core.specs.Steps.{MayLetGo as LetsGo}
+use Rattle.lot_core.specs.Parts.{LockPart, CondPart, SemaphorePart, StandsBefore, wanted, swept_by, sought}
+use Rattle.lot_events.specs.declared.events.Point.{Point}
+use Rattle.lot_events.specs.declared.events.Point.TheVariants.{Calm, Wants, Bed, Rest, Sweeps, Seeks}
+use Rattle.lot_rights.specs.World.{awake, queued, owed}
+use Rattle.lot_words.specs.declared.views.LockPassView.{LockPassView}
+use Rattle.lot_words.specs.declared.views.LockRootView.{LockRootView}
+use Rattle.lot_words.specs.CallersRule.{CallersRule}
+use Rattle.lot_words.specs.World.{Holds}
+use Rattle.lot_words.specs.Rule.{wants_of}
+use Rattle.lot_words.proofs.Machine.{awake_is as lock_awake}
+use Rattle.lot_words.proofs.Letters.{debtor_fits}
+use Rattle.lot_conds.specs.declared.views.CondPassView.{CondPassView}
+use Rattle.lot_conds.specs.declared.views.CondRootView.{CondRootView}
+use Rattle.lot_conds.proofs.Machine.{awake_is as cond_awake}
+use Rattle.lot_conds.proofs.Letters.{waits_out}
+use Rattle.lot_sems.specs.declared.views.SemRootView.{SemRootView}
+use Rattle.lot_sems.specs.World.{sleeps, NoticeFits}
+use Rattle.lot_whole.specs.declared.views.LotPassView.{LotPassView}
+use Rattle.lot_whole.specs.declared.views.Stand.TheVariants.{Idle, AtBed, AtRest}
+use Rattle.lot_whole.specs.Family.{Which, lock, cond, sem, LotSize, away, scheme_of}
+use Rattle.lot_whole.specs.Whole.{stand_of}
+use Rattle.lot_whole.specs.Lot.{own_of, LotWorld, PassOk, LotFits, LotPassIs}
+use Rattle.lot_whole.specs.Lifts.{Quiet}
+use Rattle.lot_whole.specs.Standing.{IsUp, IsAwake, IsIdle, MayTake, MayLetGo, MayPark, MayTakePermit}
+use Rattle.lot_whole.proofs.Family.{still}
+
+-- ---- points
+calm_is : (p : Point) → wanted p ≡ None → swept_by p ≡ None → sought p ≡ None → stand_of p ≡ Idle → p ≡ Calm
+calm_is Calm w c s st = refl
+calm_is (Wants l) w c s st = absurd (let e : Some l ≡ None = w in cc)
+calm_is (Bed d l) w c s st = absurd (let e : AtBed d l ≡ Idle = st in cc)
+calm_is (Rest d l) w c s st = absurd (let e : AtRest d l ≡ Idle = st in cc)
+calm_is (Sweeps d) w c s st = absurd (let e : Some d ≡ None = c in cc)
+calm_is (Seeks k) w c s st = absurd (let e : Some k ≡ None = s in cc)
+
+wants_is : (p : Point) (l : ℕ) → wanted p ≡ Some l → p ≡ Wants l
+wants_is (Wants k) l e = let same : k ≡ l = cc in ap Wants same
+wants_is _ l e = absurd (cc)
+
+seeks_is : (p : Point) (k : ℕ) → sought p ≡ Some k → p ≡ Seeks k
+seeks_is (Seeks j) k e = let same : j ≡ k = cc in ap Seeks same
+seeks_is _ k e = absurd (cc)
+
+bed_is : (p : Point) (c l : ℕ) → stand_of p ≡ AtBed c l → p ≡ Bed c l
+bed_is (Bed d m) c l e = let a : d ≡ c = cc in let b : m ≡ l = cc in (λ i. Bed (a i) (b i))
+bed_is (Rest d m) c l e = absurd (let f : AtRest d m ≡ AtBed c l = e in cc)
+bed_is _ c l e = absurd (let f : Idle ≡ AtBed c l = e in cc)
+
+rest_is : (p : Point) (c l : ℕ) → stand_of p ≡ AtRest c l → p ≡ Rest c l
+rest_is (Bed d m) c l e = absurd (let f : AtBed d m ≡ AtRest c l = e in cc)
+rest_is (Rest d m) c l e = let a : d ≡ c = cc in let b : m ≡ l = cc in (λ i. Rest (a i) (b i))
+rest_is _ c l e = absurd (let f : Idle ≡ AtRest c l = e in cc)
+
+pub out_none : (o : Option ℕ) → is_some o ≡ false → o ≡ None
+out_none None e = refl
+out_none (Some x) e = absurd (cc)
+
+not_true : (b : Bool) → (b ≡ true → ⊥) → b ≡ false
+not_true true h = absurd (h refl)
+not_true false h = refl
+
+module _ {V Part : Type 0} (rule : CallersRule V Part) (z : LotSize) (xs : List V) (w : LotWorld rule z xs) (ws : List ℕ) (hs : List (maybe.Option (Option V))) (ok : LotFits rule z xs w ws hs) where
+  module _ (t : ℕ) (p : LotPassView V) (fit : LotPassIs rule z xs w t p) where
+    pub pass_ok : PassOk rule z xs w t p
+    pass_ok = subst (PassOk rule z xs w t) fit.1 (ok.passes t fit.0)
+
+    abbrev at : Point
+    at = w.whole.point t
+
+    -- ---- what each kind tells
+    wants : p.locks.asleep ≡ false → wanted at ≡ p.locks.aim
+    wants up =
+        let q = pass_ok.each lock in
+        let l = w.each lock in
+        let spot : l.spot t ≡ awake = lock_awake z.threads l.word l.root t (l.pass t) (l.spot t) ((ok.parts lock).kept.threads t).spot (ap (λ (x : LockPassView V). x.asleep) q.1 ∙ up) in
+        ap (λ (a : LockPart). a.wants t) (ok.agrees lock) ∙ (ap (λ s. wants_of s (l.pass t).aim) spot ∙ ap (λ (x : LockPassView V). x.aim) q.1)
+
+    sweeps : swept_by at ≡ p.conds.sweeps
+    sweeps = ap (λ (a : CondPart). a.sweeps t) (ok.agrees cond) ∙ ap (λ (x : CondPassView). x.sweeps) (pass_ok.each cond).1
+
+    seeks : sought at ≡ p.sems.seeks
+    seeks = ap (λ (a : SemaphorePart). a.seeks t) (ok.agrees sem) ∙ (pass_ok.each sem).seeks
+
+    -- who is enlisted nowhere is in no condition's line
+    in_no_line : p.conds.out ≡ None → (c : ℕ) → ¬ Contains (w.whole.conds.line c) t
+    in_no_line out c h =
+        let v = w.each cond in
+        let home = ap (λ (x : CondPassView). x.out) (pass_ok.each cond).1 ∙ out in
+        let up : v.spot t ≡ awake = cond_awake z.threads v.root t (v.pass t) (v.spot t) ((ok.parts cond).kept.threads t).spot home in
+        let line : v.spot t ≡ queued c = ((ok.parts cond).kept.threads t).in_line c (subst (λ (a : CondPart). Contains (a.conds.line c) t) (ok.agrees cond) h) in
+        let e : awake ≡ queued c = sym up ∙ line in cc
+
+    -- who holds a lock has it
+    pub has : (l : ℕ) → Holds p.locks l → w.whole.locks.has l t ≡ true
+    has l h =
+        let v = w.each lock in
+        ap (λ (a : LockPart). a.locks.has l t) (ok.agrees lock)
+        ∙ eq-eqb (v.word l).owner (suc t) (((ok.parts lock).kept.threads t).holds l (subst (λ (x : LockPassView V). Holds x l) (sym (pass_ok.each lock).1) h))
+
+    -- ---- where the thread stands
+    pub awake_calm : IsAwake p → p.stand ≡ Idle → at ≡ Calm
+    awake_calm up idle = calm_is at (wants (up.up lock) ∙ up.aim) (sweeps ∙ up.sweeps) (seeks ∙ up.seeks) (pass_ok.stand ∙ idle)
+
+    pub idle_calm : IsIdle p → at ≡ Calm
+    idle_calm idle = awake_calm idle.0 idle.1
+
+    pub may_park : (l : ℕ) → MayPark p l → StandsBefore w.whole t l
+    may_park l may = inl (wants_is at l (wants (may.0 lock) ∙ may.1))
+
+    pub may_take : (l : ℕ) → MayTake p l → (at ≡ Calm) ⊎ StandsBefore w.whole t l
+    may_take l may = ⊎_elim {C = (at ≡ Calm) ⊎ StandsBefore w.whole t l}
+        (λ h. inr (may_park l h))
+        (λ h. ⊎_elim {C = (at ≡ Calm) ⊎ StandsBefore w.whole t l} (λ idle. inl (awake_calm h.0 idle))
+        (λ rest. inr (inr (rest.0, rest_is at rest.0 l (pass_ok.stand ∙ rest.1), in_no_line (out_none p.conds.out (h.0.up cond)) rest.0))) h.1)
+        may
+
+    pub may_let_go : (l : ℕ) → MayLetGo p l → LetsGo w.whole t l
+    may_let_go l may = ⊎_elim {C = LetsGo w.whole t l} (λ idle. inl (idle_calm idle)) (λ h. inr (h.2.0, bed_is at h.2.0 l (pass_ok.stand ∙ h.2.1))) may
+
+    pub may_seek : (k : ℕ) → MayTakePermit p k → (at ≡ Calm) ⊎ (at ≡ Seeks k)
+    may_seek k may = ⊎_elim {C = (at ≡ Calm) ⊎ (at ≡ Seeks k)} (λ h. inr (seeks_is at k (seeks ∙ h.1))) (λ idle. inl (idle_calm idle)) may
+
+    -- ---- letters
+    -- where no other kind has the thread away, no other has a letter for it
+    pub quiet_else : (j : Which) → ((k : Which) → k ≢ j → away V k (own_of V p k) ≡ false) → Quiet rule z xs j w t
+    quiet_else j up k ne = still rule z xs k (w.each k) (w.words k) hs (ok.parts k) t (own_of V p k) (pass_ok.each k) (up k ne)
+
+    pub away_alone : (j : Which) → away V j (own_of V p j) ≡ true → (k : Which) → k ≢ j → away V k (own_of V p k) ≡ false
+    away_alone j up k ne = not_true (away V k (own_of V p k)) (λ there. ne (pass_ok.apart k j there up))
+
+    pub quiet : (j : Which) → away V j (own_of V p j) ≡ true → Quiet rule z xs j w t
+    quiet j up = quiet_else j (away_alone j up)
+
+  -- a thread that is away in the kind j has no letter of another
+  debtor : (j : Which) (u : ℕ) → u < z.threads → away V j (own_of V (w.pass u) j) ≡ true → (u < z.threads) × Quiet rule z xs j w u
+  debtor j u near up = (near, quiet u (w.pass u) (near, refl) j up)
+
+  -- to whom a root owes a letter is away in that kind
+  pub lock_debtor : (l u k : ℕ) (q : LockRootView) → (scheme_of rule z xs lock).RootFits (w.each lock) l q → q.owes ≡ Some (u, k) → (u < z.threads) × Quiet rule z xs lock w u
+  lock_debtor l u k q root debt =
+      let v = w.each lock in
+      let d = debtor_fits z.threads z.locks v (ok.parts lock).kept u k l (ap (λ (y : LockRootView). y.owes) root.1 ∙ debt) in
+      debtor lock u d.0.0 (ap (λ (x : LockPassView V). x.asleep) (sym ((ok.passes u d.0.0).each lock).1) ∙ d.0.1)
+
+  pub cond_debtor : (c u : ℕ) (q : CondRootView) → (scheme_of rule z xs cond).RootFits (w.each cond) c q → Contains q.owes u → (u < z.threads) × Quiet rule z xs cond w u
+  cond_debtor c u q root debt =
+      let v = w.each cond in
+      let d = waits_out z.threads (z.locks + z.conds) v (ok.parts cond).kept u c (subst (λ (y : CondRootView). Contains y.owes u) (sym root.1) debt) in
+      debtor cond u d.0.0 (ap is_some (ap (λ (x : CondPassView). x.out) (sym ((ok.passes u d.0.0).each cond).1) ∙ d.0.1))
+
+  pub sem_debtor : (k u : ℕ) (q : SemRootView) → (scheme_of rule z xs sem).RootFits (w.each sem) k q → q.owes ≡ Some u → (u < z.threads) × Quiet rule z xs sem w u
+  sem_debtor k u q root debt =
+      let v = w.each sem in
+      let n = (ok.parts sem).letters in
+      let at : v.spot u ≡ owed k 0 = n.is_owed u k (root.2 ∙ debt) in
+      let fits : NoticeFits z.threads v.part.sems.line v.part.seeks v.owes u (owed k 0) = subst (NoticeFits z.threads v.part.sems.line v.part.seeks v.owes u) at (n.fits u) in
+      debtor sem u fits.0 (sym ((ok.passes u fits.0).each sem).asleep ∙ ap sleeps at)

@@ -1,0 +1,32 @@
+use Rattle.std.proofs.Common.{◌≡◌, ◌-◌, ◌^◌, ◌∙◌, bit_and, ap, subst, refl, inl}
+use Rattle.lot_rights.specs.declared.views.RootView.{RootView}
+use Rattle.lot_rights.specs.Layout.{word_at}
+use Rattle.lot_rights.specs.Steps.{AllowsBoth}
+use Rattle.lot_rights.proofs.Places.{both_at_place}
+use Rattle.lot_whole.specs.declared.views.LotRootView.{LotRootView}
+use Rattle.lot_whole.specs.Family.{sem}
+use Rattle.lot_whole.specs.Rule.{size_of, scheme}
+use Rattle.lot_whole.specs.Calls.{NotesIn, sem_of}
+use Rattle.lot_whole.proofs.Names.{sem_root, sem_named}
+use Rattle.lot_whole.proofs.Seekers.{Clears, clears}
+use Rattle.lot_whole.proofs.words.LotWords.clear.Goals as goal
+
+pub fetch_and_both-pass-requires-clause-allows : goal.fetch_and_both-pass-requires-clause-allows
+fetch_and_both-pass-requires-clause-allows g c =
+    let start = c.self.inside.words.key in
+    let p = c.args.pass.pass in
+    let q = c.args.root.root in
+    both_at_place (scheme g.V.Keeps start) (word_at q.key) _ c.word-word.ensures.is (λ n. bit_and n (2 ^ 64 - 2)) p q (λ _. Clears p (sem_of q))
+    (subst (λ r. AllowsBoth (scheme g.V.Keeps start) (word_at q.key) (λ n. bit_and n (2 ^ 64 - 2)) p r (λ _. Clears p (sem_of q))) (sem_root q c.requires.sem)
+    (clears g.V.Keeps (size_of start) start.values.value.items p (sem_of q) c.requires.idle c.requires.nobody))
+
+pub fetch_and_both-pass-requires-clause-names : goal.fetch_and_both-pass-requires-clause-names
+fetch_and_both-pass-requires-clause-names g c n p' q' told u h =
+    sem_named c.args.root.root.own q'.own u (u ≡ c.args.pass.pass.thread) c.requires.sem _ (ap (λ (z : RootView LotRootView). z.own) told.1)
+    (λ named. inl named) h
+
+pub returns-clause-entry : goal.returns-clause-entry
+returns-clause-entry g c = c.fetch_and_both-pass.ensures.told.0
+
+pub returns-clause-root : goal.returns-clause-root
+returns-clause-root g c = c.fetch_and_both-pass.ensures.told.1 ∙ sem_root c.args.root.root c.requires.sem

@@ -1,0 +1,5 @@
+use Rattle.lot_whole.proofs.Carries.{Frees}
+use Rattle.lot_whole.proofs.words.LotWords.free.Given as goal
+
+abbrev pub ghosts-compare_exchange : goal.ghosts-compare_exchange
+ghosts-compare_exchange g a = record { then = Frees a.pass.pass a._about }

@@ -1,0 +1,11 @@
+use Rattle.lot_events.specs.declared.events.Event.TheVariants.{SemFree}
+use Rattle.lot_sems.specs.Calls.{gave}
+use Rattle.lot_whole.proofs.Seekers.{Swaps}
+use Rattle.lot_whole.specs.Calls.{FindsOf}
+use Rattle.lot_whole.proofs.words.LotWords.free_permit.Given as goal
+
+abbrev pub ghosts-load : goal.ghosts-load
+ghosts-load g a = record { then = FindsOf a.pass.pass a._about }
+
+abbrev pub ghosts-compare_exchange : goal.ghosts-compare_exchange
+ghosts-compare_exchange g a = let p = a.pass.pass in record { then = Swaps p a._about (gave p.own.sems a._about) (SemFree p.thread a._about) a.old }

@@ -1,0 +1,5 @@
+use Rattle.lot_whole.proofs.Seekers.{MarksPermit}
+use Rattle.lot_whole.proofs.words.LotWords.mark_permit.Given as goal
+
+abbrev pub ghosts-compare_exchange : goal.ghosts-compare_exchange
+ghosts-compare_exchange g a = record { then = MarksPermit a.pass.pass a._about }

@@ -1,0 +1,10 @@
+use Rattle.std.proofs.Common.{true, false}
+use Rattle.lot_whole.specs.Calls.{lock_of}
+use Rattle.lot_whole.proofs.Carries.{Passes}
+use Rattle.lot_whole.proofs.words.LotWords.pass_on.Given as goal
+
+abbrev pub ghosts-load_both : goal.ghosts-load_both
+ghosts-load_both g a = record { then = λ n. Passes a.pass.pass (lock_of a.root.root) true a._about }
+
+abbrev pub ghosts-store_both : goal.ghosts-store_both
+ghosts-store_both g a = record { then = λ n. Passes a.pass.pass (lock_of a.root.root) false a._about }

@@ -1,0 +1,21 @@
+use Rattle.std.proofs.Common.{◌==◌, sym, subst, ◌<◌}
+use prog.Atomic.{either}
+use Rattle.lot_rights.specs.Layout.{word_at}
+use Rattle.lot_rights.proofs.Places.{pass_at_place}
+use Rattle.lot_whole.specs.Family.{cond, IsKeyIn}
+use Rattle.lot_whole.specs.Rule.{size_of, scheme}
+use Rattle.lot_whole.specs.Shown.{LotWordsShown}
+use Rattle.lot_whole.proofs.Carries.{TakesFree, takes_free}
+use Rattle.lot_whole.proofs.words.LotWords.take_free.Goals as goal
+
+pub compare_exchange-pass-requires-clause-allows : goal.compare_exchange-pass-requires-clause-allows
+compare_exchange-pass-requires-clause-allows g c =
+    let start = c.self.inside.words.key in
+    let key = c.args.key in
+    let p = c.args.pass.pass in
+    let here = subst (λ (z : LotWordsShown g.row.V.Denot). key < z.size.locks) (sym c.self.view_is) c.requires.key in
+    pass_at_place (scheme g.V.Keeps start) (word_at key) _ c.word_of_key-place.ensures (λ n. either (n == 0) 1 n) p (TakesFree g.V.Keeps p key)
+    (takes_free g.V.Keeps (size_of start) start.values.value.items p key here c.requires.may)
+
+pub returns-clause-event : goal.returns-clause-event
+returns-clause-event g c = c.compare_exchange-pass.ensures.told

@@ -1,0 +1,5 @@
+use Rattle.lot_whole.proofs.Seekers.{Seeks}
+use Rattle.lot_whole.proofs.words.LotWords.take_permit.Given as goal
+
+abbrev pub ghosts-load : goal.ghosts-load
+ghosts-load g a = record { then = Seeks a.pass.pass a._about }

@@ -1,0 +1,50 @@
+-- What `close` asks for and tells.
+use Rattle.std.specs.Prelude.{◌≡◌, ℕ, ◌+◌, List, slice_index, sum_by, None}
+use Rattle.std.specs.List.{All}
+use Rattle.lot_core.specs.World.{World}
+use Rattle.lot_core.specs.Rows.{row_from}
+use Rattle.lot_rights.specs.Closing.{IsRecounted}
+use Rattle.lot_rights.specs.History.{events_in}
+use Rattle.lot_rights.specs.Shown.{PassShown, RootShown}
+use Rattle.lot_words.specs.World.{Holds}
+use Rattle.lot_whole.specs.declared.views.LotPassView.{LotPassView}
+use Rattle.lot_whole.specs.declared.views.LotRootView.{LotRootView}
+use Rattle.lot_whole.specs.declared.views.LotRootView.TheVariants.{Lock, Cond, Sem}
+use Rattle.lot_whole.specs.Family.{LotSize}
+use Rattle.lot_whole.specs.Whole.{WholeStep, opening_of}
+use Rattle.lot_whole.specs.Headline.{IsOneRun}
+
+-- the pass holds no lock, and waits on no condition
+abbrev pub HasDone : {V : Type 0} → PassShown (LotPassView V) → Type 0
+HasDone p = ((l : ℕ) → ¬ Holds p.pass.own.locks l) × (p.pass.own.conds.out ≡ None)
+
+module _ {V : Type 0} where
+  -- the ledger of c: how many sleepers these passes took from its line, and how many of their waits on it found their letter
+  abbrev pub called_in : List (PassShown (LotPassView V)) → ℕ → ℕ
+  called_in passes c = sum_by (λ (p : PassShown (LotPassView V)). slice_index p.pass.own.conds.called c) passes
+
+  abbrev pub woken_in : List (PassShown (LotPassView V)) → ℕ → ℕ
+  woken_in passes c = sum_by (λ (p : PassShown (LotPassView V)). slice_index p.pass.own.conds.woken c) passes
+
+  -- how many permits of k are out with these passes
+  abbrev pub out_with : List (PassShown (LotPassView V)) → ℕ → ℕ
+  out_with passes k = sum_by (λ (p : PassShown (LotPassView V)). slice_index p.pass.own.sems.out k) passes
+
+-- how many permits k has at the opening
+abbrev pub permits_of : LotSize → ℕ → ℕ
+permits_of z = row_from 0 (z.locks + z.conds) z.permits
+
+-- the line that a key's root tells is the one of the state
+abbrev pub LineIs : World → ℕ → LotRootView → Type 0
+LineIs s l (Lock q) = s.locks.line l ≡ q.line
+LineIs s c (Cond q) = s.conds.line c ≡ q.line
+LineIs s k (Sem q) = s.sems.line k ≡ q.line
+
+-- One history was made with these rights, and each shows its own entries of it, in their order. Without its notices it is one run of the whole
+-- model, from the opening to a sound state, which has the lines that the roots tell; and the permits that it has left and those that are
+-- out with the passes are together all that there were
+pub record IsToldTo {V : Type 0} (z : LotSize) (passes : List (PassShown (LotPassView V))) (roots : List (RootShown LotRootView)) : Type 0 where
+  pub recounted : IsRecounted WholeStep (opening_of z) passes roots
+  pub run : IsOneRun z (events_in recounted.log) recounted.part
+  pub lines : All (λ (q : RootShown LotRootView). LineIs recounted.part q.root.key q.root.own) roots
+  pub permits : (k : ℕ) → recounted.part.sems.left k + out_with passes k ≡ permits_of z k

@@ -1,0 +1,87 @@
+-- What a kind allows, the lot allows: the statements, of a kind j. A call of the lot is a call of its kind, and what is asked beside that is what the call carries.
+use Rattle.std.specs.Prelude.{◌≡◌, ◌≢◌, ℕ, ◌<◌, ◌⊎◌, true, false, List, Option}
+use mathlib.Core.Option as maybe
+use Rattle.lot_core.specs.Parts.{AsksOfThread}
+use Rattle.lot_rights.specs.declared.views.Access.{Access}
+use Rattle.lot_rights.specs.declared.views.Access.TheVariants.{Makes, Posts, Collects, Finds}
+use Rattle.lot_rights.specs.declared.views.PassView.{PassView}
+use Rattle.lot_rights.specs.declared.views.RootView.{RootView}
+use Rattle.lot_rights.specs.Layout.{word_at, letter_at}
+use Rattle.lot_rights.specs.Steps.{pass_after, root_after, AllowsPass, AllowsBoth, AllowsRoot}
+use Rattle.lot_words.specs.CallersRule.{CallersRule}
+use Rattle.lot_whole.specs.declared.views.LotPassView.{LotPassView}
+use Rattle.lot_whole.specs.declared.views.LotRootView.{LotRootView}
+use Rattle.lot_whole.specs.Family.{Which, LotSize, IsKeyIn, PassIn, RootIn, away, scheme_of, IsEventIn, dput}
+use Rattle.lot_whole.specs.Whole.{moves_by}
+use Rattle.lot_whole.specs.Lot.{own_of, pass_from, root_from, LotWorld, letters_in, LotFits, LotPassIs, LotRootIs, lot_scheme}
+
+-- the pass as a kind sees it, and a kind's root as the lot has it
+abbrev pub part_pass : {V : Type 0} (j : Which) → PassView (LotPassView V) → PassView (PassIn V j)
+part_pass {V} j p = record { thread = p.thread; made = p.made; own = own_of V p.own j }
+
+abbrev pub whole_root : (j : Which) → RootView (RootIn j) → RootView LotRootView
+whole_root j q = record { key = q.key; made = q.made; own = root_from j q.own }
+
+-- what the pass p knows after the access a, with which it came to know this in the kind j
+abbrev pub lot_own : {V : Type 0} (j : Which) → LotPassView V → PassIn V j → Access → LotPassView V
+lot_own {V} j p own a = pass_from V (dput {X = PassIn V} j own (own_of V p)) (moves_by a p.stand)
+
+-- the thread is away in one kind at most, then too
+abbrev pub MayBeAway : {V : Type 0} (j : Which) → LotPassView V → PassIn V j → Type 0
+MayBeAway {V} j p own = away V j own ≡ true → (away V j (own_of V p j) ≡ true) ⊎ ((k : Which) → k ≢ j → away V k (own_of V p k) ≡ false)
+
+module _ {V Part : Type 0} (rule : CallersRule V Part) (z : LotSize) (xs : List V) where
+  -- no other kind has a letter for the thread u
+  abbrev pub Quiet : Which → LotWorld rule z xs → ℕ → Type 0
+  Quiet j w u = (k : Which) → k ≢ j → letters_in rule z xs w k u ≡ 0
+
+  -- the access is one of the kind, and its thread stands as it asks
+  abbrev pub Speaks : Which → LotWorld rule z xs → Access → Type 0
+  Speaks j w (Makes e saw) = IsEventIn j e × AsksOfThread w.whole e
+  Speaks j w (Posts c u token) = Quiet j w u
+  Speaks j w (Collects u found) = Quiet j w u
+  Speaks j w (Finds u c x) = IsKeyIn z j c
+
+  -- the place i is that of a key of the kind, or of a letter that no other kind has
+  abbrev pub InPlace : Which → LotWorld rule z xs → ℕ → Type 0
+  InPlace j w i = ((c : ℕ) × (IsKeyIn z j c × (i ≡ word_at c))) ⊎ ((u : ℕ) × ((u < z.threads) × (i ≡ letter_at u) × Quiet j w u))
+
+  -- ---- of a pass
+  -- what the kind's step tells of the pass, `told`, is enough for the lot's step to be one of the whole, and to tell `whole`
+  abbrev pub CarriesPass : (j : Which) → PassView (LotPassView V) → (ℕ → PassView (PassIn V j) → Type 0) → (ℕ → PassView (LotPassView V) → Type 0) → Type 0
+  CarriesPass j p told whole = (n : ℕ) (own : PassIn V j) (a : Access) → ((k : ℕ) → told n (pass_after (part_pass j p) own k a))
+      → MayBeAway j p.own own × ((w : LotWorld rule z xs) (ws : List ℕ) (hs : List (maybe.Option (Option V))) → LotFits rule z xs w ws hs → LotPassIs rule z xs w p.thread p.own → Speaks j w a)
+      × ((k : ℕ) → whole n (pass_after p (lot_own j p.own own a) k a))
+
+  abbrev pub LiftsPass : Type 1
+  LiftsPass = (j : Which) (i : ℕ) (f : ℕ → ℕ) (p : PassView (LotPassView V)) (told : ℕ → PassView (PassIn V j) → Type 0) (whole : ℕ → PassView (LotPassView V) → Type 0)
+      → AllowsPass (scheme_of rule z xs j) i f (part_pass j p) told
+      → ((w : LotWorld rule z xs) (ws : List ℕ) (hs : List (maybe.Option (Option V))) → LotFits rule z xs w ws hs → LotPassIs rule z xs w p.thread p.own → InPlace j w i)
+      → CarriesPass j p told whole → AllowsPass (lot_scheme rule z xs) i f p whole
+
+  -- ---- of a pass and a root
+  abbrev pub CarriesBoth : (j : Which) → PassView (LotPassView V) → RootView (RootIn j) → (ℕ → PassView (PassIn V j) → RootView (RootIn j) → Type 0)
+      → (ℕ → PassView (LotPassView V) → RootView LotRootView → Type 0) → Type 0
+  CarriesBoth j p q told whole = (n : ℕ) (own : PassIn V j) (its : RootIn j) (a : Access) → ((k : ℕ) → told n (pass_after (part_pass j p) own k a) (record q { own = its }))
+      → MayBeAway j p.own own
+      × ((w : LotWorld rule z xs) (ws : List ℕ) (hs : List (maybe.Option (Option V))) → LotFits rule z xs w ws hs → LotPassIs rule z xs w p.thread p.own
+      → LotRootIs rule z xs w q.key (root_from j q.own) → Speaks j w a)
+      × ((k : ℕ) → whole n (pass_after p (lot_own j p.own own a) k a) (whole_root j (record q { own = its })))
+
+  abbrev pub LiftsBoth : Type 1
+  LiftsBoth = (j : Which) (f : ℕ → ℕ) (p : PassView (LotPassView V)) (q : RootView (RootIn j)) (told : ℕ → PassView (PassIn V j) → RootView (RootIn j) → Type 0)
+      (whole : ℕ → PassView (LotPassView V) → RootView LotRootView → Type 0)
+      → AllowsBoth (scheme_of rule z xs j) (word_at q.key) f (part_pass j p) q told
+      → CarriesBoth j p q told whole → AllowsBoth (lot_scheme rule z xs) (word_at q.key) f p (whole_root j q) whole
+
+  -- ---- of a root, which posts a letter of the thread u
+  abbrev pub CarriesRoot : (j : Which) → RootView (RootIn j) → (ℕ → RootView (RootIn j) → Type 0) → (ℕ → RootView LotRootView → Type 0) → Type 0
+  CarriesRoot j q told whole = (n : ℕ) (its : RootIn j) (a : Access) → ((k : ℕ) → told n (root_after q its k a))
+      → ((w : LotWorld rule z xs) (ws : List ℕ) (hs : List (maybe.Option (Option V))) → LotFits rule z xs w ws hs → LotRootIs rule z xs w q.key (root_from j q.own) → Speaks j w a)
+      × ((k : ℕ) → whole n (root_after (whole_root j q) (root_from j its) k a))
+
+  abbrev pub LiftsRoot : Type 1
+  LiftsRoot = (j : Which) (i : ℕ) (f : ℕ → ℕ) (q : RootView (RootIn j)) (told : ℕ → RootView (RootIn j) → Type 0) (whole : ℕ → RootView LotRootView → Type 0)
+      → AllowsRoot (scheme_of rule z xs j) i f q told
+      → ((w : LotWorld rule z xs) (ws : List ℕ) (hs : List (maybe.Option (Option V))) → LotFits rule z xs w ws hs → LotRootIs rule z xs w q.key (root_from j q.own) → InPlace j w i)
+      → CarriesRoot j q told whole → AllowsRoot (lot_scheme rule z xs) i f (whole_root j q) whole

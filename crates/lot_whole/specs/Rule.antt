@@ -1,0 +1,20 @@
+-- The rule, by what the table was told when it was made.
+use Rattle.std.specs.Prelude.{Option}
+use Rattle.lot_rights.specs.Rule.{Scheme}
+use Rattle.lot_rights.specs.Settled.{HasOneOutcome}
+use Rattle.lot_words.specs.CallersRule.{CallersRule}
+use Rattle.lot_whole.specs.declared.start.Start.{Start}
+use Rattle.lot_whole.specs.declared.views.LotPassView.{LotPassView}
+use Rattle.lot_whole.specs.declared.views.LotRootView.{LotRootView}
+use Rattle.lot_whole.specs.Family.{LotSize}
+use Rattle.lot_whole.specs.Lot.{lot_scheme, one_outcome}
+
+abbrev pub size_of : {V : Type 0} → Start V → LotSize
+size_of start = record { threads = start.threads; locks = start.locks; conds = start.conds; permits = start.permits.value.items }
+
+module _ {V Part : Type 0} (rule : CallersRule V Part) where
+  abbrev pub scheme : Start V → Scheme (Option V) (LotPassView V) LotRootView
+  scheme start = lot_scheme rule (size_of start) start.values.value.items
+
+  pub one_outcome_of : (start : Start V) → HasOneOutcome (scheme start)
+  one_outcome_of start = one_outcome rule (size_of start) start.values.value.items

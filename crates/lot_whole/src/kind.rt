@@ -1,0 +1,43 @@
+//! The kind of table that a lot's words make.
+use crate::start::Start;
+use crate::views::{PassKnowledge, RootKnowledge};
+use lot_rights::{Kind, PassOf, RootOf};
+use lot_words::Keeps;
+use std::marker::PhantomData;
+
+/// The words of a whole lot: of its locks, conditions and semaphores, with a slot for each lock's value. Contracts alone read it.
+pub struct Lot<V> {
+    of: PhantomData<V>,
+}
+
+impl<V: Keeps> Kind for Lot<V> {
+    ghost use Rattle.lot_whole.specs.Rule.{scheme, one_outcome_of};
+    ghost use Rattle.lot_whole.specs.Lot.{no_pass, no_root, names};
+
+    type Slot = Option<V>;
+
+    type Pass = PassKnowledge<V>;
+
+    type Root = RootKnowledge;
+
+    type Key = Start<V>;
+
+    ghost scheme = { scheme V.Keeps };
+
+    ghost no_pass = { no_pass };
+
+    ghost no_root = { no_root };
+
+    ghost names = { names };
+
+    ghost table_in = { λ o. o.locks };
+
+    ghost one_outcome = { one_outcome_of V.Keeps };
+}
+
+/// The right to act as one thread. Contracts see it as its table and a `PassView`, whose `own` is a `LotPassView`.
+pub type LotPass<V> = PassOf<Lot<V>>;
+
+/// The right to change the line of one key, of whatever kind. Contracts see it as its table and a `RootView`, whose `own` is a
+/// `LotRootView`.
+pub type LotRoot<V> = RootOf<Lot<V>>;

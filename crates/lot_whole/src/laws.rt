@@ -1,0 +1,32 @@
+//! What the rule of a lot means: laws, each the contract of a function that does nothing. Those of the history itself, which are the same
+//! for every kind of table, are lot_rights' (`lot_rights::laws`).
+ghost use Rattle.std.specs.Prelude.{List, Option};
+ghost use Rattle.atomic_table.specs.Table.{State};
+ghost use Rattle.lot_rights.specs.declared.views.Right.{Right};
+ghost use Rattle.lot_rights.specs.Rule.{Ruled};
+ghost use Rattle.lot_whole.specs.declared.views.LotPassView.{LotPassView};
+ghost use Rattle.lot_whole.specs.declared.views.LotRootView.{LotRootView};
+ghost use Rattle.lot_whole.specs.Family.{LotSize};
+ghost use Rattle.lot_whole.specs.Whole.{Joins, StandsMove};
+ghost use Rattle.lot_whole.specs.Lot.{lot_scheme};
+ghost use Rattle.lot_whole.specs.Headline.{OneState, Promises};
+
+use lot_words::Keeps;
+
+/// A step that a kind allows is one of the whole where its thread stands as the event asks, and leaves the other kinds' parts as they
+/// are; and of what no part tells, its own thread alone moves.
+pub fn parts_join<V: Keeps>()
+    ensures joins { (z : LotSize) (xs : List V) → Joins V.Keeps z xs }
+    ensures stands { StandsMove }
+{}
+
+/// At every moment there is one sound state of the whole model that the words stand for, and the history without its notices is one run of
+/// the model from the opening to it. In it each thread is in one line at most, over all kinds.
+pub fn one_state_at_every_moment<V: Keeps>()
+    ensures { (z : LotSize) (xs : List V) (s : State (Option V) (List (Right (LotPassView V) LotRootView))) (here : Ruled (lot_scheme V.Keeps z xs) s) → OneState V.Keeps z xs s here }
+{}
+
+/// What keeps the rule of a lot keeps all that the locks', the conditions' and the semaphores' rules promise, of one world.
+pub fn the_rule_is_the_headline<V: Keeps>()
+    ensures { (z : LotSize) (xs : List V) (s : State (Option V) (List (Right (LotPassView V) LotRootView))) (here : Ruled (lot_scheme V.Keeps z xs) s) → Promises V.Keeps z xs s here }
+{}

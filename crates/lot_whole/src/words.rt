@@ -1,0 +1,66 @@
+//! The table of a lot.
+ghost use Rattle.std.specs.Prelude.{◌≡◌, ◌<◌, ◌≤◌, vec_len, vec_capacity};
+ghost use Rattle.lot_core.specs.declared.state.TheConstants.{MAX_THREADS, MAX_KEYS};
+ghost use Rattle.lot_rights.specs.Layout.{word_count};
+ghost use Rattle.lot_whole.specs.Family.{key_count};
+ghost use Rattle.lot_whole.specs.Rule.{size_of};
+
+use crate::kind::Lot;
+use lot_rights::{OfOpening, WordsOf};
+use lot_words::Keeps;
+use lot_words::exclusive::Exclusive;
+use std::marker::Model;
+
+/// The word of a lock that nobody has, and on which nobody is marked as parked.
+pub(crate) const UNHELD: u64 = 0;
+
+/// The word of a lock that a thread has, and the bit that says so.
+pub(crate) const HELD: u64 = 1;
+
+/// The word of a lock that nobody has, and on which threads are marked as parked.
+pub(crate) const LOCK_PARKED: u64 = 2;
+
+/// The word of a lock that a thread has, and on which threads are marked as parked.
+pub(crate) const HELD_AND_PARKED: u64 = 3;
+
+/// The flag of a condition on which nobody waits.
+pub(crate) const CLEAR: u64 = 0;
+
+/// The flag of a condition on which threads may wait.
+pub(crate) const HAS_WAITERS: u64 = 1;
+
+/// The word of a semaphore of which no permit is left, and on which nobody is marked as parked.
+pub(crate) const NONE_LEFT: u64 = 0;
+
+/// The word of a semaphore of which no permit is left, and on which threads are marked as parked; and the bit that says so.
+pub(crate) const SEM_PARKED: u64 = 1;
+
+/// One permit, in a word.
+pub(crate) const PERMIT: u64 = 2;
+
+/// The words of all locks, conditions and semaphores, the letters of all threads, and a slot for each lock's value, under one rule.
+pub struct LotWords<V: Keeps> {
+    pub(crate) words: WordsOf<Lot<V>>,
+    // `close` puts the values here.
+    pub(crate) room: Exclusive<Vec<V>>,
+    pub(crate) ghost some: { 0 < words.key.threads },
+    pub(crate) ghost few: { (words.key.threads ≤ MAX_THREADS) × (key_count (size_of words.key) ≤ MAX_KEYS) },
+    pub(crate) ghost words_are: { words.table.words ≡ word_count words.key.threads (key_count (size_of words.key)) },
+    pub(crate) ghost slots_are: { words.table.slots ≡ words.key.locks },
+    pub(crate) ghost room_fits: { (vec_len room.value ≡ 0) × (words.key.locks ≤ vec_capacity room.value) },
+}
+
+impl<V: Keeps> Model for LotWords<V> {
+    ghost use Rattle.lot_whole.specs.Rule.{size_of};
+    ghost use Rattle.lot_whole.specs.Shown.{LotWordsShown};
+
+    ghost Value = { LotWordsShown V };
+
+    ghost view = { λ s. record { table = s.words.table; size = size_of s.words.key; values = s.words.key.values.value.items } };
+}
+
+impl<V: Keeps> OfOpening for LotWords<V> {
+    ghost use Rattle.std.specs.Prelude.{◌≡◌};
+
+    ghost is_of = { λ o p. p.table ≡ o.locks };
+}
