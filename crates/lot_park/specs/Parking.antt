@@ -158,7 +158,20 @@ module _ {R : Type 0} (view : R → KeyLine) where
     pub called : answers root (x, pass, back, queued)
 
   -- A parking called its validation once, with some root of the key. It is invalid exactly where that said
-  -- no. Where it said yes, the action before sleep ran once, and the letter with the token was awaited.
+  -- no. Where it said yes, the action ran once then, with what the validation answered, and the letter with the token was awaited from the pass
+  -- that the action left.
+  pub record ParkedActing {X P : Type 0} (k : ℕ) (answers : R → X × P × R × Bool → Type 0) (acts : X → P → X × P → Type 0) (looked : P → Option ℕ → P → Type 0) (result : P × X × Parked) : Type 0 where
+    pub root : R
+    pub answer : X × P × R × Bool
+    pub named : (view root).key ≡ k
+    pub paid : (view root).owes ≡ []
+    pub called : answers root answer
+    pub ends : Ends result.2
+        ((answer.3 ≡ false) × (result.0 ≡ answer.1) × (result.1 ≡ answer.0))
+        (λ token. (answer.3 ≡ true) × ((left : X × P) × acts answer.0 answer.1 left × Awaited looked left.1 token result.0 × (result.1 ≡ left.0)))
+
+  -- The same of an action that leaves the pass alone: it is invalid exactly where the validation said no, and where that said yes, the action
+  -- before sleep ran once, and the letter with the token was awaited.
   pub record ParkedOnce {X P : Type 0} (k : ℕ) (answers : R → X × P × R × Bool → Type 0) (acts : X → X → Type 0) (looked : P → Option ℕ → P → Type 0) (result : P × X × Parked) : Type 0 where
     pub root : R
     pub answer : X × P × R × Bool

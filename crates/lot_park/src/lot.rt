@@ -58,7 +58,7 @@ impl<S: Scheme> Model for ParkingLot<S> {
 impl<S: Scheme> ParkingLot<S> {
     ghost use Rattle.lot_park.specs.Lots.{ParkingView, AreIdle, Appends};
     ghost use Rattle.lot_table.specs.Sizes.{Serves};
-    ghost use Rattle.lot_park.specs.Parking.{IsOpenFor, MayUnpark, Unparks, UnparkedOne, MayUnparkAll, UnparksAll, UnparkedAll, MayUnparkCount, UnparksCount, UnparkedCount, MayValidate, Validates, Validated, Awaited, ParkedOnce};
+    ghost use Rattle.lot_park.specs.Parking.{IsOpenFor, MayUnpark, Unparks, UnparkedOne, MayUnparkAll, UnparksAll, UnparkedAll, MayUnparkCount, UnparksCount, UnparkedCount, MayValidate, Validates, Validated, Awaited, ParkedActing, ParkedOnce};
 
     /// A lot for so many threads, with a key for each root: root `i` is that of key `i`.
     ///
@@ -126,11 +126,43 @@ impl<S: Scheme> ParkingLot<S> {
         requires sleeps { (r : S.Root) (o : _) → (S.Root.view r).key ≡ key → (S.Root.view r).owes ≡ [] → V.post validate x pass r o → o.3 ≡ true → B.pre before_sleep o.0 }
         ensures { ParkedOnce S.Root.view key (V.post validate x pass) (B.post before_sleep) S.looked result }
     {
+        let act = |x: X, pass: S::Pass| -> (X, S::Pass)
+            requires { B.pre before_sleep x }
+            ensures acts { B.post before_sleep x result.0 }
+            ensures same { result.1 ≡ pass }
+        { (before_sleep(x), pass) };
+        self.park_acting(rt, pass, key, x, validate, act)
+    }
+
+    /// `park_conditionally` with an action that has the pass: what the thread does with it when it is queued, before it sleeps, as letting a
+    /// lock go where it waits on a condition. The pass stays that thread's.
+    pub fn park_acting<
+        W: Wait,
+        X,
+        V: FnOnce(X, S::Pass, S::Root) -> (X, S::Pass, S::Root, bool),
+        A: FnOnce(X, S::Pass) -> (X, S::Pass),
+    >(
+        &self,
+        rt: &W,
+        pass: S::Pass,
+        key: usize,
+        x: X,
+        validate: V,
+        act: A,
+    ) -> (S::Pass, X, Parked)
+        requires key { key < self.now.keys }
+        requires thread { S.thread pass < self.now.threads }
+        requires callable { MayValidate S.Root.view key (V.pre validate x pass) }
+        requires keeps { Validates S.Root.view S.thread key (S.thread pass) (V.post validate x pass) }
+        requires acts { (r : S.Root) (o : _) → (S.Root.view r).key ≡ key → (S.Root.view r).owes ≡ [] → V.post validate x pass r o → o.3 ≡ true → A.pre act o.0 o.1 }
+        requires same { (y : _) (q : _) (left : _) → A.post act y q left → S.thread left.1 ≡ S.thread q }
+        ensures { ParkedActing S.Root.view key (V.post validate x pass) (A.post act) S.looked result }
+    {
         let (x, pass, queued) = self.queue_up(rt, pass, key, x, validate);
         if !queued {
             return (pass, x, Parked::Invalid);
         }
-        let x = before_sleep(x);
+        let (x, pass) = act(x, pass);
         let (pass, token) = self.sleep(rt, pass);
         (pass, x, Parked::Woken(token))
     }

@@ -1,5 +1,17 @@
-use Rattle.std.proofs.Common.{rules}
+use Rattle.std.proofs.Common.{subst, sym}
+use Rattle.lot_park.specs.Parking.{Awaited}
+use Rattle.lot_park.proofs.Looks.{ends_on}
 use Rattle.lot_park.proofs.lot.ParkingLot.park_conditionally.Goals as goal
 
 pub returns : goal.returns
-returns g c = search rules
+returns g c =
+    let parked = c.park_acting.ensures in
+    record {
+      root = parked.root;
+      answer = parked.answer;
+      named = parked.named;
+      paid = parked.paid;
+      called = parked.called;
+      ends = ends_on _ _ _ c.park_acting.result.2
+          (λ token e. (e.0, subst (λ q. Awaited g.S.Scheme.looked q token c.park_acting.result.0) e.1.1.same e.1.2, rw (sym e.1.3) at e.1.1.acts)) parked.ends;
+    }
