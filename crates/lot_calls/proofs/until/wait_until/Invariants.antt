@@ -7,4 +7,4 @@ use Rattle.lot_calls.proofs.until.wait_until.Given as goal
 abbrev pub invariant-loop : goal.invariant-loop
 invariant-loop g l =
     (goal.iterator-loop g).can_next l.iterator' × (goal.iterator-loop g).is_finite l.iterator' ×
-    WaitsOn g.V.Keeps l.fn.pass l.fn.held l.fn.cond l.fn.moment.now l.held l.pass × Owns l.pass l.fn.held.key × IsWide l.fn.lot.now l.pass
+    WaitsOn g.V.Keeps l.fn.pass l.fn.held l.fn.cond l.fn.moment.now l.held l.pass × Owns l.pass l.fn.held.key × IsWide l.fn.lot l.pass

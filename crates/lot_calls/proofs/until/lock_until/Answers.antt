@@ -1,0 +1,10 @@
+use Rattle.lot_calls.proofs.Waiting.{got_after, after_holds}
+use Rattle.lot_calls.proofs.until.lock_until.Goals as goal
+
+pub returns-clause-gets : goal.returns-clause-gets
+returns-clause-gets g c = got_after g.V.Keeps c.args.pass c.lock-pass.result.0 c.wait_until.result.0 c.args.key c.args.cond c.args.moment.now c.lock-pass.result.1 c.wait_until.result.1
+    c.lock-pass.ensures.gets c.wait_until.ensures.waits
+
+pub returns-clause-holding : goal.returns-clause-holding
+returns-clause-holding g c = λ none. after_holds g.V.Keeps c.args.pass c.lock-pass.result.0 c.wait_until.result.0 c.args.key c.args.cond c.args.moment.now c.lock-pass.result.1
+    c.wait_until.result.1 none c.lock-pass.ensures.gets c.wait_until.ensures.waits
