@@ -1,10 +1,10 @@
-// Refuses one request of a program, and lets all others through.
+// Refuses one request of a program and lets all others through, or refuses all from one on.
 //
 //     cc -shared -fPIC -O1 -o refuse.so refuse.c
 //     LD_PRELOAD=./refuse.so REFUSE_MEMORY=5 REFUSED=told program
 //
-// REFUSE_MEMORY=N refuses the Nth request for memory, counted from 1, and REFUSE_THREAD=N the Nth start of a thread. Where the program came so far, the
-// file that REFUSED names is made.
+// REFUSE_MEMORY=N refuses the Nth request for memory, counted from 1, REFUSE_MEMORY_FROM=N that one and all after it, and
+// REFUSE_THREAD=N the Nth start of a thread. Where the program came so far, the file that REFUSED names is made.
 #define _GNU_SOURCE
 #include <dlfcn.h>
 #include <errno.h>
@@ -22,9 +22,12 @@ void *__libc_memalign(size_t, size_t);
 
 static atomic_long memory, threads;
 
-static int refuses(atomic_long *made, const char *which) {
+static int refuses(atomic_long *made, const char *which, int goes_on) {
     const char *wanted = getenv(which), *told = getenv("REFUSED");
-    if (!wanted || atomic_fetch_add(made, 1) + 1 != atol(wanted))
+    if (!wanted)
+        return 0;
+    long number = atomic_fetch_add(made, 1) + 1, first = atol(wanted);
+    if (number < first || (number > first && !goes_on))
         return 0;
     int file = told ? open(told, O_CREAT | O_WRONLY, 0600) : -1;
     if (file >= 0)
@@ -33,7 +36,7 @@ static int refuses(atomic_long *made, const char *which) {
 }
 
 static int refuses_memory(void) {
-    if (!refuses(&memory, "REFUSE_MEMORY"))
+    if (!refuses(&memory, "REFUSE_MEMORY", 0) && !refuses(&memory, "REFUSE_MEMORY_FROM", 1))
         return 0;
     errno = ENOMEM;
     return 1;
@@ -58,7 +61,7 @@ int posix_memalign(void **place, size_t align, size_t size) {
 }
 
 int pthread_create(pthread_t *thread, const pthread_attr_t *how, void *(*start)(void *), void *of) {
-    if (refuses(&threads, "REFUSE_THREAD"))
+    if (refuses(&threads, "REFUSE_THREAD", 0))
         return EAGAIN;
     int (*create)(pthread_t *, const pthread_attr_t *, void *(*)(void *), void *) = dlsym(RTLD_NEXT, "pthread_create");
     return create(thread, how, start, of);

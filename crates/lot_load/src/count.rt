@@ -1,7 +1,7 @@
 //! `count`: threads that lock, count themselves and unlock, on real locks.
 ghost use Rattle.std.specs.Prelude.{◌≡◌, ◌≤◌, ◌<◌, ◌+◌, ℕ, length, vec_len, IfOk, MatchBool};
 ghost use Rattle.lot_core.specs.declared.state.TheConstants.{MAX_THREADS, MAX_KEYS};
-ghost use Rattle.lot_sync.specs.Lot.{OwnsNone};
+ghost use Rattle.lot_sync.specs.Lot.{PassView, OwnsNone, rested};
 ghost use Rattle.lot_sync.specs.Opened.{IsNamed};
 ghost use Rattle.lot_load.specs.Counters.{AllLegal};
 ghost use Rattle.lot_load.specs.Works.{WorksOn};
@@ -109,6 +109,7 @@ fn run_workers<
 ) -> Result<Vec<V>, Failure>
     requires named { IsNamed N.LotName opened }
     requires sizes { (opened.threads ≡ counting.now.threads) × (length opened.values ≡ counting.now.locks) }
+    requires rests { (p : PassView V) → V.rests (rested p) }
 {
     let (lot, passes) = match start::<V, N>(alloc, counting.threads, opened) {
         Ok(started) => started,
@@ -127,7 +128,8 @@ fn count_all<
     T: Threads + Wait + Sync,
     G: Gate + Sync,
 >(rt: &T, gate: &G, counting: &Counting, lot: &Lot<V, N>) -> Result<(), Failure>
-    requires { (lot.now.threads ≡ counting.now.threads) × (lot.now.locks ≡ counting.now.locks) }
+    requires sizes { (lot.now.threads ≡ counting.now.threads) × (lot.now.locks ≡ counting.now.locks) }
+    requires rests { (p : PassView V) → V.rests (rested p) }
 {
     let flags = Flags::new();
     let started = start_all(rt, gate, counting, lot, &flags);
@@ -141,14 +143,16 @@ fn start_all<
     T: Threads + Wait + Sync,
     G: Gate + Sync,
 >(rt: &T, gate: &G, counting: &Counting, lot: &Lot<V, N>, flags: &Flags) -> bool
-    requires { (lot.now.threads ≡ counting.now.threads) × (lot.now.locks ≡ counting.now.locks) }
+    requires sizes { (lot.now.threads ≡ counting.now.threads) × (lot.now.locks ≡ counting.now.locks) }
+    requires rests { (p : PassView V) → V.rests (rested p) }
 {
     all_start(
         rt,
         counting.threads,
         flags,
         &|worker: usize|
-            requires { (lot.now.threads ≡ counting.now.threads) × (lot.now.locks ≡ counting.now.locks) }
+            requires sizes { (lot.now.threads ≡ counting.now.threads) × (lot.now.locks ≡ counting.now.locks) }
+            requires rests { (p : PassView V) → V.rests (rested p) }
         {
             work(rt, lot, gate, flags, counting, worker);
         },
@@ -164,7 +168,8 @@ fn work<V: Counts + Send, N: LotName<V> + Send + Sync, T: Wait, G: Gate>(
     counting: &Counting,
     worker: usize,
 )
-    requires { (lot.now.threads ≡ counting.now.threads) × (lot.now.locks ≡ counting.now.locks) }
+    requires sizes { (lot.now.threads ≡ counting.now.threads) × (lot.now.locks ≡ counting.now.locks) }
+    requires rests { (p : PassView V) → V.rests (rested p) }
 {
     let Some(pass) = enter(rt, lot, flags) else {
         return;

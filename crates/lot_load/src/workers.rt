@@ -1,6 +1,7 @@
 //! What the commands share that run real threads on a lot: starting it, its workers, and closing it.
 ghost use Rattle.std.specs.Prelude.{◌≡◌, ◌≤◌, ℕ, length, vec_len, vec_capacity, IfOk, IfSome};
-ghost use Rattle.lot_sync.specs.Lot.{OwnsNone};
+ghost use Rattle.lot_passes.specs.Starting.{Starts};
+ghost use Rattle.lot_sync.specs.Lot.{PassView, OwnsNone, rested};
 ghost use Rattle.lot_sync.specs.Opened.{IsNamed};
 
 use lot_command::Failure;
@@ -71,6 +72,7 @@ pub fn start<V: Keeps + Send, N: LotName<V> + Send>(
 ) -> Result<(Lot<V, N>, Vec<Pass<V, N>>), Failure>
     requires named { IsNamed N.LotName opened }
     requires threads { opened.threads ≡ threads }
+    requires rests { (p : PassView V) → Starts opened.values opened.threads p → V.rests (rested p) }
     ensures lot { IfOk result (λ r. (r.0.threads ≡ opened.threads) × (r.0.locks ≡ length opened.values) × (r.0.conds ≡ opened.conds) × (r.0.sems ≡ length opened.permits)) }
     ensures room { IfOk result (λ r. (vec_len r.1 ≡ 0) × (threads ≤ vec_capacity r.1)) }
 {

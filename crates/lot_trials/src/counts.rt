@@ -70,6 +70,26 @@ pub(crate) fn release<N: LotName<Count> + Send + Sync, T: Wait>(
     lot.unlock(rt, pass, held, Moment { now, word: 7 })
 }
 
+/// `unlock_asking`, with the moment that it gets, and how often it asked for it.
+pub(crate) fn release_asking<N: LotName<Count> + Send + Sync, T: Wait>(
+    rt: &T,
+    lot: &Lot<Count, N>,
+    pass: Pass<Count, N>,
+    held: Held<Count, N>,
+    now: u64,
+) -> (Pass<Count, N>, Released, u64)
+    requires key { held.key < lot.now.locks }
+    requires holding { Holding (λ x y. x.n ≤ y.n) pass held }
+    ensures { OwnsNone result.0 }
+{
+    let askings = AtomicU64::new(0);
+    let (pass, released) = lot.unlock_asking(rt, pass, held, || {
+        askings.fetch_add(1, Ordering::SeqCst);
+        Moment { now, word: 7 }
+    });
+    (pass, released, askings.load(Ordering::SeqCst))
+}
+
 /// `unlock_fairly` at moment 0.
 pub(crate) fn release_fairly<N: LotName<Count> + Send + Sync, T: Wait>(
     rt: &T,
@@ -135,10 +155,10 @@ pub(crate) fn await_line<N: LotName<Count> + Send + Sync, T: Wait + Abort>(
     panic!(rt; "{count} never are in the line of {key}")
 }
 
-/// Waits until the flag is raised, asking a bounded number of times, or the test fails.
-pub(crate) fn await_flag(rt: &impl Abort, flag: &AtomicU64) {
+/// Waits until so many flags are raised, asking a bounded number of times, or the test fails.
+pub(crate) fn await_count(rt: &impl Abort, raised: &AtomicU64, count: u64) {
     for _ in 0..ASKINGS {
-        if flag.load(Ordering::SeqCst) != 0 {
+        if raised.load(Ordering::SeqCst) >= count {
             return;
         }
         thread::yield_now();
@@ -151,28 +171,38 @@ pub(crate) fn await_flag(rt: &impl Abort, flag: &AtomicU64) {
 struct AtGate<'a, T> {
     rt: &'a T,
     gate: &'a AtomicU64,
+    /// How often it came here.
+    runs: &'a AtomicU64,
 }
 
 impl<T: Wait + Abort> BeforeSleep for AtGate<'_, T> {
     fn run(&self) {
-        await_flag(self.rt, self.gate);
+        self.runs.fetch_add(1, Ordering::SeqCst);
+        await_count(self.rt, self.gate, 1);
     }
 }
 
-/// `lock` of a thread that looks for its letter only after the gate was opened, and what the test has of it.
+/// `lock` of a thread that looks for its letter only after the gate was opened, and what the test has of it, with how often it came there.
 pub(crate) fn own_at_gate<N: LotName<Count> + Send + Sync, T: Wait + Abort>(
     rt: &T,
     lot: &Lot<Count, N>,
     pass: Pass<Count, N>,
     key: usize,
     gate: &AtomicU64,
-) -> (Pass<Count, N>, Held<Count, N>)
+) -> (Pass<Count, N>, Held<Count, N>, u64)
     requires key { key < lot.now.locks }
     requires free { OwnsNone pass }
     ensures key { result.1.key ≡ key }
     ensures holding { Holding (λ x y. x.n ≤ y.n) result.0 result.1 }
 {
-    lot.lock_after(rt, pass, key, &AtGate { rt, gate })
+    let runs = AtomicU64::new(0);
+    let before = AtGate {
+        rt,
+        gate,
+        runs: &runs,
+    };
+    let (pass, held) = lot.lock_after(rt, pass, key, &before);
+    (pass, held, runs.load(Ordering::SeqCst))
 }
 
 /// `lock` of a second lock, and what the test has of it.
@@ -227,7 +257,7 @@ pub(crate) fn wait_once<N: LotName<Count> + Send + Sync, T: Wait>(
     lot.wait(rt, pass, held, cond, Moment { now, word: 7 })
 }
 
-/// `wait` of a thread that is queued, and goes on only after the gate was opened, and what the test has of it.
+/// `wait` of a thread that is queued, and goes on only after the gate was opened, and what the test has of it, with how often it came there.
 pub(crate) fn wait_at_gate<N: LotName<Count> + Send + Sync, T: Wait + Abort>(
     rt: &T,
     lot: &Lot<Count, N>,
@@ -235,7 +265,7 @@ pub(crate) fn wait_at_gate<N: LotName<Count> + Send + Sync, T: Wait + Abort>(
     held: Held<Count, N>,
     cond: usize,
     gate: &AtomicU64,
-) -> (Pass<Count, N>, Held<Count, N>)
+) -> (Pass<Count, N>, Held<Count, N>, u64)
     requires key { held.key < lot.now.locks }
     requires cond { IsCond lot.now cond }
     requires holding { Holding (λ x y. x.n ≤ y.n) pass held }
@@ -243,7 +273,14 @@ pub(crate) fn wait_at_gate<N: LotName<Count> + Send + Sync, T: Wait + Abort>(
     ensures holding { Holding (λ x y. x.n ≤ y.n) result.0 result.1 }
 {
     let moment = Moment { now: 5, word: 7 };
-    lot.wait_after(rt, pass, held, cond, moment, &AtGate { rt, gate })
+    let runs = AtomicU64::new(0);
+    let before = AtGate {
+        rt,
+        gate,
+        runs: &runs,
+    };
+    let (pass, held) = lot.wait_after(rt, pass, held, cond, moment, &before);
+    (pass, held, runs.load(Ordering::SeqCst))
 }
 
 /// `notify_one` at a moment, and what the test has of it.

@@ -53,6 +53,41 @@ fn try_acquire_succeeds(rt: HostRuntime) {
     on_conds(&rt, rt.alloc(), 3, &TWO_PERMITS, (0, 0));
 }
 
+/// One pass gets both permits, and finds that none is left.
+static BOTH_FOR_ONE: [(usize, Step); 7] = [
+    (0, Step::Register(0)),
+    (0, Step::TryAcquire(PAIR, true)),
+    (0, Step::TryAcquire(PAIR, true)),
+    (0, Step::TryAcquire(PAIR, false)),
+    (0, Step::Release(0, Freed::Quiet)),
+    (0, Step::Release(0, Freed::Quiet)),
+    (0, Step::Leave),
+];
+
+#[test]
+fn one_pass_gets_both_permits(rt: HostRuntime) {
+    on_conds(&rt, rt.alloc(), 1, &BOTH_FOR_ONE, (0, 0));
+}
+
+/// The one permit is given back at moment 0 while another thread sleeps for it, which gets it.
+static WOKEN_FOR_A_PERMIT: [(usize, Step); 10] = [
+    (0, Step::Register(0)),
+    (1, Step::Register(1)),
+    (0, Step::Acquire(SINGLE)),
+    (1, Step::SleepFor(SINGLE)),
+    (0, Step::AwaitLine(SINGLE, 1)),
+    (0, Step::Release(0, Freed::Woke)),
+    (1, Step::Line(SINGLE, 0)),
+    (1, Step::Release(0, Freed::Quiet)),
+    (0, Step::Leave),
+    (1, Step::Leave),
+];
+
+#[test]
+fn a_release_wakes_a_sleeper_at_moment_0(rt: HostRuntime) {
+    on_conds(&rt, rt.alloc(), 2, &WOKEN_FOR_A_PERMIT, (0, 0));
+}
+
 /// The one permit is given back at the fair moment while another thread sleeps for it, and a waiting thread is notified then. After each of these the
 /// next fair moment of the bucket was moved on: a lock in it on which another thread sleeps is let go at 12, and not handed over.
 static MOMENTS: [(usize, Step); 24] = [

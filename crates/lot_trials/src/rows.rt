@@ -1,11 +1,12 @@
 //! Worked rows of locks, with the words that they leave, and what an opening refuses.
-ghost use Rattle.std.specs.Prelude.{◌≡◌, vec_len};
+ghost use Rattle.std.specs.Prelude.{◌≡◌, ◌<◌, length, vec_len};
+ghost use Rattle.lot_sync.specs.Lot.{OwnsNone};
 ghost use Rattle.lot_sync.specs.Opened.{IsNamed};
 
 use crate::asserts::{equal, failed, is_so};
-use crate::counts::{Count, Gathered, end};
-use crate::schedules::{Memory, Schedule, Step, follow};
-use lot_sync::{Lot, LotName, OpenFault, Opened, Released};
+use crate::counts::{Count, Gathered, end, free, try_own, word};
+use crate::schedules::{Memory, Schedule, Step, follow, may_be_refused};
+use lot_sync::{Lot, LotName, OpenFault, Opened, Pass, RegisterFault, Released};
 use std::alloc::Global;
 use std::marker::Brand;
 use std::process::Abort;
@@ -62,6 +63,18 @@ fn quiet(rt: HostRuntime) {
     on_locks(&rt, rt.alloc(), 3, &QUIET);
 }
 
+static ASKED_FOR_NOTHING: [(usize, Step); 4] = [
+    (0, Step::Register(0)),
+    (0, Step::Lock(0)),
+    (0, Step::UnlockAsking(5, 0, Released::Quiet)),
+    (0, Step::Leave),
+];
+
+#[test]
+fn a_quiet_unlock_asks_for_no_moment(rt: HostRuntime) {
+    on_locks(&rt, rt.alloc(), 3, &ASKED_FOR_NOTHING);
+}
+
 /// The second thread sleeps on the lock of the first, which hands it over by this step. Until the new owner lets it go, its parked bit stays.
 fn handed_by(step: Step) -> [(usize, Step); 15] {
     [
@@ -86,6 +99,12 @@ fn handed_by(step: Step) -> [(usize, Step); 15] {
 #[test]
 fn handoff_to_a_sleeper(rt: HostRuntime) {
     let rows = handed_by(Step::Unlock(5, Released::Handed));
+    on_locks(&rt, rt.alloc(), 3, &rows);
+}
+
+#[test]
+fn an_unlock_of_a_parked_lock_asks_for_the_moment_once(rt: HostRuntime) {
+    let rows = handed_by(Step::UnlockAsking(5, 1, Released::Handed));
     on_locks(&rt, rt.alloc(), 3, &rows);
 }
 
@@ -191,7 +210,7 @@ static HANDED_BEFORE_GROWTH: [(usize, Step); 25] = [
     (0, Step::Register(0)),
     (0, Step::Lock(0)),
     (1, Step::Register(1)),
-    (1, Step::SleepAtGate(0)),
+    (1, Step::SleepAtGate(0, 1)),
     (0, Step::AwaitLine(0, 1)),
     (2, Step::Register(2)),
     (2, Step::Sleep(0)),
@@ -220,12 +239,13 @@ fn a_handoff_outlives_a_growth(rt: HostRuntime) {
     on_locks(&rt, rt.alloc(), 5, &HANDED_BEFORE_GROWTH);
 }
 
-/// The first sleeper is taken from the line, and another thread gets the lock before it: it is behind the second then.
+/// The first sleeper is taken from the line, in which the second is left, and another thread gets the lock at once, though it is marked as parked. The
+/// first is behind the second then: that the line was the second's is seen by who is taken next.
 static TWO_SLEEPERS: [(usize, Step); 23] = [
     (0, Step::Register(0)),
     (0, Step::Lock(0)),
     (1, Step::Register(1)),
-    (1, Step::SleepAtGate(0)),
+    (1, Step::SleepAtGate(0, 2)),
     (0, Step::AwaitLine(0, 1)),
     (2, Step::Register(2)),
     (2, Step::Sleep(0)),
@@ -234,7 +254,7 @@ static TWO_SLEEPERS: [(usize, Step); 23] = [
     (0, Step::Word(0, 2)),
     (0, Step::Line(0, 1)),
     (3, Step::Register(3)),
-    (3, Step::Lock(0)),
+    (3, Step::TryLock(0, true)),
     (3, Step::Word(0, 3)),
     (0, Step::OpenGate),
     (0, Step::AwaitLine(0, 2)),
@@ -258,7 +278,7 @@ static OTHER_KEY: [(usize, Step); 24] = [
     (0, Step::Lock(0)),
     (0, Step::Lock(12)),
     (1, Step::Register(1)),
-    (1, Step::SleepAtGate(0)),
+    (1, Step::SleepAtGate(0, 1)),
     (0, Step::AwaitLine(0, 1)),
     (2, Step::Register(2)),
     (2, Step::Sleep(12)),
@@ -285,11 +305,14 @@ fn other_key_in_the_bucket_keeps_parked(rt: HostRuntime) {
     on_locks(&rt, rt.alloc(), 3, &OTHER_KEY);
 }
 
-static TWO_OWNERS: [(usize, Step); 8] = [
+/// Each of two owners raises a flag and sees the other's.
+static TWO_OWNERS: [(usize, Step); 10] = [
     (0, Step::Register(0)),
     (1, Step::Register(1)),
     (0, Step::Lock(0)),
     (1, Step::Lock(1)),
+    (0, Step::Meet),
+    (1, Step::Meet),
     (0, Step::Unlock(0, Released::Quiet)),
     (1, Step::Unlock(0, Released::Quiet)),
     (0, Step::Leave),
@@ -415,16 +438,22 @@ fn a_written_value_is_found(rt: HostRuntime) {
     on_locks(&rt, rt.alloc(), 3, &WRITTEN);
 }
 
-#[test]
-fn registration_and_growth_succeed(rt: HostRuntime) {
+/// Registers all threads of a lot for so many, one after the other; no pass is left for one more.
+fn register_all<T: Threads + Wait + Sync + Abort>(rt: &T, alloc: Global, threads: usize) {
     let schedule = Schedule {
-        threads: 256,
+        threads,
         rows: &[],
         how: Gathered::Registered,
         waits: (0, 0),
         memory: Memory::Ample,
     };
-    follow(&rt, rt.alloc(), schedule);
+    follow(rt, alloc, schedule);
+}
+
+#[test]
+fn registration_and_growth_succeed(rt: HostRuntime) {
+    register_all(&rt, rt.alloc(), 64);
+    register_all(&rt, rt.alloc(), 256);
 }
 
 const REFUSED: [(usize, usize, usize, OpenFault); 3] = [
@@ -470,41 +499,118 @@ fn an_opening_that_fails_gives_the_values_back_in_order(rt: HostRuntime) {
     }
 }
 
-/// Starts a lot for one thread and closes it, or closes what could not be started.
+/// Tries a lock that is free, and lets it go where nobody is parked.
+fn try_and_free<N: LotName<Count> + Send + Sync, T: Wait + Abort>(
+    rt: &T,
+    lot: &Lot<Count, N>,
+    pass: Pass<Count, N>,
+) -> Pass<Count, N>
+    requires key { 0 < lot.now.locks }
+    requires free { OwnsNone pass }
+    ensures { OwnsNone result }
+{
+    equal(rt, word(lot, 0), 0);
+    let (pass, got) = try_own(lot, pass, 0);
+    let Some(held) = got else {
+        failed(rt, "the lock is free")
+    };
+    equal(rt, word(lot, 0), 1);
+    let (pass, back) = free(lot, pass, held);
+    match back {
+        None => {}
+        Some(_held) => failed(rt, "nobody is parked"),
+    }
+    equal(rt, word(lot, 0), 0);
+    pass
+}
+
+/// The lot's one thread registers, unless memory is refused, tries lock 0, which takes none, and leaves.
+fn tried_alone<N: LotName<Count> + Send + Sync, T: Wait + Abort>(
+    rt: &T,
+    lot: &Lot<Count, N>,
+    memory: Memory,
+)
+    requires { 0 < lot.now.locks }
+{
+    match lot.register(rt) {
+        Ok(pass) => {
+            let pass = try_and_free(rt, lot, pass);
+            lot.leave(rt, pass);
+        }
+        Err(fault) => {
+            equal(rt, fault, RegisterFault::NoMemory);
+            may_be_refused(rt, memory);
+        }
+    }
+}
+
+/// Starts a lot for one thread, tries its first lock and closes it, or closes what could not be started.
 fn started_and_closed<N: LotName<Count> + Send + Sync, T: Wait + Abort>(
     rt: &T,
     alloc: Global,
     opened: Opened<Count>,
+    memory: Memory,
 ) -> Vec<Count>
     requires named { IsNamed N.LotName opened }
-    requires one { opened.threads ≡ 1 }
+    requires sizes { (opened.threads ≡ 1) × (0 < length opened.values) }
 {
     let Ok(passes) = Vec::with_capacity(alloc, 1) else {
+        may_be_refused(rt, memory);
         return opened.close();
     };
     match opened.start::<N>(alloc) {
         Ok(lot) => {
+            tried_alone(rt, &lot, memory);
             let (values, _) = end(rt, lot, passes, 1, Gathered::Left);
             values
         }
         Err((fault, values)) => {
             passes.destroy_empty();
             equal(rt, fault, OpenFault::NoMemory);
+            may_be_refused(rt, memory);
             values
         }
     }
 }
 
-fn opened_and_closed<T: Wait + Abort>(rt: &T, alloc: Global, values: Vec<Count>) -> Vec<Count>
-    requires { (vec_len values ≡ 2) }
+fn opened_and_closed<T: Wait + Abort>(
+    rt: &T,
+    alloc: Global,
+    values: Vec<Count>,
+    memory: Memory,
+) -> Vec<Count>
+    requires { 0 < vec_len values }
 {
     match Lot::<Count, Brand>::open(alloc, 1, values, 0) {
-        Ok(opened) => started_and_closed::<Brand, T>(rt, alloc, opened),
+        Ok(opened) => started_and_closed::<Brand, T>(rt, alloc, opened, memory),
         Err((fault, values)) => {
             equal(rt, fault, OpenFault::NoMemory);
+            may_be_refused(rt, memory);
             values
         }
     }
+}
+
+/// One thread on a lot with one lock, whose value comes back.
+fn one_of_each<T: Wait + Abort>(rt: &T, alloc: Global, memory: Memory) {
+    let Ok(values) = vec![in alloc; Count { n: 7 }; 1] else {
+        may_be_refused(rt, memory);
+        return;
+    };
+    let values = opened_and_closed(rt, alloc, values, memory);
+    is_so(rt, values.len() == 1, "one value comes back");
+    equal(rt, values[0].n, 7);
+}
+
+#[test]
+fn one_thread_tries_one_lock(rt: HostRuntime) {
+    one_of_each(&rt, rt.alloc(), Memory::Ample);
+}
+
+// Where memory is refused from any request on, the calls of a pass that was given succeed.
+#[test]
+fn one_thread_tries_one_lock_without_memory(rt: HostRuntime) {
+    one_of_each(&rt, rt.alloc(), Memory::MayBeRefused);
 }
 
 // Where a request for memory is refused, the values come back from `open` or from `start`.
@@ -514,6 +620,6 @@ fn all_values_come_back_in_order(rt: HostRuntime) {
         return;
     };
     values[1] = Count { n: 8 };
-    let values = opened_and_closed(&rt, rt.alloc(), values);
+    let values = opened_and_closed(&rt, rt.alloc(), values, Memory::MayBeRefused);
     two_are(&rt, values.as_slice(), (7, 8));
 }

@@ -7,9 +7,9 @@ ghost use Rattle.lot_trials.specs.Schedules.{HasPermits, HasSizes};
 
 use crate::asserts::{equal, failed, is_so};
 use crate::counts::{
-    ASKINGS, Count, Gathered, await_line, call_all, call_one, call_owning, call_some, end, free,
-    is_free, own, own_at_gate, own_second, raise, release, release_fairly, release_first, try_own,
-    wait_at_gate, wait_once, word,
+    ASKINGS, Count, Gathered, await_count, await_line, call_all, call_one, call_owning, call_some,
+    end, free, is_free, own, own_at_gate, own_second, raise, release, release_asking,
+    release_fairly, release_first, try_own, wait_at_gate, wait_once, word,
 };
 use crate::passes::enter;
 use lot_sync::{
@@ -48,14 +48,18 @@ pub(crate) enum Step {
     Lock(usize),
     /// The same, and sleeps before: the next row is made meanwhile.
     Sleep(usize),
-    /// The same, but looks for its letter only after the gate was opened.
-    SleepAtGate(usize),
+    /// The same, but looks for its letter only after the gate was opened; it goes to sleep so many times.
+    SleepAtGate(usize, u64),
     /// Gets this lock by `try_lock`, or doesn't.
     TryLock(usize, bool),
     /// Finds so many behind its lock, and leaves one more.
     Raise(u64),
     /// Lets its lock go by `unlock` at this moment, and this becomes of it.
     Unlock(u64, Released),
+    /// Lets its lock go by `unlock_asking`, asks so many times for the moment, which is this, and this becomes of it.
+    UnlockAsking(u64, u64, Released),
+    /// Raises a flag while it owns a lock, and looks for that of another thread that does. The next row is made meanwhile.
+    Meet,
     /// Lets the first of its two locks go at moment 0, and this becomes of it.
     UnlockFirst(Released),
     /// Lets its lock go by `unlock_fairly` at moment 0, and this becomes of it.
@@ -104,8 +108,8 @@ impl Step {
     /// Whether the next row is made while the thread sleeps.
     fn sleeps(self) -> bool {
         match self {
-            Step::Sleep(_) | Step::SleepAtGate(_) | Step::SleepFor(_) => true,
-            Step::Wait(_, _) | Step::WaitAtGate(_) | Step::RegisterBeside => true,
+            Step::Sleep(_) | Step::SleepAtGate(_, _) | Step::SleepFor(_) => true,
+            Step::Wait(_, _) | Step::WaitAtGate(_) | Step::RegisterBeside | Step::Meet => true,
             _ => false,
         }
     }
@@ -168,7 +172,7 @@ pub(crate) enum Memory {
 }
 
 /// A request was refused, which it may be, or the test fails.
-fn may_be_refused(rt: &impl Abort, memory: Memory) {
+pub(crate) fn may_be_refused(rt: &impl Abort, memory: Memory) {
     is_so(
         rt,
         memory == Memory::MayBeRefused,
@@ -186,6 +190,8 @@ struct Progress {
     next_row: AtomicU64,
     /// Raised when those that are held at the gate may go on.
     gate: AtomicU64,
+    /// How many flags were raised by threads that own a lock.
+    met: AtomicU64,
 }
 
 /// Waits until all rows before this one are made, asking a bounded number of times, or the test fails. False where the schedule is given up.
@@ -339,9 +345,10 @@ fn when_calm<N: LotName<Count> + Send + Sync, T: Wait + Abort>(
             let (pass, held) = own(rt, lot, pass, key);
             Standing::Owner(Owner { pass, held })
         }
-        Step::SleepAtGate(key) => {
+        Step::SleepAtGate(key, sleeps) => {
             lock_key(rt, key);
-            let (pass, held) = own_at_gate(rt, lot, pass, key, &progress.gate);
+            let (pass, held, runs) = own_at_gate(rt, lot, pass, key, &progress.gate);
+            equal(rt, runs, sleeps);
             Standing::Owner(Owner { pass, held })
         }
         Step::TryLock(key, wanted) => try_to_own(rt, lot, Calm { pass }, key, wanted),
@@ -445,6 +452,11 @@ fn when_owner<N: LotName<Count> + Send + Sync, T: Wait + Abort>(
             Standing::Owner(Owner { pass, held })
         }
         Step::UnlockUnparked(wanted) => try_to_free(rt, lot, owner, wanted),
+        Step::Meet => {
+            progress.met.fetch_add(1, Ordering::SeqCst);
+            await_count(rt, &progress.met, 2);
+            Standing::Owner(owner)
+        }
         Step::Wait(_, _) | Step::WaitAtGate(_) => {
             Standing::Calm(wait(rt, lot, progress, owner, step))
         }
@@ -508,7 +520,9 @@ fn wait<N: LotName<Count> + Send + Sync, T: Wait + Abort>(
         }
         Step::WaitAtGate(cond) => {
             cond_key(rt, cond);
-            wait_at_gate(rt, lot, pass, held, cond, &progress.gate)
+            let (pass, held, runs) = wait_at_gate(rt, lot, pass, held, cond, &progress.gate);
+            equal(rt, runs, 1);
+            (pass, held)
         }
         _ => failed(rt, "no wait"),
     };
@@ -536,6 +550,11 @@ fn let_go<N: LotName<Count> + Send + Sync, T: Wait + Abort>(
         Step::UnlockFairly(wanted) => {
             let (pass, released) = release_fairly(rt, lot, pass, held);
             equal(rt, released, wanted);
+            Calm { pass }
+        }
+        Step::UnlockAsking(now, wanted_askings, wanted) => {
+            let (pass, released, askings) = release_asking(rt, lot, pass, held, now);
+            equal(rt, (released, askings), (wanted, wanted_askings));
             Calm { pass }
         }
         Step::LetGo => {
@@ -594,7 +613,7 @@ fn try_to_hold<N: LotName<Count> + Send + Sync, T: Wait + Abort>(
     }
 }
 
-/// A step of a thread that holds one permit: it gets another of the same semaphore, or gives it back.
+/// A step of a thread that holds one permit: it gets another of the same semaphore, at once or by waiting, or gives it back.
 fn when_holder<N: LotName<Count> + Send + Sync, T: Wait + Abort>(
     rt: &T,
     lot: &Lot<Count, N>,
@@ -615,6 +634,11 @@ fn when_holder<N: LotName<Count> + Send + Sync, T: Wait + Abort>(
                 second,
             })
         }
+        Step::TryAcquire(key, true) => {
+            sem_key(rt, key);
+            is_so(rt, key == permit.key(), "it holds one of this semaphore");
+            Standing::HolderOfTwo(try_to_hold_another(rt, lot, Holder { pass, permit }))
+        }
         Step::Release(now, wanted) => {
             let (pass, freed) = lot.release(rt, pass, permit, Moment { now, word: 7 });
             equal(rt, freed, wanted);
@@ -624,28 +648,64 @@ fn when_holder<N: LotName<Count> + Send + Sync, T: Wait + Abort>(
     }
 }
 
-/// A step of a thread that holds two permits: it gives the second back.
+/// `try_acquire` of a thread that holds a permit of the semaphore, which gets another.
+fn try_to_hold_another<N: LotName<Count> + Send + Sync, T: Wait + Abort>(
+    rt: &T,
+    lot: &Lot<Count, N>,
+    holder: Holder<N>,
+) -> HolderOfTwo<N>
+    requires { HasSizes lot.now }
+{
+    let Holder { pass, permit } = holder;
+    let (pass, tried) = lot.try_acquire(pass, permit.key());
+    match tried {
+        Tried::Got(second) => HolderOfTwo {
+            pass,
+            first: permit,
+            second,
+        },
+        Tried::Empty => failed(rt, "none is left"),
+        Tried::Busy => failed(rt, "the semaphore was busy"),
+    }
+}
+
+/// A step of a thread that holds two permits: it gives the second back, or finds that none is left for it.
 fn when_holder_of_two<N: LotName<Count> + Send + Sync, T: Wait + Abort>(
     rt: &T,
     lot: &Lot<Count, N>,
     holder: HolderOfTwo<N>,
     step: Step,
-) -> Holder<N>
+) -> Standing<N>
     requires { HasSizes lot.now }
 {
-    let Step::Release(now, wanted) = step else {
-        failed(rt, "no step of a thread that holds two permits")
-    };
     let HolderOfTwo {
         pass,
         first,
         second,
     } = holder;
-    let (pass, freed) = lot.release(rt, pass, second, Moment { now, word: 7 });
-    equal(rt, freed, wanted);
-    Holder {
-        pass,
-        permit: first,
+    match step {
+        Step::Release(now, wanted) => {
+            let (pass, freed) = lot.release(rt, pass, second, Moment { now, word: 7 });
+            equal(rt, freed, wanted);
+            Standing::Holder(Holder {
+                pass,
+                permit: first,
+            })
+        }
+        Step::TryAcquire(key, false) => {
+            is_so(rt, key == first.key(), "it holds two of this semaphore");
+            let (pass, tried) = lot.try_acquire(pass, key);
+            match tried {
+                Tried::Empty => Standing::HolderOfTwo(HolderOfTwo {
+                    pass,
+                    first,
+                    second,
+                }),
+                Tried::Got(_third) => failed(rt, "one is left"),
+                Tried::Busy => failed(rt, "the semaphore was busy"),
+            }
+        }
+        _ => failed(rt, "no step of a thread that holds two permits"),
     }
 }
 
@@ -668,9 +728,7 @@ fn make_step<N: LotName<Count> + Send + Sync, T: Wait + Abort>(
         Standing::Owner(owner) => when_owner(rt, lot, progress, owner, step),
         Standing::OwnerOfTwo(owner) => Standing::Owner(when_owner_of_two(rt, lot, owner, step)),
         Standing::Holder(holder) => when_holder(rt, lot, holder, step),
-        Standing::HolderOfTwo(holder) => {
-            Standing::Holder(when_holder_of_two(rt, lot, holder, step))
-        }
+        Standing::HolderOfTwo(holder) => when_holder_of_two(rt, lot, holder, step),
     }
 }
 
@@ -863,6 +921,7 @@ fn followed<N: LotName<Count> + Send + Sync, T: Threads + Wait + Sync + Abort>(
         given_up: AtomicU64::new(0),
         next_row: AtomicU64::new(0),
         gate: AtomicU64::new(0),
+        met: AtomicU64::new(0),
     };
     make_all_rows(
         rt,

@@ -264,6 +264,43 @@ fn scripts_are_replayed(rt: HostRuntime) {
     check_replays(&rt, rt.alloc(), &REPLAYS);
 }
 
+/// The same with notifications by count.
+static SOME: [(&str, &str, &str, &str, u8); 4] = [
+    (
+        "two_are_notified",
+        "open 4 1 1\ntake 0 0\nenlist 0 1 0\nfree 0 0\ntake 1 0\nenlist 1 1 0\nfree 1 0\ntake 2 0\nenlist 2 1 0\nfree 2 0\nsome 3 1 2 1\n",
+        "lock 0 word 0 owner - line -\ncond 1 flag 1 line 2\nthread 0 rest 1 0\nthread 1 rest 1 0\nthread 2 rest 1 0\nthread 3 calm\n",
+        "",
+        0,
+    ),
+    (
+        "the_third_is_notified_too",
+        "open 4 1 1\ntake 0 0\nenlist 0 1 0\nfree 0 0\ntake 1 0\nenlist 1 1 0\nfree 1 0\ntake 2 0\nenlist 2 1 0\nfree 2 0\nsome 3 1 2 1\nsome 3 1 2 0\n",
+        "lock 0 word 0 owner - line -\ncond 1 flag 0 line -\nthread 0 rest 1 0\nthread 1 rest 1 0\nthread 2 rest 1 0\nthread 3 calm\n",
+        "",
+        0,
+    ),
+    (
+        "who_is_left_has_to_be_said",
+        "open 4 1 1\ntake 0 0\nenlist 0 1 0\nfree 0 0\ntake 1 0\nenlist 1 1 0\nfree 1 0\ntake 2 0\nenlist 2 1 0\nfree 2 0\nsome 3 1 2 0\n",
+        "",
+        "event 10 refused\n",
+        2,
+    ),
+    (
+        "nobody_is_no_count",
+        "open 4 1 1\ntake 0 0\nenlist 0 1 0\nfree 0 0\ntake 1 0\nenlist 1 1 0\nfree 1 0\ntake 2 0\nenlist 2 1 0\nfree 2 0\nsome 3 1 0 1\n",
+        "",
+        "event 10 refused\n",
+        2,
+    ),
+];
+
+#[test]
+fn notifications_by_count_are_replayed(rt: HostRuntime) {
+    check_replays(&rt, rt.alloc(), &SOME);
+}
+
 /// The same with semaphores.
 static PERMITS: [(&str, &str, &str, &str, u8); 3] = [
     (
@@ -507,15 +544,11 @@ fn most_threads_and_locks(rt: HostRuntime) -> Result<(), Fail> {
     let mut want = String::new(rt.alloc());
     push_lines(&mut want, "lock", 0..1024, "total 0")?;
     want.push_str("sum 0\n")?;
-    let words = ["count", "256", "1024", "0", "18446744073709551615"];
-    check(
-        &rt,
-        rt.alloc(),
-        "most threads and locks",
-        &words,
-        None,
-        (want.as_str(), "", 0),
-    );
+    for threads in ["64", "256"] {
+        let words = ["count", threads, "1024", "0", "18446744073709551615"];
+        let want = (want.as_str(), "", 0);
+        check(&rt, rt.alloc(), threads, &words, None, want);
+    }
     Ok(())
 }
 

@@ -1,5 +1,6 @@
 //! Threads share a lot whose values may be sent to a thread, and not be shared.
 ghost use Rattle.std.specs.Prelude.{◌≡◌, ◌<◌, length};
+ghost use Rattle.lot_sync.specs.Lot.{PassView, rested};
 ghost use Rattle.lot_sync.specs.Opened.{IsNamed};
 
 use crate::asserts::{equal, failed, is_so, room_for, started};
@@ -60,7 +61,8 @@ fn visit_often<V: Visited + Send, N: LotName<V> + Send + Sync, T: Wait + Abort>(
     rt: &T,
     lot: &Lot<V, N>,
 )
-    requires { 0 < lot.now.locks }
+    requires locks { 0 < lot.now.locks }
+    requires rests { (p : PassView V) → V.rests (rested p) }
 {
     let Ok(mut pass) = lot.register(rt) else {
         failed(rt, "no pass is in")
@@ -79,17 +81,20 @@ fn two_visit<V: Visited + Send, N: LotName<V> + Send + Sync, T: Threads + Wait +
     rt: &T,
     lot: &Lot<V, N>,
 )
-    requires { 0 < lot.now.locks }
+    requires locks { 0 < lot.now.locks }
+    requires rests { (p : PassView V) → V.rests (rested p) }
 {
     thread::scope(
         thread::scope_env(),
         rt,
         |scope|
-            requires { 0 < lot.now.locks }
+            requires locks { 0 < lot.now.locks }
+            requires rests { (p : PassView V) → V.rests (rested p) }
         {
             for _ in 0..2u8 {
                 let visits = move ||
-                    requires { 0 < lot.now.locks }
+                    requires locks { 0 < lot.now.locks }
+                    requires rests { (p : PassView V) → V.rests (rested p) }
                 { visit_often(rt, lot) };
                 started(rt, scope.spawn(visits).is_ok());
             }
@@ -105,6 +110,7 @@ fn play<V: Visited + Send, N: LotName<V> + Send + Sync, T: Threads + Wait + Sync
 ) -> Vec<V>
     requires named { IsNamed N.LotName opened }
     requires sizes { (opened.threads ≡ 2) × (0 < length opened.values) }
+    requires rests { (p : PassView V) → V.rests (rested p) }
 {
     let passes = room_for(rt, alloc, 2);
     let Ok(lot) = opened.start::<N>(alloc) else {

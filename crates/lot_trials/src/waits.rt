@@ -78,8 +78,8 @@ fn a_wait_hands_its_lock_over(rt: HostRuntime) {
     on_conds(&rt, rt.alloc(), 2, &HANDED_BY_A_WAIT, (1, 0));
 }
 
-/// A thread that sleeps on the condition has let its lock go, and gets it again when it is taken.
-static LETS_GO: [(usize, Step); 14] = [
+/// A thread that sleeps on the condition has let its lock go, and gets it again when it is taken. The flag is clear then.
+static LETS_GO: [(usize, Step); 16] = [
     (0, Step::Register(0)),
     (0, Step::Lock(0)),
     (0, Step::Wait(COND, 5)),
@@ -89,8 +89,10 @@ static LETS_GO: [(usize, Step); 14] = [
     (1, Step::TryLock(0, true)),
     (1, Step::Line(COND, 1)),
     (1, Step::Unlock(0, Released::Quiet)),
+    (1, Step::HasWaiters(COND, true)),
     (1, Step::NotifyOne(COND, 0, true)),
     (1, Step::Line(COND, 0)),
+    (1, Step::HasWaiters(COND, false)),
     (1, Step::NotifyOne(COND, 0, false)),
     (0, Step::Leave),
     (1, Step::Leave),
@@ -135,6 +137,36 @@ static THREE_WAIT: [(usize, Step); 27] = [
 #[test]
 fn waits_are_notified(rt: HostRuntime) {
     on_conds(&rt, rt.alloc(), 4, &THREE_WAIT, (3, 0));
+}
+
+/// Three threads wait and all are taken at once; then nobody waits.
+static THREE_AT_ONCE: [(usize, Step); 21] = [
+    (0, Step::Register(0)),
+    (1, Step::Register(1)),
+    (1, Step::Lock(0)),
+    (1, Step::Wait(COND, 0)),
+    (0, Step::AwaitLine(COND, 1)),
+    (2, Step::Register(2)),
+    (2, Step::Lock(0)),
+    (2, Step::Wait(COND, 0)),
+    (0, Step::AwaitLine(COND, 2)),
+    (3, Step::Register(3)),
+    (3, Step::Lock(0)),
+    (3, Step::Wait(COND, 0)),
+    (0, Step::AwaitLine(COND, 3)),
+    (0, Step::HasWaiters(COND, true)),
+    (0, Step::NotifyAll(COND, 3)),
+    (0, Step::HasWaiters(COND, false)),
+    (0, Step::NotifyAll(COND, 0)),
+    (0, Step::Leave),
+    (1, Step::Leave),
+    (2, Step::Leave),
+    (3, Step::Leave),
+];
+
+#[test]
+fn three_waits_are_notified_at_once(rt: HostRuntime) {
+    on_conds(&rt, rt.alloc(), 4, &THREE_AT_ONCE, (3, 0));
 }
 
 /// Three threads wait, alone in their bucket: two are taken, then the other one, then nobody.
