@@ -141,15 +141,7 @@ impl<S: Scheme> ParkingLot<S> {
         X,
         V: FnOnce(X, S::Pass, S::Root) -> (X, S::Pass, S::Root, bool),
         A: FnOnce(X, S::Pass) -> (X, S::Pass),
-    >(
-        &self,
-        rt: &W,
-        pass: S::Pass,
-        key: usize,
-        x: X,
-        validate: V,
-        act: A,
-    ) -> (S::Pass, X, Parked)
+    >(&self, rt: &W, pass: S::Pass, key: usize, x: X, validate: V, act: A) -> (S::Pass, X, Parked)
         requires key { key < self.now.keys }
         requires thread { S.thread pass < self.now.threads }
         requires callable { MayValidate S.Root.view key (V.pre validate x pass) }

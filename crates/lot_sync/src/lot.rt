@@ -129,7 +129,9 @@ impl<V: Keeps + Send, N: LotName<V> + Send> Lot<V, N> {
     pub(crate) fn has_sem(&self, key: usize) -> bool
         ensures { IsTrue result ↔ IsSem self.now key }
     {
-        key >= self.locks && key - self.locks >= self.conds && key - self.locks - self.conds < self.sems
+        key >= self.locks
+            && key - self.locks >= self.conds
+            && key - self.locks - self.conds < self.sems
     }
 
     /// Whether somebody owns the lock at some moment of this call. It is an observation: nothing is promised of it.

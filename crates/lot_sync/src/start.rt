@@ -50,7 +50,6 @@ impl<V: Keeps + Send> Opened<V> {
         close_unused(words, passes, roots, values)
     }
 
-
     /// Starts the lot under the name N: its passes are in, its locks are free, nobody waits on its conditions, and all permits are left.
     /// A pass that starts has to keep what passes that are in keep.
     ///
