@@ -182,7 +182,8 @@ impl<T: Wait + Abort> BeforeSleep for AtGate<'_, T> {
     }
 }
 
-/// `lock` of a thread that looks for its letter only after the gate was opened, and what the test has of it, with how often it came there.
+/// `lock` of a thread that looks for its letter only after the gate was opened, and what the test has of it, with how
+/// often it came there.
 pub(crate) fn own_at_gate<N: LotName<Count> + Send + Sync, T: Wait + Abort>(
     rt: &T,
     lot: &Lot<Count, N>,
@@ -257,7 +258,8 @@ pub(crate) fn wait_once<N: LotName<Count> + Send + Sync, T: Wait>(
     lot.wait(rt, pass, held, cond, Moment { now, word: 7 })
 }
 
-/// `wait` of a thread that is queued, and goes on only after the gate was opened, and what the test has of it, with how often it came there.
+/// `wait` of a thread that is queued, and goes on only after the gate was opened, and what the test has of it, with how
+/// often it came there.
 pub(crate) fn wait_at_gate<N: LotName<Count> + Send + Sync, T: Wait + Abort>(
     rt: &T,
     lot: &Lot<Count, N>,

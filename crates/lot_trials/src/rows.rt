@@ -239,8 +239,9 @@ fn a_handoff_outlives_a_growth(rt: HostRuntime) {
     on_locks(&rt, rt.alloc(), 5, &HANDED_BEFORE_GROWTH);
 }
 
-/// The first sleeper is taken from the line, in which the second is left, and another thread gets the lock at once, though it is marked as parked. The
-/// first is behind the second then: that the line was the second's is seen by who is taken next.
+/// The first sleeper is taken from the line, in which the second is left, and another thread gets the lock at once,
+/// though it is marked as parked. The first is behind the second then: that the line was the second's is seen by who
+/// is taken next.
 static TWO_SLEEPERS: [(usize, Step); 23] = [
     (0, Step::Register(0)),
     (0, Step::Lock(0)),

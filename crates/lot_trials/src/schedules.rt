@@ -56,9 +56,10 @@ pub(crate) enum Step {
     Raise(u64),
     /// Lets its lock go by `unlock` at this moment, and this becomes of it.
     Unlock(u64, Released),
-    /// Lets its lock go by `unlock_asking`, asks so many times for the moment, which is this, and this becomes of it.
+    /// Lets its lock go by `unlock_asking` at this moment, for which it asks so many times, and this becomes of it.
     UnlockAsking(u64, u64, Released),
-    /// Raises a flag while it owns a lock, and looks for that of another thread that does. The next row is made meanwhile.
+    /// Raises a flag while it owns a lock, and looks for that of another thread that does: the next row is made
+    /// meanwhile.
     Meet,
     /// Lets the first of its two locks go at moment 0, and this becomes of it.
     UnlockFirst(Released),
