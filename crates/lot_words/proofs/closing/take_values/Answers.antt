@@ -36,3 +36,6 @@ loop-i-preserved g c =
 
 pub take-requires : goal.take-requires
 take-requires g c = search rules
+
+pub returns-clause-each : goal.returns-clause-each
+returns-clause-each g c = search rules
