@@ -99,12 +99,16 @@ module _ {V Part : Type 0} (rule : CallersRule V Part) where
     where
       became : Released
       became = again.0
+
       gets : Gets rule (waking (leaving pass mid.key mid.value became) cond) mid.key found after
       gets = again.2
+
       went : after ≡ owning (waking (leaving pass held.key mid.value became) cond) held.key found.value
       went = gets.after_is ∙ ap (λ k. owning (waking (leaving pass k mid.value became) cond) k found.value) waits.key_is
+
       saw : HasSeen (waking (leaving pass mid.key mid.value became) cond) mid.key mid.value
       saw = set_here pass.seen mid.key mid.value (subst (λ n. mid.key < n) (sym wide.seen) (subst (λ k. k < lot.locks) (sym waits.key_is) is_lock))
+
       seen : HasSeen after held.key found.value
       seen = subst (λ k. HasSeen after k found.value) waits.key_is gets.seen
 
