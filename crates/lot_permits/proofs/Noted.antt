@@ -1,5 +1,5 @@
 -- How a pass stands after one entry more.
-use Rattle.std.proofs.Common.{◌≡◌, ◌≢◌, ℕ, Bool, true, false, [], ◌∷◌, Option, Some, None, MatchBool, MatchOption, sym, ap, ◌∙◌}
+use Rattle.std.proofs.Common.{◌≡◌, ◌≢◌, ℕ, Bool, true, false, [], ◌∷◌, Option, Some, None, MatchBool, MatchOption, sym, ap, ◌∙◌, ⊎_elim}
 use Rattle.std.proofs.lemmas.List.Sums.{fold-append}
 use Rattle.lot_events.specs.declared.events.Event.TheVariants.{SemTake, SemMark, SemPark, SemFree, SemPass as Passes, SemClear}
 use Rattle.lot_events.specs.declared.events.Seen.TheVariants.{Bool as Saw, Done, Sleeper}
@@ -11,7 +11,8 @@ use Rattle.lot_rights.specs.Steps.{Notes}
 use Rattle.lot_sems.specs.declared.views.SemPassView.{SemPassView}
 use Rattle.lot_sems.specs.declared.taking.Taken.{Taken}
 use Rattle.lot_sems.specs.declared.taking.Taken.TheVariants.{Got, Empty, Busy}
-use Rattle.lot_sems.specs.Calls.{gave, got, seeking, woken, parked_pass, Tries, Takes, FoundNone, Collected}
+use Rattle.lot_sems.specs.Calls.{gave, got, seeking, woken, parked_pass, FoundNone, Collected}
+use Rattle.lot_sems.specs.Calls.{Found, Misses, IsAnyLeft, Tries, Takes, IsUnmarked, Frees}
 use Rattle.lot_permits.specs.declared.permit.Freed.TheVariants.{Quiet}
 use Rattle.lot_permits.specs.Freed.{freed_after, freed_in, freed_by, GivesBack}
 use Rattle.lot_permits.specs.Rights.{SemStanding, standing, giving, queueing, waking, HasTried, HasTaken, IsSemLooked}
@@ -23,15 +24,26 @@ noted p own a q (k, is) = ap standing is ∙ ap (λ f. record { thread = p.threa
     (fold-append (λ before (e : Entry). freed_after before e.access) None p.made (record { at = k; access = a } ∷ []))
 
 -- ---- tries
-pub tried : (p : PassView SemPassView) (k : ℕ) (became : Taken) (q : PassView SemPassView) → Tries p k became q → HasTried (standing p) k became (standing q)
-tried p k Got q note = noted p (got p.own k) (Makes (SemTake p.thread k) (Saw true)) q note
-tried p k Empty q (word, _, note) = noted p p.own (Finds p.thread k word) q note
-tried p k Busy q (word, note) = noted p p.own (Finds p.thread k word) q note
+-- after a look, or an exchange that found another word, it stands as before
+found : (p : PassView SemPassView) (k word : ℕ) (q : PassView SemPassView) → Found p k word q → standing q ≡ standing p
+found p k word q note = noted p p.own (Finds p.thread k word) q note
 
-pub taken : (p : PassView SemPassView) (k : ℕ) (became : Taken) (q : PassView SemPassView) → Takes p k became q → HasTaken (standing p) k became (standing q)
-taken p k Got q note = noted p (got p.own k) (Makes (SemTake p.thread k) (Saw true)) q note
+missed : (p : PassView SemPassView) (k : ℕ) (could : ℕ → Type 0) (q : PassView SemPassView) → Misses p k could q → standing q ≡ standing p
+missed p k could q (seen, other, _, _, (r, look, note)) = found r k other q note ∙ found p k seen r look
+
+pub tried : (p : PassView SemPassView) (k : ℕ) (became : Taken) (q : PassView SemPassView) → Tries p k became q
+    → HasTried (standing p) k became (standing q)
+tried p k Got q (seen, _, (r, look, note)) =
+    noted r (got p.own k) (Makes (SemTake p.thread k) (Saw true)) q note
+    ∙ ap (λ (s : SemStanding). record s { own = got p.own k }) (found p k seen r look)
+tried p k Empty q (word, _, note) = found p k word q note
+tried p k Busy q miss = missed p k IsAnyLeft q miss
+
+pub taken : (p : PassView SemPassView) (k : ℕ) (became : Taken) (q : PassView SemPassView) → Takes p k became q
+    → HasTaken (standing p) k became (standing q)
+taken p k Got q did = tried p k Got q did
 taken p k Empty q note = noted p (seeking p.own k) (Makes (SemTake p.thread k) (Saw false)) q note
-taken p k Busy q (word, note) = noted p p.own (Finds p.thread k word) q note
+taken p k Busy q miss = tried p k Busy q miss
 
 -- ---- the line
 pub marked : (p : PassView SemPassView) (k : ℕ) (does : Bool) (q : PassView SemPassView)
@@ -45,11 +57,12 @@ queued p k does q note = noted p (parked_pass p.own does) (Makes (SemPark p.thre
 
 -- ---- releases
 -- by the one exchange
-pub freed : (p : PassView SemPassView) (k : ℕ) (does : Bool) (q : PassView SemPassView)
-    → MatchBool does (Notes p (gave p.own k) (Makes (SemFree p.thread k) (Saw true)) q) ((word : ℕ) × Notes p p.own (Finds p.thread k word) q)
+pub freed : (p : PassView SemPassView) (k : ℕ) (does : Bool) (q : PassView SemPassView) → Frees p k does q
     → MatchBool does (standing q ≡ giving (standing p) k Quiet) (standing q ≡ standing p)
-freed p k true q note = noted p (gave p.own k) (Makes (SemFree p.thread k) (Saw true)) q note
-freed p k false q (word, note) = noted p p.own (Finds p.thread k word) q note
+freed p k true q (seen, _, (r, look, note)) =
+    noted r (gave p.own k) (Makes (SemFree p.thread k) (Saw true)) q note
+    ∙ ap (λ (s : SemStanding). giving (record s { own = p.own }) k Quiet) (found p k seen r look)
+freed p k false q did = ⊎_elim {C = standing q ≡ standing p} (λ (word, _, note). found p k word q note) (λ miss. missed p k IsUnmarked q miss) did
 
 -- while the bucket is locked
 pub gave_back : (p : PassView SemPassView) (k : ℕ) (more : Bool) (first : Option ℕ) (q : PassView SemPassView) → GivesBack p k more first q → standing q ≡ giving (standing p) k (freed_by first)

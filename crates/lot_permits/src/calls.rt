@@ -12,7 +12,7 @@ use crate::scheme::{NamedSem, SemScheme};
 use crate::seeker::Seeker;
 use lot_park::parts::Part;
 use lot_park::{Moment, ParkingLot, Scheme};
-use lot_sems::Taken;
+use lot_sems::{PERMIT, Taken};
 use std::sync::Wait;
 
 /// Gets a permit where one is left, and else leaves all as it was. It never waits: a load, and where that found a permit, one
@@ -119,5 +119,5 @@ pub fn check_permits<N: PermitName>(
 pub fn permits_left<N: PermitName>(scheme: &SemScheme<N>, key: usize) -> u64
     requires { IsAmongSemaphores N.low (length N.permits) key }
 {
-    scheme.words().bits(key) / 2
+    scheme.words().bits(key) / PERMIT
 }

@@ -8,11 +8,8 @@ use crate::name::PermitName;
 use crate::scheme::{NamedSem, SemKeyRoot, SemScheme};
 use lot_park::parts::Part;
 use lot_park::{AtOnce, ParkingLot, Scheme, Seeking, Sought, Token, get_or_park};
-use lot_sems::Taken;
+use lot_sems::{PARKED, Taken};
 use std::sync::Wait;
-
-/// The bit of a semaphore's word that says that threads may be parked.
-const PARKED: u64 = 1;
 
 /// Takes a permit where one is left, and else leaves all as it was.
 #[tactic(auto, using(crate::proofs::Noted::tried))]

@@ -18,66 +18,80 @@ use Rattle.lot_rights.specs.World.{awake}
 use Rattle.lot_rights.specs.Steps.{Notes, PassTurn, AllowsPass, pass_after}
 use Rattle.lot_rights.proofs.Puts.{by_test}
 use Rattle.lot_rights.proofs.Staying.{pass_stays}
+use Rattle.lot_sems.specs.declared.taking.Taken.{Taken}
 use Rattle.lot_sems.specs.declared.taking.Taken.TheVariants.{Got, Empty, Busy}
 use Rattle.lot_sems.specs.declared.views.SemPassView.{SemPassView}
 use Rattle.lot_sems.specs.World.{Numbers, IsAmong, SemWorld, word_of, NoticesFit, PassKnows}
 use Rattle.lot_sems.specs.Rule.{IsStep, Fits, scheme}
-use Rattle.lot_sems.specs.Calls.{IsSeeking, MayTake, MayGive, seeking, got, gave, Found, Tries, Takes}
+use Rattle.lot_sems.specs.Calls.{IsSeeking, MayTake, MayGive, seeking, got, gave, Found, Exchanges, Misses}
+use Rattle.lot_sems.specs.Calls.{IsAnyLeft, Tries, Takes, TakesFrom, IsUnmarked, Frees}
 use Rattle.lot_sems.proofs.Machine.{awake_is, in_no_line, seeks_letters}
 use Rattle.lot_sems.proofs.Rows.{turned, same_line, row_got, row_empty, row_mark, row_free}
 use Rattle.lot_sems.proofs.Turning.{after, fits_after, pass_after as knows_after, passes_else, out_same, left_few}
 
 -- ---- what each step tells
--- a load of the word of k, by a thread that only tries
-abbrev pub Looks : PassView SemPassView → ℕ → ℕ → PassView SemPassView → Type 0
-Looks p k zero q = Tries p k Empty q
-Looks p k (suc zero) q = Tries p k Empty q
-Looks p k (suc (suc n)) q = Tries p k Busy q
-
--- and by a thread that seeks a permit where none is left
+-- a look at the word of k, by a thread that seeks a permit where none is left
 abbrev pub Seeks : PassView SemPassView → ℕ → ℕ → PassView SemPassView → Type 0
 Seeks p k zero q = Takes p k Empty q
 Seeks p k (suc zero) q = Takes p k Empty q
-Seeks p k (suc (suc n)) q = Takes p k Busy q
+Seeks p k (suc (suc n)) q = Found p k (suc (suc n)) q
 
--- an exchange that takes a permit, where the word was old
-abbrev pub Swaps : PassView SemPassView → ℕ → ℕ → ℕ → PassView SemPassView → Type 0
-Swaps p k old n q = MatchBool (n == old) (Notes p (got p.own k) (Makes (SemTake p.thread k) (Saw true)) q) ((x : ℕ) × Found p k x q)
+-- an exchange of the word that was seen: it was made, and by this event the thread knows this; or it found another word
+abbrev pub Swaps : PassView SemPassView → ℕ → SemPassView → Event → ℕ → ℕ → PassView SemPassView → Type 0
+Swaps p k own e seen n q = MatchBool (n == seen) (Notes p own (Makes e (Saw true)) q) (Found p k n q)
 
 abbrev pub Marks : PassView SemPassView → ℕ → ℕ → PassView SemPassView → Type 0
 Marks p k n q = MatchBool (n == 0) (Notes p p.own (Makes (SemMark p.thread k) Done) q) ((x : ℕ) × (x ≢ 0) × Found p k x q)
 
--- an exchange that gives one back
-abbrev pub Frees : PassView SemPassView → ℕ → ℕ → ℕ → PassView SemPassView → Type 0
-Frees p k old n q = MatchBool (n == old) (Notes p (gave p.own k) (Makes (SemFree p.thread k) (Saw true)) q) ((x : ℕ) × Found p k x q)
-
 -- ---- what a number found tells the caller
-pub looks_empty : (p : PassView SemPassView) (k n : ℕ) (q : PassView SemPassView) → n < 2 → Looks p k n q → Tries p k Empty q
-looks_empty p k zero q few h = h
-looks_empty p k (suc zero) q few h = h
-looks_empty p k (suc (suc n)) q few h = absurd (omega arith)
-
-pub looks_busy : (p : PassView SemPassView) (k n : ℕ) (q : PassView SemPassView) → 2 ≤ n → Looks p k n q → Tries p k Busy q
-looks_busy p k zero q some h = absurd (omega arith)
-looks_busy p k (suc zero) q some h = absurd (omega arith)
-looks_busy p k (suc (suc n)) q some h = h
-
 pub seeks_empty : (p : PassView SemPassView) (k n : ℕ) (q : PassView SemPassView) → n < 2 → Seeks p k n q → Takes p k Empty q
 seeks_empty p k zero q few h = h
 seeks_empty p k (suc zero) q few h = h
 seeks_empty p k (suc (suc n)) q few h = absurd (omega arith)
 
-pub seeks_busy : (p : PassView SemPassView) (k n : ℕ) (q : PassView SemPassView) → 2 ≤ n → Seeks p k n q → Takes p k Busy q
-seeks_busy p k zero q some h = absurd (omega arith)
-seeks_busy p k (suc zero) q some h = absurd (omega arith)
-seeks_busy p k (suc (suc n)) q some h = h
+pub seeks_left : (p : PassView SemPassView) (k n : ℕ) (q : PassView SemPassView) → IsAnyLeft n → Seeks p k n q → Found p k n q
+seeks_left p k zero q some h = absurd (omega arith)
+seeks_left p k (suc zero) q some h = absurd (omega arith)
+seeks_left p k (suc (suc n)) q some h = h
 
 -- the exchange was made, or it failed
-pub swapped : (p : PassView SemPassView) (k old n : ℕ) (q : PassView SemPassView) → n ≡ old → Swaps p k old n q → Tries p k Got q
-swapped p k old n q e h = subst (λ b. MatchBool b (Tries p k Got q) ((x : ℕ) × Found p k x q)) (eq-eqb n old e) h
+module _ (p : PassView SemPassView) (k : ℕ) (own : SemPassView) (e : Event) (seen n : ℕ) (q : PassView SemPassView) where
+  pub swapped : n ≡ seen → Swaps p k own e seen n q → Notes p own (Makes e (Saw true)) q
+  swapped is h = subst (λ b. MatchBool b (Notes p own (Makes e (Saw true)) q) (Found p k n q)) (eq-eqb n seen is) h
 
-pub unswapped : (p : PassView SemPassView) (k old n : ℕ) (q : PassView SemPassView) → n ≢ old → Swaps p k old n q → Tries p k Busy q
-unswapped p k old n q ne h = subst (λ b. MatchBool b (Tries p k Got q) ((x : ℕ) × Found p k x q)) (ne_eqb n old ne) h
+  pub unswapped : n ≢ seen → Swaps p k own e seen n q → Found p k n q
+  unswapped ne h = subst (λ b. MatchBool b (Notes p own (Makes e (Saw true)) q) (Found p k n q)) (ne_eqb n seen ne) h
+
+-- ---- a look, by which p became r, and then an exchange
+module _ (p r : PassView SemPassView) (k seen : ℕ) (look : Found p k seen r) where
+  -- what was asked of the pass is so after the look
+  pub after_look : (Asks : SemPassView → Type 0) → Asks p.own → Asks r.own
+  after_look Asks may = subst (λ (z : PassView SemPassView). Asks z.own) (sym look.1) may
+
+  exchanged : (could : ℕ → Type 0) (own : SemPassView → SemPassView) (e : ℕ → Event) (q : PassView SemPassView) → could seen
+      → Notes r (own r.own) (Makes (e r.thread) (Saw true)) q → Exchanges p k could (own p.own) (e p.thread) q
+  exchanged could own e q may note =
+      (seen, may, (r, look, subst (λ (z : PassView SemPassView). Notes r (own z.own) (Makes (e z.thread) (Saw true)) q) look.1 note))
+
+  missed : (could : ℕ → Type 0) (n : ℕ) (q : PassView SemPassView) → could seen → n ≢ seen → Found r k n q → Misses p k could q
+  missed could n q may ne found = (seen, n, may, ne, (r, look, found))
+
+  pub tried : IsAnyLeft seen → (became : Taken) (q : PassView SemPassView) → TakesFrom r k seen became q → Tries p k became q
+  tried left Got q h = exchanged IsAnyLeft (λ own. got own k) (λ t. SemTake t k) q left h
+  tried left Empty q h = absurd h
+  tried left Busy q (n, ne, found) = missed IsAnyLeft n q left ne found
+
+  pub taken : IsAnyLeft seen → (became : Taken) (q : PassView SemPassView) → TakesFrom r k seen became q → Takes p k became q
+  taken left Got q h = tried left Got q h
+  taken left Empty q h = absurd h
+  taken left Busy q h = tried left Busy q h
+
+  pub freed : IsUnmarked seen → (n : ℕ) (q : PassView SemPassView)
+      → Swaps r k (gave r.own k) (SemFree r.thread k) seen n q → Frees p k (n == seen) q
+  freed clear n q = by_test
+      (λ b. MatchBool b (Notes r (gave r.own k) (Makes (SemFree r.thread k) (Saw true)) q) (Found r k n q) → Frees p k b q) n seen
+      (λ is h. exchanged IsUnmarked (λ own. gave own k) (λ t. SemFree t k) q clear h)
+      (λ ne h. inr (missed IsUnmarked n q clear ne h))
 
 -- ---- words
 pub bit_few : (b : Bool) → bit b ≤ 1
@@ -149,16 +163,17 @@ module _ (size : Numbers) (p : PassView SemPassView) (k : ℕ) (among : IsAmong 
           makes x left (w.part.sems.parked k) (w.part.sems.out k t) (Some k) (seeking p.own k) (SemTake t k) (Saw false) then refl
           (row_empty w.part size t fit.near k among may (omega (arith, found, is))) (is ∙ found) refl up (out_same size w t k p.own fit) told
 
-      swap_turn : (old : ℕ) → 2 ≤ old → PassTurn (scheme size) (word_at k) (either (n == old) (old - 2) n) p (Swaps p k old n) w ws hs
+      swap_turn : (old : ℕ) → IsAnyLeft old
+          → PassTurn (scheme size) (word_at k) (either (n == old) (old - 2) n) p (Swaps p k (got p.own k) (SemTake t k) old n) w ws hs
       swap_turn old some = by_test (λ b. PassTurn (scheme size) (word_at k) (either b (old - 2) n) p
-          (λ q. MatchBool b (Notes p (got p.own k) (Makes (SemTake t k) (Saw true)) q) ((x : ℕ) × Found p k x q)) w ws hs) n old
+          (λ q. MatchBool b (Notes p (got p.own k) (Makes (SemTake t k) (Saw true)) q) (Found p k n q)) w ws hs) n old
           (λ is. got_turn old some is (λ q. Notes p (got p.own k) (Makes (SemTake t k) (Saw true)) q) (λ i. (i, refl)))
-          (λ _. finds n refl (λ q. (x : ℕ) × Found p k x q) (λ i. (n, (i, refl))))
+          (λ _. finds n refl (Found p k n) (λ i. (i, refl)))
 
       seek_turn : (x : ℕ) → x ≡ n → PassTurn (scheme size) (word_at k) x p (Seeks p k x) w ws hs
       seek_turn zero is = empty_turn 0 is (omega arith) (Seeks p k 0) (λ i. (i, refl))
       seek_turn (suc zero) is = empty_turn (suc zero) is (omega arith) (Seeks p k (suc zero)) (λ i. (i, refl))
-      seek_turn (suc (suc m)) is = finds (suc (suc m)) is (Seeks p k (suc (suc m))) (λ i. (suc (suc m), (i, refl)))
+      seek_turn (suc (suc m)) is = finds (suc (suc m)) is (Seeks p k (suc (suc m))) (λ i. (i, refl))
 
     -- ---- marking
     mark_turn : p.own.seeks ≡ Some k → PassTurn (scheme size) (word_at k) (either (n == 0) 1 n) p (Marks p k n) w ws hs
@@ -170,9 +185,11 @@ module _ (size : Numbers) (p : PassView SemPassView) (k : ℕ) (among : IsAmong 
         (λ ne. finds n refl (λ q. (x : ℕ) × (x ≢ 0) × Found p k x q) (λ i. (n, ne, (i, refl))))
 
     -- ---- giving back
-    free_turn : p.own.seeks ≡ None → 1 ≤ get_or p.own.out k 0 → (old : ℕ) → old % 2 ≡ 0 → PassTurn (scheme size) (word_at k) (either (n == old) ((old + 2) % 2 ^ 64) n) p (Frees p k old n) w ws hs
+    free_turn : p.own.seeks ≡ None → 1 ≤ get_or p.own.out k 0 → (old : ℕ) → IsUnmarked old
+        → PassTurn (scheme size) (word_at k) (either (n == old) ((old + 2) % 2 ^ 64) n) p
+        (Swaps p k (gave p.own k) (SemFree t k) old n) w ws hs
     free_turn aim some old even = by_test (λ b. PassTurn (scheme size) (word_at k) (either b ((old + 2) % 2 ^ 64) n) p
-        (λ q. MatchBool b (Notes p (gave p.own k) (Makes (SemFree t k) (Saw true)) q) ((x : ℕ) × Found p k x q)) w ws hs) n old
+        (λ q. MatchBool b (Notes p (gave p.own k) (Makes (SemFree t k) (Saw true)) q) (Found p k n q)) w ws hs) n old
         (λ is.
         let clear : w.part.sems.parked k ≡ false = even_clear left old (w.part.sems.parked k) (sym found ∙ is) even in
         let bare : word_of left (w.part.sems.parked k) ≡ 2 * left = ap (word_of left) clear ∙ omega arith in
@@ -182,25 +199,24 @@ module _ (size : Numbers) (p : PassView SemPassView) (k : ℕ) (among : IsAmong 
         (λ q. Notes p (gave p.own k) (Makes (SemFree t k) (Saw true)) q) refl
         (row_free w.part size t fit.near k among (fit.seeks ∙ aim) (subst (λ z. 1 ≤ z) (sym (fit.out k)) some) clear)
         (omega (arith, found, is, bare, more, few)) fit.seeks up (ap (λ z. set p.own.out k (z - 1)) (sym (fit.out k))) (λ i. (i, refl)))
-        (λ _. finds n refl (λ q. (x : ℕ) × Found p k x q) (λ i. (n, (i, refl))))
-
-  look_turn : (x : ℕ) → x ≡ n → PassTurn (scheme size) (word_at k) x p (Looks p k x) w ws hs
-  look_turn zero is = finds 0 is (Looks p k 0) (λ i. (0, omega arith, (i, refl)))
-  look_turn (suc zero) is = finds (suc zero) is (Looks p k (suc zero)) (λ i. (suc zero, omega arith, (i, refl)))
-  look_turn (suc (suc m)) is = finds (suc (suc m)) is (Looks p k (suc (suc m))) (λ i. (suc (suc m), (i, refl)))
+        (λ _. finds n refl (Found p k n) (λ i. (i, refl)))
 
 module _ (size : Numbers) (p : PassView SemPassView) (k : ℕ) (among : IsAmong size k) where
-  pub looks : AllowsPass (scheme size) (word_at k) (λ n. n) p (Looks p k)
-  looks w ws hs ok fit small = look_turn size p k among w ws hs ok fit (get_or ws (word_at k) 0) refl
+  pub looks : AllowsPass (scheme size) (word_at k) (λ n. n) p (Found p k)
+  looks w ws hs ok fit small =
+      let n : ℕ = get_or ws (word_at k) 0 in finds size p k among w ws hs ok fit n refl (Found p k n) (λ i. (i, refl))
 
   pub seeks : MayTake p.own k → AllowsPass (scheme size) (word_at k) (λ n. n) p (Seeks p k)
   seeks may w ws hs ok fit small = seek_turn size p k among w ws hs ok fit may.0 may.1 (get_or ws (word_at k) 0) refl
 
-  pub swaps : MayTake p.own k → (old : ℕ) → 2 ≤ old → AllowsPass (scheme size) (word_at k) (λ n. either (n == old) (old - 2) n) p (Swaps p k old)
+  pub swaps : MayTake p.own k → (old : ℕ) → IsAnyLeft old
+      → AllowsPass (scheme size) (word_at k) (λ n. either (n == old) (old - 2) n) p (Swaps p k (got p.own k) (SemTake p.thread k) old)
   swaps may old some w ws hs ok fit small = swap_turn size p k among w ws hs ok fit may.0 may.1 old some
 
   pub marks : IsSeeking p.own k → AllowsPass (scheme size) (word_at k) (λ n. either (n == 0) 1 n) p (Marks p k)
   marks is w ws hs ok fit small = mark_turn size p k among w ws hs ok fit is.0 is.1
 
-  pub frees : MayGive p.own k → (old : ℕ) → old % 2 ≡ 0 → AllowsPass (scheme size) (word_at k) (λ n. either (n == old) ((old + 2) % 2 ^ 64) n) p (Frees p k old)
+  pub frees : MayGive p.own k → (old : ℕ) → IsUnmarked old
+      → AllowsPass (scheme size) (word_at k) (λ n. either (n == old) ((old + 2) % 2 ^ 64) n) p
+      (Swaps p k (gave p.own k) (SemFree p.thread k) old)
   frees may old even w ws hs ok fit small = free_turn size p k among w ws hs ok fit may.0.0 may.0.1 may.1 old even

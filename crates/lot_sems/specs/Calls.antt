@@ -1,6 +1,7 @@
 -- What each kind of call does to the rights that it is handed.
-use Rattle.std.specs.Prelude.{◌≡◌, ℕ, zero, suc, ◌+◌, ◌-◌, ◌<◌, ◌≤◌, ◌⊎◌, ◌++◌, if◌then◌else◌, Bool, true, false, List, [], ◌∷◌, slice_index, slice_set, Option, Some, None}
-use Rattle.lot_events.specs.declared.events.Event.TheVariants.{SemTake}
+use Rattle.std.specs.Prelude.{◌≡◌, ◌≢◌, ℕ, zero, suc, ◌+◌, ◌-◌, ◌%◌, ◌<◌, ◌≤◌, ◌⊎◌, ◌++◌, if◌then◌else◌, Bool, true, false, List, [], ◌∷◌, slice_index, slice_set, Option, Some, None}
+use Rattle.lot_events.specs.declared.events.Event.{Event}
+use Rattle.lot_events.specs.declared.events.Event.TheVariants.{SemTake, SemFree}
 use Rattle.lot_events.specs.declared.events.Seen.TheVariants.{Bool as Saw}
 use Rattle.lot_rights.specs.declared.views.Access.TheVariants.{Makes, Collects, Finds}
 use Rattle.lot_rights.specs.declared.views.PassView.{PassView}
@@ -62,21 +63,51 @@ raise_of None more = 2
 raise_of (Some u) true = 2
 raise_of (Some u) false = 1
 
--- ---- tries to take a permit of k
--- q is the pass p, which found this word and left it so
+-- ---- looks and exchanges: what became of the pass p by them, which is q then
+-- a look at the word of k, which found this and left it so; or an exchange that found this, and not what it was to replace
 abbrev pub Found : PassView SemPassView → ℕ → ℕ → PassView SemPassView → Type 0
 Found p k word q = Notes p p.own (Finds p.thread k word) q
 
+-- a look that found a word of such a kind, and then an exchange, which was made: by this event the thread knows this
+abbrev pub Exchanges : PassView SemPassView → ℕ → (ℕ → Type 0) → SemPassView → Event → PassView SemPassView → Type 0
+Exchanges p k could own e q =
+    (word : ℕ) × could word × ((r : PassView SemPassView) × Found p k word r × Notes r own (Makes e (Saw true)) q)
+
+-- a look that found a word of such a kind, and then an exchange that found another word than the look
+abbrev pub Misses : PassView SemPassView → ℕ → (ℕ → Type 0) → PassView SemPassView → Type 0
+Misses p k could q =
+    (seen found : ℕ) × could seen × (found ≢ seen) × ((r : PassView SemPassView) × Found p k seen r × Found r k found q)
+
+-- ---- tries to take a permit of k
+-- a permit is left, in such a word
+abbrev pub IsAnyLeft : ℕ → Type 0
+IsAnyLeft word = 2 ≤ word
+
+-- by an exchange of the word that a look found
+abbrev pub TakesFrom : PassView SemPassView → ℕ → ℕ → Taken → PassView SemPassView → Type 0
+TakesFrom p k seen Got q = Notes p (got p.own k) (Makes (SemTake p.thread k) (Saw true)) q
+TakesFrom p k seen Empty q = ⊥
+TakesFrom p k seen Busy q = (found : ℕ) × (found ≢ seen) × Found p k found q
+
 abbrev pub Tries : PassView SemPassView → ℕ → Taken → PassView SemPassView → Type 0
-Tries p k Got q = Notes p (got p.own k) (Makes (SemTake p.thread k) (Saw true)) q
+Tries p k Got q = Exchanges p k IsAnyLeft (got p.own k) (SemTake p.thread k) q
 Tries p k Empty q = (word : ℕ) × (word < 2) × Found p k word q
-Tries p k Busy q = (word : ℕ) × Found p k word q
+Tries p k Busy q = Misses p k IsAnyLeft q
 
 -- the same, where a thread that finds none seeks one
 abbrev pub Takes : PassView SemPassView → ℕ → Taken → PassView SemPassView → Type 0
-Takes p k Got q = Notes p (got p.own k) (Makes (SemTake p.thread k) (Saw true)) q
+Takes p k Got q = Exchanges p k IsAnyLeft (got p.own k) (SemTake p.thread k) q
 Takes p k Empty q = Notes p (seeking p.own k) (Makes (SemTake p.thread k) (Saw false)) q
-Takes p k Busy q = (word : ℕ) × Found p k word q
+Takes p k Busy q = Misses p k IsAnyLeft q
+
+-- ---- a try to give a permit of k back at once, and whether it was
+-- nobody is marked as parked, in such a word
+abbrev pub IsUnmarked : ℕ → Type 0
+IsUnmarked word = word % 2 ≡ 0
+
+abbrev pub Frees : PassView SemPassView → ℕ → Bool → PassView SemPassView → Type 0
+Frees p k true q = Exchanges p k IsUnmarked (gave p.own k) (SemFree p.thread k) q
+Frees p k false q = ((word : ℕ) × (word % 2 ≡ 1) × Found p k word q) ⊎ Misses p k IsUnmarked q
 
 -- ---- letters
 -- q is the pass p after it found no letter

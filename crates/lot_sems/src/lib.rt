@@ -1,17 +1,17 @@
 //! Semaphore words under one rule: the permits that are left of each counting semaphore, its parked bit, and the letters by which sleepers
-//! are told. Each call is one single access to one word, and makes exactly one entry of the table's history (lot_rights), which its
-//! contract names: an event of the model (lot_core), or a notice. Nothing here waits, and nothing but `open` takes memory. lot_words and
-//! lot_conds are its siblings.
+//! are told. Each access to a word makes exactly one entry of the table's history (lot_rights), which the contract of its call names: an
+//! event of the model (lot_core), or a notice. A call is one access, or a look and then an exchange of the word that was seen. Nothing here
+//! waits, and nothing but `open` takes memory. lot_words and lot_conds are its siblings.
 //!
 //! A thread acts with its `SemPass`, and a semaphore's line changes with its `SemRoot`, which lies in the bucket of the semaphore.
 //!
 //! | Call | Access | Entry | The pass then |
 //! |---|---|---|---|
-//! | `try_take` | load, or compare-exchange by -2 | SemTake, or what the word was | has one permit more, or is as it was |
-//! | `take` | load, or compare-exchange by -2 | SemTake, or what the word was | has one permit more, seeks one, or is as it was |
+//! | `try_take` | load, then compare-exchange by -2 | what the look found, then SemTake or what the word was | has one permit more, or is as it was |
+//! | `take` | load, then compare-exchange by -2 | the same; SemTake alone where the look finds none | has one permit more, seeks one, or is as it was |
 //! | `mark` | compare-exchange 0 to 1 | SemMark, or what the word was | still seeks a permit |
 //! | `park` | load | SemPark | sleeps in the semaphore's line, or still seeks a permit |
-//! | `free` | compare-exchange by +2 | SemFree, or what the word was | has one permit less, or is as it was |
+//! | `free` | load, then compare-exchange by +2 | what the look found, then SemFree or what the word was | has one permit less, or is as it was |
 //! | `pass_on` | fetch-add | SemPass | has one permit less; the root owes the line's first a letter |
 //! | `clear` | fetch-and | SemClear | is as it was |
 //! | `post` | store 1 | a letter was posted, with the root | (the root owes nothing) |
@@ -42,4 +42,4 @@ pub mod words;
 pub use kind::{SemPass, SemRoot};
 pub use lot_rights::WordsFault;
 pub use taking::Taken;
-pub use words::SemWords;
+pub use words::{PARKED, PERMIT, SemWords};

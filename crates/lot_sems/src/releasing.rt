@@ -1,12 +1,12 @@
 //! Giving a permit back.
-ghost use Rattle.std.specs.Prelude.{true, ◌≡◌, ℕ, [], MatchBool, None};
-ghost use Rattle.lot_events.specs.declared.events.Event.TheVariants.{SemFree, SemPass as Passes, SemClear};
-ghost use Rattle.lot_events.specs.declared.events.Seen.TheVariants.{Bool as Saw, Done, Sleeper};
+ghost use Rattle.std.specs.Prelude.{◌≡◌, [], None};
+ghost use Rattle.lot_events.specs.declared.events.Event.TheVariants.{SemPass as Passes, SemClear};
+ghost use Rattle.lot_events.specs.declared.events.Seen.TheVariants.{Done, Sleeper};
 ghost use Rattle.lot_core.specs.Steps.{SaysMore, first as first_of};
-ghost use Rattle.lot_rights.specs.declared.views.Access.TheVariants.{Makes, Finds};
+ghost use Rattle.lot_rights.specs.declared.views.Access.TheVariants.{Makes};
 ghost use Rattle.lot_rights.specs.Steps.{Notes};
 ghost use Rattle.lot_sems.specs.World.{IsAmong};
-ghost use Rattle.lot_sems.specs.Calls.{IsCalm, MayGive, gave, passed_root, raise_of};
+ghost use Rattle.lot_sems.specs.Calls.{IsCalm, MayGive, Frees, gave, passed_root, raise_of};
 
 use crate::kind::{SemPass, SemRoot};
 use crate::words::{PARKED, PERMIT, SemWords};
@@ -29,31 +29,31 @@ fn raise(first: Option<usize>, more: bool) -> u64
 }
 
 impl SemWords {
-    /// Gives a permit back where nobody is marked as parked, by one compare-exchange, and says whether it did: the fast path of a
-    /// release. Where the word was another, marked as parked or changed by another thread just then, the thread still has the permit, the
-    /// entry says what the word was, and `pass_on` may follow. The event is SemFree.
+    /// Gives a permit back where nobody is marked as parked, and says whether it did: the fast path of a release. It is a look, and where
+    /// that found nobody marked, one compare-exchange of the word that was seen. Where somebody is marked, or the exchange found another
+    /// word, the thread still has the permit, and `pass_on` may follow. The event is SemFree.
     #[inline(always)]
     pub fn free(&self, pass: SemPass, key: usize) -> (SemPass, bool)
         requires table { pass.table ≡ self.now.table }
         requires key { IsAmong self.now.size key }
         requires may { MayGive pass.pass.own key }
         ensures table { result.0.table ≡ pass.table }
-        ensures entry { MatchBool result.1
-            (Notes pass.pass (gave pass.pass.own key) (Makes (SemFree pass.pass.thread key) (Saw true)) result.0.pass)
-            ((word : ℕ) × Notes pass.pass pass.pass.own (Finds pass.pass.thread key word) result.0.pass) }
+        ensures entries { Frees pass.pass key result.1 result.0.pass }
     {
         let words = &self.words;
         let word = word_of_key(key);
-        let seen = words.peek(word);
-        let old = seen - seen % PERMIT;
+        let (pass, seen) = words.load::<Brand, usize>(pass, word, key);
+        if seen & PARKED != 0 {
+            return (pass, false);
+        }
         let (pass, found) = words.compare_exchange::<Brand, usize>(
             pass,
             word,
-            old,
-            old.wrapping_add(PERMIT),
+            seen,
+            seen.wrapping_add(PERMIT),
             key,
         );
-        (pass, found == old)
+        (pass, found == seen)
     }
 
     /// Gives a permit back, by one fetch-add, while the bucket of the semaphore is locked. `first` is the first of the line, to whom the

@@ -1,11 +1,11 @@
-//! Taking a permit: one load, or one compare-exchange of the semaphore's word.
+//! Taking a permit: a look at the semaphore's word, and one compare-exchange of it where a permit is left.
 ghost use Rattle.std.specs.Prelude.{◌≡◌, ◌≢◌, ℕ, MatchBool};
 ghost use Rattle.lot_events.specs.declared.events.Event.TheVariants.{SemMark};
 ghost use Rattle.lot_events.specs.declared.events.Seen.TheVariants.{Done};
 ghost use Rattle.lot_rights.specs.declared.views.Access.TheVariants.{Makes, Finds};
 ghost use Rattle.lot_rights.specs.Steps.{Notes};
 ghost use Rattle.lot_sems.specs.World.{IsAmong};
-ghost use Rattle.lot_sems.specs.Calls.{IsCalm, MayTake, IsSeeking, Tries, Takes};
+ghost use Rattle.lot_sems.specs.Calls.{IsCalm, MayTake, IsSeeking, IsAnyLeft, Tries, Takes, TakesFrom};
 
 use crate::kind::SemPass;
 use crate::words::{NONE_LEFT, PARKED, PERMIT, SemWords};
@@ -17,76 +17,65 @@ use std::marker::Brand;
 pub enum Taken {
     /// The thread has one permit more.
     Got,
-    /// A load found that no permit is left.
+    /// A look found that no permit is left.
     Empty,
-    /// The word was another than it had just been, so that its exchange failed, or a permit came back between two looks. Nothing
-    /// changed, and it may be tried again.
+    /// A look found a permit, and the exchange that followed found another word than the look. Nothing changed, and it may be tried
+    /// again.
     Busy,
 }
 
 impl SemWords {
-    /// Takes a permit where one is left, and else leaves all as it was. One permit is taken by one compare-exchange, and Busy is
-    /// answered where it failed; Empty, where a load found none. The event is SemTake, and made for a permit that was got alone.
+    /// Takes a permit where one is left, and else leaves all as it was. A look finds no permit: Empty; else one compare-exchange takes one
+    /// from the word that was seen: Got, or Busy where it found another. The event is SemTake, and made for a permit that was got alone.
     #[inline(always)]
     pub fn try_take(&self, pass: SemPass, key: usize) -> (SemPass, Taken)
         requires table { pass.table ≡ self.now.table }
         requires key { IsAmong self.now.size key }
         requires calm { IsCalm pass.pass.own }
         ensures table { result.0.table ≡ pass.table }
-        ensures entry { Tries pass.pass key result.1 result.0.pass }
+        ensures entries { Tries pass.pass key result.1 result.0.pass }
     {
         let words = &self.words;
-        let word = word_of_key(key);
-        let was = words.peek(word);
+        let (pass, was) = words.load::<Brand, usize>(pass, word_of_key(key), key);
         if was < PERMIT {
-            let (pass, found) = words.load::<Brand, usize>(pass, word, key);
-            let taken = if found < PERMIT {
-                Taken::Empty
-            } else {
-                Taken::Busy
-            };
-            return (pass, taken);
+            return (pass, Taken::Empty);
         }
-        let (pass, found) = words.compare_exchange::<Brand, usize>(
-            pass,
-            word,
-            was,
-            was - PERMIT,
-            key,
-        );
-        let taken = if found == was {
-            Taken::Got
-        } else {
-            Taken::Busy
-        };
-        (pass, taken)
+        self.take_from(pass, key, was)
     }
 
-    /// Takes a permit where one is left, as `try_take` does; where a load finds none, the thread seeks one from now on: the first step of
-    /// getting a permit, and each further try. The event is SemTake. A thread that sleeps can't take.
+    /// Takes a permit where one is left, as `try_take` does; where the look finds none, the thread seeks one from now on: the first step
+    /// of getting a permit, and each further try. The event is SemTake. A thread that sleeps can't take.
     #[inline(always)]
     pub fn take(&self, pass: SemPass, key: usize) -> (SemPass, Taken)
         requires table { pass.table ≡ self.now.table }
         requires key { IsAmong self.now.size key }
         requires may { MayTake pass.pass.own key }
         ensures table { result.0.table ≡ pass.table }
-        ensures entry { Takes pass.pass key result.1 result.0.pass }
+        ensures entries { Takes pass.pass key result.1 result.0.pass }
     {
         let words = &self.words;
-        let word = word_of_key(key);
-        let seen = words.peek(word);
+        let (pass, seen) = words.load::<Brand, usize>(pass, word_of_key(key), key);
         if seen < PERMIT {
-            let (pass, found) = words.load::<Brand, usize>(pass, word, key);
-            let taken = if found < PERMIT {
-                Taken::Empty
-            } else {
-                Taken::Busy
-            };
-            return (pass, taken);
+            return (pass, Taken::Empty);
         }
+        self.take_from(pass, key, seen)
+    }
+
+    /// Takes a permit from the word that a look found, by one compare-exchange: Got, or Busy where it found another word. The event is
+    /// SemTake.
+    #[inline(always)]
+    fn take_from(&self, pass: SemPass, key: usize, seen: u64) -> (SemPass, Taken)
+        requires table { pass.table ≡ self.now.table }
+        requires key { IsAmong self.now.size key }
+        requires may { MayTake pass.pass.own key }
+        requires left { IsAnyLeft seen }
+        ensures table { result.0.table ≡ pass.table }
+        ensures entry { TakesFrom pass.pass key seen result.1 result.0.pass }
+    {
+        let words = &self.words;
         let (pass, found) = words.compare_exchange::<Brand, usize>(
             pass,
-            word,
+            word_of_key(key),
             seen,
             seen - PERMIT,
             key,

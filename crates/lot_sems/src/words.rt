@@ -12,10 +12,10 @@ use std::marker::Model;
 pub(crate) const NONE_LEFT: u64 = 0;
 
 /// The word of a semaphore of which no permit is left, and on which threads are marked as parked; and the bit that says so.
-pub(crate) const PARKED: u64 = 1;
+pub const PARKED: u64 = 1;
 
 /// One permit, in a word.
-pub(crate) const PERMIT: u64 = 2;
+pub const PERMIT: u64 = 2;
 
 /// The words of all semaphores and the letters of all threads, under the semaphore rule.
 ///

@@ -1,22 +1,45 @@
-use Rattle.std.proofs.Common.{◌==◌, ◌+◌, ◌-◌, ◌%◌, ◌^◌, sym, subst, arith}
+use Rattle.std.proofs.Common.{◌==◌, ◌+◌, ◌%◌, ◌^◌, sym, subst, inl, arith}
+use Rattle.std.proofs.lemmas.Nat.{and_mask}
 use prog.Atomic.{either}
+use Rattle.lot_events.specs.declared.events.Event.TheVariants.{SemFree}
 use Rattle.lot_rights.specs.Layout.{word_at}
 use Rattle.lot_rights.proofs.Places.{pass_at_place}
 use Rattle.lot_sems.specs.World.{IsAmong, numbers}
 use Rattle.lot_sems.specs.Rule.{scheme}
 use Rattle.lot_sems.specs.Shown.{SemWordsShown}
-use Rattle.lot_sems.proofs.Turns.{Frees, frees}
+use Rattle.lot_sems.specs.Calls.{MayGive, IsUnmarked, gave, Found}
+use Rattle.lot_sems.proofs.Turns.{Swaps, looks, frees, after_look, freed}
 use Rattle.lot_sems.proofs.words.SemWords.free.Goals as goal
+
+pub load-pass-requires-clause-allows : goal.load-pass-requires-clause-allows
+load-pass-requires-clause-allows c =
+    let key = c.args.key in
+    let p = c.args.pass.pass in
+    let size = numbers c.self.inside.words.key in
+    let among = subst (λ (z : SemWordsShown). IsAmong z.size key) (sym c.self.view_is) c.requires.key in
+    pass_at_place (scheme size) (word_at key) _ c.word_of_key-word.ensures (λ n. n) p (Found p key) (looks size p key among)
 
 pub compare_exchange-pass-requires-clause-allows : goal.compare_exchange-pass-requires-clause-allows
 compare_exchange-pass-requires-clause-allows c =
     let key = c.args.key in
     let p = c.args.pass.pass in
+    let r = c.load-pass.result.0.pass in
+    let seen = c.load-pass.result.1 in
     let size = numbers c.self.inside.words.key in
     let among = subst (λ (z : SemWordsShown). IsAmong z.size key) (sym c.self.view_is) c.requires.key in
-    let seen = c.peek-seen.result in
-    let old = seen - seen % 2 in
-    pass_at_place (scheme size) (word_at key) _ c.word_of_key-word.ensures (λ n. either (n == old) ((old + 2) % 2 ^ 64) n) p (Frees p key old) (frees size p key among c.requires.may old (omega arith))
+    let may = after_look p r key seen c.load-pass.ensures.told (λ own. MayGive own key) c.requires.may in
+    let clear : IsUnmarked seen = omega (arith, and_mask seen 1, c.if-seen-ne0.false) in
+    pass_at_place (scheme size) (word_at key) _ c.word_of_key-word.ensures (λ n. either (n == seen) ((seen + 2) % 2 ^ 64) n) r
+    (Swaps r key (gave r.own key) (SemFree r.thread key) seen) (frees size r key among may seen clear)
 
-pub returns-clause-entry : goal.returns-clause-entry
-returns-clause-entry c = c.compare_exchange-pass.ensures.told
+pub returns-then-seen-ne0-clause-entries : goal.returns-then-seen-ne0-clause-entries
+returns-then-seen-ne0-clause-entries c =
+    let seen = c.load-pass.result.1 in
+    inl (seen, omega (arith, and_mask seen 1, c.if-seen-ne0.true), c.load-pass.ensures.told)
+
+pub returns-clause-entries : goal.returns-clause-entries
+returns-clause-entries c =
+    let seen = c.load-pass.result.1 in
+    let clear : IsUnmarked seen = omega (arith, and_mask seen 1, c.if-seen-ne0.false) in
+    freed c.args.pass.pass c.load-pass.result.0.pass c.args.key seen c.load-pass.ensures.told clear
+    c.compare_exchange-pass.result.1 c.compare_exchange-pass.result.0.pass c.compare_exchange-pass.ensures.told

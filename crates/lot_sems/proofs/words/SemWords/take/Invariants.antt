@@ -1,8 +1,5 @@
-use Rattle.lot_sems.proofs.Turns.{Seeks, Swaps}
+use Rattle.lot_sems.proofs.Turns.{Seeks}
 use Rattle.lot_sems.proofs.words.SemWords.take.Given as goal
 
 abbrev pub ghosts-load : goal.ghosts-load
 ghosts-load a = record { then = Seeks a.pass.pass a._about }
-
-abbrev pub ghosts-compare_exchange : goal.ghosts-compare_exchange
-ghosts-compare_exchange a = record { then = Swaps a.pass.pass a._about a.old }
