@@ -55,6 +55,7 @@ headline size s ru =
       apart = λ t u k ne a b. omega (arith, sound.permits_conserved k, two_of size.threads (ru.world.part.sems.out k) t u ne a b);
       seekers_are_marked = sound.seekers_are_marked;
       permits_are_sought = sound.permits_are_sought;
+      seeks = sound.seeks;
       once = sound.once;
       log = ru.log;
       history = ru.recorded;

@@ -5,5 +5,6 @@ pub mod Names
 pub mod Opens
 pub mod Roots
 pub mod Rows
+pub mod Running
 pub mod Turning
 pub mod Turns

@@ -11,7 +11,7 @@ use Rattle.lot_rights.specs.Start.{OpensWell}
 use Rattle.lot_rights.specs.World.{awake}
 use Rattle.lot_sems.specs.World.{Numbers, key_count, permits_of, SemWorld, word_in, SemWordsFit}
 use Rattle.lot_sems.specs.Opening.{with_permits, opening_words}
-use Rattle.lot_sems.specs.Rule.{opening_part, scheme}
+use Rattle.lot_sems.specs.Rule.{opening_part, IsSound, scheme}
 use Rattle.lot_sems.proofs.Machine.{no_some}
 use Rattle.lot_core.proofs.Members.{in_none}
 
@@ -73,13 +73,16 @@ module _ (size : Numbers) where
       (λ past. omega (arith, row_from_at 0 low permits k from, get_or_past permits (k - low) 0 past)) (cases_lt (k - low) (length permits)))
       (cases_lt k low)
 
+  pub opening_sound : IsSound size (opening_part size)
+  opening_sound = part_sound size.threads (permits_of size) (opening_part size) (part_opening size.threads (permits_of size))
+
   pub opens_well : ((i : ℕ) → i < length permits → get_or permits i 0 < 4294967296) → OpensWell (scheme size) (opening_words size) []
   opens_well small = record {
     world = fresh_world;
     fits = record {
       few = few small;
       words = fresh_words;
-      sound = part_sound size.threads (permits_of size) (opening_part size) (part_opening size.threads (permits_of size));
+      sound = opening_sound;
       letters = record { fits = λ t. tt; in_line = λ t k h. absurd (in_none t h); is_owed = λ t k e. absurd (no_some t e) };
     };
     passes = λ t near. record { near = near; seeks = refl; asleep = refl; long = length-replicate (key_count size) 0; out = λ k. sym (get_or_replicate 0 (key_count size) k) };

@@ -3,15 +3,12 @@ use Rattle.std.proofs.Common.{◌≡◌, ◌≢◌, ℕ, ◌+◌, ◌-◌, ◌<�
 use Rattle.std.specs.Prelude.{if◌then◌else◌}
 use Rattle.lot_core.specs.World.{put}
 use Rattle.lot_core.specs.Steps.{SaysMore, first, none_left, permit_given, with_sem_line, seeker_woken}
-use Rattle.lot_core.specs.Parts.{SemaphorePart, PartSeeks, semaphore_part_after}
-use Rattle.lot_events.specs.declared.events.Event.{Event}
+use Rattle.lot_core.specs.Parts.{SemaphorePart, PartSeeks}
 use Rattle.lot_events.specs.declared.events.Event.TheVariants.{SemTake, SemMark, SemPark, SemFree, SemPass, SemClear}
-use Rattle.lot_events.specs.declared.events.Seen.{Seen}
 use Rattle.lot_events.specs.declared.events.Seen.TheVariants.{Bool as Saw, Done, Sleeper}
-use Rattle.lot_core.proofs.Permits.{IsKeptPart, part_kept, part_sound}
 use Rattle.lot_core.proofs.Put.{put_again}
-use Rattle.lot_sems.specs.World.{Numbers, IsAmong, permits_of}
-use Rattle.lot_sems.specs.Rule.{IsStep, IsSound}
+use Rattle.lot_sems.specs.World.{Numbers, IsAmong}
+use Rattle.lot_sems.specs.Rule.{IsStep}
 
 -- the part after an event of t at k: what it then has of k, and what t seeks and has
 abbrev pub turned : SemaphorePart → ℕ → ℕ → ℕ → Bool → List ℕ → ℕ → Option ℕ → SemaphorePart
@@ -19,17 +16,6 @@ turned a t k l b xs o s = record {
   sems = record { left = put a.sems.left k l; parked = put a.sems.parked k b; line = put a.sems.line k xs; out = put a.sems.out k (put (a.sems.out k) t o) };
   seeks = put a.seeks t s;
 }
-
--- a step leads from a sound part to a sound part
-module _ (size : Numbers) (a : SemaphorePart) where
-  kept : IsSound size a → IsKeptPart size.threads (permits_of size) a
-  kept h = λ k. record { conserved = h.permits_conserved k; marked = h.seekers_are_marked k; sought = h.permits_are_sought k; once = h.once k; named = h.seeks k }
-
-  pub sound_after : (e : Event) (saw : Seen) (b : SemaphorePart) → IsStep size a e saw b → IsSound size a → IsSound size b
-  sound_after e saw b step h =
-      let is : IsSound size (semaphore_part_after a e) = part_sound size.threads (permits_of size) (semaphore_part_after a e)
-      (part_kept size.threads size.low _ (permits_of size) a e (kept h) step.0) in
-      subst (IsSound size) (sym step.2) is
 
 pub some_left : (l : ℕ) → l ≢ 0 → (l == 0) ≡ false
 some_left l ne = ne_eqb l 0 ne

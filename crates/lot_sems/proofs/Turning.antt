@@ -4,6 +4,7 @@ use Rattle.std.proofs.lemmas.List.{set-get_or}
 use Rattle.lot_core.specs.World.{put}
 use Rattle.lot_events.specs.declared.events.Event.{Event}
 use Rattle.lot_events.specs.declared.events.Seen.{Seen}
+use Rattle.lot_core.proofs.Permits.{semaphore_step_sound}
 use Rattle.lot_core.proofs.Put.{put_same, put_other}
 use Rattle.lot_rights.specs.Layout.{word_at}
 use Rattle.lot_rights.specs.World.{Spot, letters_of}
@@ -11,9 +12,9 @@ use Rattle.lot_rights.proofs.Puts.{put_elim}
 use Rattle.lot_rights.proofs.Worlds.{word_written}
 use Rattle.lot_sems.specs.declared.views.SemPassView.{SemPassView}
 use Rattle.lot_sems.specs.declared.views.SemRootView.{SemRootView}
-use Rattle.lot_sems.specs.World.{Numbers, IsAmong, sizes_of, SemWorld, word_of, told_in, sleeps, LettersFit, PassKnows, RootKnows}
+use Rattle.lot_sems.specs.World.{Numbers, permits_of, IsAmong, sizes_of, SemWorld, word_of, told_in, sleeps, LettersFit, PassKnows, RootKnows}
 use Rattle.lot_sems.specs.Rule.{IsStep, Fits}
-use Rattle.lot_sems.proofs.Rows.{turned, sound_after}
+use Rattle.lot_sems.proofs.Rows.{turned}
 
 -- ---- permits that are out
 module _ (out : ℕ → ℕ → ℕ) (k t o : ℕ) where
@@ -39,7 +40,7 @@ module _ (size : Numbers) (w : SemWorld) (t k : ℕ) (among : IsAmong size k) (l
     words = word_written (λ n. n) (sizes_of size) (told_in w) (told_in after) ws ok.words k x among
         (is ∙ sym (λ i. word_of (put_same w.part.sems.left k l i) (put_same w.part.sems.parked k b i)))
         (λ d ne. λ i. word_of (put_other w.part.sems.left k l d ne i) (put_other w.part.sems.parked k b d ne i)) same;
-    sound = sound_after size w.part e saw (turned w.part t k l b xs o s) step ok.sound;
+    sound = semaphore_step_sound size.threads size.low (length size.permits) (permits_of size) w.part (turned w.part t k l b xs o s) e saw step ok.sound;
     letters = letters;
   }
 

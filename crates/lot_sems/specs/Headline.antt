@@ -1,6 +1,7 @@
 -- What a table of semaphore words promises: at every moment all of this holds, of one world. Permits are conserved; sleepers are marked; no
 -- permit is left lying; each notice is in one place; and one legal history has led here.
-use Rattle.std.specs.Prelude.{◌≡◌, ◌≢◌, ℕ, ◌+◌, ◌<◌, ◌≤◌, ◌⊎◌, List}
+use Rattle.std.specs.Prelude.{◌≡◌, ◌≢◌, ℕ, ◌+◌, ◌<◌, ◌≤◌, ◌⊎◌, List, Some}
+use Rattle.std.specs.List.{Contains}
 use Rattle.atomic_table.specs.Table.{State}
 use Rattle.lot_core.specs.Parts.{PartSeeks}
 use Rattle.lot_core.specs.Sound.{PermitsConserved, SeekersAreMarked, PermitsAreSought, IsOnce}
@@ -33,6 +34,8 @@ pub record Headline (size : Numbers) (s : State (Unit {0}) (List (Right SemPassV
   pub seekers_are_marked : SeekersAreMarked world.part.sems
   -- where somebody is queued, as many threads at least are trying as permits are left
   pub permits_are_sought : PermitsAreSought size.threads world.part
+  -- who is in a line is a thread that seeks a permit there, and is in it once
+  pub seeks : (k t : ℕ) → Contains (world.part.sems.line k) t → (t < size.threads) × (world.part.seeks t ≡ Some k)
   pub once : (k : ℕ) → IsOnce (world.part.sems.line k)
   -- one legal history, of which the rights have all entries, has led here; without its notices it is a run of the model
   pub log : List Entry

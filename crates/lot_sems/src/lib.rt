@@ -30,7 +30,7 @@ mod apart;
 mod closing;
 pub mod kind;
 pub mod laws;
-mod opening;
+pub mod opening;
 mod parking;
 mod posting;
 mod releasing;

@@ -1,10 +1,8 @@
 //! Opening: the table, a pass for each thread and a root for each semaphore.
 ghost use Rattle.std.specs.Prelude.{◌≡◌, ℕ, ◌+◌, ◌<◌, ◌≤◌, [], Some, slice_get, slice_index, vec_len, IfOk};
-ghost use Rattle.atomic_table.specs.Table.{opening};
 ghost use Rattle.lot_core.specs.declared.state.TheConstants.{MAX_THREADS, MAX_KEYS};
 ghost use Rattle.lot_rights.specs.Layout.{word_at};
-ghost use Rattle.lot_rights.specs.Rule.{Ruled};
-ghost use Rattle.lot_rights.specs.Start.{all_rights, pass_at, root_at};
+ghost use Rattle.lot_rights.specs.Start.{pass_at, root_at, Begins};
 ghost use Rattle.lot_sems.specs.Opening.{with_permits, opening_words};
 ghost use Rattle.lot_sems.specs.Rule.{scheme};
 
@@ -14,8 +12,8 @@ use crate::words::{PERMIT, SemWords};
 use lot_rights::{WordsFault, WordsOf, word_of_key, words_for};
 use std::alloc::Global;
 
-/// Writes each semaphore's permits into its word.
-fn fill(words: &mut Vec<u64>, low: usize, permits: &Vec<u32>)
+/// Writes each semaphore's permits into its word: what a table of semaphore words begins with, where all other words are 0.
+pub fn fill(words: &mut Vec<u64>, low: usize, permits: &Vec<u32>)
     requires room { low + vec_len permits.now ≤ MAX_KEYS }
     requires words { (k : ℕ) → k < low + vec_len permits.now → word_at k < vec_len words.old }
     ensures words { words.new.items ≡ with_permits words.old.items low permits.now.items (vec_len permits.now) }
@@ -39,7 +37,7 @@ impl SemWords {
         ensures size { IfOk result (λ r. r.0.size ≡ record { threads = threads; low = low; permits = permits.items }) }
         ensures passes { IfOk result (λ r. (vec_len r.1 ≡ threads) × ((t : ℕ) → t < threads → slice_get r.1.items t ≡ Some (pass_at (scheme r.0.size) r.0.table t))) }
         ensures roots { IfOk result (λ r. (vec_len r.2 ≡ vec_len permits) × ((i : ℕ) → i < vec_len permits → slice_get r.2.items i ≡ Some (root_at (scheme r.0.size) r.0.table (low + i)))) }
-        ensures rule { IfOk result (λ r. Ruled (scheme r.0.size) (opening (opening_words r.0.size) [] (all_rights (scheme r.0.size)))) }
+        ensures rule { IfOk result (λ r. Begins (scheme r.0.size) (opening_words r.0.size) []) }
     {
         let keys = permits.len();
         let mut words = match vec![in alloc; 0; words_for(threads, low + keys)] {

@@ -1,9 +1,7 @@
 use Rattle.std.proofs.Common.{◌≡◌, ◌+◌, ◌<◌, ℕ, [], length, replicate, slice_get, Some, sym, ap, subst, ◌∙◌, arith}
 use Rattle.std.specs.Vec.{vec_len}
-use Rattle.atomic_table.specs.Table.{opening}
 use Rattle.lot_rights.specs.Layout.{word_count}
-use Rattle.lot_rights.specs.Rule.{Ruled}
-use Rattle.lot_rights.specs.Start.{OpensWell, all_rights, pass_at, root_at}
+use Rattle.lot_rights.specs.Start.{OpensWell, Begins, pass_at, root_at}
 use Rattle.lot_sems.specs.World.{Numbers, numbers}
 use Rattle.lot_sems.specs.Opening.{opening_words, with_permits}
 use Rattle.lot_sems.specs.Rule.{scheme}
@@ -65,5 +63,5 @@ returns-in-Ok-open_with-clause-rule c =
     let words : c.fill.new.words.items ≡ opening_words size = c.fill.ensures.words ∙ (λ i. with_permits (zeros i) low permits (len i)) in
     let same : now ≡ size = ap numbers c.in-Ok-open_with.ensures.table.2
     ∙ (λ i. record { threads = c.new-start.ensures.size.0 i; low = c.new-start.ensures.size.1 i; permits = (c.new-start.ensures.permits i).items }) in
-    subst (λ ws. Ruled (scheme now) (opening ws [] (all_rights (scheme now)))) (c.as_slice.ensures.value ∙ (words ∙ sym (ap opening_words same)))
-    (subst (λ slots. Ruled (scheme now) (opening c.as_slice.result.now slots (all_rights (scheme now)))) c.new.ensures.items c.in-Ok-open_with.ensures.rule)
+    subst (λ ws. Begins (scheme now) ws []) (c.as_slice.ensures.value ∙ (words ∙ sym (ap opening_words same)))
+    (subst (Begins (scheme now) c.as_slice.result.now) c.new.ensures.items c.in-Ok-open_with.ensures.rule)
