@@ -318,8 +318,9 @@ impl<S: Scheme> ParkingLot<S> {
         requires { threads ≤ self.now.threads }
         ensures { IfOk result (λ g. Serves threads g) }
     {
+        let grown = self.table.ensure(rt, threads)?;
         self.about.store(threads, Ordering::SeqCst);
-        self.table.ensure(rt, threads)
+        Ok(grown)
     }
 
     // How many threads are about, as far as the lot was told (`ensure`).

@@ -61,6 +61,12 @@ impl Record {
         }
     }
 
+    /// Whether the thread sleeps, or is about to ask the system for it, at some moment of this call. It is an observation, of which nothing
+    /// is promised.
+    pub fn is_asleep(&self) -> bool {
+        self.state.load(Ordering::SeqCst) == ASLEEP
+    }
+
     /// Whether a wake comes within a few yields.
     fn is_woken_soon(&self) -> bool {
         for _ in 0..YIELDS {
