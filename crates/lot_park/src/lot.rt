@@ -4,7 +4,7 @@ use crate::parking::{park_in, unpark_count_in, unpark_in};
 use crate::scheme::{Scheme, Token};
 use crate::taken::{MOST_THREADS, Taken};
 use crossbeam_utils::CachePadded;
-use lot_bucket::{Bucket, Dequeued, Moment};
+use lot_bucket::{Bucket, Dequeued as UnparkResult, Moment};
 use lot_records::Record;
 use lot_table::{Grown, Table, TableFault};
 use std::alloc::{AllocError, Global};
@@ -186,14 +186,14 @@ impl<S: Scheme> ParkingLot<S> {
     /// Takes the first thread of the key's line, if there is one, and tells it what `callback` answers.
     ///
     /// `callback` is called once, under the lock of the key's bucket.
-    pub fn unpark_one<W: Wait, X, F: FnOnce(X, S::Root, Dequeued) -> (X, S::Root, Token)>(
+    pub fn unpark_one<W: Wait, X, F: FnOnce(X, S::Root, UnparkResult) -> (X, S::Root, Token)>(
         &self,
         rt: &W,
         key: usize,
         moment: Moment,
         x: X,
         callback: F,
-    ) -> (X, Dequeued)
+    ) -> (X, UnparkResult)
         requires key { key < self.now.keys }
         requires callable { MayUnpark S.Root.view key moment.now (F.pre callback x) }
         requires keeps { Unparks S.Root.view (λ (t : Token). t.0) key moment.now (F.post callback x) }
@@ -204,7 +204,7 @@ impl<S: Scheme> ParkingLot<S> {
             rt,
             key,
             x,
-            |bucket: &mut Bucket<S::Root>, x: X| -> (X, Dequeued)
+            |bucket: &mut Bucket<S::Root>, x: X| -> (X, UnparkResult)
                 requires ready { IsOpenFor S.Root.view key bucket.old }
                 requires callable { MayUnpark S.Root.view key moment.now (F.pre callback x) }
                 requires keeps { Unparks S.Root.view (λ (t : Token). t.0) key moment.now (F.post callback x) }

@@ -8,7 +8,7 @@ ghost use Rattle.lot_park.specs.Parking.{IsOpenFor, TellsCount, debt, debts, May
 
 use crate::scheme::{Scheme, Token};
 use crate::taken::{MOST_THREADS, Taken};
-use lot_bucket::{Bucket, Dequeued, Moment, Root};
+use lot_bucket::{Bucket, Dequeued as UnparkResult, Moment, Root};
 
 /// Validates, and queues the pass's thread last where that says yes.
 pub fn park_in<S: Scheme, X, V: FnOnce(X, S::Pass, S::Root) -> (X, S::Pass, S::Root, bool)>(
@@ -34,14 +34,14 @@ pub fn park_in<S: Scheme, X, V: FnOnce(X, S::Pass, S::Root) -> (X, S::Pass, S::R
 }
 
 /// Takes the first thread of the key's line, and posts the letter that the callback decides on.
-pub fn unpark_in<S: Scheme, X, F: FnOnce(X, S::Root, Dequeued) -> (X, S::Root, Token)>(
+pub fn unpark_in<S: Scheme, X, F: FnOnce(X, S::Root, UnparkResult) -> (X, S::Root, Token)>(
     scheme: &S,
     bucket: &mut Bucket<S::Root>,
     key: usize,
     moment: Moment,
     x: X,
     callback: F,
-) -> (X, Dequeued)
+) -> (X, UnparkResult)
     requires ready { IsOpenFor S.Root.view key bucket.old }
     requires callable { MayUnpark S.Root.view key moment.now (F.pre callback x) }
     requires keeps { Unparks S.Root.view (λ (t : Token). t.0) key moment.now (F.post callback x) }

@@ -12,7 +12,7 @@ ghost use Rattle.lot_park.specs.Parts.{CallsBack, CallsBackCount, Checks};
 
 use crate::lot::{Parked, ParkingLot};
 use crate::scheme::{Scheme, Token};
-use lot_bucket::{Dequeued, Moment, Root};
+use lot_bucket::{Dequeued as UnparkResult, Moment, Root};
 use std::sync::Wait;
 
 pub mod one_of;
@@ -28,8 +28,15 @@ pub fn unpark_one<
     P: Part<S, A>,
     W: Wait,
     X,
-    F: FnOnce(X, A::Root, Dequeued) -> (X, A::Root, Token),
->(rt: &W, parking: &ParkingLot<S>, key: usize, moment: Moment, x: X, callback: F) -> (X, Dequeued)
+    F: FnOnce(X, A::Root, UnparkResult) -> (X, A::Root, Token),
+>(
+    rt: &W,
+    parking: &ParkingLot<S>,
+    key: usize,
+    moment: Moment,
+    x: X,
+    callback: F,
+) -> (X, UnparkResult)
     requires key { key < parking.now.keys }
     requires serves { P.serves key }
     requires callable { MayUnpark A.Root.view key moment.now (F.pre callback x) }
@@ -41,7 +48,7 @@ pub fn unpark_one<
         key,
         moment,
         x,
-        |x: X, root: S::Root, told: Dequeued| -> (X, S::Root, Token)
+        |x: X, root: S::Root, told: UnparkResult| -> (X, S::Root, Token)
             requires serves { P.serves (S.Root.view root).key }
             requires callable { (mine : A.Root) → P.whole_root mine ≡ root → F.pre callback x mine told }
             requires keeps { (mine : A.Root) (o : _) → P.whole_root mine ≡ root → F.post callback x mine told o → P.serves (A.Root.view o.1).key }
@@ -56,8 +63,8 @@ fn call_back<
     A: Scheme,
     P: Part<S, A>,
     X,
-    F: FnOnce(X, A::Root, Dequeued) -> (X, A::Root, Token),
->(x: X, root: S::Root, told: Dequeued, callback: F) -> (X, S::Root, Token)
+    F: FnOnce(X, A::Root, UnparkResult) -> (X, A::Root, Token),
+>(x: X, root: S::Root, told: UnparkResult, callback: F) -> (X, S::Root, Token)
     requires serves { P.serves (S.Root.view root).key }
     requires callable { (mine : A.Root) → P.whole_root mine ≡ root → F.pre callback x mine told }
     requires keeps { (mine : A.Root) (o : _) → P.whole_root mine ≡ root → F.post callback x mine told o → P.serves (A.Root.view o.1).key }
