@@ -1,7 +1,9 @@
 //! Locks, waits and notifications on a parking lot of their own, by the calls of `lot_locks` and `lot_waits`.
 
 mod asserts;
+mod handoffs;
 mod ledger;
 mod locks;
+mod sweeps;
 mod tables;
 mod waits;

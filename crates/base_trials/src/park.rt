@@ -1,10 +1,11 @@
 //! Places to sleep, buckets and their table, and the parking lot.
 
-mod askings;
+pub(crate) mod askings;
 mod buckets;
 mod letters;
 mod lots;
 mod queues;
 mod records;
 mod rights;
+mod seeking;
 mod tables;

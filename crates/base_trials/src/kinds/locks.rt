@@ -20,7 +20,7 @@ use std::test::*;
 
 // What the lock guards.
 #[derive(Drop)]
-struct Nothing;
+pub(crate) struct Nothing;
 
 impl Keeps for Nothing {
     type Part = ();
@@ -36,9 +36,9 @@ impl Keeps for Nothing {
     ghost grows_on = { λ x y z p q. tt };
 }
 
-type OneLock<N> = LockScheme<Nothing, N>;
+pub(crate) type OneLock<N> = LockScheme<Nothing, N>;
 
-type Right<N> = NamedPass<Nothing, N>;
+pub(crate) type Right<N> = NamedPass<Nothing, N>;
 
 // A thread fails here: it was queued where it should not be.
 #[derive(Drop)]
@@ -53,7 +53,7 @@ impl<R: Abort> BeforeSleep for Never<'_, R> {
 }
 
 // The lock is free, and is got.
-fn get<N: Name + Send>(rt: &impl Abort, scheme: &OneLock<N>, pass: Right<N>) -> Right<N>
+pub(crate) fn get<N: Name + Send>(rt: &impl Abort, scheme: &OneLock<N>, pass: Right<N>) -> Right<N>
     requires size { scheme.now.size.locks ≡ 1 }
     requires pass { HasNone pass.thread pass × MayTake pass 0 }
     ensures { HasIt pass.thread result }

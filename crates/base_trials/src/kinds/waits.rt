@@ -1,12 +1,12 @@
 //! Waits and notifications in a lot of two tables, of which the first is one of locks that nobody takes, and what the ledger says of them.
-ghost use Rattle.std.specs.Prelude.{◌≡◌, ◌<◌, IsSomeAnd};
+ghost use Rattle.std.specs.Prelude.{◌≡◌, ◌<◌, None, IsSomeAnd};
 ghost use Rattle.lot_waits.specs.Counts.{took as took_more, woke};
 ghost use Rattle.base_trials.specs.Waits.{EndsThere};
 
 use crate::asserts::{failed, is_so, room_for};
 use crate::kinds::asserts::{count_is, is_not, ledger_is};
-use crate::kinds::tables::{EARLY, THREADS, TheConds, TwoTables, condition_of, open};
-use lot_park::ParkingLot;
+use crate::kinds::tables::{EARLY, EitherRoot, THREADS, TheConds, TwoTables, condition_of, open};
+use lot_park::{ParkingLot, Token, UnparkResult};
 use lot_waits::{
     BeforeSweep, Ledger, OpenedConds, Room, WaitName, Waiter, has_waiters, notify_all,
     notify_all_after, notify_one, settle, wait_on,
@@ -54,11 +54,48 @@ fn notified_before_sleep<N: WaitName + Send + Sync, R: Wait + Abort>(
             one
         },
     );
+    let (one, set) = has_waiters(conds, one, 1);
+    is_not(rt, set);
     let (one, took) = notify_one::<TwoTables<N>, N, TheConds, R>(rt, lot, conds, one, 1, EARLY);
     is_not(rt, took);
     let (one, count) = notify_all::<TwoTables<N>, N, TheConds, R>(rt, lot, conds, one, 1);
     count_is(rt, count, 0);
     (zero, one)
+}
+
+// Whoever is told of an unparking of the condition notifies it, while its bucket is locked: nobody waits, so the notification locks none.
+fn notifies_under_the_lock<N: WaitName + Send + Sync, R: Wait + Abort>(
+    rt: &R,
+    lot: &ParkingLot<TwoTables<N>>,
+    one: Waiter<N>,
+) -> Waiter<N>
+    requires keys { (N.locks ≡ 1) × (N.conds ≡ 1) × (lot.now.keys ≡ 2) }
+    ensures { result ≡ one }
+{
+    let conds = lot.scheme().conds();
+    let (one, _told) = lot.unpark_one(
+        rt,
+        1,
+        EARLY,
+        one,
+        |one: Waiter<N>, root: EitherRoot<N>, told: UnparkResult| -> (
+            Waiter<N>,
+            EitherRoot<N>,
+            Token,
+        )
+            requires keys { (N.locks ≡ 1) × (N.conds ≡ 1) × (lot.now.keys ≡ 2) }
+            ensures waiter { result.0 ≡ one }
+            ensures root { (result.1 ≡ root) × (told.thread ≡ None) }
+        {
+            is_so(rt, told.thread.is_none(), "nobody is taken");
+            let (one, took) = notify_one::<TwoTables<N>, N, TheConds, R>(
+                rt, lot, conds, one, 1, EARLY,
+            );
+            is_not(rt, took);
+            (one, root, Token(0))
+        },
+    );
+    one
 }
 
 // The same by a notification of all threads.
@@ -280,6 +317,7 @@ fn played<N: WaitName + Send + Sync, R: Threads + Wait + Abort + Sync>(
     requires threads { (zero.thread ≡ 0) × (one.thread ≡ 1) × (two.thread ≡ 2) }
     ensures { (result.0.thread ≡ 0) × (result.1.thread ≡ 1) × (result.2.thread ≡ 2) }
 {
+    let one = notifies_under_the_lock(rt, lot, one);
     let (zero, one) = notified_before_sleep(rt, lot, zero, one);
     let (zero, one) = all_notified_before_sleep(rt, lot, zero, one);
     taken_after_the_flag_was_cleared(rt, lot, zero, one, two)

@@ -34,7 +34,18 @@ fn sleep_between<W: Wait>(rt: &W, record: &Record, flags: &Flags) {
     raise(&flags.after);
 }
 
-// Whether a sleeper stayed asleep without a wake, and ended its sleep after one.
+// Whether a thread is found asleep there.
+fn is_asleep_within(record: &Record, askings: u64) -> bool {
+    for _ in 0..askings {
+        if record.is_asleep() {
+            return true;
+        }
+        thread::yield_now();
+    }
+    false
+}
+
+// Whether a sleeper fell asleep and stayed so without a wake, and ended its sleep after one.
 fn sleeps_and_wakes<R: Threads + Wait + Abort + Sync>(
     rt: &R,
     record: &Record,
@@ -48,9 +59,10 @@ fn sleeps_and_wakes<R: Threads + Wait + Abort + Sync>(
             is_within(&flags.before, RAISED, ASKINGS),
             "it is about to sleep",
         );
+        let slept = is_asleep_within(record, ASKINGS);
         let early = is_within(&flags.after, RAISED, QUIET_ASKINGS);
         record.wake(rt);
-        (!early, is_within(&flags.after, RAISED, ASKINGS))
+        (slept && !early, is_within(&flags.after, RAISED, ASKINGS))
     })
 }
 
