@@ -4,5 +4,6 @@ pub mod OneLock
 pub mod Owners
 pub mod SemSchedules
 pub mod Sound
+pub mod Sweeps
 mod Idle
 mod Lending

@@ -1,4 +1,4 @@
-//! A parking that comes too late, on a lot of one lock.
+//! Schedules on a lot of one lock: a parking that comes too late, and a lock that is handed over while the table of buckets grows.
 ghost use Rattle.std.specs.Prelude.{◌≡◌, ℕ, ◌<◌, List, length, slice_get, Some, vec_len};
 ghost use Rattle.lot_words.specs.Shown.{pass_at, root_at};
 ghost use Rattle.lot_locks.specs.Standing.{MayTake, Wants};
@@ -6,9 +6,10 @@ ghost use Rattle.base_trials.specs.OneLock.{HasNone, IsCalm, HasIt};
 
 use crate::asserts::{bits_are, failed, is_so};
 use crate::kinds::asserts::{count_is, is_not, parked_is, released_is};
+use crate::kinds::gates::{Gated, Lot, TheLocks};
+use crate::kinds::handoffs::handed_while_it_grows;
 use crate::kinds::tables::{EARLY, THREADS};
 use lot_locks::{KeyRoot, LockScheme, NamedPass, Released, let_go};
-use lot_park::parts::Whole;
 use lot_park::seeking::park;
 use lot_park::{BeforeSleep, Parked, ParkingLot};
 use lot_words::{Keeps, LockPass, LockRoot, LockWords, Name};
@@ -17,6 +18,10 @@ use std::marker::Brand;
 use std::process::Abort;
 use std::sync::Wait;
 use std::test::*;
+use std::thread::Threads;
+
+// How many threads the parking lot is for. Three of them have rights on the lock.
+const LOT_THREADS: usize = 5;
 
 // What the lock guards.
 #[derive(Drop)]
@@ -87,37 +92,34 @@ fn mark<N: Name + Send>(rt: &impl Abort, scheme: &OneLock<N>, pass: Right<N>) ->
 }
 
 // Lets the lock go at moment 0, and this becomes of it.
-fn release<N: Name + Send, R: Wait + Abort>(
+pub(crate) fn release<N: Name + Send, R: Wait + Abort>(
     rt: &R,
-    lot: &ParkingLot<OneLock<N>>,
+    lot: &Lot<N>,
     pass: Right<N>,
+    fair: bool,
     wanted: Released,
 ) -> Right<N>
     requires sizes { (lot.now.keys ≡ 1) × (lot.now.scheme.size.locks ≡ 1) }
     requires pass { HasIt pass.thread pass }
     ensures { IsCalm pass.thread result }
 {
-    let scheme = lot.scheme();
-    let (pass, released) = let_go::<OneLock<N>, OneLock<N>, Whole, R>(
-        rt, lot, scheme, pass, 0, EARLY, false,
+    let locks = lot.scheme().locks();
+    let (pass, released) = let_go::<Gated<Nothing, N>, OneLock<N>, TheLocks, R>(
+        rt, lot, locks, pass, 0, EARLY, fair,
     );
     released_is(rt, released, wanted);
     pass
 }
 
 // Its parking comes too late: it is not queued, and still wants the lock.
-fn park_in_vain<N: Name + Send, R: Wait + Abort>(
-    rt: &R,
-    lot: &ParkingLot<OneLock<N>>,
-    pass: Right<N>,
-) -> Right<N>
-    requires sizes { (lot.now.keys ≡ 1) × (lot.now.threads ≡ 3) }
+fn park_in_vain<N: Name + Send, R: Wait + Abort>(rt: &R, lot: &Lot<N>, pass: Right<N>) -> Right<N>
+    requires sizes { (lot.now.keys ≡ 1) × (lot.now.threads ≡ 5) }
     requires thread { pass.thread < 3 }
     requires pass { HasNone pass.thread pass × Wants pass 0 }
     ensures { HasNone pass.thread result × Wants result 0 }
 {
-    let scheme = lot.scheme();
-    let (pass, parked) = park::<OneLock<N>, OneLock<N>, Whole, R, Never<'_, R>>(
+    let scheme = lot.scheme().locks();
+    let (pass, parked) = park::<Gated<Nothing, N>, OneLock<N>, TheLocks, R, Never<'_, R>>(
         rt,
         lot,
         scheme,
@@ -140,40 +142,66 @@ fn word_is<N: Name>(rt: &impl Abort, scheme: &OneLock<N>, wanted: u64)
 // thread 1 goes on trying until it has the lock.
 fn too_late<N: Name + Send, R: Wait + Abort>(
     rt: &R,
-    lot: &ParkingLot<OneLock<N>>,
+    lot: &Lot<N>,
     zero: Right<N>,
     one: Right<N>,
     two: Right<N>,
 ) -> (Right<N>, Right<N>, Right<N>)
-    requires sizes { (lot.now.keys ≡ 1) × (lot.now.threads ≡ 3) × (lot.now.scheme.size.locks ≡ 1) }
+    requires sizes { (lot.now.keys ≡ 1) × (lot.now.threads ≡ 5) × (lot.now.scheme.size.locks ≡ 1) }
     requires calm { IsCalm 0 zero × IsCalm 1 one × IsCalm 2 two }
     ensures { IsCalm 0 result.0 × IsCalm 1 result.1 × IsCalm 2 result.2 }
 {
-    let scheme = lot.scheme();
+    let scheme = lot.scheme().locks();
     let zero = get(rt, scheme, zero);
     let one = want(rt, scheme, one);
     let one = mark(rt, scheme, one);
     word_is(rt, scheme, 3);
-    let zero = release(rt, lot, zero, Released::Nobody);
+    let zero = release(rt, lot, zero, false, Released::Nobody);
     let two = get(rt, scheme, two);
     word_is(rt, scheme, 1);
     let one = park_in_vain(rt, lot, one);
     word_is(rt, scheme, 1);
     count_is(rt, lot.line_length(rt, 0), 0);
     let one = want(rt, scheme, one);
-    let two = release(rt, lot, two, Released::Quiet);
+    let two = release(rt, lot, two, false, Released::Quiet);
     let one = get(rt, scheme, one);
-    let one = release(rt, lot, one, Released::Quiet);
+    let one = release(rt, lot, one, false, Released::Quiet);
     (zero, one, two)
 }
 
+/// What is played on a lot.
+#[derive(Clone, Copy)]
+enum Schedule {
+    LateParking,
+    Handoff,
+}
+
+fn played<N: Name + Send + Sync, R: Threads + Wait + Abort + Sync>(
+    rt: &R,
+    lot: &Lot<N>,
+    zero: Right<N>,
+    one: Right<N>,
+    two: Right<N>,
+    schedule: Schedule,
+) -> (Right<N>, Right<N>, Right<N>)
+    requires sizes { (lot.now.keys ≡ 1) × (lot.now.threads ≡ 5) × (lot.now.scheme.size.locks ≡ 1) }
+    requires calm { IsCalm 0 zero × IsCalm 1 one × IsCalm 2 two }
+    ensures { IsCalm 0 result.0 × IsCalm 1 result.1 × IsCalm 2 result.2 }
+{
+    match schedule {
+        Schedule::LateParking => too_late(rt, lot, zero, one, two),
+        Schedule::Handoff => handed_while_it_grows(rt, lot, zero, one, two),
+    }
+}
+
 // Plays on a lot, and closes it.
-fn play<N: Name + Send, R: Wait + Abort>(
+fn play<N: Name + Send + Sync, R: Threads + Wait + Abort + Sync>(
     rt: &R,
     alloc: Global,
     words: LockWords<Nothing>,
     mut passes: Vec<LockPass<Nothing>>,
     mut roots: Vec<LockRoot<Nothing>>,
+    schedule: Schedule,
 )
     requires named { words.table ≡ N.opening.locks }
     requires size { (words.size.threads ≡ 3) × (words.size.locks ≡ 1) }
@@ -187,27 +215,37 @@ fn play<N: Name + Send, R: Wait + Abort>(
         failed(rt, "no memory")
     };
     idle.push_reserved(KeyRoot::new(roots.take_last()));
-    let (lot, mut back) = match ParkingLot::open(alloc, THREADS, idle, LockScheme::new(words)) {
+    let scheme = Gated::new(LockScheme::new(words));
+    let (lot, mut back) = match ParkingLot::open(alloc, LOT_THREADS, idle, scheme) {
         Ok(opened) => opened,
         Err(_refused) => failed(rt, "no memory"),
     };
-    let (zero, one, two) = too_late(rt, &lot, zero, one, two);
+    let (zero, one, two) = played(rt, &lot, zero, one, two, schedule);
     passes.push_reserved(zero.into_pass());
     passes.push_reserved(one.into_pass());
     passes.push_reserved(two.into_pass());
-    let words = lot.close(rt, &mut back).into_words();
+    let words = lot.close(rt, &mut back).into_locks().into_words();
     roots.push_reserved(back.take_last().into_root());
     back.destroy_empty();
     count_is(rt, words.close(passes, roots).len(), 1);
 }
 
-#[test]
-fn a_late_parking_is_invalid(rt: HostRuntime) -> Result<(), Fail> {
+fn try_on_a_lot(rt: &HostRuntime, schedule: Schedule) -> Result<(), Fail> {
     let mut values = Vec::with_capacity(rt.alloc(), 1)?;
     values.push_reserved(Nothing);
     let Ok((words, passes, roots)) = LockWords::open(rt.alloc(), THREADS, values) else {
         return Err("no memory".into());
     };
-    play::<Brand, HostRuntime>(&rt, rt.alloc(), words, passes, roots);
+    play::<Brand, HostRuntime>(rt, rt.alloc(), words, passes, roots, schedule);
     Ok(())
+}
+
+#[test]
+fn a_late_parking_is_invalid(rt: HostRuntime) -> Result<(), Fail> {
+    try_on_a_lot(&rt, Schedule::LateParking)
+}
+
+#[test]
+fn a_handoff_outlives_a_growth_of_the_parking_lot(rt: HostRuntime) -> Result<(), Fail> {
+    try_on_a_lot(&rt, Schedule::Handoff)
 }

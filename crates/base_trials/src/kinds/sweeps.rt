@@ -1,5 +1,5 @@
 //! A condition's flag is cleared, and then a thread parks: the sweep, which comes before its sleep, takes it. All in one thread.
-ghost use Rattle.std.specs.Prelude.{◌≡◌, ℕ, ◌<◌, length, slice_get, Some, vec_len};
+ghost use Rattle.std.specs.Prelude.{◌≡◌, ℕ, ◌<◌, true, length, slice_get, Some, vec_len};
 ghost use Rattle.lot_rights.specs.Start.{pass_at, root_at};
 ghost use Rattle.lot_conds.specs.Calls.{enlisted_root, swept_root};
 ghost use Rattle.lot_conds.specs.Rule.{scheme};

@@ -1,10 +1,18 @@
 //! Schedules of three threads' calls on one semaphore with one permit, made by hand in one thread, with the words that they leave. The
 //! semaphore's number is 1, since one key comes before it.
-ghost use Rattle.std.specs.Prelude.{[], ◌∷◌};
+ghost use Rattle.std.specs.Prelude.{◌≡◌, ℕ, ◌<◌, [], ◌∷◌};
+ghost use Rattle.std.specs.List.{All, Any};
+ghost use Rattle.lot_core.specs.Sound.{IsSoundSemaphorePart};
+ghost use Rattle.lot_rights.specs.Shown.{PassShown, RootShown};
 ghost use Rattle.base_trials.specs.SemSchedules.{IsOne, IsOf, IsFree, Has, Seeks, Sleeps, HasLine};
+ghost use Rattle.lot_sems.specs.declared.views.SemPassView.{SemPassView};
+ghost use Rattle.lot_sems.specs.declared.views.SemRootView.{SemRootView};
+ghost use Rattle.lot_sems.specs.World.{IsAmong, permits_of};
 ghost use Rattle.lot_sems.specs.Calls.{MayTake};
+ghost use Rattle.lot_sems.specs.Closing.{IsToldTo};
 
 use crate::asserts::{bits_are, is_so, letter_is};
+use lot_sems::laws::every_run_is_sound;
 use lot_sems::{SemPass, SemRoot, SemWords, Taken};
 use std::process::Abort;
 use std::test::*;
@@ -201,6 +209,17 @@ fn late_release(
     (zero, one, root)
 }
 
+// Ends the table: the history that is told of leaves a sound part of the model.
+fn close_soundly(words: SemWords, passes: Vec<SemPass>, roots: Vec<SemRoot>)
+    requires table { All (λ (p : PassShown SemPassView). p.table ≡ words.table) passes.items × All (λ (q : RootShown SemRootView). q.table ≡ words.table) roots.items }
+    requires passes { (t : ℕ) → t < words.size.threads → Any (λ (p : PassShown SemPassView). p.pass.thread ≡ t) passes.items }
+    requires roots { (k : ℕ) → IsAmong words.size k → Any (λ (q : RootShown SemRootView). q.root.key ≡ k) roots.items }
+    ensures { (told : IsToldTo words.size passes.items roots.items) × IsSoundSemaphorePart words.size.threads (permits_of words.size) told.recounted.part }
+{
+    every_run_is_sound();
+    words.close(passes, roots);
+}
+
 #[test]
 fn a_permit_goes_round(rt: HostRuntime) -> Result<(), Fail> {
     let Ok(permits) = vec![in rt.alloc(); 1; 1] else {
@@ -220,6 +239,6 @@ fn a_permit_goes_round(rt: HostRuntime) -> Result<(), Fail> {
     passes.push_reserved(one);
     passes.push_reserved(two);
     roots.push_reserved(root);
-    words.close(passes, roots);
+    close_soundly(words, passes, roots);
     Ok(())
 }

@@ -30,8 +30,8 @@ new-zero-requires g c =
     let zero = dealt_last right 0 c.take_last-2.new.self.items c.take_last-3.new.self.items c.take_last-3.result c.take_last-3.ensures.items one.1 in
     ap (λ (p : PassShown (LockPassView Nothing)). p.table) zero.0 ∙ c.requires.named
 
-pub too_late-zero-requires-clause-calm : goal.too_late-zero-requires-clause-calm
-too_late-zero-requires-clause-calm g c κs within =
+pub played-zero-requires-clause-calm : goal.played-zero-requires-clause-calm
+played-zero-requires-clause-calm g c κs within =
     let z = c.args.words.table in
     let xs = c.requires.passes.1.0 in
     let len = c.requires.passes.1.1 in
@@ -46,20 +46,20 @@ too_late-zero-requires-clause-calm g c κs within =
 
 pub close-requires-2-clause-idle : goal.close-requires-2-clause-idle
 close-requires-2-clause-idle g c =
-    let played = c.too_late-zero.ensures in
+    let played = c.played-zero.ensures in
     let none : c.take_last-3.new.self.items ≡ [] = no_elements c.take_last-3.new.self.items (search rules) in
     let left : All HoldsNone c.take_last-3.new.self.items = subst (All HoldsNone) (sym none) (All-nil HoldsNone) in
     let zero = subst (All HoldsNone) (sym c.push_reserved-2.ensures.items)
-    (All-push HoldsNone c.take_last-3.new.self.items c.into_pass.result left (calm_holds_none 0 c.too_late-zero.result.0 c.into_pass.result c.into_pass.ensures.same played.0)) in
+    (All-push HoldsNone c.take_last-3.new.self.items c.into_pass.result left (calm_holds_none 0 c.played-zero.result.0 c.into_pass.result c.into_pass.ensures.same played.0)) in
     let one = subst (All HoldsNone) (sym c.push_reserved-3.ensures.items)
-    (All-push HoldsNone c.push_reserved-2.new.self.items c.into_pass-2.result zero (calm_holds_none 1 c.too_late-zero.result.1 c.into_pass-2.result c.into_pass-2.ensures.same played.1)) in
+    (All-push HoldsNone c.push_reserved-2.new.self.items c.into_pass-2.result zero (calm_holds_none 1 c.played-zero.result.1 c.into_pass-2.result c.into_pass-2.ensures.same played.1)) in
     subst (All HoldsNone) (sym c.push_reserved-4.ensures.items)
-    (All-push HoldsNone c.push_reserved-3.new.self.items c.into_pass-3.result one (calm_holds_none 2 c.too_late-zero.result.2 c.into_pass-3.result c.into_pass-3.ensures.same played.2))
+    (All-push HoldsNone c.push_reserved-3.new.self.items c.into_pass-3.result one (calm_holds_none 2 c.played-zero.result.2 c.into_pass-3.result c.into_pass-3.ensures.same played.2))
 
 pub close-requires-2-clause-passes : goal.close-requires-2-clause-passes
 close-requires-2-clause-passes g c =
     let thread = λ (p : PassShown (LockPassView Nothing)). p.pass.thread in
-    let played = c.too_late-zero.ensures in
+    let played = c.played-zero.ensures in
     let left = c.take_last-3.new.self.items in
     let zero = one_back thread 0 left c.push_reserved-2.new.self.items c.into_pass.result c.push_reserved-2.ensures.items
     (ap (λ s. s.thread) (sym c.into_pass.ensures.same) ∙ played.0.0.0) (none_back thread left) in

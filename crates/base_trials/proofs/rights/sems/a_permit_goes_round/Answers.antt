@@ -50,8 +50,8 @@ one_permit-zero-requires-clause-root g c =
     c.take_last-root.ensures.items (len, λ k h. c.in-Ok-open.ensures.roots.1 k (omega (arith, h, c.in-Ok.ensures.len))) in
     fresh_is_empty words.size words.table is_one c.take_last-root.result root.0
 
-pub close-requires-clause-passes : goal.close-requires-clause-passes
-close-requires-clause-passes g c =
+pub close_soundly-requires-clause-passes : goal.close_soundly-requires-clause-passes
+close_soundly-requires-clause-passes g c =
     let thread = λ (p : PassShown SemPassView). p.pass.thread in
     let none = c.take_last-zero.new.self.items in
     let zero = one_back thread 0 none c.push_reserved.new.self.items c.late_release-zero.result.0 c.push_reserved.ensures.items c.late_release-zero.ensures.zero.0.1 (none_back thread none) in
@@ -61,8 +61,8 @@ close-requires-clause-passes g c =
     let three : c.in-Ok-open.words.size.threads ≡ 3 = ap (λ (z : Numbers). z.threads) c.in-Ok-open.ensures.size in
     λ t near. two t (omega (arith, near, three))
 
-pub close-requires-clause-roots : goal.close-requires-clause-roots
-close-requires-clause-roots g c d among =
+pub close_soundly-requires-clause-roots : goal.close_soundly-requires-clause-roots
+close_soundly-requires-clause-roots g c d among =
     let mine = λ (q : RootShown SemRootView). q.root.key ≡ d in
     let is_one = opened_one c.in-Ok-open.words.size 3 c.in-Ok.permits.items c.in-Ok-open.ensures.size (sym c.in-Ok.permits.ok.0 ∙ c.in-Ok.ensures.len) in
     let key : c.late_release-zero.result.2.root.key ≡ d = omega (arith, c.late_release-zero.ensures.root.1, among.0, among.1, is_one.0, is_one.1) in
