@@ -230,22 +230,26 @@ fn play<N: Name + Send + Sync, R: Threads + Wait + Abort + Sync>(
     count_is(rt, words.close(passes, roots).len(), 1);
 }
 
-fn try_on_a_lot(rt: &HostRuntime, schedule: Schedule) -> Result<(), Fail> {
-    let mut values = Vec::with_capacity(rt.alloc(), 1)?;
+fn try_on_a_lot<R: Threads + Wait + Abort + Sync>(
+    rt: &R,
+    alloc: Global,
+    schedule: Schedule,
+) -> Result<(), Fail> {
+    let mut values = Vec::with_capacity(alloc, 1)?;
     values.push_reserved(Nothing);
-    let Ok((words, passes, roots)) = LockWords::open(rt.alloc(), THREADS, values) else {
+    let Ok((words, passes, roots)) = LockWords::open(alloc, THREADS, values) else {
         return Err("no memory".into());
     };
-    play::<Brand, HostRuntime>(rt, rt.alloc(), words, passes, roots, schedule);
+    play::<Brand, R>(rt, alloc, words, passes, roots, schedule);
     Ok(())
 }
 
 #[test]
 fn a_late_parking_is_invalid(rt: HostRuntime) -> Result<(), Fail> {
-    try_on_a_lot(&rt, Schedule::LateParking)
+    try_on_a_lot(&rt, rt.alloc(), Schedule::LateParking)
 }
 
 #[test]
 fn a_handoff_outlives_a_growth_of_the_parking_lot(rt: HostRuntime) -> Result<(), Fail> {
-    try_on_a_lot(&rt, Schedule::Handoff)
+    try_on_a_lot(&rt, rt.alloc(), Schedule::Handoff)
 }
