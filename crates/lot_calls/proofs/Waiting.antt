@@ -142,5 +142,4 @@ module _ {V Part : Type 0} (rule : CallersRule V Part) where
         alone = λ k other owned. holds.alone k (λ e. other (e ∙ sym waits.key_is)) (sym (ap (λ bs. get_or bs k false) waits.same_owns) ∙ owned);
         no_permit = λ k. ap (λ xs. slice_index xs k) waits.same_permits ∙ holds.no_permit k;
         grown = waits.back.grown;
-        seen = (found.value, subst (λ k. HasSeen after k found.value) (sym (waits.key_is ∙ gets.key_is)) (got_after before got after key cond now held found gets waits).seen);
       }

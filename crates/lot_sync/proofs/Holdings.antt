@@ -1,7 +1,7 @@
 -- A pass that owns one lock or two got them from owning none, and lets the first of two go again.
 use Rattle.std.proofs.Common.{◌≡◌, ◌≢◌, ℕ, zero, suc, Bool, true, false, List, [], ◌∷◌, get_or, set, length, ◌<◌, MatchOption, Option, Some, None, refl, sym, ap, subst, ◌∙◌, ⊎_elim}
 use Rattle.std.proofs.lemmas.List.{get_or-set_other, length-set}
-use Rattle.atomic_table.proofs.Lists.{at_set, set_here, set_else}
+use Rattle.atomic_table.proofs.Lists.{at_set, set_here}
 use mathlib.Core.Logic.{dite}
 use mathlib.Core.Option.{some, some-injective}
 use lib.ListN.{get_elem?}
@@ -19,10 +19,6 @@ module _ {V Part : Type 0} (rule : CallersRule V Part) where
       ⊎_elim (λ same. subst (λ x. rule.grows x held.value) same.1 (rule.grows_itself held.value)) (λ other. absurd (other.0 got.key_is))
       (at_set before.seen key held.key held.value u (subst (λ (p : PassView V). HasSeen p held.key u) got.after_is seen))
 
-  -- the value that was found is what the pass has seen of the lock
-  seen_now : (before after : PassView V) (key : ℕ) (held : HeldView V) → Gets rule before key held after → (u : V) × HasSeen after held.key u
-  seen_now before after key held got = (held.value, subst (λ k. HasSeen after k held.value) (sym got.key_is) got.seen)
-
   -- what is got is held
   pub got_holds : (before after : PassView V) (key : ℕ) (held : HeldView V) → OwnsNone before → Gets rule before key held after → Holding rule.grows after held
   got_holds before after key held none got = record {
@@ -30,7 +26,6 @@ module _ {V Part : Type 0} (rule : CallersRule V Part) where
     alone = λ k other owned. none.no_lock k (sym (get_or-set_other before.owns key k true false (λ e. other (e ∙ sym got.key_is))) ∙ subst (λ (p : PassView V). Owns p k) got.after_is owned);
     no_permit = λ k. ap (λ (p : PassView V). permits_with p k) got.after_is ∙ none.no_permit k;
     grown = grown_newly before after key held got;
-    seen = seen_now before after key held got;
   }
 
   -- where nothing is got, the pass is as before
@@ -52,8 +47,6 @@ module _ {V Part : Type 0} (rule : CallersRule V Part) where
     grown_first = λ u seen. ⊎_elim (λ same. absurd (two (sym same.0))) (λ else. holds.grown u else.1)
         (at_set before.seen key first.key second.value u (subst (λ (p : PassView V). HasSeen p first.key u) got.after_is seen));
     grown_second = grown_newly before after key second got;
-    seen_first = (holds.seen.0, ap (λ (p : PassView V). get_elem? p.seen first.key) got.after_is ∙ (set_else before.seen key first.key second.value (λ e. two (sym e)) ∙ holds.seen.1));
-    seen_second = seen_now before after key second got;
   }
 
   -- the value that was found is what the pass has seen
@@ -114,7 +107,6 @@ left_second grows before after first second became both left = record {
   no_permit = λ k. ap (λ (p : PassView _). permits_with p k) left ∙ both.no_permit k;
   grown = λ u seen. ⊎_elim (λ same. absurd (both.two same.0)) (λ else. both.grown_second u else.1)
       (at_set before.seen first.key second.key first.value u (subst (λ (p : PassView _). HasSeen p second.key u) left seen));
-  seen = (both.seen_second.0, ap (λ (p : PassView _). get_elem? p.seen second.key) left ∙ (set_else before.seen first.key second.key first.value both.two ∙ both.seen_second.1));
 }
 
 -- whoever let go the one lock that it owned owns nothing

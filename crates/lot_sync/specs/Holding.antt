@@ -1,4 +1,4 @@
--- What a caller may have of a pass: that it owns one lock, or two, with values that go on from what it has seen.
+-- What a caller may have of a pass: that it owns one lock, or two, with values that it may give back.
 use Rattle.std.specs.Prelude.{◌≡◌, ◌≢◌, ℕ}
 use Rattle.lot_sync.specs.Lot.{PassView, HeldView, Owns, HasSeen, permits_with}
 
@@ -9,7 +9,6 @@ module _ {V : Type 0} (grows : V → V → Type 0) where
     pub alone : (key : ℕ) → key ≢ held.key → ¬ Owns pass key
     pub no_permit : (key : ℕ) → permits_with pass key ≡ 0
     pub grown : (u : V) → HasSeen pass held.key u → grows u held.value
-    pub seen : (u : V) × HasSeen pass held.key u
 
   -- it owns two locks, and holds no permit
   pub record HoldingBoth (pass : PassView V) (first second : HeldView V) : Type 0 where
@@ -20,5 +19,3 @@ module _ {V : Type 0} (grows : V → V → Type 0) where
     pub no_permit : (key : ℕ) → permits_with pass key ≡ 0
     pub grown_first : (u : V) → HasSeen pass first.key u → grows u first.value
     pub grown_second : (u : V) → HasSeen pass second.key u → grows u second.value
-    pub seen_first : (u : V) × HasSeen pass first.key u
-    pub seen_second : (u : V) × HasSeen pass second.key u
