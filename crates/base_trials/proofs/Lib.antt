@@ -3,7 +3,6 @@ pub mod LockSchedules
 pub mod OneLock
 pub mod Owners
 pub mod SemSchedules
-pub mod Sound
 pub mod Sweeps
 mod Idle
 mod Lending
