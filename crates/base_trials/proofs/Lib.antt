@@ -1,8 +1,9 @@
+pub mod Calm
 pub mod CondSchedules
 pub mod LockSchedules
-pub mod OneLock
+pub mod Opened
 pub mod Owners
 pub mod SemSchedules
-pub mod Sweeps
+pub mod Waiters
 mod Idle
 mod Lending

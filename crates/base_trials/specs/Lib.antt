@@ -1,7 +1,6 @@
+pub mod Calm
 pub mod CondSchedules
 pub mod LockSchedules
-pub mod OneLock
+pub mod Opened
 pub mod SemSchedules
-pub mod Sweeps
-pub mod TwoTables
 pub mod Waits

@@ -7,4 +7,5 @@ mod ledger;
 mod locks;
 mod sweeps;
 mod tables;
+mod waiters;
 mod waits;

@@ -1,6 +1,7 @@
 //! The end of a lot.
-ghost use Rattle.std.specs.Prelude.{◌≡◌, ◌≤◌, vec_len, vec_capacity};
-ghost use Rattle.lot_sync.specs.Lot.{OwnsNone, rested};
+ghost use Rattle.std.specs.Prelude.{◌≡◌, ◌≤◌, List, length, vec_len, vec_capacity};
+ghost use Rattle.lot_sync.specs.Lot.{PassView, OwnsNone, rested};
+ghost use Rattle.lot_sync.specs.Closing.{HasOneRun};
 ghost use Rattle.lot_calls.specs.Finished.{IsFinished};
 
 use lot_sync::{Ledger, Lot, LotName, Pass};
@@ -19,6 +20,7 @@ pub fn finish<V: Keeps + Send, N: LotName<V> + Send, T: Wait>(
     ensures count { vec_len result.0 ≡ lot.locks }
     ensures finished { IsFinished V.Keeps lot result.0.items result.1.called.items result.1.woken.items }
     ensures balanced { result.1.called.items ≡ result.1.woken.items }
+    ensures history { (left : List (PassView V)) × (length left ≡ lot.threads) × HasOneRun N.LotName left }
 {
     for thread in 0..lot.threads() {
         let pass = take_pass(rt, &mut lot, thread);

@@ -8,7 +8,8 @@ ghost use Rattle.lot_load.specs.Works.{WorksOn};
 
 use crate::counter::{Add, Counter};
 use crate::gate::{Gate, OpenGate, Point};
-use crate::workers::{Flags, all_start, close, enter, moment, start};
+use crate::workers::{Flags, all_start, enter, moment, start};
+use lot_calls::finish;
 use lot_command::{Failure, report};
 use lot_journal::Journal;
 use lot_sync::{Held, Lot, LotName, OpenFault, Opened, Pass};
@@ -116,7 +117,7 @@ fn run_workers<
         Err(failure) => return Err(failure),
     };
     let outcome = count_all(rt, gate, counting, &lot);
-    let (values, _) = close(rt, lot, passes, counting.threads);
+    let (values, _) = finish(rt, lot, passes);
     outcome?;
     Ok(values)
 }

@@ -6,7 +6,8 @@ ghost use Rattle.lot_sync.specs.Opened.{IsNamed};
 
 use crate::gate::{Gate, OpenGate, Point};
 use crate::inside::Inside;
-use crate::workers::{Flags, all_start, close, enter, moment, start};
+use crate::workers::{Flags, all_start, enter, moment, start};
+use lot_calls::finish;
 use lot_command::{Failure, report};
 use lot_sync::{Lot, LotName, OpenFault, Opened, Pass};
 use std::alloc::Global;
@@ -85,7 +86,7 @@ fn run<N: LotName<Inside> + Send + Sync, T: Threads + Wait + Sync, G: Gate + Syn
         Err(failure) => return Err(failure),
     };
     let outcome = pool_all(rt, gate, pooling, &lot);
-    let (counts, _) = close(rt, lot, passes, pooling.threads);
+    let (counts, _) = finish(rt, lot, passes);
     outcome?;
     print(alloc, &counts[0], pooling.permits)
 }

@@ -7,7 +7,8 @@ ghost use Rattle.lot_load.specs.Buffers.{HasBuffer};
 
 use crate::buffer::{Buffer, Taken};
 use crate::gate::{Gate, OpenGate, Point};
-use crate::workers::{Flags, close, enter, let_go, moment, start};
+use crate::workers::{Flags, enter, let_go, moment, start};
+use lot_calls::finish;
 use lot_command::{Failure, report};
 use lot_sync::{Held, Ledger, Lot, LotName, Moment, OpenFault, Opened, Pass};
 use std::alloc::Global;
@@ -109,7 +110,7 @@ fn run<N: LotName<Buffer> + Send + Sync, T: Threads + Wait + Sync, G: Gate + Syn
         Err(failure) => return Err(failure),
     };
     let outcome = relay_all(rt, gate, relaying, &lot);
-    let (buffers, ledger) = close(rt, lot, passes, relaying.threads);
+    let (buffers, ledger) = finish(rt, lot, passes);
     outcome?;
     print(alloc, &buffers[0], &ledger)
 }

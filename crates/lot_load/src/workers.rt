@@ -1,11 +1,11 @@
-//! What the commands share that run real threads on a lot: starting it, its workers, and closing it.
+//! What the commands share that run real threads on a lot: starting it, and its workers.
 ghost use Rattle.std.specs.Prelude.{◌≡◌, ◌≤◌, ℕ, length, vec_len, vec_capacity, IfOk, IfSome};
-ghost use Rattle.lot_passes.specs.Starting.{Starts};
+ghost use Rattle.lot_sync.specs.Starting.{Starts};
 ghost use Rattle.lot_sync.specs.Lot.{PassView, OwnsNone, rested};
 ghost use Rattle.lot_sync.specs.Opened.{IsNamed};
 
 use lot_command::Failure;
-use lot_sync::{Ledger, Lot, LotName, Moment, Opened, Pass};
+use lot_sync::{Lot, LotName, Moment, Opened, Pass};
 use lot_words::Keeps;
 use std::alloc::Global;
 use std::sync::Wait;
@@ -190,45 +190,4 @@ pub fn moment(seed: u64, worker: u64, round: u64) -> Moment {
         now: round.wrapping_mul(ROUND),
         word,
     }
-}
-
-/// Takes all passes and ends the lot.
-pub fn close<V: Keeps + Send, N: LotName<V> + Send, T: Wait>(
-    rt: &T,
-    mut lot: Lot<V, N>,
-    mut passes: Vec<Pass<V, N>>,
-    threads: usize,
-) -> (Vec<V>, Ledger)
-    requires threads { lot.threads ≡ threads }
-    requires room { (vec_len passes ≡ 0) × (threads ≤ vec_capacity passes) }
-    ensures values { vec_len result.0 ≡ lot.locks }
-    ensures balanced { result.1.called.items ≡ result.1.woken.items }
-{
-    for thread in 0..threads {
-        let pass = take_pass(rt, &mut lot, thread);
-        passes.push_reserved(pass);
-    }
-    lot.close(rt, passes)
-}
-
-/// Takes the pass of one thread.
-fn take_pass<V: Keeps + Send, N: LotName<V> + Send, T: Wait>(
-    rt: &T,
-    lot: &mut Lot<V, N>,
-    thread: usize,
-) -> Pass<V, N>
-    ensures same { (lot.new.threads ≡ lot.old.threads) × (lot.new.locks ≡ lot.old.locks) }
-    ensures thread { result.thread ≡ thread }
-    ensures free { OwnsNone result }
-{
-    for _ in rt.forever() {
-        if let Some(pass) = lot.take_left(rt) {
-            if pass.thread() == thread {
-                return pass;
-            }
-            lot.leave(rt, pass);
-        }
-        thread::yield_now();
-    }
-    unreachable!()
 }

@@ -1,15 +1,25 @@
 -- A lock that was let go, or found parked and let go then.
-use Rattle.std.proofs.Common.{◌≡◌, ℕ, ◌<◌, Bool, true, false, MatchBool, List, [], ◌∷◌, zero, suc, length, set, get_or, sym, ap, subst, ◌∙◌, arith}
+use Rattle.std.proofs.Common.{◌≡◌, ℕ, ◌<◌, Bool, true, false, MatchBool, List, [], ◌∷◌, zero, suc, length, set, get_or, Option, inl, inr}
+use Rattle.std.proofs.Common.{refl, sym, ap, subst, ◌∙◌, arith}
 use Rattle.std.proofs.lemmas.List.{get_or-set_same, set-set}
-use mathlib.Core.Option.{some}
-use lib.ListN.{get_elem?}
+use Rattle.lot_events.specs.declared.events.Event.TheVariants.{Free}
+use Rattle.lot_events.specs.declared.events.Seen.TheVariants.{Bool as Saw}
+use Rattle.lot_rights.specs.declared.views.Access.{Access}
+use Rattle.lot_rights.specs.declared.views.Access.TheVariants.{Makes}
 use Rattle.lot_words.specs.declared.views.Hold.{Hold}
 use Rattle.lot_words.specs.declared.views.Hold.TheVariants.{NotHeld, FoundParked}
-use Rattle.lot_words.specs.declared.views.Place.TheVariants.{InSlot}
+use Rattle.lot_words.specs.declared.views.LockPassView.{LockPassView}
 use Rattle.lot_words.specs.World.{IsHeld, IsFound}
+use Rattle.lot_words.specs.Calls.{let_go, found_parked}
+use Rattle.lot_whole.specs.declared.views.LotPassView.{LotPassView}
+use Rattle.lot_whole.specs.Standing.{IsIdle, MayLetGo}
+use Rattle.lot_whole.specs.Whole.{rises}
+use Rattle.lot_scheme.specs.Standing.{LotStanding, adding, finding_parked, letting_go}
 use Rattle.lot_locks.specs.declared.released.Released.{Released}
 use Rattle.lot_locks.specs.declared.released.Released.TheVariants.{Quiet}
-use Rattle.lot_locks.specs.Standing.{Standing, IsFoundParked, LetsGo, MayLetGo, MayPass}
+use Rattle.lot_locks.specs.Released.{FreeWord, Passed}
+use Rattle.lot_locks.specs.Standing.{MayFree, MayPass, IsFoundParked, GoesBy, LetsGo, PassesOn}
+use Rattle.lot_locks.proofs.Adding.{both_added, up_then}
 
 -- what is held is within
 pub held_near : (hs : List Hold) (l : ℕ) → IsHeld (get_or hs l NotHeld) → l < length hs
@@ -18,28 +28,50 @@ held_near (h ∷ hs) zero is = omega arith
 held_near (h ∷ hs) (suc l) is = let near = held_near hs l is in omega (arith, near)
 
 module _ {V : Type 0} where
-  -- found parked, and let go then
-  pub goes_then : (a b c : Standing V) (key : ℕ) (became : Released) → IsFoundParked a key b → LetsGo b key became c → LetsGo a key became c
-  goes_then a b c key became found went = record {
-    thread = went.thread ∙ found.thread;
-    holds = went.holds ∙ (ap (λ hs. set hs key NotHeld) found.holds ∙ set-set a.own.holds key FoundParked NotHeld);
-    aim = went.aim ∙ found.aim;
-    asleep = went.asleep ∙ found.asleep;
-    places = went.places ∙ found.places;
-    seen = λ y lies. went.seen y (subst (λ ps. get_elem? ps key ≡ some (InSlot y)) (sym found.places) lies) ∙ ap (λ vs. set vs key y) found.seen;
-    released = went.released;
-  }
+  -- whoever may let a lock go may do so too after it found the lock parked
+  may_still : (p : LotPassView V) (l : ℕ) → MayLetGo p l → MayLetGo (record p { locks = found_parked p.locks l }) l
+  may_still p l (inl idle) = inl (
+    record {
+      up = up_then p (found_parked p.locks l) p.stand refl idle.0.up;
+      aim = idle.0.aim;
+      sweeps = idle.0.sweeps;
+      seeks = idle.0.seeks;
+    },
+    idle.1,
+  )
+  may_still p l (inr bed) = inr (bed.0, bed.1, bed.2)
 
-  -- let go, or found parked: then it may be passed on, and whatever lets it go then lets it go
-  pub freed_or_parked : (freed : Bool) (a r : Standing V) (key : ℕ) → MayLetGo a key → MatchBool freed (LetsGo a key Quiet r) (IsFoundParked a key r)
-      → MatchBool freed (LetsGo a key Quiet r) (MayPass r key × ((became : Released) (after : Standing V) → LetsGo r key became after → LetsGo a key became after))
-  freed_or_parked true a r key may went = went
-  freed_or_parked false a r key (aimless, awake, holds, (value, lies)) found = (
-    (
-      found.aim ∙ aimless,
-      found.asleep ∙ awake,
-      subst IsFound (sym (ap (λ hs. get_or hs key NotHeld) found.holds ∙ get_or-set_same a.own.holds key FoundParked NotHeld (held_near a.own.holds key holds))) tt,
-      (value, subst (λ ps. get_elem? ps key ≡ some (InSlot value)) (sym found.places) lies),
-    ),
-    λ became after went. goes_then a r after key became found went,
+  -- found parked, and let go then
+  let_go_then : (a c : LotStanding V) (l : ℕ) (became : Released)
+      → PassesOn (adding (finding_parked a l) (Makes (Free a.thread l) (Saw false) ∷ [])) l became c → LetsGo a l became c
+  let_go_then a c l became w =
+      let found : Access = Makes (Free a.thread l) (Saw false) in
+      record {
+        value = w.value;
+        lay = w.lay;
+        did = found ∷ w.did;
+        freed = inr (w.did, w.freed, refl);
+        is = both_added (letting_go (finding_parked a l) l w.value) c (found ∷ []) w.did w.is
+            ∙ ap (λ (hs : List Hold). adding (record a {
+              own = record a.own { locks = record (let_go a.own.locks l w.value) { holds = hs }; stand = rises a.own.stand };
+            }) (found ∷ w.did)) (set-set a.own.locks.holds l FoundParked NotHeld);
+      }
+
+  pub goes_then : (a r c : LotStanding V) (l : ℕ) (became : Released) → IsFoundParked a l r → PassesOn r l became c → LetsGo a l became c
+  goes_then a r c l became found went = let_go_then a c l became (subst (λ (z : LotStanding V). PassesOn z l became c) found went)
+
+  -- let go, or found parked: then it may be passed on, and whatever passes it on then has let it go
+  pub freed_or_parked : (n : ℕ) (freed : Bool) (a r : LotStanding V) (l : ℕ) → l < n → MayFree a l
+      → MatchBool freed (LetsGo a l Quiet r) (IsFoundParked a l r)
+      → MatchBool freed (LetsGo a l Quiet r)
+      (MayPass n r l × ((became : Released) (after : LotStanding V) → PassesOn r l became after → LetsGo a l became after))
+  freed_or_parked n true a r l below may went = went
+  freed_or_parked n false a r l below may found = (
+    subst (λ (z : LotStanding V). MayPass n z l) (sym found) (record {
+      below = below;
+      may = may_still a.own l may.may;
+      holds = subst IsFound (sym (get_or-set_same a.own.locks.holds l FoundParked NotHeld (held_near a.own.locks.holds l may.holds))) tt;
+      lies = may.lies;
+    }),
+    λ became after went. goes_then a r after l became found went,
   )

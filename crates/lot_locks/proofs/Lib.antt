@@ -1,4 +1,6 @@
-pub mod Noted
+pub mod Adding
 pub mod Freed
-pub mod Waking
+pub mod Resting
 pub mod Seeking
+pub mod Telling
+pub mod Waking

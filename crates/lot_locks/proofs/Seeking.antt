@@ -1,89 +1,219 @@
 -- What is so of a thread that seeks a lock.
-use Rattle.std.proofs.Common.{◌≡◌, ℕ, Bool, false, Option, Some, refl, sym, ap, ◌∙◌, slice_set}
+use Rattle.std.proofs.Common.{◌≡◌, ◌≢◌, ℕ, ◌<◌, Bool, true, false, MatchBool, length, List, [], ◌∷◌, ◌++◌, ◌⊎◌, inl, inr, refl, sym, ap}
+use Rattle.std.proofs.Common.{subst, ◌∙◌}
+use Rattle.std.proofs.lemmas.List.Elements.{All-nil, All-append}
+use Rattle.std.specs.List.{All}
+use mathlib.Core.Option.{some}
+use lib.ListN.{get_elem?}
 use Rattle.lot_park.specs.declared.seeking.Seeking.{Seeking}
 use Rattle.lot_park.specs.declared.seeking.Seeking.TheVariants.{Got, Waits, Parks, Tries}
 use Rattle.lot_park.specs.Seeking.{SeekingLaws, IsUnfinished}
-use Rattle.lot_words.specs.declared.views.Hold.TheVariants.{Held}
-use Rattle.lot_words.specs.declared.views.Place.TheVariants.{InSlot}
+use Rattle.lot_events.specs.declared.events.Event.TheVariants.{Mark}
+use Rattle.lot_events.specs.declared.events.Seen.TheVariants.{Done}
+use Rattle.lot_rights.specs.declared.views.Access.{Access}
+use Rattle.lot_rights.specs.declared.views.Access.TheVariants.{Makes, Finds}
+use Rattle.lot_words.specs.declared.views.LockPassView.{LockPassView}
 use Rattle.lot_words.specs.CallersRule.{CallersRule}
-use Rattle.lot_locks.specs.Standing.{Standing, IsAsBefore, IsAwakeFor, IsTryingFor, IsOwner, Seeks}
-use Rattle.lot_locks.proofs.Waking.{found_as}
+use Rattle.lot_words.specs.Values.{FoundOk}
+use Rattle.lot_words.specs.Calls.{wishing}
+use Rattle.lot_whole.specs.declared.views.Stand.TheVariants.{Idle}
+use Rattle.lot_whole.specs.Standing.{MayTake, MayPark}
+use Rattle.lot_scheme.specs.Standing.{LotStanding, adding, wanting, owning}
+use Rattle.lot_scheme.specs.Words.{IsSeek, GetWord}
+use Rattle.lot_locks.specs.Standing.{IsTryingFor, IsAwakeFor, IsOwner, GetsBy, Seeks}
+use Rattle.lot_locks.proofs.Adding.{All-one, none_added, both_added, up_then, is_up, may_again, sought_before}
 
 module _ {V : Type 0} where
-  -- whoever wants the lock wants no other one
-  pub awake : (before now : Standing V) (key : ℕ) → IsTryingFor before key now → IsAwakeFor before key now
-  awake before now key s = record {
-    thread = s.thread;
-    holds = s.holds;
-    aims = λ k aim. (let f : Some k ≡ Some key = sym aim ∙ s.aims in cc);
-    asleep = s.asleep;
-    places = s.places;
-    seen = s.seen;
-    released = s.released;
+  -- who wants the lock by now is awake for it
+  pub awake : (n : ℕ) (before now : LotStanding V) (l : ℕ) → IsTryingFor n before l now → IsAwakeFor n before l now
+  awake n before now l s = record { below = s.below; may = s.may; did = s.did; sought = s.sought; is = inr s.is }
+
+  same_awake : (n : ℕ) (before now : LotStanding V) (l : ℕ) → IsAwakeFor n before l now → now.thread ≡ before.thread
+  same_awake n before now l s = elim s.is [
+    | inl e ↦ ap (λ (z : LotStanding V). z.thread) e
+    | inr e ↦ ap (λ (z : LotStanding V). z.thread) e
+  ]
+
+  -- ---- as it stands, whatever it stood like before
+  trying_itself : (n : ℕ) (before now : LotStanding V) (l : ℕ) → IsTryingFor n before l now → IsTryingFor n now l now
+  trying_itself n before now l s = subst (λ (z : LotStanding V). IsTryingFor n z l z) (sym s.is) (record {
+    below = s.below;
+    may = may_again before.own l s.may;
+    did = [];
+    sought = All-nil (IsSeek before.thread l);
+    is = none_added (adding (wanting before l) s.did);
+  })
+
+  -- whoever may take a lock is awake for it, from where it stands
+  pub begins : (n : ℕ) (now : LotStanding V) (l : ℕ) → l < n → MayTake now.own l → IsAwakeFor n now l now
+  begins n now l below may = record {
+    below = below;
+    may = may;
+    did = [];
+    sought = All-nil (IsSeek now.thread l);
+    is = inl (none_added now);
   }
 
-  -- as it stands, whatever it stood like before
-  as_now : (wants : Option ℕ → Type 0) (sleeps : Bool) (before now : Standing V) → IsAsBefore wants sleeps before now → IsAsBefore wants sleeps now now
-  as_now wants sleeps before now s = record { thread = refl; holds = refl; aims = s.aims; asleep = s.asleep; places = refl; seen = refl; released = refl }
+  awake_itself : (n : ℕ) (before now : LotStanding V) (l : ℕ) → IsAwakeFor n before l now → IsAwakeFor n now l now
+  awake_itself n before now l s = elim s.is [
+    | inl e ↦ subst (λ (z : LotStanding V). IsAwakeFor n z l z) (sym e) (begins n (adding before s.did) l s.below s.may)
+    | inr e ↦ awake n now now l (trying_itself n before now l
+        (record { below = s.below; may = s.may; did = s.did; sought = s.sought; is = e }))
+  ]
 
-  as_first : (wants then_wants : Option ℕ → Type 0) (sleeps then_sleeps : Bool) (before now after : Standing V)
-      → IsAsBefore wants sleeps before now → IsAsBefore then_wants then_sleeps now after → IsAsBefore then_wants then_sleeps before after
-  as_first wants then_wants sleeps then_sleeps before now after s t = record {
-    thread = t.thread ∙ s.thread;
-    holds = t.holds ∙ s.holds;
-    aims = t.aims;
-    asleep = t.asleep;
-    places = t.places ∙ s.places;
-    seen = t.seen ∙ s.seen;
-    released = t.released ∙ s.released;
+  -- so it may line up, or take the lock
+  pub may_park : (n : ℕ) (before now : LotStanding V) (l : ℕ) → IsTryingFor n before l now → MayPark now.own l
+  may_park n before now l s = subst (λ (z : LotStanding V). MayPark z.own l) (sym s.is)
+      (up_then before.own (wishing before.own.locks l) Idle refl (is_up before.own l s.may), refl)
+
+  pub may_take : (n : ℕ) (before now : LotStanding V) (l : ℕ) → IsAwakeFor n before l now → MayTake now.own l
+  may_take n before now l s = (awake_itself n before now l s).may
+
+  -- ---- on from where it stands: so on from where it stood before. The base is the pass before, or wants the lock already
+  trying_from : (n : ℕ) (before base after : LotStanding V) (l : ℕ) (did : List Access) → l < n → MayTake before.own l
+      → All (IsSeek before.thread l) did
+      → base.thread ≡ before.thread → wanting base l ≡ wanting before l → IsTryingFor n (adding base did) l after
+      → IsTryingFor n before l after
+  trying_from n before base after l did below may sought same is t = record {
+    below = below;
+    may = may;
+    did = did ++ t.did;
+    sought = All-append (IsSeek before.thread l) did t.did sought (subst (λ (u : ℕ). All (IsSeek u l) t.did) same t.sought);
+    is = subst (λ (z : LotStanding V). after ≡ adding z (did ++ t.did)) is (both_added (wanting base l) after did t.did t.is);
   }
+
+  awake_from : (n : ℕ) (before base after : LotStanding V) (l : ℕ) (did : List Access) → l < n → MayTake before.own l
+      → All (IsSeek before.thread l) did
+      → base.thread ≡ before.thread → wanting base l ≡ wanting before l → (base ≡ before) ⊎ (base ≡ wanting before l)
+      → IsAwakeFor n (adding base did) l after → IsAwakeFor n before l after
+  awake_from n before base after l did below may sought same is which t = record {
+    below = below;
+    may = may;
+    did = did ++ t.did;
+    sought = All-append (IsSeek before.thread l) did t.did sought (subst (λ (u : ℕ). All (IsSeek u l) t.did) same t.sought);
+    is = elim t.is [
+      | inl e ↦ elim which [
+        | inl f ↦ inl (subst (λ (z : LotStanding V). after ≡ adding z (did ++ t.did)) f (both_added base after did t.did e))
+        | inr f ↦ inr (subst (λ (z : LotStanding V). after ≡ adding z (did ++ t.did)) f (both_added base after did t.did e))
+      ]
+      | inr e ↦ inr (subst (λ (z : LotStanding V). after ≡ adding z (did ++ t.did)) is (both_added (wanting base l) after did t.did e))
+    ];
+  }
+
+-- one access more by a thread that wants the lock, by which it neither gets it nor is queued
+module _ {V : Type 0} where
+  pub sought_on : (n : ℕ) (before mid now : LotStanding V) (l : ℕ) (a : Access) → IsTryingFor n before l mid → IsSeek before.thread l a
+      → now ≡ adding mid (a ∷ [])
+      → IsTryingFor n before l now
+  sought_on n before mid now l a s seeks is = record {
+    below = s.below;
+    may = s.may;
+    did = s.did ++ a ∷ [];
+    sought = All-append (IsSeek before.thread l) s.did (a ∷ []) s.sought (All-one (IsSeek before.thread l) a seeks);
+    is = both_added (wanting before l) now s.did (a ∷ []) (subst (λ (z : LotStanding V). now ≡ adding z (a ∷ [])) s.is is);
+  }
+
+  -- a mark, whether it was made or not
+  pub marked_on : (n : ℕ) (before mid now : LotStanding V) (l : ℕ) (does : Bool) → IsTryingFor n before l mid
+      → MatchBool does (now ≡ adding mid (Makes (Mark mid.thread l) Done ∷ []))
+      ((word : ℕ) × (word ≢ 1) × (now ≡ adding mid (Finds mid.thread l word ∷ [])))
+      → IsTryingFor n before l now
+  marked_on n before mid now l true s is =
+      sought_on n before mid now l (Makes (Mark mid.thread l) Done) s (ap (λ (z : LotStanding V). z.thread) s.is, refl) is
+  marked_on n before mid now l false s (word, other, is) =
+      sought_on n before mid now l (Finds mid.thread l word) s (ap (λ (z : LotStanding V). z.thread) s.is, refl) is
+
+-- what is wanted does not matter to what is found
+pub found_then : {V Part : Type 0} (rule : CallersRule V Part) (l t : ℕ) (p q : LockPassView V) (x : V) → p.holds ≡ q.holds
+    → p.places ≡ q.places → p.seen ≡ q.seen
+    → FoundOk rule l t p x → FoundOk rule l t q x
+found_then rule l t p q x holds places seen f = record {
+  tells = record {
+    holds = subst (λ (hs : List _). l < length hs) holds f.tells.holds;
+    places = subst (λ (ps : List _). l < length ps) places f.tells.places;
+    seen = subst (λ (vs : List _). l < length vs) seen f.tells.seen;
+  };
+  kept = f.kept;
+  grown = λ s has. f.grown s (subst (λ vs. get_elem? vs l ≡ some s) (sym seen) has);
+  mine = λ s has. f.mine s (subst (λ vs. get_elem? vs l ≡ some s) (sym seen) has);
+}
 
 module _ {V Part : Type 0} (rule : CallersRule V Part) where
-  owner_first : (wants : Option ℕ → Type 0) (sleeps : Bool) (before now after : Standing V) (key : ℕ)
-      → IsAsBefore wants sleeps before now → IsOwner rule now key after → IsOwner rule before key after
-  owner_first wants sleeps before now after key s o = record {
-    thread = o.thread ∙ s.thread;
-    holds = o.holds ∙ ap (λ holds. slice_set holds key Held) s.holds;
-    aimless = o.aimless;
-    awake = o.awake;
-    value = o.value;
-    found = found_as rule key key now.thread before.thread now.own before.own o.value refl s.thread s.holds s.places s.seen o.found;
-    places = o.places ∙ ap (λ places. slice_set places key (InSlot o.value)) s.places;
-    seen = o.seen ∙ ap (λ seen. slice_set seen key o.value) s.seen;
-    released = o.released ∙ s.released;
+  owner_from : (before base after : LotStanding V) (l : ℕ) (did : List Access) → All (IsSeek before.thread l) did
+      → (base ≡ before) ⊎ (base ≡ wanting before l)
+      → IsOwner rule (adding base did) l after → IsOwner rule before l after
+  owner_from before base after l did sought (inl e) t = from (subst (λ (z : LotStanding V). IsOwner rule (adding z did) l after) e t)
+    where
+      from : IsOwner rule (adding before did) l after → IsOwner rule before l after
+      from o = record {
+        value = o.value;
+        found = o.found;
+        did = did ++ o.did;
+        got = sought_before before.thread l did o.did sought o.got;
+        is = both_added (owning before l o.value) after did o.did o.is;
+      }
+  owner_from before base after l did sought (inr e) t = from (subst (λ (z : LotStanding V). IsOwner rule (adding z did) l after) e t)
+    where
+      from : IsOwner rule (adding (wanting before l) did) l after → IsOwner rule before l after
+      from o = record {
+        value = o.value;
+        found = found_then rule l before.thread (wanting before l).own.locks before.own.locks o.value refl refl refl o.found;
+        did = did ++ o.did;
+        got = sought_before before.thread l did o.did sought o.got;
+        is = both_added (owning before l o.value) after did o.did o.is;
+      }
+
+  -- ---- the laws
+  same : (n : ℕ) (before now : LotStanding V) (l : ℕ) (far : Seeking) → Seeks rule n before l far now → now.thread ≡ before.thread
+  same n before now l Got s = ap (λ (z : LotStanding V). z.thread) s.is
+  same n before now l Parks s = ap (λ (z : LotStanding V). z.thread) s.is
+  same n before now l Waits s = same_awake n before now l s
+  same n before now l Tries s = same_awake n before now l s
+
+  tries : (n : ℕ) (before now : LotStanding V) (l : ℕ) (far : Seeking) → IsUnfinished far → Seeks rule n before l far now
+      → IsAwakeFor n before l now
+  tries n before now l Got done s = absurd done
+  tries n before now l Waits u s = s
+  tries n before now l Parks u s = awake n before now l s
+  tries n before now l Tries u s = s
+
+  itself : (n : ℕ) (before now : LotStanding V) (l : ℕ) (far : Seeking) → IsUnfinished far → Seeks rule n before l far now
+      → Seeks rule n now l far now
+  itself n before now l Got done s = absurd done
+  itself n before now l Waits u s = awake_itself n before now l s
+  itself n before now l Parks u s = trying_itself n before now l s
+  itself n before now l Tries u s = awake_itself n before now l s
+
+  goes : (n : ℕ) (before base after : LotStanding V) (l : ℕ) (did : List Access) (next : Seeking) → l < n → MayTake before.own l
+      → All (IsSeek before.thread l) did
+      → base.thread ≡ before.thread → wanting base l ≡ wanting before l → (base ≡ before) ⊎ (base ≡ wanting before l)
+      → Seeks rule n (adding base did) l next after → Seeks rule n before l next after
+  goes n before base after l did Got below may sought same is which t = owner_from before base after l did sought which t
+  goes n before base after l did Waits below may sought same is which t =
+      awake_from n before base after l did below may sought same is which t
+  goes n before base after l did Parks below may sought same is which t = trying_from n before base after l did below may sought same is t
+  goes n before base after l did Tries below may sought same is which t =
+      awake_from n before base after l did below may sought same is which t
+
+  -- on from a pass that is awake for the lock
+  pub goes_on : (n : ℕ) (before now after : LotStanding V) (l : ℕ) (next : Seeking) → IsAwakeFor n before l now
+      → Seeks rule n now l next after
+      → Seeks rule n before l next after
+  goes_on n before now after l next s t = elim s.is [
+    | inl e ↦ goes n before before after l s.did next s.below s.may s.sought refl refl (inl refl)
+        (subst (λ (z : LotStanding V). Seeks rule n z l next after) e t)
+    | inr e ↦ goes n before (wanting before l) after l s.did next s.below s.may s.sought refl refl (inr refl)
+        (subst (λ (z : LotStanding V). Seeks rule n z l next after) e t)
+  ]
+
+  pub owner_on : (n : ℕ) (before now after : LotStanding V) (l : ℕ) → IsAwakeFor n before l now → IsOwner rule now l after
+      → IsOwner rule before l after
+  owner_on n before now after l s t = goes_on n before now after l Got s t
+
+  pub laws : (n : ℕ) → SeekingLaws (λ (p : LotStanding V). p.thread) (Seeks rule n)
+  laws n = record {
+    same = same n;
+    tries = tries n;
+    itself = itself n;
+    on = λ before now after l far next u s t. goes_on n before now after l next (tries n before now l far u s) t;
   }
-
-  same : (before now : Standing V) (key : ℕ) (far : Seeking) → Seeks rule before key far now → now.thread ≡ before.thread
-  same before now key Got s = s.thread
-  same before now key Waits s = s.thread
-  same before now key Parks s = s.thread
-  same before now key Tries s = s.thread
-
-  tries : (before now : Standing V) (key : ℕ) (far : Seeking) → IsUnfinished far → Seeks rule before key far now → IsAwakeFor before key now
-  tries before now key Got done s = absurd done
-  tries before now key Waits u s = s
-  tries before now key Parks u s = awake before now key s
-  tries before now key Tries u s = s
-
-  itself : (before now : Standing V) (key : ℕ) (far : Seeking) → IsUnfinished far → Seeks rule before key far now → Seeks rule now key far now
-  itself before now key Got done s = absurd done
-  itself before now key Waits u s = as_now _ _ before now s
-  itself before now key Parks u s = as_now _ _ before now s
-  itself before now key Tries u s = as_now _ _ before now s
-
-  goes : (wants : Option ℕ → Type 0) (before now after : Standing V) (key : ℕ) (next : Seeking)
-      → IsAsBefore wants false before now → Seeks rule now key next after → Seeks rule before key next after
-  goes wants before now after key Got s t = owner_first wants false before now after key s t
-  goes wants before now after key Waits s t = as_first wants _ false _ before now after s t
-  goes wants before now after key Parks s t = as_first wants _ false _ before now after s t
-  goes wants before now after key Tries s t = as_first wants _ false _ before now after s t
-
-  on : (before now after : Standing V) (key : ℕ) (far next : Seeking) → IsUnfinished far → Seeks rule before key far now
-      → Seeks rule now key next after → Seeks rule before key next after
-  on before now after key Got next done s t = absurd done
-  on before now after key Waits next u s t = goes _ before now after key next s t
-  on before now after key Parks next u s t = goes _ before now after key next s t
-  on before now after key Tries next u s t = goes _ before now after key next s t
-
-  pub laws : SeekingLaws (λ (p : Standing V). p.thread) (Seeks rule)
-  laws = record { same = same; tries = tries; itself = itself; on = on }

@@ -1,6 +1,6 @@
--- What an unlock may answer, and what its answer comes from; and how the last one of a thread ended, as the entries tell that were made with
--- its pass.
-use Rattle.std.specs.Prelude.{◌≡◌, ℕ, ◌<◌, ◌||◌, Bool, true, false, List, drop, Option, Some, None}
+-- What an unlock may answer, and what its answer comes from; the words of unlocks, and how the last one of a thread ended, as the accesses
+-- tell that were made with its pass.
+use Rattle.std.specs.Prelude.{◌≡◌, ℕ, ◌<◌, ◌⊎◌, ◌||◌, Bool, true, false, List, [], ◌∷◌, drop, Option, Some, None}
 use Rattle.std.specs.List.{fold}
 use Rattle.lot_events.specs.declared.events.Event.TheVariants.{Free, Pass as Passes}
 use Rattle.lot_events.specs.declared.events.Seen.TheVariants.{Bool as Saw, Sleeper}
@@ -9,7 +9,7 @@ use Rattle.lot_bucket.specs.declared.taking.Dequeued.{Dequeued}
 use Rattle.lot_park.specs.Parking.{debt}
 use Rattle.lot_rights.specs.declared.views.Access.{Access}
 use Rattle.lot_rights.specs.declared.views.Access.TheVariants.{Makes}
-use Rattle.lot_rights.specs.declared.views.Entry.{Entry}
+use Rattle.lot_scheme.specs.Words.{PassWord}
 use Rattle.lot_locks.specs.declared.released.Released.{Released}
 use Rattle.lot_locks.specs.declared.released.Released.TheVariants.{Quiet, Nobody, Woke, Handed}
 
@@ -28,7 +28,8 @@ token_told Handed = 1
 
 -- What the callback of an unlock does, which is told of the first of the line: it takes that thread from the line, decides what becomes of
 -- the lock, and owes the thread a letter that tells it.
-pub record HandsOver {R : Type 0} (view : R → KeyLine) (root : R) (told : Dequeued) (fair : Bool) (root_now : R) (became : Released) (token : ℕ) : Type 0 where
+pub record HandsOver {R : Type 0} (view : R → KeyLine) (root : R) (told : Dequeued) (fair : Bool) (root_now : R) (became : Released)
+    (token : ℕ) : Type 0 where
   pub named : (view root_now).key ≡ (view root).key
   pub lined : (view root_now).line ≡ drop 1 (view root).line
   pub decided : became ≡ decision told.thread (fair || told.fair)
@@ -43,6 +44,17 @@ IsFitting Nobody fair now = Unit {0}
 IsFitting Woke fair now = fair ≡ false
 IsFitting Handed fair now = fair ≡ false → 0 < now
 
+-- ---- words: t is the thread, l the lock
+-- a lock that was found parked was passed on, of which this became
+abbrev pub Passed : ℕ → ℕ → Released → List Access → Type 0
+Passed t l became acts = (first : Option ℕ) × (fair : Bool) × (became ≡ decision first fair) × PassWord t l first fair acts
+
+-- a lock was let go, of which this became: by the first exchange, or it was found parked and then passed on
+abbrev pub FreeWord : ℕ → ℕ → Released → List Access → Type 0
+FreeWord t l became acts =
+    ((became ≡ Quiet) × (acts ≡ Makes (Free t l) (Saw true) ∷ []))
+    ⊎ ((rest : List Access) × Passed t l became rest × (acts ≡ Makes (Free t l) (Saw false) ∷ rest))
+
 -- ---- how the last unlock ended
 -- after one access more, where it ended like this before: by the one exchange, nobody was parked; and else by what was decided of the first
 -- of the line
@@ -51,6 +63,6 @@ released_after before (Makes (Free t l) (Saw true)) = Some Quiet
 released_after before (Makes (Passes t l fair more) (Sleeper first)) = Some (decision first fair)
 released_after before _ = before
 
--- after these entries; where none is that of an unlock, None
-abbrev pub released_in : List Entry → Option Released
-released_in entries = fold (λ before (e : Entry). released_after before e.access) None entries
+-- after these accesses; where none is that of an unlock, None
+abbrev pub released_in : List Access → Option Released
+released_in acts = fold released_after None acts

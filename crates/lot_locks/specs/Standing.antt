@@ -1,135 +1,103 @@
--- How a pass stands between two accesses of a lock's word, and what an access makes of it.
-use Rattle.std.specs.Prelude.{◌≡◌, ℕ, zero, suc, Bool, true, false, List, [], ◌∷◌, slice_set, Option, Some, None}
-use Rattle.lot_rights.specs.Shown.{PassShown, RootShown}
-use Rattle.lot_rights.specs.declared.views.PassView.{PassView as PassMade}
-use Rattle.lot_words.specs.declared.views.Hold.TheVariants.{NotHeld, Held, FoundParked}
-use Rattle.lot_words.specs.declared.views.LockPassView.{LockPassView}
-use Rattle.lot_words.specs.declared.views.LockRootView.{LockRootView}
-use Rattle.lot_words.specs.declared.views.Place.{Place}
-use Rattle.lot_words.specs.declared.views.Place.TheVariants.{InSlot}
+-- How a pass stands between two accesses of a lock's word, and what the calls of a lock make of it.
+use Rattle.std.specs.Prelude.{◌≡◌, ◌≢◌, ℕ, ◌<◌, ◌⊎◌, ◌++◌, true, false, List, [], ◌∷◌}
+use Rattle.std.specs.List.{All}
+use Rattle.lot_events.specs.declared.events.Event.TheVariants.{Free}
+use Rattle.lot_events.specs.declared.events.Seen.TheVariants.{Bool as Saw}
+use Rattle.lot_rights.specs.declared.views.Access.{Access}
+use Rattle.lot_rights.specs.declared.views.Access.TheVariants.{Makes}
 use Rattle.lot_words.specs.CallersRule.{CallersRule}
 use Rattle.lot_words.specs.World.{Holds, HoldsParked}
 use Rattle.lot_words.specs.Values.{IsIn, FoundOk}
-use Rattle.lot_words.specs.Calls.{Aims, gripped, woken, placed}
-use Rattle.lot_bucket.specs.KeyLine.{KeyLine}
+use Rattle.lot_whole.specs.Standing.{MayTake, MayLetGo}
 use Rattle.lot_park.specs.declared.seeking.Seeking.{Seeking}
 use Rattle.lot_park.specs.declared.seeking.Seeking.TheVariants.{Got, Waits, Parks, Tries}
+use Rattle.lot_scheme.specs.Standing.{LotStanding, adding, wanting, lined, owning, finding_parked, letting_go}
+use Rattle.lot_scheme.specs.Words.{IsSeek, GetWord, TryWord, PassWord}
 use Rattle.lot_locks.specs.declared.released.Released.{Released}
-use Rattle.lot_locks.specs.Released.{released_in}
-
--- a pass: its thread, what it knows, and how the last lock that it let go was released; not the entries that were made with it
-pub record Standing (V : Type 0) : Type 0 where
-  pub thread : ℕ
-  pub own : LockPassView V
-  pub released : Option Released
+use Rattle.lot_locks.specs.Released.{FreeWord, Passed}
 
 module _ {V : Type 0} where
-  -- how a pass stands
-  abbrev pub standing : PassMade (LockPassView V) → Standing V
-  standing p = record { thread = p.thread; own = p.own; released = released_in p.made }
+  -- ---- what a release asks for
+  -- the pass owns the lock, whose value lies in its slot, and may let it go
+  pub record MayFree (p : LotStanding V) (l : ℕ) : Type 0 where
+    pub may : MayLetGo p.own l
+    pub holds : Holds p.own.locks l
+    pub lies : (y : V) × IsIn p.own.locks l y
 
-  abbrev pub stands : PassShown (LockPassView V) → Standing V
-  stands p = standing p.pass
+  -- and it found the lock parked, which is one of n
+  pub record MayPass (n : ℕ) (p : LotStanding V) (l : ℕ) : Type 0 where
+    pub below : l < n
+    pub may : MayLetGo p.own l
+    pub holds : HoldsParked p.own.locks l
+    pub lies : (y : V) × IsIn p.own.locks l y
 
-  -- the pass, where the value of the lock is at this place
-  abbrev pub putting : Standing V → ℕ → Place V → Standing V
-  putting r key place = record r { own = placed r.own key place }
-
+  -- ---- seeking, from how the pass stood before, by accesses that get nothing
   -- it wants the lock, and is in no line
-  abbrev pub Wants : Standing V → ℕ → Type 0
-  Wants r key = (r.own.aim ≡ Some key) × (r.own.asleep ≡ false)
+  pub record IsTryingFor (n : ℕ) (before : LotStanding V) (l : ℕ) (now : LotStanding V) : Type 0 where
+    pub below : l < n
+    pub may : MayTake before.own l
+    pub did : List Access
+    pub sought : All (IsSeek before.thread l) did
+    pub is : now ≡ adding (wanting before l) did
 
-  -- it is awake, and wants no other lock
-  abbrev pub MayTake : Standing V → ℕ → Type 0
-  MayTake r key = (r.own.asleep ≡ false) × Aims r.own key
+  -- it is in no line, and stands as before, or wants the lock by now
+  pub record IsAwakeFor (n : ℕ) (before : LotStanding V) (l : ℕ) (now : LotStanding V) : Type 0 where
+    pub below : l < n
+    pub may : MayTake before.own l
+    pub did : List Access
+    pub sought : All (IsSeek before.thread l) did
+    pub is : (now ≡ adding before did) ⊎ (now ≡ adding (wanting before l) did)
 
-  -- it owns the lock, whose value lies in its slot
-  abbrev pub MayLetGo : Standing V → ℕ → Type 0
-  MayLetGo r key = (r.own.aim ≡ None) × (r.own.asleep ≡ false) × Holds r.own key × ((y : V) × IsIn r.own key y)
+  -- it is queued in the line of the lock, which it wants
+  pub record IsAsleepFor (n : ℕ) (before : LotStanding V) (l : ℕ) (now : LotStanding V) : Type 0 where
+    pub below : l < n
+    pub may : MayTake before.own l
+    pub did : List Access
+    pub sought : All (IsSeek before.thread l) did
+    pub is : now ≡ adding (lined before l) did
 
-  -- it owns the lock, which it found parked, and whose value lies in its slot
-  abbrev pub MayPass : Standing V → ℕ → Type 0
-  MayPass r key = (r.own.aim ≡ None) × (r.own.asleep ≡ false) × HoldsParked r.own key × ((y : V) × IsIn r.own key y)
+  -- ---- releases
+  -- the lock was found parked, and is owned still
+  abbrev pub IsFoundParked : LotStanding V → ℕ → LotStanding V → Type 0
+  IsFoundParked before l now = now ≡ adding (finding_parked before l) (Makes (Free before.thread l) (Saw false) ∷ [])
 
-  -- the pass before, but for what it wants and whether it sleeps
-  pub record IsAsBefore (wants : Option ℕ → Type 0) (sleeps : Bool) (before now : Standing V) : Type 0 where
-    pub thread : now.thread ≡ before.thread
-    pub holds : now.own.holds ≡ before.own.holds
-    pub aims : wants now.own.aim
-    pub asleep : now.own.asleep ≡ sleeps
-    pub places : now.own.places ≡ before.own.places
-    pub seen : now.own.seen ≡ before.own.seen
-    pub released : now.released ≡ before.released
+  -- the lock was let go by such a word, and the value that lay in its slot was left there
+  pub record GoesBy (word : List Access → Type 0) (before : LotStanding V) (l : ℕ) (after : LotStanding V) : Type 0 where
+    pub value : V
+    pub lay : IsIn before.own.locks l value
+    pub did : List Access
+    pub freed : word did
+    pub is : after ≡ adding (letting_go before l value) did
 
-  -- the pass before, which wants the lock and is in no line
-  abbrev pub IsTryingFor : Standing V → ℕ → Standing V → Type 0
-  IsTryingFor before key now = IsAsBefore (λ aim. aim ≡ Some key) false before now
+  -- the lock was let go, of which this became: by the first exchange, or after it was found parked
+  abbrev pub LetsGo : LotStanding V → ℕ → Released → LotStanding V → Type 0
+  LetsGo before l became after = GoesBy (FreeWord before.thread l became) before l after
 
-  -- the pass before, which is in no line, and wants the lock or none
-  abbrev pub IsAwakeFor : Standing V → ℕ → Standing V → Type 0
-  IsAwakeFor before key now = IsAsBefore (λ aim. (k : ℕ) → aim ≡ Some k → k ≡ key) false before now
+  -- the lock, which was found parked before, was let go, of which this became
+  abbrev pub PassesOn : LotStanding V → ℕ → Released → LotStanding V → Type 0
+  PassesOn before l became after = GoesBy (Passed before.thread l became) before l after
 
-  -- the pass before, queued in the line of the lock that it wants
-  abbrev pub IsAsleepFor : Standing V → ℕ → Standing V → Type 0
-  IsAsleepFor before key now = IsAsBefore (λ aim. aim ≡ Some key) true before now
-
-  -- the lock was found parked, and is still held
-  pub record IsFoundParked (before : Standing V) (key : ℕ) (now : Standing V) : Type 0 where
-    pub thread : now.thread ≡ before.thread
-    pub holds : now.own.holds ≡ slice_set before.own.holds key FoundParked
-    pub aim : now.own.aim ≡ before.own.aim
-    pub asleep : now.own.asleep ≡ before.own.asleep
-    pub places : now.own.places ≡ before.own.places
-    pub seen : now.own.seen ≡ before.own.seen
-    pub released : now.released ≡ before.released
-
-  -- the lock was let go, and what lay in its slot was left there; this became of the lock
-  pub record LetsGo (before : Standing V) (key : ℕ) (became : Released) (after : Standing V) : Type 0 where
-    pub thread : after.thread ≡ before.thread
-    pub holds : after.own.holds ≡ slice_set before.own.holds key NotHeld
-    pub aim : after.own.aim ≡ before.own.aim
-    pub asleep : after.own.asleep ≡ before.own.asleep
-    pub places : after.own.places ≡ before.own.places
-    pub seen : (y : V) → IsIn before.own key y → after.own.seen ≡ slice_set before.own.seen key y
-    pub released : after.released ≡ Some became
+  -- ---- tries
+  -- the lock was not got, by such a word, and the pass stands as before
+  abbrev pub MissesBy : (List Access → Type 0) → LotStanding V → LotStanding V → Type 0
+  MissesBy word before after = (did : List Access) × word did × (after ≡ adding before did)
 
 module _ {V Part : Type 0} (rule : CallersRule V Part) where
-  -- the lock was got, with its value in the slot
-  pub record IsOwner (before : Standing V) (key : ℕ) (after : Standing V) : Type 0 where
-    pub thread : after.thread ≡ before.thread
-    pub holds : after.own.holds ≡ slice_set before.own.holds key Held
-    pub aimless : after.own.aim ≡ None
-    pub awake : after.own.asleep ≡ false
+  -- the lock was got by such a word, with the value that was found there
+  pub record GetsBy (word : List Access → Type 0) (before : LotStanding V) (l : ℕ) (after : LotStanding V) : Type 0 where
     pub value : V
-    pub found : FoundOk rule key before.thread before.own value
-    pub places : after.own.places ≡ slice_set before.own.places key (InSlot value)
-    pub seen : after.own.seen ≡ slice_set before.own.seen key value
-    pub released : after.released ≡ before.released
+    pub found : FoundOk rule l before.thread before.own.locks value
+    pub did : List Access
+    pub got : word did
+    pub is : after ≡ adding (owning before l value) did
 
-  -- how far a thread is that seeks the lock, and that stood so before
-  abbrev pub Seeks : Standing V → ℕ → Seeking → Standing V → Type 0
-  Seeks before key Got now = IsOwner before key now
-  Seeks before key Waits now = IsAwakeFor before key now
-  Seeks before key Parks now = IsTryingFor before key now
-  Seeks before key Tries now = IsAwakeFor before key now
+  -- the lock was sought, and got
+  abbrev pub IsOwner : LotStanding V → ℕ → LotStanding V → Type 0
+  IsOwner before l after = GetsBy (GetWord before.thread l) before l after
 
-  -- a letter was collected: with token 0 the thread may try again, and with token 1 it has the lock that it wanted
-  abbrev pub IsCollected : Standing V → ℕ → Standing V → Type 0
-  IsCollected p zero q = q ≡ record p { own = woken p.own }
-  IsCollected p (suc k) q =
-      (k ≡ 0) × ((l : ℕ) × (p.own.aim ≡ Some l) × ((x : V) × FoundOk rule l p.thread p.own x × (q ≡ record p { own = woken (gripped p.own l x) })))
-
-  -- a look for a letter: where none lay, the pass stands as before
-  abbrev pub IsLooked : Standing V → Option ℕ → Standing V → Type 0
-  IsLooked p None q = q ≡ p
-  IsLooked p (Some token) q = IsCollected p token q
-
--- ---- roots
--- the letters that a root owes, as a list
-abbrev pub debts_of : Option (ℕ × ℕ) → List (ℕ × ℕ)
-debts_of None = []
-debts_of (Some debt) = debt ∷ []
-
--- what the root of a lock is seen as
-abbrev pub lock_view : RootShown LockRootView → KeyLine
-lock_view r = record { key = r.root.key; line = r.root.own.line; owes = debts_of r.root.own.owes }
+  -- how far a thread is that seeks the lock, one of n, and that stood so before
+  abbrev pub Seeks : ℕ → LotStanding V → ℕ → Seeking → LotStanding V → Type 0
+  Seeks n before l Got now = IsOwner before l now
+  Seeks n before l Waits now = IsAwakeFor n before l now
+  Seeks n before l Parks now = IsTryingFor n before l now
+  Seeks n before l Tries now = IsAwakeFor n before l now

@@ -1,12 +1,13 @@
 //! Getting a lock, as WTF's `Lock::lock` does: one compare-exchange, a few yields, and then the line.
-ghost use Rattle.std.specs.Prelude.{◌≡◌, ◌<◌, false, MatchBool, None};
-ghost use Rattle.lot_locks.specs.Standing.{Wants, MayTake, IsTryingFor, IsOwner};
+ghost use Rattle.std.specs.Prelude.{◌≡◌, ◌<◌, true, false, MatchBool};
+ghost use Rattle.lot_whole.specs.Standing.{IsIdle, MayTake};
+ghost use Rattle.lot_scheme.specs.Words.{TryWord};
+ghost use Rattle.lot_locks.specs.Standing.{IsAwakeFor, IsTryingFor, IsOwner, GetsBy, MissesBy};
 
-use crate::scheme::{KeyRoot, LockScheme, NamedPass};
 use crate::steps::HANDOFF;
-use lot_park::parts::Part;
 use lot_park::{BeforeSleep, ParkingLot, Scheme, Seeking, Sought, Token, get_or_park};
-use lot_words::{Keeps, Name};
+use lot_scheme::{LotName, LotScheme, NamedPass, NamedRoot};
+use lot_whole::Keeps;
 use std::sync::Wait;
 
 /// The bit of a lock word that says that somebody owns the lock.
@@ -15,97 +16,103 @@ const HELD: u64 = 1;
 /// The bit of a lock word that says that somebody may wait in its line.
 const PARKED: u64 = 2;
 
-impl<V: Keeps, N: Name> LockScheme<V, N> {
-    /// Whether somebody owns the lock at some moment of this call.
-    pub fn is_held(&self, key: usize) -> bool
-        requires { key < self.now.size.locks }
-    {
-        self.words().bits(key) & HELD != 0
-    }
+/// What is sought: a lock. It names this for the parking lot, and has no value.
+pub struct Locks;
 
-    /// Takes the lock where nobody owns it and nobody is marked as parked. Else all is as it was.
-    #[tactic(auto, using(crate::proofs::Noted::took_free))]
-    #[inline(always)]
-    pub fn take_free(&self, pass: NamedPass<V, N>, key: usize) -> (NamedPass<V, N>, bool)
-        requires key { key < self.now.size.locks }
-        requires may { MayTake pass key }
-        ensures { MatchBool result.1 (IsOwner V.Keeps pass key result.0) (result.0 ≡ pass) }
-    {
-        let (pass, got) = self.words().take_free(pass.into_pass(), key);
-        (NamedPass::new(pass), got)
-    }
-
-    /// Takes the lock where nobody owns it, and wants it otherwise.
-    #[tactic(auto, using(crate::proofs::Noted::took))]
-    pub fn take(&self, pass: NamedPass<V, N>, key: usize) -> (NamedPass<V, N>, bool)
-        requires key { key < self.now.size.locks }
-        requires may { MayTake pass key }
-        ensures { MatchBool result.1 (IsOwner V.Keeps pass key result.0) (IsTryingFor pass key result.0) }
-    {
-        let (pass, got) = self.words().take(pass.into_pass(), key);
-        (NamedPass::new(pass), got)
-    }
-
-    /// Takes the lock where nobody owns it: at once where nobody is marked as parked, else past the sleepers.
-    #[tactic(auto, using(crate::proofs::Noted::tried))]
-    #[inline(always)]
-    pub fn try_take(&self, pass: NamedPass<V, N>, key: usize) -> (NamedPass<V, N>, bool)
-        requires key { key < self.now.size.locks }
-        requires calm { (pass.own.asleep ≡ false) × (pass.own.aim ≡ None) }
-        ensures { MatchBool result.1 (IsOwner V.Keeps pass key result.0) (result.0 ≡ pass) }
-    {
-        let (pass, got) = self.take_free(pass, key);
-        if got {
-            return (pass, true);
-        }
-        let (pass, got) = self.words().try_take(pass.into_pass(), key);
-        (NamedPass::new(pass), got)
-    }
-
-    /// Marks the lock as parked where somebody owns it, and answers whether it did.
-    #[tactic(auto, using(crate::proofs::Noted::marked))]
-    fn mark(&self, pass: NamedPass<V, N>, key: usize) -> (NamedPass<V, N>, bool)
-        requires key { key < self.now.size.locks }
-        requires wants { Wants pass key }
-        ensures { result.0 ≡ pass }
-    {
-        let (pass, marked) = self.words().mark(pass.into_pass(), key);
-        (NamedPass::new(pass), marked)
-    }
+/// Whether somebody owns the lock at some moment of this call.
+pub fn is_held<V: Keeps, N: LotName<V>>(scheme: &LotScheme<V, N>, key: usize) -> bool
+    requires { key < N.locks }
+{
+    scheme.lock_bits(key) & HELD != 0
 }
 
-impl<V: Keeps + Send, N: Name + Send> Sought for LockScheme<V, N> {
+/// Whether the lock is marked as parked at some moment of this call.
+pub fn is_parked<V: Keeps, N: LotName<V>>(scheme: &LotScheme<V, N>, key: usize) -> bool
+    requires { key < N.locks }
+{
+    scheme.lock_bits(key) & PARKED != 0
+}
+
+/// Gets the lock where nobody owns it and nobody is marked as parked. Else the pass stands as before, and has looked.
+#[inline(always)]
+pub fn get_free<V: Keeps, N: LotName<V>>(
+    scheme: &LotScheme<V, N>,
+    pass: NamedPass<V, N>,
+    key: usize,
+) -> (NamedPass<V, N>, bool)
+    requires key { key < N.locks }
+    requires may { MayTake pass.own key }
+    ensures { MatchBool result.1 (IsOwner V.Keeps pass key result.0) (IsAwakeFor N.locks pass key result.0) }
+{
+    scheme.take_free(pass, key)
+}
+
+/// Gets the lock where nobody owns it: at once where nobody is marked as parked, else past the sleepers. Else the pass
+/// stands as before.
+#[inline(always)]
+pub fn try_get<V: Keeps, N: LotName<V>>(
+    scheme: &LotScheme<V, N>,
+    pass: NamedPass<V, N>,
+    key: usize,
+) -> (NamedPass<V, N>, bool)
+    requires key { key < N.locks }
+    requires idle { IsIdle pass.own }
+    ensures { MatchBool result.1 (GetsBy V.Keeps (TryWord pass.thread key true) pass key result.0)
+        (MissesBy (TryWord pass.thread key false) pass result.0) }
+{
+    let (pass, got) = scheme.take_free(pass, key);
+    if got {
+        return (pass, true);
+    }
+    scheme.try_take(pass, key)
+}
+
+/// Takes the lock where nobody owns it, and wants it otherwise.
+fn take<V: Keeps, N: LotName<V>>(
+    scheme: &LotScheme<V, N>,
+    pass: NamedPass<V, N>,
+    key: usize,
+) -> (NamedPass<V, N>, bool)
+    requires key { key < N.locks }
+    requires may { MayTake pass.own key }
+    ensures { MatchBool result.1 (IsOwner V.Keeps pass key result.0) (IsTryingFor N.locks pass key result.0) }
+{
+    scheme.take(pass, key)
+}
+
+impl<V: Keeps + Send, N: LotName<V> + Send> Sought<Locks> for LotScheme<V, N> {
     ghost use Rattle.std.specs.Prelude.{◌<◌};
     ghost use Rattle.lot_locks.specs.Standing.{IsAsleepFor, Seeks};
 
-    ghost has = { λ s key. key < s.size.locks };
+    ghost has = { λ s key. key < N.locks };
 
-    ghost seeks = { Seeks V.Keeps };
+    ghost seeks = { Seeks V.Keeps N.locks };
 
-    ghost sleeps = { IsAsleepFor };
+    ghost sleeps = { IsAsleepFor N.locks };
 
     fn is_parked(&self, key: usize) -> bool {
-        self.words().bits(key) & PARKED != 0
+        is_parked(self, key)
     }
 
     /// A word that is held is not written.
     fn take_again(&self, pass: NamedPass<V, N>, key: usize) -> (NamedPass<V, N>, Seeking) {
-        if self.is_held(key) {
+        if is_held(self, key) {
             return (pass, Seeking::Waits);
         }
-        let (pass, got) = self.take(pass, key);
+        let (pass, got) = take(self, pass, key);
         let now = if got { Seeking::Got } else { Seeking::Waits };
         (pass, now)
     }
 
     /// It takes the lock where nobody owns it by now.
+    #[tactic(auto, using(crate::proofs::Seeking::may_park, crate::proofs::Seeking::marked_on, crate::proofs::Seeking::awake))]
     fn line_up(
         &self,
         pass: NamedPass<V, N>,
         key: usize,
         is_parked: bool,
     ) -> (NamedPass<V, N>, Seeking) {
-        let (pass, got) = self.take(pass, key);
+        let (pass, got) = take(self, pass, key);
         if got {
             return (pass, Seeking::Got);
         }
@@ -124,10 +131,9 @@ impl<V: Keeps + Send, N: Name + Send> Sought for LockScheme<V, N> {
     fn queue(
         &self,
         pass: NamedPass<V, N>,
-        root: KeyRoot<V, N>,
-    ) -> (NamedPass<V, N>, KeyRoot<V, N>, bool) {
-        let (pass, root, queued) = self.words().park(pass.into_pass(), root.into_root());
-        (NamedPass::new(pass), KeyRoot::new(root), queued)
+        root: NamedRoot<V, N>,
+    ) -> (NamedPass<V, N>, NamedRoot<V, N>, bool) {
+        self.park(pass, root)
     }
 
     fn is_handed(token: Token) -> bool {
@@ -135,36 +141,44 @@ impl<V: Keeps + Send, N: Name + Send> Sought for LockScheme<V, N> {
     }
 }
 
-/// Gets a lock that was found held or parked. It waits before it looks, and before each sleep it does what `before` says.
-#[cold]
-#[inline(never)]
-#[tactic(auto, using(crate::proofs::Seeking::laws))]
-pub fn get_slowly<S, V, N, P, R: Wait, B: BeforeSleep>(
+/// Gets the lock, waiting for it where somebody owns it. Before each sleep it does what `before` says.
+#[tactic(auto, using(crate::proofs::Seeking::may_take, crate::proofs::Seeking::owner_on))]
+#[inline(always)]
+pub fn get<V: Keeps + Send, N: LotName<V> + Send, R: Wait, B: BeforeSleep>(
     rt: &R,
-    parking: &ParkingLot<S>,
-    scheme: &LockScheme<V, N>,
+    parking: &ParkingLot<LotScheme<V, N>>,
     pass: NamedPass<V, N>,
     key: usize,
     before: &B,
 ) -> NamedPass<V, N>
-where
-    S: Scheme,
-    V: Keeps + Send,
-    N: Name + Send,
-    P: Part<S, LockScheme<V, N>>,
-    requires key { (key < scheme.now.size.locks) × (key < parking.now.keys) }
-    requires serves { P.serves key }
+    requires key { (key < N.locks) × (key < parking.now.keys) }
     requires thread { pass.thread < parking.now.threads }
-    requires may { MayTake pass key }
+    requires may { MayTake pass.own key }
     ensures { IsOwner V.Keeps pass key result }
 {
-    get_or_park::<S, LockScheme<V, N>, P, R, B>(
-        rt,
-        parking,
-        scheme,
-        pass,
-        key,
-        Seeking::Waits,
-        before,
-    )
+    let (pass, got) = get_free(parking.scheme(), pass, key);
+    if got {
+        pass
+    } else {
+        get_slowly(rt, parking, pass, key, before)
+    }
+}
+
+/// Gets a lock that was found held or parked. It waits before it looks, and before each sleep it does what `before`
+/// says.
+#[cold]
+#[inline(never)]
+pub fn get_slowly<V: Keeps + Send, N: LotName<V> + Send, R: Wait, B: BeforeSleep>(
+    rt: &R,
+    parking: &ParkingLot<LotScheme<V, N>>,
+    pass: NamedPass<V, N>,
+    key: usize,
+    before: &B,
+) -> NamedPass<V, N>
+    requires key { (key < N.locks) × (key < parking.now.keys) }
+    requires thread { pass.thread < parking.now.threads }
+    requires may { MayTake pass.own key }
+    ensures { IsOwner V.Keeps pass key result }
+{
+    get_or_park::<LotScheme<V, N>, Locks, R, B>(rt, parking, pass, key, Seeking::Waits, before)
 }

@@ -1,28 +1,25 @@
-//! Locks over a parking lot: WTF's `Lock`, for any lot of which the table of lock words is a part.
+//! Locks over a parking lot: WTF's `Lock`, for the locks of a lot.
 //!
-//! It stands on lot_words (ruled lock words, letters and values) and on lot_park (queues and sleep), which never name each other: here
-//! both meet. It is the sibling of lot_waits and lot_permits.
+//! It stands on lot_scheme, which has the words, passes and roots of a lot under its name, as a parking lot sees them.
+//! It is the sibling of lot_permits, and lot_waits stands on it.
 //!
 //! | Call | Where nobody contends | Else |
 //! |---|---|---|
-//! | `take_free`, `try_take` | one compare-exchange | an answer at once; `try_take` makes a second one |
-//! | `get_slowly` | | up to 40 yields, then a sleep in the lock's line |
+//! | `get` | one compare-exchange | `get_slowly`: up to 40 yields, then a sleep in the lock's line |
+//! | `get_free`, `try_get` | one compare-exchange | an answer at once; `try_get` makes a second one |
 //! | `free_unparked` | one compare-exchange | the lock is marked as found parked, and still owned |
-//! | `let_go`, `unpark_asking` | one compare-exchange | the first of the line is taken: the lock is handed to it, or it tries again |
+//! | `let_go`, `let_go_asking` | one compare-exchange | the first of the line is taken: the lock is handed to it, or it tries again |
 //!
-//! A pass is told by how it stands (`Standing`): what it knows of the locks, and how the last lock that it let go was released. Each
-//! call says what it makes of that, and the entries of the history that are made with a pass say it too.
+//! A pass is told by how it stands (`LotStanding` of lot_scheme). Each call says what it makes of that, by an equation,
+//! and by the word of the accesses that it made.
 #![tactic(auto)]
 
 mod getting;
 pub mod released;
 mod releasing;
-pub mod scheme;
 pub mod steps;
-mod values;
 
-pub use getting::get_slowly;
+pub use getting::{Locks, get, get_free, get_slowly, is_held, is_parked, try_get};
 pub use released::Released;
-pub use releasing::{let_go, unpark_asking};
-pub use scheme::{KeyRoot, LockScheme, NamedPass};
+pub use releasing::{free_unparked, let_go, let_go_asking, unpark_asking};
 pub use steps::LockSteps;

@@ -1,117 +1,140 @@
-//! Letting a lock go, as WTF's `Lock::unlock` does: one compare-exchange where nobody waits, else one sleeper is taken from
-//! the line, and the lock is handed to it or left to whoever comes first.
-ghost use Rattle.std.specs.Prelude.{◌≡◌, ℕ, ◌<◌, false, MatchBool, []};
-ghost use Rattle.lot_locks.specs.Standing.{MayLetGo, LetsGo, IsFoundParked};
+//! Letting a lock go, as WTF's `Lock::unlock` does: one compare-exchange where nobody waits, else one sleeper is taken
+//! from the line, and the lock is handed to it or left to whoever comes first.
+ghost use Rattle.std.specs.Prelude.{◌≡◌, ℕ, ◌<◌, ◌⊎◌, false, MatchBool, []};
+ghost use Rattle.lot_locks.specs.Standing.{MayFree, LetsGo, IsFoundParked};
 ghost use Rattle.lot_locks.specs.Released.{IsFitting, HandsOver};
 ghost use Rattle.lot_locks.specs.declared.released.Released.TheVariants.{Quiet};
 ghost use Rattle.lot_park.specs.Parking.{Tells};
 
 use crate::released::Released;
-use crate::scheme::{LockScheme, NamedPass};
 use crate::steps::LockSteps;
-use lot_park::parts::{Part, unpark_one};
 use lot_park::{Moment, ParkingLot, Scheme, Token, UnparkResult};
-use lot_words::{Keeps, Name};
+use lot_scheme::{LotName, LotScheme, NamedPass};
+use lot_whole::Keeps;
 use std::sync::Wait;
 
-impl<V: Keeps, N: Name> LockScheme<V, N> {
-    /// One compare-exchange: the lock is let go where nobody is parked, and else found parked.
-    #[tactic(auto, using(crate::proofs::Noted::freed))]
-    #[inline(always)]
-    pub fn free_unparked(&self, pass: NamedPass<V, N>, key: usize) -> (NamedPass<V, N>, bool)
-        requires key { key < self.now.size.locks }
-        requires may { MayLetGo pass key }
-        ensures { MatchBool result.1 (LetsGo pass key Quiet result.0) (IsFoundParked pass key result.0) }
-    {
-        let (pass, freed) = self.words().free(pass.into_pass(), key);
-        (NamedPass::new(pass), freed)
-    }
+/// One compare-exchange: the lock is let go where nobody is parked, and else found parked.
+#[inline(always)]
+pub fn free_unparked<V: Keeps, N: LotName<V>>(
+    scheme: &LotScheme<V, N>,
+    pass: NamedPass<V, N>,
+    key: usize,
+) -> (NamedPass<V, N>, bool)
+    requires key { key < N.locks }
+    requires may { MayFree pass key }
+    ensures { MatchBool result.1 (LetsGo pass key Quiet result.0) (IsFoundParked pass key result.0) }
+{
+    scheme.free(pass, key)
 }
 
 /// Lets the lock go: at once where nobody is parked.
 #[inline(always)]
-pub fn let_go<S: Scheme, A: LockSteps, P: Part<S, A>, R: Wait>(
+pub fn let_go<S: LockSteps, R: Wait>(
     rt: &R,
     parking: &ParkingLot<S>,
-    scheme: &A,
-    right: A::Pass,
+    pass: S::Pass,
     key: usize,
     moment: Moment,
     fair: bool,
-) -> (A::Pass, Released)
+) -> (S::Pass, Released)
     requires key { key < parking.now.keys }
-    requires serves { P.serves key }
-    requires has { A.has scheme.now key }
-    requires may { A.may_let_go right key }
-    ensures went { A.lets_go right key result.1 result.0 }
+    requires has { S.has parking.now.scheme key }
+    requires may { S.may_let_go pass key }
+    ensures thread { S.thread result.0 ≡ S.thread pass }
+    ensures went { S.lets_go pass key result.1 result.0 }
     ensures fits { IsFitting result.1 fair moment.now }
 {
-    let (right, freed) = scheme.free(right, key);
+    let (pass, freed) = parking.scheme().free(pass, key);
     if freed {
-        (right, Released::Quiet)
+        (pass, Released::Quiet)
     } else {
-        unpark::<S, A, P, R>(rt, parking, scheme, right, key, moment, fair)
+        unpark(rt, parking, pass, key, moment, fair)
     }
 }
 
-/// The lock was found parked: asks for the moment, and takes one sleeper from its line. It is handed no more of a pass than the right on
-/// the lock, so that whoever finds a lock unparked moves nothing else.
-#[cold]
-#[inline(never)]
-pub fn unpark_asking<S: Scheme, A: LockSteps, P: Part<S, A>, R: Wait, M: FnOnce() -> Moment>(
+/// Lets the lock go, and asks for the moment only where somebody is parked.
+#[inline(always)]
+pub fn let_go_asking<S: LockSteps, R: Wait, M: FnOnce() -> Moment>(
     rt: &R,
     parking: &ParkingLot<S>,
-    scheme: &A,
-    right: A::Pass,
+    pass: S::Pass,
     key: usize,
     moment: M,
-) -> (A::Pass, Released)
+) -> (S::Pass, Released)
+where
+    M: Drop,
     requires key { key < parking.now.keys }
-    requires serves { P.serves key }
-    requires may { A.may_pass right key }
+    requires has { S.has parking.now.scheme key }
+    requires may { S.may_let_go pass key }
     requires callable { M.pre moment }
-    ensures went { A.lets_go right key result.1 result.0 }
+    ensures thread { S.thread result.0 ≡ S.thread pass }
+    ensures went { S.lets_go pass key result.1 result.0 }
+    ensures fits { (result.1 ≡ Quiet) ⊎ ((m : _) × M.post moment m × IsFitting result.1 false m.now) }
+{
+    let (pass, freed) = parking.scheme().free(pass, key);
+    if freed {
+        (pass, Released::Quiet)
+    } else {
+        unpark_asking(rt, parking, pass, key, moment)
+    }
+}
+
+/// The lock was found parked: asks for the moment, and takes one sleeper from its line.
+#[cold]
+#[inline(never)]
+pub fn unpark_asking<S: LockSteps, R: Wait, M: FnOnce() -> Moment>(
+    rt: &R,
+    parking: &ParkingLot<S>,
+    pass: S::Pass,
+    key: usize,
+    moment: M,
+) -> (S::Pass, Released)
+    requires key { key < parking.now.keys }
+    requires may { S.may_pass pass key }
+    requires callable { M.pre moment }
+    ensures thread { S.thread result.0 ≡ S.thread pass }
+    ensures went { S.passes_on pass key result.1 result.0 }
     ensures fits { (m : _) × M.post moment m × IsFitting result.1 false m.now }
 {
     let now = moment();
-    unpark::<S, A, P, R>(rt, parking, scheme, right, key, now, false)
+    unpark(rt, parking, pass, key, now, false)
 }
 
-/// The lock was found parked: takes one sleeper from its line, if any is there, and hands the lock to it or lets it go. What the
-/// callback decides is answered.
+/// The lock was found parked: takes one sleeper from its line, if any is there, and hands the lock to it or lets it go.
+/// What the callback decides is answered.
 #[cold]
 #[inline(never)]
-fn unpark<S: Scheme, A: LockSteps, P: Part<S, A>, R: Wait>(
+fn unpark<S: LockSteps, R: Wait>(
     rt: &R,
     parking: &ParkingLot<S>,
-    scheme: &A,
-    right: A::Pass,
+    pass: S::Pass,
     key: usize,
     moment: Moment,
     fair: bool,
-) -> (A::Pass, Released)
+) -> (S::Pass, Released)
     requires key { key < parking.now.keys }
-    requires serves { P.serves key }
-    requires may { A.may_pass right key }
-    ensures went { A.lets_go right key result.1 result.0 }
+    requires may { S.may_pass pass key }
+    ensures thread { S.thread result.0 ≡ S.thread pass }
+    ensures went { S.passes_on pass key result.1 result.0 }
     ensures fits { IsFitting result.1 fair moment.now }
 {
-    let (went, _) = unpark_one::<S, A, P, R, (A::Pass, Released), _>(
+    let scheme = parking.scheme();
+    let (went, _) = parking.unpark_one(
         rt,
-        parking,
         key,
         moment,
-        (right, Released::Nobody),
-        |x: (A::Pass, Released), root: A::Root, told: UnparkResult| -> (
-            (A::Pass, Released),
-            A::Root,
+        (pass, Released::Nobody),
+        |x: (S::Pass, Released), root: S::Root, told: UnparkResult| -> (
+            (S::Pass, Released),
+            S::Root,
             Token,
         )
-            requires may { A.may_pass x.0 (A.Root.view root).key }
-            requires clear { (A.Root.view root).owes ≡ [] }
-            requires told { (now : ℕ) × Tells (A.Root.view root).line now told }
-            ensures went { A.lets_go x.0 (A.Root.view root).key result.0.1 result.0.0 }
-            ensures hands { HandsOver A.Root.view root told fair result.1 result.0.1 result.2.0 }
+            requires may { S.may_pass x.0 (S.Root.view root).key }
+            requires clear { (S.Root.view root).owes ≡ [] }
+            requires told { (now : ℕ) × Tells (S.Root.view root).line now told }
+            ensures thread { S.thread result.0.0 ≡ S.thread x.0 }
+            ensures went { S.passes_on x.0 (S.Root.view root).key result.0.1 result.0.0 }
+            ensures hands { HandsOver S.Root.view root told fair result.1 result.0.1 result.2.0 }
         {
             let (pass, root, token, released) = scheme.hand_over(x.0, root, told, fair);
             ((pass, released), root, token)

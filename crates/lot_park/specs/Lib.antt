@@ -1,4 +1,3 @@
 pub mod Parking
 pub mod Lots
-pub mod Parts
 pub mod Seeking

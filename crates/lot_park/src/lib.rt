@@ -17,13 +17,10 @@
 //! chains the looks (`Awaited`).
 //!
 //! Whoever seeks a lock or a permit gets it by `get_or_park`: it yields up to 40 times, and then parks.
-//!
-//! Several tables of rights share one lot by `parts`, each with its own keys, letters and passes.
 #![tactic(auto)]
 
 pub mod lot;
 mod parking;
-pub mod parts;
 pub mod scheme;
 pub mod seeking;
 mod spins;

@@ -13,7 +13,6 @@ ghost use Rattle.lot_park.specs.Seeking.{SeekingLaws};
 ghost use Rattle.lot_park.specs.declared.seeking.Seeking.TheVariants.{Got, Parks};
 
 use crate::lot::{Parked, ParkingLot};
-use crate::parts::{Part, park_on};
 use crate::scheme::{Scheme, Token};
 use crate::spins::Spins;
 use std::sync::Wait;
@@ -31,8 +30,8 @@ pub enum Seeking {
     Tries,
 }
 
-/// What threads of a scheme seek, as the locks of its table or their permits: how its word is looked at, taken and marked.
-pub trait Sought: Scheme {
+/// What threads of a scheme seek, which T names, as the locks of its table or their permits: how its word is looked at, taken and marked.
+pub trait Sought<T>: Scheme {
     ghost use Rattle.std.specs.Prelude.{ℕ, MatchBool};
     ghost use Rattle.lot_park.specs.Parking.{Awaited, Queues};
     ghost use Rattle.lot_park.specs.declared.seeking.Seeking.{Seeking};
@@ -90,23 +89,22 @@ impl BeforeSleep for AtOnce {
 /// Gets it, by a thread that is so far. It yields a few times for one look, and up to 40 times in one call. The first yields come
 /// before any look, since a look takes the word's line of the cache from its owner. Before each sleep it does what `before` says.
 #[inline(always)]
-pub fn get_or_park<S: Scheme, A: Sought, P: Part<S, A>, R: Wait, B: BeforeSleep>(
+pub fn get_or_park<S: Sought<T>, T, R: Wait, B: BeforeSleep>(
     rt: &R,
     parking: &ParkingLot<S>,
-    scheme: &A,
-    pass: A::Pass,
+    pass: S::Pass,
     key: usize,
     first: Seeking,
     before: &B,
-) -> A::Pass
-    requires laws { SeekingLaws A.thread A.seeks }
-    requires has { A.has scheme.now key }
+) -> S::Pass
+    requires laws { SeekingLaws S.thread S.seeks }
+    requires has { S.has parking.now.scheme key }
     requires key { key < parking.now.keys }
-    requires serves { P.serves key }
-    requires thread { A.thread pass < parking.now.threads }
-    requires first { A.seeks pass key first pass }
-    ensures { A.seeks pass key Got result }
+    requires thread { S.thread pass < parking.now.threads }
+    requires first { S.seeks pass key first pass }
+    ensures { S.seeks pass key Got result }
 {
+    let scheme = parking.scheme();
     let mut pass = pass;
     let mut seeking = first;
     let mut spins = Spins::among(parking.threads_about());
@@ -123,7 +121,7 @@ pub fn get_or_park<S: Scheme, A: Sought, P: Part<S, A>, R: Wait, B: BeforeSleep>
                     scheme.line_up(pass, key, is_parked)
                 }
             }
-            Seeking::Parks => sleep::<S, A, P, R, B>(rt, parking, scheme, pass, key, before),
+            Seeking::Parks => sleep::<S, T, R, B>(rt, parking, pass, key, before),
         };
         pass = next;
         seeking = now;
@@ -132,54 +130,50 @@ pub fn get_or_park<S: Scheme, A: Sought, P: Part<S, A>, R: Wait, B: BeforeSleep>
 }
 
 /// Parks, and tells how far the thread is then.
-fn sleep<S: Scheme, A: Sought, P: Part<S, A>, R: Wait, B: BeforeSleep>(
+fn sleep<S: Sought<T>, T, R: Wait, B: BeforeSleep>(
     rt: &R,
     parking: &ParkingLot<S>,
-    scheme: &A,
-    pass: A::Pass,
+    pass: S::Pass,
     key: usize,
     before: &B,
-) -> (A::Pass, Seeking)
-    requires laws { SeekingLaws A.thread A.seeks }
+) -> (S::Pass, Seeking)
+    requires laws { SeekingLaws S.thread S.seeks }
     requires key { key < parking.now.keys }
-    requires serves { P.serves key }
-    requires thread { A.thread pass < parking.now.threads }
-    requires parks { A.seeks pass key Parks pass }
-    ensures { A.seeks pass key result.1 result.0 }
+    requires thread { S.thread pass < parking.now.threads }
+    requires parks { S.seeks pass key Parks pass }
+    ensures { S.seeks pass key result.1 result.0 }
 {
-    let (pass, parked) = park::<S, A, P, R, B>(rt, parking, scheme, pass, key, before);
+    let (pass, parked) = park::<S, T, R, B>(rt, parking, pass, key, before);
     match parked {
         Parked::Invalid => (pass, Seeking::Tries),
-        Parked::Woken(token) if A::is_handed(token) => (pass, Seeking::Got),
+        Parked::Woken(token) if S::is_handed(token) => (pass, Seeking::Got),
         Parked::Woken(_) => (pass, Seeking::Tries),
     }
 }
 
 /// Parks with the validation of what is sought: where it is free again, or not marked as parked, the thread is as it was.
-pub fn park<S: Scheme, A: Sought, P: Part<S, A>, R: Wait, B: BeforeSleep>(
+pub fn park<S: Sought<T>, T, R: Wait, B: BeforeSleep>(
     rt: &R,
     parking: &ParkingLot<S>,
-    scheme: &A,
-    pass: A::Pass,
+    pass: S::Pass,
     key: usize,
     before: &B,
-) -> (A::Pass, Parked)
+) -> (S::Pass, Parked)
     requires key { key < parking.now.keys }
-    requires serves { P.serves key }
-    requires thread { A.thread pass < parking.now.threads }
-    requires parks { A.seeks pass key Parks pass }
-    ensures { Ends result.1 (A.seeks pass key Parks result.0) (λ token. (asleep : A.Pass) × A.sleeps pass key asleep × Awaited A.looked asleep token result.0) }
+    requires thread { S.thread pass < parking.now.threads }
+    requires parks { S.seeks pass key Parks pass }
+    ensures { Ends result.1 (S.seeks pass key Parks result.0) (λ token. (asleep : S.Pass) × S.sleeps pass key asleep × Awaited S.looked asleep token result.0) }
 {
-    let (pass, (), parked) = park_on::<S, A, P, R, (), _, _>(
+    let scheme = parking.scheme();
+    let (pass, (), parked) = parking.park_conditionally(
         rt,
-        parking,
         pass,
         key,
         (),
-        |x: (), pass: A::Pass, root: A::Root| -> ((), A::Pass, A::Root, bool)
-            requires { A.seeks pass (A.Root.view root).key Parks pass }
-            ensures pass { MatchBool result.3 (A.sleeps pass (A.Root.view root).key result.1) (A.seeks pass (A.Root.view root).key Parks result.1) }
-            ensures root { Queues A.Root.view A.thread pass root result.3 result.1 result.2 }
+        |x: (), pass: S::Pass, root: S::Root| -> ((), S::Pass, S::Root, bool)
+            requires { S.seeks pass (S.Root.view root).key Parks pass }
+            ensures pass { MatchBool result.3 (S.sleeps pass (S.Root.view root).key result.1) (S.seeks pass (S.Root.view root).key Parks result.1) }
+            ensures root { Queues S.Root.view S.thread pass root result.3 result.1 result.2 }
         {
             let (pass, root, queued) = scheme.queue(pass, root);
             (x, pass, root, queued)

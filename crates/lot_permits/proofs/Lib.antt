@@ -1,5 +1,5 @@
-pub mod Noted
-pub mod Owed
-pub mod Slept
-pub mod Starts
+pub mod Words
 pub mod Seeking
+pub mod Slept
+pub mod Rest
+pub mod Through

@@ -1,52 +1,201 @@
 -- What is so of a thread that seeks a permit.
-use Rattle.std.proofs.Common.{◌≡◌, ℕ, inr, refl, ◌∙◌}
+use Rattle.std.proofs.Common.{◌≡◌, ℕ, ◌≤◌, false, Some, List, [], ◌∷◌, ◌++◌, ◌⊎◌, inl, inr, ⊎_elim, refl, sym, ap, subst, ◌∙◌}
+use Rattle.std.specs.List.{All}
+use Rattle.std.proofs.lemmas.List.Elements.{All-nil, All-append}
+use Rattle.lot_events.specs.declared.events.Event.TheVariants.{SemTake}
+use Rattle.lot_events.specs.declared.events.Seen.TheVariants.{Bool as Saw}
+use Rattle.lot_rights.specs.declared.views.Access.{Access}
+use Rattle.lot_rights.specs.declared.views.Access.TheVariants.{Makes}
+use Rattle.lot_sems.specs.declared.taking.Taken.{Taken}
+use Rattle.lot_sems.specs.declared.taking.Taken.TheVariants.{Got as HasGot, Empty, Busy}
+use Rattle.lot_sems.specs.Calls.{seeking as sem_seeking}
+use Rattle.lot_whole.specs.declared.views.LotPassView.{LotPassView}
+use Rattle.lot_whole.specs.declared.views.Stand.TheVariants.{Idle}
+use Rattle.lot_whole.specs.Family.{Which, lock, cond, sem}
+use Rattle.lot_whole.specs.Standing.{IsUp, MayTakePermit, MaySeek}
 use Rattle.lot_park.specs.declared.seeking.Seeking.{Seeking}
 use Rattle.lot_park.specs.declared.seeking.Seeking.TheVariants.{Got, Waits, Parks, Tries}
 use Rattle.lot_park.specs.Seeking.{SeekingLaws, IsUnfinished}
-use Rattle.lot_sems.specs.declared.views.SemPassView.{SemPassView}
-use Rattle.lot_sems.specs.Calls.{IsSeeking, MayTake}
-use Rattle.lot_permits.specs.Rights.{SemStanding, IsOnItsWay, Seeks}
+use Rattle.lot_scheme.specs.Standing.{LotStanding, adding, seeking, getting}
+use Rattle.lot_scheme.specs.Words.{IsPermitSeek}
+use Rattle.lot_scheme.specs.SemCalls.{TakesPermit}
+use Rattle.lot_permits.specs.Seeking.{GetsPermit, IsOnItsWay, IsSeekingFor, IsAwakeFor, Seeks, after_try}
+use Rattle.lot_permits.proofs.Words.{adding_on, adding_none, get_after, took_it, one_seek, seek_on, busy_seek}
 
-same : (before now : SemStanding) (key : ℕ) (far : Seeking) → Seeks before key far now → now.thread ≡ before.thread
-same before now key Got s = (λ i. (s i).thread)
-same before now key Waits s = s.thread
-same before now key Parks s = s.thread
-same before now key Tries s = s.thread
+-- a try got none
+unfinished : (taken : Taken) → (taken ≡ Empty) ⊎ (taken ≡ Busy) → IsUnfinished (after_try taken)
+unfinished taken none = ⊎_elim {C = IsUnfinished (after_try taken)} (λ e. subst (λ b. IsUnfinished (after_try b)) (sym e) tt)
+    (λ e. subst (λ b. IsUnfinished (after_try b)) (sym e) tt) none
 
-may_take : (before now : SemStanding) (key : ℕ) → IsOnItsWay IsSeeking before key now → IsOnItsWay MayTake before key now
-may_take before now key s = record { thread = s.thread; does = (s.does.0, inr s.does.1); gets = s.gets }
+module _ {V : Type 0} where
+  -- ---- the thread is up
+  pub up_of : (p : LotPassView V) (k : ℕ) → MayTakePermit p k → IsUp p
+  up_of p k (inl may) = may.0
+  up_of p k (inr idle) = idle.0.up
 
-tries : (before now : SemStanding) (key : ℕ) (far : Seeking) → IsUnfinished far → Seeks before key far now → Seeks before key Tries now
-tries before now key Got done s = absurd done
-tries before now key Waits u s = may_take before now key s
-tries before now key Parks u s = may_take before now key s
-tries before now key Tries u s = s
+  seeking_up : (p : LotPassView V) (k : ℕ) → IsUp p → IsUp (record p { sems = sem_seeking p.sems k; stand = Idle })
+  seeking_up p k up lock = up lock
+  seeking_up p k up cond = up cond
+  seeking_up p k up sem = up sem
 
-as_now : (stands : SemPassView → ℕ → Type 0) (before now : SemStanding) (key : ℕ) → IsOnItsWay stands before key now → IsOnItsWay stands now key now
-as_now stands before now key s = record { thread = refl; does = s.does; gets = refl }
+  pub may_seek : (p : LotStanding V) (k : ℕ) → MayTakePermit p.own k → MaySeek (seeking p k).own k
+  may_seek p k may = (seeking_up p.own k (up_of p.own k may), refl)
 
-itself : (before now : SemStanding) (key : ℕ) (far : Seeking) → IsUnfinished far → Seeks before key far now → Seeks now key far now
-itself before now key Got done s = absurd done
-itself before now key Waits u s = as_now IsSeeking before now key s
-itself before now key Parks u s = as_now IsSeeking before now key s
-itself before now key Tries u s = as_now MayTake before now key s
+  module _ (low : ℕ) where
+    -- ---- from one look to the next
+    may_take : (before now : LotStanding V) (key : ℕ) → IsSeekingFor low before key now → IsAwakeFor low before key now
+    may_take before now key s = record { above = s.above; may = s.may; did = s.did; sought = s.sought; is = inr s.is }
 
-as_first : (stands then_stands : SemPassView → ℕ → Type 0) (before now after : SemStanding) (key : ℕ)
-    → IsOnItsWay stands before key now → IsOnItsWay then_stands now key after → IsOnItsWay then_stands before key after
-as_first stands then_stands before now after key s t = record { thread = t.thread ∙ s.thread; does = t.does; gets = t.gets ∙ s.gets }
+    pub tries : (before now : LotStanding V) (key : ℕ) (far : Seeking) → IsUnfinished far → Seeks low before key far now
+        → Seeks low before key Tries now
+    tries before now key Got done s = absurd done
+    tries before now key Waits u s = may_take before now key s
+    tries before now key Parks u s = may_take before now key s
+    tries before now key Tries u s = s
 
-goes : (stands : SemPassView → ℕ → Type 0) (before now after : SemStanding) (key : ℕ) (next : Seeking)
-    → IsOnItsWay stands before key now → Seeks now key next after → Seeks before key next after
-goes stands before now after key Got s t = t ∙ s.gets
-goes stands before now after key Waits s t = as_first stands IsSeeking before now after key s t
-goes stands before now after key Parks s t = as_first stands IsSeeking before now after key s t
-goes stands before now after key Tries s t = as_first stands MayTake before now after key s t
+    same : (before now : LotStanding V) (key : ℕ) (far : Seeking) → Seeks low before key far now → now.thread ≡ before.thread
+    same before now key Got s = ap (λ (p : LotStanding V). p.thread) s.is
+    same before now key Waits s = ap (λ (p : LotStanding V). p.thread) s.is
+    same before now key Parks s = ap (λ (p : LotStanding V). p.thread) s.is
+    same before now key Tries s = ⊎_elim {C = now.thread ≡ before.thread} (λ e. ap (λ (p : LotStanding V). p.thread) e)
+        (λ e. ap (λ (p : LotStanding V). p.thread) e) s.is
 
-on : (before now after : SemStanding) (key : ℕ) (far next : Seeking) → IsUnfinished far → Seeks before key far now → Seeks now key next after → Seeks before key next after
-on before now after key Got next done s t = absurd done
-on before now after key Waits next u s t = goes IsSeeking before now after key next s t
-on before now after key Parks next u s t = goes IsSeeking before now after key next s t
-on before now after key Tries next u s t = goes MayTake before now after key next s t
+    -- one access more, by which it got none
+    pub goes_on : (before now after : LotStanding V) (key : ℕ) (a : Access) → IsSeekingFor low before key now
+        → IsPermitSeek before.thread key a → after ≡ adding now (a ∷ []) → IsSeekingFor low before key after
+    goes_on before now after key a s seeks is = record {
+      above = s.above;
+      may = s.may;
+      did = s.did ++ a ∷ [];
+      sought = seek_on before.thread key s.did a s.sought seeks;
+      is = is ∙ (ap (λ (p : LotStanding V). adding p (a ∷ [])) s.is ∙ adding_on (seeking before key) s.did (a ∷ []));
+    }
 
-pub laws : SeekingLaws (λ (p : SemStanding). p.thread) Seeks
-laws = record { same = same; tries = tries; itself = itself; on = on }
+    -- ---- as from where it is
+    seeks_so : (p : LotStanding V) (key : ℕ) → low ≤ key → MayTakePermit p.own key → (did : List Access)
+        → IsSeekingFor low (adding (seeking p key) did) key (adding (seeking p key) did)
+    seeks_so p key above may did = record {
+      above = above;
+      may = inl (may_seek p key may);
+      did = [];
+      sought = All-nil (IsPermitSeek p.thread key);
+      is = sym (adding_none (adding (seeking p key) did));
+    }
+
+    begins : (p : LotStanding V) (key : ℕ) → low ≤ key → MayTakePermit p.own key → IsAwakeFor low p key p
+    begins p key above may = record {
+      above = above;
+      may = may;
+      did = [];
+      sought = All-nil (IsPermitSeek p.thread key);
+      is = inl (sym (adding_none p));
+    }
+
+    seeks_itself : (before now : LotStanding V) (key : ℕ) → IsSeekingFor low before key now → IsSeekingFor low now key now
+    seeks_itself before now key s =
+        subst (λ (p : LotStanding V). IsSeekingFor low p key p) (sym s.is) (seeks_so before key s.above s.may s.did)
+
+    pub itself : (before now : LotStanding V) (key : ℕ) (far : Seeking) → IsUnfinished far → Seeks low before key far now
+        → Seeks low now key far now
+    itself before now key Got done s = absurd done
+    itself before now key Waits u s = seeks_itself before now key s
+    itself before now key Parks u s = seeks_itself before now key s
+    itself before now key Tries u s = ⊎_elim {C = IsAwakeFor low now key now}
+        (λ e. subst (λ (p : LotStanding V). IsAwakeFor low p key p) (sym e) (begins (adding before s.did) key s.above s.may))
+        (λ e. may_take now now key (seeks_itself before now key
+        (record { above = s.above; may = s.may; did = s.did; sought = s.sought; is = e })))
+        s.is
+
+    -- ---- as from where it began
+    module _ (before : LotStanding V) (key : ℕ) (above : low ≤ key) (may : MayTakePermit before.own key) (did : List Access)
+        (sought : All (IsPermitSeek before.thread key) did) where
+      as_before_seeks : (after : LotStanding V) → IsSeekingFor low (adding before did) key after → IsSeekingFor low before key after
+      as_before_seeks after s = record {
+        above = above;
+        may = may;
+        did = did ++ s.did;
+        sought = All-append (IsPermitSeek before.thread key) did s.did sought s.sought;
+        is = s.is ∙ adding_on (seeking before key) did s.did;
+      }
+
+      as_before : (next : Seeking) (after : LotStanding V) → Seeks low (adding before did) key next after → Seeks low before key next after
+      as_before Got after s = record {
+        did = did ++ s.did;
+        got = get_after before.thread key did s.did sought s.got;
+        is = s.is ∙ adding_on (getting before key) did s.did;
+      }
+      as_before Waits after s = as_before_seeks after s
+      as_before Parks after s = as_before_seeks after s
+      as_before Tries after s = record {
+        above = above;
+        may = may;
+        did = did ++ s.did;
+        sought = All-append (IsPermitSeek before.thread key) did s.did sought s.sought;
+        is = ⊎_elim (λ e. inl (e ∙ adding_on before did s.did)) (λ e. inr (e ∙ adding_on (seeking before key) did s.did)) s.is;
+      }
+
+      as_seeking_seeks : (after : LotStanding V) → IsSeekingFor low (adding (seeking before key) did) key after → IsSeekingFor low before key after
+      as_seeking_seeks after s = record {
+        above = above;
+        may = may;
+        did = did ++ s.did;
+        sought = All-append (IsPermitSeek before.thread key) did s.did sought s.sought;
+        is = s.is ∙ adding_on (seeking before key) did s.did;
+      }
+
+      as_seeking : (next : Seeking) (after : LotStanding V) → Seeks low (adding (seeking before key) did) key next after
+          → Seeks low before key next after
+      as_seeking Got after s = record {
+        did = did ++ s.did;
+        got = get_after before.thread key did s.did sought s.got;
+        is = s.is ∙ adding_on (getting before key) did s.did;
+      }
+      as_seeking Waits after s = as_seeking_seeks after s
+      as_seeking Parks after s = as_seeking_seeks after s
+      as_seeking Tries after s = record {
+        above = above;
+        may = may;
+        did = did ++ s.did;
+        sought = All-append (IsPermitSeek before.thread key) did s.did sought s.sought;
+        is = ⊎_elim (λ e. inr (e ∙ adding_on (seeking before key) did s.did)) (λ e. inr (e ∙ adding_on (seeking before key) did s.did)) s.is;
+      }
+
+    goes : (before now after : LotStanding V) (key : ℕ) (next : Seeking) → IsAwakeFor low before key now → Seeks low now key next after
+        → Seeks low before key next after
+    goes before now after key next s t = ⊎_elim {C = Seeks low before key next after}
+        (λ e. as_before before key s.above s.may s.did s.sought next after (subst (λ (p : LotStanding V). Seeks low p key next after) e t))
+        (λ e. as_seeking before key s.above s.may s.did s.sought next after (subst (λ (p : LotStanding V). Seeks low p key next after) e t))
+        s.is
+
+    pub on : (before now after : LotStanding V) (key : ℕ) (far next : Seeking) → IsUnfinished far → Seeks low before key far now
+        → Seeks low now key next after → Seeks low before key next after
+    on before now after key far next u s t = goes before now after key next (tries before now key far u s) t
+
+    pub laws : SeekingLaws (λ (p : LotStanding V). p.thread) (Seeks low)
+    laws = record { same = same; tries = tries; itself = itself; on = on }
+
+    -- ---- after a try
+    pub tried : (p q : LotStanding V) (key : ℕ) (taken : Taken) → low ≤ key → MayTakePermit p.own key → TakesPermit p key taken q
+        → Seeks low p key (after_try taken) q
+    tried p q key HasGot above may (did, word, is) = record { did = did; got = took_it p.thread key did word; is = is }
+    tried p q key Empty above may is = record {
+      above = above;
+      may = may;
+      did = Makes (SemTake p.thread key) (Saw false) ∷ [];
+      sought = one_seek p.thread key (Makes (SemTake p.thread key) (Saw false)) (refl, refl);
+      is = is;
+    }
+    tried p q key Busy above may (did, word, is) =
+        record { above = above; may = may; did = did; sought = busy_seek p.thread key did word; is = inl is }
+
+    -- and it goes on as from there, where the try got none
+    pub goes_again : (p q : LotStanding V) (key : ℕ) (taken : Taken) → low ≤ key → MayTakePermit p.own key → TakesPermit p key taken q
+        → (taken ≡ Empty) ⊎ (taken ≡ Busy) → Seeks low q key (after_try taken) q
+    goes_again p q key taken above may took none =
+        itself p q key (after_try taken) (unfinished taken none) (tried p q key taken above may took)
+
+    -- and where it got one in the end, it has got it
+    pub got_slowly : (p q r : LotStanding V) (key : ℕ) (taken : Taken) → low ≤ key → MayTakePermit p.own key → TakesPermit p key taken q
+        → (taken ≡ Empty) ⊎ (taken ≡ Busy) → GetsPermit q key r → GetsPermit p key r
+    got_slowly p q r key taken above may took none gets =
+        on p q r key (after_try taken) Got (unfinished taken none) (tried p q key taken above may took) gets

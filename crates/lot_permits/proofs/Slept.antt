@@ -1,24 +1,74 @@
--- How a pass stands that lined up on a semaphore, and that slept in its line and found its letter: as before.
-use Rattle.std.proofs.Common.{◌≡◌, ℕ, Bool, true, false, Some, MatchBool, refl, sym, ap, subst, ◌∙◌}
+-- How a pass stands that slept in a semaphore's line and found its letter: it seeks a permit still.
+use Rattle.std.proofs.Common.{◌≡◌, ℕ, Bool, true, false, Option, Some, None, List, [], ◌∷◌, ◌++◌, refl, sym, ap, subst, ◌∙◌}
+use Rattle.std.specs.Option.{is_some}
+use Rattle.lot_rights.specs.declared.views.Access.{Access}
+use Rattle.lot_rights.specs.declared.views.Access.TheVariants.{Collects}
 use Rattle.lot_park.specs.Parking.{Awaited}
 use Rattle.lot_park.specs.declared.seeking.Seeking.TheVariants.{Parks}
 use Rattle.lot_park.proofs.Looks.{awaited_keeps}
-use Rattle.lot_sems.specs.Calls.{IsSeeking}
-use Rattle.lot_permits.specs.Rights.{SemStanding, Seeks, SleepsFor, queueing, waking, IsSemLooked}
+use Rattle.lot_words.specs.CallersRule.{CallersRule}
+use Rattle.lot_sems.specs.Calls.{seeking as sem_seeking}
+use Rattle.lot_whole.specs.declared.views.Stand.TheVariants.{Idle}
+use Rattle.lot_whole.specs.Family.{lock, cond, sem}
+use Rattle.lot_whole.specs.Standing.{IsUp}
+use Rattle.lot_scheme.specs.Standing.{LotStanding, adding, seeking, queued, IsLooked, CollectsIn, CollectsSem}
+use Rattle.lot_scheme.specs.Words.{IsPermitSeek}
+use Rattle.lot_permits.specs.Seeking.{IsAsleepFor, IsSeekingFor, Seeks}
+use Rattle.lot_permits.proofs.Words.{adding_on, seek_on}
+use Rattle.lot_permits.proofs.Seeking.{up_of}
 
--- whoever was queued sleeps, and whoever was not stands as before
-pub lies : (before now : SemStanding) (k : ℕ) (does : Bool) → IsSeeking before.own k → now ≡ queueing before does → MatchBool does (SleepsFor before k now) (Seeks before k Parks now)
-lies before now k true seeks is = (seeks, is)
-lies before now k false seeks is = subst (λ q. Seeks before k Parks q) (sym is) (record { thread = refl; does = seeks; gets = refl })
+none_of : (o : Option ℕ) → is_some o ≡ false → o ≡ None
+none_of None e = refl
+none_of (Some x) e = absurd (cc)
 
--- whoever slept and found a letter is awake
-woke : (before asleep : SemStanding) (token : ℕ) (now : SemStanding) → before.own.asleep ≡ false → asleep ≡ queueing before true → Awaited IsSemLooked asleep token now → now ≡ before
-woke before asleep token now awake queued a =
-    let kept = awaited_keeps IsSemLooked (λ (p q : SemStanding). q ≡ p) (λ p. refl) (λ p m q same look. look ∙ same) asleep token now a in
-    let found : IsSemLooked asleep (Some token) now = subst (λ (m : SemStanding). IsSemLooked m (Some token) now) kept.1 kept.2 in
-    found.2 ∙ (ap waking queued ∙ ap (λ b. record before { own = record before.own { asleep = b } }) (sym awake))
+module _ {V Part : Type 0} (rule : CallersRule V Part) where
+  -- whoever is away at no lock and at no condition finds a letter of a semaphore
+  of_sem : (p q : LotStanding V) (token : ℕ) (at_lock : Bool) (out : Option ℕ) → at_lock ≡ false → out ≡ None
+      → CollectsIn rule p at_lock out token q → CollectsSem rule p token q
+  of_sem p q token true out e f h = absurd (cc)
+  of_sem p q token false None e f h = h
+  of_sem p q token false (Some c) e f h = absurd (cc)
 
--- and seeks a permit still
-pub seeks_still : (before asleep now : SemStanding) (key token : ℕ) → SleepsFor before key asleep → Awaited IsSemLooked asleep token now → Seeks before key Parks now
-seeks_still before asleep now key token sleeps a =
-    subst (λ q. Seeks before key Parks q) (sym (woke before asleep token now sleeps.0.0 sleeps.1 a)) (record { thread = refl; does = sleeps.0; gets = refl })
+  module _ (low : ℕ) (before : LotStanding V) (key : ℕ) where
+    -- a look in vain
+    sleeps_on : (p q : LotStanding V) → IsAsleepFor low before key p → IsLooked rule p None q → IsAsleepFor low before key q
+    sleeps_on p q s look = record {
+      above = s.above;
+      may = s.may;
+      did = s.did ++ Collects before.thread None ∷ [];
+      sought = seek_on before.thread key s.did (Collects before.thread None) s.sought refl;
+      is = look ∙ (ap (λ (r : LotStanding V). adding r (Collects r.thread None ∷ [])) s.is
+          ∙ adding_on (queued before key) s.did (Collects before.thread None ∷ []));
+    }
+
+    -- the letter, by a pass that stands so
+    finds_at : (did : List Access) (token : ℕ) (q : LotStanding V) → IsUp before.own
+        → IsLooked rule (adding (queued before key) did) (Some token) q → CollectsSem rule (adding (queued before key) did) token q
+    finds_at did token q up look = of_sem (adding (queued before key) did) q token before.own.locks.asleep before.own.conds.out (up lock)
+        (none_of before.own.conds.out (up cond)) look
+
+    wakes : (p q : LotStanding V) (token : ℕ) → IsAsleepFor low before key p → IsLooked rule p (Some token) q
+        → IsSeekingFor low before key q
+    wakes p q token s look =
+        let up = up_of before.own key s.may in
+        let found = finds_at s.did token q up (subst (λ (r : LotStanding V). IsLooked rule r (Some token) q) s.is look) in
+        record {
+          above = s.above;
+          may = s.may;
+          did = s.did ++ Collects before.thread (Some token) ∷ [];
+          sought = seek_on before.thread key s.did (Collects before.thread (Some token)) s.sought
+              (subst (λ n. IsPermitSeek before.thread key (Collects before.thread (Some n))) (sym found.0) refl);
+          is = found.2
+              ∙ (ap (λ b. adding (adding (record before {
+                own = record before.own { sems = record (sem_seeking before.own.sems key) { asleep = b }; stand = Idle };
+              }) s.did)
+              (Collects before.thread (Some token) ∷ [])) (sym (up sem))
+              ∙ adding_on (seeking before key) s.did (Collects before.thread (Some token) ∷ []));
+        }
+
+    pub seeks_still : (asleep now : LotStanding V) (token : ℕ) → IsAsleepFor low before key asleep → Awaited (IsLooked rule) asleep token now
+        → Seeks low before key Parks now
+    seeks_still asleep now token s a =
+        let kept = awaited_keeps (IsLooked rule) (λ (p q : LotStanding V). IsAsleepFor low before key p → IsAsleepFor low before key q)
+        (λ p h. h) (λ p m q on look h. sleeps_on m q (on h) look) asleep token now a in
+        wakes kept.0 now token (kept.1 s) kept.2

@@ -1,38 +1,60 @@
--- How releases end: what one does while the semaphore's bucket is locked, by the thread that it takes from the line, if any; and how the last
--- one of a thread ended, as the entries tell that were made with its pass.
-use Rattle.std.specs.Prelude.{ℕ, Bool, true, List, Option, Some, None}
+-- How releases end: by the thread that is taken from the line, if any; which accesses one makes; and how the last one
+-- of a thread ended, as the accesses tell that were made with its pass.
+use Rattle.std.specs.Prelude.{◌≡◌, ℕ, ◌≤◌, ◌++◌, Bool, true, List, [], ◌∷◌, Option, Some, None}
 use Rattle.std.specs.List.{fold}
 use Rattle.lot_events.specs.declared.events.Event.TheVariants.{SemFree, SemPass as Passes, SemClear}
 use Rattle.lot_events.specs.declared.events.Seen.TheVariants.{Bool as Saw, Done, Sleeper}
 use Rattle.lot_rights.specs.declared.views.Access.{Access}
 use Rattle.lot_rights.specs.declared.views.Access.TheVariants.{Makes}
-use Rattle.lot_rights.specs.declared.views.Entry.{Entry}
-use Rattle.lot_rights.specs.declared.views.PassView.{PassView}
-use Rattle.lot_rights.specs.Steps.{Notes}
-use Rattle.lot_sems.specs.declared.views.SemPassView.{SemPassView}
-use Rattle.lot_sems.specs.Calls.{gave}
+use Rattle.lot_whole.specs.Standing.{MayGive}
+use Rattle.lot_scheme.specs.Standing.{LotStanding, adding, giving}
+use Rattle.lot_scheme.specs.Words.{FreedWord, UnfreedWord}
 use Rattle.lot_permits.specs.declared.permit.Freed.{Freed}
 use Rattle.lot_permits.specs.declared.permit.Freed.TheVariants.{Quiet, Woke, Nobody}
 
--- the answer
+-- the answer, by the first of the line
 abbrev pub freed_by : Option ℕ → Freed
 freed_by None = Nobody
 freed_by (Some thread) = Woke
 
--- the entries: q is the pass p after it gave a permit of k back; where nobody was in the line, the parked bit was cleared then
-abbrev pub GivesBack : PassView SemPassView → ℕ → Bool → Option ℕ → PassView SemPassView → Type 0
-GivesBack p k more (Some thread) q = Notes p (gave p.own k) (Makes (Passes p.thread k more) (Sleeper (Some thread))) q
-GivesBack p k more None q =
-    (m : PassView SemPassView) × Notes p (gave p.own k) (Makes (Passes p.thread k more) (Sleeper None)) m × Notes m m.own (Makes (SemClear p.thread k) Done) q
+-- ---- words: t gives a permit of k back, of which this becomes
+-- with the bucket locked: where nobody is in the line, the parked bit is cleared then
+abbrev pub PassedWord : ℕ → ℕ → Freed → List Access → Type 0
+PassedWord t k Quiet acts = ⊥
+PassedWord t k Woke acts =
+    (first : ℕ) × (more : Bool) × (acts ≡ Makes (Passes t k more) (Sleeper (Some first)) ∷ [])
+PassedWord t k Nobody acts =
+    (more : Bool) × (acts ≡ Makes (Passes t k more) (Sleeper None) ∷ Makes (SemClear t k) Done ∷ [])
+
+-- the whole release: at once, or after a try to free it in vain with the bucket locked
+abbrev pub GivenWord : ℕ → ℕ → Freed → List Access → Type 0
+GivenWord t k Quiet acts = FreedWord t k acts
+GivenWord t k became acts =
+    (tried rest : List Access) × UnfreedWord t k tried × PassedWord t k became rest × (acts ≡ tried ++ rest)
+
+-- ---- how a pass stands: p before, and q when a permit of k was given back
+module _ {V : Type 0} where
+  -- it has a permit of k, and may give it back; the keys of the semaphores begin at low
+  abbrev pub MayGiveBack : ℕ → LotStanding V → ℕ → Type 0
+  MayGiveBack low p k = (low ≤ k) × MayGive p.own k
+
+  pub record PassesPermit (p : LotStanding V) (k : ℕ) (became : Freed) (q : LotStanding V) : Type 0 where
+    pub did : List Access
+    pub passed : PassedWord p.thread k became did
+    pub is : q ≡ adding (giving p k) did
+
+  pub record GivesPermit (p : LotStanding V) (k : ℕ) (became : Freed) (q : LotStanding V) : Type 0 where
+    pub did : List Access
+    pub given : GivenWord p.thread k became did
+    pub is : q ≡ adding (giving p k) did
 
 -- ---- how the last release ended
 -- after one access more, where it ended like this before: by the one exchange, nobody was parked; and else by the thread that was taken
 abbrev pub freed_after : Option Freed → Access → Option Freed
 freed_after before (Makes (SemFree t k) (Saw true)) = Some Quiet
-freed_after before (Makes (Passes t k more) (Sleeper (Some thread))) = Some Woke
-freed_after before (Makes (Passes t k more) (Sleeper None)) = Some Nobody
+freed_after before (Makes (Passes t k more) (Sleeper first)) = Some (freed_by first)
 freed_after before _ = before
 
--- after these entries; where none is that of a release, None
-abbrev pub freed_in : List Entry → Option Freed
-freed_in entries = fold (λ before (e : Entry). freed_after before e.access) None entries
+-- after these accesses; where none is that of a release, None
+abbrev pub freed_in : List Access → Option Freed
+freed_in acts = fold freed_after None acts

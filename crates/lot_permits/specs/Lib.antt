@@ -1,6 +1,4 @@
-pub mod Rights
 pub mod Permits
+pub mod Seeking
 pub mod Tries
 pub mod Freed
-pub mod Opening
-pub mod Room

@@ -1,123 +1,116 @@
-//! What a seeker can do on a semaphore.
-ghost use Rattle.std.specs.Prelude.{◌≡◌, ◌≢◌, ℕ, ◌+◌, ◌<◌, ◌≤◌, length};
+//! What a thread can do on a semaphore, with its pass.
+ghost use Rattle.std.specs.Prelude.{◌≡◌, ◌≢◌, ℕ, ◌+◌, ◌<◌, ◌≤◌, length, Some};
 ghost use Rattle.lot_core.specs.Parts.{IsAmongSemaphores};
-ghost use Rattle.lot_permits.specs.Permits.{HasPermit, IsWide, one_less, one_more, opening_permits, permits_with};
+ghost use Rattle.lot_whole.specs.Standing.{IsIdle};
+ghost use Rattle.lot_scheme.specs.SemCalls.{opening_permits};
+ghost use Rattle.lot_permits.specs.Freed.{GivesPermit, freed_in};
+ghost use Rattle.lot_permits.specs.Permits.{HasPermit, permits_with};
+ghost use Rattle.lot_permits.specs.Seeking.{GetsPermit};
 ghost use Rattle.lot_permits.specs.Tries.{TriesToGet};
 
-use crate::getting::{get_slowly, take, try_take};
-use crate::name::PermitName;
+use crate::getting::get_slowly;
 use crate::permit::{Freed, Permit, Tried};
 use crate::releasing::give;
-use crate::scheme::{NamedSem, SemScheme};
-use crate::seeker::Seeker;
-use lot_park::parts::Part;
-use lot_park::{Moment, ParkingLot, Scheme};
+use lot_park::{Moment, ParkingLot};
+use lot_scheme::{LotName, LotScheme, NamedPass};
 use lot_sems::{PERMIT, Taken};
+use lot_whole::Keeps;
 use std::sync::Wait;
 
-/// Gets a permit where one is left, and else leaves all as it was. It never waits: a load, and where that found a permit, one
-/// compare-exchange of the semaphore's word.
+/// Gets a permit where one is left, and else leaves all as it was. It never waits: a load, and where that found a
+/// permit, one compare-exchange of the semaphore's word.
 #[inline(always)]
-pub fn try_acquire<N: PermitName>(
-    scheme: &SemScheme<N>,
-    seeker: Seeker<N>,
+pub fn try_acquire<V: Keeps, N: LotName<V>>(
+    scheme: &LotScheme<V, N>,
+    pass: NamedPass<V, N>,
     key: usize,
-) -> (Seeker<N>, Tried<N>)
-    requires { IsAmongSemaphores N.low (length N.permits) key }
-    ensures tries { TriesToGet seeker key result.1 result.0 }
-    ensures wide { IsWide (N.low + length N.permits) result.0 }
+) -> (NamedPass<V, N>, Tried<V, N>)
+    requires sem { IsAmongSemaphores N.low (length N.permits) key }
+    requires idle { IsIdle pass.own }
+    ensures tries { TriesToGet pass key result.1 result.0 }
+    ensures idle { IsIdle result.0.own }
+    ensures freed { freed_in result.0.did ≡ freed_in pass.did }
 {
-    let (right, taken) = try_take(scheme, seeker.into_right(), key);
+    let (pass, taken) = scheme.try_take_permit(pass, key);
     match taken {
         Taken::Got => {
-            let permit = Permit::new(key, right.thread());
-            (Seeker::new(right), Tried::Got(permit))
+            let permit = Permit::new(key, pass.thread());
+            (pass, Tried::Got(permit))
         }
-        Taken::Empty => (Seeker::new(right), Tried::Empty),
-        Taken::Busy => (Seeker::new(right), Tried::Busy),
+        Taken::Empty => (pass, Tried::Empty),
+        Taken::Busy => (pass, Tried::Busy),
     }
 }
 
-/// Gets a permit, waiting for it where none is left. Where one is, it is a load and one compare-exchange of the semaphore's word. It
-/// takes no memory.
+/// Gets a permit, waiting for it where none is left. Where one is, it is a load and one compare-exchange of the
+/// semaphore's word. It takes no memory.
 #[inline(always)]
-pub fn acquire<S: Scheme, N: PermitName + Send, P: Part<S, SemScheme<N>>, R: Wait>(
+pub fn acquire<V: Keeps + Send, N: LotName<V> + Send, R: Wait>(
     rt: &R,
-    parking: &ParkingLot<S>,
-    scheme: &SemScheme<N>,
-    seeker: Seeker<N>,
+    parking: &ParkingLot<LotScheme<V, N>>,
+    pass: NamedPass<V, N>,
     key: usize,
-) -> (Seeker<N>, Permit<N>)
+) -> (NamedPass<V, N>, Permit<V, N>)
     requires sem { IsAmongSemaphores N.low (length N.permits) key }
     requires key { key < parking.now.keys }
-    requires serves { P.serves key }
-    requires thread { seeker.thread < parking.now.threads }
-    ensures permit { (result.1.key ≡ key) × (result.1.thread ≡ seeker.thread) }
-    ensures seeker { result.0 ≡ one_more seeker key }
-    ensures wide { IsWide (N.low + length N.permits) result.0 }
+    requires thread { pass.thread < parking.now.threads }
+    requires idle { IsIdle pass.own }
+    ensures permit { (result.1.key ≡ key) × (result.1.thread ≡ pass.thread) }
+    ensures gets { GetsPermit pass key result.0 }
+    ensures idle { IsIdle result.0.own }
+    ensures freed { freed_in result.0.did ≡ freed_in pass.did }
 {
-    let (right, taken) = take(scheme, seeker.into_right(), key);
-    let right = match taken {
-        Taken::Got => right,
-        Taken::Empty | Taken::Busy => {
-            get_slowly::<S, N, P, R>(rt, parking, scheme, right, key, taken)
-        }
+    let (pass, taken) = parking.scheme().take_permit(pass, key);
+    let pass = match taken {
+        Taken::Got => pass,
+        Taken::Empty | Taken::Busy => get_slowly(rt, parking, pass, key, taken),
     };
-    let permit = Permit::new(key, right.thread());
-    (Seeker::new(right), permit)
+    let permit = Permit::new(key, pass.thread());
+    (pass, permit)
 }
 
-/// Gives a permit back. Where nobody is parked it is one compare-exchange of the semaphore's word; else the first thread of the line, if
-/// any, is taken from it and woken after the bucket is unlocked. It takes no memory.
+/// Gives a permit back. Where nobody is parked it is a load and one compare-exchange of the semaphore's word; else the
+/// first thread of the line, if any, is taken from it and woken after the bucket is unlocked. It takes no memory.
 ///
-/// The permit is left to whoever comes first: a thread that was woken tries again. The seeker shows what was answered, since how its last
-/// release ended is read off the entries of the history.
+/// The permit is left to whoever comes first: a thread that was woken tries again. The pass shows what was answered,
+/// since how its last release ended is read off the accesses that were made with it.
 #[inline(always)]
-pub fn release<S: Scheme, N: PermitName + Send, P: Part<S, SemScheme<N>>, R: Wait>(
+pub fn release<V: Keeps + Send, N: LotName<V> + Send, R: Wait>(
     rt: &R,
-    parking: &ParkingLot<S>,
-    scheme: &SemScheme<N>,
-    seeker: Seeker<N>,
-    permit: Permit<N>,
+    parking: &ParkingLot<LotScheme<V, N>>,
+    pass: NamedPass<V, N>,
+    permit: Permit<V, N>,
     moment: Moment,
-) -> (Seeker<N>, Freed)
-    requires has { HasPermit seeker permit }
+) -> (NamedPass<V, N>, Freed)
     requires key { permit.key < parking.now.keys }
-    requires serves { P.serves permit.key }
-    ensures seeker { result.0 ≡ one_less seeker permit.key result.1 }
-    ensures wide { IsWide (N.low + length N.permits) result.0 }
+    requires idle { IsIdle pass.own }
+    requires has { HasPermit pass permit }
+    ensures gives { GivesPermit pass permit.key result.1 result.0 }
+    ensures idle { IsIdle result.0.own }
+    ensures freed { freed_in result.0.did ≡ Some result.1 }
 {
     let key = permit.into_key();
-    let (right, freed) = give::<S, N, P, R>(rt, parking, scheme, seeker.into_right(), key, moment);
-    (Seeker::new(right), freed)
+    give::<LotScheme<V, N>, R>(rt, parking, pass, key, moment)
 }
 
-/// Gives both seekers back as they were. The point is what it proves: they are of two threads, and of each semaphore both hold together
-/// at most as many permits as there were at the opening.
-pub fn check_permits<N: PermitName>(
-    scheme: &SemScheme<N>,
-    first: Seeker<N>,
-    second: Seeker<N>,
-) -> (Seeker<N>, Seeker<N>)
+/// Gives both passes back as they were. The point is what it proves: they are of two threads, and of each semaphore
+/// both hold together at most as many permits as there were at the opening.
+pub fn check_permits<V: Keeps, N: LotName<V>>(
+    scheme: &LotScheme<V, N>,
+    first: NamedPass<V, N>,
+    second: NamedPass<V, N>,
+) -> (NamedPass<V, N>, NamedPass<V, N>)
     ensures same { (result.0 ≡ first) × (result.1 ≡ second) }
     ensures threads { first.thread ≢ second.thread }
     ensures permits { (k : ℕ) → permits_with first k + permits_with second k ≤ opening_permits N.low N.permits k }
-    ensures wide { IsWide (N.low + length N.permits) first × IsWide (N.low + length N.permits) second }
 {
-    let (one, two) = scheme.words().check_permits(
-        first.into_right().into_pass(),
-        second.into_right().into_pass(),
-    );
-    (
-        Seeker::new(NamedSem::new(one)),
-        Seeker::new(NamedSem::new(two)),
-    )
+    scheme.check_apart(first, second)
 }
 
 /// How many permits of the semaphore were left just now, by one load. It is an observation: nothing is promised of it.
 #[inline(always)]
-pub fn permits_left<N: PermitName>(scheme: &SemScheme<N>, key: usize) -> u64
+pub fn permits_left<V: Keeps, N: LotName<V>>(scheme: &LotScheme<V, N>, key: usize) -> u64
     requires { IsAmongSemaphores N.low (length N.permits) key }
 {
-    scheme.words().bits(key) / PERMIT
+    scheme.sem_bits(key) / PERMIT
 }

@@ -1,47 +1,14 @@
 //! Getting a permit, as WTF's `Lock::lock` gets a lock: barging, a few yields, and then the line.
 ghost use Rattle.std.specs.Prelude.{◌≡◌, ◌<◌, length};
 ghost use Rattle.lot_core.specs.Parts.{IsAmongSemaphores};
-ghost use Rattle.lot_sems.specs.Calls.{IsSeeking, MayTake};
-ghost use Rattle.lot_permits.specs.Rights.{IsCalmStanding, HasTried, HasTaken, Seeks, after_try, getting};
+ghost use Rattle.lot_permits.specs.Seeking.{GetsPermit, Seeks, after_try};
 
-use crate::name::PermitName;
-use crate::scheme::{NamedSem, SemKeyRoot, SemScheme};
-use lot_park::parts::Part;
-use lot_park::{AtOnce, ParkingLot, Scheme, Seeking, Sought, Token, get_or_park};
+use crate::steps::Sems;
+use lot_park::{AtOnce, ParkingLot, Seeking, Sought, Token, get_or_park};
+use lot_scheme::{LotName, LotScheme, NamedPass, NamedRoot};
 use lot_sems::{PARKED, Taken};
+use lot_whole::Keeps;
 use std::sync::Wait;
-
-/// Takes a permit where one is left, and else leaves all as it was.
-#[tactic(auto, using(crate::proofs::Noted::tried))]
-#[inline(always)]
-pub(crate) fn try_take<N: PermitName>(
-    scheme: &SemScheme<N>,
-    pass: NamedSem<N>,
-    key: usize,
-) -> (NamedSem<N>, Taken)
-    requires key { IsAmongSemaphores N.low (length N.permits) key }
-    requires calm { IsCalmStanding pass }
-    ensures { HasTried pass key result.1 result.0 }
-{
-    let (pass, taken) = scheme.words().try_take(pass.into_pass(), key);
-    (NamedSem::new(pass), taken)
-}
-
-/// Takes a permit where one is left; where a load finds none, the thread seeks one from now on.
-#[tactic(auto, using(crate::proofs::Noted::taken))]
-#[inline(always)]
-pub(crate) fn take<N: PermitName>(
-    scheme: &SemScheme<N>,
-    pass: NamedSem<N>,
-    key: usize,
-) -> (NamedSem<N>, Taken)
-    requires key { IsAmongSemaphores N.low (length N.permits) key }
-    requires may { MayTake pass.own key }
-    ensures { HasTaken pass key result.1 result.0 }
-{
-    let (pass, taken) = scheme.words().take(pass.into_pass(), key);
-    (NamedSem::new(pass), taken)
-}
 
 /// How far a thread is after such a try.
 fn seeking_after(taken: Taken) -> Seeking
@@ -54,42 +21,36 @@ fn seeking_after(taken: Taken) -> Seeking
     }
 }
 
-/// Marks the semaphore as parked where no permit is left, by one compare-exchange, and says whether it did.
-#[tactic(auto, using(crate::proofs::Noted::marked))]
-fn mark<N: PermitName>(scheme: &SemScheme<N>, pass: NamedSem<N>, key: usize) -> (NamedSem<N>, bool)
-    requires key { IsAmongSemaphores N.low (length N.permits) key }
-    requires seeks { IsSeeking pass.own key }
-    ensures { result.0 ≡ pass }
-{
-    let (pass, marked) = scheme.words().mark(pass.into_pass(), key);
-    (NamedSem::new(pass), marked)
-}
-
-impl<N: PermitName + Send> Sought for SemScheme<N> {
+impl<V: Keeps + Send, N: LotName<V> + Send> Sought<Sems> for LotScheme<V, N> {
     ghost use Rattle.std.specs.Prelude.{length};
     ghost use Rattle.lot_core.specs.Parts.{IsAmongSemaphores};
-    ghost use Rattle.lot_permits.specs.Rights.{Seeks, SleepsFor};
+    ghost use Rattle.lot_permits.specs.Seeking.{Seeks, IsAsleepFor};
 
     ghost has = { λ s key. IsAmongSemaphores N.low (length N.permits) key };
 
-    ghost seeks = { Seeks };
+    ghost seeks = { Seeks N.low };
 
-    ghost sleeps = { SleepsFor };
+    ghost sleeps = { IsAsleepFor N.low };
 
     fn is_parked(&self, key: usize) -> bool {
-        self.words().bits(key) & PARKED != 0
+        self.sem_bits(key) & PARKED != 0
     }
 
-    fn take_again(&self, pass: NamedSem<N>, key: usize) -> (NamedSem<N>, Seeking) {
-        let (pass, taken) = take(self, pass, key);
+    fn take_again(&self, pass: NamedPass<V, N>, key: usize) -> (NamedPass<V, N>, Seeking) {
+        let (pass, taken) = self.take_permit(pass, key);
         (pass, seeking_after(taken))
     }
 
-    fn line_up(&self, pass: NamedSem<N>, key: usize, is_parked: bool) -> (NamedSem<N>, Seeking) {
+    fn line_up(
+        &self,
+        pass: NamedPass<V, N>,
+        key: usize,
+        is_parked: bool,
+    ) -> (NamedPass<V, N>, Seeking) {
         if is_parked {
             return (pass, Seeking::Parks);
         }
-        let (pass, marked) = mark(self, pass, key);
+        let (pass, marked) = self.mark_permit(pass, key);
         let now = if marked {
             Seeking::Parks
         } else {
@@ -98,9 +59,12 @@ impl<N: PermitName + Send> Sought for SemScheme<N> {
         (pass, now)
     }
 
-    fn queue(&self, pass: NamedSem<N>, root: SemKeyRoot<N>) -> (NamedSem<N>, SemKeyRoot<N>, bool) {
-        let (pass, root, queued) = self.words().park(pass.into_pass(), root.into_root());
-        (NamedSem::new(pass), SemKeyRoot::new(root), queued)
+    fn queue(
+        &self,
+        pass: NamedPass<V, N>,
+        root: NamedRoot<V, N>,
+    ) -> (NamedPass<V, N>, NamedRoot<V, N>, bool) {
+        self.park_permit(pass, root)
     }
 
     /// A permit is not handed over.
@@ -112,25 +76,22 @@ impl<N: PermitName + Send> Sought for SemScheme<N> {
 /// Gets a permit, after a first try that got none.
 #[cold]
 #[inline(never)]
-#[tactic(auto, using(crate::proofs::Seeking::laws))]
-pub(crate) fn get_slowly<S: Scheme, N: PermitName + Send, P: Part<S, SemScheme<N>>, R: Wait>(
+pub(crate) fn get_slowly<V: Keeps + Send, N: LotName<V> + Send, R: Wait>(
     rt: &R,
-    parking: &ParkingLot<S>,
-    scheme: &SemScheme<N>,
-    pass: NamedSem<N>,
+    parking: &ParkingLot<LotScheme<V, N>>,
+    pass: NamedPass<V, N>,
     key: usize,
     first: Taken,
-) -> NamedSem<N>
-    requires key { IsAmongSemaphores N.low (length N.permits) key × (key < parking.now.keys) }
-    requires serves { P.serves key }
+) -> NamedPass<V, N>
+    requires sem { IsAmongSemaphores N.low (length N.permits) key }
+    requires key { key < parking.now.keys }
     requires thread { pass.thread < parking.now.threads }
-    requires seeks { Seeks pass key (after_try first) pass }
-    ensures { result ≡ getting pass key }
+    requires seeks { Seeks N.low pass key (after_try first) pass }
+    ensures { GetsPermit pass key result }
 {
-    get_or_park::<S, SemScheme<N>, P, R, AtOnce>(
+    get_or_park::<LotScheme<V, N>, Sems, R, AtOnce>(
         rt,
         parking,
-        scheme,
         pass,
         key,
         seeking_after(first),

@@ -2,19 +2,20 @@
 ghost use Rattle.std.specs.Prelude.{◌≡◌, length};
 ghost use Rattle.lot_core.specs.Parts.{IsAmongSemaphores};
 
-use crate::name::PermitName;
+use lot_scheme::LotName;
 use std::marker::{Model, PhantomData};
 use std::snapshot::Snapshot;
 
-/// A permit of a semaphore. Contracts see the semaphore's key, and the thread that got it. It must be spent, by `release` with the seeker
-/// of that thread.
-pub struct Permit<N: PermitName> {
+/// A permit of a semaphore. Contracts see the semaphore's key, and the thread that got it. It must be spent, by
+/// `release` with the pass of that thread.
+pub struct Permit<V, N: LotName<V>> {
     key: usize,
     thread: Snapshot<usize>,
     of: PhantomData<N>,
+    values: PhantomData<V>,
 }
 
-impl<N: PermitName> Model for Permit<N> {
+impl<V, N: LotName<V>> Model for Permit<V, N> {
     ghost use Rattle.std.specs.Prelude.{length};
     ghost use Rattle.lot_core.specs.Parts.{IsAmongSemaphores};
     ghost use Rattle.lot_permits.specs.Permits.{PermitView};
@@ -26,7 +27,7 @@ impl<N: PermitName> Model for Permit<N> {
     ghost invariant = { λ s. IsAmongSemaphores N.low (length N.permits) s.key };
 }
 
-impl<N: PermitName> Permit<N> {
+impl<V, N: LotName<V>> Permit<V, N> {
     /// The key of the semaphore.
     pub fn key(&self) -> usize
         ensures key { result ≡ self.now.key }
@@ -36,7 +37,7 @@ impl<N: PermitName> Permit<N> {
     }
 
     #[inline(always)]
-    pub(crate) fn new(key: usize, thread: usize) -> Permit<N>
+    pub(crate) fn new(key: usize, thread: usize) -> Permit<V, N>
         requires { IsAmongSemaphores N.low (length N.permits) key }
         ensures { (result.key ≡ key) × (result.thread ≡ thread) }
     {
@@ -44,6 +45,7 @@ impl<N: PermitName> Permit<N> {
             key,
             thread: Snapshot::of(&thread),
             of: PhantomData,
+            values: PhantomData,
         }
     }
 
@@ -56,15 +58,16 @@ impl<N: PermitName> Permit<N> {
             key,
             thread: _,
             of: _,
+            values: _,
         } = self;
         key
     }
 }
 
 /// What came of a try to get a permit.
-pub enum Tried<N: PermitName> {
+pub enum Tried<V, N: LotName<V>> {
     /// The thread has this permit now.
-    Got(Permit<N>),
+    Got(Permit<V, N>),
     /// A load found that no permit is left.
     Empty,
     /// The semaphore's word was just changed by another thread. Nothing was done, and it may be tried again.

@@ -1,5 +1,7 @@
+pub mod Stays
 pub mod Rests
-pub mod Beside
+pub mod Calls
 pub mod Turns
-pub mod Starts
 pub mod Holdings
+pub mod Starts
+pub mod Closes

@@ -1,38 +1,65 @@
--- A pass gets a lock and lets it go, and is at rest again.
-use Rattle.std.proofs.Common.{◌≡◌, ◌≢◌, ℕ, ◌<◌, false, List, [], ◌∷◌, zero, suc, length, map, set, get_or, refl, sym, ap, subst, ◌∙◌, ⊎_elim, length-set, arith}
+-- A pass gets a lock and lets it go, and is at rest again; and what its callers see of that.
+use Rattle.std.proofs.Common.{◌≡◌, ◌≢◌, ℕ, ◌+◌, ◌<◌, Bool, true, false, MatchBool, List, [], ◌∷◌, ◌++◌, zero, suc, length, map, set, get_or, Option, Some, None, refl, sym, ap, subst, ◌∙◌, ⊎_elim, length-set, arith}
 use Rattle.std.proofs.lemmas.List.{get_or-set_same, get_or-set_other, map-set, set-get_or}
 use mathlib.Core.Option.{some, some-injective}
 use mathlib.Core.Logic.{dite}
 use native.Mathlib.Decide.{ℕ_discrete}
 use lib.ListN.{get_elem?}
 use Rattle.atomic_table.proofs.Lists.{set_here, set_else, at_set}
+use Rattle.lot_events.specs.declared.events.Event.TheVariants.{Free}
+use Rattle.lot_events.specs.declared.events.Seen.TheVariants.{Bool as Saw}
+use Rattle.lot_rights.specs.declared.views.Access.{Access}
+use Rattle.lot_rights.specs.declared.views.Access.TheVariants.{Makes}
 use Rattle.lot_words.specs.declared.views.Hold.{Hold}
 use Rattle.lot_words.specs.declared.views.Hold.TheVariants.{NotHeld, Held, FoundParked}
 use Rattle.lot_words.specs.declared.views.Place.{Place}
 use Rattle.lot_words.specs.declared.views.Place.TheVariants.{InSlot, Out}
 use Rattle.lot_words.specs.CallersRule.{CallersRule}
 use Rattle.lot_words.specs.World.{IsHeld, Holds}
-use Rattle.lot_words.specs.Values.{IsOut, IsIn, HasSeen, MayLeave}
-use Rattle.lot_waits.specs.Counts.{CountsView, woke}
-use Rattle.lot_permits.specs.Permits.{PermitsView}
-use Rattle.lot_kinds.specs.Rights.{RightsView, joined}
+use Rattle.lot_words.specs.Values.{IsOut, IsIn, FoundOk, HasSeen, MayLeave}
+use Rattle.lot_words.specs.Calls.{gripped, let_go, found_parked}
+use Rattle.lot_whole.specs.declared.views.LotPassView.{LotPassView}
+use Rattle.lot_whole.specs.declared.views.Stand.TheVariants.{Idle}
+use Rattle.lot_whole.specs.Standing.{IsIdle, IsUp}
+use Rattle.lot_whole.specs.Whole.{rises}
+use Rattle.lot_scheme.specs.Standing.{LotStanding, adding, putting, letting_go, finding_parked, owning as owning_now}
 use Rattle.lot_locks.specs.declared.released.Released.{Released}
+use Rattle.lot_locks.specs.declared.released.Released.TheVariants.{Quiet}
+use Rattle.lot_locks.specs.Released.{released_in, FreeWord}
+use Rattle.lot_locks.specs.Standing.{GetsBy, GoesBy, IsOwner, LetsGo, IsFoundParked, MissesBy}
+use Rattle.lot_locks.proofs.Adding.{up_then}
 use Rattle.lot_locks.proofs.Freed.{held_near}
-use Rattle.lot_locks.proofs.Waking.{found_as}
-use Rattle.lot_sync.specs.Lot.{PassView, HeldView, Owns, leaving, waking}
+use Rattle.lot_locks.proofs.Telling.{freed_tells}
+use Rattle.lot_permits.specs.declared.permit.Freed.{Freed}
+use Rattle.lot_permits.specs.Freed.{freed_in}
+use Rattle.lot_sync.specs.Lot.{PassView, HeldView, LotNames, Owns, owning, leaving}
+use Rattle.lot_sync.specs.Passes.{is_held, sees, IsOfLot, IsAtRest, IsNewOwner}
 use Rattle.lot_sync.specs.Values.{Gets, MayGiveBack}
-pub use Rattle.lot_passes.proofs.Holds.{owned_held, held_owned, own_on}
-use Rattle.lot_locks.specs.Standing.{Standing, putting, IsOwner, IsTryingFor, IsFoundParked, LetsGo}
-use Rattle.lot_passes.specs.Passes.{is_held, sees, IsAtRest, IsNewOwner}
+use Rattle.lot_sync.proofs.Stays.{KeepsReleased, KeepsFreed, released_on, freed_on, let_go_freed}
 
 -- ---- holds
-pub held_here : (hs : List Hold) (l : ℕ) → l < length hs → IsHeld (get_or (set hs l Held) l NotHeld)
-held_here hs l near = subst IsHeld (sym (get_or-set_same hs l Held NotHeld near)) tt
+-- the bool of a hold says whether it is held
+pub owned_held : (hs : List Hold) (l : ℕ) → get_or (map is_held hs) l false ≡ true → IsHeld (get_or hs l NotHeld)
+owned_held [] l e = absurd (cc)
+owned_held (NotHeld ∷ hs) zero e = absurd (cc)
+owned_held (Held ∷ hs) zero e = tt
+owned_held (FoundParked ∷ hs) zero e = tt
+owned_held (h ∷ hs) (suc l) e = owned_held hs l e
 
-pub held_else : (hs : List Hold) (l k : ℕ) (h : Hold) → k ≢ l → IsHeld (get_or (set hs l h) k NotHeld) → IsHeld (get_or hs k NotHeld)
+pub held_owned : (hs : List Hold) (l : ℕ) → IsHeld (get_or hs l NotHeld) → get_or (map is_held hs) l false ≡ true
+held_owned [] l h = absurd h
+held_owned (NotHeld ∷ hs) zero h = absurd h
+held_owned (Held ∷ hs) zero h = refl
+held_owned (FoundParked ∷ hs) zero h = refl
+held_owned (h ∷ hs) (suc l) i = held_owned hs l i
+
+held_here : (hs : List Hold) (l : ℕ) (h : Hold) → IsHeld h → l < length hs → IsHeld (get_or (set hs l h) l NotHeld)
+held_here hs l h is near = subst IsHeld (sym (get_or-set_same hs l h NotHeld near)) is
+
+held_else : (hs : List Hold) (l k : ℕ) (h : Hold) → k ≢ l → IsHeld (get_or (set hs l h) k NotHeld) → IsHeld (get_or hs k NotHeld)
 held_else hs l k h else is = subst IsHeld (get_or-set_other hs l k h NotHeld else) is
 
-pub unheld_here : (hs : List Hold) (l : ℕ) → l < length hs → ¬ IsHeld (get_or (set hs l NotHeld) l NotHeld)
+unheld_here : (hs : List Hold) (l : ℕ) → l < length hs → ¬ IsHeld (get_or (set hs l NotHeld) l NotHeld)
 unheld_here hs l near is = subst IsHeld (get_or-set_same hs l NotHeld NotHeld near) is
 
 -- what a list has at a number within
@@ -42,7 +69,7 @@ reads (x ∷ xs) zero near = (x, refl)
 reads (x ∷ xs) (suc k) near = reads xs k (omega arith)
 
 -- a held lock that is found parked is held as before
-pub owned_parked : (hs : List Hold) (l : ℕ) → IsHeld (get_or hs l NotHeld) → map is_held (set hs l FoundParked) ≡ map is_held hs
+owned_parked : (hs : List Hold) (l : ℕ) → IsHeld (get_or hs l NotHeld) → map is_held (set hs l FoundParked) ≡ map is_held hs
 owned_parked hs l holds =
     map-set is_held hs l FoundParked ∙ (ap (set (map is_held hs) l) (sym (held_owned hs l holds)) ∙ set-get_or (map is_held hs) l false)
 
@@ -54,207 +81,320 @@ module _ {V : Type 0} where
   pub one_lies : (ps : List (Place V)) (l : ℕ) (x y : V) → get_elem? ps l ≡ some (InSlot x) → get_elem? ps l ≡ some (InSlot y) → x ≡ y
   one_lies ps l x y e f = in_slot-injective x y (some-injective (InSlot x) (InSlot y) (sym e ∙ f))
 
-  -- the value that was put into a slot lies there
-  pub lies_in : (before after : Standing V) (key : ℕ) (value : V) → after ≡ putting before key (InSlot value) → key < length before.own.places → IsIn after.own key value
-  lies_in before after key value moved near = subst (λ (r : Standing V). IsIn r.own key value) (sym moved) (set_here before.own.places key (InSlot value) near)
-
-  -- what the callers of an unlock see
-  pub leaves_all : (q : RightsView) (before after : Standing V) (key : ℕ) (value : V) (became : Released) → IsIn before.own key value → LetsGo before key became after
-      → sees q after ≡ leaving (sees q before) key value became
-  leaves_all q before after key value became lies went = λ i. record {
-    thread = went.thread i;
-    owns = (ap (map is_held) went.holds ∙ map-set is_held before.own.holds key NotHeld) i;
-    seen = went.seen value lies i;
-    released = went.released i;
-    called = q.called;
-    woken = q.woken;
-    permits = q.permits;
-    freed = q.freed;
+  -- ---- what callers see of a pass
+  pub sees_as : (p : LotStanding V) (own : LotPassView V) (did : List Access) (owns : List Bool) (released : Option Released) (freed : Option Freed)
+      → map is_held own.locks.holds ≡ owns → released_in (p.did ++ did) ≡ released → freed_in (p.did ++ did) ≡ freed
+      → sees (adding (record p { own = own }) did) ≡ record {
+        thread = p.thread;
+        owns = owns;
+        seen = own.locks.seen;
+        released = released;
+        called = own.conds.called;
+        woken = own.conds.woken;
+        permits = own.sems.out;
+        freed = freed;
+      }
+  sees_as p own did owns released freed a b c = λ i. record {
+    thread = p.thread;
+    owns = a i;
+    seen = own.locks.seen;
+    released = b i;
+    called = own.conds.called;
+    woken = own.conds.woken;
+    permits = own.sems.out;
+    freed = c i;
   }
 
-  -- what the callers of an unlock see that found the lock parked
-  pub stays_all : (q : RightsView) (before mid after : Standing V) (key : ℕ) → Holds before.own key → IsFoundParked before key mid → after ≡ putting mid key Out → sees q after ≡ sees q before
-  stays_all q before mid after key holds found moved = ap (sees q) moved ∙ (λ i. record {
-    thread = found.thread i;
-    owns = (ap (map is_held) found.holds ∙ owned_parked before.own.holds key holds) i;
-    seen = found.seen i;
-    released = found.released i;
-    called = q.called;
-    woken = q.woken;
-    permits = q.permits;
-    freed = q.freed;
-  })
+  -- accesses that end neither an unlock nor a release change nothing of it
+  pub sees_stays : (p q : LotStanding V) (did : List Access) → q ≡ adding p did → KeepsReleased did → KeepsFreed did → sees q ≡ sees p
+  sees_stays p q did is r f = ap sees is ∙ sees_as p p.own did (map is_held p.own.locks.holds) (released_in p.did) (freed_in p.did) refl (released_on p.did did r) (freed_on p.did did f)
 
-module _ {V : Type 0} (grows : V → V → Type 0) (opening : List V) (threads : ℕ) where
+  -- a lock was got
+  pub sees_owner : (p q : LotStanding V) (l : ℕ) (x : V) (did : List Access) → q ≡ adding (owning_now p l x) did → KeepsReleased did → KeepsFreed did
+      → sees q ≡ owning (sees p) l x
+  sees_owner p q l x did is r f = ap sees is ∙ sees_as p (owning_now p l x).own did (set (map is_held p.own.locks.holds) l true) (released_in p.did) (freed_in p.did)
+      (map-set is_held p.own.locks.holds l Held) (released_on p.did did r) (freed_on p.did did f)
+
+  -- a lock was let go
+  pub sees_left : (p q : LotStanding V) (l : ℕ) (y : V) (became : Released) (did : List Access) → q ≡ adding (letting_go p l y) did → released_in (p.did ++ did) ≡ Some became
+      → KeepsFreed did → sees q ≡ leaving (sees p) l y became
+  sees_left p q l y became did is r f = ap sees is ∙ sees_as p (letting_go p l y).own did (set (map is_held p.own.locks.holds) l false) (Some became) (freed_in p.did)
+      (map-set is_held p.own.locks.holds l NotHeld) r (freed_on p.did did f)
+
+  -- the same of a pass that let it go by the word of an unlock
+  pub leaves_all : (p q : LotStanding V) (l : ℕ) (value : V) (became : Released) → IsIn p.own.locks l value → LetsGo p l became q → sees q ≡ leaving (sees p) l value became
+  leaves_all p q l value became lies went =
+      let same : went.value ≡ value = one_lies p.own.locks.places l went.value value went.lay lies in
+      sees_left p q l value became went.did (subst (λ v. q ≡ adding (letting_go p l v) went.did) same went.is)
+      (freed_tells p.thread l became p.did went.did went.freed) (let_go_freed p.thread l became went.did went.freed)
+
+  -- found parked, and its value taken out again: the callers see no change
+  pub stays_all : (p m q : LotStanding V) (l : ℕ) → Holds p.own.locks l → IsFoundParked p l m → q ≡ putting m l Out → sees q ≡ sees p
+  stays_all p m q l holds found moved =
+      let acts : List Access = Makes (Free p.thread l) (Saw false) ∷ [] in
+      ap sees (moved ∙ ap (λ (s : LotStanding V). putting s l Out) found)
+      ∙ sees_as p (putting (finding_parked p l) l Out).own acts (map is_held p.own.locks.holds) (released_in p.did) (freed_in p.did)
+      (owned_parked p.own.locks.holds l holds) (released_on p.did acts (λ before. refl)) (freed_on p.did acts (λ before. refl))
+
+module _ {V : Type 0} (grows : V → V → Type 0) (names : LotNames V) where
   -- an owned lock is one of the lot
-  pub owned_within : (q : RightsView) (r : Standing V) (key : ℕ) → IsAtRest grows opening threads r → Owns (sees q r) key → key < length opening
-  owned_within q r key rest owns = subst (λ n. key < n) rest.holds_long (held_near r.own.holds key (owned_held r.own.holds key owns))
+  pub owned_within : (r : LotStanding V) (l : ℕ) → IsAtRest grows names r → Owns (sees r) l → l < names.locks
+  owned_within r l rest owns = subst (λ n. l < n) rest.of_lot.holds_long (held_near r.own.locks.holds l (owned_held r.own.locks.holds l owns))
+
+  -- the accesses that were made are no matter
+  rest_on : (r : LotStanding V) (did : List Access) → IsAtRest grows names r → IsAtRest grows names (adding r did)
+  rest_on r did rest = record {
+    of_lot = record {
+      is_thread = rest.of_lot.is_thread;
+      holds_long = rest.of_lot.holds_long;
+      places_long = rest.of_lot.places_long;
+      seen_long = rest.of_lot.seen_long;
+      called_long = rest.of_lot.called_long;
+      woken_long = rest.of_lot.woken_long;
+      permits_long = rest.of_lot.permits_long;
+      grown = rest.of_lot.grown;
+    };
+    idle = rest.idle;
+    out = rest.out;
+  }
+
+  pub rests_on : (p q : LotStanding V) (did : List Access) → q ≡ adding p did → IsAtRest grows names p → IsAtRest grows names q
+  rests_on p q did is rest = subst (IsAtRest grows names) (sym is) (rest_on p did rest)
+
+  -- of a list of places, the value of one of them moved
+  out_but : (holds : List Hold) (places : List (Place V)) (l : ℕ) (place : Place V) → ((k : ℕ) → k ≢ l → IsHeld (get_or holds k NotHeld) → get_elem? places k ≡ some Out)
+      → (k : ℕ) → k ≢ l → IsHeld (get_or holds k NotHeld) → get_elem? (set places l place) k ≡ some Out
+  out_but holds places l place out k else is = set_else places l k place else ∙ out k else is
 
   -- the new owner took the value out
-  pub rests_again : (before after : Standing V) (key : ℕ) → key < length opening → IsNewOwner grows opening threads before key → after ≡ putting before key Out → IsAtRest grows opening threads after
-  rests_again before after key near own moved = subst (IsAtRest grows opening threads) (sym moved) (record {
-    is_thread = own.is_thread;
-    aimless = own.aimless;
-    awake = own.awake;
-    holds_long = own.holds_long;
-    places_long = length-set before.own.places key Out ∙ own.places_long;
-    seen_long = own.seen_long;
-    out = out_at;
-    grown = own.grown;
+  pub rests_again : (p q : LotStanding V) (l : ℕ) → l < names.locks → IsNewOwner grows names p l → q ≡ putting p l Out → IsAtRest grows names q
+  rests_again p q l near own moved = subst (IsAtRest grows names) (sym moved) (record {
+    of_lot = record {
+      is_thread = own.of_lot.is_thread;
+      holds_long = own.of_lot.holds_long;
+      places_long = length-set p.own.locks.places l Out ∙ own.of_lot.places_long;
+      seen_long = own.of_lot.seen_long;
+      called_long = own.of_lot.called_long;
+      woken_long = own.of_lot.woken_long;
+      permits_long = own.of_lot.permits_long;
+      grown = own.of_lot.grown;
+    };
+    idle = placed_idle own.idle;
+    out = λ k holds. dite (ℕ_discrete k l)
+        (λ e. subst (λ j. get_elem? (set p.own.locks.places l Out) j ≡ some Out) (sym e) (set_here p.own.locks.places l Out (let w = own.of_lot.places_long in omega (arith, w))))
+        (λ else. out_but p.own.locks.holds p.own.locks.places l Out own.out k else holds);
   })
     where
-      out_at : (l : ℕ) → Holds before.own l → get_elem? (set before.own.places key Out) l ≡ some Out
-      out_at l holds = dite (ℕ_discrete l key)
-          (λ e. subst (λ k. get_elem? (set before.own.places key Out) k ≡ some Out) (sym e) (set_here before.own.places key Out (let w = own.places_long in omega (arith, w))))
-          (λ else. set_else before.own.places key l Out else ∙ own.out l else holds)
+      placed_idle : IsIdle p.own → IsIdle (putting p l Out).own
+      placed_idle idle = (record { up = up_then p.own (putting p l Out).own.locks p.own.stand refl idle.0.up; aim = idle.0.aim; sweeps = idle.0.sweeps; seeks = idle.0.seeks }, idle.1)
 
-  -- whoever let a lock go is at rest
-  pub rests_free : ((x y z : V) → grows x y → grows y z → grows x z) → (before after : Standing V) (key : ℕ) (value : V) (became : Released) → key < length opening
-      → IsNewOwner grows opening threads before key → IsIn before.own key value
-      → ((u : V) → HasSeen before.own key u → grows u value) → LetsGo before key became after → IsAtRest grows opening threads after
-  rests_free through before after key value became near own lies grown went = record {
-    is_thread = subst (λ t. t < threads) (sym went.thread) own.is_thread;
-    aimless = went.aim ∙ own.aimless;
-    awake = went.asleep ∙ own.awake;
-    holds_long = ap length went.holds ∙ (length-set before.own.holds key NotHeld ∙ own.holds_long);
-    places_long = ap length went.places ∙ own.places_long;
-    seen_long = ap length (went.seen value lies) ∙ (length-set before.own.seen key value ∙ own.seen_long);
-    out = λ l holds. subst (λ ps. get_elem? ps l ≡ some Out) (sym went.places) (out_at l (subst (λ hs. IsHeld (get_or hs l NotHeld)) went.holds holds));
-    grown = λ l u v o s. grown_at l u v o (subst (λ vs. get_elem? vs l ≡ some v) (went.seen value lies) s);
+  -- a lock that was let go, and what was left there
+  pub left_at_rest : ((x y z : V) → grows x y → grows y z → grows x z) → (p : LotStanding V) (l : ℕ) (value : V) → l < names.locks
+      → IsNewOwner grows names p l → ((u : V) → HasSeen p.own.locks l u → grows u value) → IsAtRest grows names (letting_go p l value)
+  left_at_rest through p l value near own grown = record {
+    of_lot = record {
+      is_thread = own.of_lot.is_thread;
+      holds_long = length-set p.own.locks.holds l NotHeld ∙ own.of_lot.holds_long;
+      places_long = own.of_lot.places_long;
+      seen_long = length-set p.own.locks.seen l value ∙ own.of_lot.seen_long;
+      called_long = own.of_lot.called_long;
+      woken_long = own.of_lot.woken_long;
+      permits_long = own.of_lot.permits_long;
+      grown = grown_at;
+    };
+    idle = (
+      record {
+        up = up_then p.own (letting_go p l value).own.locks (rises p.own.stand) refl own.idle.0.up;
+        aim = own.idle.0.aim;
+        sweeps = own.idle.0.sweeps;
+        seeks = own.idle.0.seeks;
+      },
+      ap rises own.idle.1,
+    );
+    out = out_at;
   }
     where
-      out_at : (l : ℕ) → IsHeld (get_or (set before.own.holds key NotHeld) l NotHeld) → IsOut before.own l
-      out_at l holds = dite (ℕ_discrete l key)
-          (λ e. absurd (unheld_here before.own.holds key (let w = own.holds_long in omega (arith, w)) (subst (λ k. IsHeld (get_or (set before.own.holds key NotHeld) k NotHeld)) e holds)))
-          (λ else. own.out l else (held_else before.own.holds key l NotHeld else holds))
+      out_at : (k : ℕ) → IsHeld (get_or (set p.own.locks.holds l NotHeld) k NotHeld) → IsOut p.own.locks k
+      out_at k holds = dite (ℕ_discrete k l)
+          (λ e. absurd (unheld_here p.own.locks.holds l (let w = own.of_lot.holds_long in omega (arith, w))
+          (subst (λ j. IsHeld (get_or (set p.own.locks.holds l NotHeld) j NotHeld)) e holds)))
+          (λ else. own.out k else (held_else p.own.locks.holds l k NotHeld else holds))
 
-      grown_at : (l : ℕ) (u v : V) → get_elem? opening l ≡ some u → get_elem? (set before.own.seen key value) l ≡ some v → grows u v
-      grown_at l u v o s = ⊎_elim
-          (λ here. let had = seen_at l here.0 in subst (grows u) here.1 (through u had.0 value (own.grown l u had.0 o (subst (λ k. HasSeen before.own k had.0) (sym here.0) had.1))
-          (grown had.0 had.1)))
-          (λ else. own.grown l u v o else.1)
-          (at_set before.own.seen key l value v s)
-        where
-          seen_at : (k : ℕ) → k ≡ key → (w : V) × HasSeen before.own key w
-          seen_at k e = reads before.own.seen key (let w = own.seen_long in omega (arith, w))
+      seen_at : (k : ℕ) → k ≡ l → (w : V) × HasSeen p.own.locks l w
+      seen_at k e = reads p.own.locks.seen l (let w = own.of_lot.seen_long in omega (arith, w))
+
+      grown_at : (k : ℕ) (u v : V) → get_elem? names.values k ≡ some u → get_elem? (set p.own.locks.seen l value) k ≡ some v → grows u v
+      grown_at k u v o s = ⊎_elim
+          (λ here. let had = seen_at k here.0 in subst (grows u) here.1
+          (through u had.0 value (own.of_lot.grown k u had.0 o (subst (λ j. HasSeen p.own.locks j had.0) (sym here.0) had.1)) (grown had.0 had.1)))
+          (λ else. own.of_lot.grown k u v o else.1)
+          (at_set p.own.locks.seen l k value v s)
+
+  -- whoever let a lock go is at rest
+  pub rests_free : ((x y z : V) → grows x y → grows y z → grows x z) → (p q : LotStanding V) (l : ℕ) (value : V) (became : Released) → l < names.locks
+      → IsNewOwner grows names p l → IsIn p.own.locks l value → ((u : V) → HasSeen p.own.locks l u → grows u value) → LetsGo p l became q → IsAtRest grows names q
+  rests_free through p q l value became near own lies grown went =
+      let same : went.value ≡ value = one_lies p.own.locks.places l went.value value went.lay lies in
+      rests_on (letting_go p l value) q went.did (subst (λ v. q ≡ adding (letting_go p l v) went.did) same went.is) (left_at_rest through p l value near own grown)
 
   -- the value was put back into the slot
-  pub owns_again : (q : RightsView) (before after : Standing V) (key : ℕ) (value : V) → key < length opening → IsAtRest grows opening threads before → Owns (sees q before) key
-      → after ≡ putting before key (InSlot value) → IsNewOwner grows opening threads after key
-  owns_again q before after key value near rest owns moved = subst (λ (r : Standing V). IsNewOwner grows opening threads r key) (sym moved) (record {
-    is_thread = rest.is_thread;
-    aimless = rest.aimless;
-    awake = rest.awake;
-    holds_long = rest.holds_long;
-    places_long = length-set before.own.places key (InSlot value) ∙ rest.places_long;
-    seen_long = rest.seen_long;
-    holds = owned_held before.own.holds key owns;
+  pub owns_again : (p q : LotStanding V) (l : ℕ) (value : V) → l < names.locks → IsAtRest grows names p → Owns (sees p) l → q ≡ putting p l (InSlot value)
+      → IsNewOwner grows names q l
+  owns_again p q l value near rest owns moved = subst (λ (r : LotStanding V). IsNewOwner grows names r l) (sym moved) (record {
+    of_lot = record {
+      is_thread = rest.of_lot.is_thread;
+      holds_long = rest.of_lot.holds_long;
+      places_long = length-set p.own.locks.places l (InSlot value) ∙ rest.of_lot.places_long;
+      seen_long = rest.of_lot.seen_long;
+      called_long = rest.of_lot.called_long;
+      woken_long = rest.of_lot.woken_long;
+      permits_long = rest.of_lot.permits_long;
+      grown = rest.of_lot.grown;
+    };
+    idle = (
+      record {
+        up = up_then p.own (putting p l (InSlot value)).own.locks p.own.stand refl rest.idle.0.up;
+        aim = rest.idle.0.aim;
+        sweeps = rest.idle.0.sweeps;
+        seeks = rest.idle.0.seeks;
+      },
+      rest.idle.1,
+    );
+    holds = owned_held p.own.locks.holds l owns;
     value = value;
-    lies = set_here before.own.places key (InSlot value) (let w = rest.places_long in omega (arith, w));
-    out = λ l else holds. set_else before.own.places key l (InSlot value) else ∙ rest.out l holds;
-    grown = rest.grown;
+    lies = set_here p.own.locks.places l (InSlot value) (let w = rest.of_lot.places_long in omega (arith, w));
+    out = out_but p.own.locks.holds p.own.locks.places l (InSlot value) (λ k else holds. rest.out k holds);
   })
 
   -- the lock was found parked, and the value was taken out again
-  pub rests_parked : (before mid after : Standing V) (key : ℕ) → key < length opening → IsNewOwner grows opening threads before key → IsFoundParked before key mid
-      → after ≡ putting mid key Out → IsAtRest grows opening threads after
-  rests_parked before mid after key near own found moved = rests_again mid after key near (record {
-    is_thread = subst (λ t. t < threads) (sym found.thread) own.is_thread;
-    aimless = found.aim ∙ own.aimless;
-    awake = found.asleep ∙ own.awake;
-    holds_long = ap length found.holds ∙ (length-set before.own.holds key FoundParked ∙ own.holds_long);
-    places_long = ap length found.places ∙ own.places_long;
-    seen_long = ap length found.seen ∙ own.seen_long;
-    holds = subst (λ hs. IsHeld (get_or hs key NotHeld)) (sym found.holds) (subst IsHeld (sym
-        (get_or-set_same before.own.holds key FoundParked NotHeld (let w = own.holds_long in omega (arith, w)))) tt);
+  pub rests_parked : (p m q : LotStanding V) (l : ℕ) → l < names.locks → IsNewOwner grows names p l → IsFoundParked p l m → q ≡ putting m l Out → IsAtRest grows names q
+  rests_parked p m q l near own found moved = rests_again m q l near (subst (λ (r : LotStanding V). IsNewOwner grows names r l) (sym found) (record {
+    of_lot = record {
+      is_thread = own.of_lot.is_thread;
+      holds_long = length-set p.own.locks.holds l FoundParked ∙ own.of_lot.holds_long;
+      places_long = own.of_lot.places_long;
+      seen_long = own.of_lot.seen_long;
+      called_long = own.of_lot.called_long;
+      woken_long = own.of_lot.woken_long;
+      permits_long = own.of_lot.permits_long;
+      grown = own.of_lot.grown;
+    };
+    idle = (
+      record {
+        up = up_then p.own (finding_parked p l).own.locks p.own.stand refl own.idle.0.up;
+        aim = own.idle.0.aim;
+        sweeps = own.idle.0.sweeps;
+        seeks = own.idle.0.seeks;
+      },
+      own.idle.1,
+    );
+    holds = held_here p.own.locks.holds l FoundParked tt (let w = own.of_lot.holds_long in omega (arith, w));
     value = own.value;
-    lies = subst (λ ps. get_elem? ps key ≡ some (InSlot own.value)) (sym found.places) own.lies;
-    out = λ l else holds. subst (λ ps. get_elem? ps l ≡ some Out) (sym found.places) (own.out l else
-        (held_else before.own.holds key l FoundParked else (subst (λ hs. IsHeld (get_or hs l NotHeld)) found.holds holds)));
-    grown = λ l u v o s. own.grown l u v o (subst (λ vs. get_elem? vs l ≡ some v) found.seen s);
-  }) moved
+    lies = own.lies;
+    out = λ k else holds. own.out k else (held_else p.own.locks.holds l k FoundParked else holds);
+  })) moved
 
-module _ {V Part : Type 0} (rule : CallersRule V Part) where
-  -- whoever got a lock, and did not hold it, is its new owner
-  pub owns_newly : (opening : List V) (threads : ℕ) (before after : Standing V) (key : ℕ) → key < length opening → IsAtRest rule.grows opening threads before
-      → IsOwner rule before key after → IsNewOwner rule.grows opening threads after key
-  owns_newly opening threads before after key near rest own = record {
-    is_thread = subst (λ t. t < threads) (sym own.thread) rest.is_thread;
-    aimless = own.aimless;
-    awake = own.awake;
-    holds_long = ap length own.holds ∙ (length-set before.own.holds key Held ∙ rest.holds_long);
-    places_long = ap length own.places ∙ (length-set before.own.places key (InSlot own.value) ∙ rest.places_long);
-    seen_long = ap length own.seen ∙ (length-set before.own.seen key own.value ∙ rest.seen_long);
-    holds = subst (λ hs. IsHeld (get_or hs key NotHeld)) (sym own.holds) (held_here before.own.holds key (let w = rest.holds_long in omega (arith, w)));
-    value = own.value;
-    lies = subst (λ ps. get_elem? ps key ≡ some (InSlot own.value)) (sym own.places) (set_here before.own.places key (InSlot own.value) (let w = rest.places_long in omega (arith, w)));
-    out = λ l else holds. subst (λ ps. get_elem? ps l ≡ some Out) (sym own.places)
-        (set_else before.own.places key l (InSlot own.value) else ∙ rest.out l (held_else before.own.holds key l Held else (subst (λ hs. IsHeld (get_or hs l NotHeld)) own.holds holds)));
-    grown = λ l u v o s. grown_at l u v o (subst (λ vs. get_elem? vs l ≡ some v) own.seen s);
+module _ {V Part : Type 0} (rule : CallersRule V Part) (names : LotNames V) where
+  -- a lock was got, from a pass of the lot that is idle but for where it stands
+  pub owns_so : (p : LotStanding V) (l : ℕ) (x : V) → l < names.locks → IsOfLot rule.grows names p → IsUp p.own → p.own.conds.sweeps ≡ None → p.own.sems.seeks ≡ None
+      → ((k : ℕ) → k ≢ l → Holds p.own.locks k → IsOut p.own.locks k) → FoundOk rule l p.thread p.own.locks x → IsNewOwner rule.grows names (owning_now p l x) l
+  owns_so p l x near lot up sweeps seeks out found = record {
+    of_lot = record {
+      is_thread = lot.is_thread;
+      holds_long = length-set p.own.locks.holds l Held ∙ lot.holds_long;
+      places_long = length-set p.own.locks.places l (InSlot x) ∙ lot.places_long;
+      seen_long = length-set p.own.locks.seen l x ∙ lot.seen_long;
+      called_long = lot.called_long;
+      woken_long = lot.woken_long;
+      permits_long = lot.permits_long;
+      grown = grown_at;
+    };
+    idle = (record { up = up_then p.own (gripped p.own.locks l x) Idle refl up; aim = refl; sweeps = sweeps; seeks = seeks }, refl);
+    holds = held_here p.own.locks.holds l Held tt (let w = lot.holds_long in omega (arith, w));
+    value = x;
+    lies = set_here p.own.locks.places l (InSlot x) (let w = lot.places_long in omega (arith, w));
+    out = λ k else holds. set_else p.own.locks.places l k (InSlot x) else ∙ out k else (held_else p.own.locks.holds l k Held else holds);
   }
     where
-      grown_at : (l : ℕ) (u v : V) → get_elem? opening l ≡ some u → get_elem? (set before.own.seen key own.value) l ≡ some v → rule.grows u v
-      grown_at l u v o s = ⊎_elim
-          (λ here. let had = reads before.own.seen key (let w = rest.seen_long in omega (arith, w)) in
-          subst (rule.grows u) here.1 (rule.grows_on u had.0 own.value (rest.grown l u had.0 o (subst (λ k. HasSeen before.own k had.0) (sym here.0) had.1)) (own.found.grown had.0 had.1)))
-          (λ else. rest.grown l u v o else.1)
-          (at_set before.own.seen key l own.value v s)
+      grown_at : (k : ℕ) (u v : V) → get_elem? names.values k ≡ some u → get_elem? (set p.own.locks.seen l x) k ≡ some v → rule.grows u v
+      grown_at k u v o s = ⊎_elim
+          (λ here. let had = reads p.own.locks.seen l (let w = lot.seen_long in omega (arith, w)) in
+          subst (rule.grows u) here.1
+          (rule.grows_on u had.0 x (lot.grown k u had.0 o (subst (λ j. HasSeen p.own.locks j had.0) (sym here.0) had.1)) (found.grown had.0 had.1)))
+          (λ else. lot.grown k u v o else.1)
+          (at_set p.own.locks.seen l k x v s)
+
+  owner_on : (p : LotStanding V) (l : ℕ) (did : List Access) → IsNewOwner rule.grows names p l → IsNewOwner rule.grows names (adding p did) l
+  owner_on p l did own = record {
+    of_lot = record {
+      is_thread = own.of_lot.is_thread;
+      holds_long = own.of_lot.holds_long;
+      places_long = own.of_lot.places_long;
+      seen_long = own.of_lot.seen_long;
+      called_long = own.of_lot.called_long;
+      woken_long = own.of_lot.woken_long;
+      permits_long = own.of_lot.permits_long;
+      grown = own.of_lot.grown;
+    };
+    idle = own.idle;
+    holds = own.holds;
+    value = own.value;
+    lies = own.lies;
+    out = own.out;
+  }
+
+  pub owns_after : (p q : LotStanding V) (l : ℕ) (did : List Access) → q ≡ adding p did → IsNewOwner rule.grows names p l → IsNewOwner rule.grows names q l
+  owns_after p q l did is own = subst (λ (r : LotStanding V). IsNewOwner rule.grows names r l) (sym is) (owner_on p l did own)
+
+  -- whoever got a lock is its new owner
+  pub owns_newly : (word : List Access → Type 0) (p q : LotStanding V) (l : ℕ) → l < names.locks → IsAtRest rule.grows names p → GetsBy rule word p l q
+      → IsNewOwner rule.grows names q l
+  owns_newly word p q l near rest got = owns_after (owning_now p l got.value) q l got.did got.is
+      (owns_so p l got.value near rest.of_lot rest.idle.0.up rest.idle.0.sweeps rest.idle.0.seeks (λ k else holds. rest.out k holds) got.found)
 
   -- what the callers of lock see
-  pub gets_all : (q : RightsView) (opening : List V) (threads : ℕ) (before after : Standing V) (held : HeldView V) (key : ℕ) → key < length opening → IsAtRest rule.grows opening threads before
-      → IsOwner rule before key after → held.key ≡ key → IsIn after.own key held.value → Gets rule (sees q before) key held (sees q after)
-  gets_all q opening threads before after held key near rest own key_is lies = record {
-    key_is = key_is;
-    kept = subst (rule.keeps key) same own.found.kept;
-    grown = λ u s. subst (rule.grows u) same (own.found.grown u s);
-    mine = λ u s. own.found.mine u s ∙ ap (rule.part before.thread) same;
-    after_is = λ i. record {
-      thread = own.thread i;
-      owns = (ap (map is_held) own.holds ∙ map-set is_held before.own.holds key Held) i;
-      seen = (own.seen ∙ ap (set before.own.seen key) same) i;
-      released = own.released i;
-      called = q.called;
-      woken = q.woken;
-      permits = q.permits;
-      freed = q.freed;
-    };
-    owns = held_owned after.own.holds key (subst (λ hs. IsHeld (get_or hs key NotHeld)) (sym own.holds) (held_here before.own.holds key (let w = rest.holds_long in omega (arith, w))));
-    seen = subst (λ vs. get_elem? vs key ≡ some held.value) (sym (own.seen ∙ ap (set before.own.seen key) same)) (set_here before.own.seen key held.value (let w = rest.seen_long in omega (arith, w)));
-  }
+  pub gets_all : (word : List Access → Type 0) (p q : LotStanding V) (held : HeldView V) (l : ℕ) → l < names.locks → IsAtRest rule.grows names p → GetsBy rule word p l q
+      → ((did : List Access) → word did → KeepsReleased did × KeepsFreed did) → held.key ≡ l → IsIn q.own.locks l held.value → (after : PassView V) → after ≡ sees q
+      → Gets rule (sees p) l held after
+  gets_all word p q held l near rest got stays key_is lies after after_is =
+      let seen_there : get_elem? (set p.own.locks.places l (InSlot got.value)) l ≡ some (InSlot got.value) =
+      set_here p.own.locks.places l (InSlot got.value) (let w = rest.of_lot.places_long in omega (arith, w)) in
+      let same : got.value ≡ held.value = one_lies (set p.own.locks.places l (InSlot got.value)) l got.value held.value seen_there
+      (subst (λ (r : LotStanding V). IsIn r.own.locks l held.value) got.is lies) in
+      let sees_it : sees q ≡ owning (sees p) l held.value =
+      sees_owner p q l got.value got.did got.is (stays got.did got.got).0 (stays got.did got.got).1 ∙ ap (λ v. owning (sees p) l v) same in
+      record {
+        key_is = key_is;
+        kept = subst (rule.keeps l) same got.found.kept;
+        grown = λ u s. subst (rule.grows u) same (got.found.grown u s);
+        mine = λ u s. got.found.mine u s ∙ ap (rule.part p.thread) same;
+        after_is = after_is ∙ sees_it;
+        owns = subst (λ (r : PassView V). Owns r l) (sym (after_is ∙ sees_it))
+            (get_or-set_same (map is_held p.own.locks.holds) l true false (subst (λ n. l < n) (sym (long p.own.locks.holds)) (let w = rest.of_lot.holds_long in omega (arith, w))));
+        seen = subst (λ (r : PassView V). get_elem? r.seen l ≡ some held.value) (sym (after_is ∙ sees_it))
+            (set_here p.own.locks.seen l held.value (let w = rest.of_lot.seen_long in omega (arith, w)));
+      }
     where
-      same : own.value ≡ held.value
-      same = one_lies after.own.places key own.value held.value
-          (subst (λ ps. get_elem? ps key ≡ some (InSlot own.value)) (sym own.places) (set_here before.own.places key (InSlot own.value) (let w = rest.places_long in omega (arith, w)))) lies
+      long : (hs : List Hold) → length (map is_held hs) ≡ length hs
+      long [] = refl
+      long (h ∷ hs) = ap suc (long hs)
 
-  -- whoever waited for a lock and owns it now
-  pub owns_on : (key : ℕ) (a b c : Standing V) → IsTryingFor a key b → IsOwner rule b key c → IsOwner rule a key c
-  owns_on key a b c p q = record {
-    thread = q.thread ∙ p.thread;
-    holds = q.holds ∙ ap (λ hs. set hs key Held) p.holds;
-    aimless = q.aimless;
-    awake = q.awake;
-    value = q.value;
-    found = found_as rule key key b.thread a.thread b.own a.own q.value refl p.thread p.holds p.places p.seen q.found;
-    places = q.places ∙ ap (λ ps. set ps key (InSlot q.value)) p.places;
-    seen = q.seen ∙ ap (λ vs. set vs key q.value) p.seen;
-    released = q.released ∙ p.released;
-  }
+  -- the value that is given back may be left there
+  pub may_leave : (p : LotStanding V) (held : HeldView V) (l : ℕ) → held.key ≡ l → l < names.locks → IsAtRest rule.grows names p → MayGiveBack rule (sees p) held
+      → (x : V) × HasSeen p.own.locks l x × MayLeave rule l p.thread x held.value
+  may_leave p held l is near rest back =
+      let had = reads p.own.locks.seen l (let w = rest.of_lot.seen_long in omega (arith, w)) in
+      let seen : HasSeen p.own.locks held.key had.0 = subst (λ k. HasSeen p.own.locks k had.0) (sym is) had.1 in (
+        had.0,
+        had.1,
+        record {
+          kept = subst (λ k. rule.keeps k held.value) is back.kept;
+          grown = back.grown had.0 seen;
+          others = λ u else. back.others had.0 u seen else;
+        },
+      )
 
-  pub gets_as : (before after before' after' : PassView V) (key : ℕ) (held : HeldView V) → before ≡ before' → after ≡ after' → Gets rule before' key held after' → Gets rule before key held after
-  gets_as before after before' after' key held e f gets = subst (λ p. Gets rule p key held after) (sym e) (subst (λ p. Gets rule before' key held p) (sym f) gets)
-
-  -- what may be given back may be left
-  pub may_leave : (q : RightsView) (opening : List V) (threads : ℕ) (before : Standing V) (held : HeldView V) (key : ℕ) → held.key ≡ key → key < length opening
-      → IsAtRest rule.grows opening threads before → MayGiveBack rule (sees q before) held
-      → (x : V) × HasSeen before.own key x × MayLeave rule key before.thread x held.value
-  may_leave q opening threads before held key same near rest back = let had = reads before.own.seen key (let w = rest.seen_long in omega (arith, w)) in
-      let seen = subst (λ k. HasSeen before.own k had.0) (sym same) had.1 in
-      (had.0, had.1, record { kept = subst (λ k. rule.keeps k held.value) same back.kept; grown = back.grown had.0 seen; others = λ u else. back.others had.0 u seen else })
-
--- the lock was let go, and one wait more on the condition has ended
-pub leaves_woken : {V : Type 0} (pass seen : PassView V) (w q : CountsView) (p : PermitsView) (before after : Standing V) (key named cond : ℕ) (value : V) (became : Released)
-    → seen ≡ sees (joined q p) after → q ≡ woke w cond → IsIn before.own key value
-    → LetsGo before key became after → sees (joined w p) before ≡ pass → key ≡ named → seen ≡ waking (leaving pass named value became) cond
-leaves_woken pass seen w q p before after key named cond value became e counts lies went same is =
-    e ∙ (ap (λ c. sees (joined c p) after) counts ∙ (leaves_all (joined (woke w cond) p) before after key value became lies went
-    ∙ (ap (λ x. waking (leaving x key value became) cond) same ∙ ap (λ k. waking (leaving pass k value became) cond) is)))
+module _ {V : Type 0} where
+  -- the value that was put into a slot lies there
+  pub lies_in : (p q : LotStanding V) (l : ℕ) (value : V) → q ≡ putting p l (InSlot value) → l < length p.own.locks.places → IsIn q.own.locks l value
+  lies_in p q l value moved near = subst (λ (r : LotStanding V). IsIn r.own.locks l value) (sym moved) (set_here p.own.locks.places l (InSlot value) near)

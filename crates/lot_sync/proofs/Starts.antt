@@ -1,132 +1,209 @@
 -- The rights of an opening, and the values that come back when nobody got a lock.
-use Rattle.std.proofs.Common.{◌≡◌, ℕ, ◌<◌, List, [], ◌∷◌, zero, suc, length, get_or, replicate, slice_get, slice_index, Some, None, refl, sym, ap, subst, ◌∙◌, arith}
-use Rattle.std.proofs.lemmas.List.{length-replicate}
+use Rattle.std.proofs.Common.{◌≡◌, ℕ, ◌+◌, ◌-◌, ◌<◌, ◌≤◌, false, List, [], ◌∷◌, zero, suc, length, map, get_or, replicate}
+use Rattle.std.proofs.Common.{slice_get, slice_index, Some, refl, sym, ap, subst, ◌∙◌, ⊎_elim, arith}
+use Rattle.std.specs.Prelude.{nat_lt, if◌then◌else◌}
+use Rattle.std.proofs.lemmas.Bool.{cases_lt, lt-ltb, le-ltb}
+use Rattle.std.proofs.lemmas.List.{drop-replicate, length-replicate}
 use mathlib.Core.Option.{some, some-injective}
 use lib.ListN.{get_elem?}
-use Rattle.atomic_table.specs.Seated.{TableId}
+use Rattle.std.specs.List.{All, Any}
+use Rattle.lot_rights.specs.Shown.{PassShown, RootShown}
+use Rattle.lot_rights.specs.Start.{pass_at, root_at}
+use Rattle.lot_rights.proofs.Totals.{any_all}
+use Rattle.lot_rights.proofs.Turns.{stands_at, all_by_place, some_by_place}
 use Rattle.lot_words.specs.declared.views.Hold.TheVariants.{NotHeld}
 use Rattle.lot_words.specs.declared.views.Place.TheVariants.{Out}
-use Rattle.std.specs.List.{All, Any}
-use Rattle.std.proofs.lemmas.List.Elements.{All-weaker}
-use Rattle.lot_rights.specs.Shown.{PassShown, RootShown}
-use Rattle.lot_rights.proofs.Totals.{any_all}
-use Rattle.lot_words.specs.declared.views.LockPassView.{LockPassView}
-use Rattle.lot_words.specs.declared.views.LockRootView.{LockRootView}
-use Rattle.lot_words.specs.Shown.{LockWordsShown, pass_at, root_at}
+use Rattle.lot_words.specs.CallersRule.{CallersRule}
 use Rattle.lot_words.specs.World.{IsHeld}
 use Rattle.lot_words.specs.Values.{HasSeen}
-use Rattle.lot_words.specs.Closing.{HoldsNone}
-use Rattle.lot_passes.specs.Passes.{IsFresh}
-use Rattle.lot_kinds.specs.Rights.{RightsView, unused}
-use Rattle.lot_kinds.specs.Rights.{HoldsNone as HoldsNoPermit}
-use Rattle.lot_sync.specs.Opened.{AreUnused, IsOpened}
-use Rattle.lot_passes.specs.Lot.{PassView}
-use Rattle.lot_passes.specs.Starting.{ArePaired, HasNothing, Starts}
-use Rattle.lot_rights.proofs.Turns.{some_one, stands_at, all_by_place, some_by_place}
+use Rattle.lot_words.specs.Rule.{fresh_root as lock_fresh}
+use Rattle.lot_conds.specs.Rule.{fresh_root as cond_fresh}
+use Rattle.lot_sems.specs.Rule.{fresh_root as sem_fresh}
+use Rattle.lot_table.specs.Roots.{AreIdle}
+use Rattle.lot_whole.specs.declared.views.LotPassView.{LotPassView}
+use Rattle.lot_whole.specs.declared.views.LotRootView.{LotRootView}
+use Rattle.lot_whole.specs.declared.views.LotRootView.TheVariants.{Lock, Cond, Sem}
+use Rattle.lot_whole.specs.Closing.{HasDone}
+use Rattle.lot_whole.specs.Family.{Which, lock, cond, sem, LotSize, key_count, away}
+use Rattle.lot_whole.specs.Lot.{own_of, fresh_pass, fresh_root}
+use Rattle.lot_whole.specs.Shown.{LotWordsShown, lot_of}
+use Rattle.lot_scheme.specs.Roots.{IsInItsKind, root_view, line_in, owes_in}
+use Rattle.lot_scheme.specs.Standing.{LotStanding, stands}
+use Rattle.lot_waits.specs.Counts.{wrap, kept}
+use Rattle.lot_waits.specs.Ledger.{AreZeros}
+use Rattle.lot_waits.specs.declared.tallies.Tallies.{Tallies}
+use Rattle.lot_sync.specs.Lot.{LotNames}
+use Rattle.lot_sync.specs.Passes.{IsAtRest, seen_as, AreCounted}
+use Rattle.lot_sync.specs.Opened.{IsOpened, opened_as}
+use Rattle.lot_sync.specs.Starting.{Starts, IsFresh}
+use Rattle.lot_sync.proofs.Rests.{owned_held}
 
-none_some : {A : Type 0} (x : A) → None ≡ Some x → ⊥
-none_some x e = cc
-
-module _ {A : Type 0} where
-  -- two lists of one length whose elements agree
-  pub same_by_place : (xs ys : List A) → length xs ≡ length ys → ((i : ℕ) (x : A) → slice_get xs i ≡ Some x → get_elem? ys i ≡ some x) → xs ≡ ys
-  same_by_place [] [] e same = refl
-  same_by_place [] (y ∷ ys) e same = absurd (omega (arith, e))
-  same_by_place (x ∷ xs) [] e same = absurd (omega (arith, e))
-  same_by_place (x ∷ xs) (y ∷ ys) e same =
-      ap (λ z. z ∷ xs) (sym (some-injective y x (same zero x refl))) ∙ ap (λ zs. y ∷ zs) (same_by_place xs ys (omega (arith, e)) (λ i z at. same (suc i) z at))
+-- ---- numbers of nothing
+zero_at : (n k : ℕ) → slice_index (replicate {A = ℕ} n 0) k ≡ 0
+zero_at zero k = refl
+zero_at (suc n) zero = refl
+zero_at (suc n) (suc k) = zero_at n k
 
 unheld : (m l : ℕ) → ¬ IsHeld (get_or (replicate m NotHeld) l NotHeld)
 unheld zero l is = is
 unheld (suc m) zero is = is
 unheld (suc m) (suc l) is = unheld m l is
 
-module _ {V : Type 0} (grows : V → V → Type 0) (itself : (x : V) → grows x x) (values : List V) (threads : ℕ) (words : LockWordsShown V) (passes : List (PassShown (LockPassView V)))
-    (unused_passes : AreUnused values threads words passes) where
-  fresh_at : (t : ℕ) → t < threads → IsFresh grows words.table values threads (pass_at words.table values t)
-  fresh_at t near = record {
-    is_of = refl;
-    rest = record {
-      is_thread = near;
-      aimless = refl;
-      awake = refl;
-      holds_long = length-replicate (length values) NotHeld;
-      places_long = length-replicate (length values) Out;
-      seen_long = refl;
-      out = λ l holds. absurd (unheld (length values) l holds);
-      grown = λ l u v o s. subst (grows u) (some-injective u v (sym o ∙ s)) (itself u);
+wrapped_zeros : (n : ℕ) → map wrap (replicate {A = ℕ} n 0) ≡ replicate {A = ℕ} n 0
+wrapped_zeros zero = refl
+wrapped_zeros (suc n) = ap (λ ns. 0 ∷ ns) (wrapped_zeros n)
+
+kept_zeros : (locks conds : ℕ) → kept locks (replicate {A = ℕ} (locks + conds) 0) ≡ replicate {A = ℕ} conds 0
+kept_zeros locks conds =
+    ap (map wrap) (drop-replicate locks (locks + conds) 0)
+    ∙ (let left : (locks + conds) - locks ≡ conds = omega arith in ap (λ n. map wrap (replicate {A = ℕ} n 0)) left ∙ wrapped_zeros conds)
+
+-- zeros are kept of a pass that has counted nothing
+pub kept_of_none : {V : Type 0} (locks conds : ℕ) (r : LotStanding V) (t : Tallies) → r.own.conds.called ≡ replicate (locks + conds) 0
+    → r.own.conds.woken ≡ replicate (locks + conds) 0
+    → AreZeros conds t → AreCounted locks conds r t
+kept_of_none locks conds r t c w zeros = record {
+  wide = (ap length c ∙ length-replicate (locks + conds) 0, ap length w ∙ length-replicate (locks + conds) 0);
+  called_are = zeros.0 ∙ (sym (kept_zeros locks conds) ∙ ap (kept locks) (sym c));
+  woken_are = zeros.1 ∙ (sym (kept_zeros locks conds) ∙ ap (kept locks) (sym w));
+}
+
+-- ---- rights of an opening
+nobody_away : (V : Type 0) (z : LotSize) (xs : List V) (j : Which) → away V j (own_of V (fresh_pass z xs) j) ≡ false
+nobody_away V z xs lock = refl
+nobody_away V z xs cond = refl
+nobody_away V z xs sem = refl
+
+-- what is so of a root of each kind is so of the root of a key, which is of the kind that its number tells
+fresh_by_kind : (P : LotRootView → Type 0) (z : LotSize) (c : ℕ) → (c < z.locks → P (Lock lock_fresh)) → (z.locks ≤ c
+    → c < z.locks + z.conds → P (Cond cond_fresh))
+    → (z.locks ≤ c → z.locks + z.conds ≤ c → P (Sem sem_fresh)) → P (fresh_root z c)
+fresh_by_kind P z c locks conds sems = ⊎_elim {C = P (fresh_root z c)}
+    (λ here. subst (λ b. P (if b then Lock lock_fresh else (if nat_lt c (z.locks + z.conds) then Cond cond_fresh else Sem sem_fresh)))
+    (sym (lt-ltb c z.locks here)) (locks here))
+    (λ past. subst (λ b. P (if b then Lock lock_fresh else (if nat_lt c (z.locks + z.conds) then Cond cond_fresh else Sem sem_fresh)))
+    (sym (le-ltb c z.locks past))
+    (⊎_elim {C = P (if nat_lt c (z.locks + z.conds) then Cond cond_fresh else Sem sem_fresh)}
+    (λ here. subst (λ b. P (if b then Cond cond_fresh else Sem sem_fresh)) (sym (lt-ltb c (z.locks + z.conds) here)) (conds past here))
+    (λ behind. subst (λ b. P (if b then Cond cond_fresh else Sem sem_fresh)) (sym (le-ltb c (z.locks + z.conds) behind)) (sems past behind))
+    (cases_lt c (z.locks + z.conds))))
+    (cases_lt c z.locks)
+
+fresh_kind : (z : LotSize) (c : ℕ) → IsInItsKind z.locks (z.locks + z.conds) c (fresh_root z c)
+fresh_kind z c = fresh_by_kind (IsInItsKind z.locks (z.locks + z.conds) c) z c (λ near. near) (λ past near. (past, near))
+    (λ past behind. (past, behind))
+
+same_by_place : {A : Type 0} (xs ys : List A) → length xs ≡ length ys → ((i : ℕ) (x : A) → slice_get xs i ≡ Some x
+    → get_elem? ys i ≡ some x) → xs ≡ ys
+same_by_place [] [] e same = refl
+same_by_place [] (y ∷ ys) e same = absurd (omega (arith, e))
+same_by_place (x ∷ xs) [] e same = absurd (omega (arith, e))
+same_by_place (x ∷ xs) (y ∷ ys) e same =
+    ap (λ z. z ∷ xs) (sym (some-injective y x (same zero x refl)))
+    ∙ ap (λ zs. y ∷ zs) (same_by_place xs ys (omega (arith, e)) (λ i z at. same (suc i) z at))
+
+module _ {V Part : Type 0} (rule : CallersRule V Part) (words : LotWordsShown V) (passes : List (PassShown (LotPassView V)))
+    (roots : List (RootShown LotRootView))
+    (threads locks conds sems : ℕ) (opened : IsOpened rule words passes roots threads locks conds sems) where
+  abbrev new_at : ℕ → PassShown (LotPassView V)
+  new_at t = pass_at (lot_of rule words) words.table t
+
+  abbrev own_root : ℕ → RootShown LotRootView
+  own_root c = root_at (lot_of rule words) words.table c
+
+  passes_at : (t : ℕ) → t < length passes → slice_get passes t ≡ Some (new_at t)
+  passes_at t near = opened.passes_are t (subst (λ n. t < n) opened.passes_long near)
+
+  roots_at : (c : ℕ) → c < length roots → slice_get roots c ≡ Some (own_root c)
+  roots_at c near = opened.roots_are c (subst (λ n. c < n) opened.roots_long near)
+
+  starts_at : (t : ℕ) → t < words.size.threads → Starts words.values words.size.threads (seen_as (new_at t))
+  starts_at t near = record {
+    is_thread = near;
+    free = record {
+      no_lock = λ key owns. unheld (length words.values) key (owned_held (replicate (length words.values) NotHeld) key owns);
+      no_permit = zero_at (key_count words.size);
     };
-    free = λ l. unheld (length values) l;
     saw = refl;
-    unused = refl;
+    let_go_none = refl;
+    called_none = zero_at (words.size.locks + words.size.conds);
+    woken_none = zero_at (words.size.locks + words.size.conds);
+    gave_none = refl;
   }
 
-  passes_at : (t : ℕ) → t < length passes → slice_get passes t ≡ Some (pass_at words.table values t)
-  passes_at t near = unused_passes.passes_are t (subst (λ n. t < n) unused_passes.passes_long near)
+  rest_at : (t : ℕ) → t < words.size.threads → IsAtRest rule.grows (opened_as words) (stands (new_at t))
+  rest_at t near = record {
+    of_lot = record {
+      is_thread = near;
+      holds_long = length-replicate (length words.values) NotHeld ∙ sym opened.a_lock_each;
+      places_long = length-replicate (length words.values) Out ∙ sym opened.a_lock_each;
+      seen_long = sym opened.a_lock_each;
+      called_long = length-replicate (words.size.locks + words.size.conds) 0;
+      woken_long = length-replicate (words.size.locks + words.size.conds) 0;
+      permits_long = length-replicate (key_count words.size) 0;
+      grown = λ l u v o s. subst (rule.grows u) (some-injective u v (sym o ∙ s)) (rule.grows_itself u);
+    };
+    idle = (record { up = nobody_away V words.size words.values; aim = refl; sweeps = refl; seeks = refl }, refl);
+    out = λ l holds. absurd (unheld (length words.values) l holds);
+  }
 
-  pub passes_fresh : All (IsFresh grows words.table values threads) passes
-  passes_fresh = all_by_place (IsFresh grows words.table values threads) (pass_at words.table values) passes passes_at (λ t near. fresh_at t (subst (λ n. t < n) unused_passes.passes_long near))
+  fresh_at : (t : ℕ) → t < words.size.threads → IsFresh rule.grows (opened_as words) (new_at t)
+  fresh_at t near = record { is_of = refl; rest = rest_at t near; starts = starts_at t near; none_called = refl; none_woken = refl }
 
-  pub passes_own : All (λ (p : PassShown (LockPassView V)). p.table ≡ words.table) passes
-  passes_own = All-weaker (IsFresh grows words.table values threads) (λ (p : PassShown (LockPassView V)). p.table ≡ words.table) (λ p f. f.is_of) passes passes_fresh
+  pub passes_fresh : All (IsFresh rule.grows (opened_as words)) passes
+  passes_fresh = all_by_place (IsFresh rule.grows (opened_as words)) new_at passes passes_at (λ t near. fresh_at t (subst
+      (λ n. t < n) opened.passes_long near))
 
-  pub passes_free : All HoldsNone passes
-  passes_free = All-weaker (IsFresh grows words.table values threads) HoldsNone (λ p f. f.free) passes passes_fresh
+  -- the same under the name of the lot
+  pub fresh_named : (names : LotNames V) → names ≡ opened_as words → All (IsFresh rule.grows names) passes
+  fresh_named names named = subst (λ ns. All (IsFresh rule.grows ns) passes) (sym named) passes_fresh
 
-  pub each_thread : (t : ℕ) → t < words.size.threads → Any (λ (p : PassShown (LockPassView V)). p.pass.thread ≡ t) passes
-  each_thread t near = some_by_place (λ (p : PassShown (LockPassView V)). p.pass.thread ≡ t) (pass_at words.table values) passes passes_at t
-      (subst (λ n. t < n) (unused_passes.words_threads ∙ sym unused_passes.passes_long) near) refl
+  pub passes_own : All (λ (p : PassShown (LotPassView V)). p.table ≡ words.table) passes
+  passes_own = all_by_place (λ (p : PassShown (LotPassView V)). p.table ≡ words.table) new_at passes passes_at (λ t near. refl)
 
+  pub passes_done : All HasDone passes
+  passes_done = all_by_place HasDone new_at passes passes_at (λ t near. ((λ l. unheld (length words.values) l), refl))
+
+  pub each_thread : (t : ℕ) → t < words.size.threads → Any (λ (p : PassShown (LotPassView V)). p.pass.thread ≡ t) passes
+  each_thread t near = some_by_place (λ (p : PassShown (LotPassView V)). p.pass.thread ≡ t) new_at passes passes_at t (subst
+      (λ n. t < n) (sym opened.passes_long) near) refl
+
+  pub roots_own : All (λ (q : RootShown LotRootView). q.table ≡ words.table) roots
+  roots_own = all_by_place (λ (q : RootShown LotRootView). q.table ≡ words.table) own_root roots roots_at (λ c near. refl)
+
+  pub each_key : (c : ℕ) → c < key_count words.size → Any (λ (q : RootShown LotRootView). q.root.key ≡ c) roots
+  each_key c near = some_by_place (λ (q : RootShown LotRootView). q.root.key ≡ c) own_root roots roots_at c (subst (λ n. c < n)
+      (sym opened.roots_long) near) refl
+
+  -- each root is of the kind that its number tells, under the name of the lot
+  pub roots_named : (names : LotNames V) → names ≡ opened_as words
+      → All (λ (r : RootShown LotRootView). (r.table ≡ names.opening.locks) × IsInItsKind names.locks names.low r.root.key r.root.own) roots
+  roots_named names named = subst (λ (ns : LotNames V). All (λ (r : RootShown LotRootView).
+      (r.table ≡ ns.opening.locks) × IsInItsKind ns.locks ns.low r.root.key r.root.own) roots) (sym named)
+      (all_by_place (λ (r : RootShown LotRootView). (r.table ≡ words.table) × IsInItsKind words.size.locks
+      (words.size.locks + words.size.conds) r.root.key r.root.own)
+      own_root roots roots_at (λ c near. (refl, fresh_kind words.size c)))
+
+  pub roots_idle : AreIdle root_view roots
+  roots_idle i root at =
+      let e : root ≡ own_root i = (stands_at own_root roots roots_at i root at).1 in
+      record {
+        named = ap (λ (r : RootShown LotRootView). r.root.key) e;
+        same_line = ap (λ (r : RootShown LotRootView). line_in r.root.own) e
+            ∙ fresh_by_kind (λ q. line_in q ≡ []) words.size i (λ h. refl) (λ h k. refl) (λ h k. refl);
+        paid = ap (λ (r : RootShown LotRootView). owes_in r.root.own) e
+            ∙ fresh_by_kind (λ q. owes_in q ≡ []) words.size i (λ h. refl) (λ h k. refl) (λ h k. refl);
+      }
+
+  -- each value that comes back is one that a pass saw, and all have seen the opening values
   pub values_back : (back : List V) → length back ≡ words.size.locks
-      → ((l : ℕ) (y : V) → slice_get back l ≡ Some y → Any (λ (p : PassShown (LockPassView V)). HasSeen p.pass.own l y) passes) → back ≡ values
-  values_back back long left = same_by_place back values (long ∙ unused_passes.words_locks) (λ l y at.
-      let saw = any_all (λ (p : PassShown (LockPassView V)). HasSeen p.pass.own l y) (λ (p : PassShown (LockPassView V)). p.pass.own.seen ≡ values) passes (left l y at) seen_all in
+      → ((l : ℕ) (y : V) → slice_get back l ≡ Some y → Any (λ (p : PassShown (LotPassView V)). HasSeen p.pass.own.locks l y) passes)
+      → back ≡ words.values
+  values_back back long left = same_by_place back words.values (long ∙ opened.a_lock_each) (λ l y at.
+      let saw = any_all (λ (p : PassShown (LotPassView V)). HasSeen p.pass.own.locks l y) (λ (p : PassShown
+      (LotPassView V)). p.pass.own.locks.seen ≡ words.values) passes (left l y at) seen_all in
       subst (λ xs. get_elem? xs l ≡ some y) saw.2 saw.1)
     where
-      seen_all : All (λ (p : PassShown (LockPassView V)). p.pass.own.seen ≡ values) passes
-      seen_all = all_by_place (λ (p : PassShown (LockPassView V)). p.pass.own.seen ≡ values) (pass_at words.table values) passes passes_at (λ t near. refl)
-
-  -- the passes, and rights that are not used yet, each at the place of its thread
-  pub passes_paired : (counted held n : ℕ) (rights : List RightsView) → n ≡ threads → ((t : ℕ) → t < n → slice_get rights t ≡ Some (unused counted held t)) → ArePaired passes rights
-  passes_paired counted held n rights same are i p q at here =
-      let found = stands_at (pass_at words.table values) passes passes_at i p at in
-      let near : i < n = subst (λ m. i < m) (unused_passes.passes_long ∙ sym same) found.0 in
-      let is : q ≡ unused counted held i = some_one q (unused counted held i) (sym here ∙ are i near) in
-      ap (λ (r : RightsView). r.thread) is ∙ sym (ap (λ (r : PassShown (LockPassView V)). r.pass.thread) found.1)
-
--- the same under the names of the lot
-pub fresh_named : {V : Type 0} (grows : V → V → Type 0) (table table' : TableId) (values values' : List V) (threads threads' : ℕ) (passes : List (PassShown (LockPassView V)))
-    → table ≡ table' → values ≡ values' → threads ≡ threads'
-    → All (IsFresh grows table values threads) passes → All (IsFresh grows table' values' threads') passes
-fresh_named grows table table' values values' threads threads' passes e f h all =
-    subst (λ t. All (IsFresh grows t values' threads') passes) e (subst (λ vs. All (IsFresh grows table vs threads') passes) f (subst (λ n. All (IsFresh grows table values n) passes) h all))
-
-module _ {V : Type 0} (values : List V) (threads : ℕ) (words : LockWordsShown V) (passes : List (PassShown (LockPassView V))) (roots : List (RootShown LockRootView))
-    (opened : IsOpened values threads words passes roots) where
-  roots_at : (l : ℕ) → l < length roots → slice_get roots l ≡ Some (root_at words.table l)
-  roots_at l near = opened.roots_are l (subst (λ n. l < n) opened.roots_long near)
-
-  pub roots_own : All (λ (r : RootShown LockRootView). r.table ≡ words.table) roots
-  roots_own = all_by_place (λ (r : RootShown LockRootView). r.table ≡ words.table) (root_at words.table) roots roots_at (λ l near. refl)
-
-  pub each_key : (k : ℕ) → k < length values → Any (λ (r : RootShown LockRootView). r.root.key ≡ k) roots
-  each_key k near = some_by_place (λ (r : RootShown LockRootView). r.root.key ≡ k) (root_at words.table) roots roots_at k
-      (subst (λ n. k < n) (sym opened.roots_long) near) refl
-
--- rights that are not used yet hold no permit
-zero_at : (n k : ℕ) → slice_index (replicate {A = ℕ} n 0) k ≡ 0
-zero_at zero k = refl
-zero_at (suc n) zero = refl
-zero_at (suc n) (suc k) = zero_at n k
-
-pub none_held : (counted held n : ℕ) (rights : List RightsView) → length rights ≡ n → ((t : ℕ) → t < n → slice_get rights t ≡ Some (unused counted held t)) → All HoldsNoPermit rights
-none_held counted held n rights long are = all_by_place HoldsNoPermit (unused counted held) rights (λ k near. are k (subst (λ m. k < m) long near)) (λ k near i. zero_at held i)
-
-pub all_nothing : (counted held n : ℕ) (rights : List RightsView) → length rights ≡ n → ((t : ℕ) → t < n → slice_get rights t ≡ Some (unused counted held t)) → All HasNothing rights
-all_nothing counted held n rights long are = all_by_place HasNothing (unused counted held) rights (λ k near. are k (subst (λ m. k < m) long near))
-    (λ k near. record { called_none = zero_at counted; woken_none = zero_at counted; no_permit = zero_at held; gave_none = refl })
-
--- a pass that starts, under the names of the lot
-pub starts_named : {V : Type 0} (values values' : List V) (threads threads' : ℕ) (p : PassView V) → values' ≡ values → threads' ≡ threads → Starts values threads p → Starts values' threads' p
-starts_named values values' threads threads' p e f start =
-    subst (λ vs. Starts vs threads' p) (sym e) (subst (λ n. Starts values n p) (sym f) start)
+      seen_all : All (λ (p : PassShown (LotPassView V)). p.pass.own.locks.seen ≡ words.values) passes
+      seen_all = all_by_place (λ (p : PassShown (LotPassView V)). p.pass.own.locks.seen ≡ words.values) new_at passes passes_at
+          (λ t near. refl)

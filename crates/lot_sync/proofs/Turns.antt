@@ -5,13 +5,18 @@ use native.Mathlib.Decide.{ℕ_discrete}
 use Rattle.std.specs.List.{All, Any}
 use Rattle.std.proofs.lemmas.List.Elements.{All-nil, All-cons, All-push, All-head, All-tail}
 use Rattle.std.proofs.lemmas.List.Quantifiers.{Any-push}
-use Rattle.lot_kinds.proofs.Places.{any_more}
+use Rattle.std.proofs.lemmas.Grind.{common_steps}
 use Rattle.lot_sync.specs.Lot.{PassView, OwnsNone}
 
 module _ {A B : Type 0} (f : A → B) where
   pub all_before : (P : B → Type 0) (xs : List A) → All P (map f xs) → All (λ x. P (f x)) xs
   all_before P [] all = All-nil (λ x. P (f x))
   all_before P (x ∷ xs) all = All-cons (λ y. P (f y)) x xs (All-head P (f x) (map f xs) all) (all_before P xs (All-tail P (f x) (map f xs) all))
+
+module _ {A : Type 0} where
+  -- what is so of some element is so of one where the list goes on
+  any_more : (F : A → Type 0) (xs : List A) (y : A) → Any F xs → Any F (xs ++ y ∷ [])
+  any_more F xs y (k, x, near, is, holds) = (k, x, grind (arith, common_steps), grind (arith, common_steps), holds)
 
 -- one pass more is there
 pub all_threads : {V : Type 0} (xs : List (PassView V)) (x : PassView V) (n : ℕ) → x.thread ≡ n → ((t : ℕ) → t < n → Any (λ (p : PassView V). p.thread ≡ t) xs)

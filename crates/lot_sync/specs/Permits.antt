@@ -11,7 +11,7 @@ module _ {V : Type 0} where
   HasPermit p permit = (permit.thread ≡ p.thread) × (1 ≤ permits_with p permit.key)
 
   -- what became of a try to get a permit of k: with a permit the pass q holds one more than p did, and else it is as it was
-  abbrev pub TriesToGet : {A : Type 0} → PassView V → ℕ → Tried A → PassView V → Type 0
+  abbrev pub TriesToGet : {A B : Type 0} → PassView V → ℕ → Tried A B → PassView V → Type 0
   TriesToGet p k (Got permit) q = (permit.key ≡ k) × (permit.thread ≡ p.thread) × (q ≡ one_more p k)
   TriesToGet p k Empty q = q ≡ p
   TriesToGet p k Busy q = q ≡ p

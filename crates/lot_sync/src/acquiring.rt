@@ -1,15 +1,15 @@
 //! Permits of counting semaphores, on the same parking lot as the locks. WTF has no semaphore on its lot: a permit is got and given back
 //! as a lock is, and a release leaves it to whoever comes first.
 ghost use Rattle.std.specs.Prelude.{◌≡◌, ◌≢◌, ℕ, ◌+◌, ◌≤◌};
-ghost use Rattle.lot_permits.specs.Permits.{opening_permits};
+ghost use Rattle.lot_scheme.specs.SemCalls.{opening_permits};
 ghost use Rattle.lot_sync.specs.Lot.{IsWide, IsSem, one_more, one_less, permits_with};
 ghost use Rattle.lot_sync.specs.Permits.{HasPermit, TriesToGet};
 
 use crate::lot::Lot;
-use lot_kinds::{LotName, LotScheme, Rights, Sems};
+use crate::pass::Pass;
 use lot_park::Moment;
-use lot_passes::Pass;
 use lot_permits::{Freed, Permit, Tried};
+use lot_scheme::LotName;
 use lot_words::Keeps;
 use std::sync::Wait;
 
@@ -19,39 +19,34 @@ impl<V: Keeps + Send, N: LotName<V> + Send> Lot<V, N> {
     ///
     /// `Empty` where the load found none; `Busy` where the exchange failed, since another thread changed the semaphore meanwhile.
     #[inline(always)]
-    pub fn try_acquire(&self, pass: Pass<V, N>, key: usize) -> (Pass<V, N>, Tried<N>)
+    pub fn try_acquire(&self, pass: Pass<V, N>, key: usize) -> (Pass<V, N>, Tried<V, N>)
         requires key { IsSem self.now key }
         ensures tries { TriesToGet pass key result.1 result.0 }
         ensures wide { IsWide self.now result.0 }
     {
         prove!(self.has_sem(key));
-        let (right, kinds) = pass.apart();
-        let (waiter, seeker) = kinds.apart();
-        let scheme = self.parking.scheme().sems();
-        let (seeker, tried) = lot_permits::try_acquire(scheme, seeker, key);
-        (self.at_rest(right, Rights::new(waiter, seeker)), tried)
+        let (right, tallies) = pass.apart();
+        let (right, tried) = lot_permits::try_acquire(self.parking().scheme(), right, key);
+        (self.at_rest(right, tallies), tried)
     }
 
     /// Gets a permit, waiting for it where none is left. Where one is, it is a load and one compare-exchange. It takes no memory.
     #[inline(always)]
-    pub fn acquire<R: Wait>(&self, rt: &R, pass: Pass<V, N>, key: usize) -> (Pass<V, N>, Permit<N>)
+    pub fn acquire<R: Wait>(
+        &self,
+        rt: &R,
+        pass: Pass<V, N>,
+        key: usize,
+    ) -> (Pass<V, N>, Permit<V, N>)
         requires key { IsSem self.now key }
         ensures permit { (result.1.key ≡ key) × (result.1.thread ≡ pass.thread) }
         ensures pass { result.0 ≡ one_more pass key }
         ensures wide { IsWide self.now result.0 }
     {
         prove!(self.has_sem(key));
-        let (right, kinds) = pass.apart();
-        let (waiter, seeker) = kinds.apart();
-        let scheme = self.parking.scheme().sems();
-        let (seeker, permit) = lot_permits::acquire::<LotScheme<V, N>, N, Sems, R>(
-            rt,
-            &self.parking,
-            scheme,
-            seeker,
-            key,
-        );
-        (self.at_rest(right, Rights::new(waiter, seeker)), permit)
+        let (right, tallies) = pass.apart();
+        let (right, permit) = lot_permits::acquire(rt, self.parking(), right, key);
+        (self.at_rest(right, tallies), permit)
     }
 
     /// Gives a permit back: `Quiet` where nobody was parked, `Woke` where the first of the semaphore's line was woken, who tries again, and
@@ -63,25 +58,16 @@ impl<V: Keeps + Send, N: LotName<V> + Send> Lot<V, N> {
         &self,
         rt: &R,
         pass: Pass<V, N>,
-        permit: Permit<N>,
+        permit: Permit<V, N>,
         moment: Moment,
     ) -> (Pass<V, N>, Freed)
         requires has { HasPermit pass permit }
         ensures pass { result.0 ≡ one_less pass permit.key result.1 }
         ensures wide { IsWide self.now result.0 }
     {
-        let (right, kinds) = pass.apart();
-        let (waiter, seeker) = kinds.apart();
-        let scheme = self.parking.scheme().sems();
-        let (seeker, freed) = lot_permits::release::<LotScheme<V, N>, N, Sems, R>(
-            rt,
-            &self.parking,
-            scheme,
-            seeker,
-            permit,
-            moment,
-        );
-        (self.at_rest(right, Rights::new(waiter, seeker)), freed)
+        let (right, tallies) = pass.apart();
+        let (right, freed) = lot_permits::release(rt, self.parking(), right, permit, moment);
+        (self.at_rest(right, tallies), freed)
     }
 
     /// Shows that two passes are of different threads, and that of each semaphore both hold together at most as many permits as there
@@ -91,15 +77,13 @@ impl<V: Keeps + Send, N: LotName<V> + Send> Lot<V, N> {
         ensures threads { first.thread ≢ second.thread }
         ensures permits { (k : ℕ) → permits_with first k + permits_with second k ≤ opening_permits N.low N.permits k }
     {
-        let (first, first_kinds) = first.apart();
-        let (first_waiter, first_seeker) = first_kinds.apart();
-        let (second, second_kinds) = second.apart();
-        let (second_waiter, second_seeker) = second_kinds.apart();
-        let scheme = self.parking.scheme().sems();
-        let (one, two) = lot_permits::check_permits(scheme, first_seeker, second_seeker);
+        let (first, first_tallies) = first.apart();
+        let (second, second_tallies) = second.apart();
+        let scheme = self.parking().scheme();
+        let (first, second) = lot_permits::check_permits(scheme, first, second);
         (
-            Pass::at_rest(first, Rights::new(first_waiter, one)),
-            Pass::at_rest(second, Rights::new(second_waiter, two)),
+            Pass::at_rest(first, first_tallies),
+            Pass::at_rest(second, second_tallies),
         )
     }
 
@@ -108,6 +92,6 @@ impl<V: Keeps + Send, N: LotName<V> + Send> Lot<V, N> {
         requires { IsSem self.now key }
     {
         prove!(self.has_sem(key));
-        lot_permits::permits_left(self.parking.scheme().sems(), key)
+        lot_permits::permits_left(self.parking().scheme(), key)
     }
 }

@@ -3,9 +3,8 @@ ghost use Rattle.std.specs.Prelude.{◌≡◌, ◌≢◌, ℕ};
 ghost use Rattle.lot_sync.specs.Lot.{Owns};
 
 use crate::lot::Lot;
-use lot_kinds::LotName;
-use lot_locks::NamedPass;
-use lot_passes::Pass;
+use crate::pass::Pass;
+use lot_scheme::LotName;
 use lot_words::Keeps;
 
 impl<V: Keeps + Send, N: LotName<V> + Send> Lot<V, N> {
@@ -16,13 +15,12 @@ impl<V: Keeps + Send, N: LotName<V> + Send> Lot<V, N> {
         ensures threads { first.thread ≢ second.thread }
         ensures apart { (key : ℕ) → Owns first key → ¬ Owns second key }
     {
-        let (first, first_kinds) = first.apart();
-        let (second, second_kinds) = second.apart();
-        let words = self.lock_scheme().words();
-        let (first, second) = words.check_apart(first.into_pass(), second.into_pass());
+        let (first, first_tallies) = first.apart();
+        let (second, second_tallies) = second.apart();
+        let (first, second) = self.parking().scheme().check_apart(first, second);
         (
-            Pass::at_rest(NamedPass::new(first), first_kinds),
-            Pass::at_rest(NamedPass::new(second), second_kinds),
+            Pass::at_rest(first, first_tallies),
+            Pass::at_rest(second, second_tallies),
         )
     }
 }

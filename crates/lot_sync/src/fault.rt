@@ -1,4 +1,4 @@
-//! Why a lot could not be opened.
+//! Why a lot could not be opened, and why a thread got no pass.
 
 /// Why a lot could not be opened. Tested in this order.
 #[derive(Clone, Copy, Debug, PartialEq, Eq, thiserror::Error)]
@@ -12,4 +12,15 @@ pub enum OpenFault {
     /// A request for memory was refused.
     #[error("no memory")]
     NoMemory = 3,
+}
+
+/// Why a thread got no pass.
+#[derive(Clone, Copy, Debug, PartialEq, Eq, thiserror::Error)]
+pub enum RegisterFault {
+    /// All passes are out.
+    #[error("all passes are out")]
+    Full = 1,
+    /// A request for memory was refused.
+    #[error("no memory")]
+    NoMemory = 2,
 }

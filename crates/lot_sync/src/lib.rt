@@ -1,8 +1,8 @@
 //! Locks that guard values, for a number of threads: WTF's `Lock` on its parking lot.
 //!
-//! It stands on `lot_locks`, `lot_waits` and `lot_permits`, each over any parking lot, and puts them on one. Open a `Lot` with the values
-//! that its locks guard, start it under a name, let each thread register for its `Pass`, and lock: whoever gets a lock is handed its value
-//! as a `Held`, and spends it by an unlock.
+//! It stands on `lot_locks`, `lot_waits` and `lot_permits`, over one table of words of all kinds (`lot_scheme`, `lot_whole`). Open a `Lot` with
+//! the values that its locks guard, start it under a name, let each thread register for its `Pass`, and lock: whoever gets a lock is handed
+//! its value as a `Held`, and spends it by an unlock.
 //!
 //! | Call | Where nobody contends | Else |
 //! |---|---|---|
@@ -15,22 +15,27 @@ mod acquiring;
 mod apart;
 mod closing;
 mod fault;
+pub mod held;
 mod lock;
 pub mod lot;
 mod notifying;
 pub mod opened;
+pub mod pass;
+mod pool;
 mod register;
+mod rooms;
 mod start;
 mod unlock;
 mod waiting;
 
-pub use fault::OpenFault;
+pub use fault::{OpenFault, RegisterFault};
+pub use held::Held;
 pub use lot::Lot;
 pub use lot_core::{MAX_KEYS, MAX_THREADS};
-pub use lot_kinds::LotName;
 pub use lot_locks::Released;
 pub use lot_park::{BeforeSleep, Moment};
-pub use lot_passes::{Held, Pass, RegisterFault};
-pub use lot_permits::{Freed, Permit, PermitName, Tried};
-pub use lot_waits::{Ledger, WaitName};
+pub use lot_permits::{Freed, Permit, Tried};
+pub use lot_scheme::LotName;
+pub use lot_waits::Ledger;
 pub use opened::Opened;
+pub use pass::Pass;

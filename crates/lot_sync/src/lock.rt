@@ -2,14 +2,16 @@
 ghost use Rattle.std.specs.Prelude.{◌≡◌, ◌<◌, MatchOption};
 ghost use Rattle.lot_sync.specs.Lot.{Owns, IsWide};
 ghost use Rattle.lot_sync.specs.Values.{Gets};
-ghost use Rattle.lot_passes.specs.Passes.{sees, AreRightsOf, IsNewOwner};
+ghost use Rattle.lot_sync.specs.Passes.{sees, AreCounted, IsNewOwner};
 ghost use Rattle.lot_words.specs.Values.{IsIn};
 
+use crate::held::Held;
 use crate::lot::Lot;
-use lot_kinds::{Locks, LotName, LotScheme, Rights};
-use lot_locks::{NamedPass, get_slowly};
+use crate::pass::Pass;
+use lot_locks::{get, try_get};
 use lot_park::{AtOnce, BeforeSleep};
-use lot_passes::{Held, Pass};
+use lot_scheme::{LotName, NamedPass};
+use lot_waits::Tallies;
 use lot_words::Keeps;
 use std::sync::Wait;
 
@@ -24,13 +26,13 @@ impl<V: Keeps + Send, N: LotName<V> + Send> Lot<V, N> {
         ensures wide { IsWide self.now result.0 }
     {
         prove!(self.has_lock(key));
-        let (right, kinds) = pass.apart();
-        let (right, got) = self.lock_scheme().try_take(right, key);
+        let (right, tallies) = pass.apart();
+        let (right, got) = try_get(self.parking().scheme(), right, key);
         if got {
-            let (pass, held) = self.taken(right, kinds, key);
+            let (pass, held) = self.taken(right, tallies, key);
             (pass, Some(held))
         } else {
-            (self.at_rest(right, kinds), None)
+            (self.at_rest(right, tallies), None)
         }
     }
 
@@ -63,22 +65,9 @@ impl<V: Keeps + Send, N: LotName<V> + Send> Lot<V, N> {
         ensures wide { IsWide self.now result.0 }
     {
         prove!(self.has_lock(key));
-        let (right, kinds) = pass.apart();
-        let scheme = self.lock_scheme();
-        let (right, got) = scheme.take_free(right, key);
-        if got {
-            self.taken(right, kinds, key)
-        } else {
-            let right = get_slowly::<LotScheme<V, N>, V, N, Locks, R, B>(
-                rt,
-                &self.parking,
-                scheme,
-                right,
-                key,
-                before,
-            );
-            self.taken(right, kinds, key)
-        }
+        let (right, tallies) = pass.apart();
+        let right = get(rt, self.parking(), right, key, before);
+        self.taken(right, tallies, key)
     }
 
     /// The owner takes the value out.
@@ -86,17 +75,17 @@ impl<V: Keeps + Send, N: LotName<V> + Send> Lot<V, N> {
     pub(crate) fn taken(
         &self,
         right: NamedPass<V, N>,
-        kinds: Rights<N>,
+        tallies: Box<Tallies>,
         key: usize,
     ) -> (Pass<V, N>, Held<V, N>)
         requires key { key < self.now.locks }
-        requires owner { IsNewOwner V.grows N.values N.threads right key }
-        requires own { AreRightsOf right.thread kinds }
-        ensures held { (result.1.key ≡ key) × IsIn right.own key result.1.value }
-        ensures pass { result.0 ≡ sees kinds right }
+        requires owner { IsNewOwner V.grows N.LotName right key }
+        requires kept { AreCounted N.locks N.conds right tallies.value }
+        ensures held { (result.1.key ≡ key) × IsIn right.own.locks key result.1.value }
+        ensures pass { result.0 ≡ sees right }
         ensures wide { IsWide self.now result.0 }
     {
-        let (right, value) = self.lock_scheme().value_out(right, key);
-        (self.at_rest(right, kinds), Held::new(key, value))
+        let (right, value) = self.parking().scheme().value_out(right, key);
+        (self.at_rest(right, tallies), Held::new(key, value))
     }
 }

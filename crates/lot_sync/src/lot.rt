@@ -1,13 +1,14 @@
 //! A lot: locks that guard values, and the passes of its threads.
 ghost use Rattle.std.specs.Prelude.{◌≡◌, ◌+◌, ◌<◌, ◌↔◌, IsTrue, length};
-ghost use Rattle.lot_sync.specs.Lot.{IsWide, IsCond, IsSem};
-ghost use Rattle.lot_passes.specs.Passes.{IsAtRest, AreRightsOf, sees};
-ghost use Rattle.lot_sync.specs.Lot.{IsLot};
+ghost use Rattle.lot_sync.specs.Lot.{IsLot, IsWide, IsCond, IsSem};
+ghost use Rattle.lot_sync.specs.Passes.{sees, IsAtRest, AreCounted};
 
-use lot_kinds::{LotName, LotScheme, Rights};
-use lot_locks::{LockScheme, NamedPass};
-use lot_park::{ParkingLot, Sought};
-use lot_passes::{Pass, Pool};
+use crate::pass::Pass;
+use crate::pool::Pool;
+use lot_locks::{is_held, is_parked};
+use lot_park::ParkingLot;
+use lot_scheme::{LotName, LotScheme, NamedPass};
+use lot_waits::Tallies;
 use lot_words::Keeps;
 use std::marker::Model;
 use std::sync::{Mutex, Wait};
@@ -23,19 +24,17 @@ pub struct Lot<V: Keeps + Send, N: LotName<V> + Send> {
 }
 
 impl<V: Keeps + Send, N: LotName<V> + Send> Model for Lot<V, N> {
-    ghost use Rattle.std.specs.Prelude.{◌≡◌, length};
-    ghost use Rattle.lot_sync.specs.Lot.{LotView};
-    ghost use Rattle.lot_sync.specs.Lot.{IsLot};
+    ghost use Rattle.lot_sync.specs.Lot.{LotView, IsLot};
 
     ghost Value = { LotView };
 
     ghost view = { λ s. record { threads = s.threads; locks = s.locks; conds = s.conds; sems = s.sems } };
 
-    ghost invariant = { λ s. IsLot (record { opening = N.opening; threads = N.threads; values = N.values; locks = N.locks; conds = N.conds; low = N.low; permits = N.permits }) s.threads s.locks s.conds s.sems s.parking };
+    ghost invariant = { λ s. IsLot (record { opening = N.opening; low = N.low; permits = N.permits; locks = N.locks; conds = N.conds; threads = N.threads; values = N.values }) s.threads s.locks s.conds s.sems s.parking };
 }
 
 impl<V: Keeps + Send, N: LotName<V> + Send> Lot<V, N> {
-    /// A lot of these tables, with all passes in the pool.
+    /// A lot of this table, with all passes in the pool.
     pub(crate) fn of(
         parking: ParkingLot<LotScheme<V, N>>,
         pool: Pool<V, N>,
@@ -57,27 +56,26 @@ impl<V: Keeps + Send, N: LotName<V> + Send> Lot<V, N> {
         }
     }
 
-    /// The table of the locks.
+    /// The words and the lines, with what their name tells of the lot.
     #[inline(always)]
-    pub(crate) fn lock_scheme(&self) -> &LockScheme<V, N>
-        ensures locks { (result.now.size.locks ≡ self.now.locks) × (self.now.locks ≡ length N.values) }
-        ensures threads { self.now.threads ≡ N.threads }
-        ensures keys { (self.now.locks ≡ N.locks) × (self.now.conds ≡ N.conds) × (self.now.sems ≡ length N.permits) × (N.low ≡ N.locks + N.conds) }
+    pub(crate) fn parking(&self) -> &ParkingLot<LotScheme<V, N>>
+        ensures threads { (self.now.threads ≡ N.threads) × (result.now.threads ≡ N.threads) }
+        ensures keys { (self.now.locks ≡ N.locks) × (self.now.conds ≡ N.conds) × (self.now.sems ≡ length N.permits) × (N.low ≡ N.locks + N.conds) × (N.locks ≡ length N.values) }
+        ensures all { result.now.keys ≡ self.now.locks + self.now.conds + self.now.sems }
     {
-        self.parking.scheme().locks()
+        &self.parking
     }
 
     /// What a call hands back to the thread: its pass, put together anew.
     #[inline(always)]
-    pub(crate) fn at_rest(&self, right: NamedPass<V, N>, kinds: Rights<N>) -> Pass<V, N>
-        requires rest { IsAtRest V.grows N.values N.threads right }
-        requires own { AreRightsOf right.thread kinds }
-        ensures pass { result ≡ sees kinds right }
+    pub(crate) fn at_rest(&self, right: NamedPass<V, N>, tallies: Box<Tallies>) -> Pass<V, N>
+        requires rest { IsAtRest V.grows N.LotName right }
+        requires kept { AreCounted N.locks N.conds right tallies.value }
+        ensures pass { result ≡ sees right }
         ensures wide { IsWide self.now result }
     {
-        let _scheme = self.lock_scheme();
-        kinds.thread();
-        Pass::at_rest(right, kinds.rebuilt())
+        let _parking = self.parking();
+        Pass::at_rest(right, tallies)
     }
 
     /// How many threads can have a pass at a time.
@@ -139,7 +137,7 @@ impl<V: Keeps + Send, N: LotName<V> + Send> Lot<V, N> {
         requires { key < self.now.locks }
     {
         prove!(self.has_lock(key));
-        self.lock_scheme().is_held(key)
+        is_held(self.parking().scheme(), key)
     }
 
     /// Whether the lock is marked as parked at some moment of this call: somebody may wait in its line, and who lets it go looks there. It is
@@ -148,7 +146,7 @@ impl<V: Keeps + Send, N: LotName<V> + Send> Lot<V, N> {
         requires { key < self.now.locks }
     {
         prove!(self.has_lock(key));
-        self.lock_scheme().is_parked(key)
+        is_parked(self.parking().scheme(), key)
     }
 
     /// How many threads wait in the line of the lock, the condition or the semaphore at some moment of this call.
@@ -156,7 +154,7 @@ impl<V: Keeps + Send, N: LotName<V> + Send> Lot<V, N> {
         requires { key < self.now.locks + self.now.conds + self.now.sems }
     {
         prove!(self.has_lock(key) || self.has_cond(key) || self.has_sem(key));
-        self.parking.line_length(rt, key)
+        self.parking().line_length(rt, key)
     }
 
     /// How many buckets the table has at some moment of this call. It grows with the number of passes that are out.

@@ -2,11 +2,13 @@
 ghost use Rattle.std.specs.Prelude.{◌≡◌, ◌≤◌, MatchBool};
 ghost use Rattle.lot_core.specs.Steps.{IsCallCount};
 ghost use Rattle.lot_sync.specs.Lot.{IsWide, IsCond, calling};
+ghost use Rattle.lot_waits.specs.Notifying.{one_if};
 
 use crate::lot::Lot;
-use lot_kinds::{Conds, LotName, LotScheme, Rights};
+use crate::pass::Pass;
 use lot_park::Moment;
-use lot_passes::Pass;
+use lot_scheme::LotName;
+use lot_waits::count_taken;
 use lot_words::Keeps;
 use std::sync::Wait;
 
@@ -18,11 +20,9 @@ impl<V: Keeps + Send, N: LotName<V> + Send> Lot<V, N> {
         ensures wide { IsWide self.now result.0 }
     {
         prove!(self.has_cond(cond));
-        let (right, kinds) = pass.apart();
-        let (waiter, seeker) = kinds.apart();
-        let scheme = self.parking.scheme().conds();
-        let (waiter, has) = lot_waits::has_waiters(scheme, waiter, cond);
-        (self.at_rest(right, Rights::new(waiter, seeker)), has)
+        let (right, tallies) = pass.apart();
+        let (right, has) = lot_waits::has_waiters(self.parking(), right, cond);
+        (self.at_rest(right, tallies), has)
     }
 
     /// Takes the first thread of the condition's line, if any, and answers whether it took one. Where nobody waits it is one load, and
@@ -39,18 +39,10 @@ impl<V: Keeps + Send, N: LotName<V> + Send> Lot<V, N> {
         ensures wide { IsWide self.now result.0 }
     {
         prove!(self.has_cond(cond));
-        let (right, kinds) = pass.apart();
-        let (waiter, seeker) = kinds.apart();
-        let scheme = self.parking.scheme().conds();
-        let (waiter, taken) = lot_waits::notify_one::<LotScheme<V, N>, N, Conds, R>(
-            rt,
-            &self.parking,
-            scheme,
-            waiter,
-            cond,
-            moment,
-        );
-        (self.at_rest(right, Rights::new(waiter, seeker)), taken)
+        let (right, tallies) = pass.apart();
+        let (right, taken) = lot_waits::notify_one(rt, self.parking(), right, cond, moment);
+        let tallies = count_taken(tallies, self.locks, cond, number_of(taken));
+        (self.at_rest(right, tallies), taken)
     }
 
     /// Takes the first `count` threads of the condition's line, or all where they are fewer, in one visit of the bucket, and answers how
@@ -70,18 +62,10 @@ impl<V: Keeps + Send, N: LotName<V> + Send> Lot<V, N> {
         ensures wide { IsWide self.now result.0 }
     {
         prove!(self.has_cond(cond));
-        let (right, kinds) = pass.apart();
-        let (waiter, seeker) = kinds.apart();
-        let scheme = self.parking.scheme().conds();
-        let (waiter, some) = lot_waits::notify_some::<LotScheme<V, N>, N, Conds, R>(
-            rt,
-            &self.parking,
-            scheme,
-            waiter,
-            cond,
-            count,
-        );
-        (self.at_rest(right, Rights::new(waiter, seeker)), some)
+        let (right, tallies) = pass.apart();
+        let (right, some) = lot_waits::notify_some(rt, self.parking(), right, cond, count);
+        let tallies = count_taken(tallies, self.locks, cond, some);
+        (self.at_rest(right, tallies), some)
     }
 
     /// Takes all threads of the condition's line, and answers how many. Where nobody waits it is one load, and no bucket is locked.
@@ -91,16 +75,16 @@ impl<V: Keeps + Send, N: LotName<V> + Send> Lot<V, N> {
         ensures wide { IsWide self.now result.0 }
     {
         prove!(self.has_cond(cond));
-        let (right, kinds) = pass.apart();
-        let (waiter, seeker) = kinds.apart();
-        let scheme = self.parking.scheme().conds();
-        let (waiter, taken) = lot_waits::notify_all::<LotScheme<V, N>, N, Conds, R>(
-            rt,
-            &self.parking,
-            scheme,
-            waiter,
-            cond,
-        );
-        (self.at_rest(right, Rights::new(waiter, seeker)), taken)
+        let (right, tallies) = pass.apart();
+        let (right, taken) = lot_waits::notify_all(rt, self.parking(), right, cond);
+        let tallies = count_taken(tallies, self.locks, cond, taken);
+        (self.at_rest(right, tallies), taken)
     }
+}
+
+/// How many sleepers were taken, of one at most.
+fn number_of(taken: bool) -> usize
+    ensures { result ≡ one_if taken }
+{
+    if taken { 1 } else { 0 }
 }

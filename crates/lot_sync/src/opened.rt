@@ -1,38 +1,36 @@
-//! Opening a lot: first its tables, then, under a name, the lot itself.
-ghost use Rattle.std.specs.Prelude.{◌≡◌, ◌+◌, ◌<◌, ◌≤◌, [], length, vec_len, IfOk, IfErr};
-ghost use Rattle.lot_core.specs.declared.state.TheConstants.{MAX_KEYS};
-ghost use Rattle.lot_sync.specs.Opened.{IsOpened};
+//! Opening a lot: first its table, then, under a name, the lot itself.
+ghost use Rattle.std.specs.Prelude.{◌≡◌, ◌+◌, [], length, vec_len, IfOk, IfErr};
 
 use crate::fault::OpenFault;
 use crate::lot::Lot;
-use crate::start::close_unused;
 use lot_core::{MAX_KEYS, MAX_THREADS};
-use lot_kinds::{LotName, OpenedKinds};
-use lot_words::{Keeps, LockPass, LockRoot, LockWords, WordsFault};
+use lot_scheme::LotName;
+use lot_whole::{LotPass, LotRoot, LotWords, WordsFault};
+use lot_words::Keeps;
 use std::alloc::Global;
 use std::marker::Model;
-use std::snapshot::Snapshot;
 
-/// A lot whose words are open and which has no name yet: call `start` in a function that is generic over a `LotName`.
+/// A lot whose words are open and which has no name yet: call `start` in a function that is generic over a `LotName`. Contracts see what its
+/// name will tell of it.
 pub struct Opened<V: Keeps + Send> {
-    pub(crate) words: LockWords<V>,
-    pub(crate) passes: Vec<LockPass<V>>,
-    pub(crate) roots: Vec<LockRoot<V>>,
-    pub(crate) kinds: OpenedKinds,
+    pub(crate) words: LotWords<V>,
+    pub(crate) passes: Vec<LotPass<V>>,
+    pub(crate) roots: Vec<LotRoot<V>>,
     pub(crate) threads: usize,
-    pub(crate) values: Snapshot<Vec<V>>,
+    pub(crate) locks: usize,
+    pub(crate) conds: usize,
+    pub(crate) sems: usize,
 }
 
 impl<V: Keeps + Send> Model for Opened<V> {
-    ghost use Rattle.lot_sync.specs.Opened.{OpenedView};
+    ghost use Rattle.lot_sync.specs.Lot.{LotNames};
+    ghost use Rattle.lot_sync.specs.Opened.{IsOpened, opened_as};
 
-    ghost Value = { OpenedView V };
+    ghost Value = { LotNames V };
 
-    ghost use Rattle.lot_sync.specs.Opened.{IsOpened, HasKinds};
+    ghost view = { λ s. opened_as s.words };
 
-    ghost view = { λ s. record { table = s.words.table; conds_table = s.kinds.conds.table; sems_table = s.kinds.sems.table; threads = s.threads; values = s.values.value.items; conds = s.kinds.conds.conds; low = s.kinds.sems.low; permits = s.kinds.sems.permits } };
-
-    ghost invariant = { λ s. IsOpened s.values.value.items s.threads s.words s.passes.items s.roots.items × HasKinds s.values.value.items s.threads s.kinds };
+    ghost invariant = { λ s. IsOpened V.Keeps s.words s.passes.items s.roots.items s.threads s.locks s.conds s.sems };
 }
 
 impl<V: Keeps + Send, N: LotName<V> + Send> Lot<V, N> {
@@ -84,50 +82,21 @@ impl<V: Keeps + Send, N: LotName<V> + Send> Lot<V, N> {
         {
             return Err((OpenFault::BadKeys, values));
         }
-        let opening = Snapshot::of(&values);
-        match LockWords::open(alloc, threads, values) {
-            Ok((words, passes, roots)) => {
-                with_kinds(
-                    alloc, threads, words, passes, roots, opening, conds, permits,
-                )
-            }
+        let sems = permits.len();
+        let Ok(permits) = permits.to_vec(alloc) else {
+            return Err((OpenFault::NoMemory, values));
+        };
+        match LotWords::open(alloc, threads, values, conds, permits) {
+            Ok((words, passes, roots)) => Ok(Opened {
+                words,
+                passes,
+                roots,
+                threads,
+                locks,
+                conds,
+                sems,
+            }),
             Err((WordsFault::NoMemory, values)) => Err((OpenFault::NoMemory, values)),
-        }
-    }
-}
-
-/// Opens the conditions and semaphores beside the locks. Where they can't be had, the locks are closed again.
-fn with_kinds<V: Keeps + Send>(
-    alloc: Global,
-    threads: usize,
-    words: LockWords<V>,
-    passes: Vec<LockPass<V>>,
-    roots: Vec<LockRoot<V>>,
-    values: Snapshot<Vec<V>>,
-    conds: usize,
-    permits: &[u32],
-) -> Result<Opened<V>, (OpenFault, Vec<V>)>
-    requires opened { IsOpened values.value.items threads words passes.items roots.items }
-    requires some { 0 < vec_len roots }
-    requires few { vec_len roots + conds + length permits.now ≤ MAX_KEYS }
-    ensures opened { IfOk result (λ o. (o.threads ≡ threads) × (o.values ≡ values.value.items) × (o.conds ≡ conds) × (o.low ≡ vec_len roots + conds) × (o.permits ≡ permits.now)) }
-    ensures fault { IfErr result (λ e. e.0 ≡ OpenFault.NoMemory) }
-    ensures back { IfErr result (λ e. e.1.items ≡ values.value.items) }
-{
-    match OpenedKinds::open(alloc, threads, roots.len(), conds, permits) {
-        Ok(kinds) => Ok(Opened {
-            words,
-            passes,
-            roots,
-            kinds,
-            threads,
-            values,
-        }),
-        Err(WordsFault::NoMemory) => {
-            Err((
-                OpenFault::NoMemory,
-                close_unused(words, passes, roots, values),
-            ))
         }
     }
 }

@@ -3,10 +3,12 @@ ghost use Rattle.std.specs.Prelude.{◌≡◌, ◌<◌, ◌-◌, IfOk, IfErr, If
 ghost use Rattle.lot_table.specs.Sizes.{Serves};
 ghost use Rattle.lot_sync.specs.Lot.{OwnsNone, IsWide, HasGrown, rested};
 
+use crate::fault::RegisterFault;
 use crate::lot::Lot;
-use lot_kinds::{LotName, LotScheme};
+use crate::pass::Pass;
+use crate::pool::Pool;
 use lot_park::{Grown, ParkingLot};
-use lot_passes::{Pass, Pool, RegisterFault};
+use lot_scheme::{LotName, LotScheme};
 use lot_words::Keeps;
 use std::sync::{MutexGuard, Wait};
 use std::thread;

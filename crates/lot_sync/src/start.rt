@@ -1,35 +1,31 @@
 //! Starting a lot under its name: its roots go to the parking lot, its passes into the pool.
-ghost use Rattle.std.specs.Prelude.{◌≡◌, ℕ, ◌<◌, length, IfOk, IfErr};
-ghost use Rattle.std.specs.List.{All, Any};
-ghost use Rattle.lot_rights.specs.Shown.{RootShown};
-ghost use Rattle.lot_words.specs.declared.views.LockRootView.{LockRootView};
-ghost use Rattle.lot_passes.specs.Starting.{Starts};
+ghost use Rattle.std.specs.Prelude.{◌≡◌, ℕ, length, vec_len, IfOk, IfErr};
+ghost use Rattle.lot_rights.specs.Shown.{PassShown, RootShown};
+ghost use Rattle.lot_whole.specs.Shown.{LotWordsShown};
 ghost use Rattle.lot_sync.specs.Lot.{PassView, rested};
-ghost use Rattle.lot_sync.specs.Opened.{AreUnused, IsNamed};
+ghost use Rattle.lot_sync.specs.Opened.{IsNamed, IsOpened};
+ghost use Rattle.lot_sync.specs.Starting.{Starts};
 
+use crate::closing::unname;
 use crate::fault::OpenFault;
 use crate::lot::Lot;
 use crate::opened::Opened;
-use lot_kinds::{LotName, settle};
+use crate::rooms::{Rooms, name_roots, pool_of};
 use lot_park::{ParkFault, ParkingLot};
-use lot_passes::{Rooms, pool_of};
-use lot_words::{Keeps, LockPass, LockRoot, LockWords};
+use lot_scheme::{LotName, LotScheme};
+use lot_whole::{LotPass, LotRoot, LotWords};
+use lot_words::Keeps;
 use std::alloc::Global;
-use std::snapshot::Snapshot;
 
 /// Closes words whose locks nobody ever got: the values that they opened with come back.
 pub(crate) fn close_unused<V: Keeps + Send>(
-    words: LockWords<V>,
-    passes: Vec<LockPass<V>>,
-    roots: Vec<LockRoot<V>>,
-    values: Snapshot<Vec<V>>,
+    words: LotWords<V>,
+    passes: Vec<LotPass<V>>,
+    roots: Vec<LotRoot<V>>,
 ) -> Vec<V>
-    requires unused { AreUnused values.value.items words.size.threads words passes.items }
-    requires own { All (λ (r : RootShown LockRootView). r.table ≡ words.table) roots.items }
-    requires roots { (k : ℕ) → k < length values.value.items → Any (λ (r : RootShown LockRootView). r.root.key ≡ k) roots.items }
-    ensures { result.items ≡ values.value.items }
+    requires unused { (threads locks conds sems : ℕ) × IsOpened V.Keeps words passes.items roots.items threads locks conds sems }
+    ensures { result.items ≡ words.values }
 {
-    let _ = values;
     words.close(passes, roots)
 }
 
@@ -42,12 +38,12 @@ impl<V: Keeps + Send> Opened<V> {
             words,
             passes,
             roots,
-            kinds,
             threads: _,
-            values,
+            locks: _,
+            conds: _,
+            sems: _,
         } = self;
-        kinds.close();
-        close_unused(words, passes, roots, values)
+        close_unused(words, passes, roots)
     }
 
     /// Starts the lot under the name N: its passes are in, its locks are free, nobody waits on its conditions, and all permits are left.
@@ -63,8 +59,7 @@ impl<V: Keeps + Send> Opened<V> {
         ensures lot { IfOk result (λ lot. (lot.threads ≡ self.threads) × (lot.locks ≡ length self.values) × (lot.conds ≡ self.conds) × (lot.sems ≡ length self.permits)) }
         ensures back { IfErr result (λ e. (e.0 ≡ OpenFault.NoMemory) × (e.1.items ≡ self.values)) }
     {
-        let (conds, sems) = (self.kinds.conds(), self.kinds.sems());
-        match Rooms::<V, N>::new(alloc, self.threads, self.roots.len(), conds, sems) {
+        match Rooms::<V, N>::new(alloc, self.threads, self.roots.len(), self.conds) {
             Ok(rooms) => started(alloc, self, rooms),
             Err(_) => Err((OpenFault::NoMemory, self.close())),
         }
@@ -84,23 +79,29 @@ fn started<V: Keeps + Send, N: LotName<V> + Send>(
     let Opened {
         words,
         passes,
-        roots,
-        kinds,
+        mut roots,
         threads,
-        values,
+        locks,
+        conds,
+        sems,
     } = opened;
-    let (idle, room) = rooms.apart();
-    let (locks, conds, sems) = (roots.len(), kinds.conds(), kinds.sems());
-    let (scheme, kinds, named, room) = kinds.name::<V, N>(words, roots, room);
+    let Rooms {
+        idle,
+        mut named,
+        tallies,
+        sums,
+    } = rooms;
+    name_roots(&mut roots, &mut named);
+    let scheme = LotScheme::new(words, locks, locks + conds);
     match ParkingLot::open(alloc, threads, named, scheme) {
         Ok((parking, named)) => {
-            let pool = pool_of(passes, kinds, idle, named, room);
+            let pool = pool_of(passes, tallies, idle, roots, named, sums);
             Ok(Lot::of(parking, pool, threads, locks, conds, sems))
         }
         Err((ParkFault::NoMemory, named, scheme)) => {
             idle.destroy_empty();
-            let (words, roots, _nothing) = settle(scheme, kinds, named, room);
-            let values = close_unused(words, passes, roots, values);
+            unname(named, &mut roots);
+            let values = close_unused(scheme.into_words(), passes, roots);
             Err((OpenFault::NoMemory, values))
         }
     }

@@ -3,16 +3,18 @@
 ghost use Rattle.std.specs.Prelude.{◌≡◌, ◌⊎◌, ◌<◌, true, false, MatchOption, IfNone, length};
 ghost use Rattle.lot_sync.specs.Lot.{Owns, HasSeen, IsWide, leaving};
 ghost use Rattle.lot_sync.specs.Values.{MayGiveBack};
-ghost use Rattle.lot_passes.specs.Passes.{IsNewOwner, AreRightsOf, sees};
+ghost use Rattle.lot_sync.specs.Passes.{sees, AreCounted, IsNewOwner};
 ghost use Rattle.lot_locks.specs.Released.{IsFitting};
 ghost use Rattle.lot_locks.specs.declared.released.Released.TheVariants.{Quiet};
 ghost use Rattle.lot_words.specs.Values.{IsIn, HasSeen as OwnHasSeen};
 
+use crate::held::Held;
 use crate::lot::Lot;
-use lot_kinds::{Locks, LotName, LotScheme, Rights};
-use lot_locks::{LockScheme, LockSteps, NamedPass, Released, let_go, unpark_asking};
+use crate::pass::Pass;
+use lot_locks::{Released, free_unparked, let_go, let_go_asking};
 use lot_park::Moment;
-use lot_passes::{Held, Pass};
+use lot_scheme::{LotName, NamedPass};
+use lot_waits::Tallies;
 use lot_words::Keeps;
 use std::sync::Wait;
 
@@ -62,22 +64,9 @@ impl<V: Keeps + Send, N: LotName<V> + Send> Lot<V, N> {
         ensures fits { (result.1 ≡ Quiet) ⊎ ((m : _) × M.post moment m × IsFitting result.1 false m.now) }
     {
         let key = held.key();
-        let (right, kinds) = self.given_back(pass, held, key);
-        let scheme = self.lock_scheme();
-        let (right, freed) = scheme.free(right, key);
-        if freed {
-            (self.at_rest(right, kinds), Released::Quiet)
-        } else {
-            let (right, released) = unpark_asking::<LotScheme<V, N>, LockScheme<V, N>, Locks, R, M>(
-                rt,
-                &self.parking,
-                scheme,
-                right,
-                key,
-                moment,
-            );
-            (self.at_rest(right, kinds), released)
-        }
+        let (right, tallies) = self.given_back(pass, held, key);
+        let (right, released) = let_go_asking(rt, self.parking(), right, key, moment);
+        (self.at_rest(right, tallies), released)
     }
 
     /// Lets the lock go, and hands it to the first thread of its line, if any.
@@ -115,14 +104,14 @@ impl<V: Keeps + Send, N: LotName<V> + Send> Lot<V, N> {
         ensures seen { IfNone result.1 (HasSeen result.0 held.key held.value) }
     {
         let key = held.key();
-        let (right, kinds) = self.given_back(pass, held, key);
-        let scheme = self.lock_scheme();
-        let (right, freed) = scheme.free_unparked(right, key);
+        let (right, tallies) = self.given_back(pass, held, key);
+        let scheme = self.parking().scheme();
+        let (right, freed) = free_unparked(scheme, right, key);
         if freed {
-            (self.at_rest(right, kinds), None)
+            (self.at_rest(right, tallies), None)
         } else {
             let (right, value) = scheme.value_out(right, key);
-            (self.at_rest(right, kinds), Some(Held::new(key, value)))
+            (self.at_rest(right, tallies), Some(Held::new(key, value)))
         }
     }
 
@@ -144,17 +133,9 @@ impl<V: Keeps + Send, N: LotName<V> + Send> Lot<V, N> {
         ensures fits { IsFitting result.1 fair moment.now }
     {
         let key = held.key();
-        let (right, kinds) = self.given_back(pass, held, key);
-        let (right, released) = let_go::<LotScheme<V, N>, LockScheme<V, N>, Locks, R>(
-            rt,
-            &self.parking,
-            self.lock_scheme(),
-            right,
-            key,
-            moment,
-            fair,
-        );
-        (self.at_rest(right, kinds), released)
+        let (right, tallies) = self.given_back(pass, held, key);
+        let (right, released) = let_go(rt, self.parking(), right, key, moment, fair);
+        (self.at_rest(right, tallies), released)
     }
 
     /// The value goes back into its slot.
@@ -164,20 +145,23 @@ impl<V: Keeps + Send, N: LotName<V> + Send> Lot<V, N> {
         pass: Pass<V, N>,
         held: Held<V, N>,
         key: usize,
-    ) -> (NamedPass<V, N>, Rights<N>)
+    ) -> (NamedPass<V, N>, Box<Tallies>)
         requires key { (held.key ≡ key) × (key < self.now.locks) }
         requires owns { Owns pass key }
         requires back { MayGiveBack V.Keeps pass held }
-        ensures owner { IsNewOwner V.grows N.values N.threads result.0 key }
-        ensures lies { IsIn result.0.own key held.value }
-        ensures grown { (u : V) → OwnHasSeen result.0.own key u → V.grows u held.value }
-        ensures own { AreRightsOf result.0.thread result.1 }
-        ensures same { sees result.1 result.0 ≡ pass }
-        ensures locks { key < length N.values }
+        ensures owner { IsNewOwner V.grows N.LotName result.0 key }
+        ensures lies { IsIn result.0.own.locks key held.value }
+        ensures grown { (u : V) → OwnHasSeen result.0.own.locks key u → V.grows u held.value }
+        ensures kept { AreCounted N.locks N.conds result.0 result.1.value }
+        ensures same { sees result.0 ≡ pass }
+        ensures locks { key < N.locks }
     {
         prove!(self.has_lock(key));
-        let (right, kinds) = pass.apart();
-        let right = self.lock_scheme().value_in(right, key, held.into_value());
-        (right, kinds)
+        let (right, tallies) = pass.apart();
+        let right = self
+            .parking()
+            .scheme()
+            .value_in(right, key, held.into_value());
+        (right, tallies)
     }
 }

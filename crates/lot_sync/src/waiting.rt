@@ -4,11 +4,12 @@ ghost use Rattle.std.specs.Prelude.{◌<◌};
 ghost use Rattle.lot_sync.specs.Lot.{Owns, IsWide, IsCond};
 ghost use Rattle.lot_sync.specs.Values.{MayGiveBack, WaitsAndGets};
 
+use crate::held::Held;
 use crate::lot::Lot;
-use lot_kinds::{Conds, Locks, LotName, LotScheme, Rights, sleep_on};
-use lot_locks::LockScheme;
+use crate::pass::Pass;
 use lot_park::{AtOnce, BeforeSleep, Moment};
-use lot_passes::{Held, Pass};
+use lot_scheme::LotName;
+use lot_waits::{count_wait, wait};
 use lot_words::Keeps;
 use std::sync::Wait;
 
@@ -56,22 +57,9 @@ impl<V: Keeps + Send, N: LotName<V> + Send> Lot<V, N> {
     {
         prove!(self.has_cond(cond));
         let key = held.key();
-        let (right, kinds) = self.given_back(pass, held, key);
-        let (waiter, seeker) = kinds.apart();
-        let scheme = self.parking.scheme();
-        let (waiter, right) = sleep_on::<LotScheme<V, N>, N, Conds, LockScheme<V, N>, Locks, R, B>(
-            rt,
-            &self.parking,
-            scheme.conds(),
-            waiter,
-            cond,
-            scheme.locks(),
-            right,
-            key,
-            moment,
-            before,
-        );
-        let pass = self.at_rest(right, Rights::new(waiter, seeker));
-        self.lock(rt, pass, key)
+        let (right, tallies) = self.given_back(pass, held, key);
+        let (right, _released) = wait(rt, self.parking(), right, cond, key, moment, before);
+        let tallies = count_wait(tallies, self.locks, cond);
+        self.taken(right, tallies, key)
     }
 }

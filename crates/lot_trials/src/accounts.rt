@@ -6,7 +6,8 @@ ghost use Rattle.lot_sync.specs.Holding.{Holding, HoldingBoth};
 ghost use Rattle.lot_sync.specs.Opened.{KeepAll};
 
 use crate::asserts::{equal, failed, room_for};
-use crate::passes::{end, enter};
+use crate::passes::enter;
+use lot_calls::finish;
 use lot_sync::{Held, Lot, LotName, Moment, Opened, Pass};
 use lot_words::Keeps;
 use std::alloc::Global;
@@ -172,7 +173,7 @@ fn open_and_move<N: LotName<Account> + Send + Sync, T: Wait + Abort>(
     match opened.start::<N>(alloc) {
         Ok(lot) => {
             move_in_turn(rt, &lot);
-            let accounts = end(rt, lot, passes, 2);
+            let (accounts, _) = finish(rt, lot, passes);
             equal(rt, accounts.len(), 2);
             equal(rt, (accounts[0].paid_in, accounts[0].paid_out), (5, 3));
             equal(rt, (accounts[1].paid_in, accounts[1].paid_out), (8, 0));

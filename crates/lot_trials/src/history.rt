@@ -10,11 +10,11 @@ ghost use Rattle.lot_trials.specs.Theres.{IsCountedOnce};
 
 use crate::asserts::{equal, failed, is_so, room_for};
 use crate::passes::enter;
+use lot_calls::finish;
 use lot_journal::{Entry, Journal};
 use lot_load::count::{Counting, Counts, add_one, go_round, new_journals};
 use lot_load::counter::{Add, Counter};
 use lot_load::gate::OpenGate;
-use lot_load::workers::close;
 use lot_sync::{Lot, LotName, Moment, Opened, Pass};
 use std::alloc::Global;
 use std::marker::Brand;
@@ -190,7 +190,7 @@ fn add_in_turn<N: LotName<Journal<Counter>> + Send + Sync, T: Wait + Abort>(
     let (one, zero) = call_and_look_in_journal(rt, &lot, one, zero);
     lot.leave(rt, one);
     lot.leave(rt, zero);
-    close(rt, lot, passes, 2).0
+    finish(rt, lot, passes).0
 }
 
 fn open_and_add<T: Wait + Abort>(rt: &T, alloc: Global, journals: Vec<Journal<Counter>>)

@@ -1,5 +1,5 @@
-//! Passes in tests: how a thread gets one, and how all come back at the end.
-ghost use Rattle.std.specs.Prelude.{◌≡◌, ◌≤◌, ◌<◌, vec_len, vec_capacity};
+//! Passes in tests: how a thread gets one, and how one comes back that was left.
+ghost use Rattle.std.specs.Prelude.{◌≡◌, ◌<◌};
 ghost use Rattle.lot_sync.specs.Lot.{OwnsNone};
 
 use crate::asserts::failed;
@@ -40,23 +40,4 @@ pub(crate) fn take_pass<V: Keeps + Send, N: LotName<V> + Send + Sync, T: Wait + 
         return pass;
     }
     panic!(rt; "thread {left} was left before {thread}")
-}
-
-/// Ends a lot to which all passes have come back, and gives its values back.
-pub(crate) fn end<V: Keeps + Send, N: LotName<V> + Send + Sync, T: Wait + Abort>(
-    rt: &T,
-    mut lot: Lot<V, N>,
-    mut passes: Vec<Pass<V, N>>,
-    threads: usize,
-) -> Vec<V>
-    requires threads { lot.threads ≡ threads }
-    requires room { (vec_len passes ≡ 0) × (threads ≤ vec_capacity passes) }
-    ensures { vec_len result ≡ lot.locks }
-{
-    for thread in 0..threads {
-        let pass = take_pass(rt, &mut lot, thread);
-        passes.push_reserved(pass);
-    }
-    let (values, _) = lot.close(rt, passes);
-    values
 }

@@ -1,14 +1,15 @@
 //! Permits of a lot, and the fair moments of buckets that releases of permits and notifications move on.
 ghost use Rattle.std.specs.Prelude.{◌≡◌, ◌≤◌, length};
-ghost use Rattle.lot_permits.specs.Permits.{opening_permits};
+ghost use Rattle.lot_scheme.specs.SemCalls.{opening_permits};
 ghost use Rattle.lot_sync.specs.Lot.{OwnsNone, permits_with};
 ghost use Rattle.lot_sync.specs.Opened.{IsNamed};
 
 use crate::asserts::{equal, failed, room_for};
 use crate::counts::Count;
-use crate::passes::{end, enter};
+use crate::passes::enter;
 use crate::schedules::Step;
 use crate::waits::{COND, on_conds};
+use lot_calls::finish;
 use lot_sync::{Freed, Lot, LotName, Moment, Opened, Pass, Released};
 use std::alloc::Global;
 use std::marker::Brand;
@@ -176,7 +177,7 @@ fn play<N: LotName<Count> + Send + Sync, T: Wait + Abort>(
     let (first, second) = hold_both(rt, &lot, first, second);
     lot.leave(rt, first);
     lot.leave(rt, second);
-    equal(rt, end(rt, lot, passes, 2).len(), 1);
+    equal(rt, finish(rt, lot, passes).0.len(), 1);
 }
 
 #[test]

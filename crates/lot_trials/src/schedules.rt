@@ -142,15 +142,15 @@ struct OwnerOfTwo<N: LotName<Count> + Send + Sync> {
 /// A pass that holds one permit.
 struct Holder<N: LotName<Count> + Send + Sync> {
     pass: Pass<Count, N>,
-    permit: Permit<N>,
+    permit: Permit<Count, N>,
     ghost has: { HasPermits pass permit 1 },
 }
 
 /// A pass that holds two permits of one semaphore.
 struct HolderOfTwo<N: LotName<Count> + Send + Sync> {
     pass: Pass<Count, N>,
-    first: Permit<N>,
-    second: Permit<N>,
+    first: Permit<Count, N>,
+    second: Permit<Count, N>,
     ghost has: { HasPermits pass first 2 },
     ghost same: { (second.key ≡ first.key) × (second.thread ≡ first.thread) },
 }

@@ -5,7 +5,8 @@ ghost use Rattle.lot_sync.specs.Opened.{IsNamed};
 ghost use Rattle.lot_trials.specs.Shares.{own_share};
 
 use crate::asserts::{equal, failed, is_so, room_for};
-use crate::passes::{end, enter};
+use crate::passes::enter;
+use lot_calls::finish;
 use lot_sync::{Lot, LotName, Moment, Opened, Pass};
 use lot_words::Keeps;
 use std::alloc::Global;
@@ -146,7 +147,7 @@ fn play<N: LotName<Shares> + Send + Sync, T: Wait + Abort>(
     equal(rt, (left, found), (2, 2));
     lot.leave(rt, zero);
     lot.leave(rt, one);
-    let shares = end(rt, lot, passes, 2);
+    let (shares, _) = finish(rt, lot, passes);
     equal(rt, shares.len(), 1);
     equal(rt, (shares[0].zero, shares[0].one), (2, 2));
 }

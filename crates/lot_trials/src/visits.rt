@@ -4,7 +4,7 @@ ghost use Rattle.lot_sync.specs.Lot.{PassView, rested};
 ghost use Rattle.lot_sync.specs.Opened.{IsNamed};
 
 use crate::asserts::{equal, failed, is_so, room_for, started};
-use crate::passes::end;
+use lot_calls::finish;
 use lot_sync::{Lot, LotName, Moment, Opened};
 use lot_words::Keeps;
 use std::alloc::Global;
@@ -117,7 +117,7 @@ fn play<V: Visited + Send, N: LotName<V> + Send + Sync, T: Threads + Wait + Sync
         failed(rt, "not started")
     };
     two_visit(rt, &lot);
-    end(rt, lot, passes, 2)
+    finish(rt, lot, passes).0
 }
 
 /// Opens a lot for two threads, with this value behind one lock.

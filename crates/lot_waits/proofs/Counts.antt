@@ -1,10 +1,28 @@
--- What is kept of counts, where one of them is raised.
-use Rattle.std.proofs.Common.{◌≡◌, ℕ, ◌+◌, ◌-◌, ◌≤◌, List, map, drop, slice_index, slice_set, sym, ap, ◌∙◌, arith}
-use Rattle.std.proofs.lemmas.List.{drop-set-add, map-set, length-set, get_or-drop}
+-- What is kept of counts: at the opening, and where one of them is raised.
+use Rattle.std.proofs.Common.{◌≡◌, ℕ, zero, suc, ◌+◌, ◌-◌, ◌≤◌, List, ◌∷◌, length, map, drop, replicate, slice_index, slice_set, refl, sym, ap, ◌∙◌, arith}
+use Rattle.std.proofs.lemmas.List.{drop-replicate, drop-set-add, map-set, length-replicate, length-set, get_or-drop}
 use Rattle.std.proofs.Math.ListN.{get_or-map}
 use Rattle.std.proofs.Math.Nat.{mod-add-mod}
 use Rattle.lot_core.specs.Parts.{IsAmongConds}
 use Rattle.lot_waits.specs.Counts.{CountsView, AreKept, wrap, kept, woke, took}
+
+wrapped_zeros : (n : ℕ) → map wrap (replicate {A = ℕ} n 0) ≡ replicate {A = ℕ} n 0
+wrapped_zeros zero = refl
+wrapped_zeros (suc n) = ap (λ ns. 0 ∷ ns) (wrapped_zeros n)
+
+kept_zeros : (locks conds : ℕ) → kept locks (replicate {A = ℕ} (locks + conds) 0) ≡ replicate {A = ℕ} conds 0
+kept_zeros locks conds =
+    ap (map wrap) (drop-replicate locks (locks + conds) 0)
+    ∙ (let left : (locks + conds) - locks ≡ conds = omega arith in ap (λ n. map wrap (replicate {A = ℕ} n 0)) left ∙ wrapped_zeros conds)
+
+-- zeros are kept of zeros
+pub kept_of_none : (locks conds : ℕ) (q : CountsView) (called woken : List ℕ) → q.called ≡ replicate (locks + conds) 0 → q.woken ≡ replicate (locks + conds) 0
+    → called ≡ replicate conds 0 → woken ≡ replicate conds 0 → AreKept locks conds q called woken
+kept_of_none locks conds q called woken c w kc kw = record {
+  wide = (ap length c ∙ length-replicate (locks + conds) 0, ap length w ∙ length-replicate (locks + conds) 0);
+  called_are = kc ∙ (sym (kept_zeros locks conds) ∙ ap (kept locks) (sym c));
+  woken_are = kw ∙ (sym (kept_zeros locks conds) ∙ ap (kept locks) (sym w));
+}
 
 -- what is kept of the number at locks + i
 pub kept_at : (locks : ℕ) (counts : List ℕ) (i : ℕ) → slice_index (kept locks counts) i ≡ wrap (slice_index counts (locks + i))

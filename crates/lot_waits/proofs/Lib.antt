@@ -1,6 +1,8 @@
-pub mod Owed
-pub mod Taken
-pub mod Waited
 pub mod Counts
+pub mod Notified
+pub mod Roots
 pub mod Sums
-pub mod Starts
+pub mod Taken
+pub mod Through
+pub mod Told
+pub mod Waited

@@ -1,8 +1,9 @@
--- What a waiter has counted, in whole numbers, and what is kept of it: numbers modulo 2^64.
+-- What a thread has counted, in whole numbers, and what is kept of it: numbers modulo 2^64.
 use Rattle.std.specs.Prelude.{◌≡◌, ℕ, ◌+◌, ◌%◌, List, map, drop, length, replicate, slice_index, slice_set}
+use Rattle.lot_core.specs.Parts.{IsAmongConds}
 use Rattle.lot_rights.specs.Shown.{PassShown}
-use Rattle.lot_conds.specs.declared.views.CondPassView.{CondPassView}
-use Rattle.lot_waits.specs.Rights.{CondStanding, IsCalmStanding, cond_stands}
+use Rattle.lot_whole.specs.declared.views.LotPassView.{LotPassView}
+use Rattle.lot_scheme.specs.Standing.{LotStanding, stands}
 
 -- a thread, and by key: the sleepers that it took from the condition's line, and its own waits that ended
 pub record CountsView : Type 0 where
@@ -10,11 +11,13 @@ pub record CountsView : Type 0 where
   pub called : List ℕ
   pub woken : List ℕ
 
-abbrev pub counts_in : CondStanding → CountsView
-counts_in r = record { thread = r.thread; called = r.own.called; woken = r.own.woken }
+module _ {V : Type 0} where
+  -- what the pass has counted
+  abbrev pub counts_in : LotStanding V → CountsView
+  counts_in p = record { thread = p.thread; called = p.own.conds.called; woken = p.own.conds.woken }
 
-abbrev pub shown_counts : PassShown CondPassView → CountsView
-shown_counts p = counts_in (cond_stands p)
+  abbrev pub counts_shown : PassShown (LotPassView V) → CountsView
+  counts_shown p = counts_in (stands p)
 
 -- the thread t, which has counted nothing yet, among so many keys
 abbrev pub uncounted : ℕ → ℕ → CountsView
@@ -45,8 +48,7 @@ pub record AreKept (locks conds : ℕ) (q : CountsView) (called woken : List ℕ
   pub called_are : called ≡ kept locks q.called
   pub woken_are : woken ≡ kept locks q.woken
 
--- a pass that is out on no condition, with what is kept of its counts
-pub record IsWaiter (locks conds : ℕ) (right : CondStanding) (own_locks : ℕ) (called woken : List ℕ) : Type 0 where
-  pub calm : IsCalmStanding right
-  pub counts : AreKept locks conds (counts_in right) called woken
-  pub knows : own_locks ≡ locks
+-- these are kept of what some pass counted, and c is one of its conditions
+abbrev pub MayCount : ℕ → ℕ → List ℕ → List ℕ → Type 0
+MayCount locks c called woken =
+    (conds : ℕ) × (q : CountsView) × AreKept locks conds q called woken × IsAmongConds locks conds c

@@ -1,5 +1,4 @@
-pub mod Rights
 pub mod Counts
 pub mod Ledger
-pub mod Opening
-pub mod Room
+pub mod Notifying
+pub mod Waiting

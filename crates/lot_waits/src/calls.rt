@@ -1,157 +1,156 @@
-//! What a waiter can do on a condition.
-ghost use Rattle.std.specs.Prelude.{◌≡◌, ◌+◌, ◌<◌, ◌≤◌, MatchBool};
-ghost use Rattle.lot_core.specs.Parts.{IsAmongConds};
+//! What a thread of a lot can do on a condition.
+ghost use Rattle.std.specs.Prelude.{◌≡◌, ℕ, ◌<◌, ◌≤◌, false, Some, [], ◌∷◌};
 ghost use Rattle.lot_core.specs.Steps.{IsCallCount};
-ghost use Rattle.lot_waits.specs.Counts.{IsWide, woke, took};
+ghost use Rattle.lot_events.specs.declared.events.Event.TheVariants.{Look};
+ghost use Rattle.lot_events.specs.declared.events.Seen.TheVariants.{Bool as Saw};
+ghost use Rattle.lot_rights.specs.declared.views.Access.TheVariants.{Makes};
+ghost use Rattle.lot_words.specs.World.{Holds};
+ghost use Rattle.lot_words.specs.Values.{IsIn};
+ghost use Rattle.lot_whole.specs.Standing.{IsIdle};
+ghost use Rattle.lot_scheme.specs.Standing.{adding};
+ghost use Rattle.lot_locks.specs.Released.{IsFitting, released_in};
+ghost use Rattle.lot_waits.specs.Counts.{counts_in, woke};
+ghost use Rattle.lot_waits.specs.Notifying.{Notifies, NotifiesAll, HasTaken, one_if};
+ghost use Rattle.lot_waits.specs.Waiting.{HasWaited};
 
-use crate::name::WaitName;
-use crate::notifying::{AtOnce, BeforeSweep, call_all, call_one, call_some, look};
-use crate::scheme::CondScheme;
-use crate::waiter::Waiter;
+use crate::notifying::{AtOnce, BeforeSweep, call_one, call_some, sweep_line};
 use crate::waiting::sleep_on;
-use lot_park::parts::Part;
-use lot_park::{Moment, ParkingLot, Scheme};
+use lot_locks::{Released, get};
+use lot_park::{AtOnce as SleepAtOnce, BeforeSleep, Moment, ParkingLot};
+use lot_scheme::{LotName, LotScheme, NamedPass};
+use lot_whole::Keeps;
 use std::sync::Wait;
 
-/// Queues the thread last in the condition's line, acts, and sleeps until a notification takes the thread from the line. Where one takes
-/// it before it sleeps, it does not sleep.
+/// Queues the thread last in the condition's line, does what `before` says, lets the lock go, sleeps until a
+/// notification takes the thread from the line, and gets the lock again. Answers what became of the lock when it was
+/// let go; the moment is that of this unlock.
 ///
-/// The action runs with no bucket locked: WTF's `Condition::wait` lets its lock go there. It takes no memory.
-pub fn wait_on<
-    S: Scheme,
-    N: WaitName + Send,
-    P: Part<S, CondScheme<N>>,
-    R: Wait,
-    X,
-    B: FnOnce(X) -> X,
->(
+/// The lock is let go when the thread is in the line, so no notification is missed that comes after it. The action runs
+/// with no bucket locked, and must not park.
+pub fn wait<V: Keeps + Send, N: LotName<V> + Send, R: Wait, B: BeforeSleep>(
     rt: &R,
-    parking: &ParkingLot<S>,
-    scheme: &CondScheme<N>,
-    waiter: Waiter<N>,
+    parking: &ParkingLot<LotScheme<V, N>>,
+    pass: NamedPass<V, N>,
     cond: usize,
-    x: X,
-    before: B,
-) -> (Waiter<N>, X)
-    requires cond { IsAmongConds N.locks N.conds cond }
-    requires key { cond < parking.now.keys }
-    requires serves { P.serves cond }
-    requires thread { waiter.thread < parking.now.threads }
-    requires acts { B.pre before x }
-    ensures waiter { result.0 ≡ woke waiter cond }
-    ensures wide { IsWide (N.locks + N.conds) result.0 }
-    ensures acts { B.post before x result.1 }
+    lock: usize,
+    moment: Moment,
+    before: &B,
+) -> (NamedPass<V, N>, Released)
+    requires cond { (N.locks ≤ cond) × (cond < N.low) × (cond < parking.now.keys) }
+    requires lock { (lock < N.locks) × (lock < parking.now.keys) }
+    requires thread { pass.thread < parking.now.threads }
+    requires idle { IsIdle pass.own }
+    requires holds { Holds pass.own.locks lock }
+    requires lies { (y : V) × IsIn pass.own.locks lock y }
+    ensures waited { HasWaited V.Keeps pass cond lock result.1 result.0 }
+    ensures idle { IsIdle result.0.own }
+    ensures counts { counts_in result.0 ≡ woke (counts_in pass) cond }
+    ensures released { released_in result.0.did ≡ Some result.1 }
+    ensures fits { IsFitting result.1 false moment.now }
 {
-    let (right, locks, tallies) = waiter.apart();
-    let (right, x) = sleep_on::<S, N, P, R, X, B>(rt, parking, scheme, right, cond, x, before);
-    (Waiter::woken(right, locks, tallies, cond), x)
+    let (pass, released) = sleep_on(rt, parking, pass, cond, lock, moment, before);
+    (get(rt, parking, pass, lock, &SleepAtOnce), released)
 }
 
-/// Whether threads may wait on the condition, by one load of its flag. It never waits, and it is an observation: nothing is promised of it.
+/// Whether threads may wait on the condition, by one load of its flag. It never waits, and it is an observation:
+/// nothing is promised of it.
 #[inline(always)]
-pub fn has_waiters<N: WaitName>(
-    scheme: &CondScheme<N>,
-    waiter: Waiter<N>,
+pub fn has_waiters<V: Keeps + Send, N: LotName<V> + Send>(
+    parking: &ParkingLot<LotScheme<V, N>>,
+    pass: NamedPass<V, N>,
     cond: usize,
-) -> (Waiter<N>, bool)
-    requires { IsAmongConds N.locks N.conds cond }
-    ensures same { result.0 ≡ waiter }
-    ensures wide { IsWide (N.locks + N.conds) result.0 }
+) -> (NamedPass<V, N>, bool)
+    requires cond { (N.locks ≤ cond) × (cond < N.low) }
+    requires idle { IsIdle pass.own }
+    ensures pass { result.0 ≡ adding pass (Makes (Look pass.thread cond) (Saw result.1) ∷ []) }
+    ensures idle { IsIdle result.0.own }
+    ensures released { released_in result.0.did ≡ released_in pass.did }
 {
-    let (right, locks, tallies) = waiter.apart();
-    let (right, waits) = look(scheme, right, cond);
-    (Waiter::new(right, locks, tallies), waits)
+    parking.scheme().look(pass, cond)
 }
 
-/// Takes the first thread of the condition's line, if any, and answers whether it took one: WTF's `Condition::notifyOne`. Where the flag
-/// is clear it is one load, and locks no bucket. The thread is woken after the bucket is unlocked. It takes no memory.
-pub fn notify_one<S: Scheme, N: WaitName + Send, P: Part<S, CondScheme<N>>, R: Wait>(
+/// Takes the first thread of the condition's line, if any, and answers whether it took one: WTF's
+/// `Condition::notifyOne`. Where the flag is clear it is one load, and locks no bucket. The thread is woken after the
+/// bucket is unlocked. It takes no memory.
+pub fn notify_one<V: Keeps + Send, N: LotName<V> + Send, R: Wait>(
     rt: &R,
-    parking: &ParkingLot<S>,
-    scheme: &CondScheme<N>,
-    waiter: Waiter<N>,
+    parking: &ParkingLot<LotScheme<V, N>>,
+    pass: NamedPass<V, N>,
     cond: usize,
     moment: Moment,
-) -> (Waiter<N>, bool)
-    requires cond { IsAmongConds N.locks N.conds cond }
-    requires key { cond < parking.now.keys }
-    requires serves { P.serves cond }
-    ensures waiter { MatchBool result.1 (result.0 ≡ took waiter cond 1) (result.0 ≡ waiter) }
-    ensures wide { IsWide (N.locks + N.conds) result.0 }
+) -> (NamedPass<V, N>, bool)
+    requires cond { (N.locks ≤ cond) × (cond < N.low) × (cond < parking.now.keys) }
+    requires idle { IsIdle pass.own }
+    ensures pass { Notifies pass cond 1 (one_if result.1) result.0 }
+    ensures taken { HasTaken pass cond (one_if result.1) result.0 }
 {
-    let (right, locks, tallies) = waiter.apart();
-    let (right, taken) = call_one::<S, N, P, R>(rt, parking, scheme, right, cond, moment);
-    if taken {
-        return (Waiter::taken(right, locks, tallies, cond, 1), true);
+    let (pass, waits) = parking.scheme().look(pass, cond);
+    if !waits {
+        return (pass, false);
     }
-    (Waiter::new(right, locks, tallies), false)
+    call_one(rt, parking, pass, cond, moment)
 }
 
-/// Takes the first `count` threads of the condition's line, or all where they are fewer, in one visit of the bucket, and answers how many
-/// they were: `count` times `notify_one`, that nobody can come between. Where the flag is clear it is one load, and locks no bucket. The
-/// threads are woken after the bucket is unlocked. It takes no memory.
-pub fn notify_some<S: Scheme, N: WaitName + Send, P: Part<S, CondScheme<N>>, R: Wait>(
+/// Takes the first `count` threads of the condition's line, or all where they are fewer, in one visit of the bucket, and
+/// answers how many they were: `count` times `notify_one`, that nobody can come between. Where the flag is clear it is
+/// one load, and locks no bucket. The threads are woken after the bucket is unlocked. It takes no memory.
+pub fn notify_some<V: Keeps + Send, N: LotName<V> + Send, R: Wait>(
     rt: &R,
-    parking: &ParkingLot<S>,
-    scheme: &CondScheme<N>,
-    waiter: Waiter<N>,
+    parking: &ParkingLot<LotScheme<V, N>>,
+    pass: NamedPass<V, N>,
     cond: usize,
     count: usize,
-) -> (Waiter<N>, usize)
-    requires cond { IsAmongConds N.locks N.conds cond }
-    requires key { cond < parking.now.keys }
-    requires serves { P.serves cond }
+) -> (NamedPass<V, N>, usize)
+    requires cond { (N.locks ≤ cond) × (cond < N.low) × (cond < parking.now.keys) }
+    requires idle { IsIdle pass.own }
     requires count { IsCallCount count }
-    ensures waiter { result.0 ≡ took waiter cond result.1 }
+    ensures pass { Notifies pass cond count result.1 result.0 }
+    ensures taken { HasTaken pass cond result.1 result.0 }
     ensures most { result.1 ≤ count }
-    ensures wide { IsWide (N.locks + N.conds) result.0 }
 {
-    let (right, locks, tallies) = waiter.apart();
-    let (right, taken) = call_some::<S, N, P, R>(rt, parking, scheme, right, cond, count);
-    (Waiter::taken(right, locks, tallies, cond, taken), taken)
+    let (pass, waits) = parking.scheme().look(pass, cond);
+    if !waits {
+        return (pass, 0);
+    }
+    call_some(rt, parking, pass, cond, count)
 }
 
-/// Takes all threads of the condition's line, and answers how many: WTF's `Condition::notifyAll`. Where the flag is clear it is one load,
-/// and locks no bucket. The threads are woken after the bucket is unlocked. It takes no memory.
-pub fn notify_all<S: Scheme, N: WaitName + Send, P: Part<S, CondScheme<N>>, R: Wait>(
+/// Takes all threads of the condition's line, and answers how many: WTF's `Condition::notifyAll`. Where the flag is
+/// clear it is one load, and locks no bucket. The threads are woken after the bucket is unlocked. It takes no memory.
+pub fn notify_all<V: Keeps + Send, N: LotName<V> + Send, R: Wait>(
     rt: &R,
-    parking: &ParkingLot<S>,
-    scheme: &CondScheme<N>,
-    waiter: Waiter<N>,
+    parking: &ParkingLot<LotScheme<V, N>>,
+    pass: NamedPass<V, N>,
     cond: usize,
-) -> (Waiter<N>, usize)
-    requires cond { IsAmongConds N.locks N.conds cond }
-    requires key { cond < parking.now.keys }
-    requires serves { P.serves cond }
-    ensures waiter { result.0 ≡ took waiter cond result.1 }
-    ensures wide { IsWide (N.locks + N.conds) result.0 }
+) -> (NamedPass<V, N>, usize)
+    requires cond { (N.locks ≤ cond) × (cond < N.low) × (cond < parking.now.keys) }
+    requires idle { IsIdle pass.own }
+    ensures pass { NotifiesAll pass cond result.1 result.0 }
+    ensures taken { HasTaken pass cond result.1 result.0 }
 {
-    notify_all_after::<S, N, P, R, AtOnce>(rt, parking, scheme, waiter, cond, &AtOnce)
+    notify_all_after(rt, parking, pass, cond, &AtOnce)
 }
 
-/// `notify_all` with an action between the store that clears the flag and the taking of the line, while no bucket is locked: a thread that begins to
-/// wait there is taken too. Where the flag is clear the action is not run.
-pub fn notify_all_after<
-    S: Scheme,
-    N: WaitName + Send,
-    P: Part<S, CondScheme<N>>,
-    R: Wait,
-    B: BeforeSweep,
->(
+/// `notify_all` with an action between the store that clears the flag and the taking of the line, while no bucket is
+/// locked: a thread that begins to wait there is taken too. Where the flag is clear the action is not run.
+pub fn notify_all_after<V: Keeps + Send, N: LotName<V> + Send, R: Wait, B: BeforeSweep>(
     rt: &R,
-    parking: &ParkingLot<S>,
-    scheme: &CondScheme<N>,
-    waiter: Waiter<N>,
+    parking: &ParkingLot<LotScheme<V, N>>,
+    pass: NamedPass<V, N>,
     cond: usize,
     before: &B,
-) -> (Waiter<N>, usize)
-    requires cond { IsAmongConds N.locks N.conds cond }
-    requires key { cond < parking.now.keys }
-    requires serves { P.serves cond }
-    ensures waiter { result.0 ≡ took waiter cond result.1 }
-    ensures wide { IsWide (N.locks + N.conds) result.0 }
+) -> (NamedPass<V, N>, usize)
+    requires cond { (N.locks ≤ cond) × (cond < N.low) × (cond < parking.now.keys) }
+    requires idle { IsIdle pass.own }
+    ensures pass { NotifiesAll pass cond result.1 result.0 }
+    ensures taken { HasTaken pass cond result.1 result.0 }
 {
-    let (right, locks, tallies) = waiter.apart();
-    let (right, count) = call_all::<S, N, P, R, B>(rt, parking, scheme, right, cond, before);
-    (Waiter::taken(right, locks, tallies, cond, count), count)
+    let scheme = parking.scheme();
+    let (pass, waits) = scheme.look(pass, cond);
+    if !waits {
+        return (pass, 0);
+    }
+    let pass = scheme.lower(pass, cond);
+    before.run();
+    sweep_line(rt, parking, pass, cond)
 }

@@ -1,39 +1,34 @@
-//! Conditions over a parking lot: WTF's `Condition`, for any lot of which the table of condition words is a part.
+//! Conditions over a lot's parking lot: WTF's `Condition`.
 //!
-//! It stands on lot_conds (ruled condition words, letters, the ledger) and on lot_park (queues and sleep), which never name each other:
-//! here both meet. It knows no locks: whoever waits hands in what its thread does between its queueing and its sleep, and lets its lock go
-//! there.
+//! It stands on lot_scheme (a lot's words, passes and roots under one name) and on lot_locks, since whoever waits lets
+//! a lock go and gets it again.
 //!
 //! | Call | Where nobody waits | Else |
 //! |---|---|---|
-//! | `wait_on` | | the thread is queued, acts, and sleeps until a notification takes it |
-//! | `notify_one` | one load of the flag | the first of the line is taken, and its letter posted; the flag is cleared where no more may wait |
-//! | `notify_some` | one load of the flag | the first few of the line are taken in one visit of the bucket, and their letters posted; the flag as in `notify_one` |
-//! | `notify_all` | one load of the flag | one store clears the flag; then all of the line are taken, and their letters posted |
+//! | `wait` | | the thread is queued, lets its lock go, sleeps until a notification takes it, and gets the lock again |
+//! | `has_waiters` | one load of the flag | one load of the flag |
+//! | `notify_one` | one load of the flag | the first of the line is taken, and its letter posted |
+//! | `notify_some` | one load of the flag | the first few of the line are taken in one visit of the bucket |
+//! | `notify_all` | one load of the flag | one store clears the flag; then all of the line are taken |
 //!
-//! A wait ends by its letter alone, and then the `Waiter` has counted one wait more. Whoever takes sleepers counts them too. Where all
-//! waiters have come back, `settle` adds up what they counted: in each condition the waits that ended are as many as the sleepers that were
-//! taken.
+//! Where a notification leaves nobody in the line the flag is cleared. A wait ends by its letter alone. Each call says
+//! how the pass stands then, as an equation, and of which accesses its word is made (`specs/Waiting`,
+//! `specs/Notifying`).
 //!
-//! Open with `OpenedConds::open`, make a `Room`, and give both to an opening that has a name (`OpenedConds::name`): all memory is taken then.
+//! A pass knows by key how many sleepers it took from a condition's line, and how many of its own waits have ended.
+//! `Tallies` keeps these numbers modulo 2^64 (`count_wait`, `count_taken`); added up over all passes they are a lot's
+//! `Ledger`, which says that in each condition as many waits have ended as sleepers were taken.
 #![tactic(auto)]
 
-pub mod calls;
-pub mod closing;
-pub mod name;
+mod calls;
+mod ledger;
 mod notifying;
-pub mod opening;
-pub mod room;
-pub mod scheme;
-mod tallies;
-pub mod waiter;
+pub mod steps;
+pub mod tallies;
 mod waiting;
 
-pub use calls::{has_waiters, notify_all, notify_all_after, notify_one, notify_some, wait_on};
-pub use closing::{Ledger, settle};
-pub use name::WaitName;
+pub use calls::{has_waiters, notify_all, notify_all_after, notify_one, notify_some, wait};
+pub use ledger::{Ledger, add_up, ledger_of};
 pub use notifying::BeforeSweep;
-pub use opening::OpenedConds;
-pub use room::{ClosingRoom, Room};
-pub use scheme::{CondKeyRoot, CondScheme, NamedCond};
-pub use waiter::Waiter;
+pub use steps::CondSteps;
+pub use tallies::{Tallies, count_taken, count_wait};

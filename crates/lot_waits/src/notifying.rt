@@ -1,99 +1,49 @@
-//! Notifying the threads that wait on a condition, as WTF's `Condition::notifyOne` and `Condition::notifyAll` do, and several of them at once.
-ghost use Rattle.std.specs.Prelude.{◌≡◌, ℕ, ◌<◌, ◌≤◌, length, MatchBool};
-ghost use Rattle.lot_core.specs.Parts.{IsAmongConds};
-ghost use Rattle.lot_core.specs.Steps.{IsCallCount, SaysMoreBehind, dequeued_count};
+//! Taking threads from a condition's line, as WTF's `Condition::notifyOne` and `Condition::notifyAll` do, and several of
+//! them at once.
+ghost use Rattle.std.specs.Prelude.{◌≡◌, ℕ, ◌<◌, ◌≤◌, length, []};
+ghost use Rattle.lot_core.specs.Steps.{IsCallCount};
 ghost use Rattle.lot_park.specs.Parking.{Tells, TellsCount};
-ghost use Rattle.lot_conds.specs.Calls.{called_root, swept_root};
-ghost use Rattle.lot_waits.specs.Rights.{IsCalmStanding, calling, setting_out, HasToSweep, sweeping, with_root, one_of};
+ghost use Rattle.lot_waits.specs.Notifying.{Dequeues, DequeuesAll, one_of, one_if};
 
-use crate::name::WaitName;
-use crate::scheme::{CondKeyRoot, CondScheme, NamedCond};
-use lot_park::parts::{Part, unpark_all, unpark_count, unpark_one};
-use lot_park::{Moment, ParkingLot, Scheme, Token, UnparkResult};
+use crate::steps::CondSteps;
+use lot_park::{Moment, ParkingLot, Token, UnparkResult};
 use std::sync::Wait;
 
 /// The token of all letters of conditions.
 const TAKEN: Token = Token(0);
 
-/// What the callback of a notification hands back.
-type Called<N> = (NamedCond<N>, CondKeyRoot<N>, Token);
-
-/// Whether threads may wait on the condition, by one load of its flag.
-#[inline(always)]
-pub(crate) fn look<N: WaitName>(
-    scheme: &CondScheme<N>,
-    pass: NamedCond<N>,
-    cond: usize,
-) -> (NamedCond<N>, bool)
-    requires cond { IsAmongConds N.locks N.conds cond }
-    requires calm { IsCalmStanding pass }
-    ensures { result.0 ≡ pass }
-{
-    let (pass, waits) = scheme.words().look(pass.into_pass(), cond);
-    (NamedCond::new(pass), waits)
-}
-
-/// Takes the first thread of the condition's line, and answers whether one was there. Where the flag is clear it is one load, and locks no
-/// bucket.
-pub(crate) fn call_one<S: Scheme, N: WaitName + Send, P: Part<S, CondScheme<N>>, R: Wait>(
+/// Takes the first thread of the condition's line, and answers whether one was there.
+pub(crate) fn call_one<S: CondSteps, R: Wait>(
     rt: &R,
     parking: &ParkingLot<S>,
-    scheme: &CondScheme<N>,
-    pass: NamedCond<N>,
+    pass: S::Pass,
     cond: usize,
     moment: Moment,
-) -> (NamedCond<N>, bool)
-    requires cond { IsAmongConds N.locks N.conds cond }
+) -> (S::Pass, bool)
     requires key { cond < parking.now.keys }
-    requires serves { P.serves cond }
-    requires calm { IsCalmStanding pass }
-    ensures { MatchBool result.1 (result.0 ≡ calling pass cond 1) (result.0 ≡ pass) }
+    requires may { S.may_call pass cond }
+    ensures { S.calls pass cond 1 (one_if result.1) result.0 }
 {
-    let (pass, waits) = look(scheme, pass, cond);
-    if !waits {
-        return (pass, false);
-    }
-    let (pass, told) = unpark_one::<S, CondScheme<N>, P, R, NamedCond<N>, _>(
+    let scheme = parking.scheme();
+    let (pass, told) = parking.unpark_one(
         rt,
-        parking,
         cond,
         moment,
         pass,
-        |pass: NamedCond<N>, root: CondKeyRoot<N>, told: UnparkResult| -> Called<N>
-            requires calm { IsCalmStanding pass }
-            requires told { (now : ℕ) × Tells root.root.own.line now told }
-            ensures pass { result.0 ≡ calling pass root.root.key (one_of told.thread) }
-            ensures root { result.1 ≡ with_root root (called_root root.root.own 1) }
+        |pass: S::Pass, root: S::Root, told: UnparkResult| -> (S::Pass, S::Root, Token)
+            requires may { S.may_call pass (S.Root.view root).key }
+            requires clear { (S.Root.view root).owes ≡ [] }
+            requires told { (now : ℕ) × Tells (S.Root.view root).line now told }
+            ensures pass { S.calls pass (S.Root.view root).key 1 (one_of told.thread) result.0 }
+            ensures root { Dequeues S.Root.view 1 root result.1 }
             ensures token { result.2.0 ≡ 0 }
         {
             let taken = count_of(told.thread);
-            let (pass, root) = call(scheme, pass, root, 1, taken, told.more);
+            let (pass, root) = scheme.call_first(pass, root, 1, taken, told.more);
             (pass, root, TAKEN)
         },
     );
     (pass, told.thread.is_some())
-}
-
-/// Takes the first `count` threads of the condition's line, or all where they are fewer, while its bucket is locked; `taken` is how many
-/// they are. The flag stays where more may wait.
-fn call<N: WaitName>(
-    scheme: &CondScheme<N>,
-    pass: NamedCond<N>,
-    root: CondKeyRoot<N>,
-    count: usize,
-    taken: usize,
-    more: bool,
-) -> (NamedCond<N>, CondKeyRoot<N>)
-    requires calm { IsCalmStanding pass }
-    requires count { IsCallCount count }
-    requires taken { dequeued_count count root.root.own.line ≡ taken }
-    requires more { SaysMoreBehind count root.root.own.line more }
-    ensures pass { result.0 ≡ calling pass root.root.key taken }
-    ensures root { result.1 ≡ with_root root (called_root root.root.own count) }
-{
-    let words = scheme.words();
-    let (pass, root) = words.call(pass.into_pass(), root.into_root(), count, taken, more);
-    (NamedCond::new(pass), CondKeyRoot::new(root))
 }
 
 fn count_of(taken: Option<usize>) -> usize
@@ -103,6 +53,37 @@ fn count_of(taken: Option<usize>) -> usize
         Some(_) => 1,
         None => 0,
     }
+}
+
+/// Takes the first `count` threads of the condition's line, or all where they are fewer, and answers how many they were.
+pub(crate) fn call_some<S: CondSteps, R: Wait>(
+    rt: &R,
+    parking: &ParkingLot<S>,
+    pass: S::Pass,
+    cond: usize,
+    count: usize,
+) -> (S::Pass, usize)
+    requires key { cond < parking.now.keys }
+    requires may { S.may_call pass cond }
+    requires count { IsCallCount count }
+    ensures pass { S.calls pass cond count result.1 result.0 }
+    ensures most { result.1 ≤ count }
+{
+    let scheme = parking.scheme();
+    parking.unpark_count(
+        rt,
+        cond,
+        count,
+        pass,
+        |pass: S::Pass, root: S::Root, taken: usize, more: bool| -> (S::Pass, S::Root)
+            requires may { S.may_call pass (S.Root.view root).key }
+            requires clear { (S.Root.view root).owes ≡ [] }
+            requires count { IsCallCount count }
+            requires told { (threads : ℕ) × TellsCount threads count (S.Root.view root).line taken more }
+            ensures pass { S.calls pass (S.Root.view root).key count taken result.0 }
+            ensures root { Dequeues S.Root.view count root result.1 }
+        { scheme.call_first(pass, root, count, taken, more) },
+    )
 }
 
 /// What a thread does that has cleared a condition's flag, before it takes the line. No bucket is locked then.
@@ -118,115 +99,28 @@ impl BeforeSweep for AtOnce {
     fn run(&self) {}
 }
 
-/// Takes the first `count` threads of the condition's line, or all where they are fewer, and answers how many they were. Where the flag is
-/// clear it is one load, and locks no bucket.
-pub(crate) fn call_some<S: Scheme, N: WaitName + Send, P: Part<S, CondScheme<N>>, R: Wait>(
+/// Takes all threads of the condition's line, whose flag the pass has lowered, and answers how many they were.
+pub(crate) fn sweep_line<S: CondSteps, R: Wait>(
     rt: &R,
     parking: &ParkingLot<S>,
-    scheme: &CondScheme<N>,
-    pass: NamedCond<N>,
+    pass: S::Pass,
     cond: usize,
-    count: usize,
-) -> (NamedCond<N>, usize)
-    requires cond { IsAmongConds N.locks N.conds cond }
+) -> (S::Pass, usize)
     requires key { cond < parking.now.keys }
-    requires serves { P.serves cond }
-    requires calm { IsCalmStanding pass }
-    requires count { IsCallCount count }
-    ensures pass { result.0 ≡ calling pass cond result.1 }
-    ensures most { result.1 ≤ count }
+    requires may { S.may_sweep pass cond }
+    ensures { S.sweeps pass cond result.1 result.0 }
 {
-    let (pass, waits) = look(scheme, pass, cond);
-    if !waits {
-        return (pass, 0);
-    }
-    unpark_count::<S, CondScheme<N>, P, R, NamedCond<N>, _>(
+    let scheme = parking.scheme();
+    parking.unpark_all(
         rt,
-        parking,
-        cond,
-        count,
-        pass,
-        |pass: NamedCond<N>, root: CondKeyRoot<N>, taken: usize, more: bool| -> (
-            NamedCond<N>,
-            CondKeyRoot<N>,
-        )
-            requires calm { IsCalmStanding pass }
-            requires count { IsCallCount count }
-            requires told { (threads : ℕ) × TellsCount threads count root.root.own.line taken more }
-            ensures pass { result.0 ≡ calling pass root.root.key taken }
-            ensures root { result.1 ≡ with_root root (called_root root.root.own count) }
-        { call(scheme, pass, root, count, taken, more) },
-    )
-}
-
-/// Takes all threads of the condition's line, and answers how many. Where the flag is clear it is one load, and locks no bucket.
-pub(crate) fn call_all<
-    S: Scheme,
-    N: WaitName + Send,
-    P: Part<S, CondScheme<N>>,
-    R: Wait,
-    B: BeforeSweep,
->(
-    rt: &R,
-    parking: &ParkingLot<S>,
-    scheme: &CondScheme<N>,
-    pass: NamedCond<N>,
-    cond: usize,
-    before: &B,
-) -> (NamedCond<N>, usize)
-    requires cond { IsAmongConds N.locks N.conds cond }
-    requires key { cond < parking.now.keys }
-    requires serves { P.serves cond }
-    requires calm { IsCalmStanding pass }
-    ensures { result.0 ≡ calling pass cond result.1 }
-{
-    let (pass, waits) = look(scheme, pass, cond);
-    if !waits {
-        return (pass, 0);
-    }
-    let pass = lower(scheme, pass, cond);
-    before.run();
-    unpark_all::<S, CondScheme<N>, P, R, NamedCond<N>, _>(
-        rt,
-        parking,
         cond,
         pass,
-        |pass: NamedCond<N>, root: CondKeyRoot<N>, count: usize| -> (NamedCond<N>, CondKeyRoot<N>)
-            requires lowered { HasToSweep pass root.root.key }
-            requires count { count ≡ length root.root.own.line }
-            ensures pass { result.0 ≡ sweeping pass root.root.key count }
-            ensures root { result.1 ≡ with_root root (swept_root root.root.own) }
-        { sweep(scheme, pass, root, count) },
+        |pass: S::Pass, root: S::Root, count: usize| -> (S::Pass, S::Root)
+            requires may { S.may_sweep pass (S.Root.view root).key }
+            requires clear { (S.Root.view root).owes ≡ [] }
+            requires count { count ≡ length (S.Root.view root).line }
+            ensures pass { S.sweeps pass (S.Root.view root).key count result.0 }
+            ensures root { DequeuesAll S.Root.view root result.1 }
+        { scheme.sweep_all(pass, root, count) },
     )
-}
-
-/// Clears the condition's flag; `sweep` has to follow.
-pub(crate) fn lower<N: WaitName>(
-    scheme: &CondScheme<N>,
-    pass: NamedCond<N>,
-    cond: usize,
-) -> NamedCond<N>
-    requires cond { IsAmongConds N.locks N.conds cond }
-    requires calm { IsCalmStanding pass }
-    ensures { result ≡ setting_out pass cond }
-{
-    NamedCond::new(scheme.words().lower(pass.into_pass(), cond))
-}
-
-/// Takes the whole line, while the condition's bucket is locked.
-pub(crate) fn sweep<N: WaitName>(
-    scheme: &CondScheme<N>,
-    pass: NamedCond<N>,
-    root: CondKeyRoot<N>,
-    count: usize,
-) -> (NamedCond<N>, CondKeyRoot<N>)
-    requires lowered { HasToSweep pass root.root.key }
-    requires count { count ≡ length root.root.own.line }
-    ensures pass { result.0 ≡ sweeping pass root.root.key count }
-    ensures root { result.1 ≡ with_root root (swept_root root.root.own) }
-{
-    let (pass, root) = scheme
-        .words()
-        .sweep(pass.into_pass(), root.into_root(), count);
-    (NamedCond::new(pass), CondKeyRoot::new(root))
 }

@@ -1,21 +1,23 @@
-//! The numbers that are kept of counts, modulo 2^64.
-ghost use Rattle.std.specs.Prelude.{◌≡◌, ◌+◌, ◌<◌, slice_index, slice_set, vec_len, IfOk};
-ghost use Rattle.lot_waits.specs.Counts.{wrap};
+//! The numbers that are kept of what a pass counts, modulo 2^64.
+ghost use Rattle.std.specs.Prelude.{◌≡◌, ℕ, ◌+◌, ◌<◌, slice_index, slice_set, vec_len, IfOk};
+ghost use Rattle.lot_core.specs.Parts.{IsAmongConds};
+ghost use Rattle.lot_waits.specs.Counts.{CountsView, AreKept, MayCount, took, woke, wrap};
 ghost use Rattle.lot_waits.specs.Ledger.{AreAdded};
 
 use std::alloc::{AllocError, Global};
 
-/// By condition, modulo 2^64: the sleepers that were taken from its line, and the waits that ended.
+/// By condition, modulo 2^64: the sleepers that a pass took from its line, and its own waits that ended.
 #[derive(Drop)]
-pub(crate) struct Tallies {
-    pub(crate) called: Vec<u64>,
-    pub(crate) woken: Vec<u64>,
+pub struct Tallies {
+    pub called: Vec<u64>,
+    pub woken: Vec<u64>,
 }
 
 impl Tallies {
-    ghost use Rattle.lot_waits.specs.Room.{AreZeros};
+    ghost use Rattle.lot_waits.specs.Ledger.{AreZeros};
 
-    pub(crate) fn new(alloc: Global, conds: usize) -> Result<Tallies, AllocError>
+    /// Tallies for so many conditions, all 0.
+    pub fn new(alloc: Global, conds: usize) -> Result<Tallies, AllocError>
         ensures { IfOk result (AreZeros conds) }
     {
         let called = vec![in alloc; 0; conds]?;
@@ -24,10 +26,38 @@ impl Tallies {
     }
 }
 
+/// One wait of the pass on the condition more has ended. The numbers of the conditions follow those of the locks.
+pub fn count_wait(mut tallies: Box<Tallies>, locks: usize, cond: usize) -> Box<Tallies>
+    requires { MayCount locks cond tallies.value.called.items tallies.value.woken.items }
+    ensures { (conds : ℕ) (q : CountsView) → IsAmongConds locks conds cond
+        → AreKept locks conds q tallies.value.called.items tallies.value.woken.items
+        → AreKept locks conds (woke q cond) result.value.called.items result.value.woken.items }
+{
+    raise(&mut tallies.woken, cond - locks, 1);
+    tallies
+}
+
+/// The pass has taken so many sleepers more from the condition's line.
+pub fn count_taken(
+    mut tallies: Box<Tallies>,
+    locks: usize,
+    cond: usize,
+    count: usize,
+) -> Box<Tallies>
+    requires { MayCount locks cond tallies.value.called.items tallies.value.woken.items }
+    ensures { (conds : ℕ) (q : CountsView) → IsAmongConds locks conds cond
+        → AreKept locks conds q tallies.value.called.items tallies.value.woken.items
+        → AreKept locks conds (took q cond count) result.value.called.items result.value.woken.items }
+{
+    raise(&mut tallies.called, cond - locks, count as u64);
+    tallies
+}
+
 /// Raises one of the numbers.
-pub(crate) fn raise(numbers: &mut Vec<u64>, place: usize, by: u64)
+fn raise(numbers: &mut Vec<u64>, place: usize, by: u64)
     requires { place < vec_len numbers.old }
-    ensures { numbers.new.items ≡ slice_set numbers.old.items place (wrap (slice_index numbers.old.items place + by)) }
+    ensures { numbers.new.items ≡
+        slice_set numbers.old.items place (wrap (slice_index numbers.old.items place + by)) }
 {
     numbers[place] = numbers[place].wrapping_add(by);
 }

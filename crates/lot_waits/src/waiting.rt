@@ -1,70 +1,74 @@
 //! Waiting on a condition, as WTF's `Condition::wait` does between letting the lock go and getting it again.
-ghost use Rattle.std.specs.Prelude.{◌≡◌, ◌<◌, true};
-ghost use Rattle.lot_core.specs.Parts.{IsAmongConds};
-ghost use Rattle.lot_conds.specs.Calls.{enlisted_root};
-ghost use Rattle.lot_waits.specs.Rights.{IsCalmStanding, enlisting, waking, with_root};
+ghost use Rattle.std.specs.Prelude.{◌≡◌, ◌<◌, true, false};
+ghost use Rattle.lot_park.specs.Parking.{Queues};
+ghost use Rattle.lot_locks.specs.Released.{IsFitting};
+ghost use Rattle.lot_waits.specs.Waiting.{Slept};
 
-use crate::name::WaitName;
-use crate::scheme::{CondKeyRoot, CondScheme, NamedCond};
-use lot_park::parts::{Part, park_on};
-use lot_park::{ParkingLot, Scheme};
+use crate::steps::CondSteps;
+use lot_locks::{Released, let_go};
+use lot_park::{BeforeSleep, Moment, ParkingLot};
 use std::sync::Wait;
 
-/// Queues the thread last in the condition's line, acts, and sleeps until a notification takes the thread from the line. Where one takes
-/// it before it sleeps, it does not sleep.
-///
-/// The action runs with no bucket locked: a wait lets its lock go there.
-pub(crate) fn sleep_on<S: Scheme, N: WaitName + Send, P, R: Wait, X, B: FnOnce(X) -> X>(
+/// Queues the thread last in the condition's line, acts, lets the lock go, and sleeps until a notification takes the
+/// thread from the line. Where one takes it before it sleeps, it does not sleep. The action runs with no bucket locked.
+pub(crate) fn sleep_on<S: CondSteps, R: Wait, B: BeforeSleep>(
     rt: &R,
     parking: &ParkingLot<S>,
-    scheme: &CondScheme<N>,
-    pass: NamedCond<N>,
+    pass: S::Pass,
     cond: usize,
-    x: X,
-    before: B,
-) -> (NamedCond<N>, X)
-where
-    P: Part<S, CondScheme<N>>,
-    requires cond { IsAmongConds N.locks N.conds cond }
-    requires key { cond < parking.now.keys }
-    requires serves { P.serves cond }
-    requires thread { pass.thread < parking.now.threads }
-    requires calm { IsCalmStanding pass }
-    requires acts { B.pre before x }
-    ensures pass { result.0 ≡ waking pass cond }
-    ensures acts { B.post before x result.1 }
+    lock: usize,
+    moment: Moment,
+    before: &B,
+) -> (S::Pass, Released)
+    requires cond { cond < parking.now.keys }
+    requires lock { (lock < parking.now.keys) × S.has parking.now.scheme lock }
+    requires thread { S.thread pass < parking.now.threads }
+    requires may { S.may_enlist pass cond lock }
+    ensures slept { Slept S.enlists S.lets_go S.looked pass cond lock result.1 result.0 }
+    ensures fits { IsFitting result.1 false moment.now }
 {
-    let (pass, x, _) = park_on::<S, CondScheme<N>, P, R, X, _, _>(
+    let scheme = parking.scheme();
+    let (pass, released, _) = parking.park_acting(
         rt,
-        parking,
         pass,
         cond,
-        x,
-        |x: X, pass: NamedCond<N>, root: CondKeyRoot<N>| -> (X, NamedCond<N>, CondKeyRoot<N>, bool)
-            requires calm { IsCalmStanding pass }
-            ensures same { result.0 ≡ x }
-            ensures pass { result.1 ≡ enlisting pass root.root.key }
-            ensures root { result.2 ≡ with_root root (enlisted_root root.root.own pass.thread) }
-            ensures says { result.3 ≡ true }
+        Released::Quiet,
+        |x: Released, pass: S::Pass, root: S::Root| -> (Released, S::Pass, S::Root, bool)
+            requires may { S.may_enlist pass (S.Root.view root).key lock }
+            ensures pass { S.enlists pass (S.Root.view root).key lock result.1 }
+            ensures lets { S.may_let_go result.1 lock }
+            ensures queues { (result.3 ≡ true) × Queues S.Root.view S.thread pass root true result.1 result.2 }
         {
-            let (pass, root) = enlist(scheme, pass, root);
+            let (pass, root) = scheme.enlist_last(pass, root, lock);
             (x, pass, root, true)
         },
-        before,
+        |_quiet: Released, pass: S::Pass| -> (Released, S::Pass)
+            requires lock { (lock < parking.now.keys) × S.has parking.now.scheme lock }
+            requires may { S.may_let_go pass lock }
+            ensures thread { S.thread result.1 ≡ S.thread pass }
+            ensures went { S.lets_go pass lock result.0 result.1 }
+            ensures fits { IsFitting result.0 false moment.now }
+        { leave(rt, parking, pass, lock, moment, before) },
     );
-    (pass, x)
+    (pass, released)
 }
 
-/// Queues the thread on the root's condition, while the condition's bucket is locked.
-fn enlist<N: WaitName>(
-    scheme: &CondScheme<N>,
-    pass: NamedCond<N>,
-    root: CondKeyRoot<N>,
-) -> (NamedCond<N>, CondKeyRoot<N>)
-    requires calm { IsCalmStanding pass }
-    ensures pass { result.0 ≡ enlisting pass root.root.key }
-    ensures root { result.1 ≡ with_root root (enlisted_root root.root.own pass.thread) }
+/// What a thread does that is in the condition's line, with no bucket locked: it acts, and lets its lock go.
+fn leave<S: CondSteps, R: Wait, B: BeforeSleep>(
+    rt: &R,
+    parking: &ParkingLot<S>,
+    pass: S::Pass,
+    lock: usize,
+    moment: Moment,
+    before: &B,
+) -> (Released, S::Pass)
+    requires lock { (lock < parking.now.keys) × S.has parking.now.scheme lock }
+    requires may { S.may_let_go pass lock }
+    ensures thread { S.thread result.1 ≡ S.thread pass }
+    ensures went { S.lets_go pass lock result.0 result.1 }
+    ensures fits { IsFitting result.0 false moment.now }
 {
-    let (pass, root) = scheme.words().enlist(pass.into_pass(), root.into_root());
-    (NamedCond::new(pass), CondKeyRoot::new(root))
+    before.run();
+    let (pass, released) = let_go(rt, parking, pass, lock, moment, false);
+    (released, pass)
 }

@@ -3,9 +3,8 @@
 //! words, rights and values stand for, and the history without its notices is one run of the model from the opening
 //! to it. `close` hands that run back.
 //!
-//! No crate stands on it yet: lot_sync runs the three tables of lot_words, lot_conds and lot_sems, each usable alone,
-//! whose worlds and steps this crate takes as they are. What a kind allows for its own words, the lot allows for all
-//! (`specs/Lifts`).
+//! A lot (lot_sync) runs on it, by lot_scheme. It takes the worlds and steps of lot_words, lot_conds and lot_sems as they
+//! are, whose tables stay usable alone. What a kind allows for its own words, the lot allows for all (`specs/Lifts`).
 //!
 //! ```text
 //!  LotPass  for each thread        LotRoot  for each key      LotWords  a word for each key, a letter for each thread

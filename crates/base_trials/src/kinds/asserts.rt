@@ -35,7 +35,8 @@ pub(crate) fn parked_is(rt: &impl Abort, parked: Parked, wanted: Parked)
     assert_eq!(rt; parked, wanted);
 }
 
-/// By the ledger, so many sleepers of each condition were taken, and as many of its waits have ended, or the test fails.
+/// By the ledger, so many sleepers of each condition were taken, and as many of its waits have ended, or the test
+/// fails.
 pub(crate) fn ledger_is(rt: &impl Abort, ledger: &Ledger, wanted: &[u64]) {
     equal(rt, ledger.called.as_slice(), wanted);
     equal(rt, ledger.woken.as_slice(), wanted);

@@ -1,39 +1,39 @@
-//! A lot of one lock, whose scheme holds one thread where it begins to look for its letter.
+//! A lot whose scheme holds one thread where it begins to look for its letter.
 ghost use Rattle.std.specs.Prelude.{◌≡◌};
 
-use crate::kinds::locks::Nothing;
+use crate::kinds::tables::Nothing;
 use crate::park::askings::{ASKINGS, is_within};
-use lot_locks::{KeyRoot, LockScheme, NamedPass};
-use lot_park::parts::Part;
-use lot_park::{ParkingLot, Scheme, Token};
-use lot_words::{Keeps, Name};
+use lot_locks::{LockSteps, Locks, Released};
+use lot_park::{ParkingLot, Scheme, Seeking, Sought, Token, UnparkResult};
+use lot_scheme::{LotName, LotScheme, NamedPass, NamedRoot};
+use lot_words::Keeps;
 use std::marker::Model;
 use std::sync::atomic::{AtomicU64, Ordering};
 
 const RAISED: u64 = 1;
 
-// The locks' scheme, which holds thread 1 where it begins to look for its letter, until the gate opens, and notes what it finds: the token
-// and 1.
-pub(crate) struct Gated<V: Keeps, N: Name> {
-    locks: LockScheme<V, N>,
+// A lot's scheme, which holds thread 1 where it begins to look for its letter, until the gate opens, and notes what it
+// finds: the token and 1.
+pub(crate) struct Gated<V: Keeps, N: LotName<V>> {
+    inner: LotScheme<V, N>,
     gate: AtomicU64,
     found: AtomicU64,
 }
 
-impl<V: Keeps, N: Name> Model for Gated<V, N> {
-    ghost use Rattle.lot_words.specs.Shown.{LockWordsShown};
+impl<V: Keeps, N: LotName<V>> Model for Gated<V, N> {
+    ghost use Rattle.lot_whole.specs.Shown.{LotWordsShown};
 
-    ghost Value = { LockWordsShown V };
+    ghost Value = { LotWordsShown V };
 
-    ghost view = { λ s. s.locks };
+    ghost view = { λ s. s.inner };
 }
 
-impl<V: Keeps, N: Name> Gated<V, N> {
-    pub(crate) fn new(locks: LockScheme<V, N>) -> Gated<V, N>
-        ensures { result ≡ locks }
+impl<V: Keeps, N: LotName<V>> Gated<V, N> {
+    pub(crate) fn new(inner: LotScheme<V, N>) -> Gated<V, N>
+        ensures { result ≡ inner }
     {
         Gated {
-            locks,
+            inner,
             gate: AtomicU64::new(0),
             found: AtomicU64::new(0),
         }
@@ -48,21 +48,21 @@ impl<V: Keeps, N: Name> Gated<V, N> {
         self.found.load(Ordering::SeqCst)
     }
 
-    pub(crate) fn locks(&self) -> &LockScheme<V, N>
+    pub(crate) fn inner(&self) -> &LotScheme<V, N>
         ensures { result.now ≡ self.now }
     {
-        &self.locks
+        &self.inner
     }
 
-    pub(crate) fn into_locks(self) -> LockScheme<V, N>
+    pub(crate) fn into_inner(self) -> LotScheme<V, N>
         ensures { result ≡ self }
     {
         let Gated {
-            locks,
+            inner,
             gate: _,
             found: _,
         } = self;
-        locks
+        inner
     }
 
     fn await_gate(&self, thread: usize) {
@@ -80,10 +80,10 @@ impl<V: Keeps, N: Name> Gated<V, N> {
     }
 }
 
-impl<V: Keeps + Send, N: Name + Send> Scheme for Gated<V, N> {
-    ghost use Rattle.lot_locks.specs.Standing.{IsLooked};
+impl<V: Keeps + Send, N: LotName<V> + Send> Scheme for Gated<V, N> {
+    ghost use Rattle.lot_scheme.specs.Standing.{IsLooked};
 
-    type Root = KeyRoot<V, N>;
+    type Root = NamedRoot<V, N>;
 
     type Pass = NamedPass<V, N>;
 
@@ -95,54 +95,85 @@ impl<V: Keeps + Send, N: Name + Send> Scheme for Gated<V, N> {
         pass.thread()
     }
 
-    fn post(&self, root: KeyRoot<V, N>, at: usize, token: Token) -> KeyRoot<V, N> {
-        self.locks.post(root, at, token)
+    fn post(&self, root: NamedRoot<V, N>, at: usize, token: Token) -> NamedRoot<V, N> {
+        self.inner.post(root, at, token)
     }
 
     fn collect(&self, pass: NamedPass<V, N>) -> (NamedPass<V, N>, Option<Token>) {
         let thread = pass.thread();
         self.await_gate(thread);
-        let (pass, letter) = self.locks.collect(pass);
+        let (pass, letter) = self.inner.collect(pass);
         self.note(thread, letter);
         (pass, letter)
     }
 }
 
-// The locks, as a part of the lot.
-pub(crate) struct TheLocks;
+// Locks are sought as in the scheme within.
+impl<V: Keeps + Send, N: LotName<V> + Send> Sought<Locks> for Gated<V, N> {
+    ghost use Rattle.std.specs.Prelude.{◌<◌};
+    ghost use Rattle.lot_locks.specs.Standing.{IsAsleepFor, Seeks};
 
-impl<V: Keeps + Send, N: Name + Send> Part<Gated<V, N>, LockScheme<V, N>> for TheLocks {
-    ghost use Rattle.std.specs.Prelude.{refl};
+    ghost has = { λ s key. key < N.locks };
 
-    ghost serves = { λ k. Unit {0} };
+    ghost seeks = { Seeks V.Keeps N.locks };
 
-    ghost whole_root = { λ r. r };
+    ghost sleeps = { IsAsleepFor N.locks };
 
-    ghost whole_pass = { λ p. p };
-
-    fn raise_root(root: KeyRoot<V, N>) -> KeyRoot<V, N> {
-        root
+    fn is_parked(&self, key: usize) -> bool {
+        self.inner.is_parked(key)
     }
 
-    fn lower_root(root: KeyRoot<V, N>) -> KeyRoot<V, N> {
-        root
+    fn take_again(&self, pass: NamedPass<V, N>, key: usize) -> (NamedPass<V, N>, Seeking) {
+        self.inner.take_again(pass, key)
     }
 
-    fn raise_pass(pass: NamedPass<V, N>) -> NamedPass<V, N> {
-        pass
+    fn line_up(
+        &self,
+        pass: NamedPass<V, N>,
+        key: usize,
+        is_parked: bool,
+    ) -> (NamedPass<V, N>, Seeking) {
+        self.inner.line_up(pass, key, is_parked)
     }
 
-    fn lower_pass(pass: NamedPass<V, N>) -> NamedPass<V, N> {
-        pass
+    fn queue(
+        &self,
+        pass: NamedPass<V, N>,
+        root: NamedRoot<V, N>,
+    ) -> (NamedPass<V, N>, NamedRoot<V, N>, bool) {
+        self.inner.queue(pass, root)
     }
 
-    ghost one_pass = { λ p q same. same };
-
-    ghost same_view = { λ r. refl };
-
-    ghost same_thread = { λ p. refl };
-
-    ghost same_looks = { λ p found q looked. (q, refl, looked) };
+    fn is_handed(token: Token) -> bool {
+        LotScheme::<V, N>::is_handed(token)
+    }
 }
 
-pub(crate) type Lot<N> = ParkingLot<Gated<Nothing, N>>;
+// And let go so too.
+impl<V: Keeps + Send, N: LotName<V> + Send> LockSteps for Gated<V, N> {
+    ghost use Rattle.lot_locks.specs.Standing.{MayFree, MayPass, LetsGo, PassesOn};
+
+    ghost may_pass = { MayPass N.locks };
+
+    ghost may_let_go = { MayFree };
+
+    ghost lets_go = { LetsGo };
+
+    ghost passes_on = { PassesOn };
+
+    fn free(&self, pass: NamedPass<V, N>, key: usize) -> (NamedPass<V, N>, bool) {
+        LockSteps::free(&self.inner, pass, key)
+    }
+
+    fn hand_over(
+        &self,
+        pass: NamedPass<V, N>,
+        root: NamedRoot<V, N>,
+        told: UnparkResult,
+        fair: bool,
+    ) -> (NamedPass<V, N>, NamedRoot<V, N>, Token, Released) {
+        self.inner.hand_over(pass, root, told, fair)
+    }
+}
+
+pub(crate) type GatedLot<N> = ParkingLot<Gated<Nothing, N>>;

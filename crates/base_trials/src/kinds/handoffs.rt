@@ -1,45 +1,51 @@
-//! A lock is handed over while the table of buckets grows, on a lot for five threads. Three of them have rights on the lock.
-ghost use Rattle.std.specs.Prelude.{◌≡◌, ◌<◌, ◌≤◌, Some, None, IsSomeAnd};
-ghost use Rattle.base_trials.specs.OneLock.{IsCalm, HasIt};
+//! A lock is handed over while the table of buckets grows, on a lot for five threads. Three of them have passes.
+ghost use Rattle.std.specs.Prelude.{◌≡◌, ℕ, ◌<◌, ◌≤◌, Some, None, IsSomeAnd};
+ghost use Rattle.base_trials.specs.Calm.{IsCalm, HasIt};
+ghost use Rattle.base_trials.specs.Waits.{IsSmall};
 
 use crate::asserts::{bits_are, equal, failed};
 use crate::kinds::asserts::count_is;
-use crate::kinds::gates::{Gated, Lot, TheLocks};
-use crate::kinds::locks::{Nothing, Right, get, release};
+use crate::kinds::gates::{Gated, GatedLot};
+use crate::kinds::locks::{get, release};
+use crate::kinds::tables::{Nothing, Right};
 use crate::park::askings::await_line;
-use lot_locks::{Released, get_slowly};
-use lot_park::{AtOnce, Grown};
-use lot_words::Name;
+use lot_locks::{Locks, Released};
+use lot_park::{AtOnce, Grown, Seeking, get_or_park};
+use lot_scheme::LotName;
 use std::process::Abort;
 use std::sync::Wait;
 use std::thread;
 use std::thread::Threads;
 
 // Sleeps in the line of the lock until it has it.
-fn own<N: Name + Send, R: Wait>(rt: &R, lot: &Lot<N>, pass: Right<N>) -> Right<N>
-    requires sizes { (lot.now.keys ≡ 1) × (lot.now.threads ≡ 5) × (lot.now.scheme.size.locks ≡ 1) }
+fn own<N: LotName<Nothing> + Send, R: Wait>(rt: &R, lot: &GatedLot<N>, pass: Right<N>) -> Right<N>
+    requires small { IsSmall N.locks N.conds N.low }
+    requires sizes { (lot.now.keys ≡ 3) × (lot.now.threads ≡ 5) }
     requires thread { pass.thread < 5 }
-    requires pass { IsCalm pass.thread pass }
-    ensures { HasIt pass.thread result }
+    requires pass { (t : ℕ) × IsCalm t pass }
+    ensures { (t : ℕ) → IsCalm t pass → HasIt t 0 result }
 {
-    let locks = lot.scheme().locks();
-    get_slowly::<Gated<Nothing, N>, Nothing, N, TheLocks, R, AtOnce>(
-        rt, lot, locks, pass, 0, &AtOnce,
-    )
+    get_or_park::<Gated<Nothing, N>, Locks, R, AtOnce>(rt, lot, pass, 0, Seeking::Waits, &AtOnce)
 }
 
 // The word of the lock is this, and so many are in its line.
-fn lock_is<N: Name + Send, R: Wait + Abort>(rt: &R, lot: &Lot<N>, word: u64, line: usize)
-    requires sizes { (lot.now.keys ≡ 1) × (lot.now.scheme.size.locks ≡ 1) }
+fn lock_is<N: LotName<Nothing> + Send, R: Wait + Abort>(
+    rt: &R,
+    lot: &GatedLot<N>,
+    word: u64,
+    line: usize,
+)
+    requires small { IsSmall N.locks N.conds N.low }
+    requires sizes { lot.now.keys ≡ 3 }
 {
-    bits_are(rt, lot.scheme().locks().words().bits(0), word);
+    bits_are(rt, lot.scheme().inner().lock_bits(0), word);
     count_is(rt, lot.line_length(rt, 0), line);
 }
 
 // The table of buckets grows so for so many threads.
-fn grows<N: Name + Send, R: Wait + Abort>(
+fn grows<N: LotName<Nothing> + Send, R: Wait + Abort>(
     rt: &R,
-    lot: &Lot<N>,
+    lot: &GatedLot<N>,
     threads: usize,
     from: usize,
     to: usize,
@@ -52,11 +58,16 @@ fn grows<N: Name + Send, R: Wait + Abort>(
     }
 }
 
-// Thread 0, which has the lock: hands it to the first of two sleepers, who is held before it finds its letter. The table grows, and then
-// that one goes on.
-fn hands_over<N: Name + Send, R: Wait + Abort>(rt: &R, lot: &Lot<N>, here: &mut Option<Right<N>>)
-    requires sizes { (lot.now.keys ≡ 1) × (lot.now.threads ≡ 5) × (lot.now.scheme.size.locks ≡ 1) }
-    requires has { IsSomeAnd here.old (HasIt 0) }
+// Thread 0, which has the lock: hands it to the first of two sleepers, who is held before it finds its letter. The
+// table grows, and then that one goes on.
+fn hands_over<N: LotName<Nothing> + Send, R: Wait + Abort>(
+    rt: &R,
+    lot: &GatedLot<N>,
+    here: &mut Option<Right<N>>,
+)
+    requires small { IsSmall N.locks N.conds N.low }
+    requires sizes { (lot.now.keys ≡ 3) × (lot.now.threads ≡ 5) }
+    requires has { IsSomeAnd here.old (HasIt 0 0) }
     ensures { IsSomeAnd here.new (IsCalm 0) }
 {
     let pass = here.take().unwrap();
@@ -70,8 +81,13 @@ fn hands_over<N: Name + Send, R: Wait + Abort>(rt: &R, lot: &Lot<N>, here: &mut 
 }
 
 // Thread 1, the first in the line: the lock is handed to it, and the second is still in the line. It lets the lock go.
-fn is_handed<N: Name + Send, R: Wait + Abort>(rt: &R, lot: &Lot<N>, here: &mut Option<Right<N>>)
-    requires sizes { (lot.now.keys ≡ 1) × (lot.now.threads ≡ 5) × (lot.now.scheme.size.locks ≡ 1) }
+fn is_handed<N: LotName<Nothing> + Send, R: Wait + Abort>(
+    rt: &R,
+    lot: &GatedLot<N>,
+    here: &mut Option<Right<N>>,
+)
+    requires small { IsSmall N.locks N.conds N.low }
+    requires sizes { (lot.now.keys ≡ 3) × (lot.now.threads ≡ 5) }
     requires calm { IsSomeAnd here.old (IsCalm 1) }
     ensures { IsSomeAnd here.new (IsCalm 1) }
 {
@@ -83,8 +99,13 @@ fn is_handed<N: Name + Send, R: Wait + Abort>(rt: &R, lot: &Lot<N>, here: &mut O
 }
 
 // Thread 2, the second in the line: it is woken by that.
-fn is_woken<N: Name + Send, R: Wait + Abort>(rt: &R, lot: &Lot<N>, here: &mut Option<Right<N>>)
-    requires sizes { (lot.now.keys ≡ 1) × (lot.now.threads ≡ 5) × (lot.now.scheme.size.locks ≡ 1) }
+fn is_woken<N: LotName<Nothing> + Send, R: Wait + Abort>(
+    rt: &R,
+    lot: &GatedLot<N>,
+    here: &mut Option<Right<N>>,
+)
+    requires small { IsSmall N.locks N.conds N.low }
+    requires sizes { (lot.now.keys ≡ 3) × (lot.now.threads ≡ 5) }
     requires calm { IsSomeAnd here.old (IsCalm 2) }
     ensures { IsSomeAnd here.new (IsCalm 2) }
 {
@@ -96,7 +117,7 @@ fn is_woken<N: Name + Send, R: Wait + Abort>(rt: &R, lot: &Lot<N>, here: &mut Op
 }
 
 // A right that was lent to a thread comes back: a closure can't hold it.
-fn give_back<N: Name + Send>(here: &mut Option<Right<N>>, pass: Right<N>)
+fn give_back<N: LotName<Nothing> + Send>(here: &mut Option<Right<N>>, pass: Right<N>)
     requires { here.old ≡ None }
     ensures { here.new ≡ Some pass }
 {
@@ -107,23 +128,26 @@ fn give_back<N: Name + Send>(here: &mut Option<Right<N>>, pass: Right<N>)
 }
 
 // Both sleepers at once.
-fn sleep_side_by_side<'a, N: Name + Send + Sync, R: Threads + Wait + Abort + Sync>(
+fn sleep_side_by_side<'a, N: LotName<Nothing> + Send + Sync, R: Threads + Wait + Abort + Sync>(
     rt: &'a R,
-    lot: &'a Lot<N>,
+    lot: &'a GatedLot<N>,
     one: &'a mut Option<Right<N>>,
     two: &'a mut Option<Right<N>>,
 )
-    requires sizes { (lot.now.keys ≡ 1) × (lot.now.threads ≡ 5) × (lot.now.scheme.size.locks ≡ 1) }
+    requires small { IsSmall N.locks N.conds N.low }
+    requires sizes { (lot.now.keys ≡ 3) × (lot.now.threads ≡ 5) }
     requires calm { IsSomeAnd one.old (IsCalm 1) × IsSomeAnd two.old (IsCalm 2) }
     ensures { IsSomeAnd one.new (IsCalm 1) × IsSomeAnd two.new (IsCalm 2) }
 {
     let mut handed = ||
-        requires sizes { (lot.now.keys ≡ 1) × (lot.now.threads ≡ 5) × (lot.now.scheme.size.locks ≡ 1) }
+        requires small { IsSmall N.locks N.conds N.low }
+        requires sizes { (lot.now.keys ≡ 3) × (lot.now.threads ≡ 5) }
         requires calm { IsSomeAnd one.now (IsCalm 1) }
         ensures { IsSomeAnd one.exit.now (IsCalm 1) }
     { is_handed(rt, lot, one) };
     let mut woken = ||
-        requires sizes { (lot.now.keys ≡ 1) × (lot.now.threads ≡ 5) × (lot.now.scheme.size.locks ≡ 1) }
+        requires small { IsSmall N.locks N.conds N.low }
+        requires sizes { (lot.now.keys ≡ 3) × (lot.now.threads ≡ 5) }
         requires calm { IsSomeAnd two.now (IsCalm 2) }
         ensures { IsSomeAnd two.exit.now (IsCalm 2) }
     { is_woken(rt, lot, two) };
@@ -131,12 +155,13 @@ fn sleep_side_by_side<'a, N: Name + Send + Sync, R: Threads + Wait + Abort + Syn
 }
 
 // Both sleepers, whose rights are lent.
-fn both_sleep<N: Name + Send + Sync, R: Threads + Wait + Abort + Sync>(
+fn both_sleep<N: LotName<Nothing> + Send + Sync, R: Threads + Wait + Abort + Sync>(
     rt: &R,
-    lot: &Lot<N>,
+    lot: &GatedLot<N>,
     here: &mut Option<(Right<N>, Right<N>)>,
 )
-    requires sizes { (lot.now.keys ≡ 1) × (lot.now.threads ≡ 5) × (lot.now.scheme.size.locks ≡ 1) }
+    requires small { IsSmall N.locks N.conds N.low }
+    requires sizes { (lot.now.keys ≡ 3) × (lot.now.threads ≡ 5) }
     requires calm { IsSomeAnd here.old (λ p. IsCalm 1 p.0 × IsCalm 2 p.1) }
     ensures { IsSomeAnd here.new (λ p. IsCalm 1 p.0 × IsCalm 2 p.1) }
 {
@@ -151,25 +176,28 @@ fn both_sleep<N: Name + Send + Sync, R: Threads + Wait + Abort + Sync>(
 }
 
 // All three at once.
-fn side_by_side<'a, N: Name + Send + Sync, R: Threads + Wait + Abort + Sync>(
+fn side_by_side<'a, N: LotName<Nothing> + Send + Sync, R: Threads + Wait + Abort + Sync>(
     rt: &'a R,
-    lot: &'a Lot<N>,
+    lot: &'a GatedLot<N>,
     owner: &'a mut Option<Right<N>>,
     sleepers: &'a mut Option<(Right<N>, Right<N>)>,
 )
-    requires sizes { (lot.now.keys ≡ 1) × (lot.now.threads ≡ 5) × (lot.now.scheme.size.locks ≡ 1) }
-    requires has { IsSomeAnd owner.old (HasIt 0) }
+    requires small { IsSmall N.locks N.conds N.low }
+    requires sizes { (lot.now.keys ≡ 3) × (lot.now.threads ≡ 5) }
+    requires has { IsSomeAnd owner.old (HasIt 0 0) }
     requires calm { IsSomeAnd sleepers.old (λ p. IsCalm 1 p.0 × IsCalm 2 p.1) }
     ensures owner { IsSomeAnd owner.new (IsCalm 0) }
     ensures sleepers { IsSomeAnd sleepers.new (λ p. IsCalm 1 p.0 × IsCalm 2 p.1) }
 {
     let mut hands = ||
-        requires sizes { (lot.now.keys ≡ 1) × (lot.now.threads ≡ 5) × (lot.now.scheme.size.locks ≡ 1) }
-        requires has { IsSomeAnd owner.now (HasIt 0) }
+        requires small { IsSmall N.locks N.conds N.low }
+        requires sizes { (lot.now.keys ≡ 3) × (lot.now.threads ≡ 5) }
+        requires has { IsSomeAnd owner.now (HasIt 0 0) }
         ensures { IsSomeAnd owner.exit.now (IsCalm 0) }
     { hands_over(rt, lot, owner) };
     let mut sleep = ||
-        requires sizes { (lot.now.keys ≡ 1) × (lot.now.threads ≡ 5) × (lot.now.scheme.size.locks ≡ 1) }
+        requires small { IsSmall N.locks N.conds N.low }
+        requires sizes { (lot.now.keys ≡ 3) × (lot.now.threads ≡ 5) }
         requires calm { IsSomeAnd sleepers.now (λ p. IsCalm 1 p.0 × IsCalm 2 p.1) }
         ensures { IsSomeAnd sleepers.exit.now (λ p. IsCalm 1 p.0 × IsCalm 2 p.1) }
     { both_sleep(rt, lot, sleepers) };
@@ -177,19 +205,23 @@ fn side_by_side<'a, N: Name + Send + Sync, R: Threads + Wait + Abort + Sync>(
 }
 
 // Thread 0 gets the lock, and the two others come into its line, one after the other.
-pub(crate) fn handed_while_it_grows<N: Name + Send + Sync, R: Threads + Wait + Abort + Sync>(
+pub(crate) fn handed_while_it_grows<
+    N: LotName<Nothing> + Send + Sync,
+    R: Threads + Wait + Abort + Sync,
+>(
     rt: &R,
-    lot: &Lot<N>,
+    lot: &GatedLot<N>,
     zero: Right<N>,
     one: Right<N>,
     two: Right<N>,
 ) -> (Right<N>, Right<N>, Right<N>)
-    requires sizes { (lot.now.keys ≡ 1) × (lot.now.threads ≡ 5) × (lot.now.scheme.size.locks ≡ 1) }
+    requires small { IsSmall N.locks N.conds N.low }
+    requires sizes { (lot.now.keys ≡ 3) × (lot.now.threads ≡ 5) }
     requires calm { IsCalm 0 zero × IsCalm 1 one × IsCalm 2 two }
     ensures { IsCalm 0 result.0 × IsCalm 1 result.1 × IsCalm 2 result.2 }
 {
     grows(rt, lot, 2, 3, 12);
-    let mut owner = Some(get(rt, lot.scheme().locks(), zero));
+    let mut owner = Some(get(rt, lot.scheme().inner(), zero));
     let mut sleepers = Some((one, two));
     side_by_side(rt, lot, &mut owner, &mut sleepers);
     equal(rt, lot.scheme().found(), 2);

@@ -1,33 +1,49 @@
 //! Conditions that are named and settled with nobody there, and what their ledger then says.
 ghost use Rattle.std.specs.Prelude.{◌≡◌};
+ghost use Rattle.base_trials.specs.Opened.{AreDealt, AreFreshRoots, size_of};
 
 use crate::kinds::asserts::ledger_is;
+use crate::kinds::tables::{Nothing, Passes, Roots, Words, close_words, deal, gather, open_words};
+use crate::kinds::waiters::{Room, deal_waiters, settle};
 use lot_rights::WordsFault;
-use lot_waits::{OpenedConds, Room, WaitName, settle};
+use lot_scheme::LotName;
 use std::alloc::Global;
 use std::marker::Brand;
 use std::process::Abort;
 use std::test::*;
 
-// Names the conditions and settles them, where nobody waited or notified.
-fn settled_unused<N: WaitName>(rt: &impl Abort, alloc: Global, opened: OpenedConds)
-    requires names { (opened.table ≡ N.opening.conds) × (opened.locks ≡ N.locks) × (opened.conds ≡ N.conds) }
-    requires size { (opened.threads ≡ 3) × (opened.locks ≡ 1) × (opened.conds ≡ 2) }
+// Names the passes of three threads and settles their conditions, where nobody waited or notified.
+fn settled_unused<N: LotName<Nothing>>(
+    rt: &impl Abort,
+    alloc: Global,
+    words: Words,
+    mut passes: Passes,
+    roots: Roots,
+)
+    requires named { words.table ≡ N.opening.locks }
+    requires keys { (N.locks ≡ 1) × (N.conds ≡ 2) }
+    requires size { words.size ≡ size_of 1 2 }
+    requires passes { AreDealt words.table 1 2 passes.items }
+    requires roots { AreFreshRoots words.table 1 2 roots.items }
 {
-    let Ok(room) = Room::<N>::new(alloc, 3, 2) else {
-        opened.close();
+    let Ok(room) = Room::new(alloc, 2) else {
+        let (zero, one, two) = deal::<N>(&mut passes);
+        gather(&mut passes, zero, one, two);
+        let _values = close_words::<N>(words, passes, roots);
         return;
     };
-    let (scheme, waiters, roots, room) = opened.name(room);
-    let ledger = settle(scheme, waiters, roots, room);
+    let (three, sums) = deal_waiters::<N>(&mut passes, room);
+    let ledger = settle(words, passes, roots, three, sums);
     ledger_is(rt, &ledger, &[0, 0]);
 }
 
 // Where a request for memory is refused, all that was taken is freed.
 #[test]
 fn a_ledger_of_zeros(rt: HostRuntime) {
-    match OpenedConds::open(rt.alloc(), 3, 1, 2) {
-        Ok(opened) => settled_unused::<Brand>(&rt, rt.alloc(), opened),
+    match open_words(rt.alloc(), 1, 2) {
+        Ok((words, passes, roots)) => {
+            settled_unused::<Brand>(&rt, rt.alloc(), words, passes, roots)
+        }
         Err(fault) => assert_eq!(rt; fault, WordsFault::NoMemory),
     }
 }

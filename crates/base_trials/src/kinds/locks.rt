@@ -1,18 +1,22 @@
-//! Schedules on a lot of one lock: a parking that comes too late, and a lock that is handed over while the table of buckets grows.
-ghost use Rattle.std.specs.Prelude.{◌≡◌, ℕ, ◌<◌, List, length, slice_get, Some, vec_len};
-ghost use Rattle.lot_words.specs.Shown.{pass_at, root_at};
-ghost use Rattle.lot_locks.specs.Standing.{MayTake, Wants};
-ghost use Rattle.base_trials.specs.OneLock.{HasNone, IsCalm, HasIt};
+//! Schedules on a lot whose scheme is the test's own: a parking that comes too late, and a lock that is handed over
+//! while the table of buckets grows.
+ghost use Rattle.std.specs.Prelude.{◌≡◌, ℕ, ◌<◌, []};
+ghost use Rattle.base_trials.specs.Calm.{IsCalm, IsFor, Wants, HasIt};
+ghost use Rattle.base_trials.specs.Opened.{AreDealt, AreFreshRoots, size_of};
+ghost use Rattle.base_trials.specs.Waits.{IsSmall};
 
 use crate::asserts::{bits_are, failed, is_so};
 use crate::kinds::asserts::{count_is, is_not, parked_is, released_is};
-use crate::kinds::gates::{Gated, Lot, TheLocks};
+use crate::kinds::gates::{Gated, GatedLot};
 use crate::kinds::handoffs::handed_while_it_grows;
-use crate::kinds::tables::{EARLY, THREADS};
-use lot_locks::{KeyRoot, LockScheme, NamedPass, Released, let_go};
+use crate::kinds::tables::{
+    EARLY, Nothing, OneTable, Passes, Right, Roots, Words, close_words, deal, gather, name_roots,
+    open_words, unname_roots,
+};
+use lot_locks::{Locks, Released, let_go};
 use lot_park::seeking::park;
 use lot_park::{BeforeSleep, Parked, ParkingLot};
-use lot_words::{Keeps, LockPass, LockRoot, LockWords, Name};
+use lot_scheme::{LotName, LotScheme};
 use std::alloc::Global;
 use std::marker::Brand;
 use std::process::Abort;
@@ -22,28 +26,6 @@ use std::thread::Threads;
 
 // How many threads the parking lot is for. Three of them have rights on the lock.
 const LOT_THREADS: usize = 5;
-
-// What the lock guards.
-#[derive(Drop)]
-pub(crate) struct Nothing;
-
-impl Keeps for Nothing {
-    type Part = ();
-
-    ghost keeps = { λ k x. Unit {0} };
-
-    ghost grows = { λ x y. Unit {0} };
-
-    ghost part = { λ t x. tt };
-
-    ghost grows_itself = { λ x. tt };
-
-    ghost grows_on = { λ x y z p q. tt };
-}
-
-pub(crate) type OneLock<N> = LockScheme<Nothing, N>;
-
-pub(crate) type Right<N> = NamedPass<Nothing, N>;
 
 // A thread fails here: it was queued where it should not be.
 #[derive(Drop)]
@@ -57,11 +39,15 @@ impl<R: Abort> BeforeSleep for Never<'_, R> {
     }
 }
 
-// The lock is free, and is got.
-pub(crate) fn get<N: Name + Send>(rt: &impl Abort, scheme: &OneLock<N>, pass: Right<N>) -> Right<N>
-    requires size { scheme.now.size.locks ≡ 1 }
-    requires pass { HasNone pass.thread pass × MayTake pass 0 }
-    ensures { HasIt pass.thread result }
+// The lock 0 is free, and is got.
+pub(crate) fn get<N: LotName<Nothing> + Send>(
+    rt: &impl Abort,
+    scheme: &OneTable<N>,
+    pass: Right<N>,
+) -> Right<N>
+    requires small { IsSmall N.locks N.conds N.low }
+    requires pass { (t : ℕ) × IsFor t 0 pass }
+    ensures { (t : ℕ) → IsFor t 0 pass → HasIt t 0 result }
 {
     let (pass, got) = scheme.take(pass, 0);
     is_so(rt, got, "the lock is got");
@@ -69,10 +55,14 @@ pub(crate) fn get<N: Name + Send>(rt: &impl Abort, scheme: &OneLock<N>, pass: Ri
 }
 
 // The lock is held, and is wanted from now on.
-fn want<N: Name + Send>(rt: &impl Abort, scheme: &OneLock<N>, pass: Right<N>) -> Right<N>
-    requires size { scheme.now.size.locks ≡ 1 }
-    requires pass { HasNone pass.thread pass × MayTake pass 0 }
-    ensures { HasNone pass.thread result × Wants result 0 }
+fn want<N: LotName<Nothing> + Send>(
+    rt: &impl Abort,
+    scheme: &OneTable<N>,
+    pass: Right<N>,
+) -> Right<N>
+    requires small { IsSmall N.locks N.conds N.low }
+    requires pass { (t : ℕ) × IsFor t 0 pass }
+    ensures { (t : ℕ) → IsFor t 0 pass → Wants t 0 result }
 {
     let (pass, got) = scheme.take(pass, 0);
     is_not(rt, got);
@@ -80,49 +70,53 @@ fn want<N: Name + Send>(rt: &impl Abort, scheme: &OneLock<N>, pass: Right<N>) ->
 }
 
 // The lock is held, and is marked as parked.
-#[tactic(auto, using(lot_locks::proofs::Noted::marked))]
-fn mark<N: Name + Send>(rt: &impl Abort, scheme: &OneLock<N>, pass: Right<N>) -> Right<N>
-    requires size { scheme.now.size.locks ≡ 1 }
-    requires pass { HasNone pass.thread pass × Wants pass 0 }
-    ensures { HasNone pass.thread result × Wants result 0 }
+fn mark<N: LotName<Nothing> + Send>(
+    rt: &impl Abort,
+    scheme: &OneTable<N>,
+    pass: Right<N>,
+) -> Right<N>
+    requires small { IsSmall N.locks N.conds N.low }
+    requires pass { (t : ℕ) × Wants t 0 pass }
+    ensures { (t : ℕ) → Wants t 0 pass → Wants t 0 result }
 {
-    let (pass, marked) = scheme.words().mark(pass.into_pass(), 0);
+    let (pass, marked) = scheme.mark(pass, 0);
     is_so(rt, marked, "the lock is held");
-    NamedPass::new(pass)
+    pass
 }
 
 // Lets the lock go at moment 0, and this becomes of it.
-pub(crate) fn release<N: Name + Send, R: Wait + Abort>(
+pub(crate) fn release<N: LotName<Nothing> + Send, R: Wait + Abort>(
     rt: &R,
-    lot: &Lot<N>,
+    lot: &GatedLot<N>,
     pass: Right<N>,
     fair: bool,
     wanted: Released,
 ) -> Right<N>
-    requires sizes { (lot.now.keys ≡ 1) × (lot.now.scheme.size.locks ≡ 1) }
-    requires pass { HasIt pass.thread pass }
-    ensures { IsCalm pass.thread result }
+    requires small { IsSmall N.locks N.conds N.low }
+    requires sizes { lot.now.keys ≡ 3 }
+    requires pass { (t : ℕ) × HasIt t 0 pass }
+    ensures { (t : ℕ) → HasIt t 0 pass → IsCalm t result }
 {
-    let locks = lot.scheme().locks();
-    let (pass, released) = let_go::<Gated<Nothing, N>, OneLock<N>, TheLocks, R>(
-        rt, lot, locks, pass, 0, EARLY, fair,
-    );
+    let (pass, released) = let_go(rt, lot, pass, 0, EARLY, fair);
     released_is(rt, released, wanted);
     pass
 }
 
 // Its parking comes too late: it is not queued, and still wants the lock.
-fn park_in_vain<N: Name + Send, R: Wait + Abort>(rt: &R, lot: &Lot<N>, pass: Right<N>) -> Right<N>
-    requires sizes { (lot.now.keys ≡ 1) × (lot.now.threads ≡ 5) }
+fn park_in_vain<N: LotName<Nothing> + Send, R: Wait + Abort>(
+    rt: &R,
+    lot: &GatedLot<N>,
+    pass: Right<N>,
+) -> Right<N>
+    requires small { IsSmall N.locks N.conds N.low }
+    requires sizes { (lot.now.keys ≡ 3) × (lot.now.threads ≡ 5) }
     requires thread { pass.thread < 3 }
-    requires pass { HasNone pass.thread pass × Wants pass 0 }
-    ensures { HasNone pass.thread result × Wants result 0 }
+    requires pass { (t : ℕ) × Wants t 0 pass }
+    ensures { (t : ℕ) → Wants t 0 pass → Wants t 0 result }
 {
-    let scheme = lot.scheme().locks();
-    let (pass, parked) = park::<Gated<Nothing, N>, OneLock<N>, TheLocks, R, Never<'_, R>>(
+    let (pass, parked) = park::<Gated<Nothing, N>, Locks, R, Never<'_, R>>(
         rt,
         lot,
-        scheme,
         pass,
         0,
         &Never { rt },
@@ -132,26 +126,27 @@ fn park_in_vain<N: Name + Send, R: Wait + Abort>(rt: &R, lot: &Lot<N>, pass: Rig
 }
 
 // The word of the lock is this.
-fn word_is<N: Name>(rt: &impl Abort, scheme: &OneLock<N>, wanted: u64)
-    requires size { scheme.now.size.locks ≡ 1 }
+fn word_is<N: LotName<Nothing>>(rt: &impl Abort, scheme: &OneTable<N>, wanted: u64)
+    requires { IsSmall N.locks N.conds N.low }
 {
-    bits_are(rt, scheme.words().bits(0), wanted);
+    bits_are(rt, scheme.lock_bits(0), wanted);
 }
 
-// The lock is marked by thread 1, let go, and got by thread 2 before thread 1 parks: the parking is invalid, the line is as it was, and
-// thread 1 goes on trying until it has the lock.
-fn too_late<N: Name + Send, R: Wait + Abort>(
+// The lock is marked by thread 1, let go, and got by thread 2 before thread 1 parks: the parking is invalid, the line
+// is as it was, and thread 1 goes on trying until it has the lock.
+fn too_late<N: LotName<Nothing> + Send, R: Wait + Abort>(
     rt: &R,
-    lot: &Lot<N>,
+    lot: &GatedLot<N>,
     zero: Right<N>,
     one: Right<N>,
     two: Right<N>,
 ) -> (Right<N>, Right<N>, Right<N>)
-    requires sizes { (lot.now.keys ≡ 1) × (lot.now.threads ≡ 5) × (lot.now.scheme.size.locks ≡ 1) }
+    requires small { IsSmall N.locks N.conds N.low }
+    requires sizes { (lot.now.keys ≡ 3) × (lot.now.threads ≡ 5) }
     requires calm { IsCalm 0 zero × IsCalm 1 one × IsCalm 2 two }
     ensures { IsCalm 0 result.0 × IsCalm 1 result.1 × IsCalm 2 result.2 }
 {
-    let scheme = lot.scheme().locks();
+    let scheme = lot.scheme().inner();
     let zero = get(rt, scheme, zero);
     let one = want(rt, scheme, one);
     let one = mark(rt, scheme, one);
@@ -176,15 +171,16 @@ enum Schedule {
     Handoff,
 }
 
-fn played<N: Name + Send + Sync, R: Threads + Wait + Abort + Sync>(
+fn played<N: LotName<Nothing> + Send + Sync, R: Threads + Wait + Abort + Sync>(
     rt: &R,
-    lot: &Lot<N>,
+    lot: &GatedLot<N>,
     zero: Right<N>,
     one: Right<N>,
     two: Right<N>,
     schedule: Schedule,
 ) -> (Right<N>, Right<N>, Right<N>)
-    requires sizes { (lot.now.keys ≡ 1) × (lot.now.threads ≡ 5) × (lot.now.scheme.size.locks ≡ 1) }
+    requires small { IsSmall N.locks N.conds N.low }
+    requires sizes { (lot.now.keys ≡ 3) × (lot.now.threads ≡ 5) }
     requires calm { IsCalm 0 zero × IsCalm 1 one × IsCalm 2 two }
     ensures { IsCalm 0 result.0 × IsCalm 1 result.1 × IsCalm 2 result.2 }
 {
@@ -195,39 +191,34 @@ fn played<N: Name + Send + Sync, R: Threads + Wait + Abort + Sync>(
 }
 
 // Plays on a lot, and closes it.
-fn play<N: Name + Send + Sync, R: Threads + Wait + Abort + Sync>(
+fn play<N: LotName<Nothing> + Send + Sync, R: Threads + Wait + Abort + Sync>(
     rt: &R,
     alloc: Global,
-    words: LockWords<Nothing>,
-    mut passes: Vec<LockPass<Nothing>>,
-    mut roots: Vec<LockRoot<Nothing>>,
+    words: Words,
+    mut passes: Passes,
+    mut roots: Roots,
     schedule: Schedule,
 )
-    requires named { words.table ≡ N.opening.locks }
-    requires size { (words.size.threads ≡ 3) × (words.size.locks ≡ 1) }
-    requires passes { (vec_len passes ≡ 3) × ((xs : List Nothing) × (length xs ≡ 1) × ((k : ℕ) → k < 3 → slice_get passes.items k ≡ Some (pass_at words.table xs k))) }
-    requires roots { (vec_len roots ≡ 1) × (slice_get roots.items 0 ≡ Some (root_at words.table 0)) }
+    requires named { (words.table ≡ N.opening.locks) × (words.size ≡ size_of 2 1) }
+    requires names { (N.threads ≡ 3) × (N.permits ≡ []) }
+    requires small { IsSmall N.locks N.conds N.low }
+    requires passes { AreDealt words.table 2 1 passes.items }
+    requires roots { AreFreshRoots words.table 2 1 roots.items }
 {
-    let two: Right<N> = NamedPass::new(passes.take_last());
-    let one: Right<N> = NamedPass::new(passes.take_last());
-    let zero: Right<N> = NamedPass::new(passes.take_last());
-    let Ok(mut idle) = Vec::with_capacity(alloc, 1) else {
+    let (zero, one, two) = deal::<N>(&mut passes);
+    let Ok(named) = name_roots::<N>(alloc, &mut roots) else {
         failed(rt, "no memory")
     };
-    idle.push_reserved(KeyRoot::new(roots.take_last()));
-    let scheme = Gated::new(LockScheme::new(words));
-    let (lot, mut back) = match ParkingLot::open(alloc, LOT_THREADS, idle, scheme) {
+    let scheme = Gated::new(LotScheme::new(words, 2, 3));
+    let (lot, mut back) = match ParkingLot::open(alloc, LOT_THREADS, named, scheme) {
         Ok(opened) => opened,
         Err(_refused) => failed(rt, "no memory"),
     };
     let (zero, one, two) = played(rt, &lot, zero, one, two, schedule);
-    passes.push_reserved(zero.into_pass());
-    passes.push_reserved(one.into_pass());
-    passes.push_reserved(two.into_pass());
-    let words = lot.close(rt, &mut back).into_locks().into_words();
-    roots.push_reserved(back.take_last().into_root());
-    back.destroy_empty();
-    count_is(rt, words.close(passes, roots).len(), 1);
+    gather(&mut passes, zero, one, two);
+    let words = lot.close(rt, &mut back).into_inner().into_words();
+    unname_roots(&mut roots, back);
+    count_is(rt, close_words::<N>(words, passes, roots), 2);
 }
 
 fn try_on_a_lot<R: Threads + Wait + Abort + Sync>(
@@ -235,9 +226,7 @@ fn try_on_a_lot<R: Threads + Wait + Abort + Sync>(
     alloc: Global,
     schedule: Schedule,
 ) -> Result<(), Fail> {
-    let mut values = Vec::with_capacity(alloc, 1)?;
-    values.push_reserved(Nothing);
-    let Ok((words, passes, roots)) = LockWords::open(alloc, THREADS, values) else {
+    let Ok((words, passes, roots)) = open_words(alloc, 2, 1) else {
         return Err("no memory".into());
     };
     play::<Brand, R>(rt, alloc, words, passes, roots, schedule);

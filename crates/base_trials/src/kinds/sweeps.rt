@@ -1,177 +1,164 @@
-//! A condition's flag is cleared, and then a thread parks: the sweep, which comes before its sleep, takes it. All in one thread.
-ghost use Rattle.std.specs.Prelude.{◌≡◌, ℕ, ◌<◌, true, length, slice_get, Some, vec_len};
-ghost use Rattle.lot_rights.specs.Start.{pass_at, root_at};
-ghost use Rattle.lot_conds.specs.Calls.{enlisted_root, swept_root};
-ghost use Rattle.lot_conds.specs.Rule.{scheme};
-ghost use Rattle.lot_waits.specs.Rights.{IsCalmStanding, HasToSweep, enlisting, setting_out, sweeping, with_root};
-ghost use Rattle.base_trials.specs.Sweeps.{IsAtRest};
+//! A condition's flag is cleared, and then a thread parks: the sweep, which comes before its sleep, takes it. All in
+//! one thread.
+ghost use Rattle.std.specs.Prelude.{◌≡◌, ◌<◌, true, length, []};
+ghost use Rattle.lot_locks.specs.declared.released.Released.{Released};
+ghost use Rattle.lot_park.specs.Parking.{Queues};
+ghost use Rattle.lot_waits.specs.Notifying.{DequeuesAll};
+ghost use Rattle.lot_waits.specs.Waiting.{Slept};
+ghost use Rattle.base_trials.specs.Calm.{IsCalm};
+ghost use Rattle.base_trials.specs.Opened.{AreDealt, AreFreshRoots, size_of};
+ghost use Rattle.base_trials.specs.Waits.{IsSmall};
 
-use crate::asserts::{bits_are, failed, room_for};
+use crate::asserts::{bits_are, failed};
 use crate::kinds::asserts::{count_is, parked_is};
-use crate::kinds::tables::{TheConds, TwoTables, condition_of, open};
-use lot_conds::{CondPass, CondRoot, CondWords};
-use lot_park::parts::{park_on, unpark_all};
-use lot_park::{Parked, ParkingLot, Token};
-use lot_waits::{CondKeyRoot, CondScheme, NamedCond, WaitName};
+use crate::kinds::tables::{
+    EARLY, Nothing, Passes, Right, Roots, THREADS, Words, close_words, deal, gather, name_roots,
+    open_words, unname_roots,
+};
+use crate::kinds::waiters::Lot;
+use lot_locks::{get, let_go};
+use lot_park::{AtOnce, Parked, ParkingLot, Token};
+use lot_scheme::{LotName, LotScheme};
+use lot_waits::CondSteps;
 use std::alloc::Global;
 use std::marker::Brand;
 use std::process::Abort;
 use std::sync::Wait;
 use std::test::*;
 
-type Lot<N> = ParkingLot<TwoTables<N>>;
-
-// Clears the flag; a sweep has to follow.
-fn lower<N: WaitName>(scheme: &CondScheme<N>, pass: NamedCond<N>) -> NamedCond<N>
-    requires keys { (N.locks ≡ 1) × (N.conds ≡ 1) }
-    requires calm { IsCalmStanding pass }
-    ensures { result ≡ setting_out pass 1 }
-{
-    NamedCond::new(scheme.words().lower(pass.into_pass(), 1))
-}
-
-// Queues the thread, while the bucket is locked.
-fn enlist<N: WaitName>(
-    scheme: &CondScheme<N>,
-    pass: NamedCond<N>,
-    root: CondKeyRoot<N>,
-) -> (NamedCond<N>, CondKeyRoot<N>)
-    requires calm { IsCalmStanding pass }
-    ensures pass { result.0 ≡ enlisting pass root.root.key }
-    ensures root { result.1 ≡ with_root root (enlisted_root root.root.own pass.thread) }
-{
-    let (pass, root) = scheme.words().enlist(pass.into_pass(), root.into_root());
-    (NamedCond::new(pass), CondKeyRoot::new(root))
-}
-
-// Takes the whole line, while the bucket is locked.
-fn sweep<N: WaitName>(
-    scheme: &CondScheme<N>,
-    pass: NamedCond<N>,
-    root: CondKeyRoot<N>,
-    count: usize,
-) -> (NamedCond<N>, CondKeyRoot<N>)
-    requires lowered { HasToSweep pass root.root.key }
-    requires count { count ≡ length root.root.own.line }
-    ensures pass { result.0 ≡ sweeping pass root.root.key count }
-    ensures root { result.1 ≡ with_root root (swept_root root.root.own) }
-{
-    let words = scheme.words();
-    let (pass, root) = words.sweep(pass.into_pass(), root.into_root(), count);
-    (NamedCond::new(pass), CondKeyRoot::new(root))
-}
-
 // Sweeps the condition, in whose line one thread is.
-fn take_one<N: WaitName + Send, R: Wait + Abort>(
-    rt: &R,
-    lot: &Lot<N>,
-    pass: NamedCond<N>,
-) -> NamedCond<N>
-    requires keys { (N.locks ≡ 1) × (N.conds ≡ 1) × (lot.now.keys ≡ 2) }
-    requires lowered { HasToSweep pass 1 }
-    ensures { IsAtRest pass.thread result }
+fn take_one<S: CondSteps, R: Wait + Abort>(rt: &R, lot: &ParkingLot<S>, pass: S::Pass) -> S::Pass
+    requires key { 2 < lot.now.keys }
+    requires lowered { S.may_sweep pass 2 }
+    ensures { S.sweeps pass 2 1 result }
 {
-    let conds = lot.scheme().conds();
-    let (pass, count) = unpark_all::<TwoTables<N>, CondScheme<N>, TheConds, R, NamedCond<N>, _>(
+    let scheme = lot.scheme();
+    let (pass, count) = lot.unpark_all(
         rt,
-        lot,
-        1,
+        2,
         pass,
-        |pass: NamedCond<N>, root: CondKeyRoot<N>, count: usize| -> (NamedCond<N>, CondKeyRoot<N>)
-            requires lowered { HasToSweep pass root.root.key }
-            requires count { count ≡ length root.root.own.line }
-            ensures pass { result.0 ≡ sweeping pass root.root.key count }
-            ensures root { result.1 ≡ with_root root (swept_root root.root.own) }
-        { sweep(conds, pass, root, count) },
+        |pass: S::Pass, root: S::Root, count: usize| -> (S::Pass, S::Root)
+            requires lowered { S.may_sweep pass (S.Root.view root).key }
+            requires clear { (S.Root.view root).owes ≡ [] }
+            requires count { count ≡ length (S.Root.view root).line }
+            ensures pass { S.sweeps pass (S.Root.view root).key count result.0 }
+            ensures root { DequeuesAll S.Root.view root result.1 }
+        { scheme.sweep_all(pass, root, count) },
     );
     count_is(rt, count, 1);
     pass
 }
 
-// Thread 1 clears the flag. Then thread 0 parks, which sets it again; before it sleeps, thread 1 sweeps the line, and so it does not sleep.
-fn swept_before_sleep<N: WaitName + Send, R: Wait + Abort>(
+// The first, which has the lock 0, parks, which sets the flag again, and lets its lock go; before it sleeps, the
+// second sweeps the line, and so it does not sleep.
+fn sleep_swept<S: CondSteps, R: Wait + Abort>(
     rt: &R,
-    lot: &Lot<N>,
-    zero: NamedCond<N>,
-    one: NamedCond<N>,
-) -> (NamedCond<N>, NamedCond<N>)
-    requires keys { (N.locks ≡ 1) × (N.conds ≡ 1) × (lot.now.threads ≡ 3) × (lot.now.keys ≡ 2) }
-    requires rest { IsAtRest 0 zero × IsAtRest 1 one }
-    ensures { IsAtRest 0 result.0 × IsAtRest 1 result.1 }
+    lot: &ParkingLot<S>,
+    zero: S::Pass,
+    one: S::Pass,
+) -> (S::Pass, S::Pass)
+    requires keys { 2 < lot.now.keys }
+    requires has { S.has lot.now.scheme 0 }
+    requires thread { S.thread zero < lot.now.threads }
+    requires may { S.may_enlist zero 2 0 }
+    requires lowered { S.may_sweep one 2 }
+    ensures slept { (became : Released) × Slept S.enlists S.lets_go S.looked zero 2 0 became result.0 }
+    ensures swept { S.sweeps one 2 1 result.1 }
 {
-    let conds = lot.scheme().conds();
-    let one = lower(conds, one);
-    let (zero, one, parked) = park_on::<
-        TwoTables<N>,
-        CondScheme<N>,
-        TheConds,
-        R,
-        NamedCond<N>,
-        _,
-        _,
-    >(
+    let scheme = lot.scheme();
+    let (zero, one, parked) = lot.park_acting(
         rt,
-        lot,
         zero,
-        1,
+        2,
         one,
-        |one: NamedCond<N>, zero: NamedCond<N>, root: CondKeyRoot<N>| -> (
-            NamedCond<N>,
-            NamedCond<N>,
-            CondKeyRoot<N>,
-            bool,
-        )
-            requires calm { IsCalmStanding zero }
+        |one: S::Pass, zero: S::Pass, root: S::Root| -> (S::Pass, S::Pass, S::Root, bool)
+            requires may { S.may_enlist zero (S.Root.view root).key 0 }
             ensures same { result.0 ≡ one }
-            ensures pass { result.1 ≡ enlisting zero root.root.key }
-            ensures root { result.2 ≡ with_root root (enlisted_root root.root.own zero.thread) }
+            ensures pass { S.enlists zero (S.Root.view root).key 0 result.1 }
+            ensures lets { S.may_let_go result.1 0 }
+            ensures root { Queues S.Root.view S.thread zero root true result.1 result.2 }
             ensures says { result.3 ≡ true }
         {
-            let (zero, root) = enlist(conds, zero, root);
+            let (zero, root) = scheme.enlist_last(zero, root, 0);
             (one, zero, root, true)
         },
-        |one: NamedCond<N>| -> NamedCond<N>
-            requires keys { (N.locks ≡ 1) × (N.conds ≡ 1) × (lot.now.keys ≡ 2) }
-            requires lowered { HasToSweep one 1 }
-            ensures { IsAtRest one.thread result }
-        { take_one(rt, lot, one) },
+        |one: S::Pass, zero: S::Pass| -> (S::Pass, S::Pass)
+            requires keys { 2 < lot.now.keys }
+            requires has { S.has lot.now.scheme 0 }
+            requires may { S.may_let_go zero 0 }
+            requires lowered { S.may_sweep one 2 }
+            ensures thread { S.thread result.1 ≡ S.thread zero }
+            ensures went { (became : Released) × S.lets_go zero 0 became result.1 }
+            ensures swept { S.sweeps one 2 1 result.0 }
+        {
+            let (zero, _released) = let_go(rt, lot, zero, 0, EARLY, false);
+            (take_one(rt, lot, one), zero)
+        },
     );
     parked_is(rt, parked, Parked::Woken(Token(0)));
-    count_is(rt, lot.line_length(rt, 1), 0);
-    bits_are(rt, conds.words().bits(1), 1);
+    (zero, one)
+}
+
+// Thread 1 clears the flag. Then thread 0 waits, and is swept before it sleeps.
+fn swept_before_sleep<N: LotName<Nothing> + Send, R: Wait + Abort>(
+    rt: &R,
+    lot: &Lot<N>,
+    zero: Right<N>,
+    one: Right<N>,
+) -> (Right<N>, Right<N>)
+    requires small { IsSmall N.locks N.conds N.low }
+    requires sizes { (lot.now.threads ≡ 3) × (lot.now.keys ≡ 3) }
+    requires calm { IsCalm 0 zero × IsCalm 1 one }
+    ensures { IsCalm 0 result.0 × IsCalm 1 result.1 }
+{
+    let scheme = lot.scheme();
+    let owner = get(rt, lot, zero, 0, &AtOnce);
+    let lowered = scheme.lower(one, 2);
+    let (slept, one) = sleep_swept(rt, lot, owner, lowered);
+    count_is(rt, lot.line_length(rt, 2), 0);
+    bits_are(rt, scheme.words().bits(2), 1);
+    let again = get(rt, lot, slept, 0, &AtOnce);
+    let (zero, _released) = let_go(rt, lot, again, 0, EARLY, false);
     (zero, one)
 }
 
 // Plays on a lot, and closes it.
-fn play<N: WaitName + Send, R: Wait + Abort>(
+fn play<N: LotName<Nothing> + Send, R: Wait + Abort>(
     rt: &R,
     alloc: Global,
-    words: CondWords,
-    mut passes: Vec<CondPass>,
-    mut roots: Vec<CondRoot>,
+    words: Words,
+    mut passes: Passes,
+    mut roots: Roots,
 )
-    requires named { words.table ≡ N.opening.conds }
-    requires keys { (N.locks ≡ 1) × (N.conds ≡ 1) }
-    requires size { (words.size.threads ≡ 2) × (words.size.locks ≡ 1) × (words.size.conds ≡ 1) }
-    requires passes { (vec_len passes ≡ 2) × ((t : ℕ) → t < 2 → slice_get passes.items t ≡ Some (pass_at (scheme words.size) words.table t)) }
-    requires roots { (vec_len roots ≡ 1) × (slice_get roots.items 0 ≡ Some (root_at (scheme words.size) words.table 1)) }
+    requires named { (words.table ≡ N.opening.locks) × (words.size ≡ size_of 2 1) }
+    requires names { (N.threads ≡ 3) × (N.permits ≡ []) }
+    requires small { IsSmall N.locks N.conds N.low }
+    requires passes { AreDealt words.table 2 1 passes.items }
+    requires roots { AreFreshRoots words.table 2 1 roots.items }
 {
-    let one: NamedCond<N> = NamedCond::new(passes.take_last());
-    let zero: NamedCond<N> = NamedCond::new(passes.take_last());
-    let root = CondKeyRoot::new(roots.take_last());
-    let lot = open::<N>(rt, alloc, CondScheme::new(words), root);
+    let (zero, one, two) = deal::<N>(&mut passes);
+    let Ok(named) = name_roots::<N>(alloc, &mut roots) else {
+        failed(rt, "no memory")
+    };
+    let (lot, mut back) = match ParkingLot::open(
+        alloc,
+        THREADS,
+        named,
+        LotScheme::new(words, 2, 3),
+    ) {
+        Ok(opened) => opened,
+        Err(_refused) => failed(rt, "no memory"),
+    };
     let (zero, one) = swept_before_sleep(rt, &lot, zero, one);
-    passes.push_reserved(zero.into_pass());
-    passes.push_reserved(one.into_pass());
-    let mut left = room_for(rt, alloc, 2);
-    let words = lot.close(rt, &mut left).into_conds().into_words();
-    roots.push_reserved(condition_of(rt, left).into_root());
-    words.close(passes, roots);
+    gather(&mut passes, zero, one, two);
+    let words = lot.close(rt, &mut back).into_words();
+    unname_roots(&mut roots, back);
+    let _values = close_words::<N>(words, passes, roots);
 }
 
 #[test]
 fn who_is_swept_before_its_sleep_does_not_sleep(rt: HostRuntime) {
-    let Ok((words, passes, roots)) = CondWords::open(rt.alloc(), 2, 1, 1) else {
+    let Ok((words, passes, roots)) = open_words(rt.alloc(), 2, 1) else {
         failed(&rt, "no memory")
     };
     play::<Brand, HostRuntime>(&rt, rt.alloc(), words, passes, roots);

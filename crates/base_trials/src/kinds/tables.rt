@@ -1,199 +1,155 @@
-//! A lot of two tables: one of a lock that nobody takes, whose number is 0, and one of one condition, whose number is 1.
-ghost use Rattle.std.specs.Prelude.{◌≡◌, ◌≤◌, None, Some, vec_len};
-ghost use Rattle.lot_waits.specs.Opening.{IsIdleRoot};
+//! A lot for three threads, its opening and its end. Most schedules are on one of two locks, whose numbers are 0 and 1,
+//! and of one condition, whose number is 2.
+ghost use Rattle.std.specs.Prelude.{◌≡◌, ◌+◌, ◌<◌, ◌≤◌, [], vec_len, vec_capacity, IfOk};
+ghost use Rattle.lot_park.specs.Lots.{AreIdle, Appends};
+ghost use Rattle.lot_scheme.specs.Roots.{root_view};
+ghost use Rattle.base_trials.specs.Calm.{IsCalm};
+ghost use Rattle.base_trials.specs.Opened.{AreDealt, AreFreshRoots, AreBack, AreRootsBack, IsFresh, size_of};
 
-use crate::asserts::{failed, room_for};
-use lot_park::parts::Part;
-use lot_park::{Moment, ParkingLot, Root, Scheme, Token};
-use lot_waits::{CondKeyRoot, CondScheme, NamedCond, WaitName};
-use std::alloc::Global;
-use std::marker::Model;
-use std::process::Abort;
-
-/// The root of the condition, or of the lock, which has nothing to tell.
-pub(crate) struct EitherRoot<N: WaitName + Send> {
-    cond: Option<CondKeyRoot<N>>,
-}
-
-impl<N: WaitName + Send> Model for EitherRoot<N> {
-    ghost use Rattle.std.specs.Prelude.{Option};
-    ghost use Rattle.lot_rights.specs.Shown.{RootShown};
-    ghost use Rattle.lot_conds.specs.declared.views.CondRootView.{CondRootView};
-    ghost use Rattle.base_trials.specs.TwoTables.{IsNoLock};
-
-    ghost Value = { Option (RootShown CondRootView) };
-
-    ghost view = { λ s. s.cond };
-
-    ghost invariant = { λ s. IsNoLock s.cond };
-}
-
-impl<N: WaitName + Send> Root for EitherRoot<N> {
-    ghost use Rattle.base_trials.specs.TwoTables.{root_view};
-
-    ghost view = { root_view };
-}
-
-impl<N: WaitName + Send> EitherRoot<N> {
-    fn of_lock() -> EitherRoot<N>
-        ensures { result ≡ None }
-    {
-        EitherRoot { cond: None }
-    }
-
-    fn of_condition(root: CondKeyRoot<N>) -> EitherRoot<N>
-        requires { 1 ≤ root.root.key }
-        ensures { result ≡ Some root }
-    {
-        EitherRoot { cond: Some(root) }
-    }
-}
-
-/// The scheme of both tables. Nobody takes the lock, so its passes are those of the condition.
-pub(crate) struct TwoTables<N: WaitName + Send> {
-    conds: CondScheme<N>,
-}
-
-impl<N: WaitName + Send> Model for TwoTables<N> {
-    ghost use Rattle.lot_conds.specs.Shown.{CondWordsShown};
-
-    ghost Value = { CondWordsShown };
-
-    ghost view = { λ s. s.conds };
-}
-
-impl<N: WaitName + Send> TwoTables<N> {
-    pub(crate) fn conds(&self) -> &CondScheme<N>
-        ensures { result.now ≡ self.now }
-    {
-        &self.conds
-    }
-
-    pub(crate) fn into_conds(self) -> CondScheme<N>
-        ensures { result ≡ self }
-    {
-        let TwoTables { conds } = self;
-        conds
-    }
-}
-
-impl<N: WaitName + Send> Scheme for TwoTables<N> {
-    ghost use Rattle.lot_waits.specs.Rights.{IsCondLooked};
-
-    type Root = EitherRoot<N>;
-
-    type Pass = NamedCond<N>;
-
-    ghost thread = { λ p. p.thread };
-
-    ghost looked = { IsCondLooked };
-
-    fn thread_of(pass: &NamedCond<N>) -> usize {
-        CondScheme::<N>::thread_of(pass)
-    }
-
-    fn post(&self, root: EitherRoot<N>, at: usize, token: Token) -> EitherRoot<N> {
-        let EitherRoot { cond } = root;
-        match cond {
-            Some(root) => EitherRoot {
-                cond: Some(self.conds.post(root, at, token)),
-            },
-            None => unreachable!(),
-        }
-    }
-
-    fn collect(&self, pass: NamedCond<N>) -> (NamedCond<N>, Option<Token>) {
-        self.conds.collect(pass)
-    }
-}
-
-/// The condition, as a part of the lot.
-pub(crate) struct TheConds;
-
-impl<N: WaitName + Send> Part<TwoTables<N>, CondScheme<N>> for TheConds {
-    ghost use Rattle.std.specs.Prelude.{◌≤◌, Some, refl};
-
-    ghost serves = { λ k. 1 ≤ k };
-
-    ghost whole_root = { λ r. Some r };
-
-    ghost whole_pass = { λ p. p };
-
-    fn raise_root(root: CondKeyRoot<N>) -> EitherRoot<N> {
-        EitherRoot { cond: Some(root) }
-    }
-
-    fn lower_root(root: EitherRoot<N>) -> CondKeyRoot<N> {
-        let EitherRoot { cond } = root;
-        match cond {
-            Some(root) => root,
-            None => unreachable!(),
-        }
-    }
-
-    fn raise_pass(pass: NamedCond<N>) -> NamedCond<N> {
-        pass
-    }
-
-    fn lower_pass(pass: NamedCond<N>) -> NamedCond<N> {
-        pass
-    }
-
-    ghost one_pass = { λ p q same. same };
-
-    ghost same_view = { λ r. refl };
-
-    ghost same_thread = { λ p. refl };
-
-    ghost same_looks = { λ p found q looked. (q, refl, looked) };
-}
+use lot_park::Moment;
+use lot_rights::WordsFault;
+use lot_scheme::{LotName, LotScheme, NamedPass, NamedRoot};
+use lot_whole::{LotPass, LotRoot, LotWords};
+use lot_words::Keeps;
+use std::alloc::{AllocError, Global};
 
 pub(crate) const THREADS: usize = 3;
 
 // At this moment no release is fair, unless it is asked to be.
 pub(crate) const EARLY: Moment = Moment { now: 0, word: 7 };
 
-// A lot for the condition 1.
-pub(crate) fn open<N: WaitName + Send>(
-    rt: &impl Abort,
-    alloc: Global,
-    scheme: CondScheme<N>,
-    root: CondKeyRoot<N>,
-) -> ParkingLot<TwoTables<N>>
-    requires keys { (N.locks ≡ 1) × (N.conds ≡ 1) }
-    requires root { IsIdleRoot 1 root }
-    ensures sizes { (result.threads ≡ THREADS) × (result.keys ≡ 2) }
-    ensures words { result.scheme ≡ scheme }
+// What a lock guards.
+#[derive(Drop)]
+pub(crate) struct Nothing;
+
+impl Keeps for Nothing {
+    type Part = ();
+
+    ghost keeps = { λ k x. Unit {0} };
+
+    ghost grows = { λ x y. Unit {0} };
+
+    ghost part = { λ t x. tt };
+
+    ghost grows_itself = { λ x. tt };
+
+    ghost grows_on = { λ x y z p q. tt };
+}
+
+pub(crate) type OneTable<N> = LotScheme<Nothing, N>;
+
+pub(crate) type Right<N> = NamedPass<Nothing, N>;
+
+pub(crate) type Words = LotWords<Nothing>;
+
+pub(crate) type Passes = Vec<LotPass<Nothing>>;
+
+pub(crate) type Roots = Vec<LotRoot<Nothing>>;
+
+// So many of what the locks guard.
+fn nothings(alloc: Global, count: usize) -> Result<Vec<Nothing>, AllocError>
+    ensures { IfOk result (λ values. vec_len values ≡ count) }
 {
-    let mut roots = room_for(rt, alloc, 2);
-    roots.push_reserved(EitherRoot::of_lock());
-    roots.push_reserved(EitherRoot::of_condition(root));
-    match ParkingLot::open(alloc, THREADS, roots, TwoTables { conds: scheme }) {
-        Ok((lot, room)) => {
-            room.destroy_empty();
-            lot
-        }
-        Err(_refused) => failed(rt, "no memory"),
+    let mut values = Vec::new(alloc);
+    for _ in 0..count {
+        values.push(Nothing)?;
+    }
+    Ok(values)
+}
+
+/// Opens the words of a lot of so many locks and conditions.
+pub(crate) fn open_words(
+    alloc: Global,
+    locks: usize,
+    conds: usize,
+) -> Result<(Words, Passes, Roots), WordsFault>
+    requires { (0 < locks) × (locks + conds ≤ 3) }
+    ensures size { IfOk result (λ r. r.0.size ≡ size_of locks conds) }
+    ensures passes { IfOk result (λ r. AreDealt r.0.table locks conds r.1.items) }
+    ensures roots { IfOk result (λ r. AreFreshRoots r.0.table locks conds r.2.items) }
+{
+    let Ok(values) = nothings(alloc, locks) else {
+        return Err(WordsFault::NoMemory);
+    };
+    match LotWords::open(alloc, THREADS, values, conds, Vec::new(alloc)) {
+        Ok(opened) => Ok(opened),
+        Err((fault, _values)) => Err(fault),
     }
 }
 
-// Takes the root of the condition from those that the lot gave back.
-pub(crate) fn condition_of<N: WaitName + Send>(
-    rt: &impl Abort,
-    mut roots: Vec<EitherRoot<N>>,
-) -> CondKeyRoot<N>
-    requires count { vec_len roots ≡ 2 }
-    requires keys { (N.locks ≡ 1) × (N.conds ≡ 1) }
-    ensures { result.root.key ≡ 1 }
+/// The passes of the three threads under the lot's name.
+pub(crate) fn deal<N: LotName<Nothing>>(passes: &mut Passes) -> (Right<N>, Right<N>, Right<N>)
+    requires { AreDealt N.opening.locks N.locks N.conds passes.old.items }
+    ensures fresh { IsFresh (N.locks + N.conds) 0 result.0 × IsFresh (N.locks + N.conds) 1 result.1
+        × IsFresh (N.locks + N.conds) 2 result.2 }
+    ensures room { (vec_len passes.new ≡ 0) × (3 ≤ vec_capacity passes.new) }
 {
-    let EitherRoot { cond: last } = roots.take_last();
-    let EitherRoot { cond: first } = roots.take_last();
-    roots.destroy_empty();
-    if let Some(root) = first {
-        let _root = root.into_root();
-    }
-    match last {
-        Some(root) => CondKeyRoot::new(root.into_root()),
-        None => failed(rt, "no root of the condition"),
-    }
+    let two = NamedPass::new(passes.take_last());
+    let one = NamedPass::new(passes.take_last());
+    let zero = NamedPass::new(passes.take_last());
+    (zero, one, two)
+}
+
+/// They come back.
+pub(crate) fn gather<N: LotName<Nothing>>(
+    passes: &mut Passes,
+    zero: Right<N>,
+    one: Right<N>,
+    two: Right<N>,
+)
+    requires room { (vec_len passes.old ≡ 0) × (3 ≤ vec_capacity passes.old) }
+    requires calm { IsCalm 0 zero × IsCalm 1 one × IsCalm 2 two }
+    ensures { AreBack N.opening.locks passes.new.items }
+{
+    passes.push_reserved(zero.into_pass());
+    passes.push_reserved(one.into_pass());
+    passes.push_reserved(two.into_pass());
+}
+
+/// The roots of the two locks and of the condition under the lot's name.
+pub(crate) fn name_roots<N: LotName<Nothing>>(
+    alloc: Global,
+    roots: &mut Roots,
+) -> Result<Vec<NamedRoot<Nothing, N>>, AllocError>
+    requires keys { (N.locks ≡ 2) × (N.conds ≡ 1) × (N.low ≡ 3) }
+    requires fresh { AreFreshRoots N.opening.locks 2 1 roots.old.items }
+    ensures idle { IfOk result (λ named. (vec_len named ≡ 3) × AreIdle root_view named.items) }
+    ensures room { IfOk result (λ _. (vec_len roots.new ≡ 0) × (3 ≤ vec_capacity roots.new)) }
+{
+    let mut named = Vec::with_capacity(alloc, 3)?;
+    let cond = roots.take_last();
+    let second = roots.take_last();
+    let first = roots.take_last();
+    named.push_reserved(NamedRoot::new(first));
+    named.push_reserved(NamedRoot::new(second));
+    named.push_reserved(NamedRoot::new(cond));
+    Ok(named)
+}
+
+/// They come back.
+pub(crate) fn unname_roots<N: LotName<Nothing>>(
+    roots: &mut Roots,
+    mut named: Vec<NamedRoot<Nothing, N>>,
+)
+    requires room { (vec_len roots.old ≡ 0) × (3 ≤ vec_capacity roots.old) }
+    requires named { Appends root_view 3 [] named.items }
+    ensures { AreRootsBack N.opening.locks 3 roots.new.items }
+{
+    let cond = named.take_last();
+    let second = named.take_last();
+    let first = named.take_last();
+    named.destroy_empty();
+    roots.push_reserved(first.into_root());
+    roots.push_reserved(second.into_root());
+    roots.push_reserved(cond.into_root());
+}
+
+/// Ends the words, whose rights are back, and counts the values that they give back.
+pub(crate) fn close_words<N: LotName<Nothing>>(words: Words, passes: Passes, roots: Roots) -> usize
+    requires named { words.table ≡ N.opening.locks }
+    requires size { words.size ≡ size_of N.locks N.conds }
+    requires passes { AreBack N.opening.locks passes.items }
+    requires roots { AreRootsBack N.opening.locks (N.locks + N.conds) roots.items }
+{
+    words.close(passes, roots).len()
 }

@@ -4,15 +4,17 @@ ghost use Rattle.std.specs.Prelude.{◌≡◌, ◌≤◌};
 use super::letters::{Letters, Pass, THREADS, no_letters};
 use super::rights::{Right, idle_rights};
 use crate::asserts::{equal, failed, is_so, room_for};
-use lot_park::parts::Whole;
 use lot_park::{AtOnce, ParkingLot, Seeking, Sought, Token, get_or_park};
 use std::alloc::Global;
 use std::process::Abort;
 use std::sync::Wait;
 use std::test::*;
 
+// What is sought. It has no value.
+struct Prizes;
+
 // Nothing is ever left until the thread lines up: then it gets it.
-impl Sought for Letters {
+impl Sought<Prizes> for Letters {
     ghost use Rattle.std.specs.Prelude.{◌≡◌};
 
     ghost has = { λ s key. Unit {0} };
@@ -55,10 +57,9 @@ fn tries<R: Wait + Abort>(rt: &R, alloc: Global, about: usize) -> u64
     if about > 0 {
         is_so(rt, lot.ensure(rt, about).is_ok(), "memory");
     }
-    let _pass = get_or_park::<Letters, Letters, Whole, R, AtOnce>(
+    let _pass = get_or_park::<Letters, Prizes, R, AtOnce>(
         rt,
         &lot,
-        lot.scheme(),
         Pass { thread: 0 },
         0,
         Seeking::Waits,

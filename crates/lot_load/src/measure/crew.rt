@@ -11,7 +11,8 @@ use super::rounds::{count, share, wait};
 use super::summary::{Done, Summary};
 use super::times::Times;
 use super::value::Number;
-use crate::workers::{close, start};
+use crate::workers::start;
+use lot_calls::finish;
 use lot_command::Failure;
 use lot_sync::{Lot, LotName, Opened, Pass};
 use std::alloc::Global;
@@ -49,7 +50,7 @@ fn run_on<N: LotName<Number> + Send + Sync, T: Threads + Wait + Clock + Sync>(
         Err(failure) => return Err(failure),
     };
     let done = work_all(rt, alloc, plan, &lot);
-    let (values, _) = close(rt, lot, passes, plan.threads);
+    let (values, _) = finish(rt, lot, passes);
     let mut summary = Summary::new(alloc, done?, begin, now(rt))?;
     for number in values.iter() {
         summary.sum = summary.sum.wrapping_add(number.n);

@@ -43,3 +43,8 @@ returns-clause-finished g c =
       goes_on = c.close.ensures.values;
       ledger = rw inv.same at c.close.ensures.ledger;
     }
+
+pub returns-clause-history : goal.returns-clause-history
+unfolding returns-clause-finished
+returns-clause-history g c =
+    (c.loop-thread.passes.items, (returns-clause-finished g c).count, c.close.ensures.history)

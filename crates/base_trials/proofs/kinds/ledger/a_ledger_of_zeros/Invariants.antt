@@ -1,7 +1,8 @@
+use Rattle.std.proofs.Common.{[]}
 use Rattle.base_trials.proofs.kinds.ledger.a_ledger_of_zeros.Given as goal
 
 abbrev pub ghosts-settled_unused-N-Name : goal.ghosts-settled_unused-N-Name
-ghosts-settled_unused-N-Name g a = record { opening = record { locks = a.opened.table; conds = a.opened.table; sems = a.opened.table } }
+ghosts-settled_unused-N-Name g a = record { opening = record { locks = a.words.table; conds = a.words.table; sems = a.words.table } }
 
-abbrev pub ghosts-settled_unused-N-WaitName : goal.ghosts-settled_unused-N-WaitName
-ghosts-settled_unused-N-WaitName g a = record { locks = a.opened.locks; conds = a.opened.conds }
+abbrev pub ghosts-settled_unused-N-LotName : goal.ghosts-settled_unused-N-LotName
+ghosts-settled_unused-N-LotName g a = record { low = 3; permits = []; locks = 1; conds = 2; threads = 3; values = [] }

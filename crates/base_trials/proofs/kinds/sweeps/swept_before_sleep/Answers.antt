@@ -1,20 +1,72 @@
-use Rattle.std.proofs.Common.{◌≡◌, refl, ap, sym, subst, ◌∙◌}
-use Rattle.lot_waits.specs.Rights.{CondStanding, enlisting, waking}
-use Rattle.lot_waits.proofs.Waited.{parked}
-use Rattle.base_trials.specs.Sweeps.{IsAtRest}
-use Rattle.base_trials.proofs.Sweeps.{when_woken}
+use Rattle.std.proofs.Common.{inl, arith}
+use Rattle.base_trials.proofs.Calm.{may_take, may_wait, may_free, owner_has_it, slept_takes, slept_thread, slept_has_it, lowered_may}
+use Rattle.base_trials.proofs.Calm.{swept_calm, went}
 use Rattle.base_trials.proofs.kinds.sweeps.swept_before_sleep.Goals as goal
+
+pub get-owner-requires-clause-may : goal.get-owner-requires-clause-may
+get-owner-requires-clause-may g c κs within = may_take 0 0 c.args.zero (inl c.requires.calm.0)
+
+pub sleep_swept-slept-requires-clause-may : goal.sleep_swept-slept-requires-clause-may
+sleep_swept-slept-requires-clause-may g c κs within =
+    let two = c.requires.small.0 in
+    let three = c.requires.small.2 in
+    may_wait g.N.LotName.locks g.N.LotName.low 0 2 0 c.get-owner.result (omega (arith, two)) (omega (arith, three)) (omega (arith, two))
+    (owner_has_it _ 0 0 c.args.zero c.get-owner.result (inl c.requires.calm.0) c.get-owner.ensures)
+
+pub sleep_swept-slept-requires-clause-lowered : goal.sleep_swept-slept-requires-clause-lowered
+sleep_swept-slept-requires-clause-lowered g c κs within =
+    let two = c.requires.small.0 in
+    let three = c.requires.small.2 in (
+      (omega (arith, two), omega (arith, three)),
+      lowered_may 1 2 c.args.one c.lower-lowered.result _ c.requires.calm.1
+          c.lower-lowered.ensures,
+    )
+
+pub get-again-requires-clause-thread : goal.get-again-requires-clause-thread
+get-again-requires-clause-thread g c κs within =
+    let two = c.requires.small.0 in
+    let three = c.requires.small.2 in
+    let locks = g.N.LotName.locks in
+    let low = g.N.LotName.low in
+    let has = owner_has_it _ 0 0 c.args.zero c.get-owner.result (inl c.requires.calm.0) c.get-owner.ensures in
+    let may = may_wait locks low 0 2 0 c.get-owner.result (omega (arith, two)) (omega (arith, three)) (omega (arith, two)) has in
+    let same = slept_thread _ locks low 2 0 _ c.get-owner.result c.sleep_swept-slept.result.0 may c.sleep_swept-slept.ensures.slept.1 in
+    let zero = has.there.thread in
+    let threads = c.requires.sizes.0 in
+    omega (arith, same, zero, threads)
+
+pub get-again-requires-clause-may : goal.get-again-requires-clause-may
+get-again-requires-clause-may g c κs within =
+    let two = c.requires.small.0 in
+    let three = c.requires.small.2 in
+    let locks = g.N.LotName.locks in
+    let low = g.N.LotName.low in
+    let has = owner_has_it _ 0 0 c.args.zero c.get-owner.result (inl c.requires.calm.0) c.get-owner.ensures in
+    let may = may_wait locks low 0 2 0 c.get-owner.result (omega (arith, two)) (omega (arith, three)) (omega (arith, two)) has in
+    slept_takes _ locks low 2 0 _ c.get-owner.result c.sleep_swept-slept.result.0 may c.sleep_swept-slept.ensures.slept.1
+
+pub let_go-zero-requires-clause-may : goal.let_go-zero-requires-clause-may
+let_go-zero-requires-clause-may g c κs within =
+    let two = c.requires.small.0 in
+    let three = c.requires.small.2 in
+    let locks = g.N.LotName.locks in
+    let low = g.N.LotName.low in
+    let has = owner_has_it _ 0 0 c.args.zero c.get-owner.result (inl c.requires.calm.0) c.get-owner.ensures in
+    let may = may_wait locks low 0 2 0 c.get-owner.result (omega (arith, two)) (omega (arith, three)) (omega (arith, two)) has in
+    may_free 0 0 c.get-again.result (slept_has_it _ locks low 0 2 0 _ c.get-owner.result c.sleep_swept-slept.result.0 c.get-again.result
+    has may c.sleep_swept-slept.ensures.slept.1 c.get-again.ensures)
 
 pub returns : goal.returns
 returns g c =
-    let e = c.park_on-zero.ensures in
-    let how = c.park_on-zero.result.2 in
-    let (same, (queued, (root, says))) = e.called in
-    let woke : c.park_on-zero.result.0 ≡ waking c.args.zero 1 =
-    parked _ _ how c.args.zero e.answer.1 c.park_on-zero.result.0 1 e.answer.3 says (queued ∙ ap (λ k. enlisting c.args.zero k) e.named) e.ends in
-    let acted = when_woken _ _ how _ c.parked_is.ensures e.ends in
-    let thread : e.answer.0.thread ≡ 1 =
-    ap (λ (p : CondStanding). p.thread) same ∙ (ap (λ (p : CondStanding). p.thread) c.lower-one.ensures ∙ c.requires.rest.1.0) in (
-      subst (IsAtRest 0) (sym woke) (c.requires.rest.0.0, (refl, c.requires.rest.0.1.1)),
-      subst (λ t. IsAtRest t c.park_on-zero.result.1) thread acted.2,
+    let two = c.requires.small.0 in
+    let three = c.requires.small.2 in
+    let locks = g.N.LotName.locks in
+    let low = g.N.LotName.low in
+    let has = owner_has_it _ 0 0 c.args.zero c.get-owner.result (inl c.requires.calm.0) c.get-owner.ensures in
+    let may = may_wait locks low 0 2 0 c.get-owner.result (omega (arith, two)) (omega (arith, three)) (omega (arith, two)) has in
+    let again = slept_has_it _ locks low 0 2 0 _ c.get-owner.result c.sleep_swept-slept.result.0 c.get-again.result has may
+    c.sleep_swept-slept.ensures.slept.1 c.get-again.ensures in (
+      went 0 0 _ c.get-again.result c.let_go-zero.result.0 again c.let_go-zero.ensures.went,
+      swept_calm 1 2 1 c.args.one c.lower-lowered.result c.sleep_swept-slept.result.1 _ _ c.requires.calm.1 c.lower-lowered.ensures
+          c.sleep_swept-slept.ensures.swept,
     )

@@ -1,7 +1,35 @@
-use Rattle.lot_sync.proofs.Beside.{called_one}
+use Rattle.std.proofs.Common.{◌≡◌, ◌+◌, ◌<◌, ◌≤◌, sym, subst, ap, ◌∙◌, arith}
+use Rattle.lot_waits.specs.Counts.{AreKept, counts_in, took}
+use Rattle.lot_waits.specs.Notifying.{Notifies, one_if}
+use Rattle.lot_sync.proofs.Calls.{TookMore, took_some, rests_called, sees_called_one}
 use Rattle.lot_sync.proofs.lot.Lot.notify_one.Goals as goal
+
+pub at_rest-requires-clause-rest : goal.at_rest-requires-clause-rest
+at_rest-requires-clause-rest g c κs within =
+    rests_called _ _ c.apart-right.result.0 c.notify_one-right.result.0 c.args.cond (one_if c.notify_one-right.result.1)
+    (took_some c.apart-right.result.0 c.notify_one-right.result.0 c.args.cond 1 (one_if c.notify_one-right.result.1) c.notify_one-right.ensures.pass)
+    c.apart-right.ensures.rest
+
+pub at_rest-requires-clause-kept : goal.at_rest-requires-clause-kept
+at_rest-requires-clause-kept g c κs within =
+    let own = c.self.invariant.own_locks in
+    let locks = c.parking.ensures.keys.0 in
+    let conds = c.parking.ensures.keys.1 in
+    let from = c.requires.cond.0 in
+    let below = c.requires.cond.1 in
+    let n = one_if c.notify_one-right.result.1 in
+    let told = took_some c.apart-right.result.0 c.notify_one-right.result.0 c.args.cond 1 n c.notify_one-right.ensures.pass in
+    subst (λ q. AreKept g.N.LotName.locks g.N.LotName.conds q c.count_taken-tallies.result.value.called.items c.count_taken-tallies.result.value.woken.items)
+    (sym (ap counts_in told.is))
+    (subst (λ k. AreKept g.N.LotName.locks g.N.LotName.conds (took (counts_in c.apart-right.result.0) c.args.cond k) c.count_taken-tallies.result.value.called.items
+    c.count_taken-tallies.result.value.woken.items) c.number_of.ensures
+    (subst (λ m. AreKept m g.N.LotName.conds (took (counts_in c.apart-right.result.0) c.args.cond c.number_of.result) c.count_taken-tallies.result.value.called.items
+    c.count_taken-tallies.result.value.woken.items) own
+    (c.count_taken-tallies.ensures g.N.LotName.conds (counts_in c.apart-right.result.0) (omega (arith, own, locks, from), omega (arith, own, locks, below, conds))
+    (subst (λ m. AreKept m g.N.LotName.conds (counts_in c.apart-right.result.0) c.apart-right.result.1.value.called.items c.apart-right.result.1.value.woken.items) (sym own)
+    c.apart-right.ensures.kept))))
 
 pub returns-clause-counted : goal.returns-clause-counted
 returns-clause-counted g c =
-    called_one c.args.pass c.apart-right.result.0 c.apart-right.result.1 c.apart-waiter.result.0 c.apart-waiter.result.1 c.apart-right.ensures.same c.apart-waiter.ensures.same
-    c.at_rest.result c.new.result c.notify_one-waiter.result.0 c.at_rest.ensures.pass c.new.ensures c.args.cond c.notify_one-waiter.result.1 c.notify_one-waiter.ensures.waiter
+    sees_called_one c.apart-right.result.0 c.notify_one-right.result.0 c.at_rest.result c.args.pass c.args.cond c.notify_one-right.result.1
+    c.apart-right.ensures.same c.at_rest.ensures.pass c.notify_one-right.ensures.pass

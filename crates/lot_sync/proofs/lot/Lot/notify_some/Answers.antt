@@ -1,7 +1,33 @@
-use Rattle.lot_sync.proofs.Beside.{called_more}
+use Rattle.std.proofs.Common.{◌≡◌, ◌+◌, ◌<◌, ◌≤◌, sym, subst, ap, ◌∙◌, arith}
+use Rattle.lot_waits.specs.Counts.{AreKept, counts_in, took}
+use Rattle.lot_sync.specs.Lot.{PassView, calling}
+use Rattle.lot_sync.proofs.Calls.{TookMore, took_some, rests_called, sees_called}
 use Rattle.lot_sync.proofs.lot.Lot.notify_some.Goals as goal
+
+pub at_rest-requires-clause-rest : goal.at_rest-requires-clause-rest
+at_rest-requires-clause-rest g c κs within =
+    rests_called _ _ c.apart-right.result.0 c.notify_some-right.result.0 c.args.cond c.notify_some-right.result.1
+    (took_some c.apart-right.result.0 c.notify_some-right.result.0 c.args.cond c.args.count c.notify_some-right.result.1 c.notify_some-right.ensures.pass)
+    c.apart-right.ensures.rest
+
+pub at_rest-requires-clause-kept : goal.at_rest-requires-clause-kept
+at_rest-requires-clause-kept g c κs within =
+    let own = c.self.invariant.own_locks in
+    let locks = c.parking.ensures.keys.0 in
+    let conds = c.parking.ensures.keys.1 in
+    let from = c.requires.cond.0 in
+    let below = c.requires.cond.1 in
+    let told = took_some c.apart-right.result.0 c.notify_some-right.result.0 c.args.cond c.args.count c.notify_some-right.result.1 c.notify_some-right.ensures.pass in
+    subst (λ n. AreKept g.N.LotName.locks g.N.LotName.conds n c.count_taken-tallies.result.value.called.items c.count_taken-tallies.result.value.woken.items)
+    (sym (ap counts_in told.is))
+    (subst (λ n. AreKept n g.N.LotName.conds (took (counts_in c.apart-right.result.0) c.args.cond c.notify_some-right.result.1) c.count_taken-tallies.result.value.called.items c.count_taken-tallies.result.value.woken.items) own
+    (c.count_taken-tallies.ensures g.N.LotName.conds (counts_in c.apart-right.result.0) (omega (arith, own, locks, from), omega (arith, own, locks, below, conds))
+    (subst (λ n. AreKept n g.N.LotName.conds (counts_in c.apart-right.result.0) c.apart-right.result.1.value.called.items c.apart-right.result.1.value.woken.items) (sym own)
+    c.apart-right.ensures.kept)))
 
 pub returns-clause-counted : goal.returns-clause-counted
 returns-clause-counted g c =
-    called_more c.args.pass c.apart-right.result.0 c.apart-right.result.1 c.apart-waiter.result.0 c.apart-waiter.result.1 c.apart-right.ensures.same c.apart-waiter.ensures.same
-    c.at_rest.result c.new.result c.notify_some-waiter.result.0 c.at_rest.ensures.pass c.new.ensures c.args.cond c.notify_some-waiter.result.1 c.notify_some-waiter.ensures.waiter
+    c.at_rest.ensures.pass
+    ∙ (sees_called c.apart-right.result.0 c.notify_some-right.result.0 c.args.cond c.notify_some-right.result.1
+    (took_some c.apart-right.result.0 c.notify_some-right.result.0 c.args.cond c.args.count c.notify_some-right.result.1 c.notify_some-right.ensures.pass)
+    ∙ ap (λ (v : PassView g.row.V.Denot). calling v c.args.cond c.notify_some-right.result.1) (sym c.apart-right.ensures.same))

@@ -1,24 +1,31 @@
-use Rattle.std.proofs.Common.{rules, ◌<◌, subst}
-use Rattle.lot_sync.proofs.Rests.{owns_newly, gets_all, gets_as, own_on}
+use Rattle.std.proofs.Common.{◌≡◌, ◌<◌, true, false, sym, subst, ◌∙◌, arith}
+use Rattle.lot_sync.specs.Values.{Gets}
+use Rattle.lot_sync.proofs.Rests.{owns_newly, gets_all, rests_on, sees_stays}
+use Rattle.lot_sync.proofs.Stays.{tried_stays}
 use Rattle.lot_sync.proofs.lot.Lot.try_lock.Goals as goal
 
 pub taken-pass-requires-clause-owner : goal.taken-pass-requires-clause-owner
 taken-pass-requires-clause-owner g c κs within =
-    owns_newly g.V.Keeps g.N.LotName.values g.N.LotName.threads _ _ c.args.key
-    (subst (λ n. c.args.key < n) c.lock_scheme.ensures.locks.1 c.requires.key) c.apart-right.ensures.rest (rw c.if-got.true at c.try_take-right.ensures)
+    let same = c.parking.ensures.keys.0 in
+    let near = c.requires.key in
+    owns_newly g.V.Keeps _ _ c.apart-right.result.0 c.try_get-right.result.0 c.args.key (omega (arith, same, near)) c.apart-right.ensures.rest (rw c.if-got.true at c.try_get-right.ensures)
 
 pub returns-then-got-clause-gets : goal.returns-then-got-clause-gets
 returns-then-got-clause-gets g c =
-    gets_as g.V.Keeps _ _ _ _ c.args.key _ c.apart-right.ensures.same c.taken-pass.ensures.pass
-    (gets_all g.V.Keeps c.apart-right.result.1 g.N.LotName.values g.N.LotName.threads _ _ c.taken-pass.result.1 c.args.key
-    (subst (λ n. c.args.key < n) c.lock_scheme.ensures.locks.1 c.requires.key) c.apart-right.ensures.rest (rw c.if-got.true at c.try_take-right.ensures)
-    c.taken-pass.ensures.held.0 c.taken-pass.ensures.held.1)
-
-pub taken-pass-requires-clause-own : goal.taken-pass-requires-clause-own
-taken-pass-requires-clause-own g c κs within = own_on _ _ c.apart-right.result.1 (rw c.if-got.true at c.try_take-right.ensures).thread c.apart-right.ensures.own
+    let same = c.parking.ensures.keys.0 in
+    let near = c.requires.key in
+    subst (λ p. Gets g.V.Keeps p c.args.key c.taken-pass.result.1 c.taken-pass.result.0) (sym c.apart-right.ensures.same)
+    (gets_all g.V.Keeps _ _ c.apart-right.result.0 c.try_get-right.result.0 c.taken-pass.result.1 c.args.key (omega (arith, same, near)) c.apart-right.ensures.rest
+    (rw c.if-got.true at c.try_get-right.ensures) (tried_stays c.apart-right.result.0.thread c.args.key true) c.taken-pass.ensures.held.0 c.taken-pass.ensures.held.1 c.taken-pass.result.0
+    c.taken-pass.ensures.pass)
 
 pub at_rest-requires-clause-rest : goal.at_rest-requires-clause-rest
-at_rest-requires-clause-rest g c = search rules
+at_rest-requires-clause-rest g c κs within =
+    let missed = rw c.if-got.false at c.try_get-right.ensures in
+    rests_on _ _ c.apart-right.result.0 c.try_get-right.result.0 missed.0 missed.2 c.apart-right.ensures.rest
 
 pub returns-else-got-clause-gets : goal.returns-else-got-clause-gets
-returns-else-got-clause-gets g c = search rules
+returns-else-got-clause-gets g c =
+    let missed = rw c.if-got.false at c.try_get-right.ensures in
+    let stays = tried_stays c.apart-right.result.0.thread c.args.key false missed.0 missed.1 in
+    c.at_rest.ensures.pass ∙ (sees_stays c.apart-right.result.0 c.try_get-right.result.0 missed.0 missed.2 stays.0 stays.1 ∙ sym c.apart-right.ensures.same)

@@ -1,31 +1,31 @@
-use Rattle.std.proofs.Common.{◌≡◌, subst, sym, ap, ◌∙◌}
-use Rattle.lot_sync.specs.Lot.{leaving}
-use Rattle.lot_locks.specs.declared.released.Released.TheVariants.{Quiet}
+use Rattle.std.proofs.Common.{◌≡◌, true, false, subst, sym, ap, ◌∙◌}
 use mathlib.Core.Option.{some}
 use lib.ListN.{get_elem?}
-use Rattle.lot_words.specs.declared.views.Place.TheVariants.{InSlot}
-use Rattle.lot_locks.specs.Standing.{Standing}
+use Rattle.lot_words.specs.Values.{IsIn}
+use Rattle.lot_scheme.specs.Standing.{LotStanding}
+use Rattle.lot_locks.specs.declared.released.Released.TheVariants.{Quiet}
+use Rattle.lot_sync.specs.Lot.{leaving}
 use Rattle.lot_sync.proofs.Holdings.{sees_left}
-use Rattle.lot_sync.proofs.Rests.{rests_free, rests_parked, leaves_all, stays_all, one_lies, own_on}
+use Rattle.lot_sync.proofs.Rests.{rests_free, rests_parked, leaves_all, stays_all, one_lies}
 use Rattle.lot_sync.proofs.lot.Lot.unlock_unparked.Goals as goal
 
 pub at_rest-requires-clause-rest : goal.at_rest-requires-clause-rest
 at_rest-requires-clause-rest g c κs within =
     let b = c.given_back-right.ensures in
-    rests_free g.V.Keeps.grows g.N.LotName.values g.N.LotName.threads g.V.Keeps.grows_on c.given_back-right.result.0 c.free_unparked-right.result.0 c.key-key.result c.args.held.value
-    Quiet b.locks b.owner b.lies b.grown (rw c.if-freed.true at c.free_unparked-right.ensures)
+    rests_free _ _ g.V.Keeps.grows_on c.given_back-right.result.0 c.free_unparked-right.result.0 c.key-key.result c.args.held.value Quiet
+    b.locks b.owner b.lies b.grown (rw c.if-freed.true at c.free_unparked-right.ensures)
 
 pub at_rest-requires-else-freed-clause-rest : goal.at_rest-requires-else-freed-clause-rest
 at_rest-requires-else-freed-clause-rest g c κs within =
     let b = c.given_back-right.ensures in
-    rests_parked g.V.Keeps.grows g.N.LotName.values g.N.LotName.threads c.given_back-right.result.0 c.free_unparked-right.result.0 c.value_out-right.result.0 c.key-key.result
+    rests_parked _ _ c.given_back-right.result.0 c.free_unparked-right.result.0 c.value_out-right.result.0 c.key-key.result
     b.locks b.owner (rw c.if-freed.false at c.free_unparked-right.ensures) c.value_out-right.ensures.out
 
 pub returns-then-freed-clause-freed : goal.returns-then-freed-clause-freed
 returns-then-freed-clause-freed g c =
     let b = c.given_back-right.ensures in
-    c.at_rest.ensures.pass ∙ (leaves_all c.given_back-right.result.1 c.given_back-right.result.0 c.free_unparked-right.result.0 c.key-key.result c.args.held.value Quiet b.lies
-    (rw c.if-freed.true at c.free_unparked-right.ensures)
+    c.at_rest.ensures.pass
+    ∙ (leaves_all c.given_back-right.result.0 c.free_unparked-right.result.0 c.key-key.result c.args.held.value Quiet b.lies (rw c.if-freed.true at c.free_unparked-right.ensures)
     ∙ (ap (λ p. leaving p c.key-key.result c.args.held.value Quiet) b.same ∙ ap (λ k. leaving c.args.pass k c.args.held.value Quiet) c.key-key.ensures))
 
 pub returns-else-freed-clause-freed : goal.returns-else-freed-clause-freed
@@ -33,20 +33,13 @@ returns-else-freed-clause-freed g c =
     let b = c.given_back-right.ensures in
     let parked = rw c.if-freed.false at c.free_unparked-right.ensures in
     let same : c.value_out-right.result.1 ≡ c.args.held.value =
-    one_lies c.free_unparked-right.result.0.own.places c.key-key.result c.value_out-right.result.1 c.args.held.value c.value_out-right.ensures.value
-    (subst (λ ps. get_elem? ps c.key-key.result ≡ some (InSlot c.args.held.value)) (sym parked.places) b.lies) in (
+    one_lies c.free_unparked-right.result.0.own.locks.places c.key-key.result c.value_out-right.result.1 c.args.held.value c.value_out-right.ensures.value
+    (subst (λ (r : LotStanding g.row.V.Denot). IsIn r.own.locks c.key-key.result c.args.held.value) (sym parked) b.lies) in (
       (λ i. record { key = (c.new.ensures.key ∙ c.key-key.ensures) i; value = (c.new.ensures.value ∙ same) i }),
-      c.at_rest-else-freed.ensures.pass ∙ (stays_all c.given_back-right.result.1 c.given_back-right.result.0 c.free_unparked-right.result.0 c.value_out-right.result.0 c.key-key.result
-          b.owner.holds parked c.value_out-right.ensures.out ∙ b.same),
+      c.at_rest-else-freed.ensures.pass
+          ∙ (stays_all c.given_back-right.result.0 c.free_unparked-right.result.0 c.value_out-right.result.0 c.key-key.result b.owner.holds parked c.value_out-right.ensures.out ∙ b.same),
     )
 
-pub at_rest-requires-clause-own : goal.at_rest-requires-clause-own
-at_rest-requires-clause-own g c κs within = own_on _ _ c.given_back-right.result.1 (rw c.if-freed.true at c.free_unparked-right.ensures).thread c.given_back-right.ensures.own
-
-pub at_rest-requires-else-freed-clause-own : goal.at_rest-requires-else-freed-clause-own
-at_rest-requires-else-freed-clause-own g c κs within =
-    own_on _ _ c.given_back-right.result.1 (ap (λ (r : Standing g.row.V.Denot). r.thread) c.value_out-right.ensures.out ∙ (rw c.if-freed.false at c.free_unparked-right.ensures).thread)
-    c.given_back-right.ensures.own
-
 pub returns-then-freed-clause-seen : goal.returns-then-freed-clause-seen
-returns-then-freed-clause-seen g c = sees_left _ c.args.pass c.at_rest.result c.args.held.key c.args.held.value Quiet c.requires.key c.at_rest.ensures.wide (returns-then-freed-clause-freed g c)
+returns-then-freed-clause-seen g c =
+    sees_left _ c.args.pass c.at_rest.result c.args.held.key c.args.held.value Quiet c.requires.key c.at_rest.ensures.wide (returns-then-freed-clause-freed g c)

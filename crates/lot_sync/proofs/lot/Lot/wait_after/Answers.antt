@@ -1,37 +1,40 @@
-use Rattle.std.proofs.Common.{◌≡◌, true, false, set, get_or, subst, sym, ap, ◌∙◌, refl}
-use Rattle.lot_sync.specs.Lot.{PassView, Owns}
+use Rattle.std.proofs.Common.{◌≡◌, ◌+◌, ◌<◌, ◌≤◌, sym, subst, ap, ◌∙◌, arith}
+use Rattle.lot_core.specs.Parts.{IsAmongConds}
+use Rattle.lot_waits.specs.Counts.{AreKept, counts_in, woke}
+use Rattle.lot_sync.specs.Lot.{leaving, waking}
+use Rattle.lot_sync.specs.Passes.{sees}
 use Rattle.lot_sync.specs.Values.{Gets}
-use Rattle.lot_passes.specs.Passes.{sees}
-use Rattle.lot_sync.proofs.Rests.{rests_free, leaves_woken, gets_as}
-use Rattle.lot_sync.proofs.Holdings.{let_go_of, not_both}
+use Rattle.lot_sync.proofs.Calls.{owns_waited, gets_waited}
 use Rattle.lot_sync.proofs.lot.Lot.wait_after.Goals as goal
 
-pub at_rest-pass-requires-clause-rest : goal.at_rest-pass-requires-clause-rest
-at_rest-pass-requires-clause-rest g c κs within =
+pub taken-requires-clause-owner : goal.taken-requires-clause-owner
+taken-requires-clause-owner g c κs within =
     let b = c.given_back-right.ensures in
-    rests_free g.V.Keeps.grows g.N.LotName.values g.N.LotName.threads g.V.Keeps.grows_on c.given_back-right.result.0 c.sleep_on-waiter.result.1 c.key-key.result c.args.held.value
-    c.sleep_on-waiter.ensures.went.0 b.locks b.owner b.lies b.grown c.sleep_on-waiter.ensures.went.2
+    owns_waited g.V.Keeps _ c.given_back-right.result.0 c.wait-right.result.0 c.args.cond c.key-key.result c.args.held.value c.wait-right.result.1
+    b.locks b.owner b.lies b.grown c.wait-right.ensures.waited
 
-pub lock-requires-clause-free : goal.lock-requires-clause-free
-lock-requires-clause-free g c κs within = λ owned.
-    not_both (get_or (set c.args.pass.owns c.args.held.key false) c.args.held.key false)
-    (subst (λ k. get_or (set c.args.pass.owns c.args.held.key false) k false ≡ true) c.key-key.ensures
-    (subst (λ (p : PassView g.row.V.Denot). Owns p c.key-key.result) (leaves_woken c.args.pass c.at_rest-pass.result c.apart-waiter.result.0 c.sleep_on-waiter.result.0
-    c.apart-waiter.result.1 c.given_back-right.result.0 c.sleep_on-waiter.result.1 c.key-key.result c.args.held.key c.args.cond c.args.held.value
-    c.sleep_on-waiter.ensures.went.0
-    (c.at_rest-pass.ensures.pass ∙ ap (λ k. sees k c.sleep_on-waiter.result.1) c.new.ensures) c.sleep_on-waiter.ensures.woke c.given_back-right.ensures.lies c.sleep_on-waiter.ensures.went.2
-    (ap (λ k. sees k c.given_back-right.result.0) (sym c.apart-waiter.ensures.same) ∙ c.given_back-right.ensures.same) c.key-key.ensures) owned))
-    (let_go_of c.args.pass.owns c.args.held.key)
+pub taken-requires-clause-kept : goal.taken-requires-clause-kept
+taken-requires-clause-kept g c κs within =
+    let own = c.self.invariant.own_locks in
+    let locks = c.parking.ensures.keys.0 in
+    let conds = c.parking.ensures.keys.1 in
+    let from = c.requires.cond.0 in
+    let below = c.requires.cond.1 in
+    subst (λ n. AreKept g.N.LotName.locks g.N.LotName.conds n c.count_wait-tallies.result.value.called.items c.count_wait-tallies.result.value.woken.items)
+    (sym (ap counts_in c.wait-right.ensures.waited.is))
+    (subst (λ n. AreKept n g.N.LotName.conds (woke (counts_in c.given_back-right.result.0) c.args.cond) c.count_wait-tallies.result.value.called.items c.count_wait-tallies.result.value.woken.items) own
+    (c.count_wait-tallies.ensures g.N.LotName.conds (counts_in c.given_back-right.result.0) (omega (arith, own, locks, from), omega (arith, own, locks, below, conds))
+    (subst (λ n. AreKept n g.N.LotName.conds (counts_in c.given_back-right.result.0) c.given_back-right.result.1.value.called.items c.given_back-right.result.1.value.woken.items) (sym own)
+    c.given_back-right.ensures.kept)))
 
 pub returns-clause-gets : goal.returns-clause-gets
-returns-clause-gets g c = (
-  c.sleep_on-waiter.ensures.went.0,
-  c.sleep_on-waiter.ensures.went.1,
-  gets_as g.V.Keeps _ _ _ _ c.args.held.key _
-      (sym (leaves_woken c.args.pass c.at_rest-pass.result c.apart-waiter.result.0 c.sleep_on-waiter.result.0 c.apart-waiter.result.1 c.given_back-right.result.0 c.sleep_on-waiter.result.1
-      c.key-key.result c.args.held.key c.args.cond c.args.held.value
-      c.sleep_on-waiter.ensures.went.0
-      (c.at_rest-pass.ensures.pass ∙ ap (λ k. sees k c.sleep_on-waiter.result.1) c.new.ensures) c.sleep_on-waiter.ensures.woke c.given_back-right.ensures.lies c.sleep_on-waiter.ensures.went.2
-      (ap (λ k. sees k c.given_back-right.result.0) (sym c.apart-waiter.ensures.same) ∙ c.given_back-right.ensures.same) c.key-key.ensures)) refl
-      (subst (λ k. Gets g.V.Keeps c.at_rest-pass.result k c.lock.result.1 c.lock.result.0) c.key-key.ensures c.lock.ensures.gets),
-)
+returns-clause-gets g c =
+    let b = c.given_back-right.ensures in
+    let became = c.wait-right.result.1 in (
+      became,
+      c.wait-right.ensures.fits,
+      subst (λ p. Gets g.V.Keeps (waking (leaving p c.args.held.key c.args.held.value became) c.args.cond) c.args.held.key c.taken.result.1 c.taken.result.0) b.same
+          (subst (λ k. Gets g.V.Keeps (waking (leaving (sees c.given_back-right.result.0) k c.args.held.value became) c.args.cond) k c.taken.result.1 c.taken.result.0) c.key-key.ensures
+          (gets_waited g.V.Keeps _ c.given_back-right.result.0 c.wait-right.result.0 c.taken.result.1 c.args.cond c.key-key.result c.args.held.value became
+          b.locks b.owner b.lies c.wait-right.ensures.waited c.taken.ensures.held.0 c.taken.ensures.held.1 c.taken.result.0 c.taken.ensures.pass)),
+    )

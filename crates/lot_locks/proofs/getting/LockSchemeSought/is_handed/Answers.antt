@@ -1,9 +1,0 @@
-use Rattle.std.proofs.Common.{subst, sym, MatchBool}
-use Rattle.lot_locks.specs.Standing.{IsOwner, IsTryingFor}
-use Rattle.lot_locks.proofs.Waking.{woken_ends}
-use Rattle.lot_locks.proofs.getting.LockSchemeSought.is_handed.Goals as goal
-
-pub returns : goal.returns
-returns g c = λ before asleep now key sleeps found.
-    subst (λ b. MatchBool b (IsOwner g.V.Keeps before key now) (IsTryingFor before key now)) (sym c.eq.ensures)
-    (woken_ends g.V.Keeps before asleep now key c.args.token.0 sleeps found)

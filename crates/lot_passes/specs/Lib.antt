@@ -1,3 +1,0 @@
-pub mod Lot
-pub mod Passes
-pub mod Starting

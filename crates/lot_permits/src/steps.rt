@@ -1,0 +1,85 @@
+//! The steps on a semaphore's word by which a permit is given back. A callback of the parking lot makes one of them,
+//! while its bucket is locked.
+ghost use Rattle.std.specs.Prelude.{◌≡◌, ℕ, [], MatchBool};
+ghost use Rattle.lot_park.specs.Parking.{Tells};
+ghost use Rattle.lot_scheme.specs.SemCalls.{TakesFirst};
+ghost use Rattle.lot_permits.specs.declared.permit.Freed.{Freed};
+ghost use Rattle.lot_permits.specs.declared.permit.Freed.TheVariants.{Quiet};
+
+use crate::permit::Freed;
+use lot_park::{Sought, UnparkResult};
+use lot_scheme::{LotName, LotScheme, NamedPass, NamedRoot};
+use lot_whole::Keeps;
+
+/// Names permits, where a scheme says how its threads seek them.
+pub struct Sems;
+
+/// A callback hands its pass and its root to one of these. Written for every scheme, since the passes and roots of a
+/// kind of table can't be named in a closure's signature.
+pub trait SemSteps: Sought<Sems> {
+    ghost use Rattle.std.specs.Prelude.{ℕ};
+    ghost use Rattle.lot_permits.specs.declared.permit.Freed.{Freed};
+
+    /// The pass has a permit of the key, and may give it back.
+    ghost may_give: { Self.Pass → ℕ → Type 0 };
+
+    /// The pass before, and the pass that has given a permit of the key back, of which this became.
+    ghost gives: { Self.Pass → ℕ → Freed → Self.Pass → Type 0 };
+
+    /// The same, where the permit was given back with the key's bucket locked.
+    ghost passes: { Self.Pass → ℕ → Freed → Self.Pass → Type 0 };
+
+    /// A look and one compare-exchange: the permit is given back where nobody is parked. Else the thread still has it,
+    /// and what is made of it then is made of the pass before.
+    fn free(&self, pass: Self::Pass, key: usize) -> (Self::Pass, bool)
+        requires has { Self.has self.now key }
+        requires may { may_give pass key }
+        ensures { MatchBool result.1 (gives pass key Quiet result.0)
+            (may_give result.0 key × ((became : Freed) (after : Self.Pass)
+            → passes result.0 key became after → gives pass key became after)) };
+
+    /// The callback of a slow release: the permit goes back, and the thread is taken from the line of which the parking
+    /// lot tells. Where nobody was in the line, the parked bit is cleared.
+    fn give_on(
+        &self,
+        pass: Self::Pass,
+        root: Self::Root,
+        told: UnparkResult,
+    ) -> (Self::Pass, Self::Root, Freed)
+        requires may { may_give pass (Self.Root.view root).key }
+        requires clear { (Self.Root.view root).owes ≡ [] }
+        requires told { (now : ℕ) × Tells (Self.Root.view root).line now told }
+        ensures passes { passes pass (Self.Root.view root).key result.2 result.0 }
+        ensures takes { TakesFirst Self.Root.view root told.thread result.1 };
+}
+
+impl<V: Keeps + Send, N: LotName<V> + Send> SemSteps for LotScheme<V, N> {
+    ghost use Rattle.lot_permits.specs.Freed.{MayGiveBack, GivesPermit, PassesPermit};
+
+    ghost may_give = { MayGiveBack N.low };
+
+    ghost gives = { GivesPermit };
+
+    ghost passes = { PassesPermit };
+
+    #[inline(always)]
+    fn free(&self, pass: NamedPass<V, N>, key: usize) -> (NamedPass<V, N>, bool) {
+        self.free_permit(pass, key)
+    }
+
+    fn give_on(
+        &self,
+        pass: NamedPass<V, N>,
+        root: NamedRoot<V, N>,
+        told: UnparkResult,
+    ) -> (NamedPass<V, N>, NamedRoot<V, N>, Freed) {
+        let (pass, root) = self.pass_permit(pass, root, told.thread, told.more);
+        match told.thread {
+            Some(_) => (pass, root, Freed::Woke),
+            None => {
+                let (pass, root) = self.clear(pass, root);
+                (pass, root, Freed::Nobody)
+            }
+        }
+    }
+}

@@ -1,0 +1,52 @@
+-- The roots of a lot's keys, as the buckets see them, and the numbers of the keys.
+use Rattle.std.specs.Prelude.{◌≡◌, ℕ, ◌+◌, ◌<◌, ◌≤◌, List, [], ◌∷◌, Option, Some, None, length}
+use Rattle.lot_bucket.specs.KeyLine.{KeyLine}
+use Rattle.lot_park.specs.Parking.{debt, debts}
+use Rattle.lot_rights.specs.Shown.{RootShown}
+use Rattle.lot_whole.specs.declared.views.LotRootView.{LotRootView}
+use Rattle.lot_whole.specs.declared.views.LotRootView.TheVariants.{Lock, Cond, Sem}
+use Rattle.lot_whole.specs.Family.{LotSize, Which, IsKeyIn, lock, cond, sem}
+
+-- ---- what the buckets see
+-- the letter of a lock that is owed, with its token
+abbrev pub debts_of : Option (ℕ × ℕ) → List (ℕ × ℕ)
+debts_of None = []
+debts_of (Some owed) = owed ∷ []
+
+-- the line of a key's sleepers, and the letters that are owed to those that were taken from it: one of a lock has a token, and all
+-- letters of conditions and of semaphores have the token 0
+abbrev pub line_in : LotRootView → List ℕ
+line_in (Lock q) = q.line
+line_in (Cond q) = q.line
+line_in (Sem q) = q.line
+
+abbrev pub owes_in : LotRootView → List (ℕ × ℕ)
+owes_in (Lock q) = debts_of q.owes
+owes_in (Cond q) = debts q.owes
+owes_in (Sem q) = debt q.owes 0
+
+abbrev pub key_line : ℕ → LotRootView → KeyLine
+key_line c own = record { key = c; line = line_in own; owes = owes_in own }
+
+abbrev pub root_view : RootShown LotRootView → KeyLine
+root_view r = key_line r.root.key r.root.own
+
+-- a root, of which this is known now
+abbrev pub with_root : RootShown LotRootView → LotRootView → RootShown LotRootView
+with_root r own = record r { root = record r.root { own = own } }
+
+-- ---- the numbers of the keys
+-- those below `locks` are locks, those from there on and below `low` are conditions, and all others are semaphores
+abbrev pub IsInItsKind : ℕ → ℕ → ℕ → LotRootView → Type 0
+IsInItsKind locks low c (Lock q) = c < locks
+IsInItsKind locks low c (Cond q) = (locks ≤ c) × (c < low)
+IsInItsKind locks low c (Sem q) = (locks ≤ c) × (low ≤ c)
+
+-- ---- a lot's name
+-- what a name tells of a lot: its numbers of threads, locks and conditions, and how many permits each semaphore has at the opening
+abbrev pub size_named : ℕ → ℕ → ℕ → List ℕ → LotSize
+size_named threads locks conds permits = record { threads = threads; locks = locks; conds = conds; permits = permits }
+
+-- the numbers of the conditions follow those of the locks, and those of the semaphores the conditions'
+abbrev pub Follow : ℕ → ℕ → ℕ → Type 0
+Follow locks conds low = low ≡ locks + conds

@@ -1,0 +1,57 @@
+-- What the calls on a semaphore's word make of how a pass stands, and of the semaphore's root. p is the pass before,
+-- q the pass after, and k the semaphore's key.
+use Rattle.std.specs.Prelude.{◌≡◌, ◌≢◌, ℕ, ◌<◌, ◌≤◌, Bool, true, false, List, [], ◌∷◌, drop, Option}
+use Rattle.lot_bucket.specs.KeyLine.{KeyLine}
+use Rattle.lot_core.specs.Rows.{row_from}
+use Rattle.lot_events.specs.declared.events.Event.TheVariants.{SemTake, SemMark, SemPark}
+use Rattle.lot_events.specs.declared.events.Seen.TheVariants.{Bool as Saw, Done}
+use Rattle.lot_rights.specs.declared.views.Access.{Access}
+use Rattle.lot_rights.specs.declared.views.Access.TheVariants.{Makes, Finds}
+use Rattle.lot_sems.specs.declared.taking.Taken.{Taken}
+use Rattle.lot_sems.specs.declared.taking.Taken.TheVariants.{Got, Empty, Busy}
+use Rattle.lot_sems.specs.Calls.{parked_pass}
+use Rattle.lot_park.specs.Parking.{debt}
+use Rattle.lot_scheme.specs.Standing.{LotStanding, adding, seeking, getting, giving}
+use Rattle.lot_scheme.specs.Words.{TookWord, BusyWord, FreedWord, UnfreedWord}
+
+-- how many permits of k there are at the opening, where the keys of the semaphores begin at low
+abbrev pub opening_permits : ℕ → List ℕ → ℕ → ℕ
+opening_permits low permits = row_from 0 low permits
+
+module _ {V : Type 0} where
+  -- ---- tries to take a permit
+  abbrev pub TriesPermit : LotStanding V → ℕ → Taken → LotStanding V → Type 0
+  TriesPermit p k Got q = (did : List Access) × TookWord p.thread k did × (q ≡ adding (getting p k) did)
+  TriesPermit p k Empty q = (word : ℕ) × (word < 2) × (q ≡ adding p (Finds p.thread k word ∷ []))
+  TriesPermit p k Busy q = (did : List Access) × BusyWord p.thread k did × (q ≡ adding p did)
+
+  -- the same, where a thread that finds none seeks one
+  abbrev pub TakesPermit : LotStanding V → ℕ → Taken → LotStanding V → Type 0
+  TakesPermit p k Got q = (did : List Access) × TookWord p.thread k did × (q ≡ adding (getting p k) did)
+  TakesPermit p k Empty q = q ≡ adding (seeking p k) (Makes (SemTake p.thread k) (Saw false) ∷ [])
+  TakesPermit p k Busy q = (did : List Access) × BusyWord p.thread k did × (q ≡ adding p did)
+
+  -- ---- lining up
+  -- the semaphore was marked as parked, or its word was not 0
+  abbrev pub MarksPermit : LotStanding V → ℕ → Bool → LotStanding V → Type 0
+  MarksPermit p k true q = q ≡ adding p (Makes (SemMark p.thread k) Done ∷ [])
+  MarksPermit p k false q = (word : ℕ) × (word ≢ 0) × (q ≡ adding p (Finds p.thread k word ∷ []))
+
+  -- the pass after a validation, which queued the thread or did not
+  abbrev pub lined_up : LotStanding V → Bool → LotStanding V
+  lined_up p does = record p { own = record p.own { sems = parked_pass p.own.sems does } }
+
+  abbrev pub ParksPermit : LotStanding V → ℕ → Bool → LotStanding V → Type 0
+  ParksPermit p k does q = q ≡ adding (lined_up p does) (Makes (SemPark p.thread k) (Saw does) ∷ [])
+
+  -- ---- a try to give a permit back at once, and whether it was
+  abbrev pub FreesPermit : LotStanding V → ℕ → Bool → LotStanding V → Type 0
+  FreesPermit p k true q = (did : List Access) × FreedWord p.thread k did × (q ≡ adding (giving p k) did)
+  FreesPermit p k false q = (did : List Access) × UnfreedWord p.thread k did × (q ≡ adding p did)
+
+-- ---- the root, as the buckets see it
+-- the first thread is taken from the line, if one is there, and owed a letter with which it tries again
+pub record TakesFirst {R : Type 0} (view : R → KeyLine) (root : R) (first : Option ℕ) (now : R) : Type 0 where
+  pub named : (view now).key ≡ (view root).key
+  pub lined : (view now).line ≡ drop 1 (view root).line
+  pub owing : (view now).owes ≡ debt first 0

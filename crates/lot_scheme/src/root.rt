@@ -1,0 +1,54 @@
+//! The root of a key under the name of its lot.
+ghost use Rattle.std.specs.Prelude.{◌≡◌};
+ghost use Rattle.lot_scheme.specs.Roots.{IsInItsKind};
+
+use crate::name::LotName;
+use lot_park::Root;
+use lot_rights::Named;
+use lot_whole::{Keeps, LotRoot};
+use std::marker::Model;
+
+/// The root of a key of any kind, as the buckets see it. Its number tells its kind.
+pub struct NamedRoot<V: Keeps, N: LotName<V>> {
+    named: Named<LotRoot<V>, N>,
+}
+
+impl<V: Keeps, N: LotName<V>> Model for NamedRoot<V, N> {
+    ghost use Rattle.std.specs.Prelude.{◌≡◌};
+    ghost use Rattle.lot_rights.specs.Shown.{RootShown};
+    ghost use Rattle.lot_whole.specs.declared.views.LotRootView.{LotRootView};
+    ghost use Rattle.lot_scheme.specs.Roots.{IsInItsKind};
+
+    ghost Value = { RootShown LotRootView };
+
+    ghost view = { λ s. s.named };
+
+    ghost invariant = { λ s. (s.named.table ≡ N.opening.locks) × IsInItsKind N.locks N.low s.named.root.key s.named.root.own };
+}
+
+impl<V: Keeps + Send, N: LotName<V> + Send> Root for NamedRoot<V, N> {
+    ghost use Rattle.lot_scheme.specs.Roots.{root_view};
+
+    ghost view = { root_view };
+}
+
+impl<V: Keeps, N: LotName<V>> NamedRoot<V, N> {
+    pub fn new(root: LotRoot<V>) -> NamedRoot<V, N>
+        requires named { root.table ≡ N.opening.locks }
+        requires kind { IsInItsKind N.locks N.low root.root.key root.root.own }
+        ensures { result ≡ root }
+    {
+        NamedRoot {
+            named: Named::new(root),
+        }
+    }
+
+    pub fn into_root(self) -> LotRoot<V>
+        ensures same { result ≡ self }
+        ensures named { result.table ≡ N.opening.locks }
+        ensures kind { IsInItsKind N.locks N.low result.root.key result.root.own }
+    {
+        let NamedRoot { named } = self;
+        named.into_inner()
+    }
+}

@@ -1,0 +1,105 @@
+//! How the parking lot posts and collects the letters of a lot.
+ghost use Rattle.std.specs.Prelude.{◌≡◌};
+ghost use Rattle.lot_scheme.specs.Roots.{size_named, Follow};
+
+use crate::name::LotName;
+use crate::pass::NamedPass;
+use crate::root::NamedRoot;
+use lot_park::{Scheme, Token};
+use lot_rights::Named;
+use lot_whole::{Keeps, LotRoot, LotWords};
+use std::marker::Model;
+
+/// The words of a lot, as the parking lot sees them.
+pub struct LotScheme<V: Keeps, N: LotName<V>> {
+    words: Named<LotWords<V>, N>,
+    // How many locks there are, and the number of the first semaphore.
+    locks: usize,
+    low: usize,
+}
+
+impl<V: Keeps, N: LotName<V>> Model for LotScheme<V, N> {
+    ghost use Rattle.std.specs.Prelude.{◌≡◌};
+    ghost use Rattle.lot_whole.specs.Shown.{LotWordsShown};
+    ghost use Rattle.lot_scheme.specs.Roots.{size_named, Follow};
+
+    ghost Value = { LotWordsShown V };
+
+    ghost view = { λ s. s.words };
+
+    ghost invariant = { λ s. (s.words.table ≡ N.opening.locks) × (s.words.size ≡ size_named N.threads N.locks N.conds N.permits) × Follow N.locks N.conds N.low × (s.locks ≡ N.locks) × (s.low ≡ N.low) };
+}
+
+impl<V: Keeps, N: LotName<V>> LotScheme<V, N> {
+    /// The words, which get the lot's name here.
+    pub fn new(words: LotWords<V>, locks: usize, low: usize) -> LotScheme<V, N>
+        requires named { words.table ≡ N.opening.locks }
+        requires size { words.size ≡ size_named N.threads N.locks N.conds N.permits }
+        requires keys { Follow N.locks N.conds N.low × (locks ≡ N.locks) × (low ≡ N.low) }
+        ensures { result ≡ words }
+    {
+        LotScheme {
+            words: Named::new(words),
+            locks,
+            low,
+        }
+    }
+
+    #[inline(always)]
+    pub fn words(&self) -> &LotWords<V>
+        ensures same { result.now ≡ self.now }
+        ensures named { result.now.table ≡ N.opening.locks }
+        ensures size { result.now.size ≡ size_named N.threads N.locks N.conds N.permits }
+        ensures keys { Follow N.locks N.conds N.low }
+    {
+        self.words.inner()
+    }
+
+    pub fn into_words(self) -> LotWords<V>
+        ensures same { result ≡ self }
+        ensures named { result.table ≡ N.opening.locks }
+        ensures size { result.size ≡ size_named N.threads N.locks N.conds N.permits }
+    {
+        let LotScheme {
+            words,
+            locks: _,
+            low: _,
+        } = self;
+        words.into_inner()
+    }
+}
+
+impl<V: Keeps + Send, N: LotName<V> + Send> Scheme for LotScheme<V, N> {
+    ghost use Rattle.lot_scheme.specs.Standing.{IsLooked};
+
+    type Root = NamedRoot<V, N>;
+
+    type Pass = NamedPass<V, N>;
+
+    ghost thread = { λ p. p.thread };
+
+    ghost looked = { IsLooked V.Keeps };
+
+    fn thread_of(pass: &NamedPass<V, N>) -> usize {
+        pass.thread()
+    }
+
+    fn post(&self, root: NamedRoot<V, N>, at: usize, token: Token) -> NamedRoot<V, N> {
+        let root = root.into_root();
+        let words = self.words.inner();
+        let key = root.key();
+        let root = if key < self.locks {
+            words.post(root, at, token.0)
+        } else if key < self.low {
+            words.post_cond(root, at)
+        } else {
+            words.post_sem(root, at)
+        };
+        NamedRoot::new(root)
+    }
+
+    fn collect(&self, pass: NamedPass<V, N>) -> (NamedPass<V, N>, Option<Token>) {
+        let (pass, letter) = self.words.inner().collect(pass.into_pass());
+        (NamedPass::new(pass), letter.map(Token))
+    }
+}

@@ -1,0 +1,158 @@
+-- What the callers of waits, notifications and permits see, and how the pass stands then.
+use Rattle.std.proofs.Common.{◌≡◌, ◌≢◌, ℕ, ◌+◌, ◌<◌, ◌≤◌, ◌⊎◌, Bool, true, false, MatchBool, List, [], ◌∷◌, ◌++◌, suc, length, map, set, get_or, slice_index, inl, inr, Some, None, refl, sym, ap, subst, ◌∙◌, length-set, arith}
+use Rattle.std.proofs.lemmas.List.{get_or-set_same, map-set, length-map}
+use mathlib.Core.Option.{some}
+use lib.ListN.{get_elem?}
+use Rattle.atomic_table.proofs.Lists.{set_here}
+use Rattle.lot_rights.specs.declared.views.Access.{Access}
+use Rattle.lot_words.specs.declared.views.Hold.TheVariants.{NotHeld, Held}
+use Rattle.lot_words.specs.declared.views.Place.TheVariants.{InSlot}
+use Rattle.lot_words.specs.CallersRule.{CallersRule}
+use Rattle.lot_words.specs.World.{Holds}
+use Rattle.lot_words.specs.Values.{IsIn, IsOut, HasSeen}
+use Rattle.lot_words.specs.Calls.{gripped}
+use Rattle.lot_whole.specs.Family.{lock, cond, sem}
+use Rattle.lot_whole.specs.Standing.{IsUp}
+use Rattle.lot_scheme.specs.Standing.{LotStanding, adding, letting_go, enlisted, roused, called, getting}
+use Rattle.lot_scheme.specs.Words.{CallWord, word_of_all, word_of_nobody}
+use Rattle.lot_locks.specs.declared.released.Released.{Released}
+use Rattle.lot_locks.specs.Released.{released_in}
+use Rattle.lot_waits.specs.Waiting.{HasWaited, waited}
+use Rattle.lot_waits.specs.Notifying.{FindsNobody, Notifies, NotifiesAll, one_if}
+use Rattle.lot_waits.proofs.Taken.{none_called}
+use Rattle.lot_permits.specs.Freed.{freed_in}
+use Rattle.lot_permits.specs.Seeking.{GetsPermit}
+use Rattle.lot_sync.specs.Lot.{PassView, HeldView, LotNames, Owns, owning, leaving, waking, calling, one_more}
+use Rattle.lot_sync.specs.Passes.{is_held, sees, IsOfLot, IsAtRest, IsNewOwner}
+use Rattle.lot_sync.specs.Values.{Gets}
+use Rattle.lot_sync.proofs.Rests.{sees_as, one_lies, left_at_rest, owns_so, owns_after, rests_on}
+use Rattle.lot_sync.proofs.Stays.{KeepsReleased, KeepsFreed, released_on, freed_on, waited_tells, waited_freed, called_freed, called_released, permit_got_released}
+
+-- ---- notifications
+module _ {V : Type 0} where
+  -- so many sleepers more were taken, by accesses that end neither an unlock nor a release
+  pub record TookMore (p : LotStanding V) (c n : ℕ) (q : LotStanding V) : Type 0 where
+    pub did : List Access
+    pub is : q ≡ adding (called p c n) did
+    pub released : KeepsReleased did
+    pub freed : KeepsFreed did
+
+  nobody_more : (p q : LotStanding V) (c n : ℕ) → FindsNobody p c n q → TookMore p c n q
+  nobody_more p q c n (none, is) = record {
+    did = word_of_nobody p.thread c;
+    is = is ∙ ap (λ (r : LotStanding V). adding r (word_of_nobody p.thread c)) (sym (none_called p c)) ∙ ap (λ k. adding (called p c k) (word_of_nobody p.thread c)) (sym none);
+    released = λ before. refl;
+    freed = λ before. refl;
+  }
+
+  pub took_some : (p q : LotStanding V) (c n taken : ℕ) → Notifies p c n taken q → TookMore p c taken q
+  took_some p q c n taken (inl nobody) = nobody_more p q c taken nobody
+  took_some p q c n taken (inr (did, word, is)) = record {
+    did = did;
+    is = is;
+    released = called_released p.thread c n taken did word;
+    freed = called_freed p.thread c n taken did word;
+  }
+
+  pub took_all : (p q : LotStanding V) (c taken : ℕ) → NotifiesAll p c taken q → TookMore p c taken q
+  took_all p q c taken (inl nobody) = nobody_more p q c taken nobody
+  took_all p q c taken (inr is) = record { did = word_of_all p.thread c taken; is = is; released = λ before. refl; freed = λ before. refl }
+
+  pub sees_called : (p q : LotStanding V) (c n : ℕ) → TookMore p c n q → sees q ≡ calling (sees p) c n
+  sees_called p q c n took = ap sees took.is ∙ sees_as p (called p c n).own took.did (map is_held p.own.locks.holds) (released_in p.did) (freed_in p.did)
+      refl (released_on p.did took.did took.released) (freed_on p.did took.did took.freed)
+
+  pub sees_called_one : (p q : LotStanding V) (out before : PassView V) (c : ℕ) (one : Bool) → before ≡ sees p → out ≡ sees q → Notifies p c 1 (one_if one) q
+      → MatchBool one (out ≡ calling before c 1) (out ≡ before)
+  sees_called_one p q out before c true was is told = is ∙ (sees_called p q c 1 (took_some p q c 1 1 told) ∙ ap (λ (v : PassView V). calling v c 1) (sym was))
+  sees_called_one p q out before c false was is told =
+      is ∙ (sees_called p q c 0 (took_some p q c 1 0 told) ∙ (ap sees (none_called p c) ∙ sym was))
+
+  -- a permit more
+  pub sees_permit : (p q : LotStanding V) (k : ℕ) → GetsPermit p k q → freed_in q.did ≡ freed_in p.did → sees q ≡ one_more (sees p) k
+  sees_permit p q k got freed = ap sees got.is ∙ sees_as p (getting p k).own got.did (map is_held p.own.locks.holds) (released_in p.did) (freed_in p.did)
+      refl (released_on p.did got.did (permit_got_released p.thread k got.did got.got)) (sym (ap (λ (r : LotStanding V). freed_in r.did) got.is) ∙ freed)
+
+module _ {V : Type 0} (grows : V → V → Type 0) (names : LotNames V) where
+  pub rests_called : (p q : LotStanding V) (c n : ℕ) → TookMore p c n q → IsAtRest grows names p → IsAtRest grows names q
+  rests_called p q c n took rest = rests_on grows names (called p c n) q took.did took.is (record {
+    of_lot = record {
+      is_thread = rest.of_lot.is_thread;
+      holds_long = rest.of_lot.holds_long;
+      places_long = rest.of_lot.places_long;
+      seen_long = rest.of_lot.seen_long;
+      called_long = length-set p.own.conds.called c (slice_index p.own.conds.called c + n) ∙ rest.of_lot.called_long;
+      woken_long = rest.of_lot.woken_long;
+      permits_long = rest.of_lot.permits_long;
+      grown = rest.of_lot.grown;
+    };
+    idle = (record { up = up_still rest.idle.0.up; aim = rest.idle.0.aim; sweeps = rest.idle.0.sweeps; seeks = rest.idle.0.seeks }, rest.idle.1);
+    out = rest.out;
+  })
+    where
+      up_still : IsUp p.own → IsUp (called p c n).own
+      up_still up lock = up lock
+      up_still up cond = up cond
+      up_still up sem = up sem
+
+-- ---- waits
+module _ {V Part : Type 0} (rule : CallersRule V Part) (names : LotNames V) where
+  -- the pass, when its thread was woken and wants its lock again
+  abbrev woken_at : LotStanding V → ℕ → ℕ → V → LotStanding V
+  woken_at p c l y = roused (letting_go (enlisted p c l) l y) c
+
+  -- whoever waited owns the lock again
+  pub owns_waited : (p q : LotStanding V) (c l : ℕ) (value : V) (became : Released) → l < names.locks → IsNewOwner rule.grows names p l → IsIn p.own.locks l value
+      → ((u : V) → HasSeen p.own.locks l u → rule.grows u value) → HasWaited rule p c l became q → IsNewOwner rule.grows names q l
+  owns_waited p q c l value became near own lies grown w =
+      let same : w.left ≡ value = one_lies p.own.locks.places l w.left value w.lay lies in
+      let left : IsAtRest rule.grows names (letting_go p l w.left) = subst (λ v. IsAtRest rule.grows names (letting_go p l v)) (sym same)
+      (left_at_rest rule.grows names rule.grows_on p l value near own grown) in
+      owns_after rule names (waited p c l w.left w.found) q l w.did w.is
+      (owns_so rule names (woken_at p c l w.left) l w.found near (record {
+        is_thread = left.of_lot.is_thread;
+        holds_long = left.of_lot.holds_long;
+        places_long = left.of_lot.places_long;
+        seen_long = left.of_lot.seen_long;
+        called_long = left.of_lot.called_long;
+        woken_long = length-set p.own.conds.woken c (slice_index p.own.conds.woken c + 1) ∙ left.of_lot.woken_long;
+        permits_long = left.of_lot.permits_long;
+        grown = left.of_lot.grown;
+      }) (up_again w.left own.idle.0.up) own.idle.0.sweeps own.idle.0.seeks (λ k else holds. left.out k holds) w.found_ok)
+    where
+      up_again : (y : V) → IsUp p.own → IsUp (woken_at p c l y).own
+      up_again y up lock = up lock
+      up_again y up cond = refl
+      up_again y up sem = up sem
+
+  -- what the callers of a wait see
+  sees_waited : (p q : LotStanding V) (c l : ℕ) (became : Released) (w : HasWaited rule p c l became q)
+      → sees q ≡ owning (waking (leaving (sees p) l w.left became) c) l w.found
+  sees_waited p q c l became w = ap sees w.is ∙ sees_as p (waited p c l w.left w.found).own w.did (set (set (map is_held p.own.locks.holds) l false) l true) (Some became) (freed_in p.did)
+      (map-set is_held (set p.own.locks.holds l NotHeld) l Held ∙ ap (λ owns. set owns l true) (map-set is_held p.own.locks.holds l NotHeld))
+      (waited_tells p.thread c l became p.did w.did w.word) (freed_on p.did w.did (waited_freed p.thread c l became w.did w.word))
+
+  pub gets_waited : (p q : LotStanding V) (held : HeldView V) (c l : ℕ) (value : V) (became : Released) → l < names.locks → IsNewOwner rule.grows names p l → IsIn p.own.locks l value
+      → HasWaited rule p c l became q → held.key ≡ l → IsIn q.own.locks l held.value → (after : PassView V) → after ≡ sees q
+      → Gets rule (waking (leaving (sees p) l value became) c) l held after
+  gets_waited p q held c l value became near own lies w key_is found_in after after_is =
+      let left : w.left ≡ value = one_lies p.own.locks.places l w.left value w.lay lies in
+      let there : get_elem? (set p.own.locks.places l (InSlot w.found)) l ≡ some (InSlot w.found) =
+      set_here p.own.locks.places l (InSlot w.found) (let n = own.of_lot.places_long in omega (arith, n)) in
+      let same : w.found ≡ held.value = one_lies (set p.own.locks.places l (InSlot w.found)) l w.found held.value there
+      (subst (λ (r : LotStanding V). IsIn r.own.locks l held.value) w.is found_in) in
+      let sees_it : sees q ≡ owning (waking (leaving (sees p) l value became) c) l held.value =
+      sees_waited p q c l became w ∙ (ap (λ v. owning (waking (leaving (sees p) l v became) c) l w.found) left ∙ ap (λ v. owning (waking (leaving (sees p) l value became) c) l v) same) in
+      let seen_long : length (set p.own.locks.seen l value) ≡ names.locks = length-set p.own.locks.seen l value ∙ own.of_lot.seen_long in
+      let owns_long : length (set (map is_held p.own.locks.holds) l false) ≡ names.locks =
+      length-set (map is_held p.own.locks.holds) l false ∙ (length-map p.own.locks.holds is_held ∙ own.of_lot.holds_long) in
+      record {
+        key_is = key_is;
+        kept = subst (rule.keeps l) same w.found_ok.kept;
+        grown = λ u s. subst (rule.grows u) same (w.found_ok.grown u (subst (λ v. get_elem? (set p.own.locks.seen l v) l ≡ some u) (sym left) s));
+        mine = λ u s. w.found_ok.mine u (subst (λ v. get_elem? (set p.own.locks.seen l v) l ≡ some u) (sym left) s) ∙ ap (rule.part p.thread) same;
+        after_is = after_is ∙ sees_it;
+        owns = subst (λ (r : PassView V). Owns r l) (sym (after_is ∙ sees_it))
+            (get_or-set_same (set (map is_held p.own.locks.holds) l false) l true false (omega (arith, owns_long)));
+        seen = subst (λ (r : PassView V). get_elem? r.seen l ≡ some held.value) (sym (after_is ∙ sees_it)) (set_here (set p.own.locks.seen l value) l held.value (omega (arith, seen_long)));
+      }

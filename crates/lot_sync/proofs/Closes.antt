@@ -1,0 +1,69 @@
+-- Passes that come back to close their lot, and what they tell of its run.
+use Rattle.std.proofs.Common.{◌≡◌, ℕ, ◌<◌, false, List, [], ◌∷◌, ◌++◌, map, slice_get, Option, Some, None, refl, sym, ap, subst}
+use Rattle.std.proofs.Common.{◌∙◌}
+use Rattle.std.specs.Prelude.{is_some}
+use Rattle.std.specs.List.{All, Any}
+use Rattle.std.proofs.lemmas.List.Elements.{All-weaker, All-map}
+use Rattle.atomic_table.specs.Seated.{TableId}
+use Rattle.lot_rights.specs.Shown.{PassShown, RootShown}
+use Rattle.lot_rights.proofs.Turns.{some_at}
+use Rattle.lot_table.specs.Roots.{Appends}
+use Rattle.lot_words.specs.CallersRule.{CallersRule}
+use Rattle.lot_words.specs.Values.{FoundOk}
+use Rattle.lot_whole.specs.declared.views.LotPassView.{LotPassView}
+use Rattle.lot_whole.specs.declared.views.LotRootView.{LotRootView}
+use Rattle.lot_whole.specs.Family.{cond}
+use Rattle.lot_scheme.specs.Roots.{root_view}
+use Rattle.lot_scheme.specs.Standing.{LotStanding, stands}
+use Rattle.lot_waits.specs.Counts.{counts_shown}
+use Rattle.lot_sync.specs.Lot.{LotNames, PassView, Owns, OwnsNone, counts_of}
+use Rattle.lot_sync.specs.Passes.{sees, seen_as, IsAtRest, IsFree}
+use Rattle.lot_sync.specs.Values.{GoesOnTo}
+use Rattle.lot_sync.proofs.Rests.{held_owned}
+
+nobody_out : (out : Option ℕ) → is_some out ≡ false → out ≡ None
+nobody_out None e = refl
+nobody_out (Some c) e = absurd (cc)
+
+module _ {V : Type 0} where
+  -- a pass at rest that owns nothing has done all that it was to do
+  pub free_of : (grows : V → V → Type 0) (names : LotNames V) (table : TableId) (p : PassView V) (r : LotStanding V) (q : PassShown
+      (LotPassView V)) → p ≡ sees r → r ≡ stands q
+      → q.table ≡ table → IsAtRest grows names r → OwnsNone p → IsFree table q
+  free_of grows names table p r q same is own rest none = record {
+    is_of = own;
+    done = (
+      (λ l holds. none.no_lock l (subst (λ (x : PassView V). Owns x l) (sym (same
+          ∙ ap sees is)) (held_owned q.pass.own.locks.holds l holds))),
+      nobody_out q.pass.own.conds.out (subst (λ (x : LotStanding V). is_some x.own.conds.out ≡ false) is (rest.idle.0.up cond)),
+    );
+  }
+
+  -- what the passes counted, as they show it and as they are seen
+  pub counted : (rights : List (PassShown (LotPassView V))) → map counts_of (map seen_as rights) ≡ map counts_shown rights
+  counted [] = refl
+  counted (p ∷ ps) = ap (λ cs. counts_shown p ∷ cs) (counted ps)
+
+-- each value goes on from what the passes had seen of it
+pub goes_on : {V Part : Type 0} (rule : CallersRule V Part) (values : List V) (rights : List (PassShown (LotPassView V)))
+    → All (λ (p : PassShown (LotPassView V)). (l : ℕ) (y : V) → slice_get values l ≡ Some y
+    → FoundOk rule l p.pass.thread p.pass.own.locks y) rights
+    → All (GoesOnTo rule values) (map seen_as rights)
+goes_on {V} rule values rights found = All-map (GoesOnTo rule values) seen_as rights
+    (All-weaker (λ (p : PassShown (LotPassView V)). (l : ℕ) (y : V) → slice_get values l ≡ Some y
+    → FoundOk rule l p.pass.thread p.pass.own.locks y)
+    (λ (p : PassShown (LotPassView V)). GoesOnTo rule values (seen_as p))
+    (λ p is. record {
+      kept = λ key v at. (is key v at).kept;
+      grown = λ key u v at seen. (is key v at).grown u seen;
+      mine = λ key u v at seen. (is key v at).mine u seen;
+    }) rights found)
+
+-- the root of each key has come back
+pub each_root : (k keys : ℕ) (before after : List (RootShown LotRootView)) → Appends root_view keys before after → before ≡ [] → k < keys
+    → Any (λ (q : RootShown LotRootView). q.root.key ≡ k) after
+each_root k keys before after back none near =
+    let are : after ≡ back.roots = back.appended ∙ ap (λ (rs : List (RootShown LotRootView)). rs ++ back.roots) none in
+    subst (Any (λ (q : RootShown LotRootView). q.root.key ≡ k)) (sym are)
+    (some_at (λ (q : RootShown LotRootView). q.root.key ≡ k) back.roots k (subst (λ n. k < n) (sym back.each) near)
+    (λ q at. back.named k q at))

@@ -1,7 +1,0 @@
-use Rattle.lot_sync.proofs.lot.Lot.unlock_fairly.Goals as goal
-
-pub returns-clause-fits : goal.returns-clause-fits
-returns-clause-fits g c = c.unlock_as.ensures.fits
-
-pub returns-clause-seen : goal.returns-clause-seen
-returns-clause-seen g c = c.unlock_as.ensures.seen

@@ -1,0 +1,27 @@
+use Rattle.std.proofs.Common.{◌≡◌, ◌+◌, ◌≤◌, vec_len, vec_capacity}
+use Rattle.std.specs.List.{All}
+use Rattle.lot_waits.specs.Ledger.{AreZeros}
+use Rattle.lot_sync.specs.Starting.{IsFresh}
+use Rattle.lot_sync.proofs.rooms.fill.Given as goal
+
+abbrev pub invariant-loop-right : goal.invariant-loop-right
+invariant-loop-right g l = record {
+  fresh : All (IsFresh g.V.Keeps.grows (record {
+    opening = g.N.Name.opening;
+    low = g.N.LotName.low;
+    permits = g.N.LotName.permits;
+    locks = g.N.LotName.locks;
+    conds = g.N.LotName.conds;
+    threads = g.N.LotName.threads;
+    values = g.N.LotName.values;
+  })) l.passes.items;
+  none : All (λ t. AreZeros g.N.LotName.conds t.value) l.tallies.items;
+  both : vec_len l.tallies ≡ vec_len l.passes;
+  count : vec_len l.passes + vec_len l.idle ≡ vec_len l.initial.passes;
+  fits : vec_len l.initial.passes ≤ vec_capacity l.idle;
+  room : vec_capacity l.idle ≡ vec_capacity l.initial.idle;
+  passes_room : vec_capacity l.passes ≡ vec_capacity l.initial.passes;
+}
+
+abbrev pub decreases-loop-right : goal.decreases-loop-right
+decreases-loop-right g l = vec_len l.passes
