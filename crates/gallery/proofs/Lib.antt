@@ -1,0 +1,4 @@
+pub mod Sums
+pub mod Settling
+pub mod Counting
+pub mod Leasing

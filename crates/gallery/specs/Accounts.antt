@@ -1,0 +1,67 @@
+-- Accounts, and what each worker moved into them and out of them.
+use Rattle.std.specs.Prelude.{◌≡◌, ◌≢◌, ℕ, ◌+◌, List, length, sum, slice_index, slice_set}
+use Rattle.std.specs.List.{sum_by}
+use Rattle.lot_sync.specs.Lot.{PassView, HeldView, HasSeen}
+use Rattle.lot_sync.specs.Holding.{HoldingBoth}
+use Rattle.gallery.specs.declared.accounts.Account.{Account}
+use Rattle.gallery.specs.declared.accounts.TheConstants.{ACCOUNTS, WORKERS, OPENING}
+
+abbrev pub balance_of : Account → ℕ
+balance_of account = account.balance
+
+abbrev pub in_by : ℕ → Account → ℕ
+in_by thread account = slice_index account.moved_in thread
+
+abbrev pub out_by : ℕ → Account → ℕ
+out_by thread account = slice_index account.moved_out thread
+
+-- what the worker moved into the account, and what it moved out
+abbrev pub moved_by : ℕ → Account → ℕ × ℕ
+moved_by thread account = (in_by thread account, out_by thread account)
+
+-- what lies in the account is what lay there at the beginning, with what was moved in, without what was moved out
+pub record IsBooked (account : Account) : Type 0 where
+  pub booked : account.balance + sum account.moved_out ≡ OPENING + sum account.moved_in
+  pub in_places : length account.moved_in ≡ WORKERS
+  pub out_places : length account.moved_out ≡ WORKERS
+
+-- as much as the worker moved into the accounts it moved out of them
+pub record IsEven (thread : ℕ) (accounts : List Account) : Type 0 where
+  pub count : length accounts ≡ ACCOUNTS
+  pub even : sum_by (in_by thread) accounts ≡ sum_by (out_by thread) accounts
+
+abbrev pub AreEven : List Account → Type 0
+AreEven accounts = (thread : ℕ) → IsEven thread accounts
+
+-- the worker moved the amount out of the account
+pub record MovesOut (thread amount : ℕ) (old new : Account) : Type 0 where
+  pub booked : IsBooked new
+  pub balance : old.balance ≡ new.balance + amount
+  pub ins : new.moved_in ≡ old.moved_in
+  pub outs : new.moved_out ≡ slice_set old.moved_out thread (slice_index old.moved_out thread + amount)
+
+-- the worker moved the amount into the account
+pub record MovesIn (thread amount : ℕ) (old new : Account) : Type 0 where
+  pub booked : IsBooked new
+  pub balance : new.balance ≡ old.balance + amount
+  pub ins : new.moved_in ≡ slice_set old.moved_in thread (slice_index old.moved_in thread + amount)
+  pub outs : new.moved_out ≡ old.moved_out
+
+-- two accounts of which the worker moved as much into them as out of them
+pub record Settles (thread : ℕ) (from into from' into' : Account) : Type 0 where
+  pub booked_from : IsBooked from'
+  pub booked_into : IsBooked into'
+  pub others_from : (t : ℕ) → t ≢ thread → moved_by t from ≡ moved_by t from'
+  pub others_into : (t : ℕ) → t ≢ thread → moved_by t into ≡ moved_by t into'
+  pub even : in_by thread from' + in_by thread into' + (out_by thread from + out_by thread into) ≡ in_by thread from + in_by thread
+      into + (out_by thread from' + out_by thread into')
+
+-- the worker's pass has both locks, and has seen what it found there; it is even
+pub record HasBoth (thread : ℕ) (first second : HeldView Account) (pass : PassView Account) : Type 0 where
+  pub booked_first : IsBooked first.value
+  pub booked_second : IsBooked second.value
+  pub same_thread : pass.thread ≡ thread
+  pub both : HoldingBoth (λ (x y : Account). Unit {0}) pass first second
+  pub sees_first : HasSeen pass first.key first.value
+  pub sees_second : HasSeen pass second.key second.value
+  pub even : IsEven thread pass.seen

@@ -1,0 +1,5 @@
+pub mod Meetings
+pub mod Lines
+pub mod Counters
+pub mod Leases
+pub mod Accounts
