@@ -4,6 +4,7 @@ pub mod LockSchedules
 pub mod Opened
 pub mod Owners
 pub mod SemSchedules
+pub mod Sound
 pub mod Waiters
 mod Idle
 mod Lending

@@ -9,6 +9,7 @@ use std::test::Fail;
 
 mod random;
 mod scripts;
+mod sound;
 
 // Why no state is opened with so many threads, locks and conditions, where none is.
 fn fault_of(alloc: Global, limits: (usize, usize, usize)) -> Option<CoreFault> {
