@@ -1,3 +1,4 @@
+pub mod Accesses
 pub mod Calm
 pub mod CondSchedules
 pub mod LockSchedules

@@ -1,5 +1,6 @@
 //! The words of locks, conditions and semaphores, the state that they follow, and journals.
 
+mod accesses;
 mod conds;
 mod journal;
 mod locks;
