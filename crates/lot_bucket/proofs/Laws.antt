@@ -6,12 +6,15 @@ use Rattle.lot_bucket.specs.Places.{has_key, root_at, with_root}
 use Rattle.lot_bucket.specs.Contents.{Contents}
 use Rattle.lot_bucket.specs.KeyLine.{KeyLine}
 use Rattle.lot_bucket.specs.Agrees.{IsRootOf, AgreesOpen, Agrees}
-pub use Rattle.lot_places.proofs.Laws.{line_of-push_same, line_of-push_other, line_of-without_count_same, line_of-without_count_other, line_of-without_key_same, line_of-without_key_other}
-pub use Rattle.lot_places.proofs.Laws.{without_key-without_first, without_key_none, line_fits, first_of_line, root_at-with_same, root_at-with_other, has_key-with}
+pub use Rattle.lot_places.proofs.Laws.{line_of-push_same, line_of-push_other, line_of-without_count_same, line_of-without_count_other}
+pub use Rattle.lot_places.proofs.Laws.{line_of-without_key_same, line_of-without_key_other}
+pub use Rattle.lot_places.proofs.Laws.{without_key-without_first, without_key_none, line_fits, first_of_line, root_at-with_same}
+pub use Rattle.lot_places.proofs.Laws.{root_at-with_other, has_key-with}
 
 module _ {R : Type 0} (view : R → KeyLine) where
   -- the root that is taken out of an open bucket that agrees
-  pub root_taken : (b : Contents R) (k : ℕ) (root : R) → Agrees view b → b.opened ≡ true → has_key k b.places ≡ true → root_at k b.places ≡ Some root → IsRootOf view k b.queue root
+  pub root_taken : (b : Contents R) (k : ℕ) (root : R) → Agrees view b → b.opened ≡ true → has_key k b.places ≡ true
+      → root_at k b.places ≡ Some root → IsRootOf view k b.queue root
   root_taken b k root agrees is_open has at =
       let own = (agrees.open_agrees is_open).roots k has in
       let same : own.0 ≡ root = let e : Some own.0 ≡ Some root = sym own.1 ∙ at in cc in
@@ -19,7 +22,8 @@ module _ {R : Type 0} (view : R → KeyLine) where
 
   -- The restoring law: where a key's root was taken out and is back, fits its key's line and owes nothing,
   -- and the lines of other keys are as before, the bucket agrees again.
-  pub agrees_again : (before after : Contents R) (k : ℕ) (root : R) → Agrees view before → before.opened ≡ true → has_key k before.places ≡ true
+  pub agrees_again : (before after : Contents R) (k : ℕ) (root : R) → Agrees view before → before.opened ≡ true
+      → has_key k before.places ≡ true
       → after.opened ≡ true → after.places ≡ with_root k (Some root) (with_root k None before.places)
       → ((j : ℕ) → k ≢ j → line_of j after.queue ≡ line_of j before.queue) → IsRootOf view k after.queue root → Agrees view after
   agrees_again before after k root agrees was_open has is_open places lines fits =
@@ -35,21 +39,29 @@ module _ {R : Type 0} (view : R → KeyLine) where
       own = rw places (root_at-with_same k (Some root) (with_root k None before.places) (has_key-with k k None before.places ∙ has))
 
       others : (j : ℕ) → k ≢ j → root_at j after.places ≡ root_at j before.places
-      others j other = rw places (root_at-with_other j k (Some root) (with_root k None before.places) other ∙ root_at-with_other j k None before.places other)
+      others j other = rw places (root_at-with_other j k (Some root) (with_root k None before.places) other
+          ∙ root_at-with_other j k None before.places other)
 
       roots : (j : ℕ) → has_key j after.places ≡ true → (r : R) × (root_at j after.places ≡ Some r) × IsRootOf view j after.queue r
       roots j h =
           elim (eqb_tells k j) [
-            | inl e ↦ let P : ℕ → Type 0 = λ n. (r : R) × (root_at n after.places ≡ Some r) × IsRootOf view n after.queue r in subst P e.1 (root, own, fits)
+            | inl e ↦ let P : ℕ → Type 0 = λ n. (r : R) × (root_at n after.places ≡ Some r) × IsRootOf view n after.queue r in
+                subst P e.1 (root, own, fits)
             | inr e ↦
-                let old = was.roots j (sym (keys j) ∙ h) in
-                (old.0, others j e.1 ∙ old.1, record { named = old.2.named; same_line = old.2.same_line ∙ sym (lines j e.1); paid = old.2.paid })
+                let old = was.roots j (sym (keys j) ∙ h) in (
+                  old.0,
+                  others j e.1
+                      ∙ old.1,
+                  record { named = old.2.named; same_line = old.2.same_line ∙ sym (lines j e.1); paid = old.2.paid },
+                )
           ]
 
       pairs : (j : ℕ) → has_key j after.places ≡ false → line_of j after.queue ≡ []
       pairs j h =
           elim (eqb_tells k j) [
-            | inl e ↦ absurd (let f : has_key j before.places ≡ true = subst (λ (n : ℕ). has_key n before.places ≡ true) e.1 has in let g : has_key j before.places ≡ false = sym (keys j)
+            | inl e ↦
+                absurd (let f : has_key j before.places ≡ true = subst (λ (n : ℕ). has_key n before.places ≡ true) e.1 has in
+                let g : has_key j before.places ≡ false = sym (keys j)
                 ∙ h in let x : true ≡ false = sym f ∙ g in cc)
             | inr e ↦ lines j e.1 ∙ was.pairs j (sym (keys j) ∙ h)
           ]

@@ -10,7 +10,8 @@ pub ready : {R : Type 0} (view : R → KeyLine) (k threads keys : ℕ) (lying : 
     → lying.bucket.opened ≡ true → lying.number ≡ k % lying.size → lying.keys ≡ keys → k < keys → lying.bucket.room ≡ threads
     → IsReady view k threads keys lying.bucket
 ready view k threads keys lying settled opened number all among room =
-    let laid : (j : ℕ) → has_key j lying.bucket.places ≡ (j % lying.size == k % lying.size && nat_lt j keys) = λ j. rw (← number, ← all) (settled.laid_out opened j) in
+    let laid : (j : ℕ) → has_key j lying.bucket.places ≡ (j % lying.size == k % lying.size && nat_lt j keys) =
+    λ j. rw (← number, ← all) (settled.laid_out opened j) in
     record {
       agrees = settled.agrees;
       is_open = opened;

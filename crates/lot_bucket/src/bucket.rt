@@ -1,4 +1,5 @@
-ghost use Rattle.std.specs.Prelude.{◌≡◌, ℕ, ◌+◌, ◌-◌, ◌*◌, ◌^◌, ◌<◌, ◌≤◌, ◌↔◌, true, false, [], ◌∷◌, ◌++◌, length, take, min, Any, IfOk, IsTrue, IsSome};
+ghost use Rattle.std.specs.Prelude.{◌≡◌, ℕ, ◌+◌, ◌-◌, ◌*◌, ◌^◌, ◌<◌, ◌≤◌, ◌↔◌, true, false, [], ◌∷◌, ◌++◌, length};
+ghost use Rattle.std.specs.Prelude.{take, min, Any, IfOk, IsTrue, IsSome};
 ghost use Rattle.lot_bucket.specs.Queue.{line_of, without_key};
 ghost use Rattle.lot_bucket.specs.Places.{empty_places, spaced, has_key, root_at, with_root};
 
@@ -44,7 +45,13 @@ impl<R> Model for Bucket<R> {
 
     ghost Value = { Contents R };
 
-    ghost view = { λ b. record { room = b.queue.room; places = b.places; queue = b.queue.pairs; opened = b.opened; next_fair = b.next_fair } };
+    ghost view = { λ b. record {
+      room = b.queue.room;
+      places = b.places;
+      queue = b.queue.pairs;
+      opened = b.opened;
+      next_fair = b.next_fair;
+    } };
 }
 
 impl<R> Bucket<R> {
@@ -53,7 +60,13 @@ impl<R> Bucket<R> {
 
     /// A closed bucket with these keys, and room for so many threads. No later call takes memory.
     pub fn new(alloc: Global, room: usize, keys: &[usize]) -> Result<Bucket<R>, BucketFault>
-        ensures { IfOk result (λ b. b ≡ record { room = room; places = empty_places keys.now; queue = []; opened = false; next_fair = 0 }) }
+        ensures { IfOk result (λ b. b ≡ record {
+          room = room;
+          places = empty_places keys.now;
+          queue = [];
+          opened = false;
+          next_fair = 0;
+        }) }
     {
         let queue = Queue::new(alloc, room)?;
         let places = Places::new(alloc, keys)?;
@@ -70,7 +83,14 @@ impl<R> Bucket<R> {
         count: usize,
     ) -> Result<Bucket<R>, BucketFault>
         requires { first + (count - 1) * step < 2 ^ 64 }
-        ensures { IfOk result (λ b. b ≡ record { room = room; places = empty_places (spaced first step count); queue = []; opened = false; next_fair = 0 }) }
+        ensures { IfOk result
+            (λ b. b ≡ record {
+              room = room;
+              places = empty_places (spaced first step count);
+              queue = [];
+              opened = false;
+              next_fair = 0;
+            }) }
     {
         let queue = Queue::new(alloc, room)?;
         let places = Places::spaced(alloc, first, step, count)?;
@@ -85,7 +105,13 @@ impl<R> Bucket<R> {
     }
 
     fn closed(queue: Queue, places: Places<R>) -> Bucket<R>
-        ensures { result ≡ record { room = queue.room; places = places; queue = queue.pairs; opened = false; next_fair = 0 } }
+        ensures { result ≡ record {
+          room = queue.room;
+          places = places;
+          queue = queue.pairs;
+          opened = false;
+          next_fair = 0;
+        } }
     {
         Bucket {
             queue,

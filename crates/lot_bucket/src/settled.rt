@@ -25,7 +25,8 @@ impl<R: Root> Model for Settled<R> {
 
     ghost view = { λ s. record { bucket = s.bucket; number = s.number; size = s.size; keys = s.keys } };
 
-    ghost invariant = { λ s. IsSettled R.view (record { bucket = s.bucket; number = s.number; size = s.size; keys = s.keys }) };
+    ghost invariant = { λ s. IsSettled R.view
+        (record { bucket = s.bucket; number = s.number; size = s.size; keys = s.keys }) };
 }
 
 impl<R: Root> Settled<R> {
@@ -44,7 +45,12 @@ impl<R: Root> Settled<R> {
 
     /// A closed bucket with no keys, which stands for one that is not in use. It takes no memory.
     pub fn hollow(alloc: Global) -> Settled<R>
-        ensures { result ≡ record { bucket = record { room = 0; places = []; queue = []; opened = false; next_fair = 0 }; number = 0; size = 0; keys = 0 } }
+        ensures { result ≡ record {
+          bucket = record { room = 0; places = []; queue = []; opened = false; next_fair = 0 };
+          number = 0;
+          size = 0;
+          keys = 0;
+        } }
     {
         Settled {
             bucket: Bucket::hollow(alloc),
@@ -64,7 +70,9 @@ impl<R: Root> Settled<R> {
     /// Whether it is the open bucket of the key, in a table for so many keys, with room for just all threads.
     pub fn is_ready(&self, key: usize, threads: usize, keys: usize) -> bool
         ensures ready { IsTrue result → IsReady R.view key threads keys self.now.bucket }
-        ensures exact { IsTrue result ↔ (self.now.bucket.opened ≡ true) × (0 < self.now.size) × (self.now.number ≡ key % self.now.size) × (self.now.keys ≡ keys) × (key < keys) × (self.now.bucket.room ≡ threads) }
+        ensures exact { IsTrue result ↔ (self.now.bucket.opened ≡ true) × (0 < self.now.size)
+            × (self.now.number ≡ key % self.now.size) × (self.now.keys ≡ keys) × (key < keys)
+            × (self.now.bucket.room ≡ threads) }
     {
         self.bucket.is_open()
             && self.size > 0
@@ -77,7 +85,8 @@ impl<R: Root> Settled<R> {
     /// Whether it is the open bucket `number` of a table of `size` buckets for so many keys.
     pub fn is_whole(&self, number: usize, size: usize, keys: usize) -> bool
         ensures whole { IsTrue result → IsWhole R.view size number keys self.now.bucket }
-        ensures exact { IsTrue result ↔ (self.now.bucket.opened ≡ true) × (self.now.number ≡ number) × (self.now.size ≡ size) × (self.now.keys ≡ keys) }
+        ensures exact { IsTrue result ↔ (self.now.bucket.opened ≡ true) × (self.now.number ≡ number)
+            × (self.now.size ≡ size) × (self.now.keys ≡ keys) }
     {
         self.bucket.is_open() && self.number == number && self.size == size && self.keys == keys
     }
@@ -94,8 +103,10 @@ impl<R: Root> Settled<R> {
     pub fn lend<X, Y, F: FnOnce(&mut Bucket<R>, X) -> (X, Y)>(&mut self, x: X, f: F) -> (X, Y)
         requires is_open { self.old.bucket.opened ≡ true }
         requires callable { (b : _) → b.now ≡ self.old.bucket → F.pre f b x }
-        requires keeps { (b : _) (r : _) (b' : _) → b.now ≡ self.old.bucket → F.post f b x r b' → Stays R.view b.now b'.now }
-        ensures { (b : _) × (b' : _) × (b.now ≡ self.old.bucket) × (self.new ≡ record self.old { bucket = b'.now }) × F.post f b x result b' }
+        requires keeps { (b : _) (r : _) (b' : _) → b.now ≡ self.old.bucket → F.post f b x r b'
+            → Stays R.view b.now b'.now }
+        ensures { (b : _) × (b' : _) × (b.now ≡ self.old.bucket) × (self.new ≡ record self.old { bucket = b'.now })
+            × F.post f b x result b' }
     {
         f(&mut self.bucket, x)
     }

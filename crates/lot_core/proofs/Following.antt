@@ -5,7 +5,8 @@ use Rattle.std.specs.List.{Contains}
 use Rattle.lot_events.specs.declared.events.Point.{Point}
 use Rattle.lot_events.specs.declared.events.Point.TheVariants.{Calm, Wants, Bed, Rest, Sweeps, Seeks}
 use Rattle.lot_events.specs.declared.events.Event.{Event}
-use Rattle.lot_events.specs.declared.events.Event.TheVariants.{Try, Take, Mark, Park, Free, Pass, Enlist, Look, Call, Lower, Sweep, SemTake, SemMark, SemPark, SemFree, SemPass, SemClear}
+use Rattle.lot_events.specs.declared.events.Event.TheVariants.{Try, Take, Mark, Park, Free, Pass, Enlist, Look, Call, Lower, Sweep, SemTake}
+use Rattle.lot_events.specs.declared.events.Event.TheVariants.{SemMark, SemPark, SemFree, SemPass, SemClear}
 use Rattle.lot_core.specs.World.{World, Locks, Conds, Semaphores, put}
 use Rattle.lot_core.specs.Steps.{IsTrying, IsSeeking, MayLetGo, Allowed, after, seen, released, let_go, handed, none_left, permit_taken}
 use Rattle.lot_core.specs.Sound.{IsSound, Waits}
@@ -13,7 +14,8 @@ use Rattle.lot_core.specs.Parts.{LockPart, CondPart, SemaphorePart, wanted, swep
 use Rattle.lot_core.specs.Parts.{MayTry, LockAllowed, served, lock_part_after, lock_seen, IsCalmIn, CondAllowed, cond_part_after, cond_seen}
 use Rattle.lot_core.specs.Parts.{PartSeeks, SemaphoreAllowed, semaphore_part_after, semaphore_seen}
 use Rattle.lot_core.specs.Parts.{IsLockEvent, IsCondEvent, IsSemaphoreEvent, StandsBefore, AsksOfThread}
-use Rattle.lot_core.specs.Parts.{LockPartAllows, CondPartAllows, SemaphorePartAllows, LockPartFollows, CondPartFollows, SemaphorePartFollows}
+use Rattle.lot_core.specs.Parts.{LockPartAllows, CondPartAllows, SemaphorePartAllows, LockPartFollows, CondPartFollows}
+use Rattle.lot_core.specs.Parts.{SemaphorePartFollows}
 use Rattle.lot_core.specs.Rows.{told}
 use Rattle.lot_core.proofs.Put.{by_bit, told_put, told_same}
 use Rattle.lot_core.proofs.Members.{in_head}
@@ -62,7 +64,8 @@ wanted_released (Rest c l) = refl
 wanted_released (Sweeps c) = refl
 wanted_released (Seeks k) = refl
 
-pub told_released : (f : Point → Option ℕ) → ((p : Point) → f (released p) ≡ f p) → (s : World) (t : ℕ) → told f (let_go s.point t) ≡ told f s.point
+pub told_released : (f : Point → Option ℕ) → ((p : Point) → f (released p) ≡ f p) → (s : World) (t : ℕ)
+    → told f (let_go s.point t) ≡ told f s.point
 told_released f same s t = told_same f s.point t (released (s.point t)) (same (s.point t))
 
 -- the threads in the locks' lines stand where they want that lock
@@ -95,7 +98,8 @@ take_untold f blind s t l may =
 pub free_untold : (f : Point → Option ℕ) → ((p : Point) → f (released p) ≡ f p) → (s : World) (t l : ℕ) →
     told f (if s.locks.parked l then s.point else let_go s.point t) ≡ told f s.point
 free_untold f same s t l =
-    by_bit (λ b. told f (if b then s.point else let_go s.point t) ≡ told f s.point) (s.locks.parked l) (λ e. refl) (λ e. told_released f same s t)
+    by_bit (λ b. told f (if b then s.point else let_go s.point t) ≡ told f s.point) (s.locks.parked l) (λ e. refl)
+    (λ e. told_released f same s t)
 
 -- a thread that seeks a permit, or is calm, goes to one of these points
 pub sem_take_untold : (f : Point → Option ℕ) → f Calm ≡ None → ((k : ℕ) → f (Seeks k) ≡ None) → (s : World) (t k : ℕ) →
@@ -120,7 +124,8 @@ pub lock_part_follows : (s : World) (e : Event) → Allowed s e → lock_part (a
 lock_part_follows s (Try t l) ok = refl
 lock_part_follows s (Take t l) ok = lock_part_by s _ _ _
     (told_put wanted s.point t (if s.locks.held l then Wants l else Calm)
-    ∙ ap (put (told wanted s.point) t) (by_bit (λ b. wanted (if b then Wants l else Calm) ≡ (if b then Some l else None)) (s.locks.held l) (λ e. refl) (λ e. refl)))
+    ∙ ap (put (told wanted s.point) t)
+    (by_bit (λ b. wanted (if b then Wants l else Calm) ≡ (if b then Some l else None)) (s.locks.held l) (λ e. refl) (λ e. refl)))
 lock_part_follows s (Mark t l) ok = refl
 lock_part_follows s (Park t l) ok = refl
 lock_part_follows s (Free t l) ok = lock_part_by s _ _ _ (free_untold wanted wanted_released s t l)
@@ -158,14 +163,17 @@ cond_part_follows s (SemFree t k) h ok = refl
 cond_part_follows s (SemPass t k more) h ok = refl
 cond_part_follows s (SemClear t k) h ok = refl
 
-pub semaphore_part_follows : (s : World) (e : Event) → SleepersWant s → Allowed s e → semaphore_part (after s e) ≡ semaphore_part_after (semaphore_part s) e
+pub semaphore_part_follows : (s : World) (e : Event) → SleepersWant s → Allowed s e
+    → semaphore_part (after s e) ≡ semaphore_part_after (semaphore_part s) e
 semaphore_part_follows s (Try t l) h ok = refl
 semaphore_part_follows s (Take t l) h ok = semaphore_part_by s _ _ _ (take_untold sought sought_blind s t l ok.2)
 semaphore_part_follows s (Mark t l) h ok = refl
 semaphore_part_follows s (Park t l) h ok = refl
 semaphore_part_follows s (Free t l) h ok = semaphore_part_by s _ _ _ (free_untold sought (blind_released sought sought_blind) s t l)
-semaphore_part_follows s (Pass t l true more) h ok = semaphore_part_by s _ _ _ (handed_untold sought sought_blind s t l (s.locks.line l) h refl)
-semaphore_part_follows s (Pass t l false more) h ok = semaphore_part_by s _ _ _ (told_released sought (blind_released sought sought_blind) s t)
+semaphore_part_follows s (Pass t l true more) h ok =
+    semaphore_part_by s _ _ _ (handed_untold sought sought_blind s t l (s.locks.line l) h refl)
+semaphore_part_follows s (Pass t l false more) h ok =
+    semaphore_part_by s _ _ _ (told_released sought (blind_released sought sought_blind) s t)
 semaphore_part_follows s (Enlist t c l) h ok = semaphore_part_by s _ _ _ (told_same sought s.point t (Bed c l) (sym (ap sought ok.3)))
 semaphore_part_follows s (Look t c) h ok = refl
 semaphore_part_follows s (Call t c n more) h ok = refl
@@ -173,7 +181,8 @@ semaphore_part_follows s (Lower t c) h ok = semaphore_part_by s _ _ _ (told_same
 semaphore_part_follows s (Sweep t c) h ok = semaphore_part_by s _ _ _ (told_same sought s.point t Calm (sym (ap sought ok.2)))
 semaphore_part_follows s (SemTake t k) h ok = semaphore_part_by s (permit_taken s.sems t k) _ _
     (told_put sought s.point t (if none_left s.sems k then Seeks k else Calm)
-    ∙ ap (put (told sought s.point) t) (by_bit (λ b. sought (if b then Seeks k else Calm) ≡ (if b then Some k else None)) (none_left s.sems k) (λ e. refl) (λ e. refl)))
+    ∙ ap (put (told sought s.point) t)
+    (by_bit (λ b. sought (if b then Seeks k else Calm) ≡ (if b then Some k else None)) (none_left s.sems k) (λ e. refl) (λ e. refl)))
 semaphore_part_follows s (SemMark t k) h ok = refl
 semaphore_part_follows s (SemPark t k) h ok = refl
 semaphore_part_follows s (SemFree t k) h ok = refl
@@ -253,7 +262,8 @@ releaser_wants s t l (inr (c, bed)) = ap wanted bed
 pub part_seeks : (s : World) (t k : ℕ) → IsSeeking s t k → PartSeeks (semaphore_part s) t k
 part_seeks s t k x = (ap sought x.0, x.1)
 
-pub may_seek : (s : World) (t k : ℕ) → ((s.point t ≡ Calm) ⊎ IsSeeking s t k) → (sought (s.point t) ≡ None) ⊎ PartSeeks (semaphore_part s) t k
+pub may_seek : (s : World) (t k : ℕ) → ((s.point t ≡ Calm) ⊎ IsSeeking s t k) → (sought (s.point t) ≡ None)
+    ⊎ PartSeeks (semaphore_part s) t k
 may_seek s t k (inl calm) = inl (ap sought calm)
 may_seek s t k (inr x) = inr (part_seeks s t k x)
 
@@ -328,7 +338,8 @@ sem_takes_asked : (s : World) (t k : ℕ) → ((s.point t ≡ Calm) ⊎ IsSeekin
 sem_takes_asked s t k (inl calm) = inl calm
 sem_takes_asked s t k (inr x) = inr x.0
 
-sem_takes : (s : World) (t k : ℕ) → (sought (s.point t) ≡ None) ⊎ PartSeeks (semaphore_part s) t k → ((s.point t ≡ Calm) ⊎ (s.point t ≡ Seeks k)) →
+sem_takes : (s : World) (t k : ℕ) → (sought (s.point t) ≡ None) ⊎ PartSeeks (semaphore_part s) t k
+    → ((s.point t ≡ Calm) ⊎ (s.point t ≡ Seeks k)) →
     (s.point t ≡ Calm) ⊎ IsSeeking s t k
 sem_takes s t k may (inl calm) = inl calm
 sem_takes s t k (inl none) (inr seeks) = let some = ap sought seeks in absurd (cc)
@@ -425,10 +436,16 @@ semaphore_part_allows s e is = ((λ ok. (semaphore_allowed s e ok is, asked s e 
 -- an event of the whole keeps the semaphore part
 pub part_after : (s : World) (e : Event) → IsKeptPart s.threads s.permits (semaphore_part s) → Allowed s e →
     IsKeptPart s.threads s.permits (semaphore_part_after (semaphore_part s) e)
-part_after s (SemTake t k) h ok = part_kept s.threads _ s.sem_count s.permits (semaphore_part s) (SemTake t k) h (semaphore_allowed s (SemTake t k) ok tt)
-part_after s (SemMark t k) h ok = part_kept s.threads _ s.sem_count s.permits (semaphore_part s) (SemMark t k) h (semaphore_allowed s (SemMark t k) ok tt)
-part_after s (SemPark t k) h ok = part_kept s.threads _ s.sem_count s.permits (semaphore_part s) (SemPark t k) h (semaphore_allowed s (SemPark t k) ok tt)
-part_after s (SemFree t k) h ok = part_kept s.threads _ s.sem_count s.permits (semaphore_part s) (SemFree t k) h (semaphore_allowed s (SemFree t k) ok tt)
-part_after s (SemPass t k more) h ok = part_kept s.threads _ s.sem_count s.permits (semaphore_part s) (SemPass t k more) h (semaphore_allowed s (SemPass t k more) ok tt)
-part_after s (SemClear t k) h ok = part_kept s.threads _ s.sem_count s.permits (semaphore_part s) (SemClear t k) h (semaphore_allowed s (SemClear t k) ok tt)
+part_after s (SemTake t k) h ok =
+    part_kept s.threads _ s.sem_count s.permits (semaphore_part s) (SemTake t k) h (semaphore_allowed s (SemTake t k) ok tt)
+part_after s (SemMark t k) h ok =
+    part_kept s.threads _ s.sem_count s.permits (semaphore_part s) (SemMark t k) h (semaphore_allowed s (SemMark t k) ok tt)
+part_after s (SemPark t k) h ok =
+    part_kept s.threads _ s.sem_count s.permits (semaphore_part s) (SemPark t k) h (semaphore_allowed s (SemPark t k) ok tt)
+part_after s (SemFree t k) h ok =
+    part_kept s.threads _ s.sem_count s.permits (semaphore_part s) (SemFree t k) h (semaphore_allowed s (SemFree t k) ok tt)
+part_after s (SemPass t k more) h ok = part_kept s.threads _ s.sem_count s.permits (semaphore_part s) (SemPass t k more) h
+    (semaphore_allowed s (SemPass t k more) ok tt)
+part_after s (SemClear t k) h ok =
+    part_kept s.threads _ s.sem_count s.permits (semaphore_part s) (SemClear t k) h (semaphore_allowed s (SemClear t k) ok tt)
 part_after s _ h ok = h

@@ -8,7 +8,8 @@ use Rattle.std.proofs.lemmas.Bool.{cases_eq, and_cases}
 use Rattle.lot_events.specs.declared.events.Point.{Point}
 use Rattle.lot_events.specs.declared.events.Point.TheVariants.{Calm, Wants, Bed, Rest, Sweeps, Seeks}
 use Rattle.lot_core.specs.World.{World, Semaphores, put}
-use Rattle.lot_core.specs.Steps.{IsThread, IsTrying, MayLetGo, SaysMore, SaysMoreBehind, enlisted, dequeued, flag_after_call, called, swept, released, let_go}
+use Rattle.lot_core.specs.Steps.{IsThread, IsTrying, MayLetGo, SaysMore, SaysMoreBehind, enlisted, dequeued, flag_after_call, called, swept}
+use Rattle.lot_core.specs.Steps.{released, let_go}
 use Rattle.lot_core.specs.Sound.{Waits, OneOwner, SleepersAreMarked, SomeoneIsTrying, SomeoneSweeps, IsOnce}
 use Rattle.lot_core.proofs.Put.{by_line, at_all, put_same, put_other}
 use Rattle.lot_core.proofs.Members.{in_tail, in_head, in_none, in_drop, some_behind, two_from, once_tail, once_drop, head_left, once_push}
@@ -286,7 +287,8 @@ with_passed_to_none s t l =
       };
     }
 
-pub passed_to_none_kept : (s : World) (t l : ℕ) → IsKept s → s.locks.has l t ≡ true → s.locks.line l ≡ [] → IsKept (with_passed_to_none s t l)
+pub passed_to_none_kept : (s : World) (t l : ℕ) → IsKept s → s.locks.has l t ≡ true → s.locks.line l ≡ []
+    → IsKept (with_passed_to_none s t l)
 passed_to_none_kept s t l h has_it empty = record {
   sound = record {
     one_owner = owners_left s.locks.held s.locks.has l t h.sound.one_owner has_it;
@@ -306,17 +308,20 @@ passed_to_none_kept s t l h has_it empty = record {
 }
 
 -- the first of a line leaves it
-pub left : (line : ℕ → List ℕ) (l u : ℕ) (rest : List ℕ) → line l ≡ u ∷ rest → (k w : ℕ) → Contains (put line l rest k) w → Contains (line k) w
+pub left : (line : ℕ → List ℕ) (l u : ℕ) (rest : List ℕ) → line l ≡ u ∷ rest → (k w : ℕ)
+    → Contains (put line l rest k) w → Contains (line k) w
 left line l u rest is k w =
     at_all (λ k b. Contains (if b then rest else line k) w → Contains (line k) w) l
     (λ inside. subst (λ xs. Contains xs w) (sym is) (in_tail u rest w inside)) (λ k ne inside. inside) k
 
-pub left_once : (line : ℕ → List ℕ) (l u : ℕ) (rest : List ℕ) → line l ≡ u ∷ rest → ((k : ℕ) → IsOnce (line k)) → (k : ℕ) → IsOnce (put line l rest k)
+pub left_once : (line : ℕ → List ℕ) (l u : ℕ) (rest : List ℕ) → line l ≡ u ∷ rest → ((k : ℕ) → IsOnce (line k)) → (k : ℕ)
+    → IsOnce (put line l rest k)
 left_once line l u rest is once =
     at_all (λ k b. IsOnce (if b then rest else line k)) l (once_tail u rest (subst IsOnce is (once l))) (λ k ne. once k)
 
 -- the first of a line is not in it once it left
-pub left_out : (line : ℕ → List ℕ) (l u : ℕ) (rest : List ℕ) → line l ≡ u ∷ rest → ((k : ℕ) → IsOnce (line k)) → Contains (put line l rest l) u → ⊥
+pub left_out : (line : ℕ → List ℕ) (l u : ℕ) (rest : List ℕ) → line l ≡ u ∷ rest → ((k : ℕ) → IsOnce (line k))
+    → Contains (put line l rest l) u → ⊥
 left_out line l u rest is once inside =
     head_left u rest (subst IsOnce is (once l)) (subst (λ xs. Contains xs u) (put_same line l rest) inside)
 
@@ -370,7 +375,8 @@ passed_kept s t l more u rest h has_it is says = record {
         first_known s l u rest h is,
         inl (
           first_wants s l u rest h is ∙ ap Wants (sym e),
-          subst (λ j. Contains (put s.locks.line l rest j) u → ⊥) (sym e) (left_out s.locks.line l u rest is h.sound.one_line_each.lock_once),
+          subst (λ j. Contains (put s.locks.line l rest j) u → ⊥) (sym e)
+              (left_out s.locks.line l u rest is h.sound.one_line_each.lock_once),
         ),
       )
       | inr ne ↦
@@ -429,7 +435,8 @@ rests_now s t c l d bed (k, inr e) u is = absurd (cc)
 pub let_go_kept : (s : World) (t l : ℕ) → IsKept s → MayLetGo s t l → IsKept (record s { point = let_go s.point t })
 let_go_kept s t l h (inl calm) =
     subst (λ p. IsKept (move s t p)) (ap released (sym calm))
-    (move_kept s t Calm h (apart_outside s t Calm h calm_apart calm) (λ k clear try. apart_tries_nothing s t k Calm calm_apart calm try) (λ c some e. absurd (cc)))
+    (move_kept s t Calm h (apart_outside s t Calm h calm_apart calm) (λ k clear try. apart_tries_nothing s t k Calm calm_apart calm try)
+    (λ c some e. absurd (cc)))
 let_go_kept s t l h (inr (c, bed)) = subst (λ p. IsKept (move s t p)) (ap released (sym bed)) (record {
   sound = record {
     one_owner = h.sound.one_owner;
@@ -438,8 +445,12 @@ let_go_kept s t l h (inr (c, bed)) = subst (λ p. IsKept (move s t p)) (ap relea
         let w = h.sound.someone_is_trying k clear some in
         (w.0, w.1, trying_moved s t w.0 k (Rest c l) (λ e. bed_tries_nothing s t c l k bed (subst (λ u. IsTrying s u k) e w.2)) w.2);
     someone_sweeps = λ d clear some.
-        let w = h.sound.someone_sweeps d clear some in
-        (w.0, w.1, put_other s.point t (Rest c l) w.0 (λ e. let is : s.point t ≡ Sweeps d = subst (λ u. s.point u ≡ Sweeps d) e w.2 in absurd (cc)) ∙ w.2);
+        let w = h.sound.someone_sweeps d clear some in (
+          w.0,
+          w.1,
+          put_other s.point t (Rest c l) w.0 (λ e. let is : s.point t ≡ Sweeps d = subst (λ u. s.point u ≡ Sweeps d) e w.2 in absurd (cc))
+              ∙ w.2,
+        );
     one_line_each = record {
       lock_once = h.sound.one_line_each.lock_once;
       cond_once = h.sound.one_line_each.cond_once;
@@ -546,7 +557,8 @@ dequeued_kept s flag c n h =
     (once_drop n (s.conds.line c) (h.sound.one_line_each.cond_once c)) (λ d ne. h.sound.one_line_each.cond_once d))
 
 -- a flag that a Call leaves clear before sleepers was clear before
-pub flag_left : (flag more : Bool) (n : ℕ) (xs : List ℕ) → SaysMoreBehind n xs more → flag_after_call flag more xs ≡ false → drop n xs ≢ [] → flag ≡ false
+pub flag_left : (flag more : Bool) (n : ℕ) (xs : List ℕ) → SaysMoreBehind n xs more → flag_after_call flag more xs ≡ false
+    → drop n xs ≢ [] → flag ≡ false
 flag_left flag more n [] says clear some = absurd (some (drop-nil n))
 flag_left flag more n (u ∷ rest) says clear some = elim (and_cases flag more clear) [
   | inl e ↦ e
@@ -558,9 +570,11 @@ pub called_kept : (s : World) (c n : ℕ) (more : Bool) → IsKept s → SaysMor
 called_kept s c n more h says =
     let xs : List ℕ = s.conds.line c in
     dequeued_kept s (put s.conds.flag c (flag_after_call (s.conds.flag c) more xs)) c n h
-    (at_all (λ d b. (if b then flag_after_call (s.conds.flag c) more xs else s.conds.flag d) ≡ false → (if b then drop n xs else s.conds.line d) ≢ [] →
+    (at_all (λ d b. (if b then flag_after_call (s.conds.flag c) more xs else s.conds.flag d) ≡ false
+    → (if b then drop n xs else s.conds.line d) ≢ [] →
     (t : ℕ) × IsThread s t × (s.point t ≡ Sweeps d)) c
-    (λ clear some. h.sound.someone_sweeps c (flag_left (s.conds.flag c) more n xs says clear some) (λ none. some (ap (drop n) none ∙ drop-nil n)))
+    (λ clear some. h.sound.someone_sweeps c (flag_left (s.conds.flag c) more n xs says clear some)
+    (λ none. some (ap (drop n) none ∙ drop-nil n)))
     (λ d ne clear some. h.sound.someone_sweeps d clear some))
 
 pub lowered_kept : (s : World) (t c : ℕ) → IsKept s → IsThread s t → s.point t ≡ Sweeps c →
@@ -574,5 +588,6 @@ pub swept_kept : (s : World) (c : ℕ) → IsKept s → IsKept (record s { conds
 swept_kept s c h =
     let xs : List ℕ = s.conds.line c in
     dequeued_kept s s.conds.flag c (length xs) h
-    (at_all (λ d b. s.conds.flag d ≡ false → (if b then drop (length xs) xs else s.conds.line d) ≢ [] → (t : ℕ) × IsThread s t × (s.point t ≡ Sweeps d)) c
+    (at_all (λ d b. s.conds.flag d ≡ false → (if b then drop (length xs) xs else s.conds.line d) ≢ [] → (t : ℕ) × IsThread s t
+    × (s.point t ≡ Sweeps d)) c
     (λ clear some. absurd (some (drop-length xs))) (λ d ne clear some. h.sound.someone_sweeps d clear some))

@@ -6,10 +6,12 @@ use Rattle.std.proofs.Math.Seq.{drop-length}
 use Rattle.lot_events.specs.declared.events.Point.{Point}
 use Rattle.lot_events.specs.declared.events.Point.TheVariants.{Calm, Wants, Bed, Rest, Sweeps, Seeks}
 use Rattle.lot_events.specs.declared.events.Event.{Event}
-use Rattle.lot_events.specs.declared.events.Event.TheVariants.{Try, Take, Mark, Park, Free, Pass, Enlist, Look, Call, Lower, Sweep, SemTake, SemMark, SemPark, SemFree, SemPass, SemClear}
+use Rattle.lot_events.specs.declared.events.Event.TheVariants.{Try, Take, Mark, Park, Free, Pass, Enlist, Look, Call, Lower, Sweep, SemTake}
+use Rattle.lot_events.specs.declared.events.Event.TheVariants.{SemMark, SemPark, SemFree, SemPass, SemClear}
 use Rattle.lot_core.specs.Rows.{row_from}
 use Rattle.lot_core.specs.World.{World, put, opening_with}
-use Rattle.lot_core.specs.Steps.{IsThread, IsTrying, IsSeeking, MayLetGo, SaysMore, Allowed, after, Run, after_all, IsReached, passed_line, swept, handed, let_go}
+use Rattle.lot_core.specs.Steps.{IsThread, IsTrying, IsSeeking, MayLetGo, SaysMore, Allowed, after, Run, after_all, IsReached, passed_line}
+use Rattle.lot_core.specs.Steps.{swept, handed, let_go}
 use Rattle.lot_core.specs.Steps.{with_sem_parked, seeker_queued, permit_taken, permit_freed, permit_passed}
 use Rattle.lot_core.specs.Sound.{IsSound}
 use Rattle.lot_core.specs.Parts.{sought, semaphore_part, semaphore_part_after}
@@ -18,9 +20,12 @@ use Rattle.lot_core.proofs.Members.{once_none, in_none}
 use Rattle.lot_core.proofs.Permits.{IsKeptPart, part_opening}
 use Rattle.lot_core.proofs.Following.{sought_is, part_after, semaphore_part_follows}
 use Rattle.lot_core.proofs.Runs.{run_push, after_push}
-use Rattle.lot_core.proofs.Kept.{IsKept, IsOutside, IsApart, calm_apart, sweeps_apart, seeks_apart, apart_outside, apart_tries_nothing, outside_wants, outside_trying}
-use Rattle.lot_core.proofs.Kept.{trying_one, trying_sweeps_nothing, sems_kept, move, move_kept, with_got, got_kept, marked_kept, with_queued, queued_kept}
-use Rattle.lot_core.proofs.Kept.{with_freed, freed_kept, with_passed_to_none, passed_to_none_kept, with_passed, passed_kept, with_handed, handed_kept}
+use Rattle.lot_core.proofs.Kept.{IsKept, IsOutside, IsApart, calm_apart, sweeps_apart, seeks_apart, apart_outside, apart_tries_nothing}
+use Rattle.lot_core.proofs.Kept.{outside_wants, outside_trying}
+use Rattle.lot_core.proofs.Kept.{trying_one, trying_sweeps_nothing, sems_kept, move, move_kept, with_got, got_kept, marked_kept}
+use Rattle.lot_core.proofs.Kept.{with_queued, queued_kept}
+use Rattle.lot_core.proofs.Kept.{with_freed, freed_kept, with_passed_to_none, passed_to_none_kept, with_passed, passed_kept, with_handed}
+use Rattle.lot_core.proofs.Kept.{handed_kept}
 use Rattle.lot_core.proofs.Kept.{left_out, first_wants, let_go_kept, enlisted_kept, called_kept, lowered_kept, swept_kept}
 
 pub try_kept : (s : World) (t l : ℕ) → IsKept s → IsKept (after s (Try t l))
@@ -51,7 +56,8 @@ take_kept s t l h may =
     (λ k clear try. let same : k ≡ l = taker_tries s t l k may try in
     let unheld : s.locks.held l ≡ false = subst (λ j. s.locks.held j ≡ false) same clear in absurd (cc))
     (λ c some at. taker_sweeps s t l c may at))
-    (λ unheld. move_kept (with_got s t l) t Calm (got_kept s t l h unheld) (taker_outside (with_got s t l) t l (got_kept s t l h unheld) may)
+    (λ unheld. move_kept (with_got s t l) t Calm (got_kept s t l h unheld)
+    (taker_outside (with_got s t l) t l (got_kept s t l h unheld) may)
     (λ k clear try. let same : k ≡ l = taker_tries s t l k may try in
     let held : put s.locks.held l true k ≡ true = ap (put s.locks.held l true) same ∙ put_same s.locks.held l true in absurd (cc))
     (λ c some at. taker_sweeps s t l c may at))
@@ -101,7 +107,8 @@ hand_over_kept s t l u rest h has_it may is =
 
 pub pass_kept : (s : World) (t l : ℕ) (fair more : Bool) → IsKept s → Allowed s (Pass t l fair more) → IsKept (after s (Pass t l fair more))
 pass_kept s t l true more h ok =
-    by_line (λ xs. IsKept (record s { locks = passed_line s.locks t l true more xs; point = handed (let_go s.point t) xs })) (s.locks.line l)
+    by_line (λ xs. IsKept (record s { locks = passed_line s.locks t l true more xs; point = handed (let_go s.point t) xs }))
+    (s.locks.line l)
     (λ none. let_go_kept (with_passed_to_none s t l) t l (passed_to_none_kept s t l h ok.2 none) ok.4)
     (λ u rest is. hand_over_kept s t l u rest h ok.2 ok.4 is)
 pass_kept s t l false more h ok =
@@ -113,13 +120,15 @@ pass_kept s t l false more h ok =
 pub enlist_kept : (s : World) (t c l : ℕ) → IsKept s → IsThread s t → s.point t ≡ Calm → IsKept (after s (Enlist t c l))
 enlist_kept s t c l h thread calm =
     let out : IsOutside s t = apart_outside s t Calm h calm_apart calm in
-    let at_bed = move_kept s t (Bed c l) h out (λ k clear try. apart_tries_nothing s t k Calm calm_apart calm try) (λ d some e. absurd (cc)) in
+    let at_bed = move_kept s t (Bed c l) h out (λ k clear try. apart_tries_nothing s t k Calm calm_apart calm try)
+    (λ d some e. absurd (cc)) in
     enlisted_kept (move s t (Bed c l)) t c l at_bed thread (put_same s.point t (Bed c l)) (record { locks = out.locks; conds = out.conds })
 
 pub lower_kept : (s : World) (t c : ℕ) → IsKept s → IsThread s t → s.point t ≡ Calm → IsKept (after s (Lower t c))
 lower_kept s t c h thread calm =
     lowered_kept (move s t (Sweeps c)) t c
-    (move_kept s t (Sweeps c) h (apart_outside s t Calm h calm_apart calm) (λ k clear try. apart_tries_nothing s t k Calm calm_apart calm try) (λ d some e. absurd (cc)))
+    (move_kept s t (Sweeps c) h (apart_outside s t Calm h calm_apart calm)
+    (λ k clear try. apart_tries_nothing s t k Calm calm_apart calm try) (λ d some e. absurd (cc)))
     thread (put_same s.point t (Sweeps c))
 
 pub sweep_kept : (s : World) (t c : ℕ) → IsKept s → s.point t ≡ Sweeps c → IsKept (after s (Sweep t c))
@@ -269,7 +278,8 @@ opening_sound threads locks conds permits = both_sound (opening_with threads loc
 }) (part_opening threads (row_from 0 (locks + conds) permits))
 
 -- every run from an opening state ends in a sound state
-pub runs_are_sound : (threads locks conds : ℕ) (permits : List ℕ) (events : List Event) → Run (opening_with threads locks conds permits) events →
+pub runs_are_sound : (threads locks conds : ℕ) (permits : List ℕ) (events : List Event)
+    → Run (opening_with threads locks conds permits) events →
     IsSound (after_all (opening_with threads locks conds permits) events)
 runs_are_sound threads locks conds permits events run =
     run_kept (opening_with threads locks conds permits) events (opening_sound threads locks conds permits) run

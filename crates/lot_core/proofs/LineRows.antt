@@ -1,5 +1,6 @@
 -- The lines of a `Lines`, one by one.
-use Rattle.std.proofs.Common.{◌≡◌, ◌<◌, ◌+◌, ◌-◌, ◌++◌, ℕ, List, [], ◌∷◌, length, drop, get_or, map, refl, sym, ap, ◌∙◌, arith, subst, Global, inl, inr, option_to_list, deque_len, IsSome, IfSome}
+use Rattle.std.proofs.Common.{◌≡◌, ◌<◌, ◌+◌, ◌-◌, ◌++◌, ℕ, List, [], ◌∷◌, length, drop, get_or, map, refl, sym, ap, ◌∙◌, arith, subst}
+use Rattle.std.proofs.Common.{Global, inl, inr, option_to_list, deque_len, IsSome, IfSome}
 use Rattle.std.proofs.Common.{Bor, Option, Some, None, Decides, length-append}
 use Rattle.std.proofs.lemmas.List.{length-map, drop-drop}
 use Rattle.std.specs.declared.collections.VecDeque.{VecDeque}
@@ -32,7 +33,8 @@ line_write s k q xs has is =
     ∙ ap (put (row_from [] s.low (map (λ q. q.items) s.lines.items)) k) is
 
 -- and none, where the queue is what it was
-pub line_rewrite : (s : Lines) (k : ℕ) (q old : VecDeque ℕ Global) → HasKey s k → old ≡ get_or s.lines.items (k - s.low) old → q.items ≡ old.items →
+pub line_rewrite : (s : Lines) (k : ℕ) (q old : VecDeque ℕ Global) → HasKey s k
+    → old ≡ get_or s.lines.items (k - s.low) old → q.items ≡ old.items →
     line_of (record s { lines = with_item s.lines (k - s.low) q }) ≡ line_of s
 line_rewrite s k q old has was is =
     line_write s k q (line_of s k) has (is ∙ sym (line_item s k old has was)) ∙ put_again (line_of s) k
@@ -59,7 +61,8 @@ pub none_begun : (qs : List (VecDeque ℕ Global)) → qs ≡ [] → (length qs 
 none_begun qs is = (ap length is, (λ i. ap (λ (ps : List (VecDeque ℕ Global)). get_or (map (λ q. q.items) ps) i []) is))
 
 pub one_begun : (qs more : List (VecDeque ℕ Global)) (q : VecDeque ℕ Global) (n : ℕ) → more ≡ qs ++ q ∷ [] → q.items ≡ [] →
-    (length qs ≡ n) × ((i : ℕ) → get_or (map (λ q. q.items) qs) i [] ≡ []) → (length more ≡ n + 1) × ((i : ℕ) → get_or (map (λ q. q.items) more) i [] ≡ [])
+    (length qs ≡ n) × ((i : ℕ) → get_or (map (λ q. q.items) qs) i [] ≡ []) → (length more ≡ n + 1)
+    × ((i : ℕ) → get_or (map (λ q. q.items) more) i [] ≡ [])
 one_begun qs more q n is empty so = (
   omega (arith, ap length is, length-append qs (q ∷ []), so.0),
   (λ i. ap (λ (ps : List (VecDeque ℕ Global)). get_or (map (λ q. q.items) ps) i []) is ∙ none_more (λ q. q.items) [] qs q empty so.1 i),
@@ -102,4 +105,5 @@ line_contains s k t q found has is tells =
     subst (λ xs. IsTrue found ↔ Contains xs t) (sym (line_item s k q has is)) tells
 
 pub outside_contains : (s : Lines) (k t : ℕ) → (HasKey s k → ⊥) → (IsTrue false ↔ Contains (line_of s k) t)
-outside_contains s k t other = subst (λ xs. IsTrue false ↔ Contains xs t) (sym (line_outside s k other)) ((λ e. absurd (cc)), (λ inside. absurd (in_none t inside)))
+outside_contains s k t other =
+    subst (λ xs. IsTrue false ↔ Contains xs t) (sym (line_outside s k other)) ((λ e. absurd (cc)), (λ inside. absurd (in_none t inside)))

@@ -18,14 +18,17 @@ built threads locks conds permits owner parked lock_line flag cond_line point =
       point = point;
     }
 
-pub opened : (threads locks conds : ℕ) (permits : List ℕ) (owners : List (Option ℕ)) (bits flags : List Bool) (lock_lines cond_lines : Lines) (points : List Point) →
+pub opened : (threads locks conds : ℕ) (permits : List ℕ) (owners : List (Option ℕ)) (bits flags : List Bool)
+    (lock_lines cond_lines : Lines) (points : List Point) →
     owners ≡ replicate locks None → bits ≡ replicate locks false → line_of lock_lines ≡ no_lines →
     flags ≡ replicate conds false → line_of cond_lines ≡ no_lines → points ≡ replicate threads Calm →
-    built threads locks conds permits (row None owners) (row false bits) (line_of lock_lines) (row_from false locks flags) (line_of cond_lines) (row Calm points)
+    built threads locks conds permits (row None owners) (row false bits) (line_of lock_lines) (row_from false locks flags)
+    (line_of cond_lines) (row Calm points)
     ≡ opening_with threads locks conds permits
 opened threads locks conds permits owners bits flags lock_lines cond_lines points no_owner no_bit no_sleeper no_flag no_waiter all_calm =
     let with = built threads locks conds permits in
-    ap (λ (o : ℕ → Option ℕ). with o (row false bits) (line_of lock_lines) (row_from false locks flags) (line_of cond_lines) (row Calm points))
+    ap (λ (o : ℕ → Option ℕ). with o (row false bits) (line_of lock_lines) (row_from false locks flags)
+    (line_of cond_lines) (row Calm points))
     (ap (row None) no_owner ∙ row_none None locks)
     ∙ ap (λ (p : ℕ → Bool). with (λ l. None) p (line_of lock_lines) (row_from false locks flags) (line_of cond_lines) (row Calm points))
     (ap (row false) no_bit ∙ row_none false locks)
@@ -39,19 +42,24 @@ opened threads locks conds permits owners bits flags lock_lines cond_lines point
     (ap (row Calm) all_calm ∙ row_none Calm threads)
 
 -- with the semaphores that were made for it
-pub opened_with : (threads locks conds : ℕ) (permits : List ℕ) (owners : List (Option ℕ)) (bits flags : List Bool) (lock_lines cond_lines : Lines) (points : List Point)
+pub opened_with : (threads locks conds : ℕ) (permits : List ℕ) (owners : List (Option ℕ)) (bits flags : List Bool)
+    (lock_lines cond_lines : Lines) (points : List Point)
     (n : ℕ) (p : ℕ → ℕ) (z : Semaphores) →
     owners ≡ replicate locks None → bits ≡ replicate locks false → line_of lock_lines ≡ no_lines →
     flags ≡ replicate conds false → line_of cond_lines ≡ no_lines → points ≡ replicate threads Calm →
     n ≡ length permits → p ≡ row_from 0 (locks + conds) permits → z ≡ none_taken (row_from 0 (locks + conds) permits) →
-    record (built threads locks conds permits (row None owners) (row false bits) (line_of lock_lines) (row_from false locks flags) (line_of cond_lines) (row Calm points)) {
+    record (built threads locks conds permits (row None owners) (row false bits) (line_of lock_lines) (row_from false locks flags)
+    (line_of cond_lines) (row Calm points)) {
       sem_count = n;
       permits = p;
       sems = z;
     } ≡ opening_with threads locks conds permits
-opened_with threads locks conds permits owners bits flags lock_lines cond_lines points n p z no_owner no_bit no_sleeper no_flag no_waiter all_calm count numbers sems =
-    let w : World = built threads locks conds permits (row None owners) (row false bits) (line_of lock_lines) (row_from false locks flags) (line_of cond_lines) (row Calm points) in
+opened_with threads locks conds permits owners bits flags lock_lines cond_lines points n p z no_owner no_bit no_sleeper no_flag no_waiter
+    all_calm count numbers sems =
+    let w : World = built threads locks conds permits (row None owners) (row false bits) (line_of lock_lines) (row_from false locks flags)
+    (line_of cond_lines) (row Calm points) in
     ap (λ (m : ℕ). let v : World = record w { sem_count = m; permits = p; sems = z } in v) count
     ∙ ap (λ (q : ℕ → ℕ). let v : World = record w { permits = q; sems = z } in v) numbers
     ∙ ap (λ (y : Semaphores). let v : World = record w { sems = y } in v) sems
-    ∙ opened threads locks conds permits owners bits flags lock_lines cond_lines points no_owner no_bit no_sleeper no_flag no_waiter all_calm
+    ∙ opened threads locks conds permits owners bits flags lock_lines cond_lines points no_owner no_bit no_sleeper
+    no_flag no_waiter all_calm

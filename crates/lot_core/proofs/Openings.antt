@@ -1,5 +1,6 @@
 -- The line that opens a script: read, it is spelled so, and spelled so, it is read.
-use Rattle.std.proofs.Common.{◌≡◌, ◌<◌, ◌++◌, ℕ, List, [], ◌∷◌, length, length-append, arith, Some, None, refl, sym, ap, ◌∙◌, subst, append_assoc}
+use Rattle.std.proofs.Common.{◌≡◌, ◌<◌, ◌++◌, ℕ, List, [], ◌∷◌, length, length-append, arith, Some, None, refl, sym, ap, ◌∙◌, subst}
+use Rattle.std.proofs.Common.{append_assoc}
 use Rattle.std.specs.Prelude.{codes, flat_map}
 use Rattle.std.specs.List.{AllByRecursion}
 use Rattle.lot_core.specs.Script.{field, line, IsSmall, Opening, NoOpening, ReachesPermits}
@@ -8,7 +9,8 @@ use Rattle.lot_events.proofs.Figures.{bind_is, bind_some, some_is, Ends, field_t
 use Rattle.lot_events.proofs.Spelled.{rest_behind_takes, regroup, its_line, fields_end}
 
 -- numbers that were read are spelled
-pub numbers_take : (text numbers rest : List ℕ) → ReadsNumbers text numbers rest → AllByRecursion IsSmall numbers × (text ≡ flat_map field numbers ++ rest)
+pub numbers_take : (text numbers rest : List ℕ) → ReadsNumbers text numbers rest → AllByRecursion IsSmall numbers
+    × (text ≡ flat_map field numbers ++ rest)
 numbers_take text [] rest is = (tt, is)
 numbers_take text (n ∷ numbers) rest (behind, is, more) =
     let first = field_takes text n behind is in
@@ -16,7 +18,8 @@ numbers_take text (n ∷ numbers) rest (behind, is, more) =
     ((first.0, others.0), first.1 ∙ ap (λ r. field n ++ r) others.1 ∙ sym (append_assoc (field n) (flat_map field numbers) rest))
 
 -- one more number was read
-pub numbers_push : (text numbers rest : List ℕ) (n : ℕ) (behind : List ℕ) → ReadsNumbers text numbers rest → field_at rest ≡ Some (n, behind) →
+pub numbers_push : (text numbers rest : List ℕ) (n : ℕ) (behind : List ℕ) → ReadsNumbers text numbers rest
+    → field_at rest ≡ Some (n, behind) →
     ReadsNumbers text (numbers ++ n ∷ []) behind
 numbers_push text [] rest n behind same is = (behind, ap field_at same ∙ is, refl)
 numbers_push text (m ∷ numbers) rest n behind (after, reads, others) is = (after, reads, numbers_push after numbers rest n behind others is)
@@ -33,7 +36,8 @@ number_again n numbers more small =
     ap field_at (append_assoc (field n) (flat_map field numbers) (10 ∷ more))
     ∙ field_again n (flat_map field numbers ++ (10 ∷ more)) small.0 (fields_end numbers more)
 
-pub numbers_again : (numbers more : List ℕ) → AllByRecursion IsSmall numbers → ReadsNumbers (flat_map field numbers ++ (10 ∷ more)) numbers (10 ∷ more)
+pub numbers_again : (numbers more : List ℕ) → AllByRecursion IsSmall numbers
+    → ReadsNumbers (flat_map field numbers ++ (10 ∷ more)) numbers (10 ∷ more)
 numbers_again [] more small = refl
 numbers_again (n ∷ numbers) more small = (
   flat_map field numbers ++ (10 ∷ more),
@@ -54,7 +58,8 @@ one_reading text [] rest (p ∷ spelled) more same none small is =
 one_reading text (n ∷ numbers) rest [] more (behind, reads, others) none small is =
     let some = sym reads ∙ ap field_at is ∙ none_at_end more in absurd (cc)
 one_reading text (n ∷ numbers) rest (p ∷ spelled) more (behind, reads, others) none small is =
-    let both = some_is (n, behind) (p, flat_map field spelled ++ (10 ∷ more)) (sym reads ∙ ap field_at is ∙ number_again p spelled more small) in
+    let both = some_is (n, behind) (p, flat_map field spelled ++ (10 ∷ more)) (sym reads ∙ ap field_at is
+    ∙ number_again p spelled more small) in
     let next = one_reading behind numbers rest spelled more others none small.1 (ap (λ (y : ℕ × List ℕ). y.1) both) in
     (ap (λ k. k ∷ numbers) (ap (λ (y : ℕ × List ℕ). y.0) both) ∙ ap (λ ns. p ∷ ns) next.0, next.1)
 
@@ -83,7 +88,8 @@ open_takes text n l c rest is =
     ∙ ap (λ r. codes "open" ++ r)
     (t.1 ∙ ap (λ r. field threads.0.0 ++ r)
     (k.1 ∙ ap (λ r. field locks.0.0 ++ r) m.1)) in
-    subst (λ (y : ℕ × ℕ × ℕ × List ℕ). AllByRecursion IsSmall (y.0 ∷ y.1 ∷ y.2 ∷ []) × (text ≡ codes "open" ++ (field y.0 ++ (field y.1 ++ (field y.2 ++ y.3))))) all
+    subst (λ (y : ℕ × ℕ × ℕ × List ℕ). AllByRecursion IsSmall (y.0 ∷ y.1 ∷ y.2 ∷ [])
+    × (text ≡ codes "open" ++ (field y.0 ++ (field y.1 ++ (field y.2 ++ y.3))))) all
     ((t.0, (k.0, (m.0, tt))), parts)
 
 pub open_word : (rest : List ℕ) → rest_behind (codes "open") (codes "open" ++ rest) ≡ Some rest
@@ -112,7 +118,8 @@ no_opening text none n l c ps first more is parts =
     let read = sym none ∙ opening_again text n l c ps first more is parts in absurd (cc)
 
 -- what was read of the numbers began with one, where another was found behind them
-pub first_number : (text numbers rest : List ℕ) (n : ℕ) (behind : List ℕ) → ReadsNumbers text numbers rest → field_at rest ≡ Some (n, behind) →
+pub first_number : (text numbers rest : List ℕ) (n : ℕ) (behind : List ℕ) → ReadsNumbers text numbers rest
+    → field_at rest ≡ Some (n, behind) →
     (p : ℕ) × (after : List ℕ) × (field_at text ≡ Some (p, after))
 first_number text [] rest n behind same is = (n, behind, ap field_at same ∙ is)
 first_number text (m ∷ numbers) rest n behind (after, reads, others) is = (m, after, reads)
@@ -139,7 +146,8 @@ reaches_permits text n l c behind p rest opens reads =
     }
 
 -- where something else than the end of the line stands behind the numbers
-pub no_end : (text : List ℕ) (n l c : ℕ) (behind numbers rest : List ℕ) → open_at text ≡ Some (n, l, c, behind) → ReadsNumbers behind numbers rest →
+pub no_end : (text : List ℕ) (n l c : ℕ) (behind numbers rest : List ℕ) → open_at text ≡ Some (n, l, c, behind)
+    → ReadsNumbers behind numbers rest →
     field_at rest ≡ None → end_at rest ≡ None → NoOpening text
 no_end text n l c behind numbers rest opens reads none no_line n' l' c' ps first more is parts =
     let both = some_is (n, l, c, behind) (n', l', c', flat_map field ps ++ (10 ∷ more))

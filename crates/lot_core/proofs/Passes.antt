@@ -44,7 +44,8 @@ hands_line a o t l more (u ∷ rest) owned held has some =
     (owns_handed o t u (ap (λ (f : ℕ → Bool). f t) (sym owned) ∙ has) ∙ ap (λ (f : ℕ → Bool). put (put f t false) u true) (sym owned))
 
 pub leaves_line : (a : Locks) (t l : ℕ) (fair more : Bool) (xs : List ℕ) → a.line l ≡ xs → (fair ≡ true → is_some (first xs) ≡ false) →
-    locks_of a (put a.held l false) (put a.parked l (is_some (first xs) && more)) (put a.line l (drop 1 xs)) (put a.has l (put (a.has l) t false))
+    locks_of a (put a.held l false) (put a.parked l (is_some (first xs) && more)) (put a.line l (drop 1 xs))
+    (put a.has l (put (a.has l) t false))
     ≡ passed_line a t l fair more xs
 leaves_line a t l fair more [] is none =
     ap (λ (line : ℕ → List ℕ). locks_of a (put a.held l false) (put a.parked l false) line (put a.has l (put (a.has l) t false)))
@@ -73,7 +74,8 @@ pass_hands s x y t l fair more o taken owned is is_fair some has =
 -- a pass that hands the lock to nobody
 pub pass_leaves : (s : State) (x y z : World) (t l : ℕ) (fair more said : Bool) (o : Option ℕ) →
     x ≡ with_lock_line (world_of s) l (drop 1 ((world_of s).locks.line l)) → y ≡ with_owner x l None → z ≡ with_parked y l said →
-    o ≡ first ((world_of s).locks.line l) → said ≡ (is_some o && more) → (fair ≡ true → is_some o ≡ false) → (world_of s).locks.has l t ≡ true →
+    o ≡ first ((world_of s).locks.line l) → said ≡ (is_some o && more) → (fair ≡ true → is_some o ≡ false)
+    → (world_of s).locks.has l t ≡ true →
     z ≡ record (world_of s) { locks = passed (world_of s).locks t l fair more }
 pass_leaves s x y z t l fair more said o taken owned parked is says none has =
     let w = world_of s in

@@ -1,5 +1,6 @@
 -- What each event keeps of the semaphores.
-use Rattle.std.proofs.Common.{◌≡◌, ◌≢◌, ◌⊎◌, ◌+◌, ◌-◌, ◌<◌, ◌≤◌, ◌++◌, ℕ, Bool, true, false, not, List, [], ◌∷◌, Option, Some, None, refl, subst, sym, ap, ◌∙◌, arith, inl, inr}
+use Rattle.std.proofs.Common.{◌≡◌, ◌≢◌, ◌⊎◌, ◌+◌, ◌-◌, ◌<◌, ◌≤◌, ◌++◌, ℕ, Bool, true, false, not, List, [], ◌∷◌, Option, Some, None, refl}
+use Rattle.std.proofs.Common.{subst, sym, ap, ◌∙◌, arith, inl, inr}
 use Rattle.std.specs.Prelude.{◌==◌, ◌&&◌, ◌||◌, if◌then◌else◌, nat_eq}
 use Rattle.std.specs.List.{Contains, list_any}
 use Rattle.std.proofs.lemmas.Bool.{eqb-true, eqb-false, eq-eqb, ne_eqb, and_parts, and_left, false_from_ne_true}
@@ -111,8 +112,11 @@ takes n opening k left parked line out seeks t h near some may = record {
       omega (arith, bit_le (is_seeking (seeks t) k line t));
   once = h.once;
   named = λ u inside.
-      let is : (u < n) × (seeks u ≡ Some k) = h.named u inside in
-      (is.0, put_other seeks t None u (λ e. taker_outside n opening k left parked line out seeks t h may (subst (Contains line) e inside)) ∙ is.1);
+      let is : (u < n) × (seeks u ≡ Some k) = h.named u inside in (
+        is.0,
+        put_other seeks t None u (λ e. taker_outside n opening k left parked line out seeks t h may (subst (Contains line) e inside))
+            ∙ is.1,
+      );
 }
 
 -- t finds none left
@@ -178,11 +182,13 @@ gives n opening k left parked line out seeks t h near some empty = record {
 }
 
 -- t gives a permit back, and the first of the line leaves it
-pub passes : (n opening k left : ℕ) (parked : Bool) (line : List ℕ) (out : ℕ → ℕ) (seeks : ℕ → Option ℕ) (t : ℕ) (more : Bool) (u : ℕ) (rest : List ℕ) →
+pub passes : (n opening k left : ℕ) (parked : Bool) (line : List ℕ) (out : ℕ → ℕ) (seeks : ℕ → Option ℕ) (t : ℕ) (more : Bool)
+    (u : ℕ) (rest : List ℕ) →
     IsKeptSemaphore n opening k left parked line out seeks → t < n → 1 ≤ out t → line ≡ u ∷ rest → SaysMore (u ∷ rest) more →
     IsKeptSemaphore n opening k (left + 1) more rest (put out t (out t - 1)) seeks
 passes n opening k left parked line out seeks t more u rest h near some is says =
-    let h' : IsKeptSemaphore n opening k left parked (u ∷ rest) out seeks = subst (λ xs. IsKeptSemaphore n opening k left parked xs out seeks) is h in
+    let h' : IsKeptSemaphore n opening k left parked (u ∷ rest) out seeks =
+    subst (λ xs. IsKeptSemaphore n opening k left parked xs out seeks) is h in
     let first : (u < n) × (seeks u ≡ Some k) = h'.named u (in_head u rest) in
     record {
       conserved = conserved_given n opening left out t h.conserved near some;
@@ -239,7 +245,8 @@ pub taker_beside : (a : SemaphorePart) (t k i : ℕ) → i ≢ k → (a.seeks t 
 taker_beside a t k i ne (inl none) e = absurd (cc)
 taker_beside a t k i ne (inr x) e = let is = x.0 in ne (let same : i ≡ k = cc in same)
 
-pub take_part : (n : ℕ) (permits : ℕ → ℕ) (a : SemaphorePart) (t k : ℕ) → IsKeptPart n permits a → t < n → (a.seeks t ≡ None) ⊎ PartSeeks a t k →
+pub take_part : (n : ℕ) (permits : ℕ → ℕ) (a : SemaphorePart) (t k : ℕ) → IsKeptPart n permits a → t < n
+    → (a.seeks t ≡ None) ⊎ PartSeeks a t k →
     IsKeptPart n permits (semaphore_part_after a (SemTake t k))
 take_part n permits a t k h near may =
     let z = a.sems in
@@ -249,21 +256,25 @@ take_part n permits a t k h near may =
     })) (none_left z k)
     (λ none. at_all (λ i b. IsKeptSemaphore n (permits i) i (z.left i) (z.parked i) (z.line i) (z.out i) (put a.seeks t (Some k))) k
     (finds_none n (permits k) k (z.left k) (z.parked k) (z.line k) (z.out k) a.seeks t (h k) (eqb-true (z.left k) 0 none))
-    (λ i ne. beside n (permits i) i (z.left i) (z.parked i) (z.line i) (z.out i) a.seeks t (Some k) (h i) (taker_beside a t k i ne may) (λ e. let same : i ≡ k = cc in ne same)))
+    (λ i ne. beside n (permits i) i (z.left i) (z.parked i) (z.line i) (z.out i) a.seeks t (Some k) (h i) (taker_beside a t k i ne may)
+    (λ e. let same : i ≡ k = cc in ne same)))
     (λ some. at_all (λ i b. IsKeptSemaphore n (permits i) i (if b then z.left k - 1 else z.left i) (z.parked i) (z.line i)
     (if b then put (z.out k) t (z.out k t + 1) else z.out i) (put a.seeks t None)) k
     (takes n (permits k) k (z.left k) (z.parked k) (z.line k) (z.out k) a.seeks t (h k) near (eqb-false (z.left k) 0 some) may)
-    (λ i ne. beside n (permits i) i (z.left i) (z.parked i) (z.line i) (z.out i) a.seeks t None (h i) (taker_beside a t k i ne may) (λ e. absurd (cc))))
+    (λ i ne. beside n (permits i) i (z.left i) (z.parked i) (z.line i) (z.out i) a.seeks t None (h i)
+    (taker_beside a t k i ne may) (λ e. absurd (cc))))
 
 pub park_part : (n : ℕ) (permits : ℕ → ℕ) (a : SemaphorePart) (t k : ℕ) → IsKeptPart n permits a → t < n → PartSeeks a t k →
     IsKeptPart n permits (semaphore_part_after a (SemPark t k))
 park_part n permits a t k h near seeks =
     let z = a.sems in
-    by_bit (λ b. IsKeptPart n permits (record a { sems = if b then record z { line = put z.line k (z.line k ++ t ∷ []) } else z })) (none_left z k && z.parked k)
+    by_bit (λ b. IsKeptPart n permits (record a { sems = if b then record z { line = put z.line k (z.line k ++ t ∷ []) } else z }))
+    (none_left z k && z.parked k)
     (λ both.
     let parts = and_parts (none_left z k) (z.parked k) both in
     at_all (λ i b. IsKeptSemaphore n (permits i) i (z.left i) (z.parked i) (if b then z.line k ++ t ∷ [] else z.line i) (z.out i) a.seeks) k
-    (queues n (permits k) k (z.left k) (z.parked k) (z.line k) (z.out k) a.seeks t (h k) near (eqb-true (z.left k) 0 parts.0) parts.1 seeks.0 seeks.1)
+    (queues n (permits k) k (z.left k) (z.parked k) (z.line k) (z.out k) a.seeks t (h k) near
+    (eqb-true (z.left k) 0 parts.0) parts.1 seeks.0 seeks.1)
     (λ i ne. h i))
     (λ not_both. h)
 
@@ -279,7 +290,8 @@ free_part n permits a t k h near some =
     (unmarked_none n (permits k) k (z.left k) (z.parked k) (z.line k) (z.out k) a.seeks (h k) clear))
     (λ i ne. h i))
 
-pub pass_part : (n : ℕ) (permits : ℕ → ℕ) (a : SemaphorePart) (t k : ℕ) (more : Bool) → IsKeptPart n permits a → t < n → 1 ≤ a.sems.out k t →
+pub pass_part : (n : ℕ) (permits : ℕ → ℕ) (a : SemaphorePart) (t k : ℕ) (more : Bool) → IsKeptPart n permits a
+    → t < n → 1 ≤ a.sems.out k t →
     SaysMore (a.sems.line k) more → IsKeptPart n permits (semaphore_part_after a (SemPass t k more))
 pass_part n permits a t k more h near some says =
     let z = a.sems in
@@ -290,7 +302,8 @@ pass_part n permits a t k more h near some says =
     (λ i ne. h i))
     (λ u rest is. at_all (λ i b. IsKeptSemaphore n (permits i) i (if b then z.left k + 1 else z.left i) (if b then more else z.parked i)
     (if b then rest else z.line i) (if b then put (z.out k) t (z.out k t - 1) else z.out i) a.seeks) k
-    (passes n (permits k) k (z.left k) (z.parked k) (z.line k) (z.out k) a.seeks t more u rest (h k) near some is (subst (λ xs. SaysMore xs more) is says))
+    (passes n (permits k) k (z.left k) (z.parked k) (z.line k) (z.out k) a.seeks t more u rest (h k) near some is
+    (subst (λ xs. SaysMore xs more) is says))
     (λ i ne. h i))
 
 -- the parked bit of k alone becomes this
@@ -299,27 +312,37 @@ pub bit_part : (n : ℕ) (permits : ℕ → ℕ) (a : SemaphorePart) (k : ℕ) (
     IsKeptPart n permits (record a { sems = record a.sems { parked = put a.sems.parked k bit } })
 bit_part n permits a k bit h here =
     let z = a.sems in
-    at_all (λ i b. IsKeptSemaphore n (permits i) i (z.left i) (if b then bit else z.parked i) (z.line i) (z.out i) a.seeks) k here (λ i ne. h i)
+    at_all (λ i b. IsKeptSemaphore n (permits i) i (z.left i) (if b then bit else z.parked i) (z.line i)
+    (z.out i) a.seeks) k here (λ i ne. h i)
 
 -- each event that is allowed keeps the part
 pub part_kept : (threads low sems : ℕ) (permits : ℕ → ℕ) (a : SemaphorePart) (e : Event) → IsKeptPart threads permits a →
     SemaphoreAllowed threads low sems a e → IsKeptPart threads permits (semaphore_part_after a e)
 part_kept threads low sems permits a (SemTake t k) h ok = take_part threads permits a t k h ok.0 ok.2
 part_kept threads low sems permits a (SemMark t k) h ok =
-    bit_part threads permits a k true h (marks threads (permits k) k (a.sems.left k) (a.sems.parked k) (a.sems.line k) (a.sems.out k) a.seeks (h k))
+    bit_part threads permits a k true h
+    (marks threads (permits k) k (a.sems.left k) (a.sems.parked k) (a.sems.line k) (a.sems.out k) a.seeks (h k))
 part_kept threads low sems permits a (SemPark t k) h ok = park_part threads permits a t k h ok.0 ok.2
 part_kept threads low sems permits a (SemFree t k) h ok = free_part threads permits a t k h ok.0 ok.3
 part_kept threads low sems permits a (SemPass t k more) h ok = pass_part threads permits a t k more h ok.0 ok.3 ok.4
 part_kept threads low sems permits a (SemClear t k) h ok =
-    bit_part threads permits a k false h (clears threads (permits k) k (a.sems.left k) (a.sems.parked k) (a.sems.line k) (a.sems.out k) a.seeks (h k) ok.3)
+    bit_part threads permits a k false h
+    (clears threads (permits k) k (a.sems.left k) (a.sems.parked k) (a.sems.line k) (a.sems.out k) a.seeks (h k) ok.3)
 part_kept threads low sems permits a _ h ok = absurd ok
 
 -- a step leads from a sound part to a sound part
 pub kept_from_sound : (n : ℕ) (permits : ℕ → ℕ) (a : SemaphorePart) → IsSoundSemaphorePart n permits a → IsKeptPart n permits a
 kept_from_sound n permits a h k =
-    record { conserved = h.permits_conserved k; marked = h.seekers_are_marked k; sought = h.permits_are_sought k; once = h.once k; named = h.seeks k }
+    record {
+      conserved = h.permits_conserved k;
+      marked = h.seekers_are_marked k;
+      sought = h.permits_are_sought k;
+      once = h.once k;
+      named = h.seeks k;
+    }
 
 pub semaphore_step_sound : (threads low sems : ℕ) (permits : ℕ → ℕ) (a b : SemaphorePart) (e : Event) (saw : Seen) →
     SemaphoreStep threads low sems a e saw b → IsSoundSemaphorePart threads permits a → IsSoundSemaphorePart threads permits b
 semaphore_step_sound threads low sems permits a b e saw step h = subst (IsSoundSemaphorePart threads permits) (sym step.2)
-    (part_sound threads permits (semaphore_part_after a e) (part_kept threads low sems permits a e (kept_from_sound threads permits a h) step.0))
+    (part_sound threads permits (semaphore_part_after a e)
+    (part_kept threads low sems permits a e (kept_from_sound threads permits a h) step.0))

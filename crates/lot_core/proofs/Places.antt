@@ -9,7 +9,8 @@ module _ (P : ℕ → Type 0) (xs : List ℕ) where
   pub place_more : (n u : ℕ) → ((i t : ℕ) → i < n → slice_get xs i ≡ Some t → P t) → slice_get xs n ≡ Some u → P u →
       (i t : ℕ) → i < n + 1 → slice_get xs i ≡ Some t → P t
   place_more n u so at p i t near is =
-      below_more (λ j. slice_get xs j ≡ Some t → P t) n (λ j before. so j t before) (λ here. let same : u ≡ t = cc in subst P same p) i near is
+      below_more (λ j. slice_get xs j ≡ Some t → P t) n (λ j before. so j t before) (λ here. let same : u ≡ t = cc in
+      subst P same p) i near is
 
   -- every place
   pub all_places : (n : ℕ) → length xs ≤ n → ((i t : ℕ) → i < n → slice_get xs i ≡ Some t → P t) → (t : ℕ) → Contains xs t → P t

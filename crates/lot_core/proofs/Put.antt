@@ -26,7 +26,9 @@ put_other f k v i ne =
 
 -- what was there, put there again
 pub put_again : {X : Type 0} (f : ℕ → X) (k : ℕ) → put f k (f k) ≡ f
-put_again {X} f k = fun_ext (λ i. by_bit (λ b. i == k ≡ b → (if b then f k else f i) ≡ f i) (i == k) (λ _ e. ap f (sym (eqb-true i k e))) (λ _ _. refl) refl)
+put_again {X} f k =
+    fun_ext (λ i. by_bit (λ b. i == k ≡ b → (if b then f k else f i) ≡ f i) (i == k)
+    (λ _ e. ap f (sym (eqb-true i k e))) (λ _ _. refl) refl)
 
 -- what was put last stays
 pub put_put : {X : Type 0} (f : ℕ → X) (k : ℕ) (v w : X) → put (put f k v) k w ≡ put f k w

@@ -1,5 +1,6 @@
 -- A spelled script has no bad line, and one text spells one script.
-use Rattle.std.proofs.Common.{◌≡◌, ◌+◌, ◌++◌, ℕ, List, [], ◌∷◌, length, length-append, None, refl, sym, ap, ◌∙◌, subst, ◌⊎◌, arith, append_assoc, inl, inr}
+use Rattle.std.proofs.Common.{◌≡◌, ◌+◌, ◌++◌, ℕ, List, [], ◌∷◌, length, length-append, None, refl, sym, ap, ◌∙◌, subst, ◌⊎◌, arith}
+use Rattle.std.proofs.Common.{append_assoc, inl, inr}
 use Rattle.std.proofs.lemmas.List.{append-nil}
 use Rattle.lot_events.specs.declared.events.Event.{Event}
 use Rattle.lot_core.specs.declared.script.TheConstants.{MAX_LINES}
@@ -41,12 +42,15 @@ beyond lines (x ∷ longer) front (y ∷ shorter) rest (first, spells, (behind, 
     let next = beyond behind longer behind' shorter rest each each' (ap (λ (p : Event × List ℕ). p.1) both) in
     record { more = next.more; parts = ap (λ e. e ∷ longer) same ∙ ap (λ es. y ∷ es) next.parts; spells = next.spells }
 
-pub not_bad : (text : List ℕ) (n l c : ℕ) (ps : List ℕ) (events : List Event) (number : ℕ) → SpellsScript text n l c ps events → IsFirstBad text number → ⊥
+pub not_bad : (text : List ℕ) (n l c : ℕ) (ps : List ℕ) (events : List Event) (number : ℕ) → SpellsScript text n l c ps events
+    → IsFirstBad text number → ⊥
 not_bad text n l c ps events number script (inl bad) = bad.1 n l c ps script.first script.rest script.opens script.parts
 not_bad text n l c ps events number script (inr (rest, good, some, why)) =
-    let same = same_opening n l c good.threads good.locks good.conds ps good.permits script.first good.spells.first script.rest (good.spells.rest ++ rest)
+    let same = same_opening n l c good.threads good.locks good.conds ps good.permits script.first good.spells.first script.rest
+    (good.spells.rest ++ rest)
     script.opens good.spells.opens
-    (sym script.parts ∙ good.parts ∙ ap (λ front. front ++ rest) good.spells.parts ∙ append_assoc good.spells.first good.spells.rest rest) in
+    (sym script.parts ∙ good.parts ∙ ap (λ front. front ++ rest) good.spells.parts
+    ∙ append_assoc good.spells.first good.spells.rest rest) in
     let left = beyond script.rest events good.spells.rest good.events rest script.each good.spells.each same.rest in
     none_left left.more left.parts left.spells why
   where
@@ -60,7 +64,8 @@ pub one_script : (text : List ℕ) (n l c n' l' c' : ℕ) (ps ps' : List ℕ) (e
     SpellsScript text n l c ps events → SpellsScript text n' l' c' ps' events' →
     (n ≡ n') × (l ≡ l') × (c ≡ c') × (ps ≡ ps') × (events ≡ events')
 one_script text n l c n' l' c' ps ps' events events' script script' =
-    let same = same_opening n l c n' l' c' ps ps' script.first script'.first script.rest script'.rest script.opens script'.opens (sym script.parts ∙ script'.parts) in
+    let same = same_opening n l c n' l' c' ps ps' script.first script'.first script.rest script'.rest script.opens script'.opens
+    (sym script.parts ∙ script'.parts) in
     let left = beyond script.rest events script'.rest events' [] script.each script'.each (same.rest ∙ sym (append-nil script'.rest)) in
     (same.threads, same.locks, same.conds, same.permits, same_events left.more left.parts left.spells)
   where

@@ -1,5 +1,6 @@
 -- A list written at one place is its row with one value changed.
-use Rattle.std.proofs.Common.{zero, suc, ◌≡◌, ◌<◌, ◌≤◌, ◌-◌, ◌+◌, ◌++◌, ℕ, List, [], ◌∷◌, length, get_or, set, map, replicate, refl, inl, inr, sym, ap, ◌∙◌, arith, get_or-set_same, get_or-set_other}
+use Rattle.std.proofs.Common.{zero, suc, ◌≡◌, ◌<◌, ◌≤◌, ◌-◌, ◌+◌, ◌++◌, ℕ, List, [], ◌∷◌, length, get_or, set, map, replicate, refl, inl}
+use Rattle.std.proofs.Common.{inr, sym, ap, ◌∙◌, arith, get_or-set_same, get_or-set_other}
 use Rattle.std.specs.Prelude.{nat_lt, if◌then◌else◌, slice_index_or}
 use Rattle.std.proofs.lemmas.Bool.{cases_lt, ltb-false, lt-ltb, le-ltb}
 use Rattle.std.proofs.lemmas.List.{get_or_past, get_or_default, get_or-map, map-set, length-map}
@@ -31,7 +32,8 @@ pub row_none : {X : Type 0} (none : X) (n : ℕ) → row none (replicate n none)
 unfolding row
 row_none none n = fun_ext (λ k. get_or_replicate none n k)
 
-pub row_from_at : {X : Type 0} (none : X) (low : ℕ) (xs : List X) (k : ℕ) → low ≤ k → row_from none low xs k ≡ slice_index_or xs (k - low) none
+pub row_from_at : {X : Type 0} (none : X) (low : ℕ) (xs : List X) (k : ℕ) → low ≤ k
+    → row_from none low xs k ≡ slice_index_or xs (k - low) none
 unfolding row_from
 row_from_at none low xs k from =
     ap (λ b. if b then none else slice_index_or xs (k - low) none) (le-ltb k low from)
@@ -53,7 +55,8 @@ row_from_set none low xs k v from within =
     ≡ (if b then v else (if nat_lt i low then none else get_or xs (i - low) none))) k
     (ap (λ b. if b then none else get_or (set xs (k - low) v) (k - low) none) (le-ltb k low from)
     ∙ get_or-set_same xs (k - low) v none within)
-    (λ i ne. by_bit (λ b. nat_lt i low ≡ b → (if b then none else get_or (set xs (k - low) v) (i - low) none) ≡ (if b then none else get_or xs (i - low) none)) (nat_lt i low)
+    (λ i ne. by_bit (λ b. nat_lt i low ≡ b
+    → (if b then none else get_or (set xs (k - low) v) (i - low) none) ≡ (if b then none else get_or xs (i - low) none)) (nat_lt i low)
     (λ e is. refl)
     (λ e is. let at : low ≤ i = ltb-false i low is in get_or-set_other xs (k - low) (i - low) v none (omega arith)) refl))
 
@@ -62,7 +65,8 @@ pub row_read : {X : Type 0} (none : X) (xs : List X) (k : ℕ) (x : X) → k < l
 unfolding row
 row_read none xs k x within is = get_or_default xs k none x within ∙ sym is
 
-pub row_from_read : {X : Type 0} (none : X) (low : ℕ) (xs : List X) (k : ℕ) (x : X) → low ≤ k → k - low < length xs → x ≡ get_or xs (k - low) x →
+pub row_from_read : {X : Type 0} (none : X) (low : ℕ) (xs : List X) (k : ℕ) (x : X) → low ≤ k → k - low < length xs
+    → x ≡ get_or xs (k - low) x →
     row_from none low xs k ≡ x
 row_from_read none low xs k x from within is = row_from_at none low xs k from ∙ get_or_default xs (k - low) none x within ∙ sym is
 

@@ -35,7 +35,8 @@ so_more s r q events i e so within is ok made =
     }
 
 -- and one that was refused
-pub so_stops : (s r q : World) (events : List Event) (i : ℕ) (e : Event) (fault : CoreFault) → IsSoFar s events i r → slice_get events i ≡ Some e →
+pub so_stops : (s r q : World) (events : List Event) (i : ℕ) (e : Event) (fault : CoreFault) → IsSoFar s events i r
+    → slice_get events i ≡ Some e →
     Answers r e (Err fault) q → q ≡ r → StopsAt s events i fault q
 so_stops s r q events i e fault so is answers same =
     (so.run, same ∙ so.state, (e, is, subst (λ w. Answers w e (Err fault) q) (sym same) answers))
@@ -50,9 +51,11 @@ refused_same r q e BadLimits answers = absurd answers
 pub so_refused : (s r q : World) (events : List Event) (i : ℕ) (d : Event) (fault : CoreFault) → IsSoFar s events i r → i < length events →
     Answers r (get_or events i d) (Err fault) q → StopsAt s events i fault q
 so_refused s r q events i d fault so within answers =
-    so_stops s r q events i (get_or events i d) fault so (slice_get-get_or events i d within) answers (refused_same r q (get_or events i d) fault answers)
+    so_stops s r q events i (get_or events i d) fault so (slice_get-get_or events i d within) answers
+    (refused_same r q (get_or events i d) fault answers)
 
 -- all events
-pub so_all : (s r : World) (events : List Event) (i : ℕ) → IsSoFar s events i r → length events ≤ i → Run s events × (r ≡ after_all s events)
+pub so_all : (s r : World) (events : List Event) (i : ℕ) → IsSoFar s events i r → length events ≤ i → Run s events
+    × (r ≡ after_all s events)
 so_all s r events i so past =
     let all : take i events ≡ events = take_all i events past in (subst (λ xs. Run s xs) all so.run, so.state ∙ ap (after_all s) all)

@@ -1,5 +1,6 @@
 -- What has been read of a script, line by line.
-use Rattle.std.proofs.Common.{◌≡◌, ◌≢◌, ◌<◌, ◌≤◌, ◌+◌, ◌++◌, ℕ, List, [], ◌∷◌, length, length-append, refl, sym, ap, ◌∙◌, subst, arith, append_assoc, inl, inr}
+use Rattle.std.proofs.Common.{◌≡◌, ◌≢◌, ◌<◌, ◌≤◌, ◌+◌, ◌++◌, ℕ, List, [], ◌∷◌, length, length-append, refl, sym, ap, ◌∙◌, subst, arith}
+use Rattle.std.proofs.Common.{append_assoc, inl, inr}
 use Rattle.std.proofs.lemmas.List.{append-nil, nil_from_length}
 use Rattle.lot_events.specs.declared.events.Event.{Event}
 use Rattle.lot_core.specs.declared.script.Script.{Script}
@@ -56,7 +57,8 @@ so_more text n l c ps events rest number e behind so taken =
       count = omega (arith, so.count, length-append events (e ∷ []));
     }
 
-pub so_done : (text : List ℕ) (n l c : ℕ) (ps : List ℕ) (events : List Event) (rest : List ℕ) (number : ℕ) → IsSoFar text n l c ps events rest number →
+pub so_done : (text : List ℕ) (n l c : ℕ) (ps : List ℕ) (events : List Event) (rest : List ℕ) (number : ℕ)
+    → IsSoFar text n l c ps events rest number →
     number ≤ MAX_LINES + 1 → length rest ≡ 0 → SpellsScript text n l c ps events
 so_done text n l c ps events rest number so few none =
     let all : text ≡ so.first ++ so.lines =

@@ -1,5 +1,6 @@
 -- The semaphores of a `Semaphores`, one by one.
-use Rattle.std.proofs.Common.{zero, suc, inl, inr, ◌≡◌, ◌≢◌, ◌<◌, ◌≤◌, ◌+◌, ◌-◌, ◌++◌, ℕ, Bool, false, List, [], ◌∷◌, length, get_or, map, set, take, replicate, refl, sym, ap, ◌∙◌, arith, subst}
+use Rattle.std.proofs.Common.{zero, suc, inl, inr, ◌≡◌, ◌≢◌, ◌<◌, ◌≤◌, ◌+◌, ◌-◌, ◌++◌, ℕ, Bool, false, List, [], ◌∷◌, length, get_or, map}
+use Rattle.std.proofs.Common.{set, take, replicate, refl, sym, ap, ◌∙◌, arith, subst}
 use Rattle.std.specs.Prelude.{sum, if◌then◌else◌}
 use Rattle.std.specs.List.{All}
 use Rattle.std.proofs.lemmas.List.{length-map, length-set, length-replicate, map-append, take_more, take_all}
@@ -14,7 +15,8 @@ use Rattle.lot_core.specs.World.{Semaphores, put, none_taken}
 use Rattle.lot_core.specs.Steps.{with_sem_parked, permit_given, permit_taken}
 use Rattle.lot_core.specs.Sound.{PermitsConserved}
 use Rattle.lot_core.specs.Semaphores.{semaphores_of, permits_of, HasSemaphore}
-use Rattle.lot_core.proofs.Rows.{row_at, row_set, row_none, row_from_before, row_from_past, told_item, told_write, told_rewrite, told_none, none_more}
+use Rattle.lot_core.proofs.Rows.{row_at, row_set, row_none, row_from_before, row_from_past, told_item, told_write, told_rewrite, told_none}
+use Rattle.lot_core.proofs.Rows.{none_more}
 use Rattle.lot_core.proofs.Sums.{total_row, total_none}
 
 -- what a list of semaphores stands for
@@ -29,7 +31,8 @@ rows low xs line =
 
 -- the permits of one semaphore are written
 pub rows_moved : (low : ℕ) (xs : List Semaphore) (line : ℕ → List ℕ) (k t a b : ℕ) (old new : Semaphore) → low ≤ k → k - low < length xs →
-    old ≡ get_or xs (k - low) old → new.parked ≡ old.parked → new.left ≡ a → new.out.items ≡ set old.out.items t b → t < length old.out.items →
+    old ≡ get_or xs (k - low) old → new.parked ≡ old.parked → new.left ≡ a → new.out.items ≡ set old.out.items t b
+    → t < length old.out.items →
     rows low (set xs (k - low) new) line
     ≡ (let z = rows low xs line in record z { left = put z.left k a; out = put z.out k (put (z.out k) t b) })
 rows_moved low xs line k t a b old new from within is parked left out near =
@@ -58,14 +61,17 @@ rows_parked low xs line k old new from within is left out =
     (told_rewrite (λ m. row 0 m.out.items) (λ t. 0) low xs k old new from within is (ap (row 0) out))
 
 -- what is told of the semaphore that was found
-pub item_left : (s : Row) (k : ℕ) (m : Semaphore) → HasSemaphore s k → m ≡ get_or s.items.items (k - s.low) m → (semaphores_of s).left k ≡ m.left
+pub item_left : (s : Row) (k : ℕ) (m : Semaphore) → HasSemaphore s k → m ≡ get_or s.items.items (k - s.low) m
+    → (semaphores_of s).left k ≡ m.left
 item_left s k m has is = told_item (λ m. m.left) 0 s.low s.items.items k m has.0 has.1 is
 
-pub item_out : (s : Row) (k t : ℕ) (m : Semaphore) → HasSemaphore s k → m ≡ get_or s.items.items (k - s.low) m → (semaphores_of s).out k t ≡ get_or m.out.items t 0
+pub item_out : (s : Row) (k t : ℕ) (m : Semaphore) → HasSemaphore s k → m ≡ get_or s.items.items (k - s.low) m
+    → (semaphores_of s).out k t ≡ get_or m.out.items t 0
 item_out s k t m has is =
     ap (λ (f : ℕ → ℕ). f t) (told_item (λ m. row 0 m.out.items) (λ t. 0) s.low s.items.items k m has.0 has.1 is) ∙ row_at 0 m.out.items t
 
-pub item_wide : (s : Row) (k : ℕ) (m : Semaphore) → HasSemaphore s k → m ≡ get_or s.items.items (k - s.low) m → length m.out.items ≡ s.threads
+pub item_wide : (s : Row) (k : ℕ) (m : Semaphore) → HasSemaphore s k → m ≡ get_or s.items.items (k - s.low) m
+    → length m.out.items ≡ s.threads
 item_wide s k m has is = subst (λ x. length x.out.items ≡ s.threads) (sym is) (s.out_each (k - s.low) m has.1)
 
 -- a permit that was given back, and one that was taken
@@ -103,7 +109,8 @@ numbers_kept low xs k old new from within is same =
 pub all_out_is : (s : Row) (k : ℕ) (m : Semaphore) → HasSemaphore s k → m ≡ get_or s.items.items (k - s.low) m →
     m.permits - m.left ≡ total s.threads ((semaphores_of s).out k)
 all_out_is s k m has is =
-    let item : (semaphores_of s).out k ≡ row 0 m.out.items = told_item (λ m. row 0 m.out.items) (λ t. 0) s.low s.items.items k m has.0 has.1 is in
+    let item : (semaphores_of s).out k ≡ row 0 m.out.items =
+    told_item (λ m. row 0 m.out.items) (λ t. 0) s.low s.items.items k m has.0 has.1 is in
     let left : m.permits - m.left ≡ sum m.out.items = omega (arith, m.conserved) in
     left ∙ sym (total_row m.out.items s.threads (item_wide s k m has is)) ∙ ap (total s.threads) (sym item)
 
@@ -119,7 +126,8 @@ conserved s k = elim (cases_lt k s.low) [
   | inl before ↦ none (row_from_before 0 s.low _ k before) (row_from_before (λ t. 0) s.low _ k before) (row_from_before 0 s.low _ k before)
   | inr from ↦ elim (cases_lt (k - s.low) (length s.items.items)) [
     | inl within ↦ of (element s.items.items (k - s.low) within) from within
-    | inr past ↦ none (row_from_past 0 s.low _ k (rw length-map (omega arith))) (row_from_past (λ t. 0) s.low _ k (rw length-map (omega arith)))
+    | inr past ↦
+        none (row_from_past 0 s.low _ k (rw length-map (omega arith))) (row_from_past (λ t. 0) s.low _ k (rw length-map (omega arith)))
         (row_from_past 0 s.low _ k (rw length-map (omega arith)))
   ]
 ]
@@ -131,9 +139,16 @@ conserved s k = elim (cases_lt k s.low) [
     of : (m : Semaphore) × (m ≡ get_or s.items.items (k - s.low) m) → s.low ≤ k → k - s.low < length s.items.items →
         (semaphores_of s).left k + total s.threads ((semaphores_of s).out k) ≡ permits_of s k
     of (m, is) from within =
-        let out : (semaphores_of s).out k ≡ row 0 m.out.items = told_item (λ m. row 0 m.out.items) (λ t. 0) s.low s.items.items k m from within is in
+        let out : (semaphores_of s).out k ≡ row 0 m.out.items =
+        told_item (λ m. row 0 m.out.items) (λ t. 0) s.low s.items.items k m from within is in
         let permits : permits_of s k ≡ m.permits = told_item (λ m. m.permits) 0 s.low s.items.items k m from within is in
-        omega (arith, item_left s k m (from, within) is, ap (total s.threads) out, total_row m.out.items s.threads (item_wide s k m (from, within) is), m.conserved)
+        omega (
+          arith,
+          item_left s k m (from, within) is,
+          ap (total s.threads) out,
+          total_row m.out.items s.threads (item_wide s k m (from, within) is),
+          m.conserved,
+        )
 
 -- semaphores that were made with these numbers of permits, and not used
 pub record AreNew (threads : ℕ) (permits : List ℕ) (xs : List Semaphore) : Type 0 where
@@ -152,7 +167,8 @@ none_new threads = record {
   wide = λ i d within. absurd (omega arith);
 }
 
-pub one_new : (threads : ℕ) (permits : List ℕ) (xs : List Semaphore) (i : ℕ) (m : Semaphore) → AreNew threads (take i permits) xs → i < length permits →
+pub one_new : (threads : ℕ) (permits : List ℕ) (xs : List Semaphore) (i : ℕ) (m : Semaphore)
+    → AreNew threads (take i permits) xs → i < length permits →
     m.permits ≡ get_or permits i 0 → m.left ≡ get_or permits i 0 → m.parked ≡ false → m.out.items ≡ replicate threads 0 →
     AreNew threads (take (i + 1) permits) (xs ++ m ∷ [])
 one_new threads permits xs i m so within permits_are left unparked unused = record {
@@ -166,14 +182,16 @@ one_new threads permits xs i m so within permits_are left unparked unused = reco
 }
 
 -- all of them, and how many they are
-pub all_new : (threads : ℕ) (permits : List ℕ) (xs : List Semaphore) (i : ℕ) → AreNew threads (take i permits) xs → length permits ≤ i → AreNew threads permits xs
+pub all_new : (threads : ℕ) (permits : List ℕ) (xs : List Semaphore) (i : ℕ) → AreNew threads (take i permits) xs → length permits ≤ i
+    → AreNew threads permits xs
 all_new threads permits xs i so past = subst (λ ps. AreNew threads ps xs) (take_all i permits past) so
 
 pub new_count : (threads : ℕ) (permits : List ℕ) (xs : List Semaphore) → AreNew threads permits xs → length xs ≡ length permits
 new_count threads permits xs new = sym (length-map xs (λ m. m.permits)) ∙ ap length new.permits_are
 
 -- such semaphores stand for those of an opening state
-pub new_rows : (threads low : ℕ) (permits : List ℕ) (xs : List Semaphore) (line : ℕ → List ℕ) → AreNew threads permits xs → line ≡ no_lines →
+pub new_rows : (threads low : ℕ) (permits : List ℕ) (xs : List Semaphore) (line : ℕ → List ℕ)
+    → AreNew threads permits xs → line ≡ no_lines →
     rows low xs line ≡ none_taken (row_from 0 low permits)
 new_rows threads low permits xs line new empty =
     ap (λ (f : ℕ → ℕ). let y : Semaphores = record (rows low xs line) { left = f } in y) (ap (row_from 0 low) new.left_are)

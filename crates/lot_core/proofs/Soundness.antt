@@ -1,5 +1,6 @@
 -- A state is sound where each of its locks and conditions is.
-use Rattle.std.proofs.Common.{◌≡◌, ◌≢◌, ◌<◌, ◌+◌, ◌-◌, ◌↔◌, ◌⊎◌, ℕ, Bool, true, false, add-one, List, [], ◌∷◌, Option, Some, None, is_some, refl, sym, ap, ◌∙◌, subst, arith, inl, inr}
+use Rattle.std.proofs.Common.{◌≡◌, ◌≢◌, ◌<◌, ◌+◌, ◌-◌, ◌↔◌, ◌⊎◌, ℕ, Bool, true, false, add-one, List, [], ◌∷◌, Option, Some, None, is_some}
+use Rattle.std.proofs.Common.{refl, sym, ap, ◌∙◌, subst, arith, inl, inr}
 use Rattle.std.specs.Prelude.{IsTrue, ◌==◌}
 use Rattle.std.specs.List.{Contains}
 use Rattle.std.proofs.lemmas.Bool.{cases_lt, eqb-true, eq-eqb, false_from_ne_true}
@@ -70,7 +71,8 @@ pub all_conds : (s : State) → ((k : ℕ) → k < s.conds → IsSoundCond (worl
 all_conds s each c = elim (cases_lt c s.locks) [
   | inl before ↦ empty_cond (world_of s) c (line_outside s.cond_lines c (λ has. omega (arith, s.cond_line_each)))
   | inr from ↦ elim (cases_lt (c - s.locks) s.conds) [
-    | inl within ↦ let same : s.locks + (c - s.locks) ≡ c = omega arith in subst (λ k. IsSoundCond (world_of s) k) same (each (c - s.locks) within)
+    | inl within ↦ let same : s.locks + (c - s.locks) ≡ c = omega arith in
+        subst (λ k. IsSoundCond (world_of s) k) same (each (c - s.locks) within)
     | inr past ↦ empty_cond (world_of s) c (line_outside s.cond_lines c (λ has. omega (arith, s.cond_line_each)))
   ]
 ]
@@ -83,11 +85,13 @@ empty_semaphore w k empty = (
   (λ t inside. absurd (not_empty (w.sems.line k) t inside empty)),
 )
 
-pub all_semaphores : (s : State) → ((i : ℕ) → i < sem_count s.sems → IsSoundSemaphore (world_of s) (s.sems.low + i)) → (k : ℕ) → IsSoundSemaphore (world_of s) k
+pub all_semaphores : (s : State) → ((i : ℕ) → i < sem_count s.sems → IsSoundSemaphore (world_of s) (s.sems.low + i)) → (k : ℕ)
+    → IsSoundSemaphore (world_of s) k
 all_semaphores s each k = elim (cases_lt k s.sems.low) [
   | inl before ↦ empty_semaphore (world_of s) k (line_outside s.sems.lines k (λ has. omega (arith, s.sems.line_each)))
   | inr from ↦ elim (cases_lt (k - s.sems.low) (sem_count s.sems)) [
-    | inl within ↦ let same : s.sems.low + (k - s.sems.low) ≡ k = omega arith in subst (λ i. IsSoundSemaphore (world_of s) i) same (each (k - s.sems.low) within)
+    | inl within ↦ let same : s.sems.low + (k - s.sems.low) ≡ k = omega arith in
+        subst (λ i. IsSoundSemaphore (world_of s) i) same (each (k - s.sems.low) within)
     | inr past ↦ empty_semaphore (world_of s) k (line_outside s.sems.lines k (λ has. omega (arith, s.sems.line_each)))
   ]
 ]
@@ -148,13 +152,15 @@ semaphores_from s h k = (
 
 -- the test of one thread, and one more thread counted
 pub seeking_test : (w : World) (t k : ℕ) (b : Bool) → (IsTrue b ↔ IsSeeking w t k) → is_seeking (sought (w.point t)) k (w.sems.line k) t ≡ b
-seeking_test w t k true is = let at : IsSeeking w t k = is.0 refl in seeks_outside (sought (w.point t)) k (w.sems.line k) t (ap sought at.0) at.1
+seeking_test w t k true is = let at : IsSeeking w t k = is.0 refl in
+    seeks_outside (sought (w.point t)) k (w.sems.line k) t (ap sought at.0) at.1
 seeking_test w t k false is =
     false_from_ne_true (is_seeking (sought (w.point t)) k (w.sems.line k) t)
     (λ e. let at = seeking_is (sought (w.point t)) k (w.sems.line k) t e in
     let yes : false ≡ true = is.1 (sought_is (w.point t) k at.0, at.1) in absurd (cc))
 
-pub count_more : (n : ℕ) (p : ℕ → Bool) (m next : ℕ) (b : Bool) → m ≡ count_below n p → p n ≡ b → next ≡ m + bit b → next ≡ count_below (n + 1) p
+pub count_more : (n : ℕ) (p : ℕ → Bool) (m next : ℕ) (b : Bool) → m ≡ count_below n p → p n ≡ b → next ≡ m + bit b
+    → next ≡ count_below (n + 1) p
 count_more n p m next b so is more =
     more ∙ ap (λ c. m + bit c) (sym is) ∙ ap (λ j. j + bit (p n)) so ∙ ap (λ j. count_below j p) (sym (add-one n))
 

@@ -1,5 +1,6 @@
 -- Texts that grow line by line.
-use Rattle.std.proofs.Common.{zero, suc, ◌≡◌, ◌≢◌, ◌<◌, ◌≤◌, ◌+◌, ◌++◌, ℕ, Bool, true, false, List, [], ◌∷◌, Some, None, refl, sym, ap, ◌∙◌, arith, append_assoc, add-zero, length-take-le}
+use Rattle.std.proofs.Common.{zero, suc, ◌≡◌, ◌≢◌, ◌<◌, ◌≤◌, ◌+◌, ◌++◌, ℕ, Bool, true, false, List, [], ◌∷◌, Some, None, refl, sym, ap, ◌∙◌}
+use Rattle.std.proofs.Common.{arith, append_assoc, add-zero, length-take-le}
 use Rattle.std.specs.Prelude.{flat_map, find}
 use Rattle.std.specs.List.{range_with_len, join_by}
 use Rattle.std.specs.Prelude.{if◌then◌else◌, decimal, codes, slice_get, take, length}
@@ -21,7 +22,8 @@ flat_map_push f [] x = append-nil (f x)
 flat_map_push f (y ∷ xs) x = ap (λ t. f y ++ t) (flat_map_push f xs x) ∙ sym (append_assoc (f y) (flat_map f xs) (f x))
 
 -- one more line
-pub text_more : (f : ℕ → List ℕ) (a n : ℕ) (old now next : List ℕ) → now ≡ old ++ flat_map f (range_with_len a n) → next ≡ now ++ f (a + n) →
+pub text_more : (f : ℕ → List ℕ) (a n : ℕ) (old now next : List ℕ) → now ≡ old ++ flat_map f (range_with_len a n)
+    → next ≡ now ++ f (a + n) →
     next ≡ old ++ flat_map f (range_with_len a (n + 1))
 text_more f a n old now next so more =
     more ∙ ap (λ t. t ++ f (a + n)) so ∙ append_assoc old (flat_map f (range_with_len a n)) (f (a + n))
@@ -35,7 +37,8 @@ find_none p (suc n) a none =
     ∙ find_none p n (a + 1) (λ j from to. none j (omega arith) (omega arith))
 
 -- nothing passes before a + k, which passes
-pub find_at : (p : ℕ → Bool) (n a k : ℕ) → k < n → ((j : ℕ) → a ≤ j → j < a + k → p j ≡ false) → p (a + k) ≡ true → find p (range_with_len a n) ≡ Some (a + k)
+pub find_at : (p : ℕ → Bool) (n a k : ℕ) → k < n → ((j : ℕ) → a ≤ j → j < a + k → p j ≡ false) → p (a + k) ≡ true
+    → find p (range_with_len a n) ≡ Some (a + k)
 find_at p zero a k within before here = absurd (omega arith)
 find_at p (suc n) a zero within before here =
     let at : p a ≡ true = ap p (sym (add-zero a)) ∙ here in
@@ -49,7 +52,8 @@ find_at p (suc n) a (suc k) within before here =
 -- the first thread below n that has the lock
 pub owner_found : (v n : ℕ) → v < n → Some v ≡ find (owns (Some v)) (range_with_len 0 n)
 owner_found v n within =
-    sym (find_at (owns (Some v)) n 0 v within (λ j from to. ne_eqb j v (λ e. omega arith)) (eq-eqb (0 + v) v (omega arith)) ∙ ap Some (omega arith))
+    sym (find_at (owns (Some v)) n 0 v within (λ j from to. ne_eqb j v (λ e. omega arith))
+    (eq-eqb (0 + v) v (omega arith)) ∙ ap Some (omega arith))
 
 pub owner_past : (v n : ℕ) → n ≤ v → None ≡ find (owns (Some v)) (range_with_len 0 n)
 owner_past v n past = sym (find_none (owns (Some v)) n 0 (λ j from to. ne_eqb j v (λ e. omega arith)))
@@ -62,7 +66,8 @@ pub queue_none : (xs old now : List ℕ) → xs ≡ [] → now ≡ old ++ codes 
 unfolding line_text
 queue_none xs old now empty is = is ∙ ap (λ ys. old ++ line_text ys) (sym empty)
 
-pub join_push : (xs : List ℕ) (x : ℕ) → xs ≢ [] → join_by decimal (codes ",") (xs ++ x ∷ []) ≡ join_by decimal (codes ",") xs ++ (codes "," ++ decimal x)
+pub join_push : (xs : List ℕ) (x : ℕ) → xs ≢ []
+    → join_by decimal (codes ",") (xs ++ x ∷ []) ≡ join_by decimal (codes ",") xs ++ (codes "," ++ decimal x)
 join_push [] x some = absurd (some refl)
 join_push (y ∷ ys) x some =
     ap (λ t. decimal y ++ t) (flat_map_push (λ z. codes "," ++ decimal z) ys x)
@@ -80,7 +85,8 @@ queue_more xs i x old before now some at so is =
     ∙ append_assoc old (join_by decimal (codes ",") (take i xs)) (codes "," ++ decimal x)
     ∙ ap (λ t. old ++ t) (sym (ap (join_by decimal (codes ",")) next ∙ join_push (take i xs) x not_none))
 
-pub queue_done : (xs : List ℕ) (i : ℕ) (old now : List ℕ) → 0 < length xs → length xs ≤ i → now ≡ old ++ join_by decimal (codes ",") (take i xs) → now ≡ old ++ line_text xs
+pub queue_done : (xs : List ℕ) (i : ℕ) (old now : List ℕ) → 0 < length xs → length xs ≤ i
+    → now ≡ old ++ join_by decimal (codes ",") (take i xs) → now ≡ old ++ line_text xs
 unfolding line_text
 queue_done [] i old now some past is = absurd (omega arith)
 queue_done (u ∷ rest) i old now some past is = is ∙ ap (λ ys. old ++ join_by decimal (codes ",") ys) (take_all i (u ∷ rest) past)

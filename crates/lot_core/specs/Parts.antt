@@ -1,11 +1,13 @@
 -- The three parts of a state: what the words of locks tell of it, what those of conditions tell, and
 -- what those of semaphores tell.
-use Rattle.std.specs.Prelude.{◌≡◌, ◌↔◌, ℕ, ◌+◌, ◌<◌, ◌≤◌, ◌&&◌, ◌⊎◌, true, false, not, if◌then◌else◌, List, [], ◌∷◌, length, Option, Some, None}
+use Rattle.std.specs.Prelude.{◌≡◌, ◌↔◌, ℕ, ◌+◌, ◌<◌, ◌≤◌, ◌&&◌, ◌⊎◌, true, false, not, if◌then◌else◌, List, [], ◌∷◌, length, Option, Some}
+use Rattle.std.specs.Prelude.{None}
 use Rattle.std.specs.List.{Contains}
 use Rattle.lot_events.specs.declared.events.Point.{Point}
 use Rattle.lot_events.specs.declared.events.Point.TheVariants.{Calm, Wants, Rest, Sweeps, Seeks}
 use Rattle.lot_events.specs.declared.events.Event.{Event}
-use Rattle.lot_events.specs.declared.events.Event.TheVariants.{Try, Take, Mark, Park, Free, Pass, Enlist, Look, Call, Lower, Sweep, SemTake, SemMark, SemPark, SemFree, SemPass, SemClear}
+use Rattle.lot_events.specs.declared.events.Event.TheVariants.{Try, Take, Mark, Park, Free, Pass, Enlist, Look, Call, Lower, Sweep, SemTake}
+use Rattle.lot_events.specs.declared.events.Event.TheVariants.{SemMark, SemPark, SemFree, SemPass, SemClear}
 use Rattle.lot_events.specs.declared.events.Seen.{Seen}
 use Rattle.lot_events.specs.declared.events.Seen.TheVariants.{Bool as Saw, Done, Sleeper, Count}
 use Rattle.lot_core.specs.World.{World, Locks, Conds, Semaphores, put}

@@ -2,7 +2,19 @@
 use Rattle.std.specs.Prelude.{◌≡◌, ℕ, List, [], ◌∷◌, ◌++◌, Some}
 use Rattle.lot_core.specs.declared.script.Script.{Script}
 use Rattle.lot_core.specs.Script.{Opening}
-unfoldable pub use Rattle.lot_events.specs.Reading.{rest_behind, one_more, three_more, number_at, field_at, flag_at, end_at, first_of, last_at, event_at, open_at}
+unfoldable pub use Rattle.lot_events.specs.Reading.{
+  rest_behind,
+  one_more,
+  three_more,
+  number_at,
+  field_at,
+  flag_at,
+  end_at,
+  first_of,
+  last_at,
+  event_at,
+  open_at,
+}
 pub use Rattle.lot_events.specs.Reading.{kind_word, kinds, or_else}
 
 -- these numbers are read one after the other, and this is left

@@ -1,5 +1,6 @@
 -- What holds of every state that a run can reach.
-use Rattle.std.specs.Prelude.{◌≡◌, ◌≢◌, ℕ, ◌+◌, ◌<◌, ◌≤◌, ◌==◌, ◌&&◌, ◌⊎◌, ◌↔◌, nat_eq, Bool, true, false, not, List, [], Option, Some, None}
+use Rattle.std.specs.Prelude.{◌≡◌, ◌≢◌, ℕ, ◌+◌, ◌<◌, ◌≤◌, ◌==◌, ◌&&◌, ◌⊎◌, ◌↔◌, nat_eq, Bool, true, false, not, List, [], Option, Some}
+use Rattle.std.specs.Prelude.{None}
 use Rattle.std.specs.List.{Contains, AllPairs, list_any}
 use Rattle.lot_events.specs.declared.events.Point.{Point}
 use Rattle.lot_events.specs.declared.events.Point.TheVariants.{Wants, Bed, Rest, Sweeps, Seeks}

@@ -1,5 +1,6 @@
 -- What a `State` stands for, and what its calls answer.
-use Rattle.std.specs.Prelude.{take, slice_get, Option, Some, None, is_some, ◌≡◌, ◌==◌, ◌&&◌, ℕ, Bool, true, false, List, [], length, Result, Ok, Err}
+use Rattle.std.specs.Prelude.{take, slice_get, Option, Some, None, is_some, ◌≡◌, ◌==◌, ◌&&◌, ℕ, Bool, true, false, List, [], length, Result}
+use Rattle.std.specs.Prelude.{Ok, Err}
 use Rattle.lot_events.specs.declared.events.Point.{Point}
 use Rattle.lot_events.specs.declared.events.Point.TheVariants.{Calm}
 use Rattle.lot_core.specs.declared.state.State.{State}

@@ -1,13 +1,15 @@
 -- The events: where each is allowed, what it changes, and what its thread sees of it.
-use Rattle.std.specs.Prelude.{◌≡◌, ℕ, ◌+◌, ◌-◌, ◌<◌, ◌≤◌, ◌==◌, ◌&&◌, ◌⊎◌, Bool, true, false, not, if◌then◌else◌, List, [], ◌∷◌, ◌++◌, length, drop, min, Option, Some, None}
+use Rattle.std.specs.Prelude.{◌≡◌, ℕ, ◌+◌, ◌-◌, ◌<◌, ◌≤◌, ◌==◌, ◌&&◌, ◌⊎◌, Bool, true, false, not, if◌then◌else◌, List, [], ◌∷◌, ◌++◌}
+use Rattle.std.specs.Prelude.{length, drop, min, Option, Some, None}
 use Rattle.std.specs.List.{Contains}
 use Rattle.lot_events.specs.declared.events.Point.{Point}
 use Rattle.lot_events.specs.declared.events.Point.TheVariants.{Calm, Wants, Bed, Rest, Sweeps, Seeks}
 use Rattle.lot_events.specs.declared.events.Event.{Event}
-use Rattle.lot_events.specs.declared.events.Event.TheVariants.{Try, Take, Mark, Park, Free, Pass, Enlist, Look, Call, Lower, Sweep, SemTake, SemMark, SemPark, SemFree, SemPass, SemClear}
+use Rattle.lot_events.specs.declared.events.Event.TheVariants.{Try, Take, Mark, Park, Free, Pass, Enlist, Look, Call, Lower, Sweep, SemTake}
+use Rattle.lot_events.specs.declared.events.Event.TheVariants.{SemMark, SemPark, SemFree, SemPass, SemClear}
 use Rattle.lot_events.specs.declared.events.Seen.{Seen}
 use Rattle.lot_events.specs.declared.events.Seen.TheVariants.{Bool as Saw, Done, Sleeper, Count}
-use Rattle.lot_events.specs.declared.events.TheConstants.{MAX_CALLED}
+use Rattle.lot_core.specs.declared.state.TheConstants.{MAX_THREADS}
 use Rattle.lot_core.specs.World.{World, Locks, Conds, Semaphores, put, opening_with}
 
 -- who and what there is
@@ -49,7 +51,7 @@ SaysMore = SaysMoreBehind 1
 
 -- how many threads one Call may take
 abbrev pub IsCallCount : ℕ → Type 0
-IsCallCount n = (1 ≤ n) × (n ≤ MAX_CALLED)
+IsCallCount n = (1 ≤ n) × (n ≤ MAX_THREADS)
 
 -- allowed where
 abbrev pub Allowed : World → Event → Type 0

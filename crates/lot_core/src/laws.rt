@@ -7,7 +7,8 @@ ghost use Rattle.lot_core.specs.World.{World, opening_with};
 ghost use Rattle.lot_core.specs.Steps.{Allowed, Run, after, after_all, IsReached};
 ghost use Rattle.lot_core.specs.Sound.{IsSound, IsSoundLockPart, IsSoundCondPart, IsSoundSemaphorePart, ArePartsSound};
 ghost use Rattle.lot_core.specs.Script.{Spells, SpellsScript, IsFirstBad};
-ghost use Rattle.lot_core.specs.Parts.{LockPart, LockStep, CondPart, cond_part, CondStep, SemaphorePart, semaphore_part, SemaphoreStep};
+ghost use Rattle.lot_core.specs.Parts.{LockPart, LockStep, CondPart, cond_part, CondStep, SemaphorePart};
+ghost use Rattle.lot_core.specs.Parts.{semaphore_part, SemaphoreStep};
 ghost use Rattle.lot_core.specs.Parts.{LockPartAllows, CondPartAllows, SemaphorePartAllows};
 ghost use Rattle.lot_core.specs.Parts.{LockPartFollows, CondPartFollows, SemaphorePartFollows};
 
@@ -23,7 +24,8 @@ pub fn every_run_is_sound()
 /// sound. So is each state that a run from an opening state reaches, and one more event leads from
 /// such a state to another.
 pub fn every_event_keeps_soundness()
-    ensures opening { (threads locks conds : ℕ) (permits : List ℕ) → IsSound (opening_with threads locks conds permits) }
+    ensures opening { (threads locks conds : ℕ) (permits : List ℕ)
+        → IsSound (opening_with threads locks conds permits) }
     ensures event { (s : World) (e : Event) → IsSound s → Allowed s e → IsSound (after s e) }
     ensures reached { (s : World) → IsReached s → IsSound s }
     ensures further { (s : World) (e : Event) → IsReached s → Allowed s e → IsReached (after s e) }
@@ -53,7 +55,8 @@ pub fn parts_follow()
 /// there a resting thread may be the one that tries to get a lock, and the lock part does not tell
 /// who rests. Of a state that a run reaches it is.
 pub fn every_step_keeps_its_part_sound()
-    ensures opening { (threads locks conds : ℕ) (permits : List ℕ) → ArePartsSound (opening_with threads locks conds permits) }
+    ensures opening { (threads locks conds : ℕ) (permits : List ℕ)
+        → ArePartsSound (opening_with threads locks conds permits) }
     ensures lock_part { (threads locks : ℕ) (a b : LockPart) (e : Event) (saw : Seen) →
         LockStep threads locks a e saw b → IsSoundLockPart threads a → IsSoundLockPart threads b }
     ensures cond_part { (threads locks conds : ℕ) (a b : CondPart) (e : Event) (saw : Seen) →

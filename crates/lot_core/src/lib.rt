@@ -53,7 +53,7 @@ pub use laws::{
     every_event_keeps_soundness, every_run_is_sound, every_step_keeps_its_part_sound, parts_follow,
     spelled_scripts_are_read,
 };
-pub use lot_events::{Event, MAX_CALLED, Point, Seen};
+pub use lot_events::{Event, Point, Seen};
 pub use printing::print_state;
 pub use script::{MAX_LINES, Script, ScriptFault, parse_script};
 pub use state::{CoreFault, MAX_KEYS, MAX_THREADS, State};

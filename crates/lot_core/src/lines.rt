@@ -1,5 +1,6 @@
 //! Lines of sleepers, one for each key of a kind.
-ghost use Rattle.std.specs.Prelude.{◌≡◌, ◌+◌, ◌-◌, ◌<◌, ◌↔◌, ◌++◌, ◌∷◌, ℕ, [], length, IsTrue, IfOk, OnOk, OnErr, drop, Some, slice_get};
+ghost use Rattle.std.specs.Prelude.{◌≡◌, ◌+◌, ◌-◌, ◌<◌, ◌↔◌, ◌++◌, ◌∷◌, ℕ, [], length, IsTrue, IfOk, OnOk, OnErr, drop};
+ghost use Rattle.std.specs.Prelude.{Some, slice_get};
 ghost use Rattle.std.specs.List.{Contains};
 
 use std::alloc::{AllocError, Global};

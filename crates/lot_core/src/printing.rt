@@ -5,7 +5,8 @@ ghost use Rattle.lot_core.specs.declared.state.CoreFault.TheVariants.{NoMemory};
 ghost use Rattle.lot_core.specs.Lines.{line_of, HasKey};
 ghost use Rattle.lot_core.specs.Steps.{IsLock, IsCond, IsSemaphore};
 ghost use Rattle.lot_core.specs.State.{world_of};
-ghost use Rattle.lot_core.specs.Printed.{line_text, owner_text, point_text, lock_line, cond_line, sem_line, thread_line, printed};
+ghost use Rattle.lot_core.specs.Printed.{line_text, owner_text, point_text, lock_line, cond_line, sem_line};
+ghost use Rattle.lot_core.specs.Printed.{thread_line, printed};
 
 use crate::lines::Lines;
 use crate::state::{CoreFault, State};

@@ -39,8 +39,8 @@ pub enum ScriptFault {
 
 /// The numbers for an opening, and the events to make from there on.
 ///
-/// Whether the numbers are within the limits is asked by
-/// [`State::open_with`](crate::State::open_with), and whether an event is allowed by [`State::step`](crate::State::step).
+/// Whether the numbers are within the limits is asked by [`State::open_with`](crate::State::open_with), and whether an
+/// event is allowed by [`State::step`](crate::State::step).
 #[derive(Debug, Drop)]
 pub struct Script {
     pub threads: usize,

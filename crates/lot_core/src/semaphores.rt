@@ -1,5 +1,6 @@
 //! Semaphores: of each its permits, its parked bit and its line of sleepers.
-ghost use Rattle.std.specs.Prelude.{◌≡◌, ◌+◌, ◌-◌, ◌^◌, ◌<◌, ◌≤◌, ◌↔◌, ◌++◌, ◌∷◌, [], false, not, length, IsTrue, IfOk, OnOk, OnErr, drop, replicate, slice_index, slice_set, sum};
+ghost use Rattle.std.specs.Prelude.{◌≡◌, ◌+◌, ◌-◌, ◌^◌, ◌<◌, ◌≤◌, ◌↔◌, ◌++◌, ◌∷◌, [], false, not, length, IsTrue, IfOk};
+ghost use Rattle.std.specs.Prelude.{OnOk, OnErr, drop, replicate, slice_index, slice_set, sum};
 ghost use Rattle.std.specs.List.{All};
 ghost use Rattle.lot_core.specs.Lines.{key_count};
 
@@ -72,7 +73,8 @@ impl Semaphores {
     ghost use Rattle.lot_core.specs.World.{none_taken};
     ghost use Rattle.lot_core.specs.Sums.{total};
     ghost use Rattle.lot_core.specs.Rows.{row_from};
-    ghost use Rattle.lot_core.specs.Steps.{first, none_left, permit_given, permit_passed, permit_taken, with_sem_line, with_sem_parked};
+    ghost use Rattle.lot_core.specs.Steps.{first, none_left, permit_given, permit_passed, permit_taken, with_sem_line};
+    ghost use Rattle.lot_core.specs.Steps.{with_sem_parked};
     ghost use Rattle.lot_core.specs.Semaphores.{semaphores_of, permits_of, sem_count, HasSemaphore, KeepsNumbers};
 
     /// Semaphores with these opening numbers, from `low` on, all permits left.
@@ -83,7 +85,8 @@ impl Semaphores {
         permits: &[u32],
     ) -> Result<Semaphores, AllocError>
         requires { low + length permits.now < 2 ^ 64 }
-        ensures numbers { IfOk result (λ s. (s.low ≡ low) × (s.threads ≡ threads) × (sem_count s ≡ length permits.now)) }
+        ensures numbers { IfOk result (λ s. (s.low ≡ low) × (s.threads ≡ threads)
+            × (sem_count s ≡ length permits.now)) }
         ensures permits { IfOk result (λ s. permits_of s ≡ row_from 0 low permits.now) }
         ensures sems { IfOk result (λ s. semaphores_of s ≡ none_taken (row_from 0 low permits.now)) }
     {

@@ -9,8 +9,10 @@ impl State {
     ghost use Rattle.lot_events.specs.declared.events.Point.TheVariants.{Sweeps};
     ghost use Rattle.lot_core.specs.Steps.{IsThread, IsLock, IsCond, IsSemaphore, IsTrying};
     ghost use Rattle.lot_core.specs.Parts.{semaphore_part};
-    ghost use Rattle.lot_core.specs.Sound.{IsSound, Waits, IsMarked, IsSought, IsSwept, AllWant, AllWait, IsSoundLock, IsSoundCond};
-    ghost use Rattle.lot_core.specs.Sound.{seeker_count, IsMarkedSemaphore, IsSoughtSemaphore, AllSeek, IsSoundSemaphore};
+    ghost use Rattle.lot_core.specs.Sound.{IsSound, Waits, IsMarked, IsSought, IsSwept, AllWant, AllWait, IsSoundLock};
+    ghost use Rattle.lot_core.specs.Sound.{IsSoundCond};
+    ghost use Rattle.lot_core.specs.Sound.{seeker_count, IsMarkedSemaphore, IsSoughtSemaphore, AllSeek};
+    ghost use Rattle.lot_core.specs.Sound.{IsSoundSemaphore};
     ghost use Rattle.lot_core.specs.State.{world_of};
 
     fn someone_tries(&self, lock: usize) -> bool

@@ -13,7 +13,7 @@ mod locks;
 mod opening;
 mod sems;
 
-/// The greatest number of threads.
+/// The greatest number of threads, and of those that one [`Event::Call`] takes.
 pub const MAX_THREADS: usize = 256;
 
 /// The greatest number of locks, conditions and semaphores together.

@@ -1,5 +1,6 @@
 -- Numbers of one to four digits, read and spelled.
-use Rattle.std.proofs.Common.{zero, suc, ◌≡◌, ◌≢◌, ◌<◌, ◌≤◌, ◌+◌, ◌-◌, ◌*◌, ◌/◌, ◌%◌, ◌++◌, ℕ, Bool, true, false, List, [], ◌∷◌, Option, Some, None, refl, sym, ap, ◌∙◌, subst, arith}
+use Rattle.std.proofs.Common.{zero, suc, ◌≡◌, ◌≢◌, ◌<◌, ◌≤◌, ◌+◌, ◌-◌, ◌*◌, ◌/◌, ◌%◌, ◌++◌, ℕ, Bool, true, false, List, [], ◌∷◌, Option}
+use Rattle.std.proofs.Common.{Some, None, refl, sym, ap, ◌∙◌, subst, arith}
 use Rattle.std.proofs.Common.{append_assoc, inl, inr, leb}
 use Rattle.std.specs.Prelude.{◌==◌, nat_lt, if◌then◌else◌, decimal}
 use Rattle.std.specs.Option.{option_and_then}
@@ -13,7 +14,8 @@ use Rattle.lot_events.proofs.Cases.{by_bit}
 pub bind_is : {A B : Type 0} (f : A → Option B) (o : Option A) (x : A) (y : Option B) → o ≡ Some x → f x ≡ y → option_and_then f o ≡ y
 bind_is f o x y is next = ap (option_and_then f) is ∙ next
 
-pub bind_some : {A B : Type 0} (f : A → Option B) (o : Option A) (y : B) → option_and_then f o ≡ Some y → (x : A) × (o ≡ Some x) × (f x ≡ Some y)
+pub bind_some : {A B : Type 0} (f : A → Option B) (o : Option A) (y : B) → option_and_then f o ≡ Some y → (x : A)
+    × (o ≡ Some x) × (f x ≡ Some y)
 bind_some f None y is = absurd (cc)
 bind_some f (Some x) y is = (x, refl, is)
 
@@ -61,7 +63,11 @@ pub three_3 : (a i j k : ℕ) (rest : List ℕ) → i < 10 → j < 10 → k < 10
     three_more a ((48 + i) ∷ (48 + j) ∷ (48 + k) ∷ rest) ≡ (10 * (10 * (10 * a + i) + j) + k, rest)
 unfolding three_more
 three_3 a i j k rest small_i small_j small =
-    rw (more_digit a i ((48 + j) ∷ (48 + k) ∷ rest) small_i, more_digit (10 * a + i) j ((48 + k) ∷ rest) small_j, more_digit (10 * (10 * a + i) + j) k rest small) refl
+    rw (
+      more_digit a i ((48 + j) ∷ (48 + k) ∷ rest) small_i,
+      more_digit (10 * a + i) j ((48 + k) ∷ rest) small_j,
+      more_digit (10 * (10 * a + i) + j) k rest small,
+    ) refl
 
 -- the digits
 pub decimal_2 : (n : ℕ) → 10 ≤ n → n < 100 → decimal n ≡ (48 + n / 10) ∷ (48 + n % 10) ∷ []
@@ -80,7 +86,8 @@ decimal_4 n from small =
 pub number_from : (a : ℕ) (text : List ℕ) → 0 < a → a < 10 → number_at ((48 + a) ∷ text) ≡ Some (three_more a text)
 unfolding number_at
 number_from a text some small =
-    ap (λ b. if b then Some (0, text) else (if is_ascii_digit (48 + a) then Some (three_more ((48 + a) - 48) text) else None)) (ne_eqb (48 + a) 48 (λ e. omega arith))
+    ap (λ b. if b then Some (0, text) else (if is_ascii_digit (48 + a) then Some (three_more ((48 + a) - 48) text) else None))
+    (ne_eqb (48 + a) 48 (λ e. omega arith))
     ∙ ap (λ b. if b then Some (three_more ((48 + a) - 48) text) else None) (is_digit a small)
     ∙ ap (λ n. Some (three_more n text)) (omega arith)
 
@@ -100,7 +107,8 @@ pub again_4 : (n : ℕ) (rest : List ℕ) → 1000 ≤ n → n < 10000 → numbe
 again_4 n rest from small =
     ap (λ ds. number_at (ds ++ rest)) (decimal_4 n from small)
     ∙ number_from (n / 10 / 10 / 10) ((48 + n / 10 / 10 % 10) ∷ (48 + n / 10 % 10) ∷ (48 + n % 10) ∷ rest) (omega arith) (omega arith)
-    ∙ ap Some (three_3 (n / 10 / 10 / 10) (n / 10 / 10 % 10) (n / 10 % 10) (n % 10) rest (omega arith) (omega arith) (omega arith) ∙ ap (λ m. (m, rest)) (omega arith))
+    ∙ ap Some (three_3 (n / 10 / 10 / 10) (n / 10 / 10 % 10) (n / 10 % 10) (n % 10) rest (omega arith) (omega arith) (omega arith)
+    ∙ ap (λ m. (m, rest)) (omega arith))
 
 pub number_again : (n : ℕ) (rest : List ℕ) → n < 10000 → Ends rest → number_at (decimal n ++ rest) ≡ Some (n, rest)
 number_again n rest small ends =
@@ -109,7 +117,8 @@ number_again n rest small ends =
       | inr some ↦ elim (cases_lt n 10) [
         | inl one ↦ ap (λ ds. number_at (ds ++ rest)) (decimal_digit n one) ∙ number_from n rest some one ∙ ap Some (three_0 n rest ends)
         | inr over_one ↦ elim (cases_lt n 100) [
-          | inl two ↦ ap (λ ds. number_at (ds ++ rest)) (decimal_2 n over_one two) ∙ number_from (n / 10) ((48 + n % 10) ∷ rest) (omega arith) (omega arith)
+          | inl two ↦ ap (λ ds. number_at (ds ++ rest)) (decimal_2 n over_one two)
+              ∙ number_from (n / 10) ((48 + n % 10) ∷ rest) (omega arith) (omega arith)
               ∙ ap Some (three_1 (n / 10) (n % 10) rest (omega arith) ends ∙ ap (λ m. (m, rest)) (omega arith))
           | inr over_two ↦ elim (cases_lt n 1000) [
             | inl three ↦ again_3 n rest over_two three ends
@@ -132,7 +141,8 @@ one_digit_more n d small some from to =
     let back : 48 + m % 10 ≡ d = omega arith in
     decimal_step m (omega arith) (omega arith) ∙ ap (λ k. decimal k ++ (48 + m % 10) ∷ []) front ∙ ap (λ k. decimal n ++ k ∷ []) back
 
-pub more_read : (text : List ℕ) (bound n : ℕ) (rest : List ℕ) → bound ≤ 1000 → IsRead text bound (n, rest) → IsRead text (10 * bound) (one_more n rest)
+pub more_read : (text : List ℕ) (bound n : ℕ) (rest : List ℕ) → bound ≤ 1000 → IsRead text bound (n, rest)
+    → IsRead text (10 * bound) (one_more n rest)
 unfolding one_more
 more_read text bound n [] small h = record { some = h.some; below = omega (arith, h.below); parts = h.parts }
 more_read text bound n (d ∷ rest) small h =
@@ -140,7 +150,9 @@ more_read text bound n (d ∷ rest) small h =
     (λ e. let d_is : (48 ≤ d) × (d ≤ 57) = digit_is d e in record {
       some = omega (arith, h.some);
       below = omega (arith, h.below);
-      parts = h.parts ∙ sym (ap (λ ds. ds ++ rest) (one_digit_more n d (omega (arith, h.below)) h.some d_is.0 d_is.1) ∙ append_assoc (decimal n) (d ∷ []) rest);
+      parts = h.parts
+          ∙ sym (ap (λ ds. ds ++ rest) (one_digit_more n d (omega (arith, h.below)) h.some d_is.0 d_is.1)
+          ∙ append_assoc (decimal n) (d ∷ []) rest);
     })
     (λ e. record { some = h.some; below = omega (arith, h.below); parts = h.parts })
 
@@ -148,13 +160,18 @@ pub number_takes : (text : List ℕ) (n : ℕ) (rest : List ℕ) → number_at t
 unfolding number_at three_more
 number_takes [] n rest is = absurd (cc)
 number_takes (d ∷ text) n rest is =
-    by_bit (λ b. (d == 48) ≡ b → (if b then Some (0, text) else (if is_ascii_digit d then Some (three_more (d - 48) text) else None)) ≡ Some (n, rest) →
+    by_bit (λ b. (d == 48) ≡ b
+    → (if b then Some (0, text) else (if is_ascii_digit d then Some (three_more (d - 48) text) else None)) ≡ Some (n, rest) →
     (n < 10000) × (d ∷ text ≡ decimal n ++ rest)) (d == 48)
     (λ _ e is. let both = some_is (0, text) (n, rest) is in
     let n_is : 0 ≡ n = ap (λ (x : ℕ × List ℕ). x.0) both in
-    let rest_is : text ≡ rest = ap (λ (x : ℕ × List ℕ). x.1) both in
-    (omega arith, ap (λ k. k ∷ text) (eqb-true d 48 e) ∙ ap (λ r. 48 ∷ r) rest_is ∙ sym (ap (λ ds. ds ++ rest) (decimal_digit 0 (omega arith))) ∙ ap (λ k. decimal k ++ rest) n_is))
-    (λ _ e. by_bit (λ b. is_ascii_digit d ≡ b → (if b then Some (three_more (d - 48) text) else None) ≡ Some (n, rest) → (n < 10000) × (d ∷ text ≡ decimal n ++ rest)) (is_ascii_digit d)
+    let rest_is : text ≡ rest = ap (λ (x : ℕ × List ℕ). x.1) both in (
+      omega arith,
+      ap (λ k. k ∷ text) (eqb-true d 48 e) ∙ ap (λ r. 48 ∷ r) rest_is
+          ∙ sym (ap (λ ds. ds ++ rest) (decimal_digit 0 (omega arith))) ∙ ap (λ k. decimal k ++ rest) n_is,
+    ))
+    (λ _ e. by_bit (λ b. is_ascii_digit d ≡ b → (if b then Some (three_more (d - 48) text) else None) ≡ Some (n, rest) → (n < 10000)
+    × (d ∷ text ≡ decimal n ++ rest)) (is_ascii_digit d)
     (λ _ digit is.
     let d_is : (48 ≤ d) × (d ≤ 57) = digit_is d digit in
     let ne : d ≢ 48 = eqb-false d 48 e in
@@ -166,7 +183,8 @@ number_takes (d ∷ text) n rest is =
     let a = one_more (d - 48) text in
     let b = one_more a.0 a.1 in
     let all : IsRead (d ∷ text) 10000 (three_more (d - 48) text) =
-    more_read (d ∷ text) 1000 b.0 b.1 (omega arith) (more_read (d ∷ text) 100 a.0 a.1 (omega arith) (more_read (d ∷ text) 10 (d - 48) text (omega arith) one)) in
+    more_read (d ∷ text) 1000 b.0 b.1 (omega arith)
+    (more_read (d ∷ text) 100 a.0 a.1 (omega arith) (more_read (d ∷ text) 10 (d - 48) text (omega arith) one)) in
     let same : three_more (d - 48) text ≡ (n, rest) = some_is (three_more (d - 48) text) (n, rest) is in
     let read : IsRead (d ∷ text) 10000 (n, rest) = subst (λ x. IsRead (d ∷ text) 10000 x) same all in
     (read.below, read.parts))
@@ -178,7 +196,8 @@ pub field_takes : (text : List ℕ) (n : ℕ) (rest : List ℕ) → field_at tex
 unfolding field_at
 field_takes [] n rest is = absurd (cc)
 field_takes (b ∷ text) n rest is =
-    by_bit (λ c. (b == 32) ≡ c → (if c then number_at text else None) ≡ Some (n, rest) → (n < 10000) × (b ∷ text ≡ field n ++ rest)) (b == 32)
+    by_bit (λ c. (b == 32) ≡ c → (if c then number_at text else None) ≡ Some (n, rest) → (n < 10000)
+    × (b ∷ text ≡ field n ++ rest)) (b == 32)
     (λ _ e is. let taken = number_takes text n rest is in (taken.0, ap (λ k. k ∷ text) (eqb-true b 32 e) ∙ ap (λ xs. 32 ∷ xs) taken.1))
     (λ _ e is. absurd (cc))
     refl is

@@ -1,5 +1,6 @@
 -- A line that is read is spelled so, and a line that is spelled so is read.
-use Rattle.std.proofs.Common.{◌≡◌, ◌++◌, ℕ, List, [], ◌∷◌, length, take, drop, Option, Some, None, refl, sym, ap, ◌∙◌, subst, append_assoc, inl, inr}
+use Rattle.std.proofs.Common.{◌≡◌, ◌++◌, ℕ, List, [], ◌∷◌, length, take, drop, Option, Some, None, refl, sym, ap, ◌∙◌, subst, append_assoc}
+use Rattle.std.proofs.Common.{inl, inr}
 use Rattle.std.specs.Prelude.{flat_map, if◌then◌else◌, bytes_eq}
 use Rattle.std.specs.List.{AllByRecursion}
 use Rattle.std.proofs.lemmas.List.{take-append-drop, append-nil}
@@ -7,17 +8,20 @@ use Rattle.std.proofs.lemmas.Slice.Eq.{bytes_eq-Decides}
 use Rattle.lot_events.specs.declared.events.Event.{Event}
 use Rattle.lot_events.specs.declared.events.Event.TheVariants as event
 use Rattle.lot_events.specs.declared.reading.Kind.{Kind}
-use Rattle.lot_events.specs.declared.reading.Kind.TheVariants.{Try, Take, Mark, Park, Free, Pass, Enlist, Look, Call, CallSome, Lower, Sweep, SemTake, SemMark, SemPark, SemFree, SemPass, SemClear}
+use Rattle.lot_events.specs.declared.reading.Kind.TheVariants.{Try, Take, Mark, Park, Free, Pass, Enlist, Look, Call, CallSome, Lower}
+use Rattle.lot_events.specs.declared.reading.Kind.TheVariants.{Sweep, SemTake, SemMark, SemPark, SemFree, SemPass, SemClear}
 use Rattle.lot_events.specs.Spelling.{bit, field, line, IsSmall, IsLine, Spells, BeginsWith, NoEvent}
 use Rattle.lot_events.specs.Reading.{rest_behind, kind_word, kinds, first_of, or_else, field_at, flag_at, end_at, last_at, event_at}
 use Rattle.lot_events.proofs.Cases.{by_bit}
-use Rattle.lot_events.proofs.Figures.{bind_is, bind_some, some_is, Ends, field_takes, field_again, flag_takes, flag_again, end_takes, end_again, bit_small}
+use Rattle.lot_events.proofs.Figures.{bind_is, bind_some, some_is, Ends, field_takes, field_again, flag_takes, flag_again, end_takes}
+use Rattle.lot_events.proofs.Figures.{end_again, bit_small}
 
 -- a word at the front
 pub rest_behind_takes : (w text rest : List ℕ) → rest_behind w text ≡ Some rest → text ≡ w ++ rest
 unfolding rest_behind
 rest_behind_takes w text rest is =
-    by_bit (λ b. bytes_eq (take (length w) text) w ≡ b → (if b then Some (drop (length w) text) else None) ≡ Some rest → text ≡ w ++ rest) (bytes_eq (take (length w) text) w)
+    by_bit (λ b. bytes_eq (take (length w) text) w ≡ b → (if b then Some (drop (length w) text) else None) ≡ Some rest → text ≡ w ++ rest)
+    (bytes_eq (take (length w) text) w)
     (λ _ e is.
     let front : take (length w) text ≡ w = (bytes_eq-Decides (take (length w) text) w).0 e in
     let back : drop (length w) text ≡ rest = some_is (drop (length w) text) rest is in
@@ -26,7 +30,8 @@ rest_behind_takes w text rest is =
     refl is
 
 pub chosen_takes : (x : Kind) (others : Option (Kind × List ℕ)) (text : List ℕ) (k : Kind) (rest : List ℕ) (o : Option (List ℕ)) →
-    rest_behind (kind_word x) text ≡ o → (others ≡ Some (k, rest) → text ≡ kind_word k ++ rest) → or_else x o others ≡ Some (k, rest) → text ≡ kind_word k ++ rest
+    rest_behind (kind_word x) text ≡ o → (others ≡ Some (k, rest) → text ≡ kind_word k ++ rest) → or_else x o others ≡ Some (k, rest)
+    → text ≡ kind_word k ++ rest
 chosen_takes x others text k rest None e later is = later is
 chosen_takes x others text k rest (Some r) e later is =
     let both = some_is (x, r) (k, rest) is in
@@ -34,7 +39,8 @@ chosen_takes x others text k rest (Some r) e later is =
     let rest_is : r ≡ rest = ap (λ (y : Kind × List ℕ). y.1) both in
     rest_behind_takes (kind_word x) text r e ∙ ap (λ j. kind_word j ++ r) k_is ∙ ap (λ s. kind_word k ++ s) rest_is
 
-pub first_takes : (ks : List Kind) (text : List ℕ) (k : Kind) (rest : List ℕ) → first_of ks text ≡ Some (k, rest) → text ≡ kind_word k ++ rest
+pub first_takes : (ks : List Kind) (text : List ℕ) (k : Kind) (rest : List ℕ) → first_of ks text ≡ Some (k, rest)
+    → text ≡ kind_word k ++ rest
 unfolding first_of
 first_takes [] text k rest is = absurd (cc)
 first_takes (x ∷ ks) text k rest is =
@@ -105,7 +111,8 @@ last_takes Enlist t x text found is =
 last_takes Look t x text found is = last_of Look t x text (event.Look t x) [] text found (λ first is. is) tt refl is
 last_takes Call t x text found is =
     let more = bind_some _ (flag_at text) found is in
-    last_of Call t x text (event.Call t x 1 more.0.0) (bit more.0.0 ∷ []) more.0.1 found (λ first is. inr (refl, is)) (bit_small more.0.0, tt)
+    last_of Call t x text (event.Call t x 1 more.0.0) (bit more.0.0 ∷ []) more.0.1 found
+    (λ first is. inr (refl, is)) (bit_small more.0.0, tt)
     (flag_takes text more.0.0 more.0.1 more.1 ∙ sym (one_part (field (bit more.0.0)) more.0.1)) more.2
 last_takes CallSome t x text found is =
     let count = bind_some _ (field_at text) found is in
@@ -139,7 +146,8 @@ its_line word numbers small = record { small = small; text_is = refl }
 pub line_read : (w : List ℕ) (t x : ℕ) (more text a b c rest behind : List ℕ) → text ≡ w ++ a → a ≡ field t ++ b → b ≡ field x ++ c →
     c ≡ flat_map field more ++ rest → rest ≡ 10 ∷ behind → text ≡ line w (t ∷ x ∷ more) ++ behind
 line_read w t x more text a b c rest behind in_text in_a in_b in_c in_rest =
-    in_text ∙ ap (λ r. w ++ r) (in_a ∙ ap (λ r. field t ++ r) (in_b ∙ ap (λ r. field x ++ r) (in_c ∙ ap (λ r. flat_map field more ++ r) in_rest)))
+    in_text ∙ ap (λ r. w ++ r) (in_a
+    ∙ ap (λ r. field t ++ r) (in_b ∙ ap (λ r. field x ++ r) (in_c ∙ ap (λ r. flat_map field more ++ r) in_rest)))
     ∙ sym (regroup w (field t) (field x) (flat_map field more) behind)
 
 pub event_takes : (text : List ℕ) (e : Event) (rest : List ℕ) → event_at text ≡ Some (e, rest) → BeginsWith text e rest
@@ -177,7 +185,8 @@ again_of k t x more first e rest is last_is =
     let end : List ℕ = flat_map field more ++ (10 ∷ rest) in
     ap (λ l. event_at (l ++ rest)) is.text_is
     ∙ ap event_at (regroup (kind_word k) (field t) (field x) (flat_map field more) rest)
-    ∙ bind_is _ (first_of kinds (kind_word k ++ (field t ++ (field x ++ end)))) (k, field t ++ (field x ++ end)) _ (first_again k (field t ++ (field x ++ end)))
+    ∙ bind_is _ (first_of kinds (kind_word k ++ (field t ++ (field x ++ end)))) (k, field t ++ (field x ++ end)) _
+    (first_again k (field t ++ (field x ++ end)))
     (bind_is _ (field_at (field t ++ (field x ++ end))) (t, field x ++ end) _ (field_again t (field x ++ end) is.small.0 refl)
     (bind_is _ (field_at (field x ++ end)) (x, end) _ (field_again x end is.small.1.0 (fields_end more rest))
     (bind_is _ (last_at k t x end) (e, 10 ∷ rest) _ last_is
@@ -193,7 +202,8 @@ event_again first (event.Free t x) rest is = again_of Free t x [] first (event.F
 event_again first (event.Pass t x fair more) rest is =
     again_of Pass t x (bit fair ∷ bit more ∷ []) first (event.Pass t x fair more) rest is
     (ap (last_at Pass t x) (two_parts (field (bit fair)) (field (bit more)) (10 ∷ rest))
-    ∙ bind_is _ (flag_at (field (bit fair) ++ (field (bit more) ++ (10 ∷ rest)))) (fair, field (bit more) ++ (10 ∷ rest)) _ (flag_again fair (field (bit more) ++ (10 ∷ rest)) refl)
+    ∙ bind_is _ (flag_at (field (bit fair) ++ (field (bit more) ++ (10 ∷ rest)))) (fair, field (bit more) ++ (10 ∷ rest)) _
+    (flag_again fair (field (bit more) ++ (10 ∷ rest)) refl)
     (bind_is _ (flag_at (field (bit more) ++ (10 ∷ rest))) (more, 10 ∷ rest) _ (flag_again more (10 ∷ rest) refl) refl))
 event_again first (event.Enlist t x l) rest is =
     again_of Enlist t x (l ∷ []) first (event.Enlist t x l) rest is
@@ -203,7 +213,8 @@ event_again first (event.Look t x) rest is = again_of Look t x [] first (event.L
 event_again first (event.Call t x n more) rest (inl is) =
     again_of CallSome t x (n ∷ bit more ∷ []) first (event.Call t x n more) rest is
     (ap (last_at CallSome t x) (two_parts (field n) (field (bit more)) (10 ∷ rest))
-    ∙ bind_is _ (field_at (field n ++ (field (bit more) ++ (10 ∷ rest)))) (n, field (bit more) ++ (10 ∷ rest)) _ (field_again n (field (bit more) ++ (10 ∷ rest)) is.small.1.1.0 refl)
+    ∙ bind_is _ (field_at (field n ++ (field (bit more) ++ (10 ∷ rest)))) (n, field (bit more) ++ (10 ∷ rest)) _
+    (field_again n (field (bit more) ++ (10 ∷ rest)) is.small.1.1.0 refl)
     (bind_is _ (flag_at (field (bit more) ++ (10 ∷ rest))) (more, 10 ∷ rest) _ (flag_again more (10 ∷ rest) refl) refl))
 event_again first (event.Call t x n more) rest (inr (one, is)) =
     again_of Call t x (bit more ∷ []) first (event.Call t x n more) rest is

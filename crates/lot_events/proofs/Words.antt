@@ -22,6 +22,7 @@ pub first_later : (ks : List Kind) (i : ℕ) (d : Kind) (text : List ℕ) → i 
 first_later ks i d text within so is =
     so ∙ first_at ks i d text within ∙ ap (λ o. or_else (get_or ks i d) o (first_of (drop (i + 1) ks) text)) (sym is)
 
-pub first_none : (ks : List Kind) (i : ℕ) (text : List ℕ) → length ks ≤ i → first_of ks text ≡ first_of (drop i ks) text → None ≡ first_of ks text
+pub first_none : (ks : List Kind) (i : ℕ) (text : List ℕ) → length ks ≤ i → first_of ks text ≡ first_of (drop i ks) text
+    → None ≡ first_of ks text
 unfolding first_of
 first_none ks i text past so = sym (so ∙ ap (λ xs. first_of xs text) (drop_of_length-le ks past))

@@ -1,11 +1,13 @@
 -- Reading a line from left to right.
-use Rattle.std.specs.Prelude.{ℕ, ◌+◌, ◌-◌, ◌*◌, nat_lt, ◌==◌, Bool, if◌then◌else◌, List, [], ◌∷◌, length, take, drop, codes, bytes_eq, Option, Some, None}
+use Rattle.std.specs.Prelude.{ℕ, ◌+◌, ◌-◌, ◌*◌, nat_lt, ◌==◌, Bool, if◌then◌else◌, List, [], ◌∷◌, length, take, drop, codes, bytes_eq}
+use Rattle.std.specs.Prelude.{Option, Some, None}
 use Rattle.std.specs.Option.{option_and_then}
 use Rattle.std.specs.Char.{is_ascii_digit}
 use Rattle.lot_events.specs.declared.events.Event.{Event}
 use Rattle.lot_events.specs.declared.events.Event.TheVariants as event
 use Rattle.lot_events.specs.declared.reading.Kind.{Kind}
-use Rattle.lot_events.specs.declared.reading.Kind.TheVariants.{Try, Take, Mark, Park, Free, Pass, Enlist, Look, Call, CallSome, Lower, Sweep, SemTake, SemMark, SemPark, SemFree, SemPass, SemClear}
+use Rattle.lot_events.specs.declared.reading.Kind.TheVariants.{Try, Take, Mark, Park, Free, Pass, Enlist, Look, Call, CallSome, Lower}
+use Rattle.lot_events.specs.declared.reading.Kind.TheVariants.{Sweep, SemTake, SemMark, SemPark, SemFree, SemPass, SemClear}
 
 infixl 10 ◌>>=◌
 abbrev pub ◌>>=◌ : {A B : Type 0} → Option A → (A → Option B) → Option B

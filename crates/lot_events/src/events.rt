@@ -1,8 +1,5 @@
 //! The seventeen events, what a thread sees of its own, and the points at which a thread can stand.
 
-/// The greatest number of threads that one [`Event::Call`] may take.
-pub const MAX_CALLED: usize = 256;
-
 /// Where a thread stands between two events.
 #[derive(Clone, Copy, Debug, PartialEq, Eq)]
 pub enum Point {
@@ -73,7 +70,8 @@ pub enum Event {
         key: usize,
     },
     /// Takes the first `count` of the condition's line, or all where they are fewer, and clears the
-    /// flag where no `more` may wait or nobody was there. A Call takes 1 to [`MAX_CALLED`].
+    /// flag where no `more` may wait or nobody was there. A Call takes at least one, and at most as
+    /// many as a state may have threads.
     Call {
         thread: usize,
         key: usize,

@@ -14,4 +14,4 @@
 pub mod events;
 pub mod reading;
 
-pub use events::{Event, MAX_CALLED, Point, Seen};
+pub use events::{Event, Point, Seen};

@@ -49,7 +49,8 @@ const KINDS: [Kind; 18] = [
 ];
 
 ghost use Rattle.lot_events.specs.declared.reading.Kind.TheVariants as Kind;
-ghost use Rattle.lot_events.specs.Reading.{kind_word, rest_behind, one_more, number_at, field_at, flag_at, end_at, first_of, kinds, last_at, event_at, open_at};
+ghost use Rattle.lot_events.specs.Reading.{kind_word, rest_behind, one_more, number_at, field_at, flag_at, end_at};
+ghost use Rattle.lot_events.specs.Reading.{first_of, kinds, last_at, event_at, open_at};
 ghost use Rattle.lot_events.specs.Spelling.{BeginsWith, NoEvent};
 
 fn word_of(kind: Kind) -> &'static [u8]

@@ -1,5 +1,6 @@
 -- What is known under a bucket's lock while a key's root is out, and after it is back.
-use Rattle.std.proofs.Common.{◌≡◌, ◌≢◌, ℕ, zero, suc, ◌<◌, ◌≤◌, true, false, not, ◌&&◌, cond, Bool, List, [], ◌∷◌, ◌++◌, length, drop, min, Option, Some, None, refl, sym, ◌∙◌, ap, subst, arith}
+use Rattle.std.proofs.Common.{◌≡◌, ◌≢◌, ℕ, zero, suc, ◌<◌, ◌≤◌, true, false, not, ◌&&◌, cond, Bool, List, [], ◌∷◌, ◌++◌, length, drop, min}
+use Rattle.std.proofs.Common.{Option, Some, None, refl, sym, ◌∙◌, ap, subst, arith}
 use Rattle.std.specs.Prelude.{nat_lt, is_some, ◌==◌}
 use Rattle.std.proofs.lemmas.Bool.{ltb-true, lt-ltb}
 use Rattle.std.proofs.lemmas.List.{drop_all}
@@ -13,7 +14,8 @@ use Rattle.lot_bucket.specs.Settled.{Stays}
 use Rattle.lot_bucket.specs.Taking.{TakesOne, TakesFirst}
 use Rattle.lot_bucket.specs.declared.taking.Moment.{Moment}
 use Rattle.lot_bucket.specs.declared.taking.Dequeued.{Dequeued}
-use Rattle.lot_bucket.proofs.Laws.{line_of-push_same, line_of-push_other, line_of-without_count_same, line_of-without_count_other, has_key-with, root_at-with_same, root_taken, agrees_again}
+use Rattle.lot_bucket.proofs.Laws.{line_of-push_same, line_of-push_other, line_of-without_count_same, line_of-without_count_other}
+use Rattle.lot_bucket.proofs.Laws.{has_key-with, root_at-with_same, root_taken, agrees_again}
 use Rattle.lot_park.specs.Parking.{IsOpenFor, Tells, TellsCount}
 
 empty_of : (xs : List (ℕ × ℕ)) → not (length xs == 0) ≡ false → xs ≡ []
@@ -40,7 +42,8 @@ tells_of (t ∷ line) left next now told thread more fair last =
     }
 
 pub tells : {R : Type 0} (view : R → KeyLine) (k : ℕ) (moment : Moment) (before taken after : Contents R) (root : R) (told : Dequeued)
-    → (view root).line ≡ line_of k before.queue → taken.queue ≡ before.queue → TakesOne k moment taken after told → Tells (view root).line moment.now told
+    → (view root).line ≡ line_of k before.queue → taken.queue ≡ before.queue → TakesOne k moment taken after told
+    → Tells (view root).line moment.now told
 tells view k moment before taken after root told same out takes =
     let own : (view root).line ≡ line_of k taken.queue = same ∙ ap (λ q. line_of k q) (sym out) in
     let left : after.queue ≡ without_first k taken.queue = ap (λ (c : Contents _). c.queue) takes.left in
@@ -48,7 +51,8 @@ tells view k moment before taken after root told same out takes =
     (λ e. sym (line_of-without_count_same 1 k taken.queue) ∙ ap (λ q. line_of k q) (sym left ∙ e)))
 
 -- what an unparking of at most n tells, where nobody of the line is left if the queue is empty
-tells_first : (threads n : ℕ) (line : List ℕ) (left : List (ℕ × ℕ)) (taken : ℕ) (more : Bool) → length line ≤ threads → taken ≡ min n (length line)
+tells_first : (threads n : ℕ) (line : List ℕ) (left : List (ℕ × ℕ)) (taken : ℕ) (more : Bool) → length line ≤ threads
+    → taken ≡ min n (length line)
     → more ≡ (nat_lt 0 taken && not (length left == 0)) → (left ≡ [] → drop n line ≡ []) → TellsCount threads n line taken more
 tells_first threads n line left zero more short number others last =
     record {
@@ -66,7 +70,8 @@ tells_first threads n line left (suc taken) more short number others last =
     }
 
 pub tells_count : {R : Type 0} (k n threads : ℕ) (before out after : Contents R) (threads_out : List ℕ) (taken : ℕ) (more : Bool)
-    → out.queue ≡ before.queue → length (line_of k before.queue) ≤ threads → TakesFirst n k out after threads_out taken more → TellsCount threads n (line_of k before.queue) taken more
+    → out.queue ≡ before.queue → length (line_of k before.queue) ≤ threads → TakesFirst n k out after threads_out taken more
+    → TellsCount threads n (line_of k before.queue) taken more
 tells_count k n threads before out after threads_out taken more same short takes =
     let left : after.queue ≡ without_count n k out.queue = ap (λ (c : Contents _). c.queue) takes.left in
     rw (sym same) (tells_first threads n (line_of k out.queue) after.queue taken more (rw same short) takes.number takes.others
@@ -76,24 +81,38 @@ tells_count k n threads before out after threads_out taken more same short takes
 abbrev pub joined : Bool → ℕ → ℕ → List (ℕ × ℕ) → List (ℕ × ℕ)
 joined queued t k queue = cond queued (queue ++ (t, k) ∷ []) queue
 
-pub line_of-joined_other : (j k t : ℕ) (queued : Bool) (queue : List (ℕ × ℕ)) → k ≢ j → line_of j (joined queued t k queue) ≡ line_of j queue
+pub line_of-joined_other : (j k t : ℕ) (queued : Bool) (queue : List (ℕ × ℕ)) → k ≢ j
+    → line_of j (joined queued t k queue) ≡ line_of j queue
 line_of-joined_other j k t true queue other = line_of-push_other j k t queue other
 line_of-joined_other j k t false queue other = refl
 
 module _ {R : Type 0} (view : R → KeyLine) where
   -- the root that a validation gave back
-  pub root_joined : (k t : ℕ) (queued : Bool) (queue : List (ℕ × ℕ)) (root after : R) → IsRootOf view k queue root → (view after).key ≡ k → (view after).owes ≡ []
-      → (queued ≡ true → (view after).line ≡ (view root).line ++ t ∷ []) → (queued ≡ false → after ≡ root) → IsRootOf view k (joined queued t k queue) after
+  pub root_joined : (k t : ℕ) (queued : Bool) (queue : List (ℕ × ℕ)) (root after : R) → IsRootOf view k queue root
+      → (view after).key ≡ k → (view after).owes ≡ []
+      → (queued ≡ true → (view after).line ≡ (view root).line ++ t ∷ []) → (queued ≡ false → after ≡ root)
+      → IsRootOf view k (joined queued t k queue) after
   root_joined k t true queue root after own named paid longer same =
-      record { named = named; same_line = longer refl ∙ ap (λ xs. xs ++ t ∷ []) own.same_line ∙ sym (line_of-push_same k t queue); paid = paid }
+      record {
+        named = named;
+        same_line = longer refl ∙ ap (λ xs. xs ++ t ∷ []) own.same_line
+            ∙ sym (line_of-push_same k t queue);
+        paid = paid;
+      }
   root_joined k t false queue root after own named paid longer same =
       record { named = named; same_line = ap (λ r. (view r).line) (same refl) ∙ own.same_line; paid = paid }
 
   -- the root that an unparking of the first n leaves
-  pub root_shorter : (k n : ℕ) (queue : List (ℕ × ℕ)) (root after : R) → IsRootOf view k queue root → (view after).key ≡ k → (view after).line ≡ drop n (view root).line → (view after).owes ≡ []
+  pub root_shorter : (k n : ℕ) (queue : List (ℕ × ℕ)) (root after : R) → IsRootOf view k queue root → (view after).key ≡ k
+      → (view after).line ≡ drop n (view root).line → (view after).owes ≡ []
       → IsRootOf view k (without_count n k queue) after
   root_shorter k n queue root after own named shorter paid =
-      record { named = named; same_line = shorter ∙ ap (λ xs. drop n xs) own.same_line ∙ sym (line_of-without_count_same n k queue); paid = paid }
+      record {
+        named = named;
+        same_line = shorter ∙ ap (λ xs. drop n xs) own.same_line
+            ∙ sym (line_of-without_count_same n k queue);
+        paid = paid;
+      }
 
   -- the root that was taken out
   pub own_root : (k : ℕ) (b : Contents R) (root : R) → IsOpenFor view k b → root_at k b.places ≡ Some root → IsRootOf view k b.queue root
@@ -107,31 +126,39 @@ module _ {R : Type 0} (view : R → KeyLine) where
       record {
         agrees = agrees_again view before after k root ready.agrees ready.is_open ready.has (opened ∙ ready.is_open) places lines own;
         is_open = opened ∙ ready.is_open;
-        keys = λ j. ap (λ ps. has_key j ps) places ∙ has_key-with j k (Some root) (with_root k None before.places) ∙ has_key-with j k None before.places;
+        keys = λ j. ap (λ ps. has_key j ps) places ∙ has_key-with j k (Some root) (with_root k None before.places)
+            ∙ has_key-with j k None before.places;
         room = room;
       }
 
   -- after a parking: the root was out, the thread was queued or not, the root is back
-  pub parked_stays : (k t : ℕ) (before out queued after : Contents R) (root back : R) (joins : Bool) → IsOpenFor view k before → root_at k before.places ≡ Some root
+  pub parked_stays : (k t : ℕ) (before out queued after : Contents R) (root back : R) (joins : Bool) → IsOpenFor view k before
+      → root_at k before.places ≡ Some root
       → out ≡ record before { places = with_root k None before.places }
       → queued ≡ record out { queue = joined joins t k out.queue }
       → after ≡ record queued { places = with_root k (Some back) queued.places }
-      → (view back).key ≡ k → (view back).owes ≡ [] → (joins ≡ true → (view back).line ≡ (view root).line ++ t ∷ []) → (joins ≡ false → back ≡ root) → Stays view before after
+      → (view back).key ≡ k → (view back).owes ≡ [] → (joins ≡ true → (view back).line ≡ (view root).line ++ t ∷ [])
+      → (joins ≡ false → back ≡ root) → Stays view before after
   parked_stays k t before out queued after root back joins ready at took queues put named paid longer same =
       stays_again before after k back ready
       (ap (λ (c : Contents R). c.opened) put ∙ ap (λ (c : Contents R). c.opened) queues ∙ ap (λ (c : Contents R). c.opened) took)
       (ap (λ (c : Contents R). c.room) put ∙ ap (λ (c : Contents R). c.room) queues ∙ ap (λ (c : Contents R). c.room) took)
-      (ap (λ (c : Contents R). c.places) put ∙ ap (λ ps. with_root k (Some back) ps) (ap (λ (c : Contents R). c.places) queues ∙ ap (λ (c : Contents R). c.places) took))
+      (ap (λ (c : Contents R). c.places) put
+      ∙ ap (λ ps. with_root k (Some back) ps) (ap (λ (c : Contents R). c.places) queues ∙ ap (λ (c : Contents R). c.places) took))
       (λ j other. ap (λ q. line_of j q) queue ∙ line_of-joined_other j k t joins before.queue other)
-      (subst (λ (q : List (ℕ × ℕ)). IsRootOf view k q back) (sym queue) (root_joined k t joins before.queue root back (own_root k before root ready at) named paid longer same))
+      (subst (λ (q : List (ℕ × ℕ)). IsRootOf view k q back) (sym queue)
+      (root_joined k t joins before.queue root back (own_root k before root ready at) named paid longer same))
     where
       queue : after.queue ≡ joined joins t k before.queue
       queue =
-          ap (λ (c : Contents R). c.queue) put ∙ ap (λ (c : Contents R). c.queue) queues ∙ ap (λ q. joined joins t k q) (ap (λ (c : Contents R). c.queue) took)
+          ap (λ (c : Contents R). c.queue) put ∙ ap (λ (c : Contents R). c.queue) queues
+          ∙ ap (λ q. joined joins t k q) (ap (λ (c : Contents R). c.queue) took)
 
   -- after an unparking: the root was out, the first n were taken, the root is back
-  pub unparked_stays : (k n : ℕ) (before taken after : Contents R) (root back : R) → IsOpenFor view k before → root_at k before.places ≡ Some root
-      → taken.opened ≡ before.opened → taken.room ≡ before.room → taken.places ≡ with_root k None before.places → taken.queue ≡ without_count n k before.queue
+  pub unparked_stays : (k n : ℕ) (before taken after : Contents R) (root back : R) → IsOpenFor view k before
+      → root_at k before.places ≡ Some root
+      → taken.opened ≡ before.opened → taken.room ≡ before.room → taken.places ≡ with_root k None before.places
+      → taken.queue ≡ without_count n k before.queue
       → after ≡ record taken { places = with_root k (Some back) taken.places }
       → (view back).key ≡ k → (view back).line ≡ drop n (view root).line → (view back).owes ≡ [] → Stays view before after
   unparked_stays k n before taken after root back ready at opened room places left put named shorter paid =
@@ -140,13 +167,15 @@ module _ {R : Type 0} (view : R → KeyLine) where
       (ap (λ (c : Contents R). c.room) put ∙ room)
       (ap (λ (c : Contents R). c.places) put ∙ ap (λ ps. with_root k (Some back) ps) places)
       (λ j other. ap (λ q. line_of j q) queue ∙ line_of-without_count_other j n k before.queue other)
-      (subst (λ (q : List (ℕ × ℕ)). IsRootOf view k q back) (sym queue) (root_shorter k n before.queue root back (own_root k before root ready at) named shorter paid))
+      (subst (λ (q : List (ℕ × ℕ)). IsRootOf view k q back) (sym queue)
+      (root_shorter k n before.queue root back (own_root k before root ready at) named shorter paid))
     where
       queue : after.queue ≡ without_count n k before.queue
       queue = ap (λ (c : Contents R). c.queue) put ∙ left
 
   -- the same where one was taken at a moment
-  pub one_unparked_stays : (k : ℕ) (moment : Moment) (before out taken after : Contents R) (root back : R) (told : Dequeued) → IsOpenFor view k before → root_at k before.places ≡ Some root
+  pub one_unparked_stays : (k : ℕ) (moment : Moment) (before out taken after : Contents R) (root back : R) (told : Dequeued)
+      → IsOpenFor view k before → root_at k before.places ≡ Some root
       → out ≡ record before { places = with_root k None before.places } → TakesOne k moment out taken told
       → after ≡ record taken { places = with_root k (Some back) taken.places }
       → (view back).key ≡ k → (view back).line ≡ drop 1 (view root).line → (view back).owes ≡ [] → Stays view before after
@@ -158,8 +187,10 @@ module _ {R : Type 0} (view : R → KeyLine) where
       (ap (λ (c : Contents R). c.queue) takes.left ∙ ap (λ q. without_first k q) (ap (λ (c : Contents R). c.queue) took))
 
 -- the key's place is there, and empty, while its root is out
-pub place_has : {R : Type 0} (k : ℕ) (places out : List (ℕ × Option R)) → has_key k places ≡ true → out ≡ with_root k None places → has_key k out ≡ true
+pub place_has : {R : Type 0} (k : ℕ) (places out : List (ℕ × Option R)) → has_key k places ≡ true
+    → out ≡ with_root k None places → has_key k out ≡ true
 place_has k places out has same = ap (λ ps. has_key k ps) same ∙ has_key-with k k None places ∙ has
 
-pub place_empty : {R : Type 0} (k : ℕ) (places out : List (ℕ × Option R)) → has_key k places ≡ true → out ≡ with_root k None places → root_at k out ≡ None
+pub place_empty : {R : Type 0} (k : ℕ) (places out : List (ℕ × Option R)) → has_key k places ≡ true
+    → out ≡ with_root k None places → root_at k out ≡ None
 place_empty k places out has same = ap (λ ps. root_at k ps) same ∙ root_at-with_same k None places has

@@ -1,6 +1,7 @@
 -- What the callbacks of the parking lot are told, and what is asked of them. What a root is seen as is
 -- handed in as a function.
-use Rattle.std.specs.Prelude.{◌≡◌, ℕ, zero, suc, ◌<◌, ◌≤◌, ◌==◌, ◌&&◌, cond, min, Bool, true, false, List, [], ◌∷◌, ◌++◌, take, drop, length, Option, Some, None, IsSome, MatchBool}
+use Rattle.std.specs.Prelude.{◌≡◌, ℕ, zero, suc, ◌<◌, ◌≤◌, ◌==◌, ◌&&◌, cond, min, Bool, true, false, List, [], ◌∷◌, ◌++◌, take, drop}
+use Rattle.std.specs.Prelude.{length, Option, Some, None, IsSome, MatchBool}
 use Rattle.lot_bucket.specs.Queue.{first_of}
 use Rattle.lot_bucket.specs.Places.{has_key}
 use Rattle.lot_bucket.specs.Contents.{Contents}
@@ -68,14 +69,17 @@ module _ {R : Type 0} (view : R → KeyLine) where
 
   -- The callback of an unparking may be called with the key's root, which owes nothing, and what is told.
   abbrev pub MayUnpark : ℕ → ℕ → (R → Dequeued → Type 0) → Type 0
-  MayUnpark k now may = (root : R) (told : Dequeued) → (view root).key ≡ k → (view root).owes ≡ [] → Tells (view root).line now told → may root told
+  MayUnpark k now may = (root : R) (told : Dequeued) → (view root).key ≡ k → (view root).owes ≡ []
+      → Tells (view root).line now told → may root told
 
   -- It gives the root back without the first of its line, owing just that thread the token; or, where
   -- nobody waited, owing nothing.
   abbrev pub Unparks : {X T : Type 0} → (T → ℕ) → ℕ → ℕ → (R → Dequeued → X × R × T → Type 0) → Type 0
   Unparks {X} {T} number k now answers =
-      (root : R) (told : Dequeued) (answer : X × R × T) → (view root).key ≡ k → (view root).owes ≡ [] → Tells (view root).line now told → answers root told answer
-      → ((view answer.1).key ≡ k) × ((view answer.1).line ≡ drop 1 (view root).line) × ((view answer.1).owes ≡ debt told.thread (number answer.2))
+      (root : R) (told : Dequeued) (answer : X × R × T) → (view root).key ≡ k → (view root).owes ≡ [] → Tells (view root).line now told
+      → answers root told answer
+      → ((view answer.1).key ≡ k) × ((view answer.1).line ≡ drop 1 (view root).line)
+      × ((view answer.1).owes ≡ debt told.thread (number answer.2))
 
   -- The validation of a parking may be called with the key's root, which owes nothing.
   abbrev pub MayValidate : ℕ → (R → Type 0) → Type 0
@@ -108,13 +112,16 @@ module _ {R : Type 0} (view : R → KeyLine) where
 
   -- The callback of an unparking of at most n may be called with the key's root and what is told.
   abbrev pub MayUnparkCount : ℕ → ℕ → ℕ → (R → ℕ → Bool → Type 0) → Type 0
-  MayUnparkCount threads k n may = (root : R) (taken : ℕ) (more : Bool) → (view root).key ≡ k → (view root).owes ≡ [] → TellsCount threads n (view root).line taken more → may root taken more
+  MayUnparkCount threads k n may = (root : R) (taken : ℕ) (more : Bool) → (view root).key ≡ k → (view root).owes ≡ []
+      → TellsCount threads n (view root).line taken more → may root taken more
 
   -- It gives the root back without the first n of its line, owing token 0 to each of these.
   abbrev pub UnparksCount : {X : Type 0} → ℕ → ℕ → ℕ → (R → ℕ → Bool → X × R → Type 0) → Type 0
   UnparksCount {X} threads k n answers =
-      (root : R) (taken : ℕ) (more : Bool) (answer : X × R) → (view root).key ≡ k → (view root).owes ≡ [] → TellsCount threads n (view root).line taken more → answers root taken more answer
-      → ((view answer.1).key ≡ k) × ((view answer.1).line ≡ drop n (view root).line) × ((view answer.1).owes ≡ debts (take n (view root).line))
+      (root : R) (taken : ℕ) (more : Bool) (answer : X × R) → (view root).key ≡ k → (view root).owes ≡ []
+      → TellsCount threads n (view root).line taken more → answers root taken more answer
+      → ((view answer.1).key ≡ k) × ((view answer.1).line ≡ drop n (view root).line)
+      × ((view answer.1).owes ≡ debts (take n (view root).line))
 
   -- An unparking called its callback once, with some root of the key, and answers what that answered and
   -- what it was told.
@@ -157,10 +164,10 @@ module _ {R : Type 0} (view : R → KeyLine) where
     pub paid : (view root).owes ≡ []
     pub called : answers root (x, pass, back, queued)
 
-  -- A parking called its validation once, with some root of the key. It is invalid exactly where that said
-  -- no. Where it said yes, the action ran once then, with what the validation answered, and the letter with the token was awaited from the pass
-  -- that the action left.
-  pub record ParkedActing {X P : Type 0} (k : ℕ) (answers : R → X × P × R × Bool → Type 0) (acts : X → P → X × P → Type 0) (looked : P → Option ℕ → P → Type 0) (result : P × X × Parked) : Type 0 where
+  -- A parking called its validation once, with some root of the key. It is invalid exactly where that said no. Where it said yes, the
+  -- action ran once then, with what the validation answered, and the letter with the token was awaited from the pass that the action left.
+  pub record ParkedActing {X P : Type 0} (k : ℕ) (answers : R → X × P × R × Bool → Type 0) (acts : X → P → X × P → Type 0) (looked : P
+      → Option ℕ → P → Type 0) (result : P × X × Parked) : Type 0 where
     pub root : R
     pub answer : X × P × R × Bool
     pub named : (view root).key ≡ k
@@ -168,11 +175,13 @@ module _ {R : Type 0} (view : R → KeyLine) where
     pub called : answers root answer
     pub ends : Ends result.2
         ((answer.3 ≡ false) × (result.0 ≡ answer.1) × (result.1 ≡ answer.0))
-        (λ token. (answer.3 ≡ true) × ((left : X × P) × acts answer.0 answer.1 left × Awaited looked left.1 token result.0 × (result.1 ≡ left.0)))
+        (λ token. (answer.3 ≡ true)
+        × ((left : X × P) × acts answer.0 answer.1 left × Awaited looked left.1 token result.0 × (result.1 ≡ left.0)))
 
-  -- The same of an action that leaves the pass alone: it is invalid exactly where the validation said no, and where that said yes, the action
-  -- before sleep ran once, and the letter with the token was awaited.
-  pub record ParkedOnce {X P : Type 0} (k : ℕ) (answers : R → X × P × R × Bool → Type 0) (acts : X → X → Type 0) (looked : P → Option ℕ → P → Type 0) (result : P × X × Parked) : Type 0 where
+  -- The same of an action that leaves the pass alone: it is invalid exactly where the validation said no, and where that said yes, the
+  -- action before sleep ran once, and the letter with the token was awaited.
+  pub record ParkedOnce {X P : Type 0} (k : ℕ) (answers : R → X × P × R × Bool → Type 0) (acts : X → X → Type 0) (looked : P → Option ℕ → P
+      → Type 0) (result : P × X × Parked) : Type 0 where
     pub root : R
     pub answer : X × P × R × Bool
     pub named : (view root).key ≡ k

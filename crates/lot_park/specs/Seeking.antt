@@ -15,4 +15,5 @@ pub record SeekingLaws {P : Type 0} (thread : P → ℕ) (seeks : P → ℕ → 
   pub same : (before now : P) (key : ℕ) (far : Seeking) → seeks before key far now → thread now ≡ thread before
   pub tries : (before now : P) (key : ℕ) (far : Seeking) → IsUnfinished far → seeks before key far now → seeks before key Tries now
   pub itself : (before now : P) (key : ℕ) (far : Seeking) → IsUnfinished far → seeks before key far now → seeks now key far now
-  pub on : (before now after : P) (key : ℕ) (far next : Seeking) → IsUnfinished far → seeks before key far now → seeks now key next after → seeks before key next after
+  pub on : (before now after : P) (key : ℕ) (far next : Seeking) → IsUnfinished far → seeks before key far now → seeks now key next after
+      → seeks before key next after

@@ -6,10 +6,10 @@
 //!
 //! | Call | Under the lock of the key's bucket | After it |
 //! |---|---|---|
-//! | `park_conditionally` | the validation looks, and queues the thread | the action before sleep; then sleep until a letter is there |
+//! | `park_conditionally` | validates, and queues | the action before sleep; then sleep until a letter is there |
 //! | `unpark_one` | the first of the line is taken, the callback decides on the token, the letter is posted | wake |
-//! | `unpark_count` | the first few of the line are taken, the callback is told how many and whether more may wait, the letters are posted | wake |
 //! | `unpark_all` | the whole line is taken, the callback is told how many, the letters are posted | wake |
+//! | `unpark_count` | the same of the first few, and the callback is told whether more may wait | wake |
 //!
 //! A letter carries all that a sleeper is told; a wake only ends a sleep, and the sleeper then looks for
 //! its letter. A thread may be unparked between its queueing and its sleep: then it does not sleep. What a
@@ -28,7 +28,6 @@ mod taken;
 
 pub use lot::{ParkFault, Parked, ParkingLot};
 pub use lot_bucket::{Dequeued as UnparkResult, Moment, Root};
-pub use lot_table::{Grown, TableFault};
+pub use lot_table::{Grown, MOST_THREADS, TableFault};
 pub use scheme::{Scheme, Token};
 pub use seeking::{AtOnce, BeforeSleep, Seeking, Sought, get_or_park};
-pub use taken::MOST_THREADS;

@@ -1,12 +1,12 @@
-ghost use Rattle.std.specs.Prelude.{◌≡◌, ◌+◌, ◌<◌, ◌≤◌, true, false, [], length, vec_len, vec_capacity, IfOk, IfErr};
+ghost use Rattle.std.specs.Prelude.{◌≡◌, ◌+◌, ◌<◌, ◌≤◌, true, [], length, vec_len, vec_capacity, IfOk, IfErr};
 
 use crate::parking::{park_in, unpark_count_in, unpark_in};
 use crate::scheme::{Scheme, Token};
-use crate::taken::{MOST_THREADS, Taken};
+use crate::taken::Taken;
 use crossbeam_utils::CachePadded;
 use lot_bucket::{Bucket, Dequeued as UnparkResult, Moment};
 use lot_records::Record;
-use lot_table::{Grown, Table, TableFault};
+use lot_table::{Grown, MOST_THREADS, Table, TableFault};
 use std::alloc::{AllocError, Global};
 use std::marker::Model;
 use std::sync::Wait;
@@ -46,7 +46,7 @@ pub struct ParkingLot<S: Scheme> {
 impl<S: Scheme> Model for ParkingLot<S> {
     ghost use Rattle.std.specs.Prelude.{◌≡◌, ◌≤◌, vec_len};
     ghost use Rattle.lot_park.specs.Lots.{ParkingView};
-    ghost use Rattle.lot_park.specs.declared.taken.TheConstants.{MOST_THREADS};
+    ghost use Rattle.lot_table.specs.declared.sizes.TheConstants.{MOST_THREADS};
 
     ghost Value = { ParkingView S };
 
@@ -58,7 +58,9 @@ impl<S: Scheme> Model for ParkingLot<S> {
 impl<S: Scheme> ParkingLot<S> {
     ghost use Rattle.lot_park.specs.Lots.{ParkingView, AreIdle, Appends};
     ghost use Rattle.lot_table.specs.Sizes.{Serves};
-    ghost use Rattle.lot_park.specs.Parking.{IsOpenFor, MayUnpark, Unparks, UnparkedOne, MayUnparkAll, UnparksAll, UnparkedAll, MayUnparkCount, UnparksCount, UnparkedCount, MayValidate, Validates, Validated, Awaited, ParkedActing, ParkedOnce};
+    ghost use Rattle.lot_park.specs.Parking.{IsOpenFor, MayUnpark, Unparks, UnparkedOne, MayUnparkAll, UnparksAll};
+    ghost use Rattle.lot_park.specs.Parking.{UnparkedAll, MayUnparkCount, UnparksCount, UnparkedCount, MayValidate};
+    ghost use Rattle.lot_park.specs.Parking.{Validates, Validated, Awaited, ParkedActing, ParkedOnce};
 
     /// A lot for so many threads, with a key for each root: root `i` is that of key `i`.
     ///
@@ -123,7 +125,8 @@ impl<S: Scheme> ParkingLot<S> {
         requires thread { S.thread pass < self.now.threads }
         requires callable { MayValidate S.Root.view key (V.pre validate x pass) }
         requires keeps { Validates S.Root.view S.thread key (S.thread pass) (V.post validate x pass) }
-        requires sleeps { (r : S.Root) (o : _) → (S.Root.view r).key ≡ key → (S.Root.view r).owes ≡ [] → V.post validate x pass r o → o.3 ≡ true → B.pre before_sleep o.0 }
+        requires sleeps { (r : S.Root) (o : _) → (S.Root.view r).key ≡ key → (S.Root.view r).owes ≡ []
+            → V.post validate x pass r o → o.3 ≡ true → B.pre before_sleep o.0 }
         ensures { ParkedOnce S.Root.view key (V.post validate x pass) (B.post before_sleep) S.looked result }
     {
         let act = |x: X, pass: S::Pass| -> (X, S::Pass)
@@ -134,8 +137,8 @@ impl<S: Scheme> ParkingLot<S> {
         self.park_acting(rt, pass, key, x, validate, act)
     }
 
-    /// `park_conditionally` with an action that has the pass: what the thread does with it when it is queued, before it sleeps, as letting a
-    /// lock go where it waits on a condition. The pass stays that thread's.
+    /// `park_conditionally` with an action that has the pass: what the thread does with it when it is queued, before it
+    /// sleeps, as letting a lock go where it waits on a condition. The pass stays that thread's.
     pub fn park_acting<
         W: Wait,
         X,
@@ -146,7 +149,8 @@ impl<S: Scheme> ParkingLot<S> {
         requires thread { S.thread pass < self.now.threads }
         requires callable { MayValidate S.Root.view key (V.pre validate x pass) }
         requires keeps { Validates S.Root.view S.thread key (S.thread pass) (V.post validate x pass) }
-        requires acts { (r : S.Root) (o : _) → (S.Root.view r).key ≡ key → (S.Root.view r).owes ≡ [] → V.post validate x pass r o → o.3 ≡ true → A.pre act o.0 o.1 }
+        requires acts { (r : S.Root) (o : _) → (S.Root.view r).key ≡ key → (S.Root.view r).owes ≡ []
+            → V.post validate x pass r o → o.3 ≡ true → A.pre act o.0 o.1 }
         requires same { (y : _) (q : _) (left : _) → A.post act y q left → S.thread left.1 ≡ S.thread q }
         ensures { ParkedActing S.Root.view key (V.post validate x pass) (A.post act) S.looked result }
     {
@@ -265,11 +269,11 @@ impl<S: Scheme> ParkingLot<S> {
         )
     }
 
-    /// Takes the first `count` threads of the key's line, or all where they are fewer, tells each of them token 0, and answers
-    /// how many it took.
+    /// Takes the first `count` threads of the key's line, or all where they are fewer, tells each of them token 0, and
+    /// answers how many it took.
     ///
-    /// `f` is called once, under the lock of the key's bucket, with that number and whether more may wait: false means that
-    /// nobody is left in the line, where `count` is not 0.
+    /// `f` is called once, under the lock of the key's bucket, with that number and whether more may wait: false means
+    /// that nobody is left in the line, where `count` is not 0.
     pub fn unpark_count<W: Wait, X, F: FnOnce(X, S::Root, usize, bool) -> (X, S::Root)>(
         &self,
         rt: &W,

@@ -1,14 +1,18 @@
 //! What is done under the lock of a bucket.
 
-ghost use Rattle.std.specs.Prelude.{◌≡◌, ◌<◌, ◌≤◌, [], ◌∷◌, ◌++◌, Option, Some, None, IsSome, length, take, if◌then◌else◌};
+ghost use Rattle.std.specs.Prelude.{◌≡◌, ◌<◌, ◌≤◌, [], ◌∷◌, ◌++◌, Option, Some, None, IsSome, length, take};
+ghost use Rattle.std.specs.Prelude.{if◌then◌else◌};
 ghost use Rattle.lot_bucket.specs.Queue.{line_of, without_count};
 ghost use Rattle.lot_bucket.specs.Places.{root_at, with_root};
 ghost use Rattle.lot_bucket.specs.Settled.{Stays};
-ghost use Rattle.lot_park.specs.Parking.{IsOpenFor, TellsCount, debt, debts, MayUnpark, Unparks, UnparkedOne, MayUnparkCount, UnparksCount, UnparkedCount, MayValidate, Validates, Validated};
+ghost use Rattle.lot_park.specs.Parking.{IsOpenFor, TellsCount, debt, debts, MayUnpark, Unparks, UnparkedOne};
+ghost use Rattle.lot_park.specs.Parking.{MayUnparkCount, UnparksCount, UnparkedCount, MayValidate, Validates};
+ghost use Rattle.lot_park.specs.Parking.{Validated};
 
 use crate::scheme::{Scheme, Token};
-use crate::taken::{MOST_THREADS, Taken};
+use crate::taken::Taken;
 use lot_bucket::{Bucket, Dequeued as UnparkResult, Moment, Root};
+use lot_table::MOST_THREADS;
 
 /// Validates, and queues the pass's thread last where that says yes.
 pub fn park_in<S: Scheme, X, V: FnOnce(X, S::Pass, S::Root) -> (X, S::Pass, S::Root, bool)>(
@@ -88,8 +92,8 @@ fn taken_of(threads: [usize; MOST_THREADS], count: usize) -> Taken
     Taken { threads, count }
 }
 
-// Takes the root out, and the first `count` of the line, which it writes to the front of `out`. It answers how many they
-// were, and whether more may wait.
+// Takes the root out, and the first `count` of the line, which it writes to the front of `out`. It answers how many
+// they were, and whether more may wait.
 fn take_first<R: Root>(
     bucket: &mut Bucket<R>,
     key: usize,
@@ -102,7 +106,10 @@ fn take_first<R: Root>(
     ensures told { TellsCount bucket.old.room count (line_of key bucket.old.queue) result.1 result.2 }
     ensures within { result.1 ≤ bucket.old.room }
     ensures line { take result.1 out.new ≡ take count (line_of key bucket.old.queue) }
-    ensures left { bucket.new ≡ record bucket.old { places = with_root key None bucket.old.places; queue = without_count count key bucket.old.queue } }
+    ensures left { bucket.new ≡ record bucket.old {
+      places = with_root key None bucket.old.places;
+      queue = without_count count key bucket.old.queue;
+    } }
 {
     let _waiting = bucket.len();
     let root = bucket.take_root(key);
@@ -126,7 +133,8 @@ fn pay_all<S: Scheme>(scheme: &S, root: S::Root, threads: &[usize]) -> S::Root
 
 fn enqueue_if<R>(queued: bool, bucket: &mut Bucket<R>, thread: usize, key: usize)
     requires { length bucket.old.queue < bucket.old.room }
-    ensures { bucket.new ≡ record bucket.old { queue = (if queued then bucket.old.queue ++ (thread, key) ∷ [] else bucket.old.queue) } }
+    ensures { bucket.new ≡ record bucket.old
+        { queue = (if queued then bucket.old.queue ++ (thread, key) ∷ [] else bucket.old.queue) } }
 {
     if queued {
         bucket.enqueue(thread, key);

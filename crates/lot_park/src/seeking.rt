@@ -1,4 +1,5 @@
-//! Getting what a thread may have to park for, a lock or a permit, as WTF's `Lock::lock` gets a lock: a few yields, and then the line.
+//! Getting what a thread may have to park for, a lock or a permit, as WTF's `Lock::lock` gets a lock: a few yields, and
+//! then the line.
 //!
 //! How far the thread is says what it does next:
 //!
@@ -30,7 +31,8 @@ pub enum Seeking {
     Tries,
 }
 
-/// What threads of a scheme seek, which T names, as the locks of its table or their permits: how its word is looked at, taken and marked.
+/// What threads of a scheme seek, which T names, as the locks of its table or their permits: how its word is looked at,
+/// taken and marked.
 pub trait Sought<T>: Scheme {
     ghost use Rattle.std.specs.Prelude.{ℕ, MatchBool};
     ghost use Rattle.lot_park.specs.Parking.{Awaited, Queues};
@@ -65,12 +67,15 @@ pub trait Sought<T>: Scheme {
     /// The validation of a parking: the thread is queued where still none is left and it is marked as parked.
     fn queue(&self, pass: Self::Pass, root: Self::Root) -> (Self::Pass, Self::Root, bool)
         requires { seeks pass (Self.Root.view root).key Parks pass }
-        ensures pass { MatchBool result.2 (sleeps pass (Self.Root.view root).key result.0) (seeks pass (Self.Root.view root).key Parks result.0) }
+        ensures pass { MatchBool result.2 (sleeps pass (Self.Root.view root).key result.0)
+            (seeks pass (Self.Root.view root).key Parks result.0) }
         ensures root { Queues Self.Root.view Self.thread pass root result.2 result.0 result.1 };
 
     /// Whether a thread that was woken with this token was handed what it seeks; else it seeks it still.
     fn is_handed(token: Token) -> bool
-        ensures { (before asleep now : Self.Pass) (key : ℕ) → sleeps before key asleep → Awaited Self.looked asleep token.0 now → MatchBool result (seeks before key Got now) (seeks before key Parks now) };
+        ensures { (before asleep now : Self.Pass) (key : ℕ) → sleeps before key asleep
+            → Awaited Self.looked asleep token.0 now
+            → MatchBool result (seeks before key Got now) (seeks before key Parks now) };
 }
 
 /// What a thread does that was queued, before it sleeps. No bucket is locked then.
@@ -86,8 +91,9 @@ impl BeforeSleep for AtOnce {
     fn run(&self) {}
 }
 
-/// Gets it, by a thread that is so far. It yields a few times for one look, and up to 40 times in one call. The first yields come
-/// before any look, since a look takes the word's line of the cache from its owner. Before each sleep it does what `before` says.
+/// Gets it, by a thread that is so far. It yields a few times for one look, and up to 40 times in one call. The first
+/// yields come before any look, since a look takes the word's line of the cache from its owner. Before each sleep it
+/// does what `before` says.
 #[inline(always)]
 pub fn get_or_park<S: Sought<T>, T, R: Wait, B: BeforeSleep>(
     rt: &R,
@@ -151,7 +157,8 @@ fn sleep<S: Sought<T>, T, R: Wait, B: BeforeSleep>(
     }
 }
 
-/// Parks with the validation of what is sought: where it is free again, or not marked as parked, the thread is as it was.
+/// Parks with the validation of what is sought: where it is free again, or not marked as parked, the thread is as it
+/// was.
 pub fn park<S: Sought<T>, T, R: Wait, B: BeforeSleep>(
     rt: &R,
     parking: &ParkingLot<S>,
@@ -162,7 +169,8 @@ pub fn park<S: Sought<T>, T, R: Wait, B: BeforeSleep>(
     requires key { key < parking.now.keys }
     requires thread { S.thread pass < parking.now.threads }
     requires parks { S.seeks pass key Parks pass }
-    ensures { Ends result.1 (S.seeks pass key Parks result.0) (λ token. (asleep : S.Pass) × S.sleeps pass key asleep × Awaited S.looked asleep token result.0) }
+    ensures { Ends result.1 (S.seeks pass key Parks result.0) (λ token. (asleep : S.Pass) × S.sleeps pass key asleep
+        × Awaited S.looked asleep token result.0) }
 {
     let scheme = parking.scheme();
     let (pass, (), parked) = parking.park_conditionally(
@@ -172,7 +180,8 @@ pub fn park<S: Sought<T>, T, R: Wait, B: BeforeSleep>(
         (),
         |x: (), pass: S::Pass, root: S::Root| -> ((), S::Pass, S::Root, bool)
             requires { S.seeks pass (S.Root.view root).key Parks pass }
-            ensures pass { MatchBool result.3 (S.sleeps pass (S.Root.view root).key result.1) (S.seeks pass (S.Root.view root).key Parks result.1) }
+            ensures pass { MatchBool result.3 (S.sleeps pass (S.Root.view root).key result.1)
+                (S.seeks pass (S.Root.view root).key Parks result.1) }
             ensures root { Queues S.Root.view S.thread pass root result.3 result.1 result.2 }
         {
             let (pass, root, queued) = scheme.queue(pass, root);

@@ -1,17 +1,19 @@
 //! How often a thread yields before it parks.
 ghost use Rattle.std.specs.Prelude.{◌≡◌, ◌<◌, ◌≤◌, ◌↔◌, ◌+◌, min, IsTrue};
-ghost use Rattle.lot_park.specs.declared.spins.TheConstants.{MOST_SPINS, BEFORE_FIRST_LOOK, BEFORE_NEXT_LOOK, FEW_THREADS};
+ghost use Rattle.lot_park.specs.declared.spins.TheConstants.{MOST_SPINS, BEFORE_FIRST_LOOK, BEFORE_NEXT_LOOK};
+ghost use Rattle.lot_park.specs.declared.spins.TheConstants.{FEW_THREADS};
 
 use std::thread;
 
 /// How often one call yields before it parks, at most: as WTF's `Lock`.
 const MOST_SPINS: u32 = 40;
 
-/// How often it yields before its first look at the word: each look takes the word's line of the cache from its owner, so where many
-/// threads are about an early one makes the rounds of all others longer.
+/// How often it yields before its first look at the word: each look takes the word's line of the cache from its owner,
+/// so where many threads are about an early one makes the rounds of all others longer.
 const BEFORE_FIRST_LOOK: u32 = 8;
 
-/// How often it yields before each look after that: what is held for so long is held for longer, and a look then does little harm.
+/// How often it yields before each look after that: what is held for so long is held for longer, and a look then does
+/// little harm.
 const BEFORE_NEXT_LOOK: u32 = 2;
 
 /// Where no more threads than these are about, it looks after each yield: it waits for one other alone.
@@ -33,7 +35,8 @@ impl Spins {
     pub(crate) fn among(threads: usize) -> Spins
         ensures none { result.made ≡ 0 }
         ensures few { threads ≤ FEW_THREADS → (result.for_first_look ≡ 1) × (result.for_next_look ≡ 1) }
-        ensures many { FEW_THREADS < threads → (result.for_first_look ≡ BEFORE_FIRST_LOOK) × (result.for_next_look ≡ BEFORE_NEXT_LOOK) }
+        ensures many { FEW_THREADS < threads → (result.for_first_look ≡ BEFORE_FIRST_LOOK)
+            × (result.for_next_look ≡ BEFORE_NEXT_LOOK) }
     {
         let (for_first_look, for_next_look) = if threads <= FEW_THREADS {
             (1, 1)
@@ -67,7 +70,8 @@ impl Spins {
         ensures more { self.old.made < self.new.made }
         ensures first { self.old.made ≡ 0 → self.new.made ≡ self.old.for_first_look }
         ensures next { 0 < self.old.made → self.new.made ≡ min MOST_SPINS (self.old.made + self.old.for_next_look) }
-        ensures kept { (self.new.for_first_look ≡ self.old.for_first_look) × (self.new.for_next_look ≡ self.old.for_next_look) }
+        ensures kept { (self.new.for_first_look ≡ self.old.for_first_look)
+            × (self.new.for_next_look ≡ self.old.for_next_look) }
     {
         let yields = if self.has_begun() {
             self.for_next_look

@@ -1,8 +1,7 @@
 ghost use Rattle.std.specs.Prelude.{◌≤◌};
-ghost use Rattle.lot_park.specs.declared.taken.TheConstants.{MOST_THREADS};
+ghost use Rattle.lot_table.specs.declared.sizes.TheConstants.{MOST_THREADS};
 
-/// How many threads a parking lot has at most.
-pub const MOST_THREADS: usize = lot_table::MOST_THREADS;
+use lot_table::MOST_THREADS;
 
 /// The threads of a line that was taken, in order.
 #[derive(Clone, Copy)]

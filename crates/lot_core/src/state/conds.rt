@@ -5,8 +5,8 @@ ghost use Rattle.lot_events.specs.declared.events.Event.TheVariants as Event;
 ghost use Rattle.lot_core.specs.declared.state.CoreFault.TheVariants.{NoMemory};
 ghost use Rattle.lot_core.specs.Steps.{IsCallCount};
 
-use crate::state::{CoreFault, State};
-use lot_events::{MAX_CALLED, Point, Seen};
+use crate::state::{CoreFault, MAX_THREADS, State};
+use lot_events::{Point, Seen};
 
 #[tactic(auto, using(crate::proofs::Rows::row_read, crate::proofs::Rows::row_from_read, crate::proofs::Rows::row_past, crate::proofs::Rows::row_set, crate::proofs::Rows::row_from_set, crate::proofs::Put::told_put))]
 impl State {
@@ -72,7 +72,7 @@ impl State {
 fn is_call_count(count: usize) -> bool
     ensures { IsTrue result ↔ IsCallCount count }
 {
-    count >= 1 && count <= MAX_CALLED
+    count >= 1 && count <= MAX_THREADS
 }
 
 // Where each event is allowed.

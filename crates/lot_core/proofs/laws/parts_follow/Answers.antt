@@ -1,4 +1,5 @@
-use Rattle.lot_core.proofs.Following.{lock_follows, cond_follows, semaphore_follows, lock_part_allows, cond_part_allows, semaphore_part_allows}
+use Rattle.lot_core.proofs.Following.{lock_follows, cond_follows, semaphore_follows, lock_part_allows, cond_part_allows}
+use Rattle.lot_core.proofs.Following.{semaphore_part_allows}
 use Rattle.lot_core.proofs.laws.parts_follow.Goals as goal
 
 pub returns : goal.returns

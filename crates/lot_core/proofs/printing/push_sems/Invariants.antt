@@ -6,4 +6,5 @@ use Rattle.lot_core.specs.Printed.{sem_line}
 use Rattle.lot_core.proofs.printing.push_sems.Given as goal
 
 abbrev pub invariant-loop-i : goal.invariant-loop-i
-invariant-loop-i l = string_bytes l.out ≡ string_bytes l.initial.out ++ flat_map (sem_line (world_of l.state)) (range_with_len (l.state.locks + l.state.conds) l.i)
+invariant-loop-i l = string_bytes l.out ≡ string_bytes l.initial.out
+    ++ flat_map (sem_line (world_of l.state)) (range_with_len (l.state.locks + l.state.conds) l.i)

@@ -6,4 +6,5 @@ use Rattle.lot_core.specs.Printed.{thread_line}
 use Rattle.lot_core.proofs.printing.push_threads.Given as goal
 
 abbrev pub invariant-loop-thread : goal.invariant-loop-thread
-invariant-loop-thread l = string_bytes l.out ≡ string_bytes l.initial.out ++ flat_map (thread_line (world_of l.state)) (range_with_len 0 l.thread)
+invariant-loop-thread l = string_bytes l.out ≡ string_bytes l.initial.out
+    ++ flat_map (thread_line (world_of l.state)) (range_with_len 0 l.thread)

@@ -23,7 +23,9 @@ returns-in-None-end-clause-err c =
 
 pub returns-clause-ok : goal.returns-clause-ok
 returns-clause-ok c =
-    let took = opening_takes c.args.text.now c.in-Some.threads c.in-Some.locks c.in-Some.conds c.in-Some.rest.now c.in-Ok.permits.items c.in-Ok.rest.now
+    let took =
+    opening_takes c.args.text.now c.in-Some.threads c.in-Some.locks c.in-Some.conds c.in-Some.rest.now
+    c.in-Ok.permits.items c.in-Ok.rest.now
     c.in-Some-end.rest.now (sym c.in-Some.ensures) c.in-Ok.ensures.read (sym c.in-Some-end.ensures) in
     record {
       first = line (codes "open") (c.in-Some.threads ∷ c.in-Some.locks ∷ c.in-Some.conds ∷ c.in-Ok.permits.items);

@@ -15,7 +15,8 @@ loop-number-smaller c = number_shorter c.loop-number.rest.now c.in-Some.number c
 pub loop-number-preserved : goal.loop-number-preserved
 loop-number-preserved c =
     subst (λ ns. ReadsNumbers c.args.text.now ns c.in-Some.behind.now) (sym (c.in_ok-push.ensures {u = tt}).items)
-    (numbers_push c.args.text.now c.loop-number.numbers.items c.loop-number.rest.now c.in-Some.number c.in-Some.behind.now c.loop-number.invariant (sym c.in-Some.ensures))
+    (numbers_push c.args.text.now c.loop-number.numbers.items c.loop-number.rest.now c.in-Some.number c.in-Some.behind.now
+    c.loop-number.invariant (sym c.in-Some.ensures))
 
 pub returns-in_err-push-clause-some : goal.returns-in_err-push-clause-some
 returns-in_err-push-clause-some c =

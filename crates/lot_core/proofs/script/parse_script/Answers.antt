@@ -24,7 +24,8 @@ returns-in-None c =
 pub loop-number-preserved : goal.loop-number-preserved
 loop-number-preserved c =
     let s = c.loop-number.script in
-    subst (λ events. IsSoFar c.args.text.now s.threads s.locks s.conds s.permits.items events c.in-Some.behind.now (c.loop-number.number + 1))
+    subst (λ events. IsSoFar c.args.text.now s.threads s.locks s.conds s.permits.items events c.in-Some.behind.now
+    (c.loop-number.number + 1))
     (sym c.in-Ok.ensures.items)
     (so_more c.args.text.now s.threads s.locks s.conds s.permits.items s.events.items c.loop-number.rest.now c.loop-number.number
     c.in-Some.event c.in-Some.behind.now c.loop-number.invariant c.in-Some.ensures.some)

@@ -22,7 +22,8 @@ dequeue_count-taken-requires g c =
 pub returns-clause-told : goal.returns-clause-told
 returns-clause-told g c =
     let at = (goal.at.returns-clause-told g c).After-take_root-root in
-    tells_count c.args.key c.args.count c.args.bucket.now.room c.args.bucket.now c.take_root-root.new.self c.dequeue_count-taken.new.self _ c.dequeue_count-taken.result.0
+    tells_count c.args.key c.args.count c.args.bucket.now.room c.args.bucket.now c.take_root-root.new.self c.dequeue_count-taken.new.self _
+    c.dequeue_count-taken.result.0
     c.dequeue_count-taken.result.1
     (queue g at) (fits g at) c.dequeue_count-taken.ensures
 

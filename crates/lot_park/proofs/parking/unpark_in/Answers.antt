@@ -12,15 +12,18 @@ own : (g : Over) (c : After-dequeue_one-told g) → IsRootOf g.S.Root.Root.view 
 own g c = own_root g.S.Root.Root.view c.args.key c.args.bucket.now c.take_root-root.result c.requires.ready c.take_root-root.ensures.root
 
 -- what the callback is told
-told : (g : Over) (c : After-dequeue_one-told g) → Tells (g.S.Root.Root.view c.take_root-root.result).line c.args.moment.now c.dequeue_one-told.result
+told : (g : Over) (c : After-dequeue_one-told g)
+    → Tells (g.S.Root.Root.view c.take_root-root.result).line c.args.moment.now c.dequeue_one-told.result
 told g c =
-    tells g.S.Root.Root.view c.args.key c.args.moment c.args.bucket.now c.take_root-root.new.self c.dequeue_one-told.new.self c.take_root-root.result c.dequeue_one-told.result
+    tells g.S.Root.Root.view c.args.key c.args.moment c.args.bucket.now c.take_root-root.new.self c.dequeue_one-told.new.self
+    c.take_root-root.result c.dequeue_one-told.result
     (own g c).same_line (ap (λ (b : Contents g.row.S-Root.Denot). b.queue) c.take_root-root.ensures.left) c.dequeue_one-told.ensures
 
 -- while the root is out
 out : (g : Over) (c : After-dequeue_one-told g) → c.dequeue_one-told.new.self.places ≡ with_root c.args.key None c.args.bucket.now.places
 out g c =
-    ap (λ (b : Contents g.row.S-Root.Denot). b.places) c.dequeue_one-told.ensures.left ∙ ap (λ (b : Contents g.row.S-Root.Denot). b.places) c.take_root-root.ensures.left
+    ap (λ (b : Contents g.row.S-Root.Denot). b.places) c.dequeue_one-told.ensures.left
+    ∙ ap (λ (b : Contents g.row.S-Root.Denot). b.places) c.take_root-root.ensures.left
 
 pub callback-x-requires : goal.callback-x-requires
 callback-x-requires g c = c.requires.callable c.take_root-root.result c.dequeue_one-told.result (own g c).named (own g c).paid (told g c)
@@ -28,23 +31,39 @@ callback-x-requires g c = c.requires.callable c.take_root-root.result c.dequeue_
 pub pay-root-requires-after_bounds : goal.pay-root-requires-after_bounds
 pay-root-requires-after_bounds g c κs within =
     let at = (goal.at.pay-root-requires-after_bounds g c).After-dequeue_one-told in
-    (c.requires.keeps c.take_root-root.result c.dequeue_one-told.result c.callback-x.result (own g at).named (own g at).paid (told g at) c.callback-x.ensures).2
+    (c.requires.keeps c.take_root-root.result c.dequeue_one-told.result c.callback-x.result (own g at).named (own g at).paid
+    (told g at) c.callback-x.ensures).2
 
 pub put_root-requires-clause-has : goal.put_root-requires-clause-has
-put_root-requires-clause-has g c = place_has c.args.key c.args.bucket.now.places _ c.requires.ready.has (out g (goal.at.put_root-requires-clause-has g c).After-dequeue_one-told)
+put_root-requires-clause-has g c =
+    place_has c.args.key c.args.bucket.now.places _ c.requires.ready.has
+    (out g (goal.at.put_root-requires-clause-has g c).After-dequeue_one-told)
 
 pub put_root-requires-clause-room : goal.put_root-requires-clause-room
-put_root-requires-clause-room g c = place_empty c.args.key c.args.bucket.now.places _ c.requires.ready.has (out g (goal.at.put_root-requires-clause-room g c).After-dequeue_one-told)
+put_root-requires-clause-room g c =
+    place_empty c.args.key c.args.bucket.now.places _ c.requires.ready.has
+    (out g (goal.at.put_root-requires-clause-room g c).After-dequeue_one-told)
 
 pub returns-clause-stays : goal.returns-clause-stays
 returns-clause-stays g c =
     let at = (goal.at.returns-clause-stays g c).After-dequeue_one-told in
-    let kept = c.requires.keeps c.take_root-root.result c.dequeue_one-told.result c.callback-x.result (own g at).named (own g at).paid (told g at) c.callback-x.ensures in
-    one_unparked_stays g.S.Root.Root.view c.args.key c.args.moment c.args.bucket.now c.take_root-root.new.self c.dequeue_one-told.new.self c.put_root.new.self
-    c.take_root-root.result c.pay-root.result c.dequeue_one-told.result c.requires.ready c.take_root-root.ensures.root c.take_root-root.ensures.left c.dequeue_one-told.ensures c.put_root.ensures
+    let kept = c.requires.keeps c.take_root-root.result c.dequeue_one-told.result c.callback-x.result (own g at).named (own g at).paid
+    (told g at) c.callback-x.ensures in
+    one_unparked_stays g.S.Root.Root.view c.args.key c.args.moment c.args.bucket.now c.take_root-root.new.self
+    c.dequeue_one-told.new.self c.put_root.new.self
+    c.take_root-root.result c.pay-root.result c.dequeue_one-told.result c.requires.ready c.take_root-root.ensures.root
+    c.take_root-root.ensures.left c.dequeue_one-told.ensures c.put_root.ensures
     (c.pay-root.ensures.key ∙ kept.0) (c.pay-root.ensures.line ∙ kept.1) c.pay-root.ensures.paid
 
 pub returns-clause-called : goal.returns-clause-called
 returns-clause-called g c =
     let at = (goal.at.returns-clause-called g c).After-dequeue_one-told in
-    record { root = c.take_root-root.result; answer = c.callback-x.result; named = (own g at).named; paid = (own g at).paid; told = told g at; called = c.callback-x.ensures; same = refl }
+    record {
+      root = c.take_root-root.result;
+      answer = c.callback-x.result;
+      named = (own g at).named;
+      paid = (own g at).paid;
+      told = told g at;
+      called = c.callback-x.ensures;
+      same = refl;
+    }

@@ -14,4 +14,5 @@ returns c =
     let is = line_item c.args.self.now c.args.key c.index.result.now c.requires.key c.index.ensures in
     let len = ap length is in
     ap (λ xs. slice_get xs c.args.place) is
-    ∙ slice_get-get_or c.index.result.now.items c.args.place c.index-2.result.now (omega (arith, c.requires.place)) ∙ ap Some (sym c.index-2.ensures)
+    ∙ slice_get-get_or c.index.result.now.items c.args.place c.index-2.result.now (omega (arith, c.requires.place))
+    ∙ ap Some (sym c.index-2.ensures)

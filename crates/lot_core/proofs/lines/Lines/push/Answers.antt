@@ -16,4 +16,5 @@ pub returns-clause-ok : goal.returns-clause-ok
 returns-clause-ok c =
     line_write c.args.self.now c.args.key c.push_back.new.self _ c.requires
     ((c.in_ok-push_back.ensures {u = tt}).items
-    ∙ ap (λ xs. xs ++ c.args.thread ∷ []) (sym (line_item c.args.self.now c.args.key c.index_mut.result.now c.requires c.index_mut.ensures.value)))
+    ∙ ap (λ xs. xs ++ c.args.thread ∷ [])
+    (sym (line_item c.args.self.now c.args.key c.index_mut.result.now c.requires c.index_mut.ensures.value)))

@@ -11,13 +11,15 @@ pub loop-number-preserved : goal.loop-number-preserved
 loop-number-preserved c =
     let m = c.in_ok-new.field-0 in
     let made = c.in_ok-new.ensures {u = tt} in
-    subst (AreNew c.args.threads (take (c.loop-number.number-index + 1) c.args.permits.now)) (sym {A = List Semaphore} (c.in_ok-push.ensures {u = tt}).items)
+    subst (AreNew c.args.threads (take (c.loop-number.number-index + 1) c.args.permits.now))
+    (sym {A = List Semaphore} (c.in_ok-push.ensures {u = tt}).items)
     (one_new c.args.threads c.args.permits.now c.loop-number.items.items c.loop-number.number-index m c.loop-number.invariant (omega arith)
     made.permits.0 made.permits.1 made.out.0 made.out.1)
 
 pub invariant_of-result : goal.invariant_of-result
 invariant_of-result c =
-    let all = all_new c.args.threads c.args.permits.now c.loop-number.items.items c.loop-number.number-index c.loop-number.invariant c.loop-number-test.false in
+    let all = all_new c.args.threads c.args.permits.now c.loop-number.items.items c.loop-number.number-index c.loop-number.invariant
+    c.loop-number-test.false in
     let count = new_count c.args.threads c.args.permits.now c.loop-number.items.items all in
     let keys = (c.in_ok-lines.ensures {u = tt}).keys in record {
       keys_fit = omega (arith, count, c.requires);
@@ -27,15 +29,18 @@ invariant_of-result c =
 
 pub returns-clause-numbers : goal.returns-clause-numbers
 returns-clause-numbers c =
-    let all = all_new c.args.threads c.args.permits.now c.loop-number.items.items c.loop-number.number-index c.loop-number.invariant c.loop-number-test.false in
+    let all = all_new c.args.threads c.args.permits.now c.loop-number.items.items c.loop-number.number-index c.loop-number.invariant
+    c.loop-number-test.false in
     (refl, refl, new_count c.args.threads c.args.permits.now c.loop-number.items.items all)
 
 pub returns-clause-permits : goal.returns-clause-permits
 returns-clause-permits c =
-    let all = all_new c.args.threads c.args.permits.now c.loop-number.items.items c.loop-number.number-index c.loop-number.invariant c.loop-number-test.false in
+    let all = all_new c.args.threads c.args.permits.now c.loop-number.items.items c.loop-number.number-index c.loop-number.invariant
+    c.loop-number-test.false in
     ap (row_from 0 c.args.low) all.permits_are
 
 pub returns-clause-sems : goal.returns-clause-sems
 returns-clause-sems c =
-    let all = all_new c.args.threads c.args.permits.now c.loop-number.items.items c.loop-number.number-index c.loop-number.invariant c.loop-number-test.false in
+    let all = all_new c.args.threads c.args.permits.now c.loop-number.items.items c.loop-number.number-index c.loop-number.invariant
+    c.loop-number-test.false in
     new_rows c.args.threads c.args.low c.args.permits.now c.loop-number.items.items _ all (c.in_ok-lines.ensures {u = tt}).empty

@@ -9,4 +9,5 @@ returns c =
     let m = c.index.result.now in
     c.index-2.ensures
     ∙ sym (item_out s c.args.sem c.args.thread m c.requires.key c.index.ensures
-    ∙ get_or_default m.out.items c.args.thread 0 c.index-2.result.now (omega (arith, item_wide s c.args.sem m c.requires.key c.index.ensures, c.requires.thread)))
+    ∙ get_or_default m.out.items c.args.thread 0 c.index-2.result.now
+    (omega (arith, item_wide s c.args.sem m c.requires.key c.index.ensures, c.requires.thread)))

@@ -4,7 +4,12 @@ use Rattle.lot_core.proofs.semaphores.Semaphores.take.Goals as goal
 
 pub take-requires-clause-left : goal.take-requires-clause-left
 take-requires-clause-left c =
-    omega (arith, c.if-left-eq0.false, c.left.ensures, item_left c.args.self.now c.args.sem c.index_mut.result.now c.requires.key c.index_mut.ensures.value)
+    omega (
+      arith,
+      c.if-left-eq0.false,
+      c.left.ensures,
+      item_left c.args.self.now c.args.sem c.index_mut.result.now c.requires.key c.index_mut.ensures.value,
+    )
 
 pub returns-clause-sems : goal.returns-clause-sems
 returns-clause-sems c =
@@ -14,5 +19,6 @@ returns-clause-sems c =
 pub returns-clause-numbers : goal.returns-clause-numbers
 returns-clause-numbers c =
     let s = c.args.self.now in
-    let kept = numbers_kept s.low s.items.items c.args.sem c.index_mut.result.now _ c.requires.key.0 c.requires.key.1 c.index_mut.ensures.value c.take.ensures.others.0 in
+    let kept = numbers_kept s.low s.items.items c.args.sem c.index_mut.result.now _ c.requires.key.0 c.requires.key.1
+    c.index_mut.ensures.value c.take.ensures.others.0 in
     (refl, refl, kept.0, kept.1)

@@ -6,7 +6,8 @@ pub returns : goal.returns
 returns c =
     let sems = c.in_ok-new-3.ensures {u = tt} in
     opened_with c.args.threads c.args.locks c.args.conds c.args.permits.now
-    c.in_ok-vec.field-0.items c.in_ok-vec-2.field-0.items c.in_ok-vec-3.field-0.items c.in_ok-new.field-0 c.in_ok-new-2.field-0 c.in_ok-vec-4.field-0.items _ _ _
+    c.in_ok-vec.field-0.items c.in_ok-vec-2.field-0.items c.in_ok-vec-3.field-0.items c.in_ok-new.field-0 c.in_ok-new-2.field-0
+    c.in_ok-vec-4.field-0.items _ _ _
     ((c.in_ok-vec.ensures {u = tt}).items_if_clones_equal (search rules))
     ((c.in_ok-vec-2.ensures {u = tt}).items_if_clones_equal (search rules))
     ((c.in_ok-new.ensures {u = tt}).empty)

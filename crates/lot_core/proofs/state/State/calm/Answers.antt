@@ -10,4 +10,5 @@ pub returns-else-is_thread : goal.returns-else-is_thread
 returns-else-is_thread c =
     let w = world_of c.args.self.now in
     let past : length c.args.self.now.points.items ≤ c.args.thread = grind (arith, c.is_thread.ensures.1) in
-    ap (λ (p : ℕ → Point). let v : World = record w { point = p } in v) (sym (row_put_past Calm c.args.self.now.points.items c.args.thread past))
+    ap (λ (p : ℕ → Point). let v : World = record w { point = p } in v)
+    (sym (row_put_past Calm c.args.self.now.points.items c.args.thread past))

@@ -7,7 +7,8 @@ use Rattle.lot_core.proofs.state.State.do_all_seek.Goals as goal
 pub loop-place-preserved : goal.loop-place-preserved
 loop-place-preserved c =
     let w = world_of c.args.self.now in
-    place_more (λ t. w.point t ≡ Seeks c.args.sem) (w.sems.line c.args.sem) c.loop-place.place c.at.result c.loop-place.invariant c.at.ensures
+    place_more (λ t. w.point t ≡ Seeks c.args.sem) (w.sems.line c.args.sem) c.loop-place.place c.at.result
+    c.loop-place.invariant c.at.ensures
     (c.if-not-seeks.ensures.0 refl)
 
 pub returns : goal.returns
@@ -22,5 +23,6 @@ pub returns-then-not-seeks : goal.returns-then-not-seeks
 returns-then-not-seeks c =
     let w = world_of c.args.self.now in (
       (λ no. absurd (cc)),
-      (λ all. c.if-not-seeks.ensures.1 (of_place (λ t. w.point t ≡ Seeks c.args.sem) (w.sems.line c.args.sem) c.loop-place.place c.at.result c.at.ensures all)),
+      (λ all. c.if-not-seeks.ensures.1
+          (of_place (λ t. w.point t ≡ Seeks c.args.sem) (w.sems.line c.args.sem) c.loop-place.place c.at.result c.at.ensures all)),
     )

@@ -7,7 +7,8 @@ use Rattle.lot_core.proofs.state.State.do_all_wait.Goals as goal
 pub loop-place-preserved : goal.loop-place-preserved
 loop-place-preserved c =
     let w = world_of c.args.self.now in
-    place_more (λ t. Waits w.point c.args.cond t) (w.conds.line c.args.cond) c.loop-place.place c.at.result c.loop-place.invariant c.at.ensures
+    place_more (λ t. Waits w.point c.args.cond t) (w.conds.line c.args.cond) c.loop-place.place c.at.result
+    c.loop-place.invariant c.at.ensures
     (c.if-not-is_waiting.ensures.0 refl)
 
 pub returns : goal.returns

@@ -25,5 +25,6 @@ pub returns-in_default-2 : goal.returns-in_default-2
 returns-in_default-2 c =
     let s = c.args.self.now in
     let is : row None s.owners.items c.args.lock ≡ None =
-    row_read None s.owners.items c.args.lock c.index.result.now (omega (arith, s.owner_each, c.requires)) c.index.ensures ∙ c.in_default.is in
+    row_read None s.owners.items c.args.lock c.index.result.now (omega (arith, s.owner_each, c.requires))
+    c.index.ensures ∙ c.in_default.is in
     owner_none s.threads ∙ ap (λ (o : Option ℕ). find (owns o) (range_with_len 0 s.threads)) (sym is)

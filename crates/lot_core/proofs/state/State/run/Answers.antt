@@ -12,7 +12,8 @@ loop-i-preserved c =
 pub returns-in-Err : goal.returns-in-Err
 returns-in-Err c = record {
   ok = tt;
-  err = so_refused (world_of c.args.self.now) (world_of c.loop-i.self) (world_of c.step.new.self) c.args.events.now c.loop-i.i _ c.in-Err.fault c.loop-i.invariant
+  err = so_refused (world_of c.args.self.now) (world_of c.loop-i.self) (world_of c.step.new.self) c.args.events.now c.loop-i.i _
+      c.in-Err.fault c.loop-i.invariant
       c.loop-i-test.true c.in-Err.ensures;
 }
 

@@ -1,5 +1,5 @@
 use Rattle.std.proofs.Common.{ℕ, sym, ◌∙◌, ap, subst, ◌≤◌}
-use Rattle.lot_park.specs.declared.taken.TheConstants.{MOST_THREADS}
+use Rattle.lot_table.specs.declared.sizes.TheConstants.{MOST_THREADS}
 use Rattle.lot_park.specs.Lots.{ParkingView}
 use Rattle.lot_park.specs.Parking.{MayUnparkCount, UnparksCount}
 use denote.Exit.{no}
@@ -13,9 +13,11 @@ with_bucket-x-requires-clause-callable g c κs within = λ b ready.
       (
         subst (λ (n : ℕ). n ≤ MOST_THREADS) (sym ready.room) c.self.invariant.1,
         (
-          subst (λ (n : ℕ). MayUnparkCount g.S.Root.Root.view n c.args.key c.args.count (goal.F-pre g c.args.f c.args.x)) (sym same) c.requires.callable,
+          subst (λ (n : ℕ). MayUnparkCount g.S.Root.Root.view n c.args.key c.args.count (goal.F-pre g c.args.f c.args.x))
+              (sym same) c.requires.callable,
           (
-            subst (λ (n : ℕ). UnparksCount g.S.Root.Root.view n c.args.key c.args.count (goal.F-post g c.args.f c.args.x)) (sym same) c.requires.keeps,
+            subst (λ (n : ℕ). UnparksCount g.S.Root.Root.view n c.args.key c.args.count (goal.F-post g c.args.f c.args.x))
+                (sym same) c.requires.keeps,
             param_send 1 _ (arg_send _ no _ c.type_bounds.send-S-Root),
           ),
         ),
