@@ -1,5 +1,5 @@
 -- Every run of condition events from the opening leads to a sound part.
-use Rattle.std.proofs.Common.{ℕ, List, []}
+use Rattle.std.proofs.Common.{List, []}
 use Rattle.lot_events.specs.declared.events.Event.{Event}
 use Rattle.lot_events.specs.declared.events.Seen.{Seen}
 use Rattle.lot_core.specs.Parts.{CondPart}

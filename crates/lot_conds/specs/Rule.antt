@@ -1,12 +1,13 @@
 -- The rule of a table of condition words: there is a world that the words and the rights stand for, and it tells the condition part of the model.
 use Rattle.std.specs.Prelude.{ℕ, ◌+◌, ◌<◌, false, List, [], replicate, None}
-use Rattle.std.proofs.Common.{sym, ◌∙◌}
+use Rattle.std.specs.List.{Contains}
+use Rattle.std.proofs.Common.{sym, ap, ◌∙◌}
 use Rattle.lot_events.specs.declared.events.Event.{Event}
 use Rattle.lot_events.specs.declared.events.Seen.{Seen}
 use Rattle.lot_core.specs.Parts.{CondPart, CondStep}
 use Rattle.lot_rights.specs.Rule.{Scheme}
-use Rattle.lot_rights.specs.Settled.{HasOneOutcome}
-use Rattle.lot_rights.specs.World.{Sizes, letters_of, WordsFit, PassIs, RootIs}
+use Rattle.lot_rights.specs.Settled.{HasOneOutcome, LinesHaveNoLetter}
+use Rattle.lot_rights.specs.World.{Sizes, letter_of, letters_of, WordsFit, PassIs, RootIs}
 use Rattle.lot_conds.specs.declared.views.CondPassView.{CondPassView}
 use Rattle.lot_conds.specs.declared.views.CondRootView.{CondRootView}
 use Rattle.lot_conds.specs.declared.views.Size.{Size}
@@ -31,6 +32,14 @@ opening_part = record { conds = record { flag = λ c. false; line = λ c. [] }; 
 abbrev pub IsStep : Size → CondPart → Event → Seen → CondPart → Type 0
 IsStep size a e saw b = CondStep size.threads size.locks size.conds a e saw b
 
+-- the word of a condition
+abbrev pub word_in : CondPart → ℕ → ℕ
+word_in a c = flag_word (a.conds.flag c)
+
+-- the thread is in a condition's line
+abbrev pub IsQueued : CondPart → ℕ → Type 0
+IsQueued a t = (c : ℕ) × Contains (a.conds.line c) t
+
 -- the words stand for the world, which keeps the rule of threads and conditions; there is a lock
 pub record Fits (size : Size) (w : CondWorld) (ws : List ℕ) : Type 0 where
   pub some : 0 < size.locks
@@ -54,7 +63,8 @@ scheme size = record {
   told_by = λ w. record { part = part_of w; letters = letters_of w.spot };
   start = record { part = opening_part; letters = λ t. 0 };
   Step = IsStep size;
-  word_in = λ a c. flag_word (a.conds.flag c);
+  word_in = word_in;
+  IsQueued = IsQueued;
   threads = size.threads;
   first_key = size.locks;
   keys = size.conds;
@@ -71,3 +81,6 @@ no_root = fresh_root
 
 pub one_outcome : (size : Size) → HasOneOutcome (scheme size)
 one_outcome size a b c e s h k = h.2 ∙ sym k.2
+
+pub no_letter_in_line : (size : Size) → LinesHaveNoLetter (scheme size)
+no_letter_in_line size w ws hs ok t h = ap letter_of ((ok.kept.threads t).in_line h.0 h.1)

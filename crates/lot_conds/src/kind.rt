@@ -8,7 +8,7 @@ pub struct Conditions;
 impl Kind for Conditions {
     ghost use Rattle.std.specs.Prelude.{◌⊎◌};
     ghost use Rattle.std.specs.List.{Contains};
-    ghost use Rattle.lot_conds.specs.Rule.{scheme, no_pass, no_root, one_outcome};
+    ghost use Rattle.lot_conds.specs.Rule.{scheme, no_pass, no_root, one_outcome, no_letter_in_line};
 
     type Slot = ();
 
@@ -29,6 +29,8 @@ impl Kind for Conditions {
     ghost table_in = { λ o. o.conds };
 
     ghost one_outcome = { one_outcome };
+
+    ghost no_letter_in_line = { no_letter_in_line };
 }
 
 /// The right to act as one thread on the conditions. Contracts see it as its table and a `PassView`, whose `own` is a `CondPassView`.

@@ -32,4 +32,4 @@ pub mod words;
 
 pub use kind::{CondPass, CondRoot};
 pub use lot_rights::WordsFault;
-pub use words::CondWords;
+pub use words::{CLEAR, CondWords, HAS_WAITERS};

@@ -9,10 +9,10 @@ use lot_rights::{OfOpening, WordsOf};
 use std::marker::Model;
 
 /// The flag of a condition on which nobody waits.
-pub(crate) const CLEAR: u64 = 0;
+pub const CLEAR: u64 = 0;
 
 /// The flag of a condition on which threads may wait.
-pub(crate) const HAS_WAITERS: u64 = 1;
+pub const HAS_WAITERS: u64 = 1;
 
 /// The words of all conditions and the letters of all threads, under the condition rule.
 ///

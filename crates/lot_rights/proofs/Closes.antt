@@ -78,10 +78,12 @@ module _ {S P R : Type 0} (k : Scheme S P R) (s : State S (List (Right P R))) (r
 
 -- what is left to tell when the words are gone
 abbrev pub ended_recounted : {S P R : Type 0} (k : Scheme S P R) (passes : List (PassShown P)) (roots : List (RootShown R)) (ws : List ℕ) (xs : List S) → Ended k passes roots ws xs
-    → IsRecounted k.Step k.start.part passes roots
+    → IsRecounted k.Step k.word_in k.IsQueued k.start passes roots
 ended_recounted k passes roots ws xs e = record {
   log = e.log;
   part = (k.told_by e.left.world).part;
+  letters = (k.told_by e.left.world).letters;
+  history = e.run;
   run = run_of_events k k.start 0 e.log (k.told_by e.left.world) e.run;
   passes_made = e.passes_made;
   roots_made = e.roots_made;

@@ -3,7 +3,7 @@ use Rattle.std.proofs.Common.{◌≡◌, ℕ, ◌+◌, List, [], ◌∷◌, ◌+
 use Rattle.atomic_table.specs.Table.{Splits, Joins}
 use Rattle.lot_rights.specs.declared.views.Right.{Right}
 use Rattle.lot_rights.specs.Seating.{times, Each}
-use Rattle.lot_rights.specs.Rule.{number, made_with, Scheme, RightFits, Leads, Ruled}
+use Rattle.lot_rights.specs.Rule.{number, made_with, Scheme, RightFits, LeadsOn, Ruled}
 use Rattle.lot_rights.proofs.Seats.{joins, splits, times_set, times_snoc, times_append}
 use Rattle.lot_rights.proofs.Histories.{records_join, records_split}
 
@@ -16,7 +16,7 @@ module _ {S P R : Type 0} (k : Scheme S P R) where
     seats = joins number (RightFits k ru.world) s.views id other v w ru.seats at ne there;
     present = λ i is. omega (arith, ru.present i is, times_set number i (set s.views id (v ++ w)) other w [] there, times_set number i s.views id v (v ++ w) at, times_append number i v w);
     log = ru.log;
-    recorded = records_join number made_with (Leads k) k.start ru.log s.views (k.told_by ru.world) ru.recorded id other v w at ne there;
+    recorded = records_join number made_with (LeadsOn k) k.start ru.log s.views (k.told_by ru.world) ru.recorded id other v w at ne there;
   }
 
   -- the rights at a seat are cut in two
@@ -28,7 +28,7 @@ module _ {S P R : Type 0} (k : Scheme S P R) where
     seats = splits number (RightFits k ru.world) s.views id v l r ru.seats at (λ i. omega (arith, same i)) (cut (RightFits k ru.world));
     present = λ i is. omega (arith, ru.present i is, times_snoc number i (set s.views id l) r, times_set number i s.views id v l at, same i);
     log = ru.log;
-    recorded = records_split number made_with (Leads k) k.start ru.log s.views (k.told_by ru.world) ru.recorded id v l r at same (cut _);
+    recorded = records_split number made_with (LeadsOn k) k.start ru.log s.views (k.told_by ru.world) ru.recorded id v l r at same (cut _);
   }
 
   -- the first of two rights, and the other

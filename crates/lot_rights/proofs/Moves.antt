@@ -8,7 +8,7 @@ use Rattle.lot_rights.specs.declared.views.PassView.{PassView}
 use Rattle.lot_rights.specs.declared.views.Right.{Right}
 use Rattle.lot_rights.specs.declared.views.Right.TheVariants.{Pass, Root}
 use Rattle.lot_rights.specs.Seating.{times}
-use Rattle.lot_rights.specs.Rule.{number, made_with, Scheme, RightFits, Leads, Ruled}
+use Rattle.lot_rights.specs.Rule.{number, made_with, Scheme, RightFits, LeadsOn, Ruled}
 use Rattle.lot_rights.specs.Shown.{the_pass}
 use Rattle.lot_rights.specs.Slots.{SlotTurn, AllowsOut, AllowsBack, ToldOut, ToldBack}
 use Rattle.lot_rights.proofs.Seats.{reseats, times_set}
@@ -28,7 +28,7 @@ module _ {S P R : Type 0} (k : Scheme S P R) where
     seats = reseats number (RightFits k ru.world) (RightFits k turn.world) s.views id (Pass p ∷ []) (Pass (knowing p own) ∷ []) ru.seats at (λ j. omega arith) others (turn.pass, tt);
     present = λ j is. omega (arith, ru.present j is, times_set number j s.views id (Pass p ∷ []) (Pass (knowing p own) ∷ []) at);
     log = ru.log;
-    recorded = records_stay number made_with (Leads k) k.start ru.log s.views (k.told_by ru.world) ru.recorded id (k.told_by turn.world) turn.same (Pass p ∷ []) (Pass (knowing p own) ∷ [])
+    recorded = records_stay number made_with (LeadsOn k) k.start ru.log s.views (k.told_by ru.world) ru.recorded id (k.told_by turn.world) turn.same (Pass p ∷ []) (Pass (knowing p own) ∷ [])
         at (refl, refl, tt);
   }
     where

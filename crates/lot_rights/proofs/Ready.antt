@@ -8,11 +8,13 @@ use Rattle.lot_rights.specs.declared.views.Right.{Right}
 use Rattle.lot_rights.specs.declared.views.Right.TheVariants.{Pass, Root}
 use Rattle.lot_rights.specs.Layout.{word_at, letter_at}
 use Rattle.lot_rights.specs.Rule.{Scheme, Ruled}
+use Rattle.lot_rights.specs.Settled.{LinesHaveNoLetter}
 use Rattle.lot_rights.specs.Shown.{PassShown, RootShown, WordsShown, the_pass, the_root}
 use Rattle.lot_rights.specs.Steps.{AllowsPass, AllowsBoth, AllowsRoot, TellsOfTwo, ToldPass, ToldBoth, ToldRoot, ToldTwo}
 use Rattle.lot_rights.proofs.Stepping.{steps_pass, steps_both, steps_root, steps_two}
 
-module _ {S P R Key : Type 0} (scheme : Key → Scheme S P R) (inside now : WordsShown Key) (is : inside ≡ now) where
+module _ {S P R Key : Type 0} (scheme : Key → Scheme S P R) (apart : (key : Key) → LinesHaveNoLetter (scheme key))
+    (inside now : WordsShown Key) (is : inside ≡ now) where
   table_is : now.table ≡ inside.table
   table_is = sym (ap (λ (x : WordsShown Key). x.table) is)
 
@@ -24,8 +26,11 @@ module _ {S P R Key : Type 0} (scheme : Key → Scheme S P R) (inside now : Word
       → (mine.table ≡ inside.table) × (i < inside.table.words) × Allows (Ruled (scheme inside.key)) inside.table.slots id me i f (ToldPass mine.pass then)
   ready_pass mine shown e id me one i f then table near allows =
       let allowed : AllowsPass (scheme inside.key) i f mine.pass then = subst (λ (x : WordsShown Key). AllowsPass (scheme x.key) i f mine.pass then) (sym is)
-      (subst (λ (x : PassShown P). AllowsPass (scheme now.key) i f x.pass then) (sym e) allows) in
-      (ap (λ (x : PassShown P). x.table) e ∙ (table ∙ table_is), word_in_table i near, steps_pass (scheme inside.key) inside.table.slots id me mine.pass i f then one allowed)
+      (subst (λ (x : PassShown P). AllowsPass (scheme now.key) i f x.pass then) (sym e) allows) in (
+        ap (λ (x : PassShown P). x.table) e ∙ (table ∙ table_is),
+        word_in_table i near,
+        steps_pass (scheme inside.key) (apart inside.key) inside.table.slots id me mine.pass i f then one allowed,
+      )
 
   -- the pass p and the root q at one seat; `nobody` and `nothing` stand for what no pass and no root knows
   pub ready_both : (nobody : P) (nothing : R) (p : PassView P) (q : RootView R) (table : TableId) → table ≡ now.table → (id : ℕ) (me : Me S (List (Right P R))) → me ≡ (Pass p ∷ Root q ∷ [], [])
@@ -37,7 +42,7 @@ module _ {S P R Key : Type 0} (scheme : Key → Scheme S P R) (inside now : Word
         e ∙ table_is,
         word_in_table i near,
         subst (λ (m : Me S (List (Right P R))). Allows (Ruled (scheme inside.key)) inside.table.slots id m i f (ToldBoth (the_pass nobody m.0) (the_root nothing (drop 1 m.0)) then)) (sym both)
-            (steps_both (scheme inside.key) inside.table.slots id (Pass p ∷ Root q ∷ [], []) p q i f then refl allowed),
+            (steps_both (scheme inside.key) (apart inside.key) inside.table.slots id (Pass p ∷ Root q ∷ [], []) p q i f then refl allowed),
       )
 
   pub ready_root : (mine shown : RootShown R) → mine ≡ shown → (id : ℕ) (me : Me S (List (Right P R))) → me ≡ (Root mine.root ∷ [], []) → (i : ℕ) (f : ℕ → ℕ) (then : ℕ → RootView R → Type 0)
@@ -45,8 +50,11 @@ module _ {S P R Key : Type 0} (scheme : Key → Scheme S P R) (inside now : Word
       → (mine.table ≡ inside.table) × (i < inside.table.words) × Allows (Ruled (scheme inside.key)) inside.table.slots id me i f (ToldRoot mine.root then)
   ready_root mine shown e id me one i f then table near allows =
       let allowed : AllowsRoot (scheme inside.key) i f mine.root then = subst (λ (x : WordsShown Key). AllowsRoot (scheme x.key) i f mine.root then) (sym is)
-      (subst (λ (x : RootShown R). AllowsRoot (scheme now.key) i f x.root then) (sym e) allows) in
-      (ap (λ (x : RootShown R). x.table) e ∙ (table ∙ table_is), word_in_table i near, steps_root (scheme inside.key) inside.table.slots id me mine.root i f then one allowed)
+      (subst (λ (x : RootShown R). AllowsRoot (scheme now.key) i f x.root then) (sym e) allows) in (
+        ap (λ (x : RootShown R). x.table) e ∙ (table ∙ table_is),
+        word_in_table i near,
+        steps_root (scheme inside.key) (apart inside.key) inside.table.slots id me mine.root i f then one allowed,
+      )
 
   -- the passes p and q at one seat
   pub ready_two : (nobody : P) (p q : PassView P) (table : TableId) → table ≡ inside.table → 0 < inside.table.words → (id : ℕ) (me : Me S (List (Right P R))) → me ≡ (Pass p ∷ Pass q ∷ [], [])
@@ -59,7 +67,7 @@ module _ {S P R Key : Type 0} (scheme : Key → Scheme S P R) (inside now : Word
         some,
         subst (λ (m : Me S (List (Right P R))). Allows (Ruled (scheme inside.key)) inside.table.slots id m 0 (λ n. n)
             (λ _ me'. ToldTwo (the_pass nobody m.0) (the_pass nobody (drop 1 m.0)) fact m me')) (sym two)
-            (steps_two (scheme inside.key) inside.table.slots id (Pass p ∷ Pass q ∷ [], []) p q 0 fact refl told),
+            (steps_two (scheme inside.key) (apart inside.key) inside.table.slots id (Pass p ∷ Pass q ∷ [], []) p q 0 fact refl told),
       )
 
 -- ---- a root after its step

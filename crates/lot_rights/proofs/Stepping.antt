@@ -13,12 +13,24 @@ use Rattle.lot_rights.specs.declared.views.Right.{Right}
 use Rattle.lot_rights.specs.declared.views.Right.TheVariants.{Pass, Root}
 use Rattle.lot_rights.specs.Seating.{times, Each}
 use Rattle.lot_rights.specs.History.{doer, SameMade}
-use Rattle.lot_rights.specs.Rule.{number, made_with, Scheme, RightFits, Leads, Ruled}
+use Rattle.lot_rights.specs.Rule.{number, made_with, Scheme, RightFits, Leads, LeadsOn, Ruled}
+use Rattle.lot_rights.specs.Settled.{LinesHaveNoLetter}
 use Rattle.lot_rights.specs.Steps.{pass_after, root_after, AllowsPass, AllowsBoth, AllowsRoot, TellsOfTwo, ToldPass, ToldBoth, ToldRoot, ToldTwo}
 use Rattle.lot_rights.proofs.Seats.{tick, reseats, times_one, times_set, times_head}
 use Rattle.lot_rights.proofs.Histories.{alike_times, records_more}
 
 module _ {S P R : Type 0} (k : Scheme S P R) where
+  -- a right of another number than the pass p, or than p and q
+  pub not_mine : (p x : PassView P) (v : List (Right P R)) → times {R = Right P R} number (2 * x.thread) (Pass p ∷ v) ≡ 0 → x.thread ≢ p.thread
+  not_mine p x v none e =
+      let one : 1 ≤ times {R = Right P R} number (2 * x.thread) (Pass p ∷ v) = subst (λ t. 1 ≤ times {R = Right P R} number (2 * t) (Pass p ∷ v)) (sym e) (times_head number (Pass p) v) in omega arith
+
+  pub not_its : (q y : RootView R) (v : List (Right P R)) → times {R = Right P R} number (2 * y.key + 1) (Root q ∷ v) ≡ 0 → y.key ≢ q.key
+  not_its q y v none e =
+      let one : 1 ≤ times {R = Right P R} number (2 * y.key + 1) (Root q ∷ v) = subst (λ c. 1 ≤ times {R = Right P R} number (2 * c + 1) (Root q ∷ v)) (sym e)
+      (times_head number (Root q) v) in omega arith
+
+module _ {S P R : Type 0} (k : Scheme S P R) (apart : LinesHaveNoLetter k) where
   -- the first right at the seat makes one entry, and the others beside it show the same entries
   pub makes : (s : State S (List (Right P R))) (ru : Ruled k s) (id : ℕ) (r r' : Right P R) (v v' : List (Right P R)) (world : k.World) (words : List ℕ) (homes : List (Option S)) (access : Access)
       → get_elem? s.views id ≡ some (r ∷ v) → k.Fits world words homes → number r' ≡ number r → made_with r' ≡ made_with r ++ (record { at = length ru.log; access = access }) ∷ []
@@ -35,18 +47,9 @@ module _ {S P R : Type 0} (k : Scheme S P R) where
         seats = reseats number (RightFits k ru.world) (RightFits k world) s.views id (r ∷ v) (r' ∷ v') ru.seats at (λ i. omega (arith, times_are i)) keeps_others here;
         present = λ i is. omega (arith, ru.present i is, times_set number i s.views id (r ∷ v) (r' ∷ v') at, times_are i);
         log = ru.log ++ entry ∷ [];
-        recorded = records_more number made_with (Leads k) k.start ru.log s.views (k.told_by ru.world) ru.recorded id entry (k.told_by world) r r' v v' at refl leads by same more alike;
+        recorded = records_more number made_with (LeadsOn k) k.start ru.log s.views (k.told_by ru.world) ru.recorded id entry (k.told_by world)
+            r r' v v' at refl (leads, apart world words homes fits) by same more alike;
       }
-
-  -- a right of another number than the pass p, or than p and q
-  pub not_mine : (p x : PassView P) (v : List (Right P R)) → times {R = Right P R} number (2 * x.thread) (Pass p ∷ v) ≡ 0 → x.thread ≢ p.thread
-  not_mine p x v none e =
-      let one : 1 ≤ times {R = Right P R} number (2 * x.thread) (Pass p ∷ v) = subst (λ t. 1 ≤ times {R = Right P R} number (2 * t) (Pass p ∷ v)) (sym e) (times_head number (Pass p) v) in omega arith
-
-  pub not_its : (q y : RootView R) (v : List (Right P R)) → times {R = Right P R} number (2 * y.key + 1) (Root q ∷ v) ≡ 0 → y.key ≢ q.key
-  not_its q y v none e =
-      let one : 1 ≤ times {R = Right P R} number (2 * y.key + 1) (Root q ∷ v) = subst (λ c. 1 ≤ times {R = Right P R} number (2 * c + 1) (Root q ∷ v)) (sym e)
-      (times_head number (Root q) v) in omega arith
 
   module _ (slots id : ℕ) (me : Me S (List (Right P R))) where
     pub steps_pass : (p : PassView P) (i : ℕ) (f : ℕ → ℕ) (then : ℕ → PassView P → Type 0) → me ≡ (Pass p ∷ [], []) → AllowsPass k i f p then → Allows (Ruled k) slots id me i f (ToldPass p then)
@@ -64,7 +67,7 @@ module _ {S P R : Type 0} (k : Scheme S P R) where
       where
         others : (p : PassView P) (w : k.World) → ((u : ℕ) (x : P) → u ≢ p.thread → k.PassFits ru.world u x → k.PassFits w u x) → ((d : ℕ) (y : R) → k.RootFits ru.world d y → k.RootFits w d y)
             → (r : Right P R) → times {R = Right P R} number (number r) (Pass p ∷ []) ≡ 0 → RightFits k ru.world r → RightFits k w r
-        others p w passes roots (Pass x) none h = passes x.thread x.own (not_mine p x [] none) h
+        others p w passes roots (Pass x) none h = passes x.thread x.own (not_mine k p x [] none) h
         others p w passes roots (Root y) none h = roots y.key y.own h
 
     pub steps_both : (p : PassView P) (q : RootView R) (i : ℕ) (f : ℕ → ℕ) (then : ℕ → PassView P → RootView R → Type 0) → me ≡ (Pass p ∷ Root q ∷ [], []) → AllowsBoth k i f p q then
@@ -85,8 +88,8 @@ module _ {S P R : Type 0} (k : Scheme S P R) where
       where
         others : (w : k.World) → ((u : ℕ) (x : P) → u ≢ p.thread → k.PassFits ru.world u x → k.PassFits w u x) → ((d : ℕ) (y : R) → d ≢ q.key → k.RootFits ru.world d y → k.RootFits w d y)
             → (r : Right P R) → times {R = Right P R} number (number r) (Pass p ∷ Root q ∷ []) ≡ 0 → RightFits k ru.world r → RightFits k w r
-        others w passes roots (Pass x) none h = passes x.thread x.own (not_mine p x (Root q ∷ []) none) h
-        others w passes roots (Root y) none h = roots y.key y.own (not_its q y [] (omega (arith, none))) h
+        others w passes roots (Pass x) none h = passes x.thread x.own (not_mine k p x (Root q ∷ []) none) h
+        others w passes roots (Root y) none h = roots y.key y.own (not_its k q y [] (omega (arith, none))) h
 
     pub steps_root : (q : RootView R) (i : ℕ) (f : ℕ → ℕ) (then : ℕ → RootView R → Type 0) → me ≡ (Root q ∷ [], []) → AllowsRoot k i f q then → Allows (Ruled k) slots id me i f (ToldRoot q then)
     steps_root q i f then one allows s ru deep at small =
@@ -104,7 +107,7 @@ module _ {S P R : Type 0} (k : Scheme S P R) where
         others : (w : k.World) → ((u : ℕ) (x : P) → k.PassFits ru.world u x → k.PassFits w u x) → ((d : ℕ) (y : R) → d ≢ q.key → k.RootFits ru.world d y → k.RootFits w d y)
             → (r : Right P R) → times {R = Right P R} number (number r) (Root q ∷ []) ≡ 0 → RightFits k ru.world r → RightFits k w r
         others w passes roots (Pass x) none h = passes x.thread x.own h
-        others w passes roots (Root y) none h = roots y.key y.own (not_its q y [] none) h
+        others w passes roots (Root y) none h = roots y.key y.own (not_its k q y [] none) h
 
     -- a load at which nothing changes
     same_words : (s : State S (List (Right P R))) → Ruled k s → (i : ℕ) → get_elem? s.views id ≡ some me.0

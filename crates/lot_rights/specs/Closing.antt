@@ -9,8 +9,8 @@ use Rattle.lot_rights.specs.declared.views.Entry.{Entry}
 use Rattle.lot_rights.specs.declared.views.Right.{Right}
 use Rattle.lot_rights.specs.declared.views.Right.TheVariants.{Pass, Root}
 use Rattle.lot_rights.specs.Seating.{times}
-use Rattle.lot_rights.specs.History.{events_in, entries_of, ModelRun, Run}
-use Rattle.lot_rights.specs.Rule.{number, Scheme, Leads}
+use Rattle.lot_rights.specs.History.{events_in, entries_of, ModelRun, Run, Telling, Continues}
+use Rattle.lot_rights.specs.Rule.{number, Scheme, LeadsOn}
 use Rattle.lot_rights.specs.Shown.{PassShown, RootShown}
 
 module _ {P R : Type 0} where
@@ -37,15 +37,19 @@ module _ {S P R : Type 0} (k : Scheme S P R) where
   pub record Ended (passes : List (PassShown P)) (roots : List (RootShown R)) (ws : List ℕ) (xs : List S) : Type 0 where
     pub left : Left passes roots ws xs
     pub log : List Entry
-    pub run : Run (Leads k) k.start 0 log (k.told_by left.world)
+    pub run : Run (LeadsOn k) k.start 0 log (k.told_by left.world)
     pub passes_made : All (λ (p : PassShown P). p.pass.made ≡ entries_of (2 * p.pass.thread) log) passes
     pub roots_made : All (λ (q : RootShown R). q.root.made ≡ entries_of (2 * q.root.key + 1) log) roots
 
--- ---- what is left to tell when the table is gone: one run of the model, of the part from the opening
-module _ {Part P R : Type 0} (Step : Part → Event → Seen → Part → Type 0) (start : Part) where
+-- ---- what is left to tell when the table is gone: one history from the opening, and a run of the model, which is the
+-- history without its notices
+module _ {Part P R : Type 0} (Step : Part → Event → Seen → Part → Type 0) (word_in : Part → ℕ → ℕ) (IsQueued : Part → ℕ → Type 0)
+    (start : Telling Part) where
   pub record IsRecounted (passes : List (PassShown P)) (roots : List (RootShown R)) : Type 0 where
     pub log : List Entry
     pub part : Part
-    pub run : ModelRun Step start (events_in log) part
+    pub letters : ℕ → ℕ
+    pub history : Run (Continues Step word_in IsQueued) start 0 log (record { part = part; letters = letters })
+    pub run : ModelRun Step start.part (events_in log) part
     pub passes_made : All (λ (p : PassShown P). p.pass.made ≡ entries_of (2 * p.pass.thread) log) passes
     pub roots_made : All (λ (q : RootShown R). q.root.made ≡ entries_of (2 * q.root.key + 1) log) roots

@@ -47,6 +47,10 @@ pub record Telling (P : Type 0) : Type 0 where
   pub part : P
   pub letters : ℕ → ℕ
 
+-- no letter lies, as at the opening
+abbrev pub no_letters : {P : Type 0} → P → Telling P
+no_letters a = record { part = a; letters = λ t. 0 }
+
 module _ {P : Type 0} (Step : P → Event → Seen → P → Type 0) (word_in : P → ℕ → ℕ) where
   -- what the words told when the access was made, and what they tell then
   abbrev pub Happens : Telling P → Access → Telling P → Type 0
@@ -55,6 +59,17 @@ module _ {P : Type 0} (Step : P → Event → Seen → P → Type 0) (word_in : 
   Happens a (Collects t None) b = (a.letters t ≡ 0) × (b ≡ a)
   Happens a (Collects t (Some token)) b = (a.letters t ≡ token + 1) × (b ≡ record a { letters = put a.letters t 0 })
   Happens a (Finds t c x) b = (x ≡ word_in a.part c) × (b ≡ a)
+
+module _ {P : Type 0} (IsQueued : P → ℕ → Type 0) where
+  -- no letter lies for a thread that is in a line
+  abbrev pub NoLetterInLine : Telling P → Type 0
+  NoLetterInLine a = (t : ℕ) → IsQueued a.part t → a.letters t ≡ 0
+
+-- A history goes on by an access: it happens, and no letter lies then for a thread that is in a line. So who is in a line
+-- is posted a letter, and collects one, only after an event that took him from there
+module _ {P : Type 0} (Step : P → Event → Seen → P → Type 0) (word_in : P → ℕ → ℕ) (IsQueued : P → ℕ → Type 0) where
+  abbrev pub Continues : Telling P → Access → Telling P → Type 0
+  Continues a x b = Happens Step word_in a x b × NoLetterInLine IsQueued b
 
 -- ---- the log
 -- its accesses, of which k were made before, lead from a to b, each at its place and from what the ones before it have led to

@@ -9,7 +9,7 @@ use Rattle.lot_rights.specs.declared.views.Entry.{Entry}
 use Rattle.lot_rights.specs.declared.views.Right.{Right}
 use Rattle.lot_rights.specs.declared.views.Right.TheVariants.{Pass, Root}
 use Rattle.lot_rights.specs.Seating.{times_in, Seated}
-use Rattle.lot_rights.specs.History.{Telling, Happens, Recorded}
+use Rattle.lot_rights.specs.History.{Telling, Happens, Continues, Recorded}
 
 module _ {P R : Type 0} where
   abbrev pub number : Right P R → ℕ
@@ -36,6 +36,8 @@ pub record Scheme (S P R : Type 0) : Type 1 where
   pub Step : Part → Event → Seen → Part → Type 0
   -- the word of a key, as the part of the model tells it
   pub word_in : Part → ℕ → ℕ
+  -- the thread is in a line, as the part of the model tells it
+  pub IsQueued : Part → ℕ → Type 0
   -- how many threads there are, which keys, and what their rights know at the opening
   pub threads : ℕ
   pub first_key : ℕ
@@ -61,9 +63,13 @@ module _ {S P R : Type 0} (k : Scheme S P R) where
   abbrev pub Leads : Telling k.Part → Access → Telling k.Part → Type 0
   Leads = Happens k.Step k.word_in
 
+  -- and no letter lies then for a thread that is in a line
+  abbrev pub LeadsOn : Telling k.Part → Access → Telling k.Part → Type 0
+  LeadsOn = Continues k.Step k.word_in k.IsQueued
+
   -- the log is the history of a table with these views, and has led to what b tells
   abbrev pub IsHistory : List Entry → List (List (Right P R)) → Telling k.Part → Type 0
-  IsHistory log views b = Recorded number made_with Leads k.start log views b
+  IsHistory log views b = Recorded number made_with LeadsOn k.start log views b
 
   pub record Ruled (s : State S (List (Right P R))) : Type 0 where
     pub world : k.World

@@ -1,6 +1,6 @@
 -- The laws of the history: the rights settle it, one entry more is one access, and no entry is none, wherever the rights lie.
 use Rattle.std.specs.Prelude.{◌≡◌, ◌≢◌, ℕ, ◌++◌, ◌⊎◌, List, [], ◌∷◌, length, slice_set}
-use mathlib.Core.Option.{some}
+use mathlib.Core.Option.{Option, some}
 use lib.ListN.{get_elem?}
 use Rattle.atomic_table.specs.Table.{State}
 use Rattle.lot_events.specs.declared.events.Event.{Event}
@@ -8,13 +8,17 @@ use Rattle.lot_events.specs.declared.events.Seen.{Seen}
 use Rattle.lot_rights.specs.declared.views.Entry.{Entry}
 use Rattle.lot_rights.specs.declared.views.Right.{Right}
 use Rattle.lot_rights.specs.Seating.{times_in}
-use Rattle.lot_rights.specs.History.{doer, events_in, ModelRun, SameMade, SameShown, OneMoreShown, Telling}
+use Rattle.lot_rights.specs.History.{doer, events_in, ModelRun, SameMade, SameShown, OneMoreShown, Telling, NoLetterInLine}
 use Rattle.lot_rights.specs.Rule.{number, made_with, Scheme, IsRight, Leads, IsHistory, Ruled}
 
 module _ {S P R : Type 0} (k : Scheme S P R) where
   -- a step of the model has one outcome
   abbrev pub HasOneOutcome : Type 0
   HasOneOutcome = (a b c : k.Part) (e : Event) (s : Seen) → k.Step a e s b → k.Step a e s c → b ≡ c
+
+  -- whatever the words stand for, no letter lies for a thread that is in a line
+  abbrev pub LinesHaveNoLetter : Type 0
+  LinesHaveNoLetter = (w : k.World) (ws : List ℕ) (hs : List (Option S)) → k.Fits w ws hs → NoLetterInLine k.IsQueued (k.told_by w)
 
   -- two histories of the same rights are one, and have led to the same
   abbrev pub RightsSettle : Type 0

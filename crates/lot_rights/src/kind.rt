@@ -10,7 +10,7 @@ pub trait Kind {
     ghost use Rattle.std.specs.Prelude.{ℕ};
     ghost use Rattle.atomic_table.specs.Seated.{TableId};
     ghost use Rattle.lot_rights.specs.Rule.{Scheme};
-    ghost use Rattle.lot_rights.specs.Settled.{HasOneOutcome};
+    ghost use Rattle.lot_rights.specs.Settled.{HasOneOutcome, LinesHaveNoLetter};
     ghost use Rattle.lot_rights.specs.Opening.{Opening};
 
     /// What a slot has.
@@ -37,6 +37,9 @@ pub trait Kind {
 
     // A step of the model has one outcome.
     ghost one_outcome: { (key : Self.Key) → HasOneOutcome (scheme key) };
+
+    // Whatever the words stand for, no letter lies for a thread that is in a line.
+    ghost no_letter_in_line: { (key : Self.Key) → LinesHaveNoLetter (scheme key) };
 }
 
 /// What contracts see of a seat: the list of its rights. It has no fields, and no value of it is made by running code; so a table's type

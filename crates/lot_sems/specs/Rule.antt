@@ -1,15 +1,15 @@
 -- The rule of a table of semaphore words: there is a world that the words and the rights stand for, and it tells the semaphore part of the model, which is sound.
 use Rattle.std.specs.Prelude.{◌≡◌, ℕ, ◌<◌, ◌⊎◌, false, List, [], length, replicate, Some, None}
 use Rattle.std.specs.List.{Contains}
-use Rattle.std.proofs.Common.{sym, ◌∙◌}
+use Rattle.std.proofs.Common.{sym, ap, ◌∙◌}
 use Rattle.lot_core.specs.World.{none_taken}
 use Rattle.lot_events.specs.declared.events.Event.{Event}
 use Rattle.lot_events.specs.declared.events.Seen.{Seen}
 use Rattle.lot_core.specs.Parts.{SemaphorePart, SemaphoreStep}
 use Rattle.lot_core.specs.Sound.{IsSoundSemaphorePart}
 use Rattle.lot_rights.specs.Rule.{Scheme}
-use Rattle.lot_rights.specs.Settled.{HasOneOutcome}
-use Rattle.lot_rights.specs.World.{letters_of}
+use Rattle.lot_rights.specs.Settled.{HasOneOutcome, LinesHaveNoLetter}
+use Rattle.lot_rights.specs.World.{letter_of, letters_of}
 use Rattle.lot_sems.specs.declared.views.SemPassView.{SemPassView}
 use Rattle.lot_sems.specs.declared.views.SemRootView.{SemRootView}
 use Rattle.lot_sems.specs.World.{Numbers, key_count, permits_of, SemWorld, word_in, SemWordsFit, LettersFit, PassKnows, RootKnows}
@@ -21,6 +21,10 @@ opening_part size = record { sems = none_taken (permits_of size); seeks = λ t. 
 -- a step of the model's semaphore part, in a table of these numbers
 abbrev pub IsStep : Numbers → SemaphorePart → Event → Seen → SemaphorePart → Type 0
 IsStep size a e saw b = SemaphoreStep size.threads size.low (length size.permits) a e saw b
+
+-- the thread is in a semaphore's line
+abbrev pub IsQueued : SemaphorePart → ℕ → Type 0
+IsQueued a t = (k : ℕ) × Contains (a.sems.line k) t
 
 -- permits are conserved, sleepers are marked, no permit is left lying, one line each
 abbrev pub IsSound : Numbers → SemaphorePart → Type 0
@@ -62,6 +66,7 @@ scheme size = record {
   start = record { part = opening_part size; letters = λ t. 0 };
   Step = IsStep size;
   word_in = word_in;
+  IsQueued = IsQueued;
   threads = size.threads;
   first_key = size.low;
   keys = length size.permits;
@@ -71,3 +76,6 @@ scheme size = record {
 
 pub one_outcome : (size : Numbers) → HasOneOutcome (scheme size)
 one_outcome size a b c e s h k = h.2 ∙ sym k.2
+
+pub no_letter_in_line : (size : Numbers) → LinesHaveNoLetter (scheme size)
+no_letter_in_line size w ws hs ok t h = ap letter_of (ok.letters.in_line t h.0 h.1)

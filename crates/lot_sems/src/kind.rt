@@ -8,7 +8,7 @@ pub struct Semaphores;
 
 impl Kind for Semaphores {
     ghost use Rattle.lot_sems.specs.World.{numbers};
-    ghost use Rattle.lot_sems.specs.Rule.{scheme, no_pass, no_root, names, one_outcome};
+    ghost use Rattle.lot_sems.specs.Rule.{scheme, no_pass, no_root, names, one_outcome, no_letter_in_line};
 
     type Slot = ();
 
@@ -29,6 +29,8 @@ impl Kind for Semaphores {
     ghost table_in = { λ o. o.sems };
 
     ghost one_outcome = { λ start. one_outcome (numbers start) };
+
+    ghost no_letter_in_line = { λ start. no_letter_in_line (numbers start) };
 }
 
 /// The right to act as one thread on the semaphores. Contracts see it as its table and a `PassView`, whose `own` is a `SemPassView`.

@@ -42,4 +42,4 @@ pub mod words;
 pub use kind::{SemPass, SemRoot};
 pub use lot_rights::WordsFault;
 pub use taking::Taken;
-pub use words::{PARKED, PERMIT, SemWords};
+pub use words::{NONE_LEFT, PARKED, PERMIT, SemWords};

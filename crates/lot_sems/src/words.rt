@@ -9,7 +9,7 @@ use lot_rights::{OfOpening, WordsOf};
 use std::marker::Model;
 
 /// The word of a semaphore of which no permit is left, and on which nobody is marked as parked.
-pub(crate) const NONE_LEFT: u64 = 0;
+pub const NONE_LEFT: u64 = 0;
 
 /// The word of a semaphore of which no permit is left, and on which threads are marked as parked; and the bit that says so.
 pub const PARKED: u64 = 1;

@@ -1,6 +1,6 @@
 -- What each call of a pass carries from its kind to the lot: the one entry tells the access, its thread stands as the
 -- event asks, and the lot tells the same.
-use Rattle.std.proofs.Common.{◌≡◌, ◌≢◌, ℕ, ◌%◌, ◌<◌, ◌⊎◌, ◌==◌, ◌++◌, Bool, true, false, List, [], ◌∷◌, length, bit_or, refl, sym, ap}
+use Rattle.std.proofs.Common.{◌≡◌, ◌≢◌, ℕ, ◌<◌, ◌⊎◌, ◌==◌, ◌++◌, Bool, true, false, List, [], ◌∷◌, length, bit_and, bit_or, refl, sym, ap}
 use Rattle.std.proofs.Common.{subst, ◌∙◌, inl, inr, arith, MatchBool, Option, Some, None}
 use mathlib.Core.Option as maybe
 use prog.Atomic.{either}
@@ -56,11 +56,11 @@ notes_tell {P} p own own' a a' h = (
 -- ---- what each step tells of the lot's pass
 module _ {V Part : Type 0} (rule : CallersRule V Part) where
   abbrev pub Takes : PassView (LotPassView V) → ℕ → ℕ → PassView (LotPassView V) → Type 0
-  Takes p l n q = MatchBool (n % 2 == 0) (GetsBy rule p l (Makes (Take p.thread l) (Saw true)) q)
+  Takes p l n q = MatchBool (bit_and n 1 == 0) (GetsBy rule p l (Makes (Take p.thread l) (Saw true)) q)
       (NotesIn lock p (wishing p.own.locks l) (Makes (Take p.thread l) (Saw false)) q)
 
   abbrev pub Tries : PassView (LotPassView V) → ℕ → ℕ → PassView (LotPassView V) → Type 0
-  Tries p l n q = MatchBool (n % 2 == 0) (GetsBy rule p l (Makes (Try p.thread l) (Saw true)) q)
+  Tries p l n q = MatchBool (bit_and n 1 == 0) (GetsBy rule p l (Makes (Try p.thread l) (Saw true)) q)
       (NotesIn lock p p.own.locks (Makes (Try p.thread l) (Saw false)) q)
 
   abbrev pub TakesFree : PassView (LotPassView V) → ℕ → ℕ → PassView (LotPassView V) → Type 0
@@ -182,7 +182,7 @@ module _ {V Part : Type 0} (rule : CallersRule V Part) (z : LotSize) (xs : List 
     may_speak may saw w ws hs ok fit = (tt, may_take rule z xs w ws hs ok p.thread p.own fit l may)
 
     carries_takes : MayTake p.own l → CarriesPass rule z xs lock p (locks.Takes rule (part_pass lock p) l) (Takes rule p l)
-    carries_takes may n own a told = by (n % 2 == 0) (told 0)
+    carries_takes may n own a told = by (bit_and n 1 == 0) (told 0)
       where
         by : (b : Bool) → MatchBool b ((x : V) × FoundOk rule l p.thread p.own.locks x
             × Notes (part_pass lock p) (gripped p.own.locks l x) (Makes (Take p.thread l) (Saw true))
@@ -207,7 +207,7 @@ module _ {V Part : Type 0} (rule : CallersRule V Part) (z : LotSize) (xs : List 
     idle_aims idle k e = absurd (no_aim k (sym idle.0.aim ∙ e))
 
     carries_tries : IsIdle p.own → CarriesPass rule z xs lock p (locks.Tries rule (part_pass lock p) l) (Tries rule p l)
-    carries_tries idle n own a told = by (n % 2 == 0) (told 0)
+    carries_tries idle n own a told = by (bit_and n 1 == 0) (told 0)
       where
         by : (b : Bool) → MatchBool b ((x : V) × FoundOk rule l p.thread p.own.locks x
             × Notes (part_pass lock p) (gripped p.own.locks l x) (Makes (Try p.thread l) (Saw true))

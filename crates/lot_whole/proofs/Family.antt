@@ -1,5 +1,5 @@
 -- Families over the three kinds, and what is shown of each kind by itself.
-use Rattle.std.proofs.Common.{◌≡◌, ◌≢◌, ℕ, ◌+◌, ◌<◌, ◌⊎◌, false, List, length, get_or, refl, ap, ◌∙◌, inl, inr}
+use Rattle.std.proofs.Common.{◌≡◌, ◌≢◌, ℕ, ◌+◌, ◌<◌, ◌⊎◌, Bool, true, false, List, length, get_or, refl, ap, ◌∙◌, inl, inr}
 use Rattle.std.proofs.Common.{arith, Option, Some, None}
 use Rattle.std.specs.Prelude.{nat_lt, if◌then◌else◌, is_some}
 use Rattle.std.proofs.lemmas.Bool.{lt-ltb, le-ltb}
@@ -32,6 +32,10 @@ which_is cond sem = inr (λ e. cc)
 which_is sem lock = inr (λ e. cc)
 which_is sem cond = inr (λ e. cc)
 which_is sem sem = inl refl
+
+pub not_true : (b : Bool) → (b ≡ true → ⊥) → b ≡ false
+not_true true h = absurd (h refl)
+not_true false h = refl
 
 -- ---- families with one value changed
 -- what holds of the new value, and of each other one, holds of all

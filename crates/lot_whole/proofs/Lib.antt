@@ -1,5 +1,6 @@
 pub mod Family
 pub mod Whole
+pub mod Queued
 pub mod Steps
 pub mod Lifts
 pub mod Slots
@@ -9,6 +10,7 @@ pub mod Seekers
 pub mod Letters
 pub mod Moments
 pub mod Opens
+pub mod Order
 pub mod Closes
 pub mod Waits
 pub mod Twos

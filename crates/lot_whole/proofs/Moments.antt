@@ -21,9 +21,9 @@ use Rattle.lot_conds.proofs.Headlines as conds
 use Rattle.lot_whole.specs.declared.views.LotPassView.{LotPassView}
 use Rattle.lot_whole.specs.declared.views.LotRootView.{LotRootView}
 use Rattle.lot_whole.specs.Family.{Which, lock, cond, sem, LotSize, IsKeyIn, scheme_of}
-use Rattle.lot_whole.specs.Whole.{WholeStep, opening_of}
+use Rattle.lot_whole.specs.Whole.{WholeStep, line_in, opening_of}
 use Rattle.lot_whole.specs.Lot.{lot_scheme}
-use Rattle.lot_whole.specs.Headline.{line_in, OneLineOfAll, event_of, IsOneRun, OneState, Promises}
+use Rattle.lot_whole.specs.Headline.{OneLineOfAll, event_of, IsOneRun, OneState, Promises}
 use Rattle.lot_whole.proofs.Family.{word_is}
 
 -- ---- one line each, over all kinds

@@ -108,6 +108,7 @@ module _ {V Part : Type 0} (rule : CallersRule V Part) (z : LotSize) (xs : List 
       stand = refl;
     };
     agrees = parts_agree;
+    none_in_line = λ t _. none_sums t;
     counts = refl;
     reached = opening_reached z.threads z.locks z.conds z.permits;
   }

@@ -25,6 +25,7 @@ use Rattle.lot_whole.specs.Lot.{own_of, sum_of, LotWorld, letters_in, PassOk, Lo
 use Rattle.lot_whole.specs.Lifts.{part_pass}
 use Rattle.lot_whole.specs.Calls.{placed_in}
 use Rattle.lot_whole.proofs.Family.{dput_elim, dput_two, three_same}
+use Rattle.lot_whole.proofs.Queued.{none_queued}
 use Rattle.lot_whole.proofs.Steps.{own_from, apart_after}
 
 -- the slots are no other kind's
@@ -43,17 +44,13 @@ module _ {V Part : Type 0} (rule : CallersRule V Part) (z : LotSize) (xs : List 
   slot_turn t p own w ws hs hs' ok fit same turn = record {
     world = next;
     fits = record {
-      parts = dput_elim {X = λ k. (scheme_of rule z xs k).World}
-          (λ k y. (scheme_of rule z xs k).Fits y (w.words k) (homes_in k hs')) lock turn.world w.each turn.fits
-          (λ k ne. subst ((scheme_of rule z xs k).Fits (w.each k) (w.words k)) (homes_else k hs hs' ne) (ok.parts k));
+      parts = parts;
       wide = ok.wide;
       keys = ok.keys;
       letters = λ u near. ok.letters u near ∙ sym (letters u);
-      passes = λ u near. put_elim (λ y. PassOk rule z xs next u y) w.pass t new u
-          (λ e. subst (λ n. PassOk rule z xs next n new) (sym e) mine) (λ ne. other u near ne);
-      agrees = dput_elim {X = λ k. (scheme_of rule z xs k).World}
-          (λ k y. part_in rule z xs k w.whole ≡ ((scheme_of rule z xs k).told_by y).part) lock turn.world w.each
-          (ok.agrees lock ∙ sym (λ i. (turn.same i).part)) (λ k ne. ok.agrees k);
+      passes = passes;
+      agrees = agrees;
+      none_in_line = none_queued rule z xs next hs' parts passes agrees;
       counts = ok.counts;
       reached = ok.reached;
     };
@@ -103,6 +100,20 @@ module _ {V Part : Type 0} (rule : CallersRule V Part) (z : LotSize) (xs : List 
         apart = h.apart;
         stand = h.stand;
       }
+
+      parts : (k : Which) → (scheme_of rule z xs k).Fits (each k) (w.words k) (homes_in k hs')
+      parts = dput_elim {X = λ k. (scheme_of rule z xs k).World}
+          (λ k y. (scheme_of rule z xs k).Fits y (w.words k) (homes_in k hs')) lock turn.world w.each turn.fits
+          (λ k ne. subst ((scheme_of rule z xs k).Fits (w.each k) (w.words k)) (homes_else k hs hs' ne) (ok.parts k))
+
+      passes : (u : ℕ) → u < z.threads → PassOk rule z xs next u (next.pass u)
+      passes u near = put_elim (λ y. PassOk rule z xs next u y) w.pass t new u
+          (λ e. subst (λ n. PassOk rule z xs next n new) (sym e) mine) (λ ne. other u near ne)
+
+      agrees : (k : Which) → part_in rule z xs k w.whole ≡ ((scheme_of rule z xs k).told_by (each k)).part
+      agrees = dput_elim {X = λ k. (scheme_of rule z xs k).World}
+          (λ k y. part_in rule z xs k w.whole ≡ ((scheme_of rule z xs k).told_by y).part) lock turn.world w.each
+          (ok.agrees lock ∙ sym (λ i. (turn.same i).part)) (λ k ne. ok.agrees k)
 
       by_kind : (d : ℕ) (y : LotRootView) → LotRootIs rule z xs w d y → LotRootIs rule z xs next d y
       by_kind d (Lock r) h = (h.0, turn.roots d r h.1)

@@ -28,6 +28,7 @@ use Rattle.lot_whole.specs.Lot.{own_of, pass_from, root_from, sum_of, LotWorld, 
 use Rattle.lot_whole.specs.Lifts.{lot_own, MayBeAway, Quiet, Speaks, InPlace}
 use Rattle.lot_whole.proofs.Family.{dput_elim, dput_two, dput_same, three_same, three_one, key_near, letter_near, keys_apart, key_in}
 use Rattle.lot_whole.proofs.Family.{letter_in_kind, wide_in, letter_in, word_is}
+use Rattle.lot_whole.proofs.Queued.{none_queued}
 use Rattle.lot_whole.proofs.Whole.{counts_after, joins, stands_move}
 
 pub own_from : (V : Type 0) (f : (j : Which) → PassIn V j) (s : Stand) (k : Which) → own_of V (pass_from V f s) k ≡ f k
@@ -247,16 +248,20 @@ module _ {V Part : Type 0} (rule : CallersRule V Part) (z : LotSize) (xs : List 
         abbrev pub next : LotWorld rule z xs
         next = record { each = each; words = words; pass = pass; whole = whole_by a w.whole }
 
+        parts_after : (k : Which) → (scheme_of rule z xs k).Fits (each k) (words k) (homes_in k hs)
+        parts_after = dput_two {X = λ k. (scheme_of rule z xs k).World} {Y = λ k. List ℕ}
+            (λ k y us. (scheme_of rule z xs k).Fits y us (homes_in k hs)) j v w.each (set (w.words j) i x) w.words fits
+            (λ k ne. ok.parts k)
+
         pub fits_after : ((t : ℕ) → t < z.threads → PassOk rule z xs next t (pass t)) → LotFits rule z xs next (set ws i x) hs
         fits_after passes = record {
-          parts = dput_two {X = λ k. (scheme_of rule z xs k).World} {Y = λ k. List ℕ}
-              (λ k y us. (scheme_of rule z xs k).Fits y us (homes_in k hs)) j v w.each (set (w.words j) i x) w.words fits
-              (λ k ne. ok.parts k);
+          parts = parts_after;
           wide = length-set ws i x ∙ ok.wide;
           keys = keys_after;
           letters = letters_after;
           passes = passes;
           agrees = gone.agrees;
+          none_in_line = none_queued rule z xs next hs parts_after passes gone.agrees;
           counts = gone.counts;
           reached = gone.reached;
         }

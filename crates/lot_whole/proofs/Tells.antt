@@ -1,5 +1,5 @@
 -- What a pass tells of its thread's point in the state of the whole.
-use Rattle.std.proofs.Common.{◌≡◌, ◌≢◌, ℕ, suc, ◌<◌, ◌⊎◌, Bool, true, false, List, refl, sym, ap, subst, ◌∙◌, inl, inr, ⊎_elim, eq-eqb}
+use Rattle.std.proofs.Common.{◌≡◌, ◌≢◌, ℕ, suc, ◌<◌, ◌⊎◌, true, false, List, refl, sym, ap, subst, ◌∙◌, inl, inr, ⊎_elim, eq-eqb}
 use Rattle.std.proofs.Common.{Option, Some, None}
 use Rattle.std.specs.Prelude.{◌+◌, is_some}
 use Rattle.std.specs.List.{Contains}
@@ -29,7 +29,7 @@ use Rattle.lot_whole.specs.Whole.{stand_of}
 use Rattle.lot_whole.specs.Lot.{own_of, LotWorld, PassOk, LotFits, LotPassIs}
 use Rattle.lot_whole.specs.Lifts.{Quiet}
 use Rattle.lot_whole.specs.Standing.{IsAwake, IsIdle, MayTake, MayLetGo, MayPark, MayTakePermit}
-use Rattle.lot_whole.proofs.Family.{still}
+use Rattle.lot_whole.proofs.Family.{not_true, still}
 
 -- ---- points
 calm_is : (p : Point) → wanted p ≡ None → swept_by p ≡ None → sought p ≡ None → stand_of p ≡ Idle → p ≡ Calm
@@ -61,10 +61,6 @@ rest_is _ c l e = absurd (let f : Idle ≡ AtRest c l = e in cc)
 pub out_none : (o : Option ℕ) → is_some o ≡ false → o ≡ None
 out_none None e = refl
 out_none (Some x) e = absurd (cc)
-
-not_true : (b : Bool) → (b ≡ true → ⊥) → b ≡ false
-not_true true h = absurd (h refl)
-not_true false h = refl
 
 module _ {V Part : Type 0} (rule : CallersRule V Part) (z : LotSize) (xs : List V) (w : LotWorld rule z xs) (ws : List ℕ)
     (hs : List (maybe.Option (Option V))) (ok : LotFits rule z xs w ws hs) where

@@ -4,14 +4,14 @@ use Rattle.std.specs.List.{All}
 use Rattle.lot_core.specs.World.{World}
 use Rattle.lot_core.specs.Rows.{row_from}
 use Rattle.lot_rights.specs.Closing.{IsRecounted}
-use Rattle.lot_rights.specs.History.{events_in}
+use Rattle.lot_rights.specs.History.{events_in, no_letters}
 use Rattle.lot_rights.specs.Shown.{PassShown, RootShown}
 use Rattle.lot_words.specs.World.{Holds}
 use Rattle.lot_whole.specs.declared.views.LotPassView.{LotPassView}
 use Rattle.lot_whole.specs.declared.views.LotRootView.{LotRootView}
 use Rattle.lot_whole.specs.declared.views.LotRootView.TheVariants.{Lock, Cond, Sem}
 use Rattle.lot_whole.specs.Family.{LotSize}
-use Rattle.lot_whole.specs.Whole.{WholeStep, opening_of}
+use Rattle.lot_whole.specs.Whole.{WholeStep, word_in, IsQueued, opening_of}
 use Rattle.lot_whole.specs.Headline.{IsOneRun}
 
 -- the pass holds no lock, and waits on no condition
@@ -46,7 +46,7 @@ LineIs s k (Sem q) = s.sems.line k ≡ q.line
 -- out with the passes are together all that there were
 pub record IsToldTo {V : Type 0} (z : LotSize) (passes : List (PassShown (LotPassView V)))
     (roots : List (RootShown LotRootView)) : Type 0 where
-  pub recounted : IsRecounted WholeStep (opening_of z) passes roots
+  pub recounted : IsRecounted WholeStep (word_in z) IsQueued (no_letters (opening_of z)) passes roots
   pub run : IsOneRun z (events_in recounted.log) recounted.part
   pub lines : All (λ (q : RootShown LotRootView). LineIs recounted.part q.root.key q.root.own) roots
   pub permits : (k : ℕ) → recounted.part.sems.left k + out_with passes k ≡ permits_of z k

@@ -21,14 +21,8 @@ use Rattle.lot_sems.specs.World.{LettersFit as SemLettersFit}
 use Rattle.lot_whole.specs.declared.views.LotPassView.{LotPassView}
 use Rattle.lot_whole.specs.declared.views.LotRootView.{LotRootView}
 use Rattle.lot_whole.specs.Family.{Which, lock, cond, sem, LotSize, IsKeyIn, away}
-use Rattle.lot_whole.specs.Whole.{WholeStep, word_in, opening_of}
+use Rattle.lot_whole.specs.Whole.{WholeStep, word_in, line_in, opening_of}
 use Rattle.lot_whole.specs.Lot.{own_of, lot_scheme}
-
--- the line of a key of the kind
-abbrev pub line_in : World → Which → ℕ → List ℕ
-line_in s lock l = s.locks.line l
-line_in s cond c = s.conds.line c
-line_in s sem k = s.sems.line k
 
 -- a thread is in one line at most, of all keys of all kinds
 abbrev pub OneLineOfAll : World → Type 0

@@ -9,6 +9,7 @@ pub mod Standing
 pub mod Calls
 pub mod Headline
 pub mod Closing
+pub mod Order
 pub mod Chains
 -- a part of these
 pub mod Shown

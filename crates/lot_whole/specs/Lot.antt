@@ -7,7 +7,7 @@ use Rattle.lot_core.specs.World.{World}
 use Rattle.lot_core.specs.Steps.{IsReached}
 use Rattle.lot_rights.specs.Layout.{word_at, letter_at, word_count}
 use Rattle.lot_rights.specs.Rule.{Scheme}
-use Rattle.lot_rights.specs.Settled.{HasOneOutcome}
+use Rattle.lot_rights.specs.Settled.{HasOneOutcome, LinesHaveNoLetter}
 use Rattle.lot_words.specs.CallersRule.{CallersRule}
 use Rattle.lot_words.specs.Rule.{fresh_pass as fresh_lock_pass, fresh_root as fresh_lock_root, names as lock_names}
 use Rattle.lot_conds.specs.Rule.{fresh_pass as fresh_cond_pass, fresh_root as fresh_cond_root, key_count as cond_keys}
@@ -20,7 +20,7 @@ use Rattle.lot_whole.specs.declared.views.Stand.{Stand}
 use Rattle.lot_whole.specs.declared.views.Stand.TheVariants.{Idle}
 use Rattle.lot_whole.specs.Family.{Which, lock, cond, sem, LotSize, cond_size, sem_size, key_count, IsKeyIn, PassIn, RootIn}
 use Rattle.lot_whole.specs.Family.{away, homes_in, scheme_of, part_in}
-use Rattle.lot_whole.specs.Whole.{stand_of, WholeStep, word_in, counts_in, counts_of, opening_of}
+use Rattle.lot_whole.specs.Whole.{stand_of, WholeStep, word_in, IsQueued, counts_in, counts_of, opening_of}
 
 -- ---- passes and roots, kind by kind
 abbrev pub own_of : (V : Type 0) → LotPassView V → (j : Which) → PassIn V j
@@ -85,7 +85,7 @@ module _ {V Part : Type 0} (rule : CallersRule V Part) (z : LotSize) (xs : List 
     pub stand : stand_of (w.whole.point t) ≡ p.stand
 
   -- the words and the slots stand for the world: each kind's words and letters do so for that kind, and the parts of the whole state, which
-  -- a run of the model reaches, are what the kinds tell
+  -- a run of the model reaches, are what the kinds tell; no letter lies for a thread that is in a line
   pub record LotFits (w : LotWorld) (ws : List ℕ) (hs : List (maybe.Option (Option V))) : Type 0 where
     pub parts : (j : Which) → (scheme_of rule z xs j).Fits (w.each j) (w.words j) (homes_in j hs)
     pub wide : length ws ≡ word_count z.threads (key_count z)
@@ -93,6 +93,7 @@ module _ {V Part : Type 0} (rule : CallersRule V Part) (z : LotSize) (xs : List 
     pub letters : (t : ℕ) → t < z.threads → slice_index ws (letter_at t) ≡ sum_of (letters_in w) t
     pub passes : (t : ℕ) → t < z.threads → PassOk w t (w.pass t)
     pub agrees : (j : Which) → part_in rule z xs j w.whole ≡ ((scheme_of rule z xs j).told_by (w.each j)).part
+    pub none_in_line : (t : ℕ) → IsQueued w.whole t → sum_of (letters_in w) t ≡ 0
     pub counts : counts_in w.whole ≡ counts_of z
     pub reached : IsReached w.whole
 
@@ -116,6 +117,7 @@ module _ {V Part : Type 0} (rule : CallersRule V Part) (z : LotSize) (xs : List 
     start = record { part = opening_of z; letters = λ t. 0 };
     Step = WholeStep;
     word_in = word_in z;
+    IsQueued = IsQueued;
     threads = z.threads;
     first_key = 0;
     keys = key_count z;
@@ -125,3 +127,6 @@ module _ {V Part : Type 0} (rule : CallersRule V Part) (z : LotSize) (xs : List 
 
   pub one_outcome : HasOneOutcome lot_scheme
   one_outcome a b c e s h k = h.2 ∙ sym k.2
+
+  pub no_letter_in_line : LinesHaveNoLetter lot_scheme
+  no_letter_in_line w ws hs ok = ok.none_in_line

@@ -1,5 +1,6 @@
 -- The state of the whole model: how a thread stands at a condition, what an access does to it all, and the word of each key.
 use Rattle.std.specs.Prelude.{◌≡◌, ◌≢◌, ℕ, ◌+◌, true, List, length, nat_lt, if◌then◌else◌}
+use Rattle.std.specs.List.{Contains}
 use Rattle.lot_core.specs.World.{World, put, opening_with}
 use Rattle.lot_core.specs.Steps.{Allowed, after, seen, IsReached}
 use Rattle.lot_core.specs.Parts.{AsksOfThread}
@@ -19,7 +20,7 @@ use Rattle.lot_sems.specs.World.{word_of}
 use Rattle.lot_whole.specs.declared.views.Stand.{Stand}
 use Rattle.lot_whole.specs.declared.views.Stand.TheVariants.{Idle, AtBed, AtRest}
 use Rattle.lot_words.specs.CallersRule.{CallersRule}
-use Rattle.lot_whole.specs.Family.{Which, LotSize, scheme_of, part_in, IsEventIn}
+use Rattle.lot_whole.specs.Family.{Which, lock, cond, sem, LotSize, scheme_of, part_in, IsEventIn}
 
 -- ---- standing: what none of the three parts tells of a point
 abbrev pub stand_of : Point → Stand
@@ -66,6 +67,17 @@ abbrev pub word_in : LotSize → World → ℕ → ℕ
 word_in z s c =
     if nat_lt c z.locks then bits_of (s.locks.held c) (s.locks.parked c)
     else (if nat_lt c (z.locks + z.conds) then flag_word (s.conds.flag c) else word_of (s.sems.left c) (s.sems.parked c))
+
+-- ---- lines
+-- the line of a key of the kind
+abbrev pub line_in : World → Which → ℕ → List ℕ
+line_in s lock l = s.locks.line l
+line_in s cond c = s.conds.line c
+line_in s sem k = s.sems.line k
+
+-- the thread is in the line of a key, of whatever kind
+abbrev pub IsQueued : World → ℕ → Type 0
+IsQueued s t = (j : Which) × (c : ℕ) × Contains (line_in s j c) t
 
 -- ---- how many there are: no event changes it
 pub record Counts : Type 0 where

@@ -12,7 +12,7 @@ pub struct Lot<V> {
 }
 
 impl<V: Keeps> Kind for Lot<V> {
-    ghost use Rattle.lot_whole.specs.Rule.{scheme, one_outcome_of};
+    ghost use Rattle.lot_whole.specs.Rule.{scheme, one_outcome_of, no_letter_of};
     ghost use Rattle.lot_whole.specs.Lot.{no_pass, no_root, names};
 
     type Slot = Option<V>;
@@ -34,6 +34,8 @@ impl<V: Keeps> Kind for Lot<V> {
     ghost table_in = { λ o. o.locks };
 
     ghost one_outcome = { one_outcome_of V.Keeps };
+
+    ghost no_letter_in_line = { no_letter_of V.Keeps };
 }
 
 /// The right to act as one thread. Contracts see it as its table and a `PassView`, whose `own` is a `LotPassView`.

@@ -10,6 +10,7 @@ ghost use Rattle.lot_whole.specs.Family.{LotSize};
 ghost use Rattle.lot_whole.specs.Whole.{Joins, StandsMove};
 ghost use Rattle.lot_whole.specs.Lot.{lot_scheme};
 ghost use Rattle.lot_whole.specs.Headline.{OneState, Promises};
+ghost use Rattle.lot_whole.specs.Order.{LettersFollow};
 
 use lot_words::Keeps;
 
@@ -32,4 +33,11 @@ pub fn one_state_at_every_moment<V: Keeps>()
 pub fn the_rule_is_the_headline<V: Keeps>()
     ensures { (z : LotSize) (xs : List V) (s : State (Option V) (List (Right (LotPassView V) LotRootView)))
         (here : Ruled (lot_scheme V.Keeps z xs) s) → Promises V.Keeps z xs s here }
+{}
+
+/// A letter that a thread collects after it was queued at a key, by an Enlist, a Park or a SemPark, comes after the
+/// event that took it from the key's line: a Call or a Sweep of the condition, a Pass of the lock, or a SemPass of the
+/// semaphore. So it is in the log that `close` tells of, whose clause `history` has what is asked here.
+pub fn letters_follow()
+    ensures { LettersFollow }
 {}

@@ -3,8 +3,9 @@
 //! words, rights and values stand for, and the history without its notices is one run of the model from the opening
 //! to it. `close` hands that run back.
 //!
-//! A lot (lot_sync) runs on it, by lot_scheme. It takes the worlds and steps of lot_words, lot_conds and lot_sems as they
-//! are, whose tables stay usable alone. What a kind allows for its own words, the lot allows for all (`specs/Lifts`).
+//! A lot (lot_sync) runs on it, by lot_scheme. It takes the worlds and steps of lot_words, lot_conds and lot_sems as
+//! they are, whose tables stay usable alone. What a kind allows for its own words, the lot allows for all
+//! (`specs/Lifts`).
 //!
 //! ```text
 //!  LotPass  for each thread        LotRoot  for each key      LotWords  a word for each key, a letter for each thread
@@ -26,7 +27,7 @@
 //!
 //! A thread waits in one kind at most, so one word serves for its letters of all kinds, and its pass tells whose
 //! letter lies there. `chains` has whole waits, notifications, acquires and releases, each proved from the contracts
-//! of its calls alone.
+//! of its calls alone. No lot runs them: they show that what one call leaves is what the next one asks.
 //!
 //! Read `specs/Family` first (the three kinds as one family), then `specs/Whole`, `specs/Lot` (the rule),
 //! `specs/Standing` and `specs/Calls`, and `specs/Headline` and `specs/Closing` for what it promises.

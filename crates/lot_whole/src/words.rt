@@ -11,33 +11,10 @@ use lot_words::Keeps;
 use lot_words::exclusive::Exclusive;
 use std::marker::Model;
 
-/// The word of a lock that nobody has, and on which nobody is marked as parked.
-pub(crate) const UNHELD: u64 = 0;
-
-/// The word of a lock that a thread has, and the bit that says so.
-pub(crate) const HELD: u64 = 1;
-
-/// The word of a lock that nobody has, and on which threads are marked as parked.
-pub(crate) const LOCK_PARKED: u64 = 2;
-
-/// The word of a lock that a thread has, and on which threads are marked as parked.
-pub(crate) const HELD_AND_PARKED: u64 = 3;
-
-/// The flag of a condition on which nobody waits.
-pub(crate) const CLEAR: u64 = 0;
-
-/// The flag of a condition on which threads may wait.
-pub(crate) const HAS_WAITERS: u64 = 1;
-
-/// The word of a semaphore of which no permit is left, and on which nobody is marked as parked.
-pub(crate) const NONE_LEFT: u64 = 0;
-
-/// The word of a semaphore of which no permit is left, and on which threads are marked as parked; and the bit that
-/// says so.
-pub(crate) const SEM_PARKED: u64 = 1;
-
-/// One permit, in a word.
-pub(crate) const PERMIT: u64 = 2;
+// What the words of a lock, a condition and a semaphore are, as in the tables of one kind.
+pub(crate) use lot_conds::{CLEAR, HAS_WAITERS};
+pub(crate) use lot_sems::{NONE_LEFT, PARKED as SEM_PARKED, PERMIT};
+pub(crate) use lot_words::{HELD, HELD_AND_PARKED, PARKED as LOCK_PARKED, UNHELD};
 
 /// The words of all locks, conditions and semaphores, the letters of all threads, and a slot for each lock's value,
 /// under one rule.

@@ -1,5 +1,5 @@
 -- The turns of each call: whatever world the words stand for, its step leads to one that they stand for then.
-use Rattle.std.proofs.Common.{◌≡◌, ◌≢◌, ℕ, zero, suc, ◌*◌, ◌<◌, ◌%◌, ◌⊎◌, ◌==◌, Bool, true, false, List, [], length, get_or, set, bit_or, refl, sym, ap, subst, ◌∙◌, inl, inr, ⊎_elim, arith}
+use Rattle.std.proofs.Common.{◌≡◌, ◌≢◌, ℕ, zero, suc, ◌*◌, ◌<◌, ◌⊎◌, ◌==◌, Bool, true, false, List, [], length, get_or, set, bit_and, bit_or, refl, sym, ap, subst, ◌∙◌, inl, inr, ⊎_elim, arith}
 use Rattle.std.proofs.Common.{MatchBool, Option, None, Some}
 use mathlib.Core.Option as maybe
 use mathlib.Core.Option.{some, some-injective}
@@ -45,11 +45,11 @@ unowned : (o : ℕ) → is_owned o ≡ false → o ≡ 0
 unowned zero e = refl
 unowned (suc t) e = absurd (let f : true ≡ false = e in cc)
 
-even_unheld : (b : Bool) → (bits_of false b % 2 == 0) ≡ true
+even_unheld : (b : Bool) → (bit_and (bits_of false b) 1 == 0) ≡ true
 even_unheld false = refl
 even_unheld true = refl
 
-odd_held : (b : Bool) → (bits_of true b % 2 == 0) ≡ false
+odd_held : (b : Bool) → (bit_and (bits_of true b) 1 == 0) ≡ false
 odd_held false = refl
 odd_held true = refl
 
@@ -66,10 +66,10 @@ same_in p l x y a b = let e : InSlot x ≡ InSlot y = some-injective (InSlot x) 
 module _ {V Part : Type 0} (rule : CallersRule V Part) where
   -- ---- what each step tells
   abbrev pub Takes : PassView (LockPassView V) → ℕ → ℕ → PassView (LockPassView V) → Type 0
-  Takes p l n q = MatchBool (n % 2 == 0) (GetsBy rule p l (Makes (Take p.thread l) (Saw true)) q) (Notes p (wishing p.own l) (Makes (Take p.thread l) (Saw false)) q)
+  Takes p l n q = MatchBool (bit_and n 1 == 0) (GetsBy rule p l (Makes (Take p.thread l) (Saw true)) q) (Notes p (wishing p.own l) (Makes (Take p.thread l) (Saw false)) q)
 
   abbrev pub Tries : PassView (LockPassView V) → ℕ → ℕ → PassView (LockPassView V) → Type 0
-  Tries p l n q = MatchBool (n % 2 == 0) (GetsBy rule p l (Makes (Try p.thread l) (Saw true)) q) (Notes p p.own (Makes (Try p.thread l) (Saw false)) q)
+  Tries p l n q = MatchBool (bit_and n 1 == 0) (GetsBy rule p l (Makes (Try p.thread l) (Saw true)) q) (Notes p p.own (Makes (Try p.thread l) (Saw false)) q)
 
   abbrev pub TakesFree : PassView (LockPassView V) → ℕ → ℕ → PassView (LockPassView V) → Type 0
   TakesFree p l n q = MatchBool (n == 0) (GetsBy rule p l (Makes (Take p.thread l) (Saw true)) q) ((x : ℕ) × (x ≢ 0) × Notes p p.own (Finds p.thread l x) q)
@@ -194,7 +194,7 @@ module _ {V Part : Type 0} (rule : CallersRule V Part) (size : Size) (xs : List 
         ⊎_elim {C = PassTurn (scheme rule size xs) (word_at l) x p (Takes rule p l n) w ws hs}
         (λ unheld. got_turn unheld aims (Makes (Take t l) (Saw true)) (Takes rule p l n) x refl
         (refl, (row_take_free w size.threads size.locks ok.kept t fit.0 up' l here unheld value (aims' aims), refl))
-        (λ k. match_true (n % 2 == 0) _ _ (ap (λ z. z % 2 == 0) (free_word unheld) ∙ even_unheld (w.word l).parked) (value, found_ok unheld, (k, refl))))
+        (λ k. match_true (bit_and n 1 == 0) _ _ (ap (λ z. bit_and z 1 == 0) (free_word unheld) ∙ even_unheld (w.word l).parked) (value, found_ok unheld, (k, refl))))
         (λ held. turn_at (word_at l) x p (Takes rule p l n) w ws hs fit (λ z. wishing z l) w.word
         (record {
           words = words_stay size w (put w.pass t (wishing (w.pass t) l)) w.spot w.root ws ok.words refl (word_at l) x (same_word held x refl);
@@ -203,7 +203,7 @@ module _ {V Part : Type 0} (rule : CallersRule V Part) (size : Size) (xs : List 
         })
         (Makes (Take t l) (Saw false))
         (refl, (row_take_held w size.threads size.locks ok.kept t fit.0 up' l here held (aims' aims), refl))
-        (λ k. match_false (n % 2 == 0) _ _ (ap (λ z. z % 2 == 0) (held_word held) ∙ odd_held (w.word l).parked) (k, refl)))
+        (λ k. match_false (bit_and n 1 == 0) _ _ (ap (λ z. bit_and z 1 == 0) (held_word held) ∙ odd_held (w.word l).parked) (k, refl)))
         (owner_cases (w.word l).owner)
 
     try_turn : p.own.aim ≡ None → PassTurn (scheme rule size xs) (word_at l) (bit_or (get_or ws (word_at l) 0) 1) p (Tries rule p l (get_or ws (word_at l) 0)) w ws hs
@@ -214,10 +214,10 @@ module _ {V Part : Type 0} (rule : CallersRule V Part) (size : Size) (xs : List 
         ⊎_elim {C = PassTurn (scheme rule size xs) (word_at l) x p (Tries rule p l n) w ws hs}
         (λ unheld. got_turn unheld aims (Makes (Try t l) (Saw true)) (Tries rule p l n) x refl
         (refl, (row_try_free w size.threads size.locks ok.kept t fit.0 up' l here unheld value (aim' ∙ aim), refl))
-        (λ k. match_true (n % 2 == 0) _ _ (ap (λ z. z % 2 == 0) (free_word unheld) ∙ even_unheld (w.word l).parked) (value, found_ok unheld, (k, refl))))
+        (λ k. match_true (bit_and n 1 == 0) _ _ (ap (λ z. bit_and z 1 == 0) (free_word unheld) ∙ even_unheld (w.word l).parked) (value, found_ok unheld, (k, refl))))
         (λ held. pass_stays (scheme rule size xs) (word_at l) x w ws hs ok (same_word held x refl) p fit (Makes (Try t l) (Saw false))
         (refl, (row_try_held w size.threads size.locks ok.kept t fit.0 up' l here held (aim' ∙ aim), refl)) (Tries rule p l n)
-        (λ k. match_false (n % 2 == 0) _ _ (ap (λ z. z % 2 == 0) (held_word held) ∙ odd_held (w.word l).parked) (k, refl)))
+        (λ k. match_false (bit_and n 1 == 0) _ _ (ap (λ z. bit_and z 1 == 0) (held_word held) ∙ odd_held (w.word l).parked) (k, refl)))
         (owner_cases (w.word l).owner)
 
     -- where the word is 0

@@ -1,12 +1,12 @@
 -- The rule of a table of lock words: there is a world that the words, the slots and the rights stand for, with lawful values, and it tells the lock part of the model.
 use Rattle.std.specs.Prelude.{◌≡◌, ℕ, zero, suc, ◌==◌, ◌⊎◌, false, List, [], length, replicate, Option, Some, None}
 use Rattle.std.specs.List.{Contains}
-use Rattle.std.proofs.Common.{sym, ◌∙◌}
+use Rattle.std.proofs.Common.{sym, ap, ◌∙◌}
 use mathlib.Core.Option as maybe
 use Rattle.lot_core.specs.Parts.{LockPart, LockStep}
 use Rattle.lot_rights.specs.Rule.{Scheme}
-use Rattle.lot_rights.specs.Settled.{HasOneOutcome}
-use Rattle.lot_rights.specs.World.{Spot, awake, queued, owed, lying, Sizes, letters_of, WordsFit, PassIs, RootIs}
+use Rattle.lot_rights.specs.Settled.{HasOneOutcome, LinesHaveNoLetter}
+use Rattle.lot_rights.specs.World.{Spot, awake, queued, owed, lying, Sizes, letter_of, letters_of, WordsFit, PassIs, RootIs}
 use Rattle.lot_words.specs.declared.views.Hold.TheVariants.{NotHeld}
 use Rattle.lot_words.specs.declared.views.LockPassView.{LockPassView}
 use Rattle.lot_words.specs.declared.views.LockRootView.{LockRootView}
@@ -44,6 +44,14 @@ part_of w = record {
 abbrev pub opening_part : LockPart
 opening_part = record { locks = record { held = λ l. false; parked = λ l. false; line = λ l. []; has = λ l t. false }; wants = λ t. None }
 
+-- the word of a lock
+abbrev pub word_in : LockPart → ℕ → ℕ
+word_in a l = bits_of (a.locks.held l) (a.locks.parked l)
+
+-- the thread is in a lock's line
+abbrev pub IsQueued : LockPart → ℕ → Type 0
+IsQueued a t = (l : ℕ) × Contains (a.locks.line l) t
+
 -- ---- the rights at the opening, where xs are the values: no lock is held, no value is out, and the opening values were seen
 abbrev pub fresh_pass : {V : Type 0} → List V → LockPassView V
 fresh_pass xs = record { holds = replicate (length xs) NotHeld; aim = None; asleep = false; places = replicate (length xs) Out; seen = xs }
@@ -80,7 +88,8 @@ module _ {V Part : Type 0} (rule : CallersRule V Part) where
     told_by = λ w. record { part = part_of w; letters = letters_of w.spot };
     start = record { part = opening_part; letters = λ t. 0 };
     Step = LockStep size.threads size.locks;
-    word_in = λ a l. bits_of (a.locks.held l) (a.locks.parked l);
+    word_in = word_in;
+    IsQueued = IsQueued;
     threads = size.threads;
     first_key = 0;
     keys = size.locks;
@@ -90,3 +99,6 @@ module _ {V Part : Type 0} (rule : CallersRule V Part) where
 
   pub one_outcome : (size : Size) (xs : List V) → HasOneOutcome (scheme size xs)
   one_outcome size xs a b c e s h k = h.2 ∙ sym k.2
+
+  pub no_letter_in_line : (size : Size) (xs : List V) → LinesHaveNoLetter (scheme size xs)
+  no_letter_in_line size xs w ws hs ok t h = ap letter_of ((ok.kept.threads t).in_line h.0 h.1)

@@ -11,7 +11,7 @@ pub struct Locks<V> {
 }
 
 impl<V: Keeps> Kind for Locks<V> {
-    ghost use Rattle.lot_words.specs.Rule.{scheme, no_pass, no_root, names, one_outcome};
+    ghost use Rattle.lot_words.specs.Rule.{scheme, no_pass, no_root, names, one_outcome, no_letter_in_line};
 
     type Slot = Option<V>;
 
@@ -32,6 +32,8 @@ impl<V: Keeps> Kind for Locks<V> {
     ghost table_in = { λ o. o.locks };
 
     ghost one_outcome = { λ start. one_outcome V.Keeps start.size start.values.value.items };
+
+    ghost no_letter_in_line = { λ start. no_letter_in_line V.Keeps start.size start.values.value.items };
 }
 
 /// The right to act as one thread on the locks. Contracts see it as its table and a `PassView`, whose `own` is a `LockPassView`.

@@ -45,4 +45,4 @@ pub mod words;
 pub use keeps::Keeps;
 pub use kind::{LockPass, LockRoot};
 pub use lot_rights::{Name, Named, OfOpening, WordsFault};
-pub use words::LockWords;
+pub use words::{HELD, HELD_AND_PARKED, LockWords, PARKED, UNHELD};

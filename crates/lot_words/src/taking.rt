@@ -26,7 +26,7 @@ impl<V: Keeps> LockWords<V> {
     {
         let words = &self.words;
         let (pass, was) = words.fetch_or::<Brand, usize>(pass, word_of_key(key), HELD, key);
-        (pass, was % 2 == 0)
+        (pass, was & HELD == 0)
     }
 
     /// Gets the lock where it is unheld, and else the thread wants it from now on: the first step of WTF's `Lock::lock`, and each
@@ -43,7 +43,7 @@ impl<V: Keeps> LockWords<V> {
     {
         let words = &self.words;
         let (pass, found) = words.fetch_or::<Brand, usize>(pass, word_of_key(key), HELD, key);
-        (pass, found % 2 == 0)
+        (pass, found & HELD == 0)
     }
 
     /// Gets the lock where its word is 0, by one compare-exchange; the event is Take. Else no event is made, the pass is as it was, and

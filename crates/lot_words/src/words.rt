@@ -10,16 +10,16 @@ use lot_rights::{OfOpening, WordsOf};
 use std::marker::Model;
 
 /// The word of a lock that nobody has, and on which nobody is marked as parked.
-pub(crate) const UNHELD: u64 = 0;
+pub const UNHELD: u64 = 0;
 
 /// The word of a lock that a thread has, and the bit that says so.
-pub(crate) const HELD: u64 = 1;
+pub const HELD: u64 = 1;
 
-/// The word of a lock that nobody has, and on which threads are marked as parked.
-pub(crate) const PARKED: u64 = 2;
+/// The word of a lock that nobody has, and on which threads are marked as parked, and the bit that says so.
+pub const PARKED: u64 = 2;
 
 /// The word of a lock that a thread has, and on which threads are marked as parked.
-pub(crate) const HELD_AND_PARKED: u64 = 3;
+pub const HELD_AND_PARKED: u64 = 3;
 
 /// The words of all locks, the letters of all threads, and a slot for each lock's value, under the lock rule.
 pub struct LockWords<V: Keeps> {

@@ -20,7 +20,8 @@ load-requires g c =
     (one_shown c.first.inside.seat.me _ _ c.first.view_is c.first.inside.one)
     (one_shown c.second.inside.seat.me _ _ c.second.view_is c.second.inside.one) c.join_seat.ensures.2 in
     let here = sym (ap (λ (x : WordsShown _). x.table) c.self.view_is) in
-    ready_two g.K.Kind.scheme _ _ c.self.view_is g.K.Kind.no_pass c.args.first.pass c.args.second.pass _
+    ready_two g.K.Kind.scheme g.K.Kind.no_letter_in_line _ _ c.self.view_is
+    g.K.Kind.no_pass c.args.first.pass c.args.second.pass _
     (c.join_seat.ensures.0 ∙ (ap (λ (x : PassShown _). x.table) c.first.view_is ∙ (c.requires.table.0 ∙ here)))
     c.self.inside.some c.join_seat.new.seat.id c.join_seat.new.seat.me two g.N.TellsTwo.fact c.requires.tells
 

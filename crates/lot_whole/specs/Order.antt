@@ -1,0 +1,82 @@
+-- In which order: a letter that a thread collects after it was queued comes after the event that took it from the line.
+use Rattle.std.specs.Prelude.{◌≡◌, ℕ, ◌*◌, ◌<◌, ◌++◌, true, List, [], ◌∷◌, map, Some}
+use Rattle.std.specs.List.{Contains}
+use Rattle.lot_core.specs.World.{World}
+use Rattle.lot_core.specs.Steps.{after_all, seen}
+use Rattle.lot_events.specs.declared.events.Event.TheVariants.{Park, Pass, Enlist, Call, Sweep, SemPark, SemPass}
+use Rattle.lot_events.specs.declared.events.Seen.TheVariants.{Bool as Saw, Done}
+use Rattle.lot_rights.specs.declared.views.Access.{Access}
+use Rattle.lot_rights.specs.declared.views.Access.TheVariants.{Makes, Collects}
+use Rattle.lot_rights.specs.declared.views.Entry.{Entry}
+use Rattle.lot_rights.specs.History.{doer, entries_of, Telling, no_letters, Continues, Run, events_in}
+use Rattle.lot_whole.specs.Family.{Which, lock, cond, sem, LotSize}
+use Rattle.lot_whole.specs.Whole.{WholeStep, word_in, line_in, IsQueued, opening_of}
+use Rattle.lot_whole.specs.Headline.{event_of}
+
+-- the log is the history of a lot of this size, from the opening to what b tells
+abbrev pub IsLogOf : LotSize → List Entry → Telling World → Type 0
+IsLogOf z log b = Run (Continues WholeStep (word_in z) IsQueued) (no_letters (opening_of z)) 0 log b
+
+-- the state to which its events lead
+abbrev pub state_after : LotSize → List Entry → World
+state_after z log = after_all (opening_of z) (map event_of (events_in log))
+
+-- by the access the thread t is queued at the key c
+abbrev pub Queues : Which → ℕ → ℕ → Access → Type 0
+Queues lock t c a = a ≡ Makes (Park t c) (Saw true)
+Queues cond t c a = (l : ℕ) × (a ≡ Makes (Enlist t c l) Done)
+Queues sem t c a = a ≡ Makes (SemPark t c) (Saw true)
+
+-- by such an access threads are taken from the line of the key c
+abbrev pub Dequeues : Which → ℕ → Access → Type 0
+Dequeues lock c (Makes (Pass u d fair more) saw) = d ≡ c
+Dequeues cond c (Makes (Call u d n more) saw) = d ≡ c
+Dequeues cond c (Makes (Sweep u d) saw) = d ≡ c
+Dequeues sem c (Makes (SemPass u d more) saw) = d ≡ c
+Dequeues _ _ _ = ⊥
+
+-- what the access saw is what its event sees in this state
+abbrev pub SeesIn : World → Access → Type 0
+SeesIn s (Makes e saw) = saw ≡ seen s e
+SeesIn s _ = Unit {0}
+
+-- the accesses that were made with the right of the number i, in their order
+abbrev pub accesses_of : ℕ → List Entry → List Access
+accesses_of i log = map (λ (x : Entry). x.access) (entries_of i log)
+
+-- Of a log in which the thread t has made the accesses `front`, then x, then those `between`, and then y: it has an
+-- entry between x and y by which t was taken from the line of the key c. That is an event of a thread, whose pass shows it
+pub record WasTaken (z : LotSize) (j : Which) (t c : ℕ) (log : List Entry) (front : List Access) (x : Access)
+    (between : List Access) (y : Access) : Type 0 where
+  -- the log: what was made before x, x, and so on to y and what was made after it
+  pub before : List Entry
+  pub first : Entry
+  pub waiting : List Entry
+  pub taking : Entry
+  pub since : List Entry
+  pub last : Entry
+  pub after : List Entry
+  pub there : log ≡ before ++ first ∷ (waiting ++ taking ∷ (since ++ last ∷ after))
+  pub front_is : accesses_of (2 * t) before ≡ front
+  pub first_is : first.access ≡ x
+  pub between_is : accesses_of (2 * t) (waiting ++ taking ∷ since) ≡ between
+  pub last_is : last.access ≡ y
+  -- what was done
+  pub takes : Dequeues j c taking.access
+  pub saw : SeesIn (state_after z (before ++ first ∷ waiting)) taking.access
+  pub was_in : Contains (line_in (state_after z (before ++ first ∷ waiting)) j c) t
+  pub is_out : ¬ Contains (line_in (state_after z ((before ++ first ∷ waiting) ++ taking ∷ [])) j c) t
+  -- and by whom
+  pub maker : ℕ
+  pub is_thread : maker < z.threads
+  pub made_by : doer taking.access ≡ 2 * maker
+  pub shown : Contains (entries_of (2 * maker) log) taking
+  pub made : Contains (accesses_of (2 * maker) log) taking.access
+
+-- Of each log, and of each thread t: between its access x, by which it was queued at a key, and its later access y, by
+-- which it collected a letter, it was taken from the key's line
+abbrev pub LettersFollow : Type 0
+LettersFollow = (z : LotSize) (log : List Entry) (b : Telling World) → IsLogOf z log b
+    → (j : Which) (t c token : ℕ) (front : List Access) (x : Access) (between : List Access) (y : Access) (back : List Access)
+    → accesses_of (2 * t) log ≡ front ++ x ∷ (between ++ y ∷ back) → Queues j t c x → y ≡ Collects t (Some token)
+    → WasTaken z j t c log front x between y
