@@ -1,17 +1,18 @@
 -- One wait more on a condition, and a lock that was got and then waited with.
-use Rattle.std.proofs.Common.{◌≡◌, ◌≢◌, ℕ, zero, suc, ◌+◌, ◌<◌, Bool, true, false, List, [], ◌∷◌, length, get_or, set, slice_index, Some, refl, sym, ap, subst, ◌∙◌, arith}
-use Rattle.std.proofs.lemmas.List.{get_or-set_same, set-set}
+use Rattle.std.proofs.Common.{◌≡◌, ◌≢◌, ℕ, zero, suc, ◌+◌, ◌<◌, Bool, true, false, List, [], ◌∷◌, ◌++◌, length, get_or, set, slice_index, refl, sym, ap, subst, ◌∙◌, append_assoc, arith}
+use Rattle.std.proofs.lemmas.List.{get_or-set_same, set-set, append-nil}
 use Rattle.atomic_table.proofs.Lists.{set_here}
 use mathlib.Core.Option.{some}
 use lib.ListN.{get_elem?}
 use Rattle.lot_words.specs.CallersRule.{CallersRule}
-use Rattle.lot_locks.specs.declared.released.Released.{Released}
-use Rattle.lot_locks.specs.Released.{IsFitting}
-use Rattle.lot_sync.specs.Lot.{LotView, PassView, HeldView, Owns, OwnsNone, HasSeen, IsWide, owning, leaving, waking}
+use Rattle.lot_scheme.specs.Words.{GetWord}
+use Rattle.lot_sync.specs.Lot.{LotView, PassView, HeldView, ◌≈◌, Owns, OwnsNone, HasSeen, IsWide, owning, leaving, waking}
+use Rattle.lot_sync.specs.Words.{Adds, WaitedWord}
 use Rattle.lot_sync.specs.Values.{Gets, MayGiveBack, WaitsAndGets}
 use Rattle.lot_sync.specs.Holding.{Holding}
-use Rattle.lot_sync.proofs.Holdings.{may_go_back, got_holds}
-use Rattle.lot_calls.specs.Waits.{woken_from, AfterWaits, WaitsOn, GetsAfter}
+use Rattle.lot_sync.proofs.Holdings.{near_of, may_go_back, got_holds}
+use Rattle.lot_calls.specs.Words.{WaitsWord, GetAfterWord}
+use Rattle.lot_calls.specs.Waits.{AfterWaits, WaitsOn, GetsAfter}
 
 -- what was cleared and set again, and was set before, is as before
 pub clear_back : (bs : List Bool) (k : ℕ) → get_or bs k false ≡ true → set (set bs k false) k true ≡ bs
@@ -29,37 +30,50 @@ raised_more ns c n near =
 
 module _ {V : Type 0} where
   -- after one wait more: the pass that waited n times let the lock go, was woken and got the lock again
-  pub waits_once_more : (before pass after : PassView V) (key cond now n : ℕ) (left found before_found : V) (became : Released) → cond < length before.woken → IsFitting became false now
-      → AfterWaits before key cond now before_found n pass → after ≡ owning (waking (leaving pass key left became) cond) key found → HasSeen after key found → AfterWaits before key cond now found (suc n) after
-  waits_once_more before pass after key cond now zero left found before_found became near fits same went seen = (
-    became,
-    fits,
-    went ∙ (ap (λ (p : PassView V). owning (waking (leaving p key left became) cond) key found) same ∙ (λ i. record {
+  pub waits_once_more : (before pass after : PassView V) (key cond n : ℕ) (left found before_found : V) → cond < length before.woken
+      → AfterWaits before key cond before_found n pass → after ≈ owning (waking (leaving pass key left) cond) key found → HasSeen after key found
+      → AfterWaits before key cond found (suc n) after
+  waits_once_more before pass after key cond zero left found before_found near same went seen = (
+    went ∙ (ap (λ (p : PassView V). record (owning (waking (leaving p key left) cond) key found) { made = after.made }) same ∙ (λ i. record {
       thread = before.thread;
       owns = set-set before.owns key false true i;
       seen = set-set before.seen key left found i;
-      released = Some became;
       called = before.called;
       woken = set before.woken cond (slice_index before.woken cond + 1);
       permits = before.permits;
-      freed = before.freed;
+      made = after.made;
     })),
     seen,
   )
-  waits_once_more before pass after key cond now (suc n) left found before_found became near fits waited went seen = (
-    became,
-    fits,
-    went ∙ (ap (λ (p : PassView V). owning (waking (leaving p key left became) cond) key found) waited.2 ∙ (λ i. record {
+  waits_once_more before pass after key cond (suc n) left found before_found near waited went seen = (
+    went ∙ (ap (λ (p : PassView V). record (owning (waking (leaving p key left) cond) key found) { made = after.made }) waited.0 ∙ (λ i. record {
       thread = before.thread;
       owns = (set-set (set before.owns key true) key false true ∙ set-set before.owns key true true) i;
       seen = (set-set (set before.seen key before_found) key left found ∙ set-set before.seen key before_found found) i;
-      released = Some became;
       called = before.called;
       woken = raised_more before.woken cond (suc n) near i;
       permits = before.permits;
-      freed = before.freed;
+      made = after.made;
     })),
     seen,
+  )
+
+  -- the accesses of one wait more
+  pub made_once_more : (before pass after : PassView V) (key k cond now n : ℕ) → k ≡ key → pass.thread ≡ before.thread → Adds before.made (WaitsWord before.thread cond key now n) pass.made
+      → Adds pass.made (WaitedWord pass.thread cond k now) after.made → Adds before.made (WaitsWord before.thread cond key now (suc n)) after.made
+  made_once_more before pass after key k cond now n same thread (front, pass_is, waits) (last, after_is, waited) = (
+    front ++ last,
+    after_is ∙ (ap (λ ds. ds ++ last) pass_is ∙ append_assoc before.made front last),
+    (front, last, waits, subst (λ l. WaitedWord before.thread cond l now last) same (subst (λ t. WaitedWord t cond k now last) thread waited), refl),
+  )
+
+  -- those of a lock that was got and then waited with
+  pub made_until : (before got after : PassView V) (key k cond now n : ℕ) → k ≡ key → got.thread ≡ before.thread → Adds before.made (GetWord before.thread key) got.made
+      → Adds got.made (WaitsWord got.thread cond k now n) after.made → Adds before.made (GetAfterWord before.thread cond key now n) after.made
+  made_until before got after key k cond now n same thread (get, got_is, word) (waits, after_is, waited) = (
+    get ++ waits,
+    after_is ∙ (ap (λ ds. ds ++ waits) got_is ∙ append_assoc before.made get waits),
+    (get, waits, word, subst (λ l. WaitsWord before.thread cond l now n waits) same (subst (λ t. WaitsWord t cond k now n waits) thread waited), refl),
   )
 
 module _ {V Part : Type 0} (rule : CallersRule V Part) where
@@ -68,6 +82,7 @@ module _ {V Part : Type 0} (rule : CallersRule V Part) where
   not_yet before held cond now back = record {
     count = 0;
     after_is = refl;
+    made = ([], sym (append-nil before.made), refl);
     same = λ _. refl;
     key_is = refl;
     kept = back.kept;
@@ -81,10 +96,12 @@ module _ {V Part : Type 0} (rule : CallersRule V Part) where
 
   -- one wait more
   pub once_more : (lot : LotView) (before pass after : PassView V) (held mid found : HeldView V) (cond now : ℕ) → held.key < lot.locks → cond < length before.woken → IsWide lot pass → Owns pass held.key
-      → WaitsOn rule before held cond now mid pass → WaitsAndGets rule pass mid cond now found after → WaitsOn rule before held cond now found after
-  once_more lot before pass after held mid found cond now is_lock near wide owned waits again = record {
+      → WaitsOn rule before held cond now mid pass → WaitsAndGets rule pass mid cond found after → Adds pass.made (WaitedWord pass.thread cond mid.key now) after.made
+      → WaitsOn rule before held cond now found after
+  once_more lot before pass after held mid found cond now is_lock near wide owned waits gets made = record {
     count = suc waits.count;
-    after_is = waits_once_more before pass after held.key cond now waits.count mid.value found.value mid.value became near again.1 waits.after_is went seen;
+    after_is = waits_once_more before pass after held.key cond waits.count mid.value found.value mid.value near waits.after_is went seen;
+    made = made_once_more before pass after held.key mid.key cond now waits.count waits.key_is waits.thread waits.made made;
     same = λ none. absurd (omega (arith, none));
     key_is = gets.key_is ∙ waits.key_is;
     kept = subst (λ k. rule.keeps k found.value) waits.key_is gets.kept;
@@ -93,30 +110,24 @@ module _ {V Part : Type 0} (rule : CallersRule V Part) where
     thread = ap (λ (p : PassView V). p.thread) went ∙ waits.thread;
     same_owns = ap (λ (p : PassView V). p.owns) went ∙ (clear_back pass.owns held.key owned ∙ waits.same_owns);
     same_permits = ap (λ (p : PassView V). p.permits) went ∙ waits.same_permits;
-    back = may_go_back rule (waking (leaving pass mid.key mid.value became) cond) after mid.key found found.value gets
+    back = may_go_back rule (waking (leaving pass mid.key mid.value) cond) after mid.key found found.value gets
         (subst (λ k. rule.keeps k found.value) (sym gets.key_is) gets.kept) (rule.grows_itself found.value) (λ t else. refl);
   }
     where
-      became : Released
-      became = again.0
+      went : after ≈ owning (waking (leaving pass held.key mid.value) cond) held.key found.value
+      went = subst (λ k. after ≈ owning (waking (leaving pass k mid.value) cond) k found.value) waits.key_is gets.after_is
 
-      gets : Gets rule (waking (leaving pass mid.key mid.value became) cond) mid.key found after
-      gets = again.2
-
-      went : after ≡ owning (waking (leaving pass held.key mid.value became) cond) held.key found.value
-      went = gets.after_is ∙ ap (λ k. owning (waking (leaving pass k mid.value became) cond) k found.value) waits.key_is
-
-      saw : HasSeen (waking (leaving pass mid.key mid.value became) cond) mid.key mid.value
+      saw : HasSeen (waking (leaving pass mid.key mid.value) cond) mid.key mid.value
       saw = set_here pass.seen mid.key mid.value (subst (λ n. mid.key < n) (sym wide.seen) (subst (λ k. k < lot.locks) (sym waits.key_is) is_lock))
 
       seen : HasSeen after held.key found.value
       seen = subst (λ k. HasSeen after k found.value) waits.key_is gets.seen
 
-  seen_after : (got after : PassView V) (held found : HeldView V) (cond now n : ℕ) → AfterWaits got held.key cond now found.value n after → (n ≡ 0 → found ≡ held) → HasSeen got held.key held.value
+  seen_after : (got after : PassView V) (held found : HeldView V) (cond n : ℕ) → AfterWaits got held.key cond found.value n after → (n ≡ 0 → found ≡ held) → HasSeen got held.key held.value
       → HasSeen after held.key found.value
-  seen_after got after held found cond now zero same is saw =
+  seen_after got after held found cond zero same is saw =
       subst (λ (h : HeldView V). HasSeen after held.key h.value) (sym (is refl)) (subst (λ (p : PassView V). HasSeen p held.key held.value) (sym same) saw)
-  seen_after got after held found cond now (suc n) waited is saw = waited.3
+  seen_after got after held found cond (suc n) waited is saw = waited.1
 
   -- the lock was got, and then waited with
   pub got_after : (before got after : PassView V) (key cond now : ℕ) (held found : HeldView V) → Gets rule before key held got → WaitsOn rule got held cond now found after → GetsAfter rule before key found after
@@ -129,7 +140,7 @@ module _ {V Part : Type 0} (rule : CallersRule V Part) where
     same_owns = waits.same_owns ∙ ap (λ (p : PassView V). p.owns) gets.after_is;
     same_permits = waits.same_permits ∙ ap (λ (p : PassView V). p.permits) gets.after_is;
     seen = subst (λ k. HasSeen after k found.value) gets.key_is
-        (seen_after got after held found cond now waits.count waits.after_is waits.same (subst (λ k. HasSeen got k held.value) (sym gets.key_is) gets.seen));
+        (seen_after got after held found cond waits.count waits.after_is waits.same (subst (λ k. HasSeen got k held.value) (sym gets.key_is) gets.seen));
     back = waits.back;
   }
 
@@ -141,5 +152,7 @@ module _ {V Part : Type 0} (rule : CallersRule V Part) where
         owns = subst (λ k. Owns after k) (sym waits.key_is) (ap (λ bs. get_or bs held.key false) waits.same_owns ∙ holds.owns);
         alone = λ k other owned. holds.alone k (λ e. other (e ∙ sym waits.key_is)) (sym (ap (λ bs. get_or bs k false) waits.same_owns) ∙ owned);
         no_permit = λ k. ap (λ xs. slice_index xs k) waits.same_permits ∙ holds.no_permit k;
+        knows = subst (λ k. k < length after.seen) (sym waits.key_is) (near_of after.seen held.key found.value
+            (seen_after got after held found cond waits.count waits.after_is waits.same (subst (λ k. HasSeen got k held.value) (sym gets.key_is) gets.seen)));
         grown = waits.back.grown;
       }

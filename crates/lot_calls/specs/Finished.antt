@@ -1,17 +1,30 @@
--- The end of a lot: all its passes were left, and their lot is closed.
+-- The end of a lot: all its passes were taken, and it is closed.
 use Rattle.std.specs.Prelude.{◌≡◌, ℕ, ◌<◌, List, length}
 use Rattle.std.specs.List.{All, Any}
 use Rattle.lot_words.specs.CallersRule.{CallersRule}
-use Rattle.lot_sync.specs.Lot.{LotView, PassView, OwnsNone, IsLedgerOf, rested}
+use Rattle.lot_sync.specs.Lot.{LotView, PassView, OwnsNone, IsWide, HasGrown, IsLedgerOf, rested}
 use Rattle.lot_sync.specs.Values.{GoesOnTo}
 
--- there was one pass for each thread, which owned no lock, held no permit and kept what passes that are in keep: the values go on from all that each had seen, and the ledger is
--- that of what they had counted
-pub record IsFinished {V Part : Type 0} (rule : CallersRule V Part) (lot : LotView) (values : List V) (called woken : List ℕ) : Type 0 where
-  pub passes : List (PassView V)
-  pub count : length passes ≡ lot.threads
-  pub all : (t : ℕ) → t < lot.threads → Any (λ (p : PassView V). p.thread ≡ t) passes
-  pub free : All OwnsNone passes
-  pub rests : All (λ (p : PassView V). rule.rests (rested p)) passes
-  pub goes_on : All (GoesOnTo rule values) passes
-  pub ledger : IsLedgerOf lot passes called woken
+module _ {V Part : Type 0} (rule : CallersRule V Part) where
+  -- a pass that was in the lot: it owns no lock and holds no permit, keeps what passes that are in keep, and what it has seen grew from the
+  -- opening values
+  pub record IsReady (opening : List V) (lot : LotView) (p : PassView V) : Type 0 where
+    pub is_thread : p.thread < lot.threads
+    pub free : OwnsNone p
+    pub rests : rule.rests (rested p)
+    pub wide : IsWide lot p
+    pub grown : HasGrown rule.grows opening p
+
+  -- the passes of all threads, which were in the lot
+  pub record AreTaken (opening : List V) (lot : LotView) (passes : List (PassView V)) : Type 0 where
+    pub count : length passes ≡ lot.threads
+    pub all : (t : ℕ) → t < lot.threads → Any (λ (p : PassView V). p.thread ≡ t) passes
+    pub ready : All (IsReady opening lot) passes
+
+  -- the passes of all threads were taken out of the lot: the values go on from all that each had seen, and the ledger is that of what they
+  -- had counted
+  pub record IsFinished (opening : List V) (lot : LotView) (values : List V) (called woken : List ℕ) : Type 0 where
+    pub passes : List (PassView V)
+    pub taken : AreTaken opening lot passes
+    pub goes_on : All (GoesOnTo rule values) passes
+    pub ledger : IsLedgerOf lot passes called woken

@@ -1,3 +1,4 @@
+pub mod Words
 pub mod Visits
 pub mod Waits
 pub mod Finished

@@ -1,9 +1,7 @@
 -- One visit of a lock: it was got, work was done on its value, and it was let go.
-use Rattle.std.specs.Prelude.{◌≡◌, ◌≢◌, ℕ, false}
+use Rattle.std.specs.Prelude.{◌≡◌, ◌≢◌, ℕ}
 use Rattle.lot_words.specs.CallersRule.{CallersRule}
-use Rattle.lot_locks.specs.declared.released.Released.{Released}
-use Rattle.lot_locks.specs.Released.{IsFitting}
-use Rattle.lot_sync.specs.Lot.{PassView, HasSeen, owning, leaving}
+use Rattle.lot_sync.specs.Lot.{PassView, ◌≈◌, HasSeen, owning, leaving}
 
 module _ {V Part : Type 0} (rule : CallersRule V Part) where
   -- a thread that found the first value in the lock may leave the second: it keeps the rule, has grown, and has each other thread's part
@@ -14,13 +12,11 @@ module _ {V Part : Type 0} (rule : CallersRule V Part) where
 
   -- the lock was got with a value that keeps the rule, goes on from all that the pass had seen and has its own part unchanged; it was let go
   -- with the value that was left, which the pass has seen now; what it owns is as before
-  pub record Visits (before : PassView V) (key now : ℕ) (found left : V) (after : PassView V) : Type 0 where
+  pub record Visits (before : PassView V) (key : ℕ) (found left : V) (after : PassView V) : Type 0 where
     pub kept : rule.keeps key found
     pub grown : (u : V) → HasSeen before key u → rule.grows u found
     pub mine : (u : V) → HasSeen before key u → rule.part before.thread u ≡ rule.part before.thread found
     pub may : MayBecome key before.thread found left
-    pub became : Released
-    pub fits : IsFitting became false now
-    pub after_is : after ≡ leaving (owning before key found) key left became
+    pub after_is : after ≈ leaving (owning before key found) key left
     pub same_owns : after.owns ≡ before.owns
     pub seen : HasSeen after key left

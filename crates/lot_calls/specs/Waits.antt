@@ -1,28 +1,28 @@
 -- Waits in a row on one condition, with one lock, until its value is as wanted.
-use Rattle.std.specs.Prelude.{◌≡◌, ℕ, zero, suc, ◌+◌, false, true, slice_set, slice_index, Some}
+use Rattle.std.specs.Prelude.{◌≡◌, ℕ, zero, suc, ◌+◌, true, slice_set, slice_index}
 use Rattle.lot_words.specs.CallersRule.{CallersRule}
-use Rattle.lot_locks.specs.declared.released.Released.{Released}
-use Rattle.lot_locks.specs.Released.{IsFitting}
-use Rattle.lot_sync.specs.Lot.{PassView, HeldView, HasSeen, owning}
+use Rattle.lot_sync.specs.Lot.{PassView, ◌≈◌, HeldView, HasSeen, owning}
+use Rattle.lot_sync.specs.Words.{Adds}
 use Rattle.lot_sync.specs.Values.{MayGiveBack}
+use Rattle.lot_calls.specs.Words.{WaitsWord}
 
 module _ {V : Type 0} where
-  -- so many waits more on the condition have ended, and this became of the lock at the last of them
-  abbrev pub woken_from : PassView V → ℕ → ℕ → Released → PassView V
-  woken_from p cond count became = record p { woken = slice_set p.woken cond (slice_index p.woken cond + count); released = Some became }
+  -- so many waits more on the condition have ended
+  abbrev pub woken_from : PassView V → ℕ → ℕ → PassView V
+  woken_from p cond count = record p { woken = slice_set p.woken cond (slice_index p.woken cond + count) }
 
   -- the pass p after so many waits, of which the last ended with this value in the lock
-  abbrev pub AfterWaits : PassView V → ℕ → ℕ → ℕ → V → ℕ → PassView V → Type 0
-  AfterWaits p key cond now found zero q = q ≡ p
-  AfterWaits p key cond now found (suc n) q =
-      (became : Released) × IsFitting became false now × (q ≡ woken_from (owning p key found) cond (suc n) became) × HasSeen q key found
+  abbrev pub AfterWaits : PassView V → ℕ → ℕ → V → ℕ → PassView V → Type 0
+  AfterWaits p key cond found zero q = q ≈ p
+  AfterWaits p key cond found (suc n) q = (q ≈ woken_from (owning p key found) cond (suc n)) × HasSeen q key found
 
 module _ {V Part : Type 0} (rule : CallersRule V Part) where
   -- the pass waited some times, or not at all; the lock is owned as before, with a value that keeps the rule, goes on from what was held and has
   -- the pass's own part unchanged; without a wait it is what was held. It may be given back
   pub record WaitsOn (before : PassView V) (held : HeldView V) (cond now : ℕ) (found : HeldView V) (after : PassView V) : Type 0 where
     pub count : ℕ
-    pub after_is : AfterWaits before held.key cond now found.value count after
+    pub after_is : AfterWaits before held.key cond found.value count after
+    pub made : Adds before.made (WaitsWord before.thread cond held.key now count) after.made
     pub same : count ≡ 0 → found ≡ held
     pub key_is : found.key ≡ held.key
     pub kept : rule.keeps held.key found.value

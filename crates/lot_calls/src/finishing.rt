@@ -1,8 +1,8 @@
 //! The end of a lot.
 ghost use Rattle.std.specs.Prelude.{◌≡◌, ◌≤◌, List, length, vec_len, vec_capacity};
-ghost use Rattle.lot_sync.specs.Lot.{PassView, OwnsNone, rested};
+ghost use Rattle.lot_sync.specs.Lot.{PassView};
 ghost use Rattle.lot_sync.specs.Closing.{HasOneRun};
-ghost use Rattle.lot_calls.specs.Finished.{IsFinished};
+ghost use Rattle.lot_calls.specs.Finished.{IsReady, AreTaken, IsFinished};
 
 use lot_sync::{Ledger, Lot, LotName, Pass};
 use lot_words::Keeps;
@@ -18,27 +18,41 @@ pub fn finish<V: Keeps + Send, N: LotName<V> + Send, T: Wait>(
 ) -> (Vec<V>, Ledger)
     requires room { (vec_len passes ≡ 0) × (lot.threads ≤ vec_capacity passes) }
     ensures count { vec_len result.0 ≡ lot.locks }
-    ensures finished { IsFinished V.Keeps lot result.0.items result.1.called.items result.1.woken.items }
+    ensures finished { IsFinished V.Keeps N.values lot result.0.items result.1.called.items result.1.woken.items }
     ensures balanced { result.1.called.items ≡ result.1.woken.items }
     ensures history { (left : List (PassView V)) × (length left ≡ lot.threads) × HasOneRun N.LotName left }
 {
-    for thread in 0..lot.threads() {
-        let pass = take_pass(rt, &mut lot, thread);
-        passes.push_reserved(pass);
-    }
+    take_all(rt, &mut lot, &mut passes);
     lot.close(rt, passes)
 }
 
-/// Takes the pass of one thread, when it is in.
-fn take_pass<V: Keeps + Send, N: LotName<V> + Send, T: Wait>(
+/// Takes the passes of all threads, in order, each when it is in, into the list, which has room for them.
+fn take_all<V: Keeps + Send, N: LotName<V> + Send, T: Wait>(
+    rt: &T,
+    lot: &mut Lot<V, N>,
+    passes: &mut Vec<Pass<V, N>>,
+)
+    requires room { (vec_len passes.old ≡ 0) × (lot.old.threads ≤ vec_capacity passes.old) }
+    ensures same { lot.new ≡ lot.old }
+    ensures count { vec_len passes.new ≡ lot.old.threads }
+    ensures taken { AreTaken V.Keeps N.values lot.old passes.new.items }
+{
+    for thread in 0..lot.threads() {
+        let pass = take_pass(rt, lot, thread);
+        passes.push_reserved(pass);
+    }
+}
+
+/// Takes the pass of one thread, when it is in: `let first = take_pass(rt, &mut lot, 0);`. It waits until that pass was
+/// left.
+pub fn take_pass<V: Keeps + Send, N: LotName<V> + Send, T: Wait>(
     rt: &T,
     lot: &mut Lot<V, N>,
     thread: usize,
 ) -> Pass<V, N>
     ensures same { lot.new ≡ lot.old }
     ensures thread { result.thread ≡ thread }
-    ensures free { OwnsNone result }
-    ensures rests { V.rests (rested result) }
+    ensures ready { IsReady V.Keeps N.values lot.old result }
 {
     for _ in rt.forever() {
         if let Some(pass) = lot.take_left(rt) {

@@ -8,13 +8,14 @@
 //! | `with_lock`, `with_value` | `lock`, the caller's work, `unlock` |
 //! | `wait_until` | `wait`, again and again |
 //! | `lock_until` | `lock`, then `wait_until` |
-//! | `finish` | `take_left` for each thread, then `close` |
+//! | `take_pass` | `take_left`, until it is the pass of the thread that is wanted |
+//! | `finish` | `take_pass` for each thread, then `close` |
 #![tactic(auto)]
 
 mod finishing;
 mod until;
 mod with;
 
-pub use finishing::finish;
+pub use finishing::{finish, take_pass};
 pub use until::{lock_until, wait_until};
 pub use with::{with_lock, with_value};

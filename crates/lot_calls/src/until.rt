@@ -1,8 +1,10 @@
 //! Waiting on a condition until a lock's value is as wanted.
-ghost use Rattle.std.specs.Prelude.{◌≡◌, ◌<◌, true};
+ghost use Rattle.std.specs.Prelude.{◌≡◌, ℕ, ◌<◌, true};
 ghost use Rattle.lot_sync.specs.Lot.{Owns, OwnsNone, IsWide, IsCond};
 ghost use Rattle.lot_sync.specs.Values.{MayGiveBack};
 ghost use Rattle.lot_sync.specs.Holding.{Holding};
+ghost use Rattle.lot_sync.specs.Words.{Adds};
+ghost use Rattle.lot_calls.specs.Words.{GetAfterWord};
 ghost use Rattle.lot_calls.specs.Waits.{WaitsOn, GetsAfter};
 
 use lot_sync::{Held, Lot, LotName, Moment, Pass};
@@ -59,6 +61,7 @@ pub fn lock_until<V: Keeps + Send, N: LotName<V> + Send, T: Wait, F: Fn(&V) -> b
     requires cond { IsCond lot.now cond }
     requires callable { (v : _) → V.keeps key v.now → F.pre ready v }
     ensures gets { GetsAfter V.Keeps pass key result.1 result.0 }
+    ensures made { (count : ℕ) × Adds pass.made (GetAfterWord pass.thread cond key moment.now count) result.0.made }
     ensures holding { OwnsNone pass → Holding V.grows result.0 result.1 }
     ensures ready { (v : _) × (v.now ≡ result.1.value) × F.post ready v true }
     ensures owns { Owns result.0 key }

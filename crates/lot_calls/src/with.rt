@@ -1,6 +1,8 @@
 //! Work on the value of a lock.
 ghost use Rattle.std.specs.Prelude.{◌≡◌, ◌<◌};
 ghost use Rattle.lot_sync.specs.Lot.{Owns, OwnsNone, IsWide};
+ghost use Rattle.lot_sync.specs.Words.{Adds};
+ghost use Rattle.lot_calls.specs.Words.{VisitWord};
 ghost use Rattle.lot_calls.specs.Visits.{MayBecome, Visits};
 
 use lot_sync::{Lot, LotName, Moment, Pass};
@@ -21,7 +23,8 @@ pub fn with_lock<V: Keeps + Send, O, N: LotName<V> + Send, T: Wait, F: FnOnce(&m
     requires free { ¬ Owns pass key }
     requires callable { (v : _) → V.keeps key v.now → F.pre work v }
     requires keeps { (v : _) (o : _) (w : _) → V.keeps key v.now → F.post work v o w → MayBecome V.Keeps key pass.thread v.now w.now }
-    ensures visits { (v : _) × (w : _) × F.post work v result.1 w × Visits V.Keeps pass key moment.now v.now w.now result.0 }
+    ensures visits { (v : _) × (w : _) × F.post work v result.1 w × Visits V.Keeps pass key v.now w.now result.0 }
+    ensures made { Adds pass.made (VisitWord pass.thread key moment.now) result.0.made }
     ensures wide { IsWide lot.now result.0 }
     ensures free { OwnsNone pass → OwnsNone result.0 }
 {
@@ -44,7 +47,8 @@ pub fn with_value<V: Keeps + Send, O, N: LotName<V> + Send, T: Wait, F: FnOnce(V
     requires free { ¬ Owns pass key }
     requires callable { (v : V) → V.keeps key v → F.pre work v }
     requires keeps { (v : V) (left : _) → V.keeps key v → F.post work v left → MayBecome V.Keeps key pass.thread v left.0 }
-    ensures visits { (v : V) × (w : V) × F.post work v (w, result.1) × Visits V.Keeps pass key moment.now v w result.0 }
+    ensures visits { (v : V) × (w : V) × F.post work v (w, result.1) × Visits V.Keeps pass key v w result.0 }
+    ensures made { Adds pass.made (VisitWord pass.thread key moment.now) result.0.made }
     ensures wide { IsWide lot.now result.0 }
     ensures free { OwnsNone pass → OwnsNone result.0 }
 {

@@ -2,12 +2,12 @@
 use Rattle.std.proofs.Common.{◌≡◌, ℕ, refl, sym, ap, subst, ◌∙◌, ⊎_elim}
 use Rattle.atomic_table.proofs.Lists.{at_set}
 use Rattle.lot_words.specs.CallersRule.{CallersRule}
-use Rattle.lot_sync.specs.Lot.{PassView, HeldView, HasSeen, owning}
+use Rattle.lot_sync.specs.Lot.{PassView, HeldView, ◌≈◌, HasSeen, owning}
 use Rattle.lot_sync.specs.Values.{Gets, MayGiveBack}
 use Rattle.lot_load.specs.Works.{WorksOn}
 
 -- what the pass has seen of the key is what it found there
-pub seen_found : {V : Type 0} (p q : PassView V) (k : ℕ) (x u : V) → q ≡ owning p k x → HasSeen q k u → x ≡ u
+pub seen_found : {V : Type 0} (p q : PassView V) (k : ℕ) (x u : V) → q ≈ owning p k x → HasSeen q k u → x ≡ u
 seen_found p q k x u e at = ⊎_elim (λ here. here.1) (λ else. absurd (else.0 refl)) (at_set p.seen k k x u (subst (λ (z : PassView _). HasSeen z k u) e at))
 
 module _ {V Part : Type 0} (rule : CallersRule V Part) where

@@ -1,5 +1,5 @@
 -- Accesses more, in one go or in two, and what stays as it was of a pass that wants a lock.
-use Rattle.std.proofs.Common.{◌≡◌, ℕ, false, List, [], ◌∷◌, ◌++◌, ◌⊎◌, inl, inr, refl, sym, ap, ◌∙◌, append_assoc}
+use Rattle.std.proofs.Common.{◌≡◌, ℕ, List, [], ◌∷◌, ◌++◌, inl, inr, refl, sym, ap, ◌∙◌, append_assoc}
 use Rattle.std.proofs.lemmas.List.{append-nil}
 use Rattle.std.proofs.lemmas.List.Elements.{All-nil, All-cons, All-append}
 use Rattle.std.specs.List.{All}
@@ -11,8 +11,8 @@ use Rattle.lot_whole.specs.declared.views.Stand.{Stand}
 use Rattle.lot_whole.specs.declared.views.Stand.TheVariants.{Idle}
 use Rattle.lot_whole.specs.Family.{lock, cond, sem}
 use Rattle.lot_whole.specs.Standing.{IsUp, MayTake}
-use Rattle.lot_scheme.specs.Standing.{LotStanding, adding, wanting}
-use Rattle.lot_scheme.specs.Words.{IsSeek, IsGot, GetWord}
+use Rattle.lot_scheme.specs.Standing.{LotStanding, adding}
+use Rattle.lot_scheme.specs.Words.{IsSeek, GetWord}
 
 pub All-one : {X : Type 0} (P : X → Type 0) (x : X) → P x → All P (x ∷ [])
 All-one P x is = All-cons P x [] is (All-nil P)

@@ -1,5 +1,5 @@
 -- A lock that was let go, or found parked and let go then.
-use Rattle.std.proofs.Common.{◌≡◌, ℕ, ◌<◌, Bool, true, false, MatchBool, List, [], ◌∷◌, zero, suc, length, set, get_or, Option, inl, inr}
+use Rattle.std.proofs.Common.{ℕ, ◌<◌, Bool, true, false, MatchBool, List, [], ◌∷◌, zero, suc, length, get_or, inl, inr}
 use Rattle.std.proofs.Common.{refl, sym, ap, subst, ◌∙◌, arith}
 use Rattle.std.proofs.lemmas.List.{get_or-set_same, set-set}
 use Rattle.lot_events.specs.declared.events.Event.TheVariants.{Free}
@@ -8,17 +8,15 @@ use Rattle.lot_rights.specs.declared.views.Access.{Access}
 use Rattle.lot_rights.specs.declared.views.Access.TheVariants.{Makes}
 use Rattle.lot_words.specs.declared.views.Hold.{Hold}
 use Rattle.lot_words.specs.declared.views.Hold.TheVariants.{NotHeld, FoundParked}
-use Rattle.lot_words.specs.declared.views.LockPassView.{LockPassView}
 use Rattle.lot_words.specs.World.{IsHeld, IsFound}
 use Rattle.lot_words.specs.Calls.{let_go, found_parked}
 use Rattle.lot_whole.specs.declared.views.LotPassView.{LotPassView}
-use Rattle.lot_whole.specs.Standing.{IsIdle, MayLetGo}
+use Rattle.lot_whole.specs.Standing.{MayLetGo}
 use Rattle.lot_whole.specs.Whole.{rises}
 use Rattle.lot_scheme.specs.Standing.{LotStanding, adding, finding_parked, letting_go}
 use Rattle.lot_locks.specs.declared.released.Released.{Released}
 use Rattle.lot_locks.specs.declared.released.Released.TheVariants.{Quiet}
-use Rattle.lot_locks.specs.Released.{FreeWord, Passed}
-use Rattle.lot_locks.specs.Standing.{MayFree, MayPass, IsFoundParked, GoesBy, LetsGo, PassesOn}
+use Rattle.lot_locks.specs.Standing.{MayFree, MayPass, IsFoundParked, LetsGo, PassesOn}
 use Rattle.lot_locks.proofs.Adding.{both_added, up_then}
 
 -- what is held is within

@@ -2,5 +2,4 @@ pub mod Adding
 pub mod Freed
 pub mod Resting
 pub mod Seeking
-pub mod Telling
 pub mod Waking

@@ -1,6 +1,6 @@
 -- What is so of a thread that seeks a lock.
 use Rattle.std.proofs.Common.{◌≡◌, ◌≢◌, ℕ, ◌<◌, Bool, true, false, MatchBool, length, List, [], ◌∷◌, ◌++◌, ◌⊎◌, inl, inr, refl, sym, ap}
-use Rattle.std.proofs.Common.{subst, ◌∙◌}
+use Rattle.std.proofs.Common.{subst}
 use Rattle.std.proofs.lemmas.List.Elements.{All-nil, All-append}
 use Rattle.std.specs.List.{All}
 use mathlib.Core.Option.{some}
@@ -19,8 +19,8 @@ use Rattle.lot_words.specs.Calls.{wishing}
 use Rattle.lot_whole.specs.declared.views.Stand.TheVariants.{Idle}
 use Rattle.lot_whole.specs.Standing.{MayTake, MayPark}
 use Rattle.lot_scheme.specs.Standing.{LotStanding, adding, wanting, owning}
-use Rattle.lot_scheme.specs.Words.{IsSeek, GetWord}
-use Rattle.lot_locks.specs.Standing.{IsTryingFor, IsAwakeFor, IsOwner, GetsBy, Seeks}
+use Rattle.lot_scheme.specs.Words.{IsSeek}
+use Rattle.lot_locks.specs.Standing.{IsTryingFor, IsAwakeFor, IsOwner, Seeks}
 use Rattle.lot_locks.proofs.Adding.{All-one, none_added, both_added, up_then, is_up, may_again, sought_before}
 
 module _ {V : Type 0} where

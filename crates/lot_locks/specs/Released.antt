@@ -1,9 +1,7 @@
--- What an unlock may answer, and what its answer comes from; the words of unlocks, and how the last one of a thread ended, as the accesses
--- tell that were made with its pass.
+-- What an unlock may answer, and what its answer comes from; and the words of unlocks.
 use Rattle.std.specs.Prelude.{◌≡◌, ℕ, ◌<◌, ◌⊎◌, ◌||◌, Bool, true, false, List, [], ◌∷◌, drop, Option, Some, None}
-use Rattle.std.specs.List.{fold}
-use Rattle.lot_events.specs.declared.events.Event.TheVariants.{Free, Pass as Passes}
-use Rattle.lot_events.specs.declared.events.Seen.TheVariants.{Bool as Saw, Sleeper}
+use Rattle.lot_events.specs.declared.events.Event.TheVariants.{Free}
+use Rattle.lot_events.specs.declared.events.Seen.TheVariants.{Bool as Saw}
 use Rattle.lot_bucket.specs.KeyLine.{KeyLine}
 use Rattle.lot_bucket.specs.declared.taking.Dequeued.{Dequeued}
 use Rattle.lot_park.specs.Parking.{debt}
@@ -54,15 +52,3 @@ abbrev pub FreeWord : ℕ → ℕ → Released → List Access → Type 0
 FreeWord t l became acts =
     ((became ≡ Quiet) × (acts ≡ Makes (Free t l) (Saw true) ∷ []))
     ⊎ ((rest : List Access) × Passed t l became rest × (acts ≡ Makes (Free t l) (Saw false) ∷ rest))
-
--- ---- how the last unlock ended
--- after one access more, where it ended like this before: by the one exchange, nobody was parked; and else by what was decided of the first
--- of the line
-abbrev pub released_after : Option Released → Access → Option Released
-released_after before (Makes (Free t l) (Saw true)) = Some Quiet
-released_after before (Makes (Passes t l fair more) (Sleeper first)) = Some (decision first fair)
-released_after before _ = before
-
--- after these accesses; where none is that of an unlock, None
-abbrev pub released_in : List Access → Option Released
-released_in acts = fold released_after None acts

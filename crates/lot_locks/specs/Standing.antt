@@ -1,5 +1,5 @@
 -- How a pass stands between two accesses of a lock's word, and what the calls of a lock make of it.
-use Rattle.std.specs.Prelude.{◌≡◌, ◌≢◌, ℕ, ◌<◌, ◌⊎◌, ◌++◌, true, false, List, [], ◌∷◌}
+use Rattle.std.specs.Prelude.{◌≡◌, ℕ, ◌<◌, ◌⊎◌, false, List, [], ◌∷◌}
 use Rattle.std.specs.List.{All}
 use Rattle.lot_events.specs.declared.events.Event.TheVariants.{Free}
 use Rattle.lot_events.specs.declared.events.Seen.TheVariants.{Bool as Saw}
@@ -12,7 +12,7 @@ use Rattle.lot_whole.specs.Standing.{MayTake, MayLetGo}
 use Rattle.lot_park.specs.declared.seeking.Seeking.{Seeking}
 use Rattle.lot_park.specs.declared.seeking.Seeking.TheVariants.{Got, Waits, Parks, Tries}
 use Rattle.lot_scheme.specs.Standing.{LotStanding, adding, wanting, lined, owning, finding_parked, letting_go}
-use Rattle.lot_scheme.specs.Words.{IsSeek, GetWord, TryWord, PassWord}
+use Rattle.lot_scheme.specs.Words.{IsSeek, GetWord}
 use Rattle.lot_locks.specs.declared.released.Released.{Released}
 use Rattle.lot_locks.specs.Released.{FreeWord, Passed}
 

@@ -1,5 +1,5 @@
 //! Getting a lock, as WTF's `Lock::lock` does: one compare-exchange, a few yields, and then the line.
-ghost use Rattle.std.specs.Prelude.{◌≡◌, ◌<◌, true, false, MatchBool};
+ghost use Rattle.std.specs.Prelude.{◌<◌, true, false, MatchBool};
 ghost use Rattle.lot_whole.specs.Standing.{IsIdle, MayTake};
 ghost use Rattle.lot_scheme.specs.Words.{TryWord};
 ghost use Rattle.lot_locks.specs.Standing.{IsAwakeFor, IsTryingFor, IsOwner, GetsBy, MissesBy};
@@ -8,13 +8,8 @@ use crate::steps::HANDOFF;
 use lot_park::{BeforeSleep, ParkingLot, Scheme, Seeking, Sought, Token, get_or_park};
 use lot_scheme::{LotName, LotScheme, NamedPass, NamedRoot};
 use lot_whole::Keeps;
+use lot_words::{HELD, PARKED};
 use std::sync::Wait;
-
-/// The bit of a lock word that says that somebody owns the lock.
-const HELD: u64 = 1;
-
-/// The bit of a lock word that says that somebody may wait in its line.
-const PARKED: u64 = 2;
 
 /// What is sought: a lock. It names this for the parking lot, and has no value.
 pub struct Locks;

@@ -1,5 +1,5 @@
 -- What is so of a thread that seeks a permit.
-use Rattle.std.proofs.Common.{◌≡◌, ℕ, ◌≤◌, false, Some, List, [], ◌∷◌, ◌++◌, ◌⊎◌, inl, inr, ⊎_elim, refl, sym, ap, subst, ◌∙◌}
+use Rattle.std.proofs.Common.{◌≡◌, ℕ, ◌≤◌, false, List, [], ◌∷◌, ◌++◌, ◌⊎◌, inl, inr, ⊎_elim, refl, sym, ap, subst, ◌∙◌}
 use Rattle.std.specs.List.{All}
 use Rattle.std.proofs.lemmas.List.Elements.{All-nil, All-append}
 use Rattle.lot_events.specs.declared.events.Event.TheVariants.{SemTake}
@@ -11,7 +11,7 @@ use Rattle.lot_sems.specs.declared.taking.Taken.TheVariants.{Got as HasGot, Empt
 use Rattle.lot_sems.specs.Calls.{seeking as sem_seeking}
 use Rattle.lot_whole.specs.declared.views.LotPassView.{LotPassView}
 use Rattle.lot_whole.specs.declared.views.Stand.TheVariants.{Idle}
-use Rattle.lot_whole.specs.Family.{Which, lock, cond, sem}
+use Rattle.lot_whole.specs.Family.{lock, cond, sem}
 use Rattle.lot_whole.specs.Standing.{IsUp, MayTakePermit, MaySeek}
 use Rattle.lot_park.specs.declared.seeking.Seeking.{Seeking}
 use Rattle.lot_park.specs.declared.seeking.Seeking.TheVariants.{Got, Waits, Parks, Tries}
@@ -19,7 +19,7 @@ use Rattle.lot_park.specs.Seeking.{SeekingLaws, IsUnfinished}
 use Rattle.lot_scheme.specs.Standing.{LotStanding, adding, seeking, getting}
 use Rattle.lot_scheme.specs.Words.{IsPermitSeek}
 use Rattle.lot_scheme.specs.SemCalls.{TakesPermit}
-use Rattle.lot_permits.specs.Seeking.{GetsPermit, IsOnItsWay, IsSeekingFor, IsAwakeFor, Seeks, after_try}
+use Rattle.lot_permits.specs.Seeking.{GetsPermit, IsSeekingFor, IsAwakeFor, Seeks, after_try}
 use Rattle.lot_permits.proofs.Words.{adding_on, adding_none, get_after, took_it, one_seek, seek_on, busy_seek}
 
 -- a try got none
@@ -134,7 +134,8 @@ module _ {V : Type 0} where
         is = ⊎_elim (λ e. inl (e ∙ adding_on before did s.did)) (λ e. inr (e ∙ adding_on (seeking before key) did s.did)) s.is;
       }
 
-      as_seeking_seeks : (after : LotStanding V) → IsSeekingFor low (adding (seeking before key) did) key after → IsSeekingFor low before key after
+      as_seeking_seeks : (after : LotStanding V) → IsSeekingFor low (adding (seeking before key) did) key after
+          → IsSeekingFor low before key after
       as_seeking_seeks after s = record {
         above = above;
         may = may;
@@ -157,7 +158,8 @@ module _ {V : Type 0} where
         may = may;
         did = did ++ s.did;
         sought = All-append (IsPermitSeek before.thread key) did s.did sought s.sought;
-        is = ⊎_elim (λ e. inr (e ∙ adding_on (seeking before key) did s.did)) (λ e. inr (e ∙ adding_on (seeking before key) did s.did)) s.is;
+        is = ⊎_elim (λ e. inr (e ∙ adding_on (seeking before key) did s.did))
+            (λ e. inr (e ∙ adding_on (seeking before key) did s.did)) s.is;
       }
 
     goes : (before now after : LotStanding V) (key : ℕ) (next : Seeking) → IsAwakeFor low before key now → Seeks low now key next after

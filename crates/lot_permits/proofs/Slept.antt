@@ -66,7 +66,8 @@ module _ {V Part : Type 0} (rule : CallersRule V Part) where
               ∙ adding_on (seeking before key) s.did (Collects before.thread (Some token) ∷ []));
         }
 
-    pub seeks_still : (asleep now : LotStanding V) (token : ℕ) → IsAsleepFor low before key asleep → Awaited (IsLooked rule) asleep token now
+    pub seeks_still : (asleep now : LotStanding V) (token : ℕ) → IsAsleepFor low before key asleep
+        → Awaited (IsLooked rule) asleep token now
         → Seeks low before key Parks now
     seeks_still asleep now token s a =
         let kept = awaited_keeps (IsLooked rule) (λ (p q : LotStanding V). IsAsleepFor low before key p → IsAsleepFor low before key q)

@@ -1,7 +1,5 @@
--- How releases end: by the thread that is taken from the line, if any; which accesses one makes; and how the last one
--- of a thread ended, as the accesses tell that were made with its pass.
+-- How releases end: by the thread that is taken from the line, if any; and which accesses one makes.
 use Rattle.std.specs.Prelude.{◌≡◌, ℕ, ◌≤◌, ◌++◌, Bool, true, List, [], ◌∷◌, Option, Some, None}
-use Rattle.std.specs.List.{fold}
 use Rattle.lot_events.specs.declared.events.Event.TheVariants.{SemFree, SemPass as Passes, SemClear}
 use Rattle.lot_events.specs.declared.events.Seen.TheVariants.{Bool as Saw, Done, Sleeper}
 use Rattle.lot_rights.specs.declared.views.Access.{Access}
@@ -47,14 +45,3 @@ module _ {V : Type 0} where
     pub did : List Access
     pub given : GivenWord p.thread k became did
     pub is : q ≡ adding (giving p k) did
-
--- ---- how the last release ended
--- after one access more, where it ended like this before: by the one exchange, nobody was parked; and else by the thread that was taken
-abbrev pub freed_after : Option Freed → Access → Option Freed
-freed_after before (Makes (SemFree t k) (Saw true)) = Some Quiet
-freed_after before (Makes (Passes t k more) (Sleeper first)) = Some (freed_by first)
-freed_after before _ = before
-
--- after these accesses; where none is that of a release, None
-abbrev pub freed_in : List Access → Option Freed
-freed_in acts = fold freed_after None acts

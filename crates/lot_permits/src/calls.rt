@@ -1,9 +1,9 @@
 //! What a thread can do on a semaphore, with its pass.
-ghost use Rattle.std.specs.Prelude.{◌≡◌, ◌≢◌, ℕ, ◌+◌, ◌<◌, ◌≤◌, length, Some};
+ghost use Rattle.std.specs.Prelude.{◌≡◌, ◌≢◌, ℕ, ◌+◌, ◌<◌, ◌≤◌, length};
 ghost use Rattle.lot_core.specs.Parts.{IsAmongSemaphores};
 ghost use Rattle.lot_whole.specs.Standing.{IsIdle};
 ghost use Rattle.lot_scheme.specs.SemCalls.{opening_permits};
-ghost use Rattle.lot_permits.specs.Freed.{GivesPermit, freed_in};
+ghost use Rattle.lot_permits.specs.Freed.{GivesPermit};
 ghost use Rattle.lot_permits.specs.Permits.{HasPermit, permits_with};
 ghost use Rattle.lot_permits.specs.Seeking.{GetsPermit};
 ghost use Rattle.lot_permits.specs.Tries.{TriesToGet};
@@ -29,7 +29,6 @@ pub fn try_acquire<V: Keeps, N: LotName<V>>(
     requires idle { IsIdle pass.own }
     ensures tries { TriesToGet pass key result.1 result.0 }
     ensures idle { IsIdle result.0.own }
-    ensures freed { freed_in result.0.did ≡ freed_in pass.did }
 {
     let (pass, taken) = scheme.try_take_permit(pass, key);
     match taken {
@@ -58,7 +57,6 @@ pub fn acquire<V: Keeps + Send, N: LotName<V> + Send, R: Wait>(
     ensures permit { (result.1.key ≡ key) × (result.1.thread ≡ pass.thread) }
     ensures gets { GetsPermit pass key result.0 }
     ensures idle { IsIdle result.0.own }
-    ensures freed { freed_in result.0.did ≡ freed_in pass.did }
 {
     let (pass, taken) = parking.scheme().take_permit(pass, key);
     let pass = match taken {
@@ -72,8 +70,7 @@ pub fn acquire<V: Keeps + Send, N: LotName<V> + Send, R: Wait>(
 /// Gives a permit back. Where nobody is parked it is a load and one compare-exchange of the semaphore's word; else the
 /// first thread of the line, if any, is taken from it and woken after the bucket is unlocked. It takes no memory.
 ///
-/// The permit is left to whoever comes first: a thread that was woken tries again. The pass shows what was answered,
-/// since how its last release ended is read off the accesses that were made with it.
+/// The permit is left to whoever comes first: a thread that was woken tries again.
 #[inline(always)]
 pub fn release<V: Keeps + Send, N: LotName<V> + Send, R: Wait>(
     rt: &R,
@@ -87,7 +84,6 @@ pub fn release<V: Keeps + Send, N: LotName<V> + Send, R: Wait>(
     requires has { HasPermit pass permit }
     ensures gives { GivesPermit pass permit.key result.1 result.0 }
     ensures idle { IsIdle result.0.own }
-    ensures freed { freed_in result.0.did ≡ Some result.1 }
 {
     let key = permit.into_key();
     give::<LotScheme<V, N>, R>(rt, parking, pass, key, moment)

@@ -2,7 +2,7 @@
 //! sleeper is taken from the line, and the permit is left to whoever comes first.
 ghost use Rattle.std.specs.Prelude.{◌≡◌, ℕ, ◌<◌, []};
 ghost use Rattle.lot_park.specs.Parking.{Tells};
-ghost use Rattle.lot_scheme.specs.SemCalls.{TakesFirst};
+ghost use Rattle.lot_scheme.specs.Roots.{TakesFirst};
 
 use crate::permit::Freed;
 use crate::steps::SemSteps;
@@ -64,7 +64,7 @@ fn unpark<S: SemSteps, R: Wait>(
             requires clear { (S.Root.view root).owes ≡ [] }
             requires told { (now : ℕ) × Tells (S.Root.view root).line now told }
             ensures passes { S.passes x.0 (S.Root.view root).key result.0.1 result.0.0 }
-            ensures takes { TakesFirst S.Root.view root told.thread result.1 }
+            ensures takes { TakesFirst S.Root.view root told.thread 0 result.1 }
             ensures token { result.2.0 ≡ 0 }
         {
             let (pass, root, freed) = scheme.give_on(x.0, root, told);

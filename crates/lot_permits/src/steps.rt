@@ -2,7 +2,7 @@
 //! while its bucket is locked.
 ghost use Rattle.std.specs.Prelude.{◌≡◌, ℕ, [], MatchBool};
 ghost use Rattle.lot_park.specs.Parking.{Tells};
-ghost use Rattle.lot_scheme.specs.SemCalls.{TakesFirst};
+ghost use Rattle.lot_scheme.specs.Roots.{TakesFirst};
 ghost use Rattle.lot_permits.specs.declared.permit.Freed.{Freed};
 ghost use Rattle.lot_permits.specs.declared.permit.Freed.TheVariants.{Quiet};
 
@@ -50,7 +50,7 @@ pub trait SemSteps: Sought<Sems> {
         requires clear { (Self.Root.view root).owes ≡ [] }
         requires told { (now : ℕ) × Tells (Self.Root.view root).line now told }
         ensures passes { passes pass (Self.Root.view root).key result.2 result.0 }
-        ensures takes { TakesFirst Self.Root.view root told.thread result.1 };
+        ensures takes { TakesFirst Self.Root.view root told.thread 0 result.1 };
 }
 
 impl<V: Keeps + Send, N: LotName<V> + Send> SemSteps for LotScheme<V, N> {

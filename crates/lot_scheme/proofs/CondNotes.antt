@@ -32,7 +32,8 @@ module _ {V : Type 0} where
       → NotesIn cond p (cond_enlisted p.own.conds c) (Makes (Enlist p.thread c l) Done) q
       → standing q ≡ adding (enlisted (standing p) c l) (Makes (Enlist p.thread c l) Done ∷ [])
   enlists p c l q note =
-      noted p (lot_own cond p.own (cond_enlisted p.own.conds c) (Makes (Enlist p.thread c l) Done)) (Makes (Enlist p.thread c l) Done) q note
+      noted p (lot_own cond p.own (cond_enlisted p.own.conds c) (Makes (Enlist p.thread c l) Done))
+      (Makes (Enlist p.thread c l) Done) q note
 
   pub looks : (p : PassView (LotPassView V)) (c : ℕ) (saw : Bool) (q : PassView (LotPassView V))
       → NotesIn cond p p.own.conds (Makes (Look p.thread c) (Saw saw)) q
@@ -42,16 +43,19 @@ module _ {V : Type 0} where
   pub lowers : (p : PassView (LotPassView V)) (c : ℕ) (q : PassView (LotPassView V))
       → NotesIn cond p (lowering p.own.conds c) (Makes (Lower p.thread c) Done) q
       → standing q ≡ adding (setting_out (standing p) c) (Makes (Lower p.thread c) Done ∷ [])
-  lowers p c q note = noted p (lot_own cond p.own (lowering p.own.conds c) (Makes (Lower p.thread c) Done)) (Makes (Lower p.thread c) Done) q note
+  lowers p c q note = noted p (lot_own cond p.own (lowering p.own.conds c) (Makes (Lower p.thread c) Done))
+      (Makes (Lower p.thread c) Done) q note
 
   pub calls : (p : PassView (LotPassView V)) (c n taken : ℕ) (more : Bool) (q : PassView (LotPassView V))
       → NotesIn cond p (took p.own.conds c taken) (Makes (Call p.thread c n more) (Count taken)) q
       → standing q ≡ adding (called (standing p) c taken) (Makes (Call p.thread c n more) (Count taken) ∷ [])
   calls p c n taken more q note =
-      noted p (lot_own cond p.own (took p.own.conds c taken) (Makes (Call p.thread c n more) (Count taken))) (Makes (Call p.thread c n more) (Count taken)) q note
+      noted p (lot_own cond p.own (took p.own.conds c taken) (Makes (Call p.thread c n more) (Count taken)))
+      (Makes (Call p.thread c n more) (Count taken)) q note
 
   pub sweeps : (p : PassView (LotPassView V)) (c taken : ℕ) (q : PassView (LotPassView V))
       → NotesIn cond p (swept_pass p.own.conds c taken) (Makes (Sweep p.thread c) (Count taken)) q
       → standing q ≡ adding (swept (standing p) c taken) (Makes (Sweep p.thread c) (Count taken) ∷ [])
   sweeps p c taken q note =
-      noted p (lot_own cond p.own (swept_pass p.own.conds c taken) (Makes (Sweep p.thread c) (Count taken))) (Makes (Sweep p.thread c) (Count taken)) q note
+      noted p (lot_own cond p.own (swept_pass p.own.conds c taken) (Makes (Sweep p.thread c) (Count taken)))
+      (Makes (Sweep p.thread c) (Count taken)) q note

@@ -24,9 +24,9 @@ use Rattle.lot_whole.specs.Family.{lock}
 use Rattle.lot_whole.specs.Lifts.{lot_own}
 use Rattle.lot_whole.specs.Standing.{IsLockRoot, as_lock}
 use Rattle.lot_whole.specs.Calls.{NotesIn, FindsOf, RootIs, GetsBy}
-use Rattle.lot_scheme.specs.Roots.{debts_of, line_in, owes_in, root_view}
-use Rattle.lot_scheme.specs.Standing.{LotStanding, standing, adding, wanting, dozing, owning, finding_parked, letting_go}
-use Rattle.lot_scheme.specs.LockCalls.{GetsLock, FreesLock, TakesFirst}
+use Rattle.lot_scheme.specs.Roots.{debts_of, line_in, owes_in, root_view, TakesFirst}
+use Rattle.lot_scheme.specs.Standing.{LotStanding, standing, adding, wanting, dozing, owning, finding_parked}
+use Rattle.lot_scheme.specs.LockCalls.{GetsLock, FreesLock}
 use Rattle.lot_scheme.proofs.Noted.{noted}
 
 -- what the buckets see of a lock's root after a parking
@@ -72,17 +72,24 @@ more_told (Cond q) more kind says = absurd kind
 more_told (Sem q) more kind says = absurd kind
 
 -- roots that were taken out of their names, and named again
-pub takes_first : (r before after s : RootShown LotRootView) (fair : Bool) → before ≡ r → s ≡ after → IsLockRoot before.root.own
-    → owes_in r.root.own ≡ []
+pub takes_first : (r before after s : RootShown LotRootView) (told : Option ℕ) (fair : Bool) → before ≡ r → s ≡ after
+    → IsLockRoot before.root.own
+    → owes_in r.root.own ≡ [] → first_of (line_in r.root.own) ≡ told
     → RootIs lock before.root (passed_root (as_lock before.root.own) fair (as_lock before.root.own).line) after.root
-    → TakesFirst r (token_of fair) s
-takes_first r before after s fair is_r is_s kind clear is =
-    let told = passed_seen before.root.own after.root.own fair kind
+    → TakesFirst root_view r told (token_of fair) s
+takes_first r before after s told fair is_r is_s kind clear first_is is =
+    let seen = passed_seen before.root.own after.root.own fair kind
     (ap (λ (z : RootShown LotRootView). owes_in z.root.own) is_r ∙ clear) (ap (λ (z : RootView LotRootView). z.own) is)
     in
-    subst (λ (z : RootShown LotRootView). TakesFirst z (token_of fair) s) is_r
-    (subst (λ (z : RootShown LotRootView). TakesFirst before (token_of fair) z) (sym is_s)
-    (record { named = ap (λ (z : RootView LotRootView). z.key) is; lined = told.0; owing = told.1 }))
+    subst (λ (z : RootShown LotRootView). TakesFirst root_view z told (token_of fair) s) is_r
+    (subst (λ (z : RootShown LotRootView). TakesFirst root_view before told (token_of fair) z) (sym is_s)
+    (record {
+      named = ap (λ (z : RootView LotRootView). z.key) is;
+      lined = seen.0;
+      owing = seen.1
+          ∙ ap (λ (u : Option ℕ). debt u (token_of fair))
+          (ap (λ (z : RootShown LotRootView). first_of (line_in z.root.own)) is_r ∙ first_is);
+    }))
 
 module _ {V : Type 0} where
   -- ---- the line

@@ -1,22 +1,11 @@
 -- How a lot's pass stands after one entry more.
-use Rattle.std.proofs.Common.{◌≡◌, ℕ, zero, suc, Bool, true, false, MatchOption, List, [], ◌∷◌, ◌++◌, map, Option, Some, None, refl, sym, ap, subst, ◌∙◌}
+use Rattle.std.proofs.Common.{◌≡◌, List, [], ◌∷◌, ◌++◌, map, refl, ap, ◌∙◌}
 use Rattle.lot_rights.specs.declared.views.Access.{Access}
-use Rattle.lot_rights.specs.declared.views.Access.TheVariants.{Makes, Collects, Finds}
 use Rattle.lot_rights.specs.declared.views.Entry.{Entry}
 use Rattle.lot_rights.specs.declared.views.PassView.{PassView}
 use Rattle.lot_rights.specs.Steps.{Notes}
-use Rattle.lot_words.specs.CallersRule.{CallersRule}
-use Rattle.lot_words.specs.Calls.{gripped, woken as lock_woken}
-use Rattle.lot_conds.specs.Calls.{woken_pass}
-use Rattle.lot_sems.specs.Calls.{woken as sem_woken}
 use Rattle.lot_whole.specs.declared.views.LotPassView.{LotPassView}
-use Rattle.lot_whole.specs.Family.{Which, lock, cond, sem, PassIn}
-use Rattle.lot_whole.specs.Lifts.{lot_own}
-use Rattle.lot_whole.specs.Calls.{NotesIn, FindsOf, FoundNone, Collected, CollectsIn as CollectsOf}
-use Rattle.lot_scheme.specs.Standing.{LotStanding, standing, adding, IsLooked, CollectsIn}
-
-access_of : Entry → Access
-access_of e = e.access
+use Rattle.lot_scheme.specs.Standing.{standing, adding}
 
 map-append : {A B : Type 0} → (f : A → B) → (xs ys : List A) → map f (xs ++ ys) ≡ map f xs ++ map f ys
 map-append f [] ys = refl

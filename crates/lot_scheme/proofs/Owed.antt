@@ -1,5 +1,6 @@
 -- The letters that a root owes, as the parking lot sees them: which one is posted, and what is left then.
-use Rattle.std.proofs.Common.{◌≡◌, ℕ, ◌<◌, ◌≤◌, zero, suc, ◌==◌, ◌&&◌, cond, Bool, true, false, List, [], ◌∷◌, Option, Some, None, refl, sym, ap, subst, ◌∙◌, arith}
+use Rattle.std.proofs.Common.{◌≡◌, ℕ, ◌<◌, ◌≤◌, zero, suc, ◌==◌, ◌&&◌, cond, Bool, true, false, List, [], ◌∷◌, Option, Some, None, refl}
+use Rattle.std.proofs.Common.{sym, ap, subst, ◌∙◌, arith}
 use Rattle.std.specs.List.{Contains}
 use Rattle.lot_rights.specs.Lines.{without}
 use Rattle.lot_rights.specs.declared.views.Access.{Access}
@@ -47,7 +48,8 @@ owed_cond c thread token (Lock q) kind has = absurd kind
 owed_cond c thread token (Cond q) kind has = owed_in thread token q.owes has
 owed_cond c thread token (Sem q) kind has = absurd kind
 
-left_or : (b : Bool) (x : ℕ) (xs ys : List ℕ) (ds : List (ℕ × ℕ)) → ds ≡ debts ys → cond (b && true) (debts xs) ((x, 0) ∷ ds) ≡ debts (cond b xs (x ∷ ys))
+left_or : (b : Bool) (x : ℕ) (xs ys : List ℕ) (ds : List (ℕ × ℕ)) → ds ≡ debts ys
+    → cond (b && true) (debts xs) ((x, 0) ∷ ds) ≡ debts (cond b xs (x ∷ ys))
 left_or true x xs ys ds e = refl
 left_or false x xs ys ds e = ap (λ (z : List (ℕ × ℕ)). (x, 0) ∷ z) e
 
@@ -70,7 +72,8 @@ owed_of (Some d) thread token has = ap (λ (e : ℕ × ℕ). Some e) (owed_alone
 pub posted_lock : (c thread token : ℕ) (q : LotRootView) → IsLockRoot q → Contains (key_line c q).owes (thread, token)
     → (key_line c (Lock (lock_paid (as_lock q)))).owes ≡ without_debt thread token (key_line c q).owes
 posted_lock c thread token (Lock q) kind has =
-    sym (ap (λ (o : Option (ℕ × ℕ)). without_debt thread token (debts_of o)) (owed_of q.owes thread token has) ∙ without_first_debt thread token [])
+    sym (ap (λ (o : Option (ℕ × ℕ)). without_debt thread token (debts_of o)) (owed_of q.owes thread token has)
+    ∙ without_first_debt thread token [])
 posted_lock c thread token (Cond q) kind has = absurd kind
 posted_lock c thread token (Sem q) kind has = absurd kind
 
@@ -78,7 +81,8 @@ pub posted_cond : (c thread token : ℕ) (q : LotRootView) → IsCondRoot q → 
     → (key_line c (Cond (cond_paid (as_cond q) thread))).owes ≡ without_debt thread token (key_line c q).owes
 posted_cond c thread token (Lock q) kind has = absurd kind
 posted_cond c thread token (Cond q) kind has =
-    subst (λ k. debts (without thread q.owes) ≡ without_debt thread k (debts q.owes)) (sym (owed_in thread token q.owes has).1) (sym (posted_in thread q.owes))
+    subst (λ k. debts (without thread q.owes) ≡ without_debt thread k (debts q.owes)) (sym (owed_in thread token q.owes has).1)
+    (sym (posted_in thread q.owes))
 posted_cond c thread token (Sem q) kind has = absurd kind
 
 pub posted_sem : (c thread token : ℕ) (q : LotRootView) → IsSemRoot q → Contains (key_line c q).owes (thread, token)

@@ -59,18 +59,23 @@ module _ {V : Type 0} where
           (Makes (SemTake p.thread k) (Saw true)) look (at_look r look note),
     )
       where
-        at_look : (r : PassView (LotPassView V)) → whole.FindsOf p k word r → whole.NotesIn sem r (got p.own.sems k) (Makes (SemTake p.thread k) (Saw true)) q
-            → Notes r (lot_own sem r.own (got r.own.sems k) (Makes (SemTake p.thread k) (Saw true))) (Makes (SemTake p.thread k) (Saw true)) q
+        at_look : (r : PassView (LotPassView V)) → whole.FindsOf p k word r
+            → whole.NotesIn sem r (got p.own.sems k) (Makes (SemTake p.thread k) (Saw true)) q
+            → Notes r (lot_own sem r.own (got r.own.sems k) (Makes (SemTake p.thread k) (Saw true)))
+            (Makes (SemTake p.thread k) (Saw true)) q
         at_look r look note =
-            subst (λ (o : LotPassView V). Notes r (lot_own sem r.own (got o.sems k) (Makes (SemTake p.thread k) (Saw true))) (Makes (SemTake p.thread k) (Saw true)) q)
+            subst (λ (o : LotPassView V). Notes r (lot_own sem r.own (got o.sems k) (Makes (SemTake p.thread k) (Saw true)))
+            (Makes (SemTake p.thread k) (Saw true)) q)
             (sym (ap (λ (s : LotStanding V). s.own) (noted p p.own (Finds p.thread k word) r look))) note
 
-    pub tries : (became : Taken) (q : PassView (LotPassView V)) → whole.TriesPermit p k became q → TriesPermit (standing p) k became (standing q)
+    pub tries : (became : Taken) (q : PassView (LotPassView V)) → whole.TriesPermit p k became q
+        → TriesPermit (standing p) k became (standing q)
     tries Got q did = took q did
     tries Empty q (word, few, note) = (word, few, noted p p.own (Finds p.thread k word) q note)
     tries Busy q miss = busy q miss
 
-    pub takes : (became : Taken) (q : PassView (LotPassView V)) → whole.TakesPermit p k became q → TakesPermit (standing p) k became (standing q)
+    pub takes : (became : Taken) (q : PassView (LotPassView V)) → whole.TakesPermit p k became q
+        → TakesPermit (standing p) k became (standing q)
     takes Got q did = took q did
     takes Empty q note = noted p (lot_own sem p.own (sem_seeking p.own.sems k) (Makes (SemTake p.thread k) (Saw false)))
         (Makes (SemTake p.thread k) (Saw false)) q note
@@ -78,7 +83,8 @@ module _ {V : Type 0} where
 
     -- ---- lining up
     pub marks : (does : Bool) (q : PassView (LotPassView V))
-        → MatchBool does (whole.NotesIn sem p p.own.sems (Makes (SemMark p.thread k) Done) q) ((word : ℕ) × (word ≢ 0) × whole.FindsOf p k word q)
+        → MatchBool does (whole.NotesIn sem p p.own.sems (Makes (SemMark p.thread k) Done) q) ((word : ℕ) × (word ≢ 0)
+        × whole.FindsOf p k word q)
         → MarksPermit (standing p) k does (standing q)
     marks true q note = noted p p.own (Makes (SemMark p.thread k) Done) q note
     marks false q (word, other, note) = (word, other, noted p p.own (Finds p.thread k word) q note)
@@ -90,7 +96,8 @@ module _ {V : Type 0} where
       (word, clear, refl),
       looked_then p r q (λ own. lot_own sem own (gave own.sems k) (Makes (SemFree p.thread k) (Saw true))) (Finds p.thread k word)
           (Makes (SemFree p.thread k) (Saw true)) look
-          (subst (λ (o : LotPassView V). Notes r (lot_own sem r.own (gave o.sems k) (Makes (SemFree p.thread k) (Saw true))) (Makes (SemFree p.thread k) (Saw true)) q)
+          (subst (λ (o : LotPassView V). Notes r (lot_own sem r.own (gave o.sems k) (Makes (SemFree p.thread k) (Saw true)))
+          (Makes (SemFree p.thread k) (Saw true)) q)
           (sym (ap (λ (s : LotStanding V). s.own) (noted p p.own (Finds p.thread k word) r look))) note),
     )
     frees false q (inl (word, marked, note)) = (

@@ -1,11 +1,11 @@
 -- The roots of a lot's keys, as the buckets see them, and the numbers of the keys.
-use Rattle.std.specs.Prelude.{◌≡◌, ℕ, ◌+◌, ◌<◌, ◌≤◌, List, [], ◌∷◌, Option, Some, None, length}
+use Rattle.std.specs.Prelude.{◌≡◌, ℕ, ◌+◌, ◌<◌, ◌≤◌, List, [], ◌∷◌, drop, Option, Some, None}
 use Rattle.lot_bucket.specs.KeyLine.{KeyLine}
 use Rattle.lot_park.specs.Parking.{debt, debts}
 use Rattle.lot_rights.specs.Shown.{RootShown}
 use Rattle.lot_whole.specs.declared.views.LotRootView.{LotRootView}
 use Rattle.lot_whole.specs.declared.views.LotRootView.TheVariants.{Lock, Cond, Sem}
-use Rattle.lot_whole.specs.Family.{LotSize, Which, IsKeyIn, lock, cond, sem}
+use Rattle.lot_whole.specs.Family.{LotSize}
 
 -- ---- what the buckets see
 -- the letter of a lock that is owed, with its token
@@ -30,6 +30,12 @@ key_line c own = record { key = c; line = line_in own; owes = owes_in own }
 
 abbrev pub root_view : RootShown LotRootView → KeyLine
 root_view r = key_line r.root.key r.root.own
+
+-- the first of the line, if one is there, was taken from it, and is owed a letter with this token
+pub record TakesFirst {R : Type 0} (view : R → KeyLine) (root : R) (first : Option ℕ) (token : ℕ) (now : R) : Type 0 where
+  pub named : (view now).key ≡ (view root).key
+  pub lined : (view now).line ≡ drop 1 (view root).line
+  pub owing : (view now).owes ≡ debt first token
 
 -- a root, of which this is known now
 abbrev pub with_root : RootShown LotRootView → LotRootView → RootShown LotRootView

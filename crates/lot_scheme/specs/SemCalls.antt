@@ -1,7 +1,6 @@
--- What the calls on a semaphore's word make of how a pass stands, and of the semaphore's root. p is the pass before,
--- q the pass after, and k the semaphore's key.
-use Rattle.std.specs.Prelude.{◌≡◌, ◌≢◌, ℕ, ◌<◌, ◌≤◌, Bool, true, false, List, [], ◌∷◌, drop, Option}
-use Rattle.lot_bucket.specs.KeyLine.{KeyLine}
+-- What the calls on a semaphore's word make of how a pass stands. p is the pass before, q the pass after, and k the
+-- semaphore's key.
+use Rattle.std.specs.Prelude.{◌≡◌, ◌≢◌, ℕ, ◌<◌, Bool, true, false, List, [], ◌∷◌}
 use Rattle.lot_core.specs.Rows.{row_from}
 use Rattle.lot_events.specs.declared.events.Event.TheVariants.{SemTake, SemMark, SemPark}
 use Rattle.lot_events.specs.declared.events.Seen.TheVariants.{Bool as Saw, Done}
@@ -10,7 +9,6 @@ use Rattle.lot_rights.specs.declared.views.Access.TheVariants.{Makes, Finds}
 use Rattle.lot_sems.specs.declared.taking.Taken.{Taken}
 use Rattle.lot_sems.specs.declared.taking.Taken.TheVariants.{Got, Empty, Busy}
 use Rattle.lot_sems.specs.Calls.{parked_pass}
-use Rattle.lot_park.specs.Parking.{debt}
 use Rattle.lot_scheme.specs.Standing.{LotStanding, adding, seeking, getting, giving}
 use Rattle.lot_scheme.specs.Words.{TookWord, BusyWord, FreedWord, UnfreedWord}
 
@@ -48,10 +46,3 @@ module _ {V : Type 0} where
   abbrev pub FreesPermit : LotStanding V → ℕ → Bool → LotStanding V → Type 0
   FreesPermit p k true q = (did : List Access) × FreedWord p.thread k did × (q ≡ adding (giving p k) did)
   FreesPermit p k false q = (did : List Access) × UnfreedWord p.thread k did × (q ≡ adding p did)
-
--- ---- the root, as the buckets see it
--- the first thread is taken from the line, if one is there, and owed a letter with which it tries again
-pub record TakesFirst {R : Type 0} (view : R → KeyLine) (root : R) (first : Option ℕ) (now : R) : Type 0 where
-  pub named : (view now).key ≡ (view root).key
-  pub lined : (view now).line ≡ drop 1 (view root).line
-  pub owing : (view now).owes ≡ debt first 0

@@ -1,9 +1,8 @@
 -- How a lot's pass stands: what its thread knows, and what it did with it; and what each call makes of that.
-use Rattle.std.specs.Prelude.{◌≡◌, ℕ, ◌<◌, ◌≤◌, ◌⊎◌, ◌++◌, zero, suc, Bool, true, false, List, [], ◌∷◌, map, length, Option, Some, None}
-use Rattle.std.specs.List.{All}
-use Rattle.lot_rights.specs.Shown.{PassShown, RootShown}
+use Rattle.std.specs.Prelude.{◌≡◌, ℕ, ◌++◌, zero, suc, Bool, true, false, List, [], ◌∷◌, map, Option, Some, None}
+use Rattle.lot_rights.specs.Shown.{PassShown}
 use Rattle.lot_rights.specs.declared.views.Access.{Access}
-use Rattle.lot_rights.specs.declared.views.Access.TheVariants.{Makes, Collects, Finds}
+use Rattle.lot_rights.specs.declared.views.Access.TheVariants.{Collects}
 use Rattle.lot_rights.specs.declared.views.Entry.{Entry}
 use Rattle.lot_rights.specs.declared.views.PassView.{PassView as PassMade}
 use Rattle.lot_words.specs.declared.views.Place.{Place}

@@ -1,11 +1,12 @@
 -- Words: which accesses a call made, the oldest first. t is a thread, l a lock, c a condition, k a semaphore.
-use Rattle.std.specs.Prelude.{◌≡◌, ◌≢◌, ℕ, zero, suc, ◌%◌, ◌<◌, ◌≤◌, ◌⊎◌, ◌++◌, Bool, true, false, List, [], ◌∷◌, Option, Some, None}
+use Rattle.std.specs.Prelude.{◌≡◌, ◌≢◌, ℕ, zero, suc, ◌%◌, ◌⊎◌, ◌++◌, Bool, true, false, List, [], ◌∷◌, Option, Some, None}
 use Rattle.std.specs.List.{All}
-use Rattle.lot_events.specs.declared.events.Event.TheVariants.{Try, Take, Mark, Park, Free, Pass, Enlist, Look, Call, Lower, Sweep}
-use Rattle.lot_events.specs.declared.events.Event.TheVariants.{SemTake, SemMark, SemPark, SemFree, SemPass, SemClear}
+use Rattle.lot_events.specs.declared.events.Event.TheVariants.{Try, Take, Mark, Park, Pass, Look, Call, Lower, Sweep}
+use Rattle.lot_events.specs.declared.events.Event.TheVariants.{SemTake, SemMark, SemPark, SemFree}
 use Rattle.lot_events.specs.declared.events.Seen.TheVariants.{Bool as Saw, Done, Sleeper, Count}
 use Rattle.lot_rights.specs.declared.views.Access.{Access}
 use Rattle.lot_rights.specs.declared.views.Access.TheVariants.{Makes, Collects, Finds}
+use Rattle.lot_sems.specs.Calls.{IsAnyLeft, IsUnmarked}
 
 -- ---- locks
 -- an access of a thread that seeks the lock and has not got it yet
@@ -69,23 +70,23 @@ IsPermitSeek t k _ = ⊥
 
 -- a look that found a permit, and then an exchange of the word that was seen; or one that found another word
 abbrev pub TookWord : ℕ → ℕ → List Access → Type 0
-TookWord t k acts = (word : ℕ) × (2 ≤ word) × (acts ≡ Finds t k word ∷ Makes (SemTake t k) (Saw true) ∷ [])
+TookWord t k acts = (word : ℕ) × IsAnyLeft word × (acts ≡ Finds t k word ∷ Makes (SemTake t k) (Saw true) ∷ [])
 
 abbrev pub BusyWord : ℕ → ℕ → List Access → Type 0
-BusyWord t k acts = (seen found : ℕ) × (2 ≤ seen) × (found ≢ seen) × (acts ≡ Finds t k seen ∷ Finds t k found ∷ [])
+BusyWord t k acts = (seen found : ℕ) × IsAnyLeft seen × (found ≢ seen) × (acts ≡ Finds t k seen ∷ Finds t k found ∷ [])
 
 -- a look that found nobody marked, and then an exchange of the word that was seen, by which a permit was given back
 abbrev pub FreedWord : ℕ → ℕ → List Access → Type 0
-FreedWord t k acts = (word : ℕ) × (word % 2 ≡ 0) × (acts ≡ Finds t k word ∷ Makes (SemFree t k) (Saw true) ∷ [])
+FreedWord t k acts = (word : ℕ) × IsUnmarked word × (acts ≡ Finds t k word ∷ Makes (SemFree t k) (Saw true) ∷ [])
 
 -- a look that found somebody marked; or one that found nobody marked, and then an exchange that found another word
 abbrev pub UnfreedWord : ℕ → ℕ → List Access → Type 0
 UnfreedWord t k acts =
     ((word : ℕ) × (word % 2 ≡ 1) × (acts ≡ Finds t k word ∷ []))
-    ⊎ ((seen found : ℕ) × (seen % 2 ≡ 0) × (found ≢ seen) × (acts ≡ Finds t k seen ∷ Finds t k found ∷ []))
+    ⊎ ((seen found : ℕ) × IsUnmarked seen × (found ≢ seen) × (acts ≡ Finds t k seen ∷ Finds t k found ∷ []))
 
 -- a permit was sought, and got from the word that a look found
 abbrev pub GetPermitWord : ℕ → ℕ → List Access → Type 0
 GetPermitWord t k acts =
     (front : List Access) × All (IsPermitSeek t k) front
-    × ((word : ℕ) × (2 ≤ word) × (acts ≡ front ++ Finds t k word ∷ Makes (SemTake t k) (Saw true) ∷ []))
+    × ((word : ℕ) × IsAnyLeft word × (acts ≡ front ++ Finds t k word ∷ Makes (SemTake t k) (Saw true) ∷ []))

@@ -93,8 +93,8 @@ impl<V: Keeps, N: LotName<V>> LotScheme<V, N> {
         (NamedPass::new(pass), NamedRoot::new(root))
     }
 
-    /// Takes all threads of the condition's line, by one load, while the condition's bucket is locked, after `lower` has
-    /// cleared the flag; `taken` is how many they are. The root then owes each of them a letter.
+    /// Takes all threads of the condition's line, by one load, while the condition's bucket is locked, after `lower`
+    /// has cleared the flag; `taken` is how many they are. The root then owes each of them a letter.
     #[tactic(auto, using(crate::proofs::CondNotes::sweeps, crate::proofs::CondNotes::cond_root))]
     pub fn sweep(
         &self,

@@ -11,9 +11,9 @@ ghost use Rattle.lot_words.specs.Calls.{token_of};
 ghost use Rattle.lot_words.specs.declared.views.Place.TheVariants.{InSlot, Out};
 ghost use Rattle.lot_whole.specs.Standing.{IsIdle, MayTake, MayLetGo, MayPark};
 ghost use Rattle.lot_park.specs.Parking.{Queues};
-ghost use Rattle.lot_scheme.specs.Roots.{root_view};
+ghost use Rattle.lot_scheme.specs.Roots.{root_view, TakesFirst};
 ghost use Rattle.lot_scheme.specs.Standing.{LotStanding, adding, wanting, dozing, finding_parked, putting};
-ghost use Rattle.lot_scheme.specs.LockCalls.{GetsLock, FreesLock, TakesFirst};
+ghost use Rattle.lot_scheme.specs.LockCalls.{GetsLock, FreesLock};
 
 use crate::name::LotName;
 use crate::pass::NamedPass;
@@ -140,7 +140,7 @@ impl<V: Keeps, N: LotName<V>> LotScheme<V, N> {
         requires fair { first ≡ None → fair ≡ false }
         ensures pass { FreesLock pass root.root.key
             (Makes (Pass pass.thread root.root.key fair more) (Sleeper first)) result.0 }
-        ensures root { TakesFirst root (token_of fair) result.1 }
+        ensures root { TakesFirst root_view root first (token_of fair) result.1 }
     {
         let (pass, root) = self
             .words()

@@ -4,7 +4,8 @@ ghost use Rattle.std.specs.Prelude.{ℕ, List};
 use lot_rights::Name;
 use std::marker::Brand;
 
-/// Names one opening of a lot: its table, its numbers of threads and keys, and the values and permits that it opened with.
+/// Names one opening of a lot: its table, its numbers of threads and keys, and the values and permits that it opened
+/// with.
 ///
 /// A program opens first, and then calls, with std's `Brand` for N, a function that is generic over `N: LotName<V>`.
 pub trait LotName<V>: Name {

@@ -6,7 +6,8 @@ use lot_rights::Named;
 use lot_whole::{Keeps, LotPass};
 use std::marker::Model;
 
-/// A pass, as the parking lot sees it: how it stands, and the accesses that were made with it, without their places in the history.
+/// A pass, as the parking lot sees it: how it stands, and the accesses that were made with it, without their places in
+/// the history.
 pub struct NamedPass<V: Keeps, N: LotName<V>> {
     named: Named<LotPass<V>, N>,
 }

@@ -23,7 +23,8 @@ impl<V: Keeps, N: LotName<V>> Model for NamedRoot<V, N> {
 
     ghost view = { λ s. s.named };
 
-    ghost invariant = { λ s. (s.named.table ≡ N.opening.locks) × IsInItsKind N.locks N.low s.named.root.key s.named.root.own };
+    ghost invariant = { λ s. (s.named.table ≡ N.opening.locks)
+        × IsInItsKind N.locks N.low s.named.root.key s.named.root.own };
 }
 
 impl<V: Keeps + Send, N: LotName<V> + Send> Root for NamedRoot<V, N> {

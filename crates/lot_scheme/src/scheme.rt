@@ -5,10 +5,14 @@ ghost use Rattle.lot_scheme.specs.Roots.{size_named, Follow};
 use crate::name::LotName;
 use crate::pass::NamedPass;
 use crate::root::NamedRoot;
-use lot_park::{Scheme, Token};
+use lot_core::MAX_THREADS;
+use lot_park::{MOST_THREADS, Scheme, Token};
 use lot_rights::Named;
 use lot_whole::{Keeps, LotRoot, LotWords};
 use std::marker::Model;
+
+// A parking lot, which knows no model, is for as many threads as the model.
+const _: () = prove!(MOST_THREADS == MAX_THREADS);
 
 /// The words of a lot, as the parking lot sees them.
 pub struct LotScheme<V: Keeps, N: LotName<V>> {
@@ -27,7 +31,9 @@ impl<V: Keeps, N: LotName<V>> Model for LotScheme<V, N> {
 
     ghost view = { λ s. s.words };
 
-    ghost invariant = { λ s. (s.words.table ≡ N.opening.locks) × (s.words.size ≡ size_named N.threads N.locks N.conds N.permits) × Follow N.locks N.conds N.low × (s.locks ≡ N.locks) × (s.low ≡ N.low) };
+    ghost invariant = { λ s. (s.words.table ≡ N.opening.locks)
+        × (s.words.size ≡ size_named N.threads N.locks N.conds N.permits)
+        × Follow N.locks N.conds N.low × (s.locks ≡ N.locks) × (s.low ≡ N.low) };
 }
 
 impl<V: Keeps, N: LotName<V>> LotScheme<V, N> {

@@ -8,8 +8,8 @@ ghost use Rattle.lot_rights.specs.declared.views.Access.TheVariants.{Makes};
 ghost use Rattle.lot_park.specs.Parking.{Queues};
 ghost use Rattle.lot_whole.specs.Standing.{IsIdle, MayTakePermit, MaySeek, MayGive};
 ghost use Rattle.lot_scheme.specs.Standing.{LotStanding, adding, giving};
-ghost use Rattle.lot_scheme.specs.Roots.{root_view};
-ghost use Rattle.lot_scheme.specs.SemCalls.{TriesPermit, TakesPermit, MarksPermit, ParksPermit, FreesPermit, TakesFirst};
+ghost use Rattle.lot_scheme.specs.Roots.{root_view, TakesFirst};
+ghost use Rattle.lot_scheme.specs.SemCalls.{TriesPermit, TakesPermit, MarksPermit, ParksPermit, FreesPermit};
 
 use crate::name::LotName;
 use crate::pass::NamedPass;
@@ -97,7 +97,7 @@ impl<V: Keeps, N: LotName<V>> LotScheme<V, N> {
         requires more { SaysMore (root_view root).line more }
         ensures pass { result.0 ≡ adding (giving pass (root_view root).key)
             (Makes (Passes pass.thread (root_view root).key more) (Sleeper first) ∷ []) }
-        ensures root { TakesFirst root_view root first result.1 }
+        ensures root { TakesFirst root_view root first 0 result.1 }
     {
         let (pass, root) = self
             .words()

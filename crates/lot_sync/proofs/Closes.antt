@@ -1,10 +1,12 @@
 -- Passes that come back to close their lot, and what they tell of its run.
-use Rattle.std.proofs.Common.{◌≡◌, ℕ, ◌<◌, false, List, [], ◌∷◌, ◌++◌, map, slice_get, Option, Some, None, refl, sym, ap, subst}
+use Rattle.std.proofs.Common.{◌≡◌, ℕ, ◌*◌, ◌<◌, false, List, [], ◌∷◌, ◌++◌, map, slice_get, Option, Some, None, refl, sym, ap, subst}
 use Rattle.std.proofs.Common.{◌∙◌}
 use Rattle.std.specs.Prelude.{is_some}
 use Rattle.std.specs.List.{All, Any}
 use Rattle.std.proofs.lemmas.List.Elements.{All-weaker, All-map}
 use Rattle.atomic_table.specs.Seated.{TableId}
+use Rattle.lot_rights.specs.declared.views.Entry.{Entry}
+use Rattle.lot_rights.specs.History.{entries_of}
 use Rattle.lot_rights.specs.Shown.{PassShown, RootShown}
 use Rattle.lot_rights.proofs.Turns.{some_at}
 use Rattle.lot_table.specs.Roots.{Appends}
@@ -13,6 +15,7 @@ use Rattle.lot_words.specs.Values.{FoundOk}
 use Rattle.lot_whole.specs.declared.views.LotPassView.{LotPassView}
 use Rattle.lot_whole.specs.declared.views.LotRootView.{LotRootView}
 use Rattle.lot_whole.specs.Family.{cond}
+use Rattle.lot_whole.specs.Order.{accesses_of}
 use Rattle.lot_scheme.specs.Roots.{root_view}
 use Rattle.lot_scheme.specs.Standing.{LotStanding, stands}
 use Rattle.lot_waits.specs.Counts.{counts_shown}
@@ -67,3 +70,12 @@ each_root k keys before after back none near =
     subst (Any (λ (q : RootShown LotRootView). q.root.key ≡ k)) (sym are)
     (some_at (λ (q : RootShown LotRootView). q.root.key ≡ k) back.roots k (subst (λ n. k < n) (sym back.each) near)
     (λ q at. back.named k q at))
+
+-- what was made with each pass that came back is its thread's part of the history
+pub each_own : {V : Type 0} (log : List Entry) (rights : List (PassShown (LotPassView V)))
+    → All (λ (p : PassShown (LotPassView V)). p.pass.made ≡ entries_of (2 * p.pass.thread) log) rights
+    → All (λ (p : PassView V). p.made ≡ accesses_of (2 * p.thread) log) (map seen_as rights)
+each_own {V} log rights made = All-map (λ (p : PassView V). p.made ≡ accesses_of (2 * p.thread) log) seen_as rights
+    (All-weaker (λ (p : PassShown (LotPassView V)). p.pass.made ≡ entries_of (2 * p.pass.thread) log)
+    (λ (p : PassShown (LotPassView V)). (seen_as p).made ≡ accesses_of (2 * p.pass.thread) log)
+    (λ p is. ap (map (λ (e : Entry). e.access)) is) rights made)

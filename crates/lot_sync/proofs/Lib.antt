@@ -1,4 +1,4 @@
-pub mod Stays
+pub mod Adding
 pub mod Rests
 pub mod Calls
 pub mod Turns

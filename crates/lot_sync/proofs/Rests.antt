@@ -1,5 +1,5 @@
 -- A pass gets a lock and lets it go, and is at rest again; and what its callers see of that.
-use Rattle.std.proofs.Common.{◌≡◌, ◌≢◌, ℕ, ◌+◌, ◌<◌, Bool, true, false, MatchBool, List, [], ◌∷◌, ◌++◌, zero, suc, length, map, set, get_or, Option, Some, None, refl, sym, ap, subst, ◌∙◌, ⊎_elim, length-set, arith}
+use Rattle.std.proofs.Common.{◌≡◌, ◌≢◌, ℕ, ◌+◌, ◌<◌, Bool, true, false, List, [], ◌∷◌, ◌++◌, zero, suc, length, map, set, get_or, None, refl, sym, ap, subst, ◌∙◌, ⊎_elim, length-set, arith}
 use Rattle.std.proofs.lemmas.List.{get_or-set_same, get_or-set_other, map-set, set-get_or}
 use mathlib.Core.Option.{some, some-injective}
 use mathlib.Core.Logic.{dite}
@@ -24,18 +24,13 @@ use Rattle.lot_whole.specs.Standing.{IsIdle, IsUp}
 use Rattle.lot_whole.specs.Whole.{rises}
 use Rattle.lot_scheme.specs.Standing.{LotStanding, adding, putting, letting_go, finding_parked, owning as owning_now}
 use Rattle.lot_locks.specs.declared.released.Released.{Released}
-use Rattle.lot_locks.specs.declared.released.Released.TheVariants.{Quiet}
-use Rattle.lot_locks.specs.Released.{released_in, FreeWord}
 use Rattle.lot_locks.specs.Standing.{GetsBy, GoesBy, IsOwner, LetsGo, IsFoundParked, MissesBy}
 use Rattle.lot_locks.proofs.Adding.{up_then}
 use Rattle.lot_locks.proofs.Freed.{held_near}
-use Rattle.lot_locks.proofs.Telling.{freed_tells}
-use Rattle.lot_permits.specs.declared.permit.Freed.{Freed}
-use Rattle.lot_permits.specs.Freed.{freed_in}
-use Rattle.lot_sync.specs.Lot.{PassView, HeldView, LotNames, Owns, owning, leaving}
+use Rattle.lot_sync.specs.Lot.{PassView, HeldView, ◌≈◌, LotNames, Owns, owning, leaving}
 use Rattle.lot_sync.specs.Passes.{is_held, sees, IsOfLot, IsAtRest, IsNewOwner}
 use Rattle.lot_sync.specs.Values.{Gets, MayGiveBack}
-use Rattle.lot_sync.proofs.Stays.{KeepsReleased, KeepsFreed, released_on, freed_on, let_go_freed}
+use Rattle.lot_sync.proofs.Adding.{alike_at}
 
 -- ---- holds
 -- the bool of a hold says whether it is held
@@ -81,60 +76,56 @@ module _ {V : Type 0} where
   pub one_lies : (ps : List (Place V)) (l : ℕ) (x y : V) → get_elem? ps l ≡ some (InSlot x) → get_elem? ps l ≡ some (InSlot y) → x ≡ y
   one_lies ps l x y e f = in_slot-injective x y (some-injective (InSlot x) (InSlot y) (sym e ∙ f))
 
-  -- ---- what callers see of a pass
-  pub sees_as : (p : LotStanding V) (own : LotPassView V) (did : List Access) (owns : List Bool) (released : Option Released) (freed : Option Freed)
-      → map is_held own.locks.holds ≡ owns → released_in (p.did ++ did) ≡ released → freed_in (p.did ++ did) ≡ freed
-      → sees (adding (record p { own = own }) did) ≡ record {
+  -- ---- what callers see of a pass, but for the accesses that were made with it
+  pub sees_as : (p q : LotStanding V) (own : LotPassView V) (did : List Access) (owns : List Bool) → q ≡ adding (record p { own = own }) did
+      → map is_held own.locks.holds ≡ owns
+      → sees q ≈ record {
         thread = p.thread;
         owns = owns;
         seen = own.locks.seen;
-        released = released;
         called = own.conds.called;
         woken = own.conds.woken;
         permits = own.sems.out;
-        freed = freed;
+        made = q.did;
       }
-  sees_as p own did owns released freed a b c = λ i. record {
-    thread = p.thread;
-    owns = a i;
-    seen = own.locks.seen;
-    released = b i;
-    called = own.conds.called;
-    woken = own.conds.woken;
-    permits = own.sems.out;
-    freed = c i;
-  }
+  sees_as p q own did owns is held = subst
+      (λ (r : LotStanding V). sees r ≡ record {
+        thread = p.thread;
+        owns = owns;
+        seen = own.locks.seen;
+        called = own.conds.called;
+        woken = own.conds.woken;
+        permits = own.sems.out;
+        made = r.did;
+      }) (sym is) (λ i. record {
+        thread = p.thread;
+        owns = held i;
+        seen = own.locks.seen;
+        called = own.conds.called;
+        woken = own.conds.woken;
+        permits = own.sems.out;
+        made = p.did ++ did;
+      })
 
-  -- accesses that end neither an unlock nor a release change nothing of it
-  pub sees_stays : (p q : LotStanding V) (did : List Access) → q ≡ adding p did → KeepsReleased did → KeepsFreed did → sees q ≡ sees p
-  sees_stays p q did is r f = ap sees is ∙ sees_as p p.own did (map is_held p.own.locks.holds) (released_in p.did) (freed_in p.did) refl (released_on p.did did r) (freed_on p.did did f)
+  -- accesses alone change nothing else
+  pub sees_stays : (p q : LotStanding V) (did : List Access) → q ≡ adding p did → sees q ≈ sees p
+  sees_stays p q did is = sees_as p q p.own did (map is_held p.own.locks.holds) is refl
 
   -- a lock was got
-  pub sees_owner : (p q : LotStanding V) (l : ℕ) (x : V) (did : List Access) → q ≡ adding (owning_now p l x) did → KeepsReleased did → KeepsFreed did
-      → sees q ≡ owning (sees p) l x
-  sees_owner p q l x did is r f = ap sees is ∙ sees_as p (owning_now p l x).own did (set (map is_held p.own.locks.holds) l true) (released_in p.did) (freed_in p.did)
-      (map-set is_held p.own.locks.holds l Held) (released_on p.did did r) (freed_on p.did did f)
+  pub sees_owner : (p q : LotStanding V) (l : ℕ) (x : V) (did : List Access) → q ≡ adding (owning_now p l x) did → sees q ≈ owning (sees p) l x
+  sees_owner p q l x did is = sees_as p q (owning_now p l x).own did (set (map is_held p.own.locks.holds) l true) is (map-set is_held p.own.locks.holds l Held)
 
-  -- a lock was let go
-  pub sees_left : (p q : LotStanding V) (l : ℕ) (y : V) (became : Released) (did : List Access) → q ≡ adding (letting_go p l y) did → released_in (p.did ++ did) ≡ Some became
-      → KeepsFreed did → sees q ≡ leaving (sees p) l y became
-  sees_left p q l y became did is r f = ap sees is ∙ sees_as p (letting_go p l y).own did (set (map is_held p.own.locks.holds) l false) (Some became) (freed_in p.did)
-      (map-set is_held p.own.locks.holds l NotHeld) r (freed_on p.did did f)
-
-  -- the same of a pass that let it go by the word of an unlock
-  pub leaves_all : (p q : LotStanding V) (l : ℕ) (value : V) (became : Released) → IsIn p.own.locks l value → LetsGo p l became q → sees q ≡ leaving (sees p) l value became
-  leaves_all p q l value became lies went =
+  -- a lock was let go, and what was left there
+  pub leaves_all : (word : List Access → Type 0) (p q : LotStanding V) (l : ℕ) (value : V) → IsIn p.own.locks l value → GoesBy word p l q → sees q ≈ leaving (sees p) l value
+  leaves_all word p q l value lies went =
       let same : went.value ≡ value = one_lies p.own.locks.places l went.value value went.lay lies in
-      sees_left p q l value became went.did (subst (λ v. q ≡ adding (letting_go p l v) went.did) same went.is)
-      (freed_tells p.thread l became p.did went.did went.freed) (let_go_freed p.thread l became went.did went.freed)
+      sees_as p q (letting_go p l value).own went.did (set (map is_held p.own.locks.holds) l false)
+      (subst (λ v. q ≡ adding (letting_go p l v) went.did) same went.is) (map-set is_held p.own.locks.holds l NotHeld)
 
   -- found parked, and its value taken out again: the callers see no change
-  pub stays_all : (p m q : LotStanding V) (l : ℕ) → Holds p.own.locks l → IsFoundParked p l m → q ≡ putting m l Out → sees q ≡ sees p
-  stays_all p m q l holds found moved =
-      let acts : List Access = Makes (Free p.thread l) (Saw false) ∷ [] in
-      ap sees (moved ∙ ap (λ (s : LotStanding V). putting s l Out) found)
-      ∙ sees_as p (putting (finding_parked p l) l Out).own acts (map is_held p.own.locks.holds) (released_in p.did) (freed_in p.did)
-      (owned_parked p.own.locks.holds l holds) (released_on p.did acts (λ before. refl)) (freed_on p.did acts (λ before. refl))
+  pub stays_all : (p m q : LotStanding V) (l : ℕ) → Holds p.own.locks l → IsFoundParked p l m → q ≡ putting m l Out → sees q ≈ sees p
+  stays_all p m q l holds found moved = sees_as p q (putting (finding_parked p l) l Out).own (Makes (Free p.thread l) (Saw false) ∷ [])
+      (map is_held p.own.locks.holds) (moved ∙ ap (λ (s : LotStanding V). putting s l Out) found) (owned_parked p.own.locks.holds l holds)
 
 module _ {V : Type 0} (grows : V → V → Type 0) (names : LotNames V) where
   -- an owned lock is one of the lot
@@ -354,24 +345,23 @@ module _ {V Part : Type 0} (rule : CallersRule V Part) (names : LotNames V) wher
 
   -- what the callers of lock see
   pub gets_all : (word : List Access → Type 0) (p q : LotStanding V) (held : HeldView V) (l : ℕ) → l < names.locks → IsAtRest rule.grows names p → GetsBy rule word p l q
-      → ((did : List Access) → word did → KeepsReleased did × KeepsFreed did) → held.key ≡ l → IsIn q.own.locks l held.value → (after : PassView V) → after ≡ sees q
-      → Gets rule (sees p) l held after
-  gets_all word p q held l near rest got stays key_is lies after after_is =
+      → held.key ≡ l → IsIn q.own.locks l held.value → (after : PassView V) → after ≡ sees q → Gets rule (sees p) l held after
+  gets_all word p q held l near rest got key_is lies after after_is =
       let seen_there : get_elem? (set p.own.locks.places l (InSlot got.value)) l ≡ some (InSlot got.value) =
       set_here p.own.locks.places l (InSlot got.value) (let w = rest.of_lot.places_long in omega (arith, w)) in
       let same : got.value ≡ held.value = one_lies (set p.own.locks.places l (InSlot got.value)) l got.value held.value seen_there
       (subst (λ (r : LotStanding V). IsIn r.own.locks l held.value) got.is lies) in
-      let sees_it : sees q ≡ owning (sees p) l held.value =
-      sees_owner p q l got.value got.did got.is (stays got.did got.got).0 (stays got.did got.got).1 ∙ ap (λ v. owning (sees p) l v) same in
+      let sees_it : after ≈ owning (sees p) l held.value =
+      alike_at after (owning (sees p) l held.value) q after_is (subst (λ v. sees q ≈ owning (sees p) l v) same (sees_owner p q l got.value got.did got.is)) in
       record {
         key_is = key_is;
         kept = subst (rule.keeps l) same got.found.kept;
         grown = λ u s. subst (rule.grows u) same (got.found.grown u s);
         mine = λ u s. got.found.mine u s ∙ ap (rule.part p.thread) same;
-        after_is = after_is ∙ sees_it;
-        owns = subst (λ (r : PassView V). Owns r l) (sym (after_is ∙ sees_it))
+        after_is = sees_it;
+        owns = subst (λ (r : PassView V). Owns r l) (sym sees_it)
             (get_or-set_same (map is_held p.own.locks.holds) l true false (subst (λ n. l < n) (sym (long p.own.locks.holds)) (let w = rest.of_lot.holds_long in omega (arith, w))));
-        seen = subst (λ (r : PassView V). get_elem? r.seen l ≡ some held.value) (sym (after_is ∙ sees_it))
+        seen = subst (λ (r : PassView V). get_elem? r.seen l ≡ some held.value) (sym sees_it)
             (set_here p.own.locks.seen l held.value (let w = rest.of_lot.seen_long in omega (arith, w)));
       }
     where

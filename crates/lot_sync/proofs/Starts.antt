@@ -125,10 +125,9 @@ module _ {V Part : Type 0} (rule : CallersRule V Part) (words : LotWordsShown V)
       no_permit = zero_at (key_count words.size);
     };
     saw = refl;
-    let_go_none = refl;
     called_none = zero_at (words.size.locks + words.size.conds);
     woken_none = zero_at (words.size.locks + words.size.conds);
-    gave_none = refl;
+    made_none = refl;
   }
 
   rest_at : (t : ℕ) → t < words.size.threads → IsAtRest rule.grows (opened_as words) (stands (new_at t))

@@ -1,4 +1,5 @@
 pub mod Lot
+pub mod Words
 pub mod Values
 pub mod Permits
 pub mod Holding

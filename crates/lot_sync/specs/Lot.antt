@@ -1,13 +1,12 @@
 -- What a lot, its passes and its held values are seen as, and what joins the parts of a lot.
 use Rattle.lot_rights.specs.Opening.{Opening}
+use Rattle.lot_rights.specs.declared.views.Access.{Access}
 use Rattle.lot_words.specs.Rested.{Rested}
 use Rattle.lot_waits.specs.Counts.{CountsView}
-use Rattle.lot_permits.specs.declared.permit.Freed.{Freed}
 use Rattle.lot_waits.specs.Ledger.{IsLedger}
-use Rattle.lot_locks.specs.declared.released.Released.{Released}
 use Rattle.lot_park.specs.Lots.{ParkingView}
 use Rattle.lot_whole.specs.Shown.{LotWordsShown}
-use Rattle.std.specs.Prelude.{◌≡◌, ℕ, ◌+◌, ◌-◌, ◌<◌, ◌≤◌, Bool, true, false, List, length, map, slice_set, slice_index, slice_index_or, Option, Some}
+use Rattle.std.specs.Prelude.{◌≡◌, ℕ, ◌+◌, ◌-◌, ◌<◌, ◌≤◌, Bool, true, false, List, length, map, slice_set, slice_index, slice_index_or}
 use mathlib.Core.Option.{some}
 use lib.ListN.{get_elem?}
 
@@ -31,17 +30,21 @@ abbrev pub IsSem : LotView → ℕ → Type 0
 IsSem lot k = (lot.locks + lot.conds ≤ k) × (k < lot.locks + lot.conds + lot.sems)
 
 -- a pass: its thread, which locks it owns, what it has seen of each value, and by key how many sleepers it took from the
--- condition's line, how many of its own waits ended, and how many permits of the semaphore it holds; and how the last lock that it let go was
--- released, and its last permit, if there was one
+-- condition's line, how many of its own waits ended, and how many permits of the semaphore it holds; and the accesses that were made with it,
+-- the oldest first
 pub record PassView (V : Type 0) : Type 0 where
   pub thread : ℕ
   pub owns : List Bool
   pub seen : List V
-  pub released : Option Released
   pub called : List ℕ
   pub woken : List ℕ
   pub permits : List ℕ
-  pub freed : Option Freed
+  pub made : List Access
+
+infix 26 ◌≈◌
+-- the pass q, but for the accesses that were made with it
+abbrev pub ◌≈◌ : {V : Type 0} → PassView V → PassView V → Type 0
+p ≈ q = p ≡ record q { made = p.made }
 
 -- a value that was taken from its lock
 pub record HeldView (V : Type 0) : Type 0 where
@@ -77,9 +80,9 @@ module _ {V : Type 0} where
   abbrev pub owning : PassView V → ℕ → V → PassView V
   owning p key value = record p { owns = slice_set p.owns key true; seen = slice_set p.seen key value }
 
-  -- the pass let the lock go, and left the value there; this became of the lock
-  abbrev pub leaving : PassView V → ℕ → V → Released → PassView V
-  leaving p key value became = record p { owns = slice_set p.owns key false; seen = slice_set p.seen key value; released = Some became }
+  -- the pass let the lock go, and left the value there
+  abbrev pub leaving : PassView V → ℕ → V → PassView V
+  leaving p key value = record p { owns = slice_set p.owns key false; seen = slice_set p.seen key value }
 
   -- one wait more on the condition has ended
   abbrev pub waking : PassView V → ℕ → PassView V
@@ -93,9 +96,9 @@ module _ {V : Type 0} where
   abbrev pub one_more : PassView V → ℕ → PassView V
   one_more p k = record p { permits = slice_set p.permits k (permits_with p k + 1) }
 
-  -- one permit of the semaphore less, after a release that ended like this
-  abbrev pub one_less : PassView V → ℕ → Freed → PassView V
-  one_less p k freed = record p { permits = slice_set p.permits k (permits_with p k - 1); freed = Some freed }
+  -- one permit of the semaphore less
+  abbrev pub one_less : PassView V → ℕ → PassView V
+  one_less p k = record p { permits = slice_set p.permits k (permits_with p k - 1) }
 
   -- each opening value grows to what the pass has seen of it
   abbrev pub HasGrown : (V → V → Type 0) → List V → PassView V → Type 0
@@ -103,7 +106,7 @@ module _ {V : Type 0} where
 
   -- what the rule of its values may ask of the pass when its thread leaves
   abbrev pub rested : PassView V → Rested V
-  rested p = record { thread = p.thread; seen = p.seen; called = p.called; woken = p.woken }
+  rested p = record { thread = p.thread; seen = p.seen; called = p.called; woken = p.woken; made = p.made }
 
   -- what the pass counted, of each condition by its key
   abbrev pub counts_of : PassView V → CountsView

@@ -12,8 +12,6 @@ use Rattle.lot_whole.specs.declared.views.LotPassView.{LotPassView}
 use Rattle.lot_whole.specs.Closing.{HasDone}
 use Rattle.lot_whole.specs.Standing.{IsIdle}
 use Rattle.lot_scheme.specs.Standing.{LotStanding, stands}
-use Rattle.lot_locks.specs.Released.{released_in}
-use Rattle.lot_permits.specs.Freed.{freed_in}
 use Rattle.lot_waits.specs.Counts.{AreKept, counts_in}
 use Rattle.lot_waits.specs.declared.tallies.Tallies.{Tallies}
 use Rattle.lot_sync.specs.Lot.{PassView, LotNames, HasGrown}
@@ -30,11 +28,10 @@ module _ {V : Type 0} where
     thread = r.thread;
     owns = map is_held r.own.locks.holds;
     seen = r.own.locks.seen;
-    released = released_in r.did;
     called = r.own.conds.called;
     woken = r.own.conds.woken;
     permits = r.own.sems.out;
-    freed = freed_in r.did;
+    made = r.did;
   }
 
   abbrev pub seen_as : PassShown (LotPassView V) → PassView V

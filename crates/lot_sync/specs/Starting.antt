@@ -1,5 +1,5 @@
 -- What a lot starts with: passes that have done nothing yet.
-use Rattle.std.specs.Prelude.{◌≡◌, ℕ, ◌+◌, ◌<◌, List, replicate, slice_index, None}
+use Rattle.std.specs.Prelude.{◌≡◌, ℕ, ◌+◌, ◌<◌, List, [], replicate, slice_index}
 use Rattle.lot_rights.specs.Shown.{PassShown}
 use Rattle.lot_whole.specs.declared.views.LotPassView.{LotPassView}
 use Rattle.lot_scheme.specs.Standing.{stands}
@@ -11,10 +11,9 @@ pub record Starts {V : Type 0} (opening : List V) (threads : ℕ) (p : PassView 
   pub is_thread : p.thread < threads
   pub free : OwnsNone p
   pub saw : p.seen ≡ opening
-  pub let_go_none : p.released ≡ None
   pub called_none : (key : ℕ) → slice_index p.called key ≡ 0
   pub woken_none : (key : ℕ) → slice_index p.woken key ≡ 0
-  pub gave_none : p.freed ≡ None
+  pub made_none : p.made ≡ []
 
 -- a pass of the lot that is at rest, holds nothing, has seen the opening values, and was used for nothing yet
 pub record IsFresh {V : Type 0} (grows : V → V → Type 0) (names : LotNames V) (p : PassShown (LotPassView V)) : Type 0 where

@@ -2,7 +2,10 @@
 //! as a lock is, and a release leaves it to whoever comes first.
 ghost use Rattle.std.specs.Prelude.{◌≡◌, ◌≢◌, ℕ, ◌+◌, ◌≤◌};
 ghost use Rattle.lot_scheme.specs.SemCalls.{opening_permits};
-ghost use Rattle.lot_sync.specs.Lot.{IsWide, IsSem, one_more, one_less, permits_with};
+ghost use Rattle.lot_scheme.specs.Words.{GetPermitWord};
+ghost use Rattle.lot_permits.specs.Freed.{GivenWord};
+ghost use Rattle.lot_sync.specs.Lot.{◌≈◌, IsWide, IsSem, one_more, one_less, permits_with};
+ghost use Rattle.lot_sync.specs.Words.{Adds, TryPermitWord};
 ghost use Rattle.lot_sync.specs.Permits.{HasPermit, TriesToGet};
 
 use crate::lot::Lot;
@@ -22,6 +25,7 @@ impl<V: Keeps + Send, N: LotName<V> + Send> Lot<V, N> {
     pub fn try_acquire(&self, pass: Pass<V, N>, key: usize) -> (Pass<V, N>, Tried<V, N>)
         requires key { IsSem self.now key }
         ensures tries { TriesToGet pass key result.1 result.0 }
+        ensures made { Adds pass.made (TryPermitWord pass.thread key result.1) result.0.made }
         ensures wide { IsWide self.now result.0 }
     {
         prove!(self.has_sem(key));
@@ -40,7 +44,8 @@ impl<V: Keeps + Send, N: LotName<V> + Send> Lot<V, N> {
     ) -> (Pass<V, N>, Permit<V, N>)
         requires key { IsSem self.now key }
         ensures permit { (result.1.key ≡ key) × (result.1.thread ≡ pass.thread) }
-        ensures pass { result.0 ≡ one_more pass key }
+        ensures pass { result.0 ≈ one_more pass key }
+        ensures made { Adds pass.made (GetPermitWord pass.thread key) result.0.made }
         ensures wide { IsWide self.now result.0 }
     {
         prove!(self.has_sem(key));
@@ -51,8 +56,6 @@ impl<V: Keeps + Send, N: LotName<V> + Send> Lot<V, N> {
 
     /// Gives a permit back: `Quiet` where nobody was parked, `Woke` where the first of the semaphore's line was woken, who tries again, and
     /// `Nobody` where the slow way found nobody there. Where nobody is parked it is one compare-exchange. It takes no memory.
-    ///
-    /// The pass shows what was answered: how its last release ended.
     #[inline(always)]
     pub fn release<R: Wait>(
         &self,
@@ -62,7 +65,8 @@ impl<V: Keeps + Send, N: LotName<V> + Send> Lot<V, N> {
         moment: Moment,
     ) -> (Pass<V, N>, Freed)
         requires has { HasPermit pass permit }
-        ensures pass { result.0 ≡ one_less pass permit.key result.1 }
+        ensures pass { result.0 ≈ one_less pass permit.key }
+        ensures made { Adds pass.made (GivenWord pass.thread permit.key result.1) result.0.made }
         ensures wide { IsWide self.now result.0 }
     {
         let (right, tallies) = pass.apart();

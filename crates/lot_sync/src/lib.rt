@@ -9,6 +9,10 @@
 //! | `lock` | one compare-exchange | up to 40 yields, then a sleep in the lock's line |
 //! | `unlock`, `unlock_asking` | one compare-exchange | the first of the line is taken: the lock is handed to it, or it tries again |
 //! | `try_lock`, `unlock_unparked` | one compare-exchange | an answer at once |
+//!
+//! A pass is seen with the accesses to words that were made with it. Each call tells in its clause `made` which it added, as a word of
+//! `specs/Words` (and of the crates below); its other clauses are about all else of the pass (`≈`). `close` tells that the accesses of each
+//! pass are its thread's part, in order, of one run of the whole model.
 #![tactic(auto)]
 
 mod acquiring;

@@ -1,6 +1,8 @@
 //! Getting a lock, as WTF's `Lock::lock` does: one compare-exchange, a few yields, and then the line.
-ghost use Rattle.std.specs.Prelude.{◌≡◌, ◌<◌, MatchOption};
-ghost use Rattle.lot_sync.specs.Lot.{Owns, IsWide};
+ghost use Rattle.std.specs.Prelude.{◌≡◌, ◌<◌, MatchOption, is_some};
+ghost use Rattle.lot_scheme.specs.Words.{TryWord, GetWord};
+ghost use Rattle.lot_sync.specs.Lot.{◌≈◌, Owns, IsWide};
+ghost use Rattle.lot_sync.specs.Words.{Adds};
 ghost use Rattle.lot_sync.specs.Values.{Gets};
 ghost use Rattle.lot_sync.specs.Passes.{sees, AreCounted, IsNewOwner};
 ghost use Rattle.lot_words.specs.Values.{IsIn};
@@ -22,7 +24,8 @@ impl<V: Keeps + Send, N: LotName<V> + Send> Lot<V, N> {
     pub fn try_lock(&self, pass: Pass<V, N>, key: usize) -> (Pass<V, N>, Option<Held<V, N>>)
         requires key { key < self.now.locks }
         requires free { ¬ Owns pass key }
-        ensures gets { MatchOption result.1 (result.0 ≡ pass) (λ held. Gets V.Keeps pass key held result.0) }
+        ensures gets { MatchOption result.1 (result.0 ≈ pass) (λ held. Gets V.Keeps pass key held result.0) }
+        ensures made { Adds pass.made (TryWord pass.thread key (is_some result.1)) result.0.made }
         ensures wide { IsWide self.now result.0 }
     {
         prove!(self.has_lock(key));
@@ -43,6 +46,7 @@ impl<V: Keeps + Send, N: LotName<V> + Send> Lot<V, N> {
         requires key { key < self.now.locks }
         requires free { ¬ Owns pass key }
         ensures gets { Gets V.Keeps pass key result.1 result.0 }
+        ensures made { Adds pass.made (GetWord pass.thread key) result.0.made }
         ensures wide { IsWide self.now result.0 }
     {
         self.lock_after(rt, pass, key, &AtOnce)
@@ -62,6 +66,7 @@ impl<V: Keeps + Send, N: LotName<V> + Send> Lot<V, N> {
         requires key { key < self.now.locks }
         requires free { ¬ Owns pass key }
         ensures gets { Gets V.Keeps pass key result.1 result.0 }
+        ensures made { Adds pass.made (GetWord pass.thread key) result.0.made }
         ensures wide { IsWide self.now result.0 }
     {
         prove!(self.has_lock(key));

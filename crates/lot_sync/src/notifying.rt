@@ -1,7 +1,8 @@
 //! Notifying the threads that wait on a condition, as WTF's `Condition` does.
 ghost use Rattle.std.specs.Prelude.{◌≡◌, ◌≤◌, MatchBool};
 ghost use Rattle.lot_core.specs.Steps.{IsCallCount};
-ghost use Rattle.lot_sync.specs.Lot.{IsWide, IsCond, calling};
+ghost use Rattle.lot_sync.specs.Lot.{◌≈◌, IsWide, IsCond, calling};
+ghost use Rattle.lot_sync.specs.Words.{Adds, LookWord, NotifyWord, NotifyAllWord};
 ghost use Rattle.lot_waits.specs.Notifying.{one_if};
 
 use crate::lot::Lot;
@@ -16,7 +17,8 @@ impl<V: Keeps + Send, N: LotName<V> + Send> Lot<V, N> {
     /// Whether somebody may wait on the condition at some moment of this call. It is an observation: nothing is promised of it.
     pub fn has_waiters(&self, pass: Pass<V, N>, cond: usize) -> (Pass<V, N>, bool)
         requires cond { IsCond self.now cond }
-        ensures same { result.0 ≡ pass }
+        ensures same { result.0 ≈ pass }
+        ensures made { Adds pass.made (LookWord pass.thread cond result.1) result.0.made }
         ensures wide { IsWide self.now result.0 }
     {
         prove!(self.has_cond(cond));
@@ -35,7 +37,8 @@ impl<V: Keeps + Send, N: LotName<V> + Send> Lot<V, N> {
         moment: Moment,
     ) -> (Pass<V, N>, bool)
         requires cond { IsCond self.now cond }
-        ensures counted { MatchBool result.1 (result.0 ≡ calling pass cond 1) (result.0 ≡ pass) }
+        ensures counted { MatchBool result.1 (result.0 ≈ calling pass cond 1) (result.0 ≈ pass) }
+        ensures made { Adds pass.made (NotifyWord pass.thread cond 1 (one_if result.1)) result.0.made }
         ensures wide { IsWide self.now result.0 }
     {
         prove!(self.has_cond(cond));
@@ -57,7 +60,8 @@ impl<V: Keeps + Send, N: LotName<V> + Send> Lot<V, N> {
     ) -> (Pass<V, N>, usize)
         requires cond { IsCond self.now cond }
         requires count { IsCallCount count }
-        ensures counted { result.0 ≡ calling pass cond result.1 }
+        ensures counted { result.0 ≈ calling pass cond result.1 }
+        ensures made { Adds pass.made (NotifyWord pass.thread cond count result.1) result.0.made }
         ensures most { result.1 ≤ count }
         ensures wide { IsWide self.now result.0 }
     {
@@ -71,7 +75,8 @@ impl<V: Keeps + Send, N: LotName<V> + Send> Lot<V, N> {
     /// Takes all threads of the condition's line, and answers how many. Where nobody waits it is one load, and no bucket is locked.
     pub fn notify_all<R: Wait>(&self, rt: &R, pass: Pass<V, N>, cond: usize) -> (Pass<V, N>, usize)
         requires cond { IsCond self.now cond }
-        ensures counted { result.0 ≡ calling pass cond result.1 }
+        ensures counted { result.0 ≈ calling pass cond result.1 }
+        ensures made { Adds pass.made (NotifyAllWord pass.thread cond result.1) result.0.made }
         ensures wide { IsWide self.now result.0 }
     {
         prove!(self.has_cond(cond));

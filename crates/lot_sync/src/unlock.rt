@@ -1,10 +1,11 @@
 //! Letting a lock go, as WTF's `Lock::unlock` does: one compare-exchange where nobody waits, else one sleeper is taken from
 //! the line, and the lock is handed to it or left to whoever comes first.
-ghost use Rattle.std.specs.Prelude.{◌≡◌, ◌⊎◌, ◌<◌, true, false, MatchOption, IfNone, length};
-ghost use Rattle.lot_sync.specs.Lot.{Owns, HasSeen, IsWide, leaving};
+ghost use Rattle.std.specs.Prelude.{◌≡◌, ◌⊎◌, ◌<◌, true, false, MatchOption, IfNone, is_none, length};
+ghost use Rattle.lot_sync.specs.Lot.{◌≈◌, Owns, HasSeen, IsWide, leaving};
+ghost use Rattle.lot_sync.specs.Words.{Adds, UnparkedWord};
 ghost use Rattle.lot_sync.specs.Values.{MayGiveBack};
 ghost use Rattle.lot_sync.specs.Passes.{sees, AreCounted, IsNewOwner};
-ghost use Rattle.lot_locks.specs.Released.{IsFitting};
+ghost use Rattle.lot_locks.specs.Released.{IsFitting, FreeWord};
 ghost use Rattle.lot_locks.specs.declared.released.Released.TheVariants.{Quiet};
 ghost use Rattle.lot_words.specs.Values.{IsIn, HasSeen as OwnHasSeen};
 
@@ -19,8 +20,7 @@ use lot_words::Keeps;
 use std::sync::Wait;
 
 impl<V: Keeps + Send, N: LotName<V> + Send> Lot<V, N> {
-    /// Lets the lock go. Where nobody is parked it is one read-modify-write of the lock's word. The pass shows what was answered: how the
-    /// last lock that it let go was released.
+    /// Lets the lock go. Where nobody is parked it is one read-modify-write of the lock's word.
     ///
     /// The moment is looked at only where somebody is parked: a caller that has to ask a clock for it calls `unlock_asking`.
     #[inline(always)]
@@ -34,7 +34,8 @@ impl<V: Keeps + Send, N: LotName<V> + Send> Lot<V, N> {
         requires key { held.key < self.now.locks }
         requires owns { Owns pass held.key }
         requires back { MayGiveBack V.Keeps pass held }
-        ensures pass { result.0 ≡ leaving pass held.key held.value result.1 }
+        ensures pass { result.0 ≈ leaving pass held.key held.value }
+        ensures made { Adds pass.made (FreeWord pass.thread held.key result.1) result.0.made }
         ensures wide { IsWide self.now result.0 }
         ensures seen { HasSeen result.0 held.key held.value }
         ensures fits { IsFitting result.1 false moment.now }
@@ -58,7 +59,8 @@ impl<V: Keeps + Send, N: LotName<V> + Send> Lot<V, N> {
         requires owns { Owns pass held.key }
         requires back { MayGiveBack V.Keeps pass held }
         requires callable { M.pre moment }
-        ensures pass { result.0 ≡ leaving pass held.key held.value result.1 }
+        ensures pass { result.0 ≈ leaving pass held.key held.value }
+        ensures made { Adds pass.made (FreeWord pass.thread held.key result.1) result.0.made }
         ensures wide { IsWide self.now result.0 }
         ensures seen { HasSeen result.0 held.key held.value }
         ensures fits { (result.1 ≡ Quiet) ⊎ ((m : _) × M.post moment m × IsFitting result.1 false m.now) }
@@ -81,7 +83,8 @@ impl<V: Keeps + Send, N: LotName<V> + Send> Lot<V, N> {
         requires key { held.key < self.now.locks }
         requires owns { Owns pass held.key }
         requires back { MayGiveBack V.Keeps pass held }
-        ensures pass { result.0 ≡ leaving pass held.key held.value result.1 }
+        ensures pass { result.0 ≈ leaving pass held.key held.value }
+        ensures made { Adds pass.made (FreeWord pass.thread held.key result.1) result.0.made }
         ensures wide { IsWide self.now result.0 }
         ensures seen { HasSeen result.0 held.key held.value }
         ensures fits { IsFitting result.1 true moment.now }
@@ -89,7 +92,7 @@ impl<V: Keeps + Send, N: LotName<V> + Send> Lot<V, N> {
         self.unlock_as(rt, pass, held, moment, true)
     }
 
-    /// Lets the lock go where nobody is parked, which the pass shows as `Quiet`; else the held value comes back, and the lock is still owned.
+    /// Lets the lock go where nobody is parked; else the held value comes back, and the lock is still owned.
     #[inline(always)]
     pub fn unlock_unparked(
         &self,
@@ -99,7 +102,8 @@ impl<V: Keeps + Send, N: LotName<V> + Send> Lot<V, N> {
         requires key { held.key < self.now.locks }
         requires owns { Owns pass held.key }
         requires back { MayGiveBack V.Keeps pass held }
-        ensures freed { MatchOption result.1 (result.0 ≡ leaving pass held.key held.value Quiet) (λ back. (back ≡ held) × (result.0 ≡ pass)) }
+        ensures freed { MatchOption result.1 (result.0 ≈ leaving pass held.key held.value) (λ back. (back ≡ held) × (result.0 ≈ pass)) }
+        ensures made { Adds pass.made (UnparkedWord pass.thread held.key (is_none result.1)) result.0.made }
         ensures wide { IsWide self.now result.0 }
         ensures seen { IfNone result.1 (HasSeen result.0 held.key held.value) }
     {
@@ -127,7 +131,8 @@ impl<V: Keeps + Send, N: LotName<V> + Send> Lot<V, N> {
         requires key { held.key < self.now.locks }
         requires owns { Owns pass held.key }
         requires back { MayGiveBack V.Keeps pass held }
-        ensures pass { result.0 ≡ leaving pass held.key held.value result.1 }
+        ensures pass { result.0 ≈ leaving pass held.key held.value }
+        ensures made { Adds pass.made (FreeWord pass.thread held.key result.1) result.0.made }
         ensures wide { IsWide self.now result.0 }
         ensures seen { HasSeen result.0 held.key held.value }
         ensures fits { IsFitting result.1 fair moment.now }

@@ -3,6 +3,7 @@
 ghost use Rattle.std.specs.Prelude.{◌<◌};
 ghost use Rattle.lot_sync.specs.Lot.{Owns, IsWide, IsCond};
 ghost use Rattle.lot_sync.specs.Values.{MayGiveBack, WaitsAndGets};
+ghost use Rattle.lot_sync.specs.Words.{Adds, WaitedWord};
 
 use crate::held::Held;
 use crate::lot::Lot;
@@ -17,8 +18,7 @@ impl<V: Keeps + Send, N: LotName<V> + Send> Lot<V, N> {
     /// Lets the lock go, waits on the condition until a notification takes the thread, and gets the lock again. The lock is let go when
     /// the thread is in the condition's line, so no notification is missed that comes after it.
     ///
-    /// The moment is that of the unlock, of which the pass shows how it ended. What the caller waited for may be gone again when the lock
-    /// is got: wait in a loop.
+    /// The moment is that of the unlock. What the caller waited for may be gone again when the lock is got: wait in a loop.
     pub fn wait<R: Wait>(
         &self,
         rt: &R,
@@ -31,7 +31,8 @@ impl<V: Keeps + Send, N: LotName<V> + Send> Lot<V, N> {
         requires owns { Owns pass held.key }
         requires back { MayGiveBack V.Keeps pass held }
         requires cond { IsCond self.now cond }
-        ensures gets { WaitsAndGets V.Keeps pass held cond moment.now result.1 result.0 }
+        ensures gets { WaitsAndGets V.Keeps pass held cond result.1 result.0 }
+        ensures made { Adds pass.made (WaitedWord pass.thread cond held.key moment.now) result.0.made }
         ensures wide { IsWide self.now result.0 }
     {
         self.wait_after(rt, pass, held, cond, moment, &AtOnce)
@@ -52,7 +53,8 @@ impl<V: Keeps + Send, N: LotName<V> + Send> Lot<V, N> {
         requires owns { Owns pass held.key }
         requires back { MayGiveBack V.Keeps pass held }
         requires cond { IsCond self.now cond }
-        ensures gets { WaitsAndGets V.Keeps pass held cond moment.now result.1 result.0 }
+        ensures gets { WaitsAndGets V.Keeps pass held cond result.1 result.0 }
+        ensures made { Adds pass.made (WaitedWord pass.thread cond held.key moment.now) result.0.made }
         ensures wide { IsWide self.now result.0 }
     {
         prove!(self.has_cond(cond));

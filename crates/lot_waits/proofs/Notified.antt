@@ -28,7 +28,8 @@ module _ {V : Type 0} where
   finds_nobody p q c saw clear is = (refl, subst (λ b. q ≡ looked p c b) clear is)
 
   -- ---- some
-  pub notified : (p m q : LotStanding V) (c n taken : ℕ) (saw : Bool) → saw ≡ true → m ≡ looked p c saw → Calls m c n taken q → Notifies p c n taken q
+  pub notified : (p m q : LotStanding V) (c n taken : ℕ) (saw : Bool) → saw ≡ true → m ≡ looked p c saw
+      → Calls m c n taken q → Notifies p c n taken q
   notified p m q c n taken saw set is calls =
       let at : m ≡ looked p c true = subst (λ b. m ≡ looked p c b) set is in
       let (more, went) = subst (λ (r : LotStanding V). Calls r c n taken q) at calls in
@@ -47,7 +48,8 @@ module _ {V : Type 0} where
       ap (λ (s : Option ℕ). record p.own { conds = record (took p.own.conds c taken) { sweeps = s }; stand = Idle }) (sym idle.0.sweeps)
       ∙ ap (λ (s : Stand). record p.own { conds = took p.own.conds c taken; stand = s }) (sym idle.1)
 
-  pub may_sweep : (p m r : LotStanding V) (c : ℕ) (saw : Bool) → IsIdle p.own → m ≡ looked p c saw → r ≡ adding (setting_out m c) (Makes (Lower m.thread c) Done ∷ [])
+  pub may_sweep : (p m r : LotStanding V) (c : ℕ) (saw : Bool) → IsIdle p.own → m ≡ looked p c saw
+      → r ≡ adding (setting_out m c) (Makes (Lower m.thread c) Done ∷ [])
       → MaySweep r.own c
   may_sweep p m r c saw idle is lowered =
       let at : r ≡ adding (setting_out (looked p c saw) c) (Makes (Lower p.thread c) Done ∷ []) =
@@ -71,4 +73,5 @@ module _ {V : Type 0} where
       inr (went
       ∙ ap (λ did. record (swept (setting_out p c) c taken) { did = did })
       (three p.did (Makes (Look p.thread c) (Saw true)) (Makes (Lower p.thread c) Done) (Makes (Sweep p.thread c) (Count taken)))
-      ∙ ap (λ (own : LotPassView V). record { thread = p.thread; own = own; did = p.did ++ word_of_all p.thread c taken }) (swept_own p c taken idle))
+      ∙ ap (λ (own : LotPassView V). record { thread = p.thread; own = own; did = p.did ++ word_of_all p.thread c taken })
+      (swept_own p c taken idle))

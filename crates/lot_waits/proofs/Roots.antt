@@ -36,7 +36,8 @@ module _ (root now : RootShown LotRootView) where
       ∙ owes_only (as_cond root.root.own).owes line (sym (was_owing root.root.own is.kind) ∙ none)
 
   -- the thread is last in the line
-  pub queues : {V : Type 0} (p q : LotStanding V) → q.thread ≡ p.thread → IsCondNow root (enlisted_root (as_cond root.root.own) p.thread) now
+  pub queues : {V : Type 0} (p q : LotStanding V) → q.thread ≡ p.thread
+      → IsCondNow root (enlisted_root (as_cond root.root.own) p.thread) now
       → Queues root_view (λ (r : LotStanding V). r.thread) p root true q now
   queues p q same is =
       let own : CondRootView = enlisted_root (as_cond root.root.own) p.thread in
@@ -48,7 +49,8 @@ module _ (root now : RootShown LotRootView) where
       }
 
   -- the first n were taken
-  pub dequeues : (n : ℕ) → IsCondNow root (called_root (as_cond root.root.own) n) now → owes_in root.root.own ≡ [] → Dequeues root_view n root now
+  pub dequeues : (n : ℕ) → IsCondNow root (called_root (as_cond root.root.own) n) now → owes_in root.root.own ≡ []
+      → Dequeues root_view n root now
   dequeues n is none =
       let own : CondRootView = called_root (as_cond root.root.own) n in
       let same = sym (cond_line root.root.own is.kind) in

@@ -10,7 +10,8 @@ use Rattle.lot_waits.specs.Counts.{CountsView, wrap, counts_shown}
 use Rattle.lot_waits.specs.Ledger.{AreSums, AreTallied, AreZeros, IsBalanced, called_at, woken_at}
 
 -- no waiter yet
-pub sums_of_none : (locks conds : ℕ) (count_at : ℕ → CountsView → ℕ) (sums : List ℕ) → sums ≡ replicate conds 0 → AreSums locks conds count_at [] sums
+pub sums_of_none : (locks conds : ℕ) (count_at : ℕ → CountsView → ℕ) (sums : List ℕ) → sums ≡ replicate conds 0
+    → AreSums locks conds count_at [] sums
 sums_of_none locks conds count_at sums e = record {
   long = ap length e ∙ length-replicate conds 0;
   each = λ i near. ap (λ xs. slice_index xs i) e ∙ get_or-replicate conds i 0 0 near;
@@ -32,7 +33,8 @@ sums_turned locks conds count_at waiters sums are = record {
 -- ---- the balance
 sum_mapped : {A B : Type 0} (f : A → B) (g : B → ℕ) (xs : List A) → sum_by g (map f xs) ≡ sum_by (λ x. g (f x)) xs
 sum_mapped f g [] = refl
-sum_mapped f g (x ∷ xs) = sum_by-cons g (f x) (map f xs) ∙ (ap (λ n. g (f x) + n) (sum_mapped f g xs) ∙ sym (sum_by-cons (λ y. g (f y)) x xs))
+sum_mapped f g (x ∷ xs) = sum_by-cons g (f x) (map f xs)
+    ∙ (ap (λ n. g (f x) + n) (sum_mapped f g xs) ∙ sym (sum_by-cons (λ y. g (f y)) x xs))
 
 -- what the passes have counted is balanced, where all that were taken have woken
 pub balanced_of : {V : Type 0} (passes : List (PassShown (LotPassView V))) → ((c : ℕ) → called_in passes c ≡ woken_in passes c)
@@ -46,7 +48,8 @@ tallied_none locks conds sums zeros = record {
   woken_sums = sums_of_none locks conds woken_at sums.woken.items zeros.1;
 }
 
-pub tallied_turned : (locks conds : ℕ) (waiters : List CountsView) (sums : Tallies) → AreTallied locks conds waiters sums → AreTallied locks conds (reverse waiters) sums
+pub tallied_turned : (locks conds : ℕ) (waiters : List CountsView) (sums : Tallies) → AreTallied locks conds waiters sums
+    → AreTallied locks conds (reverse waiters) sums
 tallied_turned locks conds waiters sums are = record {
   called_sums = sums_turned locks conds called_at waiters sums.called.items are.called_sums;
   woken_sums = sums_turned locks conds woken_at waiters sums.woken.items are.woken_sums;

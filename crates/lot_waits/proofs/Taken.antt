@@ -1,5 +1,6 @@
 -- What is so of a pass that has taken nobody, and of what the lot tells of a line and its letters.
-use Rattle.std.proofs.Common.{◌≡◌, ℕ, ◌+◌, ◌≤◌, Bool, true, false, List, [], ◌∷◌, ◌++◌, length, drop, slice_index, slice_set, refl, ap, ◌∙◌, arith}
+use Rattle.std.proofs.Common.{◌≡◌, ℕ, ◌+◌, ◌≤◌, Bool, true, false, List, [], ◌∷◌, ◌++◌, length, drop, slice_index, slice_set, refl, ap, ◌∙◌}
+use Rattle.std.proofs.Common.{arith}
 use Rattle.std.proofs.lemmas.List.{set-get_or, length-drop}
 use Rattle.lot_core.specs.Steps.{SaysMoreBehind}
 use Rattle.lot_park.specs.Parking.{TellsCount, debts}
@@ -16,7 +17,8 @@ none_called p c =
 
 -- ---- what the lot tells
 -- where some of the line are left, more may wait
-pub says_more : (threads n : ℕ) (line : List ℕ) (taken : ℕ) (more : Bool) → 1 ≤ n → TellsCount threads n line taken more → SaysMoreBehind n line more
+pub says_more : (threads n : ℕ) (line : List ℕ) (taken : ℕ) (more : Bool) → 1 ≤ n → TellsCount threads n line taken more
+    → SaysMoreBehind n line more
 says_more threads n line taken true some told longer = refl
 says_more threads n line taken false some told longer =
     let none : drop n line ≡ [] = told.alone some refl in

@@ -59,7 +59,8 @@ module _ {V : Type 0} where
   same_thread p s c l became r = ap (λ (q : LotStanding V). q.thread) r.is
 
   -- and may take its lock
-  pub takes : (locks low : ℕ) (p s : LotStanding V) (c l : ℕ) (became : Released) → MayEnlist locks low p c l → Rested p c l became s → MayTake s.own l
+  pub takes : (locks low : ℕ) (p s : LotStanding V) (c l : ℕ) (became : Released) → MayEnlist locks low p c l
+      → Rested p c l became s → MayTake s.own l
   takes locks low p s c l became may r = subst (λ (q : LotStanding V). MayTake q.own l) (sym r.is) (inr (awake, inr (c, refl)))
     where
       awake : IsAwake (rest p c l r.left).own
@@ -104,9 +105,11 @@ module _ {V Part : Type 0} (rule : CallersRule V Part) where
       let same : d ≡ c = (let f : Some c ≡ Some d = out in cc) in
       subst (λ k. s ≡ adding (roused last c) (Collects p.thread (Some k) ∷ [])) none
       (subst (λ k. s ≡ adding (roused last k) (Collects p.thread (Some token) ∷ [])) same is)
-      ∙ ap (λ did. record (rest p c l y) { did = did }) (four p.did (Makes (Enlist p.thread c l) Done) free looks (Collects p.thread (Some 0) ∷ []))
+      ∙ ap (λ did. record (rest p c l y) { did = did })
+      (four p.did (Makes (Enlist p.thread c l) Done) free looks (Collects p.thread (Some 0) ∷ []))
 
-  from_bed : (p free s : LotStanding V) (c l : ℕ) (became : Released) (token : ℕ) → p.own.locks.asleep ≡ false → LetsGo (bed p c l) l became free
+  from_bed : (p free s : LotStanding V) (c l : ℕ) (became : Released) (token : ℕ) → p.own.locks.asleep ≡ false
+      → LetsGo (bed p c l) l became free
       → Awaited (IsLooked rule) free token s → Rested p c l became s
   from_bed p free s c l became token awake went found =
       let gone : LotStanding V = adding (letting_go (bed p c l) l went.value) went.did in
@@ -129,7 +132,8 @@ module _ {V Part : Type 0} (rule : CallersRule V Part) where
       (subst (λ (q : LotStanding V). LetsGo q l became slept.free) slept.lined slept.went) slept.awaited
 
   -- with the lock again
-  pub has_waited : (p s q : LotStanding V) (c l : ℕ) (became : Released) → Rested p c l became s → IsOwner rule s l q → HasWaited rule p c l became q
+  pub has_waited : (p s q : LotStanding V) (c l : ℕ) (became : Released) → Rested p c l became s → IsOwner rule s l q
+      → HasWaited rule p c l became q
   has_waited p s q c l became r owner =
       let at : LotStanding V = adding (rest p c l r.left) (slept_word p.thread c l r.free r.looks) in
       let o : IsOwner rule at l q = subst (λ (m : LotStanding V). IsOwner rule m l q) r.is owner in

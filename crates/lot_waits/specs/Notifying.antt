@@ -8,7 +8,6 @@ use Rattle.lot_rights.specs.declared.views.Access.{Access}
 use Rattle.lot_rights.specs.declared.views.Access.TheVariants.{Makes}
 use Rattle.lot_whole.specs.Standing.{IsIdle, MaySweep}
 use Rattle.lot_scheme.specs.Standing.{LotStanding, adding, called, swept}
-use Rattle.lot_locks.specs.Released.{released_in}
 use Rattle.lot_scheme.specs.Words.{CallWord, word_of_all, word_of_nobody}
 use Rattle.lot_waits.specs.Counts.{counts_in, took}
 
@@ -72,8 +71,7 @@ module _ {V : Type 0} where
   NotifiesAll p c taken q =
       FindsNobody p c taken q ⊎ (q ≡ adding (called p c taken) (word_of_all p.thread c taken))
 
-  -- it is idle still, and has counted so many more of c's line; and its last unlock ended as before
+  -- it is idle still, and has counted so many more of c's line
   pub record HasTaken (p : LotStanding V) (c taken : ℕ) (q : LotStanding V) : Type 0 where
     pub idle : IsIdle q.own
     pub counts : counts_in q ≡ took (counts_in p) c taken
-    pub released : released_in q.did ≡ released_in p.did

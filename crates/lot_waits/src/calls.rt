@@ -1,5 +1,5 @@
 //! What a thread of a lot can do on a condition.
-ghost use Rattle.std.specs.Prelude.{◌≡◌, ℕ, ◌<◌, ◌≤◌, false, Some, [], ◌∷◌};
+ghost use Rattle.std.specs.Prelude.{◌≡◌, ℕ, ◌<◌, ◌≤◌, false, [], ◌∷◌};
 ghost use Rattle.lot_core.specs.Steps.{IsCallCount};
 ghost use Rattle.lot_events.specs.declared.events.Event.TheVariants.{Look};
 ghost use Rattle.lot_events.specs.declared.events.Seen.TheVariants.{Bool as Saw};
@@ -8,7 +8,7 @@ ghost use Rattle.lot_words.specs.World.{Holds};
 ghost use Rattle.lot_words.specs.Values.{IsIn};
 ghost use Rattle.lot_whole.specs.Standing.{IsIdle};
 ghost use Rattle.lot_scheme.specs.Standing.{adding};
-ghost use Rattle.lot_locks.specs.Released.{IsFitting, released_in};
+ghost use Rattle.lot_locks.specs.Released.{IsFitting};
 ghost use Rattle.lot_waits.specs.Counts.{counts_in, woke};
 ghost use Rattle.lot_waits.specs.Notifying.{Notifies, NotifiesAll, HasTaken, one_if};
 ghost use Rattle.lot_waits.specs.Waiting.{HasWaited};
@@ -45,7 +45,6 @@ pub fn wait<V: Keeps + Send, N: LotName<V> + Send, R: Wait, B: BeforeSleep>(
     ensures waited { HasWaited V.Keeps pass cond lock result.1 result.0 }
     ensures idle { IsIdle result.0.own }
     ensures counts { counts_in result.0 ≡ woke (counts_in pass) cond }
-    ensures released { released_in result.0.did ≡ Some result.1 }
     ensures fits { IsFitting result.1 false moment.now }
 {
     let (pass, released) = sleep_on(rt, parking, pass, cond, lock, moment, before);
@@ -64,7 +63,6 @@ pub fn has_waiters<V: Keeps + Send, N: LotName<V> + Send>(
     requires idle { IsIdle pass.own }
     ensures pass { result.0 ≡ adding pass (Makes (Look pass.thread cond) (Saw result.1) ∷ []) }
     ensures idle { IsIdle result.0.own }
-    ensures released { released_in result.0.did ≡ released_in pass.did }
 {
     parking.scheme().look(pass, cond)
 }

@@ -5,8 +5,8 @@ ghost use Rattle.lot_waits.specs.Ledger.{AreTallied, IsBalanced, IsLedger};
 
 use crate::tallies::{Tallies, add};
 
-/// What the passes of a lot counted for each condition, modulo 2^64: the sleepers that were taken from its line, and the
-/// waits that ended. Both lists are equal.
+/// What the passes of a lot counted for each condition, modulo 2^64: the sleepers that were taken from its line, and
+/// the waits that ended. Both lists are equal.
 #[derive(Debug, Drop)]
 pub struct Ledger {
     pub called: Vec<u64>,

@@ -1,5 +1,5 @@
-//! Taking threads from a condition's line, as WTF's `Condition::notifyOne` and `Condition::notifyAll` do, and several of
-//! them at once.
+//! Taking threads from a condition's line, as WTF's `Condition::notifyOne` and `Condition::notifyAll` do, and several
+//! of them at once.
 ghost use Rattle.std.specs.Prelude.{◌≡◌, ℕ, ◌<◌, ◌≤◌, length, []};
 ghost use Rattle.lot_core.specs.Steps.{IsCallCount};
 ghost use Rattle.lot_park.specs.Parking.{Tells, TellsCount};
@@ -55,7 +55,8 @@ fn count_of(taken: Option<usize>) -> usize
     }
 }
 
-/// Takes the first `count` threads of the condition's line, or all where they are fewer, and answers how many they were.
+/// Takes the first `count` threads of the condition's line, or all where they are fewer, and answers how many they
+/// were.
 pub(crate) fn call_some<S: CondSteps, R: Wait>(
     rt: &R,
     parking: &ParkingLot<S>,

@@ -17,7 +17,7 @@ loop-preserved g c =
       tt,
       tt,
       once_more g.V.Keeps c.args.lot.now c.args.pass c.loop.pass c.wait-woken.result.0 c.args.held c.loop.held c.wait-woken.result.1 c.args.cond c.args.moment.now c.requires.key near inv.4
-          inv.3 inv.2 gets,
-      subst (λ k. Owns c.wait-woken.result.0 k) inv.2.key_is gets.2.owns,
+          inv.3 inv.2 gets c.wait-woken.ensures.made,
+      subst (λ k. Owns c.wait-woken.result.0 k) inv.2.key_is gets.owns,
       c.wait-woken.ensures.wide,
     )

@@ -1,5 +1,6 @@
-use Rattle.std.proofs.Common.{subst, sym}
-use Rattle.lot_calls.proofs.Visiting.{visits}
+use Rattle.std.proofs.Common.{subst, sym, ap}
+use Rattle.lot_sync.specs.Lot.{PassView}
+use Rattle.lot_calls.proofs.Visiting.{visits, visit_made}
 use Rattle.lot_calls.proofs.with.with_lock.Goals as goal
 
 pub returns-clause-visits : goal.returns-clause-visits
@@ -11,7 +12,13 @@ returns-clause-visits g c =
       found,
       left,
       c.work-outcome.ensures,
-      visits g.V.Keeps c.args.pass c.lock-pass.result.0 c.unlock-pass.result.0 c.args.key c.args.moment.now c.lock-pass.result.1 found.now left.now c.unlock-pass.result.1
-          c.requires.free gets c.value_mut.ensures.value (c.requires.keeps found c.work-outcome.result left kept c.work-outcome.ensures) c.unlock-pass.ensures.fits
+      visits g.V.Keeps c.args.pass c.lock-pass.result.0 c.unlock-pass.result.0 c.args.key c.lock-pass.result.1 found.now left.now
+          c.requires.free gets c.value_mut.ensures.value (c.requires.keeps found c.work-outcome.result left kept c.work-outcome.ensures)
           c.unlock-pass.ensures.pass c.unlock-pass.ensures.seen,
     )
+
+pub returns-clause-made : goal.returns-clause-made
+returns-clause-made g c =
+    let gets = c.lock-pass.ensures.gets in
+    visit_made c.args.pass c.lock-pass.result.0 c.unlock-pass.result.0 c.args.key c.lock-pass.result.1.key c.args.moment.now c.unlock-pass.result.1 gets.key_is
+    (ap (λ (p : PassView g.row.V.Denot). p.thread) gets.after_is) c.lock-pass.ensures.made c.unlock-pass.ensures.fits c.unlock-pass.ensures.made

@@ -1,5 +1,4 @@
-use Rattle.std.proofs.Common.{ap, ◌∙◌}
-use Rattle.lot_sync.specs.Lot.{leaving}
+use Rattle.std.proofs.Common.{◌∙◌}
 use Rattle.lot_sync.proofs.Holdings.{owns_none_again}
 use Rattle.lot_load.proofs.Rounds.{may_give_back}
 use Rattle.lot_load.proofs.count.go_round.Goals as goal
@@ -11,7 +10,5 @@ unlock-pass-requires-clause-back g c κs within =
 
 pub returns : goal.returns
 returns g c =
-    owns_none_again c.args.pass c.lock-pass.result.0 c.unlock-pass.result.0 _ c.lock-pass.result.1.value c.add_one-called.new.held.value c.unlock-pass.result.1
-    c.requires.free c.lock-pass.ensures.gets.after_is
-    (c.unlock-pass.ensures.pass ∙ ap (λ k. leaving c.lock-pass.result.0 k c.add_one-called.new.held.value c.unlock-pass.result.1)
-    (c.add_one-called.ensures.works.key_same ∙ c.lock-pass.ensures.gets.key_is))
+    owns_none_again c.args.pass c.lock-pass.result.0 c.unlock-pass.result.0 _ c.add_one-called.new.held.key c.lock-pass.result.1.value c.add_one-called.new.held.value
+    c.requires.free c.lock-pass.ensures.gets.after_is c.unlock-pass.ensures.pass (c.add_one-called.ensures.works.key_same ∙ c.lock-pass.ensures.gets.key_is)

@@ -5,7 +5,7 @@ use Rattle.lot_scheme.specs.SemCalls.{TakesPermit}
 use Rattle.lot_sems.specs.declared.taking.Taken.TheVariants.{Got}
 use Rattle.lot_permits.specs.Seeking.{GetsPermit}
 use Rattle.lot_permits.proofs.Seeking.{goes_again, got_slowly, tried}
-use Rattle.lot_permits.proofs.Rest.{idle_got, freed_got}
+use Rattle.lot_permits.proofs.Rest.{idle_got}
 use Rattle.lot_permits.proofs.calls.acquire.Goals as goal
 use Rattle.lot_permits.proofs.calls.acquire.Goals.{in-Got, in-Empty}
 
@@ -31,6 +31,3 @@ returns-clause-gets g c =
 
 pub returns-clause-idle : goal.returns-clause-idle
 returns-clause-idle g c = idle_got c.args.pass c.match-taken.pass c.args.key c.requires.idle (returns-clause-gets g c)
-
-pub returns-clause-freed : goal.returns-clause-freed
-returns-clause-freed g c = freed_got c.args.pass c.match-taken.pass c.args.key (returns-clause-gets g c)

@@ -12,4 +12,5 @@ pub returns-clause-taken : goal.returns-clause-taken
 returns-clause-taken g c =
     let taken = one_if c.call_one.result.1 in
     told_some c.args.pass c.call_one.result.0 c.args.cond 1 taken c.requires.idle
-    (notified c.args.pass c.look-pass.result.0 c.call_one.result.0 c.args.cond 1 taken c.look-pass.result.1 c.if-not-waits.false c.look-pass.ensures c.call_one.ensures)
+    (notified c.args.pass c.look-pass.result.0 c.call_one.result.0 c.args.cond 1 taken c.look-pass.result.1 c.if-not-waits.false
+    c.look-pass.ensures c.call_one.ensures)

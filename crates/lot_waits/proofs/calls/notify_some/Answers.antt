@@ -10,5 +10,6 @@ returns-then-not-waits-clause-taken g c =
 pub returns-clause-taken : goal.returns-clause-taken
 returns-clause-taken g c =
     told_some c.args.pass c.call_some.result.0 c.args.cond c.args.count c.call_some.result.1 c.requires.idle
-    (notified c.args.pass c.look-pass.result.0 c.call_some.result.0 c.args.cond c.args.count c.call_some.result.1 c.look-pass.result.1 c.if-not-waits.false c.look-pass.ensures
+    (notified c.args.pass c.look-pass.result.0 c.call_some.result.0 c.args.cond c.args.count c.call_some.result.1 c.look-pass.result.1
+    c.if-not-waits.false c.look-pass.ensures
     c.call_some.ensures.pass)

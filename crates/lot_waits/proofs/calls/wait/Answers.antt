@@ -1,7 +1,7 @@
 use Rattle.std.proofs.Common.{◌<◌, sym, subst}
 use Rattle.lot_waits.specs.Waiting.{MayEnlist, HasWaited}
 use Rattle.lot_waits.proofs.Waited.{rested, same_thread, takes, has_waited}
-use Rattle.lot_waits.proofs.Told.{idle_waited, counts_waited, released_waited}
+use Rattle.lot_waits.proofs.Told.{idle_waited, counts_waited}
 use Rattle.lot_waits.proofs.calls.wait.Goals as goal
 
 pub get-requires-clause-thread : goal.get-requires-clause-thread
@@ -38,6 +38,5 @@ returns g c =
       waited = whole;
       idle = idle_waited g.V.Keeps p c.get.result c.args.cond c.args.lock became c.requires.idle whole;
       counts = counts_waited g.V.Keeps p c.get.result c.args.cond c.args.lock became whole;
-      released = released_waited g.V.Keeps p c.get.result c.args.cond c.args.lock became whole;
       fits = c.sleep_on-pass.ensures.fits;
     }

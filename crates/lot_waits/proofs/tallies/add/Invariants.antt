@@ -5,6 +5,7 @@ use Rattle.lot_waits.proofs.tallies.add.Given as goal
 abbrev pub invariant-loop-place : goal.invariant-loop-place
 invariant-loop-place l = record {
   long : length l.numbers.items ≡ length l.initial.numbers.items;
-  done : (i : ℕ) → i < l.place → slice_index l.numbers.items i ≡ wrap (slice_index l.initial.numbers.items i + slice_index l.others.items i);
+  done : (i : ℕ) → i < l.place
+      → slice_index l.numbers.items i ≡ wrap (slice_index l.initial.numbers.items i + slice_index l.others.items i);
   left : (i : ℕ) → l.place ≤ i → slice_index l.numbers.items i ≡ slice_index l.initial.numbers.items i;
 }

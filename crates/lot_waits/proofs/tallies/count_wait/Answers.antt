@@ -11,5 +11,6 @@ returns c conds q among kept =
     let t = c.args.tallies.value in
     subst (λ (s : Tallies). AreKept l conds (woke q c.args.cond) s.called.items c.raise.new.numbers.items) (sym c.deref_mut.ensures.value)
     (subst (λ (xs : List ℕ). AreKept l conds (woke q c.args.cond) t.called.items xs)
-    (sym (c.raise.ensures ∙ ap (λ (s : Tallies). slice_set s.woken.items place (wrap (slice_index s.woken.items place + 1))) c.deref_mut.ensures.value))
+    (sym (c.raise.ensures
+    ∙ ap (λ (s : Tallies). slice_set s.woken.items place (wrap (slice_index s.woken.items place + 1))) c.deref_mut.ensures.value))
     (kept_woken l conds q t.called.items t.woken.items c.args.cond among kept))

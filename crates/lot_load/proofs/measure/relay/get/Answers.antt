@@ -15,14 +15,13 @@ loop-init g c =
 pub loop-preserved : goal.loop-preserved
 loop-preserved g c =
     let inv = c.loop.invariant.2 in
-    let became = c.wait-woken.ensures.gets.0 in
-    let gets = c.wait-woken.ensures.gets.2 in
-    let left = left_all (λ (x y : Number). Unit {0}) c.loop.pass c.loop.held became inv.holding in (
+    let gets = c.wait-woken.ensures.gets in
+    let left = left_all (λ (x y : Number). Unit {0}) c.loop.pass c.loop.held inv.holding in (
       tt,
       tt,
       record {
         key = gets.key_is ∙ inv.key;
-        holding = got_holds _ (waking (leaving c.loop.pass c.loop.held.key c.loop.held.value became) _) c.wait-woken.result.0 c.loop.held.key c.wait-woken.result.1
+        holding = got_holds _ (waking (leaving c.loop.pass c.loop.held.key c.loop.held.value) _) c.wait-woken.result.0 c.loop.held.key c.wait-woken.result.1
             (record { no_lock = left.no_lock; no_permit = left.no_permit }) gets;
       },
     )

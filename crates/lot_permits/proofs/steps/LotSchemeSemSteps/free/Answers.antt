@@ -18,4 +18,5 @@ freed {V} low p q k false may (did, word, is) = (
 )
 
 pub returns : goal.returns
-returns g c = freed g.N.LotName.low c.args.pass c.free_permit.result.0 c.args.key c.free_permit.result.1 c.requires.may c.free_permit.ensures
+returns g c =
+    freed g.N.LotName.low c.args.pass c.free_permit.result.0 c.args.key c.free_permit.result.1 c.requires.may c.free_permit.ensures

@@ -1,4 +1,4 @@
-use Rattle.std.proofs.Common.{◌≡◌, ◌<◌, ◌≤◌, sym, ap, subst, ◌∙◌, arith}
+use Rattle.std.proofs.Common.{◌≡◌, sym, ap, subst, ◌∙◌, arith}
 use Rattle.std.specs.List.{Contains}
 use Rattle.lot_rights.specs.Shown.{RootShown}
 use Rattle.lot_rights.specs.declared.views.Access.TheVariants.{Posts}
@@ -17,34 +17,41 @@ use Rattle.lot_scheme.proofs.scheme.LotSchemeScheme.post.Goals.{then-key-self, e
 pub post_cond-requires-clause-owes : goal.post_cond-requires-clause-owes
 post_cond-requires-clause-owes g c =
     let q = c.into_root-root.result.root in
-    let has = subst (λ (r : RootShown LotRootView). Contains (root_view r).owes (c.args.at, c.args.token.0)) (sym c.into_root-root.ensures.same) c.requires in
+    let has = subst (λ (r : RootShown LotRootView). Contains (root_view r).owes (c.args.at, c.args.token.0))
+    (sym c.into_root-root.ensures.same) c.requires in
     let locks = c.self.invariant.3 in
     let low = c.self.invariant.4 in
     let is = c.key-key.ensures.is in
     let from = c.if-key-self.false in
     let below = c.if-key-self-2.true in
     (owed_cond q.key c.args.at c.args.token.0 q.own
-    (is_cond g.N.LotName.locks g.N.LotName.low q.key q.own c.into_root-root.ensures.kind (omega (arith, locks, is, from)) (omega (arith, low, is, below))) has).0
+    (is_cond g.N.LotName.locks g.N.LotName.low q.key q.own c.into_root-root.ensures.kind (omega (arith, locks, is, from))
+    (omega (arith, low, is, below))) has).0
 
 pub returns-clause-owes : goal.returns-clause-owes
 returns-clause-owes g c =
     let q = c.into_root-root.result.root in
     let kind = c.into_root-root.ensures.kind in
-    let has = subst (λ (r : RootShown LotRootView). Contains (root_view r).owes (c.args.at, c.args.token.0)) (sym c.into_root-root.ensures.same) c.requires in
+    let has = subst (λ (r : RootShown LotRootView). Contains (root_view r).owes (c.args.at, c.args.token.0))
+    (sym c.into_root-root.ensures.same) c.requires in
     let locks = c.self.invariant.3 in
     let low = c.self.invariant.4 in
     let is = c.key-key.ensures.is in
-    let left : (root_view c.if-key-self.root).owes ≡ without_debt c.args.at c.args.token.0 (root_view c.into_root-root.result).owes = elim c.if-key-self.branch [
+    let left : (root_view c.if-key-self.root).owes ≡ without_debt c.args.at c.args.token.0 (root_view c.into_root-root.result).owes =
+    elim c.if-key-self.branch [
       | then-key-self w ↦
           let below = w.if-key-self.true in
           ap (λ (r : RootShown LotRootView). (root_view r).owes) w.root-is
-          ∙ (seen_after lock q w.post-root.result.root (lock_paid (as_lock q.own)) (Posts q.key c.args.at c.args.token.0) w.post-root.ensures.posted
-          ∙ posted_lock q.key c.args.at c.args.token.0 q.own (is_lock g.N.LotName.locks g.N.LotName.low q.key q.own kind (omega (arith, locks, is, below))) has)
+          ∙ (seen_after lock q w.post-root.result.root (lock_paid (as_lock q.own)) (Posts q.key c.args.at c.args.token.0)
+          w.post-root.ensures.posted
+          ∙ posted_lock q.key c.args.at c.args.token.0 q.own
+          (is_lock g.N.LotName.locks g.N.LotName.low q.key q.own kind (omega (arith, locks, is, below))) has)
       | else-key-self+then-key-self-2 w ↦
           let from = w.if-key-self.false in
           let below = w.if-key-self-2.true in
           ap (λ (r : RootShown LotRootView). (root_view r).owes) w.root-is
-          ∙ (seen_after cond q w.post_cond.result.root (cond_paid (as_cond q.own) c.args.at) (Posts q.key c.args.at 0) w.post_cond.ensures.posted
+          ∙ (seen_after cond q w.post_cond.result.root (cond_paid (as_cond q.own) c.args.at) (Posts q.key c.args.at 0)
+          w.post_cond.ensures.posted
           ∙ posted_cond q.key c.args.at c.args.token.0 q.own
           (is_cond g.N.LotName.locks g.N.LotName.low q.key q.own kind (omega (arith, locks, is, from)) (omega (arith, low, is, below))) has)
       | else-key-self+else-key-self-2 w ↦

@@ -1,10 +1,20 @@
-use Rattle.std.proofs.Common.{sym, ap, ◌∙◌}
-use Rattle.lot_sync.specs.Lot.{PassView, one_more}
+use Rattle.std.proofs.Common.{sym, ap, subst}
+use Rattle.lot_scheme.specs.Standing.{LotStanding}
+use Rattle.lot_scheme.specs.Words.{GetPermitWord}
+use Rattle.lot_sync.specs.Lot.{◌≈◌, one_more}
+use Rattle.lot_sync.specs.Passes.{sees}
+use Rattle.lot_sync.proofs.Adding.{alike_at, adds_at}
 use Rattle.lot_sync.proofs.Calls.{sees_permit}
 use Rattle.lot_sync.proofs.lot.Lot.acquire.Goals as goal
 
 pub returns-clause-pass : goal.returns-clause-pass
 returns-clause-pass g c =
-    c.at_rest.ensures.pass
-    ∙ (sees_permit c.apart-right.result.0 c.acquire-right.result.0 c.args.key c.acquire-right.ensures.gets c.acquire-right.ensures.freed
-    ∙ ap (λ (v : PassView g.row.V.Denot). one_more v c.args.key) (sym c.apart-right.ensures.same))
+    let got = c.acquire-right.ensures.gets in
+    subst (λ v. c.at_rest.result ≈ one_more v c.args.key) (sym c.apart-right.ensures.same)
+    (alike_at c.at_rest.result (one_more (sees c.apart-right.result.0) c.args.key) c.acquire-right.result.0 c.at_rest.ensures.pass (sees_permit c.apart-right.result.0 c.acquire-right.result.0 c.args.key got.did got.is))
+
+pub returns-clause-made : goal.returns-clause-made
+returns-clause-made g c =
+    let got = c.acquire-right.ensures.gets in
+    adds_at (λ t. GetPermitWord t c.args.key) c.args.pass c.at_rest.result c.apart-right.result.0 c.acquire-right.result.0 got.did c.apart-right.ensures.same c.at_rest.ensures.pass
+    (ap (λ (r : LotStanding g.row.V.Denot). r.did) got.is) got.got

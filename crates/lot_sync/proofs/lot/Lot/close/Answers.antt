@@ -1,8 +1,9 @@
-use Rattle.std.proofs.Common.{◌≡◌, ◌+◌, ◌<◌, [], length, map, vec_len, rules, subst, sym, ap, ◌∙◌}
+use Rattle.std.proofs.Common.{◌≡◌, ◌+◌, ◌*◌, ◌<◌, [], length, map, vec_len, rules, subst, sym, ap, ◌∙◌}
 use Rattle.std.specs.List.{All, Any}
 use Rattle.lot_rights.specs.Shown.{RootShown}
 use Rattle.lot_rights.proofs.Turns.{some_before, no_elements}
 use Rattle.lot_whole.specs.declared.views.LotRootView.{LotRootView}
+use Rattle.lot_whole.specs.Closing.{IsToldTo}
 use Rattle.lot_whole.specs.Family.{LotSize, key_count}
 use Rattle.lot_waits.specs.Counts.{counts_shown}
 use Rattle.lot_waits.specs.Ledger.{IsLedger}
@@ -10,7 +11,8 @@ use Rattle.lot_waits.proofs.Sums.{balanced_of}
 use Rattle.lot_sync.specs.Lot.{PassView, LotView, counts_of}
 use Rattle.lot_sync.specs.Passes.{seen_as}
 use Rattle.lot_sync.specs.Values.{GoesOnTo}
-use Rattle.lot_sync.proofs.Closes.{each_root, counted, goes_on}
+use Rattle.lot_whole.specs.Order.{accesses_of}
+use Rattle.lot_sync.proofs.Closes.{each_root, counted, goes_on, each_own}
 use Rattle.lot_sync.proofs.lot.Lot.close.Goals as goal
 
 pub close-values-requires-clause-passes : goal.close-values-requires-clause-passes
@@ -51,3 +53,16 @@ returns-clause-ledger g c =
     (subst (λ qs. IsLedger g.N.LotName.locks g.N.LotName.conds qs called woken) counts
     (c.ledger_of.ensures g.N.LotName.locks g.N.LotName.conds (map counts_shown rights) c.gather.ensures.tallied
     (balanced_of rights c.close-values.ensures.balanced))))
+
+pub returns-clause-history : goal.returns-clause-history
+returns-clause-history g c =
+    let rights = c.gather.new.rights.items in
+    let told = subst (λ (z : LotSize). IsToldTo z rights c.unname.new.roots.items) c.into_words.ensures.size c.close-values.ensures.history in
+    record {
+      rights = rights;
+      roots = c.unname.new.roots.items;
+      are = c.gather.ensures.same;
+      told = told;
+      made = subst (All (λ (p : PassView g.row.V.Denot). p.made ≡ accesses_of (2 * p.thread) told.recounted.log)) c.gather.ensures.same
+          (each_own told.recounted.log rights told.recounted.passes_made);
+    }

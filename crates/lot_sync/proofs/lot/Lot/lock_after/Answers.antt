@@ -1,7 +1,9 @@
-use Rattle.std.proofs.Common.{◌≡◌, ◌<◌, sym, subst, arith}
+use Rattle.std.proofs.Common.{◌≡◌, ◌<◌, sym, subst, ap, ◌∙◌, arith}
+use Rattle.lot_scheme.specs.Standing.{LotStanding}
+use Rattle.lot_scheme.specs.Words.{GetWord}
 use Rattle.lot_sync.specs.Values.{Gets}
 use Rattle.lot_sync.proofs.Rests.{owns_newly, gets_all}
-use Rattle.lot_sync.proofs.Stays.{got_stays}
+use Rattle.lot_sync.proofs.Adding.{adds_at}
 use Rattle.lot_sync.proofs.lot.Lot.lock_after.Goals as goal
 
 pub taken-requires-clause-owner : goal.taken-requires-clause-owner
@@ -16,4 +18,10 @@ returns-clause-gets g c =
     let near = c.requires.key in
     subst (λ p. Gets g.V.Keeps p c.args.key c.taken.result.1 c.taken.result.0) (sym c.apart-right.ensures.same)
     (gets_all g.V.Keeps _ _ c.apart-right.result.0 c.get-right.result c.taken.result.1 c.args.key (omega (arith, same, near)) c.apart-right.ensures.rest c.get-right.ensures
-    (got_stays c.apart-right.result.0.thread c.args.key) c.taken.ensures.held.0 c.taken.ensures.held.1 c.taken.result.0 c.taken.ensures.pass)
+    c.taken.ensures.held.0 c.taken.ensures.held.1 c.taken.result.0 c.taken.ensures.pass)
+
+pub returns-clause-made : goal.returns-clause-made
+returns-clause-made g c =
+    let got = c.get-right.ensures in
+    adds_at (λ t. GetWord t c.args.key) c.args.pass c.taken.result.0 c.apart-right.result.0 c.get-right.result got.did c.apart-right.ensures.same c.taken.ensures.pass
+    (ap (λ (r : LotStanding g.row.V.Denot). r.did) got.is) got.got

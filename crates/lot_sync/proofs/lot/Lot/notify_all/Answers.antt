@@ -1,12 +1,12 @@
-use Rattle.std.proofs.Common.{◌≡◌, ◌+◌, ◌<◌, ◌≤◌, sym, subst, ap, ◌∙◌, arith}
+use Rattle.std.proofs.Common.{◌≡◌, ◌+◌, ◌<◌, ◌≤◌, sym, subst, ap, arith}
 use Rattle.lot_waits.specs.Counts.{AreKept, counts_in, took}
-use Rattle.lot_sync.specs.Lot.{PassView, calling}
-use Rattle.lot_sync.proofs.Calls.{TookMore, took_all, rests_called, sees_called}
+use Rattle.lot_sync.specs.Words.{NotifyAllWord}
+use Rattle.lot_sync.proofs.Calls.{took_all, rests_called, sees_more}
 use Rattle.lot_sync.proofs.lot.Lot.notify_all.Goals as goal
 
 pub at_rest-requires-clause-rest : goal.at_rest-requires-clause-rest
 at_rest-requires-clause-rest g c κs within =
-    rests_called _ _ c.apart-right.result.0 c.notify_all-right.result.0 c.args.cond c.notify_all-right.result.1
+    rests_called _ _ (λ t. NotifyAllWord t c.args.cond c.notify_all-right.result.1) c.apart-right.result.0 c.notify_all-right.result.0 c.args.cond c.notify_all-right.result.1
     (took_all c.apart-right.result.0 c.notify_all-right.result.0 c.args.cond c.notify_all-right.result.1 c.notify_all-right.ensures.pass)
     c.apart-right.ensures.rest
 
@@ -26,8 +26,9 @@ at_rest-requires-clause-kept g c κs within =
     c.apart-right.ensures.kept)))
 
 pub returns-clause-counted : goal.returns-clause-counted
-returns-clause-counted g c =
-    c.at_rest.ensures.pass
-    ∙ (sees_called c.apart-right.result.0 c.notify_all-right.result.0 c.args.cond c.notify_all-right.result.1
-    (took_all c.apart-right.result.0 c.notify_all-right.result.0 c.args.cond c.notify_all-right.result.1 c.notify_all-right.ensures.pass)
-    ∙ ap (λ (v : PassView g.row.V.Denot). calling v c.args.cond c.notify_all-right.result.1) (sym c.apart-right.ensures.same))
+returns-clause-counted g c = (sees_more (λ t. NotifyAllWord t c.args.cond c.notify_all-right.result.1) c.apart-right.result.0 c.notify_all-right.result.0 c.at_rest.result c.args.pass c.args.cond c.notify_all-right.result.1
+    c.apart-right.ensures.same c.at_rest.ensures.pass (took_all c.apart-right.result.0 c.notify_all-right.result.0 c.args.cond c.notify_all-right.result.1 c.notify_all-right.ensures.pass)).0
+
+pub returns-clause-made : goal.returns-clause-made
+returns-clause-made g c = (sees_more (λ t. NotifyAllWord t c.args.cond c.notify_all-right.result.1) c.apart-right.result.0 c.notify_all-right.result.0 c.at_rest.result c.args.pass c.args.cond c.notify_all-right.result.1
+    c.apart-right.ensures.same c.at_rest.ensures.pass (took_all c.apart-right.result.0 c.notify_all-right.result.0 c.args.cond c.notify_all-right.result.1 c.notify_all-right.ensures.pass)).1

@@ -1,12 +1,13 @@
-use Rattle.std.proofs.Common.{◌≡◌, ◌+◌, ◌<◌, ◌≤◌, sym, subst, ap, ◌∙◌, arith}
+use Rattle.std.proofs.Common.{◌≡◌, ◌+◌, ◌<◌, ◌≤◌, sym, subst, ap, arith}
 use Rattle.lot_waits.specs.Counts.{AreKept, counts_in, took}
-use Rattle.lot_waits.specs.Notifying.{Notifies, one_if}
-use Rattle.lot_sync.proofs.Calls.{TookMore, took_some, rests_called, sees_called_one}
+use Rattle.lot_waits.specs.Notifying.{one_if}
+use Rattle.lot_sync.specs.Words.{NotifyWord}
+use Rattle.lot_sync.proofs.Calls.{took_some, rests_called, sees_more, sees_called_one}
 use Rattle.lot_sync.proofs.lot.Lot.notify_one.Goals as goal
 
 pub at_rest-requires-clause-rest : goal.at_rest-requires-clause-rest
 at_rest-requires-clause-rest g c κs within =
-    rests_called _ _ c.apart-right.result.0 c.notify_one-right.result.0 c.args.cond (one_if c.notify_one-right.result.1)
+    rests_called _ _ (λ t. NotifyWord t c.args.cond 1 (one_if c.notify_one-right.result.1)) c.apart-right.result.0 c.notify_one-right.result.0 c.args.cond (one_if c.notify_one-right.result.1)
     (took_some c.apart-right.result.0 c.notify_one-right.result.0 c.args.cond 1 (one_if c.notify_one-right.result.1) c.notify_one-right.ensures.pass)
     c.apart-right.ensures.rest
 
@@ -30,6 +31,9 @@ at_rest-requires-clause-kept g c κs within =
     c.apart-right.ensures.kept))))
 
 pub returns-clause-counted : goal.returns-clause-counted
-returns-clause-counted g c =
-    sees_called_one c.apart-right.result.0 c.notify_one-right.result.0 c.at_rest.result c.args.pass c.args.cond c.notify_one-right.result.1
-    c.apart-right.ensures.same c.at_rest.ensures.pass c.notify_one-right.ensures.pass
+returns-clause-counted g c = sees_called_one (λ t. NotifyWord t c.args.cond 1 (one_if c.notify_one-right.result.1)) c.apart-right.result.0 c.notify_one-right.result.0 c.at_rest.result c.args.pass c.args.cond c.notify_one-right.result.1
+    c.apart-right.ensures.same c.at_rest.ensures.pass (took_some c.apart-right.result.0 c.notify_one-right.result.0 c.args.cond 1 (one_if c.notify_one-right.result.1) c.notify_one-right.ensures.pass)
+
+pub returns-clause-made : goal.returns-clause-made
+returns-clause-made g c = (sees_more (λ t. NotifyWord t c.args.cond 1 (one_if c.notify_one-right.result.1)) c.apart-right.result.0 c.notify_one-right.result.0 c.at_rest.result c.args.pass c.args.cond
+    (one_if c.notify_one-right.result.1) c.apart-right.ensures.same c.at_rest.ensures.pass (took_some c.apart-right.result.0 c.notify_one-right.result.0 c.args.cond 1 (one_if c.notify_one-right.result.1) c.notify_one-right.ensures.pass)).1

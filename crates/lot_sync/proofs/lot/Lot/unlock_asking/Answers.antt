@@ -1,5 +1,10 @@
-use Rattle.std.proofs.Common.{ap, ◌∙◌}
-use Rattle.lot_sync.specs.Lot.{leaving}
+use Rattle.std.proofs.Common.{sym, ap, subst}
+use Rattle.lot_scheme.specs.Standing.{LotStanding}
+use Rattle.lot_locks.specs.Released.{FreeWord}
+use Rattle.lot_sync.specs.Lot.{◌≈◌, leaving}
+use Rattle.lot_sync.specs.Words.{Adds}
+use Rattle.lot_sync.specs.Passes.{sees}
+use Rattle.lot_sync.proofs.Adding.{alike_at, adds_at}
 use Rattle.lot_sync.proofs.Rests.{rests_free, leaves_all}
 use Rattle.lot_sync.proofs.Holdings.{sees_left}
 use Rattle.lot_sync.proofs.lot.Lot.unlock_asking.Goals as goal
@@ -13,11 +18,18 @@ at_rest-requires-clause-rest g c κs within =
 pub returns-clause-pass : goal.returns-clause-pass
 returns-clause-pass g c =
     let b = c.given_back-right.ensures in
-    c.at_rest.ensures.pass
-    ∙ (leaves_all c.given_back-right.result.0 c.let_go_asking-right.result.0 c.key-key.result c.args.held.value c.let_go_asking-right.result.1 b.lies c.let_go_asking-right.ensures.went
-    ∙ (ap (λ p. leaving p c.key-key.result c.args.held.value c.let_go_asking-right.result.1) b.same
-    ∙ ap (λ k. leaving c.args.pass k c.args.held.value c.let_go_asking-right.result.1) c.key-key.ensures))
+    subst (λ k. c.at_rest.result ≈ leaving c.args.pass k c.args.held.value) c.key-key.ensures
+    (subst (λ v. c.at_rest.result ≈ leaving v c.key-key.result c.args.held.value) b.same
+    (alike_at c.at_rest.result (leaving (sees c.given_back-right.result.0) c.key-key.result c.args.held.value) c.let_go_asking-right.result.0 c.at_rest.ensures.pass
+    (leaves_all _ c.given_back-right.result.0 c.let_go_asking-right.result.0 c.key-key.result c.args.held.value b.lies c.let_go_asking-right.ensures.went)))
+
+pub returns-clause-made : goal.returns-clause-made
+returns-clause-made g c =
+    let went = c.let_go_asking-right.ensures.went in
+    subst (λ k. Adds c.args.pass.made (FreeWord c.args.pass.thread k c.let_go_asking-right.result.1) c.at_rest.result.made) c.key-key.ensures
+    (adds_at (λ t. FreeWord t c.key-key.result c.let_go_asking-right.result.1) c.args.pass c.at_rest.result c.given_back-right.result.0 c.let_go_asking-right.result.0 went.did
+    (sym c.given_back-right.ensures.same) c.at_rest.ensures.pass (ap (λ (r : LotStanding g.row.V.Denot). r.did) went.is) went.freed)
 
 pub returns-clause-seen : goal.returns-clause-seen
 returns-clause-seen g c =
-    sees_left _ c.args.pass c.at_rest.result c.args.held.key c.args.held.value c.let_go_asking-right.result.1 c.requires.key c.at_rest.ensures.wide (returns-clause-pass g c)
+    sees_left _ c.args.pass c.at_rest.result c.args.held.key c.args.held.value c.requires.key c.at_rest.ensures.wide (returns-clause-pass g c)

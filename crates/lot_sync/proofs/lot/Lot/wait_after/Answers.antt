@@ -1,9 +1,12 @@
-use Rattle.std.proofs.Common.{◌≡◌, ◌+◌, ◌<◌, ◌≤◌, sym, subst, ap, ◌∙◌, arith}
+use Rattle.std.proofs.Common.{◌≡◌, ◌+◌, ◌<◌, ◌≤◌, sym, subst, ap, arith}
 use Rattle.lot_core.specs.Parts.{IsAmongConds}
 use Rattle.lot_waits.specs.Counts.{AreKept, counts_in, woke}
+use Rattle.lot_scheme.specs.Standing.{LotStanding}
 use Rattle.lot_sync.specs.Lot.{leaving, waking}
 use Rattle.lot_sync.specs.Passes.{sees}
 use Rattle.lot_sync.specs.Values.{Gets}
+use Rattle.lot_sync.specs.Words.{Adds, WaitedWord}
+use Rattle.lot_sync.proofs.Adding.{adds_at}
 use Rattle.lot_sync.proofs.Calls.{owns_waited, gets_waited}
 use Rattle.lot_sync.proofs.lot.Lot.wait_after.Goals as goal
 
@@ -30,11 +33,15 @@ taken-requires-clause-kept g c κs within =
 pub returns-clause-gets : goal.returns-clause-gets
 returns-clause-gets g c =
     let b = c.given_back-right.ensures in
-    let became = c.wait-right.result.1 in (
-      became,
-      c.wait-right.ensures.fits,
-      subst (λ p. Gets g.V.Keeps (waking (leaving p c.args.held.key c.args.held.value became) c.args.cond) c.args.held.key c.taken.result.1 c.taken.result.0) b.same
-          (subst (λ k. Gets g.V.Keeps (waking (leaving (sees c.given_back-right.result.0) k c.args.held.value became) c.args.cond) k c.taken.result.1 c.taken.result.0) c.key-key.ensures
-          (gets_waited g.V.Keeps _ c.given_back-right.result.0 c.wait-right.result.0 c.taken.result.1 c.args.cond c.key-key.result c.args.held.value became
-          b.locks b.owner b.lies c.wait-right.ensures.waited c.taken.ensures.held.0 c.taken.ensures.held.1 c.taken.result.0 c.taken.ensures.pass)),
-    )
+    subst (λ p. Gets g.V.Keeps (waking (leaving p c.args.held.key c.args.held.value) c.args.cond) c.args.held.key c.taken.result.1 c.taken.result.0) b.same
+    (subst (λ k. Gets g.V.Keeps (waking (leaving (sees c.given_back-right.result.0) k c.args.held.value) c.args.cond) k c.taken.result.1 c.taken.result.0) c.key-key.ensures
+    (gets_waited g.V.Keeps _ c.given_back-right.result.0 c.wait-right.result.0 c.taken.result.1 c.args.cond c.key-key.result c.args.held.value c.wait-right.result.1
+    b.locks b.owner b.lies c.wait-right.ensures.waited c.taken.ensures.held.0 c.taken.ensures.held.1 c.taken.result.0 c.taken.ensures.pass))
+
+pub returns-clause-made : goal.returns-clause-made
+returns-clause-made g c =
+    let w = c.wait-right.ensures.waited in
+    subst (λ k. Adds c.args.pass.made (WaitedWord c.args.pass.thread c.args.cond k c.args.moment.now) c.taken.result.0.made) c.key-key.ensures
+    (adds_at (λ t. WaitedWord t c.args.cond c.key-key.result c.args.moment.now) c.args.pass c.taken.result.0 c.given_back-right.result.0 c.wait-right.result.0 w.did
+    (sym c.given_back-right.ensures.same) c.taken.ensures.pass (ap (λ (r : LotStanding g.row.V.Denot). r.did) w.is)
+    (c.wait-right.result.1, c.wait-right.ensures.fits, w.word))

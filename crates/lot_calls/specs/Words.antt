@@ -1,0 +1,26 @@
+-- Words: which accesses a call made with the pass of its thread t, the oldest first. l is a lock, c a condition; now is the moment of the unlocks.
+use Rattle.std.specs.Prelude.{◌≡◌, ℕ, zero, suc, ◌++◌, false, List, []}
+use Rattle.lot_rights.specs.declared.views.Access.{Access}
+use Rattle.lot_scheme.specs.Words.{GetWord}
+use Rattle.lot_locks.specs.declared.released.Released.{Released}
+use Rattle.lot_locks.specs.Released.{IsFitting, FreeWord}
+use Rattle.lot_sync.specs.Words.{WaitedWord}
+
+-- a visit of a lock: it was got, and let go
+pub record VisitWord (t l now : ℕ) (acts : List Access) : Type 0 where
+  pub get : List Access
+  pub free : List Access
+  pub became : Released
+  pub fits : IsFitting became false now
+  pub got : GetWord t l get
+  pub freed : FreeWord t l became free
+  pub is : acts ≡ get ++ free
+
+-- so many waits on a condition with a lock, one after the other
+abbrev pub WaitsWord : ℕ → ℕ → ℕ → ℕ → ℕ → List Access → Type 0
+WaitsWord t c l now zero acts = acts ≡ []
+WaitsWord t c l now (suc n) acts = (front last : List Access) × WaitsWord t c l now n front × WaitedWord t c l now last × (acts ≡ front ++ last)
+
+-- a lock was got, and then so many waits were made with it
+abbrev pub GetAfterWord : ℕ → ℕ → ℕ → ℕ → ℕ → List Access → Type 0
+GetAfterWord t c l now n acts = (get waits : List Access) × GetWord t l get × WaitsWord t c l now n waits × (acts ≡ get ++ waits)

@@ -1,0 +1,34 @@
+-- How a pass is seen after a call, but for the accesses that were made with it; and which of these the call added.
+use Rattle.std.proofs.Common.{◌≡◌, ℕ, Bool, true, false, List, ◌++◌, Option, Some, None, inl, inr, sym, ap, subst, ◌∙◌}
+use Rattle.lot_rights.specs.declared.views.Access.{Access}
+use Rattle.lot_scheme.specs.Standing.{LotStanding}
+use Rattle.lot_locks.specs.declared.released.Released.TheVariants.{Quiet}
+use Rattle.lot_locks.specs.Released.{decision, FreeWord}
+use Rattle.lot_sync.specs.Lot.{PassView, ◌≈◌}
+use Rattle.lot_sync.specs.Words.{Adds, UnparkedWord}
+use Rattle.lot_sync.specs.Passes.{sees}
+
+module _ {V : Type 0} where
+  -- what callers see of a pass that stands so
+  pub alike_at : (out v : PassView V) (q : LotStanding V) → out ≡ sees q → sees q ≈ v → out ≈ v
+  alike_at out v q is alike = subst (λ (o : PassView V). o ≈ v) (sym is) alike
+
+  -- of a call that began with a pass that stood like p, and ended with one that stands like q
+  pub adds_at : (word : ℕ → List Access → Type 0) (before after : PassView V) (p q : LotStanding V) (did : List Access) → before ≡ sees p → after ≡ sees q
+      → q.did ≡ p.did ++ did → word p.thread did → Adds before.made (word before.thread) after.made
+  adds_at word before after p q did was is more told = (
+    did,
+    ap (λ (v : PassView V). v.made) is ∙ (more ∙ ap (λ (v : PassView V). v.made ++ did) (sym was)),
+    subst (λ (v : PassView V). word v.thread did) (sym was) told,
+  )
+
+-- no decision under a bucket's lock is that nobody was parked
+undecided : (first : Option ℕ) (fair : Bool) → Quiet ≡ decision first fair → ⊥
+undecided None fair e = absurd cc
+undecided (Some t) true e = absurd cc
+undecided (Some t) false e = absurd cc
+
+-- so a lock that was let go where nobody was parked was let go by the first exchange
+pub quiet_word : (t l : ℕ) (acts : List Access) → FreeWord t l Quiet acts → UnparkedWord t l true acts
+quiet_word t l acts (inl (quiet, is)) = is
+quiet_word t l acts (inr (rest, (first, fair, decided, word), is)) = absurd (undecided first fair decided)
