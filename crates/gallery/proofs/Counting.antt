@@ -22,12 +22,12 @@ added_to t shard = sum (row_of t shard)
 
 module _ (rule : CallersRule Shard (List ℕ)) where
   -- one more was added
-  pub added_more : (p r : PassView Shard) (k place now : ℕ) (found left : Shard) → Visits rule p k now found left r
+  pub added_more : (p r : PassView Shard) (k place : ℕ) (found left : Shard) → Visits rule p k found left r
       → ((t : ℕ) (v : Shard) → rule.part t v ≡ row_of t v)
       → k < length p.seen → p.thread < 4 → place < 16 → HasRows found
       → Adds (row_of p.thread found) place (row_of p.thread left) → added_by p.thread p.seen + 1 < 2 ^ 64
       → (added_by r.thread r.seen ≡ added_by p.thread p.seen + 1) × (r.thread ≡ p.thread) × (length r.seen ≡ length p.seen)
-  added_more p r k place now found left visits part near is_thread in_row rows adds few =
+  added_more p r k place found left visits part near is_thread in_row rows adds few =
       let f : Shard → ℕ = added_to p.thread in
       let same = sum_same f p.seen k found (λ u seen. ap sum (sym (part p.thread u) ∙ (visits.mine u seen ∙ part p.thread found))) in
       let here = set_here p.seen k found near in

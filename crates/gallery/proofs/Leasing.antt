@@ -43,8 +43,8 @@ module _ {V : Type 0} (p q : PassView V) (pool : ℕ) (permit : PermitView) (hel
       out : PassView V
       out = owning p held.key held.value
 
-      free : OwnsNone (leaving out held.key left.value gave.became)
-      free = owns_none_again p out (leaving out held.key left.value gave.became) held.key held.value left.value gave.became none refl refl
+      free : OwnsNone (leaving out held.key left.value)
+      free = owns_none_again p out (leaving out held.key left.value) held.key held.key held.value left.value none refl refl refl
 
       owns_then : r.owns ≡ set (set p.owns held.key true) held.key false
       owns_then = ap (λ (z : PassView V). z.owns) gave.after_is

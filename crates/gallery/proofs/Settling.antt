@@ -1,19 +1,19 @@
 -- What a transfer between two accounts keeps, and what the accounts have together at the end.
-use Rattle.std.proofs.Common.{◌≡◌, ◌≢◌, ℕ, ◌+◌, ◌*◌, ◌<◌, true, false, List, [], ◌∷◌, suc, length, length-set, get_or, set, get_or-set_other, get_or-set_same, slice_get, Some, refl, sym, ap, subst, ◌∙◌, ⊎_elim, arith}
-use Rattle.std.specs.List.{sum_by}
+use Rattle.std.proofs.Common.{◌≡◌, ◌≢◌, ℕ, ◌+◌, ◌*◌, ◌<◌, true, false, List, [], ◌∷◌, zero, suc, length, length-set, get_or, set, get_or-set_other, get_or-set_same, slice_get, Some, refl, sym, ap, subst, ◌∙◌, ⊎_elim, arith}
+use Rattle.std.specs.List.{sum_by, Any}
+use Rattle.std.proofs.lemmas.Option.{slice_get_within}
 use Rattle.std.proofs.lemmas.List.Sums.{sum_by-cons}
 use Rattle.atomic_table.proofs.Lists.{at_set, set_else}
-use mathlib.Core.Option.{some-injective}
+use mathlib.Core.Option.{some, some-injective}
 use lib.ListN.{get_elem?}
-use Rattle.lot_locks.specs.declared.released.Released.{Released}
 use Rattle.lot_words.specs.CallersRule.{CallersRule}
-use Rattle.lot_sync.specs.Lot.{LotView, PassView, HeldView, Owns, OwnsNone, HasSeen, leaving, rested}
+use Rattle.lot_sync.specs.Lot.{LotView, PassView, ◌≈◌, HeldView, Owns, OwnsNone, HasSeen, leaving, rested}
 use Rattle.lot_sync.specs.Values.{Gets, GoesOnTo}
 use Rattle.lot_sync.specs.Holding.{Holding, HoldingBoth}
 use Rattle.lot_sync.proofs.Holdings.{got_holds, got_both, left_second, left_all}
-use Rattle.lot_calls.specs.Finished.{IsFinished}
+use Rattle.lot_calls.specs.Finished.{IsReady, IsFinished}
 use Rattle.gallery.specs.declared.accounts.Account.{Account}
-use Rattle.gallery.specs.Accounts.{IsBooked, IsEven, MovesOut, MovesIn, Settles, HasBoth, in_by, out_by, moved_by, balance_of}
+use Rattle.gallery.specs.Accounts.{IsBooked, IsEven, MovesOut, MovesIn, Settles, HasBoth, in_by, out_by, moved_by, balance_of, opening_of, StaysOpenedAs, AreOpenedAs}
 use Rattle.gallery.proofs.Sums.{sum_same, sum_put, sum_alike, sum_four}
 
 -- ---- both accounts after a transfer
@@ -22,6 +22,8 @@ pub settles : (thread amount : ℕ) (from into less more : Account) → thread <
 settles thread amount from into less more near f i out inn = record {
   booked_from = out.booked;
   booked_into = inn.booked;
+  opened_from = out.opening;
+  opened_into = inn.opening;
   others_from = λ t else j. (
     sym (ap (λ xs. get_or xs t 0) out.ins) j,
     sym (ap (λ xs. get_or xs t 0) out.outs ∙ get_or-set_other from.moved_out thread t (get_or from.moved_out thread 0 + amount) 0 else) j,
@@ -44,6 +46,8 @@ pub settles_as_before : (thread : ℕ) (from into : Account) → IsBooked from �
 settles_as_before thread from into f i = record {
   booked_from = f;
   booked_into = i;
+  opened_from = refl;
+  opened_into = refl;
   others_from = λ t else. refl;
   others_into = λ t else.
       refl;
@@ -97,6 +101,8 @@ module _ (rule : CallersRule Account (ℕ × ℕ)) (p q r : PassView Account) (a
           owns_second = h.owns_second;
           alone = h.alone;
           no_permit = h.no_permit;
+          knows_first = h.knows_first;
+          knows_second = h.knows_second;
           grown_first = λ u seen. tt;
           grown_second = λ u seen. tt;
         };
@@ -125,6 +131,8 @@ has_both_turned thread a b r has = record {
     owns_second = has.both.owns_first;
     alone = λ key one two. has.both.alone key two one;
     no_permit = has.both.no_permit;
+    knows_first = has.both.knows_second;
+    knows_second = has.both.knows_first;
     grown_first = λ u seen. tt;
     grown_second = λ u seen. tt;
   };
@@ -144,6 +152,8 @@ module _ (thread : ℕ) (a b x y : HeldView Account) (r : PassView Account) (has
     owns_second = subst (Owns r) (sym y_key) has.both.owns_second;
     alone = λ key one two. has.both.alone key (λ e. one (e ∙ sym x_key)) (λ e. two (e ∙ sym y_key));
     no_permit = has.both.no_permit;
+    knows_first = subst (λ k. k < length r.seen) (sym x_key) has.both.knows_first;
+    knows_second = subst (λ k. k < length r.seen) (sym y_key) has.both.knows_second;
     grown_first = λ u seen. tt;
     grown_second = λ u seen. tt;
   }
@@ -157,9 +167,14 @@ module _ (thread : ℕ) (a b x y : HeldView Account) (r : PassView Account) (has
       let same : a.value ≡ v = some-injective a.value v (sym has.sees_first ∙ subst (λ j. HasSeen r j v) x_key seen) in
       ap (moved_by t) (sym same) ∙ settled.others_from t (λ e. else (e ∙ sym has.same_thread))
 
-  module _ (s : PassView Account) (became : Released) (left : s ≡ leaving r x.key x.value became) where
+  pub grown_one : (v : Account) → HasSeen r x.key v → StaysOpenedAs v x.value
+  grown_one v seen =
+      let same : a.value ≡ v = some-injective a.value v (sym has.sees_first ∙ subst (λ j. HasSeen r j v) x_key seen) in
+      ap opening_of (sym same) ∙ settled.opened_from
+
+  module _ (s : PassView Account) (left : s ≈ leaving r x.key x.value) where
     holds_two : Holding (λ (u v : Account). Unit {0}) s y
-    holds_two = left_second (λ (u v : Account). Unit {0}) r s x y became holds left
+    holds_two = left_second (λ (u v : Account). Unit {0}) r s x y holds left
 
     pub owns_two : Owns s y.key
     owns_two = holds_two.owns
@@ -173,9 +188,18 @@ module _ (thread : ℕ) (a b x y : HeldView Account) (r : PassView Account) (has
         ap (moved_by t) (sym same) ∙ settled.others_into t (λ e. else (e
         ∙ (sym has.same_thread ∙ sym (ap (λ (z : PassView Account). z.thread) left))))
 
-    module _ (u : PassView Account) (became' : Released) (left' : u ≡ leaving s y.key y.value became') where
+    pub grown_two : (v : Account) → HasSeen s y.key v → StaysOpenedAs v y.value
+    grown_two v seen =
+        let at : HasSeen r y.key v = ⊎_elim (λ same. absurd (holds.two same.0)) (λ other. other.1)
+        (at_set r.seen x.key y.key x.value v (subst (λ (z : PassView Account). HasSeen z y.key v) left seen)) in
+        let same : b.value ≡ v = some-injective b.value v (sym has.sees_second ∙ subst (λ j. HasSeen r j v) y_key at) in
+        ap opening_of (sym same) ∙ settled.opened_into
+
+    module _ (u : PassView Account) (left' : u ≈ leaving s y.key y.value) where
       pub free_again : OwnsNone u
-      free_again = subst OwnsNone (sym left') (left_all (λ (v w : Account). Unit {0}) s y became' holds_two)
+      free_again =
+          let free = left_all (λ (v w : Account). Unit {0}) s y holds_two in
+          subst OwnsNone (sym left') (record { no_lock = free.no_lock; no_permit = free.no_permit })
 
       pub thread_again : u.thread ≡ thread
       thread_again = ap (λ (z : PassView Account). z.thread) left' ∙ (ap (λ (z : PassView Account). z.thread) left ∙ has.same_thread)
@@ -203,13 +227,14 @@ module _ (thread : ℕ) (a b x y : HeldView Account) (r : PassView Account) (has
 booked_all : (accounts : List Account) → ((k : ℕ) (v : Account) → slice_get accounts k ≡ Some v → IsBooked v)
     → sum_by balance_of accounts + (sum_by (out_by 0) accounts + sum_by (out_by 1) accounts + sum_by (out_by 2) accounts + sum_by
     (out_by 3) accounts)
-    ≡ length accounts * 100 + (sum_by (in_by 0) accounts + sum_by (in_by 1) accounts + sum_by (in_by 2) accounts + sum_by (in_by 3)
+    ≡ sum_by opening_of accounts + (sum_by (in_by 0) accounts + sum_by (in_by 1) accounts + sum_by (in_by 2) accounts + sum_by (in_by 3)
     accounts)
 booked_all [] booked = refl
 booked_all (x ∷ xs) booked =
     let own = booked 0 x refl in
     let rest = booked_all xs (λ k v at. booked (suc k) v at) in
     let balances = sum_by-cons balance_of x xs in
+    let openings = sum_by-cons opening_of x xs in
     let o0 = sum_by-cons (out_by 0) x xs in
     let o1 = sum_by-cons (out_by 1) x xs in
     let o2 = sum_by-cons (out_by 2) x xs in
@@ -223,6 +248,7 @@ booked_all (x ∷ xs) booked =
       own.booked,
       rest,
       balances,
+      openings,
       o0,
       o1,
       o2,
@@ -236,40 +262,63 @@ booked_all (x ∷ xs) booked =
           own.in_places,
     )
 
-module _ (rule : CallersRule Account (ℕ × ℕ)) (lot : LotView) (accounts : List Account) (called woken : List ℕ)
-    (finished : IsFinished rule lot accounts called woken)
+-- where a list has a place, something lies there
+lies_at : {A : Type 0} (xs : List A) (k : ℕ) → k < length xs → (x : A) × (get_elem? xs k ≡ some x)
+lies_at [] k near = absurd (omega (arith, near))
+lies_at (x ∷ xs) zero near = (x, refl)
+lies_at (x ∷ xs) (suc k) near = lies_at xs k (omega (arith, near))
+
+module _ (rule : CallersRule Account (ℕ × ℕ)) (opening : List Account) (lot : LotView) (accounts : List Account) (called woken : List ℕ)
+    (finished : IsFinished rule opening lot accounts called woken)
     (keeps : (key : ℕ) (v : Account) → rule.keeps key v → IsBooked v) (part : (t : ℕ) (v : Account) → rule.part t v ≡ moved_by t v)
-    (rests : (p : PassView Account) → rule.rests (rested p) → IsEven p.thread p.seen) (four : lot.threads ≡ 4)
+    (rests : (p : PassView Account) → rule.rests (rested p) → IsEven p.thread p.seen)
+    (grows : (u v : Account) → rule.grows u v → StaysOpenedAs u v) (four : lot.threads ≡ 4)
     (count : length accounts ≡ 4) where
-  -- of each worker the accounts are even
-  even_at_end : (t : ℕ) → t < 4 → sum_by (in_by t) accounts ≡ sum_by (out_by t) accounts
-  even_at_end t near =
-      let there = finished.all t (omega (arith, near, four)) in
-      let p : PassView Account = there.1 in
-      let even : IsEven p.thread p.seen = subst (λ (z : PassView Account). IsEven z.thread z.seen) there.3
-      (rests (get_or finished.passes there.0 p) (finished.rests there.0 p there.2)) in
-      let goes : GoesOnTo rule accounts p = subst (GoesOnTo rule accounts) there.3 (finished.goes_on there.0 p there.2) in
-      let mine : (k : ℕ) (u v : Account) → slice_get accounts k ≡ Some v → HasSeen p k u → moved_by t u ≡ moved_by t v =
-      λ k u v at seen. subst (λ n. moved_by n u ≡ moved_by n v) there.4
-      (sym (part p.thread u) ∙ (goes.mine k u v at seen ∙ part p.thread v)) in
-      let long : length p.seen ≡ length accounts = even.count ∙ sym count in
-      sym (sum_alike (in_by t) p.seen accounts long (λ k u v at seen. ap (λ (n : ℕ × ℕ). n.0) (mine k u v at seen)))
-      ∙ (subst (λ n. sum_by (in_by n) p.seen ≡ sum_by (out_by n) p.seen) there.4 even.even
-      ∙ sum_alike (out_by t) p.seen accounts long (λ k u v at seen. ap (λ (n : ℕ × ℕ). n.1) (mine k u v at seen)))
+  -- the pass of a thread
+  module _ (t : ℕ) (near : t < 4) where
+    abbrev there : Any (λ (p : PassView Account). p.thread ≡ t) finished.passes
+    there = finished.taken.all t (omega (arith, near, four))
 
-  kept_at_end : (k : ℕ) (v : Account) → slice_get accounts k ≡ Some v → IsBooked v
-  kept_at_end k v at =
-      let there = finished.all 0 (omega (arith, four)) in
-      keeps k v ((finished.goes_on there.0 there.1 there.2).kept k v at)
+    abbrev pass : PassView Account
+    pass = there.1
 
-  pub same_at_end : sum_by balance_of accounts ≡ 400
+    ready : IsReady rule opening lot pass
+    ready = subst (IsReady rule opening lot) there.3 (finished.taken.ready there.0 pass there.2)
+
+    goes : GoesOnTo rule accounts pass
+    goes = subst (GoesOnTo rule accounts) there.3 (finished.goes_on there.0 pass there.2)
+
+    even : IsEven pass.thread pass.seen
+    even = rests pass ready.rests
+
+    -- of each worker the accounts are even
+    even_at_end : sum_by (in_by t) accounts ≡ sum_by (out_by t) accounts
+    even_at_end =
+        let mine : (k : ℕ) (u v : Account) → slice_get accounts k ≡ Some v → HasSeen pass k u → moved_by t u ≡ moved_by t v =
+        λ k u v at seen. subst (λ n. moved_by n u ≡ moved_by n v) there.4
+        (sym (part pass.thread u) ∙ (goes.mine k u v at seen ∙ part pass.thread v)) in
+        let long : length pass.seen ≡ length accounts = even.count ∙ sym count in
+        sym (sum_alike (in_by t) pass.seen accounts long (λ k u v at seen. ap (λ (n : ℕ × ℕ). n.0) (mine k u v at seen)))
+        ∙ (subst (λ n. sum_by (in_by n) pass.seen ≡ sum_by (out_by n) pass.seen) there.4 even.even
+        ∙ sum_alike (out_by t) pass.seen accounts long (λ k u v at seen. ap (λ (n : ℕ × ℕ). n.1) (mine k u v at seen)))
+
+    kept_at_end : (k : ℕ) (v : Account) → slice_get accounts k ≡ Some v → IsBooked v
+    kept_at_end k v at = keeps k v (goes.kept k v at)
+
+    opened_at_end : AreOpenedAs opening accounts
+    opened_at_end k u v first last =
+        let seen = lies_at pass.seen k (omega (arith, slice_get_within accounts k v last, even.count, count)) in
+        grows u seen.0 (ready.grown k u seen.0 first seen.1) ∙ grows seen.0 v (goes.grown k seen.0 v last seen.1)
+
+  pub opened_at_the_end : AreOpenedAs opening accounts
+  opened_at_the_end = opened_at_end 0 (omega arith)
+
+  pub same_at_end : sum_by balance_of accounts ≡ sum_by opening_of accounts
   same_at_end = omega (
     arith,
-    booked_all accounts kept_at_end,
-    count,
+    booked_all accounts (kept_at_end 0 (omega arith)),
     even_at_end 0 (omega arith),
     even_at_end 1 (omega arith),
-    even_at_end
-        2 (omega arith),
+    even_at_end 2 (omega arith),
     even_at_end 3 (omega arith),
   )

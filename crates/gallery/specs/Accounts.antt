@@ -1,13 +1,27 @@
 -- Accounts, and what each worker moved into them and out of them.
-use Rattle.std.specs.Prelude.{◌≡◌, ◌≢◌, ℕ, ◌+◌, List, length, sum, slice_index, slice_set}
+use Rattle.std.specs.Prelude.{◌≡◌, ◌≢◌, ℕ, ◌+◌, List, length, sum, slice_index, slice_set, slice_get, Some}
+use mathlib.Core.Option.{some}
+use lib.ListN.{get_elem?}
 use Rattle.std.specs.List.{sum_by}
 use Rattle.lot_sync.specs.Lot.{PassView, HeldView, HasSeen}
 use Rattle.lot_sync.specs.Holding.{HoldingBoth}
 use Rattle.gallery.specs.declared.accounts.Account.{Account}
-use Rattle.gallery.specs.declared.accounts.TheConstants.{ACCOUNTS, WORKERS, OPENING}
+use Rattle.gallery.specs.declared.accounts.TheConstants.{ACCOUNTS, WORKERS}
 
 abbrev pub balance_of : Account → ℕ
 balance_of account = account.balance
+
+abbrev pub opening_of : Account → ℕ
+opening_of account = account.opening
+
+-- what it opened with does not change
+abbrev pub StaysOpenedAs : Account → Account → Type 0
+StaysOpenedAs old new = old.opening ≡ new.opening
+
+-- each account opened with what that of the opening says
+abbrev pub AreOpenedAs : List Account → List Account → Type 0
+AreOpenedAs opening accounts = (key : ℕ) (u v : Account) → get_elem? opening key ≡ some u → slice_get accounts key ≡ Some v
+    → StaysOpenedAs u v
 
 abbrev pub in_by : ℕ → Account → ℕ
 in_by thread account = slice_index account.moved_in thread
@@ -19,9 +33,9 @@ out_by thread account = slice_index account.moved_out thread
 abbrev pub moved_by : ℕ → Account → ℕ × ℕ
 moved_by thread account = (in_by thread account, out_by thread account)
 
--- what lies in the account is what lay there at the beginning, with what was moved in, without what was moved out
+-- what lies in the account is what it opened with, with what was moved in, without what was moved out
 pub record IsBooked (account : Account) : Type 0 where
-  pub booked : account.balance + sum account.moved_out ≡ OPENING + sum account.moved_in
+  pub booked : account.balance + sum account.moved_out ≡ account.opening + sum account.moved_in
   pub in_places : length account.moved_in ≡ WORKERS
   pub out_places : length account.moved_out ≡ WORKERS
 
@@ -36,6 +50,7 @@ AreEven accounts = (thread : ℕ) → IsEven thread accounts
 -- the worker moved the amount out of the account
 pub record MovesOut (thread amount : ℕ) (old new : Account) : Type 0 where
   pub booked : IsBooked new
+  pub opening : StaysOpenedAs old new
   pub balance : old.balance ≡ new.balance + amount
   pub ins : new.moved_in ≡ old.moved_in
   pub outs : new.moved_out ≡ slice_set old.moved_out thread (slice_index old.moved_out thread + amount)
@@ -43,6 +58,7 @@ pub record MovesOut (thread amount : ℕ) (old new : Account) : Type 0 where
 -- the worker moved the amount into the account
 pub record MovesIn (thread amount : ℕ) (old new : Account) : Type 0 where
   pub booked : IsBooked new
+  pub opening : StaysOpenedAs old new
   pub balance : new.balance ≡ old.balance + amount
   pub ins : new.moved_in ≡ slice_set old.moved_in thread (slice_index old.moved_in thread + amount)
   pub outs : new.moved_out ≡ old.moved_out
@@ -51,6 +67,8 @@ pub record MovesIn (thread amount : ℕ) (old new : Account) : Type 0 where
 pub record Settles (thread : ℕ) (from into from' into' : Account) : Type 0 where
   pub booked_from : IsBooked from'
   pub booked_into : IsBooked into'
+  pub opened_from : StaysOpenedAs from from'
+  pub opened_into : StaysOpenedAs into into'
   pub others_from : (t : ℕ) → t ≢ thread → moved_by t from ≡ moved_by t from'
   pub others_into : (t : ℕ) → t ≢ thread → moved_by t into ≡ moved_by t into'
   pub even : in_by thread from' + in_by thread into' + (out_by thread from + out_by thread into) ≡ in_by thread from + in_by thread

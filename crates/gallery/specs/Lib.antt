@@ -3,3 +3,4 @@ pub mod Lines
 pub mod Counters
 pub mod Leases
 pub mod Accounts
+pub mod Names

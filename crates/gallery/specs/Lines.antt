@@ -1,5 +1,5 @@
 -- A line of items with numbers: an item's number is how many were put before it.
-use Rattle.std.specs.Prelude.{◌≡◌, ℕ, zero, suc, ◌+◌, ◌-◌, ◌≤◌, ◌<◌, List, [], ◌∷◌, ◌++◌, length, slice_get, refl}
+use Rattle.std.specs.Prelude.{◌≡◌, ℕ, zero, suc, ◌+◌, ◌-◌, ◌≤◌, ◌<◌, ◌^◌, List, [], ◌∷◌, ◌++◌, length, slice_get, refl}
 use Rattle.std.proofs.Common.{le_refl, le_trans, ◌∙◌, ap, sym, subst, arith}
 use Rattle.std.proofs.Common.{length-append}
 
@@ -9,6 +9,11 @@ module _ {T : Type 0} where
     pub taken : n ≤ m
     pub put : n + length xs ≤ m + length ys
     pub same : (k : ℕ) → m ≤ k → k < n + length xs → slice_get xs (k - n) ≡ slice_get ys (k - m)
+
+  -- the same, and each item that lies in the later line has a number of 64 bits
+  pub record Follows (n : ℕ) (xs : List T) (m : ℕ) (ys : List T) : Type 0 where
+    pub kept : m + length ys < 2 ^ 64
+    pub grown : LiesOn n xs m ys
 
   pub lies_on_itself : (n : ℕ) (xs : List T) → LiesOn n xs n xs
   lies_on_itself n xs = record { taken = le_refl n; put = le_refl (n + length xs); same = λ k low high. refl }

@@ -2,16 +2,14 @@
 ghost use Rattle.std.specs.Prelude.{◌≡◌, ◌≢◌, ◌<◌, ◌≤◌, ◌+◌, ◌*◌, ◌^◌, ℕ, IfOk, IfSome, MatchBool, length, vec_len, vec_capacity};
 ghost use Rattle.std.specs.List.{sum_by};
 ghost use Rattle.lot_sync.specs.Lot.{OwnsNone, IsWide, rested};
-ghost use Rattle.lot_sync.specs.Opened.{IsNamed};
-ghost use Rattle.gallery.specs.Accounts.{IsBooked, IsEven, AreEven, HasBoth, MovesOut, MovesIn, Settles, balance_of};
+ghost use Rattle.gallery.specs.Accounts.{IsBooked, IsEven, AreEven, HasBoth, MovesOut, MovesIn, Settles, balance_of, opening_of, AreOpenedAs};
 
-use crate::crew::{Crew, NOW, start};
+use crate::crew::{Crew, NOW, Opening, open, start};
 use lot_calls::finish;
 use lot_command::Failure;
-use lot_sync::{Held, Lot, LotName, OpenFault, Opened, Pass};
+use lot_sync::{Held, Lot, LotName, Pass};
 use lot_words::Keeps;
 use std::alloc::Global;
-use std::fmt::Write as _;
 use std::marker::Brand;
 use std::sync::Wait;
 use std::thread::Threads;
@@ -20,36 +18,32 @@ const ACCOUNTS: usize = 4;
 
 const WORKERS: usize = 4;
 
-/// How often each worker moves something.
-const ROUNDS: usize = 100;
-
-/// What each account has at the beginning.
-const OPENING: u64 = 100;
-
-/// What lies in an account, and what each worker ever moved into it and out of it.
+/// What an account opened with, what lies in it, and what each worker ever moved into it and out of it.
 #[derive(Clone, Copy, Drop)]
 pub struct Account {
+    opening: u64,
     balance: u64,
     moved_in: [u64; WORKERS],
     moved_out: [u64; WORKERS],
 }
 
 impl Keeps for Account {
-    ghost use Rattle.gallery.specs.Accounts.{IsBooked, IsEven, moved_by};
+    ghost use Rattle.gallery.specs.Accounts.{IsBooked, IsEven, StaysOpenedAs, moved_by};
+    ghost use Rattle.std.proofs.Common.{refl, ◌∙◌};
 
     type Part = (u64, u64);
 
     ghost keeps = { λ key account. IsBooked account };
 
-    ghost grows = { λ old new. Unit {0} };
+    ghost grows = { StaysOpenedAs };
 
     ghost part = { moved_by };
 
     ghost rests = { λ rested. IsEven rested.thread rested.seen };
 
-    ghost grows_itself = { λ account. tt };
+    ghost grows_itself = { λ account. refl };
 
-    ghost grows_on = { λ x y z p q. tt };
+    ghost grows_on = { λ x y z p q. p ∙ q };
 }
 
 impl Account {
@@ -64,6 +58,7 @@ impl Account {
         let mut moved_out = self.moved_out;
         moved_out[thread] = moved;
         Some(Account {
+            opening: self.opening,
             balance,
             moved_in: self.moved_in,
             moved_out,
@@ -81,6 +76,7 @@ impl Account {
         let mut moved_in = self.moved_in;
         moved_in[thread] = moved;
         Some(Account {
+            opening: self.opening,
             balance,
             moved_in,
             moved_out: self.moved_out,
@@ -169,7 +165,8 @@ pub fn transfer<N: LotName<Account> + Send, T: Wait>(
     (pass, done)
 }
 
-/// Ends the lot: whatever was moved, the accounts have together what they had at the beginning.
+/// Ends the lot: whatever was moved, the accounts have together what they opened with, which is what those of the lot's
+/// opening say.
 pub fn end<N: LotName<Account> + Send, T: Wait>(
     rt: &T,
     lot: Lot<Account, N>,
@@ -177,63 +174,44 @@ pub fn end<N: LotName<Account> + Send, T: Wait>(
 ) -> Vec<Account>
     requires sizes { (lot.locks ≡ ACCOUNTS) × (lot.threads ≡ WORKERS) }
     requires room { (vec_len passes ≡ 0) × (lot.threads ≤ vec_capacity passes) }
-    ensures { sum_by balance_of result.items ≡ ACCOUNTS * OPENING }
+    ensures sum { sum_by balance_of result.items ≡ sum_by opening_of result.items }
+    ensures opening { AreOpenedAs N.values result.items }
 {
     let (accounts, _) = finish(rt, lot, passes);
     accounts
 }
 
 /// Workers move amounts between the accounts. Answers what these have together.
-pub fn run<T: Threads + Wait + Sync>(rt: &T, alloc: Global) -> Result<String, Failure> {
+pub fn run<T: Threads + Wait + Sync>(rt: &T, alloc: Global) -> Result<u64, Failure> {
     let opening = Account {
-        balance: OPENING,
+        opening: 100,
+        balance: 100,
         moved_in: [0; WORKERS],
         moved_out: [0; WORKERS],
     };
     let accounts = vec![in alloc; opening; ACCOUNTS]?;
-    match Lot::<Account, Brand>::open(alloc, WORKERS, accounts, 0) {
-        Ok(opened) => run_on::<Brand, T>(rt, alloc, opened),
-        Err((OpenFault::NoMemory, _)) => Err(Failure::NoMemory),
-        Err(_) => unreachable!(),
-    }
+    run_on::<Brand, T>(rt, open(alloc, WORKERS, accounts, 0, &[])?)
 }
 
 fn run_on<N: LotName<Account> + Send + Sync, T: Threads + Wait + Sync>(
     rt: &T,
-    alloc: Global,
-    opened: Opened<Account>,
-) -> Result<String, Failure>
-    requires named { IsNamed N.LotName opened }
-    requires sizes { (opened.threads ≡ WORKERS) × (length opened.values ≡ ACCOUNTS) }
-    requires even { AreEven opened.values }
+    opening: Opening<Account>,
+) -> Result<u64, Failure>
+    requires named { N.LotName ≡ opening.opened }
+    requires sizes { (opening.threads ≡ WORKERS) × (length opening.opened.values ≡ ACCOUNTS) }
+    requires even { AreEven opening.opened.values }
 {
-    let (lot, passes) = match start::<Account, N>(alloc, WORKERS, opened) {
-        Ok(started) => started,
-        Err(failure) => return Err(failure),
-    };
-    let outcome = work_all(rt, &lot, &Crew::new());
+    let (lot, passes, crew) = start::<Account, N>(opening)?;
+    let turn = ||
+        requires { (lot.locks ≡ ACCOUNTS) × (lot.threads ≡ WORKERS) }
+    { work(rt, &lot, &crew) };
+    let outcome = crew.run(rt, &turn);
     let accounts = end(rt, lot, passes);
     outcome?;
-    let mut text = String::new(alloc);
-    writeln!(text, "sum {}", total(&accounts))?;
-    Ok(text)
-}
-
-fn work_all<N: LotName<Account> + Send + Sync, T: Threads + Wait + Sync>(
-    rt: &T,
-    lot: &Lot<Account, N>,
-    crew: &Crew,
-) -> Result<(), Failure>
-    requires { (lot.now.locks ≡ ACCOUNTS) × (lot.now.threads ≡ WORKERS) }
-{
-    crew.run(
-        rt,
-        WORKERS,
-        &|_worker: usize|
-            requires { (lot.now.locks ≡ ACCOUNTS) × (lot.now.threads ≡ WORKERS) }
-        {
-            work(rt, lot, crew);
-        },
+    Ok(
+        accounts
+            .iter()
+            .fold(0u64, |sum, account| sum.wrapping_add(account.balance)),
     )
 }
 
@@ -241,23 +219,11 @@ fn work_all<N: LotName<Account> + Send + Sync, T: Threads + Wait + Sync>(
 fn work<N: LotName<Account> + Send + Sync, T: Wait>(rt: &T, lot: &Lot<Account, N>, crew: &Crew)
     requires { (lot.now.locks ≡ ACCOUNTS) × (lot.now.threads ≡ WORKERS) }
 {
-    let Some(pass) = crew.enter(rt, lot) else {
-        return;
-    };
-    let mut pass = pass;
-    for round in 0..ROUNDS {
-        let from = round % ACCOUNTS;
-        let into = (from + 1) % ACCOUNTS;
-        pass = transfer(rt, lot, pass, from, into, 30).0;
+    if let Some(mut pass) = crew.enter(rt, lot) {
+        for round in 0..100usize {
+            let from = round % ACCOUNTS;
+            pass = transfer(rt, lot, pass, from, (from + 1) % ACCOUNTS, 30).0;
+        }
+        lot.leave(rt, pass);
     }
-    lot.leave(rt, pass);
-}
-
-/// What lies in all accounts, modulo 2^64.
-fn total(accounts: &Vec<Account>) -> u64 {
-    let mut total = 0u64;
-    for account in accounts {
-        total = total.wrapping_add(account.balance);
-    }
-    total
 }

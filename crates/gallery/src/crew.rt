@@ -1,13 +1,15 @@
-//! What the programs share: a lot is started with room for its passes, and a crew of threads works on it.
-ghost use Rattle.std.specs.Prelude.{◌≡◌, ◌≤◌, ◌<◌, ℕ, length, vec_len, vec_capacity, IfOk, IfSome};
+//! What the programs share: a lot is opened and started, with room for its passes, and a crew of threads works on it.
+ghost use Rattle.std.specs.Prelude.{◌≡◌, ◌+◌, ◌≤◌, ◌<◌, length, vec_len, vec_capacity, IfOk, IfSome};
 ghost use Rattle.lot_sync.specs.Starting.{Starts};
 ghost use Rattle.lot_sync.specs.Lot.{PassView, OwnsNone, IsWide, rested};
-ghost use Rattle.lot_sync.specs.Opened.{IsNamed};
+ghost use Rattle.lot_sync.specs.Opened.{KeepAll};
 
+use lot_calls::finish;
 use lot_command::Failure;
 use lot_sync::{Lot, LotName, Moment, Opened, Pass};
 use lot_words::Keeps;
 use std::alloc::Global;
+use std::marker::Brand;
 use std::sync::Wait;
 use std::sync::atomic::{AtomicU64, Ordering};
 use std::thread;
@@ -19,6 +21,7 @@ pub const NOW: Moment = Moment { now: 0, word: 1 };
 /// What the threads of a crew tell one another.
 #[derive(Drop)]
 pub struct Crew {
+    threads: usize,
     /// `WAIT` until all were started and have their passes; then `GO`, or `END` where one could not be started or
     /// got no pass.
     go: AtomicU64,
@@ -34,54 +37,100 @@ const GO: u64 = 1;
 
 const END: u64 = 2;
 
-/// Starts the lot, with room for the passes that its end takes.
-pub fn start<V: Keeps + Send, N: LotName<V> + Send>(
+/// A lot that is open and has no name yet, for so many threads.
+pub struct Opening<V: Keeps + Send> {
+    opened: Opened<V>,
     alloc: Global,
     threads: usize,
-    opened: Opened<V>,
-) -> Result<(Lot<V, N>, Vec<Pass<V, N>>), Failure>
-    requires named { IsNamed N.LotName opened }
-    requires threads { opened.threads ≡ threads }
-    requires rests { (p : PassView V) → Starts opened.values opened.threads p → V.rests (rested p) }
-    ensures lot { IfOk result (λ r. (r.0.threads ≡ opened.threads) × (r.0.locks ≡ length opened.values) × (r.0.conds ≡ opened.conds) × (r.0.sems ≡ length opened.permits)) }
+    ghost same: { opened.threads ≡ threads },
+}
+
+/// Opens a lot as `open_with` does. The numbers of the programs are all within the limits.
+pub fn open<V: Keeps + Send>(
+    alloc: Global,
+    threads: usize,
+    values: Vec<V>,
+    conds: usize,
+    permits: &[u32],
+) -> Result<Opening<V>, Failure>
+    requires { KeepAll V.keeps values.items }
+    ensures { IfOk result (λ o. (o.threads ≡ threads) × (o.opened.threads ≡ threads) × (o.opened.values ≡ values.items) × (o.opened.conds ≡ conds) × (o.opened.permits ≡ permits.now)) }
+{
+    match Lot::<V, Brand>::open_with(alloc, threads, values, conds, permits) {
+        Ok(opened) => Ok(Opening {
+            opened,
+            alloc,
+            threads,
+        }),
+        Err(_) => Err(Failure::NoMemory),
+    }
+}
+
+/// Starts the lot, with room for the passes that its end takes, and a crew for it.
+pub fn start<V: Keeps + Send, N: LotName<V> + Send>(
+    opening: Opening<V>,
+) -> Result<(Lot<V, N>, Vec<Pass<V, N>>, Crew), Failure>
+    requires named { N.LotName ≡ opening.opened }
+    requires rests { (p : PassView V) → Starts opening.opened.values opening.threads p → V.rests (rested p) }
+    ensures lot { IfOk result (λ r. (r.0.threads ≡ opening.threads) × (r.0.locks ≡ length opening.opened.values) × (r.0.conds ≡ opening.opened.conds) × (r.0.sems ≡ length opening.opened.permits)) }
     ensures room { IfOk result (λ r. (vec_len r.1 ≡ 0) × (r.0.threads ≤ vec_capacity r.1)) }
 {
-    let passes = match Vec::with_capacity(alloc, threads) {
-        Ok(passes) => passes,
+    let Opening {
+        opened,
+        alloc,
+        threads,
+    } = opening;
+    let room = match Vec::with_capacity(alloc, threads) {
+        Ok(room) => room,
         Err(refused) => {
             let _ = opened.close();
             return Err(Failure::from(refused));
         }
     };
     match opened.start::<N>(alloc) {
-        Ok(lot) => Ok((lot, passes)),
+        Ok(lot) => Ok((lot, room, Crew::new(threads))),
         Err(_) => {
-            passes.destroy_empty();
+            room.destroy_empty();
             Err(Failure::NoMemory)
         }
     }
 }
 
+/// Ends the lot when all have left, and answers its values where the crew could work.
+pub fn end<V: Keeps + Send, N: LotName<V> + Send, T: Wait>(
+    rt: &T,
+    lot: Lot<V, N>,
+    room: Vec<Pass<V, N>>,
+    outcome: Result<(), Failure>,
+) -> Result<Vec<V>, Failure>
+    requires room { (vec_len room ≡ 0) × (lot.threads ≤ vec_capacity room) }
+    ensures { IfOk result (λ values. vec_len values ≡ lot.locks) }
+{
+    let (values, _) = finish(rt, lot, room);
+    outcome?;
+    Ok(values)
+}
+
 impl Crew {
-    /// Nobody may go yet.
-    pub fn new() -> Crew {
+    /// So many threads, of which nobody may go yet.
+    fn new(threads: usize) -> Crew {
         Crew {
+            threads,
             go: AtomicU64::new(WAIT),
             ready: AtomicU64::new(0),
             refused: AtomicU64::new(0),
         }
     }
 
-    /// Starts so many threads and waits for their end: all of them work, or the answer says why none did.
-    pub fn run<T: Threads + Wait + Sync, F: Fn(usize) + Sync>(
+    /// Starts the threads and waits for their end: all of them work, or the answer says why none did.
+    pub fn run<T: Threads + Wait + Sync, F: Fn() + Sync>(
         &self,
         rt: &T,
-        threads: usize,
         work: &F,
     ) -> Result<(), Failure>
-        requires { (worker : ℕ) → F.pre work.now worker }
+        requires { F.IsAlwaysCallable work.now }
     {
-        if !self.start_all(rt, threads, work) {
+        if !self.start_all(rt, work) {
             return Err(Failure::CannotStartWorker);
         }
         if self.refused.load(Ordering::SeqCst) != 0 {
@@ -90,33 +139,28 @@ impl Crew {
         Ok(())
     }
 
-    fn start_all<T: Threads + Wait + Sync, F: Fn(usize) + Sync>(
-        &self,
-        rt: &T,
-        threads: usize,
-        work: &F,
-    ) -> bool
-        requires { (worker : ℕ) → F.pre work.now worker }
+    fn start_all<T: Threads + Wait + Sync, F: Fn() + Sync>(&self, rt: &T, work: &F) -> bool
+        requires { F.IsAlwaysCallable work.now }
     {
         thread::scope(
             thread::scope_env(),
             rt,
             |scope| -> bool
-                requires { (worker : ℕ) → F.pre work.now worker }
+                requires { F.IsAlwaysCallable work.now }
             {
                 let mut started = true;
-                for worker in 0..threads {
+                for _ in 0..self.threads {
                     let job = move ||
-                        requires { F.pre work.now worker }
+                        requires { F.IsAlwaysCallable work.now }
                     {
-                        work(worker);
+                        work();
                     };
                     if scope.spawn(job).is_err() {
                         started = false;
                         break;
                     }
                 }
-                let go = started && self.all_registered(rt, threads);
+                let go = started && self.all_registered(rt);
                 self.go.store(if go { GO } else { END }, Ordering::SeqCst);
                 started
             },
@@ -124,9 +168,9 @@ impl Crew {
     }
 
     /// Waits until each thread has asked for its pass. Answers whether all got one.
-    fn all_registered<T: Wait>(&self, rt: &T, threads: usize) -> bool {
+    fn all_registered<T: Wait>(&self, rt: &T) -> bool {
         for _ in rt.forever() {
-            if self.ready.load(Ordering::SeqCst) >= threads as u64 {
+            if self.ready.load(Ordering::SeqCst) >= self.threads as u64 {
                 return self.refused.load(Ordering::SeqCst) == 0;
             }
             thread::yield_now();

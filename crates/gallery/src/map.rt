@@ -1,19 +1,17 @@
 //! A map of counters over many locks: nothing is lost.
 ghost use Rattle.std.specs.Prelude.{◌≡◌, ◌≢◌, ◌%◌, ◌/◌, ◌*◌, ◌+◌, ◌<◌, ◌≤◌, ◌^◌, ℕ, length, sum, vec_len, vec_capacity, IfOk, IsSomeAnd};
 ghost use Rattle.lot_sync.specs.Lot.{OwnsNone, IsWide, HasSeen};
-ghost use Rattle.lot_sync.specs.Opened.{IsNamed, KeepAll};
+ghost use Rattle.lot_sync.specs.Opened.{KeepAll};
 ghost use Rattle.gallery.specs.Counters.{HasRows, Adds, row_of, added_by, total_of, IsNew, Worked, WorkedThere, IsDone, AreDone, AreNew};
 
-use crate::crew::{NOW, start};
-use lot_calls::with_lock;
+use crate::crew::{NOW, Opening, open, start};
+use lot_calls::{take_pass, with_lock};
 use lot_command::Failure;
-use lot_sync::{Lot, LotName, OpenFault, Opened, Pass};
+use lot_sync::{Lot, LotName, Pass};
 use lot_words::Keeps;
 use std::alloc::{AllocError, Global};
-use std::fmt::Write as _;
 use std::marker::Brand;
 use std::sync::Wait;
-use std::thread;
 use std::thread::{Threads, join_mut};
 
 const SHARDS: usize = 64;
@@ -60,19 +58,6 @@ impl Shard {
             rows: [[0; PLACES]; WORKERS],
         }
     }
-
-    /// The worker adds one to its own number.
-    fn add(&mut self, thread: usize, place: usize)
-        requires bounds { (thread < WORKERS) × (place < PLACES) }
-        requires rows { HasRows self.old }
-        ensures rows { HasRows self.new }
-        ensures own { Adds (row_of thread self.old) place (row_of thread self.new) }
-        ensures others { (t : ℕ) → t ≢ thread → row_of t self.old ≡ row_of t self.new }
-    {
-        let mut row = self.rows[thread];
-        row[place] = row[place].wrapping_add(1);
-        self.rows[thread] = row;
-    }
 }
 
 /// One more of this counter: the worker has added one more than before to the map, whoever came between.
@@ -107,7 +92,11 @@ pub fn add<N: LotName<Shard> + Send, T: Wait>(
             ensures rows { HasRows shard.new }
             ensures own { Adds (row_of thread shard.old) place (row_of thread shard.new) }
             ensures others { (t : ℕ) → t ≢ thread → row_of t shard.old ≡ row_of t shard.new }
-        { shard.add(thread, place) },
+        {
+            let mut row = shard.rows[thread];
+            row[place] = row[place].wrapping_add(1);
+            shard.rows[thread] = row;
+        },
     );
     pass
 }
@@ -241,30 +230,6 @@ fn work_four<N: LotName<Shard> + Send + Sync, T: Threads + Wait + Sync>(
     )
 }
 
-/// Takes the pass of one thread out of the lot.
-fn take<N: LotName<Shard> + Send, T: Wait>(
-    rt: &T,
-    lot: &mut Lot<Shard, N>,
-    thread: usize,
-) -> Pass<Shard, N>
-    requires locks { lot.old.locks ≡ SHARDS }
-    requires thread { thread < WORKERS }
-    ensures same { lot.new ≡ lot.old }
-    ensures thread { result.thread ≡ thread }
-    ensures new { IsNew lot.old result }
-{
-    for _ in rt.forever() {
-        if let Some(pass) = lot.take_left(rt) {
-            if pass.thread() == thread {
-                return pass;
-            }
-            lot.leave(rt, pass);
-        }
-        thread::yield_now();
-    }
-    unreachable!()
-}
-
 /// The list of the passes of all workers, in the room that was kept for it.
 fn gathered<N: LotName<Shard> + Send>(
     passes: Vec<Pass<Shard, N>>,
@@ -296,10 +261,10 @@ pub fn count_all<N: LotName<Shard> + Send + Sync, T: Threads + Wait + Sync>(
     requires room { (vec_len passes ≡ 0) × (lot.threads ≤ vec_capacity passes) }
     ensures { total_of result.items ≡ WORKERS * COUNTERS }
 {
-    let zero = take(rt, &mut lot, 0);
-    let one = take(rt, &mut lot, 1);
-    let two = take(rt, &mut lot, 2);
-    let three = take(rt, &mut lot, 3);
+    let zero = take_pass(rt, &mut lot, 0);
+    let one = take_pass(rt, &mut lot, 1);
+    let two = take_pass(rt, &mut lot, 2);
+    let three = take_pass(rt, &mut lot, 3);
     let (zero, one, two, three) = work_four(rt, &lot, zero, one, two, three);
     let passes = gathered(passes, zero, one, two, three);
     let (shards, _) = lot.close(rt, passes);
@@ -320,32 +285,22 @@ fn new_shards(alloc: Global, shard: Shard) -> Result<Vec<Shard>, AllocError>
 }
 
 /// Workers add to all counters. Answers what these came to.
-pub fn run<T: Threads + Wait + Sync>(rt: &T, alloc: Global) -> Result<String, Failure> {
+pub fn run<T: Threads + Wait + Sync>(rt: &T, alloc: Global) -> Result<u64, Failure> {
     let shards = new_shards(alloc, Shard::new())?;
-    match Lot::<Shard, Brand>::open(alloc, WORKERS, shards, 0) {
-        Ok(opened) => run_on::<Brand, T>(rt, alloc, opened),
-        Err((OpenFault::NoMemory, _)) => Err(Failure::NoMemory),
-        Err(_) => unreachable!(),
-    }
+    run_on::<Brand, T>(rt, open(alloc, WORKERS, shards, 0, &[])?)
 }
 
 fn run_on<N: LotName<Shard> + Send + Sync, T: Threads + Wait + Sync>(
     rt: &T,
-    alloc: Global,
-    opened: Opened<Shard>,
-) -> Result<String, Failure>
-    requires named { IsNamed N.LotName opened }
-    requires sizes { (opened.threads ≡ WORKERS) × (length opened.values ≡ SHARDS) }
-    requires new { AreNew opened.values }
+    opening: Opening<Shard>,
+) -> Result<u64, Failure>
+    requires named { N.LotName ≡ opening.opened }
+    requires sizes { (opening.threads ≡ WORKERS) × (length opening.opened.values ≡ SHARDS) }
+    requires new { AreNew opening.opened.values }
 {
-    let (lot, passes) = match start::<Shard, N>(alloc, WORKERS, opened) {
-        Ok(started) => started,
-        Err(failure) => return Err(failure),
-    };
+    let (lot, passes, _) = start::<Shard, N>(opening)?;
     let shards = count_all(rt, lot, passes);
-    let mut text = String::new(alloc);
-    writeln!(text, "counted {}", total(&shards))?;
-    Ok(text)
+    Ok(total(&shards))
 }
 
 /// What all workers added to all counters, modulo 2^64.

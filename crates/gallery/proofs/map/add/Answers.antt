@@ -12,6 +12,6 @@ returns-clause-adds g c =
     let near : c.args.counter % 64 < length c.args.pass.seen = (let seen = c.requires.wide.seen in let locks = c.requires.locks in
     omega (arith, seen, locks)) in
     let in_row : c.args.counter / 64 < 16 = search rules in
-    (added_more _ c.args.pass c.with_lock-pass.result.0 (c.args.counter % 64) (c.args.counter / 64) 0 visits.0.now visits.1.now visits.3
+    (added_more _ c.args.pass c.with_lock-pass.result.0 (c.args.counter % 64) (c.args.counter / 64) visits.0.now visits.1.now visits.3
     (λ t v. refl) near c.requires.thread in_row visits.3.kept
     (subst (λ t. Adds (row_of t visits.0.now) (c.args.counter / 64) (row_of t visits.1.now)) c.thread-thread.ensures adds) c.requires.few).0

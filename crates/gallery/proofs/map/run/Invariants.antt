@@ -1,14 +1,8 @@
+use Rattle.gallery.specs.Names.{name_of, lot_name_of}
 use Rattle.gallery.proofs.map.run.Given as goal
 
 abbrev pub ghosts-run_on-N-Name : goal.ghosts-run_on-N-Name
-ghosts-run_on-N-Name g a = record { opening = a.opened.opening }
+ghosts-run_on-N-Name g a = name_of a.opening.opened
 
 abbrev pub ghosts-run_on-N-LotName : goal.ghosts-run_on-N-LotName
-ghosts-run_on-N-LotName g a = record {
-  low = a.opened.low;
-  permits = a.opened.permits;
-  locks = a.opened.locks;
-  conds = a.opened.conds;
-  threads = a.opened.threads;
-  values = a.opened.values;
-}
+ghosts-run_on-N-LotName g a = lot_name_of a.opening.opened

@@ -1,6 +1,6 @@
 use Rattle.std.proofs.Common.{rules, ◌≤◌, subst}
 use Rattle.lot_sync.specs.Lot.{HasSeen}
-use Rattle.gallery.proofs.latch.wait.Goals as goal
+use Rattle.gallery.proofs.latch.Place.wait.Goals as goal
 
 pub returns-clause-all_came : goal.returns-clause-all_came
 returns-clause-all_came g c =

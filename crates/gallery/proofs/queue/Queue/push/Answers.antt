@@ -2,7 +2,7 @@ use Rattle.std.proofs.Common.{◌≡◌, ap, subst, ◌∙◌}
 use mathlib.Core.Option.{some}
 use lib.ListN.{get_elem?}
 use Rattle.lot_sync.specs.Lot.{PassView}
-use Rattle.gallery.proofs.queue.push.Goals as goal
+use Rattle.gallery.proofs.queue.Queue.push.Goals as goal
 
 pub returns-clause-puts : goal.returns-clause-puts
 returns-clause-puts g c =

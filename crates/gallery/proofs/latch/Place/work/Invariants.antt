@@ -1,5 +1,5 @@
 use Rattle.lot_sync.specs.Lot.{OwnsNone}
-use Rattle.gallery.proofs.latch.work.Given as goal
+use Rattle.gallery.proofs.latch.Place.work.Given as goal
 
 abbrev pub invariant-loop : goal.invariant-loop
 invariant-loop g l = OwnsNone l.pass

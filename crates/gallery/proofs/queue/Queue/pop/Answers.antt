@@ -4,7 +4,7 @@ use lib.ListN.{get_elem?}
 use Rattle.lot_sync.specs.Lot.{PassView}
 use Rattle.gallery.specs.declared.queue.Line.{Line}
 use Rattle.gallery.specs.Lines.{LiesOn}
-use Rattle.gallery.proofs.queue.pop.Goals as goal
+use Rattle.gallery.proofs.queue.Queue.pop.Goals as goal
 
 pub returns-clause-takes : goal.returns-clause-takes
 returns-clause-takes g c =

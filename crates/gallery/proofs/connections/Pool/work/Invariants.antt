@@ -1,5 +1,5 @@
 use Rattle.lot_sync.specs.Lot.{OwnsNone}
-use Rattle.gallery.proofs.connections.work.Given as goal
+use Rattle.gallery.proofs.connections.Pool.work.Given as goal
 
 abbrev pub invariant-loop : goal.invariant-loop
 invariant-loop g l = OwnsNone l.pass
