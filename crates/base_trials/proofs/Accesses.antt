@@ -21,15 +21,18 @@ module _ {R : Type 0} (number : R → ℕ) (made : R → List Entry) where
   }
 
 module _ {S P R : Type 0} (k : Scheme S P R) (one : OneEntryIsOneAccess k) (seats : RuledSeatsShow k) where
-  pub call_of_two : (s joined made parted : State S (List (Right P R))) (before : Ruled k s) → Ruled k joined → Ruled k made → (after : Ruled k parted) →
-      (id other : ℕ) (p p' : PassView P) (q q' : RootView R) (x : Entry) → CallOfTwo s joined made parted id other p p' q q' x → IsOneAccess k s parted before after x
+  pub call_of_two : (s joined made parted : State S (List (Right P R))) (before : Ruled k s) → Ruled k joined → Ruled k made
+      → (after : Ruled k parted) →
+      (id other : ℕ) (p p' : PassView P) (q q' : RootView R) (x : Entry) → CallOfTwo s joined made parted id other p p' q q' x
+      → IsOneAccess k s parted before after x
   call_of_two s joined made parted before here there after id other p p' q q' x c =
       let n : Right P R → ℕ = number in
       let m : Right P R → List Entry = made_with in
       let first : SameShown n m s.views joined.views = subst (SameShown n m s.views) (sym c.joins)
       ((seats s before).joined id other (Pass p ∷ []) (Root q ∷ []) c.pass c.apart c.root) in
       let then : OneMoreShown n m joined.views x made.views = subst (OneMoreShown n m joined.views x) (sym c.makes)
-      ((seats joined here).more id (Pass p) (Pass p') (Root q ∷ []) (Root q' ∷ []) x c.at_one ((λ i. 2 * c.key i + 1), c.same, tt) (λ i. 2 * c.thread i) c.maker c.entry) in
+      ((seats joined here).more id (Pass p) (Pass p') (Root q ∷ []) (Root q' ∷ []) x c.at_one ((λ i. 2 * c.key i + 1), c.same, tt)
+      (λ i. 2 * c.thread i) c.maker c.entry) in
       let last : SameShown n m made.views parted.views = subst (SameShown n m made.views) (sym c.parts)
       ((seats made there).split id (Pass p' ∷ Root q' ∷ []) (Pass p' ∷ []) (Root q' ∷ []) c.both (inl refl)) in
       one s parted before after x (more_between n m s.views joined.views made.views parted.views x first then last)

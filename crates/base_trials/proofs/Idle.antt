@@ -6,7 +6,8 @@ use Rattle.lot_bucket.specs.Agrees.{IsRootOf}
 use Rattle.lot_park.specs.Lots.{AreIdle}
 
 -- what is so of each item of a list, by its place, and of one more
-each_pushed : {R : Type 0} (Is : ℕ → R → Type 0) (xs : List R) (x : R) → ((i : ℕ) (r : R) → slice_get xs i ≡ Some r → Is i r) → Is (length xs) x
+each_pushed : {R : Type 0} (Is : ℕ → R → Type 0) (xs : List R) (x : R)
+    → ((i : ℕ) (r : R) → slice_get xs i ≡ Some r → Is i r) → Is (length xs) x
     → (i : ℕ) (r : R) → slice_get (xs ++ x ∷ []) i ≡ Some r → Is i r
 each_pushed Is [] x each last zero r at = let same : x ≡ r = cc in rw (← same) last
 each_pushed Is [] x each last (suc i) r at = absurd cc

@@ -1,5 +1,6 @@
 -- What the calls of the tests' schedules leave of a pass.
-use Rattle.std.proofs.Common.{◌≡◌, ℕ, ◌<◌, Bool, true, false, List, [], ◌∷◌, length, set, replicate, refl, sym, ap, subst, ◌∙◌, arith, MatchBool, MatchOption, Option, Some, None, get_or-set_same}
+use Rattle.std.proofs.Common.{◌≡◌, ℕ, ◌<◌, Bool, true, false, List, [], ◌∷◌, length, set, replicate, refl, sym, ap, subst, ◌∙◌, arith}
+use Rattle.std.proofs.Common.{MatchBool, MatchOption, Option, Some, None, get_or-set_same}
 use Rattle.std.proofs.lemmas.List.{length-replicate}
 use Rattle.atomic_table.specs.Seated.{TableId}
 use Rattle.atomic_table.proofs.Lists.{set_here}
@@ -26,33 +27,40 @@ module _ {V : Type 0} (p : PassShown (LockPassView V)) (z : TableId) (t l : ℕ)
     (x, set_here p.pass.own.places l (InSlot x) (omega (arith, is.3)), set_here p.pass.own.seen l x (omega (arith, is.4))),
   )
 
-  module _ {Part : Type 0} (rule : CallersRule V Part) (a c : Access) (q : PassView (LockPassView V)) (b : Bool) (up : p.pass.own.asleep ≡ false) where
+  module _ {Part : Type 0} (rule : CallersRule V Part) (a c : Access) (q : PassView (LockPassView V)) (b : Bool)
+      (up : p.pass.own.asleep ≡ false) where
     got : GetsBy rule p.pass l a q → Owns q.own l
     got h = subst (λ (y : PassView (LockPassView V)). Owns y.own l) (sym h.2.1) (grips h.0 up)
 
     pub took : MatchBool b (GetsBy rule p.pass l a q) (Notes p.pass (wishing p.pass.own l) c q) → MatchBool b (Owns q.own l) (Wants q.own l)
     took = by_bool b
       where
-        by_bool : (b : Bool) → MatchBool b (GetsBy rule p.pass l a q) (Notes p.pass (wishing p.pass.own l) c q) → MatchBool b (Owns q.own l) (Wants q.own l)
+        by_bool : (b : Bool) → MatchBool b (GetsBy rule p.pass l a q) (Notes p.pass (wishing p.pass.own l) c q)
+            → MatchBool b (Owns q.own l) (Wants q.own l)
         by_bool true h = got h
         by_bool false h = subst (λ (y : PassView (LockPassView V)). Wants y.own l) (sym h.1) (up, refl)
 
-    pub tried : p.pass.own.aim ≡ None → MatchBool b (GetsBy rule p.pass l a q) (Notes p.pass p.pass.own c q) → MatchBool b (Owns q.own l) (IsCalm q.own)
+    pub tried : p.pass.own.aim ≡ None → MatchBool b (GetsBy rule p.pass l a q) (Notes p.pass p.pass.own c q)
+        → MatchBool b (Owns q.own l) (IsCalm q.own)
     tried aim = by_bool b
       where
-        by_bool : (b : Bool) → MatchBool b (GetsBy rule p.pass l a q) (Notes p.pass p.pass.own c q) → MatchBool b (Owns q.own l) (IsCalm q.own)
+        by_bool : (b : Bool) → MatchBool b (GetsBy rule p.pass l a q) (Notes p.pass p.pass.own c q)
+            → MatchBool b (Owns q.own l) (IsCalm q.own)
         by_bool true h = got h
         by_bool false h = subst (λ (y : PassView (LockPassView V)). IsCalm y.own) (sym h.1) (up, aim)
 
   -- to whom it was handed owns it
-  pub was_handed : {Part : Type 0} (rule : CallersRule V Part) (q : PassView (LockPassView V)) (o : Option ℕ) → p.pass.own.aim ≡ Some l → o ≡ Some 1
+  pub was_handed : {Part : Type 0} (rule : CallersRule V Part) (q : PassView (LockPassView V)) (o : Option ℕ)
+      → p.pass.own.aim ≡ Some l → o ≡ Some 1
       → MatchOption o (FoundNone p.pass q) (λ token. Collected rule p.pass token q)
       → Owns q.own l × (q.own.holds ≡ set p.pass.own.holds l Held)
   was_handed rule q o aim one letter =
-      let h : Collected rule p.pass 1 q = subst (λ o. MatchOption o (FoundNone p.pass q) (λ token. Collected rule p.pass token q)) one letter in
+      let h : Collected rule p.pass 1 q =
+      subst (λ o. MatchOption o (FoundNone p.pass q) (λ token. Collected rule p.pass token q)) one letter in
       let same : h.1.0 ≡ l = (let e : Some h.1.0 ≡ Some l = sym h.1.1 ∙ aim in cc) in
       let x : V = h.1.2.0 in
-      let is_now : q.own ≡ woken (gripped p.pass.own l x) = ap (λ (y : PassView (LockPassView V)). y.own) h.1.2.2.1 ∙ ap (λ k. woken (gripped p.pass.own k x)) same in (
+      let is_now : q.own ≡ woken (gripped p.pass.own l x) = ap (λ (y : PassView (LockPassView V)). y.own) h.1.2.2.1
+      ∙ ap (λ k. woken (gripped p.pass.own k x)) same in (
         subst (λ y. Owns y l) (sym is_now) (
           (refl, refl),
           subst IsHeld (sym (get_or-set_same p.pass.own.holds l Held NotHeld (omega (arith, is.2)))) tt,
@@ -63,7 +71,8 @@ module _ {V : Type 0} (p : PassShown (LockPassView V)) (z : TableId) (t l : ℕ)
 
 -- ---- the rights that an opening of two locks answers
 module _ {V : Type 0} (z : TableId) (xs : List V) (two : length xs ≡ 2) where
-  pub fresh_calm : (t : ℕ) (p : PassShown (LockPassView V)) → p ≡ pass_at z xs t → IsPass z t p × IsCalm p.pass.own × (p.pass.own.holds ≡ NotHeld ∷ NotHeld ∷ [])
+  pub fresh_calm : (t : ℕ) (p : PassShown (LockPassView V)) → p ≡ pass_at z xs t → IsPass z t p × IsCalm p.pass.own
+      × (p.pass.own.holds ≡ NotHeld ∷ NotHeld ∷ [])
   fresh_calm t p e = subst (λ y. IsPass z t y × IsCalm y.pass.own × (y.pass.own.holds ≡ NotHeld ∷ NotHeld ∷ [])) (sym e) (
     (refl, refl, length-replicate (length xs) NotHeld ∙ two, length-replicate (length xs) Out ∙ two, two),
     (refl, refl),

@@ -1,7 +1,8 @@
 -- What the schedules of the tests know of a pass on two locks.
-use Rattle.std.specs.Prelude.{◌≡◌, ℕ, true, false, List, length, Some, None}
+use Rattle.std.specs.Prelude.{◌≡◌, ℕ, true, false, List, [], ◌∷◌, length, Some, None}
 use Rattle.atomic_table.specs.Seated.{TableId}
 use Rattle.lot_rights.specs.Shown.{PassShown, RootShown}
+use Rattle.lot_words.specs.declared.views.Hold.TheVariants.{NotHeld}
 use Rattle.lot_words.specs.declared.views.LockPassView.{LockPassView}
 use Rattle.lot_words.specs.declared.views.LockRootView.{LockRootView}
 use Rattle.lot_words.specs.Values.{IsIn, HasSeen}
@@ -9,11 +10,16 @@ use Rattle.lot_words.specs.World.{Holds, HoldsParked}
 
 -- the pass of the thread t, in the table, of two locks
 abbrev pub IsPass : {V : Type 0} → TableId → ℕ → PassShown (LockPassView V) → Type 0
-IsPass table t p = (p.table ≡ table) × (p.pass.thread ≡ t) × (length p.pass.own.holds ≡ 2) × (length p.pass.own.places ≡ 2) × (length p.pass.own.seen ≡ 2)
+IsPass table t p = (p.table ≡ table) × (p.pass.thread ≡ t) × (length p.pass.own.holds ≡ 2) × (length p.pass.own.places ≡ 2)
+    × (length p.pass.own.seen ≡ 2)
 
 -- it wants nothing
 abbrev pub IsCalm : {V : Type 0} → LockPassView V → Type 0
 IsCalm p = (p.asleep ≡ false) × (p.aim ≡ None)
+
+-- the pass of the thread t, in the table, which wants nothing and has neither lock
+abbrev pub HasNothing : {V : Type 0} → TableId → ℕ → PassShown (LockPassView V) → Type 0
+HasNothing table t p = IsPass table t p × IsCalm p.pass.own × (p.pass.own.holds ≡ NotHeld ∷ NotHeld ∷ [])
 
 -- it wants the lock
 abbrev pub Wants : {V : Type 0} → LockPassView V → ℕ → Type 0

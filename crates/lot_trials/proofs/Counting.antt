@@ -11,8 +11,7 @@ use Rattle.lot_words.specs.CallersRule.{CallersRule}
 use Rattle.lot_waits.specs.Counts.{CountsView, wrap}
 use Rattle.lot_waits.specs.Ledger.{AreSums, called_at, woken_at}
 use Rattle.lot_rights.proofs.Turns.{no_elements}
-use Rattle.lot_sync.specs.Lot.{LotView, PassView, HeldView, OwnsNone, IsWide, IsLedgerOf, counts_of, owning, leaving, waking, calling}
-use Rattle.lot_locks.specs.declared.released.Released.{Released}
+use Rattle.lot_sync.specs.Lot.{LotView, PassView, HeldView, ◌≈◌, OwnsNone, IsWide, IsLedgerOf, counts_of, leaving, waking, calling}
 use Rattle.lot_sync.specs.Values.{Gets, WaitsAndGets}
 use Rattle.lot_sync.proofs.Holdings.{owns_none_again}
 use Rattle.lot_trials.specs.Counting.{HasCountedNone, EndsAs}
@@ -26,23 +25,22 @@ none_still p q owns permits none = record {
 
 module _ {V Part : Type 0} (rule : CallersRule V Part) where
   -- it got the lock, waited with it once, and let it go
-  pub ends_waited : (lot : LotView) (p q r s : PassView V) (held again : HeldView V) (now : ℕ) (became : Released) → OwnsNone p → Gets rule p 0 held q
-      → WaitsAndGets rule q held 1 now again r → s ≡ leaving r again.key again.value became
+  pub ends_waited : (lot : LotView) (p q r s : PassView V) (held again : HeldView V) → OwnsNone p → Gets rule p 0 held q
+      → WaitsAndGets rule q held 1 again r → s ≈ leaving r again.key again.value
       → IsWide lot s → EndsAs lot (waking p 1) s
-  ends_waited lot p q r s held again now became none got (answer, _, woke) left wide = record {
+  ends_waited lot p q r s held again none got woke left wide = record {
     counts = ap counts_of left ∙ (ap counts_of woke.after_is ∙ ap (λ (v : PassView V). counts_of (waking v 1)) got.after_is);
     free =
-        let out : PassView V = leaving q held.key held.value answer in
-        let at : q ≡ owning p held.key held.value = got.after_is ∙ ap (λ k. owning p k held.value) (sym got.key_is) in
-        let first : OwnsNone out = owns_none_again p q out held.key held.value held.value answer none at refl in
-        owns_none_again (waking out 1) r s held.key again.value again.value became (none_still out (waking out 1) refl refl first)
-        woke.after_is (left ∙ ap (λ k. leaving r k again.value became) woke.key_is);
+        let out : PassView V = leaving q held.key held.value in
+        let first : OwnsNone out = owns_none_again p q out 0 held.key held.value held.value none got.after_is refl got.key_is in
+        owns_none_again (waking out 1) r s held.key again.key again.value again.value (none_still out (waking out 1) refl refl first)
+        woke.after_is left woke.key_is;
     wide = wide;
   }
 
 module _ {V : Type 0} where
   -- it took one sleeper
-  pub ends_called : (lot : LotView) (p q r : PassView V) → OwnsNone p → q ≡ p → r ≡ calling q 1 1 → IsWide lot r → EndsAs lot (calling p 1 1) r
+  pub ends_called : (lot : LotView) (p q r : PassView V) → OwnsNone p → q ≈ p → r ≈ calling q 1 1 → IsWide lot r → EndsAs lot (calling p 1 1) r
   ends_called lot p q r none same took wide = record {
     counts = ap counts_of took ∙ ap (λ (v : PassView V). counts_of (calling v 1 1)) same;
     free = none_still p r (ap (λ (v : PassView V). v.owns) took ∙ ap (λ (v : PassView V). v.owns) same)

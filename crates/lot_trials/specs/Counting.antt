@@ -13,6 +13,6 @@ module _ {V : Type 0} where
     pub free : OwnsNone after
     pub wide : IsWide lot after
 
-  -- the pass that lay there went through calls that count it so, and lies there again
-  abbrev pub EndsThere : LotView → (PassView V → PassView V) → Option (PassView V) → Option (PassView V) → Type 0
-  EndsThere lot counted before after = IsSomeAnd before (λ p. IsSomeAnd after (λ q. EndsAs lot (counted p) q))
+  -- the pass that lay there went through calls of this effect, and lies there again
+  abbrev pub GoesThere : (PassView V → PassView V → Type 0) → Option (PassView V) → Option (PassView V) → Type 0
+  GoesThere effect before after = IsSomeAnd before (λ p. IsSomeAnd after (λ q. effect p q))

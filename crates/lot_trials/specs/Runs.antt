@@ -1,5 +1,5 @@
 -- What a caller concludes when its lot is closed: all that was done with the lot is one run of the model.
-use Rattle.std.specs.Prelude.{◌≡◌, ℕ, ◌<◌, true, List, map, Option, Some, IsSomeAnd}
+use Rattle.std.specs.Prelude.{◌≡◌, ℕ, ◌<◌, ◌++◌, true, List, ◌∷◌, map, Option, IsSomeAnd}
 use Rattle.std.specs.List.{Any}
 use Rattle.lot_core.specs.World.{opening_with}
 use Rattle.lot_core.specs.Steps.{Run, after_all}
@@ -8,14 +8,26 @@ use Rattle.lot_events.specs.declared.events.Event.{Event}
 use Rattle.lot_events.specs.declared.events.Event.TheVariants.{Free, Pass}
 use Rattle.lot_events.specs.declared.events.Seen.{Seen}
 use Rattle.lot_events.specs.declared.events.Seen.TheVariants.{Bool as Saw, Sleeper}
-use Rattle.lot_locks.specs.declared.released.Released.{Released}
+use Rattle.lot_rights.specs.declared.views.Access.{Access}
+use Rattle.lot_rights.specs.declared.views.Access.TheVariants.{Makes}
 use Rattle.lot_sync.specs.Lot.{PassView, LotNames, OwnsNone}
+
+-- the thread let a lock go by this event: nobody was parked, or the lock was passed on
+abbrev pub LetsGo : ℕ → Event → Seen → Type 0
+LetsGo t (Free u l) (Saw true) = u ≡ t
+LetsGo t (Pass u l fair more) (Sleeper first) = u ≡ t
+LetsGo t _ _ = ⊥
 
 -- ---- passes
 module _ {V : Type 0} where
-  -- the pass has let a lock go, and shows how
-  abbrev pub HasReleased : PassView V → Type 0
-  HasReleased p = (became : Released) × (p.released ≡ Some became)
+  -- with the pass a lock was let go, after these accesses and before those
+  pub record HasReleased (p : PassView V) : Type 0 where
+    pub front : List Access
+    pub back : List Access
+    pub event : Event
+    pub saw : Seen
+    pub going : LetsGo p.thread event saw
+    pub made : p.made ≡ front ++ Makes event saw ∷ back
 
   -- a pass of the thread that owns no lock and holds no permit, after it has let a lock go
   pub record HasTurned (thread : ℕ) (p : PassView V) : Type 0 where
@@ -28,12 +40,6 @@ module _ {V : Type 0} where
   TurnsThere before after = IsSomeAnd before (λ p. IsSomeAnd after (λ q. HasTurned p.thread q))
 
 -- ---- the run
--- the thread let a lock go by this event: nobody was parked, or the lock was passed on
-abbrev pub LetsGo : ℕ → Event → Seen → Type 0
-LetsGo t (Free u l) (Saw true) = u ≡ t
-LetsGo t (Pass u l fair more) (Sleeper first) = u ≡ t
-LetsGo t _ _ = ⊥
-
 -- by one of these events, with what each saw
 abbrev pub HasLetGo : List (Event × Seen) → ℕ → Type 0
 HasLetGo events t = Any (λ (x : Event × Seen). LetsGo t x.0 x.1) events

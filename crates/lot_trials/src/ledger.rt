@@ -1,8 +1,10 @@
-//! One thread waits once on a condition, and another notifies it: what the ledger tells then, concluded from the contracts of the public calls alone.
+//! One thread waits once on a condition, and another notifies it: what the ledger tells then, and that the notification came before the letter
+//! that the wait collected, concluded from the contracts of the public calls alone.
 ghost use Rattle.std.specs.Prelude.{◌≡◌, ◌≤◌, ◌<◌, [], ◌∷◌, length, vec_len, vec_capacity, IsSomeAnd};
-ghost use Rattle.lot_sync.specs.Lot.{OwnsNone, waking, calling};
+ghost use Rattle.lot_sync.specs.Lot.{OwnsNone, rested};
 ghost use Rattle.lot_sync.specs.Opened.{IsNamed};
-ghost use Rattle.lot_trials.specs.Counting.{HasCountedNone, EndsAs, EndsThere};
+ghost use Rattle.lot_trials.specs.Counting.{GoesThere};
+ghost use Rattle.lot_trials.specs.Order.{IsUnused, WaitsOnce, CallsOnce, IsNotifiedFirst};
 
 use crate::asserts::{equal, failed, room_for};
 use crate::counts::ASKINGS;
@@ -17,13 +19,15 @@ use std::test::*;
 use std::thread;
 use std::thread::Threads;
 
-/// A number, of which nothing is kept.
+/// A number, of which nothing is kept. A pass that is in was used for nothing yet.
 #[derive(Clone, Copy)]
 struct Number {
     n: u64,
 }
 
 impl Keeps for Number {
+    ghost use Rattle.lot_trials.specs.Order.{IsUnused};
+
     type Part = ();
 
     ghost keeps = { λ key number. Unit {0} };
@@ -34,13 +38,15 @@ impl Keeps for Number {
 
     ghost grows_itself = { λ number. tt };
 
+    ghost rests = { IsUnused 1 };
+
     ghost grows_on = { λ x y z p q. tt };
 }
 
 /// The one condition: its number follows that of the one lock.
 const COND: usize = 1;
 
-/// Waits once on the condition, with lock 0: one wait more has ended, and nothing else is counted.
+/// Waits once on the condition, with lock 0: one wait more has ended, nothing else is counted, and nobody was notified.
 fn wait_once<N: LotName<Number> + Send + Sync, T: Wait>(
     rt: &T,
     lot: &Lot<Number, N>,
@@ -48,7 +54,7 @@ fn wait_once<N: LotName<Number> + Send + Sync, T: Wait>(
 ) -> Pass<Number, N>
     requires sizes { (lot.now.locks ≡ 1) × (lot.now.conds ≡ 1) }
     requires free { OwnsNone pass }
-    ensures { EndsAs lot.now (waking pass 1) result }
+    ensures { WaitsOnce lot.now pass result }
 {
     let moment = Moment { now: 0, word: 7 };
     let (pass, held) = lot.lock(rt, pass, 0);
@@ -57,7 +63,8 @@ fn wait_once<N: LotName<Number> + Send + Sync, T: Wait>(
     pass
 }
 
-/// Notifies one, asking a bounded number of times until somebody was taken: one sleeper more was taken, and nothing else is counted.
+/// Notifies one, asking a bounded number of times until somebody was taken: one sleeper more was taken, nothing else is counted, and nobody was
+/// notified but by these calls.
 fn call_once<N: LotName<Number> + Send + Sync, T: Wait + Abort>(
     rt: &T,
     lot: &Lot<Number, N>,
@@ -65,7 +72,7 @@ fn call_once<N: LotName<Number> + Send + Sync, T: Wait + Abort>(
 ) -> Pass<Number, N>
     requires sizes { (lot.now.locks ≡ 1) × (lot.now.conds ≡ 1) }
     requires free { OwnsNone pass }
-    ensures { EndsAs lot.now (calling pass 1 1) result }
+    ensures { CallsOnce lot.now pass result }
 {
     for _ in 0..ASKINGS {
         let (asked, took) = lot.notify_one(rt, pass, COND, Moment { now: 0, word: 7 });
@@ -86,7 +93,7 @@ fn wait_here<N: LotName<Number> + Send + Sync, T: Wait>(
 )
     requires sizes { (lot.now.locks ≡ 1) × (lot.now.conds ≡ 1) }
     requires free { IsSomeAnd here.old OwnsNone }
-    ensures { EndsThere lot.now (λ p. waking p 1) here.old here.new }
+    ensures { GoesThere (WaitsOnce lot.now) here.old here.new }
 {
     let pass = wait_once(rt, lot, here.take().unwrap());
     match here.replace(pass) {
@@ -103,7 +110,7 @@ fn call_here<N: LotName<Number> + Send + Sync, T: Wait + Abort>(
 )
     requires sizes { (lot.now.locks ≡ 1) × (lot.now.conds ≡ 1) }
     requires free { IsSomeAnd here.old OwnsNone }
-    ensures { EndsThere lot.now (λ p. calling p 1 1) here.old here.new }
+    ensures { GoesThere (CallsOnce lot.now) here.old here.new }
 {
     let pass = call_once(rt, lot, here.take().unwrap());
     match here.replace(pass) {
@@ -122,18 +129,18 @@ fn side_by_side<'a, N: LotName<Number> + Send + Sync, T: Threads + Wait + Sync +
 )
     requires sizes { (lot.now.locks ≡ 1) × (lot.now.conds ≡ 1) }
     requires free { IsSomeAnd first.old OwnsNone × IsSomeAnd second.old OwnsNone }
-    ensures waited { EndsThere lot.now (λ p. waking p 1) first.old first.new }
-    ensures called { EndsThere lot.now (λ p. calling p 1 1) second.old second.new }
+    ensures waited { GoesThere (WaitsOnce lot.now) first.old first.new }
+    ensures called { GoesThere (CallsOnce lot.now) second.old second.new }
 {
     let mut waits = ||
         requires sizes { (lot.now.locks ≡ 1) × (lot.now.conds ≡ 1) }
         requires free { IsSomeAnd first.now OwnsNone }
-        ensures { EndsThere lot.entry.now (λ p. waking p 1) first.entry.now first.exit.now }
+        ensures { GoesThere (WaitsOnce lot.entry.now) first.entry.now first.exit.now }
     { wait_here(rt, lot, first) };
     let mut calls = ||
         requires sizes { (lot.now.locks ≡ 1) × (lot.now.conds ≡ 1) }
         requires free { IsSomeAnd second.now OwnsNone }
-        ensures { EndsThere lot.entry.now (λ p. calling p 1 1) second.entry.now second.exit.now }
+        ensures { GoesThere (CallsOnce lot.entry.now) second.entry.now second.exit.now }
     { call_here(rt, lot, second) };
     thread::join_mut(rt, &mut waits, &mut calls);
 }
@@ -147,8 +154,8 @@ fn wait_and_call<N: LotName<Number> + Send + Sync, T: Threads + Wait + Sync + Ab
 ) -> (Pass<Number, N>, Pass<Number, N>)
     requires sizes { (lot.now.locks ≡ 1) × (lot.now.conds ≡ 1) }
     requires free { OwnsNone first × OwnsNone second }
-    ensures waited { EndsAs lot.now (waking first 1) result.0 }
-    ensures called { EndsAs lot.now (calling second 1 1) result.1 }
+    ensures waited { WaitsOnce lot.now first result.0 }
+    ensures called { CallsOnce lot.now second result.1 }
 {
     let mut waits = Some(first);
     let mut calls = Some(second);
@@ -156,8 +163,8 @@ fn wait_and_call<N: LotName<Number> + Send + Sync, T: Threads + Wait + Sync + Ab
     (waits.unwrap(), calls.unwrap())
 }
 
-/// The two passes of a lot wait and notify, and the lot is closed with them. Where neither had counted anything before, the ledger tells of one sleeper
-/// that was taken and of one wait that ended.
+/// The two passes of a lot wait and notify, and the lot is closed with them. The ledger tells of one sleeper that was taken and of one wait that
+/// ended, and in the one history of the lot the notification comes before the letter that the wait collected.
 fn tally<N: LotName<Number> + Send + Sync, T: Threads + Wait + Sync + Abort>(
     rt: &T,
     lot: Lot<Number, N>,
@@ -165,13 +172,16 @@ fn tally<N: LotName<Number> + Send + Sync, T: Threads + Wait + Sync + Abort>(
     second: Pass<Number, N>,
     mut passes: Vec<Pass<Number, N>>,
 ) -> Ledger
-    requires sizes { (lot.threads ≡ 2) × (lot.locks ≡ 1) × (lot.conds ≡ 1) }
+    requires sizes { (lot.threads ≡ 2) × (N.threads ≡ 2) × (lot.locks ≡ 1) × (lot.conds ≡ 1) }
+    requires unused { IsUnused 1 (rested first) × IsUnused 1 (rested second) }
     requires threads { (first.thread < 2) × (second.thread < 2) }
     requires free { OwnsNone first × OwnsNone second }
     requires room { (vec_len passes ≡ 0) × (2 ≤ vec_capacity passes) }
-    ensures { HasCountedNone 1 first → HasCountedNone 1 second → (result.called.items ≡ 1 ∷ []) × (result.woken.items ≡ 1 ∷ []) }
+    ensures ledger { (result.called.items ≡ 1 ∷ []) × (result.woken.items ≡ 1 ∷ []) }
+    ensures order { IsNotifiedFirst N.LotName first.thread second.thread 1 }
 {
     let (first, second) = wait_and_call(rt, &lot, first, second);
+    lot_whole::laws::letters_follow();
     let (first, second) = lot.check_apart(first, second);
     passes.push_reserved(first);
     passes.push_reserved(second);

@@ -1,6 +1,6 @@
 //! Passes in tests: how a thread gets one, and how one comes back that was left.
 ghost use Rattle.std.specs.Prelude.{◌≡◌, ◌<◌};
-ghost use Rattle.lot_sync.specs.Lot.{OwnsNone};
+ghost use Rattle.lot_sync.specs.Lot.{OwnsNone, rested};
 
 use crate::asserts::failed;
 use lot_sync::{Lot, LotName, Pass};
@@ -15,6 +15,7 @@ pub(crate) fn enter<V: Keeps + Send, N: LotName<V> + Send + Sync, T: Wait + Abor
 ) -> Pass<V, N>
     ensures thread { result.thread < lot.now.threads }
     ensures free { OwnsNone result }
+    ensures rests { V.rests (rested result) }
 {
     match lot.register(rt) {
         Ok(pass) => pass,

@@ -7,7 +7,7 @@ use crate::asserts::{bits_are, equal, failed};
 use crate::kinds::asserts::count_is;
 use crate::kinds::gates::{Gated, GatedLot};
 use crate::kinds::locks::{get, release};
-use crate::kinds::tables::{Nothing, Right};
+use crate::kinds::tables::{Nothing, Pass};
 use crate::park::askings::await_line;
 use lot_locks::{Locks, Released};
 use lot_park::{AtOnce, Grown, Seeking, get_or_park};
@@ -18,7 +18,7 @@ use std::thread;
 use std::thread::Threads;
 
 // Sleeps in the line of the lock until it has it.
-fn own<N: LotName<Nothing> + Send, R: Wait>(rt: &R, lot: &GatedLot<N>, pass: Right<N>) -> Right<N>
+fn own<N: LotName<Nothing> + Send, R: Wait>(rt: &R, lot: &GatedLot<N>, pass: Pass<N>) -> Pass<N>
     requires small { IsSmall N.locks N.conds N.low }
     requires sizes { (lot.now.keys ≡ 3) × (lot.now.threads ≡ 5) }
     requires thread { pass.thread < 5 }
@@ -63,7 +63,7 @@ fn grows<N: LotName<Nothing> + Send, R: Wait + Abort>(
 fn hands_over<N: LotName<Nothing> + Send, R: Wait + Abort>(
     rt: &R,
     lot: &GatedLot<N>,
-    here: &mut Option<Right<N>>,
+    here: &mut Option<Pass<N>>,
 )
     requires small { IsSmall N.locks N.conds N.low }
     requires sizes { (lot.now.keys ≡ 3) × (lot.now.threads ≡ 5) }
@@ -84,7 +84,7 @@ fn hands_over<N: LotName<Nothing> + Send, R: Wait + Abort>(
 fn is_handed<N: LotName<Nothing> + Send, R: Wait + Abort>(
     rt: &R,
     lot: &GatedLot<N>,
-    here: &mut Option<Right<N>>,
+    here: &mut Option<Pass<N>>,
 )
     requires small { IsSmall N.locks N.conds N.low }
     requires sizes { (lot.now.keys ≡ 3) × (lot.now.threads ≡ 5) }
@@ -102,7 +102,7 @@ fn is_handed<N: LotName<Nothing> + Send, R: Wait + Abort>(
 fn is_woken<N: LotName<Nothing> + Send, R: Wait + Abort>(
     rt: &R,
     lot: &GatedLot<N>,
-    here: &mut Option<Right<N>>,
+    here: &mut Option<Pass<N>>,
 )
     requires small { IsSmall N.locks N.conds N.low }
     requires sizes { (lot.now.keys ≡ 3) × (lot.now.threads ≡ 5) }
@@ -117,7 +117,7 @@ fn is_woken<N: LotName<Nothing> + Send, R: Wait + Abort>(
 }
 
 // A right that was lent to a thread comes back: a closure can't hold it.
-fn give_back<N: LotName<Nothing> + Send>(here: &mut Option<Right<N>>, pass: Right<N>)
+fn give_back<N: LotName<Nothing> + Send>(here: &mut Option<Pass<N>>, pass: Pass<N>)
     requires { here.old ≡ None }
     ensures { here.new ≡ Some pass }
 {
@@ -131,8 +131,8 @@ fn give_back<N: LotName<Nothing> + Send>(here: &mut Option<Right<N>>, pass: Righ
 fn sleep_side_by_side<'a, N: LotName<Nothing> + Send + Sync, R: Threads + Wait + Abort + Sync>(
     rt: &'a R,
     lot: &'a GatedLot<N>,
-    one: &'a mut Option<Right<N>>,
-    two: &'a mut Option<Right<N>>,
+    one: &'a mut Option<Pass<N>>,
+    two: &'a mut Option<Pass<N>>,
 )
     requires small { IsSmall N.locks N.conds N.low }
     requires sizes { (lot.now.keys ≡ 3) × (lot.now.threads ≡ 5) }
@@ -158,7 +158,7 @@ fn sleep_side_by_side<'a, N: LotName<Nothing> + Send + Sync, R: Threads + Wait +
 fn both_sleep<N: LotName<Nothing> + Send + Sync, R: Threads + Wait + Abort + Sync>(
     rt: &R,
     lot: &GatedLot<N>,
-    here: &mut Option<(Right<N>, Right<N>)>,
+    here: &mut Option<(Pass<N>, Pass<N>)>,
 )
     requires small { IsSmall N.locks N.conds N.low }
     requires sizes { (lot.now.keys ≡ 3) × (lot.now.threads ≡ 5) }
@@ -179,8 +179,8 @@ fn both_sleep<N: LotName<Nothing> + Send + Sync, R: Threads + Wait + Abort + Syn
 fn side_by_side<'a, N: LotName<Nothing> + Send + Sync, R: Threads + Wait + Abort + Sync>(
     rt: &'a R,
     lot: &'a GatedLot<N>,
-    owner: &'a mut Option<Right<N>>,
-    sleepers: &'a mut Option<(Right<N>, Right<N>)>,
+    owner: &'a mut Option<Pass<N>>,
+    sleepers: &'a mut Option<(Pass<N>, Pass<N>)>,
 )
     requires small { IsSmall N.locks N.conds N.low }
     requires sizes { (lot.now.keys ≡ 3) × (lot.now.threads ≡ 5) }
@@ -211,10 +211,10 @@ pub(crate) fn handed_while_it_grows<
 >(
     rt: &R,
     lot: &GatedLot<N>,
-    zero: Right<N>,
-    one: Right<N>,
-    two: Right<N>,
-) -> (Right<N>, Right<N>, Right<N>)
+    zero: Pass<N>,
+    one: Pass<N>,
+    two: Pass<N>,
+) -> (Pass<N>, Pass<N>, Pass<N>)
     requires small { IsSmall N.locks N.conds N.low }
     requires sizes { (lot.now.keys ≡ 3) × (lot.now.threads ≡ 5) }
     requires calm { IsCalm 0 zero × IsCalm 1 one × IsCalm 2 two }

@@ -10,7 +10,7 @@ use crate::kinds::asserts::{count_is, is_not, parked_is, released_is};
 use crate::kinds::gates::{Gated, GatedLot};
 use crate::kinds::handoffs::handed_while_it_grows;
 use crate::kinds::tables::{
-    EARLY, Nothing, OneTable, Passes, Right, Roots, Words, close_words, deal, gather, name_roots,
+    EARLY, Nothing, OneTable, Pass, Passes, Roots, Words, close_words, deal, gather, name_roots,
     open_words, unname_roots,
 };
 use lot_locks::{Locks, Released, let_go};
@@ -43,8 +43,8 @@ impl<R: Abort> BeforeSleep for Never<'_, R> {
 pub(crate) fn get<N: LotName<Nothing> + Send>(
     rt: &impl Abort,
     scheme: &OneTable<N>,
-    pass: Right<N>,
-) -> Right<N>
+    pass: Pass<N>,
+) -> Pass<N>
     requires small { IsSmall N.locks N.conds N.low }
     requires pass { (t : ℕ) × IsFor t 0 pass }
     ensures { (t : ℕ) → IsFor t 0 pass → HasIt t 0 result }
@@ -55,11 +55,7 @@ pub(crate) fn get<N: LotName<Nothing> + Send>(
 }
 
 // The lock is held, and is wanted from now on.
-fn want<N: LotName<Nothing> + Send>(
-    rt: &impl Abort,
-    scheme: &OneTable<N>,
-    pass: Right<N>,
-) -> Right<N>
+fn want<N: LotName<Nothing> + Send>(rt: &impl Abort, scheme: &OneTable<N>, pass: Pass<N>) -> Pass<N>
     requires small { IsSmall N.locks N.conds N.low }
     requires pass { (t : ℕ) × IsFor t 0 pass }
     ensures { (t : ℕ) → IsFor t 0 pass → Wants t 0 result }
@@ -70,11 +66,7 @@ fn want<N: LotName<Nothing> + Send>(
 }
 
 // The lock is held, and is marked as parked.
-fn mark<N: LotName<Nothing> + Send>(
-    rt: &impl Abort,
-    scheme: &OneTable<N>,
-    pass: Right<N>,
-) -> Right<N>
+fn mark<N: LotName<Nothing> + Send>(rt: &impl Abort, scheme: &OneTable<N>, pass: Pass<N>) -> Pass<N>
     requires small { IsSmall N.locks N.conds N.low }
     requires pass { (t : ℕ) × Wants t 0 pass }
     ensures { (t : ℕ) → Wants t 0 pass → Wants t 0 result }
@@ -88,10 +80,10 @@ fn mark<N: LotName<Nothing> + Send>(
 pub(crate) fn release<N: LotName<Nothing> + Send, R: Wait + Abort>(
     rt: &R,
     lot: &GatedLot<N>,
-    pass: Right<N>,
+    pass: Pass<N>,
     fair: bool,
     wanted: Released,
-) -> Right<N>
+) -> Pass<N>
     requires small { IsSmall N.locks N.conds N.low }
     requires sizes { lot.now.keys ≡ 3 }
     requires pass { (t : ℕ) × HasIt t 0 pass }
@@ -106,8 +98,8 @@ pub(crate) fn release<N: LotName<Nothing> + Send, R: Wait + Abort>(
 fn park_in_vain<N: LotName<Nothing> + Send, R: Wait + Abort>(
     rt: &R,
     lot: &GatedLot<N>,
-    pass: Right<N>,
-) -> Right<N>
+    pass: Pass<N>,
+) -> Pass<N>
     requires small { IsSmall N.locks N.conds N.low }
     requires sizes { (lot.now.keys ≡ 3) × (lot.now.threads ≡ 5) }
     requires thread { pass.thread < 3 }
@@ -137,10 +129,10 @@ fn word_is<N: LotName<Nothing>>(rt: &impl Abort, scheme: &OneTable<N>, wanted: u
 fn too_late<N: LotName<Nothing> + Send, R: Wait + Abort>(
     rt: &R,
     lot: &GatedLot<N>,
-    zero: Right<N>,
-    one: Right<N>,
-    two: Right<N>,
-) -> (Right<N>, Right<N>, Right<N>)
+    zero: Pass<N>,
+    one: Pass<N>,
+    two: Pass<N>,
+) -> (Pass<N>, Pass<N>, Pass<N>)
     requires small { IsSmall N.locks N.conds N.low }
     requires sizes { (lot.now.keys ≡ 3) × (lot.now.threads ≡ 5) }
     requires calm { IsCalm 0 zero × IsCalm 1 one × IsCalm 2 two }
@@ -174,11 +166,11 @@ enum Schedule {
 fn played<N: LotName<Nothing> + Send + Sync, R: Threads + Wait + Abort + Sync>(
     rt: &R,
     lot: &GatedLot<N>,
-    zero: Right<N>,
-    one: Right<N>,
-    two: Right<N>,
+    zero: Pass<N>,
+    one: Pass<N>,
+    two: Pass<N>,
     schedule: Schedule,
-) -> (Right<N>, Right<N>, Right<N>)
+) -> (Pass<N>, Pass<N>, Pass<N>)
     requires small { IsSmall N.locks N.conds N.low }
     requires sizes { (lot.now.keys ≡ 3) × (lot.now.threads ≡ 5) }
     requires calm { IsCalm 0 zero × IsCalm 1 one × IsCalm 2 two }

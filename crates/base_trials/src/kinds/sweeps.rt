@@ -12,7 +12,7 @@ ghost use Rattle.base_trials.specs.Waits.{IsSmall};
 use crate::asserts::{bits_are, failed};
 use crate::kinds::asserts::{count_is, parked_is};
 use crate::kinds::tables::{
-    EARLY, Nothing, Passes, Right, Roots, THREADS, Words, close_words, deal, gather, name_roots,
+    EARLY, Nothing, Pass, Passes, Roots, THREADS, Words, close_words, deal, gather, name_roots,
     open_words, unname_roots,
 };
 use crate::kinds::waiters::Lot;
@@ -103,9 +103,9 @@ fn sleep_swept<S: CondSteps, R: Wait + Abort>(
 fn swept_before_sleep<N: LotName<Nothing> + Send, R: Wait + Abort>(
     rt: &R,
     lot: &Lot<N>,
-    zero: Right<N>,
-    one: Right<N>,
-) -> (Right<N>, Right<N>)
+    zero: Pass<N>,
+    one: Pass<N>,
+) -> (Pass<N>, Pass<N>)
     requires small { IsSmall N.locks N.conds N.low }
     requires sizes { (lot.now.threads ≡ 3) × (lot.now.keys ≡ 3) }
     requires calm { IsCalm 0 zero × IsCalm 1 one }

@@ -38,7 +38,7 @@ impl Keeps for Nothing {
 
 pub(crate) type OneTable<N> = LotScheme<Nothing, N>;
 
-pub(crate) type Right<N> = NamedPass<Nothing, N>;
+pub(crate) type Pass<N> = NamedPass<Nothing, N>;
 
 pub(crate) type Words = LotWords<Nothing>;
 
@@ -78,7 +78,7 @@ pub(crate) fn open_words(
 }
 
 /// The passes of the three threads under the lot's name.
-pub(crate) fn deal<N: LotName<Nothing>>(passes: &mut Passes) -> (Right<N>, Right<N>, Right<N>)
+pub(crate) fn deal<N: LotName<Nothing>>(passes: &mut Passes) -> (Pass<N>, Pass<N>, Pass<N>)
     requires { AreDealt N.opening.locks N.locks N.conds passes.old.items }
     ensures fresh { IsFresh (N.locks + N.conds) 0 result.0 × IsFresh (N.locks + N.conds) 1 result.1
         × IsFresh (N.locks + N.conds) 2 result.2 }
@@ -93,9 +93,9 @@ pub(crate) fn deal<N: LotName<Nothing>>(passes: &mut Passes) -> (Right<N>, Right
 /// They come back.
 pub(crate) fn gather<N: LotName<Nothing>>(
     passes: &mut Passes,
-    zero: Right<N>,
-    one: Right<N>,
-    two: Right<N>,
+    zero: Pass<N>,
+    one: Pass<N>,
+    two: Pass<N>,
 )
     requires room { (vec_len passes.old ≡ 0) × (3 ≤ vec_capacity passes.old) }
     requires calm { IsCalm 0 zero × IsCalm 1 one × IsCalm 2 two }

@@ -8,7 +8,7 @@ ghost use Rattle.base_trials.specs.Opened.{AreDealt, AreRootsBack, IsFresh, size
 ghost use Rattle.base_trials.specs.Waits.{IsSmall};
 
 use crate::kinds::tables::{
-    EARLY, Nothing, OneTable, Passes, Right, Roots, Words, close_words, deal, gather,
+    EARLY, Nothing, OneTable, Pass, Passes, Roots, Words, close_words, deal, gather,
 };
 use lot_locks::{get, let_go};
 use lot_park::{AtOnce, BeforeSleep, ParkingLot};
@@ -24,12 +24,12 @@ use std::sync::Wait;
 pub(crate) type Lot<N> = ParkingLot<OneTable<N>>;
 
 /// The pass of a thread between two calls, with what is kept of its counts. Contracts see what it has counted.
-pub(crate) struct Waiter<N: LotName<Nothing>> {
-    pass: Right<N>,
+pub(crate) struct CountedPass<N: LotName<Nothing>> {
+    pass: Pass<N>,
     tallies: Box<Tallies>,
 }
 
-impl<N: LotName<Nothing>> Model for Waiter<N> {
+impl<N: LotName<Nothing>> Model for CountedPass<N> {
     ghost use Rattle.lot_waits.specs.Counts.{CountsView, AreKept, counts_in};
     ghost use Rattle.base_trials.specs.Calm.{IsCalm};
 
@@ -70,18 +70,18 @@ impl Room {
 
 /// The three threads of a lot, which have counted nothing yet.
 pub(crate) struct Three<N: LotName<Nothing>> {
-    pub(crate) zero: Waiter<N>,
-    pub(crate) one: Waiter<N>,
-    pub(crate) two: Waiter<N>,
+    pub(crate) zero: CountedPass<N>,
+    pub(crate) one: CountedPass<N>,
+    pub(crate) two: CountedPass<N>,
     ghost threads: { (zero.thread ≡ 0) × (one.thread ≡ 1) × (two.thread ≡ 2) },
 }
 
-fn fresh<N: LotName<Nothing>>(pass: Right<N>, tallies: Box<Tallies>) -> Waiter<N>
+fn fresh<N: LotName<Nothing>>(pass: Pass<N>, tallies: Box<Tallies>) -> CountedPass<N>
     requires fresh { IsFresh (N.locks + N.conds) pass.thread pass }
     requires none { AreZeros N.conds tallies.value }
     ensures { result.thread ≡ pass.thread }
 {
-    Waiter { pass, tallies }
+    CountedPass { pass, tallies }
 }
 
 /// The waiters of the three threads, and the sums.
@@ -103,13 +103,13 @@ pub(crate) fn deal_waiters<N: LotName<Nothing>>(
 }
 
 // Adds to the sums what is kept of the waiter's counts.
-fn added<N: LotName<Nothing>>(sums: &mut Tallies, waiter: Waiter<N>) -> Right<N>
+fn added<N: LotName<Nothing>>(sums: &mut Tallies, waiter: CountedPass<N>) -> Pass<N>
     requires { (waiters : List CountsView) × AreTallied N.locks N.conds waiters sums.old }
     ensures calm { IsCalm waiter.thread result }
     ensures sums { (waiters : List CountsView) → AreTallied N.locks N.conds waiters sums.old
         → AreTallied N.locks N.conds (waiters ++ waiter ∷ []) sums.new }
 {
-    let Waiter { pass, tallies } = waiter;
+    let CountedPass { pass, tallies } = waiter;
     add_up(sums, &*tallies);
     pass
 }
@@ -137,7 +137,7 @@ pub(crate) fn settle<N: LotName<Nothing>>(
     ledger_of(sums)
 }
 
-impl<N: LotName<Nothing> + Send> Waiter<N> {
+impl<N: LotName<Nothing> + Send> CountedPass<N> {
     /// Gets the lock, waits on the condition, and lets the lock go again.
     pub(crate) fn wait<R: Wait, B: BeforeSleep>(
         self,
@@ -145,57 +145,57 @@ impl<N: LotName<Nothing> + Send> Waiter<N> {
         lot: &Lot<N>,
         lock: usize,
         before: &B,
-    ) -> Waiter<N>
+    ) -> CountedPass<N>
         requires small { IsSmall N.locks N.conds N.low }
         requires sizes { (lot.now.threads ≡ 3) × (lot.now.keys ≡ 3) }
         requires lock { lock < 2 }
         requires thread { self.thread < 3 }
         ensures { result ≡ woke self 2 }
     {
-        let Waiter { pass, tallies } = self;
+        let CountedPass { pass, tallies } = self;
         let owner = get(rt, lot, pass, lock, &AtOnce);
         let (again, _released) = wait(rt, lot, owner, 2, lock, EARLY, before);
         let (pass, _released) = let_go(rt, lot, again, lock, EARLY, false);
         let tallies = count_wait(tallies, 2, 2);
-        Waiter { pass, tallies }
+        CountedPass { pass, tallies }
     }
 
     /// Whether somebody may wait.
-    pub(crate) fn has_waiters(self, lot: &Lot<N>) -> (Waiter<N>, bool)
+    pub(crate) fn has_waiters(self, lot: &Lot<N>) -> (CountedPass<N>, bool)
         requires small { IsSmall N.locks N.conds N.low }
         ensures { result.0 ≡ self }
     {
-        let Waiter { pass, tallies } = self;
+        let CountedPass { pass, tallies } = self;
         let (pass, set) = has_waiters(lot, pass, 2);
-        (Waiter { pass, tallies }, set)
+        (CountedPass { pass, tallies }, set)
     }
 
     /// Whether it took one.
-    pub(crate) fn notify_one<R: Wait>(self, rt: &R, lot: &Lot<N>) -> (Waiter<N>, bool)
+    pub(crate) fn notify_one<R: Wait>(self, rt: &R, lot: &Lot<N>) -> (CountedPass<N>, bool)
         requires small { IsSmall N.locks N.conds N.low }
         requires sizes { lot.now.keys ≡ 3 }
         ensures { MatchBool result.1 (result.0 ≡ took_more self 2 1) (result.0 ≡ self) }
     {
-        let Waiter { pass, tallies } = self;
+        let CountedPass { pass, tallies } = self;
         let (pass, took) = notify_one(rt, lot, pass, 2, EARLY);
         if took {
             let tallies = count_taken(tallies, 2, 2, 1);
-            (Waiter { pass, tallies }, true)
+            (CountedPass { pass, tallies }, true)
         } else {
-            (Waiter { pass, tallies }, false)
+            (CountedPass { pass, tallies }, false)
         }
     }
 
     /// How many it took.
-    pub(crate) fn notify_all<R: Wait>(self, rt: &R, lot: &Lot<N>) -> (Waiter<N>, usize)
+    pub(crate) fn notify_all<R: Wait>(self, rt: &R, lot: &Lot<N>) -> (CountedPass<N>, usize)
         requires small { IsSmall N.locks N.conds N.low }
         requires sizes { lot.now.keys ≡ 3 }
         ensures { result.0 ≡ took_more self 2 result.1 }
     {
-        let Waiter { pass, tallies } = self;
+        let CountedPass { pass, tallies } = self;
         let (pass, count) = notify_all(rt, lot, pass, 2);
         let tallies = count_taken(tallies, 2, 2, count);
-        (Waiter { pass, tallies }, count)
+        (CountedPass { pass, tallies }, count)
     }
 
     /// The same with an action between the clearing of the flag and the taking of the line.
@@ -204,14 +204,14 @@ impl<N: LotName<Nothing> + Send> Waiter<N> {
         rt: &R,
         lot: &Lot<N>,
         between: &B,
-    ) -> (Waiter<N>, usize)
+    ) -> (CountedPass<N>, usize)
         requires small { IsSmall N.locks N.conds N.low }
         requires sizes { lot.now.keys ≡ 3 }
         ensures { result.0 ≡ took_more self 2 result.1 }
     {
-        let Waiter { pass, tallies } = self;
+        let CountedPass { pass, tallies } = self;
         let (pass, count) = notify_all_after(rt, lot, pass, 2, between);
         let tallies = count_taken(tallies, 2, 2, count);
-        (Waiter { pass, tallies }, count)
+        (CountedPass { pass, tallies }, count)
     }
 }

@@ -9,7 +9,7 @@ use crate::kinds::asserts::{count_is, is_not, ledger_is};
 use crate::kinds::tables::{
     EARLY, Nothing, Passes, Roots, THREADS, Words, name_roots, open_words, unname_roots,
 };
-use crate::kinds::waiters::{Lot, Room, Three, Waiter, deal_waiters, settle};
+use crate::kinds::waiters::{CountedPass, Lot, Room, Three, deal_waiters, settle};
 use lot_park::{BeforeSleep, ParkingLot, Scheme, Token, UnparkResult};
 use lot_scheme::{LotName, LotScheme};
 use lot_waits::{BeforeSweep, Ledger};
@@ -115,7 +115,7 @@ fn give_back<T>(here: &mut Option<T>, lent: T)
 fn wait_until_taken<N: LotName<Nothing> + Send + Sync, R: Wait + Abort>(
     rt: &R,
     lot: &Lot<N>,
-    here: &mut Option<Waiter<N>>,
+    here: &mut Option<CountedPass<N>>,
     signs: &Signs,
 )
     requires small { IsSmall N.locks N.conds N.low }
@@ -131,9 +131,9 @@ fn wait_until_taken<N: LotName<Nothing> + Send + Sync, R: Wait + Abort>(
 fn take_it<N: LotName<Nothing> + Send + Sync, R: Wait + Abort>(
     rt: &R,
     lot: &Lot<N>,
-    one: Waiter<N>,
+    one: CountedPass<N>,
     all: bool,
-) -> Waiter<N>
+) -> CountedPass<N>
     requires small { IsSmall N.locks N.conds N.low }
     requires sizes { lot.now.keys ≡ 3 }
     ensures { result ≡ took_more one 2 1 }
@@ -153,7 +153,7 @@ fn take_it<N: LotName<Nothing> + Send + Sync, R: Wait + Abort>(
 fn take_the_first<N: LotName<Nothing> + Send + Sync, R: Wait + Abort>(
     rt: &R,
     lot: &Lot<N>,
-    here: &mut Option<Waiter<N>>,
+    here: &mut Option<CountedPass<N>>,
     signs: &Signs,
     all: bool,
 )
@@ -173,8 +173,8 @@ fn take_the_first<N: LotName<Nothing> + Send + Sync, R: Wait + Abort>(
 fn taken_by_the_second<'a, N: LotName<Nothing> + Send + Sync, R: Threads + Wait + Abort + Sync>(
     rt: &'a R,
     lot: &'a Lot<N>,
-    first: &'a mut Option<Waiter<N>>,
-    second: &'a mut Option<Waiter<N>>,
+    first: &'a mut Option<CountedPass<N>>,
+    second: &'a mut Option<CountedPass<N>>,
     signs: &'a Signs,
     all: bool,
 )
@@ -204,10 +204,10 @@ fn taken_by_the_second<'a, N: LotName<Nothing> + Send + Sync, R: Threads + Wait 
 fn taken_before_sleep<N: LotName<Nothing> + Send + Sync, R: Threads + Wait + Abort + Sync>(
     rt: &R,
     lot: &Lot<N>,
-    zero: Waiter<N>,
-    one: Waiter<N>,
+    zero: CountedPass<N>,
+    one: CountedPass<N>,
     all: bool,
-) -> (Waiter<N>, Waiter<N>)
+) -> (CountedPass<N>, CountedPass<N>)
     requires small { IsSmall N.locks N.conds N.low }
     requires sizes { (lot.now.threads ≡ 3) × (lot.now.keys ≡ 3) }
     requires threads { (zero.thread ≡ 0) × (one.thread ≡ 1) }
@@ -227,9 +227,9 @@ fn taken_before_sleep<N: LotName<Nothing> + Send + Sync, R: Threads + Wait + Abo
 fn notified_before_sleep<N: LotName<Nothing> + Send + Sync, R: Threads + Wait + Abort + Sync>(
     rt: &R,
     lot: &Lot<N>,
-    zero: Waiter<N>,
-    one: Waiter<N>,
-) -> (Waiter<N>, Waiter<N>)
+    zero: CountedPass<N>,
+    one: CountedPass<N>,
+) -> (CountedPass<N>, CountedPass<N>)
     requires small { IsSmall N.locks N.conds N.low }
     requires sizes { (lot.now.threads ≡ 3) × (lot.now.keys ≡ 3) }
     requires threads { (zero.thread ≡ 0) × (one.thread ≡ 1) }
@@ -246,8 +246,8 @@ fn notified_before_sleep<N: LotName<Nothing> + Send + Sync, R: Threads + Wait + 
 fn notify_nobody<N: LotName<Nothing> + Send + Sync, R: Wait + Abort>(
     rt: &R,
     lot: &Lot<N>,
-    one: Waiter<N>,
-) -> Waiter<N>
+    one: CountedPass<N>,
+) -> CountedPass<N>
     requires small { IsSmall N.locks N.conds N.low }
     requires sizes { lot.now.keys ≡ 3 }
     ensures { result ≡ one }
@@ -261,9 +261,9 @@ fn notify_nobody<N: LotName<Nothing> + Send + Sync, R: Wait + Abort>(
 fn take_both<N: LotName<Nothing> + Send + Sync, R: Wait + Abort>(
     rt: &R,
     lot: &Lot<N>,
-    one: Waiter<N>,
+    one: CountedPass<N>,
     signs: &Signs,
-) -> Waiter<N>
+) -> CountedPass<N>
     requires small { IsSmall N.locks N.conds N.low }
     requires sizes { lot.now.keys ≡ 3 }
     ensures { result ≡ took_more one 2 2 }
@@ -283,7 +283,7 @@ fn take_both<N: LotName<Nothing> + Send + Sync, R: Wait + Abort>(
 fn take_the_late_too<N: LotName<Nothing> + Send + Sync, R: Wait + Abort>(
     rt: &R,
     lot: &Lot<N>,
-    here: &mut Option<Waiter<N>>,
+    here: &mut Option<CountedPass<N>>,
     signs: &Signs,
 )
     requires small { IsSmall N.locks N.conds N.low }
@@ -302,7 +302,7 @@ fn take_the_late_too<N: LotName<Nothing> + Send + Sync, R: Wait + Abort>(
 fn wait_late<N: LotName<Nothing> + Send + Sync, R: Wait + Abort>(
     rt: &R,
     lot: &Lot<N>,
-    here: &mut Option<Waiter<N>>,
+    here: &mut Option<CountedPass<N>>,
     signs: &Signs,
 )
     requires small { IsSmall N.locks N.conds N.low }
@@ -319,8 +319,8 @@ fn wait_late<N: LotName<Nothing> + Send + Sync, R: Wait + Abort>(
 fn take_and_come<'a, N: LotName<Nothing> + Send + Sync, R: Threads + Wait + Abort + Sync>(
     rt: &'a R,
     lot: &'a Lot<N>,
-    second: &'a mut Option<Waiter<N>>,
-    late: &'a mut Option<Waiter<N>>,
+    second: &'a mut Option<CountedPass<N>>,
+    late: &'a mut Option<CountedPass<N>>,
     signs: &'a Signs,
 )
     requires small { IsSmall N.locks N.conds N.low }
@@ -349,7 +349,7 @@ fn take_and_come<'a, N: LotName<Nothing> + Send + Sync, R: Threads + Wait + Abor
 fn take_and_come_lent<N: LotName<Nothing> + Send + Sync, R: Threads + Wait + Abort + Sync>(
     rt: &R,
     lot: &Lot<N>,
-    here: &mut Option<(Waiter<N>, Waiter<N>)>,
+    here: &mut Option<(CountedPass<N>, CountedPass<N>)>,
     signs: &Signs,
 )
     requires small { IsSmall N.locks N.conds N.low }
@@ -368,8 +368,8 @@ fn take_and_come_lent<N: LotName<Nothing> + Send + Sync, R: Threads + Wait + Abo
 fn side_by_side<'a, N: LotName<Nothing> + Send + Sync, R: Threads + Wait + Abort + Sync>(
     rt: &'a R,
     lot: &'a Lot<N>,
-    first: &'a mut Option<Waiter<N>>,
-    others: &'a mut Option<(Waiter<N>, Waiter<N>)>,
+    first: &'a mut Option<CountedPass<N>>,
+    others: &'a mut Option<(CountedPass<N>, CountedPass<N>)>,
     signs: &'a Signs,
 )
     requires small { IsSmall N.locks N.conds N.low }
@@ -402,10 +402,10 @@ fn taken_after_the_flag_was_cleared<
 >(
     rt: &R,
     lot: &Lot<N>,
-    zero: Waiter<N>,
-    one: Waiter<N>,
-    two: Waiter<N>,
-) -> (Waiter<N>, Waiter<N>, Waiter<N>)
+    zero: CountedPass<N>,
+    one: CountedPass<N>,
+    two: CountedPass<N>,
+) -> (CountedPass<N>, CountedPass<N>, CountedPass<N>)
     requires small { IsSmall N.locks N.conds N.low }
     requires sizes { (lot.now.threads ≡ 3) × (lot.now.keys ≡ 3) }
     requires threads { (zero.thread ≡ 0) × (one.thread ≡ 1) × (two.thread ≡ 2) }
@@ -454,8 +454,8 @@ fn under_the_lock<S: Scheme, X, F: FnOnce(X) -> X, R: Wait + Abort>(
 fn notifies_under_the_lock<N: LotName<Nothing> + Send + Sync, R: Wait + Abort>(
     rt: &R,
     lot: &Lot<N>,
-    one: Waiter<N>,
-) -> Waiter<N>
+    one: CountedPass<N>,
+) -> CountedPass<N>
     requires small { IsSmall N.locks N.conds N.low }
     requires sizes { lot.now.keys ≡ 3 }
     ensures { result ≡ one }
@@ -464,7 +464,7 @@ fn notifies_under_the_lock<N: LotName<Nothing> + Send + Sync, R: Wait + Abort>(
         rt,
         lot,
         one,
-        |one: Waiter<N>| -> Waiter<N>
+        |one: CountedPass<N>| -> CountedPass<N>
             requires small { IsSmall N.locks N.conds N.low }
             requires sizes { lot.now.keys ≡ 3 }
             ensures { result ≡ one }

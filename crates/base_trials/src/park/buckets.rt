@@ -9,11 +9,11 @@ use std::test::Fail;
 
 // A root that knows its key alone.
 #[derive(Drop)]
-struct Named {
+struct BareRoot {
     key: usize,
 }
 
-impl Root for Named {
+impl Root for BareRoot {
     ghost view = { λ r. record { key = r.key; line = []; owes = [] } };
 }
 
@@ -195,7 +195,7 @@ static ROWS: [Row; 7] = [
     },
 ];
 
-fn queue_all(rt: &impl Abort, bucket: &mut Bucket<Named>, pairs: &[(usize, usize)])
+fn queue_all(rt: &impl Abort, bucket: &mut Bucket<BareRoot>, pairs: &[(usize, usize)])
     ensures places { bucket.new.places ≡ bucket.old.places }
     ensures opened { bucket.new.opened ≡ bucket.old.opened }
 {
@@ -207,7 +207,13 @@ fn queue_all(rt: &impl Abort, bucket: &mut Bucket<Named>, pairs: &[(usize, usize
 }
 
 #[tactic(auto, using(lot_bucket::proofs::Laws::line_fits))]
-fn expect_line(rt: &impl Abort, bucket: &mut Bucket<Named>, key: usize, line: &[usize], name: &str)
+fn expect_line(
+    rt: &impl Abort,
+    bucket: &mut Bucket<BareRoot>,
+    key: usize,
+    line: &[usize],
+    name: &str,
+)
     ensures { bucket.new ≡ record bucket.old { queue = without_key key bucket.old.queue } }
 {
     let mut out = [0; ROOM];
@@ -220,7 +226,7 @@ fn expect_line(rt: &impl Abort, bucket: &mut Bucket<Named>, key: usize, line: &[
 #[tactic(auto, using(lot_bucket::proofs::Laws::line_fits))]
 fn expect_first(
     rt: &impl Abort,
-    bucket: &mut Bucket<Named>,
+    bucket: &mut Bucket<BareRoot>,
     asked: (usize, usize),
     line: &[usize],
     more: bool,
@@ -236,7 +242,7 @@ fn expect_first(
     equal_in(rt, more_wait, more, asked);
 }
 
-fn expect_step(rt: &impl Abort, bucket: &mut Bucket<Named>, step: &Step, name: &str)
+fn expect_step(rt: &impl Abort, bucket: &mut Bucket<BareRoot>, step: &Step, name: &str)
     ensures places { bucket.new.places ≡ bucket.old.places }
     ensures opened { bucket.new.opened ≡ bucket.old.opened }
 {
@@ -250,7 +256,7 @@ fn expect_step(rt: &impl Abort, bucket: &mut Bucket<Named>, step: &Step, name: &
     equal_in(rt, bucket.next_fair(), step.next_fair, name);
 }
 
-fn expect_row(rt: &impl Abort, bucket: &mut Bucket<Named>, row: &Row)
+fn expect_row(rt: &impl Abort, bucket: &mut Bucket<BareRoot>, row: &Row)
     ensures places { bucket.new.places ≡ bucket.old.places }
     ensures opened { bucket.new.opened ≡ bucket.old.opened }
     ensures empty { bucket.new.queue ≡ [] }
@@ -268,7 +274,7 @@ fn expect_row(rt: &impl Abort, bucket: &mut Bucket<Named>, row: &Row)
 #[tactic(auto, using(lot_bucket::proofs::Slots::rootless_empty))]
 fn one_is_taken(rt: HostRuntime) -> Result<(), Fail> {
     for row in &ROWS {
-        let mut bucket: Bucket<Named> = Bucket::new(rt.alloc(), ROOM, &[0, 1, 13])?;
+        let mut bucket: Bucket<BareRoot> = Bucket::new(rt.alloc(), ROOM, &[0, 1, 13])?;
         expect_row(&rt, &mut bucket, row);
         bucket.discard();
     }
@@ -276,14 +282,14 @@ fn one_is_taken(rt: HostRuntime) -> Result<(), Fail> {
 }
 
 // One thread waits alone, on this key, and nobody was yet handed anything.
-fn expect_one(rt: &impl Abort, bucket: &Bucket<Named>, key: usize) {
+fn expect_one(rt: &impl Abort, bucket: &Bucket<BareRoot>, key: usize) {
     equal(rt, bucket.len(), 1);
     equal(rt, bucket.line_length(key), 1);
     equal(rt, bucket.next_fair(), 0);
 }
 
 // Of three threads of a key two are taken, then the third, and then nobody is left.
-fn take_two_then_one(rt: &impl Abort, bucket: &mut Bucket<Named>)
+fn take_two_then_one(rt: &impl Abort, bucket: &mut Bucket<BareRoot>)
     ensures places { bucket.new.places ≡ bucket.old.places }
     ensures opened { bucket.new.opened ≡ bucket.old.opened }
     ensures empty { bucket.new.queue ≡ [] }
@@ -298,7 +304,7 @@ fn take_two_then_one(rt: &impl Abort, bucket: &mut Bucket<Named>)
 #[test]
 #[tactic(auto, using(lot_bucket::proofs::Slots::rootless_empty))]
 fn several_are_taken(rt: HostRuntime) -> Result<(), Fail> {
-    let mut bucket: Bucket<Named> = Bucket::new(rt.alloc(), ROOM, &[1, 13])?;
+    let mut bucket: Bucket<BareRoot> = Bucket::new(rt.alloc(), ROOM, &[1, 13])?;
     queue_all(&rt, &mut bucket, &[(1, 13), (2, 1), (3, 13)]);
     expect_line(&rt, &mut bucket, 13, &[1, 3], "the line of 13");
     expect_one(&rt, &bucket, 1);
@@ -308,7 +314,7 @@ fn several_are_taken(rt: HostRuntime) -> Result<(), Fail> {
     Ok(())
 }
 
-fn is_open_with_its_keys(rt: &impl Abort, bucket: &Bucket<Named>) {
+fn is_open_with_its_keys(rt: &impl Abort, bucket: &Bucket<BareRoot>) {
     is_so(rt, bucket.is_open(), "it is open");
     is_so(rt, bucket.has_key(13), "it has the key 13");
     is_so(rt, !bucket.has_key(7), "it does not have the key 7");
@@ -318,8 +324,8 @@ fn is_open_with_its_keys(rt: &impl Abort, bucket: &Bucket<Named>) {
 fn roots_are_taken_out_and_put_back(rt: HostRuntime) -> Result<(), Fail> {
     let mut bucket = Bucket::new(rt.alloc(), ROOM, &[1, 13])?;
     is_so(&rt, !bucket.is_open(), "it is not yet open");
-    bucket.put_root(1, Named { key: 1 });
-    bucket.put_root(13, Named { key: 13 });
+    bucket.put_root(1, BareRoot { key: 1 });
+    bucket.put_root(13, BareRoot { key: 13 });
     bucket.open();
     is_open_with_its_keys(&rt, &bucket);
     let root = bucket.take_root(13);
@@ -336,7 +342,7 @@ fn roots_are_taken_out_and_put_back(rt: HostRuntime) -> Result<(), Fail> {
 #[test]
 #[tactic(auto, using(lot_bucket::proofs::Slots::rootless_empty))]
 fn keys_need_not_be_evenly_spaced(rt: HostRuntime) -> Result<(), Fail> {
-    let bucket: Bucket<Named> = Bucket::new(rt.alloc(), ROOM, &[3, 1, 9])?;
+    let bucket: Bucket<BareRoot> = Bucket::new(rt.alloc(), ROOM, &[3, 1, 9])?;
     for (key, has) in [(1, true), (3, true), (5, false), (9, true)] {
         equal_in(&rt, bucket.has_key(key), has, key);
     }
@@ -347,7 +353,7 @@ fn keys_need_not_be_evenly_spaced(rt: HostRuntime) -> Result<(), Fail> {
 #[test]
 #[tactic(auto, using(lot_bucket::proofs::Slots::rootless_empty))]
 fn keys_are_evenly_spaced(rt: HostRuntime) -> Result<(), Fail> {
-    let bucket: Bucket<Named> = Bucket::spaced(rt.alloc(), ROOM, 1, 12, 3)?;
+    let bucket: Bucket<BareRoot> = Bucket::spaced(rt.alloc(), ROOM, 1, 12, 3)?;
     for (key, has) in [(0, false), (1, true), (13, true), (25, true), (37, false)] {
         equal_in(&rt, bucket.has_key(key), has, key);
     }

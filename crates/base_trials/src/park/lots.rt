@@ -2,7 +2,7 @@
 ghost use Rattle.std.specs.Prelude.{◌≡◌, ◌<◌, ◌≤◌, []};
 ghost use Rattle.lot_bucket.specs.Queue.{first_of};
 
-use super::askings::{ASKINGS, QUIET_ASKINGS, await_line};
+use super::askings::{ASKINGS, QUIET_ASKINGS, await_line, is_within};
 use super::letters::{
     Letters, Pass, THREADS, Told, await_told, has_looked_within, is_told_within, no_letters, note,
     nothing_told, stays_untold, taken,
@@ -13,6 +13,7 @@ use lot_park::{Grown, Parked, ParkingLot, Token, UnparkResult};
 use std::alloc::Global;
 use std::process::Abort;
 use std::sync::Wait;
+use std::sync::atomic::{AtomicU64, Ordering};
 use std::thread;
 use std::thread::Threads;
 
@@ -262,6 +263,77 @@ fn who_is_unparked_before_its_sleep_does_not_sleep(rt: HostRuntime) {
     close(&rt, rt.alloc(), lot);
 }
 
+// Thread 1 parks on key 0. Before it sleeps it looks who is in its line, and unparks nobody from another key of the
+// bucket: for both it locks the bucket. What it found is noted as 1, where it is what it has to be.
+fn acts_on_its_bucket<R: Wait + Abort>(
+    rt: &R,
+    lot: &ParkingLot<Letters>,
+    found: &AtomicU64,
+) -> Parked
+    requires { (lot.now.threads ≡ THREADS) × (lot.now.keys ≡ KEYS) }
+{
+    let (_pass, (), parked) = lot.park_acting(
+        rt,
+        Pass { thread: 1 },
+        0,
+        (),
+        |x: (), pass: Pass, root: Right| -> ((), Pass, Right, bool) {
+            let root = joined(rt, root, pass.thread);
+            (x, pass, root, true)
+        },
+        |x: (), pass: Pass| -> ((), Pass)
+            requires { lot.now.keys ≡ KEYS }
+            ensures { result.1 ≡ pass }
+        {
+            if lot.line_length(rt, 0) == 1 && unpark(rt, lot, OTHER, 3).thread.is_none() {
+                found.store(1, Ordering::SeqCst);
+            }
+            (x, pass)
+        },
+    );
+    parked
+}
+
+// Beside such a sleeper it locks no bucket itself before the action has ended.
+fn awaits_the_action<R: Threads + Wait + Abort + Sync>(
+    rt: &R,
+    lot: &ParkingLot<Letters>,
+    found: &AtomicU64,
+)
+    requires { (lot.now.threads ≡ THREADS) × (lot.now.keys ≡ KEYS) }
+{
+    thread::scope(
+        thread::scope_env(),
+        rt,
+        |scope|
+            requires { (lot.now.threads ≡ THREADS) × (lot.now.keys ≡ KEYS) }
+        {
+            let sleeps = move ||
+                requires { (lot.now.threads ≡ THREADS) × (lot.now.keys ≡ KEYS) }
+            {
+                equal(
+                    rt,
+                    acts_on_its_bucket(rt, lot, found),
+                    Parked::Woken(Token(7)),
+                )
+            };
+            is_so(rt, scope.spawn(sleeps).is_ok(), "it starts");
+            is_so(rt, is_within(found, 1, ASKINGS), "it locks its bucket");
+            equal(rt, unpark(rt, lot, 0, 7), taken(1, false));
+        },
+    );
+}
+
+/// It catches a `park_acting` that calls the action in the work that it hands to `with_place_for`, after `park_in`:
+/// there the bucket is locked, so the action waits for its lock for ever, and what it found is never noted.
+#[test]
+fn an_action_before_sleep_runs_with_no_bucket_locked(rt: HostRuntime) {
+    let lot = open(&rt, rt.alloc());
+    let found = AtomicU64::new(0);
+    awaits_the_action(&rt, &lot, &found);
+    close(&rt, rt.alloc(), lot);
+}
+
 fn looks_again_and_sleeps_on<R: Wait + Abort>(rt: &R, lot: &ParkingLot<Letters>, told: &Told)
     requires { (lot.now.threads ≡ THREADS) × (lot.now.keys ≡ KEYS) }
 {
@@ -286,13 +358,13 @@ enum Trial {
     WholeLine,
     /// The first of a line are unparked.
     FirstOfLine,
-    /// A sleeper looks for its letter before it sleeps, and again each time that a sleep has ended: here before it finds the first
-    /// letter, before each sleep of the second parking, and before it finds the second letter.
+    /// A sleeper looks for its letter before it sleeps, and again each time that a sleep has ended: here before it
+    /// finds the first letter, before each sleep of the second parking, and before it finds the second letter.
     KeptWake,
 }
 
-// Sleeps on the key. With a wake that is kept, it parks twice: the first time it does not sleep, so the wake of its own unparking ends the
-// first sleep of the second time, for nothing.
+// Sleeps on the key. With a wake that is kept, it parks twice: the first time it does not sleep, so the wake of its own
+// unparking ends the first sleep of the second time, for nothing.
 fn sleep_in<R: Wait + Abort>(
     rt: &R,
     lot: &ParkingLot<Letters>,
@@ -324,7 +396,8 @@ fn try_on<R: Wait + Abort>(rt: &R, lot: &ParkingLot<Letters>, told: &Told, trial
     }
 }
 
-// Tries beside the sleepers, which come one after the other: of each its thread, its key, and how many are in the key's line then.
+// Tries beside the sleepers, which come one after the other: of each its thread, its key, and how many are in the key's
+// line then.
 fn beside_sleepers<R: Threads + Wait + Abort + Sync>(
     rt: &R,
     lot: &ParkingLot<Letters>,

@@ -70,8 +70,8 @@ fn tries<R: Wait + Abort>(rt: &R, alloc: Global, about: usize) -> u64
     tries
 }
 
-// It yields 40 times in all: where two threads are about at most, or the lot was told of none, once for each look; where more are, eight
-// times for the first look, and twice for each that follows.
+// It yields 40 times in all: where two threads are about at most, or the lot was told of none, once for each look;
+// where more are, eight times for the first look, and twice for each that follows.
 #[test]
 fn a_thread_looks_before_it_lines_up(rt: HostRuntime) {
     equal(&rt, tries(&rt, rt.alloc(), 0), 40);

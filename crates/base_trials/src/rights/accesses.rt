@@ -14,7 +14,8 @@ use lot_rights::laws::{one_entry_is_one_access, seats_show_what_their_rights_sho
 // A pass and a root come to one seat, the pass makes an access, and they part again: the history
 // has that access more, and no other.
 fn a_call_of_two_is_one_access<K: Kind>()
-    ensures { (key : K.Key) (s joined made parted : State K.Slot (List (Right K.Pass K.Root))) (before : Ruled (K.scheme key) s) →
+    ensures { (key : K.Key) (s joined made parted : State K.Slot (List (Right K.Pass K.Root)))
+        (before : Ruled (K.scheme key) s) →
         Ruled (K.scheme key) joined → Ruled (K.scheme key) made → (after : Ruled (K.scheme key) parted) →
         (id other : ℕ) (p p' : PassView K.Pass) (q q' : RootView K.Root) (x : Entry) →
         CallOfTwo s joined made parted id other p p' q q' x → IsOneAccess (K.scheme key) s parted before after x }

@@ -1,5 +1,5 @@
-//! Schedules of several threads' calls on one condition, made by hand in one thread, with the words that they leave. The condition's
-//! number is 1, since there is one lock.
+//! Schedules of several threads' calls on one condition, made by hand in one thread, with the words that they leave.
+//! The condition's number is 1, since there is one lock.
 ghost use Rattle.std.specs.Prelude.{◌≡◌, None};
 ghost use Rattle.lot_conds.specs.Calls.{took, woken_pass};
 ghost use Rattle.base_trials.specs.CondSchedules.{IsFree, IsEmpty};
@@ -50,8 +50,8 @@ fn one_wait(
     (zero, one, root)
 }
 
-// One thread lowers the flag, another comes to wait, and the first sweeps it. The flag stays set, and the next call, which finds
-// nobody, clears it.
+// One thread lowers the flag, another comes to wait, and the first sweeps it. The flag stays set, and the next call,
+// which finds nobody, clears it.
 fn late_wait(
     rt: &impl Abort,
     words: &CondWords,
@@ -79,8 +79,9 @@ fn late_wait(
     (zero, collect(rt, words, one), root)
 }
 
-// Two wait, and a third thread notifies. Its first call takes one and leaves the flag, since one is left; the second asks for four, takes
-// the other, and leaves the flag because another key of the bucket has sleepers. The letters are posted in the other order.
+// Two wait, and a third thread notifies. Its first call takes one and leaves the flag, since one is left; the second
+// asks for four, takes the other, and leaves the flag because another key of the bucket has sleepers. The letters are
+// posted in the other order.
 fn two_waits(
     rt: &impl Abort,
     words: &CondWords,

@@ -79,7 +79,8 @@ enum StackReply {
 }
 
 impl Sequential for Stack4 {
-    ghost use Rattle.std.specs.Prelude.{◌<◌, ◌-◌, ◌==◌, ◌++◌, ◌∷◌, [], if◌then◌else◌, nat_lt, length, take, slice_index};
+    ghost use Rattle.std.specs.Prelude.{◌<◌, ◌-◌, ◌==◌, ◌++◌, ◌∷◌, [], if◌then◌else◌, nat_lt, length, take};
+    ghost use Rattle.std.specs.Prelude.{slice_index};
     ghost use Rattle.base_trials.specs.declared.rights.journal.StackCall.TheVariants.{Push, Pop};
     ghost use Rattle.base_trials.specs.declared.rights.journal.StackReply.TheVariants.{Done, Full, Got, Empty};
 
@@ -87,9 +88,18 @@ impl Sequential for Stack4 {
 
     type Reply = StackReply;
 
-    ghost after = { λ items call. elim call [ Push n ↦ (if nat_lt (length items) 4 then items ++ n ∷ [] else items) | Pop ↦ take (length items - 1) items ] };
+    ghost after = { λ items call. elim call [
+      | Push n ↦ (if nat_lt (length items) 4 then items
+          ++ n ∷ [] else items)
+      | Pop ↦
+          take (length items - 1) items
+    ] };
 
-    ghost reply = { λ items call. elim call [ Push n ↦ (if nat_lt (length items) 4 then Done else Full) | Pop ↦ (if length items == 0 then Empty else Got (slice_index items (length items - 1))) ] };
+    ghost reply = { λ items call. elim call [
+      | Push n ↦ (if nat_lt (length items) 4 then Done else Full)
+      | Pop ↦
+          (if length items == 0 then Empty else Got (slice_index items (length items - 1)))
+    ] };
 
     fn apply(&mut self, call: &StackCall) -> StackReply {
         match *call {

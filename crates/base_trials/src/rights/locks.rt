@@ -3,7 +3,7 @@ ghost use Rattle.std.specs.Prelude.{false, ◌≡◌, ◌<◌, ◌≤◌, [], �
 ghost use Rattle.lot_words.specs.declared.views.Hold.TheVariants.{NotHeld, Held, FoundParked};
 ghost use Rattle.lot_core.specs.Steps.{first as first_of};
 ghost use Rattle.lot_words.specs.Calls.{passed_root};
-ghost use Rattle.base_trials.specs.LockSchedules.{IsPass, IsCalm, Wants, Sleeps, Owns, MayFree, MayPass, IsRoot};
+ghost use Rattle.base_trials.specs.LockSchedules.{IsPass, IsCalm, HasNothing, Wants, Sleeps, Owns, MayFree, MayPass, IsRoot};
 
 use super::owners::{close_soundly, collect_any, take_any};
 use super::tally::Tally;
@@ -17,7 +17,8 @@ fn take(words: &LockWords<Tally>, pass: LockPass<Tally>, key: usize) -> (LockPas
     requires pass { IsPass words.now.table pass.pass.thread pass × IsCalm pass.pass.own }
     ensures pass { IsPass words.now.table pass.pass.thread result.0 }
     ensures answer { MatchBool result.1 (Owns result.0.pass.own key) (Wants result.0.pass.own key) }
-    ensures holds { MatchBool result.1 (result.0.pass.own.holds ≡ slice_set pass.pass.own.holds key Held) (result.0.pass.own.holds ≡ pass.pass.own.holds) }
+    ensures holds { MatchBool result.1 (result.0.pass.own.holds ≡ slice_set pass.pass.own.holds key Held)
+        (result.0.pass.own.holds ≡ pass.pass.own.holds) }
 {
     take_any(words, pass, key)
 }
@@ -32,7 +33,8 @@ fn take_again(
     requires pass { IsPass words.now.table pass.pass.thread pass × Wants pass.pass.own key }
     ensures pass { IsPass words.now.table pass.pass.thread result.0 }
     ensures answer { MatchBool result.1 (Owns result.0.pass.own key) (Wants result.0.pass.own key) }
-    ensures holds { MatchBool result.1 (result.0.pass.own.holds ≡ slice_set pass.pass.own.holds key Held) (result.0.pass.own.holds ≡ pass.pass.own.holds) }
+    ensures holds { MatchBool result.1 (result.0.pass.own.holds ≡ slice_set pass.pass.own.holds key Held)
+        (result.0.pass.own.holds ≡ pass.pass.own.holds) }
 {
     take_any(words, pass, key)
 }
@@ -42,7 +44,8 @@ fn try_take(words: &LockWords<Tally>, pass: LockPass<Tally>, key: usize) -> (Loc
     requires pass { IsPass words.now.table pass.pass.thread pass × IsCalm pass.pass.own }
     ensures pass { IsPass words.now.table pass.pass.thread result.0 }
     ensures answer { MatchBool result.1 (Owns result.0.pass.own key) (IsCalm result.0.pass.own) }
-    ensures holds { MatchBool result.1 (result.0.pass.own.holds ≡ slice_set pass.pass.own.holds key Held) (result.0.pass.own.holds ≡ pass.pass.own.holds) }
+    ensures holds { MatchBool result.1 (result.0.pass.own.holds ≡ slice_set pass.pass.own.holds key Held)
+        (result.0.pass.own.holds ≡ pass.pass.own.holds) }
 {
     words.try_take(pass, key)
 }
@@ -105,7 +108,8 @@ fn free(words: &LockWords<Tally>, pass: LockPass<Tally>, key: usize) -> (LockPas
     requires pass { IsPass words.now.table pass.pass.thread pass × MayFree pass.pass.own key }
     ensures pass { IsPass words.now.table pass.pass.thread result.0 }
     ensures answer { MatchBool result.1 (IsCalm result.0.pass.own) (MayPass result.0.pass.own key) }
-    ensures holds { MatchBool result.1 (result.0.pass.own.holds ≡ slice_set pass.pass.own.holds key NotHeld) (result.0.pass.own.holds ≡ slice_set pass.pass.own.holds key FoundParked) }
+    ensures holds { MatchBool result.1 (result.0.pass.own.holds ≡ slice_set pass.pass.own.holds key NotHeld)
+        (result.0.pass.own.holds ≡ slice_set pass.pass.own.holds key FoundParked) }
 {
     words.free(pass, key)
 }
@@ -180,7 +184,8 @@ fn pass_on(
     requires fair { first ≡ None → fair ≡ false }
     ensures pass { IsPass words.now.table pass.pass.thread result.0 × IsCalm result.0.pass.own }
     ensures holds { result.0.pass.own.holds ≡ slice_set pass.pass.own.holds root.root.key NotHeld }
-    ensures root { (result.1.table ≡ words.now.table) × (result.1.root.key ≡ root.root.key) × (result.1.root.own ≡ passed_root root.root.own fair root.root.own.line) }
+    ensures root { (result.1.table ≡ words.now.table) × (result.1.root.key ≡ root.root.key)
+        × (result.1.root.own ≡ passed_root root.root.own fair root.root.own.line) }
 {
     words.pass_on(pass, root, first, fair, false)
 }
@@ -193,8 +198,10 @@ fn collect(
     requires pass { IsPass words.now.table pass.pass.thread pass × Sleeps pass.pass.own key }
     requires key { key < 2 }
     ensures pass { IsPass words.now.table pass.pass.thread result.0 }
-    ensures barging { result.1 ≡ Some 0 → Wants result.0.pass.own key × (result.0.pass.own.holds ≡ pass.pass.own.holds) }
-    ensures handed { result.1 ≡ Some 1 → Owns result.0.pass.own key × (result.0.pass.own.holds ≡ slice_set pass.pass.own.holds key Held) }
+    ensures barging { result.1 ≡ Some 0 → Wants result.0.pass.own key
+        × (result.0.pass.own.holds ≡ pass.pass.own.holds) }
+    ensures handed { result.1 ≡ Some 1 → Owns result.0.pass.own key
+        × (result.0.pass.own.holds ≡ slice_set pass.pass.own.holds key Held) }
     ensures none { result.1 ≡ None → Sleeps result.0.pass.own key × (result.0.pass.own.holds ≡ pass.pass.own.holds) }
 {
     collect_any(words, pass)
@@ -209,11 +216,11 @@ fn hand_over(
     root: LockRoot<Tally>,
 ) -> (LockPass<Tally>, LockPass<Tally>, LockRoot<Tally>)
     requires size { words.now.size.locks ≡ 2 }
-    requires zero { IsPass words.now.table 0 zero × IsCalm zero.pass.own × (zero.pass.own.holds ≡ NotHeld ∷ NotHeld ∷ []) }
-    requires one { IsPass words.now.table 1 one × IsCalm one.pass.own × (one.pass.own.holds ≡ NotHeld ∷ NotHeld ∷ []) }
+    requires zero { HasNothing words.now.table 0 zero }
+    requires one { HasNothing words.now.table 1 one }
     requires root { IsRoot words.now.table 0 [] root }
-    ensures zero { IsPass words.now.table 0 result.0 × IsCalm result.0.pass.own × (result.0.pass.own.holds ≡ NotHeld ∷ NotHeld ∷ []) }
-    ensures one { IsPass words.now.table 1 result.1 × IsCalm result.1.pass.own × (result.1.pass.own.holds ≡ NotHeld ∷ NotHeld ∷ []) }
+    ensures zero { HasNothing words.now.table 0 result.0 }
+    ensures one { HasNothing words.now.table 1 result.1 }
     ensures root { (result.2.table ≡ words.now.table) × (result.2.root.key ≡ 0) }
 {
     bits_are(rt, words.bits(0), 0);
@@ -241,8 +248,8 @@ fn hand_over(
     (zero, one, root)
 }
 
-// The lock is passed on unfairly, to a sleeper: another barges in between, and the sleeper, which was told that it may try again, finds the
-// lock held. It comes back to park once more, when the lock is free by then, and takes it.
+// The lock is passed on unfairly, to a sleeper: another barges in between, and the sleeper, which was told that it may
+// try again, finds the lock held. It comes back to park once more, when the lock is free by then, and takes it.
 fn barge_in(
     rt: &impl Abort,
     words: &LockWords<Tally>,
@@ -251,11 +258,11 @@ fn barge_in(
     root: LockRoot<Tally>,
 ) -> (LockPass<Tally>, LockPass<Tally>, LockRoot<Tally>)
     requires size { words.now.size.locks ≡ 2 }
-    requires zero { IsPass words.now.table 0 zero × IsCalm zero.pass.own × (zero.pass.own.holds ≡ NotHeld ∷ NotHeld ∷ []) }
-    requires one { IsPass words.now.table 1 one × IsCalm one.pass.own × (one.pass.own.holds ≡ NotHeld ∷ NotHeld ∷ []) }
+    requires zero { HasNothing words.now.table 0 zero }
+    requires one { HasNothing words.now.table 1 one }
     requires root { IsRoot words.now.table 1 [] root }
-    ensures zero { IsPass words.now.table 0 result.0 × IsCalm result.0.pass.own × (result.0.pass.own.holds ≡ NotHeld ∷ NotHeld ∷ []) }
-    ensures one { IsPass words.now.table 1 result.1 × IsCalm result.1.pass.own × (result.1.pass.own.holds ≡ NotHeld ∷ NotHeld ∷ []) }
+    ensures zero { HasNothing words.now.table 0 result.0 }
+    ensures one { HasNothing words.now.table 1 result.1 }
     ensures root { (result.2.table ≡ words.now.table) × (result.2.root.key ≡ 1) }
 {
     let (zero, got) = try_take(words, zero, 1);

@@ -1,5 +1,5 @@
-//! What the words of locks promise is enough for who calls them: who gets a lock of any table owns it, as follows from the lock's number
-//! alone, and the history that `close` tells of leaves a sound part of the model.
+//! What the words of locks promise is enough for who calls them: who gets a lock of any table owns it, as follows from
+//! the lock's number alone, and the history that `close` tells of leaves a sound part of the model.
 ghost use Rattle.std.specs.Prelude.{true, false, ◌≡◌, ℕ, ◌<◌, vec_len, MatchBool, MatchOption, Some};
 ghost use Rattle.std.specs.List.{All, Any};
 ghost use Rattle.lot_core.specs.Sound.{IsSoundLockPart};
@@ -25,7 +25,9 @@ pub(super) fn take_any<V: Keeps>(
     requires key { key < words.now.size.locks }
     requires calm { (pass.pass.own.asleep ≡ false) × Aims pass.pass.own key }
     ensures table { result.0.table ≡ pass.table }
-    ensures event { (gets wishes : Access) × MatchBool result.1 (GetsBy V.Keeps pass.pass key gets result.0.pass) (Notes pass.pass (wishing pass.pass.own key) wishes result.0.pass) }
+    ensures event { (gets wishes : Access)
+        × MatchBool result.1 (GetsBy V.Keeps pass.pass key gets result.0.pass)
+        (Notes pass.pass (wishing pass.pass.own key) wishes result.0.pass) }
     ensures owner { result.1 ≡ true → (x : V) × Owns result.0.pass.own key x }
 {
     who_gets_a_lock_owns_it::<V>();
@@ -39,7 +41,8 @@ pub(super) fn collect_any<V: Keeps>(
 ) -> (LockPass<V>, Option<u32>)
     requires { pass.table ≡ words.now.table }
     ensures table { result.0.table ≡ pass.table }
-    ensures letter { MatchOption result.1 (FoundNone pass.pass result.0.pass) (λ token. Collected V.Keeps pass.pass token result.0.pass) }
+    ensures letter { MatchOption result.1 (FoundNone pass.pass result.0.pass)
+        (λ token. Collected V.Keeps pass.pass token result.0.pass) }
     ensures owner { (l : ℕ) → pass.pass.own.aim ≡ Some l → result.1 ≡ Some 1 → (x : V) × Owns result.0.pass.own l x }
 {
     who_gets_a_lock_owns_it::<V>();
@@ -52,12 +55,15 @@ pub(super) fn close_soundly<V: Keeps>(
     passes: Vec<LockPass<V>>,
     roots: Vec<LockRoot<V>>,
 ) -> Vec<V>
-    requires table { All (λ (p : PassShown (LockPassView V)). p.table ≡ words.table) passes.items × All (λ (q : RootShown LockRootView). q.table ≡ words.table) roots.items }
+    requires table { All (λ (p : PassShown (LockPassView V)). p.table ≡ words.table) passes.items
+        × All (λ (q : RootShown LockRootView). q.table ≡ words.table) roots.items }
     requires idle { All HoldsNone passes.items }
-    requires passes { (t : ℕ) → t < words.size.threads → Any (λ (p : PassShown (LockPassView V)). p.pass.thread ≡ t) passes.items }
+    requires passes { (t : ℕ) → t < words.size.threads
+        → Any (λ (p : PassShown (LockPassView V)). p.pass.thread ≡ t) passes.items }
     requires roots { (l : ℕ) → l < words.size.locks → Any (λ (q : RootShown LockRootView). q.root.key ≡ l) roots.items }
     ensures len { vec_len result ≡ words.size.locks }
-    ensures sound { (told : IsToldTo words.size passes.items roots.items) × IsSoundLockPart words.size.threads told.recounted.part }
+    ensures sound { (told : IsToldTo words.size passes.items roots.items)
+        × IsSoundLockPart words.size.threads told.recounted.part }
 {
     every_run_is_sound();
     words.close(passes, roots)

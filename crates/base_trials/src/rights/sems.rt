@@ -1,5 +1,5 @@
-//! Schedules of three threads' calls on one semaphore with one permit, made by hand in one thread, with the words that they leave. The
-//! semaphore's number is 1, since one key comes before it.
+//! Schedules of three threads' calls on one semaphore with one permit, made by hand in one thread, with the words that
+//! they leave. The semaphore's number is 1, since one key comes before it.
 ghost use Rattle.std.specs.Prelude.{◌≡◌, ℕ, ◌<◌, [], ◌∷◌};
 ghost use Rattle.std.specs.List.{All, Any};
 ghost use Rattle.lot_core.specs.Sound.{IsSoundSemaphorePart};
@@ -211,10 +211,13 @@ fn late_release(
 
 // Ends the table: the history that is told of leaves a sound part of the model.
 fn close_soundly(words: SemWords, passes: Vec<SemPass>, roots: Vec<SemRoot>)
-    requires table { All (λ (p : PassShown SemPassView). p.table ≡ words.table) passes.items × All (λ (q : RootShown SemRootView). q.table ≡ words.table) roots.items }
-    requires passes { (t : ℕ) → t < words.size.threads → Any (λ (p : PassShown SemPassView). p.pass.thread ≡ t) passes.items }
+    requires table { All (λ (p : PassShown SemPassView). p.table ≡ words.table) passes.items
+        × All (λ (q : RootShown SemRootView). q.table ≡ words.table) roots.items }
+    requires passes { (t : ℕ) → t < words.size.threads
+        → Any (λ (p : PassShown SemPassView). p.pass.thread ≡ t) passes.items }
     requires roots { (k : ℕ) → IsAmong words.size k → Any (λ (q : RootShown SemRootView). q.root.key ≡ k) roots.items }
-    ensures { (told : IsToldTo words.size passes.items roots.items) × IsSoundSemaphorePart words.size.threads (permits_of words.size) told.recounted.part }
+    ensures { (told : IsToldTo words.size passes.items roots.items)
+        × IsSoundSemaphorePart words.size.threads (permits_of words.size) told.recounted.part }
 {
     every_run_is_sound();
     words.close(passes, roots);

@@ -4,5 +4,5 @@ use Rattle.lot_sync.proofs.Holdings.{left_second}
 use Rattle.lot_trials.proofs.counts.release_first.Goals as goal
 
 pub returns-clause-holding : goal.returns-clause-holding
-returns-clause-holding g c = left_second (λ (x y : Count). x.n ≤ y.n) c.args.pass c.unlock-pass.result.0 c.args.first c.args.second c.unlock-pass.result.1
+returns-clause-holding g c = left_second (λ (x y : Count). x.n ≤ y.n) c.args.pass c.unlock-pass.result.0 c.args.first c.args.second
     c.requires.both c.unlock-pass.ensures.pass

@@ -1,5 +1,4 @@
 use Rattle.std.proofs.Common.{subst, ap, ◌∙◌}
-use Rattle.lot_sync.specs.Lot.{leaving}
 use Rattle.lot_sync.proofs.Holdings.{owns_none_again, seen_left}
 use Rattle.lot_load.proofs.Rounds.{may_give_back}
 use Rattle.lot_trials.proofs.history.call_once.Goals as goal
@@ -11,16 +10,13 @@ unlock-pass-requires-clause-back g c κs within =
 
 pub returns-clause-free : goal.returns-clause-free
 returns-clause-free g c =
-    owns_none_again c.args.pass c.lock-pass.result.0 c.unlock-pass.result.0 0 c.lock-pass.result.1.value c.add_one-called.new.held.value c.unlock-pass.result.1
-    c.requires.free c.lock-pass.ensures.gets.after_is
-    (c.unlock-pass.ensures.pass ∙ ap (λ k. leaving c.lock-pass.result.0 k c.add_one-called.new.held.value c.unlock-pass.result.1)
-    (c.add_one-called.ensures.works.key_same ∙ c.lock-pass.ensures.gets.key_is))
+    owns_none_again c.args.pass c.lock-pass.result.0 c.unlock-pass.result.0 0 c.add_one-called.new.held.key c.lock-pass.result.1.value c.add_one-called.new.held.value
+    c.requires.free c.lock-pass.ensures.gets.after_is c.unlock-pass.ensures.pass (c.add_one-called.ensures.works.key_same ∙ c.lock-pass.ensures.gets.key_is)
 
 pub returns-clause-there : goal.returns-clause-there
 returns-clause-there g c = λ seen now had has.
-    let left = seen_left c.lock-pass.result.0 c.unlock-pass.result.0 0 c.add_one-called.new.held.value now c.unlock-pass.result.1
-    (c.unlock-pass.ensures.pass ∙ ap (λ k. leaving c.lock-pass.result.0 k c.add_one-called.new.held.value c.unlock-pass.result.1)
-    (c.add_one-called.ensures.works.key_same ∙ c.lock-pass.ensures.gets.key_is)) has in
+    let left = seen_left c.lock-pass.result.0 c.unlock-pass.result.0 0 c.add_one-called.new.held.key c.add_one-called.new.held.value now
+    c.unlock-pass.ensures.pass (c.add_one-called.ensures.works.key_same ∙ c.lock-pass.ensures.gets.key_is) has in
     let counted = rw c.if-called.true at c.add_one-called.ensures.counted in
     record {
       found = c.lock-pass.result.1.value;

@@ -1,5 +1,3 @@
-use Rattle.std.proofs.Common.{ap, ◌∙◌}
-use Rattle.lot_sync.specs.Lot.{leaving}
 use Rattle.lot_sync.proofs.Holdings.{owns_none_again}
 use Rattle.lot_load.proofs.Rounds.{read_may_go_back}
 use Rattle.lot_trials.proofs.history.find_history.Goals as goal
@@ -10,6 +8,5 @@ unlock-pass-requires-clause-back g c κs within =
 
 pub returns : goal.returns
 returns g c =
-    owns_none_again c.args.pass c.lock-pass.result.0 c.unlock-pass.result.0 _ c.lock-pass.result.1.value c.lock-pass.result.1.value c.unlock-pass.result.1
-    c.requires.free c.lock-pass.ensures.gets.after_is
-    (c.unlock-pass.ensures.pass ∙ ap (λ k. leaving c.lock-pass.result.0 k c.lock-pass.result.1.value c.unlock-pass.result.1) c.lock-pass.ensures.gets.key_is)
+    owns_none_again c.args.pass c.lock-pass.result.0 c.unlock-pass.result.0 _ c.lock-pass.result.1.key c.lock-pass.result.1.value c.lock-pass.result.1.value
+    c.requires.free c.lock-pass.ensures.gets.after_is c.unlock-pass.ensures.pass c.lock-pass.ensures.gets.key_is

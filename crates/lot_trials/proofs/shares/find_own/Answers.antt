@@ -1,6 +1,5 @@
 use Rattle.std.proofs.Common.{le_refl, sym, ap, ◌∙◌, refl}
 use Rattle.lot_trials.specs.declared.shares.Shares.{Shares}
-use Rattle.lot_sync.specs.Lot.{leaving}
 use Rattle.lot_trials.specs.Shares.{own_share}
 use Rattle.lot_sync.proofs.Holdings.{may_go_back, owns_none_again}
 use Rattle.lot_trials.proofs.shares.find_own.Goals as goal
@@ -12,9 +11,8 @@ unlock-pass-requires-clause-back g c κs within =
 
 pub returns-clause-free : goal.returns-clause-free
 returns-clause-free g c =
-    owns_none_again c.args.pass c.lock-pass.result.0 c.unlock-pass.result.0 0 c.lock-pass.result.1.value c.lock-pass.result.1.value c.unlock-pass.result.1
-    c.requires.free c.lock-pass.ensures.gets.after_is
-    (c.unlock-pass.ensures.pass ∙ ap (λ k. leaving c.lock-pass.result.0 k c.lock-pass.result.1.value c.unlock-pass.result.1) c.lock-pass.ensures.gets.key_is)
+    owns_none_again c.args.pass c.lock-pass.result.0 c.unlock-pass.result.0 0 c.lock-pass.result.1.key c.lock-pass.result.1.value c.lock-pass.result.1.value
+    c.requires.free c.lock-pass.ensures.gets.after_is c.unlock-pass.ensures.pass c.lock-pass.ensures.gets.key_is
 
 pub returns-clause-found : goal.returns-clause-found
 returns-clause-found g c = λ u seen.

@@ -7,4 +7,5 @@ pub returns-clause-line : goal.returns-clause-line
 returns-clause-line g c = c.passed_first.ensures.line ∙ drop_all c.len-all.result c.args.right.line.items (omega arith)
 
 pub returns-clause-owes : goal.returns-clause-owes
-returns-clause-owes g c = c.passed_first.ensures.owes ∙ ap (λ xs. debts xs) (take_all c.len-all.result c.args.right.line.items (omega arith))
+returns-clause-owes g c = c.passed_first.ensures.owes
+    ∙ ap (λ xs. debts xs) (take_all c.len-all.result c.args.right.line.items (omega arith))

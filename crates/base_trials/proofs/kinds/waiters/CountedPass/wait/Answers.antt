@@ -1,7 +1,7 @@
 use Rattle.std.proofs.Common.{inl}
 use Rattle.base_trials.proofs.Calm.{owner_has_it, owner_idle, may_free, waited_has_it}
 use Rattle.base_trials.proofs.Waiters.{waited_again}
-use Rattle.base_trials.proofs.kinds.waiters.Waiter.wait.Goals as goal
+use Rattle.base_trials.proofs.kinds.waiters.CountedPass.wait.Goals as goal
 
 pub wait-again-requires-clause-idle : goal.wait-again-requires-clause-idle
 wait-again-requires-clause-idle g c κs within =

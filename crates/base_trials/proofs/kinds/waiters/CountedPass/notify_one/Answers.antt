@@ -1,5 +1,5 @@
 use Rattle.base_trials.proofs.Waiters.{one_taken, none_taken}
-use Rattle.base_trials.proofs.kinds.waiters.Waiter.notify_one.Goals as goal
+use Rattle.base_trials.proofs.kinds.waiters.CountedPass.notify_one.Goals as goal
 
 pub invariant_of-result : goal.invariant_of-result
 invariant_of-result g c =
