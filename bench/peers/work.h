@@ -107,9 +107,10 @@ struct Work {
         uint64_t number = 0;
     };
     size_t threads = 0, locks = 1, producers = 0;
-    uint64_t rounds = 0, millis = 0, held = 0, outside = 0;
+    uint64_t rounds = 0, millis = 0, held = 0, outside = 0, permits = 0;
     std::unique_ptr<Cell[]> cells;
     typename P::Condition not_full, not_empty;
+    std::unique_ptr<typename P::Condition[]> turns;
     Meeting meeting;
     std::vector<Done> done;
 
@@ -176,10 +177,46 @@ struct Work {
         done[worker].rounds = produces ? rounds : 0;
     }
 
+    void notify(size_t worker) {
+        for (uint64_t i = 0; i < rounds; i++)
+            not_empty.notify_one();
+        done[worker].rounds = rounds;
+    }
+    void take_turns(size_t worker) {
+        Cell& cell = cells[0];
+        for (uint64_t i = 0; i < rounds; i++) {
+            cell.lock.lock();
+            while (cell.number % threads != worker)
+                turns[worker].wait(cell.lock);
+            cell.number++;
+            cell.lock.unlock();
+            turns[(worker + 1) % threads].notify_one();
+        }
+        done[worker].rounds = rounds;
+    }
+    // The number is how many permits are left.
+    void take_permits(size_t worker) {
+        Cell& cell = cells[0];
+        for (uint64_t i = 0; i < rounds; i++) {
+            cell.lock.lock();
+            while (cell.number == 0)
+                not_empty.wait(cell.lock);
+            cell.number--;
+            cell.lock.unlock();
+            cell.lock.lock();
+            cell.number++;
+            cell.lock.unlock();
+            not_empty.notify_one();
+        }
+        done[worker].rounds = rounds;
+    }
+
     using Way = void (Work::*)(size_t);
 
     void run(Way way) {
         cells = std::make_unique<Cell[]>(locks);
+        turns = std::make_unique<typename P::Condition[]>(threads);
+        cells[0].number = permits;
         done = std::vector<Done>(threads);
         size_t all = threads + (millis ? 1 : 0);
         std::vector<std::thread> crew;
@@ -245,6 +282,15 @@ int main(int argc, char** argv) {
     } else if (is("wait", 6)) {
         work.threads = number(2), work.held = number(3), work.outside = number(4), work.millis = number(5);
         work.run(&Work<P>::wait);
+    } else if (is("notify", 4)) {
+        work.threads = number(2), work.rounds = number(3);
+        work.run(&Work<P>::notify);
+    } else if (is("turns", 4)) {
+        work.threads = number(2), work.rounds = number(3);
+        work.run(&Work<P>::take_turns);
+    } else if (is("permits", 5)) {
+        work.threads = number(2), work.permits = number(3), work.rounds = number(4);
+        work.run(&Work<P>::take_permits);
     } else if (argc == 2 && !strcmp(argv[1], "sizes")) {
         printf("%s lock=%zu condition=%zu\n", P::name, sizeof(typename P::Lock), sizeof(typename P::Condition));
         return 0;

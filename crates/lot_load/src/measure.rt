@@ -4,6 +4,9 @@
 //! - `share`: the same on one lock, for so long; how often the threads got it that got it least and most often.
 //! - `relay`: producers put into a buffer, consumers take from it, and both wait on conditions.
 //! - `wait`: how long it takes from asking for a lock to owning it, where each thread holds it for so long and stays outside for so long.
+//! - `notify`: each thread notifies one on a condition, where nobody waits.
+//! - `turns`: each thread waits for its turn on a condition of its own, and notifies the next.
+//! - `permits`: each thread gets a permit of one semaphore and gives it back, so many times.
 //! - `start`: a lot is opened and started, all its threads register, and it is closed.
 //!
 //! `plan` says what a command line asks for, `crew` does it with so many threads, and `summary` has what came of it.
@@ -19,6 +22,7 @@ mod relay;
 mod rounds;
 pub mod summary;
 mod times;
+mod turns;
 mod value;
 
 pub use command::run_command;

@@ -6,7 +6,7 @@ use Rattle.std.specs.List.{All}
 use mathlib.Core.Option.{some}
 use lib.ListN.{get_elem?}
 use Rattle.lot_park.specs.declared.seeking.Seeking.{Seeking}
-use Rattle.lot_park.specs.declared.seeking.Seeking.TheVariants.{Got, Waits, Parks, Tries}
+use Rattle.lot_park.specs.declared.seeking.Seeking.TheVariants.{Got, Waits, Parks}
 use Rattle.lot_park.specs.Seeking.{SeekingLaws, IsUnfinished}
 use Rattle.lot_events.specs.declared.events.Event.TheVariants.{Mark}
 use Rattle.lot_events.specs.declared.events.Seen.TheVariants.{Done}
@@ -168,21 +168,18 @@ module _ {V Part : Type 0} (rule : CallersRule V Part) where
   same n before now l Got s = ap (λ (z : LotStanding V). z.thread) s.is
   same n before now l Parks s = ap (λ (z : LotStanding V). z.thread) s.is
   same n before now l Waits s = same_awake n before now l s
-  same n before now l Tries s = same_awake n before now l s
 
-  tries : (n : ℕ) (before now : LotStanding V) (l : ℕ) (far : Seeking) → IsUnfinished far → Seeks rule n before l far now
+  waits : (n : ℕ) (before now : LotStanding V) (l : ℕ) (far : Seeking) → IsUnfinished far → Seeks rule n before l far now
       → IsAwakeFor n before l now
-  tries n before now l Got done s = absurd done
-  tries n before now l Waits u s = s
-  tries n before now l Parks u s = awake n before now l s
-  tries n before now l Tries u s = s
+  waits n before now l Got done s = absurd done
+  waits n before now l Waits u s = s
+  waits n before now l Parks u s = awake n before now l s
 
   itself : (n : ℕ) (before now : LotStanding V) (l : ℕ) (far : Seeking) → IsUnfinished far → Seeks rule n before l far now
       → Seeks rule n now l far now
   itself n before now l Got done s = absurd done
   itself n before now l Waits u s = awake_itself n before now l s
   itself n before now l Parks u s = trying_itself n before now l s
-  itself n before now l Tries u s = awake_itself n before now l s
 
   goes : (n : ℕ) (before base after : LotStanding V) (l : ℕ) (did : List Access) (next : Seeking) → l < n → MayTake before.own l
       → All (IsSeek before.thread l) did
@@ -192,8 +189,6 @@ module _ {V Part : Type 0} (rule : CallersRule V Part) where
   goes n before base after l did Waits below may sought same is which t =
       awake_from n before base after l did below may sought same is which t
   goes n before base after l did Parks below may sought same is which t = trying_from n before base after l did below may sought same is t
-  goes n before base after l did Tries below may sought same is which t =
-      awake_from n before base after l did below may sought same is which t
 
   -- on from a pass that is awake for the lock
   pub goes_on : (n : ℕ) (before now after : LotStanding V) (l : ℕ) (next : Seeking) → IsAwakeFor n before l now
@@ -213,7 +208,7 @@ module _ {V Part : Type 0} (rule : CallersRule V Part) where
   pub laws : (n : ℕ) → SeekingLaws (λ (p : LotStanding V). p.thread) (Seeks rule n)
   laws n = record {
     same = same n;
-    tries = tries n;
+    waits = waits n;
     itself = itself n;
-    on = λ before now after l far next u s t. goes_on n before now after l next (tries n before now l far u s) t;
+    on = λ before now after l far next u s t. goes_on n before now after l next (waits n before now l far u s) t;
   }

@@ -10,7 +10,7 @@ use Rattle.lot_words.specs.World.{Holds, HoldsParked}
 use Rattle.lot_words.specs.Values.{IsIn, FoundOk}
 use Rattle.lot_whole.specs.Standing.{MayTake, MayLetGo}
 use Rattle.lot_park.specs.declared.seeking.Seeking.{Seeking}
-use Rattle.lot_park.specs.declared.seeking.Seeking.TheVariants.{Got, Waits, Parks, Tries}
+use Rattle.lot_park.specs.declared.seeking.Seeking.TheVariants.{Got, Waits, Parks}
 use Rattle.lot_scheme.specs.Standing.{LotStanding, adding, wanting, lined, owning, finding_parked, letting_go}
 use Rattle.lot_scheme.specs.Words.{IsSeek, GetWord}
 use Rattle.lot_locks.specs.declared.released.Released.{Released}
@@ -100,4 +100,3 @@ module _ {V Part : Type 0} (rule : CallersRule V Part) where
   Seeks n before l Got now = IsOwner before l now
   Seeks n before l Waits now = IsAwakeFor n before l now
   Seeks n before l Parks now = IsTryingFor n before l now
-  Seeks n before l Tries now = IsAwakeFor n before l now

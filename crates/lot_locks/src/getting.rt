@@ -5,7 +5,7 @@ ghost use Rattle.lot_scheme.specs.Words.{TryWord};
 ghost use Rattle.lot_locks.specs.Standing.{IsAwakeFor, IsTryingFor, IsOwner, GetsBy, MissesBy};
 
 use crate::steps::HANDOFF;
-use lot_park::{BeforeSleep, ParkingLot, Scheme, Seeking, Sought, Token, get_or_park};
+use lot_park::{BeforeSleep, Look, ParkingLot, Scheme, Seeking, Sought, Token, get_or_park};
 use lot_scheme::{LotName, LotScheme, NamedPass, NamedRoot};
 use lot_whole::Keeps;
 use lot_words::{HELD, PARKED};
@@ -85,40 +85,40 @@ impl<V: Keeps + Send, N: LotName<V> + Send> Sought<Locks> for LotScheme<V, N> {
 
     ghost sleeps = { IsAsleepFor N.locks };
 
-    fn is_parked(&self, key: usize) -> bool {
-        is_parked(self, key)
-    }
-
-    /// A word that is held is not written.
-    fn take_again(&self, pass: NamedPass<V, N>, key: usize) -> (NamedPass<V, N>, Seeking) {
-        if is_held(self, key) {
-            return (pass, Seeking::Waits);
+    fn look_at(&self, key: usize) -> Look {
+        let bits = self.lock_bits(key);
+        if bits & HELD == 0 {
+            Look::Free
+        } else if bits & PARKED == 0 {
+            Look::Taken
+        } else {
+            Look::Parked
         }
-        let (pass, got) = take(self, pass, key);
-        let now = if got { Seeking::Got } else { Seeking::Waits };
-        (pass, now)
     }
 
-    /// It takes the lock where nobody owns it by now.
+    fn take(&self, pass: NamedPass<V, N>, key: usize) -> (NamedPass<V, N>, bool) {
+        take(self, pass, key)
+    }
+
     #[tactic(auto, using(crate::proofs::Seeking::may_park, crate::proofs::Seeking::marked_on, crate::proofs::Seeking::awake))]
     fn line_up(
         &self,
         pass: NamedPass<V, N>,
         key: usize,
-        is_parked: bool,
+        is_marked: bool,
     ) -> (NamedPass<V, N>, Seeking) {
         let (pass, got) = take(self, pass, key);
         if got {
             return (pass, Seeking::Got);
         }
-        if is_parked {
+        if is_marked {
             return (pass, Seeking::Parks);
         }
         let (pass, marked) = self.mark(pass, key);
         let now = if marked {
             Seeking::Parks
         } else {
-            Seeking::Tries
+            Seeking::Waits
         };
         (pass, now)
     }
@@ -159,8 +159,9 @@ pub fn get<V: Keeps + Send, N: LotName<V> + Send, R: Wait, B: BeforeSleep>(
     }
 }
 
-/// Gets a lock that was found held or parked. It waits before it looks, and before each sleep it does what `before`
-/// says.
+/// Gets a lock that was found held or parked. Where it is marked as parked it lines up at once. Else it waits before it
+/// tries again, also where the lock is free by now: it is left to its owner meanwhile. Before each sleep it does what
+/// `before` says.
 #[cold]
 #[inline(never)]
 pub fn get_slowly<V: Keeps + Send, N: LotName<V> + Send, R: Wait, B: BeforeSleep>(
@@ -175,5 +176,9 @@ pub fn get_slowly<V: Keeps + Send, N: LotName<V> + Send, R: Wait, B: BeforeSleep
     requires may { MayTake pass.own key }
     ensures { IsOwner V.Keeps pass key result }
 {
-    get_or_park::<LotScheme<V, N>, Locks, R, B>(rt, parking, pass, key, Seeking::Waits, before)
+    let first = match parking.scheme().look_at(key) {
+        Look::Free | Look::Taken => Look::Taken,
+        Look::Parked => Look::Parked,
+    };
+    get_or_park::<LotScheme<V, N>, Locks, R, B>(rt, parking, pass, key, first, before)
 }

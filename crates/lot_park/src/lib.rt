@@ -30,4 +30,4 @@ pub use lot::{ParkFault, Parked, ParkingLot};
 pub use lot_bucket::{Dequeued as UnparkResult, Moment, Root};
 pub use lot_table::{Grown, MOST_THREADS, TableFault};
 pub use scheme::{Scheme, Token};
-pub use seeking::{AtOnce, BeforeSleep, Seeking, Sought, get_or_park};
+pub use seeking::{AtOnce, BeforeSleep, Look, Seeking, Sought, get_or_park};

@@ -39,8 +39,8 @@ pub struct ParkingLot<S: Scheme> {
     scheme: S,
     table: Table<S::Root>,
     records: Vec<CachePadded<Record>>,
-    // How many threads are about, as the last growth was told.
-    about: AtomicUsize,
+    // How many threads are registered, as the last growth was told.
+    registered: AtomicUsize,
 }
 
 impl<S: Scheme> Model for ParkingLot<S> {
@@ -87,7 +87,7 @@ impl<S: Scheme> ParkingLot<S> {
                     scheme,
                     table,
                     records,
-                    about: AtomicUsize::new(0),
+                    registered: AtomicUsize::new(0),
                 },
                 room,
             )),
@@ -341,19 +341,19 @@ impl<S: Scheme> ParkingLot<S> {
     /// Lets the table of buckets grow until it has three for each of so many threads, and answers what became
     /// of it. `Err` is for a request for memory that was refused, and then nothing has changed.
     ///
-    /// Threads may park and unpark meanwhile. Call it as a thread comes, with the number that are about.
+    /// Threads may park and unpark meanwhile. Call it as a thread comes, with the number that are registered.
     pub fn ensure<W: Wait>(&self, rt: &W, threads: usize) -> Result<Grown, TableFault>
         requires { threads ≤ self.now.threads }
         ensures { IfOk result (λ g. Serves threads g) }
     {
         let grown = self.table.ensure(rt, threads)?;
-        self.about.store(threads, Ordering::SeqCst);
+        self.registered.store(threads, Ordering::SeqCst);
         Ok(grown)
     }
 
-    // How many threads are about, as far as the lot was told (`ensure`).
-    pub(crate) fn threads_about(&self) -> usize {
-        self.about.load(Ordering::SeqCst)
+    // How many threads are registered, as far as the lot was told (`ensure`).
+    pub(crate) fn threads_registered(&self) -> usize {
+        self.registered.load(Ordering::SeqCst)
     }
 
     /// How many buckets there are; a moment later it may be more.
@@ -373,7 +373,7 @@ impl<S: Scheme> ParkingLot<S> {
             scheme,
             table,
             records: _,
-            about: _,
+            registered: _,
         } = self;
         table.close(rt, out);
         scheme

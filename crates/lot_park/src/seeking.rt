@@ -1,34 +1,43 @@
 //! Getting what a thread may have to park for, a lock or a permit, as WTF's `Lock::lock` gets a lock: a few yields, and
 //! then the line.
 //!
-//! How far the thread is says what it does next:
+//! Each turn begins with one look at the word, and what that tells says what the thread does:
 //!
-//! | It | does | and then it |
+//! | The word says | and the thread | Then it |
 //! |---|---|---|
-//! | `Tries` | looks, and takes what is left | has it, or waits |
-//! | `Waits` | yields, while nobody is parked and it has not yielded 40 times; else it lines up | tries, or parks |
-//! | `Parks` | sleeps in the line until it is woken | tries, or was handed it |
+//! | `Free` | takes one | has it, or looks again |
+//! | `Taken` | yields, while it has not yielded 40 times; else it lines up | looks again, or sleeps |
+//! | `Parked` | lines up: it takes one where one is left by now, and sleeps otherwise | has it, or looks again |
 ghost use Rattle.std.specs.Prelude.{◌<◌, MatchBool};
 ghost use Rattle.lot_park.specs.Parking.{Ends, Awaited, Queues};
 ghost use Rattle.lot_park.specs.Seeking.{SeekingLaws};
-ghost use Rattle.lot_park.specs.declared.seeking.Seeking.TheVariants.{Got, Parks};
+ghost use Rattle.lot_park.specs.declared.seeking.Seeking.TheVariants.{Got, Waits, Parks};
 
 use crate::lot::{Parked, ParkingLot};
 use crate::scheme::{Scheme, Token};
 use crate::spins::Spins;
 use std::sync::Wait;
 
+/// What one look at a word tells of what is sought.
+#[derive(Clone, Copy, PartialEq, Eq)]
+pub enum Look {
+    /// One is left.
+    Free,
+    /// None is left, and nobody is marked as parked.
+    Taken,
+    /// None is left, and somebody is marked as parked.
+    Parked,
+}
+
 /// How far a thread is that seeks something.
 #[derive(Clone, Copy)]
 pub enum Seeking {
     /// It has got it.
     Got,
-    /// None was left.
+    /// It is awake, and has not got it.
     Waits,
     /// It is about to park.
     Parks,
-    /// It has waited, or another thread was faster.
-    Tries,
 }
 
 /// What threads of a scheme seek, which T names, as the locks of its table or their permits: how its word is looked at,
@@ -37,7 +46,7 @@ pub trait Sought<T>: Scheme {
     ghost use Rattle.std.specs.Prelude.{ℕ, MatchBool};
     ghost use Rattle.lot_park.specs.Parking.{Awaited, Queues};
     ghost use Rattle.lot_park.specs.declared.seeking.Seeking.{Seeking};
-    ghost use Rattle.lot_park.specs.declared.seeking.Seeking.TheVariants.{Got, Waits, Parks, Tries};
+    ghost use Rattle.lot_park.specs.declared.seeking.Seeking.TheVariants.{Got, Waits, Parks};
 
     /// The table has what is sought under the key.
     ghost has: { Self → ℕ → Type 0 };
@@ -48,18 +57,19 @@ pub trait Sought<T>: Scheme {
     /// A pass, the key of what its thread seeks, and the pass now, which is queued in its line.
     ghost sleeps: { Self.Pass → ℕ → Self.Pass → Type 0 };
 
-    /// Whether it is marked as parked at some moment of this call.
-    fn is_parked(&self, key: usize) -> bool
+    /// What one load of its word tells. It is an observation: nothing is promised of it.
+    fn look_at(&self, key: usize) -> Look
         requires { has self.now key };
 
-    /// Looks, and takes one where one is left.
-    fn take_again(&self, pass: Self::Pass, key: usize) -> (Self::Pass, Seeking)
+    /// Takes one where one is left, and says whether it did.
+    fn take(&self, pass: Self::Pass, key: usize) -> (Self::Pass, bool)
         requires has { has self.now key }
-        requires tries { seeks pass key Tries pass }
-        ensures { seeks pass key result.1 result.0 };
+        requires waits { seeks pass key Waits pass }
+        ensures { MatchBool result.1 (seeks pass key Got result.0) (seeks pass key Waits result.0) };
 
-    /// What a thread does before it parks: it marks it as parked, unless it was seen so.
-    fn line_up(&self, pass: Self::Pass, key: usize, is_parked: bool) -> (Self::Pass, Seeking)
+    /// What a thread does before it parks: it takes one where one is left by now, and else marks it as parked, unless it
+    /// was seen so.
+    fn line_up(&self, pass: Self::Pass, key: usize, is_marked: bool) -> (Self::Pass, Seeking)
         requires has { has self.now key }
         requires waits { seeks pass key Waits pass }
         ensures { seeks pass key result.1 result.0 };
@@ -91,69 +101,89 @@ impl BeforeSleep for AtOnce {
     fn run(&self) {}
 }
 
-/// Gets it, by a thread that is so far. It yields a few times for one look, and up to 40 times in one call. The first
-/// yields come before any look, since a look takes the word's line of the cache from its owner. Before each sleep it
-/// does what `before` says.
+/// Gets it, by a thread that has missed it and knows this of its word. The first yields come before it looks again,
+/// since a look takes the word's line of the cache from its owner. Before each sleep it does what `before` says.
 #[inline(always)]
 pub fn get_or_park<S: Sought<T>, T, R: Wait, B: BeforeSleep>(
     rt: &R,
     parking: &ParkingLot<S>,
     pass: S::Pass,
     key: usize,
-    first: Seeking,
+    first: Look,
     before: &B,
 ) -> S::Pass
     requires laws { SeekingLaws S.thread S.seeks }
     requires has { S.has parking.now.scheme key }
     requires key { key < parking.now.keys }
     requires thread { S.thread pass < parking.now.threads }
-    requires first { S.seeks pass key first pass }
+    requires waits { S.seeks pass key Waits pass }
     ensures { S.seeks pass key Got result }
 {
     let scheme = parking.scheme();
     let mut pass = pass;
-    let mut seeking = first;
-    let mut spins = Spins::among(parking.threads_about());
+    let mut look = first;
+    let mut spins = Spins::among(parking.threads_registered());
     for _ in rt.forever() {
-        let (next, now) = match seeking {
-            Seeking::Got => return pass,
-            Seeking::Tries => scheme.take_again(pass, key),
-            Seeking::Waits => {
-                let is_parked = spins.has_begun() && scheme.is_parked(key);
-                if !is_parked && spins.has_more() {
-                    spins.back_off();
-                    (pass, Seeking::Tries)
-                } else {
-                    scheme.line_up(pass, key, is_parked)
-                }
+        let (next, has_got) = match look {
+            Look::Free => scheme.take(pass, key),
+            Look::Taken if spins.has_more() => {
+                spins.back_off();
+                (pass, false)
             }
-            Seeking::Parks => sleep::<S, T, R, B>(rt, parking, pass, key, before),
+            Look::Taken => sleep_in_line::<S, T, R, B>(rt, parking, pass, key, false, before),
+            Look::Parked => sleep_in_line::<S, T, R, B>(rt, parking, pass, key, true, before),
         };
         pass = next;
-        seeking = now;
+        if has_got {
+            return pass;
+        }
+        look = scheme.look_at(key);
     }
     unreachable!()
 }
 
-/// Parks, and tells how far the thread is then.
+/// Lines up, and sleeps until it is woken. Says whether it has got it.
+fn sleep_in_line<S: Sought<T>, T, R: Wait, B: BeforeSleep>(
+    rt: &R,
+    parking: &ParkingLot<S>,
+    pass: S::Pass,
+    key: usize,
+    is_marked: bool,
+    before: &B,
+) -> (S::Pass, bool)
+    requires laws { SeekingLaws S.thread S.seeks }
+    requires has { S.has parking.now.scheme key }
+    requires key { key < parking.now.keys }
+    requires thread { S.thread pass < parking.now.threads }
+    requires waits { S.seeks pass key Waits pass }
+    ensures { MatchBool result.1 (S.seeks pass key Got result.0) (S.seeks pass key Waits result.0) }
+{
+    let (pass, seeking) = parking.scheme().line_up(pass, key, is_marked);
+    match seeking {
+        Seeking::Got => (pass, true),
+        Seeking::Waits => (pass, false),
+        Seeking::Parks => sleep::<S, T, R, B>(rt, parking, pass, key, before),
+    }
+}
+
+/// Parks, and says whether it was handed what it seeks.
 fn sleep<S: Sought<T>, T, R: Wait, B: BeforeSleep>(
     rt: &R,
     parking: &ParkingLot<S>,
     pass: S::Pass,
     key: usize,
     before: &B,
-) -> (S::Pass, Seeking)
+) -> (S::Pass, bool)
     requires laws { SeekingLaws S.thread S.seeks }
     requires key { key < parking.now.keys }
     requires thread { S.thread pass < parking.now.threads }
     requires parks { S.seeks pass key Parks pass }
-    ensures { S.seeks pass key result.1 result.0 }
+    ensures { MatchBool result.1 (S.seeks pass key Got result.0) (S.seeks pass key Waits result.0) }
 {
     let (pass, parked) = park::<S, T, R, B>(rt, parking, pass, key, before);
     match parked {
-        Parked::Invalid => (pass, Seeking::Tries),
-        Parked::Woken(token) if S::is_handed(token) => (pass, Seeking::Got),
-        Parked::Woken(_) => (pass, Seeking::Tries),
+        Parked::Woken(token) if S::is_handed(token) => (pass, true),
+        Parked::Invalid | Parked::Woken(_) => (pass, false),
     }
 }
 

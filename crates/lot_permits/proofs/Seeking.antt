@@ -1,11 +1,11 @@
 -- What is so of a thread that seeks a permit.
-use Rattle.std.proofs.Common.{◌≡◌, ℕ, ◌≤◌, false, List, [], ◌∷◌, ◌++◌, ◌⊎◌, inl, inr, ⊎_elim, refl, sym, ap, subst, ◌∙◌}
+use Rattle.std.proofs.Common.{◌≡◌, ℕ, ◌≤◌, Bool, true, false, List, [], ◌∷◌, ◌++◌, ◌⊎◌, inl, inr, ⊎_elim, refl, sym, ap, subst, ◌∙◌}
 use Rattle.std.specs.List.{All}
 use Rattle.std.proofs.lemmas.List.Elements.{All-nil, All-append}
-use Rattle.lot_events.specs.declared.events.Event.TheVariants.{SemTake}
-use Rattle.lot_events.specs.declared.events.Seen.TheVariants.{Bool as Saw}
+use Rattle.lot_events.specs.declared.events.Event.TheVariants.{SemTake, SemMark}
+use Rattle.lot_events.specs.declared.events.Seen.TheVariants.{Bool as Saw, Done}
 use Rattle.lot_rights.specs.declared.views.Access.{Access}
-use Rattle.lot_rights.specs.declared.views.Access.TheVariants.{Makes}
+use Rattle.lot_rights.specs.declared.views.Access.TheVariants.{Makes, Finds}
 use Rattle.lot_sems.specs.declared.taking.Taken.{Taken}
 use Rattle.lot_sems.specs.declared.taking.Taken.TheVariants.{Got as HasGot, Empty, Busy}
 use Rattle.lot_sems.specs.Calls.{seeking as sem_seeking}
@@ -14,18 +14,13 @@ use Rattle.lot_whole.specs.declared.views.Stand.TheVariants.{Idle}
 use Rattle.lot_whole.specs.Family.{lock, cond, sem}
 use Rattle.lot_whole.specs.Standing.{IsUp, MayTakePermit, MaySeek}
 use Rattle.lot_park.specs.declared.seeking.Seeking.{Seeking}
-use Rattle.lot_park.specs.declared.seeking.Seeking.TheVariants.{Got, Waits, Parks, Tries}
+use Rattle.lot_park.specs.declared.seeking.Seeking.TheVariants.{Got, Waits, Parks}
 use Rattle.lot_park.specs.Seeking.{SeekingLaws, IsUnfinished}
 use Rattle.lot_scheme.specs.Standing.{LotStanding, adding, seeking, getting}
 use Rattle.lot_scheme.specs.Words.{IsPermitSeek}
-use Rattle.lot_scheme.specs.SemCalls.{TakesPermit}
-use Rattle.lot_permits.specs.Seeking.{GetsPermit, IsSeekingFor, IsAwakeFor, Seeks, after_try}
+use Rattle.lot_scheme.specs.SemCalls.{TakesPermit, MarksPermit}
+use Rattle.lot_permits.specs.Seeking.{GetsPermit, IsSeekingFor, IsAwakeFor, Seeks}
 use Rattle.lot_permits.proofs.Words.{adding_on, adding_none, get_after, took_it, one_seek, seek_on, busy_seek}
-
--- a try got none
-unfinished : (taken : Taken) → (taken ≡ Empty) ⊎ (taken ≡ Busy) → IsUnfinished (after_try taken)
-unfinished taken none = ⊎_elim {C = IsUnfinished (after_try taken)} (λ e. subst (λ b. IsUnfinished (after_try b)) (sym e) tt)
-    (λ e. subst (λ b. IsUnfinished (after_try b)) (sym e) tt) none
 
 module _ {V : Type 0} where
   -- ---- the thread is up
@@ -46,18 +41,16 @@ module _ {V : Type 0} where
     may_take : (before now : LotStanding V) (key : ℕ) → IsSeekingFor low before key now → IsAwakeFor low before key now
     may_take before now key s = record { above = s.above; may = s.may; did = s.did; sought = s.sought; is = inr s.is }
 
-    pub tries : (before now : LotStanding V) (key : ℕ) (far : Seeking) → IsUnfinished far → Seeks low before key far now
-        → Seeks low before key Tries now
-    tries before now key Got done s = absurd done
-    tries before now key Waits u s = may_take before now key s
-    tries before now key Parks u s = may_take before now key s
-    tries before now key Tries u s = s
+    pub waits : (before now : LotStanding V) (key : ℕ) (far : Seeking) → IsUnfinished far → Seeks low before key far now
+        → IsAwakeFor low before key now
+    waits before now key Got done s = absurd done
+    waits before now key Waits u s = s
+    waits before now key Parks u s = may_take before now key s
 
     same : (before now : LotStanding V) (key : ℕ) (far : Seeking) → Seeks low before key far now → now.thread ≡ before.thread
     same before now key Got s = ap (λ (p : LotStanding V). p.thread) s.is
-    same before now key Waits s = ap (λ (p : LotStanding V). p.thread) s.is
     same before now key Parks s = ap (λ (p : LotStanding V). p.thread) s.is
-    same before now key Tries s = ⊎_elim {C = now.thread ≡ before.thread} (λ e. ap (λ (p : LotStanding V). p.thread) e)
+    same before now key Waits s = ⊎_elim {C = now.thread ≡ before.thread} (λ e. ap (λ (p : LotStanding V). p.thread) e)
         (λ e. ap (λ (p : LotStanding V). p.thread) e) s.is
 
     -- one access more, by which it got none
@@ -98,9 +91,8 @@ module _ {V : Type 0} where
     pub itself : (before now : LotStanding V) (key : ℕ) (far : Seeking) → IsUnfinished far → Seeks low before key far now
         → Seeks low now key far now
     itself before now key Got done s = absurd done
-    itself before now key Waits u s = seeks_itself before now key s
     itself before now key Parks u s = seeks_itself before now key s
-    itself before now key Tries u s = ⊎_elim {C = IsAwakeFor low now key now}
+    itself before now key Waits u s = ⊎_elim {C = IsAwakeFor low now key now}
         (λ e. subst (λ (p : LotStanding V). IsAwakeFor low p key p) (sym e) (begins (adding before s.did) key s.above s.may))
         (λ e. may_take now now key (seeks_itself before now key
         (record { above = s.above; may = s.may; did = s.did; sought = s.sought; is = e })))
@@ -124,9 +116,8 @@ module _ {V : Type 0} where
         got = get_after before.thread key did s.did sought s.got;
         is = s.is ∙ adding_on (getting before key) did s.did;
       }
-      as_before Waits after s = as_before_seeks after s
       as_before Parks after s = as_before_seeks after s
-      as_before Tries after s = record {
+      as_before Waits after s = record {
         above = above;
         may = may;
         did = did ++ s.did;
@@ -151,9 +142,8 @@ module _ {V : Type 0} where
         got = get_after before.thread key did s.did sought s.got;
         is = s.is ∙ adding_on (getting before key) did s.did;
       }
-      as_seeking Waits after s = as_seeking_seeks after s
       as_seeking Parks after s = as_seeking_seeks after s
-      as_seeking Tries after s = record {
+      as_seeking Waits after s = record {
         above = above;
         may = may;
         did = did ++ s.did;
@@ -171,33 +161,47 @@ module _ {V : Type 0} where
 
     pub on : (before now after : LotStanding V) (key : ℕ) (far next : Seeking) → IsUnfinished far → Seeks low before key far now
         → Seeks low now key next after → Seeks low before key next after
-    on before now after key far next u s t = goes before now after key next (tries before now key far u s) t
+    on before now after key far next u s t = goes before now after key next (waits before now key far u s) t
 
     pub laws : SeekingLaws (λ (p : LotStanding V). p.thread) (Seeks low)
-    laws = record { same = same; tries = tries; itself = itself; on = on }
+    laws = record { same = same; waits = waits; itself = itself; on = on }
+
+    -- who seeks a permit may mark the semaphore as parked, and seeks it still
+    pub may_mark : (before now : LotStanding V) (key : ℕ) → IsSeekingFor low before key now → MaySeek now.own key
+    may_mark before now key s = subst (λ (p : LotStanding V). MaySeek p.own key) (sym s.is) (may_seek before key s.may)
+
+    pub marked_on : (before mid now : LotStanding V) (key : ℕ) (does : Bool) → IsSeekingFor low before key mid → MarksPermit mid key does now
+        → IsSeekingFor low before key now
+    marked_on before mid now key true s is =
+        goes_on before mid now key (Makes (SemMark mid.thread key) Done) s (ap (λ (p : LotStanding V). p.thread) s.is, refl) is
+    marked_on before mid now key false s (word, other, is) =
+        goes_on before mid now key (Finds mid.thread key word) s (ap (λ (p : LotStanding V). p.thread) s.is, refl) is
 
     -- ---- after a try
-    pub tried : (p q : LotStanding V) (key : ℕ) (taken : Taken) → low ≤ key → MayTakePermit p.own key → TakesPermit p key taken q
-        → Seeks low p key (after_try taken) q
-    tried p q key HasGot above may (did, word, is) = record { did = did; got = took_it p.thread key did word; is = is }
-    tried p q key Empty above may is = record {
+    pub tried : (p q : LotStanding V) (key : ℕ) → low ≤ key → MayTakePermit p.own key → TakesPermit p key HasGot q → GetsPermit p key q
+    tried p q key above may (did, word, is) = record { did = did; got = took_it p.thread key did word; is = is }
+
+    pub found_none : (p q : LotStanding V) (key : ℕ) → low ≤ key → MayTakePermit p.own key → TakesPermit p key Empty q
+        → IsSeekingFor low p key q
+    found_none p q key above may is = record {
       above = above;
       may = may;
       did = Makes (SemTake p.thread key) (Saw false) ∷ [];
       sought = one_seek p.thread key (Makes (SemTake p.thread key) (Saw false)) (refl, refl);
       is = is;
     }
-    tried p q key Busy above may (did, word, is) =
+
+    pub missed : (p q : LotStanding V) (key : ℕ) (taken : Taken) → low ≤ key → MayTakePermit p.own key → TakesPermit p key taken q
+        → (taken ≡ Empty) ⊎ (taken ≡ Busy) → IsAwakeFor low p key q
+    missed p q key HasGot above may took none = absurd (⊎_elim {C = ⊥} (λ e. cc) (λ e. cc) none)
+    missed p q key Empty above may took none = may_take p q key (found_none p q key above may took)
+    missed p q key Busy above may (did, word, is) none =
         record { above = above; may = may; did = did; sought = busy_seek p.thread key did word; is = inl is }
 
-    -- and it goes on as from there, where the try got none
-    pub goes_again : (p q : LotStanding V) (key : ℕ) (taken : Taken) → low ≤ key → MayTakePermit p.own key → TakesPermit p key taken q
-        → (taken ≡ Empty) ⊎ (taken ≡ Busy) → Seeks low q key (after_try taken) q
-    goes_again p q key taken above may took none =
-        itself p q key (after_try taken) (unfinished taken none) (tried p q key taken above may took)
+    -- and it goes on as from there
+    pub goes_again : (p q : LotStanding V) (key : ℕ) → IsAwakeFor low p key q → IsAwakeFor low q key q
+    goes_again p q key s = itself p q key Waits tt s
 
     -- and where it got one in the end, it has got it
-    pub got_slowly : (p q r : LotStanding V) (key : ℕ) (taken : Taken) → low ≤ key → MayTakePermit p.own key → TakesPermit p key taken q
-        → (taken ≡ Empty) ⊎ (taken ≡ Busy) → GetsPermit q key r → GetsPermit p key r
-    got_slowly p q r key taken above may took none gets =
-        on p q r key (after_try taken) Got (unfinished taken none) (tried p q key taken above may took) gets
+    pub got_slowly : (p q r : LotStanding V) (key : ℕ) → IsAwakeFor low p key q → GetsPermit q key r → GetsPermit p key r
+    got_slowly p q r key s gets = on p q r key Waits Got tt s gets

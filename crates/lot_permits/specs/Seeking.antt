@@ -2,19 +2,11 @@
 use Rattle.std.specs.Prelude.{◌≡◌, ℕ, ◌≤◌, ◌⊎◌, List}
 use Rattle.std.specs.List.{All}
 use Rattle.lot_rights.specs.declared.views.Access.{Access}
-use Rattle.lot_sems.specs.declared.taking.Taken.{Taken}
-use Rattle.lot_sems.specs.declared.taking.Taken.TheVariants.{Got as HasGot, Empty, Busy}
 use Rattle.lot_whole.specs.Standing.{MayTakePermit}
 use Rattle.lot_park.specs.declared.seeking.Seeking.{Seeking}
-use Rattle.lot_park.specs.declared.seeking.Seeking.TheVariants.{Got, Waits, Parks, Tries}
+use Rattle.lot_park.specs.declared.seeking.Seeking.TheVariants.{Got, Waits, Parks}
 use Rattle.lot_scheme.specs.Standing.{LotStanding, adding, seeking, queued, getting}
 use Rattle.lot_scheme.specs.Words.{IsPermitSeek, GetPermitWord}
-
--- how far a thread is after such a try
-abbrev pub after_try : Taken → Seeking
-after_try HasGot = Got
-after_try Empty = Waits
-after_try Busy = Tries
 
 module _ {V : Type 0} where
   -- it sought a permit of k, and got it
@@ -46,6 +38,5 @@ module _ {V : Type 0} where
   -- by how far it is
   abbrev pub Seeks : ℕ → LotStanding V → ℕ → Seeking → LotStanding V → Type 0
   Seeks low p k Got q = GetsPermit p k q
-  Seeks low p k Waits q = IsSeekingFor low p k q
+  Seeks low p k Waits q = IsAwakeFor low p k q
   Seeks low p k Parks q = IsSeekingFor low p k q
-  Seeks low p k Tries q = IsAwakeFor low p k q

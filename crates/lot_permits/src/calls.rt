@@ -61,7 +61,7 @@ pub fn acquire<V: Keeps + Send, N: LotName<V> + Send, R: Wait>(
     let (pass, taken) = parking.scheme().take_permit(pass, key);
     let pass = match taken {
         Taken::Got => pass,
-        Taken::Empty | Taken::Busy => get_slowly(rt, parking, pass, key, taken),
+        Taken::Empty | Taken::Busy => get_slowly(rt, parking, pass, key),
     };
     let permit = Permit::new(key, pass.thread());
     (pass, permit)

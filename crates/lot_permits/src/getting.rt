@@ -1,25 +1,14 @@
 //! Getting a permit, as WTF's `Lock::lock` gets a lock: barging, a few yields, and then the line.
-ghost use Rattle.std.specs.Prelude.{◌≡◌, ◌<◌, length};
+ghost use Rattle.std.specs.Prelude.{◌<◌, length};
 ghost use Rattle.lot_core.specs.Parts.{IsAmongSemaphores};
-ghost use Rattle.lot_permits.specs.Seeking.{GetsPermit, Seeks, after_try};
+ghost use Rattle.lot_permits.specs.Seeking.{GetsPermit, IsAwakeFor};
 
 use crate::steps::Sems;
-use lot_park::{AtOnce, ParkingLot, Seeking, Sought, Token, get_or_park};
+use lot_park::{AtOnce, Look, ParkingLot, Seeking, Sought, Token, get_or_park};
 use lot_scheme::{LotName, LotScheme, NamedPass, NamedRoot};
-use lot_sems::{PARKED, Taken};
+use lot_sems::{PARKED, PERMIT, Taken};
 use lot_whole::Keeps;
 use std::sync::Wait;
-
-/// How far a thread is after such a try.
-fn seeking_after(taken: Taken) -> Seeking
-    ensures { result ≡ after_try taken }
-{
-    match taken {
-        Taken::Got => Seeking::Got,
-        Taken::Empty => Seeking::Waits,
-        Taken::Busy => Seeking::Tries,
-    }
-}
 
 impl<V: Keeps + Send, N: LotName<V> + Send> Sought<Sems> for LotScheme<V, N> {
     ghost use Rattle.std.specs.Prelude.{length};
@@ -32,31 +21,48 @@ impl<V: Keeps + Send, N: LotName<V> + Send> Sought<Sems> for LotScheme<V, N> {
 
     ghost sleeps = { IsAsleepFor N.low };
 
-    fn is_parked(&self, key: usize) -> bool {
-        self.sem_bits(key) & PARKED != 0
+    fn look_at(&self, key: usize) -> Look {
+        let bits = self.sem_bits(key);
+        if bits >= PERMIT {
+            Look::Free
+        } else if bits & PARKED == 0 {
+            Look::Taken
+        } else {
+            Look::Parked
+        }
     }
 
-    fn take_again(&self, pass: NamedPass<V, N>, key: usize) -> (NamedPass<V, N>, Seeking) {
+    #[tactic(auto, using(crate::proofs::Seeking::tried, crate::proofs::Seeking::missed))]
+    fn take(&self, pass: NamedPass<V, N>, key: usize) -> (NamedPass<V, N>, bool) {
         let (pass, taken) = self.take_permit(pass, key);
-        (pass, seeking_after(taken))
+        match taken {
+            Taken::Got => (pass, true),
+            Taken::Empty | Taken::Busy => (pass, false),
+        }
     }
 
+    #[tactic(auto, using(crate::proofs::Seeking::tried, crate::proofs::Seeking::missed, crate::proofs::Seeking::found_none, crate::proofs::Seeking::may_mark, crate::proofs::Seeking::marked_on))]
     fn line_up(
         &self,
         pass: NamedPass<V, N>,
         key: usize,
-        is_parked: bool,
+        is_marked: bool,
     ) -> (NamedPass<V, N>, Seeking) {
-        if is_parked {
-            return (pass, Seeking::Parks);
+        let (pass, taken) = self.take_permit(pass, key);
+        match taken {
+            Taken::Got => (pass, Seeking::Got),
+            Taken::Busy => (pass, Seeking::Waits),
+            Taken::Empty if is_marked => (pass, Seeking::Parks),
+            Taken::Empty => {
+                let (pass, marked) = self.mark_permit(pass, key);
+                let now = if marked {
+                    Seeking::Parks
+                } else {
+                    Seeking::Waits
+                };
+                (pass, now)
+            }
         }
-        let (pass, marked) = self.mark_permit(pass, key);
-        let now = if marked {
-            Seeking::Parks
-        } else {
-            Seeking::Tries
-        };
-        (pass, now)
     }
 
     fn queue(
@@ -81,20 +87,13 @@ pub(crate) fn get_slowly<V: Keeps + Send, N: LotName<V> + Send, R: Wait>(
     parking: &ParkingLot<LotScheme<V, N>>,
     pass: NamedPass<V, N>,
     key: usize,
-    first: Taken,
 ) -> NamedPass<V, N>
     requires sem { IsAmongSemaphores N.low (length N.permits) key }
     requires key { key < parking.now.keys }
     requires thread { pass.thread < parking.now.threads }
-    requires seeks { Seeks N.low pass key (after_try first) pass }
+    requires waits { IsAwakeFor N.low pass key pass }
     ensures { GetsPermit pass key result }
 {
-    get_or_park::<LotScheme<V, N>, Sems, R, AtOnce>(
-        rt,
-        parking,
-        pass,
-        key,
-        seeking_after(first),
-        &AtOnce,
-    )
+    let first = parking.scheme().look_at(key);
+    get_or_park::<LotScheme<V, N>, Sems, R, AtOnce>(rt, parking, pass, key, first, &AtOnce)
 }

@@ -144,6 +144,9 @@ enum Job {
     Share,
     Relay(usize, u64),
     Wait(u64, u64),
+    Notify(u64),
+    Turns(u64),
+    Permits(u64, u64),
 }
 
 struct Plan {
@@ -160,6 +163,7 @@ struct Bench<P: Peer> {
     cells: Vec<P::Lock>,
     not_full: P::Condition,
     not_empty: P::Condition,
+    turns: Vec<P::Condition>,
     here: AtomicU64,
     over: AtomicU64,
     start: Instant,
@@ -239,6 +243,32 @@ impl<P: Peer> Bench<P> {
         0
     }
 
+    fn notify(&self, rounds: u64) -> u64 {
+        for _ in 0..rounds {
+            P::notify_one(&self.not_empty);
+        }
+        rounds
+    }
+
+    fn take_turns(&self, worker: usize, rounds: u64) -> u64 {
+        let threads = self.turns.len();
+        for _ in 0..rounds {
+            P::wait(&self.cells[0], &self.turns[worker], |turn| turn % threads as u64 != worker as u64, |turn| *turn += 1);
+            P::notify_one(&self.turns[(worker + 1) % threads]);
+        }
+        rounds
+    }
+
+    /// The number is how many permits are left.
+    fn take_permits(&self, rounds: u64) -> u64 {
+        for _ in 0..rounds {
+            P::wait(&self.cells[0], &self.not_empty, |left| left == 0, |left| *left -= 1);
+            P::with(&self.cells[0], |left| *left += 1);
+            P::notify_one(&self.not_empty);
+        }
+        rounds
+    }
+
     fn work(&self, worker: usize, all: usize) -> Done {
         let mut times = Times::new();
         self.join(all);
@@ -248,6 +278,9 @@ impl<P: Peer> Bench<P> {
             Job::Share => self.share(),
             Job::Relay(producers, rounds) => self.relay(worker, producers, rounds),
             Job::Wait(held, outside) => self.wait(held, outside, &mut times),
+            Job::Notify(rounds) => self.notify(rounds),
+            Job::Turns(rounds) => self.take_turns(worker, rounds),
+            Job::Permits(_, rounds) => self.take_permits(rounds),
         };
         Done { begin, end: self.now(), rounds, times }
     }
@@ -257,11 +290,15 @@ impl<P: Peer> Bench<P> {
             cells: (0..plan.locks).map(|_| P::Lock::default()).collect(),
             not_full: P::Condition::default(),
             not_empty: P::Condition::default(),
+            turns: (0..plan.threads).map(|_| P::Condition::default()).collect(),
             here: AtomicU64::new(0),
             over: AtomicU64::new(0),
             start: Instant::now(),
             plan,
         };
+        if let Job::Permits(permits, _) = bench.plan.job {
+            P::with(&bench.cells[0], |left| *left = permits);
+        }
         let all = bench.plan.threads + usize::from(bench.plan.millis > 0);
         let done: Vec<Done> = std::thread::scope(|scope| {
             let bench = &bench;
@@ -304,6 +341,9 @@ fn plan(words: &[String]) -> Option<Plan> {
         "share" => Plan { threads: size(1)?, locks: 1, millis: number(2)?, job: Job::Share },
         "relay" => Plan { threads: size(1)? + size(2)?, locks: 1, millis: 0, job: Job::Relay(size(1)?, number(3)?) },
         "wait" => Plan { threads: size(1)?, locks: 1, millis: number(4)?, job: Job::Wait(number(2)?, number(3)?) },
+        "notify" => Plan { threads: size(1)?, locks: 1, millis: 0, job: Job::Notify(number(2)?) },
+        "turns" => Plan { threads: size(1)?, locks: 1, millis: 0, job: Job::Turns(number(2)?) },
+        "permits" => Plan { threads: size(1)?, locks: 1, millis: 0, job: Job::Permits(number(2)?, number(3)?) },
         _ => return None,
     })
 }

@@ -4,7 +4,7 @@ ghost use Rattle.std.specs.Prelude.{◌≡◌};
 use crate::kinds::tables::Nothing;
 use crate::park::askings::{ASKINGS, is_within};
 use lot_locks::{LockSteps, Locks, Released};
-use lot_park::{ParkingLot, Scheme, Seeking, Sought, Token, UnparkResult};
+use lot_park::{Look, ParkingLot, Scheme, Seeking, Sought, Token, UnparkResult};
 use lot_scheme::{LotName, LotScheme, NamedPass, NamedRoot};
 use lot_words::Keeps;
 use std::marker::Model;
@@ -119,21 +119,21 @@ impl<V: Keeps + Send, N: LotName<V> + Send> Sought<Locks> for Gated<V, N> {
 
     ghost sleeps = { IsAsleepFor N.locks };
 
-    fn is_parked(&self, key: usize) -> bool {
-        self.inner.is_parked(key)
+    fn look_at(&self, key: usize) -> Look {
+        self.inner.look_at(key)
     }
 
-    fn take_again(&self, pass: NamedPass<V, N>, key: usize) -> (NamedPass<V, N>, Seeking) {
-        self.inner.take_again(pass, key)
+    fn take(&self, pass: NamedPass<V, N>, key: usize) -> (NamedPass<V, N>, bool) {
+        Sought::<Locks>::take(&self.inner, pass, key)
     }
 
     fn line_up(
         &self,
         pass: NamedPass<V, N>,
         key: usize,
-        is_parked: bool,
+        is_marked: bool,
     ) -> (NamedPass<V, N>, Seeking) {
-        self.inner.line_up(pass, key, is_parked)
+        self.inner.line_up(pass, key, is_marked)
     }
 
     fn queue(

@@ -17,22 +17,22 @@ pub(crate) struct Pass {
     pub(crate) thread: usize,
 }
 
-// A word for each thread: 0 where no letter lies, else the token and 1. And how often it looked; and how often any
-// tried to take what it sought.
+// A word for each thread: 0 where no letter lies, else the token and 1. And how often it looked for one; and how often any
+// looked at the word of what it sought.
 #[derive(Drop)]
 pub(crate) struct Letters {
     words: [AtomicU64; THREADS],
     looks: [AtomicU64; THREADS],
-    tries: AtomicU64,
+    looks_at_words: AtomicU64,
 }
 
 impl Letters {
-    pub(crate) fn note_a_try(&self) {
-        self.tries.fetch_add(1, Ordering::SeqCst);
+    pub(crate) fn note_a_look(&self) {
+        self.looks_at_words.fetch_add(1, Ordering::SeqCst);
     }
 
-    pub(crate) fn tries(&self) -> u64 {
-        self.tries.load(Ordering::SeqCst)
+    pub(crate) fn looks_at_words(&self) -> u64 {
+        self.looks_at_words.load(Ordering::SeqCst)
     }
 }
 
@@ -112,7 +112,7 @@ pub(crate) fn no_letters() -> Letters {
     Letters {
         words: [AtomicU64::new(0), AtomicU64::new(0), AtomicU64::new(0)],
         looks: [AtomicU64::new(0), AtomicU64::new(0), AtomicU64::new(0)],
-        tries: AtomicU64::new(0),
+        looks_at_words: AtomicU64::new(0),
     }
 }
 

@@ -4,7 +4,7 @@ ghost use Rattle.std.specs.Prelude.{◌≡◌, ◌≤◌};
 use super::letters::{Letters, Pass, THREADS, no_letters};
 use super::rights::{Right, idle_rights};
 use crate::asserts::{equal, failed, is_so, room_for};
-use lot_park::{AtOnce, ParkingLot, Seeking, Sought, Token, get_or_park};
+use lot_park::{AtOnce, Look, ParkingLot, Seeking, Sought, Token, get_or_park};
 use std::alloc::Global;
 use std::process::Abort;
 use std::sync::Wait;
@@ -23,16 +23,16 @@ impl Sought<Prizes> for Letters {
 
     ghost sleeps = { λ before key asleep. ⊥ };
 
-    fn is_parked(&self, _key: usize) -> bool {
-        false
+    fn look_at(&self, _key: usize) -> Look {
+        self.note_a_look();
+        Look::Taken
     }
 
-    fn take_again(&self, pass: Pass, _key: usize) -> (Pass, Seeking) {
-        self.note_a_try();
-        (pass, Seeking::Waits)
+    fn take(&self, pass: Pass, _key: usize) -> (Pass, bool) {
+        (pass, false)
     }
 
-    fn line_up(&self, pass: Pass, _key: usize, _is_parked: bool) -> (Pass, Seeking) {
+    fn line_up(&self, pass: Pass, _key: usize, _is_marked: bool) -> (Pass, Seeking) {
         (pass, Seeking::Got)
     }
 
@@ -45,36 +45,40 @@ impl Sought<Prizes> for Letters {
     }
 }
 
-// How often a thread tries before it lines up, where the lot was told that so many threads are about, or of none.
-fn tries<R: Wait + Abort>(rt: &R, alloc: Global, about: usize) -> u64
-    requires { about ≤ THREADS }
+// How often a thread looks before it lines up that has seen this of the word, where the lot was told that so many threads
+// are registered, or of none.
+fn looks<R: Wait + Abort>(rt: &R, alloc: Global, registered: usize, first: Look) -> u64
+    requires { registered ≤ THREADS }
 {
     let rights = idle_rights(alloc, 1).expect(rt, "memory");
     let (lot, mut room) = match ParkingLot::open(alloc, THREADS, rights, no_letters()) {
         Ok(opened) => opened,
         Err(_refused) => failed(rt, "memory"),
     };
-    if about > 0 {
-        is_so(rt, lot.ensure(rt, about).is_ok(), "memory");
+    if registered > 0 {
+        is_so(rt, lot.ensure(rt, registered).is_ok(), "memory");
     }
     let _pass = get_or_park::<Letters, Prizes, R, AtOnce>(
         rt,
         &lot,
         Pass { thread: 0 },
         0,
-        Seeking::Waits,
+        first,
         &AtOnce,
     );
-    let tries = lot.scheme().tries();
+    let looks = lot.scheme().looks_at_words();
     let _letters = lot.close(rt, &mut room);
-    tries
+    looks
 }
 
-// It yields 40 times in all: where two threads are about at most, or the lot was told of none, once for each look;
-// where more are, eight times for the first look, and twice for each that follows.
+// It yields 40 times in all, and looks after each yield. Where two threads are registered at most, or the lot was told of
+// none, it looks once before them; where more are, its first look comes after twelve. Where it has seen that somebody is
+// parked, it lines up at once.
 #[test]
 fn a_thread_looks_before_it_lines_up(rt: HostRuntime) {
-    equal(&rt, tries(&rt, rt.alloc(), 0), 40);
-    equal(&rt, tries(&rt, rt.alloc(), 2), 40);
-    equal(&rt, tries(&rt, rt.alloc(), 3), 17);
+    equal(&rt, looks(&rt, rt.alloc(), 0, Look::Taken), 41);
+    equal(&rt, looks(&rt, rt.alloc(), 2, Look::Taken), 41);
+    equal(&rt, looks(&rt, rt.alloc(), 3, Look::Taken), 29);
+    equal(&rt, looks(&rt, rt.alloc(), 2, Look::Parked), 0);
+    equal(&rt, looks(&rt, rt.alloc(), 3, Look::Parked), 0);
 }

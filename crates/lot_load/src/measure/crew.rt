@@ -7,9 +7,10 @@ use super::clock::now;
 use super::meeting::Meeting;
 use super::plan::{Job, Plan};
 use super::relay::{Side, take_part};
-use super::rounds::{count, share, wait};
+use super::rounds::{count, share, take_permits, wait};
 use super::summary::{Done, Summary};
 use super::times::Times;
+use super::turns::{notify, take_turns};
 use super::value::Number;
 use crate::workers::start;
 use lot_calls::finish;
@@ -29,7 +30,8 @@ pub fn run<T: Threads + Wait + Clock + Sync>(
 ) -> Result<Summary, Failure> {
     let begin = now(rt);
     let values = vec![in alloc; Number { n: 0 }; plan.locks]?;
-    match Lot::<Number, Brand>::open(alloc, plan.threads, values, plan.conds) {
+    let permits = plan.permits.as_slice();
+    match Lot::<Number, Brand>::open_with(alloc, plan.threads, values, plan.conds, permits) {
         Ok(opened) => run_on::<Brand, T>(rt, alloc, plan, opened, begin),
         Err(_) => Err(Failure::NoMemory),
     }
@@ -158,6 +160,13 @@ fn go<N: LotName<Number> + Send, T: Wait + Clock>(
                 (take_part(rt, lot, Side::Consumer, worker, pass, taken), 0)
             }
         }
-        Job::Relay(..) | Job::Start => (pass, 0),
+        Job::Notify(rounds) if lot.conds() > 0 => (notify(rt, lot, pass, rounds), rounds),
+        Job::Turns(rounds) if lot.locks() == 1 && worker < lot.conds() => {
+            (take_turns(rt, lot, worker, pass, rounds), rounds)
+        }
+        Job::Permits(rounds) if lot.locks() == 1 && lot.conds() == 0 && lot.sems() > 0 => {
+            (take_permits(rt, lot, pass, rounds), rounds)
+        }
+        Job::Relay(..) | Job::Notify(_) | Job::Turns(_) | Job::Permits(_) | Job::Start => (pass, 0),
     }
 }

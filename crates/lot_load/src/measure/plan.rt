@@ -16,16 +16,23 @@ pub enum Job {
     Relay(usize, u64),
     /// Rounds on lock 0 for so many milliseconds, the lock being held for so many nanoseconds, and so many outside.
     Wait(u64, u64, u64),
+    /// So many notifications each, where nobody waits.
+    Notify(u64),
+    /// So many turns each, one thread after the other.
+    Turns(u64),
+    /// A permit of one semaphore is got and given back, so many times each.
+    Permits(u64),
     /// Nothing.
     Start,
 }
 
-/// How many threads, locks and conditions, and the work.
+/// How many threads, locks and conditions, how many permits the semaphore has where there is one, and the work.
 #[derive(Clone, Copy)]
 pub struct Plan {
     pub threads: usize,
     pub locks: usize,
     pub conds: usize,
+    pub permits: Option<u32>,
     pub job: Job,
     ghost threads_fit: { (1 ≤ threads) × (threads ≤ MAX_THREADS) },
     ghost locks_fit: { (1 ≤ locks) × (locks + conds ≤ MAX_KEYS) },
@@ -56,6 +63,9 @@ const MOST_MILLIS: u64 = 100_000;
 /// The most nanoseconds of a section.
 const MOST_NANOS: u64 = 1_000_000_000;
 
+/// The most permits of the semaphore.
+const MOST_PERMITS: u64 = 9_999;
+
 /// The most rounds of a thread.
 const MOST_ROUNDS: u64 = 1_000_000_000;
 
@@ -69,6 +79,9 @@ pub fn plan_of(words: &[&str]) -> Option<Plan> {
         "share" => sharing(numbers),
         "relay" => relaying(numbers),
         "wait" => waiting(numbers),
+        "notify" => notifying(numbers),
+        "turns" => taking_turns(numbers),
+        "permits" => taking_permits(numbers),
         "start" => starting(numbers),
         _ => None,
     }
@@ -104,6 +117,7 @@ fn relaying(numbers: &[&str]) -> Option<Plan> {
         threads: producers + consumers,
         locks: 1,
         conds: 2,
+        permits: None,
         job: Job::Relay(producers, rounds),
     })
 }
@@ -118,6 +132,32 @@ fn waiting(numbers: &[&str]) -> Option<Plan> {
     sized(threads, "1", Job::Wait(held, outside, millis))
 }
 
+fn notifying(numbers: &[&str]) -> Option<Plan> {
+    let [threads, rounds] = numbers else {
+        return None;
+    };
+    let rounds = number(rounds, 0, MOST_ROUNDS)?;
+    with_keys(threads, "1", 1, None, Job::Notify(rounds))
+}
+
+fn taking_turns(numbers: &[&str]) -> Option<Plan> {
+    let [threads, rounds] = numbers else {
+        return None;
+    };
+    let conds = number(threads, 1, MAX_THREADS as u64)? as usize;
+    let rounds = number(rounds, 0, MOST_ROUNDS)?;
+    with_keys(threads, "1", conds, None, Job::Turns(rounds))
+}
+
+fn taking_permits(numbers: &[&str]) -> Option<Plan> {
+    let [threads, permits, rounds] = numbers else {
+        return None;
+    };
+    let permits = number(permits, 1, MOST_PERMITS)? as u32;
+    let rounds = number(rounds, 0, MOST_ROUNDS)?;
+    with_keys(threads, "1", 0, Some(permits), Job::Permits(rounds))
+}
+
 fn starting(numbers: &[&str]) -> Option<Plan> {
     let [threads, locks] = numbers else {
         return None;
@@ -126,12 +166,27 @@ fn starting(numbers: &[&str]) -> Option<Plan> {
 }
 
 fn sized(threads: &str, locks: &str, job: Job) -> Option<Plan> {
+    with_keys(threads, locks, 0, None, job)
+}
+
+/// A plan with conditions, and with one semaphore where it has permits.
+fn with_keys(
+    threads: &str,
+    locks: &str,
+    conds: usize,
+    permits: Option<u32>,
+    job: Job,
+) -> Option<Plan> {
     let threads = number(threads, 1, MAX_THREADS as u64)? as usize;
     let locks = number(locks, 1, MAX_KEYS as u64)? as usize;
+    if conds > MAX_KEYS - locks {
+        return None;
+    }
     Some(Plan {
         threads,
         locks,
-        conds: 0,
+        conds,
+        permits,
         job,
     })
 }

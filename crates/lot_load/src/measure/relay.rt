@@ -1,12 +1,12 @@
 //! Producers put into a buffer and consumers take from it. The buffer is a number: how many lie there.
 ghost use Rattle.std.specs.Prelude.{◌≡◌, ◌≤◌, ◌<◌};
 ghost use Rattle.lot_sync.specs.Lot.{OwnsNone};
-ghost use Rattle.lot_load.specs.Numbers.{HasNumber};
 
 use super::clock::moment;
 use super::rounds::Random;
+use super::turns::{NEVER_FAIR, get_when};
 use super::value::Number;
-use lot_sync::{Held, Lot, LotName, Moment, Pass};
+use lot_sync::{Lot, LotName, Pass};
 use std::sync::Wait;
 use std::time::Clock;
 
@@ -18,9 +18,6 @@ const NOT_EMPTY: usize = 2;
 
 /// How many the buffer has room for.
 const PLACES: u64 = 16;
-
-/// A notification needs no fair release.
-const NEVER_FAIR: Moment = Moment { now: 0, word: 0 };
 
 /// What a thread of a relay does with the buffer.
 #[derive(Clone, Copy)]
@@ -86,7 +83,14 @@ pub fn take_part<N: LotName<Number> + Send, T: Wait + Clock>(
     let mut random = Random::new(worker);
     for _ in 0..rounds {
         let word = random.next();
-        let (owner, mut held) = get(rt, lot, side, pass, word);
+        let (owner, mut held) = get_when(
+            rt,
+            lot,
+            pass,
+            side.waits_on(),
+            word,
+            |lie: u64| !side.has_to_wait(lie),
+        );
         let number = held.value_mut();
         number.n = side.leaves(number.n);
         let (owner, _) = lot.unlock_asking(rt, owner, held, || moment(rt, word));
@@ -94,28 +98,4 @@ pub fn take_part<N: LotName<Number> + Send, T: Wait + Clock>(
         pass = told;
     }
     pass
-}
-
-/// Locks the buffer, and waits on the side's condition while it has to.
-fn get<N: LotName<Number> + Send, T: Wait + Clock>(
-    rt: &T,
-    lot: &Lot<Number, N>,
-    side: Side,
-    pass: Pass<Number, N>,
-    word: u64,
-) -> (Pass<Number, N>, Held<Number, N>)
-    requires keys { (lot.now.locks ≡ 1) × (lot.now.conds ≡ 2) }
-    requires free { OwnsNone pass }
-    ensures { HasNumber result.0 result.1 }
-{
-    let (mut pass, mut held) = lot.lock(rt, pass, 0);
-    for _ in rt.forever() {
-        if !side.has_to_wait(held.value().n) {
-            return (pass, held);
-        }
-        let (woken, found) = lot.wait(rt, pass, held, side.waits_on(), moment(rt, word));
-        pass = woken;
-        held = found;
-    }
-    unreachable!()
 }

@@ -1,10 +1,11 @@
 //! Rounds of one thread: it locks, adds one and unlocks.
-ghost use Rattle.std.specs.Prelude.{◌<◌};
+ghost use Rattle.std.specs.Prelude.{◌≡◌, ◌<◌};
 ghost use Rattle.lot_sync.specs.Lot.{OwnsNone};
 
 use super::clock::{moment, now, spend};
 use super::meeting::Meeting;
 use super::times::Times;
+use super::turns::NEVER_FAIR;
 use super::value::Number;
 use lot_sync::{Lot, LotName, Pass};
 use std::sync::Wait;
@@ -142,4 +143,27 @@ pub fn wait<N: LotName<Number> + Send, T: Wait + Clock>(
         spend(rt, outside);
     }
     unreachable!()
+}
+
+/// The only semaphore, beside one lock and no condition.
+const SEM: usize = 1;
+
+/// Gets a permit of the semaphore and gives it back, so many times.
+pub fn take_permits<N: LotName<Number> + Send, T: Wait>(
+    rt: &T,
+    lot: &Lot<Number, N>,
+    pass: Pass<Number, N>,
+    rounds: u64,
+) -> Pass<Number, N>
+    requires keys { (lot.now.locks ≡ 1) × (lot.now.conds ≡ 0) × (0 < lot.now.sems) }
+    requires free { OwnsNone pass }
+    ensures { OwnsNone result }
+{
+    let mut pass = pass;
+    for _ in 0..rounds {
+        let (holder, permit) = lot.acquire(rt, pass, SEM);
+        let (freed, _) = lot.release(rt, holder, permit, NEVER_FAIR);
+        pass = freed;
+    }
+    pass
 }

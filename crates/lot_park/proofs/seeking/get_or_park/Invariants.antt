@@ -1,4 +1,5 @@
+use Rattle.lot_park.specs.declared.seeking.Seeking.TheVariants.{Waits}
 use Rattle.lot_park.proofs.seeking.get_or_park.Given as goal
 
 abbrev pub invariant-loop : goal.invariant-loop
-invariant-loop g l = g.S.Sought.seeks l.initial.pass l.key l.seeking l.pass
+invariant-loop g l = g.S.Sought.seeks l.initial.pass l.key Waits l.pass

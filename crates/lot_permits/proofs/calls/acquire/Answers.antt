@@ -1,18 +1,19 @@
 use Rattle.std.proofs.Common.{inr, sym, subst}
 use Rattle.lot_sems.specs.declared.taking.Taken.{Taken}
+use Rattle.lot_sems.specs.declared.taking.Taken.TheVariants.{Got}
 use Rattle.lot_scheme.specs.Standing.{LotStanding}
 use Rattle.lot_scheme.specs.SemCalls.{TakesPermit}
-use Rattle.lot_sems.specs.declared.taking.Taken.TheVariants.{Got}
 use Rattle.lot_permits.specs.Seeking.{GetsPermit}
-use Rattle.lot_permits.proofs.Seeking.{goes_again, got_slowly, tried}
+use Rattle.lot_permits.proofs.Seeking.{goes_again, got_slowly, missed, tried}
 use Rattle.lot_permits.proofs.Rest.{idle_got}
 use Rattle.lot_permits.proofs.calls.acquire.Goals as goal
 use Rattle.lot_permits.proofs.calls.acquire.Goals.{in-Got, in-Empty}
 
-pub get_slowly-pass-requires-clause-seeks : goal.get_slowly-pass-requires-clause-seeks
-get_slowly-pass-requires-clause-seeks g c κs within =
-    goes_again g.N.LotName.low c.args.pass c.take_permit-pass.result.0 c.args.key c.take_permit-pass.result.1 c.requires.sem.0
-    (inr c.requires.idle) c.take_permit-pass.ensures c.in-Empty.is
+pub get_slowly-pass-requires-clause-waits : goal.get_slowly-pass-requires-clause-waits
+get_slowly-pass-requires-clause-waits g c κs within =
+    goes_again g.N.LotName.low c.args.pass c.take_permit-pass.result.0 c.args.key
+    (missed g.N.LotName.low c.args.pass c.take_permit-pass.result.0 c.args.key c.take_permit-pass.result.1 c.requires.sem.0
+    (inr c.requires.idle) c.take_permit-pass.ensures c.in-Empty.is)
 
 pub returns-clause-gets : goal.returns-clause-gets
 returns-clause-gets g c =
@@ -22,11 +23,12 @@ returns-clause-gets g c =
     let low = g.N.LotName.low in
     elim c.match-taken.branch [
       | in-Got w ↦ subst (λ (r : LotStanding g.row.V.Denot). GetsPermit p key r) (sym w.pass-is)
-          (tried low p q key Got c.requires.sem.0 (inr c.requires.idle)
+          (tried low p q key c.requires.sem.0 (inr c.requires.idle)
           (subst (λ (b : Taken). TakesPermit p key b q) w.in-Got.is c.take_permit-pass.ensures))
       | in-Empty w ↦ subst (λ (r : LotStanding g.row.V.Denot). GetsPermit p key r) (sym w.pass-is)
-          (got_slowly low p q w.get_slowly-pass.result key c.take_permit-pass.result.1 c.requires.sem.0 (inr c.requires.idle)
-          c.take_permit-pass.ensures w.in-Empty.is w.get_slowly-pass.ensures)
+          (got_slowly low p q w.get_slowly-pass.result key
+          (missed low p q key c.take_permit-pass.result.1 c.requires.sem.0 (inr c.requires.idle) c.take_permit-pass.ensures w.in-Empty.is)
+          w.get_slowly-pass.ensures)
     ]
 
 pub returns-clause-idle : goal.returns-clause-idle

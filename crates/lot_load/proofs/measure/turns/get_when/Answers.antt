@@ -2,7 +2,7 @@ use Rattle.std.proofs.Common.{◌∙◌}
 use Rattle.lot_sync.specs.Lot.{leaving, waking}
 use Rattle.lot_sync.proofs.Holdings.{got_holds, left_all}
 use Rattle.lot_load.specs.declared.measure.value.Number.{Number}
-use Rattle.lot_load.proofs.measure.relay.get.Goals as goal
+use Rattle.lot_load.proofs.measure.turns.get_when.Goals as goal
 
 pub loop-init : goal.loop-init
 loop-init g c =
