@@ -15,6 +15,7 @@ use std::sync::Wait;
 
 impl<V: Keeps + Send, N: LotName<V> + Send> Lot<V, N> {
     /// Whether somebody may wait on the condition at some moment of this call. It is an observation: nothing is promised of it.
+    #[inline(always)]
     pub fn has_waiters(&self, pass: Pass<V, N>, cond: usize) -> (Pass<V, N>, bool)
         requires cond { IsCond self.now cond }
         ensures same { result.0 ≈ pass }
@@ -29,6 +30,7 @@ impl<V: Keeps + Send, N: LotName<V> + Send> Lot<V, N> {
 
     /// Takes the first thread of the condition's line, if any, and answers whether it took one. Where nobody waits it is one load, and
     /// no bucket is locked.
+    #[inline(always)]
     pub fn notify_one<R: Wait>(
         &self,
         rt: &R,
@@ -51,6 +53,7 @@ impl<V: Keeps + Send, N: LotName<V> + Send> Lot<V, N> {
     /// Takes the first `count` threads of the condition's line, or all where they are fewer, in one visit of the bucket, and answers how
     /// many they were; `count` is 1 to 256. Where nobody waits it is one load, and no bucket is locked. After a change that so many
     /// threads wait for, as after putting three items: `let (pass, woken) = lot.notify_some(rt, pass, cond, 3);`
+    #[inline(always)]
     pub fn notify_some<R: Wait>(
         &self,
         rt: &R,
@@ -73,6 +76,7 @@ impl<V: Keeps + Send, N: LotName<V> + Send> Lot<V, N> {
     }
 
     /// Takes all threads of the condition's line, and answers how many. Where nobody waits it is one load, and no bucket is locked.
+    #[inline(always)]
     pub fn notify_all<R: Wait>(&self, rt: &R, pass: Pass<V, N>, cond: usize) -> (Pass<V, N>, usize)
         requires cond { IsCond self.now cond }
         ensures counted { result.0 ≈ calling pass cond result.1 }

@@ -70,6 +70,7 @@ pub fn has_waiters<V: Keeps + Send, N: LotName<V> + Send>(
 /// Takes the first thread of the condition's line, if any, and answers whether it took one: WTF's
 /// `Condition::notifyOne`. Where the flag is clear it is one load, and locks no bucket. The thread is woken after the
 /// bucket is unlocked. It takes no memory.
+#[inline(always)]
 pub fn notify_one<V: Keeps + Send, N: LotName<V> + Send, R: Wait>(
     rt: &R,
     parking: &ParkingLot<LotScheme<V, N>>,
@@ -92,6 +93,7 @@ pub fn notify_one<V: Keeps + Send, N: LotName<V> + Send, R: Wait>(
 /// Takes the first `count` threads of the condition's line, or all where they are fewer, in one visit of the bucket, and
 /// answers how many they were: `count` times `notify_one`, that nobody can come between. Where the flag is clear it is
 /// one load, and locks no bucket. The threads are woken after the bucket is unlocked. It takes no memory.
+#[inline(always)]
 pub fn notify_some<V: Keeps + Send, N: LotName<V> + Send, R: Wait>(
     rt: &R,
     parking: &ParkingLot<LotScheme<V, N>>,
@@ -115,6 +117,7 @@ pub fn notify_some<V: Keeps + Send, N: LotName<V> + Send, R: Wait>(
 
 /// Takes all threads of the condition's line, and answers how many: WTF's `Condition::notifyAll`. Where the flag is
 /// clear it is one load, and locks no bucket. The threads are woken after the bucket is unlocked. It takes no memory.
+#[inline(always)]
 pub fn notify_all<V: Keeps + Send, N: LotName<V> + Send, R: Wait>(
     rt: &R,
     parking: &ParkingLot<LotScheme<V, N>>,

@@ -13,6 +13,8 @@ use std::sync::Wait;
 const TAKEN: Token = Token(0);
 
 /// Takes the first thread of the condition's line, and answers whether one was there.
+#[cold]
+#[inline(never)]
 pub(crate) fn call_one<S: CondSteps, R: Wait>(
     rt: &R,
     parking: &ParkingLot<S>,
@@ -57,6 +59,8 @@ fn count_of(taken: Option<usize>) -> usize
 
 /// Takes the first `count` threads of the condition's line, or all where they are fewer, and answers how many they
 /// were.
+#[cold]
+#[inline(never)]
 pub(crate) fn call_some<S: CondSteps, R: Wait>(
     rt: &R,
     parking: &ParkingLot<S>,
@@ -101,6 +105,8 @@ impl BeforeSweep for AtOnce {
 }
 
 /// Takes all threads of the condition's line, whose flag the pass has lowered, and answers how many they were.
+#[cold]
+#[inline(never)]
 pub(crate) fn sweep_line<S: CondSteps, R: Wait>(
     rt: &R,
     parking: &ParkingLot<S>,

@@ -10,7 +10,7 @@ use crate::kinds::locks::{get, release};
 use crate::kinds::tables::{Nothing, Pass};
 use crate::park::askings::await_line;
 use lot_locks::{Locks, Released};
-use lot_park::{AtOnce, Grown, Seeking, get_or_park};
+use lot_park::{AtOnce, Grown, Look, get_or_park};
 use lot_scheme::LotName;
 use std::process::Abort;
 use std::sync::Wait;
@@ -25,7 +25,7 @@ fn own<N: LotName<Nothing> + Send, R: Wait>(rt: &R, lot: &GatedLot<N>, pass: Pas
     requires pass { (t : ℕ) × IsCalm t pass }
     ensures { (t : ℕ) → IsCalm t pass → HasIt t 0 result }
 {
-    get_or_park::<Gated<Nothing, N>, Locks, R, AtOnce>(rt, lot, pass, 0, Seeking::Waits, &AtOnce)
+    get_or_park::<Gated<Nothing, N>, Locks, R, AtOnce>(rt, lot, pass, 0, Look::Taken, &AtOnce)
 }
 
 // The word of the lock is this, and so many are in its line.

@@ -6,8 +6,8 @@ use Rattle.base_trials.proofs.kinds.handoffs.own.Goals as goal
 pub get_or_park-requires-clause-laws : goal.get_or_park-requires-clause-laws
 get_or_park-requires-clause-laws g c κs within = laws _ g.N.LotName.locks
 
-pub get_or_park-requires-clause-first : goal.get_or_park-requires-clause-first
-get_or_park-requires-clause-first g c κs within =
+pub get_or_park-requires-clause-waits : goal.get_or_park-requires-clause-waits
+get_or_park-requires-clause-waits g c κs within =
     let two = c.requires.small.0 in
     begins g.N.LotName.locks c.args.pass 0 (omega (arith, two)) (may_take c.requires.pass.0 0 c.args.pass (inl c.requires.pass.1))
 
