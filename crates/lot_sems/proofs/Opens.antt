@@ -17,7 +17,7 @@ use Rattle.lot_core.proofs.Members.{in_none}
 
 -- ---- words in which permits are written
 module _ (ws : List ℕ) (low : ℕ) (permits : List ℕ) where
-  pub as_wide : (i : ℕ) → length (with_permits ws low permits i) ≡ length ws
+  as_wide : (i : ℕ) → length (with_permits ws low permits i) ≡ length ws
   as_wide zero = refl
   as_wide (suc i) = length-set (with_permits ws low permits i) (word_at (low + i)) (2 * get_or permits i 0) ∙ as_wide i
 
@@ -54,9 +54,12 @@ module _ (size : Numbers) where
   wide : length zeros ≡ count
   wide = length-replicate {A = ℕ} count 0
 
+  pub opening_long : length (opening_words size) ≡ count
+  opening_long = as_wide zeros low permits (length permits) ∙ wide
+
   fresh_words : SemWordsFit size fresh_world (opening_words size)
   fresh_words = record {
-    wide = as_wide zeros low permits (length permits) ∙ wide;
+    wide = opening_long;
     words = λ k is.
         let at : low + (k - low) ≡ k = omega (arith, is.0) in
         let left : permits_of size k ≡ get_or permits (k - low) 0 = row_from_at 0 low permits k is.0 in

@@ -1,5 +1,5 @@
 //! Opening: the table, a pass for each thread and a root for each semaphore.
-ghost use Rattle.std.specs.Prelude.{◌≡◌, ℕ, ◌+◌, ◌<◌, ◌≤◌, [], Some, slice_get, slice_index, vec_len, IfOk};
+ghost use Rattle.std.specs.Prelude.{◌≡◌, ℕ, ◌+◌, ◌^◌, ◌<◌, ◌≤◌, [], Some, slice_get, slice_index, vec_len, IfOk};
 ghost use Rattle.lot_core.specs.declared.state.TheConstants.{MAX_THREADS, MAX_KEYS};
 ghost use Rattle.lot_rights.specs.Layout.{word_at};
 ghost use Rattle.lot_rights.specs.Start.{pass_at, root_at, Begins};
@@ -10,14 +10,31 @@ use crate::kind::{SemPass, SemRoot};
 use crate::start::Start;
 use crate::words::{PERMIT, SemWords};
 use lot_rights::{WordsFault, WordsOf, word_of_key, words_for};
-use std::alloc::Global;
+use std::alloc::{AllocError, Global};
 
-/// Writes each semaphore's permits into its word: what a table of semaphore words begins with, where all other words are 0.
-pub fn fill(words: &mut Vec<u64>, low: usize, permits: &Vec<u32>)
+/// The words that a table begins with: twice its permits in each semaphore's word, and 0 in all others. The keys of the
+/// semaphores begin at `low`, and other kinds may have those before.
+pub fn words_at_opening(
+    alloc: Global,
+    threads: usize,
+    low: usize,
+    permits: &Vec<u32>,
+) -> Result<Vec<u64>, AllocError>
+    requires limits { (threads ≤ MAX_THREADS) × (low + vec_len permits.now ≤ MAX_KEYS) }
+    ensures words { IfOk result (λ words. words.items ≡ opening_words
+        (record { threads = threads; low = low; permits = permits.now.items })) }
+    ensures small { (i : ℕ) → i < vec_len permits.now → slice_index permits.now.items i < 2 ^ 32 }
+{
+    let mut words = vec![in alloc; 0; words_for(threads, low + permits.len())]?;
+    fill(&mut words, low, permits);
+    Ok(words)
+}
+
+/// Writes each semaphore's permits into its word.
+fn fill(words: &mut Vec<u64>, low: usize, permits: &Vec<u32>)
     requires room { low + vec_len permits.now ≤ MAX_KEYS }
     requires words { (k : ℕ) → k < low + vec_len permits.now → word_at k < vec_len words.old }
-    ensures words { words.new.items ≡ with_permits words.old.items low permits.now.items (vec_len permits.now) }
-    ensures small { (i : ℕ) → i < vec_len permits.now → slice_index permits.now.items i < 4294967296 }
+    ensures { words.new.items ≡ with_permits words.old.items low permits.now.items (vec_len permits.now) }
 {
     for i in 0..permits.len() {
         words[word_of_key(low + i)] = PERMIT * permits[i] as u64;
@@ -40,11 +57,9 @@ impl SemWords {
         ensures rule { IfOk result (λ r. Begins (scheme r.0.size) (opening_words r.0.size) []) }
     {
         let keys = permits.len();
-        let mut words = match vec![in alloc; 0; words_for(threads, low + keys)] {
-            Ok(words) => words,
-            Err(_) => return Err(WordsFault::NoMemory),
+        let Ok(words) = words_at_opening(alloc, threads, low, &permits) else {
+            return Err(WordsFault::NoMemory);
         };
-        fill(&mut words, low, &permits);
         let start = Start::new(threads, low, &permits);
         match WordsOf::open_with(
             alloc,

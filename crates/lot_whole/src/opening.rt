@@ -10,8 +10,8 @@ ghost use Rattle.lot_whole.specs.Shown.{lot_of};
 use crate::kind::{LotPass, LotRoot};
 use crate::start::Start;
 use crate::words::LotWords;
-use lot_rights::{WordsFault, WordsOf, words_for};
-use lot_sems::opening::fill;
+use lot_rights::{WordsFault, WordsOf};
+use lot_sems::opening::words_at_opening;
 use lot_words::Keeps;
 use lot_words::exclusive::Exclusive;
 use lot_words::shelf::{shelve, unshelve};
@@ -47,15 +47,12 @@ impl<V: Keeps> LotWords<V> {
         let locks = values.len();
         let low = locks + conds;
         let keys = low + permits.len();
-        let mut words = match vec![in alloc; 0; words_for(threads, keys)] {
-            Ok(words) => words,
-            Err(_) => return Err((WordsFault::NoMemory, values)),
+        let Ok(words) = words_at_opening(alloc, threads, low, &permits) else {
+            return Err((WordsFault::NoMemory, values));
         };
-        let mut slots = match Vec::with_capacity(alloc, locks) {
-            Ok(slots) => slots,
-            Err(_) => return Err((WordsFault::NoMemory, values)),
+        let Ok(mut slots) = Vec::with_capacity(alloc, locks) else {
+            return Err((WordsFault::NoMemory, values));
         };
-        fill(&mut words, low, &permits);
         let start = Start::new(threads, &values, conds, &permits);
         shelve(&mut values, &mut slots);
         match WordsOf::open_with(alloc, &start, words.as_slice(), slots, threads, 0, keys) {

@@ -15,7 +15,7 @@ loop-i-preserved c =
       len = c.loop-i.invariant.len;
     }
 
-pub returns-clause-words : goal.returns-clause-words
-returns-clause-words c =
+pub returns : goal.returns
+returns c =
     let done : c.loop-i.i ≡ vec_len c.args.permits.now = search (arith, rules) in
     c.loop-i.invariant.written ∙ ap (with_permits c.args.words.now.items c.args.low c.args.permits.now.items) done

@@ -3,33 +3,26 @@ use Rattle.std.specs.Vec.{vec_len}
 use Rattle.lot_rights.specs.Layout.{word_count}
 use Rattle.lot_rights.specs.Start.{OpensWell, Begins, pass_at, root_at}
 use Rattle.lot_sems.specs.World.{Numbers, numbers}
-use Rattle.lot_sems.specs.Opening.{opening_words, with_permits}
+use Rattle.lot_sems.specs.Opening.{opening_words}
 use Rattle.lot_sems.specs.Rule.{scheme}
-use Rattle.lot_sems.proofs.Opens.{opens_well, as_wide}
+use Rattle.lot_sems.proofs.Opens.{opens_well, opening_long}
 use Rattle.lot_sems.proofs.words.SemWords.open.Goals as goal
 
 pub open_with-requires-clause-wide : goal.open_with-requires-clause-wide
 open_with-requires-clause-wide c =
-    let count = length c.args.permits.items in
-    let len : c.args.permits.len ≡ count = c.args.permits.ok.0 in
-    let wide = as_wide c.in-Ok.words.items c.args.low c.args.permits.items c.args.permits.len in
-    ap (λ xs. length {A = ℕ} xs) c.as_slice.ensures.value ∙ (ap (λ xs. length {A = ℕ} xs) c.fill.ensures.words ∙ (wide ∙ (sym c.in-Ok.words.ok.0 ∙ (c.in-Ok.ensures.len ∙ c.words_for.ensures))))
+    let permits = c.args.permits.items in
+    let size : Numbers = record { threads = c.args.threads; low = c.args.low; permits = permits } in
+    let keys : c.len-keys.result ≡ length permits = c.len-keys.ensures ∙ c.args.permits.ok.0 in
+    ap (λ ws. length {A = ℕ} ws) (c.as_slice.ensures.value ∙ c.in-Ok.ensures.words) ∙ (opening_long size ∙ ap (λ n. word_count c.args.threads (c.args.low + n)) (sym keys))
 
 pub open_with-requires-clause-opens : goal.open_with-requires-clause-opens
 open_with-requires-clause-opens c =
-    let threads = c.args.threads in
-    let low = c.args.low in
     let permits = c.args.permits.items in
-    let size : Numbers = record { threads = threads; low = low; permits = permits } in
-    let len : c.args.permits.len ≡ length permits = c.args.permits.ok.0 in
-    let keys : c.len-keys.result ≡ length permits = c.len-keys.ensures ∙ len in
-    let zeros : c.in-Ok.words.items ≡ replicate (word_count threads (low + length permits)) 0 =
-    c.in-Ok.ensures.items_if_clones_equal (λ y h. h) ∙ ap (λ n. replicate n 0) (c.words_for.ensures ∙ ap (λ m. word_count threads (low + m)) keys) in
-    let words : c.fill.new.words.items ≡ opening_words size = c.fill.ensures.words ∙ (λ i. with_permits (zeros i) low permits (len i)) in
+    let size : Numbers = record { threads = c.args.threads; low = c.args.low; permits = permits } in
     let start : numbers c.new-start.result ≡ size = (λ i. record { threads = c.new-start.ensures.size.0 i; low = c.new-start.ensures.size.1 i; permits = (c.new-start.ensures.permits i).items }) in
-    let well = opens_well size (λ i h. c.fill.ensures.small i (omega arith)) in
+    let well = opens_well size (λ i h. c.in-Ok.ensures.small i (omega (arith, h, c.args.permits.ok.0))) in
     subst (OpensWell (scheme (numbers c.new-start.result)) c.as_slice.result.now) (sym c.new.ensures.items)
-    (subst (λ ws. OpensWell (scheme (numbers c.new-start.result)) ws []) (sym (c.as_slice.ensures.value ∙ words)) (subst (λ z. OpensWell (scheme z) (opening_words size) []) (sym start) well))
+    (subst (λ ws. OpensWell (scheme (numbers c.new-start.result)) ws []) (sym (c.as_slice.ensures.value ∙ c.in-Ok.ensures.words)) (subst (λ z. OpensWell (scheme z) (opening_words size) []) (sym start) well))
 
 pub returns-in-Ok-open_with-clause-size : goal.returns-in-Ok-open_with-clause-size
 returns-in-Ok-open_with-clause-size c =
@@ -52,16 +45,9 @@ returns-in-Ok-open_with-clause-roots c =
 
 pub returns-in-Ok-open_with-clause-rule : goal.returns-in-Ok-open_with-clause-rule
 returns-in-Ok-open_with-clause-rule c =
-    let threads = c.args.threads in
-    let low = c.args.low in
-    let permits = c.args.permits.items in
-    let size : Numbers = record { threads = threads; low = low; permits = permits } in
+    let size : Numbers = record { threads = c.args.threads; low = c.args.low; permits = c.args.permits.items } in
     let now : Numbers = numbers c.in-Ok-open_with.words.key in
-    let len : c.args.permits.len ≡ length permits = c.args.permits.ok.0 in
-    let zeros : c.in-Ok.words.items ≡ replicate (word_count threads (low + length permits)) 0 =
-    c.in-Ok.ensures.items_if_clones_equal (λ y h. h) ∙ ap (λ n. replicate n 0) (c.words_for.ensures ∙ ap (λ m. word_count threads (low + m)) (c.len-keys.ensures ∙ len)) in
-    let words : c.fill.new.words.items ≡ opening_words size = c.fill.ensures.words ∙ (λ i. with_permits (zeros i) low permits (len i)) in
     let same : now ≡ size = ap numbers c.in-Ok-open_with.ensures.table.2
     ∙ (λ i. record { threads = c.new-start.ensures.size.0 i; low = c.new-start.ensures.size.1 i; permits = (c.new-start.ensures.permits i).items }) in
-    subst (λ ws. Begins (scheme now) ws []) (c.as_slice.ensures.value ∙ (words ∙ sym (ap opening_words same)))
+    subst (λ ws. Begins (scheme now) ws []) (c.as_slice.ensures.value ∙ (c.in-Ok.ensures.words ∙ sym (ap opening_words same)))
     (subst (Begins (scheme now) c.as_slice.result.now) c.new.ensures.items c.in-Ok-open_with.ensures.rule)

@@ -3,8 +3,9 @@ use Rattle.std.proofs.Common.{arith, zero-add}
 use Rattle.std.specs.Vec.{vec_len}
 use Rattle.lot_rights.specs.Layout.{word_count}
 use Rattle.lot_rights.specs.Start.{OpensWell, Begins, root_at}
-use Rattle.lot_sems.specs.Opening.{with_permits, opening_words}
-use Rattle.lot_sems.proofs.Opens.{as_wide}
+use Rattle.lot_sems.specs.World.{Numbers}
+use Rattle.lot_sems.specs.Opening.{opening_words}
+use Rattle.lot_sems.proofs.Opens.{opening_long}
 use Rattle.lot_words.specs.Shelf.{AllSome}
 use Rattle.lot_words.proofs.Shelves.{all_some_filled, same_values_back}
 use Rattle.lot_whole.specs.Family.{sem_size, key_count}
@@ -14,11 +15,11 @@ use Rattle.lot_whole.proofs.words.LotWords.open.Goals as goal
 
 pub open_with-requires-clause-wide : goal.open_with-requires-clause-wide
 open_with-requires-clause-wide g c =
-    let keys = c.len-locks.result + c.args.conds + c.len.result in
-    let wide = as_wide c.in-Ok.words.items (c.len-locks.result + c.args.conds) c.args.permits.items c.args.permits.len in
-    ap (λ xs. length {A = ℕ} xs) c.as_slice.ensures.value ∙ (ap (λ xs. length {A = ℕ} xs) c.fill.ensures.words
-    ∙ (wide ∙ (sym c.in-Ok.words.ok.0
-    ∙ (c.in-Ok.ensures.len ∙ (c.words_for.ensures ∙ ap (word_count c.args.threads) (sym (zero-add keys)))))))
+    let low = c.len-locks.result + c.args.conds in
+    let size : Numbers = record { threads = c.args.threads; low = low; permits = c.args.permits.items } in
+    let keys : c.len.result ≡ length c.args.permits.items = c.len.ensures ∙ c.args.permits.ok.0 in
+    ap (λ ws. length {A = ℕ} ws) (c.as_slice.ensures.value ∙ c.in-Ok.ensures.words)
+    ∙ (opening_long size ∙ ap (λ n. word_count c.args.threads n) (ap (λ n. low + n) (sym keys) ∙ sym (zero-add (low + c.len.result))))
 
 pub open_with-requires-clause-opens : goal.open_with-requires-clause-opens
 open_with-requires-clause-opens g c =
@@ -33,15 +34,12 @@ open_with-requires-clause-opens g c =
     let locks : c.len-locks.result ≡ z.locks = c.len-locks.ensures ∙ sym counts.1 in
     let conds : c.args.conds ≡ z.conds = sym counts.2 in
     let keys : c.len-locks.result + c.args.conds + c.len.result ≡ key_count z = (λ i. locks i + conds i + (c.len.ensures ∙ len) i) in
-    let zeros : c.in-Ok.words.items ≡ replicate (word_count z.threads (key_count z)) 0 =
-    c.in-Ok.ensures.items_if_clones_equal (λ y h. h)
-    ∙ ap (λ n. replicate n 0) (c.words_for.ensures ∙ (λ i. word_count (threads i) (keys i))) in
-    let words : c.as_slice.result.now ≡ opening_words (sem_size z) =
-    c.as_slice.ensures.value ∙ (c.fill.ensures.words ∙ (λ i. with_permits (zeros i) (locks i + conds i) (permits i) (len i))) in
+    let words : c.as_slice.result.now ≡ opening_words (sem_size z) = c.as_slice.ensures.value
+    ∙ (c.in-Ok.ensures.words ∙ (λ i. opening_words (record { threads = threads i; low = locks i + conds i; permits = permits i }))) in
     let keep = subst (λ vs. (k : ℕ) (y : g.row.V.Denot) → slice_get vs k ≡ Some y → g.V.Keeps.keeps k y) (sym values) c.requires.keep in
     let long : z.locks ≡ length xs = counts.1 ∙ (c.args.values.ok.0 ∙ ap (λ vs. length {A = g.row.V.Denot} vs) (sym values)) in
     let small = subst (λ ps. (i : ℕ) → i < length ps → slice_index_or ps i 0 < 4294967296) permits
-    (λ i h. c.fill.ensures.small i (omega (arith, h, c.args.permits.ok.0))) in
+    (λ i h. c.in-Ok.ensures.small i (omega (arith, h, c.args.permits.ok.0))) in
     let well = opens_well g.V.Keeps z xs (omega (arith, counts.0, c.requires.limits))
     (omega (arith, counts.1, c.requires.limits)) long keep small in
     subst (λ ws. OpensWell (scheme g.V.Keeps start) ws c.shelve.new.slots.items) (sym words)
@@ -73,11 +71,8 @@ returns-in-Ok-open_with-clause-rule g c =
     let locks : c.len-locks.result ≡ z.locks = c.len-locks.ensures ∙ sym (ap (λ s. s.locks) is ∙ counts.1) in
     let conds : c.args.conds ≡ z.conds = sym (ap (λ s. s.conds) is ∙ counts.2) in
     let keys : c.len-locks.result + c.args.conds + c.len.result ≡ key_count z = (λ i. locks i + conds i + (c.len.ensures ∙ len) i) in
-    let zeros : c.in-Ok.words.items ≡ replicate (word_count z.threads (key_count z)) 0 =
-    c.in-Ok.ensures.items_if_clones_equal (λ y h. h)
-    ∙ ap (λ n. replicate n 0) (c.words_for.ensures ∙ (λ i. word_count (threads i) (keys i))) in
-    let words : c.as_slice.result.now ≡ opening_words (sem_size z) =
-    c.as_slice.ensures.value ∙ (c.fill.ensures.words ∙ (λ i. with_permits (zeros i) (locks i + conds i) (permits i) (len i))) in
+    let words : c.as_slice.result.now ≡ opening_words (sem_size z) = c.as_slice.ensures.value
+    ∙ (c.in-Ok.ensures.words ∙ (λ i. opening_words (record { threads = threads i; low = locks i + conds i; permits = permits i }))) in
     let slots : c.shelve.new.slots.items ≡ map (λ (x : g.row.V.Denot). Some x) key.values.value.items = c.shelve.ensures.slots
     ∙ ap (map (λ (x : g.row.V.Denot). Some x)) values in
     subst (λ ys. Begins (scheme g.V.Keeps key) (opening_words (sem_size z)) ys) slots
@@ -85,9 +80,9 @@ returns-in-Ok-open_with-clause-rule g c =
 
 pub unshelve-requires-clause-full : goal.unshelve-requires-clause-full
 unshelve-requires-clause-full g c =
-    subst AllSome (sym (c.in-Err-open_with.ensures.back ∙ c.shelve.ensures.slots)) (all_some_filled c.args.values.items)
+    subst AllSome (sym (c.in-Err.ensures.back ∙ c.shelve.ensures.slots)) (all_some_filled c.args.values.items)
 
 pub returns-clause-back : goal.returns-clause-back
 returns-clause-back g c =
     same_values_back c.unshelve.result.items c.args.values.items
-    (c.unshelve.ensures ∙ (c.in-Err-open_with.ensures.back ∙ c.shelve.ensures.slots))
+    (c.unshelve.ensures ∙ (c.in-Err.ensures.back ∙ c.shelve.ensures.slots))
