@@ -1,0 +1,239 @@
+// The waiting of the lot's lock in C++, for trying other numbers of yields and looks: the same word, queue, wake tokens and fair releases, over one
+// lock or many, without proofs. The environment sets how a thread waits that has missed its exchange:
+//
+//   YIELDS=a1   how often it yields before each look, a digit for each, the last one for all that follow (a is 10, b is 11, ..)
+//   FEW=01      the same where at most two threads are there
+//   PARKED=0    0: where it sees that somebody is parked, it lines up at once; 1: it yields first, as where the lock is taken
+//   QUEUED=8    how often it yields when it is queued, before it sleeps
+//
+// It takes the commands of the peers: YIELDS=c1 waiting count 4 1 100000. What came of it stands in docs/log/bench.md.
+#include <algorithm>
+#include <cstdlib>
+#include <cstring>
+#include <linux/futex.h>
+#include <sys/syscall.h>
+#include <unistd.h>
+#include <utility>
+#include "peers/work.h"
+
+namespace {
+
+constexpr int MOST_SPINS = 40;
+constexpr uint64_t HELD = 1, PARKED = 2, BOTH = 3;
+
+struct Ways {
+    int few[32], many[32], last_few = 0, last_many = 0, queued = 8;
+    bool yields_where_parked = false;
+    size_t threads = 0;
+
+    static void read(const char* name, const char* usual, int* ways, int& last) {
+        const char* text = getenv(name) ? getenv(name) : usual;
+        for (last = -1; *text && last < 31; text++)
+            ways[++last] = *text <= '9' ? *text - '0' : *text - 'a' + 10;
+    }
+    int before_look(int look) const { return threads <= 2 ? few[std::min(look, last_few)] : many[std::min(look, last_many)]; }
+} ways;
+
+void sleep_on(std::atomic<uint64_t>& word, uint32_t value) { syscall(SYS_futex, &word, FUTEX_WAIT_PRIVATE, value, nullptr, nullptr, 0); }
+void wake_one(std::atomic<uint64_t>& word) { syscall(SYS_futex, &word, FUTEX_WAKE_PRIVATE, 1, nullptr, nullptr, 0); }
+
+struct Mutex {
+    std::atomic<uint64_t> word { 0 };
+    void lock() {
+        uint64_t free = 0;
+        if (word.compare_exchange_strong(free, 1))
+            return;
+        while (word.exchange(2) != 0)
+            sleep_on(word, 2);
+    }
+    void unlock() {
+        if (word.exchange(0) == 2)
+            wake_one(word);
+    }
+};
+
+// Where a thread sleeps: 0 idle, 1 woken, 2 asleep; and its wake token and 1.
+struct alignas(64) Record {
+    std::atomic<uint64_t> state { 0 }, letter { 0 };
+    Record* next = nullptr;
+    const void* key = nullptr;
+
+    bool has_been_woken() { return state.load() != 0 && state.exchange(0) == 1; }
+    void sleep_once() {
+        for (int i = 0; i < ways.queued; i++) {
+            if (has_been_woken())
+                return;
+            sched_yield();
+        }
+        while (!has_been_woken()) {
+            uint64_t idle = 0;
+            if (state.compare_exchange_strong(idle, 2))
+                sleep_on(state, 2);
+        }
+    }
+    uint64_t await_letter() {
+        for (;;) {
+            if (uint64_t found = letter.exchange(0))
+                return found;
+            sleep_once();
+        }
+    }
+    void wake() {
+        if (state.exchange(1) == 2)
+            wake_one(state);
+    }
+};
+Record& mine() {
+    static Record records[256];
+    static std::atomic<size_t> taken { 0 };
+    static thread_local Record* own = nullptr;
+    if (!own)
+        own = &records[taken.fetch_add(1)];
+    return *own;
+}
+uint64_t random_word() {
+    static thread_local bench::Random random(reinterpret_cast<uintptr_t>(&mine()));
+    return random.next();
+}
+
+struct alignas(64) Bucket {
+    Mutex lock;
+    Record *first = nullptr, *last = nullptr;
+    uint64_t next_fair = 0;
+
+    void enqueue(Record& record, const void* key) {
+        record.next = nullptr;
+        record.key = key;
+        (last ? last->next : first) = &record;
+        last = &record;
+    }
+    Record* dequeue(const void* key) {
+        Record *before = nullptr, *found = first;
+        while (found && found->key != key)
+            before = std::exchange(found, found->next);
+        if (!found)
+            return nullptr;
+        (before ? before->next : first) = found->next;
+        if (last == found)
+            last = before;
+        return found;
+    }
+};
+Bucket& bucket_of(const void* key) {
+    static Bucket buckets[1021];
+    return buckets[reinterpret_cast<uintptr_t>(key) / 128 % 1021];
+}
+
+struct alignas(128) Lock {
+    std::atomic<uint64_t> word { 0 };
+
+    void lock() {
+        uint64_t free = 0;
+        if (!word.compare_exchange_strong(free, HELD))
+            get_slowly();
+    }
+    void unlock() {
+        uint64_t held = HELD;
+        if (!word.compare_exchange_strong(held, 0))
+            unpark();
+    }
+    bool take() { return !(word.fetch_or(HELD) & HELD); }
+
+    __attribute__((noinline, cold)) void get_slowly() {
+        int made = 0, looks = 0;
+        // A first look tells whether somebody is parked; where the lock is free again, it is left to its owner.
+        uint64_t seen = word.load() == BOTH ? BOTH : HELD;
+        for (;;) {
+            if (!(seen & HELD)) {
+                if (take())
+                    return;
+            } else if (made < MOST_SPINS && (seen == HELD || (ways.yields_where_parked && looks == 0))) {
+                int end = std::min(MOST_SPINS, made + ways.before_look(looks++));
+                for (; made < end; made++)
+                    sched_yield();
+            } else if (line_up(seen == BOTH)) {
+                return;
+            }
+            seen = word.load();
+        }
+    }
+    bool line_up(bool marked) {
+        if (take())
+            return true;
+        uint64_t held = HELD;
+        if (!marked && !word.compare_exchange_strong(held, BOTH))
+            return false;
+        Record& record = mine();
+        Bucket& bucket = bucket_of(this);
+        bucket.lock.lock();
+        bool queued = word.load() == BOTH;
+        if (queued)
+            bucket.enqueue(record, this);
+        bucket.lock.unlock();
+        return queued && record.await_letter() == 2;
+    }
+    __attribute__((noinline, cold)) void unpark() {
+        Bucket& bucket = bucket_of(this);
+        uint64_t now = bench::now();
+        bucket.lock.lock();
+        Record* sleeper = bucket.dequeue(this);
+        bool fair = sleeper && now > bucket.next_fair;
+        if (fair)
+            bucket.next_fair = now + random_word() % 1000000;
+        else
+            word.store(sleeper && bucket.first ? PARKED : 0);
+        if (sleeper)
+            sleeper->letter.store(fair ? 2 : 1);
+        bucket.lock.unlock();
+        if (sleeper)
+            sleeper->wake();
+    }
+};
+
+struct alignas(128) Condition {
+    std::atomic<uint64_t> flag { 0 };
+
+    void wait(Lock& lock) {
+        Record& record = mine();
+        Bucket& bucket = bucket_of(this);
+        bucket.lock.lock();
+        flag.store(1);
+        bucket.enqueue(record, this);
+        bucket.lock.unlock();
+        lock.unlock();
+        record.await_letter();
+        lock.lock();
+    }
+    void notify_one() {
+        if (!flag.load())
+            return;
+        Bucket& bucket = bucket_of(this);
+        bucket.lock.lock();
+        Record* sleeper = bucket.dequeue(this);
+        if (!sleeper || !bucket.first)
+            flag.store(0);
+        if (sleeper)
+            sleeper->letter.store(1);
+        bucket.lock.unlock();
+        if (sleeper)
+            sleeper->wake();
+    }
+};
+
+struct Peer {
+    static constexpr const char* name = "waiting";
+    using Lock = ::Lock;
+    using Condition = ::Condition;
+};
+
+} // namespace
+
+int main(int argc, char** argv) {
+    Ways::read("YIELDS", "a1", ways.many, ways.last_many);
+    Ways::read("FEW", "01", ways.few, ways.last_few);
+    ways.queued = getenv("QUEUED") ? atoi(getenv("QUEUED")) : 8;
+    ways.yields_where_parked = getenv("PARKED") && !strcmp(getenv("PARKED"), "1");
+    for (int i = 2; i < argc && i < (argc > 1 && !strcmp(argv[1], "relay") ? 4 : 3); i++)
+        ways.threads += strtoull(argv[i], nullptr, 10);
+    return bench::main<Peer>(argc, argv);
+}
