@@ -11,7 +11,8 @@ const MOST_SPINS: u32 = 40;
 /// so where many threads are registered an early one makes the rounds of all others longer.
 const BEFORE_FIRST_LOOK: u32 = 10;
 
-/// Where no more threads than these are registered, its first look comes at once: it waits for one other alone.
+/// Where no more threads than these are registered, it looks after each yield, as WTF's `Lock`: it waits for one other
+/// alone.
 const FEW_THREADS: usize = 2;
 
 /// How often one call has yielded so far, at most 40 times, and how often it yields before its next look: once, but for
@@ -28,11 +29,11 @@ impl Spins {
     /// It has not yielded, and so many threads are registered.
     pub(crate) fn among(threads: usize) -> Spins
         ensures none { result.made ≡ 0 }
-        ensures few { threads ≤ FEW_THREADS → result.before_look ≡ 0 }
+        ensures few { threads ≤ FEW_THREADS → result.before_look ≡ 1 }
         ensures many { FEW_THREADS < threads → result.before_look ≡ BEFORE_FIRST_LOOK }
     {
         let before_look = if threads <= FEW_THREADS {
-            0
+            1
         } else {
             BEFORE_FIRST_LOOK
         };

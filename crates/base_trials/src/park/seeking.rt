@@ -71,13 +71,12 @@ fn looks<R: Wait + Abort>(rt: &R, alloc: Global, registered: usize, first: Look)
     looks
 }
 
-// It yields 40 times in all, and looks after each yield. Where two threads are registered at most, or the lot was told of
-// none, it looks once before them; where more are, its first look comes after ten. Where it has seen that somebody is
-// parked, it lines up at once.
+// It yields 40 times in all, and looks after each yield. Where more than two threads are registered, its first look comes
+// after ten. Where it has seen that somebody is parked, it lines up at once.
 #[test]
 fn a_thread_looks_before_it_lines_up(rt: HostRuntime) {
-    equal(&rt, looks(&rt, rt.alloc(), 0, Look::Taken), 41);
-    equal(&rt, looks(&rt, rt.alloc(), 2, Look::Taken), 41);
+    equal(&rt, looks(&rt, rt.alloc(), 0, Look::Taken), 40);
+    equal(&rt, looks(&rt, rt.alloc(), 2, Look::Taken), 40);
     equal(&rt, looks(&rt, rt.alloc(), 3, Look::Taken), 31);
     equal(&rt, looks(&rt, rt.alloc(), 2, Look::Parked), 0);
     equal(&rt, looks(&rt, rt.alloc(), 3, Look::Parked), 0);
