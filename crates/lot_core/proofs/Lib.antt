@@ -18,6 +18,6 @@ pub mod Runs
 pub mod Opening
 pub mod Soundness
 pub mod Openings
-pub mod Scripts
 pub mod ReadBack
+pub mod Scripts
 pub mod Texts

@@ -3,7 +3,7 @@ use Rattle.std.proofs.Common.{◌≡◌, ◌<◌, ◌++◌, ℕ, List, [], ◌�
 use Rattle.std.proofs.Common.{append_assoc}
 use Rattle.std.specs.Prelude.{codes, flat_map}
 use Rattle.std.specs.List.{AllByRecursion}
-use Rattle.lot_core.specs.Script.{field, line, IsSmall, Opening, NoOpening, ReachesPermits}
+use Rattle.lot_core.specs.Script.{field, line, IsSmall, Opening, NoOpening}
 use Rattle.lot_core.specs.Reading.{rest_behind, field_at, end_at, open_at, ReadsNumbers}
 use Rattle.lot_events.proofs.Figures.{bind_is, bind_some, some_is, Ends, field_takes, field_again, end_takes, end_again}
 use Rattle.lot_events.proofs.Spelled.{rest_behind_takes, regroup, its_line, fields_end}
@@ -124,26 +124,20 @@ pub first_number : (text numbers rest : List ℕ) (n : ℕ) (behind : List ℕ) 
 first_number text [] rest n behind same is = (n, behind, ap field_at same ∙ is)
 first_number text (m ∷ numbers) rest n behind (after, reads, others) is = (m, after, reads)
 
--- four parts, and what stands behind
-four_parts : (a b c d rest : List ℕ) → a ++ (b ++ (c ++ (d ++ rest))) ≡ (a ++ (b ++ (c ++ (d ++ [])))) ++ rest
-four_parts a b c d rest = simp (append_assoc)
-
--- a number stands where a first semaphore's permits are expected
-pub reaches_permits : (text : List ℕ) (n l c : ℕ) (behind : List ℕ) (p : ℕ) (rest : List ℕ) → open_at text ≡ Some (n, l, c, behind) →
-    field_at behind ≡ Some (p, rest) → ReachesPermits text
-reaches_permits text n l c behind p rest opens reads =
-    let first = open_takes text n l c behind opens in
-    let permits = field_takes behind p rest reads in
-    record {
-      threads = n;
-      locks = l;
-      conds = c;
-      permits = p;
-      rest = rest;
-      small = (first.0.0, (first.0.1.0, (first.0.1.1.0, (permits.0, tt))));
-      parts = first.1 ∙ ap (λ r. codes "open" ++ (field n ++ (field l ++ (field c ++ r)))) permits.1
-          ∙ ap (λ r. codes "open" ++ r) (four_parts (field n) (field l) (field c) (field p) rest);
-    }
+-- what is read until no number follows is one list
+pub same_numbers : (text numbers rest numbers' rest' : List ℕ) → ReadsNumbers text numbers rest → field_at rest ≡ None →
+    ReadsNumbers text numbers' rest' → field_at rest' ≡ None → numbers ≡ numbers'
+same_numbers text [] rest [] rest' is none is' none' = refl
+same_numbers text [] rest (m ∷ numbers') rest' is none (behind, reads, others) none' =
+    let some = sym none ∙ ap field_at (sym is) ∙ reads in absurd (cc)
+same_numbers text (n ∷ numbers) rest [] rest' (behind, reads, others) none is' none' =
+    let some = sym none' ∙ ap field_at (sym is') ∙ reads in absurd (cc)
+same_numbers text (n ∷ numbers) rest (m ∷ numbers') rest' (behind, reads, others) none (behind', reads', others') none' =
+    let both = some_is (n, behind) (m, behind') (sym reads ∙ reads') in
+    ap (λ k. k ∷ numbers) (ap (λ (y : ℕ × List ℕ). y.0) both)
+    ∙ ap (λ ns. m ∷ ns)
+    (same_numbers behind numbers rest numbers' rest' others none
+    (subst (λ t. ReadsNumbers t numbers' rest') (sym (ap (λ (y : ℕ × List ℕ). y.1) both)) others') none')
 
 -- where something else than the end of the line stands behind the numbers
 pub no_end : (text : List ℕ) (n l c : ℕ) (behind numbers rest : List ℕ) → open_at text ≡ Some (n, l, c, behind)

@@ -1,6 +1,5 @@
 -- What a script is, and which texts spell it.
-use Rattle.std.specs.Prelude.{◌≡◌, ◌≢◌, ℕ, ◌+◌, ◌<◌, ◌⊎◌, List, [], ◌∷◌, ◌++◌, length, codes, flat_map, Result, Ok, Err}
-use Rattle.std.specs.List.{AllByRecursion}
+use Rattle.std.specs.Prelude.{◌≡◌, ◌≢◌, ℕ, ◌+◌, ◌<◌, ◌⊎◌, List, [], ◌∷◌, ◌++◌, length, codes, Result, Ok, Err}
 use Rattle.lot_events.specs.declared.events.Event.{Event}
 use Rattle.lot_core.specs.declared.script.TheConstants.{MAX_LINES}
 use Rattle.lot_core.specs.declared.script.Script.{Script}
@@ -51,25 +50,19 @@ IsFirstBad text number =
     ((number ≡ 1) × NoOpening text)
     ⊎ ((rest : List ℕ) × GoodUntil text number rest × (rest ≢ []) × (NoEvent rest ⊎ (number ≡ MAX_LINES + 1)))
 
--- the text begins as a first line does, and has come to the permits of a first semaphore
-pub record ReachesPermits (text : List ℕ) : Type 0 where
+-- the text spells a script, and memory is wanted to keep it: of a semaphore the permits, or an event
+pub record WantsMemory (text : List ℕ) : Type 0 where
   pub threads : ℕ
   pub locks : ℕ
   pub conds : ℕ
-  pub permits : ℕ
-  pub rest : List ℕ
-  pub small : AllByRecursion IsSmall (threads ∷ locks ∷ conds ∷ permits ∷ [])
-  pub parts : text ≡ codes "open" ++ (flat_map field (threads ∷ locks ∷ conds ∷ permits ∷ []) ++ rest)
-
--- memory may be wanted for the permits of a first line, or for an event: that of the line before `number`,
--- where all lines up to there are good
-abbrev pub MayWantMemory : List ℕ → Type 0
-MayWantMemory text =
-    ReachesPermits text ⊎ ((number : ℕ) × (rest : List ℕ) × GoodUntil text number rest × (2 < number))
+  pub permits : List ℕ
+  pub events : List Event
+  pub spells : SpellsScript text threads locks conds permits events
+  pub some : 0 < length permits + length events
 
 -- what reading a text answers: an accepted script has the numbers and the events that the text's lines
 -- spell
 abbrev pub Reads : List ℕ → Result Script ScriptFault → Type 0
 Reads text (Ok s) = SpellsScript text s.threads s.locks s.conds s.permits.items s.events.items
 Reads text (Err (BadLine number)) = IsFirstBad text number
-Reads text (Err NoMemory) = MayWantMemory text
+Reads text (Err NoMemory) = WantsMemory text

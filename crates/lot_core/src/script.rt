@@ -14,7 +14,7 @@
 //! | `some T K N M`, `call T K M` | of thread T on condition K, count N (`call`: 1), more M |
 //! | `stake T K`, `smark T K`, `spark T K`, `sfree T K`, `sclear T K` | of thread T on semaphore K |
 //! | `spass T K M` | of thread T on semaphore K, more M |
-ghost use Rattle.std.specs.Prelude.{◌≡◌, ℕ, List, IfOk, IfErr, Err, Some, None};
+ghost use Rattle.std.specs.Prelude.{◌≡◌, ℕ, List, IfOk, IfErr, IfSome, IfNone, Err, Some, None};
 
 use lot_events::Event;
 use lot_events::reading::{end, event_of, field, opening};
@@ -32,7 +32,7 @@ pub enum ScriptFault {
     /// is bad.
     #[error("bad script line {0}")]
     BadLine(usize),
-    /// Memory was wanted and not had, and no line read so far is bad.
+    /// Memory was wanted and not had. No line is bad.
     #[error("no memory")]
     NoMemory,
 }
@@ -51,13 +51,48 @@ pub struct Script {
     pub events: Vec<Event>,
 }
 
-ghost use Rattle.lot_core.specs.Script.{Reads};
-ghost use Rattle.lot_core.specs.Reading.{field_at, ReadsNumbers, ReadsOpening};
+ghost use Rattle.lot_core.specs.Script.{Reads, BeginsWith, NoEvent};
+ghost use Rattle.lot_core.specs.Reading.{field_at, ReadsNumbers, SpellsFront, AreGoodLines, IsBadLine};
+ghost use Rattle.lot_events.specs.declared.events.Event.{Event};
 
-// The numbers that stand at the front, each behind a space. Only where there is one is memory wanted.
-fn numbers(alloc: Global, text: &[u8]) -> Result<(Vec<u32>, &[u8]), AllocError>
-    ensures read { IfOk result (λ x. ReadsNumbers text.now x.0.items x.1.now) }
-    ensures all { IfOk result (λ x. field_at x.1.now ≡ None) }
+// What stands behind the numbers at the front, each of them behind a space.
+fn behind_numbers(text: &[u8]) -> &[u8]
+    ensures read { (numbers : List ℕ) × ReadsNumbers text.now numbers result.now }
+    ensures all { field_at result.now ≡ None }
+{
+    let mut rest = text;
+    while let Some((_, behind)) = field(rest) {
+        rest = behind;
+    }
+    rest
+}
+
+// The number of the first bad line, where these are the lines from the second on. Nothing is kept, so
+// no memory is wanted.
+fn first_bad(lines: &[u8]) -> Option<usize>
+    ensures bad { IfSome result (λ number. IsBadLine lines.now number) }
+    ensures good { IfNone result (AreGoodLines lines.now) }
+{
+    let mut rest = lines;
+    for number in 2..MAX_LINES + 1 {
+        if rest.is_empty() {
+            return None;
+        }
+        rest = match event_of(rest) {
+            Some((_, behind)) => behind,
+            None => return Some(number),
+        };
+    }
+    if rest.is_empty() {
+        None
+    } else {
+        Some(MAX_LINES + 1)
+    }
+}
+
+// The numbers at the front. Only where there is one is memory wanted.
+fn numbers(alloc: Global, text: &[u8]) -> Result<Vec<u32>, AllocError>
+    ensures read { IfOk result (λ x. (rest : List ℕ) × ReadsNumbers text.now x.items rest × (field_at rest ≡ None)) }
     ensures some { IfErr result (λ e. (n : ℕ) × (rest : List ℕ) × (field_at text.now ≡ Some (n, rest))) }
 {
     let mut numbers = Vec::new(alloc);
@@ -66,62 +101,56 @@ fn numbers(alloc: Global, text: &[u8]) -> Result<(Vec<u32>, &[u8]), AllocError>
         numbers.push(number as u32)?;
         rest = behind;
     }
-    Ok((numbers, rest))
+    Ok(numbers)
 }
 
-// The script of the first line, without events, and what stands behind that line.
-fn first_line(alloc: Global, text: &[u8]) -> Result<(Script, &[u8]), ScriptFault>
-    ensures ok { IfOk result (λ x. ReadsOpening text.now x.0 x.1.now) }
-    ensures err { IfErr result (λ e. Reads text.now (Err e)) }
+// The events of the lines at the front. Only where there is one is memory wanted.
+fn events(alloc: Global, lines: &[u8]) -> Result<Vec<Event>, AllocError>
+    ensures read { IfOk result (λ x. (rest : List ℕ) × SpellsFront lines.now x.items rest × NoEvent rest) }
+    ensures some { IfErr result (λ a. (e : Event) × (rest : List ℕ) × BeginsWith lines.now e rest) }
 {
-    let (threads, locks, conds, rest) = match opening(text) {
-        Some((threads, locks, conds, rest)) => (threads, locks, conds, rest),
-        None => return Err(ScriptFault::BadLine(1)),
-    };
-    let (permits, rest) = match numbers(alloc, rest) {
-        Ok((permits, rest)) => (permits, rest),
-        Err(_) => return Err(ScriptFault::NoMemory),
-    };
-    let rest = match end(rest) {
-        Some(rest) => rest,
-        None => return Err(ScriptFault::BadLine(1)),
-    };
-    let script = Script {
-        threads,
-        locks,
-        conds,
-        permits,
-        events: Vec::new(alloc),
-    };
-    Ok((script, rest))
+    let mut events = Vec::new(alloc);
+    let mut rest = lines;
+    while let Some((event, behind)) = event_of(rest) {
+        events.push(event)?;
+        rest = behind;
+    }
+    Ok(events)
 }
 
 /// Reads a whole script.
 ///
 /// The answer names the first line that is not as it should be, whatever stands behind it; numbers
-/// that no state has are no fault of the text. NoMemory comes only where a list could not grow: that
-/// of events, where the lines so far are good and one of them is an event's, or that of permits, where
-/// the first line has come to those of a first semaphore.
+/// that no state has are no fault of the text. All lines are looked at before anything is kept, so
+/// NoMemory comes only for a text that spells a script, of which a list could not grow: that of
+/// permits, where it has a semaphore, or that of events, where it has an event.
 pub fn parse_script(alloc: Global, text: &str) -> Result<Script, ScriptFault>
     ensures { Reads text.now result }
 {
-    let (mut script, mut rest) = first_line(alloc, text.as_bytes())?;
-    for number in 2..MAX_LINES + 1 {
-        if rest.is_empty() {
-            return Ok(script);
-        }
-        let (event, behind) = match event_of(rest) {
-            Some((event, behind)) => (event, behind),
-            None => return Err(ScriptFault::BadLine(number)),
-        };
-        match script.events.push(event) {
-            Ok(()) => {}
-            Err(_) => return Err(ScriptFault::NoMemory),
-        }
-        rest = behind;
+    let (threads, locks, conds, behind) = match opening(text.as_bytes()) {
+        Some((threads, locks, conds, behind)) => (threads, locks, conds, behind),
+        None => return Err(ScriptFault::BadLine(1)),
+    };
+    let lines = match end(behind_numbers(behind)) {
+        Some(lines) => lines,
+        None => return Err(ScriptFault::BadLine(1)),
+    };
+    if let Some(number) = first_bad(lines) {
+        return Err(ScriptFault::BadLine(number));
     }
-    if !rest.is_empty() {
-        return Err(ScriptFault::BadLine(MAX_LINES + 1));
-    }
-    Ok(script)
+    let permits = match numbers(alloc, behind) {
+        Ok(permits) => permits,
+        Err(_) => return Err(ScriptFault::NoMemory),
+    };
+    let events = match events(alloc, lines) {
+        Ok(events) => events,
+        Err(_) => return Err(ScriptFault::NoMemory),
+    };
+    Ok(Script {
+        threads,
+        locks,
+        conds,
+        permits,
+        events,
+    })
 }

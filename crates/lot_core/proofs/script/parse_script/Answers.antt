@@ -1,49 +1,60 @@
-use Rattle.std.proofs.Common.{◌+◌, sym, subst, rules, arith}
-use Rattle.lot_core.specs.Reading.{ReadsOpening}
-use Rattle.lot_core.proofs.Scripts.{IsSoFar, so_first, so_more, so_done, so_bad, so_many, so_lacks}
+use Rattle.std.proofs.Common.{◌∙◌, ap, sym, refl, inl}
+use Rattle.lot_core.specs.Reading.{open_at}
+use Rattle.lot_core.proofs.Openings.{no_opening, no_end}
+use Rattle.lot_core.proofs.Scripts.{cut, cut_bad, cut_kept, cut_lacks_permits, cut_lacks_events}
 use Rattle.lot_core.proofs.script.parse_script.Goals as goal
-
-pub loop-number-init : goal.loop-number-init
-loop-number-init c =
-    let s = c.in_ok-script.script in
-    let rest = c.in_ok-script.rest.now in
-    so_first c.args.text.now s rest (subst (λ text. ReadsOpening text s rest) c.as_bytes.ensures.value (c.in_ok-script.ensures {u = tt}).ok)
-
-pub returns-then-is_empty : goal.returns-then-is_empty
-returns-then-is_empty c =
-    let s = c.loop-number.script in
-    so_done c.args.text.now s.threads s.locks s.conds s.permits.items s.events.items c.loop-number.rest.now c.loop-number.number
-    c.loop-number.invariant (omega arith) (search rules)
 
 pub returns-in-None : goal.returns-in-None
 returns-in-None c =
-    let s = c.loop-number.script in
-    so_bad c.args.text.now s.threads s.locks s.conds s.permits.items s.events.items c.loop-number.rest.now c.loop-number.number
-    c.loop-number.invariant (omega arith) (search rules) c.in-None.ensures.none
+    inl (refl, no_opening c.args.text.now (sym (ap open_at c.as_bytes.ensures.value) ∙ sym c.in-None.ensures))
 
-pub loop-number-preserved : goal.loop-number-preserved
-loop-number-preserved c =
-    let s = c.loop-number.script in
-    subst (λ events. IsSoFar c.args.text.now s.threads s.locks s.conds s.permits.items events c.in-Some.behind.now
-    (c.loop-number.number + 1))
-    (sym c.in-Ok.ensures.items)
-    (so_more c.args.text.now s.threads s.locks s.conds s.permits.items s.events.items c.loop-number.rest.now c.loop-number.number
-    c.in-Some.event c.in-Some.behind.now c.loop-number.invariant c.in-Some.ensures.some)
+pub returns-in-None-end : goal.returns-in-None-end
+returns-in-None-end c =
+    let read = c.behind_numbers.ensures.read in
+    inl (
+      refl,
+      no_end c.args.text.now c.in-Some.threads c.in-Some.locks c.in-Some.conds c.in-Some.behind.now read.0 c.behind_numbers.result.now
+          (sym (ap open_at c.as_bytes.ensures.value) ∙ sym c.in-Some.ensures) read.1 c.behind_numbers.ensures.all
+          (sym c.in-None-end.ensures),
+    )
+
+pub returns-in-Some-first_bad : goal.returns-in-Some-first_bad
+returns-in-Some-first_bad c =
+    let read = c.behind_numbers.ensures.read in
+    cut_bad c.args.text.now c.in-Some.threads c.in-Some.locks c.in-Some.conds c.in-Some.behind.now read.0 c.behind_numbers.result.now
+    c.in-Some-end.lines.now c.in-Some-first_bad.number (sym (ap open_at c.as_bytes.ensures.value) ∙ sym c.in-Some.ensures) read.1
+    (sym c.in-Some-end.ensures) c.in-Some-first_bad.ensures.bad
 
 pub returns-in-Err : goal.returns-in-Err
 returns-in-Err c =
-    let s = c.loop-number.script in
-    so_lacks c.args.text.now s.threads s.locks s.conds s.permits.items s.events.items c.loop-number.rest.now c.loop-number.number
-    c.in-Some.event c.in-Some.behind.now c.loop-number.invariant (omega arith) c.in-Some.ensures.some
+    let read = c.behind_numbers.ensures.read in
+    let found = c.in-Err.ensures.some in
+    cut_lacks_permits c.args.text.now c.in-Some.threads c.in-Some.locks c.in-Some.conds c.in-Some.behind.now c.in-Some-end.lines.now
+    found.0 found.1
+    (cut c.args.text.now c.in-Some.threads c.in-Some.locks c.in-Some.conds c.in-Some.behind.now read.0 c.behind_numbers.result.now
+    c.in-Some-end.lines.now (sym (ap open_at c.as_bytes.ensures.value) ∙ sym c.in-Some.ensures) read.1 c.behind_numbers.ensures.all
+    (sym c.in-Some-end.ensures) c.in_default.ensures.good)
+    found.2
 
-pub returns-then-not-is_empty : goal.returns-then-not-is_empty
-returns-then-not-is_empty c =
-    let s = c.loop-number.script in
-    so_many c.args.text.now s.threads s.locks s.conds s.permits.items s.events.items c.loop-number.rest.now c.loop-number.number
-    c.loop-number.invariant (omega arith) (search rules)
+pub returns-in-Err-events : goal.returns-in-Err-events
+returns-in-Err-events c =
+    let read = c.behind_numbers.ensures.read in
+    let found = c.in-Err-events.ensures.some in
+    cut_lacks_events c.args.text.now c.in-Some.threads c.in-Some.locks c.in-Some.conds c.in-Some.behind.now c.in-Some-end.lines.now
+    found.0 found.1
+    (cut c.args.text.now c.in-Some.threads c.in-Some.locks c.in-Some.conds c.in-Some.behind.now read.0 c.behind_numbers.result.now
+    c.in-Some-end.lines.now (sym (ap open_at c.as_bytes.ensures.value) ∙ sym c.in-Some.ensures) read.1 c.behind_numbers.ensures.all
+    (sym c.in-Some-end.ensures) c.in_default.ensures.good)
+    found.2
 
 pub returns : goal.returns
 returns c =
-    let s = c.loop-number.script in
-    so_done c.args.text.now s.threads s.locks s.conds s.permits.items s.events.items c.loop-number.rest.now c.loop-number.number
-    c.loop-number.invariant (omega arith) (search rules)
+    let read = c.behind_numbers.ensures.read in
+    let kept = c.in-Ok.ensures.read in
+    let made = c.in-Ok-events.ensures.read in
+    cut_kept c.args.text.now c.in-Some.threads c.in-Some.locks c.in-Some.conds c.in-Some.behind.now c.in-Some-end.lines.now
+    c.in-Ok.permits.items kept.0 c.in-Ok-events.events.items made.0
+    (cut c.args.text.now c.in-Some.threads c.in-Some.locks c.in-Some.conds c.in-Some.behind.now read.0 c.behind_numbers.result.now
+    c.in-Some-end.lines.now (sym (ap open_at c.as_bytes.ensures.value) ∙ sym c.in-Some.ensures) read.1 c.behind_numbers.ensures.all
+    (sym c.in-Some-end.ensures) c.in_default.ensures.good)
+    kept.1 kept.2 made.1 made.2
