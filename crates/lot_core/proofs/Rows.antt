@@ -7,7 +7,7 @@ use Rattle.std.proofs.lemmas.List.{get_or_past, get_or_default, get_or-map, map-
 use mathlib.Core.Path.{fun_ext}
 use Rattle.lot_core.specs.World.{put}
 use Rattle.lot_core.specs.Rows.{row, row_from}
-use Rattle.lot_core.proofs.Put.{by_bit, at_all, put_again}
+use Rattle.lot_core.proofs.Put.{by_bit, at_all, put_again, told_put}
 
 pub row_at : {X : Type 0} (none : X) (xs : List X) (k : ℕ) → row none xs k ≡ slice_index_or xs k none
 unfolding row
@@ -114,3 +114,6 @@ none_more f none [] x is each zero = is
 none_more f none [] x is each (suc i) = refl
 none_more f none (y ∷ xs) x is each zero = each 0
 none_more f none (y ∷ xs) x is each (suc i) = none_more f none xs x is (λ j. each (suc j)) i
+
+-- what is read of a row, and what is written in it
+pub ruleset row_laws = (row_read, row_from_read, row_past, row_set, row_from_set, told_put)

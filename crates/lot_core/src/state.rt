@@ -59,7 +59,7 @@ pub struct State {
     ghost point_each: { length points.items ≡ threads },
 }
 
-#[tactic(auto, using(crate::proofs::Rows::row_read, crate::proofs::Rows::row_from_read, crate::proofs::Rows::row_past, crate::proofs::Rows::row_set, crate::proofs::Rows::row_from_set, crate::proofs::Put::told_put))]
+#[tactic(auto, using(crate::proofs::Rows::row_laws))]
 impl State {
     ghost use Rattle.lot_core.specs.Steps.{IsThread, MayLetGo, let_go};
     ghost use Rattle.lot_core.specs.State.{world_of, with_point};

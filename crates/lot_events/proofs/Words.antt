@@ -26,3 +26,6 @@ pub first_none : (ks : List Kind) (i : ℕ) (text : List ℕ) → length ks ≤ 
     → None ≡ first_of ks text
 unfolding first_of
 first_none ks i text past so = sym (so ∙ ap (λ xs. first_of xs text) (drop_of_length-le ks past))
+
+-- which of some kinds the text begins with
+pub ruleset kind_laws = (first_here, first_later, first_none)

@@ -148,7 +148,7 @@ pub fn end(text: &[u8]) -> Option<&[u8]>
 }
 
 // The first of these kinds whose word the text begins with. No word begins another.
-#[tactic(auto, using(crate::proofs::Words::first_here, crate::proofs::Words::first_later, crate::proofs::Words::first_none))]
+#[tactic(auto, using(crate::proofs::Words::kind_laws))]
 fn first_kind<'a>(kinds: &[Kind], text: &'a [u8]) -> Option<(Kind, &'a [u8])>
     ensures { option_map (λ x. (x.0, x.1.now)) result ≡ first_of kinds.now text.now }
 {

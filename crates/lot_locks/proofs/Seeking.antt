@@ -212,3 +212,6 @@ module _ {V Part : Type 0} (rule : CallersRule V Part) where
     itself = itself n;
     on = λ before now after l far next u s t. goes_on n before now after l next (waits n before now l far u s) t;
   }
+
+-- of a thread that lines up for a lock
+pub ruleset line_laws = (may_park, marked_on, awake)

@@ -100,7 +100,7 @@ impl<V: Keeps + Send, N: LotName<V> + Send> Sought<Locks> for LotScheme<V, N> {
         take(self, pass, key)
     }
 
-    #[tactic(auto, using(crate::proofs::Seeking::may_park, crate::proofs::Seeking::marked_on, crate::proofs::Seeking::awake))]
+    #[tactic(auto, using(crate::proofs::Seeking::line_laws))]
     fn line_up(
         &self,
         pass: NamedPass<V, N>,

@@ -205,3 +205,6 @@ module _ {V : Type 0} where
     -- and where it got one in the end, it has got it
     pub got_slowly : (p q r : LotStanding V) (key : ℕ) → IsAwakeFor low p key q → GetsPermit q key r → GetsPermit p key r
     got_slowly p q r key s gets = on p q r key Waits Got tt s gets
+
+-- of a thread that lines up for a permit
+pub ruleset line_laws = (tried, missed, found_none, may_mark, marked_on)

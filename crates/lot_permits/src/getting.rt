@@ -41,7 +41,7 @@ impl<V: Keeps + Send, N: LotName<V> + Send> Sought<Sems> for LotScheme<V, N> {
         }
     }
 
-    #[tactic(auto, using(crate::proofs::Seeking::tried, crate::proofs::Seeking::missed, crate::proofs::Seeking::found_none, crate::proofs::Seeking::may_mark, crate::proofs::Seeking::marked_on))]
+    #[tactic(auto, using(crate::proofs::Seeking::line_laws))]
     fn line_up(
         &self,
         pass: NamedPass<V, N>,

@@ -28,6 +28,7 @@ use Rattle.lot_scheme.specs.Roots.{debts_of, line_in, owes_in, root_view, TakesF
 use Rattle.lot_scheme.specs.Standing.{LotStanding, standing, adding, wanting, dozing, owning, finding_parked}
 use Rattle.lot_scheme.specs.LockCalls.{GetsLock, FreesLock}
 use Rattle.lot_scheme.proofs.Noted.{noted}
+use Rattle.lot_scheme.proofs.Owed.{is_lock}
 
 -- what the buckets see of a lock's root after a parking
 parked_seen : (own now : LotRootView) (t : ℕ) (does : Bool) → IsLockRoot own → now ≡ Lock (parked_root (as_lock own) t does)
@@ -197,3 +198,9 @@ module _ {V Part : Type 0} (rule : CallersRule V Part) where
       let a : Access = Makes (Try p.thread key) (Saw true) in
       (x, found, gets p key x a p.own.stand q idle (noted p (record p.own { locks = gripped p.own.locks key x }) a q note))
   tried p key false q idle note = noted p p.own (Makes (Try p.thread key) (Saw false)) q note
+
+-- of a parking
+pub ruleset parked_laws = (parked, is_lock, queues)
+
+-- of a lock that is passed on
+pub ruleset passed_laws = (passed, is_lock, first_told, more_told, takes_first)

@@ -86,7 +86,7 @@ impl<V: Keeps, N: LotName<V>> LotScheme<V, N> {
     }
 
     /// Queues the thread last in the lock's line where the lock is held and marked as parked, and says whether it did.
-    #[tactic(auto, using(crate::proofs::LockNotes::parked, crate::proofs::Owed::is_lock, crate::proofs::LockNotes::queues))]
+    #[tactic(auto, using(crate::proofs::LockNotes::parked_laws))]
     pub fn park(
         &self,
         pass: NamedPass<V, N>,
@@ -122,7 +122,7 @@ impl<V: Keeps, N: LotName<V>> LotScheme<V, N> {
 
     /// Passes on a lock that `free` found parked, while its bucket is locked: to the first of its line where this is
     /// fair, and else to whoever comes first. The root then owes the first a letter.
-    #[tactic(auto, using(crate::proofs::LockNotes::passed, crate::proofs::Owed::is_lock, crate::proofs::LockNotes::first_told, crate::proofs::LockNotes::more_told, crate::proofs::LockNotes::takes_first))]
+    #[tactic(auto, using(crate::proofs::LockNotes::passed_laws))]
     pub fn pass_on(
         &self,
         pass: NamedPass<V, N>,

@@ -7,11 +7,11 @@
 //!
 //! | Call | Access | Entry | The pass then |
 //! |---|---|---|---|
-//! | `try_take` | load, then compare-exchange by -2 | what the look found, then SemTake or what the word was | has one permit more, or is as it was |
-//! | `take` | load, then compare-exchange by -2 | the same; SemTake alone where the look finds none | has one permit more, seeks one, or is as it was |
+//! | `try_take` | load, exchange by -2 | what was found; SemTake or the other word | has a permit more, or as before |
+//! | `take` | load, exchange by -2 | the same, or SemTake with none left | has a permit more, seeks one, or as before |
 //! | `mark` | compare-exchange 0 to 1 | SemMark, or what the word was | still seeks a permit |
 //! | `park` | load | SemPark | sleeps in the semaphore's line, or still seeks a permit |
-//! | `free` | load, then compare-exchange by +2 | what the look found, then SemFree or what the word was | has one permit less, or is as it was |
+//! | `free` | load, exchange by +2 | what was found; SemFree or the other word | has a permit less, or as before |
 //! | `pass_on` | fetch-add | SemPass | has one permit less; the root owes the line's first a letter |
 //! | `clear` | fetch-and | SemClear | is as it was |
 //! | `post` | store 1 | a letter was posted, with the root | (the root owes nothing) |

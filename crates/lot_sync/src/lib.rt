@@ -7,7 +7,7 @@
 //! | Call | Where nobody contends | Else |
 //! |---|---|---|
 //! | `lock` | one compare-exchange | up to 40 yields, then a sleep in the lock's line |
-//! | `unlock`, `unlock_asking` | one compare-exchange | the first of the line is taken: the lock is handed to it, or it tries again |
+//! | `unlock`, `unlock_asking` | one compare-exchange | the first of the line is taken: it owns it, or tries again |
 //! | `try_lock`, `unlock_unparked` | one compare-exchange | an answer at once |
 //!
 //! A pass is seen with the accesses to words that were made with it. Each call tells in its clause `made` which it added, as a word of

@@ -16,7 +16,7 @@
 //! | Step | What | Where it ends early |
 //! |---|---|---|
 //! | 1 | all memory is taken: the new version, whose buckets are closed | no memory: nothing has changed |
-//! | 2 | all buckets of the old version are locked, in order, and looked at | one is closed, or too many wait: all are released, and it begins again |
+//! | 2 | all old buckets are locked, in order, and looked at | one is closed, or too many wait: it begins again |
 //! | 3 | the new version is published | another was published first: as in 2 |
 //! | 4 | the old buckets are taken out, closed ones stay, and the lines and the roots are moved | |
 //! | 5 | the new buckets are opened and put behind their locks, and all old locks released | |

@@ -13,10 +13,10 @@ ghost use Rattle.lot_waits.specs.Counts.{counts_in, woke};
 ghost use Rattle.lot_waits.specs.Notifying.{Notifies, NotifiesAll, HasTaken, one_if};
 ghost use Rattle.lot_waits.specs.Waiting.{HasWaited};
 
-use crate::notifying::{AtOnce, BeforeSweep, call_one, call_some, sweep_line};
+use crate::notifying::{call_one, call_some, sweep_line};
 use crate::waiting::sleep_on;
 use lot_locks::{Released, get};
-use lot_park::{AtOnce as SleepAtOnce, BeforeSleep, Moment, ParkingLot};
+use lot_park::{AtOnce, BeforeSleep, Moment, ParkingLot};
 use lot_scheme::{LotName, LotScheme, NamedPass};
 use lot_whole::Keeps;
 use std::sync::Wait;
@@ -48,7 +48,7 @@ pub fn wait<V: Keeps + Send, N: LotName<V> + Send, R: Wait, B: BeforeSleep>(
     ensures fits { IsFitting result.1 false moment.now }
 {
     let (pass, released) = sleep_on(rt, parking, pass, cond, lock, moment, before);
-    (get(rt, parking, pass, lock, &SleepAtOnce), released)
+    (get(rt, parking, pass, lock, &AtOnce), released)
 }
 
 /// Whether threads may wait on the condition, by one load of its flag. It never waits, and it is an observation:
@@ -129,29 +129,11 @@ pub fn notify_all<V: Keeps + Send, N: LotName<V> + Send, R: Wait>(
     ensures pass { NotifiesAll pass cond result.1 result.0 }
     ensures taken { HasTaken pass cond result.1 result.0 }
 {
-    notify_all_after(rt, parking, pass, cond, &AtOnce)
-}
-
-/// `notify_all` with an action between the store that clears the flag and the taking of the line, while no bucket is
-/// locked: a thread that begins to wait there is taken too. Where the flag is clear the action is not run.
-pub fn notify_all_after<V: Keeps + Send, N: LotName<V> + Send, R: Wait, B: BeforeSweep>(
-    rt: &R,
-    parking: &ParkingLot<LotScheme<V, N>>,
-    pass: NamedPass<V, N>,
-    cond: usize,
-    before: &B,
-) -> (NamedPass<V, N>, usize)
-    requires cond { (N.locks ≤ cond) × (cond < N.low) × (cond < parking.now.keys) }
-    requires idle { IsIdle pass.own }
-    ensures pass { NotifiesAll pass cond result.1 result.0 }
-    ensures taken { HasTaken pass cond result.1 result.0 }
-{
     let scheme = parking.scheme();
     let (pass, waits) = scheme.look(pass, cond);
     if !waits {
         return (pass, 0);
     }
     let pass = scheme.lower(pass, cond);
-    before.run();
     sweep_line(rt, parking, pass, cond)
 }

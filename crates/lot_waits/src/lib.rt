@@ -27,8 +27,7 @@ pub mod steps;
 pub mod tallies;
 mod waiting;
 
-pub use calls::{has_waiters, notify_all, notify_all_after, notify_one, notify_some, wait};
+pub use calls::{has_waiters, notify_all, notify_one, notify_some, wait};
 pub use ledger::{Ledger, add_up, ledger_of};
-pub use notifying::BeforeSweep;
 pub use steps::CondSteps;
 pub use tallies::{Tallies, count_taken, count_wait};

@@ -91,19 +91,6 @@ pub(crate) fn call_some<S: CondSteps, R: Wait>(
     )
 }
 
-/// What a thread does that has cleared a condition's flag, before it takes the line. No bucket is locked then.
-pub trait BeforeSweep {
-    fn run(&self);
-}
-
-/// Nothing: a notification of all goes on at once.
-pub(crate) struct AtOnce;
-
-impl BeforeSweep for AtOnce {
-    #[inline(always)]
-    fn run(&self) {}
-}
-
 /// Takes all threads of the condition's line, whose flag the pass has lowered, and answers how many they were.
 #[cold]
 #[inline(never)]

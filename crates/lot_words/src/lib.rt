@@ -15,7 +15,7 @@
 //! | `free` | compare-exchange 1 to 0 | Free | has let the lock go, or knows that it is parked |
 //! | `pass_on` | load or store | Pass | has let the lock go; the root owes the line's first a letter |
 //! | `post` | store | a letter was posted, with the root | (the root owes nothing) |
-//! | `collect` | swap | a letter was looked for, and found or not | is awake, and holds the lock where the letter said so |
+//! | `collect` | swap | a letter was looked for, and found or not | is awake, and holds the lock if so told |
 //! | `value_out`, `value_in` | two loads of a spare word | none | has the value out, or back in its slot |
 //!
 //! A word's states are 0, 1 (held), 2 (parked) and 3. A letter is 0 for none, 1 for a barging opportunity, and 2 for a lock that was

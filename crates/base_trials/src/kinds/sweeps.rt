@@ -26,14 +26,18 @@ use std::process::Abort;
 use std::sync::Wait;
 use std::test::*;
 
-// Sweeps the condition, in whose line one thread is.
-fn take_one<S: CondSteps, R: Wait + Abort>(rt: &R, lot: &ParkingLot<S>, pass: S::Pass) -> S::Pass
+/// Sweeps the condition, whose flag the pass has lowered, and answers how many threads were in its line.
+pub(crate) fn take_all<S: CondSteps, R: Wait>(
+    rt: &R,
+    lot: &ParkingLot<S>,
+    pass: S::Pass,
+) -> (S::Pass, usize)
     requires key { 2 < lot.now.keys }
     requires lowered { S.may_sweep pass 2 }
-    ensures { S.sweeps pass 2 1 result }
+    ensures { S.sweeps pass 2 result.1 result.0 }
 {
     let scheme = lot.scheme();
-    let (pass, count) = lot.unpark_all(
+    lot.unpark_all(
         rt,
         2,
         pass,
@@ -44,7 +48,16 @@ fn take_one<S: CondSteps, R: Wait + Abort>(rt: &R, lot: &ParkingLot<S>, pass: S:
             ensures pass { S.sweeps pass (S.Root.view root).key count result.0 }
             ensures root { DequeuesAll S.Root.view root result.1 }
         { scheme.sweep_all(pass, root, count) },
-    );
+    )
+}
+
+// Sweeps the condition, in whose line one thread is.
+fn take_one<S: CondSteps, R: Wait + Abort>(rt: &R, lot: &ParkingLot<S>, pass: S::Pass) -> S::Pass
+    requires key { 2 < lot.now.keys }
+    requires lowered { S.may_sweep pass 2 }
+    ensures { S.sweeps pass 2 1 result }
+{
+    let (pass, count) = take_all(rt, lot, pass);
     count_is(rt, count, 1);
     pass
 }

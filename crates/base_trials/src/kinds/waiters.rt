@@ -2,11 +2,14 @@
 ghost use Rattle.std.specs.Prelude.{◌≡◌, ◌+◌, ◌<◌, ◌≤◌, ◌++◌, List, [], ◌∷◌, MatchBool};
 ghost use Rattle.std.specs.Prelude.{vec_len, vec_capacity, IfOk};
 ghost use Rattle.lot_waits.specs.Counts.{CountsView, took as took_more, woke};
+ghost use Rattle.lot_whole.specs.Standing.{IsIdle};
 ghost use Rattle.lot_waits.specs.Ledger.{AreTallied, AreZeros};
+ghost use Rattle.lot_waits.specs.Notifying.{NotifiesAll, HasTaken};
 ghost use Rattle.base_trials.specs.Calm.{IsCalm};
 ghost use Rattle.base_trials.specs.Opened.{AreDealt, AreRootsBack, IsFresh, size_of};
 ghost use Rattle.base_trials.specs.Waits.{IsSmall};
 
+use crate::kinds::sweeps::take_all;
 use crate::kinds::tables::{
     EARLY, Nothing, OneTable, Pass, Passes, Roots, Words, close_words, deal, gather,
 };
@@ -14,8 +17,8 @@ use lot_locks::{get, let_go};
 use lot_park::{AtOnce, BeforeSleep, ParkingLot};
 use lot_scheme::LotName;
 use lot_waits::{
-    BeforeSweep, Ledger, Tallies, add_up, count_taken, count_wait, has_waiters, ledger_of,
-    notify_all, notify_all_after, notify_one, wait,
+    Ledger, Tallies, add_up, count_taken, count_wait, has_waiters, ledger_of, notify_all,
+    notify_one, wait,
 };
 use std::alloc::{AllocError, Global};
 use std::marker::Model;
@@ -39,6 +42,34 @@ impl<N: LotName<Nothing>> Model for CountedPass<N> {
 
     ghost invariant = { λ s. IsCalm s.pass.thread s.pass
         × AreKept N.locks N.conds (counts_in s.pass) s.tallies.value.called.items s.tallies.value.woken.items };
+}
+
+/// What a thread does that has cleared the condition's flag, before it takes the line. No bucket is locked then.
+pub(crate) trait BeforeSweep {
+    fn run(&self);
+}
+
+// Notifies all in the steps of such a notification, so that the action can come between them.
+fn sweep_after<N: LotName<Nothing> + Send, R: Wait, B: BeforeSweep>(
+    rt: &R,
+    lot: &Lot<N>,
+    pass: Pass<N>,
+    between: &B,
+) -> (Pass<N>, usize)
+    requires small { IsSmall N.locks N.conds N.low }
+    requires sizes { lot.now.keys ≡ 3 }
+    requires idle { IsIdle pass.own }
+    ensures pass { NotifiesAll pass 2 result.1 result.0 }
+    ensures taken { HasTaken pass 2 result.1 result.0 }
+{
+    let scheme = lot.scheme();
+    let (pass, waits) = scheme.look(pass, 2);
+    if !waits {
+        return (pass, 0);
+    }
+    let pass = scheme.lower(pass, 2);
+    between.run();
+    take_all(rt, lot, pass)
 }
 
 /// What is kept of the counts of three waiters, and of their sums: nothing yet.
@@ -198,7 +229,7 @@ impl<N: LotName<Nothing> + Send> CountedPass<N> {
         (CountedPass { pass, tallies }, count)
     }
 
-    /// The same with an action between the clearing of the flag and the taking of the line.
+    /// The same in its steps, with an action between the clearing of the flag and the taking of the line.
     pub(crate) fn notify_all_after<R: Wait, B: BeforeSweep>(
         self,
         rt: &R,
@@ -210,7 +241,7 @@ impl<N: LotName<Nothing> + Send> CountedPass<N> {
         ensures { result.0 ≡ took_more self 2 result.1 }
     {
         let CountedPass { pass, tallies } = self;
-        let (pass, count) = notify_all_after(rt, lot, pass, 2, between);
+        let (pass, count) = sweep_after(rt, lot, pass, between);
         let tallies = count_taken(tallies, 2, 2, count);
         (CountedPass { pass, tallies }, count)
     }

@@ -9,10 +9,10 @@ use crate::kinds::asserts::{count_is, is_not, ledger_is};
 use crate::kinds::tables::{
     EARLY, Nothing, Passes, Roots, THREADS, Words, name_roots, open_words, unname_roots,
 };
-use crate::kinds::waiters::{CountedPass, Lot, Room, Three, deal_waiters, settle};
+use crate::kinds::waiters::{BeforeSweep, CountedPass, Lot, Room, Three, deal_waiters, settle};
 use lot_park::{BeforeSleep, ParkingLot, Scheme, Token, UnparkResult};
 use lot_scheme::{LotName, LotScheme};
-use lot_waits::{BeforeSweep, Ledger};
+use lot_waits::Ledger;
 use std::alloc::Global;
 use std::marker::Brand;
 use std::process::Abort;

@@ -8,7 +8,7 @@ ghost use Rattle.lot_core.specs.Steps.{IsCallCount};
 use crate::state::{CoreFault, MAX_THREADS, State};
 use lot_events::{Point, Seen};
 
-#[tactic(auto, using(crate::proofs::Rows::row_read, crate::proofs::Rows::row_from_read, crate::proofs::Rows::row_past, crate::proofs::Rows::row_set, crate::proofs::Rows::row_from_set, crate::proofs::Put::told_put))]
+#[tactic(auto, using(crate::proofs::Rows::row_laws))]
 impl State {
     ghost use Rattle.lot_core.specs.Steps.{IsCond, called, dequeued, dequeued_count};
     ghost use Rattle.lot_core.specs.State.{world_of, with_flag, with_cond_line};

@@ -7,7 +7,7 @@ ghost use Rattle.lot_core.specs.declared.state.CoreFault.TheVariants.{NoMemory};
 use crate::state::{CoreFault, State};
 use lot_events::{Point, Seen};
 
-#[tactic(auto, using(crate::proofs::Rows::row_read, crate::proofs::Rows::row_from_read, crate::proofs::Rows::row_past, crate::proofs::Rows::row_set, crate::proofs::Rows::row_from_set, crate::proofs::Put::told_put))]
+#[tactic(auto, using(crate::proofs::Rows::row_laws))]
 impl State {
     ghost use Rattle.lot_core.specs.Steps.{IsLock, got, passed, first};
     ghost use Rattle.lot_core.specs.Printed.{owner_of};

@@ -1,6 +1,6 @@
 use Rattle.lot_waits.proofs.Notified.{may_sweep, finds_nobody, notified_all}
 use Rattle.lot_waits.proofs.Told.{told_nobody, told_all}
-use Rattle.lot_waits.proofs.calls.notify_all_after.Goals as goal
+use Rattle.lot_waits.proofs.calls.notify_all.Goals as goal
 
 pub sweep_line-requires-clause-may : goal.sweep_line-requires-clause-may
 sweep_line-requires-clause-may g c κs within = (
