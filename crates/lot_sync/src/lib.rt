@@ -1,4 +1,5 @@
-//! Locks that guard values, for a number of threads: WTF's `Lock` on its parking lot.
+//! Locks that guard values, conditions, and counting semaphores, for a number of threads: WTF's `Lock` and `Condition` on
+//! its parking lot.
 //!
 //! It stands on `lot_locks`, `lot_waits` and `lot_permits`, over one table of words of all kinds (`lot_scheme`, `lot_whole`). Open a `Lot` with
 //! the values that its locks guard, start it under a name, let each thread register for its `Pass`, and lock: whoever gets a lock is handed
@@ -9,6 +10,9 @@
 //! | `lock` | one compare-exchange | up to 40 yields, then a sleep in the lock's line |
 //! | `unlock`, `unlock_asking` | one compare-exchange | the first of the line is taken: it owns it, or tries again |
 //! | `try_lock`, `unlock_unparked` | one compare-exchange | an answer at once |
+//! | `wait` | an unlock and a lock, and a sleep in the condition's line between them | |
+//! | `notify_one`, `notify_some`, `notify_all` | nobody waits: one load | the first of the line are taken, told and woken |
+//! | `acquire`, `release` | a load and a compare-exchange | a sleep in the semaphore's line; its first is taken and woken |
 //!
 //! A pass is seen with the accesses to words that were made with it. Each call tells in its clause `made` which it added, as a word of
 //! `specs/Words` (and of the crates below); its other clauses are about all else of the pass (`≈`). `close` tells that the accesses of each

@@ -1,6 +1,5 @@
 -- What a lot's table promises: at every moment there is one sound state of the whole model that the words stand for,
--- and the history without
--- its notices is one run of the model, from the opening to it.
+-- and the history without its notices is one run of the model, from the opening to it.
 use Rattle.std.specs.Prelude.{◌≡◌, ℕ, ◌<◌, true, List, map, slice_index, Option}
 use Rattle.std.specs.List.{Contains}
 use Rattle.atomic_table.specs.Table.{State}
@@ -54,8 +53,9 @@ module _ {V Part : Type 0} (rule : CallersRule V Part) (z : LotSize) (xs : List 
     pub one_letter : (t : ℕ) → t < z.threads → (j k : Which) → away V j (own_of V (here.world.pass t) j) ≡ true
         → away V k (own_of V (here.world.pass t) k) ≡ true → j ≡ k
 
-  -- with it, of the same world, what each kind promises of its own: letters fit in all three, locks have one owner at most and someone
-  -- tries to get a free one with sleepers, values are lawful, no sleeper of a condition is forgotten, and the ledger is balanced
+  -- with it, of the same world, what each kind promises of its own: letters fit in all three, locks have one owner at
+  -- most and someone tries to get a free one with sleepers, values are lawful, and the ledger is balanced. (That no
+  -- sleeper of a condition is forgotten is said of the whole state: `someone_sweeps` of its soundness.)
   pub record Promises (s : State (Option V) (List (Right (LotPassView V) LotRootView)))
       (here : Ruled (lot_scheme rule z xs) s) : Type 0 where
     pub whole : OneState s here

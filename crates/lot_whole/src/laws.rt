@@ -28,8 +28,7 @@ pub fn one_state_at_every_moment<V: Keeps>()
         (here : Ruled (lot_scheme V.Keeps z xs) s) → OneState V.Keeps z xs s here }
 {}
 
-/// What keeps the rule of a lot keeps all that the locks', the conditions' and the semaphores' rules promise, of one
-/// world.
+/// A table that keeps a lot's rule has, of one world, the headlines of all three kinds.
 pub fn the_rule_is_the_headline<V: Keeps>()
     ensures { (z : LotSize) (xs : List V) (s : State (Option V) (List (Right (LotPassView V) LotRootView)))
         (here : Ruled (lot_scheme V.Keeps z xs) s) → Promises V.Keeps z xs s here }
