@@ -2,12 +2,12 @@
 use Rattle.std.proofs.Common.{ℕ, ◌+◌, ◌*◌, List, [], ◌∷◌, ◌++◌, refl, sym, ap, subst, ◌∙◌, inl}
 use Rattle.atomic_table.specs.Table.{State}
 use Rattle.lot_rights.specs.declared.views.Entry.{Entry}
-use Rattle.lot_rights.specs.declared.views.PassView.{PassView}
-use Rattle.lot_rights.specs.declared.views.RootView.{RootView}
+use Rattle.lot_rights.specs.declared.views.PassRight.{PassRight}
+use Rattle.lot_rights.specs.declared.views.RootRight.{RootRight}
 use Rattle.lot_rights.specs.declared.views.Right.{Right}
 use Rattle.lot_rights.specs.declared.views.Right.TheVariants.{Pass, Root}
 use Rattle.lot_rights.specs.History.{doer, SameShown, OneMoreShown}
-use Rattle.lot_rights.specs.Rule.{number, made_with, Scheme, Ruled}
+use Rattle.lot_rights.specs.Rule.{number, made_with, Meaning, Ruled}
 use Rattle.lot_rights.specs.Settled.{OneEntryIsOneAccess, RuledSeatsShow}
 use Rattle.base_trials.specs.Accesses.{CallOfTwo, IsOneAccess}
 
@@ -20,10 +20,10 @@ module _ {R : Type 0} (number : R → ℕ) (made : R → List Entry) where
     same = λ i ne. after i ∙ (more.same i ne ∙ before i);
   }
 
-module _ {S P R : Type 0} (k : Scheme S P R) (one : OneEntryIsOneAccess k) (seats : RuledSeatsShow k) where
+module _ {S P R : Type 0} (k : Meaning S P R) (one : OneEntryIsOneAccess k) (seats : RuledSeatsShow k) where
   pub call_of_two : (s joined made parted : State S (List (Right P R))) (before : Ruled k s) → Ruled k joined → Ruled k made
       → (after : Ruled k parted) →
-      (id other : ℕ) (p p' : PassView P) (q q' : RootView R) (x : Entry) → CallOfTwo s joined made parted id other p p' q q' x
+      (id other : ℕ) (p p' : PassRight P) (q q' : RootRight R) (x : Entry) → CallOfTwo s joined made parted id other p p' q q' x
       → IsOneAccess k s parted before after x
   call_of_two s joined made parted before here there after id other p p' q q' x c =
       let n : Right P R → ℕ = number in

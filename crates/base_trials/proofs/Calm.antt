@@ -12,22 +12,22 @@ use Rattle.lot_words.specs.declared.views.Hold.TheVariants.{NotHeld, Held}
 use Rattle.lot_words.specs.CallersRule.{CallersRule}
 use Rattle.lot_words.specs.World.{IsHeld}
 use Rattle.lot_words.specs.Values.{FoundOk}
-use Rattle.lot_words.specs.Calls.{gripped, wishing, let_go}
-use Rattle.lot_words.proofs.Owning.{owns_gripped}
+use Rattle.lot_words.specs.Calls.{owning as lock_owning, wanting as lock_wanting, letting_go}
+use Rattle.lot_words.proofs.Owning.{owns_owning}
 use Rattle.lot_whole.specs.declared.views.LotPassView.{LotPassView}
 use Rattle.lot_whole.specs.declared.views.Stand.TheVariants.{Idle}
 use Rattle.lot_whole.specs.Closing.{HasDone}
 use Rattle.lot_whole.specs.Family.{lock, cond, sem}
 use Rattle.lot_whole.specs.Standing.{IsAwake, IsIdle, IsUp, MayTake, MayPark, MaySweep}
 use Rattle.lot_whole.specs.Whole.{rises}
-use Rattle.lot_scheme.specs.Standing.{LotStanding, stands, adding, wanting, owning, called, setting_out, swept, IsLooked}
+use Rattle.lot_scheme.specs.Standing.{LotStanding, standing_shown, adding, wanting, owning, called_more as stand_called_more, setting_out, swept, IsLooked}
 use Rattle.lot_scheme.specs.LockCalls.{GetsLock}
 use Rattle.lot_scheme.specs.Words.{IsSeek, word_of_all, word_of_nobody}
 use Rattle.lot_locks.specs.declared.released.Released.{Released}
 use Rattle.lot_locks.specs.Standing.{MayFree, IsTryingFor, IsOwner, LetsGo}
 use Rattle.lot_locks.proofs.Adding.{none_added, up_then}
 use Rattle.lot_locks.proofs.Freed.{held_near}
-use Rattle.lot_waits.specs.Counts.{CountsView, counts_in, took, woke}
+use Rattle.lot_waits.specs.Counts.{CountsView, counts_in, called_more as counts_called_more, one_wait_more}
 use Rattle.lot_waits.specs.Notifying.{Notifies, NotifiesAll}
 use Rattle.lot_waits.specs.Waiting.{MayEnlist, Enlists, Slept, HasWaited, waited}
 use Rattle.lot_waits.proofs.Waited.{rested, same_thread, takes, has_waited}
@@ -88,7 +88,7 @@ module _ {V : Type 0} where
   wanted t l p q did before is = subst (Wants t l) (sym is) (record {
     there = record {
       thread = (there_of t l p before).thread;
-      up = up_then p.own (wishing p.own.locks l) Idle refl (there_of t l p before).up;
+      up = up_then p.own (lock_wanting p.own.locks l) Idle refl (there_of t l p before).up;
       out = (there_of t l p before).out;
       sweeps = (there_of t l p before).sweeps;
       seeks = (there_of t l p before).seeks;
@@ -121,7 +121,7 @@ module _ {V : Type 0} where
   went t l became p q has gone = subst (IsCalm t) (sym gone.is) (record {
     there = record {
       thread = has.there.thread;
-      up = up_then p.own (let_go p.own.locks l gone.value) (rises p.own.stand) refl has.there.up;
+      up = up_then p.own (letting_go p.own.locks l gone.value) (rises p.own.stand) refl has.there.up;
       out = has.there.out;
       sweeps = has.there.sweeps;
       seeks = has.there.seeks;
@@ -134,13 +134,13 @@ module _ {V : Type 0} where
         (λ else. has.others k else (held_else p.own.locks.holds l k NotHeld else held));
   })
 
-  called_up : (t c n : ℕ) (p : LotStanding V) → IsCalm t p → IsUp (called p c n).own
+  called_up : (t c n : ℕ) (p : LotStanding V) → IsCalm t p → IsUp (stand_called_more p c n).own
   called_up t c n p calm lock = calm.there.up lock
   called_up t c n p calm cond = calm.there.up cond
   called_up t c n p calm sem = calm.there.up sem
 
   -- it took so many sleepers from a condition's line, or looked
-  pub took_calm : (t c n : ℕ) (p q : LotStanding V) (did : List Access) → IsCalm t p → q ≡ adding (called p c n) did → IsCalm t q
+  pub took_calm : (t c n : ℕ) (p q : LotStanding V) (did : List Access) → IsCalm t p → q ≡ adding (stand_called_more p c n) did → IsCalm t q
   took_calm t c n p q did calm is = subst (IsCalm t) (sym is) (record {
     there = record {
       thread = calm.there.thread;
@@ -197,8 +197,8 @@ module _ {V : Type 0} where
   pub calm_itself : (t : ℕ) (p : LotStanding V) → IsCalm t p → IsCalm p.thread p
   calm_itself t p calm = subst (λ u. IsCalm u p) (sym calm.there.thread) calm
 
-  pub may_wait : (locks low t c l : ℕ) (p : LotStanding V) → locks ≤ c → c < low → l < locks → HasIt t l p → MayEnlist locks low p c l
-  may_wait locks low t c l p from below near has = record {
+  pub may_wait : (locks first_sem t c l : ℕ) (p : LotStanding V) → locks ≤ c → c < first_sem → l < locks → HasIt t l p → MayEnlist locks first_sem p c l
+  may_wait locks first_sem t c l p from below near has = record {
     cond = (from, below);
     lock = near;
     idle = owner_idle t l p has;
@@ -207,9 +207,9 @@ module _ {V : Type 0} where
   }
 
   -- it may come back at the end
-  pub calm_done : (t : ℕ) (now : LotStanding V) (p : PassShown (LotPassView V)) → now ≡ stands p → IsCalm t now → HasDone p
+  pub calm_done : (t : ℕ) (now : LotStanding V) (p : PassShown (LotPassView V)) → now ≡ standing_shown p → IsCalm t now → HasDone p
   calm_done t now p same calm =
-      let back : IsCalm t (stands p) = subst (IsCalm t) same calm in
+      let back : IsCalm t (standing_shown p) = subst (IsCalm t) same calm in
       (back.none, back.there.out)
 
 module _ {V Part : Type 0} (rule : CallersRule V Part) where
@@ -217,11 +217,11 @@ module _ {V Part : Type 0} (rule : CallersRule V Part) where
   pub got_so : (t l : ℕ) (p q : LotStanding V) (x : V) (did : List Access) → IsFor t l p → FoundOk rule l p.thread p.own.locks x
       → q ≡ adding (owning p l x) did → HasIt t l q
   got_so t l p q x did before found is =
-      let owns = owns_gripped p.own.locks l x found.tells in
+      let owns = owns_owning p.own.locks l x found.tells in
       subst (HasIt t l) (sym is) (record {
         there = record {
           thread = (there_of t l p before).thread;
-          up = up_then p.own (gripped p.own.locks l x) Idle refl (there_of t l p before).up;
+          up = up_then p.own (lock_owning p.own.locks l x) Idle refl (there_of t l p before).up;
           out = (there_of t l p before).out;
           sweeps = (there_of t l p before).sweeps;
           seeks = (there_of t l p before).seeks;
@@ -242,7 +242,7 @@ module _ {V Part : Type 0} (rule : CallersRule V Part) where
   -- it waited, and has its lock again
   pub waited_has_it : (t c l : ℕ) (became : Released) (p q : LotStanding V) → HasIt t l p → HasWaited rule p c l became q → HasIt t l q
   waited_has_it t c l became p q has w =
-      let owns = owns_gripped (let_go p.own.locks l w.left) l w.found w.found_ok.tells in
+      let owns = owns_owning (letting_go p.own.locks l w.left) l w.found w.found_ok.tells in
       subst (HasIt t l) (sym w.is) (record {
         there = record {
           thread = has.there.thread;
@@ -265,22 +265,22 @@ module _ {V Part : Type 0} (rule : CallersRule V Part) where
       waited_up t c l p y x has sem = has.there.up sem
 
   -- it slept, and has not got its lock yet; and then it has it again
-  pub slept_takes : (locks low c l : ℕ) (became : Released) (p s : LotStanding V) → MayEnlist locks low p c l
+  pub slept_takes : (locks first_sem c l : ℕ) (became : Released) (p s : LotStanding V) → MayEnlist locks first_sem p c l
       → Slept {P = LotStanding V} Enlists LetsGo (IsLooked rule) p c l became s → MayTake s.own l
-  slept_takes locks low c l became p s may slept = takes locks low p s c l became may (rested rule locks low p s c l became may slept)
+  slept_takes locks first_sem c l became p s may slept = takes locks first_sem p s c l became may (rested rule locks first_sem p s c l became may slept)
 
-  pub slept_thread : (locks low c l : ℕ) (became : Released) (p s : LotStanding V) → MayEnlist locks low p c l
+  pub slept_thread : (locks first_sem c l : ℕ) (became : Released) (p s : LotStanding V) → MayEnlist locks first_sem p c l
       → Slept {P = LotStanding V} Enlists LetsGo (IsLooked rule) p c l became s → s.thread ≡ p.thread
-  slept_thread locks low c l became p s may slept = same_thread p s c l became (rested rule locks low p s c l became may slept)
+  slept_thread locks first_sem c l became p s may slept = same_thread p s c l became (rested rule locks first_sem p s c l became may slept)
 
-  pub slept_has_it : (locks low t c l : ℕ) (became : Released) (p s q : LotStanding V) → HasIt t l p → MayEnlist locks low p c l
+  pub slept_has_it : (locks first_sem t c l : ℕ) (became : Released) (p s q : LotStanding V) → HasIt t l p → MayEnlist locks first_sem p c l
       → Slept {P = LotStanding V} Enlists LetsGo (IsLooked rule) p c l became s → IsOwner rule s l q → HasIt t l q
-  slept_has_it locks low t c l became p s q has may slept owner =
-      waited_has_it t c l became p q has (has_waited rule p s q c l became (rested rule locks low p s c l became may slept) owner)
+  slept_has_it locks first_sem t c l became p s q has may slept owner =
+      waited_has_it t c l became p q has (has_waited rule p s q c l became (rested rule locks first_sem p s c l became may slept) owner)
 
   -- ---- counts
   pub waited_counts : (c l : ℕ) (became : Released) (p q : LotStanding V) → HasWaited rule p c l became q
-      → counts_in q ≡ woke (counts_in p) c
+      → counts_in q ≡ one_wait_more (counts_in p) c
   waited_counts c l became p q w = ap counts_in w.is
 
   pub owner_counts : (l : ℕ) (p q : LotStanding V) → IsOwner rule p l q → counts_in q ≡ counts_in p
@@ -290,7 +290,7 @@ module _ {V : Type 0} where
   pub went_counts : (l : ℕ) (became : Released) (p q : LotStanding V) → LetsGo p l became q → counts_in q ≡ counts_in p
   went_counts l became p q gone = ap counts_in gone.is
 
-  pub took_none : (p : LotStanding V) (c : ℕ) → took (counts_in p) c 0 ≡ counts_in p
+  pub took_none : (p : LotStanding V) (c : ℕ) → counts_called_more (counts_in p) c 0 ≡ counts_in p
   took_none p c = ap counts_in (none_called p c)
 
   -- what a notification leaves
@@ -298,20 +298,20 @@ module _ {V : Type 0} where
   notified_calm t c n taken p q calm (inl (none, is)) = looked_calm t p q (word_of_nobody p.thread c) calm is
   notified_calm t c n taken p q calm (inr (did, word, is)) = took_calm t c taken p q did calm is
 
-  pub notified_counts : (c n taken : ℕ) (p q : LotStanding V) → Notifies p c n taken q → counts_in q ≡ took (counts_in p) c taken
-  notified_counts c n taken p q (inl (none, is)) = ap counts_in is ∙ (sym (took_none p c) ∙ ap (λ k. took (counts_in p) c k) (sym none))
+  pub notified_counts : (c n taken : ℕ) (p q : LotStanding V) → Notifies p c n taken q → counts_in q ≡ counts_called_more (counts_in p) c taken
+  notified_counts c n taken p q (inl (none, is)) = ap counts_in is ∙ (sym (took_none p c) ∙ ap (λ k. counts_called_more (counts_in p) c k) (sym none))
   notified_counts c n taken p q (inr (did, word, is)) = ap counts_in is
 
   pub all_notified_calm : (t c taken : ℕ) (p q : LotStanding V) → IsCalm t p → NotifiesAll p c taken q → IsCalm t q
   all_notified_calm t c taken p q calm (inl (none, is)) = looked_calm t p q (word_of_nobody p.thread c) calm is
   all_notified_calm t c taken p q calm (inr is) = took_calm t c taken p q (word_of_all p.thread c taken) calm is
 
-  pub all_notified_counts : (c taken : ℕ) (p q : LotStanding V) → NotifiesAll p c taken q → counts_in q ≡ took (counts_in p) c taken
-  all_notified_counts c taken p q (inl (none, is)) = ap counts_in is ∙ (sym (took_none p c) ∙ ap (λ k. took (counts_in p) c k) (sym none))
+  pub all_notified_counts : (c taken : ℕ) (p q : LotStanding V) → NotifiesAll p c taken q → counts_in q ≡ counts_called_more (counts_in p) c taken
+  all_notified_counts c taken p q (inl (none, is)) = ap counts_in is ∙ (sym (took_none p c) ∙ ap (λ k. counts_called_more (counts_in p) c k) (sym none))
   all_notified_counts c taken p q (inr is) = ap counts_in is
 
 -- who took nobody has counted as before
-pub none_took : (q : CountsView) (c : ℕ) → took q c 0 ≡ q
+pub none_took : (q : CountsView) (c : ℕ) → counts_called_more q c 0 ≡ q
 none_took q c =
     let same : slice_set q.called c (slice_index q.called c + 0) ≡ q.called =
     ap (λ n. slice_set q.called c n) (omega arith) ∙ set-get_or q.called c 0

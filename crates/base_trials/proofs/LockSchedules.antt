@@ -5,7 +5,7 @@ use Rattle.std.proofs.lemmas.List.{length-replicate}
 use Rattle.atomic_table.specs.Seated.{TableId}
 use Rattle.atomic_table.proofs.Lists.{set_here}
 use Rattle.lot_rights.specs.declared.views.Access.{Access}
-use Rattle.lot_rights.specs.declared.views.PassView.{PassView}
+use Rattle.lot_rights.specs.declared.views.PassRight.{PassRight}
 use Rattle.lot_rights.specs.Shown.{PassShown, RootShown}
 use Rattle.lot_rights.specs.Steps.{Notes}
 use Rattle.lot_words.specs.declared.views.Hold.TheVariants.{NotHeld, Held}
@@ -14,31 +14,31 @@ use Rattle.lot_words.specs.declared.views.LockRootView.{LockRootView}
 use Rattle.lot_words.specs.declared.views.Place.TheVariants.{InSlot, Out}
 use Rattle.lot_words.specs.CallersRule.{CallersRule}
 use Rattle.lot_words.specs.World.{IsHeld}
-use Rattle.lot_words.specs.Calls.{gripped, wishing, woken, GetsBy, FoundNone, Collected}
+use Rattle.lot_words.specs.Calls.{owning, wanting, woken, GetsBy, FoundNone, Collected}
 use Rattle.base_trials.specs.LockSchedules.{IsPass, IsCalm, Wants, Owns, IsRoot}
 use Rattle.lot_words.specs.Shown.{pass_at, root_at}
 
 module _ {V : Type 0} (p : PassShown (LockPassView V)) (z : TableId) (t l : ℕ) (is : IsPass z t p) (near : l < 2) where
   -- who got a lock of two owns it
-  grips : (x : V) → p.pass.own.asleep ≡ false → Owns (gripped p.pass.own l x) l
+  grips : (x : V) → p.pass.own.asleep ≡ false → Owns (owning p.pass.own l x) l
   grips x up = (
     (up, refl),
     subst IsHeld (sym (get_or-set_same p.pass.own.holds l Held NotHeld (omega (arith, is.2)))) tt,
     (x, set_here p.pass.own.places l (InSlot x) (omega (arith, is.3)), set_here p.pass.own.seen l x (omega (arith, is.4))),
   )
 
-  module _ {Part : Type 0} (rule : CallersRule V Part) (a c : Access) (q : PassView (LockPassView V)) (b : Bool)
+  module _ {Part : Type 0} (rule : CallersRule V Part) (a c : Access) (q : PassRight (LockPassView V)) (b : Bool)
       (up : p.pass.own.asleep ≡ false) where
     got : GetsBy rule p.pass l a q → Owns q.own l
-    got h = subst (λ (y : PassView (LockPassView V)). Owns y.own l) (sym h.2.1) (grips h.0 up)
+    got h = subst (λ (y : PassRight (LockPassView V)). Owns y.own l) (sym h.2.1) (grips h.0 up)
 
-    pub took : MatchBool b (GetsBy rule p.pass l a q) (Notes p.pass (wishing p.pass.own l) c q) → MatchBool b (Owns q.own l) (Wants q.own l)
+    pub took : MatchBool b (GetsBy rule p.pass l a q) (Notes p.pass (wanting p.pass.own l) c q) → MatchBool b (Owns q.own l) (Wants q.own l)
     took = by_bool b
       where
-        by_bool : (b : Bool) → MatchBool b (GetsBy rule p.pass l a q) (Notes p.pass (wishing p.pass.own l) c q)
+        by_bool : (b : Bool) → MatchBool b (GetsBy rule p.pass l a q) (Notes p.pass (wanting p.pass.own l) c q)
             → MatchBool b (Owns q.own l) (Wants q.own l)
         by_bool true h = got h
-        by_bool false h = subst (λ (y : PassView (LockPassView V)). Wants y.own l) (sym h.1) (up, refl)
+        by_bool false h = subst (λ (y : PassRight (LockPassView V)). Wants y.own l) (sym h.1) (up, refl)
 
     pub tried : p.pass.own.aim ≡ None → MatchBool b (GetsBy rule p.pass l a q) (Notes p.pass p.pass.own c q)
         → MatchBool b (Owns q.own l) (IsCalm q.own)
@@ -47,10 +47,10 @@ module _ {V : Type 0} (p : PassShown (LockPassView V)) (z : TableId) (t l : ℕ)
         by_bool : (b : Bool) → MatchBool b (GetsBy rule p.pass l a q) (Notes p.pass p.pass.own c q)
             → MatchBool b (Owns q.own l) (IsCalm q.own)
         by_bool true h = got h
-        by_bool false h = subst (λ (y : PassView (LockPassView V)). IsCalm y.own) (sym h.1) (up, aim)
+        by_bool false h = subst (λ (y : PassRight (LockPassView V)). IsCalm y.own) (sym h.1) (up, aim)
 
   -- to whom it was handed owns it
-  pub was_handed : {Part : Type 0} (rule : CallersRule V Part) (q : PassView (LockPassView V)) (o : Option ℕ)
+  pub was_handed : {Part : Type 0} (rule : CallersRule V Part) (q : PassRight (LockPassView V)) (o : Option ℕ)
       → p.pass.own.aim ≡ Some l → o ≡ Some 1
       → MatchOption o (FoundNone p.pass q) (λ token. Collected rule p.pass token q)
       → Owns q.own l × (q.own.holds ≡ set p.pass.own.holds l Held)
@@ -59,8 +59,8 @@ module _ {V : Type 0} (p : PassShown (LockPassView V)) (z : TableId) (t l : ℕ)
       subst (λ o. MatchOption o (FoundNone p.pass q) (λ token. Collected rule p.pass token q)) one letter in
       let same : h.1.0 ≡ l = (let e : Some h.1.0 ≡ Some l = sym h.1.1 ∙ aim in cc) in
       let x : V = h.1.2.0 in
-      let is_now : q.own ≡ woken (gripped p.pass.own l x) = ap (λ (y : PassView (LockPassView V)). y.own) h.1.2.2.1
-      ∙ ap (λ k. woken (gripped p.pass.own k x)) same in (
+      let is_now : q.own ≡ woken (owning p.pass.own l x) = ap (λ (y : PassRight (LockPassView V)). y.own) h.1.2.2.1
+      ∙ ap (λ k. woken (owning p.pass.own k x)) same in (
         subst (λ y. Owns y l) (sym is_now) (
           (refl, refl),
           subst IsHeld (sym (get_or-set_same p.pass.own.holds l Held NotHeld (omega (arith, is.2)))) tt,

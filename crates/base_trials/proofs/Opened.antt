@@ -21,7 +21,7 @@ use Rattle.lot_whole.specs.Lot.{fresh_pass, fresh_root}
 use Rattle.lot_whole.specs.Standing.{IsUp}
 use Rattle.lot_park.specs.Lots.{Appends}
 use Rattle.lot_scheme.specs.Roots.{root_view}
-use Rattle.lot_scheme.specs.Standing.{LotStanding, stands}
+use Rattle.lot_scheme.specs.Standing.{LotStanding, standing_shown}
 use Rattle.base_trials.specs.Calm.{IsCalm}
 use Rattle.base_trials.specs.Opened.{fresh_at, size_of, IsFresh, AreBack, AreFreshRoots, AreRootsBack}
 use Rattle.base_trials.proofs.Calm.{calm_done}
@@ -39,8 +39,8 @@ module _ {V : Type 0} (table : TableId) (locks conds : ℕ) (values : List V) wh
   fresh_up sem = refl
 
   pub fresh_is : (t : ℕ) (p : PassShown (LotPassView V)) (now : LotStanding V) → p ≡ fresh_at table (size_of locks conds) values t
-      → now ≡ stands p → IsFresh (locks + conds) t now
-  fresh_is t p now is stood = subst (IsFresh (locks + conds) t) (sym (stood ∙ ap stands is)) (
+      → now ≡ standing_shown p → IsFresh (locks + conds) t now
+  fresh_is t p now is stood = subst (IsFresh (locks + conds) t) (sym (stood ∙ ap standing_shown is)) (
     record {
       there = record { thread = refl; up = fresh_up; out = refl; sweeps = refl; seeks = refl; stand = refl };
       aim = refl;
@@ -96,7 +96,7 @@ module _ {V : Type 0} (table : TableId) where
   })
 
   pub one_gathered : (n : ℕ) (xs ys : List (PassShown (LotPassView V))) (now : LotStanding V) (p : PassShown (LotPassView V))
-      → ys ≡ xs ++ p ∷ [] → now ≡ stands p
+      → ys ≡ xs ++ p ∷ [] → now ≡ standing_shown p
       → p.table ≡ table → IsCalm n now → Gathered n xs → Gathered (n + 1) ys
   one_gathered n xs ys now p is same named calm before = record {
     named = subst (All (λ (q : PassShown (LotPassView V)). q.table ≡ table)) (sym is)

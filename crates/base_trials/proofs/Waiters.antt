@@ -5,7 +5,7 @@ use Rattle.lot_locks.specs.declared.released.Released.{Released}
 use Rattle.lot_locks.specs.Standing.{IsOwner, LetsGo}
 use Rattle.lot_words.specs.CallersRule.{CallersRule}
 use Rattle.lot_scheme.specs.Standing.{LotStanding}
-use Rattle.lot_waits.specs.Counts.{CountsView, AreKept, counts_in, took, woke}
+use Rattle.lot_waits.specs.Counts.{CountsView, AreKept, counts_in, called_more, one_wait_more}
 use Rattle.lot_waits.specs.Notifying.{Notifies, NotifiesAll, one_if}
 use Rattle.lot_waits.specs.Waiting.{HasWaited}
 use Rattle.base_trials.specs.Calm.{IsCalm}
@@ -31,24 +31,24 @@ module _ (locks conds : ℕ) (two : locks ≡ 2) (one : conds ≡ 1) where
   pub all_taken : {V : Type 0} (p q : LotStanding V) (taken : ℕ) (called woken called_now woken_now : List ℕ) → IsCalm p.thread p
       → NotifiesAll p 2 taken q
       → AreKept locks conds (counts_in p) called woken
-      → (IsAmongConds 2 1 2 → AreKept 2 1 (counts_in p) called woken → AreKept 2 1 (took (counts_in p) 2 taken) called_now woken_now)
+      → (IsAmongConds 2 1 2 → AreKept 2 1 (counts_in p) called woken → AreKept 2 1 (called_more (counts_in p) 2 taken) called_now woken_now)
       → IsCalm q.thread q × AreKept locks conds (counts_in q) called_now woken_now
   all_taken p q taken called woken called_now woken_now calm took_all kept counts = (
     calm_itself p.thread q (all_notified_calm p.thread 2 taken p q calm took_all),
     subst (λ (r : CountsView). AreKept locks conds r called_now woken_now) (sym (all_notified_counts 2 taken p q took_all))
-        (raised (counts_in p) (took (counts_in p) 2 taken) called woken called_now woken_now kept counts),
+        (raised (counts_in p) (called_more (counts_in p) 2 taken) called woken called_now woken_now kept counts),
   )
 
   pub one_taken : {V : Type 0} (b : Bool) (p q : LotStanding V) (called woken called_now woken_now : List ℕ) → b ≡ true
       → IsCalm p.thread p → Notifies p 2 1 (one_if b) q
       → AreKept locks conds (counts_in p) called woken
-      → (IsAmongConds 2 1 2 → AreKept 2 1 (counts_in p) called woken → AreKept 2 1 (took (counts_in p) 2 1) called_now woken_now)
+      → (IsAmongConds 2 1 2 → AreKept 2 1 (counts_in p) called woken → AreKept 2 1 (called_more (counts_in p) 2 1) called_now woken_now)
       → IsCalm q.thread q × AreKept locks conds (counts_in q) called_now woken_now
   one_taken b p q called woken called_now woken_now is calm took_one kept counts =
       let taken : Notifies p 2 1 1 q = subst (λ d. Notifies p 2 1 (one_if d) q) is took_one in (
         calm_itself p.thread q (notified_calm p.thread 2 1 1 p q calm taken),
         subst (λ (r : CountsView). AreKept locks conds r called_now woken_now) (sym (notified_counts 2 1 1 p q taken))
-            (raised (counts_in p) (took (counts_in p) 2 1) called woken called_now woken_now kept counts),
+            (raised (counts_in p) (called_more (counts_in p) 2 1) called woken called_now woken_now kept counts),
       )
 
   pub none_taken : {V : Type 0} (b : Bool) (p q : LotStanding V) (called woken : List ℕ) → b ≡ false → IsCalm p.thread p
@@ -64,15 +64,15 @@ module _ (locks conds : ℕ) (two : locks ≡ 2) (one : conds ≡ 1) where
       (called woken called_now woken_now : List ℕ)
       → IsCalm p.thread p → IsOwner rule p l owner → HasWaited rule owner 2 l first again → LetsGo again l second q
       → AreKept locks conds (counts_in p) called woken
-      → (IsAmongConds 2 1 2 → AreKept 2 1 (counts_in p) called woken → AreKept 2 1 (woke (counts_in p) 2) called_now woken_now)
+      → (IsAmongConds 2 1 2 → AreKept 2 1 (counts_in p) called woken → AreKept 2 1 (one_wait_more (counts_in p) 2) called_now woken_now)
       → IsCalm q.thread q × AreKept locks conds (counts_in q) called_now woken_now
   waited_again rule l first second p owner again q called woken called_now woken_now calm got waited gone kept counts =
       let has = owner_has_it rule p.thread l p owner (inl calm) got in
       let back = waited_has_it rule p.thread 2 l first owner again has waited in
-      let is : counts_in q ≡ woke (counts_in p) 2 =
+      let is : counts_in q ≡ one_wait_more (counts_in p) 2 =
       went_counts l second again q gone ∙ (waited_counts rule 2 l first owner again waited
-      ∙ ap (λ (r : CountsView). woke r 2) (owner_counts rule l p owner got)) in (
+      ∙ ap (λ (r : CountsView). one_wait_more r 2) (owner_counts rule l p owner got)) in (
         calm_itself p.thread q (went p.thread l second again q back gone),
         subst (λ (r : CountsView). AreKept locks conds r called_now woken_now) (sym is)
-            (raised (counts_in p) (woke (counts_in p) 2) called woken called_now woken_now kept counts),
+            (raised (counts_in p) (one_wait_more (counts_in p) 2) called woken called_now woken_now kept counts),
       )

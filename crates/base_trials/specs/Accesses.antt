@@ -4,16 +4,16 @@ use mathlib.Core.Option.{some}
 use lib.ListN.{get_elem?}
 use Rattle.atomic_table.specs.Table.{State}
 use Rattle.lot_rights.specs.declared.views.Entry.{Entry}
-use Rattle.lot_rights.specs.declared.views.PassView.{PassView}
-use Rattle.lot_rights.specs.declared.views.RootView.{RootView}
+use Rattle.lot_rights.specs.declared.views.PassRight.{PassRight}
+use Rattle.lot_rights.specs.declared.views.RootRight.{RootRight}
 use Rattle.lot_rights.specs.declared.views.Right.{Right}
 use Rattle.lot_rights.specs.declared.views.Right.TheVariants.{Pass, Root}
 use Rattle.lot_rights.specs.History.{doer}
-use Rattle.lot_rights.specs.Rule.{Scheme, Leads, Ruled}
+use Rattle.lot_rights.specs.Rule.{Meaning, Leads, Ruled}
 
 -- the root q comes to the seat of the pass p; there p makes the access x, and they part
 pub record CallOfTwo {S P R : Type 0} (s joined made parted : State S (List (Right P R))) (id other : ℕ)
-    (p p' : PassView P) (q q' : RootView R) (x : Entry) : Type 0 where
+    (p p' : PassRight P) (q q' : RootRight R) (x : Entry) : Type 0 where
   pub apart : other ≢ id
   pub pass : get_elem? s.views id ≡ some (Pass p ∷ [])
   pub root : get_elem? s.views other ≡ some (Root q ∷ [])
@@ -29,6 +29,6 @@ pub record CallOfTwo {S P R : Type 0} (s joined made parted : State S (List (Rig
   pub parts : parted.views ≡ slice_set made.views id (Pass p' ∷ []) ++ (Root q' ∷ []) ∷ []
 
 -- the history has the access x more, and no other, of what the words told just then
-abbrev pub IsOneAccess : {S P R : Type 0} (k : Scheme S P R) (s s' : State S (List (Right P R))) → Ruled k s → Ruled k s' → Entry → Type 0
+abbrev pub IsOneAccess : {S P R : Type 0} (k : Meaning S P R) (s s' : State S (List (Right P R))) → Ruled k s → Ruled k s' → Entry → Type 0
 IsOneAccess k s s' before after x =
     (after.log ≡ before.log ++ x ∷ []) × (x.at ≡ length before.log) × Leads k (k.told_by before.world) x.access (k.told_by after.world)

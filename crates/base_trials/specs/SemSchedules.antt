@@ -8,7 +8,7 @@ use Rattle.lot_sems.specs.World.{Numbers}
 use Rattle.lot_sems.specs.Calls.{IsCalm, IsSeeking, MayGive}
 
 abbrev pub IsOne : Numbers → Type 0
-IsOne size = (size.low ≡ 1) × (length size.permits ≡ 1)
+IsOne size = (size.first_sem ≡ 1) × (length size.permits ≡ 1)
 
 -- a pass of the table, of the thread t
 abbrev pub IsOf : TableId → ℕ → PassShown SemPassView → Type 0

@@ -3,7 +3,7 @@ use Rattle.std.specs.Prelude.{◌≡◌, ℕ, Option, IsSomeAnd}
 
 -- the locks have the numbers 0 and 1, and the condition has the number 2
 abbrev pub IsSmall : ℕ → ℕ → ℕ → Type 0
-IsSmall locks conds low = (locks ≡ 2) × (conds ≡ 1) × (low ≡ 3)
+IsSmall locks conds first_sem = (locks ≡ 2) × (conds ≡ 1) × (first_sem ≡ 3)
 
 -- what lay there went through calls that count it so, and lies there again
 abbrev pub EndsThere : {A : Type 0} → (A → A) → Option A → Option A → Type 0

@@ -3,7 +3,7 @@ use Rattle.std.proofs.Common.{◌≡◌, ℕ, ◌+◌, ◌-◌, ◌<◌, ◌≤�
 use mathlib.Core.Logic.{dite}
 use native.Mathlib.Decide.{ℕ_discrete}
 use Rattle.lot_permits.specs.Permits.{PermitView}
-use Rattle.lot_sync.specs.Lot.{PassView, HeldView, Owns, OwnsNone, owning, leaving}
+use Rattle.lot_sync.specs.Lot.{PassView, HeldView, Owns, OwnsNone, owning, letting_go}
 use Rattle.lot_sync.proofs.Holdings.{owns_none_again}
 use Rattle.gallery.specs.Leases.{Leases, Holds, GivesBack}
 
@@ -43,8 +43,8 @@ module _ {V : Type 0} (p q : PassView V) (pool : ℕ) (permit : PermitView) (hel
       out : PassView V
       out = owning p held.key held.value
 
-      free : OwnsNone (leaving out held.key left.value)
-      free = owns_none_again p out (leaving out held.key left.value) held.key held.key held.value left.value none refl refl refl
+      free : OwnsNone (letting_go out held.key left.value)
+      free = owns_none_again p out (letting_go out held.key left.value) held.key held.key held.value left.value none refl refl refl
 
       owns_then : r.owns ≡ set (set p.owns held.key true) held.key false
       owns_then = ap (λ (z : PassView V). z.owns) gave.after_is

@@ -7,7 +7,7 @@ use Rattle.atomic_table.proofs.Lists.{at_set, set_else}
 use mathlib.Core.Option.{some, some-injective}
 use lib.ListN.{get_elem?}
 use Rattle.lot_words.specs.CallersRule.{CallersRule}
-use Rattle.lot_sync.specs.Lot.{LotView, PassView, ◌≈◌, HeldView, Owns, OwnsNone, HasSeen, leaving, rested}
+use Rattle.lot_sync.specs.Lot.{LotView, PassView, ◌≈◌, HeldView, Owns, OwnsNone, HasSeen, letting_go, rested}
 use Rattle.lot_sync.specs.Values.{Gets, GoesOnTo}
 use Rattle.lot_sync.specs.Holding.{Holding, HoldingBoth}
 use Rattle.lot_sync.proofs.Holdings.{got_holds, got_both, left_second, left_all}
@@ -172,7 +172,7 @@ module _ (thread : ℕ) (a b x y : HeldView Account) (r : PassView Account) (has
       let same : a.value ≡ v = some-injective a.value v (sym has.sees_first ∙ subst (λ j. HasSeen r j v) x_key seen) in
       ap opening_of (sym same) ∙ settled.opened_from
 
-  module _ (s : PassView Account) (left : s ≈ leaving r x.key x.value) where
+  module _ (s : PassView Account) (left : s ≈ letting_go r x.key x.value) where
     holds_two : Holding (λ (u v : Account). Unit {0}) s y
     holds_two = left_second (λ (u v : Account). Unit {0}) r s x y holds left
 
@@ -195,7 +195,7 @@ module _ (thread : ℕ) (a b x y : HeldView Account) (r : PassView Account) (has
         let same : b.value ≡ v = some-injective b.value v (sym has.sees_second ∙ subst (λ j. HasSeen r j v) y_key at) in
         ap opening_of (sym same) ∙ settled.opened_into
 
-    module _ (u : PassView Account) (left' : u ≈ leaving s y.key y.value) where
+    module _ (u : PassView Account) (left' : u ≈ letting_go s y.key y.value) where
       pub free_again : OwnsNone u
       free_again =
           let free = left_all (λ (v w : Account). Unit {0}) s y holds_two in

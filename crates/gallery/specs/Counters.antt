@@ -1,7 +1,7 @@
 -- A shard of counters: a row for each worker.
 use Rattle.std.specs.Prelude.{◌≡◌, ℕ, ◌+◌, ◌%◌, ◌^◌, ◌<◌, List, [], length, sum, slice_set, slice_index, slice_index_or, Option, IsSomeAnd}
 use Rattle.std.specs.List.{sum_by, All, Any}
-use Rattle.lot_sync.specs.Lot.{LotView, PassView, OwnsNone, IsWide}
+use Rattle.lot_sync.specs.Lot.{LotView, PassView, OwnsNone, HasShape}
 use Rattle.gallery.specs.declared.map.Shard.{Shard}
 use Rattle.gallery.specs.declared.map.TheConstants.{SHARDS, PLACES, WORKERS, COUNTERS}
 
@@ -33,7 +33,7 @@ AreNew shards = (thread : ℕ) → added_by thread shards ≡ 0
 pub record IsNew (lot : LotView) (pass : PassView Shard) : Type 0 where
   pub is_thread : pass.thread < WORKERS
   pub free : OwnsNone pass
-  pub wide : IsWide lot pass
+  pub shape : HasShape lot pass
   pub long : length pass.seen ≡ SHARDS
   pub none : added_by pass.thread pass.seen ≡ 0
 

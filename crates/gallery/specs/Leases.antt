@@ -1,7 +1,7 @@
 -- Connections that are out.
 use Rattle.std.specs.Prelude.{◌≡◌, ℕ}
 use Rattle.lot_permits.specs.Permits.{PermitView}
-use Rattle.lot_sync.specs.Lot.{PassView, ◌≈◌, HeldView, Owns, owning, leaving, one_more, one_less}
+use Rattle.lot_sync.specs.Lot.{PassView, ◌≈◌, HeldView, Owns, owning, letting_go, one_permit_more, one_permit_less}
 use Rattle.lot_sync.specs.Permits.{HasPermit}
 
 module _ {V : Type 0} where
@@ -15,8 +15,8 @@ module _ {V : Type 0} where
   pub record Leases (before : PassView V) (pool : ℕ) (permit : PermitView) (connection : HeldView V) (after : PassView V) : Type 0 where
     pub of_pool : permit.key ≡ pool
     pub of_thread : permit.thread ≡ before.thread
-    pub after_is : after ≈ owning (one_more before pool) connection.key connection.value
+    pub after_is : after ≈ owning (one_permit_more before pool) connection.key connection.value
 
   -- both were given back
   pub record GivesBack (before : PassView V) (permit : PermitView) (connection : HeldView V) (after : PassView V) : Type 0 where
-    pub after_is : after ≈ one_less (leaving before connection.key connection.value) permit.key
+    pub after_is : after ≈ one_permit_less (letting_go before connection.key connection.value) permit.key

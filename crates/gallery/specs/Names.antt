@@ -9,7 +9,7 @@ name_of names = record { opening = names.opening }
 
 abbrev pub lot_name_of : {V : Type 0} → LotNames V → LotNameMeans Brand V
 lot_name_of names = record {
-  low = names.low;
+  first_sem = names.first_sem;
   permits = names.permits;
   locks = names.locks;
   conds = names.conds;

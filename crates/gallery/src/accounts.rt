@@ -1,7 +1,7 @@
 //! Accounts: a transfer under two locks, and at the end the sum is the sum at the beginning.
 ghost use Rattle.std.specs.Prelude.{◌≡◌, ◌≢◌, ◌<◌, ◌≤◌, ◌+◌, ◌*◌, ◌^◌, ℕ, IfOk, IfSome, MatchBool, length, vec_len, vec_capacity};
 ghost use Rattle.std.specs.List.{sum_by};
-ghost use Rattle.lot_sync.specs.Lot.{OwnsNone, IsWide, rested};
+ghost use Rattle.lot_sync.specs.Lot.{OwnsNone, HasShape, rested};
 ghost use Rattle.gallery.specs.Accounts.{IsBooked, IsEven, AreEven, HasBoth, MovesOut, MovesIn, Settles, balance_of, opening_of, AreOpenedAs};
 
 use crate::crew::{Crew, NOW, Opening, open, start};

@@ -1,7 +1,7 @@
 //! A pool of connections on a semaphore: never more are out than there are, and none is out twice.
 ghost use Rattle.std.specs.Prelude.{◌≡◌, ◌≢◌, ◌+◌, ◌≤◌, ◌<◌, ℕ, length};
 ghost use Rattle.lot_scheme.specs.SemCalls.{opening_permits};
-ghost use Rattle.lot_sync.specs.Lot.{OwnsNone, IsWide, permits_with};
+ghost use Rattle.lot_sync.specs.Lot.{OwnsNone, HasShape, permits_with};
 ghost use Rattle.gallery.specs.Leases.{Leases, Holds, GivesBack};
 
 use crate::crew::{Crew, NOW, Opening, end, open, start};
@@ -60,7 +60,7 @@ impl<N: LotName<Connection> + Send> Pool<'_, N> {
     pub fn take_out<T: Wait>(&self, rt: &T, pass: User<N>) -> (User<N>, Lease<N>)
         requires free { OwnsNone pass }
         ensures leases { Leases pass POOL result.1.permit result.1.connection result.0 }
-        ensures wide { IsWide self.now.lot.now result.0 }
+        ensures shape { HasShape self.now.lot.now result.0 }
         ensures locks { result.1.connection.key < CONNECTIONS }
     {
         let (mut pass, permit) = self.lot.acquire(rt, pass, POOL);
@@ -123,7 +123,7 @@ pub fn check_leases<N: LotName<Connection> + Send>(
     requires two { Holds second POOL two.now.permit two.now.connection }
     ensures same { (result.0 ≡ first) × (result.1 ≡ second) }
     ensures apart { one.now.connection.key ≢ two.now.connection.key }
-    ensures never_more { permits_with first POOL + permits_with second POOL ≤ opening_permits N.low N.permits POOL }
+    ensures never_more { permits_with first POOL + permits_with second POOL ≤ opening_permits N.first_sem N.permits POOL }
 {
     let (first, second) = lot.check_apart(first, second);
     lot.check_permits(first, second)

@@ -1,7 +1,7 @@
 //! What the programs share: a lot is opened and started, with room for its passes, and a crew of threads works on it.
 ghost use Rattle.std.specs.Prelude.{◌≡◌, ◌+◌, ◌≤◌, ◌<◌, length, vec_len, vec_capacity, IfOk, IfSome};
 ghost use Rattle.lot_sync.specs.Starting.{Starts};
-ghost use Rattle.lot_sync.specs.Lot.{PassView, OwnsNone, IsWide, rested};
+ghost use Rattle.lot_sync.specs.Lot.{PassView, OwnsNone, HasShape, rested};
 ghost use Rattle.lot_sync.specs.Opened.{KeepAll};
 
 use lot_calls::finish;
@@ -187,7 +187,7 @@ impl Crew {
         ensures thread { IfSome result (λ pass. pass.thread < lot.now.threads) }
         ensures free { IfSome result OwnsNone }
         ensures rests { IfSome result (λ pass. V.rests (rested pass)) }
-        ensures wide { IfSome result (IsWide lot.now) }
+        ensures shape { IfSome result (HasShape lot.now) }
     {
         match lot.register(rt) {
             Ok(pass) => {

@@ -1,6 +1,6 @@
 //! A map of counters over many locks: nothing is lost.
 ghost use Rattle.std.specs.Prelude.{◌≡◌, ◌≢◌, ◌%◌, ◌/◌, ◌*◌, ◌+◌, ◌<◌, ◌≤◌, ◌^◌, ℕ, length, sum, vec_len, vec_capacity, IfOk, IsSomeAnd};
-ghost use Rattle.lot_sync.specs.Lot.{OwnsNone, IsWide, HasSeen};
+ghost use Rattle.lot_sync.specs.Lot.{OwnsNone, HasShape, HasSeen};
 ghost use Rattle.lot_sync.specs.Opened.{KeepAll};
 ghost use Rattle.gallery.specs.Counters.{HasRows, Adds, row_of, added_by, total_of, IsNew, Worked, WorkedThere, IsDone, AreDone, AreNew};
 
@@ -71,10 +71,10 @@ pub fn add<N: LotName<Shard> + Send, T: Wait>(
     requires thread { pass.thread < WORKERS }
     requires counter { counter < COUNTERS }
     requires free { OwnsNone pass }
-    requires wide { IsWide lot.now pass }
+    requires shape { HasShape lot.now pass }
     requires few { added_by pass.thread pass.seen + 1 < 2 ^ 64 }
     ensures free { OwnsNone result }
-    ensures wide { IsWide lot.now result }
+    ensures shape { HasShape lot.now result }
     ensures thread { result.thread ≡ pass.thread }
     ensures adds { added_by result.thread result.seen ≡ added_by pass.thread pass.seen + 1 }
 {

@@ -4,7 +4,7 @@ use Rattle.lot_words.specs.CallersRule.{CallersRule}
 use Rattle.lot_locks.specs.declared.released.Released.{Released}
 use Rattle.lot_scheme.specs.Words.{GetWord}
 use Rattle.lot_locks.specs.Released.{IsFitting, FreeWord}
-use Rattle.lot_sync.specs.Lot.{PassView, ◌≈◌, HeldView, Owns, HasSeen, owning, leaving}
+use Rattle.lot_sync.specs.Lot.{PassView, ◌≈◌, HeldView, Owns, HasSeen, owning, letting_go}
 use Rattle.lot_sync.specs.Words.{Adds}
 use Rattle.lot_sync.specs.Values.{Gets}
 use Rattle.lot_calls.specs.Words.{VisitWord}
@@ -20,7 +20,7 @@ set_back (b ∷ bs) (suc k) clear = ap (λ cs. b ∷ cs) (set_back bs k clear)
 module _ {V Part : Type 0} (rule : CallersRule V Part) where
   -- the owner found the value, left another that it may become, and let the lock go
   pub visits : (before got after : PassView V) (key : ℕ) (held : HeldView V) (found left : V) → ¬ Owns before key → Gets rule before key held got
-      → found ≡ held.value → MayBecome rule key before.thread found left → after ≈ leaving got held.key left → HasSeen after held.key left
+      → found ≡ held.value → MayBecome rule key before.thread found left → after ≈ letting_go got held.key left → HasSeen after held.key left
       → Visits rule before key found left after
   visits before got after key held found left free gets same may went seen =
       subst (λ x. Visits rule before key x left after) (sym same) record {
@@ -33,8 +33,8 @@ module _ {V Part : Type 0} (rule : CallersRule V Part) where
         seen = subst (λ k. HasSeen after k left) gets.key_is seen;
       }
     where
-      after_is : after ≈ leaving (owning before key held.value) key left
-      after_is = subst (λ k. after ≈ leaving got k left) gets.key_is went ∙ ap (λ (p : PassView V). record (leaving p key left) { made = after.made }) gets.after_is
+      after_is : after ≈ letting_go (owning before key held.value) key left
+      after_is = subst (λ k. after ≈ letting_go got k left) gets.key_is went ∙ ap (λ (p : PassView V). record (letting_go p key left) { made = after.made }) gets.after_is
 
 -- which accesses it made
 pub visit_made : {V : Type 0} (before got after : PassView V) (key k now : ℕ) (became : Released) → k ≡ key → got.thread ≡ before.thread → Adds before.made (GetWord before.thread key) got.made

@@ -6,7 +6,7 @@ use mathlib.Core.Option.{some}
 use lib.ListN.{get_elem?}
 use Rattle.lot_words.specs.CallersRule.{CallersRule}
 use Rattle.lot_scheme.specs.Words.{GetWord}
-use Rattle.lot_sync.specs.Lot.{LotView, PassView, HeldView, ◌≈◌, Owns, OwnsNone, HasSeen, IsWide, owning, leaving, waking}
+use Rattle.lot_sync.specs.Lot.{LotView, PassView, HeldView, ◌≈◌, Owns, OwnsNone, HasSeen, HasShape, owning, letting_go, one_wait_more}
 use Rattle.lot_sync.specs.Words.{Adds, WaitedWord}
 use Rattle.lot_sync.specs.Values.{Gets, MayGiveBack, WaitsAndGets}
 use Rattle.lot_sync.specs.Holding.{Holding}
@@ -31,10 +31,10 @@ raised_more ns c n near =
 module _ {V : Type 0} where
   -- after one wait more: the pass that waited n times let the lock go, was woken and got the lock again
   pub waits_once_more : (before pass after : PassView V) (key cond n : ℕ) (left found before_found : V) → cond < length before.woken
-      → AfterWaits before key cond before_found n pass → after ≈ owning (waking (leaving pass key left) cond) key found → HasSeen after key found
+      → AfterWaits before key cond before_found n pass → after ≈ owning (one_wait_more (letting_go pass key left) cond) key found → HasSeen after key found
       → AfterWaits before key cond found (suc n) after
   waits_once_more before pass after key cond zero left found before_found near same went seen = (
-    went ∙ (ap (λ (p : PassView V). record (owning (waking (leaving p key left) cond) key found) { made = after.made }) same ∙ (λ i. record {
+    went ∙ (ap (λ (p : PassView V). record (owning (one_wait_more (letting_go p key left) cond) key found) { made = after.made }) same ∙ (λ i. record {
       thread = before.thread;
       owns = set-set before.owns key false true i;
       seen = set-set before.seen key left found i;
@@ -46,7 +46,7 @@ module _ {V : Type 0} where
     seen,
   )
   waits_once_more before pass after key cond (suc n) left found before_found near waited went seen = (
-    went ∙ (ap (λ (p : PassView V). record (owning (waking (leaving p key left) cond) key found) { made = after.made }) waited.0 ∙ (λ i. record {
+    went ∙ (ap (λ (p : PassView V). record (owning (one_wait_more (letting_go p key left) cond) key found) { made = after.made }) waited.0 ∙ (λ i. record {
       thread = before.thread;
       owns = (set-set (set before.owns key true) key false true ∙ set-set before.owns key true true) i;
       seen = (set-set (set before.seen key before_found) key left found ∙ set-set before.seen key before_found found) i;
@@ -95,10 +95,10 @@ module _ {V Part : Type 0} (rule : CallersRule V Part) where
   }
 
   -- one wait more
-  pub once_more : (lot : LotView) (before pass after : PassView V) (held mid found : HeldView V) (cond now : ℕ) → held.key < lot.locks → cond < length before.woken → IsWide lot pass → Owns pass held.key
+  pub once_more : (lot : LotView) (before pass after : PassView V) (held mid found : HeldView V) (cond now : ℕ) → held.key < lot.locks → cond < length before.woken → HasShape lot pass → Owns pass held.key
       → WaitsOn rule before held cond now mid pass → WaitsAndGets rule pass mid cond found after → Adds pass.made (WaitedWord pass.thread cond mid.key now) after.made
       → WaitsOn rule before held cond now found after
-  once_more lot before pass after held mid found cond now is_lock near wide owned waits gets made = record {
+  once_more lot before pass after held mid found cond now is_lock near shape owned waits gets made = record {
     count = suc waits.count;
     after_is = waits_once_more before pass after held.key cond waits.count mid.value found.value mid.value near waits.after_is went seen;
     made = made_once_more before pass after held.key mid.key cond now waits.count waits.key_is waits.thread waits.made made;
@@ -110,15 +110,15 @@ module _ {V Part : Type 0} (rule : CallersRule V Part) where
     thread = ap (λ (p : PassView V). p.thread) went ∙ waits.thread;
     same_owns = ap (λ (p : PassView V). p.owns) went ∙ (clear_back pass.owns held.key owned ∙ waits.same_owns);
     same_permits = ap (λ (p : PassView V). p.permits) went ∙ waits.same_permits;
-    back = may_go_back rule (waking (leaving pass mid.key mid.value) cond) after mid.key found found.value gets
+    back = may_go_back rule (one_wait_more (letting_go pass mid.key mid.value) cond) after mid.key found found.value gets
         (subst (λ k. rule.keeps k found.value) (sym gets.key_is) gets.kept) (rule.grows_itself found.value) (λ t else. refl);
   }
     where
-      went : after ≈ owning (waking (leaving pass held.key mid.value) cond) held.key found.value
-      went = subst (λ k. after ≈ owning (waking (leaving pass k mid.value) cond) k found.value) waits.key_is gets.after_is
+      went : after ≈ owning (one_wait_more (letting_go pass held.key mid.value) cond) held.key found.value
+      went = subst (λ k. after ≈ owning (one_wait_more (letting_go pass k mid.value) cond) k found.value) waits.key_is gets.after_is
 
-      saw : HasSeen (waking (leaving pass mid.key mid.value) cond) mid.key mid.value
-      saw = set_here pass.seen mid.key mid.value (subst (λ n. mid.key < n) (sym wide.seen) (subst (λ k. k < lot.locks) (sym waits.key_is) is_lock))
+      saw : HasSeen (one_wait_more (letting_go pass mid.key mid.value) cond) mid.key mid.value
+      saw = set_here pass.seen mid.key mid.value (subst (λ n. mid.key < n) (sym shape.seen) (subst (λ k. k < lot.locks) (sym waits.key_is) is_lock))
 
       seen : HasSeen after held.key found.value
       seen = subst (λ k. HasSeen after k found.value) waits.key_is gets.seen

@@ -2,7 +2,7 @@
 use Rattle.std.specs.Prelude.{◌≡◌, ℕ, ◌<◌, List, length}
 use Rattle.std.specs.List.{All, Any}
 use Rattle.lot_words.specs.CallersRule.{CallersRule}
-use Rattle.lot_sync.specs.Lot.{LotView, PassView, OwnsNone, IsWide, HasGrown, IsLedgerOf, rested}
+use Rattle.lot_sync.specs.Lot.{LotView, PassView, OwnsNone, HasShape, HasGrown, IsLedgerOf, rested}
 use Rattle.lot_sync.specs.Values.{GoesOnTo}
 
 module _ {V Part : Type 0} (rule : CallersRule V Part) where
@@ -12,7 +12,7 @@ module _ {V Part : Type 0} (rule : CallersRule V Part) where
     pub is_thread : p.thread < lot.threads
     pub free : OwnsNone p
     pub rests : rule.rests (rested p)
-    pub wide : IsWide lot p
+    pub shape : HasShape lot p
     pub grown : HasGrown rule.grows opening p
 
   -- the passes of all threads, which were in the lot

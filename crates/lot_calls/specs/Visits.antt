@@ -1,7 +1,7 @@
 -- One visit of a lock: it was got, work was done on its value, and it was let go.
 use Rattle.std.specs.Prelude.{◌≡◌, ◌≢◌, ℕ}
 use Rattle.lot_words.specs.CallersRule.{CallersRule}
-use Rattle.lot_sync.specs.Lot.{PassView, ◌≈◌, HasSeen, owning, leaving}
+use Rattle.lot_sync.specs.Lot.{PassView, ◌≈◌, HasSeen, owning, letting_go}
 
 module _ {V Part : Type 0} (rule : CallersRule V Part) where
   -- a thread that found the first value in the lock may leave the second: it keeps the rule, has grown, and has each other thread's part
@@ -17,6 +17,6 @@ module _ {V Part : Type 0} (rule : CallersRule V Part) where
     pub grown : (u : V) → HasSeen before key u → rule.grows u found
     pub mine : (u : V) → HasSeen before key u → rule.part before.thread u ≡ rule.part before.thread found
     pub may : MayBecome key before.thread found left
-    pub after_is : after ≈ leaving (owning before key found) key left
+    pub after_is : after ≈ letting_go (owning before key found) key left
     pub same_owns : after.owns ≡ before.owns
     pub seen : HasSeen after key left

@@ -1,6 +1,6 @@
 //! Waiting on a condition until a lock's value is as wanted.
 ghost use Rattle.std.specs.Prelude.{◌≡◌, ℕ, ◌<◌, true};
-ghost use Rattle.lot_sync.specs.Lot.{Owns, OwnsNone, IsWide, IsCond};
+ghost use Rattle.lot_sync.specs.Lot.{Owns, OwnsNone, HasShape, IsCond};
 ghost use Rattle.lot_sync.specs.Values.{MayGiveBack};
 ghost use Rattle.lot_sync.specs.Holding.{Holding};
 ghost use Rattle.lot_sync.specs.Words.{Adds};
@@ -24,14 +24,14 @@ pub fn wait_until<V: Keeps + Send, N: LotName<V> + Send, T: Wait, F: Fn(&V) -> b
 ) -> (Pass<V, N>, Held<V, N>)
     requires key { held.key < lot.now.locks }
     requires owns { Owns pass held.key }
-    requires wide { IsWide lot.now pass }
+    requires shape { HasShape lot.now pass }
     requires back { MayGiveBack V.Keeps pass held }
     requires cond { IsCond lot.now cond }
     requires callable { (v : _) → V.keeps held.key v.now → F.pre ready v }
     ensures waits { WaitsOn V.Keeps pass held cond moment.now result.1 result.0 }
     ensures ready { (v : _) × (v.now ≡ result.1.value) × F.post ready v true }
     ensures owns { Owns result.0 held.key }
-    ensures wide { IsWide lot.now result.0 }
+    ensures shape { HasShape lot.now result.0 }
 {
     let mut pass = pass;
     let mut held = held;
@@ -65,7 +65,7 @@ pub fn lock_until<V: Keeps + Send, N: LotName<V> + Send, T: Wait, F: Fn(&V) -> b
     ensures holding { OwnsNone pass → Holding V.grows result.0 result.1 }
     ensures ready { (v : _) × (v.now ≡ result.1.value) × F.post ready v true }
     ensures owns { Owns result.0 key }
-    ensures wide { IsWide lot.now result.0 }
+    ensures shape { HasShape lot.now result.0 }
 {
     let (pass, held) = lot.lock(rt, pass, key);
     wait_until(rt, lot, pass, held, cond, moment, ready)

@@ -1,6 +1,6 @@
 //! Work on the value of a lock.
 ghost use Rattle.std.specs.Prelude.{◌≡◌, ◌<◌};
-ghost use Rattle.lot_sync.specs.Lot.{Owns, OwnsNone, IsWide};
+ghost use Rattle.lot_sync.specs.Lot.{Owns, OwnsNone, HasShape};
 ghost use Rattle.lot_sync.specs.Words.{Adds};
 ghost use Rattle.lot_calls.specs.Words.{VisitWord};
 ghost use Rattle.lot_calls.specs.Visits.{MayBecome, Visits};
@@ -25,7 +25,7 @@ pub fn with_lock<V: Keeps + Send, O, N: LotName<V> + Send, T: Wait, F: FnOnce(&m
     requires keeps { (v : _) (o : _) (w : _) → V.keeps key v.now → F.post work v o w → MayBecome V.Keeps key pass.thread v.now w.now }
     ensures visits { (v : _) × (w : _) × F.post work v result.1 w × Visits V.Keeps pass key v.now w.now result.0 }
     ensures made { Adds pass.made (VisitWord pass.thread key moment.now) result.0.made }
-    ensures wide { IsWide lot.now result.0 }
+    ensures shape { HasShape lot.now result.0 }
     ensures free { OwnsNone pass → OwnsNone result.0 }
 {
     let (pass, mut held) = lot.lock(rt, pass, key);
@@ -49,7 +49,7 @@ pub fn with_value<V: Keeps + Send, O, N: LotName<V> + Send, T: Wait, F: FnOnce(V
     requires keeps { (v : V) (left : _) → V.keeps key v → F.post work v left → MayBecome V.Keeps key pass.thread v left.0 }
     ensures visits { (v : V) × (w : V) × F.post work v (w, result.1) × Visits V.Keeps pass key v w result.0 }
     ensures made { Adds pass.made (VisitWord pass.thread key moment.now) result.0.made }
-    ensures wide { IsWide lot.now result.0 }
+    ensures shape { HasShape lot.now result.0 }
     ensures free { OwnsNone pass → OwnsNone result.0 }
 {
     let (pass, held) = lot.lock(rt, pass, key);

@@ -13,21 +13,21 @@ use Rattle.lot_conds.specs.declared.views.CondPassView.{CondPassView}
 use Rattle.lot_conds.specs.declared.views.CondRootView.{CondRootView}
 use Rattle.lot_conds.specs.declared.views.Size.{Size}
 use Rattle.lot_conds.specs.World.{CondWorld, taken_from}
-use Rattle.lot_conds.specs.Rule.{sizes_of, scheme}
+use Rattle.lot_conds.specs.Rule.{sizes_of, meaning}
 use Rattle.lot_conds.specs.Closing.{IsIdle, called_in, woken_in, IsToldTo}
 use Rattle.lot_conds.proofs.Machine.{awake_is}
 
 module _ (size : Size) (passes : List (PassShown CondPassView)) (roots : List (RootShown CondRootView)) (ws : List ℕ) (xs : List (Unit {0})) where
-  pub told_to : Ended (scheme size) passes roots ws xs → IsToldTo size passes roots
+  pub told_to : Ended (meaning size) passes roots ws xs → IsToldTo size passes roots
   told_to ended = record {
-    recounted = ended_recounted (scheme size) passes roots ws xs ended;
+    recounted = ended_recounted (meaning size) passes roots ws xs ended;
     lines = All-weaker (λ (q : RootShown CondRootView). RootIs (sizes_of size) ended.left.world q.root.key q.root.own)
         (λ (q : RootShown CondRootView). (ended.left.world.root q.root.key).line ≡ q.root.own.line)
         (λ q is. ap (λ (z : CondRootView). z.line) is.1) roots ended.left.roots_fit;
   }
 
   -- what is left when no pass is out
-  module _ (left : Left (scheme size) passes roots ws xs) (idle : All IsIdle passes)
+  module _ (left : Left (meaning size) passes roots ws xs) (idle : All IsIdle passes)
       (all : (t : ℕ) → t < size.threads → Any (λ (p : PassShown CondPassView). p.pass.thread ≡ t) passes) where
     abbrev w : CondWorld
     w = left.world

@@ -10,7 +10,7 @@ use Rattle.lot_conds.specs.declared.views.CondPassView.{CondPassView}
 use Rattle.lot_conds.specs.declared.views.CondRootView.{CondRootView}
 use Rattle.lot_conds.specs.declared.views.Size.{Size}
 use Rattle.lot_conds.specs.World.{CondWorld, SpotFits, Kept}
-use Rattle.lot_conds.specs.Rule.{key_count, scheme}
+use Rattle.lot_conds.specs.Rule.{key_count, meaning}
 use Rattle.lot_conds.specs.Headline.{LettersFit, Headline}
 
 module _ (n m : ℕ) (w : CondWorld) (ok : Kept n m w) where
@@ -36,8 +36,8 @@ module _ (n m : ℕ) (w : CondWorld) (ok : Kept n m w) where
   in_line_near : (c t : ℕ) → Contains (w.root c).line t → t < n
   in_line_near c t h = (at_spot t (queued c) ((ok.threads t).in_line c h)).0.0
 
-pub headline : (size : Size) (s : State (Unit {0}) (List (Right CondPassView CondRootView))) → Ruled (scheme size) s → Headline size s
-headline size s ru = let run = has_one_run (scheme size) s ru in record {
+pub headline : (size : Size) (s : State (Unit {0}) (List (Right CondPassView CondRootView))) → Ruled (meaning size) s → Headline size s
+headline size s ru = let run = has_one_run (meaning size) s ru in record {
   world = ru.world;
   words = ru.fits.words;
   rights = ru.seats;

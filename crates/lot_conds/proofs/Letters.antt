@@ -9,7 +9,7 @@ use Rattle.lot_rights.proofs.Puts.{put_elim}
 use Rattle.lot_conds.specs.declared.views.CondPassView.{CondPassView}
 use Rattle.lot_conds.specs.declared.views.CondRootView.{CondRootView}
 use Rattle.lot_conds.specs.World.{CondWorld, SpotFits, taken_from, ThreadFits, CondFits, Kept}
-use Rattle.lot_conds.specs.Calls.{woken_pass, paid_root}
+use Rattle.lot_conds.specs.Calls.{one_wait_more, paid_root}
 use Rattle.lot_conds.proofs.Machine.{turned, no_some, owed_same, not_both, taken_else, taken_here, SameFor, same_for, thread_on, cond_stays, turns}
 use Rattle.lot_core.proofs.Sums.{total_same, total_but}
 
@@ -50,10 +50,10 @@ module _ (n m : ℕ) (w : CondWorld) (ok : Kept n m w) where
         (λ k _. stays k)
 
   -- the thread collects its letter
-  pub collects_kept : (t c : ℕ) → c < m → w.spot t ≡ lying c 0 → Kept n m (turned w t (woken_pass (w.pass t) c) (put w.spot t awake) c (w.word c) (w.root c))
+  pub collects_kept : (t c : ℕ) → c < m → w.spot t ≡ lying c 0 → Kept n m (turned w t (one_wait_more (w.pass t) c) (put w.spot t awake) c (w.word c) (w.root c))
   collects_kept t c here lies =
       let q : CondRootView = w.root c in
-      let p : CondPassView = woken_pass (w.pass t) c in
+      let p : CondPassView = one_wait_more (w.pass t) c in
       let spots : ℕ → Spot = put w.spot t awake in
       let me = ok.threads t in
       let xs = (w.pass t).woken in

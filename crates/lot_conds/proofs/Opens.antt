@@ -11,7 +11,7 @@ use Rattle.lot_core.proofs.Sums.{total_same, total_none}
 use Rattle.lot_rights.proofs.Worlds.{fresh_words}
 use Rattle.lot_conds.specs.declared.views.Size.{Size}
 use Rattle.lot_conds.specs.World.{CondWorld, flag_word, Kept}
-use Rattle.lot_conds.specs.Rule.{key_count, sizes_of, fresh_pass, fresh_root, scheme}
+use Rattle.lot_conds.specs.Rule.{key_count, sizes_of, fresh_pass, fresh_root, meaning}
 use Rattle.lot_conds.proofs.Machine.{no_some}
 
 abbrev fresh_world : ℕ → CondWorld
@@ -33,7 +33,7 @@ fresh_kept n m = record {
   conds = λ c. record { once = once_none; owed_once = once_none; swept = λ e some. absurd (some refl); ledger = omega (arith, none_counted n m c, total_none n) };
 }
 
-pub opens_well : (size : Size) → 0 < size.locks → OpensWell (scheme size) (replicate (word_count size.threads (key_count size)) 0) []
+pub opens_well : (size : Size) → 0 < size.locks → OpensWell (meaning size) (replicate (word_count size.threads (key_count size)) 0) []
 opens_well size some = let m : ℕ = key_count size in record {
   world = fresh_world m;
   fits = record { some = some; words = fresh_words flag_word (sizes_of size) (fresh_world m) (λ c. refl) (λ t. refl); kept = fresh_kept size.threads m };

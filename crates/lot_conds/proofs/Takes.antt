@@ -14,7 +14,7 @@ use Rattle.lot_conds.specs.declared.views.CondPassView.{CondPassView}
 use Rattle.lot_conds.specs.declared.views.CondRootView.{CondRootView}
 use Rattle.lot_conds.specs.World.{CondWorld, IsOut, SpotFits, taken_from, ThreadFits, Kept}
 use Rattle.lot_core.specs.Sums.{total}
-use Rattle.lot_conds.specs.Calls.{took}
+use Rattle.lot_conds.specs.Calls.{called_more}
 use Rattle.lot_conds.proofs.Machine.{turned, owing, owing_in, owing_out, queued_apart, not_both, queued_out, taken_else, taken_here, cond_stays, turns}
 use Rattle.lot_core.proofs.Sums.{total_same, total_but}
 
@@ -117,9 +117,9 @@ module _ (n m : ℕ) (w : CondWorld) (ok : Kept n m w) (c : ℕ) (here : c < m) 
   -- the thread t takes the first threads of the line, with the flag f after it
   pub takes_kept : (t : ℕ) → t < n → (s : Option ℕ) → ((k : ℕ) → k ≢ c → (w.pass t).sweeps ≡ Some k → s ≡ Some k)
       → (f ≡ false → rest ≢ [] → (w.word c ≡ false) × ((w.pass t).sweeps ≡ Some c → s ≡ Some c))
-      → Kept n m (turned w t (took (record (w.pass t) { sweeps = s }) c (length us)) spots c f q')
+      → Kept n m (turned w t (called_more (record (w.pass t) { sweeps = s }) c (length us)) spots c f q')
   takes_kept t near s still swept =
-      let p : CondPassView = took (record (w.pass t) { sweeps = s }) c (length us) in
+      let p : CondPassView = called_more (record (w.pass t) { sweeps = s }) c (length us) in
       let xs = (w.pass t).called in
       let long : c < length xs = (let e = (ok.threads t).called in omega arith) in
       let x : ℕ = get_or xs c 0 + length us in

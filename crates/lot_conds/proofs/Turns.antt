@@ -12,8 +12,8 @@ use Rattle.lot_events.specs.declared.events.Event.TheVariants.{Enlist, Look, Cal
 use Rattle.lot_events.specs.declared.events.Seen.TheVariants.{Bool as Saw, Done, Count}
 use Rattle.lot_core.proofs.Put.{put_same, put_other, put_again}
 use Rattle.lot_rights.specs.declared.views.Access.TheVariants.{Makes, Posts, Collects}
-use Rattle.lot_rights.specs.declared.views.PassView.{PassView}
-use Rattle.lot_rights.specs.declared.views.RootView.{RootView}
+use Rattle.lot_rights.specs.declared.views.PassRight.{PassRight}
+use Rattle.lot_rights.specs.declared.views.RootRight.{RootRight}
 use Rattle.lot_rights.specs.Layout.{word_at, letter_at}
 use Rattle.lot_rights.specs.World.{Spot, awake, queued, owed, lying, letter_of, letters_of, IsKeyOf, WordsFit}
 use Rattle.lot_rights.specs.Steps.{Notes, RootNotes, PassTurn, BothTurn, AllowsPass, AllowsBoth, AllowsRoot}
@@ -22,8 +22,8 @@ use Rattle.lot_conds.specs.declared.views.CondPassView.{CondPassView}
 use Rattle.lot_conds.specs.declared.views.CondRootView.{CondRootView}
 use Rattle.lot_conds.specs.declared.views.Size.{Size}
 use Rattle.lot_conds.specs.World.{CondWorld, flag_word, SpotFits, Kept}
-use Rattle.lot_conds.specs.Rule.{key_count, sizes_of, part_of, IsStep, Fits, scheme}
-use Rattle.lot_conds.specs.Calls.{IsCalm, enlisted, lowering, took, swept_pass, woken_pass, enlisted_root, called_root, swept_root, paid_root, FoundNone, Collected, CollectedBy}
+use Rattle.lot_conds.specs.Rule.{key_count, sizes_of, part_of, IsStep, Fits, meaning}
+use Rattle.lot_conds.specs.Calls.{IsCalm, enlisted, lowering, called_more, swept_pass, one_wait_more, enlisted_root, called_root, swept_root, paid_root, FoundNone, Collected, CollectedBy}
 use Rattle.lot_conds.proofs.Machine.{turned, owing, awake_is}
 use Rattle.lot_conds.proofs.Enlists.{is_awake, enlists_kept, lowers_kept}
 use Rattle.lot_conds.proofs.Takes.{took_root, takes_letters, takes_kept}
@@ -63,14 +63,14 @@ flag_found : (f : Bool) → (flag_word f == 1) ≡ f
 flag_found true = refl
 flag_found false = refl
 
-abbrev pub Looks : PassView CondPassView → ℕ → ℕ → PassView CondPassView → Type 0
+abbrev pub Looks : PassRight CondPassView → ℕ → ℕ → PassRight CondPassView → Type 0
 Looks p c n p' = Notes p p.own (Makes (Look p.thread c) (Saw (n == 1))) p'
 
-abbrev pub Lowers : PassView CondPassView → ℕ → PassView CondPassView → Type 0
+abbrev pub Lowers : PassRight CondPassView → ℕ → PassRight CondPassView → Type 0
 Lowers p c p' = Notes p (lowering p.own c) (Makes (Lower p.thread c) Done) p'
 
-module _ (size : Size) (p : PassView CondPassView) (c : ℕ) (among : IsAmongConds size.locks size.conds c) (calm : IsCalm p.own) where
-  pub looks : AllowsPass (scheme size) (word_at c) (λ n. n) p (Looks p c)
+module _ (size : Size) (p : PassRight CondPassView) (c : ℕ) (among : IsAmongConds size.locks size.conds c) (calm : IsCalm p.own) where
+  pub looks : AllowsPass (meaning size) (word_at c) (λ n. n) p (Looks p c)
   looks w ws hs ok fit small =
       let found = ok.words.words c among in
       record {
@@ -92,7 +92,7 @@ module _ (size : Size) (p : PassView CondPassView) (c : ℕ) (among : IsAmongCon
         told = λ k. (k, refl);
       }
 
-  pub lowers : AllowsPass (scheme size) (word_at c) (λ _. 0) p (λ _. Lowers p c)
+  pub lowers : AllowsPass (meaning size) (word_at c) (λ _. 0) p (λ _. Lowers p c)
   lowers w ws hs ok fit small =
       let t : ℕ = p.thread in
       let p1 : CondPassView = lowering (w.pass t) c in
@@ -140,21 +140,21 @@ other_sweeps : (o : Option ℕ) (c k : ℕ) → o ≡ Some c → k ≢ c → o �
 other_sweeps o c k e ne f = absurd (ne (let g : Some k ≡ Some c = sym f ∙ e in cc))
 
 -- with the lock l
-abbrev pub EnlistsWith : ℕ → PassView CondPassView → RootView CondRootView → PassView CondPassView → RootView CondRootView → Type 0
+abbrev pub EnlistsWith : ℕ → PassRight CondPassView → RootRight CondRootView → PassRight CondPassView → RootRight CondRootView → Type 0
 EnlistsWith l p q p' q' =
     Notes p (enlisted p.own q.key) (Makes (Enlist p.thread q.key l) Done) p' × (q' ≡ record q { own = enlisted_root q.own p.thread })
 
-abbrev pub Enlists : PassView CondPassView → RootView CondRootView → PassView CondPassView → RootView CondRootView → Type 0
+abbrev pub Enlists : PassRight CondPassView → RootRight CondRootView → PassRight CondPassView → RootRight CondRootView → Type 0
 Enlists = EnlistsWith 0
 
-abbrev pub Calls : PassView CondPassView → RootView CondRootView → ℕ → Bool → PassView CondPassView → RootView CondRootView → Type 0
+abbrev pub Calls : PassRight CondPassView → RootRight CondRootView → ℕ → Bool → PassRight CondPassView → RootRight CondRootView → Type 0
 Calls p q n more p' q' =
-    Notes p (took p.own q.key (dequeued_count n q.own.line)) (Makes (Call p.thread q.key n more) (Count (dequeued_count n q.own.line))) p' × (q' ≡ record q { own = called_root q.own n })
+    Notes p (called_more p.own q.key (dequeued_count n q.own.line)) (Makes (Call p.thread q.key n more) (Count (dequeued_count n q.own.line))) p' × (q' ≡ record q { own = called_root q.own n })
 
-abbrev pub Sweeps : PassView CondPassView → RootView CondRootView → PassView CondPassView → RootView CondRootView → Type 0
+abbrev pub Sweeps : PassRight CondPassView → RootRight CondRootView → PassRight CondPassView → RootRight CondRootView → Type 0
 Sweeps p q p' q' = Notes p (swept_pass p.own q.key (length q.own.line)) (Makes (Sweep p.thread q.key) (Count (length q.own.line))) p' × (q' ≡ record q { own = swept_root q.own })
 
-module _ (size : Size) (p : PassView CondPassView) (q : RootView CondRootView) where
+module _ (size : Size) (p : PassRight CondPassView) (q : RootRight CondRootView) where
   abbrev t : ℕ
   t = p.thread
 
@@ -163,7 +163,7 @@ module _ (size : Size) (p : PassView CondPassView) (q : RootView CondRootView) w
 
   enlists_turn : IsCalm p.own → (l : ℕ) → l < size.locks → (w : CondWorld) (ws : List ℕ) (hs : List (maybe.Option (Unit {0}))) → Fits size w ws
       → (t < size.threads) × (w.pass t ≡ p.own) → IsKeyOf (sizes_of size) c × (w.root c ≡ q.own)
-      → BothTurn (scheme size) (word_at c) 1 p q (EnlistsWith l p q) w ws hs
+      → BothTurn (meaning size) (word_at c) 1 p q (EnlistsWith l p q) w ws hs
   enlists_turn calm l lock w ws hs ok fit root =
       let p1 : CondPassView = enlisted (w.pass t) c in
       let q1 : CondRootView = enlisted_root (w.root c) t in
@@ -188,17 +188,17 @@ module _ (size : Size) (p : PassView CondPassView) (q : RootView CondRootView) w
         told = λ k. ((k, refl), refl);
       }
 
-  pub enlists_with : (l : ℕ) → l < size.locks → IsCalm p.own → AllowsBoth (scheme size) (word_at c) (λ _. 1) p q (λ _. EnlistsWith l p q)
+  pub enlists_with : (l : ℕ) → l < size.locks → IsCalm p.own → AllowsBoth (meaning size) (word_at c) (λ _. 1) p q (λ _. EnlistsWith l p q)
   enlists_with l lock calm w ws hs ok fit root small = enlists_turn calm l lock w ws hs ok fit root
 
   -- to a table of conditions alone, which lock it is makes no difference: there is the lock 0
-  pub enlists : IsCalm p.own → AllowsBoth (scheme size) (word_at c) (λ _. 1) p q (λ _. Enlists p q)
+  pub enlists : IsCalm p.own → AllowsBoth (meaning size) (word_at c) (λ _. 1) p q (λ _. Enlists p q)
   enlists calm w ws hs ok fit root small = enlists_turn calm 0 ok.some w ws hs ok fit root
 
   module _ (calm : IsCalm p.own) (n : ℕ) (more : Bool) (few : IsCallCount n) (says : SaysMoreBehind n q.own.line more) where
     calls : (w : CondWorld) (ws : List ℕ) (hs : List (maybe.Option (Unit {0}))) → Fits size w ws → (fit : (t < size.threads) × (w.pass t ≡ p.own))
         → (root : IsAmongConds size.locks size.conds c × (w.root c ≡ q.own))
-        → (x : ℕ) → x ≡ flag_word (flag_after_call (w.word c) more q.own.line) → BothTurn (scheme size) (word_at c) x p q (Calls p q n more) w ws hs
+        → (x : ℕ) → x ≡ flag_word (flag_after_call (w.word c) more q.own.line) → BothTurn (meaning size) (word_at c) x p q (Calls p q n more) w ws hs
     calls w ws hs ok fit root x is =
         let m : ℕ = key_count size in
         let line : List ℕ = q.own.line in
@@ -206,24 +206,24 @@ module _ (size : Size) (p : PassView CondPassView) (q : RootView CondRootView) w
         let parted : (w.root c).line ≡ take n line ++ drop n line = line' ∙ sym (take-append-drop n line) in
         let f : Bool = flag_after_call (w.word c) more line in
         let k : ℕ = dequeued_count n line in
-        let p1 : CondPassView = took (w.pass t) c k in
+        let p1 : CondPassView = called_more (w.pass t) c k in
         let q1 : CondRootView = took_root (w.root c) (take n line) (drop n line) in
         let spots : ℕ → Spot = owing c (take n line) w.spot in
         let letters : letters_of spots ≡ letters_of w.spot = takes_letters size.threads m w ok.kept c root.0.1 (take n line) (drop n line) parted f in
         let w' : CondWorld = turned w t p1 spots c f q1 in
         record {
-          own = took p.own c k;
+          own = called_more p.own c k;
           its = called_root q.own n;
           access = Makes (Call t c n more) (Count k);
           world = w';
           fits = record {
             some = ok.some;
             words = words_turned size w t p1 spots c f q1 ws ok x root.0 is letters;
-            kept = subst (λ z. Kept size.threads m (turned w t (took (w.pass t) c z) spots c f q1)) (length-take n line)
+            kept = subst (λ z. Kept size.threads m (turned w t (called_more (w.pass t) c z) spots c f q1)) (length-take n line)
                 (takes_kept size.threads m w ok.kept c root.0.1 (take n line) (drop n line) parted f t fit.0 (w.pass t).sweeps (λ _ _ e. e)
                 (λ e some. (flag_left (w.word c) more n line says e some, (λ g. g))));
           };
-          pass = (fit.0, put_same w.pass t p1 ∙ ap (λ z. took z c k) fit.1);
+          pass = (fit.0, put_same w.pass t p1 ∙ ap (λ z. called_more z c k) fit.1);
           root = (root.0, put_same w.root c q1 ∙ ap (λ z. took_root z (take n line) (drop n line)) root.1);
           passes = passes_else size w t p1 spots c f q1;
           roots = roots_else size w t p1 spots c f q1;
@@ -239,17 +239,17 @@ module _ (size : Size) (p : PassView CondPassView) (q : RootView CondRootView) w
           told = λ i. ((i, refl), refl);
         }
 
-    pub call_loads : more ≡ true → 0 < dequeued_count n q.own.line → AllowsBoth (scheme size) (word_at c) (λ n. n) p q (λ _. Calls p q n more)
+    pub call_loads : more ≡ true → 0 < dequeued_count n q.own.line → AllowsBoth (meaning size) (word_at c) (λ n. n) p q (λ _. Calls p q n more)
     call_loads is_more some w ws hs ok fit root small =
         let kept : flag_after_call (w.word c) more q.own.line ≡ w.word c = flag_kept (w.word c) more q.own.line is_more
         (λ none_left. let z : length q.own.line ≡ 0 = ap length none_left in absurd (omega arith)) in
         calls w ws hs ok fit root (get_or ws (word_at c) 0) (ok.words.words c root.0 ∙ ap flag_word (sym kept))
 
-    pub call_stores : (dequeued_count n q.own.line ≡ 0) ⊎ (more ≡ false) → AllowsBoth (scheme size) (word_at c) (λ _. 0) p q (λ _. Calls p q n more)
+    pub call_stores : (dequeued_count n q.own.line ≡ 0) ⊎ (more ≡ false) → AllowsBoth (meaning size) (word_at c) (λ _. 0) p q (λ _. Calls p q n more)
     call_stores last w ws hs ok fit root small = calls w ws hs ok fit root 0 (ap flag_word (sym (flag_cleared (w.word c) more q.own.line
         (⊎_elim {C = (q.own.line ≡ []) ⊎ (more ≡ false)} (λ none_taken. inl (nil_from_length q.own.line (omega (arith, few.0)))) inr last))))
 
-  pub sweeps : p.own.sweeps ≡ Some c → AllowsBoth (scheme size) (word_at c) (λ n. n) p q (λ _. Sweeps p q)
+  pub sweeps : p.own.sweeps ≡ Some c → AllowsBoth (meaning size) (word_at c) (λ n. n) p q (λ _. Sweeps p q)
   sweeps lowered w ws hs ok fit root small =
       let m : ℕ = key_count size in
       let lowered' : (w.pass t).sweeps ≡ Some c = ap (λ (z : CondPassView). z.sweeps) fit.1 ∙ lowered in
@@ -286,11 +286,11 @@ module _ (size : Size) (p : PassView CondPassView) (q : RootView CondRootView) w
       }
 
 -- ---- letters
-abbrev pub Pays : RootView CondRootView → ℕ → RootView CondRootView → Type 0
+abbrev pub Pays : RootRight CondRootView → ℕ → RootRight CondRootView → Type 0
 Pays q u q' = RootNotes q (paid_root q.own u) (Posts q.key u 0) q'
 
-module _ (size : Size) (q : RootView CondRootView) (u : ℕ) (debt : Contains q.own.owes u) where
-  pub posts : AllowsRoot (scheme size) (letter_at u) (λ _. 1) q (λ _. Pays q u)
+module _ (size : Size) (q : RootRight CondRootView) (u : ℕ) (debt : Contains q.own.owes u) where
+  pub posts : AllowsRoot (meaning size) (letter_at u) (λ _. 1) q (λ _. Pays q u)
   posts w ws hs ok root small =
       let m : ℕ = key_count size in
       let c : ℕ = q.key in
@@ -321,20 +321,20 @@ module _ (size : Size) (q : RootView CondRootView) (u : ℕ) (debt : Contains q.
         told = λ k. (k, refl);
       }
 
-abbrev pub Collecting : PassView CondPassView → ℕ → PassView CondPassView → Type 0
+abbrev pub Collecting : PassRight CondPassView → ℕ → PassRight CondPassView → Type 0
 Collecting p n q = (n ≤ 1) × CollectedBy p n q
 
-pub collected_none : (p q : PassView CondPassView) (n : ℕ) → n ≡ 0 → Collecting p n q → FoundNone p q
+pub collected_none : (p q : PassRight CondPassView) (n : ℕ) → n ≡ 0 → Collecting p n q → FoundNone p q
 collected_none p q n e h = subst (λ z. CollectedBy p z q) e h.1
 
-pub collected_some : (p q : PassView CondPassView) (n : ℕ) → n ≢ 0 → Collecting p n q → Collected p (n - 1) q
+pub collected_some : (p q : PassRight CondPassView) (n : ℕ) → n ≢ 0 → Collecting p n q → Collected p (n - 1) q
 collected_some p q zero ne h = absurd (ne refl)
 collected_some p q (suc token) ne h = let e : token ≡ suc token - 1 = omega arith in subst (λ z. Collected p z q) e h.1
 
-module _ (size : Size) (p : PassView CondPassView) where
+module _ (size : Size) (p : PassRight CondPassView) where
   module _ (w : CondWorld) (ws : List ℕ) (hs : List (maybe.Option (Unit {0}))) (ok : Fits size w ws) (fit : (p.thread < size.threads) × (w.pass p.thread ≡ p.own)) where
     abbrev Turn : ℕ → Type 0
-    Turn n = PassTurn (scheme size) (letter_at p.thread) 0 p (Collecting p n) w ws hs
+    Turn n = PassTurn (meaning size) (letter_at p.thread) 0 p (Collecting p n) w ws hs
 
     -- no letter lies
     none_lies : letter_of (w.spot p.thread) ≡ 0 → Turn 0
@@ -356,11 +356,11 @@ module _ (size : Size) (p : PassView CondPassView) where
         let m : ℕ = key_count size in
         let fits : SpotFits size.threads w.root t (w.pass t) (lying c 0) = subst (SpotFits size.threads w.root t (w.pass t)) lies (ok.kept.threads t).spot in
         let near : c < m = (ok.kept.threads t).outs c fits.0.1 in
-        let p1 : CondPassView = woken_pass (w.pass t) c in
+        let p1 : CondPassView = one_wait_more (w.pass t) c in
         let spots : ℕ → Spot = put w.spot t awake in
         let w' : CondWorld = turned w t p1 spots c (w.word c) (w.root c) in
         record {
-          own = woken_pass p.own c;
+          own = one_wait_more p.own c;
           access = Collects t (Some 0);
           world = w';
           fits = record {
@@ -369,7 +369,7 @@ module _ (size : Size) (p : PassView CondPassView) where
                 (λ d. ap flag_word (λ i. put_again w.word c i d));
             kept = collects_kept size.threads m w ok.kept t c near lies;
           };
-          pass = (fit.0, put_same w.pass t p1 ∙ ap (λ z. woken_pass z c) fit.1);
+          pass = (fit.0, put_same w.pass t p1 ∙ ap (λ z. one_wait_more z c) fit.1);
           passes = passes_else size w t p1 spots c (w.word c) (w.root c);
           roots = roots_same size w c;
           made = (refl, (ap letter_of lies, λ i. record { part = same_part w t p1 spots c (w.root c) refl refl i; letters = one_letter w.spot t awake i }));
@@ -382,5 +382,5 @@ module _ (size : Size) (p : PassView CondPassView) where
     by_spot (owed c k) is fits = none_lies (ap letter_of is)
     by_spot (lying c k) is fits = subst (λ z. Turn (z + 1)) (sym fits.1) (one_lies c (is ∙ ap (lying c) fits.1))
 
-  pub collects : AllowsPass (scheme size) (letter_at p.thread) (λ _. 0) p (Collecting p)
+  pub collects : AllowsPass (meaning size) (letter_at p.thread) (λ _. 0) p (Collecting p)
   collects w ws hs ok fit small = subst (Turn w ws hs ok fit) (sym (ok.words.letters p.thread fit.0)) (by_spot w ws hs ok fit (w.spot p.thread) refl (ok.kept.threads p.thread).spot)

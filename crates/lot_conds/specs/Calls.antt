@@ -1,6 +1,6 @@
 -- What each kind of call does to the rights that it is handed.
 use Rattle.std.specs.Prelude.{◌≡◌, ℕ, zero, suc, ◌+◌, [], ◌∷◌, ◌++◌, take, drop, slice_index, slice_set, Some, None}
-use Rattle.lot_rights.specs.declared.views.PassView.{PassView}
+use Rattle.lot_rights.specs.declared.views.PassRight.{PassRight}
 use Rattle.lot_rights.specs.declared.views.Access.TheVariants.{Collects}
 use Rattle.lot_rights.specs.Lines.{without}
 use Rattle.lot_rights.specs.Steps.{Notes}
@@ -21,16 +21,16 @@ abbrev pub lowering : CondPassView → ℕ → CondPassView
 lowering p c = record p { sweeps = Some c }
 
 -- the thread has taken k sleepers more from c's line
-abbrev pub took : CondPassView → ℕ → ℕ → CondPassView
-took p c k = record p { called = slice_set p.called c (slice_index p.called c + k) }
+abbrev pub called_more : CondPassView → ℕ → ℕ → CondPassView
+called_more p c k = record p { called = slice_set p.called c (slice_index p.called c + k) }
 
 -- it has swept c, and so taken all k in the line
 abbrev pub swept_pass : CondPassView → ℕ → ℕ → CondPassView
-swept_pass p c k = took (record p { sweeps = None }) c k
+swept_pass p c k = called_more (record p { sweeps = None }) c k
 
 -- the thread has collected its letter: one wait on c more has ended
-abbrev pub woken_pass : CondPassView → ℕ → CondPassView
-woken_pass p c = record p { out = None; woken = slice_set p.woken c (slice_index p.woken c + 1) }
+abbrev pub one_wait_more : CondPassView → ℕ → CondPassView
+one_wait_more p c = record p { out = None; woken = slice_set p.woken c (slice_index p.woken c + 1) }
 
 -- ---- the root
 -- t goes last in the line
@@ -51,14 +51,14 @@ paid_root q t = record q { owes = without t q.owes }
 
 -- ---- letters
 -- q is the pass p after it found no letter
-abbrev pub FoundNone : PassView CondPassView → PassView CondPassView → Type 0
+abbrev pub FoundNone : PassRight CondPassView → PassRight CondPassView → Type 0
 FoundNone p q = Notes p p.own (Collects p.thread None) q
 
 -- q is the pass p after it collected its letter, whose token is 0 as all tokens are: its wait has ended
-abbrev pub Collected : PassView CondPassView → ℕ → PassView CondPassView → Type 0
-Collected p token q = (token ≡ 0) × ((c : ℕ) × ((p.own.out ≡ Some c) × Notes p (woken_pass p.own c) (Collects p.thread (Some token)) q))
+abbrev pub Collected : PassRight CondPassView → ℕ → PassRight CondPassView → Type 0
+Collected p token q = (token ≡ 0) × ((c : ℕ) × ((p.own.out ≡ Some c) × Notes p (one_wait_more p.own c) (Collects p.thread (Some token)) q))
 
 -- by the number in the letter
-abbrev pub CollectedBy : PassView CondPassView → ℕ → PassView CondPassView → Type 0
+abbrev pub CollectedBy : PassRight CondPassView → ℕ → PassRight CondPassView → Type 0
 CollectedBy p zero q = FoundNone p q
 CollectedBy p (suc token) q = Collected p token q

@@ -15,7 +15,7 @@ use Rattle.lot_conds.specs.declared.views.CondPassView.{CondPassView}
 use Rattle.lot_conds.specs.declared.views.CondRootView.{CondRootView}
 use Rattle.lot_conds.specs.declared.views.Size.{Size}
 use Rattle.lot_conds.specs.World.{CondWorld, flag_word, taken_from}
-use Rattle.lot_conds.specs.Rule.{sizes_of, part_of, opening_part, IsStep, scheme}
+use Rattle.lot_conds.specs.Rule.{sizes_of, part_of, opening_part, IsStep, meaning}
 
 -- Letters fit: a thread that is out on a condition is in the line of that one alone, or is owed a letter by that root alone, or a letter lies for it; the others have none
 pub record LettersFit (w : CondWorld) : Type 0 where
@@ -36,8 +36,8 @@ pub record Headline (size : Size) (s : State (Unit {0}) (List (Right CondPassVie
   -- each word is a condition's flag or a thread's letter
   pub words : WordsFit flag_word (sizes_of size) world s.words
   -- each right is in exactly one place, and knows what the world says of it
-  pub rights : Seated number (RightFits (scheme size) world) s.views
-  pub in_place : (i : ℕ) → IsRight (scheme size) i → times_in number i s.views ≡ 1
+  pub rights : Seated number (RightFits (meaning size) world) s.views
+  pub in_place : (i : ℕ) → IsRight (meaning size) i → times_in number i s.views ≡ 1
   pub letters : LettersFit world
   -- who is in a line is a thread
   pub are_threads : (c t : ℕ) → Contains ((part_of world).conds.line c) t → t < size.threads
@@ -46,5 +46,5 @@ pub record Headline (size : Size) (s : State (Unit {0}) (List (Right CondPassVie
   pub balanced : IsBalanced size.threads world
   -- one legal history, of which the rights have all entries, has led here; without its notices it is a run of the model
   pub log : List Entry
-  pub history : IsHistory (scheme size) log s.views (record { part = part_of world; letters = letters_of world.spot })
+  pub history : IsHistory (meaning size) log s.views (record { part = part_of world; letters = letters_of world.spot })
   pub model : ModelRun (IsStep size) opening_part (events_in log) (part_of world)

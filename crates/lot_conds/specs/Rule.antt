@@ -5,7 +5,7 @@ use Rattle.std.proofs.Common.{sym, ap, ◌∙◌}
 use Rattle.lot_events.specs.declared.events.Event.{Event}
 use Rattle.lot_events.specs.declared.events.Seen.{Seen}
 use Rattle.lot_core.specs.Parts.{CondPart, CondStep}
-use Rattle.lot_rights.specs.Rule.{Scheme}
+use Rattle.lot_rights.specs.Rule.{Meaning}
 use Rattle.lot_rights.specs.Settled.{HasOneOutcome, LinesHaveNoLetter}
 use Rattle.lot_rights.specs.World.{Sizes, letter_of, letters_of, WordsFit, PassIs, RootIs}
 use Rattle.lot_conds.specs.declared.views.CondPassView.{CondPassView}
@@ -53,8 +53,8 @@ fresh_pass m = record { out = None; sweeps = None; called = replicate m 0; woken
 abbrev pub fresh_root : CondRootView
 fresh_root = record { line = []; owes = [] }
 
-abbrev pub scheme : Size → Scheme (Unit {0}) CondPassView CondRootView
-scheme size = record {
+abbrev pub meaning : Size → Meaning (Unit {0}) CondPassView CondRootView
+meaning size = record {
   World = CondWorld;
   Part = CondPart;
   Fits = λ w ws hs. Fits size w ws;
@@ -79,8 +79,8 @@ no_pass = fresh_pass 0
 abbrev pub no_root : CondRootView
 no_root = fresh_root
 
-pub one_outcome : (size : Size) → HasOneOutcome (scheme size)
+pub one_outcome : (size : Size) → HasOneOutcome (meaning size)
 one_outcome size a b c e s h k = h.2 ∙ sym k.2
 
-pub no_letter_in_line : (size : Size) → LinesHaveNoLetter (scheme size)
+pub no_letter_in_line : (size : Size) → LinesHaveNoLetter (meaning size)
 no_letter_in_line size w ws hs ok t h = ap letter_of ((ok.kept.threads t).in_line h.0 h.1)

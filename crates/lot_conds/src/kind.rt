@@ -8,7 +8,7 @@ pub struct Conditions;
 impl Kind for Conditions {
     ghost use Rattle.std.specs.Prelude.{◌⊎◌};
     ghost use Rattle.std.specs.List.{Contains};
-    ghost use Rattle.lot_conds.specs.Rule.{scheme, no_pass, no_root, one_outcome, no_letter_in_line};
+    ghost use Rattle.lot_conds.specs.Rule.{meaning, no_pass, no_root, one_outcome, no_letter_in_line};
 
     type Slot = ();
 
@@ -18,7 +18,7 @@ impl Kind for Conditions {
 
     type Key = Size;
 
-    ghost scheme = { scheme };
+    ghost meaning = { meaning };
 
     ghost no_pass = { no_pass };
 

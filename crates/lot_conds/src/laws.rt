@@ -14,12 +14,12 @@ ghost use Rattle.lot_rights.specs.Rule.{Ruled};
 ghost use Rattle.lot_conds.specs.declared.views.CondPassView.{CondPassView};
 ghost use Rattle.lot_conds.specs.declared.views.CondRootView.{CondRootView};
 ghost use Rattle.lot_conds.specs.declared.views.Size.{Size};
-ghost use Rattle.lot_conds.specs.Rule.{IsStep, opening_part, scheme};
+ghost use Rattle.lot_conds.specs.Rule.{IsStep, opening_part, meaning};
 ghost use Rattle.lot_conds.specs.Headline.{Headline};
 
 /// At every moment the headline holds of one world: what keeps the rule keeps all of it.
 pub fn the_rule_is_the_headline()
-    ensures { (size : Size) (s : State (Unit {0}) (List (Right CondPassView CondRootView))) → Ruled (scheme size) s → Headline size s }
+    ensures { (size : Size) (s : State (Unit {0}) (List (Right CondPassView CondRootView))) → Ruled (meaning size) s → Headline size s }
 {}
 
 /// Every run of the condition part from the opening leads to a sound part: someone sweeps, one line each and once, of threads. So does

@@ -6,7 +6,7 @@ ghost use Rattle.lot_events.specs.declared.events.Event.TheVariants.{Look, Call,
 ghost use Rattle.lot_events.specs.declared.events.Seen.TheVariants.{Bool as Saw, Done, Count};
 ghost use Rattle.lot_rights.specs.declared.views.Access.TheVariants.{Makes};
 ghost use Rattle.lot_rights.specs.Steps.{Notes};
-ghost use Rattle.lot_conds.specs.Calls.{IsCalm, lowering, took, called_root, swept_pass, swept_root};
+ghost use Rattle.lot_conds.specs.Calls.{IsCalm, lowering, called_more, called_root, swept_pass, swept_root};
 
 use crate::kind::{CondPass, CondRoot};
 use crate::words::{CLEAR, CondWords, HAS_WAITERS};
@@ -62,7 +62,7 @@ impl CondWords {
         requires taken { dequeued_count count root.root.own.line ≡ taken }
         requires more { SaysMoreBehind count root.root.own.line more }
         ensures table { (result.0.table ≡ pass.table) × (result.1.table ≡ root.table) }
-        ensures event { Notes pass.pass (took pass.pass.own root.root.key taken) (Makes (Call pass.pass.thread root.root.key count more) (Count taken)) result.0.pass }
+        ensures event { Notes pass.pass (called_more pass.pass.own root.root.key taken) (Makes (Call pass.pass.thread root.root.key count more) (Count taken)) result.0.pass }
         ensures root { result.1.root ≡ record root.root { own = called_root root.root.own count } }
     {
         let words = &self.words;

@@ -3,7 +3,7 @@ ghost use Rattle.std.specs.Prelude.{◌≡◌, ℕ, ◌+◌, ◌<◌, ◌≤◌,
 ghost use Rattle.lot_core.specs.declared.state.TheConstants.{MAX_THREADS, MAX_KEYS};
 ghost use Rattle.lot_rights.specs.Layout.{word_count};
 ghost use Rattle.lot_rights.specs.Start.{pass_at, root_at, Begins};
-ghost use Rattle.lot_conds.specs.Rule.{key_count, scheme};
+ghost use Rattle.lot_conds.specs.Rule.{key_count, meaning};
 
 use crate::kind::{CondPass, CondRoot};
 use crate::views::Size;
@@ -22,9 +22,9 @@ impl CondWords {
     ) -> Result<(CondWords, Vec<CondPass>, Vec<CondRoot>), WordsFault>
         requires limits { (0 < threads) × (threads ≤ MAX_THREADS) × (0 < locks) × (locks + conds ≤ MAX_KEYS) }
         ensures size { IfOk result (λ r. (r.0.size.threads ≡ threads) × (r.0.size.locks ≡ locks) × (r.0.size.conds ≡ conds)) }
-        ensures passes { IfOk result (λ r. (vec_len r.1 ≡ threads) × ((k : ℕ) → k < threads → slice_get r.1.items k ≡ Some (pass_at (scheme r.0.size) r.0.table k))) }
-        ensures roots { IfOk result (λ r. (vec_len r.2 ≡ conds) × ((k : ℕ) → k < conds → slice_get r.2.items k ≡ Some (root_at (scheme r.0.size) r.0.table (locks + k)))) }
-        ensures rule { IfOk result (λ r. Begins (scheme r.0.size) (replicate (word_count r.0.size.threads (key_count r.0.size)) 0) []) }
+        ensures passes { IfOk result (λ r. (vec_len r.1 ≡ threads) × ((k : ℕ) → k < threads → slice_get r.1.items k ≡ Some (pass_at (meaning r.0.size) r.0.table k))) }
+        ensures roots { IfOk result (λ r. (vec_len r.2 ≡ conds) × ((k : ℕ) → k < conds → slice_get r.2.items k ≡ Some (root_at (meaning r.0.size) r.0.table (locks + k)))) }
+        ensures rule { IfOk result (λ r. Begins (meaning r.0.size) (replicate (word_count r.0.size.threads (key_count r.0.size)) 0) []) }
     {
         let size = Size {
             threads: threads as u64,

@@ -316,19 +316,19 @@ bit_part n permits a k bit h here =
     (z.out i) a.seeks) k here (λ i ne. h i)
 
 -- each event that is allowed keeps the part
-pub part_kept : (threads low sems : ℕ) (permits : ℕ → ℕ) (a : SemaphorePart) (e : Event) → IsKeptPart threads permits a →
-    SemaphoreAllowed threads low sems a e → IsKeptPart threads permits (semaphore_part_after a e)
-part_kept threads low sems permits a (SemTake t k) h ok = take_part threads permits a t k h ok.0 ok.2
-part_kept threads low sems permits a (SemMark t k) h ok =
+pub part_kept : (threads first_sem sems : ℕ) (permits : ℕ → ℕ) (a : SemaphorePart) (e : Event) → IsKeptPart threads permits a →
+    SemaphoreAllowed threads first_sem sems a e → IsKeptPart threads permits (semaphore_part_after a e)
+part_kept threads first_sem sems permits a (SemTake t k) h ok = take_part threads permits a t k h ok.0 ok.2
+part_kept threads first_sem sems permits a (SemMark t k) h ok =
     bit_part threads permits a k true h
     (marks threads (permits k) k (a.sems.left k) (a.sems.parked k) (a.sems.line k) (a.sems.out k) a.seeks (h k))
-part_kept threads low sems permits a (SemPark t k) h ok = park_part threads permits a t k h ok.0 ok.2
-part_kept threads low sems permits a (SemFree t k) h ok = free_part threads permits a t k h ok.0 ok.3
-part_kept threads low sems permits a (SemPass t k more) h ok = pass_part threads permits a t k more h ok.0 ok.3 ok.4
-part_kept threads low sems permits a (SemClear t k) h ok =
+part_kept threads first_sem sems permits a (SemPark t k) h ok = park_part threads permits a t k h ok.0 ok.2
+part_kept threads first_sem sems permits a (SemFree t k) h ok = free_part threads permits a t k h ok.0 ok.3
+part_kept threads first_sem sems permits a (SemPass t k more) h ok = pass_part threads permits a t k more h ok.0 ok.3 ok.4
+part_kept threads first_sem sems permits a (SemClear t k) h ok =
     bit_part threads permits a k false h
     (clears threads (permits k) k (a.sems.left k) (a.sems.parked k) (a.sems.line k) (a.sems.out k) a.seeks (h k) ok.3)
-part_kept threads low sems permits a _ h ok = absurd ok
+part_kept threads first_sem sems permits a _ h ok = absurd ok
 
 -- a step leads from a sound part to a sound part
 pub kept_from_sound : (n : ℕ) (permits : ℕ → ℕ) (a : SemaphorePart) → IsSoundSemaphorePart n permits a → IsKeptPart n permits a
@@ -341,8 +341,8 @@ kept_from_sound n permits a h k =
       named = h.seeks k;
     }
 
-pub semaphore_step_sound : (threads low sems : ℕ) (permits : ℕ → ℕ) (a b : SemaphorePart) (e : Event) (saw : Seen) →
-    SemaphoreStep threads low sems a e saw b → IsSoundSemaphorePart threads permits a → IsSoundSemaphorePart threads permits b
-semaphore_step_sound threads low sems permits a b e saw step h = subst (IsSoundSemaphorePart threads permits) (sym step.2)
+pub semaphore_step_sound : (threads first_sem sems : ℕ) (permits : ℕ → ℕ) (a b : SemaphorePart) (e : Event) (saw : Seen) →
+    SemaphoreStep threads first_sem sems a e saw b → IsSoundSemaphorePart threads permits a → IsSoundSemaphorePart threads permits b
+semaphore_step_sound threads first_sem sems permits a b e saw step h = subst (IsSoundSemaphorePart threads permits) (sym step.2)
     (part_sound threads permits (semaphore_part_after a e)
-    (part_kept threads low sems permits a e (kept_from_sound threads permits a h) step.0))
+    (part_kept threads first_sem sems permits a e (kept_from_sound threads permits a h) step.0))

@@ -85,13 +85,13 @@ empty_semaphore w k empty = (
   (λ t inside. absurd (not_empty (w.sems.line k) t inside empty)),
 )
 
-pub all_semaphores : (s : State) → ((i : ℕ) → i < sem_count s.sems → IsSoundSemaphore (world_of s) (s.sems.low + i)) → (k : ℕ)
+pub all_semaphores : (s : State) → ((i : ℕ) → i < sem_count s.sems → IsSoundSemaphore (world_of s) (s.sems.first_sem + i)) → (k : ℕ)
     → IsSoundSemaphore (world_of s) k
-all_semaphores s each k = elim (cases_lt k s.sems.low) [
+all_semaphores s each k = elim (cases_lt k s.sems.first_sem) [
   | inl before ↦ empty_semaphore (world_of s) k (line_outside s.sems.lines k (λ has. omega (arith, s.sems.line_each)))
-  | inr from ↦ elim (cases_lt (k - s.sems.low) (sem_count s.sems)) [
-    | inl within ↦ let same : s.sems.low + (k - s.sems.low) ≡ k = omega arith in
-        subst (λ i. IsSoundSemaphore (world_of s) i) same (each (k - s.sems.low) within)
+  | inr from ↦ elim (cases_lt (k - s.sems.first_sem) (sem_count s.sems)) [
+    | inl within ↦ let same : s.sems.first_sem + (k - s.sems.first_sem) ≡ k = omega arith in
+        subst (λ i. IsSoundSemaphore (world_of s) i) same (each (k - s.sems.first_sem) within)
     | inr past ↦ empty_semaphore (world_of s) k (line_outside s.sems.lines k (λ has. omega (arith, s.sems.line_each)))
   ]
 ]

@@ -151,9 +151,9 @@ abbrev pub CondStep : ℕ → ℕ → ℕ → CondPart → Event → Seen → Co
 CondStep threads locks conds a e saw b =
     CondAllowed threads locks conds a e × (saw ≡ cond_seen a e) × (b ≡ cond_part_after a e)
 
--- k is the number of a semaphore, which follow the conditions; `low` is the first
+-- k is the number of a semaphore, which follow the conditions; `first_sem` is the first
 abbrev pub IsAmongSemaphores : ℕ → ℕ → ℕ → Type 0
-IsAmongSemaphores low sems k = (low ≤ k) × (k < low + sems)
+IsAmongSemaphores first_sem sems k = (first_sem ≤ k) × (k < first_sem + sems)
 
 -- so far as the semaphore part tells, t is seeking a permit of k: it seeks one of k and is not in k's
 -- line
@@ -162,20 +162,20 @@ PartSeeks a t k = (a.seeks t ≡ Some k) × (¬ Contains (a.sems.line k) t)
 
 -- where an event is allowed, so far as the semaphore part tells
 abbrev pub SemaphoreAllowed : ℕ → ℕ → ℕ → SemaphorePart → Event → Type 0
-SemaphoreAllowed threads low sems a (SemTake t k) =
-    (t < threads) × IsAmongSemaphores low sems k × ((a.seeks t ≡ None) ⊎ PartSeeks a t k)
-SemaphoreAllowed threads low sems a (SemMark t k) =
-    (t < threads) × IsAmongSemaphores low sems k × PartSeeks a t k × (a.sems.left k ≡ 0)
-SemaphoreAllowed threads low sems a (SemPark t k) =
-    (t < threads) × IsAmongSemaphores low sems k × PartSeeks a t k
-SemaphoreAllowed threads low sems a (SemFree t k) =
-    (t < threads) × IsAmongSemaphores low sems k × (a.seeks t ≡ None) × (1 ≤ a.sems.out k t)
-SemaphoreAllowed threads low sems a (SemPass t k more) =
-    (t < threads) × IsAmongSemaphores low sems k × (a.seeks t ≡ None) × (1 ≤ a.sems.out k t)
+SemaphoreAllowed threads first_sem sems a (SemTake t k) =
+    (t < threads) × IsAmongSemaphores first_sem sems k × ((a.seeks t ≡ None) ⊎ PartSeeks a t k)
+SemaphoreAllowed threads first_sem sems a (SemMark t k) =
+    (t < threads) × IsAmongSemaphores first_sem sems k × PartSeeks a t k × (a.sems.left k ≡ 0)
+SemaphoreAllowed threads first_sem sems a (SemPark t k) =
+    (t < threads) × IsAmongSemaphores first_sem sems k × PartSeeks a t k
+SemaphoreAllowed threads first_sem sems a (SemFree t k) =
+    (t < threads) × IsAmongSemaphores first_sem sems k × (a.seeks t ≡ None) × (1 ≤ a.sems.out k t)
+SemaphoreAllowed threads first_sem sems a (SemPass t k more) =
+    (t < threads) × IsAmongSemaphores first_sem sems k × (a.seeks t ≡ None) × (1 ≤ a.sems.out k t)
     × SaysMore (a.sems.line k) more
-SemaphoreAllowed threads low sems a (SemClear t k) =
-    (t < threads) × IsAmongSemaphores low sems k × (a.seeks t ≡ None) × (a.sems.line k ≡ [])
-SemaphoreAllowed threads low sems a _ = ⊥
+SemaphoreAllowed threads first_sem sems a (SemClear t k) =
+    (t < threads) × IsAmongSemaphores first_sem sems k × (a.seeks t ≡ None) × (a.sems.line k ≡ [])
+SemaphoreAllowed threads first_sem sems a _ = ⊥
 
 -- an event's change of the semaphore part
 abbrev pub semaphore_part_after : SemaphorePart → Event → SemaphorePart
@@ -200,8 +200,8 @@ semaphore_seen a _ = Done
 
 -- semaphore part a becomes b by a semaphore event of which this is seen
 abbrev pub SemaphoreStep : ℕ → ℕ → ℕ → SemaphorePart → Event → Seen → SemaphorePart → Type 0
-SemaphoreStep threads low sems a e saw b =
-    SemaphoreAllowed threads low sems a e × (saw ≡ semaphore_seen a e) × (b ≡ semaphore_part_after a e)
+SemaphoreStep threads first_sem sems a e saw b =
+    SemaphoreAllowed threads first_sem sems a e × (saw ≡ semaphore_seen a e) × (b ≡ semaphore_part_after a e)
 
 abbrev pub IsLockEvent : Event → Type 0
 IsLockEvent (Try t l) = Unit {0}

@@ -9,25 +9,25 @@ use Rattle.lot_core.specs.Lines.{line_of}
 abbrev pub semaphores_of : Row → Semaphores
 semaphores_of s =
     record {
-      left = row_from 0 s.low (map (λ m. m.left) s.items.items);
-      parked = row_from false s.low (map (λ m. m.parked) s.items.items);
+      left = row_from 0 s.first_sem (map (λ m. m.left) s.items.items);
+      parked = row_from false s.first_sem (map (λ m. m.parked) s.items.items);
       line = line_of s.lines;
-      out = row_from (λ t. 0) s.low (map (λ m. row 0 m.out.items) s.items.items);
+      out = row_from (λ t. 0) s.first_sem (map (λ m. row 0 m.out.items) s.items.items);
     }
 
 -- how many permits each was opened with
 abbrev pub permits_of : Row → ℕ → ℕ
-permits_of s = row_from 0 s.low (map (λ m. m.permits) s.items.items)
+permits_of s = row_from 0 s.first_sem (map (λ m. m.permits) s.items.items)
 
 -- how many there are
 abbrev pub sem_count : Row → ℕ
 sem_count s = length s.items.items
 
 abbrev pub HasSemaphore : Row → ℕ → Type 0
-HasSemaphore s k = (s.low ≤ k) × (k - s.low < sem_count s)
+HasSemaphore s k = (s.first_sem ≤ k) × (k - s.first_sem < sem_count s)
 
 -- the numbers that no event changes
 abbrev pub KeepsNumbers : Row → Row → Type 0
 KeepsNumbers old new =
-    (new.low ≡ old.low) × (new.threads ≡ old.threads) × (sem_count new ≡ sem_count old)
+    (new.first_sem ≡ old.first_sem) × (new.threads ≡ old.threads) × (sem_count new ≡ sem_count old)
     × (permits_of new ≡ permits_of old)

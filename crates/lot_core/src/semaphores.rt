@@ -60,13 +60,13 @@ impl Semaphore {
 #[derive(Debug, Drop)]
 pub(crate) struct Semaphores {
     /// The first semaphore's key.
-    low: usize,
+    first_sem: usize,
     threads: usize,
     items: Vec<Semaphore>,
     pub(crate) lines: Lines,
-    ghost keys_fit: { low + length items.items < 2 ^ 64 },
+    ghost keys_fit: { first_sem + length items.items < 2 ^ 64 },
     ghost out_each: { All (λ m. length m.out.items ≡ threads) items.items },
-    ghost line_each: { (lines.low ≡ low) × (key_count lines ≡ length items.items) },
+    ghost line_each: { (lines.low ≡ first_sem) × (key_count lines ≡ length items.items) },
 }
 
 impl Semaphores {
@@ -77,26 +77,26 @@ impl Semaphores {
     ghost use Rattle.lot_core.specs.Steps.{with_sem_parked};
     ghost use Rattle.lot_core.specs.Semaphores.{semaphores_of, permits_of, sem_count, HasSemaphore, KeepsNumbers};
 
-    /// Semaphores with these opening numbers, from `low` on, all permits left.
+    /// Semaphores with these opening numbers, from `first_sem` on, all permits left.
     pub(crate) fn new(
         alloc: Global,
-        low: usize,
+        first_sem: usize,
         threads: usize,
         permits: &[u32],
     ) -> Result<Semaphores, AllocError>
-        requires { low + length permits.now < 2 ^ 64 }
-        ensures numbers { IfOk result (λ s. (s.low ≡ low) × (s.threads ≡ threads)
+        requires { first_sem + length permits.now < 2 ^ 64 }
+        ensures numbers { IfOk result (λ s. (s.first_sem ≡ first_sem) × (s.threads ≡ threads)
             × (sem_count s ≡ length permits.now)) }
-        ensures permits { IfOk result (λ s. permits_of s ≡ row_from 0 low permits.now) }
-        ensures sems { IfOk result (λ s. semaphores_of s ≡ none_taken (row_from 0 low permits.now)) }
+        ensures permits { IfOk result (λ s. permits_of s ≡ row_from 0 first_sem permits.now) }
+        ensures sems { IfOk result (λ s. semaphores_of s ≡ none_taken (row_from 0 first_sem permits.now)) }
     {
         let mut items = Vec::with_capacity(alloc, permits.len())?;
         for number in permits {
             items.push(Semaphore::new(alloc, threads, *number)?)?;
         }
-        let lines = Lines::new(alloc, low, permits.len())?;
+        let lines = Lines::new(alloc, first_sem, permits.len())?;
         Ok(Semaphores {
-            low,
+            first_sem,
             threads,
             items,
             lines,
@@ -113,16 +113,16 @@ impl Semaphores {
     /// The key of number `i`.
     pub(crate) fn key(&self, i: usize) -> usize
         requires { i < sem_count self.now }
-        ensures { result ≡ self.now.low + i }
+        ensures { result ≡ self.now.first_sem + i }
     {
-        self.low + i
+        self.first_sem + i
     }
 
     /// Whether this is the key of one.
     pub(crate) fn has(&self, key: usize) -> bool
         ensures { IsTrue result ↔ HasSemaphore self.now key }
     {
-        key >= self.low && key - self.low < self.items.len()
+        key >= self.first_sem && key - self.first_sem < self.items.len()
     }
 
     /// How many permits are left.
@@ -130,14 +130,14 @@ impl Semaphores {
         requires { HasSemaphore self.now sem }
         ensures { result ≡ (semaphores_of self.now).left sem }
     {
-        self.items[sem - self.low].left
+        self.items[sem - self.first_sem].left
     }
 
     pub(crate) fn is_parked(&self, sem: usize) -> bool
         requires { HasSemaphore self.now sem }
         ensures { result ≡ (semaphores_of self.now).parked sem }
     {
-        self.items[sem - self.low].parked
+        self.items[sem - self.first_sem].parked
     }
 
     /// How many permits are out with this thread.
@@ -146,7 +146,7 @@ impl Semaphores {
         requires thread { thread < self.now.threads }
         ensures { result ≡ (semaphores_of self.now).out sem thread }
     {
-        self.items[sem - self.low].out[thread]
+        self.items[sem - self.first_sem].out[thread]
     }
 
     /// How many permits are out.
@@ -154,7 +154,7 @@ impl Semaphores {
         requires { HasSemaphore self.now sem }
         ensures { result ≡ total self.now.threads ((semaphores_of self.now).out sem) }
     {
-        let semaphore = &self.items[sem - self.low];
+        let semaphore = &self.items[sem - self.first_sem];
         semaphore.permits - semaphore.left
     }
 
@@ -163,7 +163,7 @@ impl Semaphores {
         ensures sems { semaphores_of self.new ≡ with_sem_parked (semaphores_of self.old) sem parked }
         ensures numbers { KeepsNumbers self.old self.new }
     {
-        self.items[sem - self.low].parked = parked;
+        self.items[sem - self.first_sem].parked = parked;
     }
 
     /// The thread takes a permit where one is left; whether it did.
@@ -177,7 +177,7 @@ impl Semaphores {
         if self.left(sem) == 0 {
             return false;
         }
-        self.items[sem - self.low].take(thread);
+        self.items[sem - self.first_sem].take(thread);
         true
     }
 
@@ -188,7 +188,7 @@ impl Semaphores {
         ensures sems { semaphores_of self.new ≡ permit_given (semaphores_of self.old) thread sem }
         ensures numbers { KeepsNumbers self.old self.new }
     {
-        self.items[sem - self.low].give(thread);
+        self.items[sem - self.first_sem].give(thread);
     }
 
     /// The thread goes last in the line.

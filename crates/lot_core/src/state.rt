@@ -55,7 +55,7 @@ pub struct State {
     ghost lock_line_each: { (lock_lines.low ≡ 0) × (key_count lock_lines ≡ locks) },
     ghost flag_each: { length flags.items ≡ conds },
     ghost cond_line_each: { (cond_lines.low ≡ locks) × (key_count cond_lines ≡ conds) },
-    ghost sem_each: { (sems.low ≡ locks + conds) × (sems.threads ≡ threads) },
+    ghost sem_each: { (sems.first_sem ≡ locks + conds) × (sems.threads ≡ threads) },
     ghost point_each: { length points.items ≡ threads },
 }
 

@@ -4,8 +4,8 @@ use Rattle.std.proofs.Common.{le_refl, le_trans}
 use Rattle.lot_sync.specs.Lot.{PassView, HeldView}
 use Rattle.lot_sync.specs.Holding.{Holding}
 use Rattle.lot_load.specs.declared.buffer.Buffer.{Buffer}
-use Rattle.lot_load.specs.declared.buffer.Taken.{Taken}
-use Rattle.lot_load.specs.declared.buffer.Taken.TheVariants.{Got, Empty, TooMuch}
+use Rattle.lot_load.specs.declared.buffer.TakenNumber.{TakenNumber}
+use Rattle.lot_load.specs.declared.buffer.TakenNumber.TheVariants.{Got, Empty, TooMuch}
 
 -- the greatest number of 64 bits
 abbrev pub most : ℕ
@@ -49,7 +49,7 @@ pub record PassesMost (buffer : Buffer) : Type 0 where
   pub past : most < buffer.sum + first
 
 -- what a take answers, and what it leaves
-abbrev pub TakesAs : Buffer → Taken → Buffer → Type 0
+abbrev pub TakesAs : Buffer → TakenNumber → Buffer → Type 0
 TakesAs old (Got n) new = IsTaken old n new
 TakesAs old Empty new = (old.places.items ≡ []) × (new ≡ old)
 TakesAs old TooMuch new = PassesMost old × (new ≡ old)

@@ -35,7 +35,7 @@ impl Keeps for Buffer {
 
 /// What a `take` answers.
 #[derive(Clone, Copy, Debug, PartialEq, Eq)]
-pub enum Taken {
+pub enum TakenNumber {
     /// The number that lay longest.
     Got(u64),
     /// Nothing lay there.
@@ -92,7 +92,7 @@ impl Buffer {
     }
 
     /// Takes the number that lay longest. Where it answers none, nothing is changed.
-    pub fn take(&mut self) -> Taken
+    pub fn take(&mut self) -> TakenNumber
         requires { IsFilled self.old }
         ensures answer { TakesAs self.old result self.new }
         ensures kept { IsFilled self.new }
@@ -100,14 +100,14 @@ impl Buffer {
     {
         let n = match self.places.as_slice().first() {
             Some(n) => *n,
-            None => return Taken::Empty,
+            None => return TakenNumber::Empty,
         };
         let Some(sum) = self.sum.checked_add(n) else {
-            return Taken::TooMuch;
+            return TakenNumber::TooMuch;
         };
         self.places.remove(0);
         self.taken += 1;
         self.sum = sum;
-        Taken::Got(n)
+        TakenNumber::Got(n)
     }
 }

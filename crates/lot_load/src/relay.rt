@@ -5,7 +5,7 @@ ghost use Rattle.lot_sync.specs.Lot.{OwnsNone};
 ghost use Rattle.lot_sync.specs.Opened.{IsNamed};
 ghost use Rattle.lot_load.specs.Buffers.{HasBuffer};
 
-use crate::buffer::{Buffer, Taken};
+use crate::buffer::{Buffer, TakenNumber};
 use crate::gate::{Gate, OpenGate, Point};
 use crate::workers::{Flags, enter, let_go, moment, start};
 use lot_calls::finish;
@@ -264,8 +264,8 @@ impl<N: LotName<Buffer> + Send + Sync, T: Wait, G: Gate> Relays<'_, N, T, G> {
         self.gate.reached(worker, round, Point::BeforeRelease);
         let (pass, _) = self.lot.unlock(self.rt, pass, held, moment);
         match taken {
-            Taken::Got(_) => (self.tell_taken(pass, is_last, moment), true),
-            Taken::Empty | Taken::TooMuch => (pass, false),
+            TakenNumber::Got(_) => (self.tell_taken(pass, is_last, moment), true),
+            TakenNumber::Empty | TakenNumber::TooMuch => (pass, false),
         }
     }
 

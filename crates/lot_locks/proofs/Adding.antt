@@ -5,7 +5,7 @@ use Rattle.std.proofs.lemmas.List.Elements.{All-nil, All-cons, All-append}
 use Rattle.std.specs.List.{All}
 use Rattle.lot_rights.specs.declared.views.Access.{Access}
 use Rattle.lot_words.specs.declared.views.LockPassView.{LockPassView}
-use Rattle.lot_words.specs.Calls.{wishing}
+use Rattle.lot_words.specs.Calls.{wanting}
 use Rattle.lot_whole.specs.declared.views.LotPassView.{LotPassView}
 use Rattle.lot_whole.specs.declared.views.Stand.{Stand}
 use Rattle.lot_whole.specs.declared.views.Stand.TheVariants.{Idle}
@@ -38,8 +38,8 @@ module _ {V : Type 0} where
   is_up p l (inr may) = may.0.up
 
   -- whoever may take a lock may try again where it wants that lock by now
-  pub may_again : (p : LotPassView V) (l : ℕ) → MayTake p l → MayTake (record p { locks = wishing p.locks l; stand = Idle }) l
-  may_again p l may = inl (up_then p (wishing p.locks l) Idle refl (is_up p l may), refl)
+  pub may_again : (p : LotPassView V) (l : ℕ) → MayTake p l → MayTake (record p { locks = wanting p.locks l; stand = Idle }) l
+  may_again p l may = inl (up_then p (wanting p.locks l) Idle refl (is_up p l may), refl)
 
 -- ---- words
 -- more accesses that seek, before a word that gets the lock

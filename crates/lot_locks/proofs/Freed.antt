@@ -9,7 +9,7 @@ use Rattle.lot_rights.specs.declared.views.Access.TheVariants.{Makes}
 use Rattle.lot_words.specs.declared.views.Hold.{Hold}
 use Rattle.lot_words.specs.declared.views.Hold.TheVariants.{NotHeld, FoundParked}
 use Rattle.lot_words.specs.World.{IsHeld, IsFound}
-use Rattle.lot_words.specs.Calls.{let_go, found_parked}
+use Rattle.lot_words.specs.Calls.{letting_go as lock_letting_go, finding_parked as lock_finding_parked}
 use Rattle.lot_whole.specs.declared.views.LotPassView.{LotPassView}
 use Rattle.lot_whole.specs.Standing.{MayLetGo}
 use Rattle.lot_whole.specs.Whole.{rises}
@@ -27,10 +27,10 @@ held_near (h ∷ hs) (suc l) is = let near = held_near hs l is in omega (arith, 
 
 module _ {V : Type 0} where
   -- whoever may let a lock go may do so too after it found the lock parked
-  may_still : (p : LotPassView V) (l : ℕ) → MayLetGo p l → MayLetGo (record p { locks = found_parked p.locks l }) l
+  may_still : (p : LotPassView V) (l : ℕ) → MayLetGo p l → MayLetGo (record p { locks = lock_finding_parked p.locks l }) l
   may_still p l (inl idle) = inl (
     record {
-      up = up_then p (found_parked p.locks l) p.stand refl idle.0.up;
+      up = up_then p (lock_finding_parked p.locks l) p.stand refl idle.0.up;
       aim = idle.0.aim;
       sweeps = idle.0.sweeps;
       seeks = idle.0.seeks;
@@ -51,7 +51,7 @@ module _ {V : Type 0} where
         freed = inr (w.did, w.freed, refl);
         is = both_added (letting_go (finding_parked a l) l w.value) c (found ∷ []) w.did w.is
             ∙ ap (λ (hs : List Hold). adding (record a {
-              own = record a.own { locks = record (let_go a.own.locks l w.value) { holds = hs }; stand = rises a.own.stand };
+              own = record a.own { locks = record (lock_letting_go a.own.locks l w.value) { holds = hs }; stand = rises a.own.stand };
             }) (found ∷ w.did)) (set-set a.own.locks.holds l FoundParked NotHeld);
       }
 

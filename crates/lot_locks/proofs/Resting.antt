@@ -2,13 +2,13 @@
 use Rattle.std.proofs.Common.{ℕ, List, inl, refl, sym, ap, subst}
 use Rattle.lot_rights.specs.declared.views.Access.{Access}
 use Rattle.lot_words.specs.declared.views.Place.{Place}
-use Rattle.lot_words.proofs.Owning.{owns_gripped}
+use Rattle.lot_words.proofs.Owning.{owns_owning}
 use Rattle.lot_words.specs.CallersRule.{CallersRule}
-use Rattle.lot_words.specs.Calls.{gripped, found_parked, let_go, placed}
+use Rattle.lot_words.specs.Calls.{owning as lock_owning, finding_parked as lock_finding_parked, letting_go as lock_letting_go, placing as lock_placing}
 use Rattle.lot_whole.specs.declared.views.Stand.TheVariants.{Idle}
 use Rattle.lot_whole.specs.Standing.{IsIdle}
 use Rattle.lot_whole.specs.Whole.{rises}
-use Rattle.lot_scheme.specs.Standing.{LotStanding, owning, finding_parked, letting_go, putting}
+use Rattle.lot_scheme.specs.Standing.{LotStanding, owning, finding_parked, letting_go, placing as stand_placing}
 use Rattle.lot_scheme.specs.Words.{GetWord}
 use Rattle.lot_locks.specs.Standing.{MayFree, GetsBy, IsOwner}
 use Rattle.lot_locks.proofs.Adding.{up_then}
@@ -16,14 +16,14 @@ use Rattle.lot_locks.proofs.Adding.{up_then}
 module _ {V : Type 0} where
   pub owning_idle : (p : LotStanding V) (l : ℕ) (x : V) → IsIdle p.own → IsIdle (owning p l x).own
   owning_idle p l x (awake, stand) = (
-    record { up = up_then p.own (gripped p.own.locks l x) Idle refl awake.up; aim = refl; sweeps = awake.sweeps; seeks = awake.seeks },
+    record { up = up_then p.own (lock_owning p.own.locks l x) Idle refl awake.up; aim = refl; sweeps = awake.sweeps; seeks = awake.seeks },
     refl,
   )
 
   pub parked_idle : (p : LotStanding V) (l : ℕ) → IsIdle p.own → IsIdle (finding_parked p l).own
   parked_idle p l (awake, stand) = (
     record {
-      up = up_then p.own (found_parked p.own.locks l) p.own.stand refl awake.up;
+      up = up_then p.own (lock_finding_parked p.own.locks l) p.own.stand refl awake.up;
       aim = awake.aim;
       sweeps = awake.sweeps;
       seeks = awake.seeks;
@@ -34,7 +34,7 @@ module _ {V : Type 0} where
   pub freed_idle : (p : LotStanding V) (l : ℕ) (y : V) → IsIdle p.own → IsIdle (letting_go p l y).own
   freed_idle p l y (awake, stand) = (
     record {
-      up = up_then p.own (let_go p.own.locks l y) (rises p.own.stand) refl awake.up;
+      up = up_then p.own (lock_letting_go p.own.locks l y) (rises p.own.stand) refl awake.up;
       aim = awake.aim;
       sweeps = awake.sweeps;
       seeks = awake.seeks;
@@ -42,10 +42,10 @@ module _ {V : Type 0} where
     ap rises stand,
   )
 
-  pub placed_idle : (p : LotStanding V) (l : ℕ) (place : Place V) → IsIdle p.own → IsIdle (putting p l place).own
+  pub placed_idle : (p : LotStanding V) (l : ℕ) (place : Place V) → IsIdle p.own → IsIdle (stand_placing p l place).own
   placed_idle p l place (awake, stand) = (
     record {
-      up = up_then p.own (placed p.own.locks l place) p.own.stand refl awake.up;
+      up = up_then p.own (lock_placing p.own.locks l place) p.own.stand refl awake.up;
       aim = awake.aim;
       sweeps = awake.sweeps;
       seeks = awake.seeks;
@@ -58,7 +58,7 @@ module _ {V Part : Type 0} (rule : CallersRule V Part) where
   pub got_may_free : (word : List Access → Type 0) (before after : LotStanding V) (l : ℕ) → IsIdle before.own
       → GetsBy rule word before l after → MayFree after l
   got_may_free word before after l idle o =
-      let owns = owns_gripped before.own.locks l o.value o.found.tells in
+      let owns = owns_owning before.own.locks l o.value o.found.tells in
       subst (λ (z : LotStanding V). MayFree z l) (sym o.is)
       (record { may = inl (owning_idle before l o.value idle); holds = owns.holds; lies = (o.value, owns.lies) })
 

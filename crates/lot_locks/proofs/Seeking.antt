@@ -15,7 +15,7 @@ use Rattle.lot_rights.specs.declared.views.Access.TheVariants.{Makes, Finds}
 use Rattle.lot_words.specs.declared.views.LockPassView.{LockPassView}
 use Rattle.lot_words.specs.CallersRule.{CallersRule}
 use Rattle.lot_words.specs.Values.{FoundOk}
-use Rattle.lot_words.specs.Calls.{wishing}
+use Rattle.lot_words.specs.Calls.{wanting as lock_wanting}
 use Rattle.lot_whole.specs.declared.views.Stand.TheVariants.{Idle}
 use Rattle.lot_whole.specs.Standing.{MayTake, MayPark}
 use Rattle.lot_scheme.specs.Standing.{LotStanding, adding, wanting, owning}
@@ -64,7 +64,7 @@ module _ {V : Type 0} where
   -- so it may line up, or take the lock
   pub may_park : (n : ℕ) (before now : LotStanding V) (l : ℕ) → IsTryingFor n before l now → MayPark now.own l
   may_park n before now l s = subst (λ (z : LotStanding V). MayPark z.own l) (sym s.is)
-      (up_then before.own (wishing before.own.locks l) Idle refl (is_up before.own l s.may), refl)
+      (up_then before.own (lock_wanting before.own.locks l) Idle refl (is_up before.own l s.may), refl)
 
   pub may_take : (n : ℕ) (before now : LotStanding V) (l : ℕ) → IsAwakeFor n before l now → MayTake now.own l
   may_take n before now l s = (awake_itself n before now l s).may

@@ -8,7 +8,7 @@ use Rattle.lot_rights.specs.declared.views.Access.TheVariants.{Collects}
 use Rattle.lot_words.specs.declared.views.LockPassView.{LockPassView}
 use Rattle.lot_words.specs.CallersRule.{CallersRule}
 use Rattle.lot_words.specs.Values.{FoundOk}
-use Rattle.lot_words.specs.Calls.{gripped, woken}
+use Rattle.lot_words.specs.Calls.{owning as lock_owning, woken}
 use Rattle.lot_whole.specs.declared.views.Stand.TheVariants.{Idle}
 use Rattle.lot_whole.specs.Family.{lock}
 use Rattle.lot_scheme.specs.Standing.{LotStanding, adding, wanting, lined, owning, IsLooked, CollectsLock}
@@ -62,11 +62,11 @@ module _ {V Part : Type 0} (rule : CallersRule V Part) where
         got = (did, Collects before.thread (Some 1), sought, refl, refl);
         is = both_added (owning before l x) now did (Collects before.thread (Some 1) ∷ [])
             (subst (λ (i : ℕ). now ≡ adding (record before {
-              own = record before.own { locks = woken (gripped locks i x); stand = Idle };
+              own = record before.own { locks = woken (lock_owning locks i x); stand = Idle };
               did = before.did ++ did;
             }) (Collects before.thread (Some 1) ∷ [])) same is
             ∙ ap (λ asleep. adding (record before {
-              own = record before.own { locks = record (gripped before.own.locks l x) { asleep = asleep }; stand = Idle };
+              own = record before.own { locks = record (lock_owning before.own.locks l x) { asleep = asleep }; stand = Idle };
               did = before.did ++ did;
             }) (Collects before.thread (Some 1) ∷ [])) (sym up));
       }

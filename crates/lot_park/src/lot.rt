@@ -2,7 +2,7 @@ ghost use Rattle.std.specs.Prelude.{◌≡◌, ◌+◌, ◌<◌, ◌≤◌, true
 
 use crate::parking::{park_in, unpark_count_in, unpark_in};
 use crate::scheme::{Scheme, Token};
-use crate::taken::Taken;
+use crate::taken::TakenThreads;
 use crossbeam_utils::CachePadded;
 use lot_bucket::{Bucket, Dequeued as UnparkResult, Moment};
 use lot_records::Record;
@@ -292,7 +292,7 @@ impl<S: Scheme> ParkingLot<S> {
             rt,
             key,
             x,
-            |bucket: &mut Bucket<S::Root>, x: X| -> (X, Taken)
+            |bucket: &mut Bucket<S::Root>, x: X| -> (X, TakenThreads)
                 requires ready { IsOpenFor S.Root.view key bucket.old }
                 requires few { bucket.old.room ≤ MOST_THREADS }
                 requires callable { MayUnparkCount S.Root.view bucket.old.room key count (F.pre f x) }
@@ -319,7 +319,7 @@ impl<S: Scheme> ParkingLot<S> {
         }
     }
 
-    fn wake_all<W: Wait>(&self, rt: &W, taken: &Taken) {
+    fn wake_all<W: Wait>(&self, rt: &W, taken: &TakenThreads) {
         for thread in &taken.threads[..taken.count] {
             self.wake(rt, Some(*thread));
         }

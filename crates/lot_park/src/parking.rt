@@ -10,7 +10,7 @@ ghost use Rattle.lot_park.specs.Parking.{MayUnparkCount, UnparksCount, UnparkedC
 ghost use Rattle.lot_park.specs.Parking.{Validated};
 
 use crate::scheme::{Scheme, Token};
-use crate::taken::Taken;
+use crate::taken::TakenThreads;
 use lot_bucket::{Bucket, Dequeued as UnparkResult, Moment, Root};
 use lot_table::MOST_THREADS;
 
@@ -68,7 +68,7 @@ pub fn unpark_count_in<S: Scheme, X, F: FnOnce(X, S::Root, usize, bool) -> (X, S
     count: usize,
     x: X,
     f: F,
-) -> (X, Taken)
+) -> (X, TakenThreads)
     requires ready { IsOpenFor S.Root.view key bucket.old }
     requires few { bucket.old.room ≤ MOST_THREADS }
     requires callable { MayUnparkCount S.Root.view bucket.old.room key count (F.pre f x) }
@@ -84,12 +84,12 @@ pub fn unpark_count_in<S: Scheme, X, F: FnOnce(X, S::Root, usize, bool) -> (X, S
     (x, taken_of(threads, taken))
 }
 
-fn taken_of(threads: [usize; MOST_THREADS], count: usize) -> Taken
+fn taken_of(threads: [usize; MOST_THREADS], count: usize) -> TakenThreads
     requires { count ≤ MOST_THREADS }
     ensures threads { result.threads ≡ threads }
     ensures count { result.count ≡ count }
 {
-    Taken { threads, count }
+    TakenThreads { threads, count }
 }
 
 // Takes the root out, and the first `count` of the line, which it writes to the front of `out`. It answers how many

@@ -5,7 +5,7 @@ use lot_table::MOST_THREADS;
 
 /// The threads of a line that was taken, in order.
 #[derive(Clone, Copy)]
-pub struct Taken {
+pub struct TakenThreads {
     pub threads: [usize; MOST_THREADS],
     pub count: usize,
     ghost within: { count ≤ MOST_THREADS },

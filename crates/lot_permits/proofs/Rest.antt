@@ -1,12 +1,12 @@
 -- How a pass stands between two calls: it is idle.
 use Rattle.std.proofs.Common.{◌≡◌, ℕ, List, ◌++◌, refl, sym, subst, ◌∙◌}
 use Rattle.lot_rights.specs.declared.views.Access.{Access}
-use Rattle.lot_sems.specs.Calls.{got, gave}
+use Rattle.lot_sems.specs.Calls.{one_permit_more as sem_one_permit_more, one_permit_less as sem_one_permit_less}
 use Rattle.lot_whole.specs.declared.views.LotPassView.{LotPassView}
 use Rattle.lot_whole.specs.declared.views.Stand.TheVariants.{Idle}
 use Rattle.lot_whole.specs.Family.{lock, cond, sem}
 use Rattle.lot_whole.specs.Standing.{IsUp, IsIdle}
-use Rattle.lot_scheme.specs.Standing.{LotStanding, adding, getting, giving}
+use Rattle.lot_scheme.specs.Standing.{LotStanding, adding, one_permit_more as stand_one_permit_more, one_permit_less as stand_one_permit_less}
 use Rattle.lot_scheme.specs.Words.{UnfreedWord}
 use Rattle.lot_permits.specs.declared.permit.Freed.{Freed}
 use Rattle.lot_permits.specs.declared.permit.Freed.TheVariants.{Quiet, Woke, Nobody}
@@ -16,21 +16,21 @@ use Rattle.lot_permits.proofs.Words.{adding_on}
 
 module _ {V : Type 0} where
   -- ---- idle
-  got_up : (p : LotPassView V) (k : ℕ) → IsUp p → IsUp (record p { sems = got p.sems k; stand = Idle })
+  got_up : (p : LotPassView V) (k : ℕ) → IsUp p → IsUp (record p { sems = sem_one_permit_more p.sems k; stand = Idle })
   got_up p k up lock = up lock
   got_up p k up cond = up cond
   got_up p k up sem = up sem
 
-  gave_up : (p : LotPassView V) (k : ℕ) → IsUp p → IsUp (record p { sems = gave p.sems k })
+  gave_up : (p : LotPassView V) (k : ℕ) → IsUp p → IsUp (record p { sems = sem_one_permit_less p.sems k })
   gave_up p k up lock = up lock
   gave_up p k up cond = up cond
   gave_up p k up sem = up sem
 
-  pub idle_getting : (p : LotStanding V) (k : ℕ) → IsIdle p.own → IsIdle (getting p k).own
+  pub idle_getting : (p : LotStanding V) (k : ℕ) → IsIdle p.own → IsIdle (stand_one_permit_more p k).own
   idle_getting p k idle =
       (record { up = got_up p.own k idle.0.up; aim = idle.0.aim; sweeps = idle.0.sweeps; seeks = refl }, refl)
 
-  pub idle_giving : (p : LotStanding V) (k : ℕ) → IsIdle p.own → IsIdle (giving p k).own
+  pub idle_giving : (p : LotStanding V) (k : ℕ) → IsIdle p.own → IsIdle (stand_one_permit_less p k).own
   idle_giving p k idle =
       (record { up = gave_up p.own k idle.0.up; aim = idle.0.aim; sweeps = idle.0.sweeps; seeks = idle.0.seeks }, idle.1)
 
@@ -54,7 +54,7 @@ module _ {V : Type 0} where
   gives_at p q k did miss became s = record {
     did = did ++ s.did;
     given = given_after p.thread k became did s.did miss s.passed;
-    is = s.is ∙ adding_on (giving p k) did s.did;
+    is = s.is ∙ adding_on (stand_one_permit_less p k) did s.did;
   }
 
   pub gives_after : (p m q : LotStanding V) (k : ℕ) (did : List Access) → UnfreedWord p.thread k did → m ≡ adding p did → (became : Freed)

@@ -16,7 +16,7 @@ use Rattle.lot_whole.specs.Standing.{IsUp, MayTakePermit, MaySeek}
 use Rattle.lot_park.specs.declared.seeking.Seeking.{Seeking}
 use Rattle.lot_park.specs.declared.seeking.Seeking.TheVariants.{Got, Waits, Parks}
 use Rattle.lot_park.specs.Seeking.{SeekingLaws, IsUnfinished}
-use Rattle.lot_scheme.specs.Standing.{LotStanding, adding, seeking, getting}
+use Rattle.lot_scheme.specs.Standing.{LotStanding, adding, seeking, one_permit_more}
 use Rattle.lot_scheme.specs.Words.{IsPermitSeek}
 use Rattle.lot_scheme.specs.SemCalls.{TakesPermit, MarksPermit}
 use Rattle.lot_permits.specs.Seeking.{GetsPermit, IsSeekingFor, IsAwakeFor, Seeks}
@@ -36,26 +36,26 @@ module _ {V : Type 0} where
   pub may_seek : (p : LotStanding V) (k : ℕ) → MayTakePermit p.own k → MaySeek (seeking p k).own k
   may_seek p k may = (seeking_up p.own k (up_of p.own k may), refl)
 
-  module _ (low : ℕ) where
+  module _ (first_sem : ℕ) where
     -- ---- from one look to the next
-    may_take : (before now : LotStanding V) (key : ℕ) → IsSeekingFor low before key now → IsAwakeFor low before key now
+    may_take : (before now : LotStanding V) (key : ℕ) → IsSeekingFor first_sem before key now → IsAwakeFor first_sem before key now
     may_take before now key s = record { above = s.above; may = s.may; did = s.did; sought = s.sought; is = inr s.is }
 
-    pub waits : (before now : LotStanding V) (key : ℕ) (far : Seeking) → IsUnfinished far → Seeks low before key far now
-        → IsAwakeFor low before key now
+    pub waits : (before now : LotStanding V) (key : ℕ) (far : Seeking) → IsUnfinished far → Seeks first_sem before key far now
+        → IsAwakeFor first_sem before key now
     waits before now key Got done s = absurd done
     waits before now key Waits u s = s
     waits before now key Parks u s = may_take before now key s
 
-    same : (before now : LotStanding V) (key : ℕ) (far : Seeking) → Seeks low before key far now → now.thread ≡ before.thread
+    same : (before now : LotStanding V) (key : ℕ) (far : Seeking) → Seeks first_sem before key far now → now.thread ≡ before.thread
     same before now key Got s = ap (λ (p : LotStanding V). p.thread) s.is
     same before now key Parks s = ap (λ (p : LotStanding V). p.thread) s.is
     same before now key Waits s = ⊎_elim {C = now.thread ≡ before.thread} (λ e. ap (λ (p : LotStanding V). p.thread) e)
         (λ e. ap (λ (p : LotStanding V). p.thread) e) s.is
 
     -- one access more, by which it got none
-    pub goes_on : (before now after : LotStanding V) (key : ℕ) (a : Access) → IsSeekingFor low before key now
-        → IsPermitSeek before.thread key a → after ≡ adding now (a ∷ []) → IsSeekingFor low before key after
+    pub goes_on : (before now after : LotStanding V) (key : ℕ) (a : Access) → IsSeekingFor first_sem before key now
+        → IsPermitSeek before.thread key a → after ≡ adding now (a ∷ []) → IsSeekingFor first_sem before key after
     goes_on before now after key a s seeks is = record {
       above = s.above;
       may = s.may;
@@ -65,8 +65,8 @@ module _ {V : Type 0} where
     }
 
     -- ---- as from where it is
-    seeks_so : (p : LotStanding V) (key : ℕ) → low ≤ key → MayTakePermit p.own key → (did : List Access)
-        → IsSeekingFor low (adding (seeking p key) did) key (adding (seeking p key) did)
+    seeks_so : (p : LotStanding V) (key : ℕ) → first_sem ≤ key → MayTakePermit p.own key → (did : List Access)
+        → IsSeekingFor first_sem (adding (seeking p key) did) key (adding (seeking p key) did)
     seeks_so p key above may did = record {
       above = above;
       may = inl (may_seek p key may);
@@ -75,7 +75,7 @@ module _ {V : Type 0} where
       is = sym (adding_none (adding (seeking p key) did));
     }
 
-    begins : (p : LotStanding V) (key : ℕ) → low ≤ key → MayTakePermit p.own key → IsAwakeFor low p key p
+    begins : (p : LotStanding V) (key : ℕ) → first_sem ≤ key → MayTakePermit p.own key → IsAwakeFor first_sem p key p
     begins p key above may = record {
       above = above;
       may = may;
@@ -84,24 +84,24 @@ module _ {V : Type 0} where
       is = inl (sym (adding_none p));
     }
 
-    seeks_itself : (before now : LotStanding V) (key : ℕ) → IsSeekingFor low before key now → IsSeekingFor low now key now
+    seeks_itself : (before now : LotStanding V) (key : ℕ) → IsSeekingFor first_sem before key now → IsSeekingFor first_sem now key now
     seeks_itself before now key s =
-        subst (λ (p : LotStanding V). IsSeekingFor low p key p) (sym s.is) (seeks_so before key s.above s.may s.did)
+        subst (λ (p : LotStanding V). IsSeekingFor first_sem p key p) (sym s.is) (seeks_so before key s.above s.may s.did)
 
-    pub itself : (before now : LotStanding V) (key : ℕ) (far : Seeking) → IsUnfinished far → Seeks low before key far now
-        → Seeks low now key far now
+    pub itself : (before now : LotStanding V) (key : ℕ) (far : Seeking) → IsUnfinished far → Seeks first_sem before key far now
+        → Seeks first_sem now key far now
     itself before now key Got done s = absurd done
     itself before now key Parks u s = seeks_itself before now key s
-    itself before now key Waits u s = ⊎_elim {C = IsAwakeFor low now key now}
-        (λ e. subst (λ (p : LotStanding V). IsAwakeFor low p key p) (sym e) (begins (adding before s.did) key s.above s.may))
+    itself before now key Waits u s = ⊎_elim {C = IsAwakeFor first_sem now key now}
+        (λ e. subst (λ (p : LotStanding V). IsAwakeFor first_sem p key p) (sym e) (begins (adding before s.did) key s.above s.may))
         (λ e. may_take now now key (seeks_itself before now key
         (record { above = s.above; may = s.may; did = s.did; sought = s.sought; is = e })))
         s.is
 
     -- ---- as from where it began
-    module _ (before : LotStanding V) (key : ℕ) (above : low ≤ key) (may : MayTakePermit before.own key) (did : List Access)
+    module _ (before : LotStanding V) (key : ℕ) (above : first_sem ≤ key) (may : MayTakePermit before.own key) (did : List Access)
         (sought : All (IsPermitSeek before.thread key) did) where
-      as_before_seeks : (after : LotStanding V) → IsSeekingFor low (adding before did) key after → IsSeekingFor low before key after
+      as_before_seeks : (after : LotStanding V) → IsSeekingFor first_sem (adding before did) key after → IsSeekingFor first_sem before key after
       as_before_seeks after s = record {
         above = above;
         may = may;
@@ -110,11 +110,11 @@ module _ {V : Type 0} where
         is = s.is ∙ adding_on (seeking before key) did s.did;
       }
 
-      as_before : (next : Seeking) (after : LotStanding V) → Seeks low (adding before did) key next after → Seeks low before key next after
+      as_before : (next : Seeking) (after : LotStanding V) → Seeks first_sem (adding before did) key next after → Seeks first_sem before key next after
       as_before Got after s = record {
         did = did ++ s.did;
         got = get_after before.thread key did s.did sought s.got;
-        is = s.is ∙ adding_on (getting before key) did s.did;
+        is = s.is ∙ adding_on (one_permit_more before key) did s.did;
       }
       as_before Parks after s = as_before_seeks after s
       as_before Waits after s = record {
@@ -125,8 +125,8 @@ module _ {V : Type 0} where
         is = ⊎_elim (λ e. inl (e ∙ adding_on before did s.did)) (λ e. inr (e ∙ adding_on (seeking before key) did s.did)) s.is;
       }
 
-      as_seeking_seeks : (after : LotStanding V) → IsSeekingFor low (adding (seeking before key) did) key after
-          → IsSeekingFor low before key after
+      as_seeking_seeks : (after : LotStanding V) → IsSeekingFor first_sem (adding (seeking before key) did) key after
+          → IsSeekingFor first_sem before key after
       as_seeking_seeks after s = record {
         above = above;
         may = may;
@@ -135,12 +135,12 @@ module _ {V : Type 0} where
         is = s.is ∙ adding_on (seeking before key) did s.did;
       }
 
-      as_seeking : (next : Seeking) (after : LotStanding V) → Seeks low (adding (seeking before key) did) key next after
-          → Seeks low before key next after
+      as_seeking : (next : Seeking) (after : LotStanding V) → Seeks first_sem (adding (seeking before key) did) key next after
+          → Seeks first_sem before key next after
       as_seeking Got after s = record {
         did = did ++ s.did;
         got = get_after before.thread key did s.did sought s.got;
-        is = s.is ∙ adding_on (getting before key) did s.did;
+        is = s.is ∙ adding_on (one_permit_more before key) did s.did;
       }
       as_seeking Parks after s = as_seeking_seeks after s
       as_seeking Waits after s = record {
@@ -152,37 +152,37 @@ module _ {V : Type 0} where
             (λ e. inr (e ∙ adding_on (seeking before key) did s.did)) s.is;
       }
 
-    goes : (before now after : LotStanding V) (key : ℕ) (next : Seeking) → IsAwakeFor low before key now → Seeks low now key next after
-        → Seeks low before key next after
-    goes before now after key next s t = ⊎_elim {C = Seeks low before key next after}
-        (λ e. as_before before key s.above s.may s.did s.sought next after (subst (λ (p : LotStanding V). Seeks low p key next after) e t))
-        (λ e. as_seeking before key s.above s.may s.did s.sought next after (subst (λ (p : LotStanding V). Seeks low p key next after) e t))
+    goes : (before now after : LotStanding V) (key : ℕ) (next : Seeking) → IsAwakeFor first_sem before key now → Seeks first_sem now key next after
+        → Seeks first_sem before key next after
+    goes before now after key next s t = ⊎_elim {C = Seeks first_sem before key next after}
+        (λ e. as_before before key s.above s.may s.did s.sought next after (subst (λ (p : LotStanding V). Seeks first_sem p key next after) e t))
+        (λ e. as_seeking before key s.above s.may s.did s.sought next after (subst (λ (p : LotStanding V). Seeks first_sem p key next after) e t))
         s.is
 
-    pub on : (before now after : LotStanding V) (key : ℕ) (far next : Seeking) → IsUnfinished far → Seeks low before key far now
-        → Seeks low now key next after → Seeks low before key next after
+    pub on : (before now after : LotStanding V) (key : ℕ) (far next : Seeking) → IsUnfinished far → Seeks first_sem before key far now
+        → Seeks first_sem now key next after → Seeks first_sem before key next after
     on before now after key far next u s t = goes before now after key next (waits before now key far u s) t
 
-    pub laws : SeekingLaws (λ (p : LotStanding V). p.thread) (Seeks low)
+    pub laws : SeekingLaws (λ (p : LotStanding V). p.thread) (Seeks first_sem)
     laws = record { same = same; waits = waits; itself = itself; on = on }
 
     -- who seeks a permit may mark the semaphore as parked, and seeks it still
-    pub may_mark : (before now : LotStanding V) (key : ℕ) → IsSeekingFor low before key now → MaySeek now.own key
+    pub may_mark : (before now : LotStanding V) (key : ℕ) → IsSeekingFor first_sem before key now → MaySeek now.own key
     may_mark before now key s = subst (λ (p : LotStanding V). MaySeek p.own key) (sym s.is) (may_seek before key s.may)
 
-    pub marked_on : (before mid now : LotStanding V) (key : ℕ) (does : Bool) → IsSeekingFor low before key mid → MarksPermit mid key does now
-        → IsSeekingFor low before key now
+    pub marked_on : (before mid now : LotStanding V) (key : ℕ) (does : Bool) → IsSeekingFor first_sem before key mid → MarksPermit mid key does now
+        → IsSeekingFor first_sem before key now
     marked_on before mid now key true s is =
         goes_on before mid now key (Makes (SemMark mid.thread key) Done) s (ap (λ (p : LotStanding V). p.thread) s.is, refl) is
     marked_on before mid now key false s (word, other, is) =
         goes_on before mid now key (Finds mid.thread key word) s (ap (λ (p : LotStanding V). p.thread) s.is, refl) is
 
     -- ---- after a try
-    pub tried : (p q : LotStanding V) (key : ℕ) → low ≤ key → MayTakePermit p.own key → TakesPermit p key HasGot q → GetsPermit p key q
+    pub tried : (p q : LotStanding V) (key : ℕ) → first_sem ≤ key → MayTakePermit p.own key → TakesPermit p key HasGot q → GetsPermit p key q
     tried p q key above may (did, word, is) = record { did = did; got = took_it p.thread key did word; is = is }
 
-    pub found_none : (p q : LotStanding V) (key : ℕ) → low ≤ key → MayTakePermit p.own key → TakesPermit p key Empty q
-        → IsSeekingFor low p key q
+    pub found_none : (p q : LotStanding V) (key : ℕ) → first_sem ≤ key → MayTakePermit p.own key → TakesPermit p key Empty q
+        → IsSeekingFor first_sem p key q
     found_none p q key above may is = record {
       above = above;
       may = may;
@@ -191,19 +191,19 @@ module _ {V : Type 0} where
       is = is;
     }
 
-    pub missed : (p q : LotStanding V) (key : ℕ) (taken : Taken) → low ≤ key → MayTakePermit p.own key → TakesPermit p key taken q
-        → (taken ≡ Empty) ⊎ (taken ≡ Busy) → IsAwakeFor low p key q
+    pub missed : (p q : LotStanding V) (key : ℕ) (taken : Taken) → first_sem ≤ key → MayTakePermit p.own key → TakesPermit p key taken q
+        → (taken ≡ Empty) ⊎ (taken ≡ Busy) → IsAwakeFor first_sem p key q
     missed p q key HasGot above may took none = absurd (⊎_elim {C = ⊥} (λ e. cc) (λ e. cc) none)
     missed p q key Empty above may took none = may_take p q key (found_none p q key above may took)
     missed p q key Busy above may (did, word, is) none =
         record { above = above; may = may; did = did; sought = busy_seek p.thread key did word; is = inl is }
 
     -- and it goes on as from there
-    pub goes_again : (p q : LotStanding V) (key : ℕ) → IsAwakeFor low p key q → IsAwakeFor low q key q
+    pub goes_again : (p q : LotStanding V) (key : ℕ) → IsAwakeFor first_sem p key q → IsAwakeFor first_sem q key q
     goes_again p q key s = itself p q key Waits tt s
 
     -- and where it got one in the end, it has got it
-    pub got_slowly : (p q r : LotStanding V) (key : ℕ) → IsAwakeFor low p key q → GetsPermit q key r → GetsPermit p key r
+    pub got_slowly : (p q r : LotStanding V) (key : ℕ) → IsAwakeFor first_sem p key q → GetsPermit q key r → GetsPermit p key r
     got_slowly p q r key s gets = on p q r key Waits Got tt s gets
 
 -- of a thread that lines up for a permit

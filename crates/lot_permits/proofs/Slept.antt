@@ -29,9 +29,9 @@ module _ {V Part : Type 0} (rule : CallersRule V Part) where
   of_sem p q token false None e f h = h
   of_sem p q token false (Some c) e f h = absurd (cc)
 
-  module _ (low : ℕ) (before : LotStanding V) (key : ℕ) where
+  module _ (first_sem : ℕ) (before : LotStanding V) (key : ℕ) where
     -- a look in vain
-    sleeps_on : (p q : LotStanding V) → IsAsleepFor low before key p → IsLooked rule p None q → IsAsleepFor low before key q
+    sleeps_on : (p q : LotStanding V) → IsAsleepFor first_sem before key p → IsLooked rule p None q → IsAsleepFor first_sem before key q
     sleeps_on p q s look = record {
       above = s.above;
       may = s.may;
@@ -47,8 +47,8 @@ module _ {V Part : Type 0} (rule : CallersRule V Part) where
     finds_at did token q up look = of_sem (adding (queued before key) did) q token before.own.locks.asleep before.own.conds.out (up lock)
         (none_of before.own.conds.out (up cond)) look
 
-    wakes : (p q : LotStanding V) (token : ℕ) → IsAsleepFor low before key p → IsLooked rule p (Some token) q
-        → IsSeekingFor low before key q
+    wakes : (p q : LotStanding V) (token : ℕ) → IsAsleepFor first_sem before key p → IsLooked rule p (Some token) q
+        → IsSeekingFor first_sem before key q
     wakes p q token s look =
         let up = up_of before.own key s.may in
         let found = finds_at s.did token q up (subst (λ (r : LotStanding V). IsLooked rule r (Some token) q) s.is look) in
@@ -66,10 +66,10 @@ module _ {V Part : Type 0} (rule : CallersRule V Part) where
               ∙ adding_on (seeking before key) s.did (Collects before.thread (Some token) ∷ []));
         }
 
-    pub seeks_still : (asleep now : LotStanding V) (token : ℕ) → IsAsleepFor low before key asleep
+    pub seeks_still : (asleep now : LotStanding V) (token : ℕ) → IsAsleepFor first_sem before key asleep
         → Awaited (IsLooked rule) asleep token now
-        → Seeks low before key Parks now
+        → Seeks first_sem before key Parks now
     seeks_still asleep now token s a =
-        let kept = awaited_keeps (IsLooked rule) (λ (p q : LotStanding V). IsAsleepFor low before key p → IsAsleepFor low before key q)
+        let kept = awaited_keeps (IsLooked rule) (λ (p q : LotStanding V). IsAsleepFor first_sem before key p → IsAsleepFor first_sem before key q)
         (λ p h. h) (λ p m q on look h. sleeps_on m q (on h) look) asleep token now a in
         wakes kept.0 now token (kept.1 s) kept.2

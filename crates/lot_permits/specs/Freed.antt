@@ -5,7 +5,7 @@ use Rattle.lot_events.specs.declared.events.Seen.TheVariants.{Bool as Saw, Done,
 use Rattle.lot_rights.specs.declared.views.Access.{Access}
 use Rattle.lot_rights.specs.declared.views.Access.TheVariants.{Makes}
 use Rattle.lot_whole.specs.Standing.{MayGive}
-use Rattle.lot_scheme.specs.Standing.{LotStanding, adding, giving}
+use Rattle.lot_scheme.specs.Standing.{LotStanding, adding, one_permit_less}
 use Rattle.lot_scheme.specs.Words.{FreedWord, UnfreedWord}
 use Rattle.lot_permits.specs.declared.permit.Freed.{Freed}
 use Rattle.lot_permits.specs.declared.permit.Freed.TheVariants.{Quiet, Woke, Nobody}
@@ -32,16 +32,16 @@ GivenWord t k became acts =
 
 -- ---- how a pass stands: p before, and q when a permit of k was given back
 module _ {V : Type 0} where
-  -- it has a permit of k, and may give it back; the keys of the semaphores begin at low
+  -- it has a permit of k, and may give it back; the keys of the semaphores begin at first_sem
   abbrev pub MayGiveBack : ℕ → LotStanding V → ℕ → Type 0
-  MayGiveBack low p k = (low ≤ k) × MayGive p.own k
+  MayGiveBack first_sem p k = (first_sem ≤ k) × MayGive p.own k
 
   pub record PassesPermit (p : LotStanding V) (k : ℕ) (became : Freed) (q : LotStanding V) : Type 0 where
     pub did : List Access
     pub passed : PassedWord p.thread k became did
-    pub is : q ≡ adding (giving p k) did
+    pub is : q ≡ adding (one_permit_less p k) did
 
   pub record GivesPermit (p : LotStanding V) (k : ℕ) (became : Freed) (q : LotStanding V) : Type 0 where
     pub did : List Access
     pub given : GivenWord p.thread k became did
-    pub is : q ≡ adding (giving p k) did
+    pub is : q ≡ adding (one_permit_less p k) did

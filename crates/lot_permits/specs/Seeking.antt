@@ -1,11 +1,11 @@
--- How a pass stands whose thread seeks a permit of k: p before it began, q now. The keys of the semaphores begin at low.
+-- How a pass stands whose thread seeks a permit of k: p before it began, q now. The keys of the semaphores begin at first_sem.
 use Rattle.std.specs.Prelude.{◌≡◌, ℕ, ◌≤◌, ◌⊎◌, List}
 use Rattle.std.specs.List.{All}
 use Rattle.lot_rights.specs.declared.views.Access.{Access}
 use Rattle.lot_whole.specs.Standing.{MayTakePermit}
 use Rattle.lot_park.specs.declared.seeking.Seeking.{Seeking}
 use Rattle.lot_park.specs.declared.seeking.Seeking.TheVariants.{Got, Waits, Parks}
-use Rattle.lot_scheme.specs.Standing.{LotStanding, adding, seeking, queued, getting}
+use Rattle.lot_scheme.specs.Standing.{LotStanding, adding, seeking, queued, one_permit_more}
 use Rattle.lot_scheme.specs.Words.{IsPermitSeek, GetPermitWord}
 
 module _ {V : Type 0} where
@@ -13,11 +13,11 @@ module _ {V : Type 0} where
   pub record GetsPermit (p : LotStanding V) (k : ℕ) (q : LotStanding V) : Type 0 where
     pub did : List Access
     pub got : GetPermitWord p.thread k did
-    pub is : q ≡ adding (getting p k) did
+    pub is : q ≡ adding (one_permit_more p k) did
 
   -- it could seek a permit of k, has got none by these accesses, and stands so after them
-  pub record IsOnItsWay (low : ℕ) (p : LotStanding V) (k : ℕ) (stands : List Access → Type 0) : Type 0 where
-    pub above : low ≤ k
+  pub record IsOnItsWay (first_sem : ℕ) (p : LotStanding V) (k : ℕ) (stands : List Access → Type 0) : Type 0 where
+    pub above : first_sem ≤ k
     pub may : MayTakePermit p.own k
     pub did : List Access
     pub sought : All (IsPermitSeek p.thread k) did
@@ -25,18 +25,18 @@ module _ {V : Type 0} where
 
   -- it seeks a permit, and is in no line
   abbrev pub IsSeekingFor : ℕ → LotStanding V → ℕ → LotStanding V → Type 0
-  IsSeekingFor low p k q = IsOnItsWay low p k (λ did. q ≡ adding (seeking p k) did)
+  IsSeekingFor first_sem p k q = IsOnItsWay first_sem p k (λ did. q ≡ adding (seeking p k) did)
 
   -- it is in no line, and seeks a permit or stands as before
   abbrev pub IsAwakeFor : ℕ → LotStanding V → ℕ → LotStanding V → Type 0
-  IsAwakeFor low p k q = IsOnItsWay low p k (λ did. (q ≡ adding p did) ⊎ (q ≡ adding (seeking p k) did))
+  IsAwakeFor first_sem p k q = IsOnItsWay first_sem p k (λ did. (q ≡ adding p did) ⊎ (q ≡ adding (seeking p k) did))
 
   -- it seeks a permit, and is queued in the semaphore's line
   abbrev pub IsAsleepFor : ℕ → LotStanding V → ℕ → LotStanding V → Type 0
-  IsAsleepFor low p k q = IsOnItsWay low p k (λ did. q ≡ adding (queued p k) did)
+  IsAsleepFor first_sem p k q = IsOnItsWay first_sem p k (λ did. q ≡ adding (queued p k) did)
 
   -- by how far it is
   abbrev pub Seeks : ℕ → LotStanding V → ℕ → Seeking → LotStanding V → Type 0
-  Seeks low p k Got q = GetsPermit p k q
-  Seeks low p k Waits q = IsAwakeFor low p k q
-  Seeks low p k Parks q = IsSeekingFor low p k q
+  Seeks first_sem p k Got q = GetsPermit p k q
+  Seeks first_sem p k Waits q = IsAwakeFor first_sem p k q
+  Seeks first_sem p k Parks q = IsSeekingFor first_sem p k q

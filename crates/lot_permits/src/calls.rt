@@ -25,7 +25,7 @@ pub fn try_acquire<V: Keeps, N: LotName<V>>(
     pass: NamedPass<V, N>,
     key: usize,
 ) -> (NamedPass<V, N>, Tried<V, N>)
-    requires sem { IsAmongSemaphores N.low (length N.permits) key }
+    requires sem { IsAmongSemaphores N.first_sem (length N.permits) key }
     requires idle { IsIdle pass.own }
     ensures tries { TriesToGet pass key result.1 result.0 }
     ensures idle { IsIdle result.0.own }
@@ -50,7 +50,7 @@ pub fn acquire<V: Keeps + Send, N: LotName<V> + Send, R: Wait>(
     pass: NamedPass<V, N>,
     key: usize,
 ) -> (NamedPass<V, N>, Permit<V, N>)
-    requires sem { IsAmongSemaphores N.low (length N.permits) key }
+    requires sem { IsAmongSemaphores N.first_sem (length N.permits) key }
     requires key { key < parking.now.keys }
     requires thread { pass.thread < parking.now.threads }
     requires idle { IsIdle pass.own }
@@ -98,7 +98,7 @@ pub fn check_permits<V: Keeps, N: LotName<V>>(
 ) -> (NamedPass<V, N>, NamedPass<V, N>)
     ensures same { (result.0 ≡ first) × (result.1 ≡ second) }
     ensures threads { first.thread ≢ second.thread }
-    ensures permits { (k : ℕ) → permits_with first k + permits_with second k ≤ opening_permits N.low N.permits k }
+    ensures permits { (k : ℕ) → permits_with first k + permits_with second k ≤ opening_permits N.first_sem N.permits k }
 {
     scheme.check_apart(first, second)
 }
@@ -106,7 +106,7 @@ pub fn check_permits<V: Keeps, N: LotName<V>>(
 /// How many permits of the semaphore were left just now, by one load. It is an observation: nothing is promised of it.
 #[inline(always)]
 pub fn permits_left<V: Keeps, N: LotName<V>>(scheme: &LotScheme<V, N>, key: usize) -> u64
-    requires { IsAmongSemaphores N.low (length N.permits) key }
+    requires { IsAmongSemaphores N.first_sem (length N.permits) key }
 {
     scheme.sem_bits(key) / PERMIT
 }

@@ -15,11 +15,11 @@ impl<V: Keeps + Send, N: LotName<V> + Send> Sought<Sems> for LotScheme<V, N> {
     ghost use Rattle.lot_core.specs.Parts.{IsAmongSemaphores};
     ghost use Rattle.lot_permits.specs.Seeking.{Seeks, IsAsleepFor};
 
-    ghost has = { λ s key. IsAmongSemaphores N.low (length N.permits) key };
+    ghost has = { λ s key. IsAmongSemaphores N.first_sem (length N.permits) key };
 
-    ghost seeks = { Seeks N.low };
+    ghost seeks = { Seeks N.first_sem };
 
-    ghost sleeps = { IsAsleepFor N.low };
+    ghost sleeps = { IsAsleepFor N.first_sem };
 
     fn look_at(&self, key: usize) -> Look {
         let bits = self.sem_bits(key);
@@ -88,10 +88,10 @@ pub(crate) fn get_slowly<V: Keeps + Send, N: LotName<V> + Send, R: Wait>(
     pass: NamedPass<V, N>,
     key: usize,
 ) -> NamedPass<V, N>
-    requires sem { IsAmongSemaphores N.low (length N.permits) key }
+    requires sem { IsAmongSemaphores N.first_sem (length N.permits) key }
     requires key { key < parking.now.keys }
     requires thread { pass.thread < parking.now.threads }
-    requires waits { IsAwakeFor N.low pass key pass }
+    requires waits { IsAwakeFor N.first_sem pass key pass }
     ensures { GetsPermit pass key result }
 {
     let first = parking.scheme().look_at(key);

@@ -24,21 +24,21 @@ impl<V, N: LotName<V>> Model for Permit<V, N> {
 
     ghost view = { λ s. record { key = s.key; thread = s.thread.value } };
 
-    ghost invariant = { λ s. IsAmongSemaphores N.low (length N.permits) s.key };
+    ghost invariant = { λ s. IsAmongSemaphores N.first_sem (length N.permits) s.key };
 }
 
 impl<V, N: LotName<V>> Permit<V, N> {
     /// The key of the semaphore.
     pub fn key(&self) -> usize
         ensures key { result ≡ self.now.key }
-        ensures among { IsAmongSemaphores N.low (length N.permits) self.now.key }
+        ensures among { IsAmongSemaphores N.first_sem (length N.permits) self.now.key }
     {
         self.key
     }
 
     #[inline(always)]
     pub(crate) fn new(key: usize, thread: usize) -> Permit<V, N>
-        requires { IsAmongSemaphores N.low (length N.permits) key }
+        requires { IsAmongSemaphores N.first_sem (length N.permits) key }
         ensures { (result.key ≡ key) × (result.thread ≡ thread) }
     {
         Permit {
@@ -52,7 +52,7 @@ impl<V, N: LotName<V>> Permit<V, N> {
     #[inline(always)]
     pub(crate) fn into_key(self) -> usize
         ensures key { result ≡ self.key }
-        ensures among { IsAmongSemaphores N.low (length N.permits) result }
+        ensures among { IsAmongSemaphores N.first_sem (length N.permits) result }
     {
         let Permit {
             key,

@@ -56,7 +56,7 @@ pub trait SemSteps: Sought<Sems> {
 impl<V: Keeps + Send, N: LotName<V> + Send> SemSteps for LotScheme<V, N> {
     ghost use Rattle.lot_permits.specs.Freed.{MayGiveBack, GivesPermit, PassesPermit};
 
-    ghost may_give = { MayGiveBack N.low };
+    ghost may_give = { MayGiveBack N.first_sem };
 
     ghost gives = { GivesPermit };
 

@@ -10,7 +10,7 @@ use Rattle.lot_rights.specs.declared.views.Right.{Right}
 use Rattle.lot_rights.specs.declared.views.Right.TheVariants.{Pass, Root}
 use Rattle.lot_rights.specs.Seating.{times, Each}
 use Rattle.lot_rights.specs.History.{Noted}
-use Rattle.lot_rights.specs.Rule.{number, made_with, Scheme, RightFits, Ruled}
+use Rattle.lot_rights.specs.Rule.{number, made_with, Meaning, RightFits, Ruled}
 use Rattle.lot_rights.specs.Shown.{PassShown, RootShown}
 use Rattle.lot_rights.specs.Closing.{passes_in, roots_in, Ended, IsRecounted}
 use Rattle.lot_rights.proofs.Seats.{times_append, times_one}
@@ -34,7 +34,7 @@ module _ {A R : Type 0} (num : R → ℕ) (right : A → R) (i : ℕ) where
       omega (arith, turned, times_both (reverse xs) (x ∷ []), times_back xs)
 
 -- ---- the last state
-module _ {S P R : Type 0} (k : Scheme S P R) (s : State S (List (Right P R))) (ru : Ruled k s) (id : ℕ) (v : List (Right P R)) (at : get_elem? s.views id ≡ some v)
+module _ {S P R : Type 0} (k : Meaning S P R) (s : State S (List (Right P R))) (ru : Ruled k s) (id : ℕ) (v : List (Right P R)) (at : get_elem? s.views id ≡ some v)
     (passes : List (PassShown P)) (roots : List (RootShown R)) (is : v ≡ passes_in (reverse passes) ++ roots_in (reverse roots)) where
   each_pass : (F : Right P R → Type 0) → Each {R = Right P R} number F v → All (λ (p : PassShown P). F (Pass p.pass)) passes
   each_pass F e = all_back (λ (p : PassShown P). F (Pass p.pass)) passes (each_given (λ (p : PassShown P). Pass p.pass) number F (reverse passes)
@@ -77,7 +77,7 @@ module _ {S P R : Type 0} (k : Scheme S P R) (s : State S (List (Right P R))) (r
   }
 
 -- what is left to tell when the words are gone
-abbrev pub ended_recounted : {S P R : Type 0} (k : Scheme S P R) (passes : List (PassShown P)) (roots : List (RootShown R)) (ws : List ℕ) (xs : List S) → Ended k passes roots ws xs
+abbrev pub ended_recounted : {S P R : Type 0} (k : Meaning S P R) (passes : List (PassShown P)) (roots : List (RootShown R)) (ws : List ℕ) (xs : List S) → Ended k passes roots ws xs
     → IsRecounted k.Step k.word_in k.IsQueued k.start passes roots
 ended_recounted k passes roots ws xs e = record {
   log = e.log;

@@ -3,8 +3,8 @@ use Rattle.std.proofs.Common.{◌≡◌, ℕ, zero, suc, ◌+◌, ◌<◌, List,
 use mathlib.Core.Logic.{dite}
 use native.Mathlib.Decide.{ℕ_discrete}
 use Rattle.atomic_table.specs.Table.{Me}
-use Rattle.lot_rights.specs.declared.views.PassView.{PassView}
-use Rattle.lot_rights.specs.declared.views.RootView.{RootView}
+use Rattle.lot_rights.specs.declared.views.PassRight.{PassRight}
+use Rattle.lot_rights.specs.declared.views.RootRight.{RootRight}
 use Rattle.lot_rights.specs.declared.views.Right.{Right}
 use Rattle.lot_rights.specs.declared.views.Right.TheVariants.{Pass, Root}
 use Rattle.lot_rights.specs.Shown.{the_pass, the_root}
@@ -27,16 +27,16 @@ module _ {S A : Type 0} (me : Me S (List A)) (r : A) (rs : List A) (is : me ≡ 
 
 -- what a seat with one right is seen as
 module _ {S P R : Type 0} (nobody : P) (nothing : R) (me : Me S (List (Right P R))) where
-  pub one_pass : (p : PassView P) → me ≡ (Pass p ∷ [], []) → me ≡ (Pass (the_pass nobody me.0) ∷ [], [])
+  pub one_pass : (p : PassRight P) → me ≡ (Pass p ∷ [], []) → me ≡ (Pass (the_pass nobody me.0) ∷ [], [])
   one_pass p e = subst (λ (m : Me S (List (Right P R))). m ≡ (Pass (the_pass nobody m.0) ∷ [], [])) (sym e) refl
 
-  pub pass_seen : (p : PassView P) → me ≡ (Pass p ∷ [], []) → the_pass nobody me.0 ≡ p
+  pub pass_seen : (p : PassRight P) → me ≡ (Pass p ∷ [], []) → the_pass nobody me.0 ≡ p
   pass_seen p e = ap (λ (m : Me S (List (Right P R))). the_pass nobody m.0) e
 
-  pub one_root : (q : RootView R) → me ≡ (Root q ∷ [], []) → me ≡ (Root (the_root nothing me.0) ∷ [], [])
+  pub one_root : (q : RootRight R) → me ≡ (Root q ∷ [], []) → me ≡ (Root (the_root nothing me.0) ∷ [], [])
   one_root q e = subst (λ (m : Me S (List (Right P R))). m ≡ (Root (the_root nothing m.0) ∷ [], [])) (sym e) refl
 
-  pub root_seen : (q : RootView R) → me ≡ (Root q ∷ [], []) → the_root nothing me.0 ≡ q
+  pub root_seen : (q : RootRight R) → me ≡ (Root q ∷ [], []) → the_root nothing me.0 ≡ q
   root_seen q e = ap (λ (m : Me S (List (Right P R))). the_root nothing m.0) e
 
 -- ---- lists that grow at the end

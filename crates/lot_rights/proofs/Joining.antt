@@ -3,11 +3,11 @@ use Rattle.std.proofs.Common.{◌≡◌, ℕ, ◌+◌, List, [], ◌∷◌, ◌+
 use Rattle.atomic_table.specs.Table.{Splits, Joins}
 use Rattle.lot_rights.specs.declared.views.Right.{Right}
 use Rattle.lot_rights.specs.Seating.{times, Each}
-use Rattle.lot_rights.specs.Rule.{number, made_with, Scheme, RightFits, LeadsOn, Ruled}
+use Rattle.lot_rights.specs.Rule.{number, made_with, Meaning, RightFits, LeadsOn, Ruled}
 use Rattle.lot_rights.proofs.Seats.{joins, splits, times_set, times_snoc, times_append}
 use Rattle.lot_rights.proofs.Histories.{records_join, records_split}
 
-module _ {S P R : Type 0} (k : Scheme S P R) where
+module _ {S P R : Type 0} (k : Meaning S P R) where
   -- a seat takes in the rights of another
   pub joins_rule : (id : ℕ) (v : List (Right P R)) (other : ℕ) (w : List (Right P R)) → Joins {S = S} (Ruled k) id v other w (v ++ w) []
   joins_rule id v other w s ru at ne there = record {

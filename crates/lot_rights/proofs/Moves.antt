@@ -4,22 +4,22 @@ use Rattle.std.proofs.lemmas.List.{set-get_or}
 use mathlib.Core.Option.{Option, some, none}
 use lib.ListN.{get_elem?}
 use Rattle.atomic_table.specs.Table.{State, Me, Allows, takes, gives, rest}
-use Rattle.lot_rights.specs.declared.views.PassView.{PassView}
+use Rattle.lot_rights.specs.declared.views.PassRight.{PassRight}
 use Rattle.lot_rights.specs.declared.views.Right.{Right}
 use Rattle.lot_rights.specs.declared.views.Right.TheVariants.{Pass, Root}
 use Rattle.lot_rights.specs.Seating.{times}
-use Rattle.lot_rights.specs.Rule.{number, made_with, Scheme, RightFits, LeadsOn, Ruled}
+use Rattle.lot_rights.specs.Rule.{number, made_with, Meaning, RightFits, LeadsOn, Ruled}
 use Rattle.lot_rights.specs.Shown.{the_pass}
 use Rattle.lot_rights.specs.Slots.{SlotTurn, AllowsOut, AllowsBack, ToldOut, ToldBack}
 use Rattle.lot_rights.proofs.Seats.{reseats, times_set}
 use Rattle.lot_rights.proofs.Histories.{records_stay}
 use Rattle.lot_rights.proofs.Stepping.{not_mine}
 
-abbrev pub knowing : {P : Type 0} → PassView P → P → PassView P
+abbrev pub knowing : {P : Type 0} → PassRight P → P → PassRight P
 knowing p own = record p { own = own }
 
-module _ {S P R : Type 0} (k : Scheme S P R) where
-  moves : (s : State S (List (Right P R))) (ru : Ruled k s) (id : ℕ) (p : PassView P) → get_elem? s.views id ≡ some (Pass p ∷ []) → (own : P) (homes : List (Option S))
+module _ {S P R : Type 0} (k : Meaning S P R) where
+  moves : (s : State S (List (Right P R))) (ru : Ruled k s) (id : ℕ) (p : PassRight P) → get_elem? s.views id ≡ some (Pass p ∷ []) → (own : P) (homes : List (Option S))
       → SlotTurn k p.thread own ru.world s.words homes → (i : ℕ)
       → Ruled k (record { words = set s.words i (slice_index s.words i); homes = homes; views = set s.views id (Pass (knowing p own) ∷ []) })
   moves s ru id p at own homes turn i = record {
@@ -37,7 +37,7 @@ module _ {S P R : Type 0} (k : Scheme S P R) where
       others (Root y) away h = turn.roots y.key y.own h
 
   module _ (slots id l : ℕ) where
-    out_at : (p : PassView P) (mid : P → S → Type 0) → AllowsOut k l p mid → Allows (Ruled k) slots id (Pass p ∷ [], []) 0 (λ n. n) (λ _. ToldOut l p mid)
+    out_at : (p : PassRight P) (mid : P → S → Type 0) → AllowsOut k l p mid → Allows (Ruled k) slots id (Pass p ∷ [], []) 0 (λ n. n) (λ _. ToldOut l p mid)
     out_at p mid allows s ru deep at small =
         let out = allows ru.world s.words s.homes ru.fits (ru.seats.named id (Pass p ∷ []) at).0 in (
           Pass (knowing p out.own) ∷ [],
@@ -47,7 +47,7 @@ module _ {S P R : Type 0} (k : Scheme S P R) where
           (out.own, out.value, refl, out.told),
         )
 
-    back_at : (p : PassView P) (y : S) (back : P → P → Type 0) → AllowsBack k l p.thread p.own y (back p.own) → Allows (Ruled k) slots id (Pass p ∷ [], (l, y) ∷ []) 0 (λ n. n) (λ _. ToldBack p back)
+    back_at : (p : PassRight P) (y : S) (back : P → P → Type 0) → AllowsBack k l p.thread p.own y (back p.own) → Allows (Ruled k) slots id (Pass p ∷ [], (l, y) ∷ []) 0 (λ n. n) (λ _. ToldBack p back)
     back_at p y back allows s ru deep at small =
         let turn = allows ru.world s.words s.homes ru.fits (ru.seats.named id (Pass p ∷ []) at).0 in (
           Pass (knowing p turn.own) ∷ [],
@@ -57,7 +57,7 @@ module _ {S P R : Type 0} (k : Scheme S P R) where
           (turn.own, refl, turn.told),
         )
 
-    module _ (nobody : P) (me : Me S (List (Right P R))) (p : PassView P) where
+    module _ (nobody : P) (me : Me S (List (Right P R))) (p : PassRight P) where
       pub takes_out : me ≡ (Pass p ∷ [], []) → (mid : P → S → Type 0) → AllowsOut k l p mid → Allows (Ruled k) slots id me 0 (λ n. n) (λ _ me'. ToldOut l (the_pass nobody me.0) mid me')
       takes_out is mid allows = subst (λ (m : Me S (List (Right P R))). Allows (Ruled k) slots id m 0 (λ n. n) (λ _ me'. ToldOut l (the_pass nobody m.0) mid me')) (sym is) (out_at p mid allows)
 

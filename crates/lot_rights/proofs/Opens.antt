@@ -9,7 +9,7 @@ use Rattle.lot_rights.specs.declared.views.Right.{Right}
 use Rattle.lot_rights.specs.declared.views.Right.TheVariants.{Pass, Root}
 use Rattle.lot_rights.specs.Seating.{times, times_in, Each, Seated}
 use Rattle.lot_rights.specs.History.{Noted}
-use Rattle.lot_rights.specs.Rule.{number, made_with, Scheme, IsThread, IsKey, IsRight, RightFits, Ruled}
+use Rattle.lot_rights.specs.Rule.{number, made_with, Meaning, IsThread, IsKey, IsRight, RightFits, Ruled}
 use Rattle.lot_rights.specs.Start.{rights_from, new_pass, new_root, passes_from, roots_from, all_rights, OpensWell}
 use Rattle.lot_rights.proofs.Seats.{tick, times_append, each_append}
 
@@ -44,7 +44,7 @@ module _ {A : Type 0} (num : A → ℕ) (F : A → Type 0) (right : ℕ → A) w
   each_from t zero f = tt
   each_from t (suc n) f = (f t (omega arith) (omega arith), each_from (t + 1) n (λ u low high. f u (omega arith) (omega arith)))
 
-module _ {S P R : Type 0} (k : Scheme S P R) where
+module _ {S P R : Type 0} (k : Meaning S P R) where
   abbrev pass : ℕ → Right P R
   pass u = Pass (new_pass k.fresh_pass u)
 

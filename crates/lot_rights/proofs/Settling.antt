@@ -4,12 +4,12 @@ use Rattle.lot_rights.specs.declared.views.Access.{Access}
 use Rattle.lot_rights.specs.declared.views.Access.TheVariants.{Makes, Posts, Collects, Finds}
 use Rattle.lot_rights.specs.declared.views.Entry.{Entry}
 use Rattle.lot_rights.specs.History.{Telling, Run, with_event, events_in, ModelRun}
-use Rattle.lot_rights.specs.Rule.{number, made_with, Scheme, Leads, LeadsOn, IsHistory}
+use Rattle.lot_rights.specs.Rule.{number, made_with, Meaning, Leads, LeadsOn, IsHistory}
 use Rattle.lot_rights.specs.Settled.{HasOneOutcome, RightsSettle, OneEntryIsOneAccess, NoEntryIsNone, RuledSeatsShow, RuledHasOneRun}
 use Rattle.lot_rights.proofs.Showing.{join_shows, split_shows, same_shows, more_shows}
 use Rattle.lot_rights.proofs.Uniques.{OneOutcome, one_history, run_one, one_more, none_more}
 
-module _ {S P R : Type 0} (k : Scheme S P R) where
+module _ {S P R : Type 0} (k : Meaning S P R) where
   -- where a run of accesses begins at what a tells and ends at what b tells, its events lead from the part of a to that of b
   pub run_of_events : (a : Telling k.Part) (n : ℕ) (log : List Entry) (b : Telling k.Part) → Run (LeadsOn k) a n log b
       → ModelRun k.Step a.part (events_in log) b.part

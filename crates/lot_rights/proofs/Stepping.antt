@@ -7,30 +7,30 @@ use Rattle.atomic_table.specs.Table.{State, Me, Allows, keeps}
 use Rattle.atomic_table.proofs.Lists.{set_again}
 use Rattle.lot_rights.specs.declared.views.Access.{Access}
 use Rattle.lot_rights.specs.declared.views.Entry.{Entry}
-use Rattle.lot_rights.specs.declared.views.PassView.{PassView}
-use Rattle.lot_rights.specs.declared.views.RootView.{RootView}
+use Rattle.lot_rights.specs.declared.views.PassRight.{PassRight}
+use Rattle.lot_rights.specs.declared.views.RootRight.{RootRight}
 use Rattle.lot_rights.specs.declared.views.Right.{Right}
 use Rattle.lot_rights.specs.declared.views.Right.TheVariants.{Pass, Root}
 use Rattle.lot_rights.specs.Seating.{times, Each}
 use Rattle.lot_rights.specs.History.{doer, SameMade}
-use Rattle.lot_rights.specs.Rule.{number, made_with, Scheme, RightFits, Leads, LeadsOn, Ruled}
+use Rattle.lot_rights.specs.Rule.{number, made_with, Meaning, RightFits, Leads, LeadsOn, Ruled}
 use Rattle.lot_rights.specs.Settled.{LinesHaveNoLetter}
 use Rattle.lot_rights.specs.Steps.{pass_after, root_after, AllowsPass, AllowsBoth, AllowsRoot, TellsOfTwo, ToldPass, ToldBoth, ToldRoot, ToldTwo}
 use Rattle.lot_rights.proofs.Seats.{tick, reseats, times_one, times_set, times_head}
 use Rattle.lot_rights.proofs.Histories.{alike_times, records_more}
 
-module _ {S P R : Type 0} (k : Scheme S P R) where
+module _ {S P R : Type 0} (k : Meaning S P R) where
   -- a right of another number than the pass p, or than p and q
-  pub not_mine : (p x : PassView P) (v : List (Right P R)) → times {R = Right P R} number (2 * x.thread) (Pass p ∷ v) ≡ 0 → x.thread ≢ p.thread
+  pub not_mine : (p x : PassRight P) (v : List (Right P R)) → times {R = Right P R} number (2 * x.thread) (Pass p ∷ v) ≡ 0 → x.thread ≢ p.thread
   not_mine p x v none e =
       let one : 1 ≤ times {R = Right P R} number (2 * x.thread) (Pass p ∷ v) = subst (λ t. 1 ≤ times {R = Right P R} number (2 * t) (Pass p ∷ v)) (sym e) (times_head number (Pass p) v) in omega arith
 
-  pub not_its : (q y : RootView R) (v : List (Right P R)) → times {R = Right P R} number (2 * y.key + 1) (Root q ∷ v) ≡ 0 → y.key ≢ q.key
+  pub not_its : (q y : RootRight R) (v : List (Right P R)) → times {R = Right P R} number (2 * y.key + 1) (Root q ∷ v) ≡ 0 → y.key ≢ q.key
   not_its q y v none e =
       let one : 1 ≤ times {R = Right P R} number (2 * y.key + 1) (Root q ∷ v) = subst (λ c. 1 ≤ times {R = Right P R} number (2 * c + 1) (Root q ∷ v)) (sym e)
       (times_head number (Root q) v) in omega arith
 
-module _ {S P R : Type 0} (k : Scheme S P R) (apart : LinesHaveNoLetter k) where
+module _ {S P R : Type 0} (k : Meaning S P R) (apart : LinesHaveNoLetter k) where
   -- the first right at the seat makes one entry, and the others beside it show the same entries
   pub makes : (s : State S (List (Right P R))) (ru : Ruled k s) (id : ℕ) (r r' : Right P R) (v v' : List (Right P R)) (world : k.World) (words : List ℕ) (homes : List (Option S)) (access : Access)
       → get_elem? s.views id ≡ some (r ∷ v) → k.Fits world words homes → number r' ≡ number r → made_with r' ≡ made_with r ++ (record { at = length ru.log; access = access }) ∷ []
@@ -52,11 +52,11 @@ module _ {S P R : Type 0} (k : Scheme S P R) (apart : LinesHaveNoLetter k) where
       }
 
   module _ (slots id : ℕ) (me : Me S (List (Right P R))) where
-    pub steps_pass : (p : PassView P) (i : ℕ) (f : ℕ → ℕ) (then : ℕ → PassView P → Type 0) → me ≡ (Pass p ∷ [], []) → AllowsPass k i f p then → Allows (Ruled k) slots id me i f (ToldPass p then)
+    pub steps_pass : (p : PassRight P) (i : ℕ) (f : ℕ → ℕ) (then : ℕ → PassRight P → Type 0) → me ≡ (Pass p ∷ [], []) → AllowsPass k i f p then → Allows (Ruled k) slots id me i f (ToldPass p then)
     steps_pass p i f then one allows s ru deep at small =
         let at' : get_elem? s.views id ≡ some (Pass p ∷ []) = at ∙ ap (λ (m : Me S (List (Right P R))). some m.0) one in
         let turn = allows ru.world s.words s.homes ru.fits (ru.seats.named id (Pass p ∷ []) at').0 small in
-        let p' : PassView P = pass_after p turn.own (length ru.log) turn.access in (
+        let p' : PassRight P = pass_after p turn.own (length ru.log) turn.access in (
           Pass p' ∷ [],
           keeps,
           tt,
@@ -65,19 +65,19 @@ module _ {S P R : Type 0} (k : Scheme S P R) (apart : LinesHaveNoLetter k) where
           (p', refl, (λ j. (Pass p' ∷ [], (one j).1)), turn.told (length ru.log)),
         )
       where
-        others : (p : PassView P) (w : k.World) → ((u : ℕ) (x : P) → u ≢ p.thread → k.PassFits ru.world u x → k.PassFits w u x) → ((d : ℕ) (y : R) → k.RootFits ru.world d y → k.RootFits w d y)
+        others : (p : PassRight P) (w : k.World) → ((u : ℕ) (x : P) → u ≢ p.thread → k.PassFits ru.world u x → k.PassFits w u x) → ((d : ℕ) (y : R) → k.RootFits ru.world d y → k.RootFits w d y)
             → (r : Right P R) → times {R = Right P R} number (number r) (Pass p ∷ []) ≡ 0 → RightFits k ru.world r → RightFits k w r
         others p w passes roots (Pass x) none h = passes x.thread x.own (not_mine k p x [] none) h
         others p w passes roots (Root y) none h = roots y.key y.own h
 
-    pub steps_both : (p : PassView P) (q : RootView R) (i : ℕ) (f : ℕ → ℕ) (then : ℕ → PassView P → RootView R → Type 0) → me ≡ (Pass p ∷ Root q ∷ [], []) → AllowsBoth k i f p q then
+    pub steps_both : (p : PassRight P) (q : RootRight R) (i : ℕ) (f : ℕ → ℕ) (then : ℕ → PassRight P → RootRight R → Type 0) → me ≡ (Pass p ∷ Root q ∷ [], []) → AllowsBoth k i f p q then
         → Allows (Ruled k) slots id me i f (ToldBoth p q then)
     steps_both p q i f then both allows s ru deep at small =
         let at' : get_elem? s.views id ≡ some (Pass p ∷ Root q ∷ []) = at ∙ ap (λ (m : Me S (List (Right P R))). some m.0) both in
         let fits = ru.seats.named id (Pass p ∷ Root q ∷ []) at' in
         let turn = allows ru.world s.words s.homes ru.fits fits.0 fits.1.0 small in
-        let p' : PassView P = pass_after p turn.own (length ru.log) turn.access in
-        let q' : RootView R = record q { own = turn.its } in (
+        let p' : PassRight P = pass_after p turn.own (length ru.log) turn.access in
+        let q' : RootRight R = record q { own = turn.its } in (
           Pass p' ∷ Root q' ∷ [],
           keeps,
           tt,
@@ -91,11 +91,11 @@ module _ {S P R : Type 0} (k : Scheme S P R) (apart : LinesHaveNoLetter k) where
         others w passes roots (Pass x) none h = passes x.thread x.own (not_mine k p x (Root q ∷ []) none) h
         others w passes roots (Root y) none h = roots y.key y.own (not_its k q y [] (omega (arith, none))) h
 
-    pub steps_root : (q : RootView R) (i : ℕ) (f : ℕ → ℕ) (then : ℕ → RootView R → Type 0) → me ≡ (Root q ∷ [], []) → AllowsRoot k i f q then → Allows (Ruled k) slots id me i f (ToldRoot q then)
+    pub steps_root : (q : RootRight R) (i : ℕ) (f : ℕ → ℕ) (then : ℕ → RootRight R → Type 0) → me ≡ (Root q ∷ [], []) → AllowsRoot k i f q then → Allows (Ruled k) slots id me i f (ToldRoot q then)
     steps_root q i f then one allows s ru deep at small =
         let at' : get_elem? s.views id ≡ some (Root q ∷ []) = at ∙ ap (λ (m : Me S (List (Right P R))). some m.0) one in
         let turn = allows ru.world s.words s.homes ru.fits (ru.seats.named id (Root q ∷ []) at').0 small in
-        let q' : RootView R = root_after q turn.its (length ru.log) turn.access in (
+        let q' : RootRight R = root_after q turn.its (length ru.log) turn.access in (
           Root q' ∷ [],
           keeps,
           tt,
@@ -117,7 +117,7 @@ module _ {S P R : Type 0} (k : Scheme S P R) (apart : LinesHaveNoLetter k) where
         let views : s.views ≡ set s.views id me.0 = sym (set_again s.views id me.0 at) in
         subst (Ruled k) (λ j. record { words = words j; homes = s.homes; views = views j }) ru
 
-    pub steps_two : (p q : PassView P) (i : ℕ) (fact : Type 0) → me ≡ (Pass p ∷ Pass q ∷ [], []) → TellsOfTwo k p q fact → Allows (Ruled k) slots id me i (λ n. n) (λ _. ToldTwo p q fact me)
+    pub steps_two : (p q : PassRight P) (i : ℕ) (fact : Type 0) → me ≡ (Pass p ∷ Pass q ∷ [], []) → TellsOfTwo k p q fact → Allows (Ruled k) slots id me i (λ n. n) (λ _. ToldTwo p q fact me)
     steps_two p q i fact two tells s ru deep at small =
         let at' : get_elem? s.views id ≡ some (Pass p ∷ Pass q ∷ []) = at ∙ ap (λ (m : Me S (List (Right P R))). some m.0) two in
         let fits = ru.seats.named id (Pass p ∷ Pass q ∷ []) at' in

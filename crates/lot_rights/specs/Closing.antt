@@ -10,7 +10,7 @@ use Rattle.lot_rights.specs.declared.views.Right.{Right}
 use Rattle.lot_rights.specs.declared.views.Right.TheVariants.{Pass, Root}
 use Rattle.lot_rights.specs.Seating.{times}
 use Rattle.lot_rights.specs.History.{events_in, entries_of, ModelRun, Run, Telling, Continues}
-use Rattle.lot_rights.specs.Rule.{number, Scheme, LeadsOn}
+use Rattle.lot_rights.specs.Rule.{number, Meaning, LeadsOn}
 use Rattle.lot_rights.specs.Shown.{PassShown, RootShown}
 
 module _ {P R : Type 0} where
@@ -20,7 +20,7 @@ module _ {P R : Type 0} where
   abbrev pub roots_in : List (RootShown R) → List (Right P R)
   roots_in roots = map (λ (q : RootShown R). Root q.root) roots
 
-module _ {S P R : Type 0} (k : Scheme S P R) where
+module _ {S P R : Type 0} (k : Meaning S P R) where
   -- the words and the slots, as they were left, stand for a world that knows what these rights do
   pub record Left (passes : List (PassShown P)) (roots : List (RootShown R)) (ws : List ℕ) (xs : List S) : Type 0 where
     pub world : k.World

@@ -22,7 +22,7 @@ module _ {P R : Type 0} where
   made_with (Root q) = q.made
 
 -- What a kind of table has of its own: what its words, slots and rights stand for, and the part of the model that it keeps
-pub record Scheme (S P R : Type 0) : Type 1 where
+pub record Meaning (S P R : Type 0) : Type 1 where
   pub World : Type 0
   pub Part : Type 0
   -- the words and the slots stand for the world, which keeps its own rule
@@ -45,7 +45,7 @@ pub record Scheme (S P R : Type 0) : Type 1 where
   pub fresh_pass : ℕ → P
   pub fresh_root : ℕ → R
 
-module _ {S P R : Type 0} (k : Scheme S P R) where
+module _ {S P R : Type 0} (k : Meaning S P R) where
   abbrev pub RightFits : k.World → Right P R → Type 0
   RightFits w (Pass p) = k.PassFits w p.thread p.own
   RightFits w (Root q) = k.RootFits w q.key q.own

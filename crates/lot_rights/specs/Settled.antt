@@ -9,9 +9,9 @@ use Rattle.lot_rights.specs.declared.views.Entry.{Entry}
 use Rattle.lot_rights.specs.declared.views.Right.{Right}
 use Rattle.lot_rights.specs.Seating.{times_in}
 use Rattle.lot_rights.specs.History.{doer, events_in, ModelRun, SameMade, SameShown, OneMoreShown, Telling, NoLetterInLine}
-use Rattle.lot_rights.specs.Rule.{number, made_with, Scheme, IsRight, Leads, IsHistory, Ruled}
+use Rattle.lot_rights.specs.Rule.{number, made_with, Meaning, IsRight, Leads, IsHistory, Ruled}
 
-module _ {S P R : Type 0} (k : Scheme S P R) where
+module _ {S P R : Type 0} (k : Meaning S P R) where
   -- a step of the model has one outcome
   abbrev pub HasOneOutcome : Type 0
   HasOneOutcome = (a b c : k.Part) (e : Event) (s : Seen) → k.Step a e s b → k.Step a e s c → b ≡ c

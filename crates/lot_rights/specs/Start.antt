@@ -3,11 +3,11 @@ use Rattle.std.specs.Prelude.{◌≡◌, ℕ, zero, suc, ◌+◌, List, [], ◌�
 use mathlib.Core.Option.{some}
 use Rattle.atomic_table.specs.Seated.{TableId}
 use Rattle.atomic_table.specs.Table.{opening}
-use Rattle.lot_rights.specs.declared.views.PassView.{PassView}
-use Rattle.lot_rights.specs.declared.views.RootView.{RootView}
+use Rattle.lot_rights.specs.declared.views.PassRight.{PassRight}
+use Rattle.lot_rights.specs.declared.views.RootRight.{RootRight}
 use Rattle.lot_rights.specs.declared.views.Right.{Right}
 use Rattle.lot_rights.specs.declared.views.Right.TheVariants.{Pass, Root}
-use Rattle.lot_rights.specs.Rule.{Scheme, IsThread, IsKey, Ruled}
+use Rattle.lot_rights.specs.Rule.{Meaning, IsThread, IsKey, Ruled}
 use Rattle.lot_rights.specs.Shown.{PassShown, RootShown}
 
 -- n rights, whose numbers begin at i
@@ -15,13 +15,13 @@ abbrev pub rights_from : {A : Type 0} → (ℕ → A) → ℕ → ℕ → List A
 rights_from right i zero = []
 rights_from right i (suc n) = right i ∷ rights_from right (i + 1) n
 
-abbrev pub new_pass : {P : Type 0} → (ℕ → P) → ℕ → PassView P
+abbrev pub new_pass : {P : Type 0} → (ℕ → P) → ℕ → PassRight P
 new_pass own t = record { thread = t; made = []; own = own t }
 
-abbrev pub new_root : {R : Type 0} → (ℕ → R) → ℕ → RootView R
+abbrev pub new_root : {R : Type 0} → (ℕ → R) → ℕ → RootRight R
 new_root own c = record { key = c; made = []; own = own c }
 
-module _ {S P R : Type 0} (k : Scheme S P R) where
+module _ {S P R : Type 0} (k : Meaning S P R) where
   abbrev pub passes_from : ℕ → ℕ → List (Right P R)
   passes_from t n = rights_from (λ u. Pass (new_pass k.fresh_pass u)) t n
 

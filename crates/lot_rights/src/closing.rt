@@ -63,7 +63,7 @@ impl<K: Kind> WordsOf<K> {
         requires table { All (λ (p : PassShown K.Pass). p.table ≡ self.table) passes.items × All (λ (q : RootShown K.Root). q.table ≡ self.table) roots.items }
         requires some { 0 < vec_len passes }
         ensures full { IsFull result.words × IsFull result.slots × (slots_len result.slots ≡ self.table.slots) }
-        ensures ended { Ended (K.scheme self.key) passes.items roots.items (slots_items result.words) (slots_items result.slots) }
+        ensures ended { Ended (K.meaning self.key) passes.items roots.items (slots_items result.words) (slots_items result.slots) }
     {
         let WordsOf { table } = self;
         let PassOf { seat, thread: _ } = passes.take_last();

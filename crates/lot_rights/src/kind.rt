@@ -9,7 +9,7 @@ use std::marker::{Model, PhantomData};
 pub trait Kind {
     ghost use Rattle.std.specs.Prelude.{ℕ};
     ghost use Rattle.atomic_table.specs.Seated.{TableId};
-    ghost use Rattle.lot_rights.specs.Rule.{Scheme};
+    ghost use Rattle.lot_rights.specs.Rule.{Meaning};
     ghost use Rattle.lot_rights.specs.Settled.{HasOneOutcome, LinesHaveNoLetter};
     ghost use Rattle.lot_rights.specs.Opening.{Opening};
 
@@ -22,7 +22,7 @@ pub trait Kind {
     /// What the table is told when it is made.
     type Key;
 
-    ghost scheme: { Self.Key → Scheme Self.Slot Self.Pass Self.Root };
+    ghost meaning: { Self.Key → Meaning Self.Slot Self.Pass Self.Root };
 
     // What no pass and no root knows.
     ghost no_pass: { Self.Pass };
@@ -36,10 +36,10 @@ pub trait Kind {
     ghost table_in: { Opening → TableId };
 
     // A step of the model has one outcome.
-    ghost one_outcome: { (key : Self.Key) → HasOneOutcome (scheme key) };
+    ghost one_outcome: { (key : Self.Key) → HasOneOutcome (meaning key) };
 
     // Whatever the words stand for, no letter lies for a thread that is in a line.
-    ghost no_letter_in_line: { (key : Self.Key) → LinesHaveNoLetter (scheme key) };
+    ghost no_letter_in_line: { (key : Self.Key) → LinesHaveNoLetter (meaning key) };
 }
 
 /// What contracts see of a seat: the list of its rights. It has no fields, and no value of it is made by running code; so a table's type
@@ -66,9 +66,9 @@ impl<K: Kind> TableRule<K::Slot, RightsView<K>, K::Key> for RightsRule<K> {
     ghost use Rattle.lot_rights.specs.Rule.{Ruled};
     ghost use Rattle.lot_rights.specs.Start.{all_rights};
 
-    ghost holds = { λ key s. Ruled (K.scheme key) s };
+    ghost holds = { λ key s. Ruled (K.meaning key) s };
 
-    ghost first = { λ key. all_rights (K.scheme key) };
+    ghost first = { λ key. all_rights (K.meaning key) };
 }
 
 pub type RightsTable<K> = Table<

@@ -31,12 +31,12 @@ fn deal_passes<K: Kind>(
 )
     requires table { (seat.old.table_id ≡ shared.now.table_id) × (0 < shared.now.table_id.words) × (shared.now.table_id.words < 2 ^ 64) }
     requires near { (t : ℕ) → t < threads → letter_at t < shared.now.table_id.words }
-    requires all { seat.old.me ≡ (passes_from (K.scheme shared.now.key) 0 threads ++ roots_from (K.scheme shared.now.key) (K.scheme shared.now.key).first_key (K.scheme shared.now.key).keys, []) }
+    requires all { seat.old.me ≡ (passes_from (K.meaning shared.now.key) 0 threads ++ roots_from (K.meaning shared.now.key) (K.meaning shared.now.key).first_key (K.meaning shared.now.key).keys, []) }
     requires room { (vec_len passes.old ≡ 0) × (threads ≤ vec_capacity passes.old) }
     ensures table { seat.new.table_id ≡ shared.now.table_id }
-    ensures rest { seat.new.me ≡ (roots_from (K.scheme shared.now.key) (K.scheme shared.now.key).first_key (K.scheme shared.now.key).keys, []) }
+    ensures rest { seat.new.me ≡ (roots_from (K.meaning shared.now.key) (K.meaning shared.now.key).first_key (K.meaning shared.now.key).keys, []) }
     ensures len { vec_len passes.new ≡ threads }
-    ensures each { (k : ℕ) → k < threads → slice_get passes.new.items k ≡ Some (pass_at (K.scheme shared.now.key) shared.now.table_id k) }
+    ensures each { (k : ℕ) → k < threads → slice_get passes.new.items k ≡ Some (pass_at (K.meaning shared.now.key) shared.now.table_id k) }
 {
     for thread in 0..threads {
         let own = shared.split_seat::<Deal>(seat);
@@ -55,11 +55,11 @@ fn deal_roots<K: Kind>(
     requires table { (seat.old.table_id ≡ shared.now.table_id) × (0 < shared.now.table_id.words) × (shared.now.table_id.words < 2 ^ 64) }
     requires few { first + keys < 2 ^ 32 }
     requires near { (c : ℕ) → c < first + keys → word_at c < shared.now.table_id.words }
-    requires calm { (c u : ℕ) → ¬ K.names ((K.scheme shared.now.key).fresh_root c) u }
-    requires all { seat.old.me ≡ (roots_from (K.scheme shared.now.key) first keys, []) }
+    requires calm { (c u : ℕ) → ¬ K.names ((K.meaning shared.now.key).fresh_root c) u }
+    requires all { seat.old.me ≡ (roots_from (K.meaning shared.now.key) first keys, []) }
     requires room { (vec_len roots.old ≡ 0) × (keys ≤ vec_capacity roots.old) }
     ensures len { vec_len roots.new ≡ keys }
-    ensures each { (k : ℕ) → k < keys → slice_get roots.new.items k ≡ Some (root_at (K.scheme shared.now.key) shared.now.table_id (first + k)) }
+    ensures each { (k : ℕ) → k < keys → slice_get roots.new.items k ≡ Some (root_at (K.meaning shared.now.key) shared.now.table_id (first + k)) }
 {
     for i in 0..keys {
         let own = shared.split_seat::<Deal>(seat);
@@ -101,14 +101,14 @@ impl<K: Kind> WordsOf<K> {
         first: usize,
         keys: usize,
     ) -> Result<(WordsOf<K>, Vec<PassOf<K>>, Vec<RootOf<K>>), Vec<K::Slot>>
-        requires size { ((K.scheme key.now).threads ≡ threads) × ((K.scheme key.now).first_key ≡ first) × ((K.scheme key.now).keys ≡ keys) }
+        requires size { ((K.meaning key.now).threads ≡ threads) × ((K.meaning key.now).first_key ≡ first) × ((K.meaning key.now).keys ≡ keys) }
         requires few { (threads < 2 ^ 32) × (first + keys < 2 ^ 32) }
-        requires calm { (c u : ℕ) → ¬ K.names ((K.scheme key.now).fresh_root c) u }
-        requires opens { OpensWell (K.scheme key.now) (replicate (word_count threads (first + keys)) 0) slots.items }
+        requires calm { (c u : ℕ) → ¬ K.names ((K.meaning key.now).fresh_root c) u }
+        requires opens { OpensWell (K.meaning key.now) (replicate (word_count threads (first + keys)) 0) slots.items }
         ensures table { IfOk result (λ r. (r.0.table.words ≡ word_count threads (first + keys)) × (r.0.table.slots ≡ vec_len slots) × (r.0.key ≡ key.now)) }
-        ensures passes { IfOk result (λ r. (vec_len r.1 ≡ threads) × ((k : ℕ) → k < threads → slice_get r.1.items k ≡ Some (pass_at (K.scheme key.now) r.0.table k))) }
-        ensures roots { IfOk result (λ r. (vec_len r.2 ≡ keys) × ((k : ℕ) → k < keys → slice_get r.2.items k ≡ Some (root_at (K.scheme key.now) r.0.table (first + k)))) }
-        ensures rule { IfOk result (λ r. Begins (K.scheme r.0.key) (replicate (word_count threads (first + keys)) 0) slots.items) }
+        ensures passes { IfOk result (λ r. (vec_len r.1 ≡ threads) × ((k : ℕ) → k < threads → slice_get r.1.items k ≡ Some (pass_at (K.meaning key.now) r.0.table k))) }
+        ensures roots { IfOk result (λ r. (vec_len r.2 ≡ keys) × ((k : ℕ) → k < keys → slice_get r.2.items k ≡ Some (root_at (K.meaning key.now) r.0.table (first + k)))) }
+        ensures rule { IfOk result (λ r. Begins (K.meaning r.0.key) (replicate (word_count threads (first + keys)) 0) slots.items) }
         ensures back { IfErr result (λ e. e.items ≡ slots.items) }
     {
         let count = words_for(threads, first + keys);
@@ -133,15 +133,15 @@ impl<K: Kind> WordsOf<K> {
         first: usize,
         keys: usize,
     ) -> Result<(WordsOf<K>, Vec<PassOf<K>>, Vec<RootOf<K>>), Vec<K::Slot>>
-        requires size { ((K.scheme key.now).threads ≡ threads) × ((K.scheme key.now).first_key ≡ first) × ((K.scheme key.now).keys ≡ keys) }
+        requires size { ((K.meaning key.now).threads ≡ threads) × ((K.meaning key.now).first_key ≡ first) × ((K.meaning key.now).keys ≡ keys) }
         requires few { (threads < 2 ^ 32) × (first + keys < 2 ^ 32) }
         requires wide { length words.now ≡ word_count threads (first + keys) }
-        requires calm { (c u : ℕ) → ¬ K.names ((K.scheme key.now).fresh_root c) u }
-        requires opens { OpensWell (K.scheme key.now) words.now slots.items }
+        requires calm { (c u : ℕ) → ¬ K.names ((K.meaning key.now).fresh_root c) u }
+        requires opens { OpensWell (K.meaning key.now) words.now slots.items }
         ensures table { IfOk result (λ r. (r.0.table.words ≡ word_count threads (first + keys)) × (r.0.table.slots ≡ vec_len slots) × (r.0.key ≡ key.now)) }
-        ensures passes { IfOk result (λ r. (vec_len r.1 ≡ threads) × ((k : ℕ) → k < threads → slice_get r.1.items k ≡ Some (pass_at (K.scheme key.now) r.0.table k))) }
-        ensures roots { IfOk result (λ r. (vec_len r.2 ≡ keys) × ((k : ℕ) → k < keys → slice_get r.2.items k ≡ Some (root_at (K.scheme key.now) r.0.table (first + k)))) }
-        ensures rule { IfOk result (λ r. Begins (K.scheme r.0.key) words.now slots.items) }
+        ensures passes { IfOk result (λ r. (vec_len r.1 ≡ threads) × ((k : ℕ) → k < threads → slice_get r.1.items k ≡ Some (pass_at (K.meaning key.now) r.0.table k))) }
+        ensures roots { IfOk result (λ r. (vec_len r.2 ≡ keys) × ((k : ℕ) → k < keys → slice_get r.2.items k ≡ Some (root_at (K.meaning key.now) r.0.table (first + k)))) }
+        ensures rule { IfOk result (λ r. Begins (K.meaning r.0.key) words.now slots.items) }
         ensures back { IfErr result (λ e. e.items ≡ slots.items) }
     {
         let Rooms {

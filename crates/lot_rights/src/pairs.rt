@@ -1,8 +1,8 @@
 //! Steps of a pass and a root, which come to one seat for one access; the step of a root; and what two passes tell.
 ghost use Rattle.std.specs.Prelude.{◌≡◌, ◌≢◌, ℕ, ◌+◌, ◌^◌, ◌%◌, ◌<◌, ◌⊎◌, [], ◌∷◌, drop, bit_and};
 ghost use Rattle.lot_rights.specs.Layout.{word_at, letter_at};
-ghost use Rattle.lot_rights.specs.declared.views.PassView.{PassView};
-ghost use Rattle.lot_rights.specs.declared.views.RootView.{RootView};
+ghost use Rattle.lot_rights.specs.declared.views.PassRight.{PassRight};
+ghost use Rattle.lot_rights.specs.declared.views.RootRight.{RootRight};
 ghost use Rattle.lot_rights.specs.declared.views.Right.TheVariants.{Pass, Root};
 ghost use Rattle.lot_rights.specs.Shown.{the_pass, the_root};
 ghost use Rattle.lot_rights.specs.Steps.{AllowsBoth, AllowsRoot, TellsOfTwo};
@@ -64,8 +64,8 @@ impl<K: Kind> WordsOf<K> {
     ) -> (PassOf<K>, RootOf<K>, u64)
         requires table { (pass.table ≡ self.now.table) × (root.table ≡ self.now.table) }
         requires word { word < self.now.table.words }
-        requires allows { AllowsBoth (K.scheme self.now.key) word (λ n. n) pass.pass root.root N.then }
-        requires names { (n : ℕ) (p : PassView K.Pass) (q : RootView K.Root) → N.then n p q → (u : ℕ) → K.names q.own u → K.names root.root.own u ⊎ (u ≡ pass.pass.thread) }
+        requires allows { AllowsBoth (K.meaning self.now.key) word (λ n. n) pass.pass root.root N.then }
+        requires names { (n : ℕ) (p : PassRight K.Pass) (q : RootRight K.Root) → N.then n p q → (u : ℕ) → K.names q.own u → K.names root.root.own u ⊎ (u ≡ pass.pass.thread) }
         ensures table { (result.0.table ≡ pass.table) × (result.1.table ≡ root.table) }
         ensures same { (result.0.pass.thread ≡ pass.pass.thread) × (result.1.root.key ≡ root.root.key) }
         ensures told { N.then result.2 result.0.pass result.1.root }
@@ -91,8 +91,8 @@ impl<K: Kind> WordsOf<K> {
     ) -> (PassOf<K>, RootOf<K>)
         requires table { (pass.table ≡ self.now.table) × (root.table ≡ self.now.table) }
         requires word { word < self.now.table.words }
-        requires allows { AllowsBoth (K.scheme self.now.key) word (λ _. new) pass.pass root.root (λ _. N.then new) }
-        requires names { (n : ℕ) (p : PassView K.Pass) (q : RootView K.Root) → N.then n p q → (u : ℕ) → K.names q.own u → K.names root.root.own u ⊎ (u ≡ pass.pass.thread) }
+        requires allows { AllowsBoth (K.meaning self.now.key) word (λ _. new) pass.pass root.root (λ _. N.then new) }
+        requires names { (n : ℕ) (p : PassRight K.Pass) (q : RootRight K.Root) → N.then n p q → (u : ℕ) → K.names q.own u → K.names root.root.own u ⊎ (u ≡ pass.pass.thread) }
         ensures table { (result.0.table ≡ pass.table) × (result.1.table ≡ root.table) }
         ensures same { (result.0.pass.thread ≡ pass.pass.thread) × (result.1.root.key ≡ root.root.key) }
         ensures told { N.then new result.0.pass result.1.root }
@@ -117,8 +117,8 @@ impl<K: Kind> WordsOf<K> {
     ) -> (PassOf<K>, RootOf<K>, u64)
         requires table { (pass.table ≡ self.now.table) × (root.table ≡ self.now.table) }
         requires word { word < self.now.table.words }
-        requires allows { AllowsBoth (K.scheme self.now.key) word (λ n. (n + more) % 2 ^ 64) pass.pass root.root N.then }
-        requires names { (n : ℕ) (p : PassView K.Pass) (q : RootView K.Root) → N.then n p q → (u : ℕ) → K.names q.own u → K.names root.root.own u ⊎ (u ≡ pass.pass.thread) }
+        requires allows { AllowsBoth (K.meaning self.now.key) word (λ n. (n + more) % 2 ^ 64) pass.pass root.root N.then }
+        requires names { (n : ℕ) (p : PassRight K.Pass) (q : RootRight K.Root) → N.then n p q → (u : ℕ) → K.names q.own u → K.names root.root.own u ⊎ (u ≡ pass.pass.thread) }
         ensures table { (result.0.table ≡ pass.table) × (result.1.table ≡ root.table) }
         ensures same { (result.0.pass.thread ≡ pass.pass.thread) × (result.1.root.key ≡ root.root.key) }
         ensures told { N.then result.2 result.0.pass result.1.root }
@@ -144,8 +144,8 @@ impl<K: Kind> WordsOf<K> {
     ) -> (PassOf<K>, RootOf<K>, u64)
         requires table { (pass.table ≡ self.now.table) × (root.table ≡ self.now.table) }
         requires word { word < self.now.table.words }
-        requires allows { AllowsBoth (K.scheme self.now.key) word (λ n. bit_and n mask) pass.pass root.root N.then }
-        requires names { (n : ℕ) (p : PassView K.Pass) (q : RootView K.Root) → N.then n p q → (u : ℕ) → K.names q.own u → K.names root.root.own u ⊎ (u ≡ pass.pass.thread) }
+        requires allows { AllowsBoth (K.meaning self.now.key) word (λ n. bit_and n mask) pass.pass root.root N.then }
+        requires names { (n : ℕ) (p : PassRight K.Pass) (q : RootRight K.Root) → N.then n p q → (u : ℕ) → K.names q.own u → K.names root.root.own u ⊎ (u ≡ pass.pass.thread) }
         ensures table { (result.0.table ≡ pass.table) × (result.1.table ≡ root.table) }
         ensures same { (result.0.pass.thread ≡ pass.pass.thread) × (result.1.root.key ≡ root.root.key) }
         ensures told { N.then result.2 result.0.pass result.1.root }
@@ -169,8 +169,8 @@ impl<K: Kind> WordsOf<K> {
     ) -> RootOf<K>
         requires table { root.table ≡ self.now.table }
         requires word { word < self.now.table.words }
-        requires allows { AllowsRoot (K.scheme self.now.key) word (λ _. new) root.root (λ _. N.then new) }
-        requires names { (n : ℕ) (q : RootView K.Root) → N.then n q → (u : ℕ) → K.names q.own u → K.names root.root.own u }
+        requires allows { AllowsRoot (K.meaning self.now.key) word (λ _. new) root.root (λ _. N.then new) }
+        requires names { (n : ℕ) (q : RootRight K.Root) → N.then n q → (u : ℕ) → K.names q.own u → K.names root.root.own u }
         ensures table { result.table ≡ root.table }
         ensures same { result.root.key ≡ root.root.key }
         ensures told { N.then new result.root }
@@ -189,7 +189,7 @@ impl<K: Kind> WordsOf<K> {
         second: PassOf<K>,
     ) -> (PassOf<K>, PassOf<K>)
         requires table { (first.table ≡ self.now.table) × (second.table ≡ self.now.table) }
-        requires tells { TellsOfTwo (K.scheme self.now.key) first.pass second.pass N.fact }
+        requires tells { TellsOfTwo (K.meaning self.now.key) first.pass second.pass N.fact }
         ensures same { (result.0 ≡ first) × (result.1 ≡ second) }
         ensures apart { (first.pass.thread ≢ second.pass.thread) × N.fact }
     {

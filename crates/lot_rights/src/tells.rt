@@ -6,9 +6,9 @@ use std::marker::{Brand, PhantomData};
 /// Of the number found (at a store, the number stored), and the pass after.
 pub trait TellsPass<P> {
     ghost use Rattle.std.specs.Prelude.{ℕ};
-    ghost use Rattle.lot_rights.specs.declared.views.PassView.{PassView};
+    ghost use Rattle.lot_rights.specs.declared.views.PassRight.{PassRight};
 
-    ghost then: { ℕ → PassView P → Type 0 };
+    ghost then: { ℕ → PassRight P → Type 0 };
 }
 
 impl<P> TellsPass<P> for Brand {
@@ -18,10 +18,10 @@ impl<P> TellsPass<P> for Brand {
 /// Of the number found, and the pass and the root after.
 pub trait TellsBoth<P, R> {
     ghost use Rattle.std.specs.Prelude.{ℕ};
-    ghost use Rattle.lot_rights.specs.declared.views.PassView.{PassView};
-    ghost use Rattle.lot_rights.specs.declared.views.RootView.{RootView};
+    ghost use Rattle.lot_rights.specs.declared.views.PassRight.{PassRight};
+    ghost use Rattle.lot_rights.specs.declared.views.RootRight.{RootRight};
 
-    ghost then: { ℕ → PassView P → RootView R → Type 0 };
+    ghost then: { ℕ → PassRight P → RootRight R → Type 0 };
 }
 
 impl<P, R> TellsBoth<P, R> for Brand {
@@ -31,9 +31,9 @@ impl<P, R> TellsBoth<P, R> for Brand {
 /// Of the number found, and the root after.
 pub trait TellsRoot<R> {
     ghost use Rattle.std.specs.Prelude.{ℕ};
-    ghost use Rattle.lot_rights.specs.declared.views.RootView.{RootView};
+    ghost use Rattle.lot_rights.specs.declared.views.RootRight.{RootRight};
 
-    ghost then: { ℕ → RootView R → Type 0 };
+    ghost then: { ℕ → RootRight R → Type 0 };
 }
 
 impl<R> TellsRoot<R> for Brand {

@@ -21,7 +21,7 @@ pub struct Entry {
 }
 
 /// A thread's pass.
-pub struct PassView<P> {
+pub struct PassRight<P> {
     /// The number of the thread.
     pub thread: u64,
     /// The entries of the accesses that were made with this pass, in their order.
@@ -31,7 +31,7 @@ pub struct PassView<P> {
 }
 
 /// The root of a key.
-pub struct RootView<R> {
+pub struct RootRight<R> {
     /// The number of the key.
     pub key: u64,
     /// The entries of the accesses that were made with this root alone, in their order.
@@ -42,6 +42,6 @@ pub struct RootView<R> {
 
 /// A right: the pass of a thread, or the root of a key.
 pub enum Right<P, R> {
-    Pass(PassView<P>),
-    Root(RootView<R>),
+    Pass(PassRight<P>),
+    Root(RootRight<R>),
 }

@@ -44,7 +44,7 @@ impl<K: Kind> WordsOf<K> {
     ) -> (PassOf<K>, u64)
         requires table { pass.table ≡ self.now.table }
         requires word { word < self.now.table.words }
-        requires allows { AllowsPass (K.scheme self.now.key) word (λ n. n) pass.pass N.then }
+        requires allows { AllowsPass (K.meaning self.now.key) word (λ n. n) pass.pass N.then }
         ensures table { result.0.table ≡ pass.table }
         ensures thread { result.0.pass.thread ≡ pass.pass.thread }
         ensures told { N.then result.1 result.0.pass }
@@ -66,7 +66,7 @@ impl<K: Kind> WordsOf<K> {
     ) -> PassOf<K>
         requires table { pass.table ≡ self.now.table }
         requires word { word < self.now.table.words }
-        requires allows { AllowsPass (K.scheme self.now.key) word (λ _. new) pass.pass (λ _. N.then new) }
+        requires allows { AllowsPass (K.meaning self.now.key) word (λ _. new) pass.pass (λ _. N.then new) }
         ensures table { result.table ≡ pass.table }
         ensures thread { result.pass.thread ≡ pass.pass.thread }
         ensures told { N.then new result.pass }
@@ -88,7 +88,7 @@ impl<K: Kind> WordsOf<K> {
     ) -> (PassOf<K>, u64)
         requires table { pass.table ≡ self.now.table }
         requires word { word < self.now.table.words }
-        requires allows { AllowsPass (K.scheme self.now.key) word (λ _. new) pass.pass N.then }
+        requires allows { AllowsPass (K.meaning self.now.key) word (λ _. new) pass.pass N.then }
         ensures table { result.0.table ≡ pass.table }
         ensures thread { result.0.pass.thread ≡ pass.pass.thread }
         ensures told { N.then result.1 result.0.pass }
@@ -110,7 +110,7 @@ impl<K: Kind> WordsOf<K> {
     ) -> (PassOf<K>, u64)
         requires table { pass.table ≡ self.now.table }
         requires word { word < self.now.table.words }
-        requires allows { AllowsPass (K.scheme self.now.key) word (λ n. bit_or n bits) pass.pass N.then }
+        requires allows { AllowsPass (K.meaning self.now.key) word (λ n. bit_or n bits) pass.pass N.then }
         ensures table { result.0.table ≡ pass.table }
         ensures thread { result.0.pass.thread ≡ pass.pass.thread }
         ensures told { N.then result.1 result.0.pass }
@@ -133,7 +133,7 @@ impl<K: Kind> WordsOf<K> {
     ) -> (PassOf<K>, u64)
         requires table { pass.table ≡ self.now.table }
         requires word { word < self.now.table.words }
-        requires allows { AllowsPass (K.scheme self.now.key) word (λ n. either (n == old) new n) pass.pass N.then }
+        requires allows { AllowsPass (K.meaning self.now.key) word (λ n. either (n == old) new n) pass.pass N.then }
         ensures table { result.0.table ≡ pass.table }
         ensures thread { result.0.pass.thread ≡ pass.pass.thread }
         ensures told { N.then result.1 result.0.pass }

@@ -7,14 +7,14 @@ use Rattle.lot_events.specs.declared.events.Event.TheVariants.{Try, Take, Mark, 
 use Rattle.lot_events.specs.declared.events.Seen.TheVariants.{Bool as Saw, Done, Sleeper}
 use Rattle.lot_rights.specs.declared.views.Access.{Access}
 use Rattle.lot_rights.specs.declared.views.Access.TheVariants.{Makes, Finds}
-use Rattle.lot_rights.specs.declared.views.PassView.{PassView}
-use Rattle.lot_rights.specs.declared.views.RootView.{RootView}
+use Rattle.lot_rights.specs.declared.views.PassRight.{PassRight}
+use Rattle.lot_rights.specs.declared.views.RootRight.{RootRight}
 use Rattle.lot_rights.specs.Shown.{RootShown}
 use Rattle.lot_park.specs.Parking.{Queues, debt}
 use Rattle.lot_words.specs.declared.views.LockRootView.{LockRootView}
 use Rattle.lot_words.specs.CallersRule.{CallersRule}
 use Rattle.lot_words.specs.Values.{IsIn}
-use Rattle.lot_words.specs.Calls.{gripped, wishing, sleeping, let_go, found_parked, parked_pass, parked_root, passed_root, token_of}
+use Rattle.lot_words.specs.Calls.{owning as lock_owning, wanting as lock_wanting, sleeping, letting_go, finding_parked as lock_finding_parked, parked_pass, parked_root, passed_root, token_of}
 use Rattle.lot_whole.specs.declared.views.LotPassView.{LotPassView}
 use Rattle.lot_whole.specs.declared.views.LotRootView.{LotRootView}
 use Rattle.lot_whole.specs.declared.views.LotRootView.TheVariants.{Lock, Cond, Sem}
@@ -80,12 +80,12 @@ pub takes_first : (r before after s : RootShown LotRootView) (told : Option ℕ)
     → TakesFirst root_view r told (token_of fair) s
 takes_first r before after s told fair is_r is_s kind clear first_is is =
     let seen = passed_seen before.root.own after.root.own fair kind
-    (ap (λ (z : RootShown LotRootView). owes_in z.root.own) is_r ∙ clear) (ap (λ (z : RootView LotRootView). z.own) is)
+    (ap (λ (z : RootShown LotRootView). owes_in z.root.own) is_r ∙ clear) (ap (λ (z : RootRight LotRootView). z.own) is)
     in
     subst (λ (z : RootShown LotRootView). TakesFirst root_view z told (token_of fair) s) is_r
     (subst (λ (z : RootShown LotRootView). TakesFirst root_view before told (token_of fair) z) (sym is_s)
     (record {
-      named = ap (λ (z : RootView LotRootView). z.key) is;
+      named = ap (λ (z : RootRight LotRootView). z.key) is;
       lined = seen.0;
       owing = seen.1
           ∙ ap (λ (u : Option ℕ). debt u (token_of fair))
@@ -103,14 +103,14 @@ module _ {V : Type 0} where
       subst (λ (z : RootShown LotRootView). Queues root_view (λ (y : LotStanding V). y.thread) p z does q s) is_r
       (subst (λ (z : RootShown LotRootView). Queues root_view (λ (y : LotStanding V). y.thread) p before does q z) (sym is_s) (record {
         caller = same;
-        named = ap (λ (z : RootView LotRootView). z.key) is;
+        named = ap (λ (z : RootRight LotRootView). z.key) is;
         owing = told.0;
         lined = lined does told.1 is;
       }))
     where
       told : (owes_in after.root.own ≡ owes_in before.root.own)
           × MatchBool does (line_in after.root.own ≡ line_in before.root.own ++ p.thread ∷ []) (after.root.own ≡ before.root.own)
-      told = parked_seen before.root.own after.root.own p.thread does kind (ap (λ (z : RootView LotRootView). z.own) is)
+      told = parked_seen before.root.own after.root.own p.thread does kind (ap (λ (z : RootRight LotRootView). z.own) is)
 
       lined : (b : Bool)
           → MatchBool b (line_in after.root.own ≡ line_in before.root.own ++ p.thread ∷ []) (after.root.own ≡ before.root.own)
@@ -119,17 +119,17 @@ module _ {V : Type 0} where
       lined true e is_root = e
       lined false e is_root =
           let root : after.root ≡ before.root = is_root
-          ∙ ap (λ (o : LotRootView). record before.root { own = o }) (sym (ap (λ (z : RootView LotRootView). z.own) is_root) ∙ e) in
+          ∙ ap (λ (o : LotRootView). record before.root { own = o }) (sym (ap (λ (z : RootRight LotRootView). z.own) is_root) ∙ e) in
           λ i. record { table = table i; root = root i }
 
-  pub marked : (p : PassView (LotPassView V)) (key : ℕ) (does : Bool) (q : PassView (LotPassView V))
+  pub marked : (p : PassRight (LotPassView V)) (key : ℕ) (does : Bool) (q : PassRight (LotPassView V))
       → MatchBool does (NotesIn lock p p.own.locks (Makes (Mark p.thread key) Done) q) ((word : ℕ) × (word ≢ 1) × FindsOf p key word q)
       → MatchBool does (standing q ≡ adding (standing p) (Makes (Mark p.thread key) Done ∷ []))
       ((word : ℕ) × (word ≢ 1) × (standing q ≡ adding (standing p) (Finds p.thread key word ∷ [])))
   marked p key true q note = noted p p.own (Makes (Mark p.thread key) Done) q note
   marked p key false q (word, other, note) = (word, other, noted p p.own (Finds p.thread key word) q note)
 
-  pub parked : (p : PassView (LotPassView V)) (key : ℕ) (does : Bool) (q : PassView (LotPassView V))
+  pub parked : (p : PassRight (LotPassView V)) (key : ℕ) (does : Bool) (q : PassRight (LotPassView V))
       → NotesIn lock p (parked_pass p.own.locks does) (Makes (Park p.thread key) (Saw does)) q
       → MatchBool does (standing q ≡ adding (dozing (standing p)) (Makes (Park p.thread key) (Saw true) ∷ []))
       (standing q ≡ adding (standing p) (Makes (Park p.thread key) (Saw false) ∷ []))
@@ -138,65 +138,65 @@ module _ {V : Type 0} where
 
   -- ---- releases
   -- by the one exchange
-  pub freed : (p : PassView (LotPassView V)) (key : ℕ) (does : Bool) (q : PassView (LotPassView V)) → ((y : V) × IsIn p.own.locks key y)
+  pub freed : (p : PassRight (LotPassView V)) (key : ℕ) (does : Bool) (q : PassRight (LotPassView V)) → ((y : V) × IsIn p.own.locks key y)
       → MatchBool does
-      ((y : V) → IsIn p.own.locks key y → NotesIn lock p (let_go p.own.locks key y) (Makes (Free p.thread key) (Saw true)) q)
-      (NotesIn lock p (found_parked p.own.locks key) (Makes (Free p.thread key) (Saw false)) q)
+      ((y : V) → IsIn p.own.locks key y → NotesIn lock p (letting_go p.own.locks key y) (Makes (Free p.thread key) (Saw true)) q)
+      (NotesIn lock p (lock_finding_parked p.own.locks key) (Makes (Free p.thread key) (Saw false)) q)
       → MatchBool does (FreesLock (standing p) key (Makes (Free p.thread key) (Saw true)) (standing q))
       (standing q ≡ adding (finding_parked (standing p) key) (Makes (Free p.thread key) (Saw false) ∷ []))
   freed p key true q (y, lies) notes =
       let a : Access = Makes (Free p.thread key) (Saw true) in
-      (y, lies, noted p (lot_own lock p.own (let_go p.own.locks key y) a) a q (notes y lies))
+      (y, lies, noted p (lot_own lock p.own (letting_go p.own.locks key y) a) a q (notes y lies))
   freed p key false q lies note =
-      noted p (record p.own { locks = found_parked p.own.locks key }) (Makes (Free p.thread key) (Saw false)) q note
+      noted p (record p.own { locks = lock_finding_parked p.own.locks key }) (Makes (Free p.thread key) (Saw false)) q note
 
   -- while the bucket is locked
-  pub passed : (p : PassView (LotPassView V)) (key : ℕ) (first : Option ℕ) (fair more : Bool) (q : PassView (LotPassView V))
+  pub passed : (p : PassRight (LotPassView V)) (key : ℕ) (first : Option ℕ) (fair more : Bool) (q : PassRight (LotPassView V))
       → ((y : V) × IsIn p.own.locks key y)
       → ((y : V) → IsIn p.own.locks key y
-      → NotesIn lock p (let_go p.own.locks key y) (Makes (Passes p.thread key fair more) (Sleeper first)) q)
+      → NotesIn lock p (letting_go p.own.locks key y) (Makes (Passes p.thread key fair more) (Sleeper first)) q)
       → FreesLock (standing p) key (Makes (Passes p.thread key fair more) (Sleeper first)) (standing q)
   passed p key first fair more q (y, lies) notes =
       let a : Access = Makes (Passes p.thread key fair more) (Sleeper first) in
-      (y, lies, noted p (lot_own lock p.own (let_go p.own.locks key y) a) a q (notes y lies))
+      (y, lies, noted p (lot_own lock p.own (letting_go p.own.locks key y) a) a q (notes y lies))
 
 module _ {V Part : Type 0} (rule : CallersRule V Part) where
   -- ---- tries
   -- by an access after which the thread stands at no condition
-  gets : (p : PassView (LotPassView V)) (key : ℕ) (x : V) (a : Access) (s : Stand) (q : PassView (LotPassView V)) → s ≡ Idle
-      → standing q ≡ adding (record (standing p) { own = record p.own { locks = gripped p.own.locks key x; stand = s } }) (a ∷ [])
+  gets : (p : PassRight (LotPassView V)) (key : ℕ) (x : V) (a : Access) (s : Stand) (q : PassRight (LotPassView V)) → s ≡ Idle
+      → standing q ≡ adding (record (standing p) { own = record p.own { locks = lock_owning p.own.locks key x; stand = s } }) (a ∷ [])
       → standing q ≡ adding (owning (standing p) key x) (a ∷ [])
   gets p key x a s q idle is =
       subst (λ (z : Stand). standing q
-      ≡ adding (record (standing p) { own = record p.own { locks = gripped p.own.locks key x; stand = z } }) (a ∷ []))
+      ≡ adding (record (standing p) { own = record p.own { locks = lock_owning p.own.locks key x; stand = z } }) (a ∷ []))
       idle is
 
-  pub took_free : (p : PassView (LotPassView V)) (key : ℕ) (does : Bool) (q : PassView (LotPassView V))
+  pub took_free : (p : PassRight (LotPassView V)) (key : ℕ) (does : Bool) (q : PassRight (LotPassView V))
       → MatchBool does (GetsBy rule p key (Makes (Take p.thread key) (Saw true)) q) ((word : ℕ) × (word ≢ 0) × FindsOf p key word q)
       → MatchBool does (GetsLock rule (standing p) key (Makes (Take p.thread key) (Saw true)) (standing q))
       ((word : ℕ) × (word ≢ 0) × (standing q ≡ adding (standing p) (Finds p.thread key word ∷ [])))
   took_free p key true q (x, found, note) =
-      (x, found, noted p (record p.own { locks = gripped p.own.locks key x; stand = Idle }) (Makes (Take p.thread key) (Saw true)) q note)
+      (x, found, noted p (record p.own { locks = lock_owning p.own.locks key x; stand = Idle }) (Makes (Take p.thread key) (Saw true)) q note)
   took_free p key false q (word, other, note) = (word, other, noted p p.own (Finds p.thread key word) q note)
 
-  pub took : (p : PassView (LotPassView V)) (key : ℕ) (does : Bool) (q : PassView (LotPassView V))
+  pub took : (p : PassRight (LotPassView V)) (key : ℕ) (does : Bool) (q : PassRight (LotPassView V))
       → MatchBool does (GetsBy rule p key (Makes (Take p.thread key) (Saw true)) q)
-      (NotesIn lock p (wishing p.own.locks key) (Makes (Take p.thread key) (Saw false)) q)
+      (NotesIn lock p (lock_wanting p.own.locks key) (Makes (Take p.thread key) (Saw false)) q)
       → MatchBool does (GetsLock rule (standing p) key (Makes (Take p.thread key) (Saw true)) (standing q))
       (standing q ≡ adding (wanting (standing p) key) (Makes (Take p.thread key) (Saw false) ∷ []))
   took p key true q (x, found, note) =
-      (x, found, noted p (record p.own { locks = gripped p.own.locks key x; stand = Idle }) (Makes (Take p.thread key) (Saw true)) q note)
+      (x, found, noted p (record p.own { locks = lock_owning p.own.locks key x; stand = Idle }) (Makes (Take p.thread key) (Saw true)) q note)
   took p key false q note =
-      noted p (record p.own { locks = wishing p.own.locks key; stand = Idle }) (Makes (Take p.thread key) (Saw false)) q note
+      noted p (record p.own { locks = lock_wanting p.own.locks key; stand = Idle }) (Makes (Take p.thread key) (Saw false)) q note
 
-  pub tried : (p : PassView (LotPassView V)) (key : ℕ) (does : Bool) (q : PassView (LotPassView V)) → p.own.stand ≡ Idle
+  pub tried : (p : PassRight (LotPassView V)) (key : ℕ) (does : Bool) (q : PassRight (LotPassView V)) → p.own.stand ≡ Idle
       → MatchBool does (GetsBy rule p key (Makes (Try p.thread key) (Saw true)) q)
       (NotesIn lock p p.own.locks (Makes (Try p.thread key) (Saw false)) q)
       → MatchBool does (GetsLock rule (standing p) key (Makes (Try p.thread key) (Saw true)) (standing q))
       (standing q ≡ adding (standing p) (Makes (Try p.thread key) (Saw false) ∷ []))
   tried p key true q idle (x, found, note) =
       let a : Access = Makes (Try p.thread key) (Saw true) in
-      (x, found, gets p key x a p.own.stand q idle (noted p (record p.own { locks = gripped p.own.locks key x }) a q note))
+      (x, found, gets p key x a p.own.stand q idle (noted p (record p.own { locks = lock_owning p.own.locks key x }) a q note))
   tried p key false q idle note = noted p p.own (Makes (Try p.thread key) (Saw false)) q note
 
 -- of a parking

@@ -4,7 +4,7 @@ use Rattle.std.proofs.Common.{sym, ap, subst, ◌∙◌, arith}
 use Rattle.std.specs.List.{Contains}
 use Rattle.lot_rights.specs.Lines.{without}
 use Rattle.lot_rights.specs.declared.views.Access.{Access}
-use Rattle.lot_rights.specs.declared.views.RootView.{RootView}
+use Rattle.lot_rights.specs.declared.views.RootRight.{RootRight}
 use Rattle.lot_park.specs.Parking.{debt, debts, without_debt}
 use Rattle.lot_park.proofs.Debts.{owed_none, owed_alone, without_first_debt}
 use Rattle.lot_words.specs.Calls.{paid_root as lock_paid}
@@ -19,20 +19,20 @@ use Rattle.lot_whole.specs.Lot.{root_from}
 use Rattle.lot_scheme.specs.Roots.{IsInItsKind, debts_of, key_line}
 
 -- ---- a root's number tells its kind
-pub is_lock : (locks low c : ℕ) (q : LotRootView) → IsInItsKind locks low c q → c < locks → IsLockRoot q
-is_lock locks low c (Lock q) kind below = tt
-is_lock locks low c (Cond q) kind below = absurd (omega (arith, kind.0))
-is_lock locks low c (Sem q) kind below = absurd (omega (arith, kind.0))
+pub is_lock : (locks first_sem c : ℕ) (q : LotRootView) → IsInItsKind locks first_sem c q → c < locks → IsLockRoot q
+is_lock locks first_sem c (Lock q) kind below = tt
+is_lock locks first_sem c (Cond q) kind below = absurd (omega (arith, kind.0))
+is_lock locks first_sem c (Sem q) kind below = absurd (omega (arith, kind.0))
 
-pub is_cond : (locks low c : ℕ) (q : LotRootView) → IsInItsKind locks low c q → locks ≤ c → c < low → IsCondRoot q
-is_cond locks low c (Lock q) kind from below = absurd (omega (arith, kind))
-is_cond locks low c (Cond q) kind from below = tt
-is_cond locks low c (Sem q) kind from below = absurd (omega (arith, kind.1))
+pub is_cond : (locks first_sem c : ℕ) (q : LotRootView) → IsInItsKind locks first_sem c q → locks ≤ c → c < first_sem → IsCondRoot q
+is_cond locks first_sem c (Lock q) kind from below = absurd (omega (arith, kind))
+is_cond locks first_sem c (Cond q) kind from below = tt
+is_cond locks first_sem c (Sem q) kind from below = absurd (omega (arith, kind.1))
 
-pub is_sem : (locks low c : ℕ) (q : LotRootView) → IsInItsKind locks low c q → locks ≤ c → low ≤ c → IsSemRoot q
-is_sem locks low c (Lock q) kind from above = absurd (omega (arith, kind))
-is_sem locks low c (Cond q) kind from above = absurd (omega (arith, kind.1))
-is_sem locks low c (Sem q) kind from above = tt
+pub is_sem : (locks first_sem c : ℕ) (q : LotRootView) → IsInItsKind locks first_sem c q → locks ≤ c → first_sem ≤ c → IsSemRoot q
+is_sem locks first_sem c (Lock q) kind from above = absurd (omega (arith, kind))
+is_sem locks first_sem c (Cond q) kind from above = absurd (omega (arith, kind.1))
+is_sem locks first_sem c (Sem q) kind from above = tt
 
 -- ---- conditions: a letter that is owed has token 0, and is owed to a thread that the root names
 owed_in : (thread token : ℕ) (xs : List ℕ) → Contains (debts xs) (thread, token) → Contains xs thread × (token ≡ 0)
@@ -95,6 +95,6 @@ posted_sem c thread token (Sem q) kind has =
     ∙ (ap (λ k. without_debt thread k ((thread, 0) ∷ [])) one.1 ∙ without_first_debt thread 0 []))
 
 -- ---- a root that made an entry is seen by what it knows then
-pub seen_after : (j : Which) (p q : RootView LotRootView) (own : RootIn j) (a : Access) → RootNotesIn j p own a q
+pub seen_after : (j : Which) (p q : RootRight LotRootView) (own : RootIn j) (a : Access) → RootNotesIn j p own a q
     → (key_line q.key q.own).owes ≡ (key_line p.key (root_from j own)).owes
-seen_after j p q own a (k, is) = ap (λ (r : RootView LotRootView). (key_line r.key r.own).owes) is
+seen_after j p q own a (k, is) = ap (λ (r : RootRight LotRootView). (key_line r.key r.own).owes) is

@@ -42,11 +42,11 @@ abbrev pub with_root : RootShown LotRootView → LotRootView → RootShown LotRo
 with_root r own = record r { root = record r.root { own = own } }
 
 -- ---- the numbers of the keys
--- those below `locks` are locks, those from there on and below `low` are conditions, and all others are semaphores
+-- those below `locks` are locks, those from there on and below `first_sem` are conditions, and all others are semaphores
 abbrev pub IsInItsKind : ℕ → ℕ → ℕ → LotRootView → Type 0
-IsInItsKind locks low c (Lock q) = c < locks
-IsInItsKind locks low c (Cond q) = (locks ≤ c) × (c < low)
-IsInItsKind locks low c (Sem q) = (locks ≤ c) × (low ≤ c)
+IsInItsKind locks first_sem c (Lock q) = c < locks
+IsInItsKind locks first_sem c (Cond q) = (locks ≤ c) × (c < first_sem)
+IsInItsKind locks first_sem c (Sem q) = (locks ≤ c) × (first_sem ≤ c)
 
 -- ---- a lot's name
 -- what a name tells of a lot: its numbers of threads, locks and conditions, and how many permits each semaphore has at the opening
@@ -55,4 +55,4 @@ size_named threads locks conds permits = record { threads = threads; locks = loc
 
 -- the numbers of the conditions follow those of the locks, and those of the semaphores the conditions'
 abbrev pub Follow : ℕ → ℕ → ℕ → Type 0
-Follow locks conds low = low ≡ locks + conds
+Follow locks conds first_sem = first_sem ≡ locks + conds

@@ -4,13 +4,13 @@ use Rattle.lot_rights.specs.Shown.{PassShown}
 use Rattle.lot_rights.specs.declared.views.Access.{Access}
 use Rattle.lot_rights.specs.declared.views.Access.TheVariants.{Collects}
 use Rattle.lot_rights.specs.declared.views.Entry.{Entry}
-use Rattle.lot_rights.specs.declared.views.PassView.{PassView as PassMade}
+use Rattle.lot_rights.specs.declared.views.PassRight.{PassRight}
 use Rattle.lot_words.specs.declared.views.Place.{Place}
 use Rattle.lot_words.specs.CallersRule.{CallersRule}
 use Rattle.lot_words.specs.Values.{FoundOk}
-use Rattle.lot_words.specs.Calls.{gripped, wishing, sleeping, woken as lock_woken, let_go as lock_let_go, found_parked as lock_found_parked}
-use Rattle.lot_conds.specs.Calls.{enlisted as cond_enlisted, took, lowering, swept_pass, woken_pass}
-use Rattle.lot_sems.specs.Calls.{seeking as sem_seeking, got as sem_got, gave as sem_gave, woken as sem_woken, parked_pass as sem_parked}
+use Rattle.lot_words.specs.Calls.{owning as lock_owning, wanting as lock_wanting, sleeping, woken as lock_woken, letting_go as lock_letting_go, finding_parked as lock_finding_parked}
+use Rattle.lot_conds.specs.Calls.{enlisted as cond_enlisted, called_more as cond_called_more, lowering, swept_pass, one_wait_more as cond_one_wait_more}
+use Rattle.lot_sems.specs.Calls.{seeking as sem_seeking, one_permit_more as sem_one_permit_more, one_permit_less as sem_one_permit_less, woken as sem_woken, parked_pass as sem_parked}
 use Rattle.lot_whole.specs.declared.views.LotPassView.{LotPassView}
 use Rattle.lot_whole.specs.declared.views.Stand.TheVariants.{Idle, AtBed}
 use Rattle.lot_whole.specs.Whole.{rises}
@@ -23,11 +23,11 @@ pub record LotStanding (V : Type 0) : Type 0 where
   pub did : List Access
 
 module _ {V : Type 0} where
-  abbrev pub standing : PassMade (LotPassView V) → LotStanding V
+  abbrev pub standing : PassRight (LotPassView V) → LotStanding V
   standing p = record { thread = p.thread; own = p.own; did = map (λ (e : Entry). e.access) p.made }
 
-  abbrev pub stands : PassShown (LotPassView V) → LotStanding V
-  stands p = standing p.pass
+  abbrev pub standing_shown : PassShown (LotPassView V) → LotStanding V
+  standing_shown p = standing p.pass
 
   -- the pass, after these accesses more
   abbrev pub adding : LotStanding V → List Access → LotStanding V
@@ -36,11 +36,11 @@ module _ {V : Type 0} where
   -- ---- locks
   -- it wants the lock
   abbrev pub wanting : LotStanding V → ℕ → LotStanding V
-  wanting p l = record p { own = record p.own { locks = wishing p.own.locks l; stand = Idle } }
+  wanting p l = record p { own = record p.own { locks = lock_wanting p.own.locks l; stand = Idle } }
 
   -- it wants the lock, and is queued in its line
   abbrev pub lined : LotStanding V → ℕ → LotStanding V
-  lined p l = record p { own = record p.own { locks = sleeping (wishing p.own.locks l); stand = Idle } }
+  lined p l = record p { own = record p.own { locks = sleeping (lock_wanting p.own.locks l); stand = Idle } }
 
   -- it is queued in the line of the lock that it wants
   abbrev pub dozing : LotStanding V → LotStanding V
@@ -48,19 +48,19 @@ module _ {V : Type 0} where
 
   -- it owns the lock, and found the value there
   abbrev pub owning : LotStanding V → ℕ → V → LotStanding V
-  owning p l x = record p { own = record p.own { locks = gripped p.own.locks l x; stand = Idle } }
+  owning p l x = record p { own = record p.own { locks = lock_owning p.own.locks l x; stand = Idle } }
 
   -- it owns the lock still, which it found parked
   abbrev pub finding_parked : LotStanding V → ℕ → LotStanding V
-  finding_parked p l = record p { own = record p.own { locks = lock_found_parked p.own.locks l } }
+  finding_parked p l = record p { own = record p.own { locks = lock_finding_parked p.own.locks l } }
 
   -- it has let the lock go, and left the value there
   abbrev pub letting_go : LotStanding V → ℕ → V → LotStanding V
-  letting_go p l y = record p { own = record p.own { locks = lock_let_go p.own.locks l y; stand = rises p.own.stand } }
+  letting_go p l y = record p { own = record p.own { locks = lock_letting_go p.own.locks l y; stand = rises p.own.stand } }
 
   -- the value of the lock is at this place
-  abbrev pub putting : LotStanding V → ℕ → Place V → LotStanding V
-  putting p l place = record p { own = placed_in p.own l place }
+  abbrev pub placing : LotStanding V → ℕ → Place V → LotStanding V
+  placing p l place = record p { own = placed_in p.own l place }
 
   -- ---- conditions
   -- it is queued on c, at its bed with the lock l
@@ -68,12 +68,12 @@ module _ {V : Type 0} where
   enlisted p c l = record p { own = record p.own { conds = cond_enlisted p.own.conds c; stand = AtBed c l } }
 
   -- one wait of its own on c more has ended
-  abbrev pub roused : LotStanding V → ℕ → LotStanding V
-  roused p c = record p { own = record p.own { conds = woken_pass p.own.conds c } }
+  abbrev pub one_wait_more : LotStanding V → ℕ → LotStanding V
+  one_wait_more p c = record p { own = record p.own { conds = cond_one_wait_more p.own.conds c } }
 
   -- it has taken so many sleepers more from c's line
-  abbrev pub called : LotStanding V → ℕ → ℕ → LotStanding V
-  called p c n = record p { own = record p.own { conds = took p.own.conds c n } }
+  abbrev pub called_more : LotStanding V → ℕ → ℕ → LotStanding V
+  called_more p c n = record p { own = record p.own { conds = cond_called_more p.own.conds c n } }
 
   -- it has lowered c's flag, and has to sweep c
   abbrev pub setting_out : LotStanding V → ℕ → LotStanding V
@@ -93,12 +93,12 @@ module _ {V : Type 0} where
   queued p k = record p { own = record p.own { sems = sem_parked (sem_seeking p.own.sems k) true; stand = Idle } }
 
   -- it has got a permit of k
-  abbrev pub getting : LotStanding V → ℕ → LotStanding V
-  getting p k = record p { own = record p.own { sems = sem_got p.own.sems k; stand = Idle } }
+  abbrev pub one_permit_more : LotStanding V → ℕ → LotStanding V
+  one_permit_more p k = record p { own = record p.own { sems = sem_one_permit_more p.own.sems k; stand = Idle } }
 
   -- it has given a permit of k back
-  abbrev pub giving : LotStanding V → ℕ → LotStanding V
-  giving p k = record p { own = record p.own { sems = sem_gave p.own.sems k } }
+  abbrev pub one_permit_less : LotStanding V → ℕ → LotStanding V
+  one_permit_less p k = record p { own = record p.own { sems = sem_one_permit_less p.own.sems k } }
 
 -- ---- looks for a letter
 module _ {V Part : Type 0} (rule : CallersRule V Part) where
@@ -108,12 +108,12 @@ module _ {V Part : Type 0} (rule : CallersRule V Part) where
       q ≡ adding (record p { own = record p.own { locks = lock_woken p.own.locks } }) (Collects p.thread (Some 0) ∷ [])
   CollectsLock p (suc k) q =
       (k ≡ 0) × ((l : ℕ) × (p.own.locks.aim ≡ Some l) × ((x : V) × FoundOk rule l p.thread p.own.locks x
-      × (q ≡ adding (record p { own = record p.own { locks = lock_woken (gripped p.own.locks l x) } }) (Collects p.thread (Some 1) ∷ []))))
+      × (q ≡ adding (record p { own = record p.own { locks = lock_woken (lock_owning p.own.locks l x) } }) (Collects p.thread (Some 1) ∷ []))))
 
   -- a condition's or a semaphore's letter, whose tokens are all 0
   abbrev pub CollectsCond : LotStanding V → ℕ → LotStanding V → Type 0
   CollectsCond p token q =
-      (token ≡ 0) × ((c : ℕ) × (p.own.conds.out ≡ Some c) × (q ≡ adding (roused p c) (Collects p.thread (Some token) ∷ [])))
+      (token ≡ 0) × ((c : ℕ) × (p.own.conds.out ≡ Some c) × (q ≡ adding (one_wait_more p c) (Collects p.thread (Some token) ∷ [])))
 
   abbrev pub CollectsSem : LotStanding V → ℕ → LotStanding V → Type 0
   CollectsSem p token q =

@@ -20,7 +20,7 @@ impl<V: Keeps, N: LotName<V>> LotScheme<V, N> {
         ensures threads { first.thread ≢ second.thread }
         ensures locks { (l : ℕ) → Holds first.own.locks l → ¬ Holds second.own.locks l }
         ensures permits { (k : ℕ) → slice_index first.own.sems.out k + slice_index second.own.sems.out k ≤
-            opening_permits N.low N.permits k }
+            opening_permits N.first_sem N.permits k }
     {
         let (one, two) = self
             .words()

@@ -8,7 +8,7 @@ ghost use Rattle.lot_words.specs.World.{Holds};
 ghost use Rattle.lot_conds.specs.Calls.{enlisted_root, called_root, swept_root};
 ghost use Rattle.lot_whole.specs.Standing.{IsIdle, MaySweep, as_cond};
 ghost use Rattle.lot_scheme.specs.Roots.{root_view};
-ghost use Rattle.lot_scheme.specs.Standing.{adding, enlisted, called, setting_out, swept};
+ghost use Rattle.lot_scheme.specs.Standing.{adding, enlisted, called_more, setting_out, swept};
 ghost use Rattle.lot_scheme.specs.CondCalls.{IsCondNow};
 
 use crate::name::LotName;
@@ -28,7 +28,7 @@ impl<V: Keeps, N: LotName<V>> LotScheme<V, N> {
         root: NamedRoot<V, N>,
         lock: usize,
     ) -> (NamedPass<V, N>, NamedRoot<V, N>)
-        requires key { (N.locks ≤ root.root.key) × (root.root.key < N.low) }
+        requires key { (N.locks ≤ root.root.key) × (root.root.key < N.first_sem) }
         requires idle { IsIdle pass.own }
         requires lock { (lock < N.locks) × Holds pass.own.locks lock }
         ensures pass { result.0 ≡ adding (enlisted pass root.root.key lock)
@@ -46,7 +46,7 @@ impl<V: Keeps, N: LotName<V>> LotScheme<V, N> {
     #[tactic(auto, using(crate::proofs::CondNotes::looks))]
     #[inline(always)]
     pub fn look(&self, pass: NamedPass<V, N>, key: usize) -> (NamedPass<V, N>, bool)
-        requires key { (N.locks ≤ key) × (key < N.low) }
+        requires key { (N.locks ≤ key) × (key < N.first_sem) }
         requires idle { IsIdle pass.own }
         ensures { result.0 ≡ adding pass (Makes (Look pass.thread key) (Saw result.1) ∷ []) }
     {
@@ -57,7 +57,7 @@ impl<V: Keeps, N: LotName<V>> LotScheme<V, N> {
     /// Clears the condition's flag, by one store. No bucket has to be locked; `sweep` has to follow.
     #[tactic(auto, using(crate::proofs::CondNotes::lowers))]
     pub fn lower(&self, pass: NamedPass<V, N>, key: usize) -> NamedPass<V, N>
-        requires key { (N.locks ≤ key) × (key < N.low) }
+        requires key { (N.locks ≤ key) × (key < N.first_sem) }
         requires idle { IsIdle pass.own }
         ensures { result ≡ adding (setting_out pass key) (Makes (Lower pass.thread key) Done ∷ []) }
     {
@@ -78,12 +78,12 @@ impl<V: Keeps, N: LotName<V>> LotScheme<V, N> {
         taken: usize,
         more: bool,
     ) -> (NamedPass<V, N>, NamedRoot<V, N>)
-        requires key { (N.locks ≤ root.root.key) × (root.root.key < N.low) }
+        requires key { (N.locks ≤ root.root.key) × (root.root.key < N.first_sem) }
         requires idle { IsIdle pass.own }
         requires count { IsCallCount count }
         requires taken { dequeued_count count (root_view root).line ≡ taken }
         requires more { SaysMoreBehind count (root_view root).line more }
-        ensures pass { result.0 ≡ adding (called pass root.root.key taken)
+        ensures pass { result.0 ≡ adding (called_more pass root.root.key taken)
             (Makes (Call pass.thread root.root.key count more) (Count taken) ∷ []) }
         ensures root { IsCondNow root (called_root (as_cond root.root.own) count) result.1 }
     {
@@ -102,7 +102,7 @@ impl<V: Keeps, N: LotName<V>> LotScheme<V, N> {
         root: NamedRoot<V, N>,
         taken: usize,
     ) -> (NamedPass<V, N>, NamedRoot<V, N>)
-        requires key { (N.locks ≤ root.root.key) × (root.root.key < N.low) }
+        requires key { (N.locks ≤ root.root.key) × (root.root.key < N.first_sem) }
         requires lowered { MaySweep pass.own root.root.key }
         requires taken { length (root_view root).line ≡ taken }
         ensures pass { result.0 ≡ adding (swept pass root.root.key taken)

@@ -12,7 +12,7 @@ ghost use Rattle.lot_words.specs.declared.views.Place.TheVariants.{InSlot, Out};
 ghost use Rattle.lot_whole.specs.Standing.{IsIdle, MayTake, MayLetGo, MayPark};
 ghost use Rattle.lot_park.specs.Parking.{Queues};
 ghost use Rattle.lot_scheme.specs.Roots.{root_view, TakesFirst};
-ghost use Rattle.lot_scheme.specs.Standing.{LotStanding, adding, wanting, dozing, finding_parked, putting};
+ghost use Rattle.lot_scheme.specs.Standing.{LotStanding, adding, wanting, dozing, finding_parked, placing};
 ghost use Rattle.lot_scheme.specs.LockCalls.{GetsLock, FreesLock};
 
 use crate::name::LotName;
@@ -154,7 +154,7 @@ impl<V: Keeps, N: LotName<V>> LotScheme<V, N> {
         requires key { key < N.locks }
         requires holds { Holds pass.own.locks key }
         requires lies { (y : V) × IsIn pass.own.locks key y }
-        ensures out { result.0 ≡ putting pass key Out }
+        ensures out { result.0 ≡ placing pass key Out }
         ensures value { IsIn pass.own.locks key result.1 }
     {
         let (pass, value) = self.words().value_out(pass.into_pass(), key);
@@ -167,7 +167,7 @@ impl<V: Keeps, N: LotName<V>> LotScheme<V, N> {
         requires key { key < N.locks }
         requires holds { Holds pass.own.locks key × IsOut pass.own.locks key }
         requires lawful { (x : V) × HasSeen pass.own.locks key x × MayLeave V.Keeps key pass.thread x value }
-        ensures { result ≡ putting pass key (InSlot value) }
+        ensures { result ≡ placing pass key (InSlot value) }
     {
         NamedPass::new(self.words().value_in(pass.into_pass(), key, value))
     }

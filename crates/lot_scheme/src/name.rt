@@ -10,7 +10,7 @@ use std::marker::Brand;
 /// A program opens first, and then calls, with std's `Brand` for N, a function that is generic over `N: LotName<V>`.
 pub trait LotName<V>: Name {
     /// The number of the first semaphore.
-    ghost low: { ℕ };
+    ghost first_sem: { ℕ };
 
     /// How many permits each semaphore has at the opening.
     ghost permits: { List ℕ };
@@ -27,7 +27,7 @@ pub trait LotName<V>: Name {
 impl<V> LotName<V> for Brand {
     ghost use Rattle.std.specs.Prelude.{[]};
 
-    ghost low = { 0 };
+    ghost first_sem = { 0 };
 
     ghost permits = { [] };
 

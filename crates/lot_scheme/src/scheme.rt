@@ -19,7 +19,7 @@ pub struct LotScheme<V: Keeps, N: LotName<V>> {
     words: Named<LotWords<V>, N>,
     // How many locks there are, and the number of the first semaphore.
     locks: usize,
-    low: usize,
+    first_sem: usize,
 }
 
 impl<V: Keeps, N: LotName<V>> Model for LotScheme<V, N> {
@@ -33,21 +33,21 @@ impl<V: Keeps, N: LotName<V>> Model for LotScheme<V, N> {
 
     ghost invariant = { λ s. (s.words.table ≡ N.opening.locks)
         × (s.words.size ≡ size_named N.threads N.locks N.conds N.permits)
-        × Follow N.locks N.conds N.low × (s.locks ≡ N.locks) × (s.low ≡ N.low) };
+        × Follow N.locks N.conds N.first_sem × (s.locks ≡ N.locks) × (s.first_sem ≡ N.first_sem) };
 }
 
 impl<V: Keeps, N: LotName<V>> LotScheme<V, N> {
     /// The words, which get the lot's name here.
-    pub fn new(words: LotWords<V>, locks: usize, low: usize) -> LotScheme<V, N>
+    pub fn new(words: LotWords<V>, locks: usize, first_sem: usize) -> LotScheme<V, N>
         requires named { words.table ≡ N.opening.locks }
         requires size { words.size ≡ size_named N.threads N.locks N.conds N.permits }
-        requires keys { Follow N.locks N.conds N.low × (locks ≡ N.locks) × (low ≡ N.low) }
+        requires keys { Follow N.locks N.conds N.first_sem × (locks ≡ N.locks) × (first_sem ≡ N.first_sem) }
         ensures { result ≡ words }
     {
         LotScheme {
             words: Named::new(words),
             locks,
-            low,
+            first_sem,
         }
     }
 
@@ -56,7 +56,7 @@ impl<V: Keeps, N: LotName<V>> LotScheme<V, N> {
         ensures same { result.now ≡ self.now }
         ensures named { result.now.table ≡ N.opening.locks }
         ensures size { result.now.size ≡ size_named N.threads N.locks N.conds N.permits }
-        ensures keys { Follow N.locks N.conds N.low }
+        ensures keys { Follow N.locks N.conds N.first_sem }
     {
         self.words.inner()
     }
@@ -69,7 +69,7 @@ impl<V: Keeps, N: LotName<V>> LotScheme<V, N> {
         let LotScheme {
             words,
             locks: _,
-            low: _,
+            first_sem: _,
         } = self;
         words.into_inner()
     }
@@ -96,7 +96,7 @@ impl<V: Keeps + Send, N: LotName<V> + Send> Scheme for LotScheme<V, N> {
         let key = root.key();
         let root = if key < self.locks {
             words.post(root, at, token.0)
-        } else if key < self.low {
+        } else if key < self.first_sem {
             words.post_cond(root, at)
         } else {
             words.post_sem(root, at)

@@ -7,7 +7,7 @@ ghost use Rattle.lot_events.specs.declared.events.Seen.TheVariants.{Done, Sleepe
 ghost use Rattle.lot_rights.specs.declared.views.Access.TheVariants.{Makes};
 ghost use Rattle.lot_park.specs.Parking.{Queues};
 ghost use Rattle.lot_whole.specs.Standing.{IsIdle, MayTakePermit, MaySeek, MayGive};
-ghost use Rattle.lot_scheme.specs.Standing.{LotStanding, adding, giving};
+ghost use Rattle.lot_scheme.specs.Standing.{LotStanding, adding, one_permit_less};
 ghost use Rattle.lot_scheme.specs.Roots.{root_view, TakesFirst};
 ghost use Rattle.lot_scheme.specs.SemCalls.{TriesPermit, TakesPermit, MarksPermit, ParksPermit, FreesPermit};
 
@@ -23,7 +23,7 @@ impl<V: Keeps, N: LotName<V>> LotScheme<V, N> {
     /// compare-exchange.
     #[inline(always)]
     pub fn try_take_permit(&self, pass: NamedPass<V, N>, key: usize) -> (NamedPass<V, N>, Taken)
-        requires key { IsAmongSemaphores N.low (length N.permits) key }
+        requires key { IsAmongSemaphores N.first_sem (length N.permits) key }
         requires idle { IsIdle pass.own }
         ensures { TriesPermit pass key result.1 result.0 }
     {
@@ -35,7 +35,7 @@ impl<V: Keeps, N: LotName<V>> LotScheme<V, N> {
     /// from now on.
     #[inline(always)]
     pub fn take_permit(&self, pass: NamedPass<V, N>, key: usize) -> (NamedPass<V, N>, Taken)
-        requires key { IsAmongSemaphores N.low (length N.permits) key }
+        requires key { IsAmongSemaphores N.first_sem (length N.permits) key }
         requires may { MayTakePermit pass.own key }
         ensures { TakesPermit pass key result.1 result.0 }
     {
@@ -45,7 +45,7 @@ impl<V: Keeps, N: LotName<V>> LotScheme<V, N> {
 
     /// Marks a semaphore of which no permit is left as parked, by one compare-exchange, and says whether it did.
     pub fn mark_permit(&self, pass: NamedPass<V, N>, key: usize) -> (NamedPass<V, N>, bool)
-        requires key { IsAmongSemaphores N.low (length N.permits) key }
+        requires key { IsAmongSemaphores N.first_sem (length N.permits) key }
         requires seeks { MaySeek pass.own key }
         ensures { MarksPermit pass key result.1 result.0 }
     {
@@ -60,7 +60,7 @@ impl<V: Keeps, N: LotName<V>> LotScheme<V, N> {
         pass: NamedPass<V, N>,
         root: NamedRoot<V, N>,
     ) -> (NamedPass<V, N>, NamedRoot<V, N>, bool)
-        requires sem { N.low ≤ (root_view root).key }
+        requires sem { N.first_sem ≤ (root_view root).key }
         requires seeks { MaySeek pass.own (root_view root).key }
         ensures pass { ParksPermit pass (root_view root).key result.2 result.0 }
         ensures root { Queues root_view (λ (p : LotStanding V). p.thread) pass root result.2 result.0 result.1 }
@@ -73,7 +73,7 @@ impl<V: Keeps, N: LotName<V>> LotScheme<V, N> {
     /// nobody marked, one compare-exchange. Else the thread still has the permit.
     #[inline(always)]
     pub fn free_permit(&self, pass: NamedPass<V, N>, key: usize) -> (NamedPass<V, N>, bool)
-        requires key { IsAmongSemaphores N.low (length N.permits) key }
+        requires key { IsAmongSemaphores N.first_sem (length N.permits) key }
         requires may { MayGive pass.own key }
         ensures { FreesPermit pass key result.1 result.0 }
     {
@@ -90,12 +90,12 @@ impl<V: Keeps, N: LotName<V>> LotScheme<V, N> {
         first: Option<usize>,
         more: bool,
     ) -> (NamedPass<V, N>, NamedRoot<V, N>)
-        requires sem { N.low ≤ (root_view root).key }
+        requires sem { N.first_sem ≤ (root_view root).key }
         requires may { MayGive pass.own (root_view root).key }
         requires clear { (root_view root).owes ≡ [] }
         requires first { first_of (root_view root).line ≡ first }
         requires more { SaysMore (root_view root).line more }
-        ensures pass { result.0 ≡ adding (giving pass (root_view root).key)
+        ensures pass { result.0 ≡ adding (one_permit_less pass (root_view root).key)
             (Makes (Passes pass.thread (root_view root).key more) (Sleeper first) ∷ []) }
         ensures root { TakesFirst root_view root first 0 result.1 }
     {
@@ -112,7 +112,7 @@ impl<V: Keeps, N: LotName<V>> LotScheme<V, N> {
         pass: NamedPass<V, N>,
         root: NamedRoot<V, N>,
     ) -> (NamedPass<V, N>, NamedRoot<V, N>)
-        requires sem { N.low ≤ (root_view root).key }
+        requires sem { N.first_sem ≤ (root_view root).key }
         requires idle { IsIdle pass.own }
         requires nobody { (root_view root).line ≡ [] }
         ensures pass { result.0 ≡ adding pass (Makes (SemClear pass.thread (root_view root).key) Done ∷ []) }
@@ -126,7 +126,7 @@ impl<V: Keeps, N: LotName<V>> LotScheme<V, N> {
     /// which nothing is promised.
     #[inline(always)]
     pub fn sem_bits(&self, key: usize) -> u64
-        requires { IsAmongSemaphores N.low (length N.permits) key }
+        requires { IsAmongSemaphores N.first_sem (length N.permits) key }
     {
         self.words().bits(key)
     }

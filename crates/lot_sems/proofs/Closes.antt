@@ -10,12 +10,12 @@ use Rattle.lot_rights.proofs.Totals.{held_once, sum_is}
 use Rattle.lot_sems.specs.declared.views.SemPassView.{SemPassView}
 use Rattle.lot_sems.specs.declared.views.SemRootView.{SemRootView}
 use Rattle.lot_sems.specs.World.{Numbers, SemWorld, permits_of, PassKnows, RootKnows}
-use Rattle.lot_sems.specs.Rule.{scheme}
+use Rattle.lot_sems.specs.Rule.{meaning}
 use Rattle.lot_sems.specs.Closing.{out_with, IsToldTo}
 
 module _ (size : Numbers) (passes : List (PassShown SemPassView)) (roots : List (RootShown SemRootView)) (ws : List ℕ) (xs : List (Unit {0})) where
   -- when all passes came back, the permits that are left and those that are out with them are all there are
-  module _ (left : Left (scheme size) passes roots ws xs)
+  module _ (left : Left (meaning size) passes roots ws xs)
       (all : (t : ℕ) → t < size.threads → Any (λ (p : PassShown SemPassView). p.pass.thread ≡ t) passes) where
     abbrev w : SemWorld
     w = left.world
@@ -33,10 +33,10 @@ module _ (size : Numbers) (passes : List (PassShown SemPassView)) (roots : List 
         (held_once SemRootView passes roots left.once) all in
         omega (arith, sum, left.fits.sound.permits_conserved k)
 
-  pub told_to : Ended (scheme size) passes roots ws xs
+  pub told_to : Ended (meaning size) passes roots ws xs
       → ((t : ℕ) → t < size.threads → Any (λ (p : PassShown SemPassView). p.pass.thread ≡ t) passes) → IsToldTo size passes roots
   told_to ended all = record {
-    recounted = ended_recounted (scheme size) passes roots ws xs ended;
+    recounted = ended_recounted (meaning size) passes roots ws xs ended;
     lines = All-weaker (λ (q : RootShown SemRootView). RootKnows size ended.left.world q.root.key q.root.own)
         (λ (q : RootShown SemRootView). ended.left.world.part.sems.line q.root.key ≡ q.root.own.line) (λ q is. is.1) roots ended.left.roots_fit;
     permits = all_out ended.left all;

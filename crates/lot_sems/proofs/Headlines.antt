@@ -11,7 +11,7 @@ use Rattle.lot_rights.proofs.Settling.{has_one_run}
 use Rattle.lot_sems.specs.declared.views.SemPassView.{SemPassView}
 use Rattle.lot_sems.specs.declared.views.SemRootView.{SemRootView}
 use Rattle.lot_sems.specs.World.{Numbers, SemWorld, LettersFit}
-use Rattle.lot_sems.specs.Rule.{scheme}
+use Rattle.lot_sems.specs.Rule.{meaning}
 use Rattle.lot_sems.specs.Headline.{Headline}
 use Rattle.lot_sems.proofs.Machine.{notice_at, queued_owed, lying_queued}
 
@@ -40,9 +40,9 @@ module _ (n : ℕ) (w : SemWorld) (ok : LettersFit n w) where
     λ h. lying_queued (w.spot t) k k token e (ok.in_line t k h),
   )
 
-pub headline : (size : Numbers) (s : State (Unit {0}) (List (Right SemPassView SemRootView))) → Ruled (scheme size) s → Headline size s
+pub headline : (size : Numbers) (s : State (Unit {0}) (List (Right SemPassView SemRootView))) → Ruled (meaning size) s → Headline size s
 headline size s ru =
-    let run = has_one_run (scheme size) s ru in
+    let run = has_one_run (meaning size) s ru in
     let sound = ru.fits.sound in
     record {
       world = ru.world;

@@ -11,33 +11,33 @@ use Rattle.lot_rights.specs.Start.{OpensWell}
 use Rattle.lot_rights.specs.World.{awake}
 use Rattle.lot_sems.specs.World.{Numbers, key_count, permits_of, SemWorld, word_in, SemWordsFit}
 use Rattle.lot_sems.specs.Opening.{with_permits, opening_words}
-use Rattle.lot_sems.specs.Rule.{opening_part, IsSound, scheme}
+use Rattle.lot_sems.specs.Rule.{opening_part, IsSound, meaning}
 use Rattle.lot_sems.proofs.Machine.{no_some}
 use Rattle.lot_core.proofs.Members.{in_none}
 
 -- ---- words in which permits are written
-module _ (ws : List ℕ) (low : ℕ) (permits : List ℕ) where
-  as_wide : (i : ℕ) → length (with_permits ws low permits i) ≡ length ws
+module _ (ws : List ℕ) (first_sem : ℕ) (permits : List ℕ) where
+  as_wide : (i : ℕ) → length (with_permits ws first_sem permits i) ≡ length ws
   as_wide zero = refl
-  as_wide (suc i) = length-set (with_permits ws low permits i) (word_at (low + i)) (2 * get_or permits i 0) ∙ as_wide i
+  as_wide (suc i) = length-set (with_permits ws first_sem permits i) (word_at (first_sem + i)) (2 * get_or permits i 0) ∙ as_wide i
 
-  letters_stay : (i t : ℕ) → get_or (with_permits ws low permits i) (letter_at t) 0 ≡ get_or ws (letter_at t) 0
+  letters_stay : (i t : ℕ) → get_or (with_permits ws first_sem permits i) (letter_at t) 0 ≡ get_or ws (letter_at t) 0
   letters_stay zero t = refl
-  letters_stay (suc i) t = get_or-set_other (with_permits ws low permits i) (word_at (low + i)) (letter_at t) (2 * get_or permits i 0) 0 (λ e. omega arith) ∙ letters_stay i t
+  letters_stay (suc i) t = get_or-set_other (with_permits ws first_sem permits i) (word_at (first_sem + i)) (letter_at t) (2 * get_or permits i 0) 0 (λ e. omega arith) ∙ letters_stay i t
 
-  words_are : (i j : ℕ) → j < i → word_at (low + j) < length ws → get_or (with_permits ws low permits i) (word_at (low + j)) 0 ≡ 2 * get_or permits j 0
+  words_are : (i j : ℕ) → j < i → word_at (first_sem + j) < length ws → get_or (with_permits ws first_sem permits i) (word_at (first_sem + j)) 0 ≡ 2 * get_or permits j 0
   words_are zero j near room = absurd (omega arith)
   words_are (suc i) j near room =
-      let xs : List ℕ = with_permits ws low permits i in
+      let xs : List ℕ = with_permits ws first_sem permits i in
       let x : ℕ = 2 * get_or permits i 0 in
       dite (ℕ_discrete j i)
-      (λ e. subst (λ z. get_or (with_permits ws low permits (suc i)) (word_at (low + z)) 0 ≡ 2 * get_or permits z 0) (sym e)
-      (get_or-set_same xs (word_at (low + i)) x 0 (omega (arith, as_wide i, ap (λ z. word_at (low + z)) e))))
-      (λ ne. get_or-set_other xs (word_at (low + i)) (word_at (low + j)) x 0 (λ e. ne (omega arith)) ∙ words_are i j (omega arith) room)
+      (λ e. subst (λ z. get_or (with_permits ws first_sem permits (suc i)) (word_at (first_sem + z)) 0 ≡ 2 * get_or permits z 0) (sym e)
+      (get_or-set_same xs (word_at (first_sem + i)) x 0 (omega (arith, as_wide i, ap (λ z. word_at (first_sem + z)) e))))
+      (λ ne. get_or-set_other xs (word_at (first_sem + i)) (word_at (first_sem + j)) x 0 (λ e. ne (omega arith)) ∙ words_are i j (omega arith) room)
 
 module _ (size : Numbers) where
-  abbrev low : ℕ
-  low = size.low
+  abbrev first_sem : ℕ
+  first_sem = size.first_sem
 
   abbrev permits : List ℕ
   permits = size.permits
@@ -55,31 +55,31 @@ module _ (size : Numbers) where
   wide = length-replicate {A = ℕ} count 0
 
   pub opening_long : length (opening_words size) ≡ count
-  opening_long = as_wide zeros low permits (length permits) ∙ wide
+  opening_long = as_wide zeros first_sem permits (length permits) ∙ wide
 
   fresh_words : SemWordsFit size fresh_world (opening_words size)
   fresh_words = record {
     wide = opening_long;
     words = λ k is.
-        let at : low + (k - low) ≡ k = omega (arith, is.0) in
-        let left : permits_of size k ≡ get_or permits (k - low) 0 = row_from_at 0 low permits k is.0 in
-        let here = words_are zeros low permits (length permits) (k - low) (omega (arith, is.0, is.1)) (omega (arith, is.0, is.1, wide)) in
+        let at : first_sem + (k - first_sem) ≡ k = omega (arith, is.0) in
+        let left : permits_of size k ≡ get_or permits (k - first_sem) 0 = row_from_at 0 first_sem permits k is.0 in
+        let here = words_are zeros first_sem permits (length permits) (k - first_sem) (omega (arith, is.0, is.1)) (omega (arith, is.0, is.1, wide)) in
         subst (λ z. get_or (opening_words size) (word_at z) 0 ≡ word_in (opening_part size) k) at (here ∙ omega (arith, left));
-    letters = λ t near. letters_stay zeros low permits (length permits) t ∙ get_or_replicate 0 count (letter_at t);
+    letters = λ t near. letters_stay zeros first_sem permits (length permits) t ∙ get_or_replicate 0 count (letter_at t);
   }
 
   few : ((i : ℕ) → i < length permits → get_or permits i 0 < 4294967296) → (k : ℕ) → permits_of size k < 4294967296
   few small k = ⊎_elim {C = permits_of size k < 4294967296}
-      (λ before. omega (arith, row_from_before 0 low permits k before))
+      (λ before. omega (arith, row_from_before 0 first_sem permits k before))
       (λ from. ⊎_elim {C = permits_of size k < 4294967296}
-      (λ within. omega (arith, row_from_at 0 low permits k from, small (k - low) within))
-      (λ past. omega (arith, row_from_at 0 low permits k from, get_or_past permits (k - low) 0 past)) (cases_lt (k - low) (length permits)))
-      (cases_lt k low)
+      (λ within. omega (arith, row_from_at 0 first_sem permits k from, small (k - first_sem) within))
+      (λ past. omega (arith, row_from_at 0 first_sem permits k from, get_or_past permits (k - first_sem) 0 past)) (cases_lt (k - first_sem) (length permits)))
+      (cases_lt k first_sem)
 
   pub opening_sound : IsSound size (opening_part size)
   opening_sound = part_sound size.threads (permits_of size) (opening_part size) (part_opening size.threads (permits_of size))
 
-  pub opens_well : ((i : ℕ) → i < length permits → get_or permits i 0 < 4294967296) → OpensWell (scheme size) (opening_words size) []
+  pub opens_well : ((i : ℕ) → i < length permits → get_or permits i 0 < 4294967296) → OpensWell (meaning size) (opening_words size) []
   opens_well small = record {
     world = fresh_world;
     fits = record {

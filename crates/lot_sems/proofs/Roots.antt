@@ -13,8 +13,8 @@ use Rattle.lot_events.specs.declared.events.Seen.TheVariants.{Bool as Saw, Done,
 use Rattle.lot_core.proofs.Members.{in_head}
 use Rattle.lot_core.proofs.Put.{by_bit, put_same, put_other}
 use Rattle.lot_rights.specs.declared.views.Access.TheVariants.{Makes, Posts, Collects}
-use Rattle.lot_rights.specs.declared.views.PassView.{PassView}
-use Rattle.lot_rights.specs.declared.views.RootView.{RootView}
+use Rattle.lot_rights.specs.declared.views.PassRight.{PassRight}
+use Rattle.lot_rights.specs.declared.views.RootRight.{RootRight}
 use Rattle.lot_rights.specs.History.{maker}
 use Rattle.lot_rights.specs.Layout.{word_at, letter_at}
 use Rattle.lot_rights.specs.World.{Spot, awake, queued, owed, lying, letter_of, letters_of}
@@ -24,27 +24,27 @@ use Rattle.lot_rights.proofs.Worlds.{same_letters, one_letter, letter_written}
 use Rattle.lot_sems.specs.declared.views.SemPassView.{SemPassView}
 use Rattle.lot_sems.specs.declared.views.SemRootView.{SemRootView}
 use Rattle.lot_sems.specs.World.{Numbers, sizes_of, SemWorld, word_of, told_in, sleeps, NoticesFit, PassKnows, RootKnows}
-use Rattle.lot_sems.specs.Rule.{IsStep, Fits, scheme}
-use Rattle.lot_sems.specs.Calls.{IsCalm, IsSeeking, MayGive, gave, woken, parked_pass, parked_root, passed_root, paid_root, raise_of, FoundNone, Collected, CollectedBy}
+use Rattle.lot_sems.specs.Rule.{IsStep, Fits, meaning}
+use Rattle.lot_sems.specs.Calls.{IsCalm, IsSeeking, MayGive, one_permit_less, woken, parked_pass, parked_root, passed_root, paid_root, raise_of, FoundNone, Collected, CollectedBy}
 use Rattle.lot_sems.proofs.Machine.{awake_is, in_no_line, notice_at, park_letters, was_queued, pass_letters, pass_sleeps, is_owed_here, post_letters, post_sleeps, collect_letters}
 use Rattle.lot_sems.proofs.Rows.{turned, same_line, same_seeks, row_queued, row_not_queued, row_pass_none, row_pass, row_clear}
 use Rattle.lot_sems.proofs.Turning.{after, fits_after, pass_after as knows_after, passes_else, roots_else, root_after, out_same, left_few}
 use Rattle.lot_sems.proofs.Turns.{bit_few}
 
 -- ---- what each step tells
-abbrev pub Parks : PassView SemPassView → RootView SemRootView → ℕ → PassView SemPassView → RootView SemRootView → Type 0
+abbrev pub Parks : PassRight SemPassView → RootRight SemRootView → ℕ → PassRight SemPassView → RootRight SemRootView → Type 0
 Parks p q n p' q' = Notes p (parked_pass p.own (n == 1)) (Makes (SemPark p.thread q.key) (Saw (n == 1))) p' × (q' ≡ record q { own = parked_root q.own p.thread (n == 1) })
 
-abbrev pub Passes : PassView SemPassView → RootView SemRootView → List ℕ → Bool → PassView SemPassView → RootView SemRootView → Type 0
-Passes p q line more p' q' = Notes p (gave p.own q.key) (Makes (SemPass p.thread q.key more) (Sleeper (first line))) p' × (q' ≡ record q { own = passed_root q.own line })
+abbrev pub Passes : PassRight SemPassView → RootRight SemRootView → List ℕ → Bool → PassRight SemPassView → RootRight SemRootView → Type 0
+Passes p q line more p' q' = Notes p (one_permit_less p.own q.key) (Makes (SemPass p.thread q.key more) (Sleeper (first line))) p' × (q' ≡ record q { own = passed_root q.own line })
 
-abbrev pub Clears : PassView SemPassView → RootView SemRootView → PassView SemPassView → RootView SemRootView → Type 0
+abbrev pub Clears : PassRight SemPassView → RootRight SemRootView → PassRight SemPassView → RootRight SemRootView → Type 0
 Clears p q p' q' = Notes p p.own (Makes (SemClear p.thread q.key) Done) p' × (q' ≡ q)
 
-abbrev pub Pays : RootView SemRootView → ℕ → RootView SemRootView → Type 0
+abbrev pub Pays : RootRight SemRootView → ℕ → RootRight SemRootView → Type 0
 Pays q u q' = RootNotes q (paid_root q.own) (Posts q.key u 0) q'
 
-abbrev pub Collecting : PassView SemPassView → ℕ → PassView SemPassView → Type 0
+abbrev pub Collecting : PassRight SemPassView → ℕ → PassRight SemPassView → Type 0
 Collecting p n q = (n ≤ 1) × CollectedBy p n q
 
 -- ---- words
@@ -64,7 +64,7 @@ raised : (left u : ℕ) (more : Bool) → (word_of left true + raise_of (Some u)
 raised left u true = omega arith
 raised left u false = omega arith
 
-module _ (size : Numbers) (p : PassView SemPassView) (q : RootView SemRootView) (w : SemWorld) (ws : List ℕ) (hs : List (maybe.Option (Unit {0}))) (ok : Fits size w ws)
+module _ (size : Numbers) (p : PassRight SemPassView) (q : RootRight SemRootView) (w : SemWorld) (ws : List ℕ) (hs : List (maybe.Option (Unit {0}))) (ok : Fits size w ws)
     (fit : PassKnows size w p.thread p.own) (root : RootKnows size w q.key q.own) where
   abbrev t : ℕ
   t = p.thread
@@ -89,12 +89,12 @@ module _ (size : Numbers) (p : PassView SemPassView) (q : RootView SemRootView) 
 
   -- ---- an event of pass and root
   makes : (x l : ℕ) (b : Bool) (xs : List ℕ) (o : ℕ) (spots : ℕ → Spot) (owes : ℕ → Option ℕ) (own : SemPassView) (its : SemRootView) (e : Event) (saw : Seen)
-      (then : PassView SemPassView → RootView SemRootView → Type 0) → maker e ≡ t
+      (then : PassRight SemPassView → RootRight SemRootView → Type 0) → maker e ≡ t
       → IsStep size w.part e saw (turned w.part t k l b xs o (w.part.seeks t)) → x ≡ word_of l b → letters_of spots ≡ letters_of w.spot
       → NoticesFit size.threads (put w.part.sems.line k xs) w.part.seeks owes spots
       → ((u : ℕ) → u ≢ t → sleeps (spots u) ≡ sleeps (w.spot u)) → ((d : ℕ) → d ≢ k → owes d ≡ w.owes d)
       → own.seeks ≡ p.own.seeks → sleeps (spots t) ≡ own.asleep → own.out ≡ set p.own.out k o → xs ≡ its.line → owes k ≡ its.owes
-      → ((i : ℕ) → then (pass_after p own i (Makes e saw)) (record q { own = its })) → BothTurn (scheme size) (word_at k) x p q then w ws hs
+      → ((i : ℕ) → then (pass_after p own i (Makes e saw)) (record q { own = its })) → BothTurn (meaning size) (word_at k) x p q then w ws hs
   makes x l b xs o spots owes own its e saw then by step is same letters others debts seeks asleep out itsline itsowes told =
       let s : Option ℕ = w.part.seeks t in
       record {
@@ -120,8 +120,8 @@ module _ (size : Numbers) (p : PassView SemPassView) (q : RootView SemRootView) 
     out_of : (j : ℕ) → ¬ Contains (w.part.sems.line j) t
     out_of = in_no_line size.threads w.part.sems.line w.part.seeks w.owes w.spot ok.letters t up'
 
-    parks_turn : p.own.seeks ≡ Some k → BothTurn (scheme size) (word_at k) n p q (Parks p q n) w ws hs
-    parks_turn aim = by_bit (λ b. (none_left w.part.sems k && parked) ≡ b → BothTurn (scheme size) (word_at k) n p q
+    parks_turn : p.own.seeks ≡ Some k → BothTurn (meaning size) (word_at k) n p q (Parks p q n) w ws hs
+    parks_turn aim = by_bit (λ b. (none_left w.part.sems k && parked) ≡ b → BothTurn (meaning size) (word_at k) n p q
         (λ p' q'. Notes p (parked_pass p.own b) (Makes (SemPark t k) (Saw b)) p' × (q' ≡ record q { own = parked_root q.own t b })) w ws hs) (n == 1)
         (λ one both.
         let xs : List ℕ = line ++ t ∷ [] in
@@ -132,7 +132,7 @@ module _ (size : Numbers) (p : PassView SemPassView) (q : RootView SemRootView) 
         (λ u ne. ap sleeps (put_other w.spot t (queued k) u ne)) (λ d ne. refl) refl (ap sleeps (put_same w.spot t (queued k))) (out_same size w t k p.own fit) (ap (λ z. z ++ t ∷ []) root.1)
         root.2 (λ i. ((i, refl), refl)))
         (λ _ neither.
-        both_stay (scheme size) (word_at k) n w ws hs ok refl p fit (Makes (SemPark t k) (Saw false))
+        both_stay (meaning size) (word_at k) n w ws hs ok refl p fit (Makes (SemPark t k) (Saw false))
         (refl, (row_not_queued w.part size t fit.near k root.0 (fit.seeks ∙ aim, out_of k) neither, refl)) q
         (λ p' q'. Notes p p.own (Makes (SemPark t k) (Saw false)) p' × (q' ≡ record q { own = q.own })) root (λ i. ((i, refl), refl)))
         (sym (one_says left parked) ∙ ap (λ z. z == 1) (sym found))
@@ -148,13 +148,13 @@ module _ (size : Numbers) (p : PassView SemPassView) (q : RootView SemRootView) 
     calm' : w.part.seeks t ≡ None
     calm' = fit.seeks ∙ may.0.1
 
-    out_now : (gave p.own k).out ≡ set p.own.out k (w.part.sems.out k t - 1)
+    out_now : (one_permit_less p.own k).out ≡ set p.own.out k (w.part.sems.out k t - 1)
     out_now = ap (λ z. set p.own.out k (z - 1)) (sym (fit.out k))
 
-    pass_turn : (xs : List ℕ) → q.own.line ≡ xs → BothTurn (scheme size) (word_at k) ((n + raise_of (first xs) more) % 2 ^ 64) p q (Passes p q xs more) w ws hs
+    pass_turn : (xs : List ℕ) → q.own.line ≡ xs → BothTurn (meaning size) (word_at k) ((n + raise_of (first xs) more) % 2 ^ 64) p q (Passes p q xs more) w ws hs
     pass_turn [] is =
         let two : word_of (left + 1) parked ≡ word_of left parked + 2 = omega arith in
-        makes ((n + 2) % 2 ^ 64) (left + 1) parked line (w.part.sems.out k t - 1) w.spot w.owes (gave p.own k) q.own (SemPass t k more) (Sleeper None) (Passes p q [] more) refl
+        makes ((n + 2) % 2 ^ 64) (left + 1) parked line (w.part.sems.out k t - 1) w.spot w.owes (one_permit_less p.own k) q.own (SemPass t k more) (Sleeper None) (Passes p q [] more) refl
         (row_pass_none w.part size t fit.near k root.0 calm' more some' (root.1 ∙ is)) (omega (arith, found, room, bit_few parked)) refl
         (subst (λ z. NoticesFit size.threads z w.part.seeks w.owes w.spot) (sym (same_line w.part k)) ok.letters)
         (λ u ne. refl) (λ d ne. refl) refl fit.asleep out_now root.1 root.2 (λ i. ((i, refl), refl))
@@ -166,7 +166,7 @@ module _ (size : Numbers) (p : PassView SemPassView) (q : RootView SemRootView) 
         let debt : w.owes k ≡ None = root.2 ∙ free in
         let seek = ok.sound.seeks k u inside in
         let queued_here : w.spot u ≡ queued k = was_queued size.threads w.part.sems.line w.part.seeks w.owes w.spot ok.letters k u rest here (ok.sound.once k) debt seek in
-        makes ((n + raise_of (Some u) more) % 2 ^ 64) (left + 1) more rest (w.part.sems.out k t - 1) (put w.spot u (owed k 0)) (put w.owes k (Some u)) (gave p.own k)
+        makes ((n + raise_of (Some u) more) % 2 ^ 64) (left + 1) more rest (w.part.sems.out k t - 1) (put w.spot u (owed k 0)) (put w.owes k (Some u)) (one_permit_less p.own k)
         (record q.own { line = rest; owes = Some u })
         (SemPass t k more) (Sleeper (Some u)) (Passes p q (u ∷ rest) more) refl
         (row_pass w.part size t fit.near k root.0 calm' more u rest some' here (subst (λ z. SaysMore z more) (sym root.1) says)) (omega (arith, found, up, room, bit_few more))
@@ -178,29 +178,29 @@ module _ (size : Numbers) (p : PassView SemPassView) (q : RootView SemRootView) 
         (λ i. ((i, refl), refl))
 
   -- ---- clearing
-  clear_turn : n < 2 ^ 64 → IsCalm p.own → q.own.line ≡ [] → BothTurn (scheme size) (word_at k) (bit_and n (2 ^ 64 - 2)) p q (Clears p q) w ws hs
+  clear_turn : n < 2 ^ 64 → IsCalm p.own → q.own.line ≡ [] → BothTurn (meaning size) (word_at k) (bit_and n (2 ^ 64 - 2)) p q (Clears p q) w ws hs
   clear_turn small calm nobody =
       makes (bit_and n (2 ^ 64 - 2)) left false line (w.part.sems.out k t) w.spot w.owes p.own q.own (SemClear t k) Done (Clears p q) refl
       (row_clear w.part size t fit.near k root.0 (fit.seeks ∙ calm.1) (root.1 ∙ nobody)) (ap (λ z. bit_and z (2 ^ 64 - 2)) found ∙ cleared left parked (subst (λ z. z < 2 ^ 64) found small)) refl
       (subst (λ z. NoticesFit size.threads z w.part.seeks w.owes w.spot) (sym (same_line w.part k)) ok.letters)
       (λ u ne. refl) (λ d ne. refl) refl fit.asleep (out_same size w t k p.own fit) root.1 root.2 (λ i. ((i, refl), refl))
 
-module _ (size : Numbers) (p : PassView SemPassView) (q : RootView SemRootView) where
-  pub parks : IsSeeking p.own q.key → AllowsBoth (scheme size) (word_at q.key) (λ n. n) p q (Parks p q)
+module _ (size : Numbers) (p : PassRight SemPassView) (q : RootRight SemRootView) where
+  pub parks : IsSeeking p.own q.key → AllowsBoth (meaning size) (word_at q.key) (λ n. n) p q (Parks p q)
   parks is w ws hs ok fit root small = parks_turn size p q w ws hs ok fit root is.0 is.1
 
   pub passes : MayGive p.own q.key → q.own.owes ≡ None → (more : Bool) → SaysMore q.own.line more → (x : ℕ) → x ≡ raise_of (first q.own.line) more
-      → AllowsBoth (scheme size) (word_at q.key) (λ n. (n + x) % 2 ^ 64) p q (λ _. Passes p q q.own.line more)
+      → AllowsBoth (meaning size) (word_at q.key) (λ n. (n + x) % 2 ^ 64) p q (λ _. Passes p q q.own.line more)
   passes may free more says x is w ws hs ok fit root small =
-      subst (λ z. BothTurn (scheme size) (word_at q.key) ((get_or ws (word_at q.key) 0 + z) % 2 ^ 64) p q (Passes p q q.own.line more) w ws hs) (sym is)
+      subst (λ z. BothTurn (meaning size) (word_at q.key) ((get_or ws (word_at q.key) 0 + z) % 2 ^ 64) p q (Passes p q q.own.line more) w ws hs) (sym is)
       (pass_turn size p q w ws hs ok fit root may free more says q.own.line refl)
 
-  pub clears : IsCalm p.own → q.own.line ≡ [] → AllowsBoth (scheme size) (word_at q.key) (λ n. bit_and n (2 ^ 64 - 2)) p q (λ _. Clears p q)
+  pub clears : IsCalm p.own → q.own.line ≡ [] → AllowsBoth (meaning size) (word_at q.key) (λ n. bit_and n (2 ^ 64 - 2)) p q (λ _. Clears p q)
   clears calm nobody w ws hs ok fit root small = clear_turn size p q w ws hs ok fit root small calm nobody
 
 -- ---- letters
-module _ (size : Numbers) (q : RootView SemRootView) (u : ℕ) (debt : q.own.owes ≡ Some u) where
-  pub posts : AllowsRoot (scheme size) (letter_at u) (λ _. 1) q (λ _. Pays q u)
+module _ (size : Numbers) (q : RootRight SemRootView) (u : ℕ) (debt : q.own.owes ≡ Some u) where
+  pub posts : AllowsRoot (meaning size) (letter_at u) (λ _. 1) q (λ _. Pays q u)
   posts w ws hs ok root small =
       let k : ℕ = q.key in
       let debt' : w.owes k ≡ Some u = root.2 ∙ debt in
@@ -232,21 +232,21 @@ module _ (size : Numbers) (q : RootView SemRootView) (u : ℕ) (debt : q.own.owe
         told = λ i. (i, refl);
       }
 
-pub collected_none : (p q : PassView SemPassView) (n : ℕ) → n ≡ 0 → Collecting p n q → FoundNone p q
+pub collected_none : (p q : PassRight SemPassView) (n : ℕ) → n ≡ 0 → Collecting p n q → FoundNone p q
 collected_none p q n e h = subst (λ z. CollectedBy p z q) e h.1
 
-pub collected_some : (p q : PassView SemPassView) (n : ℕ) → n ≢ 0 → Collecting p n q → Collected p (n - 1) q
+pub collected_some : (p q : PassRight SemPassView) (n : ℕ) → n ≢ 0 → Collecting p n q → Collected p (n - 1) q
 collected_some p q zero ne h = absurd (ne refl)
 collected_some p q (suc token) ne h = let e : token ≡ suc token - 1 = omega arith in subst (λ z. Collected p z q) e h.1
 
-module _ (size : Numbers) (p : PassView SemPassView) where
+module _ (size : Numbers) (p : PassRight SemPassView) where
   module _ (w : SemWorld) (ws : List ℕ) (hs : List (maybe.Option (Unit {0}))) (ok : Fits size w ws) (fit : PassKnows size w p.thread p.own) where
     abbrev Turn : ℕ → Type 0
-    Turn n = PassTurn (scheme size) (letter_at p.thread) 0 p (Collecting p n) w ws hs
+    Turn n = PassTurn (meaning size) (letter_at p.thread) 0 p (Collecting p n) w ws hs
 
     -- no letter lies
     none_lies : letter_of (w.spot p.thread) ≡ 0 → Turn 0
-    none_lies none_there = pass_stays (scheme size) (letter_at p.thread) 0 w ws hs ok (sym (ok.words.letters p.thread fit.near ∙ none_there)) p fit (Collects p.thread None)
+    none_lies none_there = pass_stays (meaning size) (letter_at p.thread) 0 w ws hs ok (sym (ok.words.letters p.thread fit.near ∙ none_there)) p fit (Collects p.thread None)
         (refl, (none_there, refl)) (Collecting p 0) (λ i. (omega arith, (i, refl)))
 
     one_lies : (k : ℕ) → w.spot p.thread ≡ lying k 0 → Turn 1
@@ -280,5 +280,5 @@ module _ (size : Numbers) (p : PassView SemPassView) where
         let e = (notice_at size.threads w.part.sems.line w.part.seeks w.owes w.spot ok.letters p.thread (lying k x) is).2 in
         subst (λ z. Turn (z + 1)) (sym e) (one_lies k (is ∙ ap (lying k) e))
 
-  pub collects : AllowsPass (scheme size) (letter_at p.thread) (λ _. 0) p (Collecting p)
+  pub collects : AllowsPass (meaning size) (letter_at p.thread) (λ _. 0) p (Collecting p)
   collects w ws hs ok fit small = subst (Turn w ws hs ok fit) (sym (ok.words.letters p.thread fit.near)) (by_spot w ws hs ok fit (w.spot p.thread) refl)

@@ -13,5 +13,5 @@ use Rattle.lot_sems.proofs.Opens.{opening_sound}
 pub run_sound : (size : Numbers) (events : List (Event × Seen)) (part : SemaphorePart) → ModelRun (IsStep size) (opening_part size) events part
     → IsSound size part
 run_sound size events part run = run_keeps (IsStep size) (IsSound size)
-    (λ a b e saw ok step. semaphore_step_sound size.threads size.low (length size.permits) (permits_of size) a b e saw step ok)
+    (λ a b e saw ok step. semaphore_step_sound size.threads size.first_sem (length size.permits) (permits_of size) a b e saw step ok)
     (opening_part size) events part run (opening_sound size)

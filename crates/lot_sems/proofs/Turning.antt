@@ -40,7 +40,7 @@ module _ (size : Numbers) (w : SemWorld) (t k : ℕ) (among : IsAmong size k) (l
     words = word_written (λ n. n) (sizes_of size) (told_in w) (told_in after) ws ok.words k x among
         (is ∙ sym (λ i. word_of (put_same w.part.sems.left k l i) (put_same w.part.sems.parked k b i)))
         (λ d ne. λ i. word_of (put_other w.part.sems.left k l d ne i) (put_other w.part.sems.parked k b d ne i)) same;
-    sound = semaphore_step_sound size.threads size.low (length size.permits) (permits_of size) w.part (turned w.part t k l b xs o s) e saw step ok.sound;
+    sound = semaphore_step_sound size.threads size.first_sem (length size.permits) (permits_of size) w.part (turned w.part t k l b xs o s) e saw step ok.sound;
     letters = letters;
   }
 

@@ -7,7 +7,7 @@ use Rattle.lot_events.specs.declared.events.Event.{Event}
 use Rattle.lot_events.specs.declared.events.Seen.{Seen}
 use Rattle.lot_core.specs.Parts.{SemaphorePart, SemaphoreStep}
 use Rattle.lot_core.specs.Sound.{IsSoundSemaphorePart}
-use Rattle.lot_rights.specs.Rule.{Scheme}
+use Rattle.lot_rights.specs.Rule.{Meaning}
 use Rattle.lot_rights.specs.Settled.{HasOneOutcome, LinesHaveNoLetter}
 use Rattle.lot_rights.specs.World.{letter_of, letters_of}
 use Rattle.lot_sems.specs.declared.views.SemPassView.{SemPassView}
@@ -20,7 +20,7 @@ opening_part size = record { sems = none_taken (permits_of size); seeks = λ t. 
 
 -- a step of the model's semaphore part, in a table of these numbers
 abbrev pub IsStep : Numbers → SemaphorePart → Event → Seen → SemaphorePart → Type 0
-IsStep size a e saw b = SemaphoreStep size.threads size.low (length size.permits) a e saw b
+IsStep size a e saw b = SemaphoreStep size.threads size.first_sem (length size.permits) a e saw b
 
 -- the thread is in a semaphore's line
 abbrev pub IsQueued : SemaphorePart → ℕ → Type 0
@@ -55,8 +55,8 @@ no_root = fresh_root
 abbrev pub names : SemRootView → ℕ → Type 0
 names q u = Contains q.line u ⊎ (q.owes ≡ Some u)
 
-abbrev pub scheme : Numbers → Scheme (Unit {0}) SemPassView SemRootView
-scheme size = record {
+abbrev pub meaning : Numbers → Meaning (Unit {0}) SemPassView SemRootView
+meaning size = record {
   World = SemWorld;
   Part = SemaphorePart;
   Fits = λ w ws hs. Fits size w ws;
@@ -68,14 +68,14 @@ scheme size = record {
   word_in = word_in;
   IsQueued = IsQueued;
   threads = size.threads;
-  first_key = size.low;
+  first_key = size.first_sem;
   keys = length size.permits;
   fresh_pass = λ t. fresh_pass (key_count size);
   fresh_root = λ k. fresh_root;
 }
 
-pub one_outcome : (size : Numbers) → HasOneOutcome (scheme size)
+pub one_outcome : (size : Numbers) → HasOneOutcome (meaning size)
 one_outcome size a b c e s h k = h.2 ∙ sym k.2
 
-pub no_letter_in_line : (size : Numbers) → LinesHaveNoLetter (scheme size)
+pub no_letter_in_line : (size : Numbers) → LinesHaveNoLetter (meaning size)
 no_letter_in_line size w ws hs ok t h = ap letter_of (ok.letters.in_line t h.0 h.1)

@@ -12,25 +12,25 @@ use Rattle.lot_sems.specs.declared.views.SemRootView.{SemRootView}
 -- how many threads there are, the number of the first semaphore, and how many permits each has at the opening
 pub record Numbers : Type 0 where
   pub threads : ℕ
-  pub low : ℕ
+  pub first_sem : ℕ
   pub permits : List ℕ
 
 abbrev pub numbers : Start → Numbers
-numbers start = record { threads = start.threads; low = start.low; permits = start.permits.value.items }
+numbers start = record { threads = start.threads; first_sem = start.first_sem; permits = start.permits.value.items }
 
 abbrev pub key_count : Numbers → ℕ
-key_count size = size.low + length size.permits
+key_count size = size.first_sem + length size.permits
 
 abbrev pub sizes_of : Numbers → Sizes
-sizes_of size = record { threads = size.threads; first = size.low; keys = length size.permits }
+sizes_of size = record { threads = size.threads; first = size.first_sem; keys = length size.permits }
 
 -- k is the number of a semaphore
 abbrev pub IsAmong : Numbers → ℕ → Type 0
-IsAmong size k = IsAmongSemaphores size.low (length size.permits) k
+IsAmong size k = IsAmongSemaphores size.first_sem (length size.permits) k
 
 -- how many permits it has at the opening
 abbrev pub permits_of : Numbers → ℕ → ℕ
-permits_of size = row_from 0 size.low size.permits
+permits_of size = row_from 0 size.first_sem size.permits
 
 -- the part of the model, where each thread's notice is, and of each semaphore the thread to whom its root owes a letter
 pub record SemWorld : Type 0 where

@@ -8,7 +8,7 @@ pub struct Semaphores;
 
 impl Kind for Semaphores {
     ghost use Rattle.lot_sems.specs.World.{numbers};
-    ghost use Rattle.lot_sems.specs.Rule.{scheme, no_pass, no_root, names, one_outcome, no_letter_in_line};
+    ghost use Rattle.lot_sems.specs.Rule.{meaning, no_pass, no_root, names, one_outcome, no_letter_in_line};
 
     type Slot = ();
 
@@ -18,7 +18,7 @@ impl Kind for Semaphores {
 
     type Key = Start;
 
-    ghost scheme = { λ start. scheme (numbers start) };
+    ghost meaning = { λ start. meaning (numbers start) };
 
     ghost no_pass = { no_pass };
 

@@ -13,12 +13,12 @@ ghost use Rattle.lot_rights.specs.Rule.{Ruled};
 ghost use Rattle.lot_sems.specs.declared.views.SemPassView.{SemPassView};
 ghost use Rattle.lot_sems.specs.declared.views.SemRootView.{SemRootView};
 ghost use Rattle.lot_sems.specs.World.{Numbers, permits_of};
-ghost use Rattle.lot_sems.specs.Rule.{opening_part, IsStep, scheme};
+ghost use Rattle.lot_sems.specs.Rule.{opening_part, IsStep, meaning};
 ghost use Rattle.lot_sems.specs.Headline.{Headline};
 
 /// At every moment the headline holds of one world: what keeps the rule keeps all of it.
 pub fn the_rule_is_the_headline()
-    ensures { (size : Numbers) (s : State (Unit {0}) (List (Right SemPassView SemRootView))) → Ruled (scheme size) s → Headline size s }
+    ensures { (size : Numbers) (s : State (Unit {0}) (List (Right SemPassView SemRootView))) → Ruled (meaning size) s → Headline size s }
 {}
 
 /// Every run of the semaphore part from the opening leads to a sound part: permits are conserved, seekers are marked, no permit is left
@@ -30,5 +30,5 @@ pub fn every_run_is_sound()
 
 /// The history begins at the semaphore part of the model's opening state.
 pub fn the_history_begins_at_the_opening()
-    ensures { (threads locks conds : ℕ) (permits : List ℕ) → opening_part (record { threads = threads; low = locks + conds; permits = permits }) ≡ semaphore_part (opening_with threads locks conds permits) }
+    ensures { (threads locks conds : ℕ) (permits : List ℕ) → opening_part (record { threads = threads; first_sem = locks + conds; permits = permits }) ≡ semaphore_part (opening_with threads locks conds permits) }
 {}

@@ -6,7 +6,7 @@ ghost use Rattle.lot_core.specs.Steps.{SaysMore, first as first_of};
 ghost use Rattle.lot_rights.specs.declared.views.Access.TheVariants.{Makes};
 ghost use Rattle.lot_rights.specs.Steps.{Notes};
 ghost use Rattle.lot_sems.specs.World.{IsAmong};
-ghost use Rattle.lot_sems.specs.Calls.{IsCalm, MayGive, Frees, gave, passed_root, raise_of};
+ghost use Rattle.lot_sems.specs.Calls.{IsCalm, MayGive, Frees, one_permit_less, passed_root, raise_of};
 
 use crate::kind::{SemPass, SemRoot};
 use crate::words::{PARKED, PERMIT, SemWords};
@@ -73,7 +73,7 @@ impl SemWords {
         requires first { (first_of root.root.own.line ≡ first) × (root.root.own.owes ≡ None) }
         requires more { SaysMore root.root.own.line more }
         ensures table { (result.0.table ≡ pass.table) × (result.1.table ≡ root.table) }
-        ensures entry { Notes pass.pass (gave pass.pass.own root.root.key) (Makes (Passes pass.pass.thread root.root.key more) (Sleeper first)) result.0.pass }
+        ensures entry { Notes pass.pass (one_permit_less pass.pass.own root.root.key) (Makes (Passes pass.pass.thread root.root.key more) (Sleeper first)) result.0.pass }
         ensures root { result.1.root ≡ record root.root { own = passed_root root.root.own root.root.own.line } }
     {
         let words = &self.words;

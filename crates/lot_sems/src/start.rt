@@ -8,18 +8,18 @@ use std::snapshot::Snapshot;
 #[derive(Drop)]
 pub struct Start {
     pub threads: u64,
-    pub low: u64,
+    pub first_sem: u64,
     pub permits: Snapshot<Vec<u32>>,
 }
 
 impl Start {
-    pub(crate) fn new(threads: usize, low: usize, permits: &Vec<u32>) -> Start
-        ensures size { (result.threads ≡ threads) × (result.low ≡ low) }
+    pub(crate) fn new(threads: usize, first_sem: usize, permits: &Vec<u32>) -> Start
+        ensures size { (result.threads ≡ threads) × (result.first_sem ≡ first_sem) }
         ensures permits { result.permits.value ≡ permits.now }
     {
         Start {
             threads: threads as u64,
-            low: low as u64,
+            first_sem: first_sem as u64,
             permits: Snapshot::of(permits),
         }
     }

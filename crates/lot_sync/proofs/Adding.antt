@@ -6,15 +6,15 @@ use Rattle.lot_locks.specs.declared.released.Released.TheVariants.{Quiet}
 use Rattle.lot_locks.specs.Released.{decision, FreeWord}
 use Rattle.lot_sync.specs.Lot.{PassView, ◌≈◌}
 use Rattle.lot_sync.specs.Words.{Adds, UnparkedWord}
-use Rattle.lot_sync.specs.Passes.{sees}
+use Rattle.lot_sync.specs.Passes.{pass_view_of}
 
 module _ {V : Type 0} where
   -- what callers see of a pass that stands so
-  pub alike_at : (out v : PassView V) (q : LotStanding V) → out ≡ sees q → sees q ≈ v → out ≈ v
+  pub alike_at : (out v : PassView V) (q : LotStanding V) → out ≡ pass_view_of q → pass_view_of q ≈ v → out ≈ v
   alike_at out v q is alike = subst (λ (o : PassView V). o ≈ v) (sym is) alike
 
   -- of a call that began with a pass that stood like p, and ended with one that stands like q
-  pub adds_at : (word : ℕ → List Access → Type 0) (before after : PassView V) (p q : LotStanding V) (did : List Access) → before ≡ sees p → after ≡ sees q
+  pub adds_at : (word : ℕ → List Access → Type 0) (before after : PassView V) (p q : LotStanding V) (did : List Access) → before ≡ pass_view_of p → after ≡ pass_view_of q
       → q.did ≡ p.did ++ did → word p.thread did → Adds before.made (word before.thread) after.made
   adds_at word before after p q did was is more told = (
     did,

@@ -10,11 +10,11 @@ use Rattle.lot_words.specs.declared.views.Place.TheVariants.{InSlot}
 use Rattle.lot_words.specs.CallersRule.{CallersRule}
 use Rattle.lot_words.specs.World.{Holds}
 use Rattle.lot_words.specs.Values.{IsIn, IsOut, HasSeen}
-use Rattle.lot_words.specs.Calls.{gripped}
+use Rattle.lot_words.specs.Calls.{owning as lock_owning}
 use Rattle.lot_whole.specs.Family.{lock, cond, sem}
 use Rattle.lot_whole.specs.Standing.{IsUp}
 use Rattle.lot_rights.specs.declared.views.Access.TheVariants.{Finds}
-use Rattle.lot_scheme.specs.Standing.{LotStanding, adding, letting_go, enlisted, roused, called, getting, giving}
+use Rattle.lot_scheme.specs.Standing.{LotStanding, adding, letting_go, enlisted, one_wait_more as stand_one_wait_more, called_more as stand_called_more, one_permit_more as stand_one_permit_more, one_permit_less as stand_one_permit_less}
 use Rattle.lot_scheme.specs.Words.{word_of_all, word_of_nobody, TookWord, BusyWord}
 use Rattle.lot_locks.specs.declared.released.Released.{Released}
 use Rattle.lot_waits.specs.Waiting.{HasWaited, waited}
@@ -23,10 +23,10 @@ use Rattle.lot_waits.proofs.Taken.{none_called}
 use Rattle.lot_permits.specs.declared.permit.Tried.{Tried}
 use Rattle.lot_permits.specs.declared.permit.Tried.TheVariants.{Got, Empty, Busy}
 use Rattle.lot_permits.specs.Tries.{TriesToGet as Tries}
-use Rattle.lot_sync.specs.Lot.{PassView, HeldView, ◌≈◌, LotNames, Owns, owning, leaving, waking, calling, one_more, one_less}
+use Rattle.lot_sync.specs.Lot.{PassView, HeldView, ◌≈◌, LotNames, Owns, owning, letting_go as view_letting_go, one_wait_more as view_one_wait_more, called_more as view_called_more, one_permit_more as view_one_permit_more, one_permit_less as view_one_permit_less}
 use Rattle.lot_sync.specs.Permits.{TriesToGet}
 use Rattle.lot_sync.specs.Words.{Adds, NobodyWord, NotifyWord, NotifyAllWord, TryPermitWord}
-use Rattle.lot_sync.specs.Passes.{is_held, sees, IsOfLot, IsAtRest, IsNewOwner}
+use Rattle.lot_sync.specs.Passes.{is_held, pass_view_of, IsOfLot, IsAtRest, IsNewOwner}
 use Rattle.lot_sync.specs.Values.{Gets}
 use Rattle.lot_sync.proofs.Adding.{alike_at, adds_at}
 use Rattle.lot_sync.proofs.Rests.{sees_as, sees_stays, one_lies, left_at_rest, owns_so, owns_after, rests_on}
@@ -37,13 +37,13 @@ module _ {V : Type 0} where
   pub record TookMore (word : ℕ → List Access → Type 0) (p : LotStanding V) (c n : ℕ) (q : LotStanding V) : Type 0 where
     pub did : List Access
     pub told : word p.thread did
-    pub is : q ≡ adding (called p c n) did
+    pub is : q ≡ adding (stand_called_more p c n) did
 
   nobody_more : (p q : LotStanding V) (c n : ℕ) → FindsNobody p c n q → TookMore (λ t. NobodyWord t c n) p c n q
   nobody_more p q c n (none, is) = record {
     did = word_of_nobody p.thread c;
     told = (none, refl);
-    is = is ∙ ap (λ (r : LotStanding V). adding r (word_of_nobody p.thread c)) (sym (none_called p c)) ∙ ap (λ k. adding (called p c k) (word_of_nobody p.thread c)) (sym none);
+    is = is ∙ ap (λ (r : LotStanding V). adding r (word_of_nobody p.thread c)) (sym (none_called p c)) ∙ ap (λ k. adding (stand_called_more p c k) (word_of_nobody p.thread c)) (sym none);
   }
 
   pub took_some : (p q : LotStanding V) (c n taken : ℕ) → Notifies p c n taken q → TookMore (λ t. NotifyWord t c n taken) p c taken q
@@ -54,55 +54,55 @@ module _ {V : Type 0} where
   took_all p q c taken (inl nobody) = let none = nobody_more p q c taken nobody in record { did = none.did; told = inl none.told; is = none.is }
   took_all p q c taken (inr is) = record { did = word_of_all p.thread c taken; told = inr refl; is = is }
 
-  pub sees_called : (word : ℕ → List Access → Type 0) (p q : LotStanding V) (c n : ℕ) → TookMore word p c n q → sees q ≈ calling (sees p) c n
-  sees_called word p q c n took = sees_as p q (called p c n).own took.did (map is_held p.own.locks.holds) took.is refl
+  pub sees_called : (word : ℕ → List Access → Type 0) (p q : LotStanding V) (c n : ℕ) → TookMore word p c n q → pass_view_of q ≈ view_called_more (pass_view_of p) c n
+  sees_called word p q c n took = sees_as p q (stand_called_more p c n).own took.did (map is_held p.own.locks.holds) took.is refl
 
   -- what the callers of a notification see: how the pass stands, and the word
-  pub sees_more : (word : ℕ → List Access → Type 0) (p q : LotStanding V) (out before : PassView V) (c n : ℕ) → before ≡ sees p → out ≡ sees q → TookMore word p c n q
-      → (out ≈ calling before c n) × Adds before.made (word before.thread) out.made
+  pub sees_more : (word : ℕ → List Access → Type 0) (p q : LotStanding V) (out before : PassView V) (c n : ℕ) → before ≡ pass_view_of p → out ≡ pass_view_of q → TookMore word p c n q
+      → (out ≈ view_called_more before c n) × Adds before.made (word before.thread) out.made
   sees_more word p q out before c n was is took = (
-    subst (λ (v : PassView V). out ≈ calling v c n) (sym was) (alike_at out (calling (sees p) c n) q is (sees_called word p q c n took)),
+    subst (λ (v : PassView V). out ≈ view_called_more v c n) (sym was) (alike_at out (view_called_more (pass_view_of p) c n) q is (sees_called word p q c n took)),
     adds_at word before out p q took.did was is (ap (λ (r : LotStanding V). r.did) took.is) took.told,
   )
 
-  pub sees_called_one : (word : ℕ → List Access → Type 0) (p q : LotStanding V) (out before : PassView V) (c : ℕ) (one : Bool) → before ≡ sees p → out ≡ sees q
-      → TookMore word p c (one_if one) q → MatchBool one (out ≈ calling before c 1) (out ≈ before)
+  pub sees_called_one : (word : ℕ → List Access → Type 0) (p q : LotStanding V) (out before : PassView V) (c : ℕ) (one : Bool) → before ≡ pass_view_of p → out ≡ pass_view_of q
+      → TookMore word p c (one_if one) q → MatchBool one (out ≈ view_called_more before c 1) (out ≈ before)
   sees_called_one word p q out before c true was is took = (sees_more word p q out before c 1 was is took).0
-  sees_called_one word p q out before c false was is took = subst (λ (v : PassView V). out ≈ v) (sym was) (alike_at out (sees p) q is
+  sees_called_one word p q out before c false was is took = subst (λ (v : PassView V). out ≈ v) (sym was) (alike_at out (pass_view_of p) q is
       (sees_stays p q took.did (took.is ∙ ap (λ (r : LotStanding V). adding r took.did) (none_called p c))))
 
   -- a permit more
-  pub sees_permit : (p q : LotStanding V) (k : ℕ) (did : List Access) → q ≡ adding (getting p k) did → sees q ≈ one_more (sees p) k
-  sees_permit p q k did is = sees_as p q (getting p k).own did (map is_held p.own.locks.holds) is refl
+  pub sees_permit : (p q : LotStanding V) (k : ℕ) (did : List Access) → q ≡ adding (stand_one_permit_more p k) did → pass_view_of q ≈ view_one_permit_more (pass_view_of p) k
+  sees_permit p q k did is = sees_as p q (stand_one_permit_more p k).own did (map is_held p.own.locks.holds) is refl
 
   -- a permit less
-  pub sees_given : (p q : LotStanding V) (k : ℕ) (did : List Access) → q ≡ adding (giving p k) did → sees q ≈ one_less (sees p) k
-  sees_given p q k did is = sees_as p q (giving p k).own did (map is_held p.own.locks.holds) is refl
+  pub sees_given : (p q : LotStanding V) (k : ℕ) (did : List Access) → q ≡ adding (stand_one_permit_less p k) did → pass_view_of q ≈ view_one_permit_less (pass_view_of p) k
+  sees_given p q k did is = sees_as p q (stand_one_permit_less p k).own did (map is_held p.own.locks.holds) is refl
 
   -- what came of a try to get one
-  pub sees_tried : {A : Type 0} (p q : LotStanding V) (out before : PassView V) (k : ℕ) (tried : Tried V A) → before ≡ sees p → out ≡ sees q → Tries p k tried q
+  pub sees_tried : {A : Type 0} (p q : LotStanding V) (out before : PassView V) (k : ℕ) (tried : Tried V A) → before ≡ pass_view_of p → out ≡ pass_view_of q → Tries p k tried q
       → TriesToGet before k tried out × Adds before.made (TryPermitWord before.thread k tried) out.made
   sees_tried p q out before k (Got permit) was is (key, thread, (did, word, now)) = (
     (
       key,
       thread ∙ ap (λ (v : PassView V). v.thread) (sym was),
-      subst (λ (v : PassView V). out ≈ one_more v k) (sym was) (alike_at out (one_more (sees p) k) q is (sees_permit p q k did now)),
+      subst (λ (v : PassView V). out ≈ view_one_permit_more v k) (sym was) (alike_at out (view_one_permit_more (pass_view_of p) k) q is (sees_permit p q k did now)),
     ),
     adds_at (λ t. TookWord t k) before out p q did was is (ap (λ (r : LotStanding V). r.did) now) word,
   )
   sees_tried p q out before k Empty was is (word, low, now) = (
-    subst (λ (v : PassView V). out ≈ v) (sym was) (alike_at out (sees p) q is (sees_stays p q (Finds p.thread k word ∷ []) now)),
+    subst (λ (v : PassView V). out ≈ v) (sym was) (alike_at out (pass_view_of p) q is (sees_stays p q (Finds p.thread k word ∷ []) now)),
     adds_at (λ t acts. (w : ℕ) × (w < 2) × (acts ≡ Finds t k w ∷ [])) before out p q (Finds p.thread k word ∷ []) was is
         (ap (λ (r : LotStanding V). r.did) now) (word, low, refl),
   )
   sees_tried p q out before k Busy was is (did, word, now) = (
-    subst (λ (v : PassView V). out ≈ v) (sym was) (alike_at out (sees p) q is (sees_stays p q did now)),
+    subst (λ (v : PassView V). out ≈ v) (sym was) (alike_at out (pass_view_of p) q is (sees_stays p q did now)),
     adds_at (λ t. BusyWord t k) before out p q did was is (ap (λ (r : LotStanding V). r.did) now) word,
   )
 
 module _ {V : Type 0} (grows : V → V → Type 0) (names : LotNames V) where
   pub rests_called : (word : ℕ → List Access → Type 0) (p q : LotStanding V) (c n : ℕ) → TookMore word p c n q → IsAtRest grows names p → IsAtRest grows names q
-  rests_called word p q c n took rest = rests_on grows names (called p c n) q took.did took.is (record {
+  rests_called word p q c n took rest = rests_on grows names (stand_called_more p c n) q took.did took.is (record {
     of_lot = record {
       is_thread = rest.of_lot.is_thread;
       holds_long = rest.of_lot.holds_long;
@@ -117,7 +117,7 @@ module _ {V : Type 0} (grows : V → V → Type 0) (names : LotNames V) where
     out = rest.out;
   })
     where
-      up_still : IsUp p.own → IsUp (called p c n).own
+      up_still : IsUp p.own → IsUp (stand_called_more p c n).own
       up_still up lock = up lock
       up_still up cond = up cond
       up_still up sem = up sem
@@ -126,7 +126,7 @@ module _ {V : Type 0} (grows : V → V → Type 0) (names : LotNames V) where
 module _ {V Part : Type 0} (rule : CallersRule V Part) (names : LotNames V) where
   -- the pass, when its thread was woken and wants its lock again
   abbrev woken_at : LotStanding V → ℕ → ℕ → V → LotStanding V
-  woken_at p c l y = roused (letting_go (enlisted p c l) l y) c
+  woken_at p c l y = stand_one_wait_more (letting_go (enlisted p c l) l y) c
 
   -- whoever waited owns the lock again
   pub owns_waited : (p q : LotStanding V) (c l : ℕ) (value : V) (became : Released) → l < names.locks → IsNewOwner rule.grows names p l → IsIn p.own.locks l value
@@ -154,23 +154,23 @@ module _ {V Part : Type 0} (rule : CallersRule V Part) (names : LotNames V) wher
 
   -- what the callers of a wait see
   sees_waited : (p q : LotStanding V) (c l : ℕ) (became : Released) (w : HasWaited rule p c l became q)
-      → sees q ≈ owning (waking (leaving (sees p) l w.left) c) l w.found
+      → pass_view_of q ≈ owning (view_one_wait_more (view_letting_go (pass_view_of p) l w.left) c) l w.found
   sees_waited p q c l became w = sees_as p q (waited p c l w.left w.found).own w.did (set (set (map is_held p.own.locks.holds) l false) l true) w.is
       (map-set is_held (set p.own.locks.holds l NotHeld) l Held ∙ ap (λ owns. set owns l true) (map-set is_held p.own.locks.holds l NotHeld))
 
   pub gets_waited : (p q : LotStanding V) (held : HeldView V) (c l : ℕ) (value : V) (became : Released) → l < names.locks → IsNewOwner rule.grows names p l → IsIn p.own.locks l value
-      → HasWaited rule p c l became q → held.key ≡ l → IsIn q.own.locks l held.value → (after : PassView V) → after ≡ sees q
-      → Gets rule (waking (leaving (sees p) l value) c) l held after
+      → HasWaited rule p c l became q → held.key ≡ l → IsIn q.own.locks l held.value → (after : PassView V) → after ≡ pass_view_of q
+      → Gets rule (view_one_wait_more (view_letting_go (pass_view_of p) l value) c) l held after
   gets_waited p q held c l value became near own lies w key_is found_in after after_is =
       let left : w.left ≡ value = one_lies p.own.locks.places l w.left value w.lay lies in
       let there : get_elem? (set p.own.locks.places l (InSlot w.found)) l ≡ some (InSlot w.found) =
       set_here p.own.locks.places l (InSlot w.found) (let n = own.of_lot.places_long in omega (arith, n)) in
       let same : w.found ≡ held.value = one_lies (set p.own.locks.places l (InSlot w.found)) l w.found held.value there
       (subst (λ (r : LotStanding V). IsIn r.own.locks l held.value) w.is found_in) in
-      let sees_it : after ≈ owning (waking (leaving (sees p) l value) c) l held.value =
-      alike_at after (owning (waking (leaving (sees p) l value) c) l held.value) q after_is
-      (subst (λ v. sees q ≈ owning (waking (leaving (sees p) l value) c) l v) same
-      (subst (λ v. sees q ≈ owning (waking (leaving (sees p) l v) c) l w.found) left (sees_waited p q c l became w))) in
+      let sees_it : after ≈ owning (view_one_wait_more (view_letting_go (pass_view_of p) l value) c) l held.value =
+      alike_at after (owning (view_one_wait_more (view_letting_go (pass_view_of p) l value) c) l held.value) q after_is
+      (subst (λ v. pass_view_of q ≈ owning (view_one_wait_more (view_letting_go (pass_view_of p) l value) c) l v) same
+      (subst (λ v. pass_view_of q ≈ owning (view_one_wait_more (view_letting_go (pass_view_of p) l v) c) l w.found) left (sees_waited p q c l became w))) in
       let seen_long : length (set p.own.locks.seen l value) ≡ names.locks = length-set p.own.locks.seen l value ∙ own.of_lot.seen_long in
       let owns_long : length (set (map is_held p.own.locks.holds) l false) ≡ names.locks =
       length-set (map is_held p.own.locks.holds) l false ∙ (length-map p.own.locks.holds is_held ∙ own.of_lot.holds_long) in

@@ -7,7 +7,7 @@ use mathlib.Core.Option.{some, some-injective}
 use lib.ListN.{get_elem?}
 use native.Mathlib.Decide.{ℕ_discrete}
 use Rattle.lot_words.specs.CallersRule.{CallersRule}
-use Rattle.lot_sync.specs.Lot.{LotView, PassView, HeldView, ◌≈◌, IsWide, Owns, OwnsNone, HasSeen, owning, leaving, permits_with}
+use Rattle.lot_sync.specs.Lot.{LotView, PassView, HeldView, ◌≈◌, HasShape, Owns, OwnsNone, HasSeen, owning, letting_go, permits_with}
 use Rattle.lot_sync.specs.Values.{Gets, MayGiveBack}
 use Rattle.lot_sync.specs.Holding.{Holding, HoldingBoth}
 
@@ -87,9 +87,9 @@ unowned (b ∷ bs) (suc k) zero none e = none zero e
 unowned (b ∷ bs) (suc k) (suc j) none e = unowned bs k j (λ i h. none (suc i) h) e
 
 -- whoever owned nothing, got a lock and let it go again owns nothing
-pub owns_none_again : {V : Type 0} (p q r : PassView V) (k l : ℕ) (x y : V) → OwnsNone p → q ≈ owning p k x → r ≈ leaving q l y → l ≡ k → OwnsNone r
+pub owns_none_again : {V : Type 0} (p q r : PassView V) (k l : ℕ) (x y : V) → OwnsNone p → q ≈ owning p k x → r ≈ letting_go q l y → l ≡ k → OwnsNone r
 owns_none_again p q r k l x y none e f same =
-    let left : r ≈ leaving q k y = subst (λ j. r ≈ leaving q j y) same f in
+    let left : r ≈ letting_go q k y = subst (λ j. r ≈ letting_go q j y) same f in
     record {
       no_lock = λ j h. unowned p.owns k j none.no_lock
           (subst (λ (z : PassView _). get_or (set z.owns k false) j false ≡ true) e (subst (λ (z : PassView _). get_or z.owns j false ≡ true) left h));
@@ -97,19 +97,19 @@ owns_none_again p q r k l x y none e f same =
     }
 
 -- what was left is what the pass has seen
-pub seen_left : {V : Type 0} (p q : PassView V) (k l : ℕ) (y u : V) → q ≈ leaving p l y → l ≡ k → HasSeen q k u → y ≡ u
+pub seen_left : {V : Type 0} (p q : PassView V) (k l : ℕ) (y u : V) → q ≈ letting_go p l y → l ≡ k → HasSeen q k u → y ≡ u
 seen_left p q k l y u e same at = ⊎_elim (λ here. here.1) (λ else. absurd (else.0 refl))
-    (at_set p.seen k k y u (subst (λ (z : PassView _). HasSeen z k u) (subst (λ j. q ≈ leaving p j y) same e) at))
+    (at_set p.seen k k y u (subst (λ (z : PassView _). HasSeen z k u) (subst (λ j. q ≈ letting_go p j y) same e) at))
 
 -- the pass that let a lock of the lot go has seen the value that it left
-pub sees_left : {V : Type 0} (lot : LotView) (p q : PassView V) (k : ℕ) (y : V) → k < lot.locks → IsWide lot q → q ≈ leaving p k y → HasSeen q k y
-sees_left lot p q k y is_lock wide e =
+pub sees_left : {V : Type 0} (lot : LotView) (p q : PassView V) (k : ℕ) (y : V) → k < lot.locks → HasShape lot q → q ≈ letting_go p k y → HasSeen q k y
+sees_left lot p q k y is_lock shape e =
     let seen : q.seen ≡ set p.seen k y = ap (λ (z : PassView _). z.seen) e in
-    ap (λ (xs : List _). get_elem? xs k) seen ∙ set_here p.seen k y (subst (λ n. k < n) (sym wide.seen ∙ (ap length seen ∙ length-set p.seen k y)) is_lock)
+    ap (λ (xs : List _). get_elem? xs k) seen ∙ set_here p.seen k y (subst (λ n. k < n) (sym shape.seen ∙ (ap length seen ∙ length-set p.seen k y)) is_lock)
 
 -- the first of two locks is let go, and the second is still held
 pub left_second : {V : Type 0} (grows : V → V → Type 0) (before after : PassView V) (first second : HeldView V) → HoldingBoth grows before first second
-    → after ≈ leaving before first.key first.value → Holding grows after second
+    → after ≈ letting_go before first.key first.value → Holding grows after second
 left_second grows before after first second both left = record {
   owns = subst (λ (p : PassView _). Owns p second.key) (sym left) (get_or-set_other before.owns first.key second.key false false both.two ∙ both.owns_second);
   alone = λ k other owned. dite (ℕ_discrete k first.key)
@@ -123,7 +123,7 @@ left_second grows before after first second both left = record {
 }
 
 -- whoever let go the one lock that it owned owns nothing
-pub left_all : {V : Type 0} (grows : V → V → Type 0) (pass : PassView V) (held : HeldView V) → Holding grows pass held → OwnsNone (leaving pass held.key held.value)
+pub left_all : {V : Type 0} (grows : V → V → Type 0) (pass : PassView V) (held : HeldView V) → Holding grows pass held → OwnsNone (letting_go pass held.key held.value)
 left_all grows pass held holding = record {
   no_lock = λ k owned. dite (ℕ_discrete k held.key)
       (λ e. not_both (get_or (set pass.owns held.key false) k false) owned (ap (λ j. get_or (set pass.owns held.key false) j false) e ∙ let_go_of pass.owns held.key))

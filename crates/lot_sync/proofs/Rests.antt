@@ -17,18 +17,18 @@ use Rattle.lot_words.specs.declared.views.Place.TheVariants.{InSlot, Out}
 use Rattle.lot_words.specs.CallersRule.{CallersRule}
 use Rattle.lot_words.specs.World.{IsHeld, Holds}
 use Rattle.lot_words.specs.Values.{IsOut, IsIn, FoundOk, HasSeen, MayLeave}
-use Rattle.lot_words.specs.Calls.{gripped, let_go, found_parked}
+use Rattle.lot_words.specs.Calls.{owning as lock_owning, letting_go as lock_letting_go, finding_parked as lock_finding_parked}
 use Rattle.lot_whole.specs.declared.views.LotPassView.{LotPassView}
 use Rattle.lot_whole.specs.declared.views.Stand.TheVariants.{Idle}
 use Rattle.lot_whole.specs.Standing.{IsIdle, IsUp}
 use Rattle.lot_whole.specs.Whole.{rises}
-use Rattle.lot_scheme.specs.Standing.{LotStanding, adding, putting, letting_go, finding_parked, owning as owning_now}
+use Rattle.lot_scheme.specs.Standing.{LotStanding, adding, placing, letting_go, finding_parked, owning as owning_now}
 use Rattle.lot_locks.specs.declared.released.Released.{Released}
 use Rattle.lot_locks.specs.Standing.{GetsBy, GoesBy, IsOwner, LetsGo, IsFoundParked, MissesBy}
 use Rattle.lot_locks.proofs.Adding.{up_then}
 use Rattle.lot_locks.proofs.Freed.{held_near}
-use Rattle.lot_sync.specs.Lot.{PassView, HeldView, ◌≈◌, LotNames, Owns, owning, leaving}
-use Rattle.lot_sync.specs.Passes.{is_held, sees, IsOfLot, IsAtRest, IsNewOwner}
+use Rattle.lot_sync.specs.Lot.{PassView, HeldView, ◌≈◌, LotNames, Owns, owning, letting_go as view_letting_go}
+use Rattle.lot_sync.specs.Passes.{is_held, pass_view_of, IsOfLot, IsAtRest, IsNewOwner}
 use Rattle.lot_sync.specs.Values.{Gets, MayGiveBack}
 use Rattle.lot_sync.proofs.Adding.{alike_at}
 
@@ -79,7 +79,7 @@ module _ {V : Type 0} where
   -- ---- what callers see of a pass, but for the accesses that were made with it
   pub sees_as : (p q : LotStanding V) (own : LotPassView V) (did : List Access) (owns : List Bool) → q ≡ adding (record p { own = own }) did
       → map is_held own.locks.holds ≡ owns
-      → sees q ≈ record {
+      → pass_view_of q ≈ record {
         thread = p.thread;
         owns = owns;
         seen = own.locks.seen;
@@ -89,7 +89,7 @@ module _ {V : Type 0} where
         made = q.did;
       }
   sees_as p q own did owns is held = subst
-      (λ (r : LotStanding V). sees r ≡ record {
+      (λ (r : LotStanding V). pass_view_of r ≡ record {
         thread = p.thread;
         owns = owns;
         seen = own.locks.seen;
@@ -108,28 +108,28 @@ module _ {V : Type 0} where
       })
 
   -- accesses alone change nothing else
-  pub sees_stays : (p q : LotStanding V) (did : List Access) → q ≡ adding p did → sees q ≈ sees p
+  pub sees_stays : (p q : LotStanding V) (did : List Access) → q ≡ adding p did → pass_view_of q ≈ pass_view_of p
   sees_stays p q did is = sees_as p q p.own did (map is_held p.own.locks.holds) is refl
 
   -- a lock was got
-  pub sees_owner : (p q : LotStanding V) (l : ℕ) (x : V) (did : List Access) → q ≡ adding (owning_now p l x) did → sees q ≈ owning (sees p) l x
+  pub sees_owner : (p q : LotStanding V) (l : ℕ) (x : V) (did : List Access) → q ≡ adding (owning_now p l x) did → pass_view_of q ≈ owning (pass_view_of p) l x
   sees_owner p q l x did is = sees_as p q (owning_now p l x).own did (set (map is_held p.own.locks.holds) l true) is (map-set is_held p.own.locks.holds l Held)
 
   -- a lock was let go, and what was left there
-  pub leaves_all : (word : List Access → Type 0) (p q : LotStanding V) (l : ℕ) (value : V) → IsIn p.own.locks l value → GoesBy word p l q → sees q ≈ leaving (sees p) l value
+  pub leaves_all : (word : List Access → Type 0) (p q : LotStanding V) (l : ℕ) (value : V) → IsIn p.own.locks l value → GoesBy word p l q → pass_view_of q ≈ view_letting_go (pass_view_of p) l value
   leaves_all word p q l value lies went =
       let same : went.value ≡ value = one_lies p.own.locks.places l went.value value went.lay lies in
       sees_as p q (letting_go p l value).own went.did (set (map is_held p.own.locks.holds) l false)
       (subst (λ v. q ≡ adding (letting_go p l v) went.did) same went.is) (map-set is_held p.own.locks.holds l NotHeld)
 
   -- found parked, and its value taken out again: the callers see no change
-  pub stays_all : (p m q : LotStanding V) (l : ℕ) → Holds p.own.locks l → IsFoundParked p l m → q ≡ putting m l Out → sees q ≈ sees p
-  stays_all p m q l holds found moved = sees_as p q (putting (finding_parked p l) l Out).own (Makes (Free p.thread l) (Saw false) ∷ [])
-      (map is_held p.own.locks.holds) (moved ∙ ap (λ (s : LotStanding V). putting s l Out) found) (owned_parked p.own.locks.holds l holds)
+  pub stays_all : (p m q : LotStanding V) (l : ℕ) → Holds p.own.locks l → IsFoundParked p l m → q ≡ placing m l Out → pass_view_of q ≈ pass_view_of p
+  stays_all p m q l holds found moved = sees_as p q (placing (finding_parked p l) l Out).own (Makes (Free p.thread l) (Saw false) ∷ [])
+      (map is_held p.own.locks.holds) (moved ∙ ap (λ (s : LotStanding V). placing s l Out) found) (owned_parked p.own.locks.holds l holds)
 
 module _ {V : Type 0} (grows : V → V → Type 0) (names : LotNames V) where
   -- an owned lock is one of the lot
-  pub owned_within : (r : LotStanding V) (l : ℕ) → IsAtRest grows names r → Owns (sees r) l → l < names.locks
+  pub owned_within : (r : LotStanding V) (l : ℕ) → IsAtRest grows names r → Owns (pass_view_of r) l → l < names.locks
   owned_within r l rest owns = subst (λ n. l < n) rest.of_lot.holds_long (held_near r.own.locks.holds l (owned_held r.own.locks.holds l owns))
 
   -- the accesses that were made are no matter
@@ -158,7 +158,7 @@ module _ {V : Type 0} (grows : V → V → Type 0) (names : LotNames V) where
   out_but holds places l place out k else is = set_else places l k place else ∙ out k else is
 
   -- the new owner took the value out
-  pub rests_again : (p q : LotStanding V) (l : ℕ) → l < names.locks → IsNewOwner grows names p l → q ≡ putting p l Out → IsAtRest grows names q
+  pub rests_again : (p q : LotStanding V) (l : ℕ) → l < names.locks → IsNewOwner grows names p l → q ≡ placing p l Out → IsAtRest grows names q
   rests_again p q l near own moved = subst (IsAtRest grows names) (sym moved) (record {
     of_lot = record {
       is_thread = own.of_lot.is_thread;
@@ -176,8 +176,8 @@ module _ {V : Type 0} (grows : V → V → Type 0) (names : LotNames V) where
         (λ else. out_but p.own.locks.holds p.own.locks.places l Out own.out k else holds);
   })
     where
-      placed_idle : IsIdle p.own → IsIdle (putting p l Out).own
-      placed_idle idle = (record { up = up_then p.own (putting p l Out).own.locks p.own.stand refl idle.0.up; aim = idle.0.aim; sweeps = idle.0.sweeps; seeks = idle.0.seeks }, idle.1)
+      placed_idle : IsIdle p.own → IsIdle (placing p l Out).own
+      placed_idle idle = (record { up = up_then p.own (placing p l Out).own.locks p.own.stand refl idle.0.up; aim = idle.0.aim; sweeps = idle.0.sweeps; seeks = idle.0.seeks }, idle.1)
 
   -- a lock that was let go, and what was left there
   pub left_at_rest : ((x y z : V) → grows x y → grows y z → grows x z) → (p : LotStanding V) (l : ℕ) (value : V) → l < names.locks
@@ -229,7 +229,7 @@ module _ {V : Type 0} (grows : V → V → Type 0) (names : LotNames V) where
       rests_on (letting_go p l value) q went.did (subst (λ v. q ≡ adding (letting_go p l v) went.did) same went.is) (left_at_rest through p l value near own grown)
 
   -- the value was put back into the slot
-  pub owns_again : (p q : LotStanding V) (l : ℕ) (value : V) → l < names.locks → IsAtRest grows names p → Owns (sees p) l → q ≡ putting p l (InSlot value)
+  pub owns_again : (p q : LotStanding V) (l : ℕ) (value : V) → l < names.locks → IsAtRest grows names p → Owns (pass_view_of p) l → q ≡ placing p l (InSlot value)
       → IsNewOwner grows names q l
   owns_again p q l value near rest owns moved = subst (λ (r : LotStanding V). IsNewOwner grows names r l) (sym moved) (record {
     of_lot = record {
@@ -244,7 +244,7 @@ module _ {V : Type 0} (grows : V → V → Type 0) (names : LotNames V) where
     };
     idle = (
       record {
-        up = up_then p.own (putting p l (InSlot value)).own.locks p.own.stand refl rest.idle.0.up;
+        up = up_then p.own (placing p l (InSlot value)).own.locks p.own.stand refl rest.idle.0.up;
         aim = rest.idle.0.aim;
         sweeps = rest.idle.0.sweeps;
         seeks = rest.idle.0.seeks;
@@ -258,7 +258,7 @@ module _ {V : Type 0} (grows : V → V → Type 0) (names : LotNames V) where
   })
 
   -- the lock was found parked, and the value was taken out again
-  pub rests_parked : (p m q : LotStanding V) (l : ℕ) → l < names.locks → IsNewOwner grows names p l → IsFoundParked p l m → q ≡ putting m l Out → IsAtRest grows names q
+  pub rests_parked : (p m q : LotStanding V) (l : ℕ) → l < names.locks → IsNewOwner grows names p l → IsFoundParked p l m → q ≡ placing m l Out → IsAtRest grows names q
   rests_parked p m q l near own found moved = rests_again m q l near (subst (λ (r : LotStanding V). IsNewOwner grows names r l) (sym found) (record {
     of_lot = record {
       is_thread = own.of_lot.is_thread;
@@ -300,7 +300,7 @@ module _ {V Part : Type 0} (rule : CallersRule V Part) (names : LotNames V) wher
       permits_long = lot.permits_long;
       grown = grown_at;
     };
-    idle = (record { up = up_then p.own (gripped p.own.locks l x) Idle refl up; aim = refl; sweeps = sweeps; seeks = seeks }, refl);
+    idle = (record { up = up_then p.own (lock_owning p.own.locks l x) Idle refl up; aim = refl; sweeps = sweeps; seeks = seeks }, refl);
     holds = held_here p.own.locks.holds l Held tt (let w = lot.holds_long in omega (arith, w));
     value = x;
     lies = set_here p.own.locks.places l (InSlot x) (let w = lot.places_long in omega (arith, w));
@@ -345,14 +345,14 @@ module _ {V Part : Type 0} (rule : CallersRule V Part) (names : LotNames V) wher
 
   -- what the callers of lock see
   pub gets_all : (word : List Access → Type 0) (p q : LotStanding V) (held : HeldView V) (l : ℕ) → l < names.locks → IsAtRest rule.grows names p → GetsBy rule word p l q
-      → held.key ≡ l → IsIn q.own.locks l held.value → (after : PassView V) → after ≡ sees q → Gets rule (sees p) l held after
+      → held.key ≡ l → IsIn q.own.locks l held.value → (after : PassView V) → after ≡ pass_view_of q → Gets rule (pass_view_of p) l held after
   gets_all word p q held l near rest got key_is lies after after_is =
       let seen_there : get_elem? (set p.own.locks.places l (InSlot got.value)) l ≡ some (InSlot got.value) =
       set_here p.own.locks.places l (InSlot got.value) (let w = rest.of_lot.places_long in omega (arith, w)) in
       let same : got.value ≡ held.value = one_lies (set p.own.locks.places l (InSlot got.value)) l got.value held.value seen_there
       (subst (λ (r : LotStanding V). IsIn r.own.locks l held.value) got.is lies) in
-      let sees_it : after ≈ owning (sees p) l held.value =
-      alike_at after (owning (sees p) l held.value) q after_is (subst (λ v. sees q ≈ owning (sees p) l v) same (sees_owner p q l got.value got.did got.is)) in
+      let sees_it : after ≈ owning (pass_view_of p) l held.value =
+      alike_at after (owning (pass_view_of p) l held.value) q after_is (subst (λ v. pass_view_of q ≈ owning (pass_view_of p) l v) same (sees_owner p q l got.value got.did got.is)) in
       record {
         key_is = key_is;
         kept = subst (rule.keeps l) same got.found.kept;
@@ -370,7 +370,7 @@ module _ {V Part : Type 0} (rule : CallersRule V Part) (names : LotNames V) wher
       long (h ∷ hs) = ap suc (long hs)
 
   -- the value that is given back may be left there
-  pub may_leave : (p : LotStanding V) (held : HeldView V) (l : ℕ) → held.key ≡ l → l < names.locks → IsAtRest rule.grows names p → MayGiveBack rule (sees p) held
+  pub may_leave : (p : LotStanding V) (held : HeldView V) (l : ℕ) → held.key ≡ l → l < names.locks → IsAtRest rule.grows names p → MayGiveBack rule (pass_view_of p) held
       → (x : V) × HasSeen p.own.locks l x × MayLeave rule l p.thread x held.value
   may_leave p held l is near rest back =
       let had = reads p.own.locks.seen l (let w = rest.of_lot.seen_long in omega (arith, w)) in
@@ -386,5 +386,5 @@ module _ {V Part : Type 0} (rule : CallersRule V Part) (names : LotNames V) wher
 
 module _ {V : Type 0} where
   -- the value that was put into a slot lies there
-  pub lies_in : (p q : LotStanding V) (l : ℕ) (value : V) → q ≡ putting p l (InSlot value) → l < length p.own.locks.places → IsIn q.own.locks l value
+  pub lies_in : (p q : LotStanding V) (l : ℕ) (value : V) → q ≡ placing p l (InSlot value) → l < length p.own.locks.places → IsIn q.own.locks l value
   lies_in p q l value moved near = subst (λ (r : LotStanding V). IsIn r.own.locks l value) (sym moved) (set_here p.own.locks.places l (InSlot value) near)

@@ -28,12 +28,12 @@ use Rattle.lot_whole.specs.Family.{Which, lock, cond, sem, LotSize, key_count, a
 use Rattle.lot_whole.specs.Lot.{own_of, fresh_pass, fresh_root}
 use Rattle.lot_whole.specs.Shown.{LotWordsShown, lot_of}
 use Rattle.lot_scheme.specs.Roots.{IsInItsKind, root_view, line_in, owes_in}
-use Rattle.lot_scheme.specs.Standing.{LotStanding, stands}
+use Rattle.lot_scheme.specs.Standing.{LotStanding, standing_shown}
 use Rattle.lot_waits.specs.Counts.{wrap, kept}
 use Rattle.lot_waits.specs.Ledger.{AreZeros}
 use Rattle.lot_waits.specs.declared.tallies.Tallies.{Tallies}
 use Rattle.lot_sync.specs.Lot.{LotNames}
-use Rattle.lot_sync.specs.Passes.{IsAtRest, seen_as, AreCounted}
+use Rattle.lot_sync.specs.Passes.{IsAtRest, pass_view_shown, AreCounted}
 use Rattle.lot_sync.specs.Opened.{IsOpened, opened_as}
 use Rattle.lot_sync.specs.Starting.{Starts, IsFresh}
 use Rattle.lot_sync.proofs.Rests.{owned_held}
@@ -117,7 +117,7 @@ module _ {V Part : Type 0} (rule : CallersRule V Part) (words : LotWordsShown V)
   roots_at : (c : ℕ) → c < length roots → slice_get roots c ≡ Some (own_root c)
   roots_at c near = opened.roots_are c (subst (λ n. c < n) opened.roots_long near)
 
-  starts_at : (t : ℕ) → t < words.size.threads → Starts words.values words.size.threads (seen_as (new_at t))
+  starts_at : (t : ℕ) → t < words.size.threads → Starts words.values words.size.threads (pass_view_shown (new_at t))
   starts_at t near = record {
     is_thread = near;
     free = record {
@@ -130,7 +130,7 @@ module _ {V Part : Type 0} (rule : CallersRule V Part) (words : LotWordsShown V)
     made_none = refl;
   }
 
-  rest_at : (t : ℕ) → t < words.size.threads → IsAtRest rule.grows (opened_as words) (stands (new_at t))
+  rest_at : (t : ℕ) → t < words.size.threads → IsAtRest rule.grows (opened_as words) (standing_shown (new_at t))
   rest_at t near = record {
     of_lot = record {
       is_thread = near;
@@ -176,9 +176,9 @@ module _ {V Part : Type 0} (rule : CallersRule V Part) (words : LotWordsShown V)
 
   -- each root is of the kind that its number tells, under the name of the lot
   pub roots_named : (names : LotNames V) → names ≡ opened_as words
-      → All (λ (r : RootShown LotRootView). (r.table ≡ names.opening.locks) × IsInItsKind names.locks names.low r.root.key r.root.own) roots
+      → All (λ (r : RootShown LotRootView). (r.table ≡ names.opening.locks) × IsInItsKind names.locks names.first_sem r.root.key r.root.own) roots
   roots_named names named = subst (λ (ns : LotNames V). All (λ (r : RootShown LotRootView).
-      (r.table ≡ ns.opening.locks) × IsInItsKind ns.locks ns.low r.root.key r.root.own) roots) (sym named)
+      (r.table ≡ ns.opening.locks) × IsInItsKind ns.locks ns.first_sem r.root.key r.root.own) roots) (sym named)
       (all_by_place (λ (r : RootShown LotRootView). (r.table ≡ words.table) × IsInItsKind words.size.locks
       (words.size.locks + words.size.conds) r.root.key r.root.own)
       own_root roots roots_at (λ c near. (refl, fresh_kind words.size c)))

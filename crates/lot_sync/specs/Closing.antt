@@ -8,7 +8,7 @@ use Rattle.lot_whole.specs.Order.{accesses_of}
 use Rattle.lot_whole.specs.Closing.{IsToldTo}
 use Rattle.lot_scheme.specs.Roots.{size_named}
 use Rattle.lot_sync.specs.Lot.{PassView, LotNames}
-use Rattle.lot_sync.specs.Passes.{seen_as}
+use Rattle.lot_sync.specs.Passes.{pass_view_shown}
 
 -- One history was made with these passes, and what was made with each pass is its thread's part of it. Without its notices it is one run of
 -- the whole model, from the opening of this name to a sound state, in which the permits that are left and those that are out are all that
@@ -16,6 +16,6 @@ use Rattle.lot_sync.specs.Passes.{seen_as}
 pub record HasOneRun {V : Type 0} (names : LotNames V) (passes : List (PassView V)) : Type 0 where
   pub rights : List (PassShown (LotPassView V))
   pub roots : List (RootShown LotRootView)
-  pub are : map seen_as rights ≡ passes
+  pub are : map pass_view_shown rights ≡ passes
   pub told : IsToldTo (size_named names.threads names.locks names.conds names.permits) rights roots
   pub made : All (λ (p : PassView V). p.made ≡ accesses_of (2 * p.thread) told.recounted.log) passes

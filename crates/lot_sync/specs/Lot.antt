@@ -19,7 +19,7 @@ pub record LotView : Type 0 where
 -- what a name tells of a lot: its table; the number of its first semaphore, and how many permits each semaphore has at the opening; its
 -- numbers of locks, conditions and threads; and the values that it opened with. A clause has it as `N.LotName`
 abbrev pub LotNames : Type 0 → Type 0
-LotNames V = record { opening : Opening; low : ℕ; permits : List ℕ; locks : ℕ; conds : ℕ; threads : ℕ; values : List V }
+LotNames V = record { opening : Opening; first_sem : ℕ; permits : List ℕ; locks : ℕ; conds : ℕ; threads : ℕ; values : List V }
 
 -- the number of a condition: they follow the locks'
 abbrev pub IsCond : LotView → ℕ → Type 0
@@ -65,7 +65,7 @@ module _ {V : Type 0} where
     pub no_permit : (key : ℕ) → permits_with p key ≡ 0
 
   -- the pass knows of each lock whether it owns it and what it has seen of its value, and of each key what it counted and holds
-  pub record IsWide (lot : LotView) (p : PassView V) : Type 0 where
+  pub record HasShape (lot : LotView) (p : PassView V) : Type 0 where
     pub owns : length p.owns ≡ lot.locks
     pub seen : length p.seen ≡ lot.locks
     pub called : length p.called ≡ lot.locks + lot.conds
@@ -81,24 +81,24 @@ module _ {V : Type 0} where
   owning p key value = record p { owns = slice_set p.owns key true; seen = slice_set p.seen key value }
 
   -- the pass let the lock go, and left the value there
-  abbrev pub leaving : PassView V → ℕ → V → PassView V
-  leaving p key value = record p { owns = slice_set p.owns key false; seen = slice_set p.seen key value }
+  abbrev pub letting_go : PassView V → ℕ → V → PassView V
+  letting_go p key value = record p { owns = slice_set p.owns key false; seen = slice_set p.seen key value }
 
   -- one wait more on the condition has ended
-  abbrev pub waking : PassView V → ℕ → PassView V
-  waking p c = record p { woken = slice_set p.woken c (slice_index p.woken c + 1) }
+  abbrev pub one_wait_more : PassView V → ℕ → PassView V
+  one_wait_more p c = record p { woken = slice_set p.woken c (slice_index p.woken c + 1) }
 
   -- so many sleepers more were taken from the condition's line
-  abbrev pub calling : PassView V → ℕ → ℕ → PassView V
-  calling p c count = record p { called = slice_set p.called c (slice_index p.called c + count) }
+  abbrev pub called_more : PassView V → ℕ → ℕ → PassView V
+  called_more p c count = record p { called = slice_set p.called c (slice_index p.called c + count) }
 
   -- one permit of the semaphore more
-  abbrev pub one_more : PassView V → ℕ → PassView V
-  one_more p k = record p { permits = slice_set p.permits k (permits_with p k + 1) }
+  abbrev pub one_permit_more : PassView V → ℕ → PassView V
+  one_permit_more p k = record p { permits = slice_set p.permits k (permits_with p k + 1) }
 
   -- one permit of the semaphore less
-  abbrev pub one_less : PassView V → ℕ → PassView V
-  one_less p k = record p { permits = slice_set p.permits k (permits_with p k - 1) }
+  abbrev pub one_permit_less : PassView V → ℕ → PassView V
+  one_permit_less p k = record p { permits = slice_set p.permits k (permits_with p k - 1) }
 
   -- each opening value grows to what the pass has seen of it
   abbrev pub HasGrown : (V → V → Type 0) → List V → PassView V → Type 0
@@ -125,9 +125,9 @@ pub record IsLot {V : Type 0} (names : LotNames V) (threads locks conds sems : �
   pub conds_are : parking.scheme.size.conds ≡ names.conds
   pub permits_are : parking.scheme.size.permits ≡ names.permits
   pub named_locks : names.locks ≡ length names.values
-  pub named_low : names.low ≡ names.locks + names.conds
+  pub named_first_sem : names.first_sem ≡ names.locks + names.conds
   pub parking_threads : parking.threads ≡ names.threads
-  pub parking_keys : parking.keys ≡ names.low + length names.permits
+  pub parking_keys : parking.keys ≡ names.first_sem + length names.permits
   pub own_threads : threads ≡ names.threads
   pub own_locks : locks ≡ names.locks
   pub own_conds : conds ≡ names.conds

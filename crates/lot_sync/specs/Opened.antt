@@ -21,7 +21,7 @@ KeepAll {V} keeps values = (key : ℕ) (v : V) → slice_get values key ≡ Some
 abbrev pub opened_as : {V : Type 0} → LotWordsShown V → LotNames V
 opened_as words = record {
   opening = record { locks = words.table; conds = no_table; sems = no_table };
-  low = words.size.locks + words.size.conds;
+  first_sem = words.size.locks + words.size.conds;
   permits = words.size.permits;
   locks = words.size.locks;
   conds = words.size.conds;

@@ -11,7 +11,7 @@ use Rattle.lot_words.specs.Values.{IsOut, IsIn}
 use Rattle.lot_whole.specs.declared.views.LotPassView.{LotPassView}
 use Rattle.lot_whole.specs.Closing.{HasDone}
 use Rattle.lot_whole.specs.Standing.{IsIdle}
-use Rattle.lot_scheme.specs.Standing.{LotStanding, stands}
+use Rattle.lot_scheme.specs.Standing.{LotStanding, standing_shown}
 use Rattle.lot_waits.specs.Counts.{AreKept, counts_in}
 use Rattle.lot_waits.specs.declared.tallies.Tallies.{Tallies}
 use Rattle.lot_sync.specs.Lot.{PassView, LotNames, HasGrown}
@@ -23,8 +23,8 @@ is_held FoundParked = true
 
 module _ {V : Type 0} where
   -- what the caller sees of a pass that stands so
-  abbrev pub sees : LotStanding V → PassView V
-  sees r = record {
+  abbrev pub pass_view_of : LotStanding V → PassView V
+  pass_view_of r = record {
     thread = r.thread;
     owns = map is_held r.own.locks.holds;
     seen = r.own.locks.seen;
@@ -34,8 +34,8 @@ module _ {V : Type 0} where
     made = r.did;
   }
 
-  abbrev pub seen_as : PassShown (LotPassView V) → PassView V
-  seen_as p = sees (stands p)
+  abbrev pub pass_view_shown : PassShown (LotPassView V) → PassView V
+  pass_view_shown p = pass_view_of (standing_shown p)
 
   -- a pass of one of the threads, with a number or a value for each key, whose values go on from those of the opening
   pub record IsOfLot (grows : V → V → Type 0) (names : LotNames V) (r : LotStanding V) : Type 0 where
@@ -43,9 +43,9 @@ module _ {V : Type 0} where
     pub holds_long : length r.own.locks.holds ≡ names.locks
     pub places_long : length r.own.locks.places ≡ names.locks
     pub seen_long : length r.own.locks.seen ≡ names.locks
-    pub called_long : length r.own.conds.called ≡ names.low
-    pub woken_long : length r.own.conds.woken ≡ names.low
-    pub permits_long : length r.own.sems.out ≡ names.low + length names.permits
+    pub called_long : length r.own.conds.called ≡ names.first_sem
+    pub woken_long : length r.own.conds.woken ≡ names.first_sem
+    pub permits_long : length r.own.sems.out ≡ names.first_sem + length names.permits
     pub grown : (l : ℕ) (u v : V) → get_elem? names.values l ≡ some u → get_elem? r.own.locks.seen l ≡ some v → grows u v
 
   -- so much is kept of what it has counted
@@ -77,7 +77,7 @@ pub record IsWhole {V : Type 0} (names : LotNames V) (grows : V → V → Type 0
   pub is_thread : p.thread < names.threads
   pub owns_long : length p.owns ≡ names.locks
   pub seen_long : length p.seen ≡ names.locks
-  pub called_long : length p.called ≡ names.low
-  pub woken_long : length p.woken ≡ names.low
-  pub permits_long : length p.permits ≡ names.low + length names.permits
+  pub called_long : length p.called ≡ names.first_sem
+  pub woken_long : length p.woken ≡ names.first_sem
+  pub permits_long : length p.permits ≡ names.first_sem + length names.permits
   pub grown : HasGrown grows names.values p

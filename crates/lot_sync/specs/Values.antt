@@ -1,7 +1,7 @@
 -- What is said of values: what an owner finds in a lock, and what he may give back.
 use Rattle.std.specs.Prelude.{◌≡◌, ◌≢◌, ℕ, List, Some, slice_get}
 use Rattle.lot_words.specs.CallersRule.{CallersRule}
-use Rattle.lot_sync.specs.Lot.{PassView, HeldView, ◌≈◌, Owns, HasSeen, owning, leaving, waking}
+use Rattle.lot_sync.specs.Lot.{PassView, HeldView, ◌≈◌, Owns, HasSeen, owning, letting_go, one_wait_more}
 
 module _ {V Part : Type 0} (rule : CallersRule V Part) where
   -- the lock was got: its value keeps the rule, goes on from all that the pass had seen of it, and has the pass's own part
@@ -18,7 +18,7 @@ module _ {V Part : Type 0} (rule : CallersRule V Part) where
   -- a wait on the condition: the lock was let go with the value that was held, one wait more has ended, and the lock was got again, with
   -- the value that lay there then
   abbrev pub WaitsAndGets : PassView V → HeldView V → ℕ → HeldView V → PassView V → Type 0
-  WaitsAndGets before held cond found after = Gets (waking (leaving before held.key held.value) cond) held.key found after
+  WaitsAndGets before held cond found after = Gets (one_wait_more (letting_go before held.key held.value) cond) held.key found after
 
   -- the value may be given back: it keeps the rule, has grown from the value found, and has the same part for every
   -- other thread

@@ -4,7 +4,7 @@ ghost use Rattle.std.specs.Prelude.{◌≡◌, ◌≢◌, ℕ, ◌+◌, ◌≤�
 ghost use Rattle.lot_scheme.specs.SemCalls.{opening_permits};
 ghost use Rattle.lot_scheme.specs.Words.{GetPermitWord};
 ghost use Rattle.lot_permits.specs.Freed.{GivenWord};
-ghost use Rattle.lot_sync.specs.Lot.{◌≈◌, IsWide, IsSem, one_more, one_less, permits_with};
+ghost use Rattle.lot_sync.specs.Lot.{◌≈◌, HasShape, IsSem, one_permit_more, one_permit_less, permits_with};
 ghost use Rattle.lot_sync.specs.Words.{Adds, TryPermitWord};
 ghost use Rattle.lot_sync.specs.Permits.{HasPermit, TriesToGet};
 
@@ -26,7 +26,7 @@ impl<V: Keeps + Send, N: LotName<V> + Send> Lot<V, N> {
         requires key { IsSem self.now key }
         ensures tries { TriesToGet pass key result.1 result.0 }
         ensures made { Adds pass.made (TryPermitWord pass.thread key result.1) result.0.made }
-        ensures wide { IsWide self.now result.0 }
+        ensures shape { HasShape self.now result.0 }
     {
         prove!(self.has_sem(key));
         let (right, tallies) = pass.apart();
@@ -44,9 +44,9 @@ impl<V: Keeps + Send, N: LotName<V> + Send> Lot<V, N> {
     ) -> (Pass<V, N>, Permit<V, N>)
         requires key { IsSem self.now key }
         ensures permit { (result.1.key ≡ key) × (result.1.thread ≡ pass.thread) }
-        ensures pass { result.0 ≈ one_more pass key }
+        ensures pass { result.0 ≈ one_permit_more pass key }
         ensures made { Adds pass.made (GetPermitWord pass.thread key) result.0.made }
-        ensures wide { IsWide self.now result.0 }
+        ensures shape { HasShape self.now result.0 }
     {
         prove!(self.has_sem(key));
         let (right, tallies) = pass.apart();
@@ -65,9 +65,9 @@ impl<V: Keeps + Send, N: LotName<V> + Send> Lot<V, N> {
         moment: Moment,
     ) -> (Pass<V, N>, Freed)
         requires has { HasPermit pass permit }
-        ensures pass { result.0 ≈ one_less pass permit.key }
+        ensures pass { result.0 ≈ one_permit_less pass permit.key }
         ensures made { Adds pass.made (GivenWord pass.thread permit.key result.1) result.0.made }
-        ensures wide { IsWide self.now result.0 }
+        ensures shape { HasShape self.now result.0 }
     {
         let (right, tallies) = pass.apart();
         let (right, freed) = lot_permits::release(rt, self.parking(), right, permit, moment);
@@ -79,7 +79,7 @@ impl<V: Keeps + Send, N: LotName<V> + Send> Lot<V, N> {
     pub fn check_permits(&self, first: Pass<V, N>, second: Pass<V, N>) -> (Pass<V, N>, Pass<V, N>)
         ensures same { (result.0 ≡ first) × (result.1 ≡ second) }
         ensures threads { first.thread ≢ second.thread }
-        ensures permits { (k : ℕ) → permits_with first k + permits_with second k ≤ opening_permits N.low N.permits k }
+        ensures permits { (k : ℕ) → permits_with first k + permits_with second k ≤ opening_permits N.first_sem N.permits k }
     {
         let (first, first_tallies) = first.apart();
         let (second, second_tallies) = second.apart();

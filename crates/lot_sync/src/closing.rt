@@ -7,7 +7,7 @@ ghost use Rattle.lot_whole.specs.declared.views.LotRootView.{LotRootView};
 ghost use Rattle.lot_waits.specs.Counts.{counts_shown};
 ghost use Rattle.lot_waits.specs.Ledger.{AreTallied, AreZeros};
 ghost use Rattle.lot_sync.specs.Lot.{PassView, OwnsNone, IsLedgerOf};
-ghost use Rattle.lot_sync.specs.Passes.{seen_as, IsFree};
+ghost use Rattle.lot_sync.specs.Passes.{pass_view_shown, IsFree};
 ghost use Rattle.lot_sync.specs.Values.{GoesOnTo};
 ghost use Rattle.lot_sync.specs.Closing.{HasOneRun};
 
@@ -60,7 +60,7 @@ pub(crate) fn gather<V: Keeps + Send, N: LotName<V> + Send>(
     requires free { All OwnsNone passes.items }
     requires room { (vec_len rights.old ≡ 0) × (vec_len passes ≤ vec_capacity rights.old) }
     requires zeros { AreZeros N.conds sums.old }
-    ensures same { map seen_as rights.new.items ≡ passes.items }
+    ensures same { map pass_view_shown rights.new.items ≡ passes.items }
     ensures free { All (IsFree N.opening.locks) rights.new.items }
     ensures tallied { AreTallied N.locks N.conds (map counts_shown rights.new.items) sums.new }
 {

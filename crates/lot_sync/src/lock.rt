@@ -1,10 +1,10 @@
 //! Getting a lock, as WTF's `Lock::lock` does: one compare-exchange, a few yields, and then the line.
 ghost use Rattle.std.specs.Prelude.{◌≡◌, ◌<◌, MatchOption, is_some};
 ghost use Rattle.lot_scheme.specs.Words.{TryWord, GetWord};
-ghost use Rattle.lot_sync.specs.Lot.{◌≈◌, Owns, IsWide};
+ghost use Rattle.lot_sync.specs.Lot.{◌≈◌, Owns, HasShape};
 ghost use Rattle.lot_sync.specs.Words.{Adds};
 ghost use Rattle.lot_sync.specs.Values.{Gets};
-ghost use Rattle.lot_sync.specs.Passes.{sees, AreCounted, IsNewOwner};
+ghost use Rattle.lot_sync.specs.Passes.{pass_view_of, AreCounted, IsNewOwner};
 ghost use Rattle.lot_words.specs.Values.{IsIn};
 
 use crate::held::Held;
@@ -26,7 +26,7 @@ impl<V: Keeps + Send, N: LotName<V> + Send> Lot<V, N> {
         requires free { ¬ Owns pass key }
         ensures gets { MatchOption result.1 (result.0 ≈ pass) (λ held. Gets V.Keeps pass key held result.0) }
         ensures made { Adds pass.made (TryWord pass.thread key (is_some result.1)) result.0.made }
-        ensures wide { IsWide self.now result.0 }
+        ensures shape { HasShape self.now result.0 }
     {
         prove!(self.has_lock(key));
         let (right, tallies) = pass.apart();
@@ -47,7 +47,7 @@ impl<V: Keeps + Send, N: LotName<V> + Send> Lot<V, N> {
         requires free { ¬ Owns pass key }
         ensures gets { Gets V.Keeps pass key result.1 result.0 }
         ensures made { Adds pass.made (GetWord pass.thread key) result.0.made }
-        ensures wide { IsWide self.now result.0 }
+        ensures shape { HasShape self.now result.0 }
     {
         self.lock_after(rt, pass, key, &AtOnce)
     }
@@ -67,7 +67,7 @@ impl<V: Keeps + Send, N: LotName<V> + Send> Lot<V, N> {
         requires free { ¬ Owns pass key }
         ensures gets { Gets V.Keeps pass key result.1 result.0 }
         ensures made { Adds pass.made (GetWord pass.thread key) result.0.made }
-        ensures wide { IsWide self.now result.0 }
+        ensures shape { HasShape self.now result.0 }
     {
         prove!(self.has_lock(key));
         let (right, tallies) = pass.apart();
@@ -87,8 +87,8 @@ impl<V: Keeps + Send, N: LotName<V> + Send> Lot<V, N> {
         requires owner { IsNewOwner V.grows N.LotName right key }
         requires kept { AreCounted N.locks N.conds right tallies.value }
         ensures held { (result.1.key ≡ key) × IsIn right.own.locks key result.1.value }
-        ensures pass { result.0 ≡ sees right }
-        ensures wide { IsWide self.now result.0 }
+        ensures pass { result.0 ≡ pass_view_of right }
+        ensures shape { HasShape self.now result.0 }
     {
         let (right, value) = self.parking().scheme().value_out(right, key);
         (self.at_rest(right, tallies), Held::new(key, value))

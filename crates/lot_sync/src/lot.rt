@@ -1,7 +1,7 @@
 //! A lot: locks that guard values, and the passes of its threads.
 ghost use Rattle.std.specs.Prelude.{◌≡◌, ◌+◌, ◌<◌, ◌↔◌, IsTrue, length};
-ghost use Rattle.lot_sync.specs.Lot.{IsLot, IsWide, IsCond, IsSem};
-ghost use Rattle.lot_sync.specs.Passes.{sees, IsAtRest, AreCounted};
+ghost use Rattle.lot_sync.specs.Lot.{IsLot, HasShape, IsCond, IsSem};
+ghost use Rattle.lot_sync.specs.Passes.{pass_view_of, IsAtRest, AreCounted};
 
 use crate::pass::Pass;
 use crate::pool::Pool;
@@ -30,7 +30,7 @@ impl<V: Keeps + Send, N: LotName<V> + Send> Model for Lot<V, N> {
 
     ghost view = { λ s. record { threads = s.threads; locks = s.locks; conds = s.conds; sems = s.sems } };
 
-    ghost invariant = { λ s. IsLot (record { opening = N.opening; low = N.low; permits = N.permits; locks = N.locks; conds = N.conds; threads = N.threads; values = N.values }) s.threads s.locks s.conds s.sems s.parking };
+    ghost invariant = { λ s. IsLot (record { opening = N.opening; first_sem = N.first_sem; permits = N.permits; locks = N.locks; conds = N.conds; threads = N.threads; values = N.values }) s.threads s.locks s.conds s.sems s.parking };
 }
 
 impl<V: Keeps + Send, N: LotName<V> + Send> Lot<V, N> {
@@ -60,7 +60,7 @@ impl<V: Keeps + Send, N: LotName<V> + Send> Lot<V, N> {
     #[inline(always)]
     pub(crate) fn parking(&self) -> &ParkingLot<LotScheme<V, N>>
         ensures threads { (self.now.threads ≡ N.threads) × (result.now.threads ≡ N.threads) }
-        ensures keys { (self.now.locks ≡ N.locks) × (self.now.conds ≡ N.conds) × (self.now.sems ≡ length N.permits) × (N.low ≡ N.locks + N.conds) × (N.locks ≡ length N.values) }
+        ensures keys { (self.now.locks ≡ N.locks) × (self.now.conds ≡ N.conds) × (self.now.sems ≡ length N.permits) × (N.first_sem ≡ N.locks + N.conds) × (N.locks ≡ length N.values) }
         ensures all { result.now.keys ≡ self.now.locks + self.now.conds + self.now.sems }
     {
         &self.parking
@@ -71,8 +71,8 @@ impl<V: Keeps + Send, N: LotName<V> + Send> Lot<V, N> {
     pub(crate) fn at_rest(&self, right: NamedPass<V, N>, tallies: Box<Tallies>) -> Pass<V, N>
         requires rest { IsAtRest V.grows N.LotName right }
         requires kept { AreCounted N.locks N.conds right tallies.value }
-        ensures pass { result ≡ sees right }
-        ensures wide { IsWide self.now result }
+        ensures pass { result ≡ pass_view_of right }
+        ensures shape { HasShape self.now result }
     {
         let _parking = self.parking();
         Pass::at_rest(right, tallies)

@@ -1,7 +1,7 @@
 //! Notifying the threads that wait on a condition, as WTF's `Condition` does.
 ghost use Rattle.std.specs.Prelude.{◌≡◌, ◌≤◌, MatchBool};
 ghost use Rattle.lot_core.specs.Steps.{IsCallCount};
-ghost use Rattle.lot_sync.specs.Lot.{◌≈◌, IsWide, IsCond, calling};
+ghost use Rattle.lot_sync.specs.Lot.{◌≈◌, HasShape, IsCond, called_more};
 ghost use Rattle.lot_sync.specs.Words.{Adds, LookWord, NotifyWord, NotifyAllWord};
 ghost use Rattle.lot_waits.specs.Notifying.{one_if};
 
@@ -20,7 +20,7 @@ impl<V: Keeps + Send, N: LotName<V> + Send> Lot<V, N> {
         requires cond { IsCond self.now cond }
         ensures same { result.0 ≈ pass }
         ensures made { Adds pass.made (LookWord pass.thread cond result.1) result.0.made }
-        ensures wide { IsWide self.now result.0 }
+        ensures shape { HasShape self.now result.0 }
     {
         prove!(self.has_cond(cond));
         let (right, tallies) = pass.apart();
@@ -39,9 +39,9 @@ impl<V: Keeps + Send, N: LotName<V> + Send> Lot<V, N> {
         moment: Moment,
     ) -> (Pass<V, N>, bool)
         requires cond { IsCond self.now cond }
-        ensures counted { MatchBool result.1 (result.0 ≈ calling pass cond 1) (result.0 ≈ pass) }
+        ensures counted { MatchBool result.1 (result.0 ≈ called_more pass cond 1) (result.0 ≈ pass) }
         ensures made { Adds pass.made (NotifyWord pass.thread cond 1 (one_if result.1)) result.0.made }
-        ensures wide { IsWide self.now result.0 }
+        ensures shape { HasShape self.now result.0 }
     {
         prove!(self.has_cond(cond));
         let (right, tallies) = pass.apart();
@@ -63,10 +63,10 @@ impl<V: Keeps + Send, N: LotName<V> + Send> Lot<V, N> {
     ) -> (Pass<V, N>, usize)
         requires cond { IsCond self.now cond }
         requires count { IsCallCount count }
-        ensures counted { result.0 ≈ calling pass cond result.1 }
+        ensures counted { result.0 ≈ called_more pass cond result.1 }
         ensures made { Adds pass.made (NotifyWord pass.thread cond count result.1) result.0.made }
         ensures most { result.1 ≤ count }
-        ensures wide { IsWide self.now result.0 }
+        ensures shape { HasShape self.now result.0 }
     {
         prove!(self.has_cond(cond));
         let (right, tallies) = pass.apart();
@@ -79,9 +79,9 @@ impl<V: Keeps + Send, N: LotName<V> + Send> Lot<V, N> {
     #[inline(always)]
     pub fn notify_all<R: Wait>(&self, rt: &R, pass: Pass<V, N>, cond: usize) -> (Pass<V, N>, usize)
         requires cond { IsCond self.now cond }
-        ensures counted { result.0 ≈ calling pass cond result.1 }
+        ensures counted { result.0 ≈ called_more pass cond result.1 }
         ensures made { Adds pass.made (NotifyAllWord pass.thread cond result.1) result.0.made }
-        ensures wide { IsWide self.now result.0 }
+        ensures shape { HasShape self.now result.0 }
     {
         prove!(self.has_cond(cond));
         let (right, tallies) = pass.apart();

@@ -45,7 +45,7 @@ impl<V: Keeps + Send, N: LotName<V> + Send> Lot<V, N> {
         conds: usize,
     ) -> Result<Opened<V>, (OpenFault, Vec<V>)>
         requires { KeepAll V.keeps values.items }
-        ensures opened { IfOk result (λ o. (o.threads ≡ threads) × (o.values ≡ values.items) × (o.conds ≡ conds) × (o.low ≡ vec_len values + conds) × (o.permits ≡ [])) }
+        ensures opened { IfOk result (λ o. (o.threads ≡ threads) × (o.values ≡ values.items) × (o.conds ≡ conds) × (o.first_sem ≡ vec_len values + conds) × (o.permits ≡ [])) }
         ensures limits { IfOk result (λ _. IsThreadCount threads × IsKeyCount (vec_len values) conds 0) }
         ensures fault { IfErr result (λ e. Refuses threads (vec_len values) conds 0 e.0) }
         ensures back { IfErr result (λ e. e.1.items ≡ values.items) }
@@ -66,7 +66,7 @@ impl<V: Keeps + Send, N: LotName<V> + Send> Lot<V, N> {
         permits: &[u32],
     ) -> Result<Opened<V>, (OpenFault, Vec<V>)>
         requires { KeepAll V.keeps values.items }
-        ensures opened { IfOk result (λ o. (o.threads ≡ threads) × (o.values ≡ values.items) × (o.conds ≡ conds) × (o.low ≡ vec_len values + conds) × (o.permits ≡ permits.now)) }
+        ensures opened { IfOk result (λ o. (o.threads ≡ threads) × (o.values ≡ values.items) × (o.conds ≡ conds) × (o.first_sem ≡ vec_len values + conds) × (o.permits ≡ permits.now)) }
         ensures limits { IfOk result (λ _. IsThreadCount threads × IsKeyCount (vec_len values) conds (length permits.now)) }
         ensures fault { IfErr result (λ e. Refuses threads (vec_len values) conds (length permits.now) e.0) }
         ensures back { IfErr result (λ e. e.1.items ≡ values.items) }

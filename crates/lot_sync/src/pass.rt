@@ -1,6 +1,6 @@
 //! The right to act as one thread of a lot.
 ghost use Rattle.std.specs.Prelude.{◌≡◌};
-ghost use Rattle.lot_sync.specs.Passes.{sees, IsAtRest, AreCounted, IsWhole};
+ghost use Rattle.lot_sync.specs.Passes.{pass_view_of, IsAtRest, AreCounted, IsWhole};
 
 use lot_scheme::{LotName, NamedPass};
 use lot_waits::Tallies;
@@ -16,13 +16,13 @@ pub struct Pass<V: Keeps + Send, N: LotName<V> + Send> {
 
 impl<V: Keeps + Send, N: LotName<V> + Send> Model for Pass<V, N> {
     ghost use Rattle.lot_sync.specs.Lot.{PassView};
-    ghost use Rattle.lot_sync.specs.Passes.{sees, IsAtRest, AreCounted};
+    ghost use Rattle.lot_sync.specs.Passes.{pass_view_of, IsAtRest, AreCounted};
 
     ghost Value = { PassView V };
 
-    ghost view = { λ s. sees s.right };
+    ghost view = { λ s. pass_view_of s.right };
 
-    ghost invariant = { λ s. IsAtRest V.grows (record { opening = N.opening; low = N.low; permits = N.permits; locks = N.locks; conds = N.conds; threads = N.threads; values = N.values }) s.right × AreCounted N.locks N.conds s.right s.tallies.value };
+    ghost invariant = { λ s. IsAtRest V.grows (record { opening = N.opening; first_sem = N.first_sem; permits = N.permits; locks = N.locks; conds = N.conds; threads = N.threads; values = N.values }) s.right × AreCounted N.locks N.conds s.right s.tallies.value };
 }
 
 impl<V: Keeps + Send, N: LotName<V> + Send> Pass<V, N> {
@@ -46,7 +46,7 @@ impl<V: Keeps + Send, N: LotName<V> + Send> Pass<V, N> {
     pub(crate) fn at_rest(right: NamedPass<V, N>, tallies: Box<Tallies>) -> Pass<V, N>
         requires rest { IsAtRest V.grows N.LotName right }
         requires kept { AreCounted N.locks N.conds right tallies.value }
-        ensures { result ≡ sees right }
+        ensures { result ≡ pass_view_of right }
     {
         Pass { right, tallies }
     }
@@ -56,7 +56,7 @@ impl<V: Keeps + Send, N: LotName<V> + Send> Pass<V, N> {
     pub(crate) fn apart(self) -> (NamedPass<V, N>, Box<Tallies>)
         ensures rest { IsAtRest V.grows N.LotName result.0 }
         ensures kept { AreCounted N.locks N.conds result.0 result.1.value }
-        ensures same { self ≡ sees result.0 }
+        ensures same { self ≡ pass_view_of result.0 }
     {
         let Pass { right, tallies } = self;
         (right, tallies)

@@ -56,7 +56,7 @@ pub(crate) struct ClosingRoom<V: Keeps + Send, N: LotName<V> + Send> {
     sums: Tallies,
     ghost empty: { (vec_len passes ≡ 0) × (vec_len roots ≡ 0) × (vec_len named ≡ 0) },
     ghost for_passes: { N.threads ≤ vec_capacity passes },
-    ghost for_roots: { (N.low + length N.permits ≤ vec_capacity roots) × (N.low + length N.permits ≤ vec_capacity named) },
+    ghost for_roots: { (N.first_sem + length N.permits ≤ vec_capacity roots) × (N.first_sem + length N.permits ≤ vec_capacity named) },
     ghost zeros: { AreZeros N.conds sums },
 }
 
@@ -70,7 +70,7 @@ impl<V: Keeps + Send, N: LotName<V> + Send> ClosingRoom<V, N> {
     ) -> ClosingRoom<V, N>
         requires empty { (vec_len passes ≡ 0) × (vec_len roots ≡ 0) × (vec_len named ≡ 0) }
         requires for_passes { N.threads ≤ vec_capacity passes }
-        requires for_roots { (N.low + length N.permits ≤ vec_capacity roots) × (N.low + length N.permits ≤ vec_capacity named) }
+        requires for_roots { (N.first_sem + length N.permits ≤ vec_capacity roots) × (N.first_sem + length N.permits ≤ vec_capacity named) }
         requires zeros { AreZeros N.conds sums }
     {
         ClosingRoom {
@@ -92,7 +92,7 @@ impl<V: Keeps + Send, N: LotName<V> + Send> ClosingRoom<V, N> {
     )
         ensures empty { (vec_len result.0 ≡ 0) × (vec_len result.1 ≡ 0) × (vec_len result.2 ≡ 0) }
         ensures for_passes { N.threads ≤ vec_capacity result.0 }
-        ensures for_roots { (N.low + length N.permits ≤ vec_capacity result.1) × (N.low + length N.permits ≤ vec_capacity result.2) }
+        ensures for_roots { (N.first_sem + length N.permits ≤ vec_capacity result.1) × (N.first_sem + length N.permits ≤ vec_capacity result.2) }
         ensures zeros { AreZeros N.conds result.3 }
     {
         let ClosingRoom {

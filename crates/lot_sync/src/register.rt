@@ -1,7 +1,7 @@
 //! Giving threads their passes, and taking them back.
 ghost use Rattle.std.specs.Prelude.{◌≡◌, ◌<◌, ◌-◌, IfOk, IfErr, IfSome};
 ghost use Rattle.lot_table.specs.Sizes.{Serves};
-ghost use Rattle.lot_sync.specs.Lot.{OwnsNone, IsWide, HasGrown, rested};
+ghost use Rattle.lot_sync.specs.Lot.{OwnsNone, HasShape, HasGrown, rested};
 
 use crate::fault::RegisterFault;
 use crate::lot::Lot;
@@ -21,7 +21,7 @@ impl<V: Keeps + Send, N: LotName<V> + Send> Lot<V, N> {
         ensures thread { IfOk result (λ pass. pass.thread < self.now.threads) }
         ensures free { IfOk result OwnsNone }
         ensures rests { IfOk result (λ pass. V.rests (rested pass)) }
-        ensures wide { IfOk result (IsWide self.now) }
+        ensures shape { IfOk result (HasShape self.now) }
         ensures grown { IfOk result (λ pass. HasGrown V.grows N.values pass) }
     {
         let mut pool = self.pool.lock(rt);
@@ -61,7 +61,7 @@ impl<V: Keeps + Send, N: LotName<V> + Send> Lot<V, N> {
         ensures thread { IfSome result (λ pass. pass.thread < self.old.threads) }
         ensures free { IfSome result OwnsNone }
         ensures rests { IfSome result (λ pass. V.rests (rested pass)) }
-        ensures wide { IfSome result (IsWide self.old) }
+        ensures shape { IfSome result (HasShape self.old) }
         ensures grown { IfSome result (λ pass. HasGrown V.grows N.values pass) }
     {
         let mut pool = self.pool.lock(rt);

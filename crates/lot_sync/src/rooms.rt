@@ -25,7 +25,7 @@ pub(crate) struct Rooms<V: Keeps + Send, N: LotName<V> + Send> {
     pub(crate) sums: Tallies,
     ghost empty: { (vec_len idle ≡ 0) × (vec_len named ≡ 0) },
     ghost for_passes: { N.threads ≤ vec_capacity idle },
-    ghost for_roots: { N.low + length N.permits ≤ vec_capacity named },
+    ghost for_roots: { N.first_sem + length N.permits ≤ vec_capacity named },
     ghost for_counts: { (vec_len tallies ≡ N.threads) × All (λ (t : _). AreZeros N.conds t.value) tallies.items },
     ghost zeros: { AreZeros N.conds sums },
 }
@@ -39,7 +39,7 @@ impl<V: Keeps + Send, N: LotName<V> + Send> Rooms<V, N> {
         conds: usize,
     ) -> Result<Rooms<V, N>, AllocError>
         requires threads { threads ≡ N.threads }
-        requires keys { (keys ≡ N.low + length N.permits) × (conds ≡ N.conds) }
+        requires keys { (keys ≡ N.first_sem + length N.permits) × (conds ≡ N.conds) }
     {
         let sums = Tallies::new(alloc, conds)?;
         let tallies = tallies_for(alloc, threads, conds)?;
@@ -76,7 +76,7 @@ pub(crate) fn name_roots<V: Keeps + Send, N: LotName<V> + Send>(
     roots: &mut Vec<LotRoot<V>>,
     named: &mut Vec<NamedRoot<V, N>>,
 )
-    requires own { All (λ (r : RootShown LotRootView). (r.table ≡ N.opening.locks) × IsInItsKind N.locks N.low r.root.key r.root.own) roots.old.items }
+    requires own { All (λ (r : RootShown LotRootView). (r.table ≡ N.opening.locks) × IsInItsKind N.locks N.first_sem r.root.key r.root.own) roots.old.items }
     requires room { (vec_len named.old ≡ 0) × (vec_len roots.old ≤ vec_capacity named.old) }
     ensures same { named.new.items ≡ roots.old.items }
     ensures empty { (vec_len roots.new ≡ 0) × (vec_capacity roots.new ≡ vec_capacity roots.old) }
@@ -136,7 +136,7 @@ pub(crate) fn pool_of<V: Keeps + Send, N: LotName<V> + Send>(
     requires rests { (p : PassView V) → Starts N.values N.threads p → V.rests (rested p) }
     requires empty { (vec_len idle ≡ 0) × (vec_len roots ≡ 0) × (vec_len named ≡ 0) }
     requires for_passes { (N.threads ≤ vec_capacity idle) × (N.threads ≤ vec_capacity passes) }
-    requires for_roots { (N.low + length N.permits ≤ vec_capacity roots) × (N.low + length N.permits ≤ vec_capacity named) }
+    requires for_roots { (N.first_sem + length N.permits ≤ vec_capacity roots) × (N.first_sem + length N.permits ≤ vec_capacity named) }
     requires zeros { AreZeros N.conds sums }
     ensures { result ≡ vec_len passes }
 {

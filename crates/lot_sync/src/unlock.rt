@@ -1,10 +1,10 @@
 //! Letting a lock go, as WTF's `Lock::unlock` does: one compare-exchange where nobody waits, else one sleeper is taken from
 //! the line, and the lock is handed to it or left to whoever comes first.
 ghost use Rattle.std.specs.Prelude.{◌≡◌, ◌⊎◌, ◌<◌, true, false, MatchOption, IfNone, is_none, length};
-ghost use Rattle.lot_sync.specs.Lot.{◌≈◌, Owns, HasSeen, IsWide, leaving};
+ghost use Rattle.lot_sync.specs.Lot.{◌≈◌, Owns, HasSeen, HasShape, letting_go};
 ghost use Rattle.lot_sync.specs.Words.{Adds, UnparkedWord};
 ghost use Rattle.lot_sync.specs.Values.{MayGiveBack};
-ghost use Rattle.lot_sync.specs.Passes.{sees, AreCounted, IsNewOwner};
+ghost use Rattle.lot_sync.specs.Passes.{pass_view_of, AreCounted, IsNewOwner};
 ghost use Rattle.lot_locks.specs.Released.{IsFitting, FreeWord};
 ghost use Rattle.lot_locks.specs.declared.released.Released.TheVariants.{Quiet};
 ghost use Rattle.lot_words.specs.Values.{IsIn, HasSeen as OwnHasSeen};
@@ -34,9 +34,9 @@ impl<V: Keeps + Send, N: LotName<V> + Send> Lot<V, N> {
         requires key { held.key < self.now.locks }
         requires owns { Owns pass held.key }
         requires back { MayGiveBack V.Keeps pass held }
-        ensures pass { result.0 ≈ leaving pass held.key held.value }
+        ensures pass { result.0 ≈ letting_go pass held.key held.value }
         ensures made { Adds pass.made (FreeWord pass.thread held.key result.1) result.0.made }
-        ensures wide { IsWide self.now result.0 }
+        ensures shape { HasShape self.now result.0 }
         ensures seen { HasSeen result.0 held.key held.value }
         ensures fits { IsFitting result.1 false moment.now }
     {
@@ -59,9 +59,9 @@ impl<V: Keeps + Send, N: LotName<V> + Send> Lot<V, N> {
         requires owns { Owns pass held.key }
         requires back { MayGiveBack V.Keeps pass held }
         requires callable { M.pre moment }
-        ensures pass { result.0 ≈ leaving pass held.key held.value }
+        ensures pass { result.0 ≈ letting_go pass held.key held.value }
         ensures made { Adds pass.made (FreeWord pass.thread held.key result.1) result.0.made }
-        ensures wide { IsWide self.now result.0 }
+        ensures shape { HasShape self.now result.0 }
         ensures seen { HasSeen result.0 held.key held.value }
         ensures fits { (result.1 ≡ Quiet) ⊎ ((m : _) × M.post moment m × IsFitting result.1 false m.now) }
     {
@@ -83,9 +83,9 @@ impl<V: Keeps + Send, N: LotName<V> + Send> Lot<V, N> {
         requires key { held.key < self.now.locks }
         requires owns { Owns pass held.key }
         requires back { MayGiveBack V.Keeps pass held }
-        ensures pass { result.0 ≈ leaving pass held.key held.value }
+        ensures pass { result.0 ≈ letting_go pass held.key held.value }
         ensures made { Adds pass.made (FreeWord pass.thread held.key result.1) result.0.made }
-        ensures wide { IsWide self.now result.0 }
+        ensures shape { HasShape self.now result.0 }
         ensures seen { HasSeen result.0 held.key held.value }
         ensures fits { IsFitting result.1 true moment.now }
     {
@@ -102,9 +102,9 @@ impl<V: Keeps + Send, N: LotName<V> + Send> Lot<V, N> {
         requires key { held.key < self.now.locks }
         requires owns { Owns pass held.key }
         requires back { MayGiveBack V.Keeps pass held }
-        ensures freed { MatchOption result.1 (result.0 ≈ leaving pass held.key held.value) (λ back. (back ≡ held) × (result.0 ≈ pass)) }
+        ensures freed { MatchOption result.1 (result.0 ≈ letting_go pass held.key held.value) (λ back. (back ≡ held) × (result.0 ≈ pass)) }
         ensures made { Adds pass.made (UnparkedWord pass.thread held.key (is_none result.1)) result.0.made }
-        ensures wide { IsWide self.now result.0 }
+        ensures shape { HasShape self.now result.0 }
         ensures seen { IfNone result.1 (HasSeen result.0 held.key held.value) }
     {
         let key = held.key();
@@ -131,9 +131,9 @@ impl<V: Keeps + Send, N: LotName<V> + Send> Lot<V, N> {
         requires key { held.key < self.now.locks }
         requires owns { Owns pass held.key }
         requires back { MayGiveBack V.Keeps pass held }
-        ensures pass { result.0 ≈ leaving pass held.key held.value }
+        ensures pass { result.0 ≈ letting_go pass held.key held.value }
         ensures made { Adds pass.made (FreeWord pass.thread held.key result.1) result.0.made }
-        ensures wide { IsWide self.now result.0 }
+        ensures shape { HasShape self.now result.0 }
         ensures seen { HasSeen result.0 held.key held.value }
         ensures fits { IsFitting result.1 fair moment.now }
     {
@@ -158,7 +158,7 @@ impl<V: Keeps + Send, N: LotName<V> + Send> Lot<V, N> {
         ensures lies { IsIn result.0.own.locks key held.value }
         ensures grown { (u : V) → OwnHasSeen result.0.own.locks key u → V.grows u held.value }
         ensures kept { AreCounted N.locks N.conds result.0 result.1.value }
-        ensures same { sees result.0 ≡ pass }
+        ensures same { pass_view_of result.0 ≡ pass }
         ensures locks { key < N.locks }
     {
         prove!(self.has_lock(key));

@@ -1,7 +1,7 @@
 //! Waiting on a condition, as WTF's `Condition::wait` does: the thread is queued and its lock let go, and when a notification has taken
 //! it from the line it gets the lock again.
 ghost use Rattle.std.specs.Prelude.{◌<◌};
-ghost use Rattle.lot_sync.specs.Lot.{Owns, IsWide, IsCond};
+ghost use Rattle.lot_sync.specs.Lot.{Owns, HasShape, IsCond};
 ghost use Rattle.lot_sync.specs.Values.{MayGiveBack, WaitsAndGets};
 ghost use Rattle.lot_sync.specs.Words.{Adds, WaitedWord};
 
@@ -33,7 +33,7 @@ impl<V: Keeps + Send, N: LotName<V> + Send> Lot<V, N> {
         requires cond { IsCond self.now cond }
         ensures gets { WaitsAndGets V.Keeps pass held cond result.1 result.0 }
         ensures made { Adds pass.made (WaitedWord pass.thread cond held.key moment.now) result.0.made }
-        ensures wide { IsWide self.now result.0 }
+        ensures shape { HasShape self.now result.0 }
     {
         self.wait_after(rt, pass, held, cond, moment, &AtOnce)
     }
@@ -55,7 +55,7 @@ impl<V: Keeps + Send, N: LotName<V> + Send> Lot<V, N> {
         requires cond { IsCond self.now cond }
         ensures gets { WaitsAndGets V.Keeps pass held cond result.1 result.0 }
         ensures made { Adds pass.made (WaitedWord pass.thread cond held.key moment.now) result.0.made }
-        ensures wide { IsWide self.now result.0 }
+        ensures shape { HasShape self.now result.0 }
     {
         prove!(self.has_cond(cond));
         let key = held.key();

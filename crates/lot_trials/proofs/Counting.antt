@@ -11,7 +11,7 @@ use Rattle.lot_words.specs.CallersRule.{CallersRule}
 use Rattle.lot_waits.specs.Counts.{CountsView, wrap}
 use Rattle.lot_waits.specs.Ledger.{AreSums, called_at, woken_at}
 use Rattle.lot_rights.proofs.Turns.{no_elements}
-use Rattle.lot_sync.specs.Lot.{LotView, PassView, HeldView, ◌≈◌, OwnsNone, IsWide, IsLedgerOf, counts_of, leaving, waking, calling}
+use Rattle.lot_sync.specs.Lot.{LotView, PassView, HeldView, ◌≈◌, OwnsNone, HasShape, IsLedgerOf, counts_of, letting_go, one_wait_more, called_more}
 use Rattle.lot_sync.specs.Values.{Gets, WaitsAndGets}
 use Rattle.lot_sync.proofs.Holdings.{owns_none_again}
 use Rattle.lot_trials.specs.Counting.{HasCountedNone, EndsAs}
@@ -26,26 +26,26 @@ none_still p q owns permits none = record {
 module _ {V Part : Type 0} (rule : CallersRule V Part) where
   -- it got the lock, waited with it once, and let it go
   pub ends_waited : (lot : LotView) (p q r s : PassView V) (held again : HeldView V) → OwnsNone p → Gets rule p 0 held q
-      → WaitsAndGets rule q held 1 again r → s ≈ leaving r again.key again.value
-      → IsWide lot s → EndsAs lot (waking p 1) s
-  ends_waited lot p q r s held again none got woke left wide = record {
-    counts = ap counts_of left ∙ (ap counts_of woke.after_is ∙ ap (λ (v : PassView V). counts_of (waking v 1)) got.after_is);
+      → WaitsAndGets rule q held 1 again r → s ≈ letting_go r again.key again.value
+      → HasShape lot s → EndsAs lot (one_wait_more p 1) s
+  ends_waited lot p q r s held again none got woke left shape = record {
+    counts = ap counts_of left ∙ (ap counts_of woke.after_is ∙ ap (λ (v : PassView V). counts_of (one_wait_more v 1)) got.after_is);
     free =
-        let out : PassView V = leaving q held.key held.value in
+        let out : PassView V = letting_go q held.key held.value in
         let first : OwnsNone out = owns_none_again p q out 0 held.key held.value held.value none got.after_is refl got.key_is in
-        owns_none_again (waking out 1) r s held.key again.key again.value again.value (none_still out (waking out 1) refl refl first)
+        owns_none_again (one_wait_more out 1) r s held.key again.key again.value again.value (none_still out (one_wait_more out 1) refl refl first)
         woke.after_is left woke.key_is;
-    wide = wide;
+    shape = shape;
   }
 
 module _ {V : Type 0} where
   -- it took one sleeper
-  pub ends_called : (lot : LotView) (p q r : PassView V) → OwnsNone p → q ≈ p → r ≈ calling q 1 1 → IsWide lot r → EndsAs lot (calling p 1 1) r
-  ends_called lot p q r none same took wide = record {
-    counts = ap counts_of took ∙ ap (λ (v : PassView V). counts_of (calling v 1 1)) same;
+  pub ends_called : (lot : LotView) (p q r : PassView V) → OwnsNone p → q ≈ p → r ≈ called_more q 1 1 → HasShape lot r → EndsAs lot (called_more p 1 1) r
+  ends_called lot p q r none same took shape = record {
+    counts = ap counts_of took ∙ ap (λ (v : PassView V). counts_of (called_more v 1 1)) same;
     free = none_still p r (ap (λ (v : PassView V). v.owns) took ∙ ap (λ (v : PassView V). v.owns) same)
         (ap (λ (v : PassView V). v.permits) took ∙ ap (λ (v : PassView V). v.permits) same) none;
-    wide = wide;
+    shape = shape;
   }
 
   -- two passes of two threads are those of both threads
@@ -71,7 +71,7 @@ raised_at : (xs : List ℕ) → length (slice_set xs 1 (slice_index xs 1 + 1)) �
 raised_at xs long none = get_or-set_same xs 1 (slice_index xs 1 + 1) 0 (omega (arith, long, length-set xs 1 (slice_index xs 1 + 1))) ∙ ap (λ n. n + 1) none
 
 module _ {V : Type 0} (lot : LotView) (first second a b : PassView V) (one_lock : lot.locks ≡ 1) (one_cond : lot.conds ≡ 1)
-    (waited : EndsAs lot (waking first 1) a) (called : EndsAs lot (calling second 1 1) b)
+    (waited : EndsAs lot (one_wait_more first 1) a) (called : EndsAs lot (called_more second 1 1) b)
     (first_none : HasCountedNone 1 first) (second_none : HasCountedNone 1 second) where
   sum_is : (count_at : ℕ → CountsView → ℕ) (sums : List ℕ) → AreSums lot.locks lot.conds count_at (counts_of a ∷ counts_of b ∷ []) sums
       → count_at 1 (counts_of a) + count_at 1 (counts_of b) ≡ 1 → sums ≡ 1 ∷ []
@@ -83,10 +83,10 @@ module _ {V : Type 0} (lot : LotView) (first second a b : PassView V) (one_lock 
       total = omega (arith, sum_by-cons (count_at 1) (counts_of a) (counts_of b ∷ []), sum_by-cons (count_at 1) (counts_of b) [], one)
 
   wide_a : length a.woken ≡ 2
-  wide_a = omega (arith, waited.wide.woken, one_lock, one_cond)
+  wide_a = omega (arith, waited.shape.woken, one_lock, one_cond)
 
   wide_b : length b.called ≡ 2
-  wide_b = omega (arith, called.wide.called, one_lock, one_cond)
+  wide_b = omega (arith, called.shape.called, one_lock, one_cond)
 
   called_sum : called_at 1 (counts_of a) + called_at 1 (counts_of b) ≡ 1
   called_sum =

@@ -1,6 +1,6 @@
 -- What a pass has counted of a condition when a call or a trial of it ends.
 use Rattle.std.specs.Prelude.{◌≡◌, ℕ, Option, IsSomeAnd, slice_index}
-use Rattle.lot_sync.specs.Lot.{LotView, PassView, OwnsNone, IsWide, counts_of}
+use Rattle.lot_sync.specs.Lot.{LotView, PassView, OwnsNone, HasShape, counts_of}
 
 module _ {V : Type 0} where
   -- it has taken nobody from the condition's line, and no wait of its own on it has ended
@@ -11,7 +11,7 @@ module _ {V : Type 0} where
   pub record EndsAs (lot : LotView) (wanted after : PassView V) : Type 0 where
     pub counts : counts_of after ≡ counts_of wanted
     pub free : OwnsNone after
-    pub wide : IsWide lot after
+    pub shape : HasShape lot after
 
   -- the pass that lay there went through calls of this effect, and lies there again
   abbrev pub GoesThere : (PassView V → PassView V → Type 0) → Option (PassView V) → Option (PassView V) → Type 0

@@ -12,7 +12,7 @@ use Rattle.lot_words.specs.Rested.{Rested}
 use Rattle.lot_whole.specs.Family.{cond}
 use Rattle.lot_whole.specs.Order.{IsLogOf, Dequeues}
 use Rattle.lot_scheme.specs.Roots.{size_named}
-use Rattle.lot_sync.specs.Lot.{LotView, PassView, LotNames, waking, calling}
+use Rattle.lot_sync.specs.Lot.{LotView, PassView, LotNames, one_wait_more, called_more}
 use Rattle.lot_trials.specs.Counting.{EndsAs}
 
 -- ---- accesses
@@ -48,12 +48,12 @@ module _ {V : Type 0} where
 
   -- q is the pass p after one wait on the condition 1, and after one notification of it
   pub record WaitsOnce (lot : LotView) (p q : PassView V) : Type 0 where
-    pub ends : EndsAs lot (waking p 1) q
+    pub ends : EndsAs lot (one_wait_more p 1) q
     pub waited : HasWaited 1 q
     pub none : HasTakenNone 1 p → HasTakenNone 1 q
 
   pub record CallsOnce (lot : LotView) (p q : PassView V) : Type 0 where
-    pub ends : EndsAs lot (calling p 1 1) q
+    pub ends : EndsAs lot (called_more p 1 1) q
     pub called : HasTakenNone 1 p → HasCalled 1 q
 
 -- ---- the history

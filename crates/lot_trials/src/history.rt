@@ -1,6 +1,6 @@
 //! The history that the passes of two threads leave behind a real lock.
 ghost use Rattle.std.specs.Prelude.{◌≡◌, ◌<◌, ℕ, length, vec_len};
-ghost use Rattle.lot_sync.specs.Lot.{OwnsNone, IsWide, HasSeen};
+ghost use Rattle.lot_sync.specs.Lot.{OwnsNone, HasShape, HasSeen};
 ghost use Rattle.lot_sync.specs.Opened.{IsNamed};
 ghost use Rattle.lot_journal.specs.Journal.{JournalView};
 ghost use Rattle.lot_load.specs.Counters.{AllLegal, IsThere};
@@ -107,7 +107,7 @@ fn call_once<V: Tells + Send, N: LotName<V> + Send + Sync, T: Wait + Abort>(
     requires free { OwnsNone pass }
     ensures same { result.thread ≡ pass.thread }
     ensures free { OwnsNone result }
-    ensures wide { IsWide lot.now result }
+    ensures shape { HasShape lot.now result }
     ensures there { (seen now : V) → HasSeen pass 0 seen → HasSeen result 0 now → IsCountedOnce V.grows V.part V.is_counted pass.thread seen now }
 {
     let thread = pass.thread();

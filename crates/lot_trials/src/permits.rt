@@ -132,7 +132,7 @@ fn two_of_two<N: LotName<Count> + Send + Sync>(
 ) -> (Pass<Count, N>, Pass<Count, N>)
     requires both { (1 ≤ permits_with first key) × (1 ≤ permits_with second key) }
     ensures same { (result.0 ≡ first) × (result.1 ≡ second) }
-    ensures two { 2 ≤ opening_permits N.low N.permits key }
+    ensures two { 2 ≤ opening_permits N.first_sem N.permits key }
 {
     lot.check_permits(first, second)
 }

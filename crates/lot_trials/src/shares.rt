@@ -1,6 +1,6 @@
 //! A caller with parts: what a thread left of its own in a lock is there when it comes back, whoever came between.
 ghost use Rattle.std.specs.Prelude.{◌≡◌, ◌≢◌, ◌+◌, ◌≤◌, ◌<◌, ℕ, length};
-ghost use Rattle.lot_sync.specs.Lot.{OwnsNone, IsWide, HasSeen};
+ghost use Rattle.lot_sync.specs.Lot.{OwnsNone, HasShape, HasSeen};
 ghost use Rattle.lot_sync.specs.Opened.{IsNamed};
 ghost use Rattle.lot_trials.specs.Shares.{own_share};
 
@@ -78,7 +78,7 @@ fn leave_own<N: LotName<Shares> + Send + Sync, T: Wait + Abort>(
     requires free { OwnsNone pass }
     ensures same { result.0.thread ≡ pass.thread }
     ensures free { OwnsNone result.0 }
-    ensures wide { IsWide lot.now result.0 }
+    ensures shape { HasShape lot.now result.0 }
     ensures left { (u : Shares) → HasSeen result.0 0 u → own_share pass.thread u.zero u.one ≡ result.1 }
 {
     let thread = pass.thread();

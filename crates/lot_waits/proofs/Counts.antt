@@ -5,7 +5,7 @@ use Rattle.std.proofs.lemmas.List.{drop-replicate, drop-set-add, map-set, length
 use Rattle.std.proofs.Math.ListN.{get_or-map}
 use Rattle.std.proofs.Math.Nat.{mod-add-mod}
 use Rattle.lot_core.specs.Parts.{IsAmongConds}
-use Rattle.lot_waits.specs.Counts.{CountsView, AreKept, wrap, kept, woke, took}
+use Rattle.lot_waits.specs.Counts.{CountsView, AreKept, wrap, kept, one_wait_more, called_more}
 
 wrapped_zeros : (n : ℕ) → map wrap (replicate {A = ℕ} n 0) ≡ replicate {A = ℕ} n 0
 wrapped_zeros zero = refl
@@ -51,7 +51,7 @@ kept_raised locks counts c by past =
 
 pub kept_woken : (locks conds : ℕ) (q : CountsView) (called woken : List ℕ) (c : ℕ) → IsAmongConds locks conds c
     → AreKept locks conds q called woken
-    → AreKept locks conds (woke q c) called (slice_set woken (c - locks) (wrap (slice_index woken (c - locks) + 1)))
+    → AreKept locks conds (one_wait_more q c) called (slice_set woken (c - locks) (wrap (slice_index woken (c - locks) + 1)))
 kept_woken locks conds q called woken c among k = record {
   wide = (k.wide.0, length-set q.woken c (slice_index q.woken c + 1) ∙ k.wide.1);
   called_are = k.called_are;
@@ -61,7 +61,7 @@ kept_woken locks conds q called woken c among k = record {
 
 pub kept_taken : (locks conds : ℕ) (q : CountsView) (called woken : List ℕ) (c n : ℕ) → IsAmongConds locks conds c
     → AreKept locks conds q called woken
-    → AreKept locks conds (took q c n) (slice_set called (c - locks) (wrap (slice_index called (c - locks) + n))) woken
+    → AreKept locks conds (called_more q c n) (slice_set called (c - locks) (wrap (slice_index called (c - locks) + n))) woken
 kept_taken locks conds q called woken c n among k = record {
   wide = (length-set q.called c (slice_index q.called c + n) ∙ k.wide.0, k.wide.1);
   called_are = ap (λ xs. slice_set xs (c - locks) (wrap (slice_index xs (c - locks) + n))) k.called_are

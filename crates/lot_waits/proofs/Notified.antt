@@ -5,13 +5,13 @@ use Rattle.lot_events.specs.declared.events.Event.TheVariants.{Look, Call, Lower
 use Rattle.lot_events.specs.declared.events.Seen.TheVariants.{Bool as Saw, Done, Count}
 use Rattle.lot_rights.specs.declared.views.Access.{Access}
 use Rattle.lot_rights.specs.declared.views.Access.TheVariants.{Makes}
-use Rattle.lot_conds.specs.Calls.{took}
+use Rattle.lot_conds.specs.Calls.{called_more as cond_called_more}
 use Rattle.lot_whole.specs.declared.views.LotPassView.{LotPassView}
 use Rattle.lot_whole.specs.declared.views.Stand.{Stand}
 use Rattle.lot_whole.specs.declared.views.Stand.TheVariants.{Idle}
 use Rattle.lot_whole.specs.Family.{cond}
 use Rattle.lot_whole.specs.Standing.{IsIdle, MaySweep}
-use Rattle.lot_scheme.specs.Standing.{LotStanding, adding, called, setting_out, swept}
+use Rattle.lot_scheme.specs.Standing.{LotStanding, adding, called_more as stand_called_more, setting_out, swept}
 use Rattle.lot_scheme.specs.Words.{word_of_all}
 use Rattle.lot_waits.specs.Notifying.{Calls, Sweeps, Notifies, NotifiesAll, FindsNobody}
 
@@ -38,15 +38,15 @@ module _ {V : Type 0} where
       inr (
         look ∷ call ∷ [],
         (more, refl),
-        went ∙ ap (λ did. record (called p c taken) { did = did }) (append_assoc p.did (look ∷ []) (call ∷ [])),
+        went ∙ ap (λ did. record (stand_called_more p c taken) { did = did }) (append_assoc p.did (look ∷ []) (call ∷ [])),
       )
 
   -- ---- all
   -- who sweeps what it has lowered knows what one knows that calls them all
-  swept_own : (p : LotStanding V) (c taken : ℕ) → IsIdle p.own → (swept (setting_out p c) c taken).own ≡ (called p c taken).own
+  swept_own : (p : LotStanding V) (c taken : ℕ) → IsIdle p.own → (swept (setting_out p c) c taken).own ≡ (stand_called_more p c taken).own
   swept_own p c taken idle =
-      ap (λ (s : Option ℕ). record p.own { conds = record (took p.own.conds c taken) { sweeps = s }; stand = Idle }) (sym idle.0.sweeps)
-      ∙ ap (λ (s : Stand). record p.own { conds = took p.own.conds c taken; stand = s }) (sym idle.1)
+      ap (λ (s : Option ℕ). record p.own { conds = record (cond_called_more p.own.conds c taken) { sweeps = s }; stand = Idle }) (sym idle.0.sweeps)
+      ∙ ap (λ (s : Stand). record p.own { conds = cond_called_more p.own.conds c taken; stand = s }) (sym idle.1)
 
   pub may_sweep : (p m r : LotStanding V) (c : ℕ) (saw : Bool) → IsIdle p.own → m ≡ looked p c saw
       → r ≡ adding (setting_out m c) (Makes (Lower m.thread c) Done ∷ [])

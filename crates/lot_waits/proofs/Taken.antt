@@ -4,11 +4,11 @@ use Rattle.std.proofs.Common.{arith}
 use Rattle.std.proofs.lemmas.List.{set-get_or, length-drop}
 use Rattle.lot_core.specs.Steps.{SaysMoreBehind}
 use Rattle.lot_park.specs.Parking.{TellsCount, debts}
-use Rattle.lot_scheme.specs.Standing.{LotStanding, called}
+use Rattle.lot_scheme.specs.Standing.{LotStanding, called_more}
 
 -- ---- the pass
 -- whoever has taken nobody stands as before
-pub none_called : {V : Type 0} (p : LotStanding V) (c : ℕ) → called p c 0 ≡ p
+pub none_called : {V : Type 0} (p : LotStanding V) (c : ℕ) → called_more p c 0 ≡ p
 none_called p c =
     let same : slice_set p.own.conds.called c (slice_index p.own.conds.called c + 0) ≡ p.own.conds.called =
     ap (λ n. slice_set p.own.conds.called c n) (omega arith) ∙ set-get_or p.own.conds.called c 0

@@ -7,10 +7,10 @@ use Rattle.lot_rights.specs.declared.views.Access.TheVariants.{Makes}
 use Rattle.lot_words.specs.CallersRule.{CallersRule}
 use Rattle.lot_whole.specs.Family.{lock, cond, sem}
 use Rattle.lot_whole.specs.Standing.{IsUp, IsIdle}
-use Rattle.lot_scheme.specs.Standing.{LotStanding, adding, called}
+use Rattle.lot_scheme.specs.Standing.{LotStanding, adding, called_more}
 use Rattle.lot_scheme.specs.Words.{word_of_all, word_of_nobody}
 use Rattle.lot_locks.specs.declared.released.Released.{Released}
-use Rattle.lot_waits.specs.Counts.{counts_in, woke}
+use Rattle.lot_waits.specs.Counts.{counts_in, one_wait_more}
 use Rattle.lot_waits.specs.Notifying.{FindsNobody, Notifies, NotifiesAll, HasTaken}
 use Rattle.lot_waits.specs.Waiting.{HasWaited, waited}
 use Rattle.lot_waits.proofs.Taken.{none_called}
@@ -26,18 +26,18 @@ module _ {V Part : Type 0} (rule : CallersRule V Part) where
       up cond = refl
       up sem = idle.0.up sem
 
-  pub counts_waited : (p q : LotStanding V) (c l : ℕ) (became : Released) → HasWaited rule p c l became q → counts_in q ≡ woke (counts_in p) c
+  pub counts_waited : (p q : LotStanding V) (c l : ℕ) (became : Released) → HasWaited rule p c l became q → counts_in q ≡ one_wait_more (counts_in p) c
   counts_waited p q c l became w = ap counts_in w.is
 
 module _ {V : Type 0} where
   -- ---- a notification
-  told : (p q : LotStanding V) (c taken : ℕ) (acts : List Access) → IsIdle p.own → q ≡ adding (called p c taken) acts → HasTaken p c taken q
+  told : (p q : LotStanding V) (c taken : ℕ) (acts : List Access) → IsIdle p.own → q ≡ adding (called_more p c taken) acts → HasTaken p c taken q
   told p q c taken acts idle is = record {
     idle = subst (λ (r : LotStanding V). IsIdle r.own) (sym is) (record { up = up; aim = idle.0.aim; sweeps = idle.0.sweeps; seeks = idle.0.seeks }, idle.1);
     counts = ap counts_in is;
   }
     where
-      up : IsUp (called p c taken).own
+      up : IsUp (called_more p c taken).own
       up lock = idle.0.up lock
       up cond = idle.0.up cond
       up sem = idle.0.up sem
@@ -45,13 +45,13 @@ module _ {V : Type 0} where
   pub told_nobody : (p q : LotStanding V) (c taken : ℕ) → IsIdle p.own → FindsNobody p c taken q → HasTaken p c taken q
   told_nobody p q c taken idle (none, is) =
       let acts : List Access = word_of_nobody p.thread c in
-      told p q c taken acts idle (is ∙ ap (λ (r : LotStanding V). adding r acts) (sym (ap (called p c) none ∙ none_called p c)))
+      told p q c taken acts idle (is ∙ ap (λ (r : LotStanding V). adding r acts) (sym (ap (called_more p c) none ∙ none_called p c)))
 
   pub told_some : (p q : LotStanding V) (c n taken : ℕ) → IsIdle p.own → Notifies p c n taken q → HasTaken p c taken q
   told_some p q c n taken idle (inl nobody) = told_nobody p q c taken idle nobody
   told_some p q c n taken idle (inr (did, (more, word), is)) =
       let acts : List Access = Makes (Look p.thread c) (Saw true) ∷ Makes (Call p.thread c n more) (Count taken) ∷ [] in
-      told p q c taken acts idle (is ∙ ap (adding (called p c taken)) word)
+      told p q c taken acts idle (is ∙ ap (adding (called_more p c taken)) word)
 
   pub told_all : (p q : LotStanding V) (c taken : ℕ) → IsIdle p.own → NotifiesAll p c taken q → HasTaken p c taken q
   told_all p q c taken idle (inl nobody) = told_nobody p q c taken idle nobody

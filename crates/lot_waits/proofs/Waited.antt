@@ -12,7 +12,7 @@ use Rattle.lot_words.specs.CallersRule.{CallersRule}
 use Rattle.lot_words.specs.Values.{IsIn}
 use Rattle.lot_whole.specs.Family.{lock, cond, sem}
 use Rattle.lot_whole.specs.Standing.{IsUp, IsAwake, MayTake}
-use Rattle.lot_scheme.specs.Standing.{LotStanding, adding, letting_go, enlisted, roused, IsLooked, CollectsIn}
+use Rattle.lot_scheme.specs.Standing.{LotStanding, adding, letting_go, enlisted, one_wait_more, IsLooked, CollectsIn}
 use Rattle.lot_scheme.specs.Words.{IsVain}
 use Rattle.lot_locks.specs.Released.{FreeWord}
 use Rattle.lot_locks.specs.Standing.{MayFree, LetsGo, IsOwner}
@@ -29,8 +29,8 @@ module _ {V : Type 0} where
   bed p c l = adding (enlisted p c l) (Makes (Enlist p.thread c l) Done ∷ [])
 
   -- it may let the lock go
-  pub lets : (locks low : ℕ) (p q : LotStanding V) (c l : ℕ) → MayEnlist locks low p c l → Enlists p c l q → MayFree q l
-  lets locks low p q c l may is = subst (λ (r : LotStanding V). MayFree r l) (sym is) at_bed
+  pub lets : (locks first_sem : ℕ) (p q : LotStanding V) (c l : ℕ) → MayEnlist locks first_sem p c l → Enlists p c l q → MayFree q l
+  lets locks first_sem p q c l may is = subst (λ (r : LotStanding V). MayFree r l) (sym is) at_bed
     where
       at_bed : MayFree (bed p c l) l
       at_bed = record { may = inr (may.idle.0.up lock, may.idle.0.aim, (c, refl)); holds = may.holds; lies = may.lies }
@@ -38,7 +38,7 @@ module _ {V : Type 0} where
   -- ---- at rest
   -- the pass, which has found its letter after it left the value y in the lock
   abbrev rest : LotStanding V → ℕ → ℕ → V → LotStanding V
-  rest p c l y = roused (letting_go (enlisted p c l) l y) c
+  rest p c l y = one_wait_more (letting_go (enlisted p c l) l y) c
 
   rest_up : (p : LotStanding V) (c l : ℕ) (y : V) → IsUp p.own → IsUp (rest p c l y).own
   rest_up p c l y up lock = up lock
@@ -59,9 +59,9 @@ module _ {V : Type 0} where
   same_thread p s c l became r = ap (λ (q : LotStanding V). q.thread) r.is
 
   -- and may take its lock
-  pub takes : (locks low : ℕ) (p s : LotStanding V) (c l : ℕ) (became : Released) → MayEnlist locks low p c l
+  pub takes : (locks first_sem : ℕ) (p s : LotStanding V) (c l : ℕ) (became : Released) → MayEnlist locks first_sem p c l
       → Rested p c l became s → MayTake s.own l
-  takes locks low p s c l became may r = subst (λ (q : LotStanding V). MayTake q.own l) (sym r.is) (inr (awake, inr (c, refl)))
+  takes locks first_sem p s c l became may r = subst (λ (q : LotStanding V). MayTake q.own l) (sym r.is) (inr (awake, inr (c, refl)))
     where
       awake : IsAwake (rest p c l r.left).own
       awake = record {
@@ -103,8 +103,8 @@ module _ {V Part : Type 0} (rule : CallersRule V Part) where
       let last : LotStanding V = adding (adding (letting_go (bed p c l) l y) free) looks in
       let (none, (d, out, is)) = subst (λ b. CollectsIn rule last b (Some c) token s) awake found in
       let same : d ≡ c = (let f : Some c ≡ Some d = out in cc) in
-      subst (λ k. s ≡ adding (roused last c) (Collects p.thread (Some k) ∷ [])) none
-      (subst (λ k. s ≡ adding (roused last k) (Collects p.thread (Some token) ∷ [])) same is)
+      subst (λ k. s ≡ adding (one_wait_more last c) (Collects p.thread (Some k) ∷ [])) none
+      (subst (λ k. s ≡ adding (one_wait_more last k) (Collects p.thread (Some token) ∷ [])) same is)
       ∙ ap (λ did. record (rest p c l y) { did = did })
       (four p.did (Makes (Enlist p.thread c l) Done) free looks (Collects p.thread (Some 0) ∷ []))
 
@@ -126,9 +126,9 @@ module _ {V Part : Type 0} (rule : CallersRule V Part) where
             (subst (λ (m : LotStanding V). IsLooked rule m (Some token) s) vain.2 waits.found);
       }
 
-  pub rested : (locks low : ℕ) (p s : LotStanding V) (c l : ℕ) (became : Released) → MayEnlist locks low p c l
+  pub rested : (locks first_sem : ℕ) (p s : LotStanding V) (c l : ℕ) (became : Released) → MayEnlist locks first_sem p c l
       → Slept {P = LotStanding V} Enlists LetsGo (IsLooked rule) p c l became s → Rested p c l became s
-  rested locks low p s c l became may slept = from_bed p slept.free s c l became slept.token (may.idle.0.up lock)
+  rested locks first_sem p s c l became may slept = from_bed p slept.free s c l became slept.token (may.idle.0.up lock)
       (subst (λ (q : LotStanding V). LetsGo q l became slept.free) slept.lined slept.went) slept.awaited
 
   -- with the lock again

@@ -3,7 +3,7 @@ use Rattle.std.specs.Prelude.{◌≡◌, ℕ, ◌+◌, ◌%◌, List, map, drop,
 use Rattle.lot_core.specs.Parts.{IsAmongConds}
 use Rattle.lot_rights.specs.Shown.{PassShown}
 use Rattle.lot_whole.specs.declared.views.LotPassView.{LotPassView}
-use Rattle.lot_scheme.specs.Standing.{LotStanding, stands}
+use Rattle.lot_scheme.specs.Standing.{LotStanding, standing_shown}
 
 -- a thread, and by key: the sleepers that it took from the condition's line, and its own waits that ended
 pub record CountsView : Type 0 where
@@ -17,19 +17,19 @@ module _ {V : Type 0} where
   counts_in p = record { thread = p.thread; called = p.own.conds.called; woken = p.own.conds.woken }
 
   abbrev pub counts_shown : PassShown (LotPassView V) → CountsView
-  counts_shown p = counts_in (stands p)
+  counts_shown p = counts_in (standing_shown p)
 
 -- the thread t, which has counted nothing yet, among so many keys
 abbrev pub uncounted : ℕ → ℕ → CountsView
 uncounted keys t = record { thread = t; called = replicate keys 0; woken = replicate keys 0 }
 
 -- one wait on c more has ended
-abbrev pub woke : CountsView → ℕ → CountsView
-woke q c = record q { woken = slice_set q.woken c (slice_index q.woken c + 1) }
+abbrev pub one_wait_more : CountsView → ℕ → CountsView
+one_wait_more q c = record q { woken = slice_set q.woken c (slice_index q.woken c + 1) }
 
 -- k sleepers more were taken from c's line
-abbrev pub took : CountsView → ℕ → ℕ → CountsView
-took q c k = record q { called = slice_set q.called c (slice_index q.called c + k) }
+abbrev pub called_more : CountsView → ℕ → ℕ → CountsView
+called_more q c k = record q { called = slice_set q.called c (slice_index q.called c + k) }
 
 -- there is a number for each key
 abbrev pub IsWide : ℕ → CountsView → Type 0

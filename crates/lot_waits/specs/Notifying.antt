@@ -7,13 +7,13 @@ use Rattle.lot_park.specs.Parking.{debts}
 use Rattle.lot_rights.specs.declared.views.Access.{Access}
 use Rattle.lot_rights.specs.declared.views.Access.TheVariants.{Makes}
 use Rattle.lot_whole.specs.Standing.{IsIdle, MaySweep}
-use Rattle.lot_scheme.specs.Standing.{LotStanding, adding, called, swept}
+use Rattle.lot_scheme.specs.Standing.{LotStanding, adding, called_more as stand_called_more, swept}
 use Rattle.lot_scheme.specs.Words.{CallWord, word_of_all, word_of_nobody}
-use Rattle.lot_waits.specs.Counts.{counts_in, took}
+use Rattle.lot_waits.specs.Counts.{counts_in, called_more as counts_called_more}
 
--- the numbers of the conditions are those from `locks` on and below `low`
+-- the numbers of the conditions are those from `locks` on and below `first_sem`
 abbrev pub IsCondKey : ℕ → ℕ → ℕ → Type 0
-IsCondKey locks low c = (locks ≤ c) × (c < low)
+IsCondKey locks first_sem c = (locks ≤ c) × (c < first_sem)
 
 -- how many threads were taken, of one at most
 abbrev pub one_of : Option ℕ → ℕ
@@ -40,16 +40,16 @@ pub record DequeuesAll {R : Type 0} (view : R → KeyLine) (root root_now : R) :
 module _ {V : Type 0} where
   -- ---- while the condition's bucket is locked
   abbrev pub MayCall : ℕ → ℕ → LotStanding V → ℕ → Type 0
-  MayCall locks low p c = IsCondKey locks low c × IsIdle p.own
+  MayCall locks first_sem p c = IsCondKey locks first_sem c × IsIdle p.own
 
   -- so many were taken from c's line, of n at most
   abbrev pub Calls : LotStanding V → ℕ → ℕ → ℕ → LotStanding V → Type 0
   Calls p c n taken q =
-      (more : Bool) × (q ≡ adding (called p c taken) (Makes (Call p.thread c n more) (Count taken) ∷ []))
+      (more : Bool) × (q ≡ adding (stand_called_more p c taken) (Makes (Call p.thread c n more) (Count taken) ∷ []))
 
   -- it has lowered c's flag, and may take all of c's line
   abbrev pub MayTakeAll : ℕ → ℕ → LotStanding V → ℕ → Type 0
-  MayTakeAll locks low p c = IsCondKey locks low c × MaySweep p.own c
+  MayTakeAll locks first_sem p c = IsCondKey locks first_sem c × MaySweep p.own c
 
   -- all of c's line were taken, so many
   abbrev pub Sweeps : LotStanding V → ℕ → ℕ → LotStanding V → Type 0
@@ -64,14 +64,14 @@ module _ {V : Type 0} where
   abbrev pub Notifies : LotStanding V → ℕ → ℕ → ℕ → LotStanding V → Type 0
   Notifies p c n taken q =
       FindsNobody p c taken q
-      ⊎ ((did : List Access) × CallWord p.thread c n taken did × (q ≡ adding (called p c taken) did))
+      ⊎ ((did : List Access) × CallWord p.thread c n taken did × (q ≡ adding (stand_called_more p c taken) did))
 
   -- all of c's line were taken, so many
   abbrev pub NotifiesAll : LotStanding V → ℕ → ℕ → LotStanding V → Type 0
   NotifiesAll p c taken q =
-      FindsNobody p c taken q ⊎ (q ≡ adding (called p c taken) (word_of_all p.thread c taken))
+      FindsNobody p c taken q ⊎ (q ≡ adding (stand_called_more p c taken) (word_of_all p.thread c taken))
 
   -- it is idle still, and has counted so many more of c's line
   pub record HasTaken (p : LotStanding V) (c taken : ℕ) (q : LotStanding V) : Type 0 where
     pub idle : IsIdle q.own
-    pub counts : counts_in q ≡ took (counts_in p) c taken
+    pub counts : counts_in q ≡ counts_called_more (counts_in p) c taken

@@ -10,9 +10,9 @@ use Rattle.lot_rights.specs.declared.views.Access.TheVariants.{Makes, Collects}
 use Rattle.lot_words.specs.CallersRule.{CallersRule}
 use Rattle.lot_words.specs.World.{Holds}
 use Rattle.lot_words.specs.Values.{IsIn, FoundOk}
-use Rattle.lot_words.specs.Calls.{let_go}
+use Rattle.lot_words.specs.Calls.{letting_go as lock_letting_go}
 use Rattle.lot_whole.specs.Standing.{IsIdle}
-use Rattle.lot_scheme.specs.Standing.{LotStanding, adding, owning, letting_go, enlisted, roused}
+use Rattle.lot_scheme.specs.Standing.{LotStanding, adding, owning, letting_go, enlisted, one_wait_more}
 use Rattle.lot_scheme.specs.Words.{GetWord, IsVain}
 use Rattle.lot_locks.specs.Released.{FreeWord}
 use Rattle.lot_locks.specs.declared.released.Released.{Released}
@@ -32,8 +32,8 @@ pub record WaitWord (t c l : ℕ) (became : Released) (acts : List Access) : Typ
 
 module _ {V : Type 0} where
   -- it is idle, and has the lock, one of so many, whose value lies in its slot
-  pub record MayEnlist (locks low : ℕ) (p : LotStanding V) (c l : ℕ) : Type 0 where
-    pub cond : IsCondKey locks low c
+  pub record MayEnlist (locks first_sem : ℕ) (p : LotStanding V) (c l : ℕ) : Type 0 where
+    pub cond : IsCondKey locks first_sem c
     pub lock : l < locks
     pub idle : IsIdle p.own
     pub holds : Holds p.own.locks l
@@ -44,7 +44,7 @@ module _ {V : Type 0} where
 
   -- the pass after a whole wait, which left the value y in the lock and found x there when it got the lock again
   abbrev pub waited : LotStanding V → ℕ → ℕ → V → V → LotStanding V
-  waited p c l y x = owning (roused (letting_go (enlisted p c l) l y) c) l x
+  waited p c l y x = owning (one_wait_more (letting_go (enlisted p c l) l y) c) l x
 
 -- it waited, and the lock became this when it was let go
 pub record HasWaited {V Part : Type 0} (rule : CallersRule V Part) (p : LotStanding V) (c l : ℕ) (became : Released)
@@ -52,7 +52,7 @@ pub record HasWaited {V Part : Type 0} (rule : CallersRule V Part) (p : LotStand
   pub left : V
   pub lay : IsIn p.own.locks l left
   pub found : V
-  pub found_ok : FoundOk rule l p.thread (let_go p.own.locks l left) found
+  pub found_ok : FoundOk rule l p.thread (lock_letting_go p.own.locks l left) found
   pub did : List Access
   pub word : WaitWord p.thread c l became did
   pub is : q ≡ adding (waited p c l left found) did

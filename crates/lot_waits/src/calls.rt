@@ -9,7 +9,7 @@ ghost use Rattle.lot_words.specs.Values.{IsIn};
 ghost use Rattle.lot_whole.specs.Standing.{IsIdle};
 ghost use Rattle.lot_scheme.specs.Standing.{adding};
 ghost use Rattle.lot_locks.specs.Released.{IsFitting};
-ghost use Rattle.lot_waits.specs.Counts.{counts_in, woke};
+ghost use Rattle.lot_waits.specs.Counts.{counts_in, one_wait_more};
 ghost use Rattle.lot_waits.specs.Notifying.{Notifies, NotifiesAll, HasTaken, one_if};
 ghost use Rattle.lot_waits.specs.Waiting.{HasWaited};
 
@@ -36,7 +36,7 @@ pub fn wait<V: Keeps + Send, N: LotName<V> + Send, R: Wait, B: BeforeSleep>(
     moment: Moment,
     before: &B,
 ) -> (NamedPass<V, N>, Released)
-    requires cond { (N.locks ≤ cond) × (cond < N.low) × (cond < parking.now.keys) }
+    requires cond { (N.locks ≤ cond) × (cond < N.first_sem) × (cond < parking.now.keys) }
     requires lock { (lock < N.locks) × (lock < parking.now.keys) }
     requires thread { pass.thread < parking.now.threads }
     requires idle { IsIdle pass.own }
@@ -44,7 +44,7 @@ pub fn wait<V: Keeps + Send, N: LotName<V> + Send, R: Wait, B: BeforeSleep>(
     requires lies { (y : V) × IsIn pass.own.locks lock y }
     ensures waited { HasWaited V.Keeps pass cond lock result.1 result.0 }
     ensures idle { IsIdle result.0.own }
-    ensures counts { counts_in result.0 ≡ woke (counts_in pass) cond }
+    ensures counts { counts_in result.0 ≡ one_wait_more (counts_in pass) cond }
     ensures fits { IsFitting result.1 false moment.now }
 {
     let (pass, released) = sleep_on(rt, parking, pass, cond, lock, moment, before);
@@ -59,7 +59,7 @@ pub fn has_waiters<V: Keeps + Send, N: LotName<V> + Send>(
     pass: NamedPass<V, N>,
     cond: usize,
 ) -> (NamedPass<V, N>, bool)
-    requires cond { (N.locks ≤ cond) × (cond < N.low) }
+    requires cond { (N.locks ≤ cond) × (cond < N.first_sem) }
     requires idle { IsIdle pass.own }
     ensures pass { result.0 ≡ adding pass (Makes (Look pass.thread cond) (Saw result.1) ∷ []) }
     ensures idle { IsIdle result.0.own }
@@ -78,7 +78,7 @@ pub fn notify_one<V: Keeps + Send, N: LotName<V> + Send, R: Wait>(
     cond: usize,
     moment: Moment,
 ) -> (NamedPass<V, N>, bool)
-    requires cond { (N.locks ≤ cond) × (cond < N.low) × (cond < parking.now.keys) }
+    requires cond { (N.locks ≤ cond) × (cond < N.first_sem) × (cond < parking.now.keys) }
     requires idle { IsIdle pass.own }
     ensures pass { Notifies pass cond 1 (one_if result.1) result.0 }
     ensures taken { HasTaken pass cond (one_if result.1) result.0 }
@@ -101,7 +101,7 @@ pub fn notify_some<V: Keeps + Send, N: LotName<V> + Send, R: Wait>(
     cond: usize,
     count: usize,
 ) -> (NamedPass<V, N>, usize)
-    requires cond { (N.locks ≤ cond) × (cond < N.low) × (cond < parking.now.keys) }
+    requires cond { (N.locks ≤ cond) × (cond < N.first_sem) × (cond < parking.now.keys) }
     requires idle { IsIdle pass.own }
     requires count { IsCallCount count }
     ensures pass { Notifies pass cond count result.1 result.0 }
@@ -124,7 +124,7 @@ pub fn notify_all<V: Keeps + Send, N: LotName<V> + Send, R: Wait>(
     pass: NamedPass<V, N>,
     cond: usize,
 ) -> (NamedPass<V, N>, usize)
-    requires cond { (N.locks ≤ cond) × (cond < N.low) × (cond < parking.now.keys) }
+    requires cond { (N.locks ≤ cond) × (cond < N.first_sem) × (cond < parking.now.keys) }
     requires idle { IsIdle pass.own }
     ensures pass { NotifiesAll pass cond result.1 result.0 }
     ensures taken { HasTaken pass cond result.1 result.0 }

@@ -79,15 +79,15 @@ impl<V: Keeps + Send, N: LotName<V> + Send> CondSteps for LotScheme<V, N> {
     ghost use Rattle.lot_waits.specs.Notifying.{MayCall, Calls, MayTakeAll, Sweeps};
     ghost use Rattle.lot_waits.specs.Waiting.{MayEnlist, Enlists};
 
-    ghost may_enlist = { MayEnlist N.locks N.low };
+    ghost may_enlist = { MayEnlist N.locks N.first_sem };
 
     ghost enlists = { Enlists };
 
-    ghost may_call = { MayCall N.locks N.low };
+    ghost may_call = { MayCall N.locks N.first_sem };
 
     ghost calls = { Calls };
 
-    ghost may_sweep = { MayTakeAll N.locks N.low };
+    ghost may_sweep = { MayTakeAll N.locks N.first_sem };
 
     ghost sweeps = { Sweeps };
 

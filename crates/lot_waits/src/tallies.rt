@@ -1,7 +1,7 @@
 //! The numbers that are kept of what a pass counts, modulo 2^64.
 ghost use Rattle.std.specs.Prelude.{◌≡◌, ℕ, ◌+◌, ◌<◌, slice_index, slice_set, vec_len, IfOk};
 ghost use Rattle.lot_core.specs.Parts.{IsAmongConds};
-ghost use Rattle.lot_waits.specs.Counts.{CountsView, AreKept, MayCount, took, woke, wrap};
+ghost use Rattle.lot_waits.specs.Counts.{CountsView, AreKept, MayCount, called_more, one_wait_more, wrap};
 ghost use Rattle.lot_waits.specs.Ledger.{AreAdded};
 
 use std::alloc::{AllocError, Global};
@@ -31,7 +31,7 @@ pub fn count_wait(mut tallies: Box<Tallies>, locks: usize, cond: usize) -> Box<T
     requires { MayCount locks cond tallies.value.called.items tallies.value.woken.items }
     ensures { (conds : ℕ) (q : CountsView) → IsAmongConds locks conds cond
         → AreKept locks conds q tallies.value.called.items tallies.value.woken.items
-        → AreKept locks conds (woke q cond) result.value.called.items result.value.woken.items }
+        → AreKept locks conds (one_wait_more q cond) result.value.called.items result.value.woken.items }
 {
     raise(&mut tallies.woken, cond - locks, 1);
     tallies
@@ -47,7 +47,7 @@ pub fn count_taken(
     requires { MayCount locks cond tallies.value.called.items tallies.value.woken.items }
     ensures { (conds : ℕ) (q : CountsView) → IsAmongConds locks conds cond
         → AreKept locks conds q tallies.value.called.items tallies.value.woken.items
-        → AreKept locks conds (took q cond count) result.value.called.items result.value.woken.items }
+        → AreKept locks conds (called_more q cond count) result.value.called.items result.value.woken.items }
 {
     raise(&mut tallies.called, cond - locks, count as u64);
     tallies

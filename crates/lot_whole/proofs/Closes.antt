@@ -30,8 +30,8 @@ use Rattle.lot_whole.specs.declared.views.LotPassView.{LotPassView}
 use Rattle.lot_whole.specs.declared.views.LotRootView.{LotRootView}
 use Rattle.lot_whole.specs.declared.views.LotRootView.TheVariants.{Lock, Cond, Sem}
 use Rattle.lot_whole.specs.Family.{Which, lock, cond, sem, LotSize, lock_size, cond_size, sem_size, SlotOf, PassIn, RootIn, homes_in}
-use Rattle.lot_whole.specs.Family.{scheme_of, part_in}
-use Rattle.lot_whole.specs.Lot.{own_of, LotWorld, PassOk, LotPassIs, LotRootIs, lot_scheme}
+use Rattle.lot_whole.specs.Family.{meaning_of, part_in}
+use Rattle.lot_whole.specs.Lot.{own_of, LotWorld, PassOk, LotPassIs, LotRootIs, lot_meaning}
 use Rattle.lot_whole.specs.Lifts.{part_pass}
 use Rattle.lot_whole.specs.Closing.{HasDone, called_in, woken_in, out_with, permits_of, LineIs, IsToldTo}
 use Rattle.lot_whole.proofs.Moments.{one_run}
@@ -69,16 +69,16 @@ module _ {V Part : Type 0} (rule : CallersRule V Part) (z : LotSize) (opening : 
   slots_in cond = []
   slots_in sem = []
 
-  module _ (left : Left (lot_scheme rule z opening) passes roots ws ys) where
+  module _ (left : Left (lot_meaning rule z opening) passes roots ws ys) where
     abbrev w : LotWorld rule z opening
     w = left.world
 
     passes_fit : (j : Which) → All
-        (λ (p : PassShown (PassIn V j)). (scheme_of rule z opening j).PassFits (w.each j) p.pass.thread p.pass.own) (map (in_kind j) passes)
-    passes_fit j = All-map (λ (p : PassShown (PassIn V j)). (scheme_of rule z opening j).PassFits (w.each j) p.pass.thread p.pass.own)
+        (λ (p : PassShown (PassIn V j)). (meaning_of rule z opening j).PassFits (w.each j) p.pass.thread p.pass.own) (map (in_kind j) passes)
+    passes_fit j = All-map (λ (p : PassShown (PassIn V j)). (meaning_of rule z opening j).PassFits (w.each j) p.pass.thread p.pass.own)
         (in_kind j) passes
         (All-weaker (λ (p : PassShown (LotPassView V)). LotPassIs rule z opening w p.pass.thread p.pass.own)
-        (λ (p : PassShown (LotPassView V)). (scheme_of rule z opening j).PassFits (w.each j) p.pass.thread (own_of V p.pass.own j))
+        (λ (p : PassShown (LotPassView V)). (meaning_of rule z opening j).PassFits (w.each j) p.pass.thread (own_of V p.pass.own j))
         (λ p fit. (subst (PassOk rule z opening w p.pass.thread) fit.1 (left.fits.passes p.pass.thread fit.0)).each j) passes
         left.passes_fit)
 
@@ -102,7 +102,7 @@ module _ {V Part : Type 0} (rule : CallersRule V Part) (z : LotSize) (opening : 
     at_home sem i y e = absurd (some-ne-none (some y) (sym e))
 
     -- what is left of a kind
-    pub left_in : (j : Which) → Left (scheme_of rule z opening j) (map (in_kind j) passes) [] (w.words j) (slots_in j)
+    pub left_in : (j : Which) → Left (meaning_of rule z opening j) (map (in_kind j) passes) [] (w.words j) (slots_in j)
     left_in j = record {
       world = w.each j;
       homes = homes_in j left.homes;
@@ -110,7 +110,7 @@ module _ {V Part : Type 0} (rule : CallersRule V Part) (z : LotSize) (opening : 
       deep = deep j;
       at_home = at_home j;
       passes_fit = passes_fit j;
-      roots_fit = All-nil (λ (q : RootShown (RootIn j)). (scheme_of rule z opening j).RootFits (w.each j) q.root.key q.root.own);
+      roots_fit = All-nil (λ (q : RootShown (RootIn j)). (meaning_of rule z opening j).RootFits (w.each j) q.root.key q.root.own);
       once = once j;
     }
 
@@ -165,17 +165,17 @@ module _ {V Part : Type 0} (rule : CallersRule V Part) (z : LotSize) (opening : 
 
   -- ---- the history
   line_is : (v : LotWorld rule z opening)
-      → ((j : Which) → part_in rule z opening j v.whole ≡ ((scheme_of rule z opening j).told_by (v.each j)).part)
+      → ((j : Which) → part_in rule z opening j v.whole ≡ ((meaning_of rule z opening j).told_by (v.each j)).part)
       → (c : ℕ) (q : LotRootView)
       → LotRootIs rule z opening v c q → LineIs v.whole c q
   line_is v agrees c (Lock q) h = ap (λ (a : LockPart). a.locks.line c) (agrees lock) ∙ ap (λ (r : LockRootView). r.line) h.1.1
   line_is v agrees c (Cond q) h = ap (λ (a : CondPart). a.conds.line c) (agrees cond) ∙ ap (λ (r : CondRootView). r.line) h.1.1
   line_is v agrees c (Sem q) h = ap (λ (a : SemaphorePart). a.sems.line c) (agrees sem) ∙ h.1.1
 
-  pub told_to : Ended (lot_scheme rule z opening) passes roots ws ys
+  pub told_to : Ended (lot_meaning rule z opening) passes roots ws ys
       → ((t : ℕ) → t < z.threads → Any (λ (p : PassShown (LotPassView V)). p.pass.thread ≡ t) passes) → IsToldTo z passes roots
   told_to ended all =
-      let told = ended_recounted (lot_scheme rule z opening) passes roots ws ys ended in
+      let told = ended_recounted (lot_meaning rule z opening) passes roots ws ys ended in
       record {
         recounted = told;
         run = one_run z (events_in ended.log) ended.left.world.whole ended.left.fits.reached told.run;

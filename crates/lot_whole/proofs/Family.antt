@@ -16,7 +16,7 @@ use Rattle.lot_conds.proofs.Machine.{awake_is as cond_awake}
 use Rattle.lot_sems.specs.World.{word_of}
 use Rattle.lot_sems.proofs.Machine.{awake_is as sem_awake}
 use Rattle.lot_words.specs.declared.views.LockPassView.{LockPassView}
-use Rattle.lot_whole.specs.Family.{Which, lock, cond, sem, LotSize, sizes_in, key_count, IsKeyIn, PassIn, away, homes_in, scheme_of}
+use Rattle.lot_whole.specs.Family.{Which, lock, cond, sem, LotSize, sizes_in, key_count, IsKeyIn, PassIn, away, homes_in, meaning_of}
 use Rattle.lot_whole.specs.Family.{part_in, dput}
 use Rattle.lot_whole.specs.Whole.{word_in}
 use Rattle.lot_whole.specs.Lot.{sum_of}
@@ -118,25 +118,25 @@ no_some None e = refl
 no_some (Some x) e = absurd (cc)
 
 module _ {V Part : Type 0} (rule : CallersRule V Part) (z : LotSize) (xs : List V) where
-  pub wide_in : (j : Which) (w : (scheme_of rule z xs j).World) (ws : List ℕ) (hs : List (maybe.Option (Option V)))
-      → (scheme_of rule z xs j).Fits w ws (homes_in j hs)
+  pub wide_in : (j : Which) (w : (meaning_of rule z xs j).World) (ws : List ℕ) (hs : List (maybe.Option (Option V)))
+      → (meaning_of rule z xs j).Fits w ws (homes_in j hs)
       → length ws ≡ word_count z.threads ((sizes_in z j).first + (sizes_in z j).keys)
   wide_in lock w ws hs ok = ok.words.wide
   wide_in cond w ws hs ok = ok.words.wide
   wide_in sem w ws hs ok = ok.words.wide
 
-  pub letter_in : (j : Which) (w : (scheme_of rule z xs j).World) (ws : List ℕ) (hs : List (maybe.Option (Option V)))
-      → (scheme_of rule z xs j).Fits w ws (homes_in j hs)
-      → (t : ℕ) → t < z.threads → get_or ws (letter_at t) 0 ≡ ((scheme_of rule z xs j).told_by w).letters t
+  pub letter_in : (j : Which) (w : (meaning_of rule z xs j).World) (ws : List ℕ) (hs : List (maybe.Option (Option V)))
+      → (meaning_of rule z xs j).Fits w ws (homes_in j hs)
+      → (t : ℕ) → t < z.threads → get_or ws (letter_at t) 0 ≡ ((meaning_of rule z xs j).told_by w).letters t
   letter_in lock w ws hs ok = ok.words.letters
   letter_in cond w ws hs ok = ok.words.letters
   letter_in sem w ws hs ok = ok.words.letters
 
   -- who is not away has no letter
-  pub still : (j : Which) (w : (scheme_of rule z xs j).World) (ws : List ℕ) (hs : List (maybe.Option (Option V)))
-      → (scheme_of rule z xs j).Fits w ws (homes_in j hs)
-      → (t : ℕ) (p : PassIn V j) → (scheme_of rule z xs j).PassFits w t p → away V j p ≡ false
-      → ((scheme_of rule z xs j).told_by w).letters t ≡ 0
+  pub still : (j : Which) (w : (meaning_of rule z xs j).World) (ws : List ℕ) (hs : List (maybe.Option (Option V)))
+      → (meaning_of rule z xs j).Fits w ws (homes_in j hs)
+      → (t : ℕ) (p : PassIn V j) → (meaning_of rule z xs j).PassFits w t p → away V j p ≡ false
+      → ((meaning_of rule z xs j).told_by w).letters t ≡ 0
   still lock w ws hs ok t p fit up =
       ap letter_of (lock_awake z.threads w.word w.root t (w.pass t) (w.spot t) (ok.kept.threads t).spot
       (ap (λ (x : LockPassView V). x.asleep) fit.1 ∙ up))
@@ -146,7 +146,7 @@ module _ {V Part : Type 0} (rule : CallersRule V Part) (z : LotSize) (xs : List 
   still sem w ws hs ok t p fit up = ap letter_of (sem_awake (w.spot t) (fit.asleep ∙ up))
 
   -- the word of a key is the word that its kind's part of the state tells
-  pub word_is : (j : Which) (s : World) (c : ℕ) → IsKeyIn z j c → word_in z s c ≡ (scheme_of rule z xs j).word_in (part_in rule z xs j s) c
+  pub word_is : (j : Which) (s : World) (c : ℕ) → IsKeyIn z j c → word_in z s c ≡ (meaning_of rule z xs j).word_in (part_in rule z xs j s) c
   word_is lock s c is = ap (λ b. if b then bits_of (s.locks.held c) (s.locks.parked c)
       else (if nat_lt c (z.locks + z.conds) then flag_word (s.conds.flag c) else word_of (s.sems.left c) (s.sems.parked c)))
       (lt-ltb c z.locks (omega (arith, is.1)))

@@ -6,17 +6,17 @@ use Rattle.std.specs.List.{Contains}
 use mathlib.Core.Option as maybe
 use Rattle.lot_rights.specs.declared.views.Access.{Access}
 use Rattle.lot_rights.specs.declared.views.Access.TheVariants.{Posts, Collects}
-use Rattle.lot_rights.specs.declared.views.PassView.{PassView}
-use Rattle.lot_rights.specs.declared.views.RootView.{RootView}
+use Rattle.lot_rights.specs.declared.views.PassRight.{PassRight}
+use Rattle.lot_rights.specs.declared.views.RootRight.{RootRight}
 use Rattle.lot_rights.specs.Layout.{letter_at}
 use Rattle.lot_rights.specs.Steps.{Notes, RootNotes, pass_after, root_after, AllowsPass, AllowsRoot}
 use Rattle.lot_words.specs.CallersRule.{CallersRule}
-use Rattle.lot_words.specs.Calls.{gripped, woken as lock_woken, paid_root as lock_paid}
+use Rattle.lot_words.specs.Calls.{owning, woken as lock_woken, paid_root as lock_paid}
 use Rattle.lot_words.specs.declared.views.LockPassView.{LockPassView}
 use Rattle.lot_words.specs.declared.views.LockRootView.{LockRootView}
 use Rattle.lot_words.proofs.Collecting as lock_letters
 use Rattle.lot_words.proofs.Roots as lock_roots
-use Rattle.lot_conds.specs.Calls.{woken_pass, paid_root as cond_paid}
+use Rattle.lot_conds.specs.Calls.{one_wait_more, paid_root as cond_paid}
 use Rattle.lot_conds.specs.declared.views.CondPassView.{CondPassView}
 use Rattle.lot_conds.specs.declared.views.CondRootView.{CondRootView}
 use Rattle.lot_conds.proofs.Turns as cond_turns
@@ -26,7 +26,7 @@ use Rattle.lot_sems.specs.declared.views.SemRootView.{SemRootView}
 use Rattle.lot_sems.proofs.Roots as sem_roots
 use Rattle.lot_whole.specs.declared.views.LotPassView.{LotPassView}
 use Rattle.lot_whole.specs.Family.{Which, lock, cond, sem, LotSize, lock_size, cond_size, sem_size, RootIn, away}
-use Rattle.lot_whole.specs.Lot.{own_of, root_from, LotWorld, LotFits, LotPassIs, LotRootIs, lot_scheme}
+use Rattle.lot_whole.specs.Lot.{own_of, root_from, LotWorld, LotFits, LotPassIs, LotRootIs, lot_meaning}
 use Rattle.lot_whole.specs.Lifts.{part_pass, whole_root, Speaks, Quiet, InPlace, CarriesRoot}
 use Rattle.lot_whole.specs.Calls.{RootNotesIn, CollectsIn, FoundNone, Collected}
 use Rattle.lot_whole.specs.Calls.{CollectedBy}
@@ -36,15 +36,15 @@ use Rattle.lot_whole.proofs.Steps.{root_in}
 use Rattle.lot_whole.proofs.Tells.{quiet, quiet_else, lock_debtor, cond_debtor, sem_debtor}
 
 -- ---- an entry of a root tells what it knew then
-last_is : {R : Type 0} (q : RootView R) (own own' : R) (a a' : Access) → RootNotes q own' a' (root_after q own 0 a) → (own ≡ own')
+last_is : {R : Type 0} (q : RootRight R) (own own' : R) (a a' : Access) → RootNotes q own' a' (root_after q own 0 a) → (own ≡ own')
     × (a ≡ a')
 last_is {R} q own own' a a' h =
     let t = notes_tell (record { thread = q.key; made = q.made; own = q.own }) own own' a a'
-    (h.0, ap (λ (y : RootView R). let p : PassView R = record { thread = y.key; made = y.made; own = y.own } in p) h.1) in t
+    (h.0, ap (λ (y : RootRight R). let p : PassRight R = record { thread = y.key; made = y.made; own = y.own } in p) h.1) in t
 
 module _ {V Part : Type 0} (rule : CallersRule V Part) (z : LotSize) (xs : List V) where
   -- ---- posting
-  carry_root : (j : Which) (q : RootView (RootIn j)) (u token : ℕ) (paid : RootIn j)
+  carry_root : (j : Which) (q : RootRight (RootIn j)) (u token : ℕ) (paid : RootIn j)
       → ((w : LotWorld rule z xs) (ws : List ℕ) (hs : List (maybe.Option (Option V))) → LotFits rule z xs w ws hs
       → LotRootIs rule z xs w q.key (root_from j q.own) → (u < z.threads) × Quiet rule z xs j w u)
       → CarriesRoot rule z xs j q (λ _. RootNotes q paid (Posts q.key u token))
@@ -58,8 +58,8 @@ module _ {V Part : Type 0} (rule : CallersRule V Part) (z : LotSize) (xs : List 
   place_of : (j : Which) (w : LotWorld rule z xs) (u : ℕ) → (u < z.threads) × Quiet rule z xs j w u → InPlace rule z xs j w (letter_at u)
   place_of j w u h = inr (u, (h.0, refl, h.1))
 
-  pub posts_lock : (q : RootView LockRootView) (u k : ℕ) → q.own.owes ≡ Some (u, k)
-      → AllowsRoot (lot_scheme rule z xs) (letter_at u) (λ _. k + 1) (whole_root lock q)
+  pub posts_lock : (q : RootRight LockRootView) (u k : ℕ) → q.own.owes ≡ Some (u, k)
+      → AllowsRoot (lot_meaning rule z xs) (letter_at u) (λ _. k + 1) (whole_root lock q)
       (λ _. RootNotesIn lock (whole_root lock q) (lock_paid q.own) (Posts q.key u k))
   posts_lock q u k debt =
       let debtor = (λ (w : LotWorld rule z xs) (ws : List ℕ) (hs : List (maybe.Option (Option V))) (ok : LotFits rule z xs w ws hs)
@@ -70,8 +70,8 @@ module _ {V Part : Type 0} (rule : CallersRule V Part) (z : LotSize) (xs : List 
       (lock_roots.posts rule (lock_size z) xs q u k debt) (λ w ws hs ok root. place_of lock w u (debtor w ws hs ok root))
       (carry_root lock q u k (lock_paid q.own) debtor)
 
-  pub posts_cond : (q : RootView CondRootView) (u : ℕ) → Contains q.own.owes u
-      → AllowsRoot (lot_scheme rule z xs) (letter_at u) (λ _. 1) (whole_root cond q)
+  pub posts_cond : (q : RootRight CondRootView) (u : ℕ) → Contains q.own.owes u
+      → AllowsRoot (lot_meaning rule z xs) (letter_at u) (λ _. 1) (whole_root cond q)
       (λ _. RootNotesIn cond (whole_root cond q) (cond_paid q.own u) (Posts q.key u 0))
   posts_cond q u debt =
       let debtor = (λ (w : LotWorld rule z xs) (ws : List ℕ) (hs : List (maybe.Option (Option V))) (ok : LotFits rule z xs w ws hs)
@@ -82,8 +82,8 @@ module _ {V Part : Type 0} (rule : CallersRule V Part) (z : LotSize) (xs : List 
       (cond_turns.posts (cond_size z) q u debt) (λ w ws hs ok root. place_of cond w u (debtor w ws hs ok root))
       (carry_root cond q u 0 (cond_paid q.own u) debtor)
 
-  pub posts_sem : (q : RootView SemRootView) (u : ℕ) → q.own.owes ≡ Some u
-      → AllowsRoot (lot_scheme rule z xs) (letter_at u) (λ _. 1) (whole_root sem q)
+  pub posts_sem : (q : RootRight SemRootView) (u : ℕ) → q.own.owes ≡ Some u
+      → AllowsRoot (lot_meaning rule z xs) (letter_at u) (λ _. 1) (whole_root sem q)
       (λ _. RootNotesIn sem (whole_root sem q) (sem_paid q.own) (Posts q.key u 0))
   posts_sem q u debt =
       let debtor = (λ (w : LotWorld rule z xs) (ws : List ℕ) (hs : List (maybe.Option (Option V))) (ok : LotFits rule z xs w ws hs)
@@ -97,20 +97,20 @@ module _ {V Part : Type 0} (rule : CallersRule V Part) (z : LotSize) (xs : List 
 -- ---- collecting
 module _ {V Part : Type 0} (rule : CallersRule V Part) where
   -- what the swap tells, by the number found
-  abbrev pub Collecting : PassView (LotPassView V) → ℕ → PassView (LotPassView V) → Type 0
+  abbrev pub Collecting : PassRight (LotPassView V) → ℕ → PassRight (LotPassView V) → Type 0
   Collecting p n q = (n ≤ 2) × CollectedBy rule p n q
 
   -- the same, by where the thread is away
-  abbrev CollectingIn : PassView (LotPassView V) → Bool → Option ℕ → ℕ → PassView (LotPassView V) → Type 0
+  abbrev CollectingIn : PassRight (LotPassView V) → Bool → Option ℕ → ℕ → PassRight (LotPassView V) → Type 0
   CollectingIn p asleep out zero q = (0 ≤ 2) × Notes p p.own (Collects p.thread None) q
   CollectingIn p asleep out (suc token) q = (suc token ≤ 2) × CollectsIn rule p asleep out token q
 
-  by_number : (p : PassView (LotPassView V)) (n : ℕ) (q : PassView (LotPassView V)) → CollectingIn p p.own.locks.asleep p.own.conds.out n q
+  by_number : (p : PassRight (LotPassView V)) (n : ℕ) (q : PassRight (LotPassView V)) → CollectingIn p p.own.locks.asleep p.own.conds.out n q
       → Collecting p n q
   by_number p zero q h = h
   by_number p (suc token) q h = h
 
-module _ {V Part : Type 0} (rule : CallersRule V Part) (z : LotSize) (xs : List V) (p : PassView (LotPassView V)) where
+module _ {V Part : Type 0} (rule : CallersRule V Part) (z : LotSize) (xs : List V) (p : PassRight (LotPassView V)) where
   abbrev t : ℕ
   t = p.thread
 
@@ -131,7 +131,7 @@ module _ {V Part : Type 0} (rule : CallersRule V Part) (z : LotSize) (xs : List 
   from_lock up silent (suc (suc token)) own a h =
       let l = h.1.1.0 in
       let x = h.1.1.2.0 in
-      carry rule z xs lock p (lock_woken (gripped p.own.locks l x)) (Collects t (Some 1))
+      carry rule z xs lock p (lock_woken (owning p.own.locks l x)) (Collects t (Some 1))
       (CollectingIn rule p true p.own.conds.out (suc (suc token))) (λ e. absurd (cc)) silent
       (λ k. (h.0, (h.1.0, (l, h.1.1.1, (x, h.1.1.2.1, (k, refl)))))) own a h.1.1.2.2
 
@@ -142,7 +142,7 @@ module _ {V Part : Type 0} (rule : CallersRule V Part) (z : LotSize) (xs : List 
       carry rule z xs cond p p.own.conds (Collects t None) (CollectingIn rule p false (Some c) 0) (λ e. inl e) silent
       (λ k. (omega arith, (k, refl))) own a h.1
   from_cond silent c (suc token) own a h =
-      carry rule z xs cond p (woken_pass p.own.conds h.1.1.0) (Collects t (Some token)) (CollectingIn rule p false (Some c) (suc token))
+      carry rule z xs cond p (one_wait_more p.own.conds h.1.1.0) (Collects t (Some token)) (CollectingIn rule p false (Some c) (suc token))
       (λ e. absurd (cc)) silent
       (λ k. (omega (arith, h.0), (h.1.0, (h.1.1.0, (h.1.1.1.0, (k, refl)))))) own a h.1.1.1.1
 
@@ -163,10 +163,10 @@ module _ {V Part : Type 0} (rule : CallersRule V Part) (z : LotSize) (xs : List 
   still_up up at sem ne = absurd (ne refl)
 
   by_pass : (asleep : Bool) (out : Option ℕ) → p.own.locks.asleep ≡ asleep → p.own.conds.out ≡ out
-      → AllowsPass (lot_scheme rule z xs) (letter_at t) (λ _. 0) p (CollectingIn rule p asleep out)
+      → AllowsPass (lot_meaning rule z xs) (letter_at t) (λ _. 0) p (CollectingIn rule p asleep out)
   by_pass true out up at =
       let silent : Silent lock = (λ w ws hs ok fit. quiet rule z xs w ws hs ok t p.own fit lock up) in
-      subst (λ o. AllowsPass (lot_scheme rule z xs) (letter_at t) (λ _. 0) p (CollectingIn rule p true o)) at
+      subst (λ o. AllowsPass (lot_meaning rule z xs) (letter_at t) (λ _. 0) p (CollectingIn rule p true o)) at
       (lifts_pass rule z xs lock (letter_at t) (λ _. 0) p (lock_letters.Collecting rule (part_pass lock p))
       (CollectingIn rule p true p.own.conds.out)
       (lock_letters.collects rule (lock_size z) xs (part_pass lock p)) (λ w ws hs ok fit. inr (t, (fit.0, refl, silent w ws hs ok fit)))
@@ -183,7 +183,7 @@ module _ {V Part : Type 0} (rule : CallersRule V Part) (z : LotSize) (xs : List 
       (sem_roots.collects (sem_size z) (part_pass sem p)) (λ w ws hs ok fit. inr (t, (fit.0, refl, silent w ws hs ok fit)))
       (λ n own a told. from_sem silent n own a (told 0))
 
-  pub collects : AllowsPass (lot_scheme rule z xs) (letter_at t) (λ _. 0) p (Collecting rule p)
+  pub collects : AllowsPass (lot_meaning rule z xs) (letter_at t) (λ _. 0) p (Collecting rule p)
   collects w ws hs ok fit small =
       let turn = by_pass p.own.locks.asleep p.own.conds.out refl refl w ws hs ok fit small in
       record {
@@ -199,7 +199,7 @@ module _ {V Part : Type 0} (rule : CallersRule V Part) (z : LotSize) (xs : List 
       }
 
 -- ---- what the number found tells the caller
-module _ {V Part : Type 0} (rule : CallersRule V Part) (p q : PassView (LotPassView V)) where
+module _ {V Part : Type 0} (rule : CallersRule V Part) (p q : PassRight (LotPassView V)) where
   pub collected_none : (n : ℕ) → n ≡ 0 → Collecting rule p n q → FoundNone p q
   collected_none n e h = subst (λ m. CollectedBy rule p m q) e h.1
 

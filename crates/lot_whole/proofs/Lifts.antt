@@ -11,9 +11,9 @@ use Rattle.lot_rights.specs.Steps.{PassTurn, BothTurn, RootTurn}
 use Rattle.lot_rights.proofs.Puts.{put_elim}
 use Rattle.lot_words.specs.CallersRule.{CallersRule}
 use Rattle.lot_whole.specs.declared.views.LotPassView.{LotPassView}
-use Rattle.lot_whole.specs.Family.{Which, LotSize, PassIn, homes_in, scheme_of}
+use Rattle.lot_whole.specs.Family.{Which, LotSize, PassIn, homes_in, meaning_of}
 use Rattle.lot_whole.specs.Whole.{stand_of, moves_by, whole_by}
-use Rattle.lot_whole.specs.Lot.{root_from, LotWorld, PassOk, LotFits, lot_scheme}
+use Rattle.lot_whole.specs.Lot.{root_from, LotWorld, PassOk, LotFits, lot_meaning}
 use Rattle.lot_whole.specs.Lifts.{part_pass, whole_root, lot_own, MayBeAway, InPlace, LiftsPass, LiftsBoth, LiftsRoot}
 use Rattle.lot_whole.proofs.Steps.{root_in, found, Gone, gone, next, fits_after, pass_stays, pass_turned, roots_after, root_turned}
 
@@ -21,7 +21,7 @@ module _ {V Part : Type 0} (rule : CallersRule V Part) (z : LotSize) (xs : List 
   -- ---- a step of the thread t, of which the kind's turn is known
   module _ (j : Which) (w : LotWorld rule z xs) (ws : List ℕ) (hs : List (maybe.Option (Option V))) (ok : LotFits rule z xs w ws hs)
       (i : ℕ) (place : InPlace rule z xs j w i)
-      (x : ℕ) (v : (scheme_of rule z xs j).World) (fits : (scheme_of rule z xs j).Fits v (set (w.words j) i x) (homes_in j hs))
+      (x : ℕ) (v : (meaning_of rule z xs j).World) (fits : (meaning_of rule z xs j).Fits v (set (w.words j) i x) (homes_in j hs))
       (a : Access) (g : Gone rule z xs j w ws hs ok i place x v fits a) where
     -- the others stand as they did
     stand_else : (t u : ℕ) → doer a ≡ 2 * t → u ≢ t → stand_of ((whole_by a w.whole).point u) ≡ stand_of (w.whole.point u)
@@ -36,9 +36,9 @@ module _ {V Part : Type 0} (rule : CallersRule V Part) (z : LotSize) (xs : List 
     -- the pass of t knows this now, and each other what it knew
     module _ (t : ℕ) (near : t < z.threads) (p : LotPassView V) (mine : PassOk rule z xs w t p) (own : PassIn V j) (by : doer a ≡ 2 * t)
         (may : MayBeAway j p own)
-        (fit : (scheme_of rule z xs j).PassFits v t own)
-        (others : (u : ℕ) (y : PassIn V j) → u ≢ t → (scheme_of rule z xs j).PassFits (w.each j) u y
-        → (scheme_of rule z xs j).PassFits v u y) where
+        (fit : (meaning_of rule z xs j).PassFits v t own)
+        (others : (u : ℕ) (y : PassIn V j) → u ≢ t → (meaning_of rule z xs j).PassFits (w.each j) u y
+        → (meaning_of rule z xs j).PassFits v u y) where
       abbrev passes : ℕ → LotPassView V
       passes = put w.pass t (lot_own j p own a)
 
@@ -57,12 +57,12 @@ module _ {V Part : Type 0} (rule : CallersRule V Part) (z : LotSize) (xs : List 
       let same : get_or ws i 0 ≡ get_or (w.words j) i 0 = found rule z xs j w ws hs ok i place in
       let n : ℕ = get_or (w.words j) i 0 in
       let mine : PassOk rule z xs w p.thread p.own = subst (PassOk rule z xs w p.thread) fit.1 (ok.passes p.thread fit.0) in
-      let turn : PassTurn (scheme_of rule z xs j) i (f n) (part_pass j p) (told_of n) (w.each j) (w.words j) (homes_in j hs) =
+      let turn : PassTurn (meaning_of rule z xs j) i (f n) (part_pass j p) (told_of n) (w.each j) (w.words j) (homes_in j hs) =
       allows (w.each j) (w.words j) (homes_in j hs) (ok.parts j) (mine.each j) (subst (λ m. m < 2 ^ 64) same small) in
       let carried = carries n turn.own turn.access turn.told in
       let g = gone rule z xs j w ws hs ok i place (f n) turn.world turn.fits turn.access turn.made.1 (carried.1 w ws hs ok fit) in
       let own : LotPassView V = lot_own j p.own turn.own turn.access in
-      subst (λ m. PassTurn (lot_scheme rule z xs) i (f m) p (whole m) w ws hs) (sym same) (record {
+      subst (λ m. PassTurn (lot_meaning rule z xs) i (f m) p (whole m) w ws hs) (sym same) (record {
         own = own;
         access = turn.access;
         world = next rule z xs j w ws hs ok i place (f n) turn.world turn.fits (put w.pass p.thread own) turn.access g;
@@ -84,12 +84,12 @@ module _ {V Part : Type 0} (rule : CallersRule V Part) (z : LotSize) (xs : List 
       let same : get_or ws i 0 ≡ get_or (w.words j) i 0 = found rule z xs j w ws hs ok i place in
       let n : ℕ = get_or (w.words j) i 0 in
       let mine : PassOk rule z xs w p.thread p.own = subst (PassOk rule z xs w p.thread) fit.1 (ok.passes p.thread fit.0) in
-      let turn : BothTurn (scheme_of rule z xs j) i (f n) (part_pass j p) q (told_of n) (w.each j) (w.words j) (homes_in j hs) =
+      let turn : BothTurn (meaning_of rule z xs j) i (f n) (part_pass j p) q (told_of n) (w.each j) (w.words j) (homes_in j hs) =
       allows (w.each j) (w.words j) (homes_in j hs) (ok.parts j) (mine.each j) its.1 (subst (λ m. m < 2 ^ 64) same small) in
       let carried = carries n turn.own turn.its turn.access turn.told in
       let g = gone rule z xs j w ws hs ok i place (f n) turn.world turn.fits turn.access turn.made.1 (carried.1 w ws hs ok fit root) in
       let own : LotPassView V = lot_own j p.own turn.own turn.access in
-      subst (λ m. BothTurn (lot_scheme rule z xs) i (f m) p (whole_root j q) (whole m) w ws hs) (sym same) (record {
+      subst (λ m. BothTurn (lot_meaning rule z xs) i (f m) p (whole_root j q) (whole m) w ws hs) (sym same) (record {
         own = own;
         its = root_from j turn.its;
         access = turn.access;
@@ -112,11 +112,11 @@ module _ {V Part : Type 0} (rule : CallersRule V Part) (z : LotSize) (xs : List 
       let place = placed w ws hs ok root in
       let same : get_or ws i 0 ≡ get_or (w.words j) i 0 = found rule z xs j w ws hs ok i place in
       let n : ℕ = get_or (w.words j) i 0 in
-      let turn : RootTurn (scheme_of rule z xs j) i (f n) q (told_of n) (w.each j) (w.words j) (homes_in j hs) =
+      let turn : RootTurn (meaning_of rule z xs j) i (f n) q (told_of n) (w.each j) (w.words j) (homes_in j hs) =
       allows (w.each j) (w.words j) (homes_in j hs) (ok.parts j) its.1 (subst (λ m. m < 2 ^ 64) same small) in
       let carried = carries n turn.its turn.access turn.told in
       let g = gone rule z xs j w ws hs ok i place (f n) turn.world turn.fits turn.access turn.made.1 (carried.0 w ws hs ok root) in
-      subst (λ m. RootTurn (lot_scheme rule z xs) i (f m) (whole_root j q) (whole m) w ws hs) (sym same) (record {
+      subst (λ m. RootTurn (lot_meaning rule z xs) i (f m) (whole_root j q) (whole m) w ws hs) (sym same) (record {
         its = root_from j turn.its;
         access = turn.access;
         world = next rule z xs j w ws hs ok i place (f n) turn.world turn.fits w.pass turn.access g;

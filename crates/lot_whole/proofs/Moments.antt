@@ -20,9 +20,9 @@ use Rattle.lot_words.proofs.Headlines as locks
 use Rattle.lot_conds.proofs.Headlines as conds
 use Rattle.lot_whole.specs.declared.views.LotPassView.{LotPassView}
 use Rattle.lot_whole.specs.declared.views.LotRootView.{LotRootView}
-use Rattle.lot_whole.specs.Family.{Which, lock, cond, sem, LotSize, IsKeyIn, scheme_of}
+use Rattle.lot_whole.specs.Family.{Which, lock, cond, sem, LotSize, IsKeyIn, meaning_of}
 use Rattle.lot_whole.specs.Whole.{WholeStep, line_in, opening_of}
-use Rattle.lot_whole.specs.Lot.{lot_scheme}
+use Rattle.lot_whole.specs.Lot.{lot_meaning}
 use Rattle.lot_whole.specs.Headline.{OneLineOfAll, event_of, IsOneRun, OneState, Promises}
 use Rattle.lot_whole.proofs.Family.{word_is}
 
@@ -66,24 +66,24 @@ one_run z events state reached seen =
     record { sound = reached_sound state reached; seen = seen; run = run.0; end = run.1 }
 
 module _ {V Part : Type 0} (rule : CallersRule V Part) (z : LotSize) (xs : List V)
-    (s : State (Option V) (List (Right (LotPassView V) LotRootView))) (here : Ruled (lot_scheme rule z xs) s) where
+    (s : State (Option V) (List (Right (LotPassView V) LotRootView))) (here : Ruled (lot_meaning rule z xs) s) where
   pub one_state : OneState rule z xs s here
   one_state =
       let ok = here.fits in
       record {
         state = here.world.whole;
         words = λ j c is. ok.keys j c is
-            ∙ (key_told j c is ∙ (ap (λ p. (scheme_of rule z xs j).word_in p c) (sym (ok.agrees j))
+            ∙ (key_told j c is ∙ (ap (λ p. (meaning_of rule z xs j).word_in p c) (sym (ok.agrees j))
             ∙ sym (word_is rule z xs j here.world.whole c is)));
-        history = one_run z (events_in here.log) here.world.whole ok.reached (has_one_run (lot_scheme rule z xs) s here).model;
+        history = one_run z (events_in here.log) here.world.whole ok.reached (has_one_run (lot_meaning rule z xs) s here).model;
         one_line = one_line here.world.whole (reached_sound here.world.whole ok.reached);
         one_letter = λ t near. (ok.passes t near).apart;
       }
     where
       -- the shadow word is what the kind's part says
       key_told : (j : Which) (c : ℕ) → IsKeyIn z j c
-          → get_or (here.world.words j) (word_at c) 0 ≡ (scheme_of rule z xs j).word_in
-          ((scheme_of rule z xs j).told_by (here.world.each j)).part c
+          → get_or (here.world.words j) (word_at c) 0 ≡ (meaning_of rule z xs j).word_in
+          ((meaning_of rule z xs j).told_by (here.world.each j)).part c
       key_told lock = (here.fits.parts lock).words.words
       key_told cond = (here.fits.parts cond).words.words
       key_told sem = (here.fits.parts sem).words.words

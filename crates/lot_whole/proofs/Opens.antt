@@ -19,18 +19,18 @@ use Rattle.lot_sems.specs.Rule.{fresh_root as sem_fresh}
 use Rattle.lot_sems.proofs.Opens as sems
 use Rattle.lot_whole.specs.declared.views.LotRootView.TheVariants.{Lock, Cond, Sem}
 use Rattle.lot_whole.specs.Family.{Which, lock, cond, sem, LotSize, cond_size, sem_size, key_count, IsKeyIn, SlotOf, away}
-use Rattle.lot_whole.specs.Family.{homes_in, scheme_of, part_in}
+use Rattle.lot_whole.specs.Family.{homes_in, meaning_of, part_in}
 use Rattle.lot_whole.specs.Whole.{opening_of}
-use Rattle.lot_whole.specs.Lot.{own_of, sum_of, fresh_pass, fresh_root, LotWorld, letters_in, LotFits, LotRootIs, lot_scheme}
+use Rattle.lot_whole.specs.Lot.{own_of, sum_of, fresh_pass, fresh_root, LotWorld, letters_in, LotFits, LotRootIs, lot_meaning}
 use Rattle.lot_whole.proofs.Family.{wide_in, letter_in}
 
 -- the permits are written behind the words of locks and conditions
-before_permits : (ws : List ℕ) (low : ℕ) (permits : List ℕ) (i c : ℕ) → c < low
-    → get_or (with_permits ws low permits i) (word_at c) 0 ≡ get_or ws (word_at c) 0
-before_permits ws low permits zero c near = refl
-before_permits ws low permits (suc i) c near =
-    get_or-set_other (with_permits ws low permits i) (word_at (low + i)) (word_at c) (2 * get_or permits i 0) 0 (λ e. omega arith)
-    ∙ before_permits ws low permits i c near
+before_permits : (ws : List ℕ) (first_sem : ℕ) (permits : List ℕ) (i c : ℕ) → c < first_sem
+    → get_or (with_permits ws first_sem permits i) (word_at c) 0 ≡ get_or ws (word_at c) 0
+before_permits ws first_sem permits zero c near = refl
+before_permits ws first_sem permits (suc i) c near =
+    get_or-set_other (with_permits ws first_sem permits i) (word_at (first_sem + i)) (word_at c) (2 * get_or permits i 0) 0 (λ e. omega arith)
+    ∙ before_permits ws first_sem permits i c near
 
 nobody_away : (V : Type 0) (z : LotSize) (xs : List V) (j : Which) → away V j (own_of V (fresh_pass z xs) j) ≡ false
 nobody_away V z xs lock = refl
@@ -52,7 +52,7 @@ module _ {V Part : Type 0} (rule : CallersRule V Part) (z : LotSize) (xs : List 
   slots cond = []
   slots sem = []
 
-  well : (j : Which) → OpensWell (scheme_of rule z xs j) (words j) (slots j)
+  well : (j : Which) → OpensWell (meaning_of rule z xs j) (words j) (slots j)
   well lock = locks.opens_well rule z.threads pos z.locks xs some long keep
   well cond = conds.opens_well (cond_size z) some
   well sem = sems.opens_well (sem_size z) small
@@ -60,7 +60,7 @@ module _ {V Part : Type 0} (rule : CallersRule V Part) (z : LotSize) (xs : List 
   abbrev fresh : LotWorld rule z xs
   fresh = record { each = λ j. (well j).world; words = words; pass = λ t. fresh_pass z xs; whole = opening_of z }
 
-  fits_alone : (j : Which) → (scheme_of rule z xs j).Fits (well j).world (words j) (homes_in j (map maybe.some (slots lock)))
+  fits_alone : (j : Which) → (meaning_of rule z xs j).Fits (well j).world (words j) (homes_in j (map maybe.some (slots lock)))
   fits_alone lock = (well lock).fits
   fits_alone cond = (well cond).fits
   fits_alone sem = (well sem).fits
@@ -85,12 +85,12 @@ module _ {V Part : Type 0} (rule : CallersRule V Part) (z : LotSize) (xs : List 
       ∙ sym (get_or_replicate 0 (word_count z.threads (z.locks + z.conds)) (word_at c)))
   keys_agree sem c is = refl
 
-  fits_pass : (t : ℕ) → t < z.threads → (j : Which) → (scheme_of rule z xs j).PassFits (well j).world t (own_of V (fresh_pass z xs) j)
+  fits_pass : (t : ℕ) → t < z.threads → (j : Which) → (meaning_of rule z xs j).PassFits (well j).world t (own_of V (fresh_pass z xs) j)
   fits_pass t near lock = (well lock).passes t near
   fits_pass t near cond = (well cond).passes t near
   fits_pass t near sem = (well sem).passes t near
 
-  parts_agree : (j : Which) → part_in rule z xs j (opening_of z) ≡ ((scheme_of rule z xs j).told_by (well j).world).part
+  parts_agree : (j : Which) → part_in rule z xs j (opening_of z) ≡ ((meaning_of rule z xs j).told_by (well j).world).part
   parts_agree lock = λ i. (sym (well lock).start i).part
   parts_agree cond = λ i. (sym (well cond).start i).part
   parts_agree sem = λ i. (sym (well sem).start i).part
@@ -133,7 +133,7 @@ module _ {V Part : Type 0} (rule : CallersRule V Part) (z : LotSize) (xs : List 
       (cases_lt c (z.locks + z.conds))))
       (cases_lt c z.locks)
 
-  pub opens_well : OpensWell (lot_scheme rule z xs) (opening_words (sem_size z)) (map (λ (x : V). Some x) xs)
+  pub opens_well : OpensWell (lot_meaning rule z xs) (opening_words (sem_size z)) (map (λ (x : V). Some x) xs)
   opens_well = record {
     world = fresh;
     fits = fresh_fits;

@@ -11,16 +11,16 @@ use Rattle.lot_words.specs.World.{SpotFits as LockSpotFits}
 use Rattle.lot_conds.specs.declared.views.CondPassView.{CondPassView}
 use Rattle.lot_conds.specs.World.{SpotFits as CondSpotFits}
 use Rattle.lot_sems.specs.World.{sleeps}
-use Rattle.lot_whole.specs.Family.{Which, lock, cond, sem, LotSize, away, homes_in, scheme_of, part_in}
+use Rattle.lot_whole.specs.Family.{Which, lock, cond, sem, LotSize, away, homes_in, meaning_of, part_in}
 use Rattle.lot_whole.specs.Whole.{line_in, IsQueued}
 use Rattle.lot_whole.specs.Lot.{own_of, sum_of, LotWorld, letters_in, PassOk}
 use Rattle.lot_whole.proofs.Family.{not_true, three_one, still}
 
 module _ {V Part : Type 0} (rule : CallersRule V Part) (z : LotSize) (xs : List V) (w : LotWorld rule z xs)
     (hs : List (maybe.Option (Option V)))
-    (parts : (j : Which) → (scheme_of rule z xs j).Fits (w.each j) (w.words j) (homes_in j hs))
+    (parts : (j : Which) → (meaning_of rule z xs j).Fits (w.each j) (w.words j) (homes_in j hs))
     (passes : (t : ℕ) → t < z.threads → PassOk rule z xs w t (w.pass t))
-    (agrees : (j : Which) → part_in rule z xs j w.whole ≡ ((scheme_of rule z xs j).told_by (w.each j)).part) where
+    (agrees : (j : Which) → part_in rule z xs j w.whole ≡ ((meaning_of rule z xs j).told_by (w.each j)).part) where
   -- who is in a line is away in that kind, which has no letter for it
   queued_away : (j : Which) (c t : ℕ) → Contains (line_in w.whole j c) t
       → (t < z.threads) × (away V j (own_of V (w.pass t) j) ≡ true) × (letters_in rule z xs w j t ≡ 0)

@@ -8,8 +8,8 @@ use Rattle.lot_events.specs.declared.events.Event.TheVariants.{SemTake, SemMark,
 use Rattle.lot_events.specs.declared.events.Seen.TheVariants.{Bool as Saw, Done, Sleeper}
 use Rattle.lot_rights.specs.declared.views.Access.{Access}
 use Rattle.lot_rights.specs.declared.views.Access.TheVariants.{Makes, Finds}
-use Rattle.lot_rights.specs.declared.views.PassView.{PassView}
-use Rattle.lot_rights.specs.declared.views.RootView.{RootView}
+use Rattle.lot_rights.specs.declared.views.PassRight.{PassRight}
+use Rattle.lot_rights.specs.declared.views.RootRight.{RootRight}
 use Rattle.lot_rights.specs.Layout.{word_at}
 use Rattle.lot_rights.specs.Steps.{Notes, pass_after, AllowsPass, AllowsBoth}
 use Rattle.lot_rights.proofs.Puts.{by_test}
@@ -18,7 +18,7 @@ use Rattle.lot_sems.specs.declared.taking.Taken.{Taken}
 use Rattle.lot_sems.specs.declared.taking.Taken.TheVariants.{Got, Empty, Busy}
 use Rattle.lot_sems.specs.declared.views.SemPassView.{SemPassView}
 use Rattle.lot_sems.specs.declared.views.SemRootView.{SemRootView}
-use Rattle.lot_sems.specs.Calls.{IsCalm, MayTake, IsAnyLeft, IsUnmarked, seeking, got, gave, parked_pass, parked_root, passed_root}
+use Rattle.lot_sems.specs.Calls.{IsCalm, MayTake, IsAnyLeft, IsUnmarked, seeking, one_permit_more, one_permit_less, parked_pass, parked_root, passed_root}
 use Rattle.lot_sems.specs.Calls.{raise_of}
 use Rattle.lot_sems.specs.Calls as sem_calls
 use Rattle.lot_sems.proofs.Turns as sems
@@ -26,7 +26,7 @@ use Rattle.lot_sems.proofs.Roots as sem_roots
 use Rattle.lot_whole.specs.declared.views.LotPassView.{LotPassView}
 use Rattle.lot_whole.specs.declared.views.LotRootView.{LotRootView}
 use Rattle.lot_whole.specs.Family.{sem, LotSize, sem_size, IsKeyIn}
-use Rattle.lot_whole.specs.Lot.{lot_scheme}
+use Rattle.lot_whole.specs.Lot.{lot_meaning}
 use Rattle.lot_whole.specs.Lifts.{part_pass, whole_root}
 use Rattle.lot_whole.specs.Standing.{IsIdle, MayTakePermit, MaySeek, MayGive}
 use Rattle.lot_whole.specs.Calls.{NotesIn, FindsOf, Exchanges, Misses, TakesFrom, TriesPermit, TakesPermit, FreesPermit}
@@ -37,44 +37,44 @@ use Rattle.lot_whole.proofs.Tells.{may_seek, idle_calm}
 -- ---- what each step tells
 module _ {V : Type 0} where
   -- a look at the word of k, by a thread that seeks a permit where none is left
-  abbrev pub Seeks : PassView (LotPassView V) → ℕ → ℕ → PassView (LotPassView V) → Type 0
+  abbrev pub Seeks : PassRight (LotPassView V) → ℕ → ℕ → PassRight (LotPassView V) → Type 0
   Seeks p k zero q = TakesPermit p k Empty q
   Seeks p k (suc zero) q = TakesPermit p k Empty q
   Seeks p k (suc (suc n)) q = FindsOf p k (suc (suc n)) q
 
   -- an exchange of the word that was seen
-  abbrev pub Swaps : PassView (LotPassView V) → ℕ → SemPassView → Event → ℕ → ℕ → PassView (LotPassView V) → Type 0
+  abbrev pub Swaps : PassRight (LotPassView V) → ℕ → SemPassView → Event → ℕ → ℕ → PassRight (LotPassView V) → Type 0
   Swaps p k own e seen n q = MatchBool (n == seen) (NotesIn sem p own (Makes e (Saw true)) q) (FindsOf p k n q)
 
-  abbrev pub MarksPermit : PassView (LotPassView V) → ℕ → ℕ → PassView (LotPassView V) → Type 0
+  abbrev pub MarksPermit : PassRight (LotPassView V) → ℕ → ℕ → PassRight (LotPassView V) → Type 0
   MarksPermit p k n q = MatchBool (n == 0) (NotesIn sem p p.own.sems (Makes (SemMark p.thread k) Done) q)
       ((x : ℕ) × (x ≢ 0) × FindsOf p k x q)
 
-  abbrev pub ParksSem : PassView (LotPassView V) → RootView SemRootView → ℕ → PassView (LotPassView V) → RootView LotRootView → Type 0
+  abbrev pub ParksSem : PassRight (LotPassView V) → RootRight SemRootView → ℕ → PassRight (LotPassView V) → RootRight LotRootView → Type 0
   ParksSem p q n p' q' = NotesIn sem p (parked_pass p.own.sems (n == 1)) (Makes (SemPark p.thread q.key) (Saw (n == 1))) p'
       × (q' ≡ whole_root sem (record q { own = parked_root q.own p.thread (n == 1) }))
 
-  abbrev pub PassesPermit : PassView (LotPassView V) → RootView SemRootView → Bool → PassView (LotPassView V) → RootView LotRootView
+  abbrev pub PassesPermit : PassRight (LotPassView V) → RootRight SemRootView → Bool → PassRight (LotPassView V) → RootRight LotRootView
       → Type 0
-  PassesPermit p q more p' q' = NotesIn sem p (gave p.own.sems q.key) (Makes (SemPass p.thread q.key more) (Sleeper (first q.own.line))) p'
+  PassesPermit p q more p' q' = NotesIn sem p (one_permit_less p.own.sems q.key) (Makes (SemPass p.thread q.key more) (Sleeper (first q.own.line))) p'
       × (q' ≡ whole_root sem (record q { own = passed_root q.own q.own.line }))
 
-  abbrev pub Clears : PassView (LotPassView V) → RootView SemRootView → PassView (LotPassView V) → RootView LotRootView → Type 0
+  abbrev pub Clears : PassRight (LotPassView V) → RootRight SemRootView → PassRight (LotPassView V) → RootRight LotRootView → Type 0
   Clears p q p' q' = NotesIn sem p p.own.sems (Makes (SemClear p.thread q.key) Done) p' × (q' ≡ whole_root sem q)
 
   -- ---- what a number found tells the caller
-  pub seeks_empty : (p : PassView (LotPassView V)) (k n : ℕ) (q : PassView (LotPassView V)) → n < 2 → Seeks p k n q
+  pub seeks_empty : (p : PassRight (LotPassView V)) (k n : ℕ) (q : PassRight (LotPassView V)) → n < 2 → Seeks p k n q
       → TakesPermit p k Empty q
   seeks_empty p k zero q few h = h
   seeks_empty p k (suc zero) q few h = h
   seeks_empty p k (suc (suc n)) q few h = absurd (omega arith)
 
-  pub seeks_left : (p : PassView (LotPassView V)) (k n : ℕ) (q : PassView (LotPassView V)) → IsAnyLeft n → Seeks p k n q → FindsOf p k n q
+  pub seeks_left : (p : PassRight (LotPassView V)) (k n : ℕ) (q : PassRight (LotPassView V)) → IsAnyLeft n → Seeks p k n q → FindsOf p k n q
   seeks_left p k zero q some h = absurd (omega arith)
   seeks_left p k (suc zero) q some h = absurd (omega arith)
   seeks_left p k (suc (suc n)) q some h = h
 
-  module _ (p : PassView (LotPassView V)) (k : ℕ) (own : SemPassView) (e : Event) (seen n : ℕ) (q : PassView (LotPassView V)) where
+  module _ (p : PassRight (LotPassView V)) (k : ℕ) (own : SemPassView) (e : Event) (seen n : ℕ) (q : PassRight (LotPassView V)) where
     pub swapped : n ≡ seen → Swaps p k own e seen n q → NotesIn sem p own (Makes e (Saw true)) q
     swapped is h = subst (λ b. MatchBool b (NotesIn sem p own (Makes e (Saw true)) q) (FindsOf p k n q)) (eq-eqb n seen is) h
 
@@ -82,12 +82,12 @@ module _ {V : Type 0} where
     unswapped ne h = subst (λ b. MatchBool b (NotesIn sem p own (Makes e (Saw true)) q) (FindsOf p k n q)) (ne_eqb n seen ne) h
 
   -- ---- a look, by which p became r, and then an exchange
-  module _ (p r : PassView (LotPassView V)) (k seen : ℕ) (look : FindsOf p k seen r) where
+  module _ (p r : PassRight (LotPassView V)) (k seen : ℕ) (look : FindsOf p k seen r) where
     -- what was asked of the pass is so after the look
     pub after_look : (Asks : LotPassView V → Type 0) → Asks p.own → Asks r.own
-    after_look Asks may = subst (λ (y : PassView (LotPassView V)). Asks y.own) (sym look.1) may
+    after_look Asks may = subst (λ (y : PassRight (LotPassView V)). Asks y.own) (sym look.1) may
 
-    exchanged : (could : ℕ → Type 0) (own : SemPassView → SemPassView) (e : ℕ → Event) (q : PassView (LotPassView V)) → could seen
+    exchanged : (could : ℕ → Type 0) (own : SemPassView → SemPassView) (e : ℕ → Event) (q : PassRight (LotPassView V)) → could seen
         → NotesIn sem r (own r.own.sems) (Makes (e r.thread) (Saw true)) q → Exchanges p k could (own p.own.sems) (e p.thread) q
     exchanged could own e q may note = (
       seen,
@@ -95,29 +95,29 @@ module _ {V : Type 0} where
       (
         r,
         look,
-        subst (λ (y : PassView (LotPassView V)). NotesIn sem r (own y.own.sems) (Makes (e y.thread) (Saw true)) q)
+        subst (λ (y : PassRight (LotPassView V)). NotesIn sem r (own y.own.sems) (Makes (e y.thread) (Saw true)) q)
             look.1 note,
       ),
     )
 
-    missed : (could : ℕ → Type 0) (n : ℕ) (q : PassView (LotPassView V)) → could seen → n ≢ seen → FindsOf r k n q → Misses p k could q
+    missed : (could : ℕ → Type 0) (n : ℕ) (q : PassRight (LotPassView V)) → could seen → n ≢ seen → FindsOf r k n q → Misses p k could q
     missed could n q may ne found = (seen, n, may, ne, (r, look, found))
 
-    pub tried : IsAnyLeft seen → (became : Taken) (q : PassView (LotPassView V)) → TakesFrom r k seen became q → TriesPermit p k became q
-    tried left Got q h = exchanged IsAnyLeft (λ own. got own k) (λ t. SemTake t k) q left h
+    pub tried : IsAnyLeft seen → (became : Taken) (q : PassRight (LotPassView V)) → TakesFrom r k seen became q → TriesPermit p k became q
+    tried left Got q h = exchanged IsAnyLeft (λ own. one_permit_more own k) (λ t. SemTake t k) q left h
     tried left Empty q h = absurd h
     tried left Busy q (n, ne, found) = missed IsAnyLeft n q left ne found
 
-    pub taken : IsAnyLeft seen → (became : Taken) (q : PassView (LotPassView V)) → TakesFrom r k seen became q → TakesPermit p k became q
+    pub taken : IsAnyLeft seen → (became : Taken) (q : PassRight (LotPassView V)) → TakesFrom r k seen became q → TakesPermit p k became q
     taken left Got q h = tried left Got q h
     taken left Empty q h = absurd h
     taken left Busy q h = tried left Busy q h
 
-    pub freed : IsUnmarked seen → (n : ℕ) (q : PassView (LotPassView V)) → Swaps r k (gave r.own.sems k) (SemFree r.thread k) seen n q
+    pub freed : IsUnmarked seen → (n : ℕ) (q : PassRight (LotPassView V)) → Swaps r k (one_permit_less r.own.sems k) (SemFree r.thread k) seen n q
         → FreesPermit p k (n == seen) q
-    freed clear n q = by_test (λ b. MatchBool b (NotesIn sem r (gave r.own.sems k) (Makes (SemFree r.thread k) (Saw true)) q)
+    freed clear n q = by_test (λ b. MatchBool b (NotesIn sem r (one_permit_less r.own.sems k) (Makes (SemFree r.thread k) (Saw true)) q)
         (FindsOf r k n q) → FreesPermit p k b q) n seen
-        (λ is h. exchanged IsUnmarked (λ own. gave own k) (λ t. SemFree t k) q clear h)
+        (λ is h. exchanged IsUnmarked (λ own. one_permit_less own k) (λ t. SemFree t k) q clear h)
         (λ ne h. inr (missed IsUnmarked n q clear ne h))
 
   -- ---- what a kind asks
@@ -132,7 +132,7 @@ module _ {V : Type 0} where
   calms_so p idle = (idle.0.up sem, idle.0.seeks)
 
 module _ {V Part : Type 0} (rule : CallersRule V Part) (z : LotSize) (xs : List V) where
-  module _ (p : PassView (LotPassView V)) (k : ℕ) (among : IsKeyIn z sem k) where
+  module _ (p : PassRight (LotPassView V)) (k : ℕ) (among : IsKeyIn z sem k) where
     -- the word was found to be this
     finds : (n : ℕ) (own : SemPassView) (a : Access)
         → Notes (part_pass sem p) p.own.sems (Finds p.thread k n) (pass_after (part_pass sem p) own 0 a)
@@ -140,7 +140,7 @@ module _ {V Part : Type 0} (rule : CallersRule V Part) (z : LotSize) (xs : List 
     finds n = carry rule z xs sem p p.own.sems (Finds p.thread k n) (FindsOf p k n) (λ up. inl up) (λ w ws hs ok fit. among)
         (λ i. (i, refl))
 
-    pub looks : AllowsPass (lot_scheme rule z xs) (word_at k) (λ n. n) p (FindsOf p k)
+    pub looks : AllowsPass (lot_meaning rule z xs) (word_at k) (λ n. n) p (FindsOf p k)
     looks = lifts_pass rule z xs sem (word_at k) (λ n. n) p (sem_calls.Found (part_pass sem p) k) (FindsOf p k)
         (sems.looks (sem_size z) (part_pass sem p) k among)
         (at_key rule z xs sem p k among) (λ n own a told. finds n own a (told 0))
@@ -159,7 +159,7 @@ module _ {V Part : Type 0} (rule : CallersRule V Part) (z : LotSize) (xs : List 
         (speaks_take may false) (λ i. (i, refl)) own a h
     carries_seeks may (suc (suc n)) own a h = finds (suc (suc n)) own a h
 
-    pub seeks : MayTakePermit p.own k → AllowsPass (lot_scheme rule z xs) (word_at k) (λ n. n) p (Seeks p k)
+    pub seeks : MayTakePermit p.own k → AllowsPass (lot_meaning rule z xs) (word_at k) (λ n. n) p (Seeks p k)
     seeks may = lifts_pass rule z xs sem (word_at k) (λ n. n) p (sems.Seeks (part_pass sem p) k) (Seeks p k)
         (sems.seeks (sem_size z) (part_pass sem p) k among (takes_so p.own k may))
         (at_key rule z xs sem p k among) (λ n own a told. carries_seeks may n own a (told 0))
@@ -179,22 +179,22 @@ module _ {V Part : Type 0} (rule : CallersRule V Part) (z : LotSize) (xs : List 
         by false h = finds n own a h
 
     pub swaps : MayTakePermit p.own k → (seen : ℕ) → IsAnyLeft seen
-        → AllowsPass (lot_scheme rule z xs) (word_at k) (λ n. either (n == seen) (seen - 2) n) p
-        (Swaps p k (got p.own.sems k) (SemTake p.thread k) seen)
+        → AllowsPass (lot_meaning rule z xs) (word_at k) (λ n. either (n == seen) (seen - 2) n) p
+        (Swaps p k (one_permit_more p.own.sems k) (SemTake p.thread k) seen)
     swaps may seen some = lifts_pass rule z xs sem (word_at k) (λ n. either (n == seen) (seen - 2) n) p
-        (sems.Swaps (part_pass sem p) k (got p.own.sems k) (SemTake p.thread k) seen)
-        (Swaps p k (got p.own.sems k) (SemTake p.thread k) seen)
+        (sems.Swaps (part_pass sem p) k (one_permit_more p.own.sems k) (SemTake p.thread k) seen)
+        (Swaps p k (one_permit_more p.own.sems k) (SemTake p.thread k) seen)
         (sems.swaps (sem_size z) (part_pass sem p) k among (takes_so p.own k may) seen some) (at_key rule z xs sem p k among)
-        (λ n own a told. carries_swaps (got p.own.sems k) (SemTake p.thread k) refl (speaks_take may true) seen n own a (told 0))
+        (λ n own a told. carries_swaps (one_permit_more p.own.sems k) (SemTake p.thread k) refl (speaks_take may true) seen n own a (told 0))
 
     pub frees : MayGive p.own k → (seen : ℕ) → IsUnmarked seen
-        → AllowsPass (lot_scheme rule z xs) (word_at k) (λ n. either (n == seen) ((seen + 2) % 2 ^ 64) n) p
-        (Swaps p k (gave p.own.sems k) (SemFree p.thread k) seen)
+        → AllowsPass (lot_meaning rule z xs) (word_at k) (λ n. either (n == seen) ((seen + 2) % 2 ^ 64) n) p
+        (Swaps p k (one_permit_less p.own.sems k) (SemFree p.thread k) seen)
     frees may seen clear = lifts_pass rule z xs sem (word_at k) (λ n. either (n == seen) ((seen + 2) % 2 ^ 64) n) p
-        (sems.Swaps (part_pass sem p) k (gave p.own.sems k) (SemFree p.thread k) seen)
-        (Swaps p k (gave p.own.sems k) (SemFree p.thread k) seen)
+        (sems.Swaps (part_pass sem p) k (one_permit_less p.own.sems k) (SemFree p.thread k) seen)
+        (Swaps p k (one_permit_less p.own.sems k) (SemFree p.thread k) seen)
         (sems.frees (sem_size z) (part_pass sem p) k among (calms_so p.own may.0, may.1) seen clear) (at_key rule z xs sem p k among)
-        (λ n own a told. carries_swaps (gave p.own.sems k) (SemFree p.thread k) refl
+        (λ n own a told. carries_swaps (one_permit_less p.own.sems k) (SemFree p.thread k) refl
         (λ w ws hs ok fit. (tt, idle_calm rule z xs w ws hs ok p.thread p.own fit may.0)) seen n own a (told 0))
 
     carries_marks : (n : ℕ) (own : SemPassView) (a : Access) → sems.Marks (part_pass sem p) k n (pass_after (part_pass sem p) own 0 a)
@@ -213,14 +213,14 @@ module _ {V Part : Type 0} (rule : CallersRule V Part) (z : LotSize) (xs : List 
             (λ w ws hs ok fit. among)
             (λ i. (h.0, h.1, (i, refl))) own a h.2
 
-    pub marks : MaySeek p.own k → AllowsPass (lot_scheme rule z xs) (word_at k) (λ n. either (n == 0) 1 n) p (MarksPermit p k)
+    pub marks : MaySeek p.own k → AllowsPass (lot_meaning rule z xs) (word_at k) (λ n. either (n == 0) 1 n) p (MarksPermit p k)
     marks may = lifts_pass rule z xs sem (word_at k) (λ n. either (n == 0) 1 n) p (sems.Marks (part_pass sem p) k) (MarksPermit p k)
         (sems.marks (sem_size z) (part_pass sem p) k among (may.0 sem, may.1)) (at_key rule z xs sem p k among)
         (λ n own a told. carries_marks n own a (told 0))
 
   -- ---- with a root
-  module _ (p : PassView (LotPassView V)) (q : RootView SemRootView) where
-    pub parks : MaySeek p.own q.key → AllowsBoth (lot_scheme rule z xs) (word_at q.key) (λ n. n) p (whole_root sem q) (ParksSem p q)
+  module _ (p : PassRight (LotPassView V)) (q : RootRight SemRootView) where
+    pub parks : MaySeek p.own q.key → AllowsBoth (lot_meaning rule z xs) (word_at q.key) (λ n. n) p (whole_root sem q) (ParksSem p q)
     parks may = lifts_both rule z xs sem (λ n. n) p q (sem_roots.Parks (part_pass sem p) q) (ParksSem p q)
         (sem_roots.parks (sem_size z) (part_pass sem p) q (may.0 sem, may.1))
         (λ n own its a told. carry_both rule z xs sem p q (parked_pass p.own.sems (n == 1)) (parked_root q.own p.thread (n == 1))
@@ -229,18 +229,18 @@ module _ {V Part : Type 0} (rule : CallersRule V Part) (z : LotSize) (xs : List 
 
     pub passes : MayGive p.own q.key → q.own.owes ≡ None → (more : Bool) → SaysMore q.own.line more → (x : ℕ)
         → x ≡ raise_of (first q.own.line) more
-        → AllowsBoth (lot_scheme rule z xs) (word_at q.key) (λ n. (n + x) % 2 ^ 64) p (whole_root sem q) (λ _. PassesPermit p q more)
+        → AllowsBoth (lot_meaning rule z xs) (word_at q.key) (λ n. (n + x) % 2 ^ 64) p (whole_root sem q) (λ _. PassesPermit p q more)
     passes may paid more says x is =
         lifts_both rule z xs sem (λ n. (n + x) % 2 ^ 64) p q (λ _. sem_roots.Passes (part_pass sem p) q q.own.line more)
         (λ _. PassesPermit p q more)
         (sem_roots.passes (sem_size z) (part_pass sem p) q (calms_so p.own may.0, may.1) paid more says x is)
-        (λ n own its a told. carry_both rule z xs sem p q (gave p.own.sems q.key) (passed_root q.own q.own.line)
+        (λ n own its a told. carry_both rule z xs sem p q (one_permit_less p.own.sems q.key) (passed_root q.own q.own.line)
         (Makes (SemPass p.thread q.key more) (Sleeper (first q.own.line))) (PassesPermit p q more)
         (λ up. inl up) (λ w ws hs ok fit root. (tt, idle_calm rule z xs w ws hs ok p.thread p.own fit may.0))
         (λ i. ((i, refl), refl)) own its a (told 0).0 (told 0).1)
 
     pub clears : IsIdle p.own → q.own.line ≡ []
-        → AllowsBoth (lot_scheme rule z xs) (word_at q.key) (λ n. bit_and n (2 ^ 64 - 2)) p (whole_root sem q) (λ _. Clears p q)
+        → AllowsBoth (lot_meaning rule z xs) (word_at q.key) (λ n. bit_and n (2 ^ 64 - 2)) p (whole_root sem q) (λ _. Clears p q)
     clears idle nobody = lifts_both rule z xs sem (λ n. bit_and n (2 ^ 64 - 2)) p q (λ _. sem_roots.Clears (part_pass sem p) q)
         (λ _. Clears p q)
         (sem_roots.clears (sem_size z) (part_pass sem p) q (calms_so p.own idle) nobody)

@@ -22,9 +22,9 @@ use Rattle.lot_whole.specs.declared.views.LotPassView.{LotPassView}
 use Rattle.lot_whole.specs.declared.views.LotRootView.{LotRootView}
 use Rattle.lot_whole.specs.declared.views.LotRootView.TheVariants.{Lock, Cond, Sem}
 use Rattle.lot_whole.specs.declared.views.Stand.{Stand}
-use Rattle.lot_whole.specs.Family.{Which, lock, cond, sem, LotSize, IsKeyIn, PassIn, RootIn, away, homes_in, scheme_of, part_in, dput}
+use Rattle.lot_whole.specs.Family.{Which, lock, cond, sem, LotSize, IsKeyIn, PassIn, RootIn, away, homes_in, meaning_of, part_in, dput}
 use Rattle.lot_whole.specs.Whole.{Stands, stand_of, moves, moves_by, whole_by, counts_in, counts_of}
-use Rattle.lot_whole.specs.Lot.{own_of, pass_from, root_from, sum_of, LotWorld, letters_in, PassOk, LotFits, LotRootIs, lot_scheme}
+use Rattle.lot_whole.specs.Lot.{own_of, pass_from, root_from, sum_of, LotWorld, letters_in, PassOk, LotFits, LotRootIs, lot_meaning}
 use Rattle.lot_whole.specs.Lifts.{lot_own, MayBeAway, Quiet, Speaks, InPlace}
 use Rattle.lot_whole.proofs.Family.{dput_elim, dput_two, dput_same, three_same, three_one, key_near, letter_near, keys_apart, key_in}
 use Rattle.lot_whole.proofs.Family.{letter_in_kind, wide_in, letter_in, word_is}
@@ -56,13 +56,13 @@ apart_after V j p apart own may k m =
 module _ {V Part : Type 0} (rule : CallersRule V Part) (z : LotSize) (xs : List V) where
   -- ---- roots, kind by kind
   pub root_in : (k : Which) (w : LotWorld rule z xs) (d : ℕ) (r : RootIn k) → LotRootIs rule z xs w d (root_from k r) → IsKeyIn z k d
-      × (scheme_of rule z xs k).RootFits (w.each k) d r
+      × (meaning_of rule z xs k).RootFits (w.each k) d r
   root_in lock w d r h = h
   root_in cond w d r h = h
   root_in sem w d r h = h
 
   pub root_out : (k : Which) (w : LotWorld rule z xs) (d : ℕ) (r : RootIn k) → IsKeyIn z k d
-      → (scheme_of rule z xs k).RootFits (w.each k) d r → LotRootIs rule z xs w d (root_from k r)
+      → (meaning_of rule z xs k).RootFits (w.each k) d r → LotRootIs rule z xs w d (root_from k r)
   root_out lock w d r is h = (is, h)
   root_out cond w d r is h = (is, h)
   root_out sem w d r is h = (is, h)
@@ -97,21 +97,21 @@ module _ {V Part : Type 0} (rule : CallersRule V Part) (z : LotSize) (xs : List 
         (λ h. subst (Quiet rule z xs j w) (omega (arith, h.1.1)) h.1.2) place
 
     -- ---- the word becomes x, and the kind's world v
-    module _ (x : ℕ) (v : (scheme_of rule z xs j).World) (fits : (scheme_of rule z xs j).Fits v (set (w.words j) i x) (homes_in j hs)) where
-      abbrev each : (k : Which) → (scheme_of rule z xs k).World
-      each = dput {X = λ k. (scheme_of rule z xs k).World} j v w.each
+    module _ (x : ℕ) (v : (meaning_of rule z xs j).World) (fits : (meaning_of rule z xs j).Fits v (set (w.words j) i x) (homes_in j hs)) where
+      abbrev each : (k : Which) → (meaning_of rule z xs k).World
+      each = dput {X = λ k. (meaning_of rule z xs k).World} j v w.each
 
       abbrev words : Which → List ℕ
       words = dput {X = λ k. List ℕ} j (set (w.words j) i x) w.words
 
       abbrev letters : Which → ℕ → ℕ
-      letters k = ((scheme_of rule z xs k).told_by (each k)).letters
+      letters k = ((meaning_of rule z xs k).told_by (each k)).letters
 
-      abbrev told_j : Telling (scheme_of rule z xs j).Part
-      told_j = (scheme_of rule z xs j).told_by (w.each j)
+      abbrev told_j : Telling (meaning_of rule z xs j).Part
+      told_j = (meaning_of rule z xs j).told_by (w.each j)
 
-      abbrev told_v : Telling (scheme_of rule z xs j).Part
-      told_v = (scheme_of rule z xs j).told_by v
+      abbrev told_v : Telling (meaning_of rule z xs j).Part
+      told_v = (meaning_of rule z xs j).told_by v
 
       keys_after : (k : Which) (c : ℕ) → IsKeyIn z k c → get_or (set ws i x) (word_at c) 0 ≡ get_or (words k) (word_at c) 0
       keys_after = dput_elim {X = λ k. List ℕ}
@@ -124,15 +124,15 @@ module _ {V Part : Type 0} (rule : CallersRule V Part) (z : LotSize) (xs : List 
 
       -- ---- letters
       others_same : (t : ℕ) → told_v.letters t ≡ told_j.letters t → (k : Which) → letters k t ≡ letters_in rule z xs w k t
-      others_same t e = dput_elim {X = λ k. (scheme_of rule z xs k).World}
-          (λ k y. ((scheme_of rule z xs k).told_by y).letters t ≡ letters_in rule z xs w k t) j v w.each e (λ k ne. refl)
+      others_same t e = dput_elim {X = λ k. (meaning_of rule z xs k).World}
+          (λ k y. ((meaning_of rule z xs k).told_by y).letters t ≡ letters_in rule z xs w k t) j v w.each e (λ k ne. refl)
 
       still_quiet : (t : ℕ) → Quiet rule z xs j w t → (k : Which) → k ≢ j → letters k t ≡ 0
-      still_quiet t quiet = dput_elim {X = λ k. (scheme_of rule z xs k).World}
-          (λ k y. k ≢ j → ((scheme_of rule z xs k).told_by y).letters t ≡ 0) j v w.each (λ ne. absurd (ne refl)) (λ k _ ne. quiet k ne)
+      still_quiet t quiet = dput_elim {X = λ k. (meaning_of rule z xs k).World}
+          (λ k y. k ≢ j → ((meaning_of rule z xs k).told_by y).letters t ≡ 0) j v w.each (λ ne. absurd (ne refl)) (λ k _ ne. quiet k ne)
 
       mine : (t : ℕ) → letters j t ≡ told_v.letters t
-      mine t = ap (λ y. ((scheme_of rule z xs j).told_by y).letters t) (dput_same {X = λ k. (scheme_of rule z xs k).World} j v w.each)
+      mine t = ap (λ y. ((meaning_of rule z xs j).told_by y).letters t) (dput_same {X = λ k. (meaning_of rule z xs k).World} j v w.each)
 
       letters_after : (t : ℕ) → t < z.threads → get_or (set ws i x) (letter_at t) 0 ≡ sum_of letters t
       letters_after t near =
@@ -156,9 +156,9 @@ module _ {V Part : Type 0} (rule : CallersRule V Part) (z : LotSize) (xs : List 
           (λ u ne. three_same letters (letters_in rule z xs w) u (others_same u ((λ h. e h u) ∙ put_other told_j.letters t n u ne)))
 
       -- ---- the state of the whole
-      same_parts : told_v.part ≡ told_j.part → (k : Which) → part_in rule z xs k w.whole ≡ ((scheme_of rule z xs k).told_by (each k)).part
-      same_parts e = dput_elim {X = λ k. (scheme_of rule z xs k).World}
-          (λ k y. part_in rule z xs k w.whole ≡ ((scheme_of rule z xs k).told_by y).part) j v w.each (ok.agrees j ∙ sym e)
+      same_parts : told_v.part ≡ told_j.part → (k : Which) → part_in rule z xs k w.whole ≡ ((meaning_of rule z xs k).told_by (each k)).part
+      same_parts e = dput_elim {X = λ k. (meaning_of rule z xs k).World}
+          (λ k y. part_in rule z xs k w.whole ≡ ((meaning_of rule z xs k).told_by y).part) j v w.each (ok.agrees j ∙ sym e)
           (λ k ne. ok.agrees k)
 
       abbrev before : Telling World
@@ -166,8 +166,8 @@ module _ {V Part : Type 0} (rule : CallersRule V Part) (z : LotSize) (xs : List 
 
       -- where the access a has led
       pub record Gone (a : Access) : Type 0 where
-        pub leads : Leads (lot_scheme rule z xs) before a (record { part = whole_by a w.whole; letters = sum_of letters })
-        pub agrees : (k : Which) → part_in rule z xs k (whole_by a w.whole) ≡ ((scheme_of rule z xs k).told_by (each k)).part
+        pub leads : Leads (lot_meaning rule z xs) before a (record { part = whole_by a w.whole; letters = sum_of letters })
+        pub agrees : (k : Which) → part_in rule z xs k (whole_by a w.whole) ≡ ((meaning_of rule z xs k).told_by (each k)).part
         pub counts : counts_in (whole_by a w.whole) ≡ counts_of z
         pub reached : IsReached (whole_by a w.whole)
         -- of a thread's access, it alone moves; of a root's, nobody does
@@ -181,14 +181,14 @@ module _ {V Part : Type 0} (rule : CallersRule V Part) (z : LotSize) (xs : List 
           → ◌≡◌ {A = Telling World} (record { part = w.whole; letters = sum_of letters }) before
       between e = λ h. record { part = w.whole; letters = e h }
 
-      pub gone : (a : Access) → Leads (scheme_of rule z xs j) told_j a told_v → Speaks rule z xs j w a → Gone a
+      pub gone : (a : Access) → Leads (meaning_of rule z xs j) told_j a told_v → Speaks rule z xs j w a → Gone a
       gone (Makes e saw) goes speaks =
           let joined = joins rule z xs w.whole e saw ok.reached ok.counts speaks.1 j told_v.part speaks.0
-          (subst (λ p. (scheme_of rule z xs j).Step p e saw told_v.part) (sym (ok.agrees j)) goes.0) in
+          (subst (λ p. (meaning_of rule z xs j).Step p e saw told_v.part) (sym (ok.agrees j)) goes.0) in
           record {
             leads = ((joined.allowed, joined.saw_is, refl), same_letters goes.1);
-            agrees = dput_elim {X = λ k. (scheme_of rule z xs k).World}
-                (λ k y. part_in rule z xs k (after w.whole e) ≡ ((scheme_of rule z xs k).told_by y).part) j v w.each joined.part
+            agrees = dput_elim {X = λ k. (meaning_of rule z xs k).World}
+                (λ k y. part_in rule z xs k (after w.whole e) ≡ ((meaning_of rule z xs k).told_by y).part) j v w.each joined.part
                 (λ k ne. joined.others k ne ∙ ok.agrees k);
             counts = counts_after w.whole e ∙ ok.counts;
             reached = event_kept w.whole e ok.reached joined.allowed;
@@ -233,7 +233,7 @@ module _ {V Part : Type 0} (rule : CallersRule V Part) (z : LotSize) (xs : List 
       }
       gone (Finds u c n) goes speaks = record {
         leads = (
-          goes.0 ∙ (ap (λ p. (scheme_of rule z xs j).word_in p c) (sym (ok.agrees j)) ∙ sym (word_is rule z xs j w.whole c speaks)),
+          goes.0 ∙ (ap (λ p. (meaning_of rule z xs j).word_in p c) (sym (ok.agrees j)) ∙ sym (word_is rule z xs j w.whole c speaks)),
           between (same_letters (λ y. (goes.1 y).letters)),
         );
         agrees = same_parts (λ y. (goes.1 y).part);
@@ -248,9 +248,9 @@ module _ {V Part : Type 0} (rule : CallersRule V Part) (z : LotSize) (xs : List 
         abbrev pub next : LotWorld rule z xs
         next = record { each = each; words = words; pass = pass; whole = whole_by a w.whole }
 
-        parts_after : (k : Which) → (scheme_of rule z xs k).Fits (each k) (words k) (homes_in k hs)
-        parts_after = dput_two {X = λ k. (scheme_of rule z xs k).World} {Y = λ k. List ℕ}
-            (λ k y us. (scheme_of rule z xs k).Fits y us (homes_in k hs)) j v w.each (set (w.words j) i x) w.words fits
+        parts_after : (k : Which) → (meaning_of rule z xs k).Fits (each k) (words k) (homes_in k hs)
+        parts_after = dput_two {X = λ k. (meaning_of rule z xs k).World} {Y = λ k. List ℕ}
+            (λ k y us. (meaning_of rule z xs k).Fits y us (homes_in k hs)) j v w.each (set (w.words j) i x) w.words fits
             (λ k ne. ok.parts k)
 
         pub fits_after : ((t : ℕ) → t < z.threads → PassOk rule z xs next t (pass t)) → LotFits rule z xs next (set ws i x) hs
@@ -268,10 +268,10 @@ module _ {V Part : Type 0} (rule : CallersRule V Part) (z : LotSize) (xs : List 
 
         -- a pass that is as it was
         pub pass_stays : (u : ℕ) (p : LotPassView V) → PassOk rule z xs w u p
-            → ((y : PassIn V j) → (scheme_of rule z xs j).PassFits (w.each j) u y → (scheme_of rule z xs j).PassFits v u y)
+            → ((y : PassIn V j) → (meaning_of rule z xs j).PassFits (w.each j) u y → (meaning_of rule z xs j).PassFits v u y)
             → stand_of ((whole_by a w.whole).point u) ≡ stand_of (w.whole.point u) → PassOk rule z xs next u p
         pass_stays u p h kind same = record {
-          each = dput_elim {X = λ k. (scheme_of rule z xs k).World} (λ k y. (scheme_of rule z xs k).PassFits y u (own_of V p k)) j v w.each
+          each = dput_elim {X = λ k. (meaning_of rule z xs k).World} (λ k y. (meaning_of rule z xs k).PassFits y u (own_of V p k)) j v w.each
               (kind (own_of V p j) (h.each j)) (λ k ne. h.each k);
           apart = h.apart;
           stand = same ∙ h.stand;
@@ -279,13 +279,13 @@ module _ {V Part : Type 0} (rule : CallersRule V Part) (z : LotSize) (xs : List 
 
         -- the pass of the thread t, which knows this now
         module _ (t : ℕ) (p : LotPassView V) (h : PassOk rule z xs w t p) (own : PassIn V j) (may : MayBeAway j p own) where
-          pub pass_turned : (scheme_of rule z xs j).PassFits v t own → stand_of ((whole_by a w.whole).point t) ≡ moves_by a p.stand
+          pub pass_turned : (meaning_of rule z xs j).PassFits v t own → stand_of ((whole_by a w.whole).point t) ≡ moves_by a p.stand
               → PassOk rule z xs next t (lot_own j p own a)
           pass_turned fit stands = record {
-            each = λ k. subst (λ o. (scheme_of rule z xs k).PassFits (each k) t o)
+            each = λ k. subst (λ o. (meaning_of rule z xs k).PassFits (each k) t o)
                 (sym (own_from V (dput {X = PassIn V} j own (own_of V p)) (moves_by a p.stand) k))
-                (dput_two {X = λ k. (scheme_of rule z xs k).World} {Y = PassIn V}
-                (λ k y o. (scheme_of rule z xs k).PassFits y t o) j v w.each own (own_of V p) fit (λ k ne. h.each k) k);
+                (dput_two {X = λ k. (meaning_of rule z xs k).World} {Y = PassIn V}
+                (λ k y o. (meaning_of rule z xs k).PassFits y t o) j v w.each own (own_of V p) fit (λ k ne. h.each k) k);
             apart = λ k m up there.
                 apart_after V j p h.apart own may k m
                 (subst (λ o. away V k o ≡ true) (own_from V (dput {X = PassIn V} j own (own_of V p)) (moves_by a p.stand) k) up)
@@ -294,15 +294,15 @@ module _ {V Part : Type 0} (rule : CallersRule V Part) (z : LotSize) (xs : List 
           }
 
         -- ---- roots
-        pub roots_after : (d : ℕ) → ((r : RootIn j) → (scheme_of rule z xs j).RootFits (w.each j) d r
-            → (scheme_of rule z xs j).RootFits v d r)
+        pub roots_after : (d : ℕ) → ((r : RootIn j) → (meaning_of rule z xs j).RootFits (w.each j) d r
+            → (meaning_of rule z xs j).RootFits v d r)
             → (y : LotRootView) → LotRootIs rule z xs w d y → LotRootIs rule z xs next d y
         roots_after d kind = by_kind
           where
-            every : (k : Which) (r : RootIn k) → (scheme_of rule z xs k).RootFits (w.each k) d r
-                → (scheme_of rule z xs k).RootFits (each k) d r
-            every = dput_elim {X = λ k. (scheme_of rule z xs k).World}
-                (λ k y. (r : RootIn k) → (scheme_of rule z xs k).RootFits (w.each k) d r → (scheme_of rule z xs k).RootFits y d r) j v
+            every : (k : Which) (r : RootIn k) → (meaning_of rule z xs k).RootFits (w.each k) d r
+                → (meaning_of rule z xs k).RootFits (each k) d r
+            every = dput_elim {X = λ k. (meaning_of rule z xs k).World}
+                (λ k y. (r : RootIn k) → (meaning_of rule z xs k).RootFits (w.each k) d r → (meaning_of rule z xs k).RootFits y d r) j v
                 w.each
                 kind (λ k ne r h. h)
 
@@ -311,7 +311,7 @@ module _ {V Part : Type 0} (rule : CallersRule V Part) (z : LotSize) (xs : List 
             by_kind (Cond r) h = (h.0, every cond r h.1)
             by_kind (Sem r) h = (h.0, every sem r h.1)
 
-        pub root_turned : (d : ℕ) (r : RootIn j) → IsKeyIn z j d → (scheme_of rule z xs j).RootFits v d r
+        pub root_turned : (d : ℕ) (r : RootIn j) → IsKeyIn z j d → (meaning_of rule z xs j).RootFits v d r
             → LotRootIs rule z xs next d (root_from j r)
         root_turned d r is fit = root_out j next d r is
-            (subst (λ y. (scheme_of rule z xs j).RootFits y d r) (sym (dput_same {X = λ k. (scheme_of rule z xs k).World} j v w.each)) fit)
+            (subst (λ y. (meaning_of rule z xs j).RootFits y d r) (sym (dput_same {X = λ k. (meaning_of rule z xs k).World} j v w.each)) fit)

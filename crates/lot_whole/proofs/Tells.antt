@@ -24,7 +24,7 @@ use Rattle.lot_sems.specs.declared.views.SemRootView.{SemRootView}
 use Rattle.lot_sems.specs.World.{sleeps, NoticeFits}
 use Rattle.lot_whole.specs.declared.views.LotPassView.{LotPassView}
 use Rattle.lot_whole.specs.declared.views.Stand.TheVariants.{Idle, AtBed, AtRest}
-use Rattle.lot_whole.specs.Family.{Which, lock, cond, sem, LotSize, away, scheme_of}
+use Rattle.lot_whole.specs.Family.{Which, lock, cond, sem, LotSize, away, meaning_of}
 use Rattle.lot_whole.specs.Whole.{stand_of}
 use Rattle.lot_whole.specs.Lot.{own_of, LotWorld, PassOk, LotFits, LotPassIs}
 use Rattle.lot_whole.specs.Lifts.{Quiet}
@@ -146,14 +146,14 @@ module _ {V Part : Type 0} (rule : CallersRule V Part) (z : LotSize) (xs : List 
   debtor j u near up = (near, quiet u (w.pass u) (near, refl) j up)
 
   -- to whom a root owes a letter is away in that kind
-  pub lock_debtor : (l u k : ℕ) (q : LockRootView) → (scheme_of rule z xs lock).RootFits (w.each lock) l q → q.owes ≡ Some (u, k)
+  pub lock_debtor : (l u k : ℕ) (q : LockRootView) → (meaning_of rule z xs lock).RootFits (w.each lock) l q → q.owes ≡ Some (u, k)
       → (u < z.threads) × Quiet rule z xs lock w u
   lock_debtor l u k q root debt =
       let v = w.each lock in
       let d = debtor_fits z.threads z.locks v (ok.parts lock).kept u k l (ap (λ (y : LockRootView). y.owes) root.1 ∙ debt) in
       debtor lock u d.0.0 (ap (λ (x : LockPassView V). x.asleep) (sym ((ok.passes u d.0.0).each lock).1) ∙ d.0.1)
 
-  pub cond_debtor : (c u : ℕ) (q : CondRootView) → (scheme_of rule z xs cond).RootFits (w.each cond) c q → Contains q.owes u
+  pub cond_debtor : (c u : ℕ) (q : CondRootView) → (meaning_of rule z xs cond).RootFits (w.each cond) c q → Contains q.owes u
       → (u < z.threads) × Quiet rule z xs cond w u
   cond_debtor c u q root debt =
       let v = w.each cond in
@@ -161,7 +161,7 @@ module _ {V Part : Type 0} (rule : CallersRule V Part) (z : LotSize) (xs : List 
       (subst (λ (y : CondRootView). Contains y.owes u) (sym root.1) debt) in
       debtor cond u d.0.0 (ap is_some (ap (λ (x : CondPassView). x.out) (sym ((ok.passes u d.0.0).each cond).1) ∙ d.0.1))
 
-  pub sem_debtor : (k u : ℕ) (q : SemRootView) → (scheme_of rule z xs sem).RootFits (w.each sem) k q → q.owes ≡ Some u → (u < z.threads)
+  pub sem_debtor : (k u : ℕ) (q : SemRootView) → (meaning_of rule z xs sem).RootFits (w.each sem) k q → q.owes ≡ Some u → (u < z.threads)
       × Quiet rule z xs sem w u
   sem_debtor k u q root debt =
       let v = w.each sem in

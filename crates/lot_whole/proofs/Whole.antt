@@ -24,7 +24,7 @@ use Rattle.lot_rights.proofs.Puts.{put_elim}
 use Rattle.lot_words.specs.CallersRule.{CallersRule}
 use Rattle.lot_whole.specs.declared.views.Stand.{Stand}
 use Rattle.lot_whole.specs.declared.views.Stand.TheVariants.{Idle, AtBed}
-use Rattle.lot_whole.specs.Family.{Which, lock, cond, sem, LotSize, scheme_of, part_in, IsEventIn}
+use Rattle.lot_whole.specs.Family.{Which, lock, cond, sem, LotSize, meaning_of, part_in, IsEventIn}
 use Rattle.lot_whole.specs.Whole.{Joined, Joins, Stands, StandsMove, stand_of, rises, moves, Counts, counts_in, counts_of}
 
 -- ---- no event changes how many there are
@@ -108,8 +108,8 @@ module _ {V Part : Type 0} (rule : CallersRule V Part) (z : LotSize) (xs : List 
     others : (j : Which) → IsEventIn j e → Allowed s e → (k : Which) → k ≢ j → part_in rule z xs k (after s e) ≡ part_in rule z xs k s
     others j is ok k ne = others_stay s e sound ok k (λ here. ne (one_kind k j e here is))
 
-    pub joins : (j : Which) (b : (scheme_of rule z xs j).Part) → IsEventIn j e
-        → (scheme_of rule z xs j).Step (part_in rule z xs j s) e saw b → Joined rule z xs j s e saw b
+    pub joins : (j : Which) (b : (meaning_of rule z xs j).Part) → IsEventIn j e
+        → (meaning_of rule z xs j).Step (part_in rule z xs j s) e saw b → Joined rule z xs j s e saw b
     joins lock b is step =
         let here : LockAllowed s.threads s.lock_count (lock_part s) e =
         subst (λ (c : Counts). LockAllowed c.threads c.locks (lock_part s) e) (sym counts) step.0 in

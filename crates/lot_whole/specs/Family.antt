@@ -4,21 +4,21 @@ use mathlib.Core.Option as maybe
 use Rattle.lot_core.specs.World.{World}
 use Rattle.lot_core.specs.Parts.{lock_part, cond_part, semaphore_part, IsLockEvent, IsCondEvent, IsSemaphoreEvent}
 use Rattle.lot_events.specs.declared.events.Event.{Event}
-use Rattle.lot_rights.specs.Rule.{Scheme}
+use Rattle.lot_rights.specs.Rule.{Meaning}
 use Rattle.lot_rights.specs.World.{Sizes, IsKeyOf}
 use Rattle.lot_words.specs.declared.views.LockPassView.{LockPassView}
 use Rattle.lot_words.specs.declared.views.LockRootView.{LockRootView}
 use Rattle.lot_words.specs.declared.views.Size.{Size as LockSize}
 use Rattle.lot_words.specs.CallersRule.{CallersRule}
-use Rattle.lot_words.specs.Rule.{scheme as locks_scheme}
+use Rattle.lot_words.specs.Rule.{meaning as locks_meaning}
 use Rattle.lot_conds.specs.declared.views.CondPassView.{CondPassView}
 use Rattle.lot_conds.specs.declared.views.CondRootView.{CondRootView}
 use Rattle.lot_conds.specs.declared.views.Size.{Size as CondSize}
-use Rattle.lot_conds.specs.Rule.{scheme as conds_scheme}
+use Rattle.lot_conds.specs.Rule.{meaning as conds_meaning}
 use Rattle.lot_sems.specs.declared.views.SemPassView.{SemPassView}
 use Rattle.lot_sems.specs.declared.views.SemRootView.{SemRootView}
 use Rattle.lot_sems.specs.World.{Numbers}
-use Rattle.lot_sems.specs.Rule.{scheme as sems_scheme}
+use Rattle.lot_sems.specs.Rule.{meaning as sems_meaning}
 
 -- locks, conditions, semaphores
 pub data Which : Type 0 where
@@ -42,7 +42,7 @@ abbrev pub cond_size : LotSize → CondSize
 cond_size z = record { threads = z.threads; locks = z.locks; conds = z.conds }
 
 abbrev pub sem_size : LotSize → Numbers
-sem_size z = record { threads = z.threads; low = z.locks + z.conds; permits = z.permits }
+sem_size z = record { threads = z.threads; first_sem = z.locks + z.conds; permits = z.permits }
 
 abbrev pub sizes_in : LotSize → Which → Sizes
 sizes_in z lock = record { threads = z.threads; first = 0; keys = z.locks }
@@ -87,13 +87,13 @@ homes_in sem hs = []
 
 -- ---- what a kind is
 module _ {V Part : Type 0} (rule : CallersRule V Part) (z : LotSize) (xs : List V) where
-  abbrev pub scheme_of : (j : Which) → Scheme (SlotOf V j) (PassIn V j) (RootIn j)
-  scheme_of lock = locks_scheme rule (lock_size z) xs
-  scheme_of cond = conds_scheme (cond_size z)
-  scheme_of sem = sems_scheme (sem_size z)
+  abbrev pub meaning_of : (j : Which) → Meaning (SlotOf V j) (PassIn V j) (RootIn j)
+  meaning_of lock = locks_meaning rule (lock_size z) xs
+  meaning_of cond = conds_meaning (cond_size z)
+  meaning_of sem = sems_meaning (sem_size z)
 
   -- the part of the model's state that its words tell of
-  abbrev pub part_in : (j : Which) → World → (scheme_of j).Part
+  abbrev pub part_in : (j : Which) → World → (meaning_of j).Part
   part_in lock s = lock_part s
   part_in cond s = cond_part s
   part_in sem s = semaphore_part s

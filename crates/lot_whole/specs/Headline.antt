@@ -21,7 +21,7 @@ use Rattle.lot_whole.specs.declared.views.LotPassView.{LotPassView}
 use Rattle.lot_whole.specs.declared.views.LotRootView.{LotRootView}
 use Rattle.lot_whole.specs.Family.{Which, lock, cond, sem, LotSize, IsKeyIn, away}
 use Rattle.lot_whole.specs.Whole.{WholeStep, word_in, line_in, opening_of}
-use Rattle.lot_whole.specs.Lot.{own_of, lot_scheme}
+use Rattle.lot_whole.specs.Lot.{own_of, lot_meaning}
 
 -- a thread is in one line at most, of all keys of all kinds
 abbrev pub OneLineOfAll : World → Type 0
@@ -41,7 +41,7 @@ pub record IsOneRun (z : LotSize) (events : List (Event × Seen)) (state : World
 module _ {V Part : Type 0} (rule : CallersRule V Part) (z : LotSize) (xs : List V) where
   -- Of a table that keeps the rule: the state of the whole model that it stands for
   pub record OneState (s : State (Option V) (List (Right (LotPassView V) LotRootView)))
-      (here : Ruled (lot_scheme rule z xs) s) : Type 0 where
+      (here : Ruled (lot_meaning rule z xs) s) : Type 0 where
     pub state : World
     -- the words of all keys stand for it
     pub words : (j : Which) (c : ℕ) → IsKeyIn z j c → slice_index s.words (word_at c) ≡ word_in z state c
@@ -57,7 +57,7 @@ module _ {V Part : Type 0} (rule : CallersRule V Part) (z : LotSize) (xs : List 
   -- most and someone tries to get a free one with sleepers, values are lawful, and the ledger is balanced. (That no
   -- sleeper of a condition is forgotten is said of the whole state: `someone_sweeps` of its soundness.)
   pub record Promises (s : State (Option V) (List (Right (LotPassView V) LotRootView)))
-      (here : Ruled (lot_scheme rule z xs) s) : Type 0 where
+      (here : Ruled (lot_meaning rule z xs) s) : Type 0 where
     pub whole : OneState s here
     pub lock_letters : LockLettersFit (here.world.each lock)
     pub cond_letters : CondLettersFit (here.world.each cond)

@@ -6,7 +6,7 @@ use mathlib.Core.Option as maybe
 use Rattle.lot_core.specs.World.{World}
 use Rattle.lot_core.specs.Steps.{IsReached}
 use Rattle.lot_rights.specs.Layout.{word_at, letter_at, word_count}
-use Rattle.lot_rights.specs.Rule.{Scheme}
+use Rattle.lot_rights.specs.Rule.{Meaning}
 use Rattle.lot_rights.specs.Settled.{HasOneOutcome, LinesHaveNoLetter}
 use Rattle.lot_words.specs.CallersRule.{CallersRule}
 use Rattle.lot_words.specs.Rule.{fresh_pass as fresh_lock_pass, fresh_root as fresh_lock_root, names as lock_names}
@@ -19,7 +19,7 @@ use Rattle.lot_whole.specs.declared.views.LotRootView.TheVariants.{Lock, Cond, S
 use Rattle.lot_whole.specs.declared.views.Stand.{Stand}
 use Rattle.lot_whole.specs.declared.views.Stand.TheVariants.{Idle}
 use Rattle.lot_whole.specs.Family.{Which, lock, cond, sem, LotSize, cond_size, sem_size, key_count, IsKeyIn, PassIn, RootIn}
-use Rattle.lot_whole.specs.Family.{away, homes_in, scheme_of, part_in}
+use Rattle.lot_whole.specs.Family.{away, homes_in, meaning_of, part_in}
 use Rattle.lot_whole.specs.Whole.{stand_of, WholeStep, word_in, IsQueued, counts_in, counts_of, opening_of}
 
 -- ---- passes and roots, kind by kind
@@ -70,29 +70,29 @@ names (Sem q) u = sem_names q u
 module _ {V Part : Type 0} (rule : CallersRule V Part) (z : LotSize) (xs : List V) where
   -- the world of each kind, and the words as that kind would have them alone; what each pass knows; and the state of the whole model
   pub record LotWorld : Type 0 where
-    pub each : (j : Which) → (scheme_of rule z xs j).World
+    pub each : (j : Which) → (meaning_of rule z xs j).World
     pub words : Which → List ℕ
     pub pass : ℕ → LotPassView V
     pub whole : World
 
   abbrev pub letters_in : LotWorld → Which → ℕ → ℕ
-  letters_in w j = ((scheme_of rule z xs j).told_by (w.each j)).letters
+  letters_in w j = ((meaning_of rule z xs j).told_by (w.each j)).letters
 
   -- the pass p of the thread t is what each kind says of it; it is away in one kind at most, and tells how the thread stands
   pub record PassOk (w : LotWorld) (t : ℕ) (p : LotPassView V) : Type 0 where
-    pub each : (j : Which) → (scheme_of rule z xs j).PassFits (w.each j) t (own_of V p j)
+    pub each : (j : Which) → (meaning_of rule z xs j).PassFits (w.each j) t (own_of V p j)
     pub apart : (j k : Which) → away V j (own_of V p j) ≡ true → away V k (own_of V p k) ≡ true → j ≡ k
     pub stand : stand_of (w.whole.point t) ≡ p.stand
 
   -- the words and the slots stand for the world: each kind's words and letters do so for that kind, and the parts of the whole state, which
   -- a run of the model reaches, are what the kinds tell; no letter lies for a thread that is in a line
   pub record LotFits (w : LotWorld) (ws : List ℕ) (hs : List (maybe.Option (Option V))) : Type 0 where
-    pub parts : (j : Which) → (scheme_of rule z xs j).Fits (w.each j) (w.words j) (homes_in j hs)
+    pub parts : (j : Which) → (meaning_of rule z xs j).Fits (w.each j) (w.words j) (homes_in j hs)
     pub wide : length ws ≡ word_count z.threads (key_count z)
     pub keys : (j : Which) (c : ℕ) → IsKeyIn z j c → slice_index ws (word_at c) ≡ slice_index (w.words j) (word_at c)
     pub letters : (t : ℕ) → t < z.threads → slice_index ws (letter_at t) ≡ sum_of (letters_in w) t
     pub passes : (t : ℕ) → t < z.threads → PassOk w t (w.pass t)
-    pub agrees : (j : Which) → part_in rule z xs j w.whole ≡ ((scheme_of rule z xs j).told_by (w.each j)).part
+    pub agrees : (j : Which) → part_in rule z xs j w.whole ≡ ((meaning_of rule z xs j).told_by (w.each j)).part
     pub none_in_line : (t : ℕ) → IsQueued w.whole t → sum_of (letters_in w) t ≡ 0
     pub counts : counts_in w.whole ≡ counts_of z
     pub reached : IsReached w.whole
@@ -101,13 +101,13 @@ module _ {V Part : Type 0} (rule : CallersRule V Part) (z : LotSize) (xs : List 
   LotPassIs w t p = (t < z.threads) × (w.pass t ≡ p)
 
   abbrev pub LotRootIs : LotWorld → ℕ → LotRootView → Type 0
-  LotRootIs w c (Lock q) = IsKeyIn z lock c × (scheme_of rule z xs lock).RootFits (w.each lock) c q
-  LotRootIs w c (Cond q) = IsKeyIn z cond c × (scheme_of rule z xs cond).RootFits (w.each cond) c q
-  LotRootIs w c (Sem q) = IsKeyIn z sem c × (scheme_of rule z xs sem).RootFits (w.each sem) c q
+  LotRootIs w c (Lock q) = IsKeyIn z lock c × (meaning_of rule z xs lock).RootFits (w.each lock) c q
+  LotRootIs w c (Cond q) = IsKeyIn z cond c × (meaning_of rule z xs cond).RootFits (w.each cond) c q
+  LotRootIs w c (Sem q) = IsKeyIn z sem c × (meaning_of rule z xs sem).RootFits (w.each sem) c q
 
   -- for a lot of this size, where xs are the opening values
-  abbrev pub lot_scheme : Scheme (Option V) (LotPassView V) LotRootView
-  lot_scheme = record {
+  abbrev pub lot_meaning : Meaning (Option V) (LotPassView V) LotRootView
+  lot_meaning = record {
     World = LotWorld;
     Part = World;
     Fits = LotFits;
@@ -125,8 +125,8 @@ module _ {V Part : Type 0} (rule : CallersRule V Part) (z : LotSize) (xs : List 
     fresh_root = fresh_root z;
   }
 
-  pub one_outcome : HasOneOutcome lot_scheme
+  pub one_outcome : HasOneOutcome lot_meaning
   one_outcome a b c e s h k = h.2 ∙ sym k.2
 
-  pub no_letter_in_line : LinesHaveNoLetter lot_scheme
+  pub no_letter_in_line : LinesHaveNoLetter lot_meaning
   no_letter_in_line w ws hs ok = ok.none_in_line

@@ -20,7 +20,7 @@ use Rattle.lot_sems.specs.World.{word_of}
 use Rattle.lot_whole.specs.declared.views.Stand.{Stand}
 use Rattle.lot_whole.specs.declared.views.Stand.TheVariants.{Idle, AtBed, AtRest}
 use Rattle.lot_words.specs.CallersRule.{CallersRule}
-use Rattle.lot_whole.specs.Family.{Which, lock, cond, sem, LotSize, scheme_of, part_in, IsEventIn}
+use Rattle.lot_whole.specs.Family.{Which, lock, cond, sem, LotSize, meaning_of, part_in, IsEventIn}
 
 -- ---- standing: what none of the three parts tells of a point
 abbrev pub stand_of : Point → Stand
@@ -106,16 +106,16 @@ opening_of z = opening_with z.threads z.locks z.conds z.permits
 module _ {V Part : Type 0} (rule : CallersRule V Part) (z : LotSize) (xs : List V) where
   -- what a step of the kind j, whose event leads its part to b, is to the whole: it is allowed there, sees the same, leads the part to the
   -- same, and leaves the others
-  pub record Joined (j : Which) (s : World) (e : Event) (saw : Seen) (b : (scheme_of rule z xs j).Part) : Type 0 where
+  pub record Joined (j : Which) (s : World) (e : Event) (saw : Seen) (b : (meaning_of rule z xs j).Part) : Type 0 where
     pub allowed : Allowed s e
     pub saw_is : saw ≡ seen s e
     pub part : part_in rule z xs j (after s e) ≡ b
     pub others : (k : Which) → k ≢ j → part_in rule z xs k (after s e) ≡ part_in rule z xs k s
 
   abbrev pub Joins : Type 0
-  Joins = (j : Which) (s : World) (e : Event) (saw : Seen) (b : (scheme_of rule z xs j).Part) → IsReached s → counts_in s ≡ counts_of z
+  Joins = (j : Which) (s : World) (e : Event) (saw : Seen) (b : (meaning_of rule z xs j).Part) → IsReached s → counts_in s ≡ counts_of z
       → IsEventIn j e → AsksOfThread s e
-      → (scheme_of rule z xs j).Step (part_in rule z xs j s) e saw b → Joined j s e saw b
+      → (meaning_of rule z xs j).Step (part_in rule z xs j s) e saw b → Joined j s e saw b
 
 -- and what no part tells: of an event its own thread alone moves
 abbrev pub StandsMove : Type 0

@@ -6,7 +6,7 @@ ghost use Rattle.lot_core.specs.Steps.{SaysMore, first as first_of};
 ghost use Rattle.lot_words.specs.World.{Holds};
 ghost use Rattle.lot_words.specs.Values.{IsIn};
 ghost use Rattle.lot_conds.specs.Calls.{enlisted_root, swept_root};
-ghost use Rattle.lot_sems.specs.Calls.{gave, passed_root};
+ghost use Rattle.lot_sems.specs.Calls.{one_permit_less, passed_root};
 ghost use Rattle.lot_whole.specs.Family.{cond, sem, IsKeyIn};
 ghost use Rattle.lot_whole.specs.Standing.{IsIdle, MayGive, IsCondRoot, IsSemRoot, as_cond, as_sem};
 ghost use Rattle.lot_whole.specs.Calls.{Adds, RootIs};
@@ -148,7 +148,7 @@ impl<V: Keeps> LotWords<V> {
         requires first { (first_of (as_sem root.root.own).line ≡ first) × ((as_sem root.root.own).owes ≡ None) }
         requires more { SaysMore (as_sem root.root.own).line more }
         ensures table { (result.0.table ≡ pass.table) × (result.1.table ≡ root.table) }
-        ensures given { result.0.pass.own ≡ record pass.pass.own { sems = gave pass.pass.own.sems root.root.key } }
+        ensures given { result.0.pass.own ≡ record pass.pass.own { sems = one_permit_less pass.pass.own.sems root.root.key } }
         ensures made { GivenBy pass.pass root.root.key first more result.2 result.0.pass }
         ensures root { MatchBool result.2 (result.1.root ≡ root.root)
             (RootIs sem root.root (passed_root (as_sem root.root.own) (as_sem root.root.own).line) result.1.root) }

@@ -12,7 +12,7 @@ pub struct Lot<V> {
 }
 
 impl<V: Keeps> Kind for Lot<V> {
-    ghost use Rattle.lot_whole.specs.Rule.{scheme, one_outcome_of, no_letter_of};
+    ghost use Rattle.lot_whole.specs.Rule.{meaning, one_outcome_of, no_letter_of};
     ghost use Rattle.lot_whole.specs.Lot.{no_pass, no_root, names};
 
     type Slot = Option<V>;
@@ -23,7 +23,7 @@ impl<V: Keeps> Kind for Lot<V> {
 
     type Key = Start<V>;
 
-    ghost scheme = { scheme V.Keeps };
+    ghost meaning = { meaning V.Keeps };
 
     ghost no_pass = { no_pass };
 

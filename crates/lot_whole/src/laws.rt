@@ -8,7 +8,7 @@ ghost use Rattle.lot_whole.specs.declared.views.LotPassView.{LotPassView};
 ghost use Rattle.lot_whole.specs.declared.views.LotRootView.{LotRootView};
 ghost use Rattle.lot_whole.specs.Family.{LotSize};
 ghost use Rattle.lot_whole.specs.Whole.{Joins, StandsMove};
-ghost use Rattle.lot_whole.specs.Lot.{lot_scheme};
+ghost use Rattle.lot_whole.specs.Lot.{lot_meaning};
 ghost use Rattle.lot_whole.specs.Headline.{OneState, Promises};
 ghost use Rattle.lot_whole.specs.Order.{LettersFollow};
 
@@ -25,13 +25,13 @@ pub fn parts_join<V: Keeps>()
 /// notices is one run of the model from the opening to it. In it each thread is in one line at most, over all kinds.
 pub fn one_state_at_every_moment<V: Keeps>()
     ensures { (z : LotSize) (xs : List V) (s : State (Option V) (List (Right (LotPassView V) LotRootView)))
-        (here : Ruled (lot_scheme V.Keeps z xs) s) → OneState V.Keeps z xs s here }
+        (here : Ruled (lot_meaning V.Keeps z xs) s) → OneState V.Keeps z xs s here }
 {}
 
 /// A table that keeps a lot's rule has, of one world, the headlines of all three kinds.
 pub fn the_rule_is_the_headline<V: Keeps>()
     ensures { (z : LotSize) (xs : List V) (s : State (Option V) (List (Right (LotPassView V) LotRootView)))
-        (here : Ruled (lot_scheme V.Keeps z xs) s) → Promises V.Keeps z xs s here }
+        (here : Ruled (lot_meaning V.Keeps z xs) s) → Promises V.Keeps z xs s here }
 {}
 
 /// A letter that a thread collects after it was queued at a key, by an Enlist, a Park or a SemPark, comes after the

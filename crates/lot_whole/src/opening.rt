@@ -45,9 +45,9 @@ impl<V: Keeps> LotWords<V> {
         ensures back { IfErr result (λ e. e.1.items ≡ values.items) }
     {
         let locks = values.len();
-        let low = locks + conds;
-        let keys = low + permits.len();
-        let Ok(words) = words_at_opening(alloc, threads, low, &permits) else {
+        let first_sem = locks + conds;
+        let keys = first_sem + permits.len();
+        let Ok(words) = words_at_opening(alloc, threads, first_sem, &permits) else {
             return Err((WordsFault::NoMemory, values));
         };
         let Ok(mut slots) = Vec::with_capacity(alloc, locks) else {

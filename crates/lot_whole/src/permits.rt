@@ -4,7 +4,7 @@ ghost use Rattle.lot_events.specs.declared.events.Event.TheVariants.{SemMark, Se
 ghost use Rattle.lot_events.specs.declared.events.Seen.TheVariants.{Bool as Saw, Done, Sleeper};
 ghost use Rattle.lot_core.specs.Steps.{SaysMore, first as first_of};
 ghost use Rattle.lot_rights.specs.declared.views.Access.TheVariants.{Makes};
-ghost use Rattle.lot_sems.specs.Calls.{IsAnyLeft, gave, parked_pass, parked_root, passed_root, raise_of};
+ghost use Rattle.lot_sems.specs.Calls.{IsAnyLeft, one_permit_less, parked_pass, parked_root, passed_root, raise_of};
 ghost use Rattle.lot_whole.specs.Family.{sem, IsKeyIn};
 ghost use Rattle.lot_whole.specs.Standing.{IsIdle, MayTakePermit, MaySeek, MayGive, IsSemRoot, as_sem};
 ghost use Rattle.lot_whole.specs.Calls.{NotesIn, FindsOf, RootIs, TakesFrom, TriesPermit, TakesPermit, FreesPermit};
@@ -183,7 +183,7 @@ impl<V: Keeps> LotWords<V> {
         requires first { (first_of (as_sem root.root.own).line ≡ first) × ((as_sem root.root.own).owes ≡ None) }
         requires more { SaysMore (as_sem root.root.own).line more }
         ensures table { (result.0.table ≡ pass.table) × (result.1.table ≡ root.table) }
-        ensures entry { NotesIn sem pass.pass (gave pass.pass.own.sems root.root.key)
+        ensures entry { NotesIn sem pass.pass (one_permit_less pass.pass.own.sems root.root.key)
             (Makes (Passes pass.pass.thread root.root.key more) (Sleeper first)) result.0.pass }
         ensures root { RootIs sem root.root
             (passed_root (as_sem root.root.own) (as_sem root.root.own).line) result.1.root }

@@ -8,7 +8,7 @@ ghost use Rattle.lot_core.specs.Steps.{SaysMore, first as first_of};
 ghost use Rattle.lot_rights.specs.declared.views.Access.TheVariants.{Makes};
 ghost use Rattle.lot_words.specs.World.{Holds, HoldsParked};
 ghost use Rattle.lot_words.specs.Values.{IsIn, IsOut, HasSeen, MayLeave, MayLie, IsAtHome, in_slot, place_of};
-ghost use Rattle.lot_words.specs.Calls.{found_parked, let_go, passed_root, word_left};
+ghost use Rattle.lot_words.specs.Calls.{finding_parked, letting_go, passed_root, word_left};
 ghost use Rattle.lot_words.specs.declared.views.Place.{Place};
 ghost use Rattle.lot_words.specs.declared.views.Place.TheVariants.{InSlot, Out};
 ghost use Rattle.lot_whole.specs.Family.{lock};
@@ -45,9 +45,9 @@ impl<V: Keeps> LotWords<V> {
         requires lies { (y : V) × IsIn pass.pass.own.locks key y }
         ensures table { result.0.table ≡ pass.table }
         ensures event { MatchBool result.1
-            ((y : V) → IsIn pass.pass.own.locks key y → NotesIn lock pass.pass (let_go pass.pass.own.locks key y)
+            ((y : V) → IsIn pass.pass.own.locks key y → NotesIn lock pass.pass (letting_go pass.pass.own.locks key y)
             (Makes (Free pass.pass.thread key) (Saw true)) result.0.pass)
-            (NotesIn lock pass.pass (found_parked pass.pass.own.locks key)
+            (NotesIn lock pass.pass (finding_parked pass.pass.own.locks key)
             (Makes (Free pass.pass.thread key) (Saw false)) result.0.pass) }
     {
         let words = &self.words;
@@ -82,7 +82,7 @@ impl<V: Keeps> LotWords<V> {
         requires fair { first ≡ None → fair ≡ false }
         ensures table { (result.0.table ≡ pass.table) × (result.1.table ≡ root.table) }
         ensures event { (y : V) → IsIn pass.pass.own.locks root.root.key y
-            → NotesIn lock pass.pass (let_go pass.pass.own.locks root.root.key y)
+            → NotesIn lock pass.pass (letting_go pass.pass.own.locks root.root.key y)
             (Makes (Pass pass.pass.thread root.root.key fair more) (Sleeper first)) result.0.pass }
         ensures root { RootIs lock root.root
             (passed_root (as_lock root.root.own) fair (as_lock root.root.own).line) result.1.root }

@@ -3,7 +3,7 @@ ghost use Rattle.std.specs.Prelude.{true, false, ◌≡◌, ◌≢◌, ℕ, ◌<
 ghost use Rattle.lot_events.specs.declared.events.Event.TheVariants.{Try, Take, Mark, Park};
 ghost use Rattle.lot_events.specs.declared.events.Seen.TheVariants.{Bool as Saw, Done};
 ghost use Rattle.lot_rights.specs.declared.views.Access.TheVariants.{Makes};
-ghost use Rattle.lot_words.specs.Calls.{wishing, parked_pass, parked_root};
+ghost use Rattle.lot_words.specs.Calls.{wanting, parked_pass, parked_root};
 ghost use Rattle.lot_whole.specs.Family.{lock};
 ghost use Rattle.lot_whole.specs.Standing.{IsIdle, MayTake, MayPark, IsLockRoot, as_lock};
 ghost use Rattle.lot_whole.specs.Calls.{NotesIn, FindsOf, RootIs, GetsBy};
@@ -42,7 +42,7 @@ impl<V: Keeps> LotWords<V> {
         ensures table { result.0.table ≡ pass.table }
         ensures event { MatchBool result.1
             (GetsBy V.Keeps pass.pass key (Makes (Take pass.pass.thread key) (Saw true)) result.0.pass)
-            (NotesIn lock pass.pass (wishing pass.pass.own.locks key)
+            (NotesIn lock pass.pass (wanting pass.pass.own.locks key)
             (Makes (Take pass.pass.thread key) (Saw false)) result.0.pass) }
     {
         let words = &self.words;

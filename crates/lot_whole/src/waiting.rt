@@ -5,7 +5,7 @@ ghost use Rattle.lot_events.specs.declared.events.Event.TheVariants.{Enlist, Loo
 ghost use Rattle.lot_events.specs.declared.events.Seen.TheVariants.{Bool as Saw, Done, Count};
 ghost use Rattle.lot_rights.specs.declared.views.Access.TheVariants.{Makes};
 ghost use Rattle.lot_words.specs.World.{Holds};
-ghost use Rattle.lot_conds.specs.Calls.{enlisted, lowering, took, swept_pass, enlisted_root, called_root, swept_root};
+ghost use Rattle.lot_conds.specs.Calls.{enlisted, lowering, called_more, swept_pass, enlisted_root, called_root, swept_root};
 ghost use Rattle.lot_whole.specs.Family.{cond, IsKeyIn};
 ghost use Rattle.lot_whole.specs.Standing.{IsIdle, MaySweep, IsCondRoot, as_cond};
 ghost use Rattle.lot_whole.specs.Calls.{NotesIn, RootIs};
@@ -92,7 +92,7 @@ impl<V: Keeps> LotWords<V> {
         requires taken { dequeued_count count (as_cond root.root.own).line ≡ taken }
         requires more { SaysMoreBehind count (as_cond root.root.own).line more }
         ensures table { (result.0.table ≡ pass.table) × (result.1.table ≡ root.table) }
-        ensures event { NotesIn cond pass.pass (took pass.pass.own.conds root.root.key taken)
+        ensures event { NotesIn cond pass.pass (called_more pass.pass.own.conds root.root.key taken)
             (Makes (Call pass.pass.thread root.root.key count more) (Count taken)) result.0.pass }
         ensures root { RootIs cond root.root (called_root (as_cond root.root.own) count) result.1.root }
     {

@@ -16,22 +16,22 @@ use Rattle.lot_words.specs.declared.views.Size.{Size}
 use Rattle.lot_words.specs.CallersRule.{CallersRule}
 use Rattle.lot_words.specs.World.{LockWorld, Holds}
 use Rattle.lot_words.specs.Values.{HasSeen, FoundOk}
-use Rattle.lot_words.specs.Rule.{sizes_of, scheme}
+use Rattle.lot_words.specs.Rule.{sizes_of, meaning}
 use Rattle.lot_words.specs.Closing.{HoldsNone, IsToldTo}
 use Rattle.lot_words.proofs.Valuing.{finds_value}
 
 module _ {V Part : Type 0} (rule : CallersRule V Part) (size : Size) (opening : List V) (passes : List (PassShown (LockPassView V)))
     (roots : List (RootShown LockRootView)) (ws : List ℕ) (xs : List (Option V)) where
-  pub told_to : Ended (scheme rule size opening) passes roots ws xs → IsToldTo size passes roots
+  pub told_to : Ended (meaning rule size opening) passes roots ws xs → IsToldTo size passes roots
   told_to ended = record {
-    recounted = ended_recounted (scheme rule size opening) passes roots ws xs ended;
+    recounted = ended_recounted (meaning rule size opening) passes roots ws xs ended;
     lines = All-weaker (λ (q : RootShown LockRootView). RootIs (sizes_of size) ended.left.world q.root.key q.root.own)
         (λ (q : RootShown LockRootView). (ended.left.world.root q.root.key).line ≡ q.root.own.line)
         (λ q is. ap (λ (z : LockRootView). z.line) is.1) roots ended.left.roots_fit;
   }
 
   -- what is left when no pass holds a lock
-  module _ (left : Left (scheme rule size opening) passes roots ws xs) (idle : All HoldsNone passes)
+  module _ (left : Left (meaning rule size opening) passes roots ws xs) (idle : All HoldsNone passes)
       (all : (t : ℕ) → t < size.threads → Any (λ (p : PassShown (LockPassView V)). p.pass.thread ≡ t) passes) where
     abbrev w : LockWorld V
     w = left.world

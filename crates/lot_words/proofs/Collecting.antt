@@ -4,7 +4,7 @@ use mathlib.Core.Option as maybe
 use Rattle.lot_core.specs.World.{put}
 use Rattle.lot_core.proofs.Put.{put_same, put_other}
 use Rattle.lot_rights.specs.declared.views.Access.TheVariants.{Collects}
-use Rattle.lot_rights.specs.declared.views.PassView.{PassView}
+use Rattle.lot_rights.specs.declared.views.PassRight.{PassRight}
 use Rattle.lot_rights.specs.Layout.{letter_at}
 use Rattle.lot_rights.specs.World.{Spot, awake, queued, owed, lying, letter_of}
 use Rattle.lot_rights.specs.Steps.{pass_after, PassTurn, AllowsPass}
@@ -15,25 +15,25 @@ use Rattle.lot_words.specs.declared.views.Size.{Size}
 use Rattle.lot_words.specs.CallersRule.{CallersRule}
 use Rattle.lot_words.specs.World.{LockWorld, word_of, Holds, IsHanded, TellsTrue, SpotFits, Kept}
 use Rattle.lot_words.specs.Values.{FoundOk, IsLawful}
-use Rattle.lot_words.specs.Rule.{sizes_of, wants_of, Fits, scheme}
-use Rattle.lot_words.specs.Calls.{gripped, woken, FoundNone, Collected, CollectedBy}
+use Rattle.lot_words.specs.Rule.{sizes_of, wants_of, Fits, meaning}
+use Rattle.lot_words.specs.Calls.{owning, woken, FoundNone, Collected, CollectedBy}
 use Rattle.lot_words.proofs.Letters.{wakes_kept, lies_fits, handed_owner, handed_near, handed_kept}
 use Rattle.lot_words.proofs.Rows.{same_collect}
 use Rattle.lot_words.proofs.Valuing.{same_values, finds_value, gets_value}
 
 module _ {V Part : Type 0} (rule : CallersRule V Part) where
   -- what the swap tells, by the number found
-  abbrev pub Collecting : PassView (LockPassView V) → ℕ → PassView (LockPassView V) → Type 0
+  abbrev pub Collecting : PassRight (LockPassView V) → ℕ → PassRight (LockPassView V) → Type 0
   Collecting p n q = (n ≤ 2) × CollectedBy rule p n q
 
-  pub collected_none : (p q : PassView (LockPassView V)) (n : ℕ) → n ≡ 0 → Collecting p n q → FoundNone p q
+  pub collected_none : (p q : PassRight (LockPassView V)) (n : ℕ) → n ≡ 0 → Collecting p n q → FoundNone p q
   collected_none p q n e h = subst (λ z. CollectedBy rule p z q) e h.1
 
-  pub collected_some : (p q : PassView (LockPassView V)) (n : ℕ) → n ≢ 0 → Collecting p n q → Collected rule p (n - 1) q
+  pub collected_some : (p q : PassRight (LockPassView V)) (n : ℕ) → n ≢ 0 → Collecting p n q → Collected rule p (n - 1) q
   collected_some p q zero ne h = absurd (ne refl)
   collected_some p q (suc token) ne h = let e : token ≡ suc token - 1 = omega arith in subst (λ z. Collected rule p z q) e h.1
 
-  module _ (size : Size) (xs : List V) (p : PassView (LockPassView V)) (w : LockWorld V) (ws : List ℕ) (hs : List (maybe.Option (Option V)))
+  module _ (size : Size) (xs : List V) (p : PassRight (LockPassView V)) (w : LockWorld V) (ws : List ℕ) (hs : List (maybe.Option (Option V)))
       (ok : Fits rule size w ws hs) (fit : (p.thread < size.threads) × (w.pass p.thread ≡ p.own)) where
     abbrev t : ℕ
     t = p.thread
@@ -45,18 +45,18 @@ module _ {V Part : Type 0} (rule : CallersRule V Part) where
     m = size.locks
 
     abbrev Turn : ℕ → Type 0
-    Turn x = PassTurn (scheme rule size xs) (letter_at t) 0 p (Collecting p x) w ws hs
+    Turn x = PassTurn (meaning rule size xs) (letter_at t) 0 p (Collecting p x) w ws hs
 
     -- no letter lies
     none_lies : letter_of (w.spot t) ≡ 0 → Turn 0
-    none_lies none_there = pass_stays (scheme rule size xs) (letter_at t) 0 w ws hs ok (sym (ok.words.letters t fit.0 ∙ none_there)) p fit (Collects t None)
+    none_lies none_there = pass_stays (meaning rule size xs) (letter_at t) 0 w ws hs ok (sym (ok.words.letters t fit.0 ∙ none_there)) p fit (Collects t None)
         (refl, (none_there, refl)) (Collecting p 0) (λ k. (omega arith, (k, refl)))
 
     -- a letter lies: the pass is awake then
     wakes : (f : LockPassView V → LockPassView V) (token l : ℕ) → w.spot t ≡ lying l token → wants_of awake (f (w.pass t)).aim ≡ wants_of (lying l token) (w.pass t).aim
         → Kept n m (record w { pass = put w.pass t (f (w.pass t)); spot = put w.spot t awake }) → IsLawful rule n m (put w.pass t (f (w.pass t))) hs
-        → (then : PassView (LockPassView V) → Type 0) → ((k : ℕ) → then (pass_after p (f p.own) k (Collects t (Some token))))
-        → PassTurn (scheme rule size xs) (letter_at t) 0 p then w ws hs
+        → (then : PassRight (LockPassView V) → Type 0) → ((k : ℕ) → then (pass_after p (f p.own) k (Collects t (Some token))))
+        → PassTurn (meaning rule size xs) (letter_at t) 0 p then w ws hs
     wakes f token l lies want kept lawful then told =
         let p1 : LockPassView V = f (w.pass t) in
         let w' : LockWorld V = record w { pass = put w.pass t p1; spot = put w.spot t awake } in
@@ -91,7 +91,7 @@ module _ {V Part : Type 0} (rule : CallersRule V Part) where
           let nobody : (u : ℕ) → ¬ Holds (w.pass u) l = (λ u h. let f : (w.word l).owner ≡ suc u = (ok.kept.threads u).holds l h in let same : u ≡ t = omega arith in mine
           (subst (λ z. Holds (w.pass z) l) same h)) in
           let long : l < length (w.pass t).holds = (let e = (ok.kept.threads t).long in omega arith) in
-          wakes (λ z. woken (gripped z l x)) 1 l lies refl (handed_kept n m w ok.kept t l lies x)
+          wakes (λ z. woken (owning z l x)) 1 l lies refl (handed_kept n m w ok.kept t l lies x)
           (gets_value rule n m w.pass hs ok.lawful t fit.0 l near nobody long false) (Collecting p 2)
           (λ k. (
             omega arith,
@@ -115,6 +115,6 @@ module _ {V Part : Type 0} (rule : CallersRule V Part) where
     by_spot (owed l k) is fits = none_lies (ap letter_of is)
     by_spot (lying l k) is fits = by_token l k is fits.1
 
-  pub collects : (size : Size) (xs : List V) (p : PassView (LockPassView V)) → AllowsPass (scheme rule size xs) (letter_at p.thread) (λ _. 0) p (Collecting p)
-  collects size xs p w ws hs ok fit small = subst (λ z. PassTurn (scheme rule size xs) (letter_at p.thread) 0 p (Collecting p z) w ws hs) (sym (ok.words.letters p.thread fit.0))
+  pub collects : (size : Size) (xs : List V) (p : PassRight (LockPassView V)) → AllowsPass (meaning rule size xs) (letter_at p.thread) (λ _. 0) p (Collecting p)
+  collects size xs p w ws hs ok fit small = subst (λ z. PassTurn (meaning rule size xs) (letter_at p.thread) 0 p (Collecting p z) w ws hs) (sym (ok.words.letters p.thread fit.0))
       (by_spot size xs p w ws hs ok fit (w.spot p.thread) refl (ok.kept.threads p.thread).spot)

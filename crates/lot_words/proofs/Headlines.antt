@@ -12,7 +12,7 @@ use Rattle.lot_words.specs.declared.views.LockRootView.{LockRootView}
 use Rattle.lot_words.specs.declared.views.Size.{Size}
 use Rattle.lot_words.specs.CallersRule.{CallersRule}
 use Rattle.lot_words.specs.World.{LockWorld, is_owned, IsHanded, TellsTrue, SpotFits, Kept}
-use Rattle.lot_words.specs.Rule.{wants_of, scheme}
+use Rattle.lot_words.specs.Rule.{wants_of, meaning}
 use Rattle.lot_words.specs.Headline.{LettersFit, IsSound, Headline}
 
 owner_held : (o : ℕ) → is_owned o ≡ true → (t : ℕ) × (o ≡ suc t)
@@ -106,8 +106,8 @@ module _ {V : Type 0} (n m : ℕ) (w : LockWorld V) (ok : Kept n m w) where
   }
 
 pub headline : {V Part : Type 0} (rule : CallersRule V Part) (size : Size) (xs : List V) (s : State (Option V) (List (Right (LockPassView V) LockRootView)))
-    → Ruled (scheme rule size xs) s → Headline rule size xs s
-headline rule size xs s ru = let run = has_one_run (scheme rule size xs) s ru in record {
+    → Ruled (meaning rule size xs) s → Headline rule size xs s
+headline rule size xs s ru = let run = has_one_run (meaning rule size xs) s ru in record {
   world = ru.world;
   words = ru.fits.words;
   rights = ru.seats;

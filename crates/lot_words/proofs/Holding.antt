@@ -12,7 +12,7 @@ use Rattle.lot_words.specs.declared.views.Hold.TheVariants.{NotHeld, Held, Found
 use Rattle.lot_words.specs.declared.views.LockPassView.{LockPassView}
 use Rattle.lot_words.specs.declared.views.LockRootView.{LockRootView}
 use Rattle.lot_words.specs.World.{LockWord, LockWorld, IsHeld, IsFound, Holds, IsHanded, IsOutside, SpotFits, ThreadFits, LockFits, Kept}
-use Rattle.lot_words.specs.Calls.{gripped, wishing, sleeping, let_go, found_parked, Aims}
+use Rattle.lot_words.specs.Calls.{owning, wanting, sleeping, letting_go, finding_parked, Aims}
 use Rattle.lot_words.proofs.Machine.{set_elim, no_aim, same_roots, same_for, awake_is, thread_on, lock_stays, each_thread, each_word, each_root}
 
 module _ {V : Type 0} (n m : ℕ) (w : LockWorld V) (ok : Kept n m w) (t : ℕ) (near : t < n) (up : (w.pass t).asleep ≡ false) where
@@ -34,9 +34,9 @@ module _ {V : Type 0} (n m : ℕ) (w : LockWorld V) (ok : Kept n m w) (t : ℕ) 
 
     -- the thread gets the unheld lock
     pub gets_kept : (w.word l).owner ≡ 0 → Aims (w.pass t) l → (x : V)
-        → Kept n m (record w { pass = put w.pass t (gripped (w.pass t) l x); word = put w.word l (record { owner = suc t; parked = (w.word l).parked }) })
+        → Kept n m (record w { pass = put w.pass t (owning (w.pass t) l x); word = put w.word l (record { owner = suc t; parked = (w.word l).parked }) })
     gets_kept unheld aims x =
-        let p : LockPassView V = gripped (w.pass t) l x in
+        let p : LockPassView V = owning (w.pass t) l x in
         let xs = (w.pass t).holds in
         let y : LockWord = record { owner = suc t; parked = (w.word l).parked } in
         let word : ℕ → LockWord = put w.word l y in
@@ -77,9 +77,9 @@ module _ {V : Type 0} (n m : ℕ) (w : LockWorld V) (ok : Kept n m w) (t : ℕ) 
         }
 
     -- the thread finds the lock held, and wants it
-    pub wants_kept : (w.word l).owner ≢ 0 → Aims (w.pass t) l → Kept n m (record w { pass = put w.pass t (wishing (w.pass t) l) })
+    pub wants_kept : (w.word l).owner ≢ 0 → Aims (w.pass t) l → Kept n m (record w { pass = put w.pass t (wanting (w.pass t) l) })
     wants_kept held aims =
-        let p : LockPassView V = wishing (w.pass t) l in
+        let p : LockPassView V = wanting (w.pass t) l in
         let me = ok.threads t in
         record {
           threads = each_thread n m w w.word w.root w.spot t p
@@ -146,9 +146,9 @@ module _ {V : Type 0} (n m : ℕ) (w : LockWorld V) (ok : Kept n m w) (t : ℕ) 
 
     module _ (has : Holds (w.pass t) l) where
       -- the owner lets the lock go, in whose line nobody is
-      pub frees_kept : (y : V) (b : Bool) → (w.root l).line ≡ [] → Kept n m (record w { pass = put w.pass t (let_go (w.pass t) l y); word = put w.word l (record { owner = 0; parked = b }) })
+      pub frees_kept : (y : V) (b : Bool) → (w.root l).line ≡ [] → Kept n m (record w { pass = put w.pass t (letting_go (w.pass t) l y); word = put w.word l (record { owner = 0; parked = b }) })
       frees_kept y b nobody =
-          let p : LockPassView V = let_go (w.pass t) l y in
+          let p : LockPassView V = letting_go (w.pass t) l y in
           let xs = (w.pass t).holds in
           let x : LockWord = record { owner = 0; parked = b } in
           let word : ℕ → LockWord = put w.word l x in
@@ -181,9 +181,9 @@ module _ {V : Type 0} (n m : ℕ) (w : LockWorld V) (ok : Kept n m w) (t : ℕ) 
           }
 
       -- the owner finds the lock parked
-      pub finds_kept : (w.word l).parked ≡ true → Kept n m (record w { pass = put w.pass t (found_parked (w.pass t) l) })
+      pub finds_kept : (w.word l).parked ≡ true → Kept n m (record w { pass = put w.pass t (finding_parked (w.pass t) l) })
       finds_kept is_parked =
-          let p : LockPassView V = found_parked (w.pass t) l in
+          let p : LockPassView V = finding_parked (w.pass t) l in
           let xs = (w.pass t).holds in
           let me = ok.threads t in
           record {

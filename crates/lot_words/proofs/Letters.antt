@@ -15,7 +15,7 @@ use Rattle.lot_words.specs.declared.views.Hold.TheVariants.{NotHeld, Held}
 use Rattle.lot_words.specs.declared.views.LockPassView.{LockPassView}
 use Rattle.lot_words.specs.declared.views.LockRootView.{LockRootView}
 use Rattle.lot_words.specs.World.{LockWord, LockWorld, hold, IsHeld, IsFound, Holds, IsHanded, IsOutside, TellsTrue, Sleeps, SpotFits, ThreadFits, LockFits, Kept}
-use Rattle.lot_words.specs.Calls.{gripped, woken, let_go, paid_root}
+use Rattle.lot_words.specs.Calls.{owning, woken, letting_go, paid_root}
 use Rattle.lot_words.proofs.Machine.{found_held, set_elim, no_aim, no_debt, same_debt, awake_out, owed_out, lying_out, same_for, thread_on, lock_stays, each_thread, each_root, each_both}
 use Rattle.lot_words.proofs.Holding.{is_awake, in_no_line, not_handed, lock_near}
 
@@ -48,7 +48,7 @@ module _ {V : Type 0} (n m : ℕ) (w : LockWorld V) (ok : Kept n m w) where
     -- the first of the line is owed the token k, which says whether it is the owner then
     pub passes_kept : (y : V) (k o : ℕ) (b : Bool) → ((k ≡ 0) × (o ≡ 0)) ⊎ ((k ≡ 1) × (o ≡ suc u)) → (us ≢ [] → b ≡ true)
         → Kept n m (record w {
-          pass = put w.pass t (let_go (w.pass t) l y);
+          pass = put w.pass t (letting_go (w.pass t) l y);
           spot = put w.spot u (owed l k);
           word = put w.word l (record { owner = o; parked = b });
           root = put w.root l (record (w.root l) { line = us; owes = Some (u, k) });
@@ -58,7 +58,7 @@ module _ {V : Type 0} (n m : ℕ) (w : LockWorld V) (ok : Kept n m w) where
         let me = ok.threads t in
         let first = ok.threads u in
         let q : LockRootView = record (w.root l) { line = us; owes = Some (u, k) } in
-        let p : LockPassView V = let_go (w.pass t) l y in
+        let p : LockPassView V = letting_go (w.pass t) l y in
         let x : LockWord = record { owner = o; parked = b } in
         let word : ℕ → LockWord = put w.word l x in
         let root : ℕ → LockRootView = put w.root l q in
@@ -216,10 +216,10 @@ module _ {V : Type 0} (n m : ℕ) (w : LockWorld V) (ok : Kept n m w) where
       pub handed_near : l < m
       handed_near = (ok.threads t).aims l lies_fits.0.2
 
-      pub handed_kept : (x : V) → Kept n m (record w { pass = put w.pass t (woken (gripped (w.pass t) l x)); spot = put w.spot t awake })
+      pub handed_kept : (x : V) → Kept n m (record w { pass = put w.pass t (woken (owning (w.pass t) l x)); spot = put w.spot t awake })
       handed_kept x =
           let xs = (w.pass t).holds in
-          let p : LockPassView V = woken (gripped (w.pass t) l x) in
+          let p : LockPassView V = woken (owning (w.pass t) l x) in
           let spots : ℕ → Spot = put w.spot t awake in
           let me = ok.threads t in
           let long : l < length xs = (let e = me.long in let f = handed_near in omega arith) in

@@ -5,7 +5,7 @@ use mathlib.Core.Option.{some, none, some-injective, some-ne-none}
 use lib.ListN.{get_elem?}
 use Rattle.lot_core.specs.World.{put}
 use Rattle.lot_core.proofs.Put.{put_same, put_other}
-use Rattle.lot_rights.specs.declared.views.PassView.{PassView}
+use Rattle.lot_rights.specs.declared.views.PassRight.{PassRight}
 use Rattle.lot_rights.specs.World.{letters_of}
 use Rattle.lot_rights.specs.Slots.{SlotTurn, AllowsOut, AllowsBack}
 use Rattle.lot_rights.specs.Steps.{TellsOfTwo}
@@ -16,8 +16,8 @@ use Rattle.lot_words.specs.declared.views.Size.{Size}
 use Rattle.lot_words.specs.CallersRule.{CallersRule}
 use Rattle.lot_words.specs.World.{LockWorld, Holds}
 use Rattle.lot_words.specs.Values.{in_slot, place_of, home_of, IsAtHome, HasSeen, MayLie, IsLawful}
-use Rattle.lot_words.specs.Rule.{Fits, scheme}
-use Rattle.lot_words.specs.Calls.{placed}
+use Rattle.lot_words.specs.Rule.{Fits, meaning}
+use Rattle.lot_words.specs.Calls.{placing}
 use Rattle.lot_words.proofs.Machine.{lock_stays, each_thread}
 use Rattle.lot_words.proofs.Rows.{same_pass}
 use Rattle.lot_words.proofs.Valuing.{owns_value, moves_value}
@@ -40,15 +40,15 @@ set_at (x ∷ xs) zero a b e = refl
 set_at (x ∷ xs) (suc i) a b e = set_at xs i a b e
 
 -- the value is where it was placed
-pub placed_at : {V : Type 0} (p : LockPassView V) (l : ℕ) (old new : Place V) → get_elem? p.places l ≡ some old → get_elem? (placed p l new).places l ≡ some new
+pub placed_at : {V : Type 0} (p : LockPassView V) (l : ℕ) (old new : Place V) → get_elem? p.places l ≡ some old → get_elem? (placing p l new).places l ≡ some new
 placed_at p l old new e = set_at p.places l old new e
 
-pub placed_twice : {V : Type 0} (p : LockPassView V) (l : ℕ) (a b : Place V) → placed (placed p l a) l b ≡ placed p l b
+pub placed_twice : {V : Type 0} (p : LockPassView V) (l : ℕ) (a b : Place V) → placing (placing p l a) l b ≡ placing p l b
 placed_twice p l a b = λ i. record p { places = set-set p.places l a b i }
 
 -- what the exchange tells while the value is out
-abbrev pub Leaves : {V : Type 0} → PassView (LockPassView V) → ℕ → LockPassView V → Option V → Type 0
-Leaves {V} p l own y = (own ≡ placed p.own l Moving) × ((pl : Place V) → get_elem? p.own.places l ≡ some pl → y ≡ in_slot pl)
+abbrev pub Leaves : {V : Type 0} → PassRight (LockPassView V) → ℕ → LockPassView V → Option V → Type 0
+Leaves {V} p l own y = (own ≡ placing p.own l Moving) × ((pl : Place V) → get_elem? p.own.places l ≡ some pl → y ≡ in_slot pl)
 
 module _ {V Part : Type 0} (rule : CallersRule V Part) (size : Size) (xs : List V) where
   module _ (t l : ℕ) (here : l < size.locks) (own : LockPassView V) (holds : Holds own l) (w : LockWorld V) (ws : List ℕ) (hs : List (maybe.Option (Option V)))
@@ -62,13 +62,13 @@ module _ {V Part : Type 0} (rule : CallersRule V Part) (size : Size) (xs : List 
 
     -- the value is at the place pl
     moves : (pl : Place V) → MayLie rule l t (ok.lawful.value l) pl → (homes : List (maybe.Option (Option V))) → homes ≡ set hs l (home_of pl)
-        → SlotTurn (scheme rule size xs) t (placed own l pl) w ws homes
+        → SlotTurn (meaning rule size xs) t (placing own l pl) w ws homes
     moves pl may homes is = record {
-      world = record w { pass = put w.pass t (placed (w.pass t) l pl) };
+      world = record w { pass = put w.pass t (placing (w.pass t) l pl) };
       fits = record {
         words = record { wide = ok.words.wide; words = ok.words.words; letters = ok.words.letters };
         kept = record {
-          threads = each_thread size.threads size.locks w w.word w.root w.spot t (placed (w.pass t) l pl)
+          threads = each_thread size.threads size.locks w w.word w.root w.spot t (placing (w.pass t) l pl)
               (let a = ok.kept.threads t in record {
                 long = a.long;
                 aims = a.aims;
@@ -79,46 +79,46 @@ module _ {V Part : Type 0} (rule : CallersRule V Part) (size : Size) (xs : List 
                 is_owed = a.is_owed;
                 handed = a.handed;
               }) (λ v _. ok.kept.threads v);
-          locks = λ k. lock_stays size.threads k (w.word k) (w.root k) w.pass w.spot t (placed (w.pass t) l pl) w.spot (ok.kept.locks k) (λ h. h) (λ v h. h) (λ _ a. a) (λ _ v _ h. h);
+          locks = λ k. lock_stays size.threads k (w.word k) (w.root k) w.pass w.spot t (placing (w.pass t) l pl) w.spot (ok.kept.locks k) (λ h. h) (λ v h. h) (λ _ a. a) (λ _ v _ h. h);
         };
-        lawful = subst (IsLawful rule size.threads size.locks (put w.pass t (placed (w.pass t) l pl))) (sym is)
+        lawful = subst (IsLawful rule size.threads size.locks (put w.pass t (placing (w.pass t) l pl))) (sym is)
             (moves_value rule size.threads size.locks w.pass hs ok.lawful t fit.0 l here has only pl may);
       };
-      pass = (fit.0, put_same w.pass t (placed (w.pass t) l pl) ∙ ap (λ z. placed z l pl) fit.1);
-      passes = λ u y ne h. (h.0, put_other w.pass t (placed (w.pass t) l pl) u ne ∙ h.1);
+      pass = (fit.0, put_same w.pass t (placing (w.pass t) l pl) ∙ ap (λ z. placing z l pl) fit.1);
+      passes = λ u y ne h. (h.0, put_other w.pass t (placing (w.pass t) l pl) u ne ∙ h.1);
       roots = λ d y h. h;
-      same = λ i. record { part = same_pass w t (placed (w.pass t) l pl) refl i; letters = letters_of w.spot };
+      same = λ i. record { part = same_pass w t (placing (w.pass t) l pl) refl i; letters = letters_of w.spot };
     }
 
-  module _ (p : PassView (LockPassView V)) (l : ℕ) (here : l < size.locks) (holds : Holds p.own l) where
-    pub leaves : (pl : Place V) → get_elem? p.own.places l ≡ some pl → IsAtHome pl → AllowsOut (scheme rule size xs) l p (Leaves p l)
+  module _ (p : PassRight (LockPassView V)) (l : ℕ) (here : l < size.locks) (holds : Holds p.own l) where
+    pub leaves : (pl : Place V) → get_elem? p.own.places l ≡ some pl → IsAtHome pl → AllowsOut (meaning rule size xs) l p (Leaves p l)
     leaves pl there home w ws hs ok fit =
         let x : V = ok.lawful.value l in
         let o = owns_value rule size.threads size.locks w.pass hs ok.lawful p.thread fit.0 l here (has p.thread l here p.own holds w ws hs ok fit) in
         let is : o.place ≡ pl = some-injective o.place pl (sym o.place_is ∙ subst (λ z. get_elem? z.places l ≡ some pl) (sym fit.1) there) in
         record {
           value = in_slot pl;
-          own = placed p.own l Moving;
+          own = placing p.own l Moving;
           there = o.home ∙ ap (λ z. some (home_of z)) is ∙ ap some (at_home pl home);
           turn = moves p.thread l here p.own holds w ws hs ok fit Moving tt (set hs l none) refl;
           told = (refl, (λ z at. ap in_slot (some-injective pl z (sym there ∙ at))));
         }
 
     pub comes_back : (y : Option V) → ((x : V) → HasSeen p.own l x → MayLie rule l p.thread x (place_of y)) → (own : LockPassView V) (z : Option V) → Leaves p l own z
-        → AllowsBack (scheme rule size xs) l p.thread own y (λ q. q ≡ placed own l (place_of y))
+        → AllowsBack (meaning rule size xs) l p.thread own y (λ q. q ≡ placing own l (place_of y))
     comes_back y may own z out w ws hs ok fit =
-        let is : own ≡ placed p.own l Moving = out.0 in
+        let is : own ≡ placing p.own l Moving = out.0 in
         let holds' : Holds own l = subst (λ v. Holds v l) (sym is) holds in
         let o = owns_value rule size.threads size.locks w.pass hs ok.lawful p.thread fit.0 l here (has p.thread l here own holds' w ws hs ok fit) in
         let seen : HasSeen p.own l (ok.lawful.value l) = subst (λ v. HasSeen v l (ok.lawful.value l)) (fit.1 ∙ is) o.found in
         record {
-          own = placed own l (place_of y);
+          own = placing own l (place_of y);
           turn = moves p.thread l here own holds' w ws hs ok fit (place_of y) (may (ok.lawful.value l) seen) (set hs l (some y)) (ap (set hs l) (sym (placed_home y)));
           told = refl;
         }
 
   -- two passes hold no lock both
-  pub apart : (p q : PassView (LockPassView V)) → TellsOfTwo (scheme rule size xs) p q ((l : ℕ) → Holds p.own l → ¬ Holds q.own l)
+  pub apart : (p q : PassRight (LockPassView V)) → TellsOfTwo (meaning rule size xs) p q ((l : ℕ) → Holds p.own l → ¬ Holds q.own l)
   apart p q w ws hs ok fit fits ne l a b =
       let x : (w.word l).owner ≡ suc p.thread = (ok.kept.threads p.thread).holds l (subst (λ z. Holds z l) (sym fit.1) a) in
       let y : (w.word l).owner ≡ suc q.thread = (ok.kept.threads q.thread).holds l (subst (λ z. Holds z l) (sym fits.1) b) in

@@ -17,7 +17,7 @@ use Rattle.lot_words.specs.declared.views.Size.{Size}
 use Rattle.lot_words.specs.CallersRule.{CallersRule}
 use Rattle.lot_words.specs.World.{LockWorld, word_of, IsHeld, IsFound, Holds, HoldsParked, Kept}
 use Rattle.lot_words.specs.Values.{IsLawful}
-use Rattle.lot_words.specs.Rule.{sizes_of, part_of, opening_part, fresh_pass, fresh_root, scheme}
+use Rattle.lot_words.specs.Rule.{sizes_of, part_of, opening_part, fresh_pass, fresh_root, meaning}
 use Rattle.lot_words.proofs.Machine.{no_aim, no_debt}
 
 -- what the slice's element is, in the table's words
@@ -78,7 +78,7 @@ module _ {V Part : Type 0} (rule : CallersRule V Part) (n : ℕ) (pos : 0 < n) w
       }
 
   pub opens_well : (m : ℕ) (xs : List V) → 0 < m → m ≡ length xs → ((k : ℕ) (y : V) → slice_get xs k ≡ Some y → rule.keeps k y)
-      → OpensWell (scheme rule (record { threads = n; locks = m }) xs) (replicate (word_count n (0 + m)) 0) (map (λ (y : V). Some y) xs)
+      → OpensWell (meaning rule (record { threads = n; locks = m }) xs) (replicate (word_count n (0 + m)) 0) (map (λ (y : V). Some y) xs)
   opens_well m [] some_lock is keep = absurd (omega arith)
   opens_well m (x ∷ xs) some_lock is keep =
       let all : List V = x ∷ xs in

@@ -6,11 +6,11 @@ use Rattle.lot_words.specs.declared.views.LockPassView.{LockPassView}
 use Rattle.lot_words.specs.declared.views.Place.TheVariants.{InSlot}
 use Rattle.lot_words.specs.World.{IsHeld}
 use Rattle.lot_words.specs.Values.{TellsOf, Owns}
-use Rattle.lot_words.specs.Calls.{gripped}
+use Rattle.lot_words.specs.Calls.{owning}
 
 module _ {V : Type 0} (p : LockPassView V) (l : ℕ) (x : V) where
-  pub owns_gripped : TellsOf p l → Owns (gripped p l x) l x
-  owns_gripped tells = record {
+  pub owns_owning : TellsOf p l → Owns (owning p l x) l x
+  owns_owning tells = record {
     holds = subst IsHeld (sym (get_or-set_same p.holds l Held NotHeld tells.holds)) tt;
     lies = set_here p.places l (InSlot x) tells.places;
     seen = set_here p.seen l x tells.seen;

@@ -8,8 +8,8 @@ use Rattle.lot_events.specs.declared.events.Seen.TheVariants.{Bool as Saw, Sleep
 use Rattle.lot_core.proofs.Put.{put_same, put_other}
 use Rattle.lot_rights.specs.declared.views.Access.{Access}
 use Rattle.lot_rights.specs.declared.views.Access.TheVariants.{Makes, Posts}
-use Rattle.lot_rights.specs.declared.views.PassView.{PassView}
-use Rattle.lot_rights.specs.declared.views.RootView.{RootView}
+use Rattle.lot_rights.specs.declared.views.PassRight.{PassRight}
+use Rattle.lot_rights.specs.declared.views.RootRight.{RootRight}
 use Rattle.lot_rights.specs.Layout.{word_at, letter_at}
 use Rattle.lot_rights.specs.World.{Spot, queued, owed, lying, letter_of, letters_of, RootIs}
 use Rattle.lot_rights.specs.Steps.{Notes, RootNotes, pass_after, IsMade, BothTurn, AllowsBoth, AllowsRoot}
@@ -21,8 +21,8 @@ use Rattle.lot_words.specs.declared.views.Size.{Size}
 use Rattle.lot_words.specs.CallersRule.{CallersRule}
 use Rattle.lot_words.specs.World.{LockWord, LockWorld, is_owned, bits_of, word_of, Holds, HoldsParked}
 use Rattle.lot_words.specs.Values.{IsIn, IsLawful}
-use Rattle.lot_words.specs.Rule.{sizes_of, wants_of, Fits, scheme}
-use Rattle.lot_words.specs.Calls.{sleeping, let_go, parked_pass, parked_root, passed_root, paid_root, word_left}
+use Rattle.lot_words.specs.Rule.{sizes_of, wants_of, Fits, meaning}
+use Rattle.lot_words.specs.Calls.{sleeping, letting_go, parked_pass, parked_root, passed_root, paid_root, word_left}
 use Rattle.lot_words.proofs.Machine.{found_held}
 use Rattle.lot_words.proofs.Holding.{is_awake, parks_kept, frees_kept}
 use Rattle.lot_words.proofs.Letters.{first_waits, passes_kept, debtor_waits, debtor_fits, posts_kept}
@@ -31,11 +31,11 @@ use Rattle.lot_words.proofs.Turns.{Parks, words_after, words_stay, left_lawful, 
 use Rattle.lot_words.proofs.Valuing.{same_values}
 
 -- ---- what each step tells
-abbrev pub Passes : {V : Type 0} → PassView (LockPassView V) → RootView LockRootView → List ℕ → Bool → Bool → PassView (LockPassView V) → RootView LockRootView → Type 0
-Passes {V} p q line fair more p' q' = ((y : V) → IsIn p.own q.key y → Notes p (let_go p.own q.key y) (Makes (Pass p.thread q.key fair more) (Sleeper (first line))) p')
+abbrev pub Passes : {V : Type 0} → PassRight (LockPassView V) → RootRight LockRootView → List ℕ → Bool → Bool → PassRight (LockPassView V) → RootRight LockRootView → Type 0
+Passes {V} p q line fair more p' q' = ((y : V) → IsIn p.own q.key y → Notes p (letting_go p.own q.key y) (Makes (Pass p.thread q.key fair more) (Sleeper (first line))) p')
     × (q' ≡ record q { own = passed_root q.own fair line })
 
-abbrev pub Pays : RootView LockRootView → ℕ → ℕ → RootView LockRootView → Type 0
+abbrev pub Pays : RootRight LockRootView → ℕ → ℕ → RootRight LockRootView → Type 0
 Pays q u k q' = RootNotes q (paid_root q.own) (Posts q.key u k) q'
 
 more_left : (u : ℕ) (us : List ℕ) (more : Bool) → SaysMore (u ∷ us) more → us ≢ [] → more ≡ true
@@ -52,7 +52,7 @@ lies_wants l zero a = refl
 lies_wants l (suc k) a = refl
 
 module _ {V Part : Type 0} (rule : CallersRule V Part) (size : Size) (xs : List V) where
-  module _ (p : PassView (LockPassView V)) (q : RootView LockRootView) (w : LockWorld V) (ws : List ℕ) (hs : List (maybe.Option (Option V))) (ok : Fits rule size w ws hs)
+  module _ (p : PassRight (LockPassView V)) (q : RootRight LockRootView) (w : LockWorld V) (ws : List ℕ) (hs : List (maybe.Option (Option V))) (ok : Fits rule size w ws hs)
       (fit : (p.thread < size.threads) × (w.pass p.thread ≡ p.own)) (root : RootIs (sizes_of size) w q.key q.own) where
     abbrev t : ℕ
     t = p.thread
@@ -70,11 +70,11 @@ module _ {V Part : Type 0} (rule : CallersRule V Part) (size : Size) (xs : List 
     found = ok.words.words l root.0
 
     -- the world changes in the pass, notices, words and the root
-    turn_both : (x : ℕ) (then : PassView (LockPassView V) → RootView LockRootView → Type 0) (f : LockPassView V → LockPassView V) (g : LockRootView → LockRootView) (spots : ℕ → Spot)
+    turn_both : (x : ℕ) (then : PassRight (LockPassView V) → RootRight LockRootView → Type 0) (f : LockPassView V → LockPassView V) (g : LockRootView → LockRootView) (spots : ℕ → Spot)
         (word : ℕ → LockWord)
         → Fits rule size (record { pass = put w.pass t (f (w.pass t)); spot = spots; word = word; root = put w.root l (g (w.root l)) }) (set ws (word_at l) x) hs → (a : Access)
-        → IsMade (scheme rule size xs) (2 * t) w a (record { pass = put w.pass t (f (w.pass t)); spot = spots; word = word; root = put w.root l (g (w.root l)) })
-        → ((n : ℕ) → then (pass_after p (f p.own) n a) (record q { own = g q.own })) → BothTurn (scheme rule size xs) (word_at l) x p q then w ws hs
+        → IsMade (meaning rule size xs) (2 * t) w a (record { pass = put w.pass t (f (w.pass t)); spot = spots; word = word; root = put w.root l (g (w.root l)) })
+        → ((n : ℕ) → then (pass_after p (f p.own) n a) (record q { own = g q.own })) → BothTurn (meaning rule size xs) (word_at l) x p q then w ws hs
     turn_both x then f g spots word fits a made told = record {
       own = f p.own;
       its = g q.own;
@@ -92,16 +92,16 @@ module _ {V Part : Type 0} (rule : CallersRule V Part) (size : Size) (xs : List 
     -- ---- parking
     -- the word says that the lock is not both held and parked
     park_misses : p.own.asleep ≡ false → p.own.aim ≡ Some l → (x : ℕ) → x ≡ get_or ws (word_at l) 0 → (is_owned (w.word l).owner && (w.word l).parked) ≡ false → (x == 3) ≡ false
-        → BothTurn (scheme rule size xs) (word_at l) x p q (Parks p q x) w ws hs
+        → BothTurn (meaning rule size xs) (word_at l) x p q (Parks p q x) w ws hs
     park_misses up aim x is not_both three =
         let up' : (w.pass t).asleep ≡ false = ap (λ (z : LockPassView V). z.asleep) fit.1 ∙ up in
-        both_stay (scheme rule size xs) (word_at l) x w ws hs ok is p fit (Makes (Park t l) (Saw false))
+        both_stay (meaning rule size xs) (word_at l) x w ws hs ok is p fit (Makes (Park t l) (Saw false))
         (refl, (row_park_not w size.threads size.locks ok.kept t fit.0 up' l here (aim_of ∙ aim) not_both, refl)) q (Parks p q x) root
         (λ k. subst (λ z. Notes p (parked_pass p.own z) (Makes (Park t l) (Saw z)) (pass_after p p.own k (Makes (Park t l) (Saw false)))
         × (record q { own = q.own } ≡ record q { own = parked_root q.own t z })) (sym three) ((k, refl), refl))
 
     park_turn : p.own.asleep ≡ false → p.own.aim ≡ Some l → (h b : Bool) → is_owned (w.word l).owner ≡ h → (w.word l).parked ≡ b
-        → BothTurn (scheme rule size xs) (word_at l) (bits_of h b) p q (Parks p q (bits_of h b)) w ws hs
+        → BothTurn (meaning rule size xs) (word_at l) (bits_of h b) p q (Parks p q (bits_of h b)) w ws hs
     park_turn up aim true true h b =
         let up' : (w.pass t).asleep ≡ false = ap (λ (z : LockPassView V). z.asleep) fit.1 ∙ up in
         let held : (w.word l).owner ≢ 0 = (λ e. let f : true ≡ false = sym h ∙ ap is_owned e in cc) in
@@ -138,7 +138,7 @@ module _ {V Part : Type 0} (rule : CallersRule V Part) (size : Size) (xs : List 
       own_is : (w.word l).owner ≡ suc t
       own_is = (ok.kept.threads t).holds l has
 
-      lawful' : IsLawful rule size.threads size.locks (put w.pass t (let_go (w.pass t) l y)) hs
+      lawful' : IsLawful rule size.threads size.locks (put w.pass t (letting_go (w.pass t) l y)) hs
       lawful' = left_lawful rule size xs p l here up w ws hs ok fit (found_held _ holds) aim y lies
 
       owes_none : (w.root l).owes ≡ None
@@ -148,26 +148,26 @@ module _ {V Part : Type 0} (rule : CallersRule V Part) (size : Size) (xs : List 
       says_now line is = ap (λ (z : LockRootView). z.line) root.1 ∙ is
 
       left_told : (line : List ℕ) (fair more : Bool) → q.own.line ≡ line → (k : ℕ)
-          → Passes p q line fair more (pass_after p (let_go p.own l y) k (Makes (Pass t l fair more) (Sleeper (first line)))) (record q { own = passed_root q.own fair line })
-      left_told line fair more is k = ((λ z lies'. (k, ap (λ v. pass_after p (let_go p.own l v) k (Makes (Pass t l fair more) (Sleeper (first line)))) (same_in p.own l y z lies lies'))), refl)
+          → Passes p q line fair more (pass_after p (letting_go p.own l y) k (Makes (Pass t l fair more) (Sleeper (first line)))) (record q { own = passed_root q.own fair line })
+      left_told line fair more is k = ((λ z lies'. (k, ap (λ v. pass_after p (letting_go p.own l v) k (Makes (Pass t l fair more) (Sleeper (first line)))) (same_in p.own l y z lies lies'))), refl)
 
       -- the lock is let go, by a store
       store_turn : (more : Bool) (line : List ℕ) → q.own.line ≡ line → SaysMore line more → (x : ℕ) → x ≡ word_left (first line) more
-          → BothTurn (scheme rule size xs) (word_at l) x p q (Passes p q line false more) w ws hs
+          → BothTurn (meaning rule size xs) (word_at l) x p q (Passes p q line false more) w ws hs
       store_turn more [] line says x is =
           let z : LockWord = record { owner = 0; parked = false } in record {
-            own = let_go p.own l y;
+            own = letting_go p.own l y;
             its = q.own;
             access = Makes (Pass t l false more) (Sleeper None);
-            world = record w { pass = put w.pass t (let_go (w.pass t) l y); word = put w.word l z };
+            world = record w { pass = put w.pass t (letting_go (w.pass t) l y); word = put w.word l z };
             fits = record {
-              words = words_after size w (put w.pass t (let_go (w.pass t) l y)) w.spot w.root ws ok.words refl l here z x is;
+              words = words_after size w (put w.pass t (letting_go (w.pass t) l y)) w.spot w.root ws ok.words refl l here z x is;
               kept = frees_kept size.threads size.locks w ok.kept t fit.0 up' l here has y false (says_now [] line);
               lawful = lawful';
             };
-            pass = (fit.0, put_same w.pass t (let_go (w.pass t) l y) ∙ ap (λ z. let_go z l y) fit.1);
+            pass = (fit.0, put_same w.pass t (letting_go (w.pass t) l y) ∙ ap (λ z. letting_go z l y) fit.1);
             root = root;
-            passes = λ u z ne h. (h.0, put_other w.pass t (let_go (w.pass t) l y) u ne ∙ h.1);
+            passes = λ u z ne h. (h.0, put_other w.pass t (letting_go (w.pass t) l y) u ne ∙ h.1);
             roots = λ d z ne h. h;
             made = (refl, (row_pass_none w size.threads size.locks ok.kept t fit.0 up' l here has (aim_of ∙ aim) y more parked (says_now [] line), refl));
             told = left_told [] false more line;
@@ -178,9 +178,9 @@ module _ {V Part : Type 0} (rule : CallersRule V Part) (size : Size) (xs : List 
           let spots : ℕ → Spot = put w.spot u (owed l 0) in
           let waits = first_waits size.threads size.locks w ok.kept t l fit.0 here up' has u us line' owes_none in
           let letters : letters_of spots ≡ letters_of w.spot = same_letters w.spot u (owed l 0) (ap letter_of (sym waits)) in
-          turn_both x (Passes p q (u ∷ us) false more) (λ z. let_go z l y) (λ r. record r { line = us; owes = Some (u, 0) }) spots (put w.word l z)
+          turn_both x (Passes p q (u ∷ us) false more) (λ z. letting_go z l y) (λ r. record r { line = us; owes = Some (u, 0) }) spots (put w.word l z)
           (record {
-            words = words_after size w (put w.pass t (let_go (w.pass t) l y)) spots (put w.root l (record (w.root l) { line = us; owes = Some (u, 0) })) ws ok.words letters l here z x
+            words = words_after size w (put w.pass t (letting_go (w.pass t) l y)) spots (put w.root l (record (w.root l) { line = us; owes = Some (u, 0) })) ws ok.words letters l here z x
                 (is ∙ left_word more u);
             kept = passes_kept size.threads size.locks w ok.kept t l fit.0 here up' has u us line' owes_none y 0 0 more (inl (refl, refl)) (more_left u us more says);
             lawful = lawful';
@@ -190,7 +190,7 @@ module _ {V Part : Type 0} (rule : CallersRule V Part) (size : Size) (xs : List 
           (left_told (u ∷ us) false more line)
 
       -- the lock is handed to the first, by a load
-      load_turn : (more : Bool) (u : ℕ) (us : List ℕ) → q.own.line ≡ u ∷ us → BothTurn (scheme rule size xs) (word_at l) (get_or ws (word_at l) 0) p q
+      load_turn : (more : Bool) (u : ℕ) (us : List ℕ) → q.own.line ≡ u ∷ us → BothTurn (meaning rule size xs) (word_at l) (get_or ws (word_at l) 0) p q
           (Passes p q (u ∷ us) true more) w ws hs
       load_turn more u us line =
           let z : LockWord = record { owner = suc u; parked = (w.word l).parked } in
@@ -198,9 +198,9 @@ module _ {V Part : Type 0} (rule : CallersRule V Part) (size : Size) (xs : List 
           let spots : ℕ → Spot = put w.spot u (owed l 1) in
           let waits = first_waits size.threads size.locks w ok.kept t l fit.0 here up' has u us line' owes_none in
           let letters : letters_of spots ≡ letters_of w.spot = same_letters w.spot u (owed l 1) (ap letter_of (sym waits)) in
-          turn_both (get_or ws (word_at l) 0) (Passes p q (u ∷ us) true more) (λ z. let_go z l y) (λ r. record r { line = us; owes = Some (u, 1) }) spots (put w.word l z)
+          turn_both (get_or ws (word_at l) 0) (Passes p q (u ∷ us) true more) (λ z. letting_go z l y) (λ r. record r { line = us; owes = Some (u, 1) }) spots (put w.word l z)
           (record {
-            words = words_after size w (put w.pass t (let_go (w.pass t) l y)) spots (put w.root l (record (w.root l) { line = us; owes = Some (u, 1) })) ws ok.words letters l here z
+            words = words_after size w (put w.pass t (letting_go (w.pass t) l y)) spots (put w.root l (record (w.root l) { line = us; owes = Some (u, 1) })) ws ok.words letters l here z
                 (get_or ws (word_at l) 0)
                 (found ∙ ap (λ o. bits_of (is_owned o) (w.word l).parked) own_is);
             kept = passes_kept size.threads size.locks w ok.kept t l fit.0 here up' has u us line' owes_none y 1 (suc u) (w.word l).parked (inr (refl, refl)) (λ _. parked);
@@ -210,29 +210,29 @@ module _ {V Part : Type 0} (rule : CallersRule V Part) (size : Size) (xs : List 
           (refl, (row_pass_fair w size.threads size.locks ok.kept t fit.0 up' l here has (aim_of ∙ aim) y u us line' parked owes_none more, letters))
           (left_told (u ∷ us) true more line)
 
-  pub parks : (p : PassView (LockPassView V)) (q : RootView LockRootView) → p.own.asleep ≡ false → p.own.aim ≡ Some q.key
-      → AllowsBoth (scheme rule size xs) (word_at q.key) (λ n. n) p q (Parks p q)
+  pub parks : (p : PassRight (LockPassView V)) (q : RootRight LockRootView) → p.own.asleep ≡ false → p.own.aim ≡ Some q.key
+      → AllowsBoth (meaning rule size xs) (word_at q.key) (λ n. n) p q (Parks p q)
   parks p q up aim w ws hs ok fit root small =
       let n : bits_of (is_owned (w.word q.key).owner) (w.word q.key).parked ≡ get_or ws (word_at q.key) 0 = sym (ok.words.words q.key root.0) in
-      subst (λ n. BothTurn (scheme rule size xs) (word_at q.key) n p q (Parks p q n) w ws hs) n
+      subst (λ n. BothTurn (meaning rule size xs) (word_at q.key) n p q (Parks p q n) w ws hs) n
       (park_turn p q w ws hs ok fit root up aim (is_owned (w.word q.key).owner) (w.word q.key).parked refl refl)
 
-  module _ (p : PassView (LockPassView V)) (q : RootView LockRootView) (up : p.own.asleep ≡ false) (aim : p.own.aim ≡ None) (holds : HoldsParked p.own q.key) (y : V)
+  module _ (p : PassRight (LockPassView V)) (q : RootRight LockRootView) (up : p.own.asleep ≡ false) (aim : p.own.aim ≡ None) (holds : HoldsParked p.own q.key) (y : V)
       (lies : IsIn p.own q.key y) (paid : q.own.owes ≡ None) (more : Bool) where
     pub stores : SaysMore q.own.line more → (x : ℕ) → x ≡ word_left (first q.own.line) more
-        → AllowsBoth (scheme rule size xs) (word_at q.key) (λ _. x) p q (λ _. Passes p q q.own.line false more)
+        → AllowsBoth (meaning rule size xs) (word_at q.key) (λ _. x) p q (λ _. Passes p q q.own.line false more)
     stores says x is w ws hs ok fit root small = store_turn p q w ws hs ok fit root up aim holds y lies paid more q.own.line refl says x is
 
-    pub loads : (first q.own.line ≡ None → ⊥) → AllowsBoth (scheme rule size xs) (word_at q.key) (λ n. n) p q (λ _. Passes p q q.own.line true more)
+    pub loads : (first q.own.line ≡ None → ⊥) → AllowsBoth (meaning rule size xs) (word_at q.key) (λ n. n) p q (λ _. Passes p q q.own.line true more)
     loads some w ws hs ok fit root small = by_first q.own.line refl some
       where
-        by_first : (line : List ℕ) → q.own.line ≡ line → (first line ≡ None → ⊥) → BothTurn (scheme rule size xs) (word_at q.key) (get_or ws (word_at q.key) 0) p q
+        by_first : (line : List ℕ) → q.own.line ≡ line → (first line ≡ None → ⊥) → BothTurn (meaning rule size xs) (word_at q.key) (get_or ws (word_at q.key) 0) p q
             (Passes p q line true more) w ws hs
         by_first [] is some = absurd (some refl)
         by_first (u ∷ us) is some = load_turn p q w ws hs ok fit root up aim holds y lies paid more u us is
 
   -- ---- posting
-  pub posts : (q : RootView LockRootView) (u k : ℕ) → q.own.owes ≡ Some (u, k) → AllowsRoot (scheme rule size xs) (letter_at u) (λ _. k + 1) q (λ _. Pays q u k)
+  pub posts : (q : RootRight LockRootView) (u k : ℕ) → q.own.owes ≡ Some (u, k) → AllowsRoot (meaning rule size xs) (letter_at u) (λ _. k + 1) q (λ _. Pays q u k)
   posts q u k debt w ws hs ok root small =
       let l : ℕ = q.key in
       let debt' : (w.root l).owes ≡ Some (u, k) = ap (λ (z : LockRootView). z.owes) root.1 ∙ debt in

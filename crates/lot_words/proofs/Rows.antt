@@ -15,7 +15,7 @@ use Rattle.lot_words.specs.declared.views.LockPassView.{LockPassView}
 use Rattle.lot_words.specs.declared.views.LockRootView.{LockRootView}
 use Rattle.lot_words.specs.World.{LockWord, LockWorld, is_owned, Holds, Kept}
 use Rattle.lot_words.specs.Rule.{wants_of, part_of}
-use Rattle.lot_words.specs.Calls.{Aims, gripped, wishing, sleeping, let_go, found_parked}
+use Rattle.lot_words.specs.Calls.{Aims, owning, wanting, sleeping, letting_go, finding_parked}
 use Rattle.lot_words.proofs.Holding.{is_awake, in_no_line}
 use Rattle.lot_words.proofs.Letters.{first_waits}
 
@@ -109,7 +109,7 @@ module _ {V : Type 0} (w : LockWorld V) where
       -- ---- take and try
       module _ (unheld : (w.word l).owner ≡ 0) (x : V) where
         abbrev got : LockWorld V
-        got = record w { pass = put w.pass t (gripped (w.pass t) l x); word = put w.word l (record { owner = suc t; parked = (w.word l).parked }) }
+        got = record w { pass = put w.pass t (owning (w.pass t) l x); word = put w.word l (record { owner = suc t; parked = (w.word l).parked }) }
 
         got_part : (want : ℕ → Option ℕ) → put wants t None ≡ want
             → part_of got ≡ record {
@@ -123,7 +123,7 @@ module _ {V : Type 0} (w : LockWorld V) where
             line = (part_of w).locks.line;
             has = has_now l y (put ((part_of w).locks.has l) t true) (has_gets (w.word l).owner t unheld) i;
           };
-          wants = (wants_put t (gripped (w.pass t) l x) w.spot None (ap (λ z. wants_of z None) (is_awake n m w ok t near up)) (λ v ne. refl) ∙ is) i;
+          wants = (wants_put t (owning (w.pass t) l x) w.spot None (ap (λ z. wants_of z None) (is_awake n m w ok t near up)) (λ v ne. refl) ∙ is) i;
         }
 
         free_now : false ≡ is_owned (w.word l).owner
@@ -151,7 +151,7 @@ module _ {V : Type 0} (w : LockWorld V) where
         held_now_is : true ≡ is_owned (w.word l).owner
         held_now_is = sym (owned_true (w.word l).owner held)
 
-        pub row_take_held : Aims (w.pass t) l → LockStep n m (part_of w) (Take t l) (Saw false) (part_of (record w { pass = put w.pass t (wishing (w.pass t) l) }))
+        pub row_take_held : Aims (w.pass t) l → LockStep n m (part_of w) (Take t l) (Saw false) (part_of (record w { pass = put w.pass t (wanting (w.pass t) l) }))
         row_take_held aims =
             let then : Bool → LockPart = λ c. record {
               locks = cond c (part_of w).locks (record (part_of w).locks
@@ -162,7 +162,7 @@ module _ {V : Type 0} (w : LockWorld V) where
               ap (λ c. Saw (not c)) held_now_is,
               (λ i. record {
                 locks = (part_of w).locks;
-                wants = wants_put t (wishing (w.pass t) l) w.spot (Some l) (ap (λ z. wants_of z (Some l)) (is_awake n m w ok t near up))
+                wants = wants_put t (wanting (w.pass t) l) w.spot (Some l) (ap (λ z. wants_of z (Some l)) (is_awake n m w ok t near up))
                     (λ v ne. refl) i;
               }) ∙ ap then held_now_is,
             )
@@ -244,7 +244,7 @@ module _ {V : Type 0} (w : LockWorld V) where
         module _ (y : V) where
           pub row_free : (w.word l).parked ≡ false
               → LockStep n m (part_of w) (Free t l) (Saw true) (part_of (record w {
-                pass = put w.pass t (let_go (w.pass t) l y);
+                pass = put w.pass t (letting_go (w.pass t) l y);
                 word = put w.word l (record { owner = 0; parked = (w.word l).parked });
               }))
           row_free unparked =
@@ -264,14 +264,14 @@ module _ {V : Type 0} (w : LockWorld V) where
                     line = (part_of w).locks.line;
                     has = has_now l x (put ((part_of w).locks.has l) t false) (has_loses (w.word l).owner t owner_is) i;
                   };
-                  wants = wants_same t (let_go (w.pass t) l y) w.spot refl (λ v. refl) i;
+                  wants = wants_same t (letting_go (w.pass t) l y) w.spot refl (λ v. refl) i;
                 }) ∙ ap then e,
               )
 
           -- nobody is in the line
           pub row_pass_none : (more : Bool) → (w.word l).parked ≡ true → (w.root l).line ≡ []
               → LockStep n m (part_of w) (Pass t l false more) (Sleeper None) (part_of (record w
-              { pass = put w.pass t (let_go (w.pass t) l y); word = put w.word l (record { owner = 0; parked = false }) }))
+              { pass = put w.pass t (letting_go (w.pass t) l y); word = put w.word l (record { owner = 0; parked = false }) }))
           row_pass_none more parked line = let x : LockWord = record { owner = 0; parked = false } in (
             (near, here, has_it, parked, wants_now ∙ aim, (λ _ two. absurd (let f : length (w.root l).line ≡ 0 = ap length line in omega arith))),
             ap (λ z. Sleeper (first z)) (sym line),
@@ -282,7 +282,7 @@ module _ {V : Type 0} (w : LockWorld V) where
                 line = (part_of w).locks.line;
                 has = has_now l x (put ((part_of w).locks.has l) t false) (has_loses (w.word l).owner t owner_is) i;
               };
-              wants = wants_same t (let_go (w.pass t) l y) w.spot refl (λ v. refl) i;
+              wants = wants_same t (letting_go (w.pass t) l y) w.spot refl (λ v. refl) i;
             }) ∙ (let then : List ℕ → LockPart = λ z. record { locks = passed_line (part_of w).locks t l false more z; wants = wants } in ap then (sym line)),
           )
 
@@ -292,7 +292,7 @@ module _ {V : Type 0} (w : LockWorld V) where
 
             abbrev passed : ℕ → LockWord → LockWorld V
             passed k x = record w {
-              pass = put w.pass t (let_go (w.pass t) l y);
+              pass = put w.pass t (letting_go (w.pass t) l y);
               spot = put w.spot u (owed l k);
               word = put w.word l x;
               root = put w.root l (record (w.root l) { line = us; owes = Some (u, k) });
@@ -311,7 +311,7 @@ module _ {V : Type 0} (w : LockWorld V) where
                   line = line_now l q i;
                   has = has_now l x (put ((part_of w).locks.has l) t false) (has_loses (w.word l).owner t owner_is) i;
                 };
-                wants = wants_same t (let_go (w.pass t) l y) (put w.spot u (owed l 0)) refl (spot_same u (owed l 0) (ap (λ z. wants_of z (w.pass u).aim) (sym waits))) i;
+                wants = wants_same t (letting_go (w.pass t) l y) (put w.spot u (owed l 0)) refl (spot_same u (owed l 0) (ap (λ z. wants_of z (w.pass u).aim) (sym waits))) i;
               }) ∙ (let then : List ℕ → LockPart = λ z. record { locks = passed_line (part_of w).locks t l false more z; wants = wants } in ap then (sym line)),
             )
 
@@ -320,7 +320,7 @@ module _ {V : Type 0} (w : LockWorld V) where
             row_pass_fair more =
                 let x : LockWord = record { owner = suc u; parked = (w.word l).parked } in
                 let q : LockRootView = record (w.root l) { line = us; owes = Some (u, 1) } in
-                let p : LockPassView V = let_go (w.pass t) l y in
+                let p : LockPassView V = letting_go (w.pass t) l y in
                 let spots : ℕ → Spot = put w.spot u (owed l 1) in (
                   (near, here, has_it, parked, wants_now ∙ aim, (λ e. absurd (cc (e)))),
                   ap (λ z. Sleeper (first z)) (sym line),
@@ -337,7 +337,7 @@ module _ {V : Type 0} (w : LockWorld V) where
                   }) ∙ (let then : List ℕ → LockPart = λ z. record { locks = passed_line (part_of w).locks t l true more z; wants = served wants z } in ap then (sym line)),
                 )
 
-        pub row_free_parked : (w.word l).parked ≡ true → LockStep n m (part_of w) (Free t l) (Saw false) (part_of (record w { pass = put w.pass t (found_parked (w.pass t) l) }))
+        pub row_free_parked : (w.word l).parked ≡ true → LockStep n m (part_of w) (Free t l) (Saw false) (part_of (record w { pass = put w.pass t (finding_parked (w.pass t) l) }))
         row_free_parked parked =
             let e : true ≡ (w.word l).parked = sym parked in
             let then : Bool → LockPart = λ c. record {
@@ -345,4 +345,4 @@ module _ {V : Type 0} (w : LockWorld V) where
                   { held = put (part_of w).locks.held l false; has = put (part_of w).locks.has l (put ((part_of w).locks.has l) t false) });
               wants = wants;
             } in
-            ((near, here, has_it, wants_now ∙ aim), ap (λ c. Saw (not c)) e, same_pass t (found_parked (w.pass t) l) refl ∙ ap then e)
+            ((near, here, has_it, wants_now ∙ aim), ap (λ c. Saw (not c)) e, same_pass t (finding_parked (w.pass t) l) refl ∙ ap then e)

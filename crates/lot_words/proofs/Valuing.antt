@@ -14,7 +14,7 @@ use Rattle.lot_words.specs.declared.views.Place.TheVariants.{InSlot}
 use Rattle.lot_words.specs.CallersRule.{CallersRule}
 use Rattle.lot_words.specs.World.{IsHeld, Holds}
 use Rattle.lot_words.specs.Values.{home_of, IsIn, HasSeen, MayLeave, MayLie, FoundOk, OwnerOk, SeenOk, ValueOk, IsLawful}
-use Rattle.lot_words.specs.Calls.{gripped, let_go, placed}
+use Rattle.lot_words.specs.Calls.{owning, letting_go, placing}
 
 -- two passes know the same of the lock k
 pub record SameOf {V : Type 0} (k : ℕ) (p p' : LockPassView V) : Type 0 where
@@ -98,11 +98,11 @@ module _ {V Part : Type 0} (rule : CallersRule V Part) where
 
       -- t gets l, which nobody has: it holds it then, with the value that it found, asleep or awake
       pub gets_value : ((u : ℕ) → ¬ Holds (pass u) l) → l < length (pass t).holds → (asleep : Bool)
-          → IsLawful rule n m (put pass t (record (gripped (pass t) l (ok.value l)) { asleep = asleep })) homes
+          → IsLawful rule n m (put pass t (record (owning (pass t) l (ok.value l)) { asleep = asleep })) homes
       gets_value nobody long asleep =
           let e = ok.each l here in
           let x = ok.value l in
-          let p : LockPassView V = record (gripped (pass t) l x) { asleep = asleep } in
+          let p : LockPassView V = record (owning (pass t) l x) { asleep = asleep } in
           let mine : Holds p l = subst IsHeld (sym (get_or-set_same (pass t).holds l Held NotHeld long)) tt in
           let lies : IsIn p l x = set_here (pass t).places l (InSlot x) in_places in
           let seen : HasSeen p l x = set_here (pass t).seen l x in_seen in
@@ -126,11 +126,11 @@ module _ {V Part : Type 0} (rule : CallersRule V Part) where
 
       module _ (holds : Holds (pass t) l) (only : (u : ℕ) → Holds (pass u) l → u ≡ t) where
         -- t lets l go, with the value y in its slot
-        pub leaves_value : l < length (pass t).holds → (y : V) → IsIn (pass t) l y → IsLawful rule n m (put pass t (let_go (pass t) l y)) homes
+        pub leaves_value : l < length (pass t).holds → (y : V) → IsIn (pass t) l y → IsLawful rule n m (put pass t (letting_go (pass t) l y)) homes
         leaves_value long y lies =
             let e = ok.each l here in
             let x = ok.value l in
-            let p : LockPassView V = let_go (pass t) l y in
+            let p : LockPassView V = letting_go (pass t) l y in
             let gone : ¬ Holds p l = (λ h. subst IsHeld (get_or-set_same (pass t).holds l NotHeld NotHeld long) h) in
             let seen : HasSeen p l y = set_here (pass t).seen l y in_seen in
             let o = e.owned t holds in
@@ -159,8 +159,8 @@ module _ {V Part : Type 0} (rule : CallersRule V Part) where
             })
 
         -- the value of l moves to the place pl
-        pub moves_value : (pl : Place V) → MayLie rule l t (ok.value l) pl → IsLawful rule n m (put pass t (placed (pass t) l pl)) (set homes l (home_of pl))
-        moves_value pl may = let e = ok.each l here in let x = ok.value l in let p : LockPassView V = placed (pass t) l pl in let home : maybe.Option (Option V) = home_of pl in
+        pub moves_value : (pl : Place V) → MayLie rule l t (ok.value l) pl → IsLawful rule n m (put pass t (placing (pass t) l pl)) (set homes l (home_of pl))
+        moves_value pl may = let e = ok.each l here in let x = ok.value l in let p : LockPassView V = placing (pass t) l pl in let home : maybe.Option (Option V) = home_of pl in
             let deep : l < length homes = omega (arith, ok.deep) in
             let same : (u : ℕ) → SeenOk rule l u (pass u) x → SeenOk rule l u (put pass t p u) x = (λ u s. put_elim (λ z. SeenOk rule l u z x) pass t p u
             (λ ut. let r : SeenOk rule l u (pass t) x = subst (λ z. SeenOk rule l u (pass z) x) ut s in record

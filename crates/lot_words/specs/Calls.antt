@@ -2,7 +2,7 @@
 use Rattle.std.specs.Prelude.{◌≡◌, ℕ, zero, suc, ◌++◌, if◌then◌else◌, Bool, true, false, List, [], ◌∷◌, slice_set, Option, Some, None}
 use Rattle.lot_rights.specs.declared.views.Access.{Access}
 use Rattle.lot_rights.specs.declared.views.Access.TheVariants.{Collects}
-use Rattle.lot_rights.specs.declared.views.PassView.{PassView}
+use Rattle.lot_rights.specs.declared.views.PassRight.{PassRight}
 use Rattle.lot_rights.specs.Steps.{Notes}
 use Rattle.lot_words.specs.declared.views.Hold.TheVariants.{NotHeld, Held, FoundParked}
 use Rattle.lot_words.specs.declared.views.LockPassView.{LockPassView}
@@ -15,12 +15,12 @@ use Rattle.lot_words.specs.Values.{FoundOk}
 -- ---- the pass
 module _ {V : Type 0} where
   -- the thread has the lock, whose value x lies in its slot, and wants none
-  abbrev pub gripped : LockPassView V → ℕ → V → LockPassView V
-  gripped p l x = record p { holds = slice_set p.holds l Held; aim = None; places = slice_set p.places l (InSlot x); seen = slice_set p.seen l x }
+  abbrev pub owning : LockPassView V → ℕ → V → LockPassView V
+  owning p l x = record p { holds = slice_set p.holds l Held; aim = None; places = slice_set p.places l (InSlot x); seen = slice_set p.seen l x }
 
   -- the thread wants the lock
-  abbrev pub wishing : LockPassView V → ℕ → LockPassView V
-  wishing p l = record p { aim = Some l }
+  abbrev pub wanting : LockPassView V → ℕ → LockPassView V
+  wanting p l = record p { aim = Some l }
 
   abbrev pub sleeping : LockPassView V → LockPassView V
   sleeping p = record p { asleep = true }
@@ -29,15 +29,15 @@ module _ {V : Type 0} where
   woken p = record p { asleep = false }
 
   -- the thread has let the lock go, and left the value y
-  abbrev pub let_go : LockPassView V → ℕ → V → LockPassView V
-  let_go p l y = record p { holds = slice_set p.holds l NotHeld; seen = slice_set p.seen l y }
+  abbrev pub letting_go : LockPassView V → ℕ → V → LockPassView V
+  letting_go p l y = record p { holds = slice_set p.holds l NotHeld; seen = slice_set p.seen l y }
 
-  abbrev pub found_parked : LockPassView V → ℕ → LockPassView V
-  found_parked p l = record p { holds = slice_set p.holds l FoundParked }
+  abbrev pub finding_parked : LockPassView V → ℕ → LockPassView V
+  finding_parked p l = record p { holds = slice_set p.holds l FoundParked }
 
   -- the value of the lock is at this place
-  abbrev pub placed : LockPassView V → ℕ → Place V → LockPassView V
-  placed p l pl = record p { places = slice_set p.places l pl }
+  abbrev pub placing : LockPassView V → ℕ → Place V → LockPassView V
+  placing p l pl = record p { places = slice_set p.places l pl }
 
   -- the thread wants no other lock than l
   abbrev pub Aims : LockPassView V → ℕ → Type 0
@@ -70,21 +70,21 @@ word_left (Some u) false = 0
 
 -- ---- what is got and what is collected
 -- q is the pass p after it found no letter
-abbrev pub FoundNone : {V : Type 0} → PassView (LockPassView V) → PassView (LockPassView V) → Type 0
+abbrev pub FoundNone : {V : Type 0} → PassRight (LockPassView V) → PassRight (LockPassView V) → Type 0
 FoundNone p q = Notes p p.own (Collects p.thread None) q
 
 module _ {V Part : Type 0} (rule : CallersRule V Part) where
   -- q is the pass p after it got the lock l, by this access, with the value that it found
-  abbrev pub GetsBy : PassView (LockPassView V) → ℕ → Access → PassView (LockPassView V) → Type 0
-  GetsBy p l a q = (x : V) × FoundOk rule l p.thread p.own x × Notes p (gripped p.own l x) a q
+  abbrev pub GetsBy : PassRight (LockPassView V) → ℕ → Access → PassRight (LockPassView V) → Type 0
+  GetsBy p l a q = (x : V) × FoundOk rule l p.thread p.own x × Notes p (owning p.own l x) a q
 
   -- q is the pass p after it collected a letter: a barging opportunity, or the lock itself, with the value that it found
-  abbrev pub Collected : PassView (LockPassView V) → ℕ → PassView (LockPassView V) → Type 0
+  abbrev pub Collected : PassRight (LockPassView V) → ℕ → PassRight (LockPassView V) → Type 0
   Collected p zero q = Notes p (woken p.own) (Collects p.thread (Some 0)) q
   Collected p (suc k) q =
-      (k ≡ 0) × ((l : ℕ) × (p.own.aim ≡ Some l) × ((x : V) × FoundOk rule l p.thread p.own x × Notes p (woken (gripped p.own l x)) (Collects p.thread (Some 1)) q))
+      (k ≡ 0) × ((l : ℕ) × (p.own.aim ≡ Some l) × ((x : V) × FoundOk rule l p.thread p.own x × Notes p (woken (owning p.own l x)) (Collects p.thread (Some 1)) q))
 
   -- by the number in the letter
-  abbrev pub CollectedBy : PassView (LockPassView V) → ℕ → PassView (LockPassView V) → Type 0
+  abbrev pub CollectedBy : PassRight (LockPassView V) → ℕ → PassRight (LockPassView V) → Type 0
   CollectedBy p zero q = FoundNone p q
   CollectedBy p (suc token) q = Collected p token q

@@ -4,7 +4,7 @@ use Rattle.std.specs.List.{Contains}
 use Rattle.std.proofs.Common.{sym, ap, ◌∙◌}
 use mathlib.Core.Option as maybe
 use Rattle.lot_core.specs.Parts.{LockPart, LockStep}
-use Rattle.lot_rights.specs.Rule.{Scheme}
+use Rattle.lot_rights.specs.Rule.{Meaning}
 use Rattle.lot_rights.specs.Settled.{HasOneOutcome, LinesHaveNoLetter}
 use Rattle.lot_rights.specs.World.{Spot, awake, queued, owed, lying, Sizes, letter_of, letters_of, WordsFit, PassIs, RootIs}
 use Rattle.lot_words.specs.declared.views.Hold.TheVariants.{NotHeld}
@@ -78,8 +78,8 @@ module _ {V Part : Type 0} (rule : CallersRule V Part) where
     pub lawful : IsLawful rule size.threads size.locks w.pass homes
 
   -- for a table of this size, where xs are the opening values
-  abbrev pub scheme : Size → List V → Scheme (Option V) (LockPassView V) LockRootView
-  scheme size xs = record {
+  abbrev pub meaning : Size → List V → Meaning (Option V) (LockPassView V) LockRootView
+  meaning size xs = record {
     World = LockWorld V;
     Part = LockPart;
     Fits = Fits size;
@@ -97,8 +97,8 @@ module _ {V Part : Type 0} (rule : CallersRule V Part) where
     fresh_root = λ l. fresh_root;
   }
 
-  pub one_outcome : (size : Size) (xs : List V) → HasOneOutcome (scheme size xs)
+  pub one_outcome : (size : Size) (xs : List V) → HasOneOutcome (meaning size xs)
   one_outcome size xs a b c e s h k = h.2 ∙ sym k.2
 
-  pub no_letter_in_line : (size : Size) (xs : List V) → LinesHaveNoLetter (scheme size xs)
+  pub no_letter_in_line : (size : Size) (xs : List V) → LinesHaveNoLetter (meaning size xs)
   no_letter_in_line size xs w ws hs ok t h = ap letter_of ((ok.kept.threads t).in_line h.0 h.1)

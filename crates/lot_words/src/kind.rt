@@ -11,7 +11,7 @@ pub struct Locks<V> {
 }
 
 impl<V: Keeps> Kind for Locks<V> {
-    ghost use Rattle.lot_words.specs.Rule.{scheme, no_pass, no_root, names, one_outcome, no_letter_in_line};
+    ghost use Rattle.lot_words.specs.Rule.{meaning, no_pass, no_root, names, one_outcome, no_letter_in_line};
 
     type Slot = Option<V>;
 
@@ -21,7 +21,7 @@ impl<V: Keeps> Kind for Locks<V> {
 
     type Key = Start<V>;
 
-    ghost scheme = { λ start. scheme V.Keeps start.size start.values.value.items };
+    ghost meaning = { λ start. meaning V.Keeps start.size start.values.value.items };
 
     ghost no_pass = { no_pass };
 

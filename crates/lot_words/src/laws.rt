@@ -13,16 +13,16 @@ ghost use Rattle.lot_rights.specs.Rule.{Ruled};
 ghost use Rattle.lot_words.specs.declared.views.LockPassView.{LockPassView};
 ghost use Rattle.lot_words.specs.declared.views.LockRootView.{LockRootView};
 ghost use Rattle.lot_words.specs.declared.views.Size.{Size};
-ghost use Rattle.lot_words.specs.Rule.{opening_part, scheme};
+ghost use Rattle.lot_words.specs.Rule.{opening_part, meaning};
 ghost use Rattle.lot_words.specs.Values.{FoundOk, Owns};
-ghost use Rattle.lot_words.specs.Calls.{gripped, woken};
+ghost use Rattle.lot_words.specs.Calls.{owning, woken};
 ghost use Rattle.lot_words.specs.Headline.{Headline};
 
 use crate::keeps::Keeps;
 
 /// At every moment the headline holds of one world: what keeps the rule keeps all of it.
 pub fn the_rule_is_the_headline<V: Keeps>()
-    ensures { (size : Size) (xs : List V) (s : State (Option V) (List (Right (LockPassView V) LockRootView))) → Ruled (scheme V.Keeps size xs) s → Headline V.Keeps size xs s }
+    ensures { (size : Size) (xs : List V) (s : State (Option V) (List (Right (LockPassView V) LockRootView))) → Ruled (meaning V.Keeps size xs) s → Headline V.Keeps size xs s }
 {}
 
 /// Every run of the lock part from the opening leads to a sound part: one owner of each lock at most, sleepers are marked, someone is
@@ -34,7 +34,7 @@ pub fn every_run_is_sound()
 /// Who gets a lock holds it: its value lies in its slot, and the pass has seen it. So what `take`, `try_take`, `take_free` and `collect`
 /// tell of a pass says so, of any key of the table.
 pub fn who_gets_a_lock_owns_it<V: Keeps>()
-    ensures { (l t : ℕ) (p : LockPassView V) (x : V) → FoundOk V.Keeps l t p x → Owns (gripped p l x) l x × Owns (woken (gripped p l x)) l x }
+    ensures { (l t : ℕ) (p : LockPassView V) (x : V) → FoundOk V.Keeps l t p x → Owns (owning p l x) l x × Owns (woken (owning p l x)) l x }
 {}
 
 /// The history begins at the lock part of the model's opening state.

@@ -3,7 +3,7 @@ ghost use Rattle.std.specs.Prelude.{◌≡◌, ℕ, ◌<◌, ◌≤◌, Some, sl
 ghost use Rattle.lot_core.specs.declared.state.TheConstants.{MAX_THREADS, MAX_KEYS};
 ghost use Rattle.lot_rights.specs.Layout.{word_count};
 ghost use Rattle.lot_rights.specs.Start.{Begins};
-ghost use Rattle.lot_words.specs.Shown.{pass_at, root_at, scheme_of};
+ghost use Rattle.lot_words.specs.Shown.{pass_at, root_at, meaning_of};
 
 use crate::exclusive::Exclusive;
 use crate::keeps::Keeps;
@@ -28,7 +28,7 @@ impl<V: Keeps> LockWords<V> {
         ensures values { IfOk result (λ r. r.0.values ≡ values.items) }
         ensures passes { IfOk result (λ r. (vec_len r.1 ≡ threads) × ((k : ℕ) → k < threads → slice_get r.1.items k ≡ Some (pass_at r.0.table values.items k))) }
         ensures roots { IfOk result (λ r. (vec_len r.2 ≡ vec_len values) × ((k : ℕ) → k < vec_len values → slice_get r.2.items k ≡ Some (root_at r.0.table k))) }
-        ensures rule { IfOk result (λ r. Begins (scheme_of V.Keeps r.0) (replicate (word_count r.0.size.threads r.0.size.locks) 0) (map (λ (x : V). Some x) r.0.values)) }
+        ensures rule { IfOk result (λ r. Begins (meaning_of V.Keeps r.0) (replicate (word_count r.0.size.threads r.0.size.locks) 0) (map (λ (x : V). Some x) r.0.values)) }
         ensures back { IfErr result (λ e. e.1.items ≡ values.items) }
     {
         let locks = values.len();

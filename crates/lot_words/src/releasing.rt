@@ -7,7 +7,7 @@ ghost use Rattle.lot_rights.specs.declared.views.Access.TheVariants.{Makes};
 ghost use Rattle.lot_rights.specs.Steps.{Notes};
 ghost use Rattle.lot_words.specs.World.{Holds, HoldsParked};
 ghost use Rattle.lot_words.specs.Values.{IsIn};
-ghost use Rattle.lot_words.specs.Calls.{found_parked, let_go, passed_root, word_left};
+ghost use Rattle.lot_words.specs.Calls.{finding_parked, letting_go, passed_root, word_left};
 
 use crate::keeps::Keeps;
 use crate::kind::{LockPass, LockRoot};
@@ -37,8 +37,8 @@ impl<V: Keeps> LockWords<V> {
         requires lies { (y : V) × IsIn pass.pass.own key y }
         ensures table { result.0.table ≡ pass.table }
         ensures event { MatchBool result.1
-            ((y : V) → IsIn pass.pass.own key y → Notes pass.pass (let_go pass.pass.own key y) (Makes (Free pass.pass.thread key) (Saw true)) result.0.pass)
-            (Notes pass.pass (found_parked pass.pass.own key) (Makes (Free pass.pass.thread key) (Saw false)) result.0.pass) }
+            ((y : V) → IsIn pass.pass.own key y → Notes pass.pass (letting_go pass.pass.own key y) (Makes (Free pass.pass.thread key) (Saw true)) result.0.pass)
+            (Notes pass.pass (finding_parked pass.pass.own key) (Makes (Free pass.pass.thread key) (Saw false)) result.0.pass) }
     {
         let words = &self.words;
         let word = word_of_key(key);
@@ -67,7 +67,7 @@ impl<V: Keeps> LockWords<V> {
         requires more { fair ≡ false → SaysMore root.root.own.line more }
         requires fair { first ≡ None → fair ≡ false }
         ensures table { (result.0.table ≡ pass.table) × (result.1.table ≡ root.table) }
-        ensures event { (y : V) → IsIn pass.pass.own root.root.key y → Notes pass.pass (let_go pass.pass.own root.root.key y) (Makes (Pass pass.pass.thread root.root.key fair more) (Sleeper first)) result.0.pass }
+        ensures event { (y : V) → IsIn pass.pass.own root.root.key y → Notes pass.pass (letting_go pass.pass.own root.root.key y) (Makes (Pass pass.pass.thread root.root.key fair more) (Sleeper first)) result.0.pass }
         ensures root { result.1.root ≡ record root.root { own = passed_root root.root.own fair root.root.own.line } }
     {
         let words = &self.words;

@@ -4,7 +4,7 @@ ghost use mathlib.Core.Option.{some};
 ghost use lib.ListN.{get_elem?};
 ghost use Rattle.lot_words.specs.World.{Holds};
 ghost use Rattle.lot_words.specs.Values.{IsIn, IsOut, HasSeen, MayLeave, MayLie, IsAtHome, in_slot, place_of};
-ghost use Rattle.lot_words.specs.Calls.{placed};
+ghost use Rattle.lot_words.specs.Calls.{placing};
 ghost use Rattle.lot_words.specs.declared.views.Place.{Place};
 ghost use Rattle.lot_words.specs.declared.views.Place.TheVariants.{InSlot, Out};
 
@@ -21,7 +21,7 @@ impl<V: Keeps> LockWords<V> {
         requires key { key < self.now.size.locks }
         requires holds { Holds pass.pass.own key }
         requires lies { (y : V) × IsIn pass.pass.own key y }
-        ensures pass { (result.0.table ≡ pass.table) × (result.0.pass ≡ record pass.pass { own = placed pass.pass.own key Out }) }
+        ensures pass { (result.0.table ≡ pass.table) × (result.0.pass ≡ record pass.pass { own = placing pass.pass.own key Out }) }
         ensures value { IsIn pass.pass.own key result.1 }
         ensures out { IsOut result.0.pass.own key }
     {
@@ -38,7 +38,7 @@ impl<V: Keeps> LockWords<V> {
         requires key { key < self.now.size.locks }
         requires holds { Holds pass.pass.own key × IsOut pass.pass.own key }
         requires lawful { (x : V) × HasSeen pass.pass.own key x × MayLeave V.Keeps key pass.pass.thread x value }
-        ensures pass { (result.table ≡ pass.table) × (result.pass ≡ record pass.pass { own = placed pass.pass.own key (InSlot value) }) }
+        ensures pass { (result.table ≡ pass.table) × (result.pass ≡ record pass.pass { own = placing pass.pass.own key (InSlot value) }) }
         ensures lies { IsIn result.pass.own key value }
     {
         let (pass, found) = self.exchange_value(pass, key, Some(value));
@@ -59,7 +59,7 @@ impl<V: Keeps> LockWords<V> {
         requires holds { Holds pass.pass.own key }
         requires home { (place : Place V) × (get_elem? pass.pass.own.places key ≡ some place) × IsAtHome place }
         requires lawful { (x : V) → HasSeen pass.pass.own key x → MayLie V.Keeps key pass.pass.thread x (place_of new) }
-        ensures pass { (result.0.table ≡ pass.table) × (result.0.pass ≡ record pass.pass { own = placed pass.pass.own key (place_of new) }) }
+        ensures pass { (result.0.table ≡ pass.table) × (result.0.pass ≡ record pass.pass { own = placing pass.pass.own key (place_of new) }) }
         ensures found { (place : Place V) → get_elem? pass.pass.own.places key ≡ some place → result.1 ≡ in_slot place }
     {
         let words = &self.words;

@@ -4,7 +4,7 @@ ghost use Rattle.lot_events.specs.declared.events.Event.TheVariants.{Try, Take, 
 ghost use Rattle.lot_events.specs.declared.events.Seen.TheVariants.{Bool as Saw, Done};
 ghost use Rattle.lot_rights.specs.declared.views.Access.TheVariants.{Makes, Finds};
 ghost use Rattle.lot_rights.specs.Steps.{Notes};
-ghost use Rattle.lot_words.specs.Calls.{Aims, wishing, GetsBy};
+ghost use Rattle.lot_words.specs.Calls.{Aims, wanting, GetsBy};
 
 use crate::keeps::Keeps;
 use crate::kind::LockPass;
@@ -39,7 +39,7 @@ impl<V: Keeps> LockWords<V> {
         ensures table { result.0.table ≡ pass.table }
         ensures event { MatchBool result.1
             (GetsBy V.Keeps pass.pass key (Makes (Take pass.pass.thread key) (Saw true)) result.0.pass)
-            (Notes pass.pass (wishing pass.pass.own key) (Makes (Take pass.pass.thread key) (Saw false)) result.0.pass) }
+            (Notes pass.pass (wanting pass.pass.own key) (Makes (Take pass.pass.thread key) (Saw false)) result.0.pass) }
     {
         let words = &self.words;
         let (pass, found) = words.fetch_or::<Brand, usize>(pass, word_of_key(key), HELD, key);

@@ -19,7 +19,7 @@ use std::thread::Threads;
 
 // Sleeps in the line of the lock until it has it.
 fn own<N: LotName<Nothing> + Send, R: Wait>(rt: &R, lot: &GatedLot<N>, pass: Pass<N>) -> Pass<N>
-    requires small { IsSmall N.locks N.conds N.low }
+    requires small { IsSmall N.locks N.conds N.first_sem }
     requires sizes { (lot.now.keys ≡ 3) × (lot.now.threads ≡ 5) }
     requires thread { pass.thread < 5 }
     requires pass { (t : ℕ) × IsCalm t pass }
@@ -35,7 +35,7 @@ fn lock_is<N: LotName<Nothing> + Send, R: Wait + Abort>(
     word: u64,
     line: usize,
 )
-    requires small { IsSmall N.locks N.conds N.low }
+    requires small { IsSmall N.locks N.conds N.first_sem }
     requires sizes { lot.now.keys ≡ 3 }
 {
     bits_are(rt, lot.scheme().inner().lock_bits(0), word);
@@ -65,7 +65,7 @@ fn hands_over<N: LotName<Nothing> + Send, R: Wait + Abort>(
     lot: &GatedLot<N>,
     here: &mut Option<Pass<N>>,
 )
-    requires small { IsSmall N.locks N.conds N.low }
+    requires small { IsSmall N.locks N.conds N.first_sem }
     requires sizes { (lot.now.keys ≡ 3) × (lot.now.threads ≡ 5) }
     requires has { IsSomeAnd here.old (HasIt 0 0) }
     ensures { IsSomeAnd here.new (IsCalm 0) }
@@ -86,7 +86,7 @@ fn is_handed<N: LotName<Nothing> + Send, R: Wait + Abort>(
     lot: &GatedLot<N>,
     here: &mut Option<Pass<N>>,
 )
-    requires small { IsSmall N.locks N.conds N.low }
+    requires small { IsSmall N.locks N.conds N.first_sem }
     requires sizes { (lot.now.keys ≡ 3) × (lot.now.threads ≡ 5) }
     requires calm { IsSomeAnd here.old (IsCalm 1) }
     ensures { IsSomeAnd here.new (IsCalm 1) }
@@ -104,7 +104,7 @@ fn is_woken<N: LotName<Nothing> + Send, R: Wait + Abort>(
     lot: &GatedLot<N>,
     here: &mut Option<Pass<N>>,
 )
-    requires small { IsSmall N.locks N.conds N.low }
+    requires small { IsSmall N.locks N.conds N.first_sem }
     requires sizes { (lot.now.keys ≡ 3) × (lot.now.threads ≡ 5) }
     requires calm { IsSomeAnd here.old (IsCalm 2) }
     ensures { IsSomeAnd here.new (IsCalm 2) }
@@ -134,19 +134,19 @@ fn sleep_side_by_side<'a, N: LotName<Nothing> + Send + Sync, R: Threads + Wait +
     one: &'a mut Option<Pass<N>>,
     two: &'a mut Option<Pass<N>>,
 )
-    requires small { IsSmall N.locks N.conds N.low }
+    requires small { IsSmall N.locks N.conds N.first_sem }
     requires sizes { (lot.now.keys ≡ 3) × (lot.now.threads ≡ 5) }
     requires calm { IsSomeAnd one.old (IsCalm 1) × IsSomeAnd two.old (IsCalm 2) }
     ensures { IsSomeAnd one.new (IsCalm 1) × IsSomeAnd two.new (IsCalm 2) }
 {
     let mut handed = ||
-        requires small { IsSmall N.locks N.conds N.low }
+        requires small { IsSmall N.locks N.conds N.first_sem }
         requires sizes { (lot.now.keys ≡ 3) × (lot.now.threads ≡ 5) }
         requires calm { IsSomeAnd one.now (IsCalm 1) }
         ensures { IsSomeAnd one.exit.now (IsCalm 1) }
     { is_handed(rt, lot, one) };
     let mut woken = ||
-        requires small { IsSmall N.locks N.conds N.low }
+        requires small { IsSmall N.locks N.conds N.first_sem }
         requires sizes { (lot.now.keys ≡ 3) × (lot.now.threads ≡ 5) }
         requires calm { IsSomeAnd two.now (IsCalm 2) }
         ensures { IsSomeAnd two.exit.now (IsCalm 2) }
@@ -160,7 +160,7 @@ fn both_sleep<N: LotName<Nothing> + Send + Sync, R: Threads + Wait + Abort + Syn
     lot: &GatedLot<N>,
     here: &mut Option<(Pass<N>, Pass<N>)>,
 )
-    requires small { IsSmall N.locks N.conds N.low }
+    requires small { IsSmall N.locks N.conds N.first_sem }
     requires sizes { (lot.now.keys ≡ 3) × (lot.now.threads ≡ 5) }
     requires calm { IsSomeAnd here.old (λ p. IsCalm 1 p.0 × IsCalm 2 p.1) }
     ensures { IsSomeAnd here.new (λ p. IsCalm 1 p.0 × IsCalm 2 p.1) }
@@ -182,7 +182,7 @@ fn side_by_side<'a, N: LotName<Nothing> + Send + Sync, R: Threads + Wait + Abort
     owner: &'a mut Option<Pass<N>>,
     sleepers: &'a mut Option<(Pass<N>, Pass<N>)>,
 )
-    requires small { IsSmall N.locks N.conds N.low }
+    requires small { IsSmall N.locks N.conds N.first_sem }
     requires sizes { (lot.now.keys ≡ 3) × (lot.now.threads ≡ 5) }
     requires has { IsSomeAnd owner.old (HasIt 0 0) }
     requires calm { IsSomeAnd sleepers.old (λ p. IsCalm 1 p.0 × IsCalm 2 p.1) }
@@ -190,13 +190,13 @@ fn side_by_side<'a, N: LotName<Nothing> + Send + Sync, R: Threads + Wait + Abort
     ensures sleepers { IsSomeAnd sleepers.new (λ p. IsCalm 1 p.0 × IsCalm 2 p.1) }
 {
     let mut hands = ||
-        requires small { IsSmall N.locks N.conds N.low }
+        requires small { IsSmall N.locks N.conds N.first_sem }
         requires sizes { (lot.now.keys ≡ 3) × (lot.now.threads ≡ 5) }
         requires has { IsSomeAnd owner.now (HasIt 0 0) }
         ensures { IsSomeAnd owner.exit.now (IsCalm 0) }
     { hands_over(rt, lot, owner) };
     let mut sleep = ||
-        requires small { IsSmall N.locks N.conds N.low }
+        requires small { IsSmall N.locks N.conds N.first_sem }
         requires sizes { (lot.now.keys ≡ 3) × (lot.now.threads ≡ 5) }
         requires calm { IsSomeAnd sleepers.now (λ p. IsCalm 1 p.0 × IsCalm 2 p.1) }
         ensures { IsSomeAnd sleepers.exit.now (λ p. IsCalm 1 p.0 × IsCalm 2 p.1) }
@@ -215,7 +215,7 @@ pub(crate) fn handed_while_it_grows<
     one: Pass<N>,
     two: Pass<N>,
 ) -> (Pass<N>, Pass<N>, Pass<N>)
-    requires small { IsSmall N.locks N.conds N.low }
+    requires small { IsSmall N.locks N.conds N.first_sem }
     requires sizes { (lot.now.keys ≡ 3) × (lot.now.threads ≡ 5) }
     requires calm { IsCalm 0 zero × IsCalm 1 one × IsCalm 2 two }
     ensures { IsCalm 0 result.0 × IsCalm 1 result.1 × IsCalm 2 result.2 }

@@ -45,7 +45,7 @@ pub(crate) fn get<N: LotName<Nothing> + Send>(
     scheme: &OneTable<N>,
     pass: Pass<N>,
 ) -> Pass<N>
-    requires small { IsSmall N.locks N.conds N.low }
+    requires small { IsSmall N.locks N.conds N.first_sem }
     requires pass { (t : ℕ) × IsFor t 0 pass }
     ensures { (t : ℕ) → IsFor t 0 pass → HasIt t 0 result }
 {
@@ -56,7 +56,7 @@ pub(crate) fn get<N: LotName<Nothing> + Send>(
 
 // The lock is held, and is wanted from now on.
 fn want<N: LotName<Nothing> + Send>(rt: &impl Abort, scheme: &OneTable<N>, pass: Pass<N>) -> Pass<N>
-    requires small { IsSmall N.locks N.conds N.low }
+    requires small { IsSmall N.locks N.conds N.first_sem }
     requires pass { (t : ℕ) × IsFor t 0 pass }
     ensures { (t : ℕ) → IsFor t 0 pass → Wants t 0 result }
 {
@@ -67,7 +67,7 @@ fn want<N: LotName<Nothing> + Send>(rt: &impl Abort, scheme: &OneTable<N>, pass:
 
 // The lock is held, and is marked as parked.
 fn mark<N: LotName<Nothing> + Send>(rt: &impl Abort, scheme: &OneTable<N>, pass: Pass<N>) -> Pass<N>
-    requires small { IsSmall N.locks N.conds N.low }
+    requires small { IsSmall N.locks N.conds N.first_sem }
     requires pass { (t : ℕ) × Wants t 0 pass }
     ensures { (t : ℕ) → Wants t 0 pass → Wants t 0 result }
 {
@@ -84,7 +84,7 @@ pub(crate) fn release<N: LotName<Nothing> + Send, R: Wait + Abort>(
     fair: bool,
     wanted: Released,
 ) -> Pass<N>
-    requires small { IsSmall N.locks N.conds N.low }
+    requires small { IsSmall N.locks N.conds N.first_sem }
     requires sizes { lot.now.keys ≡ 3 }
     requires pass { (t : ℕ) × HasIt t 0 pass }
     ensures { (t : ℕ) → HasIt t 0 pass → IsCalm t result }
@@ -100,7 +100,7 @@ fn park_in_vain<N: LotName<Nothing> + Send, R: Wait + Abort>(
     lot: &GatedLot<N>,
     pass: Pass<N>,
 ) -> Pass<N>
-    requires small { IsSmall N.locks N.conds N.low }
+    requires small { IsSmall N.locks N.conds N.first_sem }
     requires sizes { (lot.now.keys ≡ 3) × (lot.now.threads ≡ 5) }
     requires thread { pass.thread < 3 }
     requires pass { (t : ℕ) × Wants t 0 pass }
@@ -119,7 +119,7 @@ fn park_in_vain<N: LotName<Nothing> + Send, R: Wait + Abort>(
 
 // The word of the lock is this.
 fn word_is<N: LotName<Nothing>>(rt: &impl Abort, scheme: &OneTable<N>, wanted: u64)
-    requires { IsSmall N.locks N.conds N.low }
+    requires { IsSmall N.locks N.conds N.first_sem }
 {
     bits_are(rt, scheme.lock_bits(0), wanted);
 }
@@ -133,7 +133,7 @@ fn too_late<N: LotName<Nothing> + Send, R: Wait + Abort>(
     one: Pass<N>,
     two: Pass<N>,
 ) -> (Pass<N>, Pass<N>, Pass<N>)
-    requires small { IsSmall N.locks N.conds N.low }
+    requires small { IsSmall N.locks N.conds N.first_sem }
     requires sizes { (lot.now.keys ≡ 3) × (lot.now.threads ≡ 5) }
     requires calm { IsCalm 0 zero × IsCalm 1 one × IsCalm 2 two }
     ensures { IsCalm 0 result.0 × IsCalm 1 result.1 × IsCalm 2 result.2 }
@@ -171,7 +171,7 @@ fn played<N: LotName<Nothing> + Send + Sync, R: Threads + Wait + Abort + Sync>(
     two: Pass<N>,
     schedule: Schedule,
 ) -> (Pass<N>, Pass<N>, Pass<N>)
-    requires small { IsSmall N.locks N.conds N.low }
+    requires small { IsSmall N.locks N.conds N.first_sem }
     requires sizes { (lot.now.keys ≡ 3) × (lot.now.threads ≡ 5) }
     requires calm { IsCalm 0 zero × IsCalm 1 one × IsCalm 2 two }
     ensures { IsCalm 0 result.0 × IsCalm 1 result.1 × IsCalm 2 result.2 }
@@ -193,7 +193,7 @@ fn play<N: LotName<Nothing> + Send + Sync, R: Threads + Wait + Abort + Sync>(
 )
     requires named { (words.table ≡ N.opening.locks) × (words.size ≡ size_of 2 1) }
     requires names { (N.threads ≡ 3) × (N.permits ≡ []) }
-    requires small { IsSmall N.locks N.conds N.low }
+    requires small { IsSmall N.locks N.conds N.first_sem }
     requires passes { AreDealt words.table 2 1 passes.items }
     requires roots { AreFreshRoots words.table 2 1 roots.items }
 {

@@ -119,7 +119,7 @@ fn swept_before_sleep<N: LotName<Nothing> + Send, R: Wait + Abort>(
     zero: Pass<N>,
     one: Pass<N>,
 ) -> (Pass<N>, Pass<N>)
-    requires small { IsSmall N.locks N.conds N.low }
+    requires small { IsSmall N.locks N.conds N.first_sem }
     requires sizes { (lot.now.threads ≡ 3) × (lot.now.keys ≡ 3) }
     requires calm { IsCalm 0 zero × IsCalm 1 one }
     ensures { IsCalm 0 result.0 × IsCalm 1 result.1 }
@@ -145,7 +145,7 @@ fn play<N: LotName<Nothing> + Send, R: Wait + Abort>(
 )
     requires named { (words.table ≡ N.opening.locks) × (words.size ≡ size_of 2 1) }
     requires names { (N.threads ≡ 3) × (N.permits ≡ []) }
-    requires small { IsSmall N.locks N.conds N.low }
+    requires small { IsSmall N.locks N.conds N.first_sem }
     requires passes { AreDealt words.table 2 1 passes.items }
     requires roots { AreFreshRoots words.table 2 1 roots.items }
 {

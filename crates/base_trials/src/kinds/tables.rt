@@ -111,7 +111,7 @@ pub(crate) fn name_roots<N: LotName<Nothing>>(
     alloc: Global,
     roots: &mut Roots,
 ) -> Result<Vec<NamedRoot<Nothing, N>>, AllocError>
-    requires keys { (N.locks ≡ 2) × (N.conds ≡ 1) × (N.low ≡ 3) }
+    requires keys { (N.locks ≡ 2) × (N.conds ≡ 1) × (N.first_sem ≡ 3) }
     requires fresh { AreFreshRoots N.opening.locks 2 1 roots.old.items }
     ensures idle { IfOk result (λ named. (vec_len named ≡ 3) × AreIdle root_view named.items) }
     ensures room { IfOk result (λ _. (vec_len roots.new ≡ 0) × (3 ≤ vec_capacity roots.new)) }

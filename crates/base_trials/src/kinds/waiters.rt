@@ -1,7 +1,7 @@
 //! A pass with what is kept of its counts, for the conditions of a lot; and the ledger of three of them.
 ghost use Rattle.std.specs.Prelude.{◌≡◌, ◌+◌, ◌<◌, ◌≤◌, ◌++◌, List, [], ◌∷◌, MatchBool};
 ghost use Rattle.std.specs.Prelude.{vec_len, vec_capacity, IfOk};
-ghost use Rattle.lot_waits.specs.Counts.{CountsView, took as took_more, woke};
+ghost use Rattle.lot_waits.specs.Counts.{CountsView, called_more, one_wait_more};
 ghost use Rattle.lot_whole.specs.Standing.{IsIdle};
 ghost use Rattle.lot_waits.specs.Ledger.{AreTallied, AreZeros};
 ghost use Rattle.lot_waits.specs.Notifying.{NotifiesAll, HasTaken};
@@ -56,7 +56,7 @@ fn sweep_after<N: LotName<Nothing> + Send, R: Wait, B: BeforeSweep>(
     pass: Pass<N>,
     between: &B,
 ) -> (Pass<N>, usize)
-    requires small { IsSmall N.locks N.conds N.low }
+    requires small { IsSmall N.locks N.conds N.first_sem }
     requires sizes { lot.now.keys ≡ 3 }
     requires idle { IsIdle pass.own }
     ensures pass { NotifiesAll pass 2 result.1 result.0 }
@@ -177,11 +177,11 @@ impl<N: LotName<Nothing> + Send> CountedPass<N> {
         lock: usize,
         before: &B,
     ) -> CountedPass<N>
-        requires small { IsSmall N.locks N.conds N.low }
+        requires small { IsSmall N.locks N.conds N.first_sem }
         requires sizes { (lot.now.threads ≡ 3) × (lot.now.keys ≡ 3) }
         requires lock { lock < 2 }
         requires thread { self.thread < 3 }
-        ensures { result ≡ woke self 2 }
+        ensures { result ≡ one_wait_more self 2 }
     {
         let CountedPass { pass, tallies } = self;
         let owner = get(rt, lot, pass, lock, &AtOnce);
@@ -193,7 +193,7 @@ impl<N: LotName<Nothing> + Send> CountedPass<N> {
 
     /// Whether somebody may wait.
     pub(crate) fn has_waiters(self, lot: &Lot<N>) -> (CountedPass<N>, bool)
-        requires small { IsSmall N.locks N.conds N.low }
+        requires small { IsSmall N.locks N.conds N.first_sem }
         ensures { result.0 ≡ self }
     {
         let CountedPass { pass, tallies } = self;
@@ -203,9 +203,9 @@ impl<N: LotName<Nothing> + Send> CountedPass<N> {
 
     /// Whether it took one.
     pub(crate) fn notify_one<R: Wait>(self, rt: &R, lot: &Lot<N>) -> (CountedPass<N>, bool)
-        requires small { IsSmall N.locks N.conds N.low }
+        requires small { IsSmall N.locks N.conds N.first_sem }
         requires sizes { lot.now.keys ≡ 3 }
-        ensures { MatchBool result.1 (result.0 ≡ took_more self 2 1) (result.0 ≡ self) }
+        ensures { MatchBool result.1 (result.0 ≡ called_more self 2 1) (result.0 ≡ self) }
     {
         let CountedPass { pass, tallies } = self;
         let (pass, took) = notify_one(rt, lot, pass, 2, EARLY);
@@ -219,9 +219,9 @@ impl<N: LotName<Nothing> + Send> CountedPass<N> {
 
     /// How many it took.
     pub(crate) fn notify_all<R: Wait>(self, rt: &R, lot: &Lot<N>) -> (CountedPass<N>, usize)
-        requires small { IsSmall N.locks N.conds N.low }
+        requires small { IsSmall N.locks N.conds N.first_sem }
         requires sizes { lot.now.keys ≡ 3 }
-        ensures { result.0 ≡ took_more self 2 result.1 }
+        ensures { result.0 ≡ called_more self 2 result.1 }
     {
         let CountedPass { pass, tallies } = self;
         let (pass, count) = notify_all(rt, lot, pass, 2);
@@ -236,9 +236,9 @@ impl<N: LotName<Nothing> + Send> CountedPass<N> {
         lot: &Lot<N>,
         between: &B,
     ) -> (CountedPass<N>, usize)
-        requires small { IsSmall N.locks N.conds N.low }
+        requires small { IsSmall N.locks N.conds N.first_sem }
         requires sizes { lot.now.keys ≡ 3 }
-        ensures { result.0 ≡ took_more self 2 result.1 }
+        ensures { result.0 ≡ called_more self 2 result.1 }
     {
         let CountedPass { pass, tallies } = self;
         let (pass, count) = sweep_after(rt, lot, pass, between);

@@ -1,6 +1,6 @@
 //! Waits and notifications in a lot of two locks and one condition, and what the ledger says of them.
 ghost use Rattle.std.specs.Prelude.{◌≡◌, ◌<◌, None, [], IsSomeAnd};
-ghost use Rattle.lot_waits.specs.Counts.{took as took_more, woke};
+ghost use Rattle.lot_waits.specs.Counts.{called_more, one_wait_more};
 ghost use Rattle.base_trials.specs.Opened.{AreDealt, AreFreshRoots, size_of};
 ghost use Rattle.base_trials.specs.Waits.{EndsThere, IsSmall};
 
@@ -118,10 +118,10 @@ fn wait_until_taken<N: LotName<Nothing> + Send + Sync, R: Wait + Abort>(
     here: &mut Option<CountedPass<N>>,
     signs: &Signs,
 )
-    requires small { IsSmall N.locks N.conds N.low }
+    requires small { IsSmall N.locks N.conds N.first_sem }
     requires sizes { (lot.now.threads ≡ 3) × (lot.now.keys ≡ 3) }
     requires thread { IsSomeAnd here.old (λ p. p.thread < 3) }
-    ensures { EndsThere (λ p. woke p 2) here.old here.new }
+    ensures { EndsThere (λ p. one_wait_more p 2) here.old here.new }
 {
     let zero = here.take().unwrap();
     give_back(here, zero.wait(rt, lot, 0, &UntilTaken { rt, signs }));
@@ -134,9 +134,9 @@ fn take_it<N: LotName<Nothing> + Send + Sync, R: Wait + Abort>(
     one: CountedPass<N>,
     all: bool,
 ) -> CountedPass<N>
-    requires small { IsSmall N.locks N.conds N.low }
+    requires small { IsSmall N.locks N.conds N.first_sem }
     requires sizes { lot.now.keys ≡ 3 }
-    ensures { result ≡ took_more one 2 1 }
+    ensures { result ≡ called_more one 2 1 }
 {
     if all {
         let (one, count) = one.notify_all(rt, lot);
@@ -157,10 +157,10 @@ fn take_the_first<N: LotName<Nothing> + Send + Sync, R: Wait + Abort>(
     signs: &Signs,
     all: bool,
 )
-    requires small { IsSmall N.locks N.conds N.low }
+    requires small { IsSmall N.locks N.conds N.first_sem }
     requires sizes { lot.now.keys ≡ 3 }
     requires lent { IsSomeAnd here.old (λ p. p.thread < 3) }
-    ensures { EndsThere (λ p. took_more p 2 1) here.old here.new }
+    ensures { EndsThere (λ p. called_more p 2 1) here.old here.new }
 {
     let one = here.take().unwrap();
     is_so(rt, is_raised(&signs.queued), "the first waits");
@@ -178,24 +178,24 @@ fn taken_by_the_second<'a, N: LotName<Nothing> + Send + Sync, R: Threads + Wait 
     signs: &'a Signs,
     all: bool,
 )
-    requires small { IsSmall N.locks N.conds N.low }
+    requires small { IsSmall N.locks N.conds N.first_sem }
     requires sizes { (lot.now.threads ≡ 3) × (lot.now.keys ≡ 3) }
     requires first { IsSomeAnd first.old (λ p. p.thread < 3) }
     requires second { IsSomeAnd second.old (λ p. p.thread < 3) }
-    ensures first { EndsThere (λ p. woke p 2) first.old first.new }
-    ensures second { EndsThere (λ p. took_more p 2 1) second.old second.new }
+    ensures first { EndsThere (λ p. one_wait_more p 2) first.old first.new }
+    ensures second { EndsThere (λ p. called_more p 2 1) second.old second.new }
 {
     let mut waits = ||
-        requires small { IsSmall N.locks N.conds N.low }
+        requires small { IsSmall N.locks N.conds N.first_sem }
         requires sizes { (lot.now.threads ≡ 3) × (lot.now.keys ≡ 3) }
         requires first { IsSomeAnd first.now (λ p. p.thread < 3) }
-        ensures { EndsThere (λ p. woke p 2) first.entry.now first.exit.now }
+        ensures { EndsThere (λ p. one_wait_more p 2) first.entry.now first.exit.now }
     { wait_until_taken(rt, lot, first, signs) };
     let mut takes = ||
-        requires small { IsSmall N.locks N.conds N.low }
+        requires small { IsSmall N.locks N.conds N.first_sem }
         requires sizes { (lot.now.threads ≡ 3) × (lot.now.keys ≡ 3) }
         requires second { IsSomeAnd second.now (λ p. p.thread < 3) }
-        ensures { EndsThere (λ p. took_more p 2 1) second.entry.now second.exit.now }
+        ensures { EndsThere (λ p. called_more p 2 1) second.entry.now second.exit.now }
     { take_the_first(rt, lot, second, signs, all) };
     thread::join_mut(rt, &mut waits, &mut takes);
 }
@@ -208,11 +208,11 @@ fn taken_before_sleep<N: LotName<Nothing> + Send + Sync, R: Threads + Wait + Abo
     one: CountedPass<N>,
     all: bool,
 ) -> (CountedPass<N>, CountedPass<N>)
-    requires small { IsSmall N.locks N.conds N.low }
+    requires small { IsSmall N.locks N.conds N.first_sem }
     requires sizes { (lot.now.threads ≡ 3) × (lot.now.keys ≡ 3) }
     requires threads { (zero.thread ≡ 0) × (one.thread ≡ 1) }
-    ensures zero { result.0 ≡ woke zero 2 }
-    ensures one { result.1 ≡ took_more one 2 1 }
+    ensures zero { result.0 ≡ one_wait_more zero 2 }
+    ensures one { result.1 ≡ called_more one 2 1 }
 {
     let signs = Signs::new();
     let mut first = Some(zero);
@@ -230,11 +230,11 @@ fn notified_before_sleep<N: LotName<Nothing> + Send + Sync, R: Threads + Wait + 
     zero: CountedPass<N>,
     one: CountedPass<N>,
 ) -> (CountedPass<N>, CountedPass<N>)
-    requires small { IsSmall N.locks N.conds N.low }
+    requires small { IsSmall N.locks N.conds N.first_sem }
     requires sizes { (lot.now.threads ≡ 3) × (lot.now.keys ≡ 3) }
     requires threads { (zero.thread ≡ 0) × (one.thread ≡ 1) }
-    ensures zero { result.0 ≡ woke zero 2 }
-    ensures one { result.1 ≡ took_more one 2 1 }
+    ensures zero { result.0 ≡ one_wait_more zero 2 }
+    ensures one { result.1 ≡ called_more one 2 1 }
 {
     let (zero, one) = taken_before_sleep(rt, lot, zero, one, false);
     let (one, took) = one.notify_one(rt, lot);
@@ -248,7 +248,7 @@ fn notify_nobody<N: LotName<Nothing> + Send + Sync, R: Wait + Abort>(
     lot: &Lot<N>,
     one: CountedPass<N>,
 ) -> CountedPass<N>
-    requires small { IsSmall N.locks N.conds N.low }
+    requires small { IsSmall N.locks N.conds N.first_sem }
     requires sizes { lot.now.keys ≡ 3 }
     ensures { result ≡ one }
 {
@@ -264,9 +264,9 @@ fn take_both<N: LotName<Nothing> + Send + Sync, R: Wait + Abort>(
     one: CountedPass<N>,
     signs: &Signs,
 ) -> CountedPass<N>
-    requires small { IsSmall N.locks N.conds N.low }
+    requires small { IsSmall N.locks N.conds N.first_sem }
     requires sizes { lot.now.keys ≡ 3 }
-    ensures { result ≡ took_more one 2 2 }
+    ensures { result ≡ called_more one 2 2 }
 {
     let (one, count) = one.notify_all_after(rt, lot, &Between { rt, signs });
     count_is(rt, count, 2);
@@ -286,10 +286,10 @@ fn take_the_late_too<N: LotName<Nothing> + Send + Sync, R: Wait + Abort>(
     here: &mut Option<CountedPass<N>>,
     signs: &Signs,
 )
-    requires small { IsSmall N.locks N.conds N.low }
+    requires small { IsSmall N.locks N.conds N.first_sem }
     requires sizes { lot.now.keys ≡ 3 }
     requires lent { IsSomeAnd here.old (λ p. p.thread < 3) }
-    ensures { EndsThere (λ p. took_more p 2 2) here.old here.new }
+    ensures { EndsThere (λ p. called_more p 2 2) here.old here.new }
 {
     let one = here.take().unwrap();
     is_so(rt, is_raised(&signs.queued), "the first waits");
@@ -305,10 +305,10 @@ fn wait_late<N: LotName<Nothing> + Send + Sync, R: Wait + Abort>(
     here: &mut Option<CountedPass<N>>,
     signs: &Signs,
 )
-    requires small { IsSmall N.locks N.conds N.low }
+    requires small { IsSmall N.locks N.conds N.first_sem }
     requires sizes { (lot.now.threads ≡ 3) × (lot.now.keys ≡ 3) }
     requires thread { IsSomeAnd here.old (λ p. p.thread < 3) }
-    ensures { EndsThere (λ p. woke p 2) here.old here.new }
+    ensures { EndsThere (λ p. one_wait_more p 2) here.old here.new }
 {
     is_so(rt, is_raised(&signs.cleared), "the flag is cleared");
     let two = here.take().unwrap();
@@ -323,24 +323,24 @@ fn take_and_come<'a, N: LotName<Nothing> + Send + Sync, R: Threads + Wait + Abor
     late: &'a mut Option<CountedPass<N>>,
     signs: &'a Signs,
 )
-    requires small { IsSmall N.locks N.conds N.low }
+    requires small { IsSmall N.locks N.conds N.first_sem }
     requires sizes { (lot.now.threads ≡ 3) × (lot.now.keys ≡ 3) }
     requires second { IsSomeAnd second.old (λ p. p.thread < 3) }
     requires late { IsSomeAnd late.old (λ p. p.thread < 3) }
-    ensures second { EndsThere (λ p. took_more p 2 2) second.old second.new }
-    ensures late { EndsThere (λ p. woke p 2) late.old late.new }
+    ensures second { EndsThere (λ p. called_more p 2 2) second.old second.new }
+    ensures late { EndsThere (λ p. one_wait_more p 2) late.old late.new }
 {
     let mut takes = ||
-        requires small { IsSmall N.locks N.conds N.low }
+        requires small { IsSmall N.locks N.conds N.first_sem }
         requires sizes { (lot.now.threads ≡ 3) × (lot.now.keys ≡ 3) }
         requires second { IsSomeAnd second.now (λ p. p.thread < 3) }
-        ensures { EndsThere (λ p. took_more p 2 2) second.entry.now second.exit.now }
+        ensures { EndsThere (λ p. called_more p 2 2) second.entry.now second.exit.now }
     { take_the_late_too(rt, lot, second, signs) };
     let mut comes = ||
-        requires small { IsSmall N.locks N.conds N.low }
+        requires small { IsSmall N.locks N.conds N.first_sem }
         requires sizes { (lot.now.threads ≡ 3) × (lot.now.keys ≡ 3) }
         requires late { IsSomeAnd late.now (λ p. p.thread < 3) }
-        ensures { EndsThere (λ p. woke p 2) late.entry.now late.exit.now }
+        ensures { EndsThere (λ p. one_wait_more p 2) late.entry.now late.exit.now }
     { wait_late(rt, lot, late, signs) };
     thread::join_mut(rt, &mut takes, &mut comes);
 }
@@ -352,10 +352,10 @@ fn take_and_come_lent<N: LotName<Nothing> + Send + Sync, R: Threads + Wait + Abo
     here: &mut Option<(CountedPass<N>, CountedPass<N>)>,
     signs: &Signs,
 )
-    requires small { IsSmall N.locks N.conds N.low }
+    requires small { IsSmall N.locks N.conds N.first_sem }
     requires sizes { (lot.now.threads ≡ 3) × (lot.now.keys ≡ 3) }
     requires lent { IsSomeAnd here.old (λ p. (p.0.thread < 3) × (p.1.thread < 3)) }
-    ensures { EndsThere (λ p. (took_more p.0 2 2, woke p.1 2)) here.old here.new }
+    ensures { EndsThere (λ p. (called_more p.0 2 2, one_wait_more p.1 2)) here.old here.new }
 {
     let (one, two) = here.take().unwrap();
     let mut second = Some(one);
@@ -372,24 +372,24 @@ fn side_by_side<'a, N: LotName<Nothing> + Send + Sync, R: Threads + Wait + Abort
     others: &'a mut Option<(CountedPass<N>, CountedPass<N>)>,
     signs: &'a Signs,
 )
-    requires small { IsSmall N.locks N.conds N.low }
+    requires small { IsSmall N.locks N.conds N.first_sem }
     requires sizes { (lot.now.threads ≡ 3) × (lot.now.keys ≡ 3) }
     requires first { IsSomeAnd first.old (λ p. p.thread < 3) }
     requires others { IsSomeAnd others.old (λ p. (p.0.thread < 3) × (p.1.thread < 3)) }
-    ensures first { EndsThere (λ p. woke p 2) first.old first.new }
-    ensures others { EndsThere (λ p. (took_more p.0 2 2, woke p.1 2)) others.old others.new }
+    ensures first { EndsThere (λ p. one_wait_more p 2) first.old first.new }
+    ensures others { EndsThere (λ p. (called_more p.0 2 2, one_wait_more p.1 2)) others.old others.new }
 {
     let mut waits = ||
-        requires small { IsSmall N.locks N.conds N.low }
+        requires small { IsSmall N.locks N.conds N.first_sem }
         requires sizes { (lot.now.threads ≡ 3) × (lot.now.keys ≡ 3) }
         requires first { IsSomeAnd first.now (λ p. p.thread < 3) }
-        ensures { EndsThere (λ p. woke p 2) first.entry.now first.exit.now }
+        ensures { EndsThere (λ p. one_wait_more p 2) first.entry.now first.exit.now }
     { wait_until_taken(rt, lot, first, signs) };
     let mut rest = ||
-        requires small { IsSmall N.locks N.conds N.low }
+        requires small { IsSmall N.locks N.conds N.first_sem }
         requires sizes { (lot.now.threads ≡ 3) × (lot.now.keys ≡ 3) }
         requires others { IsSomeAnd others.now (λ p. (p.0.thread < 3) × (p.1.thread < 3)) }
-        ensures { EndsThere (λ p. (took_more p.0 2 2, woke p.1 2)) others.entry.now others.exit.now }
+        ensures { EndsThere (λ p. (called_more p.0 2 2, one_wait_more p.1 2)) others.entry.now others.exit.now }
     { take_and_come_lent(rt, lot, others, signs) };
     thread::join_mut(rt, &mut waits, &mut rest);
 }
@@ -406,12 +406,12 @@ fn taken_after_the_flag_was_cleared<
     one: CountedPass<N>,
     two: CountedPass<N>,
 ) -> (CountedPass<N>, CountedPass<N>, CountedPass<N>)
-    requires small { IsSmall N.locks N.conds N.low }
+    requires small { IsSmall N.locks N.conds N.first_sem }
     requires sizes { (lot.now.threads ≡ 3) × (lot.now.keys ≡ 3) }
     requires threads { (zero.thread ≡ 0) × (one.thread ≡ 1) × (two.thread ≡ 2) }
-    ensures zero { result.0 ≡ woke zero 2 }
-    ensures one { result.1 ≡ took_more one 2 2 }
-    ensures two { result.2 ≡ woke two 2 }
+    ensures zero { result.0 ≡ one_wait_more zero 2 }
+    ensures one { result.1 ≡ called_more one 2 2 }
+    ensures two { result.2 ≡ one_wait_more two 2 }
 {
     let signs = Signs::new();
     let mut first = Some(zero);
@@ -456,7 +456,7 @@ fn notifies_under_the_lock<N: LotName<Nothing> + Send + Sync, R: Wait + Abort>(
     lot: &Lot<N>,
     one: CountedPass<N>,
 ) -> CountedPass<N>
-    requires small { IsSmall N.locks N.conds N.low }
+    requires small { IsSmall N.locks N.conds N.first_sem }
     requires sizes { lot.now.keys ≡ 3 }
     ensures { result ≡ one }
 {
@@ -465,7 +465,7 @@ fn notifies_under_the_lock<N: LotName<Nothing> + Send + Sync, R: Wait + Abort>(
         lot,
         one,
         |one: CountedPass<N>| -> CountedPass<N>
-            requires small { IsSmall N.locks N.conds N.low }
+            requires small { IsSmall N.locks N.conds N.first_sem }
             requires sizes { lot.now.keys ≡ 3 }
             ensures { result ≡ one }
         {
@@ -482,7 +482,7 @@ fn played<N: LotName<Nothing> + Send + Sync, R: Threads + Wait + Abort + Sync>(
     lot: &Lot<N>,
     three: Three<N>,
 ) -> Three<N>
-    requires small { IsSmall N.locks N.conds N.low }
+    requires small { IsSmall N.locks N.conds N.first_sem }
     requires sizes { (lot.now.threads ≡ 3) × (lot.now.keys ≡ 3) }
 {
     let Three { zero, one, two } = three;
@@ -503,7 +503,7 @@ fn play<N: LotName<Nothing> + Send + Sync, R: Threads + Wait + Abort + Sync>(
 ) -> Ledger
     requires named { (words.table ≡ N.opening.locks) × (words.size ≡ size_of 2 1) }
     requires names { (N.threads ≡ 3) × (N.permits ≡ []) }
-    requires small { IsSmall N.locks N.conds N.low }
+    requires small { IsSmall N.locks N.conds N.first_sem }
     requires passes { AreDealt words.table 2 1 passes.items }
     requires roots { AreFreshRoots words.table 2 1 roots.items }
 {

@@ -1,7 +1,7 @@
 //! Schedules of several threads' calls on one condition, made by hand in one thread, with the words that they leave.
 //! The condition's number is 1, since there is one lock.
 ghost use Rattle.std.specs.Prelude.{◌≡◌, None};
-ghost use Rattle.lot_conds.specs.Calls.{took, woken_pass};
+ghost use Rattle.lot_conds.specs.Calls.{called_more, one_wait_more};
 ghost use Rattle.base_trials.specs.CondSchedules.{IsFree, IsEmpty};
 
 use crate::asserts::{bits_are, is_so, letter_is};
@@ -31,8 +31,8 @@ fn one_wait(
     requires zero { IsFree words.now.table 0 zero }
     requires one { IsFree words.now.table 1 one }
     requires root { IsEmpty words.now.table root }
-    ensures zero { IsFree words.now.table 0 result.0 × (result.0.pass.own ≡ woken_pass zero.pass.own 1) }
-    ensures one { IsFree words.now.table 1 result.1 × (result.1.pass.own ≡ took one.pass.own 1 1) }
+    ensures zero { IsFree words.now.table 0 result.0 × (result.0.pass.own ≡ one_wait_more zero.pass.own 1) }
+    ensures one { IsFree words.now.table 1 result.1 × (result.1.pass.own ≡ called_more one.pass.own 1 1) }
     ensures root { IsEmpty words.now.table result.2 }
 {
     bits_are(rt, words.bits(1), 0);
@@ -127,7 +127,7 @@ fn two_at_once(
     requires root { IsEmpty words.now.table root }
     ensures zero { IsFree words.now.table 0 result.0 }
     ensures one { IsFree words.now.table 1 result.1 }
-    ensures two { IsFree words.now.table 2 result.2 × (result.2.pass.own ≡ took two.pass.own 1 2) }
+    ensures two { IsFree words.now.table 2 result.2 × (result.2.pass.own ≡ called_more two.pass.own 1 2) }
     ensures root { IsEmpty words.now.table result.3 }
 {
     let (zero, root) = words.enlist(zero, root);

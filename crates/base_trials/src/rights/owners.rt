@@ -9,7 +9,7 @@ ghost use Rattle.lot_rights.specs.Steps.{Notes};
 ghost use Rattle.lot_words.specs.declared.views.LockPassView.{LockPassView};
 ghost use Rattle.lot_words.specs.declared.views.LockRootView.{LockRootView};
 ghost use Rattle.lot_words.specs.Values.{Owns};
-ghost use Rattle.lot_words.specs.Calls.{Aims, wishing, GetsBy, FoundNone, Collected};
+ghost use Rattle.lot_words.specs.Calls.{Aims, wanting, GetsBy, FoundNone, Collected};
 ghost use Rattle.lot_words.specs.Closing.{HoldsNone, IsToldTo};
 
 use lot_words::laws::{every_run_is_sound, who_gets_a_lock_owns_it};
@@ -27,7 +27,7 @@ pub(super) fn take_any<V: Keeps>(
     ensures table { result.0.table ≡ pass.table }
     ensures event { (gets wishes : Access)
         × MatchBool result.1 (GetsBy V.Keeps pass.pass key gets result.0.pass)
-        (Notes pass.pass (wishing pass.pass.own key) wishes result.0.pass) }
+        (Notes pass.pass (wanting pass.pass.own key) wishes result.0.pass) }
     ensures owner { result.1 ≡ true → (x : V) × Owns result.0.pass.own key x }
 {
     who_gets_a_lock_owns_it::<V>();

@@ -9,7 +9,7 @@ returns-clause-adds g c =
     let post = visits.2 in
     let adds : Adds (row_of c.thread-thread.result visits.0.now) (c.args.counter / 64)
     (row_of c.thread-thread.result visits.1.now) = search rules in
-    let near : c.args.counter % 64 < length c.args.pass.seen = (let seen = c.requires.wide.seen in let locks = c.requires.locks in
+    let near : c.args.counter % 64 < length c.args.pass.seen = (let seen = c.requires.shape.seen in let locks = c.requires.locks in
     omega (arith, seen, locks)) in
     let in_row : c.args.counter / 64 < 16 = search rules in
     (added_more _ c.args.pass c.with_lock-pass.result.0 (c.args.counter % 64) (c.args.counter / 64) visits.0.now visits.1.now visits.3

@@ -1,5 +1,5 @@
 use Rattle.std.proofs.Common.{◌≡◌}
-use Rattle.lot_sync.specs.Lot.{Owns, IsWide}
+use Rattle.lot_sync.specs.Lot.{Owns, HasShape}
 use Rattle.lot_sync.specs.Values.{MayGiveBack}
 use Rattle.lot_calls.specs.Waits.{WaitsOn}
 use Rattle.lot_calls.proofs.until.wait_until.Given as goal
@@ -7,4 +7,4 @@ use Rattle.lot_calls.proofs.until.wait_until.Given as goal
 abbrev pub invariant-loop : goal.invariant-loop
 invariant-loop g l =
     (goal.iterator-loop g).can_next l.iterator' × (goal.iterator-loop g).is_finite l.iterator' ×
-    WaitsOn g.V.Keeps l.fn.pass l.fn.held l.fn.cond l.fn.moment.now l.held l.pass × Owns l.pass l.fn.held.key × IsWide l.fn.lot l.pass
+    WaitsOn g.V.Keeps l.fn.pass l.fn.held l.fn.cond l.fn.moment.now l.held l.pass × Owns l.pass l.fn.held.key × HasShape l.fn.lot l.pass

@@ -5,7 +5,7 @@ ghosts-run-N-Name g a = record { opening = a.opened.opening }
 
 abbrev pub ghosts-run-N-LotName : goal.ghosts-run-N-LotName
 ghosts-run-N-LotName g a = record {
-  low = a.opened.low;
+  first_sem = a.opened.first_sem;
   permits = a.opened.permits;
   locks = a.opened.locks;
   conds = a.opened.conds;

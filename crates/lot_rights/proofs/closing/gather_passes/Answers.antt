@@ -12,7 +12,7 @@ join_seat-requires g c =
       ap (λ (x : PassShown _). x.table) c.pass.view_is ∙ all.1,
       ap (λ m. m.1) c.pass.inside.one,
       c.requires.table.1,
-      joins_rule (g.K.Kind.scheme c.args.shared.now.key) c.loop-pass.seat.id c.loop-pass.seat.me.0 c.pass.inside.seat.id c.pass.inside.seat.me.0,
+      joins_rule (g.K.Kind.meaning c.args.shared.now.key) c.loop-pass.seat.id c.loop-pass.seat.me.0 c.pass.inside.seat.id c.pass.inside.seat.me.0,
     )
 
 pub loop-pass-preserved : goal.loop-pass-preserved

@@ -12,7 +12,7 @@ join_seat-requires g c =
       ap (λ (x : RootShown _). x.table) c.root.view_is ∙ all.1,
       ap (λ m. m.1) c.root.inside.one,
       c.requires.table.1,
-      joins_rule (g.K.Kind.scheme c.args.shared.now.key) c.loop-root.seat.id c.loop-root.seat.me.0 c.root.inside.seat.id c.root.inside.seat.me.0,
+      joins_rule (g.K.Kind.meaning c.args.shared.now.key) c.loop-root.seat.id c.loop-root.seat.me.0 c.root.inside.seat.id c.root.inside.seat.me.0,
     )
 
 pub loop-root-preserved : goal.loop-root-preserved

@@ -8,7 +8,7 @@ use Rattle.lot_rights.proofs.opening.deal_passes.Goals as goal
 
 pub split_seat-own-requires : goal.split_seat-own-requires
 split_seat-own-requires g c =
-    let k = g.K.Kind.scheme c.args.shared.now.key in
+    let k = g.K.Kind.meaning c.args.shared.now.key in
     let t = c.loop-thread.thread in
     let roots = roots_from k k.first_key k.keys in
     let is = c.loop-thread.invariant.rest ∙ ap (λ v. (v ++ roots, [])) (next_from (λ u. Pass (new_pass k.fresh_pass u)) t (t + 1) (c.args.threads - t) (c.args.threads - (t + 1)) refl
@@ -20,7 +20,7 @@ split_seat-own-requires g c =
 
 pub invariant_of-push_reserved : goal.invariant_of-push_reserved
 invariant_of-push_reserved g c =
-    let k = g.K.Kind.scheme c.args.shared.now.key in
+    let k = g.K.Kind.meaning c.args.shared.now.key in
     let t = c.loop-thread.thread in
     let roots = roots_from k k.first_key k.keys in
     let is = c.loop-thread.invariant.rest ∙ ap (λ v. (v ++ roots, [])) (next_from (λ u. Pass (new_pass k.fresh_pass u)) t (t + 1) (c.args.threads - t) (c.args.threads - (t + 1)) refl (omega arith)) in
@@ -39,7 +39,7 @@ invariant_of-push_reserved g c =
 pub loop-thread-preserved : goal.loop-thread-preserved
 loop-thread-preserved g c =
     let inv = c.loop-thread.invariant in
-    let k = g.K.Kind.scheme c.args.shared.now.key in
+    let k = g.K.Kind.meaning c.args.shared.now.key in
     let t = c.loop-thread.thread in
     let roots = roots_from k k.first_key k.keys in
     let r = Pass (new_pass k.fresh_pass t) in

@@ -8,7 +8,7 @@ use Rattle.lot_rights.proofs.opening.deal_roots.Goals as goal
 
 pub loop-i-init : goal.loop-i-init
 loop-i-init g c =
-    let k = g.K.Kind.scheme c.args.shared.now.key in
+    let k = g.K.Kind.meaning c.args.shared.now.key in
     let first : c.args.first + 0 ≡ c.args.first = omega arith in
     let count : c.args.keys - 0 ≡ c.args.keys = omega arith in
     record {
@@ -21,7 +21,7 @@ loop-i-init g c =
 
 pub split_seat-own-requires : goal.split_seat-own-requires
 split_seat-own-requires g c =
-    let k = g.K.Kind.scheme c.args.shared.now.key in
+    let k = g.K.Kind.meaning c.args.shared.now.key in
     let i = c.loop-i.i in
     let is = c.loop-i.invariant.rest ∙ ap (λ v. (v, [])) (next_from (λ d. Root (new_root k.fresh_root d)) (c.args.first + i) (c.args.first + (i + 1)) (c.args.keys - i)
     (c.args.keys - (i + 1)) (omega arith) (omega arith)) in (
@@ -32,7 +32,7 @@ split_seat-own-requires g c =
 
 pub invariant_of-push_reserved : goal.invariant_of-push_reserved
 invariant_of-push_reserved g c =
-    let k = g.K.Kind.scheme c.args.shared.now.key in
+    let k = g.K.Kind.meaning c.args.shared.now.key in
     let i = c.loop-i.i in
     let key = c.args.first + i in
     let is = c.loop-i.invariant.rest ∙ ap (λ v. (v, [])) (next_from (λ d. Root (new_root k.fresh_root d)) key (c.args.first + (i + 1)) (c.args.keys - i) (c.args.keys - (i + 1)) (omega arith)
@@ -56,7 +56,7 @@ invariant_of-push_reserved g c =
 pub loop-i-preserved : goal.loop-i-preserved
 loop-i-preserved g c =
     let inv = c.loop-i.invariant in
-    let k = g.K.Kind.scheme c.args.shared.now.key in
+    let k = g.K.Kind.meaning c.args.shared.now.key in
     let i = c.loop-i.i in
     let key = c.args.first + i in
     let r = Root (new_root k.fresh_root key) in

@@ -9,7 +9,7 @@ use Rattle.lot_waits.specs.Ledger.{AreTallied}
 use Rattle.lot_waits.specs.declared.tallies.Tallies.{Tallies}
 use Rattle.lot_waits.proofs.Sums.{tallied_turned}
 use Rattle.lot_sync.specs.Lot.{OwnsNone}
-use Rattle.lot_sync.specs.Passes.{sees, seen_as, IsFree}
+use Rattle.lot_sync.specs.Passes.{pass_view_of, pass_view_shown, IsFree}
 use Rattle.lot_sync.proofs.Closes.{free_of}
 use Rattle.lot_sync.proofs.closing.gather.Goals as goal
 
@@ -19,7 +19,7 @@ loop-pass-preserved g c =
     let left = c.pop.new.self.items in
     let right = c.into_pass.result in
     let stood = c.apart-right.result.0 in
-    let same : c.in-Some.pass ≡ seen_as right = c.apart-right.ensures.same ∙ ap sees c.into_pass.ensures.same in
+    let same : c.in-Some.pass ≡ pass_view_shown right = c.apart-right.ensures.same ∙ ap pass_view_of c.into_pass.ensures.same in
     let parts = all_popped OwnsNone c.loop-pass.passes.items left c.in-Some.pass c.in-Some.ensures.items inv.free in
     let kept = subst (λ (t : Tallies). AreKept g.N.LotName.locks g.N.LotName.conds (counts_in stood) t.called.items t.woken.items)
     (sym c.deref.ensures) c.apart-right.ensures.kept in
@@ -30,11 +30,11 @@ loop-pass-preserved g c =
     ∙ ap (λ q. before ++ q ∷ []) (ap counts_in (sym c.into_pass.ensures.same))) in
     record {
       free = parts.0;
-      moved = ap (λ ps. left ++ reverse ps) (ap (map seen_as) c.push_reserved.ensures.items
-          ∙ (map-append seen_as c.loop-pass.rights.items (right ∷ []) ∙ ap (λ p. map seen_as c.loop-pass.rights.items ++ p ∷ [])
+      moved = ap (λ ps. left ++ reverse ps) (ap (map pass_view_shown) c.push_reserved.ensures.items
+          ∙ (map-append pass_view_shown c.loop-pass.rights.items (right ∷ []) ∙ ap (λ p. map pass_view_shown c.loop-pass.rights.items ++ p ∷ [])
           (sym same)))
           ∙ moves_on c.loop-pass.passes.items left c.in-Some.pass
-          (map seen_as c.loop-pass.rights.items) c.args.passes.items c.in-Some.ensures.items inv.moved;
+          (map pass_view_shown c.loop-pass.rights.items) c.args.passes.items c.in-Some.ensures.items inv.moved;
       taken = subst (All (IsFree g.N.Name.opening.locks)) (sym c.push_reserved.ensures.items)
           (All-push (IsFree g.N.Name.opening.locks) c.loop-pass.rights.items right inv.taken
           (free_of _ _ g.N.Name.opening.locks c.in-Some.pass stood right c.apart-right.ensures.same c.into_pass.ensures.same
@@ -49,9 +49,9 @@ pub returns-clause-same : goal.returns-clause-same
 returns-clause-same g c =
     let none : c.loop-pass.passes.items ≡ [] = no_elements c.loop-pass.passes.items
     (let n : length c.loop-pass.passes.items ≡ vec_len c.loop-pass.passes = search rules in n ∙ c.in_default.ensures.cases.0) in
-    ap (map seen_as) c.reverse.ensures.items
-    ∙ (map_turned seen_as c.loop-pass.rights.items ∙ subst (λ ps. ps ++ reverse
-    (map seen_as c.loop-pass.rights.items) ≡ c.args.passes.items) none c.loop-pass.invariant.moved)
+    ap (map pass_view_shown) c.reverse.ensures.items
+    ∙ (map_turned pass_view_shown c.loop-pass.rights.items ∙ subst (λ ps. ps ++ reverse
+    (map pass_view_shown c.loop-pass.rights.items) ≡ c.args.passes.items) none c.loop-pass.invariant.moved)
 
 pub returns-clause-tallied : goal.returns-clause-tallied
 returns-clause-tallied g c =

@@ -8,7 +8,7 @@ pub make_idle-requires-clause-fresh : goal.make_idle-requires-clause-fresh
 make_idle-requires-clause-fresh g c κs within =
     (all_popped (IsFresh g.V.Keeps.grows (record {
       opening = g.N.Name.opening;
-      low = g.N.LotName.low;
+      first_sem = g.N.LotName.first_sem;
       permits = g.N.LotName.permits;
       locks = g.N.LotName.locks;
       conds = g.N.LotName.conds;
@@ -31,7 +31,7 @@ loop-right-preserved g c =
     record {
       fresh = (all_popped (IsFresh g.V.Keeps.grows (record {
         opening = g.N.Name.opening;
-        low = g.N.LotName.low;
+        first_sem = g.N.LotName.first_sem;
         permits =
             g.N.LotName.permits;
         locks = g.N.LotName.locks;

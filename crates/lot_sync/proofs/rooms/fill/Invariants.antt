@@ -8,7 +8,7 @@ abbrev pub invariant-loop-right : goal.invariant-loop-right
 invariant-loop-right g l = record {
   fresh : All (IsFresh g.V.Keeps.grows (record {
     opening = g.N.Name.opening;
-    low = g.N.LotName.low;
+    first_sem = g.N.LotName.first_sem;
     permits = g.N.LotName.permits;
     locks = g.N.LotName.locks;
     conds = g.N.LotName.conds;

@@ -5,7 +5,7 @@ ghosts-open_and_move-N-Name g a = record { opening = a.opened.opening }
 
 abbrev pub ghosts-open_and_move-N-LotName : goal.ghosts-open_and_move-N-LotName
 ghosts-open_and_move-N-LotName g a = record {
-  low = a.opened.low;
+  first_sem = a.opened.first_sem;
   permits = a.opened.permits;
   locks = a.opened.locks;
   conds = a.opened.conds;

@@ -5,7 +5,7 @@ ghosts-raised-N-Name g a = record { opening = a.opened.opening }
 
 abbrev pub ghosts-raised-N-LotName : goal.ghosts-raised-N-LotName
 ghosts-raised-N-LotName g a = record {
-  low = a.opened.low;
+  first_sem = a.opened.first_sem;
   permits = a.opened.permits;
   locks = a.opened.locks;
   conds = a.opened.conds;

@@ -5,7 +5,7 @@ ghosts-add_in_turn-N-Name g a = record { opening = a.opened.opening }
 
 abbrev pub ghosts-add_in_turn-N-LotName : goal.ghosts-add_in_turn-N-LotName
 ghosts-add_in_turn-N-LotName g a = record {
-  low = a.opened.low;
+  first_sem = a.opened.first_sem;
   permits = a.opened.permits;
   locks = a.opened.locks;
   conds = a.opened.conds;

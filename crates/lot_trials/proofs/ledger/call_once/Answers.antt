@@ -12,7 +12,7 @@ returns-then-took g c =
     let inv = c.loop.invariant in
     let took = rw c.if-took.true at c.notify_one-asked.ensures.counted in
     record {
-      ends = ends_called c.args.lot.now c.args.pass c.loop.pass c.notify_one-asked.result.0 c.requires.free inv.same took c.notify_one-asked.ensures.wide;
+      ends = ends_called c.args.lot.now c.args.pass c.loop.pass c.notify_one-asked.result.0 c.requires.free inv.same took c.notify_one-asked.ensures.shape;
       called = λ none. calls_more c.loop.pass c.notify_one-asked.result.0 1 _ (ap (λ (p : PassView _). p.thread) took) c.notify_one-asked.ensures.made (inv.called none);
     }
 

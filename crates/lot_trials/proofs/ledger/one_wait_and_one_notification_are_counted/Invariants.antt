@@ -5,7 +5,7 @@ ghosts-play-N-Name g a = record { opening = a.opened.opening }
 
 abbrev pub ghosts-play-N-LotName : goal.ghosts-play-N-LotName
 ghosts-play-N-LotName g a = record {
-  low = a.opened.low;
+  first_sem = a.opened.first_sem;
   permits = a.opened.permits;
   locks = a.opened.locks;
   conds = a.opened.conds;

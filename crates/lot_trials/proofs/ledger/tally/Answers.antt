@@ -1,7 +1,7 @@
 use Rattle.std.proofs.Common.{◌≡◌, List, length, vec_len, rules, subst, sym, ◌∙◌, arith}
 use Rattle.std.specs.List.{All, Any}
 use Rattle.std.proofs.lemmas.List.Elements.{All-nil}
-use Rattle.lot_sync.specs.Lot.{PassView, LotNames, OwnsNone, IsLedgerOf, waking, calling}
+use Rattle.lot_sync.specs.Lot.{PassView, LotNames, OwnsNone, IsLedgerOf, one_wait_more, called_more}
 use Rattle.lot_trials.specs.declared.ledger.Number.{Number}
 use Rattle.lot_sync.specs.Closing.{HasOneRun}
 use Rattle.lot_trials.specs.Order.{TakesNone, IsNotifiedFirst}
@@ -15,8 +15,8 @@ close-ledger-requires-clause-all g c κs within = λ t near.
     let b = c.wait_and_call-first.result.1 in
     let before = c.args.passes in
     let none : length before.items ≡ 0 = let n : length before.items ≡ vec_len before = search rules in n ∙ c.requires.room.0 in
-    let of_a = same_thread c.args.lot (waking c.args.first 1) a c.wait_and_call-first.ensures.waited.ends in
-    let of_b = same_thread c.args.lot (calling c.args.second 1 1) b c.wait_and_call-first.ensures.called.ends in
+    let of_a = same_thread c.args.lot (one_wait_more c.args.first 1) a c.wait_and_call-first.ensures.waited.ends in
+    let of_b = same_thread c.args.lot (called_more c.args.second 1 1) b c.wait_and_call-first.ensures.called.ends in
     subst (Any (λ (p : PassView _). p.thread ≡ t))
     (sym (gathered before.items c.push_reserved.new.self.items c.push_reserved-2.new.self.items c.check_apart-first.result a b none
     c.push_reserved.ensures.items c.push_reserved-2.ensures.items c.check_apart-first.ensures.same))
@@ -58,11 +58,11 @@ returns-clause-order g c =
     let waited = c.wait_and_call-first.ensures.waited in
     let called = c.wait_and_call-first.ensures.called in
     let none : length before.items ≡ 0 = let n : length before.items ≡ vec_len before = search rules in n ∙ c.requires.room.0 in
-    let of_a = same_thread c.args.lot (waking c.args.first 1) a waited.ends in
-    let of_b = same_thread c.args.lot (calling c.args.second 1 1) b called.ends in
+    let of_a = same_thread c.args.lot (one_wait_more c.args.first 1) a waited.ends in
+    let of_b = same_thread c.args.lot (called_more c.args.second 1 1) b called.ends in
     let names : LotNames Number = record {
       opening = g.N.Name.opening;
-      low = g.N.LotName.low;
+      first_sem = g.N.LotName.first_sem;
       permits = g.N.LotName.permits;
       locks = g.N.LotName.locks;
       conds = g.N.LotName.conds;

@@ -15,7 +15,7 @@ returns g c =
     c.unlock-pass.result.1 of_q of_r of_s c.lock-pass.ensures.made c.wait-pass.ensures.made c.unlock-pass.ensures.made in
     record {
       ends = ends_waited _ c.args.lot.now c.args.pass c.lock-pass.result.0 c.wait-pass.result.0 c.unlock-pass.result.0
-          c.lock-pass.result.1 c.wait-pass.result.1 c.requires.free got woke c.unlock-pass.ensures.pass c.unlock-pass.ensures.wide;
+          c.lock-pass.result.1 c.wait-pass.result.1 c.requires.free got woke c.unlock-pass.ensures.pass c.unlock-pass.ensures.shape;
       waited = once.0;
       none = once.1;
     }

@@ -5,7 +5,7 @@ ghosts-started_and_closed-N-Name g a = record { opening = a.opened.opening }
 
 abbrev pub ghosts-started_and_closed-N-LotName : goal.ghosts-started_and_closed-N-LotName
 ghosts-started_and_closed-N-LotName g a = record {
-  low = a.opened.low;
+  first_sem = a.opened.first_sem;
   permits = a.opened.permits;
   locks = a.opened.locks;
   conds = a.opened.conds;

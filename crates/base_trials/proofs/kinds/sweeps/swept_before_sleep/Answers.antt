@@ -10,7 +10,7 @@ pub sleep_swept-slept-requires-clause-may : goal.sleep_swept-slept-requires-clau
 sleep_swept-slept-requires-clause-may g c κs within =
     let two = c.requires.small.0 in
     let three = c.requires.small.2 in
-    may_wait g.N.LotName.locks g.N.LotName.low 0 2 0 c.get-owner.result (omega (arith, two)) (omega (arith, three)) (omega (arith, two))
+    may_wait g.N.LotName.locks g.N.LotName.first_sem 0 2 0 c.get-owner.result (omega (arith, two)) (omega (arith, three)) (omega (arith, two))
     (owner_has_it _ 0 0 c.args.zero c.get-owner.result (inl c.requires.calm.0) c.get-owner.ensures)
 
 pub sleep_swept-slept-requires-clause-lowered : goal.sleep_swept-slept-requires-clause-lowered
@@ -27,10 +27,10 @@ get-again-requires-clause-thread g c κs within =
     let two = c.requires.small.0 in
     let three = c.requires.small.2 in
     let locks = g.N.LotName.locks in
-    let low = g.N.LotName.low in
+    let first_sem = g.N.LotName.first_sem in
     let has = owner_has_it _ 0 0 c.args.zero c.get-owner.result (inl c.requires.calm.0) c.get-owner.ensures in
-    let may = may_wait locks low 0 2 0 c.get-owner.result (omega (arith, two)) (omega (arith, three)) (omega (arith, two)) has in
-    let same = slept_thread _ locks low 2 0 _ c.get-owner.result c.sleep_swept-slept.result.0 may c.sleep_swept-slept.ensures.slept.1 in
+    let may = may_wait locks first_sem 0 2 0 c.get-owner.result (omega (arith, two)) (omega (arith, three)) (omega (arith, two)) has in
+    let same = slept_thread _ locks first_sem 2 0 _ c.get-owner.result c.sleep_swept-slept.result.0 may c.sleep_swept-slept.ensures.slept.1 in
     let zero = has.there.thread in
     let threads = c.requires.sizes.0 in
     omega (arith, same, zero, threads)
@@ -40,20 +40,20 @@ get-again-requires-clause-may g c κs within =
     let two = c.requires.small.0 in
     let three = c.requires.small.2 in
     let locks = g.N.LotName.locks in
-    let low = g.N.LotName.low in
+    let first_sem = g.N.LotName.first_sem in
     let has = owner_has_it _ 0 0 c.args.zero c.get-owner.result (inl c.requires.calm.0) c.get-owner.ensures in
-    let may = may_wait locks low 0 2 0 c.get-owner.result (omega (arith, two)) (omega (arith, three)) (omega (arith, two)) has in
-    slept_takes _ locks low 2 0 _ c.get-owner.result c.sleep_swept-slept.result.0 may c.sleep_swept-slept.ensures.slept.1
+    let may = may_wait locks first_sem 0 2 0 c.get-owner.result (omega (arith, two)) (omega (arith, three)) (omega (arith, two)) has in
+    slept_takes _ locks first_sem 2 0 _ c.get-owner.result c.sleep_swept-slept.result.0 may c.sleep_swept-slept.ensures.slept.1
 
 pub let_go-zero-requires-clause-may : goal.let_go-zero-requires-clause-may
 let_go-zero-requires-clause-may g c κs within =
     let two = c.requires.small.0 in
     let three = c.requires.small.2 in
     let locks = g.N.LotName.locks in
-    let low = g.N.LotName.low in
+    let first_sem = g.N.LotName.first_sem in
     let has = owner_has_it _ 0 0 c.args.zero c.get-owner.result (inl c.requires.calm.0) c.get-owner.ensures in
-    let may = may_wait locks low 0 2 0 c.get-owner.result (omega (arith, two)) (omega (arith, three)) (omega (arith, two)) has in
-    may_free 0 0 c.get-again.result (slept_has_it _ locks low 0 2 0 _ c.get-owner.result c.sleep_swept-slept.result.0 c.get-again.result
+    let may = may_wait locks first_sem 0 2 0 c.get-owner.result (omega (arith, two)) (omega (arith, three)) (omega (arith, two)) has in
+    may_free 0 0 c.get-again.result (slept_has_it _ locks first_sem 0 2 0 _ c.get-owner.result c.sleep_swept-slept.result.0 c.get-again.result
     has may c.sleep_swept-slept.ensures.slept.1 c.get-again.ensures)
 
 pub returns : goal.returns
@@ -61,10 +61,10 @@ returns g c =
     let two = c.requires.small.0 in
     let three = c.requires.small.2 in
     let locks = g.N.LotName.locks in
-    let low = g.N.LotName.low in
+    let first_sem = g.N.LotName.first_sem in
     let has = owner_has_it _ 0 0 c.args.zero c.get-owner.result (inl c.requires.calm.0) c.get-owner.ensures in
-    let may = may_wait locks low 0 2 0 c.get-owner.result (omega (arith, two)) (omega (arith, three)) (omega (arith, two)) has in
-    let again = slept_has_it _ locks low 0 2 0 _ c.get-owner.result c.sleep_swept-slept.result.0 c.get-again.result has may
+    let may = may_wait locks first_sem 0 2 0 c.get-owner.result (omega (arith, two)) (omega (arith, three)) (omega (arith, two)) has in
+    let again = slept_has_it _ locks first_sem 0 2 0 _ c.get-owner.result c.sleep_swept-slept.result.0 c.get-again.result has may
     c.sleep_swept-slept.ensures.slept.1 c.get-again.ensures in (
       went 0 0 _ c.get-again.result c.let_go-zero.result.0 again c.let_go-zero.ensures.went,
       swept_calm 1 2 1 c.args.one c.lower-lowered.result c.sleep_swept-slept.result.1 _ _ c.requires.calm.1 c.lower-lowered.ensures

@@ -5,4 +5,4 @@ abbrev pub ghosts-play-N-Name : goal.ghosts-play-N-Name
 ghosts-play-N-Name g a = record { opening = record { locks = a.words.table; conds = a.words.table; sems = a.words.table } }
 
 abbrev pub ghosts-play-N-LotName : goal.ghosts-play-N-LotName
-ghosts-play-N-LotName g a = record { low = 3; permits = []; locks = 2; conds = 1; threads = 3; values = [] }
+ghosts-play-N-LotName g a = record { first_sem = 3; permits = []; locks = 2; conds = 1; threads = 3; values = [] }

@@ -6,14 +6,14 @@ use Rattle.lot_rights.specs.Start.{pass_at, root_at}
 use Rattle.lot_rights.proofs.Dealt.{dealt_last, none_back, one_back}
 use Rattle.lot_conds.specs.declared.views.CondPassView.{CondPassView}
 use Rattle.lot_conds.specs.declared.views.CondRootView.{CondRootView}
-use Rattle.lot_conds.specs.Rule.{scheme}
+use Rattle.lot_conds.specs.Rule.{meaning}
 use Rattle.base_trials.proofs.CondSchedules.{fresh_is_free, fresh_is_empty}
 use Rattle.base_trials.proofs.rights.conds.waits_and_notifications.Goals as goal
 
 pub one_wait-zero-requires-clause-zero : goal.one_wait-zero-requires-clause-zero
 one_wait-zero-requires-clause-zero g c =
     let words = c.in-Ok.words in
-    let right = pass_at (scheme words.size) words.table in
+    let right = pass_at (meaning words.size) words.table in
     let len : length c.in-Ok.passes.items ≡ 3 = search rules in
     let two = dealt_last right 2 c.in-Ok.passes.items c.take_last-two.new.self.items c.take_last-two.result c.take_last-two.ensures.items
     (len, c.in-Ok.ensures.passes.1) in
@@ -26,7 +26,7 @@ one_wait-zero-requires-clause-zero g c =
 pub one_wait-zero-requires-clause-one : goal.one_wait-zero-requires-clause-one
 one_wait-zero-requires-clause-one g c =
     let words = c.in-Ok.words in
-    let right = pass_at (scheme words.size) words.table in
+    let right = pass_at (meaning words.size) words.table in
     let len : length c.in-Ok.passes.items ≡ 3 = search rules in
     let two = dealt_last right 2 c.in-Ok.passes.items c.take_last-two.new.self.items c.take_last-two.result c.take_last-two.ensures.items
     (len, c.in-Ok.ensures.passes.1) in
@@ -38,7 +38,7 @@ pub one_wait-zero-requires-clause-root : goal.one_wait-zero-requires-clause-root
 one_wait-zero-requires-clause-root g c =
     let words = c.in-Ok.words in
     let len : length c.in-Ok.roots.items ≡ 1 = search rules in
-    let root = dealt_last (λ k. root_at (scheme words.size) words.table (1 + k)) 0 c.in-Ok.roots.items c.take_last-root.new.self.items
+    let root = dealt_last (λ k. root_at (meaning words.size) words.table (1 + k)) 0 c.in-Ok.roots.items c.take_last-root.new.self.items
     c.take_last-root.result c.take_last-root.ensures.items
     (len, c.in-Ok.ensures.roots.1) in
     fresh_is_empty words.size words.table c.take_last-root.result root.0
@@ -46,7 +46,7 @@ one_wait-zero-requires-clause-root g c =
 pub two_waits-zero-requires-clause-two : goal.two_waits-zero-requires-clause-two
 two_waits-zero-requires-clause-two g c =
     let words = c.in-Ok.words in
-    let right = pass_at (scheme words.size) words.table in
+    let right = pass_at (meaning words.size) words.table in
     let len : length c.in-Ok.passes.items ≡ 3 = search rules in
     fresh_is_free words.size words.table 2 c.take_last-two.result
     (dealt_last right 2 c.in-Ok.passes.items c.take_last-two.new.self.items c.take_last-two.result c.take_last-two.ensures.items

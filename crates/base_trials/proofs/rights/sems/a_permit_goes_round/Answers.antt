@@ -7,14 +7,14 @@ use Rattle.lot_rights.proofs.Dealt.{dealt_last, none_back, one_back}
 use Rattle.lot_sems.specs.declared.views.SemPassView.{SemPassView}
 use Rattle.lot_sems.specs.declared.views.SemRootView.{SemRootView}
 use Rattle.lot_sems.specs.World.{Numbers}
-use Rattle.lot_sems.specs.Rule.{scheme}
+use Rattle.lot_sems.specs.Rule.{meaning}
 use Rattle.base_trials.proofs.SemSchedules.{opened_one, fresh_is_free, fresh_is_empty}
 use Rattle.base_trials.proofs.rights.sems.a_permit_goes_round.Goals as goal
 
 pub one_permit-zero-requires-clause-zero : goal.one_permit-zero-requires-clause-zero
 one_permit-zero-requires-clause-zero g c =
     let words = c.in-Ok-open.words in
-    let right = pass_at (scheme words.size) words.table in
+    let right = pass_at (meaning words.size) words.table in
     let is_one = opened_one words.size 3 c.in-Ok.permits.items c.in-Ok-open.ensures.size (sym c.in-Ok.permits.ok.0 ∙ c.in-Ok.ensures.len) in
     let len : length c.in-Ok-open.passes.items ≡ 3 = search rules in
     let two =
@@ -29,7 +29,7 @@ one_permit-zero-requires-clause-zero g c =
 pub one_permit-zero-requires-clause-one : goal.one_permit-zero-requires-clause-one
 one_permit-zero-requires-clause-one g c =
     let words = c.in-Ok-open.words in
-    let right = pass_at (scheme words.size) words.table in
+    let right = pass_at (meaning words.size) words.table in
     let is_one = opened_one words.size 3 c.in-Ok.permits.items c.in-Ok-open.ensures.size (sym c.in-Ok.permits.ok.0 ∙ c.in-Ok.ensures.len) in
     let len : length c.in-Ok-open.passes.items ≡ 3 = search rules in
     let two =
@@ -42,7 +42,7 @@ one_permit-zero-requires-clause-one g c =
 pub one_permit-zero-requires-clause-two : goal.one_permit-zero-requires-clause-two
 one_permit-zero-requires-clause-two g c =
     let words = c.in-Ok-open.words in
-    let right = pass_at (scheme words.size) words.table in
+    let right = pass_at (meaning words.size) words.table in
     let is_one = opened_one words.size 3 c.in-Ok.permits.items c.in-Ok-open.ensures.size (sym c.in-Ok.permits.ok.0 ∙ c.in-Ok.ensures.len) in
     let len : length c.in-Ok-open.passes.items ≡ 3 = search rules in
     fresh_is_free words.size words.table is_one 2 c.take_last-two.result
@@ -55,7 +55,7 @@ one_permit-zero-requires-clause-root g c =
     let is_one = opened_one words.size 3 c.in-Ok.permits.items c.in-Ok-open.ensures.size (sym c.in-Ok.permits.ok.0 ∙ c.in-Ok.ensures.len) in
     let len : length c.in-Ok-open.roots.items ≡ 1 = sym c.in-Ok-open.roots.ok.0 ∙ (c.in-Ok-open.ensures.roots.0 ∙ c.in-Ok.ensures.len) in
     let root =
-    dealt_last (λ k. root_at (scheme words.size) words.table (1 + k)) 0 c.in-Ok-open.roots.items
+    dealt_last (λ k. root_at (meaning words.size) words.table (1 + k)) 0 c.in-Ok-open.roots.items
     c.take_last-root.new.self.items c.take_last-root.result
     c.take_last-root.ensures.items (len, λ k h. c.in-Ok-open.ensures.roots.1 k (omega (arith, h, c.in-Ok.ensures.len))) in
     fresh_is_empty words.size words.table is_one c.take_last-root.result root.0

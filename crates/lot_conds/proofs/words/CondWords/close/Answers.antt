@@ -4,7 +4,7 @@ use Rattle.std.specs.Slots.{slots_items}
 use Rattle.lot_rights.specs.Closing.{Ended}
 use Rattle.lot_rights.specs.Shown.{PassShown}
 use Rattle.lot_conds.specs.declared.views.CondPassView.{CondPassView}
-use Rattle.lot_conds.specs.Rule.{scheme}
+use Rattle.lot_conds.specs.Rule.{meaning}
 use Rattle.lot_conds.specs.Shown.{CondWordsShown}
 use Rattle.lot_conds.proofs.Closes.{told_to, balanced}
 use Rattle.lot_conds.proofs.words.CondWords.close.Goals as goal
@@ -20,5 +20,5 @@ returns-clause-balanced c =
 
 pub returns-clause-history : goal.returns-clause-history
 returns-clause-history c = told_to c.args.self.size c.args.passes.items c.args.roots.items (slots_items c.close.result.words) (slots_items c.close.result.slots)
-    (subst (λ (z : CondWordsShown). Ended (scheme z.size) c.args.passes.items c.args.roots.items (slots_items c.close.result.words) (slots_items c.close.result.slots)) c.self.view_is
+    (subst (λ (z : CondWordsShown). Ended (meaning z.size) c.args.passes.items c.args.roots.items (slots_items c.close.result.words) (slots_items c.close.result.slots)) c.self.view_is
     c.close.ensures.ended)

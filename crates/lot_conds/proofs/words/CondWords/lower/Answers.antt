@@ -2,7 +2,7 @@ use Rattle.std.proofs.Common.{sym, subst}
 use Rattle.lot_core.specs.Parts.{IsAmongConds}
 use Rattle.lot_rights.specs.Layout.{word_at}
 use Rattle.lot_rights.proofs.Places.{pass_at_place}
-use Rattle.lot_conds.specs.Rule.{scheme}
+use Rattle.lot_conds.specs.Rule.{meaning}
 use Rattle.lot_conds.specs.Shown.{CondWordsShown}
 use Rattle.lot_conds.proofs.Turns.{Lowers, lowers}
 use Rattle.lot_conds.proofs.words.CondWords.lower.Goals as goal
@@ -13,7 +13,7 @@ store-requires-clause-allows c =
     let p = c.args.pass.pass in
     let size = c.self.inside.words.key in
     let among = subst (λ (z : CondWordsShown). IsAmongConds z.size.locks z.size.conds key) (sym c.self.view_is) c.requires.key in
-    pass_at_place (scheme size) (word_at key) _ c.word_of_key.ensures (λ _. 0) p (λ _. Lowers p key) (lowers size p key among c.requires.calm)
+    pass_at_place (meaning size) (word_at key) _ c.word_of_key.ensures (λ _. 0) p (λ _. Lowers p key) (lowers size p key among c.requires.calm)
 
 pub returns-clause-event : goal.returns-clause-event
 returns-clause-event c = c.store.ensures.told

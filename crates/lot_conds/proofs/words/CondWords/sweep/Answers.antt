@@ -4,11 +4,11 @@ use Rattle.lot_events.specs.declared.events.Seen.TheVariants.{Count}
 use Rattle.lot_rights.specs.Layout.{word_at}
 use Rattle.lot_rights.specs.Steps.{Notes}
 use Rattle.lot_rights.specs.declared.views.Access.TheVariants.{Makes}
-use Rattle.lot_rights.specs.declared.views.RootView.{RootView}
+use Rattle.lot_rights.specs.declared.views.RootRight.{RootRight}
 use Rattle.lot_rights.proofs.Places.{both_at_place}
 use Rattle.lot_conds.specs.declared.views.CondRootView.{CondRootView}
 use Rattle.lot_conds.specs.Calls.{swept_pass}
-use Rattle.lot_conds.specs.Rule.{scheme}
+use Rattle.lot_conds.specs.Rule.{meaning}
 use Rattle.lot_conds.proofs.Names.{sweep_names}
 use Rattle.lot_conds.proofs.Turns.{Sweeps, sweeps}
 use Rattle.lot_conds.proofs.words.CondWords.sweep.Goals as goal
@@ -18,10 +18,10 @@ load_both-pass-requires-clause-allows c =
     let p = c.args.pass.pass in
     let q = c.args.root.root in
     let size = c.self.inside.words.key in
-    both_at_place (scheme size) (word_at q.key) _ c.word-word.ensures.is (λ n. n) p q (λ _. Sweeps p q) (sweeps size p q c.requires.lowered.1)
+    both_at_place (meaning size) (word_at q.key) _ c.word-word.ensures.is (λ n. n) p q (λ _. Sweeps p q) (sweeps size p q c.requires.lowered.1)
 
 pub load_both-pass-requires-clause-names : goal.load_both-pass-requires-clause-names
-load_both-pass-requires-clause-names c n p' q' told u h = inl (sweep_names c.args.root.root.own q'.own u (ap (λ (z : RootView CondRootView). z.own) told.1) h)
+load_both-pass-requires-clause-names c n p' q' told u h = inl (sweep_names c.args.root.root.own q'.own u (ap (λ (z : RootRight CondRootView). z.own) told.1) h)
 
 pub returns-clause-event : goal.returns-clause-event
 returns-clause-event c =

@@ -4,5 +4,5 @@ use Rattle.lot_core.proofs.semaphores.Semaphores.left.Goals as goal
 
 pub returns : goal.returns
 returns c =
-    sym (told_item (λ m. m.left) 0 c.args.self.now.low c.args.self.now.items.items c.args.sem c.index.result.now c.requires.0
+    sym (told_item (λ m. m.left) 0 c.args.self.now.first_sem c.args.self.now.items.items c.args.sem c.index.result.now c.requires.0
     c.requires.1 c.index.ensures)

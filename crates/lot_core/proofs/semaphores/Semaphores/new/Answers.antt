@@ -37,10 +37,10 @@ pub returns-clause-permits : goal.returns-clause-permits
 returns-clause-permits c =
     let all = all_new c.args.threads c.args.permits.now c.loop-number.items.items c.loop-number.number-index c.loop-number.invariant
     c.loop-number-test.false in
-    ap (row_from 0 c.args.low) all.permits_are
+    ap (row_from 0 c.args.first_sem) all.permits_are
 
 pub returns-clause-sems : goal.returns-clause-sems
 returns-clause-sems c =
     let all = all_new c.args.threads c.args.permits.now c.loop-number.items.items c.loop-number.number-index c.loop-number.invariant
     c.loop-number-test.false in
-    new_rows c.args.threads c.args.low c.args.permits.now c.loop-number.items.items _ all (c.in_ok-lines.ensures {u = tt}).empty
+    new_rows c.args.threads c.args.first_sem c.args.permits.now c.loop-number.items.items _ all (c.in_ok-lines.ensures {u = tt}).empty

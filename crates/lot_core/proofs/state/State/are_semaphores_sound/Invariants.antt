@@ -4,4 +4,4 @@ use Rattle.lot_core.specs.State.{world_of}
 use Rattle.lot_core.proofs.state.State.are_semaphores_sound.Given as goal
 
 abbrev pub invariant-loop-i : goal.invariant-loop-i
-invariant-loop-i l = (j : ℕ) → j < l.i → IsSoundSemaphore (world_of l.self) (l.self.sems.low + j)
+invariant-loop-i l = (j : ℕ) → j < l.i → IsSoundSemaphore (world_of l.self) (l.self.sems.first_sem + j)

@@ -5,7 +5,7 @@ ghosts-run_on-N-Name g a = record { opening = a.opened.opening }
 
 abbrev pub ghosts-run_on-N-LotName : goal.ghosts-run_on-N-LotName
 ghosts-run_on-N-LotName g a = record {
-  low = a.opened.low;
+  first_sem = a.opened.first_sem;
   permits = a.opened.permits;
   locks = a.opened.locks;
   conds = a.opened.conds;

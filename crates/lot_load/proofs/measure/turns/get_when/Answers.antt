@@ -1,5 +1,5 @@
 use Rattle.std.proofs.Common.{◌∙◌}
-use Rattle.lot_sync.specs.Lot.{leaving, waking}
+use Rattle.lot_sync.specs.Lot.{letting_go, one_wait_more}
 use Rattle.lot_sync.proofs.Holdings.{got_holds, left_all}
 use Rattle.lot_load.specs.declared.measure.value.Number.{Number}
 use Rattle.lot_load.proofs.measure.turns.get_when.Goals as goal
@@ -21,7 +21,7 @@ loop-preserved g c =
       tt,
       record {
         key = gets.key_is ∙ inv.key;
-        holding = got_holds _ (waking (leaving c.loop.pass c.loop.held.key c.loop.held.value) _) c.wait-woken.result.0 c.loop.held.key c.wait-woken.result.1
+        holding = got_holds _ (one_wait_more (letting_go c.loop.pass c.loop.held.key c.loop.held.value) _) c.wait-woken.result.0 c.loop.held.key c.wait-woken.result.1
             (record { no_lock = left.no_lock; no_permit = left.no_permit }) gets;
       },
     )

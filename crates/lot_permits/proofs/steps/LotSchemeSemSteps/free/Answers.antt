@@ -8,15 +8,15 @@ use Rattle.lot_permits.proofs.Rest.{gives_after}
 use Rattle.lot_permits.proofs.steps.LotSchemeSemSteps.free.Goals as goal
 
 -- the permit was given back; or the thread still has it
-freed : {V : Type 0} → (low : ℕ) (p q : LotStanding V) (k : ℕ) (does : Bool) → MayGiveBack low p k → FreesPermit p k does q
+freed : {V : Type 0} → (first_sem : ℕ) (p q : LotStanding V) (k : ℕ) (does : Bool) → MayGiveBack first_sem p k → FreesPermit p k does q
     → MatchBool does (GivesPermit p k Quiet q)
-    (MayGiveBack low q k × ((became : Freed) (after : LotStanding V) → PassesPermit q k became after → GivesPermit p k became after))
-freed low p q k true may (did, word, is) = record { did = did; given = word; is = is }
-freed {V} low p q k false may (did, word, is) = (
-  subst (λ (r : LotStanding V). MayGiveBack low r k) (sym is) may,
+    (MayGiveBack first_sem q k × ((became : Freed) (after : LotStanding V) → PassesPermit q k became after → GivesPermit p k became after))
+freed first_sem p q k true may (did, word, is) = record { did = did; given = word; is = is }
+freed {V} first_sem p q k false may (did, word, is) = (
+  subst (λ (r : LotStanding V). MayGiveBack first_sem r k) (sym is) may,
   λ became after s. gives_after p q after k did word is became s,
 )
 
 pub returns : goal.returns
 returns g c =
-    freed g.N.LotName.low c.args.pass c.free_permit.result.0 c.args.key c.free_permit.result.1 c.requires.may c.free_permit.ensures
+    freed g.N.LotName.first_sem c.args.pass c.free_permit.result.0 c.args.key c.free_permit.result.1 c.requires.may c.free_permit.ensures

@@ -44,6 +44,6 @@ returns-clause-ended g c =
     let all = c.gather_roots-seat.ensures.rights ∙ ap (λ v. v ++ roots_in (reverse roots))
     (c.gather_passes-seat.ensures.rights ∙ gathered (λ (p : PassShown _). Pass p.pass) [] own own passes c.take_last.new.self.items c.take_last.result refl first c.take_last.ensures.items) in
     let last = c.close_with.ensures.values.2 in
-    subst (λ (w : WordsShown _). Ended (g.K.Kind.scheme w.key) passes roots (slots_items c.close_with.result.words) (slots_items c.close_with.result.slots)) c.self.view_is
-    (ends (g.K.Kind.scheme c.self.inside.table.shared.key) last.0 last.1.0 c.gather_roots-seat.result.id c.gather_roots-seat.result.me.0 last.1.1 passes roots all
+    subst (λ (w : WordsShown _). Ended (g.K.Kind.meaning w.key) passes roots (slots_items c.close_with.result.words) (slots_items c.close_with.result.slots)) c.self.view_is
+    (ends (g.K.Kind.meaning c.self.inside.table.shared.key) last.0 last.1.0 c.gather_roots-seat.result.id c.gather_roots-seat.result.me.0 last.1.1 passes roots all
     (slots_items c.close_with.result.words) (slots_items c.close_with.result.slots) last.2 last.3 last.4)

@@ -4,7 +4,7 @@ use Rattle.lot_rights.proofs.words.WordsOf.fetch_add_both.Goals as goal
 
 pub fetch_add-found-requires : goal.fetch_add-found-requires
 fetch_add-found-requires g c =
-    ready_both g.K.Kind.scheme g.K.Kind.no_letter_in_line _ _ c.self.view_is
+    ready_both g.K.Kind.meaning g.K.Kind.no_letter_in_line _ _ c.self.view_is
     g.K.Kind.no_pass g.K.Kind.no_root c.args.pass.pass c.args.root.root _ c.joined-seat.ensures.table c.joined-seat.result.id
     c.joined-seat.result.me c.joined-seat.ensures.rights
     c.args.word (λ n. (n + c.args.more) % 2 ^ 64) g.N.TellsBoth.then c.requires.word c.requires.allows

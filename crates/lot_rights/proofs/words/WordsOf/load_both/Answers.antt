@@ -4,7 +4,7 @@ use Rattle.lot_rights.proofs.words.WordsOf.load_both.Goals as goal
 
 pub load-found-requires : goal.load-found-requires
 load-found-requires g c =
-    ready_both g.K.Kind.scheme g.K.Kind.no_letter_in_line _ _ c.self.view_is
+    ready_both g.K.Kind.meaning g.K.Kind.no_letter_in_line _ _ c.self.view_is
     g.K.Kind.no_pass g.K.Kind.no_root c.args.pass.pass c.args.root.root _ c.joined-seat.ensures.table c.joined-seat.result.id
     c.joined-seat.result.me c.joined-seat.ensures.rights
     c.args.word (λ n. n) g.N.TellsBoth.then c.requires.word c.requires.allows

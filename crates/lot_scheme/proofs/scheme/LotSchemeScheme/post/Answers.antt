@@ -20,13 +20,13 @@ post_cond-requires-clause-owes g c =
     let has = subst (λ (r : RootShown LotRootView). Contains (root_view r).owes (c.args.at, c.args.token.0))
     (sym c.into_root-root.ensures.same) c.requires in
     let locks = c.self.invariant.3 in
-    let low = c.self.invariant.4 in
+    let first_sem = c.self.invariant.4 in
     let is = c.key-key.ensures.is in
     let from = c.if-key-self.false in
     let below = c.if-key-self-2.true in
     (owed_cond q.key c.args.at c.args.token.0 q.own
-    (is_cond g.N.LotName.locks g.N.LotName.low q.key q.own c.into_root-root.ensures.kind (omega (arith, locks, is, from))
-    (omega (arith, low, is, below))) has).0
+    (is_cond g.N.LotName.locks g.N.LotName.first_sem q.key q.own c.into_root-root.ensures.kind (omega (arith, locks, is, from))
+    (omega (arith, first_sem, is, below))) has).0
 
 pub returns-clause-owes : goal.returns-clause-owes
 returns-clause-owes g c =
@@ -35,7 +35,7 @@ returns-clause-owes g c =
     let has = subst (λ (r : RootShown LotRootView). Contains (root_view r).owes (c.args.at, c.args.token.0))
     (sym c.into_root-root.ensures.same) c.requires in
     let locks = c.self.invariant.3 in
-    let low = c.self.invariant.4 in
+    let first_sem = c.self.invariant.4 in
     let is = c.key-key.ensures.is in
     let left : (root_view c.if-key-self.root).owes ≡ without_debt c.args.at c.args.token.0 (root_view c.into_root-root.result).owes =
     elim c.if-key-self.branch [
@@ -45,7 +45,7 @@ returns-clause-owes g c =
           ∙ (seen_after lock q w.post-root.result.root (lock_paid (as_lock q.own)) (Posts q.key c.args.at c.args.token.0)
           w.post-root.ensures.posted
           ∙ posted_lock q.key c.args.at c.args.token.0 q.own
-          (is_lock g.N.LotName.locks g.N.LotName.low q.key q.own kind (omega (arith, locks, is, below))) has)
+          (is_lock g.N.LotName.locks g.N.LotName.first_sem q.key q.own kind (omega (arith, locks, is, below))) has)
       | else-key-self+then-key-self-2 w ↦
           let from = w.if-key-self.false in
           let below = w.if-key-self-2.true in
@@ -53,14 +53,14 @@ returns-clause-owes g c =
           ∙ (seen_after cond q w.post_cond.result.root (cond_paid (as_cond q.own) c.args.at) (Posts q.key c.args.at 0)
           w.post_cond.ensures.posted
           ∙ posted_cond q.key c.args.at c.args.token.0 q.own
-          (is_cond g.N.LotName.locks g.N.LotName.low q.key q.own kind (omega (arith, locks, is, from)) (omega (arith, low, is, below))) has)
+          (is_cond g.N.LotName.locks g.N.LotName.first_sem q.key q.own kind (omega (arith, locks, is, from)) (omega (arith, first_sem, is, below))) has)
       | else-key-self+else-key-self-2 w ↦
           let from = w.if-key-self.false in
           let above = w.if-key-self-2.false in
           ap (λ (r : RootShown LotRootView). (root_view r).owes) w.root-is
           ∙ (seen_after sem q w.post_sem.result.root (sem_paid (as_sem q.own)) (Posts q.key c.args.at 0) w.post_sem.ensures.posted
           ∙ posted_sem q.key c.args.at c.args.token.0 q.own
-          (is_sem g.N.LotName.locks g.N.LotName.low q.key q.own kind (omega (arith, locks, is, from)) (omega (arith, low, is, above))) has)
+          (is_sem g.N.LotName.locks g.N.LotName.first_sem q.key q.own kind (omega (arith, locks, is, from)) (omega (arith, first_sem, is, above))) has)
     ] in
     ap (λ (r : RootShown LotRootView). (root_view r).owes) c.new.ensures
     ∙ (left ∙ ap (λ (r : RootShown LotRootView). without_debt c.args.at c.args.token.0 (root_view r).owes) c.into_root-root.ensures.same)

@@ -2,7 +2,7 @@ use Rattle.std.proofs.Common.{arith}
 use Rattle.lot_rights.specs.Layout.{letter_at}
 use Rattle.lot_rights.proofs.Places.{pass_at_place}
 use Rattle.lot_sems.specs.World.{numbers}
-use Rattle.lot_sems.specs.Rule.{scheme}
+use Rattle.lot_sems.specs.Rule.{meaning}
 use Rattle.lot_sems.proofs.Roots.{Collecting, collected_none, collected_some, collects}
 use Rattle.lot_sems.proofs.words.SemWords.collect.Goals as goal
 
@@ -10,7 +10,7 @@ pub swap-pass-requires-clause-allows : goal.swap-pass-requires-clause-allows
 swap-pass-requires-clause-allows c =
     let p = c.args.pass.pass in
     let size = numbers c.self.inside.words.key in
-    pass_at_place (scheme size) (letter_at p.thread) _ c.letter-place.ensures.is (λ _. 0) p (Collecting p) (collects size p)
+    pass_at_place (meaning size) (letter_at p.thread) _ c.letter-place.ensures.is (λ _. 0) p (Collecting p) (collects size p)
 
 pub returns-then-letter-eq-NO_LETTER-clause-letter : goal.returns-then-letter-eq-NO_LETTER-clause-letter
 returns-then-letter-eq-NO_LETTER-clause-letter c = collected_none c.args.pass.pass c.swap-pass.result.0.pass c.swap-pass.result.1 c.if-letter-eq-NO_LETTER.true c.swap-pass.ensures.told

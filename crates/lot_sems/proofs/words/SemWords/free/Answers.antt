@@ -5,9 +5,9 @@ use Rattle.lot_events.specs.declared.events.Event.TheVariants.{SemFree}
 use Rattle.lot_rights.specs.Layout.{word_at}
 use Rattle.lot_rights.proofs.Places.{pass_at_place}
 use Rattle.lot_sems.specs.World.{IsAmong, numbers}
-use Rattle.lot_sems.specs.Rule.{scheme}
+use Rattle.lot_sems.specs.Rule.{meaning}
 use Rattle.lot_sems.specs.Shown.{SemWordsShown}
-use Rattle.lot_sems.specs.Calls.{MayGive, IsUnmarked, gave, Found}
+use Rattle.lot_sems.specs.Calls.{MayGive, IsUnmarked, one_permit_less, Found}
 use Rattle.lot_sems.proofs.Turns.{Swaps, looks, frees, after_look, freed}
 use Rattle.lot_sems.proofs.words.SemWords.free.Goals as goal
 
@@ -17,7 +17,7 @@ load-pass-requires-clause-allows c =
     let p = c.args.pass.pass in
     let size = numbers c.self.inside.words.key in
     let among = subst (λ (z : SemWordsShown). IsAmong z.size key) (sym c.self.view_is) c.requires.key in
-    pass_at_place (scheme size) (word_at key) _ c.word_of_key-word.ensures (λ n. n) p (Found p key) (looks size p key among)
+    pass_at_place (meaning size) (word_at key) _ c.word_of_key-word.ensures (λ n. n) p (Found p key) (looks size p key among)
 
 pub compare_exchange-pass-requires-clause-allows : goal.compare_exchange-pass-requires-clause-allows
 compare_exchange-pass-requires-clause-allows c =
@@ -29,8 +29,8 @@ compare_exchange-pass-requires-clause-allows c =
     let among = subst (λ (z : SemWordsShown). IsAmong z.size key) (sym c.self.view_is) c.requires.key in
     let may = after_look p r key seen c.load-pass.ensures.told (λ own. MayGive own key) c.requires.may in
     let clear : IsUnmarked seen = omega (arith, and_mask seen 1, c.if-seen-ne0.false) in
-    pass_at_place (scheme size) (word_at key) _ c.word_of_key-word.ensures (λ n. either (n == seen) ((seen + 2) % 2 ^ 64) n) r
-    (Swaps r key (gave r.own key) (SemFree r.thread key) seen) (frees size r key among may seen clear)
+    pass_at_place (meaning size) (word_at key) _ c.word_of_key-word.ensures (λ n. either (n == seen) ((seen + 2) % 2 ^ 64) n) r
+    (Swaps r key (one_permit_less r.own key) (SemFree r.thread key) seen) (frees size r key among may seen clear)
 
 pub returns-then-seen-ne0-clause-entries : goal.returns-then-seen-ne0-clause-entries
 returns-then-seen-ne0-clause-entries c =

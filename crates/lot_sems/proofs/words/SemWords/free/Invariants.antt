@@ -1,5 +1,5 @@
 use Rattle.lot_events.specs.declared.events.Event.TheVariants.{SemFree}
-use Rattle.lot_sems.specs.Calls.{gave, Found}
+use Rattle.lot_sems.specs.Calls.{one_permit_less, Found}
 use Rattle.lot_sems.proofs.Turns.{Swaps}
 use Rattle.lot_sems.proofs.words.SemWords.free.Given as goal
 
@@ -7,4 +7,4 @@ abbrev pub ghosts-load : goal.ghosts-load
 ghosts-load a = record { then = Found a.pass.pass a._about }
 
 abbrev pub ghosts-compare_exchange : goal.ghosts-compare_exchange
-ghosts-compare_exchange a = let p = a.pass.pass in record { then = Swaps p a._about (gave p.own a._about) (SemFree p.thread a._about) a.old }
+ghosts-compare_exchange a = let p = a.pass.pass in record { then = Swaps p a._about (one_permit_less p.own a._about) (SemFree p.thread a._about) a.old }

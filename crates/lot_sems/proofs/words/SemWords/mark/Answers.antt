@@ -3,7 +3,7 @@ use prog.Atomic.{either}
 use Rattle.lot_rights.specs.Layout.{word_at}
 use Rattle.lot_rights.proofs.Places.{pass_at_place}
 use Rattle.lot_sems.specs.World.{IsAmong, numbers}
-use Rattle.lot_sems.specs.Rule.{scheme}
+use Rattle.lot_sems.specs.Rule.{meaning}
 use Rattle.lot_sems.specs.Shown.{SemWordsShown}
 use Rattle.lot_sems.proofs.Turns.{Marks, marks}
 use Rattle.lot_sems.proofs.words.SemWords.mark.Goals as goal
@@ -14,7 +14,7 @@ compare_exchange-pass-requires-clause-allows c =
     let p = c.args.pass.pass in
     let size = numbers c.self.inside.words.key in
     let among = subst (λ (z : SemWordsShown). IsAmong z.size key) (sym c.self.view_is) c.requires.key in
-    pass_at_place (scheme size) (word_at key) _ c.word_of_key-word.ensures (λ n. either (n == 0) 1 n) p (Marks p key) (marks size p key among c.requires.seeks)
+    pass_at_place (meaning size) (word_at key) _ c.word_of_key-word.ensures (λ n. either (n == 0) 1 n) p (Marks p key) (marks size p key among c.requires.seeks)
 
 pub returns-clause-entry : goal.returns-clause-entry
 returns-clause-entry c = c.compare_exchange-pass.ensures.told

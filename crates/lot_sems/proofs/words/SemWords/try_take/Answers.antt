@@ -2,7 +2,7 @@ use Rattle.std.proofs.Common.{sym, subst, inl}
 use Rattle.lot_rights.specs.Layout.{word_at}
 use Rattle.lot_rights.proofs.Places.{pass_at_place}
 use Rattle.lot_sems.specs.World.{IsAmong, numbers}
-use Rattle.lot_sems.specs.Rule.{scheme}
+use Rattle.lot_sems.specs.Rule.{meaning}
 use Rattle.lot_sems.specs.Shown.{SemWordsShown}
 use Rattle.lot_sems.specs.Calls.{MayTake, Found}
 use Rattle.lot_sems.proofs.Turns.{looks, after_look, tried}
@@ -14,7 +14,7 @@ load-pass-requires-clause-allows c =
     let p = c.args.pass.pass in
     let size = numbers c.self.inside.words.key in
     let among = subst (λ (z : SemWordsShown). IsAmong z.size key) (sym c.self.view_is) c.requires.key in
-    pass_at_place (scheme size) (word_at key) _ c.word_of_key.ensures (λ n. n) p (Found p key) (looks size p key among)
+    pass_at_place (meaning size) (word_at key) _ c.word_of_key.ensures (λ n. n) p (Found p key) (looks size p key among)
 
 pub take_from-requires-clause-may : goal.take_from-requires-clause-may
 take_from-requires-clause-may c =

@@ -1,8 +1,8 @@
 use Rattle.std.proofs.Common.{sym, ap, subst}
 use Rattle.lot_scheme.specs.Standing.{LotStanding}
 use Rattle.lot_scheme.specs.Words.{GetPermitWord}
-use Rattle.lot_sync.specs.Lot.{◌≈◌, one_more}
-use Rattle.lot_sync.specs.Passes.{sees}
+use Rattle.lot_sync.specs.Lot.{◌≈◌, one_permit_more}
+use Rattle.lot_sync.specs.Passes.{pass_view_of}
 use Rattle.lot_sync.proofs.Adding.{alike_at, adds_at}
 use Rattle.lot_sync.proofs.Calls.{sees_permit}
 use Rattle.lot_sync.proofs.lot.Lot.acquire.Goals as goal
@@ -10,8 +10,8 @@ use Rattle.lot_sync.proofs.lot.Lot.acquire.Goals as goal
 pub returns-clause-pass : goal.returns-clause-pass
 returns-clause-pass g c =
     let got = c.acquire-right.ensures.gets in
-    subst (λ v. c.at_rest.result ≈ one_more v c.args.key) (sym c.apart-right.ensures.same)
-    (alike_at c.at_rest.result (one_more (sees c.apart-right.result.0) c.args.key) c.acquire-right.result.0 c.at_rest.ensures.pass (sees_permit c.apart-right.result.0 c.acquire-right.result.0 c.args.key got.did got.is))
+    subst (λ v. c.at_rest.result ≈ one_permit_more v c.args.key) (sym c.apart-right.ensures.same)
+    (alike_at c.at_rest.result (one_permit_more (pass_view_of c.apart-right.result.0) c.args.key) c.acquire-right.result.0 c.at_rest.ensures.pass (sees_permit c.apart-right.result.0 c.acquire-right.result.0 c.args.key got.did got.is))
 
 pub returns-clause-made : goal.returns-clause-made
 returns-clause-made g c =

@@ -9,7 +9,7 @@ use Rattle.lot_waits.specs.Counts.{counts_shown}
 use Rattle.lot_waits.specs.Ledger.{IsLedger}
 use Rattle.lot_waits.proofs.Sums.{balanced_of}
 use Rattle.lot_sync.specs.Lot.{PassView, LotView, counts_of}
-use Rattle.lot_sync.specs.Passes.{seen_as}
+use Rattle.lot_sync.specs.Passes.{pass_view_shown}
 use Rattle.lot_sync.specs.Values.{GoesOnTo}
 use Rattle.lot_whole.specs.Order.{accesses_of}
 use Rattle.lot_sync.proofs.Closes.{each_root, counted, goes_on, each_own}
@@ -20,7 +20,7 @@ close-values-requires-clause-passes g c =
     let threads : c.into_words.result.size.threads ≡ c.args.self.threads =
     ap (λ (z : LotSize). z.threads) c.into_words.ensures.size ∙ (sym c.self.invariant.own_threads
     ∙ ap (λ (v : LotView). v.threads) c.self.view_is) in
-    λ t near. some_before seen_as (λ (p : PassView _). p.thread ≡ t) c.gather.new.rights.items
+    λ t near. some_before pass_view_shown (λ (p : PassView _). p.thread ≡ t) c.gather.new.rights.items
     (subst (Any (λ (p : PassView _). p.thread ≡ t)) (sym c.gather.ensures.same) (c.requires.all t (subst (λ n. t < n) threads near)))
 
 pub close-values-requires-clause-roots : goal.close-values-requires-clause-roots
@@ -29,7 +29,7 @@ close-values-requires-clause-roots g c =
     let none : before.items ≡ [] = no_elements before.items (let n : length before.items ≡ vec_len before = search rules in n
     ∙ c.apart-rights.ensures.empty.2) in
     let keys : key_count c.into_words.result.size ≡ c.self.inside.parking.keys =
-    ap key_count c.into_words.ensures.size ∙ (ap (λ n. n + length g.N.LotName.permits) (sym c.self.invariant.named_low)
+    ap key_count c.into_words.ensures.size ∙ (ap (λ n. n + length g.N.LotName.permits) (sym c.self.invariant.named_first_sem)
     ∙ sym c.self.invariant.parking_keys) in
     λ k near. subst (Any (λ (q : RootShown LotRootView). q.root.key ≡ k)) (sym c.unname.ensures.same)
     (each_root k c.self.inside.parking.keys before.items c.close-scheme.new.out.items c.close-scheme.ensures.roots none (subst

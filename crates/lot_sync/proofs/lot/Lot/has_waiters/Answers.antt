@@ -5,7 +5,7 @@ use Rattle.lot_rights.specs.declared.views.Access.TheVariants.{Makes}
 use Rattle.lot_scheme.specs.Standing.{LotStanding}
 use Rattle.lot_sync.specs.Lot.{◌≈◌}
 use Rattle.lot_sync.specs.Words.{LookWord}
-use Rattle.lot_sync.specs.Passes.{sees}
+use Rattle.lot_sync.specs.Passes.{pass_view_of}
 use Rattle.lot_sync.proofs.Adding.{alike_at, adds_at}
 use Rattle.lot_sync.proofs.Rests.{sees_stays}
 use Rattle.lot_sync.proofs.lot.Lot.has_waiters.Goals as goal
@@ -13,7 +13,7 @@ use Rattle.lot_sync.proofs.lot.Lot.has_waiters.Goals as goal
 pub returns-clause-same : goal.returns-clause-same
 returns-clause-same g c =
     subst (λ v. c.at_rest.result ≈ v) (sym c.apart-right.ensures.same)
-    (alike_at c.at_rest.result (sees c.apart-right.result.0) c.has_waiters-right.result.0 c.at_rest.ensures.pass
+    (alike_at c.at_rest.result (pass_view_of c.apart-right.result.0) c.has_waiters-right.result.0 c.at_rest.ensures.pass
     (sees_stays c.apart-right.result.0 c.has_waiters-right.result.0 _ c.has_waiters-right.ensures.pass))
 
 pub returns-clause-made : goal.returns-clause-made

@@ -1,5 +1,5 @@
 use Rattle.std.proofs.Common.{◌≡◌, ◌+◌, ◌<◌, ◌≤◌, sym, subst, ap, arith}
-use Rattle.lot_waits.specs.Counts.{AreKept, counts_in, took}
+use Rattle.lot_waits.specs.Counts.{AreKept, counts_in, called_more}
 use Rattle.lot_sync.specs.Words.{NotifyAllWord}
 use Rattle.lot_sync.proofs.Calls.{took_all, rests_called, sees_more}
 use Rattle.lot_sync.proofs.lot.Lot.notify_all.Goals as goal
@@ -20,7 +20,7 @@ at_rest-requires-clause-kept g c κs within =
     let told = took_all c.apart-right.result.0 c.notify_all-right.result.0 c.args.cond c.notify_all-right.result.1 c.notify_all-right.ensures.pass in
     subst (λ n. AreKept g.N.LotName.locks g.N.LotName.conds n c.count_taken-tallies.result.value.called.items c.count_taken-tallies.result.value.woken.items)
     (sym (ap counts_in told.is))
-    (subst (λ n. AreKept n g.N.LotName.conds (took (counts_in c.apart-right.result.0) c.args.cond c.notify_all-right.result.1) c.count_taken-tallies.result.value.called.items c.count_taken-tallies.result.value.woken.items) own
+    (subst (λ n. AreKept n g.N.LotName.conds (called_more (counts_in c.apart-right.result.0) c.args.cond c.notify_all-right.result.1) c.count_taken-tallies.result.value.called.items c.count_taken-tallies.result.value.woken.items) own
     (c.count_taken-tallies.ensures g.N.LotName.conds (counts_in c.apart-right.result.0) (omega (arith, own, locks, from), omega (arith, own, locks, below, conds))
     (subst (λ n. AreKept n g.N.LotName.conds (counts_in c.apart-right.result.0) c.apart-right.result.1.value.called.items c.apart-right.result.1.value.woken.items) (sym own)
     c.apart-right.ensures.kept)))

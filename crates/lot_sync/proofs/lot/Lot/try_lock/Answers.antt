@@ -4,7 +4,7 @@ use Rattle.lot_scheme.specs.Words.{TryWord}
 use Rattle.lot_sync.specs.Lot.{◌≈◌}
 use Rattle.lot_sync.specs.Values.{Gets}
 use Rattle.lot_sync.proofs.Rests.{owns_newly, gets_all, rests_on, sees_stays}
-use Rattle.lot_sync.specs.Passes.{sees}
+use Rattle.lot_sync.specs.Passes.{pass_view_of}
 use Rattle.lot_sync.proofs.Adding.{alike_at, adds_at}
 use Rattle.lot_sync.proofs.lot.Lot.try_lock.Goals as goal
 
@@ -32,7 +32,7 @@ pub returns-else-got-clause-gets : goal.returns-else-got-clause-gets
 returns-else-got-clause-gets g c =
     let missed = rw c.if-got.false at c.try_get-right.ensures in
     subst (λ v. c.at_rest.result ≈ v) (sym c.apart-right.ensures.same)
-    (alike_at c.at_rest.result (sees c.apart-right.result.0) c.try_get-right.result.0 c.at_rest.ensures.pass (sees_stays c.apart-right.result.0 c.try_get-right.result.0 missed.0 missed.2))
+    (alike_at c.at_rest.result (pass_view_of c.apart-right.result.0) c.try_get-right.result.0 c.at_rest.ensures.pass (sees_stays c.apart-right.result.0 c.try_get-right.result.0 missed.0 missed.2))
 
 pub returns-then-got-clause-made : goal.returns-then-got-clause-made
 returns-then-got-clause-made g c =

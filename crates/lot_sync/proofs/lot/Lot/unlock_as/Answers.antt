@@ -1,9 +1,9 @@
 use Rattle.std.proofs.Common.{sym, ap, subst}
 use Rattle.lot_scheme.specs.Standing.{LotStanding}
 use Rattle.lot_locks.specs.Released.{FreeWord}
-use Rattle.lot_sync.specs.Lot.{◌≈◌, leaving}
+use Rattle.lot_sync.specs.Lot.{◌≈◌, letting_go}
 use Rattle.lot_sync.specs.Words.{Adds}
-use Rattle.lot_sync.specs.Passes.{sees}
+use Rattle.lot_sync.specs.Passes.{pass_view_of}
 use Rattle.lot_sync.proofs.Adding.{alike_at, adds_at}
 use Rattle.lot_sync.proofs.Rests.{rests_free, leaves_all}
 use Rattle.lot_sync.proofs.Holdings.{sees_left}
@@ -18,9 +18,9 @@ at_rest-requires-clause-rest g c κs within =
 pub returns-clause-pass : goal.returns-clause-pass
 returns-clause-pass g c =
     let b = c.given_back-right.ensures in
-    subst (λ k. c.at_rest.result ≈ leaving c.args.pass k c.args.held.value) c.key-key.ensures
-    (subst (λ v. c.at_rest.result ≈ leaving v c.key-key.result c.args.held.value) b.same
-    (alike_at c.at_rest.result (leaving (sees c.given_back-right.result.0) c.key-key.result c.args.held.value) c.let_go-right.result.0 c.at_rest.ensures.pass
+    subst (λ k. c.at_rest.result ≈ letting_go c.args.pass k c.args.held.value) c.key-key.ensures
+    (subst (λ v. c.at_rest.result ≈ letting_go v c.key-key.result c.args.held.value) b.same
+    (alike_at c.at_rest.result (letting_go (pass_view_of c.given_back-right.result.0) c.key-key.result c.args.held.value) c.let_go-right.result.0 c.at_rest.ensures.pass
     (leaves_all _ c.given_back-right.result.0 c.let_go-right.result.0 c.key-key.result c.args.held.value b.lies c.let_go-right.ensures.went)))
 
 pub returns-clause-made : goal.returns-clause-made
@@ -32,4 +32,4 @@ returns-clause-made g c =
 
 pub returns-clause-seen : goal.returns-clause-seen
 returns-clause-seen g c =
-    sees_left _ c.args.pass c.at_rest.result c.args.held.key c.args.held.value c.requires.key c.at_rest.ensures.wide (returns-clause-pass g c)
+    sees_left _ c.args.pass c.at_rest.result c.args.held.key c.args.held.value c.requires.key c.at_rest.ensures.shape (returns-clause-pass g c)

@@ -3,11 +3,11 @@ use mathlib.Core.Option.{some}
 use lib.ListN.{get_elem?}
 use Rattle.lot_words.specs.Values.{IsIn}
 use Rattle.lot_words.specs.declared.views.Place.TheVariants.{Out}
-use Rattle.lot_scheme.specs.Standing.{LotStanding, putting}
+use Rattle.lot_scheme.specs.Standing.{LotStanding, placing}
 use Rattle.lot_locks.specs.declared.released.Released.TheVariants.{Quiet}
-use Rattle.lot_sync.specs.Lot.{◌≈◌, leaving}
+use Rattle.lot_sync.specs.Lot.{◌≈◌, letting_go}
 use Rattle.lot_sync.specs.Words.{Adds, UnparkedWord}
-use Rattle.lot_sync.specs.Passes.{sees}
+use Rattle.lot_sync.specs.Passes.{pass_view_of}
 use Rattle.lot_sync.proofs.Adding.{alike_at, adds_at, quiet_word}
 use Rattle.lot_sync.proofs.Holdings.{sees_left}
 use Rattle.lot_sync.proofs.Rests.{rests_free, rests_parked, leaves_all, stays_all, one_lies}
@@ -28,9 +28,9 @@ at_rest-requires-else-freed-clause-rest g c κs within =
 pub returns-then-freed-clause-freed : goal.returns-then-freed-clause-freed
 returns-then-freed-clause-freed g c =
     let b = c.given_back-right.ensures in
-    subst (λ k. c.at_rest.result ≈ leaving c.args.pass k c.args.held.value) c.key-key.ensures
-    (subst (λ v. c.at_rest.result ≈ leaving v c.key-key.result c.args.held.value) b.same
-    (alike_at c.at_rest.result (leaving (sees c.given_back-right.result.0) c.key-key.result c.args.held.value) c.free_unparked-right.result.0 c.at_rest.ensures.pass
+    subst (λ k. c.at_rest.result ≈ letting_go c.args.pass k c.args.held.value) c.key-key.ensures
+    (subst (λ v. c.at_rest.result ≈ letting_go v c.key-key.result c.args.held.value) b.same
+    (alike_at c.at_rest.result (letting_go (pass_view_of c.given_back-right.result.0) c.key-key.result c.args.held.value) c.free_unparked-right.result.0 c.at_rest.ensures.pass
     (leaves_all _ c.given_back-right.result.0 c.free_unparked-right.result.0 c.key-key.result c.args.held.value b.lies (rw c.if-freed.true at c.free_unparked-right.ensures))))
 
 pub returns-else-freed-clause-freed : goal.returns-else-freed-clause-freed
@@ -42,7 +42,7 @@ returns-else-freed-clause-freed g c =
     (subst (λ (r : LotStanding g.row.V.Denot). IsIn r.own.locks c.key-key.result c.args.held.value) (sym parked) b.lies) in (
       (λ i. record { key = (c.new.ensures.key ∙ c.key-key.ensures) i; value = (c.new.ensures.value ∙ same) i }),
       subst (λ v. c.at_rest-else-freed.result ≈ v) b.same
-          (alike_at c.at_rest-else-freed.result (sees c.given_back-right.result.0) c.value_out-right.result.0 c.at_rest-else-freed.ensures.pass
+          (alike_at c.at_rest-else-freed.result (pass_view_of c.given_back-right.result.0) c.value_out-right.result.0 c.at_rest-else-freed.ensures.pass
           (stays_all c.given_back-right.result.0 c.free_unparked-right.result.0 c.value_out-right.result.0 c.key-key.result b.owner.holds parked c.value_out-right.ensures.out)),
     )
 
@@ -59,8 +59,8 @@ returns-else-freed-clause-made g c =
     subst (λ k. Adds c.args.pass.made (UnparkedWord c.args.pass.thread k false) c.at_rest-else-freed.result.made) c.key-key.ensures
     (adds_at (λ t. UnparkedWord t c.key-key.result false) c.args.pass c.at_rest-else-freed.result c.given_back-right.result.0 c.value_out-right.result.0 _
     (sym c.given_back-right.ensures.same) c.at_rest-else-freed.ensures.pass
-    (ap (λ (r : LotStanding g.row.V.Denot). r.did) (c.value_out-right.ensures.out ∙ ap (λ (r : LotStanding g.row.V.Denot). putting r c.key-key.result Out) parked)) refl)
+    (ap (λ (r : LotStanding g.row.V.Denot). r.did) (c.value_out-right.ensures.out ∙ ap (λ (r : LotStanding g.row.V.Denot). placing r c.key-key.result Out) parked)) refl)
 
 pub returns-then-freed-clause-seen : goal.returns-then-freed-clause-seen
 returns-then-freed-clause-seen g c =
-    sees_left _ c.args.pass c.at_rest.result c.args.held.key c.args.held.value c.requires.key c.at_rest.ensures.wide (returns-then-freed-clause-freed g c)
+    sees_left _ c.args.pass c.at_rest.result c.args.held.key c.args.held.value c.requires.key c.at_rest.ensures.shape (returns-then-freed-clause-freed g c)

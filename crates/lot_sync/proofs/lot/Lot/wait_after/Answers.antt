@@ -1,9 +1,9 @@
 use Rattle.std.proofs.Common.{◌≡◌, ◌+◌, ◌<◌, ◌≤◌, sym, subst, ap, arith}
 use Rattle.lot_core.specs.Parts.{IsAmongConds}
-use Rattle.lot_waits.specs.Counts.{AreKept, counts_in, woke}
+use Rattle.lot_waits.specs.Counts.{AreKept, counts_in, one_wait_more as counts_one_wait_more}
 use Rattle.lot_scheme.specs.Standing.{LotStanding}
-use Rattle.lot_sync.specs.Lot.{leaving, waking}
-use Rattle.lot_sync.specs.Passes.{sees}
+use Rattle.lot_sync.specs.Lot.{letting_go, one_wait_more as view_one_wait_more}
+use Rattle.lot_sync.specs.Passes.{pass_view_of}
 use Rattle.lot_sync.specs.Values.{Gets}
 use Rattle.lot_sync.specs.Words.{Adds, WaitedWord}
 use Rattle.lot_sync.proofs.Adding.{adds_at}
@@ -25,7 +25,7 @@ taken-requires-clause-kept g c κs within =
     let below = c.requires.cond.1 in
     subst (λ n. AreKept g.N.LotName.locks g.N.LotName.conds n c.count_wait-tallies.result.value.called.items c.count_wait-tallies.result.value.woken.items)
     (sym (ap counts_in c.wait-right.ensures.waited.is))
-    (subst (λ n. AreKept n g.N.LotName.conds (woke (counts_in c.given_back-right.result.0) c.args.cond) c.count_wait-tallies.result.value.called.items c.count_wait-tallies.result.value.woken.items) own
+    (subst (λ n. AreKept n g.N.LotName.conds (counts_one_wait_more (counts_in c.given_back-right.result.0) c.args.cond) c.count_wait-tallies.result.value.called.items c.count_wait-tallies.result.value.woken.items) own
     (c.count_wait-tallies.ensures g.N.LotName.conds (counts_in c.given_back-right.result.0) (omega (arith, own, locks, from), omega (arith, own, locks, below, conds))
     (subst (λ n. AreKept n g.N.LotName.conds (counts_in c.given_back-right.result.0) c.given_back-right.result.1.value.called.items c.given_back-right.result.1.value.woken.items) (sym own)
     c.given_back-right.ensures.kept)))
@@ -33,8 +33,8 @@ taken-requires-clause-kept g c κs within =
 pub returns-clause-gets : goal.returns-clause-gets
 returns-clause-gets g c =
     let b = c.given_back-right.ensures in
-    subst (λ p. Gets g.V.Keeps (waking (leaving p c.args.held.key c.args.held.value) c.args.cond) c.args.held.key c.taken.result.1 c.taken.result.0) b.same
-    (subst (λ k. Gets g.V.Keeps (waking (leaving (sees c.given_back-right.result.0) k c.args.held.value) c.args.cond) k c.taken.result.1 c.taken.result.0) c.key-key.ensures
+    subst (λ p. Gets g.V.Keeps (view_one_wait_more (letting_go p c.args.held.key c.args.held.value) c.args.cond) c.args.held.key c.taken.result.1 c.taken.result.0) b.same
+    (subst (λ k. Gets g.V.Keeps (view_one_wait_more (letting_go (pass_view_of c.given_back-right.result.0) k c.args.held.value) c.args.cond) k c.taken.result.1 c.taken.result.0) c.key-key.ensures
     (gets_waited g.V.Keeps _ c.given_back-right.result.0 c.wait-right.result.0 c.taken.result.1 c.args.cond c.key-key.result c.args.held.value c.wait-right.result.1
     b.locks b.owner b.lies c.wait-right.ensures.waited c.taken.ensures.held.0 c.taken.ensures.held.1 c.taken.result.0 c.taken.ensures.pass))
 

@@ -3,13 +3,13 @@ use Rattle.lot_core.specs.Steps.{dequeued_count}
 use Rattle.lot_events.specs.declared.events.Event.TheVariants.{Call}
 use Rattle.lot_events.specs.declared.events.Seen.TheVariants.{Count}
 use Rattle.lot_rights.specs.declared.views.Access.TheVariants.{Makes}
-use Rattle.lot_rights.specs.declared.views.RootView.{RootView}
+use Rattle.lot_rights.specs.declared.views.RootRight.{RootRight}
 use Rattle.lot_rights.specs.Layout.{word_at}
 use Rattle.lot_rights.specs.Steps.{AllowsBoth}
 use Rattle.lot_rights.proofs.Places.{both_at_place}
 use Rattle.lot_whole.specs.declared.views.LotRootView.{LotRootView}
-use Rattle.lot_whole.specs.Rule.{size_of, scheme}
-use Rattle.lot_conds.specs.Calls.{took}
+use Rattle.lot_whole.specs.Rule.{size_of, meaning}
+use Rattle.lot_conds.specs.Calls.{called_more}
 use Rattle.lot_conds.proofs.Names.{call_names}
 use Rattle.lot_whole.proofs.Carries.{CallsSome, call_loads, call_stores}
 use Rattle.lot_whole.specs.Calls.{NotesIn, cond_of}
@@ -23,9 +23,9 @@ load_both-pass-requires-clause-allows g c =
     let start = c.self.inside.words.key in
     let p = c.args.pass.pass in
     let q = c.args.root.root in
-    both_at_place (scheme g.V.Keeps start) (word_at q.key) _ c.word-word.ensures.is (λ n. n) p q
+    both_at_place (meaning g.V.Keeps start) (word_at q.key) _ c.word-word.ensures.is (λ n. n) p q
     (λ _. CallsSome p (cond_of q) c.args.count c.args.more)
-    (subst (λ r. AllowsBoth (scheme g.V.Keeps start) (word_at q.key) (λ n. n) p r (λ _. CallsSome p (cond_of q) c.args.count c.args.more))
+    (subst (λ r. AllowsBoth (meaning g.V.Keeps start) (word_at q.key) (λ n. n) p r (λ _. CallsSome p (cond_of q) c.args.count c.args.more))
     (cond_root q c.requires.cond)
     (call_loads g.V.Keeps (size_of start) start.values.value.items p
     (cond_of q) c.requires.idle c.args.count c.args.more c.requires.count c.requires.more c.if-more.true
@@ -34,7 +34,7 @@ load_both-pass-requires-clause-allows g c =
 pub load_both-pass-requires-clause-names : goal.load_both-pass-requires-clause-names
 load_both-pass-requires-clause-names g c n p' q' told u h =
     cond_named c.args.root.root.own q'.own u (u ≡ c.args.pass.pass.thread) c.requires.cond _
-    (ap (λ (z : RootView LotRootView). z.own) told.1)
+    (ap (λ (z : RootRight LotRootView). z.own) told.1)
     (λ named. inl (call_names (cond_of c.args.root.root).own _ c.args.count u refl named)) h
 
 pub store_both-requires-clause-allows : goal.store_both-requires-clause-allows
@@ -46,9 +46,9 @@ store_both-requires-clause-allows g c =
       | else-more-via-then-more+else-taken-gt0 w ↦ inl (let e = c.requires.taken in let none = w.if-taken-gt0.false in omega arith)
       | else-more-via-else-more w ↦ inr w.if-more.false
     ] in
-    both_at_place (scheme g.V.Keeps start) (word_at q.key) _ c.word-word.ensures.is (λ _. 0) p q
+    both_at_place (meaning g.V.Keeps start) (word_at q.key) _ c.word-word.ensures.is (λ _. 0) p q
     (λ _. CallsSome p (cond_of q) c.args.count c.args.more)
-    (subst (λ r. AllowsBoth (scheme g.V.Keeps start) (word_at q.key) (λ _. 0) p r (λ _. CallsSome p (cond_of q) c.args.count c.args.more))
+    (subst (λ r. AllowsBoth (meaning g.V.Keeps start) (word_at q.key) (λ _. 0) p r (λ _. CallsSome p (cond_of q) c.args.count c.args.more))
     (cond_root q c.requires.cond)
     (call_stores g.V.Keeps (size_of start) start.values.value.items p
     (cond_of q) c.requires.idle c.args.count c.args.more c.requires.count c.requires.more last))
@@ -56,14 +56,14 @@ store_both-requires-clause-allows g c =
 pub store_both-requires-clause-names : goal.store_both-requires-clause-names
 store_both-requires-clause-names g c n p' q' told u h =
     cond_named c.args.root.root.own q'.own u (u ≡ c.args.pass.pass.thread) c.requires.cond _
-    (ap (λ (z : RootView LotRootView). z.own) told.1)
+    (ap (λ (z : RootRight LotRootView). z.own) told.1)
     (λ named. inl (call_names (cond_of c.args.root.root).own _ c.args.count u refl named)) h
 
 pub returns-then-taken-gt0-clause-event : goal.returns-then-taken-gt0-clause-event
 returns-then-taken-gt0-clause-event g c =
     let p = c.args.pass.pass in
     let q = c.args.root.root in
-    subst (λ k. NotesIn cond p (took p.own.conds q.key k)
+    subst (λ k. NotesIn cond p (called_more p.own.conds q.key k)
     (Makes (Call p.thread q.key c.args.count c.args.more) (Count k)) c.load_both-pass.result.0.pass) c.requires.taken
     c.load_both-pass.ensures.told.0
 
@@ -74,7 +74,7 @@ pub returns-else-more-clause-event : goal.returns-else-more-clause-event
 returns-else-more-clause-event g c =
     let p = c.args.pass.pass in
     let q = c.args.root.root in
-    subst (λ k. NotesIn cond p (took p.own.conds q.key k)
+    subst (λ k. NotesIn cond p (called_more p.own.conds q.key k)
     (Makes (Call p.thread q.key c.args.count c.args.more) (Count k)) c.store_both.result.0.pass) c.requires.taken
     c.store_both.ensures.told.0
 

@@ -1,7 +1,7 @@
 use Rattle.std.proofs.Common.{arith}
 use Rattle.lot_rights.specs.Layout.{letter_at}
 use Rattle.lot_rights.proofs.Places.{pass_at_place}
-use Rattle.lot_whole.specs.Rule.{size_of, scheme}
+use Rattle.lot_whole.specs.Rule.{size_of, meaning}
 use Rattle.lot_whole.proofs.Letters.{Collecting, collected_none, collected_some, collects}
 use Rattle.lot_whole.proofs.words.LotWords.collect.Goals as goal
 
@@ -9,7 +9,7 @@ pub swap-pass-requires-clause-allows : goal.swap-pass-requires-clause-allows
 swap-pass-requires-clause-allows g c =
     let start = c.self.inside.words.key in
     let p = c.args.pass.pass in
-    pass_at_place (scheme g.V.Keeps start) (letter_at p.thread) _ c.letter-place.ensures.is (λ _. 0) p (Collecting g.V.Keeps p)
+    pass_at_place (meaning g.V.Keeps start) (letter_at p.thread) _ c.letter-place.ensures.is (λ _. 0) p (Collecting g.V.Keeps p)
     (collects g.V.Keeps (size_of start) start.values.value.items p)
 
 pub returns-then-letter-eq-NO_LETTER-clause-letter : goal.returns-then-letter-eq-NO_LETTER-clause-letter

@@ -1,10 +1,10 @@
 use Rattle.std.proofs.Common.{◌≡◌, ◌<◌, ap, subst, sym, refl}
-use Rattle.lot_rights.specs.declared.views.RootView.{RootView}
+use Rattle.lot_rights.specs.declared.views.RootRight.{RootRight}
 use Rattle.lot_rights.specs.Layout.{word_at}
 use Rattle.lot_rights.specs.Steps.{AllowsBoth}
 use Rattle.lot_rights.proofs.Places.{both_at_place}
 use Rattle.lot_whole.specs.declared.views.LotRootView.{LotRootView}
-use Rattle.lot_whole.specs.Rule.{size_of, scheme}
+use Rattle.lot_whole.specs.Rule.{size_of, meaning}
 use Rattle.lot_whole.specs.Shown.{LotWordsShown}
 use Rattle.lot_conds.proofs.Names.{enlist_names}
 use Rattle.lot_whole.proofs.Carries.{Enlists, enlists}
@@ -18,15 +18,15 @@ store_both-requires-clause-allows g c =
     let p = c.args.pass.pass in
     let q = c.args.root.root in
     let near = subst (λ (z : LotWordsShown g.row.V.Denot). c.args.lock < z.size.locks) (sym c.self.view_is) c.requires.lock.0 in
-    both_at_place (scheme g.V.Keeps start) (word_at q.key) _ c.word-word.ensures.is (λ _. 1) p q (λ _. Enlists p (cond_of q) c.args.lock)
-    (subst (λ r. AllowsBoth (scheme g.V.Keeps start) (word_at q.key) (λ _. 1) p r (λ _. Enlists p (cond_of q) c.args.lock))
+    both_at_place (meaning g.V.Keeps start) (word_at q.key) _ c.word-word.ensures.is (λ _. 1) p q (λ _. Enlists p (cond_of q) c.args.lock)
+    (subst (λ r. AllowsBoth (meaning g.V.Keeps start) (word_at q.key) (λ _. 1) p r (λ _. Enlists p (cond_of q) c.args.lock))
     (cond_root q c.requires.cond)
     (enlists g.V.Keeps (size_of start) start.values.value.items p (cond_of q) c.requires.idle c.args.lock near c.requires.lock.1))
 
 pub store_both-requires-clause-names : goal.store_both-requires-clause-names
 store_both-requires-clause-names g c n p' q' told u h =
     cond_named c.args.root.root.own q'.own u (u ≡ c.args.pass.pass.thread) c.requires.cond _
-    (ap (λ (z : RootView LotRootView). z.own) told.1)
+    (ap (λ (z : RootRight LotRootView). z.own) told.1)
     (λ named. enlist_names (cond_of c.args.root.root).own _ c.args.pass.pass.thread u refl named) h
 
 pub returns-clause-event : goal.returns-clause-event

@@ -1,5 +1,5 @@
 use Rattle.std.proofs.Common.{sym, ap, subst, ◌∙◌, ◌<◌}
-use Rattle.lot_rights.specs.declared.views.PassView.{PassView}
+use Rattle.lot_rights.specs.declared.views.PassRight.{PassRight}
 use Rattle.lot_words.specs.declared.views.LockPassView.{LockPassView}
 use Rattle.lot_words.specs.declared.views.Place.TheVariants.{Moving}
 use Rattle.lot_words.specs.Values.{place_of}
@@ -33,7 +33,7 @@ returns-clause-pass g c =
     let twice = ap (λ (o : LockPassView _). let r : LotPassView _ = record p.own { locks = o } in r)
     (placed_twice p.own.locks c.args.key Moving (place_of c.args.new)) in
     let own = told.2 ∙ (ap (λ z. placed_in z c.args.key (place_of c.args.new)) told.1.0 ∙ twice) in
-    (c.exchange.ensures.table, c.exchange.ensures.same ∙ ap (λ z. let q : PassView _ = record p { own = z } in q) own)
+    (c.exchange.ensures.table, c.exchange.ensures.same ∙ ap (λ z. let q : PassRight _ = record p { own = z } in q) own)
 
 pub returns-clause-found : goal.returns-clause-found
 returns-clause-found g c = c.exchange.ensures.told.1.1

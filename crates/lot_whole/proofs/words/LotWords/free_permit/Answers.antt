@@ -2,11 +2,11 @@ use Rattle.std.proofs.Common.{◌==◌, ◌+◌, ◌%◌, ◌^◌, sym, subst, i
 use Rattle.std.proofs.lemmas.Nat.{and_mask}
 use prog.Atomic.{either}
 use Rattle.lot_events.specs.declared.events.Event.TheVariants.{SemFree}
-use Rattle.lot_sems.specs.Calls.{gave, IsUnmarked}
+use Rattle.lot_sems.specs.Calls.{one_permit_less, IsUnmarked}
 use Rattle.lot_rights.specs.Layout.{word_at}
 use Rattle.lot_rights.proofs.Places.{pass_at_place}
 use Rattle.lot_whole.specs.Family.{sem, IsKeyIn}
-use Rattle.lot_whole.specs.Rule.{size_of, scheme}
+use Rattle.lot_whole.specs.Rule.{size_of, meaning}
 use Rattle.lot_whole.specs.Shown.{LotWordsShown}
 use Rattle.lot_whole.specs.Standing.{MayGive}
 use Rattle.lot_whole.specs.Calls.{FindsOf}
@@ -19,7 +19,7 @@ load-pass-requires-clause-allows g c =
     let key = c.args.key in
     let p = c.args.pass.pass in
     let among = subst (λ (z : LotWordsShown g.row.V.Denot). IsKeyIn z.size sem key) (sym c.self.view_is) c.requires.key in
-    pass_at_place (scheme g.V.Keeps start) (word_at key) _ c.word_of_key-word.ensures (λ n. n) p (FindsOf p key)
+    pass_at_place (meaning g.V.Keeps start) (word_at key) _ c.word_of_key-word.ensures (λ n. n) p (FindsOf p key)
     (looks g.V.Keeps (size_of start) start.values.value.items p key among)
 
 pub compare_exchange-pass-requires-clause-allows : goal.compare_exchange-pass-requires-clause-allows
@@ -32,8 +32,8 @@ compare_exchange-pass-requires-clause-allows g c =
     let among = subst (λ (z : LotWordsShown g.row.V.Denot). IsKeyIn z.size sem key) (sym c.self.view_is) c.requires.key in
     let may = after_look p r key seen c.load-pass.ensures.told (λ own. MayGive own key) c.requires.may in
     let clear : IsUnmarked seen = omega (arith, and_mask seen 1, c.if-seen-ne0.false) in
-    pass_at_place (scheme g.V.Keeps start) (word_at key) _ c.word_of_key-word.ensures (λ n. either (n == seen) ((seen + 2) % 2 ^ 64) n) r
-    (Swaps r key (gave r.own.sems key) (SemFree r.thread key) seen)
+    pass_at_place (meaning g.V.Keeps start) (word_at key) _ c.word_of_key-word.ensures (λ n. either (n == seen) ((seen + 2) % 2 ^ 64) n) r
+    (Swaps r key (one_permit_less r.own.sems key) (SemFree r.thread key) seen)
     (frees g.V.Keeps (size_of start) start.values.value.items r key among may seen clear)
 
 pub returns-then-seen-ne0-clause-entries : goal.returns-then-seen-ne0-clause-entries

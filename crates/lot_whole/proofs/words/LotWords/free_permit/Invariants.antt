@@ -1,5 +1,5 @@
 use Rattle.lot_events.specs.declared.events.Event.TheVariants.{SemFree}
-use Rattle.lot_sems.specs.Calls.{gave}
+use Rattle.lot_sems.specs.Calls.{one_permit_less}
 use Rattle.lot_whole.proofs.Seekers.{Swaps}
 use Rattle.lot_whole.specs.Calls.{FindsOf}
 use Rattle.lot_whole.proofs.words.LotWords.free_permit.Given as goal
@@ -9,4 +9,4 @@ ghosts-load g a = record { then = FindsOf a.pass.pass a._about }
 
 abbrev pub ghosts-compare_exchange : goal.ghosts-compare_exchange
 ghosts-compare_exchange g a = let p =
-    a.pass.pass in record { then = Swaps p a._about (gave p.own.sems a._about) (SemFree p.thread a._about) a.old }
+    a.pass.pass in record { then = Swaps p a._about (one_permit_less p.own.sems a._about) (SemFree p.thread a._about) a.old }

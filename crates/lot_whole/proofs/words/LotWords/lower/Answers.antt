@@ -2,7 +2,7 @@ use Rattle.std.proofs.Common.{sym, subst}
 use Rattle.lot_rights.specs.Layout.{word_at}
 use Rattle.lot_rights.proofs.Places.{pass_at_place}
 use Rattle.lot_whole.specs.Family.{cond, IsKeyIn}
-use Rattle.lot_whole.specs.Rule.{size_of, scheme}
+use Rattle.lot_whole.specs.Rule.{size_of, meaning}
 use Rattle.lot_whole.specs.Shown.{LotWordsShown}
 use Rattle.lot_whole.proofs.Carries.{Lowers, lowers}
 use Rattle.lot_whole.proofs.words.LotWords.lower.Goals as goal
@@ -13,7 +13,7 @@ store-requires-clause-allows g c =
     let key = c.args.key in
     let p = c.args.pass.pass in
     let here = subst (λ (z : LotWordsShown g.row.V.Denot). IsKeyIn z.size cond key) (sym c.self.view_is) c.requires.key in
-    pass_at_place (scheme g.V.Keeps start) (word_at key) _ c.word_of_key.ensures (λ _. 0) p (λ _. Lowers p key)
+    pass_at_place (meaning g.V.Keeps start) (word_at key) _ c.word_of_key.ensures (λ _. 0) p (λ _. Lowers p key)
     (lowers g.V.Keeps (size_of start) start.values.value.items p key here c.requires.idle)
 
 pub returns-clause-event : goal.returns-clause-event

@@ -3,7 +3,7 @@ use prog.Atomic.{either}
 use Rattle.lot_rights.specs.Layout.{word_at}
 use Rattle.lot_rights.proofs.Places.{pass_at_place}
 use Rattle.lot_whole.specs.Family.{sem, IsKeyIn}
-use Rattle.lot_whole.specs.Rule.{size_of, scheme}
+use Rattle.lot_whole.specs.Rule.{size_of, meaning}
 use Rattle.lot_whole.specs.Shown.{LotWordsShown}
 use Rattle.lot_whole.proofs.Seekers.{MarksPermit, marks}
 use Rattle.lot_whole.proofs.words.LotWords.mark_permit.Goals as goal
@@ -14,7 +14,7 @@ compare_exchange-pass-requires-clause-allows g c =
     let key = c.args.key in
     let p = c.args.pass.pass in
     let among = subst (λ (z : LotWordsShown g.row.V.Denot). IsKeyIn z.size sem key) (sym c.self.view_is) c.requires.key in
-    pass_at_place (scheme g.V.Keeps start) (word_at key) _ c.word_of_key-word.ensures (λ n. either (n == 0) 1 n) p (MarksPermit p key)
+    pass_at_place (meaning g.V.Keeps start) (word_at key) _ c.word_of_key-word.ensures (λ n. either (n == 0) 1 n) p (MarksPermit p key)
     (marks g.V.Keeps (size_of start) start.values.value.items p key among c.requires.seeks)
 
 pub returns-clause-entry : goal.returns-clause-entry

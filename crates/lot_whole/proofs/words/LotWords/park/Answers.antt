@@ -1,10 +1,10 @@
 use Rattle.std.proofs.Common.{◌≡◌, ap, subst, refl}
-use Rattle.lot_rights.specs.declared.views.RootView.{RootView}
+use Rattle.lot_rights.specs.declared.views.RootRight.{RootRight}
 use Rattle.lot_rights.specs.Layout.{word_at}
 use Rattle.lot_rights.specs.Steps.{AllowsBoth}
 use Rattle.lot_rights.proofs.Places.{both_at_place}
 use Rattle.lot_whole.specs.declared.views.LotRootView.{LotRootView}
-use Rattle.lot_whole.specs.Rule.{size_of, scheme}
+use Rattle.lot_whole.specs.Rule.{size_of, meaning}
 use Rattle.lot_words.proofs.Names.{park_names}
 use Rattle.lot_whole.specs.Calls.{lock_of}
 use Rattle.lot_whole.proofs.Carries.{Parks, parks}
@@ -16,14 +16,14 @@ load_both-pass-requires-clause-allows g c =
     let start = c.self.inside.words.key in
     let p = c.args.pass.pass in
     let q = c.args.root.root in
-    both_at_place (scheme g.V.Keeps start) (word_at q.key) _ c.word-word.ensures.is (λ n. n) p q (Parks p (lock_of q))
-    (subst (λ r. AllowsBoth (scheme g.V.Keeps start) (word_at q.key) (λ n. n) p r (Parks p (lock_of q))) (lock_root q c.requires.lock)
+    both_at_place (meaning g.V.Keeps start) (word_at q.key) _ c.word-word.ensures.is (λ n. n) p q (Parks p (lock_of q))
+    (subst (λ r. AllowsBoth (meaning g.V.Keeps start) (word_at q.key) (λ n. n) p r (Parks p (lock_of q))) (lock_root q c.requires.lock)
     (parks g.V.Keeps (size_of start) start.values.value.items p (lock_of q) c.requires.may))
 
 pub load_both-pass-requires-clause-names : goal.load_both-pass-requires-clause-names
 load_both-pass-requires-clause-names g c n p' q' told u h =
     lock_named c.args.root.root.own q'.own u (u ≡ c.args.pass.pass.thread) c.requires.lock _
-    (ap (λ (z : RootView LotRootView). z.own) told.1)
+    (ap (λ (z : RootRight LotRootView). z.own) told.1)
     (λ named. park_names (lock_of c.args.root.root).own _ c.args.pass.pass.thread u _ refl named) h
 
 pub returns-clause-event : goal.returns-clause-event

@@ -3,13 +3,13 @@ use Rattle.lot_core.specs.Steps.{first}
 use Rattle.lot_events.specs.declared.events.Event.TheVariants.{Pass}
 use Rattle.lot_events.specs.declared.events.Seen.TheVariants.{Sleeper}
 use Rattle.lot_rights.specs.declared.views.Access.TheVariants.{Makes}
-use Rattle.lot_rights.specs.declared.views.RootView.{RootView}
+use Rattle.lot_rights.specs.declared.views.RootRight.{RootRight}
 use Rattle.lot_rights.specs.Layout.{word_at}
 use Rattle.lot_rights.specs.Steps.{AllowsBoth}
 use Rattle.lot_rights.proofs.Places.{both_at_place}
 use Rattle.lot_whole.specs.declared.views.LotRootView.{LotRootView}
-use Rattle.lot_whole.specs.Rule.{size_of, scheme}
-use Rattle.lot_words.specs.Calls.{let_go, passed_root, word_left}
+use Rattle.lot_whole.specs.Rule.{size_of, meaning}
+use Rattle.lot_words.specs.Calls.{letting_go, passed_root, word_left}
 use Rattle.lot_words.proofs.Names.{pass_names}
 use Rattle.lot_whole.specs.Family.{lock}
 use Rattle.lot_whole.specs.Lifts.{whole_root}
@@ -23,9 +23,9 @@ load_both-pass-requires-clause-allows g c =
     let start = c.self.inside.words.key in
     let p = c.args.pass.pass in
     let q = c.args.root.root in
-    both_at_place (scheme g.V.Keeps start) (word_at q.key) _ c.word-word.ensures.is (λ n. n) p q
+    both_at_place (meaning g.V.Keeps start) (word_at q.key) _ c.word-word.ensures.is (λ n. n) p q
     (λ _. Passes p (lock_of q) true c.args.more)
-    (subst (λ r. AllowsBoth (scheme g.V.Keeps start) (word_at q.key) (λ n. n) p r (λ _. Passes p (lock_of q) true c.args.more))
+    (subst (λ r. AllowsBoth (meaning g.V.Keeps start) (word_at q.key) (λ n. n) p r (λ _. Passes p (lock_of q) true c.args.more))
     (lock_root q c.requires.lock)
     (passes_load g.V.Keeps (size_of start) start.values.value.items p
     (lock_of q) c.requires.may c.requires.holds c.requires.lies.0 c.requires.lies.1 c.requires.first.1 c.args.more
@@ -34,7 +34,7 @@ load_both-pass-requires-clause-allows g c =
 pub load_both-pass-requires-clause-names : goal.load_both-pass-requires-clause-names
 load_both-pass-requires-clause-names g c n p' q' told u h =
     lock_named c.args.root.root.own q'.own u (u ≡ c.args.pass.pass.thread) c.requires.lock _
-    (ap (λ (z : RootView LotRootView). z.own) told.1)
+    (ap (λ (z : RootRight LotRootView). z.own) told.1)
     (λ named. inl (pass_names (lock_of c.args.root.root).own _ true u refl named)) h
 
 pub store_both-requires-clause-allows : goal.store_both-requires-clause-allows
@@ -42,9 +42,9 @@ store_both-requires-clause-allows g c =
     let start = c.self.inside.words.key in
     let p = c.args.pass.pass in
     let q = c.args.root.root in
-    both_at_place (scheme g.V.Keeps start) (word_at q.key) _ c.word-word.ensures.is (λ _. c.word_after-left.result) p q
+    both_at_place (meaning g.V.Keeps start) (word_at q.key) _ c.word-word.ensures.is (λ _. c.word_after-left.result) p q
     (λ _. Passes p (lock_of q) false c.args.more)
-    (subst (λ r. AllowsBoth (scheme g.V.Keeps start) (word_at q.key) (λ _. c.word_after-left.result) p r
+    (subst (λ r. AllowsBoth (meaning g.V.Keeps start) (word_at q.key) (λ _. c.word_after-left.result) p r
     (λ _. Passes p (lock_of q) false c.args.more)) (lock_root q c.requires.lock)
     (passes_store g.V.Keeps (size_of start) start.values.value.items p
     (lock_of q) c.requires.may c.requires.holds c.requires.lies.0 c.requires.lies.1 c.requires.first.1 c.args.more
@@ -54,16 +54,16 @@ store_both-requires-clause-allows g c =
 pub store_both-requires-clause-names : goal.store_both-requires-clause-names
 store_both-requires-clause-names g c n p' q' told u h =
     lock_named c.args.root.root.own q'.own u (u ≡ c.args.pass.pass.thread) c.requires.lock _
-    (ap (λ (z : RootView LotRootView). z.own) told.1)
+    (ap (λ (z : RootRight LotRootView). z.own) told.1)
     (λ named. inl (pass_names (lock_of c.args.root.root).own _ false u refl named)) h
 
 pub returns-then-fair-clause-event : goal.returns-then-fair-clause-event
 returns-then-fair-clause-event g c y lies =
     let p = c.args.pass.pass in
     let q = lock_of c.args.root.root in
-    subst (λ o. NotesIn lock p (let_go p.own.locks q.key y)
+    subst (λ o. NotesIn lock p (letting_go p.own.locks q.key y)
     (Makes (Pass p.thread q.key c.args.fair c.args.more) (Sleeper o)) c.load_both-pass.result.0.pass) c.requires.first.0
-    (subst (λ b. NotesIn lock p (let_go p.own.locks q.key y)
+    (subst (λ b. NotesIn lock p (letting_go p.own.locks q.key y)
     (Makes (Pass p.thread q.key b c.args.more) (Sleeper (first q.own.line))) c.load_both-pass.result.0.pass) (sym c.if-fair.true)
     (c.load_both-pass.ensures.told.0 y lies))
 
@@ -76,9 +76,9 @@ pub returns-else-fair-clause-event : goal.returns-else-fair-clause-event
 returns-else-fair-clause-event g c y lies =
     let p = c.args.pass.pass in
     let q = lock_of c.args.root.root in
-    subst (λ o. NotesIn lock p (let_go p.own.locks q.key y)
+    subst (λ o. NotesIn lock p (letting_go p.own.locks q.key y)
     (Makes (Pass p.thread q.key c.args.fair c.args.more) (Sleeper o)) c.store_both.result.0.pass) c.requires.first.0
-    (subst (λ b. NotesIn lock p (let_go p.own.locks q.key y)
+    (subst (λ b. NotesIn lock p (letting_go p.own.locks q.key y)
     (Makes (Pass p.thread q.key b c.args.more) (Sleeper (first q.own.line))) c.store_both.result.0.pass) (sym c.if-fair.false)
     (c.store_both.ensures.told.0 y lies))
 

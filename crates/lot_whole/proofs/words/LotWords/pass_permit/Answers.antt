@@ -2,16 +2,16 @@ use Rattle.std.proofs.Common.{◌≡◌, ◌+◌, ◌%◌, ◌^◌, ap, subst, s
 use Rattle.lot_events.specs.declared.events.Event.TheVariants.{SemPass}
 use Rattle.lot_events.specs.declared.events.Seen.TheVariants.{Sleeper}
 use Rattle.lot_rights.specs.declared.views.Access.TheVariants.{Makes}
-use Rattle.lot_rights.specs.declared.views.RootView.{RootView}
+use Rattle.lot_rights.specs.declared.views.RootRight.{RootRight}
 use Rattle.lot_rights.specs.Layout.{word_at}
 use Rattle.lot_rights.specs.Steps.{AllowsBoth}
 use Rattle.lot_rights.proofs.Places.{both_at_place}
 use Rattle.lot_whole.specs.declared.views.LotRootView.{LotRootView}
 use Rattle.lot_whole.specs.Family.{sem}
-use Rattle.lot_whole.specs.Rule.{size_of, scheme}
+use Rattle.lot_whole.specs.Rule.{size_of, meaning}
 use Rattle.lot_whole.specs.Calls.{NotesIn, sem_of}
 use Rattle.lot_whole.proofs.Names.{sem_root, sem_named}
-use Rattle.lot_sems.specs.Calls.{gave, raise_of}
+use Rattle.lot_sems.specs.Calls.{one_permit_less, raise_of}
 use Rattle.lot_sems.proofs.Names.{pass_names}
 use Rattle.lot_whole.proofs.Seekers.{PassesPermit, passes}
 use Rattle.lot_whole.proofs.words.LotWords.pass_permit.Goals as goal
@@ -21,9 +21,9 @@ fetch_add_both-pass-requires-clause-allows g c =
     let start = c.self.inside.words.key in
     let p = c.args.pass.pass in
     let q = c.args.root.root in
-    both_at_place (scheme g.V.Keeps start) (word_at q.key) _ c.word-word.ensures.is (λ n. (n + c.raise-given.result) % 2 ^ 64) p q
+    both_at_place (meaning g.V.Keeps start) (word_at q.key) _ c.word-word.ensures.is (λ n. (n + c.raise-given.result) % 2 ^ 64) p q
     (λ _. PassesPermit p (sem_of q) c.args.more)
-    (subst (λ r. AllowsBoth (scheme g.V.Keeps start) (word_at q.key) (λ n. (n + c.raise-given.result) % 2 ^ 64) p r
+    (subst (λ r. AllowsBoth (meaning g.V.Keeps start) (word_at q.key) (λ n. (n + c.raise-given.result) % 2 ^ 64) p r
     (λ _. PassesPermit p (sem_of q) c.args.more)) (sem_root q c.requires.sem)
     (passes g.V.Keeps (size_of start) start.values.value.items p
     (sem_of q) c.requires.may c.requires.first.1 c.args.more c.requires.more c.raise-given.result
@@ -31,14 +31,14 @@ fetch_add_both-pass-requires-clause-allows g c =
 
 pub fetch_add_both-pass-requires-clause-names : goal.fetch_add_both-pass-requires-clause-names
 fetch_add_both-pass-requires-clause-names g c n p' q' told u h =
-    sem_named c.args.root.root.own q'.own u (u ≡ c.args.pass.pass.thread) c.requires.sem _ (ap (λ (z : RootView LotRootView). z.own) told.1)
+    sem_named c.args.root.root.own q'.own u (u ≡ c.args.pass.pass.thread) c.requires.sem _ (ap (λ (z : RootRight LotRootView). z.own) told.1)
     (λ named. inl (pass_names (sem_of c.args.root.root).own _ u refl named)) h
 
 pub returns-clause-entry : goal.returns-clause-entry
 returns-clause-entry g c =
     let p = c.args.pass.pass in
     let q = c.args.root.root in
-    subst (λ o. NotesIn sem p (gave p.own.sems q.key)
+    subst (λ o. NotesIn sem p (one_permit_less p.own.sems q.key)
     (Makes (SemPass p.thread q.key c.args.more) (Sleeper o)) c.fetch_add_both-pass.result.0.pass) c.requires.first.0
     c.fetch_add_both-pass.ensures.told.0
 

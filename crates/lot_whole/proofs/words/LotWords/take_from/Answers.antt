@@ -1,11 +1,11 @@
 use Rattle.std.proofs.Common.{◌==◌, ◌-◌, sym, subst}
 use prog.Atomic.{either}
 use Rattle.lot_events.specs.declared.events.Event.TheVariants.{SemTake}
-use Rattle.lot_sems.specs.Calls.{got}
+use Rattle.lot_sems.specs.Calls.{one_permit_more}
 use Rattle.lot_rights.specs.Layout.{word_at}
 use Rattle.lot_rights.proofs.Places.{pass_at_place}
 use Rattle.lot_whole.specs.Family.{sem, IsKeyIn}
-use Rattle.lot_whole.specs.Rule.{size_of, scheme}
+use Rattle.lot_whole.specs.Rule.{size_of, meaning}
 use Rattle.lot_whole.specs.Shown.{LotWordsShown}
 use Rattle.lot_whole.specs.Calls.{TakesFrom}
 use Rattle.lot_whole.proofs.Seekers.{Swaps, swaps, swapped, unswapped}
@@ -19,8 +19,8 @@ compare_exchange-pass-requires-clause-allows g c =
     let p = c.args.pass.pass in
     let seen = c.args.seen in
     let among = subst (λ (z : LotWordsShown g.row.V.Denot). IsKeyIn z.size sem key) (sym c.self.view_is) c.requires.key in
-    pass_at_place (scheme g.V.Keeps start) (word_at key) _ c.word_of_key.ensures (λ n. either (n == seen) (seen - 2) n) p
-    (Swaps p key (got p.own.sems key) (SemTake p.thread key) seen)
+    pass_at_place (meaning g.V.Keeps start) (word_at key) _ c.word_of_key.ensures (λ n. either (n == seen) (seen - 2) n) p
+    (Swaps p key (one_permit_more p.own.sems key) (SemTake p.thread key) seen)
     (swaps g.V.Keeps (size_of start) start.values.value.items p key among c.requires.may seen c.requires.left)
 
 pub returns-clause-entry : goal.returns-clause-entry
@@ -30,7 +30,7 @@ returns-clause-entry g c =
     let seen = c.args.seen in
     let q = c.compare_exchange-pass.result.0.pass in
     let found = c.compare_exchange-pass.result.1 in
-    let own = got p.own.sems key in
+    let own = one_permit_more p.own.sems key in
     let e = SemTake p.thread key in
     let told = c.compare_exchange-pass.ensures.told in
     elim c.if-found-seen.branch as (λ _. TakesFrom p key seen c.if-found-seen.taken q) [

@@ -2,7 +2,7 @@ use Rattle.std.proofs.Common.{sym, subst}
 use Rattle.lot_rights.specs.Layout.{word_at}
 use Rattle.lot_rights.proofs.Places.{pass_at_place}
 use Rattle.lot_whole.specs.Family.{sem, IsKeyIn}
-use Rattle.lot_whole.specs.Rule.{size_of, scheme}
+use Rattle.lot_whole.specs.Rule.{size_of, meaning}
 use Rattle.lot_whole.specs.Shown.{LotWordsShown}
 use Rattle.lot_whole.specs.Standing.{MayTakePermit}
 use Rattle.lot_whole.proofs.Seekers.{Seeks, seeks, seeks_empty, seeks_left, after_look, taken}
@@ -14,7 +14,7 @@ load-pass-requires-clause-allows g c =
     let key = c.args.key in
     let p = c.args.pass.pass in
     let among = subst (λ (z : LotWordsShown g.row.V.Denot). IsKeyIn z.size sem key) (sym c.self.view_is) c.requires.key in
-    pass_at_place (scheme g.V.Keeps start) (word_at key) _ c.word_of_key.ensures (λ n. n) p (Seeks p key)
+    pass_at_place (meaning g.V.Keeps start) (word_at key) _ c.word_of_key.ensures (λ n. n) p (Seeks p key)
     (seeks g.V.Keeps (size_of start) start.values.value.items p key among c.requires.may)
 
 pub take_from-requires-clause-may : goal.take_from-requires-clause-may

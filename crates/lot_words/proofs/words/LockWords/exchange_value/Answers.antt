@@ -1,8 +1,8 @@
 use Rattle.std.proofs.Common.{sym, ap, subst, ◌∙◌, ◌<◌}
-use Rattle.lot_rights.specs.declared.views.PassView.{PassView}
+use Rattle.lot_rights.specs.declared.views.PassRight.{PassRight}
 use Rattle.lot_words.specs.declared.views.Place.TheVariants.{Moving}
 use Rattle.lot_words.specs.Values.{place_of}
-use Rattle.lot_words.specs.Calls.{placed}
+use Rattle.lot_words.specs.Calls.{placing}
 use Rattle.lot_words.specs.Shown.{LockWordsShown}
 use Rattle.lot_words.proofs.Moving.{leaves, comes_back, placed_twice}
 use Rattle.lot_words.proofs.words.LockWords.exchange_value.Goals as goal
@@ -23,8 +23,8 @@ pub returns-clause-pass : goal.returns-clause-pass
 returns-clause-pass g c =
     let p = c.args.pass.pass in
     let told = c.exchange.ensures.told in
-    let own = told.2 ∙ (ap (λ z. placed z c.args.key (place_of c.args.new)) told.1.0 ∙ placed_twice p.own c.args.key Moving (place_of c.args.new)) in
-    (c.exchange.ensures.table, c.exchange.ensures.same ∙ ap (λ z. let q : PassView _ = record p { own = z } in q) own)
+    let own = told.2 ∙ (ap (λ z. placing z c.args.key (place_of c.args.new)) told.1.0 ∙ placed_twice p.own c.args.key Moving (place_of c.args.new)) in
+    (c.exchange.ensures.table, c.exchange.ensures.same ∙ ap (λ z. let q : PassRight _ = record p { own = z } in q) own)
 
 pub returns-clause-found : goal.returns-clause-found
 returns-clause-found g c = c.exchange.ensures.told.1.1

@@ -4,7 +4,7 @@ use Rattle.std.specs.Vec.{vec_len, vec_capacity}
 use Rattle.lot_core.specs.declared.state.TheConstants.{MAX_THREADS, MAX_KEYS}
 use Rattle.lot_rights.specs.Layout.{word_count}
 use Rattle.lot_rights.specs.Start.{OpensWell, Begins}
-use Rattle.lot_words.specs.Rule.{scheme}
+use Rattle.lot_words.specs.Rule.{meaning}
 use Rattle.lot_words.specs.Shelf.{AllSome}
 use Rattle.lot_words.specs.Shown.{pass_at, root_at}
 use Rattle.lot_words.proofs.Opens.{opens_well}
@@ -22,8 +22,8 @@ open-requires-clause-opens g c =
     let long : size.locks ≡ length ys = omega (arith, c.new-start.ensures.size.1, c.args.values.ok, ap length same) in
     let well = opens_well g.V.Keeps size.threads (omega (arith, threads, c.requires.limits)) size.locks ys
     (omega (arith, c.new-start.ensures.size.1, c.requires.limits)) long keep in
-    subst (λ ws. OpensWell (scheme g.V.Keeps size ys) ws c.shelve.new.slots.items) (λ i. replicate (word_count (threads i) (0 + locks i)) 0)
-    (subst (OpensWell (scheme g.V.Keeps size ys) (replicate (word_count size.threads (0 + size.locks)) 0))
+    subst (λ ws. OpensWell (meaning g.V.Keeps size ys) ws c.shelve.new.slots.items) (λ i. replicate (word_count (threads i) (0 + locks i)) 0)
+    (subst (OpensWell (meaning g.V.Keeps size ys) (replicate (word_count size.threads (0 + size.locks)) 0))
     (ap (map (λ (x : g.row.V.Denot). Some x)) same ∙ sym c.shelve.ensures.slots) well)
 
 pub unshelve-requires-clause-full : goal.unshelve-requires-clause-full
@@ -60,8 +60,8 @@ returns-in-Ok-open-clause-rule g c =
     ∙ (c.len-locks.ensures ∙ sym (ap (λ z. z.size.locks) c.in-Ok-open.ensures.table.2 ∙ c.new-start.ensures.size.1)) in
     let slots : c.shelve.new.slots.items ≡ map (λ (x : g.row.V.Denot). Some x) key.values.value.items = c.shelve.ensures.slots
     ∙ ap (map (λ (x : g.row.V.Denot). Some x)) (sym (ap (λ z. z.values.value.items) c.in-Ok-open.ensures.table.2 ∙ ap (λ v. v.items) c.new-start.ensures.values)) in
-    subst (λ xs. Begins (scheme g.V.Keeps key.size key.values.value.items) (replicate (word_count key.size.threads key.size.locks) 0) xs) slots
-    (subst (λ ws. Begins (scheme g.V.Keeps key.size key.values.value.items) ws c.shelve.new.slots.items) (λ i. replicate (word_count (threads i) (locks i)) 0)
+    subst (λ xs. Begins (meaning g.V.Keeps key.size key.values.value.items) (replicate (word_count key.size.threads key.size.locks) 0) xs) slots
+    (subst (λ ws. Begins (meaning g.V.Keeps key.size key.values.value.items) ws c.shelve.new.slots.items) (λ i. replicate (word_count (threads i) (locks i)) 0)
     c.in-Ok-open.ensures.rule)
 
 pub invariant_of-result : goal.invariant_of-result
