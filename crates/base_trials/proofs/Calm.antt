@@ -20,7 +20,8 @@ use Rattle.lot_whole.specs.Closing.{HasDone}
 use Rattle.lot_whole.specs.Family.{lock, cond, sem}
 use Rattle.lot_whole.specs.Standing.{IsAwake, IsIdle, IsUp, MayTake, MayPark, MaySweep}
 use Rattle.lot_whole.specs.Whole.{rises}
-use Rattle.lot_scheme.specs.Standing.{LotStanding, standing_shown, adding, wanting, owning, called_more as stand_called_more, setting_out, swept, IsLooked}
+use Rattle.lot_scheme.specs.Standing.{LotStanding, standing_shown, adding, wanting, owning, called_more as stand_called_more, setting_out}
+use Rattle.lot_scheme.specs.Standing.{swept, IsLooked}
 use Rattle.lot_scheme.specs.LockCalls.{GetsLock}
 use Rattle.lot_scheme.specs.Words.{IsSeek, word_of_all, word_of_nobody}
 use Rattle.lot_locks.specs.declared.released.Released.{Released}
@@ -197,7 +198,8 @@ module _ {V : Type 0} where
   pub calm_itself : (t : ℕ) (p : LotStanding V) → IsCalm t p → IsCalm p.thread p
   calm_itself t p calm = subst (λ u. IsCalm u p) (sym calm.there.thread) calm
 
-  pub may_wait : (locks first_sem t c l : ℕ) (p : LotStanding V) → locks ≤ c → c < first_sem → l < locks → HasIt t l p → MayEnlist locks first_sem p c l
+  pub may_wait : (locks first_sem t c l : ℕ) (p : LotStanding V) → locks ≤ c → c < first_sem → l < locks → HasIt t l p
+      → MayEnlist locks first_sem p c l
   may_wait locks first_sem t c l p from below near has = record {
     cond = (from, below);
     lock = near;
@@ -267,7 +269,8 @@ module _ {V Part : Type 0} (rule : CallersRule V Part) where
   -- it slept, and has not got its lock yet; and then it has it again
   pub slept_takes : (locks first_sem c l : ℕ) (became : Released) (p s : LotStanding V) → MayEnlist locks first_sem p c l
       → Slept {P = LotStanding V} Enlists LetsGo (IsLooked rule) p c l became s → MayTake s.own l
-  slept_takes locks first_sem c l became p s may slept = takes locks first_sem p s c l became may (rested rule locks first_sem p s c l became may slept)
+  slept_takes locks first_sem c l became p s may slept =
+      takes locks first_sem p s c l became may (rested rule locks first_sem p s c l became may slept)
 
   pub slept_thread : (locks first_sem c l : ℕ) (became : Released) (p s : LotStanding V) → MayEnlist locks first_sem p c l
       → Slept {P = LotStanding V} Enlists LetsGo (IsLooked rule) p c l became s → s.thread ≡ p.thread
@@ -298,16 +301,20 @@ module _ {V : Type 0} where
   notified_calm t c n taken p q calm (inl (none, is)) = looked_calm t p q (word_of_nobody p.thread c) calm is
   notified_calm t c n taken p q calm (inr (did, word, is)) = took_calm t c taken p q did calm is
 
-  pub notified_counts : (c n taken : ℕ) (p q : LotStanding V) → Notifies p c n taken q → counts_in q ≡ counts_called_more (counts_in p) c taken
-  notified_counts c n taken p q (inl (none, is)) = ap counts_in is ∙ (sym (took_none p c) ∙ ap (λ k. counts_called_more (counts_in p) c k) (sym none))
+  pub notified_counts : (c n taken : ℕ) (p q : LotStanding V) → Notifies p c n taken q
+      → counts_in q ≡ counts_called_more (counts_in p) c taken
+  notified_counts c n taken p q (inl (none, is)) =
+      ap counts_in is ∙ (sym (took_none p c) ∙ ap (λ k. counts_called_more (counts_in p) c k) (sym none))
   notified_counts c n taken p q (inr (did, word, is)) = ap counts_in is
 
   pub all_notified_calm : (t c taken : ℕ) (p q : LotStanding V) → IsCalm t p → NotifiesAll p c taken q → IsCalm t q
   all_notified_calm t c taken p q calm (inl (none, is)) = looked_calm t p q (word_of_nobody p.thread c) calm is
   all_notified_calm t c taken p q calm (inr is) = took_calm t c taken p q (word_of_all p.thread c taken) calm is
 
-  pub all_notified_counts : (c taken : ℕ) (p q : LotStanding V) → NotifiesAll p c taken q → counts_in q ≡ counts_called_more (counts_in p) c taken
-  all_notified_counts c taken p q (inl (none, is)) = ap counts_in is ∙ (sym (took_none p c) ∙ ap (λ k. counts_called_more (counts_in p) c k) (sym none))
+  pub all_notified_counts : (c taken : ℕ) (p q : LotStanding V) → NotifiesAll p c taken q
+      → counts_in q ≡ counts_called_more (counts_in p) c taken
+  all_notified_counts c taken p q (inl (none, is)) =
+      ap counts_in is ∙ (sym (took_none p c) ∙ ap (λ k. counts_called_more (counts_in p) c k) (sym none))
   all_notified_counts c taken p q (inr is) = ap counts_in is
 
 -- who took nobody has counted as before

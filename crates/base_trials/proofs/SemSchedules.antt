@@ -11,7 +11,8 @@ use Rattle.lot_sems.specs.World.{Numbers, key_count}
 use Rattle.lot_sems.specs.Rule.{meaning}
 use Rattle.base_trials.specs.SemSchedules.{IsOne, IsFree, HasLine}
 
-pub opened_one : (size : Numbers) (n : ℕ) (xs : List ℕ) → size ≡ record { threads = n; first_sem = 1; permits = xs } → length xs ≡ 1 → IsOne size
+pub opened_one : (size : Numbers) (n : ℕ) (xs : List ℕ) → size ≡ record { threads = n; first_sem = 1; permits = xs }
+    → length xs ≡ 1 → IsOne size
 opened_one size n xs e one = (ap (λ (y : Numbers). y.first_sem) e, ap (λ (y : Numbers). length y.permits) e ∙ one)
 
 module _ (size : Numbers) (z : TableId) (is_one : IsOne size) where

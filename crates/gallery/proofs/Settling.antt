@@ -1,5 +1,6 @@
 -- What a transfer between two accounts keeps, and what the accounts have together at the end.
-use Rattle.std.proofs.Common.{◌≡◌, ◌≢◌, ℕ, ◌+◌, ◌*◌, ◌<◌, true, false, List, [], ◌∷◌, zero, suc, length, length-set, get_or, set, get_or-set_other, get_or-set_same, slice_get, Some, refl, sym, ap, subst, ◌∙◌, ⊎_elim, arith}
+use Rattle.std.proofs.Common.{◌≡◌, ◌≢◌, ℕ, ◌+◌, ◌*◌, ◌<◌, true, false, List, [], ◌∷◌, zero, suc, length, length-set, get_or, set}
+use Rattle.std.proofs.Common.{get_or-set_other, get_or-set_same, slice_get, Some, refl, sym, ap, subst, ◌∙◌, ⊎_elim, arith}
 use Rattle.std.specs.List.{sum_by, Any}
 use Rattle.std.proofs.lemmas.Option.{slice_get_within}
 use Rattle.std.proofs.lemmas.List.Sums.{sum_by-cons}
@@ -13,7 +14,8 @@ use Rattle.lot_sync.specs.Holding.{Holding, HoldingBoth}
 use Rattle.lot_sync.proofs.Holdings.{got_holds, got_both, left_second, left_all}
 use Rattle.lot_calls.specs.Finished.{IsReady, IsFinished}
 use Rattle.gallery.specs.declared.accounts.Account.{Account}
-use Rattle.gallery.specs.Accounts.{IsBooked, IsEven, MovesOut, MovesIn, Settles, HasBoth, in_by, out_by, moved_by, balance_of, opening_of, StaysOpenedAs, AreOpenedAs}
+use Rattle.gallery.specs.Accounts.{IsBooked, IsEven, MovesOut, MovesIn, Settles, HasBoth, in_by, out_by, moved_by, balance_of, opening_of}
+use Rattle.gallery.specs.Accounts.{StaysOpenedAs, AreOpenedAs}
 use Rattle.gallery.proofs.Sums.{sum_same, sum_put, sum_alike, sum_four}
 
 -- ---- both accounts after a transfer

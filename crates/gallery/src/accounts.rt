@@ -1,8 +1,10 @@
 //! Accounts: a transfer under two locks, and at the end the sum is the sum at the beginning.
-ghost use Rattle.std.specs.Prelude.{◌≡◌, ◌≢◌, ◌<◌, ◌≤◌, ◌+◌, ◌*◌, ◌^◌, ℕ, IfOk, IfSome, MatchBool, length, vec_len, vec_capacity};
+ghost use Rattle.std.specs.Prelude.{◌≡◌, ◌≢◌, ◌<◌, ◌≤◌, ◌+◌, ◌*◌, ◌^◌, ℕ, IfOk, IfSome, MatchBool, length, vec_len};
+ghost use Rattle.std.specs.Prelude.{vec_capacity};
 ghost use Rattle.std.specs.List.{sum_by};
 ghost use Rattle.lot_sync.specs.Lot.{OwnsNone, HasShape, rested};
-ghost use Rattle.gallery.specs.Accounts.{IsBooked, IsEven, AreEven, HasBoth, MovesOut, MovesIn, Settles, balance_of, opening_of, AreOpenedAs};
+ghost use Rattle.gallery.specs.Accounts.{IsBooked, IsEven, AreEven, HasBoth, MovesOut, MovesIn, Settles, balance_of};
+ghost use Rattle.gallery.specs.Accounts.{opening_of, AreOpenedAs};
 
 use crate::crew::{Crew, NOW, Opening, open, start};
 use lot_calls::finish;
@@ -91,7 +93,8 @@ fn moved(thread: usize, amount: u64, from: Account, into: Account) -> (Account, 
     requires thread { thread < WORKERS }
     requires booked { IsBooked from × IsBooked into }
     ensures settles { Settles thread from into result.0 result.1 }
-    ensures amounts { MatchBool result.2 ((from.balance ≡ result.0.balance + amount) × (result.1.balance ≡ into.balance + amount)) ((result.0 ≡ from) × (result.1 ≡ into)) }
+    ensures amounts { MatchBool result.2 ((from.balance ≡ result.0.balance + amount)
+        × (result.1.balance ≡ into.balance + amount)) ((result.0 ≡ from) × (result.1 ≡ into)) }
 {
     let Some(less) = from.less(thread, amount) else {
         return (from, into, false);

@@ -123,7 +123,8 @@ pub fn check_leases<N: LotName<Connection> + Send>(
     requires two { Holds second POOL two.now.permit two.now.connection }
     ensures same { (result.0 ≡ first) × (result.1 ≡ second) }
     ensures apart { one.now.connection.key ≢ two.now.connection.key }
-    ensures never_more { permits_with first POOL + permits_with second POOL ≤ opening_permits N.first_sem N.permits POOL }
+    ensures never_more { permits_with first POOL + permits_with second POOL
+        ≤ opening_permits N.first_sem N.permits POOL }
 {
     let (first, second) = lot.check_apart(first, second);
     lot.check_permits(first, second)
@@ -140,7 +141,8 @@ fn run_on<N: LotName<Connection> + Send + Sync, T: Threads + Wait + Sync>(
     opening: Opening<Connection>,
 ) -> Result<u64, Failure>
     requires named { N.LotName ≡ opening.opened }
-    requires sizes { (length opening.opened.values ≡ CONNECTIONS) × (opening.opened.conds ≡ 0) × (length opening.opened.permits ≡ 1) }
+    requires sizes { (length opening.opened.values ≡ CONNECTIONS) × (opening.opened.conds ≡ 0)
+        × (length opening.opened.permits ≡ 1) }
 {
     let (lot, room, crew) = start::<Connection, N>(opening)?;
     let pool = Pool { lot: &lot };

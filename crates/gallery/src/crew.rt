@@ -54,7 +54,8 @@ pub fn open<V: Keeps + Send>(
     permits: &[u32],
 ) -> Result<Opening<V>, Failure>
     requires { KeepAll V.keeps values.items }
-    ensures { IfOk result (λ o. (o.threads ≡ threads) × (o.opened.threads ≡ threads) × (o.opened.values ≡ values.items) × (o.opened.conds ≡ conds) × (o.opened.permits ≡ permits.now)) }
+    ensures { IfOk result (λ o. (o.threads ≡ threads) × (o.opened.threads ≡ threads) × (o.opened.values ≡ values.items)
+        × (o.opened.conds ≡ conds) × (o.opened.permits ≡ permits.now)) }
 {
     match Lot::<V, Brand>::open_with(alloc, threads, values, conds, permits) {
         Ok(opened) => Ok(Opening {
@@ -72,7 +73,8 @@ pub fn start<V: Keeps + Send, N: LotName<V> + Send>(
 ) -> Result<(Lot<V, N>, Vec<Pass<V, N>>, Crew), Failure>
     requires named { N.LotName ≡ opening.opened }
     requires rests { (p : PassView V) → Starts opening.opened.values opening.threads p → V.rests (rested p) }
-    ensures lot { IfOk result (λ r. (r.0.threads ≡ opening.threads) × (r.0.locks ≡ length opening.opened.values) × (r.0.conds ≡ opening.opened.conds) × (r.0.sems ≡ length opening.opened.permits)) }
+    ensures lot { IfOk result (λ r. (r.0.threads ≡ opening.threads) × (r.0.locks ≡ length opening.opened.values)
+        × (r.0.conds ≡ opening.opened.conds) × (r.0.sems ≡ length opening.opened.permits)) }
     ensures room { IfOk result (λ r. (vec_len r.1 ≡ 0) × (r.0.threads ≤ vec_capacity r.1)) }
 {
     let Opening {

@@ -84,7 +84,8 @@ impl<N: LotName<Meeting> + Send> Place<'_, N> {
     pub fn arrive<T: Wait>(&self, rt: &T, pass: Guest<N>) -> (Guest<N>, Option<Arrival>)
         requires free { OwnsNone pass }
         ensures free { OwnsNone result.0 }
-        ensures arrives { (before : Meeting) × (after : Meeting) × Arrives before result.1 after × IsOpen before × HasSeen result.0 MEETING after }
+        ensures arrives { (before : Meeting) × (after : Meeting) × Arrives before result.1 after × IsOpen before
+            × HasSeen result.0 MEETING after }
     {
         let (pass, arrival) = with_lock(rt, self.lot, pass, MEETING, NOW, Meeting::arrive);
         (self.lot.notify_all(rt, pass, ALL_CAME).0, arrival)
@@ -105,7 +106,8 @@ impl<N: LotName<Meeting> + Send> Place<'_, N> {
     pub fn meet<T: Wait>(&self, rt: &T, pass: Guest<N>) -> (Guest<N>, Option<Arrival>)
         requires free { OwnsNone pass }
         ensures free { OwnsNone result.0 }
-        ensures all_came { (before : Meeting) × (after : Meeting) × Arrives before result.1 after × IsOpen before × MatchOption result.1 (HasSeen result.0 MEETING after) (λ arrival. SawAll result.0 MEETING arrival.full) }
+        ensures all_came { (before : Meeting) × (after : Meeting) × Arrives before result.1 after × IsOpen before
+            × MatchOption result.1 (HasSeen result.0 MEETING after) (λ arrival. SawAll result.0 MEETING arrival.full) }
     {
         let (pass, arrival) = self.arrive(rt, pass);
         let Some(arrived) = arrival else {

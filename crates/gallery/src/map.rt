@@ -1,8 +1,10 @@
 //! A map of counters over many locks: nothing is lost.
-ghost use Rattle.std.specs.Prelude.{◌≡◌, ◌≢◌, ◌%◌, ◌/◌, ◌*◌, ◌+◌, ◌<◌, ◌≤◌, ◌^◌, ℕ, length, sum, vec_len, vec_capacity, IfOk, IsSomeAnd};
+ghost use Rattle.std.specs.Prelude.{◌≡◌, ◌≢◌, ◌%◌, ◌/◌, ◌*◌, ◌+◌, ◌<◌, ◌≤◌, ◌^◌, ℕ, length, sum, vec_len, vec_capacity};
+ghost use Rattle.std.specs.Prelude.{IfOk, IsSomeAnd};
 ghost use Rattle.lot_sync.specs.Lot.{OwnsNone, HasShape, HasSeen};
 ghost use Rattle.lot_sync.specs.Opened.{KeepAll};
-ghost use Rattle.gallery.specs.Counters.{HasRows, Adds, row_of, added_by, total_of, IsNew, Worked, WorkedThere, IsDone, AreDone, AreNew};
+ghost use Rattle.gallery.specs.Counters.{HasRows, Adds, row_of, added_by, total_of, IsNew, Worked, WorkedThere, IsDone};
+ghost use Rattle.gallery.specs.Counters.{AreDone, AreNew};
 
 use crate::crew::{NOW, Opening, open, start};
 use lot_calls::{take_pass, with_lock};
@@ -183,8 +185,10 @@ fn work_all<'a, N: LotName<Shard> + Send + Sync, T: Threads + Wait + Sync>(
     fourth: &'a mut Option<Pass<Shard, N>>,
 )
     requires locks { lot.now.locks ≡ SHARDS }
-    requires new { IsSomeAnd first.old (IsNew lot.now) × IsSomeAnd second.old (IsNew lot.now) × IsSomeAnd third.old (IsNew lot.now) × IsSomeAnd fourth.old (IsNew lot.now) }
-    ensures { WorkedThere first.old first.new × WorkedThere second.old second.new × WorkedThere third.old third.new × WorkedThere fourth.old fourth.new }
+    requires new { IsSomeAnd first.old (IsNew lot.now) × IsSomeAnd second.old (IsNew lot.now)
+        × IsSomeAnd third.old (IsNew lot.now) × IsSomeAnd fourth.old (IsNew lot.now) }
+    ensures { WorkedThere first.old first.new × WorkedThere second.old second.new × WorkedThere third.old third.new
+        × WorkedThere fourth.old fourth.new }
 {
     let mut one = ||
         requires locks { lot.now.locks ≡ SHARDS }

@@ -43,13 +43,15 @@ impl<T: Drop> Keeps for Line<T> {
 
     ghost grows_itself = { λ line. lies_on_itself line.taken line.items.items };
 
-    ghost grows_on = { λ x y z a b. lies_on_twice x.taken y.taken z.taken x.items.items y.items.items z.items.items a b };
+    ghost grows_on = { λ x y z a b. lies_on_twice x.taken y.taken z.taken x.items.items
+        y.items.items z.items.items a b };
 }
 
 impl<T: Drop> Line<T> {
     /// Whether there is a place and a number for one more.
     fn has_room(&self) -> bool
-        ensures { IsTrue result → (deque_len self.now.items < deque_capacity self.now.items) × (self.now.taken + length self.now.items.items + 1 < 2 ^ 64) }
+        ensures { IsTrue result → (deque_len self.now.items < deque_capacity self.now.items)
+            × (self.now.taken + length self.now.items.items + 1 < 2 ^ 64) }
     {
         self.items.len() < self.items.capacity() && self.taken < u64::MAX - self.items.len() as u64
     }
@@ -57,9 +59,11 @@ impl<T: Drop> Line<T> {
     /// Puts the item behind all that lie there, and answers its number.
     #[tactic(auto, using(crate::specs::Lines::lies_before))]
     fn put(&mut self, item: T) -> u64
-        requires { (deque_len self.old.items < deque_capacity self.old.items) × (self.old.taken + length self.old.items.items + 1 < 2 ^ 64) }
+        requires { (deque_len self.old.items < deque_capacity self.old.items)
+            × (self.old.taken + length self.old.items.items + 1 < 2 ^ 64) }
         ensures follows { Follows self.old.taken self.old.items.items self.new.taken self.new.items.items }
-        ensures puts { (result ≡ self.old.taken + length self.old.items.items) × (self.new.taken ≡ self.old.taken) × (self.new.items.items ≡ self.old.items.items ++ item ∷ []) }
+        ensures puts { (result ≡ self.old.taken + length self.old.items.items) × (self.new.taken ≡ self.old.taken)
+            × (self.new.items.items ≡ self.old.items.items ++ item ∷ []) }
     {
         let number = self.taken + self.items.len() as u64;
         self.items.push_back_reserved(item);
@@ -71,7 +75,8 @@ impl<T: Drop> Line<T> {
     fn take(&mut self) -> (u64, T)
         requires { (0 < length self.old.items.items) × (self.old.taken + length self.old.items.items < 2 ^ 64) }
         ensures follows { Follows self.old.taken self.old.items.items self.new.taken self.new.items.items }
-        ensures takes { (result.0 ≡ self.old.taken) × (self.new.taken ≡ self.old.taken + 1) × (self.old.items.items ≡ result.1 ∷ self.new.items.items) }
+        ensures takes { (result.0 ≡ self.old.taken) × (self.new.taken ≡ self.old.taken + 1)
+            × (self.old.items.items ≡ result.1 ∷ self.new.items.items) }
     {
         let number = self.taken;
         let item = self.items.pop_front().unwrap();
@@ -95,7 +100,9 @@ impl<T: Drop + Send, N: LotName<Line<T>> + Send> Queue<'_, T, N> {
     pub fn push<W: Wait>(&self, rt: &W, pass: User<T, N>, item: T) -> (User<T, N>, u64)
         requires free { OwnsNone pass }
         ensures free { OwnsNone result.0 }
-        ensures puts { (before : Line T) × (after : Line T) × (result.1 ≡ before.taken + length before.items.items) × (after.taken ≡ before.taken) × (after.items.items ≡ before.items.items ++ item ∷ []) × HasSeen result.0 LINE after }
+        ensures puts { (before : Line T) × (after : Line T) × (result.1 ≡ before.taken + length before.items.items)
+            × (after.taken ≡ before.taken) × (after.items.items ≡ before.items.items ++ item ∷ [])
+            × HasSeen result.0 LINE after }
     {
         let (pass, mut held) = lock_until(rt, self.lot, pass, LINE, NOT_FULL, NOW, Line::has_room);
         let number = held.value_mut().put(item);
@@ -108,7 +115,11 @@ impl<T: Drop + Send, N: LotName<Line<T>> + Send> Queue<'_, T, N> {
     pub fn pop<W: Wait>(&self, rt: &W, pass: User<T, N>) -> (User<T, N>, (u64, T))
         requires free { OwnsNone pass }
         ensures free { OwnsNone result.0 }
-        ensures takes { (before : Line T) × (after : Line T) × ((seen : Line T) → HasSeen pass LINE seen → LiesOn seen.taken seen.items.items before.taken before.items.items) × (result.1.0 ≡ before.taken) × (after.taken ≡ before.taken + 1) × (before.items.items ≡ result.1.1 ∷ after.items.items) × HasSeen result.0 LINE after }
+        ensures takes { (before : Line T) × (after : Line T)
+            × ((seen : Line T) → HasSeen pass LINE seen
+            → LiesOn seen.taken seen.items.items before.taken before.items.items) × (result.1.0 ≡ before.taken)
+            × (after.taken ≡ before.taken + 1) × (before.items.items ≡ result.1.1 ∷ after.items.items)
+            × HasSeen result.0 LINE after }
     {
         let ready = |line: &Line<T>| !line.items.is_empty();
         let (pass, mut held) = lock_until(rt, self.lot, pass, LINE, NOT_EMPTY, NOW, ready);

@@ -1,5 +1,6 @@
 -- A lock that was got, worked on and let go.
-use Rattle.std.proofs.Common.{◌≡◌, ℕ, zero, suc, Bool, true, false, List, [], ◌∷◌, ◌++◌, get_or, set, refl, sym, ap, subst, ◌∙◌, append_assoc}
+use Rattle.std.proofs.Common.{◌≡◌, ℕ, zero, suc, Bool, true, false, List, [], ◌∷◌, ◌++◌, get_or, set, refl, sym, ap, subst, ◌∙◌}
+use Rattle.std.proofs.Common.{append_assoc}
 use Rattle.lot_words.specs.CallersRule.{CallersRule}
 use Rattle.lot_locks.specs.declared.released.Released.{Released}
 use Rattle.lot_scheme.specs.Words.{GetWord}
@@ -19,8 +20,10 @@ set_back (b ∷ bs) (suc k) clear = ap (λ cs. b ∷ cs) (set_back bs k clear)
 
 module _ {V Part : Type 0} (rule : CallersRule V Part) where
   -- the owner found the value, left another that it may become, and let the lock go
-  pub visits : (before got after : PassView V) (key : ℕ) (held : HeldView V) (found left : V) → ¬ Owns before key → Gets rule before key held got
-      → found ≡ held.value → MayBecome rule key before.thread found left → after ≈ letting_go got held.key left → HasSeen after held.key left
+  pub visits : (before got after : PassView V) (key : ℕ) (held : HeldView V) (found left : V) → ¬ Owns before key
+      → Gets rule before key held got
+      → found ≡ held.value → MayBecome rule key before.thread found left → after ≈ letting_go got held.key left
+      → HasSeen after held.key left
       → Visits rule before key found left after
   visits before got after key held found left free gets same may went seen =
       subst (λ x. Visits rule before key x left after) (sym same) record {
@@ -34,11 +37,15 @@ module _ {V Part : Type 0} (rule : CallersRule V Part) where
       }
     where
       after_is : after ≈ letting_go (owning before key held.value) key left
-      after_is = subst (λ k. after ≈ letting_go got k left) gets.key_is went ∙ ap (λ (p : PassView V). record (letting_go p key left) { made = after.made }) gets.after_is
+      after_is =
+          subst (λ k. after ≈ letting_go got k left) gets.key_is went
+          ∙ ap (λ (p : PassView V). record (letting_go p key left) { made = after.made }) gets.after_is
 
 -- which accesses it made
-pub visit_made : {V : Type 0} (before got after : PassView V) (key k now : ℕ) (became : Released) → k ≡ key → got.thread ≡ before.thread → Adds before.made (GetWord before.thread key) got.made
-    → IsFitting became false now → Adds got.made (FreeWord got.thread k became) after.made → Adds before.made (VisitWord before.thread key now) after.made
+pub visit_made : {V : Type 0} (before got after : PassView V) (key k now : ℕ) (became : Released) → k ≡ key → got.thread ≡ before.thread
+    → Adds before.made (GetWord before.thread key) got.made
+    → IsFitting became false now → Adds got.made (FreeWord got.thread k became) after.made
+    → Adds before.made (VisitWord before.thread key now) after.made
 visit_made before got after key k now became same thread (get, got_is, word) fits (free, after_is, freed) = (
   get ++ free,
   after_is ∙ (ap (λ ds. ds ++ free) got_is ∙ append_assoc before.made get free),

@@ -1,5 +1,6 @@
 -- One wait more on a condition, and a lock that was got and then waited with.
-use Rattle.std.proofs.Common.{◌≡◌, ◌≢◌, ℕ, zero, suc, ◌+◌, ◌<◌, Bool, true, false, List, [], ◌∷◌, ◌++◌, length, get_or, set, slice_index, refl, sym, ap, subst, ◌∙◌, append_assoc, arith}
+use Rattle.std.proofs.Common.{◌≡◌, ◌≢◌, ℕ, zero, suc, ◌+◌, ◌<◌, Bool, true, false, List, [], ◌∷◌, ◌++◌, length, get_or, set, slice_index}
+use Rattle.std.proofs.Common.{refl, sym, ap, subst, ◌∙◌, append_assoc, arith}
 use Rattle.std.proofs.lemmas.List.{get_or-set_same, set-set, append-nil}
 use Rattle.atomic_table.proofs.Lists.{set_here}
 use mathlib.Core.Option.{some}
@@ -22,7 +23,8 @@ clear_back (false ∷ bs) zero owned = absurd (cc)
 clear_back (b ∷ bs) (suc k) owned = ap (λ cs. b ∷ cs) (clear_back bs k owned)
 
 -- a count that was raised by n and then by one was raised by one more
-pub raised_more : (ns : List ℕ) (c n : ℕ) → c < length ns → set (set ns c (slice_index ns c + n)) c (slice_index (set ns c (slice_index ns c + n)) c + 1) ≡ set ns c (slice_index ns c + suc n)
+pub raised_more : (ns : List ℕ) (c n : ℕ) → c < length ns
+    → set (set ns c (slice_index ns c + n)) c (slice_index (set ns c (slice_index ns c + n)) c + 1) ≡ set ns c (slice_index ns c + suc n)
 raised_more ns c n near =
     let at = get_or-set_same ns c (slice_index ns c + n) 0 near in
     set-set ns c (slice_index ns c + n) (slice_index (set ns c (slice_index ns c + n)) c + 1)
@@ -31,54 +33,78 @@ raised_more ns c n near =
 module _ {V : Type 0} where
   -- after one wait more: the pass that waited n times let the lock go, was woken and got the lock again
   pub waits_once_more : (before pass after : PassView V) (key cond n : ℕ) (left found before_found : V) → cond < length before.woken
-      → AfterWaits before key cond before_found n pass → after ≈ owning (one_wait_more (letting_go pass key left) cond) key found → HasSeen after key found
+      → AfterWaits before key cond before_found n pass → after ≈ owning (one_wait_more (letting_go pass key left) cond) key found
+      → HasSeen after key found
       → AfterWaits before key cond found (suc n) after
   waits_once_more before pass after key cond zero left found before_found near same went seen = (
-    went ∙ (ap (λ (p : PassView V). record (owning (one_wait_more (letting_go p key left) cond) key found) { made = after.made }) same ∙ (λ i. record {
-      thread = before.thread;
-      owns = set-set before.owns key false true i;
-      seen = set-set before.seen key left found i;
-      called = before.called;
-      woken = set before.woken cond (slice_index before.woken cond + 1);
-      permits = before.permits;
-      made = after.made;
-    })),
+    went
+        ∙ (ap (λ (p : PassView V). record (owning (one_wait_more (letting_go p key left) cond) key found) { made = after.made }) same
+        ∙ (λ i. record {
+          thread = before.thread;
+          owns = set-set before.owns key false true i;
+          seen = set-set before.seen key left found i;
+          called = before.called;
+          woken = set before.woken cond (slice_index before.woken cond + 1);
+          permits = before.permits;
+          made = after.made;
+        })),
     seen,
   )
   waits_once_more before pass after key cond (suc n) left found before_found near waited went seen = (
-    went ∙ (ap (λ (p : PassView V). record (owning (one_wait_more (letting_go p key left) cond) key found) { made = after.made }) waited.0 ∙ (λ i. record {
-      thread = before.thread;
-      owns = (set-set (set before.owns key true) key false true ∙ set-set before.owns key true true) i;
-      seen = (set-set (set before.seen key before_found) key left found ∙ set-set before.seen key before_found found) i;
-      called = before.called;
-      woken = raised_more before.woken cond (suc n) near i;
-      permits = before.permits;
-      made = after.made;
-    })),
+    went
+        ∙ (ap (λ (p : PassView V). record (owning (one_wait_more (letting_go p key left) cond) key found) { made = after.made }) waited.0
+        ∙ (λ i. record {
+          thread = before.thread;
+          owns = (set-set (set before.owns key true) key false true ∙ set-set before.owns key true true) i;
+          seen = (set-set (set before.seen key before_found) key left found ∙ set-set before.seen key before_found found) i;
+          called = before.called;
+          woken = raised_more before.woken cond (suc n) near i;
+          permits = before.permits;
+          made = after.made;
+        })),
     seen,
   )
 
   -- the accesses of one wait more
-  pub made_once_more : (before pass after : PassView V) (key k cond now n : ℕ) → k ≡ key → pass.thread ≡ before.thread → Adds before.made (WaitsWord before.thread cond key now n) pass.made
-      → Adds pass.made (WaitedWord pass.thread cond k now) after.made → Adds before.made (WaitsWord before.thread cond key now (suc n)) after.made
+  pub made_once_more : (before pass after : PassView V) (key k cond now n : ℕ) → k ≡ key → pass.thread ≡ before.thread
+      → Adds before.made (WaitsWord before.thread cond key now n) pass.made
+      → Adds pass.made (WaitedWord pass.thread cond k now) after.made
+      → Adds before.made (WaitsWord before.thread cond key now (suc n)) after.made
   made_once_more before pass after key k cond now n same thread (front, pass_is, waits) (last, after_is, waited) = (
     front ++ last,
     after_is ∙ (ap (λ ds. ds ++ last) pass_is ∙ append_assoc before.made front last),
-    (front, last, waits, subst (λ l. WaitedWord before.thread cond l now last) same (subst (λ t. WaitedWord t cond k now last) thread waited), refl),
+    (
+      front,
+      last,
+      waits,
+      subst (λ l. WaitedWord before.thread cond l now last) same
+          (subst (λ t. WaitedWord t cond k now last) thread waited),
+      refl,
+    ),
   )
 
   -- those of a lock that was got and then waited with
-  pub made_until : (before got after : PassView V) (key k cond now n : ℕ) → k ≡ key → got.thread ≡ before.thread → Adds before.made (GetWord before.thread key) got.made
-      → Adds got.made (WaitsWord got.thread cond k now n) after.made → Adds before.made (GetAfterWord before.thread cond key now n) after.made
+  pub made_until : (before got after : PassView V) (key k cond now n : ℕ) → k ≡ key → got.thread ≡ before.thread
+      → Adds before.made (GetWord before.thread key) got.made
+      → Adds got.made (WaitsWord got.thread cond k now n) after.made
+      → Adds before.made (GetAfterWord before.thread cond key now n) after.made
   made_until before got after key k cond now n same thread (get, got_is, word) (waits, after_is, waited) = (
     get ++ waits,
     after_is ∙ (ap (λ ds. ds ++ waits) got_is ∙ append_assoc before.made get waits),
-    (get, waits, word, subst (λ l. WaitsWord before.thread cond l now n waits) same (subst (λ t. WaitsWord t cond k now n waits) thread waited), refl),
+    (
+      get,
+      waits,
+      word,
+      subst (λ l. WaitsWord before.thread cond l now n waits) same
+          (subst (λ t. WaitsWord t cond k now n waits) thread waited),
+      refl,
+    ),
   )
 
 module _ {V Part : Type 0} (rule : CallersRule V Part) where
   -- no wait yet
-  pub not_yet : (before : PassView V) (held : HeldView V) (cond now : ℕ) → MayGiveBack rule before held → WaitsOn rule before held cond now held before
+  pub not_yet : (before : PassView V) (held : HeldView V) (cond now : ℕ) → MayGiveBack rule before held
+      → WaitsOn rule before held cond now held before
   not_yet before held cond now back = record {
     count = 0;
     after_is = refl;
@@ -95,8 +121,10 @@ module _ {V Part : Type 0} (rule : CallersRule V Part) where
   }
 
   -- one wait more
-  pub once_more : (lot : LotView) (before pass after : PassView V) (held mid found : HeldView V) (cond now : ℕ) → held.key < lot.locks → cond < length before.woken → HasShape lot pass → Owns pass held.key
-      → WaitsOn rule before held cond now mid pass → WaitsAndGets rule pass mid cond found after → Adds pass.made (WaitedWord pass.thread cond mid.key now) after.made
+  pub once_more : (lot : LotView) (before pass after : PassView V) (held mid found : HeldView V) (cond now : ℕ) → held.key < lot.locks
+      → cond < length before.woken → HasShape lot pass → Owns pass held.key
+      → WaitsOn rule before held cond now mid pass → WaitsAndGets rule pass mid cond found after
+      → Adds pass.made (WaitedWord pass.thread cond mid.key now) after.made
       → WaitsOn rule before held cond now found after
   once_more lot before pass after held mid found cond now is_lock near shape owned waits gets made = record {
     count = suc waits.count;
@@ -118,41 +146,52 @@ module _ {V Part : Type 0} (rule : CallersRule V Part) where
       went = subst (λ k. after ≈ owning (one_wait_more (letting_go pass k mid.value) cond) k found.value) waits.key_is gets.after_is
 
       saw : HasSeen (one_wait_more (letting_go pass mid.key mid.value) cond) mid.key mid.value
-      saw = set_here pass.seen mid.key mid.value (subst (λ n. mid.key < n) (sym shape.seen) (subst (λ k. k < lot.locks) (sym waits.key_is) is_lock))
+      saw =
+          set_here pass.seen mid.key mid.value
+          (subst (λ n. mid.key < n) (sym shape.seen) (subst (λ k. k < lot.locks) (sym waits.key_is) is_lock))
 
       seen : HasSeen after held.key found.value
       seen = subst (λ k. HasSeen after k found.value) waits.key_is gets.seen
 
-  seen_after : (got after : PassView V) (held found : HeldView V) (cond n : ℕ) → AfterWaits got held.key cond found.value n after → (n ≡ 0 → found ≡ held) → HasSeen got held.key held.value
+  seen_after : (got after : PassView V) (held found : HeldView V) (cond n : ℕ) → AfterWaits got held.key cond found.value n after
+      → (n ≡ 0 → found ≡ held) → HasSeen got held.key held.value
       → HasSeen after held.key found.value
   seen_after got after held found cond zero same is saw =
-      subst (λ (h : HeldView V). HasSeen after held.key h.value) (sym (is refl)) (subst (λ (p : PassView V). HasSeen p held.key held.value) (sym same) saw)
+      subst (λ (h : HeldView V). HasSeen after held.key h.value) (sym (is refl))
+      (subst (λ (p : PassView V). HasSeen p held.key held.value) (sym same) saw)
   seen_after got after held found cond (suc n) waited is saw = waited.1
 
   -- the lock was got, and then waited with
-  pub got_after : (before got after : PassView V) (key cond now : ℕ) (held found : HeldView V) → Gets rule before key held got → WaitsOn rule got held cond now found after → GetsAfter rule before key found after
+  pub got_after : (before got after : PassView V) (key cond now : ℕ) (held found : HeldView V) → Gets rule before key held got
+      → WaitsOn rule got held cond now found after → GetsAfter rule before key found after
   got_after before got after key cond now held found gets waits = record {
     key_is = waits.key_is ∙ gets.key_is;
     kept = subst (λ k. rule.keeps k found.value) gets.key_is waits.kept;
     grown = λ u saw. rule.grows_on u held.value found.value (gets.grown u saw) waits.grown;
-    mine = λ u saw. gets.mine u saw ∙ subst (λ t. rule.part t held.value ≡ rule.part t found.value) (ap (λ (p : PassView V). p.thread) gets.after_is) waits.mine;
+    mine =
+        λ u saw. gets.mine u saw ∙ subst (λ t. rule.part t held.value ≡ rule.part t found.value)
+        (ap (λ (p : PassView V). p.thread) gets.after_is) waits.mine;
     thread = waits.thread ∙ ap (λ (p : PassView V). p.thread) gets.after_is;
     same_owns = waits.same_owns ∙ ap (λ (p : PassView V). p.owns) gets.after_is;
     same_permits = waits.same_permits ∙ ap (λ (p : PassView V). p.permits) gets.after_is;
     seen = subst (λ k. HasSeen after k found.value) gets.key_is
-        (seen_after got after held found cond waits.count waits.after_is waits.same (subst (λ k. HasSeen got k held.value) (sym gets.key_is) gets.seen));
+        (seen_after got after held found cond waits.count waits.after_is waits.same
+        (subst (λ k. HasSeen got k held.value) (sym gets.key_is) gets.seen));
     back = waits.back;
   }
 
   -- whoever owned nothing before holds the lock then
-  pub after_holds : (before got after : PassView V) (key cond now : ℕ) (held found : HeldView V) → OwnsNone before → Gets rule before key held got → WaitsOn rule got held cond now found after
+  pub after_holds : (before got after : PassView V) (key cond now : ℕ) (held found : HeldView V) → OwnsNone before
+      → Gets rule before key held got → WaitsOn rule got held cond now found after
       → Holding rule.grows after found
   after_holds before got after key cond now held found none gets waits =
       let holds = got_holds rule before got key held none gets in record {
         owns = subst (λ k. Owns after k) (sym waits.key_is) (ap (λ bs. get_or bs held.key false) waits.same_owns ∙ holds.owns);
-        alone = λ k other owned. holds.alone k (λ e. other (e ∙ sym waits.key_is)) (sym (ap (λ bs. get_or bs k false) waits.same_owns) ∙ owned);
+        alone =
+            λ k other owned. holds.alone k (λ e. other (e ∙ sym waits.key_is)) (sym (ap (λ bs. get_or bs k false) waits.same_owns) ∙ owned);
         no_permit = λ k. ap (λ xs. slice_index xs k) waits.same_permits ∙ holds.no_permit k;
         knows = subst (λ k. k < length after.seen) (sym waits.key_is) (near_of after.seen held.key found.value
-            (seen_after got after held found cond waits.count waits.after_is waits.same (subst (λ k. HasSeen got k held.value) (sym gets.key_is) gets.seen)));
+            (seen_after got after held found cond waits.count waits.after_is waits.same
+            (subst (λ k. HasSeen got k held.value) (sym gets.key_is) gets.seen)));
         grown = waits.back.grown;
       }

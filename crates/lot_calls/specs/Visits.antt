@@ -10,8 +10,8 @@ module _ {V Part : Type 0} (rule : CallersRule V Part) where
     pub grown : rule.grows found left
     pub others : (t : ℕ) → t ≢ thread → rule.part t found ≡ rule.part t left
 
-  -- the lock was got with a value that keeps the rule, goes on from all that the pass had seen and has its own part unchanged; it was let go
-  -- with the value that was left, which the pass has seen now; what it owns is as before
+  -- the lock was got with a value that keeps the rule, goes on from all that the pass had seen and has its own part unchanged; it was let
+  -- go with the value that was left, which the pass has seen now; what it owns is as before
   pub record Visits (before : PassView V) (key : ℕ) (found left : V) (after : PassView V) : Type 0 where
     pub kept : rule.keeps key found
     pub grown : (u : V) → HasSeen before key u → rule.grows u found

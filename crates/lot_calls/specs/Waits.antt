@@ -17,8 +17,8 @@ module _ {V : Type 0} where
   AfterWaits p key cond found (suc n) q = (q ≈ woken_from (owning p key found) cond (suc n)) × HasSeen q key found
 
 module _ {V Part : Type 0} (rule : CallersRule V Part) where
-  -- the pass waited some times, or not at all; the lock is owned as before, with a value that keeps the rule, goes on from what was held and has
-  -- the pass's own part unchanged; without a wait it is what was held. It may be given back
+  -- the pass waited some times, or not at all; the lock is owned as before, with a value that keeps the rule, goes on from what was held
+  -- and has the pass's own part unchanged; without a wait it is what was held. It may be given back
   pub record WaitsOn (before : PassView V) (held : HeldView V) (cond now : ℕ) (found : HeldView V) (after : PassView V) : Type 0 where
     pub count : ℕ
     pub after_is : AfterWaits before held.key cond found.value count after
@@ -33,8 +33,8 @@ module _ {V Part : Type 0} (rule : CallersRule V Part) where
     pub same_permits : after.permits ≡ before.permits
     pub back : MayGiveBack rule after found
 
-  -- the lock was got, after some waits or none: its value keeps the rule, goes on from all that the pass had seen of it, and has the pass's own
-  -- part unchanged; it is seen now
+  -- the lock was got, after some waits or none: its value keeps the rule, goes on from all that the pass had seen of it, and has the pass's
+  -- own part unchanged; it is seen now
   pub record GetsAfter (before : PassView V) (key : ℕ) (found : HeldView V) (after : PassView V) : Type 0 where
     pub key_is : found.key ≡ key
     pub kept : rule.keeps key found.value

@@ -1,4 +1,5 @@
--- Words: which accesses a call made with the pass of its thread t, the oldest first. l is a lock, c a condition; now is the moment of the unlocks.
+-- Words: which accesses a call made with the pass of its thread t, the oldest first. l is a lock, c a condition; now is the moment of the
+-- unlocks.
 use Rattle.std.specs.Prelude.{◌≡◌, ℕ, zero, suc, ◌++◌, false, List, []}
 use Rattle.lot_rights.specs.declared.views.Access.{Access}
 use Rattle.lot_scheme.specs.Words.{GetWord}
@@ -19,7 +20,8 @@ pub record VisitWord (t l now : ℕ) (acts : List Access) : Type 0 where
 -- so many waits on a condition with a lock, one after the other
 abbrev pub WaitsWord : ℕ → ℕ → ℕ → ℕ → ℕ → List Access → Type 0
 WaitsWord t c l now zero acts = acts ≡ []
-WaitsWord t c l now (suc n) acts = (front last : List Access) × WaitsWord t c l now n front × WaitedWord t c l now last × (acts ≡ front ++ last)
+WaitsWord t c l now (suc n) acts =
+    (front last : List Access) × WaitsWord t c l now n front × WaitedWord t c l now last × (acts ≡ front ++ last)
 
 -- a lock was got, and then so many waits were made with it
 abbrev pub GetAfterWord : ℕ → ℕ → ℕ → ℕ → ℕ → List Access → Type 0

@@ -9,8 +9,9 @@ use lot_words::Keeps;
 use std::sync::Wait;
 use std::thread;
 
-/// Ends the lot: waits until every pass was left, takes them into the list, which has room for them, and closes. It answers the value of each
-/// lock, in order, and the ledger of the conditions: `let (values, ledger) = finish(rt, lot, Vec::with_capacity(alloc, threads)?);`.
+/// Ends the lot: waits until every pass was left, takes them into the list, which has room for them, and closes. It
+/// answers the value of each lock, in order, and the ledger of the conditions:
+/// `let (values, ledger) = finish(rt, lot, Vec::with_capacity(alloc, threads)?);`.
 pub fn finish<V: Keeps + Send, N: LotName<V> + Send, T: Wait>(
     rt: &T,
     mut lot: Lot<V, N>,

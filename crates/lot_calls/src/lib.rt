@@ -1,5 +1,5 @@
-//! What callers of a lot would else write by hand, each made of the lot's own calls: work on a locked value, waiting until a value is as
-//! wanted, and the end of a lot.
+//! What callers of a lot would else write by hand, each made of the lot's own calls: work on a locked value, waiting
+//! until a value is as wanted, and the end of a lot.
 //!
 //! It stands on `lot_sync`, and knows of a lot what its contracts say.
 //!

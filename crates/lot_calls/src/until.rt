@@ -11,8 +11,9 @@ use lot_sync::{Held, Lot, LotName, Moment, Pass};
 use lot_words::Keeps;
 use std::sync::Wait;
 
-/// Waits on the condition until the value is as wanted: `let (pass, held) = wait_until(rt, lot, pass, held, NOT_EMPTY, now, |q| !q.is_empty());`.
-/// Where it is so already there is no wait. The moment is that of the unlock in each wait.
+/// Waits on the condition until the value is as wanted:
+/// `let (pass, held) = wait_until(rt, lot, pass, held, NOT_EMPTY, now, |q| !q.is_empty());`. Where it is so already
+/// there is no wait. The moment is that of the unlock in each wait.
 pub fn wait_until<V: Keeps + Send, N: LotName<V> + Send, T: Wait, F: Fn(&V) -> bool>(
     rt: &T,
     lot: &Lot<V, N>,

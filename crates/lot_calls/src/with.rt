@@ -9,8 +9,9 @@ use lot_sync::{Lot, LotName, Moment, Pass};
 use lot_words::Keeps;
 use std::sync::Wait;
 
-/// Gets the lock, works on its value, and lets the lock go: `let (pass, ()) = with_lock(rt, lot, pass, 0, now, |n| *n += 1);`. The pass may own
-/// other locks. It waits as `lock` and `unlock` do, and the moment is that of the unlock.
+/// Gets the lock, works on its value, and lets the lock go:
+/// `let (pass, ()) = with_lock(rt, lot, pass, 0, now, |n| *n += 1);`. The pass may own other locks. It waits as `lock`
+/// and `unlock` do, and the moment is that of the unlock.
 pub fn with_lock<V: Keeps + Send, O, N: LotName<V> + Send, T: Wait, F: FnOnce(&mut V) -> O>(
     rt: &T,
     lot: &Lot<V, N>,
@@ -22,7 +23,8 @@ pub fn with_lock<V: Keeps + Send, O, N: LotName<V> + Send, T: Wait, F: FnOnce(&m
     requires key { key < lot.now.locks }
     requires free { ¬ Owns pass key }
     requires callable { (v : _) → V.keeps key v.now → F.pre work v }
-    requires keeps { (v : _) (o : _) (w : _) → V.keeps key v.now → F.post work v o w → MayBecome V.Keeps key pass.thread v.now w.now }
+    requires keeps { (v : _) (o : _) (w : _) → V.keeps key v.now → F.post work v o w
+        → MayBecome V.Keeps key pass.thread v.now w.now }
     ensures visits { (v : _) × (w : _) × F.post work v result.1 w × Visits V.Keeps pass key v.now w.now result.0 }
     ensures made { Adds pass.made (VisitWord pass.thread key moment.now) result.0.made }
     ensures shape { HasShape lot.now result.0 }
@@ -34,7 +36,8 @@ pub fn with_lock<V: Keeps + Send, O, N: LotName<V> + Send, T: Wait, F: FnOnce(&m
     (pass, outcome)
 }
 
-/// `with_lock` for work that takes the value and gives one back: `let (pass, n) = with_value(rt, lot, pass, 0, now, |v| (v.next(), v.n));`.
+/// `with_lock` for work that takes the value and gives one back:
+/// `let (pass, n) = with_value(rt, lot, pass, 0, now, |v| (v.next(), v.n));`.
 pub fn with_value<V: Keeps + Send, O, N: LotName<V> + Send, T: Wait, F: FnOnce(V) -> (V, O)>(
     rt: &T,
     lot: &Lot<V, N>,
@@ -46,7 +49,8 @@ pub fn with_value<V: Keeps + Send, O, N: LotName<V> + Send, T: Wait, F: FnOnce(V
     requires key { key < lot.now.locks }
     requires free { ¬ Owns pass key }
     requires callable { (v : V) → V.keeps key v → F.pre work v }
-    requires keeps { (v : V) (left : _) → V.keeps key v → F.post work v left → MayBecome V.Keeps key pass.thread v left.0 }
+    requires keeps { (v : V) (left : _) → V.keeps key v → F.post work v left
+        → MayBecome V.Keeps key pass.thread v left.0 }
     ensures visits { (v : V) × (w : V) × F.post work v (w, result.1) × Visits V.Keeps pass key v w result.0 }
     ensures made { Adds pass.made (VisitWord pass.thread key moment.now) result.0.made }
     ensures shape { HasShape lot.now result.0 }

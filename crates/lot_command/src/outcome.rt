@@ -31,8 +31,8 @@ pub fn report<W: Write, E: Write>(
     }
 }
 
-/// Writes the fault's line by one write, so that the lines of several programs never mix. A fault that cannot be written is still told by
-/// the status.
+/// Writes the fault's line by one write, so that the lines of several programs never mix. A fault that cannot be
+/// written is still told by the status.
 fn tell<E: Write>(failure: Failure, faults: &mut E) {
     let mut line: ArrayString<LONGEST_FAULT> = ArrayString::new();
     let _ = writeln!(line, "{failure}");

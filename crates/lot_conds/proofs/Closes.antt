@@ -17,7 +17,8 @@ use Rattle.lot_conds.specs.Rule.{sizes_of, meaning}
 use Rattle.lot_conds.specs.Closing.{IsIdle, called_in, woken_in, IsToldTo}
 use Rattle.lot_conds.proofs.Machine.{awake_is}
 
-module _ (size : Size) (passes : List (PassShown CondPassView)) (roots : List (RootShown CondRootView)) (ws : List ℕ) (xs : List (Unit {0})) where
+module _ (size : Size) (passes : List (PassShown CondPassView)) (roots : List (RootShown CondRootView)) (ws : List ℕ)
+    (xs : List (Unit {0})) where
   pub told_to : Ended (meaning size) passes roots ws xs → IsToldTo size passes roots
   told_to ended = record {
     recounted = ended_recounted (meaning size) passes roots ws xs ended;
@@ -45,12 +46,14 @@ module _ (size : Size) (passes : List (PassShown CondPassView)) (roots : List (R
         ap (taken_from c) (awake_is size.threads w.root t (w.pass t) (w.spot t) (left.fits.kept.threads t).spot out)
 
     -- a count that the world keeps of each thread
-    counts : (of : CondPassView → List ℕ) (c : ℕ) → sum_by (λ (p : PassShown CondPassView). get_or (of p.pass.own) c 0) passes ≡ total size.threads (λ t. get_or (of (w.pass t)) c 0)
+    counts : (of : CondPassView → List ℕ) (c : ℕ)
+        → sum_by (λ (p : PassShown CondPassView). get_or (of p.pass.own) c 0) passes ≡ total size.threads (λ t. get_or (of (w.pass t)) c 0)
     counts of c =
         let f : PassShown CondPassView → ℕ = (λ p. get_or (of p.pass.own) c 0) in
         let g : ℕ → ℕ = (λ t. get_or (of (w.pass t)) c 0) in
         sum_is CondRootView size.threads g f passes
-        (All-weaker Fits (λ (p : PassShown CondPassView). (p.pass.thread < size.threads) × (f p ≡ g p.pass.thread)) (λ p fit. (fit.0, sym (ap (λ z. get_or (of z) c 0) fit.1))) passes
+        (All-weaker Fits (λ (p : PassShown CondPassView). (p.pass.thread < size.threads) × (f p ≡ g p.pass.thread))
+        (λ p fit. (fit.0, sym (ap (λ z. get_or (of z) c 0) fit.1))) passes
         left.passes_fit)
         (held_once CondRootView passes roots left.once) all
 
@@ -58,5 +61,6 @@ module _ (size : Size) (passes : List (PassShown CondPassView)) (roots : List (R
     balanced c =
         let called = counts (λ (p : CondPassView). p.called) c in
         let woken = counts (λ (p : CondPassView). p.woken) c in
-        let none : total size.threads (λ t. taken_from c (w.spot t)) ≡ 0 = total_same size.threads (λ t. taken_from c (w.spot t)) (λ t. 0) (none_taken c) ∙ total_none size.threads in
+        let none : total size.threads (λ t. taken_from c (w.spot t)) ≡ 0 =
+        total_same size.threads (λ t. taken_from c (w.spot t)) (λ t. 0) (none_taken c) ∙ total_none size.threads in
         omega (arith, called, woken, none, (left.fits.kept.conds c).ledger)

@@ -32,7 +32,8 @@ module _ (n m : ℕ) (w : CondWorld) (ok : Kept n m w) where
         let q : CondRootView = enlisted_root (w.root c) t in
         let spots : ℕ → Spot = put w.spot t (queued c) in
         let me = ok.threads t in
-        let none_taken : (k v : ℕ) → taken_from k (spots v) ≡ taken_from k (w.spot v) = (λ k v. put_elim (λ x. taken_from k x ≡ taken_from k (w.spot v)) w.spot t (queued c) v
+        let none_taken : (k v : ℕ) → taken_from k (spots v) ≡ taken_from k (w.spot v) =
+        (λ k v. put_elim (λ x. taken_from k x ≡ taken_from k (w.spot v)) w.spot t (queued c) v
         (λ vt. ap (taken_from k) (sym is_awake ∙ ap w.spot (sym vt))) (λ _. refl)) in
         turns n m w t p spots c true q
         (record {
@@ -41,14 +42,24 @@ module _ (n m : ℕ) (w : CondWorld) (ok : Kept n m w) where
           outs = λ k e. subst (λ z. z < m) (let f : Some c ≡ Some k = e in cc) here;
           spot = subst (λ z. SpotFits n (put w.root c q) t p z) (sym (put_same w.spot t (queued c)))
               ((near, refl), subst (λ (x : CondRootView). Contains x.line t) (sym (put_same w.root c q)) (Contains-push (w.root c).line t));
-          in_line = λ k. put_elim (λ x. Contains x.line t → spots t ≡ queued k) w.root c q k (λ e _. put_same w.spot t (queued c) ∙ ap queued (sym e)) (λ _ h. absurd (in_no_line k h));
-          is_owed = λ k. put_elim (λ x. Contains x.owes t → spots t ≡ owed k 0) w.root c q k (λ e h. absurd (is_owed_nothing c h)) (λ _ h. absurd (is_owed_nothing k h));
+          in_line =
+              λ k. put_elim (λ x. Contains x.line t → spots t ≡ queued k) w.root c q k
+              (λ e _. put_same w.spot t (queued c) ∙ ap queued (sym e)) (λ _ h. absurd (in_no_line k h));
+          is_owed =
+              λ k. put_elim (λ x. Contains x.owes t → spots t ≡ owed k 0) w.root c q k (λ e h. absurd (is_owed_nothing c h))
+              (λ _ h. absurd (is_owed_nothing k h));
         })
         (λ v ne. subst (ThreadFits n m (put w.root c q) v (w.pass v)) (sym (put_other w.spot t (queued c) v ne))
         (thread_on n m w.root (put w.root c q) v (w.pass v) (w.spot v)
-        (same_for v w.root c q (λ h. Contains-append_left (w.root c).line (t ∷ []) v h) (λ h. in_init v (w.root c).line t ne h) (λ h. h) (λ h. h)) (ok.threads v)))
+        (same_for v w.root c q (λ h. Contains-append_left (w.root c).line (t ∷ []) v h) (λ h. in_init v (w.root c).line t ne h) (λ h. h)
+        (λ h. h)) (ok.threads v)))
         (let a = cond_stays n c (w.word c) (w.root c) w.pass w.spot t p spots (ok.conds c) refl refl (λ e. e) (none_taken c) in
-        record { once = once_push (w.root c).line t a.once (in_no_line c); owed_once = a.owed_once; swept = λ e _. absurd (let f : true ≡ false = e in cc); ledger = a.ledger })
+        record {
+          once = once_push (w.root c).line t a.once (in_no_line c);
+          owed_once = a.owed_once;
+          swept = λ e _. absurd (let f : true ≡ false = e in cc);
+          ledger = a.ledger;
+        })
         (λ k ne. cond_stays n k (w.word k) (w.root k) w.pass w.spot t p spots (ok.conds k) refl refl (λ e. e) (none_taken k))
 
   -- the flag of c is cleared: nobody is in its line, or the thread t sweeps it from now on
@@ -60,7 +71,9 @@ module _ (n m : ℕ) (w : CondWorld) (ok : Kept n m w) where
       let same : (v : ℕ) → SameFor v w.root (put w.root c q) = (λ v. same_for v w.root c q (λ h. h) (λ h. h) (λ h. h) (λ h. h)) in
       let me = thread_on n m w.root (put w.root c q) t (w.pass t) (w.spot t) (same t) (ok.threads t) in
       let stays : (k : ℕ) → CondFits n (put w.pass t p) w.spot k (w.word k) (w.root k)
-      = (λ k. cond_stays n k (w.word k) (w.root k) w.pass w.spot t p w.spot (ok.conds k) (ap (λ xs. get_or xs k 0) called) (ap (λ xs. get_or xs k 0) woken) (still k) (λ _. refl)) in
+      =
+      (λ k. cond_stays n k (w.word k) (w.root k) w.pass w.spot t p w.spot (ok.conds k) (ap (λ xs. get_or xs k 0) called)
+      (ap (λ xs. get_or xs k 0) woken) (still k) (λ _. refl)) in
       turns n m w t p w.spot c false q
       (record {
         called = ap length called ∙ me.called;
@@ -81,4 +94,5 @@ module _ (n m : ℕ) (w : CondWorld) (ok : Kept n m w) where
 
   -- the thread lowers the flag of the condition, and has to sweep it
   pub lowers_kept : (t c : ℕ) → t < n → (w.pass t).sweeps ≡ None → Kept n m (turned w t (lowering (w.pass t) c) w.spot c false (w.root c))
-  lowers_kept t c near calm = clears_kept t c (lowering (w.pass t) c) refl refl refl (λ k e. absurd (no_some k (sym calm ∙ e))) (λ _. (near, refl))
+  lowers_kept t c near calm =
+      clears_kept t c (lowering (w.pass t) c) refl refl refl (λ k e. absurd (no_some k (sym calm ∙ e))) (λ _. (near, refl))

@@ -1,5 +1,6 @@
 -- How a change of the world keeps the rule of threads and conditions.
-use Rattle.std.proofs.Common.{◌≡◌, ◌≢◌, ℕ, Bool, cond, List, [], ◌∷◌, get_or, refl, sym, ap, subst, ◌∙◌, ⊎_elim, arith, eq-eqb, ne_eqb, Some, None}
+use Rattle.std.proofs.Common.{◌≡◌, ◌≢◌, ℕ, Bool, cond, List, [], ◌∷◌, get_or, refl, sym, ap, subst, ◌∙◌, ⊎_elim, arith, eq-eqb, ne_eqb}
+use Rattle.std.proofs.Common.{Some, None}
 use Rattle.std.specs.List.{Contains}
 use Rattle.lot_core.specs.World.{put}
 use Rattle.lot_core.proofs.Members.{in_head, in_none, in_tail}
@@ -49,7 +50,8 @@ owed_same sp c d e f = let g : owed c 0 ≡ owed d 0 = sym e ∙ f in cc
 pub not_both : (sp : Spot) (c d k : ℕ) → sp ≡ queued c → sp ≡ owed d k → ⊥
 not_both sp c d k e f = let g : queued c ≡ owed d k = sym e ∙ f in cc
 
-pub queued_out : (n : ℕ) (root : ℕ → CondRootView) (u c : ℕ) (p : CondPassView) (sp : Spot) → sp ≡ queued c → SpotFits n root u p sp → IsOut n u p c
+pub queued_out : (n : ℕ) (root : ℕ → CondRootView) (u c : ℕ) (p : CondPassView) (sp : Spot) → sp ≡ queued c
+    → SpotFits n root u p sp → IsOut n u p c
 queued_out n root u c p sp e h = let g : SpotFits n root u p (queued c) = subst (SpotFits n root u p) e h in g.0
 
 pub taken_else : (k c : ℕ) → k ≢ c → taken_from k (owed c 0) ≡ 0
@@ -65,13 +67,15 @@ pub record SameFor (u : ℕ) (root root' : ℕ → CondRootView) : Type 0 where
   pub owes : (k : ℕ) → Contains (root k).owes u → Contains (root' k).owes u
   pub owes_back : (k : ℕ) → Contains (root' k).owes u → Contains (root k).owes u
 
-spot_on : (n : ℕ) (root root' : ℕ → CondRootView) (u : ℕ) (p : CondPassView) (sp : Spot) → SameFor u root root' → SpotFits n root u p sp → SpotFits n root' u p sp
+spot_on : (n : ℕ) (root root' : ℕ → CondRootView) (u : ℕ) (p : CondPassView) (sp : Spot) → SameFor u root root' → SpotFits n root u p sp
+    → SpotFits n root' u p sp
 spot_on n root root' u p awake s h = h
 spot_on n root root' u p (queued c) s h = (h.0, s.line c h.1)
 spot_on n root root' u p (owed c k) s h = (h.0, s.owes c h.1, h.2)
 spot_on n root root' u p (lying c k) s h = h
 
-pub thread_on : (n m : ℕ) (root root' : ℕ → CondRootView) (u : ℕ) (p : CondPassView) (sp : Spot) → SameFor u root root' → ThreadFits n m root u p sp → ThreadFits n m root' u p sp
+pub thread_on : (n m : ℕ) (root root' : ℕ → CondRootView) (u : ℕ) (p : CondPassView) (sp : Spot) → SameFor u root root'
+    → ThreadFits n m root u p sp → ThreadFits n m root' u p sp
 thread_on n m root root' u p sp s ok = record {
   called = ok.called;
   woken = ok.woken;
@@ -82,19 +86,26 @@ thread_on n m root root' u p sp s ok = record {
 }
 
 -- one condition changes, and keeps what it has of the thread
-pub same_for : (u : ℕ) (root : ℕ → CondRootView) (c : ℕ) (q : CondRootView) → (Contains (root c).line u → Contains q.line u) → (Contains q.line u → Contains (root c).line u)
+pub same_for : (u : ℕ) (root : ℕ → CondRootView) (c : ℕ) (q : CondRootView) → (Contains (root c).line u → Contains q.line u)
+    → (Contains q.line u → Contains (root c).line u)
     → (Contains (root c).owes u → Contains q.owes u) → (Contains q.owes u → Contains (root c).owes u) → SameFor u root (put root c q)
 same_for u root c q into back owe paid = record {
   line = λ k h. put_elim (λ x. Contains x.line u) root c q k (λ kc. into (subst (λ z. Contains (root z).line u) kc h)) (λ _. h);
-  line_back = λ k. put_elim (λ x. Contains x.line u → Contains (root k).line u) root c q k (λ kc h. subst (λ z. Contains (root z).line u) (sym kc) (back h)) (λ _ h. h);
+  line_back =
+      λ k. put_elim (λ x. Contains x.line u → Contains (root k).line u) root c q k
+      (λ kc h. subst (λ z. Contains (root z).line u) (sym kc) (back h)) (λ _ h. h);
   owes = λ k h. put_elim (λ x. Contains x.owes u) root c q k (λ kc. owe (subst (λ z. Contains (root z).owes u) kc h)) (λ _. h);
-  owes_back = λ k. put_elim (λ x. Contains x.owes u → Contains (root k).owes u) root c q k (λ kc h. subst (λ z. Contains (root z).owes u) (sym kc) (paid h)) (λ _ h. h);
+  owes_back =
+      λ k. put_elim (λ x. Contains x.owes u → Contains (root k).owes u) root c q k
+      (λ kc h. subst (λ z. Contains (root z).owes u) (sym kc) (paid h)) (λ _ h. h);
 }
 
 -- ---- a condition among threads that change
 -- the ledger of k is that of other threads, where each part of the three sums is the same
-pub ledger_on : (n k : ℕ) (pass pass' : ℕ → CondPassView) (spot spot' : ℕ → Spot) → LedgerFits n pass spot k → ((v : ℕ) → get_or (pass' v).called k 0 ≡ get_or (pass v).called k 0)
-    → ((v : ℕ) → get_or (pass' v).woken k 0 ≡ get_or (pass v).woken k 0) → ((v : ℕ) → taken_from k (spot' v) ≡ taken_from k (spot v)) → LedgerFits n pass' spot' k
+pub ledger_on : (n k : ℕ) (pass pass' : ℕ → CondPassView) (spot spot' : ℕ → Spot) → LedgerFits n pass spot k
+    → ((v : ℕ) → get_or (pass' v).called k 0 ≡ get_or (pass v).called k 0)
+    → ((v : ℕ) → get_or (pass' v).woken k 0 ≡ get_or (pass v).woken k 0) → ((v : ℕ) → taken_from k (spot' v) ≡ taken_from k (spot v))
+    → LedgerFits n pass' spot' k
 ledger_on n k pass pass' spot spot' ok a b c = omega (
   arith,
   ok,
@@ -113,14 +124,18 @@ cond_on n k f q pass pass' spot spot' ok sweeps ledger = record {
 }
 
 -- the pass of t changes, but neither its counts of k nor what it sweeps; nor does what the notices tell of k
-pub cond_stays : (n k : ℕ) (f : Bool) (q : CondRootView) (pass : ℕ → CondPassView) (spot : ℕ → Spot) (t : ℕ) (p : CondPassView) (spots : ℕ → Spot) → CondFits n pass spot k f q
-    → get_or p.called k 0 ≡ get_or (pass t).called k 0 → get_or p.woken k 0 ≡ get_or (pass t).woken k 0 → ((pass t).sweeps ≡ Some k → p.sweeps ≡ Some k)
+pub cond_stays : (n k : ℕ) (f : Bool) (q : CondRootView) (pass : ℕ → CondPassView) (spot : ℕ → Spot) (t : ℕ) (p : CondPassView)
+    (spots : ℕ → Spot) → CondFits n pass spot k f q
+    → get_or p.called k 0 ≡ get_or (pass t).called k 0 → get_or p.woken k 0 ≡ get_or (pass t).woken k 0
+    → ((pass t).sweeps ≡ Some k → p.sweeps ≡ Some k)
     → ((v : ℕ) → taken_from k (spots v) ≡ taken_from k (spot v)) → CondFits n (put pass t p) spots k f q
 cond_stays n k f q pass spot t p spots ok called woken sweeps same = cond_on n k f q pass (put pass t p) spot spots ok
     (λ v e. put_elim (λ x. x.sweeps ≡ Some k) pass t p v (λ vt. sweeps (subst (λ z. (pass z).sweeps ≡ Some k) vt e)) (λ _. e))
     (ledger_on n k pass (put pass t p) spot spots ok.ledger
-    (λ v. put_elim (λ x. get_or x.called k 0 ≡ get_or (pass v).called k 0) pass t p v (λ vt. called ∙ ap (λ z. get_or (pass z).called k 0) (sym vt)) (λ _. refl))
-    (λ v. put_elim (λ x. get_or x.woken k 0 ≡ get_or (pass v).woken k 0) pass t p v (λ vt. woken ∙ ap (λ z. get_or (pass z).woken k 0) (sym vt)) (λ _. refl))
+    (λ v. put_elim (λ x. get_or x.called k 0 ≡ get_or (pass v).called k 0) pass t p v
+    (λ vt. called ∙ ap (λ z. get_or (pass z).called k 0) (sym vt)) (λ _. refl))
+    (λ v. put_elim (λ x. get_or x.woken k 0 ≡ get_or (pass v).woken k 0) pass t p v
+    (λ vt. woken ∙ ap (λ z. get_or (pass z).woken k 0) (sym vt)) (λ _. refl))
     same)
 
 -- ---- the whole world
@@ -138,7 +153,8 @@ turns n m w t p spots c f q mine others here elsewhere = record {
 }
 
 -- where a notice is fits another pass that is out as before
-pub spot_keeps : (n : ℕ) (root : ℕ → CondRootView) (t : ℕ) (p p' : CondPassView) (sp : Spot) → p'.out ≡ p.out → SpotFits n root t p sp → SpotFits n root t p' sp
+pub spot_keeps : (n : ℕ) (root : ℕ → CondRootView) (t : ℕ) (p p' : CondPassView) (sp : Spot) → p'.out ≡ p.out → SpotFits n root t p sp
+    → SpotFits n root t p' sp
 spot_keeps n root t p p' awake e h = e ∙ h
 spot_keeps n root t p p' (queued c) e h = ((h.0.0, e ∙ h.0.1), h.1)
 spot_keeps n root t p p' (owed c k) e h = ((h.0.0, e ∙ h.0.1), h.1, h.2)

@@ -13,11 +13,14 @@ Named q u = Contains q.line u ⊎ Contains q.owes u
 
 pub enlist_names : (q q' : CondRootView) (t u : ℕ) → q' ≡ enlisted_root q t → Named q' u → Named q u ⊎ (u ≡ t)
 enlist_names q q' t u e h = ⊎_elim {C = Named q u ⊎ (u ≡ t)}
-    (λ i. ⊎_elim {C = Named q u ⊎ (u ≡ t)} (λ a. inl (inl a)) (λ e. inr (sym e)) (Contains-push_cases q.line t u i)) (λ i. inl (inr i)) (subst (λ z. Named z u) e h)
+    (λ i. ⊎_elim {C = Named q u ⊎ (u ≡ t)} (λ a. inl (inl a)) (λ e. inr (sym e)) (Contains-push_cases q.line t u i)) (λ i. inl (inr i))
+    (subst (λ z. Named z u) e h)
 
 pub call_names : (q q' : CondRootView) (n u : ℕ) → q' ≡ called_root q n → Named q' u → Named q u
 call_names q q' n u e h = ⊎_elim {C = Named q u} (λ i. inl (in_drop n q.line u i))
-    (λ i. ⊎_elim {C = Named q u} inr (λ a. inl (subst (λ z. Contains z u) (take-append-drop n q.line) (Contains-append_left (take n q.line) (drop n q.line) u a)))
+    (λ i.
+    ⊎_elim {C = Named q u} inr
+    (λ a. inl (subst (λ z. Contains z u) (take-append-drop n q.line) (Contains-append_left (take n q.line) (drop n q.line) u a)))
     (Contains-append_cases q.owes (take n q.line) u i)) (subst (λ z. Named z u) e h)
 
 pub sweep_names : (q q' : CondRootView) (u : ℕ) → q' ≡ swept_root q → Named q' u → Named q u

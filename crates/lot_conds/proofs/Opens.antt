@@ -30,13 +30,24 @@ fresh_kept n m = record {
     in_line = λ c h. absurd (in_none t h);
     is_owed = λ c h. absurd (in_none t h);
   };
-  conds = λ c. record { once = once_none; owed_once = once_none; swept = λ e some. absurd (some refl); ledger = omega (arith, none_counted n m c, total_none n) };
+  conds =
+      λ c. record {
+        once = once_none;
+        owed_once = once_none;
+        swept = λ e some. absurd (some refl);
+        ledger = omega (arith, none_counted n m c, total_none n);
+      };
 }
 
 pub opens_well : (size : Size) → 0 < size.locks → OpensWell (meaning size) (replicate (word_count size.threads (key_count size)) 0) []
 opens_well size some = let m : ℕ = key_count size in record {
   world = fresh_world m;
-  fits = record { some = some; words = fresh_words flag_word (sizes_of size) (fresh_world m) (λ c. refl) (λ t. refl); kept = fresh_kept size.threads m };
+  fits =
+      record {
+        some = some;
+        words = fresh_words flag_word (sizes_of size) (fresh_world m) (λ c. refl) (λ t. refl);
+        kept = fresh_kept size.threads m;
+      };
   passes = λ t near. (near, refl);
   roots = λ c is. (is, refl);
   start = refl;

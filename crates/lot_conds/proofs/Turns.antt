@@ -1,5 +1,6 @@
 -- The turns of each call: whatever world the words stand for, its step leads to one that they stand for then.
-use Rattle.std.proofs.Common.{◌≡◌, ◌≢◌, ℕ, zero, suc, ◌+◌, ◌-◌, ◌<◌, ◌≤◌, ◌&&◌, ◌⊎◌, ◌==◌, Bool, true, false, List, [], ◌∷◌, ◌++◌, take, drop, length, get_or, set, refl, sym, ap, subst, ◌∙◌, inl}
+use Rattle.std.proofs.Common.{◌≡◌, ◌≢◌, ℕ, zero, suc, ◌+◌, ◌-◌, ◌<◌, ◌≤◌, ◌&&◌, ◌⊎◌, ◌==◌, Bool, true, false, List, [], ◌∷◌, ◌++◌, take}
+use Rattle.std.proofs.Common.{drop, length, get_or, set, refl, sym, ap, subst, ◌∙◌, inl}
 use Rattle.std.proofs.Common.{inr, ⊎_elim, arith, Option, Some, None}
 use Rattle.std.specs.List.{Contains}
 use Rattle.std.proofs.lemmas.List.{append-nil, set-get_or, length-take, take-append-drop, nil_from_length}
@@ -23,7 +24,8 @@ use Rattle.lot_conds.specs.declared.views.CondRootView.{CondRootView}
 use Rattle.lot_conds.specs.declared.views.Size.{Size}
 use Rattle.lot_conds.specs.World.{CondWorld, flag_word, SpotFits, Kept}
 use Rattle.lot_conds.specs.Rule.{key_count, sizes_of, part_of, IsStep, Fits, meaning}
-use Rattle.lot_conds.specs.Calls.{IsCalm, enlisted, lowering, called_more, swept_pass, one_wait_more, enlisted_root, called_root, swept_root, paid_root, FoundNone, Collected, CollectedBy}
+use Rattle.lot_conds.specs.Calls.{IsCalm, enlisted, lowering, called_more, swept_pass, one_wait_more, enlisted_root, called_root}
+use Rattle.lot_conds.specs.Calls.{swept_root, paid_root, FoundNone, Collected, CollectedBy}
 use Rattle.lot_conds.proofs.Machine.{turned, owing, awake_is}
 use Rattle.lot_conds.proofs.Enlists.{is_awake, enlists_kept, lowers_kept}
 use Rattle.lot_conds.proofs.Takes.{took_root, takes_letters, takes_kept}
@@ -32,7 +34,8 @@ use Rattle.lot_conds.proofs.Rows.{same_part, row_enlist, row_look, row_lower, ro
 
 -- ---- a world after an event
 module _ (size : Size) (w : CondWorld) (t : ℕ) (p : CondPassView) (spots : ℕ → Spot) (c : ℕ) (f : Bool) (q : CondRootView) where
-  words_turned : (ws : List ℕ) → Fits size w ws → (x : ℕ) → IsAmongConds size.locks size.conds c → x ≡ flag_word f → letters_of spots ≡ letters_of w.spot
+  words_turned : (ws : List ℕ) → Fits size w ws → (x : ℕ) → IsAmongConds size.locks size.conds c → x ≡ flag_word f
+      → letters_of spots ≡ letters_of w.spot
       → WordsFit flag_word (sizes_of size) (turned w t p spots c f q) (set ws (word_at c) x)
   words_turned ws ok x among is letters = word_written flag_word (sizes_of size) w (turned w t p spots c f q) ws ok.words c x among
       (is ∙ sym (ap flag_word (put_same w.word c f))) (λ d ne. ap flag_word (put_other w.word c f d ne)) letters
@@ -40,22 +43,27 @@ module _ (size : Size) (w : CondWorld) (t : ℕ) (p : CondPassView) (spots : ℕ
   passes_else : (u : ℕ) (x : CondPassView) → u ≢ t → (u < size.threads) × (w.pass u ≡ x) → (u < size.threads) × (put w.pass t p u ≡ x)
   passes_else u x ne h = (h.0, put_other w.pass t p u ne ∙ h.1)
 
-  roots_else : (d : ℕ) (y : CondRootView) → d ≢ c → IsAmongConds size.locks size.conds d × (w.root d ≡ y) → IsAmongConds size.locks size.conds d × (put w.root c q d ≡ y)
+  roots_else : (d : ℕ) (y : CondRootView) → d ≢ c → IsAmongConds size.locks size.conds d × (w.root d ≡ y)
+      → IsAmongConds size.locks size.conds d × (put w.root c q d ≡ y)
   roots_else d y ne h = (h.0, put_other w.root c q d ne ∙ h.1)
 
 -- the root that is put again
-roots_same : (size : Size) (w : CondWorld) (c d : ℕ) (y : CondRootView) → IsAmongConds size.locks size.conds d × (w.root d ≡ y) → IsAmongConds size.locks size.conds d × (put w.root c (w.root c) d ≡ y)
+roots_same : (size : Size) (w : CondWorld) (c d : ℕ) (y : CondRootView) → IsAmongConds size.locks size.conds d × (w.root d ≡ y)
+    → IsAmongConds size.locks size.conds d × (put w.root c (w.root c) d ≡ y)
 roots_same size w c d y h = (h.0, (λ i. put_again w.root c i d) ∙ h.1)
 
-passes_same : (size : Size) (w : CondWorld) (t u : ℕ) (x : CondPassView) → (u < size.threads) × (w.pass u ≡ x) → (u < size.threads) × (put w.pass t (w.pass t) u ≡ x)
+passes_same : (size : Size) (w : CondWorld) (t u : ℕ) (x : CondPassView) → (u < size.threads) × (w.pass u ≡ x)
+    → (u < size.threads) × (put w.pass t (w.pass t) u ≡ x)
 passes_same size w t u x h = (h.0, (λ i. put_again w.pass t i u) ∙ h.1)
 
 -- a thread whose pass is calm is calm in the part of the model
-calm_in : (size : Size) (w : CondWorld) → Kept size.threads (key_count size) w → (t : ℕ) (p : CondPassView) → w.pass t ≡ p → IsCalm p → IsCalmIn (part_of w) t
+calm_in : (size : Size) (w : CondWorld) → Kept size.threads (key_count size) w → (t : ℕ) (p : CondPassView) → w.pass t ≡ p → IsCalm p
+    → IsCalmIn (part_of w) t
 calm_in size w ok t p is calm =
     let home : (w.pass t).out ≡ None = ap (λ (x : CondPassView). x.out) is ∙ calm.0 in (
       ap (λ (x : CondPassView). x.sweeps) is ∙ calm.1,
-      λ k h. let e : awake ≡ queued k = sym (awake_is size.threads w.root t (w.pass t) (w.spot t) (ok.threads t).spot home) ∙ (ok.threads t).in_line k h in cc,
+      λ k h. let e : awake ≡ queued k =
+          sym (awake_is size.threads w.root t (w.pass t) (w.spot t) (ok.threads t).spot home) ∙ (ok.threads t).in_line k h in cc,
     )
 
 -- ---- looking and lowering
@@ -84,7 +92,8 @@ module _ (size : Size) (p : PassRight CondPassView) (c : ℕ) (among : IsAmongCo
         made = (
           refl,
           (
-            row_look w size p.thread fit.0 c among (w.pass p.thread) w.spot (calm_in size w ok.kept p.thread p.own fit.1 calm) (get_or ws (word_at c) 0 == 1)
+            row_look w size p.thread fit.0 c among (w.pass p.thread) w.spot (calm_in size w ok.kept p.thread p.own fit.1 calm)
+                (get_or ws (word_at c) 0 == 1)
                 (ap (λ z. z == 1) found ∙ flag_found (w.word c)),
             refl,
           ),
@@ -128,10 +137,12 @@ flag_kept f more (u ∷ line) e some = ap (λ b. f && b) e ∙ and_true f
 
 flag_cleared : (f more : Bool) (line : List ℕ) → (line ≡ []) ⊎ (more ≡ false) → flag_after_call f more line ≡ false
 flag_cleared f more [] e = refl
-flag_cleared f more (u ∷ line) e = ⊎_elim {C = (f && more) ≡ false} (λ g. absurd (let h : u ∷ line ≡ [] = g in cc)) (λ m. ap (λ b. f && b) m ∙ and_false f) e
+flag_cleared f more (u ∷ line) e =
+    ⊎_elim {C = (f && more) ≡ false} (λ g. absurd (let h : u ∷ line ≡ [] = g in cc)) (λ m. ap (λ b. f && b) m ∙ and_false f) e
 
 -- where somebody is left, more was said, so the flag is as it was
-flag_left : (f more : Bool) (n : ℕ) (line : List ℕ) → SaysMoreBehind n line more → flag_after_call f more line ≡ false → drop n line ≢ [] → f ≡ false
+flag_left : (f more : Bool) (n : ℕ) (line : List ℕ) → SaysMoreBehind n line more → flag_after_call f more line ≡ false
+    → drop n line ≢ [] → f ≡ false
 flag_left f more n line says e some =
     let behind : n < length line = some_behind n line some in
     sym (flag_kept f more line (says behind) (λ none_left. let z : length line ≡ 0 = ap length none_left in absurd (omega arith))) ∙ e
@@ -149,10 +160,13 @@ Enlists = EnlistsWith 0
 
 abbrev pub Calls : PassRight CondPassView → RootRight CondRootView → ℕ → Bool → PassRight CondPassView → RootRight CondRootView → Type 0
 Calls p q n more p' q' =
-    Notes p (called_more p.own q.key (dequeued_count n q.own.line)) (Makes (Call p.thread q.key n more) (Count (dequeued_count n q.own.line))) p' × (q' ≡ record q { own = called_root q.own n })
+    Notes p (called_more p.own q.key (dequeued_count n q.own.line))
+    (Makes (Call p.thread q.key n more) (Count (dequeued_count n q.own.line))) p' × (q' ≡ record q { own = called_root q.own n })
 
 abbrev pub Sweeps : PassRight CondPassView → RootRight CondRootView → PassRight CondPassView → RootRight CondRootView → Type 0
-Sweeps p q p' q' = Notes p (swept_pass p.own q.key (length q.own.line)) (Makes (Sweep p.thread q.key) (Count (length q.own.line))) p' × (q' ≡ record q { own = swept_root q.own })
+Sweeps p q p' q' =
+    Notes p (swept_pass p.own q.key (length q.own.line)) (Makes (Sweep p.thread q.key) (Count (length q.own.line))) p'
+    × (q' ≡ record q { own = swept_root q.own })
 
 module _ (size : Size) (p : PassRight CondPassView) (q : RootRight CondRootView) where
   abbrev t : ℕ
@@ -161,7 +175,8 @@ module _ (size : Size) (p : PassRight CondPassView) (q : RootRight CondRootView)
   abbrev c : ℕ
   c = q.key
 
-  enlists_turn : IsCalm p.own → (l : ℕ) → l < size.locks → (w : CondWorld) (ws : List ℕ) (hs : List (maybe.Option (Unit {0}))) → Fits size w ws
+  enlists_turn : IsCalm p.own → (l : ℕ) → l < size.locks
+      → (w : CondWorld) (ws : List ℕ) (hs : List (maybe.Option (Unit {0}))) → Fits size w ws
       → (t < size.threads) × (w.pass t ≡ p.own) → IsKeyOf (sizes_of size) c × (w.root c ≡ q.own)
       → BothTurn (meaning size) (word_at c) 1 p q (EnlistsWith l p q) w ws hs
   enlists_turn calm l lock w ws hs ok fit root =
@@ -169,7 +184,8 @@ module _ (size : Size) (p : PassRight CondPassView) (q : RootRight CondRootView)
       let q1 : CondRootView = enlisted_root (w.root c) t in
       let spots : ℕ → Spot = put w.spot t (queued c) in
       let home : (w.pass t).out ≡ None = ap (λ (x : CondPassView). x.out) fit.1 ∙ calm.0 in
-      let letters : letters_of spots ≡ letters_of w.spot = same_letters w.spot t (queued c) (ap letter_of (sym (is_awake size.threads (key_count size) w ok.kept t c fit.0 root.0.1 home))) in
+      let letters : letters_of spots ≡ letters_of w.spot =
+      same_letters w.spot t (queued c) (ap letter_of (sym (is_awake size.threads (key_count size) w ok.kept t c fit.0 root.0.1 home))) in
       record {
         own = enlisted p.own c;
         its = enlisted_root q.own t;
@@ -184,7 +200,8 @@ module _ (size : Size) (p : PassRight CondPassView) (q : RootRight CondRootView)
         root = (root.0, put_same w.root c q1 ∙ ap (λ x. enlisted_root x t) root.1);
         passes = passes_else size w t p1 spots c true q1;
         roots = roots_else size w t p1 spots c true q1;
-        made = (refl, (row_enlist w size t fit.0 c root.0 p1 spots (calm_in size w ok.kept t p.own fit.1 calm) l lock q1 refl refl, letters));
+        made =
+            (refl, (row_enlist w size t fit.0 c root.0 p1 spots (calm_in size w ok.kept t p.own fit.1 calm) l lock q1 refl refl, letters));
         told = λ k. ((k, refl), refl);
       }
 
@@ -196,9 +213,11 @@ module _ (size : Size) (p : PassRight CondPassView) (q : RootRight CondRootView)
   enlists calm w ws hs ok fit root small = enlists_turn calm 0 ok.some w ws hs ok fit root
 
   module _ (calm : IsCalm p.own) (n : ℕ) (more : Bool) (few : IsCallCount n) (says : SaysMoreBehind n q.own.line more) where
-    calls : (w : CondWorld) (ws : List ℕ) (hs : List (maybe.Option (Unit {0}))) → Fits size w ws → (fit : (t < size.threads) × (w.pass t ≡ p.own))
+    calls : (w : CondWorld) (ws : List ℕ) (hs : List (maybe.Option (Unit {0}))) → Fits size w ws
+        → (fit : (t < size.threads) × (w.pass t ≡ p.own))
         → (root : IsAmongConds size.locks size.conds c × (w.root c ≡ q.own))
-        → (x : ℕ) → x ≡ flag_word (flag_after_call (w.word c) more q.own.line) → BothTurn (meaning size) (word_at c) x p q (Calls p q n more) w ws hs
+        → (x : ℕ) → x ≡ flag_word (flag_after_call (w.word c) more q.own.line)
+        → BothTurn (meaning size) (word_at c) x p q (Calls p q n more) w ws hs
     calls w ws hs ok fit root x is =
         let m : ℕ = key_count size in
         let line : List ℕ = q.own.line in
@@ -209,7 +228,8 @@ module _ (size : Size) (p : PassRight CondPassView) (q : RootRight CondRootView)
         let p1 : CondPassView = called_more (w.pass t) c k in
         let q1 : CondRootView = took_root (w.root c) (take n line) (drop n line) in
         let spots : ℕ → Spot = owing c (take n line) w.spot in
-        let letters : letters_of spots ≡ letters_of w.spot = takes_letters size.threads m w ok.kept c root.0.1 (take n line) (drop n line) parted f in
+        let letters : letters_of spots ≡ letters_of w.spot =
+        takes_letters size.threads m w ok.kept c root.0.1 (take n line) (drop n line) parted f in
         let w' : CondWorld = turned w t p1 spots c f q1 in
         record {
           own = called_more p.own c k;
@@ -230,8 +250,11 @@ module _ (size : Size) (p : PassRight CondPassView) (q : RootRight CondRootView)
           made = (
             refl,
             (
-              subst (λ z. IsStep size (part_of w) (Call t c n more) (Count (dequeued_count n z)) (part_of (turned w t p1 spots c (flag_after_call (w.word c) more z) q1))) line'
-                  (row_call w size t fit.0 c root.0 p1 spots (calm_in size w ok.kept t p.own fit.1 calm) n more q1 few (subst (λ z. SaysMoreBehind n z more) (sym line') says) refl
+              subst
+                  (λ z. IsStep size (part_of w) (Call t c n more) (Count (dequeued_count n z))
+                  (part_of (turned w t p1 spots c (flag_after_call (w.word c) more z) q1))) line'
+                  (row_call w size t fit.0 c root.0 p1 spots (calm_in size w ok.kept t p.own fit.1 calm) n more q1 few
+                  (subst (λ z. SaysMoreBehind n z more) (sym line') says) refl
                   (ap (drop n) (sym line'))),
               letters,
             ),
@@ -239,15 +262,18 @@ module _ (size : Size) (p : PassRight CondPassView) (q : RootRight CondRootView)
           told = λ i. ((i, refl), refl);
         }
 
-    pub call_loads : more ≡ true → 0 < dequeued_count n q.own.line → AllowsBoth (meaning size) (word_at c) (λ n. n) p q (λ _. Calls p q n more)
+    pub call_loads : more ≡ true → 0 < dequeued_count n q.own.line
+        → AllowsBoth (meaning size) (word_at c) (λ n. n) p q (λ _. Calls p q n more)
     call_loads is_more some w ws hs ok fit root small =
         let kept : flag_after_call (w.word c) more q.own.line ≡ w.word c = flag_kept (w.word c) more q.own.line is_more
         (λ none_left. let z : length q.own.line ≡ 0 = ap length none_left in absurd (omega arith)) in
         calls w ws hs ok fit root (get_or ws (word_at c) 0) (ok.words.words c root.0 ∙ ap flag_word (sym kept))
 
-    pub call_stores : (dequeued_count n q.own.line ≡ 0) ⊎ (more ≡ false) → AllowsBoth (meaning size) (word_at c) (λ _. 0) p q (λ _. Calls p q n more)
+    pub call_stores : (dequeued_count n q.own.line ≡ 0) ⊎ (more ≡ false)
+        → AllowsBoth (meaning size) (word_at c) (λ _. 0) p q (λ _. Calls p q n more)
     call_stores last w ws hs ok fit root small = calls w ws hs ok fit root 0 (ap flag_word (sym (flag_cleared (w.word c) more q.own.line
-        (⊎_elim {C = (q.own.line ≡ []) ⊎ (more ≡ false)} (λ none_taken. inl (nil_from_length q.own.line (omega (arith, few.0)))) inr last))))
+        (⊎_elim {C = (q.own.line ≡ []) ⊎ (more ≡ false)}
+        (λ none_taken. inl (nil_from_length q.own.line (omega (arith, few.0)))) inr last))))
 
   pub sweeps : p.own.sweeps ≡ Some c → AllowsBoth (meaning size) (word_at c) (λ n. n) p q (λ _. Sweeps p q)
   sweeps lowered w ws hs ok fit root small =
@@ -268,7 +294,9 @@ module _ (size : Size) (p : PassRight CondPassView) (q : RootRight CondRootView)
         fits = record {
           some = ok.some;
           words = words_turned size w t p1 spots c f q1 ws ok (get_or ws (word_at c) 0) root.0 (ok.words.words c root.0) letters;
-          kept = takes_kept size.threads m w ok.kept c root.0.1 q.own.line [] line' f t fit.0 None (λ k ne e. other_sweeps (w.pass t).sweeps c k lowered' ne e) (λ e some. absurd (some refl));
+          kept =
+              takes_kept size.threads m w ok.kept c root.0.1 q.own.line [] line' f t fit.0 None
+              (λ k ne e. other_sweeps (w.pass t).sweeps c k lowered' ne e) (λ e some. absurd (some refl));
         };
         pass = (fit.0, put_same w.pass t p1 ∙ ap (λ z. swept_pass z c (length q.own.line)) fit.1);
         root = (root.0, put_same w.root c q1 ∙ ap (λ z. took_root z q.own.line []) root.1);
@@ -304,7 +332,9 @@ module _ (size : Size) (q : RootRight CondRootView) (u : ℕ) (debt : Contains q
         world = w';
         fits = record {
           some = ok.some;
-          words = letter_written flag_word (sizes_of size) w w' ws ok.words u 1 (waits_out size.threads m w ok.kept u c debt').0.0 (sym (ap letter_of (put_same w.spot u (lying c 0))))
+          words =
+              letter_written flag_word (sizes_of size) w w' ws ok.words u 1 (waits_out size.threads m w ok.kept u c debt').0.0
+              (sym (ap letter_of (put_same w.spot u (lying c 0))))
               (λ v ne. ap letter_of (put_other w.spot u (lying c 0) v ne)) (λ d. ap flag_word (λ i. put_again w.word c i d));
           kept = posts_kept size.threads m w ok.kept u c debt';
         };
@@ -332,7 +362,8 @@ collected_some p q zero ne h = absurd (ne refl)
 collected_some p q (suc token) ne h = let e : token ≡ suc token - 1 = omega arith in subst (λ z. Collected p z q) e h.1
 
 module _ (size : Size) (p : PassRight CondPassView) where
-  module _ (w : CondWorld) (ws : List ℕ) (hs : List (maybe.Option (Unit {0}))) (ok : Fits size w ws) (fit : (p.thread < size.threads) × (w.pass p.thread ≡ p.own)) where
+  module _ (w : CondWorld) (ws : List ℕ) (hs : List (maybe.Option (Unit {0}))) (ok : Fits size w ws)
+      (fit : (p.thread < size.threads) × (w.pass p.thread ≡ p.own)) where
     abbrev Turn : ℕ → Type 0
     Turn n = PassTurn (meaning size) (letter_at p.thread) 0 p (Collecting p n) w ws hs
 
@@ -342,7 +373,10 @@ module _ (size : Size) (p : PassRight CondPassView) where
       own = p.own;
       access = Collects p.thread None;
       world = w;
-      fits = subst (Fits size w) (sym (ap (set ws (letter_at p.thread)) (sym none_there ∙ sym (ok.words.letters p.thread fit.0)) ∙ set-get_or ws (letter_at p.thread) 0)) ok;
+      fits =
+          subst (Fits size w)
+          (sym (ap (set ws (letter_at p.thread)) (sym none_there ∙ sym (ok.words.letters p.thread fit.0))
+          ∙ set-get_or ws (letter_at p.thread) 0)) ok;
       pass = fit;
       passes = λ u x ne h. h;
       roots = λ d y h. h;
@@ -354,7 +388,8 @@ module _ (size : Size) (p : PassRight CondPassView) where
     one_lies c lies =
         let t : ℕ = p.thread in
         let m : ℕ = key_count size in
-        let fits : SpotFits size.threads w.root t (w.pass t) (lying c 0) = subst (SpotFits size.threads w.root t (w.pass t)) lies (ok.kept.threads t).spot in
+        let fits : SpotFits size.threads w.root t (w.pass t) (lying c 0) =
+        subst (SpotFits size.threads w.root t (w.pass t)) lies (ok.kept.threads t).spot in
         let near : c < m = (ok.kept.threads t).outs c fits.0.1 in
         let p1 : CondPassView = one_wait_more (w.pass t) c in
         let spots : ℕ → Spot = put w.spot t awake in
@@ -365,14 +400,25 @@ module _ (size : Size) (p : PassRight CondPassView) where
           world = w';
           fits = record {
             some = ok.some;
-            words = letter_written flag_word (sizes_of size) w w' ws ok.words t 0 fit.0 (sym (ap letter_of (put_same w.spot t awake))) (λ v ne. ap letter_of (put_other w.spot t awake v ne))
+            words =
+                letter_written flag_word (sizes_of size) w w' ws ok.words t 0 fit.0 (sym (ap letter_of (put_same w.spot t awake)))
+                (λ v ne. ap letter_of (put_other w.spot t awake v ne))
                 (λ d. ap flag_word (λ i. put_again w.word c i d));
             kept = collects_kept size.threads m w ok.kept t c near lies;
           };
           pass = (fit.0, put_same w.pass t p1 ∙ ap (λ z. one_wait_more z c) fit.1);
           passes = passes_else size w t p1 spots c (w.word c) (w.root c);
           roots = roots_same size w c;
-          made = (refl, (ap letter_of lies, λ i. record { part = same_part w t p1 spots c (w.root c) refl refl i; letters = one_letter w.spot t awake i }));
+          made = (
+            refl,
+            (
+              ap letter_of lies,
+              λ i. record {
+                part = same_part w t p1 spots c (w.root c) refl refl i;
+                letters = one_letter w.spot t awake i;
+              },
+            ),
+          );
           told = λ k. (omega arith, (refl, (c, (sym (ap (λ (z : CondPassView). z.out) fit.1) ∙ fits.0.1, (k, refl)))));
         }
 
@@ -383,4 +429,6 @@ module _ (size : Size) (p : PassRight CondPassView) where
     by_spot (lying c k) is fits = subst (λ z. Turn (z + 1)) (sym fits.1) (one_lies c (is ∙ ap (lying c) fits.1))
 
   pub collects : AllowsPass (meaning size) (letter_at p.thread) (λ _. 0) p (Collecting p)
-  collects w ws hs ok fit small = subst (Turn w ws hs ok fit) (sym (ok.words.letters p.thread fit.0)) (by_spot w ws hs ok fit (w.spot p.thread) refl (ok.kept.threads p.thread).spot)
+  collects w ws hs ok fit small =
+      subst (Turn w ws hs ok fit) (sym (ok.words.letters p.thread fit.0))
+      (by_spot w ws hs ok fit (w.spot p.thread) refl (ok.kept.threads p.thread).spot)

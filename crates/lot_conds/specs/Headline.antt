@@ -17,7 +17,8 @@ use Rattle.lot_conds.specs.declared.views.Size.{Size}
 use Rattle.lot_conds.specs.World.{CondWorld, flag_word, taken_from}
 use Rattle.lot_conds.specs.Rule.{sizes_of, part_of, opening_part, IsStep, meaning}
 
--- Letters fit: a thread that is out on a condition is in the line of that one alone, or is owed a letter by that root alone, or a letter lies for it; the others have none
+-- Letters fit: a thread that is out on a condition is in the line of that one alone, or is owed a letter by that root alone, or a letter
+-- lies for it; the others have none
 pub record LettersFit (w : CondWorld) : Type 0 where
   pub out : (t : ℕ) → (w.pass t).out ≡ waits_on (w.spot t)
   pub lines : (t c : ℕ) → Contains (w.root c).line t ↔ (w.spot t ≡ queued c)
@@ -27,9 +28,12 @@ pub record LettersFit (w : CondWorld) : Type 0 where
   pub once_in_line : (c : ℕ) → IsOnce (w.root c).line
   pub owed_once : (c : ℕ) → IsOnce (w.root c).owes
 
--- the ledger, among n threads: in each condition, the sleepers that were taken are the waits that ended and the letters that are owed or lie
+-- the ledger, among n threads: in each condition, the sleepers that were taken are the waits that ended and the letters that are owed or
+-- lie
 abbrev pub IsBalanced : ℕ → CondWorld → Type 0
-IsBalanced n w = (c : ℕ) → total n (λ t. slice_index (w.pass t).called c) ≡ total n (λ t. slice_index (w.pass t).woken c) + total n (λ t. taken_from c (w.spot t))
+IsBalanced n w =
+    (c : ℕ) → total n (λ t. slice_index (w.pass t).called c) ≡ total n (λ t. slice_index (w.pass t).woken c)
+    + total n (λ t. taken_from c (w.spot t))
 
 pub record Headline (size : Size) (s : State (Unit {0}) (List (Right CondPassView CondRootView))) : Type 0 where
   pub world : CondWorld
@@ -42,7 +46,8 @@ pub record Headline (size : Size) (s : State (Unit {0}) (List (Right CondPassVie
   -- who is in a line is a thread
   pub are_threads : (c t : ℕ) → Contains ((part_of world).conds.line c) t → t < size.threads
   -- where the flag is clear and threads are in the line, one thread is about to sweep them
-  pub someone_sweeps : (c : ℕ) → (part_of world).conds.flag c ≡ false → (part_of world).conds.line c ≢ [] → (t : ℕ) × ((t < size.threads) × ((part_of world).sweeps t ≡ Some c))
+  pub someone_sweeps : (c : ℕ) → (part_of world).conds.flag c ≡ false → (part_of world).conds.line c ≢ []
+      → (t : ℕ) × ((t < size.threads) × ((part_of world).sweeps t ≡ Some c))
   pub balanced : IsBalanced size.threads world
   -- one legal history, of which the rights have all entries, has led here; without its notices it is a run of the model
   pub log : List Entry

@@ -19,7 +19,8 @@ flag_word true = 1
 abbrev pub IsOut : ℕ → ℕ → CondPassView → ℕ → Type 0
 IsOut n t p c = (t < n) × (p.out ≡ Some c)
 
--- letters: a pass that was queued and has not collected is in its condition's line, or has exactly one letter, owed or lying; all tokens are 0
+-- letters: a pass that was queued and has not collected is in its condition's line, or has exactly one letter, owed or lying; all tokens
+-- are 0
 abbrev pub SpotFits : ℕ → (ℕ → CondRootView) → ℕ → CondPassView → Spot → Type 0
 SpotFits n root t p awake = p.out ≡ None
 SpotFits n root t p (queued c) = IsOut n t p c × Contains (root c).line t
@@ -35,7 +36,8 @@ taken_from c (lying d token) = if d == c then 1 else 0
 
 -- the ledger of c, among n threads: each sleeper that was taken from its line is one ended wait, or one letter
 abbrev pub LedgerFits : ℕ → (ℕ → CondPassView) → (ℕ → Spot) → ℕ → Type 0
-LedgerFits n pass spot c = total n (λ t. slice_index (pass t).called c) ≡ total n (λ t. slice_index (pass t).woken c) + total n (λ t. taken_from c (spot t))
+LedgerFits n pass spot c =
+    total n (λ t. slice_index (pass t).called c) ≡ total n (λ t. slice_index (pass t).woken c) + total n (λ t. taken_from c (spot t))
 
 -- the thread t with the pass p and its notice at sp, among the conditions; m is the number of all keys
 pub record ThreadFits (n m : ℕ) (root : ℕ → CondRootView) (t : ℕ) (p : CondPassView) (sp : Spot) : Type 0 where

@@ -1,9 +1,10 @@
-//! Condition words under one rule: the flag of WTF's `Condition`, and the letters by which waiting threads are told. Each call is one
-//! single access to one word, and makes exactly one entry of the table's history (lot_rights), which its contract names: an event of the
-//! model (lot_core), or a notice. Nothing here waits, and nothing but `open` takes memory. lot_sync builds the condition on it, with the
-//! parking lot of lot_park; lot_words is its sibling.
+//! Condition words under one rule: the flag of WTF's `Condition`, and the letters by which waiting threads are told.
+//! Each call is one single access to one word, and makes exactly one entry of the table's history (lot_rights), which
+//! its contract names: an event of the model (lot_core), or a notice. Nothing here waits, and nothing but `open` takes
+//! memory. lot_sync builds the condition on it, with the parking lot of lot_park; lot_words is its sibling.
 //!
-//! A thread acts with its `CondPass`, and a condition's line changes with its `CondRoot`, which lies in the bucket of the condition.
+//! A thread acts with its `CondPass`, and a condition's line changes with its `CondRoot`, which lies in the bucket of
+//! the condition.
 //!
 //! | Call | Access | Entry | The pass then |
 //! |---|---|---|---|
@@ -15,10 +16,12 @@
 //! | `post` | store 1 | a letter was posted, with the root | (the root owes one letter less) |
 //! | `collect` | swap | a letter was looked for, and found or not | is in again, where a letter lay |
 //!
-//! A word is 1 where threads may wait on the condition, else 0. A letter is 0 for none, and 1 for a thread that was taken.
+//! A word is 1 where threads may wait on the condition, else 0. A letter is 0 for none, and 1 for a thread that was
+//! taken.
 //!
-//! Read `specs/World` first (what the words and rights stand for), then `specs/Rule` (the rule that every access keeps), `specs/Calls` and
-//! `specs/Headline`: letters fit, no sleeper is forgotten, the ledger is balanced, one history.
+//! Read `specs/World` first (what the words and rights stand for), then `specs/Rule` (the rule that every access
+//! keeps), `specs/Calls` and `specs/Headline`: letters fit, no sleeper is forgotten, the ledger is balanced, one
+//! history.
 #![tactic(auto)]
 
 mod closing;

@@ -14,8 +14,8 @@ use lot_rights::word_of_key;
 use std::marker::Brand;
 
 impl CondWords {
-    /// Whether the condition's flag is set, by one load: the fast path of WTF's `Condition::notifyOne`. Where it is clear, nobody is in
-    /// the line but threads that another is about to sweep. The event is Look.
+    /// Whether the condition's flag is set, by one load: the fast path of WTF's `Condition::notifyOne`. Where it is
+    /// clear, nobody is in the line but threads that another is about to sweep. The event is Look.
     #[inline(always)]
     pub fn look(&self, pass: CondPass, key: usize) -> (CondPass, bool)
         requires table { pass.table ≡ self.now.table }
@@ -29,23 +29,24 @@ impl CondWords {
         (pass, found == HAS_WAITERS)
     }
 
-    /// Clears the condition's flag, by one store: the first step of WTF's `Condition::notifyAll`, which locks no bucket. `sweep` has to
-    /// follow. The event is Lower.
+    /// Clears the condition's flag, by one store: the first step of WTF's `Condition::notifyAll`, which locks no
+    /// bucket. `sweep` has to follow. The event is Lower.
     pub fn lower(&self, pass: CondPass, key: usize) -> CondPass
         requires table { pass.table ≡ self.now.table }
         requires key { IsAmongConds self.now.size.locks self.now.size.conds key }
         requires calm { IsCalm pass.pass.own }
         ensures table { result.table ≡ pass.table }
-        ensures event { Notes pass.pass (lowering pass.pass.own key) (Makes (Lower pass.pass.thread key) Done) result.pass }
+        ensures event { Notes pass.pass (lowering pass.pass.own key)
+            (Makes (Lower pass.pass.thread key) Done) result.pass }
     {
         let words = &self.words;
         words.store::<Brand, usize>(pass, word_of_key(key), CLEAR, key)
     }
 
-    /// Takes the first `count` threads of the condition's line, or all where they are fewer, by one access, while the bucket of the
-    /// condition is locked: the callback of WTF's `Condition::notifyOne`, for one or several. `taken` is how many they are. Where more
-    /// threads may wait the flag stays, by one load; else, and where nobody was in the line, one store clears it. The root then owes each
-    /// of those threads a letter. The event is Call.
+    /// Takes the first `count` threads of the condition's line, or all where they are fewer, by one access, while the
+    /// bucket of the condition is locked: the callback of WTF's `Condition::notifyOne`, for one or several. `taken` is
+    /// how many they are. Where more threads may wait the flag stays, by one load; else, and where nobody was in the
+    /// line, one store clears it. The root then owes each of those threads a letter. The event is Call.
     ///
     /// Where more than `count` threads are in the line, `more` has to be true.
     pub fn call(
@@ -62,7 +63,8 @@ impl CondWords {
         requires taken { dequeued_count count root.root.own.line ≡ taken }
         requires more { SaysMoreBehind count root.root.own.line more }
         ensures table { (result.0.table ≡ pass.table) × (result.1.table ≡ root.table) }
-        ensures event { Notes pass.pass (called_more pass.pass.own root.root.key taken) (Makes (Call pass.pass.thread root.root.key count more) (Count taken)) result.0.pass }
+        ensures event { Notes pass.pass (called_more pass.pass.own root.root.key taken)
+            (Makes (Call pass.pass.thread root.root.key count more) (Count taken)) result.0.pass }
         ensures root { result.1.root ≡ record root.root { own = called_root root.root.own count } }
     {
         let words = &self.words;
@@ -80,14 +82,16 @@ impl CondWords {
         }
     }
 
-    /// Takes all threads of the condition's line, by one load, while the bucket of the condition is locked: the second step of WTF's
-    /// `Condition::notifyAll`. `taken` is how many they are. The root then owes each of them a letter. The event is Sweep.
+    /// Takes all threads of the condition's line, by one load, while the bucket of the condition is locked: the second
+    /// step of WTF's `Condition::notifyAll`. `taken` is how many they are. The root then owes each of them a letter.
+    /// The event is Sweep.
     pub fn sweep(&self, pass: CondPass, root: CondRoot, taken: usize) -> (CondPass, CondRoot)
         requires table { (pass.table ≡ self.now.table) × (root.table ≡ self.now.table) }
         requires lowered { (pass.pass.own.out ≡ None) × (pass.pass.own.sweeps ≡ Some root.root.key) }
         requires taken { length root.root.own.line ≡ taken }
         ensures table { (result.0.table ≡ pass.table) × (result.1.table ≡ root.table) }
-        ensures event { Notes pass.pass (swept_pass pass.pass.own root.root.key taken) (Makes (Sweep pass.pass.thread root.root.key) (Count taken)) result.0.pass }
+        ensures event { Notes pass.pass (swept_pass pass.pass.own root.root.key taken)
+            (Makes (Sweep pass.pass.thread root.root.key) (Count taken)) result.0.pass }
         ensures root { result.1.root ≡ record root.root { own = swept_root root.root.own } }
     {
         let words = &self.words;

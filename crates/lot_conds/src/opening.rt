@@ -12,8 +12,8 @@ use lot_rights::{WordsFault, WordsOf};
 use std::alloc::Global;
 
 impl CondWords {
-    /// Opens a table for so many threads and conditions, whose numbers follow those of the locks. The answer has a pass for each thread
-    /// and a root for each condition, in order. There may be no condition.
+    /// Opens a table for so many threads and conditions, whose numbers follow those of the locks. The answer has a pass
+    /// for each thread and a root for each condition, in order. There may be no condition.
     pub fn open(
         alloc: Global,
         threads: usize,
@@ -21,10 +21,14 @@ impl CondWords {
         conds: usize,
     ) -> Result<(CondWords, Vec<CondPass>, Vec<CondRoot>), WordsFault>
         requires limits { (0 < threads) × (threads ≤ MAX_THREADS) × (0 < locks) × (locks + conds ≤ MAX_KEYS) }
-        ensures size { IfOk result (λ r. (r.0.size.threads ≡ threads) × (r.0.size.locks ≡ locks) × (r.0.size.conds ≡ conds)) }
-        ensures passes { IfOk result (λ r. (vec_len r.1 ≡ threads) × ((k : ℕ) → k < threads → slice_get r.1.items k ≡ Some (pass_at (meaning r.0.size) r.0.table k))) }
-        ensures roots { IfOk result (λ r. (vec_len r.2 ≡ conds) × ((k : ℕ) → k < conds → slice_get r.2.items k ≡ Some (root_at (meaning r.0.size) r.0.table (locks + k)))) }
-        ensures rule { IfOk result (λ r. Begins (meaning r.0.size) (replicate (word_count r.0.size.threads (key_count r.0.size)) 0) []) }
+        ensures size { IfOk result (λ r. (r.0.size.threads ≡ threads) × (r.0.size.locks ≡ locks)
+            × (r.0.size.conds ≡ conds)) }
+        ensures passes { IfOk result (λ r. (vec_len r.1 ≡ threads)
+            × ((k : ℕ) → k < threads → slice_get r.1.items k ≡ Some (pass_at (meaning r.0.size) r.0.table k))) }
+        ensures roots { IfOk result (λ r. (vec_len r.2 ≡ conds)
+            × ((k : ℕ) → k < conds → slice_get r.2.items k ≡ Some (root_at (meaning r.0.size) r.0.table (locks + k)))) }
+        ensures rule { IfOk result
+            (λ r. Begins (meaning r.0.size) (replicate (word_count r.0.size.threads (key_count r.0.size)) 0) []) }
     {
         let size = Size {
             threads: threads as u64,

@@ -23,7 +23,8 @@ pub struct CondRootView {
     pub owes: LinkedList<u64>,
 }
 
-/// Names a `CondPassView` where a type is asked for. It has no fields, so the type of a table does not spell out what a pass knows.
+/// Names a `CondPassView` where a type is asked for. It has no fields, so the type of a table does not spell out what a
+/// pass knows.
 pub struct PassKnowledge;
 
 impl Model for PassKnowledge {
@@ -35,7 +36,8 @@ impl Model for PassKnowledge {
     ghost view = { λ _. no_pass };
 }
 
-/// Names a `CondRootView` where a type is asked for. It has no fields, so the type of a table does not spell out what a root knows.
+/// Names a `CondRootView` where a type is asked for. It has no fields, so the type of a table does not spell out what a
+/// root knows.
 pub struct RootKnowledge;
 
 impl Model for RootKnowledge {

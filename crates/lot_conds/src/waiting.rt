@@ -20,14 +20,16 @@ const NO_LETTER: u64 = 0;
 const LETTER: u64 = 1;
 
 impl CondWords {
-    /// Queues the thread last on the root's condition and sets its flag, by one store: the validation of WTF's `Condition::wait`,
-    /// which runs while the bucket of the condition is locked. The event is Enlist. It stands in the history with lock 0; which lock the
-    /// thread has the caller alone knows, since it makes no difference to the condition (`laws::an_enlist_is_so_with_each_lock`).
+    /// Queues the thread last on the root's condition and sets its flag, by one store: the validation of WTF's
+    /// `Condition::wait`, which runs while the bucket of the condition is locked. The event is Enlist. It stands in the
+    /// history with lock 0; which lock the thread has the caller alone knows, since it makes no difference to the
+    /// condition (`laws::an_enlist_is_so_with_each_lock`).
     pub fn enlist(&self, pass: CondPass, root: CondRoot) -> (CondPass, CondRoot)
         requires table { (pass.table ≡ self.now.table) × (root.table ≡ self.now.table) }
         requires calm { IsCalm pass.pass.own }
         ensures table { (result.0.table ≡ pass.table) × (result.1.table ≡ root.table) }
-        ensures event { Notes pass.pass (enlisted pass.pass.own root.root.key) (Makes (Enlist pass.pass.thread root.root.key 0) Done) result.0.pass }
+        ensures event { Notes pass.pass (enlisted pass.pass.own root.root.key)
+            (Makes (Enlist pass.pass.thread root.root.key 0) Done) result.0.pass }
         ensures root { result.1.root ≡ record root.root { own = enlisted_root root.root.own pass.pass.thread } }
     {
         let words = &self.words;
@@ -40,20 +42,22 @@ impl CondWords {
         requires table { root.table ≡ self.now.table }
         requires owes { Contains root.root.own.owes thread }
         ensures table { result.table ≡ root.table }
-        ensures posted { RootNotes root.root (paid_root root.root.own thread) (Posts root.root.key thread 0) result.root }
+        ensures posted { RootNotes root.root (paid_root root.root.own thread)
+            (Posts root.root.key thread 0) result.root }
     {
         let words = &self.words;
         let letter = root.letter_of(thread);
         words.store_root::<Brand, usize>(root, letter, LETTER, thread)
     }
 
-    /// Collects the pass's letter, by one swap, and answers its token, which is 0, where a letter lay: the thread was taken from the
-    /// condition's line, and its wait has ended. A pass that is out nowhere has no letter. A thread that waits calls it until a letter
-    /// lies; what wakes it tells nothing.
+    /// Collects the pass's letter, by one swap, and answers its token, which is 0, where a letter lay: the thread was
+    /// taken from the condition's line, and its wait has ended. A pass that is out nowhere has no letter. A thread that
+    /// waits calls it until a letter lies; what wakes it tells nothing.
     pub fn collect(&self, pass: CondPass) -> (CondPass, Option<u32>)
         requires { pass.table ≡ self.now.table }
         ensures table { result.0.table ≡ pass.table }
-        ensures letter { MatchOption result.1 (FoundNone pass.pass result.0.pass) (λ token. Collected pass.pass token result.0.pass) }
+        ensures letter { MatchOption result.1 (FoundNone pass.pass result.0.pass)
+            (λ token. Collected pass.pass token result.0.pass) }
     {
         let words = &self.words;
         let place = pass.letter();

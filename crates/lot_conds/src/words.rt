@@ -16,7 +16,8 @@ pub const HAS_WAITERS: u64 = 1;
 
 /// The words of all conditions and the letters of all threads, under the condition rule.
 ///
-/// A word's place tells whose it is, so the places of the locks' numbers, which come before the conditions', are not used.
+/// A word's place tells whose it is, so the places of the locks' numbers, which come before the conditions', are not
+/// used.
 pub struct CondWords {
     pub(crate) words: WordsOf<Conditions>,
     pub(crate) ghost some: { 0 < words.key.threads },

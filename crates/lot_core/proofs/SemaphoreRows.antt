@@ -30,7 +30,8 @@ rows first_sem xs line =
     }
 
 -- the permits of one semaphore are written
-pub rows_moved : (first_sem : ℕ) (xs : List Semaphore) (line : ℕ → List ℕ) (k t a b : ℕ) (old new : Semaphore) → first_sem ≤ k → k - first_sem < length xs →
+pub rows_moved : (first_sem : ℕ) (xs : List Semaphore) (line : ℕ → List ℕ) (k t a b : ℕ) (old new : Semaphore) → first_sem ≤ k
+    → k - first_sem < length xs →
     old ≡ get_or xs (k - first_sem) old → new.parked ≡ old.parked → new.left ≡ a → new.out.items ≡ set old.out.items t b
     → t < length old.out.items →
     rows first_sem (set xs (k - first_sem) new) line
@@ -42,20 +43,23 @@ rows_moved first_sem xs line k t a b old new from within is parked left out near
     ap (row 0) out ∙ row_set 0 old.out.items t b near ∙ ap (λ (f : ℕ → ℕ). put f t b) (sym item) in
     ap (λ (f : ℕ → ℕ). let y : Semaphores = record (rows first_sem (set xs (k - first_sem) new) line) { left = f } in y)
     (told_write (λ m. m.left) 0 first_sem xs k new from within ∙ ap (put z.left k) left)
-    ∙ ap (λ (f : ℕ → Bool). let y : Semaphores = record (rows first_sem (set xs (k - first_sem) new) line) { left = put z.left k a; parked = f } in y)
+    ∙ ap (λ (f : ℕ → Bool). let y : Semaphores =
+    record (rows first_sem (set xs (k - first_sem) new) line) { left = put z.left k a; parked = f } in y)
     (told_rewrite (λ m. m.parked) false first_sem xs k old new from within is parked)
     ∙ ap (λ (f : ℕ → ℕ → ℕ). let y : Semaphores = record z { left = put z.left k a; out = f } in y)
     (told_write (λ m. row 0 m.out.items) (λ t. 0) first_sem xs k new from within ∙ ap (put z.out k) outs)
 
 -- its parked bit is written
-pub rows_parked : (first_sem : ℕ) (xs : List Semaphore) (line : ℕ → List ℕ) (k : ℕ) (old new : Semaphore) → first_sem ≤ k → k - first_sem < length xs →
+pub rows_parked : (first_sem : ℕ) (xs : List Semaphore) (line : ℕ → List ℕ) (k : ℕ) (old new : Semaphore) → first_sem ≤ k
+    → k - first_sem < length xs →
     old ≡ get_or xs (k - first_sem) old → new.left ≡ old.left → new.out.items ≡ old.out.items →
     rows first_sem (set xs (k - first_sem) new) line ≡ with_sem_parked (rows first_sem xs line) k new.parked
 rows_parked first_sem xs line k old new from within is left out =
     let z = rows first_sem xs line in
     ap (λ (f : ℕ → ℕ). let y : Semaphores = record (rows first_sem (set xs (k - first_sem) new) line) { left = f } in y)
     (told_rewrite (λ m. m.left) 0 first_sem xs k old new from within is left)
-    ∙ ap (λ (f : ℕ → Bool). let y : Semaphores = record (rows first_sem (set xs (k - first_sem) new) line) { left = z.left; parked = f } in y)
+    ∙ ap (λ (f : ℕ → Bool). let y : Semaphores =
+    record (rows first_sem (set xs (k - first_sem) new) line) { left = z.left; parked = f } in y)
     (told_write (λ m. m.parked) false first_sem xs k new from within)
     ∙ ap (λ (f : ℕ → ℕ → ℕ). let y : Semaphores = record z { parked = put z.parked k new.parked; out = f } in y)
     (told_rewrite (λ m. row 0 m.out.items) (λ t. 0) first_sem xs k old new from within is (ap (row 0) out))
@@ -68,7 +72,8 @@ item_left s k m has is = told_item (λ m. m.left) 0 s.first_sem s.items.items k 
 pub item_out : (s : Row) (k t : ℕ) (m : Semaphore) → HasSemaphore s k → m ≡ get_or s.items.items (k - s.first_sem) m
     → (semaphores_of s).out k t ≡ get_or m.out.items t 0
 item_out s k t m has is =
-    ap (λ (f : ℕ → ℕ). f t) (told_item (λ m. row 0 m.out.items) (λ t. 0) s.first_sem s.items.items k m has.0 has.1 is) ∙ row_at 0 m.out.items t
+    ap (λ (f : ℕ → ℕ). f t) (told_item (λ m. row 0 m.out.items) (λ t. 0) s.first_sem s.items.items k m has.0 has.1 is)
+    ∙ row_at 0 m.out.items t
 
 pub item_wide : (s : Row) (k : ℕ) (m : Semaphore) → HasSemaphore s k → m ≡ get_or s.items.items (k - s.first_sem) m
     → length m.out.items ≡ s.threads
@@ -123,11 +128,13 @@ element (x ∷ xs) (suc i) within = element xs i (omega arith)
 -- permits are conserved by the shape of a semaphore
 pub conserved : (s : Row) → PermitsConserved s.threads (permits_of s) (semaphores_of s)
 conserved s k = elim (cases_lt k s.first_sem) [
-  | inl before ↦ none (row_from_before 0 s.first_sem _ k before) (row_from_before (λ t. 0) s.first_sem _ k before) (row_from_before 0 s.first_sem _ k before)
+  | inl before ↦ none (row_from_before 0 s.first_sem _ k before) (row_from_before (λ t. 0) s.first_sem _ k before)
+      (row_from_before 0 s.first_sem _ k before)
   | inr from ↦ elim (cases_lt (k - s.first_sem) (length s.items.items)) [
     | inl within ↦ of (element s.items.items (k - s.first_sem) within) from within
     | inr past ↦
-        none (row_from_past 0 s.first_sem _ k (rw length-map (omega arith))) (row_from_past (λ t. 0) s.first_sem _ k (rw length-map (omega arith)))
+        none (row_from_past 0 s.first_sem _ k (rw length-map (omega arith)))
+        (row_from_past (λ t. 0) s.first_sem _ k (rw length-map (omega arith)))
         (row_from_past 0 s.first_sem _ k (rw length-map (omega arith)))
   ]
 ]
@@ -197,6 +204,7 @@ new_rows threads first_sem permits xs line new empty =
     ap (λ (f : ℕ → ℕ). let y : Semaphores = record (rows first_sem xs line) { left = f } in y) (ap (row_from 0 first_sem) new.left_are)
     ∙ ap (λ (f : ℕ → Bool). let y : Semaphores = record (rows first_sem xs line) { left = row_from 0 first_sem permits; parked = f } in y)
     (told_none (λ m. m.parked) false first_sem xs new.unparked)
-    ∙ ap (λ (l : ℕ → List ℕ). let y : Semaphores = record (rows first_sem xs l) { left = row_from 0 first_sem permits; parked = λ k. false } in y) empty
+    ∙ ap (λ (l : ℕ → List ℕ). let y : Semaphores =
+    record (rows first_sem xs l) { left = row_from 0 first_sem permits; parked = λ k. false } in y) empty
     ∙ ap (λ (f : ℕ → ℕ → ℕ). let y : Semaphores = record (none_taken (row_from 0 first_sem permits)) { out = f } in y)
     (told_none (λ m. row 0 m.out.items) (λ t. 0) first_sem xs new.unused)

@@ -61,7 +61,8 @@ pub fn every_step_keeps_its_part_sound()
         LockStep threads locks a e saw b → IsSoundLockPart threads a → IsSoundLockPart threads b }
     ensures cond_part { (threads locks conds : ℕ) (a b : CondPart) (e : Event) (saw : Seen) →
         CondStep threads locks conds a e saw b → IsSoundCondPart threads a → IsSoundCondPart threads b }
-    ensures semaphore_part { (threads first_sem sems : ℕ) (permits : ℕ → ℕ) (a b : SemaphorePart) (e : Event) (saw : Seen) →
+    ensures semaphore_part { (threads first_sem sems : ℕ) (permits : ℕ → ℕ) (a b : SemaphorePart)
+        (e : Event) (saw : Seen) →
         SemaphoreStep threads first_sem sems a e saw b →
         IsSoundSemaphorePart threads permits a → IsSoundSemaphorePart threads permits b }
     ensures whole { (s : World) → IsSound s →

@@ -35,7 +35,11 @@ module _ {O C R : Type 0} where
   pub goes_on_on : (x y z : JournalView O C R) → GoesOn x y → GoesOn y z → GoesOn x z
   goes_on_on x y z a b = record {
     opening = b.opening ∙ a.opening;
-    history = (a.history.0 ++ b.history.0, sym (append_assoc x.history a.history.0 b.history.0) ∙ (ap (λ h. h ++ b.history.0) a.history.1 ∙ b.history.1));
+    history = (
+      a.history.0 ++ b.history.0,
+      sym (append_assoc x.history a.history.0 b.history.0)
+          ∙ (ap (λ h. h ++ b.history.0) a.history.1 ∙ b.history.1),
+    );
   }
 
 module _ {O C R : Type 0} (after : O → C → O) (reply : O → C → R) where

@@ -11,8 +11,8 @@ use std::marker::Model;
 
 /// An object with the history of all calls that were made on it, and the object that it began with.
 ///
-/// Make one for each lock by `new`, and let the lock's owner `call`: what he puts back then keeps the rule, has grown, and has the
-/// calls of the other threads unchanged.
+/// Make one for each lock by `new`, and let the lock's owner `call`: what he puts back then keeps the rule, has grown,
+/// and has the calls of the other threads unchanged.
 #[derive(Drop)]
 pub struct Journal<O: Sequential> {
     opening: O,
@@ -48,8 +48,8 @@ impl<O: Sequential> Keeps for Journal<O> {
 impl<O: Sequential> Journal<O> {
     ghost use Rattle.lot_journal.specs.Journal.{IsLegalJournal, GoesOn, calls_of, IsCalled};
 
-    /// A journal with no calls yet. The two objects have to be equal; the first is kept unchanged as the opening object. Later
-    /// calls take their memory from `alloc`.
+    /// A journal with no calls yet. The two objects have to be equal; the first is kept unchanged as the opening
+    /// object. Later calls take their memory from `alloc`.
     ///
     /// `let journal = Journal::new(alloc, Counter { total: 0 }, Counter { total: 0 });`
     pub fn new(alloc: Global, opening: O, object: O) -> Journal<O>
@@ -74,7 +74,9 @@ impl<O: Sequential> Journal<O> {
         ensures legal { IsLegalJournal O.after O.reply self.old → IsLegalJournal O.after O.reply self.new }
         ensures grown { GoesOn self.old self.new }
         ensures others { (t : ℕ) → t ≢ thread → calls_of t self.old ≡ calls_of t self.new }
-        ensures own { IfOk result (λ reply. calls_of thread self.new ≡ calls_of thread self.old ++ record { thread = thread; call = call; reply = reply } ∷ []) }
+        ensures own { IfOk result
+            (λ reply. calls_of thread self.new ≡ calls_of thread self.old
+            ++ record { thread = thread; call = call; reply = reply } ∷ []) }
     {
         self.history.reserve(1)?;
         let reply = self.object.apply(&call);

@@ -1,7 +1,8 @@
 //! A value that is its own legal history: an object of one thread together with all calls that were ever made on it.
 //!
-//! Put a `Journal` behind a lock, and any object that one thread can use is shared: the rule that the lock keeps (`Keeps` of
-//! `lot_words`) says that replaying the history from the opening object gives each reply and ends at the object.
+//! Put a `Journal` behind a lock, and any object that one thread can use is shared: the rule that the lock keeps
+//! (`Keeps` of `lot_words`) says that replaying the history from the opening object gives each reply and ends at the
+//! object.
 //!
 //! | | |
 //! |---|---|
@@ -9,8 +10,8 @@
 //! | `Entry` | one call: its thread, the call, its reply |
 //! | `Journal` | the opening object, the entries of all calls in order, and the object now |
 //!
-//! Read `specs/Legal` first (a legal history), then `specs/Journal` (how a journal grows, what of it belongs to a thread, what a call
-//! does). `laws` says what a legal history means to a caller.
+//! Read `specs/Legal` first (a legal history), then `specs/Journal` (how a journal grows, what of it belongs to a
+//! thread, what a call does). `laws` says what a legal history means to a caller.
 #![tactic(auto)]
 
 pub mod entry;

@@ -1,13 +1,15 @@
 //! Objects of one thread.
 ghost use Rattle.std.specs.Prelude.{◌≡◌};
 
-/// An object that one thread can use. Write an `impl` for the object that your threads are to share: a `Journal` of it is then a
-/// value that a lock can guard. Where it goes between threads, the object, its calls and its replies have to be `Send`.
+/// An object that one thread can use. Write an `impl` for the object that your threads are to share: a `Journal` of it
+/// is then a value that a lock can guard. Where it goes between threads, the object, its calls and its replies have to
+/// be `Send`.
 ///
 /// - `after o c`: the object `o` after the call `c`.
 /// - `reply o c`: what the object `o` replies to the call `c`.
 ///
-/// A counter has `type Call = Add;` and `type Reply = u64;`, its `after` is the counter with the sum, and its `reply` is that sum.
+/// A counter has `type Call = Add;` and `type Reply = u64;`, its `after` is the counter with the sum, and its `reply`
+/// is that sum.
 pub trait Sequential: Drop {
     /// What it can be asked to do.
     type Call: Copy;

@@ -19,7 +19,8 @@ IsAdded old thread call new = IsCalled counter_after total_after old thread call
 
 -- of its own calls the thread has one more, with this reply
 abbrev pub OwnIsMore : JournalView Counter Add ℕ → ℕ → Add → ℕ → JournalView Counter Add ℕ → Type 0
-OwnIsMore old thread call answer new = calls_of thread new ≡ calls_of thread old ++ record { thread = thread; call = call; reply = answer } ∷ []
+OwnIsMore old thread call answer new =
+    calls_of thread new ≡ calls_of thread old ++ record { thread = thread; call = call; reply = answer } ∷ []
 
 -- the thread's call is in the history, behind all that it had seen of it; and once, since of its own calls it has those and this one
 pub record IsThere (thread : ℕ) (call : Add) (seen now : JournalView Counter Add ℕ) : Type 0 where

@@ -72,8 +72,8 @@ impl Buffer {
         self.places.is_empty()
     }
 
-    /// Puts the number behind all that lie there. False, with nothing changed, where all places are taken, or where one more
-    /// could not be counted.
+    /// Puts the number behind all that lie there. False, with nothing changed, where all places are taken, or where one
+    /// more could not be counted.
     pub fn put(&mut self, n: u64) -> bool
         requires { IsFilled self.old }
         ensures put { MatchBool result (IsPut self.old n self.new) (self.new ≡ self.old) }

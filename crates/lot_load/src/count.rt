@@ -187,8 +187,8 @@ fn work<V: Counts + Send, N: LotName<V> + Send + Sync, T: Wait, G: Gate>(
     lot.leave(rt, pass);
 }
 
-/// One round of a worker: it locks the round's key, adds one to its counter and unlocks. Answers whether there was memory for
-/// the call.
+/// One round of a worker: it locks the round's key, adds one to its counter and unlocks. Answers whether there was
+/// memory for the call.
 pub fn go_round<V: Counts + Send, N: LotName<V> + Send + Sync, T: Wait, G: Gate>(
     rt: &T,
     lot: &Lot<V, N>,
@@ -217,14 +217,15 @@ pub fn go_round<V: Counts + Send, N: LotName<V> + Send + Sync, T: Wait, G: Gate>
 pub fn add_one<V: Counts, N>(held: &mut Held<V, N>, thread: usize) -> bool
     requires kept { V.keeps held.old.key held.old.value }
     ensures works { WorksOn V.Keeps held.old thread held.new }
-    ensures counted { MatchBool result (V.is_counted held.old.value thread held.new.value) (held.new.value ≡ held.old.value) }
+    ensures counted { MatchBool result (V.is_counted held.old.value thread held.new.value)
+        (held.new.value ≡ held.old.value) }
 {
     let key = held.key();
     held.value_mut().count_up(key, thread)
 }
 
-/// What the workers do with a value: they count themselves. The workers are generic over it, since a lot of journals has more types than
-/// the toolchain follows in a closure that a thread runs.
+/// What the workers do with a value: they count themselves. The workers are generic over it, since a lot of journals
+/// has more types than the toolchain follows in a closure that a thread runs.
 pub trait Counts: Keeps {
     ghost use Rattle.std.specs.Prelude.{◌≡◌, ◌≢◌, ℕ, MatchBool};
 
@@ -243,7 +244,8 @@ pub trait Counts: Keeps {
 impl Counts for Journal<Counter> {
     ghost use Rattle.lot_load.specs.Counters.{total_after, IsAdded, OwnIsMore};
 
-    ghost is_counted = { λ old thread new. IsAdded old thread (record { 0 = 1 }) new × OwnIsMore old thread (record { 0 = 1 }) (total_after old.object (record { 0 = 1 })) new };
+    ghost is_counted = { λ old thread new. IsAdded old thread (record { 0 = 1 }) new
+        × OwnIsMore old thread (record { 0 = 1 }) (total_after old.object (record { 0 = 1 })) new };
 
     fn count_up(&mut self, _key: usize, thread: usize) -> bool {
         self.call(thread, Add(1)).is_ok()

@@ -1,13 +1,14 @@
-//! Locks, conditions and semaphores under load, and scripts replayed: all that `lotstress` runs, and in `measure` what `lotbench` does.
+//! Locks, conditions and semaphores under load, and scripts replayed: all that `lotstress` runs, and in `measure` what
+//! `lotbench` does.
 //!
 //! - `count`: workers lock, count and unlock.
 //! - `relay`: producers put numbers into a buffer, consumers take them, and both wait on conditions.
 //! - `pool`: workers share the permits of a semaphore.
 //! - `replay`: the events of a script are made in the model.
 //!
-//! `run_command` runs what the words of a command line spell. Workers pass a gate at each point of a round, at which a test can hold
-//! them (`Gate`); the program's holds nobody. It stands on `lot_sync` (the locks, conditions and semaphores), `lot_journal` (what they
-//! guard), `lot_core` (the model) and `lot_command` (the command line).
+//! `run_command` runs what the words of a command line spell. Workers pass a gate at each point of a round, at which a
+//! test can hold them (`Gate`); the program's holds nobody. It stands on `lot_sync` (the locks, conditions and
+//! semaphores), `lot_journal` (what they guard), `lot_core` (the model) and `lot_command` (the command line).
 #![tactic(auto)]
 
 mod buffer;

@@ -3,7 +3,8 @@
 //! - `count`: each thread locks a lock by chance, adds one to its number and unlocks, so many times.
 //! - `share`: the same on one lock, for so long; how often the threads got it that got it least and most often.
 //! - `relay`: producers put into a buffer, consumers take from it, and both wait on conditions.
-//! - `wait`: how long it takes from asking for a lock to owning it, where each thread holds it for so long and stays outside for so long.
+//! - `wait`: how long it takes from asking for a lock to owning it, where each thread holds it for so long and stays
+//!   outside for so long.
 //! - `notify`: each thread notifies one on a condition, where nobody waits.
 //! - `turns`: each thread waits for its turn on a condition of its own, and notifies the next.
 //! - `permits`: each thread gets a permit of one semaphore and gives it back, so many times.

@@ -79,7 +79,8 @@ fn run<N: LotName<Inside> + Send + Sync, T: Threads + Wait + Sync, G: Gate + Syn
     opened: Opened<Inside>,
 ) -> Result<String, Failure>
     requires named { IsNamed N.LotName opened }
-    requires sizes { (opened.threads ≡ pooling.now.threads) × (length opened.values ≡ 1) × (opened.conds ≡ 0) × (length opened.permits ≡ 1) }
+    requires sizes { (opened.threads ≡ pooling.now.threads) × (length opened.values ≡ 1) × (opened.conds ≡ 0)
+        × (length opened.permits ≡ 1) }
 {
     let (lot, passes) = match start::<Inside, N>(alloc, pooling.threads, opened) {
         Ok(started) => started,

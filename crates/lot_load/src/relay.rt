@@ -306,7 +306,8 @@ impl<N: LotName<Buffer> + Send + Sync, T: Wait, G: Gate> Relays<'_, N, T, G> {
     }
 }
 
-/// A line for each number of the buffer, and whether each sleeper that was taken from a condition's line is one wait that ended.
+/// A line for each number of the buffer, and whether each sleeper that was taken from a condition's line is one wait
+/// that ended.
 fn print(alloc: Global, buffer: &Buffer, ledger: &Ledger) -> Result<String, Failure> {
     let mut text = String::new(alloc);
     writeln!(text, "put {}", buffer.put)?;

@@ -19,7 +19,8 @@ const ROUND: u64 = 500_000;
 /// What the workers tell one another.
 #[derive(Drop)]
 pub struct Flags {
-    /// 0 until all workers were started and have their passes; then 1, or 2 where one could not be started or got no pass.
+    /// 0 until all workers were started and have their passes; then 1, or 2 where one could not be started or got no
+    /// pass.
     go: AtomicU64,
     /// How many workers asked for their passes.
     ready: AtomicU64,
@@ -73,7 +74,8 @@ pub fn start<V: Keeps + Send, N: LotName<V> + Send>(
     requires named { IsNamed N.LotName opened }
     requires threads { opened.threads ≡ threads }
     requires rests { (p : PassView V) → Starts opened.values opened.threads p → V.rests (rested p) }
-    ensures lot { IfOk result (λ r. (r.0.threads ≡ opened.threads) × (r.0.locks ≡ length opened.values) × (r.0.conds ≡ opened.conds) × (r.0.sems ≡ length opened.permits)) }
+    ensures lot { IfOk result (λ r. (r.0.threads ≡ opened.threads) × (r.0.locks ≡ length opened.values)
+        × (r.0.conds ≡ opened.conds) × (r.0.sems ≡ length opened.permits)) }
     ensures room { IfOk result (λ r. (vec_len r.1 ≡ 0) × (threads ≤ vec_capacity r.1)) }
 {
     let passes = match Vec::with_capacity(alloc, threads) {

@@ -4,7 +4,8 @@ use Rattle.lot_rights.specs.declared.views.Access.{Access}
 use Rattle.lot_words.specs.declared.views.Place.{Place}
 use Rattle.lot_words.proofs.Owning.{owns_owning}
 use Rattle.lot_words.specs.CallersRule.{CallersRule}
-use Rattle.lot_words.specs.Calls.{owning as lock_owning, finding_parked as lock_finding_parked, letting_go as lock_letting_go, placing as lock_placing}
+use Rattle.lot_words.specs.Calls.{owning as lock_owning, finding_parked as lock_finding_parked, letting_go as lock_letting_go}
+use Rattle.lot_words.specs.Calls.{placing as lock_placing}
 use Rattle.lot_whole.specs.declared.views.Stand.TheVariants.{Idle}
 use Rattle.lot_whole.specs.Standing.{IsIdle}
 use Rattle.lot_whole.specs.Whole.{rises}

@@ -67,8 +67,8 @@ pub trait Sought<T>: Scheme {
         requires waits { seeks pass key Waits pass }
         ensures { MatchBool result.1 (seeks pass key Got result.0) (seeks pass key Waits result.0) };
 
-    /// What a thread does before it parks: it takes one where one is left by now, and else marks it as parked, unless it
-    /// was seen so.
+    /// What a thread does before it parks: it takes one where one is left by now, and else marks it as parked, unless
+    /// it was seen so.
     fn line_up(&self, pass: Self::Pass, key: usize, is_marked: bool) -> (Self::Pass, Seeking)
         requires has { has self.now key }
         requires waits { seeks pass key Waits pass }

@@ -6,7 +6,8 @@ use Rattle.lot_whole.specs.declared.views.LotPassView.{LotPassView}
 use Rattle.lot_whole.specs.declared.views.Stand.TheVariants.{Idle}
 use Rattle.lot_whole.specs.Family.{lock, cond, sem}
 use Rattle.lot_whole.specs.Standing.{IsUp, IsIdle}
-use Rattle.lot_scheme.specs.Standing.{LotStanding, adding, one_permit_more as stand_one_permit_more, one_permit_less as stand_one_permit_less}
+use Rattle.lot_scheme.specs.Standing.{LotStanding, adding, one_permit_more as stand_one_permit_more}
+use Rattle.lot_scheme.specs.Standing.{one_permit_less as stand_one_permit_less}
 use Rattle.lot_scheme.specs.Words.{UnfreedWord}
 use Rattle.lot_permits.specs.declared.permit.Freed.{Freed}
 use Rattle.lot_permits.specs.declared.permit.Freed.TheVariants.{Quiet, Woke, Nobody}

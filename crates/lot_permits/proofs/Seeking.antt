@@ -101,7 +101,8 @@ module _ {V : Type 0} where
     -- ---- as from where it began
     module _ (before : LotStanding V) (key : ℕ) (above : first_sem ≤ key) (may : MayTakePermit before.own key) (did : List Access)
         (sought : All (IsPermitSeek before.thread key) did) where
-      as_before_seeks : (after : LotStanding V) → IsSeekingFor first_sem (adding before did) key after → IsSeekingFor first_sem before key after
+      as_before_seeks : (after : LotStanding V) → IsSeekingFor first_sem (adding before did) key after
+          → IsSeekingFor first_sem before key after
       as_before_seeks after s = record {
         above = above;
         may = may;
@@ -110,7 +111,8 @@ module _ {V : Type 0} where
         is = s.is ∙ adding_on (seeking before key) did s.did;
       }
 
-      as_before : (next : Seeking) (after : LotStanding V) → Seeks first_sem (adding before did) key next after → Seeks first_sem before key next after
+      as_before : (next : Seeking) (after : LotStanding V) → Seeks first_sem (adding before did) key next after
+          → Seeks first_sem before key next after
       as_before Got after s = record {
         did = did ++ s.did;
         got = get_after before.thread key did s.did sought s.got;
@@ -152,11 +154,14 @@ module _ {V : Type 0} where
             (λ e. inr (e ∙ adding_on (seeking before key) did s.did)) s.is;
       }
 
-    goes : (before now after : LotStanding V) (key : ℕ) (next : Seeking) → IsAwakeFor first_sem before key now → Seeks first_sem now key next after
+    goes : (before now after : LotStanding V) (key : ℕ) (next : Seeking) → IsAwakeFor first_sem before key now
+        → Seeks first_sem now key next after
         → Seeks first_sem before key next after
     goes before now after key next s t = ⊎_elim {C = Seeks first_sem before key next after}
-        (λ e. as_before before key s.above s.may s.did s.sought next after (subst (λ (p : LotStanding V). Seeks first_sem p key next after) e t))
-        (λ e. as_seeking before key s.above s.may s.did s.sought next after (subst (λ (p : LotStanding V). Seeks first_sem p key next after) e t))
+        (λ e. as_before before key s.above s.may s.did s.sought next after
+        (subst (λ (p : LotStanding V). Seeks first_sem p key next after) e t))
+        (λ e. as_seeking before key s.above s.may s.did s.sought next after
+        (subst (λ (p : LotStanding V). Seeks first_sem p key next after) e t))
         s.is
 
     pub on : (before now after : LotStanding V) (key : ℕ) (far next : Seeking) → IsUnfinished far → Seeks first_sem before key far now
@@ -170,7 +175,8 @@ module _ {V : Type 0} where
     pub may_mark : (before now : LotStanding V) (key : ℕ) → IsSeekingFor first_sem before key now → MaySeek now.own key
     may_mark before now key s = subst (λ (p : LotStanding V). MaySeek p.own key) (sym s.is) (may_seek before key s.may)
 
-    pub marked_on : (before mid now : LotStanding V) (key : ℕ) (does : Bool) → IsSeekingFor first_sem before key mid → MarksPermit mid key does now
+    pub marked_on : (before mid now : LotStanding V) (key : ℕ) (does : Bool) → IsSeekingFor first_sem before key mid
+        → MarksPermit mid key does now
         → IsSeekingFor first_sem before key now
     marked_on before mid now key true s is =
         goes_on before mid now key (Makes (SemMark mid.thread key) Done) s (ap (λ (p : LotStanding V). p.thread) s.is, refl) is
@@ -178,7 +184,8 @@ module _ {V : Type 0} where
         goes_on before mid now key (Finds mid.thread key word) s (ap (λ (p : LotStanding V). p.thread) s.is, refl) is
 
     -- ---- after a try
-    pub tried : (p q : LotStanding V) (key : ℕ) → first_sem ≤ key → MayTakePermit p.own key → TakesPermit p key HasGot q → GetsPermit p key q
+    pub tried : (p q : LotStanding V) (key : ℕ) → first_sem ≤ key → MayTakePermit p.own key
+        → TakesPermit p key HasGot q → GetsPermit p key q
     tried p q key above may (did, word, is) = record { did = did; got = took_it p.thread key did word; is = is }
 
     pub found_none : (p q : LotStanding V) (key : ℕ) → first_sem ≤ key → MayTakePermit p.own key → TakesPermit p key Empty q

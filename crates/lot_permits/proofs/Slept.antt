@@ -70,6 +70,7 @@ module _ {V Part : Type 0} (rule : CallersRule V Part) where
         → Awaited (IsLooked rule) asleep token now
         → Seeks first_sem before key Parks now
     seeks_still asleep now token s a =
-        let kept = awaited_keeps (IsLooked rule) (λ (p q : LotStanding V). IsAsleepFor first_sem before key p → IsAsleepFor first_sem before key q)
+        let kept =
+        awaited_keeps (IsLooked rule) (λ (p q : LotStanding V). IsAsleepFor first_sem before key p → IsAsleepFor first_sem before key q)
         (λ p h. h) (λ p m q on look h. sleeps_on m q (on h) look) asleep token now a in
         wakes kept.0 now token (kept.1 s) kept.2

@@ -1,5 +1,6 @@
 -- The laws of lines and places that upper layers cite.
-use Rattle.std.proofs.Common.{◌≡◌, ◌≢◌, ℕ, zero, suc, ◌≤◌, inl, inr, true, List, [], ◌∷◌, ◌++◌, drop, length, Option, Some, refl, sym, ◌∙◌, ap, arith}
+use Rattle.std.proofs.Common.{◌≡◌, ◌≢◌, ℕ, zero, suc, ◌≤◌, inl, inr, true, List, [], ◌∷◌, ◌++◌, drop, length, Option, Some, refl, sym, ◌∙◌}
+use Rattle.std.proofs.Common.{ap, arith}
 use Rattle.std.proofs.lemmas.Bool.Decides.{eqb_tells}
 use Rattle.lot_places.specs.Queue.{line_of, without_count, without_first, without_key, first_of}
 use Rattle.lot_places.specs.Places.{has_key, root_at, with_root}
@@ -34,7 +35,12 @@ line_of-without_count_other j zero k queue other = refl
 line_of-without_count_other j (suc n) k [] other = refl
 line_of-without_count_other j (suc n) k (p ∷ queue) other =
     elim (eqb_tells p.1 k) [
-      | inl e ↦ rw e.0 (elim (eqb_tells p.1 j) [ inl f ↦ absurd (other (sym e.1 ∙ f.1)) | inr f ↦ rw f.0 (line_of-without_count_other j n k queue other) ])
+      | inl e ↦
+          rw e.0
+          (elim (eqb_tells p.1 j) [
+            | inl f ↦ absurd (other (sym e.1 ∙ f.1))
+            | inr f ↦ rw f.0 (line_of-without_count_other j n k queue other)
+          ])
       | inr e ↦ rw e.0 (elim (eqb_tells p.1 j) [
         | inl f ↦ rw f.0 (ap (λ xs. p.0 ∷ xs) (line_of-without_count_other j (suc n) k queue other))
         | inr f ↦ rw f.0 (line_of-without_count_other j (suc n) k queue other)
@@ -53,7 +59,9 @@ pub line_of-without_key_other : (j k : ℕ) (queue : List (ℕ × ℕ)) → k �
 line_of-without_key_other j k [] other = refl
 line_of-without_key_other j k (p ∷ queue) other =
     elim (eqb_tells p.1 k) [
-      | inl e ↦ rw e.0 (elim (eqb_tells p.1 j) [ inl f ↦ absurd (other (sym e.1 ∙ f.1)) | inr f ↦ rw f.0 (line_of-without_key_other j k queue other) ])
+      | inl e ↦
+          rw e.0
+          (elim (eqb_tells p.1 j) [ inl f ↦ absurd (other (sym e.1 ∙ f.1)) | inr f ↦ rw f.0 (line_of-without_key_other j k queue other) ])
       | inr e ↦ rw e.0 (elim (eqb_tells p.1 j) [
         | inl f ↦ rw f.0 (ap (λ xs. p.0 ∷ xs) (line_of-without_key_other j k queue other))
         | inr f ↦ rw f.0 (line_of-without_key_other j k queue other)
@@ -91,7 +99,8 @@ first_of_line t [] first = cc
 first_of_line t (x ∷ line) first = cc
 
 module _ {R : Type 0} where
-  pub root_at-with_same : (k : ℕ) (root : Option R) (places : List (ℕ × Option R)) → has_key k places ≡ true → root_at k (with_root k root places) ≡ root
+  pub root_at-with_same : (k : ℕ) (root : Option R) (places : List (ℕ × Option R)) → has_key k places ≡ true
+      → root_at k (with_root k root places) ≡ root
   root_at-with_same k root [] has = cc
   root_at-with_same k root (p ∷ places) has =
       elim (eqb_tells p.0 k) [
@@ -99,7 +108,8 @@ module _ {R : Type 0} where
         | inr e ↦ rw e.0 (rw e.0 (root_at-with_same k root places (rw e.0 at has)))
       ]
 
-  pub root_at-with_other : (j k : ℕ) (root : Option R) (places : List (ℕ × Option R)) → k ≢ j → root_at j (with_root k root places) ≡ root_at j places
+  pub root_at-with_other : (j k : ℕ) (root : Option R) (places : List (ℕ × Option R)) → k ≢ j
+      → root_at j (with_root k root places) ≡ root_at j places
   root_at-with_other j k root [] other = refl
   root_at-with_other j k root (p ∷ places) other =
       elim (eqb_tells p.0 k) [

@@ -1,8 +1,10 @@
 -- What a walk along a queue does to the line of a key.
-use Rattle.std.proofs.Common.{◌≡◌, ◌≢◌, ℕ, zero, suc, ◌+◌, ◌-◌, ◌<◌, ◌≤◌, min, inl, inr, List, [], ◌∷◌, ◌++◌, length, get_or, set, take, drop, remove, refl, sym, ◌∙◌, ap, arith, eq-eqb, add-one}
+use Rattle.std.proofs.Common.{◌≡◌, ◌≢◌, ℕ, zero, suc, ◌+◌, ◌-◌, ◌<◌, ◌≤◌, min, inl, inr, List, [], ◌∷◌, ◌++◌, length, get_or, set, take}
+use Rattle.std.proofs.Common.{drop, remove, refl, sym, ◌∙◌, ap, arith, eq-eqb, add-one}
 use Rattle.std.proofs.lemmas.Bool.{ne_eqb}
 use Rattle.std.proofs.lemmas.Bool.Decides.{eqb_tells}
-use Rattle.std.proofs.lemmas.List.{append_assoc, append-nil, take-append-drop, take_all, take_more, take_at, drop_at, drop_all, length-take-le, nil_from_length}
+use Rattle.std.proofs.lemmas.List.{append_assoc, append-nil, take-append-drop, take_all, take_more, take_at, drop_at, drop_all}
+use Rattle.std.proofs.lemmas.List.{length-take-le, nil_from_length}
 use Rattle.std.proofs.Math.Seq.{drop-cons, take-nil, take-suc-set}
 use Rattle.lot_places.proofs.Laws.{without_key_none}
 use Rattle.lot_places.specs.Queue.{line_of, without_count, without_key}
@@ -37,7 +39,8 @@ pub record IsTakenTo (k count : ℕ) (before queue : List (ℕ × ℕ)) (out : L
   pub left : take i queue ++ without_count rest k (drop i queue) ≡ without_count count k before
 
 module _ (k count : ℕ) (before queue : List (ℕ × ℕ)) (out : List ℕ) (i taken : ℕ) where
-  pub passed_on : (d : ℕ × ℕ) → taken < count → i < length queue → (get_or queue i d).1 ≢ k → IsTakenTo k count before queue out i taken → IsTakenTo k count before queue out (i + 1) taken
+  pub passed_on : (d : ℕ × ℕ) → taken < count → i < length queue → (get_or queue i d).1 ≢ k → IsTakenTo k count before queue out i taken
+      → IsTakenTo k count before queue out (i + 1) taken
   passed_on d more lt other w =
       let n = w.rest - 1 in
       let some : w.rest ≡ suc n = omega (arith, w.all) in
@@ -56,7 +59,8 @@ module _ (k count : ℕ) (before queue : List (ℕ × ℕ)) (out : List ℕ) (i 
       → min count (length (line_of k before)) ≤ length out → taken < length out
   room_for_one d more lt here w room = omega (arith, w.all, w.number, ap length (line_of-drop_same k queue i d lt here))
 
-  pub one_taken : (d : ℕ × ℕ) → taken < count → i < length queue → (get_or queue i d).1 ≡ k → taken < length out → IsTakenTo k count before queue out i taken
+  pub one_taken : (d : ℕ × ℕ) → taken < count → i < length queue → (get_or queue i d).1 ≡ k → taken < length out
+      → IsTakenTo k count before queue out i taken
       → IsTakenTo k count before (remove queue i) (set out taken (get_or queue i d).0) i (taken + 1)
   one_taken d more lt here bound w =
       let n = w.rest - 1 in

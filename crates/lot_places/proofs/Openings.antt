@@ -1,5 +1,6 @@
 -- The links of a row whose places are all free.
-use Rattle.std.proofs.Common.{◌≡◌, ℕ, zero, suc, ◌+◌, ◌-◌, ◌<◌, cond, ltb, eqb, List, [], ◌∷◌, ◌++◌, length, get_or, refl, sym, ◌∙◌, ap, arith, add-zero, zero-add, length-append}
+use Rattle.std.proofs.Common.{◌≡◌, ℕ, zero, suc, ◌+◌, ◌-◌, ◌<◌, cond, ltb, eqb, List, [], ◌∷◌, ◌++◌, length, get_or, refl, sym, ◌∙◌, ap}
+use Rattle.std.proofs.Common.{arith, add-zero, zero-add, length-append}
 use Rattle.std.proofs.lemmas.Bool.{le-ltb, cond-false}
 use Rattle.std.proofs.lemmas.List.{map-id, get_or_append_left}
 use Rattle.std.proofs.lemmas.List.FromFn.{length-range_with_len, get_or-range_with_len, map-range_with_len_more}
@@ -9,7 +10,8 @@ use Rattle.lot_places.specs.Links.{times, way_from, IsLinked}
 
 pub range_with_len-push : (a n b : ℕ) → a + n ≡ b → range_with_len a n ++ b ∷ [] ≡ range_with_len a (n + 1)
 range_with_len-push a n b e =
-    ap (λ xs. xs ++ b ∷ []) (sym (map-id (range_with_len a n))) ∙ sym (map-range_with_len_more (λ (x : ℕ). x) a n b e) ∙ map-id (range_with_len a (n + 1))
+    ap (λ xs. xs ++ b ∷ []) (sym (map-id (range_with_len a n))) ∙ sym (map-range_with_len_more (λ (x : ℕ). x) a n b e)
+    ∙ map-id (range_with_len a (n + 1))
 
 step : (p a : ℕ) → cond (eqb a p) 1 0 + cond (ltb p a) 1 0 ≡ cond (ltb p (a + 1)) 1 0
 step p a = grind (arith, nat_tests)
@@ -29,7 +31,8 @@ module _ (next : List ℕ) (room : ℕ) (made : next ≡ range_with_len 1 room +
   pub all_free : way_from next (room - 0) 0 ≡ range_with_len 0 room
   all_free =
       let each : (i : ℕ) → i < 0 + room → get_or next i 0 ≡ i + 1 = λ i lt.
-      rw made (get_or_append_left (range_with_len 1 room) (room ∷ []) 0 i (omega (arith, length-range_with_len 1 room)) ∙ get_or-range_with_len 1 room i 0 (omega arith) ∙ omega arith) in
+      rw made (get_or_append_left (range_with_len 1 room) (room ∷ []) 0 i (omega (arith, length-range_with_len 1 room))
+      ∙ get_or-range_with_len 1 room i 0 (omega arith) ∙ omega arith) in
       let same : room - 0 ≡ room = omega arith in
       rw same (way_from-range next 0 room each)
 

@@ -1,11 +1,13 @@
 -- The links of a row, with the places that they lead through written out, and what becomes of them.
-use Rattle.std.proofs.Common.{◌≡◌, ◌≢◌, ℕ, ◌+◌, ◌-◌, ◌<◌, ◌≤◌, inl, inr, cond, ltb, List, [], ◌∷◌, ◌++◌, length, get_or, set, refl, sym, ◌∙◌, ap, subst, arith}
+use Rattle.std.proofs.Common.{◌≡◌, ◌≢◌, ℕ, ◌+◌, ◌-◌, ◌<◌, ◌≤◌, inl, inr, cond, ltb, List, [], ◌∷◌, ◌++◌, length, get_or, set, refl, sym}
+use Rattle.std.proofs.Common.{◌∙◌, ap, subst, arith}
 use Rattle.std.proofs.lemmas.List.{length-append, length-set, get_or-set_same, get_or-set_other}
 use Rattle.std.proofs.lemmas.Bool.{lt-ltb, le-ltb, cases_lt, cond-true, cond-false}
 use Rattle.std.proofs.lemmas.Bool.Decides.{eqb_tells}
 use Rattle.lot_places.specs.Links.{times, last_of, way_from, row_of, IsLinked}
 use Rattle.lot_places.proofs.Ways.{times-append, times_here, times_below, last_stands, start_or_stands, last_of-append}
-use Rattle.lot_places.proofs.Ways.{Leads, length-way_from, Leads-way_from, way_from-Leads, Leads-append, Leads-split, Leads-set, Leads-redirect}
+use Rattle.lot_places.proofs.Ways.{Leads, length-way_from, Leads-way_from, way_from-Leads, Leads-append, Leads-split, Leads-set}
+use Rattle.lot_places.proofs.Ways.{Leads-redirect}
 
 -- the links lead through these places in use, and through these free ones
 pub record Chained (next : List ℕ) (room len last free : ℕ) (used spare : List ℕ) : Type 0 where
@@ -56,7 +58,11 @@ module _ {next : List ℕ} {room len last free : ℕ} {used spare : List ℕ} (c
   -- who stands in one of the lists is a place
   pub place_of : (p : ℕ) → 0 < times p used + times p spare → p < room
   place_of p stands =
-      elim (cases_lt p room) [ inl below ↦ below | inr past ↦ absurd (let none : times p used + times p spare ≡ 0 = c.complete p ∙ cond-false _ 1 0 (le-ltb p room past) in omega arith) ]
+      elim (cases_lt p room) [
+        | inl below ↦ below
+        | inr past ↦ absurd (let none : times p used + times p spare ≡ 0 =
+            c.complete p ∙ cond-false _ 1 0 (le-ltb p room past) in omega arith)
+      ]
 
   pub at_most_once : (p : ℕ) → times p used + times p spare ≤ 1
   at_most_once p =
@@ -73,7 +79,10 @@ module _ {next : List ℕ} {room len last free : ℕ} {used spare : List ℕ} (c
   last_apart : (xs ys : List ℕ) → ((q : ℕ) → times q xs + times q ys ≤ times q used + times q spare) → times (last_of room xs) ys ≡ 0
   last_apart xs ys parts =
       let last = last_of room xs in
-      elim (start_or_stands room xs) [ inl e ↦ rw e (omega (arith, parts room, no_place)) | inr stands ↦ omega (arith, parts last, at_most_once last) ]
+      elim (start_or_stands room xs) [
+        | inl e ↦ rw e (omega (arith, parts room, no_place))
+        | inr stands ↦ omega (arith, parts last, at_most_once last)
+      ]
 
   -- a part of those in use, with the entry behind the places first, has no place twice
   behind_once : (xs : List ℕ) → ((q : ℕ) → times q xs ≤ times q used) → (q : ℕ) → times q (room ∷ xs) ≤ 1
@@ -108,7 +117,8 @@ appended {next} {room} {len} {last} {free} {used} {spare} c =
       ends = sym (last_of-append room used (free ∷ []));
       in_use = (
         get_or then free 0,
-        Leads-append then (get_or then room 0) used free (free ∷ []) _ (rw c.ends (Leads-redirect next room used c.in_use.0 free (behind_once c used part) bound c.in_use.1)) (refl, refl),
+        Leads-append then (get_or then room 0) used free (free ∷ []) _
+            (rw c.ends (Leads-redirect next room used c.in_use.0 free (behind_once c used part) bound c.in_use.1)) (refl, refl),
       );
       unused = (c.unused.0, Leads-set next last free (get_or next free 0) spare c.unused.0 apart c.unused.1.1);
     }
@@ -120,11 +130,14 @@ ends_without room place last last' front [] ends none was stays =
     was (sym (ends ∙ last_of-append room front (place ∷ []))) ∙ sym (last_of-append room front [])
 ends_without room place last last' front (x ∷ xs) ends none was stays =
     let e : last ≡ last_of x xs = ends ∙ last_of-append room front (place ∷ x ∷ xs) in
-    let other : place ≢ last = λ same. (let here : 0 < times place (x ∷ xs) = subst (λ (q : ℕ). 0 < times q (x ∷ xs)) (sym (same ∙ e)) (last_stands x xs) in omega arith) in
+    let other : place ≢ last =
+    λ same. (let here : 0 < times place (x ∷ xs) =
+    subst (λ (q : ℕ). 0 < times q (x ∷ xs)) (sym (same ∙ e)) (last_stands x xs) in omega arith) in
     stays other ∙ e ∙ sym (last_of-append room front (x ∷ xs))
 
 -- a place is taken out of use, wherever it stands
-module _ {next : List ℕ} {room len last free : ℕ} (front back spare : List ℕ) (place : ℕ) (c : Chained next room len last free (front ++ place ∷ back) spare) where
+module _ {next : List ℕ} {room len last free : ℕ} (front back spare : List ℕ) (place : ℕ)
+    (c : Chained next room len last free (front ++ place ∷ back) spare) where
   stands : (q : ℕ) → times q (front ++ place ∷ back) ≡ times q front + times q (place ∷ back)
   stands q = times-append q front (place ∷ back)
 
@@ -141,7 +154,8 @@ module _ {next : List ℕ} {room len last free : ℕ} (front back spare : List �
   place_within = place_of c place (omega (arith, stands place, times_here place back))
 
   pub removed : (last' : ℕ) → (place ≡ last → last' ≡ last_of room front) → (place ≢ last → last' ≡ last)
-      → Chained (set (set next (last_of room front) (get_or next place 0)) place free) room (len - 1) last' place (front ++ back) (place ∷ spare)
+      → Chained (set (set next (last_of room front) (get_or next place 0)) place free) room (len - 1) last' place
+      (front ++ back) (place ∷ spare)
   removed last' was stays =
       let before = last_of room front in
       let after = get_or next place 0 in
@@ -150,12 +164,18 @@ module _ {next : List ℕ} {room len last free : ℕ} (front back spare : List �
       let split = Leads-split next (get_or next room 0) front (place ∷ back) c.in_use.0 c.in_use.1 in
       let none = last_apart c front (back ++ spare) (λ q. omega (arith, stands q, times-append q back spare, times_below q place back)) in
       let apart : times before back + times before spare ≡ 0 = omega (arith, none, times-append before back spare) in
-      let first : get_or twice room 0 ≡ get_or once room 0 = get_or-set_other once place room free 0 (λ same. omega (arith, place_within)) in
-      let freed : get_or twice place 0 ≡ free = get_or-set_same once place free 0 (omega (arith, c.size, place_within, length-set next before after)) in
+      let first : get_or twice room 0 ≡ get_or once room 0 =
+      get_or-set_other once place room free 0 (λ same. omega (arith, place_within)) in
+      let freed : get_or twice place 0 ≡ free =
+      get_or-set_same once place free 0 (omega (arith, c.size, place_within, length-set next before after)) in
       let redirected = Leads-redirect next room front split.0 after (behind_once c front part) before_within split.1 in
       let to_front = Leads-set once place free (get_or once room 0) front after (omega (arith, alone)) redirected in
-      let to_back = Leads-set once place free after back c.in_use.0 (omega (arith, alone)) (Leads-set next before after after back c.in_use.0 (omega (arith, apart)) split.2.1) in
-      let to_spare = Leads-set once place free free spare c.unused.0 (omega (arith, alone)) (Leads-set next before after free spare c.unused.0 (omega (arith, apart)) c.unused.1) in
+      let to_back =
+      Leads-set once place free after back c.in_use.0 (omega (arith, alone))
+      (Leads-set next before after after back c.in_use.0 (omega (arith, apart)) split.2.1) in
+      let to_spare =
+      Leads-set once place free free spare c.unused.0 (omega (arith, alone))
+      (Leads-set next before after free spare c.unused.0 (omega (arith, apart)) c.unused.1) in
       record {
         size = omega (arith, c.size, length-set next before after, length-set once place free);
         count = omega (arith, c.count, length-append front (place ∷ back), length-append front back);

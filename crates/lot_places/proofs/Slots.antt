@@ -1,5 +1,6 @@
 -- Where the place of a key is.
-use Rattle.std.proofs.Common.{◌≡◌, ◌≢◌, ℕ, zero, suc, ◌+◌, ◌*◌, ◌<◌, ◌≤◌, true, false, List, [], ◌∷◌, ◌++◌, length, map, take, get_or, set, inl, inr, ◌-◌, ◌/◌, ◌%◌, MatchOption, Option, Some}
+use Rattle.std.proofs.Common.{◌≡◌, ◌≢◌, ℕ, zero, suc, ◌+◌, ◌*◌, ◌<◌, ◌≤◌, true, false, List, [], ◌∷◌, ◌++◌, length, map, take, get_or, set}
+use Rattle.std.proofs.Common.{inl, inr, ◌-◌, ◌/◌, ◌%◌, MatchOption, Option, Some}
 use Rattle.std.proofs.Common.{None, refl, sym, ◌∙◌, ap, subst, arith, add-one, eq-eqb}
 use Rattle.std.proofs.lemmas.Bool.{ne_eqb}
 use Rattle.std.proofs.lemmas.List.{get_or-map, length-map, map-append, take_all}
@@ -12,7 +13,8 @@ use Rattle.lot_places.specs.Places.{empty_places, spaced, has_key, root_at, with
 module _ {R : Type 0} where
   -- the places before i are of other keys, and the one at i is of key k
   pub first_place : (k : ℕ) (places : List (ℕ × Option R)) (i : ℕ) → i < length places
-      → ((j : ℕ) (d : ℕ × Option R) → j < i → (get_or places j d).0 ≢ k) → ((d : ℕ × Option R) → (get_or places i d).0 ≡ k) → IsPlaceOf k places i
+      → ((j : ℕ) (d : ℕ × Option R) → j < i → (get_or places j d).0 ≢ k)
+      → ((d : ℕ × Option R) → (get_or places i d).0 ≡ k) → IsPlaceOf k places i
   first_place k [] i bound before here = absurd (omega arith)
   first_place k (p ∷ places) zero bound before here =
       let same = eq-eqb p.0 k (here p) in
@@ -33,7 +35,8 @@ module _ {R : Type 0} where
       }
 
   -- no place is of key k
-  pub no_place : (k : ℕ) (places : List (ℕ × Option R)) → ((j : ℕ) (d : ℕ × Option R) → j < length places → (get_or places j d).0 ≢ k) → has_key k places ≡ false
+  pub no_place : (k : ℕ) (places : List (ℕ × Option R)) → ((j : ℕ) (d : ℕ × Option R) → j < length places → (get_or places j d).0 ≢ k)
+      → has_key k places ≡ false
   no_place k [] none = refl
   no_place k (p ∷ places) none =
       rw (ne_eqb p.0 k (none 0 p (omega arith))) (no_place k places (λ j d lt. none (suc j) d (omega arith)))
@@ -45,7 +48,8 @@ module _ {R : Type 0} where
       sym (get_or-map (λ (p : ℕ × Option R). p.0) places i d 0 lt) ∙ even i (rw (length-map places (λ (p : ℕ × Option R). p.0)) lt)
 
   -- with evenly spaced keys, the place of the i-th
-  pub even_place : (first step k i : ℕ) (places : List (ℕ × Option R)) → 0 < step → AreEven first step (map (λ (p : ℕ × Option R). p.0) places)
+  pub even_place : (first step k i : ℕ) (places : List (ℕ × Option R)) → 0 < step
+      → AreEven first step (map (λ (p : ℕ × Option R). p.0) places)
       → i < length places → first + i * step ≡ k → IsPlaceOf k places i
   even_place first step k i places rises even lt here =
       first_place k places i lt
@@ -62,20 +66,23 @@ module _ {R : Type 0} where
       no_place k places (λ j d lt e. none j lt (sym (key_at first step places even j d lt) ∙ e))
 
   -- what division finds among evenly spaced keys is the place of the key
-  pub even_found : (first step key : ℕ) (places : List (ℕ × Option R)) (found : Option ℕ) → 0 < step → AreEven first step (map (λ (p : ℕ × Option R). p.0) places)
+  pub even_found : (first step key : ℕ) (places : List (ℕ × Option R)) (found : Option ℕ) → 0 < step
+      → AreEven first step (map (λ (p : ℕ × Option R). p.0) places)
       → MatchOption found ((j : ℕ) → j < length places → first + j * step ≢ key) (λ i. (i < length places) × (first + i * step ≡ key))
       → MatchOption found (has_key key places ≡ false) (IsPlaceOf key places)
   even_found first step key places None rises even none = even_without first step key places even none
   even_found first step key places (Some i) rises even at = even_place first step key i places rises even at.0 at.1
 
   -- what a slot that was read at the place of k has, where the places are seen as shown
-  pub read_at : (k i : ℕ) (places shown : List (ℕ × Option R)) (slot : ℕ × Option R) → places ≡ shown → IsPlaceOf k shown i → slot ≡ get_or places i slot
+  pub read_at : (k i : ℕ) (places shown : List (ℕ × Option R)) (slot : ℕ × Option R) → places ≡ shown → IsPlaceOf k shown i
+      → slot ≡ get_or places i slot
       → slot ≡ (k, root_at k shown)
   read_at k i places shown slot same at is =
       is ∙ ap (λ ps. get_or ps i slot) same ∙ get_or_from_slice_get shown i (k, root_at k shown) slot at.holds
 
   -- the slot is stored with another root
-  pub stored_at : (k i : ℕ) (places shown : List (ℕ × Option R)) (slot : ℕ × Option R) (root : Option R) → places ≡ shown → IsPlaceOf k shown i → slot ≡ get_or places i slot
+  pub stored_at : (k i : ℕ) (places shown : List (ℕ × Option R)) (slot : ℕ × Option R) (root : Option R) → places ≡ shown
+      → IsPlaceOf k shown i → slot ≡ get_or places i slot
       → set places i (slot.0, root) ≡ with_root k root shown
   stored_at k i places shown slot root same at is =
       ap (λ ps. set ps i (slot.0, root)) same
@@ -84,7 +91,8 @@ module _ {R : Type 0} where
 
   -- another root leaves the keys evenly spaced
   pub even_kept : (first step i : ℕ) (places : List (ℕ × Option R)) (slot : ℕ × Option R) (root : Option R) → slot ≡ get_or places i slot
-      → (0 < step → AreEven first step (map (λ (p : ℕ × Option R). p.0) places)) → 0 < step → AreEven first step (map (λ (p : ℕ × Option R). p.0) (set places i (slot.0, root)))
+      → (0 < step → AreEven first step (map (λ (p : ℕ × Option R). p.0) places)) → 0 < step
+      → AreEven first step (map (λ (p : ℕ × Option R). p.0) (set places i (slot.0, root)))
   even_kept first step i places slot root is even rises =
       let same : map (λ (p : ℕ × Option R). p.0) (set places i (slot.0, root)) ≡ map (λ (p : ℕ × Option R). p.0) places =
       map-set_same (λ (p : ℕ × Option R). p.0) places i (slot.0, root) slot (ap (λ (p : ℕ × Option R). p.0) is) in
@@ -101,7 +109,8 @@ module _ {R : Type 0} where
 
 -- where the roots lie
 module _ {R : Type 0} where
-  without_with : (j k : ℕ) (root : Option R) (places : List (ℕ × Option R)) → k ≢ j → AreWithout j places → AreWithout j (with_root k root places)
+  without_with : (j k : ℕ) (root : Option R) (places : List (ℕ × Option R)) → k ≢ j → AreWithout j places
+      → AreWithout j (with_root k root places)
   without_with j k root [] other none = tt
   without_with j k root (p ∷ places) other none =
       elim (eqb_tells p.0 k) [
@@ -118,13 +127,15 @@ module _ {R : Type 0} where
       ]
 
   -- a slot that is stored with another root
-  pub first_kept : (k i : ℕ) (places shown : List (ℕ × Option R)) (slot : ℕ × Option R) (root : Option R) → places ≡ shown → IsPlaceOf k shown i → slot ≡ get_or places i slot
+  pub first_kept : (k i : ℕ) (places shown : List (ℕ × Option R)) (slot : ℕ × Option R) (root : Option R) → places ≡ shown
+      → IsPlaceOf k shown i → slot ≡ get_or places i slot
       → LieFirst places → LieFirst (set places i (slot.0, root))
   first_kept k i places shown slot root same at is lie =
       rw (stored_at k i places shown slot root same at is) (lies_first_with k root shown (rw same at lie))
 
   -- where no key has a root, and roots lie first, none lies here
-  rest_rootless : (p : ℕ × Option R) (places : List (ℕ × Option R)) → AreWithout p.0 places → ((k : ℕ) → root_at k (p ∷ places) ≡ None) → (k : ℕ) → root_at k places ≡ None
+  rest_rootless : (p : ℕ × Option R) (places : List (ℕ × Option R)) → AreWithout p.0 places → ((k : ℕ) → root_at k (p ∷ places) ≡ None)
+      → (k : ℕ) → root_at k places ≡ None
   rest_rootless p places none each k =
       elim (eqb_tells p.0 k) [
         | inl e ↦ rw (← e.1) (without_root p.0 places none)
@@ -166,7 +177,8 @@ pub keys_of_empty : (R : Type 0) (keys : List ℕ) → map (λ (p : ℕ × Optio
 keys_of_empty R [] = refl
 keys_of_empty R (k ∷ keys) = ap (λ ks. k ∷ ks) (keys_of_empty R keys)
 
-pub even_new : (R : Type 0) (keys : List ℕ) (places : List (ℕ × Option R)) (n first step : ℕ) → places ≡ empty_places (take n keys) → length keys ≤ n → first ≡ get_or keys 0 0
+pub even_new : (R : Type 0) (keys : List ℕ) (places : List (ℕ × Option R)) (n first step : ℕ) → places ≡ empty_places (take n keys)
+    → length keys ≤ n → first ≡ get_or keys 0 0
     → (0 < step → AreEven (get_or keys 0 0) step keys) → 0 < step → AreEven first step (map (λ (p : ℕ × Option R). p.0) places)
 even_new R keys places n first step made all first_is even rises =
     let same : map (λ (p : ℕ × Option R). p.0) places ≡ keys =
@@ -184,7 +196,8 @@ pub length-spaced : (first step n : ℕ) → length (spaced first step n) ≡ n
 length-spaced first step zero = refl
 length-spaced first step (suc n) = ap (λ m. suc m) (length-spaced (first + step) step n)
 
-pub even_spaced : (R : Type 0) (first step n : ℕ) → AreEven first step (map (λ (p : ℕ × Option R). p.0) (empty_places (spaced first step n)))
+pub even_spaced : (R : Type 0) (first step n : ℕ)
+    → AreEven first step (map (λ (p : ℕ × Option R). p.0) (empty_places (spaced first step n)))
 even_spaced R first step n = rw (keys_of_empty R (spaced first step n)) (even first n)
   where
     even : (m count : ℕ) → AreEven m step (spaced m step count)
@@ -195,9 +208,11 @@ even_spaced R first step n = rw (keys_of_empty R (spaced first step n)) (even fi
 pub slot_more : (R : Type 0) (first step n : ℕ) (slots pushed : List (ℕ × Option R)) → slots ≡ empty_places (spaced first step n)
     → pushed ≡ slots ++ (first + n * step, None) ∷ [] → pushed ≡ empty_places (spaced first step (n + 1))
 slot_more R first step n slots pushed made push =
-    let more : empty_places {R = R} (spaced first step n ++ (first + n * step) ∷ []) ≡ empty_places (spaced first step n) ++ (first + n * step, None) ∷ [] =
+    let more : empty_places {R = R} (spaced first step n ++ (first + n * step) ∷ []) ≡ empty_places (spaced first step n)
+    ++ (first + n * step, None) ∷ [] =
     map-append (λ (k : ℕ). (k, None)) (spaced first step n) ((first + n * step) ∷ []) in
-    rw add-one (push ∙ ap (λ ps. ps ++ (first + n * step, None) ∷ []) made ∙ sym more ∙ ap (λ ks. empty_places ks) (sym (spaced_more first step n)))
+    rw add-one (push ∙ ap (λ ps. ps ++ (first + n * step, None) ∷ []) made ∙ sym more
+    ∙ ap (λ ks. empty_places ks) (sym (spaced_more first step n)))
 
 pub first_spaced : (R : Type 0) (first step n : ℕ) → LieFirst {R = R} (empty_places (spaced first step n))
 first_spaced R first step n = first_empty R (spaced first step n)

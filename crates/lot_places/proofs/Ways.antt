@@ -1,5 +1,6 @@
 -- Ways through links: what a way passes, how two are joined, and what a written link changes.
-use Rattle.std.proofs.Common.{◌≡◌, ◌≢◌, ℕ, zero, suc, ◌+◌, ◌<◌, ◌≤◌, ◌⊎◌, inl, inr, List, [], ◌∷◌, ◌++◌, length, get_or, set, take, drop, refl, sym, ◌∙◌, ap, arith, get_or-set_same, get_or-set_other}
+use Rattle.std.proofs.Common.{◌≡◌, ◌≢◌, ℕ, zero, suc, ◌+◌, ◌<◌, ◌≤◌, ◌⊎◌, inl, inr, List, [], ◌∷◌, ◌++◌, length, get_or, set, take, drop}
+use Rattle.std.proofs.Common.{refl, sym, ◌∙◌, ap, arith, get_or-set_same, get_or-set_other}
 use Rattle.std.proofs.lemmas.Bool.Decides.{eqb_tells}
 use Rattle.lot_places.specs.Links.{times, last_of, way_from}
 
@@ -50,13 +51,16 @@ pub way_from-Leads : (next : List ℕ) (p : ℕ) (xs : List ℕ) (e : ℕ) → L
 way_from-Leads next p [] e leads = refl
 way_from-Leads next p (x ∷ xs) e leads = rw leads.0 (ap (λ ys. x ∷ ys) (way_from-Leads next (get_or next x 0) xs e leads.1))
 
-pub Leads-append : (next : List ℕ) (p : ℕ) (xs : List ℕ) (m : ℕ) (ys : List ℕ) (e : ℕ) → Leads next p xs m → Leads next m ys e → Leads next p (xs ++ ys) e
+pub Leads-append : (next : List ℕ) (p : ℕ) (xs : List ℕ) (m : ℕ) (ys : List ℕ) (e : ℕ) → Leads next p xs m → Leads next m ys e
+    → Leads next p (xs ++ ys) e
 Leads-append next p [] m ys e to from = rw to from
 Leads-append next p (x ∷ xs) m ys e to from = (to.0, Leads-append next (get_or next x 0) xs m ys e to.1 from)
 
-pub Leads-split : (next : List ℕ) (p : ℕ) (xs ys : List ℕ) (e : ℕ) → Leads next p (xs ++ ys) e → (m : ℕ) × Leads next p xs m × Leads next m ys e
+pub Leads-split : (next : List ℕ) (p : ℕ) (xs ys : List ℕ) (e : ℕ) → Leads next p (xs ++ ys) e
+    → (m : ℕ) × Leads next p xs m × Leads next m ys e
 Leads-split next p [] ys e leads = (p, refl, leads)
-Leads-split next p (x ∷ xs) ys e leads = let later = Leads-split next (get_or next x 0) xs ys e leads.1 in (later.0, (leads.0, later.1), later.2)
+Leads-split next p (x ∷ xs) ys e leads =
+    let later = Leads-split next (get_or next x 0) xs ys e leads.1 in (later.0, (leads.0, later.1), later.2)
 
 -- a way that passes some place passes first the one where it begins
 pub first_of_way : (next : List ℕ) (p : ℕ) (xs : List ℕ) (e : ℕ) → 0 < length xs → Leads next p xs e → xs ≡ p ∷ drop 1 xs
@@ -66,8 +70,11 @@ first_of_way next p (x ∷ xs) e some leads = ap (λ y. y ∷ xs) (sym leads.0)
 -- a link written at a place that a way does not pass
 pub Leads-set : (next : List ℕ) (q v p : ℕ) (xs : List ℕ) (e : ℕ) → times q xs ≡ 0 → Leads next p xs e → Leads (set next q v) p xs e
 Leads-set next q v p [] e none leads = leads
-Leads-set next q v p (x ∷ xs) e none leads =
-    (leads.0, rw (get_or-set_other next q x v 0 (not_first q x xs none)) (Leads-set next q v (get_or next x 0) xs e (not_in_rest q x xs none) leads.1))
+Leads-set next q v p (x ∷ xs) e none leads = (
+  leads.0,
+  rw (get_or-set_other next q x v 0 (not_first q x xs none))
+      (Leads-set next q v (get_or next x 0) xs e (not_in_rest q x xs none) leads.1),
+)
 
 -- a link written at the last place of a way, which leads elsewhere then
 pub Leads-redirect : (next : List ℕ) (b : ℕ) (xs : List ℕ) (e v : ℕ) → ((q : ℕ) → times q (b ∷ xs) ≤ 1) → last_of b xs < length next
@@ -75,8 +82,12 @@ pub Leads-redirect : (next : List ℕ) (b : ℕ) (xs : List ℕ) (e v : ℕ) →
 Leads-redirect next b [] e v once bound leads = get_or-set_same next b v 0 bound
 Leads-redirect next b (x ∷ xs) e v once bound leads =
     let last = last_of x xs in
-    let other : b ≢ last = λ same. (let twice : times last (b ∷ x ∷ xs) ≡ 1 + times last (x ∷ xs) = rw same (times_here last (x ∷ xs)) in omega (arith, once last, last_stands x xs)) in
-    (get_or-set_other next last b v 0 other ∙ leads.0, Leads-redirect next x xs e v (λ q. omega (arith, once q, times_below q b (x ∷ xs))) bound leads.1)
+    let other : b ≢ last =
+    λ same. (let twice : times last (b ∷ x ∷ xs) ≡ 1 + times last (x ∷ xs) = rw same (times_here last (x ∷ xs)) in
+    omega (arith, once last, last_stands x xs)) in (
+      get_or-set_other next last b v 0 other ∙ leads.0,
+      Leads-redirect next x xs e v (λ q. omega (arith, once q, times_below q b (x ∷ xs))) bound leads.1,
+    )
 
 -- the place that comes after the first i
 pub next_of_last : (next : List ℕ) (b : ℕ) (xs : List ℕ) (e i : ℕ) → i < length xs → Leads next (get_or next b 0) xs e

@@ -139,7 +139,10 @@ impl Links {
     pub fn remove(&mut self, cursor: Cursor)
         requires stands { StandsIn self.old cursor }
         requires more { cursor.passed < length self.old.used }
-        ensures left { self.new ≡ record self.old { used = remove self.old.used cursor.passed; free = slice_index self.old.used cursor.passed ∷ self.old.free } }
+        ensures left { self.new ≡ record self.old {
+          used = remove self.old.used cursor.passed;
+          free = slice_index self.old.used cursor.passed ∷ self.old.free;
+        } }
         ensures stands { StandsIn self.new cursor }
     {
         let place = self.next[cursor.before];

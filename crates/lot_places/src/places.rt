@@ -1,5 +1,7 @@
-ghost use Rattle.std.specs.Prelude.{◌≡◌, ◌≢◌, ℕ, ◌+◌, ◌-◌, ◌*◌, ◌^◌, ◌<◌, true, false, List, [], Option, map, slice_index, IfOk, IsSome, MatchOption};
-ghost use Rattle.lot_places.specs.Places.{empty_places, spaced, has_key, root_at, with_root, AreEven, LieFirst, IsPlaceOf};
+ghost use Rattle.std.specs.Prelude.{◌≡◌, ◌≢◌, ℕ, ◌+◌, ◌-◌, ◌*◌, ◌^◌, ◌<◌, true, false, List, [], Option, map};
+ghost use Rattle.std.specs.Prelude.{slice_index, IfOk, IsSome, MatchOption};
+ghost use Rattle.lot_places.specs.Places.{empty_places, spaced, has_key, root_at, with_root, AreEven, LieFirst};
+ghost use Rattle.lot_places.specs.Places.{IsPlaceOf};
 
 use std::alloc::{AllocError, Global};
 use std::marker::Model;
@@ -23,7 +25,8 @@ impl<R> Model for Places<R> {
 
     ghost view = { λ p. p.slots.items };
 
-    ghost invariant = { λ p. (0 < p.step → AreEven p.first p.step (map (λ (s : ℕ × Option R). s.0) p.slots.items)) × LieFirst p.slots.items };
+    ghost invariant = { λ p. (0 < p.step → AreEven p.first p.step (map (λ (s : ℕ × Option R). s.0) p.slots.items))
+        × LieFirst p.slots.items };
 }
 
 impl<R> Places<R> {
@@ -138,7 +141,8 @@ impl<R> Places<R> {
 // Which of so many evenly spaced keys it is.
 fn place_by_division(first: usize, step: usize, count: usize, key: usize) -> Option<usize>
     requires { 0 < step }
-    ensures { MatchOption result ((j : ℕ) → j < count → first + j * step ≢ key) (λ i. (i < count) × (first + i * step ≡ key)) }
+    ensures { MatchOption result ((j : ℕ) → j < count → first + j * step ≢ key)
+        (λ i. (i < count) × (first + i * step ≡ key)) }
 {
     if key < first {
         return None;

@@ -1,4 +1,5 @@
-ghost use Rattle.std.specs.Prelude.{◌≡◌, ℕ, ◌<◌, ◌≤◌, ◌↔◌, [], ◌∷◌, ◌++◌, length, take, min, Any, IsTrue, IsSome, IfOk, IfSome};
+ghost use Rattle.std.specs.Prelude.{◌≡◌, ℕ, ◌<◌, ◌≤◌, ◌↔◌, [], ◌∷◌, ◌++◌, length, take, min, Any, IsTrue, IsSome, IfOk};
+ghost use Rattle.std.specs.Prelude.{IfSome};
 ghost use Rattle.lot_places.specs.Queue.{line_of, without_first, without_count, without_key, first_of};
 ghost use Rattle.lot_places.specs.Waiting.{Waiting, lying_at};
 

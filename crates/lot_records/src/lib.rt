@@ -61,8 +61,8 @@ impl Record {
         }
     }
 
-    /// Whether the thread sleeps, or is about to ask the system for it, at some moment of this call. It is an observation, of which nothing
-    /// is promised.
+    /// Whether the thread sleeps, or is about to ask the system for it, at some moment of this call. It is an
+    /// observation, of which nothing is promised.
     pub fn is_asleep(&self) -> bool {
         self.state.load(Ordering::SeqCst) == ASLEEP
     }
@@ -84,8 +84,8 @@ impl Record {
             && self.state.swap(IDLE, Ordering::SeqCst) == WOKEN
     }
 
-    /// Ends the sleep of the thread that sleeps here, or else the next one. The system is asked only where the thread sleeps, or is
-    /// about to.
+    /// Ends the sleep of the thread that sleeps here, or else the next one. The system is asked only where the thread
+    /// sleeps, or is about to.
     pub fn wake<W: Wait>(&self, _rt: &W) {
         if self.state.swap(WOKEN, Ordering::SeqCst) == ASLEEP {
             self.state.wake_one();

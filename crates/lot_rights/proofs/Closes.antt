@@ -20,7 +20,8 @@ use Rattle.lot_rights.proofs.Gathers.{each_given, each_left, each_right, all_pop
 -- ---- a list that is turned round
 pub all_back : {A : Type 0} (P : A → Type 0) (xs : List A) → All P (reverse xs) → All P xs
 all_back P [] h = All-nil P
-all_back P (x ∷ xs) h = let r = all_popped P (reverse (x ∷ xs)) (reverse xs) x (reverse-append (x ∷ []) xs) h in All-cons P x xs r.1 (all_back P xs r.0)
+all_back P (x ∷ xs) h =
+    let r = all_popped P (reverse (x ∷ xs)) (reverse xs) x (reverse-append (x ∷ []) xs) h in All-cons P x xs r.1 (all_back P xs r.0)
 
 module _ {A R : Type 0} (num : R → ℕ) (right : A → R) (i : ℕ) where
   times_both : (xs ys : List A) → times num i (map right (xs ++ ys)) ≡ times num i (map right xs) + times num i (map right ys)
@@ -30,23 +31,28 @@ module _ {A R : Type 0} (num : R → ℕ) (right : A → R) (i : ℕ) where
   times_back : (xs : List A) → times num i (map right (reverse xs)) ≡ times num i (map right xs)
   times_back [] = refl
   times_back (x ∷ xs) =
-      let turned : times num i (map right (reverse (x ∷ xs))) ≡ times num i (map right (reverse xs ++ x ∷ [])) = ap (λ z. times num i (map right z)) (reverse-append (x ∷ []) xs) in
+      let turned : times num i (map right (reverse (x ∷ xs))) ≡ times num i (map right (reverse xs ++ x ∷ [])) =
+      ap (λ z. times num i (map right z)) (reverse-append (x ∷ []) xs) in
       omega (arith, turned, times_both (reverse xs) (x ∷ []), times_back xs)
 
 -- ---- the last state
-module _ {S P R : Type 0} (k : Meaning S P R) (s : State S (List (Right P R))) (ru : Ruled k s) (id : ℕ) (v : List (Right P R)) (at : get_elem? s.views id ≡ some v)
+module _ {S P R : Type 0} (k : Meaning S P R) (s : State S (List (Right P R))) (ru : Ruled k s) (id : ℕ) (v : List (Right P R))
+    (at : get_elem? s.views id ≡ some v)
     (passes : List (PassShown P)) (roots : List (RootShown R)) (is : v ≡ passes_in (reverse passes) ++ roots_in (reverse roots)) where
   each_pass : (F : Right P R → Type 0) → Each {R = Right P R} number F v → All (λ (p : PassShown P). F (Pass p.pass)) passes
-  each_pass F e = all_back (λ (p : PassShown P). F (Pass p.pass)) passes (each_given (λ (p : PassShown P). Pass p.pass) number F (reverse passes)
+  each_pass F e =
+      all_back (λ (p : PassShown P). F (Pass p.pass)) passes (each_given (λ (p : PassShown P). Pass p.pass) number F (reverse passes)
       (each_left number F (passes_in (reverse passes)) (roots_in (reverse roots)) (subst (Each {R = Right P R} number F) is e)))
 
   each_root : (F : Right P R → Type 0) → Each {R = Right P R} number F v → All (λ (q : RootShown R). F (Root q.root)) roots
-  each_root F e = all_back (λ (q : RootShown R). F (Root q.root)) roots (each_given (λ (q : RootShown R). Root q.root) number F (reverse roots)
+  each_root F e =
+      all_back (λ (q : RootShown R). F (Root q.root)) roots (each_given (λ (q : RootShown R). Root q.root) number F (reverse roots)
       (each_right number F (passes_in (reverse passes)) (roots_in (reverse roots)) (subst (Each {R = Right P R} number F) is e)))
 
   once : (i : ℕ) → times {R = Right P R} number i (passes_in passes ++ roots_in roots) ≤ 1
   once i =
-      let here : times {R = Right P R} number i v ≡ times {R = Right P R} number i (passes_in (reverse passes) ++ roots_in (reverse roots)) = ap (times {R = Right P R} number i) is in
+      let here : times {R = Right P R} number i v
+      ≡ times {R = Right P R} number i (passes_in (reverse passes) ++ roots_in (reverse roots)) = ap (times {R = Right P R} number i) is in
       omega (
         arith,
         here,
@@ -58,7 +64,8 @@ module _ {S P R : Type 0} (k : Meaning S P R) (s : State S (List (Right P R))) (
         times_back {R = Right P R} number (λ (q : RootShown R). Root q.root) i roots,
       )
 
-  pub ends : (ws : List ℕ) (xs : List S) → s.words ≡ ws → length s.homes ≡ length xs → ((i : ℕ) (y : S) → get_elem? s.homes i ≡ some (some y) → get_elem? xs i ≡ some y) → Ended k passes roots ws xs
+  pub ends : (ws : List ℕ) (xs : List S) → s.words ≡ ws → length s.homes ≡ length xs
+      → ((i : ℕ) (y : S) → get_elem? s.homes i ≡ some (some y) → get_elem? xs i ≡ some y) → Ended k passes roots ws xs
   ends ws xs words deep at_home = record {
     left = record {
       world = ru.world;
@@ -77,7 +84,8 @@ module _ {S P R : Type 0} (k : Meaning S P R) (s : State S (List (Right P R))) (
   }
 
 -- what is left to tell when the words are gone
-abbrev pub ended_recounted : {S P R : Type 0} (k : Meaning S P R) (passes : List (PassShown P)) (roots : List (RootShown R)) (ws : List ℕ) (xs : List S) → Ended k passes roots ws xs
+abbrev pub ended_recounted : {S P R : Type 0} (k : Meaning S P R) (passes : List (PassShown P)) (roots : List (RootShown R)) (ws : List ℕ)
+    (xs : List S) → Ended k passes roots ws xs
     → IsRecounted k.Step k.word_in k.IsQueued k.start passes roots
 ended_recounted k passes roots ws xs e = record {
   log = e.log;

@@ -1,5 +1,6 @@
 -- The first seat's rights are dealt out, one at a time.
-use Rattle.std.proofs.Common.{◌≡◌, ℕ, zero, suc, ◌+◌, ◌<◌, List, [], ◌∷◌, ◌++◌, length, take, drop, slice_get, Some, refl, sym, ap, subst, ◌∙◌, arith}
+use Rattle.std.proofs.Common.{◌≡◌, ℕ, zero, suc, ◌+◌, ◌<◌, List, [], ◌∷◌, ◌++◌, length, take, drop, slice_get, Some, refl, sym, ap, subst}
+use Rattle.std.proofs.Common.{◌∙◌, arith}
 use mathlib.Core.Logic.{dite}
 use native.Mathlib.Decide.{ℕ_discrete}
 use Rattle.atomic_table.specs.Table.{Me}
@@ -11,8 +12,10 @@ use Rattle.lot_rights.specs.Shown.{the_pass, the_root}
 use Rattle.lot_rights.specs.Start.{rights_from}
 
 -- where some are left, the first of them is the next
-pub next_from : {A : Type 0} (right : ℕ → A) (c c' n n' : ℕ) → c' ≡ c + 1 → n ≡ n' + 1 → rights_from right c n ≡ right c ∷ rights_from right c' n'
-next_from right c c' n n' e f = let g : n ≡ suc n' = omega arith in ap (rights_from right c) g ∙ ap (λ z. right c ∷ rights_from right z n') (sym e)
+pub next_from : {A : Type 0} (right : ℕ → A) (c c' n n' : ℕ) → c' ≡ c + 1 → n ≡ n' + 1
+    → rights_from right c n ≡ right c ∷ rights_from right c' n'
+next_from right c c' n n' e f =
+    let g : n ≡ suc n' = omega arith in ap (rights_from right c) g ∙ ap (λ z. right c ∷ rights_from right z n') (sym e)
 
 module _ {S A : Type 0} (me : Me S (List A)) (r : A) (rs : List A) (is : me ≡ (r ∷ rs, [])) where
   pub has_first : me.0 ≡ r ∷ rs
@@ -51,7 +54,9 @@ module _ {A : Type 0} where
   get_last (y ∷ xs) x = get_last xs x
 
   -- each of the list is what f tells of its place, and so is one more
-  pub get_more : (f : ℕ → A) (xs : List A) (x : A) (n : ℕ) → length xs ≡ n → ((k : ℕ) → k < n → slice_get xs k ≡ Some (f k)) → x ≡ f n → (k : ℕ) → k < n + 1 → slice_get (xs ++ x ∷ []) k ≡ Some (f k)
+  pub get_more : (f : ℕ → A) (xs : List A) (x : A) (n : ℕ) → length xs ≡ n → ((k : ℕ) → k < n → slice_get xs k ≡ Some (f k)) → x ≡ f n
+      → (k : ℕ) → k < n + 1 → slice_get (xs ++ x ∷ []) k ≡ Some (f k)
   get_more f xs x n len each e k near = dite (ℕ_discrete k n)
-      (λ last. subst (λ j. slice_get (xs ++ x ∷ []) j ≡ Some (f j)) (sym last) (subst (λ j. slice_get (xs ++ x ∷ []) j ≡ Some (f n)) len (get_last xs x ∙ ap (λ y. Some y) e)))
+      (λ last. subst (λ j. slice_get (xs ++ x ∷ []) j ≡ Some (f j)) (sym last)
+      (subst (λ j. slice_get (xs ++ x ∷ []) j ≡ Some (f n)) len (get_last xs x ∙ ap (λ y. Some y) e)))
       (λ ne. let before : k < n = omega arith in get_before xs x k (omega arith) ∙ each k before)

@@ -7,7 +7,8 @@ use Rattle.lot_rights.specs.Seating.{Each}
 
 module _ {A R : Type 0} (right : A → R) where
   -- the seat took in the right of the last, which is gone from the list
-  pub gathered : (v own v' : List R) (xs ys : List A) (y : A) → v' ≡ v ++ own → own ≡ right y ∷ [] → xs ≡ ys ++ y ∷ [] → v' ++ map right (reverse ys) ≡ v ++ map right (reverse xs)
+  pub gathered : (v own v' : List R) (xs ys : List A) (y : A) → v' ≡ v ++ own → own ≡ right y ∷ [] → xs ≡ ys ++ y ∷ []
+      → v' ++ map right (reverse ys) ≡ v ++ map right (reverse xs)
   gathered v own v' xs ys y e f g =
       ap (λ z. z ++ map right (reverse ys)) (e ∙ ap (λ z. v ++ z) f)
       ∙ (append_assoc v (right y ∷ []) (map right (reverse ys))

@@ -14,19 +14,30 @@ module _ {S P R : Type 0} (k : Meaning S P R) where
     world = ru.world;
     fits = ru.fits;
     seats = joins number (RightFits k ru.world) s.views id other v w ru.seats at ne there;
-    present = λ i is. omega (arith, ru.present i is, times_set number i (set s.views id (v ++ w)) other w [] there, times_set number i s.views id v (v ++ w) at, times_append number i v w);
+    present =
+        λ i is.
+        omega (
+          arith,
+          ru.present i is,
+          times_set number i (set s.views id (v ++ w)) other w [] there,
+          times_set number i s.views id v (v ++ w) at,
+          times_append number i v w,
+        );
     log = ru.log;
     recorded = records_join number made_with (LeadsOn k) k.start ru.log s.views (k.told_by ru.world) ru.recorded id other v w at ne there;
   }
 
   -- the rights at a seat are cut in two
-  pub splits_rule : (id : ℕ) (v l r : List (Right P R)) → ((i : ℕ) → times {R = Right P R} number i l + times {R = Right P R} number i r ≡ times {R = Right P R} number i v)
-      → ((F : Right P R → Type 0) → Each {R = Right P R} number F v → Each {R = Right P R} number F l × Each {R = Right P R} number F r) → Splits {S = S} (Ruled k) id v l r
+  pub splits_rule : (id : ℕ) (v l r : List (Right P R))
+      → ((i : ℕ) → times {R = Right P R} number i l + times {R = Right P R} number i r ≡ times {R = Right P R} number i v)
+      → ((F : Right P R → Type 0) → Each {R = Right P R} number F v → Each {R = Right P R} number F l × Each {R = Right P R} number F r)
+      → Splits {S = S} (Ruled k) id v l r
   splits_rule id v l r same cut s ru at = record {
     world = ru.world;
     fits = ru.fits;
     seats = splits number (RightFits k ru.world) s.views id v l r ru.seats at (λ i. omega (arith, same i)) (cut (RightFits k ru.world));
-    present = λ i is. omega (arith, ru.present i is, times_snoc number i (set s.views id l) r, times_set number i s.views id v l at, same i);
+    present =
+        λ i is. omega (arith, ru.present i is, times_snoc number i (set s.views id l) r, times_set number i s.views id v l at, same i);
     log = ru.log;
     recorded = records_split number made_with (LeadsOn k) k.start ru.log s.views (k.told_by ru.world) ru.recorded id v l r at same (cut _);
   }
@@ -37,6 +48,7 @@ module _ {S P R : Type 0} (k : Meaning S P R) where
       (splits_rule id (a ∷ b ∷ []) (a ∷ []) (b ∷ []) (λ i. omega arith) (λ F e. ((e.0, tt), (e.1.0, tt))))
 
   -- the first right goes to a new seat
-  pub deals : (id : ℕ) (v : List (Right P R)) (a : Right P R) (rest : List (Right P R)) → v ≡ a ∷ rest → Splits {S = S} (Ruled k) id v (drop 1 v) (take 1 v)
+  pub deals : (id : ℕ) (v : List (Right P R)) (a : Right P R) (rest : List (Right P R)) → v ≡ a ∷ rest
+      → Splits {S = S} (Ruled k) id v (drop 1 v) (take 1 v)
   deals id v a rest is = subst (λ z. Splits {S = S} (Ruled k) id z (drop 1 z) (take 1 z)) (sym is)
       (splits_rule id (a ∷ rest) rest (a ∷ []) (λ i. omega arith) (λ F e. (e.1, (e.0, tt))))

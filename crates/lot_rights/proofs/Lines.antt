@@ -1,7 +1,8 @@
 -- Lines of threads, in which each stands once.
 use Rattle.std.proofs.Common.{◌≡◌, ◌≢◌, ℕ, zero, suc, ◌⊎◌, cond, List, [], ◌∷◌, ◌++◌, sym, subst, ◌∙◌, inl, inr, ⊎_elim, arith}
 use Rattle.std.specs.List.{Contains}
-use Rattle.std.proofs.lemmas.List.Elements.{Contains-append_left, Contains-append_right, Contains-append_cases, Contains-push_cases, Contains-get_or}
+use Rattle.std.proofs.lemmas.List.Elements.{Contains-append_left, Contains-append_right, Contains-append_cases, Contains-push_cases}
+use Rattle.std.proofs.lemmas.List.Elements.{Contains-get_or}
 use Rattle.std.proofs.lemmas.List.Kept.{AllPairs-cons}
 use mathlib.Core.Logic.{dite}
 use native.Mathlib.Decide.{ℕ_discrete}
@@ -17,15 +18,18 @@ in_cases u rest t (suc k, within, is) = inr (k, omega arith, is)
 pub in_or_not : (xs : List ℕ) (t : ℕ) → Contains xs t ⊎ (¬ Contains xs t)
 in_or_not [] t = inr (in_none t)
 in_or_not (x ∷ xs) t = dite (ℕ_discrete x t) (λ e. inl (subst (Contains (x ∷ xs)) e (in_head x xs)))
-    (λ ne. ⊎_elim {C = Contains (x ∷ xs) t ⊎ (¬ Contains (x ∷ xs) t)} (λ i. inl (in_tail x xs t i)) (λ out. inr (λ h. ⊎_elim {C = ⊥} ne out (in_cases x xs t h))) (in_or_not xs t))
+    (λ ne. ⊎_elim {C = Contains (x ∷ xs) t ⊎ (¬ Contains (x ∷ xs) t)} (λ i. inl (in_tail x xs t i))
+    (λ out. inr (λ h. ⊎_elim {C = ⊥} ne out (in_cases x xs t h))) (in_or_not xs t))
 
 pub once_cons : (x : ℕ) (xs : List ℕ) → (¬ Contains xs x) → IsOnce xs → IsOnce (x ∷ xs)
-once_cons x xs out h = AllPairs-cons (λ t u. t ≢ u) x xs (λ k d within e. out (subst (Contains xs) (sym e) (Contains-get_or xs k d within))) h
+once_cons x xs out h =
+    AllPairs-cons (λ t u. t ≢ u) x xs (λ k d within e. out (subst (Contains xs) (sym e) (Contains-get_or xs k d within))) h
 
 -- ---- two lines, one after the other
 pub once_front : (xs ys : List ℕ) → IsOnce (xs ++ ys) → IsOnce xs
 once_front [] ys a = once_none
-once_front (x ∷ xs) ys a = once_cons x xs (λ h. head_left x (xs ++ ys) a (Contains-append_left xs ys x h)) (once_front xs ys (once_tail x (xs ++ ys) a))
+once_front (x ∷ xs) ys a =
+    once_cons x xs (λ h. head_left x (xs ++ ys) a (Contains-append_left xs ys x h)) (once_front xs ys (once_tail x (xs ++ ys) a))
 
 pub once_back : (xs ys : List ℕ) → IsOnce (xs ++ ys) → IsOnce ys
 once_back [] ys a = a
@@ -48,14 +52,16 @@ pub in_without : (t u : ℕ) (xs : List ℕ) → t ≢ u → Contains xs t → C
 in_without t u [] ne h = h
 in_without t u (x ∷ xs) ne h = by_test (λ b. Contains (cond b xs (x ∷ without u xs)) t) x u
     (λ e. ⊎_elim {C = Contains xs t} (λ f. absurd (ne (sym f ∙ e))) (λ i. i) (in_cases x xs t h))
-    (λ _. ⊎_elim {C = Contains (x ∷ without u xs) t} (λ f. subst (Contains (x ∷ without u xs)) f (in_head x (without u xs))) (λ i. in_tail x (without u xs) t (in_without t u xs ne i))
+    (λ _. ⊎_elim {C = Contains (x ∷ without u xs) t} (λ f. subst (Contains (x ∷ without u xs)) f (in_head x (without u xs)))
+    (λ i. in_tail x (without u xs) t (in_without t u xs ne i))
     (in_cases x xs t h))
 
 pub without_in : (t u : ℕ) (xs : List ℕ) → Contains (without u xs) t → Contains xs t
 without_in t u [] = λ h. h
 without_in t u (x ∷ xs) = by_test (λ b. Contains (cond b xs (x ∷ without u xs)) t → Contains (x ∷ xs) t) x u
     (λ _ h. in_tail x xs t h)
-    (λ _ h. ⊎_elim {C = Contains (x ∷ xs) t} (λ f. subst (Contains (x ∷ xs)) f (in_head x xs)) (λ i. in_tail x xs t (without_in t u xs i)) (in_cases x (without u xs) t h))
+    (λ _ h. ⊎_elim {C = Contains (x ∷ xs) t} (λ f. subst (Contains (x ∷ xs)) f (in_head x xs)) (λ i. in_tail x xs t (without_in t u xs i))
+    (in_cases x (without u xs) t h))
 
 pub without_none : (u : ℕ) (xs : List ℕ) → IsOnce xs → ¬ Contains (without u xs) u
 without_none u [] a = in_none u
@@ -66,7 +72,8 @@ without_none u (x ∷ xs) a = by_test (λ b. ¬ Contains (cond b xs (x ∷ witho
 pub without_once : (u : ℕ) (xs : List ℕ) → IsOnce xs → IsOnce (without u xs)
 without_once u [] a = a
 without_once u (x ∷ xs) a = by_test (λ b. IsOnce (cond b xs (x ∷ without u xs))) x u
-    (λ _. once_tail x xs a) (λ _. once_cons x (without u xs) (λ h. head_left x xs a (without_in x u xs h)) (without_once u xs (once_tail x xs a)))
+    (λ _. once_tail x xs a)
+    (λ _. once_cons x (without u xs) (λ h. head_left x xs a (without_in x u xs h)) (without_once u xs (once_tail x xs a)))
 
 -- who stands in a line to which t was added, beside t
 pub in_init : (v : ℕ) (xs : List ℕ) (t : ℕ) → v ≢ t → Contains (xs ++ t ∷ []) v → Contains xs v

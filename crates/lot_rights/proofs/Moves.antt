@@ -19,25 +19,33 @@ abbrev pub knowing : {P : Type 0} → PassRight P → P → PassRight P
 knowing p own = record p { own = own }
 
 module _ {S P R : Type 0} (k : Meaning S P R) where
-  moves : (s : State S (List (Right P R))) (ru : Ruled k s) (id : ℕ) (p : PassRight P) → get_elem? s.views id ≡ some (Pass p ∷ []) → (own : P) (homes : List (Option S))
+  moves : (s : State S (List (Right P R))) (ru : Ruled k s) (id : ℕ) (p : PassRight P) → get_elem? s.views id ≡ some (Pass p ∷ [])
+      → (own : P) (homes : List (Option S))
       → SlotTurn k p.thread own ru.world s.words homes → (i : ℕ)
-      → Ruled k (record { words = set s.words i (slice_index s.words i); homes = homes; views = set s.views id (Pass (knowing p own) ∷ []) })
+      → Ruled k
+      (record { words = set s.words i (slice_index s.words i); homes = homes; views = set s.views id (Pass (knowing p own) ∷ []) })
   moves s ru id p at own homes turn i = record {
     world = turn.world;
     fits = subst (λ ws. k.Fits turn.world ws homes) (sym (set-get_or s.words i 0)) turn.fits;
-    seats = reseats number (RightFits k ru.world) (RightFits k turn.world) s.views id (Pass p ∷ []) (Pass (knowing p own) ∷ []) ru.seats at (λ j. omega arith) others (turn.pass, tt);
+    seats =
+        reseats number (RightFits k ru.world) (RightFits k turn.world) s.views id (Pass p ∷ [])
+        (Pass (knowing p own) ∷ []) ru.seats at (λ j. omega arith) others (turn.pass, tt);
     present = λ j is. omega (arith, ru.present j is, times_set number j s.views id (Pass p ∷ []) (Pass (knowing p own) ∷ []) at);
     log = ru.log;
-    recorded = records_stay number made_with (LeadsOn k) k.start ru.log s.views (k.told_by ru.world) ru.recorded id (k.told_by turn.world) turn.same (Pass p ∷ []) (Pass (knowing p own) ∷ [])
+    recorded =
+        records_stay number made_with (LeadsOn k) k.start ru.log s.views (k.told_by ru.world) ru.recorded id
+        (k.told_by turn.world) turn.same (Pass p ∷ []) (Pass (knowing p own) ∷ [])
         at (refl, refl, tt);
   }
     where
-      others : (r : Right P R) → times {R = Right P R} number (number r) (Pass p ∷ []) ≡ 0 → RightFits k ru.world r → RightFits k turn.world r
+      others : (r : Right P R) → times {R = Right P R} number (number r) (Pass p ∷ []) ≡ 0 → RightFits k ru.world r
+          → RightFits k turn.world r
       others (Pass x) away h = turn.passes x.thread x.own (not_mine k p x [] away) h
       others (Root y) away h = turn.roots y.key y.own h
 
   module _ (slots id l : ℕ) where
-    out_at : (p : PassRight P) (mid : P → S → Type 0) → AllowsOut k l p mid → Allows (Ruled k) slots id (Pass p ∷ [], []) 0 (λ n. n) (λ _. ToldOut l p mid)
+    out_at : (p : PassRight P) (mid : P → S → Type 0) → AllowsOut k l p mid
+        → Allows (Ruled k) slots id (Pass p ∷ [], []) 0 (λ n. n) (λ _. ToldOut l p mid)
     out_at p mid allows s ru deep at small =
         let out = allows ru.world s.words s.homes ru.fits (ru.seats.named id (Pass p ∷ []) at).0 in (
           Pass (knowing p out.own) ∷ [],
@@ -47,7 +55,8 @@ module _ {S P R : Type 0} (k : Meaning S P R) where
           (out.own, out.value, refl, out.told),
         )
 
-    back_at : (p : PassRight P) (y : S) (back : P → P → Type 0) → AllowsBack k l p.thread p.own y (back p.own) → Allows (Ruled k) slots id (Pass p ∷ [], (l, y) ∷ []) 0 (λ n. n) (λ _. ToldBack p back)
+    back_at : (p : PassRight P) (y : S) (back : P → P → Type 0) → AllowsBack k l p.thread p.own y (back p.own)
+        → Allows (Ruled k) slots id (Pass p ∷ [], (l, y) ∷ []) 0 (λ n. n) (λ _. ToldBack p back)
     back_at p y back allows s ru deep at small =
         let turn = allows ru.world s.words s.homes ru.fits (ru.seats.named id (Pass p ∷ []) at).0 in (
           Pass (knowing p turn.own) ∷ [],
@@ -58,12 +67,17 @@ module _ {S P R : Type 0} (k : Meaning S P R) where
         )
 
     module _ (nobody : P) (me : Me S (List (Right P R))) (p : PassRight P) where
-      pub takes_out : me ≡ (Pass p ∷ [], []) → (mid : P → S → Type 0) → AllowsOut k l p mid → Allows (Ruled k) slots id me 0 (λ n. n) (λ _ me'. ToldOut l (the_pass nobody me.0) mid me')
-      takes_out is mid allows = subst (λ (m : Me S (List (Right P R))). Allows (Ruled k) slots id m 0 (λ n. n) (λ _ me'. ToldOut l (the_pass nobody m.0) mid me')) (sym is) (out_at p mid allows)
+      pub takes_out : me ≡ (Pass p ∷ [], []) → (mid : P → S → Type 0) → AllowsOut k l p mid
+          → Allows (Ruled k) slots id me 0 (λ n. n) (λ _ me'. ToldOut l (the_pass nobody me.0) mid me')
+      takes_out is mid allows =
+          subst (λ (m : Me S (List (Right P R))). Allows (Ruled k) slots id m 0 (λ n. n) (λ _ me'. ToldOut l (the_pass nobody m.0) mid me'))
+          (sym is) (out_at p mid allows)
 
       pub gives_back : (y : S) → me ≡ (Pass p ∷ [], (l, y) ∷ []) → (back : P → P → Type 0) → AllowsBack k l p.thread p.own y (back p.own)
           → Allows (Ruled k) slots id me 0 (λ n. n) (λ _ me'. ToldBack (the_pass nobody me.0) back me')
-      gives_back y is back allows = subst (λ (m : Me S (List (Right P R))). Allows (Ruled k) slots id m 0 (λ n. n) (λ _ me'. ToldBack (the_pass nobody m.0) back me')) (sym is)
+      gives_back y is back allows =
+          subst (λ (m : Me S (List (Right P R))). Allows (Ruled k) slots id m 0 (λ n. n) (λ _ me'. ToldBack (the_pass nobody m.0) back me'))
+          (sym is)
           (back_at p y back allows)
 
 -- ---- what the seat carries between the two loads

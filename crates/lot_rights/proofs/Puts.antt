@@ -6,7 +6,8 @@ use native.Mathlib.Decide.{ℕ_discrete}
 use Rattle.lot_core.specs.World.{put}
 
 pub by_test : (P : Bool → Type 0) (j k : ℕ) → (j ≡ k → P true) → (j ≢ k → P false) → P (j == k)
-by_test P j k here there = dite (ℕ_discrete j k) (λ e. subst P (sym (eq-eqb j k e)) (here e)) (λ ne. subst P (sym (ne_eqb j k ne)) (there ne))
+by_test P j k here there =
+    dite (ℕ_discrete j k) (λ e. subst P (sym (eq-eqb j k e)) (here e)) (λ ne. subst P (sym (ne_eqb j k ne)) (there ne))
 
 -- what holds of x where j is k, and of f j elsewhere, holds at j
 pub put_elim : {A : Type 0} (P : A → Type 0) (f : ℕ → A) (k : ℕ) (x : A) (j : ℕ) → (j ≡ k → P x) → (j ≢ k → P (f j)) → P (put f k x j)

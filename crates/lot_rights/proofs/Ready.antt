@@ -21,11 +21,14 @@ module _ {S P R Key : Type 0} (meaning : Key → Meaning S P R) (apart : (key : 
   pub word_in_table : (i : ℕ) → i < now.table.words → i < inside.table.words
   word_in_table i near = subst (λ (x : WordsShown Key). i < x.table.words) (sym is) near
 
-  pub ready_pass : (mine shown : PassShown P) → mine ≡ shown → (id : ℕ) (me : Me S (List (Right P R))) → me ≡ (Pass mine.pass ∷ [], []) → (i : ℕ) (f : ℕ → ℕ) (then : ℕ → PassRight P → Type 0)
+  pub ready_pass : (mine shown : PassShown P) → mine ≡ shown → (id : ℕ) (me : Me S (List (Right P R))) → me ≡ (Pass mine.pass ∷ [], [])
+      → (i : ℕ) (f : ℕ → ℕ) (then : ℕ → PassRight P → Type 0)
       → shown.table ≡ now.table → i < now.table.words → AllowsPass (meaning now.key) i f shown.pass then
-      → (mine.table ≡ inside.table) × (i < inside.table.words) × Allows (Ruled (meaning inside.key)) inside.table.slots id me i f (ToldPass mine.pass then)
+      → (mine.table ≡ inside.table) × (i < inside.table.words)
+      × Allows (Ruled (meaning inside.key)) inside.table.slots id me i f (ToldPass mine.pass then)
   ready_pass mine shown e id me one i f then table near allows =
-      let allowed : AllowsPass (meaning inside.key) i f mine.pass then = subst (λ (x : WordsShown Key). AllowsPass (meaning x.key) i f mine.pass then) (sym is)
+      let allowed : AllowsPass (meaning inside.key) i f mine.pass then =
+      subst (λ (x : WordsShown Key). AllowsPass (meaning x.key) i f mine.pass then) (sym is)
       (subst (λ (x : PassShown P). AllowsPass (meaning now.key) i f x.pass then) (sym e) allows) in (
         ap (λ (x : PassShown P). x.table) e ∙ (table ∙ table_is),
         word_in_table i near,
@@ -33,23 +36,32 @@ module _ {S P R Key : Type 0} (meaning : Key → Meaning S P R) (apart : (key : 
       )
 
   -- the pass p and the root q at one seat; `nobody` and `nothing` stand for what no pass and no root knows
-  pub ready_both : (nobody : P) (nothing : R) (p : PassRight P) (q : RootRight R) (table : TableId) → table ≡ now.table → (id : ℕ) (me : Me S (List (Right P R))) → me ≡ (Pass p ∷ Root q ∷ [], [])
-      → (i : ℕ) (f : ℕ → ℕ) (then : ℕ → PassRight P → RootRight R → Type 0) → i < now.table.words → AllowsBoth (meaning now.key) i f p q then
+  pub ready_both : (nobody : P) (nothing : R) (p : PassRight P) (q : RootRight R) (table : TableId) → table ≡ now.table
+      → (id : ℕ) (me : Me S (List (Right P R))) → me ≡ (Pass p ∷ Root q ∷ [], [])
+      → (i : ℕ) (f : ℕ → ℕ) (then : ℕ → PassRight P → RootRight R → Type 0) → i < now.table.words
+      → AllowsBoth (meaning now.key) i f p q then
       → (table ≡ inside.table) × (i < inside.table.words)
-      × Allows (Ruled (meaning inside.key)) inside.table.slots id me i f (ToldBoth (the_pass nobody me.0) (the_root nothing (drop 1 me.0)) then)
+      × Allows (Ruled (meaning inside.key)) inside.table.slots id me i f
+      (ToldBoth (the_pass nobody me.0) (the_root nothing (drop 1 me.0)) then)
   ready_both nobody nothing p q table e id me both i f then near allows =
-      let allowed : AllowsBoth (meaning inside.key) i f p q then = subst (λ (x : WordsShown Key). AllowsBoth (meaning x.key) i f p q then) (sym is) allows in (
+      let allowed : AllowsBoth (meaning inside.key) i f p q then =
+      subst (λ (x : WordsShown Key). AllowsBoth (meaning x.key) i f p q then) (sym is) allows in (
         e ∙ table_is,
         word_in_table i near,
-        subst (λ (m : Me S (List (Right P R))). Allows (Ruled (meaning inside.key)) inside.table.slots id m i f (ToldBoth (the_pass nobody m.0) (the_root nothing (drop 1 m.0)) then)) (sym both)
+        subst
+            (λ (m : Me S (List (Right P R))). Allows (Ruled (meaning inside.key)) inside.table.slots id m i f
+            (ToldBoth (the_pass nobody m.0) (the_root nothing (drop 1 m.0)) then)) (sym both)
             (steps_both (meaning inside.key) (apart inside.key) inside.table.slots id (Pass p ∷ Root q ∷ [], []) p q i f then refl allowed),
       )
 
-  pub ready_root : (mine shown : RootShown R) → mine ≡ shown → (id : ℕ) (me : Me S (List (Right P R))) → me ≡ (Root mine.root ∷ [], []) → (i : ℕ) (f : ℕ → ℕ) (then : ℕ → RootRight R → Type 0)
+  pub ready_root : (mine shown : RootShown R) → mine ≡ shown → (id : ℕ) (me : Me S (List (Right P R))) → me ≡ (Root mine.root ∷ [], [])
+      → (i : ℕ) (f : ℕ → ℕ) (then : ℕ → RootRight R → Type 0)
       → shown.table ≡ now.table → i < now.table.words → AllowsRoot (meaning now.key) i f shown.root then
-      → (mine.table ≡ inside.table) × (i < inside.table.words) × Allows (Ruled (meaning inside.key)) inside.table.slots id me i f (ToldRoot mine.root then)
+      → (mine.table ≡ inside.table) × (i < inside.table.words)
+      × Allows (Ruled (meaning inside.key)) inside.table.slots id me i f (ToldRoot mine.root then)
   ready_root mine shown e id me one i f then table near allows =
-      let allowed : AllowsRoot (meaning inside.key) i f mine.root then = subst (λ (x : WordsShown Key). AllowsRoot (meaning x.key) i f mine.root then) (sym is)
+      let allowed : AllowsRoot (meaning inside.key) i f mine.root then =
+      subst (λ (x : WordsShown Key). AllowsRoot (meaning x.key) i f mine.root then) (sym is)
       (subst (λ (x : RootShown R). AllowsRoot (meaning now.key) i f x.root then) (sym e) allows) in (
         ap (λ (x : RootShown R). x.table) e ∙ (table ∙ table_is),
         word_in_table i near,
@@ -57,12 +69,15 @@ module _ {S P R Key : Type 0} (meaning : Key → Meaning S P R) (apart : (key : 
       )
 
   -- the passes p and q at one seat
-  pub ready_two : (nobody : P) (p q : PassRight P) (table : TableId) → table ≡ inside.table → 0 < inside.table.words → (id : ℕ) (me : Me S (List (Right P R))) → me ≡ (Pass p ∷ Pass q ∷ [], [])
+  pub ready_two : (nobody : P) (p q : PassRight P) (table : TableId) → table ≡ inside.table → 0 < inside.table.words
+      → (id : ℕ) (me : Me S (List (Right P R))) → me ≡ (Pass p ∷ Pass q ∷ [], [])
       → (fact : Type 0) → TellsOfTwo (meaning now.key) p q fact
       → (table ≡ inside.table) × (0 < inside.table.words)
-      × Allows (Ruled (meaning inside.key)) inside.table.slots id me 0 (λ n. n) (λ _ me'. ToldTwo (the_pass nobody me.0) (the_pass nobody (drop 1 me.0)) fact me me')
+      × Allows (Ruled (meaning inside.key)) inside.table.slots id me 0 (λ n. n)
+      (λ _ me'. ToldTwo (the_pass nobody me.0) (the_pass nobody (drop 1 me.0)) fact me me')
   ready_two nobody p q table e some id me two fact tells =
-      let told : TellsOfTwo (meaning inside.key) p q fact = subst (λ (x : WordsShown Key). TellsOfTwo (meaning x.key) p q fact) (sym is) tells in (
+      let told : TellsOfTwo (meaning inside.key) p q fact =
+      subst (λ (x : WordsShown Key). TellsOfTwo (meaning x.key) p q fact) (sym is) tells in (
         e,
         some,
         subst (λ (m : Me S (List (Right P R))). Allows (Ruled (meaning inside.key)) inside.table.slots id m 0 (λ n. n)
@@ -71,15 +86,18 @@ module _ {S P R Key : Type 0} (meaning : Key → Meaning S P R) (apart : (key : 
       )
 
 -- ---- a root after its step
-module _ {S P R : Type 0} (nothing : R) (names : R → ℕ → Type 0) (mine shown : RootShown R) (is : mine ≡ shown) (key : ℕ) (key_is : key ≡ mine.root.key)
+module _ {S P R : Type 0} (nothing : R) (names : R → ℕ → Type 0) (mine shown : RootShown R) (is : mine ≡ shown) (key : ℕ)
+    (key_is : key ≡ mine.root.key)
     (near : word_at key < mine.table.words) (small : mine.table.words < 2 ^ 64)
     (letters : (u : ℕ) → names mine.root.own u → letter_at u < mine.table.words) (table : TableId) (same : table ≡ mine.table)
-    (me : Me S (List (Right P R))) (q : RootRight R) (its : q.key ≡ mine.root.key) (e : me ≡ (Root q ∷ [], [])) (few : (u : ℕ) → names q.own u → names shown.root.own u) where
+    (me : Me S (List (Right P R))) (q : RootRight R) (its : q.key ≡ mine.root.key) (e : me ≡ (Root q ∷ [], []))
+    (few : (u : ℕ) → names q.own u → names shown.root.own u) where
   root_is : the_root nothing me.0 ≡ q
   root_is = ap (λ (m : Me S (List (Right P R))). the_root nothing m.0) e
 
   pub root_stands : (me ≡ (Root (the_root nothing me.0) ∷ [], [])) × (key ≡ (the_root nothing me.0).key
-      × (word_at key < table.words × (table.words < 2 ^ 64 × (((u : ℕ) → names (the_root nothing me.0).own u → letter_at u < table.words) × Unit {0}))))
+      × (word_at key < table.words
+      × (table.words < 2 ^ 64 × (((u : ℕ) → names (the_root nothing me.0).own u → letter_at u < table.words) × Unit {0}))))
   root_stands =
       let words : table.words ≡ mine.table.words = ap (λ (z : TableId). z.words) same in (
         subst (λ (m : Me S (List (Right P R))). m ≡ (Root (the_root nothing m.0) ∷ [], [])) (sym e) refl,
@@ -90,7 +108,14 @@ module _ {S P R : Type 0} (nothing : R) (names : R → ℕ → Type 0) (mine sho
             (
               omega (arith, small, words),
               (
-                (λ u h. omega (arith, words, letters u (subst (λ (z : RootShown R). names z.root.own u) (sym is) (few u (subst (λ (z : RootRight R). names z.own u) root_is h))))),
+                (λ u h.
+                    omega (
+                      arith,
+                      words,
+                      letters u
+                          (subst (λ (z : RootShown R). names z.root.own u) (sym is)
+                          (few u (subst (λ (z : RootRight R). names z.own u) root_is h))),
+                    )),
                 tt,
               ),
             ),
@@ -106,23 +131,29 @@ module _ {S P R : Type 0} (nobody : P) (nothing : R) where
   abbrev Second : Me S (List (Right P R)) → RootRight R
   Second me = the_root nothing (drop 1 me.0)
 
-  pub both_at : (me : Me S (List (Right P R))) (p : PassRight P) (q : RootRight R) → me ≡ (Pass p ∷ Root q ∷ [], []) → me ≡ (Pass (First me) ∷ Root (Second me) ∷ [], [])
+  pub both_at : (me : Me S (List (Right P R))) (p : PassRight P) (q : RootRight R) → me ≡ (Pass p ∷ Root q ∷ [], [])
+      → me ≡ (Pass (First me) ∷ Root (Second me) ∷ [], [])
   both_at me p q e = subst (λ (m : Me S (List (Right P R))). m ≡ (Pass (First m) ∷ Root (Second m) ∷ [], [])) (sym e) refl
 
   pub second_is : (me : Me S (List (Right P R))) (p : PassRight P) (q : RootRight R) → me ≡ (Pass p ∷ Root q ∷ [], []) → Second me ≡ q
   second_is me p q e = ap Second e
 
   -- whom the root names then, its letter lies in the table too
-  pub letters_after : (names : R → ℕ → Type 0) (was : RootRight R) (t words words' : ℕ) → words' ≡ words → ((u : ℕ) → names was.own u → letter_at u < words) → letter_at t < words
-      → (me : Me S (List (Right P R))) (p : PassRight P) (q : RootRight R) → me ≡ (Pass p ∷ Root q ∷ [], []) → ((u : ℕ) → names q.own u → names was.own u ⊎ (u ≡ t))
+  pub letters_after : (names : R → ℕ → Type 0) (was : RootRight R) (t words words' : ℕ) → words' ≡ words
+      → ((u : ℕ) → names was.own u → letter_at u < words) → letter_at t < words
+      → (me : Me S (List (Right P R))) (p : PassRight P) (q : RootRight R) → me ≡ (Pass p ∷ Root q ∷ [], [])
+      → ((u : ℕ) → names q.own u → names was.own u ⊎ (u ≡ t))
       → (u : ℕ) → names (Second me).own u → letter_at u < words'
   letters_after names was t words words' same near mine me p q e names_few u h =
-      ⊎_elim {C = letter_at u < words'} (λ old. omega (arith, near u old)) (λ new. omega (arith, mine)) (names_few u (subst (λ (z : RootRight R). names z.own u) (second_is me p q e) h))
+      ⊎_elim {C = letter_at u < words'} (λ old. omega (arith, near u old)) (λ new. omega (arith, mine))
+      (names_few u (subst (λ (z : RootRight R). names z.own u) (second_is me p q e) h))
 
 -- ---- two passes at one seat
 module _ {S P R : Type 0} where
-  pub one_shown : (me : Me S (List (Right P R))) (mine shown : PassShown P) → mine ≡ shown → me ≡ (Pass mine.pass ∷ [], []) → me ≡ (Pass shown.pass ∷ [], [])
+  pub one_shown : (me : Me S (List (Right P R))) (mine shown : PassShown P) → mine ≡ shown → me ≡ (Pass mine.pass ∷ [], [])
+      → me ≡ (Pass shown.pass ∷ [], [])
   one_shown me mine shown is e = subst (λ (x : PassShown P). me ≡ (Pass x.pass ∷ [], [])) is e
 
-  pub two_joined : (a b me : Me S (List (Right P R))) (p q : PassRight P) → a ≡ (Pass p ∷ [], []) → b ≡ (Pass q ∷ [], []) → me ≡ (a.0 ++ b.0, a.1) → me ≡ (Pass p ∷ Pass q ∷ [], [])
+  pub two_joined : (a b me : Me S (List (Right P R))) (p q : PassRight P) → a ≡ (Pass p ∷ [], []) → b ≡ (Pass q ∷ [], [])
+      → me ≡ (a.0 ++ b.0, a.1) → me ≡ (Pass p ∷ Pass q ∷ [], [])
   two_joined a b me p q ea eb e = e ∙ (λ j. ((ea j).0 ++ (eb j).0, (ea j).1))

@@ -16,7 +16,8 @@ module _ {S P R : Type 0} (k : Meaning S P R) where
   run_of_events a n [] b run = λ i. (run i).part
   run_of_events a n (x ∷ log) b run = step x.access run.1.0 run.1.1.0.0 (run_of_events run.1.0 (n + 1) log b run.1.1.1)
     where
-      step : (y : Access) (c : Telling k.Part) → Leads k a y c → ModelRun k.Step c.part (events_in log) b.part → ModelRun k.Step a.part (with_event y (events_in log)) b.part
+      step : (y : Access) (c : Telling k.Part) → Leads k a y c → ModelRun k.Step c.part (events_in log) b.part
+          → ModelRun k.Step a.part (with_event y (events_in log)) b.part
       step (Makes e saw) c h run = (c.part, (h.0, run))
       step (Posts d t token) c h run = subst (λ (z : Telling k.Part). ModelRun k.Step z.part (events_in log) b.part) h.1 run
       step (Collects t None) c h run = subst (λ (z : Telling k.Part). ModelRun k.Step z.part (events_in log) b.part) h.1 run

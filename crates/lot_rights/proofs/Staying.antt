@@ -12,7 +12,8 @@ use Rattle.lot_rights.specs.Steps.{pass_after, IsMade, PassTurn, BothTurn}
 pub same_words : (ws : List ℕ) (i x : ℕ) → x ≡ get_or ws i 0 → ws ≡ set ws i x
 same_words ws i x is = sym (ap (set ws i) is ∙ set-get_or ws i 0)
 
-module _ {S P R : Type 0} (k : Meaning S P R) (i x : ℕ) (w : k.World) (ws : List ℕ) (hs : List (Option S)) (fits : k.Fits w ws hs) (same : x ≡ get_or ws i 0) (p : PassRight P)
+module _ {S P R : Type 0} (k : Meaning S P R) (i x : ℕ) (w : k.World) (ws : List ℕ) (hs : List (Option S)) (fits : k.Fits w ws hs)
+    (same : x ≡ get_or ws i 0) (p : PassRight P)
     (pass : k.PassFits w p.thread p.own)
     (a : Access) (made : IsMade k (2 * p.thread) w a w) where
   pub pass_stays : (then : PassRight P → Type 0) → ((n : ℕ) → then (pass_after p p.own n a)) → PassTurn k i x p then w ws hs
@@ -28,7 +29,8 @@ module _ {S P R : Type 0} (k : Meaning S P R) (i x : ℕ) (w : k.World) (ws : Li
     told = told;
   }
 
-  pub both_stay : (q : RootRight R) (then : PassRight P → RootRight R → Type 0) → k.RootFits w q.key q.own → ((n : ℕ) → then (pass_after p p.own n a) (record q { own = q.own }))
+  pub both_stay : (q : RootRight R) (then : PassRight P → RootRight R → Type 0) → k.RootFits w q.key q.own
+      → ((n : ℕ) → then (pass_after p p.own n a) (record q { own = q.own }))
       → BothTurn k i x p q then w ws hs
   both_stay q then root told = record {
     own = p.own;

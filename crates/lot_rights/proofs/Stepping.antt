@@ -1,5 +1,6 @@
 -- Steps of passes and roots keep the rule, where the kind's turns lead from world to world.
-use Rattle.std.proofs.Common.{◌≡◌, ◌≢◌, ℕ, ◌+◌, ◌*◌, ◌≤◌, ◌==◌, cond, List, [], ◌∷◌, ◌++◌, length, set, slice_index, refl, sym, ap, subst, ◌∙◌, eq-eqb, arith}
+use Rattle.std.proofs.Common.{◌≡◌, ◌≢◌, ℕ, ◌+◌, ◌*◌, ◌≤◌, ◌==◌, cond, List, [], ◌∷◌, ◌++◌, length, set, slice_index, refl, sym, ap, subst}
+use Rattle.std.proofs.Common.{◌∙◌, eq-eqb, arith}
 use Rattle.std.proofs.lemmas.List.{set-get_or}
 use mathlib.Core.Option.{Option, some}
 use lib.ListN.{get_elem?}
@@ -15,44 +16,56 @@ use Rattle.lot_rights.specs.Seating.{times, Each}
 use Rattle.lot_rights.specs.History.{doer, SameMade}
 use Rattle.lot_rights.specs.Rule.{number, made_with, Meaning, RightFits, Leads, LeadsOn, Ruled}
 use Rattle.lot_rights.specs.Settled.{LinesHaveNoLetter}
-use Rattle.lot_rights.specs.Steps.{pass_after, root_after, AllowsPass, AllowsBoth, AllowsRoot, TellsOfTwo, ToldPass, ToldBoth, ToldRoot, ToldTwo}
+use Rattle.lot_rights.specs.Steps.{pass_after, root_after, AllowsPass, AllowsBoth, AllowsRoot, TellsOfTwo, ToldPass, ToldBoth, ToldRoot}
+use Rattle.lot_rights.specs.Steps.{ToldTwo}
 use Rattle.lot_rights.proofs.Seats.{tick, reseats, times_one, times_set, times_head}
 use Rattle.lot_rights.proofs.Histories.{alike_times, records_more}
 
 module _ {S P R : Type 0} (k : Meaning S P R) where
   -- a right of another number than the pass p, or than p and q
-  pub not_mine : (p x : PassRight P) (v : List (Right P R)) → times {R = Right P R} number (2 * x.thread) (Pass p ∷ v) ≡ 0 → x.thread ≢ p.thread
+  pub not_mine : (p x : PassRight P) (v : List (Right P R))
+      → times {R = Right P R} number (2 * x.thread) (Pass p ∷ v) ≡ 0 → x.thread ≢ p.thread
   not_mine p x v none e =
-      let one : 1 ≤ times {R = Right P R} number (2 * x.thread) (Pass p ∷ v) = subst (λ t. 1 ≤ times {R = Right P R} number (2 * t) (Pass p ∷ v)) (sym e) (times_head number (Pass p) v) in omega arith
+      let one : 1 ≤ times {R = Right P R} number (2 * x.thread) (Pass p ∷ v) =
+      subst (λ t. 1 ≤ times {R = Right P R} number (2 * t) (Pass p ∷ v)) (sym e) (times_head number (Pass p) v) in omega arith
 
   pub not_its : (q y : RootRight R) (v : List (Right P R)) → times {R = Right P R} number (2 * y.key + 1) (Root q ∷ v) ≡ 0 → y.key ≢ q.key
   not_its q y v none e =
-      let one : 1 ≤ times {R = Right P R} number (2 * y.key + 1) (Root q ∷ v) = subst (λ c. 1 ≤ times {R = Right P R} number (2 * c + 1) (Root q ∷ v)) (sym e)
+      let one : 1 ≤ times {R = Right P R} number (2 * y.key + 1) (Root q ∷ v) =
+      subst (λ c. 1 ≤ times {R = Right P R} number (2 * c + 1) (Root q ∷ v)) (sym e)
       (times_head number (Root q) v) in omega arith
 
 module _ {S P R : Type 0} (k : Meaning S P R) (apart : LinesHaveNoLetter k) where
   -- the first right at the seat makes one entry, and the others beside it show the same entries
-  pub makes : (s : State S (List (Right P R))) (ru : Ruled k s) (id : ℕ) (r r' : Right P R) (v v' : List (Right P R)) (world : k.World) (words : List ℕ) (homes : List (Option S)) (access : Access)
-      → get_elem? s.views id ≡ some (r ∷ v) → k.Fits world words homes → number r' ≡ number r → made_with r' ≡ made_with r ++ (record { at = length ru.log; access = access }) ∷ []
+  pub makes : (s : State S (List (Right P R))) (ru : Ruled k s) (id : ℕ) (r r' : Right P R) (v v' : List (Right P R)) (world : k.World)
+      (words : List ℕ) (homes : List (Option S)) (access : Access)
+      → get_elem? s.views id ≡ some (r ∷ v) → k.Fits world words homes → number r' ≡ number r
+      → made_with r' ≡ made_with r ++ (record { at = length ru.log; access = access }) ∷ []
       → SameMade number made_with v v'
-      → ((q : Right P R) → times {R = Right P R} number (number q) (r ∷ v) ≡ 0 → RightFits k ru.world q → RightFits k world q) → Each {R = Right P R} number (RightFits k world) (r' ∷ v')
+      → ((q : Right P R) → times {R = Right P R} number (number q) (r ∷ v) ≡ 0 → RightFits k ru.world q → RightFits k world q)
+      → Each {R = Right P R} number (RightFits k world) (r' ∷ v')
       → doer access ≡ number r → Leads k (k.told_by ru.world) access (k.told_by world)
       → Ruled k (record { words = words; homes = homes; views = set s.views id (r' ∷ v') })
   makes s ru id r r' v v' world words homes access at fits same more alike keeps_others here by leads =
       let entry : Entry = record { at = length ru.log; access = access } in
-      let times_are : (i : ℕ) → times {R = Right P R} number i (r' ∷ v') ≡ times {R = Right P R} number i (r ∷ v) = (λ i. λ j. cond (same j == i) 1 0 + alike_times number made_with v v' alike i j) in
+      let times_are : (i : ℕ) → times {R = Right P R} number i (r' ∷ v') ≡ times {R = Right P R} number i (r ∷ v) =
+      (λ i. λ j. cond (same j == i) 1 0 + alike_times number made_with v v' alike i j) in
       record {
         world = world;
         fits = fits;
-        seats = reseats number (RightFits k ru.world) (RightFits k world) s.views id (r ∷ v) (r' ∷ v') ru.seats at (λ i. omega (arith, times_are i)) keeps_others here;
+        seats =
+            reseats number (RightFits k ru.world) (RightFits k world) s.views id (r ∷ v)
+            (r' ∷ v') ru.seats at (λ i. omega (arith, times_are i)) keeps_others here;
         present = λ i is. omega (arith, ru.present i is, times_set number i s.views id (r ∷ v) (r' ∷ v') at, times_are i);
         log = ru.log ++ entry ∷ [];
-        recorded = records_more number made_with (LeadsOn k) k.start ru.log s.views (k.told_by ru.world) ru.recorded id entry (k.told_by world)
+        recorded =
+            records_more number made_with (LeadsOn k) k.start ru.log s.views (k.told_by ru.world) ru.recorded id entry (k.told_by world)
             r r' v v' at refl (leads, apart world words homes fits) by same more alike;
       }
 
   module _ (slots id : ℕ) (me : Me S (List (Right P R))) where
-    pub steps_pass : (p : PassRight P) (i : ℕ) (f : ℕ → ℕ) (then : ℕ → PassRight P → Type 0) → me ≡ (Pass p ∷ [], []) → AllowsPass k i f p then → Allows (Ruled k) slots id me i f (ToldPass p then)
+    pub steps_pass : (p : PassRight P) (i : ℕ) (f : ℕ → ℕ) (then : ℕ → PassRight P → Type 0) → me ≡ (Pass p ∷ [], [])
+        → AllowsPass k i f p then → Allows (Ruled k) slots id me i f (ToldPass p then)
     steps_pass p i f then one allows s ru deep at small =
         let at' : get_elem? s.views id ≡ some (Pass p ∷ []) = at ∙ ap (λ (m : Me S (List (Right P R))). some m.0) one in
         let turn = allows ru.world s.words s.homes ru.fits (ru.seats.named id (Pass p ∷ []) at').0 small in
@@ -60,17 +73,20 @@ module _ {S P R : Type 0} (k : Meaning S P R) (apart : LinesHaveNoLetter k) wher
           Pass p' ∷ [],
           keeps,
           tt,
-          makes s ru id (Pass p) (Pass p') [] [] turn.world (set s.words i (f (slice_index s.words i))) s.homes turn.access at' turn.fits refl refl tt
+          makes s ru id (Pass p) (Pass p') [] [] turn.world
+              (set s.words i (f (slice_index s.words i))) s.homes turn.access at' turn.fits refl refl tt
               (others p turn.world turn.passes turn.roots) (turn.pass, tt) turn.made.0 turn.made.1,
           (p', refl, (λ j. (Pass p' ∷ [], (one j).1)), turn.told (length ru.log)),
         )
       where
-        others : (p : PassRight P) (w : k.World) → ((u : ℕ) (x : P) → u ≢ p.thread → k.PassFits ru.world u x → k.PassFits w u x) → ((d : ℕ) (y : R) → k.RootFits ru.world d y → k.RootFits w d y)
+        others : (p : PassRight P) (w : k.World) → ((u : ℕ) (x : P) → u ≢ p.thread → k.PassFits ru.world u x → k.PassFits w u x)
+            → ((d : ℕ) (y : R) → k.RootFits ru.world d y → k.RootFits w d y)
             → (r : Right P R) → times {R = Right P R} number (number r) (Pass p ∷ []) ≡ 0 → RightFits k ru.world r → RightFits k w r
         others p w passes roots (Pass x) none h = passes x.thread x.own (not_mine k p x [] none) h
         others p w passes roots (Root y) none h = roots y.key y.own h
 
-    pub steps_both : (p : PassRight P) (q : RootRight R) (i : ℕ) (f : ℕ → ℕ) (then : ℕ → PassRight P → RootRight R → Type 0) → me ≡ (Pass p ∷ Root q ∷ [], []) → AllowsBoth k i f p q then
+    pub steps_both : (p : PassRight P) (q : RootRight R) (i : ℕ) (f : ℕ → ℕ) (then : ℕ → PassRight P → RootRight R → Type 0)
+        → me ≡ (Pass p ∷ Root q ∷ [], []) → AllowsBoth k i f p q then
         → Allows (Ruled k) slots id me i f (ToldBoth p q then)
     steps_both p q i f then both allows s ru deep at small =
         let at' : get_elem? s.views id ≡ some (Pass p ∷ Root q ∷ []) = at ∙ ap (λ (m : Me S (List (Right P R))). some m.0) both in
@@ -81,17 +97,21 @@ module _ {S P R : Type 0} (k : Meaning S P R) (apart : LinesHaveNoLetter k) wher
           Pass p' ∷ Root q' ∷ [],
           keeps,
           tt,
-          makes s ru id (Pass p) (Pass p') (Root q ∷ []) (Root q' ∷ []) turn.world (set s.words i (f (slice_index s.words i))) s.homes turn.access at' turn.fits refl refl (refl, refl, tt)
+          makes s ru id (Pass p) (Pass p') (Root q ∷ []) (Root q' ∷ []) turn.world
+              (set s.words i (f (slice_index s.words i))) s.homes turn.access at' turn.fits refl refl (refl, refl, tt)
               (others turn.world turn.passes turn.roots) (turn.pass, (turn.root, tt)) turn.made.0 turn.made.1,
           (p', q', refl, refl, (λ j. (Pass p' ∷ Root q' ∷ [], (both j).1)), turn.told (length ru.log)),
         )
       where
-        others : (w : k.World) → ((u : ℕ) (x : P) → u ≢ p.thread → k.PassFits ru.world u x → k.PassFits w u x) → ((d : ℕ) (y : R) → d ≢ q.key → k.RootFits ru.world d y → k.RootFits w d y)
-            → (r : Right P R) → times {R = Right P R} number (number r) (Pass p ∷ Root q ∷ []) ≡ 0 → RightFits k ru.world r → RightFits k w r
+        others : (w : k.World) → ((u : ℕ) (x : P) → u ≢ p.thread → k.PassFits ru.world u x → k.PassFits w u x)
+            → ((d : ℕ) (y : R) → d ≢ q.key → k.RootFits ru.world d y → k.RootFits w d y)
+            → (r : Right P R) → times {R = Right P R} number (number r) (Pass p ∷ Root q ∷ []) ≡ 0
+            → RightFits k ru.world r → RightFits k w r
         others w passes roots (Pass x) none h = passes x.thread x.own (not_mine k p x (Root q ∷ []) none) h
         others w passes roots (Root y) none h = roots y.key y.own (not_its k q y [] (omega (arith, none))) h
 
-    pub steps_root : (q : RootRight R) (i : ℕ) (f : ℕ → ℕ) (then : ℕ → RootRight R → Type 0) → me ≡ (Root q ∷ [], []) → AllowsRoot k i f q then → Allows (Ruled k) slots id me i f (ToldRoot q then)
+    pub steps_root : (q : RootRight R) (i : ℕ) (f : ℕ → ℕ) (then : ℕ → RootRight R → Type 0) → me ≡ (Root q ∷ [], [])
+        → AllowsRoot k i f q then → Allows (Ruled k) slots id me i f (ToldRoot q then)
     steps_root q i f then one allows s ru deep at small =
         let at' : get_elem? s.views id ≡ some (Root q ∷ []) = at ∙ ap (λ (m : Me S (List (Right P R))). some m.0) one in
         let turn = allows ru.world s.words s.homes ru.fits (ru.seats.named id (Root q ∷ []) at').0 small in
@@ -99,12 +119,14 @@ module _ {S P R : Type 0} (k : Meaning S P R) (apart : LinesHaveNoLetter k) wher
           Root q' ∷ [],
           keeps,
           tt,
-          makes s ru id (Root q) (Root q') [] [] turn.world (set s.words i (f (slice_index s.words i))) s.homes turn.access at' turn.fits refl refl tt
+          makes s ru id (Root q) (Root q') [] [] turn.world
+              (set s.words i (f (slice_index s.words i))) s.homes turn.access at' turn.fits refl refl tt
               (others turn.world turn.passes turn.roots) (turn.root, tt) turn.made.0 turn.made.1,
           (q', refl, (λ j. (Root q' ∷ [], (one j).1)), turn.told (length ru.log)),
         )
       where
-        others : (w : k.World) → ((u : ℕ) (x : P) → k.PassFits ru.world u x → k.PassFits w u x) → ((d : ℕ) (y : R) → d ≢ q.key → k.RootFits ru.world d y → k.RootFits w d y)
+        others : (w : k.World) → ((u : ℕ) (x : P) → k.PassFits ru.world u x → k.PassFits w u x)
+            → ((d : ℕ) (y : R) → d ≢ q.key → k.RootFits ru.world d y → k.RootFits w d y)
             → (r : Right P R) → times {R = Right P R} number (number r) (Root q ∷ []) ≡ 0 → RightFits k ru.world r → RightFits k w r
         others w passes roots (Pass x) none h = passes x.thread x.own h
         others w passes roots (Root y) none h = roots y.key y.own (not_its k q y [] none) h
@@ -117,12 +139,19 @@ module _ {S P R : Type 0} (k : Meaning S P R) (apart : LinesHaveNoLetter k) wher
         let views : s.views ≡ set s.views id me.0 = sym (set_again s.views id me.0 at) in
         subst (Ruled k) (λ j. record { words = words j; homes = s.homes; views = views j }) ru
 
-    pub steps_two : (p q : PassRight P) (i : ℕ) (fact : Type 0) → me ≡ (Pass p ∷ Pass q ∷ [], []) → TellsOfTwo k p q fact → Allows (Ruled k) slots id me i (λ n. n) (λ _. ToldTwo p q fact me)
+    pub steps_two : (p q : PassRight P) (i : ℕ) (fact : Type 0) → me ≡ (Pass p ∷ Pass q ∷ [], []) → TellsOfTwo k p q fact
+        → Allows (Ruled k) slots id me i (λ n. n) (λ _. ToldTwo p q fact me)
     steps_two p q i fact two tells s ru deep at small =
         let at' : get_elem? s.views id ≡ some (Pass p ∷ Pass q ∷ []) = at ∙ ap (λ (m : Me S (List (Right P R))). some m.0) two in
         let fits = ru.seats.named id (Pass p ∷ Pass q ∷ []) at' in
         let apart : p.thread ≢ q.thread = (λ e.
         let first : tick (2 * p.thread == 2 * p.thread) ≡ 1 = ap tick (eq-eqb (2 * p.thread) (2 * p.thread) refl) in
         let second : tick (2 * q.thread == 2 * p.thread) ≡ 1 = ap tick (eq-eqb (2 * q.thread) (2 * p.thread) (ap (λ t. 2 * t) (sym e))) in
-        omega (arith, first, second, times_one number (2 * p.thread) s.views id (Pass p ∷ Pass q ∷ []) at', ru.seats.once (2 * p.thread))) in
+        omega (
+          arith,
+          first,
+          second,
+          times_one number (2 * p.thread) s.views id (Pass p ∷ Pass q ∷ []) at',
+          ru.seats.once (2 * p.thread),
+        )) in
         (me.0, keeps, tt, same_words s ru i at, (refl, apart, tells ru.world s.words s.homes ru.fits fits.0 fits.1.0 apart))

@@ -1,8 +1,10 @@
--- Histories: which accesses were made, the oldest first, and with which rights. An access is an event of the model, or a notice of what a word really was.
+-- Histories: which accesses were made, the oldest first, and with which rights. An access is an event of the model, or a notice of what a
+-- word really was.
 use Rattle.std.specs.Prelude.{◌≡◌, ◌≢◌, ℕ, ◌+◌, ◌*◌, ◌==◌, cond, List, [], ◌∷◌, ◌++◌, Some, None}
 use Rattle.lot_core.specs.World.{put}
 use Rattle.lot_events.specs.declared.events.Event.{Event}
-use Rattle.lot_events.specs.declared.events.Event.TheVariants.{Try, Take, Mark, Park, Free, Pass, Enlist, Look, Call, Lower, Sweep, SemTake, SemMark, SemPark, SemFree, SemPass, SemClear}
+use Rattle.lot_events.specs.declared.events.Event.TheVariants.{Try, Take, Mark, Park, Free, Pass, Enlist, Look, Call, Lower, Sweep, SemTake}
+use Rattle.lot_events.specs.declared.events.Event.TheVariants.{SemMark, SemPark, SemFree, SemPass, SemClear}
 use Rattle.lot_events.specs.declared.events.Seen.{Seen}
 use Rattle.lot_rights.specs.declared.views.Access.{Access}
 use Rattle.lot_rights.specs.declared.views.Access.TheVariants.{Makes, Posts, Collects, Finds}
@@ -42,7 +44,8 @@ entries_of i [] = []
 entries_of i (x ∷ xs) = cond (doer x.access == i) (x ∷ entries_of i xs) (entries_of i xs)
 
 -- ---- what accesses do
--- what the words of a table tell: a part of the model's state, and the number in each thread's letter, which is 0 for none and else its token and 1
+-- what the words of a table tell: a part of the model's state, and the number in each thread's letter, which is 0 for none and else its
+-- token and 1
 pub record Telling (P : Type 0) : Type 0 where
   pub part : P
   pub letters : ℕ → ℕ
@@ -130,6 +133,7 @@ module _ {R : Type 0} (number : R → ℕ) (made : R → List Entry) where
     pub known : (i : ℕ) → times_in number i views ≡ 0 → entries_of i log ≡ []
 
   -- the log leads from `first` to b, and the rights have its entries
-  pub record Recorded {S : Type 0} (Leads : S → Access → S → Type 0) (first : S) (log : List Entry) (views : List (List R)) (b : S) : Type 0 where
+  pub record Recorded {S : Type 0} (Leads : S → Access → S → Type 0) (first : S) (log : List Entry)
+      (views : List (List R)) (b : S) : Type 0 where
     pub run : Run Leads first 0 log b
     pub listed : Listed log views

@@ -22,7 +22,8 @@ module _ {S P R : Type 0} (k : Meaning S P R) where
 
   -- two histories of the same rights are one, and have led to the same
   abbrev pub RightsSettle : Type 0
-  RightsSettle = (views : List (List (Right P R))) (log log' : List Entry) (a b : Telling k.Part) → IsHistory k log views a → IsHistory k log' views b → (log ≡ log') × (a ≡ b)
+  RightsSettle = (views : List (List (Right P R))) (log log' : List Entry) (a b : Telling k.Part) → IsHistory k log views a
+      → IsHistory k log' views b → (log ≡ log') × (a ≡ b)
 
   -- Of two tables that keep the rule: where the rights show one entry more in the second, that access and no other was made, from what
   -- the words told just then
@@ -54,7 +55,8 @@ module _ {S P R : Type 0} (k : Meaning S P R) where
   abbrev pub RuledSeatsShow : Type 0
   RuledSeatsShow = (s : State S (List (Right P R))) → Ruled k s → SeatsShow s
 
-  -- Of every table that keeps the rule: each right is in exactly one place, and the log without its notices is a run of the model to the part that the words tell
+  -- Of every table that keeps the rule: each right is in exactly one place, and the log without its notices is a run of the model to the
+  -- part that the words tell
   pub record HasOneRun (s : State S (List (Right P R))) (here : Ruled k s) : Type 0 where
     pub once : (i : ℕ) → IsRight k i → times_in number i s.views ≡ 1
     pub model : ModelRun k.Step k.start.part (events_in here.log) (k.told_by here.world).part

@@ -34,10 +34,12 @@ module _ {S P R : Type 0} (k : Meaning S P R) where
     pub told : then own
 
   abbrev pub AllowsOut : ℕ → PassRight P → (P → S → Type 0) → Type 0
-  AllowsOut l p mid = (w : k.World) (ws : List ℕ) (hs : List (Option S)) → k.Fits w ws hs → k.PassFits w p.thread p.own → OutTurn l p mid w ws hs
+  AllowsOut l p mid = (w : k.World) (ws : List ℕ) (hs : List (Option S)) → k.Fits w ws hs → k.PassFits w p.thread p.own
+      → OutTurn l p mid w ws hs
 
   abbrev pub AllowsBack : ℕ → ℕ → P → S → (P → Type 0) → Type 0
-  AllowsBack l t own y then = (w : k.World) (ws : List ℕ) (hs : List (Option S)) → k.Fits w ws hs → k.PassFits w t own → BackTurn l t y then w ws hs
+  AllowsBack l t own y then = (w : k.World) (ws : List ℕ) (hs : List (Option S)) → k.Fits w ws hs → k.PassFits w t own
+      → BackTurn l t y then w ws hs
 
 module _ {S P R : Type 0} where
   abbrev pub ToldOut : ℕ → PassRight P → (P → S → Type 0) → Me S (List (Right P R)) → Type 0

@@ -47,8 +47,10 @@ module _ {S P R : Type 0} (k : Meaning S P R) where
   abbrev pub AllRootsStay : k.World → k.World → Type 0
   AllRootsStay w w' = (d : ℕ) (y : R) → k.RootFits w d y → k.RootFits w' d y
 
-  -- at a step by which the word i becomes x, where the words ws stand for the world w: what the pass p knows then, the access, and the world
-  pub record PassTurn (i x : ℕ) (p : PassRight P) (then : PassRight P → Type 0) (w : k.World) (ws : List ℕ) (hs : List (Option S)) : Type 0 where
+  -- at a step by which the word i becomes x, where the words ws stand for the world w: what the pass p knows then, the access, and the
+  -- world
+  pub record PassTurn (i x : ℕ) (p : PassRight P) (then : PassRight P → Type 0) (w : k.World) (ws : List ℕ)
+      (hs : List (Option S)) : Type 0 where
     pub own : P
     pub access : Access
     pub world : k.World
@@ -60,7 +62,8 @@ module _ {S P R : Type 0} (k : Meaning S P R) where
     pub told : (n : ℕ) → then (pass_after p own n access)
 
   -- the same of a pass and a root; the entry is the pass's
-  pub record BothTurn (i x : ℕ) (p : PassRight P) (q : RootRight R) (then : PassRight P → RootRight R → Type 0) (w : k.World) (ws : List ℕ) (hs : List (Option S)) : Type 0 where
+  pub record BothTurn (i x : ℕ) (p : PassRight P) (q : RootRight R) (then : PassRight P → RootRight R → Type 0) (w : k.World) (ws : List ℕ)
+      (hs : List (Option S)) : Type 0 where
     pub own : P
     pub its : R
     pub access : Access
@@ -74,7 +77,8 @@ module _ {S P R : Type 0} (k : Meaning S P R) where
     pub told : (n : ℕ) → then (pass_after p own n access) (record q { own = its })
 
   -- the same of a root
-  pub record RootTurn (i x : ℕ) (q : RootRight R) (then : RootRight R → Type 0) (w : k.World) (ws : List ℕ) (hs : List (Option S)) : Type 0 where
+  pub record RootTurn (i x : ℕ) (q : RootRight R) (then : RootRight R → Type 0) (w : k.World) (ws : List ℕ)
+      (hs : List (Option S)) : Type 0 where
     pub its : R
     pub access : Access
     pub world : k.World
@@ -87,20 +91,24 @@ module _ {S P R : Type 0} (k : Meaning S P R) where
 
   -- Whatever the words stand for, the word i may become f of what it was
   abbrev pub AllowsPass : ℕ → (ℕ → ℕ) → PassRight P → (ℕ → PassRight P → Type 0) → Type 0
-  AllowsPass i f p then = (w : k.World) (ws : List ℕ) (hs : List (Option S)) → k.Fits w ws hs → k.PassFits w p.thread p.own → slice_index ws i < 2 ^ 64
+  AllowsPass i f p then = (w : k.World) (ws : List ℕ) (hs : List (Option S)) → k.Fits w ws hs → k.PassFits w p.thread p.own
+      → slice_index ws i < 2 ^ 64
       → PassTurn i (f (slice_index ws i)) p (then (slice_index ws i)) w ws hs
 
   abbrev pub AllowsBoth : ℕ → (ℕ → ℕ) → PassRight P → RootRight R → (ℕ → PassRight P → RootRight R → Type 0) → Type 0
-  AllowsBoth i f p q then = (w : k.World) (ws : List ℕ) (hs : List (Option S)) → k.Fits w ws hs → k.PassFits w p.thread p.own → k.RootFits w q.key q.own → slice_index ws i < 2 ^ 64
+  AllowsBoth i f p q then = (w : k.World) (ws : List ℕ) (hs : List (Option S)) → k.Fits w ws hs → k.PassFits w p.thread p.own
+      → k.RootFits w q.key q.own → slice_index ws i < 2 ^ 64
       → BothTurn i (f (slice_index ws i)) p q (then (slice_index ws i)) w ws hs
 
   abbrev pub AllowsRoot : ℕ → (ℕ → ℕ) → RootRight R → (ℕ → RootRight R → Type 0) → Type 0
-  AllowsRoot i f q then = (w : k.World) (ws : List ℕ) (hs : List (Option S)) → k.Fits w ws hs → k.RootFits w q.key q.own → slice_index ws i < 2 ^ 64
+  AllowsRoot i f q then = (w : k.World) (ws : List ℕ) (hs : List (Option S)) → k.Fits w ws hs → k.RootFits w q.key q.own
+      → slice_index ws i < 2 ^ 64
       → RootTurn i (f (slice_index ws i)) q (then (slice_index ws i)) w ws hs
 
   -- of whatever world knows both passes, the fact holds
   abbrev pub TellsOfTwo : PassRight P → PassRight P → Type 0 → Type 0
-  TellsOfTwo p q fact = (w : k.World) (ws : List ℕ) (hs : List (Option S)) → k.Fits w ws hs → k.PassFits w p.thread p.own → k.PassFits w q.thread q.own → p.thread ≢ q.thread → fact
+  TellsOfTwo p q fact = (w : k.World) (ws : List ℕ) (hs : List (Option S)) → k.Fits w ws hs → k.PassFits w p.thread p.own
+      → k.PassFits w q.thread q.own → p.thread ≢ q.thread → fact
 
 -- ---- what a step tells of the seat
 module _ {S P R : Type 0} where
@@ -108,7 +116,9 @@ module _ {S P R : Type 0} where
   ToldPass p then n me' = (p' : PassRight P) × (p'.thread ≡ p.thread) × (me' ≡ (Pass p' ∷ [], [])) × then n p'
 
   abbrev pub ToldBoth : PassRight P → RootRight R → (ℕ → PassRight P → RootRight R → Type 0) → ℕ → Me S (List (Right P R)) → Type 0
-  ToldBoth p q then n me' = (p' : PassRight P) × (q' : RootRight R) × (p'.thread ≡ p.thread) × (q'.key ≡ q.key) × (me' ≡ (Pass p' ∷ Root q' ∷ [], [])) × then n p' q'
+  ToldBoth p q then n me' =
+      (p' : PassRight P) × (q' : RootRight R) × (p'.thread ≡ p.thread) × (q'.key ≡ q.key)
+      × (me' ≡ (Pass p' ∷ Root q' ∷ [], [])) × then n p' q'
 
   abbrev pub ToldRoot : RootRight R → (ℕ → RootRight R → Type 0) → ℕ → Me S (List (Right P R)) → Type 0
   ToldRoot q then n me' = (q' : RootRight R) × (q'.key ≡ q.key) × (me' ≡ (Root q' ∷ [], [])) × then n q'

@@ -57,13 +57,15 @@ fn gather_roots<K: Kind>(
 }
 
 impl<K: Kind> WordsOf<K> {
-    /// Ends the table. What it tells is of the last world, and of the one history that has led there: of it these rights have made
-    /// just the entries that they show. A table without slots has only `Closed::free` to do then.
+    /// Ends the table. What it tells is of the last world, and of the one history that has led there: of it these
+    /// rights have made just the entries that they show. A table without slots has only `Closed::free` to do then.
     pub fn close(self, mut passes: Vec<PassOf<K>>, roots: Vec<RootOf<K>>) -> Closed<K::Slot, Global>
-        requires table { All (λ (p : PassShown K.Pass). p.table ≡ self.table) passes.items × All (λ (q : RootShown K.Root). q.table ≡ self.table) roots.items }
+        requires table { All (λ (p : PassShown K.Pass). p.table ≡ self.table) passes.items
+            × All (λ (q : RootShown K.Root). q.table ≡ self.table) roots.items }
         requires some { 0 < vec_len passes }
         ensures full { IsFull result.words × IsFull result.slots × (slots_len result.slots ≡ self.table.slots) }
-        ensures ended { Ended (K.meaning self.key) passes.items roots.items (slots_items result.words) (slots_items result.slots) }
+        ensures ended { Ended (K.meaning self.key) passes.items roots.items (slots_items result.words)
+            (slots_items result.slots) }
     {
         let WordsOf { table } = self;
         let PassOf { seat, thread: _ } = passes.take_last();

@@ -15,7 +15,8 @@ pub trait Kind {
 
     /// What a slot has.
     type Slot;
-    /// What a pass knows, beside its thread and its entries. No value of it is made: name a struct without fields, and its view tells.
+    /// What a pass knows, beside its thread and its entries. No value of it is made: name a struct without fields, and
+    /// its view tells.
     type Pass;
     /// What a root knows, beside its key and its entries. Of it as of `Pass`.
     type Root;
@@ -42,8 +43,8 @@ pub trait Kind {
     ghost no_letter_in_line: { (key : Self.Key) → LinesHaveNoLetter (meaning key) };
 }
 
-/// What contracts see of a seat: the list of its rights. It has no fields, and no value of it is made by running code; so a table's type
-/// does not spell out what its rights know.
+/// What contracts see of a seat: the list of its rights. It has no fields, and no value of it is made by running code;
+/// so a table's type does not spell out what its rights know.
 pub struct RightsView<K: Kind> {
     of: PhantomData<K>,
 }

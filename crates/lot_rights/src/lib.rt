@@ -1,6 +1,6 @@
-//! Ruled tables of rights: what the tables of lock words, of condition words and of semaphore words have in common, proved once.
-//! A table has words that change in single atomic steps (`atomic_table`); who acts as a thread has its *pass*, who changes a key's
-//! line has that key's *root*. lot_words, lot_conds and lot_sems are short kinds on it.
+//! Ruled tables of rights: what the tables of lock words, of condition words and of semaphore words have in common,
+//! proved once. A table has words that change in single atomic steps (`atomic_table`); who acts as a thread has its
+//! *pass*, who changes a key's line has that key's *root*. lot_words, lot_conds and lot_sems are short kinds on it.
 //!
 //! ```text
 //!  Kind        what words, slots and rights stand for: a world, which keeps a rule of its own
@@ -9,13 +9,14 @@
 //!  RootOf      the right to change the line of one key
 //! ```
 //!
-//! The rule of every table is: there is a world that the words, the slots and the rights stand for, and one history has led to it.
-//! The history has an entry for each access that was made: an event of the model (lot_core), or a notice (a letter that was posted, looked
-//! for or found; a word that was found to be another than was asked for). Each right shows the entries that were made with it, and the
-//! rights settle the history: so one entry more in one right is one access, this one, made of what the words told just then (`laws`).
+//! The rule of every table is: there is a world that the words, the slots and the rights stand for, and one history has
+//! led to it. The history has an entry for each access that was made: an event of the model (lot_core), or a notice (a
+//! letter that was posted, looked for or found; a word that was found to be another than was asked for). Each right
+//! shows the entries that were made with it, and the rights settle the history: so one entry more in one right is one
+//! access, this one, made of what the words told just then (`laws`).
 //!
-//! A kind proves of each of its calls a *turn*: whatever world the words stand for, the step leads to one that they stand for then. Turns
-//! speak of worlds and of the model alone, never of seats, logs or tables.
+//! A kind proves of each of its calls a *turn*: whatever world the words stand for, the step leads to one that they
+//! stand for then. Turns speak of worlds and of the model alone, never of seats, logs or tables.
 //!
 //! Read `specs/Seating`, `specs/History` and `specs/Rule` first, then `specs/Steps`, and `words` for the steps.
 #![tactic(auto)]

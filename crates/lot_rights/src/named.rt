@@ -1,4 +1,5 @@
-//! Names for an opening. What lies behind a lock is known by its type alone, so a right lies there under the name of its opening.
+//! Names for an opening. What lies behind a lock is known by its type alone, so a right lies there under the name of
+//! its opening.
 ghost use Rattle.std.specs.Prelude.{◌≡◌};
 
 use std::marker::{Brand, Model, PhantomData};

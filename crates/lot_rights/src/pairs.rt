@@ -21,7 +21,8 @@ impl<K: Kind> WordsOf<K> {
         requires table { (pass.table ≡ self.now.table) × (root.table ≡ self.now.table) }
         ensures table { result.table_id ≡ self.now.table }
         ensures rights { result.me ≡ (Pass pass.pass ∷ Root root.root ∷ [], []) }
-        ensures near { (letter_at pass.pass.thread < result.table_id.words) × (word_at root.root.key < result.table_id.words) }
+        ensures near { (letter_at pass.pass.thread < result.table_id.words)
+            × (word_at root.root.key < result.table_id.words) }
         ensures small { result.table_id.words < 2 ^ 64 }
         ensures letters { (u : ℕ) → K.names root.root.own u → letter_at u < result.table_id.words }
     {
@@ -40,11 +41,14 @@ impl<K: Kind> WordsOf<K> {
 
     fn parted(&self, mut seat: RightsSeat<K>, thread: usize, key: usize) -> (PassOf<K>, RootOf<K>)
         requires table { seat.table_id ≡ self.now.table }
-        requires rights { seat.me ≡ (Pass (the_pass K.no_pass seat.me.0) ∷ Root (the_root K.no_root (drop 1 seat.me.0)) ∷ [], []) }
-        requires named { (thread ≡ (the_pass K.no_pass seat.me.0).thread) × (key ≡ (the_root K.no_root (drop 1 seat.me.0)).key) }
+        requires rights { seat.me
+            ≡ (Pass (the_pass K.no_pass seat.me.0) ∷ Root (the_root K.no_root (drop 1 seat.me.0)) ∷ [], []) }
+        requires named { (thread ≡ (the_pass K.no_pass seat.me.0).thread)
+            × (key ≡ (the_root K.no_root (drop 1 seat.me.0)).key) }
         requires near { (letter_at thread < seat.table_id.words) × (word_at key < seat.table_id.words) }
         requires small { seat.table_id.words < 2 ^ 64 }
-        requires letters { (u : ℕ) → K.names (the_root K.no_root (drop 1 seat.me.0)).own u → letter_at u < seat.table_id.words }
+        requires letters { (u : ℕ) → K.names (the_root K.no_root (drop 1 seat.me.0)).own u
+            → letter_at u < seat.table_id.words }
         ensures pass { (result.0.table ≡ seat.table_id) × (result.0.pass ≡ the_pass K.no_pass seat.me.0) }
         ensures root { (result.1.table ≡ seat.table_id) × (result.1.root ≡ the_root K.no_root (drop 1 seat.me.0)) }
     {
@@ -53,8 +57,8 @@ impl<K: Kind> WordsOf<K> {
         (PassOf { seat, thread }, RootOf { seat: other, key })
     }
 
-    /// One load of the word, for which the pass and the root come to one seat. The root may name the pass's thread from now on, and no
-    /// other that it did not.
+    /// One load of the word, for which the pass and the root come to one seat. The root may name the pass's thread from
+    /// now on, and no other that it did not.
     pub fn load_both<N: TellsBoth<K::Pass, K::Root>, A: Copy>(
         &self,
         pass: PassOf<K>,
@@ -65,7 +69,8 @@ impl<K: Kind> WordsOf<K> {
         requires table { (pass.table ≡ self.now.table) × (root.table ≡ self.now.table) }
         requires word { word < self.now.table.words }
         requires allows { AllowsBoth (K.meaning self.now.key) word (λ n. n) pass.pass root.root N.then }
-        requires names { (n : ℕ) (p : PassRight K.Pass) (q : RootRight K.Root) → N.then n p q → (u : ℕ) → K.names q.own u → K.names root.root.own u ⊎ (u ≡ pass.pass.thread) }
+        requires names { (n : ℕ) (p : PassRight K.Pass) (q : RootRight K.Root) → N.then n p q → (u : ℕ)
+            → K.names q.own u → K.names root.root.own u ⊎ (u ≡ pass.pass.thread) }
         ensures table { (result.0.table ≡ pass.table) × (result.1.table ≡ root.table) }
         ensures same { (result.0.pass.thread ≡ pass.pass.thread) × (result.1.root.key ≡ root.root.key) }
         ensures told { N.then result.2 result.0.pass result.1.root }
@@ -79,8 +84,8 @@ impl<K: Kind> WordsOf<K> {
         (pass, root, found)
     }
 
-    /// One store to the word, for which the pass and the root come to one seat. The root may name the pass's thread from now on, and no
-    /// other that it did not.
+    /// One store to the word, for which the pass and the root come to one seat. The root may name the pass's thread
+    /// from now on, and no other that it did not.
     pub fn store_both<N: TellsBoth<K::Pass, K::Root>, A: Copy>(
         &self,
         pass: PassOf<K>,
@@ -92,7 +97,8 @@ impl<K: Kind> WordsOf<K> {
         requires table { (pass.table ≡ self.now.table) × (root.table ≡ self.now.table) }
         requires word { word < self.now.table.words }
         requires allows { AllowsBoth (K.meaning self.now.key) word (λ _. new) pass.pass root.root (λ _. N.then new) }
-        requires names { (n : ℕ) (p : PassRight K.Pass) (q : RootRight K.Root) → N.then n p q → (u : ℕ) → K.names q.own u → K.names root.root.own u ⊎ (u ≡ pass.pass.thread) }
+        requires names { (n : ℕ) (p : PassRight K.Pass) (q : RootRight K.Root) → N.then n p q → (u : ℕ)
+            → K.names q.own u → K.names root.root.own u ⊎ (u ≡ pass.pass.thread) }
         ensures table { (result.0.table ≡ pass.table) × (result.1.table ≡ root.table) }
         ensures same { (result.0.pass.thread ≡ pass.pass.thread) × (result.1.root.key ≡ root.root.key) }
         ensures told { N.then new result.0.pass result.1.root }
@@ -105,8 +111,8 @@ impl<K: Kind> WordsOf<K> {
         self.parted(seat, thread, key)
     }
 
-    /// One fetch-add of the word, for which the pass and the root come to one seat. The root may name the pass's thread from now on, and no
-    /// other that it did not.
+    /// One fetch-add of the word, for which the pass and the root come to one seat. The root may name the pass's thread
+    /// from now on, and no other that it did not.
     pub fn fetch_add_both<N: TellsBoth<K::Pass, K::Root>, A: Copy>(
         &self,
         pass: PassOf<K>,
@@ -117,8 +123,10 @@ impl<K: Kind> WordsOf<K> {
     ) -> (PassOf<K>, RootOf<K>, u64)
         requires table { (pass.table ≡ self.now.table) × (root.table ≡ self.now.table) }
         requires word { word < self.now.table.words }
-        requires allows { AllowsBoth (K.meaning self.now.key) word (λ n. (n + more) % 2 ^ 64) pass.pass root.root N.then }
-        requires names { (n : ℕ) (p : PassRight K.Pass) (q : RootRight K.Root) → N.then n p q → (u : ℕ) → K.names q.own u → K.names root.root.own u ⊎ (u ≡ pass.pass.thread) }
+        requires allows { AllowsBoth (K.meaning self.now.key) word
+            (λ n. (n + more) % 2 ^ 64) pass.pass root.root N.then }
+        requires names { (n : ℕ) (p : PassRight K.Pass) (q : RootRight K.Root) → N.then n p q → (u : ℕ)
+            → K.names q.own u → K.names root.root.own u ⊎ (u ≡ pass.pass.thread) }
         ensures table { (result.0.table ≡ pass.table) × (result.1.table ≡ root.table) }
         ensures same { (result.0.pass.thread ≡ pass.pass.thread) × (result.1.root.key ≡ root.root.key) }
         ensures told { N.then result.2 result.0.pass result.1.root }
@@ -132,8 +140,8 @@ impl<K: Kind> WordsOf<K> {
         (pass, root, found)
     }
 
-    /// One fetch-and of the word, for which the pass and the root come to one seat. The root may name the pass's thread from now on, and no
-    /// other that it did not.
+    /// One fetch-and of the word, for which the pass and the root come to one seat. The root may name the pass's thread
+    /// from now on, and no other that it did not.
     pub fn fetch_and_both<N: TellsBoth<K::Pass, K::Root>, A: Copy>(
         &self,
         pass: PassOf<K>,
@@ -145,7 +153,8 @@ impl<K: Kind> WordsOf<K> {
         requires table { (pass.table ≡ self.now.table) × (root.table ≡ self.now.table) }
         requires word { word < self.now.table.words }
         requires allows { AllowsBoth (K.meaning self.now.key) word (λ n. bit_and n mask) pass.pass root.root N.then }
-        requires names { (n : ℕ) (p : PassRight K.Pass) (q : RootRight K.Root) → N.then n p q → (u : ℕ) → K.names q.own u → K.names root.root.own u ⊎ (u ≡ pass.pass.thread) }
+        requires names { (n : ℕ) (p : PassRight K.Pass) (q : RootRight K.Root) → N.then n p q → (u : ℕ)
+            → K.names q.own u → K.names root.root.own u ⊎ (u ≡ pass.pass.thread) }
         ensures table { (result.0.table ≡ pass.table) × (result.1.table ≡ root.table) }
         ensures same { (result.0.pass.thread ≡ pass.pass.thread) × (result.1.root.key ≡ root.root.key) }
         ensures told { N.then result.2 result.0.pass result.1.root }
@@ -170,7 +179,8 @@ impl<K: Kind> WordsOf<K> {
         requires table { root.table ≡ self.now.table }
         requires word { word < self.now.table.words }
         requires allows { AllowsRoot (K.meaning self.now.key) word (λ _. new) root.root (λ _. N.then new) }
-        requires names { (n : ℕ) (q : RootRight K.Root) → N.then n q → (u : ℕ) → K.names q.own u → K.names root.root.own u }
+        requires names { (n : ℕ) (q : RootRight K.Root) → N.then n q → (u : ℕ) → K.names q.own u
+            → K.names root.root.own u }
         ensures table { result.table ≡ root.table }
         ensures same { result.root.key ≡ root.root.key }
         ensures told { N.then new result.root }
@@ -181,8 +191,8 @@ impl<K: Kind> WordsOf<K> {
         RootOf { seat, key }
     }
 
-    /// Gives both passes back as they were. The point is what it proves: they are of two threads, and whatever follows in a world
-    /// that knows both.
+    /// Gives both passes back as they were. The point is what it proves: they are of two threads, and whatever follows
+    /// in a world that knows both.
     pub fn check_two<N: TellsTwo>(
         &self,
         first: PassOf<K>,

@@ -56,7 +56,8 @@ impl<K: Kind> PassOf<K> {
 
 /// The right to change what one key's root has. Contracts see it as its table and a `RootView`.
 ///
-/// It lies in the bucket of its key, and is only taken out while that bucket is locked. Spend it where the table is closed.
+/// It lies in the bucket of its key, and is only taken out while that bucket is locked. Spend it where the table is
+/// closed.
 #[derive(Drop)]
 pub struct RootOf<K: Kind> {
     pub(crate) seat: RightsSeat<K>,
@@ -65,7 +66,8 @@ pub struct RootOf<K: Kind> {
     pub(crate) ghost key_is: { key ≡ (the_root K.no_root seat.me.0).key },
     pub(crate) ghost near: { word_at key < seat.table_id.words },
     pub(crate) ghost small: { seat.table_id.words < 2 ^ 64 },
-    pub(crate) ghost letters_near: { (u : ℕ) → K.names (the_root K.no_root seat.me.0).own u → letter_at u < seat.table_id.words },
+    pub(crate) ghost letters_near: { (u : ℕ) → K.names (the_root K.no_root seat.me.0).own u
+        → letter_at u < seat.table_id.words },
 }
 
 impl<K: Kind> Model for RootOf<K> {

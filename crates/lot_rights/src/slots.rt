@@ -9,8 +9,8 @@ use crate::tells::{BackStep, Moves, OutStep};
 use crate::words::WordsOf;
 
 impl<K: Kind> WordsOf<K> {
-    /// Puts another value into the slot, and answers the one that lay there: by two loads of the word that nobody writes, between which
-    /// the slot is out with the seat. No entry is made.
+    /// Puts another value into the slot, and answers the one that lay there: by two loads of the word that nobody
+    /// writes, between which the slot is out with the seat. No entry is made.
     #[inline]
     pub fn exchange<N: Moves<K::Pass, K::Slot>, A: Copy>(
         &self,
@@ -22,7 +22,8 @@ impl<K: Kind> WordsOf<K> {
         requires table { pass.table ≡ self.now.table }
         requires named { N.slot ≡ slot }
         requires out { AllowsOut (K.meaning self.now.key) N.slot pass.pass N.mid }
-        requires back { (own : K.Pass) (x : K.Slot) → N.mid own x → AllowsBack (K.meaning self.now.key) N.slot pass.pass.thread own new (N.back own) }
+        requires back { (own : K.Pass) (x : K.Slot) → N.mid own x
+            → AllowsBack (K.meaning self.now.key) N.slot pass.pass.thread own new (N.back own) }
         ensures table { result.0.table ≡ pass.table }
         ensures same { result.0.pass ≡ record pass.pass { own = result.0.pass.own } }
         ensures told { (own : K.Pass) × N.mid own result.1 × N.back own result.0.pass.own }

@@ -1,4 +1,5 @@
-//! What a step tells the right that makes it. A call picks it by the name that it gives for `N`, which is std's `Brand`.
+//! What a step tells the right that makes it. A call picks it by the name that it gives for `N`, which is std's
+//! `Brand`.
 use crate::kind::{Kind, RightsView};
 use atomic_table::{Join, Play, Split};
 use std::marker::{Brand, PhantomData};
@@ -40,8 +41,8 @@ impl<R> TellsRoot<R> for Brand {
     ghost then = { λ n q. Unit {0} };
 }
 
-/// Of a value that leaves its slot and another that comes back: the slot, what the pass knows while the value is out, and what it
-/// knows in the end.
+/// Of a value that leaves its slot and another that comes back: the slot, what the pass knows while the value is out,
+/// and what it knows in the end.
 pub trait Moves<P, S> {
     ghost use Rattle.std.specs.Prelude.{ℕ};
 

@@ -22,9 +22,9 @@ impl<K: Kind> Model for WordsOf<K> {
     ghost view = { λ s. record { table = s.table.shared.table_id; key = s.table.shared.key } };
 }
 
-/// Each step is one access of one word. What it tells is picked by `N`, which is std's `Brand`, from the step's arguments; `_about` is
-/// what else the pick needs to know, and code reads it nowhere. What is to be shown for a step is that it is allowed in every world that
-/// the words can stand for; what it tells is then so.
+/// Each step is one access of one word. What it tells is picked by `N`, which is std's `Brand`, from the step's
+/// arguments; `_about` is what else the pick needs to know, and code reads it nowhere. What is to be shown for a step
+/// is that it is allowed in every world that the words can stand for; what it tells is then so.
 impl<K: Kind> WordsOf<K> {
     /// The word as it was just now. It is an observation, of which nothing is promised.
     #[inline(always)]

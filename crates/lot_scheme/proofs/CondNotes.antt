@@ -17,7 +17,8 @@ use Rattle.lot_scheme.specs.Standing.{standing, adding, enlisted, called_more as
 use Rattle.lot_scheme.proofs.Noted.{noted}
 
 -- a key that is a condition's has a condition's root, whose line is the one that the bucket sees
-pub cond_root : (locks first_sem c : ℕ) (own : LotRootView) → IsInItsKind locks first_sem c own → (locks ≤ c) × (c < first_sem) → IsCondRoot own
+pub cond_root : (locks first_sem c : ℕ) (own : LotRootView) → IsInItsKind locks first_sem c own
+    → (locks ≤ c) × (c < first_sem) → IsCondRoot own
 cond_root locks first_sem c (Lock q) kind near = absurd (omega (arith, kind, near.0))
 cond_root locks first_sem c (Cond q) kind near = tt
 cond_root locks first_sem c (Sem q) kind near = absurd (omega (arith, kind.1, near.1))

@@ -14,7 +14,8 @@ use Rattle.lot_park.specs.Parking.{Queues, debt}
 use Rattle.lot_words.specs.declared.views.LockRootView.{LockRootView}
 use Rattle.lot_words.specs.CallersRule.{CallersRule}
 use Rattle.lot_words.specs.Values.{IsIn}
-use Rattle.lot_words.specs.Calls.{owning as lock_owning, wanting as lock_wanting, sleeping, letting_go, finding_parked as lock_finding_parked, parked_pass, parked_root, passed_root, token_of}
+use Rattle.lot_words.specs.Calls.{owning as lock_owning, wanting as lock_wanting, sleeping, letting_go}
+use Rattle.lot_words.specs.Calls.{finding_parked as lock_finding_parked, parked_pass, parked_root, passed_root, token_of}
 use Rattle.lot_whole.specs.declared.views.LotPassView.{LotPassView}
 use Rattle.lot_whole.specs.declared.views.LotRootView.{LotRootView}
 use Rattle.lot_whole.specs.declared.views.LotRootView.TheVariants.{Lock, Cond, Sem}
@@ -175,8 +176,12 @@ module _ {V Part : Type 0} (rule : CallersRule V Part) where
       → MatchBool does (GetsBy rule p key (Makes (Take p.thread key) (Saw true)) q) ((word : ℕ) × (word ≢ 0) × FindsOf p key word q)
       → MatchBool does (GetsLock rule (standing p) key (Makes (Take p.thread key) (Saw true)) (standing q))
       ((word : ℕ) × (word ≢ 0) × (standing q ≡ adding (standing p) (Finds p.thread key word ∷ [])))
-  took_free p key true q (x, found, note) =
-      (x, found, noted p (record p.own { locks = lock_owning p.own.locks key x; stand = Idle }) (Makes (Take p.thread key) (Saw true)) q note)
+  took_free p key true q (x, found, note) = (
+    x,
+    found,
+    noted p (record p.own { locks = lock_owning p.own.locks key x; stand = Idle })
+        (Makes (Take p.thread key) (Saw true)) q note,
+  )
   took_free p key false q (word, other, note) = (word, other, noted p p.own (Finds p.thread key word) q note)
 
   pub took : (p : PassRight (LotPassView V)) (key : ℕ) (does : Bool) (q : PassRight (LotPassView V))
@@ -184,8 +189,12 @@ module _ {V Part : Type 0} (rule : CallersRule V Part) where
       (NotesIn lock p (lock_wanting p.own.locks key) (Makes (Take p.thread key) (Saw false)) q)
       → MatchBool does (GetsLock rule (standing p) key (Makes (Take p.thread key) (Saw true)) (standing q))
       (standing q ≡ adding (wanting (standing p) key) (Makes (Take p.thread key) (Saw false) ∷ []))
-  took p key true q (x, found, note) =
-      (x, found, noted p (record p.own { locks = lock_owning p.own.locks key x; stand = Idle }) (Makes (Take p.thread key) (Saw true)) q note)
+  took p key true q (x, found, note) = (
+    x,
+    found,
+    noted p (record p.own { locks = lock_owning p.own.locks key x; stand = Idle })
+        (Makes (Take p.thread key) (Saw true)) q note,
+  )
   took p key false q note =
       noted p (record p.own { locks = lock_wanting p.own.locks key; stand = Idle }) (Makes (Take p.thread key) (Saw false)) q note
 

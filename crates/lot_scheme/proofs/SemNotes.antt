@@ -55,7 +55,8 @@ module _ {V : Type 0} where
     took q (word, left, (r, look, note)) = (
       Finds p.thread k word ∷ Makes (SemTake p.thread k) (Saw true) ∷ [],
       (word, left, refl),
-      looked_then p r q (λ own. lot_own sem own (one_permit_more own.sems k) (Makes (SemTake p.thread k) (Saw true))) (Finds p.thread k word)
+      looked_then p r q (λ own. lot_own sem own (one_permit_more own.sems k) (Makes (SemTake p.thread k) (Saw true)))
+          (Finds p.thread k word)
           (Makes (SemTake p.thread k) (Saw true)) look (at_look r look note),
     )
       where
@@ -94,7 +95,8 @@ module _ {V : Type 0} where
     frees true q (word, clear, (r, look, note)) = (
       Finds p.thread k word ∷ Makes (SemFree p.thread k) (Saw true) ∷ [],
       (word, clear, refl),
-      looked_then p r q (λ own. lot_own sem own (one_permit_less own.sems k) (Makes (SemFree p.thread k) (Saw true))) (Finds p.thread k word)
+      looked_then p r q (λ own. lot_own sem own (one_permit_less own.sems k) (Makes (SemFree p.thread k) (Saw true)))
+          (Finds p.thread k word)
           (Makes (SemFree p.thread k) (Saw true)) look
           (subst (λ (o : LotPassView V). Notes r (lot_own sem r.own (one_permit_less o.sems k) (Makes (SemFree p.thread k) (Saw true)))
           (Makes (SemFree p.thread k) (Saw true)) q)

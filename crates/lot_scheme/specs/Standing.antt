@@ -8,9 +8,12 @@ use Rattle.lot_rights.specs.declared.views.PassRight.{PassRight}
 use Rattle.lot_words.specs.declared.views.Place.{Place}
 use Rattle.lot_words.specs.CallersRule.{CallersRule}
 use Rattle.lot_words.specs.Values.{FoundOk}
-use Rattle.lot_words.specs.Calls.{owning as lock_owning, wanting as lock_wanting, sleeping, woken as lock_woken, letting_go as lock_letting_go, finding_parked as lock_finding_parked}
-use Rattle.lot_conds.specs.Calls.{enlisted as cond_enlisted, called_more as cond_called_more, lowering, swept_pass, one_wait_more as cond_one_wait_more}
-use Rattle.lot_sems.specs.Calls.{seeking as sem_seeking, one_permit_more as sem_one_permit_more, one_permit_less as sem_one_permit_less, woken as sem_woken, parked_pass as sem_parked}
+use Rattle.lot_words.specs.Calls.{owning as lock_owning, wanting as lock_wanting, sleeping, woken as lock_woken}
+use Rattle.lot_words.specs.Calls.{letting_go as lock_letting_go, finding_parked as lock_finding_parked}
+use Rattle.lot_conds.specs.Calls.{enlisted as cond_enlisted, called_more as cond_called_more, lowering, swept_pass}
+use Rattle.lot_conds.specs.Calls.{one_wait_more as cond_one_wait_more}
+use Rattle.lot_sems.specs.Calls.{seeking as sem_seeking, one_permit_more as sem_one_permit_more, one_permit_less as sem_one_permit_less}
+use Rattle.lot_sems.specs.Calls.{woken as sem_woken, parked_pass as sem_parked}
 use Rattle.lot_whole.specs.declared.views.LotPassView.{LotPassView}
 use Rattle.lot_whole.specs.declared.views.Stand.TheVariants.{Idle, AtBed}
 use Rattle.lot_whole.specs.Whole.{rises}
@@ -108,7 +111,8 @@ module _ {V Part : Type 0} (rule : CallersRule V Part) where
       q ≡ adding (record p { own = record p.own { locks = lock_woken p.own.locks } }) (Collects p.thread (Some 0) ∷ [])
   CollectsLock p (suc k) q =
       (k ≡ 0) × ((l : ℕ) × (p.own.locks.aim ≡ Some l) × ((x : V) × FoundOk rule l p.thread p.own.locks x
-      × (q ≡ adding (record p { own = record p.own { locks = lock_woken (lock_owning p.own.locks l x) } }) (Collects p.thread (Some 1) ∷ []))))
+      × (q ≡ adding (record p { own = record p.own { locks = lock_woken (lock_owning p.own.locks l x) } })
+      (Collects p.thread (Some 1) ∷ []))))
 
   -- a condition's or a semaphore's letter, whose tokens are all 0
   abbrev pub CollectsCond : LotStanding V → ℕ → LotStanding V → Type 0

@@ -13,7 +13,8 @@ use Rattle.lot_sems.specs.World.{Numbers, SemWorld, permits_of, PassKnows, RootK
 use Rattle.lot_sems.specs.Rule.{meaning}
 use Rattle.lot_sems.specs.Closing.{out_with, IsToldTo}
 
-module _ (size : Numbers) (passes : List (PassShown SemPassView)) (roots : List (RootShown SemRootView)) (ws : List ℕ) (xs : List (Unit {0})) where
+module _ (size : Numbers) (passes : List (PassShown SemPassView)) (roots : List (RootShown SemRootView)) (ws : List ℕ)
+    (xs : List (Unit {0})) where
   -- when all passes came back, the permits that are left and those that are out with them are all there are
   module _ (left : Left (meaning size) passes roots ws xs)
       (all : (t : ℕ) → t < size.threads → Any (λ (p : PassShown SemPassView). p.pass.thread ≡ t) passes) where
@@ -38,6 +39,7 @@ module _ (size : Numbers) (passes : List (PassShown SemPassView)) (roots : List 
   told_to ended all = record {
     recounted = ended_recounted (meaning size) passes roots ws xs ended;
     lines = All-weaker (λ (q : RootShown SemRootView). RootKnows size ended.left.world q.root.key q.root.own)
-        (λ (q : RootShown SemRootView). ended.left.world.part.sems.line q.root.key ≡ q.root.own.line) (λ q is. is.1) roots ended.left.roots_fit;
+        (λ (q : RootShown SemRootView). ended.left.world.part.sems.line q.root.key ≡ q.root.own.line)
+        (λ q is. is.1) roots ended.left.roots_fit;
     permits = all_out ended.left all;
   }

@@ -26,7 +26,8 @@ two_of zero f t u ne a b = absurd (omega arith)
 two_of (suc n) f t u ne a b = ⊎_elim {C = f t + f u ≤ total (suc n) f}
     (λ h. ⊎_elim {C = f t + f u ≤ total (suc n) f} (λ g. omega (arith, two_of n f t u ne h g))
     (λ g. let e : u ≡ n = omega arith in let same : f u ≡ f n = (λ i. f (e i)) in omega (arith, one_of n f t h)) (cases_lt u n))
-    (λ h. let e : t ≡ n = omega arith in let same : f t ≡ f n = (λ i. f (e i)) in omega (arith, one_of n f u (let g : u ≢ n = (λ d. ne (omega arith)) in omega arith)))
+    (λ h. let e : t ≡ n = omega arith in let same : f t ≡ f n = (λ i. f (e i)) in
+    omega (arith, one_of n f u (let g : u ≢ n = (λ d. ne (omega arith)) in omega arith)))
     (cases_lt t n)
 
 module _ (n : ℕ) (w : SemWorld) (ok : LettersFit n w) where

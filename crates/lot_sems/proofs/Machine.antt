@@ -45,7 +45,8 @@ lying_queued sp j k x e f = let g : lying j x ≡ queued k = sym e ∙ f in cc
 lying_owed : (sp : Spot) (j k x y : ℕ) → sp ≡ lying j x → sp ≡ owed k y → ⊥
 lying_owed sp j k x y e f = let g : lying j x ≡ owed k y = sym e ∙ f in cc
 
-module _ (n : ℕ) (line : ℕ → List ℕ) (seeks : ℕ → Option ℕ) (owes : ℕ → Option ℕ) (spot : ℕ → Spot) (ok : NoticesFit n line seeks owes spot) where
+module _ (n : ℕ) (line : ℕ → List ℕ) (seeks : ℕ → Option ℕ) (owes : ℕ → Option ℕ) (spot : ℕ → Spot)
+    (ok : NoticesFit n line seeks owes spot) where
   pub notice_at : (t : ℕ) (sp : Spot) → spot t ≡ sp → NoticeFits n line seeks owes t sp
   notice_at t sp e = subst (NoticeFits n line seeks owes t) e (ok.fits t)
 
@@ -62,7 +63,8 @@ module _ (n : ℕ) (line : ℕ → List ℕ) (seeks : ℕ → Option ℕ) (owes 
         stays v awake e h = tt
         stays v (queued j) e h = h
         stays v (owed j x) e h = (h.0, put_other seeks t o v (λ vt. awake_owed (spot v) j x (ap spot vt ∙ up) e) ∙ h.1, h.2, h.3)
-        stays v (lying j x) e h = (h.0, put_other seeks t o v (λ vt. let g : lying j x ≡ awake = sym e ∙ (ap spot vt ∙ up) in cc) ∙ h.1, h.2)
+        stays v (lying j x) e h =
+            (h.0, put_other seeks t o v (λ vt. let g : lying j x ≡ awake = sym e ∙ (ap spot vt ∙ up) in cc) ∙ h.1, h.2)
 
     -- ---- the thread goes last in the line of k
     pub park_letters : (k : ℕ) → NoticesFit n (put line k (line k ++ t ∷ [])) seeks owes (put spot t (queued k))
@@ -79,17 +81,22 @@ module _ (n : ℕ) (line : ℕ → List ℕ) (seeks : ℕ → Option ℕ) (owes 
               (λ tv. subst (λ z. put spot t (queued k) z ≡ queued j) tv (put_same spot t (queued k) ∙ ap queued (sym jk)))
               (Contains-push_cases (line k) t v h))
               (λ _ h. put_other spot t (queued k) v (other v j h) ∙ ok.in_line v j h);
-          is_owed = λ v j e. put_other spot t (queued k) v (λ vt. awake_owed (spot v) j 0 (ap spot vt ∙ up) (ok.is_owed v j e)) ∙ ok.is_owed v j e;
+          is_owed =
+              λ v j e. put_other spot t (queued k) v (λ vt. awake_owed (spot v) j 0 (ap spot vt ∙ up) (ok.is_owed v j e))
+              ∙ ok.is_owed v j e;
         }
       where
         stays : (v : ℕ) (sp : Spot) → NoticeFits n line seeks owes v sp → NoticeFits n (put line k (line k ++ t ∷ [])) seeks owes v sp
         stays v awake h = tt
-        stays v (queued j) h = put_elim (λ z. Contains z v) line k (line k ++ t ∷ []) j (λ jk. Contains-append_left (line k) (t ∷ []) v (subst (λ z. Contains (line z) v) jk h)) (λ _. h)
+        stays v (queued j) h =
+            put_elim (λ z. Contains z v) line k (line k ++ t ∷ []) j
+            (λ jk. Contains-append_left (line k) (t ∷ []) v (subst (λ z. Contains (line z) v) jk h)) (λ _. h)
         stays v (owed j x) h = h
         stays v (lying j x) h = h
 
   -- ---- the first of the line of k leaves it, and is owed a letter
-  module _ (k u : ℕ) (rest : List ℕ) (is : line k ≡ u ∷ rest) (once : IsOnce (line k)) (free : owes k ≡ None) (seek : (u < n) × (seeks u ≡ Some k)) where
+  module _ (k u : ℕ) (rest : List ℕ) (is : line k ≡ u ∷ rest) (once : IsOnce (line k)) (free : owes k ≡ None)
+      (seek : (u < n) × (seeks u ≡ Some k)) where
     pub was_queued : spot u ≡ queued k
     was_queued = ok.in_line u k (subst (λ z. Contains z u) (sym is) (in_head u rest))
 
@@ -99,26 +106,34 @@ module _ (n : ℕ) (line : ℕ → List ℕ) (seeks : ℕ → Option ℕ) (owes 
     pub pass_letters : NoticesFit n (put line k rest) seeks (put owes k (Some u)) (put spot u (owed k 0))
     pass_letters = record {
       fits = λ v. put_elim (NoticeFits n (put line k rest) seeks (put owes k (Some u)) v) spot u (owed k 0) v
-          (λ vu. subst (λ z. NoticeFits n (put line k rest) seeks (put owes k (Some u)) z (owed k 0)) (sym vu) (seek.0, seek.1, put_same owes k (Some u), refl))
+          (λ vu. subst (λ z. NoticeFits n (put line k rest) seeks (put owes k (Some u)) z (owed k 0)) (sym vu)
+          (seek.0, seek.1, put_same owes k (Some u), refl))
           (λ ne. stays v ne (spot v) (ok.fits v));
       in_line = λ v j. put_elim (λ z. Contains z v → put spot u (owed k 0) v ≡ queued j) line k rest j
-          (λ jk h. put_other spot u (owed k 0) v (behind v h) ∙ (ok.in_line v k (subst (λ z. Contains z v) (sym is) (in_tail u rest v h)) ∙ ap queued (sym jk)))
-          (λ ne h. put_other spot u (owed k 0) v (λ vu. ne (queued_same (spot v) j k (ok.in_line v j h) (ap spot vu ∙ was_queued))) ∙ ok.in_line v j h);
+          (λ jk h. put_other spot u (owed k 0) v (behind v h)
+          ∙ (ok.in_line v k (subst (λ z. Contains z v) (sym is) (in_tail u rest v h)) ∙ ap queued (sym jk)))
+          (λ ne h. put_other spot u (owed k 0) v (λ vu. ne (queued_same (spot v) j k (ok.in_line v j h) (ap spot vu ∙ was_queued)))
+          ∙ ok.in_line v j h);
       is_owed = λ v j. put_elim (λ z. z ≡ Some v → put spot u (owed k 0) v ≡ owed j 0) owes k (Some u) j
-          (λ jk e. subst (λ z. put spot u (owed k 0) z ≡ owed j 0) (same_some u v e) (put_same spot u (owed k 0) ∙ ap (λ z. owed z 0) (sym jk)))
-          (λ _ e. put_other spot u (owed k 0) v (λ vu. queued_owed (spot v) k j 0 (ap spot vu ∙ was_queued) (ok.is_owed v j e)) ∙ ok.is_owed v j e);
+          (λ jk e. subst (λ z. put spot u (owed k 0) z ≡ owed j 0) (same_some u v e)
+          (put_same spot u (owed k 0) ∙ ap (λ z. owed z 0) (sym jk)))
+          (λ _ e. put_other spot u (owed k 0) v (λ vu. queued_owed (spot v) k j 0 (ap spot vu ∙ was_queued) (ok.is_owed v j e))
+          ∙ ok.is_owed v j e);
     }
       where
-        stays : (v : ℕ) → v ≢ u → (sp : Spot) → NoticeFits n line seeks owes v sp → NoticeFits n (put line k rest) seeks (put owes k (Some u)) v sp
+        stays : (v : ℕ) → v ≢ u → (sp : Spot) → NoticeFits n line seeks owes v sp
+            → NoticeFits n (put line k rest) seeks (put owes k (Some u)) v sp
         stays v ne awake h = tt
         stays v ne (queued j) h = put_elim (λ z. Contains z v) line k rest j
-            (λ jk. ⊎_elim {C = Contains rest v} (λ e. absurd (ne (sym e))) (λ i. i) (in_cases u rest v (subst (λ z. Contains z v) (ap line jk ∙ is) h))) (λ _. h)
+            (λ jk. ⊎_elim {C = Contains rest v} (λ e. absurd (ne (sym e))) (λ i. i)
+            (in_cases u rest v (subst (λ z. Contains z v) (ap line jk ∙ is) h))) (λ _. h)
         stays v ne (owed j x) h = (h.0, h.1, put_other owes k (Some u) j (λ jk. no_some v (sym free ∙ (ap owes (sym jk) ∙ h.2))) ∙ h.2, h.3)
         stays v ne (lying j x) h = h
 
     -- who slept sleeps
     pub pass_sleeps : (v : ℕ) → sleeps (put spot u (owed k 0) v) ≡ sleeps (spot v)
-    pass_sleeps v = put_elim (λ z. sleeps z ≡ sleeps (spot v)) spot u (owed k 0) v (λ vu. sym (ap sleeps (ap spot vu ∙ was_queued))) (λ _. refl)
+    pass_sleeps v =
+        put_elim (λ z. sleeps z ≡ sleeps (spot v)) spot u (owed k 0) v (λ vu. sym (ap sleeps (ap spot vu ∙ was_queued))) (λ _. refl)
 
   -- ---- the letter that k's root owes u is posted
   module _ (k u : ℕ) (debt : owes k ≡ Some u) where
@@ -128,12 +143,16 @@ module _ (n : ℕ) (line : ℕ → List ℕ) (seeks : ℕ → Option ℕ) (owes 
     pub post_letters : NoticesFit n line seeks (put owes k None) (put spot u (lying k 0))
     post_letters = record {
       fits = λ v. put_elim (NoticeFits n line seeks (put owes k None) v) spot u (lying k 0) v
-          (λ vu. let h = notice_at u (owed k 0) is_owed_here in subst (λ z. NoticeFits n line seeks (put owes k None) z (lying k 0)) (sym vu) (h.0, h.1, refl))
+          (λ vu. let h = notice_at u (owed k 0) is_owed_here in
+          subst (λ z. NoticeFits n line seeks (put owes k None) z (lying k 0)) (sym vu) (h.0, h.1, refl))
           (λ ne. stays v ne (spot v) (ok.fits v));
-      in_line = λ v j h. put_other spot u (lying k 0) v (λ vu. queued_owed (spot v) j k 0 (ok.in_line v j h) (ap spot vu ∙ is_owed_here)) ∙ ok.in_line v j h;
+      in_line =
+          λ v j h. put_other spot u (lying k 0) v (λ vu. queued_owed (spot v) j k 0 (ok.in_line v j h) (ap spot vu ∙ is_owed_here))
+          ∙ ok.in_line v j h;
       is_owed = λ v j. put_elim (λ z. z ≡ Some v → put spot u (lying k 0) v ≡ owed j 0) owes k None j
           (λ _ e. absurd (no_some v e))
-          (λ ne e. put_other spot u (lying k 0) v (λ vu. ne (owed_same (spot v) j k 0 (ok.is_owed v j e) (ap spot vu ∙ is_owed_here))) ∙ ok.is_owed v j e);
+          (λ ne e. put_other spot u (lying k 0) v (λ vu. ne (owed_same (spot v) j k 0 (ok.is_owed v j e) (ap spot vu ∙ is_owed_here)))
+          ∙ ok.is_owed v j e);
     }
       where
         stays : (v : ℕ) → v ≢ u → (sp : Spot) → NoticeFits n line seeks owes v sp → NoticeFits n line seeks (put owes k None) v sp
@@ -143,12 +162,15 @@ module _ (n : ℕ) (line : ℕ → List ℕ) (seeks : ℕ → Option ℕ) (owes 
         stays v ne (lying j x) h = h
 
     pub post_sleeps : (v : ℕ) → sleeps (put spot u (lying k 0) v) ≡ sleeps (spot v)
-    post_sleeps v = put_elim (λ z. sleeps z ≡ sleeps (spot v)) spot u (lying k 0) v (λ vu. sym (ap sleeps (ap spot vu ∙ is_owed_here))) (λ _. refl)
+    post_sleeps v =
+        put_elim (λ z. sleeps z ≡ sleeps (spot v)) spot u (lying k 0) v (λ vu. sym (ap sleeps (ap spot vu ∙ is_owed_here))) (λ _. refl)
 
   -- ---- the thread collects its letter
   pub collect_letters : (t k x : ℕ) → spot t ≡ lying k x → NoticesFit n line seeks owes (put spot t awake)
   collect_letters t k x lies = record {
     fits = λ v. put_elim (NoticeFits n line seeks owes v) spot t awake v (λ _. tt) (λ _. ok.fits v);
-    in_line = λ v j h. put_other spot t awake v (λ vt. lying_queued (spot v) k j x (ap spot vt ∙ lies) (ok.in_line v j h)) ∙ ok.in_line v j h;
-    is_owed = λ v j e. put_other spot t awake v (λ vt. lying_owed (spot v) k j x 0 (ap spot vt ∙ lies) (ok.is_owed v j e)) ∙ ok.is_owed v j e;
+    in_line =
+        λ v j h. put_other spot t awake v (λ vt. lying_queued (spot v) k j x (ap spot vt ∙ lies) (ok.in_line v j h)) ∙ ok.in_line v j h;
+    is_owed =
+        λ v j e. put_other spot t awake v (λ vt. lying_owed (spot v) k j x 0 (ap spot vt ∙ lies) (ok.is_owed v j e)) ∙ ok.is_owed v j e;
   }

@@ -9,7 +9,9 @@ use Rattle.lot_sems.specs.Calls.{parked_root, passed_root, paid_root}
 use Rattle.lot_sems.proofs.Machine.{no_some, same_some}
 
 pub park_names : (q q' : SemRootView) (t u : ℕ) (queued : Bool) → q' ≡ parked_root q t queued → names q' u → names q u ⊎ (u ≡ t)
-park_names q q' t u true e h = ⊎_elim {C = names q u ⊎ (u ≡ t)} (λ i. ⊎_elim {C = names q u ⊎ (u ≡ t)} (λ a. inl (inl a)) (λ a. inr (sym a)) (Contains-push_cases q.line t u i))
+park_names q q' t u true e h =
+    ⊎_elim {C = names q u ⊎ (u ≡ t)}
+    (λ i. ⊎_elim {C = names q u ⊎ (u ≡ t)} (λ a. inl (inl a)) (λ a. inr (sym a)) (Contains-push_cases q.line t u i))
     (λ d. inl (inr d)) (subst (λ z. names z u) e h)
 park_names q q' t u false e h = inl (subst (λ z. names z u) e h)
 

@@ -1,5 +1,6 @@
 -- The rule holds of the table at the opening.
-use Rattle.std.proofs.Common.{◌≡◌, ℕ, zero, suc, ◌+◌, ◌-◌, ◌*◌, ◌<◌, List, [], length, replicate, get_or, refl, sym, ap, subst, ◌∙◌, ⊎_elim, arith, length-set, get_or-set_same, get_or-set_other, None}
+use Rattle.std.proofs.Common.{◌≡◌, ℕ, zero, suc, ◌+◌, ◌-◌, ◌*◌, ◌<◌, List, [], length, replicate, get_or, refl, sym, ap, subst, ◌∙◌, ⊎_elim}
+use Rattle.std.proofs.Common.{arith, length-set, get_or-set_same, get_or-set_other, None}
 use Rattle.std.proofs.lemmas.Bool.{cases_lt}
 use Rattle.std.proofs.lemmas.List.{length-replicate, get_or_past}
 use mathlib.Core.Logic.{dite}
@@ -23,9 +24,12 @@ module _ (ws : List ℕ) (first_sem : ℕ) (permits : List ℕ) where
 
   letters_stay : (i t : ℕ) → get_or (with_permits ws first_sem permits i) (letter_at t) 0 ≡ get_or ws (letter_at t) 0
   letters_stay zero t = refl
-  letters_stay (suc i) t = get_or-set_other (with_permits ws first_sem permits i) (word_at (first_sem + i)) (letter_at t) (2 * get_or permits i 0) 0 (λ e. omega arith) ∙ letters_stay i t
+  letters_stay (suc i) t =
+      get_or-set_other (with_permits ws first_sem permits i) (word_at (first_sem + i)) (letter_at t) (2 * get_or permits i 0) 0
+      (λ e. omega arith) ∙ letters_stay i t
 
-  words_are : (i j : ℕ) → j < i → word_at (first_sem + j) < length ws → get_or (with_permits ws first_sem permits i) (word_at (first_sem + j)) 0 ≡ 2 * get_or permits j 0
+  words_are : (i j : ℕ) → j < i → word_at (first_sem + j) < length ws
+      → get_or (with_permits ws first_sem permits i) (word_at (first_sem + j)) 0 ≡ 2 * get_or permits j 0
   words_are zero j near room = absurd (omega arith)
   words_are (suc i) j near room =
       let xs : List ℕ = with_permits ws first_sem permits i in
@@ -33,7 +37,8 @@ module _ (ws : List ℕ) (first_sem : ℕ) (permits : List ℕ) where
       dite (ℕ_discrete j i)
       (λ e. subst (λ z. get_or (with_permits ws first_sem permits (suc i)) (word_at (first_sem + z)) 0 ≡ 2 * get_or permits z 0) (sym e)
       (get_or-set_same xs (word_at (first_sem + i)) x 0 (omega (arith, as_wide i, ap (λ z. word_at (first_sem + z)) e))))
-      (λ ne. get_or-set_other xs (word_at (first_sem + i)) (word_at (first_sem + j)) x 0 (λ e. ne (omega arith)) ∙ words_are i j (omega arith) room)
+      (λ ne. get_or-set_other xs (word_at (first_sem + i)) (word_at (first_sem + j)) x 0 (λ e. ne (omega arith))
+      ∙ words_are i j (omega arith) room)
 
 module _ (size : Numbers) where
   abbrev first_sem : ℕ
@@ -63,7 +68,8 @@ module _ (size : Numbers) where
     words = λ k is.
         let at : first_sem + (k - first_sem) ≡ k = omega (arith, is.0) in
         let left : permits_of size k ≡ get_or permits (k - first_sem) 0 = row_from_at 0 first_sem permits k is.0 in
-        let here = words_are zeros first_sem permits (length permits) (k - first_sem) (omega (arith, is.0, is.1)) (omega (arith, is.0, is.1, wide)) in
+        let here =
+        words_are zeros first_sem permits (length permits) (k - first_sem) (omega (arith, is.0, is.1)) (omega (arith, is.0, is.1, wide)) in
         subst (λ z. get_or (opening_words size) (word_at z) 0 ≡ word_in (opening_part size) k) at (here ∙ omega (arith, left));
     letters = λ t near. letters_stay zeros first_sem permits (length permits) t ∙ get_or_replicate 0 count (letter_at t);
   }
@@ -73,7 +79,8 @@ module _ (size : Numbers) where
       (λ before. omega (arith, row_from_before 0 first_sem permits k before))
       (λ from. ⊎_elim {C = permits_of size k < 4294967296}
       (λ within. omega (arith, row_from_at 0 first_sem permits k from, small (k - first_sem) within))
-      (λ past. omega (arith, row_from_at 0 first_sem permits k from, get_or_past permits (k - first_sem) 0 past)) (cases_lt (k - first_sem) (length permits)))
+      (λ past. omega (arith, row_from_at 0 first_sem permits k from, get_or_past permits (k - first_sem) 0 past))
+      (cases_lt (k - first_sem) (length permits)))
       (cases_lt k first_sem)
 
   pub opening_sound : IsSound size (opening_part size)
@@ -88,7 +95,14 @@ module _ (size : Numbers) where
       sound = opening_sound;
       letters = record { fits = λ t. tt; in_line = λ t k h. absurd (in_none t h); is_owed = λ t k e. absurd (no_some t e) };
     };
-    passes = λ t near. record { near = near; seeks = refl; asleep = refl; long = length-replicate (key_count size) 0; out = λ k. sym (get_or_replicate 0 (key_count size) k) };
+    passes =
+        λ t near. record {
+          near = near;
+          seeks = refl;
+          asleep = refl;
+          long = length-replicate (key_count size) 0;
+          out = λ k. sym (get_or_replicate 0 (key_count size) k);
+        };
     roots = λ k is. (is, refl, refl);
     start = refl;
   }

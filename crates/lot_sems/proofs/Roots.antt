@@ -1,5 +1,6 @@
 -- The turns of the calls that take a semaphore's root, and of those that post and collect letters.
-use Rattle.std.proofs.Common.{◌≡◌, ◌≢◌, ℕ, zero, suc, ◌+◌, ◌-◌, ◌*◌, ◌%◌, ◌^◌, ◌<◌, ◌≤◌, ◌&&◌, ◌==◌, Bool, true, false, List, [], ◌∷◌, ◌++◌, get_or, set, bit_and, refl, sym, ap, subst, ◌∙◌}
+use Rattle.std.proofs.Common.{◌≡◌, ◌≢◌, ℕ, zero, suc, ◌+◌, ◌-◌, ◌*◌, ◌%◌, ◌^◌, ◌<◌, ◌≤◌, ◌&&◌, ◌==◌, Bool, true, false, List, [], ◌∷◌, ◌++◌}
+use Rattle.std.proofs.Common.{get_or, set, bit_and, refl, sym, ap, subst, ◌∙◌}
 use Rattle.std.proofs.Common.{arith, ne_eqb, Option, Some, None}
 use Rattle.std.specs.List.{Contains}
 use Rattle.std.proofs.lemmas.Nat.Bits.{and_high_mask}
@@ -25,18 +26,24 @@ use Rattle.lot_sems.specs.declared.views.SemPassView.{SemPassView}
 use Rattle.lot_sems.specs.declared.views.SemRootView.{SemRootView}
 use Rattle.lot_sems.specs.World.{Numbers, sizes_of, SemWorld, word_of, told_in, sleeps, NoticesFit, PassKnows, RootKnows}
 use Rattle.lot_sems.specs.Rule.{IsStep, Fits, meaning}
-use Rattle.lot_sems.specs.Calls.{IsCalm, IsSeeking, MayGive, one_permit_less, woken, parked_pass, parked_root, passed_root, paid_root, raise_of, FoundNone, Collected, CollectedBy}
-use Rattle.lot_sems.proofs.Machine.{awake_is, in_no_line, notice_at, park_letters, was_queued, pass_letters, pass_sleeps, is_owed_here, post_letters, post_sleeps, collect_letters}
+use Rattle.lot_sems.specs.Calls.{IsCalm, IsSeeking, MayGive, one_permit_less, woken, parked_pass, parked_root, passed_root, paid_root}
+use Rattle.lot_sems.specs.Calls.{raise_of, FoundNone, Collected, CollectedBy}
+use Rattle.lot_sems.proofs.Machine.{awake_is, in_no_line, notice_at, park_letters, was_queued, pass_letters, pass_sleeps, is_owed_here}
+use Rattle.lot_sems.proofs.Machine.{post_letters, post_sleeps, collect_letters}
 use Rattle.lot_sems.proofs.Rows.{turned, same_line, same_seeks, row_queued, row_not_queued, row_pass_none, row_pass, row_clear}
 use Rattle.lot_sems.proofs.Turning.{after, fits_after, pass_after as knows_after, passes_else, roots_else, root_after, out_same, left_few}
 use Rattle.lot_sems.proofs.Turns.{bit_few}
 
 -- ---- what each step tells
 abbrev pub Parks : PassRight SemPassView → RootRight SemRootView → ℕ → PassRight SemPassView → RootRight SemRootView → Type 0
-Parks p q n p' q' = Notes p (parked_pass p.own (n == 1)) (Makes (SemPark p.thread q.key) (Saw (n == 1))) p' × (q' ≡ record q { own = parked_root q.own p.thread (n == 1) })
+Parks p q n p' q' =
+    Notes p (parked_pass p.own (n == 1)) (Makes (SemPark p.thread q.key) (Saw (n == 1))) p'
+    × (q' ≡ record q { own = parked_root q.own p.thread (n == 1) })
 
 abbrev pub Passes : PassRight SemPassView → RootRight SemRootView → List ℕ → Bool → PassRight SemPassView → RootRight SemRootView → Type 0
-Passes p q line more p' q' = Notes p (one_permit_less p.own q.key) (Makes (SemPass p.thread q.key more) (Sleeper (first line))) p' × (q' ≡ record q { own = passed_root q.own line })
+Passes p q line more p' q' =
+    Notes p (one_permit_less p.own q.key) (Makes (SemPass p.thread q.key more) (Sleeper (first line))) p'
+    × (q' ≡ record q { own = passed_root q.own line })
 
 abbrev pub Clears : PassRight SemPassView → RootRight SemRootView → PassRight SemPassView → RootRight SemRootView → Type 0
 Clears p q p' q' = Notes p p.own (Makes (SemClear p.thread q.key) Done) p' × (q' ≡ q)
@@ -53,7 +60,8 @@ one_says : (left : ℕ) (b : Bool) → (word_of left b == 1) ≡ ((left == 0) &&
 one_says zero true = refl
 one_says zero false = refl
 one_says (suc l) true = ne_eqb (word_of (suc l) true) 1 (λ e. omega arith) ∙ sym (ap (λ z. z && true) (ne_eqb (suc l) 0 (λ e. omega arith)))
-one_says (suc l) false = ne_eqb (word_of (suc l) false) 1 (λ e. omega arith) ∙ sym (ap (λ z. z && false) (ne_eqb (suc l) 0 (λ e. omega arith)))
+one_says (suc l) false =
+    ne_eqb (word_of (suc l) false) 1 (λ e. omega arith) ∙ sym (ap (λ z. z && false) (ne_eqb (suc l) 0 (λ e. omega arith)))
 
 -- the parked bit is cleared
 cleared : (left : ℕ) (b : Bool) → word_of left b < 2 ^ 64 → bit_and (word_of left b) (2 ^ 64 - 2) ≡ word_of left false
@@ -64,7 +72,8 @@ raised : (left u : ℕ) (more : Bool) → (word_of left true + raise_of (Some u)
 raised left u true = omega arith
 raised left u false = omega arith
 
-module _ (size : Numbers) (p : PassRight SemPassView) (q : RootRight SemRootView) (w : SemWorld) (ws : List ℕ) (hs : List (maybe.Option (Unit {0}))) (ok : Fits size w ws)
+module _ (size : Numbers) (p : PassRight SemPassView) (q : RootRight SemRootView) (w : SemWorld) (ws : List ℕ)
+    (hs : List (maybe.Option (Unit {0}))) (ok : Fits size w ws)
     (fit : PassKnows size w p.thread p.own) (root : RootKnows size w q.key q.own) where
   abbrev t : ℕ
   t = p.thread
@@ -88,13 +97,15 @@ module _ (size : Numbers) (p : PassRight SemPassView) (q : RootRight SemRootView
   found = ok.words.words k root.0
 
   -- ---- an event of pass and root
-  makes : (x l : ℕ) (b : Bool) (xs : List ℕ) (o : ℕ) (spots : ℕ → Spot) (owes : ℕ → Option ℕ) (own : SemPassView) (its : SemRootView) (e : Event) (saw : Seen)
+  makes : (x l : ℕ) (b : Bool) (xs : List ℕ) (o : ℕ) (spots : ℕ → Spot) (owes : ℕ → Option ℕ) (own : SemPassView) (its : SemRootView)
+      (e : Event) (saw : Seen)
       (then : PassRight SemPassView → RootRight SemRootView → Type 0) → maker e ≡ t
       → IsStep size w.part e saw (turned w.part t k l b xs o (w.part.seeks t)) → x ≡ word_of l b → letters_of spots ≡ letters_of w.spot
       → NoticesFit size.threads (put w.part.sems.line k xs) w.part.seeks owes spots
       → ((u : ℕ) → u ≢ t → sleeps (spots u) ≡ sleeps (w.spot u)) → ((d : ℕ) → d ≢ k → owes d ≡ w.owes d)
       → own.seeks ≡ p.own.seeks → sleeps (spots t) ≡ own.asleep → own.out ≡ set p.own.out k o → xs ≡ its.line → owes k ≡ its.owes
-      → ((i : ℕ) → then (pass_after p own i (Makes e saw)) (record q { own = its })) → BothTurn (meaning size) (word_at k) x p q then w ws hs
+      → ((i : ℕ) → then (pass_after p own i (Makes e saw)) (record q { own = its }))
+      → BothTurn (meaning size) (word_at k) x p q then w ws hs
   makes x l b xs o spots owes own its e saw then by step is same letters others debts seeks asleep out itsline itsowes told =
       let s : Option ℕ = w.part.seeks t in
       record {
@@ -122,14 +133,19 @@ module _ (size : Numbers) (p : PassRight SemPassView) (q : RootRight SemRootView
 
     parks_turn : p.own.seeks ≡ Some k → BothTurn (meaning size) (word_at k) n p q (Parks p q n) w ws hs
     parks_turn aim = by_bit (λ b. (none_left w.part.sems k && parked) ≡ b → BothTurn (meaning size) (word_at k) n p q
-        (λ p' q'. Notes p (parked_pass p.own b) (Makes (SemPark t k) (Saw b)) p' × (q' ≡ record q { own = parked_root q.own t b })) w ws hs) (n == 1)
+        (λ p' q'. Notes p (parked_pass p.own b) (Makes (SemPark t k) (Saw b)) p' × (q' ≡ record q { own = parked_root q.own t b })) w ws hs)
+        (n == 1)
         (λ one both.
         let xs : List ℕ = line ++ t ∷ [] in
-        makes n left parked xs (w.part.sems.out k t) (put w.spot t (queued k)) w.owes (record p.own { asleep = true }) (record q.own { line = q.own.line ++ t ∷ [] }) (SemPark t k) (Saw true)
-        (λ p' q'. Notes p (record p.own { asleep = true }) (Makes (SemPark t k) (Saw true)) p' × (q' ≡ record q { own = record q.own { line = q.own.line ++ t ∷ [] } })) refl
-        (row_queued w.part size t fit.near k root.0 (fit.seeks ∙ aim, out_of k) both) found (same_letters w.spot t (queued k) (ap letter_of (sym up')))
+        makes n left parked xs (w.part.sems.out k t) (put w.spot t (queued k)) w.owes (record p.own { asleep = true })
+        (record q.own { line = q.own.line ++ t ∷ [] }) (SemPark t k) (Saw true)
+        (λ p' q'. Notes p (record p.own { asleep = true }) (Makes (SemPark t k) (Saw true)) p'
+        × (q' ≡ record q { own = record q.own { line = q.own.line ++ t ∷ [] } })) refl
+        (row_queued w.part size t fit.near k root.0 (fit.seeks ∙ aim, out_of k) both) found
+        (same_letters w.spot t (queued k) (ap letter_of (sym up')))
         (park_letters size.threads w.part.sems.line w.part.seeks w.owes w.spot ok.letters t up' k)
-        (λ u ne. ap sleeps (put_other w.spot t (queued k) u ne)) (λ d ne. refl) refl (ap sleeps (put_same w.spot t (queued k))) (out_same size w t k p.own fit) (ap (λ z. z ++ t ∷ []) root.1)
+        (λ u ne. ap sleeps (put_other w.spot t (queued k) u ne)) (λ d ne. refl) refl (ap sleeps (put_same w.spot t (queued k)))
+        (out_same size w t k p.own fit) (ap (λ z. z ++ t ∷ []) root.1)
         root.2 (λ i. ((i, refl), refl)))
         (λ _ neither.
         both_stay (meaning size) (word_at k) n w ws hs ok refl p fit (Makes (SemPark t k) (Saw false))
@@ -151,10 +167,12 @@ module _ (size : Numbers) (p : PassRight SemPassView) (q : RootRight SemRootView
     out_now : (one_permit_less p.own k).out ≡ set p.own.out k (w.part.sems.out k t - 1)
     out_now = ap (λ z. set p.own.out k (z - 1)) (sym (fit.out k))
 
-    pass_turn : (xs : List ℕ) → q.own.line ≡ xs → BothTurn (meaning size) (word_at k) ((n + raise_of (first xs) more) % 2 ^ 64) p q (Passes p q xs more) w ws hs
+    pass_turn : (xs : List ℕ) → q.own.line ≡ xs
+        → BothTurn (meaning size) (word_at k) ((n + raise_of (first xs) more) % 2 ^ 64) p q (Passes p q xs more) w ws hs
     pass_turn [] is =
         let two : word_of (left + 1) parked ≡ word_of left parked + 2 = omega arith in
-        makes ((n + 2) % 2 ^ 64) (left + 1) parked line (w.part.sems.out k t - 1) w.spot w.owes (one_permit_less p.own k) q.own (SemPass t k more) (Sleeper None) (Passes p q [] more) refl
+        makes ((n + 2) % 2 ^ 64) (left + 1) parked line (w.part.sems.out k t - 1) w.spot w.owes (one_permit_less p.own k) q.own
+        (SemPass t k more) (Sleeper None) (Passes p q [] more) refl
         (row_pass_none w.part size t fit.near k root.0 calm' more some' (root.1 ∙ is)) (omega (arith, found, room, bit_few parked)) refl
         (subst (λ z. NoticesFit size.threads z w.part.seeks w.owes w.spot) (sym (same_line w.part k)) ok.letters)
         (λ u ne. refl) (λ d ne. refl) refl fit.asleep out_now root.1 root.2 (λ i. ((i, refl), refl))
@@ -162,26 +180,34 @@ module _ (size : Numbers) (p : PassRight SemPassView) (q : RootRight SemRootView
         let here : line ≡ u ∷ rest = root.1 ∙ is in
         let inside : Contains line u = subst (λ z. Contains z u) (sym here) (in_head u rest) in
         let marked : parked ≡ true = ok.sound.seekers_are_marked k u inside in
-        let up : word_of left parked + raise_of (Some u) more ≡ word_of (left + 1) more = ap (λ b. word_of left b + raise_of (Some u) more) marked ∙ raised left u more in
+        let up : word_of left parked + raise_of (Some u) more ≡ word_of (left + 1) more =
+        ap (λ b. word_of left b + raise_of (Some u) more) marked ∙ raised left u more in
         let debt : w.owes k ≡ None = root.2 ∙ free in
         let seek = ok.sound.seeks k u inside in
-        let queued_here : w.spot u ≡ queued k = was_queued size.threads w.part.sems.line w.part.seeks w.owes w.spot ok.letters k u rest here (ok.sound.once k) debt seek in
-        makes ((n + raise_of (Some u) more) % 2 ^ 64) (left + 1) more rest (w.part.sems.out k t - 1) (put w.spot u (owed k 0)) (put w.owes k (Some u)) (one_permit_less p.own k)
+        let queued_here : w.spot u ≡ queued k =
+        was_queued size.threads w.part.sems.line w.part.seeks w.owes w.spot ok.letters k u rest here (ok.sound.once k) debt seek in
+        makes ((n + raise_of (Some u) more) % 2 ^ 64) (left + 1) more rest (w.part.sems.out k t - 1) (put w.spot u (owed k 0))
+        (put w.owes k (Some u)) (one_permit_less p.own k)
         (record q.own { line = rest; owes = Some u })
         (SemPass t k more) (Sleeper (Some u)) (Passes p q (u ∷ rest) more) refl
-        (row_pass w.part size t fit.near k root.0 calm' more u rest some' here (subst (λ z. SaysMore z more) (sym root.1) says)) (omega (arith, found, up, room, bit_few more))
+        (row_pass w.part size t fit.near k root.0 calm' more u rest some' here (subst (λ z. SaysMore z more) (sym root.1) says))
+        (omega (arith, found, up, room, bit_few more))
         (same_letters w.spot u (owed k 0) (ap letter_of (sym queued_here)))
         (pass_letters size.threads w.part.sems.line w.part.seeks w.owes w.spot ok.letters k u rest here (ok.sound.once k) debt seek)
-        (λ v ne. pass_sleeps size.threads w.part.sems.line w.part.seeks w.owes w.spot ok.letters k u rest here (ok.sound.once k) debt seek v)
+        (λ v ne. pass_sleeps size.threads w.part.sems.line w.part.seeks w.owes w.spot ok.letters k u rest here
+        (ok.sound.once k) debt seek v)
         (λ d ne. put_other w.owes k (Some u) d ne) refl
-        (pass_sleeps size.threads w.part.sems.line w.part.seeks w.owes w.spot ok.letters k u rest here (ok.sound.once k) debt seek t ∙ fit.asleep) out_now refl (put_same w.owes k (Some u))
+        (pass_sleeps size.threads w.part.sems.line w.part.seeks w.owes w.spot ok.letters k u rest here (ok.sound.once k) debt seek t
+        ∙ fit.asleep) out_now refl (put_same w.owes k (Some u))
         (λ i. ((i, refl), refl))
 
   -- ---- clearing
-  clear_turn : n < 2 ^ 64 → IsCalm p.own → q.own.line ≡ [] → BothTurn (meaning size) (word_at k) (bit_and n (2 ^ 64 - 2)) p q (Clears p q) w ws hs
+  clear_turn : n < 2 ^ 64 → IsCalm p.own → q.own.line ≡ []
+      → BothTurn (meaning size) (word_at k) (bit_and n (2 ^ 64 - 2)) p q (Clears p q) w ws hs
   clear_turn small calm nobody =
       makes (bit_and n (2 ^ 64 - 2)) left false line (w.part.sems.out k t) w.spot w.owes p.own q.own (SemClear t k) Done (Clears p q) refl
-      (row_clear w.part size t fit.near k root.0 (fit.seeks ∙ calm.1) (root.1 ∙ nobody)) (ap (λ z. bit_and z (2 ^ 64 - 2)) found ∙ cleared left parked (subst (λ z. z < 2 ^ 64) found small)) refl
+      (row_clear w.part size t fit.near k root.0 (fit.seeks ∙ calm.1) (root.1 ∙ nobody))
+      (ap (λ z. bit_and z (2 ^ 64 - 2)) found ∙ cleared left parked (subst (λ z. z < 2 ^ 64) found small)) refl
       (subst (λ z. NoticesFit size.threads z w.part.seeks w.owes w.spot) (sym (same_line w.part k)) ok.letters)
       (λ u ne. refl) (λ d ne. refl) refl fit.asleep (out_same size w t k p.own fit) root.1 root.2 (λ i. ((i, refl), refl))
 
@@ -189,13 +215,17 @@ module _ (size : Numbers) (p : PassRight SemPassView) (q : RootRight SemRootView
   pub parks : IsSeeking p.own q.key → AllowsBoth (meaning size) (word_at q.key) (λ n. n) p q (Parks p q)
   parks is w ws hs ok fit root small = parks_turn size p q w ws hs ok fit root is.0 is.1
 
-  pub passes : MayGive p.own q.key → q.own.owes ≡ None → (more : Bool) → SaysMore q.own.line more → (x : ℕ) → x ≡ raise_of (first q.own.line) more
+  pub passes : MayGive p.own q.key → q.own.owes ≡ None → (more : Bool) → SaysMore q.own.line more → (x : ℕ)
+      → x ≡ raise_of (first q.own.line) more
       → AllowsBoth (meaning size) (word_at q.key) (λ n. (n + x) % 2 ^ 64) p q (λ _. Passes p q q.own.line more)
   passes may free more says x is w ws hs ok fit root small =
-      subst (λ z. BothTurn (meaning size) (word_at q.key) ((get_or ws (word_at q.key) 0 + z) % 2 ^ 64) p q (Passes p q q.own.line more) w ws hs) (sym is)
+      subst
+      (λ z. BothTurn (meaning size) (word_at q.key) ((get_or ws (word_at q.key) 0 + z) % 2 ^ 64) p q (Passes p q q.own.line more) w ws hs)
+      (sym is)
       (pass_turn size p q w ws hs ok fit root may free more says q.own.line refl)
 
-  pub clears : IsCalm p.own → q.own.line ≡ [] → AllowsBoth (meaning size) (word_at q.key) (λ n. bit_and n (2 ^ 64 - 2)) p q (λ _. Clears p q)
+  pub clears : IsCalm p.own → q.own.line ≡ []
+      → AllowsBoth (meaning size) (word_at q.key) (λ n. bit_and n (2 ^ 64 - 2)) p q (λ _. Clears p q)
   clears calm nobody w ws hs ok fit root small = clear_turn size p q w ws hs ok fit root small calm nobody
 
 -- ---- letters
@@ -214,7 +244,9 @@ module _ (size : Numbers) (q : RootRight SemRootView) (u : ℕ) (debt : q.own.ow
         world = w';
         fits = record {
           few = ok.few;
-          words = letter_written (λ n. n) (sizes_of size) (told_in w) (told_in w') ws ok.words u 1 near (sym (ap letter_of (put_same w.spot u (lying k 0))))
+          words =
+              letter_written (λ n. n) (sizes_of size) (told_in w) (told_in w') ws ok.words u 1 near
+              (sym (ap letter_of (put_same w.spot u (lying k 0))))
               (λ v ne. ap letter_of (put_other w.spot u (lying k 0) v ne)) (λ d. refl);
           sound = ok.sound;
           letters = post_letters size.threads w.part.sems.line w.part.seeks w.owes w.spot ok.letters k u debt';
@@ -240,13 +272,16 @@ collected_some p q zero ne h = absurd (ne refl)
 collected_some p q (suc token) ne h = let e : token ≡ suc token - 1 = omega arith in subst (λ z. Collected p z q) e h.1
 
 module _ (size : Numbers) (p : PassRight SemPassView) where
-  module _ (w : SemWorld) (ws : List ℕ) (hs : List (maybe.Option (Unit {0}))) (ok : Fits size w ws) (fit : PassKnows size w p.thread p.own) where
+  module _ (w : SemWorld) (ws : List ℕ) (hs : List (maybe.Option (Unit {0}))) (ok : Fits size w ws)
+      (fit : PassKnows size w p.thread p.own) where
     abbrev Turn : ℕ → Type 0
     Turn n = PassTurn (meaning size) (letter_at p.thread) 0 p (Collecting p n) w ws hs
 
     -- no letter lies
     none_lies : letter_of (w.spot p.thread) ≡ 0 → Turn 0
-    none_lies none_there = pass_stays (meaning size) (letter_at p.thread) 0 w ws hs ok (sym (ok.words.letters p.thread fit.near ∙ none_there)) p fit (Collects p.thread None)
+    none_lies none_there =
+        pass_stays (meaning size) (letter_at p.thread) 0 w ws hs ok (sym (ok.words.letters p.thread fit.near ∙ none_there)) p fit
+        (Collects p.thread None)
         (refl, (none_there, refl)) (Collecting p 0) (λ i. (omega arith, (i, refl)))
 
     one_lies : (k : ℕ) → w.spot p.thread ≡ lying k 0 → Turn 1
@@ -260,13 +295,23 @@ module _ (size : Numbers) (p : PassRight SemPassView) where
           world = w';
           fits = record {
             few = ok.few;
-            words = letter_written (λ n. n) (sizes_of size) (told_in w) (told_in w') ws ok.words t 0 fit.near (sym (ap letter_of (put_same w.spot t awake)))
+            words =
+                letter_written (λ n. n) (sizes_of size) (told_in w) (told_in w') ws ok.words t 0 fit.near
+                (sym (ap letter_of (put_same w.spot t awake)))
                 (λ v ne. ap letter_of (put_other w.spot t awake v ne)) (λ d. refl);
             sound = ok.sound;
             letters = collect_letters size.threads w.part.sems.line w.part.seeks w.owes w.spot ok.letters t k 0 lies;
           };
-          pass = record { near = fit.near; seeks = fit.seeks; asleep = ap sleeps (put_same w.spot t awake); long = fit.long; out = fit.out };
-          passes = λ v x ne h. record { near = h.near; seeks = h.seeks; asleep = ap sleeps (put_other w.spot t awake v ne) ∙ h.asleep; long = h.long; out = h.out };
+          pass =
+              record { near = fit.near; seeks = fit.seeks; asleep = ap sleeps (put_same w.spot t awake); long = fit.long; out = fit.out };
+          passes =
+              λ v x ne h. record {
+                near = h.near;
+                seeks = h.seeks;
+                asleep = ap sleeps (put_other w.spot t awake v ne) ∙ h.asleep;
+                long = h.long;
+                out = h.out;
+              };
           roots = λ d y h. h;
           made = (refl, (ap letter_of lies, λ i. record { part = w.part; letters = one_letter w.spot t awake i }));
           told = λ i. (omega arith, (refl, sym fit.asleep ∙ ap sleeps lies, (i, refl)));
@@ -281,4 +326,5 @@ module _ (size : Numbers) (p : PassRight SemPassView) where
         subst (λ z. Turn (z + 1)) (sym e) (one_lies k (is ∙ ap (lying k) e))
 
   pub collects : AllowsPass (meaning size) (letter_at p.thread) (λ _. 0) p (Collecting p)
-  collects w ws hs ok fit small = subst (Turn w ws hs ok fit) (sym (ok.words.letters p.thread fit.near)) (by_spot w ws hs ok fit (w.spot p.thread) refl)
+  collects w ws hs ok fit small =
+      subst (Turn w ws hs ok fit) (sym (ok.words.letters p.thread fit.near)) (by_spot w ws hs ok fit (w.spot p.thread) refl)

@@ -10,7 +10,8 @@ use Rattle.lot_sems.specs.World.{Numbers, permits_of}
 use Rattle.lot_sems.specs.Rule.{opening_part, IsStep, IsSound}
 use Rattle.lot_sems.proofs.Opens.{opening_sound}
 
-pub run_sound : (size : Numbers) (events : List (Event × Seen)) (part : SemaphorePart) → ModelRun (IsStep size) (opening_part size) events part
+pub run_sound : (size : Numbers) (events : List (Event × Seen)) (part : SemaphorePart)
+    → ModelRun (IsStep size) (opening_part size) events part
     → IsSound size part
 run_sound size events part run = run_keeps (IsStep size) (IsSound size)
     (λ a b e saw ok step. semaphore_step_sound size.threads size.first_sem (length size.permits) (permits_of size) a b e saw step ok)

@@ -1,5 +1,6 @@
 -- The turns of the calls that take a pass alone: whatever world the words stand for, the step leads to one that they stand for then.
-use Rattle.std.proofs.Common.{◌≡◌, ◌≢◌, ℕ, zero, suc, ◌+◌, ◌-◌, ◌*◌, ◌%◌, ◌^◌, ◌<◌, ◌≤◌, ◌⊎◌, ◌==◌, Bool, true, false, List, get_or, set, refl, sym, ap, subst, ◌∙◌, inl, inr, ⊎_elim, arith}
+use Rattle.std.proofs.Common.{◌≡◌, ◌≢◌, ℕ, zero, suc, ◌+◌, ◌-◌, ◌*◌, ◌%◌, ◌^◌, ◌<◌, ◌≤◌, ◌⊎◌, ◌==◌, Bool, true, false, List, get_or, set}
+use Rattle.std.proofs.Common.{refl, sym, ap, subst, ◌∙◌, inl, inr, ⊎_elim, arith}
 use Rattle.std.proofs.Common.{eq-eqb, ne_eqb, MatchBool, Option, Some, None}
 use mathlib.Core.Option as maybe
 use prog.Atomic.{either}
@@ -89,7 +90,8 @@ module _ (p r : PassRight SemPassView) (k seen : ℕ) (look : Found p k seen r) 
   pub freed : IsUnmarked seen → (n : ℕ) (q : PassRight SemPassView)
       → Swaps r k (one_permit_less r.own k) (SemFree r.thread k) seen n q → Frees p k (n == seen) q
   freed clear n q = by_test
-      (λ b. MatchBool b (Notes r (one_permit_less r.own k) (Makes (SemFree r.thread k) (Saw true)) q) (Found r k n q) → Frees p k b q) n seen
+      (λ b. MatchBool b (Notes r (one_permit_less r.own k) (Makes (SemFree r.thread k) (Saw true)) q) (Found r k n q)
+      → Frees p k b q) n seen
       (λ is h. exchanged IsUnmarked (λ own. one_permit_less own k) (λ t. SemFree t k) q clear h)
       (λ ne h. inr (missed IsUnmarked n q clear ne h))
 
@@ -102,7 +104,8 @@ even_clear : (left old : ℕ) (b : Bool) → word_of left b ≡ old → old % 2 
 even_clear left old true e even = absurd (let f : 2 * left + 1 ≡ old = e in omega arith)
 even_clear left old false e even = refl
 
-module _ (size : Numbers) (p : PassRight SemPassView) (k : ℕ) (among : IsAmong size k) (w : SemWorld) (ws : List ℕ) (hs : List (maybe.Option (Unit {0}))) (ok : Fits size w ws)
+module _ (size : Numbers) (p : PassRight SemPassView) (k : ℕ) (among : IsAmong size k) (w : SemWorld) (ws : List ℕ)
+    (hs : List (maybe.Option (Unit {0}))) (ok : Fits size w ws)
     (fit : PassKnows size w p.thread p.own) where
   abbrev t : ℕ
   t = p.thread
@@ -117,7 +120,8 @@ module _ (size : Numbers) (p : PassRight SemPassView) (k : ℕ) (among : IsAmong
   found = ok.words.words k among
 
   -- ---- nothing changes
-  finds : (x : ℕ) → x ≡ n → (then : PassRight SemPassView → Type 0) → ((i : ℕ) → then (pass_after p p.own i (Finds t k x))) → PassTurn (meaning size) (word_at k) x p then w ws hs
+  finds : (x : ℕ) → x ≡ n → (then : PassRight SemPassView → Type 0) → ((i : ℕ) → then (pass_after p p.own i (Finds t k x)))
+      → PassTurn (meaning size) (word_at k) x p then w ws hs
   finds x is then told = pass_stays (meaning size) (word_at k) x w ws hs ok is p fit (Finds t k x) (refl, (is ∙ found, refl)) then told
 
   module _ (up : p.own.asleep ≡ false) where
@@ -125,8 +129,10 @@ module _ (size : Numbers) (p : PassRight SemPassView) (k : ℕ) (among : IsAmong
     up' = awake_is (w.spot t) (fit.asleep ∙ up)
 
     -- ---- an event of a thread that is awake, after which the line is as it was
-    makes : (x l : ℕ) (b : Bool) (o : ℕ) (s : Option ℕ) (own : SemPassView) (e : Event) (saw : Seen) (then : PassRight SemPassView → Type 0) → maker e ≡ t
-        → IsStep size w.part e saw (turned w.part t k l b (w.part.sems.line k) o s) → x ≡ word_of l b → s ≡ own.seeks → own.asleep ≡ false → own.out ≡ set p.own.out k o
+    makes : (x l : ℕ) (b : Bool) (o : ℕ) (s : Option ℕ) (own : SemPassView) (e : Event) (saw : Seen)
+        (then : PassRight SemPassView → Type 0) → maker e ≡ t
+        → IsStep size w.part e saw (turned w.part t k l b (w.part.sems.line k) o s) → x ≡ word_of l b → s ≡ own.seeks → own.asleep ≡ false
+        → own.out ≡ set p.own.out k o
         → ((i : ℕ) → then (pass_after p own i (Makes e saw))) → PassTurn (meaning size) (word_at k) x p then w ws hs
     makes x l b o s own e saw then by step is seeks asleep out told =
         let line : List ℕ = w.part.sems.line k in
@@ -150,21 +156,27 @@ module _ (size : Numbers) (p : PassRight SemPassView) (k : ℕ) (among : IsAmong
       may = ⊎_elim {C = (w.part.seeks t ≡ None) ⊎ PartSeeks w.part t k} (λ e. inl (fit.seeks ∙ e))
           (λ e. inr (fit.seeks ∙ e, in_no_line size.threads w.part.sems.line w.part.seeks w.owes w.spot ok.letters t up' k)) aim
 
-      got_turn : (old : ℕ) → 2 ≤ old → n ≡ old → (then : PassRight SemPassView → Type 0) → ((i : ℕ) → then (pass_after p (one_permit_more p.own k) i (Makes (SemTake t k) (Saw true))))
+      got_turn : (old : ℕ) → 2 ≤ old → n ≡ old → (then : PassRight SemPassView → Type 0)
+          → ((i : ℕ) → then (pass_after p (one_permit_more p.own k) i (Makes (SemTake t k) (Saw true))))
           → PassTurn (meaning size) (word_at k) (old - 2) p then w ws hs
       got_turn old some is then told =
           let few = bit_few (w.part.sems.parked k) in
-          makes (old - 2) (left - 1) (w.part.sems.parked k) (w.part.sems.out k t + 1) None (one_permit_more p.own k) (SemTake t k) (Saw true) then refl
-          (row_got w.part size t fit.near k among may (λ none. omega (arith, found, is, few))) (omega (arith, found, is, few)) refl up (ap (λ z. set p.own.out k (z + 1)) (sym (fit.out k))) told
+          makes (old - 2) (left - 1) (w.part.sems.parked k) (w.part.sems.out k t + 1) None (one_permit_more p.own k)
+          (SemTake t k) (Saw true) then refl
+          (row_got w.part size t fit.near k among may (λ none. omega (arith, found, is, few))) (omega (arith, found, is, few)) refl up
+          (ap (λ z. set p.own.out k (z + 1)) (sym (fit.out k))) told
 
-      empty_turn : (x : ℕ) → x ≡ n → x < 2 → (then : PassRight SemPassView → Type 0) → ((i : ℕ) → then (pass_after p (seeking p.own k) i (Makes (SemTake t k) (Saw false))))
+      empty_turn : (x : ℕ) → x ≡ n → x < 2 → (then : PassRight SemPassView → Type 0)
+          → ((i : ℕ) → then (pass_after p (seeking p.own k) i (Makes (SemTake t k) (Saw false))))
           → PassTurn (meaning size) (word_at k) x p then w ws hs
       empty_turn x is few then told =
           makes x left (w.part.sems.parked k) (w.part.sems.out k t) (Some k) (seeking p.own k) (SemTake t k) (Saw false) then refl
-          (row_empty w.part size t fit.near k among may (omega (arith, found, is))) (is ∙ found) refl up (out_same size w t k p.own fit) told
+          (row_empty w.part size t fit.near k among may (omega (arith, found, is))) (is ∙ found) refl up
+          (out_same size w t k p.own fit) told
 
       swap_turn : (old : ℕ) → IsAnyLeft old
-          → PassTurn (meaning size) (word_at k) (either (n == old) (old - 2) n) p (Swaps p k (one_permit_more p.own k) (SemTake t k) old n) w ws hs
+          → PassTurn (meaning size) (word_at k) (either (n == old) (old - 2) n) p
+          (Swaps p k (one_permit_more p.own k) (SemTake t k) old n) w ws hs
       swap_turn old some = by_test (λ b. PassTurn (meaning size) (word_at k) (either b (old - 2) n) p
           (λ q. MatchBool b (Notes p (one_permit_more p.own k) (Makes (SemTake t k) (Saw true)) q) (Found p k n q)) w ws hs) n old
           (λ is. got_turn old some is (λ q. Notes p (one_permit_more p.own k) (Makes (SemTake t k) (Saw true)) q) (λ i. (i, refl)))
@@ -177,10 +189,15 @@ module _ (size : Numbers) (p : PassRight SemPassView) (k : ℕ) (among : IsAmong
 
     -- ---- marking
     mark_turn : p.own.seeks ≡ Some k → PassTurn (meaning size) (word_at k) (either (n == 0) 1 n) p (Marks p k n) w ws hs
-    mark_turn aim = by_test (λ b. PassTurn (meaning size) (word_at k) (either b 1 n) p (λ q. MatchBool b (Notes p p.own (Makes (SemMark t k) Done) q) ((x : ℕ) × (x ≢ 0) × Found p k x q)) w ws hs) n 0
+    mark_turn aim =
+        by_test
+        (λ b. PassTurn (meaning size) (word_at k) (either b 1 n) p
+        (λ q. MatchBool b (Notes p p.own (Makes (SemMark t k) Done) q) ((x : ℕ) × (x ≢ 0) × Found p k x q)) w ws hs) n 0
         (λ is. let none : left ≡ 0 = omega (arith, found, is) in
-        makes 1 left true (w.part.sems.out k t) (w.part.seeks t) p.own (SemMark t k) Done (λ q. Notes p p.own (Makes (SemMark t k) Done) q) refl
-        (row_mark w.part size t fit.near k among (fit.seeks ∙ aim, in_no_line size.threads w.part.sems.line w.part.seeks w.owes w.spot ok.letters t up' k) none)
+        makes 1 left true (w.part.sems.out k t) (w.part.seeks t) p.own (SemMark t k) Done
+        (λ q. Notes p p.own (Makes (SemMark t k) Done) q) refl
+        (row_mark w.part size t fit.near k among
+        (fit.seeks ∙ aim, in_no_line size.threads w.part.sems.line w.part.seeks w.owes w.spot ok.letters t up' k) none)
         (omega (arith, none)) fit.seeks up (out_same size w t k p.own fit) (λ i. (i, refl)))
         (λ ne. finds n refl (λ q. (x : ℕ) × (x ≢ 0) × Found p k x q) (λ i. (n, ne, (i, refl))))
 
@@ -195,7 +212,8 @@ module _ (size : Numbers) (p : PassRight SemPassView) (k : ℕ) (among : IsAmong
         let bare : word_of left (w.part.sems.parked k) ≡ 2 * left = ap (word_of left) clear ∙ omega arith in
         let more : word_of (left + 1) (w.part.sems.parked k) ≡ 2 * (left + 1) = ap (word_of (left + 1)) clear ∙ omega arith in
         let few = left_few size w ws ok k in
-        makes ((old + 2) % 2 ^ 64) (left + 1) (w.part.sems.parked k) (w.part.sems.out k t - 1) (w.part.seeks t) (one_permit_less p.own k) (SemFree t k) (Saw true)
+        makes ((old + 2) % 2 ^ 64) (left + 1) (w.part.sems.parked k) (w.part.sems.out k t - 1) (w.part.seeks t) (one_permit_less p.own k)
+        (SemFree t k) (Saw true)
         (λ q. Notes p (one_permit_less p.own k) (Makes (SemFree t k) (Saw true)) q) refl
         (row_free w.part size t fit.near k among (fit.seeks ∙ aim) (subst (λ z. 1 ≤ z) (sym (fit.out k)) some) clear)
         (omega (arith, found, is, bare, more, few)) fit.seeks up (ap (λ z. set p.own.out k (z - 1)) (sym (fit.out k))) (λ i. (i, refl)))
@@ -210,7 +228,8 @@ module _ (size : Numbers) (p : PassRight SemPassView) (k : ℕ) (among : IsAmong
   seeks may w ws hs ok fit small = seek_turn size p k among w ws hs ok fit may.0 may.1 (get_or ws (word_at k) 0) refl
 
   pub swaps : MayTake p.own k → (old : ℕ) → IsAnyLeft old
-      → AllowsPass (meaning size) (word_at k) (λ n. either (n == old) (old - 2) n) p (Swaps p k (one_permit_more p.own k) (SemTake p.thread k) old)
+      → AllowsPass (meaning size) (word_at k) (λ n. either (n == old) (old - 2) n) p
+      (Swaps p k (one_permit_more p.own k) (SemTake p.thread k) old)
   swaps may old some w ws hs ok fit small = swap_turn size p k among w ws hs ok fit may.0 may.1 old some
 
   pub marks : IsSeeking p.own k → AllowsPass (meaning size) (word_at k) (λ n. either (n == 0) 1 n) p (Marks p k)

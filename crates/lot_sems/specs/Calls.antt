@@ -1,5 +1,6 @@
 -- What each kind of call does to the rights that it is handed.
-use Rattle.std.specs.Prelude.{◌≡◌, ◌≢◌, ℕ, zero, suc, ◌+◌, ◌-◌, ◌%◌, ◌<◌, ◌≤◌, ◌⊎◌, ◌++◌, if◌then◌else◌, Bool, true, false, List, [], ◌∷◌, slice_index, slice_set, Option, Some, None}
+use Rattle.std.specs.Prelude.{◌≡◌, ◌≢◌, ℕ, zero, suc, ◌+◌, ◌-◌, ◌%◌, ◌<◌, ◌≤◌, ◌⊎◌, ◌++◌, if◌then◌else◌, Bool, true, false, List, [], ◌∷◌}
+use Rattle.std.specs.Prelude.{slice_index, slice_set, Option, Some, None}
 use Rattle.lot_events.specs.declared.events.Event.{Event}
 use Rattle.lot_events.specs.declared.events.Event.TheVariants.{SemTake, SemFree}
 use Rattle.lot_events.specs.declared.events.Seen.TheVariants.{Bool as Saw}
@@ -57,7 +58,8 @@ passed_root q (u ∷ us) = record q { line = us; owes = Some u }
 abbrev pub paid_root : SemRootView → SemRootView
 paid_root q = record q { owes = None }
 
--- what a permit that comes back adds to the word, where this is the first of the line: the permit, less the parked bit where nobody may be left behind
+-- what a permit that comes back adds to the word, where this is the first of the line: the permit, less the parked bit where nobody may be
+-- left behind
 abbrev pub raise_of : Option ℕ → Bool → ℕ
 raise_of None more = 2
 raise_of (Some u) true = 2

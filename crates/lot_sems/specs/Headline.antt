@@ -29,7 +29,8 @@ pub record Headline (size : Numbers) (s : State (Unit {0}) (List (Right SemPassV
   -- the permits that are left and those that are out are together the opening number
   pub permits_conserved : PermitsConserved size.threads (permits_of size) world.part.sems
   -- what two threads have together is at most that
-  pub apart : (t u k : ℕ) → t ≢ u → t < size.threads → u < size.threads → world.part.sems.out k t + world.part.sems.out k u ≤ permits_of size k
+  pub apart : (t u k : ℕ) → t ≢ u → t < size.threads → u < size.threads
+      → world.part.sems.out k t + world.part.sems.out k u ≤ permits_of size k
   -- a thread in a line means that the semaphore is parked
   pub seekers_are_marked : SeekersAreMarked world.part.sems
   -- where somebody is queued, as many threads at least are trying as permits are left

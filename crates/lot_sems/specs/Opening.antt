@@ -6,7 +6,8 @@ use Rattle.lot_sems.specs.World.{Numbers, key_count}
 -- the words, in which the first so many permits are written; the keys begin at first_sem
 abbrev pub with_permits : List ℕ → ℕ → List ℕ → ℕ → List ℕ
 with_permits ws first_sem permits zero = ws
-with_permits ws first_sem permits (suc i) = slice_set (with_permits ws first_sem permits i) (word_at (first_sem + i)) (2 * slice_index permits i)
+with_permits ws first_sem permits (suc i) =
+    slice_set (with_permits ws first_sem permits i) (word_at (first_sem + i)) (2 * slice_index permits i)
 
 -- twice the permits of each semaphore, and 0 elsewhere
 abbrev pub opening_words : Numbers → List ℕ

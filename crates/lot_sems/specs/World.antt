@@ -1,4 +1,5 @@
--- What the words, the passes and the roots of a table of semaphore words stand for: the semaphore part of the model itself, and where each notice is.
+-- What the words, the passes and the roots of a table of semaphore words stand for: the semaphore part of the model itself, and where each
+-- notice is.
 use Rattle.std.specs.Prelude.{◌≡◌, ℕ, ◌+◌, ◌*◌, ◌<◌, Bool, true, false, List, length, slice_index, Option, Some}
 use Rattle.std.specs.List.{Contains}
 use Rattle.lot_core.specs.Parts.{SemaphorePart, IsAmongSemaphores}

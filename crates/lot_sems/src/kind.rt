@@ -3,7 +3,8 @@ use crate::start::Start;
 use crate::views::{PassKnowledge, RootKnowledge};
 use lot_rights::{Kind, PassOf, RootOf};
 
-/// Semaphore words: a word is twice the permits that are left of its semaphore, and the parked bit. Contracts alone read it.
+/// Semaphore words: a word is twice the permits that are left of its semaphore, and the parked bit. Contracts alone
+/// read it.
 pub struct Semaphores;
 
 impl Kind for Semaphores {
@@ -33,8 +34,10 @@ impl Kind for Semaphores {
     ghost no_letter_in_line = { λ start. no_letter_in_line (numbers start) };
 }
 
-/// The right to act as one thread on the semaphores. Contracts see it as its table and a `PassView`, whose `own` is a `SemPassView`.
+/// The right to act as one thread on the semaphores. Contracts see it as its table and a `PassView`, whose `own` is a
+/// `SemPassView`.
 pub type SemPass = PassOf<Semaphores>;
 
-/// The right to change the line of one semaphore. Contracts see it as its table and a `RootView`, whose `own` is a `SemRootView`.
+/// The right to change the line of one semaphore. Contracts see it as its table and a `RootView`, whose `own` is a
+/// `SemRootView`.
 pub type SemRoot = RootOf<Semaphores>;

@@ -42,8 +42,9 @@ fn fill(words: &mut Vec<u64>, first_sem: usize, permits: &Vec<u32>)
 }
 
 impl SemWords {
-    /// Opens a table for so many threads, with a semaphore for each of these numbers of permits, whose keys begin at `first_sem`. The answer
-    /// has a pass for each thread and a root for each semaphore, in order. There may be no semaphore, and a semaphore without permits.
+    /// Opens a table for so many threads, with a semaphore for each of these numbers of permits, whose keys begin at
+    /// `first_sem`. The answer has a pass for each thread and a root for each semaphore, in order. There may be no
+    /// semaphore, and a semaphore without permits.
     pub fn open(
         alloc: Global,
         threads: usize,
@@ -51,9 +52,13 @@ impl SemWords {
         permits: Vec<u32>,
     ) -> Result<(SemWords, Vec<SemPass>, Vec<SemRoot>), WordsFault>
         requires limits { (0 < threads) × (threads ≤ MAX_THREADS) × (first_sem + vec_len permits ≤ MAX_KEYS) }
-        ensures size { IfOk result (λ r. r.0.size ≡ record { threads = threads; first_sem = first_sem; permits = permits.items }) }
-        ensures passes { IfOk result (λ r. (vec_len r.1 ≡ threads) × ((t : ℕ) → t < threads → slice_get r.1.items t ≡ Some (pass_at (meaning r.0.size) r.0.table t))) }
-        ensures roots { IfOk result (λ r. (vec_len r.2 ≡ vec_len permits) × ((i : ℕ) → i < vec_len permits → slice_get r.2.items i ≡ Some (root_at (meaning r.0.size) r.0.table (first_sem + i)))) }
+        ensures size { IfOk result
+            (λ r. r.0.size ≡ record { threads = threads; first_sem = first_sem; permits = permits.items }) }
+        ensures passes { IfOk result (λ r. (vec_len r.1 ≡ threads)
+            × ((t : ℕ) → t < threads → slice_get r.1.items t ≡ Some (pass_at (meaning r.0.size) r.0.table t))) }
+        ensures roots { IfOk result (λ r. (vec_len r.2 ≡ vec_len permits)
+            × ((i : ℕ) → i < vec_len permits → slice_get r.2.items i
+            ≡ Some (root_at (meaning r.0.size) r.0.table (first_sem + i)))) }
         ensures rule { IfOk result (λ r. Begins (meaning r.0.size) (opening_words r.0.size) []) }
     {
         let keys = permits.len();

@@ -11,13 +11,15 @@ use crate::words::{PARKED, SemWords};
 use std::marker::Brand;
 
 impl SemWords {
-    /// Queues the thread last on the root's semaphore where no permit is left and it is marked as parked, by one load, and says whether
-    /// it did: the validation of a park, which runs while the bucket of the semaphore is locked. The event is SemPark.
+    /// Queues the thread last on the root's semaphore where no permit is left and it is marked as parked, by one load,
+    /// and says whether it did: the validation of a park, which runs while the bucket of the semaphore is locked. The
+    /// event is SemPark.
     pub fn park(&self, pass: SemPass, root: SemRoot) -> (SemPass, SemRoot, bool)
         requires table { (pass.table ≡ self.now.table) × (root.table ≡ self.now.table) }
         requires seeks { IsSeeking pass.pass.own root.root.key }
         ensures table { (result.0.table ≡ pass.table) × (result.1.table ≡ root.table) }
-        ensures entry { Notes pass.pass (parked_pass pass.pass.own result.2) (Makes (SemPark pass.pass.thread root.root.key) (Saw result.2)) result.0.pass }
+        ensures entry { Notes pass.pass (parked_pass pass.pass.own result.2)
+            (Makes (SemPark pass.pass.thread root.root.key) (Saw result.2)) result.0.pass }
         ensures root { result.1.root ≡ record root.root { own = parked_root root.root.own pass.pass.thread result.2 } }
     {
         let words = &self.words;

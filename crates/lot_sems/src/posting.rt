@@ -29,13 +29,14 @@ impl SemWords {
         words.store_root::<Brand, usize>(root, letter, LETTER, thread)
     }
 
-    /// Collects the pass's letter, by one swap, and answers its token, which is 0, where a letter lay: the thread was taken from the
-    /// semaphore's line, and may try again. A pass that does not sleep has no letter. A thread that sleeps calls it until a letter lies;
-    /// what wakes it tells nothing.
+    /// Collects the pass's letter, by one swap, and answers its token, which is 0, where a letter lay: the thread was
+    /// taken from the semaphore's line, and may try again. A pass that does not sleep has no letter. A thread that
+    /// sleeps calls it until a letter lies; what wakes it tells nothing.
     pub fn collect(&self, pass: SemPass) -> (SemPass, Option<u32>)
         requires { pass.table ≡ self.now.table }
         ensures table { result.0.table ≡ pass.table }
-        ensures letter { MatchOption result.1 (FoundNone pass.pass result.0.pass) (λ token. Collected pass.pass token result.0.pass) }
+        ensures letter { MatchOption result.1 (FoundNone pass.pass result.0.pass)
+            (λ token. Collected pass.pass token result.0.pass) }
     {
         let words = &self.words;
         let place = pass.letter();
@@ -46,8 +47,8 @@ impl SemWords {
         (pass, Some((letter - LETTER) as u32))
     }
 
-    /// The semaphore's word as it was just now: twice the permits that are left, and 1 more where it is marked as parked. It is an
-    /// observation, of which nothing is promised.
+    /// The semaphore's word as it was just now: twice the permits that are left, and 1 more where it is marked as
+    /// parked. It is an observation, of which nothing is promised.
     #[inline(always)]
     pub fn bits(&self, key: usize) -> u64
         requires { IsAmong self.now.size key }

@@ -16,8 +16,8 @@ use std::marker::Brand;
 /// All bits of a word but the parked bit.
 const ALL_BUT_PARKED: u64 = u64::MAX - 1;
 
-/// What is added to the word of a semaphore of which a permit comes back, and of whose line this was the first: the permit, less the
-/// parked bit where nobody may be left behind that thread.
+/// What is added to the word of a semaphore of which a permit comes back, and of whose line this was the first: the
+/// permit, less the parked bit where nobody may be left behind that thread.
 #[inline(always)]
 fn raise(first: Option<usize>, more: bool) -> u64
     ensures { result ≡ raise_of first more }
@@ -29,9 +29,10 @@ fn raise(first: Option<usize>, more: bool) -> u64
 }
 
 impl SemWords {
-    /// Gives a permit back where nobody is marked as parked, and says whether it did: the fast path of a release. It is a look, and where
-    /// that found nobody marked, one compare-exchange of the word that was seen. Where somebody is marked, or the exchange found another
-    /// word, the thread still has the permit, and `pass_on` may follow. The event is SemFree.
+    /// Gives a permit back where nobody is marked as parked, and says whether it did: the fast path of a release. It is
+    /// a look, and where that found nobody marked, one compare-exchange of the word that was seen. Where somebody is
+    /// marked, or the exchange found another word, the thread still has the permit, and `pass_on` may follow. The event
+    /// is SemFree.
     #[inline(always)]
     pub fn free(&self, pass: SemPass, key: usize) -> (SemPass, bool)
         requires table { pass.table ≡ self.now.table }
@@ -56,9 +57,10 @@ impl SemWords {
         (pass, found == seen)
     }
 
-    /// Gives a permit back, by one fetch-add, while the bucket of the semaphore is locked. `first` is the first of the line, to whom the
-    /// root then owes a letter, with which that thread may try again; the parked bit goes where there was one and no more threads may
-    /// wait. With an empty line the bit stays, and `clear` may follow. The event is SemPass.
+    /// Gives a permit back, by one fetch-add, while the bucket of the semaphore is locked. `first` is the first of the
+    /// line, to whom the root then owes a letter, with which that thread may try again; the parked bit goes where there
+    /// was one and no more threads may wait. With an empty line the bit stays, and `clear` may follow. The event is
+    /// SemPass.
     ///
     /// Where two threads or more are in the line, `more` has to be true.
     pub fn pass_on(
@@ -73,7 +75,8 @@ impl SemWords {
         requires first { (first_of root.root.own.line ≡ first) × (root.root.own.owes ≡ None) }
         requires more { SaysMore root.root.own.line more }
         ensures table { (result.0.table ≡ pass.table) × (result.1.table ≡ root.table) }
-        ensures entry { Notes pass.pass (one_permit_less pass.pass.own root.root.key) (Makes (Passes pass.pass.thread root.root.key more) (Sleeper first)) result.0.pass }
+        ensures entry { Notes pass.pass (one_permit_less pass.pass.own root.root.key)
+            (Makes (Passes pass.pass.thread root.root.key more) (Sleeper first)) result.0.pass }
         ensures root { result.1.root ≡ record root.root { own = passed_root root.root.own root.root.own.line } }
     {
         let words = &self.words;
@@ -83,14 +86,15 @@ impl SemWords {
         (pass, root)
     }
 
-    /// Clears the parked bit of a semaphore in whose line nobody is, by one fetch-and, while the bucket of the semaphore is locked. The
-    /// event is SemClear.
+    /// Clears the parked bit of a semaphore in whose line nobody is, by one fetch-and, while the bucket of the
+    /// semaphore is locked. The event is SemClear.
     pub fn clear(&self, pass: SemPass, root: SemRoot) -> (SemPass, SemRoot)
         requires table { (pass.table ≡ self.now.table) × (root.table ≡ self.now.table) }
         requires calm { IsCalm pass.pass.own }
         requires nobody { root.root.own.line ≡ [] }
         ensures table { (result.0.table ≡ pass.table) × (result.1.table ≡ root.table) }
-        ensures entry { Notes pass.pass pass.pass.own (Makes (SemClear pass.pass.thread root.root.key) Done) result.0.pass }
+        ensures entry { Notes pass.pass pass.pass.own
+            (Makes (SemClear pass.pass.thread root.root.key) Done) result.0.pass }
         ensures root { result.1.root ≡ root.root }
     {
         let words = &self.words;

@@ -3,8 +3,8 @@ ghost use Rattle.std.specs.Prelude.{◌≡◌};
 
 use std::snapshot::Snapshot;
 
-/// How many threads there are, the number of the first semaphore, and how many permits each has at the opening. The permits are for
-/// contracts alone.
+/// How many threads there are, the number of the first semaphore, and how many permits each has at the opening. The
+/// permits are for contracts alone.
 #[derive(Drop)]
 pub struct Start {
     pub threads: u64,

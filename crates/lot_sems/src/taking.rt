@@ -19,14 +19,15 @@ pub enum Taken {
     Got,
     /// A look found that no permit is left.
     Empty,
-    /// A look found a permit, and the exchange that followed found another word than the look. Nothing changed, and it may be tried
-    /// again.
+    /// A look found a permit, and the exchange that followed found another word than the look. Nothing changed, and it
+    /// may be tried again.
     Busy,
 }
 
 impl SemWords {
-    /// Takes a permit where one is left, and else leaves all as it was. A look finds no permit: Empty; else one compare-exchange takes one
-    /// from the word that was seen: Got, or Busy where it found another. The event is SemTake, and made for a permit that was got alone.
+    /// Takes a permit where one is left, and else leaves all as it was. A look finds no permit: Empty; else one
+    /// compare-exchange takes one from the word that was seen: Got, or Busy where it found another. The event is
+    /// SemTake, and made for a permit that was got alone.
     #[inline(always)]
     pub fn try_take(&self, pass: SemPass, key: usize) -> (SemPass, Taken)
         requires table { pass.table ≡ self.now.table }
@@ -43,8 +44,9 @@ impl SemWords {
         self.take_from(pass, key, was)
     }
 
-    /// Takes a permit where one is left, as `try_take` does; where the look finds none, the thread seeks one from now on: the first step
-    /// of getting a permit, and each further try. The event is SemTake. A thread that sleeps can't take.
+    /// Takes a permit where one is left, as `try_take` does; where the look finds none, the thread seeks one from now
+    /// on: the first step of getting a permit, and each further try. The event is SemTake. A thread that sleeps can't
+    /// take.
     #[inline(always)]
     pub fn take(&self, pass: SemPass, key: usize) -> (SemPass, Taken)
         requires table { pass.table ≡ self.now.table }
@@ -61,8 +63,8 @@ impl SemWords {
         self.take_from(pass, key, seen)
     }
 
-    /// Takes a permit from the word that a look found, by one compare-exchange: Got, or Busy where it found another word. The event is
-    /// SemTake.
+    /// Takes a permit from the word that a look found, by one compare-exchange: Got, or Busy where it found another
+    /// word. The event is SemTake.
     #[inline(always)]
     fn take_from(&self, pass: SemPass, key: usize, seen: u64) -> (SemPass, Taken)
         requires table { pass.table ≡ self.now.table }
@@ -88,8 +90,9 @@ impl SemWords {
         (pass, taken)
     }
 
-    /// Marks a semaphore of which no permit is left as parked, by one compare-exchange, and says whether it did. The event is SemMark;
-    /// where the word was another, the entry says which. A thread that is about to park calls it, as in WTF's `Lock::lockSlow`.
+    /// Marks a semaphore of which no permit is left as parked, by one compare-exchange, and says whether it did. The
+    /// event is SemMark; where the word was another, the entry says which. A thread that is about to park calls it, as
+    /// in WTF's `Lock::lockSlow`.
     pub fn mark(&self, pass: SemPass, key: usize) -> (SemPass, bool)
         requires table { pass.table ≡ self.now.table }
         requires key { IsAmong self.now.size key }

@@ -21,7 +21,8 @@ pub struct SemRootView {
     pub owes: Option<u64>,
 }
 
-/// Names a `SemPassView` where a type is asked for. It has no fields, so the type of a table does not spell out what a pass knows.
+/// Names a `SemPassView` where a type is asked for. It has no fields, so the type of a table does not spell out what a
+/// pass knows.
 pub struct PassKnowledge;
 
 impl Model for PassKnowledge {
@@ -33,7 +34,8 @@ impl Model for PassKnowledge {
     ghost view = { λ _. no_pass };
 }
 
-/// Names a `SemRootView` where a type is asked for. It has no fields, so the type of a table does not spell out what a root knows.
+/// Names a `SemRootView` where a type is asked for. It has no fields, so the type of a table does not spell out what a
+/// root knows.
 pub struct RootKnowledge;
 
 impl Model for RootKnowledge {

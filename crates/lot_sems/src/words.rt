@@ -11,7 +11,8 @@ use std::marker::Model;
 /// The word of a semaphore of which no permit is left, and on which nobody is marked as parked.
 pub const NONE_LEFT: u64 = 0;
 
-/// The word of a semaphore of which no permit is left, and on which threads are marked as parked; and the bit that says so.
+/// The word of a semaphore of which no permit is left, and on which threads are marked as parked; and the bit that says
+/// so.
 pub const PARKED: u64 = 1;
 
 /// One permit, in a word.

@@ -14,7 +14,8 @@ module _ {V : Type 0} where
   alike_at out v q is alike = subst (λ (o : PassView V). o ≈ v) (sym is) alike
 
   -- of a call that began with a pass that stood like p, and ended with one that stands like q
-  pub adds_at : (word : ℕ → List Access → Type 0) (before after : PassView V) (p q : LotStanding V) (did : List Access) → before ≡ pass_view_of p → after ≡ pass_view_of q
+  pub adds_at : (word : ℕ → List Access → Type 0) (before after : PassView V) (p q : LotStanding V) (did : List Access)
+      → before ≡ pass_view_of p → after ≡ pass_view_of q
       → q.did ≡ p.did ++ did → word p.thread did → Adds before.made (word before.thread) after.made
   adds_at word before after p q did was is more told = (
     did,

@@ -1,5 +1,6 @@
 -- What the callers of waits, notifications and permits see, and how the pass stands then.
-use Rattle.std.proofs.Common.{◌≡◌, ◌≢◌, ℕ, ◌+◌, ◌<◌, ◌≤◌, ◌⊎◌, Bool, true, false, MatchBool, List, [], ◌∷◌, ◌++◌, suc, length, map, set, get_or, slice_index, inl, inr, Some, None, refl, sym, ap, subst, ◌∙◌, length-set, arith}
+use Rattle.std.proofs.Common.{◌≡◌, ◌≢◌, ℕ, ◌+◌, ◌<◌, ◌≤◌, ◌⊎◌, Bool, true, false, MatchBool, List, [], ◌∷◌, ◌++◌, suc, length, map, set}
+use Rattle.std.proofs.Common.{get_or, slice_index, inl, inr, Some, None, refl, sym, ap, subst, ◌∙◌, length-set, arith}
 use Rattle.std.proofs.lemmas.List.{get_or-set_same, map-set, length-map}
 use mathlib.Core.Option.{some}
 use lib.ListN.{get_elem?}
@@ -14,7 +15,9 @@ use Rattle.lot_words.specs.Calls.{owning as lock_owning}
 use Rattle.lot_whole.specs.Family.{lock, cond, sem}
 use Rattle.lot_whole.specs.Standing.{IsUp}
 use Rattle.lot_rights.specs.declared.views.Access.TheVariants.{Finds}
-use Rattle.lot_scheme.specs.Standing.{LotStanding, adding, letting_go, enlisted, one_wait_more as stand_one_wait_more, called_more as stand_called_more, one_permit_more as stand_one_permit_more, one_permit_less as stand_one_permit_less}
+use Rattle.lot_scheme.specs.Standing.{LotStanding, adding, letting_go, enlisted, one_wait_more as stand_one_wait_more}
+use Rattle.lot_scheme.specs.Standing.{called_more as stand_called_more, one_permit_more as stand_one_permit_more}
+use Rattle.lot_scheme.specs.Standing.{one_permit_less as stand_one_permit_less}
 use Rattle.lot_scheme.specs.Words.{word_of_all, word_of_nobody, TookWord, BusyWord}
 use Rattle.lot_locks.specs.declared.released.Released.{Released}
 use Rattle.lot_waits.specs.Waiting.{HasWaited, waited}
@@ -23,7 +26,9 @@ use Rattle.lot_waits.proofs.Taken.{none_called}
 use Rattle.lot_permits.specs.declared.permit.Tried.{Tried}
 use Rattle.lot_permits.specs.declared.permit.Tried.TheVariants.{Got, Empty, Busy}
 use Rattle.lot_permits.specs.Tries.{TriesToGet as Tries}
-use Rattle.lot_sync.specs.Lot.{PassView, HeldView, ◌≈◌, LotNames, Owns, owning, letting_go as view_letting_go, one_wait_more as view_one_wait_more, called_more as view_called_more, one_permit_more as view_one_permit_more, one_permit_less as view_one_permit_less}
+use Rattle.lot_sync.specs.Lot.{PassView, HeldView, ◌≈◌, LotNames, Owns, owning, letting_go as view_letting_go}
+use Rattle.lot_sync.specs.Lot.{one_wait_more as view_one_wait_more, called_more as view_called_more}
+use Rattle.lot_sync.specs.Lot.{one_permit_more as view_one_permit_more, one_permit_less as view_one_permit_less}
 use Rattle.lot_sync.specs.Permits.{TriesToGet}
 use Rattle.lot_sync.specs.Words.{Adds, NobodyWord, NotifyWord, NotifyAllWord, TryPermitWord}
 use Rattle.lot_sync.specs.Passes.{is_held, pass_view_of, IsOfLot, IsAtRest, IsNewOwner}
@@ -43,50 +48,63 @@ module _ {V : Type 0} where
   nobody_more p q c n (none, is) = record {
     did = word_of_nobody p.thread c;
     told = (none, refl);
-    is = is ∙ ap (λ (r : LotStanding V). adding r (word_of_nobody p.thread c)) (sym (none_called p c)) ∙ ap (λ k. adding (stand_called_more p c k) (word_of_nobody p.thread c)) (sym none);
+    is =
+        is ∙ ap (λ (r : LotStanding V). adding r (word_of_nobody p.thread c)) (sym (none_called p c))
+        ∙ ap (λ k. adding (stand_called_more p c k) (word_of_nobody p.thread c)) (sym none);
   }
 
   pub took_some : (p q : LotStanding V) (c n taken : ℕ) → Notifies p c n taken q → TookMore (λ t. NotifyWord t c n taken) p c taken q
-  took_some p q c n taken (inl nobody) = let none = nobody_more p q c taken nobody in record { did = none.did; told = inl none.told; is = none.is }
+  took_some p q c n taken (inl nobody) =
+      let none = nobody_more p q c taken nobody in record { did = none.did; told = inl none.told; is = none.is }
   took_some p q c n taken (inr (did, word, is)) = record { did = did; told = inr word; is = is }
 
   pub took_all : (p q : LotStanding V) (c taken : ℕ) → NotifiesAll p c taken q → TookMore (λ t. NotifyAllWord t c taken) p c taken q
-  took_all p q c taken (inl nobody) = let none = nobody_more p q c taken nobody in record { did = none.did; told = inl none.told; is = none.is }
+  took_all p q c taken (inl nobody) =
+      let none = nobody_more p q c taken nobody in record { did = none.did; told = inl none.told; is = none.is }
   took_all p q c taken (inr is) = record { did = word_of_all p.thread c taken; told = inr refl; is = is }
 
-  pub sees_called : (word : ℕ → List Access → Type 0) (p q : LotStanding V) (c n : ℕ) → TookMore word p c n q → pass_view_of q ≈ view_called_more (pass_view_of p) c n
+  pub sees_called : (word : ℕ → List Access → Type 0) (p q : LotStanding V) (c n : ℕ) → TookMore word p c n q
+      → pass_view_of q ≈ view_called_more (pass_view_of p) c n
   sees_called word p q c n took = sees_as p q (stand_called_more p c n).own took.did (map is_held p.own.locks.holds) took.is refl
 
   -- what the callers of a notification see: how the pass stands, and the word
-  pub sees_more : (word : ℕ → List Access → Type 0) (p q : LotStanding V) (out before : PassView V) (c n : ℕ) → before ≡ pass_view_of p → out ≡ pass_view_of q → TookMore word p c n q
+  pub sees_more : (word : ℕ → List Access → Type 0) (p q : LotStanding V) (out before : PassView V) (c n : ℕ) → before ≡ pass_view_of p
+      → out ≡ pass_view_of q → TookMore word p c n q
       → (out ≈ view_called_more before c n) × Adds before.made (word before.thread) out.made
   sees_more word p q out before c n was is took = (
-    subst (λ (v : PassView V). out ≈ view_called_more v c n) (sym was) (alike_at out (view_called_more (pass_view_of p) c n) q is (sees_called word p q c n took)),
+    subst (λ (v : PassView V). out ≈ view_called_more v c n) (sym was)
+        (alike_at out (view_called_more (pass_view_of p) c n) q is (sees_called word p q c n took)),
     adds_at word before out p q took.did was is (ap (λ (r : LotStanding V). r.did) took.is) took.told,
   )
 
-  pub sees_called_one : (word : ℕ → List Access → Type 0) (p q : LotStanding V) (out before : PassView V) (c : ℕ) (one : Bool) → before ≡ pass_view_of p → out ≡ pass_view_of q
+  pub sees_called_one : (word : ℕ → List Access → Type 0) (p q : LotStanding V) (out before : PassView V) (c : ℕ) (one : Bool)
+      → before ≡ pass_view_of p → out ≡ pass_view_of q
       → TookMore word p c (one_if one) q → MatchBool one (out ≈ view_called_more before c 1) (out ≈ before)
   sees_called_one word p q out before c true was is took = (sees_more word p q out before c 1 was is took).0
-  sees_called_one word p q out before c false was is took = subst (λ (v : PassView V). out ≈ v) (sym was) (alike_at out (pass_view_of p) q is
+  sees_called_one word p q out before c false was is took =
+      subst (λ (v : PassView V). out ≈ v) (sym was) (alike_at out (pass_view_of p) q is
       (sees_stays p q took.did (took.is ∙ ap (λ (r : LotStanding V). adding r took.did) (none_called p c))))
 
   -- a permit more
-  pub sees_permit : (p q : LotStanding V) (k : ℕ) (did : List Access) → q ≡ adding (stand_one_permit_more p k) did → pass_view_of q ≈ view_one_permit_more (pass_view_of p) k
+  pub sees_permit : (p q : LotStanding V) (k : ℕ) (did : List Access) → q ≡ adding (stand_one_permit_more p k) did
+      → pass_view_of q ≈ view_one_permit_more (pass_view_of p) k
   sees_permit p q k did is = sees_as p q (stand_one_permit_more p k).own did (map is_held p.own.locks.holds) is refl
 
   -- a permit less
-  pub sees_given : (p q : LotStanding V) (k : ℕ) (did : List Access) → q ≡ adding (stand_one_permit_less p k) did → pass_view_of q ≈ view_one_permit_less (pass_view_of p) k
+  pub sees_given : (p q : LotStanding V) (k : ℕ) (did : List Access) → q ≡ adding (stand_one_permit_less p k) did
+      → pass_view_of q ≈ view_one_permit_less (pass_view_of p) k
   sees_given p q k did is = sees_as p q (stand_one_permit_less p k).own did (map is_held p.own.locks.holds) is refl
 
   -- what came of a try to get one
-  pub sees_tried : {A : Type 0} (p q : LotStanding V) (out before : PassView V) (k : ℕ) (tried : Tried V A) → before ≡ pass_view_of p → out ≡ pass_view_of q → Tries p k tried q
+  pub sees_tried : {A : Type 0} (p q : LotStanding V) (out before : PassView V) (k : ℕ) (tried : Tried V A) → before ≡ pass_view_of p
+      → out ≡ pass_view_of q → Tries p k tried q
       → TriesToGet before k tried out × Adds before.made (TryPermitWord before.thread k tried) out.made
   sees_tried p q out before k (Got permit) was is (key, thread, (did, word, now)) = (
     (
       key,
       thread ∙ ap (λ (v : PassView V). v.thread) (sym was),
-      subst (λ (v : PassView V). out ≈ view_one_permit_more v k) (sym was) (alike_at out (view_one_permit_more (pass_view_of p) k) q is (sees_permit p q k did now)),
+      subst (λ (v : PassView V). out ≈ view_one_permit_more v k) (sym was)
+          (alike_at out (view_one_permit_more (pass_view_of p) k) q is (sees_permit p q k did now)),
     ),
     adds_at (λ t. TookWord t k) before out p q did was is (ap (λ (r : LotStanding V). r.did) now) word,
   )
@@ -101,7 +119,8 @@ module _ {V : Type 0} where
   )
 
 module _ {V : Type 0} (grows : V → V → Type 0) (names : LotNames V) where
-  pub rests_called : (word : ℕ → List Access → Type 0) (p q : LotStanding V) (c n : ℕ) → TookMore word p c n q → IsAtRest grows names p → IsAtRest grows names q
+  pub rests_called : (word : ℕ → List Access → Type 0) (p q : LotStanding V) (c n : ℕ) → TookMore word p c n q → IsAtRest grows names p
+      → IsAtRest grows names q
   rests_called word p q c n took rest = rests_on grows names (stand_called_more p c n) q took.did took.is (record {
     of_lot = record {
       is_thread = rest.of_lot.is_thread;
@@ -113,7 +132,10 @@ module _ {V : Type 0} (grows : V → V → Type 0) (names : LotNames V) where
       permits_long = rest.of_lot.permits_long;
       grown = rest.of_lot.grown;
     };
-    idle = (record { up = up_still rest.idle.0.up; aim = rest.idle.0.aim; sweeps = rest.idle.0.sweeps; seeks = rest.idle.0.seeks }, rest.idle.1);
+    idle = (
+      record { up = up_still rest.idle.0.up; aim = rest.idle.0.aim; sweeps = rest.idle.0.sweeps; seeks = rest.idle.0.seeks },
+      rest.idle.1,
+    );
     out = rest.out;
   })
     where
@@ -129,7 +151,8 @@ module _ {V Part : Type 0} (rule : CallersRule V Part) (names : LotNames V) wher
   woken_at p c l y = stand_one_wait_more (letting_go (enlisted p c l) l y) c
 
   -- whoever waited owns the lock again
-  pub owns_waited : (p q : LotStanding V) (c l : ℕ) (value : V) (became : Released) → l < names.locks → IsNewOwner rule.grows names p l → IsIn p.own.locks l value
+  pub owns_waited : (p q : LotStanding V) (c l : ℕ) (value : V) (became : Released) → l < names.locks → IsNewOwner rule.grows names p l
+      → IsIn p.own.locks l value
       → ((u : V) → HasSeen p.own.locks l u → rule.grows u value) → HasWaited rule p c l became q → IsNewOwner rule.grows names q l
   owns_waited p q c l value became near own lies grown w =
       let same : w.left ≡ value = one_lies p.own.locks.places l w.left value w.lay lies in
@@ -155,10 +178,13 @@ module _ {V Part : Type 0} (rule : CallersRule V Part) (names : LotNames V) wher
   -- what the callers of a wait see
   sees_waited : (p q : LotStanding V) (c l : ℕ) (became : Released) (w : HasWaited rule p c l became q)
       → pass_view_of q ≈ owning (view_one_wait_more (view_letting_go (pass_view_of p) l w.left) c) l w.found
-  sees_waited p q c l became w = sees_as p q (waited p c l w.left w.found).own w.did (set (set (map is_held p.own.locks.holds) l false) l true) w.is
-      (map-set is_held (set p.own.locks.holds l NotHeld) l Held ∙ ap (λ owns. set owns l true) (map-set is_held p.own.locks.holds l NotHeld))
+  sees_waited p q c l became w =
+      sees_as p q (waited p c l w.left w.found).own w.did (set (set (map is_held p.own.locks.holds) l false) l true) w.is
+      (map-set is_held (set p.own.locks.holds l NotHeld) l Held
+      ∙ ap (λ owns. set owns l true) (map-set is_held p.own.locks.holds l NotHeld))
 
-  pub gets_waited : (p q : LotStanding V) (held : HeldView V) (c l : ℕ) (value : V) (became : Released) → l < names.locks → IsNewOwner rule.grows names p l → IsIn p.own.locks l value
+  pub gets_waited : (p q : LotStanding V) (held : HeldView V) (c l : ℕ) (value : V) (became : Released) → l < names.locks
+      → IsNewOwner rule.grows names p l → IsIn p.own.locks l value
       → HasWaited rule p c l became q → held.key ≡ l → IsIn q.own.locks l held.value → (after : PassView V) → after ≡ pass_view_of q
       → Gets rule (view_one_wait_more (view_letting_go (pass_view_of p) l value) c) l held after
   gets_waited p q held c l value became near own lies w key_is found_in after after_is =
@@ -170,17 +196,24 @@ module _ {V Part : Type 0} (rule : CallersRule V Part) (names : LotNames V) wher
       let sees_it : after ≈ owning (view_one_wait_more (view_letting_go (pass_view_of p) l value) c) l held.value =
       alike_at after (owning (view_one_wait_more (view_letting_go (pass_view_of p) l value) c) l held.value) q after_is
       (subst (λ v. pass_view_of q ≈ owning (view_one_wait_more (view_letting_go (pass_view_of p) l value) c) l v) same
-      (subst (λ v. pass_view_of q ≈ owning (view_one_wait_more (view_letting_go (pass_view_of p) l v) c) l w.found) left (sees_waited p q c l became w))) in
+      (subst (λ v. pass_view_of q ≈ owning (view_one_wait_more (view_letting_go (pass_view_of p) l v) c) l w.found) left
+      (sees_waited p q c l became w))) in
       let seen_long : length (set p.own.locks.seen l value) ≡ names.locks = length-set p.own.locks.seen l value ∙ own.of_lot.seen_long in
       let owns_long : length (set (map is_held p.own.locks.holds) l false) ≡ names.locks =
       length-set (map is_held p.own.locks.holds) l false ∙ (length-map p.own.locks.holds is_held ∙ own.of_lot.holds_long) in
       record {
         key_is = key_is;
         kept = subst (rule.keeps l) same w.found_ok.kept;
-        grown = λ u s. subst (rule.grows u) same (w.found_ok.grown u (subst (λ v. get_elem? (set p.own.locks.seen l v) l ≡ some u) (sym left) s));
-        mine = λ u s. w.found_ok.mine u (subst (λ v. get_elem? (set p.own.locks.seen l v) l ≡ some u) (sym left) s) ∙ ap (rule.part p.thread) same;
+        grown =
+            λ u s.
+            subst (rule.grows u) same (w.found_ok.grown u (subst (λ v. get_elem? (set p.own.locks.seen l v) l ≡ some u) (sym left) s));
+        mine =
+            λ u s. w.found_ok.mine u (subst (λ v. get_elem? (set p.own.locks.seen l v) l ≡ some u) (sym left) s)
+            ∙ ap (rule.part p.thread) same;
         after_is = sees_it;
         owns = subst (λ (r : PassView V). Owns r l) (sym sees_it)
             (get_or-set_same (set (map is_held p.own.locks.holds) l false) l true false (omega (arith, owns_long)));
-        seen = subst (λ (r : PassView V). get_elem? r.seen l ≡ some held.value) (sym sees_it) (set_here (set p.own.locks.seen l value) l held.value (omega (arith, seen_long)));
+        seen =
+            subst (λ (r : PassView V). get_elem? r.seen l ≡ some held.value) (sym sees_it)
+            (set_here (set p.own.locks.seen l value) l held.value (omega (arith, seen_long)));
       }

@@ -176,7 +176,8 @@ module _ {V Part : Type 0} (rule : CallersRule V Part) (words : LotWordsShown V)
 
   -- each root is of the kind that its number tells, under the name of the lot
   pub roots_named : (names : LotNames V) → names ≡ opened_as words
-      → All (λ (r : RootShown LotRootView). (r.table ≡ names.opening.locks) × IsInItsKind names.locks names.first_sem r.root.key r.root.own) roots
+      → All (λ (r : RootShown LotRootView). (r.table ≡ names.opening.locks)
+      × IsInItsKind names.locks names.first_sem r.root.key r.root.own) roots
   roots_named names named = subst (λ (ns : LotNames V). All (λ (r : RootShown LotRootView).
       (r.table ≡ ns.opening.locks) × IsInItsKind ns.locks ns.first_sem r.root.key r.root.own) roots) (sym named)
       (all_by_place (λ (r : RootShown LotRootView). (r.table ≡ words.table) × IsInItsKind words.size.locks

@@ -29,9 +29,9 @@ IsCond lot c = (lot.locks ≤ c) × (c < lot.locks + lot.conds)
 abbrev pub IsSem : LotView → ℕ → Type 0
 IsSem lot k = (lot.locks + lot.conds ≤ k) × (k < lot.locks + lot.conds + lot.sems)
 
--- a pass: its thread, which locks it owns, what it has seen of each value, and by key how many sleepers it took from the
--- condition's line, how many of its own waits ended, and how many permits of the semaphore it holds; and the accesses that were made with it,
--- the oldest first
+-- a pass: its thread, which locks it owns, what it has seen of each value, and by key how many sleepers it took from the condition's line,
+-- how many of its own waits ended, and how many permits of the semaphore it holds; and the accesses that were made with it, the oldest
+-- first
 pub record PassView (V : Type 0) : Type 0 where
   pub thread : ℕ
   pub owns : List Bool

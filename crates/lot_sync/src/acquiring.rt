@@ -1,5 +1,5 @@
-//! Permits of counting semaphores, on the same parking lot as the locks. WTF has no semaphore on its lot: a permit is got and given back
-//! as a lock is, and a release leaves it to whoever comes first.
+//! Permits of counting semaphores, on the same parking lot as the locks. WTF has no semaphore on its lot: a permit is
+//! got and given back as a lock is, and a release leaves it to whoever comes first.
 ghost use Rattle.std.specs.Prelude.{◌≡◌, ◌≢◌, ℕ, ◌+◌, ◌≤◌};
 ghost use Rattle.lot_scheme.specs.SemCalls.{opening_permits};
 ghost use Rattle.lot_scheme.specs.Words.{GetPermitWord};
@@ -17,10 +17,11 @@ use lot_words::Keeps;
 use std::sync::Wait;
 
 impl<V: Keeps + Send, N: LotName<V> + Send> Lot<V, N> {
-    /// Gets a permit where one is left, and else leaves all as it was. It never waits: a load, and where that found a permit, one
-    /// compare-exchange.
+    /// Gets a permit where one is left, and else leaves all as it was. It never waits: a load, and where that found a
+    /// permit, one compare-exchange.
     ///
-    /// `Empty` where the load found none; `Busy` where the exchange failed, since another thread changed the semaphore meanwhile.
+    /// `Empty` where the load found none; `Busy` where the exchange failed, since another thread changed the semaphore
+    /// meanwhile.
     #[inline(always)]
     pub fn try_acquire(&self, pass: Pass<V, N>, key: usize) -> (Pass<V, N>, Tried<V, N>)
         requires key { IsSem self.now key }
@@ -34,7 +35,8 @@ impl<V: Keeps + Send, N: LotName<V> + Send> Lot<V, N> {
         (self.at_rest(right, tallies), tried)
     }
 
-    /// Gets a permit, waiting for it where none is left. Where one is, it is a load and one compare-exchange. It takes no memory.
+    /// Gets a permit, waiting for it where none is left. Where one is, it is a load and one compare-exchange. It takes
+    /// no memory.
     #[inline(always)]
     pub fn acquire<R: Wait>(
         &self,
@@ -54,8 +56,9 @@ impl<V: Keeps + Send, N: LotName<V> + Send> Lot<V, N> {
         (self.at_rest(right, tallies), permit)
     }
 
-    /// Gives a permit back: `Quiet` where nobody was parked, `Woke` where the first of the semaphore's line was woken, who tries again, and
-    /// `Nobody` where the slow way found nobody there. Where nobody is parked it is one compare-exchange. It takes no memory.
+    /// Gives a permit back: `Quiet` where nobody was parked, `Woke` where the first of the semaphore's line was woken,
+    /// who tries again, and `Nobody` where the slow way found nobody there. Where nobody is parked it is one
+    /// compare-exchange. It takes no memory.
     #[inline(always)]
     pub fn release<R: Wait>(
         &self,
@@ -74,12 +77,13 @@ impl<V: Keeps + Send, N: LotName<V> + Send> Lot<V, N> {
         (self.at_rest(right, tallies), freed)
     }
 
-    /// Shows that two passes are of different threads, and that of each semaphore both hold together at most as many permits as there
-    /// were at the opening. It changes nothing.
+    /// Shows that two passes are of different threads, and that of each semaphore both hold together at most as many
+    /// permits as there were at the opening. It changes nothing.
     pub fn check_permits(&self, first: Pass<V, N>, second: Pass<V, N>) -> (Pass<V, N>, Pass<V, N>)
         ensures same { (result.0 ≡ first) × (result.1 ≡ second) }
         ensures threads { first.thread ≢ second.thread }
-        ensures permits { (k : ℕ) → permits_with first k + permits_with second k ≤ opening_permits N.first_sem N.permits k }
+        ensures permits { (k : ℕ) → permits_with first k + permits_with second k
+            ≤ opening_permits N.first_sem N.permits k }
     {
         let (first, first_tallies) = first.apart();
         let (second, second_tallies) = second.apart();
@@ -91,7 +95,8 @@ impl<V: Keeps + Send, N: LotName<V> + Send> Lot<V, N> {
         )
     }
 
-    /// How many permits of the semaphore were left at some moment of this call. It is an observation: nothing is promised of it.
+    /// How many permits of the semaphore were left at some moment of this call. It is an observation: nothing is
+    /// promised of it.
     pub fn permits_left(&self, key: usize) -> u64
         requires { IsSem self.now key }
     {

@@ -8,8 +8,8 @@ use lot_scheme::LotName;
 use lot_words::Keeps;
 
 impl<V: Keeps + Send, N: LotName<V> + Send> Lot<V, N> {
-    /// Shows that two passes are of different threads and own no common lock: each lock has at most one owner. It changes
-    /// nothing.
+    /// Shows that two passes are of different threads and own no common lock: each lock has at most one owner. It
+    /// changes nothing.
     pub fn check_apart(&self, first: Pass<V, N>, second: Pass<V, N>) -> (Pass<V, N>, Pass<V, N>)
         ensures same { (result.0 ≡ first) × (result.1 ≡ second) }
         ensures threads { first.thread ≢ second.thread }

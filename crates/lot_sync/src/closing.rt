@@ -20,8 +20,8 @@ use lot_words::Keeps;
 use std::sync::Wait;
 
 impl<V: Keeps + Send, N: LotName<V> + Send> Lot<V, N> {
-    /// Ends the lot, with all its passes. The answer has the value of each lock, in order, and what the passes counted for each
-    /// condition. One run of the whole model was made with these passes, from the opening to a sound state.
+    /// Ends the lot, with all its passes. The answer has the value of each lock, in order, and what the passes counted
+    /// for each condition. One run of the whole model was made with these passes, from the opening to a sound state.
     ///
     /// Passes that are in are had by `take_left`.
     pub fn close<R: Wait>(self, rt: &R, passes: Vec<Pass<V, N>>) -> (Vec<V>, Ledger)

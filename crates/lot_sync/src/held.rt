@@ -54,10 +54,12 @@ impl<V, N> Held<V, N> {
         self.key
     }
 
-    /// Works on the value by value, as where a type has no other way to change: `held.replace_with(|value| (value.pushed(3), ()))`.
+    /// Works on the value by value, as where a type has no other way to change:
+    /// `held.replace_with(|value| (value.pushed(3), ()))`.
     pub fn replace_with<O, F: FnOnce(V) -> (V, O)>(self, work: F) -> (Held<V, N>, O)
         requires callable { F.pre work self.value }
-        ensures { (left : _) × F.post work self.value left × (result.0 ≡ record self { value = left.0 }) × (result.1 ≡ left.1) }
+        ensures { (left : _) × F.post work self.value left × (result.0 ≡ record self { value = left.0 })
+            × (result.1 ≡ left.1) }
     {
         let Held { key, value, of } = self;
         let (value, outcome) = work(value);

@@ -1,9 +1,9 @@
-//! Locks that guard values, conditions, and counting semaphores, for a number of threads: WTF's `Lock` and `Condition` on
-//! its parking lot.
+//! Locks that guard values, conditions, and counting semaphores, for a number of threads: WTF's `Lock` and `Condition`
+//! on its parking lot.
 //!
-//! It stands on `lot_locks`, `lot_waits` and `lot_permits`, over one table of words of all kinds (`lot_scheme`, `lot_whole`). Open a `Lot` with
-//! the values that its locks guard, start it under a name, let each thread register for its `Pass`, and lock: whoever gets a lock is handed
-//! its value as a `Held`, and spends it by an unlock.
+//! It stands on `lot_locks`, `lot_waits` and `lot_permits`, over one table of words of all kinds (`lot_scheme`,
+//! `lot_whole`). Open a `Lot` with the values that its locks guard, start it under a name, let each thread register for
+//! its `Pass`, and lock: whoever gets a lock is handed its value as a `Held`, and spends it by an unlock.
 //!
 //! | Call | Where nobody contends | Else |
 //! |---|---|---|
@@ -14,9 +14,9 @@
 //! | `notify_one`, `notify_some`, `notify_all` | nobody waits: one load | the first of the line are taken, told and woken |
 //! | `acquire`, `release` | a load and a compare-exchange | a sleep in the semaphore's line; its first is taken and woken |
 //!
-//! A pass is seen with the accesses to words that were made with it. Each call tells in its clause `made` which it added, as a word of
-//! `specs/Words` (and of the crates below); its other clauses are about all else of the pass (`≈`). `close` tells that the accesses of each
-//! pass are its thread's part, in order, of one run of the whole model.
+//! A pass is seen with the accesses to words that were made with it. Each call tells in its clause `made` which it
+//! added, as a word of `specs/Words` (and of the crates below); its other clauses are about all else of the pass (`≈`).
+//! `close` tells that the accesses of each pass are its thread's part, in order, of one run of the whole model.
 #![tactic(auto)]
 
 mod acquiring;

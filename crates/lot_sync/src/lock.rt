@@ -18,8 +18,8 @@ use lot_words::Keeps;
 use std::sync::Wait;
 
 impl<V: Keeps + Send, N: LotName<V> + Send> Lot<V, N> {
-    /// Gets the lock where nobody owns it, and else leaves all as it was. Where nobody owns it and nobody is parked, it is one
-    /// read-modify-write of the lock's word, and else two.
+    /// Gets the lock where nobody owns it, and else leaves all as it was. Where nobody owns it and nobody is parked, it
+    /// is one read-modify-write of the lock's word, and else two.
     #[inline(always)]
     pub fn try_lock(&self, pass: Pass<V, N>, key: usize) -> (Pass<V, N>, Option<Held<V, N>>)
         requires key { key < self.now.locks }
@@ -39,8 +39,8 @@ impl<V: Keeps + Send, N: LotName<V> + Send> Lot<V, N> {
         }
     }
 
-    /// Gets the lock, waiting for it where somebody owns it. Where nobody does and nobody is parked, it is one read-modify-write
-    /// of the lock's word.
+    /// Gets the lock, waiting for it where somebody owns it. Where nobody does and nobody is parked, it is one
+    /// read-modify-write of the lock's word.
     #[inline(always)]
     pub fn lock<R: Wait>(&self, rt: &R, pass: Pass<V, N>, key: usize) -> (Pass<V, N>, Held<V, N>)
         requires key { key < self.now.locks }
@@ -52,9 +52,9 @@ impl<V: Keeps + Send, N: LotName<V> + Send> Lot<V, N> {
         self.lock_after(rt, pass, key, &AtOnce)
     }
 
-    /// `lock` with an action before each sleep, for a runtime that has to know that its thread will sleep: `lot.lock_after(rt, pass, key,
-    /// &leave_the_processor)`. The thread is queued then and no bucket is locked; the action must not park. Where the lock is got without
-    /// a sleep it does not run.
+    /// `lock` with an action before each sleep, for a runtime that has to know that its thread will sleep:
+    /// `lot.lock_after(rt, pass, key, &leave_the_processor)`. The thread is queued then and no bucket is locked; the
+    /// action must not park. Where the lock is got without a sleep it does not run.
     #[inline(always)]
     pub fn lock_after<R: Wait, B: BeforeSleep>(
         &self,

@@ -30,7 +30,17 @@ impl<V: Keeps + Send, N: LotName<V> + Send> Model for Lot<V, N> {
 
     ghost view = { λ s. record { threads = s.threads; locks = s.locks; conds = s.conds; sems = s.sems } };
 
-    ghost invariant = { λ s. IsLot (record { opening = N.opening; first_sem = N.first_sem; permits = N.permits; locks = N.locks; conds = N.conds; threads = N.threads; values = N.values }) s.threads s.locks s.conds s.sems s.parking };
+    ghost invariant = { λ s.
+        IsLot
+        (record {
+          opening = N.opening;
+          first_sem = N.first_sem;
+          permits = N.permits;
+          locks = N.locks;
+          conds = N.conds;
+          threads = N.threads;
+          values = N.values;
+        }) s.threads s.locks s.conds s.sems s.parking };
 }
 
 impl<V: Keeps + Send, N: LotName<V> + Send> Lot<V, N> {
@@ -60,7 +70,8 @@ impl<V: Keeps + Send, N: LotName<V> + Send> Lot<V, N> {
     #[inline(always)]
     pub(crate) fn parking(&self) -> &ParkingLot<LotScheme<V, N>>
         ensures threads { (self.now.threads ≡ N.threads) × (result.now.threads ≡ N.threads) }
-        ensures keys { (self.now.locks ≡ N.locks) × (self.now.conds ≡ N.conds) × (self.now.sems ≡ length N.permits) × (N.first_sem ≡ N.locks + N.conds) × (N.locks ≡ length N.values) }
+        ensures keys { (self.now.locks ≡ N.locks) × (self.now.conds ≡ N.conds) × (self.now.sems ≡ length N.permits)
+            × (N.first_sem ≡ N.locks + N.conds) × (N.locks ≡ length N.values) }
         ensures all { result.now.keys ≡ self.now.locks + self.now.conds + self.now.sems }
     {
         &self.parking
@@ -140,8 +151,8 @@ impl<V: Keeps + Send, N: LotName<V> + Send> Lot<V, N> {
         is_held(self.parking().scheme(), key)
     }
 
-    /// Whether the lock is marked as parked at some moment of this call: somebody may wait in its line, and who lets it go looks there. It is
-    /// an observation: nothing is promised of it.
+    /// Whether the lock is marked as parked at some moment of this call: somebody may wait in its line, and who lets it
+    /// go looks there. It is an observation: nothing is promised of it.
     pub fn is_parked(&self, key: usize) -> bool
         requires { key < self.now.locks }
     {

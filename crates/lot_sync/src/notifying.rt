@@ -14,7 +14,8 @@ use lot_words::Keeps;
 use std::sync::Wait;
 
 impl<V: Keeps + Send, N: LotName<V> + Send> Lot<V, N> {
-    /// Whether somebody may wait on the condition at some moment of this call. It is an observation: nothing is promised of it.
+    /// Whether somebody may wait on the condition at some moment of this call. It is an observation: nothing is
+    /// promised of it.
     #[inline(always)]
     pub fn has_waiters(&self, pass: Pass<V, N>, cond: usize) -> (Pass<V, N>, bool)
         requires cond { IsCond self.now cond }
@@ -28,8 +29,8 @@ impl<V: Keeps + Send, N: LotName<V> + Send> Lot<V, N> {
         (self.at_rest(right, tallies), has)
     }
 
-    /// Takes the first thread of the condition's line, if any, and answers whether it took one. Where nobody waits it is one load, and
-    /// no bucket is locked.
+    /// Takes the first thread of the condition's line, if any, and answers whether it took one. Where nobody waits it
+    /// is one load, and no bucket is locked.
     #[inline(always)]
     pub fn notify_one<R: Wait>(
         &self,
@@ -50,9 +51,10 @@ impl<V: Keeps + Send, N: LotName<V> + Send> Lot<V, N> {
         (self.at_rest(right, tallies), taken)
     }
 
-    /// Takes the first `count` threads of the condition's line, or all where they are fewer, in one visit of the bucket, and answers how
-    /// many they were; `count` is 1 to 256. Where nobody waits it is one load, and no bucket is locked. After a change that so many
-    /// threads wait for, as after putting three items: `let (pass, woken) = lot.notify_some(rt, pass, cond, 3);`
+    /// Takes the first `count` threads of the condition's line, or all where they are fewer, in one visit of the
+    /// bucket, and answers how many they were; `count` is 1 to 256. Where nobody waits it is one load, and no bucket is
+    /// locked. After a change that so many threads wait for, as after putting three items:
+    /// `let (pass, woken) = lot.notify_some(rt, pass, cond, 3);`
     #[inline(always)]
     pub fn notify_some<R: Wait>(
         &self,
@@ -75,7 +77,8 @@ impl<V: Keeps + Send, N: LotName<V> + Send> Lot<V, N> {
         (self.at_rest(right, tallies), some)
     }
 
-    /// Takes all threads of the condition's line, and answers how many. Where nobody waits it is one load, and no bucket is locked.
+    /// Takes all threads of the condition's line, and answers how many. Where nobody waits it is one load, and no
+    /// bucket is locked.
     #[inline(always)]
     pub fn notify_all<R: Wait>(&self, rt: &R, pass: Pass<V, N>, cond: usize) -> (Pass<V, N>, usize)
         requires cond { IsCond self.now cond }

@@ -10,8 +10,8 @@ use lot_words::Keeps;
 use std::alloc::Global;
 use std::marker::Model;
 
-/// A lot whose words are open and which has no name yet: call `start` in a function that is generic over a `LotName`. Contracts see what its
-/// name will tell of it.
+/// A lot whose words are open and which has no name yet: call `start` in a function that is generic over a `LotName`.
+/// Contracts see what its name will tell of it.
 pub struct Opened<V: Keeps + Send> {
     pub(crate) words: LotWords<V>,
     pub(crate) passes: Vec<LotPass<V>>,
@@ -45,7 +45,8 @@ impl<V: Keeps + Send, N: LotName<V> + Send> Lot<V, N> {
         conds: usize,
     ) -> Result<Opened<V>, (OpenFault, Vec<V>)>
         requires { KeepAll V.keeps values.items }
-        ensures opened { IfOk result (λ o. (o.threads ≡ threads) × (o.values ≡ values.items) × (o.conds ≡ conds) × (o.first_sem ≡ vec_len values + conds) × (o.permits ≡ [])) }
+        ensures opened { IfOk result (λ o. (o.threads ≡ threads) × (o.values ≡ values.items) × (o.conds ≡ conds)
+            × (o.first_sem ≡ vec_len values + conds) × (o.permits ≡ [])) }
         ensures limits { IfOk result (λ _. IsThreadCount threads × IsKeyCount (vec_len values) conds 0) }
         ensures fault { IfErr result (λ e. Refuses threads (vec_len values) conds 0 e.0) }
         ensures back { IfErr result (λ e. e.1.items ≡ values.items) }
@@ -53,9 +54,9 @@ impl<V: Keeps + Send, N: LotName<V> + Send> Lot<V, N> {
         Lot::<V, N>::open_with(alloc, threads, values, conds, &[])
     }
 
-    /// Opens the words of a lot for so many threads, with a lock for each value, so many conditions and a semaphore for each number of
-    /// permits. The numbers of the conditions follow the locks', and those of the semaphores the conditions'. Call it at std's `Brand`
-    /// for N, and then `start` in a function that is generic over the name.
+    /// Opens the words of a lot for so many threads, with a lock for each value, so many conditions and a semaphore for
+    /// each number of permits. The numbers of the conditions follow the locks', and those of the semaphores the
+    /// conditions'. Call it at std's `Brand` for N, and then `start` in a function that is generic over the name.
     ///
     /// `BadThreads`, `BadKeys` and `NoMemory` are tested in this order, and the values come back with each.
     pub fn open_with(
@@ -66,8 +67,10 @@ impl<V: Keeps + Send, N: LotName<V> + Send> Lot<V, N> {
         permits: &[u32],
     ) -> Result<Opened<V>, (OpenFault, Vec<V>)>
         requires { KeepAll V.keeps values.items }
-        ensures opened { IfOk result (λ o. (o.threads ≡ threads) × (o.values ≡ values.items) × (o.conds ≡ conds) × (o.first_sem ≡ vec_len values + conds) × (o.permits ≡ permits.now)) }
-        ensures limits { IfOk result (λ _. IsThreadCount threads × IsKeyCount (vec_len values) conds (length permits.now)) }
+        ensures opened { IfOk result (λ o. (o.threads ≡ threads) × (o.values ≡ values.items) × (o.conds ≡ conds)
+            × (o.first_sem ≡ vec_len values + conds) × (o.permits ≡ permits.now)) }
+        ensures limits { IfOk result (λ _. IsThreadCount threads
+            × IsKeyCount (vec_len values) conds (length permits.now)) }
         ensures fault { IfErr result (λ e. Refuses threads (vec_len values) conds (length permits.now) e.0) }
         ensures back { IfErr result (λ e. e.1.items ≡ values.items) }
     {

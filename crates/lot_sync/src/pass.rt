@@ -22,7 +22,16 @@ impl<V: Keeps + Send, N: LotName<V> + Send> Model for Pass<V, N> {
 
     ghost view = { λ s. pass_view_of s.right };
 
-    ghost invariant = { λ s. IsAtRest V.grows (record { opening = N.opening; first_sem = N.first_sem; permits = N.permits; locks = N.locks; conds = N.conds; threads = N.threads; values = N.values }) s.right × AreCounted N.locks N.conds s.right s.tallies.value };
+    ghost invariant = { λ s. IsAtRest V.grows
+        (record {
+          opening = N.opening;
+          first_sem = N.first_sem;
+          permits = N.permits;
+          locks = N.locks;
+          conds = N.conds;
+          threads = N.threads;
+          values = N.values;
+        }) s.right × AreCounted N.locks N.conds s.right s.tallies.value };
 }
 
 impl<V: Keeps + Send, N: LotName<V> + Send> Pass<V, N> {

@@ -1,5 +1,6 @@
 //! The passes that are in, and the room that closing a lot will want.
-ghost use Rattle.std.specs.Prelude.{◌≡◌, ◌+◌, ◌-◌, ◌<◌, ◌≤◌, length, vec_len, vec_capacity, IfSome, MatchOption, IsTrue, ◌↔◌};
+ghost use Rattle.std.specs.Prelude.{◌≡◌, ◌+◌, ◌-◌, ◌<◌, ◌≤◌, length, vec_len, vec_capacity, IfSome, MatchOption};
+ghost use Rattle.std.specs.Prelude.{IsTrue, ◌↔◌};
 ghost use Rattle.lot_waits.specs.Ledger.{AreZeros};
 ghost use Rattle.lot_sync.specs.Lot.{OwnsNone, rested};
 
@@ -56,7 +57,8 @@ pub(crate) struct ClosingRoom<V: Keeps + Send, N: LotName<V> + Send> {
     sums: Tallies,
     ghost empty: { (vec_len passes ≡ 0) × (vec_len roots ≡ 0) × (vec_len named ≡ 0) },
     ghost for_passes: { N.threads ≤ vec_capacity passes },
-    ghost for_roots: { (N.first_sem + length N.permits ≤ vec_capacity roots) × (N.first_sem + length N.permits ≤ vec_capacity named) },
+    ghost for_roots: { (N.first_sem + length N.permits ≤ vec_capacity roots)
+        × (N.first_sem + length N.permits ≤ vec_capacity named) },
     ghost zeros: { AreZeros N.conds sums },
 }
 
@@ -70,7 +72,8 @@ impl<V: Keeps + Send, N: LotName<V> + Send> ClosingRoom<V, N> {
     ) -> ClosingRoom<V, N>
         requires empty { (vec_len passes ≡ 0) × (vec_len roots ≡ 0) × (vec_len named ≡ 0) }
         requires for_passes { N.threads ≤ vec_capacity passes }
-        requires for_roots { (N.first_sem + length N.permits ≤ vec_capacity roots) × (N.first_sem + length N.permits ≤ vec_capacity named) }
+        requires for_roots { (N.first_sem + length N.permits ≤ vec_capacity roots)
+            × (N.first_sem + length N.permits ≤ vec_capacity named) }
         requires zeros { AreZeros N.conds sums }
     {
         ClosingRoom {
@@ -92,7 +95,8 @@ impl<V: Keeps + Send, N: LotName<V> + Send> ClosingRoom<V, N> {
     )
         ensures empty { (vec_len result.0 ≡ 0) × (vec_len result.1 ≡ 0) × (vec_len result.2 ≡ 0) }
         ensures for_passes { N.threads ≤ vec_capacity result.0 }
-        ensures for_roots { (N.first_sem + length N.permits ≤ vec_capacity result.1) × (N.first_sem + length N.permits ≤ vec_capacity result.2) }
+        ensures for_roots { (N.first_sem + length N.permits ≤ vec_capacity result.1)
+            × (N.first_sem + length N.permits ≤ vec_capacity result.2) }
         ensures zeros { AreZeros N.conds result.3 }
     {
         let ClosingRoom {
@@ -135,7 +139,8 @@ impl<V: Keeps + Send, N: LotName<V> + Send> Pool<V, N> {
     pub(crate) fn take_least(&mut self) -> Option<Pass<V, N>>
         ensures free { IfSome result OwnsNone }
         ensures rests { IfSome result (λ pass. V.rests (rested pass)) }
-        ensures fewer { MatchOption result ((self.old ≡ 0) × (self.new ≡ 0)) (λ _. (self.new + 1 ≡ self.old) × (self.new < N.threads)) }
+        ensures fewer { MatchOption result ((self.old ≡ 0) × (self.new ≡ 0))
+            (λ _. (self.new + 1 ≡ self.old) × (self.new < N.threads)) }
     {
         if self.idle.is_empty() {
             return None;
@@ -176,7 +181,8 @@ impl<V: Keeps + Send, N: LotName<V> + Send> Pool<V, N> {
         self.idle.push_reserved(Idle::new(pass));
     }
 
-    /// The room for closing, once no pass is in. Who closes a lot has all passes, so none is: what no lock's type can say is tested here.
+    /// The room for closing, once no pass is in. Who closes a lot has all passes, so none is: what no lock's type can
+    /// say is tested here.
     pub(crate) fn into_room<R: Wait>(self, rt: &R) -> ClosingRoom<V, N> {
         let Pool { idle, room } = self;
         if idle.is_empty() {

@@ -14,7 +14,8 @@ use std::sync::{MutexGuard, Wait};
 use std::thread;
 
 impl<V: Keeps + Send, N: LotName<V> + Send> Lot<V, N> {
-    /// Gives the pass of the least number that is in, and lets the table of buckets grow for the passes that are out with it.
+    /// Gives the pass of the least number that is in, and lets the table of buckets grow for the passes that are out
+    /// with it.
     ///
     /// `Full` where all passes are out; `NoMemory` where the table could not grow, and then the pass is in again.
     pub fn register<R: Wait>(&self, rt: &R) -> Result<Pass<V, N>, RegisterFault>
@@ -36,7 +37,8 @@ impl<V: Keeps + Send, N: LotName<V> + Send> Lot<V, N> {
         }
     }
 
-    /// Takes a pass back, which keeps what passes that are in keep. It is given again to the next thread that registers where it has the least number.
+    /// Takes a pass back, which keeps what passes that are in keep. It is given again to the next thread that registers
+    /// where it has the least number.
     pub fn leave<R: Wait>(&self, rt: &R, pass: Pass<V, N>)
         requires free { OwnsNone pass }
         requires rests { V.rests (rested pass) }
@@ -77,8 +79,8 @@ impl<V: Keeps + Send, N: LotName<V> + Send> Lot<V, N> {
     }
 }
 
-/// Takes the pass of the least number, and gives it back where the table can't grow. No other thread registers meanwhile. A pass
-/// comes with what the table answered, which has three buckets for each pass that is out.
+/// Takes the pass of the least number, and gives it back where the table can't grow. No other thread registers
+/// meanwhile. A pass comes with what the table answered, which has three buckets for each pass that is out.
 fn register_in<V: Keeps + Send, N: LotName<V> + Send, R: Wait>(
     rt: &R,
     parking: &ParkingLot<LotScheme<V, N>>,

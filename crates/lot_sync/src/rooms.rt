@@ -76,7 +76,8 @@ pub(crate) fn name_roots<V: Keeps + Send, N: LotName<V> + Send>(
     roots: &mut Vec<LotRoot<V>>,
     named: &mut Vec<NamedRoot<V, N>>,
 )
-    requires own { All (λ (r : RootShown LotRootView). (r.table ≡ N.opening.locks) × IsInItsKind N.locks N.first_sem r.root.key r.root.own) roots.old.items }
+    requires own { All (λ (r : RootShown LotRootView). (r.table ≡ N.opening.locks)
+        × IsInItsKind N.locks N.first_sem r.root.key r.root.own) roots.old.items }
     requires room { (vec_len named.old ≡ 0) × (vec_len roots.old ≤ vec_capacity named.old) }
     ensures same { named.new.items ≡ roots.old.items }
     ensures empty { (vec_len roots.new ≡ 0) × (vec_capacity roots.new ≡ vec_capacity roots.old) }
@@ -121,7 +122,8 @@ fn make_idle<V: Keeps + Send, N: LotName<V> + Send>(
     Idle::new(pass)
 }
 
-/// The pool of all passes, each with what is kept of its counts. The lists that are empty then are the room for closing.
+/// The pool of all passes, each with what is kept of its counts. The lists that are empty then are the room for
+/// closing.
 pub(crate) fn pool_of<V: Keeps + Send, N: LotName<V> + Send>(
     mut passes: Vec<LotPass<V>>,
     mut tallies: Vec<Box<Tallies>>,
@@ -136,7 +138,8 @@ pub(crate) fn pool_of<V: Keeps + Send, N: LotName<V> + Send>(
     requires rests { (p : PassView V) → Starts N.values N.threads p → V.rests (rested p) }
     requires empty { (vec_len idle ≡ 0) × (vec_len roots ≡ 0) × (vec_len named ≡ 0) }
     requires for_passes { (N.threads ≤ vec_capacity idle) × (N.threads ≤ vec_capacity passes) }
-    requires for_roots { (N.first_sem + length N.permits ≤ vec_capacity roots) × (N.first_sem + length N.permits ≤ vec_capacity named) }
+    requires for_roots { (N.first_sem + length N.permits ≤ vec_capacity roots)
+        × (N.first_sem + length N.permits ≤ vec_capacity named) }
     requires zeros { AreZeros N.conds sums }
     ensures { result ≡ vec_len passes }
 {

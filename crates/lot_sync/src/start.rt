@@ -23,7 +23,8 @@ pub(crate) fn close_unused<V: Keeps + Send>(
     passes: Vec<LotPass<V>>,
     roots: Vec<LotRoot<V>>,
 ) -> Vec<V>
-    requires unused { (threads locks conds sems : ℕ) × IsOpened V.Keeps words passes.items roots.items threads locks conds sems }
+    requires unused { (threads locks conds sems : ℕ)
+        × IsOpened V.Keeps words passes.items roots.items threads locks conds sems }
     ensures { result.items ≡ words.values }
 {
     words.close(passes, roots)
@@ -46,8 +47,8 @@ impl<V: Keeps + Send> Opened<V> {
         close_unused(words, passes, roots)
     }
 
-    /// Starts the lot under the name N: its passes are in, its locks are free, nobody waits on its conditions, and all permits are left.
-    /// A pass that starts has to keep what passes that are in keep.
+    /// Starts the lot under the name N: its passes are in, its locks are free, nobody waits on its conditions, and all
+    /// permits are left. A pass that starts has to keep what passes that are in keep.
     ///
     /// `NoMemory` where a request for memory was refused: the opening values come back.
     pub fn start<N: LotName<V> + Send>(
@@ -56,7 +57,8 @@ impl<V: Keeps + Send> Opened<V> {
     ) -> Result<Lot<V, N>, (OpenFault, Vec<V>)>
         requires named { IsNamed N.LotName self }
         requires rests { (p : PassView V) → Starts self.values self.threads p → V.rests (rested p) }
-        ensures lot { IfOk result (λ lot. (lot.threads ≡ self.threads) × (lot.locks ≡ length self.values) × (lot.conds ≡ self.conds) × (lot.sems ≡ length self.permits)) }
+        ensures lot { IfOk result (λ lot. (lot.threads ≡ self.threads) × (lot.locks ≡ length self.values)
+            × (lot.conds ≡ self.conds) × (lot.sems ≡ length self.permits)) }
         ensures back { IfErr result (λ e. (e.0 ≡ OpenFault.NoMemory) × (e.1.items ≡ self.values)) }
     {
         match Rooms::<V, N>::new(alloc, self.threads, self.roots.len(), self.conds) {
@@ -73,7 +75,8 @@ fn started<V: Keeps + Send, N: LotName<V> + Send>(
 ) -> Result<Lot<V, N>, (OpenFault, Vec<V>)>
     requires named { IsNamed N.LotName opened }
     requires rests { (p : PassView V) → Starts opened.values opened.threads p → V.rests (rested p) }
-    ensures lot { IfOk result (λ lot. (lot.threads ≡ opened.threads) × (lot.locks ≡ length opened.values) × (lot.conds ≡ opened.conds) × (lot.sems ≡ length opened.permits)) }
+    ensures lot { IfOk result (λ lot. (lot.threads ≡ opened.threads) × (lot.locks ≡ length opened.values)
+        × (lot.conds ≡ opened.conds) × (lot.sems ≡ length opened.permits)) }
     ensures back { IfErr result (λ e. (e.0 ≡ OpenFault.NoMemory) × (e.1.items ≡ opened.values)) }
 {
     let Opened {

@@ -1,5 +1,5 @@
-//! Letting a lock go, as WTF's `Lock::unlock` does: one compare-exchange where nobody waits, else one sleeper is taken from
-//! the line, and the lock is handed to it or left to whoever comes first.
+//! Letting a lock go, as WTF's `Lock::unlock` does: one compare-exchange where nobody waits, else one sleeper is taken
+//! from the line, and the lock is handed to it or left to whoever comes first.
 ghost use Rattle.std.specs.Prelude.{◌≡◌, ◌⊎◌, ◌<◌, true, false, MatchOption, IfNone, is_none, length};
 ghost use Rattle.lot_sync.specs.Lot.{◌≈◌, Owns, HasSeen, HasShape, letting_go};
 ghost use Rattle.lot_sync.specs.Words.{Adds, UnparkedWord};
@@ -22,7 +22,8 @@ use std::sync::Wait;
 impl<V: Keeps + Send, N: LotName<V> + Send> Lot<V, N> {
     /// Lets the lock go. Where nobody is parked it is one read-modify-write of the lock's word.
     ///
-    /// The moment is looked at only where somebody is parked: a caller that has to ask a clock for it calls `unlock_asking`.
+    /// The moment is looked at only where somebody is parked: a caller that has to ask a clock for it calls
+    /// `unlock_asking`.
     #[inline(always)]
     pub fn unlock<R: Wait>(
         &self,
@@ -43,8 +44,8 @@ impl<V: Keeps + Send, N: LotName<V> + Send> Lot<V, N> {
         self.unlock_as(rt, pass, held, moment, false)
     }
 
-    /// Lets the lock go, and asks for the moment only where somebody is parked, as WTF's `Lock::unlock` reads the clock there
-    /// alone: `lot.unlock_asking(rt, pass, held, || now())`.
+    /// Lets the lock go, and asks for the moment only where somebody is parked, as WTF's `Lock::unlock` reads the clock
+    /// there alone: `lot.unlock_asking(rt, pass, held, || now())`.
     #[inline(always)]
     pub fn unlock_asking<R: Wait, M: FnOnce() -> Moment>(
         &self,
@@ -102,7 +103,8 @@ impl<V: Keeps + Send, N: LotName<V> + Send> Lot<V, N> {
         requires key { held.key < self.now.locks }
         requires owns { Owns pass held.key }
         requires back { MayGiveBack V.Keeps pass held }
-        ensures freed { MatchOption result.1 (result.0 ≈ letting_go pass held.key held.value) (λ back. (back ≡ held) × (result.0 ≈ pass)) }
+        ensures freed { MatchOption result.1 (result.0 ≈ letting_go pass held.key held.value)
+            (λ back. (back ≡ held) × (result.0 ≈ pass)) }
         ensures made { Adds pass.made (UnparkedWord pass.thread held.key (is_none result.1)) result.0.made }
         ensures shape { HasShape self.now result.0 }
         ensures seen { IfNone result.1 (HasSeen result.0 held.key held.value) }

@@ -1,5 +1,5 @@
-//! Waiting on a condition, as WTF's `Condition::wait` does: the thread is queued and its lock let go, and when a notification has taken
-//! it from the line it gets the lock again.
+//! Waiting on a condition, as WTF's `Condition::wait` does: the thread is queued and its lock let go, and when a
+//! notification has taken it from the line it gets the lock again.
 ghost use Rattle.std.specs.Prelude.{◌<◌};
 ghost use Rattle.lot_sync.specs.Lot.{Owns, HasShape, IsCond};
 ghost use Rattle.lot_sync.specs.Values.{MayGiveBack, WaitsAndGets};
@@ -15,10 +15,11 @@ use lot_words::Keeps;
 use std::sync::Wait;
 
 impl<V: Keeps + Send, N: LotName<V> + Send> Lot<V, N> {
-    /// Lets the lock go, waits on the condition until a notification takes the thread, and gets the lock again. The lock is let go when
-    /// the thread is in the condition's line, so no notification is missed that comes after it.
+    /// Lets the lock go, waits on the condition until a notification takes the thread, and gets the lock again. The
+    /// lock is let go when the thread is in the condition's line, so no notification is missed that comes after it.
     ///
-    /// The moment is that of the unlock. What the caller waited for may be gone again when the lock is got: wait in a loop.
+    /// The moment is that of the unlock. What the caller waited for may be gone again when the lock is got: wait in a
+    /// loop.
     pub fn wait<R: Wait>(
         &self,
         rt: &R,
@@ -38,8 +39,8 @@ impl<V: Keeps + Send, N: LotName<V> + Send> Lot<V, N> {
         self.wait_after(rt, pass, held, cond, moment, &AtOnce)
     }
 
-    /// `wait` with an action after the thread is queued on the condition, before its lock is let go; it must not park. How the lock is got
-    /// again is `lock`'s way, without it.
+    /// `wait` with an action after the thread is queued on the condition, before its lock is let go; it must not park.
+    /// How the lock is got again is `lock`'s way, without it.
     pub fn wait_after<R: Wait, B: BeforeSleep>(
         &self,
         rt: &R,

@@ -1,5 +1,6 @@
 -- How the buckets of a new table are made.
-use Rattle.std.proofs.Common.{◌≡◌, ℕ, ◌+◌, ◌-◌, ◌*◌, ◌/◌, ◌<◌, ◌≤◌, ◌%◌, ◌&&◌, true, false, inl, inr, List, [], ◌∷◌, ◌++◌, length, get_or, Option, None, refl, sym, ◌∙◌, ap, arith, length-append}
+use Rattle.std.proofs.Common.{◌≡◌, ℕ, ◌+◌, ◌-◌, ◌*◌, ◌/◌, ◌<◌, ◌≤◌, ◌%◌, ◌&&◌, true, false, inl, inr, List, [], ◌∷◌, ◌++◌, length, get_or}
+use Rattle.std.proofs.Common.{Option, None, refl, sym, ◌∙◌, ap, arith, length-append}
 use Rattle.std.specs.Prelude.{nat_lt, ◌==◌}
 use Rattle.std.proofs.lemmas.Bool.{lt-ltb, le-ltb}
 use Rattle.std.proofs.lemmas.Bool.Decides.{eqb_tells, leb_tells}
@@ -43,7 +44,8 @@ each_rest {A} P xs ys x is each i d lt =
     rw here at (each i d l)
 
 -- the keys of a bucket, counted
-module _ (R : Type 0) (size number keys left count : ℕ) (lt : number < size) (from : left ≡ keys - number) (counted : count ≡ div_ceil left size) where
+module _ (R : Type 0) (size number keys left count : ℕ) (lt : number < size) (from : left ≡ keys - number)
+    (counted : count ≡ div_ceil left size) where
   abbrev pub places : List (ℕ × Option R)
   places = empty_places (spaced number size count)
 
@@ -54,7 +56,8 @@ module _ (R : Type 0) (size number keys left count : ℕ) (lt : number < size) (
   bounds = rw counted (div_ceil_times left size (omega arith))
 
   last_below : (j : ℕ) → j < count → number + j * size < keys
-  last_below j l = let more : (j + 1) * size ≤ count * size = mul-le-mul_right size (let h : j + 1 ≤ count = omega arith in h) in omega (arith, bounds.1)
+  last_below j l =
+      let more : (j + 1) * size ≤ count * size = mul-le-mul_right size (let h : j + 1 ≤ count = omega arith in h) in omega (arith, bounds.1)
 
   pub last_fits : (limit : ℕ) → number < limit → keys < limit → number + (count - 1) * size < limit
   last_fits limit few many =
@@ -71,13 +74,19 @@ module _ (R : Type 0) (size number keys left count : ℕ) (lt : number < size) (
         | inl e ↦
             elim (leb_tells keys k) [
               | inl f ↦
-                  rw (e.0, le-ltb k keys f.1) (even_without number size k places even (λ j l same. let below : number + j * size < keys = last_below j (omega (arith, count_of, l)) in omega arith))
+                  rw (e.0, le-ltb k keys f.1)
+                  (even_without number size k places even (λ j l same. let below : number + j * size < keys =
+                  last_below j (omega (arith, count_of, l)) in omega arith))
               | inr f ↦
                   let at : number + k / size * size ≡ k = ap (λ n. n + k / size * size) (sym e.1) ∙ mod-add-div' k size in
                   let here : k / size < count = within k (k / size) at f.1 in
-                  rw (e.0, lt-ltb k keys f.1) (even_place number size k (k / size) places (omega arith) even (omega (arith, count_of, here)) at).has
+                  rw (e.0, lt-ltb k keys f.1)
+                  (even_place number size k (k / size) places (omega arith) even (omega (arith, count_of, here)) at).has
             ]
-        | inr e ↦ rw e.0 (even_without number size k places even (λ j l same. e.1 (ap (λ n. n % size) (sym same) ∙ add-mul-mod_self_right number j size ∙ mod-eq_of_lt lt)))
+        | inr e ↦
+            rw e.0
+            (even_without number size k places even (λ j l same.
+            e.1 (ap (λ n. n % size) (sym same) ∙ add-mul-mod_self_right number j size ∙ mod-eq_of_lt lt)))
       ]
     where
       within : (m j : ℕ) → number + j * size ≡ m → m < keys → j < count
@@ -87,7 +96,8 @@ module _ (R : Type 0) (size number keys left count : ℕ) (lt : number < size) (
             | inr e ↦ e.1
           ]
 
-  pub fresh_made : (threads : ℕ) (b : Contents R) → b ≡ record { room = threads; places = places; queue = []; opened = false; next_fair = 0 } → IsFresh size number keys threads b
+  pub fresh_made : (threads : ℕ) (b : Contents R)
+      → b ≡ record { room = threads; places = places; queue = []; opened = false; next_fair = 0 } → IsFresh size number keys threads b
   fresh_made threads b is =
       let same : b.places ≡ places = ap (λ (c : Contents R). c.places) is in
       record {
@@ -102,4 +112,5 @@ module _ (R : Type 0) (size number keys left count : ℕ) (lt : number < size) (
 pub opened_whole : {R : Type 0} (view : R → KeyLine) (size number keys : ℕ) (b c : Contents R) → IsFilled view size number keys b
     → c ≡ record b { opened = true } → IsWhole view size number keys c
 opened_whole view size number keys b c filled is =
-    rw is (record { is_open = refl; agrees = record { roots = filled.agrees.roots; pairs = filled.agrees.pairs }; laid_out = filled.laid_out })
+    rw is
+    (record { is_open = refl; agrees = record { roots = filled.agrees.roots; pairs = filled.agrees.pairs }; laid_out = filled.laid_out })

@@ -1,5 +1,6 @@
 -- What has become of the buckets while keys are moved from the old ones to the new ones.
-use Rattle.std.proofs.Common.{◌≡◌, ◌≢◌, ℕ, suc, ◌+◌, ◌<◌, ◌≤◌, ◌%◌, ◌&&◌, true, false, inl, inr, List, [], ◌∷◌, ◌++◌, length, map, get_or, set, Option, Some, None, IsSome, refl, sym, ◌∙◌, ap}
+use Rattle.std.proofs.Common.{◌≡◌, ◌≢◌, ℕ, suc, ◌+◌, ◌<◌, ◌≤◌, ◌%◌, ◌&&◌, true, false, inl, inr, List, [], ◌∷◌, ◌++◌, length, map, get_or}
+use Rattle.std.proofs.Common.{set, Option, Some, None, IsSome, refl, sym, ◌∙◌, ap}
 use Rattle.std.proofs.Common.{subst, arith, append-nil, append_assoc, drop, Bool, eq-eqb, length-append, get_or-set_same, get_or-set_other}
 use Rattle.std.specs.Prelude.{nat_lt, ◌==◌, is_some}
 use Rattle.std.proofs.Math.Bool.{and-false}
@@ -16,7 +17,8 @@ use Rattle.lot_bucket.specs.Taking.{TakesOne}
 use Rattle.lot_bucket.specs.declared.taking.Moment.{Moment}
 use Rattle.lot_bucket.specs.declared.taking.Dequeued.{Dequeued}
 use Rattle.lot_bucket.proofs.Slots.{rootless}
-use Rattle.lot_bucket.proofs.Laws.{line_of-without_count_same, without_key-without_first, without_key_none, first_of_line, line_of-without_key_same, line_of-without_key_other, line_fits}
+use Rattle.lot_bucket.proofs.Laws.{line_of-without_count_same, without_key-without_first, without_key_none, first_of_line}
+use Rattle.lot_bucket.proofs.Laws.{line_of-without_key_same, line_of-without_key_other, line_fits}
 use Rattle.lot_bucket.proofs.Laws.{root_at-with_same, root_at-with_other, has_key-with}
 use Rattle.lot_table.specs.Buckets.{bucket_of, queued, KeepsLines, AreWhole, AreFilled, AreEmpty, MayRegrow}
 
@@ -51,7 +53,8 @@ length-without_key k (p ∷ queue) =
     ]
 
 -- where a queue is empty everywhere, nobody waits at all
-pub none_queued : {R : Type 0} (buckets : List (Contents R)) → ((i : ℕ) (d : Contents R) → i < length buckets → (get_or buckets i d).queue ≡ []) → queued buckets ≡ 0
+pub none_queued : {R : Type 0} (buckets : List (Contents R))
+    → ((i : ℕ) (d : Contents R) → i < length buckets → (get_or buckets i d).queue ≡ []) → queued buckets ≡ 0
 none_queued {R = R} [] none = refl
 none_queued {R = R} (b ∷ buckets) none =
     sum_by-cons (λ (x : Contents R). length x.queue) b buckets
@@ -68,9 +71,11 @@ no_first [] none = refl
 no_first (t ∷ line) none = absurd cc
 
 -- at the moment 0 nobody is served fairly
-pub taken_never : {R : Type 0} (k : ℕ) (moment : Moment) (b c : Contents R) (t : Dequeued) → moment.now ≡ 0 → TakesOne k moment b c t → c ≡ record b { queue = without_first k b.queue }
+pub taken_never : {R : Type 0} (k : ℕ) (moment : Moment) (b c : Contents R) (t : Dequeued) → moment.now ≡ 0 → TakesOne k moment b c t
+    → c ≡ record b { queue = without_first k b.queue }
 taken_never k moment b c t never takes =
-    let unfair : t.fair ≡ false = takes.fair ∙ rw (never, le-ltb b.next_fair 0 (omega arith)) (and-false (is_some (first_of (line_of k b.queue)))) in
+    let unfair : t.fair ≡ false =
+    takes.fair ∙ rw (never, le-ltb b.next_fair 0 (omega arith)) (and-false (is_some (first_of (line_of k b.queue)))) in
     rw unfair at takes.left
 
 module _ {R : Type 0} where
@@ -82,26 +87,38 @@ module _ {R : Type 0} where
     pub to_is : to ≡ record to0 { queue = to.queue }
     pub room : length to.queue + length (line_of k from.queue) ≤ to.room
 
-  first_moves : (k t : ℕ) (from : Contents R) → first_of (line_of k from.queue) ≡ Some t → line_of k from.queue ≡ t ∷ line_of k (without_first k from.queue)
-  first_moves k t from first = first_of_line t (line_of k from.queue) (sym first) ∙ ap (λ l. t ∷ l) (sym (line_of-without_count_same 1 k from.queue))
+  first_moves : (k t : ℕ) (from : Contents R) → first_of (line_of k from.queue) ≡ Some t
+      → line_of k from.queue ≡ t ∷ line_of k (without_first k from.queue)
+  first_moves k t from first =
+      first_of_line t (line_of k from.queue) (sym first) ∙ ap (λ l. t ∷ l) (sym (line_of-without_count_same 1 k from.queue))
 
-  pub moving_smaller : (k t : ℕ) (from b : Contents R) → first_of (line_of k from.queue) ≡ Some t → b ≡ record from { queue = without_first k from.queue }
+  pub moving_smaller : (k t : ℕ) (from b : Contents R) → first_of (line_of k from.queue) ≡ Some t
+      → b ≡ record from { queue = without_first k from.queue }
       → length (line_of k b.queue) < length (line_of k from.queue)
   moving_smaller k t from b first taken =
-      let e : length (line_of k from.queue) ≡ suc (length (line_of k (without_first k from.queue))) = ap (λ (l : List ℕ). length l) (first_moves k t from first) in
+      let e : length (line_of k from.queue) ≡ suc (length (line_of k (without_first k from.queue))) =
+      ap (λ (l : List ℕ). length l) (first_moves k t from first) in
       rw (ap (λ (x : Contents R). x.queue) taken) (omega (arith, e))
 
   pub moving_more : (k t : ℕ) (from0 to0 from to b c : Contents R) → IsMoving k from0 to0 from to → first_of (line_of k from.queue) ≡ Some t
-      → b ≡ record from { queue = without_first k from.queue } → c ≡ record to { queue = to.queue ++ (t, k) ∷ [] } → IsMoving k from0 to0 b c
+      → b ≡ record from { queue = without_first k from.queue } → c ≡ record to { queue = to.queue ++ (t, k) ∷ [] }
+      → IsMoving k from0 to0 b c
   moving_more k t from0 to0 from to b c i first taken put =
       record {
-        line = rw (from_queue, to_queue) (append_assoc to.queue ((t, k) ∷ []) (map (λ (t : ℕ). (t, k)) (line_of k (without_first k from.queue)))
+        line =
+            rw (from_queue, to_queue)
+            (append_assoc to.queue ((t, k) ∷ []) (map (λ (t : ℕ). (t, k)) (line_of k (without_first k from.queue)))
             ∙ ap (λ (l : List ℕ). to.queue ++ map (λ (t : ℕ). (t, k)) l) (sym step) ∙ i.line);
         others = rw from_queue (without_key-without_first k from.queue ∙ i.others);
-        from_is = taken ∙ ap (λ (x : Contents R). record x { queue = without_first k from.queue }) i.from_is ∙ ap (λ (q : List (ℕ × ℕ)). record from0 { queue = q }) (sym from_queue);
-        to_is = put ∙ ap (λ (x : Contents R). record x { queue = to.queue ++ (t, k) ∷ [] }) i.to_is ∙ ap (λ (q : List (ℕ × ℕ)). record to0 { queue = q }) (sym to_queue);
+        from_is =
+            taken ∙ ap (λ (x : Contents R). record x { queue = without_first k from.queue }) i.from_is
+            ∙ ap (λ (q : List (ℕ × ℕ)). record from0 { queue = q }) (sym from_queue);
+        to_is =
+            put ∙ ap (λ (x : Contents R). record x { queue = to.queue ++ (t, k) ∷ [] }) i.to_is
+            ∙ ap (λ (q : List (ℕ × ℕ)). record to0 { queue = q }) (sym to_queue);
         room =
-            let e : length (line_of k from.queue) ≡ suc (length (line_of k (without_first k from.queue))) = ap (λ (l : List ℕ). length l) step in
+            let e : length (line_of k from.queue) ≡ suc (length (line_of k (without_first k from.queue))) =
+            ap (λ (l : List ℕ). length l) step in
             let r : c.room ≡ to.room = ap (λ (x : Contents R). x.room) put in
             rw (from_queue, to_queue) (omega (arith, e, r, i.room, length-append to.queue ((t, k) ∷ [])));
       }
@@ -120,24 +137,32 @@ module _ {R : Type 0} where
     pub others : without_key k from.queue ≡ without_key k from0.queue
     pub from_is : from ≡ record from0 { queue = from.queue }
 
-  pub leaving_more : (k : ℕ) (from0 from b : Contents R) → IsLeaving k from0 from → b ≡ record from { queue = without_first k from.queue } → IsLeaving k from0 b
+  pub leaving_more : (k : ℕ) (from0 from b : Contents R) → IsLeaving k from0 from
+      → b ≡ record from { queue = without_first k from.queue } → IsLeaving k from0 b
   leaving_more k from0 from b i taken =
       let queue : b.queue ≡ without_first k from.queue = ap (λ (x : Contents R). x.queue) taken in
       record {
         others = rw queue (without_key-without_first k from.queue ∙ i.others);
-        from_is = taken ∙ ap (λ (x : Contents R). record x { queue = without_first k from.queue }) i.from_is ∙ ap (λ (q : List (ℕ × ℕ)). record from0 { queue = q }) (sym queue);
+        from_is =
+            taken ∙ ap (λ (x : Contents R). record x { queue = without_first k from.queue }) i.from_is
+            ∙ ap (λ (q : List (ℕ × ℕ)). record from0 { queue = q }) (sym queue);
       }
 
-  pub leaving_ends : (k : ℕ) (from0 from b : Contents R) → IsLeaving k from0 from → line_of k from.queue ≡ [] → b ≡ record from { queue = without_first k from.queue }
+  pub leaving_ends : (k : ℕ) (from0 from b : Contents R) → IsLeaving k from0 from → line_of k from.queue ≡ []
+      → b ≡ record from { queue = without_first k from.queue }
       → b ≡ record from0 { queue = without_key k from0.queue }
   leaving_ends k from0 from b i none taken =
       let empty : line_of k (without_first k from.queue) ≡ [] = line_of-without_count_same 1 k from.queue ∙ ap (λ l. drop 1 l) none in
-      let same : without_first k from.queue ≡ without_key k from0.queue = sym (without_key_none k (without_first k from.queue) empty) ∙ without_key-without_first k from.queue ∙ i.others in
-      taken ∙ ap (λ (x : Contents R). record x { queue = without_first k from.queue }) i.from_is ∙ ap (λ (q : List (ℕ × ℕ)). record from0 { queue = q }) same
+      let same : without_first k from.queue ≡ without_key k from0.queue =
+      sym (without_key_none k (without_first k from.queue) empty) ∙ without_key-without_first k from.queue ∙ i.others in
+      taken ∙ ap (λ (x : Contents R). record x { queue = without_first k from.queue }) i.from_is
+      ∙ ap (λ (q : List (ℕ × ℕ)). record from0 { queue = q }) same
 
-  pub moving_ends : (k : ℕ) (from0 to0 from to b : Contents R) → IsMoving k from0 to0 from to → line_of k from.queue ≡ [] → b ≡ record from { queue = without_first k from.queue }
+  pub moving_ends : (k : ℕ) (from0 to0 from to b : Contents R) → IsMoving k from0 to0 from to → line_of k from.queue ≡ []
+      → b ≡ record from { queue = without_first k from.queue }
       → b ≡ record from0 { queue = without_key k from0.queue }
-  moving_ends k from0 to0 from to b i none taken = leaving_ends k from0 from b (record { others = i.others; from_is = i.from_is }) none taken
+  moving_ends k from0 to0 from to b i none taken =
+      leaving_ends k from0 from b (record { others = i.others; from_is = i.from_is }) none taken
 
   -- an old bucket, once the keys below m were moved
   pub record IsLeft (m : ℕ) (before b : Contents R) : Type 0 where
@@ -170,7 +195,8 @@ module _ {R : Type 0} where
       queue : c.queue ≡ without_key m b.queue
       queue = ap (λ (x : Contents R). x.queue) is
 
-  pub left_there : (m : ℕ) (before b : Contents R) → line_of m before.queue ≡ [] → root_at m before.places ≡ None → IsLeft m before b → IsLeft (m + 1) before b
+  pub left_there : (m : ℕ) (before b : Contents R) → line_of m before.queue ≡ [] → root_at m before.places ≡ None → IsLeft m before b
+      → IsLeft (m + 1) before b
   left_there m before b nobody rootless l =
       record {
         keys = l.keys;
@@ -223,14 +249,17 @@ module _ {R : Type 0} where
       queue = ap (λ (x : Contents R). x.queue) is
 
       own_line : line_of m c.queue ≡ line
-      own_line = rw (queue, line_of-append m b.queue (map (λ (t : ℕ). (t, m)) line), h.no_line m (λ lt. absurd (omega arith))) (line_of-pairs_same m line)
+      own_line =
+          rw (queue, line_of-append m b.queue (map (λ (t : ℕ). (t, m)) line), h.no_line m (λ lt. absurd (omega arith)))
+          (line_of-pairs_same m line)
 
       own_root : root_at m c.places ≡ root
       own_root = rw places (root_at-with_same m root b.places (h.keys m ∙ has))
 
       other_line : (k : ℕ) → m ≢ k → line_of k c.queue ≡ line_of k b.queue
       other_line k other =
-          rw (queue, line_of-append k b.queue (map (λ (t : ℕ). (t, m)) line), line_of-pairs_other k m line other) (append-nil (line_of k b.queue))
+          rw (queue, line_of-append k b.queue (map (λ (t : ℕ). (t, m)) line), line_of-pairs_other k m line other)
+          (append-nil (line_of k b.queue))
 
       other_root : (k : ℕ) → m ≢ k → root_at k c.places ≡ root_at k b.places
       other_root k other = rw places (root_at-with_other k m root b.places other)
@@ -238,7 +267,8 @@ module _ {R : Type 0} where
       not_own : (k : ℕ) → (k < m + 1 → k % size ≢ m % size) → m ≢ k
       not_own k none e = none (omega arith) (ap (λ (n : ℕ). n % size) (sym e))
 
-  pub come_there : (m size i : ℕ) (old : List (Contents R)) (before b : Contents R) → m % size ≢ i → HasCome m size i old before b → HasCome (m + 1) size i old before b
+  pub come_there : (m size i : ℕ) (old : List (Contents R)) (before b : Contents R) → m % size ≢ i → HasCome m size i old before b
+      → HasCome (m + 1) size i old before b
   come_there m size i old before b elsewhere h =
       record {
         keys = h.keys;
@@ -257,7 +287,14 @@ module _ {R : Type 0} where
   AreLeft m old0 old = (i : ℕ) (d : Contents R) → i < length old0 → IsLeft m (get_or old0 i d) (get_or old i d)
 
   pub left_begins : (old : List (Contents R)) → AreLeft 0 old old
-  left_begins old i d lt = record { keys = λ k. refl; gone_line = λ k l. absurd (omega arith); gone_root = λ k l. absurd (omega arith); kept_line = λ k le. refl; kept_root = λ k le. refl }
+  left_begins old i d lt =
+      record {
+        keys = λ k. refl;
+        gone_line = λ k l. absurd (omega arith);
+        gone_root = λ k l. absurd (omega arith);
+        kept_line = λ k le. refl;
+        kept_root = λ k le. refl;
+      }
 
   pub some_left : (m : ℕ) (old0 old : List (Contents R)) (j : ℕ) (c : Contents R) → length old ≡ length old0
       → ((i : ℕ) (d : Contents R) → i < length old0 → i ≢ j → line_of m (get_or old0 i d).queue ≡ [])
@@ -267,7 +304,8 @@ module _ {R : Type 0} where
   some_left m old0 old j c len nobody rootless here left i d bound =
       elim (eqb_tells i j) [
         | inl e ↦ rw (← e.1, get_or-set_same old i c d (omega (arith, len))) (rw (← e.1) at (here d))
-        | inr e ↦ rw (get_or-set_other old j i c d e.1) (left_there m (get_or old0 i d) (get_or old i d) (nobody i d bound e.1) (rootless i d bound e.1) (left i d bound))
+        | inr e ↦ rw (get_or-set_other old j i c d e.1)
+            (left_there m (get_or old0 i d) (get_or old i d) (nobody i d bound e.1) (rootless i d bound e.1) (left i d bound))
       ]
 
   -- the buckets of both tables, once the keys below m were moved
@@ -285,16 +323,20 @@ module _ {R : Type 0} where
   some_come m old0 new0 old new j c is lt here a i d bound =
       elim (eqb_tells i j) [
         | inl e ↦ rw (e.1, get_or-set_same new j c d (omega (arith, a.new_len))) (here d)
-        | inr e ↦ rw (get_or-set_other new j i c d e.1) (come_there m (length new0) i old0 (get_or new0 i d) (get_or new i d) (λ f. e.1 (sym f ∙ sym is)) (a.come i d bound))
+        | inr e ↦ rw (get_or-set_other new j i c d e.1)
+            (come_there m (length new0) i old0 (get_or new0 i d) (get_or new i d) (λ f. e.1 (sym f ∙ sym is)) (a.come i d bound))
       ]
 
   -- the sum of what waits stays
-  pub as_many : (old new : List (Contents R)) (i j : ℕ) (from to r s b c : Contents R) (k : ℕ) → i < length old → j < length new → from ≡ get_or old i r → to ≡ get_or new j s
+  pub as_many : (old new : List (Contents R)) (i j : ℕ) (from to r s b c : Contents R) (k : ℕ) → i < length old → j < length new
+      → from ≡ get_or old i r → to ≡ get_or new j s
       → b.queue ≡ without_key k from.queue → c.queue ≡ to.queue ++ map (λ (t : ℕ). (t, k)) (line_of k from.queue)
       → queued (set old i b) + queued (set new j c) ≡ queued old + queued new
   as_many old new i j from to r s b c k lt_i lt_j is_from is_to left come =
-      let less : queued (set old i b) + length (get_or old i r).queue ≡ queued old + length b.queue = sum_by-set (λ (x : Contents R). length x.queue) old i b r lt_i in
-      let more : queued (set new j c) + length (get_or new j s).queue ≡ queued new + length c.queue = sum_by-set (λ (x : Contents R). length x.queue) new j c s lt_j in
+      let less : queued (set old i b) + length (get_or old i r).queue ≡ queued old + length b.queue =
+      sum_by-set (λ (x : Contents R). length x.queue) old i b r lt_i in
+      let more : queued (set new j c) + length (get_or new j s).queue ≡ queued new + length c.queue =
+      sum_by-set (λ (x : Contents R). length x.queue) new j c s lt_j in
       let f : length from.queue ≡ length (get_or old i r).queue = ap (λ (x : Contents R). length x.queue) is_from in
       let g : length to.queue ≡ length (get_or new j s).queue = ap (λ (x : Contents R). length x.queue) is_to in
       let l : length b.queue ≡ length (without_key k from.queue) = ap (λ (q : List (ℕ × ℕ)). length q) left in
@@ -321,17 +363,20 @@ own_of_has k size i n has laid own =
     ]
 
 -- open buckets are those of one number of keys
-at_most : {R : Type 0} (view : R → KeyLine) (n m : ℕ) (buckets : List (Contents R)) (d : Contents R) → 0 < length buckets → AreWhole view n buckets → AreWhole view m buckets → n ≤ m
+at_most : {R : Type 0} (view : R → KeyLine) (n m : ℕ) (buckets : List (Contents R)) (d : Contents R) → 0 < length buckets
+    → AreWhole view n buckets → AreWhole view m buckets → n ≤ m
 at_most view n m buckets d some whole other =
     elim (leb_tells n m) [
       | inl e ↦ e.1
       | inr e ↦
           let at : m % length buckets < length buckets = omega arith in
-          absurd (let f : true ≡ false = sym (has_own m (length buckets) (m % length buckets) n _ ((whole (m % length buckets) d at).laid_out m) refl e.1)
+          absurd (let f : true ≡ false =
+          sym (has_own m (length buckets) (m % length buckets) n _ ((whole (m % length buckets) d at).laid_out m) refl e.1)
           ∙ has_past m (length buckets) (m % length buckets) m _ ((other (m % length buckets) d at).laid_out m) (omega arith) in cc)
     ]
 
-pub one_number : {R : Type 0} (view : R → KeyLine) (n m : ℕ) (buckets : List (Contents R)) → 0 < length buckets → AreWhole view n buckets → AreWhole view m buckets → n ≡ m
+pub one_number : {R : Type 0} (view : R → KeyLine) (n m : ℕ) (buckets : List (Contents R)) → 0 < length buckets → AreWhole view n buckets
+    → AreWhole view m buckets → n ≡ m
 one_number {R} view n m buckets some whole other =
     let d : Contents R = record { room = 0; places = []; queue = []; opened = false; next_fair = 0 } in
     let le : n ≤ m = at_most view n m buckets d some whole other in
@@ -339,10 +384,12 @@ one_number {R} view n m buckets some whole other =
 
 module _ {R : Type 0} (view : R → KeyLine) (n : ℕ) (old0 : List (Contents R)) (whole : AreWhole view n old0) where
   pub nobody_else : (m i : ℕ) (d : Contents R) → i < length old0 → i ≢ m % length old0 → line_of m (get_or old0 i d).queue ≡ []
-  nobody_else m i d lt other = (whole i d lt).agrees.pairs m (has_not m (length old0) i n _ ((whole i d lt).laid_out m) (λ e. other (sym e)))
+  nobody_else m i d lt other =
+      (whole i d lt).agrees.pairs m (has_not m (length old0) i n _ ((whole i d lt).laid_out m) (λ e. other (sym e)))
 
   pub no_root_else : (m i : ℕ) (d : Contents R) → i < length old0 → i ≢ m % length old0 → root_at m (get_or old0 i d).places ≡ None
-  no_root_else m i d lt other = rootless m (get_or old0 i d).places (has_not m (length old0) i n _ ((whole i d lt).laid_out m) (λ e. other (sym e)))
+  no_root_else m i d lt other =
+      rootless m (get_or old0 i d).places (has_not m (length old0) i n _ ((whole i d lt).laid_out m) (λ e. other (sym e)))
 
   pub nobody_past : (k : ℕ) (i : ℕ) (d : Contents R) → i < length old0 → n ≤ k → line_of k (get_or old0 i d).queue ≡ []
   nobody_past k i d lt le = (whole i d lt).agrees.pairs k (has_past k (length old0) i n _ ((whole i d lt).laid_out k) le)
@@ -441,25 +488,35 @@ module _ {R : Type 0} (view : R → KeyLine) (n : ℕ) (old0 new0 : List (Conten
 
       pub may_room : length to.queue + length (line_of m from.queue) ≤ to.room
       may_room =
-          let f : length from.queue ≤ queued old = get_or-le-sum_by (λ (x : Contents R). length x.queue) old (m % length old0) r (omega (arith, a.old_len, at_old)) in
-          let t : length to.queue ≤ queued new = get_or-le-sum_by (λ (x : Contents R). length x.queue) new (m % length new0) s (omega (arith, a.new_len, at_new)) in
+          let f : length from.queue ≤ queued old =
+          get_or-le-sum_by (λ (x : Contents R). length x.queue) old (m % length old0) r (omega (arith, a.old_len, at_old)) in
+          let t : length to.queue ≤ queued new =
+          get_or-le-sum_by (λ (x : Contents R). length x.queue) new (m % length new0) s (omega (arith, a.new_len, at_new)) in
           let room : to.room ≡ may.threads = (come_now s).room ∙ (may.fresh (m % length new0) s at_new).room in
           omega (arith, line_fits m from.queue, a.all, may.room)
 
       pub moved_more : (b c : Contents R)
           → b ≡ record from { places = with_root m None from.places; queue = without_key m from.queue }
-          → c ≡ record to { places = with_root m (root_at m from.places) to.places; queue = to.queue ++ map (λ (t : ℕ). (t, m)) (line_of m from.queue) }
+          → c ≡ record to {
+            places = with_root m (root_at m from.places) to.places;
+            queue = to.queue ++ map (λ (t : ℕ). (t, m)) (line_of m from.queue);
+          }
           → AreMoved (m + 1) old0 new0 (set old (m % length old0) b) (set new (m % length new0) c)
       moved_more b c left come =
           record {
             old_len = length-set old (m % length old0) b ∙ a.old_len;
             new_len = length-set new (m % length new0) c ∙ a.new_len;
-            left = some_left m old0 old (m % length old0) b a.old_len (nobody_else view n old0 may.whole m) (no_root_else view n old0 may.whole m)
+            left =
+                some_left m old0 old (m % length old0) b a.old_len (nobody_else view n old0 may.whole m)
+                (no_root_else view n old0 may.whole m)
                 (λ d. left_here m (get_or old0 (m % length old0) d) from b (own_old d) (left_now d) left) a.left;
             come = some_come m old0 new0 old new (m % length new0) c refl at_new
-                (λ d. come_here m (length new0) old0 (get_or new0 (m % length new0) d) to c (line_of m from.queue) (root_at m from.places) (own_new d) (come_now d)
+                (λ d. come_here m (length new0) old0 (get_or new0 (m % length new0) d) to c (line_of m from.queue) (root_at m from.places)
+                (own_new d) (come_now d)
                 (λ e. (left_now e).kept_line m (omega arith)) (λ e. (left_now e).kept_root m (omega arith)) come) a;
-            all = as_many old new (m % length old0) (m % length new0) from to r s b c m (omega (arith, a.old_len, at_old)) (omega (arith, a.new_len, at_new)) refl refl
+            all =
+                as_many old new (m % length old0) (m % length new0) from to r s b c m (omega (arith, a.old_len, at_old))
+                (omega (arith, a.new_len, at_new)) refl refl
                 (ap (λ (x : Contents R). x.queue) left) (ap (λ (x : Contents R). x.queue) come) ∙ a.all;
           }
 
@@ -485,7 +542,8 @@ module _ {R : Type 0} (view : R → KeyLine) (n : ℕ) (old0 new0 : List (Conten
     moved_filled i d bound =
         let lt : i < length new0 = omega (arith, a.new_len) in
         let come = a.come i d lt in
-        let laid : (k : ℕ) → has_key k (get_or new i d).places ≡ (k % length new0 == i && nat_lt k n) = λ k. come.keys k ∙ (may.fresh i d lt).laid_out k in
+        let laid : (k : ℕ) → has_key k (get_or new i d).places ≡ (k % length new0 == i && nat_lt k n) =
+        λ k. come.keys k ∙ (may.fresh i d lt).laid_out k in
         rw (a.new_len) (record {
           agrees = record {
             roots = in_place i d lt;
@@ -495,18 +553,23 @@ module _ {R : Type 0} (view : R → KeyLine) (n : ℕ) (old0 new0 : List (Conten
           laid_out = laid;
         })
       where
-        in_place : (i : ℕ) (d : Contents R) → i < length new0 → (k : ℕ) → has_key k (get_or new i d).places ≡ true → (root : R) × (root_at k (get_or new i d).places ≡ Some root)
+        in_place : (i : ℕ) (d : Contents R) → i < length new0 → (k : ℕ) → has_key k (get_or new i d).places ≡ true
+            → (root : R) × (root_at k (get_or new i d).places ≡ Some root)
             × IsRootOf view k (get_or new i d).queue root
         in_place i d lt k has =
             let come = a.come i d lt in
             let is = own_of_has k (length new0) i n _ (come.keys k ∙ (may.fresh i d lt).laid_out k) has in
             let at_old : k % length old0 < length old0 = omega (arith, may.some_old) in
             let whole = may.whole (k % length old0) d at_old in
-            let own = whole.agrees.roots k (has_own k (length old0) (k % length old0) n _ (whole.laid_out k) refl is.1) in
-            (own.0, come.come_root k d is.1 is.0 ∙ own.1, record { named = own.2.named; same_line = own.2.same_line ∙ sym (come.come_line k d is.1 is.0); paid = own.2.paid })
+            let own = whole.agrees.roots k (has_own k (length old0) (k % length old0) n _ (whole.laid_out k) refl is.1) in (
+              own.0,
+              come.come_root k d is.1 is.0 ∙ own.1,
+              record { named = own.2.named; same_line = own.2.same_line ∙ sym (come.come_line k d is.1 is.0); paid = own.2.paid },
+            )
 
     pub moved_empty : AreEmpty view old
     moved_empty = emptied view n old0 may.whole old a.old_len a.left
 
     pub moved_filled_for : (keys : ℕ) → AreWhole view keys old0 → AreFilled view keys new
-    moved_filled_for keys whole = subst (λ (x : ℕ). AreFilled view x new) (one_number view n keys old0 may.some_old may.whole whole) moved_filled
+    moved_filled_for keys whole =
+        subst (λ (x : ℕ). AreFilled view x new) (one_number view n keys old0 may.some_old may.whole whole) moved_filled

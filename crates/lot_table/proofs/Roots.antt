@@ -1,5 +1,6 @@
 -- How the buckets of a new table get their roots, and how those of the last version give them back.
-use Rattle.std.proofs.Common.{◌≡◌, ◌≢◌, ℕ, zero, suc, ◌+◌, ◌<◌, ◌≤◌, ◌%◌, ◌&&◌, true, inl, inr, List, [], ◌∷◌, ◌++◌, length, get_or, set, Some, None, refl, sym, ◌∙◌, ap, subst, arith}
+use Rattle.std.proofs.Common.{◌≡◌, ◌≢◌, ℕ, zero, suc, ◌+◌, ◌<◌, ◌≤◌, ◌%◌, ◌&&◌, true, inl, inr, List, [], ◌∷◌, ◌++◌, length, get_or, set}
+use Rattle.std.proofs.Common.{Some, None, refl, sym, ◌∙◌, ap, subst, arith}
 use Rattle.std.proofs.Common.{append_assoc, append-nil, length-append, get_or-set_same, get_or-set_other, ◌⊎◌}
 use Rattle.std.specs.Prelude.{nat_lt, slice_get, ◌==◌}
 use Rattle.std.proofs.lemmas.Bool.Decides.{eqb_tells}
@@ -13,7 +14,8 @@ use Rattle.lot_bucket.specs.Agrees.{IsRootOf}
 use Rattle.lot_bucket.proofs.Laws.{root_at-with_same, root_at-with_other, has_key-with}
 use Rattle.lot_table.specs.Buckets.{AreFresh, AreWhole, AreFilled, AreEmpty}
 use Rattle.lot_table.specs.Roots.{AreIdle, Appends}
-use Rattle.lot_table.proofs.Moving.{IsLeft, AreLeft, has_own, own_of_has, left_begins, left_here, some_left, nobody_else, no_root_else, emptied}
+use Rattle.lot_table.proofs.Moving.{IsLeft, AreLeft, has_own, own_of_has, left_begins, left_here, some_left, nobody_else, no_root_else}
+use Rattle.lot_table.proofs.Moving.{emptied}
 
 module _ {R : Type 0} where
   slice_get_front : (xs : List R) (x : R) (k : ℕ) → k < length xs → slice_get (xs ++ x ∷ []) k ≡ slice_get xs k
@@ -33,9 +35,11 @@ module _ {R : Type 0} where
     pub has : (i k : ℕ) (d : Contents R) → has_key k (get_or buckets i d).places ≡ has_key k (get_or before i d).places
     pub queue : (i : ℕ) (d : Contents R) → (get_or buckets i d).queue ≡ (get_or before i d).queue
     pub empty : (i k : ℕ) (d : Contents R) → i < length before → k < length left → root_at k (get_or buckets i d).places ≡ None
-    pub full : (k : ℕ) (d : Contents R) → length left ≤ k → k < length roots → root_at k (get_or buckets (k % length before) d).places ≡ slice_get roots k
+    pub full : (k : ℕ) (d : Contents R) → length left ≤ k → k < length roots
+        → root_at k (get_or buckets (k % length before) d).places ≡ slice_get roots k
 
-  pub filling_begins : (keys threads : ℕ) (roots : List R) (before : List (Contents R)) → AreFresh keys threads before → AreFilling roots roots before before
+  pub filling_begins : (keys threads : ℕ) (roots : List R) (before : List (Contents R)) → AreFresh keys threads before
+      → AreFilling roots roots before before
   filling_begins keys threads roots before fresh =
       record {
         len = refl;
@@ -47,7 +51,8 @@ module _ {R : Type 0} where
         full = λ k d le lt. absurd (omega arith);
       }
 
-  module _ (threads : ℕ) (roots left rest : List R) (root : R) (before buckets : List (Contents R)) (r : Contents R) (fresh : AreFresh (length roots) threads before) (some : 0 < length before)
+  module _ (threads : ℕ) (roots left rest : List R) (root : R) (before buckets : List (Contents R)) (r : Contents R)
+      (fresh : AreFresh (length roots) threads before) (some : 0 < length before)
       (f : AreFilling roots left before buckets) (popped : left ≡ rest ++ root ∷ []) where
     count : length left ≡ length rest + 1
     count = ap (λ (xs : List R). length xs) popped ∙ length-append rest (root ∷ [])
@@ -58,7 +63,8 @@ module _ {R : Type 0} where
     pub filling_has : has_key (length rest) (get_or buckets (length rest % length before) r).places ≡ true
     filling_has =
         f.has (length rest % length before) (length rest) r
-        ∙ has_own (length rest) (length before) (length rest % length before) (length roots) _ ((fresh (length rest % length before) r bound).laid_out (length rest)) refl
+        ∙ has_own (length rest) (length before) (length rest % length before) (length roots) _
+        ((fresh (length rest % length before) r bound).laid_out (length rest)) refl
         (omega (arith, count, f.within))
 
     pub filling_empty : root_at (length rest) (get_or buckets (length rest % length before) r).places ≡ None
@@ -81,7 +87,8 @@ module _ {R : Type 0} where
         here : (d : Contents R) → get_or (set buckets (length rest % length before) c) (length rest % length before) d ≡ c
         here d = get_or-set_same buckets (length rest % length before) c d (omega (arith, f.len, bound))
 
-        there : (i : ℕ) (d : Contents R) → i ≢ (length rest % length before) → get_or (set buckets (length rest % length before) c) i d ≡ get_or buckets i d
+        there : (i : ℕ) (d : Contents R) → i ≢ (length rest % length before)
+            → get_or (set buckets (length rest % length before) c) i d ≡ get_or buckets i d
         there i d other = get_or-set_other buckets (length rest % length before) i c d other
 
         was : (d : Contents R) → get_or buckets (length rest % length before) r ≡ get_or buckets (length rest % length before) d
@@ -90,24 +97,33 @@ module _ {R : Type 0} where
         places : (d : Contents R) → c.places ≡ with_root (length rest) (Some root) (get_or buckets (length rest % length before) d).places
         places d = ap (λ (x : Contents R). x.places) put ∙ ap (λ (x : Contents R). with_root (length rest) (Some root) x.places) (was d)
 
-        has : (i k : ℕ) (d : Contents R) → has_key k (get_or (set buckets (length rest % length before) c) i d).places ≡ has_key k (get_or before i d).places
+        has : (i k : ℕ) (d : Contents R) → has_key k (get_or (set buckets (length rest % length before) c) i d).places
+            ≡ has_key k (get_or before i d).places
         has i k d =
             elim (eqb_tells i (length rest % length before)) [
-              | inl e ↦ rw (e.1, here d, places d) (has_key-with k (length rest) (Some root) (get_or buckets (length rest % length before) d).places ∙ f.has (length rest % length before) k d)
+              | inl e ↦
+                  rw (e.1, here d, places d)
+                  (has_key-with k (length rest) (Some root) (get_or buckets (length rest % length before) d).places
+                  ∙ f.has (length rest % length before) k d)
               | inr e ↦ rw (there i d e.1) (f.has i k d)
             ]
 
         queue : (i : ℕ) (d : Contents R) → (get_or (set buckets (length rest % length before) c) i d).queue ≡ (get_or before i d).queue
         queue i d =
             elim (eqb_tells i (length rest % length before)) [
-              | inl e ↦ rw (e.1, here d) (ap (λ (x : Contents R). x.queue) put ∙ ap (λ (x : Contents R). x.queue) (was d) ∙ f.queue (length rest % length before) d)
+              | inl e ↦
+                  rw (e.1, here d) (ap (λ (x : Contents R). x.queue) put ∙ ap (λ (x : Contents R). x.queue) (was d)
+                  ∙ f.queue (length rest % length before) d)
               | inr e ↦ rw (there i d e.1) (f.queue i d)
             ]
 
-        empty : (i k : ℕ) (d : Contents R) → i < length before → k < length rest → root_at k (get_or (set buckets (length rest % length before) c) i d).places ≡ None
+        empty : (i k : ℕ) (d : Contents R) → i < length before → k < length rest
+            → root_at k (get_or (set buckets (length rest % length before) c) i d).places ≡ None
         empty i k d lt l =
             elim (eqb_tells i (length rest % length before)) [
-              | inl e ↦ rw (e.1, here d, places d) (root_at-with_other k (length rest) (Some root) (get_or buckets (length rest % length before) d).places (λ x. omega arith)
+              | inl e ↦
+                  rw (e.1, here d, places d)
+                  (root_at-with_other k (length rest) (Some root) (get_or buckets (length rest % length before) d).places (λ x. omega arith)
                   ∙ f.empty (length rest % length before) k d bound (omega (arith, count)))
               | inr e ↦ rw (there i d e.1) (f.empty i k d lt (omega (arith, count)))
             ]
@@ -115,15 +131,21 @@ module _ {R : Type 0} where
         own : slice_get roots (length rest) ≡ Some root
         own = sym (f.same (length rest) (omega (arith, count))) ∙ ap (λ xs. slice_get xs (length rest)) popped ∙ slice_get_end rest root
 
-        full : (k : ℕ) (d : Contents R) → length rest ≤ k → k < length roots → root_at k (get_or (set buckets (length rest % length before) c) (k % length before) d).places ≡ slice_get roots k
+        full : (k : ℕ) (d : Contents R) → length rest ≤ k → k < length roots
+            → root_at k (get_or (set buckets (length rest % length before) c) (k % length before) d).places ≡ slice_get roots k
         full k d le lt =
             elim (eqb_tells (length rest) k) [
-              | inl e ↦ rw (← e.1) (rw (here d, places d) (root_at-with_same (length rest) (Some root) (get_or buckets (length rest % length before) d).places
+              | inl e ↦
+                  rw (← e.1)
+                  (rw (here d, places d)
+                  (root_at-with_same (length rest) (Some root) (get_or buckets (length rest % length before) d).places
                   (ap (λ (x : Contents R). has_key (length rest) x.places) (sym (was d)) ∙ filling_has) ∙ sym own))
               | inr e ↦
                   let later : length left ≤ k = omega (arith, count, le, e.1) in
                   elim (eqb_tells (k % length before) (length rest % length before)) [
-                    | inl a ↦ rw (a.1, here d, places d) (root_at-with_other k (length rest) (Some root) (get_or buckets (length rest % length before) d).places e.1
+                    | inl a ↦
+                        rw (a.1, here d, places d)
+                        (root_at-with_other k (length rest) (Some root) (get_or buckets (length rest % length before) d).places e.1
                         ∙ ap (λ (i : ℕ). root_at k (get_or buckets i d).places) (sym a.1) ∙ f.full k d later lt)
                     | inr a ↦ rw (there (k % length before) d a.1) (f.full k d later lt)
                   ]
@@ -132,7 +154,8 @@ module _ {R : Type 0} where
   some_at : (k : ℕ) (xs : List R) → k < length xs → (x : R) × (slice_get xs k ≡ Some x)
   some_at k xs lt = elim (slice_get_cases xs k).1 [ inl e ↦ (e.0, e.2) | inr e ↦ absurd (omega arith) ]
 
-  slice_get-push : (k : ℕ) (xs : List R) (x y : R) → slice_get (xs ++ x ∷ []) k ≡ Some y → (slice_get xs k ≡ Some y) ⊎ ((k ≡ length xs) × (x ≡ y))
+  slice_get-push : (k : ℕ) (xs : List R) (x y : R) → slice_get (xs ++ x ∷ []) k ≡ Some y
+      → (slice_get xs k ≡ Some y) ⊎ ((k ≡ length xs) × (x ≡ y))
   slice_get-push zero [] x y at = inr (refl, cc)
   slice_get-push (suc k) [] x y at = absurd cc
   slice_get-push zero (z ∷ xs) x y at = inl at
@@ -140,7 +163,8 @@ module _ {R : Type 0} where
       elim (slice_get-push k xs x y at) [ inl e ↦ inl e | inr e ↦ inr (ap (λ n. suc n) e.0, e.1) ]
 
 module _ {R : Type 0} (view : R → KeyLine) where
-  pub filling_ends : (threads : ℕ) (roots left : List R) (before buckets : List (Contents R)) → AreFresh (length roots) threads before → AreIdle view roots
+  pub filling_ends : (threads : ℕ) (roots left : List R) (before buckets : List (Contents R))
+      → AreFresh (length roots) threads before → AreIdle view roots
       → AreFilling roots left before buckets
       → length left ≡ 0 → AreFilled view (length roots) buckets
   filling_ends threads roots left before buckets fresh idle f none i d lt =
@@ -155,7 +179,8 @@ module _ {R : Type 0} (view : R → KeyLine) where
       laid : (k : ℕ) → has_key k (get_or buckets i d).places ≡ (k % length before == i && nat_lt k (length roots))
       laid k = f.has i k d ∙ (fresh i d bound).laid_out k
 
-      in_place : (k : ℕ) → has_key k (get_or buckets i d).places ≡ true → (root : R) × (root_at k (get_or buckets i d).places ≡ Some root) × IsRootOf view k (get_or buckets i d).queue root
+      in_place : (k : ℕ) → has_key k (get_or buckets i d).places ≡ true
+          → (root : R) × (root_at k (get_or buckets i d).places ≡ Some root) × IsRootOf view k (get_or buckets i d).queue root
       in_place k own =
           let is = own_of_has k (length before) i (length roots) _ (laid k) own in
           let at = some_at k roots is.1 in (
@@ -174,16 +199,25 @@ module _ {R : Type 0} (view : R → KeyLine) where
   taking_begins buckets out =
       record {
         len = refl;
-        taken = record { roots = []; appended = sym (append-nil out); each = refl; named = λ i root at. absurd cc; paid = λ i root at. absurd cc };
+        taken =
+            record {
+              roots = [];
+              appended = sym (append-nil out);
+              each = refl;
+              named = λ i root at. absurd cc;
+              paid = λ i root at. absurd cc;
+            };
         left = left_begins buckets;
       }
 
-  module _ (keys m : ℕ) (opening buckets : List (Contents R)) (before out : List R) (r : Contents R) (whole : AreWhole view keys opening) (some : 0 < length opening) (lt : m < keys)
+  module _ (keys m : ℕ) (opening buckets : List (Contents R)) (before out : List R) (r : Contents R) (whole : AreWhole view keys opening)
+      (some : 0 < length opening) (lt : m < keys)
       (t : AreTaking m opening buckets before out) where
     place : m % length opening < length opening
     place = omega (arith, some)
 
-    found : (x : R) × (root_at m (get_or opening (m % length opening) r).places ≡ Some x) × IsRootOf view m (get_or opening (m % length opening) r).queue x
+    found : (x : R) × (root_at m (get_or opening (m % length opening) r).places ≡ Some x)
+        × IsRootOf view m (get_or opening (m % length opening) r).queue x
     found =
         (whole (m % length opening) r place).agrees.roots m
         (has_own m (length opening) (m % length opening) keys _ ((whole (m % length opening) r place).laid_out m) refl lt)
@@ -206,10 +240,16 @@ module _ {R : Type 0} (view : R → KeyLine) where
             roots = t.taken.roots ++ root ∷ [];
             appended = pushed ∙ ap (λ xs. xs ++ root ∷ []) t.taken.appended ∙ append_assoc before t.taken.roots (root ∷ []);
             each = length-append t.taken.roots (root ∷ []) ∙ ap (λ (n : ℕ). n + 1) t.taken.each;
-            named = λ j x e. elim (slice_get-push j t.taken.roots root x e) [ inl f ↦ t.taken.named j x f | inr f ↦ rw (← f.1, f.0, t.taken.each) own.named ];
+            named =
+                λ j x e. elim (slice_get-push j t.taken.roots root x e) [
+                  | inl f ↦ t.taken.named j x f
+                  | inr f ↦ rw (← f.1, f.0, t.taken.each) own.named
+                ];
             paid = λ j x e. elim (slice_get-push j t.taken.roots root x e) [ inl f ↦ t.taken.paid j x f | inr f ↦ rw (← f.1) own.paid ];
           };
-          left = some_left m opening buckets (m % length opening) c t.len (nobody_else view keys opening whole m) (no_root_else view keys opening whole m) here t.left;
+          left =
+              some_left m opening buckets (m % length opening) c t.len (nobody_else view keys opening whole m)
+              (no_root_else view keys opening whole m) here t.left;
         }
       where
         own : IsRootOf view m (get_or opening (m % length opening) r).queue root

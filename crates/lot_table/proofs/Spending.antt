@@ -32,12 +32,16 @@ module _ {R : Type 0} (view : R → KeyLine) where
 
 module _ {X : Type 0} (P : ℕ → X → Type 0) (xs ys : List X) (r : Option X) where
   -- what is said of each at its place is so of those that are left, where the last was taken out
-  pub all_left : xs ≡ ys ++ option_to_list r → ((i : ℕ) (d : X) → i < length xs → P i (get_or xs i d)) → (i : ℕ) (d : X) → i < length ys → P i (get_or ys i d)
+  pub all_left : xs ≡ ys ++ option_to_list r → ((i : ℕ) (d : X) → i < length xs → P i (get_or xs i d)) → (i : ℕ) (d : X)
+      → i < length ys → P i (get_or ys i d)
   all_left is all i d near =
-      subst (λ x. P i x) (ap (λ zs. get_or zs i d) is ∙ get_or_append_left ys (option_to_list r) d i near) (all i d (rw is (omega (arith, length-append ys (option_to_list r), near))))
+      subst (λ x. P i x) (ap (λ zs. get_or zs i d) is ∙ get_or_append_left ys (option_to_list r) d i near)
+      (all i d (rw is (omega (arith, length-append ys (option_to_list r), near))))
 
   -- and of the one that was taken out
-  pub last_out : (x : X) → xs ≡ ys ++ option_to_list r → r ≡ Some x → ((i : ℕ) (d : X) → i < length xs → P i (get_or xs i d)) → P (length ys) x
+  pub last_out : (x : X) → xs ≡ ys ++ option_to_list r → r ≡ Some x
+      → ((i : ℕ) (d : X) → i < length xs → P i (get_or xs i d)) → P (length ys) x
   last_out x is some all =
       let last = is ∙ ap (λ o. ys ++ option_to_list o) some in
-      subst (λ z. P (length ys) z) (ap (λ zs. get_or zs (length ys) x) last ∙ get_or-append_seam ys x [] x) (all (length ys) x (rw last (omega (arith, length-append ys (x ∷ [])))))
+      subst (λ z. P (length ys) z) (ap (λ zs. get_or zs (length ys) x) last ∙ get_or-append_seam ys x [] x)
+      (all (length ys) x (rw last (omega (arith, length-append ys (x ∷ [])))))

@@ -33,7 +33,8 @@ module _ {R : Type 0} where
     pub room : b.room ≡ threads
 
   abbrev pub AreFresh : ℕ → ℕ → List (Contents R) → Type 0
-  AreFresh keys threads buckets = (i : ℕ) (b : Contents R) → i < length buckets → IsFresh (length buckets) i keys threads (slice_index_or buckets i b)
+  AreFresh keys threads buckets = (i : ℕ) (b : Contents R) → i < length buckets
+      → IsFresh (length buckets) i keys threads (slice_index_or buckets i b)
 
 module _ {R : Type 0} (view : R → KeyLine) where
   -- the open buckets of a table for so many keys

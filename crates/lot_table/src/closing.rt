@@ -53,7 +53,10 @@ fn hand_out<R: Root>(buckets: &mut [Bucket<R>], keys: usize, out: &mut Vec<R>)
 fn root_out<R: Root>(bucket: &mut Bucket<R>, key: usize) -> R
     requires { IsSome (root_at key bucket.old.places) }
     ensures root { root_at key bucket.old.places ≡ Some result }
-    ensures left { bucket.new ≡ record bucket.old { places = with_root key None bucket.old.places; queue = without_key key bucket.old.queue } }
+    ensures left { bucket.new ≡ record bucket.old {
+      places = with_root key None bucket.old.places;
+      queue = without_key key bucket.old.queue;
+    } }
 {
     let root = bucket.take_root(key);
     empty_line(bucket, key);

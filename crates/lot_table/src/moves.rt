@@ -36,8 +36,14 @@ fn move_key<R: Root>(from: &mut Bucket<R>, to: &mut Bucket<R>, key: usize)
     requires has { has_key key to.old.places ≡ true }
     requires free { root_at key to.old.places ≡ None }
     requires room { length to.old.queue + length (line_of key from.old.queue) ≤ to.old.room }
-    ensures left { from.new ≡ record from.old { places = with_root key None from.old.places; queue = without_key key from.old.queue } }
-    ensures come { to.new ≡ record to.old { places = with_root key (root_at key from.old.places) to.old.places; queue = to.old.queue ++ map (λ (t : ℕ). (t, key)) (line_of key from.old.queue) } }
+    ensures left { from.new ≡ record from.old {
+      places = with_root key None from.old.places;
+      queue = without_key key from.old.queue;
+    } }
+    ensures come { to.new ≡ record to.old {
+      places = with_root key (root_at key from.old.places) to.old.places;
+      queue = to.old.queue ++ map (λ (t : ℕ). (t, key)) (line_of key from.old.queue);
+    } }
 {
     let root = from.take_root(key);
     to.put_root(key, root);
@@ -47,7 +53,8 @@ fn move_key<R: Root>(from: &mut Bucket<R>, to: &mut Bucket<R>, key: usize)
 fn move_line<R: Root>(from: &mut Bucket<R>, to: &mut Bucket<R>, key: usize)
     requires { length to.old.queue + length (line_of key from.old.queue) ≤ to.old.room }
     ensures left { from.new ≡ record from.old { queue = without_key key from.old.queue } }
-    ensures come { to.new ≡ record to.old { queue = to.old.queue ++ map (λ (t : ℕ). (t, key)) (line_of key from.old.queue) } }
+    ensures come { to.new
+        ≡ record to.old { queue = to.old.queue ++ map (λ (t : ℕ). (t, key)) (line_of key from.old.queue) } }
 {
     while let Some(thread) = from.dequeue_one(key, NEVER).thread {
         to.enqueue(thread, key);

@@ -6,8 +6,8 @@ use lot_bucket::BucketFault;
 use std::alloc::AllocError;
 use thiserror::Error;
 
-/// How many threads a table can be made for: a limit of its own, since a table knows no model that could lend it one. `lot_scheme`,
-/// which knows both, checks that it is the model's.
+/// How many threads a table can be made for: a limit of its own, since a table knows no model that could lend it one.
+/// `lot_scheme`, which knows both, checks that it is the model's.
 pub const MOST_THREADS: usize = 256;
 
 /// How many buckets a table has at first.

@@ -93,15 +93,15 @@ impl<R: Root> Table<R> {
         self.versions.newest().0.size()
     }
 
-    /// Whether the bucket of that number in the newest version is locked at some moment of this call. It is an observation: nothing is
-    /// promised of it.
+    /// Whether the bucket of that number in the newest version is locked at some moment of this call. It is an
+    /// observation: nothing is promised of it.
     pub fn is_locked(&self, number: usize) -> bool {
         let (version, _next) = self.versions.newest();
         number < version.size() && version.is_locked(number)
     }
 
-    /// Whether a version of so many buckets was left for a later one: each of its buckets is found closed and empty, one after the other. It is
-    /// an observation: nothing is promised of it.
+    /// Whether a version of so many buckets was left for a later one: each of its buckets is found closed and empty,
+    /// one after the other. It is an observation: nothing is promised of it.
     pub fn was_left<W: Wait>(&self, rt: &W, size: usize) -> bool {
         match self.versions.of_size(size) {
             Some(version) => version.is_left(rt),
@@ -122,8 +122,10 @@ impl<R: Root> Table<R> {
         f: F,
     ) -> (X, Y)
         requires callable { (b : _) → IsReady R.view key self.now.threads self.now.keys b.now → F.pre f b x }
-        requires keeps { (b : _) (r : _) (b' : _) → IsReady R.view key self.now.threads self.now.keys b.now → F.post f b x r b' → Stays R.view b.now b'.now }
-        ensures { (b : _) × (b' : _) × IsReady R.view key self.now.threads self.now.keys b.now × F.post f b x result b' × Stays R.view b.now b'.now }
+        requires keeps { (b : _) (r : _) (b' : _) → IsReady R.view key self.now.threads self.now.keys b.now
+            → F.post f b x r b' → Stays R.view b.now b'.now }
+        ensures { (b : _) × (b' : _) × IsReady R.view key self.now.threads self.now.keys b.now × F.post f b x result b'
+            × Stays R.view b.now b'.now }
     {
         let mut guard = self.lock_ready(rt, key);
         let ready = &mut *guard;
@@ -139,9 +141,12 @@ impl<R: Root> Table<R> {
         x: X,
         f: F,
     ) -> (X, Y)
-        requires callable { (b : _) → IsReady R.view key self.now.threads self.now.keys b.now → HasPlaceFor thread b.now → F.pre f b x }
-        requires keeps { (b : _) (r : _) (b' : _) → IsReady R.view key self.now.threads self.now.keys b.now → HasPlaceFor thread b.now → F.post f b x r b' → Stays R.view b.now b'.now }
-        ensures { (b : _) × (b' : _) × IsReady R.view key self.now.threads self.now.keys b.now × HasPlaceFor thread b.now × F.post f b x result b' × Stays R.view b.now b'.now }
+        requires callable { (b : _) → IsReady R.view key self.now.threads self.now.keys b.now
+            → HasPlaceFor thread b.now → F.pre f b x }
+        requires keeps { (b : _) (r : _) (b' : _) → IsReady R.view key self.now.threads self.now.keys b.now
+            → HasPlaceFor thread b.now → F.post f b x r b' → Stays R.view b.now b'.now }
+        ensures { (b : _) × (b' : _) × IsReady R.view key self.now.threads self.now.keys b.now
+            × HasPlaceFor thread b.now × F.post f b x result b' × Stays R.view b.now b'.now }
     {
         let mut guard = self.lock_with_place(rt, key, thread);
         let settled = &mut *guard;

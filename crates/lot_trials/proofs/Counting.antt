@@ -1,5 +1,6 @@
 -- One wait and one notification: what the passes end as, and what a ledger of both tells.
-use Rattle.std.proofs.Common.{◌≡◌, ◌≢◌, ℕ, ◌+◌, ◌<◌, List, [], ◌∷◌, ◌++◌, length, slice_index, slice_index_or, slice_set, sum_by, true, false, refl, sym, ap, subst, ◌∙◌, arith}
+use Rattle.std.proofs.Common.{◌≡◌, ◌≢◌, ℕ, ◌+◌, ◌<◌, List, [], ◌∷◌, ◌++◌, length, slice_index, slice_index_or, slice_set, sum_by, true}
+use Rattle.std.proofs.Common.{false, refl, sym, ap, subst, ◌∙◌, arith}
 use Rattle.std.proofs.lemmas.List.{length-set, get_or-set_same}
 use Rattle.std.proofs.lemmas.List.Sums.{sum_by-cons}
 use Rattle.std.specs.List.{All, Any}
@@ -11,7 +12,8 @@ use Rattle.lot_words.specs.CallersRule.{CallersRule}
 use Rattle.lot_waits.specs.Counts.{CountsView, wrap}
 use Rattle.lot_waits.specs.Ledger.{AreSums, called_at, woken_at}
 use Rattle.lot_rights.proofs.Turns.{no_elements}
-use Rattle.lot_sync.specs.Lot.{LotView, PassView, HeldView, ◌≈◌, OwnsNone, HasShape, IsLedgerOf, counts_of, letting_go, one_wait_more, called_more}
+use Rattle.lot_sync.specs.Lot.{LotView, PassView, HeldView, ◌≈◌, OwnsNone, HasShape, IsLedgerOf, counts_of, letting_go, one_wait_more}
+use Rattle.lot_sync.specs.Lot.{called_more}
 use Rattle.lot_sync.specs.Values.{Gets, WaitsAndGets}
 use Rattle.lot_sync.proofs.Holdings.{owns_none_again}
 use Rattle.lot_trials.specs.Counting.{HasCountedNone, EndsAs}
@@ -33,14 +35,16 @@ module _ {V Part : Type 0} (rule : CallersRule V Part) where
     free =
         let out : PassView V = letting_go q held.key held.value in
         let first : OwnsNone out = owns_none_again p q out 0 held.key held.value held.value none got.after_is refl got.key_is in
-        owns_none_again (one_wait_more out 1) r s held.key again.key again.value again.value (none_still out (one_wait_more out 1) refl refl first)
+        owns_none_again (one_wait_more out 1) r s held.key again.key again.value again.value
+        (none_still out (one_wait_more out 1) refl refl first)
         woke.after_is left woke.key_is;
     shape = shape;
   }
 
 module _ {V : Type 0} where
   -- it took one sleeper
-  pub ends_called : (lot : LotView) (p q r : PassView V) → OwnsNone p → q ≈ p → r ≈ called_more q 1 1 → HasShape lot r → EndsAs lot (called_more p 1 1) r
+  pub ends_called : (lot : LotView) (p q r : PassView V) → OwnsNone p → q ≈ p → r ≈ called_more q 1 1 → HasShape lot r
+      → EndsAs lot (called_more p 1 1) r
   ends_called lot p q r none same took shape = record {
     counts = ap counts_of took ∙ ap (λ (v : PassView V). counts_of (called_more v 1 1)) same;
     free = none_still p r (ap (λ (v : PassView V). v.owns) took ∙ ap (λ (v : PassView V). v.owns) same)
@@ -49,7 +53,8 @@ module _ {V : Type 0} where
   }
 
   -- two passes of two threads are those of both threads
-  pub both_threads : (a b : PassView V) → a.thread < 2 → b.thread < 2 → a.thread ≢ b.thread → (t : ℕ) → t < 2 → Any (λ (p : PassView V). p.thread ≡ t) (a ∷ b ∷ [])
+  pub both_threads : (a b : PassView V) → a.thread < 2 → b.thread < 2 → a.thread ≢ b.thread → (t : ℕ) → t < 2
+      → Any (λ (p : PassView V). p.thread ≡ t) (a ∷ b ∷ [])
   both_threads a b low high apart t near = dite (ℕ_discrete b.thread t)
       (λ e. Any-push (λ (p : PassView V). p.thread ≡ t) (a ∷ []) b e)
       (λ else. any_first (omega (arith, low, high, apart, near, else)))
@@ -67,8 +72,10 @@ one_alone (x ∷ []) long is = ap (λ y. y ∷ []) is
 one_alone (x ∷ y ∷ ys) long is = absurd (omega (arith, long))
 
 -- a list in which the number at 1 was none, and was raised by one
-raised_at : (xs : List ℕ) → length (slice_set xs 1 (slice_index xs 1 + 1)) ≡ 2 → slice_index xs 1 ≡ 0 → slice_index (slice_set xs 1 (slice_index xs 1 + 1)) 1 ≡ 1
-raised_at xs long none = get_or-set_same xs 1 (slice_index xs 1 + 1) 0 (omega (arith, long, length-set xs 1 (slice_index xs 1 + 1))) ∙ ap (λ n. n + 1) none
+raised_at : (xs : List ℕ) → length (slice_set xs 1 (slice_index xs 1 + 1)) ≡ 2 → slice_index xs 1 ≡ 0
+    → slice_index (slice_set xs 1 (slice_index xs 1 + 1)) 1 ≡ 1
+raised_at xs long none =
+    get_or-set_same xs 1 (slice_index xs 1 + 1) 0 (omega (arith, long, length-set xs 1 (slice_index xs 1 + 1))) ∙ ap (λ n. n + 1) none
 
 module _ {V : Type 0} (lot : LotView) (first second a b : PassView V) (one_lock : lot.locks ≡ 1) (one_cond : lot.conds ≡ 1)
     (waited : EndsAs lot (one_wait_more first 1) a) (called : EndsAs lot (called_more second 1 1) b)
@@ -92,13 +99,15 @@ module _ {V : Type 0} (lot : LotView) (first second a b : PassView V) (one_lock 
   called_sum =
       let of_a : called_at 1 (counts_of a) ≡ 0 = ap (called_at 1) waited.counts ∙ first_none.0 in
       let is : b.called ≡ slice_set second.called 1 (slice_index second.called 1 + 1) = ap (λ (q : CountsView). q.called) called.counts in
-      let of_b : called_at 1 (counts_of b) ≡ 1 = ap (λ xs. slice_index xs 1) is ∙ raised_at second.called (sym (ap length is) ∙ wide_b) second_none.0 in
+      let of_b : called_at 1 (counts_of b) ≡ 1 =
+      ap (λ xs. slice_index xs 1) is ∙ raised_at second.called (sym (ap length is) ∙ wide_b) second_none.0 in
       omega (arith, of_a, of_b)
 
   woken_sum : woken_at 1 (counts_of a) + woken_at 1 (counts_of b) ≡ 1
   woken_sum =
       let is : a.woken ≡ slice_set first.woken 1 (slice_index first.woken 1 + 1) = ap (λ (q : CountsView). q.woken) waited.counts in
-      let of_a : woken_at 1 (counts_of a) ≡ 1 = ap (λ xs. slice_index xs 1) is ∙ raised_at first.woken (sym (ap length is) ∙ wide_a) first_none.1 in
+      let of_a : woken_at 1 (counts_of a) ≡ 1 =
+      ap (λ xs. slice_index xs 1) is ∙ raised_at first.woken (sym (ap length is) ∙ wide_a) first_none.1 in
       let of_b : woken_at 1 (counts_of b) ≡ 0 = ap (woken_at 1) called.counts ∙ second_none.1 in
       omega (arith, of_a, of_b)
 

@@ -1,4 +1,5 @@
--- A pass that came back to `close` shows the accesses that were made with it: so those by which it let a lock go stand in the one run of its lot.
+-- A pass that came back to `close` shows the accesses that were made with it: so those by which it let a lock go stand in the one run of
+-- its lot.
 use Rattle.std.proofs.Common.{◌≡◌, ℕ, ◌*◌, ◌<◌, true, false, List, [], ◌∷◌, ◌++◌, refl, sym, ap, subst, ◌∙◌, append_assoc, inl, inr}
 use Rattle.std.specs.List.{All, Any}
 use Rattle.std.proofs.lemmas.List.Elements.{All-nil, All-cons}
@@ -23,7 +24,8 @@ use Rattle.lot_trials.specs.Runs.{HasReleased, LetsGo, HasLetGo, HasWholeRun}
 
 module _ {V : Type 0} where
   -- an unlock lets a lock go
-  pub released_by : (p q : PassView V) (l : ℕ) (became : Released) → q.thread ≡ p.thread → Adds p.made (FreeWord p.thread l became) q.made → HasReleased q
+  pub released_by : (p q : PassView V) (l : ℕ) (became : Released) → q.thread ≡ p.thread
+      → Adds p.made (FreeWord p.thread l became) q.made → HasReleased q
   released_by p q l became same (did, is, inl (quiet, word)) = record {
     front = p.made;
     back = [];
@@ -46,7 +48,8 @@ module _ {V : Type 0} where
   let_go : (log : List Entry) (p : PassView V) → p.made ≡ accesses_of (2 * p.thread) log → HasReleased p → HasLetGo (events_in log) p.thread
   let_go log p own has =
       let there = is_in_log p.thread log has.front (Makes has.event has.saw) has.back (sym own ∙ has.made) in
-      any_in_log (λ x. LetsGo p.thread x.0 x.1) log there.before there.entry there.after has.event has.saw there.at there.access_is has.going
+      any_in_log (λ x. LetsGo p.thread x.0 x.1) log there.before there.entry there.after has.event has.saw there.at
+      there.access_is has.going
 
   -- where each thread's pass came back, and had let a lock go
   pub whole_run : (names : LotNames V) (passes : List (PassView V)) → HasOneRun names passes → All HasReleased passes
@@ -59,7 +62,8 @@ module _ {V : Type 0} where
           run = has.told.run.run;
           sound = subst IsSound has.told.run.end has.told.run.sound;
           let_go = λ t near.
-              let one = any_all (λ (p : PassView V). p.thread ≡ t) Both passes (all t near) (λ k d at. (released k d at, has.made k d at)) in
+              let one =
+              any_all (λ (p : PassView V). p.thread ≡ t) Both passes (all t near) (λ k d at. (released k d at, has.made k d at)) in
               subst (HasLetGo (events_in log)) one.1 (let_go log one.0 one.2.1 one.2.0);
         },
       )

@@ -92,11 +92,14 @@ regroup : (f : List Access) (e : Access) (w l : List Access) (x : Access) (g r :
     → (f ++ (e ∷ (w ++ (l ++ (x ∷ g))))) ++ r ≡ f ++ (e ∷ ((w ++ l) ++ (x ∷ (g ++ r))))
 regroup f e w l x g r =
     append_assoc f (e ∷ (w ++ (l ++ (x ∷ g)))) r
-    ∙ ap (λ zs. f ++ (e ∷ zs)) (append_assoc w (l ++ (x ∷ g)) r ∙ (ap (λ zs. w ++ zs) (append_assoc l (x ∷ g) r) ∙ sym (append_assoc w l (x ∷ (g ++ r)))))
+    ∙ ap (λ zs. f ++ (e ∷ zs)) (append_assoc w (l ++ (x ∷ g)) r
+    ∙ (ap (λ zs. w ++ zs) (append_assoc l (x ∷ g) r) ∙ sym (append_assoc w l (x ∷ (g ++ r)))))
 
 module _ {V : Type 0} where
-  pub waits_once : (p q r s : PassView V) (c k l m now : ℕ) (became : Released) → q.thread ≡ p.thread → r.thread ≡ p.thread → s.thread ≡ p.thread
-      → Adds p.made (GetWord p.thread k) q.made → Adds q.made (WaitedWord q.thread c l now) r.made → Adds r.made (FreeWord r.thread m became) s.made
+  pub waits_once : (p q r s : PassView V) (c k l m now : ℕ) (became : Released) → q.thread ≡ p.thread
+      → r.thread ≡ p.thread → s.thread ≡ p.thread
+      → Adds p.made (GetWord p.thread k) q.made → Adds q.made (WaitedWord q.thread c l now) r.made
+      → Adds r.made (FreeWord r.thread m became) s.made
       → HasWaited c s × (HasTakenNone c p → HasTakenNone c s)
   waits_once p q r s c k l m now became of_q of_r of_s (get, got, get_word) (did, slept, (ended, fits, w)) (free, freed, free_word) = (
     record {
@@ -104,22 +107,29 @@ module _ {V : Type 0} where
       front = p.made ++ get;
       between = w.free ++ w.looks;
       back = w.get ++ free;
-      made = subst (λ t. s.made ≡ (p.made ++ get) ++ Makes (Enlist t c l) Done ∷ ((w.free ++ w.looks) ++ Collects t (Some 0) ∷ (w.get ++ free)))
-          (of_q ∙ sym of_s) (whole ∙ regroup (p.made ++ get) (Makes (Enlist q.thread c l) Done) w.free w.looks (Collects q.thread (Some 0)) w.get free);
+      made =
+          subst
+          (λ t. s.made ≡ (p.made ++ get) ++ Makes (Enlist t c l) Done ∷ ((w.free ++ w.looks) ++ Collects t (Some 0) ∷ (w.get ++ free)))
+          (of_q ∙ sym of_s)
+          (whole ∙ regroup (p.made ++ get) (Makes (Enlist q.thread c l) Done) w.free w.looks (Collects q.thread (Some 0)) w.get free);
     },
     λ none. subst (All (TakesNone c)) (sym whole)
-        (All-append (TakesNone c) ((p.made ++ get) ++ (Makes (Enlist q.thread c l) Done ∷ (w.free ++ (w.looks ++ (Collects q.thread (Some 0) ∷ w.get))))) free
-        (All-append (TakesNone c) (p.made ++ get) (Makes (Enlist q.thread c l) Done ∷ (w.free ++ (w.looks ++ (Collects q.thread (Some 0) ∷ w.get))))
+        (All-append (TakesNone c)
+        ((p.made ++ get) ++ (Makes (Enlist q.thread c l) Done ∷ (w.free ++ (w.looks ++ (Collects q.thread (Some 0) ∷ w.get))))) free
+        (All-append (TakesNone c) (p.made ++ get)
+        (Makes (Enlist q.thread c l) Done ∷ (w.free ++ (w.looks ++ (Collects q.thread (Some 0) ∷ w.get))))
         (All-append (TakesNone c) p.made get none (get_none c p.thread k get get_word))
         (subst (All (TakesNone c)) w.is (wait_none c c q.thread l ended did w)))
         (free_none c r.thread m became free free_word)),
   )
     where
-      whole : s.made ≡ ((p.made ++ get) ++ (Makes (Enlist q.thread c l) Done ∷ (w.free ++ (w.looks ++ (Collects q.thread (Some 0) ∷ w.get))))) ++ free
+      whole : s.made
+          ≡ ((p.made ++ get) ++ (Makes (Enlist q.thread c l) Done ∷ (w.free ++ (w.looks ++ (Collects q.thread (Some 0) ∷ w.get))))) ++ free
       whole = freed ∙ ap (λ zs. zs ++ free) (slept ∙ (ap (λ zs. zs ++ did) got ∙ ap (λ zs. (p.made ++ get) ++ zs) w.is))
 
   -- ---- one notification more
-  pub calls_more : (p q : PassView V) (c n : ℕ) → q.thread ≡ p.thread → Adds p.made (NotifyWord p.thread c 1 n) q.made → HasCalled c p → HasCalled c q
+  pub calls_more : (p q : PassView V) (c n : ℕ) → q.thread ≡ p.thread → Adds p.made (NotifyWord p.thread c 1 n) q.made
+      → HasCalled c p → HasCalled c q
   calls_more p q c n same (did, is, word) called = subst (λ t. All (IsOwnCall c t) q.made) (sym same)
       (subst (All (IsOwnCall c p.thread)) (sym is) (All-append (IsOwnCall c p.thread) p.made did called (own_word c p.thread n did word)))
 
@@ -147,21 +157,27 @@ module _ {V : Type 0} (names : LotNames V) (a b : PassView V) (c : ℕ) (has : H
   own_b = All-head Own b [] (All-tail Own a (b ∷ []) has.made)
 
   -- what is so of all that was made with a pass is so of an access of its thread
-  made_so : (P : Access → Type 0) (p : PassView V) → Own p → All P p.made → (v : ℕ) → v ≡ p.thread → (x : Access) → Contains (accesses_of (2 * v) log) x → P x
-  made_so P p own all v is x made = All-contains P p.made x all (subst (λ xs. Contains xs x) (sym own) (subst (λ u. Contains (accesses_of (2 * u) log) x) is made))
+  made_so : (P : Access → Type 0) (p : PassView V) → Own p → All P p.made → (v : ℕ) → v ≡ p.thread → (x : Access)
+      → Contains (accesses_of (2 * v) log) x → P x
+  made_so P p own all v is x made =
+      All-contains P p.made x all (subst (λ xs. Contains xs x) (sym own) (subst (λ u. Contains (accesses_of (2 * u) log) x) is made))
 
   -- a Call of one that took the thread from the line saw one
-  saw_one : (s : World) (t u n : ℕ) (more : Bool) (x : Access) → x ≡ Makes (Call u c 1 more) (Count n) → SeesIn s x → Contains (s.conds.line c) t
+  saw_one : (s : World) (t u n : ℕ) (more : Bool) (x : Access) → x ≡ Makes (Call u c 1 more) (Count n) → SeesIn s x
+      → Contains (s.conds.line c) t
       → x ≡ Makes (Call u c 1 more) (Count 1)
   saw_one s t u n more x is saw there =
       let e : Count n ≡ Count (dequeued_count 1 (s.conds.line c)) = subst (SeesIn s) is saw in
-      is ∙ ap (λ m. Makes (Call u c 1 more) (Count m)) (count_is n (dequeued_count 1 (s.conds.line c)) e ∙ some_there (s.conds.line c) t there)
+      is ∙ ap (λ m. Makes (Call u c 1 more) (Count m))
+      (count_is n (dequeued_count 1 (s.conds.line c)) e ∙ some_there (s.conds.line c) t there)
 
-  pub notified_first : LettersFollow → names.threads ≡ 2 → a.thread < 2 → b.thread < 2 → a.thread ≢ b.thread → HasWaited c a → HasTakenNone c a → HasCalled c b
+  pub notified_first : LettersFollow → names.threads ≡ 2 → a.thread < 2 → b.thread < 2 → a.thread ≢ b.thread → HasWaited c a
+      → HasTakenNone c a → HasCalled c b
       → IsNotifiedFirst names a.thread b.thread c
   notified_first law two low high apart waited none called =
       let z = size_named names.threads names.locks names.conds names.permits in
-      let w = law z log _ has.told.recounted.history cond a.thread c 0 waited.front (Makes (Enlist a.thread c waited.lock) Done) waited.between
+      let w =
+      law z log _ has.told.recounted.history cond a.thread c 0 waited.front (Makes (Enlist a.thread c waited.lock) Done) waited.between
       (Collects a.thread (Some 0)) waited.back (sym own_a ∙ waited.made) (waited.lock, refl) refl in
       let by : w.maker ≡ b.thread = dite {C = w.maker ≡ b.thread} (ℕ_discrete w.maker a.thread)
       (λ e. absurd (made_so (TakesNone c) a own_a none w.maker e w.taking.access w.made w.takes))
@@ -178,6 +194,7 @@ module _ {V : Type 0} (names : LotNames V) (a b : PassView V) (c : ℕ) (has : H
         after = w.after;
         there = w.there ∙ sym (append_assoc w.before (w.first ∷ w.waiting) (w.taking ∷ (w.since ++ w.last ∷ w.after)));
         more = call.0;
-        called = saw_one (state_after z (w.before ++ w.first ∷ w.waiting)) a.thread b.thread call.1 call.0 w.taking.access call.2 w.saw w.was_in;
+        called =
+            saw_one (state_after z (w.before ++ w.first ∷ w.waiting)) a.thread b.thread call.1 call.0 w.taking.access call.2 w.saw w.was_in;
         collected = w.last_is;
       }

@@ -1,5 +1,6 @@
 -- Where an access of one thread stands in the history that all threads have made.
-use Rattle.std.proofs.Common.{◌≡◌, ℕ, suc, ◌*◌, ◌<◌, ◌==◌, Bool, true, false, cond, List, [], ◌∷◌, ◌++◌, map, refl, sym, ap, subst, ◌∙◌, arith}
+use Rattle.std.proofs.Common.{◌≡◌, ℕ, suc, ◌*◌, ◌<◌, ◌==◌, Bool, true, false, cond, List, [], ◌∷◌, ◌++◌, map, refl, sym, ap, subst, ◌∙◌}
+use Rattle.std.proofs.Common.{arith}
 use Rattle.std.specs.List.{Any}
 use Rattle.lot_events.specs.declared.events.Event.{Event}
 use Rattle.lot_events.specs.declared.events.Seen.{Seen}
@@ -34,7 +35,8 @@ record ComesOf {A B : Type 0} (f : A → B) (xs : List A) (front : List B) (y : 
   pub x_is : f x ≡ y
   pub back_is : map f after ≡ back
 
-comes_of : {A B : Type 0} (f : A → B) (xs : List A) (front : List B) (y : B) (back : List B) → SplitsAt (map f xs) front y back → ComesOf f xs front y back
+comes_of : {A B : Type 0} (f : A → B) (xs : List A) (front : List B) (y : B) (back : List B) → SplitsAt (map f xs) front y back
+    → ComesOf f xs front y back
 comes_of f [] front y back e = absurd (no_split front y back e)
 comes_of f (x ∷ xs) [] y back e = record {
   before = [];
@@ -96,7 +98,8 @@ stands_at i x xs front e back false other rest at =
       back_is = more.back_is;
     }
 
-stands_in : (i : ℕ) (log front : List Entry) (e : Entry) (back : List Entry) → SplitsAt (entries_of i log) front e back → StandsIn i log front e back
+stands_in : (i : ℕ) (log front : List Entry) (e : Entry) (back : List Entry) → SplitsAt (entries_of i log) front e back
+    → StandsIn i log front e back
 stands_in i [] front e back at = absurd (no_split front e back at)
 stands_in i (x ∷ xs) front e back at = stands_at i x xs front e back (doer x.access == i) refl (λ fs more. stands_in i xs fs e back more) at
 
@@ -110,7 +113,8 @@ pub record IsInLog (t : ℕ) (log : List Entry) (front : List Access) (a : Acces
   pub access_is : entry.access ≡ a
   pub back_is : accesses_of (2 * t) after ≡ back
 
-pub is_in_log : (t : ℕ) (log : List Entry) (front : List Access) (a : Access) (back : List Access) → SplitsAt (accesses_of (2 * t) log) front a back
+pub is_in_log : (t : ℕ) (log : List Entry) (front : List Access) (a : Access) (back : List Access)
+    → SplitsAt (accesses_of (2 * t) log) front a back
     → IsInLog t log front a back
 is_in_log t log front a back at =
     let own = comes_of (λ (e : Entry). e.access) (entries_of (2 * t) log) front a back at in
@@ -141,6 +145,7 @@ module _ (F : Event × Seen → Type 0) where
   any_from (y ∷ before) x after e saw is holds = later y.access (events_in (before ++ x ∷ after)) (any_from before x after e saw is holds)
 
   -- an event that stands in the log is one of its events
-  pub any_in_log : (log before : List Entry) (x : Entry) (after : List Entry) (e : Event) (saw : Seen) → SplitsAt log before x after → x.access ≡ Makes e saw
+  pub any_in_log : (log before : List Entry) (x : Entry) (after : List Entry) (e : Event) (saw : Seen) → SplitsAt log before x after
+      → x.access ≡ Makes e saw
       → F (e, saw) → Any F (events_in log)
   any_in_log log before x after e saw at is holds = subst (λ xs. Any F (events_in xs)) (sym at) (any_from before x after e saw is holds)

@@ -78,7 +78,8 @@ fn own_both<N: LotName<Account> + Send + Sync, T: Wait>(
     requires key { 1 < lot.now.locks }
     requires free { OwnsNone pass }
     ensures keys { (result.1.key ≡ 0) × (result.2.key ≡ 1) }
-    ensures kept { (result.1.value.paid_out ≤ result.1.value.paid_in) × (result.2.value.paid_out ≤ result.2.value.paid_in) }
+    ensures kept { (result.1.value.paid_out ≤ result.1.value.paid_in)
+        × (result.2.value.paid_out ≤ result.2.value.paid_in) }
     ensures both { HoldingBoth (λ x y. (x.paid_in ≤ y.paid_in) × (x.paid_out ≤ y.paid_out)) result.0 result.1 result.2 }
 {
     let (pass, from) = own(rt, lot, pass);
@@ -108,8 +109,10 @@ fn release_first<N: LotName<Account> + Send + Sync, T: Wait>(
 fn moved(from: Account, into: Account, amount: u64) -> (Account, Account, bool)
     requires { (from.paid_out ≤ from.paid_in) × (into.paid_out ≤ into.paid_in) }
     ensures kept { (result.0.paid_out ≤ result.0.paid_in) × (result.1.paid_out ≤ result.1.paid_in) }
-    ensures grown { (from.paid_in ≤ result.0.paid_in) × (from.paid_out ≤ result.0.paid_out) × (into.paid_in ≤ result.1.paid_in) × (into.paid_out ≤ result.1.paid_out) }
-    ensures answer { MatchBool result.2 ((result.0.paid_out ≡ from.paid_out + amount) × (result.1.paid_in ≡ into.paid_in + amount)) ((result.0 ≡ from) × (result.1 ≡ into)) }
+    ensures grown { (from.paid_in ≤ result.0.paid_in) × (from.paid_out ≤ result.0.paid_out)
+        × (into.paid_in ≤ result.1.paid_in) × (into.paid_out ≤ result.1.paid_out) }
+    ensures answer { MatchBool result.2 ((result.0.paid_out ≡ from.paid_out + amount)
+        × (result.1.paid_in ≡ into.paid_in + amount)) ((result.0 ≡ from) × (result.1 ≡ into)) }
 {
     let Some(paid_in) = into.paid_in.checked_add(amount) else {
         return (from, into, false);
@@ -128,7 +131,8 @@ fn moved(from: Account, into: Account, amount: u64) -> (Account, Account, bool)
     (taken, given, true)
 }
 
-/// Moves an amount from account 0 to account 1 with both locked. That neither went below zero is what each unlock asks for.
+/// Moves an amount from account 0 to account 1 with both locked. That neither went below zero is what each unlock asks
+/// for.
 fn transfer<N: LotName<Account> + Send + Sync, T: Wait>(
     rt: &T,
     lot: &Lot<Account, N>,

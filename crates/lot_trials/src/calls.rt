@@ -1,4 +1,5 @@
-//! Calls of one thread, where memory may be refused: a journal's, and those that read a script, make its events and print the state.
+//! Calls of one thread, where memory may be refused: a journal's, and those that read a script, make its events and
+//! print the state.
 
 use crate::asserts::{equal, failed, is_so};
 use lot_core::{CoreFault, Event, Script, ScriptFault, State, parse_script, print_state};

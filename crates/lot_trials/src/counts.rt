@@ -112,7 +112,8 @@ pub(crate) fn try_own<N: LotName<Count> + Send + Sync>(
 ) -> (Pass<Count, N>, Option<Held<Count, N>>)
     requires key { key < lot.now.locks }
     requires free { OwnsNone pass }
-    ensures { MatchOption result.1 (OwnsNone result.0) (λ held. (held.key ≡ key) × Holding (λ x y. x.n ≤ y.n) result.0 held) }
+    ensures { MatchOption result.1 (OwnsNone result.0)
+        (λ held. (held.key ≡ key) × Holding (λ x y. x.n ≤ y.n) result.0 held) }
 {
     lot.try_lock(pass, key)
 }
@@ -125,7 +126,8 @@ pub(crate) fn free<N: LotName<Count> + Send + Sync>(
 ) -> (Pass<Count, N>, Option<Held<Count, N>>)
     requires key { held.key < lot.now.locks }
     requires holding { Holding (λ x y. x.n ≤ y.n) pass held }
-    ensures { MatchOption result.1 (OwnsNone result.0) (λ back. (back.key ≡ held.key) × Holding (λ x y. x.n ≤ y.n) result.0 back) }
+    ensures { MatchOption result.1 (OwnsNone result.0)
+        (λ back. (back.key ≡ held.key) × Holding (λ x y. x.n ≤ y.n) result.0 back) }
 {
     lot.unlock_unparked(pass, held)
 }
@@ -137,7 +139,8 @@ pub(crate) fn word<N: LotName<Count> + Send + Sync>(lot: &Lot<Count, N>, key: us
     u64::from(lot.is_held(key)) + 2 * u64::from(lot.is_parked(key))
 }
 
-/// Waits until so many are in the line of the lock, the condition or the semaphore, asking a bounded number of times, or the test fails.
+/// Waits until so many are in the line of the lock, the condition or the semaphore, asking a bounded number of times,
+/// or the test fails.
 pub(crate) fn await_line<N: LotName<Count> + Send + Sync, T: Wait + Abort>(
     rt: &T,
     lot: &Lot<Count, N>,

@@ -32,7 +32,8 @@ trait Tells: Counts {
     /// Whether thread 0 and then thread 1 were counted, and nobody else.
     fn has_both(&self) -> bool;
 
-    ghost there_once_counted: { (thread : ℕ) (seen now : Self) → IsCountedOnce Self.grows Self.part Self.is_counted thread seen now → is_there thread seen now };
+    ghost there_once_counted: { (thread : ℕ) (seen now : Self)
+        → IsCountedOnce Self.grows Self.part Self.is_counted thread seen now → is_there thread seen now };
 }
 
 impl Tells for Journal<Counter> {
@@ -108,7 +109,8 @@ fn call_once<V: Tells + Send, N: LotName<V> + Send + Sync, T: Wait + Abort>(
     ensures same { result.thread ≡ pass.thread }
     ensures free { OwnsNone result }
     ensures shape { HasShape lot.now result }
-    ensures there { (seen now : V) → HasSeen pass 0 seen → HasSeen result 0 now → IsCountedOnce V.grows V.part V.is_counted pass.thread seen now }
+    ensures there { (seen now : V) → HasSeen pass 0 seen → HasSeen result 0 now
+        → IsCountedOnce V.grows V.part V.is_counted pass.thread seen now }
 {
     let thread = pass.thread();
     let (pass, mut held) = lot.lock(rt, pass, 0);
@@ -130,14 +132,16 @@ fn look<V: Tells + Send, N: LotName<V> + Send + Sync, T: Wait>(
     requires key { 0 < lot.now.locks }
     requires free { OwnsNone pass }
     ensures free { OwnsNone result }
-    ensures on { (seen now : V) → HasSeen pass 0 seen → HasSeen result 0 now → V.grows seen now × (V.part pass.thread seen ≡ V.part pass.thread now) }
+    ensures on { (seen now : V) → HasSeen pass 0 seen → HasSeen result 0 now
+        → V.grows seen now × (V.part pass.thread seen ≡ V.part pass.thread now) }
 {
     let (pass, held) = lot.lock(rt, pass, 0);
     let (pass, _) = lot.unlock(rt, pass, held, Moment { now: 0, word: 0 });
     pass
 }
 
-/// The thread calls once, another may come between, and the thread looks: its call is in the history, after all that it had seen, once.
+/// The thread calls once, another may come between, and the thread looks: its call is in the history, after all that it
+/// had seen, once.
 fn call_and_look<V: Tells + Send, N: LotName<V> + Send + Sync, T: Wait + Abort>(
     rt: &T,
     lot: &Lot<V, N>,
@@ -164,7 +168,8 @@ fn call_and_look_in_journal<N: LotName<Journal<Counter>> + Send + Sync, T: Wait 
     requires key { 0 < lot.now.locks }
     requires free { OwnsNone pass × OwnsNone other }
     ensures free { OwnsNone result.0 × OwnsNone result.1 }
-    ensures there { (seen now : JournalView Counter Add ℕ) → HasSeen pass 0 seen → HasSeen result.0 0 now → IsThere pass.thread (record { 0 = 1 }) seen now }
+    ensures there { (seen now : JournalView Counter Add ℕ) → HasSeen pass 0 seen → HasSeen result.0 0 now
+        → IsThere pass.thread (record { 0 = 1 }) seen now }
 {
     call_and_look::<Journal<Counter>, N, T>(rt, lot, pass, other)
 }

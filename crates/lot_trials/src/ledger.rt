@@ -1,5 +1,5 @@
-//! One thread waits once on a condition, and another notifies it: what the ledger tells then, and that the notification came before the letter
-//! that the wait collected, concluded from the contracts of the public calls alone.
+//! One thread waits once on a condition, and another notifies it: what the ledger tells then, and that the notification
+//! came before the letter that the wait collected, concluded from the contracts of the public calls alone.
 ghost use Rattle.std.specs.Prelude.{◌≡◌, ◌≤◌, ◌<◌, [], ◌∷◌, length, vec_len, vec_capacity, IsSomeAnd};
 ghost use Rattle.lot_sync.specs.Lot.{OwnsNone, rested};
 ghost use Rattle.lot_sync.specs.Opened.{IsNamed};
@@ -63,8 +63,8 @@ fn wait_once<N: LotName<Number> + Send + Sync, T: Wait>(
     pass
 }
 
-/// Notifies one, asking a bounded number of times until somebody was taken: one sleeper more was taken, nothing else is counted, and nobody was
-/// notified but by these calls.
+/// Notifies one, asking a bounded number of times until somebody was taken: one sleeper more was taken, nothing else is
+/// counted, and nobody was notified but by these calls.
 fn call_once<N: LotName<Number> + Send + Sync, T: Wait + Abort>(
     rt: &T,
     lot: &Lot<Number, N>,
@@ -119,8 +119,8 @@ fn call_here<N: LotName<Number> + Send + Sync, T: Wait + Abort>(
     }
 }
 
-/// One thread waits once, by the pass that lies in the first place, and another notifies it, by the one in the second. The places are lent, since a
-/// closure can't hold a pass.
+/// One thread waits once, by the pass that lies in the first place, and another notifies it, by the one in the second.
+/// The places are lent, since a closure can't hold a pass.
 fn side_by_side<'a, N: LotName<Number> + Send + Sync, T: Threads + Wait + Sync + Abort>(
     rt: &'a T,
     lot: &'a Lot<Number, N>,
@@ -163,8 +163,9 @@ fn wait_and_call<N: LotName<Number> + Send + Sync, T: Threads + Wait + Sync + Ab
     (waits.unwrap(), calls.unwrap())
 }
 
-/// The two passes of a lot wait and notify, and the lot is closed with them. The ledger tells of one sleeper that was taken and of one wait that
-/// ended, and in the one history of the lot the notification comes before the letter that the wait collected.
+/// The two passes of a lot wait and notify, and the lot is closed with them. The ledger tells of one sleeper that was
+/// taken and of one wait that ended, and in the one history of the lot the notification comes before the letter that
+/// the wait collected.
 fn tally<N: LotName<Number> + Send + Sync, T: Threads + Wait + Sync + Abort>(
     rt: &T,
     lot: Lot<Number, N>,

@@ -89,8 +89,9 @@ fn a_release_wakes_a_sleeper_at_moment_0(rt: HostRuntime) {
     on_conds(&rt, rt.alloc(), 2, &WOKEN_FOR_A_PERMIT, (0, 0));
 }
 
-/// The one permit is given back at the fair moment while another thread sleeps for it, and a waiting thread is notified then. After each of these the
-/// next fair moment of the bucket was moved on: a lock in it on which another thread sleeps is let go at 12, and not handed over.
+/// The one permit is given back at the fair moment while another thread sleeps for it, and a waiting thread is notified
+/// then. After each of these the next fair moment of the bucket was moved on: a lock in it on which another thread
+/// sleeps is let go at 12, and not handed over.
 static MOMENTS: [(usize, Step); 24] = [
     (0, Step::Register(0)),
     (1, Step::Register(1)),
@@ -165,7 +166,8 @@ fn play<N: LotName<Count> + Send + Sync, T: Wait + Abort>(
     opened: Opened<Count>,
 )
     requires named { IsNamed N.LotName opened }
-    requires sizes { (opened.threads ≡ 2) × (length opened.values ≡ 1) × (opened.conds ≡ 0) × (length opened.permits ≡ 1) }
+    requires sizes { (opened.threads ≡ 2) × (length opened.values ≡ 1) × (opened.conds ≡ 0)
+        × (length opened.permits ≡ 1) }
 {
     let passes = room_for(rt, alloc, 2);
     let Ok(lot) = opened.start::<N>(alloc) else {

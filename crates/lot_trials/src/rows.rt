@@ -75,7 +75,8 @@ fn a_quiet_unlock_asks_for_no_moment(rt: HostRuntime) {
     on_locks(&rt, rt.alloc(), 3, &ASKED_FOR_NOTHING);
 }
 
-/// The second thread sleeps on the lock of the first, which hands it over by this step. Until the new owner lets it go, its parked bit stays.
+/// The second thread sleeps on the lock of the first, which hands it over by this step. Until the new owner lets it go,
+/// its parked bit stays.
 fn handed_by(step: Step) -> [(usize, Step); 15] {
     [
         (0, Step::Register(0)),
@@ -114,7 +115,8 @@ fn a_fair_unlock_hands_over_at_any_moment(rt: HostRuntime) {
     on_locks(&rt, rt.alloc(), 3, &rows);
 }
 
-/// A release at moment 0 is not fair: with nobody left in the queue it clears the parked bit, and the sleeper gets the lock by itself.
+/// A release at moment 0 is not fair: with nobody left in the queue it clears the parked bit, and the sleeper gets the
+/// lock by itself.
 static BARGING: [(usize, Step); 14] = [
     (0, Step::Register(0)),
     (0, Step::Lock(0)),
@@ -137,8 +139,8 @@ fn a_barging_opportunity_wakes(rt: HostRuntime) {
     on_locks(&rt, rt.alloc(), 3, &BARGING);
 }
 
-/// The first thread hands its lock over at moment 5 with word 7, and sleeps on it then. The next fair moment is 12: of a release at this moment this
-/// becomes.
+/// The first thread hands its lock over at moment 5 with word 7, and sleeps on it then. The next fair moment is 12: of
+/// a release at this moment this becomes.
 fn after_a_handoff(now: u64, released: Released) -> [(usize, Step); 12] {
     [
         (0, Step::Register(0)),
@@ -168,8 +170,8 @@ fn a_release_past_the_next_fair_moment_hands_over(rt: HostRuntime) {
     on_locks(&rt, rt.alloc(), 3, &rows);
 }
 
-/// Locks 1 and 13 share a bucket of a table of 12, in which three threads sleep, the second on lock 1. The fifth registration takes the bucket apart, and
-/// each line is as it was.
+/// Locks 1 and 13 share a bucket of a table of 12, in which three threads sleep, the second on lock 1. The fifth
+/// registration takes the bucket apart, and each line is as it was.
 static GROWTH: [(usize, Step); 27] = [
     (0, Step::Register(0)),
     (0, Step::Lock(13)),
@@ -393,7 +395,8 @@ fn nothing_answers_no_memory_for_nothing(rt: HostRuntime) {
     grow_past_one(&rt, rt.alloc(), Memory::Ample);
 }
 
-/// Four threads have registered, and then two at once: whichever lets the table grow, it is large enough, and no pass is left.
+/// Four threads have registered, and then two at once: whichever lets the table grow, it is large enough, and no pass
+/// is left.
 static TWO_AT_ONCE: [(usize, Step); 16] = [
     (0, Step::Register(0)),
     (1, Step::Register(1)),

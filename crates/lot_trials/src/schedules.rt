@@ -69,7 +69,8 @@ pub(crate) enum Step {
     UnlockUnparked(bool),
     /// Lets its lock go at moment 0, whatever becomes of it.
     LetGo,
-    /// Waits on this condition, with a release of its lock at this moment, and lets the lock go when it has it again. The next row is made meanwhile.
+    /// Waits on this condition, with a release of its lock at this moment, and lets the lock go when it has it again.
+    /// The next row is made meanwhile.
     Wait(usize, u64),
     /// The same at moment 5, but it lets the lock go only after the gate was opened.
     WaitAtGate(usize),
@@ -195,7 +196,8 @@ struct Progress {
     met: AtomicU64,
 }
 
-/// Waits until all rows before this one are made, asking a bounded number of times, or the test fails. False where the schedule is given up.
+/// Waits until all rows before this one are made, asking a bounded number of times, or the test fails. False where the
+/// schedule is given up.
 fn may_be_made(rt: &impl Abort, progress: &Progress, row: usize) -> bool {
     for _ in 0..ASKINGS {
         if progress.next_row.load(Ordering::SeqCst) == row as u64 {
@@ -614,7 +616,8 @@ fn try_to_hold<N: LotName<Count> + Send + Sync, T: Wait + Abort>(
     }
 }
 
-/// A step of a thread that holds one permit: it gets another of the same semaphore, at once or by waiting, or gives it back.
+/// A step of a thread that holds one permit: it gets another of the same semaphore, at once or by waiting, or gives it
+/// back.
 fn when_holder<N: LotName<Count> + Send + Sync, T: Wait + Abort>(
     rt: &T,
     lot: &Lot<Count, N>,
@@ -890,7 +893,8 @@ fn follow_on<N: LotName<Count> + Send + Sync, T: Threads + Wait + Sync + Abort>(
     schedule: Schedule<'_>,
 ) -> Vec<Count>
     requires named { IsNamed N.LotName opened }
-    requires sizes { (opened.threads ≡ schedule.threads) × (length opened.values ≡ 14) × (opened.conds ≡ 13) × (length opened.permits ≡ 2) }
+    requires sizes { (opened.threads ≡ schedule.threads) × (length opened.values ≡ 14) × (opened.conds ≡ 13)
+        × (length opened.permits ≡ 2) }
 {
     let Ok(passes) = Vec::with_capacity(alloc, schedule.threads) else {
         may_be_refused(rt, schedule.memory);

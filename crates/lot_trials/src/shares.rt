@@ -109,7 +109,8 @@ fn find_own<N: LotName<Shares> + Send + Sync, T: Wait>(
     (pass, own_of(found, thread))
 }
 
-/// The first leaves its own number, another counts in between, and the first comes back: it finds its own number as it left it.
+/// The first leaves its own number, another counts in between, and the first comes back: it finds its own number as it
+/// left it.
 fn come_back<N: LotName<Shares> + Send + Sync, T: Wait + Abort>(
     rt: &T,
     lot: &Lot<Shares, N>,

@@ -585,7 +585,8 @@ fn longest_scripts(rt: HostRuntime) -> Result<(), Fail> {
     Ok(())
 }
 
-/// What is printed of 64 threads and 1024 keys, of which so many are locks and the others conditions, where nothing has happened.
+/// What is printed of 64 threads and 1024 keys, of which so many are locks and the others conditions, where nothing has
+/// happened.
 fn state_of_keys(alloc: Global, locks: u16) -> Result<String, AllocError> {
     let mut state = String::new(alloc);
     push_lines(&mut state, "lock", 0..locks, "word 0 owner - line -")?;
@@ -806,7 +807,8 @@ impl Gate for Meeting {
     }
 }
 
-/// Holds the consumer, worker 1, before its first lock, until the producer, worker 0, has owned the lock in its fourth round.
+/// Holds the consumer, worker 1, before its first lock, until the producer, worker 0, has owned the lock in its fourth
+/// round.
 #[derive(Drop)]
 struct Filled {
     full: AtomicU64,

@@ -1,4 +1,5 @@
-//! Threads that wait on a condition and are notified, in the running code: they wait in an order that is made by hand, and some are held before they sleep.
+//! Threads that wait on a condition and are notified, in the running code: they wait in an order that is made by hand,
+//! and some are held before they sleep.
 
 use crate::counts::Gathered;
 use crate::schedules::{Memory, Schedule, Step, follow};
@@ -33,7 +34,8 @@ pub(crate) fn on_conds<T: Threads + Wait + Sync + Abort>(
     follow(rt, alloc, schedule);
 }
 
-/// A thread is taken that is queued on the condition and owns its lock still: it lets the lock go, does not sleep, and gets it again.
+/// A thread is taken that is queued on the condition and owns its lock still: it lets the lock go, does not sleep, and
+/// gets it again.
 static TAKEN_BEFORE_ITS_SLEEP: [(usize, Step); 13] = [
     (0, Step::Register(0)),
     (0, Step::Lock(0)),
@@ -55,7 +57,8 @@ fn notifications_are_answered(rt: HostRuntime) {
     on_conds(&rt, rt.alloc(), 2, &TAKEN_BEFORE_ITS_SLEEP, (1, 0));
 }
 
-/// A wait hands the lock to the thread in its line, which takes the waiting thread from the condition's line: that one gets the lock again.
+/// A wait hands the lock to the thread in its line, which takes the waiting thread from the condition's line: that one
+/// gets the lock again.
 static HANDED_BY_A_WAIT: [(usize, Step); 14] = [
     (0, Step::Register(0)),
     (0, Step::Lock(0)),
@@ -78,7 +81,8 @@ fn a_wait_hands_its_lock_over(rt: HostRuntime) {
     on_conds(&rt, rt.alloc(), 2, &HANDED_BY_A_WAIT, (1, 0));
 }
 
-/// A thread that sleeps on the condition has let its lock go, and gets it again when it is taken. The flag is clear then.
+/// A thread that sleeps on the condition has let its lock go, and gets it again when it is taken. The flag is clear
+/// then.
 static LETS_GO: [(usize, Step); 16] = [
     (0, Step::Register(0)),
     (0, Step::Lock(0)),
@@ -198,7 +202,8 @@ fn waits_are_notified_by_count(rt: HostRuntime) {
     on_conds(&rt, rt.alloc(), 4, &THREE_ARE_TAKEN_BY_COUNT, (3, 0));
 }
 
-/// Two conditions in one bucket with a waiting thread each: the flag stays until nobody else is in the bucket, or nobody is taken.
+/// Two conditions in one bucket with a waiting thread each: the flag stays until nobody else is in the bucket, or
+/// nobody is taken.
 static TWO_CONDITIONS: [(usize, Step); 16] = [
     (0, Step::Register(0)),
     (1, Step::Register(1)),

@@ -45,7 +45,8 @@ module _ {V : Type 0} where
   -- who sweeps what it has lowered knows what one knows that calls them all
   swept_own : (p : LotStanding V) (c taken : ℕ) → IsIdle p.own → (swept (setting_out p c) c taken).own ≡ (stand_called_more p c taken).own
   swept_own p c taken idle =
-      ap (λ (s : Option ℕ). record p.own { conds = record (cond_called_more p.own.conds c taken) { sweeps = s }; stand = Idle }) (sym idle.0.sweeps)
+      ap (λ (s : Option ℕ). record p.own { conds = record (cond_called_more p.own.conds c taken) { sweeps = s }; stand = Idle })
+      (sym idle.0.sweeps)
       ∙ ap (λ (s : Stand). record p.own { conds = cond_called_more p.own.conds c taken; stand = s }) (sym idle.1)
 
   pub may_sweep : (p m r : LotStanding V) (c : ℕ) (saw : Bool) → IsIdle p.own → m ≡ looked p c saw

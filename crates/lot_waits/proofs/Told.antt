@@ -26,14 +26,18 @@ module _ {V Part : Type 0} (rule : CallersRule V Part) where
       up cond = refl
       up sem = idle.0.up sem
 
-  pub counts_waited : (p q : LotStanding V) (c l : ℕ) (became : Released) → HasWaited rule p c l became q → counts_in q ≡ one_wait_more (counts_in p) c
+  pub counts_waited : (p q : LotStanding V) (c l : ℕ) (became : Released) → HasWaited rule p c l became q
+      → counts_in q ≡ one_wait_more (counts_in p) c
   counts_waited p q c l became w = ap counts_in w.is
 
 module _ {V : Type 0} where
   -- ---- a notification
-  told : (p q : LotStanding V) (c taken : ℕ) (acts : List Access) → IsIdle p.own → q ≡ adding (called_more p c taken) acts → HasTaken p c taken q
+  told : (p q : LotStanding V) (c taken : ℕ) (acts : List Access) → IsIdle p.own
+      → q ≡ adding (called_more p c taken) acts → HasTaken p c taken q
   told p q c taken acts idle is = record {
-    idle = subst (λ (r : LotStanding V). IsIdle r.own) (sym is) (record { up = up; aim = idle.0.aim; sweeps = idle.0.sweeps; seeks = idle.0.seeks }, idle.1);
+    idle =
+        subst (λ (r : LotStanding V). IsIdle r.own) (sym is)
+        (record { up = up; aim = idle.0.aim; sweeps = idle.0.sweeps; seeks = idle.0.seeks }, idle.1);
     counts = ap counts_in is;
   }
     where

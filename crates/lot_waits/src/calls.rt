@@ -90,9 +90,9 @@ pub fn notify_one<V: Keeps + Send, N: LotName<V> + Send, R: Wait>(
     call_one(rt, parking, pass, cond, moment)
 }
 
-/// Takes the first `count` threads of the condition's line, or all where they are fewer, in one visit of the bucket, and
-/// answers how many they were: `count` times `notify_one`, that nobody can come between. Where the flag is clear it is
-/// one load, and locks no bucket. The threads are woken after the bucket is unlocked. It takes no memory.
+/// Takes the first `count` threads of the condition's line, or all where they are fewer, in one visit of the bucket,
+/// and answers how many they were: `count` times `notify_one`, that nobody can come between. Where the flag is clear it
+/// is one load, and locks no bucket. The threads are woken after the bucket is unlocked. It takes no memory.
 #[inline(always)]
 pub fn notify_some<V: Keeps + Send, N: LotName<V> + Send, R: Wait>(
     rt: &R,

@@ -86,7 +86,8 @@ Passes {V} p q fair more p' q' =
     → NotesIn lock p (letting_go p.own.locks q.key y) (Makes (Pass p.thread q.key fair more) (Sleeper (first q.own.line))) p')
     × (q' ≡ whole_root lock (record q { own = passed_root q.own fair q.own.line }))
 
-abbrev pub Enlists : {V : Type 0} → PassRight (LotPassView V) → RootRight CondRootView → ℕ → PassRight (LotPassView V) → RootRight LotRootView
+abbrev pub Enlists : {V : Type 0} → PassRight (LotPassView V) → RootRight CondRootView → ℕ → PassRight (LotPassView V)
+    → RootRight LotRootView
     → Type 0
 Enlists p q l p' q' = NotesIn cond p (enlisted p.own.conds q.key) (Makes (Enlist p.thread q.key l) Done) p'
     × (q' ≡ whole_root cond (record q { own = enlisted_root q.own p.thread }))
@@ -146,7 +147,8 @@ module _ {V Part : Type 0} (rule : CallersRule V Part) (z : LotSize) (xs : List 
         → LotPassIs rule z xs w p.thread p.own
         → LotRootIs rule z xs w q.key (root_from j q.own) → Speaks rule z xs j w a
 
-    pub carry_both : (own' : PassIn V j) (its' : RootIn j) (a' : Access) (whole : PassRight (LotPassView V) → RootRight LotRootView → Type 0)
+    pub carry_both : (own' : PassIn V j) (its' : RootIn j) (a' : Access)
+        (whole : PassRight (LotPassView V) → RootRight LotRootView → Type 0)
         → MayBeAway j p.own own' → MaySpeakBoth a'
         → ((k : ℕ) → whole (pass_after p (lot_own j p.own own' a') k a') (whole_root j (record q { own = its' })))
         → (own : PassIn V j) (its : RootIn j) (a : Access) → Notes (part_pass j p) own' a' (pass_after (part_pass j p) own 0 a)
@@ -392,7 +394,8 @@ module _ {V Part : Type 0} (rule : CallersRule V Part) (z : LotSize) (xs : List 
 
     module _ (idle : IsIdle p.own) (n : ℕ) (more : Bool) (few : IsCallCount n) (says : SaysMoreBehind n q.own.line more) where
       carries_calls : CarriesBoth rule z xs cond p q (λ _. conds.Calls (part_pass cond p) q n more) (λ _. CallsSome p q n more)
-      carries_calls x own its a told = carry_both cond p q (called_more p.own.conds q.key (dequeued_count n q.own.line)) (called_root q.own n)
+      carries_calls x own its a told =
+          carry_both cond p q (called_more p.own.conds q.key (dequeued_count n q.own.line)) (called_root q.own n)
           (Makes (Call p.thread q.key n more) (Count (dequeued_count n q.own.line))) (CallsSome p q n more) (λ up. inl up)
           (λ w ws hs ok fit root. (tt, idle_calm rule z xs w ws hs ok p.thread p.own fit idle)) (λ k. ((k, refl), refl)) own its a
           (told 0).0 (told 0).1

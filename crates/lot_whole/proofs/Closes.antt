@@ -74,7 +74,8 @@ module _ {V Part : Type 0} (rule : CallersRule V Part) (z : LotSize) (opening : 
     w = left.world
 
     passes_fit : (j : Which) → All
-        (λ (p : PassShown (PassIn V j)). (meaning_of rule z opening j).PassFits (w.each j) p.pass.thread p.pass.own) (map (in_kind j) passes)
+        (λ (p : PassShown (PassIn V j)). (meaning_of rule z opening j).PassFits (w.each j) p.pass.thread p.pass.own)
+        (map (in_kind j) passes)
     passes_fit j = All-map (λ (p : PassShown (PassIn V j)). (meaning_of rule z opening j).PassFits (w.each j) p.pass.thread p.pass.own)
         (in_kind j) passes
         (All-weaker (λ (p : PassShown (LotPassView V)). LotPassIs rule z opening w p.pass.thread p.pass.own)

@@ -105,7 +105,8 @@ module _ {V Part : Type 0} (rule : CallersRule V Part) where
   CollectingIn p asleep out zero q = (0 ≤ 2) × Notes p p.own (Collects p.thread None) q
   CollectingIn p asleep out (suc token) q = (suc token ≤ 2) × CollectsIn rule p asleep out token q
 
-  by_number : (p : PassRight (LotPassView V)) (n : ℕ) (q : PassRight (LotPassView V)) → CollectingIn p p.own.locks.asleep p.own.conds.out n q
+  by_number : (p : PassRight (LotPassView V)) (n : ℕ) (q : PassRight (LotPassView V))
+      → CollectingIn p p.own.locks.asleep p.own.conds.out n q
       → Collecting p n q
   by_number p zero q h = h
   by_number p (suc token) q h = h

@@ -29,7 +29,8 @@ before_permits : (ws : List ℕ) (first_sem : ℕ) (permits : List ℕ) (i c : �
     → get_or (with_permits ws first_sem permits i) (word_at c) 0 ≡ get_or ws (word_at c) 0
 before_permits ws first_sem permits zero c near = refl
 before_permits ws first_sem permits (suc i) c near =
-    get_or-set_other (with_permits ws first_sem permits i) (word_at (first_sem + i)) (word_at c) (2 * get_or permits i 0) 0 (λ e. omega arith)
+    get_or-set_other (with_permits ws first_sem permits i) (word_at (first_sem + i)) (word_at c)
+    (2 * get_or permits i 0) 0 (λ e. omega arith)
     ∙ before_permits ws first_sem permits i c near
 
 nobody_away : (V : Type 0) (z : LotSize) (xs : List V) (j : Which) → away V j (own_of V (fresh_pass z xs) j) ≡ false

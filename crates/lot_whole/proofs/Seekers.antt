@@ -18,7 +18,8 @@ use Rattle.lot_sems.specs.declared.taking.Taken.{Taken}
 use Rattle.lot_sems.specs.declared.taking.Taken.TheVariants.{Got, Empty, Busy}
 use Rattle.lot_sems.specs.declared.views.SemPassView.{SemPassView}
 use Rattle.lot_sems.specs.declared.views.SemRootView.{SemRootView}
-use Rattle.lot_sems.specs.Calls.{IsCalm, MayTake, IsAnyLeft, IsUnmarked, seeking, one_permit_more, one_permit_less, parked_pass, parked_root, passed_root}
+use Rattle.lot_sems.specs.Calls.{IsCalm, MayTake, IsAnyLeft, IsUnmarked, seeking, one_permit_more, one_permit_less, parked_pass}
+use Rattle.lot_sems.specs.Calls.{parked_root, passed_root}
 use Rattle.lot_sems.specs.Calls.{raise_of}
 use Rattle.lot_sems.specs.Calls as sem_calls
 use Rattle.lot_sems.proofs.Turns as sems
@@ -56,7 +57,8 @@ module _ {V : Type 0} where
 
   abbrev pub PassesPermit : PassRight (LotPassView V) → RootRight SemRootView → Bool → PassRight (LotPassView V) → RootRight LotRootView
       → Type 0
-  PassesPermit p q more p' q' = NotesIn sem p (one_permit_less p.own.sems q.key) (Makes (SemPass p.thread q.key more) (Sleeper (first q.own.line))) p'
+  PassesPermit p q more p' q' =
+      NotesIn sem p (one_permit_less p.own.sems q.key) (Makes (SemPass p.thread q.key more) (Sleeper (first q.own.line))) p'
       × (q' ≡ whole_root sem (record q { own = passed_root q.own q.own.line }))
 
   abbrev pub Clears : PassRight (LotPassView V) → RootRight SemRootView → PassRight (LotPassView V) → RootRight LotRootView → Type 0
@@ -113,7 +115,8 @@ module _ {V : Type 0} where
     taken left Empty q h = absurd h
     taken left Busy q h = tried left Busy q h
 
-    pub freed : IsUnmarked seen → (n : ℕ) (q : PassRight (LotPassView V)) → Swaps r k (one_permit_less r.own.sems k) (SemFree r.thread k) seen n q
+    pub freed : IsUnmarked seen → (n : ℕ) (q : PassRight (LotPassView V))
+        → Swaps r k (one_permit_less r.own.sems k) (SemFree r.thread k) seen n q
         → FreesPermit p k (n == seen) q
     freed clear n q = by_test (λ b. MatchBool b (NotesIn sem r (one_permit_less r.own.sems k) (Makes (SemFree r.thread k) (Saw true)) q)
         (FindsOf r k n q) → FreesPermit p k b q) n seen
@@ -185,7 +188,8 @@ module _ {V Part : Type 0} (rule : CallersRule V Part) (z : LotSize) (xs : List 
         (sems.Swaps (part_pass sem p) k (one_permit_more p.own.sems k) (SemTake p.thread k) seen)
         (Swaps p k (one_permit_more p.own.sems k) (SemTake p.thread k) seen)
         (sems.swaps (sem_size z) (part_pass sem p) k among (takes_so p.own k may) seen some) (at_key rule z xs sem p k among)
-        (λ n own a told. carries_swaps (one_permit_more p.own.sems k) (SemTake p.thread k) refl (speaks_take may true) seen n own a (told 0))
+        (λ n own a told. carries_swaps (one_permit_more p.own.sems k) (SemTake p.thread k) refl
+        (speaks_take may true) seen n own a (told 0))
 
     pub frees : MayGive p.own k → (seen : ℕ) → IsUnmarked seen
         → AllowsPass (lot_meaning rule z xs) (word_at k) (λ n. either (n == seen) ((seen + 2) % 2 ^ 64) n) p

@@ -97,7 +97,8 @@ module _ {V Part : Type 0} (rule : CallersRule V Part) (z : LotSize) (xs : List 
         (λ h. subst (Quiet rule z xs j w) (omega (arith, h.1.1)) h.1.2) place
 
     -- ---- the word becomes x, and the kind's world v
-    module _ (x : ℕ) (v : (meaning_of rule z xs j).World) (fits : (meaning_of rule z xs j).Fits v (set (w.words j) i x) (homes_in j hs)) where
+    module _ (x : ℕ) (v : (meaning_of rule z xs j).World)
+        (fits : (meaning_of rule z xs j).Fits v (set (w.words j) i x) (homes_in j hs)) where
       abbrev each : (k : Which) → (meaning_of rule z xs k).World
       each = dput {X = λ k. (meaning_of rule z xs k).World} j v w.each
 
@@ -271,7 +272,8 @@ module _ {V Part : Type 0} (rule : CallersRule V Part) (z : LotSize) (xs : List 
             → ((y : PassIn V j) → (meaning_of rule z xs j).PassFits (w.each j) u y → (meaning_of rule z xs j).PassFits v u y)
             → stand_of ((whole_by a w.whole).point u) ≡ stand_of (w.whole.point u) → PassOk rule z xs next u p
         pass_stays u p h kind same = record {
-          each = dput_elim {X = λ k. (meaning_of rule z xs k).World} (λ k y. (meaning_of rule z xs k).PassFits y u (own_of V p k)) j v w.each
+          each =
+              dput_elim {X = λ k. (meaning_of rule z xs k).World} (λ k y. (meaning_of rule z xs k).PassFits y u (own_of V p k)) j v w.each
               (kind (own_of V p j) (h.each j)) (λ k ne. h.each k);
           apart = h.apart;
           stand = same ∙ h.stand;
@@ -314,4 +316,5 @@ module _ {V Part : Type 0} (rule : CallersRule V Part) (z : LotSize) (xs : List 
         pub root_turned : (d : ℕ) (r : RootIn j) → IsKeyIn z j d → (meaning_of rule z xs j).RootFits v d r
             → LotRootIs rule z xs next d (root_from j r)
         root_turned d r is fit = root_out j next d r is
-            (subst (λ y. (meaning_of rule z xs j).RootFits y d r) (sym (dput_same {X = λ k. (meaning_of rule z xs k).World} j v w.each)) fit)
+            (subst (λ y. (meaning_of rule z xs j).RootFits y d r)
+            (sym (dput_same {X = λ k. (meaning_of rule z xs k).World} j v w.each)) fit)

@@ -84,7 +84,8 @@ module _ {V : Type 0} where
     pub bed_keeps : (Fact : LockPassView V → Type 0) → Fact p.own.locks → Fact q.own.locks
     bed_keeps Fact h = at_bed (λ o. Fact o.locks) h
 
-    pub bed_rests : (y : V) (r : PassRight (LotPassView V)) → NotesIn lock q (letting_go q.own.locks l y) (Makes (Free q.thread l) (Saw true)) r
+    pub bed_rests : (y : V) (r : PassRight (LotPassView V))
+        → NotesIn lock q (letting_go q.own.locks l y) (Makes (Free q.thread l) (Saw true)) r
         → IsResting c l r.own
     bed_rests y r free = subst (λ (x : PassRight (LotPassView V)). IsResting c l x.own) (sym free.1)
         (at_bed (λ o. IsResting c l (lot_own lock o (letting_go o.locks l y) (Makes (Free q.thread l) (Saw true))))

@@ -98,7 +98,8 @@ module _ {V : Type 0} where
   -- ---- letters of conditions and of semaphores, whose tokens are all 0
   abbrev pub CollectsCond : PassRight (LotPassView V) → ℕ → PassRight (LotPassView V) → Type 0
   CollectsCond p token q =
-      (token ≡ 0) × ((c : ℕ) × ((p.own.conds.out ≡ Some c) × NotesIn cond p (one_wait_more p.own.conds c) (Collects p.thread (Some token)) q))
+      (token ≡ 0)
+      × ((c : ℕ) × ((p.own.conds.out ≡ Some c) × NotesIn cond p (one_wait_more p.own.conds c) (Collects p.thread (Some token)) q))
 
   abbrev pub CollectsSem : PassRight (LotPassView V) → ℕ → PassRight (LotPassView V) → Type 0
   CollectsSem p token q = (token ≡ 0) × (p.own.sems.asleep ≡ true) × NotesIn sem p (sem_woken p.own.sems) (Collects p.thread (Some token)) q

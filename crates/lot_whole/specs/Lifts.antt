@@ -75,7 +75,8 @@ module _ {V Part : Type 0} (rule : CallersRule V Part) (z : LotSize) (xs : List 
 
   -- ---- of a pass and a root
   abbrev pub CarriesBoth : (j : Which) → PassRight (LotPassView V) → RootRight (RootIn j)
-      → (ℕ → PassRight (PassIn V j) → RootRight (RootIn j) → Type 0) → (ℕ → PassRight (LotPassView V) → RootRight LotRootView → Type 0) → Type 0
+      → (ℕ → PassRight (PassIn V j) → RootRight (RootIn j) → Type 0)
+      → (ℕ → PassRight (LotPassView V) → RootRight LotRootView → Type 0) → Type 0
   CarriesBoth j p q told whole = (n : ℕ) (own : PassIn V j) (its : RootIn j) (a : Access)
       → ((k : ℕ) → told n (pass_after (part_pass j p) own k a) (record q { own = its }))
       → MayBeAway j p.own own × KnowingBoth j p q (λ w. Speaks j w a)

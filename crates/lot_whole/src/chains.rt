@@ -148,7 +148,8 @@ impl<V: Keeps> LotWords<V> {
         requires first { (first_of (as_sem root.root.own).line ≡ first) × ((as_sem root.root.own).owes ≡ None) }
         requires more { SaysMore (as_sem root.root.own).line more }
         ensures table { (result.0.table ≡ pass.table) × (result.1.table ≡ root.table) }
-        ensures given { result.0.pass.own ≡ record pass.pass.own { sems = one_permit_less pass.pass.own.sems root.root.key } }
+        ensures given { result.0.pass.own
+            ≡ record pass.pass.own { sems = one_permit_less pass.pass.own.sems root.root.key } }
         ensures made { GivenBy pass.pass root.root.key first more result.2 result.0.pass }
         ensures root { MatchBool result.2 (result.1.root ≡ root.root)
             (RootIs sem root.root (passed_root (as_sem root.root.own) (as_sem root.root.own).line) result.1.root) }

@@ -5,7 +5,8 @@ ghost use Rattle.lot_events.specs.declared.events.Event.TheVariants.{Enlist, Loo
 ghost use Rattle.lot_events.specs.declared.events.Seen.TheVariants.{Bool as Saw, Done, Count};
 ghost use Rattle.lot_rights.specs.declared.views.Access.TheVariants.{Makes};
 ghost use Rattle.lot_words.specs.World.{Holds};
-ghost use Rattle.lot_conds.specs.Calls.{enlisted, lowering, called_more, swept_pass, enlisted_root, called_root, swept_root};
+ghost use Rattle.lot_conds.specs.Calls.{enlisted, lowering, called_more, swept_pass, enlisted_root, called_root};
+ghost use Rattle.lot_conds.specs.Calls.{swept_root};
 ghost use Rattle.lot_whole.specs.Family.{cond, IsKeyIn};
 ghost use Rattle.lot_whole.specs.Standing.{IsIdle, MaySweep, IsCondRoot, as_cond};
 ghost use Rattle.lot_whole.specs.Calls.{NotesIn, RootIs};

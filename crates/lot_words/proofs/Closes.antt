@@ -57,24 +57,38 @@ module _ {V Part : Type 0} (rule : CallersRule V Part) (size : Size) (opening : 
     pub last_lies : (l : ℕ) → l < size.locks → (y : V) × (get_elem? xs l ≡ some (Some y))
     last_lies l near = (value_at l, lies_at l near)
 
-    module _ (vs : List V) (len : length vs ≡ size.locks) (each : (k : ℕ) (y : V) → slice_get vs k ≡ Some y → get_elem? xs k ≡ some (Some y)) where
+    module _ (vs : List V) (len : length vs ≡ size.locks)
+        (each : (k : ℕ) (y : V) → slice_get vs k ≡ Some y → get_elem? xs k ≡ some (Some y)) where
       lock_of : (l : ℕ) (y : V) → slice_get vs l ≡ Some y → l < size.locks
       lock_of l y e = omega (arith, slice_get_within vs l y e, len)
 
       same_at : (l : ℕ) (y : V) → slice_get vs l ≡ Some y → value_at l ≡ y
-      same_at l y e = let f : Some (value_at l) ≡ Some y = some-injective (Some (value_at l)) (Some y) (sym (lies_at l (lock_of l y e)) ∙ each l y e) in cc
+      same_at l y e =
+          let f : Some (value_at l) ≡ Some y =
+          some-injective (Some (value_at l)) (Some y) (sym (lies_at l (lock_of l y e)) ∙ each l y e) in cc
 
       -- the value in the slot is lawful to each pass
-      pub last_found : All (λ (p : PassShown (LockPassView V)). (l : ℕ) (y : V) → slice_get vs l ≡ Some y → FoundOk rule l p.pass.thread p.pass.own y) passes
-      last_found = All-weaker Fits (λ (p : PassShown (LockPassView V)). (l : ℕ) (y : V) → slice_get vs l ≡ Some y → FoundOk rule l p.pass.thread p.pass.own y)
-          (λ p fit l y e. subst (λ z. FoundOk rule l p.pass.thread z y) fit.1 (subst (FoundOk rule l p.pass.thread (w.pass p.pass.thread)) (same_at l y e)
+      pub last_found : All (λ (p : PassShown (LockPassView V)). (l : ℕ) (y : V) → slice_get vs l ≡ Some y
+          → FoundOk rule l p.pass.thread p.pass.own y) passes
+      last_found =
+          All-weaker Fits (λ (p : PassShown (LockPassView V)). (l : ℕ) (y : V) → slice_get vs l ≡ Some y
+          → FoundOk rule l p.pass.thread p.pass.own y)
+          (λ p fit l y e. subst (λ z. FoundOk rule l p.pass.thread z y) fit.1
+          (subst (FoundOk rule l p.pass.thread (w.pass p.pass.thread)) (same_at l y e)
           (finds_value rule size.threads size.locks w.pass left.homes left.fits.lawful p.pass.thread fit.0 l (lock_of l y e)
-          (let n = (left.fits.kept.threads p.pass.thread).long in omega (arith, lock_of l y e)) (nobody p.pass.thread l)))) passes left.passes_fit
+          (let n = (left.fits.kept.threads p.pass.thread).long in omega (arith, lock_of l y e)) (nobody p.pass.thread l)))) passes
+          left.passes_fit
 
       -- some pass has seen it
       pub last_seen : (l : ℕ) (y : V) → slice_get vs l ≡ Some y → Any (λ (p : PassShown (LockPassView V)). HasSeen p.pass.own l y) passes
       last_seen l y e =
           let seen = (left.fits.lawful.each l (lock_of l y e)).witness in
           let p = all seen.0 seen.1.0 in
-          let fit : Fits p.1 = subst Fits p.3 (left.passes_fit p.0 p.1 p.2) in
-          (p.0, p.1, p.2, p.3, subst (HasSeen p.1.pass.own l) (same_at l y e) (subst (λ z. HasSeen z l (value_at l)) (ap w.pass (sym p.4) ∙ fit.1) seen.1.1))
+          let fit : Fits p.1 = subst Fits p.3 (left.passes_fit p.0 p.1 p.2) in (
+            p.0,
+            p.1,
+            p.2,
+            p.3,
+            subst (HasSeen p.1.pass.own l) (same_at l y e)
+                (subst (λ z. HasSeen z l (value_at l)) (ap w.pass (sym p.4) ∙ fit.1) seen.1.1),
+          )

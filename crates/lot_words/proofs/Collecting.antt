@@ -1,5 +1,6 @@
 -- The turn of a letter that is collected, or looked for in vain.
-use Rattle.std.proofs.Common.{◌≡◌, ◌≢◌, ℕ, zero, suc, ◌+◌, ◌-◌, ◌<◌, ◌≤◌, false, List, length, refl, sym, ap, subst, ◌∙◌, ⊎_elim, arith, Option, Some, None}
+use Rattle.std.proofs.Common.{◌≡◌, ◌≢◌, ℕ, zero, suc, ◌+◌, ◌-◌, ◌<◌, ◌≤◌, false, List, length, refl, sym, ap, subst, ◌∙◌, ⊎_elim, arith}
+use Rattle.std.proofs.Common.{Option, Some, None}
 use mathlib.Core.Option as maybe
 use Rattle.lot_core.specs.World.{put}
 use Rattle.lot_core.proofs.Put.{put_same, put_other}
@@ -33,7 +34,8 @@ module _ {V Part : Type 0} (rule : CallersRule V Part) where
   collected_some p q zero ne h = absurd (ne refl)
   collected_some p q (suc token) ne h = let e : token ≡ suc token - 1 = omega arith in subst (λ z. Collected rule p z q) e h.1
 
-  module _ (size : Size) (xs : List V) (p : PassRight (LockPassView V)) (w : LockWorld V) (ws : List ℕ) (hs : List (maybe.Option (Option V)))
+  module _ (size : Size) (xs : List V) (p : PassRight (LockPassView V)) (w : LockWorld V) (ws : List ℕ)
+      (hs : List (maybe.Option (Option V)))
       (ok : Fits rule size w ws hs) (fit : (p.thread < size.threads) × (w.pass p.thread ≡ p.own)) where
     abbrev t : ℕ
     t = p.thread
@@ -49,12 +51,15 @@ module _ {V Part : Type 0} (rule : CallersRule V Part) where
 
     -- no letter lies
     none_lies : letter_of (w.spot t) ≡ 0 → Turn 0
-    none_lies none_there = pass_stays (meaning rule size xs) (letter_at t) 0 w ws hs ok (sym (ok.words.letters t fit.0 ∙ none_there)) p fit (Collects t None)
+    none_lies none_there =
+        pass_stays (meaning rule size xs) (letter_at t) 0 w ws hs ok (sym (ok.words.letters t fit.0 ∙ none_there)) p fit (Collects t None)
         (refl, (none_there, refl)) (Collecting p 0) (λ k. (omega arith, (k, refl)))
 
     -- a letter lies: the pass is awake then
-    wakes : (f : LockPassView V → LockPassView V) (token l : ℕ) → w.spot t ≡ lying l token → wants_of awake (f (w.pass t)).aim ≡ wants_of (lying l token) (w.pass t).aim
-        → Kept n m (record w { pass = put w.pass t (f (w.pass t)); spot = put w.spot t awake }) → IsLawful rule n m (put w.pass t (f (w.pass t))) hs
+    wakes : (f : LockPassView V → LockPassView V) (token l : ℕ) → w.spot t ≡ lying l token
+        → wants_of awake (f (w.pass t)).aim ≡ wants_of (lying l token) (w.pass t).aim
+        → Kept n m (record w { pass = put w.pass t (f (w.pass t)); spot = put w.spot t awake })
+        → IsLawful rule n m (put w.pass t (f (w.pass t))) hs
         → (then : PassRight (LockPassView V) → Type 0) → ((k : ℕ) → then (pass_after p (f p.own) k (Collects t (Some token))))
         → PassTurn (meaning rule size xs) (letter_at t) 0 p then w ws hs
     wakes f token l lies want kept lawful then told =
@@ -65,21 +70,33 @@ module _ {V Part : Type 0} (rule : CallersRule V Part) where
           access = Collects t (Some token);
           world = w';
           fits = record {
-            words = letter_written word_of (sizes_of size) w w' ws ok.words t 0 fit.0 (sym (ap letter_of (put_same w.spot t awake))) (λ v ne. ap letter_of (put_other w.spot t awake v ne)) (λ d. refl);
+            words =
+                letter_written word_of (sizes_of size) w w' ws ok.words t 0 fit.0 (sym (ap letter_of (put_same w.spot t awake)))
+                (λ v ne. ap letter_of (put_other w.spot t awake v ne)) (λ d. refl);
             kept = kept;
             lawful = lawful;
           };
           pass = (fit.0, put_same w.pass t p1 ∙ ap f fit.1);
           passes = λ u y ne h. (h.0, put_other w.pass t p1 u ne ∙ h.1);
           roots = λ d y h. h;
-          made = (refl, (ap letter_of lies, λ i. record { part = same_collect w t p1 (want ∙ ap (λ z. wants_of z (w.pass t).aim) (sym lies)) i; letters = one_letter w.spot t awake i }));
+          made = (
+            refl,
+            (
+              ap letter_of lies,
+              λ i. record {
+                part = same_collect w t p1 (want ∙ ap (λ z. wants_of z (w.pass t).aim) (sym lies)) i;
+                letters = one_letter w.spot t awake i;
+              },
+            ),
+          );
           told = told;
         }
 
     module _ (l : ℕ) where
       barges : w.spot t ≡ lying l 0 → Turn 1
       barges lies = wakes woken 0 l lies refl (wakes_kept n m w ok.kept t l lies)
-          (same_values rule n m w.pass hs ok.lawful t (woken (w.pass t)) (λ k. record { down = λ h. h; up = λ h. h; places = refl; seen = refl }) (refl, refl)) (Collecting p 1)
+          (same_values rule n m w.pass hs ok.lawful t (woken (w.pass t))
+          (λ k. record { down = λ h. h; up = λ h. h; places = refl; seen = refl }) (refl, refl)) (Collecting p 1)
           (λ k. (omega arith, (k, refl)))
 
       handed : w.spot t ≡ lying l 1 → Turn 2
@@ -88,7 +105,8 @@ module _ {V Part : Type 0} (rule : CallersRule V Part) where
           let own = handed_owner n m w ok.kept t l lies in
           let x : V = ok.lawful.value l in
           let mine : ¬ Holds (w.pass t) l = (ok.kept.threads t).handed l (subst (λ z. IsHanded z l) (sym lies) (refl, refl)) in
-          let nobody : (u : ℕ) → ¬ Holds (w.pass u) l = (λ u h. let f : (w.word l).owner ≡ suc u = (ok.kept.threads u).holds l h in let same : u ≡ t = omega arith in mine
+          let nobody : (u : ℕ) → ¬ Holds (w.pass u) l =
+          (λ u h. let f : (w.word l).owner ≡ suc u = (ok.kept.threads u).holds l h in let same : u ≡ t = omega arith in mine
           (subst (λ z. Holds (w.pass z) l) same h)) in
           let long : l < length (w.pass t).holds = (let e = (ok.kept.threads t).long in omega arith) in
           wakes (λ z. woken (owning z l x)) 1 l lies refl (handed_kept n m w ok.kept t l lies x)
@@ -115,6 +133,8 @@ module _ {V Part : Type 0} (rule : CallersRule V Part) where
     by_spot (owed l k) is fits = none_lies (ap letter_of is)
     by_spot (lying l k) is fits = by_token l k is fits.1
 
-  pub collects : (size : Size) (xs : List V) (p : PassRight (LockPassView V)) → AllowsPass (meaning rule size xs) (letter_at p.thread) (λ _. 0) p (Collecting p)
-  collects size xs p w ws hs ok fit small = subst (λ z. PassTurn (meaning rule size xs) (letter_at p.thread) 0 p (Collecting p z) w ws hs) (sym (ok.words.letters p.thread fit.0))
+  pub collects : (size : Size) (xs : List V) (p : PassRight (LockPassView V))
+      → AllowsPass (meaning rule size xs) (letter_at p.thread) (λ _. 0) p (Collecting p)
+  collects size xs p w ws hs ok fit small =
+      subst (λ z. PassTurn (meaning rule size xs) (letter_at p.thread) 0 p (Collecting p z) w ws hs) (sym (ok.words.letters p.thread fit.0))
       (by_spot size xs p w ws hs ok fit (w.spot p.thread) refl (ok.kept.threads p.thread).spot)

@@ -1,5 +1,6 @@
 -- What keeps the rule keeps the headline.
-use Rattle.std.proofs.Common.{◌≡◌, ◌≢◌, ℕ, zero, suc, ◌==◌, true, false, List, refl, sym, ap, subst, ◌∙◌, ⊎_elim, arith, Option, Some, None, eq-eqb, true-eqb}
+use Rattle.std.proofs.Common.{◌≡◌, ◌≢◌, ℕ, zero, suc, ◌==◌, true, false, List, refl, sym, ap, subst, ◌∙◌, ⊎_elim, arith, Option, Some, None}
+use Rattle.std.proofs.Common.{eq-eqb, true-eqb}
 use Rattle.std.specs.List.{Contains}
 use Rattle.atomic_table.specs.Table.{State}
 use Rattle.lot_core.proofs.Members.{in_none}
@@ -28,7 +29,8 @@ module _ {V : Type 0} (n m : ℕ) (w : LockWorld V) (ok : Kept n m w) where
   at_spot t sp is = subst (SpotFits n w.word w.root t (w.pass t)) is (ok.threads t).spot
 
   -- ---- letters
-  sleeps : (t : ℕ) (sp : Spot) → SpotFits n w.word w.root t (w.pass t) sp → ((w.pass t).asleep ≡ true → sp ≢ awake) × (sp ≢ awake → (w.pass t).asleep ≡ true)
+  sleeps : (t : ℕ) (sp : Spot) → SpotFits n w.word w.root t (w.pass t) sp
+      → ((w.pass t).asleep ≡ true → sp ≢ awake) × (sp ≢ awake → (w.pass t).asleep ≡ true)
   sleeps t awake fits = ((λ up. absurd (let e : false ≡ true = sym fits ∙ up in cc)), (λ ne. absurd (ne refl)))
   sleeps t (queued l) fits = ((λ _ e. cc), (λ _. fits.0.1))
   sleeps t (owed l k) fits = ((λ _ e. cc), (λ _. fits.0.1))
@@ -61,29 +63,39 @@ module _ {V : Type 0} (n m : ℕ) (w : LockWorld V) (ok : Kept n m w) where
   owner_of l t e = true-eqb (w.word l).owner (suc t) (sym e)
 
   handed_owner : (t l : ℕ) → IsHanded (w.spot t) l → (w.word l).owner ≡ suc t
-  handed_owner t l h = ⊎_elim {C = (w.word l).owner ≡ suc t} (λ e. absurd (omega arith)) (λ e. e.1) (tells t (w.spot t) (ok.threads t).spot l 1 h)
+  handed_owner t l h =
+      ⊎_elim {C = (w.word l).owner ≡ suc t} (λ e. absurd (omega arith)) (λ e. e.1) (tells t (w.spot t) (ok.threads t).spot l 1 h)
 
   -- a letter of token 0 leaves what the thread wants; the other token is 1
   wants_so : (t : ℕ) (sp : Spot) → SpotFits n w.word w.root t (w.pass t) sp → (l : ℕ)
-      → (wants_of sp (w.pass t).aim ≡ Some l → ((w.pass t).aim ≡ Some l) × ¬ IsHanded sp l) × ((((w.pass t).aim ≡ Some l) × ¬ IsHanded sp l) → wants_of sp (w.pass t).aim ≡ Some l)
+      → (wants_of sp (w.pass t).aim ≡ Some l → ((w.pass t).aim ≡ Some l) × ¬ IsHanded sp l)
+      × ((((w.pass t).aim ≡ Some l) × ¬ IsHanded sp l) → wants_of sp (w.pass t).aim ≡ Some l)
   wants_so t awake fits l = ((λ e. (e, (λ h. h))), (λ h. h.0))
   wants_so t (queued k) fits l = ((λ e. (e, (λ h. h))), (λ h. h.0))
   wants_so t (owed k zero) fits l = ((λ e. (e, (λ h. absurd (omega (arith, h.1))))), (λ h. h.0))
   wants_so t (owed k (suc c)) fits l = (
     (λ e. absurd (let f : None ≡ Some l = e in cc)),
-    (λ h. absurd (h.1 ((let e : Some k ≡ Some l = sym fits.0.2 ∙ h.0 in cc), ⊎_elim {C = suc c ≡ 1} (λ e. absurd (omega arith)) (λ e. e.0) fits.2))),
+    (λ h.
+        absurd
+        (h.1 ((let e : Some k ≡ Some l = sym fits.0.2 ∙ h.0 in cc), ⊎_elim {C = suc c ≡ 1} (λ e. absurd (omega arith)) (λ e. e.0) fits.2))),
   )
   wants_so t (lying k zero) fits l = ((λ e. (e, (λ h. absurd (omega (arith, h.1))))), (λ h. h.0))
   wants_so t (lying k (suc c)) fits l = (
     (λ e. absurd (let f : None ≡ Some l = e in cc)),
-    (λ h. absurd (h.1 ((let e : Some k ≡ Some l = sym fits.0.2 ∙ h.0 in cc), ⊎_elim {C = suc c ≡ 1} (λ e. absurd (omega arith)) (λ e. e.0) fits.1))),
+    (λ h.
+        absurd
+        (h.1 ((let e : Some k ≡ Some l = sym fits.0.2 ∙ h.0 in cc), ⊎_elim {C = suc c ≡ 1} (λ e. absurd (omega arith)) (λ e. e.0) fits.1))),
   )
 
   pub sound : IsSound w n
   sound = record {
     one_owner = record {
       one = λ l t u a b. let e = owner_of l t a in let f = owner_of l u b in omega arith;
-      some = λ l. ((λ e. let o = owner_held (w.word l).owner e in (o.0, eq-eqb (w.word l).owner (suc o.0) o.1)), (λ h. ap is_owned (owner_of l h.0 h.1)));
+      some =
+          λ l. (
+            (λ e. let o = owner_held (w.word l).owner e in (o.0, eq-eqb (w.word l).owner (suc o.0) o.1)),
+            (λ h. ap is_owned (owner_of l h.0 h.1)),
+          );
     };
     has_is = λ l t. (
       (λ e. ((ok.locks l).had t (owner_of l t e)).1),
@@ -105,7 +117,8 @@ module _ {V : Type 0} (n m : ℕ) (w : LockWorld V) (ok : Kept n m w) where
     found_parked = λ l t. (ok.threads t).found l;
   }
 
-pub headline : {V Part : Type 0} (rule : CallersRule V Part) (size : Size) (xs : List V) (s : State (Option V) (List (Right (LockPassView V) LockRootView)))
+pub headline : {V Part : Type 0} (rule : CallersRule V Part) (size : Size) (xs : List V)
+    (s : State (Option V) (List (Right (LockPassView V) LockRootView)))
     → Ruled (meaning rule size xs) s → Headline rule size xs s
 headline rule size xs s ru = let run = has_one_run (meaning rule size xs) s ru in record {
   world = ru.world;

@@ -1,5 +1,6 @@
 -- A lock is got, wanted, marked, let go, or found parked, and a thread queues on it: the rule of threads and locks is kept.
-use Rattle.std.proofs.Common.{◌≡◌, ◌≢◌, ℕ, suc, ◌<◌, Bool, true, false, [], ◌∷◌, ◌++◌, length, refl, sym, ap, subst, ◌∙◌, inl, arith, length-set, get_or-set_same, get_or-set_other, Some}
+use Rattle.std.proofs.Common.{◌≡◌, ◌≢◌, ℕ, suc, ◌<◌, Bool, true, false, [], ◌∷◌, ◌++◌, length, refl, sym, ap, subst, ◌∙◌, inl, arith}
+use Rattle.std.proofs.Common.{length-set, get_or-set_same, get_or-set_other, Some}
 use Rattle.std.specs.List.{Contains}
 use Rattle.std.proofs.lemmas.List.Elements.{Contains-append_left, Contains-push}
 use Rattle.lot_core.specs.World.{put}
@@ -13,7 +14,8 @@ use Rattle.lot_words.specs.declared.views.LockPassView.{LockPassView}
 use Rattle.lot_words.specs.declared.views.LockRootView.{LockRootView}
 use Rattle.lot_words.specs.World.{LockWord, LockWorld, IsHeld, IsFound, Holds, IsHanded, IsOutside, SpotFits, ThreadFits, LockFits, Kept}
 use Rattle.lot_words.specs.Calls.{owning, wanting, sleeping, letting_go, finding_parked, Aims}
-use Rattle.lot_words.proofs.Machine.{set_elim, no_aim, same_roots, same_for, awake_is, thread_on, lock_stays, each_thread, each_word, each_root}
+use Rattle.lot_words.proofs.Machine.{set_elim, no_aim, same_roots, same_for, awake_is, thread_on, lock_stays, each_thread, each_word}
+use Rattle.lot_words.proofs.Machine.{each_root}
 
 module _ {V : Type 0} (n m : ℕ) (w : LockWorld V) (ok : Kept n m w) (t : ℕ) (near : t < n) (up : (w.pass t).asleep ≡ false) where
   pub is_awake : w.spot t ≡ awake
@@ -34,7 +36,11 @@ module _ {V : Type 0} (n m : ℕ) (w : LockWorld V) (ok : Kept n m w) (t : ℕ) 
 
     -- the thread gets the unheld lock
     pub gets_kept : (w.word l).owner ≡ 0 → Aims (w.pass t) l → (x : V)
-        → Kept n m (record w { pass = put w.pass t (owning (w.pass t) l x); word = put w.word l (record { owner = suc t; parked = (w.word l).parked }) })
+        → Kept n m
+        (record w {
+          pass = put w.pass t (owning (w.pass t) l x);
+          word = put w.word l (record { owner = suc t; parked = (w.word l).parked });
+        })
     gets_kept unheld aims x =
         let p : LockPassView V = owning (w.pass t) l x in
         let xs = (w.pass t).holds in
@@ -59,7 +65,8 @@ module _ {V : Type 0} (n m : ℕ) (w : LockWorld V) (ok : Kept n m w) (t : ℕ) 
               (λ v ne. thread_on n m w.word word w.root w.root v (w.pass v) (w.spot v)
               (λ k. put_elim (λ z. (w.word k).owner ≡ suc v → z.owner ≡ suc v) w.word l y k
               (λ kl e. absurd (let f : (w.word l).owner ≡ suc v = subst (λ z. (w.word z).owner ≡ suc v) kl e in omega arith)) (λ _ e. e))
-              (λ k _. put_elim (λ z. (w.word k).parked ≡ true → z.parked ≡ true) w.word l y k (λ kl e. subst (λ z. (w.word z).parked ≡ true) kl e) (λ _ e. e))
+              (λ k _. put_elim (λ z. (w.word k).parked ≡ true → z.parked ≡ true) w.word l y k
+              (λ kl e. subst (λ z. (w.word z).parked ≡ true) kl e) (λ _ e. e))
               (same_roots v w.root) (ok.threads v));
           locks = each_word n (put w.pass t p) w.spot w l y (w.root l)
               (record {
@@ -72,7 +79,8 @@ module _ {V : Type 0} (n m : ℕ) (w : LockWorld V) (ok : Kept n m w) (t : ℕ) 
                 parks = (ok.locks l).parks;
                 tried = λ e _. absurd (omega arith);
               })
-              (λ k ne. lock_stays n k (w.word k) (w.root k) w.pass w.spot t p w.spot (ok.locks k) (λ h. subst IsHeld (sym (get_or-set_other xs l k Held NotHeld ne)) h) (λ v h. h)
+              (λ k ne. lock_stays n k (w.word k) (w.root k) w.pass w.spot t p w.spot (ok.locks k)
+              (λ h. subst IsHeld (sym (get_or-set_other xs l k Held NotHeld ne)) h) (λ v h. h)
               (λ _ a. absurd (ne (aims k a))) (λ _ v _ h. h));
         }
 
@@ -104,15 +112,23 @@ module _ {V : Type 0} (n m : ℕ) (w : LockWorld V) (ok : Kept n m w) (t : ℕ) 
         let y : LockWord = record { owner = (w.word l).owner; parked = true } in
         record {
           threads = λ v. thread_on n m w.word (put w.word l y) w.root w.root v (w.pass v) (w.spot v)
-              (λ k. put_elim (λ z. (w.word k).owner ≡ suc v → z.owner ≡ suc v) w.word l y k (λ kl e. subst (λ z. (w.word z).owner ≡ suc v) kl e) (λ _ e. e))
+              (λ k. put_elim (λ z. (w.word k).owner ≡ suc v → z.owner ≡ suc v) w.word l y k
+              (λ kl e. subst (λ z. (w.word z).owner ≡ suc v) kl e) (λ _ e. e))
               (λ k _. put_elim (λ z. (w.word k).parked ≡ true → z.parked ≡ true) w.word l y k (λ _ _. refl) (λ _ e. e))
               (same_roots v w.root) (ok.threads v);
-          locks = each_word n w.pass w.spot w l y (w.root l) (let a = ok.locks l in record { once = a.once; had = a.had; parks = λ _. refl; tried = a.tried }) (λ k _. ok.locks k);
+          locks =
+              each_word n w.pass w.spot w l y (w.root l) (let a = ok.locks l in
+              record { once = a.once; had = a.had; parks = λ _. refl; tried = a.tried }) (λ k _. ok.locks k);
         }
 
     -- the thread goes last in the line of the lock, which is held and parked
     pub parks_kept : (w.word l).owner ≢ 0 → (w.word l).parked ≡ true → (w.pass t).aim ≡ Some l
-        → Kept n m (record w { pass = put w.pass t (sleeping (w.pass t)); spot = put w.spot t (queued l); root = put w.root l (record (w.root l) { line = (w.root l).line ++ t ∷ [] }) })
+        → Kept n m
+        (record w {
+          pass = put w.pass t (sleeping (w.pass t));
+          spot = put w.spot t (queued l);
+          root = put w.root l (record (w.root l) { line = (w.root l).line ++ t ∷ [] });
+        })
     parks_kept held is_parked aim =
         let p : LockPassView V = sleeping (w.pass t) in
         let q : LockRootView = record (w.root l) { line = (w.root l).line ++ t ∷ [] } in
@@ -121,9 +137,12 @@ module _ {V : Type 0} (n m : ℕ) (w : LockWorld V) (ok : Kept n m w) (t : ℕ) 
         let me = ok.threads t in
         let stays : (k : ℕ) → LockFits n (put w.pass t p) spots k (w.word k) (w.root k)
         = (λ k. lock_stays n k (w.word k) (w.root k) w.pass w.spot t p spots (ok.locks k) (λ h. h)
-        (λ v. put_elim (λ z. IsHanded (w.spot v) k → IsHanded z k) w.spot t (queued l) v (λ vt h. absurd (not_handed k (subst (λ z. IsHanded (w.spot z) k) vt h))) (λ _ h. h)) (λ _ a. a)
+        (λ v. put_elim (λ z. IsHanded (w.spot v) k → IsHanded z k) w.spot t (queued l) v
+        (λ vt h. absurd (not_handed k (subst (λ z. IsHanded (w.spot z) k) vt h))) (λ _ h. h)) (λ _ a. a)
         (λ e v a. put_elim (λ z. IsOutside (w.spot v) → IsOutside z) w.spot t (queued l) v
-        (λ vt _. absurd (held (subst (λ z. (w.word z).owner ≡ 0) (let f : Some k ≡ Some l = sym a ∙ (ap (λ z. (w.pass z).aim) vt ∙ aim) in cc) e))) (λ _ h. h))) in
+        (λ vt _.
+        absurd (held (subst (λ z. (w.word z).owner ≡ 0) (let f : Some k ≡ Some l = sym a ∙ (ap (λ z. (w.pass z).aim) vt ∙ aim) in cc) e)))
+        (λ _ h. h))) in
         record {
           threads = each_thread n m w w.word root spots t p
               (record {
@@ -131,22 +150,37 @@ module _ {V : Type 0} (n m : ℕ) (w : LockWorld V) (ok : Kept n m w) (t : ℕ) 
                 aims = me.aims;
                 holds = me.holds;
                 found = me.found;
-                spot = subst (SpotFits n w.word root t p) (sym (put_same w.spot t (queued l)))
-                    ((near, refl, aim), subst (λ (z : LockRootView). Contains z.line t) (sym (put_same w.root l q)) (Contains-push (w.root l).line t));
-                in_line = λ k. put_elim (λ z. Contains z.line t → spots t ≡ queued k) w.root l q k (λ e _. put_same w.spot t (queued l) ∙ ap queued (sym e)) (λ _ h. absurd (in_no_line k h));
-                is_owed = λ k c. put_elim (λ z. z.owes ≡ Some (t, c) → spots t ≡ owed k c) w.root l q k (λ _ h. absurd (is_owed_nothing l c h)) (λ _ h. absurd (is_owed_nothing k c h));
+                spot = subst (SpotFits n w.word root t p) (sym (put_same w.spot t (queued l))) (
+                  (near, refl, aim),
+                  subst (λ (z : LockRootView). Contains z.line t) (sym (put_same w.root l q))
+                      (Contains-push (w.root l).line t),
+                );
+                in_line =
+                    λ k. put_elim (λ z. Contains z.line t → spots t ≡ queued k) w.root l q k
+                    (λ e _. put_same w.spot t (queued l) ∙ ap queued (sym e)) (λ _ h. absurd (in_no_line k h));
+                is_owed =
+                    λ k c. put_elim (λ z. z.owes ≡ Some (t, c) → spots t ≡ owed k c) w.root l q k (λ _ h. absurd (is_owed_nothing l c h))
+                    (λ _ h. absurd (is_owed_nothing k c h));
                 handed = λ k h. absurd (subst (λ z. IsHanded z k) (put_same w.spot t (queued l)) h);
               })
               (λ v ne. subst (ThreadFits n w.word root m v (w.pass v)) (sym (put_other w.spot t (queued l) v ne))
               (thread_on n m w.word w.word w.root root v (w.pass v) (w.spot v) (λ k e. e) (λ k _ e. e)
-              (same_for v w.root l q (λ h. Contains-append_left (w.root l).line (t ∷ []) v h) (λ h. in_init v (w.root l).line t ne h) (λ _ h. h) (λ _ h. h)) (ok.threads v)));
+              (same_for v w.root l q (λ h. Contains-append_left (w.root l).line (t ∷ []) v h) (λ h. in_init v (w.root l).line t ne h)
+              (λ _ h. h) (λ _ h. h)) (ok.threads v)));
           locks = each_root n (put w.pass t p) spots w l (w.word l) q
-              (let a = stays l in record { once = once_push (w.root l).line t a.once (in_no_line l); had = a.had; parks = λ _. is_parked; tried = λ e _. absurd (held e) }) (λ k _. stays k);
+              (let a = stays l in
+              record {
+                once = once_push (w.root l).line t a.once (in_no_line l);
+                had = a.had;
+                parks = λ _. is_parked;
+                tried = λ e _. absurd (held e);
+              }) (λ k _. stays k);
         }
 
     module _ (has : Holds (w.pass t) l) where
       -- the owner lets the lock go, in whose line nobody is
-      pub frees_kept : (y : V) (b : Bool) → (w.root l).line ≡ [] → Kept n m (record w { pass = put w.pass t (letting_go (w.pass t) l y); word = put w.word l (record { owner = 0; parked = b }) })
+      pub frees_kept : (y : V) (b : Bool) → (w.root l).line ≡ []
+          → Kept n m (record w { pass = put w.pass t (letting_go (w.pass t) l y); word = put w.word l (record { owner = 0; parked = b }) })
       frees_kept y b nobody =
           let p : LockPassView V = letting_go (w.pass t) l y in
           let xs = (w.pass t).holds in
@@ -170,13 +204,21 @@ module _ {V : Type 0} (n m : ℕ) (w : LockWorld V) (ok : Kept n m w) (t : ℕ) 
                 })
                 (λ v ne. thread_on n m w.word word w.root w.root v (w.pass v) (w.spot v)
                 (λ k. put_elim (λ z. (w.word k).owner ≡ suc v → z.owner ≡ suc v) w.word l x k
-                (λ kl e. absurd (ne (let f : (w.word l).owner ≡ suc v = subst (λ z. (w.word z).owner ≡ suc v) kl e in omega arith))) (λ _ e. e))
+                (λ kl e. absurd (ne (let f : (w.word l).owner ≡ suc v = subst (λ z. (w.word z).owner ≡ suc v) kl e in omega arith)))
+                (λ _ e. e))
                 (λ k e. put_elim (λ z. (w.word k).parked ≡ true → z.parked ≡ true) w.word l x k
-                (λ kl _. absurd (ne (let f : (w.word l).owner ≡ suc v = subst (λ z. (w.word z).owner ≡ suc v) kl e in omega arith))) (λ _ e. e))
+                (λ kl _. absurd (ne (let f : (w.word l).owner ≡ suc v = subst (λ z. (w.word z).owner ≡ suc v) kl e in omega arith)))
+                (λ _ e. e))
                 (same_roots v w.root) (ok.threads v));
             locks = each_word n (put w.pass t p) w.spot w l x (w.root l)
-                (record { once = (ok.locks l).once; had = λ v e. absurd (omega arith); parks = λ some. absurd (some nobody); tried = λ _ some. absurd (some nobody) })
-                (λ k ne. lock_stays n k (w.word k) (w.root k) w.pass w.spot t p w.spot (ok.locks k) (λ h. subst IsHeld (sym (get_or-set_other xs l k NotHeld NotHeld ne)) h) (λ v h. h)
+                (record {
+                  once = (ok.locks l).once;
+                  had = λ v e. absurd (omega arith);
+                  parks = λ some. absurd (some nobody);
+                  tried = λ _ some. absurd (some nobody);
+                })
+                (λ k ne. lock_stays n k (w.word k) (w.root k) w.pass w.spot t p w.spot (ok.locks k)
+                (λ h. subst IsHeld (sym (get_or-set_other xs l k NotHeld NotHeld ne)) h) (λ v h. h)
                 (λ _ a. a) (λ _ v _ h. h));
           }
 
@@ -191,8 +233,12 @@ module _ {V : Type 0} (n m : ℕ) (w : LockWorld V) (ok : Kept n m w) (t : ℕ) 
                 (record {
                   long = length-set xs l FoundParked ∙ me.long;
                   aims = me.aims;
-                  holds = λ k. set_elim xs l k FoundParked (λ h. IsHeld h → (w.word k).owner ≡ suc t) lock_near (λ e _. me.holds k (subst (Holds (w.pass t)) (sym e) has)) (λ ne h. me.holds k h);
-                  found = λ k. set_elim xs l k FoundParked (λ h. IsFound h → (w.word k).parked ≡ true) lock_near (λ e _. subst (λ z. (w.word z).parked ≡ true) (sym e) is_parked)
+                  holds =
+                      λ k. set_elim xs l k FoundParked (λ h. IsHeld h → (w.word k).owner ≡ suc t) lock_near
+                      (λ e _. me.holds k (subst (Holds (w.pass t)) (sym e) has)) (λ ne h. me.holds k h);
+                  found =
+                      λ k. set_elim xs l k FoundParked (λ h. IsFound h → (w.word k).parked ≡ true) lock_near
+                      (λ e _. subst (λ z. (w.word z).parked ≡ true) (sym e) is_parked)
                       (λ ne h. me.found k h);
                   spot = subst (SpotFits n w.word w.root t p) (sym is_awake) up;
                   in_line = me.in_line;
@@ -200,6 +246,8 @@ module _ {V : Type 0} (n m : ℕ) (w : LockWorld V) (ok : Kept n m w) (t : ℕ) 
                   handed = λ k h. absurd (not_handed k h);
                 })
                 (λ v _. ok.threads v);
-            locks = λ k. lock_stays n k (w.word k) (w.root k) w.pass w.spot t p w.spot (ok.locks k) (λ h. set_elim xs l k FoundParked IsHeld lock_near (λ _. tt) (λ _. h)) (λ v h. h)
+            locks =
+                λ k. lock_stays n k (w.word k) (w.root k) w.pass w.spot t p w.spot (ok.locks k)
+                (λ h. set_elim xs l k FoundParked IsHeld lock_near (λ _. tt) (λ _. h)) (λ v h. h)
                 (λ _ a. a) (λ _ v _ h. h);
           }

@@ -1,5 +1,6 @@
 -- A lock is passed on to the first of its line, a letter is posted, a letter is collected: the rule of threads and locks is kept.
-use Rattle.std.proofs.Common.{◌≡◌, ◌≢◌, ℕ, suc, ◌<◌, ◌⊎◌, if◌then◌else◌, Bool, true, false, List, [], ◌∷◌, length, refl, sym, ap, subst, ◌∙◌, inl, inr, ⊎_elim, arith, length-set, get_or-set_same}
+use Rattle.std.proofs.Common.{◌≡◌, ◌≢◌, ℕ, suc, ◌<◌, ◌⊎◌, if◌then◌else◌, Bool, true, false, List, [], ◌∷◌, length, refl, sym, ap, subst}
+use Rattle.std.proofs.Common.{◌∙◌, inl, inr, ⊎_elim, arith, length-set, get_or-set_same}
 use Rattle.std.proofs.Common.{get_or-set_other, Some, None}
 use Rattle.std.specs.List.{Contains}
 use mathlib.Core.Logic.{dite}
@@ -14,9 +15,11 @@ use Rattle.lot_rights.proofs.Puts.{put_elim, by_test}
 use Rattle.lot_words.specs.declared.views.Hold.TheVariants.{NotHeld, Held}
 use Rattle.lot_words.specs.declared.views.LockPassView.{LockPassView}
 use Rattle.lot_words.specs.declared.views.LockRootView.{LockRootView}
-use Rattle.lot_words.specs.World.{LockWord, LockWorld, hold, IsHeld, IsFound, Holds, IsHanded, IsOutside, TellsTrue, Sleeps, SpotFits, ThreadFits, LockFits, Kept}
+use Rattle.lot_words.specs.World.{LockWord, LockWorld, hold, IsHeld, IsFound, Holds, IsHanded, IsOutside, TellsTrue, Sleeps, SpotFits}
+use Rattle.lot_words.specs.World.{ThreadFits, LockFits, Kept}
 use Rattle.lot_words.specs.Calls.{owning, woken, letting_go, paid_root}
-use Rattle.lot_words.proofs.Machine.{found_held, set_elim, no_aim, no_debt, same_debt, awake_out, owed_out, lying_out, same_for, thread_on, lock_stays, each_thread, each_root, each_both}
+use Rattle.lot_words.proofs.Machine.{found_held, set_elim, no_aim, no_debt, same_debt, awake_out, owed_out, lying_out, same_for, thread_on}
+use Rattle.lot_words.proofs.Machine.{lock_stays, each_thread, each_root, each_both}
 use Rattle.lot_words.proofs.Holding.{is_awake, in_no_line, not_handed, lock_near}
 
 module _ {V : Type 0} (n m : ℕ) (w : LockWorld V) (ok : Kept n m w) where
@@ -24,14 +27,17 @@ module _ {V : Type 0} (n m : ℕ) (w : LockWorld V) (ok : Kept n m w) where
   at_spot u sp is = subst (SpotFits n w.word w.root u (w.pass u)) is (ok.threads u).spot
 
   -- the notice of u changes, and says of no lock that it was handed where it was not
-  hands_on : (u : ℕ) (sp : Spot) (k : ℕ) → (IsHanded (w.spot u) k → IsHanded sp k) → (v : ℕ) → IsHanded (w.spot v) k → IsHanded (put w.spot u sp v) k
-  hands_on u sp k h v = put_elim (λ z. IsHanded (w.spot v) k → IsHanded z k) w.spot u sp v (λ vu g. h (subst (λ z. IsHanded (w.spot z) k) vu g)) (λ _ g. g)
+  hands_on : (u : ℕ) (sp : Spot) (k : ℕ) → (IsHanded (w.spot u) k → IsHanded sp k) → (v : ℕ) → IsHanded (w.spot v) k
+      → IsHanded (put w.spot u sp v) k
+  hands_on u sp k h v =
+      put_elim (λ z. IsHanded (w.spot v) k → IsHanded z k) w.spot u sp v (λ vu g. h (subst (λ z. IsHanded (w.spot z) k) vu g)) (λ _ g. g)
 
   out_on : (u : ℕ) (sp : Spot) → IsOutside sp → (v : ℕ) → IsOutside (w.spot v) → IsOutside (put w.spot u sp v)
   out_on u sp out v h = put_elim IsOutside w.spot u sp v (λ _. out) (λ _. h)
 
   -- ---- the lock is passed on
-  module _ (t l : ℕ) (near : t < n) (here : l < m) (up : (w.pass t).asleep ≡ false) (has : Holds (w.pass t) l) (u : ℕ) (us : List ℕ) (line : (w.root l).line ≡ u ∷ us)
+  module _ (t l : ℕ) (near : t < n) (here : l < m) (up : (w.pass t).asleep ≡ false) (has : Holds (w.pass t) l) (u : ℕ) (us : List ℕ)
+      (line : (w.root l).line ≡ u ∷ us)
       (paid : (w.root l).owes ≡ None) where
     first_in : Contains (w.root l).line u
     first_in = subst (λ z. Contains z u) (sym line) (in_head u us)
@@ -69,9 +75,13 @@ module _ {V : Type 0} (n m : ℕ) (w : LockWorld V) (ok : Kept n m w) where
         let not_mine : (v : ℕ) → v ≢ t → (j : ℕ) → j ≡ l → (w.word j).owner ≡ suc v → ⊥ = (λ v vt j jl e. vt
         (let f : (w.word l).owner ≡ suc v = subst (λ z. (w.word z).owner ≡ suc v) jl e in omega arith)) in
         let owner_on : (v : ℕ) → v ≢ t → (j : ℕ) → (w.word j).owner ≡ suc v → (word j).owner ≡ suc v
-        = (λ v vt j. put_elim (λ z. (w.word j).owner ≡ suc v → z.owner ≡ suc v) w.word l x j (λ jl e. absurd (not_mine v vt j jl e)) (λ _ e. e)) in
+        =
+        (λ v vt j. put_elim (λ z. (w.word j).owner ≡ suc v → z.owner ≡ suc v) w.word l x j
+        (λ jl e. absurd (not_mine v vt j jl e)) (λ _ e. e)) in
         let parked_on : (v : ℕ) → v ≢ t → (j : ℕ) → (w.word j).owner ≡ suc v → (w.word j).parked ≡ true → (word j).parked ≡ true
-        = (λ v vt j e. put_elim (λ z. (w.word j).parked ≡ true → z.parked ≡ true) w.word l x j (λ jl _. absurd (not_mine v vt j jl e)) (λ _ e. e)) in
+        =
+        (λ v vt j e. put_elim (λ z. (w.word j).parked ≡ true → z.parked ≡ true) w.word l x j
+        (λ jl _. absurd (not_mine v vt j jl e)) (λ _ e. e)) in
         record {
           threads = each_thread n m w word root spots t p
               (subst (ThreadFits n word root m t p) (sym (put_other w.spot u (owed l k) t (λ e. apart (sym e))))
@@ -84,8 +94,11 @@ module _ {V : Type 0} (n m : ℕ) (w : LockWorld V) (ok : Kept n m w) where
                     (λ jl h. ap (λ (z : LockWord). z.parked) (put_other w.word l x j jl) ∙ me.found j h);
                 spot = subst (SpotFits n word root t p) (sym (is_awake n m w ok t near up)) up;
                 in_line = λ j. put_elim (λ z. Contains z.line t → w.spot t ≡ queued j) w.root l q j
-                    (λ e h. absurd (in_no_line n m w ok t near up l (subst (λ z. Contains z t) (sym line) (in_tail u us t h)))) (λ _ h. me.in_line j h);
-                is_owed = λ j c. put_elim (λ z. z.owes ≡ Some (t, c) → w.spot t ≡ owed j c) w.root l q j (λ e h. absurd (apart (same_debt u k t c h).0)) (λ _ h. me.is_owed j c h);
+                    (λ e h. absurd (in_no_line n m w ok t near up l (subst (λ z. Contains z t) (sym line) (in_tail u us t h))))
+                    (λ _ h. me.in_line j h);
+                is_owed =
+                    λ j c. put_elim (λ z. z.owes ≡ Some (t, c) → w.spot t ≡ owed j c) w.root l q j
+                    (λ e h. absurd (apart (same_debt u k t c h).0)) (λ _ h. me.is_owed j c h);
                 handed = λ j h. absurd (not_handed n m w ok t near up j h);
               }))
               (λ v vt. by_test (λ c. ThreadFits n word root m v (w.pass v) (if c then owed l k else w.spot v)) v u
@@ -98,11 +111,14 @@ module _ {V : Type 0} (n m : ℕ) (w : LockWorld V) (ok : Kept n m w) where
                 spot = (
                   first_sleeps,
                   subst (λ (z : LockRootView). z.owes ≡ Some (u, k)) (sym (put_same w.root l q)) refl,
-                  subst (λ (z : LockWord). TellsTrue z.owner u k) (sym (put_same w.word l x)) (⊎_elim {C = TellsTrue o u k} (λ h. inl h.0) (λ h. inr h) token),
+                  subst (λ (z : LockWord). TellsTrue z.owner u k) (sym (put_same w.word l x))
+                      (⊎_elim {C = TellsTrue o u k} (λ h. inl h.0) (λ h. inr h) token),
                 );
                 in_line = λ j. put_elim (λ z. Contains z.line u → owed l k ≡ queued j) w.root l q j (λ _ h. absurd (head_left u us once h))
                     (λ jl h. absurd (jl (let f : queued j ≡ queued l = sym (first.in_line j h) ∙ first_waits in cc)));
-                is_owed = λ j c. put_elim (λ z. z.owes ≡ Some (u, c) → owed l k ≡ owed j c) w.root l q j (λ e h. ap (λ z. owed z k) (sym e) ∙ ap (owed j) (same_debt u k u c h).1)
+                is_owed =
+                    λ j c. put_elim (λ z. z.owes ≡ Some (u, c) → owed l k ≡ owed j c) w.root l q j
+                    (λ e h. ap (λ z. owed z k) (sym e) ∙ ap (owed j) (same_debt u k u c h).1)
                     (λ _ h. absurd (let g : queued l ≡ owed j c = sym first_waits ∙ first.is_owed j c h in cc));
                 handed = λ j h a. not_mine u apart j (sym h.0) (first.holds j a);
               }))
@@ -118,7 +134,8 @@ module _ {V : Type 0} (n m : ℕ) (w : LockWorld V) (ok : Kept n m w) where
                 once = once_tail u us once;
                 had = λ v e. ⊎_elim {C = (v < n) × (Holds (put w.pass t p v) l ⊎ IsHanded (spots v) l)}
                     (λ z. absurd (let f = z.1 in omega arith))
-                    (λ z. let uv : u ≡ v = (let f = z.1 in omega arith) in subst (λ i. (i < n) × (Holds (put w.pass t p i) l ⊎ IsHanded (spots i) l)) uv
+                    (λ z. let uv : u ≡ v = (let f = z.1 in omega arith) in
+                    subst (λ i. (i < n) × (Holds (put w.pass t p i) l ⊎ IsHanded (spots i) l)) uv
                     (first_sleeps.0, inr (subst (λ s. IsHanded s l) (sym (put_same w.spot u (owed l k))) (refl, z.0))))
                     token;
                 parks = more;
@@ -131,8 +148,10 @@ module _ {V : Type 0} (n m : ℕ) (w : LockWorld V) (ok : Kept n m w) where
                   ),
                 );
               })
-              (λ j jl. lock_stays n j (w.word j) (w.root j) w.pass w.spot t p spots (ok.locks j) (λ h. subst IsHeld (sym (get_or-set_other xs l j NotHeld NotHeld jl)) h)
-              (hands_on u (owed l k) j (λ h. absurd (subst (λ z. IsHanded z j) first_waits h))) (λ _ a. a) (λ _ v _. out_on u (owed l k) (owed_out l k) v));
+              (λ j jl. lock_stays n j (w.word j) (w.root j) w.pass w.spot t p spots (ok.locks j)
+              (λ h. subst IsHeld (sym (get_or-set_other xs l j NotHeld NotHeld jl)) h)
+              (hands_on u (owed l k) j (λ h. absurd (subst (λ z. IsHanded z j) first_waits h))) (λ _ a. a)
+              (λ _ v _. out_on u (owed l k) (owed_out l k) v));
         }
 
   -- ---- the letter that the root owes is posted
@@ -168,15 +187,22 @@ module _ {V : Type 0} (n m : ℕ) (w : LockWorld V) (ok : Kept n m w) where
                 holds = me.holds;
                 found = me.found;
                 spot = (debtor_fits.0, debtor_fits.2);
-                in_line = λ j. put_elim (λ z. Contains z.line u → lying l k ≡ queued j) w.root l q j (λ _ h. absurd (let f : owed l k ≡ queued l = sym debtor_waits ∙ me.in_line l h in cc))
+                in_line =
+                    λ j. put_elim (λ z. Contains z.line u → lying l k ≡ queued j) w.root l q j
+                    (λ _ h. absurd (let f : owed l k ≡ queued l = sym debtor_waits ∙ me.in_line l h in cc))
                     (λ _ h. absurd (let f : owed l k ≡ queued j = sym debtor_waits ∙ me.in_line j h in cc));
-                is_owed = λ j c. put_elim (λ z. z.owes ≡ Some (u, c) → lying l k ≡ owed j c) w.root l q j (λ _ h. absurd (no_debt None (u, c) refl h))
+                is_owed =
+                    λ j c. put_elim (λ z. z.owes ≡ Some (u, c) → lying l k ≡ owed j c) w.root l q j
+                    (λ _ h. absurd (no_debt None (u, c) refl h))
                     (λ jl h. absurd (jl (let f : owed j c ≡ owed l k = sym (me.is_owed j c h) ∙ debtor_waits in cc)));
                 handed = λ j h. me.handed j (subst (λ z. IsHanded z j) (sym debtor_waits) h);
               }))
               (λ vu. thread_on n m w.word w.word w.root root v (w.pass v) (w.spot v) (λ k e. e) (λ k _ e. e)
-              (same_for v w.root l q (λ h. h) (λ h. h) (λ c h. absurd (vu (sym (same_debt u k v c (sym debt ∙ h)).0))) (λ c h. absurd (no_debt None (v, c) refl h))) (ok.threads v));
-          locks = each_root n w.pass spots w l (w.word l) q (let a = stays l in record { once = a.once; had = a.had; parks = a.parks; tried = a.tried }) (λ j _. stays j);
+              (same_for v w.root l q (λ h. h) (λ h. h) (λ c h. absurd (vu (sym (same_debt u k v c (sym debt ∙ h)).0)))
+              (λ c h. absurd (no_debt None (v, c) refl h))) (ok.threads v));
+          locks =
+              each_root n w.pass spots w l (w.word l) q (let a = stays l in
+              record { once = a.once; had = a.had; parks = a.parks; tried = a.tried }) (λ j _. stays j);
         }
 
   -- ---- a letter is collected
@@ -202,7 +228,9 @@ module _ {V : Type 0} (n m : ℕ) (w : LockWorld V) (ok : Kept n m w) where
               }))
               (λ v ne. subst (ThreadFits n w.word w.root m v (w.pass v)) (sym (put_other w.spot t awake v ne)) (ok.threads v));
           locks = λ k. lock_stays n k (w.word k) (w.root k) w.pass w.spot t p spots (ok.locks k) (λ h. h)
-              (hands_on t awake k (λ h. absurd (let g : IsHanded (lying l 0) k = subst (λ z. IsHanded z k) lies h in let f = g.1 in omega arith))) (λ _ a. a) (λ _ v _. out_on t awake awake_out v);
+              (hands_on t awake k
+              (λ h. absurd (let g : IsHanded (lying l 0) k = subst (λ z. IsHanded z k) lies h in let f = g.1 in omega arith))) (λ _ a. a)
+              (λ _ v _. out_on t awake awake_out v);
         }
 
     -- the lock itself
@@ -230,8 +258,11 @@ module _ {V : Type 0} (n m : ℕ) (w : LockWorld V) (ok : Kept n m w) where
                 (record {
                   long = length-set xs l Held ∙ me.long;
                   aims = λ k a. absurd (no_aim k a);
-                  holds = λ k. set_elim xs l k Held (λ h. IsHeld h → (w.word k).owner ≡ suc t) long (λ e _. subst (λ z. (w.word z).owner ≡ suc t) (sym e) own) (λ _ h. me.holds k h);
-                  found = λ k. set_elim xs l k Held (λ h. IsFound h → (w.word k).parked ≡ true) long (λ _ h. absurd h) (λ _ h. me.found k h);
+                  holds =
+                      λ k. set_elim xs l k Held (λ h. IsHeld h → (w.word k).owner ≡ suc t) long
+                      (λ e _. subst (λ z. (w.word z).owner ≡ suc t) (sym e) own) (λ _ h. me.holds k h);
+                  found =
+                      λ k. set_elim xs l k Held (λ h. IsFound h → (w.word k).parked ≡ true) long (λ _ h. absurd h) (λ _ h. me.found k h);
                   spot = refl;
                   in_line = λ k h. absurd (let f : lying l 1 ≡ queued k = sym lies ∙ me.in_line k h in cc);
                   is_owed = λ k c h. absurd (let f : lying l 1 ≡ owed k c = sym lies ∙ me.is_owed k c h in cc);
@@ -250,7 +281,8 @@ module _ {V : Type 0} (n m : ℕ) (w : LockWorld V) (ok : Kept n m w) where
                   parks = (ok.locks l).parks;
                   tried = λ e _. absurd (omega arith);
                 }))
-                (λ ne. lock_stays n k (w.word k) (w.root k) w.pass w.spot t p spots (ok.locks k) (λ h. subst IsHeld (sym (get_or-set_other xs l k Held NotHeld ne)) h)
+                (λ ne. lock_stays n k (w.word k) (w.root k) w.pass w.spot t p spots (ok.locks k)
+                (λ h. subst IsHeld (sym (get_or-set_other xs l k Held NotHeld ne)) h)
                 (hands_on t awake k (λ h. absurd (ne (sym (subst (λ z. IsHanded z k) lies h).0))))
                 (λ _ a. absurd (ne (let e : Some k ≡ Some l = sym a ∙ lies_fits.0.2 in cc))) (λ _ v _. out_on t awake awake_out v));
           }

@@ -1,5 +1,6 @@
 -- How a change of the world keeps the rule of threads and locks.
-use Rattle.std.proofs.Common.{◌≡◌, ◌≢◌, ℕ, suc, ◌<◌, ◌⊎◌, if◌then◌else◌, true, false, List, length, get_or, set, refl, sym, ap, subst, inl, inr, ⊎_elim, get_or-set_same, get_or-set_other, Option}
+use Rattle.std.proofs.Common.{◌≡◌, ◌≢◌, ℕ, suc, ◌<◌, ◌⊎◌, if◌then◌else◌, true, false, List, length, get_or, set, refl, sym, ap, subst, inl}
+use Rattle.std.proofs.Common.{inr, ⊎_elim, get_or-set_same, get_or-set_other, Option}
 use Rattle.std.proofs.Common.{Some, None}
 use Rattle.std.specs.List.{Contains}
 use mathlib.Core.Logic.{dite}
@@ -11,7 +12,8 @@ use Rattle.lot_words.specs.declared.views.Hold.{Hold}
 use Rattle.lot_words.specs.declared.views.Hold.TheVariants.{NotHeld, Held, FoundParked}
 use Rattle.lot_words.specs.declared.views.LockPassView.{LockPassView}
 use Rattle.lot_words.specs.declared.views.LockRootView.{LockRootView}
-use Rattle.lot_words.specs.World.{LockWord, LockWorld, hold, IsHeld, IsFound, Holds, IsHanded, IsOutside, TellsTrue, SpotFits, ThreadFits, LockFits}
+use Rattle.lot_words.specs.World.{LockWord, LockWorld, hold, IsHeld, IsFound, Holds, IsHanded, IsOutside, TellsTrue, SpotFits, ThreadFits}
+use Rattle.lot_words.specs.World.{LockFits}
 
 -- ---- small facts
 pub found_held : (h : Hold) → IsFound h → IsHeld h
@@ -20,7 +22,8 @@ found_held Held f = tt
 found_held FoundParked f = tt
 
 -- what a pass holds after the lock l changed
-pub set_elim : (xs : List Hold) (l k : ℕ) (x : Hold) (P : Hold → Type 0) → l < length xs → (k ≡ l → P x) → (k ≢ l → P (get_or xs k NotHeld)) → P (get_or (set xs l x) k NotHeld)
+pub set_elim : (xs : List Hold) (l k : ℕ) (x : Hold) (P : Hold → Type 0) → l < length xs → (k ≡ l → P x) → (k ≢ l → P (get_or xs k NotHeld))
+    → P (get_or (set xs l x) k NotHeld)
 set_elim xs l k x P near here there = dite (ℕ_discrete k l)
     (λ e. subst (λ z. P (get_or (set xs l x) z NotHeld)) (sym e) (subst P (sym (get_or-set_same xs l x NotHeld near)) (here e)))
     (λ ne. subst P (sym (get_or-set_other xs l k x NotHeld ne)) (there ne))
@@ -62,24 +65,32 @@ pub same_roots : (u : ℕ) (root : ℕ → LockRootView) → SameFor u root root
 same_roots u root = record { line = λ k h. h; line_back = λ k h. h; owes = λ k c h. h; owes_back = λ k c h. h }
 
 -- one root changes, and keeps what it has of the thread
-pub same_for : (u : ℕ) (root : ℕ → LockRootView) (l : ℕ) (q : LockRootView) → (Contains (root l).line u → Contains q.line u) → (Contains q.line u → Contains (root l).line u)
-    → ((c : ℕ) → (root l).owes ≡ Some (u, c) → q.owes ≡ Some (u, c)) → ((c : ℕ) → q.owes ≡ Some (u, c) → (root l).owes ≡ Some (u, c)) → SameFor u root (put root l q)
+pub same_for : (u : ℕ) (root : ℕ → LockRootView) (l : ℕ) (q : LockRootView) → (Contains (root l).line u → Contains q.line u)
+    → (Contains q.line u → Contains (root l).line u)
+    → ((c : ℕ) → (root l).owes ≡ Some (u, c) → q.owes ≡ Some (u, c)) → ((c : ℕ) → q.owes ≡ Some (u, c) → (root l).owes ≡ Some (u, c))
+    → SameFor u root (put root l q)
 same_for u root l q into back owe paid = record {
   line = λ k h. put_elim (λ x. Contains x.line u) root l q k (λ kl. into (subst (λ z. Contains (root z).line u) kl h)) (λ _. h);
-  line_back = λ k. put_elim (λ x. Contains x.line u → Contains (root k).line u) root l q k (λ kl h. subst (λ z. Contains (root z).line u) (sym kl) (back h)) (λ _ h. h);
+  line_back =
+      λ k. put_elim (λ x. Contains x.line u → Contains (root k).line u) root l q k
+      (λ kl h. subst (λ z. Contains (root z).line u) (sym kl) (back h)) (λ _ h. h);
   owes = λ k c h. put_elim (λ x. x.owes ≡ Some (u, c)) root l q k (λ kl. owe c (subst (λ z. (root z).owes ≡ Some (u, c)) kl h)) (λ _. h);
-  owes_back = λ k c. put_elim (λ x. x.owes ≡ Some (u, c) → (root k).owes ≡ Some (u, c)) root l q k (λ kl h. subst (λ z. (root z).owes ≡ Some (u, c)) (sym kl) (paid c h)) (λ _ h. h);
+  owes_back =
+      λ k c. put_elim (λ x. x.owes ≡ Some (u, c) → (root k).owes ≡ Some (u, c)) root l q k
+      (λ kl h. subst (λ z. (root z).owes ≡ Some (u, c)) (sym kl) (paid c h)) (λ _ h. h);
 }
 
 module _ {V : Type 0} (n : ℕ) where
   -- ---- threads
-  pub awake_is : (word : ℕ → LockWord) (root : ℕ → LockRootView) (t : ℕ) (p : LockPassView V) (sp : Spot) → SpotFits n word root t p sp → p.asleep ≡ false → sp ≡ awake
+  pub awake_is : (word : ℕ → LockWord) (root : ℕ → LockRootView) (t : ℕ) (p : LockPassView V) (sp : Spot) → SpotFits n word root t p sp
+      → p.asleep ≡ false → sp ≡ awake
   awake_is word root t p awake h e = refl
   awake_is word root t p (queued l) h e = absurd (cc (h.0.1))
   awake_is word root t p (owed l k) h e = absurd (cc (h.0.1))
   awake_is word root t p (lying l k) h e = absurd (cc (h.0.1))
 
-  spot_on : (word word' : ℕ → LockWord) (root root' : ℕ → LockRootView) (u : ℕ) (p : LockPassView V) (sp : Spot) → ((k : ℕ) → (word k).owner ≡ suc u → (word' k).owner ≡ suc u) → SameFor u root root'
+  spot_on : (word word' : ℕ → LockWord) (root root' : ℕ → LockRootView) (u : ℕ) (p : LockPassView V) (sp : Spot)
+      → ((k : ℕ) → (word k).owner ≡ suc u → (word' k).owner ≡ suc u) → SameFor u root root'
       → SpotFits n word root u p sp → SpotFits n word' root' u p sp
   spot_on word word' root root' u p awake own s h = h
   spot_on word word' root root' u p (queued l) own s h = (h.0, s.line l h.1)
@@ -87,7 +98,8 @@ module _ {V : Type 0} (n : ℕ) where
   spot_on word word' root root' u p (lying l k) own s h = (h.0, told_on (word l).owner (word' l).owner u k h.1 (own l))
 
   pub thread_on : (m : ℕ) (word word' : ℕ → LockWord) (root root' : ℕ → LockRootView) (u : ℕ) (p : LockPassView V) (sp : Spot)
-      → ((k : ℕ) → (word k).owner ≡ suc u → (word' k).owner ≡ suc u) → ((k : ℕ) → (word k).owner ≡ suc u → (word k).parked ≡ true → (word' k).parked ≡ true) → SameFor u root root'
+      → ((k : ℕ) → (word k).owner ≡ suc u → (word' k).owner ≡ suc u)
+      → ((k : ℕ) → (word k).owner ≡ suc u → (word k).parked ≡ true → (word' k).parked ≡ true) → SameFor u root root'
       → ThreadFits n word root m u p sp → ThreadFits n word' root' m u p sp
   thread_on m word word' root root' u p sp own park s ok = record {
     long = ok.long;
@@ -102,15 +114,18 @@ module _ {V : Type 0} (n : ℕ) where
 
   -- ---- locks
   -- the pass of t changes, and so may the notices; nobody loses a hold of k or a try at it
-  pub lock_stays : (k : ℕ) (x : LockWord) (q : LockRootView) (pass : ℕ → LockPassView V) (spot : ℕ → Spot) (t : ℕ) (p : LockPassView V) (spots : ℕ → Spot) → LockFits n pass spot k x q
-      → (Holds (pass t) k → Holds p k) → ((v : ℕ) → IsHanded (spot v) k → IsHanded (spots v) k) → (x.owner ≡ 0 → (pass t).aim ≡ Some k → p.aim ≡ Some k)
+  pub lock_stays : (k : ℕ) (x : LockWord) (q : LockRootView) (pass : ℕ → LockPassView V) (spot : ℕ → Spot) (t : ℕ) (p : LockPassView V)
+      (spots : ℕ → Spot) → LockFits n pass spot k x q
+      → (Holds (pass t) k → Holds p k) → ((v : ℕ) → IsHanded (spot v) k → IsHanded (spots v) k)
+      → (x.owner ≡ 0 → (pass t).aim ≡ Some k → p.aim ≡ Some k)
       → (x.owner ≡ 0 → (v : ℕ) → (pass v).aim ≡ Some k → IsOutside (spot v) → IsOutside (spots v)) → LockFits n (put pass t p) spots k x q
   lock_stays k x q pass spot t p spots ok holds hands aims outs = record {
     once = ok.once;
     had = λ v e. let h = ok.had v e in (
       h.0,
       ⊎_elim {C = Holds (put pass t p v) k ⊎ IsHanded (spots v) k}
-          (λ a. inl (put_elim (λ y. Holds y k) pass t p v (λ vt. holds (subst (λ z. Holds (pass z) k) vt a)) (λ _. a))) (λ a. inr (hands v a)) h.1,
+          (λ a. inl (put_elim (λ y. Holds y k) pass t p v (λ vt. holds (subst (λ z. Holds (pass z) k) vt a)) (λ _. a)))
+          (λ a. inr (hands v a)) h.1,
     );
     parks = ok.parks;
     tried = λ e some. let h = ok.tried e some in (
@@ -126,17 +141,27 @@ module _ {V : Type 0} (n : ℕ) where
 
   -- ---- the whole world
   module _ (m : ℕ) (w : LockWorld V) (word : ℕ → LockWord) (root : ℕ → LockRootView) (spots : ℕ → Spot) where
-    pub each_thread : (t : ℕ) (p : LockPassView V) → ThreadFits n word root m t p (spots t) → ((v : ℕ) → v ≢ t → ThreadFits n word root m v (w.pass v) (spots v)) → (v : ℕ)
+    pub each_thread : (t : ℕ) (p : LockPassView V) → ThreadFits n word root m t p (spots t)
+        → ((v : ℕ) → v ≢ t → ThreadFits n word root m v (w.pass v) (spots v)) → (v : ℕ)
         → ThreadFits n word root m v (put w.pass t p v) (spots v)
-    each_thread t p mine others v = put_elim (λ y. ThreadFits n word root m v y (spots v)) w.pass t p v (λ e. subst (λ z. ThreadFits n word root m z p (spots z)) (sym e) mine) (others v)
+    each_thread t p mine others v =
+        put_elim (λ y. ThreadFits n word root m v y (spots v)) w.pass t p v
+        (λ e. subst (λ z. ThreadFits n word root m z p (spots z)) (sym e) mine) (others v)
 
   module _ (pass : ℕ → LockPassView V) (spots : ℕ → Spot) (w : LockWorld V) (l : ℕ) (x : LockWord) (q : LockRootView) where
-    pub each_word : LockFits n pass spots l x (w.root l) → ((k : ℕ) → k ≢ l → LockFits n pass spots k (w.word k) (w.root k)) → (k : ℕ) → LockFits n pass spots k (put w.word l x k) (w.root k)
-    each_word here elsewhere k = put_elim (λ y. LockFits n pass spots k y (w.root k)) w.word l x k (λ e. subst (λ z. LockFits n pass spots z x (w.root z)) (sym e) here) (elsewhere k)
+    pub each_word : LockFits n pass spots l x (w.root l) → ((k : ℕ) → k ≢ l → LockFits n pass spots k (w.word k) (w.root k)) → (k : ℕ)
+        → LockFits n pass spots k (put w.word l x k) (w.root k)
+    each_word here elsewhere k =
+        put_elim (λ y. LockFits n pass spots k y (w.root k)) w.word l x k
+        (λ e. subst (λ z. LockFits n pass spots z x (w.root z)) (sym e) here) (elsewhere k)
 
-    pub each_root : LockFits n pass spots l (w.word l) q → ((k : ℕ) → k ≢ l → LockFits n pass spots k (w.word k) (w.root k)) → (k : ℕ) → LockFits n pass spots k (w.word k) (put w.root l q k)
-    each_root here elsewhere k = put_elim (λ y. LockFits n pass spots k (w.word k) y) w.root l q k (λ e. subst (λ z. LockFits n pass spots z (w.word z) q) (sym e) here) (elsewhere k)
+    pub each_root : LockFits n pass spots l (w.word l) q → ((k : ℕ) → k ≢ l → LockFits n pass spots k (w.word k) (w.root k)) → (k : ℕ)
+        → LockFits n pass spots k (w.word k) (put w.root l q k)
+    each_root here elsewhere k =
+        put_elim (λ y. LockFits n pass spots k (w.word k) y) w.root l q k
+        (λ e. subst (λ z. LockFits n pass spots z (w.word z) q) (sym e) here) (elsewhere k)
 
-    pub each_both : LockFits n pass spots l x q → ((k : ℕ) → k ≢ l → LockFits n pass spots k (w.word k) (w.root k)) → (k : ℕ) → LockFits n pass spots k (put w.word l x k) (put w.root l q k)
+    pub each_both : LockFits n pass spots l x q → ((k : ℕ) → k ≢ l → LockFits n pass spots k (w.word k) (w.root k)) → (k : ℕ)
+        → LockFits n pass spots k (put w.word l x k) (put w.root l q k)
     each_both here elsewhere k = by_test (λ b. LockFits n pass spots k (if b then x else w.word k) (if b then q else w.root k)) k l
         (λ e. subst (λ z. LockFits n pass spots z x q) (sym e) here) (elsewhere k)

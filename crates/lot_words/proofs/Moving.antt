@@ -40,7 +40,8 @@ set_at (x ∷ xs) zero a b e = refl
 set_at (x ∷ xs) (suc i) a b e = set_at xs i a b e
 
 -- the value is where it was placed
-pub placed_at : {V : Type 0} (p : LockPassView V) (l : ℕ) (old new : Place V) → get_elem? p.places l ≡ some old → get_elem? (placing p l new).places l ≡ some new
+pub placed_at : {V : Type 0} (p : LockPassView V) (l : ℕ) (old new : Place V) → get_elem? p.places l ≡ some old
+    → get_elem? (placing p l new).places l ≡ some new
 placed_at p l old new e = set_at p.places l old new e
 
 pub placed_twice : {V : Type 0} (p : LockPassView V) (l : ℕ) (a b : Place V) → placing (placing p l a) l b ≡ placing p l b
@@ -51,7 +52,8 @@ abbrev pub Leaves : {V : Type 0} → PassRight (LockPassView V) → ℕ → Lock
 Leaves {V} p l own y = (own ≡ placing p.own l Moving) × ((pl : Place V) → get_elem? p.own.places l ≡ some pl → y ≡ in_slot pl)
 
 module _ {V Part : Type 0} (rule : CallersRule V Part) (size : Size) (xs : List V) where
-  module _ (t l : ℕ) (here : l < size.locks) (own : LockPassView V) (holds : Holds own l) (w : LockWorld V) (ws : List ℕ) (hs : List (maybe.Option (Option V)))
+  module _ (t l : ℕ) (here : l < size.locks) (own : LockPassView V) (holds : Holds own l) (w : LockWorld V) (ws : List ℕ)
+      (hs : List (maybe.Option (Option V)))
       (ok : Fits rule size w ws hs) (fit : (t < size.threads) × (w.pass t ≡ own)) where
     has : Holds (w.pass t) l
     has = subst (λ z. Holds z l) (sym fit.1) holds
@@ -61,7 +63,8 @@ module _ {V Part : Type 0} (rule : CallersRule V Part) (size : Size) (xs : List 
     only u h = let a = (ok.kept.threads u).holds l h in let b = (ok.kept.threads t).holds l has in omega (arith, a, b)
 
     -- the value is at the place pl
-    moves : (pl : Place V) → MayLie rule l t (ok.lawful.value l) pl → (homes : List (maybe.Option (Option V))) → homes ≡ set hs l (home_of pl)
+    moves : (pl : Place V) → MayLie rule l t (ok.lawful.value l) pl → (homes : List (maybe.Option (Option V)))
+        → homes ≡ set hs l (home_of pl)
         → SlotTurn (meaning rule size xs) t (placing own l pl) w ws homes
     moves pl may homes is = record {
       world = record w { pass = put w.pass t (placing (w.pass t) l pl) };
@@ -79,7 +82,9 @@ module _ {V Part : Type 0} (rule : CallersRule V Part) (size : Size) (xs : List 
                 is_owed = a.is_owed;
                 handed = a.handed;
               }) (λ v _. ok.kept.threads v);
-          locks = λ k. lock_stays size.threads k (w.word k) (w.root k) w.pass w.spot t (placing (w.pass t) l pl) w.spot (ok.kept.locks k) (λ h. h) (λ v h. h) (λ _ a. a) (λ _ v _ h. h);
+          locks =
+              λ k. lock_stays size.threads k (w.word k) (w.root k) w.pass w.spot t (placing (w.pass t) l pl) w.spot (ok.kept.locks k)
+              (λ h. h) (λ v h. h) (λ _ a. a) (λ _ v _ h. h);
         };
         lawful = subst (IsLawful rule size.threads size.locks (put w.pass t (placing (w.pass t) l pl))) (sym is)
             (moves_value rule size.threads size.locks w.pass hs ok.lawful t fit.0 l here has only pl may);
@@ -94,8 +99,11 @@ module _ {V Part : Type 0} (rule : CallersRule V Part) (size : Size) (xs : List 
     pub leaves : (pl : Place V) → get_elem? p.own.places l ≡ some pl → IsAtHome pl → AllowsOut (meaning rule size xs) l p (Leaves p l)
     leaves pl there home w ws hs ok fit =
         let x : V = ok.lawful.value l in
-        let o = owns_value rule size.threads size.locks w.pass hs ok.lawful p.thread fit.0 l here (has p.thread l here p.own holds w ws hs ok fit) in
-        let is : o.place ≡ pl = some-injective o.place pl (sym o.place_is ∙ subst (λ z. get_elem? z.places l ≡ some pl) (sym fit.1) there) in
+        let o =
+        owns_value rule size.threads size.locks w.pass hs ok.lawful p.thread fit.0 l here
+        (has p.thread l here p.own holds w ws hs ok fit) in
+        let is : o.place ≡ pl =
+        some-injective o.place pl (sym o.place_is ∙ subst (λ z. get_elem? z.places l ≡ some pl) (sym fit.1) there) in
         record {
           value = in_slot pl;
           own = placing p.own l Moving;
@@ -104,16 +112,20 @@ module _ {V Part : Type 0} (rule : CallersRule V Part) (size : Size) (xs : List 
           told = (refl, (λ z at. ap in_slot (some-injective pl z (sym there ∙ at))));
         }
 
-    pub comes_back : (y : Option V) → ((x : V) → HasSeen p.own l x → MayLie rule l p.thread x (place_of y)) → (own : LockPassView V) (z : Option V) → Leaves p l own z
+    pub comes_back : (y : Option V) → ((x : V) → HasSeen p.own l x → MayLie rule l p.thread x (place_of y))
+        → (own : LockPassView V) (z : Option V) → Leaves p l own z
         → AllowsBack (meaning rule size xs) l p.thread own y (λ q. q ≡ placing own l (place_of y))
     comes_back y may own z out w ws hs ok fit =
         let is : own ≡ placing p.own l Moving = out.0 in
         let holds' : Holds own l = subst (λ v. Holds v l) (sym is) holds in
-        let o = owns_value rule size.threads size.locks w.pass hs ok.lawful p.thread fit.0 l here (has p.thread l here own holds' w ws hs ok fit) in
+        let o =
+        owns_value rule size.threads size.locks w.pass hs ok.lawful p.thread fit.0 l here (has p.thread l here own holds' w ws hs ok fit) in
         let seen : HasSeen p.own l (ok.lawful.value l) = subst (λ v. HasSeen v l (ok.lawful.value l)) (fit.1 ∙ is) o.found in
         record {
           own = placing own l (place_of y);
-          turn = moves p.thread l here own holds' w ws hs ok fit (place_of y) (may (ok.lawful.value l) seen) (set hs l (some y)) (ap (set hs l) (sym (placed_home y)));
+          turn =
+              moves p.thread l here own holds' w ws hs ok fit (place_of y) (may (ok.lawful.value l) seen) (set hs l (some y))
+              (ap (set hs l) (sym (placed_home y)));
           told = refl;
         }
 

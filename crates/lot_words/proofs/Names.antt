@@ -9,7 +9,9 @@ use Rattle.lot_words.specs.Calls.{parked_root, passed_root, paid_root, token_of}
 use Rattle.lot_words.proofs.Machine.{no_debt, same_debt}
 
 pub park_names : (q q' : LockRootView) (t u : ℕ) (queued : Bool) → q' ≡ parked_root q t queued → names q' u → names q u ⊎ (u ≡ t)
-park_names q q' t u true e h = ⊎_elim {C = names q u ⊎ (u ≡ t)} (λ i. ⊎_elim {C = names q u ⊎ (u ≡ t)} (λ a. inl (inl a)) (λ a. inr (sym a)) (Contains-push_cases q.line t u i))
+park_names q q' t u true e h =
+    ⊎_elim {C = names q u ⊎ (u ≡ t)}
+    (λ i. ⊎_elim {C = names q u ⊎ (u ≡ t)} (λ a. inl (inl a)) (λ a. inr (sym a)) (Contains-push_cases q.line t u i))
     (λ d. inl (inr d)) (subst (λ z. names z u) e h)
 park_names q q' t u false e h = inl (subst (λ z. names z u) e h)
 

@@ -1,5 +1,6 @@
 -- The rule holds of the table at the opening.
-use Rattle.std.proofs.Common.{◌≡◌, ℕ, zero, suc, ◌+◌, ◌<◌, ◌==◌, false, List, [], ◌∷◌, length, map, replicate, get_or, refl, sym, ap, subst, ◌∙◌, arith, ne_eqb, Some, None, slice_get}
+use Rattle.std.proofs.Common.{◌≡◌, ℕ, zero, suc, ◌+◌, ◌<◌, ◌==◌, false, List, [], ◌∷◌, length, map, replicate, get_or, refl, sym, ap, subst}
+use Rattle.std.proofs.Common.{◌∙◌, arith, ne_eqb, Some, None, slice_get}
 use Rattle.std.proofs.lemmas.List.{length-map, length-replicate}
 use Rattle.std.proofs.lemmas.Option.{slice_get-get_or}
 use mathlib.Core.Option.{some}
@@ -31,7 +32,8 @@ no_owner t = ne_eqb 0 (suc t) (λ e. omega arith)
 
 module _ {V : Type 0} (xs : List V) where
   abbrev fresh_world : LockWorld V
-  fresh_world = record { pass = λ t. fresh_pass xs; spot = λ t. awake; word = λ l. record { owner = 0; parked = false }; root = λ l. fresh_root }
+  fresh_world =
+      record { pass = λ t. fresh_pass xs; spot = λ t. awake; word = λ l. record { owner = 0; parked = false }; root = λ l. fresh_root }
 
   holds_none : (l : ℕ) → ¬ Holds (fresh_pass xs) l
   holds_none l h = subst IsHeld (get_or_replicate NotHeld (length xs) l) h
@@ -51,11 +53,19 @@ module _ {V : Type 0} (xs : List V) where
       is_owed = λ l k e. absurd (no_debt None (t, k) refl e);
       handed = λ l h. absurd h;
     };
-    locks = λ l. record { once = once_none; had = λ t e. absurd (omega arith); parks = λ some_in. absurd (some_in refl); tried = λ e some_in. absurd (some_in refl) };
+    locks =
+        λ l. record {
+          once = once_none;
+          had = λ t e. absurd (omega arith);
+          parks = λ some_in. absurd (some_in refl);
+          tried = λ e some_in. absurd (some_in refl);
+        };
   }
 
   fresh_part : part_of fresh_world ≡ opening_part
-  fresh_part = λ i. record { locks = record { held = λ l. false; parked = λ l. false; line = λ l. []; has = λ l t. no_owner t i }; wants = λ t. None }
+  fresh_part =
+      λ i.
+      record { locks = record { held = λ l. false; parked = λ l. false; line = λ l. []; has = λ l t. no_owner t i }; wants = λ t. None }
 
 module _ {V Part : Type 0} (rule : CallersRule V Part) (n : ℕ) (pos : 0 < n) where
   fresh_lawful : (x : V) (xs : List V) → ((k : ℕ) (y : V) → slice_get (x ∷ xs) k ≡ Some y → rule.keeps k y)
@@ -63,13 +73,16 @@ module _ {V Part : Type 0} (rule : CallersRule V Part) (n : ℕ) (pos : 0 < n) w
   fresh_lawful x xs keep =
       let all : List V = x ∷ xs in
       let value : ℕ → V = (λ l. get_or all l x) in
-      let seen_is : (l : ℕ) → l < length all → get_elem? all l ≡ some (value l) = (λ l near. get_as all l (value l) (slice_get-get_or all l x near)) in
+      let seen_is : (l : ℕ) → l < length all → get_elem? all l ≡ some (value l) =
+      (λ l near. get_as all l (value l) (slice_get-get_or all l x near)) in
       record {
         value = value;
         deep = length-map (map (λ (y : V). Some y) all) some ∙ length-map all (λ (y : V). Some y);
         each = λ l near. record {
           kept = keep l (value l) (slice_get-get_or all l x near);
-          idle = λ _. at_map some (map (λ (y : V). Some y) all) l (Some (value l)) (at_map (λ (y : V). Some y) all l (value l) (seen_is l near));
+          idle =
+              λ _. at_map some (map (λ (y : V). Some y) all) l (Some (value l))
+              (at_map (λ (y : V). Some y) all l (value l) (seen_is l near));
           owned = λ t h. absurd (holds_none all l h);
           seen = λ t _. record { seen = value l; seen_is = seen_is l near; grown = rule.grows_itself (value l); mine = λ _. refl };
           witness = (0, (pos, seen_is l near));
@@ -88,7 +101,9 @@ module _ {V Part : Type 0} (rule : CallersRule V Part) (n : ℕ) (pos : 0 < n) w
         fits = record {
           words = fresh_words word_of (sizes_of size) (fresh_world all) (λ l. refl) (λ t. refl);
           kept = subst (λ z. Kept n z (fresh_world all)) (sym is) (fresh_kept all n);
-          lawful = subst (λ z. IsLawful rule n z (λ t. fresh_pass all) (map some (map (λ (y : V). Some y) all))) (sym is) (fresh_lawful x xs keep);
+          lawful =
+              subst (λ z. IsLawful rule n z (λ t. fresh_pass all) (map some (map (λ (y : V). Some y) all))) (sym is)
+              (fresh_lawful x xs keep);
         };
         passes = λ t near. (near, refl);
         roots = λ l near. (near, refl);

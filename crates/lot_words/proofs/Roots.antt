@@ -1,5 +1,6 @@
 -- The turns of the calls that take a lock's root: queueing on the lock, passing it on, and posting the letter that is owed.
-use Rattle.std.proofs.Common.{◌≡◌, ◌≢◌, ℕ, zero, suc, ◌+◌, ◌*◌, ◌<◌, ◌&&◌, ◌==◌, Bool, true, false, List, [], ◌∷◌, ◌++◌, get_or, set, refl, sym, ap, subst, ◌∙◌, inl, inr, arith, Option, Some, None}
+use Rattle.std.proofs.Common.{◌≡◌, ◌≢◌, ℕ, zero, suc, ◌+◌, ◌*◌, ◌<◌, ◌&&◌, ◌==◌, Bool, true, false, List, [], ◌∷◌, ◌++◌, get_or, set, refl}
+use Rattle.std.proofs.Common.{sym, ap, subst, ◌∙◌, inl, inr, arith, Option, Some, None}
 use mathlib.Core.Option as maybe
 use Rattle.lot_core.specs.World.{put}
 use Rattle.lot_core.specs.Steps.{SaysMore, first}
@@ -31,8 +32,10 @@ use Rattle.lot_words.proofs.Turns.{Parks, words_after, words_stay, left_lawful, 
 use Rattle.lot_words.proofs.Valuing.{same_values}
 
 -- ---- what each step tells
-abbrev pub Passes : {V : Type 0} → PassRight (LockPassView V) → RootRight LockRootView → List ℕ → Bool → Bool → PassRight (LockPassView V) → RootRight LockRootView → Type 0
-Passes {V} p q line fair more p' q' = ((y : V) → IsIn p.own q.key y → Notes p (letting_go p.own q.key y) (Makes (Pass p.thread q.key fair more) (Sleeper (first line))) p')
+abbrev pub Passes : {V : Type 0} → PassRight (LockPassView V) → RootRight LockRootView → List ℕ → Bool → Bool → PassRight (LockPassView V)
+    → RootRight LockRootView → Type 0
+Passes {V} p q line fair more p' q' =
+    ((y : V) → IsIn p.own q.key y → Notes p (letting_go p.own q.key y) (Makes (Pass p.thread q.key fair more) (Sleeper (first line))) p')
     × (q' ≡ record q { own = passed_root q.own fair line })
 
 abbrev pub Pays : RootRight LockRootView → ℕ → ℕ → RootRight LockRootView → Type 0
@@ -52,7 +55,8 @@ lies_wants l zero a = refl
 lies_wants l (suc k) a = refl
 
 module _ {V Part : Type 0} (rule : CallersRule V Part) (size : Size) (xs : List V) where
-  module _ (p : PassRight (LockPassView V)) (q : RootRight LockRootView) (w : LockWorld V) (ws : List ℕ) (hs : List (maybe.Option (Option V))) (ok : Fits rule size w ws hs)
+  module _ (p : PassRight (LockPassView V)) (q : RootRight LockRootView) (w : LockWorld V) (ws : List ℕ)
+      (hs : List (maybe.Option (Option V))) (ok : Fits rule size w ws hs)
       (fit : (p.thread < size.threads) × (w.pass p.thread ≡ p.own)) (root : RootIs (sizes_of size) w q.key q.own) where
     abbrev t : ℕ
     t = p.thread
@@ -70,11 +74,15 @@ module _ {V Part : Type 0} (rule : CallersRule V Part) (size : Size) (xs : List 
     found = ok.words.words l root.0
 
     -- the world changes in the pass, notices, words and the root
-    turn_both : (x : ℕ) (then : PassRight (LockPassView V) → RootRight LockRootView → Type 0) (f : LockPassView V → LockPassView V) (g : LockRootView → LockRootView) (spots : ℕ → Spot)
+    turn_both : (x : ℕ) (then : PassRight (LockPassView V) → RootRight LockRootView → Type 0) (f : LockPassView V → LockPassView V)
+        (g : LockRootView → LockRootView) (spots : ℕ → Spot)
         (word : ℕ → LockWord)
-        → Fits rule size (record { pass = put w.pass t (f (w.pass t)); spot = spots; word = word; root = put w.root l (g (w.root l)) }) (set ws (word_at l) x) hs → (a : Access)
-        → IsMade (meaning rule size xs) (2 * t) w a (record { pass = put w.pass t (f (w.pass t)); spot = spots; word = word; root = put w.root l (g (w.root l)) })
-        → ((n : ℕ) → then (pass_after p (f p.own) n a) (record q { own = g q.own })) → BothTurn (meaning rule size xs) (word_at l) x p q then w ws hs
+        → Fits rule size (record { pass = put w.pass t (f (w.pass t)); spot = spots; word = word; root = put w.root l (g (w.root l)) })
+        (set ws (word_at l) x) hs → (a : Access)
+        → IsMade (meaning rule size xs) (2 * t) w a
+        (record { pass = put w.pass t (f (w.pass t)); spot = spots; word = word; root = put w.root l (g (w.root l)) })
+        → ((n : ℕ) → then (pass_after p (f p.own) n a) (record q { own = g q.own }))
+        → BothTurn (meaning rule size xs) (word_at l) x p q then w ws hs
     turn_both x then f g spots word fits a made told = record {
       own = f p.own;
       its = g q.own;
@@ -91,7 +99,8 @@ module _ {V Part : Type 0} (rule : CallersRule V Part) (size : Size) (xs : List 
 
     -- ---- parking
     -- the word says that the lock is not both held and parked
-    park_misses : p.own.asleep ≡ false → p.own.aim ≡ Some l → (x : ℕ) → x ≡ get_or ws (word_at l) 0 → (is_owned (w.word l).owner && (w.word l).parked) ≡ false → (x == 3) ≡ false
+    park_misses : p.own.asleep ≡ false → p.own.aim ≡ Some l → (x : ℕ) → x ≡ get_or ws (word_at l) 0
+        → (is_owned (w.word l).owner && (w.word l).parked) ≡ false → (x == 3) ≡ false
         → BothTurn (meaning rule size xs) (word_at l) x p q (Parks p q x) w ws hs
     park_misses up aim x is not_both three =
         let up' : (w.pass t).asleep ≡ false = ap (λ (z : LockPassView V). z.asleep) fit.1 ∙ up in
@@ -110,12 +119,17 @@ module _ {V Part : Type 0} (rule : CallersRule V Part) (size : Size) (xs : List 
         let letters : letters_of spots ≡ letters_of w.spot = same_letters w.spot t (queued l) (ap letter_of (sym awake_now)) in
         turn_both 3 (Parks p q 3) sleeping (λ z. record z { line = z.line ++ t ∷ [] }) spots w.word
         (record {
-          words = words_stay size w (put w.pass t (sleeping (w.pass t))) spots (put w.root l (record (w.root l) { line = (w.root l).line ++ t ∷ [] })) ws ok.words letters (word_at l) 3
+          words =
+              words_stay size w (put w.pass t (sleeping (w.pass t))) spots
+              (put w.root l (record (w.root l) { line = (w.root l).line ++ t ∷ [] })) ws ok.words letters (word_at l) 3
               (sym (found ∙ (λ i. bits_of (h i) (b i))));
           kept = parks_kept size.threads size.locks w ok.kept t fit.0 up' l here held b (aim_of ∙ aim);
-          lawful = same_values rule size.threads size.locks w.pass hs ok.lawful t (sleeping (w.pass t)) (λ k. record { down = λ h. h; up = λ h. h; places = refl; seen = refl }) (refl, refl);
+          lawful =
+              same_values rule size.threads size.locks w.pass hs ok.lawful t (sleeping (w.pass t))
+              (λ k. record { down = λ h. h; up = λ h. h; places = refl; seen = refl }) (refl, refl);
         })
-        (Makes (Park t l) (Saw true)) (refl, (row_park w size.threads size.locks ok.kept t fit.0 up' l here held (aim_of ∙ aim) b, letters)) (λ k. ((k, refl), refl))
+        (Makes (Park t l) (Saw true)) (refl, (row_park w size.threads size.locks ok.kept t fit.0 up' l here held (aim_of ∙ aim) b, letters))
+        (λ k. ((k, refl), refl))
     park_turn up aim false false h b = park_misses up aim 0 (sym (found ∙ (λ i. bits_of (h i) (b i)))) (λ i. h i && b i) refl
     park_turn up aim false true h b = park_misses up aim 2 (sym (found ∙ (λ i. bits_of (h i) (b i)))) (λ i. h i && b i) refl
     park_turn up aim true false h b = park_misses up aim 1 (sym (found ∙ (λ i. bits_of (h i) (b i)))) (λ i. h i && b i) refl
@@ -148,8 +162,16 @@ module _ {V Part : Type 0} (rule : CallersRule V Part) (size : Size) (xs : List 
       says_now line is = ap (λ (z : LockRootView). z.line) root.1 ∙ is
 
       left_told : (line : List ℕ) (fair more : Bool) → q.own.line ≡ line → (k : ℕ)
-          → Passes p q line fair more (pass_after p (letting_go p.own l y) k (Makes (Pass t l fair more) (Sleeper (first line)))) (record q { own = passed_root q.own fair line })
-      left_told line fair more is k = ((λ z lies'. (k, ap (λ v. pass_after p (letting_go p.own l v) k (Makes (Pass t l fair more) (Sleeper (first line)))) (same_in p.own l y z lies lies'))), refl)
+          → Passes p q line fair more (pass_after p (letting_go p.own l y) k (Makes (Pass t l fair more) (Sleeper (first line))))
+          (record q { own = passed_root q.own fair line })
+      left_told line fair more is k = (
+        (λ z lies'. (
+          k,
+          ap (λ v. pass_after p (letting_go p.own l v) k (Makes (Pass t l fair more) (Sleeper (first line))))
+              (same_in p.own l y z lies lies'),
+        )),
+        refl,
+      )
 
       -- the lock is let go, by a store
       store_turn : (more : Bool) (line : List ℕ) → q.own.line ≡ line → SaysMore line more → (x : ℕ) → x ≡ word_left (first line) more
@@ -169,7 +191,13 @@ module _ {V Part : Type 0} (rule : CallersRule V Part) (size : Size) (xs : List 
             root = root;
             passes = λ u z ne h. (h.0, put_other w.pass t (letting_go (w.pass t) l y) u ne ∙ h.1);
             roots = λ d z ne h. h;
-            made = (refl, (row_pass_none w size.threads size.locks ok.kept t fit.0 up' l here has (aim_of ∙ aim) y more parked (says_now [] line), refl));
+            made = (
+              refl,
+              (
+                row_pass_none w size.threads size.locks ok.kept t fit.0 up' l here has (aim_of ∙ aim) y more parked (says_now [] line),
+                refl,
+              ),
+            );
             told = left_told [] false more line;
           }
       store_turn more (u ∷ us) line says x is =
@@ -178,19 +206,31 @@ module _ {V Part : Type 0} (rule : CallersRule V Part) (size : Size) (xs : List 
           let spots : ℕ → Spot = put w.spot u (owed l 0) in
           let waits = first_waits size.threads size.locks w ok.kept t l fit.0 here up' has u us line' owes_none in
           let letters : letters_of spots ≡ letters_of w.spot = same_letters w.spot u (owed l 0) (ap letter_of (sym waits)) in
-          turn_both x (Passes p q (u ∷ us) false more) (λ z. letting_go z l y) (λ r. record r { line = us; owes = Some (u, 0) }) spots (put w.word l z)
+          turn_both x (Passes p q (u ∷ us) false more) (λ z. letting_go z l y)
+          (λ r. record r { line = us; owes = Some (u, 0) }) spots (put w.word l z)
           (record {
-            words = words_after size w (put w.pass t (letting_go (w.pass t) l y)) spots (put w.root l (record (w.root l) { line = us; owes = Some (u, 0) })) ws ok.words letters l here z x
+            words =
+                words_after size w (put w.pass t (letting_go (w.pass t) l y)) spots
+                (put w.root l (record (w.root l) { line = us; owes = Some (u, 0) })) ws ok.words letters l here z x
                 (is ∙ left_word more u);
-            kept = passes_kept size.threads size.locks w ok.kept t l fit.0 here up' has u us line' owes_none y 0 0 more (inl (refl, refl)) (more_left u us more says);
+            kept =
+                passes_kept size.threads size.locks w ok.kept t l fit.0 here up' has u us line' owes_none y 0 0 more (inl (refl, refl))
+                (more_left u us more says);
             lawful = lawful';
           })
-          (Makes (Pass t l false more) (Sleeper (Some u)))
-          (refl, (row_pass_plain w size.threads size.locks ok.kept t fit.0 up' l here has (aim_of ∙ aim) y u us line' parked owes_none more (subst (λ z. SaysMore z more) (sym line') says), letters))
+          (Makes (Pass t l false more) (Sleeper (Some u))) (
+            refl,
+            (
+              row_pass_plain w size.threads size.locks ok.kept t fit.0 up' l here has (aim_of ∙ aim) y u us line' parked owes_none more
+                  (subst (λ z. SaysMore z more) (sym line') says),
+              letters,
+            ),
+          )
           (left_told (u ∷ us) false more line)
 
       -- the lock is handed to the first, by a load
-      load_turn : (more : Bool) (u : ℕ) (us : List ℕ) → q.own.line ≡ u ∷ us → BothTurn (meaning rule size xs) (word_at l) (get_or ws (word_at l) 0) p q
+      load_turn : (more : Bool) (u : ℕ) (us : List ℕ) → q.own.line ≡ u ∷ us
+          → BothTurn (meaning rule size xs) (word_at l) (get_or ws (word_at l) 0) p q
           (Passes p q (u ∷ us) true more) w ws hs
       load_turn more u us line =
           let z : LockWord = record { owner = suc u; parked = (w.word l).parked } in
@@ -198,41 +238,56 @@ module _ {V Part : Type 0} (rule : CallersRule V Part) (size : Size) (xs : List 
           let spots : ℕ → Spot = put w.spot u (owed l 1) in
           let waits = first_waits size.threads size.locks w ok.kept t l fit.0 here up' has u us line' owes_none in
           let letters : letters_of spots ≡ letters_of w.spot = same_letters w.spot u (owed l 1) (ap letter_of (sym waits)) in
-          turn_both (get_or ws (word_at l) 0) (Passes p q (u ∷ us) true more) (λ z. letting_go z l y) (λ r. record r { line = us; owes = Some (u, 1) }) spots (put w.word l z)
+          turn_both (get_or ws (word_at l) 0) (Passes p q (u ∷ us) true more) (λ z. letting_go z l y)
+          (λ r. record r { line = us; owes = Some (u, 1) }) spots (put w.word l z)
           (record {
-            words = words_after size w (put w.pass t (letting_go (w.pass t) l y)) spots (put w.root l (record (w.root l) { line = us; owes = Some (u, 1) })) ws ok.words letters l here z
+            words =
+                words_after size w (put w.pass t (letting_go (w.pass t) l y)) spots
+                (put w.root l (record (w.root l) { line = us; owes = Some (u, 1) })) ws ok.words letters l here z
                 (get_or ws (word_at l) 0)
                 (found ∙ ap (λ o. bits_of (is_owned o) (w.word l).parked) own_is);
-            kept = passes_kept size.threads size.locks w ok.kept t l fit.0 here up' has u us line' owes_none y 1 (suc u) (w.word l).parked (inr (refl, refl)) (λ _. parked);
+            kept =
+                passes_kept size.threads size.locks w ok.kept t l fit.0 here up' has u us line' owes_none y 1 (suc u) (w.word l).parked
+                (inr (refl, refl)) (λ _. parked);
             lawful = lawful';
           })
-          (Makes (Pass t l true more) (Sleeper (Some u)))
-          (refl, (row_pass_fair w size.threads size.locks ok.kept t fit.0 up' l here has (aim_of ∙ aim) y u us line' parked owes_none more, letters))
+          (Makes (Pass t l true more) (Sleeper (Some u))) (
+            refl,
+            (
+              row_pass_fair w size.threads size.locks ok.kept t fit.0 up' l here has (aim_of ∙ aim) y u us line' parked owes_none more,
+              letters,
+            ),
+          )
           (left_told (u ∷ us) true more line)
 
   pub parks : (p : PassRight (LockPassView V)) (q : RootRight LockRootView) → p.own.asleep ≡ false → p.own.aim ≡ Some q.key
       → AllowsBoth (meaning rule size xs) (word_at q.key) (λ n. n) p q (Parks p q)
   parks p q up aim w ws hs ok fit root small =
-      let n : bits_of (is_owned (w.word q.key).owner) (w.word q.key).parked ≡ get_or ws (word_at q.key) 0 = sym (ok.words.words q.key root.0) in
+      let n : bits_of (is_owned (w.word q.key).owner) (w.word q.key).parked ≡ get_or ws (word_at q.key) 0 =
+      sym (ok.words.words q.key root.0) in
       subst (λ n. BothTurn (meaning rule size xs) (word_at q.key) n p q (Parks p q n) w ws hs) n
       (park_turn p q w ws hs ok fit root up aim (is_owned (w.word q.key).owner) (w.word q.key).parked refl refl)
 
-  module _ (p : PassRight (LockPassView V)) (q : RootRight LockRootView) (up : p.own.asleep ≡ false) (aim : p.own.aim ≡ None) (holds : HoldsParked p.own q.key) (y : V)
+  module _ (p : PassRight (LockPassView V)) (q : RootRight LockRootView) (up : p.own.asleep ≡ false) (aim : p.own.aim ≡ None)
+      (holds : HoldsParked p.own q.key) (y : V)
       (lies : IsIn p.own q.key y) (paid : q.own.owes ≡ None) (more : Bool) where
     pub stores : SaysMore q.own.line more → (x : ℕ) → x ≡ word_left (first q.own.line) more
         → AllowsBoth (meaning rule size xs) (word_at q.key) (λ _. x) p q (λ _. Passes p q q.own.line false more)
     stores says x is w ws hs ok fit root small = store_turn p q w ws hs ok fit root up aim holds y lies paid more q.own.line refl says x is
 
-    pub loads : (first q.own.line ≡ None → ⊥) → AllowsBoth (meaning rule size xs) (word_at q.key) (λ n. n) p q (λ _. Passes p q q.own.line true more)
+    pub loads : (first q.own.line ≡ None → ⊥)
+        → AllowsBoth (meaning rule size xs) (word_at q.key) (λ n. n) p q (λ _. Passes p q q.own.line true more)
     loads some w ws hs ok fit root small = by_first q.own.line refl some
       where
-        by_first : (line : List ℕ) → q.own.line ≡ line → (first line ≡ None → ⊥) → BothTurn (meaning rule size xs) (word_at q.key) (get_or ws (word_at q.key) 0) p q
+        by_first : (line : List ℕ) → q.own.line ≡ line → (first line ≡ None → ⊥)
+            → BothTurn (meaning rule size xs) (word_at q.key) (get_or ws (word_at q.key) 0) p q
             (Passes p q line true more) w ws hs
         by_first [] is some = absurd (some refl)
         by_first (u ∷ us) is some = load_turn p q w ws hs ok fit root up aim holds y lies paid more u us is
 
   -- ---- posting
-  pub posts : (q : RootRight LockRootView) (u k : ℕ) → q.own.owes ≡ Some (u, k) → AllowsRoot (meaning rule size xs) (letter_at u) (λ _. k + 1) q (λ _. Pays q u k)
+  pub posts : (q : RootRight LockRootView) (u k : ℕ) → q.own.owes ≡ Some (u, k)
+      → AllowsRoot (meaning rule size xs) (letter_at u) (λ _. k + 1) q (λ _. Pays q u k)
   posts q u k debt w ws hs ok root small =
       let l : ℕ = q.key in
       let debt' : (w.root l).owes ≡ Some (u, k) = ap (λ (z : LockRootView). z.owes) root.1 ∙ debt in
@@ -245,7 +300,9 @@ module _ {V Part : Type 0} (rule : CallersRule V Part) (size : Size) (xs : List 
         access = Posts l u k;
         world = w';
         fits = record {
-          words = letter_written word_of (sizes_of size) w w' ws ok.words u (k + 1) (debtor_fits size.threads size.locks w ok.kept u k l debt').0.0 (sym (ap letter_of (put_same w.spot u (lying l k))))
+          words =
+              letter_written word_of (sizes_of size) w w' ws ok.words u (k + 1)
+              (debtor_fits size.threads size.locks w ok.kept u k l debt').0.0 (sym (ap letter_of (put_same w.spot u (lying l k))))
               (λ v ne. ap letter_of (put_other w.spot u (lying l k) v ne)) (λ d. refl);
           kept = posts_kept size.threads size.locks w ok.kept u k l debt';
           lawful = ok.lawful;
@@ -257,7 +314,12 @@ module _ {V Part : Type 0} (rule : CallersRule V Part) (size : Size) (xs : List 
           refl,
           (
             ap letter_of waits,
-            λ i. record { part = same_post w u (lying l k) l q1 (lies_wants l k (w.pass u).aim ∙ ap (λ z. wants_of z (w.pass u).aim) (sym waits)) refl i; letters = one_letter w.spot u (lying l k) i },
+            λ i.
+                record {
+                  part = same_post w u (lying l k) l q1
+                      (lies_wants l k (w.pass u).aim ∙ ap (λ z. wants_of z (w.pass u).aim) (sym waits)) refl i;
+                  letters = one_letter w.spot u (lying l k) i;
+                },
           ),
         );
         told = λ n. (n, refl);

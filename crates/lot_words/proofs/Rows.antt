@@ -1,5 +1,6 @@
 -- What each kind of event is to the lock part of the model: a step of lot_core's.
-use Rattle.std.proofs.Common.{◌≡◌, ◌≢◌, ℕ, zero, suc, ◌<◌, ◌==◌, ◌&&◌, ◌⊎◌, not, Bool, true, false, cond, List, [], ◌∷◌, ◌++◌, length, refl, sym, ap, ◌∙◌, inl, inr, ⊎_elim, arith, eq-eqb, ne_eqb}
+use Rattle.std.proofs.Common.{◌≡◌, ◌≢◌, ℕ, zero, suc, ◌<◌, ◌==◌, ◌&&◌, ◌⊎◌, not, Bool, true, false, cond, List, [], ◌∷◌, ◌++◌, length, refl}
+use Rattle.std.proofs.Common.{sym, ap, ◌∙◌, inl, inr, ⊎_elim, arith, eq-eqb, ne_eqb}
 use Rattle.std.proofs.Common.{Option, Some, None}
 use Rattle.std.specs.List.{Contains}
 use mathlib.Core.Path.{fun_ext}
@@ -29,7 +30,8 @@ aim_cases (Some k) l aims = inr (ap Some (aims k refl))
 
 -- who has the lock, where its owner changes
 has_gets : (o t : ℕ) → o ≡ 0 → (λ v. suc t == suc v) ≡ put (λ v. o == suc v) t true
-has_gets o t none = fun_ext (λ v. put_elim (λ b. (suc t == suc v) ≡ b) (λ u. o == suc u) t true v (λ vt. eq-eqb (suc t) (suc v) (omega arith))
+has_gets o t none =
+    fun_ext (λ v. put_elim (λ b. (suc t == suc v) ≡ b) (λ u. o == suc u) t true v (λ vt. eq-eqb (suc t) (suc v) (omega arith))
     (λ ne. ne_eqb (suc t) (suc v) (λ e. ne (omega arith)) ∙ sym (ne_eqb o (suc v) (λ e. omega arith))))
 
 has_loses : (o t : ℕ) → o ≡ suc t → (λ v. 0 == suc v) ≡ put (λ v. o == suc v) t false
@@ -37,7 +39,8 @@ has_loses o t own = fun_ext (λ v. put_elim (λ b. (0 == suc v) ≡ b) (λ u. o 
     (λ ne. ne_eqb 0 (suc v) (λ e. omega arith) ∙ sym (ne_eqb o (suc v) (λ e. ne (omega arith)))))
 
 has_hands : (o t u : ℕ) → o ≡ suc t → (λ v. suc u == suc v) ≡ put (put (λ v. o == suc v) t false) u true
-has_hands o t u own = fun_ext (λ v. put_elim (λ b. (suc u == suc v) ≡ b) (put (λ i. o == suc i) t false) u true v (λ vu. eq-eqb (suc u) (suc v) (omega arith))
+has_hands o t u own =
+    fun_ext (λ v. put_elim (λ b. (suc u == suc v) ≡ b) (put (λ i. o == suc i) t false) u true v (λ vu. eq-eqb (suc u) (suc v) (omega arith))
     (λ ne. put_elim (λ b. (suc u == suc v) ≡ b) (λ i. o == suc i) t false v (λ _. ne_eqb (suc u) (suc v) (λ e. ne (omega arith)))
     (λ vt. ne_eqb (suc u) (suc v) (λ e. ne (omega arith)) ∙ sym (ne_eqb o (suc v) (λ e. vt (omega arith))))))
 
@@ -55,26 +58,32 @@ module _ {V : Type 0} (w : LockWorld V) where
   parked_same : (l : ℕ) (x : LockWord) → x.parked ≡ (w.word l).parked → (λ k. (put w.word l x k).parked) ≡ (part_of w).locks.parked
   parked_same l x e = told_same (λ (z : LockWord). z.parked) w.word l x e
 
-  has_now : (l : ℕ) (x : LockWord) (has : ℕ → Bool) → (λ v. x.owner == suc v) ≡ has → (λ k v. (put w.word l x k).owner == suc v) ≡ put (part_of w).locks.has l has
+  has_now : (l : ℕ) (x : LockWord) (has : ℕ → Bool) → (λ v. x.owner == suc v) ≡ has
+      → (λ k v. (put w.word l x k).owner == suc v) ≡ put (part_of w).locks.has l has
   has_now l x has e = told_put {Y = ℕ → Bool} (λ (z : LockWord) v. z.owner == suc v) w.word l x ∙ ap (put (part_of w).locks.has l) e
 
   line_now : (l : ℕ) (q : LockRootView) → (λ k. (put w.root l q k).line) ≡ put (part_of w).locks.line l q.line
   line_now l q = told_put (λ (z : LockRootView). z.line) w.root l q
 
   -- t's pass has another aim, or its notice moves: it wants a then
-  wants_put : (t : ℕ) (p : LockPassView V) (spots : ℕ → Spot) (a : Option ℕ) → wants_of (spots t) p.aim ≡ a → ((v : ℕ) → v ≢ t → spots v ≡ w.spot v)
+  wants_put : (t : ℕ) (p : LockPassView V) (spots : ℕ → Spot) (a : Option ℕ) → wants_of (spots t) p.aim ≡ a
+      → ((v : ℕ) → v ≢ t → spots v ≡ w.spot v)
       → (λ v. wants_of (spots v) (put w.pass t p v).aim) ≡ put wants t a
-  wants_put t p spots a here else = is_put (λ v. wants_of (spots v) (put w.pass t p v).aim) wants t a (ap (λ (z : LockPassView V). wants_of (spots t) z.aim) (put_same w.pass t p) ∙ here)
+  wants_put t p spots a here else =
+      is_put (λ v. wants_of (spots v) (put w.pass t p v).aim) wants t a
+      (ap (λ (z : LockPassView V). wants_of (spots t) z.aim) (put_same w.pass t p) ∙ here)
       (λ v ne. (λ i. wants_of (else v ne i) (put_other w.pass t p v ne i).aim))
 
   -- it wants what it wanted
-  wants_same : (t : ℕ) (p : LockPassView V) (spots : ℕ → Spot) → p.aim ≡ (w.pass t).aim → ((v : ℕ) → wants_of (spots v) (w.pass v).aim ≡ wants v)
+  wants_same : (t : ℕ) (p : LockPassView V) (spots : ℕ → Spot) → p.aim ≡ (w.pass t).aim
+      → ((v : ℕ) → wants_of (spots v) (w.pass v).aim ≡ wants v)
       → (λ v. wants_of (spots v) (put w.pass t p v).aim) ≡ wants
   wants_same t p spots aim same = fun_ext (λ v. put_elim (λ z. wants_of (spots v) z.aim ≡ wants v) w.pass t p v
       (λ vt. ap (wants_of (spots v)) (aim ∙ ap (λ z. (w.pass z).aim) (sym vt)) ∙ same v) (λ _. same v))
 
   -- the notice of u moves, and u wants what it wanted
-  spot_same : (u : ℕ) (sp : Spot) → wants_of sp (w.pass u).aim ≡ wants_of (w.spot u) (w.pass u).aim → (v : ℕ) → wants_of (put w.spot u sp v) (w.pass v).aim ≡ wants v
+  spot_same : (u : ℕ) (sp : Spot) → wants_of sp (w.pass u).aim ≡ wants_of (w.spot u) (w.pass u).aim → (v : ℕ)
+      → wants_of (put w.spot u sp v) (w.pass v).aim ≡ wants v
   spot_same u sp e v = put_elim (λ z. wants_of z (w.pass v).aim ≡ wants v) w.spot u sp v (λ vu. ap (λ z. wants_of sp (w.pass z).aim) vu
       ∙ (e ∙ ap (λ z. wants_of (w.spot z) (w.pass z).aim) (sym vu))) (λ _. refl)
 
@@ -84,15 +93,23 @@ module _ {V : Type 0} (w : LockWorld V) where
   same_pass t p aim = λ i. record { locks = (part_of w).locks; wants = wants_same t p w.spot aim (λ v. refl) i }
 
   -- a letter that is posted
-  pub same_post : (u : ℕ) (sp : Spot) (l : ℕ) (q : LockRootView) → wants_of sp (w.pass u).aim ≡ wants_of (w.spot u) (w.pass u).aim → q.line ≡ (w.root l).line
+  pub same_post : (u : ℕ) (sp : Spot) (l : ℕ) (q : LockRootView) → wants_of sp (w.pass u).aim ≡ wants_of (w.spot u) (w.pass u).aim
+      → q.line ≡ (w.root l).line
       → part_of (record w { spot = put w.spot u sp; root = put w.root l q }) ≡ part_of w
-  same_post u sp l q want line = λ i. record { locks = record (part_of w).locks { line = told_same (λ (z : LockRootView). z.line) w.root l q line i }; wants = fun_ext (spot_same u sp want) i }
+  same_post u sp l q want line =
+      λ i. record {
+        locks = record (part_of w).locks { line = told_same (λ (z : LockRootView). z.line) w.root l q line i };
+        wants = fun_ext (spot_same u sp want) i;
+      }
 
   -- a letter that is collected
-  pub same_collect : (t : ℕ) (p : LockPassView V) → wants_of awake p.aim ≡ wants t → part_of (record w { pass = put w.pass t p; spot = put w.spot t awake }) ≡ part_of w
+  pub same_collect : (t : ℕ) (p : LockPassView V) → wants_of awake p.aim ≡ wants t
+      → part_of (record w { pass = put w.pass t p; spot = put w.spot t awake }) ≡ part_of w
   same_collect t p want = λ i. record {
     locks = (part_of w).locks;
-    wants = (wants_put t p (put w.spot t awake) (wants t) (ap (λ z. wants_of z p.aim) (put_same w.spot t awake) ∙ want) (λ v ne. put_other w.spot t awake v ne) ∙ put_again wants t) i;
+    wants =
+        (wants_put t p (put w.spot t awake) (wants t) (ap (λ z. wants_of z p.aim) (put_same w.spot t awake) ∙ want)
+        (λ v ne. put_other w.spot t awake v ne) ∙ put_again wants t) i;
   }
 
   module _ (n m : ℕ) (ok : Kept n m w) (t : ℕ) (near : t < n) (up : (w.pass t).asleep ≡ false) where
@@ -104,16 +121,26 @@ module _ {V : Type 0} (w : LockWorld V) where
       not_in_line = in_no_line n m w ok t near up l
 
       may_try : Aims (w.pass t) l → MayTry (part_of w) t l
-      may_try aims = ⊎_elim {C = MayTry (part_of w) t l} (λ e. inl (wants_now ∙ e)) (λ e. inr (wants_now ∙ e, not_in_line)) (aim_cases (w.pass t).aim l aims)
+      may_try aims =
+          ⊎_elim {C = MayTry (part_of w) t l} (λ e. inl (wants_now ∙ e)) (λ e. inr (wants_now ∙ e, not_in_line))
+          (aim_cases (w.pass t).aim l aims)
 
       -- ---- take and try
       module _ (unheld : (w.word l).owner ≡ 0) (x : V) where
         abbrev got : LockWorld V
-        got = record w { pass = put w.pass t (owning (w.pass t) l x); word = put w.word l (record { owner = suc t; parked = (w.word l).parked }) }
+        got =
+            record w {
+              pass = put w.pass t (owning (w.pass t) l x);
+              word = put w.word l (record { owner = suc t; parked = (w.word l).parked });
+            }
 
         got_part : (want : ℕ → Option ℕ) → put wants t None ≡ want
             → part_of got ≡ record {
-              locks = record (part_of w).locks { held = put (part_of w).locks.held l true; has = put (part_of w).locks.has l (put ((part_of w).locks.has l) t true) };
+              locks =
+                  record (part_of w).locks {
+                    held = put (part_of w).locks.held l true;
+                    has = put (part_of w).locks.has l (put ((part_of w).locks.has l) t true);
+                  };
               wants = want;
             }
         got_part want is = let y : LockWord = record { owner = suc t; parked = (w.word l).parked } in λ i. record {
@@ -123,7 +150,9 @@ module _ {V : Type 0} (w : LockWorld V) where
             line = (part_of w).locks.line;
             has = has_now l y (put ((part_of w).locks.has l) t true) (has_gets (w.word l).owner t unheld) i;
           };
-          wants = (wants_put t (owning (w.pass t) l x) w.spot None (ap (λ z. wants_of z None) (is_awake n m w ok t near up)) (λ v ne. refl) ∙ is) i;
+          wants =
+              (wants_put t (owning (w.pass t) l x) w.spot None (ap (λ z. wants_of z None) (is_awake n m w ok t near up)) (λ v ne. refl)
+              ∙ is) i;
         }
 
         free_now : false ≡ is_owned (w.word l).owner
@@ -144,14 +173,18 @@ module _ {V : Type 0} (w : LockWorld V) where
               locks = cond c (part_of w).locks (record (part_of w).locks
                   { held = put (part_of w).locks.held l true; has = put (part_of w).locks.has l (put ((part_of w).locks.has l) t true) });
               wants = wants;
-            } in
-            ((near, here, wants_now ∙ aim), ap (λ c. Saw (not c)) free_now, got_part wants (ap (put wants t) (sym (wants_now ∙ aim)) ∙ put_again wants t) ∙ ap then free_now)
+            } in (
+              (near, here, wants_now ∙ aim),
+              ap (λ c. Saw (not c)) free_now,
+              got_part wants (ap (put wants t) (sym (wants_now ∙ aim)) ∙ put_again wants t) ∙ ap then free_now,
+            )
 
       module _ (held : (w.word l).owner ≢ 0) where
         held_now_is : true ≡ is_owned (w.word l).owner
         held_now_is = sym (owned_true (w.word l).owner held)
 
-        pub row_take_held : Aims (w.pass t) l → LockStep n m (part_of w) (Take t l) (Saw false) (part_of (record w { pass = put w.pass t (wanting (w.pass t) l) }))
+        pub row_take_held : Aims (w.pass t) l → LockStep n m (part_of w) (Take t l) (Saw false)
+            (part_of (record w { pass = put w.pass t (wanting (w.pass t) l) }))
         row_take_held aims =
             let then : Bool → LockPart = λ c. record {
               locks = cond c (part_of w).locks (record (part_of w).locks
@@ -176,7 +209,8 @@ module _ {V : Type 0} (w : LockWorld V) where
             } in
             ((near, here, wants_now ∙ aim), ap (λ c. Saw (not c)) held_now_is, ap then held_now_is)
 
-        pub row_mark : Aims (w.pass t) l → LockStep n m (part_of w) (Mark t l) Done (part_of (record w { word = put w.word l (record { owner = (w.word l).owner; parked = true }) }))
+        pub row_mark : Aims (w.pass t) l → LockStep n m (part_of w) (Mark t l) Done
+            (part_of (record w { word = put w.word l (record { owner = (w.word l).owner; parked = true }) }))
         row_mark aims = let y : LockWord = record { owner = (w.word l).owner; parked = true } in (
           (near, here, may_try aims, sym held_now_is),
           refl,
@@ -214,10 +248,13 @@ module _ {V : Type 0} (w : LockWorld V) where
               }) ∙ ap then both,
             )
 
-      pub row_park_not : (w.pass t).aim ≡ Some l → (is_owned (w.word l).owner && (w.word l).parked) ≡ false → LockStep n m (part_of w) (Park t l) (Saw false) (part_of w)
+      pub row_park_not : (w.pass t).aim ≡ Some l → (is_owned (w.word l).owner && (w.word l).parked) ≡ false
+          → LockStep n m (part_of w) (Park t l) (Saw false) (part_of w)
       row_park_not aim not_both =
           let then : Bool → LockPart = λ c. record {
-            locks = cond c (record (part_of w).locks { line = put (part_of w).locks.line l ((part_of w).locks.line l ++ t ∷ []) }) (part_of w).locks;
+            locks =
+                cond c (record (part_of w).locks { line = put (part_of w).locks.line l ((part_of w).locks.line l ++ t ∷ []) })
+                (part_of w).locks;
             wants = wants;
           } in
           ((near, here, wants_now ∙ aim, not_in_line), ap Saw (sym not_both), ap then (sym not_both))
@@ -251,8 +288,10 @@ module _ {V : Type 0} (w : LockWorld V) where
               let x : LockWord = record { owner = 0; parked = (w.word l).parked } in
               let e : false ≡ (w.word l).parked = sym unparked in
               let then : Bool → LockPart = λ c. record {
-                locks = cond c (part_of w).locks (record (part_of w).locks
-                    { held = put (part_of w).locks.held l false; has = put (part_of w).locks.has l (put ((part_of w).locks.has l) t false) });
+                locks = cond c (part_of w).locks (record (part_of w).locks {
+                  held = put (part_of w).locks.held l false;
+                  has = put (part_of w).locks.has l (put ((part_of w).locks.has l) t false);
+                });
                 wants = wants;
               } in (
                 (near, here, has_it, wants_now ∙ aim),
@@ -273,7 +312,14 @@ module _ {V : Type 0} (w : LockWorld V) where
               → LockStep n m (part_of w) (Pass t l false more) (Sleeper None) (part_of (record w
               { pass = put w.pass t (letting_go (w.pass t) l y); word = put w.word l (record { owner = 0; parked = false }) }))
           row_pass_none more parked line = let x : LockWord = record { owner = 0; parked = false } in (
-            (near, here, has_it, parked, wants_now ∙ aim, (λ _ two. absurd (let f : length (w.root l).line ≡ 0 = ap length line in omega arith))),
+            (
+              near,
+              here,
+              has_it,
+              parked,
+              wants_now ∙ aim,
+              (λ _ two. absurd (let f : length (w.root l).line ≡ 0 = ap length line in omega arith)),
+            ),
             ap (λ z. Sleeper (first z)) (sym line),
             (λ i. record {
               locks = record {
@@ -283,10 +329,13 @@ module _ {V : Type 0} (w : LockWorld V) where
                 has = has_now l x (put ((part_of w).locks.has l) t false) (has_loses (w.word l).owner t owner_is) i;
               };
               wants = wants_same t (letting_go (w.pass t) l y) w.spot refl (λ v. refl) i;
-            }) ∙ (let then : List ℕ → LockPart = λ z. record { locks = passed_line (part_of w).locks t l false more z; wants = wants } in ap then (sym line)),
+            })
+                ∙ (let then : List ℕ → LockPart =
+                λ z. record { locks = passed_line (part_of w).locks t l false more z; wants = wants } in ap then (sym line)),
           )
 
-          module _ (u : ℕ) (us : List ℕ) (line : (w.root l).line ≡ u ∷ us) (parked : (w.word l).parked ≡ true) (paid : (w.root l).owes ≡ None) where
+          module _ (u : ℕ) (us : List ℕ) (line : (w.root l).line ≡ u ∷ us) (parked : (w.word l).parked ≡ true)
+              (paid : (w.root l).owes ≡ None) where
             waits : w.spot u ≡ queued l
             waits = first_waits n m w ok t l near here up has u us line paid
 
@@ -299,24 +348,32 @@ module _ {V : Type 0} (w : LockWorld V) where
             }
 
             -- the lock is let go, and the first may try
-            pub row_pass_plain : (more : Bool) → SaysMore (w.root l).line more → LockStep n m (part_of w) (Pass t l false more) (Sleeper (Some u))
+            pub row_pass_plain : (more : Bool) → SaysMore (w.root l).line more
+                → LockStep n m (part_of w) (Pass t l false more) (Sleeper (Some u))
                 (part_of (passed 0 (record { owner = 0; parked = more })))
-            row_pass_plain more says = let x : LockWord = record { owner = 0; parked = more } in let q : LockRootView = record (w.root l) { line = us; owes = Some (u, 0) } in (
-              (near, here, has_it, parked, wants_now ∙ aim, (λ _. says)),
-              ap (λ z. Sleeper (first z)) (sym line),
-              (λ i. record {
-                locks = record {
-                  held = held_now l x i;
-                  parked = parked_now l x i;
-                  line = line_now l q i;
-                  has = has_now l x (put ((part_of w).locks.has l) t false) (has_loses (w.word l).owner t owner_is) i;
-                };
-                wants = wants_same t (letting_go (w.pass t) l y) (put w.spot u (owed l 0)) refl (spot_same u (owed l 0) (ap (λ z. wants_of z (w.pass u).aim) (sym waits))) i;
-              }) ∙ (let then : List ℕ → LockPart = λ z. record { locks = passed_line (part_of w).locks t l false more z; wants = wants } in ap then (sym line)),
-            )
+            row_pass_plain more says =
+                let x : LockWord = record { owner = 0; parked = more } in
+                let q : LockRootView = record (w.root l) { line = us; owes = Some (u, 0) } in (
+                  (near, here, has_it, parked, wants_now ∙ aim, (λ _. says)),
+                  ap (λ z. Sleeper (first z)) (sym line),
+                  (λ i. record {
+                    locks = record {
+                      held = held_now l x i;
+                      parked = parked_now l x i;
+                      line = line_now l q i;
+                      has = has_now l x (put ((part_of w).locks.has l) t false) (has_loses (w.word l).owner t owner_is) i;
+                    };
+                    wants =
+                        wants_same t (letting_go (w.pass t) l y) (put w.spot u (owed l 0)) refl
+                        (spot_same u (owed l 0) (ap (λ z. wants_of z (w.pass u).aim) (sym waits))) i;
+                  })
+                      ∙ (let then : List ℕ → LockPart =
+                      λ z. record { locks = passed_line (part_of w).locks t l false more z; wants = wants } in ap then (sym line)),
+                )
 
             -- the lock is handed to the first
-            pub row_pass_fair : (more : Bool) → LockStep n m (part_of w) (Pass t l true more) (Sleeper (Some u)) (part_of (passed 1 (record { owner = suc u; parked = (w.word l).parked })))
+            pub row_pass_fair : (more : Bool) → LockStep n m (part_of w) (Pass t l true more) (Sleeper (Some u))
+                (part_of (passed 1 (record { owner = suc u; parked = (w.word l).parked })))
             row_pass_fair more =
                 let x : LockWord = record { owner = suc u; parked = (w.word l).parked } in
                 let q : LockRootView = record (w.root l) { line = us; owes = Some (u, 1) } in
@@ -331,13 +388,19 @@ module _ {V : Type 0} (w : LockWorld V) where
                       line = line_now l q i;
                       has = has_now l x (put (put ((part_of w).locks.has l) t false) u true) (has_hands (w.word l).owner t u owner_is) i;
                     };
-                    wants = is_put (λ v. wants_of (spots v) (put w.pass t p v).aim) wants u None (ap (λ z. wants_of z (put w.pass t p u).aim) (put_same w.spot u (owed l 1)))
+                    wants =
+                        is_put (λ v. wants_of (spots v) (put w.pass t p v).aim) wants u None
+                        (ap (λ z. wants_of z (put w.pass t p u).aim) (put_same w.spot u (owed l 1)))
                         (λ v ne. ap (λ z. wants_of z (put w.pass t p v).aim) (put_other w.spot u (owed l 1) v ne)
-                        ∙ put_elim (λ z. wants_of (w.spot v) z.aim ≡ wants v) w.pass t p v (λ vt. ap (λ z. wants_of (w.spot v) (w.pass z).aim) (sym vt)) (λ _. refl)) i;
-                  }) ∙ (let then : List ℕ → LockPart = λ z. record { locks = passed_line (part_of w).locks t l true more z; wants = served wants z } in ap then (sym line)),
+                        ∙ put_elim (λ z. wants_of (w.spot v) z.aim ≡ wants v) w.pass t p v
+                        (λ vt. ap (λ z. wants_of (w.spot v) (w.pass z).aim) (sym vt)) (λ _. refl)) i;
+                  })
+                      ∙ (let then : List ℕ → LockPart =
+                      λ z. record { locks = passed_line (part_of w).locks t l true more z; wants = served wants z } in ap then (sym line)),
                 )
 
-        pub row_free_parked : (w.word l).parked ≡ true → LockStep n m (part_of w) (Free t l) (Saw false) (part_of (record w { pass = put w.pass t (finding_parked (w.pass t) l) }))
+        pub row_free_parked : (w.word l).parked ≡ true
+            → LockStep n m (part_of w) (Free t l) (Saw false) (part_of (record w { pass = put w.pass t (finding_parked (w.pass t) l) }))
         row_free_parked parked =
             let e : true ≡ (w.word l).parked = sym parked in
             let then : Bool → LockPart = λ c. record {

@@ -10,7 +10,8 @@ use Rattle.lot_rights.proofs.Runs.{run_keeps}
 use Rattle.lot_words.specs.declared.views.Size.{Size}
 use Rattle.lot_words.specs.Rule.{opening_part}
 
-pub run_sound : (size : Size) (events : List (Event × Seen)) (part : LockPart) → ModelRun (LockStep size.threads size.locks) opening_part events part
+pub run_sound : (size : Size) (events : List (Event × Seen)) (part : LockPart)
+    → ModelRun (LockStep size.threads size.locks) opening_part events part
     → IsSoundLockPart size.threads part
 run_sound size events part run = run_keeps (LockStep size.threads size.locks) (IsSoundLockPart size.threads)
     (λ a b e saw ok step. lock_step_sound size.threads size.locks a b e saw step ok) opening_part events part run

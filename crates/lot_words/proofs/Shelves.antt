@@ -8,10 +8,12 @@ module _ {V : Type 0} where
   filled xs = map (λ (x : V). Some x) xs
 
   -- the last value becomes the last slot of those that are turned round
-  pub moves_one : (vs vs' : List V) (x : V) (ss : List (Option V)) (all : List (Option V)) → vs ≡ vs' ++ x ∷ [] → filled vs ++ reverse ss ≡ all → filled vs' ++ reverse (ss ++ Some x ∷ []) ≡ all
+  pub moves_one : (vs vs' : List V) (x : V) (ss : List (Option V)) (all : List (Option V)) → vs ≡ vs' ++ x ∷ []
+      → filled vs ++ reverse ss ≡ all → filled vs' ++ reverse (ss ++ Some x ∷ []) ≡ all
   moves_one vs vs' x ss all e h =
       ap (λ ys. filled vs' ++ ys) (reverse-append ss (Some x ∷ []))
-      ∙ (sym (append_assoc (filled vs') (Some x ∷ []) (reverse ss)) ∙ (ap (λ ys. ys ++ reverse ss) (sym (map-append (λ (y : V). Some y) vs' (x ∷ [])) ∙ ap filled (sym e)) ∙ h))
+      ∙ (sym (append_assoc (filled vs') (Some x ∷ []) (reverse ss))
+      ∙ (ap (λ ys. ys ++ reverse ss) (sym (map-append (λ (y : V). Some y) vs' (x ∷ [])) ∙ ap filled (sym e)) ∙ h))
 
   pub all_some_filled : (vs : List V) → AllSome (filled vs)
   all_some_filled [] = tt
@@ -28,7 +30,8 @@ module _ {V : Type 0} where
   all_some_last (None ∷ ss) h = h
 
   -- the last slot's value becomes the last of those that are turned round
-  pub takes_one : (ss ss' : List (Option V)) (x : V) (vs : List V) (all : List (Option V)) → ss ≡ ss' ++ Some x ∷ [] → ss ++ filled (reverse vs) ≡ all → ss' ++ filled (reverse (vs ++ x ∷ [])) ≡ all
+  pub takes_one : (ss ss' : List (Option V)) (x : V) (vs : List V) (all : List (Option V)) → ss ≡ ss' ++ Some x ∷ []
+      → ss ++ filled (reverse vs) ≡ all → ss' ++ filled (reverse (vs ++ x ∷ [])) ≡ all
   takes_one ss ss' x vs all e h =
       ap (λ ys. ss' ++ filled ys) (reverse-append vs (x ∷ []))
       ∙ (sym (append_assoc ss' (Some x ∷ []) (filled (reverse vs))) ∙ (ap (λ ys. ys ++ filled (reverse vs)) (sym e) ∙ h))

@@ -1,5 +1,6 @@
 -- The turns of each call: whatever world the words stand for, its step leads to one that they stand for then.
-use Rattle.std.proofs.Common.{◌≡◌, ◌≢◌, ℕ, zero, suc, ◌*◌, ◌<◌, ◌⊎◌, ◌==◌, Bool, true, false, List, [], length, get_or, set, bit_and, bit_or, refl, sym, ap, subst, ◌∙◌, inl, inr, ⊎_elim, arith}
+use Rattle.std.proofs.Common.{◌≡◌, ◌≢◌, ℕ, zero, suc, ◌*◌, ◌<◌, ◌⊎◌, ◌==◌, Bool, true, false, List, [], length, get_or, set, bit_and}
+use Rattle.std.proofs.Common.{bit_or, refl, sym, ap, subst, ◌∙◌, inl, inr, ⊎_elim, arith}
 use Rattle.std.proofs.Common.{MatchBool, Option, None, Some}
 use mathlib.Core.Option as maybe
 use mathlib.Core.Option.{some, some-injective}
@@ -66,43 +67,60 @@ same_in p l x y a b = let e : InSlot x ≡ InSlot y = some-injective (InSlot x) 
 module _ {V Part : Type 0} (rule : CallersRule V Part) where
   -- ---- what each step tells
   abbrev pub Takes : PassRight (LockPassView V) → ℕ → ℕ → PassRight (LockPassView V) → Type 0
-  Takes p l n q = MatchBool (bit_and n 1 == 0) (GetsBy rule p l (Makes (Take p.thread l) (Saw true)) q) (Notes p (wanting p.own l) (Makes (Take p.thread l) (Saw false)) q)
+  Takes p l n q =
+      MatchBool (bit_and n 1 == 0) (GetsBy rule p l (Makes (Take p.thread l) (Saw true)) q)
+      (Notes p (wanting p.own l) (Makes (Take p.thread l) (Saw false)) q)
 
   abbrev pub Tries : PassRight (LockPassView V) → ℕ → ℕ → PassRight (LockPassView V) → Type 0
-  Tries p l n q = MatchBool (bit_and n 1 == 0) (GetsBy rule p l (Makes (Try p.thread l) (Saw true)) q) (Notes p p.own (Makes (Try p.thread l) (Saw false)) q)
+  Tries p l n q =
+      MatchBool (bit_and n 1 == 0) (GetsBy rule p l (Makes (Try p.thread l) (Saw true)) q)
+      (Notes p p.own (Makes (Try p.thread l) (Saw false)) q)
 
   abbrev pub TakesFree : PassRight (LockPassView V) → ℕ → ℕ → PassRight (LockPassView V) → Type 0
-  TakesFree p l n q = MatchBool (n == 0) (GetsBy rule p l (Makes (Take p.thread l) (Saw true)) q) ((x : ℕ) × (x ≢ 0) × Notes p p.own (Finds p.thread l x) q)
+  TakesFree p l n q =
+      MatchBool (n == 0) (GetsBy rule p l (Makes (Take p.thread l) (Saw true)) q) ((x : ℕ) × (x ≢ 0) × Notes p p.own (Finds p.thread l x) q)
 
 abbrev pub Marks : {V : Type 0} → PassRight (LockPassView V) → ℕ → ℕ → PassRight (LockPassView V) → Type 0
-Marks p l n q = MatchBool (n == 1) (Notes p p.own (Makes (Mark p.thread l) Done) q) ((x : ℕ) × (x ≢ 1) × Notes p p.own (Finds p.thread l x) q)
+Marks p l n q =
+    MatchBool (n == 1) (Notes p p.own (Makes (Mark p.thread l) Done) q) ((x : ℕ) × (x ≢ 1) × Notes p p.own (Finds p.thread l x) q)
 
 abbrev pub Frees : {V : Type 0} → PassRight (LockPassView V) → ℕ → ℕ → PassRight (LockPassView V) → Type 0
 Frees {V} p l n q = MatchBool (n == 1) ((y : V) → IsIn p.own l y → Notes p (letting_go p.own l y) (Makes (Free p.thread l) (Saw true)) q)
     (Notes p (finding_parked p.own l) (Makes (Free p.thread l) (Saw false)) q)
 
-abbrev pub Parks : {V : Type 0} → PassRight (LockPassView V) → RootRight LockRootView → ℕ → PassRight (LockPassView V) → RootRight LockRootView → Type 0
-Parks p q n p' q' = Notes p (parked_pass p.own (n == 3)) (Makes (Park p.thread q.key) (Saw (n == 3))) p' × (q' ≡ record q { own = parked_root q.own p.thread (n == 3) })
+abbrev pub Parks : {V : Type 0} → PassRight (LockPassView V) → RootRight LockRootView → ℕ → PassRight (LockPassView V)
+    → RootRight LockRootView → Type 0
+Parks p q n p' q' =
+    Notes p (parked_pass p.own (n == 3)) (Makes (Park p.thread q.key) (Saw (n == 3))) p'
+    × (q' ≡ record q { own = parked_root q.own p.thread (n == 3) })
 
 -- ---- words and letters after a step
-module _ {V : Type 0} (size : Size) (w : LockWorld V) (pass : ℕ → LockPassView V) (spots : ℕ → Spot) (root : ℕ → LockRootView) (ws : List ℕ) (ok : WordsFit word_of (sizes_of size) w ws)
+module _ {V : Type 0} (size : Size) (w : LockWorld V) (pass : ℕ → LockPassView V) (spots : ℕ → Spot) (root : ℕ → LockRootView) (ws : List ℕ)
+    (ok : WordsFit word_of (sizes_of size) w ws)
     (same : letters_of spots ≡ letters_of w.spot) where
   pub words_after : (l : ℕ) → l < size.locks → (y : LockWord) (x : ℕ) → x ≡ word_of y → WordsFit word_of (sizes_of size)
       (record { pass = pass; spot = spots; word = put w.word l y; root = root }) (set ws (word_at l) x)
-  words_after l here y x is = word_written word_of (sizes_of size) w (record { pass = pass; spot = spots; word = put w.word l y; root = root }) ws ok l x (omega arith, omega arith)
+  words_after l here y x is =
+      word_written word_of (sizes_of size) w (record { pass = pass; spot = spots; word = put w.word l y; root = root }) ws ok l x
+      (omega arith, omega arith)
       (is ∙ sym (ap word_of (put_same w.word l y))) (λ d ne. ap word_of (put_other w.word l y d ne)) same
 
-  pub words_stay : (i x : ℕ) → x ≡ get_or ws i 0 → WordsFit word_of (sizes_of size) (record { pass = pass; spot = spots; word = w.word; root = root }) (set ws i x)
-  words_stay i x is = subst (WordsFit word_of (sizes_of size) (record { pass = pass; spot = spots; word = w.word; root = root })) (same_words ws i x is)
+  pub words_stay : (i x : ℕ) → x ≡ get_or ws i 0
+      → WordsFit word_of (sizes_of size) (record { pass = pass; spot = spots; word = w.word; root = root }) (set ws i x)
+  words_stay i x is =
+      subst (WordsFit word_of (sizes_of size) (record { pass = pass; spot = spots; word = w.word; root = root })) (same_words ws i x is)
       (record { wide = ok.wide; words = ok.words; letters = λ t near. ok.letters t near ∙ sym (ap (λ f. f t) same) })
 
 module _ {V Part : Type 0} (rule : CallersRule V Part) (size : Size) (xs : List V) where
   -- ---- a pass's turn, where the world changes in the pass and in words
-  module _ (i x : ℕ) (p : PassRight (LockPassView V)) (then : PassRight (LockPassView V) → Type 0) (w : LockWorld V) (ws : List ℕ) (hs : List (maybe.Option (Option V)))
+  module _ (i x : ℕ) (p : PassRight (LockPassView V)) (then : PassRight (LockPassView V) → Type 0) (w : LockWorld V) (ws : List ℕ)
+      (hs : List (maybe.Option (Option V)))
       (fit : (p.thread < size.threads) × (w.pass p.thread ≡ p.own)) where
-    pub turn_at : (f : LockPassView V → LockPassView V) (word : ℕ → LockWord) → Fits rule size (record w { pass = put w.pass p.thread (f (w.pass p.thread)); word = word })
+    pub turn_at : (f : LockPassView V → LockPassView V) (word : ℕ → LockWord)
+        → Fits rule size (record w { pass = put w.pass p.thread (f (w.pass p.thread)); word = word })
         (set ws i x) hs → (a : Access)
-        → IsMade (meaning rule size xs) (2 * p.thread) w a (record w { pass = put w.pass p.thread (f (w.pass p.thread)); word = word }) → ((n : ℕ) → then (pass_after p (f p.own) n a))
+        → IsMade (meaning rule size xs) (2 * p.thread) w a (record w { pass = put w.pass p.thread (f (w.pass p.thread)); word = word })
+        → ((n : ℕ) → then (pass_after p (f p.own) n a))
         → PassTurn (meaning rule size xs) i x p then w ws hs
     turn_at f word fits a made told = record {
       own = f p.own;
@@ -117,7 +135,8 @@ module _ {V Part : Type 0} (rule : CallersRule V Part) (size : Size) (xs : List 
     }
 
   -- ---- the turns of a pass that is awake
-  module _ (p : PassRight (LockPassView V)) (l : ℕ) (here : l < size.locks) (up : p.own.asleep ≡ false) (w : LockWorld V) (ws : List ℕ) (hs : List (maybe.Option (Option V)))
+  module _ (p : PassRight (LockPassView V)) (l : ℕ) (here : l < size.locks) (up : p.own.asleep ≡ false) (w : LockWorld V) (ws : List ℕ)
+      (hs : List (maybe.Option (Option V)))
       (ok : Fits rule size w ws hs) (fit : (p.thread < size.threads) × (w.pass p.thread ≡ p.own)) where
     abbrev t : ℕ
     t = p.thread
@@ -141,8 +160,11 @@ module _ {V Part : Type 0} (rule : CallersRule V Part) (size : Size) (xs : List 
     long = lock_near size.threads size.locks w ok.kept t fit.0 up' l here
 
     -- the word is x, and not the number that was asked for
-    misses : (asked x : ℕ) → x ≡ get_or ws (word_at l) 0 → x ≢ asked → PassTurn (meaning rule size xs) (word_at l) x p (λ q. (y : ℕ) × (y ≢ asked) × Notes p p.own (Finds t l y) q) w ws hs
-    misses asked x is ne = pass_stays (meaning rule size xs) (word_at l) x w ws hs ok is p fit (Finds t l x) (refl, (is ∙ found, refl)) (λ q. (y : ℕ) × (y ≢ asked) × Notes p p.own (Finds t l y) q)
+    misses : (asked x : ℕ) → x ≡ get_or ws (word_at l) 0 → x ≢ asked
+        → PassTurn (meaning rule size xs) (word_at l) x p (λ q. (y : ℕ) × (y ≢ asked) × Notes p p.own (Finds t l y) q) w ws hs
+    misses asked x is ne =
+        pass_stays (meaning rule size xs) (word_at l) x w ws hs ok is p fit (Finds t l x) (refl, (is ∙ found, refl))
+        (λ q. (y : ℕ) × (y ≢ asked) × Notes p p.own (Finds t l y) q)
         (λ k. (x, ne, (k, refl)))
 
     -- ---- take and try
@@ -157,10 +179,13 @@ module _ {V Part : Type 0} (rule : CallersRule V Part) (size : Size) (xs : List 
       free_word = found ∙ ap (λ o. bits_of (is_owned o) (w.word l).parked) unheld
 
       found_ok : FoundOk rule l t p.own value
-      found_ok = subst (λ z. FoundOk rule l t z value) fit.1 (finds_value rule size.threads size.locks w.pass hs ok.lawful t fit.0 l here long (nobody t))
+      found_ok =
+          subst (λ z. FoundOk rule l t z value) fit.1
+          (finds_value rule size.threads size.locks w.pass hs ok.lawful t fit.0 l here long (nobody t))
 
       -- the pass gets the lock, with the value that it finds
-      got_turn : (aims : Aims p.own l) (a : Access) (then : PassRight (LockPassView V) → Type 0) (x : ℕ) → x ≡ bit_or (get_or ws (word_at l) 0) 1
+      got_turn : (aims : Aims p.own l) (a : Access) (then : PassRight (LockPassView V) → Type 0) (x : ℕ)
+          → x ≡ bit_or (get_or ws (word_at l) 0) 1
           → IsMade (meaning rule size xs) (2 * t) w a (record w {
             pass = put w.pass t (owning (w.pass t) l value);
             word = put w.word l (record { owner = suc t; parked = (w.word l).parked });
@@ -170,7 +195,9 @@ module _ {V Part : Type 0} (rule : CallersRule V Part) (size : Size) (xs : List 
           let y : LockWord = record { owner = suc t; parked = (w.word l).parked } in
           turn_at (word_at l) x p then w ws hs fit (λ z. owning z l value) (put w.word l y)
           (record {
-            words = words_after size w (put w.pass t (owning (w.pass t) l value)) w.spot w.root ws ok.words refl l here y x (is ∙ (ap (λ z. bit_or z 1) free_word ∙ or_one (w.word l).parked));
+            words =
+                words_after size w (put w.pass t (owning (w.pass t) l value)) w.spot w.root ws ok.words refl l here y x
+                (is ∙ (ap (λ z. bit_or z 1) free_word ∙ or_one (w.word l).parked));
             kept = gets_kept size.threads size.locks w ok.kept t fit.0 up' l here unheld (aims' aims) value;
             lawful = gets_value rule size.threads size.locks w.pass hs ok.lawful t fit.0 l here nobody long (w.pass t).asleep;
           })
@@ -187,26 +214,32 @@ module _ {V Part : Type 0} (rule : CallersRule V Part) (size : Size) (xs : List 
     owner_cases zero = inl refl
     owner_cases (suc u) = inr (λ e. omega arith)
 
-    take_turn : Aims p.own l → PassTurn (meaning rule size xs) (word_at l) (bit_or (get_or ws (word_at l) 0) 1) p (Takes rule p l (get_or ws (word_at l) 0)) w ws hs
+    take_turn : Aims p.own l → PassTurn (meaning rule size xs) (word_at l) (bit_or (get_or ws (word_at l) 0) 1) p
+        (Takes rule p l (get_or ws (word_at l) 0)) w ws hs
     take_turn aims =
         let n : ℕ = get_or ws (word_at l) 0 in
         let x : ℕ = bit_or n 1 in
         ⊎_elim {C = PassTurn (meaning rule size xs) (word_at l) x p (Takes rule p l n) w ws hs}
         (λ unheld. got_turn unheld aims (Makes (Take t l) (Saw true)) (Takes rule p l n) x refl
         (refl, (row_take_free w size.threads size.locks ok.kept t fit.0 up' l here unheld value (aims' aims), refl))
-        (λ k. match_true (bit_and n 1 == 0) _ _ (ap (λ z. bit_and z 1 == 0) (free_word unheld) ∙ even_unheld (w.word l).parked) (value, found_ok unheld, (k, refl))))
+        (λ k. match_true (bit_and n 1 == 0) _ _ (ap (λ z. bit_and z 1 == 0) (free_word unheld) ∙ even_unheld (w.word l).parked)
+        (value, found_ok unheld, (k, refl))))
         (λ held. turn_at (word_at l) x p (Takes rule p l n) w ws hs fit (λ z. wanting z l) w.word
         (record {
-          words = words_stay size w (put w.pass t (wanting (w.pass t) l)) w.spot w.root ws ok.words refl (word_at l) x (same_word held x refl);
+          words =
+              words_stay size w (put w.pass t (wanting (w.pass t) l)) w.spot w.root ws ok.words refl (word_at l) x (same_word held x refl);
           kept = wants_kept size.threads size.locks w ok.kept t fit.0 up' l here held (aims' aims);
-          lawful = same_values rule size.threads size.locks w.pass hs ok.lawful t (wanting (w.pass t) l) (λ k. record { down = λ h. h; up = λ h. h; places = refl; seen = refl }) (refl, refl);
+          lawful =
+              same_values rule size.threads size.locks w.pass hs ok.lawful t (wanting (w.pass t) l)
+              (λ k. record { down = λ h. h; up = λ h. h; places = refl; seen = refl }) (refl, refl);
         })
         (Makes (Take t l) (Saw false))
         (refl, (row_take_held w size.threads size.locks ok.kept t fit.0 up' l here held (aims' aims), refl))
         (λ k. match_false (bit_and n 1 == 0) _ _ (ap (λ z. bit_and z 1 == 0) (held_word held) ∙ odd_held (w.word l).parked) (k, refl)))
         (owner_cases (w.word l).owner)
 
-    try_turn : p.own.aim ≡ None → PassTurn (meaning rule size xs) (word_at l) (bit_or (get_or ws (word_at l) 0) 1) p (Tries rule p l (get_or ws (word_at l) 0)) w ws hs
+    try_turn : p.own.aim ≡ None → PassTurn (meaning rule size xs) (word_at l) (bit_or (get_or ws (word_at l) 0) 1) p
+        (Tries rule p l (get_or ws (word_at l) 0)) w ws hs
     try_turn aim =
         let n : ℕ = get_or ws (word_at l) 0 in
         let x : ℕ = bit_or n 1 in
@@ -214,7 +247,8 @@ module _ {V Part : Type 0} (rule : CallersRule V Part) (size : Size) (xs : List 
         ⊎_elim {C = PassTurn (meaning rule size xs) (word_at l) x p (Tries rule p l n) w ws hs}
         (λ unheld. got_turn unheld aims (Makes (Try t l) (Saw true)) (Tries rule p l n) x refl
         (refl, (row_try_free w size.threads size.locks ok.kept t fit.0 up' l here unheld value (aim' ∙ aim), refl))
-        (λ k. match_true (bit_and n 1 == 0) _ _ (ap (λ z. bit_and z 1 == 0) (free_word unheld) ∙ even_unheld (w.word l).parked) (value, found_ok unheld, (k, refl))))
+        (λ k. match_true (bit_and n 1 == 0) _ _ (ap (λ z. bit_and z 1 == 0) (free_word unheld) ∙ even_unheld (w.word l).parked)
+        (value, found_ok unheld, (k, refl))))
         (λ held. pass_stays (meaning rule size xs) (word_at l) x w ws hs ok (same_word held x refl) p fit (Makes (Try t l) (Saw false))
         (refl, (row_try_held w size.threads size.locks ok.kept t fit.0 up' l here held (aim' ∙ aim), refl)) (Tries rule p l n)
         (λ k. match_false (bit_and n 1 == 0) _ _ (ap (λ z. bit_and z 1 == 0) (held_word held) ∙ odd_held (w.word l).parked) (k, refl)))
@@ -222,7 +256,8 @@ module _ {V Part : Type 0} (rule : CallersRule V Part) (size : Size) (xs : List 
 
     -- where the word is 0
     take_free_turn : Aims p.own l → (h b : Bool) → is_owned (w.word l).owner ≡ h → (w.word l).parked ≡ b
-        → PassTurn (meaning rule size xs) (word_at l) (either (bits_of h b == 0) 1 (bits_of h b)) p (TakesFree rule p l (bits_of h b)) w ws hs
+        → PassTurn (meaning rule size xs) (word_at l) (either (bits_of h b == 0) 1 (bits_of h b)) p
+        (TakesFree rule p l (bits_of h b)) w ws hs
     take_free_turn aims false false h b =
         let unheld : (w.word l).owner ≡ 0 = unowned (w.word l).owner h in
         let is_zero : get_or ws (word_at l) 0 ≡ 0 = sym (is_found false false h b) in
@@ -279,26 +314,34 @@ module _ {V Part : Type 0} (rule : CallersRule V Part) (size : Size) (xs : List 
         left_lawful = leaves_value rule size.threads size.locks w.pass hs ok.lawful t fit.0 l here has only long y lies_of
 
         free_turn : (b : Bool) → (w.word l).parked ≡ b
-            → PassTurn (meaning rule size xs) (word_at l) (either (bits_of true b == 1) 0 (bits_of true b)) p (Frees p l (bits_of true b)) w ws hs
+            → PassTurn (meaning rule size xs) (word_at l) (either (bits_of true b == 1) 0 (bits_of true b)) p
+            (Frees p l (bits_of true b)) w ws hs
         free_turn false b =
             let x : LockWord = record { owner = 0; parked = (w.word l).parked } in
-            let nobody : (w.root l).line ≡ [] = by_line (λ xs. ((xs ≢ []) → (w.word l).parked ≡ true) → xs ≡ []) (w.root l).line (λ _ _. refl)
+            let nobody : (w.root l).line ≡ [] =
+            by_line (λ xs. ((xs ≢ []) → (w.word l).parked ≡ true) → xs ≡ []) (w.root l).line (λ _ _. refl)
             (λ u us _ parks. absurd (let f : true ≡ false = sym (parks (λ e. cc)) ∙ b in cc)) (ok.kept.locks l).parks in
             turn_at (word_at l) 0 p (Frees p l 1) w ws hs fit (λ z. letting_go z l y) (put w.word l x)
             (record {
-              words = words_after size w (put w.pass t (letting_go (w.pass t) l y)) w.spot w.root ws ok.words refl l here x 0 (ap (bits_of false) (sym b));
+              words =
+                  words_after size w (put w.pass t (letting_go (w.pass t) l y)) w.spot w.root ws ok.words refl l here x 0
+                  (ap (bits_of false) (sym b));
               kept = frees_kept size.threads size.locks w ok.kept t fit.0 up' l here has y (w.word l).parked nobody;
               lawful = left_lawful;
             })
             (Makes (Free t l) (Saw true))
             (refl, (row_free w size.threads size.locks ok.kept t fit.0 up' l here has (aim' ∙ aim) y b, refl))
-            (λ k z lies'. (k, ap (λ v. pass_after p (letting_go p.own l v) k (Makes (Free t l) (Saw true))) (same_in p.own l y z lies lies')))
+            (λ k z lies'.
+            (k, ap (λ v. pass_after p (letting_go p.own l v) k (Makes (Free t l) (Saw true))) (same_in p.own l y z lies lies')))
         free_turn true b =
             turn_at (word_at l) 3 p (Frees p l 3) w ws hs fit (λ z. finding_parked z l) w.word
             (record {
-              words = words_stay size w (put w.pass t (finding_parked (w.pass t) l)) w.spot w.root ws ok.words refl (word_at l) 3 (is_found true true (ap is_owned own_is) b);
+              words =
+                  words_stay size w (put w.pass t (finding_parked (w.pass t) l)) w.spot w.root ws ok.words refl (word_at l) 3
+                  (is_found true true (ap is_owned own_is) b);
               kept = finds_kept size.threads size.locks w ok.kept t fit.0 up' l here has b;
-              lawful = same_values rule size.threads size.locks w.pass hs ok.lawful t (finding_parked (w.pass t) l) still_holds (refl, refl);
+              lawful =
+                  same_values rule size.threads size.locks w.pass hs ok.lawful t (finding_parked (w.pass t) l) still_holds (refl, refl);
             })
             (Makes (Free t l) (Saw false))
             (refl, (row_free_parked w size.threads size.locks ok.kept t fit.0 up' l here has (aim' ∙ aim) b, refl))
@@ -306,7 +349,9 @@ module _ {V Part : Type 0} (rule : CallersRule V Part) (size : Size) (xs : List 
           where
             still_holds : (k : ℕ) → SameOf k (w.pass t) (finding_parked (w.pass t) l)
             still_holds k = record {
-              down = set_elim (w.pass t).holds l k FoundParked (λ h. IsHeld h → Holds (w.pass t) k) long (λ e _. subst (Holds (w.pass t)) (sym e) has) (λ _ h. h);
+              down =
+                  set_elim (w.pass t).holds l k FoundParked (λ h. IsHeld h → Holds (w.pass t) k) long
+                  (λ e _. subst (Holds (w.pass t)) (sym e) has) (λ _ h. h);
               up = λ h. set_elim (w.pass t).holds l k FoundParked IsHeld long (λ _. tt) (λ _. h);
               places = refl;
               seen = refl;
@@ -323,17 +368,20 @@ module _ {V Part : Type 0} (rule : CallersRule V Part) (size : Size) (xs : List 
 
   pub takes_free : (p : PassRight (LockPassView V)) (l : ℕ) → l < size.locks → p.own.asleep ≡ false → Aims p.own l
       → AllowsPass (meaning rule size xs) (word_at l) (λ n. either (n == 0) 1 n) p (TakesFree rule p l)
-  takes_free p l here up aims w ws hs ok fit small = subst (λ n. PassTurn (meaning rule size xs) (word_at l) (either (n == 0) 1 n) p (TakesFree rule p l n) w ws hs)
+  takes_free p l here up aims w ws hs ok fit small =
+      subst (λ n. PassTurn (meaning rule size xs) (word_at l) (either (n == 0) 1 n) p (TakesFree rule p l n) w ws hs)
       (is_found p l here up w ws hs ok fit (is_owned (w.word l).owner) (w.word l).parked refl refl)
       (take_free_turn p l here up w ws hs ok fit aims (is_owned (w.word l).owner) (w.word l).parked refl refl)
 
   pub marks : (p : PassRight (LockPassView V)) (l : ℕ) → l < size.locks → p.own.asleep ≡ false → p.own.aim ≡ Some l
       → AllowsPass (meaning rule size xs) (word_at l) (λ n. either (n == 1) 3 n) p (Marks p l)
-  marks p l here up aim w ws hs ok fit small = subst (λ n. PassTurn (meaning rule size xs) (word_at l) (either (n == 1) 3 n) p (Marks p l n) w ws hs)
+  marks p l here up aim w ws hs ok fit small =
+      subst (λ n. PassTurn (meaning rule size xs) (word_at l) (either (n == 1) 3 n) p (Marks p l n) w ws hs)
       (is_found p l here up w ws hs ok fit (is_owned (w.word l).owner) (w.word l).parked refl refl)
       (mark_turn p l here up w ws hs ok fit aim (is_owned (w.word l).owner) (w.word l).parked refl refl)
 
-  pub frees : (p : PassRight (LockPassView V)) (l : ℕ) → l < size.locks → p.own.asleep ≡ false → p.own.aim ≡ None → Holds p.own l → (y : V) → IsIn p.own l y
+  pub frees : (p : PassRight (LockPassView V)) (l : ℕ) → l < size.locks → p.own.asleep ≡ false → p.own.aim ≡ None → Holds p.own l
+      → (y : V) → IsIn p.own l y
       → AllowsPass (meaning rule size xs) (word_at l) (λ n. either (n == 1) 0 n) p (Frees p l)
   frees p l here up aim holds y lies w ws hs ok fit small =
       let own = own_is p l here up w ws hs ok fit holds aim in

@@ -1,5 +1,6 @@
 -- The lawful values stay lawful.
-use Rattle.std.proofs.Common.{◌≡◌, ◌≢◌, ℕ, ◌<◌, Bool, List, length, set, Option, refl, sym, ap, subst, ◌∙◌, length-set, arith, get_or-set_same, get_or-set_other}
+use Rattle.std.proofs.Common.{◌≡◌, ◌≢◌, ℕ, ◌<◌, Bool, List, length, set, Option, refl, sym, ap, subst, ◌∙◌, length-set, arith}
+use Rattle.std.proofs.Common.{get_or-set_same, get_or-set_other}
 use mathlib.Core.Option.{some, some-injective}
 use mathlib.Core.Option as maybe
 use lib.ListN.{get_elem?}
@@ -28,7 +29,8 @@ same_of k p = record { down = λ h. h; up = λ h. h; places = refl; seen = refl 
 
 module _ {V Part : Type 0} (rule : CallersRule V Part) where
   -- a lock of which all know the same
-  same_value : (n : ℕ) (pass pass' : ℕ → LockPassView V) (homes homes' : List (maybe.Option (Option V))) (k : ℕ) (x : V) → ((u : ℕ) → SameOf k (pass u) (pass' u))
+  same_value : (n : ℕ) (pass pass' : ℕ → LockPassView V) (homes homes' : List (maybe.Option (Option V))) (k : ℕ) (x : V)
+      → ((u : ℕ) → SameOf k (pass u) (pass' u))
       → get_elem? homes' k ≡ get_elem? homes k
       → ValueOk rule n pass homes k x → ValueOk rule n pass' homes' k x
   same_value n pass pass' homes homes' k x same home ok = record {
@@ -41,7 +43,8 @@ module _ {V Part : Type 0} (rule : CallersRule V Part) where
       found = (same u).seen ∙ o.found;
       lawful = o.lawful;
     };
-    seen = λ u near. let s = ok.seen u near in record { seen = s.seen; seen_is = (same u).seen ∙ s.seen_is; grown = s.grown; mine = λ away. s.mine (λ h. away ((same u).up h)) };
+    seen = λ u near. let s = ok.seen u near in
+        record { seen = s.seen; seen_is = (same u).seen ∙ s.seen_is; grown = s.grown; mine = λ away. s.mine (λ h. away ((same u).up h)) };
     witness = let w = ok.witness in (w.0, (w.1.0, (same w.0).seen ∙ w.1.1));
   }
 
@@ -49,12 +52,15 @@ module _ {V Part : Type 0} (rule : CallersRule V Part) where
     abbrev pub IsAsWide : LockPassView V → Type 0
     IsAsWide p = (length p.places ≡ length (pass t).places) × (length p.seen ≡ length (pass t).seen)
 
-    wide_on : (p : LockPassView V) → IsAsWide p → (u : ℕ) → u < n → (length (put pass t p u).places ≡ m) × (length (put pass t p u).seen ≡ m)
+    wide_on : (p : LockPassView V) → IsAsWide p → (u : ℕ) → u < n
+        → (length (put pass t p u).places ≡ m) × (length (put pass t p u).seen ≡ m)
     wide_on p wide u near = put_elim (λ z. (length z.places ≡ m) × (length z.seen ≡ m)) pass t p u
-        (λ e. let a = subst (λ z. (length (pass z).places ≡ m) × (length (pass z).seen ≡ m)) e (ok.wide u near) in (wide.0 ∙ a.0, wide.1 ∙ a.1)) (λ _. ok.wide u near)
+        (λ e. let a = subst (λ z. (length (pass z).places ≡ m) × (length (pass z).seen ≡ m)) e (ok.wide u near) in
+        (wide.0 ∙ a.0, wide.1 ∙ a.1)) (λ _. ok.wide u near)
 
     same_on : (k : ℕ) (p : LockPassView V) → SameOf k (pass t) p → (u : ℕ) → SameOf k (pass u) (put pass t p u)
-    same_on k p same u = put_elim (SameOf k (pass u)) pass t p u (λ e. subst (λ z. SameOf k (pass z) p) (sym e) same) (λ _. same_of k (pass u))
+    same_on k p same u =
+        put_elim (SameOf k (pass u)) pass t p u (λ e. subst (λ z. SameOf k (pass z) p) (sym e) same) (λ _. same_of k (pass u))
 
     -- nobody learns of a value, gets a lock or lets one go
     pub same_values : (p : LockPassView V) → ((k : ℕ) → SameOf k (pass t) p) → IsAsWide p → IsLawful rule n m (put pass t p) homes
@@ -66,13 +72,16 @@ module _ {V Part : Type 0} (rule : CallersRule V Part) where
     }
 
     -- what t knows, and the slots, change at l alone, whose value is now y
-    changes_at : (l : ℕ) (p : LockPassView V) (homes' : List (maybe.Option (Option V))) (y : V) → ((k : ℕ) → k ≢ l → SameOf k (pass t) p) → ((k : ℕ) → k ≢ l → get_elem? homes' k ≡ get_elem? homes k)
+    changes_at : (l : ℕ) (p : LockPassView V) (homes' : List (maybe.Option (Option V))) (y : V) → ((k : ℕ) → k ≢ l → SameOf k (pass t) p)
+        → ((k : ℕ) → k ≢ l → get_elem? homes' k ≡ get_elem? homes k)
         → length homes' ≡ length homes → IsAsWide p → ValueOk rule n (put pass t p) homes' l y → IsLawful rule n m (put pass t p) homes'
     changes_at l p homes' y same home deep wide at = record {
       value = put ok.value l y;
       deep = deep ∙ ok.deep;
       wide = wide_on p wide;
-      each = λ k near. put_elim (ValueOk rule n (put pass t p) homes' k) ok.value l y k (λ e. subst (λ z. ValueOk rule n (put pass t p) homes' z y) (sym e) at)
+      each =
+          λ k near. put_elim (ValueOk rule n (put pass t p) homes' k) ok.value l y k
+          (λ e. subst (λ z. ValueOk rule n (put pass t p) homes' z y) (sym e) at)
           (λ ne. same_value n pass (put pass t p) homes homes' k (ok.value k) (same_on k p (same k ne)) (home k ne) (ok.each k near));
     }
 
@@ -118,15 +127,24 @@ module _ {V Part : Type 0} (rule : CallersRule V Part) where
             kept = e.kept;
             idle = λ away. absurd (away t (subst (λ z. Holds z l) (sym (put_same pass t p)) mine));
             owned = λ u. put_elim (λ z. Holds z l → OwnerOk rule homes l u z x) pass t p u
-                (λ _ _. record { place = InSlot x; place_is = lies; home = e.idle nobody; found = seen; lawful = record { kept = e.kept; grown = rule.grows_itself x; others = λ w ne. refl } })
+                (λ _ _. record {
+                  place = InSlot x;
+                  place_is = lies;
+                  home = e.idle nobody;
+                  found = seen;
+                  lawful = record { kept = e.kept; grown = rule.grows_itself x; others = λ w ne. refl };
+                })
                 (λ _ h. absurd (nobody u h));
-            seen = λ u u_near. put_elim (λ z. SeenOk rule l u z x) pass t p u (λ _. record { seen = x; seen_is = seen; grown = rule.grows_itself x; mine = λ away. refl }) (λ _. e.seen u u_near);
+            seen =
+                λ u u_near. put_elim (λ z. SeenOk rule l u z x) pass t p u
+                (λ _. record { seen = x; seen_is = seen; grown = rule.grows_itself x; mine = λ away. refl }) (λ _. e.seen u u_near);
             witness = (t, (near, subst (λ z. HasSeen z l x) (sym (put_same pass t p)) seen));
           })
 
       module _ (holds : Holds (pass t) l) (only : (u : ℕ) → Holds (pass u) l → u ≡ t) where
         -- t lets l go, with the value y in its slot
-        pub leaves_value : l < length (pass t).holds → (y : V) → IsIn (pass t) l y → IsLawful rule n m (put pass t (letting_go (pass t) l y)) homes
+        pub leaves_value : l < length (pass t).holds → (y : V) → IsIn (pass t) l y
+            → IsLawful rule n m (put pass t (letting_go (pass t) l y)) homes
         leaves_value long y lies =
             let e = ok.each l here in
             let x = ok.value l in
@@ -147,8 +165,12 @@ module _ {V Part : Type 0} (rule : CallersRule V Part) where
             (record {
               kept = may.kept;
               idle = λ _. o.home ∙ ap (λ pl. some (home_of pl)) is;
-              owned = λ u. put_elim (λ z. Holds z l → OwnerOk rule homes l u z y) pass t p u (λ _ h. absurd (gone h)) (λ ne h. absurd (ne (only u h)));
-              seen = λ u u_near. put_elim (λ z. SeenOk rule l u z y) pass t p u (λ _. record { seen = y; seen_is = seen; grown = rule.grows_itself y; mine = λ away. refl })
+              owned =
+                  λ u. put_elim (λ z. Holds z l → OwnerOk rule homes l u z y) pass t p u (λ _ h. absurd (gone h))
+                  (λ ne h. absurd (ne (only u h)));
+              seen =
+                  λ u u_near. put_elim (λ z. SeenOk rule l u z y) pass t p u
+                  (λ _. record { seen = y; seen_is = seen; grown = rule.grows_itself y; mine = λ away. refl })
                   (λ ne. let s = e.seen u u_near in record {
                     seen = s.seen;
                     seen_is = s.seen_is;
@@ -159,13 +181,19 @@ module _ {V Part : Type 0} (rule : CallersRule V Part) where
             })
 
         -- the value of l moves to the place pl
-        pub moves_value : (pl : Place V) → MayLie rule l t (ok.value l) pl → IsLawful rule n m (put pass t (placing (pass t) l pl)) (set homes l (home_of pl))
-        moves_value pl may = let e = ok.each l here in let x = ok.value l in let p : LockPassView V = placing (pass t) l pl in let home : maybe.Option (Option V) = home_of pl in
+        pub moves_value : (pl : Place V) → MayLie rule l t (ok.value l) pl
+            → IsLawful rule n m (put pass t (placing (pass t) l pl)) (set homes l (home_of pl))
+        moves_value pl may =
+            let e = ok.each l here in let x = ok.value l in let p : LockPassView V = placing (pass t) l pl in
+            let home : maybe.Option (Option V) = home_of pl in
             let deep : l < length homes = omega (arith, ok.deep) in
-            let same : (u : ℕ) → SeenOk rule l u (pass u) x → SeenOk rule l u (put pass t p u) x = (λ u s. put_elim (λ z. SeenOk rule l u z x) pass t p u
+            let same : (u : ℕ) → SeenOk rule l u (pass u) x → SeenOk rule l u (put pass t p u) x =
+            (λ u s. put_elim (λ z. SeenOk rule l u z x) pass t p u
             (λ ut. let r : SeenOk rule l u (pass t) x = subst (λ z. SeenOk rule l u (pass z) x) ut s in record
             { seen = r.seen; seen_is = r.seen_is; grown = r.grown; mine = r.mine }) (λ _. s)) in
-            changes_at l p (set homes l home) x (λ k ne. record { down = λ h. h; up = λ h. h; places = set_else (pass t).places l k pl ne; seen = refl }) (λ k ne. set_else homes l k home ne)
+            changes_at l p (set homes l home) x (λ k ne.
+            record { down = λ h. h; up = λ h. h; places = set_else (pass t).places l k pl ne; seen = refl })
+            (λ k ne. set_else homes l k home ne)
             (length-set homes l home) (length-set (pass t).places l pl, refl)
             (record {
               kept = e.kept;
@@ -180,5 +208,9 @@ module _ {V Part : Type 0} (rule : CallersRule V Part) where
                   })
                   (λ ne h. absurd (ne (only u h)));
               seen = λ u u_near. same u (e.seen u u_near);
-              witness = let w = e.witness in (w.0, (w.1.0, put_elim (λ z. HasSeen z l x) pass t p w.0 (λ wt. subst (λ z. HasSeen (pass z) l x) wt w.1.1) (λ _. w.1.1)));
+              witness =
+                  let w = e.witness in (
+                    w.0,
+                    (w.1.0, put_elim (λ z. HasSeen z l x) pass t p w.0 (λ wt. subst (λ z. HasSeen (pass z) l x) wt w.1.1) (λ _. w.1.1)),
+                  );
             })

@@ -16,7 +16,8 @@ use Rattle.lot_words.specs.Values.{FoundOk}
 module _ {V : Type 0} where
   -- the thread has the lock, whose value x lies in its slot, and wants none
   abbrev pub owning : LockPassView V → ℕ → V → LockPassView V
-  owning p l x = record p { holds = slice_set p.holds l Held; aim = None; places = slice_set p.places l (InSlot x); seen = slice_set p.seen l x }
+  owning p l x =
+      record p { holds = slice_set p.holds l Held; aim = None; places = slice_set p.places l (InSlot x); seen = slice_set p.seen l x }
 
   -- the thread wants the lock
   abbrev pub wanting : LockPassView V → ℕ → LockPassView V
@@ -82,7 +83,9 @@ module _ {V Part : Type 0} (rule : CallersRule V Part) where
   abbrev pub Collected : PassRight (LockPassView V) → ℕ → PassRight (LockPassView V) → Type 0
   Collected p zero q = Notes p (woken p.own) (Collects p.thread (Some 0)) q
   Collected p (suc k) q =
-      (k ≡ 0) × ((l : ℕ) × (p.own.aim ≡ Some l) × ((x : V) × FoundOk rule l p.thread p.own x × Notes p (woken (owning p.own l x)) (Collects p.thread (Some 1)) q))
+      (k ≡ 0)
+      × ((l : ℕ) × (p.own.aim ≡ Some l)
+      × ((x : V) × FoundOk rule l p.thread p.own x × Notes p (woken (owning p.own l x)) (Collects p.thread (Some 1)) q))
 
   -- by the number in the letter
   abbrev pub CollectedBy : PassRight (LockPassView V) → ℕ → PassRight (LockPassView V) → Type 0

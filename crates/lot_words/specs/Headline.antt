@@ -40,7 +40,8 @@ module _ {V : Type 0} (w : LockWorld V) where
     pub sleepers_are_marked : SleepersAreMarked (part_of w).locks.line (part_of w).locks.parked
     -- who is in a line is a thread
     pub are_threads : (l t : ℕ) → Contains ((part_of w).locks.line l) t → t < n
-    pub someone_is_trying : (l : ℕ) → (part_of w).locks.held l ≡ false → (part_of w).locks.line l ≢ [] → (t : ℕ) × ((t < n) × ((part_of w).wants t ≡ Some l) × ¬ Contains (w.root l).line t)
+    pub someone_is_trying : (l : ℕ) → (part_of w).locks.held l ≡ false → (part_of w).locks.line l ≢ []
+        → (t : ℕ) × ((t < n) × ((part_of w).wants t ≡ Some l) × ¬ Contains (w.root l).line t)
     pub found_parked : (l t : ℕ) → HoldsParked (w.pass t) l → (part_of w).locks.parked l ≡ true
 
 pub record Headline {V Part : Type 0} (rule : CallersRule V Part) (size : Size) (xs : List V)

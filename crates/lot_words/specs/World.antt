@@ -88,7 +88,8 @@ module _ {V : Type 0} (n : ℕ) (word : ℕ → LockWord) (root : ℕ → LockRo
     pub handed : (l : ℕ) → IsHanded sp l → ¬ Holds p l
 
 -- the lock l with its word x and its root q, among n threads
-pub record LockFits {V : Type 0} (n : ℕ) (pass : ℕ → LockPassView V) (spot : ℕ → Spot) (l : ℕ) (x : LockWord) (q : LockRootView) : Type 0 where
+pub record LockFits {V : Type 0} (n : ℕ) (pass : ℕ → LockPassView V) (spot : ℕ → Spot) (l : ℕ) (x : LockWord)
+    (q : LockRootView) : Type 0 where
   pub once : IsOnce q.line
   pub had : (t : ℕ) → x.owner ≡ suc t → (t < n) × (Holds (pass t) l ⊎ IsHanded (spot t) l)
   pub parks : q.line ≢ [] → x.parked ≡ true

@@ -8,7 +8,8 @@ use crate::words::LockWords;
 use std::marker::Brand;
 
 impl<V: Keeps> LockWords<V> {
-    /// Gives both passes back as they were. The point is what it proves: at most one pass holds a lock, and a thread has one pass.
+    /// Gives both passes back as they were. The point is what it proves: at most one pass holds a lock, and a thread
+    /// has one pass.
     pub fn check_apart(&self, first: LockPass<V>, second: LockPass<V>) -> (LockPass<V>, LockPass<V>)
         requires table { (first.table ≡ self.now.table) × (second.table ≡ self.now.table) }
         ensures same { (result.0 ≡ first) × (result.1 ≡ second) }

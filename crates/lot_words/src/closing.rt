@@ -19,10 +19,12 @@ use std::alloc::Global;
 /// Takes the value out of each slot, in order.
 pub fn take_values<V: Drop>(mut closed: Closed<Option<V>, Global>, mut room: Vec<V>) -> Vec<V>
     requires full { IsFull closed.words × IsFull closed.slots }
-    requires lie { (k : ℕ) → k < slots_len closed.slots → (y : V) × (get_elem? (slots_items closed.slots) k ≡ some (Some y)) }
+    requires lie { (k : ℕ) → k < slots_len closed.slots
+        → (y : V) × (get_elem? (slots_items closed.slots) k ≡ some (Some y)) }
     requires room { (vec_len room ≡ 0) × (slots_len closed.slots ≤ vec_capacity room) }
     ensures len { vec_len result ≡ slots_len closed.slots }
-    ensures each { (k : ℕ) (y : V) → slice_get result.items k ≡ Some y → get_elem? (slots_items closed.slots) k ≡ some (Some y) }
+    ensures each { (k : ℕ) (y : V) → slice_get result.items k ≡ Some y
+        → get_elem? (slots_items closed.slots) k ≡ some (Some y) }
 {
     let mut i = 0;
     while i < closed.slot_count() {
@@ -37,16 +39,21 @@ pub fn take_values<V: Drop>(mut closed: Closed<Option<V>, Global>, mut room: Vec
 }
 
 impl<V: Keeps> LockWords<V> {
-    /// Ends the table and gives its values back, in the order of their locks. All rights come with it, and no pass holds a lock.
-    /// Each value keeps the rule and has grown from what each pass had seen of it.
+    /// Ends the table and gives its values back, in the order of their locks. All rights come with it, and no pass
+    /// holds a lock. Each value keeps the rule and has grown from what each pass had seen of it.
     pub fn close(self, passes: Vec<LockPass<V>>, roots: Vec<LockRoot<V>>) -> Vec<V>
-        requires table { All (λ (p : PassShown (LockPassView V)). p.table ≡ self.table) passes.items × All (λ (q : RootShown LockRootView). q.table ≡ self.table) roots.items }
+        requires table { All (λ (p : PassShown (LockPassView V)). p.table ≡ self.table) passes.items
+            × All (λ (q : RootShown LockRootView). q.table ≡ self.table) roots.items }
         requires idle { All HoldsNone passes.items }
-        requires passes { (t : ℕ) → t < self.size.threads → Any (λ (p : PassShown (LockPassView V)). p.pass.thread ≡ t) passes.items }
-        requires roots { (l : ℕ) → l < self.size.locks → Any (λ (q : RootShown LockRootView). q.root.key ≡ l) roots.items }
+        requires passes { (t : ℕ) → t < self.size.threads
+            → Any (λ (p : PassShown (LockPassView V)). p.pass.thread ≡ t) passes.items }
+        requires roots { (l : ℕ) → l < self.size.locks
+            → Any (λ (q : RootShown LockRootView). q.root.key ≡ l) roots.items }
         ensures len { vec_len result ≡ self.size.locks }
-        ensures found { All (λ (p : PassShown (LockPassView V)). (l : ℕ) (y : V) → slice_get result.items l ≡ Some y → FoundOk V.Keeps l p.pass.thread p.pass.own y) passes.items }
-        ensures left { (l : ℕ) (y : V) → slice_get result.items l ≡ Some y → Any (λ (p : PassShown (LockPassView V)). HasSeen p.pass.own l y) passes.items }
+        ensures found { All (λ (p : PassShown (LockPassView V)). (l : ℕ) (y : V) → slice_get result.items l ≡ Some y
+            → FoundOk V.Keeps l p.pass.thread p.pass.own y) passes.items }
+        ensures left { (l : ℕ) (y : V) → slice_get result.items l ≡ Some y
+            → Any (λ (p : PassShown (LockPassView V)). HasSeen p.pass.own l y) passes.items }
         ensures history { IsToldTo self.size passes.items roots.items }
     {
         let LockWords { words, room } = self;

@@ -4,7 +4,8 @@ ghost use base.Fml.{ftrue};
 
 use std::marker::Model;
 
-/// A reference to it gives nothing of the value, so threads may share it wherever they may send the value. Its owner takes the value out.
+/// A reference to it gives nothing of the value, so threads may share it wherever they may send the value. Its owner
+/// takes the value out.
 pub struct Exclusive<T> {
     pub(crate) value: T,
 }

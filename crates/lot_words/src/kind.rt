@@ -5,7 +5,8 @@ use crate::views::{PassKnowledge, RootKnowledge};
 use lot_rights::{Kind, PassOf, RootOf};
 use std::marker::PhantomData;
 
-/// Lock words: a word has the bits held and parked of its lock, and a slot has the lock's value. Contracts alone read it.
+/// Lock words: a word has the bits held and parked of its lock, and a slot has the lock's value. Contracts alone read
+/// it.
 pub struct Locks<V> {
     of: PhantomData<V>,
 }
@@ -36,8 +37,10 @@ impl<V: Keeps> Kind for Locks<V> {
     ghost no_letter_in_line = { λ start. no_letter_in_line V.Keeps start.size start.values.value.items };
 }
 
-/// The right to act as one thread on the locks. Contracts see it as its table and a `PassView`, whose `own` is a `LockPassView`.
+/// The right to act as one thread on the locks. Contracts see it as its table and a `PassView`, whose `own` is a
+/// `LockPassView`.
 pub type LockPass<V> = PassOf<Locks<V>>;
 
-/// The right to change the line of one lock. Contracts see it as its table and a `RootView`, whose `own` is a `LockRootView`.
+/// The right to change the line of one lock. Contracts see it as its table and a `RootView`, whose `own` is a
+/// `LockRootView`.
 pub type LockRoot<V> = RootOf<Locks<V>>;

@@ -1,9 +1,11 @@
-//! Lock words under one rule: the bits of WTF's `Lock`, the letters by which sleepers are told, and the values that the locks guard.
-//! Each call is one single access to one word, and makes exactly one entry of the table's history (lot_rights), which its contract names:
-//! an event of the model (lot_core), or a notice. Nothing here waits, and nothing but `open` takes memory. lot_sync builds the lock on it,
-//! with the parking lot of lot_park; lot_conds is its sibling.
+//! Lock words under one rule: the bits of WTF's `Lock`, the letters by which sleepers are told, and the values that the
+//! locks guard. Each call is one single access to one word, and makes exactly one entry of the table's history
+//! (lot_rights), which its contract names: an event of the model (lot_core), or a notice. Nothing here waits, and
+//! nothing but `open` takes memory. lot_sync builds the lock on it, with the parking lot of lot_park; lot_conds is its
+//! sibling.
 //!
-//! A thread acts with its `LockPass`, and a lock's line changes with its `LockRoot`, which lies in the bucket of the lock.
+//! A thread acts with its `LockPass`, and a lock's line changes with its `LockRoot`, which lies in the bucket of the
+//! lock.
 //!
 //! | Call | Access | Entry | The pass then |
 //! |---|---|---|---|
@@ -18,11 +20,12 @@
 //! | `collect` | swap | a letter was looked for, and found or not | is awake, and holds the lock if so told |
 //! | `value_out`, `value_in` | two loads of a spare word | none | has the value out, or back in its slot |
 //!
-//! A word's states are 0, 1 (held), 2 (parked) and 3. A letter is 0 for none, 1 for a barging opportunity, and 2 for a lock that was
-//! handed over.
+//! A word's states are 0, 1 (held), 2 (parked) and 3. A letter is 0 for none, 1 for a barging opportunity, and 2 for a
+//! lock that was handed over.
 //!
-//! Read `specs/World` first (what the words and rights stand for), then `specs/Values` and `specs/Rule` (the rule that every access
-//! keeps), `specs/Calls` and `specs/Headline`: one owner, sleepers are marked, someone is trying, lawful values, one history.
+//! Read `specs/World` first (what the words and rights stand for), then `specs/Values` and `specs/Rule` (the rule that
+//! every access keeps), `specs/Calls` and `specs/Headline`: one owner, sleepers are marked, someone is trying, lawful
+//! values, one history.
 #![tactic(auto)]
 
 mod apart;

@@ -15,8 +15,8 @@ use lot_rights::{WordsFault, WordsOf};
 use std::alloc::Global;
 
 impl<V: Keeps> LockWords<V> {
-    /// Opens a table for so many threads, with one lock for each value. The answer has a pass for each thread and a root for each lock,
-    /// in order; where memory is refused, the values come back.
+    /// Opens a table for so many threads, with one lock for each value. The answer has a pass for each thread and a
+    /// root for each lock, in order; where memory is refused, the values come back.
     pub fn open(
         alloc: Global,
         threads: usize,
@@ -26,9 +26,13 @@ impl<V: Keeps> LockWords<V> {
         requires keep { (k : ℕ) (v : V) → slice_get values.items k ≡ Some v → V.keeps k v }
         ensures size { IfOk result (λ r. (r.0.size.threads ≡ threads) × (r.0.size.locks ≡ vec_len values)) }
         ensures values { IfOk result (λ r. r.0.values ≡ values.items) }
-        ensures passes { IfOk result (λ r. (vec_len r.1 ≡ threads) × ((k : ℕ) → k < threads → slice_get r.1.items k ≡ Some (pass_at r.0.table values.items k))) }
-        ensures roots { IfOk result (λ r. (vec_len r.2 ≡ vec_len values) × ((k : ℕ) → k < vec_len values → slice_get r.2.items k ≡ Some (root_at r.0.table k))) }
-        ensures rule { IfOk result (λ r. Begins (meaning_of V.Keeps r.0) (replicate (word_count r.0.size.threads r.0.size.locks) 0) (map (λ (x : V). Some x) r.0.values)) }
+        ensures passes { IfOk result (λ r. (vec_len r.1 ≡ threads)
+            × ((k : ℕ) → k < threads → slice_get r.1.items k ≡ Some (pass_at r.0.table values.items k))) }
+        ensures roots { IfOk result (λ r. (vec_len r.2 ≡ vec_len values)
+            × ((k : ℕ) → k < vec_len values → slice_get r.2.items k ≡ Some (root_at r.0.table k))) }
+        ensures rule { IfOk result
+            (λ r. Begins (meaning_of V.Keeps r.0) (replicate (word_count r.0.size.threads r.0.size.locks) 0)
+            (map (λ (x : V). Some x) r.0.values)) }
         ensures back { IfErr result (λ e. e.1.items ≡ values.items) }
     {
         let locks = values.len();

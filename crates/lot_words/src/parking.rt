@@ -12,13 +12,15 @@ use crate::words::{HELD_AND_PARKED, LockWords};
 use std::marker::Brand;
 
 impl<V: Keeps> LockWords<V> {
-    /// Queues the thread last on the root's lock where the lock is held and parked, by one load, and says whether it did: the
-    /// validation of WTF's `Lock::lockSlow`, which runs while the bucket of the lock is locked. The event is Park.
+    /// Queues the thread last on the root's lock where the lock is held and parked, by one load, and says whether it
+    /// did: the validation of WTF's `Lock::lockSlow`, which runs while the bucket of the lock is locked. The event is
+    /// Park.
     pub fn park(&self, pass: LockPass<V>, root: LockRoot<V>) -> (LockPass<V>, LockRoot<V>, bool)
         requires table { (pass.table ≡ self.now.table) × (root.table ≡ self.now.table) }
         requires calm { (pass.pass.own.asleep ≡ false) × (pass.pass.own.aim ≡ Some root.root.key) }
         ensures table { (result.0.table ≡ pass.table) × (result.1.table ≡ root.table) }
-        ensures event { Notes pass.pass (parked_pass pass.pass.own result.2) (Makes (Park pass.pass.thread root.root.key) (Saw result.2)) result.0.pass }
+        ensures event { Notes pass.pass (parked_pass pass.pass.own result.2)
+            (Makes (Park pass.pass.thread root.root.key) (Saw result.2)) result.0.pass }
         ensures root { result.1.root ≡ record root.root { own = parked_root root.root.own pass.pass.thread result.2 } }
     {
         let words = &self.words;

@@ -26,13 +26,14 @@ impl<V: Keeps> LockWords<V> {
         words.store_root::<Brand, (usize, u32)>(root, letter, token as u64 + 1, (thread, token))
     }
 
-    /// Collects the pass's letter, by one swap, and answers its token where a letter lay: 0 where the thread may try again, 1 where
-    /// the lock was handed to it. A pass that does not sleep has no letter. A thread that sleeps calls it until a letter lies; what wakes
-    /// it tells nothing.
+    /// Collects the pass's letter, by one swap, and answers its token where a letter lay: 0 where the thread may try
+    /// again, 1 where the lock was handed to it. A pass that does not sleep has no letter. A thread that sleeps calls
+    /// it until a letter lies; what wakes it tells nothing.
     pub fn collect(&self, pass: LockPass<V>) -> (LockPass<V>, Option<u32>)
         requires { pass.table ≡ self.now.table }
         ensures table { result.0.table ≡ pass.table }
-        ensures letter { MatchOption result.1 (FoundNone pass.pass result.0.pass) (λ token. Collected V.Keeps pass.pass token result.0.pass) }
+        ensures letter { MatchOption result.1 (FoundNone pass.pass result.0.pass)
+            (λ token. Collected V.Keeps pass.pass token result.0.pass) }
     {
         let words = &self.words;
         let place = pass.letter();
@@ -43,7 +44,8 @@ impl<V: Keeps> LockWords<V> {
         (pass, Some((letter - 1) as u32))
     }
 
-    /// The lock's word as it was just now: bit 1 says held and bit 2 parked. It is an observation, of which nothing is promised.
+    /// The lock's word as it was just now: bit 1 says held and bit 2 parked. It is an observation, of which nothing is
+    /// promised.
     #[inline(always)]
     pub fn bits(&self, key: usize) -> u64
         requires { key < self.now.size.locks }

@@ -27,8 +27,9 @@ fn word_after(first: Option<usize>, more: bool) -> u64
 }
 
 impl<V: Keeps> LockWords<V> {
-    /// Lets the lock go where nobody is marked as parked on it, by one compare-exchange, and says whether it did: the fast path of
-    /// WTF's `Lock::unlock`. Where it did not, the lock is still held, and `pass_on` may follow. The event is Free.
+    /// Lets the lock go where nobody is marked as parked on it, by one compare-exchange, and says whether it did: the
+    /// fast path of WTF's `Lock::unlock`. Where it did not, the lock is still held, and `pass_on` may follow. The event
+    /// is Free.
     #[inline(always)]
     pub fn free(&self, pass: LockPass<V>, key: usize) -> (LockPass<V>, bool)
         requires table { pass.table ≡ self.now.table }
@@ -37,8 +38,10 @@ impl<V: Keeps> LockWords<V> {
         requires lies { (y : V) × IsIn pass.pass.own key y }
         ensures table { result.0.table ≡ pass.table }
         ensures event { MatchBool result.1
-            ((y : V) → IsIn pass.pass.own key y → Notes pass.pass (letting_go pass.pass.own key y) (Makes (Free pass.pass.thread key) (Saw true)) result.0.pass)
-            (Notes pass.pass (finding_parked pass.pass.own key) (Makes (Free pass.pass.thread key) (Saw false)) result.0.pass) }
+            ((y : V) → IsIn pass.pass.own key y → Notes pass.pass (letting_go pass.pass.own key y)
+            (Makes (Free pass.pass.thread key) (Saw true)) result.0.pass)
+            (Notes pass.pass (finding_parked pass.pass.own key)
+            (Makes (Free pass.pass.thread key) (Saw false)) result.0.pass) }
     {
         let words = &self.words;
         let word = word_of_key(key);
@@ -46,12 +49,14 @@ impl<V: Keeps> LockWords<V> {
         (pass, found == HELD)
     }
 
-    /// Passes on a lock that `free` found parked, by one access, while the bucket of the lock is locked: the callback of WTF's
-    /// `Lock::unlockSlow`. `first` is the first of the line. Where the pass is fair, that thread gets the lock: its word stays, by
-    /// one load. Else the lock is let go by one store, marked as parked where more threads may wait. The root then owes that thread
-    /// a letter, with token 1 where the pass is fair and else 0. The event is Pass.
+    /// Passes on a lock that `free` found parked, by one access, while the bucket of the lock is locked: the callback
+    /// of WTF's `Lock::unlockSlow`. `first` is the first of the line. Where the pass is fair, that thread gets the
+    /// lock: its word stays, by one load. Else the lock is let go by one store, marked as parked where more threads may
+    /// wait. The root then owes that thread a letter, with token 1 where the pass is fair and else 0. The event is
+    /// Pass.
     ///
-    /// Where two threads or more are in the line and the pass isn't fair, `more` has to be true; a pass to nobody can't be fair.
+    /// Where two threads or more are in the line and the pass isn't fair, `more` has to be true; a pass to nobody can't
+    /// be fair.
     pub fn pass_on(
         &self,
         pass: LockPass<V>,
@@ -61,13 +66,16 @@ impl<V: Keeps> LockWords<V> {
         more: bool,
     ) -> (LockPass<V>, LockRoot<V>)
         requires table { (pass.table ≡ self.now.table) × (root.table ≡ self.now.table) }
-        requires holds { (pass.pass.own.asleep ≡ false) × (pass.pass.own.aim ≡ None) × HoldsParked pass.pass.own root.root.key }
+        requires holds { (pass.pass.own.asleep ≡ false) × (pass.pass.own.aim ≡ None)
+            × HoldsParked pass.pass.own root.root.key }
         requires lies { (y : V) × IsIn pass.pass.own root.root.key y }
         requires first { (first_of root.root.own.line ≡ first) × (root.root.own.owes ≡ None) }
         requires more { fair ≡ false → SaysMore root.root.own.line more }
         requires fair { first ≡ None → fair ≡ false }
         ensures table { (result.0.table ≡ pass.table) × (result.1.table ≡ root.table) }
-        ensures event { (y : V) → IsIn pass.pass.own root.root.key y → Notes pass.pass (letting_go pass.pass.own root.root.key y) (Makes (Pass pass.pass.thread root.root.key fair more) (Sleeper first)) result.0.pass }
+        ensures event { (y : V) → IsIn pass.pass.own root.root.key y
+            → Notes pass.pass (letting_go pass.pass.own root.root.key y)
+            (Makes (Pass pass.pass.thread root.root.key fair more) (Sleeper first)) result.0.pass }
         ensures root { result.1.root ≡ record root.root { own = passed_root root.root.own fair root.root.own.line } }
     {
         let words = &self.words;

@@ -21,7 +21,8 @@ impl<V: Keeps> LockWords<V> {
         requires key { key < self.now.size.locks }
         requires holds { Holds pass.pass.own key }
         requires lies { (y : V) × IsIn pass.pass.own key y }
-        ensures pass { (result.0.table ≡ pass.table) × (result.0.pass ≡ record pass.pass { own = placing pass.pass.own key Out }) }
+        ensures pass { (result.0.table ≡ pass.table)
+            × (result.0.pass ≡ record pass.pass { own = placing pass.pass.own key Out }) }
         ensures value { IsIn pass.pass.own key result.1 }
         ensures out { IsOut result.0.pass.own key }
     {
@@ -30,15 +31,16 @@ impl<V: Keeps> LockWords<V> {
         (pass, value)
     }
 
-    /// Puts a value into the lock's slot, out of which the pass took one. It keeps the caller's rule, has grown from the value that the
-    /// pass found when it got the lock, and has the other threads' parts of that.
+    /// Puts a value into the lock's slot, out of which the pass took one. It keeps the caller's rule, has grown from
+    /// the value that the pass found when it got the lock, and has the other threads' parts of that.
     #[inline]
     pub fn value_in(&self, pass: LockPass<V>, key: usize, value: V) -> LockPass<V>
         requires table { pass.table ≡ self.now.table }
         requires key { key < self.now.size.locks }
         requires holds { Holds pass.pass.own key × IsOut pass.pass.own key }
         requires lawful { (x : V) × HasSeen pass.pass.own key x × MayLeave V.Keeps key pass.pass.thread x value }
-        ensures pass { (result.table ≡ pass.table) × (result.pass ≡ record pass.pass { own = placing pass.pass.own key (InSlot value) }) }
+        ensures pass { (result.table ≡ pass.table)
+            × (result.pass ≡ record pass.pass { own = placing pass.pass.own key (InSlot value) }) }
         ensures lies { IsIn result.pass.own key value }
     {
         let (pass, found) = self.exchange_value(pass, key, Some(value));
@@ -59,7 +61,8 @@ impl<V: Keeps> LockWords<V> {
         requires holds { Holds pass.pass.own key }
         requires home { (place : Place V) × (get_elem? pass.pass.own.places key ≡ some place) × IsAtHome place }
         requires lawful { (x : V) → HasSeen pass.pass.own key x → MayLie V.Keeps key pass.pass.thread x (place_of new) }
-        ensures pass { (result.0.table ≡ pass.table) × (result.0.pass ≡ record pass.pass { own = placing pass.pass.own key (place_of new) }) }
+        ensures pass { (result.0.table ≡ pass.table)
+            × (result.0.pass ≡ record pass.pass { own = placing pass.pass.own key (place_of new) }) }
         ensures found { (place : Place V) → get_elem? pass.pass.own.places key ≡ some place → result.1 ≡ in_slot place }
     {
         let words = &self.words;

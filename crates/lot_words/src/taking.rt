@@ -29,8 +29,8 @@ impl<V: Keeps> LockWords<V> {
         (pass, was & HELD == 0)
     }
 
-    /// Gets the lock where it is unheld, and else the thread wants it from now on: the first step of WTF's `Lock::lock`, and each
-    /// further try of its slow path. The event is Take. A thread that sleeps can't take.
+    /// Gets the lock where it is unheld, and else the thread wants it from now on: the first step of WTF's
+    /// `Lock::lock`, and each further try of its slow path. The event is Take. A thread that sleeps can't take.
     #[inline(always)]
     pub fn take(&self, pass: LockPass<V>, key: usize) -> (LockPass<V>, bool)
         requires table { pass.table ≡ self.now.table }
@@ -39,15 +39,17 @@ impl<V: Keeps> LockWords<V> {
         ensures table { result.0.table ≡ pass.table }
         ensures event { MatchBool result.1
             (GetsBy V.Keeps pass.pass key (Makes (Take pass.pass.thread key) (Saw true)) result.0.pass)
-            (Notes pass.pass (wanting pass.pass.own key) (Makes (Take pass.pass.thread key) (Saw false)) result.0.pass) }
+            (Notes pass.pass (wanting pass.pass.own key)
+            (Makes (Take pass.pass.thread key) (Saw false)) result.0.pass) }
     {
         let words = &self.words;
         let (pass, found) = words.fetch_or::<Brand, usize>(pass, word_of_key(key), HELD, key);
         (pass, found & HELD == 0)
     }
 
-    /// Gets the lock where its word is 0, by one compare-exchange; the event is Take. Else no event is made, the pass is as it was, and
-    /// the entry says what the word was. A `lock` that begins so leaves the line of a contended word alone.
+    /// Gets the lock where its word is 0, by one compare-exchange; the event is Take. Else no event is made, the pass
+    /// is as it was, and the entry says what the word was. A `lock` that begins so leaves the line of a contended word
+    /// alone.
     #[inline(always)]
     pub fn take_free(&self, pass: LockPass<V>, key: usize) -> (LockPass<V>, bool)
         requires table { pass.table ≡ self.now.table }
@@ -64,8 +66,9 @@ impl<V: Keeps> LockWords<V> {
         (pass, found == UNHELD)
     }
 
-    /// Marks a held, unparked lock as parked, by one compare-exchange, and says whether it did. The event is Mark; where the word was
-    /// another, the entry says which. A thread that wants the lock, and is about to park, calls it, as WTF's `Lock::lockSlow` does.
+    /// Marks a held, unparked lock as parked, by one compare-exchange, and says whether it did. The event is Mark;
+    /// where the word was another, the entry says which. A thread that wants the lock, and is about to park, calls it,
+    /// as WTF's `Lock::lockSlow` does.
     pub fn mark(&self, pass: LockPass<V>, key: usize) -> (LockPass<V>, bool)
         requires table { pass.table ≡ self.now.table }
         requires key { key < self.now.size.locks }

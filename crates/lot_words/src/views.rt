@@ -1,5 +1,5 @@
-//! What contracts see of the rights: what a pass knows of its locks and their values, and what a root knows of its line.
-//! No value of these types is made by running code.
+//! What contracts see of the rights: what a pass knows of its locks and their values, and what a root knows of its
+//! line. No value of these types is made by running code.
 use std::collections::LinkedList;
 use std::marker::{Model, PhantomData};
 
@@ -27,7 +27,8 @@ pub struct LockPassView<V> {
     pub asleep: bool,
     /// By lock. It tells nothing where the pass doesn't hold the lock.
     pub places: LinkedList<Place<V>>,
-    /// By lock: the opening value, until the pass gets the lock; then the value that it found, and when it let the lock go, the one that it left.
+    /// By lock: the opening value, until the pass gets the lock; then the value that it found, and when it let the lock
+    /// go, the one that it left.
     pub seen: LinkedList<V>,
 }
 
@@ -39,7 +40,8 @@ pub struct LockRootView {
     pub owes: Option<(u64, u64)>,
 }
 
-/// Names a `LockPassView` where a type is asked for. It has no fields, so the type of a table does not spell out what a pass knows.
+/// Names a `LockPassView` where a type is asked for. It has no fields, so the type of a table does not spell out what a
+/// pass knows.
 pub struct PassKnowledge<V> {
     of: PhantomData<V>,
 }
@@ -53,7 +55,8 @@ impl<V> Model for PassKnowledge<V> {
     ghost view = { λ _. no_pass };
 }
 
-/// Names a `LockRootView` where a type is asked for. It has no fields, so the type of a table does not spell out what a root knows.
+/// Names a `LockRootView` where a type is asked for. It has no fields, so the type of a table does not spell out what a
+/// root knows.
 pub struct RootKnowledge;
 
 impl Model for RootKnowledge {

@@ -38,7 +38,11 @@ impl<V: Keeps> Model for LockWords<V> {
 
     ghost Value = { LockWordsShown V };
 
-    ghost view = { λ s. record { table = s.words.table; size = s.words.key.size; values = s.words.key.values.value.items } };
+    ghost view = { λ s. record {
+      table = s.words.table;
+      size = s.words.key.size;
+      values = s.words.key.values.value.items;
+    } };
 }
 
 impl<V: Keeps> OfOpening for LockWords<V> {

@@ -1,17 +1,20 @@
 //! `lotbench` runs one piece of work on the locks and prints how long it took, on one line:
 //!
-//! - `lotbench count THREADS LOCKS ROUNDS`: each thread locks a lock by chance, adds one to its number and unlocks, so many times.
-//! - `lotbench share THREADS MILLIS`: the same on one lock, for so long; how often the threads got it that got it least and most often.
-//! - `lotbench relay PRODUCERS CONSUMERS ROUNDS`: producers put into a buffer, consumers take from it, and both wait on conditions.
-//! - `lotbench wait THREADS HELD OUTSIDE MILLIS`: how long it takes from asking for a lock to owning it, where each thread holds it for
-//!   so many nanoseconds and stays outside for so many.
+//! - `lotbench count THREADS LOCKS ROUNDS`: each thread locks a lock by chance, adds one to its number and unlocks, so
+//!   many times.
+//! - `lotbench share THREADS MILLIS`: the same on one lock, for so long; how often the threads got it that got it least
+//!   and most often.
+//! - `lotbench relay PRODUCERS CONSUMERS ROUNDS`: producers put into a buffer, consumers take from it, and both wait on
+//!   conditions.
+//! - `lotbench wait THREADS HELD OUTSIDE MILLIS`: how long it takes from asking for a lock to owning it, where each
+//!   thread holds it for so many nanoseconds and stays outside for so many.
 //! - `lotbench notify THREADS ROUNDS`: each thread notifies one on a condition, where nobody waits.
 //! - `lotbench turns THREADS ROUNDS`: each thread waits for its turn on a condition of its own, and notifies the next.
 //! - `lotbench permits THREADS PERMITS ROUNDS`: each thread gets a permit of one semaphore and gives it back.
 //! - `lotbench start THREADS LOCKS`: a lot is opened and started, all its threads register, and it is closed.
 //!
-//! Without words it prints nothing. It stands on `lot_load`, which does the work, and on `lot_command`, which reads the words and tells
-//! what came of them.
+//! Without words it prints nothing. It stands on `lot_load`, which does the work, and on `lot_command`, which reads the
+//! words and tells what came of them.
 #![tactic(auto)]
 
 use lot_command::{report, texts_of, words};

@@ -1,10 +1,10 @@
 //! `lotstress` runs locks under load, and schedules through the proved model:
 //!
 //! - `lotstress count THREADS LOCKS ROUNDS SEED`: workers lock, count and unlock; prints what each lock counted.
-//! - `lotstress relay THREADS ROUNDS SEED`: producers put numbers into a buffer, consumers take them, and both wait on conditions; prints
-//!   what was put and taken, and whether the conditions' ledger is balanced.
-//! - `lotstress pool THREADS PERMITS ROUNDS SEED`: workers share the permits of a semaphore; prints how many rounds were done, and whether
-//!   never more workers than permits were in.
+//! - `lotstress relay THREADS ROUNDS SEED`: producers put numbers into a buffer, consumers take them, and both wait on
+//!   conditions; prints what was put and taken, and whether the conditions' ledger is balanced.
+//! - `lotstress pool THREADS PERMITS ROUNDS SEED`: workers share the permits of a semaphore; prints how many rounds
+//!   were done, and whether never more workers than permits were in.
 //! - `lotstress replay FILE`: runs a script of events and prints the state that it leaves.
 //!
 //! It stands on `lot_load`, which runs them, and on `lot_command`, which reads the words and tells what came of them.

@@ -1,7 +1,8 @@
 //! `lotview FILE` runs a script of events through the proved model and draws the run, as SVG on standard output: a lane
 //! for each thread, a column for each event.
 //!
-//! It stands on `lot_draw`, which makes the picture, and on `lot_command`, which reads the words and tells what came of them.
+//! It stands on `lot_draw`, which makes the picture, and on `lot_command`, which reads the words and tells what came of
+//! them.
 #![tactic(auto)]
 
 use lot_command::{report, texts_of, words};

@@ -18,7 +18,8 @@ static SCRIPTS: [&str; 6] = [
     "open 2 3 0\ntry 0 0\ntry 0 1\ntry 0 2\nfree 0 1\ntry 1 1\ntry 0 1\nfree 1 1\ntry 0 1\n",
 ];
 
-// What the bars tell of the end of a run with so many events. Those that reach the end say how its threads stand there, and what they have.
+// What the bars tell of the end of a run with so many events. Those that reach the end say how its threads stand there,
+// and what they have.
 
 /// Who has the lock.
 fn owner(bars: &[Bar], events: usize, lock: usize) -> Option<usize> {

@@ -17,8 +17,8 @@ pub(crate) struct Pass {
     pub(crate) thread: usize,
 }
 
-// A word for each thread: 0 where no letter lies, else the token and 1. And how often it looked for one; and how often any
-// looked at the word of what it sought.
+// A word for each thread: 0 where no letter lies, else the token and 1. And how often it looked for one; and how often
+// any looked at the word of what it sought.
 #[derive(Drop)]
 pub(crate) struct Letters {
     words: [AtomicU64; THREADS],

@@ -45,8 +45,8 @@ impl Sought<Prizes> for Letters {
     }
 }
 
-// How often a thread looks before it lines up that has seen this of the word, where the lot was told that so many threads
-// are registered, or of none.
+// How often a thread looks before it lines up that has seen this of the word, where the lot was told that so many
+// threads are registered, or of none.
 fn looks<R: Wait + Abort>(rt: &R, alloc: Global, registered: usize, first: Look) -> u64
     requires { registered ≤ THREADS }
 {
@@ -71,8 +71,8 @@ fn looks<R: Wait + Abort>(rt: &R, alloc: Global, registered: usize, first: Look)
     looks
 }
 
-// It yields 40 times in all, and looks after each yield. Where more than two threads are registered, its first look comes
-// after ten. Where it has seen that somebody is parked, it lines up at once.
+// It yields 40 times in all, and looks after each yield. Where more than two threads are registered, its first look
+// comes after ten. Where it has seen that somebody is parked, it lines up at once.
 #[test]
 fn a_thread_looks_before_it_lines_up(rt: HostRuntime) {
     equal(&rt, looks(&rt, rt.alloc(), 0, Look::Taken), 40);

@@ -3,7 +3,8 @@ ghost use Rattle.std.specs.Prelude.{false, ◌≡◌, ◌<◌, ◌≤◌, [], �
 ghost use Rattle.lot_words.specs.declared.views.Hold.TheVariants.{NotHeld, Held, FoundParked};
 ghost use Rattle.lot_core.specs.Steps.{first as first_of};
 ghost use Rattle.lot_words.specs.Calls.{passed_root};
-ghost use Rattle.base_trials.specs.LockSchedules.{IsPass, IsCalm, HasNothing, Wants, Sleeps, Owns, MayFree, MayPass, IsRoot};
+ghost use Rattle.base_trials.specs.LockSchedules.{IsPass, IsCalm, HasNothing, Wants, Sleeps, Owns, MayFree, MayPass};
+ghost use Rattle.base_trials.specs.LockSchedules.{IsRoot};
 
 use super::owners::{close_soundly, collect_any, take_any};
 use super::tally::Tally;

@@ -19,7 +19,8 @@ impl Meeting {
         }
     }
 
-    /// Waits until so many threads are here. It asks a bounded number of times, since a thread that can't be started never comes.
+    /// Waits until so many threads are here. It asks a bounded number of times, since a thread that can't be started
+    /// never comes.
     pub fn join(&self, threads: u64) {
         self.here.fetch_add(1, Ordering::SeqCst);
         for _ in 0..ASKINGS {

@@ -111,8 +111,8 @@ pub fn share<N: LotName<Number> + Send, T: Wait + Clock>(
     unreachable!()
 }
 
-/// Rounds on lock 0 until the time is over: the lock is held for so many nanoseconds, and so many go by outside. Notes how long each
-/// took from asking to owning.
+/// Rounds on lock 0 until the time is over: the lock is held for so many nanoseconds, and so many go by outside. Notes
+/// how long each took from asking to owning.
 pub fn wait<N: LotName<Number> + Send, T: Wait + Clock>(
     rt: &T,
     lot: &Lot<Number, N>,

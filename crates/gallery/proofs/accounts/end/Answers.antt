@@ -6,7 +6,8 @@ pub returns-clause-sum : goal.returns-clause-sum
 returns-clause-sum g c =
     let accounts = c.finish-accounts.result.0 in
     let long : length accounts.items ≡ vec_len accounts = search rules in
-    same_at_end _ g.N.LotName.values c.args.lot accounts.items c.finish-accounts.result.1.called.items c.finish-accounts.result.1.woken.items
+    same_at_end _ g.N.LotName.values c.args.lot accounts.items c.finish-accounts.result.1.called.items
+    c.finish-accounts.result.1.woken.items
     c.finish-accounts.ensures.finished (λ k v kept. kept) (λ t v. refl) (λ p even. even) (λ u v same. same)
     c.requires.sizes.1 (long ∙ (c.finish-accounts.ensures.count ∙ c.requires.sizes.0))
 
@@ -14,6 +15,7 @@ pub returns-clause-opening : goal.returns-clause-opening
 returns-clause-opening g c =
     let accounts = c.finish-accounts.result.0 in
     let long : length accounts.items ≡ vec_len accounts = search rules in
-    opened_at_the_end _ g.N.LotName.values c.args.lot accounts.items c.finish-accounts.result.1.called.items c.finish-accounts.result.1.woken.items
+    opened_at_the_end _ g.N.LotName.values c.args.lot accounts.items c.finish-accounts.result.1.called.items
+    c.finish-accounts.result.1.woken.items
     c.finish-accounts.ensures.finished (λ k v kept. kept) (λ t v. refl) (λ p even. even) (λ u v same. same)
     c.requires.sizes.1 (long ∙ (c.finish-accounts.ensures.count ∙ c.requires.sizes.0))

@@ -11,10 +11,12 @@ unlock-pass-requires-2-clause-back g c κs within =
       kept = settled.booked_into;
       grown = grown_two c.args.pass.thread c.lock_both-pass.result.1 c.lock_both-pass.result.2 c.put-first.result c.put-second.result
           c.lock_both-pass.result.0
-          c.lock_both-pass.ensures.both settled c.put-first.ensures.key c.put-second.ensures.key c.unlock-pass.result.0 c.unlock-pass.ensures.pass;
+          c.lock_both-pass.ensures.both settled c.put-first.ensures.key c.put-second.ensures.key c.unlock-pass.result.0
+          c.unlock-pass.ensures.pass;
       others = others_two c.args.pass.thread c.lock_both-pass.result.1 c.lock_both-pass.result.2 c.put-first.result c.put-second.result
           c.lock_both-pass.result.0
-          c.lock_both-pass.ensures.both settled c.put-first.ensures.key c.put-second.ensures.key c.unlock-pass.result.0 c.unlock-pass.ensures.pass;
+          c.lock_both-pass.ensures.both settled c.put-first.ensures.key c.put-second.ensures.key c.unlock-pass.result.0
+          c.unlock-pass.ensures.pass;
     }
 
 pub returns-clause-even : goal.returns-clause-even

@@ -15,7 +15,10 @@ loop-thread-preserved g c =
       near = (let e = c.threads-thread-end.ensures in let h = c.loop-thread-test.true in omega (arith, e, h));
       room = omega (arith, c.push_reserved.ensures.capacity);
       ready = subst (All (IsReady g.V.Keeps g.N.LotName.values c.args.lot.now)) (sym c.push_reserved.ensures.items)
-          (All-push (IsReady g.V.Keeps g.N.LotName.values c.args.lot.now) c.loop-thread.passes.items c.take_pass-pass.result inv.ready ready);
-      all = more_are_there c.loop-thread.passes.items c.push_reserved.new.self.items c.take_pass-pass.result c.loop-thread.thread c.push_reserved.ensures.items c.take_pass-pass.ensures.thread inv.all;
+          (All-push (IsReady g.V.Keeps g.N.LotName.values c.args.lot.now) c.loop-thread.passes.items
+          c.take_pass-pass.result inv.ready ready);
+      all =
+          more_are_there c.loop-thread.passes.items c.push_reserved.new.self.items c.take_pass-pass.result c.loop-thread.thread
+          c.push_reserved.ensures.items c.take_pass-pass.ensures.thread inv.all;
       same = c.take_pass-pass.ensures.same ∙ inv.same;
     }

@@ -4,11 +4,15 @@ use Rattle.lot_calls.proofs.Waiting.{got_after, after_holds, made_until}
 use Rattle.lot_calls.proofs.until.lock_until.Goals as goal
 
 pub returns-clause-gets : goal.returns-clause-gets
-returns-clause-gets g c = got_after g.V.Keeps c.args.pass c.lock-pass.result.0 c.wait_until.result.0 c.args.key c.args.cond c.args.moment.now c.lock-pass.result.1 c.wait_until.result.1
+returns-clause-gets g c =
+    got_after g.V.Keeps c.args.pass c.lock-pass.result.0 c.wait_until.result.0 c.args.key c.args.cond c.args.moment.now
+    c.lock-pass.result.1 c.wait_until.result.1
     c.lock-pass.ensures.gets c.wait_until.ensures.waits
 
 pub returns-clause-holding : goal.returns-clause-holding
-returns-clause-holding g c = λ none. after_holds g.V.Keeps c.args.pass c.lock-pass.result.0 c.wait_until.result.0 c.args.key c.args.cond c.args.moment.now c.lock-pass.result.1
+returns-clause-holding g c =
+    λ none. after_holds g.V.Keeps c.args.pass c.lock-pass.result.0 c.wait_until.result.0 c.args.key c.args.cond
+    c.args.moment.now c.lock-pass.result.1
     c.wait_until.result.1 none c.lock-pass.ensures.gets c.wait_until.ensures.waits
 
 pub returns-clause-made : goal.returns-clause-made
@@ -16,6 +20,7 @@ returns-clause-made g c =
     let gets = c.lock-pass.ensures.gets in
     let waits = c.wait_until.ensures.waits in (
       waits.count,
-      made_until c.args.pass c.lock-pass.result.0 c.wait_until.result.0 c.args.key c.lock-pass.result.1.key c.args.cond c.args.moment.now waits.count gets.key_is
+      made_until c.args.pass c.lock-pass.result.0 c.wait_until.result.0 c.args.key c.lock-pass.result.1.key c.args.cond c.args.moment.now
+          waits.count gets.key_is
           (ap (λ (p : PassView g.row.V.Denot). p.thread) gets.after_is) c.lock-pass.ensures.made waits.made,
     )

@@ -20,5 +20,7 @@ returns-clause-visits g c =
 pub returns-clause-made : goal.returns-clause-made
 returns-clause-made g c =
     let gets = c.lock-pass.ensures.gets in
-    visit_made c.args.pass c.lock-pass.result.0 c.unlock-pass.result.0 c.args.key c.lock-pass.result.1.key c.args.moment.now c.unlock-pass.result.1 gets.key_is
-    (ap (λ (p : PassView g.row.V.Denot). p.thread) gets.after_is) c.lock-pass.ensures.made c.unlock-pass.ensures.fits c.unlock-pass.ensures.made
+    visit_made c.args.pass c.lock-pass.result.0 c.unlock-pass.result.0 c.args.key c.lock-pass.result.1.key c.args.moment.now
+    c.unlock-pass.result.1 gets.key_is
+    (ap (λ (p : PassView g.row.V.Denot). p.thread) gets.after_is) c.lock-pass.ensures.made c.unlock-pass.ensures.fits
+    c.unlock-pass.ensures.made

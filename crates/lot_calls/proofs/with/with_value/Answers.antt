@@ -10,7 +10,8 @@ returns-clause-visits g c =
       c.lock-pass.result.1.value,
       worked.0.0,
       rw (sym worked.3) at worked.1,
-      visits g.V.Keeps c.args.pass c.lock-pass.result.0 c.unlock-pass.result.0 c.args.key c.lock-pass.result.1 c.lock-pass.result.1.value worked.0.0
+      visits g.V.Keeps c.args.pass c.lock-pass.result.0 c.unlock-pass.result.0 c.args.key c.lock-pass.result.1
+          c.lock-pass.result.1.value worked.0.0
           c.requires.free gets refl (c.requires.keeps c.lock-pass.result.1.value worked.0 gets.kept worked.1)
           (rw worked.2 at c.unlock-pass.ensures.pass) (rw worked.2 at c.unlock-pass.ensures.seen),
     )
@@ -19,5 +20,7 @@ pub returns-clause-made : goal.returns-clause-made
 returns-clause-made g c =
     let worked = c.replace_with-held.ensures in
     let gets = c.lock-pass.ensures.gets in
-    visit_made c.args.pass c.lock-pass.result.0 c.unlock-pass.result.0 c.args.key c.lock-pass.result.1.key c.args.moment.now c.unlock-pass.result.1 gets.key_is
-    (ap (λ (p : PassView g.row.V.Denot). p.thread) gets.after_is) c.lock-pass.ensures.made c.unlock-pass.ensures.fits (rw worked.2 at c.unlock-pass.ensures.made)
+    visit_made c.args.pass c.lock-pass.result.0 c.unlock-pass.result.0 c.args.key c.lock-pass.result.1.key c.args.moment.now
+    c.unlock-pass.result.1 gets.key_is
+    (ap (λ (p : PassView g.row.V.Denot). p.thread) gets.after_is) c.lock-pass.ensures.made c.unlock-pass.ensures.fits
+    (rw worked.2 at c.unlock-pass.ensures.made)

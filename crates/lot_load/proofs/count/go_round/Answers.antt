@@ -10,5 +10,7 @@ unlock-pass-requires-clause-back g c κs within =
 
 pub returns : goal.returns
 returns g c =
-    owns_none_again c.args.pass c.lock-pass.result.0 c.unlock-pass.result.0 _ c.add_one-called.new.held.key c.lock-pass.result.1.value c.add_one-called.new.held.value
-    c.requires.free c.lock-pass.ensures.gets.after_is c.unlock-pass.ensures.pass (c.add_one-called.ensures.works.key_same ∙ c.lock-pass.ensures.gets.key_is)
+    owns_none_again c.args.pass c.lock-pass.result.0 c.unlock-pass.result.0 _ c.add_one-called.new.held.key c.lock-pass.result.1.value
+    c.add_one-called.new.held.value
+    c.requires.free c.lock-pass.ensures.gets.after_is c.unlock-pass.ensures.pass
+    (c.add_one-called.ensures.works.key_same ∙ c.lock-pass.ensures.gets.key_is)

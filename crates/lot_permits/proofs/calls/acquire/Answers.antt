@@ -27,7 +27,8 @@ returns-clause-gets g c =
           (subst (λ (b : Taken). TakesPermit p key b q) w.in-Got.is c.take_permit-pass.ensures))
       | in-Empty w ↦ subst (λ (r : LotStanding g.row.V.Denot). GetsPermit p key r) (sym w.pass-is)
           (got_slowly first_sem p q w.get_slowly-pass.result key
-          (missed first_sem p q key c.take_permit-pass.result.1 c.requires.sem.0 (inr c.requires.idle) c.take_permit-pass.ensures w.in-Empty.is)
+          (missed first_sem p q key c.take_permit-pass.result.1 c.requires.sem.0
+          (inr c.requires.idle) c.take_permit-pass.ensures w.in-Empty.is)
           w.get_slowly-pass.ensures)
     ]
 

@@ -7,22 +7,30 @@ use Rattle.lot_rights.proofs.closing.gather_roots.Goals as goal
 
 pub join_seat-requires : goal.join_seat-requires
 join_seat-requires g c =
-    let all = all_popped (λ (q : RootShown _). q.table ≡ c.args.shared.now.table_id) c.loop-root.roots.items c.pop.new.self.items c.in-Some.root c.in-Some.ensures.items c.loop-root.invariant.all in (
+    let all =
+    all_popped (λ (q : RootShown _). q.table ≡ c.args.shared.now.table_id) c.loop-root.roots.items c.pop.new.self.items c.in-Some.root
+    c.in-Some.ensures.items c.loop-root.invariant.all in (
       c.loop-root.invariant.table,
       ap (λ (x : RootShown _). x.table) c.root.view_is ∙ all.1,
       ap (λ m. m.1) c.root.inside.one,
       c.requires.table.1,
-      joins_rule (g.K.Kind.meaning c.args.shared.now.key) c.loop-root.seat.id c.loop-root.seat.me.0 c.root.inside.seat.id c.root.inside.seat.me.0,
+      joins_rule (g.K.Kind.meaning c.args.shared.now.key) c.loop-root.seat.id c.loop-root.seat.me.0 c.root.inside.seat.id
+          c.root.inside.seat.me.0,
     )
 
 pub loop-root-preserved : goal.loop-root-preserved
 loop-root-preserved g c =
     let inv = c.loop-root.invariant in
     let own = c.root.inside.seat.me.0 in
-    let is : own ≡ Root c.in-Some.root.root ∷ [] = subst (λ (x : RootShown _). own ≡ Root x.root ∷ []) c.root.view_is (ap (λ m. m.0) c.root.inside.one) in
+    let is : own ≡ Root c.in-Some.root.root ∷ [] =
+    subst (λ (x : RootShown _). own ≡ Root x.root ∷ []) c.root.view_is (ap (λ m. m.0) c.root.inside.one) in
     record {
       table = c.join_seat.ensures.0 ∙ inv.table;
-      all = (all_popped (λ (q : RootShown _). q.table ≡ c.args.shared.now.table_id) c.loop-root.roots.items c.pop.new.self.items c.in-Some.root c.in-Some.ensures.items inv.all).0;
-      rights = gathered (λ (q : RootShown _). Root q.root) c.loop-root.seat.me.0 own c.join_seat.new.seat.me.0 c.loop-root.roots.items c.pop.new.self.items c.in-Some.root
+      all =
+          (all_popped (λ (q : RootShown _). q.table ≡ c.args.shared.now.table_id) c.loop-root.roots.items c.pop.new.self.items
+          c.in-Some.root c.in-Some.ensures.items inv.all).0;
+      rights =
+          gathered (λ (q : RootShown _). Root q.root) c.loop-root.seat.me.0 own c.join_seat.new.seat.me.0 c.loop-root.roots.items
+          c.pop.new.self.items c.in-Some.root
           (ap (λ m. m.0) c.join_seat.ensures.2) is c.in-Some.ensures.items ∙ inv.rights;
     }

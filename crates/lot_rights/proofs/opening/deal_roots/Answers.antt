@@ -23,11 +23,14 @@ pub split_seat-own-requires : goal.split_seat-own-requires
 split_seat-own-requires g c =
     let k = g.K.Kind.meaning c.args.shared.now.key in
     let i = c.loop-i.i in
-    let is = c.loop-i.invariant.rest ∙ ap (λ v. (v, [])) (next_from (λ d. Root (new_root k.fresh_root d)) (c.args.first + i) (c.args.first + (i + 1)) (c.args.keys - i)
+    let is =
+    c.loop-i.invariant.rest ∙ ap (λ v. (v, []))
+    (next_from (λ d. Root (new_root k.fresh_root d)) (c.args.first + i) (c.args.first + (i + 1)) (c.args.keys - i)
     (c.args.keys - (i + 1)) (omega arith) (omega arith)) in (
       c.loop-i.invariant.table,
       c.requires.table.1,
-      deals k c.loop-i.seat.id c.loop-i.seat.me.0 (Root (new_root k.fresh_root (c.args.first + i))) (roots_from k (c.args.first + (i + 1)) (c.args.keys - (i + 1))) (ap (λ m. m.0) is),
+      deals k c.loop-i.seat.id c.loop-i.seat.me.0 (Root (new_root k.fresh_root (c.args.first + i)))
+          (roots_from k (c.args.first + (i + 1)) (c.args.keys - (i + 1))) (ap (λ m. m.0) is),
     )
 
 pub invariant_of-push_reserved : goal.invariant_of-push_reserved
@@ -35,16 +38,21 @@ invariant_of-push_reserved g c =
     let k = g.K.Kind.meaning c.args.shared.now.key in
     let i = c.loop-i.i in
     let key = c.args.first + i in
-    let is = c.loop-i.invariant.rest ∙ ap (λ v. (v, [])) (next_from (λ d. Root (new_root k.fresh_root d)) key (c.args.first + (i + 1)) (c.args.keys - i) (c.args.keys - (i + 1)) (omega arith)
+    let is =
+    c.loop-i.invariant.rest ∙ ap (λ v. (v, []))
+    (next_from (λ d. Root (new_root k.fresh_root d)) key (c.args.first + (i + 1)) (c.args.keys - i) (c.args.keys - (i + 1)) (omega arith)
     (omega arith)) in
     let own = c.split_seat-own.result.me in
-    let dealt = dealt_out c.loop-i.seat.me (Root (new_root k.fresh_root key)) (roots_from k (c.args.first + (i + 1)) (c.args.keys - (i + 1))) is own c.split_seat-own.ensures.4 in
+    let dealt =
+    dealt_out c.loop-i.seat.me (Root (new_root k.fresh_root key))
+    (roots_from k (c.args.first + (i + 1)) (c.args.keys - (i + 1))) is own c.split_seat-own.ensures.4 in
     let seen = root_seen g.K.Kind.no_pass g.K.Kind.no_root own (new_root k.fresh_root key) dealt in (
       one_root g.K.Kind.no_pass g.K.Kind.no_root own (new_root k.fresh_root key) dealt,
       (
         sym (ap (λ q. q.key) seen),
         (
-          subst (λ z. word_at key < z.words) (sym (c.split_seat-own.ensures.3 ∙ c.loop-i.invariant.table)) (c.requires.near key (omega arith)),
+          subst (λ z. word_at key < z.words) (sym (c.split_seat-own.ensures.3 ∙ c.loop-i.invariant.table))
+              (c.requires.near key (omega arith)),
           (
             subst (λ z. z.words < 2 ^ 64) (sym (c.split_seat-own.ensures.3 ∙ c.loop-i.invariant.table)) c.requires.table.2,
             ((λ u h. absurd (c.requires.calm key u (subst (λ q. g.K.Kind.names q.own u) seen h))), tt),
@@ -61,9 +69,15 @@ loop-i-preserved g c =
     let key = c.args.first + i in
     let r = Root (new_root k.fresh_root key) in
     let rs = roots_from k (c.args.first + (i + 1)) (c.args.keys - (i + 1)) in
-    let is = inv.rest ∙ ap (λ v. (v, [])) (next_from (λ d. Root (new_root k.fresh_root d)) key (c.args.first + (i + 1)) (c.args.keys - i) (c.args.keys - (i + 1)) (omega arith) (omega arith)) in
+    let is =
+    inv.rest
+    ∙ ap (λ v. (v, []))
+    (next_from (λ d. Root (new_root k.fresh_root d)) key (c.args.first + (i + 1)) (c.args.keys - i) (c.args.keys - (i + 1))
+    (omega arith) (omega arith)) in
     let own = c.split_seat-own.result in
-    let seen = root_seen g.K.Kind.no_pass g.K.Kind.no_root own.me (new_root k.fresh_root key) (dealt_out c.loop-i.seat.me r rs is own.me c.split_seat-own.ensures.4) in
+    let seen =
+    root_seen g.K.Kind.no_pass g.K.Kind.no_root own.me (new_root k.fresh_root key)
+    (dealt_out c.loop-i.seat.me r rs is own.me c.split_seat-own.ensures.4) in
     let table = c.split_seat-own.ensures.3 ∙ inv.table in
     record {
       table = c.split_seat-own.ensures.0 ∙ inv.table;
@@ -71,5 +85,6 @@ loop-i-preserved g c =
       len = omega (arith, c.push_reserved.ensures.len, inv.len);
       room = omega (arith, c.push_reserved.ensures.capacity, inv.room);
       each = λ j near. ap (λ qs. slice_get qs j) c.push_reserved.ensures.items
-          ∙ get_more (λ d. root_at k c.args.shared.now.table_id (c.args.first + d)) c.loop-i.roots.items _ i (omega (arith, inv.len)) inv.each (λ d. record { table = table d; root = seen d }) j near;
+          ∙ get_more (λ d. root_at k c.args.shared.now.table_id (c.args.first + d)) c.loop-i.roots.items _ i
+          (omega (arith, inv.len)) inv.each (λ d. record { table = table d; root = seen d }) j near;
     }

@@ -31,7 +31,8 @@ loop-pass-preserved g c =
     record {
       free = parts.0;
       moved = ap (λ ps. left ++ reverse ps) (ap (map pass_view_shown) c.push_reserved.ensures.items
-          ∙ (map-append pass_view_shown c.loop-pass.rights.items (right ∷ []) ∙ ap (λ p. map pass_view_shown c.loop-pass.rights.items ++ p ∷ [])
+          ∙ (map-append pass_view_shown c.loop-pass.rights.items (right ∷ [])
+          ∙ ap (λ p. map pass_view_shown c.loop-pass.rights.items ++ p ∷ [])
           (sym same)))
           ∙ moves_on c.loop-pass.passes.items left c.in-Some.pass
           (map pass_view_shown c.loop-pass.rights.items) c.args.passes.items c.in-Some.ensures.items inv.moved;

@@ -10,4 +10,5 @@ loop-bucket-preserved g c = all_left (λ i b. AgreesClosed g.R.Root.view b) _ _ 
 
 pub discard-requires : goal.discard-requires
 discard-requires g c =
-    closed_spent g.R.Root.view c.in-Some.bucket _ (last_out (λ i b. AgreesClosed g.R.Root.view b) _ _ _ _ c.pop.ensures.items c.in-Some.is c.loop-bucket.invariant) c.close.ensures
+    closed_spent g.R.Root.view c.in-Some.bucket _
+    (last_out (λ i b. AgreesClosed g.R.Root.view b) _ _ _ _ c.pop.ensures.items c.in-Some.is c.loop-bucket.invariant) c.close.ensures

@@ -3,10 +3,12 @@ use Rattle.lot_table.proofs.fresh.fresh_bucket.Goals as goal
 
 pub spaced-requires : goal.spaced-requires
 spaced-requires g c =
-    last_fits g.row.R.Denot c.args.size c.args.number c.args.keys c.saturating_sub.result c.div_ceil-count.result c.requires c.saturating_sub.ensures c.div_ceil-count.ensures
+    last_fits g.row.R.Denot c.args.size c.args.number c.args.keys c.saturating_sub.result c.div_ceil-count.result c.requires
+    c.saturating_sub.ensures c.div_ceil-count.ensures
     18446744073709551616 c.ranges.number.fits c.ranges.keys.fits
 
 pub returns : goal.returns
 returns g c =
-    fresh_made g.row.R.Denot c.args.size c.args.number c.args.keys c.saturating_sub.result c.div_ceil-count.result c.requires c.saturating_sub.ensures c.div_ceil-count.ensures
+    fresh_made g.row.R.Denot c.args.size c.args.number c.args.keys c.saturating_sub.result c.div_ceil-count.result c.requires
+    c.saturating_sub.ensures c.div_ceil-count.ensures
     c.args.threads c.in_ok-spaced.field-0 c.in_ok-spaced.ensures

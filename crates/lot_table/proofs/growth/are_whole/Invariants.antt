@@ -9,5 +9,6 @@ abbrev pub invariant-loop-number : goal.invariant-loop-number
 invariant-loop-number g l = record {
   few : l.waiting ≤ l.threads;
   sum : l.waiting ≡ queued (take l.number (under l.guards));
-  whole : (i : ℕ) (d : Contents g.row.R.Denot) → i < l.number → IsWhole g.R.Root.view (length l.guards) i l.keys (get_or (under l.guards) i d);
+  whole : (i : ℕ) (d : Contents g.row.R.Denot) → i < l.number
+      → IsWhole g.R.Root.view (length l.guards) i l.keys (get_or (under l.guards) i d);
 }

@@ -2,4 +2,5 @@ use Rattle.std.proofs.Common.{refl}
 use Rattle.lot_table.proofs.growth.grow_with.Goals as goal
 
 pub move_over-requires-clause-fresh : goal.move_over-requires-clause-fresh
-move_over-requires-clause-fresh g c κs within = (c.args.threads, c.requires.fresh, rw (← c.as_slice.ensures.value) (c.if-not-are_whole.ensures.few refl))
+move_over-requires-clause-fresh g c κs within =
+    (c.args.threads, c.requires.fresh, rw (← c.as_slice.ensures.value) (c.if-not-are_whole.ensures.few refl))

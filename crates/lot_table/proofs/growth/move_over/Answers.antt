@@ -21,7 +21,14 @@ regrow-requires-after_bounds g c κs within =
       c.args.keys,
       record {
         few = omega arith;
-        some_old = omega (arith, length-under c.args.guards.items, ap (λ (bs : List (Contents g.row.R.Denot)). length bs) (taken g at), c.args.guards.ok.0, c.requires.some);
+        some_old =
+            omega (
+              arith,
+              length-under c.args.guards.items,
+              ap (λ (bs : List (Contents g.row.R.Denot)). length bs) (taken g at),
+              c.args.guards.ok.0,
+              c.requires.some,
+            );
         some_new = omega (arith, c.as_mut_slice-3.ensures.len, c.requires.sizes, c.size-size.ensures.count, c.size-size.ensures.some);
         whole = whole g at;
         threads = c.requires.fresh.0;
@@ -34,9 +41,11 @@ pub fill-requires-clause-filled : goal.fill-requires-clause-filled
 fill-requires-clause-filled g c κs within =
     let at = (goal.at.fill-requires-clause-filled g c).After-as_mut_slice-3 in
     let count : length c.regrow.new.new ≡ c.args.fresh.len = omega (arith, c.regrow.auto.new, c.as_mut_slice-3.ensures.len) in
-    rw (lent_whole c.args.fresh.len c.regrow.new.new (drop (length c.regrow.new.new) c.args.fresh.items) count) (c.regrow.ensures.filled c.args.keys (whole g at))
+    rw (lent_whole c.args.fresh.len c.regrow.new.new (drop (length c.regrow.new.new) c.args.fresh.items) count)
+    (c.regrow.ensures.filled c.args.keys (whole g at))
 
 pub spend_empty-requires-after_bounds : goal.spend_empty-requires-after_bounds
 spend_empty-requires-after_bounds g c κs within =
     let count : length c.regrow.new.old ≡ c.take_out.new.old.len = omega (arith, c.regrow.auto.old, c.as_mut_slice-2.ensures.len) in
-    rw (lent_whole c.take_out.new.old.len c.regrow.new.old (drop (length c.regrow.new.old) c.take_out.new.old.items) count) c.regrow.ensures.left
+    rw (lent_whole c.take_out.new.old.len c.regrow.new.old (drop (length c.regrow.new.old) c.take_out.new.old.items) count)
+    c.regrow.ensures.left

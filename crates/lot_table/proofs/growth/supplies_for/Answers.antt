@@ -10,7 +10,8 @@ fresh_buckets-requires-after_bounds g c κs within = omega arith
 
 pub discard_all-requires-after_bounds : goal.discard_all-requires-after_bounds
 discard_all-requires-after_bounds g c κs within i b lt =
-    fresh_spent (length c.in-Ok.fresh.items) i c.args.keys c.args.threads (get_or c.in-Ok.fresh.items i b) (c.in-Ok.ensures.fresh i b (rw (← c.in-Ok.fresh.ok.0) lt))
+    fresh_spent (length c.in-Ok.fresh.items) i c.args.keys c.args.threads (get_or c.in-Ok.fresh.items i b)
+    (c.in-Ok.ensures.fresh i b (rw (← c.in-Ok.fresh.ok.0) lt))
 
 pub returns-in-Ok-with_capacity : goal.returns-in-Ok-with_capacity
 returns-in-Ok-with_capacity g c = record {

@@ -5,7 +5,8 @@ use Rattle.lot_table.proofs.moves.empty_line.Goals as goal
 
 pub loop-thread-smaller : goal.loop-thread-smaller
 loop-thread-smaller g c =
-    moving_smaller c.args.key c.in-Some._thread c.loop-thread.bucket c.dequeue_one.new.self (sym c.dequeue_one.ensures.thread ∙ c.in-Some.is)
+    moving_smaller c.args.key c.in-Some._thread c.loop-thread.bucket c.dequeue_one.new.self
+    (sym c.dequeue_one.ensures.thread ∙ c.in-Some.is)
     (taken_never c.args.key _ c.loop-thread.bucket c.dequeue_one.new.self c.dequeue_one.result refl c.dequeue_one.ensures)
 
 pub loop-thread-preserved : goal.loop-thread-preserved

@@ -10,7 +10,8 @@ loop-thread-smaller g c =
 
 pub loop-thread-preserved : goal.loop-thread-preserved
 loop-thread-preserved g c =
-    moving_more c.args.key c.in-Some.thread c.args.from.now c.args.to.now c.loop-thread.from c.loop-thread.to c.dequeue_one.new.self c.enqueue.new.self c.loop-thread.invariant
+    moving_more c.args.key c.in-Some.thread c.args.from.now c.args.to.now c.loop-thread.from c.loop-thread.to c.dequeue_one.new.self
+    c.enqueue.new.self c.loop-thread.invariant
     (sym c.dequeue_one.ensures.thread ∙ c.in-Some.is)
     (taken_never c.args.key _ c.loop-thread.from c.dequeue_one.new.self c.dequeue_one.result refl c.dequeue_one.ensures)
     c.enqueue.ensures

@@ -1,5 +1,6 @@
 use Rattle.std.proofs.Common.{◌<◌, arith, sym}
-use Rattle.lot_table.proofs.Moving.{AreMoved, moved_begins, moved_more, moved_ends, moved_lines, moved_filled_for, moved_empty, is_key, no_key, may_root, may_has, may_free, may_room}
+use Rattle.lot_table.proofs.Moving.{AreMoved, moved_begins, moved_more, moved_ends, moved_lines, moved_filled_for, moved_empty, is_key}
+use Rattle.lot_table.proofs.Moving.{no_key, may_root, may_has, may_free, may_room}
 use Rattle.lot_table.proofs.moves.regrow.Given.{Over}
 use Rattle.lot_table.proofs.moves.regrow.Goals.{Then-not-has_key, Else-not-has_key, After-loop-key}
 use Rattle.lot_table.proofs.moves.regrow.Goals as goal
@@ -12,14 +13,17 @@ loop-key-init g c = record {
 
 below : (g : Over) (c : Else-not-has_key g) → c.loop-key.key < c.requires.0
 below g c =
-    is_key g.R.Root.view c.requires.0 c.args.old.now c.args.new.now c.requires.1 c.loop-key.key c.loop-key.old c.loop-key.new c.loop-key.invariant.moved
+    is_key g.R.Root.view c.requires.0 c.args.old.now c.args.new.now c.requires.1 c.loop-key.key c.loop-key.old c.loop-key.new
+    c.loop-key.invariant.moved
     c.index-old-key.result (sym c.if-not-has_key.ensures)
 
 -- a key was not there, so all were moved
 all : (g : Over) (c : Then-not-has_key g) → AreMoved c.requires.0 c.args.old.now c.args.new.now c.loop-key.old c.loop-key.new
 all g c =
-    moved_ends g.R.Root.view c.requires.0 c.args.old.now c.args.new.now c.requires.1 c.loop-key.key c.loop-key.old c.loop-key.new (c.loop-key.invariant.within c.requires.0 c.requires.1)
-    (no_key g.R.Root.view c.requires.0 c.args.old.now c.args.new.now c.requires.1 c.loop-key.key c.loop-key.old c.loop-key.new c.loop-key.invariant.moved
+    moved_ends g.R.Root.view c.requires.0 c.args.old.now c.args.new.now c.requires.1 c.loop-key.key c.loop-key.old c.loop-key.new
+    (c.loop-key.invariant.within c.requires.0 c.requires.1)
+    (no_key g.R.Root.view c.requires.0 c.args.old.now c.args.new.now c.requires.1 c.loop-key.key c.loop-key.old c.loop-key.new
+    c.loop-key.invariant.moved
     c.index-old-key.result (sym c.if-not-has_key.ensures))
     c.loop-key.invariant.moved
 
@@ -37,22 +41,26 @@ returns-then-not-has_key-clause-left g c =
 
 pub move_key-requires-clause-root : goal.move_key-requires-clause-root
 move_key-requires-clause-root g c κs within =
-    may_root g.R.Root.view c.requires.0 c.args.old.now c.args.new.now c.requires.1 c.loop-key.key c.loop-key.old c.loop-key.new c.loop-key.invariant.moved
+    may_root g.R.Root.view c.requires.0 c.args.old.now c.args.new.now c.requires.1 c.loop-key.key c.loop-key.old c.loop-key.new
+    c.loop-key.invariant.moved
     c.index-old-key-in-loop-key.result c.index-new-key.result (below g (goal.at.move_key-requires-clause-root g c).Else-not-has_key)
 
 pub move_key-requires-clause-has : goal.move_key-requires-clause-has
 move_key-requires-clause-has g c κs within =
-    may_has g.R.Root.view c.requires.0 c.args.old.now c.args.new.now c.requires.1 c.loop-key.key c.loop-key.old c.loop-key.new c.loop-key.invariant.moved
+    may_has g.R.Root.view c.requires.0 c.args.old.now c.args.new.now c.requires.1 c.loop-key.key c.loop-key.old c.loop-key.new
+    c.loop-key.invariant.moved
     c.index-old-key-in-loop-key.result c.index-new-key.result (below g (goal.at.move_key-requires-clause-has g c).Else-not-has_key)
 
 pub move_key-requires-clause-free : goal.move_key-requires-clause-free
 move_key-requires-clause-free g c κs within =
-    may_free g.R.Root.view c.requires.0 c.args.old.now c.args.new.now c.requires.1 c.loop-key.key c.loop-key.old c.loop-key.new c.loop-key.invariant.moved
+    may_free g.R.Root.view c.requires.0 c.args.old.now c.args.new.now c.requires.1 c.loop-key.key c.loop-key.old c.loop-key.new
+    c.loop-key.invariant.moved
     c.index-old-key-in-loop-key.result c.index-new-key.result (below g (goal.at.move_key-requires-clause-free g c).Else-not-has_key)
 
 pub move_key-requires-clause-room : goal.move_key-requires-clause-room
 move_key-requires-clause-room g c κs within =
-    may_room g.R.Root.view c.requires.0 c.args.old.now c.args.new.now c.requires.1 c.loop-key.key c.loop-key.old c.loop-key.new c.loop-key.invariant.moved
+    may_room g.R.Root.view c.requires.0 c.args.old.now c.args.new.now c.requires.1 c.loop-key.key c.loop-key.old c.loop-key.new
+    c.loop-key.invariant.moved
     c.index-old-key-in-loop-key.result c.index-new-key.result (below g (goal.at.move_key-requires-clause-room g c).Else-not-has_key)
 
 pub loop-key-preserved : goal.loop-key-preserved
@@ -62,7 +70,8 @@ loop-key-preserved g c = record {
       c.loop-key.invariant.moved c.index-old-key.result (sym c.if-not-has_key.ensures) in
       omega arith;
   moved =
-      moved_more g.R.Root.view c.requires.0 c.args.old.now c.args.new.now c.requires.1 c.loop-key.key c.loop-key.old c.loop-key.new c.loop-key.invariant.moved
+      moved_more g.R.Root.view c.requires.0 c.args.old.now c.args.new.now c.requires.1 c.loop-key.key c.loop-key.old c.loop-key.new
+      c.loop-key.invariant.moved
       c.index-old-key-in-loop-key.result c.index-new-key.result (below g (goal.at.loop-key-preserved g c).Else-not-has_key)
       c.move_key.new.from c.move_key.new.to c.move_key.ensures.left c.move_key.ensures.come;
 }
@@ -72,7 +81,8 @@ last : (g : Over) (c : After-loop-key g) → AreMoved c.requires.0 c.args.old.no
 last g c =
     let le = c.loop-key.invariant.within c.requires.0 c.requires.1 in
     let few = c.requires.1.few in
-    moved_ends g.R.Root.view c.requires.0 c.args.old.now c.args.new.now c.requires.1 c.loop-key.key c.loop-key.old c.loop-key.new le (omega arith) c.loop-key.invariant.moved
+    moved_ends g.R.Root.view c.requires.0 c.args.old.now c.args.new.now c.requires.1 c.loop-key.key c.loop-key.old c.loop-key.new le
+    (omega arith) c.loop-key.invariant.moved
 
 pub returns-clause-lines : goal.returns-clause-lines
 returns-clause-lines g c =

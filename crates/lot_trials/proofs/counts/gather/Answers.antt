@@ -11,9 +11,12 @@ loop-thread-preserved g c =
     record {
       long = omega (arith, c.push_reserved.ensures.len);
       room = omega (arith, c.push_reserved.ensures.capacity);
-      free = subst (All OwnsNone) (sym c.push_reserved.ensures.items) (All-push OwnsNone c.loop-thread.passes.items c.next_pass-pass.result inv.free c.next_pass-pass.ensures.free);
+      free =
+          subst (All OwnsNone) (sym c.push_reserved.ensures.items)
+          (All-push OwnsNone c.loop-thread.passes.items c.next_pass-pass.result inv.free c.next_pass-pass.ensures.free);
       all = λ t near. subst (Any (λ (p : PassView _). p.thread ≡ t)) (sym c.push_reserved.ensures.items)
-          (all_threads c.loop-thread.passes.items c.next_pass-pass.result c.loop-thread.thread c.next_pass-pass.ensures.thread inv.all t near);
+          (all_threads c.loop-thread.passes.items c.next_pass-pass.result c.loop-thread.thread
+          c.next_pass-pass.ensures.thread inv.all t near);
       same = c.next_pass-pass.ensures.same ∙ inv.same;
     }
 

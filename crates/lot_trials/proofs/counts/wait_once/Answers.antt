@@ -7,5 +7,6 @@ use Rattle.lot_trials.proofs.counts.wait_once.Goals as goal
 pub returns-clause-holding : goal.returns-clause-holding
 returns-clause-holding g c =
     let left = left_all (λ (x y : Count). x.n ≤ y.n) c.args.pass c.args.held c.requires.holding in
-    got_holds _ (one_wait_more (letting_go c.args.pass c.args.held.key c.args.held.value) c.args.cond) c.wait.result.0 c.args.held.key c.wait.result.1
+    got_holds _ (one_wait_more (letting_go c.args.pass c.args.held.key c.args.held.value) c.args.cond) c.wait.result.0
+    c.args.held.key c.wait.result.1
     (record { no_lock = left.no_lock; no_permit = left.no_permit }) c.wait.ensures.gets

@@ -12,8 +12,12 @@ returns-then-took g c =
     let inv = c.loop.invariant in
     let took = rw c.if-took.true at c.notify_one-asked.ensures.counted in
     record {
-      ends = ends_called c.args.lot.now c.args.pass c.loop.pass c.notify_one-asked.result.0 c.requires.free inv.same took c.notify_one-asked.ensures.shape;
-      called = λ none. calls_more c.loop.pass c.notify_one-asked.result.0 1 _ (ap (λ (p : PassView _). p.thread) took) c.notify_one-asked.ensures.made (inv.called none);
+      ends =
+          ends_called c.args.lot.now c.args.pass c.loop.pass c.notify_one-asked.result.0 c.requires.free inv.same took
+          c.notify_one-asked.ensures.shape;
+      called =
+          λ none. calls_more c.loop.pass c.notify_one-asked.result.0 1 _
+          (ap (λ (p : PassView _). p.thread) took) c.notify_one-asked.ensures.made (inv.called none);
     }
 
 pub loop-preserved : goal.loop-preserved
@@ -22,5 +26,7 @@ loop-preserved g c =
     let left = rw c.if-took.false at c.notify_one-asked.ensures.counted in
     record {
       same = left ∙ ap (λ (p : PassView _). record p { made = c.notify_one-asked.result.0.made }) inv.same;
-      called = λ none. calls_more c.loop.pass c.notify_one-asked.result.0 1 _ (ap (λ (p : PassView _). p.thread) left) c.notify_one-asked.ensures.made (inv.called none);
+      called =
+          λ none. calls_more c.loop.pass c.notify_one-asked.result.0 1 _
+          (ap (λ (p : PassView _). p.thread) left) c.notify_one-asked.ensures.made (inv.called none);
     }

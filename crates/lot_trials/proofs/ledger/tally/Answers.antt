@@ -44,7 +44,8 @@ returns-clause-ledger g c =
     let unused = c.requires.unused in
     let none : length before.items ≡ 0 = let n : length before.items ≡ vec_len before = search rules in n ∙ c.requires.room.0 in
     tells_one c.args.lot c.args.first c.args.second a b c.requires.sizes.2 c.requires.sizes.3
-    c.wait_and_call-first.ensures.waited.ends c.wait_and_call-first.ensures.called.ends (unused.0.called, unused.0.woken) (unused.1.called, unused.1.woken) called woken
+    c.wait_and_call-first.ensures.waited.ends c.wait_and_call-first.ensures.called.ends (unused.0.called, unused.0.woken)
+    (unused.1.called, unused.1.woken) called woken
     (subst (λ (ps : List (PassView _)). IsLedgerOf c.args.lot ps called woken)
     (gathered before.items c.push_reserved.new.self.items c.push_reserved-2.new.self.items c.check_apart-first.result a b none
     c.push_reserved.ensures.items c.push_reserved-2.ensures.items c.check_apart-first.ensures.same)
@@ -72,7 +73,8 @@ returns-clause-order g c =
     subst (λ t. IsNotifiedFirst names t c.args.second.thread 1) of_a
     (subst (λ t. IsNotifiedFirst names a.thread t 1) of_b
     (notified_first names a b 1
-    (subst (HasOneRun names) (gathered before.items c.push_reserved.new.self.items c.push_reserved-2.new.self.items c.check_apart-first.result a b none
+    (subst (HasOneRun names)
+    (gathered before.items c.push_reserved.new.self.items c.push_reserved-2.new.self.items c.check_apart-first.result a b none
     c.push_reserved.ensures.items c.push_reserved-2.ensures.items c.check_apart-first.ensures.same) c.close-ledger.ensures.history)
     c.letters_follow.ensures c.requires.sizes.1 (omega (arith, of_a, c.requires.threads.0)) (omega (arith, of_b, c.requires.threads.1))
     c.check_apart-first.ensures.threads waited.waited

@@ -10,7 +10,13 @@ get-requires-clause-thread g c κs within =
     let s = c.sleep_on-pass.result.0 in
     let became = c.sleep_on-pass.result.1 in
     let may : MayEnlist g.N.LotName.locks g.N.LotName.first_sem p c.args.cond c.args.lock =
-    record { cond = (c.requires.cond.0, c.requires.cond.1); lock = c.requires.lock.0; idle = c.requires.idle; holds = c.requires.holds; lies = c.requires.lies } in
+    record {
+      cond = (c.requires.cond.0, c.requires.cond.1);
+      lock = c.requires.lock.0;
+      idle = c.requires.idle;
+      holds = c.requires.holds;
+      lies = c.requires.lies;
+    } in
     let r = rested g.V.Keeps g.N.LotName.locks g.N.LotName.first_sem p s c.args.cond c.args.lock became may c.sleep_on-pass.ensures.slept in
     subst (λ n. n < c.args.parking.now.threads) (sym (same_thread p s c.args.cond c.args.lock became r)) c.requires.thread
 
@@ -20,7 +26,13 @@ get-requires-clause-may g c κs within =
     let s = c.sleep_on-pass.result.0 in
     let became = c.sleep_on-pass.result.1 in
     let may : MayEnlist g.N.LotName.locks g.N.LotName.first_sem p c.args.cond c.args.lock =
-    record { cond = (c.requires.cond.0, c.requires.cond.1); lock = c.requires.lock.0; idle = c.requires.idle; holds = c.requires.holds; lies = c.requires.lies } in
+    record {
+      cond = (c.requires.cond.0, c.requires.cond.1);
+      lock = c.requires.lock.0;
+      idle = c.requires.idle;
+      holds = c.requires.holds;
+      lies = c.requires.lies;
+    } in
     takes g.N.LotName.locks g.N.LotName.first_sem p s c.args.cond c.args.lock became may
     (rested g.V.Keeps g.N.LotName.locks g.N.LotName.first_sem p s c.args.cond c.args.lock became may c.sleep_on-pass.ensures.slept)
 
@@ -30,10 +42,17 @@ returns g c =
     let s = c.sleep_on-pass.result.0 in
     let became = c.sleep_on-pass.result.1 in
     let may : MayEnlist g.N.LotName.locks g.N.LotName.first_sem p c.args.cond c.args.lock =
-    record { cond = (c.requires.cond.0, c.requires.cond.1); lock = c.requires.lock.0; idle = c.requires.idle; holds = c.requires.holds; lies = c.requires.lies } in
+    record {
+      cond = (c.requires.cond.0, c.requires.cond.1);
+      lock = c.requires.lock.0;
+      idle = c.requires.idle;
+      holds = c.requires.holds;
+      lies = c.requires.lies;
+    } in
     let whole : HasWaited g.V.Keeps p c.args.cond c.args.lock became c.get.result =
     has_waited g.V.Keeps p s c.get.result c.args.cond c.args.lock became
-    (rested g.V.Keeps g.N.LotName.locks g.N.LotName.first_sem p s c.args.cond c.args.lock became may c.sleep_on-pass.ensures.slept) c.get.ensures in
+    (rested g.V.Keeps g.N.LotName.locks g.N.LotName.first_sem p s c.args.cond c.args.lock became may c.sleep_on-pass.ensures.slept)
+    c.get.ensures in
     record {
       waited = whole;
       idle = idle_waited g.V.Keeps p c.get.result c.args.cond c.args.lock became c.requires.idle whole;

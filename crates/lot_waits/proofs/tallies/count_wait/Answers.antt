@@ -9,7 +9,8 @@ returns c conds q among kept =
     let l = c.args.locks in
     let place = c.args.cond - l in
     let t = c.args.tallies.value in
-    subst (λ (s : Tallies). AreKept l conds (one_wait_more q c.args.cond) s.called.items c.raise.new.numbers.items) (sym c.deref_mut.ensures.value)
+    subst (λ (s : Tallies). AreKept l conds (one_wait_more q c.args.cond) s.called.items c.raise.new.numbers.items)
+    (sym c.deref_mut.ensures.value)
     (subst (λ (xs : List ℕ). AreKept l conds (one_wait_more q c.args.cond) t.called.items xs)
     (sym (c.raise.ensures
     ∙ ap (λ (s : Tallies). slice_set s.woken.items place (wrap (slice_index s.woken.items place + 1))) c.deref_mut.ensures.value))

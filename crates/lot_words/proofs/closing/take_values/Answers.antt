@@ -9,7 +9,8 @@ pub unreachable-requires : goal.unreachable-requires
 unreachable-requires g c =
     let inv = c.loop-i.invariant in
     let lie = c.requires.lie c.loop-i.i (omega (arith, c.loop-i-test.true, c.slot_count.ensures, inv.len)) in
-    c.in_default.not-Some lie.0 (some-injective c.take.result (Some lie.0) (sym c.take.ensures.value ∙ (ap (λ xs. get_elem? xs c.loop-i.i) inv.items ∙ lie.1)))
+    c.in_default.not-Some lie.0
+    (some-injective c.take.result (Some lie.0) (sym c.take.ensures.value ∙ (ap (λ xs. get_elem? xs c.loop-i.i) inv.items ∙ lie.1)))
 
 pub loop-i-preserved : goal.loop-i-preserved
 loop-i-preserved g c =
@@ -19,7 +20,9 @@ loop-i-preserved g c =
     let others = c.take.ensures.others in
     let same_len : slots_len c.take.new.self.slots ≡ slots_len c.loop-i.closed.slots = others.2 in
     record {
-      left = λ k past near. full_from_here old new c.loop-i.i (slots_len c.loop-i.closed.slots) others.1 inv.left k past (omega (arith, same_len));
+      left =
+          λ k past near. full_from_here old new c.loop-i.i (slots_len c.loop-i.closed.slots) others.1 inv.left k past
+          (omega (arith, same_len));
       taken = emptied_so_far old new c.loop-i.i others.1 inv.taken;
       items = others.0 ∙ inv.items;
       len = same_len ∙ inv.len;

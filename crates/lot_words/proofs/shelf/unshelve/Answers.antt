@@ -15,7 +15,9 @@ loop-slot-preserved g c =
     let last = c.in-Some.ensures.items ∙ ap (λ s. left ++ s ∷ []) c.in-Some-slot.is in
     record {
       full = all_some_init left (Some c.in-Some-slot.value) (subst AllSome last inv.full);
-      moved = ap (λ vs. left ++ filled (reverse vs)) c.push_reserved.ensures.items ∙ takes_one c.loop-slot.slots.items left c.in-Some-slot.value c.loop-slot.values.items c.args.slots.items
+      moved =
+          ap (λ vs. left ++ filled (reverse vs)) c.push_reserved.ensures.items
+          ∙ takes_one c.loop-slot.slots.items left c.in-Some-slot.value c.loop-slot.values.items c.args.slots.items
           last inv.moved;
       count = omega (arith, c.in-Some.ensures.len);
       fits = omega arith;

@@ -10,7 +10,8 @@ pub sleep_swept-slept-requires-clause-may : goal.sleep_swept-slept-requires-clau
 sleep_swept-slept-requires-clause-may g c κs within =
     let two = c.requires.small.0 in
     let three = c.requires.small.2 in
-    may_wait g.N.LotName.locks g.N.LotName.first_sem 0 2 0 c.get-owner.result (omega (arith, two)) (omega (arith, three)) (omega (arith, two))
+    may_wait g.N.LotName.locks g.N.LotName.first_sem 0 2 0 c.get-owner.result (omega (arith, two))
+    (omega (arith, three)) (omega (arith, two))
     (owner_has_it _ 0 0 c.args.zero c.get-owner.result (inl c.requires.calm.0) c.get-owner.ensures)
 
 pub sleep_swept-slept-requires-clause-lowered : goal.sleep_swept-slept-requires-clause-lowered
@@ -30,7 +31,8 @@ get-again-requires-clause-thread g c κs within =
     let first_sem = g.N.LotName.first_sem in
     let has = owner_has_it _ 0 0 c.args.zero c.get-owner.result (inl c.requires.calm.0) c.get-owner.ensures in
     let may = may_wait locks first_sem 0 2 0 c.get-owner.result (omega (arith, two)) (omega (arith, three)) (omega (arith, two)) has in
-    let same = slept_thread _ locks first_sem 2 0 _ c.get-owner.result c.sleep_swept-slept.result.0 may c.sleep_swept-slept.ensures.slept.1 in
+    let same =
+    slept_thread _ locks first_sem 2 0 _ c.get-owner.result c.sleep_swept-slept.result.0 may c.sleep_swept-slept.ensures.slept.1 in
     let zero = has.there.thread in
     let threads = c.requires.sizes.0 in
     omega (arith, same, zero, threads)
@@ -53,7 +55,8 @@ let_go-zero-requires-clause-may g c κs within =
     let first_sem = g.N.LotName.first_sem in
     let has = owner_has_it _ 0 0 c.args.zero c.get-owner.result (inl c.requires.calm.0) c.get-owner.ensures in
     let may = may_wait locks first_sem 0 2 0 c.get-owner.result (omega (arith, two)) (omega (arith, three)) (omega (arith, two)) has in
-    may_free 0 0 c.get-again.result (slept_has_it _ locks first_sem 0 2 0 _ c.get-owner.result c.sleep_swept-slept.result.0 c.get-again.result
+    may_free 0 0 c.get-again.result
+    (slept_has_it _ locks first_sem 0 2 0 _ c.get-owner.result c.sleep_swept-slept.result.0 c.get-again.result
     has may c.sleep_swept-slept.ensures.slept.1 c.get-again.ensures)
 
 pub returns : goal.returns

@@ -3,5 +3,6 @@ use Rattle.lot_sync.specs.Lot.{◌≈◌, one_permit_more}
 use Rattle.gallery.proofs.connections.Pool.take_out.Given as goal
 
 abbrev pub invariant-loop : goal.invariant-loop
-invariant-loop g l = (goal.iterator-loop g).can_next l.iterator' × (goal.iterator-loop g).is_finite l.iterator' × (l.pass ≈ one_permit_more l.fn.pass 2)
+invariant-loop g l =
+    (goal.iterator-loop g).can_next l.iterator' × (goal.iterator-loop g).is_finite l.iterator' × (l.pass ≈ one_permit_more l.fn.pass 2)
     × (l.key < 2)

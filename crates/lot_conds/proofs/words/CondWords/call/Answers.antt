@@ -22,10 +22,12 @@ load_both-pass-requires-clause-allows c =
     let n = c.args.count in
     let size = c.self.inside.words.key in
     both_at_place (meaning size) (word_at q.key) _ c.word-word.ensures.is (λ n. n) p q (λ _. Calls p q n c.args.more)
-    (call_loads size p q c.requires.calm n c.args.more c.requires.count c.requires.more c.if-more.true (subst (λ k. 0 < k) (sym c.requires.taken) c.if-taken-gt0.true))
+    (call_loads size p q c.requires.calm n c.args.more c.requires.count c.requires.more c.if-more.true
+    (subst (λ k. 0 < k) (sym c.requires.taken) c.if-taken-gt0.true))
 
 pub load_both-pass-requires-clause-names : goal.load_both-pass-requires-clause-names
-load_both-pass-requires-clause-names c n p' q' told u h = inl (call_names c.args.root.root.own q'.own c.args.count u (ap (λ (z : RootRight CondRootView). z.own) told.1) h)
+load_both-pass-requires-clause-names c n p' q' told u h =
+    inl (call_names c.args.root.root.own q'.own c.args.count u (ap (λ (z : RootRight CondRootView). z.own) told.1) h)
 
 pub store_both-requires-clause-allows : goal.store_both-requires-clause-allows
 store_both-requires-clause-allows c =
@@ -41,13 +43,17 @@ store_both-requires-clause-allows c =
     (call_stores size p q c.requires.calm n c.args.more c.requires.count c.requires.more last)
 
 pub store_both-requires-clause-names : goal.store_both-requires-clause-names
-store_both-requires-clause-names c n p' q' told u h = inl (call_names c.args.root.root.own q'.own c.args.count u (ap (λ (z : RootRight CondRootView). z.own) told.1) h)
+store_both-requires-clause-names c n p' q' told u h =
+    inl (call_names c.args.root.root.own q'.own c.args.count u (ap (λ (z : RootRight CondRootView). z.own) told.1) h)
 
 pub returns-then-taken-gt0-clause-event : goal.returns-then-taken-gt0-clause-event
 returns-then-taken-gt0-clause-event c =
     let p = c.args.pass.pass in
     let q = c.args.root.root in
-    subst (λ k. Notes p (called_more p.own q.key k) (Makes (Call p.thread q.key c.args.count c.args.more) (Count k)) c.load_both-pass.result.0.pass) c.requires.taken c.load_both-pass.ensures.told.0
+    subst
+    (λ k. Notes p (called_more p.own q.key k)
+    (Makes (Call p.thread q.key c.args.count c.args.more) (Count k)) c.load_both-pass.result.0.pass) c.requires.taken
+    c.load_both-pass.ensures.told.0
 
 pub returns-then-taken-gt0-clause-root : goal.returns-then-taken-gt0-clause-root
 returns-then-taken-gt0-clause-root c = c.load_both-pass.ensures.told.1
@@ -56,7 +62,9 @@ pub returns-else-more-clause-event : goal.returns-else-more-clause-event
 returns-else-more-clause-event c =
     let p = c.args.pass.pass in
     let q = c.args.root.root in
-    subst (λ k. Notes p (called_more p.own q.key k) (Makes (Call p.thread q.key c.args.count c.args.more) (Count k)) c.store_both.result.0.pass) c.requires.taken c.store_both.ensures.told.0
+    subst
+    (λ k. Notes p (called_more p.own q.key k) (Makes (Call p.thread q.key c.args.count c.args.more) (Count k)) c.store_both.result.0.pass)
+    c.requires.taken c.store_both.ensures.told.0
 
 pub returns-else-more-clause-root : goal.returns-else-more-clause-root
 returns-else-more-clause-root c = c.store_both.ensures.told.1

@@ -15,10 +15,16 @@ free-requires c k near = absurd (let none = c.self.inside.no_slots in let full =
 pub returns-clause-balanced : goal.returns-clause-balanced
 returns-clause-balanced c =
     let size = c.self.inside.words.key in
-    let all = subst (λ (z : CondWordsShown). (t : ℕ) → t < z.size.threads → Any (λ (p : PassShown CondPassView). p.pass.thread ≡ t) c.args.passes.items) (sym c.self.view_is) c.requires.passes in
-    balanced size c.args.passes.items c.args.roots.items (slots_items c.close.result.words) (slots_items c.close.result.slots) c.close.ensures.ended.left c.requires.idle all
+    let all =
+    subst (λ (z : CondWordsShown). (t : ℕ) → t < z.size.threads
+    → Any (λ (p : PassShown CondPassView). p.pass.thread ≡ t) c.args.passes.items) (sym c.self.view_is) c.requires.passes in
+    balanced size c.args.passes.items c.args.roots.items (slots_items c.close.result.words)
+    (slots_items c.close.result.slots) c.close.ensures.ended.left c.requires.idle all
 
 pub returns-clause-history : goal.returns-clause-history
-returns-clause-history c = told_to c.args.self.size c.args.passes.items c.args.roots.items (slots_items c.close.result.words) (slots_items c.close.result.slots)
-    (subst (λ (z : CondWordsShown). Ended (meaning z.size) c.args.passes.items c.args.roots.items (slots_items c.close.result.words) (slots_items c.close.result.slots)) c.self.view_is
+returns-clause-history c =
+    told_to c.args.self.size c.args.passes.items c.args.roots.items (slots_items c.close.result.words) (slots_items c.close.result.slots)
+    (subst
+    (λ (z : CondWordsShown). Ended (meaning z.size) c.args.passes.items c.args.roots.items (slots_items c.close.result.words)
+    (slots_items c.close.result.slots)) c.self.view_is
     c.close.ensures.ended)

@@ -16,7 +16,8 @@ store_both-requires-clause-allows c =
     both_at_place (meaning size) (word_at q.key) _ c.word-word.ensures.is (λ _. 1) p q (λ _. Enlists p q) (enlists size p q c.requires.calm)
 
 pub store_both-requires-clause-names : goal.store_both-requires-clause-names
-store_both-requires-clause-names c n p' q' told u h = enlist_names c.args.root.root.own q'.own c.args.pass.pass.thread u (ap (λ (z : RootRight CondRootView). z.own) told.1) h
+store_both-requires-clause-names c n p' q' told u h =
+    enlist_names c.args.root.root.own q'.own c.args.pass.pass.thread u (ap (λ (z : RootRight CondRootView). z.own) told.1) h
 
 pub returns-clause-event : goal.returns-clause-event
 returns-clause-event c = c.store_both.ensures.told.0

@@ -13,7 +13,8 @@ store-requires-clause-allows c =
     let p = c.args.pass.pass in
     let size = c.self.inside.words.key in
     let among = subst (λ (z : CondWordsShown). IsAmongConds z.size.locks z.size.conds key) (sym c.self.view_is) c.requires.key in
-    pass_at_place (meaning size) (word_at key) _ c.word_of_key.ensures (λ _. 0) p (λ _. Lowers p key) (lowers size p key among c.requires.calm)
+    pass_at_place (meaning size) (word_at key) _ c.word_of_key.ensures (λ _. 0) p (λ _. Lowers p key)
+    (lowers size p key among c.requires.calm)
 
 pub returns-clause-event : goal.returns-clause-event
 returns-clause-event c = c.store.ensures.told

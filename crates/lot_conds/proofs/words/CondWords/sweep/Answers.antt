@@ -18,16 +18,19 @@ load_both-pass-requires-clause-allows c =
     let p = c.args.pass.pass in
     let q = c.args.root.root in
     let size = c.self.inside.words.key in
-    both_at_place (meaning size) (word_at q.key) _ c.word-word.ensures.is (λ n. n) p q (λ _. Sweeps p q) (sweeps size p q c.requires.lowered.1)
+    both_at_place (meaning size) (word_at q.key) _ c.word-word.ensures.is (λ n. n) p q (λ _. Sweeps p q)
+    (sweeps size p q c.requires.lowered.1)
 
 pub load_both-pass-requires-clause-names : goal.load_both-pass-requires-clause-names
-load_both-pass-requires-clause-names c n p' q' told u h = inl (sweep_names c.args.root.root.own q'.own u (ap (λ (z : RootRight CondRootView). z.own) told.1) h)
+load_both-pass-requires-clause-names c n p' q' told u h =
+    inl (sweep_names c.args.root.root.own q'.own u (ap (λ (z : RootRight CondRootView). z.own) told.1) h)
 
 pub returns-clause-event : goal.returns-clause-event
 returns-clause-event c =
     let p = c.args.pass.pass in
     let q = c.args.root.root in
-    subst (λ n. Notes p (swept_pass p.own q.key n) (Makes (Sweep p.thread q.key) (Count n)) c.load_both-pass.result.0.pass) c.requires.taken c.load_both-pass.ensures.told.0
+    subst (λ n. Notes p (swept_pass p.own q.key n) (Makes (Sweep p.thread q.key) (Count n)) c.load_both-pass.result.0.pass) c.requires.taken
+    c.load_both-pass.ensures.told.0
 
 pub returns-clause-root : goal.returns-clause-root
 returns-clause-root c = c.load_both-pass.ensures.told.1

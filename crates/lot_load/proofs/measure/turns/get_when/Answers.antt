@@ -21,7 +21,9 @@ loop-preserved g c =
       tt,
       record {
         key = gets.key_is ∙ inv.key;
-        holding = got_holds _ (one_wait_more (letting_go c.loop.pass c.loop.held.key c.loop.held.value) _) c.wait-woken.result.0 c.loop.held.key c.wait-woken.result.1
+        holding =
+            got_holds _ (one_wait_more (letting_go c.loop.pass c.loop.held.key c.loop.held.value) _) c.wait-woken.result.0
+            c.loop.held.key c.wait-woken.result.1
             (record { no_lock = left.no_lock; no_permit = left.no_permit }) gets;
       },
     )

@@ -9,7 +9,11 @@ loop-init g c =
     let gets = c.lock-pass.ensures.gets in (
       tt,
       tt,
-      record { key = gets.key_is; kept = gets.kept; holding = got_holds _ c.args.pass c.lock-pass.result.0 0 c.lock-pass.result.1 c.requires.free gets },
+      record {
+        key = gets.key_is;
+        kept = gets.kept;
+        holding = got_holds _ c.args.pass c.lock-pass.result.0 0 c.lock-pass.result.1 c.requires.free gets;
+      },
     )
 
 pub loop-preserved : goal.loop-preserved
@@ -22,7 +26,9 @@ loop-preserved g c =
       record {
         key = gets.key_is ∙ inv.key;
         kept = gets.kept;
-        holding = got_holds _ (one_wait_more (letting_go c.loop.pass c.loop.held.key c.loop.held.value) c.args.cond) c.wait-woken.result.0 c.loop.held.key c.wait-woken.result.1
+        holding =
+            got_holds _ (one_wait_more (letting_go c.loop.pass c.loop.held.key c.loop.held.value) c.args.cond) c.wait-woken.result.0
+            c.loop.held.key c.wait-woken.result.1
             (record { no_lock = left.no_lock; no_permit = left.no_permit }) gets;
       },
     )

@@ -26,7 +26,8 @@ returns-clause-used c =
 pub returns-clause-free : goal.returns-clause-free
 returns-clause-free c =
     let done = append c.self.inside c.args.self.now (c.self.invariant, c.self.view_is) c.requires in
-    rw (spare_is (done.after c.index.result.now c.index.ensures)) (free_first c.self.inside c.args.self.now (c.self.invariant, c.self.view_is) c.requires)
+    rw (spare_is (done.after c.index.result.now c.index.ensures))
+    (free_first c.self.inside c.args.self.now (c.self.invariant, c.self.view_is) c.requires)
 
 pub returns-clause-place : goal.returns-clause-place
 returns-clause-place c =

@@ -7,7 +7,8 @@ use Rattle.lot_places.proofs.links.Links.new.Goals as goal
 pub loop-place-preserved : goal.loop-place-preserved
 loop-place-preserved c =
     let place = c.loop-place.place in
-    c.in_ok-push.ensures.items ∙ ap (λ (xs : List ℕ). xs ++ (place + 1) ∷ []) c.loop-place.invariant ∙ range_with_len-push 1 place (place + 1) (omega arith)
+    c.in_ok-push.ensures.items ∙ ap (λ (xs : List ℕ). xs ++ (place + 1) ∷ []) c.loop-place.invariant
+    ∙ range_with_len-push 1 place (place + 1) (omega arith)
 
 made : (c : In_ok-push-2) → c.push-2.new.self.items ≡ range_with_len 1 c.args.room ++ c.args.room ∷ []
 made c =

@@ -17,5 +17,7 @@ returns-clause-stands c =
     let there = found c.self.inside c.args.self.now c.args.cursor (c.self.invariant, c.self.view_is) c.requires.stands c.requires.more in
     record {
       within = omega (arith, c.requires.more);
-      before = there.reads c.index-before.result.now c.index-before.ensures ∙ sym (last_of_take_more c.args.self.now.room c.args.self.now.used c.args.cursor.passed c.requires.more);
+      before =
+          there.reads c.index-before.result.now c.index-before.ensures
+          ∙ sym (last_of_take_more c.args.self.now.room c.args.self.now.used c.args.cursor.passed c.requires.more);
     }

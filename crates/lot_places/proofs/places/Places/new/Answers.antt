@@ -15,7 +15,8 @@ key_more R keys n slots pushed lt made push =
 pub loop-key-preserved : goal.loop-key-preserved
 loop-key-preserved g c = record {
   made =
-      key_more g.row.R.Denot c.args.keys.now c.loop-key.key-index c.loop-key.slots.items c.push_reserved.new.self.items c.loop-key-test.true c.loop-key.invariant.made
+      key_more g.row.R.Denot c.args.keys.now c.loop-key.key-index c.loop-key.slots.items c.push_reserved.new.self.items c.loop-key-test.true
+      c.loop-key.invariant.made
       c.push_reserved.ensures.items;
   count = omega (arith, c.push_reserved.ensures.len, c.loop-key.invariant.count);
   room = omega (arith, c.push_reserved.ensures.capacity, c.loop-key.invariant.room);
@@ -29,4 +30,6 @@ invariant_of-result g c = (
 )
 
 pub returns : goal.returns
-returns g c = c.loop-key.invariant.made ∙ ap (λ ks. empty_places {R = g.row.R.Denot} ks) (take_all c.loop-key.key-index c.args.keys.now c.loop-key-test.false)
+returns g c =
+    c.loop-key.invariant.made ∙ ap (λ ks. empty_places {R = g.row.R.Denot} ks)
+    (take_all c.loop-key.key-index c.args.keys.now c.loop-key-test.false)

@@ -16,10 +16,12 @@ within c = omega (arith, long c)
 here : (c : After-index) → slice_index_or c.args.self.now.pairs c.loop-cursor.cursor.passed (0, 0) ≡ c.index.result.now
 here c =
     let lying = ap (λ (w : Waiting). w.pairs) c.self.view_is in
-    reads c.self.inside c.args.self.now.pairs lying c.loop-cursor.cursor.passed c.self.invariant (omega arith) c.place.ensures.used c.place.ensures.place c.index.ensures (0, 0)
+    reads c.self.inside c.args.self.now.pairs lying c.loop-cursor.cursor.passed c.self.invariant
+    (omega arith) c.place.ensures.used c.place.ensures.place c.index.ensures (0, 0)
 
 one_more : (c : After-index) → c.index.result.now.1 ≡ c.args.key
-    → length (line_of c.args.key (drop c.loop-cursor.cursor.passed c.args.self.now.pairs)) ≡ 1 + length (line_of c.args.key (drop (suc c.loop-cursor.cursor.passed) c.args.self.now.pairs))
+    → length (line_of c.args.key (drop c.loop-cursor.cursor.passed c.args.self.now.pairs)) ≡ 1
+    + length (line_of c.args.key (drop (suc c.loop-cursor.cursor.passed) c.args.self.now.pairs))
 one_more c same =
     let queue = c.args.self.now.pairs in
     let i = c.loop-cursor.cursor.passed in
@@ -27,7 +29,8 @@ one_more c same =
     omega (arith, ap length (line_of-drop_same c.args.key queue i (0, 0) (within c) key))
 
 none_more : (c : After-index) → c.index.result.now.1 ≢ c.args.key
-    → length (line_of c.args.key (drop c.loop-cursor.cursor.passed c.args.self.now.pairs)) ≡ length (line_of c.args.key (drop (suc c.loop-cursor.cursor.passed) c.args.self.now.pairs))
+    → length (line_of c.args.key (drop c.loop-cursor.cursor.passed c.args.self.now.pairs))
+    ≡ length (line_of c.args.key (drop (suc c.loop-cursor.cursor.passed) c.args.self.now.pairs))
 none_more c other =
     let queue = c.args.self.now.pairs in
     let i = c.loop-cursor.cursor.passed in

@@ -15,5 +15,6 @@ returns-clause-line c =
 
 pub returns-clause-left : goal.returns-clause-left
 returns-clause-left c =
-    let few : length (line_of c.args.key c.args.self.now.pairs) ≤ c.len-all.result = omega (arith, line_fits c.args.key c.args.self.now.pairs, c.len-all.ensures.count) in
+    let few : length (line_of c.args.key c.args.self.now.pairs) ≤ c.len-all.result =
+    omega (arith, line_fits c.args.key c.args.self.now.pairs, c.len-all.ensures.count) in
     rw (c.take_count.ensures.left, without_count-all c.len-all.result c.args.key c.args.self.now.pairs few) refl

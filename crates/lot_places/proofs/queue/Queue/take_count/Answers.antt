@@ -16,7 +16,8 @@ within c = omega (arith, length_is c.loop-taken.self-inside (queue c) refl)
 
 here : (c : After-index) → slice_index_or (queue c) c.loop-taken.cursor.passed (0, 0) ≡ c.index.result.now
 here c =
-    reads c.loop-taken.self-inside (queue c) refl c.loop-taken.cursor.passed c.loop-taken.invariant.size (omega arith) c.place.ensures.used c.place.ensures.place c.index.ensures (0, 0)
+    reads c.loop-taken.self-inside (queue c) refl c.loop-taken.cursor.passed c.loop-taken.invariant.size
+    (omega arith) c.place.ensures.used c.place.ensures.place c.index.ensures (0, 0)
 
 pub loop-taken-init : goal.loop-taken-init
 loop-taken-init c =
@@ -32,7 +33,8 @@ loop-taken-init c =
 room : (c : After-index) → c.index.result.now.1 ≡ c.args.key → c.loop-taken.taken < length c.loop-taken.out
 room c same =
     let key : (slice_index_or (queue c) c.loop-taken.cursor.passed (0, 0)).1 ≡ c.args.key = rw (here c) same in
-    room_for_one _ _ _ _ c.loop-taken.out c.loop-taken.cursor.passed _ (0, 0) c.loop-taken-test.true (within c) key c.loop-taken.invariant.taking (omega (arith, c.requires))
+    room_for_one _ _ _ _ c.loop-taken.out c.loop-taken.cursor.passed _ (0, 0) c.loop-taken-test.true
+    (within c) key c.loop-taken.invariant.taking (omega (arith, c.requires))
 
 pub bounds-out-taken : goal.bounds-out-taken
 bounds-out-taken c = room (goal.at.bounds-out-taken c).After-index c.if-waits_on-key.true
@@ -42,12 +44,16 @@ loop-taken-preserved-then-waits_on-key c =
     let at = (goal.at.loop-taken-preserved-then-waits_on-key c).After-index in
     let i = c.loop-taken.cursor.passed in
     let key : (slice_index_or (queue at) i (0, 0)).1 ≡ c.args.key = rw (here at) c.if-waits_on-key.true in
-    let taken = one_taken _ _ _ (queue at) c.loop-taken.out i _ (0, 0) c.loop-taken-test.true (within at) key (room at c.if-waits_on-key.true) c.loop-taken.invariant.taking in
+    let taken =
+    one_taken _ _ _ (queue at) c.loop-taken.out i _ (0, 0) c.loop-taken-test.true (within at) key
+    (room at c.if-waits_on-key.true) c.loop-taken.invariant.taking in
     record {
       stands = c.remove.ensures.stands;
       size = rw c.remove.ensures.left c.loop-taken.invariant.size;
       room = rw c.remove.ensures.left c.loop-taken.invariant.room;
-      taking = rw (c.remove.ensures.left, lying_at-remove c.loop-taken.self-inside.pairs.items c.loop-taken.self-inside.links.used i) (rw (here at) at taken);
+      taking =
+          rw (c.remove.ensures.left, lying_at-remove c.loop-taken.self-inside.pairs.items c.loop-taken.self-inside.links.used i)
+          (rw (here at) at taken);
     }
 
 pub loop-taken-preserved : goal.loop-taken-preserved
@@ -59,15 +65,20 @@ loop-taken-preserved c =
       stands = c.past-cursor.ensures.stands;
       size = c.loop-taken.invariant.size;
       room = c.loop-taken.invariant.room;
-      taking = rw c.past-cursor.ensures.one (passed_on _ _ _ _ c.loop-taken.out i _ (0, 0) c.loop-taken-test.true (within at) key c.loop-taken.invariant.taking);
+      taking =
+          rw c.past-cursor.ensures.one
+          (passed_on _ _ _ _ c.loop-taken.out i _ (0, 0) c.loop-taken-test.true (within at) key c.loop-taken.invariant.taking);
     }
 
 pub returns-else-cursor-len : goal.returns-else-cursor-len
 returns-else-cursor-len c =
     let fields = c.loop-taken.self-inside in
     let queue = lying_at fields.pairs.items fields.links.used in
-    let over : length queue ≤ c.loop-taken.cursor.passed = omega (arith, length_is fields queue refl, c.len.ensures.count, c.if-cursor-len.false) in
-    let done = none_to_pass c.args.key c.args.count c.args.self.now.pairs queue c.loop-taken.out c.loop-taken.cursor.passed c.loop-taken.taken over c.loop-taken.invariant.taking in
+    let over : length queue ≤ c.loop-taken.cursor.passed =
+    omega (arith, length_is fields queue refl, c.len.ensures.count, c.if-cursor-len.false) in
+    let done =
+    none_to_pass c.args.key c.args.count c.args.self.now.pairs queue c.loop-taken.out c.loop-taken.cursor.passed c.loop-taken.taken over
+    c.loop-taken.invariant.taking in
     record { taken = done.number; line = done.line; left = rw (c.loop-taken.invariant.room, done.left) refl }
 
 pub place-requires : goal.place-requires
@@ -93,11 +104,17 @@ returns-after-loop-taken c =
     let fields = c.loop-taken.self-inside in
     let queue = lying_at fields.pairs.items fields.links.used in
     let done =
-    none_to_take c.args.key c.args.count c.args.self.now.pairs queue c.loop-taken.out c.loop-taken.cursor.passed c.loop-taken.taken c.loop-taken-test.false
+    none_to_take c.args.key c.args.count c.args.self.now.pairs queue c.loop-taken.out c.loop-taken.cursor.passed c.loop-taken.taken
+    c.loop-taken-test.false
     c.loop-taken.invariant.taking in
     record { taken = done.number; line = done.line; left = rw (c.loop-taken.invariant.room, done.left) refl }
 
 pub loop-taken-smaller-then-waits_on-key : goal.loop-taken-smaller-then-waits_on-key
 loop-taken-smaller-then-waits_on-key c =
     let more : c.loop-taken.cursor.passed < length c.loop-taken.self-inside.links.used = rw (← c.len.ensures.count) c.if-cursor-len.true in
-    omega (arith, more, ap (λ (row : Row). length row.used) c.remove.ensures.left, length-remove c.loop-taken.self-inside.links.used c.loop-taken.cursor.passed more)
+    omega (
+      arith,
+      more,
+      ap (λ (row : Row). length row.used) c.remove.ensures.left,
+      length-remove c.loop-taken.self-inside.links.used c.loop-taken.cursor.passed more,
+    )

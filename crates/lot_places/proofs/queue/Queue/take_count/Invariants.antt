@@ -10,7 +10,8 @@ invariant-loop-taken l =
       stands : StandsIn l.self-inside.links l.cursor;
       size : length l.self-inside.pairs.items ≡ l.self-inside.links.room;
       room : l.self-inside.links.room ≡ l.fn.self.room;
-      taking : IsTakenTo l.key l.count l.fn.self.pairs (lying_at l.self-inside.pairs.items l.self-inside.links.used) l.out l.cursor.passed l.taken;
+      taking : IsTakenTo l.key l.count l.fn.self.pairs
+          (lying_at l.self-inside.pairs.items l.self-inside.links.used) l.out l.cursor.passed l.taken;
     }
 
 abbrev pub decreases-loop-taken : goal.decreases-loop-taken

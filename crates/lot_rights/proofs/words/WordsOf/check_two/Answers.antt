@@ -11,7 +11,8 @@ join_seat-requires g c =
       ap (λ (x : PassShown _). x.table) c.second.view_is ∙ (c.requires.table.1 ∙ here),
       ap (λ m. m.1) c.second.inside.one,
       c.self.inside.some,
-      joins_rule (g.K.Kind.meaning c.self.inside.table.shared.key) c.first.inside.seat.id c.first.inside.seat.me.0 c.second.inside.seat.id c.second.inside.seat.me.0,
+      joins_rule (g.K.Kind.meaning c.self.inside.table.shared.key) c.first.inside.seat.id c.first.inside.seat.me.0 c.second.inside.seat.id
+          c.second.inside.seat.me.0,
     )
 
 pub load-requires : goal.load-requires
@@ -33,5 +34,6 @@ split_seat-other-requires g c =
     let here = sym (ap (λ (x : WordsShown _). x.table) c.self.view_is) in (
       c.load.ensures.0 ∙ (c.join_seat.ensures.0 ∙ (ap (λ (x : PassShown _). x.table) c.first.view_is ∙ (c.requires.table.0 ∙ here))),
       c.self.inside.some,
-      parts_two (g.K.Kind.meaning c.self.inside.table.shared.key) c.load.new.seat.id c.load.new.seat.me.0 _ _ (ap (λ m. m.0) (c.load.ensures.2.0 ∙ two)),
+      parts_two (g.K.Kind.meaning c.self.inside.table.shared.key) c.load.new.seat.id c.load.new.seat.me.0 _ _
+          (ap (λ m. m.0) (c.load.ensures.2.0 ∙ two)),
     )

@@ -12,6 +12,7 @@ load-found-requires g c =
 pub parted-pass-requires-clause-letters : goal.parted-pass-requires-clause-letters
 parted-pass-requires-clause-letters g c =
     let told = c.load-found.ensures.2 in
-    letters_after g.K.Kind.no_pass g.K.Kind.no_root g.K.Kind.names c.args.root.root c.args.pass.pass.thread _ _ (ap (λ z. z.words) c.load-found.ensures.0) c.joined-seat.ensures.letters
+    letters_after g.K.Kind.no_pass g.K.Kind.no_root g.K.Kind.names c.args.root.root c.args.pass.pass.thread _ _
+    (ap (λ z. z.words) c.load-found.ensures.0) c.joined-seat.ensures.letters
     c.joined-seat.ensures.near.0
     c.load-found.new.seat.me told.0 told.1 told.4 (c.requires.names c.load-found.result told.0 told.1 told.5)

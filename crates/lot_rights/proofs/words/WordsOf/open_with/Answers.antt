@@ -7,5 +7,6 @@ pub new-requires-2 : goal.new-requires-2
 new-requires-2 g c = opens (g.K.Kind.meaning c.args.key.now) c.args.words.now c.args.slots.items c.requires.opens
 
 pub returns-in-Ok-new-clause-rule : goal.returns-in-Ok-new-clause-rule
-returns-in-Ok-new-clause-rule g c = subst (λ key. Begins (g.K.Kind.meaning key) c.args.words.now c.args.slots.items) (sym c.in-Ok-new.ensures.ok.5)
+returns-in-Ok-new-clause-rule g c =
+    subst (λ key. Begins (g.K.Kind.meaning key) c.args.words.now c.args.slots.items) (sym c.in-Ok-new.ensures.ok.5)
     (opens (g.K.Kind.meaning c.args.key.now) c.args.words.now c.args.slots.items c.requires.opens)

@@ -12,6 +12,7 @@ store-requires g c =
 pub parted-requires-clause-letters : goal.parted-requires-clause-letters
 parted-requires-clause-letters g c =
     let told = c.store.ensures.2 in
-    letters_after g.K.Kind.no_pass g.K.Kind.no_root g.K.Kind.names c.args.root.root c.args.pass.pass.thread _ _ (ap (λ z. z.words) c.store.ensures.0) c.joined-seat.ensures.letters
+    letters_after g.K.Kind.no_pass g.K.Kind.no_root g.K.Kind.names c.args.root.root c.args.pass.pass.thread _ _
+    (ap (λ z. z.words) c.store.ensures.0) c.joined-seat.ensures.letters
     c.joined-seat.ensures.near.0
     c.store.new.seat.me told.0 told.1 told.4 (c.requires.names c.args.new told.0 told.1 told.5)

@@ -53,14 +53,16 @@ returns-clause-owes g c =
           ∙ (seen_after cond q w.post_cond.result.root (cond_paid (as_cond q.own) c.args.at) (Posts q.key c.args.at 0)
           w.post_cond.ensures.posted
           ∙ posted_cond q.key c.args.at c.args.token.0 q.own
-          (is_cond g.N.LotName.locks g.N.LotName.first_sem q.key q.own kind (omega (arith, locks, is, from)) (omega (arith, first_sem, is, below))) has)
+          (is_cond g.N.LotName.locks g.N.LotName.first_sem q.key q.own kind (omega (arith, locks, is, from))
+          (omega (arith, first_sem, is, below))) has)
       | else-key-self+else-key-self-2 w ↦
           let from = w.if-key-self.false in
           let above = w.if-key-self-2.false in
           ap (λ (r : RootShown LotRootView). (root_view r).owes) w.root-is
           ∙ (seen_after sem q w.post_sem.result.root (sem_paid (as_sem q.own)) (Posts q.key c.args.at 0) w.post_sem.ensures.posted
           ∙ posted_sem q.key c.args.at c.args.token.0 q.own
-          (is_sem g.N.LotName.locks g.N.LotName.first_sem q.key q.own kind (omega (arith, locks, is, from)) (omega (arith, first_sem, is, above))) has)
+          (is_sem g.N.LotName.locks g.N.LotName.first_sem q.key q.own kind (omega (arith, locks, is, from))
+          (omega (arith, first_sem, is, above))) has)
     ] in
     ap (λ (r : RootShown LotRootView). (root_view r).owes) c.new.ensures
     ∙ (left ∙ ap (λ (r : RootShown LotRootView). without_debt c.args.at c.args.token.0 (root_view r).owes) c.into_root-root.ensures.same)

@@ -4,4 +4,10 @@ use Rattle.lot_sems.proofs.words.SemWords.check_permits.Goals as goal
 
 pub check_two-requires-clause-tells : goal.check_two-requires-clause-tells
 check_two-requires-clause-tells c w ws hs ok first second ne k =
-    omega (arith, ok.sound.permits_conserved k, first.out k, second.out k, two_of _ (w.part.sems.out k) c.args.first.pass.thread c.args.second.pass.thread ne first.near second.near)
+    omega (
+      arith,
+      ok.sound.permits_conserved k,
+      first.out k,
+      second.out k,
+      two_of _ (w.part.sems.out k) c.args.first.pass.thread c.args.second.pass.thread ne first.near second.near,
+    )

@@ -13,7 +13,8 @@ fetch_and_both-pass-requires-clause-allows c =
     let p = c.args.pass.pass in
     let q = c.args.root.root in
     let size = numbers c.self.inside.words.key in
-    both_at_place (meaning size) (word_at q.key) _ c.word-word.ensures.is (λ n. bit_and n (2 ^ 64 - 2)) p q (λ _. Clears p q) (clears size p q c.requires.calm c.requires.nobody)
+    both_at_place (meaning size) (word_at q.key) _ c.word-word.ensures.is (λ n. bit_and n (2 ^ 64 - 2)) p q (λ _. Clears p q)
+    (clears size p q c.requires.calm c.requires.nobody)
 
 pub fetch_and_both-pass-requires-clause-names : goal.fetch_and_both-pass-requires-clause-names
 fetch_and_both-pass-requires-clause-names c n p' q' told u h = inl (subst (λ (z : RootRight SemRootView). names z.own u) told.1 h)

@@ -15,10 +15,13 @@ free-requires c k near = absurd (let none = c.self.inside.no_slots in let full =
 pub returns : goal.returns
 returns c =
     let size = numbers c.self.inside.words.key in
-    let all = subst (λ (z : SemWordsShown). (t : ℕ) → t < z.size.threads → Any (λ (p : PassShown SemPassView). p.pass.thread ≡ t) c.args.passes.items) (sym c.self.view_is) c.requires.passes in
+    let all =
+    subst (λ (z : SemWordsShown). (t : ℕ) → t < z.size.threads → Any (λ (p : PassShown SemPassView). p.pass.thread ≡ t) c.args.passes.items)
+    (sym c.self.view_is) c.requires.passes in
     record {
       history = subst (λ (z : SemWordsShown). IsToldTo z.size c.args.passes.items c.args.roots.items) c.self.view_is
-          (told_to size c.args.passes.items c.args.roots.items (slots_items c.close.result.words) (slots_items c.close.result.slots) c.close.ensures.ended all);
+          (told_to size c.args.passes.items c.args.roots.items (slots_items c.close.result.words)
+          (slots_items c.close.result.slots) c.close.ensures.ended all);
     }
 
 pub close-requires-clause-some : goal.close-requires-clause-some

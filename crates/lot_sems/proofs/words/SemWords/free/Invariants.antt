@@ -7,4 +7,5 @@ abbrev pub ghosts-load : goal.ghosts-load
 ghosts-load a = record { then = Found a.pass.pass a._about }
 
 abbrev pub ghosts-compare_exchange : goal.ghosts-compare_exchange
-ghosts-compare_exchange a = let p = a.pass.pass in record { then = Swaps p a._about (one_permit_less p.own a._about) (SemFree p.thread a._about) a.old }
+ghosts-compare_exchange a =
+    let p = a.pass.pass in record { then = Swaps p a._about (one_permit_less p.own a._about) (SemFree p.thread a._about) a.old }

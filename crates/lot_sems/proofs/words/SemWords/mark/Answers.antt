@@ -14,7 +14,8 @@ compare_exchange-pass-requires-clause-allows c =
     let p = c.args.pass.pass in
     let size = numbers c.self.inside.words.key in
     let among = subst (λ (z : SemWordsShown). IsAmong z.size key) (sym c.self.view_is) c.requires.key in
-    pass_at_place (meaning size) (word_at key) _ c.word_of_key-word.ensures (λ n. either (n == 0) 1 n) p (Marks p key) (marks size p key among c.requires.seeks)
+    pass_at_place (meaning size) (word_at key) _ c.word_of_key-word.ensures (λ n. either (n == 0) 1 n) p (Marks p key)
+    (marks size p key among c.requires.seeks)
 
 pub returns-clause-entry : goal.returns-clause-entry
 returns-clause-entry c = c.compare_exchange-pass.ensures.told

@@ -17,7 +17,8 @@ load_both-pass-requires-clause-allows c =
     both_at_place (meaning size) (word_at q.key) _ c.word-word.ensures.is (λ n. n) p q (Parks p q) (parks size p q c.requires.seeks)
 
 pub load_both-pass-requires-clause-names : goal.load_both-pass-requires-clause-names
-load_both-pass-requires-clause-names c n p' q' told u h = park_names c.args.root.root.own q'.own c.args.pass.pass.thread u _ (ap (λ (z : RootRight SemRootView). z.own) told.1) h
+load_both-pass-requires-clause-names c n p' q' told u h =
+    park_names c.args.root.root.own q'.own c.args.pass.pass.thread u _ (ap (λ (z : RootRight SemRootView). z.own) told.1) h
 
 pub returns-clause-entry : goal.returns-clause-entry
 returns-clause-entry c = c.load_both-pass.ensures.told.0

@@ -20,17 +20,23 @@ fetch_add_both-pass-requires-clause-allows c =
     let q = c.args.root.root in
     let size = numbers c.self.inside.words.key in
     let given = c.raise-given.result in
-    both_at_place (meaning size) (word_at q.key) _ c.word-word.ensures.is (λ n. (n + given) % 2 ^ 64) p q (λ _. Passes p q q.own.line c.args.more)
-    (passes size p q c.requires.may c.requires.first.1 c.args.more c.requires.more given (c.raise-given.ensures ∙ ap (λ o. raise_of o c.args.more) (sym c.requires.first.0)))
+    both_at_place (meaning size) (word_at q.key) _ c.word-word.ensures.is (λ n. (n + given) % 2 ^ 64) p q
+    (λ _. Passes p q q.own.line c.args.more)
+    (passes size p q c.requires.may c.requires.first.1 c.args.more c.requires.more given
+    (c.raise-given.ensures ∙ ap (λ o. raise_of o c.args.more) (sym c.requires.first.0)))
 
 pub fetch_add_both-pass-requires-clause-names : goal.fetch_add_both-pass-requires-clause-names
-fetch_add_both-pass-requires-clause-names c n p' q' told u h = inl (pass_names c.args.root.root.own q'.own u (ap (λ (z : RootRight SemRootView). z.own) told.1) h)
+fetch_add_both-pass-requires-clause-names c n p' q' told u h =
+    inl (pass_names c.args.root.root.own q'.own u (ap (λ (z : RootRight SemRootView). z.own) told.1) h)
 
 pub returns-clause-entry : goal.returns-clause-entry
 returns-clause-entry c =
     let p = c.args.pass.pass in
     let q = c.args.root.root in
-    subst (λ o. Notes p (one_permit_less p.own q.key) (Makes (SemPass p.thread q.key c.args.more) (Sleeper o)) c.fetch_add_both-pass.result.0.pass) c.requires.first.0 c.fetch_add_both-pass.ensures.told.0
+    subst
+    (λ o. Notes p (one_permit_less p.own q.key)
+    (Makes (SemPass p.thread q.key c.args.more) (Sleeper o)) c.fetch_add_both-pass.result.0.pass) c.requires.first.0
+    c.fetch_add_both-pass.ensures.told.0
 
 pub returns-clause-root : goal.returns-clause-root
 returns-clause-root c = c.fetch_add_both-pass.ensures.told.1

@@ -20,7 +20,8 @@ store_root-requires-clause-allows c =
     root_at_place (meaning size) (letter_at t) _ c.letter_of-letter.ensures.is (λ _. 1) q (λ _. Pays q t) (posts size q t c.requires.owes)
 
 pub store_root-requires-clause-names : goal.store_root-requires-clause-names
-store_root-requires-clause-names c n q' told u h = post_names c.args.root.root.own q'.own u (ap (λ (z : RootRight SemRootView). z.own) told.1) h
+store_root-requires-clause-names c n q' told u h =
+    post_names c.args.root.root.own q'.own u (ap (λ (z : RootRight SemRootView). z.own) told.1) h
 
 pub returns-clause-posted : goal.returns-clause-posted
 returns-clause-posted c = c.store_root.ensures.told

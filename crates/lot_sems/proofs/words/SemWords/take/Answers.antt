@@ -22,7 +22,8 @@ take_from-requires-clause-may c =
     let r = c.load-pass.result.0.pass in
     let key = c.args.key in
     let seen = c.load-pass.result.1 in
-    after_look p r key seen (seeks_left p key seen r c.if-seen-lt-PERMIT.false c.load-pass.ensures.told) (λ own. MayTake own key) c.requires.may
+    after_look p r key seen (seeks_left p key seen r c.if-seen-lt-PERMIT.false c.load-pass.ensures.told)
+    (λ own. MayTake own key) c.requires.may
 
 pub returns-then-seen-lt-PERMIT-clause-entries : goal.returns-then-seen-lt-PERMIT-clause-entries
 returns-then-seen-lt-PERMIT-clause-entries c =

@@ -11,10 +11,12 @@ pub returns-clause-pass : goal.returns-clause-pass
 returns-clause-pass g c =
     let got = c.acquire-right.ensures.gets in
     subst (λ v. c.at_rest.result ≈ one_permit_more v c.args.key) (sym c.apart-right.ensures.same)
-    (alike_at c.at_rest.result (one_permit_more (pass_view_of c.apart-right.result.0) c.args.key) c.acquire-right.result.0 c.at_rest.ensures.pass (sees_permit c.apart-right.result.0 c.acquire-right.result.0 c.args.key got.did got.is))
+    (alike_at c.at_rest.result (one_permit_more (pass_view_of c.apart-right.result.0) c.args.key) c.acquire-right.result.0
+    c.at_rest.ensures.pass (sees_permit c.apart-right.result.0 c.acquire-right.result.0 c.args.key got.did got.is))
 
 pub returns-clause-made : goal.returns-clause-made
 returns-clause-made g c =
     let got = c.acquire-right.ensures.gets in
-    adds_at (λ t. GetPermitWord t c.args.key) c.args.pass c.at_rest.result c.apart-right.result.0 c.acquire-right.result.0 got.did c.apart-right.ensures.same c.at_rest.ensures.pass
+    adds_at (λ t. GetPermitWord t c.args.key) c.args.pass c.at_rest.result c.apart-right.result.0 c.acquire-right.result.0 got.did
+    c.apart-right.ensures.same c.at_rest.ensures.pass
     (ap (λ (r : LotStanding g.row.V.Denot). r.did) got.is) got.got

@@ -57,7 +57,8 @@ returns-clause-ledger g c =
 pub returns-clause-history : goal.returns-clause-history
 returns-clause-history g c =
     let rights = c.gather.new.rights.items in
-    let told = subst (λ (z : LotSize). IsToldTo z rights c.unname.new.roots.items) c.into_words.ensures.size c.close-values.ensures.history in
+    let told =
+    subst (λ (z : LotSize). IsToldTo z rights c.unname.new.roots.items) c.into_words.ensures.size c.close-values.ensures.history in
     record {
       rights = rights;
       roots = c.unname.new.roots.items;

@@ -18,5 +18,6 @@ returns-clause-same g c =
 
 pub returns-clause-made : goal.returns-clause-made
 returns-clause-made g c =
-    adds_at (λ t. LookWord t c.args.cond c.has_waiters-right.result.1) c.args.pass c.at_rest.result c.apart-right.result.0 c.has_waiters-right.result.0 _ c.apart-right.ensures.same
+    adds_at (λ t. LookWord t c.args.cond c.has_waiters-right.result.1) c.args.pass c.at_rest.result c.apart-right.result.0
+    c.has_waiters-right.result.0 _ c.apart-right.ensures.same
     c.at_rest.ensures.pass (ap (λ (r : LotStanding g.row.V.Denot). r.did) c.has_waiters-right.ensures.pass) refl

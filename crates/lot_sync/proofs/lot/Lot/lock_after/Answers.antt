@@ -10,18 +10,21 @@ pub taken-requires-clause-owner : goal.taken-requires-clause-owner
 taken-requires-clause-owner g c κs within =
     let same = c.parking.ensures.keys.0 in
     let near = c.requires.key in
-    owns_newly g.V.Keeps _ _ c.apart-right.result.0 c.get-right.result c.args.key (omega (arith, same, near)) c.apart-right.ensures.rest c.get-right.ensures
+    owns_newly g.V.Keeps _ _ c.apart-right.result.0 c.get-right.result c.args.key
+    (omega (arith, same, near)) c.apart-right.ensures.rest c.get-right.ensures
 
 pub returns-clause-gets : goal.returns-clause-gets
 returns-clause-gets g c =
     let same = c.parking.ensures.keys.0 in
     let near = c.requires.key in
     subst (λ p. Gets g.V.Keeps p c.args.key c.taken.result.1 c.taken.result.0) (sym c.apart-right.ensures.same)
-    (gets_all g.V.Keeps _ _ c.apart-right.result.0 c.get-right.result c.taken.result.1 c.args.key (omega (arith, same, near)) c.apart-right.ensures.rest c.get-right.ensures
+    (gets_all g.V.Keeps _ _ c.apart-right.result.0 c.get-right.result c.taken.result.1 c.args.key
+    (omega (arith, same, near)) c.apart-right.ensures.rest c.get-right.ensures
     c.taken.ensures.held.0 c.taken.ensures.held.1 c.taken.result.0 c.taken.ensures.pass)
 
 pub returns-clause-made : goal.returns-clause-made
 returns-clause-made g c =
     let got = c.get-right.ensures in
-    adds_at (λ t. GetWord t c.args.key) c.args.pass c.taken.result.0 c.apart-right.result.0 c.get-right.result got.did c.apart-right.ensures.same c.taken.ensures.pass
+    adds_at (λ t. GetWord t c.args.key) c.args.pass c.taken.result.0 c.apart-right.result.0 c.get-right.result got.did
+    c.apart-right.ensures.same c.taken.ensures.pass
     (ap (λ (r : LotStanding g.row.V.Denot). r.did) got.is) got.got

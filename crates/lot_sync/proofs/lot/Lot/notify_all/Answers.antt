@@ -6,7 +6,8 @@ use Rattle.lot_sync.proofs.lot.Lot.notify_all.Goals as goal
 
 pub at_rest-requires-clause-rest : goal.at_rest-requires-clause-rest
 at_rest-requires-clause-rest g c κs within =
-    rests_called _ _ (λ t. NotifyAllWord t c.args.cond c.notify_all-right.result.1) c.apart-right.result.0 c.notify_all-right.result.0 c.args.cond c.notify_all-right.result.1
+    rests_called _ _ (λ t. NotifyAllWord t c.args.cond c.notify_all-right.result.1) c.apart-right.result.0 c.notify_all-right.result.0
+    c.args.cond c.notify_all-right.result.1
     (took_all c.apart-right.result.0 c.notify_all-right.result.0 c.args.cond c.notify_all-right.result.1 c.notify_all-right.ensures.pass)
     c.apart-right.ensures.rest
 
@@ -17,18 +18,32 @@ at_rest-requires-clause-kept g c κs within =
     let conds = c.parking.ensures.keys.1 in
     let from = c.requires.cond.0 in
     let below = c.requires.cond.1 in
-    let told = took_all c.apart-right.result.0 c.notify_all-right.result.0 c.args.cond c.notify_all-right.result.1 c.notify_all-right.ensures.pass in
-    subst (λ n. AreKept g.N.LotName.locks g.N.LotName.conds n c.count_taken-tallies.result.value.called.items c.count_taken-tallies.result.value.woken.items)
+    let told =
+    took_all c.apart-right.result.0 c.notify_all-right.result.0 c.args.cond c.notify_all-right.result.1 c.notify_all-right.ensures.pass in
+    subst
+    (λ n. AreKept g.N.LotName.locks g.N.LotName.conds n c.count_taken-tallies.result.value.called.items
+    c.count_taken-tallies.result.value.woken.items)
     (sym (ap counts_in told.is))
-    (subst (λ n. AreKept n g.N.LotName.conds (called_more (counts_in c.apart-right.result.0) c.args.cond c.notify_all-right.result.1) c.count_taken-tallies.result.value.called.items c.count_taken-tallies.result.value.woken.items) own
-    (c.count_taken-tallies.ensures g.N.LotName.conds (counts_in c.apart-right.result.0) (omega (arith, own, locks, from), omega (arith, own, locks, below, conds))
-    (subst (λ n. AreKept n g.N.LotName.conds (counts_in c.apart-right.result.0) c.apart-right.result.1.value.called.items c.apart-right.result.1.value.woken.items) (sym own)
+    (subst
+    (λ n. AreKept n g.N.LotName.conds (called_more (counts_in c.apart-right.result.0) c.args.cond c.notify_all-right.result.1)
+    c.count_taken-tallies.result.value.called.items c.count_taken-tallies.result.value.woken.items) own
+    (c.count_taken-tallies.ensures g.N.LotName.conds (counts_in c.apart-right.result.0)
+    (omega (arith, own, locks, from), omega (arith, own, locks, below, conds))
+    (subst
+    (λ n. AreKept n g.N.LotName.conds (counts_in c.apart-right.result.0) c.apart-right.result.1.value.called.items
+    c.apart-right.result.1.value.woken.items) (sym own)
     c.apart-right.ensures.kept)))
 
 pub returns-clause-counted : goal.returns-clause-counted
-returns-clause-counted g c = (sees_more (λ t. NotifyAllWord t c.args.cond c.notify_all-right.result.1) c.apart-right.result.0 c.notify_all-right.result.0 c.at_rest.result c.args.pass c.args.cond c.notify_all-right.result.1
-    c.apart-right.ensures.same c.at_rest.ensures.pass (took_all c.apart-right.result.0 c.notify_all-right.result.0 c.args.cond c.notify_all-right.result.1 c.notify_all-right.ensures.pass)).0
+returns-clause-counted g c =
+    (sees_more (λ t. NotifyAllWord t c.args.cond c.notify_all-right.result.1) c.apart-right.result.0 c.notify_all-right.result.0
+    c.at_rest.result c.args.pass c.args.cond c.notify_all-right.result.1
+    c.apart-right.ensures.same c.at_rest.ensures.pass
+    (took_all c.apart-right.result.0 c.notify_all-right.result.0 c.args.cond c.notify_all-right.result.1 c.notify_all-right.ensures.pass)).0
 
 pub returns-clause-made : goal.returns-clause-made
-returns-clause-made g c = (sees_more (λ t. NotifyAllWord t c.args.cond c.notify_all-right.result.1) c.apart-right.result.0 c.notify_all-right.result.0 c.at_rest.result c.args.pass c.args.cond c.notify_all-right.result.1
-    c.apart-right.ensures.same c.at_rest.ensures.pass (took_all c.apart-right.result.0 c.notify_all-right.result.0 c.args.cond c.notify_all-right.result.1 c.notify_all-right.ensures.pass)).1
+returns-clause-made g c =
+    (sees_more (λ t. NotifyAllWord t c.args.cond c.notify_all-right.result.1) c.apart-right.result.0 c.notify_all-right.result.0
+    c.at_rest.result c.args.pass c.args.cond c.notify_all-right.result.1
+    c.apart-right.ensures.same c.at_rest.ensures.pass
+    (took_all c.apart-right.result.0 c.notify_all-right.result.0 c.args.cond c.notify_all-right.result.1 c.notify_all-right.ensures.pass)).1

@@ -7,8 +7,10 @@ use Rattle.lot_sync.proofs.lot.Lot.notify_one.Goals as goal
 
 pub at_rest-requires-clause-rest : goal.at_rest-requires-clause-rest
 at_rest-requires-clause-rest g c κs within =
-    rests_called _ _ (λ t. NotifyWord t c.args.cond 1 (one_if c.notify_one-right.result.1)) c.apart-right.result.0 c.notify_one-right.result.0 c.args.cond (one_if c.notify_one-right.result.1)
-    (took_some c.apart-right.result.0 c.notify_one-right.result.0 c.args.cond 1 (one_if c.notify_one-right.result.1) c.notify_one-right.ensures.pass)
+    rests_called _ _ (λ t. NotifyWord t c.args.cond 1 (one_if c.notify_one-right.result.1)) c.apart-right.result.0
+    c.notify_one-right.result.0 c.args.cond (one_if c.notify_one-right.result.1)
+    (took_some c.apart-right.result.0 c.notify_one-right.result.0 c.args.cond 1
+    (one_if c.notify_one-right.result.1) c.notify_one-right.ensures.pass)
     c.apart-right.ensures.rest
 
 pub at_rest-requires-clause-kept : goal.at_rest-requires-clause-kept
@@ -20,20 +22,37 @@ at_rest-requires-clause-kept g c κs within =
     let below = c.requires.cond.1 in
     let n = one_if c.notify_one-right.result.1 in
     let told = took_some c.apart-right.result.0 c.notify_one-right.result.0 c.args.cond 1 n c.notify_one-right.ensures.pass in
-    subst (λ q. AreKept g.N.LotName.locks g.N.LotName.conds q c.count_taken-tallies.result.value.called.items c.count_taken-tallies.result.value.woken.items)
+    subst
+    (λ q. AreKept g.N.LotName.locks g.N.LotName.conds q c.count_taken-tallies.result.value.called.items
+    c.count_taken-tallies.result.value.woken.items)
     (sym (ap counts_in told.is))
-    (subst (λ k. AreKept g.N.LotName.locks g.N.LotName.conds (called_more (counts_in c.apart-right.result.0) c.args.cond k) c.count_taken-tallies.result.value.called.items
+    (subst
+    (λ k. AreKept g.N.LotName.locks g.N.LotName.conds
+    (called_more (counts_in c.apart-right.result.0) c.args.cond k) c.count_taken-tallies.result.value.called.items
     c.count_taken-tallies.result.value.woken.items) c.number_of.ensures
-    (subst (λ m. AreKept m g.N.LotName.conds (called_more (counts_in c.apart-right.result.0) c.args.cond c.number_of.result) c.count_taken-tallies.result.value.called.items
+    (subst
+    (λ m. AreKept m g.N.LotName.conds (called_more (counts_in c.apart-right.result.0) c.args.cond c.number_of.result)
+    c.count_taken-tallies.result.value.called.items
     c.count_taken-tallies.result.value.woken.items) own
-    (c.count_taken-tallies.ensures g.N.LotName.conds (counts_in c.apart-right.result.0) (omega (arith, own, locks, from), omega (arith, own, locks, below, conds))
-    (subst (λ m. AreKept m g.N.LotName.conds (counts_in c.apart-right.result.0) c.apart-right.result.1.value.called.items c.apart-right.result.1.value.woken.items) (sym own)
+    (c.count_taken-tallies.ensures g.N.LotName.conds (counts_in c.apart-right.result.0)
+    (omega (arith, own, locks, from), omega (arith, own, locks, below, conds))
+    (subst
+    (λ m. AreKept m g.N.LotName.conds (counts_in c.apart-right.result.0) c.apart-right.result.1.value.called.items
+    c.apart-right.result.1.value.woken.items) (sym own)
     c.apart-right.ensures.kept))))
 
 pub returns-clause-counted : goal.returns-clause-counted
-returns-clause-counted g c = sees_called_one (λ t. NotifyWord t c.args.cond 1 (one_if c.notify_one-right.result.1)) c.apart-right.result.0 c.notify_one-right.result.0 c.at_rest.result c.args.pass c.args.cond c.notify_one-right.result.1
-    c.apart-right.ensures.same c.at_rest.ensures.pass (took_some c.apart-right.result.0 c.notify_one-right.result.0 c.args.cond 1 (one_if c.notify_one-right.result.1) c.notify_one-right.ensures.pass)
+returns-clause-counted g c =
+    sees_called_one (λ t. NotifyWord t c.args.cond 1 (one_if c.notify_one-right.result.1)) c.apart-right.result.0
+    c.notify_one-right.result.0 c.at_rest.result c.args.pass c.args.cond c.notify_one-right.result.1
+    c.apart-right.ensures.same c.at_rest.ensures.pass
+    (took_some c.apart-right.result.0 c.notify_one-right.result.0 c.args.cond 1
+    (one_if c.notify_one-right.result.1) c.notify_one-right.ensures.pass)
 
 pub returns-clause-made : goal.returns-clause-made
-returns-clause-made g c = (sees_more (λ t. NotifyWord t c.args.cond 1 (one_if c.notify_one-right.result.1)) c.apart-right.result.0 c.notify_one-right.result.0 c.at_rest.result c.args.pass c.args.cond
-    (one_if c.notify_one-right.result.1) c.apart-right.ensures.same c.at_rest.ensures.pass (took_some c.apart-right.result.0 c.notify_one-right.result.0 c.args.cond 1 (one_if c.notify_one-right.result.1) c.notify_one-right.ensures.pass)).1
+returns-clause-made g c =
+    (sees_more (λ t. NotifyWord t c.args.cond 1 (one_if c.notify_one-right.result.1)) c.apart-right.result.0 c.notify_one-right.result.0
+    c.at_rest.result c.args.pass c.args.cond
+    (one_if c.notify_one-right.result.1) c.apart-right.ensures.same c.at_rest.ensures.pass
+    (took_some c.apart-right.result.0 c.notify_one-right.result.0 c.args.cond 1
+    (one_if c.notify_one-right.result.1) c.notify_one-right.ensures.pass)).1

@@ -6,8 +6,10 @@ use Rattle.lot_sync.proofs.lot.Lot.notify_some.Goals as goal
 
 pub at_rest-requires-clause-rest : goal.at_rest-requires-clause-rest
 at_rest-requires-clause-rest g c κs within =
-    rests_called _ _ (λ t. NotifyWord t c.args.cond c.args.count c.notify_some-right.result.1) c.apart-right.result.0 c.notify_some-right.result.0 c.args.cond c.notify_some-right.result.1
-    (took_some c.apart-right.result.0 c.notify_some-right.result.0 c.args.cond c.args.count c.notify_some-right.result.1 c.notify_some-right.ensures.pass)
+    rests_called _ _ (λ t. NotifyWord t c.args.cond c.args.count c.notify_some-right.result.1) c.apart-right.result.0
+    c.notify_some-right.result.0 c.args.cond c.notify_some-right.result.1
+    (took_some c.apart-right.result.0 c.notify_some-right.result.0 c.args.cond c.args.count c.notify_some-right.result.1
+    c.notify_some-right.ensures.pass)
     c.apart-right.ensures.rest
 
 pub at_rest-requires-clause-kept : goal.at_rest-requires-clause-kept
@@ -17,18 +19,35 @@ at_rest-requires-clause-kept g c κs within =
     let conds = c.parking.ensures.keys.1 in
     let from = c.requires.cond.0 in
     let below = c.requires.cond.1 in
-    let told = took_some c.apart-right.result.0 c.notify_some-right.result.0 c.args.cond c.args.count c.notify_some-right.result.1 c.notify_some-right.ensures.pass in
-    subst (λ n. AreKept g.N.LotName.locks g.N.LotName.conds n c.count_taken-tallies.result.value.called.items c.count_taken-tallies.result.value.woken.items)
+    let told =
+    took_some c.apart-right.result.0 c.notify_some-right.result.0 c.args.cond c.args.count c.notify_some-right.result.1
+    c.notify_some-right.ensures.pass in
+    subst
+    (λ n. AreKept g.N.LotName.locks g.N.LotName.conds n c.count_taken-tallies.result.value.called.items
+    c.count_taken-tallies.result.value.woken.items)
     (sym (ap counts_in told.is))
-    (subst (λ n. AreKept n g.N.LotName.conds (called_more (counts_in c.apart-right.result.0) c.args.cond c.notify_some-right.result.1) c.count_taken-tallies.result.value.called.items c.count_taken-tallies.result.value.woken.items) own
-    (c.count_taken-tallies.ensures g.N.LotName.conds (counts_in c.apart-right.result.0) (omega (arith, own, locks, from), omega (arith, own, locks, below, conds))
-    (subst (λ n. AreKept n g.N.LotName.conds (counts_in c.apart-right.result.0) c.apart-right.result.1.value.called.items c.apart-right.result.1.value.woken.items) (sym own)
+    (subst
+    (λ n. AreKept n g.N.LotName.conds (called_more (counts_in c.apart-right.result.0) c.args.cond c.notify_some-right.result.1)
+    c.count_taken-tallies.result.value.called.items c.count_taken-tallies.result.value.woken.items) own
+    (c.count_taken-tallies.ensures g.N.LotName.conds (counts_in c.apart-right.result.0)
+    (omega (arith, own, locks, from), omega (arith, own, locks, below, conds))
+    (subst
+    (λ n. AreKept n g.N.LotName.conds (counts_in c.apart-right.result.0) c.apart-right.result.1.value.called.items
+    c.apart-right.result.1.value.woken.items) (sym own)
     c.apart-right.ensures.kept)))
 
 pub returns-clause-counted : goal.returns-clause-counted
-returns-clause-counted g c = (sees_more (λ t. NotifyWord t c.args.cond c.args.count c.notify_some-right.result.1) c.apart-right.result.0 c.notify_some-right.result.0 c.at_rest.result c.args.pass c.args.cond c.notify_some-right.result.1
-    c.apart-right.ensures.same c.at_rest.ensures.pass (took_some c.apart-right.result.0 c.notify_some-right.result.0 c.args.cond c.args.count c.notify_some-right.result.1 c.notify_some-right.ensures.pass)).0
+returns-clause-counted g c =
+    (sees_more (λ t. NotifyWord t c.args.cond c.args.count c.notify_some-right.result.1) c.apart-right.result.0 c.notify_some-right.result.0
+    c.at_rest.result c.args.pass c.args.cond c.notify_some-right.result.1
+    c.apart-right.ensures.same c.at_rest.ensures.pass
+    (took_some c.apart-right.result.0 c.notify_some-right.result.0 c.args.cond c.args.count c.notify_some-right.result.1
+    c.notify_some-right.ensures.pass)).0
 
 pub returns-clause-made : goal.returns-clause-made
-returns-clause-made g c = (sees_more (λ t. NotifyWord t c.args.cond c.args.count c.notify_some-right.result.1) c.apart-right.result.0 c.notify_some-right.result.0 c.at_rest.result c.args.pass c.args.cond c.notify_some-right.result.1
-    c.apart-right.ensures.same c.at_rest.ensures.pass (took_some c.apart-right.result.0 c.notify_some-right.result.0 c.args.cond c.args.count c.notify_some-right.result.1 c.notify_some-right.ensures.pass)).1
+returns-clause-made g c =
+    (sees_more (λ t. NotifyWord t c.args.cond c.args.count c.notify_some-right.result.1) c.apart-right.result.0 c.notify_some-right.result.0
+    c.at_rest.result c.args.pass c.args.cond c.notify_some-right.result.1
+    c.apart-right.ensures.same c.at_rest.ensures.pass
+    (took_some c.apart-right.result.0 c.notify_some-right.result.0 c.args.cond c.args.count c.notify_some-right.result.1
+    c.notify_some-right.ensures.pass)).1

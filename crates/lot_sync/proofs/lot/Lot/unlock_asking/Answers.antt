@@ -12,7 +12,8 @@ use Rattle.lot_sync.proofs.lot.Lot.unlock_asking.Goals as goal
 pub at_rest-requires-clause-rest : goal.at_rest-requires-clause-rest
 at_rest-requires-clause-rest g c κs within =
     let b = c.given_back-right.ensures in
-    rests_free _ _ g.V.Keeps.grows_on c.given_back-right.result.0 c.let_go_asking-right.result.0 c.key-key.result c.args.held.value c.let_go_asking-right.result.1
+    rests_free _ _ g.V.Keeps.grows_on c.given_back-right.result.0 c.let_go_asking-right.result.0 c.key-key.result c.args.held.value
+    c.let_go_asking-right.result.1
     b.locks b.owner b.lies b.grown c.let_go_asking-right.ensures.went
 
 pub returns-clause-pass : goal.returns-clause-pass
@@ -20,16 +21,21 @@ returns-clause-pass g c =
     let b = c.given_back-right.ensures in
     subst (λ k. c.at_rest.result ≈ letting_go c.args.pass k c.args.held.value) c.key-key.ensures
     (subst (λ v. c.at_rest.result ≈ letting_go v c.key-key.result c.args.held.value) b.same
-    (alike_at c.at_rest.result (letting_go (pass_view_of c.given_back-right.result.0) c.key-key.result c.args.held.value) c.let_go_asking-right.result.0 c.at_rest.ensures.pass
-    (leaves_all _ c.given_back-right.result.0 c.let_go_asking-right.result.0 c.key-key.result c.args.held.value b.lies c.let_go_asking-right.ensures.went)))
+    (alike_at c.at_rest.result (letting_go (pass_view_of c.given_back-right.result.0) c.key-key.result c.args.held.value)
+    c.let_go_asking-right.result.0 c.at_rest.ensures.pass
+    (leaves_all _ c.given_back-right.result.0 c.let_go_asking-right.result.0 c.key-key.result c.args.held.value b.lies
+    c.let_go_asking-right.ensures.went)))
 
 pub returns-clause-made : goal.returns-clause-made
 returns-clause-made g c =
     let went = c.let_go_asking-right.ensures.went in
-    subst (λ k. Adds c.args.pass.made (FreeWord c.args.pass.thread k c.let_go_asking-right.result.1) c.at_rest.result.made) c.key-key.ensures
-    (adds_at (λ t. FreeWord t c.key-key.result c.let_go_asking-right.result.1) c.args.pass c.at_rest.result c.given_back-right.result.0 c.let_go_asking-right.result.0 went.did
+    subst
+    (λ k. Adds c.args.pass.made (FreeWord c.args.pass.thread k c.let_go_asking-right.result.1) c.at_rest.result.made) c.key-key.ensures
+    (adds_at (λ t. FreeWord t c.key-key.result c.let_go_asking-right.result.1) c.args.pass c.at_rest.result c.given_back-right.result.0
+    c.let_go_asking-right.result.0 went.did
     (sym c.given_back-right.ensures.same) c.at_rest.ensures.pass (ap (λ (r : LotStanding g.row.V.Denot). r.did) went.is) went.freed)
 
 pub returns-clause-seen : goal.returns-clause-seen
 returns-clause-seen g c =
-    sees_left _ c.args.pass c.at_rest.result c.args.held.key c.args.held.value c.requires.key c.at_rest.ensures.shape (returns-clause-pass g c)
+    sees_left _ c.args.pass c.at_rest.result c.args.held.key c.args.held.value c.requires.key c.at_rest.ensures.shape
+    (returns-clause-pass g c)

@@ -30,37 +30,47 @@ returns-then-freed-clause-freed g c =
     let b = c.given_back-right.ensures in
     subst (λ k. c.at_rest.result ≈ letting_go c.args.pass k c.args.held.value) c.key-key.ensures
     (subst (λ v. c.at_rest.result ≈ letting_go v c.key-key.result c.args.held.value) b.same
-    (alike_at c.at_rest.result (letting_go (pass_view_of c.given_back-right.result.0) c.key-key.result c.args.held.value) c.free_unparked-right.result.0 c.at_rest.ensures.pass
-    (leaves_all _ c.given_back-right.result.0 c.free_unparked-right.result.0 c.key-key.result c.args.held.value b.lies (rw c.if-freed.true at c.free_unparked-right.ensures))))
+    (alike_at c.at_rest.result (letting_go (pass_view_of c.given_back-right.result.0) c.key-key.result c.args.held.value)
+    c.free_unparked-right.result.0 c.at_rest.ensures.pass
+    (leaves_all _ c.given_back-right.result.0 c.free_unparked-right.result.0 c.key-key.result c.args.held.value b.lies
+    (rw c.if-freed.true at c.free_unparked-right.ensures))))
 
 pub returns-else-freed-clause-freed : goal.returns-else-freed-clause-freed
 returns-else-freed-clause-freed g c =
     let b = c.given_back-right.ensures in
     let parked = rw c.if-freed.false at c.free_unparked-right.ensures in
     let same : c.value_out-right.result.1 ≡ c.args.held.value =
-    one_lies c.free_unparked-right.result.0.own.locks.places c.key-key.result c.value_out-right.result.1 c.args.held.value c.value_out-right.ensures.value
+    one_lies c.free_unparked-right.result.0.own.locks.places c.key-key.result c.value_out-right.result.1 c.args.held.value
+    c.value_out-right.ensures.value
     (subst (λ (r : LotStanding g.row.V.Denot). IsIn r.own.locks c.key-key.result c.args.held.value) (sym parked) b.lies) in (
       (λ i. record { key = (c.new.ensures.key ∙ c.key-key.ensures) i; value = (c.new.ensures.value ∙ same) i }),
       subst (λ v. c.at_rest-else-freed.result ≈ v) b.same
-          (alike_at c.at_rest-else-freed.result (pass_view_of c.given_back-right.result.0) c.value_out-right.result.0 c.at_rest-else-freed.ensures.pass
-          (stays_all c.given_back-right.result.0 c.free_unparked-right.result.0 c.value_out-right.result.0 c.key-key.result b.owner.holds parked c.value_out-right.ensures.out)),
+          (alike_at c.at_rest-else-freed.result (pass_view_of c.given_back-right.result.0) c.value_out-right.result.0
+          c.at_rest-else-freed.ensures.pass
+          (stays_all c.given_back-right.result.0 c.free_unparked-right.result.0 c.value_out-right.result.0 c.key-key.result b.owner.holds
+          parked c.value_out-right.ensures.out)),
     )
 
 pub returns-then-freed-clause-made : goal.returns-then-freed-clause-made
 returns-then-freed-clause-made g c =
     let went = rw c.if-freed.true at c.free_unparked-right.ensures in
     subst (λ k. Adds c.args.pass.made (UnparkedWord c.args.pass.thread k true) c.at_rest.result.made) c.key-key.ensures
-    (adds_at (λ t. UnparkedWord t c.key-key.result true) c.args.pass c.at_rest.result c.given_back-right.result.0 c.free_unparked-right.result.0 went.did
-    (sym c.given_back-right.ensures.same) c.at_rest.ensures.pass (ap (λ (r : LotStanding g.row.V.Denot). r.did) went.is) (quiet_word _ _ went.did went.freed))
+    (adds_at (λ t. UnparkedWord t c.key-key.result true) c.args.pass c.at_rest.result c.given_back-right.result.0
+    c.free_unparked-right.result.0 went.did
+    (sym c.given_back-right.ensures.same) c.at_rest.ensures.pass (ap (λ (r : LotStanding g.row.V.Denot). r.did) went.is)
+    (quiet_word _ _ went.did went.freed))
 
 pub returns-else-freed-clause-made : goal.returns-else-freed-clause-made
 returns-else-freed-clause-made g c =
     let parked = rw c.if-freed.false at c.free_unparked-right.ensures in
     subst (λ k. Adds c.args.pass.made (UnparkedWord c.args.pass.thread k false) c.at_rest-else-freed.result.made) c.key-key.ensures
-    (adds_at (λ t. UnparkedWord t c.key-key.result false) c.args.pass c.at_rest-else-freed.result c.given_back-right.result.0 c.value_out-right.result.0 _
+    (adds_at (λ t. UnparkedWord t c.key-key.result false) c.args.pass c.at_rest-else-freed.result c.given_back-right.result.0
+    c.value_out-right.result.0 _
     (sym c.given_back-right.ensures.same) c.at_rest-else-freed.ensures.pass
-    (ap (λ (r : LotStanding g.row.V.Denot). r.did) (c.value_out-right.ensures.out ∙ ap (λ (r : LotStanding g.row.V.Denot). placing r c.key-key.result Out) parked)) refl)
+    (ap (λ (r : LotStanding g.row.V.Denot). r.did)
+    (c.value_out-right.ensures.out ∙ ap (λ (r : LotStanding g.row.V.Denot). placing r c.key-key.result Out) parked)) refl)
 
 pub returns-then-freed-clause-seen : goal.returns-then-freed-clause-seen
 returns-then-freed-clause-seen g c =
-    sees_left _ c.args.pass c.at_rest.result c.args.held.key c.args.held.value c.requires.key c.at_rest.ensures.shape (returns-then-freed-clause-freed g c)
+    sees_left _ c.args.pass c.at_rest.result c.args.held.key c.args.held.value c.requires.key c.at_rest.ensures.shape
+    (returns-then-freed-clause-freed g c)

@@ -7,7 +7,8 @@ use Rattle.lot_table.proofs.version.Version.of.Goals as goal
 pub new-requires-after_bounds : goal.new-requires-after_bounds
 new-requires-after_bounds g c κs within =
     opened_whole g.R.Root.view c.len-size.result c.len-number.result c.args.keys c.in-Some.bucket c.open.new.self
-    (each_last (λ (i : ℕ) (b : Contents g.row.R.Denot). IsFilled g.R.Root.view c.len-size.result i c.args.keys b) c.len-number.result c.pop.new.self.items
+    (each_last (λ (i : ℕ) (b : Contents g.row.R.Denot). IsFilled g.R.Root.view c.len-size.result i c.args.keys b)
+    c.len-number.result c.pop.new.self.items
     c.loop-bucket.filled.items c.in-Some.bucket
     c.in-Some.ensures.items (sym c.pop.new.self.ok.0 ∙ sym c.len-number.ensures) c.loop-bucket.invariant.filled)
     c.open.ensures
@@ -18,6 +19,7 @@ loop-bucket-preserved g c = record {
   room = omega (arith, c.push_reserved.ensures.capacity, c.loop-bucket.invariant.room);
   kept = omega (arith, c.in-Some.ensures.capacity, c.loop-bucket.invariant.kept);
   filled =
-      each_rest (λ (i : ℕ) (b : Contents g.row.R.Denot). IsFilled g.R.Root.view c.len-size.result i c.args.keys b) c.pop.new.self.items c.loop-bucket.filled.items c.in-Some.bucket
+      each_rest (λ (i : ℕ) (b : Contents g.row.R.Denot). IsFilled g.R.Root.view c.len-size.result i c.args.keys b) c.pop.new.self.items
+      c.loop-bucket.filled.items c.in-Some.bucket
       c.in-Some.ensures.items c.loop-bucket.invariant.filled;
 }

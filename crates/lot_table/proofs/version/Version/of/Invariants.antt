@@ -8,7 +8,8 @@ invariant-loop-bucket g l = record {
   count : vec_len l.locks + vec_len l.filled ≡ l.size;
   room : l.size ≤ vec_capacity l.locks;
   kept : vec_capacity l.filled ≡ vec_capacity l.fn.buckets;
-  filled : (i : ℕ) (d : Contents g.row.R.Denot) → i < length l.filled.items → IsFilled g.R.Root.view l.size i l.keys (get_or l.filled.items i d);
+  filled : (i : ℕ) (d : Contents g.row.R.Denot) → i < length l.filled.items
+      → IsFilled g.R.Root.view l.size i l.keys (get_or l.filled.items i d);
 }
 
 abbrev pub decreases-loop-bucket : goal.decreases-loop-bucket

@@ -23,7 +23,8 @@ fetch_and_both-pass-requires-clause-allows g c =
 
 pub fetch_and_both-pass-requires-clause-names : goal.fetch_and_both-pass-requires-clause-names
 fetch_and_both-pass-requires-clause-names g c n p' q' told u h =
-    sem_named c.args.root.root.own q'.own u (u ≡ c.args.pass.pass.thread) c.requires.sem _ (ap (λ (z : RootRight LotRootView). z.own) told.1)
+    sem_named c.args.root.root.own q'.own u (u ≡ c.args.pass.pass.thread) c.requires.sem _
+    (ap (λ (z : RootRight LotRootView). z.own) told.1)
     (λ named. inl named) h
 
 pub returns-clause-entry : goal.returns-clause-entry

@@ -19,7 +19,8 @@ open_with-requires-clause-wide g c =
     let size : Numbers = record { threads = c.args.threads; first_sem = first_sem; permits = c.args.permits.items } in
     let keys : c.len.result ≡ length c.args.permits.items = c.len.ensures ∙ c.args.permits.ok.0 in
     ap (λ ws. length {A = ℕ} ws) (c.as_slice.ensures.value ∙ c.in-Ok.ensures.words)
-    ∙ (opening_long size ∙ ap (λ n. word_count c.args.threads n) (ap (λ n. first_sem + n) (sym keys) ∙ sym (zero-add (first_sem + c.len.result))))
+    ∙ (opening_long size ∙ ap (λ n. word_count c.args.threads n)
+    (ap (λ n. first_sem + n) (sym keys) ∙ sym (zero-add (first_sem + c.len.result))))
 
 pub open_with-requires-clause-opens : goal.open_with-requires-clause-opens
 open_with-requires-clause-opens g c =

@@ -22,7 +22,8 @@ load_both-pass-requires-clause-allows g c =
 
 pub load_both-pass-requires-clause-names : goal.load_both-pass-requires-clause-names
 load_both-pass-requires-clause-names g c n p' q' told u h =
-    sem_named c.args.root.root.own q'.own u (u ≡ c.args.pass.pass.thread) c.requires.sem _ (ap (λ (z : RootRight LotRootView). z.own) told.1)
+    sem_named c.args.root.root.own q'.own u (u ≡ c.args.pass.pass.thread) c.requires.sem _
+    (ap (λ (z : RootRight LotRootView). z.own) told.1)
     (λ named. park_names (sem_of c.args.root.root).own _ c.args.pass.pass.thread u _ refl named) h
 
 pub returns-clause-entry : goal.returns-clause-entry

@@ -31,7 +31,8 @@ fetch_add_both-pass-requires-clause-allows g c =
 
 pub fetch_add_both-pass-requires-clause-names : goal.fetch_add_both-pass-requires-clause-names
 fetch_add_both-pass-requires-clause-names g c n p' q' told u h =
-    sem_named c.args.root.root.own q'.own u (u ≡ c.args.pass.pass.thread) c.requires.sem _ (ap (λ (z : RootRight LotRootView). z.own) told.1)
+    sem_named c.args.root.root.own q'.own u (u ≡ c.args.pass.pass.thread) c.requires.sem _
+    (ap (λ (z : RootRight LotRootView). z.own) told.1)
     (λ named. inl (pass_names (sem_of c.args.root.root).own _ u refl named)) h
 
 pub returns-clause-entry : goal.returns-clause-entry

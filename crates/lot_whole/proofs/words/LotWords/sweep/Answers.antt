@@ -22,7 +22,8 @@ load_both-pass-requires-clause-allows g c =
     let p = c.args.pass.pass in
     let q = c.args.root.root in
     both_at_place (meaning g.V.Keeps start) (word_at q.key) _ c.word-word.ensures.is (λ n. n) p q (λ _. Sweeps p (cond_of q))
-    (subst (λ r. AllowsBoth (meaning g.V.Keeps start) (word_at q.key) (λ n. n) p r (λ _. Sweeps p (cond_of q))) (cond_root q c.requires.cond)
+    (subst (λ r. AllowsBoth (meaning g.V.Keeps start) (word_at q.key) (λ n. n) p r (λ _. Sweeps p (cond_of q)))
+    (cond_root q c.requires.cond)
     (sweeps g.V.Keeps (size_of start) start.values.value.items p (cond_of q) c.requires.lowered))
 
 pub load_both-pass-requires-clause-names : goal.load_both-pass-requires-clause-names

@@ -16,7 +16,9 @@ close-requires-clause-some g c =
 
 pub take_values-requires-clause-lie : goal.take_values-requires-clause-lie
 take_values-requires-clause-lie g c k near =
-    let all = subst (λ (z : LockWordsShown g.row.V.Denot). (t : ℕ) → t < z.size.threads → Any (λ (p : PassShown (LockPassView g.row.V.Denot)). p.pass.thread ≡ t) c.args.passes.items) (sym c.self.view_is)
+    let all =
+    subst (λ (z : LockWordsShown g.row.V.Denot). (t : ℕ) → t < z.size.threads
+    → Any (λ (p : PassShown (LockPassView g.row.V.Denot)). p.pass.thread ≡ t) c.args.passes.items) (sym c.self.view_is)
     c.requires.passes in
     let here : k < c.self.inside.words.key.size.locks = omega (arith, near, c.close.ensures.full.2, c.self.inside.slots_are) in
     last_lies g.V.Keeps c.self.inside.words.key.size c.self.inside.words.key.values.value.items c.args.passes.items c.args.roots.items
@@ -24,23 +26,32 @@ take_values-requires-clause-lie g c k near =
 
 pub returns-clause-found : goal.returns-clause-found
 returns-clause-found g c =
-    let all = subst (λ (z : LockWordsShown g.row.V.Denot). (t : ℕ) → t < z.size.threads → Any (λ (p : PassShown (LockPassView g.row.V.Denot)). p.pass.thread ≡ t) c.args.passes.items) (sym c.self.view_is)
+    let all =
+    subst (λ (z : LockWordsShown g.row.V.Denot). (t : ℕ) → t < z.size.threads
+    → Any (λ (p : PassShown (LockPassView g.row.V.Denot)). p.pass.thread ≡ t) c.args.passes.items) (sym c.self.view_is)
     c.requires.passes in
     let vs = c.take_values.result in
-    let len : length vs.items ≡ c.self.inside.words.key.size.locks = omega (arith, vs.ok, c.take_values.ensures.len, c.close.ensures.full.2, c.self.inside.slots_are) in
+    let len : length vs.items ≡ c.self.inside.words.key.size.locks =
+    omega (arith, vs.ok, c.take_values.ensures.len, c.close.ensures.full.2, c.self.inside.slots_are) in
     last_found g.V.Keeps c.self.inside.words.key.size c.self.inside.words.key.values.value.items c.args.passes.items c.args.roots.items
-    (slots_items c.close.result.words) (slots_items c.close.result.slots) c.close.ensures.ended.left c.requires.idle all vs.items len c.take_values.ensures.each
+    (slots_items c.close.result.words) (slots_items c.close.result.slots) c.close.ensures.ended.left c.requires.idle all vs.items len
+    c.take_values.ensures.each
 
 pub returns-clause-left : goal.returns-clause-left
 returns-clause-left g c =
-    let all = subst (λ (z : LockWordsShown g.row.V.Denot). (t : ℕ) → t < z.size.threads → Any (λ (p : PassShown (LockPassView g.row.V.Denot)). p.pass.thread ≡ t) c.args.passes.items) (sym c.self.view_is)
+    let all =
+    subst (λ (z : LockWordsShown g.row.V.Denot). (t : ℕ) → t < z.size.threads
+    → Any (λ (p : PassShown (LockPassView g.row.V.Denot)). p.pass.thread ≡ t) c.args.passes.items) (sym c.self.view_is)
     c.requires.passes in
     let vs = c.take_values.result in
-    let len : length vs.items ≡ c.self.inside.words.key.size.locks = omega (arith, vs.ok, c.take_values.ensures.len, c.close.ensures.full.2, c.self.inside.slots_are) in
+    let len : length vs.items ≡ c.self.inside.words.key.size.locks =
+    omega (arith, vs.ok, c.take_values.ensures.len, c.close.ensures.full.2, c.self.inside.slots_are) in
     last_seen g.V.Keeps c.self.inside.words.key.size c.self.inside.words.key.values.value.items c.args.passes.items c.args.roots.items
-    (slots_items c.close.result.words) (slots_items c.close.result.slots) c.close.ensures.ended.left c.requires.idle all vs.items len c.take_values.ensures.each
+    (slots_items c.close.result.words) (slots_items c.close.result.slots) c.close.ensures.ended.left c.requires.idle all vs.items len
+    c.take_values.ensures.each
 
 pub returns-clause-history : goal.returns-clause-history
-returns-clause-history g c = subst (λ (z : LockWordsShown g.row.V.Denot). IsToldTo z.size c.args.passes.items c.args.roots.items) c.self.view_is
+returns-clause-history g c =
+    subst (λ (z : LockWordsShown g.row.V.Denot). IsToldTo z.size c.args.passes.items c.args.roots.items) c.self.view_is
     (told_to g.V.Keeps c.self.inside.words.key.size c.self.inside.words.key.values.value.items c.args.passes.items c.args.roots.items
     (slots_items c.close.result.words) (slots_items c.close.result.slots) c.close.ensures.ended)

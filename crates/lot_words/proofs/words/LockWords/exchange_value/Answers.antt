@@ -11,19 +11,22 @@ pub exchange-requires-clause-out : goal.exchange-requires-clause-out
 exchange-requires-clause-out g c =
     let key = c.args.key in
     let here = subst (λ (z : LockWordsShown g.row.V.Denot). key < z.size.locks) (sym c.self.view_is) c.requires.key in
-    leaves g.V.Keeps c.self.inside.words.key.size c.self.inside.words.key.values.value.items c.args.pass.pass key here c.requires.holds c.requires.home.0 c.requires.home.1 c.requires.home.2
+    leaves g.V.Keeps c.self.inside.words.key.size c.self.inside.words.key.values.value.items c.args.pass.pass key here c.requires.holds
+    c.requires.home.0 c.requires.home.1 c.requires.home.2
 
 pub exchange-requires-clause-back : goal.exchange-requires-clause-back
 exchange-requires-clause-back g c =
     let key = c.args.key in
     let here = subst (λ (z : LockWordsShown g.row.V.Denot). key < z.size.locks) (sym c.self.view_is) c.requires.key in
-    comes_back g.V.Keeps c.self.inside.words.key.size c.self.inside.words.key.values.value.items c.args.pass.pass key here c.requires.holds c.args.new c.requires.lawful
+    comes_back g.V.Keeps c.self.inside.words.key.size c.self.inside.words.key.values.value.items c.args.pass.pass key here c.requires.holds
+    c.args.new c.requires.lawful
 
 pub returns-clause-pass : goal.returns-clause-pass
 returns-clause-pass g c =
     let p = c.args.pass.pass in
     let told = c.exchange.ensures.told in
-    let own = told.2 ∙ (ap (λ z. placing z c.args.key (place_of c.args.new)) told.1.0 ∙ placed_twice p.own c.args.key Moving (place_of c.args.new)) in
+    let own =
+    told.2 ∙ (ap (λ z. placing z c.args.key (place_of c.args.new)) told.1.0 ∙ placed_twice p.own c.args.key Moving (place_of c.args.new)) in
     (c.exchange.ensures.table, c.exchange.ensures.same ∙ ap (λ z. let q : PassRight _ = record p { own = z } in q) own)
 
 pub returns-clause-found : goal.returns-clause-found

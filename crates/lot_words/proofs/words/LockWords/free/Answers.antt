@@ -13,8 +13,10 @@ compare_exchange-pass-requires-clause-allows g c =
     let key = c.args.key in
     let p = c.args.pass.pass in
     let here = subst (λ (z : LockWordsShown g.row.V.Denot). key < z.size.locks) (sym c.self.view_is) c.requires.key in
-    pass_at_place (meaning g.V.Keeps start.size start.values.value.items) (word_at key) _ c.word_of_key-word.ensures (λ n. either (n == 1) 0 n) p (Frees p key)
-    (frees g.V.Keeps start.size start.values.value.items p key here c.requires.holds.0 c.requires.holds.1 c.requires.holds.2 c.requires.lies.0 c.requires.lies.1)
+    pass_at_place (meaning g.V.Keeps start.size start.values.value.items) (word_at key) _ c.word_of_key-word.ensures
+    (λ n. either (n == 1) 0 n) p (Frees p key)
+    (frees g.V.Keeps start.size start.values.value.items p key here c.requires.holds.0 c.requires.holds.1 c.requires.holds.2
+    c.requires.lies.0 c.requires.lies.1)
 
 pub returns-clause-event : goal.returns-clause-event
 returns-clause-event g c = c.compare_exchange-pass.ensures.told

@@ -13,7 +13,8 @@ compare_exchange-pass-requires-clause-allows g c =
     let key = c.args.key in
     let p = c.args.pass.pass in
     let here = subst (λ (z : LockWordsShown g.row.V.Denot). key < z.size.locks) (sym c.self.view_is) c.requires.key in
-    pass_at_place (meaning g.V.Keeps start.size start.values.value.items) (word_at key) _ c.word_of_key-word.ensures (λ n. either (n == 1) 3 n) p (Marks p key)
+    pass_at_place (meaning g.V.Keeps start.size start.values.value.items) (word_at key) _ c.word_of_key-word.ensures
+    (λ n. either (n == 1) 3 n) p (Marks p key)
     (marks g.V.Keeps start.size start.values.value.items p key here c.requires.calm.0 c.requires.calm.1)
 
 pub returns-clause-event : goal.returns-clause-event

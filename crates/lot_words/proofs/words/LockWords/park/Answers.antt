@@ -18,7 +18,8 @@ load_both-pass-requires-clause-allows g c =
     (parks g.V.Keeps start.size start.values.value.items p q c.requires.calm.0 c.requires.calm.1)
 
 pub load_both-pass-requires-clause-names : goal.load_both-pass-requires-clause-names
-load_both-pass-requires-clause-names g c n p' q' told u h = park_names c.args.root.root.own q'.own c.args.pass.pass.thread u _ (ap (λ (z : RootRight LockRootView). z.own) told.1) h
+load_both-pass-requires-clause-names g c n p' q' told u h =
+    park_names c.args.root.root.own q'.own c.args.pass.pass.thread u _ (ap (λ (z : RootRight LockRootView). z.own) told.1) h
 
 pub returns-clause-event : goal.returns-clause-event
 returns-clause-event g c = c.load_both-pass.ensures.told.0

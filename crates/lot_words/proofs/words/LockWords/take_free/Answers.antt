@@ -13,7 +13,8 @@ compare_exchange-pass-requires-clause-allows g c =
     let key = c.args.key in
     let p = c.args.pass.pass in
     let here = subst (λ (z : LockWordsShown g.row.V.Denot). key < z.size.locks) (sym c.self.view_is) c.requires.key in
-    pass_at_place (meaning g.V.Keeps start.size start.values.value.items) (word_at key) _ c.word_of_key-place.ensures (λ n. either (n == 0) 1 n) p (TakesFree g.V.Keeps p key)
+    pass_at_place (meaning g.V.Keeps start.size start.values.value.items) (word_at key) _ c.word_of_key-place.ensures
+    (λ n. either (n == 0) 1 n) p (TakesFree g.V.Keeps p key)
     (takes_free g.V.Keeps start.size start.values.value.items p key here c.requires.calm.0 c.requires.calm.1)
 
 pub returns-clause-event : goal.returns-clause-event

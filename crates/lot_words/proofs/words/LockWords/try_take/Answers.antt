@@ -12,7 +12,8 @@ fetch_or-pass-requires-clause-allows g c =
     let key = c.args.key in
     let p = c.args.pass.pass in
     let here = subst (λ (z : LockWordsShown g.row.V.Denot). key < z.size.locks) (sym c.self.view_is) c.requires.key in
-    pass_at_place (meaning g.V.Keeps start.size start.values.value.items) (word_at key) _ c.word_of_key.ensures (λ n. bit_or n 1) p (Tries g.V.Keeps p key)
+    pass_at_place (meaning g.V.Keeps start.size start.values.value.items) (word_at key) _ c.word_of_key.ensures (λ n. bit_or n 1) p
+    (Tries g.V.Keeps p key)
     (tries g.V.Keeps start.size start.values.value.items p key here c.requires.calm.0 c.requires.calm.1)
 
 pub returns-clause-event : goal.returns-clause-event

@@ -6,11 +6,14 @@ use Rattle.lot_words.proofs.Moving.{same_some, placed_at}
 use Rattle.lot_words.proofs.words.LockWords.value_out.Goals as goal
 
 pub unreachable-requires : goal.unreachable-requires
-unreachable-requires g c = c.in_default.not-Some c.requires.lies.0 (c.exchange_value-pass.ensures.found (InSlot c.requires.lies.0) c.requires.lies.1)
+unreachable-requires g c =
+    c.in_default.not-Some c.requires.lies.0 (c.exchange_value-pass.ensures.found (InSlot c.requires.lies.0) c.requires.lies.1)
 
 pub returns-clause-value : goal.returns-clause-value
 returns-clause-value g c =
-    let same = same_some c.requires.lies.0 c.in-Some.value (sym (c.exchange_value-pass.ensures.found (InSlot c.requires.lies.0) c.requires.lies.1) ∙ c.in-Some.is) in
+    let same =
+    same_some c.requires.lies.0 c.in-Some.value
+    (sym (c.exchange_value-pass.ensures.found (InSlot c.requires.lies.0) c.requires.lies.1) ∙ c.in-Some.is) in
     subst (IsIn c.args.pass.pass.own c.args.key) same c.requires.lies.1
 
 pub returns-clause-out : goal.returns-clause-out
