@@ -1,4 +1,2 @@
-pub mod Sums
 pub mod Settling
-pub mod Counting
 pub mod Leasing

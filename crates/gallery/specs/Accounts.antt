@@ -1,10 +1,8 @@
 -- Accounts, and what each worker moved into them and out of them.
-use Rattle.std.specs.Prelude.{◌≡◌, ◌≢◌, ℕ, ◌+◌, List, length, sum, slice_index, slice_set, slice_get, Some}
+use Rattle.std.specs.Prelude.{◌≡◌, ◌≢◌, ℕ, ◌+◌, List, length, map, sum, slice_index, slice_get, Some}
 use mathlib.Core.Option.{some}
 use lib.ListN.{get_elem?}
 use Rattle.std.specs.List.{sum_by}
-use Rattle.lot_sync.specs.Lot.{PassView, HeldView, HasSeen}
-use Rattle.lot_sync.specs.Holding.{HoldingBoth}
 use Rattle.gallery.specs.declared.accounts.Account.{Account}
 use Rattle.gallery.specs.declared.accounts.TheConstants.{ACCOUNTS, WORKERS}
 
@@ -33,6 +31,13 @@ out_by thread account = slice_index account.moved_out thread
 abbrev pub moved_by : ℕ → Account → ℕ × ℕ
 moved_by thread account = (in_by thread account, out_by thread account)
 
+-- of what was moved, what was moved in, and what was moved out
+abbrev pub ins : ℕ × ℕ → ℕ
+ins moved = moved.0
+
+abbrev pub outs : ℕ × ℕ → ℕ
+outs moved = moved.1
+
 -- what lies in the account is what it opened with, with what was moved in, without what was moved out
 pub record IsBooked (account : Account) : Type 0 where
   pub booked : account.balance + sum account.moved_out ≡ account.opening + sum account.moved_in
@@ -42,26 +47,10 @@ pub record IsBooked (account : Account) : Type 0 where
 -- as much as the worker moved into the accounts it moved out of them
 pub record IsEven (thread : ℕ) (accounts : List Account) : Type 0 where
   pub count : length accounts ≡ ACCOUNTS
-  pub even : sum_by (in_by thread) accounts ≡ sum_by (out_by thread) accounts
+  pub even : sum_by ins (map (moved_by thread) accounts) ≡ sum_by outs (map (moved_by thread) accounts)
 
 abbrev pub AreEven : List Account → Type 0
 AreEven accounts = (thread : ℕ) → IsEven thread accounts
-
--- the worker moved the amount out of the account
-pub record MovesOut (thread amount : ℕ) (old new : Account) : Type 0 where
-  pub booked : IsBooked new
-  pub opening : StaysOpenedAs old new
-  pub balance : old.balance ≡ new.balance + amount
-  pub ins : new.moved_in ≡ old.moved_in
-  pub outs : new.moved_out ≡ slice_set old.moved_out thread (slice_index old.moved_out thread + amount)
-
--- the worker moved the amount into the account
-pub record MovesIn (thread amount : ℕ) (old new : Account) : Type 0 where
-  pub booked : IsBooked new
-  pub opening : StaysOpenedAs old new
-  pub balance : new.balance ≡ old.balance + amount
-  pub ins : new.moved_in ≡ slice_set old.moved_in thread (slice_index old.moved_in thread + amount)
-  pub outs : new.moved_out ≡ old.moved_out
 
 -- two accounts of which the worker moved as much into them as out of them
 pub record Settles (thread : ℕ) (from into from' into' : Account) : Type 0 where
@@ -73,13 +62,3 @@ pub record Settles (thread : ℕ) (from into from' into' : Account) : Type 0 whe
   pub others_into : (t : ℕ) → t ≢ thread → moved_by t into ≡ moved_by t into'
   pub even : in_by thread from' + in_by thread into' + (out_by thread from + out_by thread into) ≡ in_by thread from + in_by thread
       into + (out_by thread from' + out_by thread into')
-
--- the worker's pass has both locks, and has seen what it found there; it is even
-pub record HasBoth (thread : ℕ) (first second : HeldView Account) (pass : PassView Account) : Type 0 where
-  pub booked_first : IsBooked first.value
-  pub booked_second : IsBooked second.value
-  pub same_thread : pass.thread ≡ thread
-  pub both : HoldingBoth (λ (x y : Account). Unit {0}) pass first second
-  pub sees_first : HasSeen pass first.key first.value
-  pub sees_second : HasSeen pass second.key second.value
-  pub even : IsEven thread pass.seen

@@ -1,2 +1,5 @@
-mod Visiting
+pub mod Visiting
 mod Waiting
+mod Nesting
+pub mod Sums
+pub mod Working

@@ -1,15 +1,18 @@
 -- A lock that was got, worked on and let go.
-use Rattle.std.proofs.Common.{◌≡◌, ℕ, zero, suc, Bool, true, false, List, [], ◌∷◌, ◌++◌, get_or, set, refl, sym, ap, subst, ◌∙◌}
-use Rattle.std.proofs.Common.{append_assoc}
+use Rattle.std.proofs.Common.{◌≡◌, ℕ, zero, suc, ◌<◌, Bool, true, false, List, [], ◌∷◌, ◌++◌, length, map, get_or, set, refl, sym, ap}
+use Rattle.std.proofs.Common.{subst, ◌∙◌, append_assoc, arith}
+use Rattle.std.proofs.lemmas.List.{get_or-map, length-map, map-set, length-set, set-set}
+use mathlib.Core.Option.{some}
+use lib.ListN.{get_elem?}
 use Rattle.lot_words.specs.CallersRule.{CallersRule}
 use Rattle.lot_locks.specs.declared.released.Released.{Released}
 use Rattle.lot_scheme.specs.Words.{GetWord}
 use Rattle.lot_locks.specs.Released.{IsFitting, FreeWord}
-use Rattle.lot_sync.specs.Lot.{PassView, ◌≈◌, HeldView, Owns, HasSeen, owning, letting_go}
+use Rattle.lot_sync.specs.Lot.{LotView, PassView, ◌≈◌, HeldView, Owns, HasSeen, HasShape, owning, letting_go}
 use Rattle.lot_sync.specs.Words.{Adds}
 use Rattle.lot_sync.specs.Values.{Gets}
 use Rattle.lot_calls.specs.Words.{VisitWord}
-use Rattle.lot_calls.specs.Visits.{MayBecome, Visits}
+use Rattle.lot_calls.specs.Visits.{own_parts, MayBecome, Visits, Finds}
 
 -- what was set and cleared again, and was clear before, is as before
 pub set_back : (bs : List Bool) (k : ℕ) → ¬ (get_or bs k false ≡ true) → set (set bs k true) k false ≡ bs
@@ -18,14 +21,37 @@ set_back (true ∷ bs) zero clear = absurd (clear refl)
 set_back (false ∷ bs) zero clear = refl
 set_back (b ∷ bs) (suc k) clear = ap (λ cs. b ∷ cs) (set_back bs k clear)
 
+-- where a list has a place, something lies there
+pub lies_there : {A : Type 0} (xs : List A) (k : ℕ) (d : A) → k < length xs → get_elem? xs k ≡ some (get_or xs k d)
+lies_there [] k d near = absurd (omega (arith, near))
+lies_there (x ∷ xs) zero d near = refl
+lies_there (x ∷ xs) (suc k) d near = lies_there xs k d (omega (arith, near))
+
 module _ {V Part : Type 0} (rule : CallersRule V Part) where
+  -- the pass's own part of a value that was found there is that of the value
+  pub own_found : (p : PassView V) (key : ℕ) (found : V)
+      → ((u : V) → HasSeen p key u → rule.part p.thread u ≡ rule.part p.thread found) → key < length p.seen
+      → (d : Part) → get_or (own_parts rule p) key d ≡ rule.part p.thread found
+  own_found p key found mine near d =
+      get_or-map (rule.part p.thread) p.seen key found d near ∙ mine (get_or p.seen key found) (lies_there p.seen key found near)
+
+  pub finds : (p : PassView V) (key : ℕ) (found : V) → rule.keeps key found → ((u : V) → HasSeen p key u → rule.grows u found)
+      → ((u : V) → HasSeen p key u → rule.part p.thread u ≡ rule.part p.thread found) → key < length p.seen → Finds rule p key found
+  finds p key found kept grown mine near = record {
+    kept = kept;
+    grown = grown;
+    mine = mine;
+    own_near = omega (arith, near, length-map p.seen (rule.part p.thread));
+    own_was = own_found p key found mine near;
+  }
+
   -- the owner found the value, left another that it may become, and let the lock go
   pub visits : (before got after : PassView V) (key : ℕ) (held : HeldView V) (found left : V) → ¬ Owns before key
       → Gets rule before key held got
       → found ≡ held.value → MayBecome rule key before.thread found left → after ≈ letting_go got held.key left
       → HasSeen after held.key left
-      → Visits rule before key found left after
-  visits before got after key held found left free gets same may went seen =
+      → (lot : LotView) → key < lot.locks → HasShape lot after → Visits rule before key found left after
+  visits before got after key held found left free gets same may went seen lot is_lock shape =
       subst (λ x. Visits rule before key x left after) (sym same) record {
         kept = gets.kept;
         grown = gets.grown;
@@ -34,12 +60,28 @@ module _ {V Part : Type 0} (rule : CallersRule V Part) where
         after_is = after_is;
         same_owns = ap (λ (p : PassView V). p.owns) after_is ∙ set_back before.owns key free;
         seen = subst (λ k. HasSeen after k left) gets.key_is seen;
+        own_near = omega (arith, near, length-map before.seen (rule.part before.thread));
+        own_was = own_found before key held.value gets.mine near;
+        own_is =
+            ap (λ (p : PassView V). own_parts rule p) after_is
+            ∙ (ap (map (rule.part before.thread)) (set-set before.seen key held.value left)
+            ∙ map-set (rule.part before.thread) before.seen key left);
       }
     where
       after_is : after ≈ letting_go (owning before key held.value) key left
       after_is =
           subst (λ k. after ≈ letting_go got k left) gets.key_is went
           ∙ ap (λ (p : PassView V). record (letting_go p key left) { made = after.made }) gets.after_is
+
+      near : key < length before.seen
+      near = omega (
+        arith,
+        is_lock,
+        shape.seen,
+        ap (λ (p : PassView V). length p.seen) after_is,
+        length-set (set before.seen key held.value) key left,
+        length-set before.seen key held.value,
+      )
 
 -- which accesses it made
 pub visit_made : {V : Type 0} (before got after : PassView V) (key k now : ℕ) (became : Released) → k ≡ key → got.thread ≡ before.thread

@@ -1,10 +1,8 @@
 -- One wait more on a condition, and a lock that was got and then waited with.
-use Rattle.std.proofs.Common.{◌≡◌, ◌≢◌, ℕ, zero, suc, ◌+◌, ◌<◌, Bool, true, false, List, [], ◌∷◌, ◌++◌, length, get_or, set, slice_index}
-use Rattle.std.proofs.Common.{refl, sym, ap, subst, ◌∙◌, append_assoc, arith}
+use Rattle.std.proofs.Common.{◌≡◌, ℕ, zero, suc, ◌+◌, ◌<◌, Bool, true, false, List, [], ◌∷◌, ◌++◌, length, get_or, set, slice_index, refl}
+use Rattle.std.proofs.Common.{sym, ap, subst, ◌∙◌, append_assoc, arith}
 use Rattle.std.proofs.lemmas.List.{get_or-set_same, set-set, append-nil}
 use Rattle.atomic_table.proofs.Lists.{set_here}
-use mathlib.Core.Option.{some}
-use lib.ListN.{get_elem?}
 use Rattle.lot_words.specs.CallersRule.{CallersRule}
 use Rattle.lot_scheme.specs.Words.{GetWord}
 use Rattle.lot_sync.specs.Lot.{LotView, PassView, HeldView, ◌≈◌, Owns, OwnsNone, HasSeen, HasShape, owning, letting_go, one_wait_more}

@@ -1,6 +1,6 @@
 -- Words: which accesses a call made with the pass of its thread t, the oldest first. l is a lock, c a condition; now is the moment of the
 -- unlocks.
-use Rattle.std.specs.Prelude.{◌≡◌, ℕ, zero, suc, ◌++◌, false, List, []}
+use Rattle.std.specs.Prelude.{◌≡◌, ℕ, zero, suc, ◌<◌, ◌++◌, false, List, [], ◌⊎◌}
 use Rattle.lot_rights.specs.declared.views.Access.{Access}
 use Rattle.lot_scheme.specs.Words.{GetWord}
 use Rattle.lot_locks.specs.declared.released.Released.{Released}
@@ -16,6 +16,22 @@ pub record VisitWord (t l now : ℕ) (acts : List Access) : Type 0 where
   pub got : GetWord t l get
   pub freed : FreeWord t l became free
   pub is : acts ≡ get ++ free
+
+-- a visit of two locks: l was got, m was visited, and l was let go
+pub record NestedWord (t l m now : ℕ) (acts : List Access) : Type 0 where
+  pub get : List Access
+  pub inner : List Access
+  pub free : List Access
+  pub became : Released
+  pub fits : IsFitting became false now
+  pub got : GetWord t l get
+  pub visited : VisitWord t m now inner
+  pub freed : FreeWord t l became free
+  pub is : acts ≡ get ++ (inner ++ free)
+
+-- a visit of two locks, of which the one with the lower number was got first
+abbrev pub BothWord : ℕ → ℕ → ℕ → ℕ → List Access → Type 0
+BothWord t l m now acts = ((l < m) × NestedWord t l m now acts) ⊎ ((m < l) × NestedWord t m l now acts)
 
 -- so many waits on a condition with a lock, one after the other
 abbrev pub WaitsWord : ℕ → ℕ → ℕ → ℕ → ℕ → List Access → Type 0

@@ -27,8 +27,9 @@ pub fn finish<V: Keeps + Send, N: LotName<V> + Send, T: Wait>(
     lot.close(rt, passes)
 }
 
-/// Takes the passes of all threads, in order, each when it is in, into the list, which has room for them.
-fn take_all<V: Keeps + Send, N: LotName<V> + Send, T: Wait>(
+/// Takes the passes of all threads, in order, each when it is in, into the list, which has room for them:
+/// `take_all(rt, &mut lot, &mut passes);`.
+pub fn take_all<V: Keeps + Send, N: LotName<V> + Send, T: Wait>(
     rt: &T,
     lot: &mut Lot<V, N>,
     passes: &mut Vec<Pass<V, N>>,

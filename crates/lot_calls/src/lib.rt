@@ -1,21 +1,29 @@
 //! What callers of a lot would else write by hand, each made of the lot's own calls: work on a locked value, waiting
-//! until a value is as wanted, and the end of a lot.
+//! until a value is as wanted, workers, and the end of a lot.
 //!
 //! It stands on `lot_sync`, and knows of a lot what its contracts say.
 //!
 //! | Call | Made of |
 //! |---|---|
 //! | `with_lock`, `with_value` | `lock`, the caller's work, `unlock` |
+//! | `with_both` | the same of two locks, the lower number first |
 //! | `wait_until` | `wait`, again and again |
 //! | `lock_until` | `lock`, then `wait_until` |
 //! | `take_pass` | `take_left`, until it is the pass of the thread that is wanted |
-//! | `finish` | `take_pass` for each thread, then `close` |
+//! | `take_all` | `take_pass` for each thread |
+//! | `finish` | `take_all`, then `close` |
+//! | `work_all` | the caller's work with each of a list of passes, in threads |
+//! | `close_with` | `close` with passes that came back from such work |
 #![tactic(auto)]
 
+mod both;
+mod crew;
 mod finishing;
 mod until;
 mod with;
 
-pub use finishing::{finish, take_pass};
+pub use both::with_both;
+pub use crew::{close_with, work_all};
+pub use finishing::{finish, take_all, take_pass};
 pub use until::{lock_until, wait_until};
 pub use with::{with_lock, with_value};

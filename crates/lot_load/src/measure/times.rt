@@ -1,4 +1,4 @@
-//! How often a wait took how long: some hundred classes of times, each a sixteenth shape or less.
+//! How often a wait took how long: some hundred classes of times, each a sixteenth wide or less.
 ghost use Rattle.std.specs.Prelude.{◌≡◌, ◌<◌, vec_len};
 ghost use Rattle.lot_load.specs.declared.measure.times.TheConstants.{CLASSES};
 

@@ -1,17 +1,25 @@
-use Rattle.std.proofs.Common.{◌<◌, ◌/◌, ◌%◌, length, rules, refl, subst, arith}
-use Rattle.gallery.specs.Counters.{Adds, row_of}
-use Rattle.gallery.proofs.Counting.{added_more}
+use Rattle.std.proofs.Common.{◌≡◌, ◌+◌, ◌<◌, ◌^◌, rules, subst, arith}
+use Rattle.std.specs.List.{sum}
+use Rattle.lot_calls.proofs.Sums.{sum_after_visit}
+use Rattle.gallery.specs.Counters.{row_of}
 use Rattle.gallery.proofs.map.add.Goals as goal
 
-pub returns-clause-adds : goal.returns-clause-adds
-returns-clause-adds g c =
-    let visits = c.with_lock-pass.ensures.visits in
-    let post = visits.2 in
-    let adds : Adds (row_of c.thread-thread.result visits.0.now) (c.args.counter / 64)
-    (row_of c.thread-thread.result visits.1.now) = search rules in
-    let near : c.args.counter % 64 < length c.args.pass.seen = (let seen = c.requires.shape.seen in let locks = c.requires.locks in
-    omega (arith, seen, locks)) in
-    let in_row : c.args.counter / 64 < 16 = search rules in
-    (added_more _ c.args.pass c.with_lock-pass.result.0 (c.args.counter % 64) (c.args.counter / 64) visits.0.now visits.1.now visits.3
-    (λ t v. refl) near c.requires.thread in_row visits.3.kept
-    (subst (λ t. Adds (row_of t visits.0.now) (c.args.counter / 64) (row_of t visits.1.now)) c.thread-thread.ensures adds) c.requires.few).0
+pub returns : goal.returns
+returns g c =
+    let (v, w, post, visits) = c.with_lock.ensures.visits in
+    let own : sum (row_of c.thread-thread.result v.now) + 1 < 2 ^ 64
+    → sum (row_of c.thread-thread.result w.now) ≡ sum (row_of c.thread-thread.result v.now) + 1 = search rules in
+    let sums = sum_after_visit _ sum _ _ _ _ _ visits in
+    let few = c.requires.few in
+    record {
+      back = search rules;
+      added =
+          omega (
+            arith,
+            sums.0,
+            sums.1,
+            few,
+            subst (λ t. sum (row_of t v.now) + 1 < 2 ^ 64 → sum (row_of t w.now) ≡ sum (row_of t v.now) + 1) c.thread-thread.ensures own
+                (omega (arith, sums.1, few)),
+          );
+    }

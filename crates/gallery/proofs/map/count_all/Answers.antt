@@ -1,22 +1,18 @@
-use Rattle.std.proofs.Common.{◌≡◌, ◌<◌, length, vec_len, rules, refl, ap, subst, ◌∙◌}
-use Rattle.lot_sync.specs.Lot.{LotView}
-use Rattle.gallery.proofs.Counting.{nothing_lost}
+use Rattle.std.proofs.Common.{◌≡◌, [], rules, sym, arith}
+use Rattle.std.specs.List.{sum, sum_by}
+use Rattle.lot_calls.proofs.Working.{are_back, has_worked, worked_sum}
+use Rattle.lot_calls.proofs.Sums.{sum_of_row}
 use Rattle.gallery.proofs.map.count_all.Goals as goal
 
-pub close-shards-requires-clause-all : goal.close-shards-requires-clause-all
-close-shards-requires-clause-all g c κs within =
-    let same =
-    c.take_pass-three.ensures.same ∙ (c.take_pass-two.ensures.same ∙ (c.take_pass-one.ensures.same ∙ c.take_pass-zero.ensures.same)) in
-    λ t near. c.gathered-passes.ensures.done.there t (subst (λ n. t < n) (ap (λ (l : LotView). l.threads) same ∙ c.requires.sizes.1) near)
-
-pub close-shards-requires-clause-free : goal.close-shards-requires-clause-free
-close-shards-requires-clause-free g c κs within = c.gathered-passes.ensures.done.free
+pub close_with-requires-clause-back : goal.close_with-requires-clause-back
+close_with-requires-clause-back g c κs within =
+    are_back _ _ _ _ _ _ (rw (sym c.take_all.ensures.same) at c.take_all.ensures.taken) c.work_all.ensures.each
+    (λ p q ready post. post.back)
 
 pub returns : goal.returns
 returns g c =
-    let same =
-    c.take_pass-three.ensures.same ∙ (c.take_pass-two.ensures.same ∙ (c.take_pass-one.ensures.same ∙ c.take_pass-zero.ensures.same)) in
-    let shards = c.close-shards.result.0 in
-    let long : length shards.items ≡ vec_len shards = search rules in
-    nothing_lost _ c.gathered-passes.result.items shards.items c.close-shards.ensures.values (λ t v. refl) (λ k v kept. kept)
-    (long ∙ (c.close-shards.ensures.count ∙ (ap (λ (l : LotView). l.locks) same ∙ c.requires.sizes.0))) c.gathered-passes.ensures.done
+    let taken = rw (sym c.take_all.ensures.same) at c.take_all.ensures.taken in
+    let threads : c.take_all.new.lot.threads ≡ 4 = search rules in
+    worked_sum _ _ _ _ _ sum (λ shard. sum_by sum shard.rows) 4 1024 threads
+    (has_worked _ _ _ _ _ _ taken c.work_all.ensures.each (λ p q ready post. post.back) _ c.close_with.ensures.ends) (omega arith)
+    (λ key v kept. sum_of_row sum [] v.rows 4 kept.rows) (λ p q ready post. omega (arith, post.added, ready.rests))

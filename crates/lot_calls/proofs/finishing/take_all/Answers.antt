@@ -1,7 +1,6 @@
-use Rattle.std.proofs.Common.{◌≡◌, length, vec_len, rules, subst, sym, ap, ◌∙◌, arith}
+use Rattle.std.proofs.Common.{subst, sym, ◌∙◌, arith}
 use Rattle.std.specs.List.{All}
 use Rattle.std.proofs.lemmas.List.Elements.{All-push}
-use Rattle.lot_sync.specs.Lot.{LotView}
 use Rattle.lot_sync.proofs.Turns.{more_are_there}
 use Rattle.lot_calls.specs.Finished.{IsReady}
 use Rattle.lot_calls.proofs.finishing.take_all.Goals as goal

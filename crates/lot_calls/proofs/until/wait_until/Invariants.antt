@@ -1,6 +1,4 @@
-use Rattle.std.proofs.Common.{◌≡◌}
 use Rattle.lot_sync.specs.Lot.{Owns, HasShape}
-use Rattle.lot_sync.specs.Values.{MayGiveBack}
 use Rattle.lot_calls.specs.Waits.{WaitsOn}
 use Rattle.lot_calls.proofs.until.wait_until.Given as goal
 

@@ -14,7 +14,7 @@ returns-clause-visits g c =
       c.work-outcome.ensures,
       visits g.V.Keeps c.args.pass c.lock-pass.result.0 c.unlock-pass.result.0 c.args.key c.lock-pass.result.1 found.now left.now
           c.requires.free gets c.value_mut.ensures.value (c.requires.keeps found c.work-outcome.result left kept c.work-outcome.ensures)
-          c.unlock-pass.ensures.pass c.unlock-pass.ensures.seen,
+          c.unlock-pass.ensures.pass c.unlock-pass.ensures.seen c.args.lot.now c.requires.key c.unlock-pass.ensures.shape,
     )
 
 pub returns-clause-made : goal.returns-clause-made

@@ -1,5 +1,5 @@
-use Rattle.std.proofs.Common.{◌≡◌, refl, sym, ap, subst}
-use Rattle.lot_sync.specs.Lot.{HeldView, PassView}
+use Rattle.std.proofs.Common.{refl, sym, ap}
+use Rattle.lot_sync.specs.Lot.{PassView}
 use Rattle.lot_calls.proofs.Visiting.{visits, visit_made}
 use Rattle.lot_calls.proofs.with.with_value.Goals as goal
 
@@ -13,7 +13,8 @@ returns-clause-visits g c =
       visits g.V.Keeps c.args.pass c.lock-pass.result.0 c.unlock-pass.result.0 c.args.key c.lock-pass.result.1
           c.lock-pass.result.1.value worked.0.0
           c.requires.free gets refl (c.requires.keeps c.lock-pass.result.1.value worked.0 gets.kept worked.1)
-          (rw worked.2 at c.unlock-pass.ensures.pass) (rw worked.2 at c.unlock-pass.ensures.seen),
+          (rw worked.2 at c.unlock-pass.ensures.pass)
+          (rw worked.2 at c.unlock-pass.ensures.seen) c.args.lot.now c.requires.key c.unlock-pass.ensures.shape,
     )
 
 pub returns-clause-made : goal.returns-clause-made

@@ -1,0 +1,104 @@
+-- Passes that came back from their work, and what lies in the lot then.
+use Rattle.std.proofs.Common.{◌≡◌, ℕ, ◌<◌, List, [], ◌∷◌, zero, suc, length, map, get_or, slice_get, Some, refl, sym, ap, ap₂, subst, ◌∙◌}
+use Rattle.std.proofs.Common.{arith}
+use Rattle.std.specs.List.{sum_by, All}
+use mathlib.Core.Option.{some}
+use lib.ListN.{get_elem?}
+use Rattle.lot_words.specs.CallersRule.{CallersRule}
+use Rattle.lot_sync.specs.Lot.{LotView, PassView}
+use Rattle.lot_sync.specs.Values.{GoesOnTo}
+use Rattle.lot_calls.specs.Visits.{own_parts}
+use Rattle.lot_calls.specs.Finished.{IsReady, AreTaken, IsFinished}
+use Rattle.lot_calls.specs.Workers.{EachBecomes, ComesBack, AreBack, EndsIn, HasWorked}
+use Rattle.lot_calls.proofs.Sums.{sum_below, sum_below_alike, sum_of_parts}
+
+-- two lists of which as much is told at each place
+pub maps_alike : {A B : Type 0} (f : A → B) (xs ys : List A) → length xs ≡ length ys
+    → ((k : ℕ) (u v : A) → slice_get ys k ≡ Some v → get_elem? xs k ≡ some u → f u ≡ f v) → map f ys ≡ map f xs
+maps_alike f [] [] long same = refl
+maps_alike f [] (y ∷ ys) long same = absurd (omega (arith, long))
+maps_alike f (x ∷ xs) [] long same = absurd (omega (arith, long))
+maps_alike f (x ∷ xs) (y ∷ ys) long same =
+    ap₂ ◌∷◌ (sym (same 0 x y refl refl)) (maps_alike f xs ys (omega (arith, long)) (λ k u v a b. same (suc k) u v a b))
+
+-- what lies at a place lies there, whatever is asked for beyond the end
+at_again : {A : Type 0} (xs : List A) (i : ℕ) (d e : A) → i < length xs → get_or xs i e ≡ get_or xs i d
+at_again [] i d e near = absurd (omega (arith, near))
+at_again (x ∷ xs) zero d e near = refl
+at_again (x ∷ xs) (suc i) d e near = at_again xs i d e (omega (arith, near))
+
+-- what the passes had seen ended in the values
+pub all_end : {V Part : Type 0} (rule : CallersRule V Part) (lot : LotView) (passes : List (PassView V)) (values : List V)
+    → AreBack lot passes → length values ≡ lot.locks
+    → All (GoesOnTo rule values) passes → All (EndsIn rule values) passes
+all_end rule lot passes values back count goes i d near =
+    let p : PassView _ = get_or passes i d in
+    let goes : GoesOnTo rule values p = goes i d near in
+    record {
+      goes_on = goes;
+      own =
+          maps_alike (rule.part p.thread) p.seen values ((back.shape i d near).seen ∙ sym count) (λ k u v at seen. goes.mine k u v at seen);
+    }
+
+module _ {V Part : Type 0} (rule : CallersRule V Part) (opening : List V) (lot : LotView) (becomes : PassView V → PassView V → Type 0)
+    (xs ys : List (PassView V))
+    (taken : AreTaken rule opening lot xs) (each : EachBecomes becomes xs ys)
+    (back : (p q : PassView V) → IsReady rule opening lot p → becomes p q → ComesBack lot p q) where
+  came : (i : ℕ) (d : PassView V) → i < length xs → ComesBack lot (get_or xs i d) (get_or ys i d)
+  came i d near = back (get_or xs i d) (get_or ys i d) (taken.ready i d near) (each.each i d near)
+
+  -- all are back
+  pub are_back : AreBack lot ys
+  are_back = record {
+    count = each.count ∙ taken.count;
+    all = λ t near.
+        let there = taken.all t near in
+        let p : PassView V = there.1 in
+        let q : PassView V = get_or ys there.0 p in
+        let same : q.thread ≡ p.thread = (came there.0 p there.2).same_thread ∙ ap (λ (z : PassView V). z.thread) there.3 in
+        (there.0, q, omega (arith, there.2, each.count), at_again ys there.0 p q (omega (arith, there.2, each.count)), same ∙ there.4);
+    free = λ i d near. (came i d (omega (arith, near, each.count))).free;
+    shape = λ i d near. (came i d (omega (arith, near, each.count))).shape;
+  }
+
+  -- each has worked
+  pub has_worked : (values : List V) → All (EndsIn rule values) ys → (t : ℕ) → t < lot.threads → HasWorked rule opening lot becomes values t
+  has_worked values ends t near =
+      let there = taken.all t near in
+      let p : PassView V = there.1 in
+      let q : PassView V = get_or ys there.0 p in
+      let end : EndsIn rule values q = ends there.0 p (omega (arith, there.2, each.count)) in
+      let same : q.thread ≡ t = (came there.0 p there.2).same_thread ∙ (ap (λ (z : PassView V). z.thread) there.3 ∙ there.4) in
+      record {
+        before = p;
+        after = q;
+        ready = subst (IsReady rule opening lot) there.3 (taken.ready there.0 p there.2);
+        worked = subst (λ x. becomes x q) there.3 (each.each there.0 p there.2);
+        goes_on = end.goes_on;
+        own = subst (λ n. map (rule.part n) values ≡ own_parts rule q) same end.own;
+      }
+
+module _ {V Part : Type 0} (rule : CallersRule V Part) (opening : List V) (lot : LotView) where
+  -- a lot that was finished, as one whose passes came back as they were taken
+  pub has_finished : (values : List V) (called woken : List ℕ) → IsFinished rule opening lot values called woken → length values ≡ lot.locks
+      → (t : ℕ) → t < lot.threads → HasWorked rule opening lot (λ p q. q ≡ p) values t
+  has_finished values called woken finished count =
+      let same : EachBecomes (λ p q. q ≡ p) finished.passes finished.passes = record { count = refl; each = λ i d near. refl } in
+      let back : (p q : PassView V) → IsReady rule opening lot p → q ≡ p → ComesBack lot p q =
+      λ p q ready is. subst (ComesBack lot p) (sym is) (record { same_thread = refl; free = ready.free; shape = ready.shape }) in
+      has_worked rule opening lot (λ p q. q ≡ p) finished.passes finished.passes finished.taken same back values
+      (all_end rule lot finished.passes values
+      (are_back rule opening lot (λ p q. q ≡ p) finished.passes finished.passes finished.taken same back) count finished.goes_on)
+
+  -- where each value comes to what its parts come to, and each thread's parts to so much when it came back, all values come to that of each
+  -- thread
+  pub worked_sum : (becomes : PassView V → PassView V → Type 0) (values : List V) (h : Part → ℕ) (all : V → ℕ) (n c : ℕ) → lot.threads ≡ n
+      → ((t : ℕ) → t < lot.threads → HasWorked rule opening lot becomes values t) → 0 < n
+      → ((key : ℕ) (v : V) → rule.keeps key v → all v ≡ sum_below n (λ t. h (rule.part t v)))
+      → ((p q : PassView V) → IsReady rule opening lot p → becomes p q → sum_by h (own_parts rule q) ≡ c)
+      → sum_by all values ≡ sum_below n (λ t. c)
+  worked_sum becomes values h all n c threads worked any parts each_came =
+      sum_of_parts all rule.part h n values (λ k v at. parts k v ((worked 0 (omega (arith, threads, any))).goes_on.kept k v at))
+      ∙ sum_below_alike n (λ t. sum_by h (map (rule.part t) values)) (λ t. c) (λ t near.
+      let done = worked t (omega (arith, threads, near)) in
+      ap (sum_by h) done.own ∙ each_came done.before done.after done.ready done.worked)

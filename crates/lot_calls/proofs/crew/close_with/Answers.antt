@@ -1,0 +1,9 @@
+use Rattle.std.proofs.Common.{◌≡◌, length, vec_len, rules, ◌∙◌}
+use Rattle.lot_calls.proofs.Working.{all_end}
+use Rattle.lot_calls.proofs.crew.close_with.Goals as goal
+
+pub returns-clause-ends : goal.returns-clause-ends
+returns-clause-ends g c =
+    let values = c.close.result.0 in
+    let long : length values.items ≡ vec_len values = search rules in
+    all_end g.V.Keeps c.args.lot c.args.passes.items values.items c.requires.back (long ∙ c.close.ensures.count) c.close.ensures.values
