@@ -83,3 +83,13 @@ sum_after_visit rule h before after key found left visits =
       omega (arith, set, was, ap (sum_by h) visits.own_is),
       omega (arith, was, within),
     )
+
+-- a visit that adds so much to what the pass's own part of the value comes to, where there is room for it
+pub more_after_visit : {V Part : Type 0} (rule : CallersRule V Part) (h : Part → ℕ) (before after : PassView V) (key : ℕ)
+    (found left : V) (c room : ℕ)
+    → Visits rule before key found left after
+    → (h (rule.part before.thread found) + c < room → h (rule.part before.thread left) ≡ h (rule.part before.thread found) + c)
+    → sum_by h (own_parts rule before) + c < room → sum_by h (own_parts rule after) ≡ sum_by h (own_parts rule before) + c
+more_after_visit rule h before after key found left c room visits more few =
+    let sums = sum_after_visit rule h before after key found left visits in
+    omega (arith, sums.0, sums.1, few, more (omega (arith, sums.1, few)))

@@ -102,3 +102,16 @@ module _ {V Part : Type 0} (rule : CallersRule V Part) (opening : List V) (lot :
       ∙ sum_below_alike n (λ t. sum_by h (map (rule.part t) values)) (λ t. c) (λ t near.
       let done = worked t (omega (arith, threads, near)) in
       ap (sum_by h) done.own ∙ each_came done.before done.after done.ready done.worked)
+
+-- passes were taken, worked with and came back, and each thread's parts came to so much then
+pub came_to : {V Part : Type 0} (rule : CallersRule V Part) {opening values : List V} {lot : LotView} {becomes : PassView V → PassView V
+    → Type 0} {xs ys : List (PassView V)}
+    → AreTaken rule opening lot xs → EachBecomes becomes xs ys → All (EndsIn rule values) ys
+    → ((p q : PassView V) → IsReady rule opening lot p → becomes p q → ComesBack lot p q) → (h : Part → ℕ) (all : V → ℕ) (n c : ℕ)
+    → lot.threads ≡ n → 0 < n
+    → ((key : ℕ) (v : V) → rule.keeps key v → all v ≡ sum_below n (λ t. h (rule.part t v)))
+    → ((p q : PassView V) → IsReady rule opening lot p → becomes p q → sum_by h (own_parts rule q) ≡ c)
+    → sum_by all values ≡ sum_below n (λ t. c)
+came_to rule {opening} {values} {lot} {becomes} {xs} {ys} taken each ends back h all n c threads any parts came =
+    worked_sum rule opening lot becomes values h all n c threads
+    (has_worked rule opening lot becomes xs ys taken each back values ends) any parts came

@@ -1,6 +1,6 @@
-use Rattle.std.proofs.Common.{◌≡◌, [], rules, sym, arith}
+use Rattle.std.proofs.Common.{[], rules, sym, arith}
 use Rattle.std.specs.List.{sum, sum_by}
-use Rattle.lot_calls.proofs.Working.{are_back, has_worked, worked_sum}
+use Rattle.lot_calls.proofs.Working.{are_back, came_to}
 use Rattle.lot_calls.proofs.Sums.{sum_of_row}
 use Rattle.gallery.proofs.map.count_all.Goals as goal
 
@@ -12,7 +12,6 @@ close_with-requires-clause-back g c κs within =
 pub returns : goal.returns
 returns g c =
     let taken = rw (sym c.take_all.ensures.same) at c.take_all.ensures.taken in
-    let threads : c.take_all.new.lot.threads ≡ 4 = search rules in
-    worked_sum _ _ _ _ _ sum (λ shard. sum_by sum shard.rows) 4 1024 threads
-    (has_worked _ _ _ _ _ _ taken c.work_all.ensures.each (λ p q ready post. post.back) _ c.close_with.ensures.ends) (omega arith)
-    (λ key v kept. sum_of_row sum [] v.rows 4 kept.rows) (λ p q ready post. omega (arith, post.added, ready.rests))
+    came_to _ taken c.work_all.ensures.each c.close_with.ensures.ends (λ p q ready post. post.back) sum (λ s. sum_by sum s.rows) 4 1024
+    (search rules) (omega arith) (λ key v kept. sum_of_row sum [] v.rows 4 kept.rows)
+    (λ p q ready post. omega (arith, post.added, ready.rests))
