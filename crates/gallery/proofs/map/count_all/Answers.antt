@@ -6,12 +6,10 @@ use Rattle.gallery.proofs.map.count_all.Goals as goal
 
 pub close_with-requires-clause-back : goal.close_with-requires-clause-back
 close_with-requires-clause-back g c κs within =
-    are_back _ _ _ _ _ _ (rw (sym c.take_all.ensures.same) at c.take_all.ensures.taken) c.work_all.ensures.each
-    (λ p q ready post. post.back)
+    are_back _ _ _ _ _ _ (rw (sym c.take_all.ensures.same) at c.take_all.ensures.taken) c.work_all.ensures.each (λ p q r x. x.back)
 
 pub returns : goal.returns
 returns g c =
     let taken = rw (sym c.take_all.ensures.same) at c.take_all.ensures.taken in
-    came_to _ taken c.work_all.ensures.each c.close_with.ensures.ends (λ p q ready post. post.back) sum (λ s. sum_by sum s.rows) 4 1024
-    (search rules) (omega arith) (λ key v kept. sum_of_row sum [] v.rows 4 kept.rows)
-    (λ p q ready post. omega (arith, post.added, ready.rests))
+    came_to _ taken c.work_all.ensures.each c.close_with.ensures.ends (λ p q r x. x.back) sum (λ s. sum_by sum s.rows) 4 1024 (search rules)
+    (omega arith) (λ k v kept. sum_of_row sum [] v.rows 4 kept.rows) (λ p q r x. omega (arith, x.added, r.rests))
