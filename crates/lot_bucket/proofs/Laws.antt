@@ -20,51 +20,54 @@ module _ {R : Type 0} (view : R → KeyLine) where
       let same : own.0 ≡ root = let e : Some own.0 ≡ Some root = sym own.1 ∙ at in cc in
       subst (λ (r : R). IsRootOf view k b.queue r) same own.2
 
-  -- The restoring law: where a key's root was taken out and is back, fits its key's line and owes nothing,
-  -- and the lines of other keys are as before, the bucket agrees again.
-  pub agrees_again : (before after : Contents R) (k : ℕ) (root : R) → Agrees view before → before.opened ≡ true
-      → has_key k before.places ≡ true
-      → after.opened ≡ true → after.places ≡ with_root k (Some root) (with_root k None before.places)
-      → ((j : ℕ) → k ≢ j → line_of j after.queue ≡ line_of j before.queue) → IsRootOf view k after.queue root → Agrees view after
-  agrees_again before after k root agrees was_open has is_open places lines fits =
-      record { open_agrees = λ _. opened; closed_agrees = λ closed. absurd (let e : true ≡ false = sym is_open ∙ closed in cc) }
-    where
-      was : AgreesOpen view before
-      was = agrees.open_agrees was_open
+  -- a key's root was taken out of an open bucket and is back, and the lines of other keys are as before
+  module _ (before after : Contents R) (k : ℕ) (root : R) (agrees : Agrees view before) (was_open : before.opened ≡ true)
+      (has : has_key k before.places ≡ true) (is_open : after.opened ≡ true)
+      (places : after.places ≡ with_root k (Some root) (with_root k None before.places))
+      (lines : (j : ℕ) → k ≢ j → line_of j after.queue ≡ line_of j before.queue) (fits : IsRootOf view k after.queue root) where
+    -- it was open, and agreed
+    was : AgreesOpen view before
+    was = agrees.open_agrees was_open
 
-      keys : (j : ℕ) → has_key j after.places ≡ has_key j before.places
-      keys j = rw places (has_key-with j k (Some root) (with_root k None before.places) ∙ has_key-with j k None before.places)
+    -- the bucket has the same keys
+    keys_again : (j : ℕ) → has_key j after.places ≡ has_key j before.places
+    keys_again j = rw places (has_key-with j k (Some root) (with_root k None before.places) ∙ has_key-with j k None before.places)
 
-      own : root_at k after.places ≡ Some root
-      own = rw places (root_at-with_same k (Some root) (with_root k None before.places) (has_key-with k k None before.places ∙ has))
+    -- the key has its root
+    root_again : root_at k after.places ≡ Some root
+    root_again = rw places (root_at-with_same k (Some root) (with_root k None before.places) (has_key-with k k None before.places ∙ has))
 
-      others : (j : ℕ) → k ≢ j → root_at j after.places ≡ root_at j before.places
-      others j other = rw places (root_at-with_other j k (Some root) (with_root k None before.places) other
-          ∙ root_at-with_other j k None before.places other)
+    -- and the others have theirs
+    roots_else : (j : ℕ) → k ≢ j → root_at j after.places ≡ root_at j before.places
+    roots_else j other = rw places (root_at-with_other j k (Some root) (with_root k None before.places) other
+        ∙ root_at-with_other j k None before.places other)
 
-      roots : (j : ℕ) → has_key j after.places ≡ true → (r : R) × (root_at j after.places ≡ Some r) × IsRootOf view j after.queue r
-      roots j h =
-          elim (eqb_tells k j) [
-            | inl e ↦ let P : ℕ → Type 0 = λ n. (r : R) × (root_at n after.places ≡ Some r) × IsRootOf view n after.queue r in
-                subst P e.1 (root, own, fits)
-            | inr e ↦
-                let old = was.roots j (sym (keys j) ∙ h) in (
-                  old.0,
-                  others j e.1
-                      ∙ old.1,
-                  record { named = old.2.named; same_line = old.2.same_line ∙ sym (lines j e.1); paid = old.2.paid },
-                )
-          ]
+    -- each key of the bucket has a root that fits its line
+    roots_fit : (j : ℕ) → has_key j after.places ≡ true → (r : R) × (root_at j after.places ≡ Some r) × IsRootOf view j after.queue r
+    roots_fit j h =
+        elim (eqb_tells k j) [
+          | inl e ↦ let P : ℕ → Type 0 = λ n. (r : R) × (root_at n after.places ≡ Some r) × IsRootOf view n after.queue r in
+              subst P e.1 (root, root_again, fits)
+          | inr e ↦ let old = was.roots j (sym (keys_again j) ∙ h) in (
+            old.0,
+            roots_else j e.1 ∙ old.1,
+            record { named = old.2.named; same_line = old.2.same_line ∙ sym (lines j e.1); paid = old.2.paid },
+          )
+        ]
 
-      pairs : (j : ℕ) → has_key j after.places ≡ false → line_of j after.queue ≡ []
-      pairs j h =
-          elim (eqb_tells k j) [
-            | inl e ↦
-                absurd (let f : has_key j before.places ≡ true = subst (λ (n : ℕ). has_key n before.places ≡ true) e.1 has in
-                let g : has_key j before.places ≡ false = sym (keys j)
-                ∙ h in let x : true ≡ false = sym f ∙ g in cc)
-            | inr e ↦ lines j e.1 ∙ was.pairs j (sym (keys j) ∙ h)
-          ]
+    -- nobody waits at another key
+    nobody_else : (j : ℕ) → has_key j after.places ≡ false → line_of j after.queue ≡ []
+    nobody_else j none =
+        elim (eqb_tells k j) [
+          | inl e ↦ absurd (let f : has_key j before.places ≡ true = subst (λ (n : ℕ). has_key n before.places ≡ true) e.1 has in
+              let x : true ≡ false = sym f ∙ sym (keys_again j) ∙ none in cc)
+          | inr e ↦ lines j e.1 ∙ was.pairs j (sym (keys_again j) ∙ none)
+        ]
 
-      opened : AgreesOpen view after
-      opened = record { roots = roots; pairs = pairs }
+    -- The restoring law: where a key's root was taken out and is back, fits its key's line and owes nothing,
+    -- and the lines of other keys are as before, the bucket agrees again.
+    pub agrees_again : Agrees view after
+    agrees_again = record {
+      open_agrees = λ _. record { roots = roots_fit; pairs = nobody_else };
+      closed_agrees = λ closed. absurd (let e : true ≡ false = sym is_open ∙ closed in cc);
+    }

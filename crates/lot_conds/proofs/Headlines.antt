@@ -5,7 +5,7 @@ use Rattle.atomic_table.specs.Table.{State}
 use Rattle.lot_rights.specs.declared.views.Right.{Right}
 use Rattle.lot_rights.specs.Rule.{Ruled}
 use Rattle.lot_rights.specs.World.{Spot, awake, queued, owed, lying, waits_on}
-use Rattle.lot_rights.proofs.Settling.{has_one_run}
+use Rattle.lot_rights.proofs.Settling.{one_history_led}
 use Rattle.lot_conds.specs.declared.views.CondPassView.{CondPassView}
 use Rattle.lot_conds.specs.declared.views.CondRootView.{CondRootView}
 use Rattle.lot_conds.specs.declared.views.Size.{Size}
@@ -37,16 +37,12 @@ module _ (n m : ℕ) (w : CondWorld) (ok : Kept n m w) where
   in_line_near c t h = (at_spot t (queued c) ((ok.threads t).in_line c h)).0.0
 
 pub headline : (size : Size) (s : State (Unit {0}) (List (Right CondPassView CondRootView))) → Ruled (meaning size) s → Headline size s
-headline size s ru = let run = has_one_run (meaning size) s ru in record {
+headline size s ru = record {
   world = ru.world;
   words = ru.fits.words;
-  rights = ru.seats;
-  in_place = run.once;
   letters = letters_fit size.threads (key_count size) ru.world ru.fits.kept;
   are_threads = in_line_near size.threads (key_count size) ru.world ru.fits.kept;
   someone_sweeps = λ c. (ru.fits.kept.conds c).swept;
   balanced = λ c. (ru.fits.kept.conds c).ledger;
-  log = ru.log;
-  history = ru.recorded;
-  model = run.model;
+  run = one_history_led (meaning size) s ru;
 }

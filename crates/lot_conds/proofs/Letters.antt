@@ -1,17 +1,17 @@
 -- A letter is posted, a letter is collected: the rule of threads and conditions is kept.
-use Rattle.std.proofs.Common.{◌≡◌, ℕ, ◌+◌, ◌<◌, length, get_or, refl, sym, ap, subst, ◌∙◌, arith, length-set, get_or-set_same}
+use Rattle.std.proofs.Common.{◌≡◌, ℕ, ◌+◌, ◌<◌, get_or, refl, sym, ap, subst, ◌∙◌, arith, length-set, get_or-set_same}
 use Rattle.std.proofs.Common.{get_or-set_other, Some}
 use Rattle.std.specs.List.{Contains}
 use Rattle.lot_core.specs.World.{put}
-use Rattle.lot_core.proofs.Put.{put_same, put_other}
+use Rattle.lot_core.proofs.Put.{put_same, put_other, put_again}
 use Rattle.lot_rights.specs.World.{Spot, awake, queued, owed, lying}
 use Rattle.lot_rights.proofs.Lines.{in_without, without_in, without_none, without_once}
 use Rattle.lot_rights.proofs.Puts.{put_elim}
 use Rattle.lot_conds.specs.declared.views.CondPassView.{CondPassView}
 use Rattle.lot_conds.specs.declared.views.CondRootView.{CondRootView}
-use Rattle.lot_conds.specs.World.{CondWorld, SpotFits, taken_from, ThreadFits, CondFits, Kept}
+use Rattle.lot_conds.specs.World.{CondWorld, SpotFits, taken_from, LedgerFits, ThreadFits, CondFits, Kept}
 use Rattle.lot_conds.specs.Calls.{one_wait_more, paid_root}
-use Rattle.lot_conds.proofs.Machine.{turned, no_some, owed_same, not_both, taken_else, taken_here, SameFor, same_for, thread_on, cond_stays}
+use Rattle.lot_conds.proofs.Machine.{turned, no_some, owed_same, not_both, taken_else, taken_here, same_for, thread_on, cond_on, cond_stays}
 use Rattle.lot_conds.proofs.Machine.{turns}
 use Rattle.lot_core.proofs.Sums.{total_same, total_but}
 
@@ -56,53 +56,64 @@ module _ (n m : ℕ) (w : CondWorld) (ok : Kept n m w) where
         (let a = stays c in record { once = a.once; owed_once = without_once u owes a.owed_once; swept = a.swept; ledger = a.ledger })
         (λ k _. stays k)
 
-  -- the thread collects its letter
-  pub collects_kept : (t c : ℕ) → c < m → w.spot t ≡ lying c 0
-      → Kept n m (turned w t (one_wait_more (w.pass t) c) (put w.spot t awake) c (w.word c) (w.root c))
-  collects_kept t c here lies =
-      let q : CondRootView = w.root c in
-      let p : CondPassView = one_wait_more (w.pass t) c in
-      let spots : ℕ → Spot = put w.spot t awake in
-      let me = ok.threads t in
-      let xs = (w.pass t).woken in
-      let x : ℕ = get_or xs c 0 + 1 in
-      let long : c < length xs = (let e = me.woken in omega arith) in
-      let fits : SpotFits n w.root t (w.pass t) (lying c 0) = subst (SpotFits n w.root t (w.pass t)) lies me.spot in
-      let same : (v : ℕ) → SameFor v w.root (put w.root c q) = (λ v. same_for v w.root c q (λ h. h) (λ h. h) (λ h. h) (λ h. h)) in
-      let up : spots t ≡ awake = put_same w.spot t awake in
-      turns n m w t p spots c (w.word c) q
-      (record {
-        called = me.called;
-        woken = length-set xs c x ∙ me.woken;
-        outs = λ k e. absurd (no_some k e);
-        spot = subst (SpotFits n (put w.root c q) t p) (sym up) refl;
-        in_line = λ k h. absurd (let f : lying c 0 ≡ queued k = sym lies ∙ me.in_line k ((same t).line_back k h) in cc);
-        is_owed = λ k h. absurd (let f : lying c 0 ≡ owed k 0 = sym lies ∙ me.is_owed k ((same t).owes_back k h) in cc);
-      })
-      (λ v vt. subst (ThreadFits n m (put w.root c q) v (w.pass v)) (sym (put_other w.spot t awake v vt))
-      (thread_on n m w.root (put w.root c q) v (w.pass v) (w.spot v) (same v) (ok.threads v)))
-      (let before = ok.conds c in record {
-        once = before.once;
-        owed_once = before.owed_once;
-        swept = λ e some. let b = before.swept e some in (
-          b.0,
-          (b.1.0, put_elim (λ y. y.sweeps ≡ Some c) w.pass t p b.0 (λ vt. subst (λ z. (w.pass z).sweeps ≡ Some c) vt b.1.1) (λ _. b.1.1)),
-        );
-        ledger =
-            let woken = total_but n (λ v. get_or (put w.pass t p v).woken c 0) (λ v. get_or (w.pass v).woken c 0) t fits.0.0
-            (λ v ne. ap (λ (y : CondPassView). get_or y.woken c 0) (put_other w.pass t p v ne)) in
-            let mine : get_or (put w.pass t p t).woken c 0 ≡ x =
-            ap (λ (y : CondPassView). get_or y.woken c 0) (put_same w.pass t p) ∙ get_or-set_same xs c x 0 long in
-            let called = total_same n (λ v. get_or (put w.pass t p v).called c 0) (λ v. get_or (w.pass v).called c 0)
-            (λ v _. put_elim (λ y. get_or y.called c 0 ≡ get_or (w.pass v).called c 0) w.pass t p v
-            (λ vt. ap (λ z. get_or (w.pass z).called c 0) (sym vt)) (λ _. refl)) in
-            let taken =
-            total_but n (λ v. taken_from c (spots v)) (λ v. taken_from c (w.spot v)) t fits.0.0
-            (λ v ne. ap (taken_from c) (put_other w.spot t awake v ne)) in
-            let gone : taken_from c (spots t) ≡ 0 = ap (taken_from c) up in
-            let was : taken_from c (w.spot t) ≡ 1 = ap (taken_from c) lies ∙ taken_here c in
-            omega (arith, before.ledger, woken, mine, called, taken, gone, was);
-      })
-      (λ k ne. cond_stays n k (w.word k) (w.root k) w.pass w.spot t p spots (ok.conds k) refl (get_or-set_other xs c k x 0 ne) (λ e. e)
-      (λ v. put_elim (λ y. taken_from k y ≡ taken_from k (w.spot v)) w.spot t awake v (λ vt. sym (taken_else k c ne)
-      ∙ (sym (ap (taken_from k) lies) ∙ ap (λ z. taken_from k (w.spot z)) (sym vt))) (λ _. refl)))
+  -- a letter of c lies for the thread t, which has ended one wait more after it
+  module _ (t c : ℕ) (here : c < m) (lies : w.spot t ≡ lying c 0) where
+    abbrev after : CondPassView
+    after = one_wait_more (w.pass t) c
+
+    abbrev spots : ℕ → Spot
+    spots = put w.spot t awake
+
+    -- it is a thread of the table
+    near : t < n
+    near =
+        let fits : SpotFits n w.root t (w.pass t) (lying c 0) = subst (SpotFits n w.root t (w.pass t)) lies (ok.threads t).spot in
+        fits.0.0
+
+    -- it counts one ended wait more of c
+    one_woken : get_or (put w.pass t after t).woken c 0 ≡ get_or (w.pass t).woken c 0 + 1
+    one_woken = ap (λ (y : CondPassView). get_or y.woken c 0) (put_same w.pass t after)
+        ∙ get_or-set_same (w.pass t).woken c (get_or (w.pass t).woken c 0 + 1) 0 (let e = (ok.threads t).woken in omega arith)
+
+    -- in c's ledger the letter becomes an ended wait
+    collected_ledger : LedgerFits n (put w.pass t after) spots c
+    collected_ledger =
+        let called = total_same n (λ v. get_or (put w.pass t after v).called c 0) (λ v. get_or (w.pass v).called c 0)
+        (λ v _. put_elim (λ y. get_or y.called c 0 ≡ get_or (w.pass v).called c 0) w.pass t after v
+        (λ vt. ap (λ z. get_or (w.pass z).called c 0) (sym vt)) (λ _. refl)) in
+        let woken = total_but n (λ v. get_or (put w.pass t after v).woken c 0) (λ v. get_or (w.pass v).woken c 0) t near
+        (λ v ne. ap (λ (y : CondPassView). get_or y.woken c 0) (put_other w.pass t after v ne)) in
+        let taken = total_but n (λ v. taken_from c (spots v)) (λ v. taken_from c (w.spot v)) t near
+        (λ v ne. ap (taken_from c) (put_other w.spot t awake v ne)) in
+        let gone : taken_from c (spots t) ≡ 0 = ap (taken_from c) (put_same w.spot t awake) in
+        let was : taken_from c (w.spot t) ≡ 1 = ap (taken_from c) lies ∙ taken_here c in
+        omega (arith, (ok.conds c).ledger, called, woken, one_woken, taken, gone, was)
+
+    -- the thread is awake, in no line and owed nothing
+    collected_thread : ThreadFits n m w.root t after awake
+    collected_thread = record {
+      called = (ok.threads t).called;
+      woken = length-set (w.pass t).woken c (get_or (w.pass t).woken c 0 + 1) ∙ (ok.threads t).woken;
+      outs = λ k e. absurd (no_some k e);
+      spot = refl;
+      in_line = λ k h. absurd (let f : lying c 0 ≡ queued k = sym lies ∙ (ok.threads t).in_line k h in cc);
+      is_owed = λ k h. absurd (let f : lying c 0 ≡ owed k 0 = sym lies ∙ (ok.threads t).is_owed k h in cc);
+    }
+
+    -- whoever fits among the roots fits among them where c's is put again
+    root_again : (v : ℕ) (p : CondPassView) (sp : Spot) → ThreadFits n m w.root v p sp → ThreadFits n m (put w.root c (w.root c)) v p sp
+    root_again v p sp = subst (λ root. ThreadFits n m root v p sp) (sym (put_again w.root c))
+
+    -- the thread collects its letter
+    pub collects_kept : Kept n m (turned w t (one_wait_more (w.pass t) c) (put w.spot t awake) c (w.word c) (w.root c))
+    collects_kept = turns n m w t after spots c (w.word c) (w.root c)
+        (root_again t after (spots t) (subst (ThreadFits n m w.root t after) (sym (put_same w.spot t awake)) collected_thread))
+        (λ v vt. root_again v (w.pass v) (spots v)
+        (subst (ThreadFits n m w.root v (w.pass v)) (sym (put_other w.spot t awake v vt)) (ok.threads v)))
+        (cond_on n c (w.word c) (w.root c) w.pass (put w.pass t after) w.spot spots (ok.conds c)
+        (λ v e. put_elim (λ y. y.sweeps ≡ Some c) w.pass t after v (λ vt. subst (λ z. (w.pass z).sweeps ≡ Some c) vt e) (λ _. e))
+        collected_ledger)
+        (λ k ne. cond_stays n k (w.word k) (w.root k) w.pass w.spot t after spots (ok.conds k) refl
+        (get_or-set_other (w.pass t).woken c k (get_or (w.pass t).woken c 0 + 1) 0 ne) (λ e. e)
+        (λ v. put_elim (λ y. taken_from k y ≡ taken_from k (w.spot v)) w.spot t awake v (λ vt. sym (taken_else k c ne)
+        ∙ (sym (ap (taken_from k) lies) ∙ ap (λ z. taken_from k (w.spot z)) (sym vt))) (λ _. refl)))

@@ -213,54 +213,66 @@ module _ (size : Size) (p : PassRight CondPassView) (q : RootRight CondRootView)
   enlists calm w ws hs ok fit root small = enlists_turn calm 0 ok.some w ws hs ok fit root
 
   module _ (calm : IsCalm p.own) (n : ℕ) (more : Bool) (few : IsCallCount n) (says : SaysMoreBehind n q.own.line more) where
-    calls : (w : CondWorld) (ws : List ℕ) (hs : List (maybe.Option (Unit {0}))) → Fits size w ws
-        → (fit : (t < size.threads) × (w.pass t ≡ p.own))
-        → (root : IsAmongConds size.locks size.conds c × (w.root c ≡ q.own))
-        → (x : ℕ) → x ≡ flag_word (flag_after_call (w.word c) more q.own.line)
-        → BothTurn (meaning size) (word_at c) x p q (Calls p q n more) w ws hs
-    calls w ws hs ok fit root x is =
-        let m : ℕ = key_count size in
-        let line : List ℕ = q.own.line in
-        let line' : (w.root c).line ≡ line = ap (λ (z : CondRootView). z.line) root.1 in
-        let parted : (w.root c).line ≡ take n line ++ drop n line = line' ∙ sym (take-append-drop n line) in
-        let f : Bool = flag_after_call (w.word c) more line in
-        let k : ℕ = dequeued_count n line in
-        let p1 : CondPassView = called_more (w.pass t) c k in
-        let q1 : CondRootView = took_root (w.root c) (take n line) (drop n line) in
-        let spots : ℕ → Spot = owing c (take n line) w.spot in
-        let letters : letters_of spots ≡ letters_of w.spot =
-        takes_letters size.threads m w ok.kept c root.0.1 (take n line) (drop n line) parted f in
-        let w' : CondWorld = turned w t p1 spots c f q1 in
-        record {
-          own = called_more p.own c k;
-          its = called_root q.own n;
-          access = Makes (Call t c n more) (Count k);
-          world = w';
-          fits = record {
-            some = ok.some;
-            words = words_turned size w t p1 spots c f q1 ws ok x root.0 is letters;
-            kept = subst (λ z. Kept size.threads m (turned w t (called_more (w.pass t) c z) spots c f q1)) (length-take n line)
-                (takes_kept size.threads m w ok.kept c root.0.1 (take n line) (drop n line) parted f t fit.0 (w.pass t).sweeps (λ _ _ e. e)
-                (λ e some. (flag_left (w.word c) more n line says e some, (λ g. g))));
-          };
-          pass = (fit.0, put_same w.pass t p1 ∙ ap (λ z. called_more z c k) fit.1);
-          root = (root.0, put_same w.root c q1 ∙ ap (λ z. took_root z (take n line) (drop n line)) root.1);
-          passes = passes_else size w t p1 spots c f q1;
-          roots = roots_else size w t p1 spots c f q1;
-          made = (
-            refl,
-            (
-              subst
-                  (λ z. IsStep size (part_of w) (Call t c n more) (Count (dequeued_count n z))
-                  (part_of (turned w t p1 spots c (flag_after_call (w.word c) more z) q1))) line'
-                  (row_call w size t fit.0 c root.0 p1 spots (calm_in size w ok.kept t p.own fit.1 calm) n more q1 few
-                  (subst (λ z. SaysMoreBehind n z more) (sym line') says) refl
-                  (ap (drop n) (sym line'))),
-              letters,
-            ),
-          );
-          told = λ i. ((i, refl), refl);
-        }
+    -- in the world w the thread calls at most n of c's line, and c's word becomes x, which says its flag after that
+    module _ (w : CondWorld) (ws : List ℕ) (hs : List (maybe.Option (Unit {0}))) (ok : Fits size w ws)
+        (fit : (t < size.threads) × (w.pass t ≡ p.own)) (root : IsAmongConds size.locks size.conds c × (w.root c ≡ q.own))
+        (x : ℕ) (is : x ≡ flag_word (flag_after_call (w.word c) more q.own.line)) where
+      abbrev flag : Bool
+      flag = flag_after_call (w.word c) more q.own.line
+
+      abbrev caller : CondPassView
+      caller = called_more (w.pass t) c (dequeued_count n q.own.line)
+
+      abbrev spots : ℕ → Spot
+      spots = owing c (take n q.own.line) w.spot
+
+      abbrev rest : CondRootView
+      rest = took_root (w.root c) (take n q.own.line) (drop n q.own.line)
+
+      -- the line is those that are dequeued, and behind them those that are not
+      parted : (w.root c).line ≡ take n q.own.line ++ drop n q.own.line
+      parted = ap (λ (z : CondRootView). z.line) root.1 ∙ sym (take-append-drop n q.own.line)
+
+      -- no letter is posted or collected
+      letters : letters_of spots ≡ letters_of w.spot
+      letters = takes_letters size.threads (key_count size) w ok.kept c root.0.1 (take n q.own.line) (drop n q.own.line) parted flag
+
+      -- the rule of threads and conditions is kept
+      call_kept : Kept size.threads (key_count size) (turned w t caller spots c flag rest)
+      call_kept = subst (λ z. Kept size.threads (key_count size) (turned w t (called_more (w.pass t) c z) spots c flag rest))
+          (length-take n q.own.line)
+          (takes_kept size.threads (key_count size) w ok.kept c root.0.1 (take n q.own.line) (drop n q.own.line) parted flag t fit.0
+          (w.pass t).sweeps (λ _ _ e. e) (λ e some. (flag_left (w.word c) more n q.own.line says e some, (λ g. g))))
+
+      -- it is the model's step
+      call_step : IsStep size (part_of w) (Call t c n more) (Count (dequeued_count n q.own.line))
+          (part_of (turned w t caller spots c flag rest))
+      call_step = subst
+          (λ z. IsStep size (part_of w) (Call t c n more) (Count (dequeued_count n z))
+          (part_of (turned w t caller spots c (flag_after_call (w.word c) more z) rest))) (ap (λ (z : CondRootView). z.line) root.1)
+          (row_call w size t fit.0 c root.0 caller spots (calm_in size w ok.kept t p.own fit.1 calm) n more rest few
+          (subst (λ (z : CondRootView). SaysMoreBehind n z.line more) (sym root.1) says) refl
+          (ap (λ (z : CondRootView). drop n z.line) (sym root.1)))
+
+      -- so a call is a step of the pass and the root
+      calls : BothTurn (meaning size) (word_at c) x p q (Calls p q n more) w ws hs
+      calls = record {
+        own = called_more p.own c (dequeued_count n q.own.line);
+        its = called_root q.own n;
+        access = Makes (Call t c n more) (Count (dequeued_count n q.own.line));
+        world = turned w t caller spots c flag rest;
+        fits = record {
+          some = ok.some;
+          words = words_turned size w t caller spots c flag rest ws ok x root.0 is letters;
+          kept = call_kept;
+        };
+        pass = (fit.0, put_same w.pass t caller ∙ ap (λ z. called_more z c (dequeued_count n q.own.line)) fit.1);
+        root = (root.0, put_same w.root c rest ∙ ap (λ z. took_root z (take n q.own.line) (drop n q.own.line)) root.1);
+        passes = passes_else size w t caller spots c flag rest;
+        roots = roots_else size w t caller spots c flag rest;
+        made = (refl, (call_step, letters));
+        told = λ i. ((i, refl), refl);
+      }
 
     pub call_loads : more ≡ true → 0 < dequeued_count n q.own.line
         → AllowsBoth (meaning size) (word_at c) (λ n. n) p q (λ _. Calls p q n more)

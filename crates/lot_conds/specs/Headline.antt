@@ -4,18 +4,15 @@ use Rattle.std.specs.Prelude.{◌≡◌, ◌≢◌, ◌↔◌, ℕ, ◌+◌, ◌
 use Rattle.std.specs.List.{Contains}
 use Rattle.atomic_table.specs.Table.{State}
 use Rattle.lot_core.specs.Sound.{IsOnce}
-use Rattle.lot_rights.specs.declared.views.Entry.{Entry}
 use Rattle.lot_rights.specs.declared.views.Right.{Right}
-use Rattle.lot_rights.specs.History.{events_in, ModelRun}
-use Rattle.lot_rights.specs.Rule.{number, RightFits, IsRight, IsHistory}
-use Rattle.lot_rights.specs.Seating.{times_in, Seated}
+use Rattle.lot_rights.specs.Settled.{OneHistory}
 use Rattle.lot_core.specs.Sums.{total}
-use Rattle.lot_rights.specs.World.{queued, owed, lying, waits_on, letters_of, WordsFit}
+use Rattle.lot_rights.specs.World.{queued, owed, lying, waits_on, WordsFit}
 use Rattle.lot_conds.specs.declared.views.CondPassView.{CondPassView}
 use Rattle.lot_conds.specs.declared.views.CondRootView.{CondRootView}
 use Rattle.lot_conds.specs.declared.views.Size.{Size}
 use Rattle.lot_conds.specs.World.{CondWorld, flag_word, taken_from}
-use Rattle.lot_conds.specs.Rule.{sizes_of, part_of, opening_part, IsStep, meaning}
+use Rattle.lot_conds.specs.Rule.{sizes_of, part_of, meaning}
 
 -- Letters fit: a thread that is out on a condition is in the line of that one alone, or is owed a letter by that root alone, or a letter
 -- lies for it; the others have none
@@ -39,9 +36,6 @@ pub record Headline (size : Size) (s : State (Unit {0}) (List (Right CondPassVie
   pub world : CondWorld
   -- each word is a condition's flag or a thread's letter
   pub words : WordsFit flag_word (sizes_of size) world s.words
-  -- each right is in exactly one place, and knows what the world says of it
-  pub rights : Seated number (RightFits (meaning size) world) s.views
-  pub in_place : (i : ℕ) → IsRight (meaning size) i → times_in number i s.views ≡ 1
   pub letters : LettersFit world
   -- who is in a line is a thread
   pub are_threads : (c t : ℕ) → Contains ((part_of world).conds.line c) t → t < size.threads
@@ -49,7 +43,4 @@ pub record Headline (size : Size) (s : State (Unit {0}) (List (Right CondPassVie
   pub someone_sweeps : (c : ℕ) → (part_of world).conds.flag c ≡ false → (part_of world).conds.line c ≢ []
       → (t : ℕ) × ((t < size.threads) × ((part_of world).sweeps t ≡ Some c))
   pub balanced : IsBalanced size.threads world
-  -- one legal history, of which the rights have all entries, has led here; without its notices it is a run of the model
-  pub log : List Entry
-  pub history : IsHistory (meaning size) log s.views (record { part = part_of world; letters = letters_of world.spot })
-  pub model : ModelRun (IsStep size) opening_part (events_in log) (part_of world)
+  pub run : OneHistory (meaning size) s world

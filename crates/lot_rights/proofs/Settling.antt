@@ -1,11 +1,14 @@
 -- The laws of the history, proved.
 use Rattle.std.proofs.Common.{ℕ, ◌+◌, List, [], ◌∷◌, Some, None, sym, subst, ◌∙◌, arith}
+use Rattle.atomic_table.specs.Table.{State}
 use Rattle.lot_rights.specs.declared.views.Access.{Access}
 use Rattle.lot_rights.specs.declared.views.Access.TheVariants.{Makes, Posts, Collects, Finds}
 use Rattle.lot_rights.specs.declared.views.Entry.{Entry}
+use Rattle.lot_rights.specs.declared.views.Right.{Right}
 use Rattle.lot_rights.specs.History.{Telling, Run, with_event, events_in, ModelRun}
-use Rattle.lot_rights.specs.Rule.{number, made_with, Meaning, Leads, LeadsOn, IsHistory}
+use Rattle.lot_rights.specs.Rule.{number, made_with, Meaning, Leads, LeadsOn, IsHistory, Ruled}
 use Rattle.lot_rights.specs.Settled.{HasOneOutcome, RightsSettle, OneEntryIsOneAccess, NoEntryIsNone, RuledSeatsShow, RuledHasOneRun}
+use Rattle.lot_rights.specs.Settled.{OneHistory}
 use Rattle.lot_rights.proofs.Showing.{join_shows, split_shows, same_shows, more_shows}
 use Rattle.lot_rights.proofs.Uniques.{OneOutcome, one_history, run_one, one_more, none_more}
 
@@ -28,6 +31,15 @@ module _ {S P R : Type 0} (k : Meaning S P R) where
   has_one_run s here = record {
     once = λ i is. omega (arith, here.seats.once i, here.present i is);
     model = run_of_events k.start 0 here.log (k.told_by here.world) here.recorded.run;
+  }
+
+  pub one_history_led : (s : State S (List (Right P R))) (here : Ruled k s) → OneHistory k s here.world
+  one_history_led s here = let run = has_one_run s here in record {
+    rights = here.seats;
+    in_place = run.once;
+    log = here.log;
+    history = here.recorded;
+    model = run.model;
   }
 
   module _ (one : HasOneOutcome k) where

@@ -7,9 +7,9 @@ use Rattle.lot_events.specs.declared.events.Event.{Event}
 use Rattle.lot_events.specs.declared.events.Seen.{Seen}
 use Rattle.lot_rights.specs.declared.views.Entry.{Entry}
 use Rattle.lot_rights.specs.declared.views.Right.{Right}
-use Rattle.lot_rights.specs.Seating.{times_in}
+use Rattle.lot_rights.specs.Seating.{times_in, Seated}
 use Rattle.lot_rights.specs.History.{doer, events_in, ModelRun, SameMade, SameShown, OneMoreShown, Telling, NoLetterInLine}
-use Rattle.lot_rights.specs.Rule.{number, made_with, Meaning, IsRight, Leads, IsHistory, Ruled}
+use Rattle.lot_rights.specs.Rule.{number, made_with, Meaning, RightFits, IsRight, Leads, IsHistory, Ruled}
 
 module _ {S P R : Type 0} (k : Meaning S P R) where
   -- a step of the model has one outcome
@@ -63,3 +63,12 @@ module _ {S P R : Type 0} (k : Meaning S P R) where
 
   abbrev pub RuledHasOneRun : Type 0
   RuledHasOneRun = (s : State S (List (Right P R))) (here : Ruled k s) → HasOneRun s here
+
+  -- What every headline says of its world: each right is in exactly one place, and knows what the world says of it; and one legal history,
+  -- of which the rights have all entries, has led to it. Without its notices that is a run of the model
+  pub record OneHistory (s : State S (List (Right P R))) (w : k.World) : Type 0 where
+    pub rights : Seated number (RightFits k w) s.views
+    pub in_place : (i : ℕ) → IsRight k i → times_in number i s.views ≡ 1
+    pub log : List Entry
+    pub history : IsHistory k log s.views (k.told_by w)
+    pub model : ModelRun k.Step k.start.part (events_in log) (k.told_by w).part

@@ -84,24 +84,21 @@ fn deal_roots<K: Kind>(
     }
 }
 
-/// The memory of a table's rights, before anything lies in it.
-struct Rooms<K: Kind> {
-    passes: Vec<PassOf<K>>,
-    roots: Vec<RootOf<K>>,
-}
-
-impl<K: Kind> Rooms<K> {
-    fn new(alloc: Global, threads: usize, keys: usize) -> Result<Rooms<K>, AllocError>
-        ensures empty { IfOk result (λ r. (vec_len r.passes ≡ 0) × (vec_len r.roots ≡ 0)) }
-        ensures fits { IfOk result (λ r. (threads ≤ vec_capacity r.passes) × (keys ≤ vec_capacity r.roots)) }
-    {
-        let passes = Vec::with_capacity(alloc, threads)?;
-        match Vec::with_capacity(alloc, keys) {
-            Ok(roots) => Ok(Rooms { passes, roots }),
-            Err(refused) => {
-                passes.destroy_empty();
-                Err(refused)
-            }
+/// The memory of a table's rights, before anything lies in it: for the passes and for the roots.
+fn rooms<K: Kind>(
+    alloc: Global,
+    threads: usize,
+    keys: usize,
+) -> Result<(Vec<PassOf<K>>, Vec<RootOf<K>>), AllocError>
+    ensures empty { IfOk result (λ r. (vec_len r.0 ≡ 0) × (vec_len r.1 ≡ 0)) }
+    ensures fits { IfOk result (λ r. (threads ≤ vec_capacity r.0) × (keys ≤ vec_capacity r.1)) }
+{
+    let passes = Vec::with_capacity(alloc, threads)?;
+    match Vec::with_capacity(alloc, keys) {
+        Ok(roots) => Ok((passes, roots)),
+        Err(refused) => {
+            passes.destroy_empty();
+            Err(refused)
         }
     }
 }
@@ -169,12 +166,8 @@ impl<K: Kind> WordsOf<K> {
         ensures rule { IfOk result (λ r. Begins (K.meaning r.0.key) words.now slots.items) }
         ensures back { IfErr result (λ e. e.items ≡ slots.items) }
     {
-        let Rooms {
-            mut passes,
-            mut roots,
-        } = match Rooms::new(alloc, threads, keys) {
-            Ok(rooms) => rooms,
-            Err(_) => return Err(slots),
+        let Ok((mut passes, mut roots)) = rooms(alloc, threads, keys) else {
+            return Err(slots);
         };
         match Table::new(alloc, words, slots, key) {
             Ok((table, mut seat)) => {

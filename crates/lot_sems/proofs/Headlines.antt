@@ -7,7 +7,7 @@ use Rattle.lot_core.specs.Sums.{total}
 use Rattle.lot_rights.specs.declared.views.Right.{Right}
 use Rattle.lot_rights.specs.Rule.{Ruled}
 use Rattle.lot_rights.specs.World.{owed, lying}
-use Rattle.lot_rights.proofs.Settling.{has_one_run}
+use Rattle.lot_rights.proofs.Settling.{one_history_led}
 use Rattle.lot_sems.specs.declared.views.SemPassView.{SemPassView}
 use Rattle.lot_sems.specs.declared.views.SemRootView.{SemRootView}
 use Rattle.lot_sems.specs.World.{Numbers, SemWorld, LettersFit}
@@ -43,13 +43,10 @@ module _ (n : ℕ) (w : SemWorld) (ok : LettersFit n w) where
 
 pub headline : (size : Numbers) (s : State (Unit {0}) (List (Right SemPassView SemRootView))) → Ruled (meaning size) s → Headline size s
 headline size s ru =
-    let run = has_one_run (meaning size) s ru in
     let sound = ru.fits.sound in
     record {
       world = ru.world;
       words = ru.fits.words;
-      rights = ru.seats;
-      in_place = run.once;
       letters = ru.fits.letters;
       trying = is_trying size.threads ru.world ru.fits.letters;
       permits_conserved = sound.permits_conserved;
@@ -58,7 +55,5 @@ headline size s ru =
       permits_are_sought = sound.permits_are_sought;
       seeks = sound.seeks;
       once = sound.once;
-      log = ru.log;
-      history = ru.recorded;
-      model = run.model;
+      run = one_history_led (meaning size) s ru;
     }

@@ -5,24 +5,18 @@ use Rattle.std.specs.List.{Contains}
 use Rattle.atomic_table.specs.Table.{State}
 use Rattle.lot_core.specs.Parts.{PartSeeks}
 use Rattle.lot_core.specs.Sound.{PermitsConserved, SeekersAreMarked, PermitsAreSought, IsOnce}
-use Rattle.lot_rights.specs.declared.views.Entry.{Entry}
 use Rattle.lot_rights.specs.declared.views.Right.{Right}
-use Rattle.lot_rights.specs.History.{events_in, ModelRun}
-use Rattle.lot_rights.specs.Rule.{number, RightFits, IsRight, IsHistory}
-use Rattle.lot_rights.specs.Seating.{times_in, Seated}
-use Rattle.lot_rights.specs.World.{owed, lying, letters_of}
+use Rattle.lot_rights.specs.Settled.{OneHistory}
+use Rattle.lot_rights.specs.World.{owed, lying}
 use Rattle.lot_sems.specs.declared.views.SemPassView.{SemPassView}
 use Rattle.lot_sems.specs.declared.views.SemRootView.{SemRootView}
 use Rattle.lot_sems.specs.World.{Numbers, permits_of, SemWorld, SemWordsFit, LettersFit}
-use Rattle.lot_sems.specs.Rule.{opening_part, IsStep, meaning}
+use Rattle.lot_sems.specs.Rule.{meaning}
 
 pub record Headline (size : Numbers) (s : State (Unit {0}) (List (Right SemPassView SemRootView))) : Type 0 where
   pub world : SemWorld
   -- each word is a semaphore's permits and bit, or a thread's letter
   pub words : SemWordsFit size world s.words
-  -- each right is in exactly one place, and knows what the world says of it
-  pub rights : Seated number (RightFits (meaning size) world) s.views
-  pub in_place : (i : ℕ) → IsRight (meaning size) i → times_in number i s.views ≡ 1
   -- letters fit, and a thread whose letter is owed or lies is trying
   pub letters : LettersFit size.threads world
   pub trying : (t k token : ℕ) → (world.spot t ≡ owed k token) ⊎ (world.spot t ≡ lying k token) → PartSeeks world.part t k
@@ -38,7 +32,4 @@ pub record Headline (size : Numbers) (s : State (Unit {0}) (List (Right SemPassV
   -- who is in a line is a thread that seeks a permit there, and is in it once
   pub seeks : (k t : ℕ) → Contains (world.part.sems.line k) t → (t < size.threads) × (world.part.seeks t ≡ Some k)
   pub once : (k : ℕ) → IsOnce (world.part.sems.line k)
-  -- one legal history, of which the rights have all entries, has led here; without its notices it is a run of the model
-  pub log : List Entry
-  pub history : IsHistory (meaning size) log s.views (record { part = world.part; letters = letters_of world.spot })
-  pub model : ModelRun (IsStep size) (opening_part size) (events_in log) world.part
+  pub run : OneHistory (meaning size) s world

@@ -221,51 +221,58 @@ module _ {R : Type 0} where
     pub no_line : (k : ℕ) → (k < m → k % size ≢ i) → line_of k b.queue ≡ []
     pub no_root : (k : ℕ) → (k < m → k % size ≢ i) → root_at k b.places ≡ None
 
-  pub come_here : (m size : ℕ) (old : List (Contents R)) (before b c : Contents R) (line : List ℕ) (root : Option R)
-      → has_key m before.places ≡ true → HasCome m size (m % size) old before b
-      → ((d : Contents R) → line ≡ line_of m (bucket_of m old d).queue) → ((d : Contents R) → root ≡ root_at m (bucket_of m old d).places)
-      → c ≡ record b { places = with_root m root b.places; queue = b.queue ++ map (λ (t : ℕ). (t, m)) line }
-      → HasCome (m + 1) size (m % size) old before c
-  come_here m size old before b c line root has h same_line same_root is =
-      record {
-        keys = λ k. rw places (has_key-with k m root b.places ∙ h.keys k);
-        room = ap (λ (x : Contents R). x.room) is ∙ h.room;
-        come_line = λ k d lt at. elim (eqb_tells m k) [
-          | inl e ↦ rw (← e.1) (own_line ∙ same_line d)
-          | inr e ↦ other_line k e.1 ∙ h.come_line k d (below_other k m lt e.1) at
-        ];
-        come_root = λ k d lt at. elim (eqb_tells m k) [
-          | inl e ↦ rw (← e.1) (own_root ∙ same_root d)
-          | inr e ↦ other_root k e.1 ∙ h.come_root k d (below_other k m lt e.1) at
-        ];
-        no_line = λ k none. other_line k (not_own k none) ∙ h.no_line k (λ lt. none (omega arith));
-        no_root = λ k none. other_root k (not_own k none) ∙ h.no_root k (λ lt. none (omega arith));
-      }
-    where
-      places : c.places ≡ with_root m root b.places
-      places = ap (λ (x : Contents R). x.places) is
+  -- the new bucket of the key m, to which the line and the root come that m had among the old buckets
+  module _ (m size : ℕ) (old : List (Contents R)) (before b c : Contents R) (line : List ℕ) (root : Option R)
+      (has : has_key m before.places ≡ true) (h : HasCome m size (m % size) old before b)
+      (same_line : (d : Contents R) → line ≡ line_of m (bucket_of m old d).queue)
+      (same_root : (d : Contents R) → root ≡ root_at m (bucket_of m old d).places)
+      (is : c ≡ record b { places = with_root m root b.places; queue = b.queue ++ map (λ (t : ℕ). (t, m)) line }) where
+    -- the root comes to the places, and the line behind the queue
+    places : c.places ≡ with_root m root b.places
+    places = ap (λ (x : Contents R). x.places) is
 
-      queue : c.queue ≡ b.queue ++ map (λ (t : ℕ). (t, m)) line
-      queue = ap (λ (x : Contents R). x.queue) is
+    queue : c.queue ≡ b.queue ++ map (λ (t : ℕ). (t, m)) line
+    queue = ap (λ (x : Contents R). x.queue) is
 
-      own_line : line_of m c.queue ≡ line
-      own_line =
-          rw (queue, line_of-append m b.queue (map (λ (t : ℕ). (t, m)) line), h.no_line m (λ lt. absurd (omega arith)))
-          (line_of-pairs_same m line)
+    -- there m has this line, and this root
+    own_line : line_of m c.queue ≡ line
+    own_line =
+        rw (queue, line_of-append m b.queue (map (λ (t : ℕ). (t, m)) line), h.no_line m (λ lt. absurd (omega arith)))
+        (line_of-pairs_same m line)
 
-      own_root : root_at m c.places ≡ root
-      own_root = rw places (root_at-with_same m root b.places (h.keys m ∙ has))
+    own_root : root_at m c.places ≡ root
+    own_root = rw places (root_at-with_same m root b.places (h.keys m ∙ has))
 
-      other_line : (k : ℕ) → m ≢ k → line_of k c.queue ≡ line_of k b.queue
-      other_line k other =
-          rw (queue, line_of-append k b.queue (map (λ (t : ℕ). (t, m)) line), line_of-pairs_other k m line other)
-          (append-nil (line_of k b.queue))
+    -- other keys have theirs
+    other_line : (k : ℕ) → m ≢ k → line_of k c.queue ≡ line_of k b.queue
+    other_line k other =
+        rw (queue, line_of-append k b.queue (map (λ (t : ℕ). (t, m)) line), line_of-pairs_other k m line other)
+        (append-nil (line_of k b.queue))
 
-      other_root : (k : ℕ) → m ≢ k → root_at k c.places ≡ root_at k b.places
-      other_root k other = rw places (root_at-with_other k m root b.places other)
+    other_root : (k : ℕ) → m ≢ k → root_at k c.places ≡ root_at k b.places
+    other_root k other = rw places (root_at-with_other k m root b.places other)
 
-      not_own : (k : ℕ) → (k < m + 1 → k % size ≢ m % size) → m ≢ k
-      not_own k none e = none (omega arith) (ap (λ (n : ℕ). n % size) (sym e))
+    -- a key that has not come here is not m
+    not_own : (k : ℕ) → (k < m + 1 → k % size ≢ m % size) → m ≢ k
+    not_own k none e = none (omega arith) (ap (λ (n : ℕ). n % size) (sym e))
+
+    -- so one key more has come
+    pub come_here : HasCome (m + 1) size (m % size) old before c
+    come_here =
+        record {
+          keys = λ k. rw places (has_key-with k m root b.places ∙ h.keys k);
+          room = ap (λ (x : Contents R). x.room) is ∙ h.room;
+          come_line = λ k d lt at. elim (eqb_tells m k) [
+            | inl e ↦ rw (← e.1) (own_line ∙ same_line d)
+            | inr e ↦ other_line k e.1 ∙ h.come_line k d (below_other k m lt e.1) at
+          ];
+          come_root = λ k d lt at. elim (eqb_tells m k) [
+            | inl e ↦ rw (← e.1) (own_root ∙ same_root d)
+            | inr e ↦ other_root k e.1 ∙ h.come_root k d (below_other k m lt e.1) at
+          ];
+          no_line = λ k none. other_line k (not_own k none) ∙ h.no_line k (λ lt. none (omega arith));
+          no_root = λ k none. other_root k (not_own k none) ∙ h.no_root k (λ lt. none (omega arith));
+        }
 
   pub come_there : (m size i : ℕ) (old : List (Contents R)) (before b : Contents R) → m % size ≢ i → HasCome m size i old before b
       → HasCome (m + 1) size i old before b

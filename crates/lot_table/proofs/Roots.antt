@@ -57,99 +57,105 @@ module _ {R : Type 0} where
     count : length left ≡ length rest + 1
     count = ap (λ (xs : List R). length xs) popped ∙ length-append rest (root ∷ [])
 
-    bound : length rest % length before < length before
+    -- the bucket of the popped root's key
+    abbrev home : ℕ
+    home = length rest % length before
+
+    bound : home < length before
     bound = omega (arith, some)
 
     pub filling_has : has_key (length rest) (get_or buckets (length rest % length before) r).places ≡ true
     filling_has =
-        f.has (length rest % length before) (length rest) r
-        ∙ has_own (length rest) (length before) (length rest % length before) (length roots) _
-        ((fresh (length rest % length before) r bound).laid_out (length rest)) refl
+        f.has home (length rest) r
+        ∙ has_own (length rest) (length before) home (length roots) _ ((fresh home r bound).laid_out (length rest)) refl
         (omega (arith, count, f.within))
 
     pub filling_empty : root_at (length rest) (get_or buckets (length rest % length before) r).places ≡ None
-    filling_empty = f.empty (length rest % length before) (length rest) r bound (omega (arith, count))
+    filling_empty = f.empty home (length rest) r bound (omega (arith, count))
 
-    pub filling_more : (c : Contents R) → c ≡ record (get_or buckets (length rest % length before) r)
-        { places = with_root (length rest) (Some root) (get_or buckets (length rest % length before) r).places }
-        → AreFilling roots rest before (set buckets (length rest % length before) c)
-    filling_more c put =
-        record {
-          len = length-set buckets (length rest % length before) c ∙ f.len;
-          within = omega (arith, count, f.within);
-          same = λ k lt. sym (slice_get_front rest root k lt) ∙ ap (λ xs. slice_get xs k) (sym popped) ∙ f.same k (omega (arith, count));
-          has = has;
-          queue = queue;
-          empty = empty;
-          full = full;
-        }
-      where
-        here : (d : Contents R) → get_or (set buckets (length rest % length before) c) (length rest % length before) d ≡ c
-        here d = get_or-set_same buckets (length rest % length before) c d (omega (arith, f.len, bound))
+    -- c is what its key's bucket holds once it has the popped root
+    module _ (c : Contents R) (put : c ≡ record (get_or buckets (length rest % length before) r)
+        { places = with_root (length rest) (Some root) (get_or buckets (length rest % length before) r).places }) where
+      abbrev filled : List (Contents R)
+      filled = set buckets home c
 
-        there : (i : ℕ) (d : Contents R) → i ≢ (length rest % length before)
-            → get_or (set buckets (length rest % length before) c) i d ≡ get_or buckets i d
-        there i d other = get_or-set_other buckets (length rest % length before) i c d other
+      -- the bucket of the root is c, and the others are as before
+      filled_here : (d : Contents R) → get_or filled home d ≡ c
+      filled_here d = get_or-set_same buckets home c d (omega (arith, f.len, bound))
 
-        was : (d : Contents R) → get_or buckets (length rest % length before) r ≡ get_or buckets (length rest % length before) d
-        was d = get_or_default buckets (length rest % length before) r d (omega (arith, f.len, bound))
+      filled_there : (i : ℕ) (d : Contents R) → i ≢ home → get_or filled i d ≡ get_or buckets i d
+      filled_there i d other = get_or-set_other buckets home i c d other
 
-        places : (d : Contents R) → c.places ≡ with_root (length rest) (Some root) (get_or buckets (length rest % length before) d).places
-        places d = ap (λ (x : Contents R). x.places) put ∙ ap (λ (x : Contents R). with_root (length rest) (Some root) x.places) (was d)
+      -- where there is a bucket, it is the same whatever stands for none
+      was_here : (d : Contents R) → get_or buckets home r ≡ get_or buckets home d
+      was_here d = get_or_default buckets home r d (omega (arith, f.len, bound))
 
-        has : (i k : ℕ) (d : Contents R) → has_key k (get_or (set buckets (length rest % length before) c) i d).places
-            ≡ has_key k (get_or before i d).places
-        has i k d =
-            elim (eqb_tells i (length rest % length before)) [
-              | inl e ↦
-                  rw (e.1, here d, places d)
-                  (has_key-with k (length rest) (Some root) (get_or buckets (length rest % length before) d).places
-                  ∙ f.has (length rest % length before) k d)
-              | inr e ↦ rw (there i d e.1) (f.has i k d)
-            ]
+      -- the places of c are those that were there, with the root
+      places : (d : Contents R) → c.places ≡ with_root (length rest) (Some root) (get_or buckets home d).places
+      places d = ap (λ (x : Contents R). x.places) put ∙ ap (λ (x : Contents R). with_root (length rest) (Some root) x.places) (was_here d)
 
-        queue : (i : ℕ) (d : Contents R) → (get_or (set buckets (length rest % length before) c) i d).queue ≡ (get_or before i d).queue
-        queue i d =
-            elim (eqb_tells i (length rest % length before)) [
-              | inl e ↦
-                  rw (e.1, here d) (ap (λ (x : Contents R). x.queue) put ∙ ap (λ (x : Contents R). x.queue) (was d)
-                  ∙ f.queue (length rest % length before) d)
-              | inr e ↦ rw (there i d e.1) (f.queue i d)
-            ]
+      -- each bucket has the keys that it had
+      same_keys : (i k : ℕ) (d : Contents R) → has_key k (get_or filled i d).places ≡ has_key k (get_or before i d).places
+      same_keys i k d =
+          elim (eqb_tells i home) [
+            | inl e ↦ rw (e.1, filled_here d, places d)
+                (has_key-with k (length rest) (Some root) (get_or buckets home d).places ∙ f.has home k d)
+            | inr e ↦ rw (filled_there i d e.1) (f.has i k d)
+          ]
 
-        empty : (i k : ℕ) (d : Contents R) → i < length before → k < length rest
-            → root_at k (get_or (set buckets (length rest % length before) c) i d).places ≡ None
-        empty i k d lt l =
-            elim (eqb_tells i (length rest % length before)) [
-              | inl e ↦
-                  rw (e.1, here d, places d)
-                  (root_at-with_other k (length rest) (Some root) (get_or buckets (length rest % length before) d).places (λ x. omega arith)
-                  ∙ f.empty (length rest % length before) k d bound (omega (arith, count)))
-              | inr e ↦ rw (there i d e.1) (f.empty i k d lt (omega (arith, count)))
-            ]
+      -- and the queue
+      same_queues : (i : ℕ) (d : Contents R) → (get_or filled i d).queue ≡ (get_or before i d).queue
+      same_queues i d =
+          elim (eqb_tells i home) [
+            | inl e ↦ rw (e.1, filled_here d)
+                (ap (λ (x : Contents R). x.queue) put ∙ ap (λ (x : Contents R). x.queue) (was_here d) ∙ f.queue home d)
+            | inr e ↦ rw (filled_there i d e.1) (f.queue i d)
+          ]
 
-        own : slice_get roots (length rest) ≡ Some root
-        own = sym (f.same (length rest) (omega (arith, count))) ∙ ap (λ xs. slice_get xs (length rest)) popped ∙ slice_get_end rest root
+      -- the keys below the popped root's still have none
+      still_empty : (i k : ℕ) (d : Contents R) → i < length before → k < length rest → root_at k (get_or filled i d).places ≡ None
+      still_empty i k d lt l =
+          elim (eqb_tells i home) [
+            | inl e ↦ rw (e.1, filled_here d, places d)
+                (root_at-with_other k (length rest) (Some root) (get_or buckets home d).places (λ x. omega arith)
+                ∙ f.empty home k d bound (omega (arith, count)))
+            | inr e ↦ rw (filled_there i d e.1) (f.empty i k d lt (omega (arith, count)))
+          ]
 
-        full : (k : ℕ) (d : Contents R) → length rest ≤ k → k < length roots
-            → root_at k (get_or (set buckets (length rest % length before) c) (k % length before) d).places ≡ slice_get roots k
-        full k d le lt =
-            elim (eqb_tells (length rest) k) [
-              | inl e ↦
-                  rw (← e.1)
-                  (rw (here d, places d)
-                  (root_at-with_same (length rest) (Some root) (get_or buckets (length rest % length before) d).places
-                  (ap (λ (x : Contents R). has_key (length rest) x.places) (sym (was d)) ∙ filling_has) ∙ sym own))
-              | inr e ↦
-                  let later : length left ≤ k = omega (arith, count, le, e.1) in
-                  elim (eqb_tells (k % length before) (length rest % length before)) [
-                    | inl a ↦
-                        rw (a.1, here d, places d)
-                        (root_at-with_other k (length rest) (Some root) (get_or buckets (length rest % length before) d).places e.1
-                        ∙ ap (λ (i : ℕ). root_at k (get_or buckets i d).places) (sym a.1) ∙ f.full k d later lt)
-                    | inr a ↦ rw (there (k % length before) d a.1) (f.full k d later lt)
-                  ]
-            ]
+      -- the popped root's key has it
+      own_full : (d : Contents R) → root_at (length rest) (get_or filled home d).places ≡ slice_get roots (length rest)
+      own_full d = rw (filled_here d, places d)
+          (root_at-with_same (length rest) (Some root) (get_or buckets home d).places
+          (ap (λ (x : Contents R). has_key (length rest) x.places) (sym (was_here d)) ∙ filling_has)
+          ∙ (sym (slice_get_end rest root) ∙ ap (λ xs. slice_get xs (length rest)) (sym popped)
+          ∙ f.same (length rest) (omega (arith, count))))
+
+      -- and the keys above have theirs
+      others_full : (k : ℕ) (d : Contents R) → length left ≤ k → k < length roots
+          → root_at k (get_or filled (k % length before) d).places ≡ slice_get roots k
+      others_full k d le lt =
+          elim (eqb_tells (k % length before) home) [
+            | inl a ↦ rw (a.1, filled_here d, places d)
+                (root_at-with_other k (length rest) (Some root) (get_or buckets home d).places (λ x. omega (arith, count))
+                ∙ ap (λ (i : ℕ). root_at k (get_or buckets i d).places) (sym a.1) ∙ f.full k d le lt)
+            | inr a ↦ rw (filled_there (k % length before) d a.1) (f.full k d le lt)
+          ]
+
+      -- so one root more is in its bucket
+      pub filling_more : AreFilling roots rest before (set buckets (length rest % length before) c)
+      filling_more =
+          record {
+            len = length-set buckets home c ∙ f.len;
+            within = omega (arith, count, f.within);
+            same = λ k lt. sym (slice_get_front rest root k lt) ∙ ap (λ xs. slice_get xs k) (sym popped) ∙ f.same k (omega (arith, count));
+            has = same_keys;
+            queue = same_queues;
+            empty = still_empty;
+            full = λ k d le lt. elim (eqb_tells (length rest) k) [
+              | inl e ↦ rw (← e.1) (own_full d)
+              | inr e ↦ others_full k d (omega (arith, count, e.1)) lt
+            ];
+          }
 
   some_at : (k : ℕ) (xs : List R) → k < length xs → (x : R) × (slice_get xs k ≡ Some x)
   some_at k xs lt = elim (slice_get_cases xs k).1 [ inl e ↦ (e.0, e.2) | inr e ↦ absurd (omega arith) ]

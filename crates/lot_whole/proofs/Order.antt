@@ -26,7 +26,7 @@ use Rattle.lot_whole.specs.Family.{Which, lock, cond, sem, LotSize}
 use Rattle.lot_whole.specs.Whole.{WholeStep, word_in, line_in, IsQueued, Counts, counts_in, opening_of}
 use Rattle.lot_whole.specs.Headline.{event_of}
 use Rattle.lot_whole.proofs.Whole.{counts_after}
-use Rattle.lot_whole.specs.Order.{accesses_of, Queues, Dequeues, SeesIn, LettersFollow}
+use Rattle.lot_whole.specs.Order.{IsLogOf, state_after, accesses_of, Queues, Dequeues, SeesIn, WasTaken, LettersFollow}
 
 -- ---- parts of a run
 module _ {S : Type 0} (Leads : S → Access → S → Type 0) where
@@ -44,6 +44,21 @@ module _ {S : Type 0} (Leads : S → Access → S → Type 0) where
     run.0,
     (run.1.0, (run.1.1.0, run_joined run.1.0 (k + 1) xs ys b c run.1.1.1 (subst (λ i. Run Leads b i ys c) (omega arith) rest))),
   )
+
+  -- the run goes by an entry: from where the entries before it lead, to where those behind it begin
+  record GoesBy (a : S) (k : ℕ) (front : List Entry) (entry : Entry) (back : List Entry) (b : S) : Type 0 where
+    before : S
+    now : S
+    run : Run Leads a k front before
+    at : entry.at ≡ k + length front
+    step : Leads before entry.access now
+    rest : Run Leads now (k + length front + 1) back b
+
+  goes_by : (a : S) (k : ℕ) (front : List Entry) (entry : Entry) (back : List Entry) (b : S) → Run Leads a k (front ++ entry ∷ back) b
+      → GoesBy a k front entry back b
+  goes_by a k front entry back b run =
+      let r = run_parts a k front (entry ∷ back) b run in
+      record { before = r.0; now = r.1.1.1.0; run = r.1.0; at = r.1.1.0; step = r.1.1.1.1.0; rest = r.1.1.1.1.1 }
 
 -- ---- an access of a right in the log, and what the right has made before and after it
 record Placed (i : ℕ) (log : List Entry) (front : List Access) (x : Access) (rest : List Access) : Type 0 where
@@ -324,62 +339,122 @@ module _ (z : LotSize) where
         (in_or_not (line_in run.1.0.part j c) t)
 
 -- ---- the law
+-- in the log of a lot the thread t was queued at the key c by its access x, and collected a letter by its later access y
+module _ (z : LotSize) (log : List Entry) (b : Telling World) (run : IsLogOf z log b) (j : Which) (t c token : ℕ) (front : List Access)
+    (x : Access) (between : List Access) (y : Access) (back : List Access)
+    (mine : accesses_of (2 * t) log ≡ front ++ x ∷ (between ++ y ∷ back)) (queues : Queues j t c x)
+    (collects : y ≡ Collects t (Some token)) where
+  abbrev start : Telling World
+  start = no_letters (opening_of z)
+
+  -- the entry of x, and behind it the one of y
+  at_x : Placed (2 * t) log front x (between ++ y ∷ back)
+  at_x = place_of (2 * t) log x (between ++ y ∷ back) front mine
+
+  at_y : Placed (2 * t) at_x.behind between y back
+  at_y = place_of (2 * t) at_x.behind y back between at_x.behind_is
+
+  -- the run goes by both
+  by_x : GoesBy (Goes z) start 0 at_x.before at_x.entry at_x.behind b
+  by_x = goes_by (Goes z) start 0 at_x.before at_x.entry at_x.behind b (subst (λ es. Run (Goes z) start 0 es b) at_x.there run)
+
+  abbrev past_x : ℕ
+  past_x = 0 + length at_x.before + 1
+
+  by_y : GoesBy (Goes z) by_x.now past_x at_y.before at_y.entry at_y.behind b
+  by_y = goes_by (Goes z) by_x.now past_x at_y.before at_y.entry at_y.behind b
+      (subst (λ es. Run (Goes z) by_x.now past_x es b) at_y.there by_x.rest)
+
+  -- after x the thread is in the line
+  is_in : Contains (line_in by_x.now.part j c) t
+  is_in = was_queued z j t c by_x.before at_x.entry.access by_x.now by_x.step.0 (subst (Queues j t c) (sym at_x.entry_is) queues)
+
+  -- and before y it is not, since a letter lies for it
+  is_not_in : ¬ Contains (line_in by_y.before.part j c) t
+  is_not_in h =
+      let none = still_none z by_x.now past_x at_y.before by_y.before by_y.run by_x.step.1 t (j, c, h) in
+      let lay = letter_lay z t token by_y.before at_y.entry.access by_y.now by_y.step.0 (at_y.entry_is ∙ collects) in
+      absurd (omega arith)
+
+  -- so it leaves the line by an entry between them
+  leaving : Leaves z j t c by_x.now past_x at_y.before
+  leaving = leaves z j t c by_x.now past_x at_y.before by_y.before by_y.run is_in is_not_in
+
+  -- what the log has before that entry, and behind it
+  abbrev until : List Entry
+  until = at_x.before ++ at_x.entry ∷ leaving.front
+
+  abbrev since : List Entry
+  since = leaving.back ++ at_y.entry ∷ at_y.behind
+
+  -- the log is these
+  in_log : log ≡ at_x.before ++ at_x.entry ∷ (leaving.front ++ leaving.entry ∷ since)
+  in_log = at_x.there ∙ ap (λ es. at_x.before ++ at_x.entry ∷ es) (at_y.there ∙ (ap (λ es. es ++ at_y.entry ∷ at_y.behind) leaving.there
+      ∙ append_assoc leaving.front (leaving.entry ∷ leaving.back) (at_y.entry ∷ at_y.behind)))
+
+  -- the run up to it, and past it
+  run_until : Run (Goes z) start 0 until leaving.before
+  run_until = run_joined (Goes z) start 0 at_x.before (at_x.entry ∷ leaving.front) by_x.before leaving.before by_x.run
+      (by_x.at, (by_x.now, (by_x.step, leaving.run)))
+
+  run_past : Run (Goes z) start 0 (until ++ leaving.entry ∷ []) leaving.now
+  run_past =
+      let at : leaving.entry.at ≡ 0 + length until
+      = omega (arith, leaving.at, length-append at_x.before (at_x.entry ∷ leaving.front)) in
+      run_more (Goes z) start 0 until leaving.before leaving.entry leaving.now run_until at leaving.step
+
+  -- the state before it is the one to which the log leads
+  state_until : leaving.before.part ≡ state_after z until
+  state_until = state_is z start 0 until leaving.before run_until
+
+  -- it takes threads from the line, and is an event of a thread
+  is_taking : Taking z j c leaving.before leaving.entry.access
+  is_taking = was_taken z j t c leaving.before leaving.entry.access leaving.now leaving.step.0 leaving.was_in leaving.is_out
+
+  abbrev taker : ℕ
+  taker = is_taking.1.0
+
+  -- the thread is one of the lot
+  taker_near : taker < z.threads
+  taker_near = subst (λ n. taker < n) (ap (λ (n : Counts). n.threads)
+      (ap counts_in state_until ∙ counts_all (opening_of z) (map event_of (events_in until)))) is_taking.1.1
+
+  -- and its pass shows the entry
+  taker_shows : entries_of (2 * taker) log ≡ entries_of (2 * taker) until ++ (leaving.entry ∷ entries_of (2 * taker) since)
+  taker_shows = ap (entries_of (2 * taker)) (in_log ∙ sym (append_assoc at_x.before (at_x.entry ∷ leaving.front) (leaving.entry ∷ since)))
+      ∙ shows until leaving.entry since (2 * taker) is_taking.1.2
+
+  -- so between x and y the thread was taken from the line
+  letter_follows : WasTaken z j t c log front x between y
+  letter_follows = record {
+    before = at_x.before;
+    first = at_x.entry;
+    waiting = leaving.front;
+    taking = leaving.entry;
+    since = leaving.back;
+    last = at_y.entry;
+    after = at_y.behind;
+    there = in_log;
+    front_is = at_x.before_is;
+    first_is = at_x.entry_is;
+    between_is = subst (λ es. accesses_of (2 * t) es ≡ between) leaving.there at_y.before_is;
+    last_is = at_y.entry_is;
+    takes = is_taking.0;
+    saw = subst (λ s. SeesIn s leaving.entry.access) state_until
+        (sees_by z leaving.before leaving.entry.access leaving.now leaving.step.0);
+    was_in = subst (λ s. Contains (line_in s j c) t) state_until leaving.was_in;
+    is_out = subst (λ s. ¬ Contains (line_in s j c) t)
+        (state_is z start 0 (until ++ leaving.entry ∷ []) leaving.now run_past) leaving.is_out;
+    maker = taker;
+    is_thread = taker_near;
+    made_by = is_taking.1.2;
+    shown = subst (λ es. Contains es leaving.entry) (sym taker_shows)
+        (there_in (entries_of (2 * taker) until) leaving.entry (entries_of (2 * taker) since));
+    made = subst (λ es. Contains es leaving.entry.access)
+        (sym (ap (map (λ (e : Entry). e.access)) taker_shows
+        ∙ map-append (λ (e : Entry). e.access) (entries_of (2 * taker) until) (leaving.entry ∷ entries_of (2 * taker) since)))
+        (there_in (accesses_of (2 * taker) until) leaving.entry.access (accesses_of (2 * taker) since));
+  }
+
 pub letters_follow : LettersFollow
-letters_follow z log b run j t c token front x between y back mine queues collects =
-    let start : Telling World = no_letters (opening_of z) in
-    let p = place_of (2 * t) log x (between ++ y ∷ back) front mine in
-    let q = place_of (2 * t) p.behind y back between p.behind_is in
-    let to_x = run_parts (Goes z) start 0 p.before (p.entry ∷ p.behind) b (subst (λ zs. Run (Goes z) start 0 zs b) p.there run) in
-    let rest = to_x.1.1 in
-    let v : Telling World = rest.1.0 in
-    let k : ℕ = 0 + length p.before + 1 in
-    let to_y = run_parts (Goes z) v k q.before (q.entry ∷ q.behind) b (subst (λ zs. Run (Goes z) v k zs b) q.there rest.1.1.1) in
-    let w : Telling World = to_y.0 in
-    let none = still_none z v k q.before w to_y.1.0 rest.1.1.0.1 in
-    let lay = letter_lay z t token w q.entry.access to_y.1.1.1.0 to_y.1.1.1.1.0.0 (q.entry_is ∙ collects) in
-    let here = was_queued z j t c to_x.0 p.entry.access v rest.1.1.0.0 (subst (Queues j t c) (sym p.entry_is) queues) in
-    let l = leaves z j t c v k q.before w to_y.1.0 here (λ h. let no = none t (j, c, h) in absurd (omega arith)) in
-    let front' : List Entry = p.before ++ p.entry ∷ l.front in
-    let back' : List Entry = l.back ++ q.entry ∷ q.behind in
-    let to_l : Run (Goes z) start 0 front' l.before = run_joined (Goes z) start 0 p.before (p.entry ∷ l.front) to_x.0 l.before to_x.1.0
-    (rest.0, (v, (rest.1.1.0, l.run))) in
-    let at : l.entry.at ≡ 0 + length front' = omega (arith, l.at, length-append p.before (p.entry ∷ l.front)) in
-    let past_l : Run (Goes z) start 0 (front' ++ l.entry ∷ []) l.now =
-    run_more (Goes z) start 0 front' l.before l.entry l.now to_l at l.step in
-    let there : log ≡ p.before ++ p.entry ∷ (l.front ++ l.entry ∷ back') = p.there
-    ∙ ap (λ zs. p.before ++ p.entry ∷ zs)
-    (q.there ∙ (ap (λ zs. zs ++ q.entry ∷ q.behind) l.there ∙ append_assoc l.front (l.entry ∷ l.back) (q.entry ∷ q.behind))) in
-    let state = state_is z start 0 front' l.before to_l in
-    let taking = was_taken z j t c l.before l.entry.access l.now l.step.0 l.was_in l.is_out in
-    let u : ℕ = taking.1.0 in
-    let threads : l.before.part.threads ≡ z.threads = ap (λ (n : Counts). n.threads)
-    (ap counts_in state ∙ counts_all (opening_of z) (map event_of (events_in front'))) in
-    let shown : entries_of (2 * u) log ≡ entries_of (2 * u) front' ++ (l.entry ∷ entries_of (2 * u) back')
-    = ap (entries_of (2 * u)) (there ∙ sym (append_assoc p.before (p.entry ∷ l.front) (l.entry ∷ back')))
-    ∙ shows front' l.entry back' (2 * u) taking.1.2 in
-    record {
-      before = p.before;
-      first = p.entry;
-      waiting = l.front;
-      taking = l.entry;
-      since = l.back;
-      last = q.entry;
-      after = q.behind;
-      there = there;
-      front_is = p.before_is;
-      first_is = p.entry_is;
-      between_is = subst (λ zs. accesses_of (2 * t) zs ≡ between) l.there q.before_is;
-      last_is = q.entry_is;
-      takes = taking.0;
-      saw = subst (λ s. SeesIn s l.entry.access) state (sees_by z l.before l.entry.access l.now l.step.0);
-      was_in = subst (λ s. Contains (line_in s j c) t) state l.was_in;
-      is_out = subst (λ s. ¬ Contains (line_in s j c) t) (state_is z start 0 (front' ++ l.entry ∷ []) l.now past_l) l.is_out;
-      maker = u;
-      is_thread = subst (λ n. u < n) threads taking.1.1;
-      made_by = taking.1.2;
-      shown = subst (λ zs. Contains zs l.entry) (sym shown) (there_in (entries_of (2 * u) front') l.entry (entries_of (2 * u) back'));
-      made = subst (λ zs. Contains zs l.entry.access)
-          (sym (ap (map (λ (e : Entry). e.access)) shown
-          ∙ map-append (λ (e : Entry). e.access) (entries_of (2 * u) front') (l.entry ∷ entries_of (2 * u) back')))
-          (there_in (accesses_of (2 * u) front') l.entry.access (accesses_of (2 * u) back'));
-    }
+letters_follow = letter_follows

@@ -45,9 +45,8 @@ impl<V: Keeps> LotWords<V> {
         ensures back { IfErr result (λ e. e.1.items ≡ values.items) }
     {
         let locks = values.len();
-        let first_sem = locks + conds;
-        let keys = first_sem + permits.len();
-        let Ok(words) = words_at_opening(alloc, threads, first_sem, &permits) else {
+        let keys = locks + conds + permits.len();
+        let Ok(words) = words_at_opening(alloc, threads, locks + conds, &permits) else {
             return Err((WordsFault::NoMemory, values));
         };
         let Ok(mut slots) = Vec::with_capacity(alloc, locks) else {
@@ -56,14 +55,10 @@ impl<V: Keeps> LotWords<V> {
         let start = Start::new(threads, &values, conds, &permits);
         shelve(&mut values, &mut slots);
         match WordsOf::open_with(alloc, &start, words.as_slice(), slots, threads, 0, keys) {
-            Ok((words, passes, roots)) => Ok((
-                LotWords {
-                    words,
-                    room: Exclusive::new(values),
-                },
-                passes,
-                roots,
-            )),
+            Ok((words, passes, roots)) => {
+                let room = Exclusive::new(values);
+                Ok((LotWords { words, room }, passes, roots))
+            }
             Err(slots) => Err((WordsFault::NoMemory, unshelve(slots, values))),
         }
     }

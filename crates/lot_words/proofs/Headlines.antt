@@ -7,7 +7,7 @@ use Rattle.lot_core.proofs.Members.{in_none}
 use Rattle.lot_rights.specs.declared.views.Right.{Right}
 use Rattle.lot_rights.specs.Rule.{Ruled}
 use Rattle.lot_rights.specs.World.{Spot, awake, queued, owed, lying, waits_on, IsLetter}
-use Rattle.lot_rights.proofs.Settling.{has_one_run}
+use Rattle.lot_rights.proofs.Settling.{one_history_led}
 use Rattle.lot_words.specs.declared.views.LockPassView.{LockPassView}
 use Rattle.lot_words.specs.declared.views.LockRootView.{LockRootView}
 use Rattle.lot_words.specs.declared.views.Size.{Size}
@@ -120,15 +120,11 @@ module _ {V : Type 0} (n m : ℕ) (w : LockWorld V) (ok : Kept n m w) where
 pub headline : {V Part : Type 0} (rule : CallersRule V Part) (size : Size) (xs : List V)
     (s : State (Option V) (List (Right (LockPassView V) LockRootView)))
     → Ruled (meaning rule size xs) s → Headline rule size xs s
-headline rule size xs s ru = let run = has_one_run (meaning rule size xs) s ru in record {
+headline rule size xs s ru = record {
   world = ru.world;
   words = ru.fits.words;
-  rights = ru.seats;
-  in_place = run.once;
   letters = letters_fit size.threads size.locks ru.world ru.fits.kept;
   sound = sound size.threads size.locks ru.world ru.fits.kept;
   lawful = ru.fits.lawful;
-  log = ru.log;
-  history = ru.recorded;
-  model = run.model;
+  run = one_history_led (meaning rule size xs) s ru;
 }

@@ -1,6 +1,6 @@
 -- A lock is got, wanted, marked, let go, or found parked, and a thread queues on it: the rule of threads and locks is kept.
-use Rattle.std.proofs.Common.{◌≡◌, ◌≢◌, ℕ, suc, ◌<◌, Bool, true, false, [], ◌∷◌, ◌++◌, length, refl, sym, ap, subst, ◌∙◌, inl, arith}
-use Rattle.std.proofs.Common.{length-set, get_or-set_same, get_or-set_other, Some}
+use Rattle.std.proofs.Common.{◌≡◌, ◌≢◌, ℕ, suc, ◌<◌, Bool, true, false, [], ◌∷◌, ◌++◌, length, refl, sym, ap, subst, ◌∙◌, arith}
+use Rattle.std.proofs.Common.{length-set, get_or-set_other, Some}
 use Rattle.std.specs.List.{Contains}
 use Rattle.std.proofs.lemmas.List.Elements.{Contains-append_left, Contains-push}
 use Rattle.lot_core.specs.World.{put}
@@ -14,18 +14,25 @@ use Rattle.lot_words.specs.declared.views.LockPassView.{LockPassView}
 use Rattle.lot_words.specs.declared.views.LockRootView.{LockRootView}
 use Rattle.lot_words.specs.World.{LockWord, LockWorld, IsHeld, IsFound, Holds, IsHanded, IsOutside, SpotFits, ThreadFits, LockFits, Kept}
 use Rattle.lot_words.specs.Calls.{owning, wanting, sleeping, letting_go, finding_parked, Aims}
-use Rattle.lot_words.proofs.Machine.{set_elim, no_aim, same_roots, same_for, awake_is, thread_on, lock_stays, each_thread, each_word}
-use Rattle.lot_words.proofs.Machine.{each_root}
+use Rattle.lot_words.proofs.Machine.{SameFor, set_elim, same_roots, same_for, awake_is, thread_on, thread_at, got_fits, got_lock}
+use Rattle.lot_words.proofs.Machine.{lock_stays, each_thread, each_word, each_root}
 
 module _ {V : Type 0} (n m : ℕ) (w : LockWorld V) (ok : Kept n m w) (t : ℕ) (near : t < n) (up : (w.pass t).asleep ≡ false) where
   pub is_awake : w.spot t ≡ awake
   is_awake = awake_is n w.word w.root t (w.pass t) (w.spot t) (ok.threads t).spot up
 
+  -- its notice is in no line, and it is owed no letter
+  is_outside : IsOutside (w.spot t)
+  is_outside k e = let f : awake ≡ queued k = sym is_awake ∙ e in cc
+
+  is_not_owed : (k c : ℕ) → w.spot t ≢ owed k c
+  is_not_owed k c e = let f : awake ≡ owed k c = sym is_awake ∙ e in cc
+
   pub in_no_line : (k : ℕ) → ¬ Contains (w.root k).line t
-  in_no_line k h = let e : awake ≡ queued k = sym is_awake ∙ (ok.threads t).in_line k h in cc
+  in_no_line k h = is_outside k ((ok.threads t).in_line k h)
 
   pub is_owed_nothing : (k c : ℕ) → (w.root k).owes ≡ Some (t, c) → ⊥
-  is_owed_nothing k c h = let e : awake ≡ owed k c = sym is_awake ∙ (ok.threads t).is_owed k c h in cc
+  is_owed_nothing k c h = is_not_owed k c ((ok.threads t).is_owed k c h)
 
   pub not_handed : (k : ℕ) → ¬ IsHanded (w.spot t) k
   not_handed k h = subst (λ z. IsHanded z k) is_awake h
@@ -42,43 +49,21 @@ module _ {V : Type 0} (n m : ℕ) (w : LockWorld V) (ok : Kept n m w) (t : ℕ) 
           word = put w.word l (record { owner = suc t; parked = (w.word l).parked });
         })
     gets_kept unheld aims x =
-        let p : LockPassView V = owning (w.pass t) l x in
         let xs = (w.pass t).holds in
+        let p : LockPassView V = owning (w.pass t) l x in
         let y : LockWord = record { owner = suc t; parked = (w.word l).parked } in
         let word : ℕ → LockWord = put w.word l y in
-        let me = ok.threads t in
+        let fits : (v : ℕ) → ThreadFits n word w.root m v (w.pass v) (w.spot v)
+        = (λ v. thread_at n m w.word l y w.root w.root v (w.pass v) (w.spot v) (λ e. absurd (omega arith)) (λ _ e. e) (same_roots v w.root)
+        (ok.threads v)) in
         record {
           threads = each_thread n m w word w.root w.spot t p
-              (record {
-                long = length-set xs l Held ∙ me.long;
-                aims = λ k a. absurd (no_aim k a);
-                holds = λ k. set_elim xs l k Held (λ h. IsHeld h → (word k).owner ≡ suc t) lock_near
-                    (λ e _. subst (λ z. (word z).owner ≡ suc t) (sym e) (ap (λ (z : LockWord). z.owner) (put_same w.word l y)))
-                    (λ ne h. ap (λ (z : LockWord). z.owner) (put_other w.word l y k ne) ∙ me.holds k h);
-                found = λ k. set_elim xs l k Held (λ h. IsFound h → (word k).parked ≡ true) lock_near (λ e h. absurd h)
-                    (λ ne h. ap (λ (z : LockWord). z.parked) (put_other w.word l y k ne) ∙ me.found k h);
-                spot = subst (SpotFits n word w.root t p) (sym is_awake) up;
-                in_line = me.in_line;
-                is_owed = me.is_owed;
-                handed = λ k h. absurd (not_handed k h);
-              })
-              (λ v ne. thread_on n m w.word word w.root w.root v (w.pass v) (w.spot v)
-              (λ k. put_elim (λ z. (w.word k).owner ≡ suc v → z.owner ≡ suc v) w.word l y k
-              (λ kl e. absurd (let f : (w.word l).owner ≡ suc v = subst (λ z. (w.word z).owner ≡ suc v) kl e in omega arith)) (λ _ e. e))
-              (λ k _. put_elim (λ z. (w.word k).parked ≡ true → z.parked ≡ true) w.word l y k
-              (λ kl e. subst (λ z. (w.word z).parked ≡ true) kl e) (λ _ e. e))
-              (same_roots v w.root) (ok.threads v));
+              (subst (ThreadFits n word w.root m t p) (sym is_awake)
+              (got_fits n m word w.root t l (w.pass t) (w.spot t) x (w.pass t).asleep up here
+              (ap (λ (z : LockWord). z.owner) (put_same w.word l y)) is_outside is_not_owed (fits t)))
+              (λ v _. fits v);
           locks = each_word n (put w.pass t p) w.spot w l y (w.root l)
-              (record {
-                once = (ok.locks l).once;
-                had = λ v e. let tv : t ≡ v = omega arith in (
-                  omega arith,
-                  inl (subst (λ z. Holds (put w.pass t p z) l) tv (subst (λ (z : LockPassView V). Holds z l) (sym (put_same w.pass t p))
-                      (subst IsHeld (sym (get_or-set_same xs l Held NotHeld lock_near)) tt))),
-                );
-                parks = (ok.locks l).parks;
-                tried = λ e _. absurd (omega arith);
-              })
+              (got_lock n w.pass w.spot t l x (w.pass t).asleep y (w.root l) near lock_near refl (ok.locks l).once (ok.locks l).parks)
               (λ k ne. lock_stays n k (w.word k) (w.root k) w.pass w.spot t p w.spot (ok.locks k)
               (λ h. subst IsHeld (sym (get_or-set_other xs l k Held NotHeld ne)) h) (λ v h. h)
               (λ _ a. absurd (ne (aims k a))) (λ _ v _ h. h));
@@ -111,15 +96,49 @@ module _ {V : Type 0} (n m : ℕ) (w : LockWorld V) (ok : Kept n m w) (t : ℕ) 
     marks_kept =
         let y : LockWord = record { owner = (w.word l).owner; parked = true } in
         record {
-          threads = λ v. thread_on n m w.word (put w.word l y) w.root w.root v (w.pass v) (w.spot v)
-              (λ k. put_elim (λ z. (w.word k).owner ≡ suc v → z.owner ≡ suc v) w.word l y k
-              (λ kl e. subst (λ z. (w.word z).owner ≡ suc v) kl e) (λ _ e. e))
-              (λ k _. put_elim (λ z. (w.word k).parked ≡ true → z.parked ≡ true) w.word l y k (λ _ _. refl) (λ _ e. e))
-              (same_roots v w.root) (ok.threads v);
+          threads = λ v. thread_at n m w.word l y w.root w.root v (w.pass v) (w.spot v) (λ e. e) (λ _ _. refl) (same_roots v w.root)
+              (ok.threads v);
           locks =
               each_word n w.pass w.spot w l y (w.root l) (let a = ok.locks l in
               record { once = a.once; had = a.had; parks = λ _. refl; tried = a.tried }) (λ k _. ok.locks k);
         }
+
+    -- the root of the lock, in whose line the thread is the last
+    abbrev lined : LockRootView
+    lined = record (w.root l) { line = (w.root l).line ++ t ∷ [] }
+
+    module _ (aim : (w.pass t).aim ≡ Some l) where
+      -- the thread fits in the line, asleep
+      sleeper_fits : ThreadFits n w.word (put w.root l lined) m t (sleeping (w.pass t)) (queued l)
+      sleeper_fits = let me = ok.threads t in record {
+        long = me.long;
+        aims = me.aims;
+        holds = me.holds;
+        found = me.found;
+        spot = (
+          (near, refl, aim),
+          subst (λ (z : LockRootView). Contains z.line t) (sym (put_same w.root l lined)) (Contains-push (w.root l).line t),
+        );
+        in_line =
+            λ k. put_elim (λ z. Contains z.line t → queued l ≡ queued k) w.root l lined k (λ e _. ap queued (sym e))
+            (λ _ h. absurd (in_no_line k h));
+        is_owed =
+            λ k c. put_elim (λ z. z.owes ≡ Some (t, c) → queued l ≡ owed k c) w.root l lined k (λ _ h. absurd (is_owed_nothing l c h))
+            (λ _ h. absurd (is_owed_nothing k c h));
+        handed = λ k h. absurd h;
+      }
+
+      -- every lock fits as before: the one that the thread tries for is held
+      locks_wait : (w.word l).owner ≢ 0 → (k : ℕ)
+          → LockFits n (put w.pass t (sleeping (w.pass t))) (put w.spot t (queued l)) k (w.word k) (w.root k)
+      locks_wait held k =
+          lock_stays n k (w.word k) (w.root k) w.pass w.spot t (sleeping (w.pass t)) (put w.spot t (queued l)) (ok.locks k) (λ h. h)
+          (λ v. put_elim (λ z. IsHanded (w.spot v) k → IsHanded z k) w.spot t (queued l) v
+          (λ vt h. absurd (not_handed k (subst (λ z. IsHanded (w.spot z) k) vt h))) (λ _ h. h)) (λ _ a. a)
+          (λ e v a. put_elim (λ z. IsOutside (w.spot v) → IsOutside z) w.spot t (queued l) v
+          (λ vt _.
+          absurd (held (subst (λ z. (w.word z).owner ≡ 0) (let f : Some k ≡ Some l = sym a ∙ (ap (λ z. (w.pass z).aim) vt ∙ aim) in cc) e)))
+          (λ _ h. h))
 
     -- the thread goes last in the line of the lock, which is held and parked
     pub parks_kept : (w.word l).owner ≢ 0 → (w.word l).parked ≡ true → (w.pass t).aim ≡ Some l
@@ -131,85 +150,63 @@ module _ {V : Type 0} (n m : ℕ) (w : LockWorld V) (ok : Kept n m w) (t : ℕ) 
         })
     parks_kept held is_parked aim =
         let p : LockPassView V = sleeping (w.pass t) in
-        let q : LockRootView = record (w.root l) { line = (w.root l).line ++ t ∷ [] } in
-        let root : ℕ → LockRootView = put w.root l q in
+        let root : ℕ → LockRootView = put w.root l lined in
         let spots : ℕ → Spot = put w.spot t (queued l) in
-        let me = ok.threads t in
-        let stays : (k : ℕ) → LockFits n (put w.pass t p) spots k (w.word k) (w.root k)
-        = (λ k. lock_stays n k (w.word k) (w.root k) w.pass w.spot t p spots (ok.locks k) (λ h. h)
-        (λ v. put_elim (λ z. IsHanded (w.spot v) k → IsHanded z k) w.spot t (queued l) v
-        (λ vt h. absurd (not_handed k (subst (λ z. IsHanded (w.spot z) k) vt h))) (λ _ h. h)) (λ _ a. a)
-        (λ e v a. put_elim (λ z. IsOutside (w.spot v) → IsOutside z) w.spot t (queued l) v
-        (λ vt _.
-        absurd (held (subst (λ z. (w.word z).owner ≡ 0) (let f : Some k ≡ Some l = sym a ∙ (ap (λ z. (w.pass z).aim) vt ∙ aim) in cc) e)))
-        (λ _ h. h))) in
         record {
           threads = each_thread n m w w.word root spots t p
-              (record {
-                long = me.long;
-                aims = me.aims;
-                holds = me.holds;
-                found = me.found;
-                spot = subst (SpotFits n w.word root t p) (sym (put_same w.spot t (queued l))) (
-                  (near, refl, aim),
-                  subst (λ (z : LockRootView). Contains z.line t) (sym (put_same w.root l q))
-                      (Contains-push (w.root l).line t),
-                );
-                in_line =
-                    λ k. put_elim (λ z. Contains z.line t → spots t ≡ queued k) w.root l q k
-                    (λ e _. put_same w.spot t (queued l) ∙ ap queued (sym e)) (λ _ h. absurd (in_no_line k h));
-                is_owed =
-                    λ k c. put_elim (λ z. z.owes ≡ Some (t, c) → spots t ≡ owed k c) w.root l q k (λ _ h. absurd (is_owed_nothing l c h))
-                    (λ _ h. absurd (is_owed_nothing k c h));
-                handed = λ k h. absurd (subst (λ z. IsHanded z k) (put_same w.spot t (queued l)) h);
-              })
+              (subst (ThreadFits n w.word root m t p) (sym (put_same w.spot t (queued l))) (sleeper_fits aim))
               (λ v ne. subst (ThreadFits n w.word root m v (w.pass v)) (sym (put_other w.spot t (queued l) v ne))
               (thread_on n m w.word w.word w.root root v (w.pass v) (w.spot v) (λ k e. e) (λ k _ e. e)
-              (same_for v w.root l q (λ h. Contains-append_left (w.root l).line (t ∷ []) v h) (λ h. in_init v (w.root l).line t ne h)
+              (same_for v w.root l lined (λ h. Contains-append_left (w.root l).line (t ∷ []) v h) (λ h. in_init v (w.root l).line t ne h)
               (λ _ h. h) (λ _ h. h)) (ok.threads v)));
-          locks = each_root n (put w.pass t p) spots w l (w.word l) q
-              (let a = stays l in
+          locks = each_root n (put w.pass t p) spots w l (w.word l) lined
+              (let a = locks_wait aim held l in
               record {
                 once = once_push (w.root l).line t a.once (in_no_line l);
                 had = a.had;
                 parks = λ _. is_parked;
                 tried = λ e _. absurd (held e);
-              }) (λ k _. stays k);
+              }) (λ k _. locks_wait aim held k);
+        }
+
+    -- the thread fits where it has let the lock go, whatever the word of the lock becomes
+    pub left_fits : (x : LockWord) (y : V) (root : ℕ → LockRootView) → SameFor t w.root root
+        → ThreadFits n (put w.word l x) root m t (letting_go (w.pass t) l y) (w.spot t)
+    left_fits x y root same =
+        let xs = (w.pass t).holds in
+        let word : ℕ → LockWord = put w.word l x in
+        let me = ok.threads t in
+        record {
+          long = length-set xs l NotHeld ∙ me.long;
+          aims = me.aims;
+          holds = λ k. set_elim xs l k NotHeld (λ h. IsHeld h → (word k).owner ≡ suc t) lock_near (λ e h. absurd h)
+              (λ ne h. ap (λ (z : LockWord). z.owner) (put_other w.word l x k ne) ∙ me.holds k h);
+          found = λ k. set_elim xs l k NotHeld (λ h. IsFound h → (word k).parked ≡ true) lock_near (λ e h. absurd h)
+              (λ ne h. ap (λ (z : LockWord). z.parked) (put_other w.word l x k ne) ∙ me.found k h);
+          spot = subst (SpotFits n word root t (letting_go (w.pass t) l y)) (sym is_awake) up;
+          in_line = λ k h. me.in_line k (same.line_back k h);
+          is_owed = λ k c h. me.is_owed k c (same.owes_back k c h);
+          handed = λ k h. absurd (not_handed k h);
         }
 
     module _ (has : Holds (w.pass t) l) where
+      -- no other thread owns the lock: it fits, whatever the word of the lock becomes
+      pub others_fit : (x : LockWord) (root : ℕ → LockRootView) (v : ℕ) → v ≢ t → SameFor v w.root root
+          → ThreadFits n (put w.word l x) root m v (w.pass v) (w.spot v)
+      others_fit x root v ne same =
+          let own : (w.word l).owner ≡ suc t = (ok.threads t).holds l has in
+          thread_at n m w.word l x w.root root v (w.pass v) (w.spot v) (λ e. absurd (ne (omega arith))) (λ e. absurd (ne (omega arith)))
+          same (ok.threads v)
+
       -- the owner lets the lock go, in whose line nobody is
       pub frees_kept : (y : V) (b : Bool) → (w.root l).line ≡ []
           → Kept n m (record w { pass = put w.pass t (letting_go (w.pass t) l y); word = put w.word l (record { owner = 0; parked = b }) })
       frees_kept y b nobody =
           let p : LockPassView V = letting_go (w.pass t) l y in
-          let xs = (w.pass t).holds in
           let x : LockWord = record { owner = 0; parked = b } in
-          let word : ℕ → LockWord = put w.word l x in
-          let me = ok.threads t in
-          let own : (w.word l).owner ≡ suc t = me.holds l has in
           record {
-            threads = each_thread n m w word w.root w.spot t p
-                (record {
-                  long = length-set xs l NotHeld ∙ me.long;
-                  aims = me.aims;
-                  holds = λ k. set_elim xs l k NotHeld (λ h. IsHeld h → (word k).owner ≡ suc t) lock_near (λ e h. absurd h)
-                      (λ ne h. ap (λ (z : LockWord). z.owner) (put_other w.word l x k ne) ∙ me.holds k h);
-                  found = λ k. set_elim xs l k NotHeld (λ h. IsFound h → (word k).parked ≡ true) lock_near (λ e h. absurd h)
-                      (λ ne h. ap (λ (z : LockWord). z.parked) (put_other w.word l x k ne) ∙ me.found k h);
-                  spot = subst (SpotFits n word w.root t p) (sym is_awake) up;
-                  in_line = me.in_line;
-                  is_owed = me.is_owed;
-                  handed = λ k h. absurd (not_handed k h);
-                })
-                (λ v ne. thread_on n m w.word word w.root w.root v (w.pass v) (w.spot v)
-                (λ k. put_elim (λ z. (w.word k).owner ≡ suc v → z.owner ≡ suc v) w.word l x k
-                (λ kl e. absurd (ne (let f : (w.word l).owner ≡ suc v = subst (λ z. (w.word z).owner ≡ suc v) kl e in omega arith)))
-                (λ _ e. e))
-                (λ k e. put_elim (λ z. (w.word k).parked ≡ true → z.parked ≡ true) w.word l x k
-                (λ kl _. absurd (ne (let f : (w.word l).owner ≡ suc v = subst (λ z. (w.word z).owner ≡ suc v) kl e in omega arith)))
-                (λ _ e. e))
-                (same_roots v w.root) (ok.threads v));
+            threads = each_thread n m w (put w.word l x) w.root w.spot t p (left_fits x y w.root (same_roots t w.root))
+                (λ v ne. others_fit x w.root v ne (same_roots v w.root));
             locks = each_word n (put w.pass t p) w.spot w l x (w.root l)
                 (record {
                   once = (ok.locks l).once;
@@ -218,7 +215,7 @@ module _ {V : Type 0} (n m : ℕ) (w : LockWorld V) (ok : Kept n m w) (t : ℕ) 
                   tried = λ _ some. absurd (some nobody);
                 })
                 (λ k ne. lock_stays n k (w.word k) (w.root k) w.pass w.spot t p w.spot (ok.locks k)
-                (λ h. subst IsHeld (sym (get_or-set_other xs l k NotHeld NotHeld ne)) h) (λ v h. h)
+                (λ h. subst IsHeld (sym (get_or-set_other (w.pass t).holds l k NotHeld NotHeld ne)) h) (λ v h. h)
                 (λ _ a. a) (λ _ v _ h. h));
           }
 

@@ -1,11 +1,13 @@
 -- How a change of the world keeps the rule of threads and locks.
-use Rattle.std.proofs.Common.{◌≡◌, ◌≢◌, ℕ, suc, ◌<◌, ◌⊎◌, if◌then◌else◌, true, false, List, length, get_or, set, refl, sym, ap, subst, inl}
-use Rattle.std.proofs.Common.{inr, ⊎_elim, get_or-set_same, get_or-set_other, Option}
+use Rattle.std.proofs.Common.{◌≡◌, ◌≢◌, ℕ, suc, ◌<◌, ◌⊎◌, if◌then◌else◌, Bool, true, false, List, [], length, get_or, set, refl, sym, ap}
+use Rattle.std.proofs.Common.{subst, inl, inr, ⊎_elim, arith, ◌∙◌, length-set, get_or-set_same, get_or-set_other, Option}
 use Rattle.std.proofs.Common.{Some, None}
 use Rattle.std.specs.List.{Contains}
 use mathlib.Core.Logic.{dite}
 use native.Mathlib.Decide.{ℕ_discrete}
 use Rattle.lot_core.specs.World.{put}
+use Rattle.lot_core.specs.Sound.{IsOnce}
+use Rattle.lot_core.proofs.Put.{put_same}
 use Rattle.lot_rights.specs.World.{Spot, awake, queued, owed, lying}
 use Rattle.lot_rights.proofs.Puts.{by_test, put_elim}
 use Rattle.lot_words.specs.declared.views.Hold.{Hold}
@@ -14,6 +16,7 @@ use Rattle.lot_words.specs.declared.views.LockPassView.{LockPassView}
 use Rattle.lot_words.specs.declared.views.LockRootView.{LockRootView}
 use Rattle.lot_words.specs.World.{LockWord, LockWorld, hold, IsHeld, IsFound, Holds, IsHanded, IsOutside, TellsTrue, SpotFits, ThreadFits}
 use Rattle.lot_words.specs.World.{LockFits}
+use Rattle.lot_words.specs.Calls.{owning}
 
 -- ---- small facts
 pub found_held : (h : Hold) → IsFound h → IsHeld h
@@ -112,7 +115,53 @@ module _ {V : Type 0} (n : ℕ) where
     handed = ok.handed;
   }
 
+  -- one word changes, and says of the thread what it said
+  pub thread_at : (m : ℕ) (word : ℕ → LockWord) (l : ℕ) (x : LockWord) (root root' : ℕ → LockRootView) (u : ℕ) (p : LockPassView V)
+      (sp : Spot) → ((word l).owner ≡ suc u → x.owner ≡ suc u) → ((word l).owner ≡ suc u → (word l).parked ≡ true → x.parked ≡ true)
+      → SameFor u root root' → ThreadFits n word root m u p sp → ThreadFits n (put word l x) root' m u p sp
+  thread_at m word l x root root' u p sp own park =
+      thread_on m word (put word l x) root root' u p sp
+      (λ k. put_elim (λ z. (word k).owner ≡ suc u → z.owner ≡ suc u) word l x k
+      (λ kl e. own (subst (λ z. (word z).owner ≡ suc u) kl e)) (λ _ e. e))
+      (λ k. put_elim (λ z. (word k).owner ≡ suc u → (word k).parked ≡ true → z.parked ≡ true) word l x k
+      (λ kl e f. park (subst (λ z. (word z).owner ≡ suc u) kl e) (subst (λ z. (word z).parked ≡ true) kl f)) (λ _ _ f. f))
+
+  -- the owner of l, which is in no line and is owed nothing, has got the lock, and is awake
+  pub got_fits : (m : ℕ) (word : ℕ → LockWord) (root : ℕ → LockRootView) (t l : ℕ) (p : LockPassView V) (sp : Spot) (x : V) (asleep : Bool)
+      → asleep ≡ false → l < m → (word l).owner ≡ suc t → IsOutside sp → ((k c : ℕ) → sp ≢ owed k c) → ThreadFits n word root m t p sp
+      → ThreadFits n word root m t (record (owning p l x) { asleep = asleep }) awake
+  got_fits m word root t l p sp x asleep up here own out unowed ok =
+      let long : l < length p.holds = (let e = ok.long in omega arith) in
+      record {
+        long = length-set p.holds l Held ∙ ok.long;
+        aims = λ k a. absurd (no_aim k a);
+        holds = λ k. set_elim p.holds l k Held (λ h. IsHeld h → (word k).owner ≡ suc t) long
+            (λ e _. subst (λ z. (word z).owner ≡ suc t) (sym e) own) (λ _ h. ok.holds k h);
+        found = λ k. set_elim p.holds l k Held (λ h. IsFound h → (word k).parked ≡ true) long (λ _ h. absurd h) (λ _ h. ok.found k h);
+        spot = up;
+        in_line = λ k h. absurd (out k (ok.in_line k h));
+        is_owed = λ k c h. absurd (unowed k c (ok.is_owed k c h));
+        handed = λ k h. absurd h;
+      }
+
   -- ---- locks
+  -- a lock fits with its owner t, which has got it
+  pub got_lock : (pass : ℕ → LockPassView V) (spots : ℕ → Spot) (t l : ℕ) (x : V) (asleep : Bool) (y : LockWord) (q : LockRootView)
+      → t < n → l < length (pass t).holds → y.owner ≡ suc t → IsOnce q.line → (q.line ≢ [] → y.parked ≡ true)
+      → LockFits n (put pass t (record (owning (pass t) l x) { asleep = asleep })) spots l y q
+  got_lock pass spots t l x asleep y q near long own once parks =
+      let p : LockPassView V = record (owning (pass t) l x) { asleep = asleep } in
+      let has : Holds p l = subst IsHeld (sym (get_or-set_same (pass t).holds l Held NotHeld long)) tt in
+      record {
+        once = once;
+        had = λ v e. let tv : t ≡ v = omega arith in (
+          omega arith,
+          inl (subst (λ z. Holds (put pass t p z) l) tv (subst (λ (z : LockPassView V). Holds z l) (sym (put_same pass t p)) has)),
+        );
+        parks = parks;
+        tried = λ e _. absurd (omega arith);
+      }
+
   -- the pass of t changes, and so may the notices; nobody loses a hold of k or a try at it
   pub lock_stays : (k : ℕ) (x : LockWord) (q : LockRootView) (pass : ℕ → LockPassView V) (spot : ℕ → Spot) (t : ℕ) (p : LockPassView V)
       (spots : ℕ → Spot) → LockFits n pass spot k x q

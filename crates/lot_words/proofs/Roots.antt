@@ -1,9 +1,10 @@
 -- The turns of the calls that take a lock's root: queueing on the lock, passing it on, and posting the letter that is owed.
-use Rattle.std.proofs.Common.{◌≡◌, ◌≢◌, ℕ, zero, suc, ◌+◌, ◌*◌, ◌<◌, ◌&&◌, ◌==◌, Bool, true, false, List, [], ◌∷◌, ◌++◌, get_or, set, refl}
-use Rattle.std.proofs.Common.{sym, ap, subst, ◌∙◌, inl, inr, arith, Option, Some, None}
+use Rattle.std.proofs.Common.{◌≡◌, ◌≢◌, ℕ, zero, suc, ◌+◌, ◌*◌, ◌<◌, ◌⊎◌, ◌&&◌, ◌==◌, Bool, true, false, List, [], ◌∷◌, ◌++◌, get_or, set}
+use Rattle.std.proofs.Common.{refl, sym, ap, subst, ◌∙◌, inl, inr, arith, Option, Some, None}
 use mathlib.Core.Option as maybe
 use Rattle.lot_core.specs.World.{put}
 use Rattle.lot_core.specs.Steps.{SaysMore, first}
+use Rattle.lot_core.specs.Parts.{LockStep}
 use Rattle.lot_events.specs.declared.events.Event.TheVariants.{Park, Pass}
 use Rattle.lot_events.specs.declared.events.Seen.TheVariants.{Bool as Saw, Sleeper}
 use Rattle.lot_core.proofs.Put.{put_same, put_other}
@@ -22,8 +23,8 @@ use Rattle.lot_words.specs.declared.views.Size.{Size}
 use Rattle.lot_words.specs.CallersRule.{CallersRule}
 use Rattle.lot_words.specs.World.{LockWord, LockWorld, is_owned, bits_of, word_of, Holds, HoldsParked}
 use Rattle.lot_words.specs.Values.{IsIn, IsLawful}
-use Rattle.lot_words.specs.Rule.{sizes_of, wants_of, Fits, meaning}
-use Rattle.lot_words.specs.Calls.{sleeping, letting_go, parked_pass, parked_root, passed_root, paid_root, word_left}
+use Rattle.lot_words.specs.Rule.{sizes_of, wants_of, part_of, Fits, meaning}
+use Rattle.lot_words.specs.Calls.{sleeping, letting_go, parked_pass, parked_root, token_of, passed_root, paid_root, word_left}
 use Rattle.lot_words.proofs.Machine.{found_held}
 use Rattle.lot_words.proofs.Holding.{is_awake, parks_kept, frees_kept}
 use Rattle.lot_words.proofs.Letters.{first_waits, passes_kept, debtor_waits, debtor_fits, posts_kept}
@@ -173,6 +174,35 @@ module _ {V Part : Type 0} (rule : CallersRule V Part) (size : Size) (xs : List 
         refl,
       )
 
+      -- the first of the line is owed a token, which says whether it is the owner: the word stands for z then
+      first_turn : (fair more : Bool) (u : ℕ) (us : List ℕ) → q.own.line ≡ u ∷ us → (z : LockWord)
+          → ((token_of fair ≡ 0) × (z.owner ≡ 0)) ⊎ ((token_of fair ≡ 1) × (z.owner ≡ suc u)) → (us ≢ [] → z.parked ≡ true)
+          → LockStep size.threads size.locks (part_of w) (Pass t l fair more) (Sleeper (Some u)) (part_of (record {
+            pass = put w.pass t (letting_go (w.pass t) l y);
+            spot = put w.spot u (owed l (token_of fair));
+            word = put w.word l z;
+            root = put w.root l (record (w.root l) { line = us; owes = Some (u, token_of fair) });
+          }))
+          → (x : ℕ) → x ≡ word_of z
+          → BothTurn (meaning rule size xs) (word_at l) x p q (Passes p q (u ∷ us) fair more) w ws hs
+      first_turn fair more u us line z token others row x is =
+          let k : ℕ = token_of fair in
+          let line' = says_now (u ∷ us) line in
+          let spots : ℕ → Spot = put w.spot u (owed l k) in
+          let waits = first_waits size.threads size.locks w ok.kept t l fit.0 here up' has u us line' owes_none in
+          let letters : letters_of spots ≡ letters_of w.spot = same_letters w.spot u (owed l k) (ap letter_of (sym waits)) in
+          turn_both x (Passes p q (u ∷ us) fair more) (λ z. letting_go z l y)
+          (λ r. record r { line = us; owes = Some (u, k) }) spots (put w.word l z)
+          (record {
+            words =
+                words_after size w (put w.pass t (letting_go (w.pass t) l y)) spots
+                (put w.root l (record (w.root l) { line = us; owes = Some (u, k) })) ws ok.words letters l here z x is;
+            kept =
+                passes_kept size.threads size.locks w ok.kept t l fit.0 here up' has u us line' owes_none y k z.owner z.parked token others;
+            lawful = lawful';
+          })
+          (Makes (Pass t l fair more) (Sleeper (Some u))) (refl, (row, letters)) (left_told (u ∷ us) fair more line)
+
       -- the lock is let go, by a store
       store_turn : (more : Bool) (line : List ℕ) → q.own.line ≡ line → SaysMore line more → (x : ℕ) → x ≡ word_left (first line) more
           → BothTurn (meaning rule size xs) (word_at l) x p q (Passes p q line false more) w ws hs
@@ -201,64 +231,19 @@ module _ {V Part : Type 0} (rule : CallersRule V Part) (size : Size) (xs : List 
             told = left_told [] false more line;
           }
       store_turn more (u ∷ us) line says x is =
-          let z : LockWord = record { owner = 0; parked = more } in
           let line' = says_now (u ∷ us) line in
-          let spots : ℕ → Spot = put w.spot u (owed l 0) in
-          let waits = first_waits size.threads size.locks w ok.kept t l fit.0 here up' has u us line' owes_none in
-          let letters : letters_of spots ≡ letters_of w.spot = same_letters w.spot u (owed l 0) (ap letter_of (sym waits)) in
-          turn_both x (Passes p q (u ∷ us) false more) (λ z. letting_go z l y)
-          (λ r. record r { line = us; owes = Some (u, 0) }) spots (put w.word l z)
-          (record {
-            words =
-                words_after size w (put w.pass t (letting_go (w.pass t) l y)) spots
-                (put w.root l (record (w.root l) { line = us; owes = Some (u, 0) })) ws ok.words letters l here z x
-                (is ∙ left_word more u);
-            kept =
-                passes_kept size.threads size.locks w ok.kept t l fit.0 here up' has u us line' owes_none y 0 0 more (inl (refl, refl))
-                (more_left u us more says);
-            lawful = lawful';
-          })
-          (Makes (Pass t l false more) (Sleeper (Some u))) (
-            refl,
-            (
-              row_pass_plain w size.threads size.locks ok.kept t fit.0 up' l here has (aim_of ∙ aim) y u us line' parked owes_none more
-                  (subst (λ z. SaysMore z more) (sym line') says),
-              letters,
-            ),
-          )
-          (left_told (u ∷ us) false more line)
+          first_turn false more u us line (record { owner = 0; parked = more }) (inl (refl, refl)) (more_left u us more says)
+          (row_pass_plain w size.threads size.locks ok.kept t fit.0 up' l here has (aim_of ∙ aim) y u us line' parked owes_none more
+          (subst (λ z. SaysMore z more) (sym line') says)) x (is ∙ left_word more u)
 
       -- the lock is handed to the first, by a load
       load_turn : (more : Bool) (u : ℕ) (us : List ℕ) → q.own.line ≡ u ∷ us
           → BothTurn (meaning rule size xs) (word_at l) (get_or ws (word_at l) 0) p q
           (Passes p q (u ∷ us) true more) w ws hs
       load_turn more u us line =
-          let z : LockWord = record { owner = suc u; parked = (w.word l).parked } in
-          let line' = says_now (u ∷ us) line in
-          let spots : ℕ → Spot = put w.spot u (owed l 1) in
-          let waits = first_waits size.threads size.locks w ok.kept t l fit.0 here up' has u us line' owes_none in
-          let letters : letters_of spots ≡ letters_of w.spot = same_letters w.spot u (owed l 1) (ap letter_of (sym waits)) in
-          turn_both (get_or ws (word_at l) 0) (Passes p q (u ∷ us) true more) (λ z. letting_go z l y)
-          (λ r. record r { line = us; owes = Some (u, 1) }) spots (put w.word l z)
-          (record {
-            words =
-                words_after size w (put w.pass t (letting_go (w.pass t) l y)) spots
-                (put w.root l (record (w.root l) { line = us; owes = Some (u, 1) })) ws ok.words letters l here z
-                (get_or ws (word_at l) 0)
-                (found ∙ ap (λ o. bits_of (is_owned o) (w.word l).parked) own_is);
-            kept =
-                passes_kept size.threads size.locks w ok.kept t l fit.0 here up' has u us line' owes_none y 1 (suc u) (w.word l).parked
-                (inr (refl, refl)) (λ _. parked);
-            lawful = lawful';
-          })
-          (Makes (Pass t l true more) (Sleeper (Some u))) (
-            refl,
-            (
-              row_pass_fair w size.threads size.locks ok.kept t fit.0 up' l here has (aim_of ∙ aim) y u us line' parked owes_none more,
-              letters,
-            ),
-          )
-          (left_told (u ∷ us) true more line)
+          first_turn true more u us line (record { owner = suc u; parked = (w.word l).parked }) (inr (refl, refl)) (λ _. parked)
+          (row_pass_fair w size.threads size.locks ok.kept t fit.0 up' l here has (aim_of ∙ aim) y u us (says_now (u ∷ us) line) parked
+          owes_none more) (get_or ws (word_at l) 0) (found ∙ ap (λ o. bits_of (is_owned o) (w.word l).parked) own_is)
 
   pub parks : (p : PassRight (LockPassView V)) (q : RootRight LockRootView) → p.own.asleep ≡ false → p.own.aim ≡ Some q.key
       → AllowsBoth (meaning rule size xs) (word_at q.key) (λ n. n) p q (Parks p q)

@@ -305,6 +305,17 @@ module _ {V Part : Type 0} (rule : CallersRule V Part) (size : Size) (xs : List 
       only : (u : ℕ) → Holds (w.pass u) l → u ≡ t
       only u h = (let f : (w.word l).owner ≡ suc u = (ok.kept.threads u).holds l h in let g = own_is in omega arith)
 
+      -- the pass holds what it held, where it finds its lock parked
+      still_holds : (k : ℕ) → SameOf k (w.pass t) (finding_parked (w.pass t) l)
+      still_holds k = record {
+        down =
+            set_elim (w.pass t).holds l k FoundParked (λ h. IsHeld h → Holds (w.pass t) k) long
+            (λ e _. subst (Holds (w.pass t)) (sym e) has) (λ _ h. h);
+        up = λ h. set_elim (w.pass t).holds l k FoundParked IsHeld long (λ _. tt) (λ _. h);
+        places = refl;
+        seen = refl;
+      }
+
       module _ (y : V) (lies : IsIn p.own l y) where
         lies_of : IsIn (w.pass t) l y
         lies_of = subst (λ z. IsIn z l y) (sym fit.1) lies
@@ -346,16 +357,6 @@ module _ {V Part : Type 0} (rule : CallersRule V Part) (size : Size) (xs : List 
             (Makes (Free t l) (Saw false))
             (refl, (row_free_parked w size.threads size.locks ok.kept t fit.0 up' l here has (aim' ∙ aim) b, refl))
             (λ k. (k, refl))
-          where
-            still_holds : (k : ℕ) → SameOf k (w.pass t) (finding_parked (w.pass t) l)
-            still_holds k = record {
-              down =
-                  set_elim (w.pass t).holds l k FoundParked (λ h. IsHeld h → Holds (w.pass t) k) long
-                  (λ e _. subst (Holds (w.pass t)) (sym e) has) (λ _ h. h);
-              up = λ h. set_elim (w.pass t).holds l k FoundParked IsHeld long (λ _. tt) (λ _. h);
-              places = refl;
-              seen = refl;
-            }
 
   -- ---- each call is allowed
   pub takes : (p : PassRight (LockPassView V)) (l : ℕ) → l < size.locks → p.own.asleep ≡ false → Aims p.own l

@@ -3,21 +3,17 @@
 use Rattle.std.specs.Prelude.{◌≡◌, ◌≢◌, ◌↔◌, ℕ, ◌<◌, ◌⊎◌, true, false, List, [], Option, Some}
 use Rattle.std.specs.List.{Contains}
 use Rattle.atomic_table.specs.Table.{State}
-use Rattle.lot_core.specs.Parts.{LockStep}
 use Rattle.lot_core.specs.Sound.{OneOwner, SleepersAreMarked, IsOnce}
-use Rattle.lot_rights.specs.declared.views.Entry.{Entry}
 use Rattle.lot_rights.specs.declared.views.Right.{Right}
-use Rattle.lot_rights.specs.History.{events_in, ModelRun}
-use Rattle.lot_rights.specs.Rule.{number, RightFits, IsRight, IsHistory}
-use Rattle.lot_rights.specs.Seating.{times_in, Seated}
-use Rattle.lot_rights.specs.World.{awake, queued, owed, waits_on, IsLetter, letters_of, WordsFit}
+use Rattle.lot_rights.specs.Settled.{OneHistory}
+use Rattle.lot_rights.specs.World.{awake, queued, owed, waits_on, IsLetter, WordsFit}
 use Rattle.lot_words.specs.declared.views.LockPassView.{LockPassView}
 use Rattle.lot_words.specs.declared.views.LockRootView.{LockRootView}
 use Rattle.lot_words.specs.declared.views.Size.{Size}
 use Rattle.lot_words.specs.CallersRule.{CallersRule}
 use Rattle.lot_words.specs.World.{LockWorld, word_of, Holds, HoldsParked, IsHanded, TellsTrue}
 use Rattle.lot_words.specs.Values.{IsLawful}
-use Rattle.lot_words.specs.Rule.{sizes_of, part_of, opening_part, meaning}
+use Rattle.lot_words.specs.Rule.{sizes_of, part_of, meaning}
 
 module _ {V : Type 0} (w : LockWorld V) where
   -- Letters fit: a thread that was queued and has not collected is in the line of the lock that it wants, or is owed a letter by that root
@@ -49,14 +45,8 @@ pub record Headline {V Part : Type 0} (rule : CallersRule V Part) (size : Size) 
   pub world : LockWorld V
   -- each word is a lock's two bits or a thread's letter
   pub words : WordsFit word_of (sizes_of size) world s.words
-  -- each right is in exactly one place, and knows what the world says of it
-  pub rights : Seated number (RightFits (meaning rule size xs) world) s.views
-  pub in_place : (i : ℕ) → IsRight (meaning rule size xs) i → times_in number i s.views ≡ 1
   pub letters : LettersFit world
   pub sound : IsSound world size.threads
   -- the values are lawful: those that owners have, and those in the slots where nobody holds the lock
   pub lawful : IsLawful rule size.threads size.locks world.pass s.homes
-  -- one legal history, of which the rights have all entries, has led here; without its notices it is a run of the model
-  pub log : List Entry
-  pub history : IsHistory (meaning rule size xs) log s.views (record { part = part_of world; letters = letters_of world.spot })
-  pub model : ModelRun (LockStep size.threads size.locks) opening_part (events_in log) (part_of world)
+  pub run : OneHistory (meaning rule size xs) s world

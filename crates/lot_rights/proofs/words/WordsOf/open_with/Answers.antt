@@ -3,8 +3,8 @@ use Rattle.lot_rights.specs.Start.{Begins}
 use Rattle.lot_rights.proofs.Opens.{opens}
 use Rattle.lot_rights.proofs.words.WordsOf.open_with.Goals as goal
 
-pub new-requires-2 : goal.new-requires-2
-new-requires-2 g c = opens (g.K.Kind.meaning c.args.key.now) c.args.words.now c.args.slots.items c.requires.opens
+pub new-requires : goal.new-requires
+new-requires g c = opens (g.K.Kind.meaning c.args.key.now) c.args.words.now c.args.slots.items c.requires.opens
 
 pub returns-in-Ok-new-clause-rule : goal.returns-in-Ok-new-clause-rule
 returns-in-Ok-new-clause-rule g c =

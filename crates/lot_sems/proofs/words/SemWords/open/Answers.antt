@@ -1,4 +1,4 @@
-use Rattle.std.proofs.Common.{◌≡◌, ◌+◌, ◌<◌, ℕ, [], length, replicate, slice_get, Some, sym, ap, subst, ◌∙◌, arith}
+use Rattle.std.proofs.Common.{◌≡◌, ◌+◌, ◌<◌, ℕ, [], length, slice_get, Some, sym, ap, subst, ◌∙◌, arith}
 use Rattle.std.specs.Vec.{vec_len}
 use Rattle.lot_rights.specs.Layout.{word_count}
 use Rattle.lot_rights.specs.Start.{OpensWell, Begins, pass_at, root_at}

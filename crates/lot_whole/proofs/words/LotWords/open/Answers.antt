@@ -1,4 +1,4 @@
-use Rattle.std.proofs.Common.{◌≡◌, ℕ, ◌+◌, ◌<◌, slice_get, slice_index_or, replicate, map, Some, length, sym, ap, subst, ◌∙◌}
+use Rattle.std.proofs.Common.{◌≡◌, ℕ, ◌+◌, ◌<◌, slice_get, slice_index_or, map, Some, length, sym, ap, subst, ◌∙◌}
 use Rattle.std.proofs.Common.{arith, zero-add}
 use Rattle.std.specs.Vec.{vec_len}
 use Rattle.lot_rights.specs.Layout.{word_count}
