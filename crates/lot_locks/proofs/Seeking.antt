@@ -20,7 +20,8 @@ use Rattle.lot_whole.specs.declared.views.Stand.TheVariants.{Idle}
 use Rattle.lot_whole.specs.Standing.{MayTake, MayPark}
 use Rattle.lot_scheme.specs.Standing.{LotStanding, adding, wanting, owning}
 use Rattle.lot_scheme.specs.Words.{IsSeek}
-use Rattle.lot_locks.specs.Standing.{IsTryingFor, IsAwakeFor, IsOwner, Seeks}
+use Rattle.lot_scheme.proofs.Ends.{ends_with}
+use Rattle.lot_locks.specs.Standing.{IsTryingFor, IsAwakeFor, IsOwner, Seeks, HasMarked, FindsAnother}
 use Rattle.lot_locks.proofs.Adding.{All-one, none_added, both_added, up_then, is_up, may_again, sought_before}
 
 module _ {V : Type 0} where
@@ -123,6 +124,19 @@ module _ {V : Type 0} where
   marked_on n before mid now l false s (word, other, is) =
       sought_on n before mid now l (Finds mid.thread l word) s (ap (λ (z : LotStanding V). z.thread) s.is, refl) is
 
+  -- it was the last
+  pub has_marked : (n : ℕ) (before mid now : LotStanding V) (l : ℕ) → IsTryingFor n before l mid
+      → now ≡ adding mid (Makes (Mark mid.thread l) Done ∷ []) → HasMarked before l now
+  has_marked n before mid now l s is = ends_with _ before mid now s.did (Makes (Mark mid.thread l) Done)
+      (ap (λ (z : LotStanding V). Makes (Mark z.thread l) Done) s.is) (ap (λ (z : LotStanding V). z.did) s.is)
+      (ap (λ (z : LotStanding V). z.did) is)
+
+  pub finds_another : (n : ℕ) (before mid now : LotStanding V) (l word : ℕ) → IsTryingFor n before l mid → word ≢ 1
+      → now ≡ adding mid (Finds mid.thread l word ∷ []) → FindsAnother before l now
+  finds_another n before mid now l word s other is = ends_with _ before mid now s.did (Finds mid.thread l word)
+      (word, other, ap (λ (z : LotStanding V). Finds z.thread l word) s.is) (ap (λ (z : LotStanding V). z.did) s.is)
+      (ap (λ (z : LotStanding V). z.did) is)
+
 -- what is wanted does not matter to what is found
 pub found_then : {V Part : Type 0} (rule : CallersRule V Part) (l t : ℕ) (p q : LockPassView V) (x : V) → p.holds ≡ q.holds
     → p.places ≡ q.places → p.seen ≡ q.seen
@@ -214,4 +228,4 @@ module _ {V Part : Type 0} (rule : CallersRule V Part) where
   }
 
 -- of a thread that lines up for a lock
-pub ruleset line_laws = (may_park, marked_on, awake)
+pub ruleset line_laws = (may_park, marked_on, awake, has_marked, finds_another)

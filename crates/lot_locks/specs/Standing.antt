@@ -1,17 +1,17 @@
 -- How a pass stands between two accesses of a lock's word, and what the calls of a lock make of it.
-use Rattle.std.specs.Prelude.{◌≡◌, ℕ, ◌<◌, ◌⊎◌, false, List, [], ◌∷◌}
+use Rattle.std.specs.Prelude.{◌≡◌, ◌≢◌, ℕ, ◌<◌, ◌⊎◌, false, List, [], ◌∷◌}
 use Rattle.std.specs.List.{All}
-use Rattle.lot_events.specs.declared.events.Event.TheVariants.{Free}
-use Rattle.lot_events.specs.declared.events.Seen.TheVariants.{Bool as Saw}
+use Rattle.lot_events.specs.declared.events.Event.TheVariants.{Free, Mark}
+use Rattle.lot_events.specs.declared.events.Seen.TheVariants.{Bool as Saw, Done}
 use Rattle.lot_rights.specs.declared.views.Access.{Access}
-use Rattle.lot_rights.specs.declared.views.Access.TheVariants.{Makes}
+use Rattle.lot_rights.specs.declared.views.Access.TheVariants.{Makes, Finds}
 use Rattle.lot_words.specs.CallersRule.{CallersRule}
 use Rattle.lot_words.specs.World.{Holds, HoldsParked}
 use Rattle.lot_words.specs.Values.{IsIn, FoundOk}
 use Rattle.lot_whole.specs.Standing.{MayTake, MayLetGo}
 use Rattle.lot_park.specs.declared.seeking.Seeking.{Seeking}
 use Rattle.lot_park.specs.declared.seeking.Seeking.TheVariants.{Got, Waits, Parks}
-use Rattle.lot_scheme.specs.Standing.{LotStanding, adding, wanting, lined, owning, finding_parked, letting_go}
+use Rattle.lot_scheme.specs.Standing.{LotStanding, EndsWith, adding, wanting, lined, owning, finding_parked, letting_go}
 use Rattle.lot_scheme.specs.Words.{IsSeek, GetWord}
 use Rattle.lot_locks.specs.declared.released.Released.{Released}
 use Rattle.lot_locks.specs.Released.{FreeWord, Passed}
@@ -55,6 +55,13 @@ module _ {V : Type 0} where
     pub did : List Access
     pub sought : All (IsSeek before.thread l) did
     pub is : now ≡ adding (lined before l) did
+
+  -- at last it marked the lock as parked; or it found another word than that of a lock that is held and not marked
+  abbrev pub HasMarked : LotStanding V → ℕ → LotStanding V → Type 0
+  HasMarked before l now = EndsWith (λ a. a ≡ Makes (Mark before.thread l) Done) before now
+
+  abbrev pub FindsAnother : LotStanding V → ℕ → LotStanding V → Type 0
+  FindsAnother before l now = EndsWith (λ a. (word : ℕ) × (word ≢ 1) × (a ≡ Finds before.thread l word)) before now
 
   -- ---- releases
   -- the lock was found parked, and is owned still

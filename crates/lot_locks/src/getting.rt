@@ -77,13 +77,17 @@ fn take<V: Keeps, N: LotName<V>>(
 
 impl<V: Keeps + Send, N: LotName<V> + Send> Sought<Locks> for LotScheme<V, N> {
     ghost use Rattle.std.specs.Prelude.{◌<◌};
-    ghost use Rattle.lot_locks.specs.Standing.{IsAsleepFor, Seeks};
+    ghost use Rattle.lot_locks.specs.Standing.{IsAsleepFor, Seeks, HasMarked, FindsAnother};
 
     ghost has = { λ s key. key < N.locks };
 
     ghost seeks = { Seeks V.Keeps N.locks };
 
     ghost sleeps = { IsAsleepFor N.locks };
+
+    ghost changed = { FindsAnother };
+
+    ghost marked = { HasMarked };
 
     fn look_at(&self, key: usize) -> Look {
         let bits = self.lock_bits(key);

@@ -6,7 +6,7 @@ use crate::taken::TakenThreads;
 use crossbeam_utils::CachePadded;
 use lot_bucket::{Bucket, Dequeued as UnparkResult, Moment};
 use lot_records::Record;
-use lot_table::{Grown, MOST_THREADS, Table, TableFault};
+use lot_table::{Grown, MOST_THREADS, Table, TableFault, Unlocked};
 use std::alloc::{AllocError, Global};
 use std::marker::Model;
 use std::sync::Wait;
@@ -129,7 +129,7 @@ impl<S: Scheme> ParkingLot<S> {
             → V.post validate x pass r o → o.3 ≡ true → B.pre before_sleep o.0 }
         ensures { ParkedOnce S.Root.view key (V.post validate x pass) (B.post before_sleep) S.looked result }
     {
-        let act = |x: X, pass: S::Pass| -> (X, S::Pass)
+        let act = |x: X, pass: S::Pass, _unlocked: Unlocked| -> (X, S::Pass)
             requires { B.pre before_sleep x }
             ensures acts { B.post before_sleep x result.0 }
             ensures same { result.1 ≡ pass }
@@ -138,32 +138,34 @@ impl<S: Scheme> ParkingLot<S> {
     }
 
     /// `park_conditionally` with an action that has the pass: what the thread does with it when it is queued, before it
-    /// sleeps, as letting a lock go where it waits on a condition. The pass stays that thread's.
+    /// sleeps, as letting a lock go where it waits on a condition. The pass stays that thread's. The action takes an
+    /// `Unlocked`, which is to be had only after the bucket was unlocked.
     pub fn park_acting<
         W: Wait,
         X,
         V: FnOnce(X, S::Pass, S::Root) -> (X, S::Pass, S::Root, bool),
-        A: FnOnce(X, S::Pass) -> (X, S::Pass),
+        A: FnOnce(X, S::Pass, Unlocked) -> (X, S::Pass),
     >(&self, rt: &W, pass: S::Pass, key: usize, x: X, validate: V, act: A) -> (S::Pass, X, Parked)
         requires key { key < self.now.keys }
         requires thread { S.thread pass < self.now.threads }
         requires callable { MayValidate S.Root.view key (V.pre validate x pass) }
         requires keeps { Validates S.Root.view S.thread key (S.thread pass) (V.post validate x pass) }
         requires acts { (r : S.Root) (o : _) → (S.Root.view r).key ≡ key → (S.Root.view r).owes ≡ []
-            → V.post validate x pass r o → o.3 ≡ true → A.pre act o.0 o.1 }
-        requires same { (y : _) (q : _) (left : _) → A.post act y q left → S.thread left.1 ≡ S.thread q }
-        ensures { ParkedActing S.Root.view key (V.post validate x pass) (A.post act) S.looked result }
+            → V.post validate x pass r o → o.3 ≡ true → (unlocked : _) → A.pre act o.0 o.1 unlocked }
+        requires same { (y q unlocked left : _) → A.post act y q unlocked left → S.thread left.1 ≡ S.thread q }
+        ensures { ParkedActing S.Root.view key (V.post validate x pass)
+            (λ y q left. (unlocked : _) × A.post act y q unlocked left) S.looked result }
     {
-        let (x, pass, queued) = self.queue_up(rt, pass, key, x, validate);
+        let (x, pass, queued, unlocked) = self.queue_up(rt, pass, key, x, validate);
         if !queued {
             return (pass, x, Parked::Invalid);
         }
-        let (x, pass) = act(x, pass);
+        let (x, pass) = act(x, pass, unlocked);
         let (pass, token) = self.sleep(rt, pass);
         (pass, x, Parked::Woken(token))
     }
 
-    // Validates, and queues the thread where that said yes.
+    // Validates, and queues the thread where that said yes; and the bucket is unlocked again.
     fn queue_up<W: Wait, X, V: FnOnce(X, S::Pass, S::Root) -> (X, S::Pass, S::Root, bool)>(
         &self,
         rt: &W,
@@ -171,13 +173,13 @@ impl<S: Scheme> ParkingLot<S> {
         key: usize,
         x: X,
         validate: V,
-    ) -> (X, S::Pass, bool)
+    ) -> (X, S::Pass, bool, Unlocked)
         requires callable { MayValidate S.Root.view key (V.pre validate x pass) }
         requires keeps { Validates S.Root.view S.thread key (S.thread pass) (V.post validate x pass) }
         ensures { Validated S.Root.view key (V.post validate x pass) result.0 result.1 result.2 }
     {
         let thread = S::thread_of(&pass);
-        let ((x, pass), queued) = self.table.with_place_for(
+        let (((x, pass), queued), unlocked) = self.table.with_place_for(
             rt,
             key,
             thread,
@@ -189,7 +191,7 @@ impl<S: Scheme> ParkingLot<S> {
                 requires keeps { Validates S.Root.view S.thread key (S.thread own.1) (V.post validate own.0 own.1) }
             { park_in::<S, X, V>(bucket, key, own.0, own.1, validate) },
         );
-        (x, pass, queued)
+        (x, pass, queued, unlocked)
     }
 
     // Sleeps until the thread's letter is there.

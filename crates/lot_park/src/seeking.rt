@@ -45,6 +45,7 @@ pub enum Seeking {
 pub trait Sought<T>: Scheme {
     ghost use Rattle.std.specs.Prelude.{ℕ, MatchBool};
     ghost use Rattle.lot_park.specs.Parking.{Awaited, Queues};
+    ghost use Rattle.lot_park.specs.Seeking.{LinedUp};
     ghost use Rattle.lot_park.specs.declared.seeking.Seeking.{Seeking};
     ghost use Rattle.lot_park.specs.declared.seeking.Seeking.TheVariants.{Got, Waits, Parks};
 
@@ -56,6 +57,13 @@ pub trait Sought<T>: Scheme {
 
     /// A pass, the key of what its thread seeks, and the pass now, which is queued in its line.
     ghost sleeps: { Self.Pass → ℕ → Self.Pass → Type 0 };
+
+    /// A pass, the key of what its thread seeks, and the pass now, with which at last another word was found than was
+    /// to be changed.
+    ghost changed: { Self.Pass → ℕ → Self.Pass → Type 0 };
+
+    /// A pass, the key of what its thread seeks, and the pass now, with which at last its word was marked as parked.
+    ghost marked: { Self.Pass → ℕ → Self.Pass → Type 0 };
 
     /// What one load of its word tells. It is an observation: nothing is promised of it.
     fn look_at(&self, key: usize) -> Look
@@ -72,7 +80,8 @@ pub trait Sought<T>: Scheme {
     fn line_up(&self, pass: Self::Pass, key: usize, is_marked: bool) -> (Self::Pass, Seeking)
         requires has { has self.now key }
         requires waits { seeks pass key Waits pass }
-        ensures { seeks pass key result.1 result.0 };
+        ensures far { seeks pass key result.1 result.0 }
+        ensures lined { LinedUp result.1 is_marked (changed pass key result.0) (marked pass key result.0) };
 
     /// The validation of a parking: the thread is queued where still none is left and it is marked as parked.
     fn queue(&self, pass: Self::Pass, root: Self::Root) -> (Self::Pass, Self::Root, bool)

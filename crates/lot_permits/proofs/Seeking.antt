@@ -19,7 +19,8 @@ use Rattle.lot_park.specs.Seeking.{SeekingLaws, IsUnfinished}
 use Rattle.lot_scheme.specs.Standing.{LotStanding, adding, seeking, one_permit_more}
 use Rattle.lot_scheme.specs.Words.{IsPermitSeek}
 use Rattle.lot_scheme.specs.SemCalls.{TakesPermit, MarksPermit}
-use Rattle.lot_permits.specs.Seeking.{GetsPermit, IsSeekingFor, IsAwakeFor, Seeks}
+use Rattle.lot_scheme.proofs.Ends.{ends_with}
+use Rattle.lot_permits.specs.Seeking.{GetsPermit, IsSeekingFor, IsAwakeFor, Seeks, HasMarked, FindsAnother}
 use Rattle.lot_permits.proofs.Words.{adding_on, adding_none, get_after, took_it, one_seek, seek_on, busy_seek}
 
 module _ {V : Type 0} where
@@ -183,6 +184,28 @@ module _ {V : Type 0} where
     marked_on before mid now key false s (word, other, is) =
         goes_on before mid now key (Finds mid.thread key word) s (ap (λ (p : LotStanding V). p.thread) s.is, refl) is
 
+    -- it was the last
+    pub has_marked : (before mid now : LotStanding V) (key : ℕ) → IsSeekingFor first_sem before key mid
+        → MarksPermit mid key true now → HasMarked before key now
+    has_marked before mid now key s is = ends_with _ before mid now s.did (Makes (SemMark mid.thread key) Done)
+        (ap (λ (p : LotStanding V). Makes (SemMark p.thread key) Done) s.is) (ap (λ (p : LotStanding V). p.did) s.is)
+        (ap (λ (p : LotStanding V). p.did) is)
+
+    pub finds_another : (before mid now : LotStanding V) (key : ℕ) → IsSeekingFor first_sem before key mid
+        → MarksPermit mid key false now → FindsAnother before key now
+    finds_another before mid now key s (word, other, is) = ends_with _ before mid now s.did (Finds mid.thread key word)
+        (word, ap (λ (p : LotStanding V). Finds p.thread key word) s.is) (ap (λ (p : LotStanding V). p.did) s.is)
+        (ap (λ (p : LotStanding V). p.did) is)
+
+    -- and so it was of an exchange that was too late
+    pub finds_busy : (p q : LotStanding V) (key : ℕ) → TakesPermit p key Busy q → FindsAnother p key q
+    finds_busy p q key (did, (seen, found, left, other, does), is) = record {
+      front = Finds p.thread key seen ∷ [];
+      last = Finds p.thread key found;
+      was = (found, refl);
+      is = ap (λ (z : LotStanding V). z.did) is ∙ ap (λ (acts : List Access). p.did ++ acts) does;
+    }
+
     -- ---- after a try
     pub tried : (p q : LotStanding V) (key : ℕ) → first_sem ≤ key → MayTakePermit p.own key
         → TakesPermit p key HasGot q → GetsPermit p key q
@@ -214,4 +237,4 @@ module _ {V : Type 0} where
     got_slowly p q r key s gets = on p q r key Waits Got tt s gets
 
 -- of a thread that lines up for a permit
-pub ruleset line_laws = (tried, missed, found_none, may_mark, marked_on)
+pub ruleset line_laws = (tried, missed, found_none, may_mark, marked_on, has_marked, finds_another, finds_busy)

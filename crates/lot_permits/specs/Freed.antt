@@ -1,7 +1,7 @@
 -- How releases end: by the thread that is taken from the line, if any; and which accesses one makes.
-use Rattle.std.specs.Prelude.{◌≡◌, ℕ, ◌≤◌, ◌++◌, Bool, true, List, [], ◌∷◌, Option, Some, None}
-use Rattle.lot_events.specs.declared.events.Event.TheVariants.{SemFree, SemPass as Passes, SemClear}
-use Rattle.lot_events.specs.declared.events.Seen.TheVariants.{Bool as Saw, Done, Sleeper}
+use Rattle.std.specs.Prelude.{◌≡◌, ℕ, ◌≤◌, ◌++◌, Bool, List, [], ◌∷◌, Option, Some, None}
+use Rattle.lot_events.specs.declared.events.Event.TheVariants.{SemPass as Passes, SemClear}
+use Rattle.lot_events.specs.declared.events.Seen.TheVariants.{Done, Sleeper}
 use Rattle.lot_rights.specs.declared.views.Access.{Access}
 use Rattle.lot_rights.specs.declared.views.Access.TheVariants.{Makes}
 use Rattle.lot_whole.specs.Standing.{MayGive}

@@ -13,13 +13,17 @@ use std::sync::Wait;
 impl<V: Keeps + Send, N: LotName<V> + Send> Sought<Sems> for LotScheme<V, N> {
     ghost use Rattle.std.specs.Prelude.{length};
     ghost use Rattle.lot_core.specs.Parts.{IsAmongSemaphores};
-    ghost use Rattle.lot_permits.specs.Seeking.{Seeks, IsAsleepFor};
+    ghost use Rattle.lot_permits.specs.Seeking.{Seeks, IsAsleepFor, HasMarked, FindsAnother};
 
     ghost has = { λ s key. IsAmongSemaphores N.first_sem (length N.permits) key };
 
     ghost seeks = { Seeks N.first_sem };
 
     ghost sleeps = { IsAsleepFor N.first_sem };
+
+    ghost changed = { FindsAnother };
+
+    ghost marked = { HasMarked };
 
     fn look_at(&self, key: usize) -> Look {
         let bits = self.sem_bits(key);

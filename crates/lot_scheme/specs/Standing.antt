@@ -36,6 +36,13 @@ module _ {V : Type 0} where
   abbrev pub adding : LotStanding V → List Access → LotStanding V
   adding p acts = record p { did = p.did ++ acts }
 
+  -- since it stood so before, the last access was such a one
+  pub record EndsWith (such : Access → Type 0) (before now : LotStanding V) : Type 0 where
+    pub front : List Access
+    pub last : Access
+    pub was : such last
+    pub is : now.did ≡ before.did ++ (front ++ last ∷ [])
+
   -- ---- locks
   -- it wants the lock
   abbrev pub wanting : LotStanding V → ℕ → LotStanding V

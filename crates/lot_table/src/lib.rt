@@ -33,4 +33,4 @@ mod versions;
 
 pub use moves::regrow;
 pub use sizes::{Grown, MOST_THREADS, TableFault, grown_size};
-pub use table::Table;
+pub use table::{Table, Unlocked};

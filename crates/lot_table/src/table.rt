@@ -18,6 +18,11 @@ use std::marker::Model;
 use std::sync::{Mutex, MutexGuard, OnceLock, Wait};
 use std::thread;
 
+/// That the bucket which a call had locked is unlocked again. Only such a call gives one, so what takes one can't be
+/// done in the work under that lock. It takes no bytes.
+#[derive(Drop)]
+pub struct Unlocked(());
+
 /// The buckets of a parking lot by key, as the hash table of WTF's ParkingLot: key `k` lies in bucket
 /// `k mod size` of the newest version.
 ///
@@ -132,7 +137,8 @@ impl<R: Root> Table<R> {
         ready.lend(x, f)
     }
 
-    /// As `with_bucket`, once the thread does not wait in the bucket and has a place there.
+    /// As `with_bucket`, once the thread does not wait in the bucket and has a place there. Beside what `f` answered it
+    /// answers that the bucket is unlocked.
     pub fn with_place_for<W: Wait, X, Y, F: FnOnce(&mut Bucket<R>, X) -> (X, Y)>(
         &self,
         rt: &W,
@@ -140,17 +146,19 @@ impl<R: Root> Table<R> {
         thread: usize,
         x: X,
         f: F,
-    ) -> (X, Y)
+    ) -> ((X, Y), Unlocked)
         requires callable { (b : _) → IsReady R.view key self.now.threads self.now.keys b.now
             → HasPlaceFor thread b.now → F.pre f b x }
         requires keeps { (b : _) (r : _) (b' : _) → IsReady R.view key self.now.threads self.now.keys b.now
             → HasPlaceFor thread b.now → F.post f b x r b' → Stays R.view b.now b'.now }
         ensures { (b : _) × (b' : _) × IsReady R.view key self.now.threads self.now.keys b.now
-            × HasPlaceFor thread b.now × F.post f b x result b' × Stays R.view b.now b'.now }
+            × HasPlaceFor thread b.now × F.post f b x result.0 b' × Stays R.view b.now b'.now }
     {
         let mut guard = self.lock_with_place(rt, key, thread);
         let settled = &mut *guard;
-        settled.lend(x, f)
+        let answer = settled.lend(x, f);
+        drop(guard);
+        (answer, Unlocked(()))
     }
 
     fn lock_ready<W: Wait>(&self, rt: &W, key: usize) -> MutexGuard<'_, Settled<R>>

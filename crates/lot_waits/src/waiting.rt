@@ -6,7 +6,7 @@ ghost use Rattle.lot_waits.specs.Waiting.{Slept};
 
 use crate::steps::CondSteps;
 use lot_locks::{Released, let_go};
-use lot_park::{BeforeSleep, Moment, ParkingLot};
+use lot_park::{BeforeSleep, Moment, ParkingLot, Unlocked};
 use std::sync::Wait;
 
 /// Queues the thread last in the condition's line, acts, lets the lock go, and sleeps until a notification takes the
@@ -42,7 +42,7 @@ pub(crate) fn sleep_on<S: CondSteps, R: Wait, B: BeforeSleep>(
             let (pass, root) = scheme.enlist_last(pass, root, lock);
             (x, pass, root, true)
         },
-        |_quiet: Released, pass: S::Pass| -> (Released, S::Pass)
+        |_quiet: Released, pass: S::Pass, _unlocked: Unlocked| -> (Released, S::Pass)
             requires lock { (lock < parking.now.keys) × S.has parking.now.scheme lock }
             requires may { S.may_let_go pass lock }
             ensures thread { S.thread result.1 ≡ S.thread pass }

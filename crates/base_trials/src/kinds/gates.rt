@@ -111,13 +111,17 @@ impl<V: Keeps + Send, N: LotName<V> + Send> Scheme for Gated<V, N> {
 // Locks are sought as in the scheme within.
 impl<V: Keeps + Send, N: LotName<V> + Send> Sought<Locks> for Gated<V, N> {
     ghost use Rattle.std.specs.Prelude.{◌<◌};
-    ghost use Rattle.lot_locks.specs.Standing.{IsAsleepFor, Seeks};
+    ghost use Rattle.lot_locks.specs.Standing.{IsAsleepFor, Seeks, HasMarked, FindsAnother};
 
     ghost has = { λ s key. key < N.locks };
 
     ghost seeks = { Seeks V.Keeps N.locks };
 
     ghost sleeps = { IsAsleepFor N.locks };
+
+    ghost changed = { FindsAnother };
+
+    ghost marked = { HasMarked };
 
     fn look_at(&self, key: usize) -> Look {
         self.inner.look_at(key)

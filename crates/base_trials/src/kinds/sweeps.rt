@@ -17,7 +17,7 @@ use crate::kinds::tables::{
 };
 use crate::kinds::waiters::Lot;
 use lot_locks::{get, let_go};
-use lot_park::{AtOnce, Parked, ParkingLot, Token};
+use lot_park::{AtOnce, Parked, ParkingLot, Token, Unlocked};
 use lot_scheme::{LotName, LotScheme};
 use lot_waits::CondSteps;
 use std::alloc::Global;
@@ -95,7 +95,7 @@ fn sleep_swept<S: CondSteps, R: Wait + Abort>(
             let (zero, root) = scheme.enlist_last(zero, root, 0);
             (one, zero, root, true)
         },
-        |one: S::Pass, zero: S::Pass| -> (S::Pass, S::Pass)
+        |one: S::Pass, zero: S::Pass, _unlocked: Unlocked| -> (S::Pass, S::Pass)
             requires keys { 2 < lot.now.keys }
             requires has { S.has lot.now.scheme 0 }
             requires may { S.may_let_go zero 0 }

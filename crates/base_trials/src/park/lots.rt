@@ -263,8 +263,17 @@ fn who_is_unparked_before_its_sleep_does_not_sleep(rt: HostRuntime) {
     close(&rt, rt.alloc(), lot);
 }
 
-// Thread 1 parks on key 0. Before it sleeps it looks who is in its line, and unparks nobody from another key of the
-// bucket: for both it locks the bucket. What it found is noted as 1, where it is what it has to be.
+// Who is in the line of key 0, and nobody in that of another key of the bucket: for both it locks the bucket. What it
+// found is noted as 1, where it is what it has to be.
+fn looks_into_its_bucket<R: Wait + Abort>(rt: &R, lot: &ParkingLot<Letters>, found: &AtomicU64)
+    requires { lot.now.keys ≡ KEYS }
+{
+    if lot.line_length(rt, 0) == 1 && unpark(rt, lot, OTHER, 3).thread.is_none() {
+        found.store(1, Ordering::SeqCst);
+    }
+}
+
+// Thread 1 parks on key 0. Before it sleeps it looks into its bucket.
 fn acts_on_its_bucket<R: Wait + Abort>(
     rt: &R,
     lot: &ParkingLot<Letters>,
@@ -272,7 +281,7 @@ fn acts_on_its_bucket<R: Wait + Abort>(
 ) -> Parked
     requires { (lot.now.threads ≡ THREADS) × (lot.now.keys ≡ KEYS) }
 {
-    let (_pass, (), parked) = lot.park_acting(
+    let (_pass, (), parked) = lot.park_conditionally(
         rt,
         Pass { thread: 1 },
         0,
@@ -281,14 +290,11 @@ fn acts_on_its_bucket<R: Wait + Abort>(
             let root = joined(rt, root, pass.thread);
             (x, pass, root, true)
         },
-        |x: (), pass: Pass| -> ((), Pass)
+        |x: ()| -> ()
             requires { lot.now.keys ≡ KEYS }
-            ensures { result.1 ≡ pass }
         {
-            if lot.line_length(rt, 0) == 1 && unpark(rt, lot, OTHER, 3).thread.is_none() {
-                found.store(1, Ordering::SeqCst);
-            }
-            (x, pass)
+            looks_into_its_bucket(rt, lot, found);
+            x
         },
     );
     parked
@@ -324,8 +330,8 @@ fn awaits_the_action<R: Threads + Wait + Abort + Sync>(
     );
 }
 
-/// It catches a `park_acting` that calls the action in the work that it hands to `with_place_for`, after `park_in`:
-/// there the bucket is locked, so the action waits for its lock for ever, and what it found is never noted.
+/// It catches a `park_conditionally` that calls the action in its validation, under the lock of the bucket: there it
+/// waits for that lock for ever, and what it found is never noted.
 #[test]
 fn an_action_before_sleep_runs_with_no_bucket_locked(rt: HostRuntime) {
     let lot = open(&rt, rt.alloc());

@@ -23,6 +23,10 @@ impl Sought<Prizes> for Letters {
 
     ghost sleeps = { λ before key asleep. ⊥ };
 
+    ghost changed = { λ before key now. ⊥ };
+
+    ghost marked = { λ before key now. ⊥ };
+
     fn look_at(&self, _key: usize) -> Look {
         self.note_a_look();
         Look::Taken

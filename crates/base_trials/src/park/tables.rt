@@ -106,10 +106,11 @@ fn join_in(rt: &impl Abort, bucket: &mut Bucket<Right>, key: usize, thread: usiz
 }
 
 fn queue_up<R: Wait + Abort>(rt: &R, table: &Table<Right>, thread: usize, key: usize) {
-    let ((), ()) = table.with_place_for(rt, key, thread, (), |bucket: &mut Bucket<Right>, x: ()| {
+    let work = |bucket: &mut Bucket<Right>, x: ()| {
         join_in(rt, bucket, key, thread);
         (x, ())
-    });
+    };
+    let (((), ()), _unlocked) = table.with_place_for(rt, key, thread, (), work);
 }
 
 // The right without the first thread of its line.

@@ -1,6 +1,5 @@
 use Rattle.std.proofs.Common.{inr, sym, subst}
 use Rattle.lot_sems.specs.declared.taking.Taken.{Taken}
-use Rattle.lot_sems.specs.declared.taking.Taken.TheVariants.{Got}
 use Rattle.lot_scheme.specs.Standing.{LotStanding}
 use Rattle.lot_scheme.specs.SemCalls.{TakesPermit}
 use Rattle.lot_permits.specs.Seeking.{GetsPermit}

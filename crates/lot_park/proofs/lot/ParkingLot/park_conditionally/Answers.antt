@@ -13,6 +13,10 @@ returns g c =
       paid = parked.paid;
       called = parked.called;
       ends = ends_on _ _ _ c.park_acting.result.2
-          (λ token e. (e.0, subst (λ q. Awaited g.S.Scheme.looked q token c.park_acting.result.0) e.1.1.1 e.1.2, rw (sym e.1.3) at e.1.1.0))
+          (λ token e. (
+            e.0,
+            subst (λ q. Awaited g.S.Scheme.looked q token c.park_acting.result.0) e.1.1.1.1.1 e.1.2,
+            rw (sym e.1.3) at e.1.1.1.1.0,
+          ))
           parked.ends;
     }

@@ -17,18 +17,18 @@ ready g c b same =
       subst (λ (x : Contents g.row.R.Denot). HasPlaceFor c.args.thread x) (sym is) c.lock_with_place-guard.ensures.place,
     )
 
-pub lend-requires-clause-callable : goal.lend-requires-clause-callable
-lend-requires-clause-callable g c κs within = λ b same.
+pub lend-answer-requires-clause-callable : goal.lend-answer-requires-clause-callable
+lend-answer-requires-clause-callable g c κs within = λ b same.
     let held = ready g c b.now same in
     c.requires.callable b held.0 held.1
 
-pub lend-requires-clause-keeps : goal.lend-requires-clause-keeps
-lend-requires-clause-keeps g c κs within = λ b r after same said.
+pub lend-answer-requires-clause-keeps : goal.lend-answer-requires-clause-keeps
+lend-answer-requires-clause-keeps g c κs within = λ b r after same said.
     let held = ready g c b.now same in
     c.requires.keeps b r after held.0 held.1 said
 
 pub returns : goal.returns
 returns g c =
-    let lent = c.lend.ensures in
+    let lent = c.lend-answer.ensures in
     let held = ready g (goal.at.returns g c).After-deref_mut-settled lent.0.now lent.2 in
-    (lent.0, lent.1, held.0, held.1, lent.4, c.requires.keeps lent.0 c.lend.result lent.1 held.0 held.1 lent.4)
+    (lent.0, lent.1, held.0, held.1, lent.4, c.requires.keeps lent.0 c.lend-answer.result lent.1 held.0 held.1 lent.4)

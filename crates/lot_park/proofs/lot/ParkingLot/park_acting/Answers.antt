@@ -1,0 +1,8 @@
+use Rattle.std.proofs.Common.{rules}
+use Rattle.lot_park.proofs.lot.ParkingLot.park_acting.Goals as goal
+
+pub act-x-requires : goal.act-x-requires
+act-x-requires g c =
+    let v = c.queue_up-x.ensures in
+    c.requires.acts v.root (c.queue_up-x.result.0, c.queue_up-x.result.1, v.back, c.queue_up-x.result.2) v.named v.paid v.called
+    (search rules) c.queue_up-x.result.3
