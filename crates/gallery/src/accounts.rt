@@ -1,6 +1,5 @@
 //! Accounts: a transfer under two locks, and at the end the sum is the sum at the beginning.
-ghost use Rattle.std.specs.Prelude.{◌≡◌, ◌≢◌, ◌<◌, ◌≤◌, ◌+◌, MatchOption, length, vec_len, vec_capacity};
-ghost use Rattle.std.specs.List.{sum_by};
+ghost use Rattle.std.specs.Prelude.{◌≡◌, ◌≢◌, ◌<◌, ◌≤◌, ◌+◌, MatchOption, length, vec_len, vec_capacity, sum_by};
 ghost use Rattle.lot_sync.specs.Lot.{OwnsNone};
 ghost use Rattle.gallery.specs.Accounts.{IsBooked, IsEven, AreEven, Settles, balance_of, opening_of, AreOpenedAs};
 
@@ -81,8 +80,7 @@ pub fn transfer<N: LotName<Account> + Send, T: Wait>(
     requires thread { pass.thread < WORKERS }
     requires free { OwnsNone pass }
     requires even { IsEven pass.thread pass.seen }
-    ensures thread { result.0.thread ≡ pass.thread }
-    ensures free { OwnsNone result.0 }
+    ensures back { (result.0.thread ≡ pass.thread) × OwnsNone result.0 }
     ensures even { IsEven result.0.thread result.0.seen }
 {
     let thread = pass.thread();

@@ -37,7 +37,7 @@ pub fn take_all<V: Keeps + Send, N: LotName<V> + Send, T: Wait>(
     requires room { (vec_len passes.old ≡ 0) × (lot.old.threads ≤ vec_capacity passes.old) }
     ensures same { lot.new ≡ lot.old }
     ensures count { vec_len passes.new ≡ lot.old.threads }
-    ensures taken { AreTaken V.Keeps N.values lot.old passes.new.items }
+    ensures taken { AreTaken V.Keeps N.values lot.new passes.new.items }
 {
     for thread in 0..lot.threads() {
         let pass = take_pass(rt, lot, thread);

@@ -1,5 +1,6 @@
 //! Opening a lot: first its table, then, under a name, the lot itself.
-ghost use Rattle.std.specs.Prelude.{◌≡◌, ◌+◌, [], length, vec_len, IfOk, IfErr};
+ghost use Rattle.std.specs.Prelude.{◌≡◌, ◌↔◌, ◌+◌, [], length, vec_len, IfOk, IfErr, IsTrue};
+ghost use Rattle.lot_sync.specs.Opened.{IsKeyCount};
 
 use crate::fault::OpenFault;
 use crate::lot::Lot;
@@ -31,6 +32,13 @@ impl<V: Keeps + Send> Model for Opened<V> {
     ghost view = { λ s. opened_as s.words };
 
     ghost invariant = { λ s. IsOpened V.Keeps s.words s.passes.items s.roots.items s.threads s.locks s.conds s.sems };
+}
+
+/// Whether a lot may have so many keys of each kind.
+fn is_key_count(locks: usize, conds: usize, sems: usize) -> bool
+    ensures { IsTrue result ↔ IsKeyCount locks conds sems }
+{
+    0 < locks && locks <= MAX_KEYS && conds <= MAX_KEYS - locks && sems <= MAX_KEYS - locks - conds
 }
 
 impl<V: Keeps + Send, N: LotName<V> + Send> Lot<V, N> {
@@ -77,15 +85,10 @@ impl<V: Keeps + Send, N: LotName<V> + Send> Lot<V, N> {
         if threads < 1 || threads > MAX_THREADS {
             return Err((OpenFault::BadThreads, values));
         }
-        let locks = values.len();
-        if locks < 1
-            || locks > MAX_KEYS
-            || conds > MAX_KEYS - locks
-            || permits.len() > MAX_KEYS - locks - conds
-        {
+        let (locks, sems) = (values.len(), permits.len());
+        if !is_key_count(locks, conds, sems) {
             return Err((OpenFault::BadKeys, values));
         }
-        let sems = permits.len();
         let Ok(permits) = permits.to_vec(alloc) else {
             return Err((OpenFault::NoMemory, values));
         };

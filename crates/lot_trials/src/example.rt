@@ -1,4 +1,4 @@
-//! The smallest caller, which docs/USE.md shows: threads that raise a number under lock 0.
+//! The smallest caller, which the pages quote: it raises a number under lock 0.
 ghost use Rattle.std.specs.Prelude.{◌≡◌, ◌<◌, length};
 ghost use Rattle.lot_sync.specs.Lot.{OwnsNone};
 ghost use Rattle.lot_sync.specs.Opened.{IsNamed};

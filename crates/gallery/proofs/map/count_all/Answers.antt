@@ -1,4 +1,4 @@
-use Rattle.std.proofs.Common.{[], rules, sym, arith}
+use Rattle.std.proofs.Common.{[], rules, arith}
 use Rattle.std.specs.List.{sum, sum_by}
 use Rattle.lot_calls.proofs.Working.{are_back, came_to}
 use Rattle.lot_calls.proofs.Sums.{sum_of_row}
@@ -6,10 +6,9 @@ use Rattle.gallery.proofs.map.count_all.Goals as goal
 
 pub close_with-requires-clause-back : goal.close_with-requires-clause-back
 close_with-requires-clause-back g c κs within =
-    are_back _ _ _ _ _ _ (rw (sym c.take_all.ensures.same) at c.take_all.ensures.taken) c.work_all.ensures.each (λ p q r x. x.back)
+    are_back _ _ _ _ _ _ c.take_all.ensures.taken c.work_all.ensures.each (λ p q r x. x.back)
 
 pub returns : goal.returns
 returns g c =
-    let taken = rw (sym c.take_all.ensures.same) at c.take_all.ensures.taken in
-    came_to _ taken c.work_all.ensures.each c.close_with.ensures.ends (λ p q r x. x.back) sum (λ s. sum_by sum s.rows) 4 1024 (search rules)
-    (omega arith) (λ k v kept. sum_of_row sum [] v.rows 4 kept.rows) (λ p q r x. omega (arith, x.added, r.rests))
+    came_to _ c.take_all.ensures.taken c.work_all.ensures.each c.close_with.ensures.ends (λ p q r x. x.back) sum (λ s. sum_by sum s.rows)
+    4 1024 (search rules) (omega arith) (λ k v kept. sum_of_row sum [] v.rows 4 kept.rows) (λ p q r x. omega (arith, x.added, r.rests))
