@@ -193,18 +193,13 @@ module _ {V : Type 0} where
 
     pub finds_another : (before mid now : LotStanding V) (key : ℕ) → IsSeekingFor first_sem before key mid
         → MarksPermit mid key false now → FindsAnother before key now
-    finds_another before mid now key s (word, other, is) = ends_with _ before mid now s.did (Finds mid.thread key word)
-        (word, ap (λ (p : LotStanding V). Finds p.thread key word) s.is) (ap (λ (p : LotStanding V). p.did) s.is)
-        (ap (λ (p : LotStanding V). p.did) is)
+    finds_another before mid now key s (word, other, is) = inl (ends_with _ before mid now s.did (Finds mid.thread key word)
+        (word, other, ap (λ (p : LotStanding V). Finds p.thread key word) s.is) (ap (λ (p : LotStanding V). p.did) s.is)
+        (ap (λ (p : LotStanding V). p.did) is))
 
     -- and so it was of an exchange that was too late
     pub finds_busy : (p q : LotStanding V) (key : ℕ) → TakesPermit p key Busy q → FindsAnother p key q
-    finds_busy p q key (did, (seen, found, left, other, does), is) = record {
-      front = Finds p.thread key seen ∷ [];
-      last = Finds p.thread key found;
-      was = (found, refl);
-      is = ap (λ (z : LotStanding V). z.did) is ∙ ap (λ (acts : List Access). p.did ++ acts) does;
-    }
+    finds_busy p q key busy = inr busy
 
     -- ---- after a try
     pub tried : (p q : LotStanding V) (key : ℕ) → first_sem ≤ key → MayTakePermit p.own key

@@ -1,5 +1,5 @@
 -- How a pass stands whose thread seeks a permit of k: p before it began, q now. The keys of the semaphores begin at first_sem.
-use Rattle.std.specs.Prelude.{◌≡◌, ℕ, ◌≤◌, ◌⊎◌, List}
+use Rattle.std.specs.Prelude.{◌≡◌, ◌≢◌, ℕ, ◌≤◌, ◌⊎◌, List}
 use Rattle.std.specs.List.{All}
 use Rattle.lot_events.specs.declared.events.Event.TheVariants.{SemMark}
 use Rattle.lot_events.specs.declared.events.Seen.TheVariants.{Done}
@@ -9,7 +9,7 @@ use Rattle.lot_whole.specs.Standing.{MayTakePermit}
 use Rattle.lot_park.specs.declared.seeking.Seeking.{Seeking}
 use Rattle.lot_park.specs.declared.seeking.Seeking.TheVariants.{Got, Waits, Parks}
 use Rattle.lot_scheme.specs.Standing.{LotStanding, EndsWith, adding, seeking, queued, one_permit_more}
-use Rattle.lot_scheme.specs.Words.{IsPermitSeek, GetPermitWord}
+use Rattle.lot_scheme.specs.Words.{IsPermitSeek, GetPermitWord, BusyWord}
 
 module _ {V : Type 0} where
   -- it sought a permit of k, and got it
@@ -38,12 +38,14 @@ module _ {V : Type 0} where
   abbrev pub IsAsleepFor : ℕ → LotStanding V → ℕ → LotStanding V → Type 0
   IsAsleepFor first_sem p k q = IsOnItsWay first_sem p k (λ did. q ≡ adding (queued p k) did)
 
-  -- at last it marked the semaphore as parked; or an exchange found another word than it was to change
+  -- at last it marked the semaphore as parked
   abbrev pub HasMarked : LotStanding V → ℕ → LotStanding V → Type 0
   HasMarked p k q = EndsWith (λ a. a ≡ Makes (SemMark p.thread k) Done) p q
 
+  -- an exchange found another word than it was to change: at last that of a mark, which is to change 0; or that of a try to take
   abbrev pub FindsAnother : LotStanding V → ℕ → LotStanding V → Type 0
-  FindsAnother p k q = EndsWith (λ a. (word : ℕ) × (a ≡ Finds p.thread k word)) p q
+  FindsAnother p k q = EndsWith (λ a. (word : ℕ) × (word ≢ 0) × (a ≡ Finds p.thread k word)) p q
+      ⊎ ((did : List Access) × BusyWord p.thread k did × (q ≡ adding p did))
 
   -- by how far it is
   abbrev pub Seeks : ℕ → LotStanding V → ℕ → Seeking → LotStanding V → Type 0
