@@ -1,6 +1,6 @@
 //! Trials of a lot, and of what the programs do with lots, through public calls: rows with the words that they leave,
 //! schedules made by hand, mostly with real threads, callers that prove what a user would conclude, and the programs'
-//! texts and statuses. It has tests and nothing else.
+//! texts and statuses. Beside tests it has the smallest caller, which the pages quote (`example.rt`).
 //!
 //! Those that `scripts/refused` at the top lists end well where any one request for memory, or any one start of a
 //! thread, is refused: the call says so, nothing is lost, and the next call succeeds. It runs them with each request
@@ -16,7 +16,6 @@ mod asserts;
 mod calls;
 #[cfg(test)]
 mod counts;
-#[cfg(test)]
 mod example;
 #[cfg(test)]
 mod history;

@@ -1,4 +1,4 @@
-use Rattle.lot_trials.proofs.example.a_small_caller.Given as goal
+use Rattle.lot_trials.proofs.example.tests.a_small_caller.Given as goal
 
 abbrev pub ghosts-raised-N-Name : goal.ghosts-raised-N-Name
 ghosts-raised-N-Name g a = record { opening = a.opened.opening }
