@@ -16,6 +16,7 @@ use Rattle.lot_words.specs.World.{Holds}
 use Rattle.lot_words.specs.Rule.{wants_of}
 use Rattle.lot_words.proofs.Machine.{awake_is as lock_awake}
 use Rattle.lot_words.proofs.Letters.{debtor_fits}
+use Rattle.lot_words.proofs.Owners.{owner_has}
 use Rattle.lot_conds.specs.declared.views.CondPassView.{CondPassView}
 use Rattle.lot_conds.specs.declared.views.CondRootView.{CondRootView}
 use Rattle.lot_conds.proofs.Machine.{awake_is as cond_awake}
@@ -102,7 +103,7 @@ module _ {V Part : Type 0} (rule : CallersRule V Part) (z : LotSize) (xs : List 
     has l h =
         let v = w.each lock in
         ap (λ (a : LockPart). a.locks.has l t) (ok.agrees lock)
-        ∙ eq-eqb (v.word l).owner (suc t)
+        ∙ owner_has (v.word l).owner t
         (((ok.parts lock).kept.threads t).holds l (subst (λ (x : LockPassView V). Holds x l) (sym (pass_ok.each lock).1) h))
 
     -- ---- where the thread stands

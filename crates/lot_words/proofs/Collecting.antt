@@ -106,7 +106,7 @@ module _ {V Part : Type 0} (rule : CallersRule V Part) where
           let x : V = ok.lawful.value l in
           let mine : ¬ Holds (w.pass t) l = (ok.kept.threads t).handed l (subst (λ z. IsHanded z l) (sym lies) (refl, refl)) in
           let nobody : (u : ℕ) → ¬ Holds (w.pass u) l =
-          (λ u h. let f : (w.word l).owner ≡ suc u = (ok.kept.threads u).holds l h in let same : u ≡ t = omega arith in mine
+          (λ u h. let f : Some u ≡ Some t = sym ((ok.kept.threads u).holds l h) ∙ own in let same : u ≡ t = cc in mine
           (subst (λ z. Holds (w.pass z) l) same h)) in
           let long : l < length (w.pass t).holds = (let e = (ok.kept.threads t).long in omega arith) in
           wakes (λ z. woken (owning z l x)) 1 l lies refl (handed_kept n m w ok.kept t l lies x)

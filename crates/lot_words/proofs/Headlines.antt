@@ -1,9 +1,9 @@
 -- What keeps the rule keeps the headline.
-use Rattle.std.proofs.Common.{◌≡◌, ◌≢◌, ℕ, zero, suc, ◌==◌, true, false, List, refl, sym, ap, subst, ◌∙◌, ⊎_elim, arith, Option, Some, None}
-use Rattle.std.proofs.Common.{eq-eqb, true-eqb}
+use Rattle.std.proofs.Common.{◌≡◌, ◌≢◌, ℕ, zero, suc, true, false, List, refl, sym, subst, ◌∙◌, ⊎_elim, arith, Option, Some, None}
 use Rattle.std.specs.List.{Contains}
 use Rattle.atomic_table.specs.Table.{State}
 use Rattle.lot_core.proofs.Members.{in_none}
+use Rattle.lot_core.proofs.Soundness.{owner_one, owner_some}
 use Rattle.lot_rights.specs.declared.views.Right.{Right}
 use Rattle.lot_rights.specs.Rule.{Ruled}
 use Rattle.lot_rights.specs.World.{Spot, awake, queued, owed, lying, waits_on, IsLetter}
@@ -12,17 +12,10 @@ use Rattle.lot_words.specs.declared.views.LockPassView.{LockPassView}
 use Rattle.lot_words.specs.declared.views.LockRootView.{LockRootView}
 use Rattle.lot_words.specs.declared.views.Size.{Size}
 use Rattle.lot_words.specs.CallersRule.{CallersRule}
-use Rattle.lot_words.specs.World.{LockWorld, is_owned, IsHanded, TellsTrue, SpotFits, Kept}
+use Rattle.lot_words.specs.World.{LockWorld, IsHanded, TellsTrue, SpotFits, Kept}
 use Rattle.lot_words.specs.Rule.{wants_of, meaning}
 use Rattle.lot_words.specs.Headline.{LettersFit, IsSound, Headline}
-
-owner_held : (o : ℕ) → is_owned o ≡ true → (t : ℕ) × (o ≡ suc t)
-owner_held zero e = absurd (let f : false ≡ true = e in cc)
-owner_held (suc t) e = (t, refl)
-
-owner_unheld : (o : ℕ) → is_owned o ≡ false → o ≡ 0
-owner_unheld zero e = refl
-owner_unheld (suc t) e = absurd (let f : true ≡ false = e in cc)
+use Rattle.lot_words.proofs.Owners.{owner_has, owner_is, unowned}
 
 module _ {V : Type 0} (n m : ℕ) (w : LockWorld V) (ok : Kept n m w) where
   at_spot : (t : ℕ) (sp : Spot) → w.spot t ≡ sp → SpotFits n w.word w.root t (w.pass t) sp
@@ -59,12 +52,9 @@ module _ {V : Type 0} (n m : ℕ) (w : LockWorld V) (ok : Kept n m w) where
   }
 
   -- ---- who has a lock, who wants one
-  owner_of : (l t : ℕ) → ((w.word l).owner == suc t) ≡ true → (w.word l).owner ≡ suc t
-  owner_of l t e = true-eqb (w.word l).owner (suc t) (sym e)
-
-  handed_owner : (t l : ℕ) → IsHanded (w.spot t) l → (w.word l).owner ≡ suc t
+  handed_owner : (t l : ℕ) → IsHanded (w.spot t) l → (w.word l).owner ≡ Some t
   handed_owner t l h =
-      ⊎_elim {C = (w.word l).owner ≡ suc t} (λ e. absurd (omega arith)) (λ e. e.1) (tells t (w.spot t) (ok.threads t).spot l 1 h)
+      ⊎_elim {C = (w.word l).owner ≡ Some t} (λ e. absurd (omega arith)) (λ e. e.1) (tells t (w.spot t) (ok.threads t).spot l 1 h)
 
   -- a letter of token 0 leaves what the thread wants; the other token is 1
   wants_so : (t : ℕ) (sp : Spot) → SpotFits n w.word w.root t (w.pass t) sp → (l : ℕ)
@@ -90,27 +80,23 @@ module _ {V : Type 0} (n m : ℕ) (w : LockWorld V) (ok : Kept n m w) where
   pub sound : IsSound w n
   sound = record {
     one_owner = record {
-      one = λ l t u a b. let e = owner_of l t a in let f = owner_of l u b in omega arith;
-      some =
-          λ l. (
-            (λ e. let o = owner_held (w.word l).owner e in (o.0, eq-eqb (w.word l).owner (suc o.0) o.1)),
-            (λ h. ap is_owned (owner_of l h.0 h.1)),
-          );
+      one = λ l t u. owner_one (w.word l).owner t u;
+      some = λ l. owner_some (w.word l).owner;
     };
     has_is = λ l t. (
-      (λ e. ((ok.locks l).had t (owner_of l t e)).1),
-      (λ h. eq-eqb (w.word l).owner (suc t) (⊎_elim {C = (w.word l).owner ≡ suc t} ((ok.threads t).holds l) (handed_owner t l) h)),
+      (λ e. ((ok.locks l).had t (owner_is (w.word l).owner t e)).1),
+      (λ h. owner_has (w.word l).owner t (⊎_elim {C = (w.word l).owner ≡ Some t} ((ok.threads t).holds l) (handed_owner t l) h)),
     );
     wants_is = λ l t. wants_so t (w.spot t) (ok.threads t).spot l;
     are_threads = λ l t h. (at_spot t (queued l) ((ok.threads t).in_line l h)).0.0;
     sleepers_are_marked = λ l t h. (ok.locks l).parks (λ e. in_none t (subst (λ z. Contains z t) e h));
     someone_is_trying = λ l unheld line.
-        let free = owner_unheld (w.word l).owner unheld in
+        let free = unowned (w.word l).owner unheld in
         let h = (ok.locks l).tried free line in (
           h.0,
           (
             h.1.0,
-            (wants_so h.0 (w.spot h.0) (ok.threads h.0).spot l).1 (h.1.1, (λ g. let own = handed_owner h.0 l g in absurd (omega arith))),
+            (wants_so h.0 (w.spot h.0) (ok.threads h.0).spot l).1 (h.1.1, (λ g. absurd (let e : Some h.0 ≡ None = sym (handed_owner h.0 l g) ∙ free in cc))),
             (λ g. h.1.2 l ((ok.threads h.0).in_line l g)),
           ),
         );

@@ -1,6 +1,6 @@
 -- A lock is got, wanted, marked, let go, or found parked, and a thread queues on it: the rule of threads and locks is kept.
-use Rattle.std.proofs.Common.{◌≡◌, ◌≢◌, ℕ, suc, ◌<◌, Bool, true, false, [], ◌∷◌, ◌++◌, length, refl, sym, ap, subst, ◌∙◌, arith}
-use Rattle.std.proofs.Common.{length-set, get_or-set_other, Some}
+use Rattle.std.proofs.Common.{◌≡◌, ◌≢◌, ℕ, ◌<◌, Bool, true, false, [], ◌∷◌, ◌++◌, length, refl, sym, ap, subst, ◌∙◌, arith}
+use Rattle.std.proofs.Common.{length-set, get_or-set_other, Some, None}
 use Rattle.std.specs.List.{Contains}
 use Rattle.std.proofs.lemmas.List.Elements.{Contains-append_left, Contains-push}
 use Rattle.lot_core.specs.World.{put}
@@ -42,20 +42,20 @@ module _ {V : Type 0} (n m : ℕ) (w : LockWorld V) (ok : Kept n m w) (t : ℕ) 
     lock_near = let e = (ok.threads t).long in omega arith
 
     -- the thread gets the unheld lock
-    pub gets_kept : (w.word l).owner ≡ 0 → Aims (w.pass t) l → (x : V)
+    pub gets_kept : (w.word l).owner ≡ None → Aims (w.pass t) l → (x : V)
         → Kept n m
         (record w {
           pass = put w.pass t (owning (w.pass t) l x);
-          word = put w.word l (record { owner = suc t; parked = (w.word l).parked });
+          word = put w.word l (record { owner = Some t; parked = (w.word l).parked });
         })
     gets_kept unheld aims x =
         let xs = (w.pass t).holds in
         let p : LockPassView V = owning (w.pass t) l x in
-        let y : LockWord = record { owner = suc t; parked = (w.word l).parked } in
+        let y : LockWord = record { owner = Some t; parked = (w.word l).parked } in
         let word : ℕ → LockWord = put w.word l y in
         let fits : (v : ℕ) → ThreadFits n word w.root m v (w.pass v) (w.spot v)
-        = (λ v. thread_at n m w.word l y w.root w.root v (w.pass v) (w.spot v) (λ e. absurd (omega arith)) (λ _ e. e) (same_roots v w.root)
-        (ok.threads v)) in
+        = (λ v. thread_at n m w.word l y w.root w.root v (w.pass v) (w.spot v) (λ e. absurd (let f : None ≡ Some v = sym unheld ∙ e in cc))
+        (λ _ e. e) (same_roots v w.root) (ok.threads v)) in
         record {
           threads = each_thread n m w word w.root w.spot t p
               (subst (ThreadFits n word w.root m t p) (sym is_awake)
@@ -70,7 +70,7 @@ module _ {V : Type 0} (n m : ℕ) (w : LockWorld V) (ok : Kept n m w) (t : ℕ) 
         }
 
     -- the thread finds the lock held, and wants it
-    pub wants_kept : (w.word l).owner ≢ 0 → Aims (w.pass t) l → Kept n m (record w { pass = put w.pass t (wanting (w.pass t) l) })
+    pub wants_kept : (w.word l).owner ≢ None → Aims (w.pass t) l → Kept n m (record w { pass = put w.pass t (wanting (w.pass t) l) })
     wants_kept held aims =
         let p : LockPassView V = wanting (w.pass t) l in
         let me = ok.threads t in
@@ -88,7 +88,7 @@ module _ {V : Type 0} (n m : ℕ) (w : LockWorld V) (ok : Kept n m w) (t : ℕ) 
               })
               (λ v _. ok.threads v);
           locks = λ k. lock_stays n k (w.word k) (w.root k) w.pass w.spot t p w.spot (ok.locks k) (λ h. h) (λ v h. h)
-              (λ e a. absurd (held (subst (λ z. (w.word z).owner ≡ 0) (aims k a) e))) (λ _ v _ h. h);
+              (λ e a. absurd (held (subst (λ z. (w.word z).owner ≡ None) (aims k a) e))) (λ _ v _ h. h);
         }
 
     -- the lock is marked as parked
@@ -129,7 +129,7 @@ module _ {V : Type 0} (n m : ℕ) (w : LockWorld V) (ok : Kept n m w) (t : ℕ) 
       }
 
       -- every lock fits as before: the one that the thread tries for is held
-      locks_wait : (w.word l).owner ≢ 0 → (k : ℕ)
+      locks_wait : (w.word l).owner ≢ None → (k : ℕ)
           → LockFits n (put w.pass t (sleeping (w.pass t))) (put w.spot t (queued l)) k (w.word k) (w.root k)
       locks_wait held k =
           lock_stays n k (w.word k) (w.root k) w.pass w.spot t (sleeping (w.pass t)) (put w.spot t (queued l)) (ok.locks k) (λ h. h)
@@ -137,11 +137,11 @@ module _ {V : Type 0} (n m : ℕ) (w : LockWorld V) (ok : Kept n m w) (t : ℕ) 
           (λ vt h. absurd (not_handed k (subst (λ z. IsHanded (w.spot z) k) vt h))) (λ _ h. h)) (λ _ a. a)
           (λ e v a. put_elim (λ z. IsOutside (w.spot v) → IsOutside z) w.spot t (queued l) v
           (λ vt _.
-          absurd (held (subst (λ z. (w.word z).owner ≡ 0) (let f : Some k ≡ Some l = sym a ∙ (ap (λ z. (w.pass z).aim) vt ∙ aim) in cc) e)))
+          absurd (held (subst (λ z. (w.word z).owner ≡ None) (let f : Some k ≡ Some l = sym a ∙ (ap (λ z. (w.pass z).aim) vt ∙ aim) in cc) e)))
           (λ _ h. h))
 
     -- the thread goes last in the line of the lock, which is held and parked
-    pub parks_kept : (w.word l).owner ≢ 0 → (w.word l).parked ≡ true → (w.pass t).aim ≡ Some l
+    pub parks_kept : (w.word l).owner ≢ None → (w.word l).parked ≡ true → (w.pass t).aim ≡ Some l
         → Kept n m
         (record w {
           pass = put w.pass t (sleeping (w.pass t));
@@ -179,7 +179,7 @@ module _ {V : Type 0} (n m : ℕ) (w : LockWorld V) (ok : Kept n m w) (t : ℕ) 
         record {
           long = length-set xs l NotHeld ∙ me.long;
           aims = me.aims;
-          holds = λ k. set_elim xs l k NotHeld (λ h. IsHeld h → (word k).owner ≡ suc t) lock_near (λ e h. absurd h)
+          holds = λ k. set_elim xs l k NotHeld (λ h. IsHeld h → (word k).owner ≡ Some t) lock_near (λ e h. absurd h)
               (λ ne h. ap (λ (z : LockWord). z.owner) (put_other w.word l x k ne) ∙ me.holds k h);
           found = λ k. set_elim xs l k NotHeld (λ h. IsFound h → (word k).parked ≡ true) lock_near (λ e h. absurd h)
               (λ ne h. ap (λ (z : LockWord). z.parked) (put_other w.word l x k ne) ∙ me.found k h);
@@ -194,23 +194,23 @@ module _ {V : Type 0} (n m : ℕ) (w : LockWorld V) (ok : Kept n m w) (t : ℕ) 
       pub others_fit : (x : LockWord) (root : ℕ → LockRootView) (v : ℕ) → v ≢ t → SameFor v w.root root
           → ThreadFits n (put w.word l x) root m v (w.pass v) (w.spot v)
       others_fit x root v ne same =
-          let own : (w.word l).owner ≡ suc t = (ok.threads t).holds l has in
-          thread_at n m w.word l x w.root root v (w.pass v) (w.spot v) (λ e. absurd (ne (omega arith))) (λ e. absurd (ne (omega arith)))
+          let same_owner : (w.word l).owner ≡ Some v → v ≡ t = (λ e. let f : Some v ≡ Some t = sym e ∙ (ok.threads t).holds l has in cc) in
+          thread_at n m w.word l x w.root root v (w.pass v) (w.spot v) (λ e. absurd (ne (same_owner e))) (λ e. absurd (ne (same_owner e)))
           same (ok.threads v)
 
       -- the owner lets the lock go, in whose line nobody is
       pub frees_kept : (y : V) (b : Bool) → (w.root l).line ≡ []
-          → Kept n m (record w { pass = put w.pass t (letting_go (w.pass t) l y); word = put w.word l (record { owner = 0; parked = b }) })
+          → Kept n m (record w { pass = put w.pass t (letting_go (w.pass t) l y); word = put w.word l (record { owner = None; parked = b }) })
       frees_kept y b nobody =
           let p : LockPassView V = letting_go (w.pass t) l y in
-          let x : LockWord = record { owner = 0; parked = b } in
+          let x : LockWord = record { owner = None; parked = b } in
           record {
             threads = each_thread n m w (put w.word l x) w.root w.spot t p (left_fits x y w.root (same_roots t w.root))
                 (λ v ne. others_fit x w.root v ne (same_roots v w.root));
             locks = each_word n (put w.pass t p) w.spot w l x (w.root l)
                 (record {
                   once = (ok.locks l).once;
-                  had = λ v e. absurd (omega arith);
+                  had = λ v e. absurd (let f : None ≡ Some v = e in cc);
                   parks = λ some. absurd (some nobody);
                   tried = λ _ some. absurd (some nobody);
                 })
@@ -231,7 +231,7 @@ module _ {V : Type 0} (n m : ℕ) (w : LockWorld V) (ok : Kept n m w) (t : ℕ) 
                   long = length-set xs l FoundParked ∙ me.long;
                   aims = me.aims;
                   holds =
-                      λ k. set_elim xs l k FoundParked (λ h. IsHeld h → (w.word k).owner ≡ suc t) lock_near
+                      λ k. set_elim xs l k FoundParked (λ h. IsHeld h → (w.word k).owner ≡ Some t) lock_near
                       (λ e _. me.holds k (subst (Holds (w.pass t)) (sym e) has)) (λ ne h. me.holds k h);
                   found =
                       λ k. set_elim xs l k FoundParked (λ h. IsFound h → (w.word k).parked ≡ true) lock_near

@@ -1,7 +1,7 @@
 -- A lock is passed on to the first of its line, a letter is posted, a letter is collected: the rule of threads and locks is kept.
-use Rattle.std.proofs.Common.{◌≡◌, ◌≢◌, ℕ, suc, ◌<◌, ◌⊎◌, Bool, true, false, List, [], ◌∷◌, length, refl, sym, ap, subst}
+use Rattle.std.proofs.Common.{◌≡◌, ◌≢◌, ℕ, ◌<◌, ◌⊎◌, Bool, true, false, List, [], ◌∷◌, length, refl, sym, ap, subst}
 use Rattle.std.proofs.Common.{◌∙◌, inl, inr, ⊎_elim, arith}
-use Rattle.std.proofs.Common.{get_or-set_other, Some, None}
+use Rattle.std.proofs.Common.{get_or-set_other, Option, Some, None}
 use Rattle.std.specs.List.{Contains}
 use mathlib.Core.Logic.{dite}
 use native.Mathlib.Decide.{ℕ_discrete}
@@ -69,7 +69,7 @@ module _ {V : Type 0} (n m : ℕ) (w : LockWorld V) (ok : Kept n m w) where
         (λ c h. absurd (vu (sym (same_debt u k v c h).0)))
 
     -- the token k says whether the owner o is the first of the line then
-    module _ (k o : ℕ) (b : Bool) (token : ((k ≡ 0) × (o ≡ 0)) ⊎ ((k ≡ 1) × (o ≡ suc u))) where
+    module _ (k : ℕ) (o : Option ℕ) (b : Bool) (token : ((k ≡ 0) × (o ≡ None)) ⊎ ((k ≡ 1) × (o ≡ Some u))) where
       abbrev word_then : LockWord
       word_then = record { owner = o; parked = b }
 
@@ -96,8 +96,8 @@ module _ {V : Type 0} (n m : ℕ) (w : LockWorld V) (ok : Kept n m w) where
                 (λ e h. ap (λ z. owed z k) (sym e) ∙ ap (owed j) (same_debt u k u c h).1)
                 (λ _ h. absurd (let g : queued l ≡ owed j c = sym first_waits ∙ me.is_owed j c h in cc));
             handed = λ j h a. apart
-                (let e : (w.word l).owner ≡ suc u = subst (λ z. (w.word z).owner ≡ suc u) (sym h.0) (me.holds j a) in
-                let own = (ok.threads t).holds l has in omega arith);
+                (let e : (w.word l).owner ≡ Some u = subst (λ z. (w.word z).owner ≡ Some u) (sym h.0) (me.holds j a) in
+                let same : Some u ≡ Some t = sym e ∙ (ok.threads t).holds l has in cc);
           }
 
       -- the lock fits that is passed on: where it has an owner, that is the first of the line, to which it is handed
@@ -109,8 +109,8 @@ module _ {V : Type 0} (n m : ℕ) (w : LockWorld V) (ok : Kept n m w) where
           record {
             once = once_tail u us once;
             had = λ v e. ⊎_elim {C = (v < n) × (Holds (put w.pass t p v) l ⊎ IsHanded (spots v) l)}
-                (λ z. absurd (let f = z.1 in omega arith))
-                (λ z. let uv : u ≡ v = (let f = z.1 in omega arith) in
+                (λ z. absurd (let f : None ≡ Some v = sym z.1 ∙ e in cc))
+                (λ z. let uv : u ≡ v = (let f : Some u ≡ Some v = sym z.1 ∙ e in cc) in
                 subst (λ i. (i < n) × (Holds (put w.pass t p i) l ⊎ IsHanded (spots i) l)) uv
                 (first_sleeps.0, inr (subst (λ s. IsHanded s l) (sym (put_same w.spot u (owed l k))) (refl, z.0))))
                 token;
@@ -126,7 +126,7 @@ module _ {V : Type 0} (n m : ℕ) (w : LockWorld V) (ok : Kept n m w) where
           }
 
     -- the first of the line is owed the token k, which says whether it is the owner then
-    pub passes_kept : (y : V) (k o : ℕ) (b : Bool) → ((k ≡ 0) × (o ≡ 0)) ⊎ ((k ≡ 1) × (o ≡ suc u)) → (us ≢ [] → b ≡ true)
+    pub passes_kept : (y : V) (k : ℕ) (o : Option ℕ) (b : Bool) → ((k ≡ 0) × (o ≡ None)) ⊎ ((k ≡ 1) × (o ≡ Some u)) → (us ≢ [] → b ≡ true)
         → Kept n m (record w {
           pass = put w.pass t (letting_go (w.pass t) l y);
           spot = put w.spot u (owed l k);
@@ -243,8 +243,8 @@ module _ {V : Type 0} (n m : ℕ) (w : LockWorld V) (ok : Kept n m w) where
       pub lies_fits : SpotFits n w.word w.root t (w.pass t) (lying l 1)
       lies_fits = at_spot t (lying l 1) lies
 
-      pub handed_owner : (w.word l).owner ≡ suc t
-      handed_owner = ⊎_elim {C = (w.word l).owner ≡ suc t} (λ e. absurd (omega arith)) (λ e. e.1) lies_fits.1
+      pub handed_owner : (w.word l).owner ≡ Some t
+      handed_owner = ⊎_elim {C = (w.word l).owner ≡ Some t} (λ e. absurd (omega arith)) (λ e. e.1) lies_fits.1
 
       pub handed_near : l < m
       handed_near = (ok.threads t).aims l lies_fits.0.2

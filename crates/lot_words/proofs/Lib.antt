@@ -9,6 +9,7 @@ pub mod Machine
 pub mod Moving
 pub mod Names
 pub mod Opens
+pub mod Owners
 pub mod Owning
 pub mod Roots
 pub mod Rows

@@ -1,5 +1,5 @@
 -- How a change of the world keeps the rule of threads and locks.
-use Rattle.std.proofs.Common.{◌≡◌, ◌≢◌, ℕ, suc, ◌<◌, ◌⊎◌, if◌then◌else◌, Bool, true, false, List, [], length, get_or, set, refl, sym, ap}
+use Rattle.std.proofs.Common.{◌≡◌, ◌≢◌, ℕ, ◌<◌, ◌⊎◌, if◌then◌else◌, Bool, true, false, List, [], length, get_or, set, refl, sym, ap}
 use Rattle.std.proofs.Common.{subst, inl, inr, ⊎_elim, arith, ◌∙◌, length-set, get_or-set_same, get_or-set_other, Option}
 use Rattle.std.proofs.Common.{Some, None}
 use Rattle.std.specs.List.{Contains}
@@ -44,7 +44,7 @@ debtor (Some x) = x
 pub same_debt : (a b c d : ℕ) → ◌≡◌ {A = Option (ℕ × ℕ)} (Some (a, b)) (Some (c, d)) → (a ≡ c) × (b ≡ d)
 same_debt a b c d e = (ap (λ o. (debtor o).0) e, ap (λ o. (debtor o).1) e)
 
-told_on : (o o' t k : ℕ) → TellsTrue o t k → (o ≡ suc t → o' ≡ suc t) → TellsTrue o' t k
+told_on : (o o' : Option ℕ) (t k : ℕ) → TellsTrue o t k → (o ≡ Some t → o' ≡ Some t) → TellsTrue o' t k
 told_on o o' t k h f = ⊎_elim {C = TellsTrue o' t k} (λ z. inl z) (λ h. inr (h.0, f h.1)) h
 
 pub awake_out : IsOutside awake
@@ -93,7 +93,7 @@ module _ {V : Type 0} (n : ℕ) where
   awake_is word root t p (lying l k) h e = absurd (cc (h.0.1))
 
   spot_on : (word word' : ℕ → LockWord) (root root' : ℕ → LockRootView) (u : ℕ) (p : LockPassView V) (sp : Spot)
-      → ((k : ℕ) → (word k).owner ≡ suc u → (word' k).owner ≡ suc u) → SameFor u root root'
+      → ((k : ℕ) → (word k).owner ≡ Some u → (word' k).owner ≡ Some u) → SameFor u root root'
       → SpotFits n word root u p sp → SpotFits n word' root' u p sp
   spot_on word word' root root' u p awake own s h = h
   spot_on word word' root root' u p (queued l) own s h = (h.0, s.line l h.1)
@@ -101,8 +101,8 @@ module _ {V : Type 0} (n : ℕ) where
   spot_on word word' root root' u p (lying l k) own s h = (h.0, told_on (word l).owner (word' l).owner u k h.1 (own l))
 
   pub thread_on : (m : ℕ) (word word' : ℕ → LockWord) (root root' : ℕ → LockRootView) (u : ℕ) (p : LockPassView V) (sp : Spot)
-      → ((k : ℕ) → (word k).owner ≡ suc u → (word' k).owner ≡ suc u)
-      → ((k : ℕ) → (word k).owner ≡ suc u → (word k).parked ≡ true → (word' k).parked ≡ true) → SameFor u root root'
+      → ((k : ℕ) → (word k).owner ≡ Some u → (word' k).owner ≡ Some u)
+      → ((k : ℕ) → (word k).owner ≡ Some u → (word k).parked ≡ true → (word' k).parked ≡ true) → SameFor u root root'
       → ThreadFits n word root m u p sp → ThreadFits n word' root' m u p sp
   thread_on m word word' root root' u p sp own park s ok = record {
     long = ok.long;
@@ -117,26 +117,26 @@ module _ {V : Type 0} (n : ℕ) where
 
   -- one word changes, and says of the thread what it said
   pub thread_at : (m : ℕ) (word : ℕ → LockWord) (l : ℕ) (x : LockWord) (root root' : ℕ → LockRootView) (u : ℕ) (p : LockPassView V)
-      (sp : Spot) → ((word l).owner ≡ suc u → x.owner ≡ suc u) → ((word l).owner ≡ suc u → (word l).parked ≡ true → x.parked ≡ true)
+      (sp : Spot) → ((word l).owner ≡ Some u → x.owner ≡ Some u) → ((word l).owner ≡ Some u → (word l).parked ≡ true → x.parked ≡ true)
       → SameFor u root root' → ThreadFits n word root m u p sp → ThreadFits n (put word l x) root' m u p sp
   thread_at m word l x root root' u p sp own park =
       thread_on m word (put word l x) root root' u p sp
-      (λ k. put_elim (λ z. (word k).owner ≡ suc u → z.owner ≡ suc u) word l x k
-      (λ kl e. own (subst (λ z. (word z).owner ≡ suc u) kl e)) (λ _ e. e))
-      (λ k. put_elim (λ z. (word k).owner ≡ suc u → (word k).parked ≡ true → z.parked ≡ true) word l x k
-      (λ kl e f. park (subst (λ z. (word z).owner ≡ suc u) kl e) (subst (λ z. (word z).parked ≡ true) kl f)) (λ _ _ f. f))
+      (λ k. put_elim (λ z. (word k).owner ≡ Some u → z.owner ≡ Some u) word l x k
+      (λ kl e. own (subst (λ z. (word z).owner ≡ Some u) kl e)) (λ _ e. e))
+      (λ k. put_elim (λ z. (word k).owner ≡ Some u → (word k).parked ≡ true → z.parked ≡ true) word l x k
+      (λ kl e f. park (subst (λ z. (word z).owner ≡ Some u) kl e) (subst (λ z. (word z).parked ≡ true) kl f)) (λ _ _ f. f))
 
   -- the owner of l, which is in no line and is owed nothing, has got the lock, and is awake
   pub got_fits : (m : ℕ) (word : ℕ → LockWord) (root : ℕ → LockRootView) (t l : ℕ) (p : LockPassView V) (sp : Spot) (x : V) (asleep : Bool)
-      → asleep ≡ false → l < m → (word l).owner ≡ suc t → IsOutside sp → ((k c : ℕ) → sp ≢ owed k c) → ThreadFits n word root m t p sp
+      → asleep ≡ false → l < m → (word l).owner ≡ Some t → IsOutside sp → ((k c : ℕ) → sp ≢ owed k c) → ThreadFits n word root m t p sp
       → ThreadFits n word root m t (record (owning p l x) { asleep = asleep }) awake
   got_fits m word root t l p sp x asleep up here own out unowed ok =
       let long : l < length p.holds = (let e = ok.long in omega arith) in
       record {
         long = length-set p.holds l Held ∙ ok.long;
         aims = λ k a. absurd (no_aim k a);
-        holds = λ k. set_elim p.holds l k Held (λ h. IsHeld h → (word k).owner ≡ suc t) long
-            (λ e _. subst (λ z. (word z).owner ≡ suc t) (sym e) own) (λ _ h. ok.holds k h);
+        holds = λ k. set_elim p.holds l k Held (λ h. IsHeld h → (word k).owner ≡ Some t) long
+            (λ e _. subst (λ z. (word z).owner ≡ Some t) (sym e) own) (λ _ h. ok.holds k h);
         found = λ k. set_elim p.holds l k Held (λ h. IsFound h → (word k).parked ≡ true) long (λ _ h. absurd h) (λ _ h. ok.found k h);
         spot = up;
         in_line = λ k h. absurd (out k (ok.in_line k h));
@@ -147,27 +147,27 @@ module _ {V : Type 0} (n : ℕ) where
   -- ---- locks
   -- a lock fits with its owner t, which has got it
   pub got_lock : (pass : ℕ → LockPassView V) (spots : ℕ → Spot) (t l : ℕ) (x : V) (asleep : Bool) (y : LockWord) (q : LockRootView)
-      → t < n → l < length (pass t).holds → y.owner ≡ suc t → IsOnce q.line → (q.line ≢ [] → y.parked ≡ true)
+      → t < n → l < length (pass t).holds → y.owner ≡ Some t → IsOnce q.line → (q.line ≢ [] → y.parked ≡ true)
       → LockFits n (put pass t (record (owning (pass t) l x) { asleep = asleep })) spots l y q
   got_lock pass spots t l x asleep y q near long own once parks =
       let p : LockPassView V = record (owning (pass t) l x) { asleep = asleep } in
       let has : Holds p l = subst IsHeld (sym (get_or-set_same (pass t).holds l Held NotHeld long)) tt in
       record {
         once = once;
-        had = λ v e. let tv : t ≡ v = omega arith in (
+        had = λ v e. let tv : t ≡ v = (let f : Some t ≡ Some v = sym own ∙ e in cc) in (
           omega arith,
           inl (subst (λ z. Holds (put pass t p z) l) tv (subst (λ (z : LockPassView V). Holds z l) (sym (put_same pass t p)) has)),
         );
         parks = parks;
-        tried = λ e _. absurd (omega arith);
+        tried = λ e _. absurd (let f : Some t ≡ None = sym own ∙ e in cc);
       }
 
   -- the pass of t changes, and so may the notices; nobody loses a hold of k or a try at it
   pub lock_stays : (k : ℕ) (x : LockWord) (q : LockRootView) (pass : ℕ → LockPassView V) (spot : ℕ → Spot) (t : ℕ) (p : LockPassView V)
       (spots : ℕ → Spot) → LockFits n pass spot k x q
       → (Holds (pass t) k → Holds p k) → ((v : ℕ) → IsHanded (spot v) k → IsHanded (spots v) k)
-      → (x.owner ≡ 0 → (pass t).aim ≡ Some k → p.aim ≡ Some k)
-      → (x.owner ≡ 0 → (v : ℕ) → (pass v).aim ≡ Some k → IsOutside (spot v) → IsOutside (spots v)) → LockFits n (put pass t p) spots k x q
+      → (x.owner ≡ None → (pass t).aim ≡ Some k → p.aim ≡ Some k)
+      → (x.owner ≡ None → (v : ℕ) → (pass v).aim ≡ Some k → IsOutside (spot v) → IsOutside (spots v)) → LockFits n (put pass t p) spots k x q
   lock_stays k x q pass spot t p spots ok holds hands aims outs = record {
     once = ok.once;
     had = λ v e. let h = ok.had v e in (

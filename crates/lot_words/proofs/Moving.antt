@@ -1,5 +1,5 @@
 -- A value leaves its slot, and comes back. What two passes tell of each other.
-use Rattle.std.proofs.Common.{◌≡◌, ℕ, zero, suc, ◌<◌, List, [], ◌∷◌, set, refl, sym, ap, subst, ◌∙◌, arith, set-set, Option, Some, None}
+use Rattle.std.proofs.Common.{◌≡◌, ℕ, zero, suc, ◌<◌, List, [], ◌∷◌, set, refl, sym, ap, subst, ◌∙◌, set-set, Option, Some, None}
 use mathlib.Core.Option as maybe
 use mathlib.Core.Option.{some, none, some-injective, some-ne-none}
 use lib.ListN.{get_elem?}
@@ -60,7 +60,7 @@ module _ {V Part : Type 0} (rule : CallersRule V Part) (size : Size) (xs : List 
 
     -- no other thread has it
     only : (u : ℕ) → Holds (w.pass u) l → u ≡ t
-    only u h = let a = (ok.kept.threads u).holds l h in let b = (ok.kept.threads t).holds l has in omega (arith, a, b)
+    only u h = let same : Some u ≡ Some t = sym ((ok.kept.threads u).holds l h) ∙ (ok.kept.threads t).holds l has in cc
 
     -- the value is at the place pl
     moves : (pl : Place V) → MayLie rule l t (ok.lawful.value l) pl → (homes : List (maybe.Option (Option V)))
@@ -132,6 +132,6 @@ module _ {V Part : Type 0} (rule : CallersRule V Part) (size : Size) (xs : List 
   -- two passes hold no lock both
   pub apart : (p q : PassRight (LockPassView V)) → TellsOfTwo (meaning rule size xs) p q ((l : ℕ) → Holds p.own l → ¬ Holds q.own l)
   apart p q w ws hs ok fit fits ne l a b =
-      let x : (w.word l).owner ≡ suc p.thread = (ok.kept.threads p.thread).holds l (subst (λ z. Holds z l) (sym fit.1) a) in
-      let y : (w.word l).owner ≡ suc q.thread = (ok.kept.threads q.thread).holds l (subst (λ z. Holds z l) (sym fits.1) b) in
-      ne (omega arith)
+      let x : (w.word l).owner ≡ Some p.thread = (ok.kept.threads p.thread).holds l (subst (λ z. Holds z l) (sym fit.1) a) in
+      let y : (w.word l).owner ≡ Some q.thread = (ok.kept.threads q.thread).holds l (subst (λ z. Holds z l) (sym fits.1) b) in
+      ne (let same : Some p.thread ≡ Some q.thread = sym x ∙ y in cc)

@@ -1,6 +1,6 @@
 -- The rule holds of the table at the opening.
-use Rattle.std.proofs.Common.{◌≡◌, ℕ, zero, suc, ◌+◌, ◌<◌, ◌==◌, false, List, [], ◌∷◌, length, map, replicate, get_or, refl, sym, ap, subst}
-use Rattle.std.proofs.Common.{◌∙◌, arith, ne_eqb, Some, None, slice_get}
+use Rattle.std.proofs.Common.{◌≡◌, ℕ, zero, suc, ◌+◌, ◌<◌, false, List, [], ◌∷◌, length, map, replicate, get_or, refl, sym, ap, subst}
+use Rattle.std.proofs.Common.{◌∙◌, arith, Some, None, slice_get}
 use Rattle.std.proofs.lemmas.List.{length-map, length-replicate}
 use Rattle.std.proofs.lemmas.Option.{slice_get-get_or}
 use mathlib.Core.Option.{some}
@@ -27,13 +27,10 @@ get_as [] k x e = absurd (let f : None ≡ Some x = e in cc)
 get_as (y ∷ xs) zero x e = ap some (let f : Some y ≡ Some x = e in cc)
 get_as (y ∷ xs) (suc k) x e = get_as xs k x e
 
-no_owner : (t : ℕ) → (0 == suc t) ≡ false
-no_owner t = ne_eqb 0 (suc t) (λ e. omega arith)
-
 module _ {V : Type 0} (xs : List V) where
   abbrev fresh_world : LockWorld V
   fresh_world =
-      record { pass = λ t. fresh_pass xs; spot = λ t. awake; word = λ l. record { owner = 0; parked = false }; root = λ l. fresh_root }
+      record { pass = λ t. fresh_pass xs; spot = λ t. awake; word = λ l. record { owner = None; parked = false }; root = λ l. fresh_root }
 
   holds_none : (l : ℕ) → ¬ Holds (fresh_pass xs) l
   holds_none l h = subst IsHeld (get_or_replicate NotHeld (length xs) l) h
@@ -56,7 +53,7 @@ module _ {V : Type 0} (xs : List V) where
     locks =
         λ l. record {
           once = once_none;
-          had = λ t e. absurd (omega arith);
+          had = λ t e. absurd (let f : None ≡ Some t = e in cc);
           parks = λ some_in. absurd (some_in refl);
           tried = λ e some_in. absurd (some_in refl);
         };
@@ -65,7 +62,7 @@ module _ {V : Type 0} (xs : List V) where
   fresh_part : part_of fresh_world ≡ opening_part
   fresh_part =
       λ i.
-      record { locks = record { held = λ l. false; parked = λ l. false; line = λ l. []; has = λ l t. no_owner t i }; wants = λ t. None }
+      record { locks = record { held = λ l. false; parked = λ l. false; line = λ l. []; has = λ l t. false }; wants = λ t. None }
 
 module _ {V Part : Type 0} (rule : CallersRule V Part) (n : ℕ) (pos : 0 < n) where
   fresh_lawful : (x : V) (xs : List V) → ((k : ℕ) (y : V) → slice_get (x ∷ xs) k ≡ Some y → rule.keeps k y)

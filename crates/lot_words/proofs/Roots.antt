@@ -1,6 +1,6 @@
 -- The turns of the calls that take a lock's root: queueing on the lock, passing it on, and posting the letter that is owed.
 use Rattle.std.proofs.Common.{◌≡◌, ◌≢◌, ℕ, zero, suc, ◌+◌, ◌*◌, ◌<◌, ◌⊎◌, ◌&&◌, ◌==◌, Bool, true, false, List, [], ◌∷◌, ◌++◌, get_or, set}
-use Rattle.std.proofs.Common.{refl, sym, ap, subst, ◌∙◌, inl, inr, arith, Option, Some, None}
+use Rattle.std.proofs.Common.{refl, sym, ap, subst, ◌∙◌, inl, inr, arith, Option, Some, None, is_some}
 use mathlib.Core.Option as maybe
 use Rattle.lot_core.specs.World.{put}
 use Rattle.lot_core.specs.Steps.{SaysMore, first}
@@ -21,7 +21,7 @@ use Rattle.lot_words.specs.declared.views.LockPassView.{LockPassView}
 use Rattle.lot_words.specs.declared.views.LockRootView.{LockRootView}
 use Rattle.lot_words.specs.declared.views.Size.{Size}
 use Rattle.lot_words.specs.CallersRule.{CallersRule}
-use Rattle.lot_words.specs.World.{LockWord, LockWorld, is_owned, bits_of, word_of, Holds, HoldsParked}
+use Rattle.lot_words.specs.World.{LockWord, LockWorld, bits_of, word_of, Holds, HoldsParked}
 use Rattle.lot_words.specs.Values.{IsIn, IsLawful}
 use Rattle.lot_words.specs.Rule.{sizes_of, wants_of, part_of, Fits, meaning}
 use Rattle.lot_words.specs.Calls.{sleeping, letting_go, parked_pass, parked_root, token_of, passed_root, paid_root, word_left}
@@ -101,7 +101,7 @@ module _ {V Part : Type 0} (rule : CallersRule V Part) (size : Size) (xs : List 
     -- ---- parking
     -- the word says that the lock is not both held and parked
     park_misses : p.own.asleep ≡ false → p.own.aim ≡ Some l → (x : ℕ) → x ≡ get_or ws (word_at l) 0
-        → (is_owned (w.word l).owner && (w.word l).parked) ≡ false → (x == 3) ≡ false
+        → (is_some (w.word l).owner && (w.word l).parked) ≡ false → (x == 3) ≡ false
         → BothTurn (meaning rule size xs) (word_at l) x p q (Parks p q x) w ws hs
     park_misses up aim x is not_both three =
         let up' : (w.pass t).asleep ≡ false = ap (λ (z : LockPassView V). z.asleep) fit.1 ∙ up in
@@ -110,11 +110,11 @@ module _ {V Part : Type 0} (rule : CallersRule V Part) (size : Size) (xs : List 
         (λ k. subst (λ z. Notes p (parked_pass p.own z) (Makes (Park t l) (Saw z)) (pass_after p p.own k (Makes (Park t l) (Saw false)))
         × (record q { own = q.own } ≡ record q { own = parked_root q.own t z })) (sym three) ((k, refl), refl))
 
-    park_turn : p.own.asleep ≡ false → p.own.aim ≡ Some l → (h b : Bool) → is_owned (w.word l).owner ≡ h → (w.word l).parked ≡ b
+    park_turn : p.own.asleep ≡ false → p.own.aim ≡ Some l → (h b : Bool) → is_some (w.word l).owner ≡ h → (w.word l).parked ≡ b
         → BothTurn (meaning rule size xs) (word_at l) (bits_of h b) p q (Parks p q (bits_of h b)) w ws hs
     park_turn up aim true true h b =
         let up' : (w.pass t).asleep ≡ false = ap (λ (z : LockPassView V). z.asleep) fit.1 ∙ up in
-        let held : (w.word l).owner ≢ 0 = (λ e. let f : true ≡ false = sym h ∙ ap is_owned e in cc) in
+        let held : (w.word l).owner ≢ None = (λ e. let f : true ≡ false = sym h ∙ ap is_some e in cc) in
         let awake_now = is_awake size.threads size.locks w ok.kept t fit.0 up' in
         let spots : ℕ → Spot = put w.spot t (queued l) in
         let letters : letters_of spots ≡ letters_of w.spot = same_letters w.spot t (queued l) (ap letter_of (sym awake_now)) in
@@ -150,7 +150,7 @@ module _ {V Part : Type 0} (rule : CallersRule V Part) (size : Size) (xs : List 
       parked : (w.word l).parked ≡ true
       parked = (ok.kept.threads t).found l found_it
 
-      own_is : (w.word l).owner ≡ suc t
+      own_is : (w.word l).owner ≡ Some t
       own_is = (ok.kept.threads t).holds l has
 
       lawful' : IsLawful rule size.threads size.locks (put w.pass t (letting_go (w.pass t) l y)) hs
@@ -176,7 +176,7 @@ module _ {V Part : Type 0} (rule : CallersRule V Part) (size : Size) (xs : List 
 
       -- the first of the line is owed a token, which says whether it is the owner: the word stands for z then
       first_turn : (fair more : Bool) (u : ℕ) (us : List ℕ) → q.own.line ≡ u ∷ us → (z : LockWord)
-          → ((token_of fair ≡ 0) × (z.owner ≡ 0)) ⊎ ((token_of fair ≡ 1) × (z.owner ≡ suc u)) → (us ≢ [] → z.parked ≡ true)
+          → ((token_of fair ≡ 0) × (z.owner ≡ None)) ⊎ ((token_of fair ≡ 1) × (z.owner ≡ Some u)) → (us ≢ [] → z.parked ≡ true)
           → LockStep size.threads size.locks (part_of w) (Pass t l fair more) (Sleeper (Some u)) (part_of (record {
             pass = put w.pass t (letting_go (w.pass t) l y);
             spot = put w.spot u (owed l (token_of fair));
@@ -207,7 +207,7 @@ module _ {V Part : Type 0} (rule : CallersRule V Part) (size : Size) (xs : List 
       store_turn : (more : Bool) (line : List ℕ) → q.own.line ≡ line → SaysMore line more → (x : ℕ) → x ≡ word_left (first line) more
           → BothTurn (meaning rule size xs) (word_at l) x p q (Passes p q line false more) w ws hs
       store_turn more [] line says x is =
-          let z : LockWord = record { owner = 0; parked = false } in record {
+          let z : LockWord = record { owner = None; parked = false } in record {
             own = letting_go p.own l y;
             its = q.own;
             access = Makes (Pass t l false more) (Sleeper None);
@@ -232,7 +232,7 @@ module _ {V Part : Type 0} (rule : CallersRule V Part) (size : Size) (xs : List 
           }
       store_turn more (u ∷ us) line says x is =
           let line' = says_now (u ∷ us) line in
-          first_turn false more u us line (record { owner = 0; parked = more }) (inl (refl, refl)) (more_left u us more says)
+          first_turn false more u us line (record { owner = None; parked = more }) (inl (refl, refl)) (more_left u us more says)
           (row_pass_plain w size.threads size.locks ok.kept t fit.0 up' l here has (aim_of ∙ aim) y u us line' parked owes_none more
           (subst (λ z. SaysMore z more) (sym line') says)) x (is ∙ left_word more u)
 
@@ -241,17 +241,17 @@ module _ {V Part : Type 0} (rule : CallersRule V Part) (size : Size) (xs : List 
           → BothTurn (meaning rule size xs) (word_at l) (get_or ws (word_at l) 0) p q
           (Passes p q (u ∷ us) true more) w ws hs
       load_turn more u us line =
-          first_turn true more u us line (record { owner = suc u; parked = (w.word l).parked }) (inr (refl, refl)) (λ _. parked)
+          first_turn true more u us line (record { owner = Some u; parked = (w.word l).parked }) (inr (refl, refl)) (λ _. parked)
           (row_pass_fair w size.threads size.locks ok.kept t fit.0 up' l here has (aim_of ∙ aim) y u us (says_now (u ∷ us) line) parked
-          owes_none more) (get_or ws (word_at l) 0) (found ∙ ap (λ o. bits_of (is_owned o) (w.word l).parked) own_is)
+          owes_none more) (get_or ws (word_at l) 0) (found ∙ ap (λ o. bits_of (is_some o) (w.word l).parked) own_is)
 
   pub parks : (p : PassRight (LockPassView V)) (q : RootRight LockRootView) → p.own.asleep ≡ false → p.own.aim ≡ Some q.key
       → AllowsBoth (meaning rule size xs) (word_at q.key) (λ n. n) p q (Parks p q)
   parks p q up aim w ws hs ok fit root small =
-      let n : bits_of (is_owned (w.word q.key).owner) (w.word q.key).parked ≡ get_or ws (word_at q.key) 0 =
+      let n : bits_of (is_some (w.word q.key).owner) (w.word q.key).parked ≡ get_or ws (word_at q.key) 0 =
       sym (ok.words.words q.key root.0) in
       subst (λ n. BothTurn (meaning rule size xs) (word_at q.key) n p q (Parks p q n) w ws hs) n
-      (park_turn p q w ws hs ok fit root up aim (is_owned (w.word q.key).owner) (w.word q.key).parked refl refl)
+      (park_turn p q w ws hs ok fit root up aim (is_some (w.word q.key).owner) (w.word q.key).parked refl refl)
 
   module _ (p : PassRight (LockPassView V)) (q : RootRight LockRootView) (up : p.own.asleep ≡ false) (aim : p.own.aim ≡ None)
       (holds : HoldsParked p.own q.key) (y : V)

@@ -1,7 +1,7 @@
 -- What each kind of event is to the lock part of the model: a step of lot_core's.
-use Rattle.std.proofs.Common.{◌≡◌, ◌≢◌, ℕ, zero, suc, ◌<◌, ◌==◌, ◌&&◌, ◌⊎◌, not, Bool, true, false, cond, List, [], ◌∷◌, ◌++◌, length, refl}
-use Rattle.std.proofs.Common.{sym, ap, ◌∙◌, inl, inr, ⊎_elim, arith, eq-eqb, ne_eqb}
-use Rattle.std.proofs.Common.{Option, Some, None}
+use Rattle.std.proofs.Common.{◌≡◌, ◌≢◌, ℕ, ◌<◌, ◌&&◌, ◌⊎◌, not, Bool, true, false, cond, List, [], ◌∷◌, ◌++◌, length, refl}
+use Rattle.std.proofs.Common.{sym, ap, ◌∙◌, inl, inr, ⊎_elim, arith}
+use Rattle.std.proofs.Common.{Option, Some, None, is_some}
 use Rattle.std.specs.List.{Contains}
 use mathlib.Core.Path.{fun_ext}
 use Rattle.lot_core.specs.World.{put}
@@ -9,48 +9,31 @@ use Rattle.lot_core.specs.Steps.{SaysMore, first, passed_line}
 use Rattle.lot_core.specs.Parts.{LockPart, LockStep, MayTry, served}
 use Rattle.lot_events.specs.declared.events.Event.TheVariants.{Try, Take, Mark, Park, Free, Pass}
 use Rattle.lot_events.specs.declared.events.Seen.TheVariants.{Bool as Saw, Done, Sleeper}
+use Rattle.lot_core.specs.State.{owns}
 use Rattle.lot_core.proofs.Put.{put_same, put_other, put_again, told_put, told_same}
+use Rattle.lot_core.proofs.Passes.{owns_left, owns_handed}
 use Rattle.lot_rights.specs.World.{Spot, awake, queued, owed}
 use Rattle.lot_rights.proofs.Puts.{put_elim, is_put}
 use Rattle.lot_words.specs.declared.views.LockPassView.{LockPassView}
 use Rattle.lot_words.specs.declared.views.LockRootView.{LockRootView}
-use Rattle.lot_words.specs.World.{LockWord, LockWorld, is_owned, Holds, Kept}
+use Rattle.lot_words.specs.World.{LockWord, LockWorld, Holds, Kept}
 use Rattle.lot_words.specs.Rule.{wants_of, part_of}
 use Rattle.lot_words.specs.Calls.{Aims, owning, wanting, sleeping, letting_go, finding_parked}
 use Rattle.lot_words.proofs.Holding.{is_awake, in_no_line}
+use Rattle.lot_words.proofs.Owners.{owner_has, owned, owns_got}
 use Rattle.lot_words.proofs.Letters.{first_waits}
-
-pub owned_true : (o : ℕ) → o ≢ 0 → is_owned o ≡ true
-owned_true zero ne = absurd (ne refl)
-owned_true (suc t) ne = refl
 
 aim_cases : (a : Option ℕ) (l : ℕ) → ((k : ℕ) → a ≡ Some k → k ≡ l) → (a ≡ None) ⊎ (a ≡ Some l)
 aim_cases None l aims = inl refl
 aim_cases (Some k) l aims = inr (ap Some (aims k refl))
-
--- who has the lock, where its owner changes
-has_gets : (o t : ℕ) → o ≡ 0 → (λ v. suc t == suc v) ≡ put (λ v. o == suc v) t true
-has_gets o t none =
-    fun_ext (λ v. put_elim (λ b. (suc t == suc v) ≡ b) (λ u. o == suc u) t true v (λ vt. eq-eqb (suc t) (suc v) (omega arith))
-    (λ ne. ne_eqb (suc t) (suc v) (λ e. ne (omega arith)) ∙ sym (ne_eqb o (suc v) (λ e. omega arith))))
-
-has_loses : (o t : ℕ) → o ≡ suc t → (λ v. 0 == suc v) ≡ put (λ v. o == suc v) t false
-has_loses o t own = fun_ext (λ v. put_elim (λ b. (0 == suc v) ≡ b) (λ u. o == suc u) t false v (λ _. ne_eqb 0 (suc v) (λ e. omega arith))
-    (λ ne. ne_eqb 0 (suc v) (λ e. omega arith) ∙ sym (ne_eqb o (suc v) (λ e. ne (omega arith)))))
-
-has_hands : (o t u : ℕ) → o ≡ suc t → (λ v. suc u == suc v) ≡ put (put (λ v. o == suc v) t false) u true
-has_hands o t u own =
-    fun_ext (λ v. put_elim (λ b. (suc u == suc v) ≡ b) (put (λ i. o == suc i) t false) u true v (λ vu. eq-eqb (suc u) (suc v) (omega arith))
-    (λ ne. put_elim (λ b. (suc u == suc v) ≡ b) (λ i. o == suc i) t false v (λ _. ne_eqb (suc u) (suc v) (λ e. ne (omega arith)))
-    (λ vt. ne_eqb (suc u) (suc v) (λ e. ne (omega arith)) ∙ sym (ne_eqb o (suc v) (λ e. vt (omega arith))))))
 
 module _ {V : Type 0} (w : LockWorld V) where
   abbrev wants : ℕ → Option ℕ
   wants = (part_of w).wants
 
   -- the word of l becomes x
-  held_now : (l : ℕ) (x : LockWord) → (λ k. is_owned (put w.word l x k).owner) ≡ put (part_of w).locks.held l (is_owned x.owner)
-  held_now l x = told_put (λ (z : LockWord). is_owned z.owner) w.word l x
+  held_now : (l : ℕ) (x : LockWord) → (λ k. is_some (put w.word l x k).owner) ≡ put (part_of w).locks.held l (is_some x.owner)
+  held_now l x = told_put (λ (z : LockWord). is_some z.owner) w.word l x
 
   parked_now : (l : ℕ) (x : LockWord) → (λ k. (put w.word l x k).parked) ≡ put (part_of w).locks.parked l x.parked
   parked_now l x = told_put (λ (z : LockWord). z.parked) w.word l x
@@ -58,9 +41,9 @@ module _ {V : Type 0} (w : LockWorld V) where
   parked_same : (l : ℕ) (x : LockWord) → x.parked ≡ (w.word l).parked → (λ k. (put w.word l x k).parked) ≡ (part_of w).locks.parked
   parked_same l x e = told_same (λ (z : LockWord). z.parked) w.word l x e
 
-  has_now : (l : ℕ) (x : LockWord) (has : ℕ → Bool) → (λ v. x.owner == suc v) ≡ has
-      → (λ k v. (put w.word l x k).owner == suc v) ≡ put (part_of w).locks.has l has
-  has_now l x has e = told_put {Y = ℕ → Bool} (λ (z : LockWord) v. z.owner == suc v) w.word l x ∙ ap (put (part_of w).locks.has l) e
+  has_now : (l : ℕ) (x : LockWord) (has : ℕ → Bool) → owns x.owner ≡ has
+      → (λ k. owns (put w.word l x k).owner) ≡ put (part_of w).locks.has l has
+  has_now l x has e = told_put {Y = ℕ → Bool} (λ (z : LockWord). owns z.owner) w.word l x ∙ ap (put (part_of w).locks.has l) e
 
   line_now : (l : ℕ) (q : LockRootView) → (λ k. (put w.root l q k).line) ≡ put (part_of w).locks.line l q.line
   line_now l q = told_put (λ (z : LockRootView). z.line) w.root l q
@@ -126,12 +109,12 @@ module _ {V : Type 0} (w : LockWorld V) where
           (aim_cases (w.pass t).aim l aims)
 
       -- ---- take and try
-      module _ (unheld : (w.word l).owner ≡ 0) (x : V) where
+      module _ (unheld : (w.word l).owner ≡ None) (x : V) where
         abbrev got : LockWorld V
         got =
             record w {
               pass = put w.pass t (owning (w.pass t) l x);
-              word = put w.word l (record { owner = suc t; parked = (w.word l).parked });
+              word = put w.word l (record { owner = Some t; parked = (w.word l).parked });
             }
 
         got_part : (want : ℕ → Option ℕ) → put wants t None ≡ want
@@ -143,20 +126,20 @@ module _ {V : Type 0} (w : LockWorld V) where
                   };
               wants = want;
             }
-        got_part want is = let y : LockWord = record { owner = suc t; parked = (w.word l).parked } in λ i. record {
+        got_part want is = let y : LockWord = record { owner = Some t; parked = (w.word l).parked } in λ i. record {
           locks = record {
             held = held_now l y i;
             parked = parked_same l y refl i;
             line = (part_of w).locks.line;
-            has = has_now l y (put ((part_of w).locks.has l) t true) (has_gets (w.word l).owner t unheld) i;
+            has = has_now l y (put ((part_of w).locks.has l) t true) (owns_got (w.word l).owner t unheld) i;
           };
           wants =
               (wants_put t (owning (w.pass t) l x) w.spot None (ap (λ z. wants_of z None) (is_awake n m w ok t near up)) (λ v ne. refl)
               ∙ is) i;
         }
 
-        free_now : false ≡ is_owned (w.word l).owner
-        free_now = ap is_owned (sym unheld)
+        free_now : false ≡ is_some (w.word l).owner
+        free_now = ap is_some (sym unheld)
 
         pub row_take_free : Aims (w.pass t) l → LockStep n m (part_of w) (Take t l) (Saw true) (part_of got)
         row_take_free aims =
@@ -179,9 +162,9 @@ module _ {V : Type 0} (w : LockWorld V) where
               got_part wants (ap (put wants t) (sym (wants_now ∙ aim)) ∙ put_again wants t) ∙ ap then free_now,
             )
 
-      module _ (held : (w.word l).owner ≢ 0) where
-        held_now_is : true ≡ is_owned (w.word l).owner
-        held_now_is = sym (owned_true (w.word l).owner held)
+      module _ (held : (w.word l).owner ≢ None) where
+        held_now_is : true ≡ is_some (w.word l).owner
+        held_now_is = sym (owned (w.word l).owner held)
 
         pub row_take_held : Aims (w.pass t) l → LockStep n m (part_of w) (Take t l) (Saw false)
             (part_of (record w { pass = put w.pass t (wanting (w.pass t) l) }))
@@ -216,10 +199,10 @@ module _ {V : Type 0} (w : LockWorld V) where
           refl,
           (λ i. record {
             locks = record {
-              held = told_same (λ (z : LockWord). is_owned z.owner) w.word l y refl i;
+              held = told_same (λ (z : LockWord). is_some z.owner) w.word l y refl i;
               parked = parked_now l y i;
               line = (part_of w).locks.line;
-              has = told_same {Y = ℕ → Bool} (λ (z : LockWord) v. z.owner == suc v) w.word l y refl i;
+              has = told_same {Y = ℕ → Bool} (λ (z : LockWord). owns z.owner) w.word l y refl i;
             };
             wants = wants;
           }),
@@ -232,7 +215,7 @@ module _ {V : Type 0} (w : LockWorld V) where
               root = put w.root l (record (w.root l) { line = (w.root l).line ++ t ∷ [] });
             }))
         row_park aim parked =
-            let both : true ≡ (is_owned (w.word l).owner && (w.word l).parked) = (λ i. held_now_is i && sym parked i) in
+            let both : true ≡ (is_some (w.word l).owner && (w.word l).parked) = (λ i. held_now_is i && sym parked i) in
             let q : LockRootView = record (w.root l) { line = (w.root l).line ++ t ∷ [] } in
             let then : Bool → LockPart = λ c. record {
               locks = cond c (record (part_of w).locks { line = put (part_of w).locks.line l ((part_of w).locks.line l ++ t ∷ []) })
@@ -248,7 +231,7 @@ module _ {V : Type 0} (w : LockWorld V) where
               }) ∙ ap then both,
             )
 
-      pub row_park_not : (w.pass t).aim ≡ Some l → (is_owned (w.word l).owner && (w.word l).parked) ≡ false
+      pub row_park_not : (w.pass t).aim ≡ Some l → (is_some (w.word l).owner && (w.word l).parked) ≡ false
           → LockStep n m (part_of w) (Park t l) (Saw false) (part_of w)
       row_park_not aim not_both =
           let then : Bool → LockPart = λ c. record {
@@ -261,11 +244,11 @@ module _ {V : Type 0} (w : LockWorld V) where
 
       -- ---- free and pass
       module _ (has : Holds (w.pass t) l) (aim : (w.pass t).aim ≡ None) where
-        owner_is : (w.word l).owner ≡ suc t
+        owner_is : (w.word l).owner ≡ Some t
         owner_is = (ok.threads t).holds l has
 
-        has_it : ((w.word l).owner == suc t) ≡ true
-        has_it = eq-eqb (w.word l).owner (suc t) owner_is
+        has_it : owns (w.word l).owner t ≡ true
+        has_it = owner_has (w.word l).owner t owner_is
 
         abbrev let_go_part : (ℕ → Bool) → (ℕ → List ℕ) → LockPart
         let_go_part parked line = record {
@@ -282,10 +265,10 @@ module _ {V : Type 0} (w : LockWorld V) where
           pub row_free : (w.word l).parked ≡ false
               → LockStep n m (part_of w) (Free t l) (Saw true) (part_of (record w {
                 pass = put w.pass t (letting_go (w.pass t) l y);
-                word = put w.word l (record { owner = 0; parked = (w.word l).parked });
+                word = put w.word l (record { owner = None; parked = (w.word l).parked });
               }))
           row_free unparked =
-              let x : LockWord = record { owner = 0; parked = (w.word l).parked } in
+              let x : LockWord = record { owner = None; parked = (w.word l).parked } in
               let e : false ≡ (w.word l).parked = sym unparked in
               let then : Bool → LockPart = λ c. record {
                 locks = cond c (part_of w).locks (record (part_of w).locks {
@@ -301,7 +284,7 @@ module _ {V : Type 0} (w : LockWorld V) where
                     held = held_now l x i;
                     parked = parked_same l x refl i;
                     line = (part_of w).locks.line;
-                    has = has_now l x (put ((part_of w).locks.has l) t false) (has_loses (w.word l).owner t owner_is) i;
+                    has = has_now l x (put ((part_of w).locks.has l) t false) (owns_left (w.word l).owner t has_it) i;
                   };
                   wants = wants_same t (letting_go (w.pass t) l y) w.spot refl (λ v. refl) i;
                 }) ∙ ap then e,
@@ -310,8 +293,8 @@ module _ {V : Type 0} (w : LockWorld V) where
           -- nobody is in the line
           pub row_pass_none : (more : Bool) → (w.word l).parked ≡ true → (w.root l).line ≡ []
               → LockStep n m (part_of w) (Pass t l false more) (Sleeper None) (part_of (record w
-              { pass = put w.pass t (letting_go (w.pass t) l y); word = put w.word l (record { owner = 0; parked = false }) }))
-          row_pass_none more parked line = let x : LockWord = record { owner = 0; parked = false } in (
+              { pass = put w.pass t (letting_go (w.pass t) l y); word = put w.word l (record { owner = None; parked = false }) }))
+          row_pass_none more parked line = let x : LockWord = record { owner = None; parked = false } in (
             (
               near,
               here,
@@ -326,7 +309,7 @@ module _ {V : Type 0} (w : LockWorld V) where
                 held = held_now l x i;
                 parked = parked_now l x i;
                 line = (part_of w).locks.line;
-                has = has_now l x (put ((part_of w).locks.has l) t false) (has_loses (w.word l).owner t owner_is) i;
+                has = has_now l x (put ((part_of w).locks.has l) t false) (owns_left (w.word l).owner t has_it) i;
               };
               wants = wants_same t (letting_go (w.pass t) l y) w.spot refl (λ v. refl) i;
             })
@@ -350,9 +333,9 @@ module _ {V : Type 0} (w : LockWorld V) where
             -- the lock is let go, and the first may try
             pub row_pass_plain : (more : Bool) → SaysMore (w.root l).line more
                 → LockStep n m (part_of w) (Pass t l false more) (Sleeper (Some u))
-                (part_of (passed 0 (record { owner = 0; parked = more })))
+                (part_of (passed 0 (record { owner = None; parked = more })))
             row_pass_plain more says =
-                let x : LockWord = record { owner = 0; parked = more } in
+                let x : LockWord = record { owner = None; parked = more } in
                 let q : LockRootView = record (w.root l) { line = us; owes = Some (u, 0) } in (
                   (near, here, has_it, parked, wants_now ∙ aim, (λ _. says)),
                   ap (λ z. Sleeper (first z)) (sym line),
@@ -361,7 +344,7 @@ module _ {V : Type 0} (w : LockWorld V) where
                       held = held_now l x i;
                       parked = parked_now l x i;
                       line = line_now l q i;
-                      has = has_now l x (put ((part_of w).locks.has l) t false) (has_loses (w.word l).owner t owner_is) i;
+                      has = has_now l x (put ((part_of w).locks.has l) t false) (owns_left (w.word l).owner t has_it) i;
                     };
                     wants =
                         wants_same t (letting_go (w.pass t) l y) (put w.spot u (owed l 0)) refl
@@ -373,9 +356,9 @@ module _ {V : Type 0} (w : LockWorld V) where
 
             -- the lock is handed to the first
             pub row_pass_fair : (more : Bool) → LockStep n m (part_of w) (Pass t l true more) (Sleeper (Some u))
-                (part_of (passed 1 (record { owner = suc u; parked = (w.word l).parked })))
+                (part_of (passed 1 (record { owner = Some u; parked = (w.word l).parked })))
             row_pass_fair more =
-                let x : LockWord = record { owner = suc u; parked = (w.word l).parked } in
+                let x : LockWord = record { owner = Some u; parked = (w.word l).parked } in
                 let q : LockRootView = record (w.root l) { line = us; owes = Some (u, 1) } in
                 let p : LockPassView V = letting_go (w.pass t) l y in
                 let spots : ℕ → Spot = put w.spot u (owed l 1) in (
@@ -383,10 +366,10 @@ module _ {V : Type 0} (w : LockWorld V) where
                   ap (λ z. Sleeper (first z)) (sym line),
                   (λ i. record {
                     locks = record {
-                      held = told_same (λ (z : LockWord). is_owned z.owner) w.word l x (ap is_owned (sym owner_is)) i;
+                      held = told_same (λ (z : LockWord). is_some z.owner) w.word l x (ap is_some (sym owner_is)) i;
                       parked = parked_same l x refl i;
                       line = line_now l q i;
-                      has = has_now l x (put (put ((part_of w).locks.has l) t false) u true) (has_hands (w.word l).owner t u owner_is) i;
+                      has = has_now l x (put (put ((part_of w).locks.has l) t false) u true) (owns_handed (w.word l).owner t u has_it) i;
                     };
                     wants =
                         is_put (λ v. wants_of (spots v) (put w.pass t p v).aim) wants u None

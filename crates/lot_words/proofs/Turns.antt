@@ -1,7 +1,7 @@
 -- The turns of each call: whatever world the words stand for, its step leads to one that they stand for then.
-use Rattle.std.proofs.Common.{◌≡◌, ◌≢◌, ℕ, zero, suc, ◌*◌, ◌<◌, ◌⊎◌, ◌==◌, Bool, true, false, List, [], length, get_or, set, bit_and}
-use Rattle.std.proofs.Common.{bit_or, refl, sym, ap, subst, ◌∙◌, inl, inr, ⊎_elim, arith}
-use Rattle.std.proofs.Common.{MatchBool, Option, None, Some}
+use Rattle.std.proofs.Common.{◌≡◌, ◌≢◌, ℕ, ◌*◌, ◌<◌, ◌==◌, Bool, true, false, List, [], length, get_or, set, bit_and}
+use Rattle.std.proofs.Common.{bit_or, refl, sym, ap, subst, ◌∙◌, ⊎_elim, arith}
+use Rattle.std.proofs.Common.{MatchBool, Option, None, Some, is_some}
 use mathlib.Core.Option as maybe
 use mathlib.Core.Option.{some, some-injective}
 use prog.Atomic.{either}
@@ -24,13 +24,14 @@ use Rattle.lot_words.specs.declared.views.LockRootView.{LockRootView}
 use Rattle.lot_words.specs.declared.views.Place.TheVariants.{InSlot}
 use Rattle.lot_words.specs.declared.views.Size.{Size}
 use Rattle.lot_words.specs.CallersRule.{CallersRule}
-use Rattle.lot_words.specs.World.{LockWord, LockWorld, is_owned, bits_of, word_of, IsHeld, Holds}
+use Rattle.lot_words.specs.World.{LockWord, LockWorld, bits_of, word_of, IsHeld, Holds}
 use Rattle.lot_words.specs.Values.{IsIn, FoundOk, IsLawful}
 use Rattle.lot_words.specs.Rule.{sizes_of, Fits, meaning}
 use Rattle.lot_words.specs.Calls.{Aims, owning, wanting, letting_go, finding_parked, parked_pass, parked_root, GetsBy}
 use Rattle.lot_words.proofs.Machine.{no_aim, set_elim}
 use Rattle.lot_words.proofs.Holding.{lock_near, gets_kept, wants_kept, marks_kept, frees_kept, finds_kept}
-use Rattle.lot_words.proofs.Rows.{owned_true, row_take_free, row_take_held, row_try_free, row_try_held, row_mark, row_free, row_free_parked}
+use Rattle.lot_words.proofs.Owners.{owned, unowned, owner_cases}
+use Rattle.lot_words.proofs.Rows.{row_take_free, row_take_held, row_try_free, row_try_held, row_mark, row_free, row_free_parked}
 use Rattle.lot_words.proofs.Valuing.{SameOf, same_values, finds_value, gets_value, leaves_value}
 
 -- ---- words
@@ -41,10 +42,6 @@ or_one true = refl
 or_held : (b : Bool) → bit_or (bits_of true b) 1 ≡ bits_of true b
 or_held false = refl
 or_held true = refl
-
-unowned : (o : ℕ) → is_owned o ≡ false → o ≡ 0
-unowned zero e = refl
-unowned (suc t) e = absurd (let f : true ≡ false = e in cc)
 
 even_unheld : (b : Bool) → (bit_and (bits_of false b) 1 == 0) ≡ true
 even_unheld false = refl
@@ -153,7 +150,7 @@ module _ {V Part : Type 0} (rule : CallersRule V Part) (size : Size) (xs : List 
     found : get_or ws (word_at l) 0 ≡ word_of (w.word l)
     found = ok.words.words l (omega arith, omega arith)
 
-    is_found : (h b : Bool) → is_owned (w.word l).owner ≡ h → (w.word l).parked ≡ b → bits_of h b ≡ get_or ws (word_at l) 0
+    is_found : (h b : Bool) → is_some (w.word l).owner ≡ h → (w.word l).parked ≡ b → bits_of h b ≡ get_or ws (word_at l) 0
     is_found h b e f = sym (found ∙ (λ i. bits_of (e i) (f i)))
 
     long : l < length (w.pass t).holds
@@ -171,12 +168,12 @@ module _ {V Part : Type 0} (rule : CallersRule V Part) (size : Size) (xs : List 
     abbrev value : V
     value = ok.lawful.value l
 
-    module _ (unheld : (w.word l).owner ≡ 0) where
+    module _ (unheld : (w.word l).owner ≡ None) where
       nobody : (u : ℕ) → ¬ Holds (w.pass u) l
-      nobody u h = (let f : (w.word l).owner ≡ suc u = (ok.kept.threads u).holds l h in omega arith)
+      nobody u h = (let f : None ≡ Some u = sym unheld ∙ (ok.kept.threads u).holds l h in cc)
 
       free_word : get_or ws (word_at l) 0 ≡ bits_of false (w.word l).parked
-      free_word = found ∙ ap (λ o. bits_of (is_owned o) (w.word l).parked) unheld
+      free_word = found ∙ ap (λ o. bits_of (is_some o) (w.word l).parked) unheld
 
       found_ok : FoundOk rule l t p.own value
       found_ok =
@@ -188,11 +185,11 @@ module _ {V Part : Type 0} (rule : CallersRule V Part) (size : Size) (xs : List 
           → x ≡ bit_or (get_or ws (word_at l) 0) 1
           → IsMade (meaning rule size xs) (2 * t) w a (record w {
             pass = put w.pass t (owning (w.pass t) l value);
-            word = put w.word l (record { owner = suc t; parked = (w.word l).parked });
+            word = put w.word l (record { owner = Some t; parked = (w.word l).parked });
           })
           → ((n : ℕ) → then (pass_after p (owning p.own l value) n a)) → PassTurn (meaning rule size xs) (word_at l) x p then w ws hs
       got_turn aims a then x is made told =
-          let y : LockWord = record { owner = suc t; parked = (w.word l).parked } in
+          let y : LockWord = record { owner = Some t; parked = (w.word l).parked } in
           turn_at (word_at l) x p then w ws hs fit (λ z. owning z l value) (put w.word l y)
           (record {
             words =
@@ -203,16 +200,12 @@ module _ {V Part : Type 0} (rule : CallersRule V Part) (size : Size) (xs : List 
           })
           a made told
 
-    module _ (held : (w.word l).owner ≢ 0) where
+    module _ (held : (w.word l).owner ≢ None) where
       held_word : get_or ws (word_at l) 0 ≡ bits_of true (w.word l).parked
-      held_word = found ∙ ap (λ b. bits_of b (w.word l).parked) (owned_true (w.word l).owner held)
+      held_word = found ∙ ap (λ b. bits_of b (w.word l).parked) (owned (w.word l).owner held)
 
       same_word : (x : ℕ) → x ≡ bit_or (get_or ws (word_at l) 0) 1 → x ≡ get_or ws (word_at l) 0
       same_word x is = is ∙ (ap (λ z. bit_or z 1) held_word ∙ (or_held (w.word l).parked ∙ sym held_word))
-
-    owner_cases : (o : ℕ) → (o ≡ 0) ⊎ (o ≢ 0)
-    owner_cases zero = inl refl
-    owner_cases (suc u) = inr (λ e. omega arith)
 
     take_turn : Aims p.own l → PassTurn (meaning rule size xs) (word_at l) (bit_or (get_or ws (word_at l) 0) 1) p
         (Takes rule p l (get_or ws (word_at l) 0)) w ws hs
@@ -255,11 +248,11 @@ module _ {V Part : Type 0} (rule : CallersRule V Part) (size : Size) (xs : List 
         (owner_cases (w.word l).owner)
 
     -- where the word is 0
-    take_free_turn : Aims p.own l → (h b : Bool) → is_owned (w.word l).owner ≡ h → (w.word l).parked ≡ b
+    take_free_turn : Aims p.own l → (h b : Bool) → is_some (w.word l).owner ≡ h → (w.word l).parked ≡ b
         → PassTurn (meaning rule size xs) (word_at l) (either (bits_of h b == 0) 1 (bits_of h b)) p
         (TakesFree rule p l (bits_of h b)) w ws hs
     take_free_turn aims false false h b =
-        let unheld : (w.word l).owner ≡ 0 = unowned (w.word l).owner h in
+        let unheld : (w.word l).owner ≡ None = unowned (w.word l).owner h in
         let is_zero : get_or ws (word_at l) 0 ≡ 0 = sym (is_found false false h b) in
         got_turn unheld aims (Makes (Take t l) (Saw true)) (TakesFree rule p l 0) 1 (sym (ap (λ z. bit_or z 1) is_zero))
         (refl, (row_take_free w size.threads size.locks ok.kept t fit.0 up' l here unheld value (aims' aims), refl))
@@ -269,11 +262,11 @@ module _ {V Part : Type 0} (rule : CallersRule V Part) (size : Size) (xs : List 
     take_free_turn aims true true h b = misses 0 3 (is_found true true h b) (λ e. omega arith)
 
     -- ---- marking
-    mark_turn : p.own.aim ≡ Some l → (h b : Bool) → is_owned (w.word l).owner ≡ h → (w.word l).parked ≡ b
+    mark_turn : p.own.aim ≡ Some l → (h b : Bool) → is_some (w.word l).owner ≡ h → (w.word l).parked ≡ b
         → PassTurn (meaning rule size xs) (word_at l) (either (bits_of h b == 1) 3 (bits_of h b)) p (Marks p l (bits_of h b)) w ws hs
     mark_turn aim true false h b =
         let aims : Aims p.own l = (λ k e. let f : Some l ≡ Some k = sym aim ∙ e in cc) in
-        let held : (w.word l).owner ≢ 0 = (λ e. let f : true ≡ false = sym h ∙ ap is_owned e in cc) in
+        let held : (w.word l).owner ≢ None = (λ e. let f : true ≡ false = sym h ∙ ap is_some e in cc) in
         let y : LockWord = record { owner = (w.word l).owner; parked = true } in
         record {
           own = p.own;
@@ -299,11 +292,11 @@ module _ {V Part : Type 0} (rule : CallersRule V Part) (size : Size) (xs : List 
       has : Holds (w.pass t) l
       has = subst (λ z. Holds z l) (sym fit.1) holds
 
-      own_is : (w.word l).owner ≡ suc t
+      own_is : (w.word l).owner ≡ Some t
       own_is = (ok.kept.threads t).holds l has
 
       only : (u : ℕ) → Holds (w.pass u) l → u ≡ t
-      only u h = (let f : (w.word l).owner ≡ suc u = (ok.kept.threads u).holds l h in let g = own_is in omega arith)
+      only u h = (let f : Some u ≡ Some t = sym ((ok.kept.threads u).holds l h) ∙ own_is in cc)
 
       -- the pass holds what it held, where it finds its lock parked
       still_holds : (k : ℕ) → SameOf k (w.pass t) (finding_parked (w.pass t) l)
@@ -328,7 +321,7 @@ module _ {V Part : Type 0} (rule : CallersRule V Part) (size : Size) (xs : List 
             → PassTurn (meaning rule size xs) (word_at l) (either (bits_of true b == 1) 0 (bits_of true b)) p
             (Frees p l (bits_of true b)) w ws hs
         free_turn false b =
-            let x : LockWord = record { owner = 0; parked = (w.word l).parked } in
+            let x : LockWord = record { owner = None; parked = (w.word l).parked } in
             let nobody : (w.root l).line ≡ [] =
             by_line (λ xs. ((xs ≢ []) → (w.word l).parked ≡ true) → xs ≡ []) (w.root l).line (λ _ _. refl)
             (λ u us _ parks. absurd (let f : true ≡ false = sym (parks (λ e. cc)) ∙ b in cc)) (ok.kept.locks l).parks in
@@ -349,7 +342,7 @@ module _ {V Part : Type 0} (rule : CallersRule V Part) (size : Size) (xs : List 
             (record {
               words =
                   words_stay size w (put w.pass t (finding_parked (w.pass t) l)) w.spot w.root ws ok.words refl (word_at l) 3
-                  (is_found true true (ap is_owned own_is) b);
+                  (is_found true true (ap is_some own_is) b);
               kept = finds_kept size.threads size.locks w ok.kept t fit.0 up' l here has b;
               lawful =
                   same_values rule size.threads size.locks w.pass hs ok.lawful t (finding_parked (w.pass t) l) still_holds (refl, refl);
@@ -371,15 +364,15 @@ module _ {V Part : Type 0} (rule : CallersRule V Part) (size : Size) (xs : List 
       → AllowsPass (meaning rule size xs) (word_at l) (λ n. either (n == 0) 1 n) p (TakesFree rule p l)
   takes_free p l here up aims w ws hs ok fit small =
       subst (λ n. PassTurn (meaning rule size xs) (word_at l) (either (n == 0) 1 n) p (TakesFree rule p l n) w ws hs)
-      (is_found p l here up w ws hs ok fit (is_owned (w.word l).owner) (w.word l).parked refl refl)
-      (take_free_turn p l here up w ws hs ok fit aims (is_owned (w.word l).owner) (w.word l).parked refl refl)
+      (is_found p l here up w ws hs ok fit (is_some (w.word l).owner) (w.word l).parked refl refl)
+      (take_free_turn p l here up w ws hs ok fit aims (is_some (w.word l).owner) (w.word l).parked refl refl)
 
   pub marks : (p : PassRight (LockPassView V)) (l : ℕ) → l < size.locks → p.own.asleep ≡ false → p.own.aim ≡ Some l
       → AllowsPass (meaning rule size xs) (word_at l) (λ n. either (n == 1) 3 n) p (Marks p l)
   marks p l here up aim w ws hs ok fit small =
       subst (λ n. PassTurn (meaning rule size xs) (word_at l) (either (n == 1) 3 n) p (Marks p l n) w ws hs)
-      (is_found p l here up w ws hs ok fit (is_owned (w.word l).owner) (w.word l).parked refl refl)
-      (mark_turn p l here up w ws hs ok fit aim (is_owned (w.word l).owner) (w.word l).parked refl refl)
+      (is_found p l here up w ws hs ok fit (is_some (w.word l).owner) (w.word l).parked refl refl)
+      (mark_turn p l here up w ws hs ok fit aim (is_some (w.word l).owner) (w.word l).parked refl refl)
 
   pub frees : (p : PassRight (LockPassView V)) (l : ℕ) → l < size.locks → p.own.asleep ≡ false → p.own.aim ≡ None → Holds p.own l
       → (y : V) → IsIn p.own l y
@@ -387,5 +380,5 @@ module _ {V Part : Type 0} (rule : CallersRule V Part) (size : Size) (xs : List 
   frees p l here up aim holds y lies w ws hs ok fit small =
       let own = own_is p l here up w ws hs ok fit holds aim in
       subst (λ n. PassTurn (meaning rule size xs) (word_at l) (either (n == 1) 0 n) p (Frees p l n) w ws hs)
-      (is_found p l here up w ws hs ok fit true (w.word l).parked (ap is_owned own) refl)
+      (is_found p l here up w ws hs ok fit true (w.word l).parked (ap is_some own) refl)
       (free_turn p l here up w ws hs ok fit holds aim y lies (w.word l).parked refl)

@@ -1,9 +1,10 @@
 -- The rule of a table of lock words: there is a world that the words, the slots and the rights stand for, with lawful values, and it tells
 -- the lock part of the model.
-use Rattle.std.specs.Prelude.{◌≡◌, ℕ, zero, suc, ◌==◌, ◌⊎◌, false, List, [], length, replicate, Option, Some, None}
+use Rattle.std.specs.Prelude.{◌≡◌, ℕ, zero, suc, ◌⊎◌, false, List, [], length, replicate, Option, Some, None, is_some}
 use Rattle.std.specs.List.{Contains}
 use Rattle.std.proofs.Common.{sym, ap, ◌∙◌}
 use mathlib.Core.Option as maybe
+use Rattle.lot_core.specs.State.{owns}
 use Rattle.lot_core.specs.Parts.{LockPart, LockStep}
 use Rattle.lot_rights.specs.Rule.{Meaning}
 use Rattle.lot_rights.specs.Settled.{HasOneOutcome, LinesHaveNoLetter}
@@ -14,7 +15,7 @@ use Rattle.lot_words.specs.declared.views.LockRootView.{LockRootView}
 use Rattle.lot_words.specs.declared.views.Place.TheVariants.{Out}
 use Rattle.lot_words.specs.declared.views.Size.{Size}
 use Rattle.lot_words.specs.CallersRule.{CallersRule}
-use Rattle.lot_words.specs.World.{LockWorld, is_owned, bits_of, word_of, Kept}
+use Rattle.lot_words.specs.World.{LockWorld, bits_of, word_of, Kept}
 use Rattle.lot_words.specs.Values.{IsLawful}
 
 abbrev pub sizes_of : Size → Sizes
@@ -33,10 +34,10 @@ wants_of (lying l (suc k)) a = None
 abbrev pub part_of : {V : Type 0} → LockWorld V → LockPart
 part_of w = record {
   locks = record {
-    held = λ l. is_owned (w.word l).owner;
+    held = λ l. is_some (w.word l).owner;
     parked = λ l. (w.word l).parked;
     line = λ l. (w.root l).line;
-    has = λ l t. (w.word l).owner == suc t;
+    has = λ l. owns (w.word l).owner;
   };
   wants = λ t. wants_of (w.spot t) (w.pass t).aim;
 }

@@ -1,5 +1,5 @@
 -- What the words, the passes and the roots of a table of lock words stand for.
-use Rattle.std.specs.Prelude.{◌≡◌, ◌≢◌, ℕ, zero, suc, ◌<◌, ◌⊎◌, Bool, true, false, [], length, slice_index_or, Some}
+use Rattle.std.specs.Prelude.{◌≡◌, ◌≢◌, ℕ, ◌<◌, ◌⊎◌, Bool, true, false, [], length, slice_index_or, Option, Some, None, is_some}
 use Rattle.std.specs.List.{Contains}
 use Rattle.lot_core.specs.Sound.{IsOnce}
 use Rattle.lot_rights.specs.World.{World, Spot, awake, queued, owed, lying, IsLetter}
@@ -8,17 +8,13 @@ use Rattle.lot_words.specs.declared.views.Hold.TheVariants.{NotHeld, Held, Found
 use Rattle.lot_words.specs.declared.views.LockPassView.{LockPassView}
 use Rattle.lot_words.specs.declared.views.LockRootView.{LockRootView}
 
--- of a lock: its owner, which is 0 for none and else one more than the thread, and whether it is parked
+-- of a lock: its owner, if any, and whether it is parked
 pub record LockWord : Type 0 where
-  pub owner : ℕ
+  pub owner : Option ℕ
   pub parked : Bool
 
 abbrev pub LockWorld : Type 0 → Type 0
 LockWorld V = World (LockPassView V) LockRootView LockWord
-
-abbrev pub is_owned : ℕ → Bool
-is_owned zero = false
-is_owned (suc t) = true
 
 -- a word: bit 1 says held, bit 2 parked
 abbrev pub bits_of : Bool → Bool → ℕ
@@ -28,7 +24,7 @@ bits_of false true = 2
 bits_of true true = 3
 
 abbrev pub word_of : LockWord → ℕ
-word_of x = bits_of (is_owned x.owner) x.parked
+word_of x = bits_of (is_some x.owner) x.parked
 
 -- ---- what a pass holds
 abbrev pub hold : {V : Type 0} → LockPassView V → ℕ → Hold
@@ -62,8 +58,8 @@ abbrev pub IsOutside : Spot → Type 0
 IsOutside sp = (l : ℕ) → sp ≢ queued l
 
 -- the token k tells t the truth of the lock with the owner o
-abbrev pub TellsTrue : ℕ → ℕ → ℕ → Type 0
-TellsTrue o t k = (k ≡ 0) ⊎ ((k ≡ 1) × (o ≡ suc t))
+abbrev pub TellsTrue : Option ℕ → ℕ → ℕ → Type 0
+TellsTrue o t k = (k ≡ 0) ⊎ ((k ≡ 1) × (o ≡ Some t))
 
 module _ {V : Type 0} (n : ℕ) (word : ℕ → LockWord) (root : ℕ → LockRootView) where
   abbrev pub Sleeps : ℕ → LockPassView V → ℕ → Type 0
@@ -80,7 +76,7 @@ module _ {V : Type 0} (n : ℕ) (word : ℕ → LockWord) (root : ℕ → LockRo
   pub record ThreadFits (m t : ℕ) (p : LockPassView V) (sp : Spot) : Type 0 where
     pub long : length p.holds ≡ m
     pub aims : (l : ℕ) → p.aim ≡ Some l → l < m
-    pub holds : (l : ℕ) → Holds p l → (word l).owner ≡ suc t
+    pub holds : (l : ℕ) → Holds p l → (word l).owner ≡ Some t
     pub found : (l : ℕ) → HoldsParked p l → (word l).parked ≡ true
     pub spot : SpotFits t p sp
     pub in_line : (l : ℕ) → Contains (root l).line t → sp ≡ queued l
@@ -91,9 +87,9 @@ module _ {V : Type 0} (n : ℕ) (word : ℕ → LockWord) (root : ℕ → LockRo
 pub record LockFits {V : Type 0} (n : ℕ) (pass : ℕ → LockPassView V) (spot : ℕ → Spot) (l : ℕ) (x : LockWord)
     (q : LockRootView) : Type 0 where
   pub once : IsOnce q.line
-  pub had : (t : ℕ) → x.owner ≡ suc t → (t < n) × (Holds (pass t) l ⊎ IsHanded (spot t) l)
+  pub had : (t : ℕ) → x.owner ≡ Some t → (t < n) × (Holds (pass t) l ⊎ IsHanded (spot t) l)
   pub parks : q.line ≢ [] → x.parked ≡ true
-  pub tried : x.owner ≡ 0 → q.line ≢ [] → (t : ℕ) × ((t < n) × ((pass t).aim ≡ Some l) × IsOutside (spot t))
+  pub tried : x.owner ≡ None → q.line ≢ [] → (t : ℕ) × ((t < n) × ((pass t).aim ≡ Some l) × IsOutside (spot t))
 
 -- the rule of n threads and m locks
 pub record Kept {V : Type 0} (n m : ℕ) (w : LockWorld V) : Type 0 where
