@@ -3,6 +3,8 @@
 //
 //   YIELDS=a1   how often it yields before each look, a digit for each, the last one for all that follow (a is 10, b is 11, ..)
 //   FEW=01      the same where at most two threads are there
+//   SEEKING=0   0: FEW is by the threads that are there; 2: where fewer than two seek a lock now, by a count of those that missed their exchange
+//   CROWD=9     where so many seek a lock now, it yields by CROWDED=a1
 //   PARKED=0    0: where it sees that somebody is parked, it lines up at once; 1: it yields first, as where the lock is taken
 //   QUEUED=8    how often it yields when it is queued, before it sleeps
 //
@@ -22,16 +24,23 @@ constexpr int MOST_SPINS = 40;
 constexpr uint64_t HELD = 1, PARKED = 2, BOTH = 3;
 
 struct Ways {
-    int few[32], many[32], last_few = 0, last_many = 0, queued = 8;
+    int few[32], many[32], crowded[32], last_few = 0, last_many = 0, last_crowded = 0, queued = 8;
     bool yields_where_parked = false;
     size_t threads = 0;
+    int seeking_few = 0, crowd = 9;
+    std::atomic<int> seeking { 0 };
 
     static void read(const char* name, const char* usual, int* ways, int& last) {
         const char* text = getenv(name) ? getenv(name) : usual;
         for (last = -1; *text && last < 31; text++)
             ways[++last] = *text <= '9' ? *text - '0' : *text - 'a' + 10;
     }
-    int before_look(int look) const { return threads <= 2 ? few[std::min(look, last_few)] : many[std::min(look, last_many)]; }
+    int before_look(int look) const {
+        int now = seeking_few ? seeking.load() : threads <= 2 ? 0 : 2;
+        if (now < std::max(seeking_few, 1))
+            return few[std::min(look, last_few)];
+        return now < crowd ? many[std::min(look, last_many)] : crowded[std::min(look, last_crowded)];
+    }
 } ways;
 
 void sleep_on(std::atomic<uint64_t>& word, uint32_t value) { syscall(SYS_futex, &word, FUTEX_WAIT_PRIVATE, value, nullptr, nullptr, 0); }
@@ -140,6 +149,13 @@ struct alignas(128) Lock {
     bool take() { return !(word.fetch_or(HELD) & HELD); }
 
     __attribute__((noinline, cold)) void get_slowly() {
+        if (ways.seeking_few)
+            ways.seeking.fetch_add(1);
+        seek();
+        if (ways.seeking_few)
+            ways.seeking.fetch_sub(1);
+    }
+    void seek() {
         int made = 0, looks = 0;
         // A first look tells whether somebody is parked; where the lock is free again, it is left to its owner.
         uint64_t seen = word.load() == BOTH ? BOTH : HELD;
@@ -231,6 +247,9 @@ struct Peer {
 int main(int argc, char** argv) {
     Ways::read("YIELDS", "a1", ways.many, ways.last_many);
     Ways::read("FEW", "01", ways.few, ways.last_few);
+    Ways::read("CROWDED", "a1", ways.crowded, ways.last_crowded);
+    ways.seeking_few = getenv("SEEKING") ? atoi(getenv("SEEKING")) : 0;
+    ways.crowd = getenv("CROWD") ? atoi(getenv("CROWD")) : 9;
     ways.queued = getenv("QUEUED") ? atoi(getenv("QUEUED")) : 8;
     ways.yields_where_parked = getenv("PARKED") && !strcmp(getenv("PARKED"), "1");
     for (int i = 2; i < argc && i < (argc > 1 && !strcmp(argv[1], "relay") ? 4 : 3); i++)
