@@ -1,7 +1,8 @@
 //! Condition words under one rule: the flag of WTF's `Condition`, and the letters by which waiting threads are told.
 //! Each call is one single access to one word, and makes exactly one entry of the table's history (lot_rights), which
 //! its contract names: an event of the model (lot_core), or a notice. Nothing here waits, and nothing but `open` takes
-//! memory. lot_sync builds the condition on it, with the parking lot of lot_park; lot_words is its sibling.
+//! memory. lot_whole has the same conditions in a lot's one table, by this crate's worlds and turns; lot_words and
+//! lot_sems are its siblings.
 //!
 //! A thread acts with its `CondPass`, and a condition's line changes with its `CondRoot`, which lies in the bucket of
 //! the condition.

@@ -39,8 +39,8 @@ pub struct ParkingLot<S: Scheme> {
     scheme: S,
     table: Table<S::Root>,
     records: Vec<CachePadded<Record>>,
-    // How many threads are registered, as the last growth was told.
-    registered: AtomicUsize,
+    // How many threads seek something now, those among them that sleep. Nothing is promised of it.
+    seeking: CachePadded<AtomicUsize>,
 }
 
 impl<S: Scheme> Model for ParkingLot<S> {
@@ -87,7 +87,7 @@ impl<S: Scheme> ParkingLot<S> {
                     scheme,
                     table,
                     records,
-                    registered: AtomicUsize::new(0),
+                    seeking: CachePadded::new(AtomicUsize::new(0)),
                 },
                 room,
             )),
@@ -348,14 +348,17 @@ impl<S: Scheme> ParkingLot<S> {
         requires { threads ≤ self.now.threads }
         ensures { IfOk result (λ g. Serves threads g) }
     {
-        let grown = self.table.ensure(rt, threads)?;
-        self.registered.store(threads, Ordering::SeqCst);
-        Ok(grown)
+        self.table.ensure(rt, threads)
     }
 
-    // How many threads are registered, as far as the lot was told (`ensure`).
-    pub(crate) fn threads_registered(&self) -> usize {
-        self.registered.load(Ordering::SeqCst)
+    // A thread begins to seek something. Answers how many others do.
+    pub(crate) fn begin_seeking(&self) -> usize {
+        self.seeking.fetch_add(1, Ordering::SeqCst)
+    }
+
+    // A thread has got what it sought.
+    pub(crate) fn end_seeking(&self) {
+        self.seeking.fetch_sub(1, Ordering::SeqCst);
     }
 
     /// How many buckets there are; a moment later it may be more.
@@ -375,7 +378,7 @@ impl<S: Scheme> ParkingLot<S> {
             scheme,
             table,
             records: _,
-            registered: _,
+            seeking: _,
         } = self;
         table.close(rt, out);
         scheme

@@ -110,8 +110,9 @@ impl BeforeSleep for AtOnce {
     fn run(&self) {}
 }
 
-/// Gets it, by a thread that has missed it and knows this of its word. The first yields come before it looks again,
-/// since a look takes the word's line of the cache from its owner. Before each sleep it does what `before` says.
+/// Gets it, by a thread that has missed it and knows this of its word. Where other threads of the lot seek something
+/// too, it yields before it looks again, since a look takes the word's line of the cache from its owner. Before each
+/// sleep it does what `before` says.
 #[inline(always)]
 pub fn get_or_park<S: Sought<T>, T, R: Wait, B: BeforeSleep>(
     rt: &R,
@@ -131,7 +132,7 @@ pub fn get_or_park<S: Sought<T>, T, R: Wait, B: BeforeSleep>(
     let scheme = parking.scheme();
     let mut pass = pass;
     let mut look = first;
-    let mut spins = Spins::among(parking.threads_registered());
+    let mut spins = Spins::among(parking.begin_seeking());
     for _ in rt.forever() {
         let (next, has_got) = match look {
             Look::Free => scheme.take(pass, key),
@@ -144,6 +145,7 @@ pub fn get_or_park<S: Sought<T>, T, R: Wait, B: BeforeSleep>(
         };
         pass = next;
         if has_got {
+            parking.end_seeking();
             return pass;
         }
         look = scheme.look_at(key);

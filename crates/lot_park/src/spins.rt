@@ -1,19 +1,21 @@
 //! How often a thread yields before it parks.
 ghost use Rattle.std.specs.Prelude.{◌≡◌, ◌<◌, ◌≤◌, ◌↔◌, ◌+◌, min, IsTrue};
-ghost use Rattle.lot_park.specs.declared.spins.TheConstants.{MOST_SPINS, BEFORE_FIRST_LOOK, FEW_THREADS};
+ghost use Rattle.lot_park.specs.declared.spins.TheConstants.{MOST_SPINS, AMONG_FEW, IN_A_CROWD, CROWD};
 
 use std::thread;
 
 /// How often one call yields before it parks, at most: as WTF's `Lock`.
 const MOST_SPINS: u32 = 40;
 
-/// How often it yields before its first look at the word: each look takes the word's line of the cache from its owner,
-/// so where many threads are registered an early one makes the rounds of all others longer.
-const BEFORE_FIRST_LOOK: u32 = 10;
+/// How often it yields before its first look at the word where others seek too: each look takes the word's line of the
+/// cache from its owner, so an early one makes the rounds of all others longer. A thread that seeks alone looks at once.
+const AMONG_FEW: u32 = 20;
 
-/// Where no more threads than these are registered, it looks after each yield, as WTF's `Lock`: it waits for one other
-/// alone.
-const FEW_THREADS: usize = 2;
+/// How often where so many seek that most of them sleep.
+const IN_A_CROWD: u32 = 12;
+
+/// How many others are a crowd.
+const CROWD: usize = 3;
 
 /// How often one call has yielded so far, at most 40 times, and how often it yields before its next look: once, but for
 /// the first.
@@ -26,16 +28,19 @@ pub(crate) struct Spins {
 }
 
 impl Spins {
-    /// It has not yielded, and so many threads are registered.
-    pub(crate) fn among(threads: usize) -> Spins
+    /// It has not yielded, and so many other threads seek.
+    pub(crate) fn among(others: usize) -> Spins
         ensures none { result.made ≡ 0 }
-        ensures few { threads ≤ FEW_THREADS → result.before_look ≡ 1 }
-        ensures many { FEW_THREADS < threads → result.before_look ≡ BEFORE_FIRST_LOOK }
+        ensures alone { others ≡ 0 → result.before_look ≡ 0 }
+        ensures few { 0 < others → others < CROWD → result.before_look ≡ AMONG_FEW }
+        ensures many { CROWD ≤ others → result.before_look ≡ IN_A_CROWD }
     {
-        let before_look = if threads <= FEW_THREADS {
-            1
+        let before_look = if others == 0 {
+            0
+        } else if others < CROWD {
+            AMONG_FEW
         } else {
-            BEFORE_FIRST_LOOK
+            IN_A_CROWD
         };
         Spins {
             made: 0,

@@ -96,7 +96,8 @@ module _ {V : Type 0} (n m : ℕ) (w : LockWorld V) (ok : Kept n m w) where
           h.0,
           (
             h.1.0,
-            (wants_so h.0 (w.spot h.0) (ok.threads h.0).spot l).1 (h.1.1, (λ g. absurd (let e : Some h.0 ≡ None = sym (handed_owner h.0 l g) ∙ free in cc))),
+            (wants_so h.0 (w.spot h.0) (ok.threads h.0).spot l).1
+                (h.1.1, (λ g. absurd (let e : Some h.0 ≡ None = sym (handed_owner h.0 l g) ∙ free in cc))),
             (λ g. h.1.2 l ((ok.threads h.0).in_line l g)),
           ),
         );

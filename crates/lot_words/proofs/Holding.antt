@@ -137,7 +137,8 @@ module _ {V : Type 0} (n m : ℕ) (w : LockWorld V) (ok : Kept n m w) (t : ℕ) 
           (λ vt h. absurd (not_handed k (subst (λ z. IsHanded (w.spot z) k) vt h))) (λ _ h. h)) (λ _ a. a)
           (λ e v a. put_elim (λ z. IsOutside (w.spot v) → IsOutside z) w.spot t (queued l) v
           (λ vt _.
-          absurd (held (subst (λ z. (w.word z).owner ≡ None) (let f : Some k ≡ Some l = sym a ∙ (ap (λ z. (w.pass z).aim) vt ∙ aim) in cc) e)))
+          absurd (held (subst (λ z. (w.word z).owner ≡ None)
+          (let f : Some k ≡ Some l = sym a ∙ (ap (λ z. (w.pass z).aim) vt ∙ aim) in cc) e)))
           (λ _ h. h))
 
     -- the thread goes last in the line of the lock, which is held and parked
@@ -200,7 +201,10 @@ module _ {V : Type 0} (n m : ℕ) (w : LockWorld V) (ok : Kept n m w) (t : ℕ) 
 
       -- the owner lets the lock go, in whose line nobody is
       pub frees_kept : (y : V) (b : Bool) → (w.root l).line ≡ []
-          → Kept n m (record w { pass = put w.pass t (letting_go (w.pass t) l y); word = put w.word l (record { owner = None; parked = b }) })
+          → Kept n m (record w {
+            pass = put w.pass t (letting_go (w.pass t) l y);
+            word = put w.word l (record { owner = None; parked = b });
+          })
       frees_kept y b nobody =
           let p : LockPassView V = letting_go (w.pass t) l y in
           let x : LockWord = record { owner = None; parked = b } in

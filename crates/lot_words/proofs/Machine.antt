@@ -167,7 +167,8 @@ module _ {V : Type 0} (n : ℕ) where
       (spots : ℕ → Spot) → LockFits n pass spot k x q
       → (Holds (pass t) k → Holds p k) → ((v : ℕ) → IsHanded (spot v) k → IsHanded (spots v) k)
       → (x.owner ≡ None → (pass t).aim ≡ Some k → p.aim ≡ Some k)
-      → (x.owner ≡ None → (v : ℕ) → (pass v).aim ≡ Some k → IsOutside (spot v) → IsOutside (spots v)) → LockFits n (put pass t p) spots k x q
+      → (x.owner ≡ None → (v : ℕ) → (pass v).aim ≡ Some k → IsOutside (spot v) → IsOutside (spots v))
+      → LockFits n (put pass t p) spots k x q
   lock_stays k x q pass spot t p spots ok holds hands aims outs = record {
     once = ok.once;
     had = λ v e. let h = ok.had v e in (

@@ -1,9 +1,8 @@
 //! How often a thread that seeks something looks before it lines up.
-ghost use Rattle.std.specs.Prelude.{◌≡◌, ◌≤◌};
 
 use super::letters::{Letters, Pass, THREADS, no_letters};
 use super::rights::{Right, idle_rights};
-use crate::asserts::{equal, failed, is_so, room_for};
+use crate::asserts::{equal, failed};
 use lot_park::{AtOnce, Look, ParkingLot, Seeking, Sought, Token, get_or_park};
 use std::alloc::Global;
 use std::process::Abort;
@@ -49,39 +48,27 @@ impl Sought<Prizes> for Letters {
     }
 }
 
-// How often a thread looks before it lines up that has seen this of the word, where the lot was told that so many
-// threads are registered, or of none.
-fn looks<R: Wait + Abort>(rt: &R, alloc: Global, registered: usize, first: Look) -> u64
-    requires { registered ≤ THREADS }
-{
+// How often a thread looks before it lines up that has seen this of the word and seeks alone, and how often when it
+// seeks once more.
+fn looks<R: Wait + Abort>(rt: &R, alloc: Global, first: Look) -> (u64, u64) {
     let rights = idle_rights(alloc, 1).expect(rt, "memory");
     let (lot, mut room) = match ParkingLot::open(alloc, THREADS, rights, no_letters()) {
         Ok(opened) => opened,
         Err(_refused) => failed(rt, "memory"),
     };
-    if registered > 0 {
-        is_so(rt, lot.ensure(rt, registered).is_ok(), "memory");
-    }
-    let _pass = get_or_park::<Letters, Prizes, R, AtOnce>(
-        rt,
-        &lot,
-        Pass { thread: 0 },
-        0,
-        first,
-        &AtOnce,
-    );
-    let looks = lot.scheme().looks_at_words();
+    let pass = Pass { thread: 0 };
+    let pass = get_or_park::<Letters, Prizes, R, AtOnce>(rt, &lot, pass, 0, first, &AtOnce);
+    let once = lot.scheme().looks_at_words();
+    let _pass = get_or_park::<Letters, Prizes, R, AtOnce>(rt, &lot, pass, 0, first, &AtOnce);
+    let twice = lot.scheme().looks_at_words();
     let _letters = lot.close(rt, &mut room);
-    looks
+    (once, twice)
 }
 
-// It yields 40 times in all, and looks after each yield. Where more than two threads are registered, its first look
-// comes after ten. Where it has seen that somebody is parked, it lines up at once.
+// A thread that seeks alone looks at once and after each of 40 yields, also when it seeks again, since it is counted no
+// more. Where it has seen that somebody is parked, it lines up at once.
 #[test]
 fn a_thread_looks_before_it_lines_up(rt: HostRuntime) {
-    equal(&rt, looks(&rt, rt.alloc(), 0, Look::Taken), 40);
-    equal(&rt, looks(&rt, rt.alloc(), 2, Look::Taken), 40);
-    equal(&rt, looks(&rt, rt.alloc(), 3, Look::Taken), 31);
-    equal(&rt, looks(&rt, rt.alloc(), 2, Look::Parked), 0);
-    equal(&rt, looks(&rt, rt.alloc(), 3, Look::Parked), 0);
+    equal(&rt, looks(&rt, rt.alloc(), Look::Taken), (41, 82));
+    equal(&rt, looks(&rt, rt.alloc(), Look::Parked), (0, 0));
 }

@@ -1,4 +1,4 @@
-use Rattle.std.proofs.Common.{◌≡◌, List, Some, slice_get, subst, sym, ◌∙◌}
+use Rattle.std.proofs.Common.{◌≡◌, List, Some, slice_get, subst, sym, ◌∙◌, rules}
 use Rattle.lot_rights.specs.Shown.{RootShown}
 use Rattle.lot_whole.specs.declared.views.LotRootView.{LotRootView}
 use Rattle.lot_sync.specs.Lot.{LotNames}
@@ -27,3 +27,6 @@ pool_of-pool-requires-clause-fresh g c κs within =
 pub pool_of-pool-requires-clause-rests : goal.pool_of-pool-requires-clause-rests
 pool_of-pool-requires-clause-rests g c κs within = λ p start. c.requires.rests p (subst (λ
     (ns : LotNames g.row.V.Denot). Starts ns.values ns.threads p) c.requires.named start)
+
+pub of-requires-clause-lot : goal.of-requires-clause-lot
+of-requires-clause-lot g c = search rules

@@ -6,3 +6,6 @@ act-x-requires g c =
     let v = c.queue_up-x.ensures in
     c.requires.acts v.root (c.queue_up-x.result.0, c.queue_up-x.result.1, v.back, c.queue_up-x.result.2) v.named v.paid v.called
     (search rules) c.queue_up-x.result.3
+
+pub returns : goal.returns
+returns g c = search rules

@@ -1,4 +1,4 @@
-use Rattle.std.proofs.Common.{sym, ap, subst}
+use Rattle.std.proofs.Common.{sym, ap, subst, rules}
 use Rattle.lot_scheme.specs.Standing.{LotStanding}
 use Rattle.lot_scheme.specs.Words.{GetPermitWord}
 use Rattle.lot_sync.specs.Lot.{◌≈◌, one_permit_more}
@@ -20,3 +20,6 @@ returns-clause-made g c =
     adds_at (λ t. GetPermitWord t c.args.key) c.args.pass c.at_rest.result c.apart-right.result.0 c.acquire-right.result.0 got.did
     c.apart-right.ensures.same c.at_rest.ensures.pass
     (ap (λ (r : LotStanding g.row.V.Denot). r.did) got.is) got.got
+
+pub returns-clause-permit : goal.returns-clause-permit
+returns-clause-permit g c = search rules
