@@ -1,14 +1,15 @@
 // The waiting of the lot's lock in C++, for trying other numbers of yields and looks: the same word, queue, wake tokens and fair releases, over one
 // lock or many, without proofs. The environment sets how a thread waits that has missed its exchange:
 //
-//   YIELDS=a1   how often it yields before each look, a digit for each, the last one for all that follow (a is 10, b is 11, ..)
-//   FEW=01      the same where at most two threads are there
-//   SEEKING=0   0: FEW is by the threads that are there; 2: where fewer than two seek a lock now, by a count of those that missed their exchange
-//   CROWD=9     where so many seek a lock now, it yields by CROWDED=a1
+//   YIELDS=k1   how often it yields before each look, a digit for each, the last one for all that follow (a is 10, b is 11, ..)
+//   FEW=01      the same where fewer than two seek a lock now, by a count of those that missed their exchange
+//   SEEKING=2   0: FEW is where at most two threads are there
+//   CROWD=4     where so many seek a lock now, it yields by CROWDED=c1
 //   PARKED=0    0: where it sees that somebody is parked, it lines up at once; 1: it yields first, as where the lock is taken
 //   QUEUED=8    how often it yields when it is queued, before it sleeps
 //
-// It takes the commands of the peers: YIELDS=c1 waiting count 4 1 100000. What came of it stands in docs/log/bench.md.
+// The values above are the lot's own, and hold where none is set. It takes the commands of the peers: YIELDS=c1 waiting count 4 1 100000.
+// What came of it stands in docs/log/bench.md.
 #include <algorithm>
 #include <cstdlib>
 #include <cstring>
@@ -245,11 +246,11 @@ struct Peer {
 } // namespace
 
 int main(int argc, char** argv) {
-    Ways::read("YIELDS", "a1", ways.many, ways.last_many);
+    Ways::read("YIELDS", "k1", ways.many, ways.last_many);
     Ways::read("FEW", "01", ways.few, ways.last_few);
-    Ways::read("CROWDED", "a1", ways.crowded, ways.last_crowded);
-    ways.seeking_few = getenv("SEEKING") ? atoi(getenv("SEEKING")) : 0;
-    ways.crowd = getenv("CROWD") ? atoi(getenv("CROWD")) : 9;
+    Ways::read("CROWDED", "c1", ways.crowded, ways.last_crowded);
+    ways.seeking_few = getenv("SEEKING") ? atoi(getenv("SEEKING")) : 2;
+    ways.crowd = getenv("CROWD") ? atoi(getenv("CROWD")) : 4;
     ways.queued = getenv("QUEUED") ? atoi(getenv("QUEUED")) : 8;
     ways.yields_where_parked = getenv("PARKED") && !strcmp(getenv("PARKED"), "1");
     for (int i = 2; i < argc && i < (argc > 1 && !strcmp(argv[1], "relay") ? 4 : 3); i++)

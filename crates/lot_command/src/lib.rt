@@ -1,8 +1,8 @@
 //! The command line of the programs: its words and numbers, the script of a file, and what is written where, with which
 //! exit status.
 //!
-//! `lot_load`, `lot_draw` and the programs over them stand on it. It stands on `lot_core`, which reads scripts and
-//! makes their events.
+//! `lot_load`, `lot_draw`, `gallery` and the programs over them stand on it. It stands on `lot_core`, which reads
+//! scripts and makes their events.
 //!
 //! | Failure | Text | Exit status |
 //! |---|---|---|

@@ -163,9 +163,9 @@ pub fn get<V: Keeps + Send, N: LotName<V> + Send, R: Wait, B: BeforeSleep>(
     }
 }
 
-/// Gets a lock that was found held or parked. Where it is marked as parked it lines up at once. Else it waits before it
-/// tries again, also where the lock is free by now: it is left to its owner meanwhile. Before each sleep it does what
-/// `before` says.
+/// Gets a lock that was found held or parked. Where it is marked as parked it lines up at once. Else it goes on as where
+/// the lock is taken, also where it is free by now: so where others seek too, it is left to its owner meanwhile. Before
+/// each sleep it does what `before` says.
 #[cold]
 #[inline(never)]
 pub fn get_slowly<V: Keeps + Send, N: LotName<V> + Send, R: Wait, B: BeforeSleep>(

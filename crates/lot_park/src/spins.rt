@@ -7,8 +7,8 @@ use std::thread;
 /// How often one call yields before it parks, at most: as WTF's `Lock`.
 const MOST_SPINS: u32 = 40;
 
-/// How often it yields before its first look at the word where others seek too: each look takes the word's line of the
-/// cache from its owner, so an early one makes the rounds of all others longer. A thread that seeks alone looks at once.
+/// How often it yields before it looks again where others seek too: each look takes the word's line of the cache from
+/// its owner, so an early one makes the rounds of all others longer. A thread that seeks alone looks at once.
 const AMONG_FEW: u32 = 20;
 
 /// How often where so many seek that most of them sleep.

@@ -1,6 +1,7 @@
 //! Ruled tables of rights: what the tables of lock words, of condition words and of semaphore words have in common,
 //! proved once. A table has words that change in single atomic steps (`atomic_table`); who acts as a thread has its
-//! *pass*, who changes a key's line has that key's *root*. lot_words, lot_conds and lot_sems are short kinds on it.
+//! *pass*, who changes a key's line has that key's *root*. lot_words, lot_conds and lot_sems are short kinds on it, and
+//! lot_whole is all three in one table.
 //!
 //! ```text
 //!  Kind        what words, slots and rights stand for: a world, which keeps a rule of its own
