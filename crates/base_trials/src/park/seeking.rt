@@ -65,8 +65,8 @@ fn looks<R: Wait + Abort>(rt: &R, alloc: Global, first: Look) -> (u64, u64) {
     (once, twice)
 }
 
-// A thread that seeks alone looks at once and after each of 40 yields, also when it seeks again, since it is counted no
-// more. Where it has seen that somebody is parked, it lines up at once.
+// A thread that seeks alone looks once before its 40 yields and after each, also when it seeks again, since it is
+// counted no more. Where it has seen that somebody is parked, it lines up at once.
 #[test]
 fn a_thread_looks_before_it_lines_up(rt: HostRuntime) {
     equal(&rt, looks(&rt, rt.alloc(), Look::Taken), (41, 82));
