@@ -20,7 +20,7 @@ use Rattle.lot_whole.specs.Closing.{HasDone}
 use Rattle.lot_whole.specs.Family.{lock, cond, sem}
 use Rattle.lot_whole.specs.Standing.{IsAwake, IsIdle, IsUp, MayTake, MayPark, MaySweep}
 use Rattle.lot_whole.specs.Whole.{rises}
-use Rattle.lot_scheme.specs.Standing.{LotStanding, standing_shown, adding, wanting, owning, called_more as stand_called_more, setting_out}
+use Rattle.lot_scheme.specs.Standing.{LotStanding, standing, adding, wanting, owning, called_more as stand_called_more, setting_out}
 use Rattle.lot_scheme.specs.Standing.{swept, IsLooked}
 use Rattle.lot_scheme.specs.LockCalls.{GetsLock}
 use Rattle.lot_scheme.specs.Words.{IsSeek, word_of_all, word_of_nobody}
@@ -209,9 +209,9 @@ module _ {V : Type 0} where
   }
 
   -- it may come back at the end
-  pub calm_done : (t : ℕ) (now : LotStanding V) (p : PassShown (LotPassView V)) → now ≡ standing_shown p → IsCalm t now → HasDone p
+  pub calm_done : (t : ℕ) (now : LotStanding V) (p : PassShown (LotPassView V)) → now ≡ standing p → IsCalm t now → HasDone p
   calm_done t now p same calm =
-      let back : IsCalm t (standing_shown p) = subst (IsCalm t) same calm in
+      let back : IsCalm t (standing p) = subst (IsCalm t) same calm in
       (back.none, back.there.out)
 
 module _ {V Part : Type 0} (rule : CallersRule V Part) where

@@ -5,7 +5,6 @@ use Rattle.std.proofs.lemmas.List.{length-replicate}
 use Rattle.atomic_table.specs.Seated.{TableId}
 use Rattle.atomic_table.proofs.Lists.{set_here}
 use Rattle.lot_rights.specs.declared.views.Access.{Access}
-use Rattle.lot_rights.specs.declared.views.PassRight.{PassRight}
 use Rattle.lot_rights.specs.Shown.{PassShown, RootShown}
 use Rattle.lot_rights.specs.Steps.{Notes}
 use Rattle.lot_words.specs.declared.views.Hold.TheVariants.{NotHeld, Held}
@@ -20,60 +19,60 @@ use Rattle.lot_words.specs.Shown.{pass_at, root_at}
 
 module _ {V : Type 0} (p : PassShown (LockPassView V)) (z : TableId) (t l : ℕ) (is : IsPass z t p) (near : l < 2) where
   -- who got a lock of two owns it
-  grips : (x : V) → p.pass.own.asleep ≡ false → Owns (owning p.pass.own l x) l
+  grips : (x : V) → p.own.asleep ≡ false → Owns (owning p.own l x) l
   grips x up = (
     (up, refl),
-    subst IsHeld (sym (get_or-set_same p.pass.own.holds l Held NotHeld (omega (arith, is.2)))) tt,
-    (x, set_here p.pass.own.places l (InSlot x) (omega (arith, is.3)), set_here p.pass.own.seen l x (omega (arith, is.4))),
+    subst IsHeld (sym (get_or-set_same p.own.holds l Held NotHeld (omega (arith, is.2)))) tt,
+    (x, set_here p.own.places l (InSlot x) (omega (arith, is.3)), set_here p.own.seen l x (omega (arith, is.4))),
   )
 
-  module _ {Part : Type 0} (rule : CallersRule V Part) (a c : Access) (q : PassRight (LockPassView V)) (b : Bool)
-      (up : p.pass.own.asleep ≡ false) where
-    got : GetsBy rule p.pass l a q → Owns q.own l
-    got h = subst (λ (y : PassRight (LockPassView V)). Owns y.own l) (sym h.2.1) (grips h.0 up)
+  module _ {Part : Type 0} (rule : CallersRule V Part) (a c : Access) (q : PassShown (LockPassView V)) (b : Bool)
+      (up : p.own.asleep ≡ false) where
+    got : GetsBy rule p l a q → Owns q.own l
+    got h = subst (λ (y : PassShown (LockPassView V)). Owns y.own l) (sym h.2.1) (grips h.0 up)
 
-    pub took : MatchBool b (GetsBy rule p.pass l a q) (Notes p.pass (wanting p.pass.own l) c q) → MatchBool b (Owns q.own l) (Wants q.own l)
+    pub took : MatchBool b (GetsBy rule p l a q) (Notes p (wanting p.own l) c q) → MatchBool b (Owns q.own l) (Wants q.own l)
     took = by_bool b
       where
-        by_bool : (b : Bool) → MatchBool b (GetsBy rule p.pass l a q) (Notes p.pass (wanting p.pass.own l) c q)
+        by_bool : (b : Bool) → MatchBool b (GetsBy rule p l a q) (Notes p (wanting p.own l) c q)
             → MatchBool b (Owns q.own l) (Wants q.own l)
         by_bool true h = got h
-        by_bool false h = subst (λ (y : PassRight (LockPassView V)). Wants y.own l) (sym h.1) (up, refl)
+        by_bool false h = subst (λ (y : PassShown (LockPassView V)). Wants y.own l) (sym h.1) (up, refl)
 
-    pub tried : p.pass.own.aim ≡ None → MatchBool b (GetsBy rule p.pass l a q) (Notes p.pass p.pass.own c q)
+    pub tried : p.own.aim ≡ None → MatchBool b (GetsBy rule p l a q) (Notes p p.own c q)
         → MatchBool b (Owns q.own l) (IsCalm q.own)
     tried aim = by_bool b
       where
-        by_bool : (b : Bool) → MatchBool b (GetsBy rule p.pass l a q) (Notes p.pass p.pass.own c q)
+        by_bool : (b : Bool) → MatchBool b (GetsBy rule p l a q) (Notes p p.own c q)
             → MatchBool b (Owns q.own l) (IsCalm q.own)
         by_bool true h = got h
-        by_bool false h = subst (λ (y : PassRight (LockPassView V)). IsCalm y.own) (sym h.1) (up, aim)
+        by_bool false h = subst (λ (y : PassShown (LockPassView V)). IsCalm y.own) (sym h.1) (up, aim)
 
   -- to whom it was handed owns it
-  pub was_handed : {Part : Type 0} (rule : CallersRule V Part) (q : PassRight (LockPassView V)) (o : Option ℕ)
-      → p.pass.own.aim ≡ Some l → o ≡ Some 1
-      → MatchOption o (FoundNone p.pass q) (λ token. Collected rule p.pass token q)
-      → Owns q.own l × (q.own.holds ≡ set p.pass.own.holds l Held)
+  pub was_handed : {Part : Type 0} (rule : CallersRule V Part) (q : PassShown (LockPassView V)) (o : Option ℕ)
+      → p.own.aim ≡ Some l → o ≡ Some 1
+      → MatchOption o (FoundNone p q) (λ token. Collected rule p token q)
+      → Owns q.own l × (q.own.holds ≡ set p.own.holds l Held)
   was_handed rule q o aim one letter =
-      let h : Collected rule p.pass 1 q =
-      subst (λ o. MatchOption o (FoundNone p.pass q) (λ token. Collected rule p.pass token q)) one letter in
+      let h : Collected rule p 1 q =
+      subst (λ o. MatchOption o (FoundNone p q) (λ token. Collected rule p token q)) one letter in
       let same : h.1.0 ≡ l = (let e : Some h.1.0 ≡ Some l = sym h.1.1 ∙ aim in cc) in
       let x : V = h.1.2.0 in
-      let is_now : q.own ≡ woken (owning p.pass.own l x) = ap (λ (y : PassRight (LockPassView V)). y.own) h.1.2.2.1
-      ∙ ap (λ k. woken (owning p.pass.own k x)) same in (
+      let is_now : q.own ≡ woken (owning p.own l x) = ap (λ (y : PassShown (LockPassView V)). y.own) h.1.2.2.1
+      ∙ ap (λ k. woken (owning p.own k x)) same in (
         subst (λ y. Owns y l) (sym is_now) (
           (refl, refl),
-          subst IsHeld (sym (get_or-set_same p.pass.own.holds l Held NotHeld (omega (arith, is.2)))) tt,
-          (x, set_here p.pass.own.places l (InSlot x) (omega (arith, is.3)), set_here p.pass.own.seen l x (omega (arith, is.4))),
+          subst IsHeld (sym (get_or-set_same p.own.holds l Held NotHeld (omega (arith, is.2)))) tt,
+          (x, set_here p.own.places l (InSlot x) (omega (arith, is.3)), set_here p.own.seen l x (omega (arith, is.4))),
         ),
         ap (λ (y : LockPassView V). y.holds) is_now,
       )
 
 -- ---- the rights that an opening of two locks answers
 module _ {V : Type 0} (z : TableId) (xs : List V) (two : length xs ≡ 2) where
-  pub fresh_calm : (t : ℕ) (p : PassShown (LockPassView V)) → p ≡ pass_at z xs t → IsPass z t p × IsCalm p.pass.own
-      × (p.pass.own.holds ≡ NotHeld ∷ NotHeld ∷ [])
-  fresh_calm t p e = subst (λ y. IsPass z t y × IsCalm y.pass.own × (y.pass.own.holds ≡ NotHeld ∷ NotHeld ∷ [])) (sym e) (
+  pub fresh_calm : (t : ℕ) (p : PassShown (LockPassView V)) → p ≡ pass_at z xs t → IsPass z t p × IsCalm p.own
+      × (p.own.holds ≡ NotHeld ∷ NotHeld ∷ [])
+  fresh_calm t p e = subst (λ y. IsPass z t y × IsCalm y.own × (y.own.holds ≡ NotHeld ∷ NotHeld ∷ [])) (sym e) (
     (refl, refl, length-replicate (length xs) NotHeld ∙ two, length-replicate (length xs) Out ∙ two, two),
     (refl, refl),
     ap (λ k. replicate k NotHeld) two,

@@ -5,7 +5,7 @@ use Rattle.std.specs.List.{All}
 use Rattle.std.proofs.lemmas.List.{drop-replicate, length-replicate}
 use Rattle.std.proofs.lemmas.List.Elements.{All-nil, All-push}
 use Rattle.atomic_table.specs.Seated.{TableId}
-use Rattle.lot_rights.specs.Shown.{PassShown, RootShown}
+use Rattle.lot_rights.specs.Shown.{PassShown, RootShown, root_at_table}
 use Rattle.lot_rights.specs.Start.{new_root}
 use Rattle.lot_rights.proofs.Deals.{get_before, get_last}
 use Rattle.lot_rights.proofs.Turns.{all_by_place, some_by_place}
@@ -21,7 +21,7 @@ use Rattle.lot_whole.specs.Lot.{fresh_pass, fresh_root}
 use Rattle.lot_whole.specs.Standing.{IsUp}
 use Rattle.lot_park.specs.Lots.{Appends}
 use Rattle.lot_scheme.specs.Roots.{root_view}
-use Rattle.lot_scheme.specs.Standing.{LotStanding, standing_shown}
+use Rattle.lot_scheme.specs.Standing.{LotStanding, standing}
 use Rattle.base_trials.specs.Calm.{IsCalm}
 use Rattle.base_trials.specs.Opened.{fresh_at, size_of, IsFresh, AreBack, AreFreshRoots, AreRootsBack}
 use Rattle.base_trials.proofs.Calm.{calm_done}
@@ -39,8 +39,8 @@ module _ {V : Type 0} (table : TableId) (locks conds : ℕ) (values : List V) wh
   fresh_up sem = refl
 
   pub fresh_is : (t : ℕ) (p : PassShown (LotPassView V)) (now : LotStanding V) → p ≡ fresh_at table (size_of locks conds) values t
-      → now ≡ standing_shown p → IsFresh (locks + conds) t now
-  fresh_is t p now is stood = subst (IsFresh (locks + conds) t) (sym (stood ∙ ap standing_shown is)) (
+      → now ≡ standing p → IsFresh (locks + conds) t now
+  fresh_is t p now is stood = subst (IsFresh (locks + conds) t) (sym (stood ∙ ap standing is)) (
     record {
       there = record { thread = refl; up = fresh_up; out = refl; sweeps = refl; seeks = refl; stand = refl };
       aim = refl;
@@ -86,23 +86,23 @@ module _ {V : Type 0} (table : TableId) where
   pub record Gathered (n : ℕ) (passes : List (PassShown (LotPassView V))) : Type 0 where
     pub named : All (λ (p : PassShown (LotPassView V)). p.table ≡ table) passes
     pub done : All HasDone passes
-    pub threads : AllBack (λ (p : PassShown (LotPassView V)). p.pass.thread) n passes
+    pub threads : AllBack (λ (p : PassShown (LotPassView V)). p.thread) n passes
 
   pub none_gathered : (passes : List (PassShown (LotPassView V))) → passes ≡ [] → Gathered 0 passes
   none_gathered passes none = subst (Gathered 0) (sym none) (record {
     named = All-nil (λ (p : PassShown (LotPassView V)). p.table ≡ table);
     done = All-nil HasDone;
-    threads = none_back (λ (p : PassShown (LotPassView V)). p.pass.thread) [];
+    threads = none_back (λ (p : PassShown (LotPassView V)). p.thread) [];
   })
 
   pub one_gathered : (n : ℕ) (xs ys : List (PassShown (LotPassView V))) (now : LotStanding V) (p : PassShown (LotPassView V))
-      → ys ≡ xs ++ p ∷ [] → now ≡ standing_shown p
+      → ys ≡ xs ++ p ∷ [] → now ≡ standing p
       → p.table ≡ table → IsCalm n now → Gathered n xs → Gathered (n + 1) ys
   one_gathered n xs ys now p is same named calm before = record {
     named = subst (All (λ (q : PassShown (LotPassView V)). q.table ≡ table)) (sym is)
         (All-push (λ (q : PassShown (LotPassView V)). q.table ≡ table) xs p before.named named);
     done = subst (All HasDone) (sym is) (All-push HasDone xs p before.done (calm_done n now p same calm));
-    threads = one_back (λ (q : PassShown (LotPassView V)). q.pass.thread) n xs ys p is (ap (λ (s : LotStanding V). s.thread) (sym same)
+    threads = one_back (λ (q : PassShown (LotPassView V)). q.thread) n xs ys p is (ap (λ (s : LotStanding V). s.thread) (sym same)
         ∙ calm.there.thread) before.threads;
   }
 
@@ -113,21 +113,21 @@ module _ {V : Type 0} (table : TableId) where
 module _ (table : TableId) where
   pub record RootsBack (n : ℕ) (roots : List (RootShown LotRootView)) : Type 0 where
     pub named : All (λ (q : RootShown LotRootView). q.table ≡ table) roots
-    pub keys : AllBack (λ (q : RootShown LotRootView). q.root.key) n roots
+    pub keys : AllBack (λ (q : RootShown LotRootView). q.key) n roots
 
   pub no_root_back : (roots : List (RootShown LotRootView)) → roots ≡ [] → RootsBack 0 roots
   no_root_back roots none = subst (RootsBack 0) (sym none) (record {
     named = All-nil (λ (q : RootShown LotRootView). q.table ≡ table);
-    keys = none_back (λ (q : RootShown LotRootView). q.root.key) [];
+    keys = none_back (λ (q : RootShown LotRootView). q.key) [];
   })
 
   pub one_root_back : (n : ℕ) (xs ys : List (RootShown LotRootView)) (q : RootShown LotRootView) → ys ≡ xs ++ q ∷ [] → q.table ≡ table
-      → q.root.key ≡ n
+      → q.key ≡ n
       → RootsBack n xs → RootsBack (n + 1) ys
   one_root_back n xs ys q is named key before = record {
     named = subst (All (λ (r : RootShown LotRootView). r.table ≡ table)) (sym is)
         (All-push (λ (r : RootShown LotRootView). r.table ≡ table) xs q before.named named);
-    keys = one_back (λ (r : RootShown LotRootView). r.root.key) n xs ys q is key before.keys;
+    keys = one_back (λ (r : RootShown LotRootView). r.key) n xs ys q is key before.keys;
   }
 
   pub roots_back : (roots : List (RootShown LotRootView)) → RootsBack 3 roots → AreRootsBack table 3 roots
@@ -137,11 +137,11 @@ module _ (table : TableId) where
 pub fresh_back : (table : TableId) (locks conds : ℕ) (roots : List (RootShown LotRootView)) → AreFreshRoots table locks conds roots
     → AreRootsBack table (locks + conds) roots
 fresh_back table locks conds roots fresh =
-    let own : ℕ → RootShown LotRootView = λ c. record { table = table; root = new_root (fresh_root (size_of locks conds)) c } in
+    let own : ℕ → RootShown LotRootView = λ c. root_at_table table (new_root (fresh_root (size_of locks conds)) c) in
     let at : (c : ℕ) → c < length roots → slice_get roots c ≡ Some (own c) = λ c near. fresh.each c (subst (λ n. c < n) fresh.long near) in
     record {
       named = all_by_place (λ (q : RootShown LotRootView). q.table ≡ table) own roots at (λ c near. refl);
-      each = λ c near. some_by_place (λ (q : RootShown LotRootView). q.root.key ≡ c) own roots at c
+      each = λ c near. some_by_place (λ (q : RootShown LotRootView). q.key ≡ c) own roots at c
           (subst (λ n. c < n) (sym fresh.long) near) refl;
     }
 
@@ -166,7 +166,7 @@ pub three_named : (xs ys zs left : List (RootShown LotRootView)) (third second f
     → xs ≡ ys ++ third ∷ [] → ys ≡ zs ++ second ∷ [] → zs ≡ left ++ first ∷ []
     → (first.root.key ≡ 0) × (second.root.key ≡ 1) × (third.root.key ≡ 2)
 three_named xs ys zs left third second first all a b c =
-    let Names : ℕ → RootShown LotRootView → Type 0 = λ i q. q.root.key ≡ i in
+    let Names : ℕ → RootShown LotRootView → Type 0 = λ i q. q.key ≡ i in
     let whole : ByPlace Names 3 xs = (
       ap length all.appended ∙ all.each,
       λ i near q at. all.named i q

@@ -7,8 +7,8 @@ use Rattle.lot_conds.specs.declared.views.CondRootView.{CondRootView}
 
 -- the pass of the thread t, which is out nowhere and sweeps nothing
 abbrev pub IsFree : TableId → ℕ → PassShown CondPassView → Type 0
-IsFree table t p = (p.table ≡ table) × (p.pass.thread ≡ t) × (p.pass.own.out ≡ None) × (p.pass.own.sweeps ≡ None)
+IsFree table t p = (p.table ≡ table) × (p.thread ≡ t) × (p.own.out ≡ None) × (p.own.sweeps ≡ None)
 
 -- the root of the condition, in whose line nobody is
 abbrev pub IsEmpty : TableId → RootShown CondRootView → Type 0
-IsEmpty table q = (q.table ≡ table) × (q.root.key ≡ 1) × (q.root.own.line ≡ []) × (q.root.own.owes ≡ [])
+IsEmpty table q = (q.table ≡ table) × (q.key ≡ 1) × (q.own.line ≡ []) × (q.own.owes ≡ [])

@@ -10,8 +10,8 @@ use Rattle.lot_words.specs.World.{Holds, HoldsParked}
 
 -- the pass of the thread t, in the table, of two locks
 abbrev pub IsPass : {V : Type 0} → TableId → ℕ → PassShown (LockPassView V) → Type 0
-IsPass table t p = (p.table ≡ table) × (p.pass.thread ≡ t) × (length p.pass.own.holds ≡ 2) × (length p.pass.own.places ≡ 2)
-    × (length p.pass.own.seen ≡ 2)
+IsPass table t p = (p.table ≡ table) × (p.thread ≡ t) × (length p.own.holds ≡ 2) × (length p.own.places ≡ 2)
+    × (length p.own.seen ≡ 2)
 
 -- it wants nothing
 abbrev pub IsCalm : {V : Type 0} → LockPassView V → Type 0
@@ -19,7 +19,7 @@ IsCalm p = (p.asleep ≡ false) × (p.aim ≡ None)
 
 -- the pass of the thread t, in the table, which wants nothing and has neither lock
 abbrev pub HasNothing : {V : Type 0} → TableId → ℕ → PassShown (LockPassView V) → Type 0
-HasNothing table t p = IsPass table t p × IsCalm p.pass.own × (p.pass.own.holds ≡ NotHeld ∷ NotHeld ∷ [])
+HasNothing table t p = IsPass table t p × IsCalm p.own × (p.own.holds ≡ NotHeld ∷ NotHeld ∷ [])
 
 -- it wants the lock
 abbrev pub Wants : {V : Type 0} → LockPassView V → ℕ → Type 0
@@ -43,4 +43,4 @@ MayPass {V} p l = IsCalm p × HoldsParked p l × ((y : V) × IsIn p l y)
 
 -- the root of the lock, which owes nothing, with this line
 abbrev pub IsRoot : TableId → ℕ → List ℕ → RootShown LockRootView → Type 0
-IsRoot table l line q = (q.table ≡ table) × (q.root.key ≡ l) × (q.root.own.line ≡ line) × (q.root.own.owes ≡ None)
+IsRoot table l line q = (q.table ≡ table) × (q.key ≡ l) × (q.own.line ≡ line) × (q.own.owes ≡ None)

@@ -2,7 +2,7 @@
 use Rattle.std.specs.Prelude.{◌≡◌, ℕ, ◌+◌, ◌<◌, List, [], length, slice_get, Some}
 use Rattle.std.specs.List.{All, Any}
 use Rattle.atomic_table.specs.Seated.{TableId}
-use Rattle.lot_rights.specs.Shown.{PassShown, RootShown}
+use Rattle.lot_rights.specs.Shown.{PassShown, RootShown, pass_at_table, root_at_table}
 use Rattle.lot_rights.specs.Start.{new_pass, new_root}
 use Rattle.lot_waits.specs.Counts.{counts_in, uncounted}
 use Rattle.lot_whole.specs.Closing.{HasDone}
@@ -20,7 +20,7 @@ size_of locks conds = record { threads = 3; locks = locks; conds = conds; permit
 -- ---- as the opening made them
 module _ {V : Type 0} where
   abbrev pub fresh_at : TableId → LotSize → List V → ℕ → PassShown (LotPassView V)
-  fresh_at table size values t = record { table = table; pass = new_pass (λ u. fresh_pass size values) t }
+  fresh_at table size values t = pass_at_table table (new_pass (λ u. fresh_pass size values) t)
 
   -- the passes, in order
   pub record AreDealt (table : TableId) (locks conds : ℕ) (passes : List (PassShown (LotPassView V))) : Type 0 where
@@ -36,14 +36,14 @@ module _ {V : Type 0} where
 pub record AreFreshRoots (table : TableId) (locks conds : ℕ) (roots : List (RootShown LotRootView)) : Type 0 where
   pub long : length roots ≡ locks + conds
   pub each : (c : ℕ) → c < locks + conds → slice_get roots c ≡ Some
-      (record { table = table; root = new_root (fresh_root (size_of locks conds)) c })
+      (root_at_table table (new_root (fresh_root (size_of locks conds)) c))
 
 -- ---- as they come back
 pub record AreBack {V : Type 0} (table : TableId) (passes : List (PassShown (LotPassView V))) : Type 0 where
   pub named : All (λ (p : PassShown (LotPassView V)). p.table ≡ table) passes
   pub done : All HasDone passes
-  pub threads : (t : ℕ) → t < 3 → Any (λ (p : PassShown (LotPassView V)). p.pass.thread ≡ t) passes
+  pub threads : (t : ℕ) → t < 3 → Any (λ (p : PassShown (LotPassView V)). p.thread ≡ t) passes
 
 pub record AreRootsBack (table : TableId) (keys : ℕ) (roots : List (RootShown LotRootView)) : Type 0 where
   pub named : All (λ (q : RootShown LotRootView). q.table ≡ table) roots
-  pub each : (c : ℕ) → c < keys → Any (λ (q : RootShown LotRootView). q.root.key ≡ c) roots
+  pub each : (c : ℕ) → c < keys → Any (λ (q : RootShown LotRootView). q.key ≡ c) roots

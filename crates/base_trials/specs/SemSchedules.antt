@@ -12,24 +12,24 @@ IsOne size = (size.first_sem ≡ 1) × (length size.permits ≡ 1)
 
 -- a pass of the table, of the thread t
 abbrev pub IsOf : TableId → ℕ → PassShown SemPassView → Type 0
-IsOf table t p = (p.table ≡ table) × (p.pass.thread ≡ t) × (length p.pass.own.out ≡ 2)
+IsOf table t p = (p.table ≡ table) × (p.thread ≡ t) × (length p.own.out ≡ 2)
 
 -- it is calm
 abbrev pub IsFree : TableId → ℕ → PassShown SemPassView → Type 0
-IsFree table t p = IsOf table t p × IsCalm p.pass.own
+IsFree table t p = IsOf table t p × IsCalm p.own
 
 -- it is calm, and has a permit
 abbrev pub Has : TableId → ℕ → PassShown SemPassView → Type 0
-Has table t p = IsOf table t p × MayGive p.pass.own 1
+Has table t p = IsOf table t p × MayGive p.own 1
 
 -- it seeks one
 abbrev pub Seeks : TableId → ℕ → PassShown SemPassView → Type 0
-Seeks table t p = IsOf table t p × IsSeeking p.pass.own 1
+Seeks table t p = IsOf table t p × IsSeeking p.own 1
 
 -- it sleeps in the line
 abbrev pub Sleeps : TableId → ℕ → PassShown SemPassView → Type 0
-Sleeps table t p = IsOf table t p × (p.pass.own.asleep ≡ true) × (p.pass.own.seeks ≡ Some 1)
+Sleeps table t p = IsOf table t p × (p.own.asleep ≡ true) × (p.own.seeks ≡ Some 1)
 
 -- the root of the semaphore, with this line, which owes nothing
 abbrev pub HasLine : TableId → List ℕ → RootShown SemRootView → Type 0
-HasLine table line q = (q.table ≡ table) × (q.root.key ≡ 1) × (q.root.own.line ≡ line) × (q.root.own.owes ≡ None)
+HasLine table line q = (q.table ≡ table) × (q.key ≡ 1) × (q.own.line ≡ line) × (q.own.owes ≡ None)

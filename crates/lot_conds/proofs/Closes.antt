@@ -22,24 +22,24 @@ module _ (size : Size) (passes : List (PassShown CondPassView)) (roots : List (R
   pub told_to : Ended (meaning size) passes roots ws xs → IsToldTo size passes roots
   told_to ended = record {
     recounted = ended_recounted (meaning size) passes roots ws xs ended;
-    lines = All-weaker (λ (q : RootShown CondRootView). RootIs (sizes_of size) ended.left.world q.root.key q.root.own)
-        (λ (q : RootShown CondRootView). (ended.left.world.root q.root.key).line ≡ q.root.own.line)
+    lines = All-weaker (λ (q : RootShown CondRootView). RootIs (sizes_of size) ended.left.world q.key q.own)
+        (λ (q : RootShown CondRootView). (ended.left.world.root q.key).line ≡ q.own.line)
         (λ q is. ap (λ (z : CondRootView). z.line) is.1) roots ended.left.roots_fit;
   }
 
   -- what is left when no pass is out
   module _ (left : Left (meaning size) passes roots ws xs) (idle : All IsIdle passes)
-      (all : (t : ℕ) → t < size.threads → Any (λ (p : PassShown CondPassView). p.pass.thread ≡ t) passes) where
+      (all : (t : ℕ) → t < size.threads → Any (λ (p : PassShown CondPassView). p.thread ≡ t) passes) where
     abbrev w : CondWorld
     w = left.world
 
     abbrev Fits : PassShown CondPassView → Type 0
-    Fits p = PassIs (sizes_of size) w p.pass.thread p.pass.own
+    Fits p = PassIs (sizes_of size) w p.thread p.own
 
     -- no letter is owed or lies
     none_taken : (c t : ℕ) → t < size.threads → taken_from c (w.spot t) ≡ 0
     none_taken c t near =
-        let mine = λ (p : PassShown CondPassView). p.pass.thread ≡ t in
+        let mine = λ (p : PassShown CondPassView). p.thread ≡ t in
         let p = any_all mine Fits passes (all t near) left.passes_fit in
         let q = any_all mine IsIdle passes (all t near) idle in
         let out : (w.pass t).out ≡ None = ap (λ z. (w.pass z).out) (sym p.1) ∙ (ap (λ (x : CondPassView). x.out) p.2.1 ∙ q.2) in
@@ -47,12 +47,12 @@ module _ (size : Size) (passes : List (PassShown CondPassView)) (roots : List (R
 
     -- a count that the world keeps of each thread
     counts : (of : CondPassView → List ℕ) (c : ℕ)
-        → sum_by (λ (p : PassShown CondPassView). get_or (of p.pass.own) c 0) passes ≡ total size.threads (λ t. get_or (of (w.pass t)) c 0)
+        → sum_by (λ (p : PassShown CondPassView). get_or (of p.own) c 0) passes ≡ total size.threads (λ t. get_or (of (w.pass t)) c 0)
     counts of c =
-        let f : PassShown CondPassView → ℕ = (λ p. get_or (of p.pass.own) c 0) in
+        let f : PassShown CondPassView → ℕ = (λ p. get_or (of p.own) c 0) in
         let g : ℕ → ℕ = (λ t. get_or (of (w.pass t)) c 0) in
         sum_is CondRootView size.threads g f passes
-        (All-weaker Fits (λ (p : PassShown CondPassView). (p.pass.thread < size.threads) × (f p ≡ g p.pass.thread))
+        (All-weaker Fits (λ (p : PassShown CondPassView). (p.thread < size.threads) × (f p ≡ g p.thread))
         (λ p fit. (fit.0, sym (ap (λ z. get_or (of z) c 0) fit.1))) passes
         left.passes_fit)
         (held_once CondRootView passes roots left.once) all

@@ -13,8 +13,7 @@ use Rattle.lot_events.specs.declared.events.Event.TheVariants.{Enlist, Look, Cal
 use Rattle.lot_events.specs.declared.events.Seen.TheVariants.{Bool as Saw, Done, Count}
 use Rattle.lot_core.proofs.Put.{put_same, put_other, put_again}
 use Rattle.lot_rights.specs.declared.views.Access.TheVariants.{Makes, Posts, Collects}
-use Rattle.lot_rights.specs.declared.views.PassRight.{PassRight}
-use Rattle.lot_rights.specs.declared.views.RootRight.{RootRight}
+use Rattle.lot_rights.specs.Shown.{PassShown, RootShown}
 use Rattle.lot_rights.specs.Layout.{word_at, letter_at}
 use Rattle.lot_rights.specs.World.{Spot, awake, queued, owed, lying, letter_of, letters_of, IsKeyOf, WordsFit}
 use Rattle.lot_rights.specs.Steps.{Notes, RootNotes, PassTurn, BothTurn, AllowsPass, AllowsBoth, AllowsRoot}
@@ -71,13 +70,13 @@ flag_found : (f : Bool) → (flag_word f == 1) ≡ f
 flag_found true = refl
 flag_found false = refl
 
-abbrev pub Looks : PassRight CondPassView → ℕ → ℕ → PassRight CondPassView → Type 0
+abbrev pub Looks : PassShown CondPassView → ℕ → ℕ → PassShown CondPassView → Type 0
 Looks p c n p' = Notes p p.own (Makes (Look p.thread c) (Saw (n == 1))) p'
 
-abbrev pub Lowers : PassRight CondPassView → ℕ → PassRight CondPassView → Type 0
+abbrev pub Lowers : PassShown CondPassView → ℕ → PassShown CondPassView → Type 0
 Lowers p c p' = Notes p (lowering p.own c) (Makes (Lower p.thread c) Done) p'
 
-module _ (size : Size) (p : PassRight CondPassView) (c : ℕ) (among : IsAmongConds size.locks size.conds c) (calm : IsCalm p.own) where
+module _ (size : Size) (p : PassShown CondPassView) (c : ℕ) (among : IsAmongConds size.locks size.conds c) (calm : IsCalm p.own) where
   pub looks : AllowsPass (meaning size) (word_at c) (λ n. n) p (Looks p c)
   looks w ws hs ok fit small =
       let found = ok.words.words c among in
@@ -151,24 +150,24 @@ other_sweeps : (o : Option ℕ) (c k : ℕ) → o ≡ Some c → k ≢ c → o �
 other_sweeps o c k e ne f = absurd (ne (let g : Some k ≡ Some c = sym f ∙ e in cc))
 
 -- with the lock l
-abbrev pub EnlistsWith : ℕ → PassRight CondPassView → RootRight CondRootView → PassRight CondPassView → RootRight CondRootView → Type 0
+abbrev pub EnlistsWith : ℕ → PassShown CondPassView → RootShown CondRootView → PassShown CondPassView → RootShown CondRootView → Type 0
 EnlistsWith l p q p' q' =
     Notes p (enlisted p.own q.key) (Makes (Enlist p.thread q.key l) Done) p' × (q' ≡ record q { own = enlisted_root q.own p.thread })
 
-abbrev pub Enlists : PassRight CondPassView → RootRight CondRootView → PassRight CondPassView → RootRight CondRootView → Type 0
+abbrev pub Enlists : PassShown CondPassView → RootShown CondRootView → PassShown CondPassView → RootShown CondRootView → Type 0
 Enlists = EnlistsWith 0
 
-abbrev pub Calls : PassRight CondPassView → RootRight CondRootView → ℕ → Bool → PassRight CondPassView → RootRight CondRootView → Type 0
+abbrev pub Calls : PassShown CondPassView → RootShown CondRootView → ℕ → Bool → PassShown CondPassView → RootShown CondRootView → Type 0
 Calls p q n more p' q' =
     Notes p (called_more p.own q.key (dequeued_count n q.own.line))
     (Makes (Call p.thread q.key n more) (Count (dequeued_count n q.own.line))) p' × (q' ≡ record q { own = called_root q.own n })
 
-abbrev pub Sweeps : PassRight CondPassView → RootRight CondRootView → PassRight CondPassView → RootRight CondRootView → Type 0
+abbrev pub Sweeps : PassShown CondPassView → RootShown CondRootView → PassShown CondPassView → RootShown CondRootView → Type 0
 Sweeps p q p' q' =
     Notes p (swept_pass p.own q.key (length q.own.line)) (Makes (Sweep p.thread q.key) (Count (length q.own.line))) p'
     × (q' ≡ record q { own = swept_root q.own })
 
-module _ (size : Size) (p : PassRight CondPassView) (q : RootRight CondRootView) where
+module _ (size : Size) (p : PassShown CondPassView) (q : RootShown CondRootView) where
   abbrev t : ℕ
   t = p.thread
 
@@ -326,10 +325,10 @@ module _ (size : Size) (p : PassRight CondPassView) (q : RootRight CondRootView)
       }
 
 -- ---- letters
-abbrev pub Pays : RootRight CondRootView → ℕ → RootRight CondRootView → Type 0
+abbrev pub Pays : RootShown CondRootView → ℕ → RootShown CondRootView → Type 0
 Pays q u q' = RootNotes q (paid_root q.own u) (Posts q.key u 0) q'
 
-module _ (size : Size) (q : RootRight CondRootView) (u : ℕ) (debt : Contains q.own.owes u) where
+module _ (size : Size) (q : RootShown CondRootView) (u : ℕ) (debt : Contains q.own.owes u) where
   pub posts : AllowsRoot (meaning size) (letter_at u) (λ _. 1) q (λ _. Pays q u)
   posts w ws hs ok root small =
       let m : ℕ = key_count size in
@@ -363,17 +362,17 @@ module _ (size : Size) (q : RootRight CondRootView) (u : ℕ) (debt : Contains q
         told = λ k. (k, refl);
       }
 
-abbrev pub Collecting : PassRight CondPassView → ℕ → PassRight CondPassView → Type 0
+abbrev pub Collecting : PassShown CondPassView → ℕ → PassShown CondPassView → Type 0
 Collecting p n q = (n ≤ 1) × CollectedBy p n q
 
-pub collected_none : (p q : PassRight CondPassView) (n : ℕ) → n ≡ 0 → Collecting p n q → FoundNone p q
+pub collected_none : (p q : PassShown CondPassView) (n : ℕ) → n ≡ 0 → Collecting p n q → FoundNone p q
 collected_none p q n e h = subst (λ z. CollectedBy p z q) e h.1
 
-pub collected_some : (p q : PassRight CondPassView) (n : ℕ) → n ≢ 0 → Collecting p n q → Collected p (n - 1) q
+pub collected_some : (p q : PassShown CondPassView) (n : ℕ) → n ≢ 0 → Collecting p n q → Collected p (n - 1) q
 collected_some p q zero ne h = absurd (ne refl)
 collected_some p q (suc token) ne h = let e : token ≡ suc token - 1 = omega arith in subst (λ z. Collected p z q) e h.1
 
-module _ (size : Size) (p : PassRight CondPassView) where
+module _ (size : Size) (p : PassShown CondPassView) where
   module _ (w : CondWorld) (ws : List ℕ) (hs : List (maybe.Option (Unit {0}))) (ok : Fits size w ws)
       (fit : (p.thread < size.threads) × (w.pass p.thread ≡ p.own)) where
     abbrev Turn : ℕ → Type 0

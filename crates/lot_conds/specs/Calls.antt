@@ -1,7 +1,7 @@
 -- What each kind of call does to the rights that it is handed.
 use Rattle.std.specs.Prelude.{◌≡◌, ℕ, zero, suc, ◌+◌, [], ◌∷◌, ◌++◌, take, drop, slice_index, slice_set, Some, None}
-use Rattle.lot_rights.specs.declared.views.PassRight.{PassRight}
 use Rattle.lot_rights.specs.declared.views.Access.TheVariants.{Collects}
+use Rattle.lot_rights.specs.Shown.{PassShown}
 use Rattle.lot_rights.specs.Lines.{without}
 use Rattle.lot_rights.specs.Steps.{Notes}
 use Rattle.lot_conds.specs.declared.views.CondPassView.{CondPassView}
@@ -51,14 +51,14 @@ paid_root q t = record q { owes = without t q.owes }
 
 -- ---- letters
 -- q is the pass p after it found no letter
-abbrev pub FoundNone : PassRight CondPassView → PassRight CondPassView → Type 0
+abbrev pub FoundNone : PassShown CondPassView → PassShown CondPassView → Type 0
 FoundNone p q = Notes p p.own (Collects p.thread None) q
 
 -- q is the pass p after it collected its letter, whose token is 0 as all tokens are: its wait has ended
-abbrev pub Collected : PassRight CondPassView → ℕ → PassRight CondPassView → Type 0
+abbrev pub Collected : PassShown CondPassView → ℕ → PassShown CondPassView → Type 0
 Collected p token q = (token ≡ 0) × ((c : ℕ) × ((p.own.out ≡ Some c) × Notes p (one_wait_more p.own c) (Collects p.thread (Some token)) q))
 
 -- by the number in the letter
-abbrev pub CollectedBy : PassRight CondPassView → ℕ → PassRight CondPassView → Type 0
+abbrev pub CollectedBy : PassShown CondPassView → ℕ → PassShown CondPassView → Type 0
 CollectedBy p zero q = FoundNone p q
 CollectedBy p (suc token) q = Collected p token q

@@ -18,9 +18,9 @@ impl CondWords {
             × All (λ (q : RootShown CondRootView). q.table ≡ self.table) roots.items }
         requires idle { All IsIdle passes.items }
         requires passes { (t : ℕ) → t < self.size.threads
-            → Any (λ (p : PassShown CondPassView). p.pass.thread ≡ t) passes.items }
+            → Any (λ (p : PassShown CondPassView). p.thread ≡ t) passes.items }
         requires roots { (c : ℕ) → IsAmongConds self.size.locks self.size.conds c
-            → Any (λ (q : RootShown CondRootView). q.root.key ≡ c) roots.items }
+            → Any (λ (q : RootShown CondRootView). q.key ≡ c) roots.items }
         ensures balanced { (c : ℕ) → called_in passes.items c ≡ woken_in passes.items c }
         ensures history { IsToldTo self.size passes.items roots.items }
     {

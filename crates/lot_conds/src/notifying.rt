@@ -20,9 +20,9 @@ impl CondWords {
     pub fn look(&self, pass: CondPass, key: usize) -> (CondPass, bool)
         requires table { pass.table ≡ self.now.table }
         requires key { IsAmongConds self.now.size.locks self.now.size.conds key }
-        requires calm { IsCalm pass.pass.own }
+        requires calm { IsCalm pass.own }
         ensures table { result.0.table ≡ pass.table }
-        ensures event { Notes pass.pass pass.pass.own (Makes (Look pass.pass.thread key) (Saw result.1)) result.0.pass }
+        ensures event { Notes pass pass.own (Makes (Look pass.thread key) (Saw result.1)) result.0 }
     {
         let words = &self.words;
         let (pass, found) = words.load::<Brand, usize>(pass, word_of_key(key), key);
@@ -34,10 +34,10 @@ impl CondWords {
     pub fn lower(&self, pass: CondPass, key: usize) -> CondPass
         requires table { pass.table ≡ self.now.table }
         requires key { IsAmongConds self.now.size.locks self.now.size.conds key }
-        requires calm { IsCalm pass.pass.own }
+        requires calm { IsCalm pass.own }
         ensures table { result.table ≡ pass.table }
-        ensures event { Notes pass.pass (lowering pass.pass.own key)
-            (Makes (Lower pass.pass.thread key) Done) result.pass }
+        ensures event { Notes pass (lowering pass.own key)
+            (Makes (Lower pass.thread key) Done) result }
     {
         let words = &self.words;
         words.store::<Brand, usize>(pass, word_of_key(key), CLEAR, key)
@@ -58,14 +58,14 @@ impl CondWords {
         more: bool,
     ) -> (CondPass, CondRoot)
         requires table { (pass.table ≡ self.now.table) × (root.table ≡ self.now.table) }
-        requires calm { IsCalm pass.pass.own }
+        requires calm { IsCalm pass.own }
         requires count { IsCallCount count }
-        requires taken { dequeued_count count root.root.own.line ≡ taken }
-        requires more { SaysMoreBehind count root.root.own.line more }
+        requires taken { dequeued_count count root.own.line ≡ taken }
+        requires more { SaysMoreBehind count root.own.line more }
         ensures table { (result.0.table ≡ pass.table) × (result.1.table ≡ root.table) }
-        ensures event { Notes pass.pass (called_more pass.pass.own root.root.key taken)
-            (Makes (Call pass.pass.thread root.root.key count more) (Count taken)) result.0.pass }
-        ensures root { result.1.root ≡ record root.root { own = called_root root.root.own count } }
+        ensures event { Notes pass (called_more pass.own root.key taken)
+            (Makes (Call pass.thread root.key count more) (Count taken)) result.0 }
+        ensures root { result.1 ≡ record root { own = called_root root.own count } }
     {
         let words = &self.words;
         let word = root.word();
@@ -87,12 +87,12 @@ impl CondWords {
     /// The event is Sweep.
     pub fn sweep(&self, pass: CondPass, root: CondRoot, taken: usize) -> (CondPass, CondRoot)
         requires table { (pass.table ≡ self.now.table) × (root.table ≡ self.now.table) }
-        requires lowered { (pass.pass.own.out ≡ None) × (pass.pass.own.sweeps ≡ Some root.root.key) }
-        requires taken { length root.root.own.line ≡ taken }
+        requires lowered { (pass.own.out ≡ None) × (pass.own.sweeps ≡ Some root.key) }
+        requires taken { length root.own.line ≡ taken }
         ensures table { (result.0.table ≡ pass.table) × (result.1.table ≡ root.table) }
-        ensures event { Notes pass.pass (swept_pass pass.pass.own root.root.key taken)
-            (Makes (Sweep pass.pass.thread root.root.key) (Count taken)) result.0.pass }
-        ensures root { result.1.root ≡ record root.root { own = swept_root root.root.own } }
+        ensures event { Notes pass (swept_pass pass.own root.key taken)
+            (Makes (Sweep pass.thread root.key) (Count taken)) result.0 }
+        ensures root { result.1 ≡ record root { own = swept_root root.own } }
     {
         let words = &self.words;
         let word = root.word();

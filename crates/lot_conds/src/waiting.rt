@@ -26,11 +26,11 @@ impl CondWords {
     /// condition (`laws::an_enlist_is_so_with_each_lock`).
     pub fn enlist(&self, pass: CondPass, root: CondRoot) -> (CondPass, CondRoot)
         requires table { (pass.table ≡ self.now.table) × (root.table ≡ self.now.table) }
-        requires calm { IsCalm pass.pass.own }
+        requires calm { IsCalm pass.own }
         ensures table { (result.0.table ≡ pass.table) × (result.1.table ≡ root.table) }
-        ensures event { Notes pass.pass (enlisted pass.pass.own root.root.key)
-            (Makes (Enlist pass.pass.thread root.root.key 0) Done) result.0.pass }
-        ensures root { result.1.root ≡ record root.root { own = enlisted_root root.root.own pass.pass.thread } }
+        ensures event { Notes pass (enlisted pass.own root.key)
+            (Makes (Enlist pass.thread root.key 0) Done) result.0 }
+        ensures root { result.1 ≡ record root { own = enlisted_root root.own pass.thread } }
     {
         let words = &self.words;
         let word = root.word();
@@ -40,10 +40,10 @@ impl CondWords {
     /// Posts a letter that the root owes, by one store, while the bucket of the condition is still locked.
     pub fn post(&self, root: CondRoot, thread: usize) -> CondRoot
         requires table { root.table ≡ self.now.table }
-        requires owes { Contains root.root.own.owes thread }
+        requires owes { Contains root.own.owes thread }
         ensures table { result.table ≡ root.table }
-        ensures posted { RootNotes root.root (paid_root root.root.own thread)
-            (Posts root.root.key thread 0) result.root }
+        ensures posted { RootNotes root (paid_root root.own thread)
+            (Posts root.key thread 0) result }
     {
         let words = &self.words;
         let letter = root.letter_of(thread);
@@ -56,8 +56,8 @@ impl CondWords {
     pub fn collect(&self, pass: CondPass) -> (CondPass, Option<u32>)
         requires { pass.table ≡ self.now.table }
         ensures table { result.0.table ≡ pass.table }
-        ensures letter { MatchOption result.1 (FoundNone pass.pass result.0.pass)
-            (λ token. Collected pass.pass token result.0.pass) }
+        ensures letter { MatchOption result.1 (FoundNone pass result.0)
+            (λ token. Collected pass token result.0) }
     {
         let words = &self.words;
         let place = pass.letter();

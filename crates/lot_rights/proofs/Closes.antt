@@ -11,7 +11,7 @@ use Rattle.lot_rights.specs.declared.views.Right.TheVariants.{Pass, Root}
 use Rattle.lot_rights.specs.Seating.{times, Each}
 use Rattle.lot_rights.specs.History.{Noted}
 use Rattle.lot_rights.specs.Rule.{number, made_with, Meaning, RightFits, Ruled}
-use Rattle.lot_rights.specs.Shown.{PassShown, RootShown}
+use Rattle.lot_rights.specs.Shown.{PassShown, RootShown, right_of_pass, right_of_root}
 use Rattle.lot_rights.specs.Closing.{passes_in, roots_in, Ended, IsRecounted}
 use Rattle.lot_rights.proofs.Seats.{times_append, times_one}
 use Rattle.lot_rights.proofs.Settling.{run_of_events}
@@ -39,14 +39,16 @@ module _ {A R : Type 0} (num : R → ℕ) (right : A → R) (i : ℕ) where
 module _ {S P R : Type 0} (k : Meaning S P R) (s : State S (List (Right P R))) (ru : Ruled k s) (id : ℕ) (v : List (Right P R))
     (at : get_elem? s.views id ≡ some v)
     (passes : List (PassShown P)) (roots : List (RootShown R)) (is : v ≡ passes_in (reverse passes) ++ roots_in (reverse roots)) where
-  each_pass : (F : Right P R → Type 0) → Each {R = Right P R} number F v → All (λ (p : PassShown P). F (Pass p.pass)) passes
+  each_pass : (F : Right P R → Type 0) → Each {R = Right P R} number F v → All (λ (p : PassShown P). F (Pass (right_of_pass p))) passes
   each_pass F e =
-      all_back (λ (p : PassShown P). F (Pass p.pass)) passes (each_given (λ (p : PassShown P). Pass p.pass) number F (reverse passes)
+      all_back (λ (p : PassShown P). F (Pass (right_of_pass p))) passes
+      (each_given (λ (p : PassShown P). Pass (right_of_pass p)) number F (reverse passes)
       (each_left number F (passes_in (reverse passes)) (roots_in (reverse roots)) (subst (Each {R = Right P R} number F) is e)))
 
-  each_root : (F : Right P R → Type 0) → Each {R = Right P R} number F v → All (λ (q : RootShown R). F (Root q.root)) roots
+  each_root : (F : Right P R → Type 0) → Each {R = Right P R} number F v → All (λ (q : RootShown R). F (Root (right_of_root q))) roots
   each_root F e =
-      all_back (λ (q : RootShown R). F (Root q.root)) roots (each_given (λ (q : RootShown R). Root q.root) number F (reverse roots)
+      all_back (λ (q : RootShown R). F (Root (right_of_root q))) roots
+      (each_given (λ (q : RootShown R). Root (right_of_root q)) number F (reverse roots)
       (each_right number F (passes_in (reverse passes)) (roots_in (reverse roots)) (subst (Each {R = Right P R} number F) is e)))
 
   once : (i : ℕ) → times {R = Right P R} number i (passes_in passes ++ roots_in roots) ≤ 1
@@ -60,8 +62,8 @@ module _ {S P R : Type 0} (k : Meaning S P R) (s : State S (List (Right P R))) (
         ru.seats.once i,
         times_append {R = Right P R} number i (passes_in (reverse passes)) (roots_in (reverse roots)),
         times_append {R = Right P R} number i (passes_in passes) (roots_in roots),
-        times_back {R = Right P R} number (λ (p : PassShown P). Pass p.pass) i passes,
-        times_back {R = Right P R} number (λ (q : RootShown R). Root q.root) i roots,
+        times_back {R = Right P R} number (λ (p : PassShown P). Pass (right_of_pass p)) i passes,
+        times_back {R = Right P R} number (λ (q : RootShown R). Root (right_of_root q)) i roots,
       )
 
   pub ends : (ws : List ℕ) (xs : List S) → s.words ≡ ws → length s.homes ≡ length xs

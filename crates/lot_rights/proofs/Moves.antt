@@ -9,7 +9,7 @@ use Rattle.lot_rights.specs.declared.views.Right.{Right}
 use Rattle.lot_rights.specs.declared.views.Right.TheVariants.{Pass, Root}
 use Rattle.lot_rights.specs.Seating.{times}
 use Rattle.lot_rights.specs.Rule.{number, made_with, Meaning, RightFits, LeadsOn, Ruled}
-use Rattle.lot_rights.specs.Shown.{the_pass}
+use Rattle.lot_rights.specs.Shown.{PassShown, right_of_pass, the_pass}
 use Rattle.lot_rights.specs.Slots.{SlotTurn, AllowsOut, AllowsBack, ToldOut, ToldBack}
 use Rattle.lot_rights.proofs.Seats.{reseats, times_set}
 use Rattle.lot_rights.proofs.Histories.{records_stay}
@@ -44,14 +44,14 @@ module _ {S P R : Type 0} (k : Meaning S P R) where
       others (Root y) away h = turn.roots y.key y.own h
 
   module _ (slots id l : ℕ) where
-    out_at : (p : PassRight P) (mid : P → S → Type 0) → AllowsOut k l p mid
-        → Allows (Ruled k) slots id (Pass p ∷ [], []) 0 (λ n. n) (λ _. ToldOut l p mid)
+    out_at : (p : PassShown P) (mid : P → S → Type 0) → AllowsOut k l p mid
+        → Allows (Ruled k) slots id (Pass (right_of_pass p) ∷ [], []) 0 (λ n. n) (λ _. ToldOut l (right_of_pass p) mid)
     out_at p mid allows s ru deep at small =
-        let out = allows ru.world s.words s.homes ru.fits (ru.seats.named id (Pass p ∷ []) at).0 in (
-          Pass (knowing p out.own) ∷ [],
+        let out = allows ru.world s.words s.homes ru.fits (ru.seats.named id (Pass (right_of_pass p) ∷ []) at).0 in (
+          Pass (knowing (right_of_pass p) out.own) ∷ [],
           takes l out.value,
           out.there,
-          moves s ru id p at out.own (set s.homes l none) out.turn 0,
+          moves s ru id (right_of_pass p) at out.own (set s.homes l none) out.turn 0,
           (out.own, out.value, refl, out.told),
         )
 
@@ -66,16 +66,17 @@ module _ {S P R : Type 0} (k : Meaning S P R) where
           (turn.own, refl, turn.told),
         )
 
-    module _ (nobody : P) (me : Me S (List (Right P R))) (p : PassRight P) where
-      pub takes_out : me ≡ (Pass p ∷ [], []) → (mid : P → S → Type 0) → AllowsOut k l p mid
+    module _ (nobody : P) (me : Me S (List (Right P R))) where
+      pub takes_out : (p : PassShown P) → me ≡ (Pass (right_of_pass p) ∷ [], []) → (mid : P → S → Type 0) → AllowsOut k l p mid
           → Allows (Ruled k) slots id me 0 (λ n. n) (λ _ me'. ToldOut l (the_pass nobody me.0) mid me')
-      takes_out is mid allows =
+      takes_out p is mid allows =
           subst (λ (m : Me S (List (Right P R))). Allows (Ruled k) slots id m 0 (λ n. n) (λ _ me'. ToldOut l (the_pass nobody m.0) mid me'))
           (sym is) (out_at p mid allows)
 
-      pub gives_back : (y : S) → me ≡ (Pass p ∷ [], (l, y) ∷ []) → (back : P → P → Type 0) → AllowsBack k l p.thread p.own y (back p.own)
+      pub gives_back : (p : PassRight P) (y : S) → me ≡ (Pass p ∷ [], (l, y) ∷ [])
+          → (back : P → P → Type 0) → AllowsBack k l p.thread p.own y (back p.own)
           → Allows (Ruled k) slots id me 0 (λ n. n) (λ _ me'. ToldBack (the_pass nobody me.0) back me')
-      gives_back y is back allows =
+      gives_back p y is back allows =
           subst (λ (m : Me S (List (Right P R))). Allows (Ruled k) slots id m 0 (λ n. n) (λ _ me'. ToldBack (the_pass nobody m.0) back me'))
           (sym is)
           (back_at p y back allows)

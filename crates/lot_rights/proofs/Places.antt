@@ -1,19 +1,18 @@
 -- A step that is allowed at a word is allowed at the place where that word lies.
 use Rattle.std.proofs.Common.{◌≡◌, ℕ, sym, subst}
-use Rattle.lot_rights.specs.declared.views.PassRight.{PassRight}
-use Rattle.lot_rights.specs.declared.views.RootRight.{RootRight}
 use Rattle.lot_rights.specs.Rule.{Meaning}
+use Rattle.lot_rights.specs.Shown.{PassShown, RootShown}
 use Rattle.lot_rights.specs.Steps.{AllowsPass, AllowsBoth, AllowsRoot}
 
 module _ {S P R : Type 0} (k : Meaning S P R) (i place : ℕ) (is : place ≡ i) where
-  pub pass_at_place : (f : ℕ → ℕ) (p : PassRight P) (then : ℕ → PassRight P → Type 0)
+  pub pass_at_place : (f : ℕ → ℕ) (p : PassShown P) (then : ℕ → PassShown P → Type 0)
       → AllowsPass k i f p then → AllowsPass k place f p then
   pass_at_place f p then a = subst (λ z. AllowsPass k z f p then) (sym is) a
 
-  pub both_at_place : (f : ℕ → ℕ) (p : PassRight P) (q : RootRight R) (then : ℕ → PassRight P → RootRight R → Type 0)
+  pub both_at_place : (f : ℕ → ℕ) (p : PassShown P) (q : RootShown R) (then : ℕ → PassShown P → RootShown R → Type 0)
       → AllowsBoth k i f p q then → AllowsBoth k place f p q then
   both_at_place f p q then a = subst (λ z. AllowsBoth k z f p q then) (sym is) a
 
-  pub root_at_place : (f : ℕ → ℕ) (q : RootRight R) (then : ℕ → RootRight R → Type 0)
+  pub root_at_place : (f : ℕ → ℕ) (q : RootShown R) (then : ℕ → RootShown R → Type 0)
       → AllowsRoot k i f q then → AllowsRoot k place f q then
   root_at_place f q then a = subst (λ z. AllowsRoot k z f q then) (sym is) a

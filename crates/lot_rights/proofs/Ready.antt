@@ -9,7 +9,7 @@ use Rattle.lot_rights.specs.declared.views.Right.TheVariants.{Pass, Root}
 use Rattle.lot_rights.specs.Layout.{word_at, letter_at}
 use Rattle.lot_rights.specs.Rule.{Meaning, Ruled}
 use Rattle.lot_rights.specs.Settled.{LinesHaveNoLetter}
-use Rattle.lot_rights.specs.Shown.{PassShown, RootShown, WordsShown, the_pass, the_root}
+use Rattle.lot_rights.specs.Shown.{PassShown, RootShown, WordsShown, right_of_pass, right_of_root, the_pass, the_root}
 use Rattle.lot_rights.specs.Steps.{AllowsPass, AllowsBoth, AllowsRoot, TellsOfTwo, ToldPass, ToldBoth, ToldRoot, ToldTwo}
 use Rattle.lot_rights.proofs.Stepping.{steps_pass, steps_both, steps_root, steps_two}
 
@@ -21,56 +21,66 @@ module _ {S P R Key : Type 0} (meaning : Key → Meaning S P R) (apart : (key : 
   pub word_in_table : (i : ℕ) → i < now.table.words → i < inside.table.words
   word_in_table i near = subst (λ (x : WordsShown Key). i < x.table.words) (sym is) near
 
-  pub ready_pass : (mine shown : PassShown P) → mine ≡ shown → (id : ℕ) (me : Me S (List (Right P R))) → me ≡ (Pass mine.pass ∷ [], [])
-      → (i : ℕ) (f : ℕ → ℕ) (then : ℕ → PassRight P → Type 0)
-      → shown.table ≡ now.table → i < now.table.words → AllowsPass (meaning now.key) i f shown.pass then
+  pub ready_pass : (mine shown : PassShown P) → mine ≡ shown → (table : TableId) → table ≡ shown.table
+      → (id : ℕ) (me : Me S (List (Right P R))) → me ≡ (Pass (right_of_pass mine) ∷ [], [])
+      → (i : ℕ) (f : ℕ → ℕ) (then : ℕ → PassShown P → Type 0)
+      → shown.table ≡ now.table → i < now.table.words → AllowsPass (meaning now.key) i f shown then
       → (mine.table ≡ inside.table) × (i < inside.table.words)
-      × Allows (Ruled (meaning inside.key)) inside.table.slots id me i f (ToldPass mine.pass then)
-  ready_pass mine shown e id me one i f then table near allows =
-      let allowed : AllowsPass (meaning inside.key) i f mine.pass then =
-      subst (λ (x : WordsShown Key). AllowsPass (meaning x.key) i f mine.pass then) (sym is)
-      (subst (λ (x : PassShown P). AllowsPass (meaning now.key) i f x.pass then) (sym e) allows) in (
-        ap (λ (x : PassShown P). x.table) e ∙ (table ∙ table_is),
+      × Allows (Ruled (meaning inside.key)) inside.table.slots id me i f (ToldPass table (right_of_pass mine) then)
+  ready_pass mine shown e table named id me one i f then here near allows =
+      let allowed : AllowsPass (meaning inside.key) i f mine then =
+      subst (λ (x : WordsShown Key). AllowsPass (meaning x.key) i f mine then) (sym is)
+      (subst (λ (x : PassShown P). AllowsPass (meaning now.key) i f x then) (sym e) allows) in (
+        ap (λ (x : PassShown P). x.table) e ∙ (here ∙ table_is),
         word_in_table i near,
-        steps_pass (meaning inside.key) (apart inside.key) inside.table.slots id me mine.pass i f then one allowed,
+        subst (λ t. Allows (Ruled (meaning inside.key)) inside.table.slots id me i f (ToldPass t (right_of_pass mine) then))
+            (ap (λ (x : PassShown P). x.table) e ∙ sym named)
+            (steps_pass (meaning inside.key) (apart inside.key) inside.table.slots id me mine i f then one allowed),
       )
 
   -- the pass p and the root q at one seat; `nobody` and `nothing` stand for what no pass and no root knows
-  pub ready_both : (nobody : P) (nothing : R) (p : PassRight P) (q : RootRight R) (table : TableId) → table ≡ now.table
-      → (id : ℕ) (me : Me S (List (Right P R))) → me ≡ (Pass p ∷ Root q ∷ [], [])
-      → (i : ℕ) (f : ℕ → ℕ) (then : ℕ → PassRight P → RootRight R → Type 0) → i < now.table.words
+  pub ready_both : (nobody : P) (nothing : R) (p : PassShown P) (q : RootShown R) → q.table ≡ p.table
+      → (named : TableId) → named ≡ p.table → (table : TableId) → table ≡ now.table
+      → (id : ℕ) (me : Me S (List (Right P R))) → me ≡ (Pass (right_of_pass p) ∷ Root (right_of_root q) ∷ [], [])
+      → (i : ℕ) (f : ℕ → ℕ) (then : ℕ → PassShown P → RootShown R → Type 0) → i < now.table.words
       → AllowsBoth (meaning now.key) i f p q then
       → (table ≡ inside.table) × (i < inside.table.words)
       × Allows (Ruled (meaning inside.key)) inside.table.slots id me i f
-      (ToldBoth (the_pass nobody me.0) (the_root nothing (drop 1 me.0)) then)
-  ready_both nobody nothing p q table e id me both i f then near allows =
+      (ToldBoth named (the_pass nobody me.0) (the_root nothing (drop 1 me.0)) then)
+  ready_both nobody nothing p q beside named name table e id me both i f then near allows =
       let allowed : AllowsBoth (meaning inside.key) i f p q then =
       subst (λ (x : WordsShown Key). AllowsBoth (meaning x.key) i f p q then) (sym is) allows in (
         e ∙ table_is,
         word_in_table i near,
         subst
             (λ (m : Me S (List (Right P R))). Allows (Ruled (meaning inside.key)) inside.table.slots id m i f
-            (ToldBoth (the_pass nobody m.0) (the_root nothing (drop 1 m.0)) then)) (sym both)
-            (steps_both (meaning inside.key) (apart inside.key) inside.table.slots id (Pass p ∷ Root q ∷ [], []) p q i f then refl allowed),
+            (ToldBoth named (the_pass nobody m.0) (the_root nothing (drop 1 m.0)) then)) (sym both)
+            (subst (λ t. Allows (Ruled (meaning inside.key)) inside.table.slots id
+            (Pass (right_of_pass p) ∷ Root (right_of_root q) ∷ [], []) i f (ToldBoth t (right_of_pass p) (right_of_root q) then)) (sym name)
+            (steps_both (meaning inside.key) (apart inside.key) inside.table.slots id
+            (Pass (right_of_pass p) ∷ Root (right_of_root q) ∷ [], []) p q beside i f then refl allowed)),
       )
 
-  pub ready_root : (mine shown : RootShown R) → mine ≡ shown → (id : ℕ) (me : Me S (List (Right P R))) → me ≡ (Root mine.root ∷ [], [])
-      → (i : ℕ) (f : ℕ → ℕ) (then : ℕ → RootRight R → Type 0)
-      → shown.table ≡ now.table → i < now.table.words → AllowsRoot (meaning now.key) i f shown.root then
+  pub ready_root : (mine shown : RootShown R) → mine ≡ shown → (table : TableId) → table ≡ shown.table
+      → (id : ℕ) (me : Me S (List (Right P R))) → me ≡ (Root (right_of_root mine) ∷ [], [])
+      → (i : ℕ) (f : ℕ → ℕ) (then : ℕ → RootShown R → Type 0)
+      → shown.table ≡ now.table → i < now.table.words → AllowsRoot (meaning now.key) i f shown then
       → (mine.table ≡ inside.table) × (i < inside.table.words)
-      × Allows (Ruled (meaning inside.key)) inside.table.slots id me i f (ToldRoot mine.root then)
-  ready_root mine shown e id me one i f then table near allows =
-      let allowed : AllowsRoot (meaning inside.key) i f mine.root then =
-      subst (λ (x : WordsShown Key). AllowsRoot (meaning x.key) i f mine.root then) (sym is)
-      (subst (λ (x : RootShown R). AllowsRoot (meaning now.key) i f x.root then) (sym e) allows) in (
-        ap (λ (x : RootShown R). x.table) e ∙ (table ∙ table_is),
+      × Allows (Ruled (meaning inside.key)) inside.table.slots id me i f (ToldRoot table (right_of_root mine) then)
+  ready_root mine shown e table named id me one i f then here near allows =
+      let allowed : AllowsRoot (meaning inside.key) i f mine then =
+      subst (λ (x : WordsShown Key). AllowsRoot (meaning x.key) i f mine then) (sym is)
+      (subst (λ (x : RootShown R). AllowsRoot (meaning now.key) i f x then) (sym e) allows) in (
+        ap (λ (x : RootShown R). x.table) e ∙ (here ∙ table_is),
         word_in_table i near,
-        steps_root (meaning inside.key) (apart inside.key) inside.table.slots id me mine.root i f then one allowed,
+        subst (λ t. Allows (Ruled (meaning inside.key)) inside.table.slots id me i f (ToldRoot t (right_of_root mine) then))
+            (ap (λ (x : RootShown R). x.table) e ∙ sym named)
+            (steps_root (meaning inside.key) (apart inside.key) inside.table.slots id me mine i f then one allowed),
       )
 
   -- the passes p and q at one seat
-  pub ready_two : (nobody : P) (p q : PassRight P) (table : TableId) → table ≡ inside.table → 0 < inside.table.words
-      → (id : ℕ) (me : Me S (List (Right P R))) → me ≡ (Pass p ∷ Pass q ∷ [], [])
+  pub ready_two : (nobody : P) (p q : PassShown P) (table : TableId) → table ≡ inside.table → 0 < inside.table.words
+      → (id : ℕ) (me : Me S (List (Right P R))) → me ≡ (Pass (right_of_pass p) ∷ Pass (right_of_pass q) ∷ [], [])
       → (fact : Type 0) → TellsOfTwo (meaning now.key) p q fact
       → (table ≡ inside.table) × (0 < inside.table.words)
       × Allows (Ruled (meaning inside.key)) inside.table.slots id me 0 (λ n. n)
@@ -82,16 +92,17 @@ module _ {S P R Key : Type 0} (meaning : Key → Meaning S P R) (apart : (key : 
         some,
         subst (λ (m : Me S (List (Right P R))). Allows (Ruled (meaning inside.key)) inside.table.slots id m 0 (λ n. n)
             (λ _ me'. ToldTwo (the_pass nobody m.0) (the_pass nobody (drop 1 m.0)) fact m me')) (sym two)
-            (steps_two (meaning inside.key) (apart inside.key) inside.table.slots id (Pass p ∷ Pass q ∷ [], []) p q 0 fact refl told),
+            (steps_two (meaning inside.key) (apart inside.key) inside.table.slots id
+            (Pass (right_of_pass p) ∷ Pass (right_of_pass q) ∷ [], []) p q 0 fact refl told),
       )
 
 -- ---- a root after its step
 module _ {S P R : Type 0} (nothing : R) (names : R → ℕ → Type 0) (mine shown : RootShown R) (is : mine ≡ shown) (key : ℕ)
-    (key_is : key ≡ mine.root.key)
+    (key_is : key ≡ mine.key)
     (near : word_at key < mine.table.words) (small : mine.table.words < 2 ^ 64)
-    (letters : (u : ℕ) → names mine.root.own u → letter_at u < mine.table.words) (table : TableId) (same : table ≡ mine.table)
-    (me : Me S (List (Right P R))) (q : RootRight R) (its : q.key ≡ mine.root.key) (e : me ≡ (Root q ∷ [], []))
-    (few : (u : ℕ) → names q.own u → names shown.root.own u) where
+    (letters : (u : ℕ) → names mine.own u → letter_at u < mine.table.words) (table : TableId) (same : table ≡ mine.table)
+    (me : Me S (List (Right P R))) (q : RootRight R) (its : q.key ≡ mine.key) (e : me ≡ (Root q ∷ [], []))
+    (few : (u : ℕ) → names q.own u → names shown.own u) where
   root_is : the_root nothing me.0 ≡ q
   root_is = ap (λ (m : Me S (List (Right P R))). the_root nothing m.0) e
 
@@ -113,7 +124,7 @@ module _ {S P R : Type 0} (nothing : R) (names : R → ℕ → Type 0) (mine sho
                       arith,
                       words,
                       letters u
-                          (subst (λ (z : RootShown R). names z.root.own u) (sym is)
+                          (subst (λ (z : RootShown R). names z.own u) (sym is)
                           (few u (subst (λ (z : RootRight R). names z.own u) root_is h))),
                     )),
                 tt,
@@ -139,7 +150,7 @@ module _ {S P R : Type 0} (nobody : P) (nothing : R) where
   second_is me p q e = ap Second e
 
   -- whom the root names then, its letter lies in the table too
-  pub letters_after : (names : R → ℕ → Type 0) (was : RootRight R) (t words words' : ℕ) → words' ≡ words
+  pub letters_after : (names : R → ℕ → Type 0) (was : RootShown R) (t words words' : ℕ) → words' ≡ words
       → ((u : ℕ) → names was.own u → letter_at u < words) → letter_at t < words
       → (me : Me S (List (Right P R))) (p : PassRight P) (q : RootRight R) → me ≡ (Pass p ∷ Root q ∷ [], [])
       → ((u : ℕ) → names q.own u → names was.own u ⊎ (u ≡ t))
@@ -150,9 +161,9 @@ module _ {S P R : Type 0} (nobody : P) (nothing : R) where
 
 -- ---- two passes at one seat
 module _ {S P R : Type 0} where
-  pub one_shown : (me : Me S (List (Right P R))) (mine shown : PassShown P) → mine ≡ shown → me ≡ (Pass mine.pass ∷ [], [])
-      → me ≡ (Pass shown.pass ∷ [], [])
-  one_shown me mine shown is e = subst (λ (x : PassShown P). me ≡ (Pass x.pass ∷ [], [])) is e
+  pub one_shown : (me : Me S (List (Right P R))) (mine shown : PassShown P) → mine ≡ shown → me ≡ (Pass (right_of_pass mine) ∷ [], [])
+      → me ≡ (Pass (right_of_pass shown) ∷ [], [])
+  one_shown me mine shown is e = subst (λ (x : PassShown P). me ≡ (Pass (right_of_pass x) ∷ [], [])) is e
 
   pub two_joined : (a b me : Me S (List (Right P R))) (p q : PassRight P) → a ≡ (Pass p ∷ [], []) → b ≡ (Pass q ∷ [], [])
       → me ≡ (a.0 ++ b.0, a.1) → me ≡ (Pass p ∷ Pass q ∷ [], [])

@@ -3,9 +3,8 @@ use Rattle.std.proofs.Common.{◌≡◌, ℕ, ◌*◌, List, get_or, set, sym, a
 use Rattle.std.proofs.lemmas.List.{set-get_or}
 use mathlib.Core.Option.{Option}
 use Rattle.lot_rights.specs.declared.views.Access.{Access}
-use Rattle.lot_rights.specs.declared.views.PassRight.{PassRight}
-use Rattle.lot_rights.specs.declared.views.RootRight.{RootRight}
 use Rattle.lot_rights.specs.Rule.{Meaning}
+use Rattle.lot_rights.specs.Shown.{PassShown, RootShown}
 use Rattle.lot_rights.specs.Steps.{pass_after, IsMade, PassTurn, BothTurn}
 
 -- what was found is stored again
@@ -13,10 +12,10 @@ pub same_words : (ws : List ℕ) (i x : ℕ) → x ≡ get_or ws i 0 → ws ≡ 
 same_words ws i x is = sym (ap (set ws i) is ∙ set-get_or ws i 0)
 
 module _ {S P R : Type 0} (k : Meaning S P R) (i x : ℕ) (w : k.World) (ws : List ℕ) (hs : List (Option S)) (fits : k.Fits w ws hs)
-    (same : x ≡ get_or ws i 0) (p : PassRight P)
+    (same : x ≡ get_or ws i 0) (p : PassShown P)
     (pass : k.PassFits w p.thread p.own)
     (a : Access) (made : IsMade k (2 * p.thread) w a w) where
-  pub pass_stays : (then : PassRight P → Type 0) → ((n : ℕ) → then (pass_after p p.own n a)) → PassTurn k i x p then w ws hs
+  pub pass_stays : (then : PassShown P → Type 0) → ((n : ℕ) → then (pass_after p p.own n a)) → PassTurn k i x p then w ws hs
   pass_stays then told = record {
     own = p.own;
     access = a;
@@ -29,7 +28,7 @@ module _ {S P R : Type 0} (k : Meaning S P R) (i x : ℕ) (w : k.World) (ws : Li
     told = told;
   }
 
-  pub both_stay : (q : RootRight R) (then : PassRight P → RootRight R → Type 0) → k.RootFits w q.key q.own
+  pub both_stay : (q : RootShown R) (then : PassShown P → RootShown R → Type 0) → k.RootFits w q.key q.own
       → ((n : ℕ) → then (pass_after p p.own n a) (record q { own = q.own }))
       → BothTurn k i x p q then w ws hs
   both_stay q then root told = record {

@@ -16,6 +16,7 @@ use Rattle.lot_rights.specs.Seating.{times, Each}
 use Rattle.lot_rights.specs.History.{doer, SameMade}
 use Rattle.lot_rights.specs.Rule.{number, made_with, Meaning, RightFits, Leads, LeadsOn, Ruled}
 use Rattle.lot_rights.specs.Settled.{LinesHaveNoLetter}
+use Rattle.lot_rights.specs.Shown.{PassShown, RootShown, right_of_pass, right_of_root, pass_at_table, root_at_table}
 use Rattle.lot_rights.specs.Steps.{pass_after, root_after, AllowsPass, AllowsBoth, AllowsRoot, TellsOfTwo, ToldPass, ToldBoth, ToldRoot}
 use Rattle.lot_rights.specs.Steps.{ToldTwo}
 use Rattle.lot_rights.proofs.Seats.{tick, reseats, times_one, times_set, times_head}
@@ -64,18 +65,19 @@ module _ {S P R : Type 0} (k : Meaning S P R) (apart : LinesHaveNoLetter k) wher
       }
 
   module _ (slots id : ℕ) (me : Me S (List (Right P R))) where
-    pub steps_pass : (p : PassRight P) (i : ℕ) (f : ℕ → ℕ) (then : ℕ → PassRight P → Type 0) → me ≡ (Pass p ∷ [], [])
-        → AllowsPass k i f p then → Allows (Ruled k) slots id me i f (ToldPass p then)
+    pub steps_pass : (p : PassShown P) (i : ℕ) (f : ℕ → ℕ) (then : ℕ → PassShown P → Type 0) → me ≡ (Pass (right_of_pass p) ∷ [], [])
+        → AllowsPass k i f p then → Allows (Ruled k) slots id me i f (ToldPass p.table (right_of_pass p) then)
     steps_pass p i f then one allows s ru deep at small =
-        let at' : get_elem? s.views id ≡ some (Pass p ∷ []) = at ∙ ap (λ (m : Me S (List (Right P R))). some m.0) one in
-        let turn = allows ru.world s.words s.homes ru.fits (ru.seats.named id (Pass p ∷ []) at').0 small in
-        let p' : PassRight P = pass_after p turn.own (length ru.log) turn.access in (
+        let r : PassRight P = right_of_pass p in
+        let at' : get_elem? s.views id ≡ some (Pass r ∷ []) = at ∙ ap (λ (m : Me S (List (Right P R))). some m.0) one in
+        let turn = allows ru.world s.words s.homes ru.fits (ru.seats.named id (Pass r ∷ []) at').0 small in
+        let p' : PassRight P = right_of_pass (pass_after p turn.own (length ru.log) turn.access) in (
           Pass p' ∷ [],
           keeps,
           tt,
-          makes s ru id (Pass p) (Pass p') [] [] turn.world
+          makes s ru id (Pass r) (Pass p') [] [] turn.world
               (set s.words i (f (slice_index s.words i))) s.homes turn.access at' turn.fits refl refl tt
-              (others p turn.world turn.passes turn.roots) (turn.pass, tt) turn.made.0 turn.made.1,
+              (others r turn.world turn.passes turn.roots) (turn.pass, tt) turn.made.0 turn.made.1,
           (p', refl, (λ j. (Pass p' ∷ [], (one j).1)), turn.told (length ru.log)),
         )
       where
@@ -85,41 +87,52 @@ module _ {S P R : Type 0} (k : Meaning S P R) (apart : LinesHaveNoLetter k) wher
         others p w passes roots (Pass x) none h = passes x.thread x.own (not_mine k p x [] none) h
         others p w passes roots (Root y) none h = roots y.key y.own h
 
-    pub steps_both : (p : PassRight P) (q : RootRight R) (i : ℕ) (f : ℕ → ℕ) (then : ℕ → PassRight P → RootRight R → Type 0)
-        → me ≡ (Pass p ∷ Root q ∷ [], []) → AllowsBoth k i f p q then
-        → Allows (Ruled k) slots id me i f (ToldBoth p q then)
-    steps_both p q i f then both allows s ru deep at small =
-        let at' : get_elem? s.views id ≡ some (Pass p ∷ Root q ∷ []) = at ∙ ap (λ (m : Me S (List (Right P R))). some m.0) both in
-        let fits = ru.seats.named id (Pass p ∷ Root q ∷ []) at' in
+    pub steps_both : (p : PassShown P) (q : RootShown R) → q.table ≡ p.table → (i : ℕ) (f : ℕ → ℕ)
+        (then : ℕ → PassShown P → RootShown R → Type 0)
+        → me ≡ (Pass (right_of_pass p) ∷ Root (right_of_root q) ∷ [], []) → AllowsBoth k i f p q then
+        → Allows (Ruled k) slots id me i f (ToldBoth p.table (right_of_pass p) (right_of_root q) then)
+    steps_both p q table i f then both allows s ru deep at small =
+        let at' : get_elem? s.views id ≡ some (Pass (right_of_pass p) ∷ Root (right_of_root q) ∷ []) =
+        at ∙ ap (λ (m : Me S (List (Right P R))). some m.0) both in
+        let fits = ru.seats.named id (Pass (right_of_pass p) ∷ Root (right_of_root q) ∷ []) at' in
         let turn = allows ru.world s.words s.homes ru.fits fits.0 fits.1.0 small in
-        let p' : PassRight P = pass_after p turn.own (length ru.log) turn.access in
-        let q' : RootRight R = record q { own = turn.its } in (
+        let p' : PassRight P = right_of_pass (pass_after p turn.own (length ru.log) turn.access) in
+        let q' : RootRight R = right_of_root (record q { own = turn.its }) in (
           Pass p' ∷ Root q' ∷ [],
           keeps,
           tt,
-          makes s ru id (Pass p) (Pass p') (Root q ∷ []) (Root q' ∷ []) turn.world
+          makes s ru id (Pass (right_of_pass p)) (Pass p') (Root (right_of_root q) ∷ []) (Root q' ∷ []) turn.world
               (set s.words i (f (slice_index s.words i))) s.homes turn.access at' turn.fits refl refl (refl, refl, tt)
               (others turn.world turn.passes turn.roots) (turn.pass, (turn.root, tt)) turn.made.0 turn.made.1,
-          (p', q', refl, refl, (λ j. (Pass p' ∷ Root q' ∷ [], (both j).1)), turn.told (length ru.log)),
+          (
+            p',
+            q',
+            refl,
+            refl,
+            (λ j. (Pass p' ∷ Root q' ∷ [], (both j).1)),
+            subst (λ t. then (slice_index s.words i) (pass_at_table p.table p') (root_at_table t q')) table (turn.told (length ru.log)),
+          ),
         )
       where
         others : (w : k.World) → ((u : ℕ) (x : P) → u ≢ p.thread → k.PassFits ru.world u x → k.PassFits w u x)
             → ((d : ℕ) (y : R) → d ≢ q.key → k.RootFits ru.world d y → k.RootFits w d y)
-            → (r : Right P R) → times {R = Right P R} number (number r) (Pass p ∷ Root q ∷ []) ≡ 0
+            → (r : Right P R) → times {R = Right P R} number (number r) (Pass (right_of_pass p) ∷ Root (right_of_root q) ∷ []) ≡ 0
             → RightFits k ru.world r → RightFits k w r
-        others w passes roots (Pass x) none h = passes x.thread x.own (not_mine k p x (Root q ∷ []) none) h
-        others w passes roots (Root y) none h = roots y.key y.own (not_its k q y [] (omega (arith, none))) h
+        others w passes roots (Pass x) none h =
+            passes x.thread x.own (not_mine k (right_of_pass p) x (Root (right_of_root q) ∷ []) none) h
+        others w passes roots (Root y) none h = roots y.key y.own (not_its k (right_of_root q) y [] (omega (arith, none))) h
 
-    pub steps_root : (q : RootRight R) (i : ℕ) (f : ℕ → ℕ) (then : ℕ → RootRight R → Type 0) → me ≡ (Root q ∷ [], [])
-        → AllowsRoot k i f q then → Allows (Ruled k) slots id me i f (ToldRoot q then)
+    pub steps_root : (q : RootShown R) (i : ℕ) (f : ℕ → ℕ) (then : ℕ → RootShown R → Type 0) → me ≡ (Root (right_of_root q) ∷ [], [])
+        → AllowsRoot k i f q then → Allows (Ruled k) slots id me i f (ToldRoot q.table (right_of_root q) then)
     steps_root q i f then one allows s ru deep at small =
-        let at' : get_elem? s.views id ≡ some (Root q ∷ []) = at ∙ ap (λ (m : Me S (List (Right P R))). some m.0) one in
-        let turn = allows ru.world s.words s.homes ru.fits (ru.seats.named id (Root q ∷ []) at').0 small in
-        let q' : RootRight R = root_after q turn.its (length ru.log) turn.access in (
+        let r : RootRight R = right_of_root q in
+        let at' : get_elem? s.views id ≡ some (Root r ∷ []) = at ∙ ap (λ (m : Me S (List (Right P R))). some m.0) one in
+        let turn = allows ru.world s.words s.homes ru.fits (ru.seats.named id (Root r ∷ []) at').0 small in
+        let q' : RootRight R = right_of_root (root_after q turn.its (length ru.log) turn.access) in (
           Root q' ∷ [],
           keeps,
           tt,
-          makes s ru id (Root q) (Root q') [] [] turn.world
+          makes s ru id (Root r) (Root q') [] [] turn.world
               (set s.words i (f (slice_index s.words i))) s.homes turn.access at' turn.fits refl refl tt
               (others turn.world turn.passes turn.roots) (turn.root, tt) turn.made.0 turn.made.1,
           (q', refl, (λ j. (Root q' ∷ [], (one j).1)), turn.told (length ru.log)),
@@ -127,9 +140,10 @@ module _ {S P R : Type 0} (k : Meaning S P R) (apart : LinesHaveNoLetter k) wher
       where
         others : (w : k.World) → ((u : ℕ) (x : P) → k.PassFits ru.world u x → k.PassFits w u x)
             → ((d : ℕ) (y : R) → d ≢ q.key → k.RootFits ru.world d y → k.RootFits w d y)
-            → (r : Right P R) → times {R = Right P R} number (number r) (Root q ∷ []) ≡ 0 → RightFits k ru.world r → RightFits k w r
+            → (r : Right P R) → times {R = Right P R} number (number r) (Root (right_of_root q) ∷ []) ≡ 0
+            → RightFits k ru.world r → RightFits k w r
         others w passes roots (Pass x) none h = passes x.thread x.own h
-        others w passes roots (Root y) none h = roots y.key y.own (not_its k q y [] none) h
+        others w passes roots (Root y) none h = roots y.key y.own (not_its k (right_of_root q) y [] none) h
 
     -- a load at which nothing changes
     same_words : (s : State S (List (Right P R))) → Ruled k s → (i : ℕ) → get_elem? s.views id ≡ some me.0
@@ -139,11 +153,13 @@ module _ {S P R : Type 0} (k : Meaning S P R) (apart : LinesHaveNoLetter k) wher
         let views : s.views ≡ set s.views id me.0 = sym (set_again s.views id me.0 at) in
         subst (Ruled k) (λ j. record { words = words j; homes = s.homes; views = views j }) ru
 
-    pub steps_two : (p q : PassRight P) (i : ℕ) (fact : Type 0) → me ≡ (Pass p ∷ Pass q ∷ [], []) → TellsOfTwo k p q fact
-        → Allows (Ruled k) slots id me i (λ n. n) (λ _. ToldTwo p q fact me)
+    pub steps_two : (p q : PassShown P) (i : ℕ) (fact : Type 0) → me ≡ (Pass (right_of_pass p) ∷ Pass (right_of_pass q) ∷ [], [])
+        → TellsOfTwo k p q fact
+        → Allows (Ruled k) slots id me i (λ n. n) (λ _. ToldTwo (right_of_pass p) (right_of_pass q) fact me)
     steps_two p q i fact two tells s ru deep at small =
-        let at' : get_elem? s.views id ≡ some (Pass p ∷ Pass q ∷ []) = at ∙ ap (λ (m : Me S (List (Right P R))). some m.0) two in
-        let fits = ru.seats.named id (Pass p ∷ Pass q ∷ []) at' in
+        let at' : get_elem? s.views id ≡ some (Pass (right_of_pass p) ∷ Pass (right_of_pass q) ∷ []) =
+        at ∙ ap (λ (m : Me S (List (Right P R))). some m.0) two in
+        let fits = ru.seats.named id (Pass (right_of_pass p) ∷ Pass (right_of_pass q) ∷ []) at' in
         let apart : p.thread ≢ q.thread = (λ e.
         let first : tick (2 * p.thread == 2 * p.thread) ≡ 1 = ap tick (eq-eqb (2 * p.thread) (2 * p.thread) refl) in
         let second : tick (2 * q.thread == 2 * p.thread) ≡ 1 = ap tick (eq-eqb (2 * q.thread) (2 * p.thread) (ap (λ t. 2 * t) (sym e))) in
@@ -151,7 +167,7 @@ module _ {S P R : Type 0} (k : Meaning S P R) (apart : LinesHaveNoLetter k) wher
           arith,
           first,
           second,
-          times_one number (2 * p.thread) s.views id (Pass p ∷ Pass q ∷ []) at',
+          times_one number (2 * p.thread) s.views id (Pass (right_of_pass p) ∷ Pass (right_of_pass q) ∷ []) at',
           ru.seats.once (2 * p.thread),
         )) in
         (me.0, keeps, tt, same_words s ru i at, (refl, apart, tells ru.world s.words s.homes ru.fits fits.0 fits.1.0 apart))

@@ -27,12 +27,12 @@ module _ {P : Type 0} (R : Type 0) where
   abbrev held : List (PassShown P) → ℕ → ℕ
   held passes t = times {R = Right P R} number (2 * t) (passes_in passes)
 
-  pub any_held : (passes : List (PassShown P)) (t : ℕ) → Any (λ (p : PassShown P). p.pass.thread ≡ t) passes → 1 ≤ held passes t
+  pub any_held : (passes : List (PassShown P)) (t : ℕ) → Any (λ (p : PassShown P). p.thread ≡ t) passes → 1 ≤ held passes t
   any_held [] t (k, x, near, is, holds) = absurd (omega arith)
   any_held (p ∷ passes) t some = ⊎_elim {C = 1 ≤ held (p ∷ passes) t}
-      (λ e. let one : tick (2 * p.pass.thread == 2 * t) ≡ 1 =
-      ap tick (eq-eqb (2 * p.pass.thread) (2 * t) (ap (λ z. 2 * z) e)) in omega arith)
-      (λ rest. omega (arith, any_held passes t rest)) (any_cases (λ (x : PassShown P). x.pass.thread ≡ t) p passes some)
+      (λ e. let one : tick (2 * p.thread == 2 * t) ≡ 1 =
+      ap tick (eq-eqb (2 * p.thread) (2 * t) (ap (λ z. 2 * z) e)) in omega arith)
+      (λ rest. omega (arith, any_held passes t rest)) (any_cases (λ (x : PassShown P). x.thread ≡ t) p passes some)
 
   -- each pass is another thread's
   pub held_once : (passes : List (PassShown P)) (roots : List (RootShown R))
@@ -42,13 +42,13 @@ module _ {P : Type 0} (R : Type 0) where
 
   module _ (n : ℕ) (g : ℕ → ℕ) where
     total_held : (f : PassShown P → ℕ) (passes : List (PassShown P))
-        → All (λ (p : PassShown P). (p.pass.thread < n) × (f p ≡ g p.pass.thread)) passes
+        → All (λ (p : PassShown P). (p.thread < n) × (f p ≡ g p.thread)) passes
         → total n (λ t. held passes t * g t) ≡ sum_by f passes
     total_held f [] each = total_same n (λ t. 0 * g t) (λ t. 0) (λ t near. omega arith) ∙ total_none n
     total_held f (p ∷ passes) each =
-        let F : PassShown P → Type 0 = (λ x. (x.pass.thread < n) × (f x ≡ g x.pass.thread)) in
+        let F : PassShown P → Type 0 = (λ x. (x.thread < n) × (f x ≡ g x.thread)) in
         let mine = All-head F p passes each in
-        let t : ℕ = p.pass.thread in
+        let t : ℕ = p.thread in
         let more = total_but n (λ u. held (p ∷ passes) u * g u) (λ u. held passes u * g u) t mine.0
         (λ u ne. let none : tick (2 * t == 2 * u) ≡ 0 = ap tick (ne_eqb (2 * t) (2 * u) (λ e. ne (omega arith))) in
         let same : held (p ∷ passes) u ≡ held passes u = omega arith in ap (λ z. z * g u) same) in
@@ -69,8 +69,8 @@ module _ {P : Type 0} (R : Type 0) where
 
     -- where each of n threads has one pass in the list
     pub sum_is : (f : PassShown P → ℕ) (passes : List (PassShown P))
-        → All (λ (p : PassShown P). (p.pass.thread < n) × (f p ≡ g p.pass.thread)) passes
-        → ((t : ℕ) → held passes t ≤ 1) → ((t : ℕ) → t < n → Any (λ (p : PassShown P). p.pass.thread ≡ t) passes)
+        → All (λ (p : PassShown P). (p.thread < n) × (f p ≡ g p.thread)) passes
+        → ((t : ℕ) → held passes t ≤ 1) → ((t : ℕ) → t < n → Any (λ (p : PassShown P). p.thread ≡ t) passes)
         → sum_by f passes ≡ total n g
     sum_is f passes each once all = sym (total_held f passes each)
         ∙ total_same n (λ t. held passes t * g t) g

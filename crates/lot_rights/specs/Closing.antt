@@ -11,14 +11,14 @@ use Rattle.lot_rights.specs.declared.views.Right.TheVariants.{Pass, Root}
 use Rattle.lot_rights.specs.Seating.{times}
 use Rattle.lot_rights.specs.History.{events_in, entries_of, ModelRun, Run, Telling, Continues}
 use Rattle.lot_rights.specs.Rule.{number, Meaning, LeadsOn}
-use Rattle.lot_rights.specs.Shown.{PassShown, RootShown}
+use Rattle.lot_rights.specs.Shown.{PassShown, RootShown, right_of_pass, right_of_root}
 
 module _ {P R : Type 0} where
   abbrev pub passes_in : List (PassShown P) → List (Right P R)
-  passes_in passes = map (λ (p : PassShown P). Pass p.pass) passes
+  passes_in passes = map (λ (p : PassShown P). Pass (right_of_pass p)) passes
 
   abbrev pub roots_in : List (RootShown R) → List (Right P R)
-  roots_in roots = map (λ (q : RootShown R). Root q.root) roots
+  roots_in roots = map (λ (q : RootShown R). Root (right_of_root q)) roots
 
 module _ {S P R : Type 0} (k : Meaning S P R) where
   -- the words and the slots, as they were left, stand for a world that knows what these rights do
@@ -28,8 +28,8 @@ module _ {S P R : Type 0} (k : Meaning S P R) where
     pub fits : k.Fits world ws homes
     pub deep : length homes ≡ length xs
     pub at_home : (i : ℕ) (y : S) → get_elem? homes i ≡ some (some y) → get_elem? xs i ≡ some y
-    pub passes_fit : All (λ (p : PassShown P). k.PassFits world p.pass.thread p.pass.own) passes
-    pub roots_fit : All (λ (q : RootShown R). k.RootFits world q.root.key q.root.own) roots
+    pub passes_fit : All (λ (p : PassShown P). k.PassFits world p.thread p.own) passes
+    pub roots_fit : All (λ (q : RootShown R). k.RootFits world q.key q.own) roots
     -- each right is another's
     pub once : (i : ℕ) → times {R = Right P R} number i (passes_in passes ++ roots_in roots) ≤ 1
 
@@ -38,8 +38,8 @@ module _ {S P R : Type 0} (k : Meaning S P R) where
     pub left : Left passes roots ws xs
     pub log : List Entry
     pub run : Run (LeadsOn k) k.start 0 log (k.told_by left.world)
-    pub passes_made : All (λ (p : PassShown P). p.pass.made ≡ entries_of (2 * p.pass.thread) log) passes
-    pub roots_made : All (λ (q : RootShown R). q.root.made ≡ entries_of (2 * q.root.key + 1) log) roots
+    pub passes_made : All (λ (p : PassShown P). p.made ≡ entries_of (2 * p.thread) log) passes
+    pub roots_made : All (λ (q : RootShown R). q.made ≡ entries_of (2 * q.key + 1) log) roots
 
 -- ---- what is left to tell when the table is gone: one history from the opening, and a run of the model, which is the
 -- history without its notices
@@ -51,5 +51,5 @@ module _ {Part P R : Type 0} (Step : Part → Event → Seen → Part → Type 0
     pub letters : ℕ → ℕ
     pub history : Run (Continues Step word_in IsQueued) start 0 log (record { part = part; letters = letters })
     pub run : ModelRun Step start.part (events_in log) part
-    pub passes_made : All (λ (p : PassShown P). p.pass.made ≡ entries_of (2 * p.pass.thread) log) passes
-    pub roots_made : All (λ (q : RootShown R). q.root.made ≡ entries_of (2 * q.root.key + 1) log) roots
+    pub passes_made : All (λ (p : PassShown P). p.made ≡ entries_of (2 * p.thread) log) passes
+    pub roots_made : All (λ (q : RootShown R). q.made ≡ entries_of (2 * q.key + 1) log) roots

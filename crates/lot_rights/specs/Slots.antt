@@ -7,6 +7,7 @@ use Rattle.lot_rights.specs.declared.views.PassRight.{PassRight}
 use Rattle.lot_rights.specs.declared.views.Right.{Right}
 use Rattle.lot_rights.specs.declared.views.Right.TheVariants.{Pass}
 use Rattle.lot_rights.specs.Rule.{Meaning}
+use Rattle.lot_rights.specs.Shown.{PassShown}
 use Rattle.lot_rights.specs.Steps.{PassesStay, AllRootsStay}
 
 module _ {S P R : Type 0} (k : Meaning S P R) where
@@ -20,7 +21,7 @@ module _ {S P R : Type 0} (k : Meaning S P R) where
     pub same : k.told_by world ≡ k.told_by w
 
   -- the value of the slot l comes to the seat
-  pub record OutTurn (l : ℕ) (p : PassRight P) (mid : P → S → Type 0) (w : k.World) (ws : List ℕ) (hs : List (Option S)) : Type 0 where
+  pub record OutTurn (l : ℕ) (p : PassShown P) (mid : P → S → Type 0) (w : k.World) (ws : List ℕ) (hs : List (Option S)) : Type 0 where
     pub value : S
     pub own : P
     pub there : get_elem? hs l ≡ some (some value)
@@ -33,7 +34,7 @@ module _ {S P R : Type 0} (k : Meaning S P R) where
     pub turn : SlotTurn t own w ws (slice_set hs l (some y))
     pub told : then own
 
-  abbrev pub AllowsOut : ℕ → PassRight P → (P → S → Type 0) → Type 0
+  abbrev pub AllowsOut : ℕ → PassShown P → (P → S → Type 0) → Type 0
   AllowsOut l p mid = (w : k.World) (ws : List ℕ) (hs : List (Option S)) → k.Fits w ws hs → k.PassFits w p.thread p.own
       → OutTurn l p mid w ws hs
 

@@ -8,7 +8,7 @@ use Rattle.lot_rights.specs.declared.views.RootRight.{RootRight}
 use Rattle.lot_rights.specs.declared.views.Right.{Right}
 use Rattle.lot_rights.specs.declared.views.Right.TheVariants.{Pass, Root}
 use Rattle.lot_rights.specs.Rule.{Meaning, IsThread, IsKey, Ruled}
-use Rattle.lot_rights.specs.Shown.{PassShown, RootShown}
+use Rattle.lot_rights.specs.Shown.{PassShown, RootShown, pass_at_table, root_at_table}
 
 -- n rights, whose numbers begin at i
 abbrev pub rights_from : {A : Type 0} → (ℕ → A) → ℕ → ℕ → List A
@@ -45,7 +45,7 @@ module _ {S P R : Type 0} (k : Meaning S P R) where
 
   -- ---- what an opening answers
   abbrev pub pass_at : TableId → ℕ → PassShown P
-  pass_at table t = record { table = table; pass = new_pass k.fresh_pass t }
+  pass_at table t = pass_at_table table (new_pass k.fresh_pass t)
 
   abbrev pub root_at : TableId → ℕ → RootShown R
-  root_at table c = record { table = table; root = new_root k.fresh_root c }
+  root_at table c = root_at_table table (new_root k.fresh_root c)

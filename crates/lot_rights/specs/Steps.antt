@@ -2,6 +2,7 @@
 use Rattle.std.specs.Prelude.{◌≡◌, ◌≢◌, ℕ, ◌*◌, ◌+◌, ◌<◌, ◌^◌, List, [], ◌∷◌, ◌++◌, slice_index, slice_set}
 use mathlib.Core.Option.{Option}
 use Rattle.atomic_table.specs.Table.{Me}
+use Rattle.atomic_table.specs.Seated.{TableId}
 use Rattle.lot_rights.specs.declared.views.Access.{Access}
 use Rattle.lot_rights.specs.declared.views.Entry.{Entry}
 use Rattle.lot_rights.specs.declared.views.PassRight.{PassRight}
@@ -10,23 +11,24 @@ use Rattle.lot_rights.specs.declared.views.Right.{Right}
 use Rattle.lot_rights.specs.declared.views.Right.TheVariants.{Pass, Root}
 use Rattle.lot_rights.specs.History.{doer}
 use Rattle.lot_rights.specs.Rule.{Meaning, Leads}
+use Rattle.lot_rights.specs.Shown.{PassShown, RootShown, pass_at_table, root_at_table}
 
 -- one entry more, of which k were made before
 abbrev pub with_entry : List Entry → ℕ → Access → List Entry
 with_entry made k a = made ++ (record { at = k; access = a }) ∷ []
 
 -- the pass p, which knows this now, with one entry more
-abbrev pub pass_after : {P : Type 0} → PassRight P → P → ℕ → Access → PassRight P
-pass_after p own k a = record { thread = p.thread; made = with_entry p.made k a; own = own }
+abbrev pub pass_after : {P : Type 0} → PassShown P → P → ℕ → Access → PassShown P
+pass_after p own k a = record p { made = with_entry p.made k a; own = own }
 
-abbrev pub root_after : {R : Type 0} → RootRight R → R → ℕ → Access → RootRight R
-root_after q own k a = record { key = q.key; made = with_entry q.made k a; own = own }
+abbrev pub root_after : {R : Type 0} → RootShown R → R → ℕ → Access → RootShown R
+root_after q own k a = record q { made = with_entry q.made k a; own = own }
 
 -- p' is the pass p, which knows this now, with this one entry more
-abbrev pub Notes : {P : Type 0} → PassRight P → P → Access → PassRight P → Type 0
+abbrev pub Notes : {P : Type 0} → PassShown P → P → Access → PassShown P → Type 0
 Notes p own a p' = (k : ℕ) × (p' ≡ pass_after p own k a)
 
-abbrev pub RootNotes : {R : Type 0} → RootRight R → R → Access → RootRight R → Type 0
+abbrev pub RootNotes : {R : Type 0} → RootShown R → R → Access → RootShown R → Type 0
 RootNotes q own a q' = (k : ℕ) × (q' ≡ root_after q own k a)
 
 module _ {S P R : Type 0} (k : Meaning S P R) where
@@ -49,7 +51,7 @@ module _ {S P R : Type 0} (k : Meaning S P R) where
 
   -- at a step by which the word i becomes x, where the words ws stand for the world w: what the pass p knows then, the access, and the
   -- world
-  pub record PassTurn (i x : ℕ) (p : PassRight P) (then : PassRight P → Type 0) (w : k.World) (ws : List ℕ)
+  pub record PassTurn (i x : ℕ) (p : PassShown P) (then : PassShown P → Type 0) (w : k.World) (ws : List ℕ)
       (hs : List (Option S)) : Type 0 where
     pub own : P
     pub access : Access
@@ -62,7 +64,7 @@ module _ {S P R : Type 0} (k : Meaning S P R) where
     pub told : (n : ℕ) → then (pass_after p own n access)
 
   -- the same of a pass and a root; the entry is the pass's
-  pub record BothTurn (i x : ℕ) (p : PassRight P) (q : RootRight R) (then : PassRight P → RootRight R → Type 0) (w : k.World) (ws : List ℕ)
+  pub record BothTurn (i x : ℕ) (p : PassShown P) (q : RootShown R) (then : PassShown P → RootShown R → Type 0) (w : k.World) (ws : List ℕ)
       (hs : List (Option S)) : Type 0 where
     pub own : P
     pub its : R
@@ -77,7 +79,7 @@ module _ {S P R : Type 0} (k : Meaning S P R) where
     pub told : (n : ℕ) → then (pass_after p own n access) (record q { own = its })
 
   -- the same of a root
-  pub record RootTurn (i x : ℕ) (q : RootRight R) (then : RootRight R → Type 0) (w : k.World) (ws : List ℕ)
+  pub record RootTurn (i x : ℕ) (q : RootShown R) (then : RootShown R → Type 0) (w : k.World) (ws : List ℕ)
       (hs : List (Option S)) : Type 0 where
     pub its : R
     pub access : Access
@@ -90,38 +92,41 @@ module _ {S P R : Type 0} (k : Meaning S P R) where
     pub told : (n : ℕ) → then (root_after q its n access)
 
   -- Whatever the words stand for, the word i may become f of what it was
-  abbrev pub AllowsPass : ℕ → (ℕ → ℕ) → PassRight P → (ℕ → PassRight P → Type 0) → Type 0
+  abbrev pub AllowsPass : ℕ → (ℕ → ℕ) → PassShown P → (ℕ → PassShown P → Type 0) → Type 0
   AllowsPass i f p then = (w : k.World) (ws : List ℕ) (hs : List (Option S)) → k.Fits w ws hs → k.PassFits w p.thread p.own
       → slice_index ws i < 2 ^ 64
       → PassTurn i (f (slice_index ws i)) p (then (slice_index ws i)) w ws hs
 
-  abbrev pub AllowsBoth : ℕ → (ℕ → ℕ) → PassRight P → RootRight R → (ℕ → PassRight P → RootRight R → Type 0) → Type 0
+  abbrev pub AllowsBoth : ℕ → (ℕ → ℕ) → PassShown P → RootShown R → (ℕ → PassShown P → RootShown R → Type 0) → Type 0
   AllowsBoth i f p q then = (w : k.World) (ws : List ℕ) (hs : List (Option S)) → k.Fits w ws hs → k.PassFits w p.thread p.own
       → k.RootFits w q.key q.own → slice_index ws i < 2 ^ 64
       → BothTurn i (f (slice_index ws i)) p q (then (slice_index ws i)) w ws hs
 
-  abbrev pub AllowsRoot : ℕ → (ℕ → ℕ) → RootRight R → (ℕ → RootRight R → Type 0) → Type 0
+  abbrev pub AllowsRoot : ℕ → (ℕ → ℕ) → RootShown R → (ℕ → RootShown R → Type 0) → Type 0
   AllowsRoot i f q then = (w : k.World) (ws : List ℕ) (hs : List (Option S)) → k.Fits w ws hs → k.RootFits w q.key q.own
       → slice_index ws i < 2 ^ 64
       → RootTurn i (f (slice_index ws i)) q (then (slice_index ws i)) w ws hs
 
   -- of whatever world knows both passes, the fact holds
-  abbrev pub TellsOfTwo : PassRight P → PassRight P → Type 0 → Type 0
+  abbrev pub TellsOfTwo : PassShown P → PassShown P → Type 0 → Type 0
   TellsOfTwo p q fact = (w : k.World) (ws : List ℕ) (hs : List (Option S)) → k.Fits w ws hs → k.PassFits w p.thread p.own
       → k.PassFits w q.thread q.own → p.thread ≢ q.thread → fact
 
--- ---- what a step tells of the seat
-module _ {S P R : Type 0} where
-  abbrev pub ToldPass : PassRight P → (ℕ → PassRight P → Type 0) → ℕ → Me S (List (Right P R)) → Type 0
-  ToldPass p then n me' = (p' : PassRight P) × (p'.thread ≡ p.thread) × (me' ≡ (Pass p' ∷ [], [])) × then n p'
+-- ---- what a step tells of the seat, of which this is the table
+module _ {S P R : Type 0} (table : TableId) where
+  abbrev pub ToldPass : PassRight P → (ℕ → PassShown P → Type 0) → ℕ → Me S (List (Right P R)) → Type 0
+  ToldPass p then n me' =
+      (p' : PassRight P) × (p'.thread ≡ p.thread) × (me' ≡ (Pass p' ∷ [], [])) × then n (pass_at_table table p')
 
-  abbrev pub ToldBoth : PassRight P → RootRight R → (ℕ → PassRight P → RootRight R → Type 0) → ℕ → Me S (List (Right P R)) → Type 0
+  abbrev pub ToldBoth : PassRight P → RootRight R → (ℕ → PassShown P → RootShown R → Type 0) → ℕ → Me S (List (Right P R)) → Type 0
   ToldBoth p q then n me' =
       (p' : PassRight P) × (q' : RootRight R) × (p'.thread ≡ p.thread) × (q'.key ≡ q.key)
-      × (me' ≡ (Pass p' ∷ Root q' ∷ [], [])) × then n p' q'
+      × (me' ≡ (Pass p' ∷ Root q' ∷ [], [])) × then n (pass_at_table table p') (root_at_table table q')
 
-  abbrev pub ToldRoot : RootRight R → (ℕ → RootRight R → Type 0) → ℕ → Me S (List (Right P R)) → Type 0
-  ToldRoot q then n me' = (q' : RootRight R) × (q'.key ≡ q.key) × (me' ≡ (Root q' ∷ [], [])) × then n q'
+  abbrev pub ToldRoot : RootRight R → (ℕ → RootShown R → Type 0) → ℕ → Me S (List (Right P R)) → Type 0
+  ToldRoot q then n me' =
+      (q' : RootRight R) × (q'.key ≡ q.key) × (me' ≡ (Root q' ∷ [], [])) × then n (root_at_table table q')
 
+module _ {S P R : Type 0} where
   abbrev pub ToldTwo : PassRight P → PassRight P → Type 0 → Me S (List (Right P R)) → Me S (List (Right P R)) → Type 0
   ToldTwo p q fact me me' = (me' ≡ me) × (p.thread ≢ q.thread) × fact

@@ -10,14 +10,14 @@
 //!  RootOf      the right to change the line of one key
 //! ```
 //!
-//! The rule of every table is: there is a world that the words, the slots and the rights stand for, and one history has
-//! led to it. The history has an entry for each access that was made: an event of the model (lot_core), or a notice (a
-//! letter that was posted, looked for or found; a word that was found to be another than was asked for). Each right
-//! shows the entries that were made with it, and the rights settle the history: so one entry more in one right is one
-//! access, this one, made of what the words told just then (`laws`).
+//! The invariant of every table, its *rule*, is: there is a world that the words, the slots and the rights stand for,
+//! and one history has led to it. The history has an entry for each access that was made: an event of the model
+//! (lot_core), or a notice (a letter that was posted, looked for or found; a word that was found to be another than was
+//! asked for). Each right shows the entries that were made with it. So the rights determine the history: where a right
+//! shows one entry more, exactly that access happened, made of what the words told just then (`laws`).
 //!
-//! A kind proves of each of its calls a *turn*: whatever world the words stand for, the step leads to one that they
-//! stand for then. Turns speak of worlds and of the model alone, never of seats, logs or tables.
+//! A kind proves a *turn* of each of its calls: the step keeps the invariant from every state in which the call is
+//! allowed. Turns speak of worlds and of the model alone, never of seats, logs or tables.
 //!
 //! Read `specs/Seating`, `specs/History` and `specs/Rule` first, then `specs/Steps`, and `words` for the steps.
 #![tactic(auto)]

@@ -1,10 +1,9 @@
 //! Steps of a pass and a root, which come to one seat for one access; the step of a root; and what two passes tell.
 ghost use Rattle.std.specs.Prelude.{◌≡◌, ◌≢◌, ℕ, ◌+◌, ◌^◌, ◌%◌, ◌<◌, ◌⊎◌, [], ◌∷◌, drop, bit_and};
 ghost use Rattle.lot_rights.specs.Layout.{word_at, letter_at};
-ghost use Rattle.lot_rights.specs.declared.views.PassRight.{PassRight};
-ghost use Rattle.lot_rights.specs.declared.views.RootRight.{RootRight};
 ghost use Rattle.lot_rights.specs.declared.views.Right.TheVariants.{Pass, Root};
-ghost use Rattle.lot_rights.specs.Shown.{the_pass, the_root};
+ghost use Rattle.lot_rights.specs.Shown.{PassShown, RootShown, right_of_pass, right_of_root, the_pass, the_root};
+ghost use Rattle.lot_rights.specs.Shown.{pass_at_table, root_at_table};
 ghost use Rattle.lot_rights.specs.Steps.{AllowsBoth, AllowsRoot, TellsOfTwo};
 
 use crate::kind::{Kind, RightsSeat};
@@ -20,11 +19,11 @@ impl<K: Kind> WordsOf<K> {
     fn joined(&self, pass: PassOf<K>, root: RootOf<K>) -> RightsSeat<K>
         requires table { (pass.table ≡ self.now.table) × (root.table ≡ self.now.table) }
         ensures table { result.table_id ≡ self.now.table }
-        ensures rights { result.me ≡ (Pass pass.pass ∷ Root root.root ∷ [], []) }
-        ensures near { (letter_at pass.pass.thread < result.table_id.words)
-            × (word_at root.root.key < result.table_id.words) }
+        ensures rights { result.me ≡ (Pass (right_of_pass pass) ∷ Root (right_of_root root) ∷ [], []) }
+        ensures near { (letter_at pass.thread < result.table_id.words)
+            × (word_at root.key < result.table_id.words) }
         ensures small { result.table_id.words < 2 ^ 64 }
-        ensures letters { (u : ℕ) → K.names root.root.own u → letter_at u < result.table_id.words }
+        ensures letters { (u : ℕ) → K.names root.own u → letter_at u < result.table_id.words }
     {
         let shared = &self.table.shared;
         let PassOf {
@@ -49,8 +48,8 @@ impl<K: Kind> WordsOf<K> {
         requires small { seat.table_id.words < 2 ^ 64 }
         requires letters { (u : ℕ) → K.names (the_root K.no_root (drop 1 seat.me.0)).own u
             → letter_at u < seat.table_id.words }
-        ensures pass { (result.0.table ≡ seat.table_id) × (result.0.pass ≡ the_pass K.no_pass seat.me.0) }
-        ensures root { (result.1.table ≡ seat.table_id) × (result.1.root ≡ the_root K.no_root (drop 1 seat.me.0)) }
+        ensures pass { result.0 ≡ pass_at_table seat.table_id (the_pass K.no_pass seat.me.0) }
+        ensures root { result.1 ≡ root_at_table seat.table_id (the_root K.no_root (drop 1 seat.me.0)) }
     {
         let shared = &self.table.shared;
         let other = shared.split_seat::<FirstAndRest>(&mut seat);
@@ -67,13 +66,14 @@ impl<K: Kind> WordsOf<K> {
         _about: A,
     ) -> (PassOf<K>, RootOf<K>, u64)
         requires table { (pass.table ≡ self.now.table) × (root.table ≡ self.now.table) }
+        requires named { N.table ≡ pass.table }
         requires word { word < self.now.table.words }
-        requires allows { AllowsBoth (K.meaning self.now.key) word (λ n. n) pass.pass root.root N.then }
-        requires names { (n : ℕ) (p : PassRight K.Pass) (q : RootRight K.Root) → N.then n p q → (u : ℕ)
-            → K.names q.own u → K.names root.root.own u ⊎ (u ≡ pass.pass.thread) }
+        requires allows { AllowsBoth (K.meaning self.now.key) word (λ n. n) pass root N.then }
+        requires names { (n : ℕ) (p : PassShown K.Pass) (q : RootShown K.Root) → N.then n p q → (u : ℕ)
+            → K.names q.own u → K.names root.own u ⊎ (u ≡ pass.thread) }
         ensures table { (result.0.table ≡ pass.table) × (result.1.table ≡ root.table) }
-        ensures same { (result.0.pass.thread ≡ pass.pass.thread) × (result.1.root.key ≡ root.root.key) }
-        ensures told { N.then result.2 result.0.pass result.1.root }
+        ensures same { (result.0.thread ≡ pass.thread) × (result.1.key ≡ root.key) }
+        ensures told { N.then result.2 result.0 result.1 }
     {
         let thread = pass.thread();
         let key = root.key();
@@ -95,13 +95,14 @@ impl<K: Kind> WordsOf<K> {
         _about: A,
     ) -> (PassOf<K>, RootOf<K>)
         requires table { (pass.table ≡ self.now.table) × (root.table ≡ self.now.table) }
+        requires named { N.table ≡ pass.table }
         requires word { word < self.now.table.words }
-        requires allows { AllowsBoth (K.meaning self.now.key) word (λ _. new) pass.pass root.root (λ _. N.then new) }
-        requires names { (n : ℕ) (p : PassRight K.Pass) (q : RootRight K.Root) → N.then n p q → (u : ℕ)
-            → K.names q.own u → K.names root.root.own u ⊎ (u ≡ pass.pass.thread) }
+        requires allows { AllowsBoth (K.meaning self.now.key) word (λ _. new) pass root (λ _. N.then new) }
+        requires names { (n : ℕ) (p : PassShown K.Pass) (q : RootShown K.Root) → N.then n p q → (u : ℕ)
+            → K.names q.own u → K.names root.own u ⊎ (u ≡ pass.thread) }
         ensures table { (result.0.table ≡ pass.table) × (result.1.table ≡ root.table) }
-        ensures same { (result.0.pass.thread ≡ pass.pass.thread) × (result.1.root.key ≡ root.root.key) }
-        ensures told { N.then new result.0.pass result.1.root }
+        ensures same { (result.0.thread ≡ pass.thread) × (result.1.key ≡ root.key) }
+        ensures told { N.then new result.0 result.1 }
     {
         let thread = pass.thread();
         let key = root.key();
@@ -122,14 +123,15 @@ impl<K: Kind> WordsOf<K> {
         _about: A,
     ) -> (PassOf<K>, RootOf<K>, u64)
         requires table { (pass.table ≡ self.now.table) × (root.table ≡ self.now.table) }
+        requires named { N.table ≡ pass.table }
         requires word { word < self.now.table.words }
         requires allows { AllowsBoth (K.meaning self.now.key) word
-            (λ n. (n + more) % 2 ^ 64) pass.pass root.root N.then }
-        requires names { (n : ℕ) (p : PassRight K.Pass) (q : RootRight K.Root) → N.then n p q → (u : ℕ)
-            → K.names q.own u → K.names root.root.own u ⊎ (u ≡ pass.pass.thread) }
+            (λ n. (n + more) % 2 ^ 64) pass root N.then }
+        requires names { (n : ℕ) (p : PassShown K.Pass) (q : RootShown K.Root) → N.then n p q → (u : ℕ)
+            → K.names q.own u → K.names root.own u ⊎ (u ≡ pass.thread) }
         ensures table { (result.0.table ≡ pass.table) × (result.1.table ≡ root.table) }
-        ensures same { (result.0.pass.thread ≡ pass.pass.thread) × (result.1.root.key ≡ root.root.key) }
-        ensures told { N.then result.2 result.0.pass result.1.root }
+        ensures same { (result.0.thread ≡ pass.thread) × (result.1.key ≡ root.key) }
+        ensures told { N.then result.2 result.0 result.1 }
     {
         let thread = pass.thread();
         let key = root.key();
@@ -151,13 +153,14 @@ impl<K: Kind> WordsOf<K> {
         _about: A,
     ) -> (PassOf<K>, RootOf<K>, u64)
         requires table { (pass.table ≡ self.now.table) × (root.table ≡ self.now.table) }
+        requires named { N.table ≡ pass.table }
         requires word { word < self.now.table.words }
-        requires allows { AllowsBoth (K.meaning self.now.key) word (λ n. bit_and n mask) pass.pass root.root N.then }
-        requires names { (n : ℕ) (p : PassRight K.Pass) (q : RootRight K.Root) → N.then n p q → (u : ℕ)
-            → K.names q.own u → K.names root.root.own u ⊎ (u ≡ pass.pass.thread) }
+        requires allows { AllowsBoth (K.meaning self.now.key) word (λ n. bit_and n mask) pass root N.then }
+        requires names { (n : ℕ) (p : PassShown K.Pass) (q : RootShown K.Root) → N.then n p q → (u : ℕ)
+            → K.names q.own u → K.names root.own u ⊎ (u ≡ pass.thread) }
         ensures table { (result.0.table ≡ pass.table) × (result.1.table ≡ root.table) }
-        ensures same { (result.0.pass.thread ≡ pass.pass.thread) × (result.1.root.key ≡ root.root.key) }
-        ensures told { N.then result.2 result.0.pass result.1.root }
+        ensures same { (result.0.thread ≡ pass.thread) × (result.1.key ≡ root.key) }
+        ensures told { N.then result.2 result.0 result.1 }
     {
         let thread = pass.thread();
         let key = root.key();
@@ -177,13 +180,14 @@ impl<K: Kind> WordsOf<K> {
         _about: A,
     ) -> RootOf<K>
         requires table { root.table ≡ self.now.table }
+        requires named { N.table ≡ root.table }
         requires word { word < self.now.table.words }
-        requires allows { AllowsRoot (K.meaning self.now.key) word (λ _. new) root.root (λ _. N.then new) }
-        requires names { (n : ℕ) (q : RootRight K.Root) → N.then n q → (u : ℕ) → K.names q.own u
-            → K.names root.root.own u }
+        requires allows { AllowsRoot (K.meaning self.now.key) word (λ _. new) root (λ _. N.then new) }
+        requires names { (n : ℕ) (q : RootShown K.Root) → N.then n q → (u : ℕ) → K.names q.own u
+            → K.names root.own u }
         ensures table { result.table ≡ root.table }
-        ensures same { result.root.key ≡ root.root.key }
-        ensures told { N.then new result.root }
+        ensures same { result.key ≡ root.key }
+        ensures told { N.then new result }
     {
         let shared = &self.table.shared;
         let RootOf { mut seat, key } = root;
@@ -199,9 +203,9 @@ impl<K: Kind> WordsOf<K> {
         second: PassOf<K>,
     ) -> (PassOf<K>, PassOf<K>)
         requires table { (first.table ≡ self.now.table) × (second.table ≡ self.now.table) }
-        requires tells { TellsOfTwo (K.meaning self.now.key) first.pass second.pass N.fact }
+        requires tells { TellsOfTwo (K.meaning self.now.key) first second N.fact }
         ensures same { (result.0 ≡ first) × (result.1 ≡ second) }
-        ensures apart { (first.pass.thread ≢ second.pass.thread) × N.fact }
+        ensures apart { (first.thread ≢ second.thread) × N.fact }
     {
         let shared = &self.table.shared;
         let PassOf {

@@ -9,7 +9,7 @@ use crate::layout::{letter_of_thread, word_of_key};
 use crate::named::OfOpening;
 use std::marker::Model;
 
-/// The right to act as one thread. Contracts see it as its table and a `PassView`.
+/// The right to act as one thread. Contracts see it as a `PassShown`.
 ///
 /// It isn't `Drop`: spend it where the table is closed. Each call that takes it gives it back.
 pub struct PassOf<K: Kind> {
@@ -22,11 +22,11 @@ pub struct PassOf<K: Kind> {
 }
 
 impl<K: Kind> Model for PassOf<K> {
-    ghost use Rattle.lot_rights.specs.Shown.{PassShown, the_pass};
+    ghost use Rattle.lot_rights.specs.Shown.{PassShown, pass_at_table, the_pass};
 
     ghost Value = { PassShown K.Pass };
 
-    ghost view = { λ s. record { table = s.seat.table_id; pass = the_pass K.no_pass s.seat.me.0 } };
+    ghost view = { λ s. pass_at_table s.seat.table_id (the_pass K.no_pass s.seat.me.0) };
 }
 
 impl<K: Kind> OfOpening for PassOf<K> {
@@ -38,7 +38,7 @@ impl<K: Kind> OfOpening for PassOf<K> {
 impl<K: Kind> PassOf<K> {
     /// The number of its thread.
     pub fn thread(&self) -> usize
-        ensures is { result ≡ self.now.pass.thread }
+        ensures is { result ≡ self.now.thread }
         ensures near { letter_at result < self.now.table.words }
     {
         self.thread
@@ -47,14 +47,14 @@ impl<K: Kind> PassOf<K> {
     /// The place of its thread's letter.
     #[inline(always)]
     pub fn letter(&self) -> usize
-        ensures is { result ≡ letter_at self.now.pass.thread }
+        ensures is { result ≡ letter_at self.now.thread }
         ensures near { result < self.now.table.words }
     {
         letter_of_thread(self.thread)
     }
 }
 
-/// The right to change what one key's root has. Contracts see it as its table and a `RootView`.
+/// The right to change what one key's root has. Contracts see it as a `RootShown`.
 ///
 /// It lies in the bucket of its key, and is only taken out while that bucket is locked. Spend it where the table is
 /// closed.
@@ -71,11 +71,11 @@ pub struct RootOf<K: Kind> {
 }
 
 impl<K: Kind> Model for RootOf<K> {
-    ghost use Rattle.lot_rights.specs.Shown.{RootShown, the_root};
+    ghost use Rattle.lot_rights.specs.Shown.{RootShown, root_at_table, the_root};
 
     ghost Value = { RootShown K.Root };
 
-    ghost view = { λ s. record { table = s.seat.table_id; root = the_root K.no_root s.seat.me.0 } };
+    ghost view = { λ s. root_at_table s.seat.table_id (the_root K.no_root s.seat.me.0) };
 }
 
 impl<K: Kind> OfOpening for RootOf<K> {
@@ -87,9 +87,9 @@ impl<K: Kind> OfOpening for RootOf<K> {
 impl<K: Kind> RootOf<K> {
     /// The number of its key.
     pub fn key(&self) -> usize
-        ensures is { result ≡ self.now.root.key }
+        ensures is { result ≡ self.now.key }
         ensures near { word_at result < self.now.table.words }
-        ensures letters { (u : ℕ) → K.names self.now.root.own u → letter_at u < self.now.table.words }
+        ensures letters { (u : ℕ) → K.names self.now.own u → letter_at u < self.now.table.words }
     {
         self.key
     }
@@ -97,7 +97,7 @@ impl<K: Kind> RootOf<K> {
     /// The place of its key's word.
     #[inline(always)]
     pub fn word(&self) -> usize
-        ensures is { result ≡ word_at self.now.root.key }
+        ensures is { result ≡ word_at self.now.key }
         ensures near { result < self.now.table.words }
     {
         word_of_key(self.key)
@@ -106,7 +106,7 @@ impl<K: Kind> RootOf<K> {
     /// The place of the letter of a thread that the root names.
     #[inline(always)]
     pub fn letter_of(&self, thread: usize) -> usize
-        requires { K.names self.now.root.own thread }
+        requires { K.names self.now.own thread }
         ensures is { result ≡ letter_at thread }
         ensures near { result < self.now.table.words }
     {

@@ -21,12 +21,12 @@ impl<K: Kind> WordsOf<K> {
     ) -> (PassOf<K>, K::Slot)
         requires table { pass.table ≡ self.now.table }
         requires named { N.slot ≡ slot }
-        requires out { AllowsOut (K.meaning self.now.key) N.slot pass.pass N.mid }
+        requires out { AllowsOut (K.meaning self.now.key) N.slot pass N.mid }
         requires back { (own : K.Pass) (x : K.Slot) → N.mid own x
-            → AllowsBack (K.meaning self.now.key) N.slot pass.pass.thread own new (N.back own) }
+            → AllowsBack (K.meaning self.now.key) N.slot pass.thread own new (N.back own) }
         ensures table { result.0.table ≡ pass.table }
-        ensures same { result.0.pass ≡ record pass.pass { own = result.0.pass.own } }
-        ensures told { (own : K.Pass) × N.mid own result.1 × N.back own result.0.pass.own }
+        ensures same { result.0 ≡ record pass { own = result.0.own } }
+        ensures told { (own : K.Pass) × N.mid own result.1 × N.back own result.0.own }
     {
         let shared = &self.table.shared;
         let PassOf { mut seat, thread } = pass;

@@ -4,40 +4,60 @@ use crate::kind::{Kind, RightsView};
 use atomic_table::{Join, Play, Split};
 use std::marker::{Brand, PhantomData};
 
-/// Of the number found (at a store, the number stored), and the pass after.
+/// Of the number found (at a store, the number stored), and the pass after, which is of this table.
 pub trait TellsPass<P> {
     ghost use Rattle.std.specs.Prelude.{ℕ};
-    ghost use Rattle.lot_rights.specs.declared.views.PassRight.{PassRight};
+    ghost use Rattle.atomic_table.specs.Seated.{TableId};
+    ghost use Rattle.lot_rights.specs.Shown.{PassShown};
 
-    ghost then: { ℕ → PassRight P → Type 0 };
+    ghost table: { TableId };
+
+    ghost then: { ℕ → PassShown P → Type 0 };
 }
 
 impl<P> TellsPass<P> for Brand {
+    ghost use Rattle.lot_rights.specs.Opening.{no_table};
+
+    ghost table = { no_table };
+
     ghost then = { λ n p. Unit {0} };
 }
 
-/// Of the number found, and the pass and the root after.
+/// Of the number found, and the pass and the root after, which are of this table.
 pub trait TellsBoth<P, R> {
     ghost use Rattle.std.specs.Prelude.{ℕ};
-    ghost use Rattle.lot_rights.specs.declared.views.PassRight.{PassRight};
-    ghost use Rattle.lot_rights.specs.declared.views.RootRight.{RootRight};
+    ghost use Rattle.atomic_table.specs.Seated.{TableId};
+    ghost use Rattle.lot_rights.specs.Shown.{PassShown, RootShown};
 
-    ghost then: { ℕ → PassRight P → RootRight R → Type 0 };
+    ghost table: { TableId };
+
+    ghost then: { ℕ → PassShown P → RootShown R → Type 0 };
 }
 
 impl<P, R> TellsBoth<P, R> for Brand {
+    ghost use Rattle.lot_rights.specs.Opening.{no_table};
+
+    ghost table = { no_table };
+
     ghost then = { λ n p q. Unit {0} };
 }
 
-/// Of the number found, and the root after.
+/// Of the number found, and the root after, which is of this table.
 pub trait TellsRoot<R> {
     ghost use Rattle.std.specs.Prelude.{ℕ};
-    ghost use Rattle.lot_rights.specs.declared.views.RootRight.{RootRight};
+    ghost use Rattle.atomic_table.specs.Seated.{TableId};
+    ghost use Rattle.lot_rights.specs.Shown.{RootShown};
 
-    ghost then: { ℕ → RootRight R → Type 0 };
+    ghost table: { TableId };
+
+    ghost then: { ℕ → RootShown R → Type 0 };
 }
 
 impl<R> TellsRoot<R> for Brand {
+    ghost use Rattle.lot_rights.specs.Opening.{no_table};
+
+    ghost table = { no_table };
+
     ghost then = { λ n q. Unit {0} };
 }
 
@@ -78,7 +98,7 @@ impl<K: Kind, N: TellsPass<K::Pass>> Play<K::Slot, RightsView<K>> for PassStep<K
     ghost use Rattle.lot_rights.specs.Shown.{the_pass};
     ghost use Rattle.lot_rights.specs.Steps.{ToldPass};
 
-    ghost then = { λ s me n me'. ToldPass (the_pass K.no_pass me.0) N.then n me' };
+    ghost then = { λ s me n me'. ToldPass N.table (the_pass K.no_pass me.0) N.then n me' };
 }
 
 pub struct BothStep<K, N> {
@@ -90,7 +110,8 @@ impl<K: Kind, N: TellsBoth<K::Pass, K::Root>> Play<K::Slot, RightsView<K>> for B
     ghost use Rattle.lot_rights.specs.Shown.{the_pass, the_root};
     ghost use Rattle.lot_rights.specs.Steps.{ToldBoth};
 
-    ghost then = { λ s me n me'. ToldBoth (the_pass K.no_pass me.0) (the_root K.no_root (drop 1 me.0)) N.then n me' };
+    ghost then = { λ s me n me'. ToldBoth N.table (the_pass K.no_pass me.0)
+        (the_root K.no_root (drop 1 me.0)) N.then n me' };
 }
 
 pub struct RootStep<K, N> {
@@ -101,7 +122,7 @@ impl<K: Kind, N: TellsRoot<K::Root>> Play<K::Slot, RightsView<K>> for RootStep<K
     ghost use Rattle.lot_rights.specs.Shown.{the_root};
     ghost use Rattle.lot_rights.specs.Steps.{ToldRoot};
 
-    ghost then = { λ s me n me'. ToldRoot (the_root K.no_root me.0) N.then n me' };
+    ghost then = { λ s me n me'. ToldRoot N.table (the_root K.no_root me.0) N.then n me' };
 }
 
 pub struct OutStep<K, N> {

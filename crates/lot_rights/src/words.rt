@@ -43,11 +43,12 @@ impl<K: Kind> WordsOf<K> {
         _about: A,
     ) -> (PassOf<K>, u64)
         requires table { pass.table ≡ self.now.table }
+        requires named { N.table ≡ pass.table }
         requires word { word < self.now.table.words }
-        requires allows { AllowsPass (K.meaning self.now.key) word (λ n. n) pass.pass N.then }
+        requires allows { AllowsPass (K.meaning self.now.key) word (λ n. n) pass N.then }
         ensures table { result.0.table ≡ pass.table }
-        ensures thread { result.0.pass.thread ≡ pass.pass.thread }
-        ensures told { N.then result.1 result.0.pass }
+        ensures thread { result.0.thread ≡ pass.thread }
+        ensures told { N.then result.1 result.0 }
     {
         let shared = &self.table.shared;
         let PassOf { mut seat, thread } = pass;
@@ -65,11 +66,12 @@ impl<K: Kind> WordsOf<K> {
         _about: A,
     ) -> PassOf<K>
         requires table { pass.table ≡ self.now.table }
+        requires named { N.table ≡ pass.table }
         requires word { word < self.now.table.words }
-        requires allows { AllowsPass (K.meaning self.now.key) word (λ _. new) pass.pass (λ _. N.then new) }
+        requires allows { AllowsPass (K.meaning self.now.key) word (λ _. new) pass (λ _. N.then new) }
         ensures table { result.table ≡ pass.table }
-        ensures thread { result.pass.thread ≡ pass.pass.thread }
-        ensures told { N.then new result.pass }
+        ensures thread { result.thread ≡ pass.thread }
+        ensures told { N.then new result }
     {
         let shared = &self.table.shared;
         let PassOf { mut seat, thread } = pass;
@@ -87,11 +89,12 @@ impl<K: Kind> WordsOf<K> {
         _about: A,
     ) -> (PassOf<K>, u64)
         requires table { pass.table ≡ self.now.table }
+        requires named { N.table ≡ pass.table }
         requires word { word < self.now.table.words }
-        requires allows { AllowsPass (K.meaning self.now.key) word (λ _. new) pass.pass N.then }
+        requires allows { AllowsPass (K.meaning self.now.key) word (λ _. new) pass N.then }
         ensures table { result.0.table ≡ pass.table }
-        ensures thread { result.0.pass.thread ≡ pass.pass.thread }
-        ensures told { N.then result.1 result.0.pass }
+        ensures thread { result.0.thread ≡ pass.thread }
+        ensures told { N.then result.1 result.0 }
     {
         let shared = &self.table.shared;
         let PassOf { mut seat, thread } = pass;
@@ -109,11 +112,12 @@ impl<K: Kind> WordsOf<K> {
         _about: A,
     ) -> (PassOf<K>, u64)
         requires table { pass.table ≡ self.now.table }
+        requires named { N.table ≡ pass.table }
         requires word { word < self.now.table.words }
-        requires allows { AllowsPass (K.meaning self.now.key) word (λ n. bit_or n bits) pass.pass N.then }
+        requires allows { AllowsPass (K.meaning self.now.key) word (λ n. bit_or n bits) pass N.then }
         ensures table { result.0.table ≡ pass.table }
-        ensures thread { result.0.pass.thread ≡ pass.pass.thread }
-        ensures told { N.then result.1 result.0.pass }
+        ensures thread { result.0.thread ≡ pass.thread }
+        ensures told { N.then result.1 result.0 }
     {
         let shared = &self.table.shared;
         let PassOf { mut seat, thread } = pass;
@@ -132,11 +136,12 @@ impl<K: Kind> WordsOf<K> {
         _about: A,
     ) -> (PassOf<K>, u64)
         requires table { pass.table ≡ self.now.table }
+        requires named { N.table ≡ pass.table }
         requires word { word < self.now.table.words }
-        requires allows { AllowsPass (K.meaning self.now.key) word (λ n. either (n == old) new n) pass.pass N.then }
+        requires allows { AllowsPass (K.meaning self.now.key) word (λ n. either (n == old) new n) pass N.then }
         ensures table { result.0.table ≡ pass.table }
-        ensures thread { result.0.pass.thread ≡ pass.pass.thread }
-        ensures told { N.then result.1 result.0.pass }
+        ensures thread { result.0.thread ≡ pass.thread }
+        ensures told { N.then result.1 result.0 }
     {
         let shared = &self.table.shared;
         let PassOf { mut seat, thread } = pass;

@@ -7,9 +7,7 @@ use Rattle.lot_events.specs.declared.events.Event.TheVariants.{Try, Take, Mark, 
 use Rattle.lot_events.specs.declared.events.Seen.TheVariants.{Bool as Saw, Done, Sleeper}
 use Rattle.lot_rights.specs.declared.views.Access.{Access}
 use Rattle.lot_rights.specs.declared.views.Access.TheVariants.{Makes, Finds}
-use Rattle.lot_rights.specs.declared.views.PassRight.{PassRight}
-use Rattle.lot_rights.specs.declared.views.RootRight.{RootRight}
-use Rattle.lot_rights.specs.Shown.{RootShown}
+use Rattle.lot_rights.specs.Shown.{RootShown, PassShown}
 use Rattle.lot_park.specs.Parking.{Queues, debt}
 use Rattle.lot_words.specs.declared.views.LockRootView.{LockRootView}
 use Rattle.lot_words.specs.CallersRule.{CallersRule}
@@ -75,62 +73,59 @@ more_told (Sem q) more kind says = absurd kind
 
 -- roots that were taken out of their names, and named again
 pub takes_first : (r before after s : RootShown LotRootView) (told : Option ℕ) (fair : Bool) → before ≡ r → s ≡ after
-    → IsLockRoot before.root.own
-    → owes_in r.root.own ≡ [] → first_of (line_in r.root.own) ≡ told
-    → RootIs lock before.root (passed_root (as_lock before.root.own) fair (as_lock before.root.own).line) after.root
+    → IsLockRoot before.own
+    → owes_in r.own ≡ [] → first_of (line_in r.own) ≡ told
+    → RootIs lock before (passed_root (as_lock before.own) fair (as_lock before.own).line) after
     → TakesFirst root_view r told (token_of fair) s
 takes_first r before after s told fair is_r is_s kind clear first_is is =
-    let seen = passed_seen before.root.own after.root.own fair kind
-    (ap (λ (z : RootShown LotRootView). owes_in z.root.own) is_r ∙ clear) (ap (λ (z : RootRight LotRootView). z.own) is)
+    let seen = passed_seen before.own after.own fair kind
+    (ap (λ (z : RootShown LotRootView). owes_in z.own) is_r ∙ clear) (ap (λ (z : RootShown LotRootView). z.own) is)
     in
     subst (λ (z : RootShown LotRootView). TakesFirst root_view z told (token_of fair) s) is_r
     (subst (λ (z : RootShown LotRootView). TakesFirst root_view before told (token_of fair) z) (sym is_s)
     (record {
-      named = ap (λ (z : RootRight LotRootView). z.key) is;
+      named = ap (λ (z : RootShown LotRootView). z.key) is;
       lined = seen.0;
       owing = seen.1
           ∙ ap (λ (u : Option ℕ). debt u (token_of fair))
-          (ap (λ (z : RootShown LotRootView). first_of (line_in z.root.own)) is_r ∙ first_is);
+          (ap (λ (z : RootShown LotRootView). first_of (line_in z.own)) is_r ∙ first_is);
     }))
 
 module _ {V : Type 0} where
   -- ---- the line
   pub queues : (r before after s : RootShown LotRootView) (p q : LotStanding V) (does : Bool) → before ≡ r → s ≡ after
-      → IsLockRoot before.root.own
-      → after.table ≡ before.table → RootIs lock before.root (parked_root (as_lock before.root.own) p.thread does) after.root
-      → q.thread ≡ p.thread
+      → IsLockRoot before.own
+      → RootIs lock before (parked_root (as_lock before.own) p.thread does) after → q.thread ≡ p.thread
       → Queues root_view (λ (z : LotStanding V). z.thread) p r does q s
-  queues r before after s p q does is_r is_s kind table is same =
+  queues r before after s p q does is_r is_s kind is same =
       subst (λ (z : RootShown LotRootView). Queues root_view (λ (y : LotStanding V). y.thread) p z does q s) is_r
       (subst (λ (z : RootShown LotRootView). Queues root_view (λ (y : LotStanding V). y.thread) p before does q z) (sym is_s) (record {
         caller = same;
-        named = ap (λ (z : RootRight LotRootView). z.key) is;
+        named = ap (λ (z : RootShown LotRootView). z.key) is;
         owing = told.0;
         lined = lined does told.1 is;
       }))
     where
-      told : (owes_in after.root.own ≡ owes_in before.root.own)
-          × MatchBool does (line_in after.root.own ≡ line_in before.root.own ++ p.thread ∷ []) (after.root.own ≡ before.root.own)
-      told = parked_seen before.root.own after.root.own p.thread does kind (ap (λ (z : RootRight LotRootView). z.own) is)
+      told : (owes_in after.own ≡ owes_in before.own)
+          × MatchBool does (line_in after.own ≡ line_in before.own ++ p.thread ∷ []) (after.own ≡ before.own)
+      told = parked_seen before.own after.own p.thread does kind (ap (λ (z : RootShown LotRootView). z.own) is)
 
       lined : (b : Bool)
-          → MatchBool b (line_in after.root.own ≡ line_in before.root.own ++ p.thread ∷ []) (after.root.own ≡ before.root.own)
-          → RootIs lock before.root (parked_root (as_lock before.root.own) p.thread b) after.root
+          → MatchBool b (line_in after.own ≡ line_in before.own ++ p.thread ∷ []) (after.own ≡ before.own)
+          → RootIs lock before (parked_root (as_lock before.own) p.thread b) after
           → MatchBool b ((root_view after).line ≡ (root_view before).line ++ p.thread ∷ []) (after ≡ before)
       lined true e is_root = e
       lined false e is_root =
-          let root : after.root ≡ before.root = is_root
-          ∙ ap (λ (o : LotRootView). record before.root { own = o }) (sym (ap (λ (z : RootRight LotRootView). z.own) is_root) ∙ e) in
-          λ i. record { table = table i; root = root i }
+          is_root ∙ ap (λ (o : LotRootView). record before { own = o }) (sym (ap (λ (z : RootShown LotRootView). z.own) is_root) ∙ e)
 
-  pub marked : (p : PassRight (LotPassView V)) (key : ℕ) (does : Bool) (q : PassRight (LotPassView V))
+  pub marked : (p : PassShown (LotPassView V)) (key : ℕ) (does : Bool) (q : PassShown (LotPassView V))
       → MatchBool does (NotesIn lock p p.own.locks (Makes (Mark p.thread key) Done) q) ((word : ℕ) × (word ≢ 1) × FindsOf p key word q)
       → MatchBool does (standing q ≡ adding (standing p) (Makes (Mark p.thread key) Done ∷ []))
       ((word : ℕ) × (word ≢ 1) × (standing q ≡ adding (standing p) (Finds p.thread key word ∷ [])))
   marked p key true q note = noted p p.own (Makes (Mark p.thread key) Done) q note
   marked p key false q (word, other, note) = (word, other, noted p p.own (Finds p.thread key word) q note)
 
-  pub parked : (p : PassRight (LotPassView V)) (key : ℕ) (does : Bool) (q : PassRight (LotPassView V))
+  pub parked : (p : PassShown (LotPassView V)) (key : ℕ) (does : Bool) (q : PassShown (LotPassView V))
       → NotesIn lock p (parked_pass p.own.locks does) (Makes (Park p.thread key) (Saw does)) q
       → MatchBool does (standing q ≡ adding (dozing (standing p)) (Makes (Park p.thread key) (Saw true) ∷ []))
       (standing q ≡ adding (standing p) (Makes (Park p.thread key) (Saw false) ∷ []))
@@ -139,7 +134,7 @@ module _ {V : Type 0} where
 
   -- ---- releases
   -- by the one exchange
-  pub freed : (p : PassRight (LotPassView V)) (key : ℕ) (does : Bool) (q : PassRight (LotPassView V)) → ((y : V) × IsIn p.own.locks key y)
+  pub freed : (p : PassShown (LotPassView V)) (key : ℕ) (does : Bool) (q : PassShown (LotPassView V)) → ((y : V) × IsIn p.own.locks key y)
       → MatchBool does
       ((y : V) → IsIn p.own.locks key y → NotesIn lock p (letting_go p.own.locks key y) (Makes (Free p.thread key) (Saw true)) q)
       (NotesIn lock p (lock_finding_parked p.own.locks key) (Makes (Free p.thread key) (Saw false)) q)
@@ -152,7 +147,7 @@ module _ {V : Type 0} where
       noted p (record p.own { locks = lock_finding_parked p.own.locks key }) (Makes (Free p.thread key) (Saw false)) q note
 
   -- while the bucket is locked
-  pub passed : (p : PassRight (LotPassView V)) (key : ℕ) (first : Option ℕ) (fair more : Bool) (q : PassRight (LotPassView V))
+  pub passed : (p : PassShown (LotPassView V)) (key : ℕ) (first : Option ℕ) (fair more : Bool) (q : PassShown (LotPassView V))
       → ((y : V) × IsIn p.own.locks key y)
       → ((y : V) → IsIn p.own.locks key y
       → NotesIn lock p (letting_go p.own.locks key y) (Makes (Passes p.thread key fair more) (Sleeper first)) q)
@@ -164,7 +159,7 @@ module _ {V : Type 0} where
 module _ {V Part : Type 0} (rule : CallersRule V Part) where
   -- ---- tries
   -- by an access after which the thread stands at no condition
-  gets : (p : PassRight (LotPassView V)) (key : ℕ) (x : V) (a : Access) (s : Stand) (q : PassRight (LotPassView V)) → s ≡ Idle
+  gets : (p : PassShown (LotPassView V)) (key : ℕ) (x : V) (a : Access) (s : Stand) (q : PassShown (LotPassView V)) → s ≡ Idle
       → standing q ≡ adding (record (standing p) { own = record p.own { locks = lock_owning p.own.locks key x; stand = s } }) (a ∷ [])
       → standing q ≡ adding (owning (standing p) key x) (a ∷ [])
   gets p key x a s q idle is =
@@ -172,7 +167,7 @@ module _ {V Part : Type 0} (rule : CallersRule V Part) where
       ≡ adding (record (standing p) { own = record p.own { locks = lock_owning p.own.locks key x; stand = z } }) (a ∷ []))
       idle is
 
-  pub took_free : (p : PassRight (LotPassView V)) (key : ℕ) (does : Bool) (q : PassRight (LotPassView V))
+  pub took_free : (p : PassShown (LotPassView V)) (key : ℕ) (does : Bool) (q : PassShown (LotPassView V))
       → MatchBool does (GetsBy rule p key (Makes (Take p.thread key) (Saw true)) q) ((word : ℕ) × (word ≢ 0) × FindsOf p key word q)
       → MatchBool does (GetsLock rule (standing p) key (Makes (Take p.thread key) (Saw true)) (standing q))
       ((word : ℕ) × (word ≢ 0) × (standing q ≡ adding (standing p) (Finds p.thread key word ∷ [])))
@@ -184,7 +179,7 @@ module _ {V Part : Type 0} (rule : CallersRule V Part) where
   )
   took_free p key false q (word, other, note) = (word, other, noted p p.own (Finds p.thread key word) q note)
 
-  pub took : (p : PassRight (LotPassView V)) (key : ℕ) (does : Bool) (q : PassRight (LotPassView V))
+  pub took : (p : PassShown (LotPassView V)) (key : ℕ) (does : Bool) (q : PassShown (LotPassView V))
       → MatchBool does (GetsBy rule p key (Makes (Take p.thread key) (Saw true)) q)
       (NotesIn lock p (lock_wanting p.own.locks key) (Makes (Take p.thread key) (Saw false)) q)
       → MatchBool does (GetsLock rule (standing p) key (Makes (Take p.thread key) (Saw true)) (standing q))
@@ -198,7 +193,7 @@ module _ {V Part : Type 0} (rule : CallersRule V Part) where
   took p key false q note =
       noted p (record p.own { locks = lock_wanting p.own.locks key; stand = Idle }) (Makes (Take p.thread key) (Saw false)) q note
 
-  pub tried : (p : PassRight (LotPassView V)) (key : ℕ) (does : Bool) (q : PassRight (LotPassView V)) → p.own.stand ≡ Idle
+  pub tried : (p : PassShown (LotPassView V)) (key : ℕ) (does : Bool) (q : PassShown (LotPassView V)) → p.own.stand ≡ Idle
       → MatchBool does (GetsBy rule p key (Makes (Try p.thread key) (Saw true)) q)
       (NotesIn lock p p.own.locks (Makes (Try p.thread key) (Saw false)) q)
       → MatchBool does (GetsLock rule (standing p) key (Makes (Try p.thread key) (Saw true)) (standing q))

@@ -2,9 +2,9 @@
 use Rattle.std.proofs.Common.{◌≡◌, ℕ, ◌<◌, ◌≤◌, zero, suc, ◌==◌, ◌&&◌, cond, Bool, true, false, List, [], ◌∷◌, Option, Some, None, refl}
 use Rattle.std.proofs.Common.{sym, ap, subst, ◌∙◌, arith}
 use Rattle.std.specs.List.{Contains}
+use Rattle.lot_rights.specs.Shown.{RootShown}
 use Rattle.lot_rights.specs.Lines.{without}
 use Rattle.lot_rights.specs.declared.views.Access.{Access}
-use Rattle.lot_rights.specs.declared.views.RootRight.{RootRight}
 use Rattle.lot_park.specs.Parking.{debt, debts, without_debt}
 use Rattle.lot_park.proofs.Debts.{owed_none, owed_alone, without_first_debt}
 use Rattle.lot_words.specs.Calls.{paid_root as lock_paid}
@@ -95,6 +95,6 @@ posted_sem c thread token (Sem q) kind has =
     ∙ (ap (λ k. without_debt thread k ((thread, 0) ∷ [])) one.1 ∙ without_first_debt thread 0 []))
 
 -- ---- a root that made an entry is seen by what it knows then
-pub seen_after : (j : Which) (p q : RootRight LotRootView) (own : RootIn j) (a : Access) → RootNotesIn j p own a q
+pub seen_after : (j : Which) (p q : RootShown LotRootView) (own : RootIn j) (a : Access) → RootNotesIn j p own a q
     → (key_line q.key q.own).owes ≡ (key_line p.key (root_from j own)).owes
-seen_after j p q own a (k, is) = ap (λ (r : RootRight LotRootView). (key_line r.key r.own).owes) is
+seen_after j p q own a (k, is) = ap (λ (r : RootShown LotRootView). (key_line r.key r.own).owes) is

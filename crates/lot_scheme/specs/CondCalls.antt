@@ -9,5 +9,5 @@ use Rattle.lot_scheme.specs.Roots.{with_root}
 
 -- the root was that of a condition, of which this is known now
 pub record IsCondNow (root : RootShown LotRootView) (own : CondRootView) (now : RootShown LotRootView) : Type 0 where
-  pub kind : IsCondRoot root.root.own
+  pub kind : IsCondRoot root.own
   pub is : now ≡ with_root root (Cond own)

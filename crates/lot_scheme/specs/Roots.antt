@@ -29,7 +29,7 @@ abbrev pub key_line : ℕ → LotRootView → KeyLine
 key_line c own = record { key = c; line = line_in own; owes = owes_in own }
 
 abbrev pub root_view : RootShown LotRootView → KeyLine
-root_view r = key_line r.root.key r.root.own
+root_view r = key_line r.key r.own
 
 -- the first of the line, if one is there, was taken from it, and is owed a letter with this token
 pub record TakesFirst {R : Type 0} (view : R → KeyLine) (root : R) (first : Option ℕ) (token : ℕ) (now : R) : Type 0 where
@@ -39,7 +39,7 @@ pub record TakesFirst {R : Type 0} (view : R → KeyLine) (root : R) (first : Op
 
 -- a root, of which this is known now
 abbrev pub with_root : RootShown LotRootView → LotRootView → RootShown LotRootView
-with_root r own = record r { root = record r.root { own = own } }
+with_root r own = record r { own = own }
 
 -- ---- the numbers of the keys
 -- those below `locks` are locks, those from there on and below `first_sem` are conditions, and all others are semaphores

@@ -4,7 +4,6 @@ use Rattle.lot_rights.specs.Shown.{PassShown}
 use Rattle.lot_rights.specs.declared.views.Access.{Access}
 use Rattle.lot_rights.specs.declared.views.Access.TheVariants.{Collects}
 use Rattle.lot_rights.specs.declared.views.Entry.{Entry}
-use Rattle.lot_rights.specs.declared.views.PassRight.{PassRight}
 use Rattle.lot_words.specs.declared.views.Place.{Place}
 use Rattle.lot_words.specs.CallersRule.{CallersRule}
 use Rattle.lot_words.specs.Values.{FoundOk}
@@ -26,11 +25,8 @@ pub record LotStanding (V : Type 0) : Type 0 where
   pub did : List Access
 
 module _ {V : Type 0} where
-  abbrev pub standing : PassRight (LotPassView V) → LotStanding V
+  abbrev pub standing : PassShown (LotPassView V) → LotStanding V
   standing p = record { thread = p.thread; own = p.own; did = map (λ (e : Entry). e.access) p.made }
-
-  abbrev pub standing_shown : PassShown (LotPassView V) → LotStanding V
-  standing_shown p = standing p.pass
 
   -- the pass, after these accesses more
   abbrev pub adding : LotStanding V → List Access → LotStanding V

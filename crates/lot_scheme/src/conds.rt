@@ -28,12 +28,12 @@ impl<V: Keeps, N: LotName<V>> LotScheme<V, N> {
         root: NamedRoot<V, N>,
         lock: usize,
     ) -> (NamedPass<V, N>, NamedRoot<V, N>)
-        requires key { (N.locks ≤ root.root.key) × (root.root.key < N.first_sem) }
+        requires key { (N.locks ≤ root.key) × (root.key < N.first_sem) }
         requires idle { IsIdle pass.own }
         requires lock { (lock < N.locks) × Holds pass.own.locks lock }
-        ensures pass { result.0 ≡ adding (enlisted pass root.root.key lock)
-            (Makes (Enlist pass.thread root.root.key lock) Done ∷ []) }
-        ensures root { IsCondNow root (enlisted_root (as_cond root.root.own) pass.thread) result.1 }
+        ensures pass { result.0 ≡ adding (enlisted pass root.key lock)
+            (Makes (Enlist pass.thread root.key lock) Done ∷ []) }
+        ensures root { IsCondNow root (enlisted_root (as_cond root.own) pass.thread) result.1 }
     {
         let (pass, root) = self
             .words()
@@ -78,14 +78,14 @@ impl<V: Keeps, N: LotName<V>> LotScheme<V, N> {
         taken: usize,
         more: bool,
     ) -> (NamedPass<V, N>, NamedRoot<V, N>)
-        requires key { (N.locks ≤ root.root.key) × (root.root.key < N.first_sem) }
+        requires key { (N.locks ≤ root.key) × (root.key < N.first_sem) }
         requires idle { IsIdle pass.own }
         requires count { IsCallCount count }
         requires taken { dequeued_count count (root_view root).line ≡ taken }
         requires more { SaysMoreBehind count (root_view root).line more }
-        ensures pass { result.0 ≡ adding (called_more pass root.root.key taken)
-            (Makes (Call pass.thread root.root.key count more) (Count taken) ∷ []) }
-        ensures root { IsCondNow root (called_root (as_cond root.root.own) count) result.1 }
+        ensures pass { result.0 ≡ adding (called_more pass root.key taken)
+            (Makes (Call pass.thread root.key count more) (Count taken) ∷ []) }
+        ensures root { IsCondNow root (called_root (as_cond root.own) count) result.1 }
     {
         let (pass, root) = self
             .words()
@@ -102,12 +102,12 @@ impl<V: Keeps, N: LotName<V>> LotScheme<V, N> {
         root: NamedRoot<V, N>,
         taken: usize,
     ) -> (NamedPass<V, N>, NamedRoot<V, N>)
-        requires key { (N.locks ≤ root.root.key) × (root.root.key < N.first_sem) }
-        requires lowered { MaySweep pass.own root.root.key }
+        requires key { (N.locks ≤ root.key) × (root.key < N.first_sem) }
+        requires lowered { MaySweep pass.own root.key }
         requires taken { length (root_view root).line ≡ taken }
-        ensures pass { result.0 ≡ adding (swept pass root.root.key taken)
-            (Makes (Sweep pass.thread root.root.key) (Count taken) ∷ []) }
-        ensures root { IsCondNow root (swept_root (as_cond root.root.own)) result.1 }
+        ensures pass { result.0 ≡ adding (swept pass root.key taken)
+            (Makes (Sweep pass.thread root.key) (Count taken) ∷ []) }
+        ensures root { IsCondNow root (swept_root (as_cond root.own)) result.1 }
     {
         let (pass, root) = self
             .words()

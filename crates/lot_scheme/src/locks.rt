@@ -92,11 +92,11 @@ impl<V: Keeps, N: LotName<V>> LotScheme<V, N> {
         pass: NamedPass<V, N>,
         root: NamedRoot<V, N>,
     ) -> (NamedPass<V, N>, NamedRoot<V, N>, bool)
-        requires key { root.root.key < N.locks }
-        requires may { MayPark pass.own root.root.key }
+        requires key { root.key < N.locks }
+        requires may { MayPark pass.own root.key }
         ensures pass { MatchBool result.2
-            (result.0 ≡ adding (dozing pass) (Makes (Park pass.thread root.root.key) (Saw true) ∷ []))
-            (result.0 ≡ adding pass (Makes (Park pass.thread root.root.key) (Saw false) ∷ [])) }
+            (result.0 ≡ adding (dozing pass) (Makes (Park pass.thread root.key) (Saw true) ∷ []))
+            (result.0 ≡ adding pass (Makes (Park pass.thread root.key) (Saw false) ∷ [])) }
         ensures root { Queues root_view (λ (p : LotStanding V). p.thread) pass root result.2 result.0 result.1 }
     {
         let (pass, root, queued) = self.words().park(pass.into_pass(), root.into_root());
@@ -131,15 +131,15 @@ impl<V: Keeps, N: LotName<V>> LotScheme<V, N> {
         fair: bool,
         more: bool,
     ) -> (NamedPass<V, N>, NamedRoot<V, N>)
-        requires key { root.root.key < N.locks }
-        requires may { MayLetGo pass.own root.root.key }
-        requires holds { HoldsParked pass.own.locks root.root.key }
-        requires lies { (y : V) × IsIn pass.own.locks root.root.key y }
+        requires key { root.key < N.locks }
+        requires may { MayLetGo pass.own root.key }
+        requires holds { HoldsParked pass.own.locks root.key }
+        requires lies { (y : V) × IsIn pass.own.locks root.key y }
         requires first { (first_of (root_view root).line ≡ first) × ((root_view root).owes ≡ []) }
         requires more { fair ≡ false → SaysMore (root_view root).line more }
         requires fair { first ≡ None → fair ≡ false }
-        ensures pass { FreesLock pass root.root.key
-            (Makes (Pass pass.thread root.root.key fair more) (Sleeper first)) result.0 }
+        ensures pass { FreesLock pass root.key
+            (Makes (Pass pass.thread root.key fair more) (Sleeper first)) result.0 }
         ensures root { TakesFirst root_view root first (token_of fair) result.1 }
     {
         let (pass, root) = self

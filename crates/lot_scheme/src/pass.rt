@@ -13,20 +13,20 @@ pub struct NamedPass<V: Keeps, N: LotName<V>> {
 }
 
 impl<V: Keeps, N: LotName<V>> Model for NamedPass<V, N> {
-    ghost use Rattle.lot_scheme.specs.Standing.{LotStanding, standing_shown};
+    ghost use Rattle.lot_scheme.specs.Standing.{LotStanding, standing};
 
     ghost Value = { LotStanding V };
 
-    ghost view = { λ s. standing_shown s.named };
+    ghost view = { λ s. standing s.named };
 }
 
 impl<V: Keeps, N: LotName<V>> NamedPass<V, N> {
-    ghost use Rattle.lot_scheme.specs.Standing.{standing_shown};
+    ghost use Rattle.lot_scheme.specs.Standing.{standing};
 
     #[inline(always)]
     pub fn new(pass: LotPass<V>) -> NamedPass<V, N>
         requires { pass.table ≡ N.opening.locks }
-        ensures { result ≡ standing_shown pass }
+        ensures { result ≡ standing pass }
     {
         NamedPass {
             named: Named::new(pass),
@@ -35,7 +35,7 @@ impl<V: Keeps, N: LotName<V>> NamedPass<V, N> {
 
     #[inline(always)]
     pub fn into_pass(self) -> LotPass<V>
-        ensures same { self ≡ standing_shown result }
+        ensures same { self ≡ standing result }
         ensures named { result.table ≡ N.opening.locks }
     {
         let NamedPass { named } = self;

@@ -24,7 +24,7 @@ impl<V: Keeps, N: LotName<V>> Model for NamedRoot<V, N> {
     ghost view = { λ s. s.named };
 
     ghost invariant = { λ s. (s.named.table ≡ N.opening.locks)
-        × IsInItsKind N.locks N.first_sem s.named.root.key s.named.root.own };
+        × IsInItsKind N.locks N.first_sem s.named.key s.named.own };
 }
 
 impl<V: Keeps + Send, N: LotName<V> + Send> Root for NamedRoot<V, N> {
@@ -36,7 +36,7 @@ impl<V: Keeps + Send, N: LotName<V> + Send> Root for NamedRoot<V, N> {
 impl<V: Keeps, N: LotName<V>> NamedRoot<V, N> {
     pub fn new(root: LotRoot<V>) -> NamedRoot<V, N>
         requires named { root.table ≡ N.opening.locks }
-        requires kind { IsInItsKind N.locks N.first_sem root.root.key root.root.own }
+        requires kind { IsInItsKind N.locks N.first_sem root.key root.own }
         ensures { result ≡ root }
     {
         NamedRoot {
@@ -47,7 +47,7 @@ impl<V: Keeps, N: LotName<V>> NamedRoot<V, N> {
     pub fn into_root(self) -> LotRoot<V>
         ensures same { result ≡ self }
         ensures named { result.table ≡ N.opening.locks }
-        ensures kind { IsInItsKind N.locks N.first_sem result.root.key result.root.own }
+        ensures kind { IsInItsKind N.locks N.first_sem result.key result.own }
     {
         let NamedRoot { named } = self;
         named.into_inner()

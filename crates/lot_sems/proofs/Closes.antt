@@ -17,29 +17,29 @@ module _ (size : Numbers) (passes : List (PassShown SemPassView)) (roots : List 
     (xs : List (Unit {0})) where
   -- when all passes came back, the permits that are left and those that are out with them are all there are
   module _ (left : Left (meaning size) passes roots ws xs)
-      (all : (t : ℕ) → t < size.threads → Any (λ (p : PassShown SemPassView). p.pass.thread ≡ t) passes) where
+      (all : (t : ℕ) → t < size.threads → Any (λ (p : PassShown SemPassView). p.thread ≡ t) passes) where
     abbrev w : SemWorld
     w = left.world
 
     abbrev Fits : PassShown SemPassView → Type 0
-    Fits p = PassKnows size w p.pass.thread p.pass.own
+    Fits p = PassKnows size w p.thread p.own
 
     pub all_out : (k : ℕ) → w.part.sems.left k + out_with passes k ≡ permits_of size k
     all_out k =
-        let f : PassShown SemPassView → ℕ = (λ p. get_or p.pass.own.out k 0) in
+        let f : PassShown SemPassView → ℕ = (λ p. get_or p.own.out k 0) in
         let g : ℕ → ℕ = w.part.sems.out k in
         let sum : sum_by f passes ≡ total size.threads g = sum_is SemRootView size.threads g f passes
-        (All-weaker Fits (λ (p : PassShown SemPassView). (p.pass.thread < size.threads) × (f p ≡ g p.pass.thread))
+        (All-weaker Fits (λ (p : PassShown SemPassView). (p.thread < size.threads) × (f p ≡ g p.thread))
         (λ p fit. (fit.near, sym (fit.out k))) passes left.passes_fit)
         (held_once SemRootView passes roots left.once) all in
         omega (arith, sum, left.fits.sound.permits_conserved k)
 
   pub told_to : Ended (meaning size) passes roots ws xs
-      → ((t : ℕ) → t < size.threads → Any (λ (p : PassShown SemPassView). p.pass.thread ≡ t) passes) → IsToldTo size passes roots
+      → ((t : ℕ) → t < size.threads → Any (λ (p : PassShown SemPassView). p.thread ≡ t) passes) → IsToldTo size passes roots
   told_to ended all = record {
     recounted = ended_recounted (meaning size) passes roots ws xs ended;
-    lines = All-weaker (λ (q : RootShown SemRootView). RootKnows size ended.left.world q.root.key q.root.own)
-        (λ (q : RootShown SemRootView). ended.left.world.part.sems.line q.root.key ≡ q.root.own.line)
+    lines = All-weaker (λ (q : RootShown SemRootView). RootKnows size ended.left.world q.key q.own)
+        (λ (q : RootShown SemRootView). ended.left.world.part.sems.line q.key ≡ q.own.line)
         (λ q is. is.1) roots ended.left.roots_fit;
     permits = all_out ended.left all;
   }

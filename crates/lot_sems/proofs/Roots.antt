@@ -14,8 +14,7 @@ use Rattle.lot_events.specs.declared.events.Seen.TheVariants.{Bool as Saw, Done,
 use Rattle.lot_core.proofs.Members.{in_head}
 use Rattle.lot_core.proofs.Put.{by_bit, put_same, put_other}
 use Rattle.lot_rights.specs.declared.views.Access.TheVariants.{Makes, Posts, Collects}
-use Rattle.lot_rights.specs.declared.views.PassRight.{PassRight}
-use Rattle.lot_rights.specs.declared.views.RootRight.{RootRight}
+use Rattle.lot_rights.specs.Shown.{PassShown, RootShown}
 use Rattle.lot_rights.specs.History.{maker}
 use Rattle.lot_rights.specs.Layout.{word_at, letter_at}
 use Rattle.lot_rights.specs.World.{Spot, awake, queued, owed, lying, letter_of, letters_of}
@@ -35,23 +34,23 @@ use Rattle.lot_sems.proofs.Turning.{after, fits_after, pass_after as knows_after
 use Rattle.lot_sems.proofs.Turns.{bit_few}
 
 -- ---- what each step tells
-abbrev pub Parks : PassRight SemPassView → RootRight SemRootView → ℕ → PassRight SemPassView → RootRight SemRootView → Type 0
+abbrev pub Parks : PassShown SemPassView → RootShown SemRootView → ℕ → PassShown SemPassView → RootShown SemRootView → Type 0
 Parks p q n p' q' =
     Notes p (parked_pass p.own (n == 1)) (Makes (SemPark p.thread q.key) (Saw (n == 1))) p'
     × (q' ≡ record q { own = parked_root q.own p.thread (n == 1) })
 
-abbrev pub Passes : PassRight SemPassView → RootRight SemRootView → List ℕ → Bool → PassRight SemPassView → RootRight SemRootView → Type 0
+abbrev pub Passes : PassShown SemPassView → RootShown SemRootView → List ℕ → Bool → PassShown SemPassView → RootShown SemRootView → Type 0
 Passes p q line more p' q' =
     Notes p (one_permit_less p.own q.key) (Makes (SemPass p.thread q.key more) (Sleeper (first line))) p'
     × (q' ≡ record q { own = passed_root q.own line })
 
-abbrev pub Clears : PassRight SemPassView → RootRight SemRootView → PassRight SemPassView → RootRight SemRootView → Type 0
+abbrev pub Clears : PassShown SemPassView → RootShown SemRootView → PassShown SemPassView → RootShown SemRootView → Type 0
 Clears p q p' q' = Notes p p.own (Makes (SemClear p.thread q.key) Done) p' × (q' ≡ q)
 
-abbrev pub Pays : RootRight SemRootView → ℕ → RootRight SemRootView → Type 0
+abbrev pub Pays : RootShown SemRootView → ℕ → RootShown SemRootView → Type 0
 Pays q u q' = RootNotes q (paid_root q.own) (Posts q.key u 0) q'
 
-abbrev pub Collecting : PassRight SemPassView → ℕ → PassRight SemPassView → Type 0
+abbrev pub Collecting : PassShown SemPassView → ℕ → PassShown SemPassView → Type 0
 Collecting p n q = (n ≤ 1) × CollectedBy p n q
 
 -- ---- words
@@ -72,7 +71,7 @@ raised : (left u : ℕ) (more : Bool) → (word_of left true + raise_of (Some u)
 raised left u true = omega arith
 raised left u false = omega arith
 
-module _ (size : Numbers) (p : PassRight SemPassView) (q : RootRight SemRootView) (w : SemWorld) (ws : List ℕ)
+module _ (size : Numbers) (p : PassShown SemPassView) (q : RootShown SemRootView) (w : SemWorld) (ws : List ℕ)
     (hs : List (maybe.Option (Unit {0}))) (ok : Fits size w ws)
     (fit : PassKnows size w p.thread p.own) (root : RootKnows size w q.key q.own) where
   abbrev t : ℕ
@@ -99,7 +98,7 @@ module _ (size : Numbers) (p : PassRight SemPassView) (q : RootRight SemRootView
   -- ---- an event of pass and root
   makes : (x l : ℕ) (b : Bool) (xs : List ℕ) (o : ℕ) (spots : ℕ → Spot) (owes : ℕ → Option ℕ) (own : SemPassView) (its : SemRootView)
       (e : Event) (saw : Seen)
-      (then : PassRight SemPassView → RootRight SemRootView → Type 0) → maker e ≡ t
+      (then : PassShown SemPassView → RootShown SemRootView → Type 0) → maker e ≡ t
       → IsStep size w.part e saw (turned w.part t k l b xs o (w.part.seeks t)) → x ≡ word_of l b → letters_of spots ≡ letters_of w.spot
       → NoticesFit size.threads (put w.part.sems.line k xs) w.part.seeks owes spots
       → ((u : ℕ) → u ≢ t → sleeps (spots u) ≡ sleeps (w.spot u)) → ((d : ℕ) → d ≢ k → owes d ≡ w.owes d)
@@ -211,7 +210,7 @@ module _ (size : Numbers) (p : PassRight SemPassView) (q : RootRight SemRootView
       (subst (λ z. NoticesFit size.threads z w.part.seeks w.owes w.spot) (sym (same_line w.part k)) ok.letters)
       (λ u ne. refl) (λ d ne. refl) refl fit.asleep (out_same size w t k p.own fit) root.1 root.2 (λ i. ((i, refl), refl))
 
-module _ (size : Numbers) (p : PassRight SemPassView) (q : RootRight SemRootView) where
+module _ (size : Numbers) (p : PassShown SemPassView) (q : RootShown SemRootView) where
   pub parks : IsSeeking p.own q.key → AllowsBoth (meaning size) (word_at q.key) (λ n. n) p q (Parks p q)
   parks is w ws hs ok fit root small = parks_turn size p q w ws hs ok fit root is.0 is.1
 
@@ -229,7 +228,7 @@ module _ (size : Numbers) (p : PassRight SemPassView) (q : RootRight SemRootView
   clears calm nobody w ws hs ok fit root small = clear_turn size p q w ws hs ok fit root small calm nobody
 
 -- ---- letters
-module _ (size : Numbers) (q : RootRight SemRootView) (u : ℕ) (debt : q.own.owes ≡ Some u) where
+module _ (size : Numbers) (q : RootShown SemRootView) (u : ℕ) (debt : q.own.owes ≡ Some u) where
   pub posts : AllowsRoot (meaning size) (letter_at u) (λ _. 1) q (λ _. Pays q u)
   posts w ws hs ok root small =
       let k : ℕ = q.key in
@@ -264,14 +263,14 @@ module _ (size : Numbers) (q : RootRight SemRootView) (u : ℕ) (debt : q.own.ow
         told = λ i. (i, refl);
       }
 
-pub collected_none : (p q : PassRight SemPassView) (n : ℕ) → n ≡ 0 → Collecting p n q → FoundNone p q
+pub collected_none : (p q : PassShown SemPassView) (n : ℕ) → n ≡ 0 → Collecting p n q → FoundNone p q
 collected_none p q n e h = subst (λ z. CollectedBy p z q) e h.1
 
-pub collected_some : (p q : PassRight SemPassView) (n : ℕ) → n ≢ 0 → Collecting p n q → Collected p (n - 1) q
+pub collected_some : (p q : PassShown SemPassView) (n : ℕ) → n ≢ 0 → Collecting p n q → Collected p (n - 1) q
 collected_some p q zero ne h = absurd (ne refl)
 collected_some p q (suc token) ne h = let e : token ≡ suc token - 1 = omega arith in subst (λ z. Collected p z q) e h.1
 
-module _ (size : Numbers) (p : PassRight SemPassView) where
+module _ (size : Numbers) (p : PassShown SemPassView) where
   module _ (w : SemWorld) (ws : List ℕ) (hs : List (maybe.Option (Unit {0}))) (ok : Fits size w ws)
       (fit : PassKnows size w p.thread p.own) where
     abbrev Turn : ℕ → Type 0

@@ -12,7 +12,7 @@ use Rattle.lot_events.specs.declared.events.Event.TheVariants.{SemTake, SemMark,
 use Rattle.lot_events.specs.declared.events.Seen.{Seen}
 use Rattle.lot_events.specs.declared.events.Seen.TheVariants.{Bool as Saw, Done}
 use Rattle.lot_rights.specs.declared.views.Access.TheVariants.{Makes, Finds}
-use Rattle.lot_rights.specs.declared.views.PassRight.{PassRight}
+use Rattle.lot_rights.specs.Shown.{PassShown}
 use Rattle.lot_rights.specs.History.{maker}
 use Rattle.lot_rights.specs.Layout.{word_at}
 use Rattle.lot_rights.specs.World.{awake}
@@ -32,31 +32,31 @@ use Rattle.lot_sems.proofs.Turning.{after, fits_after, pass_after as knows_after
 
 -- ---- what each step tells
 -- a look at the word of k, by a thread that seeks a permit where none is left
-abbrev pub Seeks : PassRight SemPassView → ℕ → ℕ → PassRight SemPassView → Type 0
+abbrev pub Seeks : PassShown SemPassView → ℕ → ℕ → PassShown SemPassView → Type 0
 Seeks p k zero q = Takes p k Empty q
 Seeks p k (suc zero) q = Takes p k Empty q
 Seeks p k (suc (suc n)) q = Found p k (suc (suc n)) q
 
 -- an exchange of the word that was seen: it was made, and by this event the thread knows this; or it found another word
-abbrev pub Swaps : PassRight SemPassView → ℕ → SemPassView → Event → ℕ → ℕ → PassRight SemPassView → Type 0
+abbrev pub Swaps : PassShown SemPassView → ℕ → SemPassView → Event → ℕ → ℕ → PassShown SemPassView → Type 0
 Swaps p k own e seen n q = MatchBool (n == seen) (Notes p own (Makes e (Saw true)) q) (Found p k n q)
 
-abbrev pub Marks : PassRight SemPassView → ℕ → ℕ → PassRight SemPassView → Type 0
+abbrev pub Marks : PassShown SemPassView → ℕ → ℕ → PassShown SemPassView → Type 0
 Marks p k n q = MatchBool (n == 0) (Notes p p.own (Makes (SemMark p.thread k) Done) q) ((x : ℕ) × (x ≢ 0) × Found p k x q)
 
 -- ---- what a number found tells the caller
-pub seeks_empty : (p : PassRight SemPassView) (k n : ℕ) (q : PassRight SemPassView) → n < 2 → Seeks p k n q → Takes p k Empty q
+pub seeks_empty : (p : PassShown SemPassView) (k n : ℕ) (q : PassShown SemPassView) → n < 2 → Seeks p k n q → Takes p k Empty q
 seeks_empty p k zero q few h = h
 seeks_empty p k (suc zero) q few h = h
 seeks_empty p k (suc (suc n)) q few h = absurd (omega arith)
 
-pub seeks_left : (p : PassRight SemPassView) (k n : ℕ) (q : PassRight SemPassView) → IsAnyLeft n → Seeks p k n q → Found p k n q
+pub seeks_left : (p : PassShown SemPassView) (k n : ℕ) (q : PassShown SemPassView) → IsAnyLeft n → Seeks p k n q → Found p k n q
 seeks_left p k zero q some h = absurd (omega arith)
 seeks_left p k (suc zero) q some h = absurd (omega arith)
 seeks_left p k (suc (suc n)) q some h = h
 
 -- the exchange was made, or it failed
-module _ (p : PassRight SemPassView) (k : ℕ) (own : SemPassView) (e : Event) (seen n : ℕ) (q : PassRight SemPassView) where
+module _ (p : PassShown SemPassView) (k : ℕ) (own : SemPassView) (e : Event) (seen n : ℕ) (q : PassShown SemPassView) where
   pub swapped : n ≡ seen → Swaps p k own e seen n q → Notes p own (Makes e (Saw true)) q
   swapped is h = subst (λ b. MatchBool b (Notes p own (Makes e (Saw true)) q) (Found p k n q)) (eq-eqb n seen is) h
 
@@ -64,30 +64,30 @@ module _ (p : PassRight SemPassView) (k : ℕ) (own : SemPassView) (e : Event) (
   unswapped ne h = subst (λ b. MatchBool b (Notes p own (Makes e (Saw true)) q) (Found p k n q)) (ne_eqb n seen ne) h
 
 -- ---- a look, by which p became r, and then an exchange
-module _ (p r : PassRight SemPassView) (k seen : ℕ) (look : Found p k seen r) where
+module _ (p r : PassShown SemPassView) (k seen : ℕ) (look : Found p k seen r) where
   -- what was asked of the pass is so after the look
   pub after_look : (Asks : SemPassView → Type 0) → Asks p.own → Asks r.own
-  after_look Asks may = subst (λ (z : PassRight SemPassView). Asks z.own) (sym look.1) may
+  after_look Asks may = subst (λ (z : PassShown SemPassView). Asks z.own) (sym look.1) may
 
-  exchanged : (could : ℕ → Type 0) (own : SemPassView → SemPassView) (e : ℕ → Event) (q : PassRight SemPassView) → could seen
+  exchanged : (could : ℕ → Type 0) (own : SemPassView → SemPassView) (e : ℕ → Event) (q : PassShown SemPassView) → could seen
       → Notes r (own r.own) (Makes (e r.thread) (Saw true)) q → Exchanges p k could (own p.own) (e p.thread) q
   exchanged could own e q may note =
-      (seen, may, (r, look, subst (λ (z : PassRight SemPassView). Notes r (own z.own) (Makes (e z.thread) (Saw true)) q) look.1 note))
+      (seen, may, (r, look, subst (λ (z : PassShown SemPassView). Notes r (own z.own) (Makes (e z.thread) (Saw true)) q) look.1 note))
 
-  missed : (could : ℕ → Type 0) (n : ℕ) (q : PassRight SemPassView) → could seen → n ≢ seen → Found r k n q → Misses p k could q
+  missed : (could : ℕ → Type 0) (n : ℕ) (q : PassShown SemPassView) → could seen → n ≢ seen → Found r k n q → Misses p k could q
   missed could n q may ne found = (seen, n, may, ne, (r, look, found))
 
-  pub tried : IsAnyLeft seen → (became : Taken) (q : PassRight SemPassView) → TakesFrom r k seen became q → Tries p k became q
+  pub tried : IsAnyLeft seen → (became : Taken) (q : PassShown SemPassView) → TakesFrom r k seen became q → Tries p k became q
   tried left Got q h = exchanged IsAnyLeft (λ own. one_permit_more own k) (λ t. SemTake t k) q left h
   tried left Empty q h = absurd h
   tried left Busy q (n, ne, found) = missed IsAnyLeft n q left ne found
 
-  pub taken : IsAnyLeft seen → (became : Taken) (q : PassRight SemPassView) → TakesFrom r k seen became q → Takes p k became q
+  pub taken : IsAnyLeft seen → (became : Taken) (q : PassShown SemPassView) → TakesFrom r k seen became q → Takes p k became q
   taken left Got q h = tried left Got q h
   taken left Empty q h = absurd h
   taken left Busy q h = tried left Busy q h
 
-  pub freed : IsUnmarked seen → (n : ℕ) (q : PassRight SemPassView)
+  pub freed : IsUnmarked seen → (n : ℕ) (q : PassShown SemPassView)
       → Swaps r k (one_permit_less r.own k) (SemFree r.thread k) seen n q → Frees p k (n == seen) q
   freed clear n q = by_test
       (λ b. MatchBool b (Notes r (one_permit_less r.own k) (Makes (SemFree r.thread k) (Saw true)) q) (Found r k n q)
@@ -104,7 +104,7 @@ even_clear : (left old : ℕ) (b : Bool) → word_of left b ≡ old → old % 2 
 even_clear left old true e even = absurd (let f : 2 * left + 1 ≡ old = e in omega arith)
 even_clear left old false e even = refl
 
-module _ (size : Numbers) (p : PassRight SemPassView) (k : ℕ) (among : IsAmong size k) (w : SemWorld) (ws : List ℕ)
+module _ (size : Numbers) (p : PassShown SemPassView) (k : ℕ) (among : IsAmong size k) (w : SemWorld) (ws : List ℕ)
     (hs : List (maybe.Option (Unit {0}))) (ok : Fits size w ws)
     (fit : PassKnows size w p.thread p.own) where
   abbrev t : ℕ
@@ -120,7 +120,7 @@ module _ (size : Numbers) (p : PassRight SemPassView) (k : ℕ) (among : IsAmong
   found = ok.words.words k among
 
   -- ---- nothing changes
-  finds : (x : ℕ) → x ≡ n → (then : PassRight SemPassView → Type 0) → ((i : ℕ) → then (pass_after p p.own i (Finds t k x)))
+  finds : (x : ℕ) → x ≡ n → (then : PassShown SemPassView → Type 0) → ((i : ℕ) → then (pass_after p p.own i (Finds t k x)))
       → PassTurn (meaning size) (word_at k) x p then w ws hs
   finds x is then told = pass_stays (meaning size) (word_at k) x w ws hs ok is p fit (Finds t k x) (refl, (is ∙ found, refl)) then told
 
@@ -130,7 +130,7 @@ module _ (size : Numbers) (p : PassRight SemPassView) (k : ℕ) (among : IsAmong
 
     -- ---- an event of a thread that is awake, after which the line is as it was
     makes : (x l : ℕ) (b : Bool) (o : ℕ) (s : Option ℕ) (own : SemPassView) (e : Event) (saw : Seen)
-        (then : PassRight SemPassView → Type 0) → maker e ≡ t
+        (then : PassShown SemPassView → Type 0) → maker e ≡ t
         → IsStep size w.part e saw (turned w.part t k l b (w.part.sems.line k) o s) → x ≡ word_of l b → s ≡ own.seeks → own.asleep ≡ false
         → own.out ≡ set p.own.out k o
         → ((i : ℕ) → then (pass_after p own i (Makes e saw))) → PassTurn (meaning size) (word_at k) x p then w ws hs
@@ -156,7 +156,7 @@ module _ (size : Numbers) (p : PassRight SemPassView) (k : ℕ) (among : IsAmong
       may = ⊎_elim {C = (w.part.seeks t ≡ None) ⊎ PartSeeks w.part t k} (λ e. inl (fit.seeks ∙ e))
           (λ e. inr (fit.seeks ∙ e, in_no_line size.threads w.part.sems.line w.part.seeks w.owes w.spot ok.letters t up' k)) aim
 
-      got_turn : (old : ℕ) → 2 ≤ old → n ≡ old → (then : PassRight SemPassView → Type 0)
+      got_turn : (old : ℕ) → 2 ≤ old → n ≡ old → (then : PassShown SemPassView → Type 0)
           → ((i : ℕ) → then (pass_after p (one_permit_more p.own k) i (Makes (SemTake t k) (Saw true))))
           → PassTurn (meaning size) (word_at k) (old - 2) p then w ws hs
       got_turn old some is then told =
@@ -166,7 +166,7 @@ module _ (size : Numbers) (p : PassRight SemPassView) (k : ℕ) (among : IsAmong
           (row_got w.part size t fit.near k among may (λ none. omega (arith, found, is, few))) (omega (arith, found, is, few)) refl up
           (ap (λ z. set p.own.out k (z + 1)) (sym (fit.out k))) told
 
-      empty_turn : (x : ℕ) → x ≡ n → x < 2 → (then : PassRight SemPassView → Type 0)
+      empty_turn : (x : ℕ) → x ≡ n → x < 2 → (then : PassShown SemPassView → Type 0)
           → ((i : ℕ) → then (pass_after p (seeking p.own k) i (Makes (SemTake t k) (Saw false))))
           → PassTurn (meaning size) (word_at k) x p then w ws hs
       empty_turn x is few then told =
@@ -219,7 +219,7 @@ module _ (size : Numbers) (p : PassRight SemPassView) (k : ℕ) (among : IsAmong
         (omega (arith, found, is, bare, more, few)) fit.seeks up (ap (λ z. set p.own.out k (z - 1)) (sym (fit.out k))) (λ i. (i, refl)))
         (λ _. finds n refl (Found p k n) (λ i. (i, refl)))
 
-module _ (size : Numbers) (p : PassRight SemPassView) (k : ℕ) (among : IsAmong size k) where
+module _ (size : Numbers) (p : PassShown SemPassView) (k : ℕ) (among : IsAmong size k) where
   pub looks : AllowsPass (meaning size) (word_at k) (λ n. n) p (Found p k)
   looks w ws hs ok fit small =
       let n : ℕ = get_or ws (word_at k) 0 in finds size p k among w ws hs ok fit n refl (Found p k n) (λ i. (i, refl))

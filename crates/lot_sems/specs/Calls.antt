@@ -5,7 +5,7 @@ use Rattle.lot_events.specs.declared.events.Event.{Event}
 use Rattle.lot_events.specs.declared.events.Event.TheVariants.{SemTake, SemFree}
 use Rattle.lot_events.specs.declared.events.Seen.TheVariants.{Bool as Saw}
 use Rattle.lot_rights.specs.declared.views.Access.TheVariants.{Makes, Collects, Finds}
-use Rattle.lot_rights.specs.declared.views.PassRight.{PassRight}
+use Rattle.lot_rights.specs.Shown.{PassShown}
 use Rattle.lot_rights.specs.Steps.{Notes}
 use Rattle.lot_sems.specs.declared.taking.Taken.{Taken}
 use Rattle.lot_sems.specs.declared.taking.Taken.TheVariants.{Got, Empty, Busy}
@@ -67,18 +67,18 @@ raise_of (Some u) false = 1
 
 -- ---- looks and exchanges: what became of the pass p by them, which is q then
 -- a look at the word of k, which found this and left it so; or an exchange that found this, and not what it was to replace
-abbrev pub Found : PassRight SemPassView → ℕ → ℕ → PassRight SemPassView → Type 0
+abbrev pub Found : PassShown SemPassView → ℕ → ℕ → PassShown SemPassView → Type 0
 Found p k word q = Notes p p.own (Finds p.thread k word) q
 
 -- a look that found a word of such a kind, and then an exchange, which was made: by this event the thread knows this
-abbrev pub Exchanges : PassRight SemPassView → ℕ → (ℕ → Type 0) → SemPassView → Event → PassRight SemPassView → Type 0
+abbrev pub Exchanges : PassShown SemPassView → ℕ → (ℕ → Type 0) → SemPassView → Event → PassShown SemPassView → Type 0
 Exchanges p k could own e q =
-    (word : ℕ) × could word × ((r : PassRight SemPassView) × Found p k word r × Notes r own (Makes e (Saw true)) q)
+    (word : ℕ) × could word × ((r : PassShown SemPassView) × Found p k word r × Notes r own (Makes e (Saw true)) q)
 
 -- a look that found a word of such a kind, and then an exchange that found another word than the look
-abbrev pub Misses : PassRight SemPassView → ℕ → (ℕ → Type 0) → PassRight SemPassView → Type 0
+abbrev pub Misses : PassShown SemPassView → ℕ → (ℕ → Type 0) → PassShown SemPassView → Type 0
 Misses p k could q =
-    (seen found : ℕ) × could seen × (found ≢ seen) × ((r : PassRight SemPassView) × Found p k seen r × Found r k found q)
+    (seen found : ℕ) × could seen × (found ≢ seen) × ((r : PassShown SemPassView) × Found p k seen r × Found r k found q)
 
 -- ---- tries to take a permit of k
 -- a permit is left, in such a word
@@ -86,18 +86,18 @@ abbrev pub IsAnyLeft : ℕ → Type 0
 IsAnyLeft word = 2 ≤ word
 
 -- by an exchange of the word that a look found
-abbrev pub TakesFrom : PassRight SemPassView → ℕ → ℕ → Taken → PassRight SemPassView → Type 0
+abbrev pub TakesFrom : PassShown SemPassView → ℕ → ℕ → Taken → PassShown SemPassView → Type 0
 TakesFrom p k seen Got q = Notes p (one_permit_more p.own k) (Makes (SemTake p.thread k) (Saw true)) q
 TakesFrom p k seen Empty q = ⊥
 TakesFrom p k seen Busy q = (found : ℕ) × (found ≢ seen) × Found p k found q
 
-abbrev pub Tries : PassRight SemPassView → ℕ → Taken → PassRight SemPassView → Type 0
+abbrev pub Tries : PassShown SemPassView → ℕ → Taken → PassShown SemPassView → Type 0
 Tries p k Got q = Exchanges p k IsAnyLeft (one_permit_more p.own k) (SemTake p.thread k) q
 Tries p k Empty q = (word : ℕ) × (word < 2) × Found p k word q
 Tries p k Busy q = Misses p k IsAnyLeft q
 
 -- the same, where a thread that finds none seeks one
-abbrev pub Takes : PassRight SemPassView → ℕ → Taken → PassRight SemPassView → Type 0
+abbrev pub Takes : PassShown SemPassView → ℕ → Taken → PassShown SemPassView → Type 0
 Takes p k Got q = Exchanges p k IsAnyLeft (one_permit_more p.own k) (SemTake p.thread k) q
 Takes p k Empty q = Notes p (seeking p.own k) (Makes (SemTake p.thread k) (Saw false)) q
 Takes p k Busy q = Misses p k IsAnyLeft q
@@ -107,20 +107,20 @@ Takes p k Busy q = Misses p k IsAnyLeft q
 abbrev pub IsUnmarked : ℕ → Type 0
 IsUnmarked word = word % 2 ≡ 0
 
-abbrev pub Frees : PassRight SemPassView → ℕ → Bool → PassRight SemPassView → Type 0
+abbrev pub Frees : PassShown SemPassView → ℕ → Bool → PassShown SemPassView → Type 0
 Frees p k true q = Exchanges p k IsUnmarked (one_permit_less p.own k) (SemFree p.thread k) q
 Frees p k false q = ((word : ℕ) × (word % 2 ≡ 1) × Found p k word q) ⊎ Misses p k IsUnmarked q
 
 -- ---- letters
 -- q is the pass p after it found no letter
-abbrev pub FoundNone : PassRight SemPassView → PassRight SemPassView → Type 0
+abbrev pub FoundNone : PassShown SemPassView → PassShown SemPassView → Type 0
 FoundNone p q = Notes p p.own (Collects p.thread None) q
 
 -- q is the pass p after it collected its letter, whose token is 0 as all tokens are: it was asleep, and may try again
-abbrev pub Collected : PassRight SemPassView → ℕ → PassRight SemPassView → Type 0
+abbrev pub Collected : PassShown SemPassView → ℕ → PassShown SemPassView → Type 0
 Collected p token q = (token ≡ 0) × (p.own.asleep ≡ true) × Notes p (woken p.own) (Collects p.thread (Some token)) q
 
 -- by the number in the letter
-abbrev pub CollectedBy : PassRight SemPassView → ℕ → PassRight SemPassView → Type 0
+abbrev pub CollectedBy : PassShown SemPassView → ℕ → PassShown SemPassView → Type 0
 CollectedBy p zero q = FoundNone p q
 CollectedBy p (suc token) q = Collected p token q

@@ -12,8 +12,8 @@ impl SemWords {
     pub fn check_permits(&self, first: SemPass, second: SemPass) -> (SemPass, SemPass)
         requires table { (first.table ≡ self.now.table) × (second.table ≡ self.now.table) }
         ensures same { (result.0 ≡ first) × (result.1 ≡ second) }
-        ensures threads { first.pass.thread ≢ second.pass.thread }
-        ensures permits { (k : ℕ) → slice_index first.pass.own.out k + slice_index second.pass.own.out k
+        ensures threads { first.thread ≢ second.thread }
+        ensures permits { (k : ℕ) → slice_index first.own.out k + slice_index second.own.out k
             ≤ permits_of self.now.size k }
     {
         let words = &self.words;

@@ -17,9 +17,9 @@ impl SemWords {
         requires table { All (λ (p : PassShown SemPassView). p.table ≡ self.table) passes.items
             × All (λ (q : RootShown SemRootView). q.table ≡ self.table) roots.items }
         requires passes { (t : ℕ) → t < self.size.threads
-            → Any (λ (p : PassShown SemPassView). p.pass.thread ≡ t) passes.items }
+            → Any (λ (p : PassShown SemPassView). p.thread ≡ t) passes.items }
         requires roots { (k : ℕ) → IsAmong self.size k
-            → Any (λ (q : RootShown SemRootView). q.root.key ≡ k) roots.items }
+            → Any (λ (q : RootShown SemRootView). q.key ≡ k) roots.items }
         ensures history { IsToldTo self.size passes.items roots.items }
     {
         let SemWords { words } = self;

@@ -16,11 +16,11 @@ impl SemWords {
     /// event is SemPark.
     pub fn park(&self, pass: SemPass, root: SemRoot) -> (SemPass, SemRoot, bool)
         requires table { (pass.table ≡ self.now.table) × (root.table ≡ self.now.table) }
-        requires seeks { IsSeeking pass.pass.own root.root.key }
+        requires seeks { IsSeeking pass.own root.key }
         ensures table { (result.0.table ≡ pass.table) × (result.1.table ≡ root.table) }
-        ensures entry { Notes pass.pass (parked_pass pass.pass.own result.2)
-            (Makes (SemPark pass.pass.thread root.root.key) (Saw result.2)) result.0.pass }
-        ensures root { result.1.root ≡ record root.root { own = parked_root root.root.own pass.pass.thread result.2 } }
+        ensures entry { Notes pass (parked_pass pass.own result.2)
+            (Makes (SemPark pass.thread root.key) (Saw result.2)) result.0 }
+        ensures root { result.1 ≡ record root { own = parked_root root.own pass.thread result.2 } }
     {
         let words = &self.words;
         let word = root.word();

@@ -20,9 +20,9 @@ impl SemWords {
     /// Posts the letter that the root owes, by one store, while the bucket of the semaphore is still locked.
     pub fn post(&self, root: SemRoot, thread: usize) -> SemRoot
         requires table { root.table ≡ self.now.table }
-        requires owes { root.root.own.owes ≡ Some thread }
+        requires owes { root.own.owes ≡ Some thread }
         ensures table { result.table ≡ root.table }
-        ensures posted { RootNotes root.root (paid_root root.root.own) (Posts root.root.key thread 0) result.root }
+        ensures posted { RootNotes root (paid_root root.own) (Posts root.key thread 0) result }
     {
         let words = &self.words;
         let letter = root.letter_of(thread);
@@ -35,8 +35,8 @@ impl SemWords {
     pub fn collect(&self, pass: SemPass) -> (SemPass, Option<u32>)
         requires { pass.table ≡ self.now.table }
         ensures table { result.0.table ≡ pass.table }
-        ensures letter { MatchOption result.1 (FoundNone pass.pass result.0.pass)
-            (λ token. Collected pass.pass token result.0.pass) }
+        ensures letter { MatchOption result.1 (FoundNone pass result.0)
+            (λ token. Collected pass token result.0) }
     {
         let words = &self.words;
         let place = pass.letter();

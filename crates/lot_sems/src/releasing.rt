@@ -37,9 +37,9 @@ impl SemWords {
     pub fn free(&self, pass: SemPass, key: usize) -> (SemPass, bool)
         requires table { pass.table ≡ self.now.table }
         requires key { IsAmong self.now.size key }
-        requires may { MayGive pass.pass.own key }
+        requires may { MayGive pass.own key }
         ensures table { result.0.table ≡ pass.table }
-        ensures entries { Frees pass.pass key result.1 result.0.pass }
+        ensures entries { Frees pass key result.1 result.0 }
     {
         let words = &self.words;
         let word = word_of_key(key);
@@ -71,13 +71,13 @@ impl SemWords {
         more: bool,
     ) -> (SemPass, SemRoot)
         requires table { (pass.table ≡ self.now.table) × (root.table ≡ self.now.table) }
-        requires may { MayGive pass.pass.own root.root.key }
-        requires first { (first_of root.root.own.line ≡ first) × (root.root.own.owes ≡ None) }
-        requires more { SaysMore root.root.own.line more }
+        requires may { MayGive pass.own root.key }
+        requires first { (first_of root.own.line ≡ first) × (root.own.owes ≡ None) }
+        requires more { SaysMore root.own.line more }
         ensures table { (result.0.table ≡ pass.table) × (result.1.table ≡ root.table) }
-        ensures entry { Notes pass.pass (one_permit_less pass.pass.own root.root.key)
-            (Makes (Passes pass.pass.thread root.root.key more) (Sleeper first)) result.0.pass }
-        ensures root { result.1.root ≡ record root.root { own = passed_root root.root.own root.root.own.line } }
+        ensures entry { Notes pass (one_permit_less pass.own root.key)
+            (Makes (Passes pass.thread root.key more) (Sleeper first)) result.0 }
+        ensures root { result.1 ≡ record root { own = passed_root root.own root.own.line } }
     {
         let words = &self.words;
         let word = root.word();
@@ -90,12 +90,12 @@ impl SemWords {
     /// semaphore is locked. The event is SemClear.
     pub fn clear(&self, pass: SemPass, root: SemRoot) -> (SemPass, SemRoot)
         requires table { (pass.table ≡ self.now.table) × (root.table ≡ self.now.table) }
-        requires calm { IsCalm pass.pass.own }
-        requires nobody { root.root.own.line ≡ [] }
+        requires calm { IsCalm pass.own }
+        requires nobody { root.own.line ≡ [] }
         ensures table { (result.0.table ≡ pass.table) × (result.1.table ≡ root.table) }
-        ensures entry { Notes pass.pass pass.pass.own
-            (Makes (SemClear pass.pass.thread root.root.key) Done) result.0.pass }
-        ensures root { result.1.root ≡ root.root }
+        ensures entry { Notes pass pass.own
+            (Makes (SemClear pass.thread root.key) Done) result.0 }
+        ensures root { result.1 ≡ root }
     {
         let words = &self.words;
         let word = root.word();

@@ -32,9 +32,9 @@ impl SemWords {
     pub fn try_take(&self, pass: SemPass, key: usize) -> (SemPass, Taken)
         requires table { pass.table ≡ self.now.table }
         requires key { IsAmong self.now.size key }
-        requires calm { IsCalm pass.pass.own }
+        requires calm { IsCalm pass.own }
         ensures table { result.0.table ≡ pass.table }
-        ensures entries { Tries pass.pass key result.1 result.0.pass }
+        ensures entries { Tries pass key result.1 result.0 }
     {
         let words = &self.words;
         let (pass, was) = words.load::<Brand, usize>(pass, word_of_key(key), key);
@@ -51,9 +51,9 @@ impl SemWords {
     pub fn take(&self, pass: SemPass, key: usize) -> (SemPass, Taken)
         requires table { pass.table ≡ self.now.table }
         requires key { IsAmong self.now.size key }
-        requires may { MayTake pass.pass.own key }
+        requires may { MayTake pass.own key }
         ensures table { result.0.table ≡ pass.table }
-        ensures entries { Takes pass.pass key result.1 result.0.pass }
+        ensures entries { Takes pass key result.1 result.0 }
     {
         let words = &self.words;
         let (pass, seen) = words.load::<Brand, usize>(pass, word_of_key(key), key);
@@ -69,10 +69,10 @@ impl SemWords {
     fn take_from(&self, pass: SemPass, key: usize, seen: u64) -> (SemPass, Taken)
         requires table { pass.table ≡ self.now.table }
         requires key { IsAmong self.now.size key }
-        requires may { MayTake pass.pass.own key }
+        requires may { MayTake pass.own key }
         requires left { IsAnyLeft seen }
         ensures table { result.0.table ≡ pass.table }
-        ensures entry { TakesFrom pass.pass key seen result.1 result.0.pass }
+        ensures entry { TakesFrom pass key seen result.1 result.0 }
     {
         let words = &self.words;
         let (pass, found) = words.compare_exchange::<Brand, usize>(
@@ -96,11 +96,11 @@ impl SemWords {
     pub fn mark(&self, pass: SemPass, key: usize) -> (SemPass, bool)
         requires table { pass.table ≡ self.now.table }
         requires key { IsAmong self.now.size key }
-        requires seeks { IsSeeking pass.pass.own key }
+        requires seeks { IsSeeking pass.own key }
         ensures table { result.0.table ≡ pass.table }
         ensures entry { MatchBool result.1
-            (Notes pass.pass pass.pass.own (Makes (SemMark pass.pass.thread key) Done) result.0.pass)
-            ((word : ℕ) × (word ≢ 0) × Notes pass.pass pass.pass.own (Finds pass.pass.thread key word) result.0.pass) }
+            (Notes pass pass.own (Makes (SemMark pass.thread key) Done) result.0)
+            ((word : ℕ) × (word ≢ 0) × Notes pass pass.own (Finds pass.thread key word) result.0) }
     {
         let words = &self.words;
         let word = word_of_key(key);

@@ -17,7 +17,7 @@ use Rattle.lot_whole.specs.declared.views.LotRootView.{LotRootView}
 use Rattle.lot_whole.specs.Family.{cond}
 use Rattle.lot_whole.specs.Order.{accesses_of}
 use Rattle.lot_scheme.specs.Roots.{root_view}
-use Rattle.lot_scheme.specs.Standing.{LotStanding, standing_shown}
+use Rattle.lot_scheme.specs.Standing.{LotStanding, standing}
 use Rattle.lot_waits.specs.Counts.{counts_shown}
 use Rattle.lot_sync.specs.Lot.{LotNames, PassView, Owns, OwnsNone, counts_of}
 use Rattle.lot_sync.specs.Passes.{pass_view_of, pass_view_shown, IsAtRest, IsFree}
@@ -31,14 +31,14 @@ nobody_out (Some c) e = absurd (cc)
 module _ {V : Type 0} where
   -- a pass at rest that owns nothing has done all that it was to do
   pub free_of : (grows : V → V → Type 0) (names : LotNames V) (table : TableId) (p : PassView V) (r : LotStanding V) (q : PassShown
-      (LotPassView V)) → p ≡ pass_view_of r → r ≡ standing_shown q
+      (LotPassView V)) → p ≡ pass_view_of r → r ≡ standing q
       → q.table ≡ table → IsAtRest grows names r → OwnsNone p → IsFree table q
   free_of grows names table p r q same is own rest none = record {
     is_of = own;
     done = (
       (λ l holds. none.no_lock l (subst (λ (x : PassView V). Owns x l) (sym (same
-          ∙ ap pass_view_of is)) (held_owned q.pass.own.locks.holds l holds))),
-      nobody_out q.pass.own.conds.out (subst (λ (x : LotStanding V). is_some x.own.conds.out ≡ false) is (rest.idle.0.up cond)),
+          ∙ ap pass_view_of is)) (held_owned q.own.locks.holds l holds))),
+      nobody_out q.own.conds.out (subst (λ (x : LotStanding V). is_some x.own.conds.out ≡ false) is (rest.idle.0.up cond)),
     );
   }
 
@@ -50,11 +50,11 @@ module _ {V : Type 0} where
 -- each value goes on from what the passes had seen of it
 pub goes_on : {V Part : Type 0} (rule : CallersRule V Part) (values : List V) (rights : List (PassShown (LotPassView V)))
     → All (λ (p : PassShown (LotPassView V)). (l : ℕ) (y : V) → slice_get values l ≡ Some y
-    → FoundOk rule l p.pass.thread p.pass.own.locks y) rights
+    → FoundOk rule l p.thread p.own.locks y) rights
     → All (GoesOnTo rule values) (map pass_view_shown rights)
 goes_on {V} rule values rights found = All-map (GoesOnTo rule values) pass_view_shown rights
     (All-weaker (λ (p : PassShown (LotPassView V)). (l : ℕ) (y : V) → slice_get values l ≡ Some y
-    → FoundOk rule l p.pass.thread p.pass.own.locks y)
+    → FoundOk rule l p.thread p.own.locks y)
     (λ (p : PassShown (LotPassView V)). GoesOnTo rule values (pass_view_shown p))
     (λ p is. record {
       kept = λ key v at. (is key v at).kept;
@@ -64,18 +64,18 @@ goes_on {V} rule values rights found = All-map (GoesOnTo rule values) pass_view_
 
 -- the root of each key has come back
 pub each_root : (k keys : ℕ) (before after : List (RootShown LotRootView)) → Appends root_view keys before after → before ≡ [] → k < keys
-    → Any (λ (q : RootShown LotRootView). q.root.key ≡ k) after
+    → Any (λ (q : RootShown LotRootView). q.key ≡ k) after
 each_root k keys before after back none near =
     let are : after ≡ back.roots = back.appended ∙ ap (λ (rs : List (RootShown LotRootView)). rs ++ back.roots) none in
-    subst (Any (λ (q : RootShown LotRootView). q.root.key ≡ k)) (sym are)
-    (some_at (λ (q : RootShown LotRootView). q.root.key ≡ k) back.roots k (subst (λ n. k < n) (sym back.each) near)
+    subst (Any (λ (q : RootShown LotRootView). q.key ≡ k)) (sym are)
+    (some_at (λ (q : RootShown LotRootView). q.key ≡ k) back.roots k (subst (λ n. k < n) (sym back.each) near)
     (λ q at. back.named k q at))
 
 -- what was made with each pass that came back is its thread's part of the history
 pub each_own : {V : Type 0} (log : List Entry) (rights : List (PassShown (LotPassView V)))
-    → All (λ (p : PassShown (LotPassView V)). p.pass.made ≡ entries_of (2 * p.pass.thread) log) rights
+    → All (λ (p : PassShown (LotPassView V)). p.made ≡ entries_of (2 * p.thread) log) rights
     → All (λ (p : PassView V). p.made ≡ accesses_of (2 * p.thread) log) (map pass_view_shown rights)
 each_own {V} log rights made = All-map (λ (p : PassView V). p.made ≡ accesses_of (2 * p.thread) log) pass_view_shown rights
-    (All-weaker (λ (p : PassShown (LotPassView V)). p.pass.made ≡ entries_of (2 * p.pass.thread) log)
-    (λ (p : PassShown (LotPassView V)). (pass_view_shown p).made ≡ accesses_of (2 * p.pass.thread) log)
+    (All-weaker (λ (p : PassShown (LotPassView V)). p.made ≡ entries_of (2 * p.thread) log)
+    (λ (p : PassShown (LotPassView V)). (pass_view_shown p).made ≡ accesses_of (2 * p.thread) log)
     (λ p is. ap (map (λ (e : Entry). e.access)) is) rights made)

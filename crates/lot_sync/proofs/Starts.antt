@@ -28,7 +28,7 @@ use Rattle.lot_whole.specs.Family.{Which, lock, cond, sem, LotSize, key_count, a
 use Rattle.lot_whole.specs.Lot.{own_of, fresh_pass, fresh_root}
 use Rattle.lot_whole.specs.Shown.{LotWordsShown, lot_of}
 use Rattle.lot_scheme.specs.Roots.{IsInItsKind, root_view, line_in, owes_in}
-use Rattle.lot_scheme.specs.Standing.{LotStanding, standing_shown}
+use Rattle.lot_scheme.specs.Standing.{LotStanding, standing}
 use Rattle.lot_waits.specs.Counts.{wrap, kept}
 use Rattle.lot_waits.specs.Ledger.{AreZeros}
 use Rattle.lot_waits.specs.declared.tallies.Tallies.{Tallies}
@@ -130,7 +130,7 @@ module _ {V Part : Type 0} (rule : CallersRule V Part) (words : LotWordsShown V)
     made_none = refl;
   }
 
-  rest_at : (t : ℕ) → t < words.size.threads → IsAtRest rule.grows (opened_as words) (standing_shown (new_at t))
+  rest_at : (t : ℕ) → t < words.size.threads → IsAtRest rule.grows (opened_as words) (standing (new_at t))
   rest_at t near = record {
     of_lot = record {
       is_thread = near;
@@ -163,47 +163,47 @@ module _ {V Part : Type 0} (rule : CallersRule V Part) (words : LotWordsShown V)
   pub passes_done : All HasDone passes
   passes_done = all_by_place HasDone new_at passes passes_at (λ t near. ((λ l. unheld (length words.values) l), refl))
 
-  pub each_thread : (t : ℕ) → t < words.size.threads → Any (λ (p : PassShown (LotPassView V)). p.pass.thread ≡ t) passes
-  each_thread t near = some_by_place (λ (p : PassShown (LotPassView V)). p.pass.thread ≡ t) new_at passes passes_at t (subst
+  pub each_thread : (t : ℕ) → t < words.size.threads → Any (λ (p : PassShown (LotPassView V)). p.thread ≡ t) passes
+  each_thread t near = some_by_place (λ (p : PassShown (LotPassView V)). p.thread ≡ t) new_at passes passes_at t (subst
       (λ n. t < n) (sym opened.passes_long) near) refl
 
   pub roots_own : All (λ (q : RootShown LotRootView). q.table ≡ words.table) roots
   roots_own = all_by_place (λ (q : RootShown LotRootView). q.table ≡ words.table) own_root roots roots_at (λ c near. refl)
 
-  pub each_key : (c : ℕ) → c < key_count words.size → Any (λ (q : RootShown LotRootView). q.root.key ≡ c) roots
-  each_key c near = some_by_place (λ (q : RootShown LotRootView). q.root.key ≡ c) own_root roots roots_at c (subst (λ n. c < n)
+  pub each_key : (c : ℕ) → c < key_count words.size → Any (λ (q : RootShown LotRootView). q.key ≡ c) roots
+  each_key c near = some_by_place (λ (q : RootShown LotRootView). q.key ≡ c) own_root roots roots_at c (subst (λ n. c < n)
       (sym opened.roots_long) near) refl
 
   -- each root is of the kind that its number tells, under the name of the lot
   pub roots_named : (names : LotNames V) → names ≡ opened_as words
       → All (λ (r : RootShown LotRootView). (r.table ≡ names.opening.locks)
-      × IsInItsKind names.locks names.first_sem r.root.key r.root.own) roots
+      × IsInItsKind names.locks names.first_sem r.key r.own) roots
   roots_named names named = subst (λ (ns : LotNames V). All (λ (r : RootShown LotRootView).
-      (r.table ≡ ns.opening.locks) × IsInItsKind ns.locks ns.first_sem r.root.key r.root.own) roots) (sym named)
+      (r.table ≡ ns.opening.locks) × IsInItsKind ns.locks ns.first_sem r.key r.own) roots) (sym named)
       (all_by_place (λ (r : RootShown LotRootView). (r.table ≡ words.table) × IsInItsKind words.size.locks
-      (words.size.locks + words.size.conds) r.root.key r.root.own)
+      (words.size.locks + words.size.conds) r.key r.own)
       own_root roots roots_at (λ c near. (refl, fresh_kind words.size c)))
 
   pub roots_idle : AreIdle root_view roots
   roots_idle i root at =
       let e : root ≡ own_root i = (stands_at own_root roots roots_at i root at).1 in
       record {
-        named = ap (λ (r : RootShown LotRootView). r.root.key) e;
-        same_line = ap (λ (r : RootShown LotRootView). line_in r.root.own) e
+        named = ap (λ (r : RootShown LotRootView). r.key) e;
+        same_line = ap (λ (r : RootShown LotRootView). line_in r.own) e
             ∙ fresh_by_kind (λ q. line_in q ≡ []) words.size i (λ h. refl) (λ h k. refl) (λ h k. refl);
-        paid = ap (λ (r : RootShown LotRootView). owes_in r.root.own) e
+        paid = ap (λ (r : RootShown LotRootView). owes_in r.own) e
             ∙ fresh_by_kind (λ q. owes_in q ≡ []) words.size i (λ h. refl) (λ h k. refl) (λ h k. refl);
       }
 
   -- each value that comes back is one that a pass saw, and all have seen the opening values
   pub values_back : (back : List V) → length back ≡ words.size.locks
-      → ((l : ℕ) (y : V) → slice_get back l ≡ Some y → Any (λ (p : PassShown (LotPassView V)). HasSeen p.pass.own.locks l y) passes)
+      → ((l : ℕ) (y : V) → slice_get back l ≡ Some y → Any (λ (p : PassShown (LotPassView V)). HasSeen p.own.locks l y) passes)
       → back ≡ words.values
   values_back back long left = same_by_place back words.values (long ∙ opened.a_lock_each) (λ l y at.
-      let saw = any_all (λ (p : PassShown (LotPassView V)). HasSeen p.pass.own.locks l y) (λ (p : PassShown
-      (LotPassView V)). p.pass.own.locks.seen ≡ words.values) passes (left l y at) seen_all in
+      let saw = any_all (λ (p : PassShown (LotPassView V)). HasSeen p.own.locks l y) (λ (p : PassShown
+      (LotPassView V)). p.own.locks.seen ≡ words.values) passes (left l y at) seen_all in
       subst (λ xs. get_elem? xs l ≡ some y) saw.2 saw.1)
     where
-      seen_all : All (λ (p : PassShown (LotPassView V)). p.pass.own.locks.seen ≡ words.values) passes
-      seen_all = all_by_place (λ (p : PassShown (LotPassView V)). p.pass.own.locks.seen ≡ words.values) new_at passes passes_at
+      seen_all : All (λ (p : PassShown (LotPassView V)). p.own.locks.seen ≡ words.values) passes
+      seen_all = all_by_place (λ (p : PassShown (LotPassView V)). p.own.locks.seen ≡ words.values) new_at passes passes_at
           (λ t near. refl)

@@ -1,5 +1,5 @@
 -- What a lot's pass is seen as, and how it stands between two calls.
-use Rattle.std.specs.Prelude.{◌≡◌, ◌≢◌, ℕ, ◌<◌, ◌+◌, Bool, true, false, List, map, length}
+use Rattle.std.specs.Prelude.{◌≡◌, ◌≢◌, ℕ, ◌<◌, ◌+◌, Bool, true, false, map, length}
 use mathlib.Core.Option.{some}
 use lib.ListN.{get_elem?}
 use Rattle.atomic_table.specs.Seated.{TableId}
@@ -11,7 +11,7 @@ use Rattle.lot_words.specs.Values.{IsOut, IsIn}
 use Rattle.lot_whole.specs.declared.views.LotPassView.{LotPassView}
 use Rattle.lot_whole.specs.Closing.{HasDone}
 use Rattle.lot_whole.specs.Standing.{IsIdle}
-use Rattle.lot_scheme.specs.Standing.{LotStanding, standing_shown}
+use Rattle.lot_scheme.specs.Standing.{LotStanding, standing}
 use Rattle.lot_waits.specs.Counts.{AreKept, counts_in}
 use Rattle.lot_waits.specs.declared.tallies.Tallies.{Tallies}
 use Rattle.lot_sync.specs.Lot.{PassView, LotNames, HasGrown}
@@ -35,7 +35,7 @@ module _ {V : Type 0} where
   }
 
   abbrev pub pass_view_shown : PassShown (LotPassView V) → PassView V
-  pass_view_shown p = pass_view_of (standing_shown p)
+  pass_view_shown p = pass_view_of (standing p)
 
   -- a pass of one of the threads, with a number or a value for each key, whose values go on from those of the opening
   pub record IsOfLot (grows : V → V → Type 0) (names : LotNames V) (r : LotStanding V) : Type 0 where

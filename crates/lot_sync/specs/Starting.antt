@@ -2,7 +2,7 @@
 use Rattle.std.specs.Prelude.{◌≡◌, ℕ, ◌+◌, ◌<◌, List, [], replicate, slice_index}
 use Rattle.lot_rights.specs.Shown.{PassShown}
 use Rattle.lot_whole.specs.declared.views.LotPassView.{LotPassView}
-use Rattle.lot_scheme.specs.Standing.{standing_shown}
+use Rattle.lot_scheme.specs.Standing.{standing}
 use Rattle.lot_sync.specs.Lot.{PassView, LotNames, OwnsNone}
 use Rattle.lot_sync.specs.Passes.{pass_view_shown, IsAtRest}
 
@@ -18,7 +18,7 @@ pub record Starts {V : Type 0} (opening : List V) (threads : ℕ) (p : PassView 
 -- a pass of the lot that is at rest, holds nothing, has seen the opening values, and was used for nothing yet
 pub record IsFresh {V : Type 0} (grows : V → V → Type 0) (names : LotNames V) (p : PassShown (LotPassView V)) : Type 0 where
   pub is_of : p.table ≡ names.opening.locks
-  pub rest : IsAtRest grows names (standing_shown p)
+  pub rest : IsAtRest grows names (standing p)
   pub starts : Starts names.values names.threads (pass_view_shown p)
-  pub none_called : p.pass.own.conds.called ≡ replicate (names.locks + names.conds) 0
-  pub none_woken : p.pass.own.conds.woken ≡ replicate (names.locks + names.conds) 0
+  pub none_called : p.own.conds.called ≡ replicate (names.locks + names.conds) 0
+  pub none_woken : p.own.conds.woken ≡ replicate (names.locks + names.conds) 0

@@ -1,8 +1,7 @@
 //! The memory of a lot that starts, and the pool of its passes.
-ghost use Rattle.std.specs.Prelude.{◌≡◌, ◌+◌, ◌<◌, ◌≤◌, ℕ, length, vec_len, vec_capacity, IfOk};
+ghost use Rattle.std.specs.Prelude.{◌≡◌, ◌+◌, ◌<◌, ◌≤◌, length, vec_len, vec_capacity, IfOk};
 ghost use Rattle.std.specs.List.{All};
-ghost use Rattle.lot_rights.specs.Shown.{PassShown, RootShown};
-ghost use Rattle.lot_whole.specs.declared.views.LotPassView.{LotPassView};
+ghost use Rattle.lot_rights.specs.Shown.{RootShown};
 ghost use Rattle.lot_whole.specs.declared.views.LotRootView.{LotRootView};
 ghost use Rattle.lot_scheme.specs.Roots.{IsInItsKind};
 ghost use Rattle.lot_waits.specs.Ledger.{AreZeros};
@@ -77,7 +76,7 @@ pub(crate) fn name_roots<V: Keeps + Send, N: LotName<V> + Send>(
     named: &mut Vec<NamedRoot<V, N>>,
 )
     requires own { All (λ (r : RootShown LotRootView). (r.table ≡ N.opening.locks)
-        × IsInItsKind N.locks N.first_sem r.root.key r.root.own) roots.old.items }
+        × IsInItsKind N.locks N.first_sem r.key r.own) roots.old.items }
     requires room { (vec_len named.old ≡ 0) × (vec_len roots.old ≤ vec_capacity named.old) }
     ensures same { named.new.items ≡ roots.old.items }
     ensures empty { (vec_len roots.new ≡ 0) × (vec_capacity roots.new ≡ vec_capacity roots.old) }

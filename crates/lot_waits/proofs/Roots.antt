@@ -20,52 +20,52 @@ was_owing (Cond q) is = refl
 was_owing (Sem q) is = absurd is
 
 module _ (root now : RootShown LotRootView) where
-  named : (own : CondRootView) → IsCondNow root own now → now.root.key ≡ root.root.key
-  named own is = ap (λ (r : RootShown LotRootView). r.root.key) is.is
+  named : (own : CondRootView) → IsCondNow root own now → now.key ≡ root.key
+  named own is = ap (λ (r : RootShown LotRootView). r.key) is.is
 
-  lined : (own : CondRootView) → IsCondNow root own now → line_in now.root.own ≡ own.line
-  lined own is = ap (λ (r : RootShown LotRootView). line_in r.root.own) is.is
+  lined : (own : CondRootView) → IsCondNow root own now → line_in now.own ≡ own.line
+  lined own is = ap (λ (r : RootShown LotRootView). line_in r.own) is.is
 
-  owing : (own : CondRootView) → IsCondNow root own now → owes_in now.root.own ≡ debts own.owes
-  owing own is = ap (λ (r : RootShown LotRootView). owes_in r.root.own) is.is
+  owing : (own : CondRootView) → IsCondNow root own now → owes_in now.own ≡ debts own.owes
+  owing own is = ap (λ (r : RootShown LotRootView). owes_in r.own) is.is
 
   -- whoever owed nobody owes these alone
-  owes_these : (own : CondRootView) (line : List ℕ) → IsCondNow root own now → own.owes ≡ (as_cond root.root.own).owes ++ line
-      → owes_in root.root.own ≡ [] → owes_in now.root.own ≡ debts line
+  owes_these : (own : CondRootView) (line : List ℕ) → IsCondNow root own now → own.owes ≡ (as_cond root.own).owes ++ line
+      → owes_in root.own ≡ [] → owes_in now.own ≡ debts line
   owes_these own line is more none = owing own is ∙ ap debts more
-      ∙ owes_only (as_cond root.root.own).owes line (sym (was_owing root.root.own is.kind) ∙ none)
+      ∙ owes_only (as_cond root.own).owes line (sym (was_owing root.own is.kind) ∙ none)
 
   -- the thread is last in the line
   pub queues : {V : Type 0} (p q : LotStanding V) → q.thread ≡ p.thread
-      → IsCondNow root (enlisted_root (as_cond root.root.own) p.thread) now
+      → IsCondNow root (enlisted_root (as_cond root.own) p.thread) now
       → Queues root_view (λ (r : LotStanding V). r.thread) p root true q now
   queues p q same is =
-      let own : CondRootView = enlisted_root (as_cond root.root.own) p.thread in
+      let own : CondRootView = enlisted_root (as_cond root.own) p.thread in
       record {
         caller = same;
         named = named own is;
-        owing = owing own is ∙ sym (was_owing root.root.own is.kind);
-        lined = lined own is ∙ ap (λ xs. xs ++ p.thread ∷ []) (sym (cond_line root.root.own is.kind));
+        owing = owing own is ∙ sym (was_owing root.own is.kind);
+        lined = lined own is ∙ ap (λ xs. xs ++ p.thread ∷ []) (sym (cond_line root.own is.kind));
       }
 
   -- the first n were taken
-  pub dequeues : (n : ℕ) → IsCondNow root (called_root (as_cond root.root.own) n) now → owes_in root.root.own ≡ []
+  pub dequeues : (n : ℕ) → IsCondNow root (called_root (as_cond root.own) n) now → owes_in root.own ≡ []
       → Dequeues root_view n root now
   dequeues n is none =
-      let own : CondRootView = called_root (as_cond root.root.own) n in
-      let same = sym (cond_line root.root.own is.kind) in
+      let own : CondRootView = called_root (as_cond root.own) n in
+      let same = sym (cond_line root.own is.kind) in
       record {
         named = named own is;
         lined = lined own is ∙ ap (drop n) same;
-        owing = owes_these own (take n (as_cond root.root.own).line) is refl none ∙ ap (λ xs. debts (take n xs)) same;
+        owing = owes_these own (take n (as_cond root.own).line) is refl none ∙ ap (λ xs. debts (take n xs)) same;
       }
 
   -- all were taken
-  pub dequeues_all : IsCondNow root (swept_root (as_cond root.root.own)) now → owes_in root.root.own ≡ [] → DequeuesAll root_view root now
+  pub dequeues_all : IsCondNow root (swept_root (as_cond root.own)) now → owes_in root.own ≡ [] → DequeuesAll root_view root now
   dequeues_all is none =
-      let own : CondRootView = swept_root (as_cond root.root.own) in
+      let own : CondRootView = swept_root (as_cond root.own) in
       record {
         named = named own is;
         lined = lined own is;
-        owing = owes_these own (as_cond root.root.own).line is refl none ∙ ap debts (sym (cond_line root.root.own is.kind));
+        owing = owes_these own (as_cond root.own).line is refl none ∙ ap debts (sym (cond_line root.own is.kind));
       }

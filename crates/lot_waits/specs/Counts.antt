@@ -3,7 +3,7 @@ use Rattle.std.specs.Prelude.{◌≡◌, ℕ, ◌+◌, ◌%◌, List, map, drop,
 use Rattle.lot_core.specs.Parts.{IsAmongConds}
 use Rattle.lot_rights.specs.Shown.{PassShown}
 use Rattle.lot_whole.specs.declared.views.LotPassView.{LotPassView}
-use Rattle.lot_scheme.specs.Standing.{LotStanding, standing_shown}
+use Rattle.lot_scheme.specs.Standing.{LotStanding, standing}
 
 -- a thread, and by key: the sleepers that it took from the condition's line, and its own waits that ended
 pub record CountsView : Type 0 where
@@ -17,7 +17,7 @@ module _ {V : Type 0} where
   counts_in p = record { thread = p.thread; called = p.own.conds.called; woken = p.own.conds.woken }
 
   abbrev pub counts_shown : PassShown (LotPassView V) → CountsView
-  counts_shown p = counts_in (standing_shown p)
+  counts_shown p = counts_in (standing p)
 
 -- the thread t, which has counted nothing yet, among so many keys
 abbrev pub uncounted : ℕ → ℕ → CountsView

@@ -10,8 +10,7 @@ use Rattle.lot_events.specs.declared.events.Seen.TheVariants.{Bool as Saw, Done,
 use Rattle.lot_rights.specs.declared.views.Access.{Access}
 use Rattle.lot_rights.specs.declared.views.Access.TheVariants.{Makes, Finds}
 use Rattle.lot_rights.specs.declared.views.Entry.{Entry}
-use Rattle.lot_rights.specs.declared.views.PassRight.{PassRight}
-use Rattle.lot_rights.specs.declared.views.RootRight.{RootRight}
+use Rattle.lot_rights.specs.Shown.{PassShown, RootShown}
 use Rattle.lot_rights.specs.Layout.{word_at}
 use Rattle.lot_rights.specs.Steps.{Notes, pass_after, AllowsPass, AllowsBoth}
 use Rattle.lot_words.specs.CallersRule.{CallersRule}
@@ -45,67 +44,67 @@ last_is : (a : Access) (xs : List Entry) (x : Entry) → last_access a (xs ++ x 
 last_is a [] x = refl
 last_is a (y ∷ xs) x = last_is y.access xs x
 
-pub notes_tell : {P : Type 0} (p : PassRight P) (own own' : P) (a a' : Access) → Notes p own' a' (pass_after p own 0 a) → (own ≡ own')
+pub notes_tell : {P : Type 0} (p : PassShown P) (own own' : P) (a a' : Access) → Notes p own' a' (pass_after p own 0 a) → (own ≡ own')
     × (a ≡ a')
 notes_tell {P} p own own' a a' h = (
-  ap (λ (q : PassRight P). q.own) h.1,
+  ap (λ (q : PassShown P). q.own) h.1,
   sym (last_is a p.made (record { at = 0; access = a }))
-      ∙ (ap (λ (q : PassRight P). last_access a q.made) h.1 ∙ last_is a p.made (record { at = h.0; access = a' })),
+      ∙ (ap (λ (q : PassShown P). last_access a q.made) h.1 ∙ last_is a p.made (record { at = h.0; access = a' })),
 )
 
 -- ---- what each step tells of the lot's pass
 module _ {V Part : Type 0} (rule : CallersRule V Part) where
-  abbrev pub Takes : PassRight (LotPassView V) → ℕ → ℕ → PassRight (LotPassView V) → Type 0
+  abbrev pub Takes : PassShown (LotPassView V) → ℕ → ℕ → PassShown (LotPassView V) → Type 0
   Takes p l n q = MatchBool (bit_and n 1 == 0) (GetsBy rule p l (Makes (Take p.thread l) (Saw true)) q)
       (NotesIn lock p (wanting p.own.locks l) (Makes (Take p.thread l) (Saw false)) q)
 
-  abbrev pub Tries : PassRight (LotPassView V) → ℕ → ℕ → PassRight (LotPassView V) → Type 0
+  abbrev pub Tries : PassShown (LotPassView V) → ℕ → ℕ → PassShown (LotPassView V) → Type 0
   Tries p l n q = MatchBool (bit_and n 1 == 0) (GetsBy rule p l (Makes (Try p.thread l) (Saw true)) q)
       (NotesIn lock p p.own.locks (Makes (Try p.thread l) (Saw false)) q)
 
-  abbrev pub TakesFree : PassRight (LotPassView V) → ℕ → ℕ → PassRight (LotPassView V) → Type 0
+  abbrev pub TakesFree : PassShown (LotPassView V) → ℕ → ℕ → PassShown (LotPassView V) → Type 0
   TakesFree p l n q = MatchBool (n == 0) (GetsBy rule p l (Makes (Take p.thread l) (Saw true)) q) ((x : ℕ) × (x ≢ 0) × FindsOf p l x q)
 
-abbrev pub Marks : {V : Type 0} → PassRight (LotPassView V) → ℕ → ℕ → PassRight (LotPassView V) → Type 0
+abbrev pub Marks : {V : Type 0} → PassShown (LotPassView V) → ℕ → ℕ → PassShown (LotPassView V) → Type 0
 Marks p l n q = MatchBool (n == 1) (NotesIn lock p p.own.locks (Makes (Mark p.thread l) Done) q) ((x : ℕ) × (x ≢ 1) × FindsOf p l x q)
 
-abbrev pub Frees : {V : Type 0} → PassRight (LotPassView V) → ℕ → ℕ → PassRight (LotPassView V) → Type 0
+abbrev pub Frees : {V : Type 0} → PassShown (LotPassView V) → ℕ → ℕ → PassShown (LotPassView V) → Type 0
 Frees {V} p l n q = MatchBool (n == 1)
     ((y : V) → IsIn p.own.locks l y → NotesIn lock p (letting_go p.own.locks l y) (Makes (Free p.thread l) (Saw true)) q)
     (NotesIn lock p (finding_parked p.own.locks l) (Makes (Free p.thread l) (Saw false)) q)
 
-abbrev pub Parks : {V : Type 0} → PassRight (LotPassView V) → RootRight LockRootView → ℕ → PassRight (LotPassView V) → RootRight LotRootView
+abbrev pub Parks : {V : Type 0} → PassShown (LotPassView V) → RootShown LockRootView → ℕ → PassShown (LotPassView V) → RootShown LotRootView
     → Type 0
 Parks p q n p' q' = NotesIn lock p (parked_pass p.own.locks (n == 3)) (Makes (Park p.thread q.key) (Saw (n == 3))) p'
     × (q' ≡ whole_root lock (record q { own = parked_root q.own p.thread (n == 3) }))
 
-abbrev pub Passes : {V : Type 0} → PassRight (LotPassView V) → RootRight LockRootView → Bool → Bool → PassRight (LotPassView V)
-    → RootRight LotRootView → Type 0
+abbrev pub Passes : {V : Type 0} → PassShown (LotPassView V) → RootShown LockRootView → Bool → Bool → PassShown (LotPassView V)
+    → RootShown LotRootView → Type 0
 Passes {V} p q fair more p' q' =
     ((y : V) → IsIn p.own.locks q.key y
     → NotesIn lock p (letting_go p.own.locks q.key y) (Makes (Pass p.thread q.key fair more) (Sleeper (first q.own.line))) p')
     × (q' ≡ whole_root lock (record q { own = passed_root q.own fair q.own.line }))
 
-abbrev pub Enlists : {V : Type 0} → PassRight (LotPassView V) → RootRight CondRootView → ℕ → PassRight (LotPassView V)
-    → RootRight LotRootView
+abbrev pub Enlists : {V : Type 0} → PassShown (LotPassView V) → RootShown CondRootView → ℕ → PassShown (LotPassView V)
+    → RootShown LotRootView
     → Type 0
 Enlists p q l p' q' = NotesIn cond p (enlisted p.own.conds q.key) (Makes (Enlist p.thread q.key l) Done) p'
     × (q' ≡ whole_root cond (record q { own = enlisted_root q.own p.thread }))
 
-abbrev pub Looks : {V : Type 0} → PassRight (LotPassView V) → ℕ → ℕ → PassRight (LotPassView V) → Type 0
+abbrev pub Looks : {V : Type 0} → PassShown (LotPassView V) → ℕ → ℕ → PassShown (LotPassView V) → Type 0
 Looks p c n q = NotesIn cond p p.own.conds (Makes (Look p.thread c) (Saw (n == 1))) q
 
-abbrev pub Lowers : {V : Type 0} → PassRight (LotPassView V) → ℕ → PassRight (LotPassView V) → Type 0
+abbrev pub Lowers : {V : Type 0} → PassShown (LotPassView V) → ℕ → PassShown (LotPassView V) → Type 0
 Lowers p c q = NotesIn cond p (lowering p.own.conds c) (Makes (Lower p.thread c) Done) q
 
-abbrev pub CallsSome : {V : Type 0} → PassRight (LotPassView V) → RootRight CondRootView → ℕ → Bool → PassRight (LotPassView V)
-    → RootRight LotRootView → Type 0
+abbrev pub CallsSome : {V : Type 0} → PassShown (LotPassView V) → RootShown CondRootView → ℕ → Bool → PassShown (LotPassView V)
+    → RootShown LotRootView → Type 0
 CallsSome p q n more p' q' =
     NotesIn cond p (called_more p.own.conds q.key (dequeued_count n q.own.line))
     (Makes (Call p.thread q.key n more) (Count (dequeued_count n q.own.line))) p'
     × (q' ≡ whole_root cond (record q { own = called_root q.own n }))
 
-abbrev pub Sweeps : {V : Type 0} → PassRight (LotPassView V) → RootRight CondRootView → PassRight (LotPassView V) → RootRight LotRootView
+abbrev pub Sweeps : {V : Type 0} → PassShown (LotPassView V) → RootShown CondRootView → PassShown (LotPassView V) → RootShown LotRootView
     → Type 0
 Sweeps p q p' q' =
     NotesIn cond p (swept_pass p.own.conds q.key (length q.own.line)) (Makes (Sweep p.thread q.key) (Count (length q.own.line))) p'
@@ -113,17 +112,17 @@ Sweeps p q p' q' =
 
 module _ {V Part : Type 0} (rule : CallersRule V Part) (z : LotSize) (xs : List V) where
   -- ---- what is carried, of one step
-  module _ (j : Which) (p : PassRight (LotPassView V)) where
+  module _ (j : Which) (p : PassShown (LotPassView V)) where
     -- in each world that knows the pass, the access is one that its thread may make
     abbrev pub MaySpeak : Access → Type 0
     MaySpeak a = (w : LotWorld rule z xs) (ws : List ℕ) (hs : List (maybe.Option (Option V))) → LotFits rule z xs w ws hs
         → LotPassIs rule z xs w p.thread p.own → Speaks rule z xs j w a
 
-    abbrev pub Carried : (PassRight (LotPassView V) → Type 0) → PassIn V j → Access → Type 0
+    abbrev pub Carried : (PassShown (LotPassView V) → Type 0) → PassIn V j → Access → Type 0
     Carried whole own a = MayBeAway j p.own own × MaySpeak a × ((k : ℕ) → whole (pass_after p (lot_own j p.own own a) k a))
 
     -- a step whose entry is known
-    pub carry : (own' : PassIn V j) (a' : Access) (whole : PassRight (LotPassView V) → Type 0) → MayBeAway j p.own own' → MaySpeak a'
+    pub carry : (own' : PassIn V j) (a' : Access) (whole : PassShown (LotPassView V) → Type 0) → MayBeAway j p.own own' → MaySpeak a'
         → ((k : ℕ) → whole (pass_after p (lot_own j p.own own' a') k a')) → (own : PassIn V j) (a : Access)
         → Notes (part_pass j p) own' a' (pass_after (part_pass j p) own 0 a) → Carried whole own a
     carry own' a' whole may speaks told own a notes =
@@ -141,14 +140,14 @@ module _ {V Part : Type 0} (rule : CallersRule V Part) (z : LotSize) (xs : List 
     at_key c is w ws hs ok fit = inl (c, (is, refl))
 
   -- the same of a pass and a root
-  module _ (j : Which) (p : PassRight (LotPassView V)) (q : RootRight (RootIn j)) where
+  module _ (j : Which) (p : PassShown (LotPassView V)) (q : RootShown (RootIn j)) where
     abbrev pub MaySpeakBoth : Access → Type 0
     MaySpeakBoth a = (w : LotWorld rule z xs) (ws : List ℕ) (hs : List (maybe.Option (Option V))) → LotFits rule z xs w ws hs
         → LotPassIs rule z xs w p.thread p.own
         → LotRootIs rule z xs w q.key (root_from j q.own) → Speaks rule z xs j w a
 
     pub carry_both : (own' : PassIn V j) (its' : RootIn j) (a' : Access)
-        (whole : PassRight (LotPassView V) → RootRight LotRootView → Type 0)
+        (whole : PassShown (LotPassView V) → RootShown LotRootView → Type 0)
         → MayBeAway j p.own own' → MaySpeakBoth a'
         → ((k : ℕ) → whole (pass_after p (lot_own j p.own own' a') k a') (whole_root j (record q { own = its' })))
         → (own : PassIn V j) (its : RootIn j) (a : Access) → Notes (part_pass j p) own' a' (pass_after (part_pass j p) own 0 a)
@@ -157,7 +156,7 @@ module _ {V Part : Type 0} (rule : CallersRule V Part) (z : LotSize) (xs : List 
         × ((k : ℕ) → whole (pass_after p (lot_own j p.own own a) k a) (whole_root j (record q { own = its })))
     carry_both own' its' a' whole may speaks told own its a notes root =
         let t = notes_tell (part_pass j p) own own' a a' notes in
-        let r : its ≡ its' = ap (λ (y : RootRight (RootIn j)). y.own) root in (
+        let r : its ≡ its' = ap (λ (y : RootShown (RootIn j)). y.own) root in (
           subst (MayBeAway j p.own) (sym t.0) may,
           subst MaySpeakBoth (sym t.1) speaks,
           λ k. subst (λ b. whole (pass_after p (lot_own j p.own own b) k b) (whole_root j (record q { own = its }))) (sym t.1)
@@ -166,7 +165,7 @@ module _ {V Part : Type 0} (rule : CallersRule V Part) (z : LotSize) (xs : List 
         )
 
   -- ---- locks
-  module _ (p : PassRight (LotPassView V)) (l : ℕ) (here : l < z.locks) where
+  module _ (p : PassShown (LotPassView V)) (l : ℕ) (here : l < z.locks) where
     is_lock : IsKeyIn z lock l
     is_lock = (omega arith, omega arith)
 
@@ -312,7 +311,7 @@ module _ {V Part : Type 0} (rule : CallersRule V Part) (z : LotSize) (xs : List 
           (at_key lock p l is_lock) carries_frees
 
   -- ---- locks, with their roots
-  module _ (p : PassRight (LotPassView V)) (q : RootRight LockRootView) where
+  module _ (p : PassShown (LotPassView V)) (q : RootShown LockRootView) where
     pub parks : MayPark p.own q.key → AllowsBoth (lot_meaning rule z xs) (word_at q.key) (λ n. n) p (whole_root lock q) (Parks p q)
     parks may = lifts_both rule z xs lock (λ n. n) p q (locks.Parks (part_pass lock p) q) (Parks p q)
         (lock_roots.parks rule (lock_size z) xs (part_pass lock p) q (may.0 lock) may.1)
@@ -360,7 +359,7 @@ module _ {V Part : Type 0} (rule : CallersRule V Part) (z : LotSize) (xs : List 
   idle_calms : (p : LotPassView V) → IsIdle p → IsCalm p.conds
   idle_calms p idle = (out_none p.conds.out (idle.0.up cond), idle.0.sweeps)
 
-  module _ (p : PassRight (LotPassView V)) (c : ℕ) (among : IsKeyIn z cond c) (idle : IsIdle p.own) where
+  module _ (p : PassShown (LotPassView V)) (c : ℕ) (among : IsKeyIn z cond c) (idle : IsIdle p.own) where
     pub looks : AllowsPass (lot_meaning rule z xs) (word_at c) (λ n. n) p (Looks p c)
     looks = lifts_pass rule z xs cond (word_at c) (λ n. n) p (conds.Looks (part_pass cond p) c) (Looks p c)
         (conds.looks (cond_size z) (part_pass cond p) c among (idle_calms p.own idle))
@@ -375,7 +374,7 @@ module _ {V Part : Type 0} (rule : CallersRule V Part) (z : LotSize) (xs : List 
         (λ w ws hs ok fit. (tt, idle_calm rule z xs w ws hs ok p.thread p.own fit idle)) (λ k. (k, refl)) own a (told 0))
 
   -- ---- conditions, with their roots
-  module _ (p : PassRight (LotPassView V)) (q : RootRight CondRootView) where
+  module _ (p : PassShown (LotPassView V)) (q : RootShown CondRootView) where
     pub enlists : IsIdle p.own → (l : ℕ) → l < z.locks → Holds p.own.locks l
         → AllowsBoth (lot_meaning rule z xs) (word_at q.key) (λ _. 1) p (whole_root cond q) (λ _. Enlists p q l)
     enlists idle l near holds = lifts_both rule z xs cond (λ _. 1) p q (λ _. conds.EnlistsWith l (part_pass cond p) q) (λ _. Enlists p q l)

@@ -51,7 +51,7 @@ sum_images f g (x ∷ xs) = sum_by-cons g (f x) (map f xs)
     ∙ (ap (λ n. g (f x) + n) (sum_images f g xs) ∙ sym (sum_by-cons (λ y. g (f y)) x xs))
 
 -- passes of the same threads have the same numbers
-same_times : {P Q : Type 0} (R R' : Type 0) (f : PassShown P → PassShown Q) → ((p : PassShown P) → (f p).pass.thread ≡ p.pass.thread)
+same_times : {P Q : Type 0} (R R' : Type 0) (f : PassShown P → PassShown Q) → ((p : PassShown P) → (f p).thread ≡ p.thread)
     → (i : ℕ) (passes : List (PassShown P))
     → times {R = Right Q R'} number i (passes_in (map f passes)) ≡ times {R = Right P R} number i (passes_in passes)
 same_times R R' f same i [] = refl
@@ -62,7 +62,7 @@ module _ {V Part : Type 0} (rule : CallersRule V Part) (z : LotSize) (opening : 
     (ys : List (Option V)) where
   -- a pass, as a kind has it
   abbrev in_kind : (j : Which) → PassShown (LotPassView V) → PassShown (PassIn V j)
-  in_kind j p = record { table = p.table; pass = part_pass j p.pass }
+  in_kind j p = part_pass j p
 
   abbrev slots_in : (j : Which) → List (SlotOf V j)
   slots_in lock = ys
@@ -74,13 +74,13 @@ module _ {V Part : Type 0} (rule : CallersRule V Part) (z : LotSize) (opening : 
     w = left.world
 
     passes_fit : (j : Which) → All
-        (λ (p : PassShown (PassIn V j)). (meaning_of rule z opening j).PassFits (w.each j) p.pass.thread p.pass.own)
+        (λ (p : PassShown (PassIn V j)). (meaning_of rule z opening j).PassFits (w.each j) p.thread p.own)
         (map (in_kind j) passes)
-    passes_fit j = All-map (λ (p : PassShown (PassIn V j)). (meaning_of rule z opening j).PassFits (w.each j) p.pass.thread p.pass.own)
+    passes_fit j = All-map (λ (p : PassShown (PassIn V j)). (meaning_of rule z opening j).PassFits (w.each j) p.thread p.own)
         (in_kind j) passes
-        (All-weaker (λ (p : PassShown (LotPassView V)). LotPassIs rule z opening w p.pass.thread p.pass.own)
-        (λ (p : PassShown (LotPassView V)). (meaning_of rule z opening j).PassFits (w.each j) p.pass.thread (own_of V p.pass.own j))
-        (λ p fit. (subst (PassOk rule z opening w p.pass.thread) fit.1 (left.fits.passes p.pass.thread fit.0)).each j) passes
+        (All-weaker (λ (p : PassShown (LotPassView V)). LotPassIs rule z opening w p.thread p.own)
+        (λ (p : PassShown (LotPassView V)). (meaning_of rule z opening j).PassFits (w.each j) p.thread (own_of V p.own j))
+        (λ p fit. (subst (PassOk rule z opening w p.thread) fit.1 (left.fits.passes p.thread fit.0)).each j) passes
         left.passes_fit)
 
     once : (j : Which) (i : ℕ) → times {R = Right (PassIn V j) (RootIn j)} number i (passes_in (map (in_kind j) passes) ++ []) ≤ 1
@@ -111,13 +111,13 @@ module _ {V Part : Type 0} (rule : CallersRule V Part) (z : LotSize) (opening : 
       deep = deep j;
       at_home = at_home j;
       passes_fit = passes_fit j;
-      roots_fit = All-nil (λ (q : RootShown (RootIn j)). (meaning_of rule z opening j).RootFits (w.each j) q.root.key q.root.own);
+      roots_fit = All-nil (λ (q : RootShown (RootIn j)). (meaning_of rule z opening j).RootFits (w.each j) q.key q.own);
       once = once j;
     }
 
-    module _ (all : (t : ℕ) → t < z.threads → Any (λ (p : PassShown (LotPassView V)). p.pass.thread ≡ t) passes) where
-      all_in : (j : Which) (t : ℕ) → t < z.threads → Any (λ (p : PassShown (PassIn V j)). p.pass.thread ≡ t) (map (in_kind j) passes)
-      all_in j t near = some_image (in_kind j) (λ (p : PassShown (PassIn V j)). p.pass.thread ≡ t) passes (all t near)
+    module _ (all : (t : ℕ) → t < z.threads → Any (λ (p : PassShown (LotPassView V)). p.thread ≡ t) passes) where
+      all_in : (j : Which) (t : ℕ) → t < z.threads → Any (λ (p : PassShown (PassIn V j)). p.thread ≡ t) (map (in_kind j) passes)
+      all_in j t near = some_image (in_kind j) (λ (p : PassShown (PassIn V j)). p.thread ≡ t) passes (all t near)
 
       -- ---- permits
       pub all_out : (k : ℕ) → w.whole.sems.left k + out_with passes k ≡ permits_of z k
@@ -126,7 +126,7 @@ module _ {V Part : Type 0} (rule : CallersRule V Part) (z : LotSize) (opening : 
           let kind = sems.all_out (sem_size z) (map (in_kind sem) passes) [] (w.words sem) [] (left_in sem) (all_in sem) k in
           let same : w.whole.sems.left k ≡ (w.each sem).part.sems.left k =
           ap (λ (a : SemaphorePart). a.sems.left k) (left.fits.agrees sem) in
-          let sum = sum_images (in_kind sem) (λ (p : PassShown (PassIn V sem)). get_or p.pass.own.out k 0) passes in
+          let sum = sum_images (in_kind sem) (λ (p : PassShown (PassIn V sem)). get_or p.own.out k 0) passes in
           omega (arith, kind, same, sum)
 
       module _ (done : All HasDone passes) where
@@ -139,9 +139,9 @@ module _ {V Part : Type 0} (rule : CallersRule V Part) (z : LotSize) (opening : 
         -- ---- the ledger
         pub balanced : (c : ℕ) → called_in passes c ≡ woken_in passes c
         balanced c =
-            sym (sum_images (in_kind cond) (λ (p : PassShown (PassIn V cond)). get_or p.pass.own.called c 0) passes)
+            sym (sum_images (in_kind cond) (λ (p : PassShown (PassIn V cond)). get_or p.own.called c 0) passes)
             ∙ (conds.balanced (cond_size z) (map (in_kind cond) passes) [] (w.words cond) [] (left_in cond) is_in (all_in cond) c
-            ∙ sum_images (in_kind cond) (λ (p : PassShown (PassIn V cond)). get_or p.pass.own.woken c 0) passes)
+            ∙ sum_images (in_kind cond) (λ (p : PassShown (PassIn V cond)). get_or p.own.woken c 0) passes)
 
         -- ---- values
         pub last_lies : (l : ℕ) → l < z.locks → (y : V) × (get_elem? ys l ≡ some (Some y))
@@ -151,16 +151,16 @@ module _ {V Part : Type 0} (rule : CallersRule V Part) (z : LotSize) (opening : 
         module _ (vs : List V) (len : length vs ≡ z.locks)
             (each : (k : ℕ) (y : V) → slice_get vs k ≡ Some y → get_elem? ys k ≡ some (Some y)) where
           pub last_found : All (λ (p : PassShown (LotPassView V)). (l : ℕ) (y : V) → slice_get vs l ≡ Some y
-              → FoundOk rule l p.pass.thread p.pass.own.locks y) passes
+              → FoundOk rule l p.thread p.own.locks y) passes
           last_found = all_images (in_kind lock)
-              (λ (p : PassShown (PassIn V lock)). (l : ℕ) (y : V) → slice_get vs l ≡ Some y → FoundOk rule l p.pass.thread p.pass.own y)
+              (λ (p : PassShown (PassIn V lock)). (l : ℕ) (y : V) → slice_get vs l ≡ Some y → FoundOk rule l p.thread p.own y)
               passes
               (locks.last_found rule (lock_size z) opening (map (in_kind lock) passes) [] (w.words lock) ys (left_in lock) holds_none
               (all_in lock) vs len each)
 
           pub last_seen : (l : ℕ) (y : V) → slice_get vs l ≡ Some y
-              → Any (λ (p : PassShown (LotPassView V)). HasSeen p.pass.own.locks l y) passes
-          last_seen l y e = some_before (in_kind lock) (λ (p : PassShown (PassIn V lock)). HasSeen p.pass.own l y) passes
+              → Any (λ (p : PassShown (LotPassView V)). HasSeen p.own.locks l y) passes
+          last_seen l y e = some_before (in_kind lock) (λ (p : PassShown (PassIn V lock)). HasSeen p.own l y) passes
               (locks.last_seen rule (lock_size z) opening (map (in_kind lock) passes) [] (w.words lock) ys (left_in lock) holds_none
               (all_in lock) vs len each l y e)
 
@@ -174,14 +174,14 @@ module _ {V Part : Type 0} (rule : CallersRule V Part) (z : LotSize) (opening : 
   line_is v agrees c (Sem q) h = ap (λ (a : SemaphorePart). a.sems.line c) (agrees sem) ∙ h.1.1
 
   pub told_to : Ended (lot_meaning rule z opening) passes roots ws ys
-      → ((t : ℕ) → t < z.threads → Any (λ (p : PassShown (LotPassView V)). p.pass.thread ≡ t) passes) → IsToldTo z passes roots
+      → ((t : ℕ) → t < z.threads → Any (λ (p : PassShown (LotPassView V)). p.thread ≡ t) passes) → IsToldTo z passes roots
   told_to ended all =
       let told = ended_recounted (lot_meaning rule z opening) passes roots ws ys ended in
       record {
         recounted = told;
         run = one_run z (events_in ended.log) ended.left.world.whole ended.left.fits.reached told.run;
-        lines = All-weaker (λ (q : RootShown LotRootView). LotRootIs rule z opening ended.left.world q.root.key q.root.own)
-            (λ (q : RootShown LotRootView). LineIs ended.left.world.whole q.root.key q.root.own)
-            (λ q. line_is ended.left.world ended.left.fits.agrees q.root.key q.root.own) roots ended.left.roots_fit;
+        lines = All-weaker (λ (q : RootShown LotRootView). LotRootIs rule z opening ended.left.world q.key q.own)
+            (λ (q : RootShown LotRootView). LineIs ended.left.world.whole q.key q.own)
+            (λ q. line_is ended.left.world ended.left.fits.agrees q.key q.own) roots ended.left.roots_fit;
         permits = all_out ended.left all;
       }

@@ -6,8 +6,7 @@ use Rattle.std.specs.List.{Contains}
 use mathlib.Core.Option as maybe
 use Rattle.lot_rights.specs.declared.views.Access.{Access}
 use Rattle.lot_rights.specs.declared.views.Access.TheVariants.{Posts, Collects}
-use Rattle.lot_rights.specs.declared.views.PassRight.{PassRight}
-use Rattle.lot_rights.specs.declared.views.RootRight.{RootRight}
+use Rattle.lot_rights.specs.Shown.{PassShown, RootShown}
 use Rattle.lot_rights.specs.Layout.{letter_at}
 use Rattle.lot_rights.specs.Steps.{Notes, RootNotes, pass_after, root_after, AllowsPass, AllowsRoot}
 use Rattle.lot_words.specs.CallersRule.{CallersRule}
@@ -36,15 +35,17 @@ use Rattle.lot_whole.proofs.Steps.{root_in}
 use Rattle.lot_whole.proofs.Tells.{quiet, quiet_else, lock_debtor, cond_debtor, sem_debtor}
 
 -- ---- an entry of a root tells what it knew then
-last_is : {R : Type 0} (q : RootRight R) (own own' : R) (a a' : Access) → RootNotes q own' a' (root_after q own 0 a) → (own ≡ own')
+last_is : {R : Type 0} (q : RootShown R) (own own' : R) (a a' : Access) → RootNotes q own' a' (root_after q own 0 a) → (own ≡ own')
     × (a ≡ a')
 last_is {R} q own own' a a' h =
-    let t = notes_tell (record { thread = q.key; made = q.made; own = q.own }) own own' a a'
-    (h.0, ap (λ (y : RootRight R). let p : PassRight R = record { thread = y.key; made = y.made; own = y.own } in p) h.1) in t
+    let t = notes_tell (record { table = q.table; thread = q.key; made = q.made; own = q.own }) own own' a a' (
+      h.0,
+      ap (λ (y : RootShown R). let p : PassShown R = record { table = y.table; thread = y.key; made = y.made; own = y.own } in p) h.1,
+    ) in t
 
 module _ {V Part : Type 0} (rule : CallersRule V Part) (z : LotSize) (xs : List V) where
   -- ---- posting
-  carry_root : (j : Which) (q : RootRight (RootIn j)) (u token : ℕ) (paid : RootIn j)
+  carry_root : (j : Which) (q : RootShown (RootIn j)) (u token : ℕ) (paid : RootIn j)
       → ((w : LotWorld rule z xs) (ws : List ℕ) (hs : List (maybe.Option (Option V))) → LotFits rule z xs w ws hs
       → LotRootIs rule z xs w q.key (root_from j q.own) → (u < z.threads) × Quiet rule z xs j w u)
       → CarriesRoot rule z xs j q (λ _. RootNotes q paid (Posts q.key u token))
@@ -58,7 +59,7 @@ module _ {V Part : Type 0} (rule : CallersRule V Part) (z : LotSize) (xs : List 
   place_of : (j : Which) (w : LotWorld rule z xs) (u : ℕ) → (u < z.threads) × Quiet rule z xs j w u → InPlace rule z xs j w (letter_at u)
   place_of j w u h = inr (u, (h.0, refl, h.1))
 
-  pub posts_lock : (q : RootRight LockRootView) (u k : ℕ) → q.own.owes ≡ Some (u, k)
+  pub posts_lock : (q : RootShown LockRootView) (u k : ℕ) → q.own.owes ≡ Some (u, k)
       → AllowsRoot (lot_meaning rule z xs) (letter_at u) (λ _. k + 1) (whole_root lock q)
       (λ _. RootNotesIn lock (whole_root lock q) (lock_paid q.own) (Posts q.key u k))
   posts_lock q u k debt =
@@ -70,7 +71,7 @@ module _ {V Part : Type 0} (rule : CallersRule V Part) (z : LotSize) (xs : List 
       (lock_roots.posts rule (lock_size z) xs q u k debt) (λ w ws hs ok root. place_of lock w u (debtor w ws hs ok root))
       (carry_root lock q u k (lock_paid q.own) debtor)
 
-  pub posts_cond : (q : RootRight CondRootView) (u : ℕ) → Contains q.own.owes u
+  pub posts_cond : (q : RootShown CondRootView) (u : ℕ) → Contains q.own.owes u
       → AllowsRoot (lot_meaning rule z xs) (letter_at u) (λ _. 1) (whole_root cond q)
       (λ _. RootNotesIn cond (whole_root cond q) (cond_paid q.own u) (Posts q.key u 0))
   posts_cond q u debt =
@@ -82,7 +83,7 @@ module _ {V Part : Type 0} (rule : CallersRule V Part) (z : LotSize) (xs : List 
       (cond_turns.posts (cond_size z) q u debt) (λ w ws hs ok root. place_of cond w u (debtor w ws hs ok root))
       (carry_root cond q u 0 (cond_paid q.own u) debtor)
 
-  pub posts_sem : (q : RootRight SemRootView) (u : ℕ) → q.own.owes ≡ Some u
+  pub posts_sem : (q : RootShown SemRootView) (u : ℕ) → q.own.owes ≡ Some u
       → AllowsRoot (lot_meaning rule z xs) (letter_at u) (λ _. 1) (whole_root sem q)
       (λ _. RootNotesIn sem (whole_root sem q) (sem_paid q.own) (Posts q.key u 0))
   posts_sem q u debt =
@@ -97,21 +98,21 @@ module _ {V Part : Type 0} (rule : CallersRule V Part) (z : LotSize) (xs : List 
 -- ---- collecting
 module _ {V Part : Type 0} (rule : CallersRule V Part) where
   -- what the swap tells, by the number found
-  abbrev pub Collecting : PassRight (LotPassView V) → ℕ → PassRight (LotPassView V) → Type 0
+  abbrev pub Collecting : PassShown (LotPassView V) → ℕ → PassShown (LotPassView V) → Type 0
   Collecting p n q = (n ≤ 2) × CollectedBy rule p n q
 
   -- the same, by where the thread is away
-  abbrev CollectingIn : PassRight (LotPassView V) → Bool → Option ℕ → ℕ → PassRight (LotPassView V) → Type 0
+  abbrev CollectingIn : PassShown (LotPassView V) → Bool → Option ℕ → ℕ → PassShown (LotPassView V) → Type 0
   CollectingIn p asleep out zero q = (0 ≤ 2) × Notes p p.own (Collects p.thread None) q
   CollectingIn p asleep out (suc token) q = (suc token ≤ 2) × CollectsIn rule p asleep out token q
 
-  by_number : (p : PassRight (LotPassView V)) (n : ℕ) (q : PassRight (LotPassView V))
+  by_number : (p : PassShown (LotPassView V)) (n : ℕ) (q : PassShown (LotPassView V))
       → CollectingIn p p.own.locks.asleep p.own.conds.out n q
       → Collecting p n q
   by_number p zero q h = h
   by_number p (suc token) q h = h
 
-module _ {V Part : Type 0} (rule : CallersRule V Part) (z : LotSize) (xs : List V) (p : PassRight (LotPassView V)) where
+module _ {V Part : Type 0} (rule : CallersRule V Part) (z : LotSize) (xs : List V) (p : PassShown (LotPassView V)) where
   abbrev t : ℕ
   t = p.thread
 
@@ -200,7 +201,7 @@ module _ {V Part : Type 0} (rule : CallersRule V Part) (z : LotSize) (xs : List 
       }
 
 -- ---- what the number found tells the caller
-module _ {V Part : Type 0} (rule : CallersRule V Part) (p q : PassRight (LotPassView V)) where
+module _ {V Part : Type 0} (rule : CallersRule V Part) (p q : PassShown (LotPassView V)) where
   pub collected_none : (n : ℕ) → n ≡ 0 → Collecting rule p n q → FoundNone p q
   collected_none n e h = subst (λ m. CollectedBy rule p m q) e h.1
 

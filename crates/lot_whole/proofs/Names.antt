@@ -1,6 +1,6 @@
 -- Roots of one kind, and whom they name after a step.
 use Rattle.std.proofs.Common.{◌≡◌, ℕ, ◌⊎◌, refl, subst, inl, inr, ⊎_elim}
-use Rattle.lot_rights.specs.declared.views.RootRight.{RootRight}
+use Rattle.lot_rights.specs.Shown.{RootShown}
 use Rattle.lot_words.specs.declared.views.LockRootView.{LockRootView}
 use Rattle.lot_words.specs.Rule.{names as lock_names}
 use Rattle.lot_conds.specs.declared.views.CondRootView.{CondRootView}
@@ -30,13 +30,13 @@ sem_is (Cond q) is = absurd is
 sem_is (Sem q) is = refl
 
 -- a root of the kind is the one that the kind sees
-pub lock_root : (q : RootRight LotRootView) → IsLockRoot q.own → whole_root lock (lock_of q) ≡ q
+pub lock_root : (q : RootShown LotRootView) → IsLockRoot q.own → whole_root lock (lock_of q) ≡ q
 lock_root q is = λ i. record q { own = lock_is q.own is i }
 
-pub cond_root : (q : RootRight LotRootView) → IsCondRoot q.own → whole_root cond (cond_of q) ≡ q
+pub cond_root : (q : RootShown LotRootView) → IsCondRoot q.own → whole_root cond (cond_of q) ≡ q
 cond_root q is = λ i. record q { own = cond_is q.own is i }
 
-pub sem_root : (q : RootRight LotRootView) → IsSemRoot q.own → whole_root sem (sem_of q) ≡ q
+pub sem_root : (q : RootShown LotRootView) → IsSemRoot q.own → whole_root sem (sem_of q) ≡ q
 sem_root q is = λ i. record q { own = sem_is q.own is i }
 
 -- whom it names then: those whom the kind says that it named, and maybe one more

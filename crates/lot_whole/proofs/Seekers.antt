@@ -8,8 +8,7 @@ use Rattle.lot_events.specs.declared.events.Event.TheVariants.{SemTake, SemMark,
 use Rattle.lot_events.specs.declared.events.Seen.TheVariants.{Bool as Saw, Done, Sleeper}
 use Rattle.lot_rights.specs.declared.views.Access.{Access}
 use Rattle.lot_rights.specs.declared.views.Access.TheVariants.{Makes, Finds}
-use Rattle.lot_rights.specs.declared.views.PassRight.{PassRight}
-use Rattle.lot_rights.specs.declared.views.RootRight.{RootRight}
+use Rattle.lot_rights.specs.Shown.{PassShown, RootShown}
 use Rattle.lot_rights.specs.Layout.{word_at}
 use Rattle.lot_rights.specs.Steps.{Notes, pass_after, AllowsPass, AllowsBoth}
 use Rattle.lot_rights.proofs.Puts.{by_test}
@@ -38,45 +37,45 @@ use Rattle.lot_whole.proofs.Tells.{may_seek, idle_calm}
 -- ---- what each step tells
 module _ {V : Type 0} where
   -- a look at the word of k, by a thread that seeks a permit where none is left
-  abbrev pub Seeks : PassRight (LotPassView V) → ℕ → ℕ → PassRight (LotPassView V) → Type 0
+  abbrev pub Seeks : PassShown (LotPassView V) → ℕ → ℕ → PassShown (LotPassView V) → Type 0
   Seeks p k zero q = TakesPermit p k Empty q
   Seeks p k (suc zero) q = TakesPermit p k Empty q
   Seeks p k (suc (suc n)) q = FindsOf p k (suc (suc n)) q
 
   -- an exchange of the word that was seen
-  abbrev pub Swaps : PassRight (LotPassView V) → ℕ → SemPassView → Event → ℕ → ℕ → PassRight (LotPassView V) → Type 0
+  abbrev pub Swaps : PassShown (LotPassView V) → ℕ → SemPassView → Event → ℕ → ℕ → PassShown (LotPassView V) → Type 0
   Swaps p k own e seen n q = MatchBool (n == seen) (NotesIn sem p own (Makes e (Saw true)) q) (FindsOf p k n q)
 
-  abbrev pub MarksPermit : PassRight (LotPassView V) → ℕ → ℕ → PassRight (LotPassView V) → Type 0
+  abbrev pub MarksPermit : PassShown (LotPassView V) → ℕ → ℕ → PassShown (LotPassView V) → Type 0
   MarksPermit p k n q = MatchBool (n == 0) (NotesIn sem p p.own.sems (Makes (SemMark p.thread k) Done) q)
       ((x : ℕ) × (x ≢ 0) × FindsOf p k x q)
 
-  abbrev pub ParksSem : PassRight (LotPassView V) → RootRight SemRootView → ℕ → PassRight (LotPassView V) → RootRight LotRootView → Type 0
+  abbrev pub ParksSem : PassShown (LotPassView V) → RootShown SemRootView → ℕ → PassShown (LotPassView V) → RootShown LotRootView → Type 0
   ParksSem p q n p' q' = NotesIn sem p (parked_pass p.own.sems (n == 1)) (Makes (SemPark p.thread q.key) (Saw (n == 1))) p'
       × (q' ≡ whole_root sem (record q { own = parked_root q.own p.thread (n == 1) }))
 
-  abbrev pub PassesPermit : PassRight (LotPassView V) → RootRight SemRootView → Bool → PassRight (LotPassView V) → RootRight LotRootView
+  abbrev pub PassesPermit : PassShown (LotPassView V) → RootShown SemRootView → Bool → PassShown (LotPassView V) → RootShown LotRootView
       → Type 0
   PassesPermit p q more p' q' =
       NotesIn sem p (one_permit_less p.own.sems q.key) (Makes (SemPass p.thread q.key more) (Sleeper (first q.own.line))) p'
       × (q' ≡ whole_root sem (record q { own = passed_root q.own q.own.line }))
 
-  abbrev pub Clears : PassRight (LotPassView V) → RootRight SemRootView → PassRight (LotPassView V) → RootRight LotRootView → Type 0
+  abbrev pub Clears : PassShown (LotPassView V) → RootShown SemRootView → PassShown (LotPassView V) → RootShown LotRootView → Type 0
   Clears p q p' q' = NotesIn sem p p.own.sems (Makes (SemClear p.thread q.key) Done) p' × (q' ≡ whole_root sem q)
 
   -- ---- what a number found tells the caller
-  pub seeks_empty : (p : PassRight (LotPassView V)) (k n : ℕ) (q : PassRight (LotPassView V)) → n < 2 → Seeks p k n q
+  pub seeks_empty : (p : PassShown (LotPassView V)) (k n : ℕ) (q : PassShown (LotPassView V)) → n < 2 → Seeks p k n q
       → TakesPermit p k Empty q
   seeks_empty p k zero q few h = h
   seeks_empty p k (suc zero) q few h = h
   seeks_empty p k (suc (suc n)) q few h = absurd (omega arith)
 
-  pub seeks_left : (p : PassRight (LotPassView V)) (k n : ℕ) (q : PassRight (LotPassView V)) → IsAnyLeft n → Seeks p k n q → FindsOf p k n q
+  pub seeks_left : (p : PassShown (LotPassView V)) (k n : ℕ) (q : PassShown (LotPassView V)) → IsAnyLeft n → Seeks p k n q → FindsOf p k n q
   seeks_left p k zero q some h = absurd (omega arith)
   seeks_left p k (suc zero) q some h = absurd (omega arith)
   seeks_left p k (suc (suc n)) q some h = h
 
-  module _ (p : PassRight (LotPassView V)) (k : ℕ) (own : SemPassView) (e : Event) (seen n : ℕ) (q : PassRight (LotPassView V)) where
+  module _ (p : PassShown (LotPassView V)) (k : ℕ) (own : SemPassView) (e : Event) (seen n : ℕ) (q : PassShown (LotPassView V)) where
     pub swapped : n ≡ seen → Swaps p k own e seen n q → NotesIn sem p own (Makes e (Saw true)) q
     swapped is h = subst (λ b. MatchBool b (NotesIn sem p own (Makes e (Saw true)) q) (FindsOf p k n q)) (eq-eqb n seen is) h
 
@@ -84,12 +83,12 @@ module _ {V : Type 0} where
     unswapped ne h = subst (λ b. MatchBool b (NotesIn sem p own (Makes e (Saw true)) q) (FindsOf p k n q)) (ne_eqb n seen ne) h
 
   -- ---- a look, by which p became r, and then an exchange
-  module _ (p r : PassRight (LotPassView V)) (k seen : ℕ) (look : FindsOf p k seen r) where
+  module _ (p r : PassShown (LotPassView V)) (k seen : ℕ) (look : FindsOf p k seen r) where
     -- what was asked of the pass is so after the look
     pub after_look : (Asks : LotPassView V → Type 0) → Asks p.own → Asks r.own
-    after_look Asks may = subst (λ (y : PassRight (LotPassView V)). Asks y.own) (sym look.1) may
+    after_look Asks may = subst (λ (y : PassShown (LotPassView V)). Asks y.own) (sym look.1) may
 
-    exchanged : (could : ℕ → Type 0) (own : SemPassView → SemPassView) (e : ℕ → Event) (q : PassRight (LotPassView V)) → could seen
+    exchanged : (could : ℕ → Type 0) (own : SemPassView → SemPassView) (e : ℕ → Event) (q : PassShown (LotPassView V)) → could seen
         → NotesIn sem r (own r.own.sems) (Makes (e r.thread) (Saw true)) q → Exchanges p k could (own p.own.sems) (e p.thread) q
     exchanged could own e q may note = (
       seen,
@@ -97,25 +96,25 @@ module _ {V : Type 0} where
       (
         r,
         look,
-        subst (λ (y : PassRight (LotPassView V)). NotesIn sem r (own y.own.sems) (Makes (e y.thread) (Saw true)) q)
+        subst (λ (y : PassShown (LotPassView V)). NotesIn sem r (own y.own.sems) (Makes (e y.thread) (Saw true)) q)
             look.1 note,
       ),
     )
 
-    missed : (could : ℕ → Type 0) (n : ℕ) (q : PassRight (LotPassView V)) → could seen → n ≢ seen → FindsOf r k n q → Misses p k could q
+    missed : (could : ℕ → Type 0) (n : ℕ) (q : PassShown (LotPassView V)) → could seen → n ≢ seen → FindsOf r k n q → Misses p k could q
     missed could n q may ne found = (seen, n, may, ne, (r, look, found))
 
-    pub tried : IsAnyLeft seen → (became : Taken) (q : PassRight (LotPassView V)) → TakesFrom r k seen became q → TriesPermit p k became q
+    pub tried : IsAnyLeft seen → (became : Taken) (q : PassShown (LotPassView V)) → TakesFrom r k seen became q → TriesPermit p k became q
     tried left Got q h = exchanged IsAnyLeft (λ own. one_permit_more own k) (λ t. SemTake t k) q left h
     tried left Empty q h = absurd h
     tried left Busy q (n, ne, found) = missed IsAnyLeft n q left ne found
 
-    pub taken : IsAnyLeft seen → (became : Taken) (q : PassRight (LotPassView V)) → TakesFrom r k seen became q → TakesPermit p k became q
+    pub taken : IsAnyLeft seen → (became : Taken) (q : PassShown (LotPassView V)) → TakesFrom r k seen became q → TakesPermit p k became q
     taken left Got q h = tried left Got q h
     taken left Empty q h = absurd h
     taken left Busy q h = tried left Busy q h
 
-    pub freed : IsUnmarked seen → (n : ℕ) (q : PassRight (LotPassView V))
+    pub freed : IsUnmarked seen → (n : ℕ) (q : PassShown (LotPassView V))
         → Swaps r k (one_permit_less r.own.sems k) (SemFree r.thread k) seen n q
         → FreesPermit p k (n == seen) q
     freed clear n q = by_test (λ b. MatchBool b (NotesIn sem r (one_permit_less r.own.sems k) (Makes (SemFree r.thread k) (Saw true)) q)
@@ -135,7 +134,7 @@ module _ {V : Type 0} where
   calms_so p idle = (idle.0.up sem, idle.0.seeks)
 
 module _ {V Part : Type 0} (rule : CallersRule V Part) (z : LotSize) (xs : List V) where
-  module _ (p : PassRight (LotPassView V)) (k : ℕ) (among : IsKeyIn z sem k) where
+  module _ (p : PassShown (LotPassView V)) (k : ℕ) (among : IsKeyIn z sem k) where
     -- the word was found to be this
     finds : (n : ℕ) (own : SemPassView) (a : Access)
         → Notes (part_pass sem p) p.own.sems (Finds p.thread k n) (pass_after (part_pass sem p) own 0 a)
@@ -223,7 +222,7 @@ module _ {V Part : Type 0} (rule : CallersRule V Part) (z : LotSize) (xs : List 
         (λ n own a told. carries_marks n own a (told 0))
 
   -- ---- with a root
-  module _ (p : PassRight (LotPassView V)) (q : RootRight SemRootView) where
+  module _ (p : PassShown (LotPassView V)) (q : RootShown SemRootView) where
     pub parks : MaySeek p.own q.key → AllowsBoth (lot_meaning rule z xs) (word_at q.key) (λ n. n) p (whole_root sem q) (ParksSem p q)
     parks may = lifts_both rule z xs sem (λ n. n) p q (sem_roots.Parks (part_pass sem p) q) (ParksSem p q)
         (sem_roots.parks (sem_size z) (part_pass sem p) q (may.0 sem, may.1))

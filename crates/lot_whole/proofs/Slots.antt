@@ -6,7 +6,7 @@ use lib.ListN.{get_elem?}
 use mathlib.Core.Path.{fun_ext}
 use Rattle.lot_core.specs.World.{put}
 use Rattle.lot_core.proofs.Put.{put_same, put_other}
-use Rattle.lot_rights.specs.declared.views.PassRight.{PassRight}
+use Rattle.lot_rights.specs.Shown.{PassShown}
 use Rattle.lot_rights.specs.Slots.{SlotTurn, AllowsOut, AllowsBack}
 use Rattle.lot_rights.proofs.Puts.{put_elim}
 use Rattle.lot_words.specs.CallersRule.{CallersRule}
@@ -120,7 +120,7 @@ module _ {V Part : Type 0} (rule : CallersRule V Part) (z : LotSize) (xs : List 
       by_kind d (Cond r) h = h
       by_kind d (Sem r) h = h
 
-  pub lifts_out : (p : PassRight (LotPassView V)) (l : ℕ) (mid : LockPassView V → Option V → Type 0)
+  pub lifts_out : (p : PassShown (LotPassView V)) (l : ℕ) (mid : LockPassView V → Option V → Type 0)
       (told : LotPassView V → Option V → Type 0)
       → ((own : LockPassView V) (x : Option V) → mid own x → (own.asleep ≡ p.own.locks.asleep) × told (record p.own { locks = own }) x)
       → AllowsOut (meaning_of rule z xs lock) l (part_pass lock p) mid → AllowsOut (lot_meaning rule z xs) l p told
@@ -151,10 +151,10 @@ module _ {V Part : Type 0} (rule : CallersRule V Part) (z : LotSize) (xs : List 
 
 -- ---- the exchange of a value
 -- what it tells while the value is out
-abbrev pub Leaves : {V : Type 0} → PassRight (LotPassView V) → ℕ → LotPassView V → Option V → Type 0
+abbrev pub Leaves : {V : Type 0} → PassShown (LotPassView V) → ℕ → LotPassView V → Option V → Type 0
 Leaves {V} p l own y = (own ≡ placed_in p.own l Moving) × ((pl : Place V) → get_elem? p.own.locks.places l ≡ some pl → y ≡ in_slot pl)
 
-module _ {V Part : Type 0} (rule : CallersRule V Part) (z : LotSize) (xs : List V) (p : PassRight (LotPassView V)) (l : ℕ)
+module _ {V Part : Type 0} (rule : CallersRule V Part) (z : LotSize) (xs : List V) (p : PassShown (LotPassView V)) (l : ℕ)
     (here : l < z.locks) (holds : Holds p.own.locks l) where
   pub leaves : (pl : Place V) → get_elem? p.own.locks.places l ≡ some pl → IsAtHome pl → AllowsOut (lot_meaning rule z xs) l p (Leaves p l)
   leaves pl there home = lifts_out rule z xs p l (moving.Leaves (part_pass lock p) l) (Leaves p l)

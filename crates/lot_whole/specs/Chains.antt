@@ -1,14 +1,14 @@
 -- Words of accesses that whole chains of calls make.
 use Rattle.std.specs.Prelude.{◌≢◌, ℕ, Bool, true, false, List, [], ◌∷◌, Option, Some, None}
+use Rattle.lot_rights.specs.Shown.{PassShown}
 use Rattle.lot_events.specs.declared.events.Event.TheVariants.{Take, Free, Enlist, Lower, Sweep, SemTake, SemMark, SemPark, SemPass}
 use Rattle.lot_events.specs.declared.events.Seen.TheVariants.{Bool as Saw, Done, Sleeper, Count}
 use Rattle.lot_rights.specs.declared.views.Access.{Access}
 use Rattle.lot_rights.specs.declared.views.Access.TheVariants.{Makes, Collects}
-use Rattle.lot_rights.specs.declared.views.PassRight.{PassRight}
 use Rattle.lot_sems.specs.Calls.{one_permit_less}
 use Rattle.lot_whole.specs.declared.views.LotPassView.{LotPassView}
-use Rattle.lot_whole.specs.declared.chains.Sought.{Sought}
-use Rattle.lot_whole.specs.declared.chains.Sought.TheVariants.{First, Unmarked, Unqueued, Asleep, Again}
+use Rattle.lot_whole.specs.declared.chains.SoughtOnce.{SoughtOnce}
+use Rattle.lot_whole.specs.declared.chains.SoughtOnce.TheVariants.{First, Unmarked, Unqueued, Asleep, Again}
 use Rattle.lot_whole.specs.declared.chains.Waited.{Waited}
 use Rattle.lot_whole.specs.declared.chains.Waited.TheVariants.{Parked, Asleep as Sleeps, Wants, Owns}
 use Rattle.lot_whole.specs.Family.{sem}
@@ -31,21 +31,21 @@ word_of_seek t k acts = Makes (SemTake t k) (Saw false) ∷ Makes (SemMark t k) 
 
 module _ {V : Type 0} where
   -- what became of the pass p, which sought a permit of k, by how far it came
-  abbrev pub SoughtBy : PassRight (LotPassView V) → ℕ → Sought → PassRight (LotPassView V) → Type 0
+  abbrev pub SoughtBy : PassShown (LotPassView V) → ℕ → SoughtOnce → PassShown (LotPassView V) → Type 0
   SoughtBy p k (First became) q = TakesPermit p k became q
   SoughtBy p k Unmarked q =
-      (told : PassRight (LotPassView V)) × Adds p (Makes (SemTake p.thread k) (Saw false) ∷ []) told
+      (told : PassShown (LotPassView V)) × Adds p (Makes (SemTake p.thread k) (Saw false) ∷ []) told
       × ((word : ℕ) × (word ≢ 0) × FindsOf told k word q)
   SoughtBy p k Unqueued q = Adds p (word_of_seek p.thread k (Makes (SemPark p.thread k) (Saw false) ∷ [])) q
   SoughtBy p k Asleep q = Adds p (word_of_seek p.thread k (Makes (SemPark p.thread k) (Saw true) ∷ Collects p.thread None ∷ [])) q
   SoughtBy p k (Again became) q =
-      (told : PassRight (LotPassView V))
+      (told : PassShown (LotPassView V))
       × Adds p (word_of_seek p.thread k (Makes (SemPark p.thread k) (Saw true) ∷ Collects p.thread (Some 0) ∷ [])) told
       × TakesPermit told k became q
 
   -- a permit of k was given back: at once, or after a try that failed, with the root
-  abbrev pub GivenBy : PassRight (LotPassView V) → ℕ → Option ℕ → Bool → Bool → PassRight (LotPassView V) → Type 0
+  abbrev pub GivenBy : PassShown (LotPassView V) → ℕ → Option ℕ → Bool → Bool → PassShown (LotPassView V) → Type 0
   GivenBy p k first more true q = FreesPermit p k true q
   GivenBy p k first more false q =
-      (told : PassRight (LotPassView V)) × FreesPermit p k false told
+      (told : PassShown (LotPassView V)) × FreesPermit p k false told
       × NotesIn sem told (one_permit_less told.own.sems k) (Makes (SemPass told.thread k more) (Sleeper first)) q

@@ -16,19 +16,19 @@ use Rattle.lot_whole.specs.Headline.{IsOneRun}
 
 -- the pass holds no lock, and waits on no condition
 abbrev pub HasDone : {V : Type 0} → PassShown (LotPassView V) → Type 0
-HasDone p = ((l : ℕ) → ¬ Holds p.pass.own.locks l) × (p.pass.own.conds.out ≡ None)
+HasDone p = ((l : ℕ) → ¬ Holds p.own.locks l) × (p.own.conds.out ≡ None)
 
 module _ {V : Type 0} where
   -- the ledger of c: how many sleepers these passes took from its line, and how many of their waits on it found their letter
   abbrev pub called_in : List (PassShown (LotPassView V)) → ℕ → ℕ
-  called_in passes c = sum_by (λ (p : PassShown (LotPassView V)). slice_index p.pass.own.conds.called c) passes
+  called_in passes c = sum_by (λ (p : PassShown (LotPassView V)). slice_index p.own.conds.called c) passes
 
   abbrev pub woken_in : List (PassShown (LotPassView V)) → ℕ → ℕ
-  woken_in passes c = sum_by (λ (p : PassShown (LotPassView V)). slice_index p.pass.own.conds.woken c) passes
+  woken_in passes c = sum_by (λ (p : PassShown (LotPassView V)). slice_index p.own.conds.woken c) passes
 
   -- how many permits of k are out with these passes
   abbrev pub out_with : List (PassShown (LotPassView V)) → ℕ → ℕ
-  out_with passes k = sum_by (λ (p : PassShown (LotPassView V)). slice_index p.pass.own.sems.out k) passes
+  out_with passes k = sum_by (λ (p : PassShown (LotPassView V)). slice_index p.own.sems.out k) passes
 
 -- how many permits k has at the opening
 abbrev pub permits_of : LotSize → ℕ → ℕ
@@ -48,5 +48,5 @@ pub record IsToldTo {V : Type 0} (z : LotSize) (passes : List (PassShown (LotPas
     (roots : List (RootShown LotRootView)) : Type 0 where
   pub recounted : IsRecounted WholeStep (word_in z) IsQueued (no_letters (opening_of z)) passes roots
   pub run : IsOneRun z (events_in recounted.log) recounted.part
-  pub lines : All (λ (q : RootShown LotRootView). LineIs recounted.part q.root.key q.root.own) roots
+  pub lines : All (λ (q : RootShown LotRootView). LineIs recounted.part q.key q.own) roots
   pub permits : (k : ℕ) → recounted.part.sems.left k + out_with passes k ≡ permits_of z k

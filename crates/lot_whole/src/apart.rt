@@ -17,9 +17,9 @@ impl<V: Keeps> LotWords<V> {
     pub fn check_apart(&self, first: LotPass<V>, second: LotPass<V>) -> (LotPass<V>, LotPass<V>)
         requires table { (first.table ≡ self.now.table) × (second.table ≡ self.now.table) }
         ensures same { (result.0 ≡ first) × (result.1 ≡ second) }
-        ensures threads { first.pass.thread ≢ second.pass.thread }
-        ensures locks { (l : ℕ) → Holds first.pass.own.locks l → ¬ Holds second.pass.own.locks l }
-        ensures permits { (k : ℕ) → slice_index first.pass.own.sems.out k + slice_index second.pass.own.sems.out k ≤
+        ensures threads { first.thread ≢ second.thread }
+        ensures locks { (l : ℕ) → Holds first.own.locks l → ¬ Holds second.own.locks l }
+        ensures permits { (k : ℕ) → slice_index first.own.sems.out k + slice_index second.own.sems.out k ≤
             permits_of self.now.size k }
     {
         let words = &self.words;

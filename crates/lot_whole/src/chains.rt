@@ -32,7 +32,7 @@ pub enum Waited {
 
 /// How far a thread came that seeks a permit.
 #[derive(Clone, Copy, Debug, Drop, PartialEq)]
-pub enum Sought {
+pub enum SoughtOnce {
     /// The first try ended it: a permit was got, or the word changed under it.
     First(Taken),
     /// No permit was left, and the semaphore was not marked, since its word was another.
@@ -55,13 +55,13 @@ impl<V: Keeps> LotWords<V> {
         lock: usize,
     ) -> (LotPass<V>, LotRoot<V>, Waited)
         requires table { (pass.table ≡ self.now.table) × (root.table ≡ self.now.table) }
-        requires cond { IsCondRoot root.root.own }
-        requires idle { IsIdle pass.pass.own }
-        requires lock { (lock < self.now.size.locks) × Holds pass.pass.own.locks lock }
-        requires lies { (y : V) × IsIn pass.pass.own.locks lock y }
+        requires cond { IsCondRoot root.own }
+        requires idle { IsIdle pass.own }
+        requires lock { (lock < self.now.size.locks) × Holds pass.own.locks lock }
+        requires lies { (y : V) × IsIn pass.own.locks lock y }
         ensures table { (result.0.table ≡ pass.table) × (result.1.table ≡ root.table) }
-        ensures made { Adds pass.pass (word_of_wait pass.pass.thread root.root.key lock result.2) result.0.pass }
-        ensures root { RootIs cond root.root (enlisted_root (as_cond root.root.own) pass.pass.thread) result.1.root }
+        ensures made { Adds pass (word_of_wait pass.thread root.key lock result.2) result.0 }
+        ensures root { RootIs cond root (enlisted_root (as_cond root.own) pass.thread) result.1 }
     {
         let (pass, root) = self.enlist(pass, root, lock);
         let (pass, freed) = self.free(pass, lock);
@@ -87,14 +87,14 @@ impl<V: Keeps> LotWords<V> {
         taken: usize,
     ) -> (LotPass<V>, LotRoot<V>)
         requires table { (pass.table ≡ self.now.table) × (root.table ≡ self.now.table) }
-        requires key { IsKeyIn self.now.size cond root.root.key }
-        requires cond { IsCondRoot root.root.own }
-        requires idle { IsIdle pass.pass.own }
-        requires taken { length (as_cond root.root.own).line ≡ taken }
+        requires key { IsKeyIn self.now.size cond root.key }
+        requires cond { IsCondRoot root.own }
+        requires idle { IsIdle pass.own }
+        requires taken { length (as_cond root.own).line ≡ taken }
         ensures table { (result.0.table ≡ pass.table) × (result.1.table ≡ root.table) }
-        ensures made { Adds pass.pass (word_of_all pass.pass.thread root.root.key taken) result.0.pass }
-        ensures idle { IsIdle result.0.pass.own }
-        ensures root { RootIs cond root.root (swept_root (as_cond root.root.own)) result.1.root }
+        ensures made { Adds pass (word_of_all pass.thread root.key taken) result.0 }
+        ensures idle { IsIdle result.0.own }
+        ensures root { RootIs cond root (swept_root (as_cond root.own)) result.1 }
     {
         let key = root.key();
         let pass = self.lower(pass, key);
@@ -103,33 +103,37 @@ impl<V: Keeps> LotWords<V> {
 
     /// Seeks a permit of the root's semaphore, as far as it comes without sleeping: takes one, or marks the semaphore,
     /// queues, looks for the letter once, and where it lies tries again.
-    pub fn seek_once(&self, pass: LotPass<V>, root: LotRoot<V>) -> (LotPass<V>, LotRoot<V>, Sought)
+    pub fn seek_once(
+        &self,
+        pass: LotPass<V>,
+        root: LotRoot<V>,
+    ) -> (LotPass<V>, LotRoot<V>, SoughtOnce)
         requires table { (pass.table ≡ self.now.table) × (root.table ≡ self.now.table) }
-        requires key { IsKeyIn self.now.size sem root.root.key }
-        requires sem { IsSemRoot root.root.own }
-        requires idle { IsIdle pass.pass.own }
+        requires key { IsKeyIn self.now.size sem root.key }
+        requires sem { IsSemRoot root.own }
+        requires idle { IsIdle pass.own }
         ensures table { (result.0.table ≡ pass.table) × (result.1.table ≡ root.table) }
-        ensures made { SoughtBy pass.pass root.root.key result.2 result.0.pass }
+        ensures made { SoughtBy pass root.key result.2 result.0 }
     {
         let key = root.key();
         let (pass, taken) = self.take_permit(pass, key);
         let Taken::Empty = taken else {
-            return (pass, root, Sought::First(taken));
+            return (pass, root, SoughtOnce::First(taken));
         };
         let (pass, marked) = self.mark_permit(pass, key);
         if !marked {
-            return (pass, root, Sought::Unmarked);
+            return (pass, root, SoughtOnce::Unmarked);
         }
         let (pass, root, queued) = self.park_permit(pass, root);
         if !queued {
-            return (pass, root, Sought::Unqueued);
+            return (pass, root, SoughtOnce::Unqueued);
         }
         let (pass, letter) = self.collect(pass);
         let Some(_token) = letter else {
-            return (pass, root, Sought::Asleep);
+            return (pass, root, SoughtOnce::Asleep);
         };
         let (pass, became) = self.take_permit(pass, key);
-        (pass, root, Sought::Again(became))
+        (pass, root, SoughtOnce::Again(became))
     }
 
     /// Gives a permit of the root's semaphore back: at once, or where somebody is marked as parked, with the root. Says
@@ -142,17 +146,17 @@ impl<V: Keeps> LotWords<V> {
         more: bool,
     ) -> (LotPass<V>, LotRoot<V>, bool)
         requires table { (pass.table ≡ self.now.table) × (root.table ≡ self.now.table) }
-        requires key { IsKeyIn self.now.size sem root.root.key }
-        requires sem { IsSemRoot root.root.own }
-        requires may { MayGive pass.pass.own root.root.key }
-        requires first { (first_of (as_sem root.root.own).line ≡ first) × ((as_sem root.root.own).owes ≡ None) }
-        requires more { SaysMore (as_sem root.root.own).line more }
+        requires key { IsKeyIn self.now.size sem root.key }
+        requires sem { IsSemRoot root.own }
+        requires may { MayGive pass.own root.key }
+        requires first { (first_of (as_sem root.own).line ≡ first) × ((as_sem root.own).owes ≡ None) }
+        requires more { SaysMore (as_sem root.own).line more }
         ensures table { (result.0.table ≡ pass.table) × (result.1.table ≡ root.table) }
-        ensures given { result.0.pass.own
-            ≡ record pass.pass.own { sems = one_permit_less pass.pass.own.sems root.root.key } }
-        ensures made { GivenBy pass.pass root.root.key first more result.2 result.0.pass }
-        ensures root { MatchBool result.2 (result.1.root ≡ root.root)
-            (RootIs sem root.root (passed_root (as_sem root.root.own) (as_sem root.root.own).line) result.1.root) }
+        ensures given { result.0.own
+            ≡ record pass.own { sems = one_permit_less pass.own.sems root.key } }
+        ensures made { GivenBy pass root.key first more result.2 result.0 }
+        ensures root { MatchBool result.2 (result.1 ≡ root)
+            (RootIs sem root (passed_root (as_sem root.own) (as_sem root.own).line) result.1) }
     {
         let key = root.key();
         let (pass, freed) = self.free_permit(pass, key);

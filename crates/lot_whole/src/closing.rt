@@ -23,14 +23,14 @@ impl<V: Keeps> LotWords<V> {
             × All (λ (q : RootShown LotRootView). q.table ≡ self.table) roots.items }
         requires done { All HasDone passes.items }
         requires passes { (t : ℕ) → t < self.size.threads
-            → Any (λ (p : PassShown (LotPassView V)). p.pass.thread ≡ t) passes.items }
+            → Any (λ (p : PassShown (LotPassView V)). p.thread ≡ t) passes.items }
         requires roots { (c : ℕ) → c < key_count self.size
-            → Any (λ (q : RootShown LotRootView). q.root.key ≡ c) roots.items }
+            → Any (λ (q : RootShown LotRootView). q.key ≡ c) roots.items }
         ensures len { vec_len result ≡ self.size.locks }
         ensures found { All (λ (p : PassShown (LotPassView V)). (l : ℕ) (y : V) → slice_get result.items l ≡ Some y
-            → FoundOk V.Keeps l p.pass.thread p.pass.own.locks y) passes.items }
+            → FoundOk V.Keeps l p.thread p.own.locks y) passes.items }
         ensures left { (l : ℕ) (y : V) → slice_get result.items l ≡ Some y
-            → Any (λ (p : PassShown (LotPassView V)). HasSeen p.pass.own.locks l y) passes.items }
+            → Any (λ (p : PassShown (LotPassView V)). HasSeen p.own.locks l y) passes.items }
         ensures balanced { (c : ℕ) → called_in passes.items c ≡ woken_in passes.items c }
         ensures history { IsToldTo self.size passes.items roots.items }
     {

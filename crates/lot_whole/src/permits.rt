@@ -39,9 +39,9 @@ impl<V: Keeps> LotWords<V> {
     pub fn try_take_permit(&self, pass: LotPass<V>, key: usize) -> (LotPass<V>, Taken)
         requires table { pass.table ≡ self.now.table }
         requires key { IsKeyIn self.now.size sem key }
-        requires idle { IsIdle pass.pass.own }
+        requires idle { IsIdle pass.own }
         ensures table { result.0.table ≡ pass.table }
-        ensures entries { TriesPermit pass.pass key result.1 result.0.pass }
+        ensures entries { TriesPermit pass key result.1 result.0 }
     {
         let words = &self.words;
         let (pass, was) = words.load::<Brand, usize>(pass, word_of_key(key), key);
@@ -58,9 +58,9 @@ impl<V: Keeps> LotWords<V> {
     pub fn take_permit(&self, pass: LotPass<V>, key: usize) -> (LotPass<V>, Taken)
         requires table { pass.table ≡ self.now.table }
         requires key { IsKeyIn self.now.size sem key }
-        requires may { MayTakePermit pass.pass.own key }
+        requires may { MayTakePermit pass.own key }
         ensures table { result.0.table ≡ pass.table }
-        ensures entries { TakesPermit pass.pass key result.1 result.0.pass }
+        ensures entries { TakesPermit pass key result.1 result.0 }
     {
         let words = &self.words;
         let (pass, seen) = words.load::<Brand, usize>(pass, word_of_key(key), key);
@@ -76,10 +76,10 @@ impl<V: Keeps> LotWords<V> {
     fn take_from(&self, pass: LotPass<V>, key: usize, seen: u64) -> (LotPass<V>, Taken)
         requires table { pass.table ≡ self.now.table }
         requires key { IsKeyIn self.now.size sem key }
-        requires may { MayTakePermit pass.pass.own key }
+        requires may { MayTakePermit pass.own key }
         requires left { IsAnyLeft seen }
         ensures table { result.0.table ≡ pass.table }
-        ensures entry { TakesFrom pass.pass key seen result.1 result.0.pass }
+        ensures entry { TakesFrom pass key seen result.1 result.0 }
     {
         let words = &self.words;
         let (pass, found) = words.compare_exchange::<Brand, usize>(
@@ -103,11 +103,11 @@ impl<V: Keeps> LotWords<V> {
     pub fn mark_permit(&self, pass: LotPass<V>, key: usize) -> (LotPass<V>, bool)
         requires table { pass.table ≡ self.now.table }
         requires key { IsKeyIn self.now.size sem key }
-        requires seeks { MaySeek pass.pass.own key }
+        requires seeks { MaySeek pass.own key }
         ensures table { result.0.table ≡ pass.table }
         ensures entry { MatchBool result.1
-            (NotesIn sem pass.pass pass.pass.own.sems (Makes (SemMark pass.pass.thread key) Done) result.0.pass)
-            ((word : ℕ) × (word ≢ 0) × FindsOf pass.pass key word result.0.pass) }
+            (NotesIn sem pass pass.own.sems (Makes (SemMark pass.thread key) Done) result.0)
+            ((word : ℕ) × (word ≢ 0) × FindsOf pass key word result.0) }
     {
         let words = &self.words;
         let word = word_of_key(key);
@@ -122,13 +122,13 @@ impl<V: Keeps> LotWords<V> {
     /// locked. The event is SemPark.
     pub fn park_permit(&self, pass: LotPass<V>, root: LotRoot<V>) -> (LotPass<V>, LotRoot<V>, bool)
         requires table { (pass.table ≡ self.now.table) × (root.table ≡ self.now.table) }
-        requires sem { IsSemRoot root.root.own }
-        requires seeks { MaySeek pass.pass.own root.root.key }
+        requires sem { IsSemRoot root.own }
+        requires seeks { MaySeek pass.own root.key }
         ensures table { (result.0.table ≡ pass.table) × (result.1.table ≡ root.table) }
-        ensures entry { NotesIn sem pass.pass (parked_pass pass.pass.own.sems result.2)
-            (Makes (SemPark pass.pass.thread root.root.key) (Saw result.2)) result.0.pass }
-        ensures root { RootIs sem root.root
-            (parked_root (as_sem root.root.own) pass.pass.thread result.2) result.1.root }
+        ensures entry { NotesIn sem pass (parked_pass pass.own.sems result.2)
+            (Makes (SemPark pass.thread root.key) (Saw result.2)) result.0 }
+        ensures root { RootIs sem root
+            (parked_root (as_sem root.own) pass.thread result.2) result.1 }
     {
         let words = &self.words;
         let word = root.word();
@@ -144,9 +144,9 @@ impl<V: Keeps> LotWords<V> {
     pub fn free_permit(&self, pass: LotPass<V>, key: usize) -> (LotPass<V>, bool)
         requires table { pass.table ≡ self.now.table }
         requires key { IsKeyIn self.now.size sem key }
-        requires may { MayGive pass.pass.own key }
+        requires may { MayGive pass.own key }
         ensures table { result.0.table ≡ pass.table }
-        ensures entries { FreesPermit pass.pass key result.1 result.0.pass }
+        ensures entries { FreesPermit pass key result.1 result.0 }
     {
         let words = &self.words;
         let word = word_of_key(key);
@@ -178,15 +178,15 @@ impl<V: Keeps> LotWords<V> {
         more: bool,
     ) -> (LotPass<V>, LotRoot<V>)
         requires table { (pass.table ≡ self.now.table) × (root.table ≡ self.now.table) }
-        requires sem { IsSemRoot root.root.own }
-        requires may { MayGive pass.pass.own root.root.key }
-        requires first { (first_of (as_sem root.root.own).line ≡ first) × ((as_sem root.root.own).owes ≡ None) }
-        requires more { SaysMore (as_sem root.root.own).line more }
+        requires sem { IsSemRoot root.own }
+        requires may { MayGive pass.own root.key }
+        requires first { (first_of (as_sem root.own).line ≡ first) × ((as_sem root.own).owes ≡ None) }
+        requires more { SaysMore (as_sem root.own).line more }
         ensures table { (result.0.table ≡ pass.table) × (result.1.table ≡ root.table) }
-        ensures entry { NotesIn sem pass.pass (one_permit_less pass.pass.own.sems root.root.key)
-            (Makes (Passes pass.pass.thread root.root.key more) (Sleeper first)) result.0.pass }
-        ensures root { RootIs sem root.root
-            (passed_root (as_sem root.root.own) (as_sem root.root.own).line) result.1.root }
+        ensures entry { NotesIn sem pass (one_permit_less pass.own.sems root.key)
+            (Makes (Passes pass.thread root.key more) (Sleeper first)) result.0 }
+        ensures root { RootIs sem root
+            (passed_root (as_sem root.own) (as_sem root.own).line) result.1 }
     {
         let words = &self.words;
         let word = root.word();
@@ -199,13 +199,13 @@ impl<V: Keeps> LotWords<V> {
     /// semaphore is locked. The event is SemClear.
     pub fn clear(&self, pass: LotPass<V>, root: LotRoot<V>) -> (LotPass<V>, LotRoot<V>)
         requires table { (pass.table ≡ self.now.table) × (root.table ≡ self.now.table) }
-        requires sem { IsSemRoot root.root.own }
-        requires idle { IsIdle pass.pass.own }
-        requires nobody { (as_sem root.root.own).line ≡ [] }
+        requires sem { IsSemRoot root.own }
+        requires idle { IsIdle pass.own }
+        requires nobody { (as_sem root.own).line ≡ [] }
         ensures table { (result.0.table ≡ pass.table) × (result.1.table ≡ root.table) }
-        ensures entry { NotesIn sem pass.pass pass.pass.own.sems
-            (Makes (SemClear pass.pass.thread root.root.key) Done) result.0.pass }
-        ensures root { result.1.root ≡ root.root }
+        ensures entry { NotesIn sem pass pass.own.sems
+            (Makes (SemClear pass.thread root.key) Done) result.0 }
+        ensures root { result.1 ≡ root }
     {
         let words = &self.words;
         let word = root.word();

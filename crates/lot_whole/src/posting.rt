@@ -24,11 +24,11 @@ impl<V: Keeps> LotWords<V> {
     /// Posts the letter that the root of a lock owes, by one store, while the bucket of the lock is still locked.
     pub fn post(&self, root: LotRoot<V>, thread: usize, token: u32) -> LotRoot<V>
         requires table { root.table ≡ self.now.table }
-        requires lock { IsLockRoot root.root.own }
-        requires owes { (as_lock root.root.own).owes ≡ Some (thread, token) }
+        requires lock { IsLockRoot root.own }
+        requires owes { (as_lock root.own).owes ≡ Some (thread, token) }
         ensures table { result.table ≡ root.table }
-        ensures posted { RootNotesIn lock root.root (lock_paid (as_lock root.root.own))
-            (Posts root.root.key thread token) result.root }
+        ensures posted { RootNotesIn lock root (lock_paid (as_lock root.own))
+            (Posts root.key thread token) result }
     {
         let words = &self.words;
         let letter = root.letter_of(thread);
@@ -39,11 +39,11 @@ impl<V: Keeps> LotWords<V> {
     /// locked.
     pub fn post_cond(&self, root: LotRoot<V>, thread: usize) -> LotRoot<V>
         requires table { root.table ≡ self.now.table }
-        requires cond { IsCondRoot root.root.own }
-        requires owes { Contains (as_cond root.root.own).owes thread }
+        requires cond { IsCondRoot root.own }
+        requires owes { Contains (as_cond root.own).owes thread }
         ensures table { result.table ≡ root.table }
-        ensures posted { RootNotesIn cond root.root (cond_paid (as_cond root.root.own) thread)
-            (Posts root.root.key thread 0) result.root }
+        ensures posted { RootNotesIn cond root (cond_paid (as_cond root.own) thread)
+            (Posts root.key thread 0) result }
     {
         let words = &self.words;
         let letter = root.letter_of(thread);
@@ -54,11 +54,11 @@ impl<V: Keeps> LotWords<V> {
     /// locked.
     pub fn post_sem(&self, root: LotRoot<V>, thread: usize) -> LotRoot<V>
         requires table { root.table ≡ self.now.table }
-        requires sem { IsSemRoot root.root.own }
-        requires owes { (as_sem root.root.own).owes ≡ Some thread }
+        requires sem { IsSemRoot root.own }
+        requires owes { (as_sem root.own).owes ≡ Some thread }
         ensures table { result.table ≡ root.table }
-        ensures posted { RootNotesIn sem root.root (sem_paid (as_sem root.root.own))
-            (Posts root.root.key thread 0) result.root }
+        ensures posted { RootNotesIn sem root (sem_paid (as_sem root.own))
+            (Posts root.key thread 0) result }
     {
         let words = &self.words;
         let letter = root.letter_of(thread);
@@ -72,8 +72,8 @@ impl<V: Keeps> LotWords<V> {
     pub fn collect(&self, pass: LotPass<V>) -> (LotPass<V>, Option<u32>)
         requires { pass.table ≡ self.now.table }
         ensures table { result.0.table ≡ pass.table }
-        ensures letter { MatchOption result.1 (FoundNone pass.pass result.0.pass)
-            (λ token. Collected V.Keeps pass.pass token result.0.pass) }
+        ensures letter { MatchOption result.1 (FoundNone pass result.0)
+            (λ token. Collected V.Keeps pass token result.0) }
     {
         let words = &self.words;
         let place = pass.letter();

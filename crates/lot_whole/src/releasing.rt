@@ -40,15 +40,15 @@ impl<V: Keeps> LotWords<V> {
     pub fn free(&self, pass: LotPass<V>, key: usize) -> (LotPass<V>, bool)
         requires table { pass.table ≡ self.now.table }
         requires key { key < self.now.size.locks }
-        requires may { MayLetGo pass.pass.own key }
-        requires holds { Holds pass.pass.own.locks key }
-        requires lies { (y : V) × IsIn pass.pass.own.locks key y }
+        requires may { MayLetGo pass.own key }
+        requires holds { Holds pass.own.locks key }
+        requires lies { (y : V) × IsIn pass.own.locks key y }
         ensures table { result.0.table ≡ pass.table }
         ensures event { MatchBool result.1
-            ((y : V) → IsIn pass.pass.own.locks key y → NotesIn lock pass.pass (letting_go pass.pass.own.locks key y)
-            (Makes (Free pass.pass.thread key) (Saw true)) result.0.pass)
-            (NotesIn lock pass.pass (finding_parked pass.pass.own.locks key)
-            (Makes (Free pass.pass.thread key) (Saw false)) result.0.pass) }
+            ((y : V) → IsIn pass.own.locks key y → NotesIn lock pass (letting_go pass.own.locks key y)
+            (Makes (Free pass.thread key) (Saw true)) result.0)
+            (NotesIn lock pass (finding_parked pass.own.locks key)
+            (Makes (Free pass.thread key) (Saw false)) result.0) }
     {
         let words = &self.words;
         let word = word_of_key(key);
@@ -73,19 +73,19 @@ impl<V: Keeps> LotWords<V> {
         more: bool,
     ) -> (LotPass<V>, LotRoot<V>)
         requires table { (pass.table ≡ self.now.table) × (root.table ≡ self.now.table) }
-        requires lock { IsLockRoot root.root.own }
-        requires may { MayLetGo pass.pass.own root.root.key }
-        requires holds { HoldsParked pass.pass.own.locks root.root.key }
-        requires lies { (y : V) × IsIn pass.pass.own.locks root.root.key y }
-        requires first { (first_of (as_lock root.root.own).line ≡ first) × ((as_lock root.root.own).owes ≡ None) }
-        requires more { fair ≡ false → SaysMore (as_lock root.root.own).line more }
+        requires lock { IsLockRoot root.own }
+        requires may { MayLetGo pass.own root.key }
+        requires holds { HoldsParked pass.own.locks root.key }
+        requires lies { (y : V) × IsIn pass.own.locks root.key y }
+        requires first { (first_of (as_lock root.own).line ≡ first) × ((as_lock root.own).owes ≡ None) }
+        requires more { fair ≡ false → SaysMore (as_lock root.own).line more }
         requires fair { first ≡ None → fair ≡ false }
         ensures table { (result.0.table ≡ pass.table) × (result.1.table ≡ root.table) }
-        ensures event { (y : V) → IsIn pass.pass.own.locks root.root.key y
-            → NotesIn lock pass.pass (letting_go pass.pass.own.locks root.root.key y)
-            (Makes (Pass pass.pass.thread root.root.key fair more) (Sleeper first)) result.0.pass }
-        ensures root { RootIs lock root.root
-            (passed_root (as_lock root.root.own) fair (as_lock root.root.own).line) result.1.root }
+        ensures event { (y : V) → IsIn pass.own.locks root.key y
+            → NotesIn lock pass (letting_go pass.own.locks root.key y)
+            (Makes (Pass pass.thread root.key fair more) (Sleeper first)) result.0 }
+        ensures root { RootIs lock root
+            (passed_root (as_lock root.own) fair (as_lock root.own).line) result.1 }
     {
         let words = &self.words;
         let word = root.word();
@@ -103,12 +103,12 @@ impl<V: Keeps> LotWords<V> {
     pub fn value_out(&self, pass: LotPass<V>, key: usize) -> (LotPass<V>, V)
         requires table { pass.table ≡ self.now.table }
         requires key { key < self.now.size.locks }
-        requires holds { Holds pass.pass.own.locks key }
-        requires lies { (y : V) × IsIn pass.pass.own.locks key y }
+        requires holds { Holds pass.own.locks key }
+        requires lies { (y : V) × IsIn pass.own.locks key y }
         ensures pass { (result.0.table ≡ pass.table)
-            × (result.0.pass ≡ record pass.pass { own = placed_in pass.pass.own key Out }) }
-        ensures value { IsIn pass.pass.own.locks key result.1 }
-        ensures out { IsOut result.0.pass.own.locks key }
+            × (result.0 ≡ record pass { own = placed_in pass.own key Out }) }
+        ensures value { IsIn pass.own.locks key result.1 }
+        ensures out { IsOut result.0.own.locks key }
     {
         let (pass, found) = self.exchange_value(pass, key, None);
         let Some(value) = found else { unreachable!() };
@@ -121,11 +121,11 @@ impl<V: Keeps> LotWords<V> {
     pub fn value_in(&self, pass: LotPass<V>, key: usize, value: V) -> LotPass<V>
         requires table { pass.table ≡ self.now.table }
         requires key { key < self.now.size.locks }
-        requires holds { Holds pass.pass.own.locks key × IsOut pass.pass.own.locks key }
-        requires lawful { (x : V) × HasSeen pass.pass.own.locks key x × MayLeave V.Keeps key pass.pass.thread x value }
+        requires holds { Holds pass.own.locks key × IsOut pass.own.locks key }
+        requires lawful { (x : V) × HasSeen pass.own.locks key x × MayLeave V.Keeps key pass.thread x value }
         ensures pass { (result.table ≡ pass.table)
-            × (result.pass ≡ record pass.pass { own = placed_in pass.pass.own key (InSlot value) }) }
-        ensures lies { IsIn result.pass.own.locks key value }
+            × (result ≡ record pass { own = placed_in pass.own key (InSlot value) }) }
+        ensures lies { IsIn result.own.locks key value }
     {
         let (pass, found) = self.exchange_value(pass, key, Some(value));
         let None = found else { unreachable!() };
@@ -142,13 +142,13 @@ impl<V: Keeps> LotWords<V> {
     ) -> (LotPass<V>, Option<V>)
         requires table { pass.table ≡ self.now.table }
         requires key { key < self.now.size.locks }
-        requires holds { Holds pass.pass.own.locks key }
-        requires home { (place : Place V) × (get_elem? pass.pass.own.locks.places key ≡ some place) × IsAtHome place }
-        requires lawful { (x : V) → HasSeen pass.pass.own.locks key x
-            → MayLie V.Keeps key pass.pass.thread x (place_of new) }
+        requires holds { Holds pass.own.locks key }
+        requires home { (place : Place V) × (get_elem? pass.own.locks.places key ≡ some place) × IsAtHome place }
+        requires lawful { (x : V) → HasSeen pass.own.locks key x
+            → MayLie V.Keeps key pass.thread x (place_of new) }
         ensures pass { (result.0.table ≡ pass.table)
-            × (result.0.pass ≡ record pass.pass { own = placed_in pass.pass.own key (place_of new) }) }
-        ensures found { (place : Place V) → get_elem? pass.pass.own.locks.places key ≡ some place
+            × (result.0 ≡ record pass { own = placed_in pass.own key (place_of new) }) }
+        ensures found { (place : Place V) → get_elem? pass.own.locks.places key ≡ some place
             → result.1 ≡ in_slot place }
     {
         let words = &self.words;

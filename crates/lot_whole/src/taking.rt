@@ -20,11 +20,11 @@ impl<V: Keeps> LotWords<V> {
     pub fn try_take(&self, pass: LotPass<V>, key: usize) -> (LotPass<V>, bool)
         requires table { pass.table ≡ self.now.table }
         requires key { key < self.now.size.locks }
-        requires idle { IsIdle pass.pass.own }
+        requires idle { IsIdle pass.own }
         ensures table { result.0.table ≡ pass.table }
         ensures event { MatchBool result.1
-            (GetsBy V.Keeps pass.pass key (Makes (Try pass.pass.thread key) (Saw true)) result.0.pass)
-            (NotesIn lock pass.pass pass.pass.own.locks (Makes (Try pass.pass.thread key) (Saw false)) result.0.pass) }
+            (GetsBy V.Keeps pass key (Makes (Try pass.thread key) (Saw true)) result.0)
+            (NotesIn lock pass pass.own.locks (Makes (Try pass.thread key) (Saw false)) result.0) }
     {
         let words = &self.words;
         let (pass, was) = words.fetch_or::<Brand, usize>(pass, word_of_key(key), HELD, key);
@@ -38,12 +38,12 @@ impl<V: Keeps> LotWords<V> {
     pub fn take(&self, pass: LotPass<V>, key: usize) -> (LotPass<V>, bool)
         requires table { pass.table ≡ self.now.table }
         requires key { key < self.now.size.locks }
-        requires may { MayTake pass.pass.own key }
+        requires may { MayTake pass.own key }
         ensures table { result.0.table ≡ pass.table }
         ensures event { MatchBool result.1
-            (GetsBy V.Keeps pass.pass key (Makes (Take pass.pass.thread key) (Saw true)) result.0.pass)
-            (NotesIn lock pass.pass (wanting pass.pass.own.locks key)
-            (Makes (Take pass.pass.thread key) (Saw false)) result.0.pass) }
+            (GetsBy V.Keeps pass key (Makes (Take pass.thread key) (Saw true)) result.0)
+            (NotesIn lock pass (wanting pass.own.locks key)
+            (Makes (Take pass.thread key) (Saw false)) result.0) }
     {
         let words = &self.words;
         let (pass, found) = words.fetch_or::<Brand, usize>(pass, word_of_key(key), HELD, key);
@@ -57,11 +57,11 @@ impl<V: Keeps> LotWords<V> {
     pub fn take_free(&self, pass: LotPass<V>, key: usize) -> (LotPass<V>, bool)
         requires table { pass.table ≡ self.now.table }
         requires key { key < self.now.size.locks }
-        requires may { MayTake pass.pass.own key }
+        requires may { MayTake pass.own key }
         ensures table { result.0.table ≡ pass.table }
         ensures event { MatchBool result.1
-            (GetsBy V.Keeps pass.pass key (Makes (Take pass.pass.thread key) (Saw true)) result.0.pass)
-            ((word : ℕ) × (word ≢ 0) × FindsOf pass.pass key word result.0.pass) }
+            (GetsBy V.Keeps pass key (Makes (Take pass.thread key) (Saw true)) result.0)
+            ((word : ℕ) × (word ≢ 0) × FindsOf pass key word result.0) }
     {
         let words = &self.words;
         let place = word_of_key(key);
@@ -75,11 +75,11 @@ impl<V: Keeps> LotWords<V> {
     pub fn mark(&self, pass: LotPass<V>, key: usize) -> (LotPass<V>, bool)
         requires table { pass.table ≡ self.now.table }
         requires key { key < self.now.size.locks }
-        requires may { MayPark pass.pass.own key }
+        requires may { MayPark pass.own key }
         ensures table { result.0.table ≡ pass.table }
         ensures event { MatchBool result.1
-            (NotesIn lock pass.pass pass.pass.own.locks (Makes (Mark pass.pass.thread key) Done) result.0.pass)
-            ((word : ℕ) × (word ≢ 1) × FindsOf pass.pass key word result.0.pass) }
+            (NotesIn lock pass pass.own.locks (Makes (Mark pass.thread key) Done) result.0)
+            ((word : ℕ) × (word ≢ 1) × FindsOf pass key word result.0) }
     {
         let words = &self.words;
         let word = word_of_key(key);
@@ -98,13 +98,13 @@ impl<V: Keeps> LotWords<V> {
     /// Park.
     pub fn park(&self, pass: LotPass<V>, root: LotRoot<V>) -> (LotPass<V>, LotRoot<V>, bool)
         requires table { (pass.table ≡ self.now.table) × (root.table ≡ self.now.table) }
-        requires lock { IsLockRoot root.root.own }
-        requires may { MayPark pass.pass.own root.root.key }
+        requires lock { IsLockRoot root.own }
+        requires may { MayPark pass.own root.key }
         ensures table { (result.0.table ≡ pass.table) × (result.1.table ≡ root.table) }
-        ensures event { NotesIn lock pass.pass (parked_pass pass.pass.own.locks result.2)
-            (Makes (Park pass.pass.thread root.root.key) (Saw result.2)) result.0.pass }
-        ensures root { RootIs lock root.root
-            (parked_root (as_lock root.root.own) pass.pass.thread result.2) result.1.root }
+        ensures event { NotesIn lock pass (parked_pass pass.own.locks result.2)
+            (Makes (Park pass.thread root.key) (Saw result.2)) result.0 }
+        ensures root { RootIs lock root
+            (parked_root (as_lock root.own) pass.thread result.2) result.1 }
     {
         let words = &self.words;
         let word = root.word();

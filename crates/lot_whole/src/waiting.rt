@@ -29,13 +29,13 @@ impl<V: Keeps> LotWords<V> {
         lock: usize,
     ) -> (LotPass<V>, LotRoot<V>)
         requires table { (pass.table ≡ self.now.table) × (root.table ≡ self.now.table) }
-        requires cond { IsCondRoot root.root.own }
-        requires idle { IsIdle pass.pass.own }
-        requires lock { (lock < self.now.size.locks) × Holds pass.pass.own.locks lock }
+        requires cond { IsCondRoot root.own }
+        requires idle { IsIdle pass.own }
+        requires lock { (lock < self.now.size.locks) × Holds pass.own.locks lock }
         ensures table { (result.0.table ≡ pass.table) × (result.1.table ≡ root.table) }
-        ensures event { NotesIn cond pass.pass (enlisted pass.pass.own.conds root.root.key)
-            (Makes (Enlist pass.pass.thread root.root.key lock) Done) result.0.pass }
-        ensures root { RootIs cond root.root (enlisted_root (as_cond root.root.own) pass.pass.thread) result.1.root }
+        ensures event { NotesIn cond pass (enlisted pass.own.conds root.key)
+            (Makes (Enlist pass.thread root.key lock) Done) result.0 }
+        ensures root { RootIs cond root (enlisted_root (as_cond root.own) pass.thread) result.1 }
     {
         let words = &self.words;
         let word = root.word();
@@ -48,10 +48,10 @@ impl<V: Keeps> LotWords<V> {
     pub fn look(&self, pass: LotPass<V>, key: usize) -> (LotPass<V>, bool)
         requires table { pass.table ≡ self.now.table }
         requires key { IsKeyIn self.now.size cond key }
-        requires idle { IsIdle pass.pass.own }
+        requires idle { IsIdle pass.own }
         ensures table { result.0.table ≡ pass.table }
-        ensures event { NotesIn cond pass.pass pass.pass.own.conds
-            (Makes (Look pass.pass.thread key) (Saw result.1)) result.0.pass }
+        ensures event { NotesIn cond pass pass.own.conds
+            (Makes (Look pass.thread key) (Saw result.1)) result.0 }
     {
         let words = &self.words;
         let (pass, found) = words.load::<Brand, usize>(pass, word_of_key(key), key);
@@ -63,10 +63,10 @@ impl<V: Keeps> LotWords<V> {
     pub fn lower(&self, pass: LotPass<V>, key: usize) -> LotPass<V>
         requires table { pass.table ≡ self.now.table }
         requires key { IsKeyIn self.now.size cond key }
-        requires idle { IsIdle pass.pass.own }
+        requires idle { IsIdle pass.own }
         ensures table { result.table ≡ pass.table }
-        ensures event { NotesIn cond pass.pass (lowering pass.pass.own.conds key)
-            (Makes (Lower pass.pass.thread key) Done) result.pass }
+        ensures event { NotesIn cond pass (lowering pass.own.conds key)
+            (Makes (Lower pass.thread key) Done) result }
     {
         let words = &self.words;
         words.store::<Brand, usize>(pass, word_of_key(key), CLEAR, key)
@@ -87,15 +87,15 @@ impl<V: Keeps> LotWords<V> {
         more: bool,
     ) -> (LotPass<V>, LotRoot<V>)
         requires table { (pass.table ≡ self.now.table) × (root.table ≡ self.now.table) }
-        requires cond { IsCondRoot root.root.own }
-        requires idle { IsIdle pass.pass.own }
+        requires cond { IsCondRoot root.own }
+        requires idle { IsIdle pass.own }
         requires count { IsCallCount count }
-        requires taken { dequeued_count count (as_cond root.root.own).line ≡ taken }
-        requires more { SaysMoreBehind count (as_cond root.root.own).line more }
+        requires taken { dequeued_count count (as_cond root.own).line ≡ taken }
+        requires more { SaysMoreBehind count (as_cond root.own).line more }
         ensures table { (result.0.table ≡ pass.table) × (result.1.table ≡ root.table) }
-        ensures event { NotesIn cond pass.pass (called_more pass.pass.own.conds root.root.key taken)
-            (Makes (Call pass.pass.thread root.root.key count more) (Count taken)) result.0.pass }
-        ensures root { RootIs cond root.root (called_root (as_cond root.root.own) count) result.1.root }
+        ensures event { NotesIn cond pass (called_more pass.own.conds root.key taken)
+            (Makes (Call pass.thread root.key count more) (Count taken)) result.0 }
+        ensures root { RootIs cond root (called_root (as_cond root.own) count) result.1 }
     {
         let words = &self.words;
         let word = root.word();
@@ -122,13 +122,13 @@ impl<V: Keeps> LotWords<V> {
         taken: usize,
     ) -> (LotPass<V>, LotRoot<V>)
         requires table { (pass.table ≡ self.now.table) × (root.table ≡ self.now.table) }
-        requires cond { IsCondRoot root.root.own }
-        requires lowered { MaySweep pass.pass.own root.root.key }
-        requires taken { length (as_cond root.root.own).line ≡ taken }
+        requires cond { IsCondRoot root.own }
+        requires lowered { MaySweep pass.own root.key }
+        requires taken { length (as_cond root.own).line ≡ taken }
         ensures table { (result.0.table ≡ pass.table) × (result.1.table ≡ root.table) }
-        ensures event { NotesIn cond pass.pass (swept_pass pass.pass.own.conds root.root.key taken)
-            (Makes (Sweep pass.pass.thread root.root.key) (Count taken)) result.0.pass }
-        ensures root { RootIs cond root.root (swept_root (as_cond root.root.own)) result.1.root }
+        ensures event { NotesIn cond pass (swept_pass pass.own.conds root.key taken)
+            (Makes (Sweep pass.thread root.key) (Count taken)) result.0 }
+        ensures root { RootIs cond root (swept_root (as_cond root.own)) result.1 }
     {
         let words = &self.words;
         let word = root.word();

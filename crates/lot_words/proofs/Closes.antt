@@ -25,24 +25,24 @@ module _ {V Part : Type 0} (rule : CallersRule V Part) (size : Size) (opening : 
   pub told_to : Ended (meaning rule size opening) passes roots ws xs → IsToldTo size passes roots
   told_to ended = record {
     recounted = ended_recounted (meaning rule size opening) passes roots ws xs ended;
-    lines = All-weaker (λ (q : RootShown LockRootView). RootIs (sizes_of size) ended.left.world q.root.key q.root.own)
-        (λ (q : RootShown LockRootView). (ended.left.world.root q.root.key).line ≡ q.root.own.line)
+    lines = All-weaker (λ (q : RootShown LockRootView). RootIs (sizes_of size) ended.left.world q.key q.own)
+        (λ (q : RootShown LockRootView). (ended.left.world.root q.key).line ≡ q.own.line)
         (λ q is. ap (λ (z : LockRootView). z.line) is.1) roots ended.left.roots_fit;
   }
 
   -- what is left when no pass holds a lock
   module _ (left : Left (meaning rule size opening) passes roots ws xs) (idle : All HoldsNone passes)
-      (all : (t : ℕ) → t < size.threads → Any (λ (p : PassShown (LockPassView V)). p.pass.thread ≡ t) passes) where
+      (all : (t : ℕ) → t < size.threads → Any (λ (p : PassShown (LockPassView V)). p.thread ≡ t) passes) where
     abbrev w : LockWorld V
     w = left.world
 
     abbrev Fits : PassShown (LockPassView V) → Type 0
-    Fits p = PassIs (sizes_of size) w p.pass.thread p.pass.own
+    Fits p = PassIs (sizes_of size) w p.thread p.own
 
     nobody : (t l : ℕ) → ¬ Holds (w.pass t) l
     nobody t l h =
         let near = ((left.fits.kept.locks l).had t ((left.fits.kept.threads t).holds l h)).0 in
-        let mine = λ (p : PassShown (LockPassView V)). p.pass.thread ≡ t in
+        let mine = λ (p : PassShown (LockPassView V)). p.thread ≡ t in
         let p = any_all mine Fits passes (all t near) left.passes_fit in
         let q = any_all mine HoldsNone passes (all t near) idle in
         q.2 l (subst (λ z. Holds z l) (ap w.pass (sym p.1) ∙ p.2.1) h)
@@ -69,18 +69,18 @@ module _ {V Part : Type 0} (rule : CallersRule V Part) (size : Size) (opening : 
 
       -- the value in the slot is lawful to each pass
       pub last_found : All (λ (p : PassShown (LockPassView V)). (l : ℕ) (y : V) → slice_get vs l ≡ Some y
-          → FoundOk rule l p.pass.thread p.pass.own y) passes
+          → FoundOk rule l p.thread p.own y) passes
       last_found =
           All-weaker Fits (λ (p : PassShown (LockPassView V)). (l : ℕ) (y : V) → slice_get vs l ≡ Some y
-          → FoundOk rule l p.pass.thread p.pass.own y)
-          (λ p fit l y e. subst (λ z. FoundOk rule l p.pass.thread z y) fit.1
-          (subst (FoundOk rule l p.pass.thread (w.pass p.pass.thread)) (same_at l y e)
-          (finds_value rule size.threads size.locks w.pass left.homes left.fits.lawful p.pass.thread fit.0 l (lock_of l y e)
-          (let n = (left.fits.kept.threads p.pass.thread).long in omega (arith, lock_of l y e)) (nobody p.pass.thread l)))) passes
+          → FoundOk rule l p.thread p.own y)
+          (λ p fit l y e. subst (λ z. FoundOk rule l p.thread z y) fit.1
+          (subst (FoundOk rule l p.thread (w.pass p.thread)) (same_at l y e)
+          (finds_value rule size.threads size.locks w.pass left.homes left.fits.lawful p.thread fit.0 l (lock_of l y e)
+          (let n = (left.fits.kept.threads p.thread).long in omega (arith, lock_of l y e)) (nobody p.thread l)))) passes
           left.passes_fit
 
       -- some pass has seen it
-      pub last_seen : (l : ℕ) (y : V) → slice_get vs l ≡ Some y → Any (λ (p : PassShown (LockPassView V)). HasSeen p.pass.own l y) passes
+      pub last_seen : (l : ℕ) (y : V) → slice_get vs l ≡ Some y → Any (λ (p : PassShown (LockPassView V)). HasSeen p.own l y) passes
       last_seen l y e =
           let seen = (left.fits.lawful.each l (lock_of l y e)).witness in
           let p = all seen.0 seen.1.0 in
@@ -89,6 +89,6 @@ module _ {V Part : Type 0} (rule : CallersRule V Part) (size : Size) (opening : 
             p.1,
             p.2,
             p.3,
-            subst (HasSeen p.1.pass.own l) (same_at l y e)
+            subst (HasSeen p.1.own l) (same_at l y e)
                 (subst (λ z. HasSeen z l (value_at l)) (ap w.pass (sym p.4) ∙ fit.1) seen.1.1),
           )

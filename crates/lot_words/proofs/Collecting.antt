@@ -5,7 +5,7 @@ use mathlib.Core.Option as maybe
 use Rattle.lot_core.specs.World.{put}
 use Rattle.lot_core.proofs.Put.{put_same, put_other}
 use Rattle.lot_rights.specs.declared.views.Access.TheVariants.{Collects}
-use Rattle.lot_rights.specs.declared.views.PassRight.{PassRight}
+use Rattle.lot_rights.specs.Shown.{PassShown}
 use Rattle.lot_rights.specs.Layout.{letter_at}
 use Rattle.lot_rights.specs.World.{Spot, awake, queued, owed, lying, letter_of}
 use Rattle.lot_rights.specs.Steps.{pass_after, PassTurn, AllowsPass}
@@ -24,17 +24,17 @@ use Rattle.lot_words.proofs.Valuing.{same_values, finds_value, gets_value}
 
 module _ {V Part : Type 0} (rule : CallersRule V Part) where
   -- what the swap tells, by the number found
-  abbrev pub Collecting : PassRight (LockPassView V) → ℕ → PassRight (LockPassView V) → Type 0
+  abbrev pub Collecting : PassShown (LockPassView V) → ℕ → PassShown (LockPassView V) → Type 0
   Collecting p n q = (n ≤ 2) × CollectedBy rule p n q
 
-  pub collected_none : (p q : PassRight (LockPassView V)) (n : ℕ) → n ≡ 0 → Collecting p n q → FoundNone p q
+  pub collected_none : (p q : PassShown (LockPassView V)) (n : ℕ) → n ≡ 0 → Collecting p n q → FoundNone p q
   collected_none p q n e h = subst (λ z. CollectedBy rule p z q) e h.1
 
-  pub collected_some : (p q : PassRight (LockPassView V)) (n : ℕ) → n ≢ 0 → Collecting p n q → Collected rule p (n - 1) q
+  pub collected_some : (p q : PassShown (LockPassView V)) (n : ℕ) → n ≢ 0 → Collecting p n q → Collected rule p (n - 1) q
   collected_some p q zero ne h = absurd (ne refl)
   collected_some p q (suc token) ne h = let e : token ≡ suc token - 1 = omega arith in subst (λ z. Collected rule p z q) e h.1
 
-  module _ (size : Size) (xs : List V) (p : PassRight (LockPassView V)) (w : LockWorld V) (ws : List ℕ)
+  module _ (size : Size) (xs : List V) (p : PassShown (LockPassView V)) (w : LockWorld V) (ws : List ℕ)
       (hs : List (maybe.Option (Option V)))
       (ok : Fits rule size w ws hs) (fit : (p.thread < size.threads) × (w.pass p.thread ≡ p.own)) where
     abbrev t : ℕ
@@ -60,7 +60,7 @@ module _ {V Part : Type 0} (rule : CallersRule V Part) where
         → wants_of awake (f (w.pass t)).aim ≡ wants_of (lying l token) (w.pass t).aim
         → Kept n m (record w { pass = put w.pass t (f (w.pass t)); spot = put w.spot t awake })
         → IsLawful rule n m (put w.pass t (f (w.pass t))) hs
-        → (then : PassRight (LockPassView V) → Type 0) → ((k : ℕ) → then (pass_after p (f p.own) k (Collects t (Some token))))
+        → (then : PassShown (LockPassView V) → Type 0) → ((k : ℕ) → then (pass_after p (f p.own) k (Collects t (Some token))))
         → PassTurn (meaning rule size xs) (letter_at t) 0 p then w ws hs
     wakes f token l lies want kept lawful then told =
         let p1 : LockPassView V = f (w.pass t) in
@@ -133,7 +133,7 @@ module _ {V Part : Type 0} (rule : CallersRule V Part) where
     by_spot (owed l k) is fits = none_lies (ap letter_of is)
     by_spot (lying l k) is fits = by_token l k is fits.1
 
-  pub collects : (size : Size) (xs : List V) (p : PassRight (LockPassView V))
+  pub collects : (size : Size) (xs : List V) (p : PassShown (LockPassView V))
       → AllowsPass (meaning rule size xs) (letter_at p.thread) (λ _. 0) p (Collecting p)
   collects size xs p w ws hs ok fit small =
       subst (λ z. PassTurn (meaning rule size xs) (letter_at p.thread) 0 p (Collecting p z) w ws hs) (sym (ok.words.letters p.thread fit.0))

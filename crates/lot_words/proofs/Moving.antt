@@ -5,7 +5,7 @@ use mathlib.Core.Option.{some, none, some-injective, some-ne-none}
 use lib.ListN.{get_elem?}
 use Rattle.lot_core.specs.World.{put}
 use Rattle.lot_core.proofs.Put.{put_same, put_other}
-use Rattle.lot_rights.specs.declared.views.PassRight.{PassRight}
+use Rattle.lot_rights.specs.Shown.{PassShown}
 use Rattle.lot_rights.specs.World.{letters_of}
 use Rattle.lot_rights.specs.Slots.{SlotTurn, AllowsOut, AllowsBack}
 use Rattle.lot_rights.specs.Steps.{TellsOfTwo}
@@ -48,7 +48,7 @@ pub placed_twice : {V : Type 0} (p : LockPassView V) (l : ℕ) (a b : Place V) �
 placed_twice p l a b = λ i. record p { places = set-set p.places l a b i }
 
 -- what the exchange tells while the value is out
-abbrev pub Leaves : {V : Type 0} → PassRight (LockPassView V) → ℕ → LockPassView V → Option V → Type 0
+abbrev pub Leaves : {V : Type 0} → PassShown (LockPassView V) → ℕ → LockPassView V → Option V → Type 0
 Leaves {V} p l own y = (own ≡ placing p.own l Moving) × ((pl : Place V) → get_elem? p.own.places l ≡ some pl → y ≡ in_slot pl)
 
 module _ {V Part : Type 0} (rule : CallersRule V Part) (size : Size) (xs : List V) where
@@ -95,7 +95,7 @@ module _ {V Part : Type 0} (rule : CallersRule V Part) (size : Size) (xs : List 
       same = λ i. record { part = same_pass w t (placing (w.pass t) l pl) refl i; letters = letters_of w.spot };
     }
 
-  module _ (p : PassRight (LockPassView V)) (l : ℕ) (here : l < size.locks) (holds : Holds p.own l) where
+  module _ (p : PassShown (LockPassView V)) (l : ℕ) (here : l < size.locks) (holds : Holds p.own l) where
     pub leaves : (pl : Place V) → get_elem? p.own.places l ≡ some pl → IsAtHome pl → AllowsOut (meaning rule size xs) l p (Leaves p l)
     leaves pl there home w ws hs ok fit =
         let x : V = ok.lawful.value l in
@@ -130,7 +130,7 @@ module _ {V Part : Type 0} (rule : CallersRule V Part) (size : Size) (xs : List 
         }
 
   -- two passes hold no lock both
-  pub apart : (p q : PassRight (LockPassView V)) → TellsOfTwo (meaning rule size xs) p q ((l : ℕ) → Holds p.own l → ¬ Holds q.own l)
+  pub apart : (p q : PassShown (LockPassView V)) → TellsOfTwo (meaning rule size xs) p q ((l : ℕ) → Holds p.own l → ¬ Holds q.own l)
   apart p q w ws hs ok fit fits ne l a b =
       let x : (w.word l).owner ≡ Some p.thread = (ok.kept.threads p.thread).holds l (subst (λ z. Holds z l) (sym fit.1) a) in
       let y : (w.word l).owner ≡ Some q.thread = (ok.kept.threads q.thread).holds l (subst (λ z. Holds z l) (sym fits.1) b) in

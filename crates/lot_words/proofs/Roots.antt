@@ -10,8 +10,7 @@ use Rattle.lot_events.specs.declared.events.Seen.TheVariants.{Bool as Saw, Sleep
 use Rattle.lot_core.proofs.Put.{put_same, put_other}
 use Rattle.lot_rights.specs.declared.views.Access.{Access}
 use Rattle.lot_rights.specs.declared.views.Access.TheVariants.{Makes, Posts}
-use Rattle.lot_rights.specs.declared.views.PassRight.{PassRight}
-use Rattle.lot_rights.specs.declared.views.RootRight.{RootRight}
+use Rattle.lot_rights.specs.Shown.{PassShown, RootShown}
 use Rattle.lot_rights.specs.Layout.{word_at, letter_at}
 use Rattle.lot_rights.specs.World.{Spot, queued, owed, lying, letter_of, letters_of, RootIs}
 use Rattle.lot_rights.specs.Steps.{Notes, RootNotes, pass_after, IsMade, BothTurn, AllowsBoth, AllowsRoot}
@@ -33,13 +32,13 @@ use Rattle.lot_words.proofs.Turns.{Parks, words_after, words_stay, left_lawful, 
 use Rattle.lot_words.proofs.Valuing.{same_values}
 
 -- ---- what each step tells
-abbrev pub Passes : {V : Type 0} → PassRight (LockPassView V) → RootRight LockRootView → List ℕ → Bool → Bool → PassRight (LockPassView V)
-    → RootRight LockRootView → Type 0
+abbrev pub Passes : {V : Type 0} → PassShown (LockPassView V) → RootShown LockRootView → List ℕ → Bool → Bool → PassShown (LockPassView V)
+    → RootShown LockRootView → Type 0
 Passes {V} p q line fair more p' q' =
     ((y : V) → IsIn p.own q.key y → Notes p (letting_go p.own q.key y) (Makes (Pass p.thread q.key fair more) (Sleeper (first line))) p')
     × (q' ≡ record q { own = passed_root q.own fair line })
 
-abbrev pub Pays : RootRight LockRootView → ℕ → ℕ → RootRight LockRootView → Type 0
+abbrev pub Pays : RootShown LockRootView → ℕ → ℕ → RootShown LockRootView → Type 0
 Pays q u k q' = RootNotes q (paid_root q.own) (Posts q.key u k) q'
 
 more_left : (u : ℕ) (us : List ℕ) (more : Bool) → SaysMore (u ∷ us) more → us ≢ [] → more ≡ true
@@ -56,7 +55,7 @@ lies_wants l zero a = refl
 lies_wants l (suc k) a = refl
 
 module _ {V Part : Type 0} (rule : CallersRule V Part) (size : Size) (xs : List V) where
-  module _ (p : PassRight (LockPassView V)) (q : RootRight LockRootView) (w : LockWorld V) (ws : List ℕ)
+  module _ (p : PassShown (LockPassView V)) (q : RootShown LockRootView) (w : LockWorld V) (ws : List ℕ)
       (hs : List (maybe.Option (Option V))) (ok : Fits rule size w ws hs)
       (fit : (p.thread < size.threads) × (w.pass p.thread ≡ p.own)) (root : RootIs (sizes_of size) w q.key q.own) where
     abbrev t : ℕ
@@ -75,7 +74,7 @@ module _ {V Part : Type 0} (rule : CallersRule V Part) (size : Size) (xs : List 
     found = ok.words.words l root.0
 
     -- the world changes in the pass, notices, words and the root
-    turn_both : (x : ℕ) (then : PassRight (LockPassView V) → RootRight LockRootView → Type 0) (f : LockPassView V → LockPassView V)
+    turn_both : (x : ℕ) (then : PassShown (LockPassView V) → RootShown LockRootView → Type 0) (f : LockPassView V → LockPassView V)
         (g : LockRootView → LockRootView) (spots : ℕ → Spot)
         (word : ℕ → LockWord)
         → Fits rule size (record { pass = put w.pass t (f (w.pass t)); spot = spots; word = word; root = put w.root l (g (w.root l)) })
@@ -245,7 +244,7 @@ module _ {V Part : Type 0} (rule : CallersRule V Part) (size : Size) (xs : List 
           (row_pass_fair w size.threads size.locks ok.kept t fit.0 up' l here has (aim_of ∙ aim) y u us (says_now (u ∷ us) line) parked
           owes_none more) (get_or ws (word_at l) 0) (found ∙ ap (λ o. bits_of (is_some o) (w.word l).parked) own_is)
 
-  pub parks : (p : PassRight (LockPassView V)) (q : RootRight LockRootView) → p.own.asleep ≡ false → p.own.aim ≡ Some q.key
+  pub parks : (p : PassShown (LockPassView V)) (q : RootShown LockRootView) → p.own.asleep ≡ false → p.own.aim ≡ Some q.key
       → AllowsBoth (meaning rule size xs) (word_at q.key) (λ n. n) p q (Parks p q)
   parks p q up aim w ws hs ok fit root small =
       let n : bits_of (is_some (w.word q.key).owner) (w.word q.key).parked ≡ get_or ws (word_at q.key) 0 =
@@ -253,7 +252,7 @@ module _ {V Part : Type 0} (rule : CallersRule V Part) (size : Size) (xs : List 
       subst (λ n. BothTurn (meaning rule size xs) (word_at q.key) n p q (Parks p q n) w ws hs) n
       (park_turn p q w ws hs ok fit root up aim (is_some (w.word q.key).owner) (w.word q.key).parked refl refl)
 
-  module _ (p : PassRight (LockPassView V)) (q : RootRight LockRootView) (up : p.own.asleep ≡ false) (aim : p.own.aim ≡ None)
+  module _ (p : PassShown (LockPassView V)) (q : RootShown LockRootView) (up : p.own.asleep ≡ false) (aim : p.own.aim ≡ None)
       (holds : HoldsParked p.own q.key) (y : V)
       (lies : IsIn p.own q.key y) (paid : q.own.owes ≡ None) (more : Bool) where
     pub stores : SaysMore q.own.line more → (x : ℕ) → x ≡ word_left (first q.own.line) more
@@ -271,7 +270,7 @@ module _ {V Part : Type 0} (rule : CallersRule V Part) (size : Size) (xs : List 
         by_first (u ∷ us) is some = load_turn p q w ws hs ok fit root up aim holds y lies paid more u us is
 
   -- ---- posting
-  pub posts : (q : RootRight LockRootView) (u k : ℕ) → q.own.owes ≡ Some (u, k)
+  pub posts : (q : RootShown LockRootView) (u k : ℕ) → q.own.owes ≡ Some (u, k)
       → AllowsRoot (meaning rule size xs) (letter_at u) (λ _. k + 1) q (λ _. Pays q u k)
   posts q u k debt w ws hs ok root small =
       let l : ℕ = q.key in

@@ -11,8 +11,7 @@ use Rattle.lot_events.specs.declared.events.Seen.TheVariants.{Bool as Saw, Done}
 use Rattle.lot_core.proofs.Put.{by_line, put_same, put_other}
 use Rattle.lot_rights.specs.declared.views.Access.{Access}
 use Rattle.lot_rights.specs.declared.views.Access.TheVariants.{Makes, Finds}
-use Rattle.lot_rights.specs.declared.views.PassRight.{PassRight}
-use Rattle.lot_rights.specs.declared.views.RootRight.{RootRight}
+use Rattle.lot_rights.specs.Shown.{PassShown, RootShown}
 use Rattle.lot_rights.specs.Layout.{word_at}
 use Rattle.lot_rights.specs.World.{Spot, letters_of, WordsFit}
 use Rattle.lot_rights.specs.Steps.{Notes, pass_after, IsMade, PassTurn, AllowsPass}
@@ -63,30 +62,30 @@ same_in p l x y a b = let e : InSlot x ≡ InSlot y = some-injective (InSlot x) 
 
 module _ {V Part : Type 0} (rule : CallersRule V Part) where
   -- ---- what each step tells
-  abbrev pub Takes : PassRight (LockPassView V) → ℕ → ℕ → PassRight (LockPassView V) → Type 0
+  abbrev pub Takes : PassShown (LockPassView V) → ℕ → ℕ → PassShown (LockPassView V) → Type 0
   Takes p l n q =
       MatchBool (bit_and n 1 == 0) (GetsBy rule p l (Makes (Take p.thread l) (Saw true)) q)
       (Notes p (wanting p.own l) (Makes (Take p.thread l) (Saw false)) q)
 
-  abbrev pub Tries : PassRight (LockPassView V) → ℕ → ℕ → PassRight (LockPassView V) → Type 0
+  abbrev pub Tries : PassShown (LockPassView V) → ℕ → ℕ → PassShown (LockPassView V) → Type 0
   Tries p l n q =
       MatchBool (bit_and n 1 == 0) (GetsBy rule p l (Makes (Try p.thread l) (Saw true)) q)
       (Notes p p.own (Makes (Try p.thread l) (Saw false)) q)
 
-  abbrev pub TakesFree : PassRight (LockPassView V) → ℕ → ℕ → PassRight (LockPassView V) → Type 0
+  abbrev pub TakesFree : PassShown (LockPassView V) → ℕ → ℕ → PassShown (LockPassView V) → Type 0
   TakesFree p l n q =
       MatchBool (n == 0) (GetsBy rule p l (Makes (Take p.thread l) (Saw true)) q) ((x : ℕ) × (x ≢ 0) × Notes p p.own (Finds p.thread l x) q)
 
-abbrev pub Marks : {V : Type 0} → PassRight (LockPassView V) → ℕ → ℕ → PassRight (LockPassView V) → Type 0
+abbrev pub Marks : {V : Type 0} → PassShown (LockPassView V) → ℕ → ℕ → PassShown (LockPassView V) → Type 0
 Marks p l n q =
     MatchBool (n == 1) (Notes p p.own (Makes (Mark p.thread l) Done) q) ((x : ℕ) × (x ≢ 1) × Notes p p.own (Finds p.thread l x) q)
 
-abbrev pub Frees : {V : Type 0} → PassRight (LockPassView V) → ℕ → ℕ → PassRight (LockPassView V) → Type 0
+abbrev pub Frees : {V : Type 0} → PassShown (LockPassView V) → ℕ → ℕ → PassShown (LockPassView V) → Type 0
 Frees {V} p l n q = MatchBool (n == 1) ((y : V) → IsIn p.own l y → Notes p (letting_go p.own l y) (Makes (Free p.thread l) (Saw true)) q)
     (Notes p (finding_parked p.own l) (Makes (Free p.thread l) (Saw false)) q)
 
-abbrev pub Parks : {V : Type 0} → PassRight (LockPassView V) → RootRight LockRootView → ℕ → PassRight (LockPassView V)
-    → RootRight LockRootView → Type 0
+abbrev pub Parks : {V : Type 0} → PassShown (LockPassView V) → RootShown LockRootView → ℕ → PassShown (LockPassView V)
+    → RootShown LockRootView → Type 0
 Parks p q n p' q' =
     Notes p (parked_pass p.own (n == 3)) (Makes (Park p.thread q.key) (Saw (n == 3))) p'
     × (q' ≡ record q { own = parked_root q.own p.thread (n == 3) })
@@ -110,7 +109,7 @@ module _ {V : Type 0} (size : Size) (w : LockWorld V) (pass : ℕ → LockPassVi
 
 module _ {V Part : Type 0} (rule : CallersRule V Part) (size : Size) (xs : List V) where
   -- ---- a pass's turn, where the world changes in the pass and in words
-  module _ (i x : ℕ) (p : PassRight (LockPassView V)) (then : PassRight (LockPassView V) → Type 0) (w : LockWorld V) (ws : List ℕ)
+  module _ (i x : ℕ) (p : PassShown (LockPassView V)) (then : PassShown (LockPassView V) → Type 0) (w : LockWorld V) (ws : List ℕ)
       (hs : List (maybe.Option (Option V)))
       (fit : (p.thread < size.threads) × (w.pass p.thread ≡ p.own)) where
     pub turn_at : (f : LockPassView V → LockPassView V) (word : ℕ → LockWord)
@@ -132,7 +131,7 @@ module _ {V Part : Type 0} (rule : CallersRule V Part) (size : Size) (xs : List 
     }
 
   -- ---- the turns of a pass that is awake
-  module _ (p : PassRight (LockPassView V)) (l : ℕ) (here : l < size.locks) (up : p.own.asleep ≡ false) (w : LockWorld V) (ws : List ℕ)
+  module _ (p : PassShown (LockPassView V)) (l : ℕ) (here : l < size.locks) (up : p.own.asleep ≡ false) (w : LockWorld V) (ws : List ℕ)
       (hs : List (maybe.Option (Option V)))
       (ok : Fits rule size w ws hs) (fit : (p.thread < size.threads) × (w.pass p.thread ≡ p.own)) where
     abbrev t : ℕ
@@ -181,7 +180,7 @@ module _ {V Part : Type 0} (rule : CallersRule V Part) (size : Size) (xs : List 
           (finds_value rule size.threads size.locks w.pass hs ok.lawful t fit.0 l here long (nobody t))
 
       -- the pass gets the lock, with the value that it finds
-      got_turn : (aims : Aims p.own l) (a : Access) (then : PassRight (LockPassView V) → Type 0) (x : ℕ)
+      got_turn : (aims : Aims p.own l) (a : Access) (then : PassShown (LockPassView V) → Type 0) (x : ℕ)
           → x ≡ bit_or (get_or ws (word_at l) 0) 1
           → IsMade (meaning rule size xs) (2 * t) w a (record w {
             pass = put w.pass t (owning (w.pass t) l value);
@@ -352,29 +351,29 @@ module _ {V Part : Type 0} (rule : CallersRule V Part) (size : Size) (xs : List 
             (λ k. (k, refl))
 
   -- ---- each call is allowed
-  pub takes : (p : PassRight (LockPassView V)) (l : ℕ) → l < size.locks → p.own.asleep ≡ false → Aims p.own l
+  pub takes : (p : PassShown (LockPassView V)) (l : ℕ) → l < size.locks → p.own.asleep ≡ false → Aims p.own l
       → AllowsPass (meaning rule size xs) (word_at l) (λ n. bit_or n 1) p (Takes rule p l)
   takes p l here up aims w ws hs ok fit small = take_turn p l here up w ws hs ok fit aims
 
-  pub tries : (p : PassRight (LockPassView V)) (l : ℕ) → l < size.locks → p.own.asleep ≡ false → p.own.aim ≡ None
+  pub tries : (p : PassShown (LockPassView V)) (l : ℕ) → l < size.locks → p.own.asleep ≡ false → p.own.aim ≡ None
       → AllowsPass (meaning rule size xs) (word_at l) (λ n. bit_or n 1) p (Tries rule p l)
   tries p l here up aim w ws hs ok fit small = try_turn p l here up w ws hs ok fit aim
 
-  pub takes_free : (p : PassRight (LockPassView V)) (l : ℕ) → l < size.locks → p.own.asleep ≡ false → Aims p.own l
+  pub takes_free : (p : PassShown (LockPassView V)) (l : ℕ) → l < size.locks → p.own.asleep ≡ false → Aims p.own l
       → AllowsPass (meaning rule size xs) (word_at l) (λ n. either (n == 0) 1 n) p (TakesFree rule p l)
   takes_free p l here up aims w ws hs ok fit small =
       subst (λ n. PassTurn (meaning rule size xs) (word_at l) (either (n == 0) 1 n) p (TakesFree rule p l n) w ws hs)
       (is_found p l here up w ws hs ok fit (is_some (w.word l).owner) (w.word l).parked refl refl)
       (take_free_turn p l here up w ws hs ok fit aims (is_some (w.word l).owner) (w.word l).parked refl refl)
 
-  pub marks : (p : PassRight (LockPassView V)) (l : ℕ) → l < size.locks → p.own.asleep ≡ false → p.own.aim ≡ Some l
+  pub marks : (p : PassShown (LockPassView V)) (l : ℕ) → l < size.locks → p.own.asleep ≡ false → p.own.aim ≡ Some l
       → AllowsPass (meaning rule size xs) (word_at l) (λ n. either (n == 1) 3 n) p (Marks p l)
   marks p l here up aim w ws hs ok fit small =
       subst (λ n. PassTurn (meaning rule size xs) (word_at l) (either (n == 1) 3 n) p (Marks p l n) w ws hs)
       (is_found p l here up w ws hs ok fit (is_some (w.word l).owner) (w.word l).parked refl refl)
       (mark_turn p l here up w ws hs ok fit aim (is_some (w.word l).owner) (w.word l).parked refl refl)
 
-  pub frees : (p : PassRight (LockPassView V)) (l : ℕ) → l < size.locks → p.own.asleep ≡ false → p.own.aim ≡ None → Holds p.own l
+  pub frees : (p : PassShown (LockPassView V)) (l : ℕ) → l < size.locks → p.own.asleep ≡ false → p.own.aim ≡ None → Holds p.own l
       → (y : V) → IsIn p.own l y
       → AllowsPass (meaning rule size xs) (word_at l) (λ n. either (n == 1) 0 n) p (Frees p l)
   frees p l here up aim holds y lies w ws hs ok fit small =

@@ -2,7 +2,7 @@
 use Rattle.std.specs.Prelude.{◌≡◌, ℕ, zero, suc, ◌++◌, if◌then◌else◌, Bool, true, false, List, [], ◌∷◌, slice_set, Option, Some, None}
 use Rattle.lot_rights.specs.declared.views.Access.{Access}
 use Rattle.lot_rights.specs.declared.views.Access.TheVariants.{Collects}
-use Rattle.lot_rights.specs.declared.views.PassRight.{PassRight}
+use Rattle.lot_rights.specs.Shown.{PassShown}
 use Rattle.lot_rights.specs.Steps.{Notes}
 use Rattle.lot_words.specs.declared.views.Hold.TheVariants.{NotHeld, Held, FoundParked}
 use Rattle.lot_words.specs.declared.views.LockPassView.{LockPassView}
@@ -71,16 +71,16 @@ word_left (Some u) false = 0
 
 -- ---- what is got and what is collected
 -- q is the pass p after it found no letter
-abbrev pub FoundNone : {V : Type 0} → PassRight (LockPassView V) → PassRight (LockPassView V) → Type 0
+abbrev pub FoundNone : {V : Type 0} → PassShown (LockPassView V) → PassShown (LockPassView V) → Type 0
 FoundNone p q = Notes p p.own (Collects p.thread None) q
 
 module _ {V Part : Type 0} (rule : CallersRule V Part) where
   -- q is the pass p after it got the lock l, by this access, with the value that it found
-  abbrev pub GetsBy : PassRight (LockPassView V) → ℕ → Access → PassRight (LockPassView V) → Type 0
+  abbrev pub GetsBy : PassShown (LockPassView V) → ℕ → Access → PassShown (LockPassView V) → Type 0
   GetsBy p l a q = (x : V) × FoundOk rule l p.thread p.own x × Notes p (owning p.own l x) a q
 
   -- q is the pass p after it collected a letter: a barging opportunity, or the lock itself, with the value that it found
-  abbrev pub Collected : PassRight (LockPassView V) → ℕ → PassRight (LockPassView V) → Type 0
+  abbrev pub Collected : PassShown (LockPassView V) → ℕ → PassShown (LockPassView V) → Type 0
   Collected p zero q = Notes p (woken p.own) (Collects p.thread (Some 0)) q
   Collected p (suc k) q =
       (k ≡ 0)
@@ -88,6 +88,6 @@ module _ {V Part : Type 0} (rule : CallersRule V Part) where
       × ((x : V) × FoundOk rule l p.thread p.own x × Notes p (woken (owning p.own l x)) (Collects p.thread (Some 1)) q))
 
   -- by the number in the letter
-  abbrev pub CollectedBy : PassRight (LockPassView V) → ℕ → PassRight (LockPassView V) → Type 0
+  abbrev pub CollectedBy : PassShown (LockPassView V) → ℕ → PassShown (LockPassView V) → Type 0
   CollectedBy p zero q = FoundNone p q
   CollectedBy p (suc token) q = Collected p token q

@@ -13,8 +13,8 @@ impl<V: Keeps> LockWords<V> {
     pub fn check_apart(&self, first: LockPass<V>, second: LockPass<V>) -> (LockPass<V>, LockPass<V>)
         requires table { (first.table ≡ self.now.table) × (second.table ≡ self.now.table) }
         ensures same { (result.0 ≡ first) × (result.1 ≡ second) }
-        ensures threads { first.pass.thread ≢ second.pass.thread }
-        ensures locks { (l : ℕ) → Holds first.pass.own l → ¬ Holds second.pass.own l }
+        ensures threads { first.thread ≢ second.thread }
+        ensures locks { (l : ℕ) → Holds first.own l → ¬ Holds second.own l }
     {
         let words = &self.words;
         words.check_two::<Brand>(first, second)

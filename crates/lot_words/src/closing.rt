@@ -46,14 +46,14 @@ impl<V: Keeps> LockWords<V> {
             × All (λ (q : RootShown LockRootView). q.table ≡ self.table) roots.items }
         requires idle { All HoldsNone passes.items }
         requires passes { (t : ℕ) → t < self.size.threads
-            → Any (λ (p : PassShown (LockPassView V)). p.pass.thread ≡ t) passes.items }
+            → Any (λ (p : PassShown (LockPassView V)). p.thread ≡ t) passes.items }
         requires roots { (l : ℕ) → l < self.size.locks
-            → Any (λ (q : RootShown LockRootView). q.root.key ≡ l) roots.items }
+            → Any (λ (q : RootShown LockRootView). q.key ≡ l) roots.items }
         ensures len { vec_len result ≡ self.size.locks }
         ensures found { All (λ (p : PassShown (LockPassView V)). (l : ℕ) (y : V) → slice_get result.items l ≡ Some y
-            → FoundOk V.Keeps l p.pass.thread p.pass.own y) passes.items }
+            → FoundOk V.Keeps l p.thread p.own y) passes.items }
         ensures left { (l : ℕ) (y : V) → slice_get result.items l ≡ Some y
-            → Any (λ (p : PassShown (LockPassView V)). HasSeen p.pass.own l y) passes.items }
+            → Any (λ (p : PassShown (LockPassView V)). HasSeen p.own l y) passes.items }
         ensures history { IsToldTo self.size passes.items roots.items }
     {
         let LockWords { words, room } = self;

@@ -17,11 +17,11 @@ impl<V: Keeps> LockWords<V> {
     /// Park.
     pub fn park(&self, pass: LockPass<V>, root: LockRoot<V>) -> (LockPass<V>, LockRoot<V>, bool)
         requires table { (pass.table ≡ self.now.table) × (root.table ≡ self.now.table) }
-        requires calm { (pass.pass.own.asleep ≡ false) × (pass.pass.own.aim ≡ Some root.root.key) }
+        requires calm { (pass.own.asleep ≡ false) × (pass.own.aim ≡ Some root.key) }
         ensures table { (result.0.table ≡ pass.table) × (result.1.table ≡ root.table) }
-        ensures event { Notes pass.pass (parked_pass pass.pass.own result.2)
-            (Makes (Park pass.pass.thread root.root.key) (Saw result.2)) result.0.pass }
-        ensures root { result.1.root ≡ record root.root { own = parked_root root.root.own pass.pass.thread result.2 } }
+        ensures event { Notes pass (parked_pass pass.own result.2)
+            (Makes (Park pass.thread root.key) (Saw result.2)) result.0 }
+        ensures root { result.1 ≡ record root { own = parked_root root.own pass.thread result.2 } }
     {
         let words = &self.words;
         let word = root.word();

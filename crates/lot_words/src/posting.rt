@@ -17,9 +17,9 @@ impl<V: Keeps> LockWords<V> {
     /// Posts the letter that the root owes, by one store, while the bucket of the lock is still locked.
     pub fn post(&self, root: LockRoot<V>, thread: usize, token: u32) -> LockRoot<V>
         requires table { root.table ≡ self.now.table }
-        requires owes { root.root.own.owes ≡ Some (thread, token) }
+        requires owes { root.own.owes ≡ Some (thread, token) }
         ensures table { result.table ≡ root.table }
-        ensures posted { RootNotes root.root (paid_root root.root.own) (Posts root.root.key thread token) result.root }
+        ensures posted { RootNotes root (paid_root root.own) (Posts root.key thread token) result }
     {
         let words = &self.words;
         let letter = root.letter_of(thread);
@@ -32,8 +32,8 @@ impl<V: Keeps> LockWords<V> {
     pub fn collect(&self, pass: LockPass<V>) -> (LockPass<V>, Option<u32>)
         requires { pass.table ≡ self.now.table }
         ensures table { result.0.table ≡ pass.table }
-        ensures letter { MatchOption result.1 (FoundNone pass.pass result.0.pass)
-            (λ token. Collected V.Keeps pass.pass token result.0.pass) }
+        ensures letter { MatchOption result.1 (FoundNone pass result.0)
+            (λ token. Collected V.Keeps pass token result.0) }
     {
         let words = &self.words;
         let place = pass.letter();

@@ -34,14 +34,14 @@ impl<V: Keeps> LockWords<V> {
     pub fn free(&self, pass: LockPass<V>, key: usize) -> (LockPass<V>, bool)
         requires table { pass.table ≡ self.now.table }
         requires key { key < self.now.size.locks }
-        requires holds { (pass.pass.own.asleep ≡ false) × (pass.pass.own.aim ≡ None) × Holds pass.pass.own key }
-        requires lies { (y : V) × IsIn pass.pass.own key y }
+        requires holds { (pass.own.asleep ≡ false) × (pass.own.aim ≡ None) × Holds pass.own key }
+        requires lies { (y : V) × IsIn pass.own key y }
         ensures table { result.0.table ≡ pass.table }
         ensures event { MatchBool result.1
-            ((y : V) → IsIn pass.pass.own key y → Notes pass.pass (letting_go pass.pass.own key y)
-            (Makes (Free pass.pass.thread key) (Saw true)) result.0.pass)
-            (Notes pass.pass (finding_parked pass.pass.own key)
-            (Makes (Free pass.pass.thread key) (Saw false)) result.0.pass) }
+            ((y : V) → IsIn pass.own key y → Notes pass (letting_go pass.own key y)
+            (Makes (Free pass.thread key) (Saw true)) result.0)
+            (Notes pass (finding_parked pass.own key)
+            (Makes (Free pass.thread key) (Saw false)) result.0) }
     {
         let words = &self.words;
         let word = word_of_key(key);
@@ -66,17 +66,17 @@ impl<V: Keeps> LockWords<V> {
         more: bool,
     ) -> (LockPass<V>, LockRoot<V>)
         requires table { (pass.table ≡ self.now.table) × (root.table ≡ self.now.table) }
-        requires holds { (pass.pass.own.asleep ≡ false) × (pass.pass.own.aim ≡ None)
-            × HoldsParked pass.pass.own root.root.key }
-        requires lies { (y : V) × IsIn pass.pass.own root.root.key y }
-        requires first { (first_of root.root.own.line ≡ first) × (root.root.own.owes ≡ None) }
-        requires more { fair ≡ false → SaysMore root.root.own.line more }
+        requires holds { (pass.own.asleep ≡ false) × (pass.own.aim ≡ None)
+            × HoldsParked pass.own root.key }
+        requires lies { (y : V) × IsIn pass.own root.key y }
+        requires first { (first_of root.own.line ≡ first) × (root.own.owes ≡ None) }
+        requires more { fair ≡ false → SaysMore root.own.line more }
         requires fair { first ≡ None → fair ≡ false }
         ensures table { (result.0.table ≡ pass.table) × (result.1.table ≡ root.table) }
-        ensures event { (y : V) → IsIn pass.pass.own root.root.key y
-            → Notes pass.pass (letting_go pass.pass.own root.root.key y)
-            (Makes (Pass pass.pass.thread root.root.key fair more) (Sleeper first)) result.0.pass }
-        ensures root { result.1.root ≡ record root.root { own = passed_root root.root.own fair root.root.own.line } }
+        ensures event { (y : V) → IsIn pass.own root.key y
+            → Notes pass (letting_go pass.own root.key y)
+            (Makes (Pass pass.thread root.key fair more) (Sleeper first)) result.0 }
+        ensures root { result.1 ≡ record root { own = passed_root root.own fair root.own.line } }
     {
         let words = &self.words;
         let word = root.word();

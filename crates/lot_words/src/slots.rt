@@ -19,12 +19,12 @@ impl<V: Keeps> LockWords<V> {
     pub fn value_out(&self, pass: LockPass<V>, key: usize) -> (LockPass<V>, V)
         requires table { pass.table ≡ self.now.table }
         requires key { key < self.now.size.locks }
-        requires holds { Holds pass.pass.own key }
-        requires lies { (y : V) × IsIn pass.pass.own key y }
+        requires holds { Holds pass.own key }
+        requires lies { (y : V) × IsIn pass.own key y }
         ensures pass { (result.0.table ≡ pass.table)
-            × (result.0.pass ≡ record pass.pass { own = placing pass.pass.own key Out }) }
-        ensures value { IsIn pass.pass.own key result.1 }
-        ensures out { IsOut result.0.pass.own key }
+            × (result.0 ≡ record pass { own = placing pass.own key Out }) }
+        ensures value { IsIn pass.own key result.1 }
+        ensures out { IsOut result.0.own key }
     {
         let (pass, found) = self.exchange_value(pass, key, None);
         let Some(value) = found else { unreachable!() };
@@ -37,11 +37,11 @@ impl<V: Keeps> LockWords<V> {
     pub fn value_in(&self, pass: LockPass<V>, key: usize, value: V) -> LockPass<V>
         requires table { pass.table ≡ self.now.table }
         requires key { key < self.now.size.locks }
-        requires holds { Holds pass.pass.own key × IsOut pass.pass.own key }
-        requires lawful { (x : V) × HasSeen pass.pass.own key x × MayLeave V.Keeps key pass.pass.thread x value }
+        requires holds { Holds pass.own key × IsOut pass.own key }
+        requires lawful { (x : V) × HasSeen pass.own key x × MayLeave V.Keeps key pass.thread x value }
         ensures pass { (result.table ≡ pass.table)
-            × (result.pass ≡ record pass.pass { own = placing pass.pass.own key (InSlot value) }) }
-        ensures lies { IsIn result.pass.own key value }
+            × (result ≡ record pass { own = placing pass.own key (InSlot value) }) }
+        ensures lies { IsIn result.own key value }
     {
         let (pass, found) = self.exchange_value(pass, key, Some(value));
         let None = found else { unreachable!() };
@@ -58,12 +58,12 @@ impl<V: Keeps> LockWords<V> {
     ) -> (LockPass<V>, Option<V>)
         requires table { pass.table ≡ self.now.table }
         requires key { key < self.now.size.locks }
-        requires holds { Holds pass.pass.own key }
-        requires home { (place : Place V) × (get_elem? pass.pass.own.places key ≡ some place) × IsAtHome place }
-        requires lawful { (x : V) → HasSeen pass.pass.own key x → MayLie V.Keeps key pass.pass.thread x (place_of new) }
+        requires holds { Holds pass.own key }
+        requires home { (place : Place V) × (get_elem? pass.own.places key ≡ some place) × IsAtHome place }
+        requires lawful { (x : V) → HasSeen pass.own key x → MayLie V.Keeps key pass.thread x (place_of new) }
         ensures pass { (result.0.table ≡ pass.table)
-            × (result.0.pass ≡ record pass.pass { own = placing pass.pass.own key (place_of new) }) }
-        ensures found { (place : Place V) → get_elem? pass.pass.own.places key ≡ some place → result.1 ≡ in_slot place }
+            × (result.0 ≡ record pass { own = placing pass.own key (place_of new) }) }
+        ensures found { (place : Place V) → get_elem? pass.own.places key ≡ some place → result.1 ≡ in_slot place }
     {
         let words = &self.words;
         words.exchange::<Brand, ()>(pass, key, new, ())

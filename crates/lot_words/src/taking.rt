@@ -18,11 +18,11 @@ impl<V: Keeps> LockWords<V> {
     pub fn try_take(&self, pass: LockPass<V>, key: usize) -> (LockPass<V>, bool)
         requires table { pass.table ≡ self.now.table }
         requires key { key < self.now.size.locks }
-        requires calm { (pass.pass.own.asleep ≡ false) × (pass.pass.own.aim ≡ None) }
+        requires calm { (pass.own.asleep ≡ false) × (pass.own.aim ≡ None) }
         ensures table { result.0.table ≡ pass.table }
         ensures event { MatchBool result.1
-            (GetsBy V.Keeps pass.pass key (Makes (Try pass.pass.thread key) (Saw true)) result.0.pass)
-            (Notes pass.pass pass.pass.own (Makes (Try pass.pass.thread key) (Saw false)) result.0.pass) }
+            (GetsBy V.Keeps pass key (Makes (Try pass.thread key) (Saw true)) result.0)
+            (Notes pass pass.own (Makes (Try pass.thread key) (Saw false)) result.0) }
     {
         let words = &self.words;
         let (pass, was) = words.fetch_or::<Brand, usize>(pass, word_of_key(key), HELD, key);
@@ -35,12 +35,12 @@ impl<V: Keeps> LockWords<V> {
     pub fn take(&self, pass: LockPass<V>, key: usize) -> (LockPass<V>, bool)
         requires table { pass.table ≡ self.now.table }
         requires key { key < self.now.size.locks }
-        requires calm { (pass.pass.own.asleep ≡ false) × Aims pass.pass.own key }
+        requires calm { (pass.own.asleep ≡ false) × Aims pass.own key }
         ensures table { result.0.table ≡ pass.table }
         ensures event { MatchBool result.1
-            (GetsBy V.Keeps pass.pass key (Makes (Take pass.pass.thread key) (Saw true)) result.0.pass)
-            (Notes pass.pass (wanting pass.pass.own key)
-            (Makes (Take pass.pass.thread key) (Saw false)) result.0.pass) }
+            (GetsBy V.Keeps pass key (Makes (Take pass.thread key) (Saw true)) result.0)
+            (Notes pass (wanting pass.own key)
+            (Makes (Take pass.thread key) (Saw false)) result.0) }
     {
         let words = &self.words;
         let (pass, found) = words.fetch_or::<Brand, usize>(pass, word_of_key(key), HELD, key);
@@ -54,11 +54,11 @@ impl<V: Keeps> LockWords<V> {
     pub fn take_free(&self, pass: LockPass<V>, key: usize) -> (LockPass<V>, bool)
         requires table { pass.table ≡ self.now.table }
         requires key { key < self.now.size.locks }
-        requires calm { (pass.pass.own.asleep ≡ false) × Aims pass.pass.own key }
+        requires calm { (pass.own.asleep ≡ false) × Aims pass.own key }
         ensures table { result.0.table ≡ pass.table }
         ensures event { MatchBool result.1
-            (GetsBy V.Keeps pass.pass key (Makes (Take pass.pass.thread key) (Saw true)) result.0.pass)
-            ((word : ℕ) × (word ≢ 0) × Notes pass.pass pass.pass.own (Finds pass.pass.thread key word) result.0.pass) }
+            (GetsBy V.Keeps pass key (Makes (Take pass.thread key) (Saw true)) result.0)
+            ((word : ℕ) × (word ≢ 0) × Notes pass pass.own (Finds pass.thread key word) result.0) }
     {
         let words = &self.words;
         let place = word_of_key(key);
@@ -72,11 +72,11 @@ impl<V: Keeps> LockWords<V> {
     pub fn mark(&self, pass: LockPass<V>, key: usize) -> (LockPass<V>, bool)
         requires table { pass.table ≡ self.now.table }
         requires key { key < self.now.size.locks }
-        requires calm { (pass.pass.own.asleep ≡ false) × (pass.pass.own.aim ≡ Some key) }
+        requires calm { (pass.own.asleep ≡ false) × (pass.own.aim ≡ Some key) }
         ensures table { result.0.table ≡ pass.table }
         ensures event { MatchBool result.1
-            (Notes pass.pass pass.pass.own (Makes (Mark pass.pass.thread key) Done) result.0.pass)
-            ((word : ℕ) × (word ≢ 1) × Notes pass.pass pass.pass.own (Finds pass.pass.thread key word) result.0.pass) }
+            (Notes pass pass.own (Makes (Mark pass.thread key) Done) result.0)
+            ((word : ℕ) × (word ≢ 1) × Notes pass pass.own (Finds pass.thread key word) result.0) }
     {
         let words = &self.words;
         let word = word_of_key(key);

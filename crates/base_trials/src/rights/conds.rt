@@ -11,8 +11,8 @@ use std::test::*;
 
 // Collects a letter, which lies there.
 fn collect(rt: &impl Abort, words: &CondWords, pass: CondPass) -> CondPass
-    requires { (pass.table ≡ words.now.table) × (pass.pass.own.sweeps ≡ None) }
-    ensures { IsFree words.now.table pass.pass.thread result }
+    requires { (pass.table ≡ words.now.table) × (pass.own.sweeps ≡ None) }
+    ensures { IsFree words.now.table pass.thread result }
 {
     let (pass, letter) = words.collect(pass);
     letter_is(rt, letter, Some(0));
@@ -31,8 +31,8 @@ fn one_wait(
     requires zero { IsFree words.now.table 0 zero }
     requires one { IsFree words.now.table 1 one }
     requires root { IsEmpty words.now.table root }
-    ensures zero { IsFree words.now.table 0 result.0 × (result.0.pass.own ≡ one_wait_more zero.pass.own 1) }
-    ensures one { IsFree words.now.table 1 result.1 × (result.1.pass.own ≡ called_more one.pass.own 1 1) }
+    ensures zero { IsFree words.now.table 0 result.0 × (result.0.own ≡ one_wait_more zero.own 1) }
+    ensures one { IsFree words.now.table 1 result.1 × (result.1.own ≡ called_more one.own 1 1) }
     ensures root { IsEmpty words.now.table result.2 }
 {
     bits_are(rt, words.bits(1), 0);
@@ -127,7 +127,7 @@ fn two_at_once(
     requires root { IsEmpty words.now.table root }
     ensures zero { IsFree words.now.table 0 result.0 }
     ensures one { IsFree words.now.table 1 result.1 }
-    ensures two { IsFree words.now.table 2 result.2 × (result.2.pass.own ≡ called_more two.pass.own 1 2) }
+    ensures two { IsFree words.now.table 2 result.2 × (result.2.own ≡ called_more two.own 1 2) }
     ensures root { IsEmpty words.now.table result.3 }
 {
     let (zero, root) = words.enlist(zero, root);

@@ -15,11 +15,11 @@ use std::test::*;
 
 fn take(words: &LockWords<Tally>, pass: LockPass<Tally>, key: usize) -> (LockPass<Tally>, bool)
     requires size { (words.now.size.locks ≡ 2) × (key < 2) }
-    requires pass { IsPass words.now.table pass.pass.thread pass × IsCalm pass.pass.own }
-    ensures pass { IsPass words.now.table pass.pass.thread result.0 }
-    ensures answer { MatchBool result.1 (Owns result.0.pass.own key) (Wants result.0.pass.own key) }
-    ensures holds { MatchBool result.1 (result.0.pass.own.holds ≡ slice_set pass.pass.own.holds key Held)
-        (result.0.pass.own.holds ≡ pass.pass.own.holds) }
+    requires pass { IsPass words.now.table pass.thread pass × IsCalm pass.own }
+    ensures pass { IsPass words.now.table pass.thread result.0 }
+    ensures answer { MatchBool result.1 (Owns result.0.own key) (Wants result.0.own key) }
+    ensures holds { MatchBool result.1 (result.0.own.holds ≡ slice_set pass.own.holds key Held)
+        (result.0.own.holds ≡ pass.own.holds) }
 {
     take_any(words, pass, key)
 }
@@ -31,22 +31,22 @@ fn take_again(
     key: usize,
 ) -> (LockPass<Tally>, bool)
     requires size { (words.now.size.locks ≡ 2) × (key < 2) }
-    requires pass { IsPass words.now.table pass.pass.thread pass × Wants pass.pass.own key }
-    ensures pass { IsPass words.now.table pass.pass.thread result.0 }
-    ensures answer { MatchBool result.1 (Owns result.0.pass.own key) (Wants result.0.pass.own key) }
-    ensures holds { MatchBool result.1 (result.0.pass.own.holds ≡ slice_set pass.pass.own.holds key Held)
-        (result.0.pass.own.holds ≡ pass.pass.own.holds) }
+    requires pass { IsPass words.now.table pass.thread pass × Wants pass.own key }
+    ensures pass { IsPass words.now.table pass.thread result.0 }
+    ensures answer { MatchBool result.1 (Owns result.0.own key) (Wants result.0.own key) }
+    ensures holds { MatchBool result.1 (result.0.own.holds ≡ slice_set pass.own.holds key Held)
+        (result.0.own.holds ≡ pass.own.holds) }
 {
     take_any(words, pass, key)
 }
 
 fn try_take(words: &LockWords<Tally>, pass: LockPass<Tally>, key: usize) -> (LockPass<Tally>, bool)
     requires size { (words.now.size.locks ≡ 2) × (key < 2) }
-    requires pass { IsPass words.now.table pass.pass.thread pass × IsCalm pass.pass.own }
-    ensures pass { IsPass words.now.table pass.pass.thread result.0 }
-    ensures answer { MatchBool result.1 (Owns result.0.pass.own key) (IsCalm result.0.pass.own) }
-    ensures holds { MatchBool result.1 (result.0.pass.own.holds ≡ slice_set pass.pass.own.holds key Held)
-        (result.0.pass.own.holds ≡ pass.pass.own.holds) }
+    requires pass { IsPass words.now.table pass.thread pass × IsCalm pass.own }
+    ensures pass { IsPass words.now.table pass.thread result.0 }
+    ensures answer { MatchBool result.1 (Owns result.0.own key) (IsCalm result.0.own) }
+    ensures holds { MatchBool result.1 (result.0.own.holds ≡ slice_set pass.own.holds key Held)
+        (result.0.own.holds ≡ pass.own.holds) }
 {
     words.try_take(pass, key)
 }
@@ -59,9 +59,9 @@ fn get(
     key: usize,
 ) -> LockPass<Tally>
     requires size { (words.now.size.locks ≡ 2) × (key < 2) }
-    requires pass { IsPass words.now.table pass.pass.thread pass × IsCalm pass.pass.own }
-    ensures pass { IsPass words.now.table pass.pass.thread result × Owns result.pass.own key }
-    ensures holds { result.pass.own.holds ≡ slice_set pass.pass.own.holds key Held }
+    requires pass { IsPass words.now.table pass.thread pass × IsCalm pass.own }
+    ensures pass { IsPass words.now.table pass.thread result × Owns result.own key }
+    ensures holds { result.own.holds ≡ slice_set pass.own.holds key Held }
 {
     let (pass, got) = take(words, pass, key);
     is_so(rt, got, "the lock is got");
@@ -76,9 +76,9 @@ fn want(
     key: usize,
 ) -> LockPass<Tally>
     requires size { (words.now.size.locks ≡ 2) × (key < 2) }
-    requires pass { IsPass words.now.table pass.pass.thread pass × IsCalm pass.pass.own }
-    ensures pass { IsPass words.now.table pass.pass.thread result × Wants result.pass.own key }
-    ensures holds { result.pass.own.holds ≡ pass.pass.own.holds }
+    requires pass { IsPass words.now.table pass.thread pass × IsCalm pass.own }
+    ensures pass { IsPass words.now.table pass.thread result × Wants result.own key }
+    ensures holds { result.own.holds ≡ pass.own.holds }
 {
     let (pass, got) = take(words, pass, key);
     is_so(rt, !got, "the lock is held");
@@ -95,9 +95,9 @@ fn count(
 ) -> LockPass<Tally>
     requires found { found < 1000 }
     requires size { (words.now.size.locks ≡ 2) × (key < 2) }
-    requires pass { IsPass words.now.table pass.pass.thread pass × Owns pass.pass.own key }
-    ensures pass { IsPass words.now.table pass.pass.thread result × MayFree result.pass.own key }
-    ensures holds { result.pass.own.holds ≡ pass.pass.own.holds }
+    requires pass { IsPass words.now.table pass.thread pass × Owns pass.own key }
+    ensures pass { IsPass words.now.table pass.thread result × MayFree result.own key }
+    ensures holds { result.own.holds ≡ pass.own.holds }
 {
     let (pass, tally) = words.value_out(pass, key);
     assert_eq!(rt; tally.total, found);
@@ -106,11 +106,11 @@ fn count(
 
 fn free(words: &LockWords<Tally>, pass: LockPass<Tally>, key: usize) -> (LockPass<Tally>, bool)
     requires size { (words.now.size.locks ≡ 2) × (key < 2) }
-    requires pass { IsPass words.now.table pass.pass.thread pass × MayFree pass.pass.own key }
-    ensures pass { IsPass words.now.table pass.pass.thread result.0 }
-    ensures answer { MatchBool result.1 (IsCalm result.0.pass.own) (MayPass result.0.pass.own key) }
-    ensures holds { MatchBool result.1 (result.0.pass.own.holds ≡ slice_set pass.pass.own.holds key NotHeld)
-        (result.0.pass.own.holds ≡ slice_set pass.pass.own.holds key FoundParked) }
+    requires pass { IsPass words.now.table pass.thread pass × MayFree pass.own key }
+    ensures pass { IsPass words.now.table pass.thread result.0 }
+    ensures answer { MatchBool result.1 (IsCalm result.0.own) (MayPass result.0.own key) }
+    ensures holds { MatchBool result.1 (result.0.own.holds ≡ slice_set pass.own.holds key NotHeld)
+        (result.0.own.holds ≡ slice_set pass.own.holds key FoundParked) }
 {
     words.free(pass, key)
 }
@@ -123,9 +123,9 @@ fn let_go(
     key: usize,
 ) -> LockPass<Tally>
     requires size { (words.now.size.locks ≡ 2) × (key < 2) }
-    requires pass { IsPass words.now.table pass.pass.thread pass × MayFree pass.pass.own key }
-    ensures pass { IsPass words.now.table pass.pass.thread result × IsCalm result.pass.own }
-    ensures holds { result.pass.own.holds ≡ slice_set pass.pass.own.holds key NotHeld }
+    requires pass { IsPass words.now.table pass.thread pass × MayFree pass.own key }
+    ensures pass { IsPass words.now.table pass.thread result × IsCalm result.own }
+    ensures holds { result.own.holds ≡ slice_set pass.own.holds key NotHeld }
 {
     let (pass, freed) = free(words, pass, key);
     is_so(rt, freed, "nobody has marked the lock as parked");
@@ -140,9 +140,9 @@ fn find_parked(
     key: usize,
 ) -> LockPass<Tally>
     requires size { (words.now.size.locks ≡ 2) × (key < 2) }
-    requires pass { IsPass words.now.table pass.pass.thread pass × MayFree pass.pass.own key }
-    ensures pass { IsPass words.now.table pass.pass.thread result × MayPass result.pass.own key }
-    ensures holds { result.pass.own.holds ≡ slice_set pass.pass.own.holds key FoundParked }
+    requires pass { IsPass words.now.table pass.thread pass × MayFree pass.own key }
+    ensures pass { IsPass words.now.table pass.thread result × MayPass result.own key }
+    ensures holds { result.own.holds ≡ slice_set pass.own.holds key FoundParked }
 {
     let (pass, freed) = free(words, pass, key);
     is_so(rt, !freed, "the lock is parked");
@@ -158,11 +158,11 @@ fn lie_down(
     key: usize,
 ) -> (LockPass<Tally>, LockRoot<Tally>)
     requires size { (words.now.size.locks ≡ 2) × (key < 2) }
-    requires pass { IsPass words.now.table pass.pass.thread pass × Wants pass.pass.own key }
+    requires pass { IsPass words.now.table pass.thread pass × Wants pass.own key }
     requires root { IsRoot words.now.table key [] root }
-    ensures pass { IsPass words.now.table pass.pass.thread result.0 × Sleeps result.0.pass.own key }
-    ensures holds { result.0.pass.own.holds ≡ pass.pass.own.holds }
-    ensures root { IsRoot words.now.table key (pass.pass.thread ∷ []) result.1 }
+    ensures pass { IsPass words.now.table pass.thread result.0 × Sleeps result.0.own key }
+    ensures holds { result.0.own.holds ≡ pass.own.holds }
+    ensures root { IsRoot words.now.table key (pass.thread ∷ []) result.1 }
 {
     let (pass, marked) = words.mark(pass, key);
     is_so(rt, marked, "the lock is held");
@@ -179,14 +179,14 @@ fn pass_on(
     first: Option<usize>,
     fair: bool,
 ) -> (LockPass<Tally>, LockRoot<Tally>)
-    requires pass { IsPass words.now.table pass.pass.thread pass × MayPass pass.pass.own root.root.key }
-    requires root { (root.table ≡ words.now.table) × (length root.root.own.line ≤ 1) × (root.root.own.owes ≡ None) }
-    requires first { first_of root.root.own.line ≡ first }
+    requires pass { IsPass words.now.table pass.thread pass × MayPass pass.own root.key }
+    requires root { (root.table ≡ words.now.table) × (length root.own.line ≤ 1) × (root.own.owes ≡ None) }
+    requires first { first_of root.own.line ≡ first }
     requires fair { first ≡ None → fair ≡ false }
-    ensures pass { IsPass words.now.table pass.pass.thread result.0 × IsCalm result.0.pass.own }
-    ensures holds { result.0.pass.own.holds ≡ slice_set pass.pass.own.holds root.root.key NotHeld }
-    ensures root { (result.1.table ≡ words.now.table) × (result.1.root.key ≡ root.root.key)
-        × (result.1.root.own ≡ passed_root root.root.own fair root.root.own.line) }
+    ensures pass { IsPass words.now.table pass.thread result.0 × IsCalm result.0.own }
+    ensures holds { result.0.own.holds ≡ slice_set pass.own.holds root.key NotHeld }
+    ensures root { (result.1.table ≡ words.now.table) × (result.1.key ≡ root.key)
+        × (result.1.own ≡ passed_root root.own fair root.own.line) }
 {
     words.pass_on(pass, root, first, fair, false)
 }
@@ -196,14 +196,14 @@ fn collect(
     pass: LockPass<Tally>,
     key: usize,
 ) -> (LockPass<Tally>, Option<u32>)
-    requires pass { IsPass words.now.table pass.pass.thread pass × Sleeps pass.pass.own key }
+    requires pass { IsPass words.now.table pass.thread pass × Sleeps pass.own key }
     requires key { key < 2 }
-    ensures pass { IsPass words.now.table pass.pass.thread result.0 }
-    ensures barging { result.1 ≡ Some 0 → Wants result.0.pass.own key
-        × (result.0.pass.own.holds ≡ pass.pass.own.holds) }
-    ensures handed { result.1 ≡ Some 1 → Owns result.0.pass.own key
-        × (result.0.pass.own.holds ≡ slice_set pass.pass.own.holds key Held) }
-    ensures none { result.1 ≡ None → Sleeps result.0.pass.own key × (result.0.pass.own.holds ≡ pass.pass.own.holds) }
+    ensures pass { IsPass words.now.table pass.thread result.0 }
+    ensures barging { result.1 ≡ Some 0 → Wants result.0.own key
+        × (result.0.own.holds ≡ pass.own.holds) }
+    ensures handed { result.1 ≡ Some 1 → Owns result.0.own key
+        × (result.0.own.holds ≡ slice_set pass.own.holds key Held) }
+    ensures none { result.1 ≡ None → Sleeps result.0.own key × (result.0.own.holds ≡ pass.own.holds) }
 {
     collect_any(words, pass)
 }
@@ -222,7 +222,7 @@ fn hand_over(
     requires root { IsRoot words.now.table 0 [] root }
     ensures zero { HasNothing words.now.table 0 result.0 }
     ensures one { HasNothing words.now.table 1 result.1 }
-    ensures root { (result.2.table ≡ words.now.table) × (result.2.root.key ≡ 0) }
+    ensures root { (result.2.table ≡ words.now.table) × (result.2.key ≡ 0) }
 {
     bits_are(rt, words.bits(0), 0);
     let zero = get(rt, words, zero, 0);
@@ -264,7 +264,7 @@ fn barge_in(
     requires root { IsRoot words.now.table 1 [] root }
     ensures zero { HasNothing words.now.table 0 result.0 }
     ensures one { HasNothing words.now.table 1 result.1 }
-    ensures root { (result.2.table ≡ words.now.table) × (result.2.root.key ≡ 1) }
+    ensures root { (result.2.table ≡ words.now.table) × (result.2.key ≡ 1) }
 {
     let (zero, got) = try_take(words, zero, 1);
     is_so(rt, got, "the lock is got");

@@ -23,12 +23,12 @@ pub(super) fn take_any<V: Keeps>(
 ) -> (LockPass<V>, bool)
     requires table { pass.table ≡ words.now.table }
     requires key { key < words.now.size.locks }
-    requires calm { (pass.pass.own.asleep ≡ false) × Aims pass.pass.own key }
+    requires calm { (pass.own.asleep ≡ false) × Aims pass.own key }
     ensures table { result.0.table ≡ pass.table }
     ensures event { (gets wishes : Access)
-        × MatchBool result.1 (GetsBy V.Keeps pass.pass key gets result.0.pass)
-        (Notes pass.pass (wanting pass.pass.own key) wishes result.0.pass) }
-    ensures owner { result.1 ≡ true → (x : V) × Owns result.0.pass.own key x }
+        × MatchBool result.1 (GetsBy V.Keeps pass key gets result.0)
+        (Notes pass (wanting pass.own key) wishes result.0) }
+    ensures owner { result.1 ≡ true → (x : V) × Owns result.0.own key x }
 {
     who_gets_a_lock_owns_it::<V>();
     words.take(pass, key)
@@ -41,9 +41,9 @@ pub(super) fn collect_any<V: Keeps>(
 ) -> (LockPass<V>, Option<u32>)
     requires { pass.table ≡ words.now.table }
     ensures table { result.0.table ≡ pass.table }
-    ensures letter { MatchOption result.1 (FoundNone pass.pass result.0.pass)
-        (λ token. Collected V.Keeps pass.pass token result.0.pass) }
-    ensures owner { (l : ℕ) → pass.pass.own.aim ≡ Some l → result.1 ≡ Some 1 → (x : V) × Owns result.0.pass.own l x }
+    ensures letter { MatchOption result.1 (FoundNone pass result.0)
+        (λ token. Collected V.Keeps pass token result.0) }
+    ensures owner { (l : ℕ) → pass.own.aim ≡ Some l → result.1 ≡ Some 1 → (x : V) × Owns result.0.own l x }
 {
     who_gets_a_lock_owns_it::<V>();
     words.collect(pass)
@@ -59,8 +59,8 @@ pub(super) fn close_soundly<V: Keeps>(
         × All (λ (q : RootShown LockRootView). q.table ≡ words.table) roots.items }
     requires idle { All HoldsNone passes.items }
     requires passes { (t : ℕ) → t < words.size.threads
-        → Any (λ (p : PassShown (LockPassView V)). p.pass.thread ≡ t) passes.items }
-    requires roots { (l : ℕ) → l < words.size.locks → Any (λ (q : RootShown LockRootView). q.root.key ≡ l) roots.items }
+        → Any (λ (p : PassShown (LockPassView V)). p.thread ≡ t) passes.items }
+    requires roots { (l : ℕ) → l < words.size.locks → Any (λ (q : RootShown LockRootView). q.key ≡ l) roots.items }
     ensures len { vec_len result ≡ words.size.locks }
     ensures sound { (told : IsToldTo words.size passes.items roots.items)
         × IsSoundLockPart words.size.threads told.recounted.part }

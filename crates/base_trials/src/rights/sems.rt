@@ -20,8 +20,8 @@ use std::test::*;
 // Takes a permit, which is left.
 fn get(rt: &impl Abort, words: &SemWords, pass: SemPass) -> SemPass
     requires size { IsOne words.now.size }
-    requires pass { IsOf words.now.table pass.pass.thread pass × MayTake pass.pass.own 1 }
-    ensures { Has words.now.table pass.pass.thread result }
+    requires pass { IsOf words.now.table pass.thread pass × MayTake pass.own 1 }
+    ensures { Has words.now.table pass.thread result }
 {
     let (pass, taken) = words.take(pass, 1);
     assert_eq!(rt; taken, Taken::Got);
@@ -31,8 +31,8 @@ fn get(rt: &impl Abort, words: &SemWords, pass: SemPass) -> SemPass
 // Finds no permit, and seeks one.
 fn seek(rt: &impl Abort, words: &SemWords, pass: SemPass) -> SemPass
     requires size { IsOne words.now.size }
-    requires pass { IsOf words.now.table pass.pass.thread pass × MayTake pass.pass.own 1 }
-    ensures { Seeks words.now.table pass.pass.thread result }
+    requires pass { IsOf words.now.table pass.thread pass × MayTake pass.own 1 }
+    ensures { Seeks words.now.table pass.thread result }
 {
     let (pass, taken) = words.take(pass, 1);
     assert_eq!(rt; taken, Taken::Empty);
@@ -42,8 +42,8 @@ fn seek(rt: &impl Abort, words: &SemWords, pass: SemPass) -> SemPass
 // Gives a permit back, where nobody is marked as parked.
 fn give(rt: &impl Abort, words: &SemWords, pass: SemPass) -> SemPass
     requires size { IsOne words.now.size }
-    requires pass { Has words.now.table pass.pass.thread pass }
-    ensures { IsFree words.now.table pass.pass.thread result }
+    requires pass { Has words.now.table pass.thread pass }
+    ensures { IsFree words.now.table pass.thread result }
 {
     let (pass, freed) = words.free(pass, 1);
     is_so(rt, freed, "nobody is marked as parked");
@@ -53,8 +53,8 @@ fn give(rt: &impl Abort, words: &SemWords, pass: SemPass) -> SemPass
 // Marks the semaphore as parked.
 fn mark(rt: &impl Abort, words: &SemWords, pass: SemPass) -> SemPass
     requires size { IsOne words.now.size }
-    requires pass { Seeks words.now.table pass.pass.thread pass }
-    ensures { Seeks words.now.table pass.pass.thread result }
+    requires pass { Seeks words.now.table pass.thread pass }
+    ensures { Seeks words.now.table pass.thread result }
 {
     let (pass, marked) = words.mark(pass, 1);
     is_so(rt, marked, "no permit is left");
@@ -63,8 +63,8 @@ fn mark(rt: &impl Abort, words: &SemWords, pass: SemPass) -> SemPass
 
 // Looks for a letter where none lies.
 fn look_in_vain(rt: &impl Abort, words: &SemWords, pass: SemPass) -> SemPass
-    requires { Sleeps words.now.table pass.pass.thread pass }
-    ensures { Sleeps words.now.table pass.pass.thread result }
+    requires { Sleeps words.now.table pass.thread pass }
+    ensures { Sleeps words.now.table pass.thread result }
 {
     let (pass, letter) = words.collect(pass);
     letter_is(rt, letter, None);
@@ -74,10 +74,10 @@ fn look_in_vain(rt: &impl Abort, words: &SemWords, pass: SemPass) -> SemPass
 // Queues the thread, where no permit is left.
 fn lie_down(rt: &impl Abort, words: &SemWords, pass: SemPass, root: SemRoot) -> (SemPass, SemRoot)
     requires size { IsOne words.now.size }
-    requires pass { Seeks words.now.table pass.pass.thread pass }
+    requires pass { Seeks words.now.table pass.thread pass }
     requires root { HasLine words.now.table [] root }
-    ensures pass { Sleeps words.now.table pass.pass.thread result.0 }
-    ensures root { HasLine words.now.table (pass.pass.thread ∷ []) result.1 }
+    ensures pass { Sleeps words.now.table pass.thread result.0 }
+    ensures root { HasLine words.now.table (pass.thread ∷ []) result.1 }
 {
     let (pass, root, queued) = words.park(pass, root);
     is_so(rt, queued, "it is queued");
@@ -86,8 +86,8 @@ fn lie_down(rt: &impl Abort, words: &SemWords, pass: SemPass, root: SemRoot) -> 
 
 // Collects a letter, which lies there: the thread may try again.
 fn wake(rt: &impl Abort, words: &SemWords, pass: SemPass) -> SemPass
-    requires { Sleeps words.now.table pass.pass.thread pass }
-    ensures { Seeks words.now.table pass.pass.thread result }
+    requires { Sleeps words.now.table pass.thread pass }
+    ensures { Seeks words.now.table pass.thread result }
 {
     let (pass, letter) = words.collect(pass);
     letter_is(rt, letter, Some(0));
@@ -214,8 +214,8 @@ fn close_soundly(words: SemWords, passes: Vec<SemPass>, roots: Vec<SemRoot>)
     requires table { All (λ (p : PassShown SemPassView). p.table ≡ words.table) passes.items
         × All (λ (q : RootShown SemRootView). q.table ≡ words.table) roots.items }
     requires passes { (t : ℕ) → t < words.size.threads
-        → Any (λ (p : PassShown SemPassView). p.pass.thread ≡ t) passes.items }
-    requires roots { (k : ℕ) → IsAmong words.size k → Any (λ (q : RootShown SemRootView). q.root.key ≡ k) roots.items }
+        → Any (λ (p : PassShown SemPassView). p.thread ≡ t) passes.items }
+    requires roots { (k : ℕ) → IsAmong words.size k → Any (λ (q : RootShown SemRootView). q.key ≡ k) roots.items }
     ensures { (told : IsToldTo words.size passes.items roots.items)
         × IsSoundSemaphorePart words.size.threads (permits_of words.size) told.recounted.part }
 {

@@ -1,6 +1,6 @@
 use Rattle.std.proofs.Common.{◌≡◌, [], ◌∷◌, ap, subst, ◌∙◌}
 use Rattle.lot_rights.specs.declared.views.Right.TheVariants.{Root}
-use Rattle.lot_rights.specs.Shown.{RootShown}
+use Rattle.lot_rights.specs.Shown.{RootShown, right_of_root}
 use Rattle.lot_rights.proofs.Gathers.{gathered, all_popped}
 use Rattle.lot_rights.proofs.Joining.{joins_rule}
 use Rattle.lot_rights.proofs.closing.gather_roots.Goals as goal
@@ -22,15 +22,15 @@ pub loop-root-preserved : goal.loop-root-preserved
 loop-root-preserved g c =
     let inv = c.loop-root.invariant in
     let own = c.root.inside.seat.me.0 in
-    let is : own ≡ Root c.in-Some.root.root ∷ [] =
-    subst (λ (x : RootShown _). own ≡ Root x.root ∷ []) c.root.view_is (ap (λ m. m.0) c.root.inside.one) in
+    let is : own ≡ Root (right_of_root c.in-Some.root) ∷ [] =
+    subst (λ (x : RootShown _). own ≡ Root (right_of_root x) ∷ []) c.root.view_is (ap (λ m. m.0) c.root.inside.one) in
     record {
       table = c.join_seat.ensures.0 ∙ inv.table;
       all =
           (all_popped (λ (q : RootShown _). q.table ≡ c.args.shared.now.table_id) c.loop-root.roots.items c.pop.new.self.items
           c.in-Some.root c.in-Some.ensures.items inv.all).0;
       rights =
-          gathered (λ (q : RootShown _). Root q.root) c.loop-root.seat.me.0 own c.join_seat.new.seat.me.0 c.loop-root.roots.items
+          gathered (λ (q : RootShown _). Root (right_of_root q)) c.loop-root.seat.me.0 own c.join_seat.new.seat.me.0 c.loop-root.roots.items
           c.pop.new.self.items c.in-Some.root
           (ap (λ m. m.0) c.join_seat.ensures.2) is c.in-Some.ensures.items ∙ inv.rights;
     }

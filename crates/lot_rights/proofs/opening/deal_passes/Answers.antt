@@ -1,6 +1,7 @@
 use Rattle.std.proofs.Common.{◌+◌, ◌-◌, ◌++◌, [], slice_get, refl, sym, ap, subst, ◌^◌, ◌<◌, ◌∙◌, arith}
 use Rattle.lot_rights.specs.Layout.{letter_at}
 use Rattle.lot_rights.specs.declared.views.Right.TheVariants.{Pass}
+use Rattle.lot_rights.specs.Shown.{pass_at_table}
 use Rattle.lot_rights.specs.Start.{new_pass, passes_from, roots_from, pass_at}
 use Rattle.lot_rights.proofs.Joining.{deals}
 use Rattle.lot_rights.proofs.Deals.{next_from, one_pass, left_over, dealt_out, pass_seen, get_more}
@@ -68,5 +69,5 @@ loop-thread-preserved g c =
       room = omega (arith, c.push_reserved.ensures.capacity, inv.room);
       each = λ i near. ap (λ ps. slice_get ps i) c.push_reserved.ensures.items
           ∙ get_more (pass_at k c.args.shared.now.table_id) c.loop-thread.passes.items _ t (omega (arith, inv.len)) inv.each
-          (λ j. record { table = table j; pass = seen j }) i near;
+          (λ j. pass_at_table (table j) (seen j)) i near;
     }

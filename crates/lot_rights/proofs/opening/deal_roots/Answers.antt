@@ -1,6 +1,7 @@
 use Rattle.std.proofs.Common.{◌≡◌, ◌+◌, ◌-◌, ◌^◌, ◌<◌, [], slice_get, sym, ap, subst, ◌∙◌, arith}
 use Rattle.lot_rights.specs.Layout.{word_at}
 use Rattle.lot_rights.specs.declared.views.Right.TheVariants.{Root}
+use Rattle.lot_rights.specs.Shown.{root_at_table}
 use Rattle.lot_rights.specs.Start.{new_root, roots_from, root_at}
 use Rattle.lot_rights.proofs.Joining.{deals}
 use Rattle.lot_rights.proofs.Deals.{next_from, one_root, left_over, dealt_out, root_seen, get_more}
@@ -86,5 +87,5 @@ loop-i-preserved g c =
       room = omega (arith, c.push_reserved.ensures.capacity, inv.room);
       each = λ j near. ap (λ qs. slice_get qs j) c.push_reserved.ensures.items
           ∙ get_more (λ d. root_at k c.args.shared.now.table_id (c.args.first + d)) c.loop-i.roots.items _ i
-          (omega (arith, inv.len)) inv.each (λ d. record { table = table d; root = seen d }) j near;
+          (omega (arith, inv.len)) inv.each (λ d. root_at_table (table d) (seen d)) j near;
     }

@@ -12,7 +12,7 @@ loop-root-preserved g c =
     let left = c.pop.new.self.items in
     record {
       own = (all_popped (λ (r : RootShown LotRootView). (r.table ≡ g.N.Name.opening.locks) × IsInItsKind g.N.LotName.locks
-          g.N.LotName.first_sem r.root.key r.root.own)
+          g.N.LotName.first_sem r.key r.own)
           c.loop-root.roots.items left c.in-Some.root c.in-Some.ensures.items inv.own).0;
       moved = ap (λ rs. left ++ reverse rs) (c.push_reserved.ensures.items ∙ ap (λ r. c.loop-root.named.items ++ r ∷ []) c.new.ensures)
           ∙ moves_on c.loop-root.roots.items left c.in-Some.root c.loop-root.named.items c.args.roots.now.items c.in-Some.ensures.items

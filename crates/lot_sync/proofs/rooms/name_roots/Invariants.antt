@@ -8,8 +8,8 @@ use Rattle.lot_sync.proofs.rooms.name_roots.Given as goal
 abbrev pub invariant-loop-root : goal.invariant-loop-root
 invariant-loop-root g l = record {
   own : All (λ (r : RootShown LotRootView). (r.table ≡ g.N.Name.opening.locks)
-      × IsInItsKind g.N.LotName.locks g.N.LotName.first_sem r.root.key
-      r.root.own) l.roots.items;
+      × IsInItsKind g.N.LotName.locks g.N.LotName.first_sem r.key
+      r.own) l.roots.items;
   moved : l.roots.items ++ reverse l.named.items ≡ l.initial.roots.items;
   count : vec_len l.roots + vec_len l.named ≡ vec_len l.initial.roots;
   fits : vec_len l.initial.roots ≤ vec_capacity l.named;

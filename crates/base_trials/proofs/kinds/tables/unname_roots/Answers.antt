@@ -8,7 +8,7 @@ use Rattle.base_trials.proofs.kinds.tables.unname_roots.Goals as goal
 pub returns : goal.returns
 returns g c =
     let table = g.N.Name.opening.locks in
-    let key = λ (q : RootShown LotRootView). q.root.key in
+    let key = λ (q : RootShown LotRootView). q.key in
     let keys = three_named _ _ _ _ _ _ _ c.requires.named c.take_last-cond.ensures.items c.take_last-second.ensures.items
     c.take_last-first.ensures.items in
     let none = no_root_back table c.args.roots.now.items (no_elements c.args.roots.now.items (search rules)) in

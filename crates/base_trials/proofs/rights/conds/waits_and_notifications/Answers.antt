@@ -54,7 +54,7 @@ two_waits-zero-requires-clause-two g c =
 
 pub close-requires-clause-passes : goal.close-requires-clause-passes
 close-requires-clause-passes g c =
-    let thread = λ (p : PassShown CondPassView). p.pass.thread in
+    let thread = λ (p : PassShown CondPassView). p.thread in
     let none = c.take_last-zero.new.self.items in
     let zero = one_back thread 0 none c.push_reserved.new.self.items c.two_at_once-zero.result.0 c.push_reserved.ensures.items
     c.two_at_once-zero.ensures.zero.1 (none_back thread none) in
@@ -66,7 +66,7 @@ close-requires-clause-passes g c =
 
 pub close-requires-clause-roots : goal.close-requires-clause-roots
 close-requires-clause-roots g c d among =
-    let mine = λ (q : RootShown CondRootView). q.root.key ≡ d in
-    let key : c.two_at_once-zero.result.3.root.key ≡ d =
+    let mine = λ (q : RootShown CondRootView). q.key ≡ d in
+    let key : c.two_at_once-zero.result.3.key ≡ d =
     omega (arith, c.two_at_once-zero.ensures.root.1, among.0, among.1, c.in-Ok.ensures.size.1, c.in-Ok.ensures.size.2) in
     subst (Any mine) (sym c.push_reserved-4.ensures.items) (Any-push mine c.take_last-root.new.self.items c.two_at_once-zero.result.3 key)

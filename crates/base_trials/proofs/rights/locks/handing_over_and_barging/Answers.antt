@@ -59,7 +59,7 @@ barge_in-zero-requires-clause-root g c =
 
 pub close_soundly-values-requires-clause-passes : goal.close_soundly-values-requires-clause-passes
 close_soundly-values-requires-clause-passes g c =
-    let thread = λ (p : PassShown (LockPassView Tally)). p.pass.thread in
+    let thread = λ (p : PassShown (LockPassView Tally)). p.thread in
     let none_left = c.take_last-zero.new.self.items in
     let is_zero = ap thread c.check_apart-zero.ensures.same.0 ∙ c.barge_in-zero.ensures.zero.0.1 in
     let is_one = ap thread c.check_apart-zero.ensures.same.1 ∙ c.barge_in-zero.ensures.one.0.1 in
@@ -71,7 +71,7 @@ close_soundly-values-requires-clause-passes g c =
 
 pub close_soundly-values-requires-clause-roots : goal.close_soundly-values-requires-clause-roots
 close_soundly-values-requires-clause-roots g c =
-    let key = λ (q : RootShown LockRootView). q.root.key in
+    let key = λ (q : RootShown LockRootView). q.key in
     let none_left = c.take_last-first.new.self.items in
     let n : vec_len c.push_reserved-2.new.self ≡ 2 = search rules in
     let first = one_back key 0 none_left c.push_reserved-5.new.self.items c.hand_over-zero.result.2 c.push_reserved-5.ensures.items

@@ -62,7 +62,7 @@ one_permit-zero-requires-clause-root g c =
 
 pub close_soundly-requires-clause-passes : goal.close_soundly-requires-clause-passes
 close_soundly-requires-clause-passes g c =
-    let thread = λ (p : PassShown SemPassView). p.pass.thread in
+    let thread = λ (p : PassShown SemPassView). p.thread in
     let none = c.take_last-zero.new.self.items in
     let zero = one_back thread 0 none c.push_reserved.new.self.items c.late_release-zero.result.0 c.push_reserved.ensures.items
     c.late_release-zero.ensures.zero.0.1 (none_back thread none) in
@@ -76,9 +76,9 @@ close_soundly-requires-clause-passes g c =
 
 pub close_soundly-requires-clause-roots : goal.close_soundly-requires-clause-roots
 close_soundly-requires-clause-roots g c d among =
-    let mine = λ (q : RootShown SemRootView). q.root.key ≡ d in
+    let mine = λ (q : RootShown SemRootView). q.key ≡ d in
     let is_one = opened_one c.in-Ok-open.words.size 3 c.in-Ok.permits.items c.in-Ok-open.ensures.size (sym c.in-Ok.permits.ok.0
     ∙ c.in-Ok.ensures.len) in
-    let key : c.late_release-zero.result.2.root.key ≡ d =
+    let key : c.late_release-zero.result.2.key ≡ d =
     omega (arith, c.late_release-zero.ensures.root.1, among.0, among.1, is_one.0, is_one.1) in
     subst (Any mine) (sym c.push_reserved-4.ensures.items) (Any-push mine c.take_last-root.new.self.items c.late_release-zero.result.2 key)

@@ -17,7 +17,7 @@ returns-clause-balanced c =
     let size = c.self.inside.words.key in
     let all =
     subst (λ (z : CondWordsShown). (t : ℕ) → t < z.size.threads
-    → Any (λ (p : PassShown CondPassView). p.pass.thread ≡ t) c.args.passes.items) (sym c.self.view_is) c.requires.passes in
+    → Any (λ (p : PassShown CondPassView). p.thread ≡ t) c.args.passes.items) (sym c.self.view_is) c.requires.passes in
     balanced size c.args.passes.items c.args.roots.items (slots_items c.close.result.words)
     (slots_items c.close.result.slots) c.close.ensures.ended.left c.requires.idle all
 

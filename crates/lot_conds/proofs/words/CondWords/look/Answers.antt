@@ -10,7 +10,7 @@ use Rattle.lot_conds.proofs.words.CondWords.look.Goals as goal
 pub load-pass-requires-clause-allows : goal.load-pass-requires-clause-allows
 load-pass-requires-clause-allows c =
     let key = c.args.key in
-    let p = c.args.pass.pass in
+    let p = c.args.pass in
     let size = c.self.inside.words.key in
     let among = subst (λ (z : CondWordsShown). IsAmongConds z.size.locks z.size.conds key) (sym c.self.view_is) c.requires.key in
     pass_at_place (meaning size) (word_at key) _ c.word_of_key.ensures (λ n. n) p (Looks p key) (looks size p key among c.requires.calm)

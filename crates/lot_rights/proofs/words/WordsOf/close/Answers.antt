@@ -3,7 +3,7 @@ use Rattle.std.specs.List.{All}
 use Rattle.std.specs.Slots.{slots_items}
 use Rattle.atomic_table.specs.Seated.{TableId}
 use Rattle.lot_rights.specs.declared.views.Right.TheVariants.{Pass}
-use Rattle.lot_rights.specs.Shown.{PassShown, RootShown, WordsShown}
+use Rattle.lot_rights.specs.Shown.{PassShown, RootShown, WordsShown, right_of_pass}
 use Rattle.lot_rights.specs.Closing.{roots_in, Ended}
 use Rattle.lot_rights.proofs.Gathers.{all_popped, gathered}
 use Rattle.lot_rights.proofs.Closes.{ends}
@@ -54,11 +54,11 @@ returns-clause-ended g c =
     let passes = c.args.passes.items in
     let roots = c.args.roots.items in
     let own = c.seat.inside.seat.me.0 in
-    let first : own ≡ Pass c.take_last.result.pass ∷ [] =
-    subst (λ (x : PassShown _). own ≡ Pass x.pass ∷ []) c.seat.view_is (ap (λ m. m.0) c.seat.inside.one) in
+    let first : own ≡ Pass (right_of_pass c.take_last.result) ∷ [] =
+    subst (λ (x : PassShown _). own ≡ Pass (right_of_pass x) ∷ []) c.seat.view_is (ap (λ m. m.0) c.seat.inside.one) in
     let all = c.gather_roots-seat.ensures.rights ∙ ap (λ v. v ++ roots_in (reverse roots))
     (c.gather_passes-seat.ensures.rights ∙ gathered
-    (λ (p : PassShown _). Pass p.pass) [] own own passes c.take_last.new.self.items c.take_last.result refl first
+    (λ (p : PassShown _). Pass (right_of_pass p)) [] own own passes c.take_last.new.self.items c.take_last.result refl first
     c.take_last.ensures.items) in
     let last = c.close_with.ensures.values.2 in
     subst

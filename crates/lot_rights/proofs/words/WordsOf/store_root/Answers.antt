@@ -4,7 +4,8 @@ use Rattle.lot_rights.proofs.words.WordsOf.store_root.Goals as goal
 pub store-requires : goal.store-requires
 store-requires g c =
     ready_root g.K.Kind.meaning g.K.Kind.no_letter_in_line _ _ c.self.view_is
-    _ _ c.root.view_is c.root.inside.seat.id c.root.inside.seat.me c.root.inside.one c.args.word (λ _. c.args.new)
+    _ _ c.root.view_is g.N.TellsRoot.table c.requires.named c.root.inside.seat.id c.root.inside.seat.me c.root.inside.one
+    c.args.word (λ _. c.args.new)
     (λ _. g.N.TellsRoot.then c.args.new) c.requires.table c.requires.word c.requires.allows
 
 pub invariant_of-result : goal.invariant_of-result
@@ -12,4 +13,4 @@ invariant_of-result g c =
     let told = c.store.ensures.2 in
     root_stands g.K.Kind.no_root g.K.Kind.names _ _ c.root.view_is c.root.inside.key c.root.inside.key_is c.root.inside.near
     c.root.inside.small c.root.inside.letters_near _ c.store.ensures.0
-    c.store.new.seat.me told.0 told.1 told.2 (c.requires.names c.args.new told.0 told.3)
+    c.store.new.seat.me told.0 told.1 told.2 (c.requires.names c.args.new _ told.3)

@@ -16,7 +16,7 @@ use Rattle.lot_scheme.proofs.scheme.LotSchemeScheme.post.Goals.{then-key-self, e
 
 pub post_cond-requires-clause-owes : goal.post_cond-requires-clause-owes
 post_cond-requires-clause-owes g c =
-    let q = c.into_root-root.result.root in
+    let q = c.into_root-root.result in
     let has = subst (λ (r : RootShown LotRootView). Contains (root_view r).owes (c.args.at, c.args.token.0))
     (sym c.into_root-root.ensures.same) c.requires in
     let locks = c.self.invariant.3 in
@@ -30,7 +30,7 @@ post_cond-requires-clause-owes g c =
 
 pub returns-clause-owes : goal.returns-clause-owes
 returns-clause-owes g c =
-    let q = c.into_root-root.result.root in
+    let q = c.into_root-root.result in
     let kind = c.into_root-root.ensures.kind in
     let has = subst (λ (r : RootShown LotRootView). Contains (root_view r).owes (c.args.at, c.args.token.0))
     (sym c.into_root-root.ensures.same) c.requires in
@@ -42,7 +42,7 @@ returns-clause-owes g c =
       | then-key-self w ↦
           let below = w.if-key-self.true in
           ap (λ (r : RootShown LotRootView). (root_view r).owes) w.root-is
-          ∙ (seen_after lock q w.post-root.result.root (lock_paid (as_lock q.own)) (Posts q.key c.args.at c.args.token.0)
+          ∙ (seen_after lock q w.post-root.result (lock_paid (as_lock q.own)) (Posts q.key c.args.at c.args.token.0)
           w.post-root.ensures.posted
           ∙ posted_lock q.key c.args.at c.args.token.0 q.own
           (is_lock g.N.LotName.locks g.N.LotName.first_sem q.key q.own kind (omega (arith, locks, is, below))) has)
@@ -50,7 +50,7 @@ returns-clause-owes g c =
           let from = w.if-key-self.false in
           let below = w.if-key-self-2.true in
           ap (λ (r : RootShown LotRootView). (root_view r).owes) w.root-is
-          ∙ (seen_after cond q w.post_cond.result.root (cond_paid (as_cond q.own) c.args.at) (Posts q.key c.args.at 0)
+          ∙ (seen_after cond q w.post_cond.result (cond_paid (as_cond q.own) c.args.at) (Posts q.key c.args.at 0)
           w.post_cond.ensures.posted
           ∙ posted_cond q.key c.args.at c.args.token.0 q.own
           (is_cond g.N.LotName.locks g.N.LotName.first_sem q.key q.own kind (omega (arith, locks, is, from))
@@ -59,7 +59,7 @@ returns-clause-owes g c =
           let from = w.if-key-self.false in
           let above = w.if-key-self-2.false in
           ap (λ (r : RootShown LotRootView). (root_view r).owes) w.root-is
-          ∙ (seen_after sem q w.post_sem.result.root (sem_paid (as_sem q.own)) (Posts q.key c.args.at 0) w.post_sem.ensures.posted
+          ∙ (seen_after sem q w.post_sem.result (sem_paid (as_sem q.own)) (Posts q.key c.args.at 0) w.post_sem.ensures.posted
           ∙ posted_sem q.key c.args.at c.args.token.0 q.own
           (is_sem g.N.LotName.locks g.N.LotName.first_sem q.key q.own kind (omega (arith, locks, is, from))
           (omega (arith, first_sem, is, above))) has)

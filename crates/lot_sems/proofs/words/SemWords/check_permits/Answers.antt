@@ -9,5 +9,5 @@ check_two-requires-clause-tells c w ws hs ok first second ne k =
       ok.sound.permits_conserved k,
       first.out k,
       second.out k,
-      two_of _ (w.part.sems.out k) c.args.first.pass.thread c.args.second.pass.thread ne first.near second.near,
+      two_of _ (w.part.sems.out k) c.args.first.thread c.args.second.thread ne first.near second.near,
     )

@@ -1,6 +1,6 @@
 use Rattle.std.proofs.Common.{◌-◌, ◌^◌, bit_and, subst, inl}
+use Rattle.lot_rights.specs.Shown.{RootShown}
 use Rattle.lot_rights.specs.Layout.{word_at}
-use Rattle.lot_rights.specs.declared.views.RootRight.{RootRight}
 use Rattle.lot_rights.proofs.Places.{both_at_place}
 use Rattle.lot_sems.specs.declared.views.SemRootView.{SemRootView}
 use Rattle.lot_sems.specs.World.{numbers}
@@ -10,14 +10,14 @@ use Rattle.lot_sems.proofs.words.SemWords.clear.Goals as goal
 
 pub fetch_and_both-pass-requires-clause-allows : goal.fetch_and_both-pass-requires-clause-allows
 fetch_and_both-pass-requires-clause-allows c =
-    let p = c.args.pass.pass in
-    let q = c.args.root.root in
+    let p = c.args.pass in
+    let q = c.args.root in
     let size = numbers c.self.inside.words.key in
     both_at_place (meaning size) (word_at q.key) _ c.word-word.ensures.is (λ n. bit_and n (2 ^ 64 - 2)) p q (λ _. Clears p q)
     (clears size p q c.requires.calm c.requires.nobody)
 
 pub fetch_and_both-pass-requires-clause-names : goal.fetch_and_both-pass-requires-clause-names
-fetch_and_both-pass-requires-clause-names c n p' q' told u h = inl (subst (λ (z : RootRight SemRootView). names z.own u) told.1 h)
+fetch_and_both-pass-requires-clause-names c n p' q' told u h = inl (subst (λ (z : RootShown SemRootView). names z.own u) told.1 h)
 
 pub returns-clause-entry : goal.returns-clause-entry
 returns-clause-entry c = c.fetch_and_both-pass.ensures.told.0

@@ -16,7 +16,7 @@ pub returns : goal.returns
 returns c =
     let size = numbers c.self.inside.words.key in
     let all =
-    subst (λ (z : SemWordsShown). (t : ℕ) → t < z.size.threads → Any (λ (p : PassShown SemPassView). p.pass.thread ≡ t) c.args.passes.items)
+    subst (λ (z : SemWordsShown). (t : ℕ) → t < z.size.threads → Any (λ (p : PassShown SemPassView). p.thread ≡ t) c.args.passes.items)
     (sym c.self.view_is) c.requires.passes in
     record {
       history = subst (λ (z : SemWordsShown). IsToldTo z.size c.args.passes.items c.args.roots.items) c.self.view_is

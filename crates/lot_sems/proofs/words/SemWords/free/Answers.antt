@@ -14,7 +14,7 @@ use Rattle.lot_sems.proofs.words.SemWords.free.Goals as goal
 pub load-pass-requires-clause-allows : goal.load-pass-requires-clause-allows
 load-pass-requires-clause-allows c =
     let key = c.args.key in
-    let p = c.args.pass.pass in
+    let p = c.args.pass in
     let size = numbers c.self.inside.words.key in
     let among = subst (λ (z : SemWordsShown). IsAmong z.size key) (sym c.self.view_is) c.requires.key in
     pass_at_place (meaning size) (word_at key) _ c.word_of_key-word.ensures (λ n. n) p (Found p key) (looks size p key among)
@@ -22,8 +22,8 @@ load-pass-requires-clause-allows c =
 pub compare_exchange-pass-requires-clause-allows : goal.compare_exchange-pass-requires-clause-allows
 compare_exchange-pass-requires-clause-allows c =
     let key = c.args.key in
-    let p = c.args.pass.pass in
-    let r = c.load-pass.result.0.pass in
+    let p = c.args.pass in
+    let r = c.load-pass.result.0 in
     let seen = c.load-pass.result.1 in
     let size = numbers c.self.inside.words.key in
     let among = subst (λ (z : SemWordsShown). IsAmong z.size key) (sym c.self.view_is) c.requires.key in
@@ -41,5 +41,5 @@ pub returns-clause-entries : goal.returns-clause-entries
 returns-clause-entries c =
     let seen = c.load-pass.result.1 in
     let clear : IsUnmarked seen = omega (arith, and_mask seen 1, c.if-seen-ne0.false) in
-    freed c.args.pass.pass c.load-pass.result.0.pass c.args.key seen c.load-pass.ensures.told clear
-    c.compare_exchange-pass.result.1 c.compare_exchange-pass.result.0.pass c.compare_exchange-pass.ensures.told
+    freed c.args.pass c.load-pass.result.0 c.args.key seen c.load-pass.ensures.told clear
+    c.compare_exchange-pass.result.1 c.compare_exchange-pass.result.0 c.compare_exchange-pass.ensures.told

@@ -11,7 +11,7 @@ use Rattle.lot_sems.proofs.words.SemWords.mark.Goals as goal
 pub compare_exchange-pass-requires-clause-allows : goal.compare_exchange-pass-requires-clause-allows
 compare_exchange-pass-requires-clause-allows c =
     let key = c.args.key in
-    let p = c.args.pass.pass in
+    let p = c.args.pass in
     let size = numbers c.self.inside.words.key in
     let among = subst (λ (z : SemWordsShown). IsAmong z.size key) (sym c.self.view_is) c.requires.key in
     pass_at_place (meaning size) (word_at key) _ c.word_of_key-word.ensures (λ n. either (n == 0) 1 n) p (Marks p key)

@@ -1,8 +1,8 @@
 use Rattle.std.proofs.Common.{◌+◌, ◌%◌, ◌^◌, ap, sym, subst, ◌∙◌, inl}
 use Rattle.lot_events.specs.declared.events.Event.TheVariants.{SemPass}
 use Rattle.lot_events.specs.declared.events.Seen.TheVariants.{Sleeper}
+use Rattle.lot_rights.specs.Shown.{RootShown}
 use Rattle.lot_rights.specs.Layout.{word_at}
-use Rattle.lot_rights.specs.declared.views.RootRight.{RootRight}
 use Rattle.lot_rights.specs.declared.views.Access.TheVariants.{Makes}
 use Rattle.lot_rights.specs.Steps.{Notes}
 use Rattle.lot_rights.proofs.Places.{both_at_place}
@@ -16,8 +16,8 @@ use Rattle.lot_sems.proofs.words.SemWords.pass_on.Goals as goal
 
 pub fetch_add_both-pass-requires-clause-allows : goal.fetch_add_both-pass-requires-clause-allows
 fetch_add_both-pass-requires-clause-allows c =
-    let p = c.args.pass.pass in
-    let q = c.args.root.root in
+    let p = c.args.pass in
+    let q = c.args.root in
     let size = numbers c.self.inside.words.key in
     let given = c.raise-given.result in
     both_at_place (meaning size) (word_at q.key) _ c.word-word.ensures.is (λ n. (n + given) % 2 ^ 64) p q
@@ -27,15 +27,15 @@ fetch_add_both-pass-requires-clause-allows c =
 
 pub fetch_add_both-pass-requires-clause-names : goal.fetch_add_both-pass-requires-clause-names
 fetch_add_both-pass-requires-clause-names c n p' q' told u h =
-    inl (pass_names c.args.root.root.own q'.own u (ap (λ (z : RootRight SemRootView). z.own) told.1) h)
+    inl (pass_names c.args.root.own q'.own u (ap (λ (z : RootShown SemRootView). z.own) told.1) h)
 
 pub returns-clause-entry : goal.returns-clause-entry
 returns-clause-entry c =
-    let p = c.args.pass.pass in
-    let q = c.args.root.root in
+    let p = c.args.pass in
+    let q = c.args.root in
     subst
     (λ o. Notes p (one_permit_less p.own q.key)
-    (Makes (SemPass p.thread q.key c.args.more) (Sleeper o)) c.fetch_add_both-pass.result.0.pass) c.requires.first.0
+    (Makes (SemPass p.thread q.key c.args.more) (Sleeper o)) c.fetch_add_both-pass.result.0) c.requires.first.0
     c.fetch_add_both-pass.ensures.told.0
 
 pub returns-clause-root : goal.returns-clause-root

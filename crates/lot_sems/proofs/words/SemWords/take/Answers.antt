@@ -11,15 +11,15 @@ use Rattle.lot_sems.proofs.words.SemWords.take.Goals as goal
 pub load-pass-requires-clause-allows : goal.load-pass-requires-clause-allows
 load-pass-requires-clause-allows c =
     let key = c.args.key in
-    let p = c.args.pass.pass in
+    let p = c.args.pass in
     let size = numbers c.self.inside.words.key in
     let among = subst (λ (z : SemWordsShown). IsAmong z.size key) (sym c.self.view_is) c.requires.key in
     pass_at_place (meaning size) (word_at key) _ c.word_of_key.ensures (λ n. n) p (Seeks p key) (seeks size p key among c.requires.may)
 
 pub take_from-requires-clause-may : goal.take_from-requires-clause-may
 take_from-requires-clause-may c =
-    let p = c.args.pass.pass in
-    let r = c.load-pass.result.0.pass in
+    let p = c.args.pass in
+    let r = c.load-pass.result.0 in
     let key = c.args.key in
     let seen = c.load-pass.result.1 in
     after_look p r key seen (seeks_left p key seen r c.if-seen-lt-PERMIT.false c.load-pass.ensures.told)
@@ -27,13 +27,13 @@ take_from-requires-clause-may c =
 
 pub returns-then-seen-lt-PERMIT-clause-entries : goal.returns-then-seen-lt-PERMIT-clause-entries
 returns-then-seen-lt-PERMIT-clause-entries c =
-    seeks_empty c.args.pass.pass c.args.key c.load-pass.result.1 c.load-pass.result.0.pass c.if-seen-lt-PERMIT.true c.load-pass.ensures.told
+    seeks_empty c.args.pass c.args.key c.load-pass.result.1 c.load-pass.result.0 c.if-seen-lt-PERMIT.true c.load-pass.ensures.told
 
 pub returns-clause-entries : goal.returns-clause-entries
 returns-clause-entries c =
-    let p = c.args.pass.pass in
-    let r = c.load-pass.result.0.pass in
+    let p = c.args.pass in
+    let r = c.load-pass.result.0 in
     let key = c.args.key in
     let seen = c.load-pass.result.1 in
     taken p r key seen (seeks_left p key seen r c.if-seen-lt-PERMIT.false c.load-pass.ensures.told) c.if-seen-lt-PERMIT.false
-    c.take_from.result.1 c.take_from.result.0.pass c.take_from.ensures.entry
+    c.take_from.result.1 c.take_from.result.0 c.take_from.ensures.entry

@@ -14,7 +14,7 @@ use Rattle.lot_sems.proofs.words.SemWords.take_from.Goals as goal
 pub compare_exchange-pass-requires-clause-allows : goal.compare_exchange-pass-requires-clause-allows
 compare_exchange-pass-requires-clause-allows c =
     let key = c.args.key in
-    let p = c.args.pass.pass in
+    let p = c.args.pass in
     let seen = c.args.seen in
     let size = numbers c.self.inside.words.key in
     let among = subst (λ (z : SemWordsShown). IsAmong z.size key) (sym c.self.view_is) c.requires.key in
@@ -23,10 +23,10 @@ compare_exchange-pass-requires-clause-allows c =
 
 pub returns-clause-entry : goal.returns-clause-entry
 returns-clause-entry c =
-    let p = c.args.pass.pass in
+    let p = c.args.pass in
     let key = c.args.key in
     let seen = c.args.seen in
-    let q = c.compare_exchange-pass.result.0.pass in
+    let q = c.compare_exchange-pass.result.0 in
     let found = c.compare_exchange-pass.result.1 in
     let own = one_permit_more p.own key in
     let e = SemTake p.thread key in

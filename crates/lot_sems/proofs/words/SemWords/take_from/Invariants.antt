@@ -5,4 +5,5 @@ use Rattle.lot_sems.proofs.words.SemWords.take_from.Given as goal
 
 abbrev pub ghosts-compare_exchange : goal.ghosts-compare_exchange
 ghosts-compare_exchange a =
-    let p = a.pass.pass in record { then = Swaps p a._about (one_permit_more p.own a._about) (SemTake p.thread a._about) a.old }
+    let p = a.pass in
+    record { table = p.table; then = Swaps p a._about (one_permit_more p.own a._about) (SemTake p.thread a._about) a.old }

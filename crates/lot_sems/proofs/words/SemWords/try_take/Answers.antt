@@ -11,7 +11,7 @@ use Rattle.lot_sems.proofs.words.SemWords.try_take.Goals as goal
 pub load-pass-requires-clause-allows : goal.load-pass-requires-clause-allows
 load-pass-requires-clause-allows c =
     let key = c.args.key in
-    let p = c.args.pass.pass in
+    let p = c.args.pass in
     let size = numbers c.self.inside.words.key in
     let among = subst (λ (z : SemWordsShown). IsAmong z.size key) (sym c.self.view_is) c.requires.key in
     pass_at_place (meaning size) (word_at key) _ c.word_of_key.ensures (λ n. n) p (Found p key) (looks size p key among)
@@ -19,13 +19,13 @@ load-pass-requires-clause-allows c =
 pub take_from-requires-clause-may : goal.take_from-requires-clause-may
 take_from-requires-clause-may c =
     let key = c.args.key in
-    let may : MayTake c.args.pass.pass.own key = (c.requires.calm.0, inl c.requires.calm.1) in
-    after_look c.args.pass.pass c.load-pass.result.0.pass key c.load-pass.result.1 c.load-pass.ensures.told (λ own. MayTake own key) may
+    let may : MayTake c.args.pass.own key = (c.requires.calm.0, inl c.requires.calm.1) in
+    after_look c.args.pass c.load-pass.result.0 key c.load-pass.result.1 c.load-pass.ensures.told (λ own. MayTake own key) may
 
 pub returns-then-was-lt-PERMIT-clause-entries : goal.returns-then-was-lt-PERMIT-clause-entries
 returns-then-was-lt-PERMIT-clause-entries c = (c.load-pass.result.1, c.if-was-lt-PERMIT.true, c.load-pass.ensures.told)
 
 pub returns-clause-entries : goal.returns-clause-entries
 returns-clause-entries c =
-    tried c.args.pass.pass c.load-pass.result.0.pass c.args.key c.load-pass.result.1 c.load-pass.ensures.told c.if-was-lt-PERMIT.false
-    c.take_from.result.1 c.take_from.result.0.pass c.take_from.ensures.entry
+    tried c.args.pass c.load-pass.result.0 c.args.key c.load-pass.result.1 c.load-pass.ensures.told c.if-was-lt-PERMIT.false
+    c.take_from.result.1 c.take_from.result.0 c.take_from.ensures.entry

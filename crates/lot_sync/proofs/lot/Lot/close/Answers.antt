@@ -31,7 +31,7 @@ close-values-requires-clause-roots g c =
     let keys : key_count c.into_words.result.size ≡ c.self.inside.parking.keys =
     ap key_count c.into_words.ensures.size ∙ (ap (λ n. n + length g.N.LotName.permits) (sym c.self.invariant.named_first_sem)
     ∙ sym c.self.invariant.parking_keys) in
-    λ k near. subst (Any (λ (q : RootShown LotRootView). q.root.key ≡ k)) (sym c.unname.ensures.same)
+    λ k near. subst (Any (λ (q : RootShown LotRootView). q.key ≡ k)) (sym c.unname.ensures.same)
     (each_root k c.self.inside.parking.keys before.items c.close-scheme.new.out.items c.close-scheme.ensures.roots none (subst
     (λ n. k < n) keys near))
 

@@ -3,7 +3,7 @@ use Rattle.lot_core.specs.Steps.{dequeued_count}
 use Rattle.lot_events.specs.declared.events.Event.TheVariants.{Call}
 use Rattle.lot_events.specs.declared.events.Seen.TheVariants.{Count}
 use Rattle.lot_rights.specs.declared.views.Access.TheVariants.{Makes}
-use Rattle.lot_rights.specs.declared.views.RootRight.{RootRight}
+use Rattle.lot_rights.specs.Shown.{RootShown}
 use Rattle.lot_rights.specs.Layout.{word_at}
 use Rattle.lot_rights.specs.Steps.{AllowsBoth}
 use Rattle.lot_rights.proofs.Places.{both_at_place}
@@ -21,8 +21,8 @@ use Rattle.lot_whole.proofs.words.LotWords.call.Goals.{else-more-via-then-more+e
 pub load_both-pass-requires-clause-allows : goal.load_both-pass-requires-clause-allows
 load_both-pass-requires-clause-allows g c =
     let start = c.self.inside.words.key in
-    let p = c.args.pass.pass in
-    let q = c.args.root.root in
+    let p = c.args.pass in
+    let q = c.args.root in
     both_at_place (meaning g.V.Keeps start) (word_at q.key) _ c.word-word.ensures.is (λ n. n) p q
     (λ _. CallsSome p (cond_of q) c.args.count c.args.more)
     (subst (λ r. AllowsBoth (meaning g.V.Keeps start) (word_at q.key) (λ n. n) p r (λ _. CallsSome p (cond_of q) c.args.count c.args.more))
@@ -33,15 +33,15 @@ load_both-pass-requires-clause-allows g c =
 
 pub load_both-pass-requires-clause-names : goal.load_both-pass-requires-clause-names
 load_both-pass-requires-clause-names g c n p' q' told u h =
-    cond_named c.args.root.root.own q'.own u (u ≡ c.args.pass.pass.thread) c.requires.cond _
-    (ap (λ (z : RootRight LotRootView). z.own) told.1)
-    (λ named. inl (call_names (cond_of c.args.root.root).own _ c.args.count u refl named)) h
+    cond_named c.args.root.own q'.own u (u ≡ c.args.pass.thread) c.requires.cond _
+    (ap (λ (z : RootShown LotRootView). z.own) told.1)
+    (λ named. inl (call_names (cond_of c.args.root).own _ c.args.count u refl named)) h
 
 pub store_both-requires-clause-allows : goal.store_both-requires-clause-allows
 store_both-requires-clause-allows g c =
     let start = c.self.inside.words.key in
-    let p = c.args.pass.pass in
-    let q = c.args.root.root in
+    let p = c.args.pass in
+    let q = c.args.root in
     let last = elim c.else-more.branch as (λ _. (dequeued_count c.args.count (cond_of q).own.line ≡ 0) ⊎ (c.args.more ≡ false)) [
       | else-more-via-then-more+else-taken-gt0 w ↦ inl (let e = c.requires.taken in let none = w.if-taken-gt0.false in omega arith)
       | else-more-via-else-more w ↦ inr w.if-more.false
@@ -55,16 +55,16 @@ store_both-requires-clause-allows g c =
 
 pub store_both-requires-clause-names : goal.store_both-requires-clause-names
 store_both-requires-clause-names g c n p' q' told u h =
-    cond_named c.args.root.root.own q'.own u (u ≡ c.args.pass.pass.thread) c.requires.cond _
-    (ap (λ (z : RootRight LotRootView). z.own) told.1)
-    (λ named. inl (call_names (cond_of c.args.root.root).own _ c.args.count u refl named)) h
+    cond_named c.args.root.own q'.own u (u ≡ c.args.pass.thread) c.requires.cond _
+    (ap (λ (z : RootShown LotRootView). z.own) told.1)
+    (λ named. inl (call_names (cond_of c.args.root).own _ c.args.count u refl named)) h
 
 pub returns-then-taken-gt0-clause-event : goal.returns-then-taken-gt0-clause-event
 returns-then-taken-gt0-clause-event g c =
-    let p = c.args.pass.pass in
-    let q = c.args.root.root in
+    let p = c.args.pass in
+    let q = c.args.root in
     subst (λ k. NotesIn cond p (called_more p.own.conds q.key k)
-    (Makes (Call p.thread q.key c.args.count c.args.more) (Count k)) c.load_both-pass.result.0.pass) c.requires.taken
+    (Makes (Call p.thread q.key c.args.count c.args.more) (Count k)) c.load_both-pass.result.0) c.requires.taken
     c.load_both-pass.ensures.told.0
 
 pub returns-then-taken-gt0-clause-root : goal.returns-then-taken-gt0-clause-root
@@ -72,10 +72,10 @@ returns-then-taken-gt0-clause-root g c = c.load_both-pass.ensures.told.1
 
 pub returns-else-more-clause-event : goal.returns-else-more-clause-event
 returns-else-more-clause-event g c =
-    let p = c.args.pass.pass in
-    let q = c.args.root.root in
+    let p = c.args.pass in
+    let q = c.args.root in
     subst (λ k. NotesIn cond p (called_more p.own.conds q.key k)
-    (Makes (Call p.thread q.key c.args.count c.args.more) (Count k)) c.store_both.result.0.pass) c.requires.taken
+    (Makes (Call p.thread q.key c.args.count c.args.more) (Count k)) c.store_both.result.0) c.requires.taken
     c.store_both.ensures.told.0
 
 pub returns-else-more-clause-root : goal.returns-else-more-clause-root

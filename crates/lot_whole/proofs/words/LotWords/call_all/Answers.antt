@@ -11,15 +11,15 @@ use Rattle.lot_whole.proofs.words.LotWords.call_all.Goals as goal
 
 pub sweep-requires-clause-lowered : goal.sweep-requires-clause-lowered
 sweep-requires-clause-lowered g c =
-    let q = c.lower-pass.result.pass in
+    let q = c.lower-pass.result in
     subst (λ k. MaySweep q.own k) c.key-key.ensures.is
-    (lowered_sweeps c.args.pass.pass q c.key-key.result c.requires.idle c.lower-pass.ensures.event)
+    (lowered_sweeps c.args.pass q c.key-key.result c.requires.idle c.lower-pass.ensures.event)
 
 pub returns-clause-idle : goal.returns-clause-idle
 returns-clause-idle g c =
-    let q = c.lower-pass.result.pass in
-    let r = c.sweep.result.0.pass in
-    swept_idle c.args.pass.pass q c.args.root.root.key c.requires.idle
-    (subst (λ n. NotesIn cond c.args.pass.pass (lowering c.args.pass.pass.own.conds n) (Makes (Lower c.args.pass.pass.thread n) Done) q)
+    let q = c.lower-pass.result in
+    let r = c.sweep.result.0 in
+    swept_idle c.args.pass q c.args.root.key c.requires.idle
+    (subst (λ n. NotesIn cond c.args.pass (lowering c.args.pass.own.conds n) (Makes (Lower c.args.pass.thread n) Done) q)
     c.key-key.ensures.is c.lower-pass.ensures.event)
     c.args.taken r c.sweep.ensures.event

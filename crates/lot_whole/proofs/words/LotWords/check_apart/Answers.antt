@@ -8,15 +8,15 @@ use Rattle.lot_whole.proofs.words.LotWords.check_apart.Goals as goal
 pub check_two-requires-clause-tells : goal.check_two-requires-clause-tells
 check_two-requires-clause-tells g c =
     let start = c.self.inside.words.key in
-    apart g.V.Keeps (size_of start) start.values.value.items c.args.first.pass c.args.second.pass
+    apart g.V.Keeps (size_of start) start.values.value.items c.args.first c.args.second
 
 pub returns-clause-locks : goal.returns-clause-locks
 returns-clause-locks g c = c.check_two.ensures.apart.1.0
 
 pub returns-clause-permits : goal.returns-clause-permits
 returns-clause-permits g c =
-    let p = c.args.first.pass in
-    let q = c.args.second.pass in
+    let p = c.args.first in
+    let q = c.args.second in
     subst (λ (z : LotWordsShown g.row.V.Denot). (k : ℕ)
     → slice_index_or p.own.sems.out k 0 + slice_index_or q.own.sems.out k 0 ≤ permits_of z.size k) c.self.view_is
     c.check_two.ensures.apart.1.1

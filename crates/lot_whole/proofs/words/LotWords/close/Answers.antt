@@ -19,7 +19,7 @@ pub take_values-requires-clause-lie : goal.take_values-requires-clause-lie
 take_values-requires-clause-lie g c k near =
     let start = c.self.inside.words.key in
     let all = subst (λ (z : LotWordsShown g.row.V.Denot). (t : ℕ) → t < z.size.threads
-    → Any (λ (p : PassShown (LotPassView g.row.V.Denot)). p.pass.thread ≡ t) c.args.passes.items) (sym c.self.view_is)
+    → Any (λ (p : PassShown (LotPassView g.row.V.Denot)). p.thread ≡ t) c.args.passes.items) (sym c.self.view_is)
     c.requires.passes in
     let here : k < start.locks = omega (arith, near, c.close.ensures.full.2, c.self.inside.slots_are) in
     last_lies g.V.Keeps (size_of start) start.values.value.items c.args.passes.items c.args.roots.items
@@ -29,7 +29,7 @@ pub returns-clause-found : goal.returns-clause-found
 returns-clause-found g c =
     let start = c.self.inside.words.key in
     let all = subst (λ (z : LotWordsShown g.row.V.Denot). (t : ℕ) → t < z.size.threads
-    → Any (λ (p : PassShown (LotPassView g.row.V.Denot)). p.pass.thread ≡ t) c.args.passes.items) (sym c.self.view_is)
+    → Any (λ (p : PassShown (LotPassView g.row.V.Denot)). p.thread ≡ t) c.args.passes.items) (sym c.self.view_is)
     c.requires.passes in
     let vs = c.take_values.result in
     let len : length vs.items ≡ start.locks =
@@ -42,7 +42,7 @@ pub returns-clause-left : goal.returns-clause-left
 returns-clause-left g c =
     let start = c.self.inside.words.key in
     let all = subst (λ (z : LotWordsShown g.row.V.Denot). (t : ℕ) → t < z.size.threads
-    → Any (λ (p : PassShown (LotPassView g.row.V.Denot)). p.pass.thread ≡ t) c.args.passes.items) (sym c.self.view_is)
+    → Any (λ (p : PassShown (LotPassView g.row.V.Denot)). p.thread ≡ t) c.args.passes.items) (sym c.self.view_is)
     c.requires.passes in
     let vs = c.take_values.result in
     let len : length vs.items ≡ start.locks =
@@ -55,7 +55,7 @@ pub returns-clause-balanced : goal.returns-clause-balanced
 returns-clause-balanced g c =
     let start = c.self.inside.words.key in
     let all = subst (λ (z : LotWordsShown g.row.V.Denot). (t : ℕ) → t < z.size.threads
-    → Any (λ (p : PassShown (LotPassView g.row.V.Denot)). p.pass.thread ≡ t) c.args.passes.items) (sym c.self.view_is)
+    → Any (λ (p : PassShown (LotPassView g.row.V.Denot)). p.thread ≡ t) c.args.passes.items) (sym c.self.view_is)
     c.requires.passes in
     balanced g.V.Keeps (size_of start) start.values.value.items c.args.passes.items c.args.roots.items
     (slots_items c.close.result.words) (slots_items c.close.result.slots) c.close.ensures.ended.left all c.requires.done
@@ -64,7 +64,7 @@ pub returns-clause-history : goal.returns-clause-history
 returns-clause-history g c =
     let start = c.self.inside.words.key in
     let all = subst (λ (z : LotWordsShown g.row.V.Denot). (t : ℕ) → t < z.size.threads
-    → Any (λ (p : PassShown (LotPassView g.row.V.Denot)). p.pass.thread ≡ t) c.args.passes.items) (sym c.self.view_is)
+    → Any (λ (p : PassShown (LotPassView g.row.V.Denot)). p.thread ≡ t) c.args.passes.items) (sym c.self.view_is)
     c.requires.passes in
     subst (λ (z : LotWordsShown g.row.V.Denot). IsToldTo z.size c.args.passes.items c.args.roots.items) c.self.view_is
     (told_to g.V.Keeps (size_of start) start.values.value.items c.args.passes.items c.args.roots.items

@@ -1,5 +1,5 @@
 use Rattle.std.proofs.Common.{◌≡◌, ◌<◌, ap, subst, sym, refl}
-use Rattle.lot_rights.specs.declared.views.RootRight.{RootRight}
+use Rattle.lot_rights.specs.Shown.{RootShown}
 use Rattle.lot_rights.specs.Layout.{word_at}
 use Rattle.lot_rights.specs.Steps.{AllowsBoth}
 use Rattle.lot_rights.proofs.Places.{both_at_place}
@@ -15,8 +15,8 @@ use Rattle.lot_whole.proofs.words.LotWords.enlist.Goals as goal
 pub store_both-requires-clause-allows : goal.store_both-requires-clause-allows
 store_both-requires-clause-allows g c =
     let start = c.self.inside.words.key in
-    let p = c.args.pass.pass in
-    let q = c.args.root.root in
+    let p = c.args.pass in
+    let q = c.args.root in
     let near = subst (λ (z : LotWordsShown g.row.V.Denot). c.args.lock < z.size.locks) (sym c.self.view_is) c.requires.lock.0 in
     both_at_place (meaning g.V.Keeps start) (word_at q.key) _ c.word-word.ensures.is (λ _. 1) p q (λ _. Enlists p (cond_of q) c.args.lock)
     (subst (λ r. AllowsBoth (meaning g.V.Keeps start) (word_at q.key) (λ _. 1) p r (λ _. Enlists p (cond_of q) c.args.lock))
@@ -25,9 +25,9 @@ store_both-requires-clause-allows g c =
 
 pub store_both-requires-clause-names : goal.store_both-requires-clause-names
 store_both-requires-clause-names g c n p' q' told u h =
-    cond_named c.args.root.root.own q'.own u (u ≡ c.args.pass.pass.thread) c.requires.cond _
-    (ap (λ (z : RootRight LotRootView). z.own) told.1)
-    (λ named. enlist_names (cond_of c.args.root.root).own _ c.args.pass.pass.thread u refl named) h
+    cond_named c.args.root.own q'.own u (u ≡ c.args.pass.thread) c.requires.cond _
+    (ap (λ (z : RootShown LotRootView). z.own) told.1)
+    (λ named. enlist_names (cond_of c.args.root).own _ c.args.pass.thread u refl named) h
 
 pub returns-clause-event : goal.returns-clause-event
 returns-clause-event g c = c.store_both.ensures.told.0

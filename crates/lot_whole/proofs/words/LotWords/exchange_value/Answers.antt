@@ -1,5 +1,5 @@
 use Rattle.std.proofs.Common.{sym, ap, subst, ◌∙◌, ◌<◌}
-use Rattle.lot_rights.specs.declared.views.PassRight.{PassRight}
+use Rattle.lot_rights.specs.Shown.{PassShown}
 use Rattle.lot_words.specs.declared.views.LockPassView.{LockPassView}
 use Rattle.lot_words.specs.declared.views.Place.TheVariants.{Moving}
 use Rattle.lot_words.specs.Values.{place_of}
@@ -16,7 +16,7 @@ exchange-requires-clause-out g c =
     let key = c.args.key in
     let start = c.self.inside.words.key in
     let here = subst (λ (z : LotWordsShown g.row.V.Denot). key < z.size.locks) (sym c.self.view_is) c.requires.key in
-    leaves g.V.Keeps (size_of start) start.values.value.items c.args.pass.pass key here c.requires.holds c.requires.home.0
+    leaves g.V.Keeps (size_of start) start.values.value.items c.args.pass key here c.requires.holds c.requires.home.0
     c.requires.home.1 c.requires.home.2
 
 pub exchange-requires-clause-back : goal.exchange-requires-clause-back
@@ -24,16 +24,16 @@ exchange-requires-clause-back g c =
     let key = c.args.key in
     let start = c.self.inside.words.key in
     let here = subst (λ (z : LotWordsShown g.row.V.Denot). key < z.size.locks) (sym c.self.view_is) c.requires.key in
-    comes_back g.V.Keeps (size_of start) start.values.value.items c.args.pass.pass key here c.requires.holds c.args.new c.requires.lawful
+    comes_back g.V.Keeps (size_of start) start.values.value.items c.args.pass key here c.requires.holds c.args.new c.requires.lawful
 
 pub returns-clause-pass : goal.returns-clause-pass
 returns-clause-pass g c =
-    let p = c.args.pass.pass in
+    let p = c.args.pass in
     let told = c.exchange.ensures.told in
     let twice = ap (λ (o : LockPassView _). let r : LotPassView _ = record p.own { locks = o } in r)
     (placed_twice p.own.locks c.args.key Moving (place_of c.args.new)) in
     let own = told.2 ∙ (ap (λ z. placed_in z c.args.key (place_of c.args.new)) told.1.0 ∙ twice) in
-    (c.exchange.ensures.table, c.exchange.ensures.same ∙ ap (λ z. let q : PassRight _ = record p { own = z } in q) own)
+    (c.exchange.ensures.table, c.exchange.ensures.same ∙ ap (λ z. let q : PassShown _ = record p { own = z } in q) own)
 
 pub returns-clause-found : goal.returns-clause-found
 returns-clause-found g c = c.exchange.ensures.told.1.1

@@ -17,7 +17,7 @@ pub load-pass-requires-clause-allows : goal.load-pass-requires-clause-allows
 load-pass-requires-clause-allows g c =
     let start = c.self.inside.words.key in
     let key = c.args.key in
-    let p = c.args.pass.pass in
+    let p = c.args.pass in
     let among = subst (λ (z : LotWordsShown g.row.V.Denot). IsKeyIn z.size sem key) (sym c.self.view_is) c.requires.key in
     pass_at_place (meaning g.V.Keeps start) (word_at key) _ c.word_of_key-word.ensures (λ n. n) p (FindsOf p key)
     (looks g.V.Keeps (size_of start) start.values.value.items p key among)
@@ -26,8 +26,8 @@ pub compare_exchange-pass-requires-clause-allows : goal.compare_exchange-pass-re
 compare_exchange-pass-requires-clause-allows g c =
     let start = c.self.inside.words.key in
     let key = c.args.key in
-    let p = c.args.pass.pass in
-    let r = c.load-pass.result.0.pass in
+    let p = c.args.pass in
+    let r = c.load-pass.result.0 in
     let seen = c.load-pass.result.1 in
     let among = subst (λ (z : LotWordsShown g.row.V.Denot). IsKeyIn z.size sem key) (sym c.self.view_is) c.requires.key in
     let may = after_look p r key seen c.load-pass.ensures.told (λ own. MayGive own key) c.requires.may in
@@ -45,5 +45,5 @@ pub returns-clause-entries : goal.returns-clause-entries
 returns-clause-entries g c =
     let seen = c.load-pass.result.1 in
     let clear : IsUnmarked seen = omega (arith, and_mask seen 1, c.if-seen-ne0.false) in
-    freed c.args.pass.pass c.load-pass.result.0.pass c.args.key seen c.load-pass.ensures.told clear
-    c.compare_exchange-pass.result.1 c.compare_exchange-pass.result.0.pass c.compare_exchange-pass.ensures.told
+    freed c.args.pass c.load-pass.result.0 c.args.key seen c.load-pass.ensures.told clear
+    c.compare_exchange-pass.result.1 c.compare_exchange-pass.result.0 c.compare_exchange-pass.ensures.told

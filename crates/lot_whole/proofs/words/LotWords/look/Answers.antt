@@ -11,7 +11,7 @@ pub load-pass-requires-clause-allows : goal.load-pass-requires-clause-allows
 load-pass-requires-clause-allows g c =
     let start = c.self.inside.words.key in
     let key = c.args.key in
-    let p = c.args.pass.pass in
+    let p = c.args.pass in
     let here = subst (λ (z : LotWordsShown g.row.V.Denot). IsKeyIn z.size cond key) (sym c.self.view_is) c.requires.key in
     pass_at_place (meaning g.V.Keeps start) (word_at key) _ c.word_of_key.ensures (λ n. n) p (Looks p key)
     (looks g.V.Keeps (size_of start) start.values.value.items p key here c.requires.idle)

@@ -12,7 +12,7 @@ pub compare_exchange-pass-requires-clause-allows : goal.compare_exchange-pass-re
 compare_exchange-pass-requires-clause-allows g c =
     let start = c.self.inside.words.key in
     let key = c.args.key in
-    let p = c.args.pass.pass in
+    let p = c.args.pass in
     let among = subst (λ (z : LotWordsShown g.row.V.Denot). IsKeyIn z.size sem key) (sym c.self.view_is) c.requires.key in
     pass_at_place (meaning g.V.Keeps start) (word_at key) _ c.word_of_key-word.ensures (λ n. either (n == 0) 1 n) p (MarksPermit p key)
     (marks g.V.Keeps (size_of start) start.values.value.items p key among c.requires.seeks)

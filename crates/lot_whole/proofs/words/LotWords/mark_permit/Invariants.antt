@@ -2,4 +2,4 @@ use Rattle.lot_whole.proofs.Seekers.{MarksPermit}
 use Rattle.lot_whole.proofs.words.LotWords.mark_permit.Given as goal
 
 abbrev pub ghosts-compare_exchange : goal.ghosts-compare_exchange
-ghosts-compare_exchange g a = record { then = MarksPermit a.pass.pass a._about }
+ghosts-compare_exchange g a = record { table = a.pass.table; then = MarksPermit a.pass a._about }

@@ -1,5 +1,5 @@
 use Rattle.std.proofs.Common.{◌≡◌, ap, subst, refl}
-use Rattle.lot_rights.specs.declared.views.RootRight.{RootRight}
+use Rattle.lot_rights.specs.Shown.{RootShown}
 use Rattle.lot_rights.specs.Layout.{word_at}
 use Rattle.lot_rights.specs.Steps.{AllowsBoth}
 use Rattle.lot_rights.proofs.Places.{both_at_place}
@@ -14,17 +14,17 @@ use Rattle.lot_whole.proofs.words.LotWords.park_permit.Goals as goal
 pub load_both-pass-requires-clause-allows : goal.load_both-pass-requires-clause-allows
 load_both-pass-requires-clause-allows g c =
     let start = c.self.inside.words.key in
-    let p = c.args.pass.pass in
-    let q = c.args.root.root in
+    let p = c.args.pass in
+    let q = c.args.root in
     both_at_place (meaning g.V.Keeps start) (word_at q.key) _ c.word-word.ensures.is (λ n. n) p q (ParksSem p (sem_of q))
     (subst (λ r. AllowsBoth (meaning g.V.Keeps start) (word_at q.key) (λ n. n) p r (ParksSem p (sem_of q))) (sem_root q c.requires.sem)
     (parks g.V.Keeps (size_of start) start.values.value.items p (sem_of q) c.requires.seeks))
 
 pub load_both-pass-requires-clause-names : goal.load_both-pass-requires-clause-names
 load_both-pass-requires-clause-names g c n p' q' told u h =
-    sem_named c.args.root.root.own q'.own u (u ≡ c.args.pass.pass.thread) c.requires.sem _
-    (ap (λ (z : RootRight LotRootView). z.own) told.1)
-    (λ named. park_names (sem_of c.args.root.root).own _ c.args.pass.pass.thread u _ refl named) h
+    sem_named c.args.root.own q'.own u (u ≡ c.args.pass.thread) c.requires.sem _
+    (ap (λ (z : RootShown LotRootView). z.own) told.1)
+    (λ named. park_names (sem_of c.args.root).own _ c.args.pass.thread u _ refl named) h
 
 pub returns-clause-entry : goal.returns-clause-entry
 returns-clause-entry g c = c.load_both-pass.ensures.told.0

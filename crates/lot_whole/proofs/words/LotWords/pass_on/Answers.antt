@@ -3,7 +3,7 @@ use Rattle.lot_core.specs.Steps.{first}
 use Rattle.lot_events.specs.declared.events.Event.TheVariants.{Pass}
 use Rattle.lot_events.specs.declared.events.Seen.TheVariants.{Sleeper}
 use Rattle.lot_rights.specs.declared.views.Access.TheVariants.{Makes}
-use Rattle.lot_rights.specs.declared.views.RootRight.{RootRight}
+use Rattle.lot_rights.specs.Shown.{RootShown}
 use Rattle.lot_rights.specs.Layout.{word_at}
 use Rattle.lot_rights.specs.Steps.{AllowsBoth}
 use Rattle.lot_rights.proofs.Places.{both_at_place}
@@ -21,8 +21,8 @@ use Rattle.lot_whole.proofs.words.LotWords.pass_on.Goals as goal
 pub load_both-pass-requires-clause-allows : goal.load_both-pass-requires-clause-allows
 load_both-pass-requires-clause-allows g c =
     let start = c.self.inside.words.key in
-    let p = c.args.pass.pass in
-    let q = c.args.root.root in
+    let p = c.args.pass in
+    let q = c.args.root in
     both_at_place (meaning g.V.Keeps start) (word_at q.key) _ c.word-word.ensures.is (λ n. n) p q
     (λ _. Passes p (lock_of q) true c.args.more)
     (subst (λ r. AllowsBoth (meaning g.V.Keeps start) (word_at q.key) (λ n. n) p r (λ _. Passes p (lock_of q) true c.args.more))
@@ -33,15 +33,15 @@ load_both-pass-requires-clause-allows g c =
 
 pub load_both-pass-requires-clause-names : goal.load_both-pass-requires-clause-names
 load_both-pass-requires-clause-names g c n p' q' told u h =
-    lock_named c.args.root.root.own q'.own u (u ≡ c.args.pass.pass.thread) c.requires.lock _
-    (ap (λ (z : RootRight LotRootView). z.own) told.1)
-    (λ named. inl (pass_names (lock_of c.args.root.root).own _ true u refl named)) h
+    lock_named c.args.root.own q'.own u (u ≡ c.args.pass.thread) c.requires.lock _
+    (ap (λ (z : RootShown LotRootView). z.own) told.1)
+    (λ named. inl (pass_names (lock_of c.args.root).own _ true u refl named)) h
 
 pub store_both-requires-clause-allows : goal.store_both-requires-clause-allows
 store_both-requires-clause-allows g c =
     let start = c.self.inside.words.key in
-    let p = c.args.pass.pass in
-    let q = c.args.root.root in
+    let p = c.args.pass in
+    let q = c.args.root in
     both_at_place (meaning g.V.Keeps start) (word_at q.key) _ c.word-word.ensures.is (λ _. c.word_after-left.result) p q
     (λ _. Passes p (lock_of q) false c.args.more)
     (subst (λ r. AllowsBoth (meaning g.V.Keeps start) (word_at q.key) (λ _. c.word_after-left.result) p r
@@ -53,36 +53,36 @@ store_both-requires-clause-allows g c =
 
 pub store_both-requires-clause-names : goal.store_both-requires-clause-names
 store_both-requires-clause-names g c n p' q' told u h =
-    lock_named c.args.root.root.own q'.own u (u ≡ c.args.pass.pass.thread) c.requires.lock _
-    (ap (λ (z : RootRight LotRootView). z.own) told.1)
-    (λ named. inl (pass_names (lock_of c.args.root.root).own _ false u refl named)) h
+    lock_named c.args.root.own q'.own u (u ≡ c.args.pass.thread) c.requires.lock _
+    (ap (λ (z : RootShown LotRootView). z.own) told.1)
+    (λ named. inl (pass_names (lock_of c.args.root).own _ false u refl named)) h
 
 pub returns-then-fair-clause-event : goal.returns-then-fair-clause-event
 returns-then-fair-clause-event g c y lies =
-    let p = c.args.pass.pass in
-    let q = lock_of c.args.root.root in
+    let p = c.args.pass in
+    let q = lock_of c.args.root in
     subst (λ o. NotesIn lock p (letting_go p.own.locks q.key y)
-    (Makes (Pass p.thread q.key c.args.fair c.args.more) (Sleeper o)) c.load_both-pass.result.0.pass) c.requires.first.0
+    (Makes (Pass p.thread q.key c.args.fair c.args.more) (Sleeper o)) c.load_both-pass.result.0) c.requires.first.0
     (subst (λ b. NotesIn lock p (letting_go p.own.locks q.key y)
-    (Makes (Pass p.thread q.key b c.args.more) (Sleeper (first q.own.line))) c.load_both-pass.result.0.pass) (sym c.if-fair.true)
+    (Makes (Pass p.thread q.key b c.args.more) (Sleeper (first q.own.line))) c.load_both-pass.result.0) (sym c.if-fair.true)
     (c.load_both-pass.ensures.told.0 y lies))
 
 pub returns-then-fair-clause-root : goal.returns-then-fair-clause-root
 returns-then-fair-clause-root g c =
-    let q = lock_of c.args.root.root in
+    let q = lock_of c.args.root in
     c.load_both-pass.ensures.told.1 ∙ ap (λ b. whole_root lock (record q { own = passed_root q.own b q.own.line })) (sym c.if-fair.true)
 
 pub returns-else-fair-clause-event : goal.returns-else-fair-clause-event
 returns-else-fair-clause-event g c y lies =
-    let p = c.args.pass.pass in
-    let q = lock_of c.args.root.root in
+    let p = c.args.pass in
+    let q = lock_of c.args.root in
     subst (λ o. NotesIn lock p (letting_go p.own.locks q.key y)
-    (Makes (Pass p.thread q.key c.args.fair c.args.more) (Sleeper o)) c.store_both.result.0.pass) c.requires.first.0
+    (Makes (Pass p.thread q.key c.args.fair c.args.more) (Sleeper o)) c.store_both.result.0) c.requires.first.0
     (subst (λ b. NotesIn lock p (letting_go p.own.locks q.key y)
-    (Makes (Pass p.thread q.key b c.args.more) (Sleeper (first q.own.line))) c.store_both.result.0.pass) (sym c.if-fair.false)
+    (Makes (Pass p.thread q.key b c.args.more) (Sleeper (first q.own.line))) c.store_both.result.0) (sym c.if-fair.false)
     (c.store_both.ensures.told.0 y lies))
 
 pub returns-else-fair-clause-root : goal.returns-else-fair-clause-root
 returns-else-fair-clause-root g c =
-    let q = lock_of c.args.root.root in
+    let q = lock_of c.args.root in
     c.store_both.ensures.told.1 ∙ ap (λ b. whole_root lock (record q { own = passed_root q.own b q.own.line })) (sym c.if-fair.false)

@@ -2,7 +2,7 @@ use Rattle.std.proofs.Common.{◌≡◌, ◌+◌, ◌%◌, ◌^◌, ap, subst, s
 use Rattle.lot_events.specs.declared.events.Event.TheVariants.{SemPass}
 use Rattle.lot_events.specs.declared.events.Seen.TheVariants.{Sleeper}
 use Rattle.lot_rights.specs.declared.views.Access.TheVariants.{Makes}
-use Rattle.lot_rights.specs.declared.views.RootRight.{RootRight}
+use Rattle.lot_rights.specs.Shown.{RootShown}
 use Rattle.lot_rights.specs.Layout.{word_at}
 use Rattle.lot_rights.specs.Steps.{AllowsBoth}
 use Rattle.lot_rights.proofs.Places.{both_at_place}
@@ -19,8 +19,8 @@ use Rattle.lot_whole.proofs.words.LotWords.pass_permit.Goals as goal
 pub fetch_add_both-pass-requires-clause-allows : goal.fetch_add_both-pass-requires-clause-allows
 fetch_add_both-pass-requires-clause-allows g c =
     let start = c.self.inside.words.key in
-    let p = c.args.pass.pass in
-    let q = c.args.root.root in
+    let p = c.args.pass in
+    let q = c.args.root in
     both_at_place (meaning g.V.Keeps start) (word_at q.key) _ c.word-word.ensures.is (λ n. (n + c.raise-given.result) % 2 ^ 64) p q
     (λ _. PassesPermit p (sem_of q) c.args.more)
     (subst (λ r. AllowsBoth (meaning g.V.Keeps start) (word_at q.key) (λ n. (n + c.raise-given.result) % 2 ^ 64) p r
@@ -31,16 +31,16 @@ fetch_add_both-pass-requires-clause-allows g c =
 
 pub fetch_add_both-pass-requires-clause-names : goal.fetch_add_both-pass-requires-clause-names
 fetch_add_both-pass-requires-clause-names g c n p' q' told u h =
-    sem_named c.args.root.root.own q'.own u (u ≡ c.args.pass.pass.thread) c.requires.sem _
-    (ap (λ (z : RootRight LotRootView). z.own) told.1)
-    (λ named. inl (pass_names (sem_of c.args.root.root).own _ u refl named)) h
+    sem_named c.args.root.own q'.own u (u ≡ c.args.pass.thread) c.requires.sem _
+    (ap (λ (z : RootShown LotRootView). z.own) told.1)
+    (λ named. inl (pass_names (sem_of c.args.root).own _ u refl named)) h
 
 pub returns-clause-entry : goal.returns-clause-entry
 returns-clause-entry g c =
-    let p = c.args.pass.pass in
-    let q = c.args.root.root in
+    let p = c.args.pass in
+    let q = c.args.root in
     subst (λ o. NotesIn sem p (one_permit_less p.own.sems q.key)
-    (Makes (SemPass p.thread q.key c.args.more) (Sleeper o)) c.fetch_add_both-pass.result.0.pass) c.requires.first.0
+    (Makes (SemPass p.thread q.key c.args.more) (Sleeper o)) c.fetch_add_both-pass.result.0) c.requires.first.0
     c.fetch_add_both-pass.ensures.told.0
 
 pub returns-clause-root : goal.returns-clause-root

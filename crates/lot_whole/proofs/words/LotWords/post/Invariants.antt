@@ -7,4 +7,4 @@ use Rattle.lot_whole.proofs.words.LotWords.post.Given as goal
 
 abbrev pub ghosts-store_root : goal.ghosts-store_root
 ghosts-store_root g a = record
-    { then = λ n. RootNotesIn lock a.root.root (paid_root (as_lock a.root.root.own)) (Posts a.root.root.key a._about.0 a._about.1) }
+    { table = a.root.table; then = λ n. RootNotesIn lock a.root (paid_root (as_lock a.root.own)) (Posts a.root.key a._about.0 a._about.1) }

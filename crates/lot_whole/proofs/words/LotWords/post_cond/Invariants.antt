@@ -7,4 +7,4 @@ use Rattle.lot_whole.proofs.words.LotWords.post_cond.Given as goal
 
 abbrev pub ghosts-store_root : goal.ghosts-store_root
 ghosts-store_root g a = record
-    { then = λ n. RootNotesIn cond a.root.root (paid_root (as_cond a.root.root.own) a._about) (Posts a.root.root.key a._about 0) }
+    { table = a.root.table; then = λ n. RootNotesIn cond a.root (paid_root (as_cond a.root.own) a._about) (Posts a.root.key a._about 0) }

@@ -1,6 +1,6 @@
 use Rattle.std.proofs.Common.{ap, subst, refl, inl, inr}
 use Rattle.lot_rights.specs.declared.views.Access.TheVariants.{Posts}
-use Rattle.lot_rights.specs.declared.views.RootRight.{RootRight}
+use Rattle.lot_rights.specs.Shown.{RootShown}
 use Rattle.lot_rights.specs.Layout.{letter_at}
 use Rattle.lot_rights.specs.Steps.{AllowsRoot}
 use Rattle.lot_rights.proofs.Places.{root_at_place}
@@ -15,12 +15,12 @@ use Rattle.lot_whole.proofs.Names.{sem_root, sem_named, sem_names_it, no_more}
 use Rattle.lot_whole.proofs.words.LotWords.post_sem.Goals as goal
 
 pub letter_of-letter-requires : goal.letter_of-letter-requires
-letter_of-letter-requires g c = sem_names_it c.args.root.root.own c.args.thread c.requires.sem (inr c.requires.owes)
+letter_of-letter-requires g c = sem_names_it c.args.root.own c.args.thread c.requires.sem (inr c.requires.owes)
 
 pub store_root-requires-clause-allows : goal.store_root-requires-clause-allows
 store_root-requires-clause-allows g c =
     let start = c.self.inside.words.key in
-    let q = c.args.root.root in
+    let q = c.args.root in
     root_at_place (meaning g.V.Keeps start) (letter_at c.args.thread) _ c.letter_of-letter.ensures.is (λ _. 1) q
     (λ _. RootNotesIn sem q (sem_paid (sem_of q).own) (Posts q.key c.args.thread 0))
     (subst (λ r. AllowsRoot (meaning g.V.Keeps start) (letter_at c.args.thread) (λ _. 1) r
@@ -29,8 +29,8 @@ store_root-requires-clause-allows g c =
 
 pub store_root-requires-clause-names : goal.store_root-requires-clause-names
 store_root-requires-clause-names g c n q' told u h = no_more _
-    (sem_named c.args.root.root.own q'.own u ⊥ c.requires.sem _ (ap (λ (z : RootRight LotRootView). z.own) told.1)
-    (λ named. inl (post_names (sem_of c.args.root.root).own _ u refl named)) h)
+    (sem_named c.args.root.own q'.own u ⊥ c.requires.sem _ (ap (λ (z : RootShown LotRootView). z.own) told.1)
+    (λ named. inl (post_names (sem_of c.args.root).own _ u refl named)) h)
 
 pub returns-clause-posted : goal.returns-clause-posted
 returns-clause-posted g c = c.store_root.ensures.told

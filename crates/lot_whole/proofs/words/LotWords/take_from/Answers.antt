@@ -16,7 +16,7 @@ pub compare_exchange-pass-requires-clause-allows : goal.compare_exchange-pass-re
 compare_exchange-pass-requires-clause-allows g c =
     let start = c.self.inside.words.key in
     let key = c.args.key in
-    let p = c.args.pass.pass in
+    let p = c.args.pass in
     let seen = c.args.seen in
     let among = subst (λ (z : LotWordsShown g.row.V.Denot). IsKeyIn z.size sem key) (sym c.self.view_is) c.requires.key in
     pass_at_place (meaning g.V.Keeps start) (word_at key) _ c.word_of_key.ensures (λ n. either (n == seen) (seen - 2) n) p
@@ -25,10 +25,10 @@ compare_exchange-pass-requires-clause-allows g c =
 
 pub returns-clause-entry : goal.returns-clause-entry
 returns-clause-entry g c =
-    let p = c.args.pass.pass in
+    let p = c.args.pass in
     let key = c.args.key in
     let seen = c.args.seen in
-    let q = c.compare_exchange-pass.result.0.pass in
+    let q = c.compare_exchange-pass.result.0 in
     let found = c.compare_exchange-pass.result.1 in
     let own = one_permit_more p.own.sems key in
     let e = SemTake p.thread key in

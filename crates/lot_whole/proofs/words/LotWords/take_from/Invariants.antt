@@ -4,5 +4,6 @@ use Rattle.lot_whole.proofs.Seekers.{Swaps}
 use Rattle.lot_whole.proofs.words.LotWords.take_from.Given as goal
 
 abbrev pub ghosts-compare_exchange : goal.ghosts-compare_exchange
-ghosts-compare_exchange g a = let p =
-    a.pass.pass in record { then = Swaps p a._about (one_permit_more p.own.sems a._about) (SemTake p.thread a._about) a.old }
+ghosts-compare_exchange g a =
+    let p = a.pass in
+    record { table = p.table; then = Swaps p a._about (one_permit_more p.own.sems a._about) (SemTake p.thread a._about) a.old }

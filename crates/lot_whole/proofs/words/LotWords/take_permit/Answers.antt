@@ -12,15 +12,15 @@ pub load-pass-requires-clause-allows : goal.load-pass-requires-clause-allows
 load-pass-requires-clause-allows g c =
     let start = c.self.inside.words.key in
     let key = c.args.key in
-    let p = c.args.pass.pass in
+    let p = c.args.pass in
     let among = subst (λ (z : LotWordsShown g.row.V.Denot). IsKeyIn z.size sem key) (sym c.self.view_is) c.requires.key in
     pass_at_place (meaning g.V.Keeps start) (word_at key) _ c.word_of_key.ensures (λ n. n) p (Seeks p key)
     (seeks g.V.Keeps (size_of start) start.values.value.items p key among c.requires.may)
 
 pub take_from-requires-clause-may : goal.take_from-requires-clause-may
 take_from-requires-clause-may g c =
-    let p = c.args.pass.pass in
-    let r = c.load-pass.result.0.pass in
+    let p = c.args.pass in
+    let r = c.load-pass.result.0 in
     let key = c.args.key in
     let seen = c.load-pass.result.1 in
     after_look p r key seen (seeks_left p key seen r c.if-seen-lt-PERMIT.false c.load-pass.ensures.told)
@@ -28,13 +28,13 @@ take_from-requires-clause-may g c =
 
 pub returns-then-seen-lt-PERMIT-clause-entries : goal.returns-then-seen-lt-PERMIT-clause-entries
 returns-then-seen-lt-PERMIT-clause-entries g c =
-    seeks_empty c.args.pass.pass c.args.key c.load-pass.result.1 c.load-pass.result.0.pass c.if-seen-lt-PERMIT.true c.load-pass.ensures.told
+    seeks_empty c.args.pass c.args.key c.load-pass.result.1 c.load-pass.result.0 c.if-seen-lt-PERMIT.true c.load-pass.ensures.told
 
 pub returns-clause-entries : goal.returns-clause-entries
 returns-clause-entries g c =
-    let p = c.args.pass.pass in
-    let r = c.load-pass.result.0.pass in
+    let p = c.args.pass in
+    let r = c.load-pass.result.0 in
     let key = c.args.key in
     let seen = c.load-pass.result.1 in
     taken p r key seen (seeks_left p key seen r c.if-seen-lt-PERMIT.false c.load-pass.ensures.told) c.if-seen-lt-PERMIT.false
-    c.take_from.result.1 c.take_from.result.0.pass c.take_from.ensures.entry
+    c.take_from.result.1 c.take_from.result.0 c.take_from.ensures.entry

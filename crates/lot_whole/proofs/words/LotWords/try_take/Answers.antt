@@ -10,7 +10,7 @@ pub fetch_or-pass-requires-clause-allows : goal.fetch_or-pass-requires-clause-al
 fetch_or-pass-requires-clause-allows g c =
     let start = c.self.inside.words.key in
     let key = c.args.key in
-    let p = c.args.pass.pass in
+    let p = c.args.pass in
     let here = subst (λ (z : LotWordsShown g.row.V.Denot). key < z.size.locks) (sym c.self.view_is) c.requires.key in
     pass_at_place (meaning g.V.Keeps start) (word_at key) _ c.word_of_key.ensures (λ n. bit_or n 1) p (Tries g.V.Keeps p key)
     (tries g.V.Keeps (size_of start) start.values.value.items p key here c.requires.idle)

@@ -2,4 +2,4 @@ use Rattle.lot_whole.proofs.Carries.{Tries}
 use Rattle.lot_whole.proofs.words.LotWords.try_take.Given as goal
 
 abbrev pub ghosts-fetch_or : goal.ghosts-fetch_or
-ghosts-fetch_or g a = record { then = Tries g.V.Keeps a.pass.pass a._about }
+ghosts-fetch_or g a = record { table = a.pass.table; then = Tries g.V.Keeps a.pass a._about }

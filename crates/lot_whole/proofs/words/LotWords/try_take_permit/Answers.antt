@@ -13,7 +13,7 @@ pub load-pass-requires-clause-allows : goal.load-pass-requires-clause-allows
 load-pass-requires-clause-allows g c =
     let start = c.self.inside.words.key in
     let key = c.args.key in
-    let p = c.args.pass.pass in
+    let p = c.args.pass in
     let among = subst (λ (z : LotWordsShown g.row.V.Denot). IsKeyIn z.size sem key) (sym c.self.view_is) c.requires.key in
     pass_at_place (meaning g.V.Keeps start) (word_at key) _ c.word_of_key.ensures (λ n. n) p (FindsOf p key)
     (looks g.V.Keeps (size_of start) start.values.value.items p key among)
@@ -21,8 +21,8 @@ load-pass-requires-clause-allows g c =
 pub take_from-requires-clause-may : goal.take_from-requires-clause-may
 take_from-requires-clause-may g c =
     let key = c.args.key in
-    let p = c.args.pass.pass in
-    after_look p c.load-pass.result.0.pass key c.load-pass.result.1 c.load-pass.ensures.told (λ own. MayTakePermit own key)
+    let p = c.args.pass in
+    after_look p c.load-pass.result.0 key c.load-pass.result.1 c.load-pass.ensures.told (λ own. MayTakePermit own key)
     (idle_takes p.own key c.requires.idle)
 
 pub returns-then-was-lt-PERMIT-clause-entries : goal.returns-then-was-lt-PERMIT-clause-entries
@@ -30,5 +30,5 @@ returns-then-was-lt-PERMIT-clause-entries g c = (c.load-pass.result.1, c.if-was-
 
 pub returns-clause-entries : goal.returns-clause-entries
 returns-clause-entries g c =
-    tried c.args.pass.pass c.load-pass.result.0.pass c.args.key c.load-pass.result.1 c.load-pass.ensures.told c.if-was-lt-PERMIT.false
-    c.take_from.result.1 c.take_from.result.0.pass c.take_from.ensures.entry
+    tried c.args.pass c.load-pass.result.0 c.args.key c.load-pass.result.1 c.load-pass.ensures.told c.if-was-lt-PERMIT.false
+    c.take_from.result.1 c.take_from.result.0 c.take_from.ensures.entry

@@ -9,15 +9,15 @@ use Rattle.lot_whole.proofs.words.LotWords.wait_once.Goals as goal
 
 pub free-pass-requires-clause-may : goal.free-pass-requires-clause-may
 free-pass-requires-clause-may g c =
-    bed_lets_go c.args.pass.pass c.enlist-pass.result.0.pass c.args.root.root.key c.args.lock c.requires.idle c.enlist-pass.ensures.event
+    bed_lets_go c.args.pass c.enlist-pass.result.0 c.args.root.key c.args.lock c.requires.idle c.enlist-pass.ensures.event
 
 pub take-pass-requires-clause-may : goal.take-pass-requires-clause-may
 take-pass-requires-clause-may g c =
-    let p = c.args.pass.pass in
-    let q = c.enlist-pass.result.0.pass in
-    let r = c.free-pass.result.0.pass in
-    let s = c.collect-pass.result.0.pass in
-    let k = c.args.root.root.key in
+    let p = c.args.pass in
+    let q = c.enlist-pass.result.0 in
+    let r = c.free-pass.result.0 in
+    let s = c.collect-pass.result.0 in
+    let k = c.args.root.key in
     let l = c.args.lock in
     let y = c.requires.lies.0 in
     let lies = bed_keeps p q k l c.requires.idle c.enlist-pass.ensures.event (λ o. IsIn o l y) c.requires.lies.1 in
@@ -28,11 +28,11 @@ take-pass-requires-clause-may g c =
 
 pub returns-then-got-clause-made : goal.returns-then-got-clause-made
 returns-then-got-clause-made g c =
-    let p = c.args.pass.pass in
-    let q = c.enlist-pass.result.0.pass in
-    let r = c.free-pass.result.0.pass in
-    let s = c.collect-pass.result.0.pass in
-    let k = c.args.root.root.key in
+    let p = c.args.pass in
+    let q = c.enlist-pass.result.0 in
+    let r = c.free-pass.result.0 in
+    let s = c.collect-pass.result.0 in
+    let k = c.args.root.key in
     let l = c.args.lock in
     let y = c.requires.lies.0 in
     let lies = bed_keeps p q k l c.requires.idle c.enlist-pass.ensures.event (λ o. IsIn o l y) c.requires.lies.1 in
@@ -42,17 +42,17 @@ returns-then-got-clause-made g c =
     let rested = rest_takes g.V.Keeps r s c.in-Some._token letter k l
     (bed_rests p q k l c.requires.idle c.enlist-pass.ensures.event y r free) in
     let got = when_so c.take-pass.result.1 _ _ c.if-got.true c.take-pass.ensures.event in
-    adds_four p q r s c.take-pass.result.0.pass _ _ rested.own _ (λ t. Makes (Enlist t k l) Done)
+    adds_four p q r s c.take-pass.result.0 _ _ rested.own _ (λ t. Makes (Enlist t k l) Done)
     (λ t. Makes (Free t l) (Saw true)) (λ t. Collects t (Some 0))
     (λ t. Makes (Take t l) (Saw true)) c.enlist-pass.ensures.event free rested.note got.2
 
 pub returns-clause-made : goal.returns-clause-made
 returns-clause-made g c =
-    let p = c.args.pass.pass in
-    let q = c.enlist-pass.result.0.pass in
-    let r = c.free-pass.result.0.pass in
-    let s = c.collect-pass.result.0.pass in
-    let k = c.args.root.root.key in
+    let p = c.args.pass in
+    let q = c.enlist-pass.result.0 in
+    let r = c.free-pass.result.0 in
+    let s = c.collect-pass.result.0 in
+    let k = c.args.root.key in
     let l = c.args.lock in
     let y = c.requires.lies.0 in
     let lies = bed_keeps p q k l c.requires.idle c.enlist-pass.ensures.event (λ o. IsIn o l y) c.requires.lies.1 in
@@ -62,6 +62,6 @@ returns-clause-made g c =
     let rested = rest_takes g.V.Keeps r s c.in-Some._token letter k l
     (bed_rests p q k l c.requires.idle c.enlist-pass.ensures.event y r free) in
     let missed = when_not c.take-pass.result.1 _ _ c.if-got.false c.take-pass.ensures.event in
-    adds_four p q r s c.take-pass.result.0.pass _ _ rested.own _ (λ t. Makes (Enlist t k l) Done)
+    adds_four p q r s c.take-pass.result.0 _ _ rested.own _ (λ t. Makes (Enlist t k l) Done)
     (λ t. Makes (Free t l) (Saw true)) (λ t. Collects t (Some 0))
     (λ t. Makes (Take t l) (Saw false)) c.enlist-pass.ensures.event free rested.note missed

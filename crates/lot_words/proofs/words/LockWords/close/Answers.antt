@@ -18,7 +18,7 @@ pub take_values-requires-clause-lie : goal.take_values-requires-clause-lie
 take_values-requires-clause-lie g c k near =
     let all =
     subst (λ (z : LockWordsShown g.row.V.Denot). (t : ℕ) → t < z.size.threads
-    → Any (λ (p : PassShown (LockPassView g.row.V.Denot)). p.pass.thread ≡ t) c.args.passes.items) (sym c.self.view_is)
+    → Any (λ (p : PassShown (LockPassView g.row.V.Denot)). p.thread ≡ t) c.args.passes.items) (sym c.self.view_is)
     c.requires.passes in
     let here : k < c.self.inside.words.key.size.locks = omega (arith, near, c.close.ensures.full.2, c.self.inside.slots_are) in
     last_lies g.V.Keeps c.self.inside.words.key.size c.self.inside.words.key.values.value.items c.args.passes.items c.args.roots.items
@@ -28,7 +28,7 @@ pub returns-clause-found : goal.returns-clause-found
 returns-clause-found g c =
     let all =
     subst (λ (z : LockWordsShown g.row.V.Denot). (t : ℕ) → t < z.size.threads
-    → Any (λ (p : PassShown (LockPassView g.row.V.Denot)). p.pass.thread ≡ t) c.args.passes.items) (sym c.self.view_is)
+    → Any (λ (p : PassShown (LockPassView g.row.V.Denot)). p.thread ≡ t) c.args.passes.items) (sym c.self.view_is)
     c.requires.passes in
     let vs = c.take_values.result in
     let len : length vs.items ≡ c.self.inside.words.key.size.locks =
@@ -41,7 +41,7 @@ pub returns-clause-left : goal.returns-clause-left
 returns-clause-left g c =
     let all =
     subst (λ (z : LockWordsShown g.row.V.Denot). (t : ℕ) → t < z.size.threads
-    → Any (λ (p : PassShown (LockPassView g.row.V.Denot)). p.pass.thread ≡ t) c.args.passes.items) (sym c.self.view_is)
+    → Any (λ (p : PassShown (LockPassView g.row.V.Denot)). p.thread ≡ t) c.args.passes.items) (sym c.self.view_is)
     c.requires.passes in
     let vs = c.take_values.result in
     let len : length vs.items ≡ c.self.inside.words.key.size.locks =

@@ -5,4 +5,4 @@ use Rattle.lot_words.proofs.Moving.{Leaves}
 use Rattle.lot_words.proofs.words.LockWords.exchange_value.Given as goal
 
 abbrev pub ghosts-exchange : goal.ghosts-exchange
-ghosts-exchange g a = record { slot = a.slot; mid = Leaves a.pass.pass a.slot; back = λ own q. q ≡ placing own a.slot (place_of a.new) }
+ghosts-exchange g a = record { slot = a.slot; mid = Leaves a.pass a.slot; back = λ own q. q ≡ placing own a.slot (place_of a.new) }
