@@ -6,7 +6,8 @@ pub fetch_add-found-requires : goal.fetch_add-found-requires
 fetch_add-found-requires g c =
     ready_both g.K.Kind.meaning g.K.Kind.no_letter_in_line _ _ c.self.view_is
     g.K.Kind.no_pass g.K.Kind.no_root c.args.pass c.args.root (c.requires.table.1 ∙ sym c.requires.table.0)
-    g.N.TellsBoth.table c.requires.named _ c.joined-seat.ensures.table c.joined-seat.result.id c.joined-seat.result.me c.joined-seat.ensures.rights
+    g.N.TellsBoth.table c.requires.named _ c.joined-seat.ensures.table c.joined-seat.result.id c.joined-seat.result.me
+    c.joined-seat.ensures.rights
     c.args.word (λ n. (n + c.args.more) % 2 ^ 64) g.N.TellsBoth.then c.requires.word c.requires.allows
 
 pub parted-pass-requires-clause-letters : goal.parted-pass-requires-clause-letters
