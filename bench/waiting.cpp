@@ -3,6 +3,9 @@
 //
 //   YIELDS=k1   how often it yields before each look, a digit for each, the last one for all that follow (a is 10, b is 11, ..)
 //   FEW=01      the same where fewer than two seek a lock now, by a count of those that missed their exchange
+//   PAUSES=     how many pauses of the processor come before each look of a thread that seeks a lock alone; then it yields by FEW
+//   FIRST=0     1: where a thread that seeks alone sees at its first look that the lock is free, it takes it
+//   VALUE=0     1: a lock has a value in a cache line of its own, which its owner takes out and puts back, as a lot's does
 //   SEEKING=2   0: FEW is where at most two threads are there
 //   CROWD=4     where so many seek a lock now, it yields by CROWDED=c1
 //   PARKED=0    0: where it sees that somebody is parked, it lines up at once; 1: it yields first, as where the lock is taken
@@ -13,6 +16,7 @@
 #include <algorithm>
 #include <cstdlib>
 #include <cstring>
+#include <immintrin.h>
 #include <linux/futex.h>
 #include <sys/syscall.h>
 #include <unistd.h>
@@ -25,20 +29,23 @@ constexpr int MOST_SPINS = 40;
 constexpr uint64_t HELD = 1, PARKED = 2, BOTH = 3;
 
 struct Ways {
-    int few[32], many[32], crowded[32], last_few = 0, last_many = 0, last_crowded = 0, queued = 8;
-    bool yields_where_parked = false;
+    int few[32], many[32], crowded[32], pauses[32], last_few = 0, last_many = 0, last_crowded = 0, last_pauses = 0, queued = 8;
+    bool yields_where_parked = false, takes_at_first = false, has_value = false;
     size_t threads = 0;
     int seeking_few = 0, crowd = 9;
     std::atomic<int> seeking { 0 };
 
+    static bool is_set(const char* name) { return getenv(name) && !strcmp(getenv(name), "1"); }
     static void read(const char* name, const char* usual, int* ways, int& last) {
         const char* text = getenv(name) ? getenv(name) : usual;
         for (last = -1; *text && last < 31; text++)
             ways[++last] = *text <= '9' ? *text - '0' : *text - 'a' + 10;
     }
+    int seek_now() const { return seeking_few ? seeking.load() : threads <= 2 ? 0 : 2; }
+    bool are_few(int now) const { return now < std::max(seeking_few, 1); }
     int before_look(int look) const {
-        int now = seeking_few ? seeking.load() : threads <= 2 ? 0 : 2;
-        if (now < std::max(seeking_few, 1))
+        int now = seek_now();
+        if (are_few(now))
             return few[std::min(look, last_few)];
         return now < crowd ? many[std::min(look, last_many)] : crowded[std::min(look, last_crowded)];
     }
@@ -136,13 +143,25 @@ Bucket& bucket_of(const void* key) {
 
 struct alignas(128) Lock {
     std::atomic<uint64_t> word { 0 };
+    // The slot: whether the value lies there, and the value; and the value while it is out.
+    alignas(64) volatile uint64_t lies = 1;
+    volatile uint64_t value = 0;
+    uint64_t out = 0;
 
     void lock() {
         uint64_t free = 0;
         if (!word.compare_exchange_strong(free, HELD))
             get_slowly();
+        if (ways.has_value && lies) {
+            out = value;
+            lies = 0;
+        }
     }
     void unlock() {
+        if (ways.has_value) {
+            value = out;
+            lies = 1;
+        }
         uint64_t held = HELD;
         if (!word.compare_exchange_strong(held, 0))
             unpark();
@@ -157,17 +176,24 @@ struct alignas(128) Lock {
             ways.seeking.fetch_sub(1);
     }
     void seek() {
-        int made = 0, looks = 0;
+        int made = 0, looks = 0, paused = ways.are_few(ways.seek_now()) ? 0 : ways.last_pauses + 1;
         // A first look tells whether somebody is parked; where the lock is free again, it is left to its owner.
-        uint64_t seen = word.load() == BOTH ? BOTH : HELD;
+        uint64_t seen = word.load();
+        if (seen != BOTH && !(ways.takes_at_first && ways.are_few(ways.seek_now())))
+            seen = HELD;
         for (;;) {
             if (!(seen & HELD)) {
                 if (take())
                     return;
             } else if (made < MOST_SPINS && (seen == HELD || (ways.yields_where_parked && looks == 0))) {
-                int end = std::min(MOST_SPINS, made + ways.before_look(looks++));
-                for (; made < end; made++)
-                    sched_yield();
+                if (paused <= ways.last_pauses) {
+                    for (int i = ways.pauses[paused++]; i > 0; i--)
+                        _mm_pause();
+                } else {
+                    int end = std::min(MOST_SPINS, made + ways.before_look(looks++));
+                    for (; made < end; made++)
+                        sched_yield();
+                }
             } else if (line_up(seen == BOTH)) {
                 return;
             }
@@ -248,11 +274,14 @@ struct Peer {
 int main(int argc, char** argv) {
     Ways::read("YIELDS", "k1", ways.many, ways.last_many);
     Ways::read("FEW", "01", ways.few, ways.last_few);
+    Ways::read("PAUSES", "", ways.pauses, ways.last_pauses);
     Ways::read("CROWDED", "c1", ways.crowded, ways.last_crowded);
     ways.seeking_few = getenv("SEEKING") ? atoi(getenv("SEEKING")) : 2;
     ways.crowd = getenv("CROWD") ? atoi(getenv("CROWD")) : 4;
     ways.queued = getenv("QUEUED") ? atoi(getenv("QUEUED")) : 8;
-    ways.yields_where_parked = getenv("PARKED") && !strcmp(getenv("PARKED"), "1");
+    ways.yields_where_parked = Ways::is_set("PARKED");
+    ways.takes_at_first = Ways::is_set("FIRST");
+    ways.has_value = Ways::is_set("VALUE");
     for (int i = 2; i < argc && i < (argc > 1 && !strcmp(argv[1], "relay") ? 4 : 3); i++)
         ways.threads += strtoull(argv[i], nullptr, 10);
     return bench::main<Peer>(argc, argv);
