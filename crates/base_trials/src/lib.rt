@@ -1,4 +1,5 @@
-//! Trials of all that a lot stands on, and of pictures, through public calls. It has tests and nothing else.
+//! Trials of the crates below `lot_sync` but `lot_permits`, of `lot_journal` and of `lot_draw`, through public calls. It
+//! has tests and nothing else.
 #![tactic(auto)]
 
 #[cfg(test)]

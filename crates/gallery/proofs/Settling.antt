@@ -5,7 +5,7 @@ use Rattle.std.specs.List.{sum, sum_by}
 use Rattle.std.proofs.lemmas.Option.{slice_get_within}
 use Rattle.std.proofs.lemmas.List.Sums.{sum_by-cons}
 use Rattle.lot_words.specs.CallersRule.{CallersRule}
-use Rattle.lot_sync.specs.Lot.{LotView, PassView, HasGrown, rested}
+use Rattle.lot_sync.specs.Lot.{LotNames, LotView, PassView, HasGrown, rested}
 use Rattle.lot_calls.specs.Finished.{IsFinished}
 use Rattle.lot_calls.specs.Workers.{HasWorked}
 use Rattle.lot_calls.proofs.Sums.{sum_below_alike, sum_of_row, sum_of_parts, sum_of_two}
@@ -59,15 +59,15 @@ booked_all (x ∷ xs) booked = omega (
   sum_by-cons (λ (a : Account). sum a.moved_in) x xs,
 )
 
-module _ (rule : CallersRule Account (ℕ × ℕ)) (opening : List Account) (lot : LotView) (accounts : List Account) (called woken : List ℕ)
-    (finished : IsFinished rule opening lot accounts called woken)
+module _ (rule : CallersRule Account (ℕ × ℕ)) (names : LotNames Account) (lot : LotView) (accounts : List Account) (called woken : List ℕ)
+    (finished : IsFinished rule names lot accounts called woken)
     (keeps : (key : ℕ) (v : Account) → rule.keeps key v → IsBooked v) (part : rule.part ≡ moved_by)
     (rests : (p : PassView Account) → rule.rests (rested p) → IsEven p.thread p.seen)
     (grows : (u v : Account) → rule.grows u v → StaysOpenedAs u v) (four : lot.threads ≡ 4)
     (locks : lot.locks ≡ 4) (count : length accounts ≡ lot.locks) where
   -- the pass of a thread, as it was left
-  left : (t : ℕ) → t < 4 → HasWorked rule opening lot (λ p q. q ≡ p) accounts t
-  left t near = has_finished rule opening lot accounts called woken finished count t (omega (arith, near, four))
+  left : (t : ℕ) → t < 4 → HasWorked rule names.values lot (λ p q. q ≡ p) accounts t
+  left t near = has_finished rule names lot accounts called woken finished count t (omega (arith, near, four))
 
   even_left : (t : ℕ) (near : t < 4) → IsEven (left t near).after.thread (left t near).after.seen
   even_left t near =
@@ -85,14 +85,14 @@ module _ (rule : CallersRule Account (ℕ × ℕ)) (opening : List Account) (lot
   kept_at_end : (k : ℕ) (v : Account) → slice_get accounts k ≡ Some v → IsBooked v
   kept_at_end k v at = keeps k v ((left 0 (omega arith)).goes_on.kept k v at)
 
-  pub opened_at_the_end : AreOpenedAs opening accounts
+  pub opened_at_the_end : AreOpenedAs names.values accounts
   opened_at_the_end k u v first last =
       let done = left 0 (omega arith) in
       let p : PassView Account = done.after in
       let near : k < length p.seen = omega (arith, slice_get_within accounts k v last, (even_left 0 (omega arith)).count, count, locks) in
       let seen = lies_there p.seen k u near in
       let w : Account = get_or p.seen k u in
-      grows u w (subst (λ (z : PassView Account). HasGrown rule.grows opening z) (sym done.worked) done.ready.grown k u w first seen)
+      grows u w (subst (λ (z : PassView Account). HasGrown rule.grows names.values z) (sym done.worked) done.ready.grown k u w first seen)
       ∙ grows w v (done.goes_on.grown k w v last seen)
 
   pub same_at_end : sum_by balance_of accounts ≡ sum_by opening_of accounts

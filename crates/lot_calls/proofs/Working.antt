@@ -5,7 +5,7 @@ use Rattle.std.specs.List.{sum_by, All}
 use mathlib.Core.Option.{some}
 use lib.ListN.{get_elem?}
 use Rattle.lot_words.specs.CallersRule.{CallersRule}
-use Rattle.lot_sync.specs.Lot.{LotView, PassView}
+use Rattle.lot_sync.specs.Lot.{LotNames, LotView, PassView}
 use Rattle.lot_sync.specs.Values.{GoesOnTo}
 use Rattle.lot_calls.specs.Visits.{own_parts}
 use Rattle.lot_calls.specs.Finished.{IsReady, AreTaken, IsFinished}
@@ -78,11 +78,12 @@ module _ {V Part : Type 0} (rule : CallersRule V Part) (opening : List V) (lot :
         own = subst (λ n. map (rule.part n) values ≡ own_parts rule q) same end.own;
       }
 
-module _ {V Part : Type 0} (rule : CallersRule V Part) (opening : List V) (lot : LotView) where
+module _ {V Part : Type 0} (rule : CallersRule V Part) (names : LotNames V) (lot : LotView) where
   -- a lot that was finished, as one whose passes came back as they were taken
-  pub has_finished : (values : List V) (called woken : List ℕ) → IsFinished rule opening lot values called woken → length values ≡ lot.locks
-      → (t : ℕ) → t < lot.threads → HasWorked rule opening lot (λ p q. q ≡ p) values t
+  pub has_finished : (values : List V) (called woken : List ℕ) → IsFinished rule names lot values called woken → length values ≡ lot.locks
+      → (t : ℕ) → t < lot.threads → HasWorked rule names.values lot (λ p q. q ≡ p) values t
   has_finished values called woken finished count =
+      let opening = names.values in
       let same : EachBecomes (λ p q. q ≡ p) finished.passes finished.passes = record { count = refl; each = λ i d near. refl } in
       let back : (p q : PassView V) → IsReady rule opening lot p → q ≡ p → ComesBack lot p q =
       λ p q ready is. subst (ComesBack lot p) (sym is) (record { same_thread = refl; free = ready.free; shape = ready.shape }) in
@@ -90,6 +91,7 @@ module _ {V Part : Type 0} (rule : CallersRule V Part) (opening : List V) (lot :
       (all_end rule lot finished.passes values
       (are_back rule opening lot (λ p q. q ≡ p) finished.passes finished.passes finished.taken same back) count finished.goes_on)
 
+module _ {V Part : Type 0} (rule : CallersRule V Part) (opening : List V) (lot : LotView) where
   -- where each value comes to what its parts come to, and each thread's parts to so much when it came back, all values come to that of each
   -- thread
   pub worked_sum : (becomes : PassView V → PassView V → Type 0) (values : List V) (h : Part → ℕ) (all : V → ℕ) (n c : ℕ) → lot.threads ≡ n

@@ -1,7 +1,5 @@
 //! The end of a lot.
-ghost use Rattle.std.specs.Prelude.{◌≡◌, ◌≤◌, List, length, vec_len, vec_capacity};
-ghost use Rattle.lot_sync.specs.Lot.{PassView};
-ghost use Rattle.lot_sync.specs.Closing.{HasOneRun};
+ghost use Rattle.std.specs.Prelude.{◌≡◌, ◌≤◌, vec_len, vec_capacity};
 ghost use Rattle.lot_calls.specs.Finished.{IsReady, AreTaken, IsFinished};
 
 use lot_sync::{Ledger, Lot, LotName, Pass};
@@ -19,9 +17,8 @@ pub fn finish<V: Keeps + Send, N: LotName<V> + Send, T: Wait>(
 ) -> (Vec<V>, Ledger)
     requires room { (vec_len passes ≡ 0) × (lot.threads ≤ vec_capacity passes) }
     ensures count { vec_len result.0 ≡ lot.locks }
-    ensures finished { IsFinished V.Keeps N.values lot result.0.items result.1.called.items result.1.woken.items }
+    ensures finished { IsFinished V.Keeps N.LotName lot result.0.items result.1.called.items result.1.woken.items }
     ensures balanced { result.1.called.items ≡ result.1.woken.items }
-    ensures history { (left : List (PassView V)) × (length left ≡ lot.threads) × HasOneRun N.LotName left }
 {
     take_all(rt, &mut lot, &mut passes);
     lot.close(rt, passes)

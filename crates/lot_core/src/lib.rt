@@ -1,8 +1,8 @@
 //! The model of the parking lot's locks, conditions and semaphores, made runnable: seventeen events,
 //! each a single access of one thread to the word of one key, and the states between them. That an
 //! event keeps a sound state sound, and a step of a part that part, is proved here once, for all that
-//! stands above: lot_words rules its table of lock words by the lock part of this model, and the
-//! program replays scripts of events.
+//! stands above: lot_words, lot_conds and lot_sems rule their tables by its three parts, lot_whole
+//! a lot's table by the whole, and the programs replay scripts of events.
 //!
 //! | Event | Allowed where | What it does |
 //! |---|---|---|

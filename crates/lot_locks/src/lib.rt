@@ -6,7 +6,7 @@
 //! | Call | Where nobody contends | Else |
 //! |---|---|---|
 //! | `get` | one compare-exchange | `get_slowly`: up to 40 yields, then a sleep in the lock's line |
-//! | `get_free`, `try_get` | one compare-exchange | an answer at once; `try_get` makes a second one |
+//! | `get_free`, `try_get` | one compare-exchange | an answer at once; `try_get` makes a fetch-or too |
 //! | `free_unparked` | one compare-exchange | the lock is marked as found parked, and still owned |
 //! | `let_go`, `let_go_asking` | one compare-exchange | the first of the line is handed the lock, or tries again |
 //!

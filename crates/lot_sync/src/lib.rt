@@ -9,7 +9,8 @@
 //! |---|---|---|
 //! | `lock` | one compare-exchange | up to 40 yields, then a sleep in the lock's line |
 //! | `unlock`, `unlock_asking` | one compare-exchange | the first of the line is taken: it owns it, or tries again |
-//! | `try_lock`, `unlock_unparked` | one compare-exchange | an answer at once |
+//! | `try_lock` | one compare-exchange | an answer at once, after a fetch-or |
+//! | `unlock_unparked` | one compare-exchange | an answer at once |
 //! | `wait` | an unlock and a lock, and a sleep in the condition's line between them | |
 //! | `notify_one`, `notify_some`, `notify_all` | nobody waits: one load | the first of the line are taken, told and woken |
 //! | `acquire`, `release` | a load and a compare-exchange | a sleep in the semaphore's line; its first is taken and woken |

@@ -22,7 +22,8 @@
 //! | `enlist` | conditions | is at the condition's bed, with the lock that the event names |
 //! | `look`, `lower`, `call`, `sweep` | conditions | knows the flag; has taken sleepers from the line |
 //! | `try_take_permit`, `take_permit`, `mark_permit`, `park_permit` | semaphores | has one more, seeks one, or sleeps |
-//! | `free_permit`, `pass_permit`, `clear` | semaphores | has one permit less |
+//! | `free_permit`, `pass_permit` | semaphores | has one permit less |
+//! | `clear` | semaphores | is as it was |
 //! | `post`, `post_cond`, `post_sem`, `collect` | letters | (the root owes one letter less); is awake again |
 //!
 //! A thread waits in one kind at most, so one word serves for its letters of all kinds, and its pass tells whose

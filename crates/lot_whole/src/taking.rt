@@ -51,15 +51,15 @@ impl<V: Keeps> LotWords<V> {
     }
 
     /// Gets the lock where its word is 0, by one compare-exchange; the event is Take. Else no event is made, the pass
-    /// is as it was, and the entry says what the word was. A `lock` that begins so leaves the line of a contended
-    /// word alone.
+    /// is as it was, and the entry says what the word was. A `lock` begins so: where nobody owns the lock and nobody
+    /// is parked, that is its one access.
     #[inline(always)]
     pub fn take_free(&self, pass: LotPass<V>, key: usize) -> (LotPass<V>, bool)
         requires table { pass.table ≡ self.now.table }
         requires key { key < self.now.size.locks }
         requires may { MayTake pass.own key }
         ensures table { result.0.table ≡ pass.table }
-        ensures event { MatchBool result.1
+        ensures entry { MatchBool result.1
             (GetsBy V.Keeps pass key (Makes (Take pass.thread key) (Saw true)) result.0)
             ((word : ℕ) × (word ≢ 0) × FindsOf pass key word result.0) }
     {
@@ -77,7 +77,7 @@ impl<V: Keeps> LotWords<V> {
         requires key { key < self.now.size.locks }
         requires may { MayPark pass.own key }
         ensures table { result.0.table ≡ pass.table }
-        ensures event { MatchBool result.1
+        ensures entry { MatchBool result.1
             (NotesIn lock pass pass.own.locks (Makes (Mark pass.thread key) Done) result.0)
             ((word : ℕ) × (word ≢ 1) × FindsOf pass key word result.0) }
     {

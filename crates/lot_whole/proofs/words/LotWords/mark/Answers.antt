@@ -16,5 +16,5 @@ compare_exchange-pass-requires-clause-allows g c =
     pass_at_place (meaning g.V.Keeps start) (word_at key) _ c.word_of_key-word.ensures (λ n. either (n == 1) 3 n) p (Marks p key)
     (marks g.V.Keeps (size_of start) start.values.value.items p key here c.requires.may)
 
-pub returns-clause-event : goal.returns-clause-event
-returns-clause-event g c = c.compare_exchange-pass.ensures.told
+pub returns-clause-entry : goal.returns-clause-entry
+returns-clause-entry g c = c.compare_exchange-pass.ensures.told

@@ -17,5 +17,5 @@ compare_exchange-pass-requires-clause-allows g c =
     (λ n. either (n == 1) 3 n) p (Marks p key)
     (marks g.V.Keeps start.size start.values.value.items p key here c.requires.calm.0 c.requires.calm.1)
 
-pub returns-clause-event : goal.returns-clause-event
-returns-clause-event g c = c.compare_exchange-pass.ensures.told
+pub returns-clause-entry : goal.returns-clause-entry
+returns-clause-entry g c = c.compare_exchange-pass.ensures.told
