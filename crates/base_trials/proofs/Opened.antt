@@ -164,7 +164,7 @@ last_by_place P n xs ys x is (long, each) =
 
 pub three_named : (xs ys zs left : List (RootShown LotRootView)) (third second first : RootShown LotRootView) → Appends root_view 3 [] xs
     → xs ≡ ys ++ third ∷ [] → ys ≡ zs ++ second ∷ [] → zs ≡ left ++ first ∷ []
-    → (first.root.key ≡ 0) × (second.root.key ≡ 1) × (third.root.key ≡ 2)
+    → (first.key ≡ 0) × (second.key ≡ 1) × (third.key ≡ 2)
 three_named xs ys zs left third second first all a b c =
     let Names : ℕ → RootShown LotRootView → Type 0 = λ i q. q.key ≡ i in
     let whole : ByPlace Names 3 xs = (
