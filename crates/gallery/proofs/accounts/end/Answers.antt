@@ -6,7 +6,7 @@ pub returns-clause-sum : goal.returns-clause-sum
 returns-clause-sum g c =
     let accounts = c.finish.result.0 in
     let long : length accounts.items ≡ vec_len accounts = search rules in
-    same_at_end _ g.N.LotName c.args.lot accounts.items c.finish.result.1.called.items c.finish.result.1.woken.items
+    same_at_end _ _ c.args.lot accounts.items c.finish.result.1.called.items c.finish.result.1.woken.items
     c.finish.ensures.finished (λ k v kept. kept) refl (λ p even. even) (λ u v same. same)
     c.requires.sizes.1 c.requires.sizes.0 (long ∙ c.finish.ensures.count)
 
@@ -14,6 +14,6 @@ pub returns-clause-opening : goal.returns-clause-opening
 returns-clause-opening g c =
     let accounts = c.finish.result.0 in
     let long : length accounts.items ≡ vec_len accounts = search rules in
-    opened_at_the_end _ g.N.LotName c.args.lot accounts.items c.finish.result.1.called.items c.finish.result.1.woken.items
+    opened_at_the_end _ _ c.args.lot accounts.items c.finish.result.1.called.items c.finish.result.1.woken.items
     c.finish.ensures.finished (λ k v kept. kept) refl (λ p even. even) (λ u v same. same)
     c.requires.sizes.1 c.requires.sizes.0 (long ∙ c.finish.ensures.count)
