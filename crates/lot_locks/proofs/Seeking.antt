@@ -55,7 +55,7 @@ module _ {V : Type 0} where
     is = inl (none_added now);
   }
 
-  awake_itself : (n : ℕ) (before now : LotStanding V) (l : ℕ) → IsAwakeFor n before l now → IsAwakeFor n now l now
+  pub awake_itself : (n : ℕ) (before now : LotStanding V) (l : ℕ) → IsAwakeFor n before l now → IsAwakeFor n now l now
   awake_itself n before now l s = elim s.is [
     | inl e ↦ subst (λ (z : LotStanding V). IsAwakeFor n z l z) (sym e) (begins n (adding before s.did) l s.below s.may)
     | inr e ↦ awake n now now l (trying_itself n before now l
@@ -218,6 +218,10 @@ module _ {V Part : Type 0} (rule : CallersRule V Part) where
   pub owner_on : (n : ℕ) (before now after : LotStanding V) (l : ℕ) → IsAwakeFor n before l now → IsOwner rule now l after
       → IsOwner rule before l after
   owner_on n before now after l s t = goes_on n before now after l Got s t
+
+  pub awake_on : (n : ℕ) (before now after : LotStanding V) (l : ℕ) → IsAwakeFor n before l now → IsAwakeFor n now l after
+      → IsAwakeFor n before l after
+  awake_on n before now after l s t = goes_on n before now after l Waits s t
 
   pub laws : (n : ℕ) → SeekingLaws (λ (p : LotStanding V). p.thread) (Seeks rule n)
   laws n = record {

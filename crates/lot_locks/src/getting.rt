@@ -9,7 +9,14 @@ use lot_park::{BeforeSleep, Look, ParkingLot, Scheme, Seeking, Sought, Token, ge
 use lot_scheme::{LotName, LotScheme, NamedPass, NamedRoot};
 use lot_whole::Keeps;
 use lot_words::{HELD, PARKED};
+use std::hint;
 use std::sync::Wait;
+
+/// How often a thread tries again that has missed its exchange, where nobody is counted as seeking.
+const TRIES_ALONE: u32 = 2;
+
+/// How often the processor pauses before each such try.
+const PAUSES: u32 = 8;
 
 /// What is sought: a lock. It names this for the parking lot, and has no value.
 pub struct Locks;
@@ -163,9 +170,41 @@ pub fn get<V: Keeps + Send, N: LotName<V> + Send, R: Wait, B: BeforeSleep>(
     }
 }
 
-/// Gets a lock that was found held or parked. Where it is marked as parked it lines up at once. Else it goes on as where
-/// the lock is taken, also where it is free by now: so where others seek too, it is left to its owner meanwhile. Before
-/// each sleep it does what `before` says.
+fn pause() {
+    for _ in 0..PAUSES {
+        hint::spin_loop();
+    }
+}
+
+/// Tries so often to get the lock where nobody owns it and nobody is marked as parked, with pauses of the processor
+/// before each try.
+#[tactic(auto, using(crate::proofs::Seeking::may_take, crate::proofs::Seeking::owner_on))]
+fn try_again<V: Keeps, N: LotName<V>>(
+    scheme: &LotScheme<V, N>,
+    pass: NamedPass<V, N>,
+    key: usize,
+    tries: u32,
+) -> (NamedPass<V, N>, bool)
+    requires key { key < N.locks }
+    requires may { MayTake pass.own key }
+    ensures { MatchBool result.1 (IsOwner V.Keeps pass key result.0) (IsAwakeFor N.locks pass key result.0) }
+{
+    let mut pass = pass;
+    for _ in 0..tries {
+        pause();
+        let (next, got) = get_free(scheme, pass, key);
+        if got {
+            return (next, true);
+        }
+        pass = next;
+    }
+    (pass, false)
+}
+
+/// Gets a lock that was found held or parked. Where it is marked as parked it lines up at once. Else it tries again, if
+/// nobody seeks anything, and then goes on as where the lock is taken, also where it is free by now: so where others
+/// seek too, it is left to its owner meanwhile. Before each sleep it does what `before` says.
+#[tactic(auto, using(crate::proofs::Seeking::owner_on))]
 #[cold]
 #[inline(never)]
 pub fn get_slowly<V: Keeps + Send, N: LotName<V> + Send, R: Wait, B: BeforeSleep>(
@@ -180,9 +219,18 @@ pub fn get_slowly<V: Keeps + Send, N: LotName<V> + Send, R: Wait, B: BeforeSleep
     requires may { MayTake pass.own key }
     ensures { IsOwner V.Keeps pass key result }
 {
-    let first = match parking.scheme().look_at(key) {
+    let scheme = parking.scheme();
+    let first = match scheme.look_at(key) {
         Look::Free | Look::Taken => Look::Taken,
         Look::Parked => Look::Parked,
     };
+    let tries = match first {
+        Look::Taken if !parking.has_seekers() => TRIES_ALONE,
+        Look::Free | Look::Taken | Look::Parked => 0,
+    };
+    let (pass, got) = try_again(scheme, pass, key, tries);
+    if got {
+        return pass;
+    }
     get_or_park::<LotScheme<V, N>, Locks, R, B>(rt, parking, pass, key, first, before)
 }

@@ -351,7 +351,13 @@ impl<S: Scheme> ParkingLot<S> {
         self.table.ensure(rt, threads)
     }
 
-    // A thread begins to seek something. Answers how many others do.
+    /// Whether some thread was counted as seeking something at some moment of this call: it has missed it, and has not
+    /// got it yet. Nothing is promised of it.
+    pub fn has_seekers(&self) -> bool {
+        self.seeking.load(Ordering::SeqCst) != 0
+    }
+
+    // A thread begins to seek something, and is counted. Answers how many others are.
     pub(crate) fn begin_seeking(&self) -> usize {
         self.seeking.fetch_add(1, Ordering::SeqCst)
     }

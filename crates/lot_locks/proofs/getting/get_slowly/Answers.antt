@@ -1,5 +1,13 @@
-use Rattle.lot_locks.proofs.Seeking.{laws}
+use Rattle.std.proofs.lemmas.Bool.Decides.{when_false}
+use Rattle.lot_locks.specs.Standing.{IsOwner, IsAwakeFor}
+use Rattle.lot_locks.proofs.Seeking.{laws, awake_itself}
 use Rattle.lot_locks.proofs.getting.get_slowly.Goals as goal
 
 pub get_or_park-requires-clause-laws : goal.get_or_park-requires-clause-laws
 get_or_park-requires-clause-laws g c κs within = laws g.V.Keeps g.N.LotName.locks
+
+pub get_or_park-requires-clause-waits : goal.get_or_park-requires-clause-waits
+get_or_park-requires-clause-waits g c κs within =
+    awake_itself g.N.LotName.locks c.args.pass c.try_again-pass.result.0 c.args.key
+    (when_false (IsOwner g.V.Keeps c.args.pass c.args.key c.try_again-pass.result.0)
+    (IsAwakeFor g.N.LotName.locks c.args.pass c.args.key c.try_again-pass.result.0) c.if-got.false c.try_again-pass.ensures)
