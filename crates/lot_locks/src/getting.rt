@@ -15,7 +15,8 @@ use std::sync::Wait;
 /// How often a thread tries again that has missed its exchange, where nobody is counted as seeking.
 const TRIES_ALONE: u32 = 2;
 
-/// How often the processor pauses before each such try.
+/// How often the processor pauses before each of these tries, to leave the word's line of the cache to the owner for a
+/// short section.
 const PAUSES: u32 = 8;
 
 /// What is sought: a lock. It names this for the parking lot, and has no value.
@@ -170,6 +171,7 @@ pub fn get<V: Keeps + Send, N: LotName<V> + Send, R: Wait, B: BeforeSleep>(
     }
 }
 
+/// Leaves the word alone for a moment.
 fn pause() {
     for _ in 0..PAUSES {
         hint::spin_loop();

@@ -1,9 +1,8 @@
 //! What the work of `lotbench` leaves, whatever time it takes.
 
-use crate::asserts::{equal, failed, is_so, same_text};
+use crate::asserts::{equal, failed, is_so};
 use lot_load::measure::crew::run;
 use lot_load::measure::plan::plan_of;
-use lot_load::measure::run_command;
 use std::alloc::Global;
 use std::process::Abort;
 use std::sync::Wait;
@@ -41,11 +40,6 @@ fn what_is_put_is_taken(rt: HostRuntime) {
 
 #[test]
 fn other_words_are_refused(rt: HostRuntime) {
-    let mut out: Vec<u8> = Vec::new(rt.alloc());
-    let mut faults: Vec<u8> = Vec::new(rt.alloc());
-    let words = ["count", "0", "1", "1"];
-    let status = run_command(&rt, rt.alloc(), &words, &mut out, &mut faults);
-    equal(&rt, status, 1);
-    is_so(&rt, out.as_slice().is_empty(), "nothing is printed");
-    same_text(&rt, faults.as_slice(), "bad command line\n", "faults");
+    let plan = plan_of(&["count", "0", "1", "1"]);
+    is_so(&rt, plan.is_none(), "a plan without threads");
 }

@@ -1,4 +1,4 @@
-use Rattle.std.proofs.Common.{sym}
+use Rattle.std.proofs.Common.{rules, sym}
 use Rattle.lot_calls.proofs.Nesting.{both_turned_at}
 use Rattle.lot_calls.proofs.both.with_both.Goals as goal
 
@@ -14,3 +14,15 @@ returns-else-first-second-clause-visits g c =
           w.now v.now y.now x.now
           (λ e. c.requires.keys.2 (sym e)) both is_v is_w is_x is_y,
     )
+
+pub with_two-requires-clause-callable : goal.with_two-requires-clause-callable
+with_two-requires-clause-callable g c κs within = search rules
+
+pub with_two-requires-clause-keeps : goal.with_two-requires-clause-keeps
+with_two-requires-clause-keeps g c κs within = search rules
+
+pub returns-then-first-second-clause-visits : goal.returns-then-first-second-clause-visits
+returns-then-first-second-clause-visits g c = search rules
+
+pub returns-then-first-second-clause-made : goal.returns-then-first-second-clause-made
+returns-then-first-second-clause-made g c = search rules

@@ -1,4 +1,4 @@
-use Rattle.std.proofs.Common.{refl, sym, ap}
+use Rattle.std.proofs.Common.{rules, refl, sym, ap}
 use Rattle.lot_sync.specs.Lot.{PassView}
 use Rattle.lot_calls.proofs.Visiting.{visits, visit_made}
 use Rattle.lot_calls.proofs.with.with_value.Goals as goal
@@ -25,3 +25,12 @@ returns-clause-made g c =
     c.unlock-pass.result.1 gets.key_is
     (ap (λ (p : PassView g.row.V.Denot). p.thread) gets.after_is) c.lock-pass.ensures.made c.unlock-pass.ensures.fits
     (rw worked.2 at c.unlock-pass.ensures.made)
+
+pub lock-pass-requires-clause-free : goal.lock-pass-requires-clause-free
+lock-pass-requires-clause-free g c κs within = search rules
+
+pub replace_with-held-requires : goal.replace_with-held-requires
+replace_with-held-requires g c = search rules
+
+pub unlock-pass-requires-clause-back : goal.unlock-pass-requires-clause-back
+unlock-pass-requires-clause-back g c κs within = search rules
