@@ -18,7 +18,7 @@ use Rattle.lot_whole.specs.declared.views.LotPassView.{LotPassView}
 use Rattle.lot_whole.specs.declared.views.Stand.TheVariants.{Idle}
 use Rattle.lot_whole.specs.Closing.{HasDone}
 use Rattle.lot_whole.specs.Family.{lock, cond, sem}
-use Rattle.lot_whole.specs.Standing.{IsAwake, IsIdle, IsUp, MayTake, MayPark, MaySweep}
+use Rattle.lot_whole.specs.Standing.{IsAwake, IsIdle, IsUp, MayTake, MayLineUp, MaySweep}
 use Rattle.lot_whole.specs.Whole.{rises}
 use Rattle.lot_scheme.specs.Standing.{LotStanding, standing, adding, wanting, owning, called_more as stand_called_more, setting_out}
 use Rattle.lot_scheme.specs.Standing.{swept, IsLooked}
@@ -57,8 +57,8 @@ module _ {V : Type 0} where
   may_take t l p (inl calm) = inr (awake_of t p calm, inl calm.there.stand)
   may_take t l p (inr wants) = inl (wants.there.up, wants.aim)
 
-  pub may_park : (t l : ℕ) (p : LotStanding V) → Wants t l p → MayPark p.own l
-  may_park t l p wants = (wants.there.up, wants.aim)
+  pub may_line_up : (t l : ℕ) (p : LotStanding V) → Wants t l p → MayLineUp p.own l
+  may_line_up t l p wants = (wants.there.up, wants.aim)
 
   pub may_free : (t l : ℕ) (p : LotStanding V) → HasIt t l p → MayFree p l
   may_free t l p has = record { may = inl (owner_idle t l p has); holds = has.holds; lies = has.lies }

@@ -58,7 +58,7 @@ pub fn lock_until<V: Keeps + Send, N: LotName<V> + Send, T: Wait, F: Fn(&V) -> b
     ready: F,
 ) -> (Pass<V, N>, Held<V, N>)
     requires key { key < lot.now.locks }
-    requires free { ¬ Owns pass key }
+    requires not_owned { ¬ Owns pass key }
     requires cond { IsCond lot.now cond }
     requires callable { (v : _) → V.keeps key v.now → F.pre ready v }
     ensures gets { GetsAfter V.Keeps pass key result.1 result.0 }

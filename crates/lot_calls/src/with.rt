@@ -21,7 +21,7 @@ pub fn with_lock<V: Keeps + Send, O, N: LotName<V> + Send, T: Wait, F: FnOnce(&m
     work: F,
 ) -> (Pass<V, N>, O)
     requires key { key < lot.now.locks }
-    requires free { ¬ Owns pass key }
+    requires not_owned { ¬ Owns pass key }
     requires callable { (v : _) → V.keeps key v.now → F.pre work v }
     requires keeps { (v : _) (o : _) (w : _) → V.keeps key v.now → F.post work v o w
         → MayBecome V.Keeps key pass.thread v.now w.now }
@@ -47,7 +47,7 @@ pub fn with_value<V: Keeps + Send, O, N: LotName<V> + Send, T: Wait, F: FnOnce(V
     work: F,
 ) -> (Pass<V, N>, O)
     requires key { key < lot.now.locks }
-    requires free { ¬ Owns pass key }
+    requires not_owned { ¬ Owns pass key }
     requires callable { (v : V) → V.keeps key v → F.pre work v }
     requires keeps { (v : V) (left : _) → V.keeps key v → F.post work v left
         → MayBecome V.Keeps key pass.thread v left.0 }

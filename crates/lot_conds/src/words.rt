@@ -1,7 +1,7 @@
 //! The table of condition words.
-ghost use Rattle.std.specs.Prelude.{◌≡◌, ◌<◌, ◌≤◌};
+ghost use Rattle.std.specs.Prelude.{◌≡◌, ◌<◌, ◌≤◌, ℕ, ◌^◌};
 ghost use Rattle.lot_core.specs.declared.state.TheConstants.{MAX_THREADS, MAX_KEYS};
-ghost use Rattle.lot_rights.specs.Layout.{word_count};
+ghost use Rattle.lot_rights.specs.Layout.{word_at};
 ghost use Rattle.lot_conds.specs.Rule.{key_count};
 
 use crate::kind::Conditions;
@@ -23,7 +23,8 @@ pub struct CondWords {
     pub(crate) ghost some: { 0 < words.key.threads },
     pub(crate) ghost few: { (words.key.threads ≤ MAX_THREADS) × (key_count words.key ≤ MAX_KEYS) },
     pub(crate) ghost no_slots: { words.table.slots ≡ 0 },
-    pub(crate) ghost words_are: { words.table.words ≡ word_count words.key.threads (key_count words.key) },
+    pub(crate) ghost near: { (k : ℕ) → k < key_count words.key → word_at k < words.table.words },
+    pub(crate) ghost small: { words.table.words < 2 ^ 64 },
 }
 
 impl Model for CondWords {

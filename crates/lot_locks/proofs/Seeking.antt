@@ -17,7 +17,7 @@ use Rattle.lot_words.specs.CallersRule.{CallersRule}
 use Rattle.lot_words.specs.Values.{FoundOk}
 use Rattle.lot_words.specs.Calls.{wanting as lock_wanting}
 use Rattle.lot_whole.specs.declared.views.Stand.TheVariants.{Idle}
-use Rattle.lot_whole.specs.Standing.{MayTake, MayPark}
+use Rattle.lot_whole.specs.Standing.{MayTake, MayLineUp}
 use Rattle.lot_scheme.specs.Standing.{LotStanding, adding, wanting, owning}
 use Rattle.lot_scheme.specs.Words.{IsSeek}
 use Rattle.lot_scheme.proofs.Ends.{ends_with}
@@ -63,8 +63,8 @@ module _ {V : Type 0} where
   ]
 
   -- so it may line up, or take the lock
-  pub may_park : (n : ℕ) (before now : LotStanding V) (l : ℕ) → IsTryingFor n before l now → MayPark now.own l
-  may_park n before now l s = subst (λ (z : LotStanding V). MayPark z.own l) (sym s.is)
+  pub may_line_up : (n : ℕ) (before now : LotStanding V) (l : ℕ) → IsTryingFor n before l now → MayLineUp now.own l
+  may_line_up n before now l s = subst (λ (z : LotStanding V). MayLineUp z.own l) (sym s.is)
       (up_then before.own (lock_wanting before.own.locks l) Idle refl (is_up before.own l s.may), refl)
 
   pub may_take : (n : ℕ) (before now : LotStanding V) (l : ℕ) → IsAwakeFor n before l now → MayTake now.own l
@@ -232,4 +232,4 @@ module _ {V Part : Type 0} (rule : CallersRule V Part) where
   }
 
 -- of a thread that lines up for a lock
-pub ruleset line_laws = (may_park, marked_on, awake, has_marked, finds_another)
+pub ruleset line_laws = (may_line_up, marked_on, awake, has_marked, finds_another)

@@ -1,6 +1,7 @@
 pub mod Closes
 pub mod Deals
 pub mod Dealt
+pub mod Distinct
 pub mod Gathers
 pub mod Histories
 pub mod Joining

@@ -8,6 +8,7 @@ use Rattle.lot_core.specs.World.{put}
 use Rattle.lot_core.proofs.Put.{told_put, told_same}
 use Rattle.lot_core.proofs.Rows.{get_or_replicate}
 use Rattle.lot_rights.specs.Layout.{word_at, letter_at, word_count}
+use Rattle.lot_rights.proofs.Distinct.{word_apart, apart_letter, word_within}
 use Rattle.lot_rights.specs.World.{Spot, World, Sizes, IsKeyOf, letter_of, letters_of, WordsFit}
 
 -- ---- letters
@@ -28,9 +29,10 @@ module _ {P R W : Type 0} (number_in : W → ℕ) (z : Sizes) (w w' : World P R 
     wide = length-set ws (word_at c) x ∙ ok.wide;
     words = λ d near. dite (ℕ_discrete d c)
         (λ e. subst (λ y. get_or (set ws (word_at c) x) (word_at y) 0 ≡ number_in (w'.word y)) (sym e)
-        (get_or-set_same ws (word_at c) x 0 (let g = ok.wide in let h = among in omega arith) ∙ is))
-        (λ ne. get_or-set_other ws (word_at c) (word_at d) x 0 (λ e. ne (omega arith)) ∙ (ok.words d near ∙ sym (others d ne)));
-    letters = λ t near. get_or-set_other ws (word_at c) (letter_at t) x 0 (λ e. omega arith) ∙ (ok.letters t near ∙ sym (λ i. letters i t));
+        (get_or-set_same ws (word_at c) x 0 (omega (arith, ok.wide, word_within z.threads (z.first + z.keys) c among.1)) ∙ is))
+        (λ ne. get_or-set_other ws (word_at c) (word_at d) x 0 (λ e. ne (word_apart d c e)) ∙ (ok.words d near ∙ sym (others d ne)));
+    letters = λ t near. get_or-set_other ws (word_at c) (letter_at t) x 0 (λ e. apart_letter c t (sym e))
+        ∙ (ok.letters t near ∙ sym (λ i. letters i t));
   }
 
   -- the letter of t becomes x, and no other letter or word changes
@@ -40,7 +42,7 @@ module _ {P R W : Type 0} (number_in : W → ℕ) (z : Sizes) (w w' : World P R 
       → WordsFit number_in z w' (set ws (letter_at t) x)
   letter_written t x near is others words = record {
     wide = length-set ws (letter_at t) x ∙ ok.wide;
-    words = λ d among. get_or-set_other ws (letter_at t) (word_at d) x 0 (λ e. omega arith) ∙ (ok.words d among ∙ sym (words d));
+    words = λ d among. get_or-set_other ws (letter_at t) (word_at d) x 0 (apart_letter d t) ∙ (ok.words d among ∙ sym (words d));
     letters = λ u here. dite (ℕ_discrete u t)
         (λ e. subst (λ y. get_or (set ws (letter_at t) x) (letter_at y) 0 ≡ letter_of (w'.spot y)) (sym e)
         (get_or-set_same ws (letter_at t) x 0 (let g = ok.wide in omega arith) ∙ is))

@@ -121,6 +121,8 @@ impl<K: Kind> WordsOf<K> {
         requires opens { OpensWell (K.meaning key.now) (replicate (word_count threads (first + keys)) 0) slots.items }
         ensures table { IfOk result (λ r. (r.0.table.words ≡ word_count threads (first + keys))
             × (r.0.table.slots ≡ vec_len slots) × (r.0.key ≡ key.now)) }
+        ensures near { IfOk result (λ r. (r.0.table.words < 2 ^ 64)
+            × ((k : ℕ) → k < first + keys → word_at k < r.0.table.words)) }
         ensures passes { IfOk result (λ r. (vec_len r.1 ≡ threads)
             × ((k : ℕ) → k < threads → slice_get r.1.items k ≡ Some (pass_at (K.meaning key.now) r.0.table k))) }
         ensures roots { IfOk result (λ r. (vec_len r.2 ≡ keys)
@@ -159,6 +161,8 @@ impl<K: Kind> WordsOf<K> {
         requires opens { OpensWell (K.meaning key.now) words.now slots.items }
         ensures table { IfOk result (λ r. (r.0.table.words ≡ word_count threads (first + keys))
             × (r.0.table.slots ≡ vec_len slots) × (r.0.key ≡ key.now)) }
+        ensures near { IfOk result (λ r. (r.0.table.words < 2 ^ 64)
+            × ((k : ℕ) → k < first + keys → word_at k < r.0.table.words)) }
         ensures passes { IfOk result (λ r. (vec_len r.1 ≡ threads)
             × ((k : ℕ) → k < threads → slice_get r.1.items k ≡ Some (pass_at (K.meaning key.now) r.0.table k))) }
         ensures roots { IfOk result (λ r. (vec_len r.2 ≡ keys)

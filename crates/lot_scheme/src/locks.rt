@@ -9,7 +9,7 @@ ghost use Rattle.lot_words.specs.World.{Holds, HoldsParked};
 ghost use Rattle.lot_words.specs.Values.{IsIn, IsOut, HasSeen, MayLeave};
 ghost use Rattle.lot_words.specs.Calls.{token_of};
 ghost use Rattle.lot_words.specs.declared.views.Place.TheVariants.{InSlot, Out};
-ghost use Rattle.lot_whole.specs.Standing.{IsIdle, MayTake, MayLetGo, MayPark};
+ghost use Rattle.lot_whole.specs.Standing.{IsIdle, MayTake, MayLetGo, MayLineUp};
 ghost use Rattle.lot_park.specs.Parking.{Queues};
 ghost use Rattle.lot_scheme.specs.Roots.{root_view, TakesFirst};
 ghost use Rattle.lot_scheme.specs.Standing.{LotStanding, adding, wanting, dozing, finding_parked, placing};
@@ -76,7 +76,7 @@ impl<V: Keeps, N: LotName<V>> LotScheme<V, N> {
     #[tactic(auto, using(crate::proofs::LockNotes::marked))]
     pub fn mark(&self, pass: NamedPass<V, N>, key: usize) -> (NamedPass<V, N>, bool)
         requires key { key < N.locks }
-        requires may { MayPark pass.own key }
+        requires may { MayLineUp pass.own key }
         ensures { MatchBool result.1
             (result.0 ≡ adding pass (Makes (Mark pass.thread key) Done ∷ []))
             ((word : ℕ) × (word ≢ 1) × (result.0 ≡ adding pass (Finds pass.thread key word ∷ []))) }
@@ -93,7 +93,7 @@ impl<V: Keeps, N: LotName<V>> LotScheme<V, N> {
         root: NamedRoot<V, N>,
     ) -> (NamedPass<V, N>, NamedRoot<V, N>, bool)
         requires key { root.key < N.locks }
-        requires may { MayPark pass.own root.key }
+        requires may { MayLineUp pass.own root.key }
         ensures pass { MatchBool result.2
             (result.0 ≡ adding (dozing pass) (Makes (Park pass.thread root.key) (Saw true) ∷ []))
             (result.0 ≡ adding pass (Makes (Park pass.thread root.key) (Saw false) ∷ [])) }

@@ -10,6 +10,7 @@ use Rattle.lot_core.proofs.Rows.{get_or_replicate, row_from_at, row_from_before}
 use Rattle.lot_rights.specs.Layout.{word_at, letter_at, word_count}
 use Rattle.lot_rights.specs.Start.{OpensWell}
 use Rattle.lot_rights.specs.World.{awake}
+use Rattle.lot_rights.proofs.Distinct.{word_apart, apart_letter, word_within}
 use Rattle.lot_sems.specs.World.{Numbers, key_count, permits_of, SemWorld, word_in, SemWordsFit}
 use Rattle.lot_sems.specs.Opening.{with_permits, opening_words}
 use Rattle.lot_sems.specs.Rule.{opening_part, IsSound, meaning}
@@ -26,7 +27,7 @@ module _ (ws : List ℕ) (first_sem : ℕ) (permits : List ℕ) where
   letters_stay zero t = refl
   letters_stay (suc i) t =
       get_or-set_other (with_permits ws first_sem permits i) (word_at (first_sem + i)) (letter_at t) (2 * get_or permits i 0) 0
-      (λ e. omega arith) ∙ letters_stay i t
+      (λ e. apart_letter (first_sem + i) t (sym e)) ∙ letters_stay i t
 
   words_are : (i j : ℕ) → j < i → word_at (first_sem + j) < length ws
       → get_or (with_permits ws first_sem permits i) (word_at (first_sem + j)) 0 ≡ 2 * get_or permits j 0
@@ -37,7 +38,8 @@ module _ (ws : List ℕ) (first_sem : ℕ) (permits : List ℕ) where
       dite (ℕ_discrete j i)
       (λ e. subst (λ z. get_or (with_permits ws first_sem permits (suc i)) (word_at (first_sem + z)) 0 ≡ 2 * get_or permits z 0) (sym e)
       (get_or-set_same xs (word_at (first_sem + i)) x 0 (omega (arith, as_wide i, ap (λ z. word_at (first_sem + z)) e))))
-      (λ ne. get_or-set_other xs (word_at (first_sem + i)) (word_at (first_sem + j)) x 0 (λ e. ne (omega arith))
+      (λ ne. get_or-set_other xs (word_at (first_sem + i)) (word_at (first_sem + j)) x 0
+      (λ e. let same = word_apart (first_sem + j) (first_sem + i) e in ne (omega arith))
       ∙ words_are i j (omega arith) room)
 
 module _ (size : Numbers) where
@@ -68,8 +70,10 @@ module _ (size : Numbers) where
     words = λ k is.
         let at : first_sem + (k - first_sem) ≡ k = omega (arith, is.0) in
         let left : permits_of size k ≡ get_or permits (k - first_sem) 0 = row_from_at 0 first_sem permits k is.0 in
+        let near : word_at k < length zeros = omega (arith, wide, word_within size.threads (key_count size) k is.1) in
         let here =
-        words_are zeros first_sem permits (length permits) (k - first_sem) (omega (arith, is.0, is.1)) (omega (arith, is.0, is.1, wide)) in
+        words_are zeros first_sem permits (length permits) (k - first_sem) (omega (arith, is.0, is.1))
+        (subst (λ z. word_at z < length zeros) (sym at) near) in
         subst (λ z. get_or (opening_words size) (word_at z) 0 ≡ word_in (opening_part size) k) at (here ∙ omega (arith, left));
     letters = λ t near. letters_stay zeros first_sem permits (length permits) t ∙ get_or_replicate 0 count (letter_at t);
   }

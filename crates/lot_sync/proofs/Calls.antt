@@ -20,6 +20,7 @@ use Rattle.lot_scheme.specs.Standing.{called_more as stand_called_more, one_perm
 use Rattle.lot_scheme.specs.Standing.{one_permit_less as stand_one_permit_less}
 use Rattle.lot_scheme.specs.Words.{word_of_all, word_of_nobody, TookWord, BusyWord}
 use Rattle.lot_locks.specs.declared.released.Released.{Released}
+use Rattle.lot_waits.specs.Counts.{AreKept, counts_in, called_more}
 use Rattle.lot_waits.specs.Waiting.{HasWaited, waited}
 use Rattle.lot_waits.specs.Notifying.{FindsNobody, Notifies, NotifiesAll, one_if}
 use Rattle.lot_waits.proofs.Taken.{none_called}
@@ -117,6 +118,16 @@ module _ {V : Type 0} where
     subst (λ (v : PassView V). out ≈ v) (sym was) (alike_at out (pass_view_of p) q is (sees_stays p q did now)),
     adds_at (λ t. BusyWord t k) before out p q did was is (ap (λ (r : LotStanding V). r.did) now) word,
   )
+
+-- the tallies, to which what was taken is added
+pub kept_called : {V : Type 0} (locks own conds : ℕ) (word : ℕ → List Access → Type 0) (p q : LotStanding V) (c n : ℕ)
+    (called woken now_called now_woken : List ℕ) → own ≡ locks → TookMore word p c n q → AreKept locks conds (counts_in p) called woken
+    → (AreKept own conds (counts_in p) called woken → AreKept own conds (called_more (counts_in p) c n) now_called now_woken)
+    → AreKept locks conds (counts_in q) now_called now_woken
+kept_called {V} locks own conds word p q c n called woken now_called now_woken same took kept counts =
+    subst (λ m. AreKept locks conds m now_called now_woken) (sym (ap counts_in took.is))
+    (subst (λ m. AreKept m conds (called_more (counts_in p) c n) now_called now_woken) same
+    (counts (subst (λ m. AreKept m conds (counts_in p) called woken) (sym same) kept)))
 
 module _ {V : Type 0} (grows : V → V → Type 0) (names : LotNames V) where
   pub rests_called : (word : ℕ → List Access → Type 0) (p q : LotStanding V) (c n : ℕ) → TookMore word p c n q → IsAtRest grows names p

@@ -73,7 +73,8 @@ impl<V, N> Held<V, N> {
     }
 
     pub fn value_mut(&mut self) -> &mut V
-        ensures* lends { sem 𝓛 (Lends (the_row V.row N.row) V.row self.entry result (λ w. record self.old { value = w })) }
+        ensures* lends { sem 𝓛 (Lends (the_row V.row N.row) V.row self.entry result
+            (λ w. record self.old { value = w })) }
         ensures value { result.now ≡ self.old.value }
     {
         &mut self.value

@@ -23,7 +23,7 @@ impl<V: Keeps + Send, N: LotName<V> + Send> Lot<V, N> {
     #[inline(always)]
     pub fn try_lock(&self, pass: Pass<V, N>, key: usize) -> (Pass<V, N>, Option<Held<V, N>>)
         requires key { key < self.now.locks }
-        requires free { ¬ Owns pass key }
+        requires not_owned { ¬ Owns pass key }
         ensures gets { MatchOption result.1 (result.0 ≈ pass) (λ held. Gets V.Keeps pass key held result.0) }
         ensures made { Adds pass.made (TryWord pass.thread key (is_some result.1)) result.0.made }
         ensures shape { HasShape self.now result.0 }
@@ -44,7 +44,7 @@ impl<V: Keeps + Send, N: LotName<V> + Send> Lot<V, N> {
     #[inline(always)]
     pub fn lock<R: Wait>(&self, rt: &R, pass: Pass<V, N>, key: usize) -> (Pass<V, N>, Held<V, N>)
         requires key { key < self.now.locks }
-        requires free { ¬ Owns pass key }
+        requires not_owned { ¬ Owns pass key }
         ensures gets { Gets V.Keeps pass key result.1 result.0 }
         ensures made { Adds pass.made (GetWord pass.thread key) result.0.made }
         ensures shape { HasShape self.now result.0 }
@@ -64,7 +64,7 @@ impl<V: Keeps + Send, N: LotName<V> + Send> Lot<V, N> {
         before: &B,
     ) -> (Pass<V, N>, Held<V, N>)
         requires key { key < self.now.locks }
-        requires free { ¬ Owns pass key }
+        requires not_owned { ¬ Owns pass key }
         ensures gets { Gets V.Keeps pass key result.1 result.0 }
         ensures made { Adds pass.made (GetWord pass.thread key) result.0.made }
         ensures shape { HasShape self.now result.0 }

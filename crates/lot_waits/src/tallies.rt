@@ -53,13 +53,15 @@ pub fn count_taken(
     tallies
 }
 
-/// Raises one of the numbers.
+/// Raises one of the numbers. Where it stays, nothing is written.
 fn raise(numbers: &mut Vec<u64>, place: usize, by: u64)
     requires { place < vec_len numbers.old }
     ensures { numbers.new.items ≡
         slice_set numbers.old.items place (wrap (slice_index numbers.old.items place + by)) }
 {
-    numbers[place] = numbers[place].wrapping_add(by);
+    if by > 0 {
+        numbers[place] = numbers[place].wrapping_add(by);
+    }
 }
 
 /// Adds other numbers to them, each to its own.

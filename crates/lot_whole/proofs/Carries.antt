@@ -30,9 +30,9 @@ use Rattle.lot_whole.specs.declared.views.LotRootView.{LotRootView}
 use Rattle.lot_whole.specs.Family.{Which, lock, cond, LotSize, lock_size, cond_size, IsKeyIn, PassIn, RootIn}
 use Rattle.lot_whole.specs.Lot.{root_from, LotWorld, LotFits, LotPassIs, LotRootIs, lot_meaning}
 use Rattle.lot_whole.specs.Lifts.{part_pass, whole_root, lot_own, MayBeAway, Speaks, InPlace, CarriesPass, CarriesBoth}
-use Rattle.lot_whole.specs.Standing.{IsUp, IsIdle, MayTake, MayLetGo, MayPark, MaySweep}
+use Rattle.lot_whole.specs.Standing.{IsUp, IsIdle, MayTake, MayLetGo, MayLineUp, MaySweep}
 use Rattle.lot_whole.specs.Calls.{NotesIn, FindsOf, GetsBy}
-use Rattle.lot_whole.proofs.Tells.{out_none, may_take, may_let_go, may_park, idle_calm, has}
+use Rattle.lot_whole.proofs.Tells.{out_none, may_take, may_let_go, may_line_up, idle_calm, has}
 use Rattle.lot_whole.proofs.Lifts.{lifts_pass, lifts_both}
 
 -- ---- an entry tells what was known then, and the access
@@ -255,7 +255,7 @@ module _ {V Part : Type 0} (rule : CallersRule V Part) (z : LotSize) (xs : List 
         (locks.takes_free rule (lock_size z) xs (part_pass lock p) l here (takes_up may lock) (takes_aims may)) (at_key lock p l is_lock)
         (carries_takes_free may)
 
-    carries_marks : MayPark p.own l → CarriesPass rule z xs lock p (locks.Marks (part_pass lock p) l) (Marks p l)
+    carries_marks : MayLineUp p.own l → CarriesPass rule z xs lock p (locks.Marks (part_pass lock p) l) (Marks p l)
     carries_marks may n own a told = by (n == 1) (told 0)
       where
         by : (b : Bool) → MatchBool b (Notes (part_pass lock p) p.own.locks (Makes (Mark p.thread l) Done)
@@ -265,10 +265,10 @@ module _ {V Part : Type 0} (rule : CallersRule V Part) (z : LotSize) (xs : List 
             ((x : ℕ) × (x ≢ 1) × FindsOf p l x q)) own a
         by true h = carry lock p p.own.locks (Makes (Mark p.thread l) Done) (NotesIn lock p p.own.locks (Makes (Mark p.thread l) Done))
             (λ up. inl up)
-            (λ w ws hs ok fit. (tt, may_park rule z xs w ws hs ok p.thread p.own fit l may)) (λ k. (k, refl)) own a h
+            (λ w ws hs ok fit. (tt, may_line_up rule z xs w ws hs ok p.thread p.own fit l may)) (λ k. (k, refl)) own a h
         by false h = finds h.0 1 h.1 own a h.2
 
-    pub marks : MayPark p.own l → AllowsPass (lot_meaning rule z xs) (word_at l) (λ n. either (n == 1) 3 n) p (Marks p l)
+    pub marks : MayLineUp p.own l → AllowsPass (lot_meaning rule z xs) (word_at l) (λ n. either (n == 1) 3 n) p (Marks p l)
     marks may = lifts_pass rule z xs lock (word_at l) (λ n. either (n == 1) 3 n) p (locks.Marks (part_pass lock p) l) (Marks p l)
         (locks.marks rule (lock_size z) xs (part_pass lock p) l here (may.0 lock) may.1) (at_key lock p l is_lock) (carries_marks may)
 
@@ -312,7 +312,7 @@ module _ {V Part : Type 0} (rule : CallersRule V Part) (z : LotSize) (xs : List 
 
   -- ---- locks, with their roots
   module _ (p : PassShown (LotPassView V)) (q : RootShown LockRootView) where
-    pub parks : MayPark p.own q.key → AllowsBoth (lot_meaning rule z xs) (word_at q.key) (λ n. n) p (whole_root lock q) (Parks p q)
+    pub parks : MayLineUp p.own q.key → AllowsBoth (lot_meaning rule z xs) (word_at q.key) (λ n. n) p (whole_root lock q) (Parks p q)
     parks may = lifts_both rule z xs lock (λ n. n) p q (locks.Parks (part_pass lock p) q) (Parks p q)
         (lock_roots.parks rule (lock_size z) xs (part_pass lock p) q (may.0 lock) may.1)
         (λ n own its a told. carry_both lock p q (parked_pass p.own.locks (n == 3)) (parked_root q.own p.thread (n == 3))

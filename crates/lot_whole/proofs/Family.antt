@@ -6,6 +6,7 @@ use Rattle.std.proofs.lemmas.Bool.{lt-ltb, le-ltb}
 use mathlib.Core.Option as maybe
 use Rattle.lot_core.specs.World.{World}
 use Rattle.lot_rights.specs.Layout.{word_at, letter_at, word_count}
+use Rattle.lot_rights.proofs.Distinct.{word_within}
 use Rattle.lot_rights.specs.World.{letter_of}
 use Rattle.lot_words.specs.CallersRule.{CallersRule}
 use Rattle.lot_words.specs.World.{bits_of}
@@ -88,7 +89,7 @@ module _ (z : LotSize) where
   key_lot sem c is = omega (arith, is.1)
 
   pub key_near : (j : Which) (c : ℕ) → IsKeyIn z j c → word_at c < word_count z.threads (key_count z)
-  key_near j c is = omega (arith, key_lot j c is)
+  key_near j c is = word_within z.threads (key_count z) c (key_lot j c is)
 
   pub letter_near : (t : ℕ) → t < z.threads → letter_at t < word_count z.threads (key_count z)
   letter_near t near = omega arith
@@ -107,7 +108,7 @@ module _ (z : LotSize) where
 
   -- in its kind's own table a key and a letter have their places too
   pub key_in : (j : Which) (c : ℕ) → IsKeyIn z j c → word_at c < word_count z.threads ((sizes_in z j).first + (sizes_in z j).keys)
-  key_in j c is = omega (arith, is.1)
+  key_in j c is = word_within z.threads ((sizes_in z j).first + (sizes_in z j).keys) c is.1
 
   pub letter_in_kind : (j : Which) (t : ℕ) → t < z.threads → letter_at t < word_count z.threads ((sizes_in z j).first + (sizes_in z j).keys)
   letter_in_kind j t near = omega arith

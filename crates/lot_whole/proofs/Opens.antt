@@ -8,6 +8,7 @@ use mathlib.Core.Path.{fun_ext}
 use Rattle.lot_core.proofs.Law.{opening_reached}
 use Rattle.lot_core.proofs.Rows.{get_or_replicate}
 use Rattle.lot_rights.specs.Layout.{word_at, word_count}
+use Rattle.lot_rights.proofs.Distinct.{word_apart}
 use Rattle.lot_rights.specs.Start.{OpensWell}
 use Rattle.lot_words.specs.CallersRule.{CallersRule}
 use Rattle.lot_words.specs.Rule.{fresh_root as lock_fresh}
@@ -30,7 +31,7 @@ before_permits : (ws : List ℕ) (first_sem : ℕ) (permits : List ℕ) (i c : �
 before_permits ws first_sem permits zero c near = refl
 before_permits ws first_sem permits (suc i) c near =
     get_or-set_other (with_permits ws first_sem permits i) (word_at (first_sem + i)) (word_at c)
-    (2 * get_or permits i 0) 0 (λ e. omega arith)
+    (2 * get_or permits i 0) 0 (λ e. let same = word_apart c (first_sem + i) e in omega arith)
     ∙ before_permits ws first_sem permits i c near
 
 nobody_away : (V : Type 0) (z : LotSize) (xs : List V) (j : Which) → away V j (own_of V (fresh_pass z xs) j) ≡ false

@@ -16,6 +16,7 @@ use Rattle.lot_rights.specs.declared.views.Access.TheVariants.{Makes, Posts, Col
 use Rattle.lot_rights.specs.History.{Telling, doer, maker}
 use Rattle.lot_rights.specs.Layout.{word_at, letter_at}
 use Rattle.lot_rights.specs.Rule.{Leads}
+use Rattle.lot_rights.proofs.Distinct.{word_apart, apart_letter}
 use Rattle.lot_rights.proofs.Puts.{is_put}
 use Rattle.lot_words.specs.CallersRule.{CallersRule}
 use Rattle.lot_whole.specs.declared.views.LotPassView.{LotPassView}
@@ -88,12 +89,12 @@ module _ {V Part : Type 0} (rule : CallersRule V Part) (z : LotSize) (xs : List 
 
     -- the word of a key of another kind is another
     elsewhere : (k : Which) (c : ℕ) → IsKeyIn z k c → k ≢ j → word_at c ≢ i
-    elsewhere k c is ne e = ⊎_elim {C = ⊥} (λ h. keys_apart z k j c h.0 is h.1.0 ne (omega (arith, h.1.1)))
-        (λ h. omega (arith, h.1.1)) place
+    elsewhere k c is ne e = ⊎_elim {C = ⊥} (λ h. keys_apart z k j c h.0 is h.1.0 ne (word_apart c h.0 (e ∙ h.1.1)))
+        (λ h. apart_letter c h.0 (e ∙ h.1.1)) place
 
     -- a letter at the place is one that no other kind has
     quiet_here : (t : ℕ) → letter_at t ≡ i → Quiet rule z xs j w t
-    quiet_here t e = ⊎_elim {C = Quiet rule z xs j w t} (λ h. absurd (omega (arith, h.1.1)))
+    quiet_here t e = ⊎_elim {C = Quiet rule z xs j w t} (λ h. absurd (apart_letter h.0 t (sym (e ∙ h.1.1))))
         (λ h. subst (Quiet rule z xs j w) (omega (arith, h.1.1)) h.1.2) place
 
     -- ---- the word becomes x, and the kind's world v

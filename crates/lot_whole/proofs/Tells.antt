@@ -29,7 +29,7 @@ use Rattle.lot_whole.specs.Family.{Which, lock, cond, sem, LotSize, away, meanin
 use Rattle.lot_whole.specs.Whole.{stand_of}
 use Rattle.lot_whole.specs.Lot.{own_of, LotWorld, PassOk, LotFits, LotPassIs}
 use Rattle.lot_whole.specs.Lifts.{Quiet}
-use Rattle.lot_whole.specs.Standing.{IsAwake, IsIdle, MayTake, MayLetGo, MayPark, MayTakePermit}
+use Rattle.lot_whole.specs.Standing.{IsAwake, IsIdle, MayTake, MayLetGo, MayLineUp, MayTakePermit}
 use Rattle.lot_whole.proofs.Family.{not_true, still}
 
 -- ---- points
@@ -113,12 +113,12 @@ module _ {V Part : Type 0} (rule : CallersRule V Part) (z : LotSize) (xs : List 
     pub idle_calm : IsIdle p → at ≡ Calm
     idle_calm idle = awake_calm idle.0 idle.1
 
-    pub may_park : (l : ℕ) → MayPark p l → StandsBefore w.whole t l
-    may_park l may = inl (wants_is at l (wants (may.0 lock) ∙ may.1))
+    pub may_line_up : (l : ℕ) → MayLineUp p l → StandsBefore w.whole t l
+    may_line_up l may = inl (wants_is at l (wants (may.0 lock) ∙ may.1))
 
     pub may_take : (l : ℕ) → MayTake p l → (at ≡ Calm) ⊎ StandsBefore w.whole t l
     may_take l may = ⊎_elim {C = (at ≡ Calm) ⊎ StandsBefore w.whole t l}
-        (λ h. inr (may_park l h))
+        (λ h. inr (may_line_up l h))
         (λ h. ⊎_elim {C = (at ≡ Calm) ⊎ StandsBefore w.whole t l} (λ idle. inl (awake_calm h.0 idle))
         (λ rest. inr (inr (rest.0, rest_is at rest.0 l (pass_ok.stand ∙ rest.1), in_no_line (out_none p.conds.out (h.0.up cond)) rest.0)))
         h.1)

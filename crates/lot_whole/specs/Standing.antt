@@ -38,8 +38,8 @@ module _ {V : Type 0} where
   MayLetGo p l = IsIdle p ⊎ ((p.locks.asleep ≡ false) × (p.locks.aim ≡ None) × ((c : ℕ) × (p.stand ≡ AtBed c l)))
 
   -- it may line up at l: it is up, and wants l
-  abbrev pub MayPark : LotPassView V → ℕ → Type 0
-  MayPark p l = IsUp p × (p.locks.aim ≡ Some l)
+  abbrev pub MayLineUp : LotPassView V → ℕ → Type 0
+  MayLineUp p l = IsUp p × (p.locks.aim ≡ Some l)
 
   -- it has lowered c's flag, and may sweep it
   abbrev pub MaySweep : LotPassView V → ℕ → Type 0

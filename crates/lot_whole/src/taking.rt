@@ -5,7 +5,7 @@ ghost use Rattle.lot_events.specs.declared.events.Seen.TheVariants.{Bool as Saw,
 ghost use Rattle.lot_rights.specs.declared.views.Access.TheVariants.{Makes};
 ghost use Rattle.lot_words.specs.Calls.{wanting, parked_pass, parked_root};
 ghost use Rattle.lot_whole.specs.Family.{lock};
-ghost use Rattle.lot_whole.specs.Standing.{IsIdle, MayTake, MayPark, IsLockRoot, as_lock};
+ghost use Rattle.lot_whole.specs.Standing.{IsIdle, MayTake, MayLineUp, IsLockRoot, as_lock};
 ghost use Rattle.lot_whole.specs.Calls.{NotesIn, FindsOf, RootIs, GetsBy};
 
 use crate::kind::{LotPass, LotRoot};
@@ -75,7 +75,7 @@ impl<V: Keeps> LotWords<V> {
     pub fn mark(&self, pass: LotPass<V>, key: usize) -> (LotPass<V>, bool)
         requires table { pass.table ≡ self.now.table }
         requires key { key < self.now.size.locks }
-        requires may { MayPark pass.own key }
+        requires may { MayLineUp pass.own key }
         ensures table { result.0.table ≡ pass.table }
         ensures entry { MatchBool result.1
             (NotesIn lock pass pass.own.locks (Makes (Mark pass.thread key) Done) result.0)
@@ -99,7 +99,7 @@ impl<V: Keeps> LotWords<V> {
     pub fn park(&self, pass: LotPass<V>, root: LotRoot<V>) -> (LotPass<V>, LotRoot<V>, bool)
         requires table { (pass.table ≡ self.now.table) × (root.table ≡ self.now.table) }
         requires lock { IsLockRoot root.own }
-        requires may { MayPark pass.own root.key }
+        requires may { MayLineUp pass.own root.key }
         ensures table { (result.0.table ≡ pass.table) × (result.1.table ≡ root.table) }
         ensures event { NotesIn lock pass (parked_pass pass.own.locks result.2)
             (Makes (Park pass.thread root.key) (Saw result.2)) result.0 }

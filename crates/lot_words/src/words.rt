@@ -1,7 +1,7 @@
 //! The table of lock words.
-ghost use Rattle.std.specs.Prelude.{◌≡◌, ◌<◌, ◌≤◌, vec_len, vec_capacity};
+ghost use Rattle.std.specs.Prelude.{◌≡◌, ◌<◌, ◌≤◌, vec_len, vec_capacity, ℕ, ◌^◌};
 ghost use Rattle.lot_core.specs.declared.state.TheConstants.{MAX_THREADS, MAX_KEYS};
-ghost use Rattle.lot_rights.specs.Layout.{word_count};
+ghost use Rattle.lot_rights.specs.Layout.{word_at};
 
 use crate::exclusive::Exclusive;
 use crate::keeps::Keeps;
@@ -28,7 +28,8 @@ pub struct LockWords<V: Keeps> {
     pub(crate) room: Exclusive<Vec<V>>,
     pub(crate) ghost some: { 0 < words.key.size.threads },
     pub(crate) ghost few: { (words.key.size.threads ≤ MAX_THREADS) × (words.key.size.locks ≤ MAX_KEYS) },
-    pub(crate) ghost words_are: { words.table.words ≡ word_count words.key.size.threads words.key.size.locks },
+    pub(crate) ghost near: { (k : ℕ) → k < words.key.size.locks → word_at k < words.table.words },
+    pub(crate) ghost small: { words.table.words < 2 ^ 64 },
     pub(crate) ghost slots_are: { words.table.slots ≡ words.key.size.locks },
     pub(crate) ghost room_fits: { (vec_len room.value ≡ 0) × (words.key.size.locks ≤ vec_capacity room.value) },
 }

@@ -13,7 +13,8 @@ returns-clause-visits g c =
       left,
       c.work-outcome.ensures,
       visits g.V.Keeps c.args.pass c.lock-pass.result.0 c.unlock-pass.result.0 c.args.key c.lock-pass.result.1 found.now left.now
-          c.requires.free gets c.value_mut.ensures.value (c.requires.keeps found c.work-outcome.result left kept c.work-outcome.ensures)
+          c.requires.not_owned gets c.value_mut.ensures.value
+          (c.requires.keeps found c.work-outcome.result left kept c.work-outcome.ensures)
           c.unlock-pass.ensures.pass c.unlock-pass.ensures.seen c.args.lot.now c.requires.key c.unlock-pass.ensures.shape,
     )
 
@@ -25,8 +26,8 @@ returns-clause-made g c =
     (ap (λ (p : PassView g.row.V.Denot). p.thread) gets.after_is) c.lock-pass.ensures.made c.unlock-pass.ensures.fits
     c.unlock-pass.ensures.made
 
-pub lock-pass-requires-clause-free : goal.lock-pass-requires-clause-free
-lock-pass-requires-clause-free g c κs within = search rules
+pub lock-pass-requires-clause-not_owned : goal.lock-pass-requires-clause-not_owned
+lock-pass-requires-clause-not_owned g c κs within = search rules
 
 pub work-outcome-requires : goal.work-outcome-requires
 work-outcome-requires g c = search rules

@@ -12,7 +12,7 @@ returns-clause-visits g c =
       rw (sym worked.3) at worked.1,
       visits g.V.Keeps c.args.pass c.lock-pass.result.0 c.unlock-pass.result.0 c.args.key c.lock-pass.result.1
           c.lock-pass.result.1.value worked.0.0
-          c.requires.free gets refl (c.requires.keeps c.lock-pass.result.1.value worked.0 gets.kept worked.1)
+          c.requires.not_owned gets refl (c.requires.keeps c.lock-pass.result.1.value worked.0 gets.kept worked.1)
           (rw worked.2 at c.unlock-pass.ensures.pass)
           (rw worked.2 at c.unlock-pass.ensures.seen) c.args.lot.now c.requires.key c.unlock-pass.ensures.shape,
     )
@@ -26,8 +26,8 @@ returns-clause-made g c =
     (ap (λ (p : PassView g.row.V.Denot). p.thread) gets.after_is) c.lock-pass.ensures.made c.unlock-pass.ensures.fits
     (rw worked.2 at c.unlock-pass.ensures.made)
 
-pub lock-pass-requires-clause-free : goal.lock-pass-requires-clause-free
-lock-pass-requires-clause-free g c κs within = search rules
+pub lock-pass-requires-clause-not_owned : goal.lock-pass-requires-clause-not_owned
+lock-pass-requires-clause-not_owned g c κs within = search rules
 
 pub replace_with-held-requires : goal.replace_with-held-requires
 replace_with-held-requires g c = search rules

@@ -2,4 +2,4 @@ use Rattle.std.proofs.lemmas.List.{take-replicate}
 use Rattle.lot_rights.proofs.opening.zeros.Goals as goal
 
 pub returns : goal.returns
-returns c = take-replicate c.args.count 2056 0 c.requires
+returns c = take-replicate c.args.count 2064 0 c.requires

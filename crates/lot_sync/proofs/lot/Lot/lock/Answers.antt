@@ -1,7 +1,7 @@
 use Rattle.lot_sync.proofs.lot.Lot.lock.Goals as goal
 
-pub lock_after-requires-clause-free : goal.lock_after-requires-clause-free
-lock_after-requires-clause-free g c κs within = c.requires.free
+pub lock_after-requires-clause-not_owned : goal.lock_after-requires-clause-not_owned
+lock_after-requires-clause-not_owned g c κs within = c.requires.not_owned
 
 pub returns-clause-gets : goal.returns-clause-gets
 returns-clause-gets g c = c.lock_after.ensures.gets

@@ -1,7 +1,7 @@
-use Rattle.std.proofs.Common.{◌≡◌, ◌+◌, ◌<◌, ◌≤◌, sym, subst, ap, arith}
-use Rattle.lot_waits.specs.Counts.{AreKept, counts_in, called_more}
+use Rattle.std.proofs.Common.{◌≡◌, ◌+◌, ◌<◌, ◌≤◌, arith}
+use Rattle.lot_waits.specs.Counts.{counts_in}
 use Rattle.lot_sync.specs.Words.{NotifyAllWord}
-use Rattle.lot_sync.proofs.Calls.{took_all, rests_called, sees_more}
+use Rattle.lot_sync.proofs.Calls.{kept_called, took_all, rests_called, sees_more}
 use Rattle.lot_sync.proofs.lot.Lot.notify_all.Goals as goal
 
 pub at_rest-requires-clause-rest : goal.at_rest-requires-clause-rest
@@ -18,21 +18,14 @@ at_rest-requires-clause-kept g c κs within =
     let conds = c.parking.ensures.keys.1 in
     let from = c.requires.cond.0 in
     let below = c.requires.cond.1 in
-    let told =
-    took_all c.apart-right.result.0 c.notify_all-right.result.0 c.args.cond c.notify_all-right.result.1 c.notify_all-right.ensures.pass in
-    subst
-    (λ n. AreKept g.N.LotName.locks g.N.LotName.conds n c.count_taken-tallies.result.value.called.items
-    c.count_taken-tallies.result.value.woken.items)
-    (sym (ap counts_in told.is))
-    (subst
-    (λ n. AreKept n g.N.LotName.conds (called_more (counts_in c.apart-right.result.0) c.args.cond c.notify_all-right.result.1)
-    c.count_taken-tallies.result.value.called.items c.count_taken-tallies.result.value.woken.items) own
+    kept_called g.N.LotName.locks _ g.N.LotName.conds (λ t. NotifyAllWord t c.args.cond c.notify_all-right.result.1)
+    c.apart-right.result.0 c.notify_all-right.result.0 c.args.cond c.notify_all-right.result.1
+    c.apart-right.result.1.value.called.items c.apart-right.result.1.value.woken.items c.count_taken-tallies.result.value.called.items
+    c.count_taken-tallies.result.value.woken.items own
+    (took_all c.apart-right.result.0 c.notify_all-right.result.0 c.args.cond c.notify_all-right.result.1 c.notify_all-right.ensures.pass)
+    c.apart-right.ensures.kept
     (c.count_taken-tallies.ensures g.N.LotName.conds (counts_in c.apart-right.result.0)
-    (omega (arith, own, locks, from), omega (arith, own, locks, below, conds))
-    (subst
-    (λ n. AreKept n g.N.LotName.conds (counts_in c.apart-right.result.0) c.apart-right.result.1.value.called.items
-    c.apart-right.result.1.value.woken.items) (sym own)
-    c.apart-right.ensures.kept)))
+    (omega (arith, own, locks, from), omega (arith, own, locks, below, conds)))
 
 pub returns-clause-counted : goal.returns-clause-counted
 returns-clause-counted g c =

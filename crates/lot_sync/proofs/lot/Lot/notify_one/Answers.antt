@@ -1,8 +1,8 @@
-use Rattle.std.proofs.Common.{◌≡◌, ◌+◌, ◌<◌, ◌≤◌, sym, subst, ap, arith}
-use Rattle.lot_waits.specs.Counts.{AreKept, counts_in, called_more}
+use Rattle.std.proofs.Common.{◌≡◌, ◌+◌, ◌<◌, ◌≤◌, sym, subst, arith}
+use Rattle.lot_waits.specs.Counts.{counts_in}
 use Rattle.lot_waits.specs.Notifying.{one_if}
 use Rattle.lot_sync.specs.Words.{NotifyWord}
-use Rattle.lot_sync.proofs.Calls.{took_some, rests_called, sees_more, sees_called_one}
+use Rattle.lot_sync.proofs.Calls.{TookMore, kept_called, took_some, rests_called, sees_more, sees_called_one}
 use Rattle.lot_sync.proofs.lot.Lot.notify_one.Goals as goal
 
 pub at_rest-requires-clause-rest : goal.at_rest-requires-clause-rest
@@ -20,26 +20,18 @@ at_rest-requires-clause-kept g c κs within =
     let conds = c.parking.ensures.keys.1 in
     let from = c.requires.cond.0 in
     let below = c.requires.cond.1 in
-    let n = one_if c.notify_one-right.result.1 in
-    let told = took_some c.apart-right.result.0 c.notify_one-right.result.0 c.args.cond 1 n c.notify_one-right.ensures.pass in
-    subst
-    (λ q. AreKept g.N.LotName.locks g.N.LotName.conds q c.count_taken-tallies.result.value.called.items
-    c.count_taken-tallies.result.value.woken.items)
-    (sym (ap counts_in told.is))
+    kept_called g.N.LotName.locks _ g.N.LotName.conds (λ t. NotifyWord t c.args.cond 1 (one_if c.notify_one-right.result.1))
+    c.apart-right.result.0 c.notify_one-right.result.0 c.args.cond c.number_of.result
+    c.apart-right.result.1.value.called.items c.apart-right.result.1.value.woken.items c.count_taken-tallies.result.value.called.items
+    c.count_taken-tallies.result.value.woken.items own
     (subst
-    (λ k. AreKept g.N.LotName.locks g.N.LotName.conds
-    (called_more (counts_in c.apart-right.result.0) c.args.cond k) c.count_taken-tallies.result.value.called.items
-    c.count_taken-tallies.result.value.woken.items) c.number_of.ensures
-    (subst
-    (λ m. AreKept m g.N.LotName.conds (called_more (counts_in c.apart-right.result.0) c.args.cond c.number_of.result)
-    c.count_taken-tallies.result.value.called.items
-    c.count_taken-tallies.result.value.woken.items) own
+    (λ k. TookMore (λ t. NotifyWord t c.args.cond 1 (one_if c.notify_one-right.result.1))
+    c.apart-right.result.0 c.args.cond k c.notify_one-right.result.0) (sym c.number_of.ensures)
+    (took_some c.apart-right.result.0 c.notify_one-right.result.0 c.args.cond 1
+    (one_if c.notify_one-right.result.1) c.notify_one-right.ensures.pass))
+    c.apart-right.ensures.kept
     (c.count_taken-tallies.ensures g.N.LotName.conds (counts_in c.apart-right.result.0)
-    (omega (arith, own, locks, from), omega (arith, own, locks, below, conds))
-    (subst
-    (λ m. AreKept m g.N.LotName.conds (counts_in c.apart-right.result.0) c.apart-right.result.1.value.called.items
-    c.apart-right.result.1.value.woken.items) (sym own)
-    c.apart-right.ensures.kept))))
+    (omega (arith, own, locks, from), omega (arith, own, locks, below, conds)))
 
 pub returns-clause-counted : goal.returns-clause-counted
 returns-clause-counted g c =

@@ -93,16 +93,19 @@ invariant_of-result g c =
       (
         (subst (λ n. n ≤ MAX_THREADS) (sym threads) limits.1, subst (λ n. n ≤ MAX_KEYS) (sym locks) limits.3),
         (
-          table.0 ∙ (λ i. word_count (sym threads i) (keys i)),
+          (λ k below. c.in-Ok-open.ensures.near.1 k (subst (λ n. k < n) (sym keys) below)),
           (
-            table.1 ∙ (long ∙ sym locks),
+            c.in-Ok-open.ensures.near.0,
             (
+              table.1 ∙ (long ∙ sym locks),
               (
-                ap (λ v. vec_len v) c.new.ensures ∙ c.shelve.ensures.room.0,
-                subst (λ n. n ≤ vec_capacity c.new.result.value) (sym locks)
-                    (subst (λ n. vec_len c.args.values ≤ n) room fits),
+                (
+                  ap (λ v. vec_len v) c.new.ensures ∙ c.shelve.ensures.room.0,
+                  subst (λ n. n ≤ vec_capacity c.new.result.value) (sym locks)
+                      (subst (λ n. vec_len c.args.values ≤ n) room fits),
+                ),
+                tt,
               ),
-              tt,
             ),
           ),
         ),
