@@ -3,7 +3,7 @@ use Rattle.std.specs.Prelude.{◌≡◌, ℕ, ◌<◌, List, length}
 use Rattle.std.specs.List.{All, Any}
 use Rattle.lot_words.specs.CallersRule.{CallersRule}
 use Rattle.lot_sync.specs.Lot.{LotNames, LotView, PassView, OwnsNone, HasShape, HasGrown, IsLedgerOf, rested}
-use Rattle.lot_sync.specs.Values.{GoesOnTo}
+use Rattle.lot_sync.specs.Values.{GoesOnTo, AreSeen}
 use Rattle.lot_sync.specs.Closing.{HasOneRun}
 
 module _ {V Part : Type 0} (rule : CallersRule V Part) where
@@ -22,11 +22,12 @@ module _ {V Part : Type 0} (rule : CallersRule V Part) where
     pub all : (t : ℕ) → t < lot.threads → Any (λ (p : PassView V). p.thread ≡ t) passes
     pub ready : All (IsReady opening lot) passes
 
-  -- the passes of all threads were taken out of the lot: the values go on from all that each had seen, the ledger is that of what they had
-  -- counted, and what was made with them is one run of the whole model
+  -- the passes of all threads were taken out of the lot: the values go on from all that each had seen, and some pass saw each last; the
+  -- ledger is that of what they had counted; and what was made with them is one run of the whole model
   pub record IsFinished (names : LotNames V) (lot : LotView) (values : List V) (called woken : List ℕ) : Type 0 where
     pub passes : List (PassView V)
     pub taken : AreTaken names.values lot passes
     pub goes_on : All (GoesOnTo rule values) passes
+    pub seen : AreSeen values passes
     pub ledger : IsLedgerOf lot passes called woken
     pub history : HasOneRun names passes

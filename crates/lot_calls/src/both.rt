@@ -22,7 +22,7 @@ pub fn with_both<V: Keeps + Send, O, N: LotName<V> + Send, T: Wait, F: FnOnce(&m
     work: F,
 ) -> (Pass<V, N>, O)
     requires keys { (first < lot.now.locks) × (second < lot.now.locks) × (second ≢ first) }
-    requires free { (¬ Owns pass first) × ¬ Owns pass second }
+    requires not_owned { (¬ Owns pass first) × ¬ Owns pass second }
     requires callable { (v w : _) → V.keeps first v.now → V.keeps second w.now → F.pre work v w }
     requires keeps { (v w o x y : _) → V.keeps first v.now → V.keeps second w.now → F.post work v w o x y
         → MayBecome V.Keeps first pass.thread v.now x.now × MayBecome V.Keeps second pass.thread w.now y.now }
@@ -66,7 +66,7 @@ fn with_two<V: Keeps + Send, O, N: LotName<V> + Send, T: Wait, F: FnOnce(&mut V,
     work: F,
 ) -> (Pass<V, N>, O)
     requires keys { (first < lot.now.locks) × (second < lot.now.locks) × (second ≢ first) }
-    requires free { (¬ Owns pass first) × ¬ Owns pass second }
+    requires not_owned { (¬ Owns pass first) × ¬ Owns pass second }
     requires callable { (v w : _) → V.keeps first v.now → V.keeps second w.now → F.pre work v w }
     requires keeps { (v w o x y : _) → V.keeps first v.now → V.keeps second w.now → F.post work v w o x y
         → MayBecome V.Keeps first pass.thread v.now x.now × MayBecome V.Keeps second pass.thread w.now y.now }

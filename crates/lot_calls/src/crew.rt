@@ -4,6 +4,7 @@ ghost use Rattle.std.specs.Prelude.{◌≡◌, vec_len, vec_capacity, IsSomeAnd}
 ghost use Rattle.std.specs.List.{All};
 ghost use Rattle.std.specs.Thread.{IsSync, IsSend};
 ghost use Rattle.lot_sync.specs.Lot.{IsLedgerOf};
+ghost use Rattle.lot_sync.specs.Values.{AreSeen};
 ghost use Rattle.lot_sync.specs.Closing.{HasOneRun};
 ghost use Rattle.lot_calls.specs.Workers.{EachBecomes, AreBack, EndsIn};
 
@@ -71,7 +72,7 @@ fn work_here<P, F: Fn(P) -> P>(work: &F, here: &mut Option<P>)
 }
 
 /// Closes the lot with the passes of all threads: `let (values, ledger) = close_with(rt, lot, passes);`. What each pass
-/// had seen ended in the values.
+/// had seen ended in the values, and some pass saw each of them last.
 pub fn close_with<V: Keeps + Send, N: LotName<V> + Send, T: Wait>(
     rt: &T,
     lot: Lot<V, N>,
@@ -80,6 +81,7 @@ pub fn close_with<V: Keeps + Send, N: LotName<V> + Send, T: Wait>(
     requires back { AreBack lot passes.items }
     ensures count { vec_len result.0 ≡ lot.locks }
     ensures ends { All (EndsIn V.Keeps result.0.items) passes.items }
+    ensures seen { AreSeen result.0.items passes.items }
     ensures ledger { IsLedgerOf lot passes.items result.1.called.items result.1.woken.items }
     ensures history { HasOneRun N.LotName passes.items }
 {

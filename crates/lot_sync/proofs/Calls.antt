@@ -1,6 +1,6 @@
 -- What the callers of waits, notifications and permits see, and how the pass stands then.
-use Rattle.std.proofs.Common.{◌≡◌, ◌≢◌, ℕ, ◌+◌, ◌<◌, ◌≤◌, ◌⊎◌, Bool, true, false, MatchBool, List, [], ◌∷◌, ◌++◌, suc, length, map, set}
-use Rattle.std.proofs.Common.{get_or, slice_index, inl, inr, Some, None, refl, sym, ap, subst, ◌∙◌, length-set, arith}
+use Rattle.std.proofs.Common.{◌≡◌, ℕ, ◌+◌, ◌<◌, Bool, true, false, MatchBool, List, [], ◌∷◌, length, map, set}
+use Rattle.std.proofs.Common.{slice_index, inl, inr, refl, sym, ap, subst, ◌∙◌, length-set, arith}
 use Rattle.std.proofs.lemmas.List.{get_or-set_same, map-set, length-map}
 use mathlib.Core.Option.{some}
 use lib.ListN.{get_elem?}
@@ -9,9 +9,7 @@ use Rattle.lot_rights.specs.declared.views.Access.{Access}
 use Rattle.lot_words.specs.declared.views.Hold.TheVariants.{NotHeld, Held}
 use Rattle.lot_words.specs.declared.views.Place.TheVariants.{InSlot}
 use Rattle.lot_words.specs.CallersRule.{CallersRule}
-use Rattle.lot_words.specs.World.{Holds}
-use Rattle.lot_words.specs.Values.{IsIn, IsOut, HasSeen}
-use Rattle.lot_words.specs.Calls.{owning as lock_owning}
+use Rattle.lot_words.specs.Values.{IsIn, HasSeen}
 use Rattle.lot_whole.specs.Family.{lock, cond, sem}
 use Rattle.lot_whole.specs.Standing.{IsUp}
 use Rattle.lot_rights.specs.declared.views.Access.TheVariants.{Finds}
@@ -32,7 +30,7 @@ use Rattle.lot_sync.specs.Lot.{one_wait_more as view_one_wait_more, called_more 
 use Rattle.lot_sync.specs.Lot.{one_permit_more as view_one_permit_more, one_permit_less as view_one_permit_less}
 use Rattle.lot_sync.specs.Permits.{TriesToGet}
 use Rattle.lot_sync.specs.Words.{Adds, NobodyWord, NotifyWord, NotifyAllWord, TryPermitWord}
-use Rattle.lot_sync.specs.Passes.{is_held, pass_view_of, IsOfLot, IsAtRest, IsNewOwner}
+use Rattle.lot_sync.specs.Passes.{is_held, pass_view_of, IsAtRest, IsNewOwner}
 use Rattle.lot_sync.specs.Values.{Gets}
 use Rattle.lot_sync.proofs.Adding.{alike_at, adds_at}
 use Rattle.lot_sync.proofs.Rests.{sees_as, sees_stays, one_lies, left_at_rest, owns_so, owns_after, rests_on}

@@ -1,6 +1,8 @@
 -- Passes that come back to close their lot, and what they tell of its run.
-use Rattle.std.proofs.Common.{◌≡◌, ℕ, ◌*◌, ◌<◌, false, List, [], ◌∷◌, ◌++◌, map, slice_get, Option, Some, None, refl, sym, ap, subst}
-use Rattle.std.proofs.Common.{◌∙◌}
+use Rattle.std.proofs.Common.{◌≡◌, ℕ, ◌*◌, ◌<◌, zero, suc, false, List, [], ◌∷◌, ◌++◌, map, slice_get, Option, Some, None}
+use Rattle.std.proofs.Common.{refl, sym, ap, subst, ◌∙◌, ⊎_elim, arith}
+use mathlib.Core.Option.{some}
+use lib.ListN.{get_elem?}
 use Rattle.std.specs.Prelude.{is_some}
 use Rattle.std.specs.List.{All, Any}
 use Rattle.std.proofs.lemmas.List.Elements.{All-weaker, All-map}
@@ -8,6 +10,7 @@ use Rattle.atomic_table.specs.Seated.{TableId}
 use Rattle.lot_rights.specs.declared.views.Entry.{Entry}
 use Rattle.lot_rights.specs.History.{entries_of}
 use Rattle.lot_rights.specs.Shown.{PassShown, RootShown}
+use Rattle.lot_rights.proofs.Totals.{any_cases}
 use Rattle.lot_rights.proofs.Turns.{some_at}
 use Rattle.lot_table.specs.Roots.{Appends}
 use Rattle.lot_words.specs.CallersRule.{CallersRule}
@@ -19,7 +22,7 @@ use Rattle.lot_whole.specs.Order.{accesses_of}
 use Rattle.lot_scheme.specs.Roots.{root_view}
 use Rattle.lot_scheme.specs.Standing.{LotStanding, standing}
 use Rattle.lot_waits.specs.Counts.{counts_shown}
-use Rattle.lot_sync.specs.Lot.{LotNames, PassView, Owns, OwnsNone, counts_of}
+use Rattle.lot_sync.specs.Lot.{LotNames, PassView, Owns, OwnsNone, HasSeen, counts_of}
 use Rattle.lot_sync.specs.Passes.{pass_view_of, pass_view_shown, IsAtRest, IsFree}
 use Rattle.lot_sync.specs.Values.{GoesOnTo}
 use Rattle.lot_sync.proofs.Rests.{held_owned}
@@ -61,6 +64,17 @@ goes_on {V} rule values rights found = All-map (GoesOnTo rule values) pass_view_
       grown = λ key u v at seen. (is key v at).grown u seen;
       mine = λ key u v at seen. (is key v at).mine u seen;
     }) rights found)
+
+-- what one of the passes has seen of a value, as passes are seen
+pub some_seen : {V : Type 0} (key : ℕ) (v : V) (rights : List (PassShown (LotPassView V)))
+    → Any (λ (p : PassShown (LotPassView V)). get_elem? p.own.locks.seen key ≡ some v) rights
+    → Any (λ (p : PassView V). HasSeen p key v) (map pass_view_shown rights)
+some_seen key v [] (k, p, near, is, holds) = absurd (omega (arith, near))
+some_seen {V} key v (p ∷ ps) one =
+    ⊎_elim {C = Any (λ (q : PassView V). HasSeen q key v) (map pass_view_shown (p ∷ ps))}
+    (λ here. (zero, pass_view_shown p, omega arith, refl, here))
+    (λ later. let (k, q, near, is, holds) = some_seen key v ps later in (suc k, q, omega (arith, near), is, holds))
+    (any_cases (λ (q : PassShown (LotPassView V)). get_elem? q.own.locks.seen key ≡ some v) p ps one)
 
 -- the root of each key has come back
 pub each_root : (k keys : ℕ) (before after : List (RootShown LotRootView)) → Appends root_view keys before after → before ≡ [] → k < keys

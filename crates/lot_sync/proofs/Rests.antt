@@ -1,5 +1,5 @@
 -- A pass gets a lock and lets it go, and is at rest again; and what its callers see of that.
-use Rattle.std.proofs.Common.{◌≡◌, ◌≢◌, ℕ, ◌+◌, ◌<◌, Bool, true, false, List, [], ◌∷◌, ◌++◌, zero, suc, length, map, set, get_or, None}
+use Rattle.std.proofs.Common.{◌≡◌, ◌≢◌, ℕ, ◌<◌, Bool, true, false, List, [], ◌∷◌, ◌++◌, zero, suc, length, map, set, get_or, None}
 use Rattle.std.proofs.Common.{refl, sym, ap, subst, ◌∙◌, ⊎_elim, length-set, arith}
 use Rattle.std.proofs.lemmas.List.{get_or-set_same, get_or-set_other, map-set, set-get_or}
 use mathlib.Core.Option.{some, some-injective}
@@ -18,14 +18,14 @@ use Rattle.lot_words.specs.declared.views.Place.TheVariants.{InSlot, Out}
 use Rattle.lot_words.specs.CallersRule.{CallersRule}
 use Rattle.lot_words.specs.World.{IsHeld, Holds}
 use Rattle.lot_words.specs.Values.{IsOut, IsIn, FoundOk, HasSeen, MayLeave}
-use Rattle.lot_words.specs.Calls.{owning as lock_owning, letting_go as lock_letting_go, finding_parked as lock_finding_parked}
+use Rattle.lot_words.specs.Calls.{owning as lock_owning}
 use Rattle.lot_whole.specs.declared.views.LotPassView.{LotPassView}
 use Rattle.lot_whole.specs.declared.views.Stand.TheVariants.{Idle}
 use Rattle.lot_whole.specs.Standing.{IsIdle, IsUp}
 use Rattle.lot_whole.specs.Whole.{rises}
 use Rattle.lot_scheme.specs.Standing.{LotStanding, adding, placing, letting_go, finding_parked, owning as owning_now}
 use Rattle.lot_locks.specs.declared.released.Released.{Released}
-use Rattle.lot_locks.specs.Standing.{GetsBy, GoesBy, IsOwner, LetsGo, IsFoundParked, MissesBy}
+use Rattle.lot_locks.specs.Standing.{GetsBy, GoesBy, LetsGo, IsFoundParked}
 use Rattle.lot_locks.proofs.Adding.{up_then}
 use Rattle.lot_locks.proofs.Freed.{held_near}
 use Rattle.lot_sync.specs.Lot.{PassView, HeldView, ◌≈◌, LotNames, Owns, owning, letting_go as view_letting_go}

@@ -1,5 +1,6 @@
 -- What is said of values: what an owner finds in a lock, and what he may give back.
 use Rattle.std.specs.Prelude.{◌≡◌, ◌≢◌, ℕ, List, Some, slice_get}
+use Rattle.std.specs.List.{Any}
 use Rattle.lot_words.specs.CallersRule.{CallersRule}
 use Rattle.lot_sync.specs.Lot.{PassView, HeldView, ◌≈◌, Owns, HasSeen, owning, letting_go, one_wait_more}
 
@@ -33,3 +34,7 @@ module _ {V Part : Type 0} (rule : CallersRule V Part) where
     pub kept : (key : ℕ) (v : V) → slice_get values key ≡ Some v → rule.keeps key v
     pub grown : (key : ℕ) (u v : V) → slice_get values key ≡ Some v → HasSeen p key u → rule.grows u v
     pub mine : (key : ℕ) (u v : V) → slice_get values key ≡ Some v → HasSeen p key u → rule.part p.thread u ≡ rule.part p.thread v
+
+-- each value is one that some pass saw last under its lock
+abbrev pub AreSeen : {V : Type 0} → List V → List (PassView V) → Type 0
+AreSeen {V} values passes = (key : ℕ) (v : V) → slice_get values key ≡ Some v → Any (λ (p : PassView V). HasSeen p key v) passes

@@ -8,7 +8,7 @@ ghost use Rattle.lot_waits.specs.Counts.{counts_shown};
 ghost use Rattle.lot_waits.specs.Ledger.{AreTallied, AreZeros};
 ghost use Rattle.lot_sync.specs.Lot.{PassView, OwnsNone, IsLedgerOf};
 ghost use Rattle.lot_sync.specs.Passes.{pass_view_shown, IsFree};
-ghost use Rattle.lot_sync.specs.Values.{GoesOnTo};
+ghost use Rattle.lot_sync.specs.Values.{GoesOnTo, AreSeen};
 ghost use Rattle.lot_sync.specs.Closing.{HasOneRun};
 
 use crate::lot::Lot;
@@ -20,8 +20,9 @@ use lot_words::Keeps;
 use std::sync::Wait;
 
 impl<V: Keeps + Send, N: LotName<V> + Send> Lot<V, N> {
-    /// Ends the lot, with all its passes. The answer has the value of each lock, in order, and what the passes counted
-    /// for each condition. One run of the whole model was made with these passes, from the opening to a sound state.
+    /// Ends the lot, with all its passes. The answer has the value of each lock, in order, as some pass saw it last, and
+    /// what the passes counted for each condition. One run of the whole model was made with these passes, from the
+    /// opening to a sound state.
     ///
     /// Passes that are in are had by `take_left`.
     pub fn close<R: Wait>(self, rt: &R, passes: Vec<Pass<V, N>>) -> (Vec<V>, Ledger)
@@ -30,6 +31,7 @@ impl<V: Keeps + Send, N: LotName<V> + Send> Lot<V, N> {
         requires free { All OwnsNone passes.items }
         ensures count { vec_len result.0 ≡ self.locks }
         ensures values { All (GoesOnTo V.Keeps result.0.items) passes.items }
+        ensures seen { AreSeen result.0.items passes.items }
         ensures ledger { IsLedgerOf self passes.items result.1.called.items result.1.woken.items }
         ensures history { HasOneRun N.LotName passes.items }
     {

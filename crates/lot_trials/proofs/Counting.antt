@@ -1,6 +1,6 @@
 -- One wait and one notification: what the passes end as, and what a ledger of both tells.
 use Rattle.std.proofs.Common.{◌≡◌, ◌≢◌, ℕ, ◌+◌, ◌<◌, List, [], ◌∷◌, ◌++◌, length, slice_index, slice_index_or, slice_set, sum_by, true}
-use Rattle.std.proofs.Common.{false, refl, sym, ap, subst, ◌∙◌, arith}
+use Rattle.std.proofs.Common.{false, refl, sym, ap, subst, ◌∙◌, ⊎_elim, arith}
 use Rattle.std.proofs.lemmas.List.{length-set, get_or-set_same}
 use Rattle.std.proofs.lemmas.List.Sums.{sum_by-cons}
 use Rattle.std.specs.List.{All, Any}
@@ -11,12 +11,19 @@ use native.Mathlib.Decide.{ℕ_discrete}
 use Rattle.lot_words.specs.CallersRule.{CallersRule}
 use Rattle.lot_waits.specs.Counts.{CountsView, wrap}
 use Rattle.lot_waits.specs.Ledger.{AreSums, called_at, woken_at}
+use Rattle.lot_rights.proofs.Totals.{any_cases}
 use Rattle.lot_rights.proofs.Turns.{no_elements}
-use Rattle.lot_sync.specs.Lot.{LotView, PassView, HeldView, ◌≈◌, OwnsNone, HasShape, IsLedgerOf, counts_of, letting_go, one_wait_more}
-use Rattle.lot_sync.specs.Lot.{called_more}
-use Rattle.lot_sync.specs.Values.{Gets, WaitsAndGets}
+use Rattle.lot_sync.specs.Lot.{LotView, PassView, HeldView, ◌≈◌, OwnsNone, HasSeen, HasShape, IsLedgerOf, counts_of, letting_go}
+use Rattle.lot_sync.specs.Lot.{one_wait_more, called_more}
+use Rattle.lot_sync.specs.Values.{Gets, WaitsAndGets, AreSeen}
 use Rattle.lot_sync.proofs.Holdings.{owns_none_again}
 use Rattle.lot_trials.specs.Counting.{HasCountedNone, EndsAs}
+
+same_seen : {V : Type 0} (p : PassView V) (v x : V) → HasSeen p 0 v → HasSeen p 0 x → v ≡ x
+same_seen p v x saw has = cc
+
+none_has : {A : Type 0} {P : A → Type 0} → Any P [] → ⊥
+none_has (k, y, near, is, holds) = omega (arith, near)
 
 -- what is counted does not change what is owned
 none_still : {V : Type 0} (p q : PassView V) → q.owns ≡ p.owns → q.permits ≡ p.permits → OwnsNone p → OwnsNone q
@@ -124,6 +131,20 @@ module _ {V : Type 0} where
       ∙ (ap (λ vs. vs ++ pair.1 ∷ []) one
       ∙ (ap (λ vs. (vs ++ pair.0 ∷ []) ++ pair.1 ∷ []) (no_elements xs none)
       ∙ (ap (λ v. v ∷ pair.1 ∷ []) same.0 ∙ ap (λ v. a ∷ v ∷ []) same.1)))
+
+  -- a pass that was pushed, where none was before
+  pub alone : (xs ys : List (PassView V)) (p : PassView V) → length xs ≡ 0 → ys ≡ xs ++ p ∷ [] → ys ≡ p ∷ []
+  alone xs ys p none one = one ∙ ap (λ vs. vs ++ p ∷ []) (no_elements xs none)
+
+  -- one value that comes back is what the one pass saw last
+  pub only_value : (values : List V) (ps : List (PassView V)) (p : PassView V) (x : V) → length values ≡ 1 → ps ≡ p ∷ []
+      → AreSeen values ps → HasSeen p 0 x → values ≡ x ∷ []
+  only_value [] ps p x long are seen has = absurd (omega (arith, long))
+  only_value (v ∷ w ∷ vs) ps p x long are seen has = absurd (omega (arith, long))
+  only_value (v ∷ []) ps p x long are seen has =
+      let some_saw = subst (Any (λ (q : PassView V). HasSeen q 0 v)) are (seen 0 v refl) in
+      ⊎_elim {C = v ∷ [] ≡ x ∷ []} (λ saw. ap (λ y. y ∷ []) (same_seen p v x saw has)) (λ nobody. absurd (none_has nobody))
+      (any_cases (λ (q : PassView V). HasSeen q 0 v) p [] some_saw)
 
   -- it is of the thread that it was of
   pub same_thread : (lot : LotView) (wanted after : PassView V) → EndsAs lot wanted after → after.thread ≡ wanted.thread

@@ -1,14 +1,11 @@
 -- A pass that came back to `close` shows the accesses that were made with it: so those by which it let a lock go stand in the one run of
 -- its lot.
-use Rattle.std.proofs.Common.{◌≡◌, ℕ, ◌*◌, ◌<◌, true, false, List, [], ◌∷◌, ◌++◌, refl, sym, ap, subst, ◌∙◌, append_assoc, inl, inr}
+use Rattle.std.proofs.Common.{◌≡◌, ℕ, ◌*◌, ◌<◌, true, false, List, [], ◌∷◌, ◌++◌, sym, ap, subst, ◌∙◌, append_assoc, inl, inr}
 use Rattle.std.specs.List.{All, Any}
 use Rattle.std.proofs.lemmas.List.Elements.{All-nil, All-cons}
 use Rattle.lot_core.specs.Sound.{IsSound}
-use Rattle.lot_events.specs.declared.events.Event.{Event}
 use Rattle.lot_events.specs.declared.events.Event.TheVariants.{Free, Pass}
-use Rattle.lot_events.specs.declared.events.Seen.{Seen}
 use Rattle.lot_events.specs.declared.events.Seen.TheVariants.{Bool as Saw, Sleeper}
-use Rattle.lot_rights.specs.declared.views.Access.{Access}
 use Rattle.lot_rights.specs.declared.views.Access.TheVariants.{Makes}
 use Rattle.lot_rights.specs.declared.views.Entry.{Entry}
 use Rattle.lot_rights.specs.History.{events_in}

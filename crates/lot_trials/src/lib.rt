@@ -28,6 +28,8 @@ mod passes;
 #[cfg(test)]
 mod permits;
 #[cfg(test)]
+mod returned;
+#[cfg(test)]
 mod rows;
 #[cfg(test)]
 mod runs;

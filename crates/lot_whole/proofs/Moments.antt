@@ -75,6 +75,8 @@ module _ {V Part : Type 0} (rule : CallersRule V Part) (z : LotSize) (xs : List 
         words = λ j c is. ok.keys j c is
             ∙ (key_told j c is ∙ (ap (λ p. (meaning_of rule z xs j).word_in p c) (sym (ok.agrees j))
             ∙ sym (word_is rule z xs j here.world.whole c is)));
+        parts = ok.agrees;
+        stands = λ t near. (ok.passes t near).stand;
         history = one_run z (events_in here.log) here.world.whole ok.reached (has_one_run (lot_meaning rule z xs) s here).model;
         one_line = one_line here.world.whole (reached_sound here.world.whole ok.reached);
         one_letter = λ t near. (ok.passes t near).apart;

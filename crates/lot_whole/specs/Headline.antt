@@ -1,5 +1,5 @@
--- What a lot's table promises: at every moment there is one sound state of the whole model that the words stand for,
--- and the history without its notices is one run of the model, from the opening to it.
+-- What a lot's table promises: at every moment there is one sound state of the whole model that words and rights stand
+-- for, and the history without its notices is one run of the model, from the opening to it.
 use Rattle.std.specs.Prelude.{◌≡◌, ℕ, ◌<◌, true, List, map, slice_index, Option}
 use Rattle.std.specs.List.{Contains}
 use Rattle.atomic_table.specs.Table.{State}
@@ -19,8 +19,8 @@ use Rattle.lot_conds.specs.Headline.{LettersFit as CondLettersFit, IsBalanced}
 use Rattle.lot_sems.specs.World.{LettersFit as SemLettersFit}
 use Rattle.lot_whole.specs.declared.views.LotPassView.{LotPassView}
 use Rattle.lot_whole.specs.declared.views.LotRootView.{LotRootView}
-use Rattle.lot_whole.specs.Family.{Which, lock, cond, sem, LotSize, IsKeyIn, away}
-use Rattle.lot_whole.specs.Whole.{WholeStep, word_in, line_in, opening_of}
+use Rattle.lot_whole.specs.Family.{Which, lock, cond, sem, LotSize, IsKeyIn, meaning_of, part_in, away}
+use Rattle.lot_whole.specs.Whole.{WholeStep, word_in, line_in, stand_of, opening_of}
 use Rattle.lot_whole.specs.Lot.{own_of, lot_meaning}
 
 -- a thread is in one line at most, of all keys of all kinds
@@ -45,6 +45,9 @@ module _ {V Part : Type 0} (rule : CallersRule V Part) (z : LotSize) (xs : List 
     pub state : World
     -- the words of all keys stand for it
     pub words : (j : Which) (c : ℕ) → IsKeyIn z j c → slice_index s.words (word_at c) ≡ word_in z state c
+    -- and so do the rights: its part of each kind is what that kind's world tells, and each thread stands as its pass says
+    pub parts : (j : Which) → part_in rule z xs j state ≡ ((meaning_of rule z xs j).told_by (here.world.each j)).part
+    pub stands : (t : ℕ) → t < z.threads → stand_of (state.point t) ≡ (here.world.pass t).stand
     -- the history without its notices has led to it
     pub history : IsOneRun z (events_in here.log) state
     -- one line each, over all kinds
@@ -53,9 +56,9 @@ module _ {V Part : Type 0} (rule : CallersRule V Part) (z : LotSize) (xs : List 
     pub one_letter : (t : ℕ) → t < z.threads → (j k : Which) → away V j (own_of V (here.world.pass t) j) ≡ true
         → away V k (own_of V (here.world.pass t) k) ≡ true → j ≡ k
 
-  -- with it, of the same world, what each kind promises of its own: letters fit in all three, locks have one owner at
-  -- most and someone tries to get a free one with sleepers, values are lawful, and the ledger is balanced. (That no
-  -- sleeper of a condition is forgotten is said of the whole state: `someone_sweeps` of its soundness.)
+  -- with it, of the worlds that tell its parts, what each kind promises of its own: letters fit in all three, locks have
+  -- one owner at most and someone tries to get a free one with sleepers, values are lawful, and the ledger is balanced.
+  -- (That no sleeper of a condition is forgotten is said of the whole state: `someone_sweeps` of its soundness.)
   pub record Promises (s : State (Option V) (List (Right (LotPassView V) LotRootView)))
       (here : Ruled (lot_meaning rule z xs) s) : Type 0 where
     pub whole : OneState s here

@@ -21,14 +21,14 @@ pub fn parts_join<V: Keeps>()
     ensures stands { StandsMove }
 {}
 
-/// At every moment there is one sound state of the whole model that the words stand for, and the history without its
-/// notices is one run of the model from the opening to it. In it each thread is in one line at most, over all kinds.
+/// At every moment there is one sound state of the whole model that words and rights stand for, and the history without
+/// its notices is one run of the model from the opening to it. In it each thread is in one line at most, over all kinds.
 pub fn one_state_at_every_moment<V: Keeps>()
     ensures { (z : LotSize) (xs : List V) (s : State (Option V) (List (Right (LotPassView V) LotRootView)))
         (here : Ruled (lot_meaning V.Keeps z xs) s) → OneState V.Keeps z xs s here }
 {}
 
-/// A table that keeps a lot's rule has, of one world, the headlines of all three kinds.
+/// A table that keeps a lot's rule has that one state, and of the worlds that tell its parts what each kind promises.
 pub fn the_rule_is_the_headline<V: Keeps>()
     ensures { (z : LotSize) (xs : List V) (s : State (Option V) (List (Right (LotPassView V) LotRootView)))
         (here : Ruled (lot_meaning V.Keeps z xs) s) → Promises V.Keeps z xs s here }

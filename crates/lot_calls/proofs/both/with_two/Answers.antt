@@ -16,7 +16,7 @@ unlock-pass-requires-2-clause-back g c κs within =
     let may = c.requires.keeps found other c.work-outcome.result left other' kept kept' c.work-outcome.ensures in
     back_first g.V.Keeps c.args.pass c.lock-pass.result.0 c.lock-pass-2.result.0 c.lock-pass.result.1 c.lock-pass-2.result.1
     c.args.first c.args.second
-    c.requires.keys.2 c.requires.free.0 c.requires.free.1 c.lock-pass.ensures.gets c.lock-pass-2.ensures.gets other'.now
+    c.requires.keys.2 c.requires.not_owned.0 c.requires.not_owned.1 c.lock-pass.ensures.gets c.lock-pass-2.ensures.gets other'.now
     (subst (λ z. MayBecome g.V.Keeps c.args.second c.args.pass.thread z other'.now) c.value_mut-2.ensures.value may.1)
     c.unlock-pass.result.0 c.unlock-pass.ensures.pass left.now
     (subst (λ z. MayBecome g.V.Keeps c.args.first c.args.pass.thread z left.now) c.value_mut.ensures.value may.0)
@@ -43,7 +43,7 @@ returns-clause-visits g c =
           (sym c.value_mut-2.ensures.value)
           (visits_both g.V.Keeps c.args.pass c.lock-pass.result.0 c.lock-pass-2.result.0 c.lock-pass.result.1 c.lock-pass-2.result.1
           c.args.first c.args.second
-          c.requires.keys.2 c.requires.free.0 c.requires.free.1 c.lock-pass.ensures.gets c.lock-pass-2.ensures.gets other'.now
+          c.requires.keys.2 c.requires.not_owned.0 c.requires.not_owned.1 c.lock-pass.ensures.gets c.lock-pass-2.ensures.gets other'.now
           (subst (λ z. MayBecome g.V.Keeps c.args.second c.args.pass.thread z other'.now) c.value_mut-2.ensures.value may.1)
           c.unlock-pass.result.0 c.unlock-pass.ensures.pass left.now
           (subst (λ z. MayBecome g.V.Keeps c.args.first c.args.pass.thread z left.now) c.value_mut.ensures.value may.0)

@@ -8,11 +8,11 @@ use Rattle.lot_whole.specs.Family.{LotSize, key_count}
 use Rattle.lot_waits.specs.Counts.{counts_shown}
 use Rattle.lot_waits.specs.Ledger.{IsLedger}
 use Rattle.lot_waits.proofs.Sums.{balanced_of}
-use Rattle.lot_sync.specs.Lot.{PassView, LotView, counts_of}
+use Rattle.lot_sync.specs.Lot.{PassView, LotView, HasSeen, counts_of}
 use Rattle.lot_sync.specs.Passes.{pass_view_shown}
 use Rattle.lot_sync.specs.Values.{GoesOnTo}
 use Rattle.lot_whole.specs.Order.{accesses_of}
-use Rattle.lot_sync.proofs.Closes.{each_root, counted, goes_on, each_own}
+use Rattle.lot_sync.proofs.Closes.{each_root, counted, goes_on, some_seen, each_own}
 use Rattle.lot_sync.proofs.lot.Lot.close.Goals as goal
 
 pub close-values-requires-clause-passes : goal.close-values-requires-clause-passes
@@ -38,6 +38,11 @@ close-values-requires-clause-roots g c =
 pub returns-clause-values : goal.returns-clause-values
 returns-clause-values g c = subst (All (GoesOnTo g.V.Keeps c.close-values.result.items)) c.gather.ensures.same
     (goes_on g.V.Keeps c.close-values.result.items c.gather.new.rights.items c.close-values.ensures.found)
+
+pub returns-clause-seen : goal.returns-clause-seen
+returns-clause-seen g c = λ key v at.
+    subst (Any (λ (p : PassView g.row.V.Denot). HasSeen p key v)) c.gather.ensures.same
+    (some_seen key v c.gather.new.rights.items (c.close-values.ensures.left key v at))
 
 pub returns-clause-ledger : goal.returns-clause-ledger
 returns-clause-ledger g c =

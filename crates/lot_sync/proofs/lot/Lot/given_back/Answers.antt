@@ -1,9 +1,8 @@
-use Rattle.std.proofs.Common.{◌≡◌, ◌<◌, length, subst, sym, ap, arith}
+use Rattle.std.proofs.Common.{subst, sym, arith}
 use Rattle.lot_words.specs.Values.{IsIn, HasSeen, MayLeave}
-use Rattle.lot_scheme.specs.Standing.{LotStanding}
 use Rattle.lot_sync.specs.Lot.{Owns}
 use Rattle.lot_sync.specs.Values.{MayGiveBack}
-use Rattle.lot_sync.proofs.Rests.{may_leave, owned_within, owns_again, lies_in, owned_held}
+use Rattle.lot_sync.proofs.Rests.{may_leave, owns_again, lies_in, owned_held}
 use Rattle.lot_sync.proofs.lot.Lot.given_back.Goals as goal
 
 pub value_in-right-requires-clause-holds : goal.value_in-right-requires-clause-holds

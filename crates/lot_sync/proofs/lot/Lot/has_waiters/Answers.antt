@@ -1,7 +1,4 @@
-use Rattle.std.proofs.Common.{sym, ap, subst, refl, [], ◌∷◌}
-use Rattle.lot_events.specs.declared.events.Event.TheVariants.{Look}
-use Rattle.lot_events.specs.declared.events.Seen.TheVariants.{Bool as Saw}
-use Rattle.lot_rights.specs.declared.views.Access.TheVariants.{Makes}
+use Rattle.std.proofs.Common.{sym, ap, subst, refl}
 use Rattle.lot_scheme.specs.Standing.{LotStanding}
 use Rattle.lot_sync.specs.Lot.{◌≈◌}
 use Rattle.lot_sync.specs.Words.{LookWord}

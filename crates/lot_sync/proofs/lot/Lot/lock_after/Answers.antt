@@ -1,4 +1,4 @@
-use Rattle.std.proofs.Common.{◌≡◌, ◌<◌, sym, subst, ap, ◌∙◌, arith}
+use Rattle.std.proofs.Common.{sym, subst, ap, arith}
 use Rattle.lot_scheme.specs.Standing.{LotStanding}
 use Rattle.lot_scheme.specs.Words.{GetWord}
 use Rattle.lot_sync.specs.Values.{Gets}

@@ -1,4 +1,4 @@
-use Rattle.std.proofs.Common.{◌≡◌, ◌+◌, ◌<◌, ◌≤◌, sym, subst, arith}
+use Rattle.std.proofs.Common.{sym, subst, arith}
 use Rattle.lot_waits.specs.Counts.{counts_in}
 use Rattle.lot_waits.specs.Notifying.{one_if}
 use Rattle.lot_sync.specs.Words.{NotifyWord}

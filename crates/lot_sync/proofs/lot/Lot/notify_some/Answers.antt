@@ -1,4 +1,4 @@
-use Rattle.std.proofs.Common.{◌≡◌, ◌+◌, ◌<◌, ◌≤◌, arith}
+use Rattle.std.proofs.Common.{arith}
 use Rattle.lot_waits.specs.Counts.{counts_in}
 use Rattle.lot_sync.specs.Words.{NotifyWord}
 use Rattle.lot_sync.proofs.Calls.{kept_called, took_some, rests_called, sees_more}

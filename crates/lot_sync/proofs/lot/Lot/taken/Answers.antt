@@ -1,4 +1,4 @@
-use Rattle.std.proofs.Common.{◌<◌, arith}
+use Rattle.std.proofs.Common.{arith}
 use Rattle.lot_sync.proofs.Rests.{rests_again}
 use Rattle.lot_sync.proofs.lot.Lot.taken.Goals as goal
 

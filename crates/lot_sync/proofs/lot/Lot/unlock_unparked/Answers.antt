@@ -1,6 +1,4 @@
 use Rattle.std.proofs.Common.{◌≡◌, true, false, refl, subst, sym, ap, ◌∙◌}
-use mathlib.Core.Option.{some}
-use lib.ListN.{get_elem?}
 use Rattle.lot_words.specs.Values.{IsIn}
 use Rattle.lot_words.specs.declared.views.Place.TheVariants.{Out}
 use Rattle.lot_scheme.specs.Standing.{LotStanding, placing}

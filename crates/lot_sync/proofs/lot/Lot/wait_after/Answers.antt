@@ -1,5 +1,4 @@
-use Rattle.std.proofs.Common.{◌≡◌, ◌+◌, ◌<◌, ◌≤◌, sym, subst, ap, arith}
-use Rattle.lot_core.specs.Parts.{IsAmongConds}
+use Rattle.std.proofs.Common.{sym, subst, ap, arith}
 use Rattle.lot_waits.specs.Counts.{AreKept, counts_in, one_wait_more as counts_one_wait_more}
 use Rattle.lot_scheme.specs.Standing.{LotStanding}
 use Rattle.lot_sync.specs.Lot.{letting_go, one_wait_more as view_one_wait_more}
