@@ -7,9 +7,9 @@ use lot_words::Keeps;
 use std::sync::Wait;
 use std::thread;
 
-/// Ends the lot: waits until every pass was left, takes them into the list, which has room for them, and closes. It
+/// Ends the lot when each thread has left: takes all passes into the list, which has room for them, and closes. It
 /// answers the value of each lock, in order, and the ledger of the conditions:
-/// `let (values, ledger) = finish(rt, lot, Vec::with_capacity(alloc, threads)?);`.
+/// `let (values, ledger) = finish(rt, lot, Vec::with_capacity(alloc, threads)?);`. While a pass is out it never returns.
 pub fn finish<V: Keeps + Send, N: LotName<V> + Send, T: Wait>(
     rt: &T,
     mut lot: Lot<V, N>,
@@ -24,8 +24,8 @@ pub fn finish<V: Keeps + Send, N: LotName<V> + Send, T: Wait>(
     lot.close(rt, passes)
 }
 
-/// Takes the passes of all threads, in order, each when it is in, into the list, which has room for them:
-/// `take_all(rt, &mut lot, &mut passes);`.
+/// Takes the passes of all threads, when all are in, into the list, which has room for them, in order:
+/// `take_all(rt, &mut lot, &mut passes);`. While one is out it never returns.
 pub fn take_all<V: Keeps + Send, N: LotName<V> + Send, T: Wait>(
     rt: &T,
     lot: &mut Lot<V, N>,
@@ -42,9 +42,8 @@ pub fn take_all<V: Keeps + Send, N: LotName<V> + Send, T: Wait>(
     }
 }
 
-/// Takes the pass of one thread, when it is in: `let first = take_pass(rt, &mut lot, 0);`. It waits until that pass was
-/// left.
-pub fn take_pass<V: Keeps + Send, N: LotName<V> + Send, T: Wait>(
+/// Takes the pass of one thread, which is the least that is in: where it is another's, this never returns.
+fn take_pass<V: Keeps + Send, N: LotName<V> + Send, T: Wait>(
     rt: &T,
     lot: &mut Lot<V, N>,
     thread: usize,

@@ -9,8 +9,7 @@
 //! | `with_both` | the same of two locks, the lower number first |
 //! | `wait_until` | `wait`, again and again |
 //! | `lock_until` | `lock`, then `wait_until` |
-//! | `take_pass` | `take_left`, until it is the pass of the thread that is wanted |
-//! | `take_all` | `take_pass` for each thread |
+//! | `take_all` | `take_left` for each thread |
 //! | `finish` | `take_all`, then `close` |
 //! | `work_all` | the caller's work with each of a list of passes, in threads |
 //! | `close_with` | `close` with passes that came back from such work |
@@ -24,6 +23,6 @@ mod with;
 
 pub use both::with_both;
 pub use crew::{close_with, work_all};
-pub use finishing::{finish, take_all, take_pass};
+pub use finishing::{finish, take_all};
 pub use until::{lock_until, wait_until};
 pub use with::{with_lock, with_value};

@@ -57,7 +57,7 @@ impl<V: Keeps + Send, N: LotName<V> + Send> Lot<V, N> {
         unreachable!()
     }
 
-    /// A pass that is in, or None where all are out.
+    /// The least pass that is in, or None where all are out. The table does not grow.
     pub fn take_left<R: Wait>(&mut self, rt: &R) -> Option<Pass<V, N>>
         ensures same { self.new ≡ self.old }
         ensures thread { IfSome result (λ pass. pass.thread < self.old.threads) }
