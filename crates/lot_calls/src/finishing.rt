@@ -9,7 +9,8 @@ use std::thread;
 
 /// Ends the lot when each thread has left: takes all passes into the list, which has room for them, and closes. It
 /// answers the value of each lock, in order, and the ledger of the conditions:
-/// `let (values, ledger) = finish(rt, lot, Vec::with_capacity(alloc, threads)?);`. While a pass is out it never returns.
+/// `let (values, ledger) = finish(rt, lot, Vec::with_capacity(alloc, threads)?);`. While a pass is out it never
+/// returns.
 pub fn finish<V: Keeps + Send, N: LotName<V> + Send, T: Wait>(
     rt: &T,
     mut lot: Lot<V, N>,

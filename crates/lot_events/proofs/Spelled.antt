@@ -1,6 +1,6 @@
 -- A line that is read is spelled so, and a line that is spelled so is read.
 use Rattle.std.proofs.Common.{◌≡◌, ◌++◌, ℕ, List, [], ◌∷◌, length, take, drop, Option, Some, None, refl, sym, ap, ◌∙◌, subst, append_assoc}
-use Rattle.std.proofs.Common.{inl, inr}
+use Rattle.std.proofs.Common.{inl, inr, Bool}
 use Rattle.std.specs.Prelude.{flat_map, if◌then◌else◌, bytes_eq}
 use Rattle.std.specs.List.{AllByRecursion}
 use Rattle.std.proofs.lemmas.List.{take-append-drop, append-nil}
@@ -88,6 +88,21 @@ one_part a rest = ap (λ b. b ++ rest) (append-nil a)
 pub two_parts : (a b rest : List ℕ) → (a ++ (b ++ [])) ++ rest ≡ a ++ (b ++ rest)
 two_parts a b rest = append_assoc a (b ++ []) rest ∙ ap (λ c. a ++ c) (one_part b rest)
 
+-- where a flag comes last, alone or behind a number
+pub flag_last : (k : Kind) (t x : ℕ) (text rest : List ℕ) (flag : Bool) (e : Event) (found : Event × List ℕ) →
+    ((first : List ℕ) → IsLine (kind_word k) (t ∷ x ∷ bit flag ∷ []) first → Spells first e) →
+    flag_at text ≡ Some (flag, rest) → Some (e, rest) ≡ Some found → IsLast k t x text found
+flag_last k t x text rest flag e found spells read is =
+    last_of k t x text e (bit flag ∷ []) rest found spells (bit_small flag, tt)
+    (flag_takes text flag rest read ∙ sym (one_part (field (bit flag)) rest)) is
+
+pub flag_behind : (k : Kind) (t x : ℕ) (text middle rest : List ℕ) (n : ℕ) (flag : Bool) (e : Event) (found : Event × List ℕ) →
+    ((first : List ℕ) → IsLine (kind_word k) (t ∷ x ∷ n ∷ bit flag ∷ []) first → Spells first e) →
+    IsSmall n → text ≡ field n ++ middle → flag_at middle ≡ Some (flag, rest) → Some (e, rest) ≡ Some found → IsLast k t x text found
+flag_behind k t x text middle rest n flag e found spells small starts read is =
+    last_of k t x text e (n ∷ bit flag ∷ []) rest found spells (small, (bit_small flag, tt))
+    (starts ∙ ap (λ r. field n ++ r) (flag_takes middle flag rest read) ∙ sym (two_parts (field n) (field (bit flag)) rest)) is
+
 pub last_takes : (k : Kind) (t x : ℕ) (text : List ℕ) (found : Event × List ℕ) → last_at k t x text ≡ Some found → IsLast k t x text found
 unfolding last_at
 last_takes Try t x text found is = last_of Try t x text (event.Try t x) [] text found (λ first is. is) tt refl is
@@ -98,11 +113,8 @@ last_takes Free t x text found is = last_of Free t x text (event.Free t x) [] te
 last_takes Pass t x text found is =
     let fair = bind_some _ (flag_at text) found is in
     let more = bind_some _ (flag_at fair.0.1) found fair.2 in
-    last_of Pass t x text (event.Pass t x fair.0.0 more.0.0) (bit fair.0.0 ∷ bit more.0.0 ∷ []) more.0.1 found (λ first is. is)
-    (bit_small fair.0.0, (bit_small more.0.0, tt))
-    (flag_takes text fair.0.0 fair.0.1 fair.1 ∙ ap (λ r. field (bit fair.0.0) ++ r) (flag_takes fair.0.1 more.0.0 more.0.1 more.1)
-    ∙ sym (two_parts (field (bit fair.0.0)) (field (bit more.0.0)) more.0.1))
-    more.2
+    flag_behind Pass t x text fair.0.1 more.0.1 (bit fair.0.0) more.0.0 (event.Pass t x fair.0.0 more.0.0) found (λ first is. is)
+    (bit_small fair.0.0) (flag_takes text fair.0.0 fair.0.1 fair.1) more.1 more.2
 last_takes Enlist t x text found is =
     let lock = bind_some _ (field_at text) found is in
     let taken = field_takes text lock.0.0 lock.0.1 lock.1 in
@@ -111,18 +123,13 @@ last_takes Enlist t x text found is =
 last_takes Look t x text found is = last_of Look t x text (event.Look t x) [] text found (λ first is. is) tt refl is
 last_takes Call t x text found is =
     let more = bind_some _ (flag_at text) found is in
-    last_of Call t x text (event.Call t x 1 more.0.0) (bit more.0.0 ∷ []) more.0.1 found
-    (λ first is. inr (refl, is)) (bit_small more.0.0, tt)
-    (flag_takes text more.0.0 more.0.1 more.1 ∙ sym (one_part (field (bit more.0.0)) more.0.1)) more.2
+    flag_last Call t x text more.0.1 more.0.0 (event.Call t x 1 more.0.0) found (λ first is. inr (refl, is)) more.1 more.2
 last_takes CallSome t x text found is =
     let count = bind_some _ (field_at text) found is in
     let more = bind_some _ (flag_at count.0.1) found count.2 in
     let taken = field_takes text count.0.0 count.0.1 count.1 in
-    last_of CallSome t x text (event.Call t x count.0.0 more.0.0) (count.0.0 ∷ bit more.0.0 ∷ []) more.0.1 found (λ first is. inl is)
-    (taken.0, (bit_small more.0.0, tt))
-    (taken.1 ∙ ap (λ r. field count.0.0 ++ r) (flag_takes count.0.1 more.0.0 more.0.1 more.1)
-    ∙ sym (two_parts (field count.0.0) (field (bit more.0.0)) more.0.1))
-    more.2
+    flag_behind CallSome t x text count.0.1 more.0.1 count.0.0 more.0.0 (event.Call t x count.0.0 more.0.0) found (λ first is. inl is)
+    taken.0 taken.1 more.1 more.2
 last_takes Lower t x text found is = last_of Lower t x text (event.Lower t x) [] text found (λ first is. is) tt refl is
 last_takes Sweep t x text found is = last_of Sweep t x text (event.Sweep t x) [] text found (λ first is. is) tt refl is
 last_takes SemTake t x text found is = last_of SemTake t x text (event.SemTake t x) [] text found (λ first is. is) tt refl is
@@ -131,8 +138,7 @@ last_takes SemPark t x text found is = last_of SemPark t x text (event.SemPark t
 last_takes SemFree t x text found is = last_of SemFree t x text (event.SemFree t x) [] text found (λ first is. is) tt refl is
 last_takes SemPass t x text found is =
     let more = bind_some _ (flag_at text) found is in
-    last_of SemPass t x text (event.SemPass t x more.0.0) (bit more.0.0 ∷ []) more.0.1 found (λ first is. is) (bit_small more.0.0, tt)
-    (flag_takes text more.0.0 more.0.1 more.1 ∙ sym (one_part (field (bit more.0.0)) more.0.1)) more.2
+    flag_last SemPass t x text more.0.1 more.0.0 (event.SemPass t x more.0.0) found (λ first is. is) more.1 more.2
 last_takes SemClear t x text found is = last_of SemClear t x text (event.SemClear t x) [] text found (λ first is. is) tt refl is
 
 -- a line of a word, two numbers and more, taken apart

@@ -8,7 +8,7 @@
 //! | `get` | one compare-exchange | `get_slowly`: up to 40 yields, then a sleep in the lock's line |
 //! | `get_free`, `try_get` | one compare-exchange | an answer at once; `try_get` makes a fetch-or too |
 //! | `free_unparked` | one compare-exchange | the lock is marked as found parked, and still owned |
-//! | `let_go`, `let_go_asking` | one compare-exchange | the first of the line is handed the lock, or tries again |
+//! | `let_go` | one compare-exchange | the first of the line is handed the lock, or tries again |
 //!
 //! A pass is told by how it stands (`LotStanding` of lot_scheme). Each call says what it makes of that, by an equation,
 //! and by the word of the accesses that it made.
@@ -21,5 +21,5 @@ pub mod steps;
 
 pub use getting::{Locks, get, get_free, get_slowly, is_held, is_parked, try_get};
 pub use released::Released;
-pub use releasing::{free_unparked, let_go, let_go_asking, unpark_asking};
+pub use releasing::{free_unparked, let_go, unpark_asking};
 pub use steps::LockSteps;

@@ -52,33 +52,6 @@ pub fn let_go<S: LockSteps, R: Wait>(
     }
 }
 
-/// Lets the lock go, and asks for the moment only where somebody is parked.
-#[inline(always)]
-pub fn let_go_asking<S: LockSteps, R: Wait, M: FnOnce() -> Moment>(
-    rt: &R,
-    parking: &ParkingLot<S>,
-    pass: S::Pass,
-    key: usize,
-    moment: M,
-) -> (S::Pass, Released)
-where
-    M: Drop,
-    requires key { key < parking.now.keys }
-    requires has { S.has parking.now.scheme key }
-    requires may { S.may_let_go pass key }
-    requires callable { M.pre moment }
-    ensures thread { S.thread result.0 ≡ S.thread pass }
-    ensures went { S.lets_go pass key result.1 result.0 }
-    ensures fits { (result.1 ≡ Quiet) ⊎ ((m : _) × M.post moment m × IsFitting result.1 false m.now) }
-{
-    let (pass, freed) = parking.scheme().free(pass, key);
-    if freed {
-        (pass, Released::Quiet)
-    } else {
-        unpark_asking(rt, parking, pass, key, moment)
-    }
-}
-
 /// The lock was found parked: asks for the moment, and takes one sleeper from its line.
 #[cold]
 #[inline(never)]

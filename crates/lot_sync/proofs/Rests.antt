@@ -196,6 +196,14 @@ module _ {V : Type 0} (grows : V → V → Type 0) (names : LotNames V) where
         idle.1,
       )
 
+  -- the values of the locks that it owns still are out as before
+  out_but_let_go : (p : LotStanding V) (l : ℕ) → l < names.locks → IsNewOwner grows names p l → (k : ℕ)
+      → IsHeld (get_or (set p.own.locks.holds l NotHeld) k NotHeld) → IsOut p.own.locks k
+  out_but_let_go p l near own k holds = dite (ℕ_discrete k l)
+      (λ e. absurd (unheld_here p.own.locks.holds l (let w = own.of_lot.holds_long in omega (arith, w))
+      (subst (λ j. IsHeld (get_or (set p.own.locks.holds l NotHeld) j NotHeld)) e holds)))
+      (λ else. own.out k else (held_else p.own.locks.holds l k NotHeld else holds))
+
   -- a lock that was let go, and what was left there
   pub left_at_rest : ((x y z : V) → grows x y → grows y z → grows x z) → (p : LotStanding V) (l : ℕ) (value : V) → l < names.locks
       → IsNewOwner grows names p l → ((u : V) → HasSeen p.own.locks l u → grows u value) → IsAtRest grows names (letting_go p l value)
@@ -219,15 +227,9 @@ module _ {V : Type 0} (grows : V → V → Type 0) (names : LotNames V) where
       },
       ap rises own.idle.1,
     );
-    out = out_at;
+    out = out_but_let_go p l near own;
   }
     where
-      out_at : (k : ℕ) → IsHeld (get_or (set p.own.locks.holds l NotHeld) k NotHeld) → IsOut p.own.locks k
-      out_at k holds = dite (ℕ_discrete k l)
-          (λ e. absurd (unheld_here p.own.locks.holds l (let w = own.of_lot.holds_long in omega (arith, w))
-          (subst (λ j. IsHeld (get_or (set p.own.locks.holds l NotHeld) j NotHeld)) e holds)))
-          (λ else. own.out k else (held_else p.own.locks.holds l k NotHeld else holds))
-
       seen_at : (k : ℕ) → k ≡ l → (w : V) × HasSeen p.own.locks l w
       seen_at k e = reads p.own.locks.seen l (let w = own.of_lot.seen_long in omega (arith, w))
 

@@ -20,8 +20,8 @@ use lot_words::Keeps;
 use std::sync::Wait;
 
 impl<V: Keeps + Send, N: LotName<V> + Send> Lot<V, N> {
-    /// Ends the lot, with all its passes. The answer has the value of each lock, in order, as some pass saw it last, and
-    /// what the passes counted for each condition. One run of the whole model was made with these passes, from the
+    /// Ends the lot, with all its passes. The answer has the value of each lock, in order, as some pass saw it last,
+    /// and what the passes counted for each condition. One run of the whole model was made with these passes, from the
     /// opening to a sound state.
     ///
     /// Passes that are in are had by `take_left`.

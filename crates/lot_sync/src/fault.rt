@@ -6,8 +6,8 @@ pub enum OpenFault {
     /// There have to be 1 to [`MAX_THREADS`](lot_core::MAX_THREADS) threads.
     #[error("bad number of threads")]
     BadThreads = 1,
-    /// There has to be a lock, and there may be at most [`MAX_KEYS`](lot_core::MAX_KEYS) locks, conditions and semaphores
-    /// together.
+    /// There has to be a lock, and there may be at most [`MAX_KEYS`](lot_core::MAX_KEYS) locks, conditions and
+    /// semaphores together.
     #[error("bad number of keys")]
     BadKeys = 2,
     /// A request for memory was refused.

@@ -12,7 +12,7 @@
 //! | `try_lock` | one compare-exchange | an answer at once, after a fetch-or |
 //! | `unlock_unparked` | one compare-exchange | an answer at once |
 //! | `wait` | an unlock and a lock, and a sleep in the condition's line between them | |
-//! | `notify_one`, `notify_some`, `notify_all` | nobody waits: one load | the first of the line are taken and woken |
+//! | `notify_one`, `notify_some`, `notify_all` | nobody waits: one load | the first of the line are taken, woken |
 //! | `acquire`, `release` | a load and a compare-exchange | a sleep in the line; its first is taken and woken |
 //!
 //! A pass is seen with the accesses to words that were made with it. Each call tells in its clause `made` which it

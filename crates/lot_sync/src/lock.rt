@@ -10,7 +10,7 @@ ghost use Rattle.lot_words.specs.Values.{IsIn};
 use crate::held::Held;
 use crate::lot::Lot;
 use crate::pass::Pass;
-use lot_locks::{get, try_get};
+use lot_locks::{get, get_free, get_slowly, try_get};
 use lot_park::{AtOnce, BeforeSleep};
 use lot_scheme::{LotName, NamedPass};
 use lot_waits::Tallies;
@@ -49,7 +49,15 @@ impl<V: Keeps + Send, N: LotName<V> + Send> Lot<V, N> {
         ensures made { Adds pass.made (GetWord pass.thread key) result.0.made }
         ensures shape { HasShape self.now result.0 }
     {
-        self.lock_after(rt, pass, key, &AtOnce)
+        prove!(self.has_lock(key));
+        let (right, tallies) = pass.apart();
+        let (right, got) = get_free(self.parking().scheme(), right, key);
+        let right = if got {
+            right
+        } else {
+            get_slowly(rt, self.parking(), right, key, &AtOnce)
+        };
+        self.taken(right, tallies, key)
     }
 
     /// `lock` with an action before each sleep, for a runtime that has to know that its thread will sleep:

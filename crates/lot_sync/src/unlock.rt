@@ -12,7 +12,7 @@ ghost use Rattle.lot_words.specs.Values.{IsIn, HasSeen as OwnHasSeen};
 use crate::held::Held;
 use crate::lot::Lot;
 use crate::pass::Pass;
-use lot_locks::{Released, free_unparked, let_go, let_go_asking};
+use lot_locks::{LockSteps, Released, free_unparked, let_go, unpark_asking};
 use lot_park::Moment;
 use lot_scheme::{LotName, NamedPass};
 use lot_waits::Tallies;
@@ -68,7 +68,12 @@ impl<V: Keeps + Send, N: LotName<V> + Send> Lot<V, N> {
     {
         let key = held.key();
         let (right, tallies) = self.given_back(pass, held, key);
-        let (right, released) = let_go_asking(rt, self.parking(), right, key, moment);
+        let (right, freed) = LockSteps::free(self.parking().scheme(), right, key);
+        let (right, released) = if freed {
+            (right, Released::Quiet)
+        } else {
+            unpark_asking(rt, self.parking(), right, key, moment)
+        };
         (self.at_rest(right, tallies), released)
     }
 

@@ -17,10 +17,10 @@ use std::test::*;
 use std::thread;
 use std::thread::Threads;
 
-/// How many turns were taken with a lock.
+/// How many turns were taken with a lock. Any number may follow any other.
 #[derive(Clone, Copy)]
-struct Turns {
-    taken: u64,
+pub(crate) struct Turns {
+    pub(crate) taken: u64,
 }
 
 impl Keeps for Turns {

@@ -36,89 +36,88 @@ homes_else sem hs hs' ne = refl
 
 module _ {V Part : Type 0} (rule : CallersRule V Part) (z : LotSize) (xs : List V) where
   -- a turn of the locks' slots, as one of the lot's
-  slot_turn : (t : ℕ) (p : LotPassView V) (own : LockPassView V) (w : LotWorld rule z xs) (ws : List ℕ)
-      (hs hs' : List (maybe.Option (Option V))) → LotFits rule z xs w ws hs
-      → (fit : (t < z.threads) × (w.pass t ≡ p)) → own.asleep ≡ p.locks.asleep
-      → SlotTurn (meaning_of rule z xs lock) t own (w.each lock) (w.words lock) hs'
-      → SlotTurn (lot_meaning rule z xs) t (record p { locks = own }) w ws hs'
-  slot_turn t p own w ws hs hs' ok fit same turn = record {
-    world = next;
-    fits = record {
-      parts = parts;
-      wide = ok.wide;
-      keys = ok.keys;
-      letters = λ u near. ok.letters u near ∙ sym (letters u);
-      passes = passes;
-      agrees = agrees;
-      none_in_line = none_queued rule z xs next hs' parts passes agrees;
-      counts = ok.counts;
-      reached = ok.reached;
-    };
-    pass = (fit.0, put_same w.pass t new);
-    passes = λ u y ne h. (h.0, put_other w.pass t new u ne ∙ h.1);
-    roots = by_kind;
-    same = λ i. record { part = w.whole; letters = (fun_ext letters) i };
-  }
-    where
-      each : (k : Which) → (meaning_of rule z xs k).World
-      each = dput {X = λ k. (meaning_of rule z xs k).World} lock turn.world w.each
+  module _ (t : ℕ) (p : LotPassView V) (own : LockPassView V) (w : LotWorld rule z xs) (ws : List ℕ)
+      (hs hs' : List (maybe.Option (Option V))) (ok : LotFits rule z xs w ws hs) (fit : (t < z.threads) × (w.pass t ≡ p))
+      (same : own.asleep ≡ p.locks.asleep) (turn : SlotTurn (meaning_of rule z xs lock) t own (w.each lock) (w.words lock) hs') where
+    abbrev each : (k : Which) → (meaning_of rule z xs k).World
+    each = dput {X = λ k. (meaning_of rule z xs k).World} lock turn.world w.each
 
-      new : LotPassView V
-      new = record p { locks = own }
+    abbrev new : LotPassView V
+    new = record p { locks = own }
 
-      next : LotWorld rule z xs
-      next = record { each = each; words = w.words; pass = put w.pass t new; whole = w.whole }
+    abbrev next : LotWorld rule z xs
+    next = record { each = each; words = w.words; pass = put w.pass t new; whole = w.whole }
 
-      letters : (u : ℕ) → sum_of (letters_in rule z xs next) u ≡ sum_of (letters_in rule z xs w) u
-      letters u = three_same (letters_in rule z xs next) (letters_in rule z xs w) u (dput_elim {X = λ k. (meaning_of rule z xs k).World}
-          (λ k y. ((meaning_of rule z xs k).told_by y).letters u ≡ letters_in rule z xs w k u) lock turn.world w.each
-          (λ i. (turn.same i).letters u) (λ k ne. refl))
+    letters : (u : ℕ) → sum_of (letters_in rule z xs next) u ≡ sum_of (letters_in rule z xs w) u
+    letters u = three_same (letters_in rule z xs next) (letters_in rule z xs w) u (dput_elim {X = λ k. (meaning_of rule z xs k).World}
+        (λ k y. ((meaning_of rule z xs k).told_by y).letters u ≡ letters_in rule z xs w k u) lock turn.world w.each
+        (λ i. (turn.same i).letters u) (λ k ne. refl))
 
-      was : PassOk rule z xs w t p
-      was = subst (PassOk rule z xs w t) fit.1 (ok.passes t fit.0)
+    was : PassOk rule z xs w t p
+    was = subst (PassOk rule z xs w t) fit.1 (ok.passes t fit.0)
 
-      mine : PassOk rule z xs next t new
-      mine = record {
-        each = λ k. subst (λ o. (meaning_of rule z xs k).PassFits (each k) t o)
-            (sym (own_from V (dput {X = PassIn V} lock own (own_of V p)) p.stand k))
-            (dput_two {X = λ k. (meaning_of rule z xs k).World} {Y = PassIn V}
-            (λ k y o. (meaning_of rule z xs k).PassFits y t o) lock turn.world w.each own (own_of V p) turn.pass (λ k ne. was.each k) k);
-        apart = apart_new;
-        stand = was.stand;
-      }
-        where
-          apart_new : (k m : Which) → away V k (own_of V new k) ≡ true → away V m (own_of V new m) ≡ true → k ≡ m
-          apart_new k m up there = apart_after V lock p was.apart own (λ e. inl (sym same ∙ e)) k m
-              (subst (λ o. away V k o ≡ true) (own_from V (dput {X = PassIn V} lock own (own_of V p)) p.stand k) up)
-              (subst (λ o. away V m o ≡ true) (own_from V (dput {X = PassIn V} lock own (own_of V p)) p.stand m) there)
+    mine : PassOk rule z xs next t new
+    mine = record {
+      each = λ k. subst (λ o. (meaning_of rule z xs k).PassFits (each k) t o)
+          (sym (own_from V (dput {X = PassIn V} lock own (own_of V p)) p.stand k))
+          (dput_two {X = λ k. (meaning_of rule z xs k).World} {Y = PassIn V}
+          (λ k y o. (meaning_of rule z xs k).PassFits y t o) lock turn.world w.each own (own_of V p) turn.pass (λ k ne. was.each k) k);
+      apart = apart_new;
+      stand = was.stand;
+    }
+      where
+        apart_new : (k m : Which) → away V k (own_of V new k) ≡ true → away V m (own_of V new m) ≡ true → k ≡ m
+        apart_new k m up there = apart_after V lock p was.apart own (λ e. inl (sym same ∙ e)) k m
+            (subst (λ o. away V k o ≡ true) (own_from V (dput {X = PassIn V} lock own (own_of V p)) p.stand k) up)
+            (subst (λ o. away V m o ≡ true) (own_from V (dput {X = PassIn V} lock own (own_of V p)) p.stand m) there)
 
-      other : (u : ℕ) → u < z.threads → u ≢ t → PassOk rule z xs next u (w.pass u)
-      other u near ne = let h = ok.passes u near in record {
-        each = dput_elim {X = λ k. (meaning_of rule z xs k).World}
-            (λ k y. (meaning_of rule z xs k).PassFits y u (own_of V (w.pass u) k)) lock turn.world w.each
-            (turn.passes u (own_of V (w.pass u) lock) ne (h.each lock)) (λ k _. h.each k);
-        apart = h.apart;
-        stand = h.stand;
-      }
+    other : (u : ℕ) → u < z.threads → u ≢ t → PassOk rule z xs next u (w.pass u)
+    other u near ne = let h = ok.passes u near in record {
+      each = dput_elim {X = λ k. (meaning_of rule z xs k).World}
+          (λ k y. (meaning_of rule z xs k).PassFits y u (own_of V (w.pass u) k)) lock turn.world w.each
+          (turn.passes u (own_of V (w.pass u) lock) ne (h.each lock)) (λ k _. h.each k);
+      apart = h.apart;
+      stand = h.stand;
+    }
 
-      parts : (k : Which) → (meaning_of rule z xs k).Fits (each k) (w.words k) (homes_in k hs')
-      parts = dput_elim {X = λ k. (meaning_of rule z xs k).World}
-          (λ k y. (meaning_of rule z xs k).Fits y (w.words k) (homes_in k hs')) lock turn.world w.each turn.fits
-          (λ k ne. subst ((meaning_of rule z xs k).Fits (w.each k) (w.words k)) (homes_else k hs hs' ne) (ok.parts k))
+    parts : (k : Which) → (meaning_of rule z xs k).Fits (each k) (w.words k) (homes_in k hs')
+    parts = dput_elim {X = λ k. (meaning_of rule z xs k).World}
+        (λ k y. (meaning_of rule z xs k).Fits y (w.words k) (homes_in k hs')) lock turn.world w.each turn.fits
+        (λ k ne. subst ((meaning_of rule z xs k).Fits (w.each k) (w.words k)) (homes_else k hs hs' ne) (ok.parts k))
 
-      passes : (u : ℕ) → u < z.threads → PassOk rule z xs next u (next.pass u)
-      passes u near = put_elim (λ y. PassOk rule z xs next u y) w.pass t new u
-          (λ e. subst (λ n. PassOk rule z xs next n new) (sym e) mine) (λ ne. other u near ne)
+    passes : (u : ℕ) → u < z.threads → PassOk rule z xs next u (next.pass u)
+    passes u near = put_elim (λ y. PassOk rule z xs next u y) w.pass t new u
+        (λ e. subst (λ n. PassOk rule z xs next n new) (sym e) mine) (λ ne. other u near ne)
 
-      agrees : (k : Which) → part_in rule z xs k w.whole ≡ ((meaning_of rule z xs k).told_by (each k)).part
-      agrees = dput_elim {X = λ k. (meaning_of rule z xs k).World}
-          (λ k y. part_in rule z xs k w.whole ≡ ((meaning_of rule z xs k).told_by y).part) lock turn.world w.each
-          (ok.agrees lock ∙ sym (λ i. (turn.same i).part)) (λ k ne. ok.agrees k)
+    agrees : (k : Which) → part_in rule z xs k w.whole ≡ ((meaning_of rule z xs k).told_by (each k)).part
+    agrees = dput_elim {X = λ k. (meaning_of rule z xs k).World}
+        (λ k y. part_in rule z xs k w.whole ≡ ((meaning_of rule z xs k).told_by y).part) lock turn.world w.each
+        (ok.agrees lock ∙ sym (λ i. (turn.same i).part)) (λ k ne. ok.agrees k)
 
-      by_kind : (d : ℕ) (y : LotRootView) → LotRootIs rule z xs w d y → LotRootIs rule z xs next d y
-      by_kind d (Lock r) h = (h.0, turn.roots d r h.1)
-      by_kind d (Cond r) h = h
-      by_kind d (Sem r) h = h
+    by_kind : (d : ℕ) (y : LotRootView) → LotRootIs rule z xs w d y → LotRootIs rule z xs next d y
+    by_kind d (Lock r) h = (h.0, turn.roots d r h.1)
+    by_kind d (Cond r) h = h
+    by_kind d (Sem r) h = h
+
+    slot_turn : SlotTurn (lot_meaning rule z xs) t new w ws hs'
+    slot_turn = record {
+      world = next;
+      fits = record {
+        parts = parts;
+        wide = ok.wide;
+        keys = ok.keys;
+        letters = λ u near. ok.letters u near ∙ sym (letters u);
+        passes = passes;
+        agrees = agrees;
+        none_in_line = none_queued rule z xs next hs' parts passes agrees;
+        counts = ok.counts;
+        reached = ok.reached;
+      };
+      pass = (fit.0, put_same w.pass t new);
+      passes = λ u y ne h. (h.0, put_other w.pass t new u ne ∙ h.1);
+      roots = by_kind;
+      same = λ i. record { part = w.whole; letters = (fun_ext letters) i };
+    }
 
   pub lifts_out : (p : PassShown (LotPassView V)) (l : ℕ) (mid : LockPassView V → Option V → Type 0)
       (told : LotPassView V → Option V → Type 0)

@@ -6,6 +6,8 @@ use mathlib.Core.Option as maybe
 use mathlib.Core.Logic.{dite}
 use mathlib.Core.Path.{fun_ext}
 use native.Mathlib.Decide.{ℕ_discrete}
+use Rattle.lot_events.specs.declared.events.Event.{Event}
+use Rattle.lot_events.specs.declared.events.Seen.{Seen}
 use Rattle.lot_core.specs.World.{World, put}
 use Rattle.lot_core.specs.Steps.{after, IsReached}
 use Rattle.lot_core.specs.Rows.{told}
@@ -183,8 +185,9 @@ module _ {V Part : Type 0} (rule : CallersRule V Part) (z : LotSize) (xs : List 
           → ◌≡◌ {A = Telling World} (record { part = w.whole; letters = sum_of letters }) before
       between e = λ h. record { part = w.whole; letters = e h }
 
-      pub gone : (a : Access) → Leads (meaning_of rule z xs j) told_j a told_v → Speaks rule z xs j w a → Gone a
-      gone (Makes e saw) goes speaks =
+      gone_by_event : (e : Event) (saw : Seen) → Leads (meaning_of rule z xs j) told_j (Makes e saw) told_v
+          → Speaks rule z xs j w (Makes e saw) → Gone (Makes e saw)
+      gone_by_event e saw goes speaks =
           let joined = joins rule z xs w.whole e saw ok.reached ok.counts speaks.1 j told_v.part speaks.0
           (subst (λ p. (meaning_of rule z xs j).Step p e saw told_v.part) (sym (ok.agrees j)) goes.0) in
           record {
@@ -201,6 +204,32 @@ module _ {V Part : Type 0} (rule : CallersRule V Part) (z : LotSize) (xs : List 
                 (stands_move w.whole e (λ l u h. ((reached_sound w.whole ok.reached).one_line_each.wants l u h).1)));
             rests = λ c by. absurd (omega (arith, by));
           }
+
+      gone_by_collecting : (u : ℕ) (found : Option ℕ) → Leads (meaning_of rule z xs j) told_j (Collects u found) told_v
+          → Speaks rule z xs j w (Collects u found) → Gone (Collects u found)
+      gone_by_collecting u None goes speaks = record {
+        leads = (three_one (letters_in rule z xs w) j u speaks ∙ goes.0, between (same_letters (λ y. (goes.1 y).letters)));
+        agrees = same_parts (λ y. (goes.1 y).part);
+        counts = ok.counts;
+        reached = ok.reached;
+        moved = λ t by. stays_put t;
+        rests = λ _ _. refl;
+      }
+      gone_by_collecting u (Some n) goes speaks = record {
+        leads = (
+          three_one (letters_in rule z xs w) j u speaks
+              ∙ goes.0,
+          λ h. record { part = w.whole; letters = put_letters u 0 speaks (λ y. (goes.1 y).letters) h },
+        );
+        agrees = same_parts (λ y. (goes.1 y).part);
+        counts = ok.counts;
+        reached = ok.reached;
+        moved = λ t by. stays_put t;
+        rests = λ _ _. refl;
+      }
+
+      pub gone : (a : Access) → Leads (meaning_of rule z xs j) told_j a told_v → Speaks rule z xs j w a → Gone a
+      gone (Makes e saw) goes speaks = gone_by_event e saw goes speaks
       gone (Posts c u n) goes speaks = record {
         leads = (
           three_one (letters_in rule z xs w) j u speaks
@@ -213,26 +242,7 @@ module _ {V Part : Type 0} (rule : CallersRule V Part) (z : LotSize) (xs : List 
         moved = λ t by. absurd (omega (arith, by));
         rests = λ _ _. refl;
       }
-      gone (Collects u None) goes speaks = record {
-        leads = (three_one (letters_in rule z xs w) j u speaks ∙ goes.0, between (same_letters (λ y. (goes.1 y).letters)));
-        agrees = same_parts (λ y. (goes.1 y).part);
-        counts = ok.counts;
-        reached = ok.reached;
-        moved = λ t by. stays_put t;
-        rests = λ _ _. refl;
-      }
-      gone (Collects u (Some n)) goes speaks = record {
-        leads = (
-          three_one (letters_in rule z xs w) j u speaks
-              ∙ goes.0,
-          λ h. record { part = w.whole; letters = put_letters u 0 speaks (λ y. (goes.1 y).letters) h },
-        );
-        agrees = same_parts (λ y. (goes.1 y).part);
-        counts = ok.counts;
-        reached = ok.reached;
-        moved = λ t by. stays_put t;
-        rests = λ _ _. refl;
-      }
+      gone (Collects u found) goes speaks = gone_by_collecting u found goes speaks
       gone (Finds u c n) goes speaks = record {
         leads = (
           goes.0 ∙ (ap (λ p. (meaning_of rule z xs j).word_in p c) (sym (ok.agrees j)) ∙ sym (word_is rule z xs j w.whole c speaks)),

@@ -22,7 +22,8 @@ pub fn parts_join<V: Keeps>()
 {}
 
 /// At every moment there is one sound state of the whole model that words and rights stand for, and the history without
-/// its notices is one run of the model from the opening to it. In it each thread is in one line at most, over all kinds.
+/// its notices is one run of the model from the opening to it. In it each thread is in one line at most, over all
+/// kinds.
 pub fn one_state_at_every_moment<V: Keeps>()
     ensures { (z : LotSize) (xs : List V) (s : State (Option V) (List (Right (LotPassView V) LotRootView)))
         (here : Ruled (lot_meaning V.Keeps z xs) s) → OneState V.Keeps z xs s here }

@@ -17,3 +17,4 @@ pub mod Running
 pub mod Shelves
 pub mod Turns
 pub mod Valuing
+pub mod Zips

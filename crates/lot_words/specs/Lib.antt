@@ -9,4 +9,3 @@ pub mod Headline
 pub mod Closing
 -- the parts that these are made of
 pub mod Shown
-pub mod Shelf

@@ -44,26 +44,6 @@ fn key_of(word: u64, locks: usize) -> usize
     key.min(locks - 1)
 }
 
-/// One round.
-#[inline(always)]
-fn go_round<N: LotName<Number> + Send, T: Wait + Clock>(
-    rt: &T,
-    lot: &Lot<Number, N>,
-    pass: Pass<Number, N>,
-    key: usize,
-    word: u64,
-) -> Pass<Number, N>
-    requires key { key < lot.now.locks }
-    requires free { OwnsNone pass }
-    ensures { OwnsNone result }
-{
-    let (pass, mut held) = lot.lock(rt, pass, key);
-    let number = held.value_mut();
-    number.n = number.n.wrapping_add(1);
-    let (pass, _) = lot.unlock_asking(rt, pass, held, || moment(rt, word));
-    pass
-}
-
 /// So many rounds, on locks by chance.
 pub fn count<N: LotName<Number> + Send, T: Wait + Clock>(
     rt: &T,
@@ -81,7 +61,11 @@ pub fn count<N: LotName<Number> + Send, T: Wait + Clock>(
     let mut random = Random::new(worker);
     for _ in 0..rounds {
         let word = random.next();
-        pass = go_round(rt, lot, pass, key_of(word, locks), word);
+        let (owner, mut held) = lot.lock(rt, pass, key_of(word, locks));
+        let number = held.value_mut();
+        number.n = number.n.wrapping_add(1);
+        let (free, _) = lot.unlock_asking(rt, owner, held, || moment(rt, word));
+        pass = free;
     }
     pass
 }
@@ -105,7 +89,12 @@ pub fn share<N: LotName<Number> + Send, T: Wait + Clock>(
         if meeting.is_over() {
             return (pass, rounds);
         }
-        pass = go_round(rt, lot, pass, 0, random.next());
+        let word = random.next();
+        let (owner, mut held) = lot.lock(rt, pass, 0);
+        let number = held.value_mut();
+        number.n = number.n.wrapping_add(1);
+        let (free, _) = lot.unlock_asking(rt, owner, held, || moment(rt, word));
+        pass = free;
         rounds = rounds.wrapping_add(1);
     }
     unreachable!()

@@ -9,6 +9,6 @@ returns g c =
     let before = c.room_for-passes.result in
     let none : length before.items ≡ 0 = search rules in
     let last = c.leave-pass.result in
-    only_value values.items c.push_reserved.new.self.items last c.args.mark long
+    only_value values.items c.push_reserved.new.self.items last c.args.turns long
     (alone before.items c.push_reserved.new.self.items last none c.push_reserved.ensures.items) c.close-values.ensures.seen
     c.leave-pass.ensures.seen

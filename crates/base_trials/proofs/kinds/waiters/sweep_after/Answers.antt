@@ -1,4 +1,4 @@
-use Rattle.std.proofs.Common.{◌≤◌, ◌<◌, arith}
+use Rattle.std.proofs.Common.{arith}
 use Rattle.lot_waits.proofs.Notified.{may_sweep, finds_nobody, notified_all}
 use Rattle.lot_waits.proofs.Told.{told_nobody, told_all}
 use Rattle.base_trials.proofs.kinds.waiters.sweep_after.Goals as goal

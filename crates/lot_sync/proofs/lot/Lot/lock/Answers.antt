@@ -1,10 +1,56 @@
+use Rattle.std.proofs.Common.{sym, subst, ap, arith}
+use Rattle.lot_scheme.specs.Standing.{LotStanding}
+use Rattle.lot_scheme.specs.Words.{GetWord}
+use Rattle.lot_locks.specs.Standing.{IsOwner}
+use Rattle.lot_locks.proofs.Seeking.{may_take, owner_on}
+use Rattle.lot_sync.specs.Values.{Gets}
+use Rattle.lot_sync.proofs.Rests.{owns_newly, gets_all}
+use Rattle.lot_sync.proofs.Adding.{adds_at}
+use Rattle.lot_sync.proofs.lot.Lot.lock.Goals.{then-got, else-got}
 use Rattle.lot_sync.proofs.lot.Lot.lock.Goals as goal
 
-pub lock_after-requires-clause-not_owned : goal.lock_after-requires-clause-not_owned
-lock_after-requires-clause-not_owned g c κs within = c.requires.not_owned
+pub get_slowly-right-requires-clause-may : goal.get_slowly-right-requires-clause-may
+get_slowly-right-requires-clause-may g c κs within =
+    may_take g.N.LotName.locks c.apart-right.result.0 c.get_free-right.result.0 c.args.key (rw c.if-got.false at c.get_free-right.ensures)
+
+pub taken-requires-clause-owner : goal.taken-requires-clause-owner
+taken-requires-clause-owner g c κs within =
+    let same = c.parking.ensures.keys.0 in
+    let near = c.requires.key in
+    let before = c.apart-right.result.0 in
+    let owner : IsOwner g.V.Keeps before c.args.key c.if-got.right = elim c.if-got.branch [
+      | then-got w ↦ subst (IsOwner g.V.Keeps before c.args.key) (sym w.right-is) (rw w.if-got.true at c.get_free-right.ensures)
+      | else-got w ↦ subst (IsOwner g.V.Keeps before c.args.key) (sym w.right-is)
+          (owner_on g.V.Keeps g.N.LotName.locks before c.get_free-right.result.0 w.get_slowly-right.result c.args.key
+          (rw w.if-got.false at c.get_free-right.ensures) w.get_slowly-right.ensures)
+    ] in
+    owns_newly g.V.Keeps _ _ before c.if-got.right c.args.key (omega (arith, same, near)) c.apart-right.ensures.rest owner
 
 pub returns-clause-gets : goal.returns-clause-gets
-returns-clause-gets g c = c.lock_after.ensures.gets
+returns-clause-gets g c =
+    let same = c.parking.ensures.keys.0 in
+    let near = c.requires.key in
+    let before = c.apart-right.result.0 in
+    let owner : IsOwner g.V.Keeps before c.args.key c.if-got.right = elim c.if-got.branch [
+      | then-got w ↦ subst (IsOwner g.V.Keeps before c.args.key) (sym w.right-is) (rw w.if-got.true at c.get_free-right.ensures)
+      | else-got w ↦ subst (IsOwner g.V.Keeps before c.args.key) (sym w.right-is)
+          (owner_on g.V.Keeps g.N.LotName.locks before c.get_free-right.result.0 w.get_slowly-right.result c.args.key
+          (rw w.if-got.false at c.get_free-right.ensures) w.get_slowly-right.ensures)
+    ] in
+    subst (λ p. Gets g.V.Keeps p c.args.key c.taken.result.1 c.taken.result.0) (sym c.apart-right.ensures.same)
+    (gets_all g.V.Keeps _ _ before c.if-got.right c.taken.result.1 c.args.key
+    (omega (arith, same, near)) c.apart-right.ensures.rest owner
+    c.taken.ensures.held.0 c.taken.ensures.held.1 c.taken.result.0 c.taken.ensures.pass)
 
 pub returns-clause-made : goal.returns-clause-made
-returns-clause-made g c = c.lock_after.ensures.made
+returns-clause-made g c =
+    let before = c.apart-right.result.0 in
+    let owner : IsOwner g.V.Keeps before c.args.key c.if-got.right = elim c.if-got.branch [
+      | then-got w ↦ subst (IsOwner g.V.Keeps before c.args.key) (sym w.right-is) (rw w.if-got.true at c.get_free-right.ensures)
+      | else-got w ↦ subst (IsOwner g.V.Keeps before c.args.key) (sym w.right-is)
+          (owner_on g.V.Keeps g.N.LotName.locks before c.get_free-right.result.0 w.get_slowly-right.result c.args.key
+          (rw w.if-got.false at c.get_free-right.ensures) w.get_slowly-right.ensures)
+    ] in
+    adds_at (λ t. GetWord t c.args.key) c.args.pass c.taken.result.0 before c.if-got.right owner.did
+    c.apart-right.ensures.same c.taken.ensures.pass
+    (ap (λ (r : LotStanding g.row.V.Denot). r.did) owner.is) owner.got

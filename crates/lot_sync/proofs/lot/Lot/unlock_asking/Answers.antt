@@ -1,41 +1,90 @@
-use Rattle.std.proofs.Common.{sym, ap, subst}
+use Rattle.std.proofs.Common.{inl, inr, false, sym, ap, subst}
 use Rattle.lot_scheme.specs.Standing.{LotStanding}
-use Rattle.lot_locks.specs.Released.{FreeWord}
+use Rattle.lot_locks.specs.Released.{FreeWord, IsFitting}
+use Rattle.lot_locks.specs.Standing.{LetsGo}
 use Rattle.lot_sync.specs.Lot.{◌≈◌, letting_go}
 use Rattle.lot_sync.specs.Words.{Adds}
-use Rattle.lot_sync.specs.Passes.{pass_view_of}
+use Rattle.lot_sync.specs.Passes.{pass_view_of, AreCounted}
 use Rattle.lot_sync.proofs.Adding.{alike_at, adds_at}
 use Rattle.lot_sync.proofs.Rests.{rests_free, leaves_all}
 use Rattle.lot_sync.proofs.Holdings.{sees_left}
+use Rattle.lot_sync.proofs.lot.Lot.unlock_asking.Goals.{then-freed, else-freed}
 use Rattle.lot_sync.proofs.lot.Lot.unlock_asking.Goals as goal
+
+pub unpark_asking-requires-clause-may : goal.unpark_asking-requires-clause-may
+unpark_asking-requires-clause-may g c κs within = (rw c.if-freed.false at c.free-right.ensures.step).0
 
 pub at_rest-requires-clause-rest : goal.at_rest-requires-clause-rest
 at_rest-requires-clause-rest g c κs within =
     let b = c.given_back-right.ensures in
-    rests_free _ _ g.V.Keeps.grows_on c.given_back-right.result.0 c.let_go_asking-right.result.0 c.key-key.result c.args.held.value
-    c.let_go_asking-right.result.1
-    b.locks b.owner b.lies b.grown c.let_go_asking-right.ensures.went
+    let before = c.given_back-right.result.0 in
+    let went : LetsGo before c.key-key.result c.if-freed.right.1 c.if-freed.right.0 = elim c.if-freed.branch [
+      | then-freed w ↦ subst (λ r. LetsGo before c.key-key.result r.1 r.0) (sym w.right-is)
+          (rw w.if-freed.true at c.free-right.ensures.step)
+      | else-freed w ↦ subst (λ r. LetsGo before c.key-key.result r.1 r.0) (sym w.right-is)
+          ((rw w.if-freed.false at c.free-right.ensures.step).1 w.unpark_asking.result.1 w.unpark_asking.result.0
+          w.unpark_asking.ensures.went)
+    ] in
+    rests_free _ _ g.V.Keeps.grows_on before c.if-freed.right.0 c.key-key.result c.args.held.value c.if-freed.right.1
+    b.locks b.owner b.lies b.grown went
+
+pub at_rest-requires-clause-kept : goal.at_rest-requires-clause-kept
+at_rest-requires-clause-kept g c κs within =
+    let before = c.given_back-right.result.0 in
+    let kept = c.given_back-right.result.1.value in
+    let went : LetsGo before c.key-key.result c.if-freed.right.1 c.if-freed.right.0 = elim c.if-freed.branch [
+      | then-freed w ↦ subst (λ r. LetsGo before c.key-key.result r.1 r.0) (sym w.right-is)
+          (rw w.if-freed.true at c.free-right.ensures.step)
+      | else-freed w ↦ subst (λ r. LetsGo before c.key-key.result r.1 r.0) (sym w.right-is)
+          ((rw w.if-freed.false at c.free-right.ensures.step).1 w.unpark_asking.result.1 w.unpark_asking.result.0
+          w.unpark_asking.ensures.went)
+    ] in
+    subst (λ r. AreCounted g.N.LotName.locks g.N.LotName.conds r kept) (sym went.is) c.given_back-right.ensures.kept
 
 pub returns-clause-pass : goal.returns-clause-pass
 returns-clause-pass g c =
     let b = c.given_back-right.ensures in
+    let before = c.given_back-right.result.0 in
+    let went : LetsGo before c.key-key.result c.if-freed.right.1 c.if-freed.right.0 = elim c.if-freed.branch [
+      | then-freed w ↦ subst (λ r. LetsGo before c.key-key.result r.1 r.0) (sym w.right-is)
+          (rw w.if-freed.true at c.free-right.ensures.step)
+      | else-freed w ↦ subst (λ r. LetsGo before c.key-key.result r.1 r.0) (sym w.right-is)
+          ((rw w.if-freed.false at c.free-right.ensures.step).1 w.unpark_asking.result.1 w.unpark_asking.result.0
+          w.unpark_asking.ensures.went)
+    ] in
     subst (λ k. c.at_rest.result ≈ letting_go c.args.pass k c.args.held.value) c.key-key.ensures
     (subst (λ v. c.at_rest.result ≈ letting_go v c.key-key.result c.args.held.value) b.same
-    (alike_at c.at_rest.result (letting_go (pass_view_of c.given_back-right.result.0) c.key-key.result c.args.held.value)
-    c.let_go_asking-right.result.0 c.at_rest.ensures.pass
-    (leaves_all _ c.given_back-right.result.0 c.let_go_asking-right.result.0 c.key-key.result c.args.held.value b.lies
-    c.let_go_asking-right.ensures.went)))
+    (alike_at c.at_rest.result (letting_go (pass_view_of before) c.key-key.result c.args.held.value)
+    c.if-freed.right.0 c.at_rest.ensures.pass
+    (leaves_all _ before c.if-freed.right.0 c.key-key.result c.args.held.value b.lies went)))
 
 pub returns-clause-made : goal.returns-clause-made
 returns-clause-made g c =
-    let went = c.let_go_asking-right.ensures.went in
+    let before = c.given_back-right.result.0 in
+    let went : LetsGo before c.key-key.result c.if-freed.right.1 c.if-freed.right.0 = elim c.if-freed.branch [
+      | then-freed w ↦ subst (λ r. LetsGo before c.key-key.result r.1 r.0) (sym w.right-is)
+          (rw w.if-freed.true at c.free-right.ensures.step)
+      | else-freed w ↦ subst (λ r. LetsGo before c.key-key.result r.1 r.0) (sym w.right-is)
+          ((rw w.if-freed.false at c.free-right.ensures.step).1 w.unpark_asking.result.1 w.unpark_asking.result.0
+          w.unpark_asking.ensures.went)
+    ] in
     subst
-    (λ k. Adds c.args.pass.made (FreeWord c.args.pass.thread k c.let_go_asking-right.result.1) c.at_rest.result.made) c.key-key.ensures
-    (adds_at (λ t. FreeWord t c.key-key.result c.let_go_asking-right.result.1) c.args.pass c.at_rest.result c.given_back-right.result.0
-    c.let_go_asking-right.result.0 went.did
+    (λ k. Adds c.args.pass.made (FreeWord c.args.pass.thread k c.if-freed.right.1) c.at_rest.result.made) c.key-key.ensures
+    (adds_at (λ t. FreeWord t c.key-key.result c.if-freed.right.1) c.args.pass c.at_rest.result before
+    c.if-freed.right.0 went.did
     (sym c.given_back-right.ensures.same) c.at_rest.ensures.pass (ap (λ (r : LotStanding g.row.V.Denot). r.did) went.is) went.freed)
 
 pub returns-clause-seen : goal.returns-clause-seen
 returns-clause-seen g c =
     sees_left _ c.args.pass c.at_rest.result c.args.held.key c.args.held.value c.requires.key c.at_rest.ensures.shape
     (returns-clause-pass g c)
+
+pub returns-clause-fits : goal.returns-clause-fits
+returns-clause-fits g c = elim c.if-freed.branch [
+  | then-freed w ↦ inl (ap (λ r. r.1) w.right-is)
+  | else-freed w ↦ inr (
+    w.unpark_asking.ensures.fits.0,
+    w.unpark_asking.ensures.fits.1,
+    subst (λ r. IsFitting r.1 false w.unpark_asking.ensures.fits.0.now) (sym w.right-is) w.unpark_asking.ensures.fits.2,
+  )
+]

@@ -6,7 +6,8 @@ use Rattle.lot_rights.specs.Start.{OpensWell, Begins, root_at}
 use Rattle.lot_sems.specs.World.{Numbers}
 use Rattle.lot_sems.specs.Opening.{opening_words}
 use Rattle.lot_sems.proofs.Opens.{opening_long}
-use Rattle.lot_words.specs.Shelf.{AllSome}
+use Rattle.std.specs.List.{All}
+use Rattle.std.specs.Option.{IsSome}
 use Rattle.lot_words.proofs.Shelves.{all_some_filled, same_values_back}
 use Rattle.lot_whole.specs.Family.{sem_size, key_count}
 use Rattle.lot_whole.specs.Rule.{size_of, meaning}
@@ -81,7 +82,7 @@ returns-in-Ok-open_with-clause-rule g c =
 
 pub unshelve-requires-clause-full : goal.unshelve-requires-clause-full
 unshelve-requires-clause-full g c =
-    subst AllSome (sym (c.in-Err.ensures.back ∙ c.shelve.ensures.slots)) (all_some_filled c.args.values.items)
+    subst (All IsSome) (sym (c.in-Err.ensures.back ∙ c.shelve.ensures.slots)) (all_some_filled c.args.values.items)
 
 pub returns-clause-back : goal.returns-clause-back
 returns-clause-back g c =

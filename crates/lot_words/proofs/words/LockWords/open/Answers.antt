@@ -6,7 +6,8 @@ use Rattle.lot_core.specs.declared.state.TheConstants.{MAX_THREADS, MAX_KEYS}
 use Rattle.lot_rights.specs.Layout.{word_count}
 use Rattle.lot_rights.specs.Start.{OpensWell, Begins}
 use Rattle.lot_words.specs.Rule.{meaning}
-use Rattle.lot_words.specs.Shelf.{AllSome}
+use Rattle.std.specs.List.{All}
+use Rattle.std.specs.Option.{IsSome}
 use Rattle.lot_words.specs.Shown.{pass_at, root_at}
 use Rattle.lot_words.proofs.Opens.{opens_well}
 use Rattle.lot_words.proofs.Shelves.{all_some_filled, same_values_back}
@@ -30,7 +31,7 @@ open-requires-clause-opens g c =
 
 pub unshelve-requires-clause-full : goal.unshelve-requires-clause-full
 unshelve-requires-clause-full g c =
-    subst AllSome (sym (c.in-Err-open.ensures.back ∙ c.shelve.ensures.slots)) (all_some_filled c.args.values.items)
+    subst (All IsSome) (sym (c.in-Err-open.ensures.back ∙ c.shelve.ensures.slots)) (all_some_filled c.args.values.items)
 
 pub returns-clause-back : goal.returns-clause-back
 returns-clause-back g c =
