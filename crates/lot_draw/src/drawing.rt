@@ -56,11 +56,13 @@ fn push_head(out: &mut String, layout: &Layout, script: &Script) -> Result<(), A
 
 /// Stripes for who is in a line.
 const LINE: &str =
-    "<pattern id='line' width='6' height='6' patternUnits='userSpaceOnUse' patternTransform='rotate(45)'><path d='M1.5 0V6' stroke='#fff' stroke-width='3'/></pattern>";
+    "<pattern id='line' width='6' height='6' patternUnits='userSpaceOnUse' patternTransform='rotate(45)'>\
+     <path d='M1.5 0V6' stroke='#fff' stroke-width='3'/></pattern>";
 
 /// The head of an arrow.
 const HEAD: &str =
-    "<marker id='head' viewBox='0 0 8 8' refX='8' refY='4' markerWidth='8' markerHeight='8' markerUnits='userSpaceOnUse' orient='auto'><path d='M0 0L8 4L0 8z'/></marker>";
+    "<marker id='head' viewBox='0 0 8 8' refX='8' refY='4' markerWidth='8' markerHeight='8' \
+     markerUnits='userSpaceOnUse' orient='auto'><path d='M0 0L8 4L0 8z'/></marker>";
 
 /// The stripes, as a colour.
 const STRIPES: &str = "url(#line)";

@@ -6,8 +6,9 @@
 //! | The word says | and the thread | Then it |
 //! |---|---|---|
 //! | `Free` | takes one | has it, or looks again |
-//! | `Taken` | yields, while it has not yielded 40 times; else it lines up | looks again, or sleeps |
-//! | `Parked` | lines up: it takes one where one is left by now, and sleeps otherwise | has it, or looks again |
+//! | `Taken`, and it has not yielded 40 times | yields, and takes one where others seek too | has it, or looks again |
+//! | `Taken` still | lines up: it takes one where one is left by now, and sleeps otherwise | has it, or looks again |
+//! | `Parked` | lines up | has it, or looks again |
 ghost use Rattle.std.specs.Prelude.{◌<◌, MatchBool};
 ghost use Rattle.lot_park.specs.Parking.{Ends, Awaited, Queues};
 ghost use Rattle.lot_park.specs.Seeking.{SeekingLaws};
@@ -137,8 +138,7 @@ pub fn get_or_park<S: Sought<T>, T, R: Wait, B: BeforeSleep>(
         let (next, has_got) = match look {
             Look::Free => scheme.take(pass, key),
             Look::Taken if spins.has_more() => {
-                spins.back_off();
-                (pass, false)
+                take_after_yields::<S, T>(scheme, pass, key, &mut spins)
             }
             Look::Taken => sleep_in_line::<S, T, R, B>(rt, parking, pass, key, false, before),
             Look::Parked => sleep_in_line::<S, T, R, B>(rt, parking, pass, key, true, before),
@@ -151,6 +151,26 @@ pub fn get_or_park<S: Sought<T>, T, R: Wait, B: BeforeSleep>(
         look = scheme.look_at(key);
     }
     unreachable!()
+}
+
+/// Yields until it is time to look again. Where others seek too, it takes one then, without a look before: between a
+/// look that finds one left and the taking of it, whoever owned it has mostly got it again.
+fn take_after_yields<S: Sought<T>, T>(
+    scheme: &S,
+    pass: S::Pass,
+    key: usize,
+    spins: &mut Spins,
+) -> (S::Pass, bool)
+    requires has { S.has scheme.now key }
+    requires waits { S.seeks pass key Waits pass }
+    ensures { MatchBool result.1 (S.seeks pass key Got result.0) (S.seeks pass key Waits result.0) }
+{
+    spins.back_off();
+    if spins.is_alone() {
+        (pass, false)
+    } else {
+        scheme.take(pass, key)
+    }
 }
 
 /// Lines up, and sleeps until it is woken. Says whether it has got it.

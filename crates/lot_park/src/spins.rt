@@ -17,12 +17,13 @@ const IN_A_CROWD: u32 = 12;
 /// How many others are a crowd.
 const CROWD: usize = 3;
 
-/// How often one call has yielded so far, at most 40 times, and how often it yields before its next look: once, but for
-/// the first.
+/// How often one call has yielded so far, at most 40 times; how often it yields before its next look: once, but for the
+/// first; and whether nobody else sought as it began.
 #[derive(Clone, Copy)]
 pub(crate) struct Spins {
     made: u32,
     before_look: u32,
+    is_alone: bool,
     ghost few: { made ≤ MOST_SPINS },
     ghost next: { before_look ≤ MOST_SPINS },
 }
@@ -34,6 +35,7 @@ impl Spins {
         ensures alone { others ≡ 0 → result.before_look ≡ 0 }
         ensures few { 0 < others → others < CROWD → result.before_look ≡ AMONG_FEW }
         ensures many { CROWD ≤ others → result.before_look ≡ IN_A_CROWD }
+        ensures is_alone { IsTrue result.is_alone ↔ (others ≡ 0) }
     {
         let before_look = if others == 0 {
             0
@@ -45,6 +47,7 @@ impl Spins {
         Spins {
             made: 0,
             before_look,
+            is_alone: others == 0,
         }
     }
 
@@ -55,10 +58,18 @@ impl Spins {
         self.made < MOST_SPINS
     }
 
+    /// Whether nobody else sought as it began.
+    pub(crate) fn is_alone(self) -> bool
+        ensures { result ≡ self.is_alone }
+    {
+        self.is_alone
+    }
+
     /// Yields until it is time to look again.
     pub(crate) fn back_off(&mut self)
         ensures made { self.new.made ≡ min MOST_SPINS (self.old.made + self.old.before_look) }
         ensures next { self.new.before_look ≡ 1 }
+        ensures alone { self.new.is_alone ≡ self.old.is_alone }
     {
         let end = MOST_SPINS.min(self.made + self.before_look);
         for _ in self.made..end {
