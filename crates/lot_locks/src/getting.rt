@@ -112,6 +112,10 @@ impl<V: Keeps + Send, N: LotName<V> + Send> Sought<Locks> for LotScheme<V, N> {
         take(self, pass, key)
     }
 
+    fn take_free(&self, pass: NamedPass<V, N>, key: usize) -> (NamedPass<V, N>, bool) {
+        get_free(self, pass, key)
+    }
+
     #[tactic(auto, using(crate::proofs::Seeking::line_laws))]
     fn line_up(
         &self,

@@ -76,6 +76,16 @@ pub trait Sought<T>: Scheme {
         requires waits { seeks pass key Waits pass }
         ensures { MatchBool result.1 (seeks pass key Got result.0) (seeks pass key Waits result.0) };
 
+    /// Takes one by a single exchange, with no look before, where the word of a free one can be guessed, at which nobody
+    /// is marked as parked. It may miss one that is left. Without a body of its own it is `take`.
+    fn take_free(&self, pass: Self::Pass, key: usize) -> (Self::Pass, bool)
+        requires has { has self.now key }
+        requires waits { seeks pass key Waits pass }
+        ensures { MatchBool result.1 (seeks pass key Got result.0) (seeks pass key Waits result.0) }
+    {
+        self.take(pass, key)
+    }
+
     /// What a thread does before it parks: it takes one where one is left by now, and else marks it as parked, unless
     /// it was seen so.
     fn line_up(&self, pass: Self::Pass, key: usize, is_marked: bool) -> (Self::Pass, Seeking)
@@ -153,8 +163,8 @@ pub fn get_or_park<S: Sought<T>, T, R: Wait, B: BeforeSleep>(
     unreachable!()
 }
 
-/// Yields until it is time to look again. Where others seek too, it takes one then, without a look before: between a
-/// look that finds one left and the taking of it, whoever owned it has mostly got it again.
+/// Yields until it is time to look again. Where others seek too, it takes a free one then, without a look before: after
+/// a look that finds it free, whoever had it mostly gets it again first.
 fn take_after_yields<S: Sought<T>, T>(
     scheme: &S,
     pass: S::Pass,
@@ -169,7 +179,7 @@ fn take_after_yields<S: Sought<T>, T>(
     if spins.is_alone() {
         (pass, false)
     } else {
-        scheme.take(pass, key)
+        scheme.take_free(pass, key)
     }
 }
 
