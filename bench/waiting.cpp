@@ -6,6 +6,8 @@
 //   PAUSES=     how many pauses of the processor come before each look of a thread that seeks a lock alone; then it yields by FEW
 //   FIRST=0     1: where a thread that seeks alone sees at its first look that the lock is free, it takes it
 //   VALUE=0     1: a lock has a value in a cache line of its own, which its owner takes out and puts back, as a lot's does
+//   TRIES=2     how often a thread whose exchange missed tries again, after eight pauses each, where nobody seeks
+//   DIRECT=1    a thread that seeks among others tries after its yields by one exchange, without a look. 0: it looks; 2: by a load and an exchange
 //   SEEKING=2   0: FEW is where at most two threads are there
 //   CROWD=4     where so many seek a lock now, it yields by CROWDED=c1
 //   PARKED=0    0: where it sees that somebody is parked, it lines up at once; 1: it yields first, as where the lock is taken
@@ -32,8 +34,9 @@ struct Ways {
     int few[32], many[32], crowded[32], pauses[32], last_few = 0, last_many = 0, last_crowded = 0, last_pauses = 0, queued = 8;
     bool yields_where_parked = false, takes_at_first = false, has_value = false;
     size_t threads = 0;
-    int seeking_few = 0, crowd = 9;
-    std::atomic<int> seeking { 0 };
+    int seeking_few = 0, crowd = 9, tries = 2, direct = 1;
+    alignas(64) std::atomic<int> seeking { 0 };
+    char rest_of_its_line[60];
 
     static bool is_set(const char* name) { return getenv(name) && !strcmp(getenv(name), "1"); }
     static void read(const char* name, const char* usual, int* ways, int& last) {
@@ -166,9 +169,29 @@ struct alignas(128) Lock {
         if (!word.compare_exchange_strong(held, 0))
             unpark();
     }
-    bool take() { return !(word.fetch_or(HELD) & HELD); }
+    // As the lot's fetch-or: a load, and exchanges.
+    bool take() {
+        uint64_t found = word.load();
+        while (!word.compare_exchange_strong(found, found | HELD)) { }
+        return !(found & HELD);
+    }
+    bool take_free() {
+        uint64_t free = 0;
+        return word.compare_exchange_strong(free, HELD);
+    }
+    bool try_again() {
+        for (int i = word.load() == HELD && ways.seek_now() == 0 ? ways.tries : 0; i > 0; i--) {
+            for (int pause = 0; pause < 8; pause++)
+                _mm_pause();
+            if (take_free())
+                return true;
+        }
+        return false;
+    }
 
     __attribute__((noinline, cold)) void get_slowly() {
+        if (try_again())
+            return;
         if (ways.seeking_few)
             ways.seeking.fetch_add(1);
         seek();
@@ -176,10 +199,11 @@ struct alignas(128) Lock {
             ways.seeking.fetch_sub(1);
     }
     void seek() {
-        int made = 0, looks = 0, paused = ways.are_few(ways.seek_now()) ? 0 : ways.last_pauses + 1;
+        bool alone = ways.are_few(ways.seek_now());
+        int made = 0, looks = 0, paused = alone ? 0 : ways.last_pauses + 1;
         // A first look tells whether somebody is parked; where the lock is free again, it is left to its owner.
         uint64_t seen = word.load();
-        if (seen != BOTH && !(ways.takes_at_first && ways.are_few(ways.seek_now())))
+        if (seen != BOTH && !(ways.takes_at_first && alone))
             seen = HELD;
         for (;;) {
             if (!(seen & HELD)) {
@@ -193,6 +217,8 @@ struct alignas(128) Lock {
                     int end = std::min(MOST_SPINS, made + ways.before_look(looks++));
                     for (; made < end; made++)
                         sched_yield();
+                    if (ways.direct && !alone && (ways.direct == 1 ? take_free() : take()))
+                        return;
                 }
             } else if (line_up(seen == BOTH)) {
                 return;
@@ -276,6 +302,8 @@ int main(int argc, char** argv) {
     Ways::read("FEW", "01", ways.few, ways.last_few);
     Ways::read("PAUSES", "", ways.pauses, ways.last_pauses);
     Ways::read("CROWDED", "c1", ways.crowded, ways.last_crowded);
+    ways.tries = getenv("TRIES") ? atoi(getenv("TRIES")) : 2;
+    ways.direct = getenv("DIRECT") ? atoi(getenv("DIRECT")) : 1;
     ways.seeking_few = getenv("SEEKING") ? atoi(getenv("SEEKING")) : 2;
     ways.crowd = getenv("CROWD") ? atoi(getenv("CROWD")) : 4;
     ways.queued = getenv("QUEUED") ? atoi(getenv("QUEUED")) : 8;

@@ -17,13 +17,15 @@ pub(crate) struct Pass {
     pub(crate) thread: usize,
 }
 
-// A word for each thread: 0 where no letter lies, else the token and 1. And how often it looked for one; and how often
-// any looked at the word of what it sought.
+// A word for each thread: 0 where no letter lies, else the token and 1. And how often it looked for one; how often any
+// looked at the word of what it sought, and tried without a look; and flags of two threads that meet as they line up.
 #[derive(Drop)]
 pub(crate) struct Letters {
     words: [AtomicU64; THREADS],
     looks: [AtomicU64; THREADS],
     looks_at_words: AtomicU64,
+    tries: AtomicU64,
+    pub(crate) lined_up: [AtomicU64; 2],
 }
 
 impl Letters {
@@ -33,6 +35,14 @@ impl Letters {
 
     pub(crate) fn looks_at_words(&self) -> u64 {
         self.looks_at_words.load(Ordering::SeqCst)
+    }
+
+    pub(crate) fn note_a_try(&self) {
+        self.tries.fetch_add(1, Ordering::SeqCst);
+    }
+
+    pub(crate) fn tries(&self) -> u64 {
+        self.tries.load(Ordering::SeqCst)
     }
 }
 
@@ -113,6 +123,8 @@ pub(crate) fn no_letters() -> Letters {
         words: [AtomicU64::new(0), AtomicU64::new(0), AtomicU64::new(0)],
         looks: [AtomicU64::new(0), AtomicU64::new(0), AtomicU64::new(0)],
         looks_at_words: AtomicU64::new(0),
+        tries: AtomicU64::new(0),
+        lined_up: [AtomicU64::new(0), AtomicU64::new(0)],
     }
 }
 

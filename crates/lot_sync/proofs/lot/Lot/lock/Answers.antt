@@ -6,8 +6,20 @@ use Rattle.lot_locks.proofs.Seeking.{may_take, owner_on}
 use Rattle.lot_sync.specs.Values.{Gets}
 use Rattle.lot_sync.proofs.Rests.{owns_newly, gets_all}
 use Rattle.lot_sync.proofs.Adding.{adds_at}
-use Rattle.lot_sync.proofs.lot.Lot.lock.Goals.{then-got, else-got}
+use Rattle.lot_sync.proofs.lot.Lot.lock.Given.{Over}
+use Rattle.lot_sync.proofs.lot.Lot.lock.Goals.{Joined-got, then-got, else-got}
 use Rattle.lot_sync.proofs.lot.Lot.lock.Goals as goal
+
+-- the lock was got: by the first exchange, or slowly
+got : (g : Over) (c : Joined-got g) → IsOwner g.V.Keeps c.apart-right.result.0 c.args.key c.if-got.right
+got g c =
+    let before = c.apart-right.result.0 in
+    elim c.if-got.branch [
+      | then-got w ↦ subst (IsOwner g.V.Keeps before c.args.key) (sym w.right-is) (rw w.if-got.true at c.get_free-right.ensures)
+      | else-got w ↦ subst (IsOwner g.V.Keeps before c.args.key) (sym w.right-is)
+          (owner_on g.V.Keeps g.N.LotName.locks before c.get_free-right.result.0 w.get_slowly-right.result c.args.key
+          (rw w.if-got.false at c.get_free-right.ensures) w.get_slowly-right.ensures)
+    ]
 
 pub get_slowly-right-requires-clause-may : goal.get_slowly-right-requires-clause-may
 get_slowly-right-requires-clause-may g c κs within =
@@ -18,12 +30,7 @@ taken-requires-clause-owner g c κs within =
     let same = c.parking.ensures.keys.0 in
     let near = c.requires.key in
     let before = c.apart-right.result.0 in
-    let owner : IsOwner g.V.Keeps before c.args.key c.if-got.right = elim c.if-got.branch [
-      | then-got w ↦ subst (IsOwner g.V.Keeps before c.args.key) (sym w.right-is) (rw w.if-got.true at c.get_free-right.ensures)
-      | else-got w ↦ subst (IsOwner g.V.Keeps before c.args.key) (sym w.right-is)
-          (owner_on g.V.Keeps g.N.LotName.locks before c.get_free-right.result.0 w.get_slowly-right.result c.args.key
-          (rw w.if-got.false at c.get_free-right.ensures) w.get_slowly-right.ensures)
-    ] in
+    let owner = got g (goal.at.taken-requires-clause-owner g c).Joined-got in
     owns_newly g.V.Keeps _ _ before c.if-got.right c.args.key (omega (arith, same, near)) c.apart-right.ensures.rest owner
 
 pub returns-clause-gets : goal.returns-clause-gets
@@ -31,12 +38,7 @@ returns-clause-gets g c =
     let same = c.parking.ensures.keys.0 in
     let near = c.requires.key in
     let before = c.apart-right.result.0 in
-    let owner : IsOwner g.V.Keeps before c.args.key c.if-got.right = elim c.if-got.branch [
-      | then-got w ↦ subst (IsOwner g.V.Keeps before c.args.key) (sym w.right-is) (rw w.if-got.true at c.get_free-right.ensures)
-      | else-got w ↦ subst (IsOwner g.V.Keeps before c.args.key) (sym w.right-is)
-          (owner_on g.V.Keeps g.N.LotName.locks before c.get_free-right.result.0 w.get_slowly-right.result c.args.key
-          (rw w.if-got.false at c.get_free-right.ensures) w.get_slowly-right.ensures)
-    ] in
+    let owner = got g (goal.at.returns-clause-gets g c).Joined-got in
     subst (λ p. Gets g.V.Keeps p c.args.key c.taken.result.1 c.taken.result.0) (sym c.apart-right.ensures.same)
     (gets_all g.V.Keeps _ _ before c.if-got.right c.taken.result.1 c.args.key
     (omega (arith, same, near)) c.apart-right.ensures.rest owner
@@ -45,12 +47,7 @@ returns-clause-gets g c =
 pub returns-clause-made : goal.returns-clause-made
 returns-clause-made g c =
     let before = c.apart-right.result.0 in
-    let owner : IsOwner g.V.Keeps before c.args.key c.if-got.right = elim c.if-got.branch [
-      | then-got w ↦ subst (IsOwner g.V.Keeps before c.args.key) (sym w.right-is) (rw w.if-got.true at c.get_free-right.ensures)
-      | else-got w ↦ subst (IsOwner g.V.Keeps before c.args.key) (sym w.right-is)
-          (owner_on g.V.Keeps g.N.LotName.locks before c.get_free-right.result.0 w.get_slowly-right.result c.args.key
-          (rw w.if-got.false at c.get_free-right.ensures) w.get_slowly-right.ensures)
-    ] in
+    let owner = got g (goal.at.returns-clause-made g c).Joined-got in
     adds_at (λ t. GetWord t c.args.key) c.args.pass c.taken.result.0 before c.if-got.right owner.did
     c.apart-right.ensures.same c.taken.ensures.pass
     (ap (λ (r : LotStanding g.row.V.Denot). r.did) owner.is) owner.got

@@ -8,8 +8,21 @@ use Rattle.lot_sync.specs.Passes.{pass_view_of, AreCounted}
 use Rattle.lot_sync.proofs.Adding.{alike_at, adds_at}
 use Rattle.lot_sync.proofs.Rests.{rests_free, leaves_all}
 use Rattle.lot_sync.proofs.Holdings.{sees_left}
-use Rattle.lot_sync.proofs.lot.Lot.unlock_asking.Goals.{then-freed, else-freed}
+use Rattle.lot_sync.proofs.lot.Lot.unlock_asking.Given.{Over}
+use Rattle.lot_sync.proofs.lot.Lot.unlock_asking.Goals.{Joined-freed, then-freed, else-freed}
 use Rattle.lot_sync.proofs.lot.Lot.unlock_asking.Goals as goal
+
+-- the lock was let go: by the first exchange, or by what unparked somebody
+let_go : (g : Over) (c : Joined-freed g) → LetsGo c.given_back-right.result.0 c.key-key.result c.if-freed.right.1 c.if-freed.right.0
+let_go g c =
+    let before = c.given_back-right.result.0 in
+    elim c.if-freed.branch [
+      | then-freed w ↦ subst (λ r. LetsGo before c.key-key.result r.1 r.0) (sym w.right-is)
+          (rw w.if-freed.true at c.free-right.ensures.step)
+      | else-freed w ↦ subst (λ r. LetsGo before c.key-key.result r.1 r.0) (sym w.right-is)
+          ((rw w.if-freed.false at c.free-right.ensures.step).1 w.unpark_asking.result.1 w.unpark_asking.result.0
+          w.unpark_asking.ensures.went)
+    ]
 
 pub unpark_asking-requires-clause-may : goal.unpark_asking-requires-clause-may
 unpark_asking-requires-clause-may g c κs within = (rw c.if-freed.false at c.free-right.ensures.step).0
@@ -18,13 +31,7 @@ pub at_rest-requires-clause-rest : goal.at_rest-requires-clause-rest
 at_rest-requires-clause-rest g c κs within =
     let b = c.given_back-right.ensures in
     let before = c.given_back-right.result.0 in
-    let went : LetsGo before c.key-key.result c.if-freed.right.1 c.if-freed.right.0 = elim c.if-freed.branch [
-      | then-freed w ↦ subst (λ r. LetsGo before c.key-key.result r.1 r.0) (sym w.right-is)
-          (rw w.if-freed.true at c.free-right.ensures.step)
-      | else-freed w ↦ subst (λ r. LetsGo before c.key-key.result r.1 r.0) (sym w.right-is)
-          ((rw w.if-freed.false at c.free-right.ensures.step).1 w.unpark_asking.result.1 w.unpark_asking.result.0
-          w.unpark_asking.ensures.went)
-    ] in
+    let went = let_go g (goal.at.at_rest-requires-clause-rest g c).Joined-freed in
     rests_free _ _ g.V.Keeps.grows_on before c.if-freed.right.0 c.key-key.result c.args.held.value c.if-freed.right.1
     b.locks b.owner b.lies b.grown went
 
@@ -32,26 +39,14 @@ pub at_rest-requires-clause-kept : goal.at_rest-requires-clause-kept
 at_rest-requires-clause-kept g c κs within =
     let before = c.given_back-right.result.0 in
     let kept = c.given_back-right.result.1.value in
-    let went : LetsGo before c.key-key.result c.if-freed.right.1 c.if-freed.right.0 = elim c.if-freed.branch [
-      | then-freed w ↦ subst (λ r. LetsGo before c.key-key.result r.1 r.0) (sym w.right-is)
-          (rw w.if-freed.true at c.free-right.ensures.step)
-      | else-freed w ↦ subst (λ r. LetsGo before c.key-key.result r.1 r.0) (sym w.right-is)
-          ((rw w.if-freed.false at c.free-right.ensures.step).1 w.unpark_asking.result.1 w.unpark_asking.result.0
-          w.unpark_asking.ensures.went)
-    ] in
+    let went = let_go g (goal.at.at_rest-requires-clause-kept g c).Joined-freed in
     subst (λ r. AreCounted g.N.LotName.locks g.N.LotName.conds r kept) (sym went.is) c.given_back-right.ensures.kept
 
 pub returns-clause-pass : goal.returns-clause-pass
 returns-clause-pass g c =
     let b = c.given_back-right.ensures in
     let before = c.given_back-right.result.0 in
-    let went : LetsGo before c.key-key.result c.if-freed.right.1 c.if-freed.right.0 = elim c.if-freed.branch [
-      | then-freed w ↦ subst (λ r. LetsGo before c.key-key.result r.1 r.0) (sym w.right-is)
-          (rw w.if-freed.true at c.free-right.ensures.step)
-      | else-freed w ↦ subst (λ r. LetsGo before c.key-key.result r.1 r.0) (sym w.right-is)
-          ((rw w.if-freed.false at c.free-right.ensures.step).1 w.unpark_asking.result.1 w.unpark_asking.result.0
-          w.unpark_asking.ensures.went)
-    ] in
+    let went = let_go g (goal.at.returns-clause-pass g c).Joined-freed in
     subst (λ k. c.at_rest.result ≈ letting_go c.args.pass k c.args.held.value) c.key-key.ensures
     (subst (λ v. c.at_rest.result ≈ letting_go v c.key-key.result c.args.held.value) b.same
     (alike_at c.at_rest.result (letting_go (pass_view_of before) c.key-key.result c.args.held.value)
@@ -61,13 +56,7 @@ returns-clause-pass g c =
 pub returns-clause-made : goal.returns-clause-made
 returns-clause-made g c =
     let before = c.given_back-right.result.0 in
-    let went : LetsGo before c.key-key.result c.if-freed.right.1 c.if-freed.right.0 = elim c.if-freed.branch [
-      | then-freed w ↦ subst (λ r. LetsGo before c.key-key.result r.1 r.0) (sym w.right-is)
-          (rw w.if-freed.true at c.free-right.ensures.step)
-      | else-freed w ↦ subst (λ r. LetsGo before c.key-key.result r.1 r.0) (sym w.right-is)
-          ((rw w.if-freed.false at c.free-right.ensures.step).1 w.unpark_asking.result.1 w.unpark_asking.result.0
-          w.unpark_asking.ensures.went)
-    ] in
+    let went = let_go g (goal.at.returns-clause-made g c).Joined-freed in
     subst
     (λ k. Adds c.args.pass.made (FreeWord c.args.pass.thread k c.if-freed.right.1) c.at_rest.result.made) c.key-key.ensures
     (adds_at (λ t. FreeWord t c.key-key.result c.if-freed.right.1) c.args.pass c.at_rest.result before
