@@ -2,21 +2,25 @@ use Rattle.std.proofs.Common.{◌<◌, sym, subst}
 use Rattle.lot_waits.specs.Waiting.{MayEnlist, HasWaited}
 use Rattle.lot_waits.proofs.Waited.{rested, same_thread, takes, has_waited}
 use Rattle.lot_waits.proofs.Told.{idle_waited, counts_waited}
+use Rattle.lot_waits.proofs.calls.wait.Given.{Over}
+use Rattle.lot_waits.proofs.calls.wait.Goals.{After-sleep_on-pass}
 use Rattle.lot_waits.proofs.calls.wait.Goals as goal
+
+may_enlist : (g : Over) (c : After-sleep_on-pass g) → MayEnlist g.N.LotName.locks g.N.LotName.first_sem c.args.pass c.args.cond c.args.lock
+may_enlist g c = record {
+  cond = (c.requires.cond.0, c.requires.cond.1);
+  lock = c.requires.lock.0;
+  idle = c.requires.idle;
+  holds = c.requires.holds;
+  lies = c.requires.lies;
+}
 
 pub get-requires-clause-thread : goal.get-requires-clause-thread
 get-requires-clause-thread g c κs within =
     let p = c.args.pass in
     let s = c.sleep_on-pass.result.0 in
     let became = c.sleep_on-pass.result.1 in
-    let may : MayEnlist g.N.LotName.locks g.N.LotName.first_sem p c.args.cond c.args.lock =
-    record {
-      cond = (c.requires.cond.0, c.requires.cond.1);
-      lock = c.requires.lock.0;
-      idle = c.requires.idle;
-      holds = c.requires.holds;
-      lies = c.requires.lies;
-    } in
+    let may = may_enlist g (goal.at.get-requires-clause-thread g c).After-sleep_on-pass in
     let r = rested g.V.Keeps g.N.LotName.locks g.N.LotName.first_sem p s c.args.cond c.args.lock became may c.sleep_on-pass.ensures.slept in
     subst (λ n. n < c.args.parking.now.threads) (sym (same_thread p s c.args.cond c.args.lock became r)) c.requires.thread
 
@@ -25,14 +29,7 @@ get-requires-clause-may g c κs within =
     let p = c.args.pass in
     let s = c.sleep_on-pass.result.0 in
     let became = c.sleep_on-pass.result.1 in
-    let may : MayEnlist g.N.LotName.locks g.N.LotName.first_sem p c.args.cond c.args.lock =
-    record {
-      cond = (c.requires.cond.0, c.requires.cond.1);
-      lock = c.requires.lock.0;
-      idle = c.requires.idle;
-      holds = c.requires.holds;
-      lies = c.requires.lies;
-    } in
+    let may = may_enlist g (goal.at.get-requires-clause-may g c).After-sleep_on-pass in
     takes g.N.LotName.locks g.N.LotName.first_sem p s c.args.cond c.args.lock became may
     (rested g.V.Keeps g.N.LotName.locks g.N.LotName.first_sem p s c.args.cond c.args.lock became may c.sleep_on-pass.ensures.slept)
 
@@ -41,14 +38,7 @@ returns g c =
     let p = c.args.pass in
     let s = c.sleep_on-pass.result.0 in
     let became = c.sleep_on-pass.result.1 in
-    let may : MayEnlist g.N.LotName.locks g.N.LotName.first_sem p c.args.cond c.args.lock =
-    record {
-      cond = (c.requires.cond.0, c.requires.cond.1);
-      lock = c.requires.lock.0;
-      idle = c.requires.idle;
-      holds = c.requires.holds;
-      lies = c.requires.lies;
-    } in
+    let may = may_enlist g (goal.at.returns g c).After-sleep_on-pass in
     let whole : HasWaited g.V.Keeps p c.args.cond c.args.lock became c.get.result =
     has_waited g.V.Keeps p s c.get.result c.args.cond c.args.lock became
     (rested g.V.Keeps g.N.LotName.locks g.N.LotName.first_sem p s c.args.cond c.args.lock became may c.sleep_on-pass.ensures.slept)
