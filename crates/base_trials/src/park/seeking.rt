@@ -152,9 +152,7 @@ fn tries_and_looks<R: Threads + Wait + Abort + Sync>(
         {
             let other = move ||
                 requires { (lot.now.threads ≡ THREADS) × (lot.now.keys ≡ 1) }
-            {
-                meets(rt, lot, 1, Look::Parked)
-            };
+            { meets(rt, lot, 1, Look::Parked) };
             is_so(rt, scope.spawn(other).is_ok(), "it starts");
             let [_, of_1] = &lot.scheme().lined_up;
             is_so(rt, is_within(of_1, 1, ASKINGS), "the other seeks");
