@@ -9,6 +9,7 @@
 //   TRIES=2     how often a thread whose exchange missed tries again, after eight pauses each, where nobody seeks
 //   DIRECT=1    a thread that seeks among others tries after its yields by one exchange, without a look. 0: it looks; 2: by a load and an exchange
 //   SEEKING=2   0: FEW is where at most two threads are there
+//   ONE=k1      the same where one other seeks a lock now; as YIELDS where none is set
 //   CROWD=4     where so many seek a lock now, it yields by CROWDED=c1
 //   PARKED=0    0: where it sees that somebody is parked, it lines up at once; 1: it yields first, as where the lock is taken
 //   QUEUED=8    how often it yields when it is queued, before it sleeps
@@ -31,7 +32,8 @@ constexpr int MOST_SPINS = 40;
 constexpr uint64_t HELD = 1, PARKED = 2, BOTH = 3;
 
 struct Ways {
-    int few[32], many[32], crowded[32], pauses[32], last_few = 0, last_many = 0, last_crowded = 0, last_pauses = 0, queued = 8;
+    int few[32], one[32], many[32], crowded[32], pauses[32];
+    int last_few = 0, last_one = 0, last_many = 0, last_crowded = 0, last_pauses = 0, queued = 8;
     bool yields_where_parked = false, takes_at_first = false, has_value = false;
     size_t threads = 0;
     int seeking_few = 0, crowd = 9, tries = 2, direct = 1;
@@ -50,6 +52,8 @@ struct Ways {
         int now = seek_now();
         if (are_few(now))
             return few[std::min(look, last_few)];
+        if (seeking_few && now == 2)
+            return one[std::min(look, last_one)];
         return now < crowd ? many[std::min(look, last_many)] : crowded[std::min(look, last_crowded)];
     }
 } ways;
@@ -300,6 +304,7 @@ struct Peer {
 int main(int argc, char** argv) {
     Ways::read("YIELDS", "k1", ways.many, ways.last_many);
     Ways::read("FEW", "01", ways.few, ways.last_few);
+    Ways::read("ONE", getenv("YIELDS") ? getenv("YIELDS") : "k1", ways.one, ways.last_one);
     Ways::read("PAUSES", "", ways.pauses, ways.last_pauses);
     Ways::read("CROWDED", "c1", ways.crowded, ways.last_crowded);
     ways.tries = getenv("TRIES") ? atoi(getenv("TRIES")) : 2;
