@@ -1,14 +1,17 @@
 //! How often a thread yields before it parks.
 ghost use Rattle.std.specs.Prelude.{◌≡◌, ◌<◌, ◌≤◌, ◌↔◌, ◌+◌, min, IsTrue};
-ghost use Rattle.lot_park.specs.declared.spins.TheConstants.{MOST_SPINS, AMONG_FEW, IN_A_CROWD, CROWD};
+ghost use Rattle.lot_park.specs.declared.spins.TheConstants.{MOST_SPINS, BESIDE_ONE, AMONG_FEW, IN_A_CROWD, CROWD};
 
 use std::thread;
 
 /// How often one call yields before it parks, at most: as WTF's `Lock`.
 const MOST_SPINS: u32 = 40;
 
-/// How often it yields before it looks again where others seek too: each look takes the word's line of the cache from
-/// its owner, so an early one makes the rounds of all others longer. A thread that seeks alone looks at once.
+/// How often it yields before it tries again where one other seeks too. A thread that seeks alone looks at once.
+const BESIDE_ONE: u32 = 8;
+
+/// How often where a few others do: each try takes the word's line of the cache from its owner, so an early one makes
+/// the rounds of all others longer.
 const AMONG_FEW: u32 = 20;
 
 /// How often where so many seek that most of them sleep.
@@ -33,16 +36,16 @@ impl Spins {
     pub(crate) fn among(others: usize) -> Spins
         ensures none { result.made ≡ 0 }
         ensures alone { others ≡ 0 → result.before_look ≡ 0 }
-        ensures few { 0 < others → others < CROWD → result.before_look ≡ AMONG_FEW }
+        ensures one { others ≡ 1 → result.before_look ≡ BESIDE_ONE }
+        ensures few { 1 < others → others < CROWD → result.before_look ≡ AMONG_FEW }
         ensures many { CROWD ≤ others → result.before_look ≡ IN_A_CROWD }
         ensures is_alone { IsTrue result.is_alone ↔ (others ≡ 0) }
     {
-        let before_look = if others == 0 {
-            0
-        } else if others < CROWD {
-            AMONG_FEW
-        } else {
-            IN_A_CROWD
+        let before_look = match others {
+            0 => 0,
+            1 => BESIDE_ONE,
+            _ if others < CROWD => AMONG_FEW,
+            _ => IN_A_CROWD,
         };
         Spins {
             made: 0,

@@ -162,7 +162,7 @@ fn tries_and_looks<R: Threads + Wait + Abort + Sync>(
     )
 }
 
-// A thread that seeks while one other does yields 20 times and tries, and looks; and so after each of 20 yields more.
+// A thread that seeks while one other does yields 8 times and tries, and looks; and so after each of 32 yields more.
 #[test]
 fn a_thread_among_others_tries_after_its_yields(rt: HostRuntime) {
     let rights = idle_rights(rt.alloc(), 1).expect(&rt, "memory");
@@ -170,6 +170,6 @@ fn a_thread_among_others_tries_after_its_yields(rt: HostRuntime) {
         Ok(opened) => opened,
         Err(_refused) => failed(&rt, "memory"),
     };
-    equal(&rt, tries_and_looks(&rt, &lot), (21, 21));
+    equal(&rt, tries_and_looks(&rt, &lot), (33, 33));
     let _letters = lot.close(&rt, &mut room);
 }
