@@ -9,7 +9,7 @@
 //   TRIES=2     how often a thread whose exchange missed tries again, after eight pauses each, where nobody seeks
 //   DIRECT=1    a thread that seeks among others tries after its yields by one exchange, without a look. 0: it looks; 2: by a load and an exchange
 //   SEEKING=2   0: FEW is where at most two threads are there
-//   ONE=k1      the same where one other seeks a lock now; as YIELDS where none is set
+//   ONE=81      the same where one other seeks a lock now; as YIELDS where that is set and ONE is not
 //   CROWD=4     where so many seek a lock now, it yields by CROWDED=c1
 //   PARKED=0    0: where it sees that somebody is parked, it lines up at once; 1: it yields first, as where the lock is taken
 //   QUEUED=8    how often it yields when it is queued, before it sleeps
@@ -304,7 +304,7 @@ struct Peer {
 int main(int argc, char** argv) {
     Ways::read("YIELDS", "k1", ways.many, ways.last_many);
     Ways::read("FEW", "01", ways.few, ways.last_few);
-    Ways::read("ONE", getenv("YIELDS") ? getenv("YIELDS") : "k1", ways.one, ways.last_one);
+    Ways::read("ONE", getenv("YIELDS") ? getenv("YIELDS") : "81", ways.one, ways.last_one);
     Ways::read("PAUSES", "", ways.pauses, ways.last_pauses);
     Ways::read("CROWDED", "c1", ways.crowded, ways.last_crowded);
     ways.tries = getenv("TRIES") ? atoi(getenv("TRIES")) : 2;
