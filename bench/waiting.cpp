@@ -3,13 +3,13 @@
 //
 //   YIELDS=k1   how often it yields before each look, a digit for each, the last one for all that follow (a is 10, b is 11, ..)
 //   FEW=01      the same where fewer than two seek a lock now, by a count of those that missed their exchange
+//   ONE=81      the same where one other seeks a lock now; where it is not set, but YIELDS is, that
 //   PAUSES=     how many pauses of the processor come before each look of a thread that seeks a lock alone; then it yields by FEW
 //   FIRST=0     1: where a thread that seeks alone sees at its first look that the lock is free, it takes it
 //   VALUE=0     1: a lock has a value in a cache line of its own, which its owner takes out and puts back, as a lot's does
 //   TRIES=2     how often a thread whose exchange missed tries again, after eight pauses each, where nobody seeks
 //   DIRECT=1    a thread that seeks among others tries after its yields by one exchange, without a look. 0: it looks; 2: by a load and an exchange
 //   SEEKING=2   0: FEW is where at most two threads are there
-//   ONE=81      the same where one other seeks a lock now; as YIELDS where that is set and ONE is not
 //   CROWD=4     where so many seek a lock now, it yields by CROWDED=c1
 //   PARKED=0    0: where it sees that somebody is parked, it lines up at once; 1: it yields first, as where the lock is taken
 //   QUEUED=8    how often it yields when it is queued, before it sleeps
