@@ -5,6 +5,8 @@
 //   FEW=01      the same where fewer than two seek a lock now, by a count of those that missed their exchange
 //   ONE=81      the same where one other seeks a lock now; where it is not set, but YIELDS is, that
 //   PAUSES=     how many pauses of the processor come before each look of a thread that seeks a lock alone; then it yields by FEW
+//   FOUND=1     the first look is the word that the missed exchange found. 0: it is a load more; 2: a lock that was found free, with threads
+//               parked, is lined up for too, and so taken at once
 //   FIRST=0     1: where a thread that seeks alone sees at its first look that the lock is free, it takes it
 //   VALUE=0     1: a lock has a value in a cache line of its own, which its owner takes out and puts back, as a lot's does
 //   TRIES=2     how often a thread whose exchange missed tries again, after eight pauses each, where nobody seeks
@@ -36,7 +38,7 @@ struct Ways {
     int last_few = 0, last_one = 0, last_many = 0, last_crowded = 0, last_pauses = 0, queued = 8;
     bool yields_where_parked = false, takes_at_first = false, has_value = false;
     size_t threads = 0;
-    int seeking_few = 0, crowd = 9, tries = 2, direct = 1;
+    int seeking_few = 0, crowd = 9, tries = 2, direct = 1, found = 1;
     alignas(64) std::atomic<int> seeking { 0 };
     char rest_of_its_line[60];
 
@@ -156,9 +158,9 @@ struct alignas(128) Lock {
     uint64_t out = 0;
 
     void lock() {
-        uint64_t free = 0;
-        if (!word.compare_exchange_strong(free, HELD))
-            get_slowly();
+        uint64_t found = 0;
+        if (!word.compare_exchange_strong(found, HELD))
+            get_slowly(ways.found ? found : word.load());
         if (ways.has_value && lies) {
             out = value;
             lies = 0;
@@ -183,8 +185,8 @@ struct alignas(128) Lock {
         uint64_t free = 0;
         return word.compare_exchange_strong(free, HELD);
     }
-    bool try_again() {
-        for (int i = word.load() == HELD && ways.seek_now() == 0 ? ways.tries : 0; i > 0; i--) {
+    bool try_again(uint64_t first) {
+        for (int i = first == HELD && ways.seek_now() == 0 ? ways.tries : 0; i > 0; i--) {
             for (int pause = 0; pause < 8; pause++)
                 _mm_pause();
             if (take_free())
@@ -193,21 +195,24 @@ struct alignas(128) Lock {
         return false;
     }
 
-    __attribute__((noinline, cold)) void get_slowly() {
-        if (try_again())
+    // The first look tells whether somebody is parked; where the lock is free again, it is left to its owner.
+    __attribute__((noinline, cold)) void get_slowly(uint64_t first) {
+        if (ways.found == 2 && (first & PARKED))
+            first = BOTH;
+        if (first != BOTH && !ways.takes_at_first)
+            first = HELD;
+        if (try_again(first))
             return;
         if (ways.seeking_few)
             ways.seeking.fetch_add(1);
-        seek();
+        seek(first);
         if (ways.seeking_few)
             ways.seeking.fetch_sub(1);
     }
-    void seek() {
+    void seek(uint64_t seen) {
         bool alone = ways.are_few(ways.seek_now());
         int made = 0, looks = 0, paused = alone ? 0 : ways.last_pauses + 1;
-        // A first look tells whether somebody is parked; where the lock is free again, it is left to its owner.
-        uint64_t seen = word.load();
-        if (seen != BOTH && !(ways.takes_at_first && alone))
+        if (seen != BOTH && !alone)
             seen = HELD;
         for (;;) {
             if (!(seen & HELD)) {
@@ -310,6 +315,7 @@ int main(int argc, char** argv) {
     ways.tries = getenv("TRIES") ? atoi(getenv("TRIES")) : 2;
     ways.direct = getenv("DIRECT") ? atoi(getenv("DIRECT")) : 1;
     ways.seeking_few = getenv("SEEKING") ? atoi(getenv("SEEKING")) : 2;
+    ways.found = getenv("FOUND") ? atoi(getenv("FOUND")) : 1;
     ways.crowd = getenv("CROWD") ? atoi(getenv("CROWD")) : 4;
     ways.queued = getenv("QUEUED") ? atoi(getenv("QUEUED")) : 8;
     ways.yields_where_parked = Ways::is_set("PARKED");

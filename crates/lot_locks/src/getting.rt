@@ -1,5 +1,5 @@
 //! Getting a lock, as WTF's `Lock::lock` does: one compare-exchange, a few yields, and then the line.
-ghost use Rattle.std.specs.Prelude.{◌<◌, true, false, MatchBool};
+ghost use Rattle.std.specs.Prelude.{◌≡◌, ◌≢◌, ◌<◌, true, false, MatchBool};
 ghost use Rattle.lot_whole.specs.Standing.{IsIdle, MayTake};
 ghost use Rattle.lot_scheme.specs.Words.{TryWord};
 ghost use Rattle.lot_locks.specs.Standing.{IsAwakeFor, IsTryingFor, IsOwner, GetsBy, MissesBy};
@@ -8,7 +8,7 @@ use crate::steps::HANDOFF;
 use lot_park::{BeforeSleep, Look, ParkingLot, Scheme, Seeking, Sought, Token, get_or_park};
 use lot_scheme::{LotName, LotScheme, NamedPass, NamedRoot};
 use lot_whole::Keeps;
-use lot_words::{HELD, PARKED};
+use lot_words::{HELD, HELD_AND_PARKED, PARKED, UNHELD};
 use std::hint;
 use std::sync::Wait;
 
@@ -37,15 +37,17 @@ pub fn is_parked<V: Keeps, N: LotName<V>>(scheme: &LotScheme<V, N>, key: usize) 
 }
 
 /// Gets the lock where nobody owns it and nobody is marked as parked. Else the pass stands as before, and has looked.
+/// The answer is the word as it was: 0 where the lock is got.
 #[inline(always)]
 pub fn get_free<V: Keeps, N: LotName<V>>(
     scheme: &LotScheme<V, N>,
     pass: NamedPass<V, N>,
     key: usize,
-) -> (NamedPass<V, N>, bool)
+) -> (NamedPass<V, N>, u64)
     requires key { key < N.locks }
     requires may { MayTake pass.own key }
-    ensures { MatchBool result.1 (IsOwner V.Keeps pass key result.0) (IsAwakeFor N.locks pass key result.0) }
+    ensures got { result.1 ≡ 0 → IsOwner V.Keeps pass key result.0 }
+    ensures missed { result.1 ≢ 0 → IsAwakeFor N.locks pass key result.0 }
 {
     scheme.take_free(pass, key)
 }
@@ -63,8 +65,8 @@ pub fn try_get<V: Keeps, N: LotName<V>>(
     ensures { MatchBool result.1 (GetsBy V.Keeps (TryWord pass.thread key true) pass key result.0)
         (MissesBy (TryWord pass.thread key false) pass result.0) }
 {
-    let (pass, got) = scheme.take_free(pass, key);
-    if got {
+    let (pass, found) = scheme.take_free(pass, key);
+    if found == UNHELD {
         return (pass, true);
     }
     scheme.try_take(pass, key)
@@ -113,7 +115,8 @@ impl<V: Keeps + Send, N: LotName<V> + Send> Sought<Locks> for LotScheme<V, N> {
     }
 
     fn take_free(&self, pass: NamedPass<V, N>, key: usize) -> (NamedPass<V, N>, bool) {
-        get_free(self, pass, key)
+        let (pass, found) = get_free(self, pass, key);
+        (pass, found == UNHELD)
     }
 
     #[tactic(auto, using(crate::proofs::Seeking::line_laws))]
@@ -167,11 +170,11 @@ pub fn get<V: Keeps + Send, N: LotName<V> + Send, R: Wait, B: BeforeSleep>(
     requires may { MayTake pass.own key }
     ensures { IsOwner V.Keeps pass key result }
 {
-    let (pass, got) = get_free(parking.scheme(), pass, key);
-    if got {
+    let (pass, found) = get_free(parking.scheme(), pass, key);
+    if found == UNHELD {
         pass
     } else {
-        get_slowly(rt, parking, pass, key, before)
+        get_slowly(rt, parking, pass, key, found, before)
     }
 }
 
@@ -198,8 +201,8 @@ fn try_again<V: Keeps, N: LotName<V>>(
     let mut pass = pass;
     for _ in 0..tries {
         pause();
-        let (next, got) = get_free(scheme, pass, key);
-        if got {
+        let (next, found) = get_free(scheme, pass, key);
+        if found == UNHELD {
             return (next, true);
         }
         pass = next;
@@ -207,9 +210,10 @@ fn try_again<V: Keeps, N: LotName<V>>(
     (pass, false)
 }
 
-/// Gets a lock that was found held or parked. Where it is marked as parked it lines up at once. Else it tries again, if
-/// nobody seeks anything, and then goes on as where the lock is taken, also where it is free by now: so where others
-/// seek too, it is left to its owner meanwhile. Before each sleep it does what `before` says.
+/// Gets a lock whose word was another than 0: the one that the missed exchange found, which is the first look at it.
+/// Where the lock was held and parked it lines up at once. Else it tries again, if nobody seeks anything, and then goes
+/// on as where the lock is taken: so where others seek too, it is left to its owner meanwhile. Before each sleep it does
+/// what `before` says.
 #[tactic(auto, using(crate::proofs::Seeking::owner_on))]
 #[cold]
 #[inline(never)]
@@ -218,6 +222,7 @@ pub fn get_slowly<V: Keeps + Send, N: LotName<V> + Send, R: Wait, B: BeforeSleep
     parking: &ParkingLot<LotScheme<V, N>>,
     pass: NamedPass<V, N>,
     key: usize,
+    found: u64,
     before: &B,
 ) -> NamedPass<V, N>
     requires key { (key < N.locks) × (key < parking.now.keys) }
@@ -226,9 +231,10 @@ pub fn get_slowly<V: Keeps + Send, N: LotName<V> + Send, R: Wait, B: BeforeSleep
     ensures { IsOwner V.Keeps pass key result }
 {
     let scheme = parking.scheme();
-    let first = match scheme.look_at(key) {
-        Look::Free | Look::Taken => Look::Taken,
-        Look::Parked => Look::Parked,
+    let first = if found == HELD_AND_PARKED {
+        Look::Parked
+    } else {
+        Look::Taken
     };
     let tries = match first {
         Look::Taken if !parking.has_seekers() => TRIES_ALONE,

@@ -1,6 +1,6 @@
 //! How often a thread yields before it parks.
 ghost use Rattle.std.specs.Prelude.{◌≡◌, ◌<◌, ◌≤◌, ◌↔◌, ◌+◌, min, IsTrue};
-ghost use Rattle.lot_park.specs.declared.spins.TheConstants.{MOST_SPINS, BESIDE_ONE, AMONG_FEW, IN_A_CROWD, CROWD};
+ghost use Rattle.lot_park.specs.declared.spins.TheConstants.{MOST_SPINS, BESIDE_ONE, BESIDE_TWO, IN_A_CROWD};
 
 use std::thread;
 
@@ -10,46 +10,43 @@ const MOST_SPINS: u32 = 40;
 /// How often it yields before it tries again where one other seeks too. A thread that seeks alone looks at once.
 const BESIDE_ONE: u32 = 8;
 
-/// How often where a few others do: each try takes the word's line of the cache from its owner, so an early one makes
-/// the rounds of all others longer.
-const AMONG_FEW: u32 = 20;
+/// How often where two others do: each try takes the word's line of the cache from its owner, so an early one makes the
+/// rounds of all others longer.
+const BESIDE_TWO: u32 = 20;
 
-/// How often where so many seek that most of them sleep.
+/// How often where more do, so that most of them sleep.
 const IN_A_CROWD: u32 = 12;
 
-/// How many others are a crowd.
-const CROWD: usize = 3;
-
-/// How often one call has yielded so far, at most 40 times; how often it yields before its next look: once, but for the
-/// first; and whether nobody else sought as it began.
+/// How often one call has yielded so far, at most 40 times; how often it yields before it tries or looks next: once, but
+/// for the first time; and whether nobody else sought as it began.
 #[derive(Clone, Copy)]
 pub(crate) struct Spins {
     made: u32,
-    before_look: u32,
+    before_next: u32,
     is_alone: bool,
     ghost few: { made ≤ MOST_SPINS },
-    ghost next: { before_look ≤ MOST_SPINS },
+    ghost next: { before_next ≤ MOST_SPINS },
 }
 
 impl Spins {
     /// It has not yielded, and so many other threads seek.
     pub(crate) fn among(others: usize) -> Spins
         ensures none { result.made ≡ 0 }
-        ensures alone { others ≡ 0 → result.before_look ≡ 0 }
-        ensures one { others ≡ 1 → result.before_look ≡ BESIDE_ONE }
-        ensures few { 1 < others → others < CROWD → result.before_look ≡ AMONG_FEW }
-        ensures many { CROWD ≤ others → result.before_look ≡ IN_A_CROWD }
+        ensures alone { others ≡ 0 → result.before_next ≡ 0 }
+        ensures one { others ≡ 1 → result.before_next ≡ BESIDE_ONE }
+        ensures two { others ≡ 2 → result.before_next ≡ BESIDE_TWO }
+        ensures many { 2 < others → result.before_next ≡ IN_A_CROWD }
         ensures is_alone { IsTrue result.is_alone ↔ (others ≡ 0) }
     {
-        let before_look = match others {
+        let before_next = match others {
             0 => 0,
             1 => BESIDE_ONE,
-            _ if others < CROWD => AMONG_FEW,
+            2 => BESIDE_TWO,
             _ => IN_A_CROWD,
         };
         Spins {
             made: 0,
-            before_look,
+            before_next,
             is_alone: others == 0,
         }
     }
@@ -68,17 +65,17 @@ impl Spins {
         self.is_alone
     }
 
-    /// Yields until it is time to look again.
+    /// Yields until it is time to try or look again.
     pub(crate) fn back_off(&mut self)
-        ensures made { self.new.made ≡ min MOST_SPINS (self.old.made + self.old.before_look) }
-        ensures next { self.new.before_look ≡ 1 }
+        ensures made { self.new.made ≡ min MOST_SPINS (self.old.made + self.old.before_next) }
+        ensures next { self.new.before_next ≡ 1 }
         ensures alone { self.new.is_alone ≡ self.old.is_alone }
     {
-        let end = MOST_SPINS.min(self.made + self.before_look);
+        let end = MOST_SPINS.min(self.made + self.before_next);
         for _ in self.made..end {
             thread::yield_now();
         }
         self.made = end;
-        self.before_look = 1;
+        self.before_next = 1;
     }
 }

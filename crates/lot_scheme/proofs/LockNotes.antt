@@ -167,17 +167,19 @@ module _ {V Part : Type 0} (rule : CallersRule V Part) where
       ≡ adding (record (standing p) { own = record p.own { locks = lock_owning p.own.locks key x; stand = z } }) (a ∷ []))
       idle is
 
-  pub took_free : (p : PassShown (LotPassView V)) (key : ℕ) (does : Bool) (q : PassShown (LotPassView V))
-      → MatchBool does (GetsBy rule p key (Makes (Take p.thread key) (Saw true)) q) ((word : ℕ) × (word ≢ 0) × FindsOf p key word q)
-      → MatchBool does (GetsLock rule (standing p) key (Makes (Take p.thread key) (Saw true)) (standing q))
-      ((word : ℕ) × (word ≢ 0) × (standing q ≡ adding (standing p) (Finds p.thread key word ∷ [])))
-  took_free p key true q (x, found, note) = (
+  pub took_free : (p : PassShown (LotPassView V)) (key : ℕ) (q : PassShown (LotPassView V))
+      → GetsBy rule p key (Makes (Take p.thread key) (Saw true)) q
+      → GetsLock rule (standing p) key (Makes (Take p.thread key) (Saw true)) (standing q)
+  took_free p key q (x, found, note) = (
     x,
     found,
     noted p (record p.own { locks = lock_owning p.own.locks key x; stand = Idle })
         (Makes (Take p.thread key) (Saw true)) q note,
   )
-  took_free p key false q (word, other, note) = (word, other, noted p p.own (Finds p.thread key word) q note)
+
+  pub found_it : (p : PassShown (LotPassView V)) (key word : ℕ) (q : PassShown (LotPassView V)) → FindsOf p key word q
+      → standing q ≡ adding (standing p) (Finds p.thread key word ∷ [])
+  found_it p key word q note = noted p p.own (Finds p.thread key word) q note
 
   pub took : (p : PassShown (LotPassView V)) (key : ℕ) (does : Bool) (q : PassShown (LotPassView V))
       → MatchBool does (GetsBy rule p key (Makes (Take p.thread key) (Saw true)) q)

@@ -31,18 +31,17 @@ impl<V: Keeps, N: LotName<V>> LotScheme<V, N> {
     }
 
     /// Gets the lock where nobody owns it and nobody is marked as parked, by one compare-exchange. Else the pass stands
-    /// as before, and has found another word.
-    #[tactic(auto, using(crate::proofs::LockNotes::took_free))]
+    /// as before. The answer is the word as it was: 0 where the lock is got.
+    #[tactic(auto, using(crate::proofs::LockNotes::took_free, crate::proofs::LockNotes::found_it))]
     #[inline(always)]
-    pub fn take_free(&self, pass: NamedPass<V, N>, key: usize) -> (NamedPass<V, N>, bool)
+    pub fn take_free(&self, pass: NamedPass<V, N>, key: usize) -> (NamedPass<V, N>, u64)
         requires key { key < N.locks }
         requires may { MayTake pass.own key }
-        ensures { MatchBool result.1
-            (GetsLock V.Keeps pass key (Makes (Take pass.thread key) (Saw true)) result.0)
-            ((word : ℕ) × (word ≢ 0) × (result.0 ≡ adding pass (Finds pass.thread key word ∷ []))) }
+        ensures got { result.1 ≡ 0 → GetsLock V.Keeps pass key (Makes (Take pass.thread key) (Saw true)) result.0 }
+        ensures missed { result.1 ≢ 0 → result.0 ≡ adding pass (Finds pass.thread key result.1 ∷ []) }
     {
-        let (pass, got) = self.words().take_free(pass.into_pass(), key);
-        (NamedPass::new(pass), got)
+        let (pass, found) = self.words().take_free(pass.into_pass(), key);
+        (NamedPass::new(pass), found)
     }
 
     /// Gets the lock where nobody owns it, and wants it else.

@@ -14,7 +14,7 @@ use lot_locks::{get, get_free, get_slowly, try_get};
 use lot_park::{AtOnce, BeforeSleep};
 use lot_scheme::{LotName, NamedPass};
 use lot_waits::Tallies;
-use lot_words::Keeps;
+use lot_words::{Keeps, UNHELD};
 use std::sync::Wait;
 
 impl<V: Keeps + Send, N: LotName<V> + Send> Lot<V, N> {
@@ -51,11 +51,11 @@ impl<V: Keeps + Send, N: LotName<V> + Send> Lot<V, N> {
     {
         prove!(self.has_lock(key));
         let (right, tallies) = pass.apart();
-        let (right, got) = get_free(self.parking().scheme(), right, key);
-        let right = if got {
+        let (right, found) = get_free(self.parking().scheme(), right, key);
+        let right = if found == UNHELD {
             right
         } else {
-            get_slowly(rt, self.parking(), right, key, &AtOnce)
+            get_slowly(rt, self.parking(), right, key, found, &AtOnce)
         };
         self.taken(right, tallies, key)
     }

@@ -63,7 +63,12 @@ module _ {V Part : Type 0} (rule : CallersRule V Part) where
       (NotesIn lock p p.own.locks (Makes (Try p.thread l) (Saw false)) q)
 
   abbrev pub TakesFree : PassShown (LotPassView V) → ℕ → ℕ → PassShown (LotPassView V) → Type 0
-  TakesFree p l n q = MatchBool (n == 0) (GetsBy rule p l (Makes (Take p.thread l) (Saw true)) q) ((x : ℕ) × (x ≢ 0) × FindsOf p l x q)
+  TakesFree p l n q = MatchBool (n == 0) (GetsBy rule p l (Makes (Take p.thread l) (Saw true)) q) (FindsOf p l n q)
+
+  pub missed_free : (p : PassShown (LotPassView V)) (l n : ℕ) (q : PassShown (LotPassView V)) → n ≢ 0 → TakesFree p l n q
+      → FindsOf p l n q
+  missed_free p l n q other told =
+      locks.where_not (GetsBy rule p l (Makes (Take p.thread l) (Saw true)) q) (FindsOf p l n q) n 0 other told
 
 abbrev pub Marks : {V : Type 0} → PassShown (LotPassView V) → ℕ → ℕ → PassShown (LotPassView V) → Type 0
 Marks p l n q = MatchBool (n == 1) (NotesIn lock p p.own.locks (Makes (Mark p.thread l) Done) q) ((x : ℕ) × (x ≢ 1) × FindsOf p l x q)
@@ -228,12 +233,13 @@ module _ {V Part : Type 0} (rule : CallersRule V Part) (z : LotSize) (xs : List 
         (locks.tries rule (lock_size z) xs (part_pass lock p) l here (idle.0.up lock) idle.0.aim) (at_key lock p l is_lock)
         (carries_tries idle)
 
-    -- the word was found to be another
-    finds : (x m : ℕ) → x ≢ m → (own : LockPassView V) (a : Access)
+    -- the word was found to be x
+    finds : (x : ℕ) (then : PassShown (LotPassView V) → Type 0) → ((q : PassShown (LotPassView V)) → FindsOf p l x q → then q)
+        → (own : LockPassView V) (a : Access)
         → Notes (part_pass lock p) p.own.locks (Finds p.thread l x) (pass_after (part_pass lock p) own 0 a)
-        → Carried lock p (λ q. (y : ℕ) × (y ≢ m) × FindsOf p l y q) own a
-    finds x m ne = carry lock p p.own.locks (Finds p.thread l x) (λ q. (y : ℕ) × (y ≢ m) × FindsOf p l y q) (λ up. inl up)
-        (λ w ws hs ok fit. is_lock) (λ k. (x, ne, (k, refl)))
+        → Carried lock p then own a
+    finds x then told = carry lock p p.own.locks (Finds p.thread l x) then (λ up. inl up)
+        (λ w ws hs ok fit. is_lock) (λ k. told _ (k, refl))
 
     carries_takes_free : MayTake p.own l → CarriesPass rule z xs lock p (locks.TakesFree rule (part_pass lock p) l) (TakesFree rule p l)
     carries_takes_free may n own a told = by (n == 0) (told 0)
@@ -241,13 +247,13 @@ module _ {V Part : Type 0} (rule : CallersRule V Part) (z : LotSize) (xs : List 
         by : (b : Bool) → MatchBool b ((x : V) × FoundOk rule l p.thread p.own.locks x
             × Notes (part_pass lock p) (owning p.own.locks l x) (Makes (Take p.thread l) (Saw true))
             (pass_after (part_pass lock p) own 0 a))
-            ((x : ℕ) × (x ≢ 0) × Notes (part_pass lock p) p.own.locks (Finds p.thread l x) (pass_after (part_pass lock p) own 0 a))
+            (Notes (part_pass lock p) p.own.locks (Finds p.thread l n) (pass_after (part_pass lock p) own 0 a))
             → Carried lock p (λ q. MatchBool b (GetsBy rule p l (Makes (Take p.thread l) (Saw true)) q)
-            ((x : ℕ) × (x ≢ 0) × FindsOf p l x q)) own a
+            (FindsOf p l n q)) own a
         by true h = carry lock p (owning p.own.locks l h.0) (Makes (Take p.thread l) (Saw true))
             (GetsBy rule p l (Makes (Take p.thread l) (Saw true))) (λ up. inl up) (may_speak may true)
             (λ k. (h.0, h.1, (k, refl))) own a h.2
-        by false h = finds h.0 0 h.1 own a h.2
+        by false h = finds n (FindsOf p l n) (λ q f. f) own a h
 
     pub takes_free : MayTake p.own l → AllowsPass (lot_meaning rule z xs) (word_at l) (λ n. either (n == 0) 1 n) p (TakesFree rule p l)
     takes_free may = lifts_pass rule z xs lock (word_at l) (λ n. either (n == 0) 1 n) p (locks.TakesFree rule (part_pass lock p) l)
@@ -266,7 +272,7 @@ module _ {V Part : Type 0} (rule : CallersRule V Part) (z : LotSize) (xs : List 
         by true h = carry lock p p.own.locks (Makes (Mark p.thread l) Done) (NotesIn lock p p.own.locks (Makes (Mark p.thread l) Done))
             (λ up. inl up)
             (λ w ws hs ok fit. (tt, may_line_up rule z xs w ws hs ok p.thread p.own fit l may)) (λ k. (k, refl)) own a h
-        by false h = finds h.0 1 h.1 own a h.2
+        by false h = finds h.0 (λ q. (x : ℕ) × (x ≢ 1) × FindsOf p l x q) (λ q f. (h.0, h.1, f)) own a h.2
 
     pub marks : MayLineUp p.own l → AllowsPass (lot_meaning rule z xs) (word_at l) (λ n. either (n == 1) 3 n) p (Marks p l)
     marks may = lifts_pass rule z xs lock (word_at l) (λ n. either (n == 1) 3 n) p (locks.Marks (part_pass lock p) l) (Marks p l)

@@ -50,23 +50,20 @@ impl<V: Keeps> LotWords<V> {
         (pass, found & HELD == 0)
     }
 
-    /// Gets the lock where its word is 0, by one compare-exchange; the event is Take. Else no event is made, the pass
-    /// is as it was, and the entry says what the word was. A `lock` begins so: where nobody owns the lock and nobody
-    /// is parked, that is its one access.
+    /// Gets the lock where its word is 0, by one compare-exchange; the event is Take. Else no event is made, and the
+    /// pass is as it was. The answer is the word as it was, as the entry says too. A `lock` begins so: where nobody owns
+    /// the lock and nobody is parked, that is its one access.
     #[inline(always)]
-    pub fn take_free(&self, pass: LotPass<V>, key: usize) -> (LotPass<V>, bool)
+    pub fn take_free(&self, pass: LotPass<V>, key: usize) -> (LotPass<V>, u64)
         requires table { pass.table ≡ self.now.table }
         requires key { key < self.now.size.locks }
         requires may { MayTake pass.own key }
         ensures table { result.0.table ≡ pass.table }
-        ensures entry { MatchBool result.1
-            (GetsBy V.Keeps pass key (Makes (Take pass.thread key) (Saw true)) result.0)
-            ((word : ℕ) × (word ≢ 0) × FindsOf pass key word result.0) }
+        ensures got { result.1 ≡ 0 → GetsBy V.Keeps pass key (Makes (Take pass.thread key) (Saw true)) result.0 }
+        ensures missed { result.1 ≢ 0 → FindsOf pass key result.1 result.0 }
     {
         let words = &self.words;
-        let place = word_of_key(key);
-        let (pass, found) = words.compare_exchange::<Brand, usize>(pass, place, UNHELD, HELD, key);
-        (pass, found == UNHELD)
+        words.compare_exchange::<Brand, usize>(pass, word_of_key(key), UNHELD, HELD, key)
     }
 
     /// Marks a held, unparked lock as parked, by one compare-exchange, and says whether it did. The event is Mark;

@@ -15,6 +15,7 @@ use Rattle.lot_rights.specs.Shown.{PassShown, RootShown}
 use Rattle.lot_rights.specs.Layout.{word_at}
 use Rattle.lot_rights.specs.World.{Spot, letters_of, WordsFit}
 use Rattle.lot_rights.specs.Steps.{Notes, pass_after, IsMade, PassTurn, AllowsPass}
+use Rattle.lot_rights.proofs.Puts.{by_test}
 use Rattle.lot_rights.proofs.Staying.{same_words, pass_stays}
 use Rattle.lot_rights.proofs.Worlds.{word_written}
 use Rattle.lot_words.specs.declared.views.Hold.TheVariants.{FoundParked}
@@ -56,6 +57,9 @@ match_true b A B e a = subst (λ c. MatchBool c A B) (sym e) a
 pub match_false : (b : Bool) (A B : Type 0) → b ≡ false → B → MatchBool b A B
 match_false b A B e x = subst (λ c. MatchBool c A B) (sym e) x
 
+pub where_not : (A B : Type 0) (n m : ℕ) → n ≢ m → MatchBool (n == m) A B → B
+where_not A B n m other = by_test (λ b. MatchBool b A B → B) n m (λ is. absurd (other is)) (λ _ told. told)
+
 -- the value that lies in a slot is one
 pub same_in : {V : Type 0} (p : LockPassView V) (l : ℕ) (x y : V) → IsIn p l x → IsIn p l y → x ≡ y
 same_in p l x y a b = let e : InSlot x ≡ InSlot y = some-injective (InSlot x) (InSlot y) (sym a ∙ b) in cc
@@ -74,7 +78,12 @@ module _ {V Part : Type 0} (rule : CallersRule V Part) where
 
   abbrev pub TakesFree : PassShown (LockPassView V) → ℕ → ℕ → PassShown (LockPassView V) → Type 0
   TakesFree p l n q =
-      MatchBool (n == 0) (GetsBy rule p l (Makes (Take p.thread l) (Saw true)) q) ((x : ℕ) × (x ≢ 0) × Notes p p.own (Finds p.thread l x) q)
+      MatchBool (n == 0) (GetsBy rule p l (Makes (Take p.thread l) (Saw true)) q) (Notes p p.own (Finds p.thread l n) q)
+
+  pub missed_free : (p : PassShown (LockPassView V)) (l n : ℕ) (q : PassShown (LockPassView V)) → n ≢ 0 → TakesFree p l n q
+      → Notes p p.own (Finds p.thread l n) q
+  missed_free p l n q other told =
+      where_not (GetsBy rule p l (Makes (Take p.thread l) (Saw true)) q) (Notes p p.own (Finds p.thread l n) q) n 0 other told
 
 abbrev pub Marks : {V : Type 0} → PassShown (LockPassView V) → ℕ → ℕ → PassShown (LockPassView V) → Type 0
 Marks p l n q =
@@ -155,13 +164,11 @@ module _ {V Part : Type 0} (rule : CallersRule V Part) (size : Size) (xs : List 
     long : l < length (w.pass t).holds
     long = lock_near size.threads size.locks w ok.kept t fit.0 up' l here
 
-    -- the word is x, and not the number that was asked for
-    misses : (asked x : ℕ) → x ≡ get_or ws (word_at l) 0 → x ≢ asked
-        → PassTurn (meaning rule size xs) (word_at l) x p (λ q. (y : ℕ) × (y ≢ asked) × Notes p p.own (Finds t l y) q) w ws hs
-    misses asked x is ne =
-        pass_stays (meaning rule size xs) (word_at l) x w ws hs ok is p fit (Finds t l x) (refl, (is ∙ found, refl))
-        (λ q. (y : ℕ) × (y ≢ asked) × Notes p p.own (Finds t l y) q)
-        (λ k. (x, ne, (k, refl)))
+    -- the word is x, which the pass finds
+    finds : (x : ℕ) → x ≡ get_or ws (word_at l) 0 → (then : PassShown (LockPassView V) → Type 0)
+        → ((k : ℕ) → then (pass_after p p.own k (Finds t l x))) → PassTurn (meaning rule size xs) (word_at l) x p then w ws hs
+    finds x is then told =
+        pass_stays (meaning rule size xs) (word_at l) x w ws hs ok is p fit (Finds t l x) (refl, (is ∙ found, refl)) then told
 
     -- ---- take and try
     abbrev value : V
@@ -256,9 +263,12 @@ module _ {V Part : Type 0} (rule : CallersRule V Part) (size : Size) (xs : List 
         got_turn unheld aims (Makes (Take t l) (Saw true)) (TakesFree rule p l 0) 1 (sym (ap (λ z. bit_or z 1) is_zero))
         (refl, (row_take_free w size.threads size.locks ok.kept t fit.0 up' l here unheld value (aims' aims), refl))
         (λ k. (value, found_ok unheld, (k, refl)))
-    take_free_turn aims true false h b = misses 0 1 (is_found true false h b) (λ e. omega arith)
-    take_free_turn aims false true h b = misses 0 2 (is_found false true h b) (λ e. omega arith)
-    take_free_turn aims true true h b = misses 0 3 (is_found true true h b) (λ e. omega arith)
+    take_free_turn aims true false h b =
+        finds 1 (is_found true false h b) (TakesFree rule p l 1) (λ k. (k, refl))
+    take_free_turn aims false true h b =
+        finds 2 (is_found false true h b) (TakesFree rule p l 2) (λ k. (k, refl))
+    take_free_turn aims true true h b =
+        finds 3 (is_found true true h b) (TakesFree rule p l 3) (λ k. (k, refl))
 
     -- ---- marking
     mark_turn : p.own.aim ≡ Some l → (h b : Bool) → is_some (w.word l).owner ≡ h → (w.word l).parked ≡ b
@@ -282,9 +292,9 @@ module _ {V Part : Type 0} (rule : CallersRule V Part) (size : Size) (xs : List 
           made = (refl, (row_mark w size.threads size.locks ok.kept t fit.0 up' l here held (aims' aims), refl));
           told = λ k. (k, refl);
         }
-    mark_turn aim false false h b = misses 1 0 (is_found false false h b) (λ e. omega arith)
-    mark_turn aim false true h b = misses 1 2 (is_found false true h b) (λ e. omega arith)
-    mark_turn aim true true h b = misses 1 3 (is_found true true h b) (λ e. omega arith)
+    mark_turn aim false false h b = finds 0 (is_found false false h b) (Marks p l 0) (λ k. (0, (λ e. omega arith), (k, refl)))
+    mark_turn aim false true h b = finds 2 (is_found false true h b) (Marks p l 2) (λ k. (2, (λ e. omega arith), (k, refl)))
+    mark_turn aim true true h b = finds 3 (is_found true true h b) (Marks p l 3) (λ k. (3, (λ e. omega arith), (k, refl)))
 
     -- ---- letting go
     module _ (holds : Holds p.own l) (aim : p.own.aim ≡ None) where

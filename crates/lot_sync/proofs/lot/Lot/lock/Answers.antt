@@ -7,47 +7,47 @@ use Rattle.lot_sync.specs.Values.{Gets}
 use Rattle.lot_sync.proofs.Rests.{owns_newly, gets_all}
 use Rattle.lot_sync.proofs.Adding.{adds_at}
 use Rattle.lot_sync.proofs.lot.Lot.lock.Given.{Over}
-use Rattle.lot_sync.proofs.lot.Lot.lock.Goals.{Joined-got, then-got, else-got}
+use Rattle.lot_sync.proofs.lot.Lot.lock.Goals.{Joined-found-eq-UNHELD, then-found-eq-UNHELD, else-found-eq-UNHELD}
 use Rattle.lot_sync.proofs.lot.Lot.lock.Goals as goal
 
 -- the lock was got: by the first exchange, or slowly
-got : (g : Over) (c : Joined-got g) → IsOwner g.V.Keeps c.apart-right.result.0 c.args.key c.if-got.right
+got : (g : Over) (c : Joined-found-eq-UNHELD g) → IsOwner g.V.Keeps c.apart-right.result.0 c.args.key c.if-found-eq-UNHELD.right
 got g c =
     let before = c.apart-right.result.0 in
-    elim c.if-got.branch [
-      | then-got w ↦ subst (IsOwner g.V.Keeps before c.args.key) (sym w.right-is) (rw w.if-got.true at c.get_free-right.ensures)
-      | else-got w ↦ subst (IsOwner g.V.Keeps before c.args.key) (sym w.right-is)
+    elim c.if-found-eq-UNHELD.branch [
+      | then-found-eq-UNHELD w ↦ subst (IsOwner g.V.Keeps before c.args.key) (sym w.right-is) (c.get_free-right.ensures.got w.if-found-eq-UNHELD.true)
+      | else-found-eq-UNHELD w ↦ subst (IsOwner g.V.Keeps before c.args.key) (sym w.right-is)
           (owner_on g.V.Keeps g.N.LotName.locks before c.get_free-right.result.0 w.get_slowly-right.result c.args.key
-          (rw w.if-got.false at c.get_free-right.ensures) w.get_slowly-right.ensures)
+          (c.get_free-right.ensures.missed w.if-found-eq-UNHELD.false) w.get_slowly-right.ensures)
     ]
 
 pub get_slowly-right-requires-clause-may : goal.get_slowly-right-requires-clause-may
 get_slowly-right-requires-clause-may g c κs within =
-    may_take g.N.LotName.locks c.apart-right.result.0 c.get_free-right.result.0 c.args.key (rw c.if-got.false at c.get_free-right.ensures)
+    may_take g.N.LotName.locks c.apart-right.result.0 c.get_free-right.result.0 c.args.key (c.get_free-right.ensures.missed c.if-found-eq-UNHELD.false)
 
 pub taken-requires-clause-owner : goal.taken-requires-clause-owner
 taken-requires-clause-owner g c κs within =
     let same = c.parking.ensures.keys.0 in
     let near = c.requires.key in
     let before = c.apart-right.result.0 in
-    let owner = got g (goal.at.taken-requires-clause-owner g c).Joined-got in
-    owns_newly g.V.Keeps _ _ before c.if-got.right c.args.key (omega (arith, same, near)) c.apart-right.ensures.rest owner
+    let owner = got g (goal.at.taken-requires-clause-owner g c).Joined-found-eq-UNHELD in
+    owns_newly g.V.Keeps _ _ before c.if-found-eq-UNHELD.right c.args.key (omega (arith, same, near)) c.apart-right.ensures.rest owner
 
 pub returns-clause-gets : goal.returns-clause-gets
 returns-clause-gets g c =
     let same = c.parking.ensures.keys.0 in
     let near = c.requires.key in
     let before = c.apart-right.result.0 in
-    let owner = got g (goal.at.returns-clause-gets g c).Joined-got in
+    let owner = got g (goal.at.returns-clause-gets g c).Joined-found-eq-UNHELD in
     subst (λ p. Gets g.V.Keeps p c.args.key c.taken.result.1 c.taken.result.0) (sym c.apart-right.ensures.same)
-    (gets_all g.V.Keeps _ _ before c.if-got.right c.taken.result.1 c.args.key
+    (gets_all g.V.Keeps _ _ before c.if-found-eq-UNHELD.right c.taken.result.1 c.args.key
     (omega (arith, same, near)) c.apart-right.ensures.rest owner
     c.taken.ensures.held.0 c.taken.ensures.held.1 c.taken.result.0 c.taken.ensures.pass)
 
 pub returns-clause-made : goal.returns-clause-made
 returns-clause-made g c =
     let before = c.apart-right.result.0 in
-    let owner = got g (goal.at.returns-clause-made g c).Joined-got in
-    adds_at (λ t. GetWord t c.args.key) c.args.pass c.taken.result.0 before c.if-got.right owner.did
+    let owner = got g (goal.at.returns-clause-made g c).Joined-found-eq-UNHELD in
+    adds_at (λ t. GetWord t c.args.key) c.args.pass c.taken.result.0 before c.if-found-eq-UNHELD.right owner.did
     c.apart-right.ensures.same c.taken.ensures.pass
     (ap (λ (r : LotStanding g.row.V.Denot). r.did) owner.is) owner.got
