@@ -7,7 +7,7 @@
 //   PAUSES=     how many pauses of the processor come before each look of a thread that seeks a lock alone; then it yields by FEW
 //   FOUND=1     the first look is the word that the missed exchange found. 0: it is a load more; 2: a lock that was found free, with threads
 //               parked, is lined up for too, and so taken at once
-//   FIRST=0     1: where a thread that seeks alone sees at its first look that the lock is free, it takes it
+//   FIRST=0     1: where a thread that seeks alone sees at its first look that the lock is free, it takes it (with FOUND=0)
 //   VALUE=0     1: a lock has a value in a cache line of its own, which its owner takes out and puts back, as a lot's does
 //   TRIES=2     how often a thread whose exchange missed tries again, after eight pauses each, where nobody seeks
 //   DIRECT=1    a thread that seeks among others tries after its yields by one exchange, without a look. 0: it looks; 2: by a load and an exchange
