@@ -1,2 +1,4 @@
 pub mod Settling
 pub mod Leasing
+pub mod Counting
+pub mod Trying

@@ -1,8 +1,9 @@
 -- Accounts, and what each worker moved into them and out of them.
-use Rattle.std.specs.Prelude.{◌≡◌, ◌≢◌, ℕ, ◌+◌, List, length, map, sum, slice_index, slice_get, Some}
+use Rattle.std.specs.Prelude.{◌≡◌, ◌≢◌, ℕ, ◌+◌, ◌^◌, ◌<◌, ◌≤◌, ◌⊎◌, Bool, List, length, map, sum, slice_index, slice_get, Some, MatchBool}
 use mathlib.Core.Option.{some}
 use lib.ListN.{get_elem?}
 use Rattle.std.specs.List.{sum_by}
+use Rattle.lot_sync.specs.Lot.{PassView, HasSeen}
 use Rattle.gallery.specs.declared.accounts.Account.{Account}
 use Rattle.gallery.specs.declared.accounts.TheConstants.{ACCOUNTS, WORKERS}
 
@@ -62,3 +63,36 @@ pub record Settles (thread : ℕ) (from into from' into' : Account) : Type 0 whe
   pub others_into : (t : ℕ) → t ≢ thread → moved_by t into ≡ moved_by t into'
   pub even : in_by thread from' + in_by thread into' + (out_by thread from + out_by thread into) ≡ in_by thread from + in_by thread
       into + (out_by thread from' + out_by thread into')
+
+-- the worker moved the amount from the one account into the other
+pub record Moves (thread amount : ℕ) (from into from' into' : Account) : Type 0 where
+  pub less : from.balance ≡ from'.balance + amount
+  pub more : into'.balance ≡ into.balance + amount
+  pub out : out_by thread from' ≡ out_by thread from + amount
+  pub in_it : in_by thread into' ≡ in_by thread into + amount
+
+-- the amount does not lie in the one account, or a number has no room for it
+abbrev pub CantMove : ℕ → ℕ → Account → Account → Type 0
+CantMove thread amount from into =
+    (from.balance < amount) ⊎ (2 ^ 64 ≤ into.balance + amount) ⊎ (2 ^ 64 ≤ out_by thread from + amount)
+    ⊎ (2 ^ 64 ≤ in_by thread into + amount)
+
+-- nothing changed, since the amount could not be moved
+pub record MovesNothing (thread amount : ℕ) (from into from' into' : Account) : Type 0 where
+  pub same_from : from' ≡ from
+  pub same_into : into' ≡ into
+  pub why : CantMove thread amount from into
+
+-- Two accounts were found, in which the worker's own numbers were as it had seen them, and two were left there, which its pass has seen:
+-- the amount was moved where this is said, and else it could not be.
+pub record Transfers (before : PassView Account) (from into amount : ℕ) (done : Bool) (after : PassView Account) : Type 0 where
+  pub found_from : Account
+  pub found_into : Account
+  pub left_from : Account
+  pub left_into : Account
+  pub own_from : (u : Account) → HasSeen before from u → moved_by before.thread u ≡ moved_by before.thread found_from
+  pub own_into : (u : Account) → HasSeen before into u → moved_by before.thread u ≡ moved_by before.thread found_into
+  pub moves : MatchBool done (Moves before.thread amount found_from found_into left_from left_into)
+      (MovesNothing before.thread amount found_from found_into left_from left_into)
+  pub seen_from : HasSeen after from left_from
+  pub seen_into : HasSeen after into left_into

@@ -1,5 +1,5 @@
 -- Rounds in which threads meet.
-use Rattle.std.specs.Prelude.{◌≡◌, ℕ, ◌+◌, ◌≤◌, ◌<◌, Option, None, Some, ◌↔◌, IsTrue, refl}
+use Rattle.std.specs.Prelude.{◌≡◌, ℕ, ◌+◌, ◌^◌, ◌≤◌, ◌<◌, Option, None, Some, ◌↔◌, IsTrue, refl}
 use Rattle.std.proofs.Common.{le_refl, le_trans, ◌∙◌}
 use Rattle.lot_sync.specs.Lot.{PassView, HasSeen}
 use Rattle.gallery.specs.declared.latch.Meeting.{Meeting}
@@ -22,9 +22,9 @@ goes_nowhere m = record { size = refl; came = le_refl m.came; full = le_refl m.f
 pub goes_further : (x y z : Meeting) → GoesOn x y → GoesOn y z → GoesOn x z
 goes_further x y z a b = record { size = a.size ∙ b.size; came = le_trans a.came b.came; full = le_trans a.full b.full }
 
--- one more came, in the round that was open; nothing changes where it can't be counted
+-- one more came, in the round that was open; where 64 bits hold no further round nothing changes
 abbrev pub Arrives : Meeting → Option Arrival → Meeting → Type 0
-Arrives old None new = new ≡ old
+Arrives old None new = (new ≡ old) × (2 ^ 64 ≤ old.full + old.size)
 Arrives old (Some arrival) new = (arrival.full ≡ old.full) × (new.came ≡ old.came + 1) × (IsTrue arrival.is_last ↔ (new.came ≡ old.full))
 
 -- the pass has seen a meeting to which so many came

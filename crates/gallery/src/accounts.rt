@@ -1,7 +1,8 @@
 //! Accounts: a transfer under two locks, and at the end the sum is the sum at the beginning.
-ghost use Rattle.std.specs.Prelude.{◌≡◌, ◌≢◌, ◌<◌, ◌≤◌, ◌+◌, MatchOption, length, vec_len, vec_capacity, sum_by};
+ghost use Rattle.std.specs.Prelude.{◌≡◌, ◌≢◌, ◌<◌, ◌≤◌, ◌+◌, MatchBool, length, vec_len, vec_capacity, sum_by};
 ghost use Rattle.lot_sync.specs.Lot.{OwnsNone};
-ghost use Rattle.gallery.specs.Accounts.{IsBooked, IsEven, AreEven, Settles, balance_of, opening_of, AreOpenedAs};
+ghost use Rattle.gallery.specs.Accounts.{IsBooked, IsEven, AreEven, Settles, Moves, MovesNothing, Transfers};
+ghost use Rattle.gallery.specs.Accounts.{balance_of, opening_of, AreOpenedAs};
 
 use crate::crew::{Crew, NOW, Opening, open, start};
 use lot_calls::{finish, with_both};
@@ -45,25 +46,33 @@ impl Keeps for Account {
     ghost grows_on = { λ x y z p q. p ∙ q };
 }
 
-/// Moves the amount from the first account to the second. `None` where it does not lie there, or a number has no room:
-/// nothing changes then.
+/// Moves the amount from the first account to the second, and answers whether it did. Where it does not lie there, or
+/// a number has no room, nothing changes.
 #[tactic(auto, using(crate::proofs::Settling::settles_as_before))]
-fn pay(thread: usize, amount: u64, from: &mut Account, into: &mut Account) -> Option<()>
+fn pay(thread: usize, amount: u64, from: &mut Account, into: &mut Account) -> bool
     requires thread { thread < WORKERS }
     requires booked { IsBooked from.old × IsBooked into.old }
     ensures settles { Settles thread from.old into.old from.new into.new }
-    ensures amounts { MatchOption result ((from.new ≡ from.old) × (into.new ≡ into.old))
-        (λ paid. (from.old.balance ≡ from.new.balance + amount) × (into.new.balance ≡ into.old.balance + amount)) }
+    ensures moves { MatchBool result (Moves thread amount from.old into.old from.new into.new)
+        (MovesNothing thread amount from.old into.old from.new into.new) }
 {
-    let left = from.balance.checked_sub(amount)?;
-    let grown = into.balance.checked_add(amount)?;
-    let out = from.moved_out[thread].checked_add(amount)?;
-    let in_all = into.moved_in[thread].checked_add(amount)?;
+    let Some(left) = from.balance.checked_sub(amount) else {
+        return false;
+    };
+    let Some(grown) = into.balance.checked_add(amount) else {
+        return false;
+    };
+    let Some(out) = from.moved_out[thread].checked_add(amount) else {
+        return false;
+    };
+    let Some(in_all) = into.moved_in[thread].checked_add(amount) else {
+        return false;
+    };
     from.balance = left;
     from.moved_out[thread] = out;
     into.balance = grown;
     into.moved_in[thread] = in_all;
-    Some(())
+    true
 }
 
 /// Moves the amount from one account to another, where it lies there, and answers whether it did. What the pass has
@@ -82,9 +91,10 @@ pub fn transfer<N: LotName<Account> + Send, T: Wait>(
     requires even { IsEven pass.thread pass.seen }
     ensures back { (result.0.thread ≡ pass.thread) × OwnsNone result.0 }
     ensures even { IsEven result.0.thread result.0.seen }
+    ensures moves { Transfers pass from into amount result.1 result.0 }
 {
     let thread = pass.thread();
-    let work = |from: &mut Account, into: &mut Account| pay(thread, amount, from, into).is_some();
+    let work = |from: &mut Account, into: &mut Account| pay(thread, amount, from, into);
     with_both(rt, lot, pass, from, into, NOW, work)
 }
 
@@ -103,11 +113,20 @@ pub fn end<N: LotName<Account> + Send, T: Wait>(
     finish(rt, lot, passes).0
 }
 
-/// Workers move amounts between the accounts. Answers what these have together.
-pub fn run<T: Threads + Wait + Sync>(rt: &T, alloc: Global) -> Result<u64, Failure> {
+/// What the accounts have together, and what was ever moved into them.
+pub struct Totals {
+    pub sum: u64,
+    pub moved: u64,
+}
+
+/// What an account opens with: no order of the transfers drains it.
+const OPENING: u64 = 5_000;
+
+/// Workers move amounts between the accounts.
+pub fn run<T: Threads + Wait + Sync>(rt: &T, alloc: Global) -> Result<Totals, Failure> {
     let opening = Account {
-        opening: 100,
-        balance: 100,
+        opening: OPENING,
+        balance: OPENING,
         moved_in: [0; WORKERS],
         moved_out: [0; WORKERS],
     };
@@ -118,7 +137,7 @@ pub fn run<T: Threads + Wait + Sync>(rt: &T, alloc: Global) -> Result<u64, Failu
 fn run_on<N: LotName<Account> + Send + Sync, T: Threads + Wait + Sync>(
     rt: &T,
     opening: Opening<Account>,
-) -> Result<u64, Failure>
+) -> Result<Totals, Failure>
     requires named { N.LotName ≡ opening.opened }
     requires sizes { (opening.threads ≡ WORKERS) × (length opening.opened.values ≡ ACCOUNTS) }
     requires even { AreEven opening.opened.values }
@@ -130,8 +149,19 @@ fn run_on<N: LotName<Account> + Send + Sync, T: Threads + Wait + Sync>(
     let outcome = crew.run(rt, &turn);
     let accounts = end(rt, lot, passes);
     outcome?;
-    let add = |sum: u64, account: &Account| sum.wrapping_add(account.balance);
-    Ok(accounts.iter().fold(0u64, add))
+    Ok(summed(&accounts))
+}
+
+/// The totals of these accounts, modulo 2^64.
+fn summed(accounts: &[Account]) -> Totals {
+    let mut totals = Totals { sum: 0, moved: 0 };
+    for account in accounts {
+        totals.sum = totals.sum.wrapping_add(account.balance);
+        for number in account.moved_in.iter() {
+            totals.moved = totals.moved.wrapping_add(*number);
+        }
+    }
+    totals
 }
 
 /// One thread, with all its rounds: from each account in turn to the next.

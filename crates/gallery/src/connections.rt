@@ -2,7 +2,8 @@
 ghost use Rattle.std.specs.Prelude.{◌≡◌, ◌≢◌, ◌+◌, ◌≤◌, ◌<◌, ℕ, length};
 ghost use Rattle.lot_scheme.specs.SemCalls.{opening_permits};
 ghost use Rattle.lot_sync.specs.Lot.{OwnsNone, HasShape, permits_with};
-ghost use Rattle.gallery.specs.Leases.{Leases, Holds, GivesBack};
+ghost use Rattle.lot_sync.specs.Words.{Adds};
+ghost use Rattle.gallery.specs.Leases.{LeaseWord, Leases, Holds, GivesBack};
 
 use crate::crew::{Crew, NOW, Opening, end, open, start};
 use lot_command::Failure;
@@ -56,12 +57,14 @@ pub struct Pool<'a, N: LotName<Connection> + Send> {
 }
 
 impl<N: LotName<Connection> + Send> Pool<'_, N> {
-    /// Gets a connection, and waits where all are out: with a permit there is one whose lock is free.
+    /// Gets a connection, and waits where all are out: with a permit there is one whose lock is free, and it tries all
+    /// in turn.
     pub fn take_out<T: Wait>(&self, rt: &T, pass: User<N>) -> (User<N>, Lease<N>)
         requires free { OwnsNone pass }
         ensures leases { Leases pass POOL result.1.permit result.1.connection result.0 }
         ensures shape { HasShape self.now.lot.now result.0 }
         ensures locks { result.1.connection.key < CONNECTIONS }
+        ensures made { Adds pass.made (LeaseWord pass.thread POOL result.1.connection.key) result.0.made }
     {
         let (mut pass, permit) = self.lot.acquire(rt, pass, POOL);
         let mut key = 0;

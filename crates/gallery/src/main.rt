@@ -8,6 +8,7 @@ mod latch;
 mod map;
 mod queue;
 
+use accounts::Totals;
 use lot_command::{Failure, report};
 use std::alloc::Global;
 use std::fmt::Write as _;
@@ -20,7 +21,7 @@ fn main(rt: HostRuntime) -> ExitCode {
         line(alloc, "taken", queue::run(&rt, alloc)),
         line(alloc, "used", connections::run(&rt, alloc)),
         line(alloc, "counted", map::run(&rt, alloc)),
-        line(alloc, "sum", accounts::run(&rt, alloc)),
+        two(alloc, accounts::run(&rt, alloc)),
     ];
     let mut worst = 0;
     for outcome in outcomes {
@@ -28,6 +29,14 @@ fn main(rt: HostRuntime) -> ExitCode {
         worst = worst.max(status);
     }
     ExitCode::from(worst)
+}
+
+/// What the accounts print: their sum, and what was moved.
+fn two(alloc: Global, outcome: Result<Totals, Failure>) -> Result<String, Failure> {
+    let Totals { sum, moved } = outcome?;
+    let mut text = String::new(alloc);
+    writeln!(text, "sum {sum} moved {moved}")?;
+    Ok(text)
 }
 
 /// What a program prints: a word, and the number that it came to.

@@ -1,8 +1,10 @@
 //! A map of counters over many locks: nothing is lost.
-ghost use Rattle.std.specs.Prelude.{◌≡◌, ◌≢◌, ◌*◌, ◌+◌, ◌<◌, ◌≤◌, ◌^◌, ℕ, length, sum, vec_len, vec_capacity, IfOk};
+ghost use Rattle.std.specs.Prelude.{◌≡◌, ◌≢◌, ◌*◌, ◌+◌, ◌<◌, ◌≤◌, ◌^◌, ℕ, length, sum, slice_index, vec_len, vec_capacity};
+ghost use Rattle.std.specs.Prelude.{IfOk};
 ghost use Rattle.lot_sync.specs.Lot.{OwnsNone, HasShape};
 ghost use Rattle.lot_sync.specs.Opened.{KeepAll};
-ghost use Rattle.gallery.specs.Counters.{HasRows, IsNew, HasAdded, row_of, added_by, total_of, AreNew};
+ghost use Rattle.gallery.specs.Counters.{HasRows, IsNew, HasAdded, HasAddedBelow, row_of, added_by, added_to, total_of};
+ghost use Rattle.gallery.specs.Counters.{AllCount, AreNew};
 
 use crate::crew::{NOW, Opening, open, start};
 use lot_calls::{close_with, take_all, with_lock, work_all};
@@ -48,7 +50,8 @@ impl Keeps for Shard {
     ghost grows_on = { λ x y z p q. tt };
 }
 
-/// One more of this counter: the worker has added one more than before to the map, whoever came between.
+/// One more of this counter: the worker has added one more than before to it, and nothing to another, whoever came
+/// between.
 pub fn add<N: LotName<Shard> + Send, T: Wait>(
     rt: &T,
     lot: &Lot<Shard, N>,
@@ -61,7 +64,7 @@ pub fn add<N: LotName<Shard> + Send, T: Wait>(
     requires free { OwnsNone pass }
     requires shape { HasShape lot.now pass }
     requires few { added_by pass.thread pass.seen + 1 < 2 ^ 64 }
-    ensures { HasAdded lot.now 1 pass result }
+    ensures { HasAdded lot.now counter pass result }
 {
     let place = counter / SHARDS;
     let thread = pass.thread();
@@ -71,6 +74,10 @@ pub fn add<N: LotName<Shard> + Send, T: Wait>(
         ensures rows { HasRows shard.new }
         ensures own { sum (row_of thread shard.old) + 1 < 2 ^ 64
             → sum (row_of thread shard.new) ≡ sum (row_of thread shard.old) + 1 }
+        ensures one { slice_index (row_of thread shard.old) place + 1 < 2 ^ 64
+            → slice_index (row_of thread shard.new) place ≡ slice_index (row_of thread shard.old) place + 1 }
+        ensures same { (p : ℕ) → p ≢ place
+            → slice_index (row_of thread shard.new) p ≡ slice_index (row_of thread shard.old) p }
         ensures others { (t : ℕ) → t ≢ thread → row_of t shard.old ≡ row_of t shard.new }
     {
         let mut row = shard.rows[thread];
@@ -87,7 +94,7 @@ fn work<N: LotName<Shard> + Send, T: Wait>(
     pass: Pass<Shard, N>,
 ) -> Pass<Shard, N>
     requires { IsNew lot.now pass }
-    ensures { HasAdded lot.now COUNTERS pass result }
+    ensures { HasAddedBelow lot.now COUNTERS pass result }
 {
     let mut pass = pass;
     for counter in 0..COUNTERS {
@@ -96,7 +103,7 @@ fn work<N: LotName<Shard> + Send, T: Wait>(
     pass
 }
 
-/// Four workers add one to each counter, and the lot ends: what all counters came to is what the workers added.
+/// Four workers add one to each counter, and the lot ends: each counter came to four, and all to what the workers added.
 pub fn count_all<N: LotName<Shard> + Send + Sync, T: Threads + Wait + Sync>(
     rt: &T,
     mut lot: Lot<Shard, N>,
@@ -104,12 +111,13 @@ pub fn count_all<N: LotName<Shard> + Send + Sync, T: Threads + Wait + Sync>(
 ) -> Vec<Shard>
     requires sizes { (lot.locks ≡ SHARDS) × (lot.threads ≡ WORKERS) }
     requires room { (vec_len passes ≡ 0) × (lot.threads ≤ vec_capacity passes) }
-    ensures { total_of result.items ≡ WORKERS * COUNTERS }
+    ensures total { total_of result.items ≡ WORKERS * COUNTERS }
+    ensures each { AllCount WORKERS result.items }
 {
     take_all(rt, &mut lot, &mut passes);
     let add_all = |pass: Pass<Shard, N>| -> Pass<Shard, N>
         requires { IsNew lot pass }
-        ensures { HasAdded lot COUNTERS pass result }
+        ensures { HasAddedBelow lot COUNTERS pass result }
     { work(rt, &lot, pass) };
     work_all(rt, &add_all, &mut passes);
     close_with(rt, lot, passes).0

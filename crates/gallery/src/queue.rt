@@ -1,5 +1,5 @@
 //! A bounded queue: what comes out went in, each once, in order.
-ghost use Rattle.std.specs.Prelude.{◌≡◌, ◌+◌, ◌-◌, ◌^◌, ◌≤◌, ◌<◌, [], ◌∷◌, ◌++◌, length, slice_get, Some, IsTrue};
+ghost use Rattle.std.specs.Prelude.{◌≡◌, ◌+◌, ◌-◌, ◌^◌, ◌≤◌, ◌<◌, [], ◌∷◌, ◌++◌, length, slice_get, Some, IsTrue, ◌↔◌};
 ghost use Rattle.std.specs.VecDeque.{deque_len, deque_capacity};
 ghost use Rattle.lot_sync.specs.Lot.{OwnsNone, HasSeen};
 ghost use Rattle.gallery.specs.Lines.{LiesOn, Follows};
@@ -50,8 +50,8 @@ impl<T: Drop> Keeps for Line<T> {
 impl<T: Drop> Line<T> {
     /// Whether there is a place and a number for one more.
     fn has_room(&self) -> bool
-        ensures { IsTrue result → (deque_len self.now.items < deque_capacity self.now.items)
-            × (self.now.taken + length self.now.items.items + 1 < 2 ^ 64) }
+        ensures { IsTrue result ↔ ((deque_len self.now.items < deque_capacity self.now.items)
+            × (self.now.taken + length self.now.items.items + 1 < 2 ^ 64)) }
     {
         self.items.len() < self.items.capacity() && self.taken < u64::MAX - self.items.len() as u64
     }
