@@ -1,0 +1,82 @@
+use Rattle.std.proofs.Common.{◌≡◌, ◌-◌, ℕ, Bool, true, rules, subst, sym, ap, ◌∙◌}
+use Rattle.lot_sync.specs.Lot.{PassView}
+use Rattle.lot_sync.specs.Words.{Adds}
+use Rattle.lot_regions.specs.Words.{WhenWord}
+use Rattle.lot_regions.specs.Regions.{HasGot}
+use Rattle.lot_regions.proofs.Leaving.{got_after_waits, region, back, got_after_made, when_made}
+use Rattle.lot_regions.proofs.region.when.Goals as goal
+
+pub returns-clause-visits : goal.returns-clause-visits
+returns-clause-visits g c =
+    let p = c.args.pass in
+    let q = c.lock-pass.result.0 in
+    let held = c.lock-pass.result.1 in
+    let mid = c.wait_until-pass.result.0 in
+    let found = c.value_mut.result in
+    let left = record found { now = c.work-outcome.new.arg2 } in
+    let gets = c.lock-pass.ensures.gets in
+    let waits = c.wait_until-pass.ensures.waits in
+    let (v, same, says) = c.wait_until-pass.ensures.ready in
+    let ready : g.V.Ready.ready c.args.cond found.now ≡ true =
+    subst (λ w. g.V.Ready.ready c.args.cond w ≡ true) (same ∙ sym c.value_mut.ensures.value) (search rules) in
+    let thread = ap (λ (z : PassView _). z.thread) gets.after_is in
+    let got : HasGot g.V.Keeps p c.args.key found.now mid =
+    subst (λ w. HasGot g.V.Keeps p c.args.key w mid) (sym c.value_mut.ensures.value)
+    (got_after_waits g.V.Keeps p c.args.key held c.wait_until-pass.result.1 q mid c.args.cond waits.count gets waits.after_is waits.same
+    waits.kept waits.grown waits.mine c.args.lot.now c.requires.key c.lock-pass.ensures.shape) in
+    let may = c.requires.keeps found c.work-outcome.result left got.finds ready c.work-outcome.ensures in
+    let told : ℕ → Bool = λ d. g.V.Ready.ready d left.now in
+    let after_waits = got_after_made p.thread c.args.key c.args.cond c.args.moment.now waits.count p.made q.made mid.made q.thread held.key
+    thread gets.key_is c.lock-pass.ensures.made waits.made in
+    let made = when_made told p.thread c.args.key c.args.moment.now c.first_of-first.result
+    (c.behind_of-behind.result - c.first_of-first.result) p.made mid.made c.leave.result.made mid.thread c.wait_until-pass.result.1.key
+    (waits.thread ∙ thread) (waits.key_is ∙ gets.key_is) c.args.cond waits.count after_waits c.leave.ensures.made in (
+      found,
+      left,
+      c.work-outcome.ensures,
+      region g.V.Keeps p c.args.key found.now left.now mid got may c.wait_until-pass.result.1.key (waits.key_is ∙ gets.key_is) c.leave.result
+          (c.requires.free.no_lock c.args.key) c.leave.ensures.left c.leave.ensures.seen,
+      ready,
+      (
+        waits.count,
+        subst (λ f. Adds p.made
+            (WhenWord told p.thread c.args.cond waits.count c.args.key c.args.moment.now f (g.V.Ready.behind c.args.key - f)) c.leave.result.made)
+            c.first_of-first.ensures
+            (subst (λ b. Adds p.made
+            (WhenWord told p.thread c.args.cond waits.count c.args.key c.args.moment.now c.first_of-first.result (b - c.first_of-first.result))
+            c.leave.result.made) c.behind_of-behind.ensures made),
+      ),
+    )
+
+pub work-outcome-requires : goal.work-outcome-requires
+work-outcome-requires g c =
+    let found = c.value_mut.result in
+    let mid = c.wait_until-pass.result.0 in
+    let gets = c.lock-pass.ensures.gets in
+    let waits = c.wait_until-pass.ensures.waits in
+    let (v, same, says) = c.wait_until-pass.ensures.ready in
+    let ready : g.V.Ready.ready c.args.cond found.now ≡ true =
+    subst (λ w. g.V.Ready.ready c.args.cond w ≡ true) (same ∙ sym c.value_mut.ensures.value) (search rules) in
+    let got : HasGot g.V.Keeps c.args.pass c.args.key found.now mid =
+    subst (λ w. HasGot g.V.Keeps c.args.pass c.args.key w mid) (sym c.value_mut.ensures.value)
+    (got_after_waits g.V.Keeps c.args.pass c.args.key c.lock-pass.result.1 c.wait_until-pass.result.1 c.lock-pass.result.0 mid c.args.cond
+    waits.count gets waits.after_is waits.same waits.kept waits.grown waits.mine c.args.lot.now c.requires.key c.lock-pass.ensures.shape) in
+    c.requires.callable found got.finds ready
+
+pub leave-requires-clause-back : goal.leave-requires-clause-back
+leave-requires-clause-back g c κs within =
+    let left = record c.value_mut.result { now = c.work-outcome.new.arg2 } in
+    let found = c.value_mut.result in
+    let mid = c.wait_until-pass.result.0 in
+    let gets = c.lock-pass.ensures.gets in
+    let waits = c.wait_until-pass.ensures.waits in
+    let (v, same, says) = c.wait_until-pass.ensures.ready in
+    let ready : g.V.Ready.ready c.args.cond found.now ≡ true =
+    subst (λ w. g.V.Ready.ready c.args.cond w ≡ true) (same ∙ sym c.value_mut.ensures.value) (search rules) in
+    let got : HasGot g.V.Keeps c.args.pass c.args.key found.now mid =
+    subst (λ w. HasGot g.V.Keeps c.args.pass c.args.key w mid) (sym c.value_mut.ensures.value)
+    (got_after_waits g.V.Keeps c.args.pass c.args.key c.lock-pass.result.1 c.wait_until-pass.result.1 c.lock-pass.result.0 mid c.args.cond
+    waits.count gets waits.after_is waits.same waits.kept waits.grown waits.mine c.args.lot.now c.requires.key c.lock-pass.ensures.shape) in
+    back g.V.Keeps c.args.pass c.args.key found.now left.now mid got
+    (c.requires.keeps found c.work-outcome.result left got.finds ready c.work-outcome.ensures) c.wait_until-pass.result.1.key
+    (waits.key_is ∙ gets.key_is)

@@ -1,0 +1,3 @@
+pub mod Watch
+pub mod Words
+pub mod Regions
