@@ -1,17 +1,16 @@
 -- What workers added to each counter, and what it came to.
-use Rattle.std.proofs.Common.{◌≡◌, ◌≢◌, ℕ, ◌+◌, ◌*◌, ◌/◌, ◌%◌, ◌<◌, ◌≤◌, List, [], ◌∷◌, zero, suc, length, map, get_or, set, slice_get, Some}
+use Rattle.std.proofs.Common.{◌≡◌, ◌≢◌, ℕ, ◌+◌, ◌/◌, ◌%◌, ◌<◌, ◌≤◌, List, [], ◌∷◌, zero, suc, length, map, get_or, set, slice_get, Some}
 use Rattle.std.proofs.Common.{get_or-set_other, get_or-set_same, refl, sym, ap, subst, ◌∙◌, inl, inr, arith}
-use Rattle.std.specs.List.{sum, sum_by, All}
-use Rattle.std.proofs.lemmas.Bool.{cases_eq, cases_lt}
+use Rattle.std.specs.List.{sum, sum_by}
+use Rattle.std.proofs.lemmas.Bool.{cases_eq}
 use Rattle.std.proofs.lemmas.List.{length-map}
 use Rattle.std.proofs.lemmas.List.Sums.{sum_by-cons}
 use Rattle.lot_words.specs.CallersRule.{CallersRule}
 use Rattle.lot_sync.specs.Lot.{LotView, PassView}
-use Rattle.lot_calls.specs.Visits.{own_parts}
-use Rattle.lot_calls.specs.Workers.{ComesBack, HasWorked}
-use Rattle.lot_calls.proofs.Sums.{sum_below, sum_below_alike, sum_of_row}
+use Rattle.lot_calls.specs.Workers.{HasWorked}
+use Rattle.lot_calls.proofs.Sums.{sum_below_alike, sum_of_row}
 use Rattle.gallery.specs.declared.map.Shard.{Shard}
-use Rattle.gallery.specs.Counters.{HasRows, HasAdded, HasAddedBelow, row_of, rows_of, at_counter, added_by, added_to, count_of, AllCount}
+use Rattle.gallery.specs.Counters.{HasRows, HasAdded, HasAddedBelow, row_of, rows_of, at_counter, added_by, added_to, AllCount}
 
 -- ---- one number within a sum
 number_within : (row : List ℕ) (j : ℕ) → get_or row j 0 ≤ sum row

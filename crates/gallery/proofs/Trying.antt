@@ -1,11 +1,10 @@
 -- Tries of connections in turn.
-use Rattle.std.proofs.Common.{◌≡◌, ℕ, zero, suc, ◌+◌, ◌%◌, ◌<◌, ◌++◌, true, false, List, [], refl, sym, ap, subst, ◌∙◌, append_assoc, arith}
+use Rattle.std.proofs.Common.{◌≡◌, ℕ, suc, ◌%◌, ◌++◌, true, false, List, [], refl, sym, ap, subst, ◌∙◌, append_assoc}
 use Rattle.std.proofs.lemmas.List.{append-nil}
 use Rattle.lot_rights.specs.declared.views.Access.{Access}
 use Rattle.lot_scheme.specs.Words.{TryWord, GetPermitWord}
-use Rattle.lot_sync.specs.Lot.{PassView}
 use Rattle.lot_sync.specs.Words.{Adds}
-use Rattle.gallery.specs.Leases.{TriesWord, SoughtWord, LeaseWord}
+use Rattle.gallery.specs.Leases.{SoughtWord, LeaseWord}
 
 -- the permit was got, and no connection was tried yet
 pub none_tried : (t pool : ℕ) (before after : List Access) → Adds before (GetPermitWord t pool) after → Adds before (SoughtWord t pool 0) after

@@ -1,32 +1,46 @@
--- Rounds in which threads meet.
-use Rattle.std.specs.Prelude.{◌≡◌, ℕ, ◌+◌, ◌^◌, ◌≤◌, ◌<◌, Option, None, Some, ◌↔◌, IsTrue, refl}
-use Rattle.std.proofs.Common.{le_refl, le_trans, ◌∙◌}
+-- Meetings to which so many come.
+use Rattle.std.specs.Prelude.{◌≡◌, ℕ, ◌+◌, ◌≤◌, ◌<◌, nat_le, Bool, true, false, refl}
+use Rattle.std.proofs.Common.{le_refl, le_trans, ◌∙◌, arith}
 use Rattle.lot_sync.specs.Lot.{PassView, HasSeen}
 use Rattle.gallery.specs.declared.latch.Meeting.{Meeting}
-use Rattle.gallery.specs.declared.latch.Arrival.{Arrival}
+use Rattle.gallery.specs.declared.latch.TheConstants.{ROUNDS}
 
--- the round is not full: with those of one round it would be
-pub record IsOpen (m : Meeting) : Type 0 where
-  pub not_full : m.came < m.full
-  pub one_round : m.full ≤ m.came + m.size
+-- no more came than were to come
+abbrev pub IsWithin : Meeting → Type 0
+IsWithin m = m.came ≤ m.size
+
+abbrev pub AllCame : Meeting → Type 0
+AllCame m = m.came ≡ m.size
+
+abbrev pub have_all_come : Meeting → Bool
+have_all_come m = nat_le m.size m.came
 
 -- no arrival is forgotten
 pub record GoesOn (old new : Meeting) : Type 0 where
   pub size : old.size ≡ new.size
   pub came : old.came ≤ new.came
-  pub full : old.full ≤ new.full
 
 pub goes_nowhere : (m : Meeting) → GoesOn m m
-goes_nowhere m = record { size = refl; came = le_refl m.came; full = le_refl m.full }
+goes_nowhere m = record { size = refl; came = le_refl m.came }
 
 pub goes_further : (x y z : Meeting) → GoesOn x y → GoesOn y z → GoesOn x z
-goes_further x y z a b = record { size = a.size ∙ b.size; came = le_trans a.came b.came; full = le_trans a.full b.full }
+goes_further x y z a b = record { size = a.size ∙ b.size; came = le_trans a.came b.came }
 
--- one more came, in the round that was open; where 64 bits hold no further round nothing changes
-abbrev pub Arrives : Meeting → Option Arrival → Meeting → Type 0
-Arrives old None new = (new ≡ old) × (2 ^ 64 ≤ old.full + old.size)
-Arrives old (Some arrival) new = (arrival.full ≡ old.full) × (new.came ≡ old.came + 1) × (IsTrue arrival.is_last ↔ (new.came ≡ old.full))
+-- one more came; or all had come, and nothing changed
+abbrev pub Arrives : Meeting → Bool → Meeting → Type 0
+Arrives old true new = (new.size ≡ old.size) × (old.came < old.size) × (new.came ≡ old.came + 1)
+Arrives old false new = AllCame old × (new ≡ old)
 
--- the pass has seen a meeting to which so many came
-abbrev pub SawAll : PassView Meeting → ℕ → ℕ → Type 0
-SawAll pass key full = (m : Meeting) × HasSeen pass key m × (full ≤ m.came)
+-- the pass has seen a meeting to which all came, of which this holds
+abbrev pub SawAll : PassView Meeting → ℕ → (Meeting → Type 0) → Type 0
+SawAll pass round Holds = (m : Meeting) × HasSeen pass round m × AllCame m × Holds m
+
+-- the condition of a lock: they stand behind all locks, in their order
+abbrev pub first_cond : ℕ → ℕ
+first_cond key = ROUNDS + key
+
+abbrev pub behind_cond : ℕ → ℕ
+behind_cond key = ROUNDS + key + 1
+
+pub conds_apart : (k l c : ℕ) → first_cond k ≤ c → c < behind_cond k → first_cond l ≤ c → c < behind_cond l → k ≡ l
+conds_apart k l c a b d e = omega (arith, a, b, d, e)

@@ -1,12 +1,12 @@
 //! A bounded queue: what comes out went in, each once, in order.
-ghost use Rattle.std.specs.Prelude.{◌≡◌, ◌+◌, ◌-◌, ◌^◌, ◌≤◌, ◌<◌, [], ◌∷◌, ◌++◌, length, slice_get, Some, IsTrue, ◌↔◌};
+ghost use Rattle.std.specs.Prelude.{◌≡◌, ◌+◌, ◌-◌, ◌^◌, ◌≤◌, ◌<◌, [], ◌∷◌, ◌++◌, length, slice_get, Some};
 ghost use Rattle.std.specs.VecDeque.{deque_len, deque_capacity};
 ghost use Rattle.lot_sync.specs.Lot.{OwnsNone, HasSeen};
-ghost use Rattle.gallery.specs.Lines.{LiesOn, Follows};
+ghost use Rattle.gallery.specs.Lines.{LiesOn, Follows, has_room_for};
 
 use crate::crew::{Crew, NOW, Opening, end, open, start};
-use lot_calls::lock_until;
 use lot_command::Failure;
+use lot_regions::{Ready, when};
 use lot_sync::{Lot, LotName, Pass};
 use lot_words::Keeps;
 use std::alloc::Global;
@@ -18,6 +18,7 @@ use std::thread::Threads;
 /// The lock of the line.
 const LINE: usize = 0;
 
+/// The conditions of a line: there is room, and there is an item.
 const NOT_FULL: usize = 1;
 
 const NOT_EMPTY: usize = 2;
@@ -47,11 +48,40 @@ impl<T: Drop> Keeps for Line<T> {
         y.items.items z.items.items a b };
 }
 
+impl<T: Drop> Ready for Line<T> {
+    ghost use Rattle.gallery.specs.Lines.{first_cond, behind_cond, is_ready_for, conds_apart};
+
+    ghost first = { first_cond };
+
+    ghost behind = { behind_cond };
+
+    ghost ready = { λ cond line. is_ready_for cond (deque_len line.items) (deque_capacity line.items)
+        (line.taken + length line.items.items) };
+
+    fn first_of(key: usize) -> usize {
+        NOT_FULL + 2 * key
+    }
+
+    fn behind_of(key: usize) -> usize {
+        NOT_FULL + 2 * key + 2
+    }
+
+    fn is_ready(&self, cond: usize) -> bool {
+        if cond == NOT_FULL {
+            self.has_room()
+        } else {
+            !self.items.is_empty()
+        }
+    }
+
+    ghost apart = { conds_apart };
+}
+
 impl<T: Drop> Line<T> {
     /// Whether there is a place and a number for one more.
     fn has_room(&self) -> bool
-        ensures { IsTrue result ↔ ((deque_len self.now.items < deque_capacity self.now.items)
-            × (self.now.taken + length self.now.items.items + 1 < 2 ^ 64)) }
+        ensures { result ≡ has_room_for (deque_len self.now.items) (deque_capacity self.now.items)
+            (self.now.taken + length self.now.items.items) }
     {
         self.items.len() < self.items.capacity() && self.taken < u64::MAX - self.items.len() as u64
     }
@@ -104,10 +134,8 @@ impl<T: Drop + Send, N: LotName<Line<T>> + Send> Queue<'_, T, N> {
             × (after.taken ≡ before.taken) × (after.items.items ≡ before.items.items ++ item ∷ [])
             × HasSeen result.0 LINE after }
     {
-        let (pass, mut held) = lock_until(rt, self.lot, pass, LINE, NOT_FULL, NOW, Line::has_room);
-        let number = held.value_mut().put(item);
-        let (pass, _) = self.lot.unlock(rt, pass, held, NOW);
-        (self.lot.notify_some(rt, pass, NOT_EMPTY, 1).0, number)
+        let put = |line: &mut Line<T>| line.put(item);
+        when(rt, self.lot, pass, LINE, NOT_FULL, NOW, put)
     }
 
     /// Takes the oldest item when there is one, and answers its number with it. What the pass has seen lies still, or
@@ -121,11 +149,7 @@ impl<T: Drop + Send, N: LotName<Line<T>> + Send> Queue<'_, T, N> {
             × (after.taken ≡ before.taken + 1) × (before.items.items ≡ result.1.1 ∷ after.items.items)
             × HasSeen result.0 LINE after }
     {
-        let ready = |line: &Line<T>| !line.items.is_empty();
-        let (pass, mut held) = lock_until(rt, self.lot, pass, LINE, NOT_EMPTY, NOW, ready);
-        let taken = held.value_mut().take();
-        let (pass, _) = self.lot.unlock(rt, pass, held, NOW);
-        (self.lot.notify_some(rt, pass, NOT_FULL, 1).0, taken)
+        when(rt, self.lot, pass, LINE, NOT_EMPTY, NOW, Line::take)
     }
 }
 

@@ -1,4 +1,4 @@
-use Rattle.std.proofs.Common.{[], rules, arith, refl, subst, sym, ◌<◌}
+use Rattle.std.proofs.Common.{[], rules, arith, refl}
 use Rattle.std.specs.List.{sum, sum_by}
 use Rattle.lot_calls.proofs.Working.{are_back, came_to, has_worked}
 use Rattle.lot_calls.proofs.Sums.{sum_of_row}

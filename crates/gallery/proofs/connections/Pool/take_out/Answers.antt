@@ -1,4 +1,4 @@
-use Rattle.std.proofs.Common.{◌≡◌, ◌+◌, ℕ, suc, ◌%◌, false, is_some, refl, rules, subst, ap, arith}
+use Rattle.std.proofs.Common.{◌≡◌, suc, ◌%◌, false, is_some, refl, rules, subst, ap, arith}
 use Rattle.lot_scheme.specs.Words.{TryWord}
 use Rattle.lot_sync.specs.Lot.{PassView}
 use Rattle.lot_sync.specs.Words.{Adds}

@@ -1,5 +1,5 @@
 use Rattle.lot_sync.specs.Lot.{OwnsNone}
 use Rattle.gallery.proofs.latch.Place.work.Given as goal
 
-abbrev pub invariant-loop : goal.invariant-loop
-invariant-loop g l = OwnsNone l.pass
+abbrev pub invariant-loop-round : goal.invariant-loop-round
+invariant-loop-round g l = OwnsNone l.pass
