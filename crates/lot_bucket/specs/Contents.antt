@@ -1,4 +1,4 @@
-use Rattle.std.specs.Prelude.{ℕ, Bool, List, Option}
+use Rattle.std.specs.Prelude.{ℕ, Bool, false, List, [], Option}
 
 -- what a bucket is seen as
 pub record Contents (R : Type 0) : Type 0 where
@@ -12,3 +12,7 @@ pub record Contents (R : Type 0) : Type 0 where
   pub opened : Bool
   -- it is time to be fair after this moment
   pub next_fair : ℕ
+
+-- a closed bucket with no keys and no room
+abbrev pub hollow : {R : Type 0} → Contents R
+hollow = record { room = 0; places = []; queue = []; opened = false; next_fair = 0 }

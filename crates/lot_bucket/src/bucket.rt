@@ -57,6 +57,7 @@ impl<R> Model for Bucket<R> {
 impl<R> Bucket<R> {
     ghost use Rattle.lot_bucket.specs.Taking.{TakesOne, TakesFirst};
     ghost use Rattle.lot_bucket.specs.Agrees.{IsSpent};
+    ghost use Rattle.lot_bucket.specs.Contents.{hollow};
 
     /// A closed bucket with these keys, and room for so many threads. No later call takes memory.
     pub fn new(alloc: Global, room: usize, keys: &[usize]) -> Result<Bucket<R>, BucketFault>
@@ -99,7 +100,7 @@ impl<R> Bucket<R> {
 
     /// A closed bucket with no keys and no room. It takes no memory.
     pub fn hollow(alloc: Global) -> Bucket<R>
-        ensures { result ≡ record { room = 0; places = []; queue = []; opened = false; next_fair = 0 } }
+        ensures { result ≡ hollow }
     {
         Bucket::closed(Queue::hollow(alloc), Places::hollow(alloc))
     }

@@ -1,10 +1,12 @@
-ghost use Rattle.std.specs.Prelude.{◌≡◌, ◌<◌, ◌%◌, ◌↔◌, true, false, [], IsTrue};
+ghost use Rattle.std.specs.Prelude.{◌≡◌, ◌<◌, ◌%◌, ◌↔◌, true, IsTrue};
+ghost use Rattle.lot_bucket.specs.Contents.{hollow};
 ghost use Rattle.lot_bucket.specs.Settled.{IsSettled, IsWhole, IsReady, HasPlaceFor, Stays};
 
 use crate::bucket::Bucket;
 use crate::root::Root;
 use std::alloc::Global;
 use std::marker::Model;
+use std::mem;
 
 /// What lies behind the lock of a bucket: the bucket, and which one it is of its table.
 ///
@@ -43,19 +45,15 @@ impl<R: Root> Settled<R> {
         }
     }
 
-    /// A closed bucket with no keys, which stands for one that is not in use. It takes no memory.
-    pub fn hollow(alloc: Global) -> Settled<R>
-        ensures { result ≡ record {
-          bucket = record { room = 0; places = []; queue = []; opened = false; next_fair = 0 };
-          number = 0;
-          size = 0;
-          keys = 0;
-        } }
+    /// A closed bucket with no keys, which stands for bucket `which` of a table of `size` buckets that is not in use
+    /// yet. It takes no memory.
+    pub fn hollow(alloc: Global, which: usize, size: usize) -> Settled<R>
+        ensures { result ≡ record { bucket = hollow; number = which; size = size; keys = 0 } }
     {
         Settled {
             bucket: Bucket::hollow(alloc),
-            number: 0,
-            size: 0,
+            number: which,
+            size,
             keys: 0,
         }
     }
@@ -67,16 +65,18 @@ impl<R: Root> Settled<R> {
         &self.bucket
     }
 
-    /// Whether it is the open bucket of the key, in a table for so many keys, with room for just all threads.
-    pub fn is_ready(&self, key: usize, threads: usize, keys: usize) -> bool
+    /// Whether it is the open bucket of the key, in a table of `size` buckets for so many keys, with room for just all
+    /// threads.
+    pub fn is_ready(&self, key: usize, size: usize, threads: usize, keys: usize) -> bool
         ensures ready { IsTrue result → IsReady R.view key threads keys self.now.bucket }
-        ensures exact { IsTrue result ↔ (self.now.bucket.opened ≡ true) × (0 < self.now.size)
-            × (self.now.number ≡ key % self.now.size) × (self.now.keys ≡ keys) × (key < keys)
+        ensures exact { IsTrue result ↔ (self.now.bucket.opened ≡ true) × (0 < size) × (self.now.size ≡ size)
+            × (self.now.number ≡ key % size) × (self.now.keys ≡ keys) × (key < keys)
             × (self.now.bucket.room ≡ threads) }
     {
         self.bucket.is_open()
-            && self.size > 0
-            && self.number == key % self.size
+            && size > 0
+            && self.size == size
+            && self.number == key % size
             && self.keys == keys
             && key < keys
             && self.bucket.room() == threads
@@ -109,6 +109,16 @@ impl<R: Root> Settled<R> {
             × F.post f b x result b' }
     {
         f(&mut self.bucket, x)
+    }
+
+    /// Takes the bucket out, and leaves a closed one with no keys, which stands for the same bucket of the same table.
+    /// It takes no memory.
+    pub fn take_bucket(&mut self, alloc: Global) -> Bucket<R>
+        ensures taken { result ≡ self.old.bucket }
+        ensures settled { IsSettled R.view self.old }
+        ensures left { self.new ≡ record self.old { bucket = hollow } }
+    {
+        mem::replace(&mut self.bucket, Bucket::hollow(alloc))
     }
 
     /// The bucket itself, once no lock is needed round it.

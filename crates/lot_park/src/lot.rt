@@ -6,7 +6,7 @@ use crate::taken::TakenThreads;
 use crossbeam_utils::CachePadded;
 use lot_bucket::{Bucket, Dequeued as UnparkResult, Moment};
 use lot_records::Record;
-use lot_table::{Grown, MOST_THREADS, Table, TableFault, Unlocked};
+use lot_table::{MOST_THREADS, Served, Table, TableFault, Unlocked};
 use std::alloc::{AllocError, Global};
 use std::marker::Model;
 use std::sync::Wait;
@@ -58,6 +58,7 @@ impl<S: Scheme> Model for ParkingLot<S> {
 impl<S: Scheme> ParkingLot<S> {
     ghost use Rattle.lot_park.specs.Lots.{ParkingView, AreIdle, Appends};
     ghost use Rattle.lot_table.specs.Sizes.{Serves};
+    ghost use Rattle.lot_bucket.specs.Settled.{HasPlaceFor};
     ghost use Rattle.lot_park.specs.Parking.{IsOpenFor, MayUnpark, Unparks, UnparkedOne, MayUnparkAll, UnparksAll};
     ghost use Rattle.lot_park.specs.Parking.{UnparkedAll, MayUnparkCount, UnparksCount, UnparkedCount, MayValidate};
     ghost use Rattle.lot_park.specs.Parking.{Validates, Validated, Awaited, ParkedActing, ParkedOnce};
@@ -186,7 +187,7 @@ impl<S: Scheme> ParkingLot<S> {
             (x, pass),
             |bucket: &mut Bucket<S::Root>, own: (X, S::Pass)| -> ((X, S::Pass), bool)
                 requires ready { IsOpenFor S.Root.view key bucket.old }
-                requires room { length bucket.old.queue < bucket.old.room }
+                requires place { HasPlaceFor (S.thread own.1) bucket.old }
                 requires callable { MayValidate S.Root.view key (V.pre validate own.0 own.1) }
                 requires keeps { Validates S.Root.view S.thread key (S.thread own.1) (V.post validate own.0 own.1) }
             { park_in::<S, X, V>(bucket, key, own.0, own.1, validate) },
@@ -344,7 +345,7 @@ impl<S: Scheme> ParkingLot<S> {
     /// of it. `Err` is for a request for memory that was refused, and then nothing has changed.
     ///
     /// Threads may park and unpark meanwhile. Call it as a thread comes, with the number that are registered.
-    pub fn ensure<W: Wait>(&self, rt: &W, threads: usize) -> Result<Grown, TableFault>
+    pub fn ensure<W: Wait>(&self, rt: &W, threads: usize) -> Result<Served, TableFault>
         requires { threads ≤ self.now.threads }
         ensures { IfOk result (λ g. Serves threads g) }
     {

@@ -4,7 +4,7 @@ ghost use Rattle.std.specs.Prelude.{◌≡◌, ◌<◌, ◌≤◌, [], ◌∷◌
 ghost use Rattle.std.specs.Prelude.{if◌then◌else◌};
 ghost use Rattle.lot_bucket.specs.Queue.{line_of, without_count};
 ghost use Rattle.lot_bucket.specs.Places.{root_at, with_root};
-ghost use Rattle.lot_bucket.specs.Settled.{Stays};
+ghost use Rattle.lot_bucket.specs.Settled.{HasPlaceFor, Stays};
 ghost use Rattle.lot_park.specs.Parking.{IsOpenFor, TellsCount, debt, debts, MayUnpark, Unparks, UnparkedOne};
 ghost use Rattle.lot_park.specs.Parking.{MayUnparkCount, UnparksCount, UnparkedCount, MayValidate, Validates};
 ghost use Rattle.lot_park.specs.Parking.{Validated};
@@ -14,7 +14,7 @@ use crate::taken::TakenThreads;
 use lot_bucket::{Bucket, Dequeued as UnparkResult, Moment, Root};
 use lot_table::MOST_THREADS;
 
-/// Validates, and queues the pass's thread last where that says yes.
+/// Validates, and queues the pass's thread last where that says yes. It does not wait in the bucket yet.
 pub fn park_in<S: Scheme, X, V: FnOnce(X, S::Pass, S::Root) -> (X, S::Pass, S::Root, bool)>(
     bucket: &mut Bucket<S::Root>,
     key: usize,
@@ -23,7 +23,7 @@ pub fn park_in<S: Scheme, X, V: FnOnce(X, S::Pass, S::Root) -> (X, S::Pass, S::R
     validate: V,
 ) -> ((X, S::Pass), bool)
     requires ready { IsOpenFor S.Root.view key bucket.old }
-    requires room { length bucket.old.queue < bucket.old.room }
+    requires place { HasPlaceFor (S.thread pass) bucket.old }
     requires callable { MayValidate S.Root.view key (V.pre validate x pass) }
     requires keeps { Validates S.Root.view S.thread key (S.thread pass) (V.post validate x pass) }
     ensures stays { Stays S.Root.view bucket.old bucket.new }

@@ -9,7 +9,7 @@
 //! | `Taken`, and it has not yielded 40 times | yields, and takes one where others seek too | has it, or looks again |
 //! | `Taken` still | lines up: it takes one where one is left by now, and sleeps otherwise | has it, or looks again |
 //! | `Parked` | lines up | has it, or looks again |
-ghost use Rattle.std.specs.Prelude.{◌<◌, MatchBool};
+ghost use Rattle.std.specs.Prelude.{◌≡◌, ◌<◌, ◌⊎◌, MatchBool};
 ghost use Rattle.lot_park.specs.Parking.{Ends, Awaited, Queues};
 ghost use Rattle.lot_park.specs.Seeking.{SeekingLaws};
 ghost use Rattle.lot_park.specs.declared.seeking.Seeking.TheVariants.{Got, Waits, Parks};
@@ -44,7 +44,7 @@ pub enum Seeking {
 /// What threads of a scheme seek, which T names, as the locks of its table or their permits: how its word is looked at,
 /// taken and marked.
 pub trait Sought<T>: Scheme {
-    ghost use Rattle.std.specs.Prelude.{ℕ, MatchBool};
+    ghost use Rattle.std.specs.Prelude.{◌≡◌, ℕ, MatchBool};
     ghost use Rattle.lot_park.specs.Parking.{Awaited, Queues};
     ghost use Rattle.lot_park.specs.Seeking.{LinedUp};
     ghost use Rattle.lot_park.specs.declared.seeking.Seeking.{Seeking};
@@ -66,6 +66,9 @@ pub trait Sought<T>: Scheme {
     /// A pass, the key of what its thread seeks, and the pass now, with which at last its word was marked as parked.
     ghost marked: { Self.Pass → ℕ → Self.Pass → Type 0 };
 
+    /// How often the pass's thread was woken, as far as the pass tells.
+    ghost woken: { Self.Pass → ℕ } = { λ _. 0 };
+
     /// What one load of its word tells. It is an observation: nothing is promised of it.
     fn look_at(&self, key: usize) -> Look
         requires { has self.now key };
@@ -74,14 +77,16 @@ pub trait Sought<T>: Scheme {
     fn take(&self, pass: Self::Pass, key: usize) -> (Self::Pass, bool)
         requires has { has self.now key }
         requires waits { seeks pass key Waits pass }
-        ensures { MatchBool result.1 (seeks pass key Got result.0) (seeks pass key Waits result.0) };
+        ensures far { MatchBool result.1 (seeks pass key Got result.0) (seeks pass key Waits result.0) }
+        ensures awake { woken result.0 ≡ woken pass };
 
     /// Takes one by a single exchange, with no look before, where the word of a free one can be guessed, at which nobody
     /// is marked as parked. It may miss one that is left. Without a body of its own it is `take`.
     fn take_free(&self, pass: Self::Pass, key: usize) -> (Self::Pass, bool)
         requires has { has self.now key }
         requires waits { seeks pass key Waits pass }
-        ensures { MatchBool result.1 (seeks pass key Got result.0) (seeks pass key Waits result.0) }
+        ensures far { MatchBool result.1 (seeks pass key Got result.0) (seeks pass key Waits result.0) }
+        ensures awake { woken result.0 ≡ woken pass }
     {
         self.take(pass, key)
     }
@@ -92,14 +97,16 @@ pub trait Sought<T>: Scheme {
         requires has { has self.now key }
         requires waits { seeks pass key Waits pass }
         ensures far { seeks pass key result.1 result.0 }
-        ensures lined { LinedUp result.1 is_marked (changed pass key result.0) (marked pass key result.0) };
+        ensures lined { LinedUp result.1 is_marked (changed pass key result.0) (marked pass key result.0) }
+        ensures awake { woken result.0 ≡ woken pass };
 
     /// The validation of a parking: the thread is queued where still none is left and it is marked as parked.
     fn queue(&self, pass: Self::Pass, root: Self::Root) -> (Self::Pass, Self::Root, bool)
         requires { seeks pass (Self.Root.view root).key Parks pass }
         ensures pass { MatchBool result.2 (sleeps pass (Self.Root.view root).key result.0)
             (seeks pass (Self.Root.view root).key Parks result.0) }
-        ensures root { Queues Self.Root.view Self.thread pass root result.2 result.0 result.1 };
+        ensures root { Queues Self.Root.view Self.thread pass root result.2 result.0 result.1 }
+        ensures awake { woken result.0 ≡ woken pass };
 
     /// Whether a thread that was woken with this token was handed what it seeks; else it seeks it still.
     fn is_handed(token: Token) -> bool
@@ -110,7 +117,11 @@ pub trait Sought<T>: Scheme {
 
 /// What a thread does that was queued, before it sleeps. No bucket is locked then.
 pub trait BeforeSleep {
-    fn run(&self);
+    /// It ran. Code that is written for every action knows this of one only by running it.
+    ghost ran: { Self → Type 0 } = { λ _. Unit {0} };
+
+    fn run(&self)
+        ensures { ran self.now };
 }
 
 /// Nothing: the thread sleeps at once.
@@ -123,7 +134,7 @@ impl BeforeSleep for AtOnce {
 
 /// Gets it, by a thread that has missed it and knows this of its word. Where other threads of the lot seek something
 /// too, it yields before it looks again, since a look takes the word's line of the cache from its owner. Before each
-/// sleep it does what `before` says.
+/// sleep it does what `before` says, so where it was woken, that has run.
 #[inline(always)]
 pub fn get_or_park<S: Sought<T>, T, R: Wait, B: BeforeSleep>(
     rt: &R,
@@ -138,7 +149,8 @@ pub fn get_or_park<S: Sought<T>, T, R: Wait, B: BeforeSleep>(
     requires key { key < parking.now.keys }
     requires thread { S.thread pass < parking.now.threads }
     requires waits { S.seeks pass key Waits pass }
-    ensures { S.seeks pass key Got result }
+    ensures got { S.seeks pass key Got result }
+    ensures ran { (S.woken result ≡ S.woken pass) ⊎ B.ran before.now }
 {
     let scheme = parking.scheme();
     let mut pass = pass;
@@ -173,7 +185,8 @@ fn take_after_yields<S: Sought<T>, T>(
 ) -> (S::Pass, bool)
     requires has { S.has scheme.now key }
     requires waits { S.seeks pass key Waits pass }
-    ensures { MatchBool result.1 (S.seeks pass key Got result.0) (S.seeks pass key Waits result.0) }
+    ensures far { MatchBool result.1 (S.seeks pass key Got result.0) (S.seeks pass key Waits result.0) }
+    ensures awake { S.woken result.0 ≡ S.woken pass }
 {
     spins.back_off();
     if spins.is_alone() {
@@ -197,7 +210,8 @@ fn sleep_in_line<S: Sought<T>, T, R: Wait, B: BeforeSleep>(
     requires key { key < parking.now.keys }
     requires thread { S.thread pass < parking.now.threads }
     requires waits { S.seeks pass key Waits pass }
-    ensures { MatchBool result.1 (S.seeks pass key Got result.0) (S.seeks pass key Waits result.0) }
+    ensures far { MatchBool result.1 (S.seeks pass key Got result.0) (S.seeks pass key Waits result.0) }
+    ensures ran { (S.woken result.0 ≡ S.woken pass) ⊎ B.ran before.now }
 {
     let (pass, seeking) = parking.scheme().line_up(pass, key, is_marked);
     match seeking {
@@ -219,7 +233,8 @@ fn sleep<S: Sought<T>, T, R: Wait, B: BeforeSleep>(
     requires key { key < parking.now.keys }
     requires thread { S.thread pass < parking.now.threads }
     requires parks { S.seeks pass key Parks pass }
-    ensures { MatchBool result.1 (S.seeks pass key Got result.0) (S.seeks pass key Waits result.0) }
+    ensures far { MatchBool result.1 (S.seeks pass key Got result.0) (S.seeks pass key Waits result.0) }
+    ensures ran { (S.woken result.0 ≡ S.woken pass) ⊎ B.ran before.now }
 {
     let (pass, parked) = park::<S, T, R, B>(rt, parking, pass, key, before);
     match parked {
@@ -229,7 +244,7 @@ fn sleep<S: Sought<T>, T, R: Wait, B: BeforeSleep>(
 }
 
 /// Parks with the validation of what is sought: where it is free again, or not marked as parked, the thread is as it
-/// was.
+/// was. Where the thread was woken, `before` has run.
 pub fn park<S: Sought<T>, T, R: Wait, B: BeforeSleep>(
     rt: &R,
     parking: &ParkingLot<S>,
@@ -240,8 +255,9 @@ pub fn park<S: Sought<T>, T, R: Wait, B: BeforeSleep>(
     requires key { key < parking.now.keys }
     requires thread { S.thread pass < parking.now.threads }
     requires parks { S.seeks pass key Parks pass }
-    ensures { Ends result.1 (S.seeks pass key Parks result.0) (λ token. (asleep : S.Pass) × S.sleeps pass key asleep
+    ensures ends { Ends result.1 (S.seeks pass key Parks result.0) (λ token. (asleep : S.Pass) × S.sleeps pass key asleep
         × Awaited S.looked asleep token result.0) }
+    ensures ran { Ends result.1 (S.woken result.0 ≡ S.woken pass) (λ token. B.ran before.now) }
 {
     let scheme = parking.scheme();
     let (pass, (), parked) = parking.park_conditionally(
@@ -254,11 +270,14 @@ pub fn park<S: Sought<T>, T, R: Wait, B: BeforeSleep>(
             ensures pass { MatchBool result.3 (S.sleeps pass (S.Root.view root).key result.1)
                 (S.seeks pass (S.Root.view root).key Parks result.1) }
             ensures root { Queues S.Root.view S.thread pass root result.3 result.1 result.2 }
+            ensures awake { S.woken result.1 ≡ S.woken pass }
         {
             let (pass, root, queued) = scheme.queue(pass, root);
             (x, pass, root, queued)
         },
-        |x: ()| -> () {
+        |x: ()| -> ()
+            ensures { B.ran before.entry.now }
+        {
             before.run();
             x
         },

@@ -7,7 +7,7 @@ use crate::fault::RegisterFault;
 use crate::lot::Lot;
 use crate::pass::Pass;
 use crate::pool::Pool;
-use lot_park::{Grown, ParkingLot};
+use lot_park::{ParkingLot, Served};
 use lot_scheme::{LotName, LotScheme};
 use lot_words::Keeps;
 use std::sync::{MutexGuard, Wait};
@@ -29,7 +29,7 @@ impl<V: Keeps + Send, N: LotName<V> + Send> Lot<V, N> {
         let registered = register_in(rt, &self.parking, &mut *pool, self.threads);
         let _ = MutexGuard::unlock(pool);
         match registered {
-            Ok((pass, _grown)) => {
+            Ok((pass, _served)) => {
                 pass.check_whole();
                 Ok(pass)
             }
@@ -86,7 +86,7 @@ fn register_in<V: Keeps + Send, N: LotName<V> + Send, R: Wait>(
     parking: &ParkingLot<LotScheme<V, N>>,
     pool: &mut Pool<V, N>,
     threads: usize,
-) -> Result<(Pass<V, N>, Grown), RegisterFault>
+) -> Result<(Pass<V, N>, Served), RegisterFault>
     requires { (threads ≡ N.threads) × (parking.now.threads ≡ N.threads) }
     ensures free { IfOk result (λ r. OwnsNone r.0) }
     ensures rests { IfOk result (λ r. V.rests (rested r.0)) }
@@ -97,7 +97,7 @@ fn register_in<V: Keeps + Send, N: LotName<V> + Send, R: Wait>(
         return Err(RegisterFault::Full);
     };
     match parking.ensure(rt, pool.count_out(threads)) {
-        Ok(grown) => Ok((pass, grown)),
+        Ok(served) => Ok((pass, served)),
         Err(_) => {
             pool.put(pass);
             Err(RegisterFault::NoMemory)

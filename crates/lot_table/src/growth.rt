@@ -1,18 +1,19 @@
 //! Growth: the one thing that takes memory for a table that is in use.
 
-ghost use Rattle.std.specs.Prelude.{◌≡◌, ℕ, ◌<◌, ◌≤◌, [], length, IsTrue, IfOk, vec_len, vec_capacity};
+ghost use Rattle.std.specs.Prelude.{◌≡◌, ℕ, ◌<◌, ◌≤◌, true, false, [], length, IsTrue, IfOk, IfErr, MatchOption};
+ghost use Rattle.std.specs.Prelude.{vec_len, vec_capacity};
 ghost use Rattle.lot_table.specs.Buckets.{queued, AreFresh, AreWhole};
 ghost use Rattle.lot_table.specs.Tables.{under};
 
+use crate::cells::{Found, Growing, Unset, publish};
 use crate::closing::spend_empty;
 use crate::fresh::{discard_all, fresh_buckets};
-use crate::moves::regrow;
+use crate::moves::{Moved, regrow};
 use crate::sizes::TableFault;
 use crate::version::Version;
 use lot_bucket::{Bucket, Root, Settled};
 use std::alloc::Global;
-use std::mem;
-use std::sync::{MutexGuard, OnceLock, Wait};
+use std::sync::{MutexGuard, Wait};
 
 /// The allocator of a table, in the hands of growth alone.
 ///
@@ -29,23 +30,30 @@ impl Grower {
     }
 
     /// Takes all memory that a growth to `size` buckets needs, and then lets the table grow from `version` to a
-    /// new one, which is published in `cell`. It says whether it did.
+    /// new one, which is published in the cell `next`, and answers that one.
     ///
     /// Where a bucket of `version` is not in use, where more than `threads` wait, or where the cell is set, it
-    /// lets all locks go and nothing has changed.
-    pub fn grow<W: Wait, R: Root>(
+    /// lets all locks go, publishes none, and nothing has changed.
+    pub fn grow<'a, W: Wait, R: Root>(
         &self,
         rt: &W,
         version: &Version<R>,
-        cell: &OnceLock<Version<R>>,
+        next: &Unset<'a, R>,
         size: usize,
         keys: usize,
         threads: usize,
-    ) -> Result<bool, TableFault>
-        requires { 0 < size }
+        growing: &mut Growing,
+    ) -> Result<Option<(Found<'a, R>, Moved)>, TableFault>
+        requires size { 0 < size }
+        requires first { growing.old.has_grown ≡ false }
+        ensures published { IfOk result (λ r. MatchOption r (growing.new.has_grown ≡ false)
+            (λ f. (growing.new.has_grown ≡ true) × (f.0.token.of ≡ next.now.id) × (f.0.version.now.size ≡ size))) }
+        ensures refused { IfErr result (λ e. growing.new.has_grown ≡ false) }
     {
         let supplies = supplies_for(rt, self.alloc, version.size(), size, keys, threads)?;
-        Ok(grow_with(rt, self.alloc, version, cell, supplies, keys, threads))
+        Ok(grow_with(
+            rt, self.alloc, version, next, supplies, keys, threads, growing,
+        ))
     }
 }
 
@@ -71,6 +79,7 @@ fn supplies_for<'a, W: Wait, R: Root>(
     ensures old { IfOk result (λ s. (s.old.items ≡ []) × (left ≤ vec_capacity s.old)) }
     ensures fresh { IfOk result (λ s. AreFresh keys threads s.fresh.items) }
     ensures sizes { IfOk result (λ s. vec_len s.fresh ≡ s.grown.size) }
+    ensures grown { IfOk result (λ s. s.grown.size ≡ size) }
 {
     let guards = Vec::with_capacity(alloc, left)?;
     let grown = Version::hollow(alloc, size)?;
@@ -96,29 +105,39 @@ fn supplies_for<'a, W: Wait, R: Root>(
     }
 }
 
-// Spends what was not used.
-fn abandon<W: Wait, R: Root>(rt: &W, old: Vec<Bucket<R>>, fresh: Vec<Bucket<R>>, grown: Version<R>)
+// Lets all locks go, and spends what was not used.
+fn abandon<W: Wait, R: Root>(
+    rt: &W,
+    guards: Vec<MutexGuard<'_, Settled<R>>>,
+    old: Vec<Bucket<R>>,
+    fresh: Vec<Bucket<R>>,
+    grown: Version<R>,
+)
     requires old { old.items ≡ [] }
     requires fresh { (keys threads : ℕ) × AreFresh keys threads fresh.items }
 {
+    drop(guards);
     old.destroy_empty();
     discard_all(fresh);
     grown.discard(rt);
 }
 
-fn grow_with<'a, W: Wait, R: Root>(
+fn grow_with<'a, 'b, W: Wait, R: Root>(
     rt: &W,
     alloc: Global,
-    version: &'a Version<R>,
-    cell: &OnceLock<Version<R>>,
-    supplies: Supplies<'a, R>,
+    version: &'b Version<R>,
+    next: &Unset<'a, R>,
+    supplies: Supplies<'b, R>,
     keys: usize,
     threads: usize,
-) -> bool
+    growing: &mut Growing,
+) -> Option<(Found<'a, R>, Moved)>
     requires guards { (vec_len supplies.guards ≡ 0) × (version.now.size ≤ vec_capacity supplies.guards) }
     requires old { (supplies.old.items ≡ []) × (version.now.size ≤ vec_capacity supplies.old) }
-    requires fresh { AreFresh keys threads supplies.fresh.items }
-    requires sizes { vec_len supplies.fresh ≡ supplies.grown.size }
+    requires fresh { AreFresh keys threads supplies.fresh.items × (vec_len supplies.fresh ≡ supplies.grown.size) }
+    requires first { growing.old.has_grown ≡ false }
+    ensures { MatchOption result (growing.new.has_grown ≡ false) (λ f. (growing.new.has_grown ≡ true)
+        × (f.0.token.of ≡ next.now.id) × (f.0.version.now.size ≡ supplies.entry.grown.size)) }
 {
     let Supplies {
         mut guards,
@@ -128,19 +147,17 @@ fn grow_with<'a, W: Wait, R: Root>(
     } = supplies;
     lock_all(rt, version, &mut guards);
     if !are_whole(guards.as_slice(), keys, threads) {
-        drop(guards);
-        abandon(rt, old, fresh, grown);
-        return false;
+        abandon(rt, guards, old, fresh, grown);
+        return None;
     }
-    match publish(cell, grown) {
-        Ok(published) => {
-            move_over(rt, alloc, guards, old, fresh, published, keys);
-            true
+    match publish(next, grown, growing) {
+        Ok(found) => {
+            let moved = move_over(rt, alloc, guards, old, fresh, found.version, keys);
+            Some((found, moved))
         }
         Err(back) => {
-            drop(guards);
-            abandon(rt, old, fresh, back);
-            false
+            abandon(rt, guards, old, fresh, back);
+            None
         }
     }
 }
@@ -179,18 +196,6 @@ fn are_whole<R: Root>(guards: &[MutexGuard<'_, Settled<R>>], keys: usize, thread
     true
 }
 
-fn publish<R: Root>(
-    cell: &OnceLock<Version<R>>,
-    version: Version<R>,
-) -> Result<&Version<R>, Version<R>>
-    ensures { IfOk result (λ v. v.now ≡ version) }
-{
-    match cell.try_set(version) {
-        Ok(token) => Ok(cell.value(&token)),
-        Err(back) => Err(back),
-    }
-}
-
 // Moves all lines and roots to the new buckets, which then fill the new version. The old buckets are locked
 // until all is done, and closed, empty ones stay behind.
 fn move_over<W: Wait, R: Root>(
@@ -201,7 +206,7 @@ fn move_over<W: Wait, R: Root>(
     fresh: Vec<Bucket<R>>,
     published: &Version<R>,
     keys: usize,
-)
+) -> Moved
     requires some { 0 < vec_len guards }
     requires whole { AreWhole R.view keys (under guards.items) }
     requires old { (old.items ≡ []) × (vec_len guards ≤ vec_capacity old) }
@@ -213,9 +218,10 @@ fn move_over<W: Wait, R: Root>(
     let mut fresh = fresh;
     let _size = published.size();
     take_out(alloc, guards.as_mut_slice(), &mut old);
-    regrow(old.as_mut_slice(), fresh.as_mut_slice());
+    let moved = regrow(old.as_mut_slice(), fresh.as_mut_slice());
     published.fill(rt, fresh, keys);
     spend_empty(old);
+    moved
 }
 
 // Takes the buckets out from under their locks, and leaves closed, empty ones.
@@ -229,7 +235,7 @@ fn take_out<R: Root>(
     ensures { old.new.items ≡ under guards.old }
 {
     for number in 0..guards.len() {
-        let settled = mem::replace(&mut *guards[number], Settled::hollow(alloc));
-        old.push_reserved(settled.into_bucket());
+        let settled = &mut *guards[number];
+        old.push_reserved(settled.take_bucket(alloc));
     }
 }

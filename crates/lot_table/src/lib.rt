@@ -22,15 +22,19 @@
 //! | 5 | the new buckets are opened and put behind their locks, and all old locks released | |
 #![tactic(auto)]
 
+mod cells;
 mod closing;
 mod fresh;
 mod growth;
 mod moves;
+mod served;
 mod sizes;
+mod slot;
 mod table;
 mod version;
 mod versions;
 
-pub use moves::regrow;
+pub use moves::{Moved, regrow};
+pub use served::Served;
 pub use sizes::{Grown, MOST_THREADS, TableFault, grown_size};
 pub use table::{Table, Unlocked};

@@ -10,12 +10,16 @@ use lot_bucket::{Bucket, Moment, Root};
 // A moment at which it is not yet time to be fair, whatever the bucket.
 const NEVER: Moment = Moment { now: 0, word: 0 };
 
+/// That all lines and roots were moved. Only `regrow` gives one, and it takes no bytes.
+#[derive(Drop)]
+pub struct Moved(());
+
 /// Moves each key's line and root from the buckets of a table to those of a larger one, as WTF's ParkingLot
 /// does when it rehashes. Each line keeps its order.
 ///
 /// The caller has the old buckets out from under their locks, and the new ones are not in use yet. It takes
 /// no memory.
-pub fn regrow<R: Root>(old: &mut [Bucket<R>], new: &mut [Bucket<R>])
+pub fn regrow<R: Root>(old: &mut [Bucket<R>], new: &mut [Bucket<R>]) -> Moved
     requires { (keys : ℕ) × MayRegrow R.view keys old.old new.old }
     ensures lines { KeepsLines old.old new.new }
     ensures filled { (keys : ℕ) → AreWhole R.view keys old.old → AreFilled R.view keys new.new }
@@ -25,10 +29,11 @@ pub fn regrow<R: Root>(old: &mut [Bucket<R>], new: &mut [Bucket<R>])
     let grown = new.len();
     for key in 0..usize::MAX {
         if !old[key % size].has_key(key) {
-            return;
+            return Moved(());
         }
         move_key(&mut old[key % size], &mut new[key % grown], key);
     }
+    Moved(())
 }
 
 fn move_key<R: Root>(from: &mut Bucket<R>, to: &mut Bucket<R>, key: usize)

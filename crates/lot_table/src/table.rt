@@ -1,4 +1,5 @@
-ghost use Rattle.std.specs.Prelude.{◌≡◌, ℕ, ◌+◌, ◌*◌, ◌<◌, ◌≤◌, ◌%◌, length, vec_len, vec_capacity, IfOk, IfErr};
+ghost use Rattle.std.specs.Prelude.{◌≡◌, ℕ, ◌+◌, ◌*◌, ◌<◌, ◌≤◌, ◌%◌, true, false, length, vec_len, vec_capacity, Some};
+ghost use Rattle.std.specs.Prelude.{IfOk, IfErr, MatchOption};
 ghost use Rattle.std.specs.Sync.Mutex.{mutex_guard_value};
 ghost use Rattle.lot_bucket.specs.Settled.{IsReady, HasPlaceFor, Stays};
 ghost use Rattle.lot_table.specs.Roots.{AreIdle, Appends};
@@ -6,12 +7,16 @@ ghost use Rattle.lot_table.specs.Sizes.{Serves, grown_size_of};
 ghost use Rattle.lot_table.specs.Buckets.{AreFresh, AreFilled};
 ghost use Rattle.lot_table.specs.declared.sizes.TheConstants.{MOST_THREADS, FIRST_SIZE, MOST_VERSIONS};
 
+use crate::cells::{Found, Growing};
 use crate::closing::Closing;
 use crate::fresh::fresh_buckets;
 use crate::growth::Grower;
-use crate::sizes::{FIRST_SIZE, Grown, MOST_VERSIONS, TableFault, grown_size};
+use crate::moves::Moved;
+use crate::served::Served;
+use crate::sizes::{FIRST_SIZE, MOST_VERSIONS, TableFault, grown_size};
+use crate::slot::Slot;
 use crate::version::Version;
-use crate::versions::Versions;
+use crate::versions::{Newest, Versions};
 use lot_bucket::{Bucket, Root, Settled};
 use std::alloc::Global;
 use std::marker::Model;
@@ -95,13 +100,13 @@ impl<R: Root> Table<R> {
     pub fn size<W: Wait>(&self, _rt: &W) -> usize
         ensures { 0 < result }
     {
-        self.versions.newest().0.size()
+        self.versions.newest().version.size()
     }
 
     /// Whether the bucket of that number in the newest version is locked at some moment of this call. It is an
     /// observation: nothing is promised of it.
     pub fn is_locked(&self, number: usize) -> bool {
-        let (version, _next) = self.versions.newest();
+        let version = self.versions.newest().version;
         number < version.size() && version.is_locked(number)
     }
 
@@ -165,12 +170,12 @@ impl<R: Root> Table<R> {
         ensures { IsReady R.view key self.now.threads self.now.keys (mutex_guard_value result).bucket }
     {
         for _ in rt.forever() {
-            let (version, _next) = self.versions.newest();
-            let guard = version.lock_of(key % version.size()).lock(rt);
-            if guard.is_ready(key, self.threads, self.keys) {
+            let version = self.versions.newest().version;
+            let size = version.size();
+            let slot = version.lock_of(key % size);
+            if let Some(guard) = slot.lock_ready(rt, key, size, self.threads, self.keys) {
                 return guard;
             }
-            drop(guard);
             thread::yield_now();
         }
         unreachable!()
@@ -197,44 +202,52 @@ impl<R: Root> Table<R> {
     }
 
     /// Lets the table grow until it has three buckets for each of so many threads, and answers what became of
-    /// it. `Err` is for a request for memory that was refused, and then nothing has changed.
+    /// it: the newest version was large enough, and this call published none; or this call published one, once, and
+    /// moved all lines to it. `Err` is for a request for memory that was refused, and then nothing has changed.
     ///
     /// Others may use the table meanwhile, and grow it. No bucket may be locked by the caller.
-    pub fn ensure<W: Wait>(&self, rt: &W, threads: usize) -> Result<Grown, TableFault>
+    pub fn ensure<W: Wait>(&self, rt: &W, threads: usize) -> Result<Served, TableFault>
         requires { threads ≤ self.now.threads }
         ensures { IfOk result (λ g. Serves threads g) }
     {
         let _most = self.threads;
+        let mut growing = Growing::new();
         for _ in rt.forever() {
-            let (version, next) = self.versions.newest();
-            let size = version.size();
+            let newest = self.versions.newest();
+            let size = newest.version.size();
             let grown = grown_size(size, threads);
             if grown == size {
-                return Ok(Grown::Kept(size));
+                return Ok(Served::kept(&newest, size, growing));
             }
-            if self.grow_to(rt, version, next, grown)? {
-                return Ok(Grown::Grew(size, grown));
+            if let Some((found, moved)) = self.grow_to(rt, &newest, grown, &mut growing)? {
+                return Ok(Served::grew(&newest, size, &found, grown, moved, growing));
             }
             thread::yield_now();
         }
         unreachable!()
     }
 
-    // Lets the table grow from the version where that may be; `next` is the cell after the version's.
-    fn grow_to<W: Wait>(
+    // Lets the table grow from its newest version where that may be, and answers the version that it published.
+    fn grow_to<'a, W: Wait>(
         &self,
         rt: &W,
-        version: &Version<R>,
-        next: Option<&OnceLock<Version<R>>>,
+        newest: &Newest<'a, R>,
         size: usize,
-    ) -> Result<bool, TableFault>
-        requires { 0 < size }
+        growing: &mut Growing,
+    ) -> Result<Option<(Found<'a, R>, Moved)>, TableFault>
+        requires size { 0 < size }
+        requires first { growing.old.has_grown ≡ false }
+        ensures published { IfOk result (λ r. MatchOption r (growing.new.has_grown ≡ false)
+            (λ f. (growing.new.has_grown ≡ true) × (f.0.version.now.size ≡ size)
+            × ((cell : _) × (newest.now.next ≡ Some cell) × (f.0.token.of ≡ cell.id)))) }
+        ensures refused { IfErr result (λ e. growing.new.has_grown ≡ false) }
     {
-        let Some(cell) = next else {
-            return Ok(false);
+        let Some(next) = &newest.next else {
+            return Ok(None);
         };
+        let version = newest.version;
         self.grower
-            .grow(rt, version, cell, size, self.keys, self.threads)
+            .grow(rt, version, next, size, self.keys, self.threads, growing)
     }
 
     /// Appends each key's root to `out`, in key order. It takes no memory.
@@ -257,7 +270,7 @@ impl<R: Root> Table<R> {
 // What a table is made of: room for the locks of the first version, its buckets in a list that has room for those
 // of any version, and room for the cells of the versions after it.
 struct Parts<R: Root> {
-    locks: Vec<Mutex<Settled<R>>>,
+    locks: Vec<Slot<R>>,
     fresh: Vec<Bucket<R>>,
     cells: Vec<OnceLock<Version<R>>>,
 }

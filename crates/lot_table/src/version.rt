@@ -5,29 +5,29 @@ ghost use Rattle.lot_bucket.specs.Settled.{IsWhole};
 ghost use Rattle.lot_table.specs.Buckets.{AreWhole, AreFilled};
 
 use crate::sizes::TableFault;
+use crate::slot::Slot;
 use lot_bucket::{Bucket, Root, Settled};
 use std::alloc::Global;
 use std::marker::Model;
-use std::mem;
-use std::sync::{Mutex, Wait};
+use std::sync::Wait;
 
-/// The buckets of one version, each behind its lock.
+/// The buckets of one version, each behind the lock of its number.
 ///
 /// It is not `Drop`, as its buckets are not: `into_buckets` takes them out, and `discard` spends a version
 /// that was left. The row of locks is private, since a row hands out its allocator.
 pub struct Version<R: Root> {
-    buckets: Vec<Mutex<Settled<R>>>,
+    slots: Vec<Slot<R>>,
 }
 
 impl<R: Root> Model for Version<R> {
     ghost use Rattle.std.specs.Prelude.{◌<◌, vec_len};
-    ghost use Rattle.lot_table.specs.Tables.{Extent};
+    ghost use Rattle.lot_table.specs.Tables.{Extent, AreNumbered};
 
     ghost Value = { Extent };
 
-    ghost view = { λ v. record { size = vec_len v.buckets } };
+    ghost view = { λ v. record { size = vec_len v.slots } };
 
-    ghost invariant = { λ v. 0 < vec_len v.buckets };
+    ghost invariant = { λ v. (0 < vec_len v.slots) × AreNumbered v.slots.items };
 }
 
 impl<R: Root> Version<R> {
@@ -36,11 +36,11 @@ impl<R: Root> Version<R> {
         requires { 0 < size }
         ensures { IfOk result (λ v. v.size ≡ size) }
     {
-        let mut buckets = Vec::with_capacity(alloc, size)?;
-        for _ in 0..size {
-            buckets.push_reserved(Mutex::new(Settled::hollow(alloc)));
+        let mut slots = Vec::with_capacity(alloc, size)?;
+        for number in 0..size {
+            slots.push_reserved(Slot::new(Settled::hollow(alloc, number, size), number, size));
         }
-        Ok(Version { buckets })
+        Ok(Version { slots })
     }
 
     /// The version of these buckets, which are opened, and the list that they lay in, with its room. `locks` has
@@ -48,7 +48,7 @@ impl<R: Root> Version<R> {
     pub fn of(
         buckets: Vec<Bucket<R>>,
         keys: usize,
-        locks: Vec<Mutex<Settled<R>>>,
+        locks: Vec<Slot<R>>,
     ) -> (Version<R>, Vec<Bucket<R>>)
         requires some { 0 < vec_len buckets }
         requires empty { vec_len locks ≡ 0 }
@@ -64,10 +64,10 @@ impl<R: Root> Version<R> {
         while let Some(mut bucket) = filled.pop() {
             let number = filled.len();
             bucket.open();
-            locks.push_reserved(Mutex::new(Settled::new(bucket, number, size, keys)));
+            locks.push_reserved(Slot::new(Settled::new(bucket, number, size, keys), number, size));
         }
         locks.reverse();
-        (Version { buckets: locks }, filled)
+        (Version { slots: locks }, filled)
     }
 
     /// How many buckets it has.
@@ -75,21 +75,22 @@ impl<R: Root> Version<R> {
         ensures count { result ≡ self.now.size }
         ensures some { 0 < result }
     {
-        self.buckets.len()
+        self.slots.len()
     }
 
     /// The lock of that bucket.
-    pub fn lock_of(&self, number: usize) -> &Mutex<Settled<R>>
+    pub fn lock_of(&self, number: usize) -> &Slot<R>
         requires { number < self.now.size }
+        ensures { result.now ≡ record { number = number; size = self.now.size } }
     {
-        &self.buckets[number]
+        &self.slots[number]
     }
 
     /// Whether the bucket is locked at some moment of this call.
     pub fn is_locked(&self, number: usize) -> bool
         requires { number < self.now.size }
     {
-        self.lock_of(number).try_lock().is_none()
+        self.lock_of(number).is_locked()
     }
 
     /// Whether each bucket is found closed and empty.
@@ -115,8 +116,7 @@ impl<R: Root> Version<R> {
             let number = fresh.len();
             bucket.open();
             let settled = Settled::new(bucket, number, size, keys);
-            let before = mem::replace(&mut *self.lock_of(number).lock(rt), settled);
-            spend(rt, before);
+            spend(rt, self.lock_of(number).put(rt, settled));
         }
         fresh.destroy_empty();
     }
@@ -128,7 +128,7 @@ impl<R: Root> Version<R> {
         ensures some { 0 < vec_len result }
         ensures whole { AreWhole R.view keys result.items }
     {
-        let Version { buckets: mut locks } = self;
+        let Version { slots: mut locks } = self;
         let size = locks.len();
         let mut row = row;
         if size > row.capacity() {
@@ -145,11 +145,11 @@ impl<R: Root> Version<R> {
 
     /// Spends a version whose buckets are all closed. That they are is known by nothing but looking.
     pub fn discard<W: Wait>(self, rt: &W) {
-        let Version { mut buckets } = self;
-        while let Some(lock) = buckets.pop() {
-            spend(rt, lock.into_inner());
+        let Version { mut slots } = self;
+        while let Some(slot) = slots.pop() {
+            spend(rt, slot.into_inner());
         }
-        buckets.destroy_empty();
+        slots.destroy_empty();
     }
 }
 

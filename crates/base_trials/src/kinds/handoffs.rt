@@ -53,7 +53,7 @@ fn grows<N: LotName<Nothing> + Send, R: Wait + Abort>(
     requires { threads ≤ lot.now.threads }
 {
     match lot.ensure(rt, threads) {
-        Ok(grown) => equal(rt, grown, Grown::Grew(from, to)),
+        Ok(served) => equal(rt, served.grown(), Grown::Grew(from, to)),
         Err(_refused) => failed(rt, "no memory"),
     }
 }

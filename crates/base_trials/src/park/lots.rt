@@ -177,7 +177,7 @@ fn grown<R: Wait + Abort>(rt: &R, lot: &ParkingLot<Letters>, threads: usize) -> 
     requires { threads ≤ lot.now.threads }
 {
     match lot.ensure(rt, threads) {
-        Ok(grown) => grown,
+        Ok(served) => served.grown(),
         Err(_refused) => failed(rt, "memory"),
     }
 }

@@ -37,7 +37,7 @@ fn ensured<R: Wait + Abort>(rt: &R, table: &Table<Right>, threads: usize) -> Gro
     requires { threads ≤ table.now.threads }
 {
     match table.ensure(rt, threads) {
-        Ok(grown) => grown,
+        Ok(served) => served.grown(),
         Err(_refused) => failed(rt, "memory"),
     }
 }

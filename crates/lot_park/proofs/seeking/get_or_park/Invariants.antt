@@ -1,5 +1,9 @@
+use Rattle.std.proofs.Common.{◌≡◌, ◌⊎◌}
 use Rattle.lot_park.specs.declared.seeking.Seeking.TheVariants.{Waits}
 use Rattle.lot_park.proofs.seeking.get_or_park.Given as goal
 
 abbrev pub invariant-loop : goal.invariant-loop
-invariant-loop g l = g.S.Sought.seeks l.initial.pass l.key Waits l.pass
+invariant-loop g l = record {
+  awake : g.S.Sought.seeks l.initial.pass l.key Waits l.pass;
+  ran : (g.S.Sought.woken l.pass ≡ g.S.Sought.woken l.initial.pass) ⊎ g.B.BeforeSleep.ran l.before;
+}

@@ -14,9 +14,9 @@ taken g c = c.as_mut_slice-2.ensures.value ∙ c.take_out.ensures ∙ ap (λ gs.
 whole : (g : Over) (c : After-as_mut_slice-3 g) → AreWhole g.R.Root.view c.args.keys c.as_mut_slice-2.result.now
 whole g c = subst (λ (bs : List (Contents g.row.R.Denot)). AreWhole g.R.Root.view c.args.keys bs) (sym (taken g c)) c.requires.whole
 
-pub regrow-requires-after_bounds : goal.regrow-requires-after_bounds
-regrow-requires-after_bounds g c κs within =
-    let at = (goal.at.regrow-requires-after_bounds g c).After-as_mut_slice-3 in
+pub regrow-moved-requires-after_bounds : goal.regrow-moved-requires-after_bounds
+regrow-moved-requires-after_bounds g c κs within =
+    let at = (goal.at.regrow-moved-requires-after_bounds g c).After-as_mut_slice-3 in
     let fresh = c.as_mut_slice-3.ensures.value in (
       c.args.keys,
       record {
@@ -40,12 +40,13 @@ regrow-requires-after_bounds g c κs within =
 pub fill-requires-clause-filled : goal.fill-requires-clause-filled
 fill-requires-clause-filled g c κs within =
     let at = (goal.at.fill-requires-clause-filled g c).After-as_mut_slice-3 in
-    let count : length c.regrow.new.new ≡ c.args.fresh.len = omega (arith, c.regrow.auto.new, c.as_mut_slice-3.ensures.len) in
-    rw (lent_whole c.args.fresh.len c.regrow.new.new (drop (length c.regrow.new.new) c.args.fresh.items) count)
-    (c.regrow.ensures.filled c.args.keys (whole g at))
+    let count : length c.regrow-moved.new.new ≡ c.args.fresh.len = omega (arith, c.regrow-moved.auto.new, c.as_mut_slice-3.ensures.len) in
+    rw (lent_whole c.args.fresh.len c.regrow-moved.new.new (drop (length c.regrow-moved.new.new) c.args.fresh.items) count)
+    (c.regrow-moved.ensures.filled c.args.keys (whole g at))
 
 pub spend_empty-requires-after_bounds : goal.spend_empty-requires-after_bounds
 spend_empty-requires-after_bounds g c κs within =
-    let count : length c.regrow.new.old ≡ c.take_out.new.old.len = omega (arith, c.regrow.auto.old, c.as_mut_slice-2.ensures.len) in
-    rw (lent_whole c.take_out.new.old.len c.regrow.new.old (drop (length c.regrow.new.old) c.take_out.new.old.items) count)
-    c.regrow.ensures.left
+    let count : length c.regrow-moved.new.old ≡ c.take_out.new.old.len =
+    omega (arith, c.regrow-moved.auto.old, c.as_mut_slice-2.ensures.len) in
+    rw (lent_whole c.take_out.new.old.len c.regrow-moved.new.old (drop (length c.regrow-moved.new.old) c.take_out.new.old.items) count)
+    c.regrow-moved.ensures.left

@@ -19,4 +19,5 @@ returns-in-Ok-with_capacity g c = record {
   old = (c.in-Ok-with_capacity.ensures.items, c.in-Ok-with_capacity.ensures.capacity);
   fresh = c.in-Ok.ensures.fresh;
   sizes = c.in-Ok.ensures.len ∙ sym c.in_ok-grown.ensures;
+  grown = c.in_ok-grown.ensures;
 }

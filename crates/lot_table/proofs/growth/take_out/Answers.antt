@@ -1,7 +1,6 @@
 use Rattle.std.proofs.Common.{◌≡◌, ◌≤◌, List, length, arith, ap, refl, ◌∙◌}
 use Rattle.std.proofs.lemmas.List.{take_all, length-take-le}
 use Rattle.lot_bucket.specs.Contents.{Contents}
-use Rattle.lot_bucket.specs.Settled.{Lying}
 use Rattle.lot_table.specs.Tables.{under}
 use Rattle.lot_table.proofs.Guarding.{out_next, rest_next, length-under}
 use Rattle.lot_table.proofs.growth.take_out.Goals as goal
@@ -22,9 +21,9 @@ pub loop-number-preserved : goal.loop-number-preserved
 loop-number-preserved g c = record {
   out =
       out_next c.loop-number.number c.loop-number.guards c.args.guards.now c.loop-number.old.items c.push_reserved.new.self.items
-      c.index-guards-number.result c.deref_mut.result.now
-      c.into_bucket.result (omega arith) c.loop-number.auto.guards
-      c.deref_mut.ensures.value (c.into_bucket.ensures.same ∙ ap (λ (s : Lying g.row.R.Denot). s.bucket) c.replace-settled.ensures.value)
+      c.index-guards-number.result c.deref_mut-settled.result.now
+      c.take_bucket.result (omega arith) c.loop-number.auto.guards
+      c.deref_mut-settled.ensures.value c.take_bucket.ensures.taken
       c.loop-number.invariant.rest
       c.loop-number.invariant.out c.push_reserved.ensures.items;
   rest = rest_next c.loop-number.number c.loop-number.guards c.args.guards.now _ c.loop-number.invariant.rest;

@@ -1,0 +1,67 @@
+//! What a table answers that was asked to serve so many threads.
+
+ghost use Rattle.std.specs.Prelude.{◌≡◌, true, false, Some};
+
+use crate::cells::{Found, Growing};
+use crate::moves::Moved;
+use crate::sizes::Grown;
+use crate::versions::Newest;
+use lot_bucket::Root;
+use std::marker::Model;
+
+/// What became of a table that was to serve so many threads. Only the table's own versions give one, so the sizes that
+/// it tells are theirs.
+#[derive(Drop)]
+pub struct Served {
+    grown: Grown,
+}
+
+impl Model for Served {
+    ghost use Rattle.lot_table.specs.declared.sizes.Grown.{Grown};
+
+    ghost Value = { Grown };
+
+    ghost view = { λ s. s.grown };
+}
+
+impl Served {
+    ghost use Rattle.lot_table.specs.declared.sizes.Grown.TheVariants.{Kept, Grew};
+
+    /// The newest version is large enough, and the call has published none.
+    pub(crate) fn kept<R: Root>(_newest: &Newest<'_, R>, size: usize, _growing: Growing) -> Served
+        requires size { size ≡ _newest.now.version.now.size }
+        requires grown { _growing.has_grown ≡ false }
+        ensures { result ≡ Kept size }
+    {
+        Served {
+            grown: Grown::Kept(size),
+        }
+    }
+
+    /// The call has published a version in the cell after that of the newest, and moved all lines and roots there.
+    pub(crate) fn grew<R: Root>(
+        _newest: &Newest<'_, R>,
+        before: usize,
+        _published: &Found<'_, R>,
+        after: usize,
+        _moved: Moved,
+        _growing: Growing,
+    ) -> Served
+        requires before { before ≡ _newest.now.version.now.size }
+        requires after { after ≡ _published.now.version.now.size }
+        requires next { (cell : _) × (_newest.now.next ≡ Some cell) × (_published.now.token.of ≡ cell.id) }
+        requires grown { _growing.has_grown ≡ true }
+        ensures { result ≡ Grew before after }
+    {
+        Served {
+            grown: Grown::Grew(before, after),
+        }
+    }
+
+    /// What became of the table, and the sizes.
+    pub fn grown(&self) -> Grown
+        ensures { result ≡ self.now }
+    {
+        self.grown
+    }
+}
