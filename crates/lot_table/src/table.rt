@@ -23,8 +23,8 @@ use std::marker::Model;
 use std::sync::{Mutex, MutexGuard, OnceLock, Wait};
 use std::thread;
 
-/// That the bucket which a call had locked is unlocked again. Only such a call gives one, so what takes one can't be
-/// done in the work under that lock. It takes no bytes.
+/// That the bucket which a call had locked was unlocked. Only such a call gives one, so what takes one can't be done in
+/// the work under that lock; nothing tells that its holder locked no bucket since. It takes no bytes.
 #[derive(Drop)]
 pub struct Unlocked(());
 

@@ -330,8 +330,8 @@ fn awaits_the_action<R: Threads + Wait + Abort + Sync>(
     );
 }
 
-/// It catches a `park_conditionally` that calls the action in its validation, under the lock of the bucket: there it
-/// waits for that lock for ever, and what it found is never noted.
+/// It catches a `park_conditionally` that calls the action in its validation, and a `park_acting` that locks the bucket
+/// again for it: there it waits for that lock for ever, and what it found is never noted.
 #[test]
 fn an_action_before_sleep_runs_with_no_bucket_locked(rt: HostRuntime) {
     let lot = open(&rt, rt.alloc());
