@@ -4,7 +4,7 @@ use thiserror::Error;
 /// Why a table of words was not opened.
 #[derive(Debug, Drop, Error)]
 pub enum WordsFault {
-    /// 1: an allocation was refused.
+    /// A request for memory was refused.
     #[error("no memory")]
-    NoMemory,
+    NoMemory = 1,
 }

@@ -129,13 +129,13 @@ module _ {V Part : Type 0} (rule : CallersRule V Part) (z : LotSize) (xs : List 
   from_lock up silent (suc zero) own a h =
       carry rule z xs lock p (lock_woken p.own.locks) (Collects t (Some 0)) (CollectingIn rule p true p.own.conds.out 1)
       (λ e. absurd (cc)) silent
-      (λ k. (omega arith, (k, refl))) own a h.1
+      (λ k. (omega arith, (k, refl))) own a h.1.1
   from_lock up silent (suc (suc token)) own a h =
-      let l = h.1.1.0 in
-      let x = h.1.1.2.0 in
+      let l = h.1.2.0 in
+      let x = h.1.2.2.0 in
       carry rule z xs lock p (lock_woken (owning p.own.locks l x)) (Collects t (Some 1))
       (CollectingIn rule p true p.own.conds.out (suc (suc token))) (λ e. absurd (cc)) silent
-      (λ k. (h.0, (h.1.0, (l, h.1.1.1, (x, h.1.1.2.1, (k, refl)))))) own a h.1.1.2.2
+      (λ k. (h.0, (h.1.0, (l, h.1.2.1, (x, h.1.2.2.1, (k, refl)))))) own a h.1.2.2.2
 
   from_cond : Silent cond → (c n : ℕ) (own : CondPassView) (a : Access)
       → cond_turns.Collecting (part_pass cond p) n (pass_after (part_pass cond p) own 0 a)

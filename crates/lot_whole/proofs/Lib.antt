@@ -12,6 +12,5 @@ pub mod Moments
 pub mod Opens
 pub mod Order
 pub mod Closes
-pub mod Waits
 pub mod Twos
 pub mod Names

@@ -1,11 +1,10 @@
 -- What each kind of call does to the rights that it is handed.
-use Rattle.std.specs.Prelude.{◌≡◌, ◌≢◌, ◌⊎◌, ◌%◌, ℕ, zero, suc, ◌<◌, ◌++◌, Bool, true, false, List, map, Option, Some, None}
+use Rattle.std.specs.Prelude.{◌≡◌, ◌≢◌, ◌⊎◌, ◌%◌, ℕ, zero, suc, ◌<◌, Bool, true, false, Option, Some, None}
 use Rattle.lot_events.specs.declared.events.Event.TheVariants.{SemTake, SemFree}
 use Rattle.lot_events.specs.declared.events.Event.{Event}
 use Rattle.lot_events.specs.declared.events.Seen.TheVariants.{Bool as Saw}
 use Rattle.lot_rights.specs.declared.views.Access.{Access}
 use Rattle.lot_rights.specs.declared.views.Access.TheVariants.{Makes, Collects, Finds}
-use Rattle.lot_rights.specs.declared.views.Entry.{Entry}
 use Rattle.lot_rights.specs.Shown.{PassShown, RootShown}
 use Rattle.lot_rights.specs.Steps.{Notes, RootNotes}
 use Rattle.lot_words.specs.CallersRule.{CallersRule}
@@ -129,8 +128,3 @@ module _ {V Part : Type 0} (rule : CallersRule V Part) where
   abbrev pub CollectedBy : PassShown (LotPassView V) → ℕ → PassShown (LotPassView V) → Type 0
   CollectedBy p zero q = FoundNone p q
   CollectedBy p (suc token) q = Collected p token q
-
--- ---- words of entries
--- q shows the entries of p and then these accesses, the newest last, and nothing else
-abbrev pub Adds : {P : Type 0} → PassShown P → List Access → PassShown P → Type 0
-Adds p accesses q = (new : List Entry) × (q.made ≡ p.made ++ new) × (map (λ (e : Entry). e.access) new ≡ accesses)

@@ -10,6 +10,5 @@ pub mod Calls
 pub mod Headline
 pub mod Closing
 pub mod Order
-pub mod Chains
 -- a part of these
 pub mod Shown

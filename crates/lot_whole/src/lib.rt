@@ -27,15 +27,13 @@
 //! | `post`, `post_cond`, `post_sem`, `collect` | letters | (the root owes one letter less); is awake again |
 //!
 //! A thread waits in one kind at most, so one word serves for its letters of all kinds, and its pass tells whose
-//! letter lies there. `chains` has whole waits, notifications, acquires and releases, each proved from the contracts
-//! of its calls alone. No lot runs them: they show that what one call leaves is what the next one asks.
+//! letter lies there.
 //!
 //! Read `specs/Family` first (the three kinds as one family), then `specs/Whole`, `specs/Lot` (the rule),
 //! `specs/Standing` and `specs/Calls`, and `specs/Headline` and `specs/Closing` for what it promises.
 #![tactic(auto)]
 
 mod apart;
-pub mod chains;
 mod closing;
 pub mod kind;
 pub mod laws;

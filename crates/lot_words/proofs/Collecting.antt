@@ -1,6 +1,6 @@
 -- The turn of a letter that is collected, or looked for in vain.
-use Rattle.std.proofs.Common.{◌≡◌, ◌≢◌, ℕ, zero, suc, ◌+◌, ◌-◌, ◌<◌, ◌≤◌, false, List, length, refl, sym, ap, subst, ◌∙◌, ⊎_elim, arith}
-use Rattle.std.proofs.Common.{Option, Some, None}
+use Rattle.std.proofs.Common.{◌≡◌, ◌≢◌, ℕ, zero, suc, ◌+◌, ◌-◌, ◌<◌, ◌≤◌, true, false, List, length, refl, sym, ap, subst, ◌∙◌}
+use Rattle.std.proofs.Common.{⊎_elim, arith, Option, Some, None}
 use mathlib.Core.Option as maybe
 use Rattle.lot_core.specs.World.{put}
 use Rattle.lot_core.proofs.Put.{put_same, put_other}
@@ -18,7 +18,7 @@ use Rattle.lot_words.specs.World.{LockWorld, word_of, Holds, IsHanded, TellsTrue
 use Rattle.lot_words.specs.Values.{FoundOk, IsLawful}
 use Rattle.lot_words.specs.Rule.{sizes_of, wants_of, Fits, meaning}
 use Rattle.lot_words.specs.Calls.{owning, woken, FoundNone, Collected, CollectedBy}
-use Rattle.lot_words.proofs.Letters.{wakes_kept, lies_fits, handed_owner, handed_near, handed_kept}
+use Rattle.lot_words.proofs.Letters.{wakes_kept, collector_sleeps, lies_fits, handed_owner, handed_near, handed_kept}
 use Rattle.lot_words.proofs.Rows.{same_collect}
 use Rattle.lot_words.proofs.Valuing.{same_values, finds_value, gets_value}
 
@@ -93,11 +93,14 @@ module _ {V Part : Type 0} (rule : CallersRule V Part) where
         }
 
     module _ (l : ℕ) where
+      slept : (k : ℕ) → w.spot t ≡ lying l k → p.own.asleep ≡ true
+      slept k lies = sym (ap (λ (z : LockPassView V). z.asleep) fit.1) ∙ collector_sleeps n m w ok.kept t l k lies
+
       barges : w.spot t ≡ lying l 0 → Turn 1
       barges lies = wakes woken 0 l lies refl (wakes_kept n m w ok.kept t l lies)
           (same_values rule n m w.pass hs ok.lawful t (woken (w.pass t))
           (λ k. record { down = λ h. h; up = λ h. h; places = refl; seen = refl }) (refl, refl)) (Collecting p 1)
-          (λ k. (omega arith, (k, refl)))
+          (λ k. (omega arith, (slept 0 lies, (k, refl))))
 
       handed : w.spot t ≡ lying l 1 → Turn 2
       handed lies =
@@ -115,6 +118,7 @@ module _ {V Part : Type 0} (rule : CallersRule V Part) where
             omega arith,
             (
               refl,
+              slept 1 lies,
               (
                 l,
                 sym (ap (λ (z : LockPassView V). z.aim) fit.1) ∙ (lies_fits n m w ok.kept t l lies).0.2,

@@ -212,6 +212,10 @@ module _ {V : Type 0} (n m : ℕ) (w : LockWorld V) (ok : Kept n m w) where
 
   -- ---- a letter is collected
   module _ (t l : ℕ) where
+    -- whoever collects one was asleep
+    pub collector_sleeps : (k : ℕ) → w.spot t ≡ lying l k → (w.pass t).asleep ≡ true
+    collector_sleeps k lies = (at_spot t (lying l k) lies).0.1
+
     -- a barging opportunity
     pub wakes_kept : w.spot t ≡ lying l 0 → Kept n m (record w { pass = put w.pass t (woken (w.pass t)); spot = put w.spot t awake })
     wakes_kept lies =
