@@ -1,6 +1,7 @@
 pub mod Accesses
 pub mod Calm
 pub mod CondSchedules
+pub mod Dealt
 pub mod LockSchedules
 pub mod Opened
 pub mod Owners

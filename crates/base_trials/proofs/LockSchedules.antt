@@ -56,9 +56,9 @@ module _ {V : Type 0} (p : PassShown (LockPassView V)) (z : TableId) (t l : ℕ)
   was_handed rule q o aim one letter =
       let h : Collected rule p 1 q =
       subst (λ o. MatchOption o (FoundNone p q) (λ token. Collected rule p token q)) one letter in
-      let same : h.1.0 ≡ l = (let e : Some h.1.0 ≡ Some l = sym h.1.1 ∙ aim in cc) in
-      let x : V = h.1.2.0 in
-      let is_now : q.own ≡ woken (owning p.own l x) = ap (λ (y : PassShown (LockPassView V)). y.own) h.1.2.2.1
+      let same : h.2.0 ≡ l = (let e : Some h.2.0 ≡ Some l = sym h.2.1 ∙ aim in cc) in
+      let x : V = h.2.2.0 in
+      let is_now : q.own ≡ woken (owning p.own l x) = ap (λ (y : PassShown (LockPassView V)). y.own) h.2.2.2.1
       ∙ ap (λ k. woken (owning p.own k x)) same in (
         subst (λ y. Owns y l) (sym is_now) (
           (refl, refl),

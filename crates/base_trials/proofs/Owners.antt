@@ -21,10 +21,10 @@ module _ {V Part : Type 0} (rule : CallersRule V Part)
       → (x : V) × Owns q.own l x
   handed o letter aim one =
       let h : Collected rule p 1 q = subst (λ z. MatchOption z (FoundNone p q) (λ token. Collected rule p token q)) one letter in
-      let k : ℕ = h.1.0 in
-      let same : k ≡ l = (let e : Some k ≡ Some l = sym h.1.1 ∙ aim in cc) in
-      let x : V = h.1.2.0 in (
+      let k : ℕ = h.2.0 in
+      let same : k ≡ l = (let e : Some k ≡ Some l = sym h.2.1 ∙ aim in cc) in
+      let x : V = h.2.2.0 in (
         x,
         subst (λ n. Owns q.own n x) same
-            (subst (λ (z : PassShown (LockPassView V)). Owns z.own k x) (sym h.1.2.2.1) (law k p.thread p.own x h.1.2.1).1),
+            (subst (λ (z : PassShown (LockPassView V)). Owns z.own k x) (sym h.2.2.2.1) (law k p.thread p.own x h.2.2.1).1),
       )

@@ -5,6 +5,7 @@ mod conds;
 mod journal;
 mod locks;
 mod names;
+mod openings;
 mod owners;
 mod sems;
 mod states;

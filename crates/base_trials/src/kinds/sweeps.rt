@@ -1,25 +1,25 @@
-//! A condition's flag is cleared, and then a thread parks: the sweep, which comes before its sleep, takes it. All in
-//! one thread.
-ghost use Rattle.std.specs.Prelude.{◌≡◌, ◌<◌, true, length, []};
+//! A thread is taken from a condition's line before it sleeps, by its own action: by a notification while it has its
+//! lock yet, and by a sweep of a flag that was cleared before it parked. All in one thread.
+ghost use Rattle.std.specs.Prelude.{◌≡◌, ◌<◌, ℕ, true, length, []};
 ghost use Rattle.lot_locks.specs.declared.released.Released.{Released};
-ghost use Rattle.lot_park.specs.Parking.{Queues};
-ghost use Rattle.lot_waits.specs.Notifying.{DequeuesAll};
+ghost use Rattle.lot_park.specs.Parking.{Queues, Tells};
+ghost use Rattle.lot_waits.specs.Notifying.{Dequeues, DequeuesAll, one_of};
 ghost use Rattle.lot_waits.specs.Waiting.{Slept};
 ghost use Rattle.base_trials.specs.Calm.{IsCalm};
 ghost use Rattle.base_trials.specs.Opened.{AreDealt, AreFreshRoots, size_of};
 ghost use Rattle.base_trials.specs.Waits.{IsSmall};
 
 use crate::asserts::{bits_are, failed};
-use crate::kinds::asserts::{count_is, parked_is};
+use crate::kinds::asserts::{count_is, is_not, parked_is};
 use crate::kinds::tables::{
     EARLY, Nothing, Pass, Passes, Roots, THREADS, Words, close_words, deal, gather, name_roots,
     open_words, unname_roots,
 };
 use crate::kinds::waiters::Lot;
 use lot_locks::{get, let_go};
-use lot_park::{AtOnce, Parked, ParkingLot, Token, Unlocked};
+use lot_park::{AtOnce, Parked, ParkingLot, Token, Unlocked, UnparkResult};
 use lot_scheme::{LotName, LotScheme};
-use lot_waits::CondSteps;
+use lot_waits::{CondSteps, notify_one};
 use std::alloc::Global;
 use std::marker::Brand;
 use std::process::Abort;
@@ -112,7 +112,120 @@ fn sleep_swept<S: CondSteps, R: Wait + Abort>(
     (zero, one)
 }
 
-// Thread 1 clears the flag. Then thread 0 waits, and is swept before it sleeps.
+// Takes the one thread that is in the condition's line, as a notification does that finds the flag set.
+fn call_the_first<S: CondSteps, R: Wait + Abort>(
+    rt: &R,
+    lot: &ParkingLot<S>,
+    pass: S::Pass,
+) -> S::Pass
+    requires key { 2 < lot.now.keys }
+    requires may { S.may_call pass 2 }
+    ensures { S.calls pass 2 1 1 result }
+{
+    let scheme = lot.scheme();
+    let (pass, told) = lot.unpark_one(
+        rt,
+        2,
+        EARLY,
+        pass,
+        |pass: S::Pass, root: S::Root, told: UnparkResult| -> (S::Pass, S::Root, Token)
+            requires may { S.may_call pass (S.Root.view root).key }
+            requires clear { (S.Root.view root).owes ≡ [] }
+            requires told { (now : ℕ) × Tells (S.Root.view root).line now told }
+            ensures pass { S.calls pass (S.Root.view root).key 1 (one_of told.thread) result.0 }
+            ensures root { Dequeues S.Root.view 1 root result.1 }
+            ensures token { result.2.0 ≡ 0 }
+        {
+            let taken = count_of(told.thread);
+            let (pass, root) = scheme.call_first(pass, root, 1, taken, told.more);
+            (pass, root, Token(0))
+        },
+    );
+    count_is(rt, count_of(told.thread), 1);
+    pass
+}
+
+fn count_of(taken: Option<usize>) -> usize
+    ensures { result ≡ one_of taken }
+{
+    match taken {
+        Some(_) => 1,
+        None => 0,
+    }
+}
+
+// The first, which has the lock 0, parks. While it has its lock yet, the second takes it from the line; then it lets
+// the lock go, and does not sleep.
+fn sleep_called<S: CondSteps, R: Wait + Abort>(
+    rt: &R,
+    lot: &ParkingLot<S>,
+    zero: S::Pass,
+    one: S::Pass,
+) -> (S::Pass, S::Pass)
+    requires keys { 2 < lot.now.keys }
+    requires has { S.has lot.now.scheme 0 }
+    requires thread { S.thread zero < lot.now.threads }
+    requires may { S.may_enlist zero 2 0 }
+    requires call { S.may_call one 2 }
+    ensures slept { (became : Released) × Slept S.enlists S.lets_go S.looked zero 2 0 became result.0 }
+    ensures called { S.calls one 2 1 1 result.1 }
+{
+    let scheme = lot.scheme();
+    let (zero, one, parked) = lot.park_acting(
+        rt,
+        zero,
+        2,
+        one,
+        |one: S::Pass, zero: S::Pass, root: S::Root| -> (S::Pass, S::Pass, S::Root, bool)
+            requires may { S.may_enlist zero (S.Root.view root).key 0 }
+            ensures same { result.0 ≡ one }
+            ensures pass { S.enlists zero (S.Root.view root).key 0 result.1 }
+            ensures lets { S.may_let_go result.1 0 }
+            ensures root { Queues S.Root.view S.thread zero root true result.1 result.2 }
+            ensures says { result.3 ≡ true }
+        {
+            let (zero, root) = scheme.enlist_last(zero, root, 0);
+            (one, zero, root, true)
+        },
+        |one: S::Pass, zero: S::Pass, _unlocked: Unlocked| -> (S::Pass, S::Pass)
+            requires keys { 2 < lot.now.keys }
+            requires has { S.has lot.now.scheme 0 }
+            requires may { S.may_let_go zero 0 }
+            requires call { S.may_call one 2 }
+            ensures thread { S.thread result.1 ≡ S.thread zero }
+            ensures went { (became : Released) × S.lets_go zero 0 became result.1 }
+            ensures called { S.calls one 2 1 1 result.0 }
+        {
+            let one = call_the_first(rt, lot, one);
+            let (zero, _released) = let_go(rt, lot, zero, 0, EARLY, false);
+            (one, zero)
+        },
+    );
+    parked_is(rt, parked, Parked::Woken(Token(0)));
+    (zero, one)
+}
+
+// The flag is set, though nobody waits: the next notification takes nobody, and clears it.
+fn find_nobody<N: LotName<Nothing> + Send, R: Wait + Abort>(
+    rt: &R,
+    lot: &Lot<N>,
+    pass: Pass<N>,
+) -> Pass<N>
+    requires small { IsSmall N.locks N.conds N.first_sem }
+    requires sizes { lot.now.keys ≡ 3 }
+    requires calm { IsCalm 1 pass }
+    ensures { IsCalm 1 result }
+{
+    let words = lot.scheme().words();
+    bits_are(rt, words.bits(2), 1);
+    let (pass, took) = notify_one(rt, lot, pass, 2, EARLY);
+    is_not(rt, took);
+    bits_are(rt, words.bits(2), 0);
+    pass
+}
+
+// Thread 1 clears the flag. Then thread 0 waits, and is swept before it sleeps. The flag that it
+// has set stays.
 fn swept_before_sleep<N: LotName<Nothing> + Send, R: Wait + Abort>(
     rt: &R,
     lot: &Lot<N>,
@@ -129,7 +242,30 @@ fn swept_before_sleep<N: LotName<Nothing> + Send, R: Wait + Abort>(
     let lowered = scheme.lower(one, 2);
     let (slept, one) = sleep_swept(rt, lot, owner, lowered);
     count_is(rt, lot.line_length(rt, 2), 0);
-    bits_are(rt, scheme.words().bits(2), 1);
+    let one = find_nobody(rt, lot, one);
+    let again = get(rt, lot, slept, 0, &AtOnce);
+    let (zero, _released) = let_go(rt, lot, again, 0, EARLY, false);
+    (zero, one)
+}
+
+// Thread 0 waits, and thread 1 takes it from the line before it lets its lock go: it does not sleep, and gets the lock
+// again. Nobody waits, so the flag is clear.
+fn called_before_it_lets_go<N: LotName<Nothing> + Send, R: Wait + Abort>(
+    rt: &R,
+    lot: &Lot<N>,
+    zero: Pass<N>,
+    one: Pass<N>,
+) -> (Pass<N>, Pass<N>)
+    requires small { IsSmall N.locks N.conds N.first_sem }
+    requires sizes { (lot.now.threads ≡ 3) × (lot.now.keys ≡ 3) }
+    requires calm { IsCalm 0 zero × IsCalm 1 one }
+    ensures { IsCalm 0 result.0 × IsCalm 1 result.1 }
+{
+    let scheme = lot.scheme();
+    let owner = get(rt, lot, zero, 0, &AtOnce);
+    let (slept, one) = sleep_called(rt, lot, owner, one);
+    count_is(rt, lot.line_length(rt, 2), 0);
+    bits_are(rt, scheme.words().bits(2), 0);
     let again = get(rt, lot, slept, 0, &AtOnce);
     let (zero, _released) = let_go(rt, lot, again, 0, EARLY, false);
     (zero, one)
@@ -162,6 +298,7 @@ fn play<N: LotName<Nothing> + Send, R: Wait + Abort>(
         Ok(opened) => opened,
         Err(_refused) => failed(rt, "no memory"),
     };
+    let (zero, one) = called_before_it_lets_go(rt, &lot, zero, one);
     let (zero, one) = swept_before_sleep(rt, &lot, zero, one);
     gather(&mut passes, zero, one, two);
     let words = lot.close(rt, &mut back).into_words();
@@ -170,7 +307,7 @@ fn play<N: LotName<Nothing> + Send, R: Wait + Abort>(
 }
 
 #[test]
-fn who_is_swept_before_its_sleep_does_not_sleep(rt: HostRuntime) {
+fn who_is_taken_before_its_sleep_does_not_sleep(rt: HostRuntime) {
     let Ok((words, passes, roots)) = open_words(rt.alloc(), 2, 1) else {
         failed(&rt, "no memory")
     };

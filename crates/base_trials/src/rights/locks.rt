@@ -9,6 +9,7 @@ ghost use Rattle.base_trials.specs.LockSchedules.{IsRoot};
 use super::owners::{close_soundly, collect_any, take_any};
 use super::tally::Tally;
 use crate::asserts::{bits_are, equal, is_so, letter_is};
+use lot_core::MAX_THREADS;
 use lot_words::{LockPass, LockRoot, LockWords};
 use std::process::Abort;
 use std::test::*;
@@ -315,5 +316,40 @@ fn handing_over_and_barging(rt: HostRuntime) -> Result<(), Fail> {
     let mut values = close_soundly(words, passes, roots);
     equal(&rt, values.take_last().total, 41);
     equal(&rt, values.take_last().total, 9);
+    Ok(())
+}
+
+// Gets a lock that is free, counts, and lets it go.
+fn visit(rt: &impl Abort, words: &LockWords<Tally>, pass: LockPass<Tally>) -> LockPass<Tally>
+    requires size { words.now.size.locks ≡ 2 }
+    requires pass { HasNothing words.now.table 255 pass }
+    ensures { HasNothing words.now.table 255 result }
+{
+    let pass = get(rt, words, pass, 0);
+    bits_are(rt, words.bits(0), 1);
+    let pass = count(rt, words, pass, 0, 7);
+    let pass = let_go(rt, words, pass, 0);
+    bits_are(rt, words.bits(0), 0);
+    pass
+}
+
+// A table for as many threads as there may be, of which the last comes.
+#[test]
+fn the_last_of_256_threads_gets_a_lock(rt: HostRuntime) -> Result<(), Fail> {
+    let alloc = rt.alloc();
+    let mut values = Vec::with_capacity(alloc, 2)?;
+    values.push_reserved(Tally { total: 7 });
+    values.push_reserved(Tally { total: 40 });
+    let Ok((words, mut passes, roots)) = LockWords::open(alloc, MAX_THREADS, values) else {
+        return Err("no memory".into());
+    };
+    equal(&rt, passes.len(), 256);
+    let last = passes.take_last();
+    equal(&rt, last.thread(), 255);
+    let last = visit(&rt, &words, last);
+    passes.push_reserved(last);
+    let mut values = close_soundly(words, passes, roots);
+    equal(&rt, values.take_last().total, 40);
+    equal(&rt, values.take_last().total, 8);
     Ok(())
 }

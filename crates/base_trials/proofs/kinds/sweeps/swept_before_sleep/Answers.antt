@@ -23,6 +23,11 @@ sleep_swept-slept-requires-clause-lowered g c κs within =
           c.lower-lowered.ensures,
     )
 
+pub find_nobody-one-requires-clause-calm : goal.find_nobody-one-requires-clause-calm
+find_nobody-one-requires-clause-calm g c κs within =
+    swept_calm 1 2 1 c.args.one c.lower-lowered.result c.sleep_swept-slept.result.1 _ _ c.requires.calm.1 c.lower-lowered.ensures
+    c.sleep_swept-slept.ensures.swept
+
 pub get-again-requires-clause-thread : goal.get-again-requires-clause-thread
 get-again-requires-clause-thread g c κs within =
     let two = c.requires.small.0 in
@@ -70,6 +75,5 @@ returns g c =
     let again = slept_has_it _ locks first_sem 0 2 0 _ c.get-owner.result c.sleep_swept-slept.result.0 c.get-again.result has may
     c.sleep_swept-slept.ensures.slept.1 c.get-again.ensures in (
       went 0 0 _ c.get-again.result c.let_go-zero.result.0 again c.let_go-zero.ensures.went,
-      swept_calm 1 2 1 c.args.one c.lower-lowered.result c.sleep_swept-slept.result.1 _ _ c.requires.calm.1 c.lower-lowered.ensures
-          c.sleep_swept-slept.ensures.swept,
+      c.find_nobody-one.ensures,
     )

@@ -1,5 +1,5 @@
 use Rattle.std.proofs.Common.{[]}
-use Rattle.base_trials.proofs.kinds.sweeps.who_is_swept_before_its_sleep_does_not_sleep.Given as goal
+use Rattle.base_trials.proofs.kinds.sweeps.who_is_taken_before_its_sleep_does_not_sleep.Given as goal
 
 abbrev pub ghosts-play-N-Name : goal.ghosts-play-N-Name
 ghosts-play-N-Name g a = record { opening = record { locks = a.words.table; conds = a.words.table; sems = a.words.table } }
