@@ -40,29 +40,32 @@ module _ {V : Type 0} where
   may_still p l (inr bed) = inr (bed.0, bed.1, bed.2)
 
   -- found parked, and let go then
-  let_go_then : (a c : LotStanding V) (l : ℕ) (became : Released)
-      → PassesOn (adding (finding_parked a l) (Makes (Free a.thread l) (Saw false) ∷ [])) l became c → LetsGo a l became c
-  let_go_then a c l became w =
+  let_go_then : (a c : LotStanding V) (l : ℕ) (more : Bool) (became : Released)
+      → PassesOn (adding (finding_parked a l) (Makes (Free a.thread l) (Saw false) ∷ [])) l more became c → LetsGo a l became c
+  let_go_then a c l more became w =
       let found : Access = Makes (Free a.thread l) (Saw false) in
       record {
         value = w.value;
         lay = w.lay;
         did = found ∷ w.did;
-        freed = inr (w.did, w.freed, refl);
+        freed = inr (more, w.did, w.freed, refl);
         is = both_added (letting_go (finding_parked a l) l w.value) c (found ∷ []) w.did w.is
             ∙ ap (λ (hs : List Hold). adding (record a {
               own = record a.own { locks = record (lock_letting_go a.own.locks l w.value) { holds = hs }; stand = rises a.own.stand };
             }) (found ∷ w.did)) (set-set a.own.locks.holds l FoundParked NotHeld);
       }
 
-  pub goes_then : (a r c : LotStanding V) (l : ℕ) (became : Released) → IsFoundParked a l r → PassesOn r l became c → LetsGo a l became c
-  goes_then a r c l became found went = let_go_then a c l became (subst (λ (z : LotStanding V). PassesOn z l became c) found went)
+  pub goes_then : (a r c : LotStanding V) (l : ℕ) (more : Bool) (became : Released) → IsFoundParked a l r → PassesOn r l more became c
+      → LetsGo a l became c
+  goes_then a r c l more became found went =
+      let_go_then a c l more became (subst (λ (z : LotStanding V). PassesOn z l more became c) found went)
 
   -- let go, or found parked: then it may be passed on, and whatever passes it on then has let it go
   pub freed_or_parked : (n : ℕ) (freed : Bool) (a r : LotStanding V) (l : ℕ) → l < n → MayFree a l
       → MatchBool freed (LetsGo a l Quiet r) (IsFoundParked a l r)
       → MatchBool freed (LetsGo a l Quiet r)
-      (MayPass n r l × ((became : Released) (after : LotStanding V) → PassesOn r l became after → LetsGo a l became after))
+      (MayPass n r l × ((more : Bool) (became : Released) (after : LotStanding V) → PassesOn r l more became after
+      → LetsGo a l became after))
   freed_or_parked n true a r l below may went = went
   freed_or_parked n false a r l below may found = (
     subst (λ (z : LotStanding V). MayPass n z l) (sym found) (record {
@@ -71,5 +74,5 @@ module _ {V : Type 0} where
       holds = subst IsFound (sym (get_or-set_same a.own.locks.holds l FoundParked NotHeld (held_near a.own.locks.holds l may.holds))) tt;
       lies = may.lies;
     }),
-    λ became after went. goes_then a r after l became found went,
+    λ more became after went. goes_then a r after l more became found went,
   )

@@ -21,10 +21,15 @@ use Rattle.lot_whole.specs.Standing.{MayTake, MayLineUp}
 use Rattle.lot_scheme.specs.Standing.{LotStanding, adding, wanting, owning}
 use Rattle.lot_scheme.specs.Words.{IsSeek}
 use Rattle.lot_scheme.proofs.Ends.{ends_with}
-use Rattle.lot_locks.specs.Standing.{IsTryingFor, IsAwakeFor, IsOwner, Seeks, HasMarked, FindsAnother}
+use Rattle.lot_locks.specs.Standing.{IsTryingFor, IsAwakeFor, IsOwner, Seeks, HasMarked, FindsAnother, HasFound}
 use Rattle.lot_locks.proofs.Adding.{All-one, none_added, both_added, up_then, is_up, may_again, sought_before}
 
 module _ {V : Type 0} where
+  -- whoever made one access then, which found this word, has found it
+  pub has_found : (before now : LotStanding V) (l word : ℕ) → now ≡ adding before (Finds before.thread l word ∷ [])
+      → HasFound now l word
+  has_found before now l word is = subst (λ (z : LotStanding V). HasFound z l word) (sym is) (before.did, refl)
+
   -- who wants the lock by now is awake for it
   pub awake : (n : ℕ) (before now : LotStanding V) (l : ℕ) → IsTryingFor n before l now → IsAwakeFor n before l now
   awake n before now l s = record { below = s.below; may = s.may; did = s.did; sought = s.sought; is = inr s.is }

@@ -1,13 +1,12 @@
 -- What an unlock may answer, and what its answer comes from; and the words of unlocks.
-use Rattle.std.specs.Prelude.{◌≡◌, ℕ, ◌<◌, ◌⊎◌, ◌||◌, Bool, true, false, List, [], ◌∷◌, drop, Option, Some, None}
-use Rattle.lot_events.specs.declared.events.Event.TheVariants.{Free}
-use Rattle.lot_events.specs.declared.events.Seen.TheVariants.{Bool as Saw}
+use Rattle.std.specs.Prelude.{◌≡◌, ℕ, ◌<◌, ◌⊎◌, ◌||◌, Bool, true, false, List, [], ◌∷◌, drop, Option, Some, None, IsSome}
+use Rattle.lot_events.specs.declared.events.Event.TheVariants.{Free, Pass}
+use Rattle.lot_events.specs.declared.events.Seen.TheVariants.{Bool as Saw, Sleeper}
 use Rattle.lot_bucket.specs.KeyLine.{KeyLine}
 use Rattle.lot_bucket.specs.declared.taking.Dequeued.{Dequeued}
 use Rattle.lot_park.specs.Parking.{debt}
 use Rattle.lot_rights.specs.declared.views.Access.{Access}
 use Rattle.lot_rights.specs.declared.views.Access.TheVariants.{Makes}
-use Rattle.lot_scheme.specs.Words.{PassWord}
 use Rattle.lot_locks.specs.declared.released.Released.{Released}
 use Rattle.lot_locks.specs.declared.released.Released.TheVariants.{Quiet, Nobody, Woke, Handed}
 
@@ -43,12 +42,15 @@ IsFitting Woke fair now = fair ≡ false
 IsFitting Handed fair now = fair ≡ false → 0 < now
 
 -- ---- words: t is the thread, l the lock
--- a lock that was found parked was passed on, of which this became
-abbrev pub Passed : ℕ → ℕ → Released → List Access → Type 0
-Passed t l became acts = (first : Option ℕ) × (fair : Bool) × (became ≡ decision first fair) × PassWord t l first fair acts
+-- a lock that was found parked was passed on, of which this became; it stays marked as parked where more is true, and then its line had a
+-- first
+abbrev pub Passed : ℕ → ℕ → Bool → Released → List Access → Type 0
+Passed t l more became acts =
+    (first : Option ℕ) × (fair : Bool) × (became ≡ decision first fair) × (more ≡ true → IsSome first)
+    × (acts ≡ Makes (Pass t l fair more) (Sleeper first) ∷ [])
 
 -- a lock was let go, of which this became: by the first exchange, or it was found parked and then passed on
 abbrev pub FreeWord : ℕ → ℕ → Released → List Access → Type 0
 FreeWord t l became acts =
     ((became ≡ Quiet) × (acts ≡ Makes (Free t l) (Saw true) ∷ []))
-    ⊎ ((rest : List Access) × Passed t l became rest × (acts ≡ Makes (Free t l) (Saw false) ∷ rest))
+    ⊎ ((more : Bool) × (rest : List Access) × Passed t l more became rest × (acts ≡ Makes (Free t l) (Saw false) ∷ rest))

@@ -1,5 +1,5 @@
 -- How a pass stands between two accesses of a lock's word, and what the calls of a lock make of it.
-use Rattle.std.specs.Prelude.{◌≡◌, ◌≢◌, ℕ, ◌<◌, ◌⊎◌, false, List, [], ◌∷◌}
+use Rattle.std.specs.Prelude.{◌≡◌, ◌≢◌, ℕ, ◌<◌, ◌⊎◌, ◌++◌, Bool, false, List, [], ◌∷◌}
 use Rattle.std.specs.List.{All}
 use Rattle.lot_events.specs.declared.events.Event.TheVariants.{Free, Mark}
 use Rattle.lot_events.specs.declared.events.Seen.TheVariants.{Bool as Saw, Done}
@@ -56,6 +56,10 @@ module _ {V : Type 0} where
     pub sought : All (IsSeek before.thread l) did
     pub is : now ≡ adding (lined before l) did
 
+  -- at last it found this word in the lock, and did not change it
+  abbrev pub HasFound : LotStanding V → ℕ → ℕ → Type 0
+  HasFound now l word = (front : List Access) × (now.did ≡ front ++ Finds now.thread l word ∷ [])
+
   -- at last it marked the lock as parked; or it found another word than that of a lock that is held and not marked
   abbrev pub HasMarked : LotStanding V → ℕ → LotStanding V → Type 0
   HasMarked before l now = EndsWith (λ a. a ≡ Makes (Mark before.thread l) Done) before now
@@ -80,9 +84,9 @@ module _ {V : Type 0} where
   abbrev pub LetsGo : LotStanding V → ℕ → Released → LotStanding V → Type 0
   LetsGo before l became after = GoesBy (FreeWord before.thread l became) before l after
 
-  -- the lock, which was found parked before, was let go, of which this became
-  abbrev pub PassesOn : LotStanding V → ℕ → Released → LotStanding V → Type 0
-  PassesOn before l became after = GoesBy (Passed before.thread l became) before l after
+  -- the lock, which was found parked before, was let go, of which this became; it stays marked as parked where more is true
+  abbrev pub PassesOn : LotStanding V → ℕ → Bool → Released → LotStanding V → Type 0
+  PassesOn before l more became after = GoesBy (Passed before.thread l more became) before l after
 
   -- ---- tries
   -- the lock was not got, by such a word, and the pass stands as before

@@ -1,8 +1,10 @@
 //! Getting a lock, as WTF's `Lock::lock` does: one compare-exchange, a few yields, and then the line.
-ghost use Rattle.std.specs.Prelude.{◌≡◌, ◌≢◌, ◌<◌, true, false, MatchBool};
+ghost use Rattle.std.specs.Prelude.{◌≡◌, ◌≢◌, ◌<◌, true, false, [], ◌∷◌, MatchBool};
+ghost use Rattle.lot_rights.specs.declared.views.Access.TheVariants.{Finds};
 ghost use Rattle.lot_whole.specs.Standing.{IsIdle, MayTake};
+ghost use Rattle.lot_scheme.specs.Standing.{adding};
 ghost use Rattle.lot_scheme.specs.Words.{TryWord};
-ghost use Rattle.lot_locks.specs.Standing.{IsAwakeFor, IsTryingFor, IsOwner, GetsBy, MissesBy};
+ghost use Rattle.lot_locks.specs.Standing.{IsAwakeFor, IsTryingFor, IsOwner, GetsBy, MissesBy, HasFound};
 
 use crate::steps::HANDOFF;
 use lot_park::{BeforeSleep, Look, ParkingLot, Scheme, Seeking, Sought, Token, get_or_park};
@@ -48,6 +50,7 @@ pub fn get_free<V: Keeps, N: LotName<V>>(
     requires may { MayTake pass.own key }
     ensures got { result.1 ≡ 0 → IsOwner V.Keeps pass key result.0 }
     ensures missed { result.1 ≢ 0 → IsAwakeFor N.locks pass key result.0 }
+    ensures found { result.1 ≢ 0 → result.0 ≡ adding pass (Finds pass.thread key result.1 ∷ []) }
 {
     scheme.take_free(pass, key)
 }
@@ -228,6 +231,7 @@ pub fn get_slowly<V: Keeps + Send, N: LotName<V> + Send, R: Wait, B: BeforeSleep
     requires key { (key < N.locks) × (key < parking.now.keys) }
     requires thread { pass.thread < parking.now.threads }
     requires may { MayTake pass.own key }
+    requires found { HasFound pass key found }
     ensures { IsOwner V.Keeps pass key result }
 {
     let scheme = parking.scheme();

@@ -1,6 +1,6 @@
 //! Letting a lock go, as WTF's `Lock::unlock` does: one compare-exchange where nobody waits, else one sleeper is taken
 //! from the line, and the lock is handed to it or left to whoever comes first.
-ghost use Rattle.std.specs.Prelude.{◌≡◌, ℕ, ◌<◌, ◌⊎◌, false, MatchBool, []};
+ghost use Rattle.std.specs.Prelude.{◌≡◌, ℕ, ◌<◌, Bool, false, MatchBool, []};
 ghost use Rattle.lot_locks.specs.Standing.{MayFree, LetsGo, IsFoundParked};
 ghost use Rattle.lot_locks.specs.Released.{IsFitting, HandsOver};
 ghost use Rattle.lot_locks.specs.declared.released.Released.TheVariants.{Quiet};
@@ -66,7 +66,7 @@ pub fn unpark_asking<S: LockSteps, R: Wait, M: FnOnce() -> Moment>(
     requires may { S.may_pass pass key }
     requires callable { M.pre moment }
     ensures thread { S.thread result.0 ≡ S.thread pass }
-    ensures went { S.passes_on pass key result.1 result.0 }
+    ensures went { (more : Bool) × S.passes_on pass key more result.1 result.0 }
     ensures fits { (m : _) × M.post moment m × IsFitting result.1 false m.now }
 {
     let now = moment();
@@ -88,7 +88,7 @@ fn unpark<S: LockSteps, R: Wait>(
     requires key { key < parking.now.keys }
     requires may { S.may_pass pass key }
     ensures thread { S.thread result.0 ≡ S.thread pass }
-    ensures went { S.passes_on pass key result.1 result.0 }
+    ensures went { (more : Bool) × S.passes_on pass key more result.1 result.0 }
     ensures fits { IsFitting result.1 fair moment.now }
 {
     let scheme = parking.scheme();
@@ -106,7 +106,7 @@ fn unpark<S: LockSteps, R: Wait>(
             requires clear { (S.Root.view root).owes ≡ [] }
             requires told { (now : ℕ) × Tells (S.Root.view root).line now told }
             ensures thread { S.thread result.0.0 ≡ S.thread x.0 }
-            ensures went { S.passes_on x.0 (S.Root.view root).key result.0.1 result.0.0 }
+            ensures went { S.passes_on x.0 (S.Root.view root).key told.more result.0.1 result.0.0 }
             ensures hands { HandsOver S.Root.view root told fair result.1 result.0.1 result.2.0 }
         {
             let (pass, root, token, released) = scheme.hand_over(x.0, root, told, fair);

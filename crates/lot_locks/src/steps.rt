@@ -1,6 +1,6 @@
 //! The steps on a lock's word by which it is let go. A callback of the parking lot makes one of them, while its bucket
 //! is locked.
-ghost use Rattle.std.specs.Prelude.{◌≡◌, ℕ, [], MatchBool};
+ghost use Rattle.std.specs.Prelude.{◌≡◌, ℕ, Bool, [], MatchBool};
 ghost use Rattle.lot_locks.specs.Released.{HandsOver};
 ghost use Rattle.lot_locks.specs.declared.released.Released.{Released};
 ghost use Rattle.lot_locks.specs.declared.released.Released.TheVariants.{Quiet};
@@ -21,7 +21,7 @@ pub(crate) const BARGING: Token = Token(0);
 /// A callback hands its pass and its root to one of these. Written for every scheme, since the passes and roots of a
 /// lot can't be named in a closure's signature.
 pub trait LockSteps: Sought<Locks> {
-    ghost use Rattle.std.specs.Prelude.{ℕ};
+    ghost use Rattle.std.specs.Prelude.{ℕ, Bool};
     ghost use Rattle.lot_locks.specs.declared.released.Released.{Released};
 
     /// The pass owns the lock of the key, which it found parked, and whose value lies in its slot.
@@ -33,8 +33,8 @@ pub trait LockSteps: Sought<Locks> {
     /// The pass before, and the pass that has let the lock of the key go, of which this became.
     ghost lets_go: { Self.Pass → ℕ → Released → Self.Pass → Type 0 };
 
-    /// The same, where the pass before had found the lock parked.
-    ghost passes_on: { Self.Pass → ℕ → Released → Self.Pass → Type 0 };
+    /// The same, where the pass before had found the lock parked; and whether it stays marked as parked.
+    ghost passes_on: { Self.Pass → ℕ → Bool → Released → Self.Pass → Type 0 };
 
     /// One compare-exchange: the lock is let go where nobody is parked. Else it is still owned, and who passes it on
     /// then has let it go, as the pass stood before.
@@ -43,11 +43,12 @@ pub trait LockSteps: Sought<Locks> {
         requires may { may_let_go pass key }
         ensures thread { Self.thread result.0 ≡ Self.thread pass }
         ensures step { MatchBool result.1 (lets_go pass key Quiet result.0)
-            (may_pass result.0 key × ((became : Released) (after : Self.Pass)
-            → passes_on result.0 key became after → lets_go pass key became after)) };
+            (may_pass result.0 key × ((more : Bool) (became : Released) (after : Self.Pass)
+            → passes_on result.0 key more became after → lets_go pass key became after)) };
 
     /// The callback of a slow unlock: the lock is handed to the sleeper that was taken where the release is fair, and
-    /// left to whoever comes first otherwise. What it decides is what the unlock answers.
+    /// left to whoever comes first otherwise. What it decides is what the unlock answers. The lock stays marked as parked
+    /// where it is told that more may wait.
     fn hand_over(
         &self,
         pass: Self::Pass,
@@ -59,7 +60,7 @@ pub trait LockSteps: Sought<Locks> {
         requires clear { (Self.Root.view root).owes ≡ [] }
         requires told { (now : ℕ) × Tells (Self.Root.view root).line now told }
         ensures thread { Self.thread result.0 ≡ Self.thread pass }
-        ensures went { passes_on pass (Self.Root.view root).key result.3 result.0 }
+        ensures went { passes_on pass (Self.Root.view root).key told.more result.3 result.0 }
         ensures hands { HandsOver Self.Root.view root told fair result.1 result.3 result.2.0 };
 }
 

@@ -1,5 +1,5 @@
 -- How a pass stands between two calls: it is idle.
-use Rattle.std.proofs.Common.{◌≡◌, ℕ, List, ◌++◌, refl, sym, subst, ◌∙◌}
+use Rattle.std.proofs.Common.{◌≡◌, ℕ, Bool, List, ◌++◌, refl, sym, subst, ◌∙◌}
 use Rattle.lot_rights.specs.declared.views.Access.{Access}
 use Rattle.lot_sems.specs.Calls.{one_permit_more as sem_one_permit_more, one_permit_less as sem_one_permit_less}
 use Rattle.lot_whole.specs.declared.views.LotPassView.{LotPassView}
@@ -42,23 +42,23 @@ module _ {V : Type 0} where
   idle_given p q k became idle gives = subst (λ (r : LotStanding V). IsIdle r.own) (sym gives.is) (idle_giving p k idle)
 
 -- ---- a release that was tried in vain at first
-given_after : (t k : ℕ) (became : Freed) (tried rest : List Access) → UnfreedWord t k tried → PassedWord t k became rest
+given_after : (t k : ℕ) (more : Bool) (became : Freed) (tried rest : List Access) → UnfreedWord t k tried → PassedWord t k more became rest
     → GivenWord t k became (tried ++ rest)
-given_after t k Quiet tried rest miss word = absurd word
-given_after t k Woke tried rest miss word = (tried, rest, miss, word, refl)
-given_after t k Nobody tried rest miss word = (tried, rest, miss, word, refl)
+given_after t k more Quiet tried rest miss word = absurd word
+given_after t k more Woke tried rest miss word = (more, tried, rest, miss, word, refl)
+given_after t k more Nobody tried rest miss word = (more, tried, rest, miss, word, refl)
 
 module _ {V : Type 0} where
   -- what is made of the pass then is made of it as it stood before
-  gives_at : (p q : LotStanding V) (k : ℕ) (did : List Access) → UnfreedWord p.thread k did → (became : Freed)
-      → PassesPermit (adding p did) k became q → GivesPermit p k became q
-  gives_at p q k did miss became s = record {
+  gives_at : (p q : LotStanding V) (k : ℕ) (did : List Access) → UnfreedWord p.thread k did → (more : Bool) (became : Freed)
+      → PassesPermit (adding p did) k more became q → GivesPermit p k became q
+  gives_at p q k did miss more became s = record {
     did = did ++ s.did;
-    given = given_after p.thread k became did s.did miss s.passed;
+    given = given_after p.thread k more became did s.did miss s.passed;
     is = s.is ∙ adding_on (stand_one_permit_less p k) did s.did;
   }
 
-  pub gives_after : (p m q : LotStanding V) (k : ℕ) (did : List Access) → UnfreedWord p.thread k did → m ≡ adding p did → (became : Freed)
-      → PassesPermit m k became q → GivesPermit p k became q
-  gives_after p m q k did miss is became s =
-      gives_at p q k did miss became (subst (λ (r : LotStanding V). PassesPermit r k became q) is s)
+  pub gives_after : (p m q : LotStanding V) (k : ℕ) (did : List Access) → UnfreedWord p.thread k did → m ≡ adding p did → (more : Bool)
+      (became : Freed) → PassesPermit m k more became q → GivesPermit p k became q
+  gives_after p m q k did miss is more became s =
+      gives_at p q k did miss more became (subst (λ (r : LotStanding V). PassesPermit r k more became q) is s)

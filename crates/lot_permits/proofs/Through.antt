@@ -1,6 +1,6 @@
 -- The words of permits have no access by which a lock is let go: what is told of unlocks, by the accesses that were made with a pass, is
 -- the same after them.
-use Rattle.std.proofs.Common.{◌≡◌, ℕ, true, List, [], ◌∷◌, ◌++◌, Some, None, inl, inr, refl, sym, ap, subst, ◌∙◌}
+use Rattle.std.proofs.Common.{◌≡◌, ℕ, Bool, true, List, [], ◌∷◌, ◌++◌, Some, None, inl, inr, refl, sym, ap, subst, ◌∙◌}
 use Rattle.std.specs.List.{All, fold}
 use Rattle.std.proofs.lemmas.List.Elements.{All-nil, All-cons, All-head, All-tail, All-append}
 use Rattle.lot_events.specs.declared.events.Event.TheVariants.{Try, Take, Mark, Park, Free, Pass, Enlist, Look, Call, Lower, Sweep}
@@ -71,23 +71,24 @@ unfreed_through t k acts (inl (word, marked, is)) = subst (All IsNoUnlock) (sym 
 unfreed_through t k acts (inr (seen, found, clear, other, is)) =
     subst (All IsNoUnlock) (sym is) (two (Finds t k seen) (Finds t k found) tt tt)
 
-passed_through : (t k : ℕ) (became : Freed) (acts : List Access) → PassedWord t k became acts → All IsNoUnlock acts
-passed_through t k Quiet acts word = absurd word
-passed_through t k Woke acts (first, more, is) =
+passed_through : (t k : ℕ) (more : Bool) (became : Freed) (acts : List Access) → PassedWord t k more became acts → All IsNoUnlock acts
+passed_through t k more Quiet acts word = absurd word
+passed_through t k more Woke acts (first, is) =
     subst (All IsNoUnlock) (sym is) (one (Makes (Passes t k more) (Sleeper (Some first))) tt)
-passed_through t k Nobody acts (more, is) =
+passed_through t k more Nobody acts (none, is) =
     subst (All IsNoUnlock) (sym is) (two (Makes (Passes t k more) (Sleeper None)) (Makes (SemClear t k) Done) tt tt)
 
-both_through : (t k : ℕ) (became : Freed) (tried rest acts : List Access) → UnfreedWord t k tried → PassedWord t k became rest
+both_through : (t k : ℕ) (more : Bool) (became : Freed) (tried rest acts : List Access) → UnfreedWord t k tried
+    → PassedWord t k more became rest
     → acts ≡ tried ++ rest → All IsNoUnlock acts
-both_through t k became tried rest acts miss word is = subst (All IsNoUnlock) (sym is)
-    (All-append IsNoUnlock tried rest (unfreed_through t k tried miss) (passed_through t k became rest word))
+both_through t k more became tried rest acts miss word is = subst (All IsNoUnlock) (sym is)
+    (All-append IsNoUnlock tried rest (unfreed_through t k tried miss) (passed_through t k more became rest word))
 
 pub given_through : (t k : ℕ) (became : Freed) (acts : List Access) → GivenWord t k became acts → All IsNoUnlock acts
 given_through t k Quiet acts (word, clear, is) =
     subst (All IsNoUnlock) (sym is) (two (Finds t k word) (Makes (SemFree t k) (Saw true)) tt tt)
-given_through t k Woke acts (tried, rest, miss, word, is) = both_through t k Woke tried rest acts miss word is
-given_through t k Nobody acts (tried, rest, miss, word, is) = both_through t k Nobody tried rest acts miss word is
+given_through t k Woke acts (more, tried, rest, miss, word, is) = both_through t k more Woke tried rest acts miss word is
+given_through t k Nobody acts (more, tried, rest, miss, word, is) = both_through t k more Nobody tried rest acts miss word is
 
 -- ---- what is told of unlocks
 -- what such accesses leave, one by one, they leave all together

@@ -1,5 +1,5 @@
 -- How releases end: by the thread that is taken from the line, if any; and which accesses one makes.
-use Rattle.std.specs.Prelude.{◌≡◌, ℕ, ◌≤◌, ◌++◌, Bool, List, [], ◌∷◌, Option, Some, None}
+use Rattle.std.specs.Prelude.{◌≡◌, ℕ, ◌≤◌, ◌++◌, Bool, false, List, [], ◌∷◌, Option, Some, None}
 use Rattle.lot_events.specs.declared.events.Event.TheVariants.{SemPass as Passes, SemClear}
 use Rattle.lot_events.specs.declared.events.Seen.TheVariants.{Done, Sleeper}
 use Rattle.lot_rights.specs.declared.views.Access.{Access}
@@ -16,19 +16,18 @@ freed_by None = Nobody
 freed_by (Some thread) = Woke
 
 -- ---- words: t gives a permit of k back, of which this becomes
--- with the bucket locked: where nobody is in the line, the parked bit is cleared then
-abbrev pub PassedWord : ℕ → ℕ → Freed → List Access → Type 0
-PassedWord t k Quiet acts = ⊥
-PassedWord t k Woke acts =
-    (first : ℕ) × (more : Bool) × (acts ≡ Makes (Passes t k more) (Sleeper (Some first)) ∷ [])
-PassedWord t k Nobody acts =
-    (more : Bool) × (acts ≡ Makes (Passes t k more) (Sleeper None) ∷ Makes (SemClear t k) Done ∷ [])
+-- with the bucket locked: it stays marked as parked where more may wait; where nobody is in the line, the parked bit is cleared then
+abbrev pub PassedWord : ℕ → ℕ → Bool → Freed → List Access → Type 0
+PassedWord t k more Quiet acts = ⊥
+PassedWord t k more Woke acts = (first : ℕ) × (acts ≡ Makes (Passes t k more) (Sleeper (Some first)) ∷ [])
+PassedWord t k more Nobody acts =
+    (more ≡ false) × (acts ≡ Makes (Passes t k more) (Sleeper None) ∷ Makes (SemClear t k) Done ∷ [])
 
 -- the whole release: at once, or after a try to free it in vain with the bucket locked
 abbrev pub GivenWord : ℕ → ℕ → Freed → List Access → Type 0
 GivenWord t k Quiet acts = FreedWord t k acts
 GivenWord t k became acts =
-    (tried rest : List Access) × UnfreedWord t k tried × PassedWord t k became rest × (acts ≡ tried ++ rest)
+    (more : Bool) × (tried rest : List Access) × UnfreedWord t k tried × PassedWord t k more became rest × (acts ≡ tried ++ rest)
 
 -- ---- how a pass stands: p before, and q when a permit of k was given back
 module _ {V : Type 0} where
@@ -36,9 +35,10 @@ module _ {V : Type 0} where
   abbrev pub MayGiveBack : ℕ → LotStanding V → ℕ → Type 0
   MayGiveBack first_sem p k = (first_sem ≤ k) × MayGive p.own k
 
-  pub record PassesPermit (p : LotStanding V) (k : ℕ) (became : Freed) (q : LotStanding V) : Type 0 where
+  -- the semaphore stays marked as parked where more may wait
+  pub record PassesPermit (p : LotStanding V) (k : ℕ) (more : Bool) (became : Freed) (q : LotStanding V) : Type 0 where
     pub did : List Access
-    pub passed : PassedWord p.thread k became did
+    pub passed : PassedWord p.thread k more became did
     pub is : q ≡ adding (one_permit_less p k) did
 
   pub record GivesPermit (p : LotStanding V) (k : ℕ) (became : Freed) (q : LotStanding V) : Type 0 where

@@ -1,6 +1,6 @@
 //! Giving a permit back, as WTF's `Lock::unlock` lets a lock go: one compare-exchange where nobody waits, else one
 //! sleeper is taken from the line, and the permit is left to whoever comes first.
-ghost use Rattle.std.specs.Prelude.{◌≡◌, ℕ, ◌<◌, []};
+ghost use Rattle.std.specs.Prelude.{◌≡◌, ℕ, ◌<◌, Bool, []};
 ghost use Rattle.lot_park.specs.Parking.{Tells};
 ghost use Rattle.lot_scheme.specs.Roots.{TakesFirst};
 
@@ -47,7 +47,7 @@ fn unpark<S: SemSteps, R: Wait>(
 ) -> (S::Pass, Freed)
     requires key { key < parking.now.keys }
     requires may { S.may_give pass key }
-    ensures { S.passes pass key result.1 result.0 }
+    ensures { (more : Bool) × S.passes pass key more result.1 result.0 }
 {
     let scheme = parking.scheme();
     let (given, _) = parking.unpark_one(
@@ -63,7 +63,7 @@ fn unpark<S: SemSteps, R: Wait>(
             requires may { S.may_give x.0 (S.Root.view root).key }
             requires clear { (S.Root.view root).owes ≡ [] }
             requires told { (now : ℕ) × Tells (S.Root.view root).line now told }
-            ensures passes { S.passes x.0 (S.Root.view root).key result.0.1 result.0.0 }
+            ensures passes { S.passes x.0 (S.Root.view root).key told.more result.0.1 result.0.0 }
             ensures takes { TakesFirst S.Root.view root told.thread 0 result.1 }
             ensures token { result.2.0 ≡ 0 }
         {

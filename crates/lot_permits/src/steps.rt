@@ -1,6 +1,6 @@
 //! The steps on a semaphore's word by which a permit is given back. A callback of the parking lot makes one of them,
 //! while its bucket is locked.
-ghost use Rattle.std.specs.Prelude.{◌≡◌, ℕ, [], MatchBool};
+ghost use Rattle.std.specs.Prelude.{◌≡◌, ℕ, Bool, [], MatchBool};
 ghost use Rattle.lot_park.specs.Parking.{Tells};
 ghost use Rattle.lot_scheme.specs.Roots.{TakesFirst};
 ghost use Rattle.lot_permits.specs.declared.permit.Freed.{Freed};
@@ -17,7 +17,7 @@ pub struct Sems;
 /// A callback hands its pass and its root to one of these. Written for every scheme, since the passes and roots of a
 /// kind of table can't be named in a closure's signature.
 pub trait SemSteps: Sought<Sems> {
-    ghost use Rattle.std.specs.Prelude.{ℕ};
+    ghost use Rattle.std.specs.Prelude.{ℕ, Bool};
     ghost use Rattle.lot_permits.specs.declared.permit.Freed.{Freed};
 
     /// The pass has a permit of the key, and may give it back.
@@ -26,8 +26,9 @@ pub trait SemSteps: Sought<Sems> {
     /// The pass before, and the pass that has given a permit of the key back, of which this became.
     ghost gives: { Self.Pass → ℕ → Freed → Self.Pass → Type 0 };
 
-    /// The same, where the permit was given back with the key's bucket locked.
-    ghost passes: { Self.Pass → ℕ → Freed → Self.Pass → Type 0 };
+    /// The same, where the permit was given back with the key's bucket locked; and whether the semaphore stays marked as
+    /// parked.
+    ghost passes: { Self.Pass → ℕ → Bool → Freed → Self.Pass → Type 0 };
 
     /// A look and one compare-exchange: the permit is given back where nobody is parked. Else the thread still has it,
     /// and what is made of it then is made of the pass before.
@@ -35,11 +36,11 @@ pub trait SemSteps: Sought<Sems> {
         requires has { Self.has self.now key }
         requires may { may_give pass key }
         ensures { MatchBool result.1 (gives pass key Quiet result.0)
-            (may_give result.0 key × ((became : Freed) (after : Self.Pass)
-            → passes result.0 key became after → gives pass key became after)) };
+            (may_give result.0 key × ((more : Bool) (became : Freed) (after : Self.Pass)
+            → passes result.0 key more became after → gives pass key became after)) };
 
     /// The callback of a slow release: the permit goes back, and the thread is taken from the line of which the parking
-    /// lot tells. Where nobody was in the line, the parked bit is cleared.
+    /// lot tells. Where nobody was in the line, the parked bit is cleared; it stays where more may wait.
     fn give_on(
         &self,
         pass: Self::Pass,
@@ -49,7 +50,7 @@ pub trait SemSteps: Sought<Sems> {
         requires may { may_give pass (Self.Root.view root).key }
         requires clear { (Self.Root.view root).owes ≡ [] }
         requires told { (now : ℕ) × Tells (Self.Root.view root).line now told }
-        ensures passes { passes pass (Self.Root.view root).key result.2 result.0 }
+        ensures passes { passes pass (Self.Root.view root).key told.more result.2 result.0 }
         ensures takes { TakesFirst Self.Root.view root told.thread 0 result.1 };
 }
 

@@ -10,11 +10,12 @@ use Rattle.lot_permits.proofs.steps.LotSchemeSemSteps.free.Goals as goal
 -- the permit was given back; or the thread still has it
 freed : {V : Type 0} → (first_sem : ℕ) (p q : LotStanding V) (k : ℕ) (does : Bool) → MayGiveBack first_sem p k → FreesPermit p k does q
     → MatchBool does (GivesPermit p k Quiet q)
-    (MayGiveBack first_sem q k × ((became : Freed) (after : LotStanding V) → PassesPermit q k became after → GivesPermit p k became after))
+    (MayGiveBack first_sem q k × ((more : Bool) (became : Freed) (after : LotStanding V) → PassesPermit q k more became after
+    → GivesPermit p k became after))
 freed first_sem p q k true may (did, word, is) = record { did = did; given = word; is = is }
 freed {V} first_sem p q k false may (did, word, is) = (
   subst (λ (r : LotStanding V). MayGiveBack first_sem r k) (sym is) may,
-  λ became after s. gives_after p q after k did word is became s,
+  λ more became after s. gives_after p q after k did word is more became s,
 )
 
 pub returns : goal.returns
