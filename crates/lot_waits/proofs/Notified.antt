@@ -1,5 +1,5 @@
 -- How a pass stands after a whole notification, from how it stands after each of its calls.
-use Rattle.std.proofs.Common.{◌≡◌, ℕ, Bool, true, false, List, [], ◌∷◌, ◌++◌, Option, Some, None, is_some, inr, refl, sym, ap, subst, ◌∙◌}
+use Rattle.std.proofs.Common.{◌≡◌, ℕ, ◌<◌, Bool, true, false, List, [], ◌∷◌, ◌++◌, Option, Some, None, is_some, inr, refl, sym, ap, subst, ◌∙◌}
 use Rattle.std.proofs.lemmas.List.{append_assoc}
 use Rattle.lot_events.specs.declared.events.Event.TheVariants.{Look, Call, Lower, Sweep}
 use Rattle.lot_events.specs.declared.events.Seen.TheVariants.{Bool as Saw, Done, Count}
@@ -29,15 +29,16 @@ module _ {V : Type 0} where
 
   -- ---- some
   pub notified : (p m q : LotStanding V) (c n taken : ℕ) (saw : Bool) → saw ≡ true → m ≡ looked p c saw
-      → Calls m c n taken q → Notifies p c n taken q
+      → ((more : Bool) × (more ≡ true → 0 < taken) × Calls m c n taken more q) → Notifies p c n taken q
   notified p m q c n taken saw set is calls =
       let at : m ≡ looked p c true = subst (λ b. m ≡ looked p c b) set is in
-      let (more, went) = subst (λ (r : LotStanding V). Calls r c n taken q) at calls in
+      let (more, says, called) = calls in
+      let went : Calls (looked p c true) c n taken more q = subst (λ (r : LotStanding V). Calls r c n taken more q) at called in
       let look : Access = Makes (Look p.thread c) (Saw true) in
       let call : Access = Makes (Call p.thread c n more) (Count taken) in
       inr (
         look ∷ call ∷ [],
-        (more, refl),
+        (more, says, refl),
         went ∙ ap (λ did. record (stand_called_more p c taken) { did = did }) (append_assoc p.did (look ∷ []) (call ∷ [])),
       )
 

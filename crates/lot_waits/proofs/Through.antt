@@ -82,7 +82,7 @@ try_through t l got acts (inr (word, other, is)) = subst (All IsNoRelease) (sym 
 
 pub free_through : (t l : ℕ) (became : Released) (acts : List Access) → FreeWord t l became acts → All IsNoRelease acts
 free_through t l became acts (inl (quiet, is)) = subst (All IsNoRelease) (sym is) (one (Makes (Free t l) (Saw true)) tt)
-free_through t l became acts (inr (rest, (first, fair, decided, (more, passed)), is)) = subst (All IsNoRelease)
+free_through t l became acts (inr (more, rest, (first, fair, decided, says, passed), is)) = subst (All IsNoRelease)
     (sym (is ∙ ap (λ xs. Makes (Free t l) (Saw false) ∷ xs) passed))
     (two (Makes (Free t l) (Saw false)) (Makes (Pass t l fair more) (Sleeper first)) tt tt)
 

@@ -53,7 +53,7 @@ module _ {V : Type 0} where
 
   pub told_some : (p q : LotStanding V) (c n taken : ℕ) → IsIdle p.own → Notifies p c n taken q → HasTaken p c taken q
   told_some p q c n taken idle (inl nobody) = told_nobody p q c taken idle nobody
-  told_some p q c n taken idle (inr (did, (more, word), is)) =
+  told_some p q c n taken idle (inr (did, (more, says, word), is)) =
       let acts : List Access = Makes (Look p.thread c) (Saw true) ∷ Makes (Call p.thread c n more) (Count taken) ∷ [] in
       told p q c taken acts idle (is ∙ ap (adding (called_more p c taken)) word)
 

@@ -1,14 +1,14 @@
 -- What a notification makes of how a pass stands, and of the condition's line. c is the condition's key.
 use Rattle.std.specs.Prelude.{◌≡◌, ℕ, ◌<◌, ◌≤◌, ◌⊎◌, Bool, true, false, List, [], ◌∷◌, take, drop, Option, Some, None}
 use Rattle.lot_bucket.specs.KeyLine.{KeyLine}
-use Rattle.lot_events.specs.declared.events.Event.TheVariants.{Call, Sweep}
-use Rattle.lot_events.specs.declared.events.Seen.TheVariants.{Count}
+use Rattle.lot_events.specs.declared.events.Event.TheVariants.{Look, Call, Sweep}
+use Rattle.lot_events.specs.declared.events.Seen.TheVariants.{Bool as Saw, Count}
 use Rattle.lot_park.specs.Parking.{debts}
 use Rattle.lot_rights.specs.declared.views.Access.{Access}
 use Rattle.lot_rights.specs.declared.views.Access.TheVariants.{Makes}
 use Rattle.lot_whole.specs.Standing.{IsIdle, MaySweep}
 use Rattle.lot_scheme.specs.Standing.{LotStanding, adding, called_more as stand_called_more, swept}
-use Rattle.lot_scheme.specs.Words.{CallWord, word_of_all, word_of_nobody}
+use Rattle.lot_scheme.specs.Words.{word_of_all, word_of_nobody}
 use Rattle.lot_waits.specs.Counts.{counts_in, called_more as counts_called_more}
 
 -- the numbers of the conditions are those from `locks` on and below `first_sem`
@@ -23,6 +23,14 @@ one_of (Some thread) = 1
 abbrev pub one_if : Bool → ℕ
 one_if true = 1
 one_if false = 0
+
+-- ---- words
+-- A notification that takes at most n, after a look that found the flag set; and what it took, so many. It leaves the flag set only where
+-- it took somebody.
+abbrev pub CallWord : ℕ → ℕ → ℕ → ℕ → List Access → Type 0
+CallWord t c n taken acts =
+    (more : Bool) × (more ≡ true → 0 < taken)
+    × (acts ≡ Makes (Look t c) (Saw true) ∷ Makes (Call t c n more) (Count taken) ∷ [])
 
 -- ---- the line
 -- of the key's line the first n were taken, and each is owed a letter
@@ -42,10 +50,9 @@ module _ {V : Type 0} where
   abbrev pub MayCall : ℕ → ℕ → LotStanding V → ℕ → Type 0
   MayCall locks first_sem p c = IsCondKey locks first_sem c × IsIdle p.own
 
-  -- so many were taken from c's line, of n at most
-  abbrev pub Calls : LotStanding V → ℕ → ℕ → ℕ → LotStanding V → Type 0
-  Calls p c n taken q =
-      (more : Bool) × (q ≡ adding (stand_called_more p c taken) (Makes (Call p.thread c n more) (Count taken) ∷ []))
+  -- so many were taken from c's line, of n at most; its flag stays set where more may wait
+  abbrev pub Calls : LotStanding V → ℕ → ℕ → ℕ → Bool → LotStanding V → Type 0
+  Calls p c n taken more q = q ≡ adding (stand_called_more p c taken) (Makes (Call p.thread c n more) (Count taken) ∷ [])
 
   -- it has lowered c's flag, and may take all of c's line
   abbrev pub MayTakeAll : ℕ → ℕ → LotStanding V → ℕ → Type 0

@@ -1,6 +1,6 @@
 //! Taking threads from a condition's line, as WTF's `Condition::notifyOne` and `Condition::notifyAll` do, and several
 //! of them at once.
-ghost use Rattle.std.specs.Prelude.{◌≡◌, ℕ, ◌<◌, ◌≤◌, length, []};
+ghost use Rattle.std.specs.Prelude.{◌≡◌, ℕ, ◌<◌, ◌≤◌, Bool, true, length, []};
 ghost use Rattle.lot_core.specs.Steps.{IsCallCount};
 ghost use Rattle.lot_park.specs.Parking.{Tells, TellsCount};
 ghost use Rattle.lot_waits.specs.Notifying.{Dequeues, DequeuesAll, one_of, one_if};
@@ -24,7 +24,7 @@ pub(crate) fn call_one<S: CondSteps, R: Wait>(
 ) -> (S::Pass, bool)
     requires key { cond < parking.now.keys }
     requires may { S.may_call pass cond }
-    ensures { S.calls pass cond 1 (one_if result.1) result.0 }
+    ensures { (more : Bool) × (more ≡ true → 0 < one_if result.1) × S.calls pass cond 1 (one_if result.1) more result.0 }
 {
     let scheme = parking.scheme();
     let (pass, told) = parking.unpark_one(
@@ -36,7 +36,7 @@ pub(crate) fn call_one<S: CondSteps, R: Wait>(
             requires may { S.may_call pass (S.Root.view root).key }
             requires clear { (S.Root.view root).owes ≡ [] }
             requires told { (now : ℕ) × Tells (S.Root.view root).line now told }
-            ensures pass { S.calls pass (S.Root.view root).key 1 (one_of told.thread) result.0 }
+            ensures pass { S.calls pass (S.Root.view root).key 1 (one_of told.thread) told.more result.0 }
             ensures root { Dequeues S.Root.view 1 root result.1 }
             ensures token { result.2.0 ≡ 0 }
         {
@@ -71,7 +71,7 @@ pub(crate) fn call_some<S: CondSteps, R: Wait>(
     requires key { cond < parking.now.keys }
     requires may { S.may_call pass cond }
     requires count { IsCallCount count }
-    ensures pass { S.calls pass cond count result.1 result.0 }
+    ensures pass { (more : Bool) × (more ≡ true → 0 < result.1) × S.calls pass cond count result.1 more result.0 }
     ensures most { result.1 ≤ count }
 {
     let scheme = parking.scheme();
@@ -85,7 +85,7 @@ pub(crate) fn call_some<S: CondSteps, R: Wait>(
             requires clear { (S.Root.view root).owes ≡ [] }
             requires count { IsCallCount count }
             requires told { (threads : ℕ) × TellsCount threads count (S.Root.view root).line taken more }
-            ensures pass { S.calls pass (S.Root.view root).key count taken result.0 }
+            ensures pass { S.calls pass (S.Root.view root).key count taken more result.0 }
             ensures root { Dequeues S.Root.view count root result.1 }
         { scheme.call_first(pass, root, count, taken, more) },
     )

@@ -11,7 +11,7 @@ use lot_whole::Keeps;
 /// A callback hands its pass and its root to one of these. Written for every scheme, since the passes and roots of a
 /// lot can't be named in a closure's signature.
 pub trait CondSteps: LockSteps {
-    ghost use Rattle.std.specs.Prelude.{ℕ};
+    ghost use Rattle.std.specs.Prelude.{ℕ, Bool};
 
     /// The pass may wait on the condition, and has the lock, whose value lies in its slot.
     ghost may_enlist: { Self.Pass → ℕ → ℕ → Type 0 };
@@ -22,8 +22,9 @@ pub trait CondSteps: LockSteps {
     /// The pass may take threads from the condition's line.
     ghost may_call: { Self.Pass → ℕ → Type 0 };
 
-    /// The pass before, the condition, how many may be taken and how many were, and the pass that took them.
-    ghost calls: { Self.Pass → ℕ → ℕ → ℕ → Self.Pass → Type 0 };
+    /// The pass before, the condition, how many may be taken and how many were, whether its flag stays set, and the pass
+    /// that took them.
+    ghost calls: { Self.Pass → ℕ → ℕ → ℕ → Bool → Self.Pass → Type 0 };
 
     /// The pass has lowered the condition's flag, and may take all threads of its line.
     ghost may_sweep: { Self.Pass → ℕ → Type 0 };
@@ -44,7 +45,7 @@ pub trait CondSteps: LockSteps {
         ensures root { Queues Self.Root.view Self.thread pass root true result.0 result.1 };
 
     /// The callback of a notification: takes the first `count` threads of the line, or all where they are fewer;
-    /// `taken` is how many they are.
+    /// `taken` is how many they are. The flag stays set where more may wait.
     fn call_first(
         &self,
         pass: Self::Pass,
@@ -58,7 +59,7 @@ pub trait CondSteps: LockSteps {
         requires count { IsCallCount count }
         requires taken { dequeued_count count (Self.Root.view root).line ≡ taken }
         requires more { SaysMoreBehind count (Self.Root.view root).line more }
-        ensures pass { calls pass (Self.Root.view root).key count taken result.0 }
+        ensures pass { calls pass (Self.Root.view root).key count taken more result.0 }
         ensures root { Dequeues Self.Root.view count root result.1 };
 
     /// The callback of a notification of all: takes all threads of the line; `taken` is how many they are.
