@@ -32,4 +32,4 @@ undecided (Some t) false e = absurd cc
 -- so a lock that was let go where nobody was parked was let go by the first exchange
 pub quiet_word : (t l : ℕ) (acts : List Access) → FreeWord t l Quiet acts → UnparkedWord t l true acts
 quiet_word t l acts (inl (quiet, is)) = is
-quiet_word t l acts (inr (rest, (first, fair, decided, word), is)) = absurd (undecided first fair decided)
+quiet_word t l acts (inr (more, rest, (first, fair, decided, says, word), is)) = absurd (undecided first fair decided)

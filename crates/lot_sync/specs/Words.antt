@@ -4,9 +4,10 @@ use Rattle.lot_events.specs.declared.events.Event.TheVariants.{Free, Look}
 use Rattle.lot_events.specs.declared.events.Seen.TheVariants.{Bool as Saw}
 use Rattle.lot_rights.specs.declared.views.Access.{Access}
 use Rattle.lot_rights.specs.declared.views.Access.TheVariants.{Makes, Finds}
-use Rattle.lot_scheme.specs.Words.{CallWord, word_of_all, word_of_nobody, TookWord, BusyWord}
+use Rattle.lot_scheme.specs.Words.{word_of_all, word_of_nobody, TookWord, BusyWord}
 use Rattle.lot_locks.specs.declared.released.Released.{Released}
 use Rattle.lot_locks.specs.Released.{IsFitting}
+use Rattle.lot_waits.specs.Notifying.{CallWord}
 use Rattle.lot_waits.specs.Waiting.{WaitWord}
 use Rattle.lot_permits.specs.declared.permit.Tried.{Tried}
 use Rattle.lot_permits.specs.declared.permit.Tried.TheVariants.{Got, Empty, Busy}

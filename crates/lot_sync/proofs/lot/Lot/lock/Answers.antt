@@ -2,7 +2,7 @@ use Rattle.std.proofs.Common.{sym, subst, ap, arith}
 use Rattle.lot_scheme.specs.Standing.{LotStanding}
 use Rattle.lot_scheme.specs.Words.{GetWord}
 use Rattle.lot_locks.specs.Standing.{IsOwner}
-use Rattle.lot_locks.proofs.Seeking.{may_take, owner_on}
+use Rattle.lot_locks.proofs.Seeking.{may_take, owner_on, has_found}
 use Rattle.lot_sync.specs.Values.{Gets}
 use Rattle.lot_sync.proofs.Rests.{owns_newly, gets_all}
 use Rattle.lot_sync.proofs.Adding.{adds_at}
@@ -24,6 +24,11 @@ got g c =
 pub get_slowly-right-requires-clause-may : goal.get_slowly-right-requires-clause-may
 get_slowly-right-requires-clause-may g c κs within =
     may_take g.N.LotName.locks c.apart-right.result.0 c.get_free-right.result.0 c.args.key (c.get_free-right.ensures.missed c.if-found-eq-UNHELD.false)
+
+pub get_slowly-right-requires-clause-found : goal.get_slowly-right-requires-clause-found
+get_slowly-right-requires-clause-found g c κs within =
+    has_found c.apart-right.result.0 c.get_free-right.result.0 c.args.key c.get_free-right.result.1
+    (c.get_free-right.ensures.found c.if-found-eq-UNHELD.false)
 
 pub taken-requires-clause-owner : goal.taken-requires-clause-owner
 taken-requires-clause-owner g c κs within =
