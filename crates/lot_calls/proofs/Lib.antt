@@ -1,5 +1,6 @@
 pub mod Visiting
-mod Waiting
+pub mod Waiting
 mod Nesting
 pub mod Sums
 pub mod Working
+mod Taking

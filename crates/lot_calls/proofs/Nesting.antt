@@ -14,7 +14,7 @@ use Rattle.lot_sync.specs.Words.{Adds}
 use Rattle.lot_sync.specs.Values.{Gets, MayGiveBack}
 use Rattle.lot_sync.proofs.Holdings.{may_go_back}
 use Rattle.lot_calls.specs.Words.{VisitWord, NestedWord}
-use Rattle.lot_calls.specs.Visits.{own_parts, MayBecome, VisitsBoth}
+use Rattle.lot_calls.specs.Visits.{own_parts, MayBecome, Finds, VisitsBoth}
 use Rattle.lot_calls.proofs.Visiting.{set_back, finds}
 
 -- the second lock is not owned when the first was got
@@ -25,6 +25,16 @@ second_free rule p q a k l two free got owns =
 
 module _ {V Part : Type 0} (rule : CallersRule V Part) (p q r : PassView V) (a b : HeldView V) (k l : ℕ) (two : l ≢ k)
     (free_first : ¬ Owns p k) (free_second : ¬ Owns p l) (got : Gets rule p k a q) (got' : Gets rule q l b r) where
+  -- the second was found by a pass that has seen of it what it had seen before
+  pub finds_second : (lot : LotView) → l < lot.locks → HasShape lot q → Finds rule p l b.value
+  finds_second lot is_lock shape = finds rule p l b.value got'.kept (λ u seen. got'.grown u (before u seen))
+      (λ u seen. subst (λ t. rule.part t u ≡ rule.part t b.value) (ap (λ (z : PassView V). z.thread) got.after_is)
+      (got'.mine u (before u seen)))
+      (omega (arith, is_lock, shape.seen, ap (λ (z : PassView V). length z.seen) got.after_is, length-set p.seen k a.value))
+    where
+      before : (u : V) → HasSeen p l u → HasSeen q l u
+      before u seen = ap (λ (z : PassView V). get_elem? z.seen l) got.after_is ∙ (set_else p.seen k l a.value two ∙ seen)
+
   module _ (y : V) (may' : MayBecome rule l p.thread b.value y) where
     -- the second value may be given back
     pub back_second : MayGiveBack rule r (record { key = b.key; value = y })

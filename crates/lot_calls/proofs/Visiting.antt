@@ -45,6 +45,17 @@ module _ {V Part : Type 0} (rule : CallersRule V Part) where
     own_was = own_found p key found mine near;
   }
 
+  -- the owner found this value there
+  pub finds_got : (before got : PassView V) (key : ℕ) (held : HeldView V) → Gets rule before key held got
+      → (lot : LotView) → key < lot.locks → HasShape lot got → Finds rule before key held.value
+  finds_got before got key held gets lot is_lock shape = finds before key held.value gets.kept gets.grown gets.mine (omega (
+    arith,
+    is_lock,
+    shape.seen,
+    ap (λ (p : PassView V). length p.seen) gets.after_is,
+    length-set before.seen key held.value,
+  ))
+
   -- the owner found the value, left another that it may become, and let the lock go
   pub visits : (before got after : PassView V) (key : ℕ) (held : HeldView V) (found left : V) → ¬ Owns before key
       → Gets rule before key held got

@@ -99,12 +99,13 @@ module _ {V : Type 0} where
     ),
   )
 
-module _ {V Part : Type 0} (rule : CallersRule V Part) where
+module _ {V Part : Type 0} (rule : CallersRule V Part) (unready : V → Type 0) where
   -- no wait yet
   pub not_yet : (before : PassView V) (held : HeldView V) (cond now : ℕ) → MayGiveBack rule before held
-      → WaitsOn rule before held cond now held before
+      → WaitsOn rule unready before held cond now held before
   not_yet before held cond now back = record {
     count = 0;
+    while = refl;
     after_is = refl;
     made = ([], sym (append-nil before.made), refl);
     same = λ _. refl;
@@ -121,11 +122,12 @@ module _ {V Part : Type 0} (rule : CallersRule V Part) where
   -- one wait more
   pub once_more : (lot : LotView) (before pass after : PassView V) (held mid found : HeldView V) (cond now : ℕ) → held.key < lot.locks
       → cond < length before.woken → HasShape lot pass → Owns pass held.key
-      → WaitsOn rule before held cond now mid pass → WaitsAndGets rule pass mid cond found after
+      → WaitsOn rule unready before held cond now mid pass → unready mid.value → WaitsAndGets rule pass mid cond found after
       → Adds pass.made (WaitedWord pass.thread cond mid.key now) after.made
-      → WaitsOn rule before held cond now found after
-  once_more lot before pass after held mid found cond now is_lock near shape owned waits gets made = record {
+      → WaitsOn rule unready before held cond now found after
+  once_more lot before pass after held mid found cond now is_lock near shape owned waits lacks gets made = record {
     count = suc waits.count;
+    while = (mid.value, waits.while, lacks, gets.grown mid.value saw);
     after_is = waits_once_more before pass after held.key cond waits.count mid.value found.value mid.value near waits.after_is went seen;
     made = made_once_more before pass after held.key mid.key cond now waits.count waits.key_is waits.thread waits.made made;
     same = λ none. absurd (omega (arith, none));
@@ -161,7 +163,7 @@ module _ {V Part : Type 0} (rule : CallersRule V Part) where
 
   -- the lock was got, and then waited with
   pub got_after : (before got after : PassView V) (key cond now : ℕ) (held found : HeldView V) → Gets rule before key held got
-      → WaitsOn rule got held cond now found after → GetsAfter rule before key found after
+      → WaitsOn rule unready got held cond now found after → GetsAfter rule before key found after
   got_after before got after key cond now held found gets waits = record {
     key_is = waits.key_is ∙ gets.key_is;
     kept = subst (λ k. rule.keeps k found.value) gets.key_is waits.kept;
@@ -180,7 +182,7 @@ module _ {V Part : Type 0} (rule : CallersRule V Part) where
 
   -- whoever owned nothing before holds the lock then
   pub after_holds : (before got after : PassView V) (key cond now : ℕ) (held found : HeldView V) → OwnsNone before
-      → Gets rule before key held got → WaitsOn rule got held cond now found after
+      → Gets rule before key held got → WaitsOn rule unready got held cond now found after
       → Holding rule.grows after found
   after_holds before got after key cond now held found none gets waits =
       let holds = got_holds rule before got key held none gets in record {

@@ -1,5 +1,5 @@
 -- The end of a lot: all its passes were taken, and it is closed.
-use Rattle.std.specs.Prelude.{◌≡◌, ℕ, ◌<◌, List, length}
+use Rattle.std.specs.Prelude.{◌≡◌, ℕ, ◌<◌, List, length, slice_index_or}
 use Rattle.std.specs.List.{All, Any}
 use Rattle.lot_words.specs.CallersRule.{CallersRule}
 use Rattle.lot_sync.specs.Lot.{LotNames, LotView, PassView, OwnsNone, HasShape, HasGrown, IsLedgerOf, rested}
@@ -16,9 +16,10 @@ module _ {V Part : Type 0} (rule : CallersRule V Part) where
     pub shape : HasShape lot p
     pub grown : HasGrown rule.grows opening p
 
-  -- the passes of all threads, which were in the lot
+  -- the passes of all threads, in order, which were in the lot
   pub record AreTaken (opening : List V) (lot : LotView) (passes : List (PassView V)) : Type 0 where
     pub count : length passes ≡ lot.threads
+    pub order : (t : ℕ) (p : PassView V) → t < lot.threads → (slice_index_or passes t p).thread ≡ t
     pub all : (t : ℕ) → t < lot.threads → Any (λ (p : PassView V). p.thread ≡ t) passes
     pub ready : All (IsReady opening lot) passes
 

@@ -11,16 +11,25 @@ module _ {V : Type 0} where
   abbrev pub woken_from : PassView V → ℕ → ℕ → PassView V
   woken_from p cond count = record p { woken = slice_set p.woken cond (slice_index p.woken cond + count) }
 
+  -- So many waits in a row, each of which began with a value that was not as wanted: with the first value, and then with what the wait
+  -- before had ended with, which goes on from that. The last one ended with the last value.
+  abbrev pub WaitsWhile : (grows : V → V → Type 0) (unready : V → Type 0) → ℕ → V → V → Type 0
+  WaitsWhile grows unready zero first last = last ≡ first
+  WaitsWhile grows unready (suc n) first last = (mid : V) × WaitsWhile grows unready n first mid × unready mid × grows mid last
+
   -- the pass p after so many waits, of which the last ended with this value in the lock
   abbrev pub AfterWaits : PassView V → ℕ → ℕ → V → ℕ → PassView V → Type 0
   AfterWaits p key cond found zero q = q ≈ p
   AfterWaits p key cond found (suc n) q = (q ≈ woken_from (owning p key found) cond (suc n)) × HasSeen q key found
 
 module _ {V Part : Type 0} (rule : CallersRule V Part) where
-  -- the pass waited some times, or not at all; the lock is owned as before, with a value that keeps the rule, goes on from what was held
-  -- and has the pass's own part unchanged; without a wait it is what was held. It may be given back
-  pub record WaitsOn (before : PassView V) (held : HeldView V) (cond now : ℕ) (found : HeldView V) (after : PassView V) : Type 0 where
+  -- the pass waited some times, or not at all, and each time only since the value was not as wanted; the lock is owned as before, with a
+  -- value that keeps the rule, goes on from what was held and has the pass's own part unchanged; without a wait it is what was held. It may
+  -- be given back
+  pub record WaitsOn (unready : V → Type 0) (before : PassView V) (held : HeldView V) (cond now : ℕ) (found : HeldView V)
+      (after : PassView V) : Type 0 where
     pub count : ℕ
+    pub while : WaitsWhile rule.grows unready count held.value found.value
     pub after_is : AfterWaits before held.key cond found.value count after
     pub made : Adds before.made (WaitsWord before.thread cond held.key now count) after.made
     pub same : count ≡ 0 → found ≡ held

@@ -3,7 +3,7 @@ ghost use Rattle.std.specs.Prelude.{◌≡◌, ◌≢◌, ◌<◌};
 ghost use Rattle.lot_sync.specs.Lot.{Owns, OwnsNone, HasShape};
 ghost use Rattle.lot_sync.specs.Words.{Adds};
 ghost use Rattle.lot_calls.specs.Words.{BothWord, NestedWord};
-ghost use Rattle.lot_calls.specs.Visits.{MayBecome, VisitsBoth};
+ghost use Rattle.lot_calls.specs.Visits.{MayBecome, Finds, VisitsBoth};
 
 use lot_sync::{Lot, LotName, Moment, Pass};
 use lot_words::Keeps;
@@ -11,7 +11,8 @@ use std::sync::Wait;
 
 /// Gets two locks, works on their values, and lets them go:
 /// `let (pass, ()) = with_both(rt, lot, pass, 3, 1, now, |a, b| swap(a, b));`. The lock with the lower number is got
-/// first and let go last, so no two threads that get two locks so wait for one another.
+/// first and let go last, so no two threads that get two locks so wait for one another. Of both values the work may take
+/// what the pass knows of them (`Finds`).
 pub fn with_both<V: Keeps + Send, O, N: LotName<V> + Send, T: Wait, F: FnOnce(&mut V, &mut V) -> O>(
     rt: &T,
     lot: &Lot<V, N>,
@@ -23,8 +24,10 @@ pub fn with_both<V: Keeps + Send, O, N: LotName<V> + Send, T: Wait, F: FnOnce(&m
 ) -> (Pass<V, N>, O)
     requires keys { (first < lot.now.locks) × (second < lot.now.locks) × (second ≢ first) }
     requires not_owned { (¬ Owns pass first) × ¬ Owns pass second }
-    requires callable { (v w : _) → V.keeps first v.now → V.keeps second w.now → F.pre work v w }
-    requires keeps { (v w o x y : _) → V.keeps first v.now → V.keeps second w.now → F.post work v w o x y
+    requires callable { (v w : _) → V.keeps first v.now → V.keeps second w.now → Finds V.Keeps pass first v.now
+        → Finds V.Keeps pass second w.now → F.pre work v w }
+    requires keeps { (v w o x y : _) → V.keeps first v.now → V.keeps second w.now → Finds V.Keeps pass first v.now
+        → Finds V.Keeps pass second w.now → F.post work v w o x y
         → MayBecome V.Keeps first pass.thread v.now x.now × MayBecome V.Keeps second pass.thread w.now y.now }
     ensures visits { (v : _) × (w : _) × (x : _) × (y : _) × F.post work v w result.1 x y
         × VisitsBoth V.Keeps pass first second v.now w.now x.now y.now result.0 }
@@ -67,8 +70,10 @@ fn with_two<V: Keeps + Send, O, N: LotName<V> + Send, T: Wait, F: FnOnce(&mut V,
 ) -> (Pass<V, N>, O)
     requires keys { (first < lot.now.locks) × (second < lot.now.locks) × (second ≢ first) }
     requires not_owned { (¬ Owns pass first) × ¬ Owns pass second }
-    requires callable { (v w : _) → V.keeps first v.now → V.keeps second w.now → F.pre work v w }
-    requires keeps { (v w o x y : _) → V.keeps first v.now → V.keeps second w.now → F.post work v w o x y
+    requires callable { (v w : _) → V.keeps first v.now → V.keeps second w.now → Finds V.Keeps pass first v.now
+        → Finds V.Keeps pass second w.now → F.pre work v w }
+    requires keeps { (v w o x y : _) → V.keeps first v.now → V.keeps second w.now → Finds V.Keeps pass first v.now
+        → Finds V.Keeps pass second w.now → F.post work v w o x y
         → MayBecome V.Keeps first pass.thread v.now x.now × MayBecome V.Keeps second pass.thread w.now y.now }
     ensures visits { (v : _) × (w : _) × (x : _) × (y : _) × F.post work v w result.1 x y
         × VisitsBoth V.Keeps pass first second v.now w.now x.now y.now result.0 }

@@ -1,11 +1,12 @@
 //! Waiting on a condition until a lock's value is as wanted.
-ghost use Rattle.std.specs.Prelude.{◌≡◌, ℕ, ◌<◌, true};
+ghost use Rattle.std.specs.Prelude.{◌≡◌, ℕ, ◌<◌, true, false};
 ghost use Rattle.lot_sync.specs.Lot.{Owns, OwnsNone, HasShape, IsCond};
 ghost use Rattle.lot_sync.specs.Values.{MayGiveBack};
 ghost use Rattle.lot_sync.specs.Holding.{Holding};
 ghost use Rattle.lot_sync.specs.Words.{Adds};
 ghost use Rattle.lot_calls.specs.Words.{GetAfterWord};
-ghost use Rattle.lot_calls.specs.Waits.{WaitsOn, GetsAfter};
+ghost use Rattle.lot_calls.specs.Visits.{Finds};
+ghost use Rattle.lot_calls.specs.Waits.{WaitsOn, WaitsWhile, GetsAfter};
 
 use lot_sync::{Held, Lot, LotName, Moment, Pass};
 use lot_words::Keeps;
@@ -13,7 +14,7 @@ use std::sync::Wait;
 
 /// Waits on the condition until the value is as wanted:
 /// `let (pass, held) = wait_until(rt, lot, pass, held, NOT_EMPTY, now, |q| !q.is_empty());`. Where it is so already
-/// there is no wait. The moment is that of the unlock in each wait.
+/// there is no wait, and each wait begins with a value that is not. The moment is that of the unlock in each wait.
 pub fn wait_until<V: Keeps + Send, N: LotName<V> + Send, T: Wait, F: Fn(&V) -> bool>(
     rt: &T,
     lot: &Lot<V, N>,
@@ -29,7 +30,8 @@ pub fn wait_until<V: Keeps + Send, N: LotName<V> + Send, T: Wait, F: Fn(&V) -> b
     requires back { MayGiveBack V.Keeps pass held }
     requires cond { IsCond lot.now cond }
     requires callable { (v : _) → V.keeps held.key v.now → F.pre ready v }
-    ensures waits { WaitsOn V.Keeps pass held cond moment.now result.1 result.0 }
+    ensures waits { WaitsOn V.Keeps (λ x. (v : _) × (v.now ≡ x) × F.post ready v false) pass held cond moment.now
+        result.1 result.0 }
     ensures ready { (v : _) × (v.now ≡ result.1.value) × F.post ready v true }
     ensures owns { Owns result.0 held.key }
     ensures shape { HasShape lot.now result.0 }
@@ -47,7 +49,8 @@ pub fn wait_until<V: Keeps + Send, N: LotName<V> + Send, T: Wait, F: Fn(&V) -> b
     unreachable!()
 }
 
-/// Gets the lock when its value is as wanted: `lock`, and then `wait_until`.
+/// Gets the lock when its value is as wanted: `lock`, and then `wait_until`, which does not wait where the value that was
+/// found is so already.
 pub fn lock_until<V: Keeps + Send, N: LotName<V> + Send, T: Wait, F: Fn(&V) -> bool>(
     rt: &T,
     lot: &Lot<V, N>,
@@ -62,7 +65,9 @@ pub fn lock_until<V: Keeps + Send, N: LotName<V> + Send, T: Wait, F: Fn(&V) -> b
     requires cond { IsCond lot.now cond }
     requires callable { (v : _) → V.keeps key v.now → F.pre ready v }
     ensures gets { GetsAfter V.Keeps pass key result.1 result.0 }
-    ensures made { (count : ℕ) × Adds pass.made (GetAfterWord pass.thread cond key moment.now count) result.0.made }
+    ensures made { (count : ℕ) × Adds pass.made (GetAfterWord pass.thread cond key moment.now count) result.0.made
+        × ((first : V) × Finds V.Keeps pass key first
+        × WaitsWhile V.grows (λ x. (v : _) × (v.now ≡ x) × F.post ready v false) count first result.1.value) }
     ensures holding { OwnsNone pass → Holding V.grows result.0 result.1 }
     ensures ready { (v : _) × (v.now ≡ result.1.value) × F.post ready v true }
     ensures owns { Owns result.0 key }

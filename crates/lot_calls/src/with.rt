@@ -3,7 +3,7 @@ ghost use Rattle.std.specs.Prelude.{◌≡◌, ◌<◌};
 ghost use Rattle.lot_sync.specs.Lot.{Owns, OwnsNone, HasShape};
 ghost use Rattle.lot_sync.specs.Words.{Adds};
 ghost use Rattle.lot_calls.specs.Words.{VisitWord};
-ghost use Rattle.lot_calls.specs.Visits.{MayBecome, Visits};
+ghost use Rattle.lot_calls.specs.Visits.{MayBecome, Finds, Visits};
 
 use lot_sync::{Lot, LotName, Moment, Pass};
 use lot_words::Keeps;
@@ -11,7 +11,8 @@ use std::sync::Wait;
 
 /// Gets the lock, works on its value, and lets the lock go:
 /// `let (pass, ()) = with_lock(rt, lot, pass, 0, now, |n| *n += 1);`. The pass may own other locks. It waits as `lock`
-/// and `unlock` do, and the moment is that of the unlock.
+/// and `unlock` do, and the moment is that of the unlock. Of the value that it finds the work may take what the pass knows
+/// of it (`Finds`): it goes on from all that the pass had seen of it, and has its own part unchanged.
 pub fn with_lock<V: Keeps + Send, O, N: LotName<V> + Send, T: Wait, F: FnOnce(&mut V) -> O>(
     rt: &T,
     lot: &Lot<V, N>,
@@ -22,8 +23,8 @@ pub fn with_lock<V: Keeps + Send, O, N: LotName<V> + Send, T: Wait, F: FnOnce(&m
 ) -> (Pass<V, N>, O)
     requires key { key < lot.now.locks }
     requires not_owned { ¬ Owns pass key }
-    requires callable { (v : _) → V.keeps key v.now → F.pre work v }
-    requires keeps { (v : _) (o : _) (w : _) → V.keeps key v.now → F.post work v o w
+    requires callable { (v : _) → V.keeps key v.now → Finds V.Keeps pass key v.now → F.pre work v }
+    requires keeps { (v : _) (o : _) (w : _) → V.keeps key v.now → Finds V.Keeps pass key v.now → F.post work v o w
         → MayBecome V.Keeps key pass.thread v.now w.now }
     ensures visits { (v : _) × (w : _) × F.post work v result.1 w × Visits V.Keeps pass key v.now w.now result.0 }
     ensures made { Adds pass.made (VisitWord pass.thread key moment.now) result.0.made }
@@ -48,8 +49,8 @@ pub fn with_value<V: Keeps + Send, O, N: LotName<V> + Send, T: Wait, F: FnOnce(V
 ) -> (Pass<V, N>, O)
     requires key { key < lot.now.locks }
     requires not_owned { ¬ Owns pass key }
-    requires callable { (v : V) → V.keeps key v → F.pre work v }
-    requires keeps { (v : V) (left : _) → V.keeps key v → F.post work v left
+    requires callable { (v : V) → V.keeps key v → Finds V.Keeps pass key v → F.pre work v }
+    requires keeps { (v : V) (left : _) → V.keeps key v → Finds V.Keeps pass key v → F.post work v left
         → MayBecome V.Keeps key pass.thread v left.0 }
     ensures visits { (v : V) × (w : V) × F.post work v (w, result.1) × Visits V.Keeps pass key v w result.0 }
     ensures made { Adds pass.made (VisitWord pass.thread key moment.now) result.0.made }

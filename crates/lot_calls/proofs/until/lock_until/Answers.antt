@@ -1,17 +1,18 @@
 use Rattle.std.proofs.Common.{ap}
 use Rattle.lot_sync.specs.Lot.{PassView}
+use Rattle.lot_calls.proofs.Visiting.{finds_got}
 use Rattle.lot_calls.proofs.Waiting.{got_after, after_holds, made_until}
 use Rattle.lot_calls.proofs.until.lock_until.Goals as goal
 
 pub returns-clause-gets : goal.returns-clause-gets
 returns-clause-gets g c =
-    got_after g.V.Keeps c.args.pass c.lock-pass.result.0 c.wait_until.result.0 c.args.key c.args.cond c.args.moment.now
+    got_after g.V.Keeps _ c.args.pass c.lock-pass.result.0 c.wait_until.result.0 c.args.key c.args.cond c.args.moment.now
     c.lock-pass.result.1 c.wait_until.result.1
     c.lock-pass.ensures.gets c.wait_until.ensures.waits
 
 pub returns-clause-holding : goal.returns-clause-holding
 returns-clause-holding g c =
-    λ none. after_holds g.V.Keeps c.args.pass c.lock-pass.result.0 c.wait_until.result.0 c.args.key c.args.cond
+    λ none. after_holds g.V.Keeps _ c.args.pass c.lock-pass.result.0 c.wait_until.result.0 c.args.key c.args.cond
     c.args.moment.now c.lock-pass.result.1
     c.wait_until.result.1 none c.lock-pass.ensures.gets c.wait_until.ensures.waits
 
@@ -23,4 +24,10 @@ returns-clause-made g c =
       made_until c.args.pass c.lock-pass.result.0 c.wait_until.result.0 c.args.key c.lock-pass.result.1.key c.args.cond c.args.moment.now
           waits.count gets.key_is
           (ap (λ (p : PassView g.row.V.Denot). p.thread) gets.after_is) c.lock-pass.ensures.made waits.made,
+      (
+        c.lock-pass.result.1.value,
+        finds_got g.V.Keeps c.args.pass c.lock-pass.result.0 c.args.key c.lock-pass.result.1 gets c.args.lot.now c.requires.key
+            c.lock-pass.ensures.shape,
+        waits.while,
+      ),
     )

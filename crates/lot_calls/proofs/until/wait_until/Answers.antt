@@ -5,7 +5,7 @@ use Rattle.lot_calls.proofs.until.wait_until.Goals as goal
 
 pub loop-init : goal.loop-init
 loop-init g c =
-    (tt, tt, not_yet g.V.Keeps c.args.pass c.args.held c.args.cond c.args.moment.now c.requires.back, c.requires.owns, c.requires.shape)
+    (tt, tt, not_yet g.V.Keeps _ c.args.pass c.args.held c.args.cond c.args.moment.now c.requires.back, c.requires.owns, c.requires.shape)
 
 pub ready-requires : goal.ready-requires
 ready-requires g c =
@@ -18,9 +18,9 @@ loop-preserved g c =
     let near = subst (λ n. c.args.cond < n) (sym c.requires.shape.woken) c.requires.cond.1 in (
       tt,
       tt,
-      once_more g.V.Keeps c.args.lot.now c.args.pass c.loop.pass c.wait-woken.result.0 c.args.held c.loop.held c.wait-woken.result.1
+      once_more g.V.Keeps _ c.args.lot.now c.args.pass c.loop.pass c.wait-woken.result.0 c.args.held c.loop.held c.wait-woken.result.1
           c.args.cond c.args.moment.now c.requires.key near inv.4
-          inv.3 inv.2 gets c.wait-woken.ensures.made,
+          inv.3 inv.2 (c.value.result, c.value.ensures, rw c.if-ready.false at c.ready.ensures) gets c.wait-woken.ensures.made,
       subst (λ k. Owns c.wait-woken.result.0 k) inv.2.key_is gets.owns,
       c.wait-woken.ensures.shape,
     )

@@ -1,6 +1,8 @@
 use Rattle.std.proofs.Common.{rules, subst, sym, ap}
 use Rattle.lot_sync.specs.Lot.{PassView}
-use Rattle.lot_calls.proofs.Visiting.{visits, visit_made}
+use Rattle.lot_sync.proofs.Holdings.{may_go_back}
+use Rattle.lot_calls.specs.Visits.{Finds, MayBecome}
+use Rattle.lot_calls.proofs.Visiting.{visits, visit_made, finds_got}
 use Rattle.lot_calls.proofs.with.with_lock.Goals as goal
 
 pub returns-clause-visits : goal.returns-clause-visits
@@ -8,13 +10,16 @@ returns-clause-visits g c =
     let found = c.value_mut.result in
     let left = record found { now = c.work-outcome.new.arg2 } in
     let gets = c.lock-pass.ensures.gets in
+    let finds = subst (Finds g.V.Keeps c.args.pass c.args.key) (sym c.value_mut.ensures.value)
+    (finds_got g.V.Keeps c.args.pass c.lock-pass.result.0 c.args.key c.lock-pass.result.1 gets c.args.lot.now c.requires.key
+    c.lock-pass.ensures.shape) in
     let kept = subst (g.V.Keeps.keeps c.args.key) (sym c.value_mut.ensures.value) gets.kept in (
       found,
       left,
       c.work-outcome.ensures,
       visits g.V.Keeps c.args.pass c.lock-pass.result.0 c.unlock-pass.result.0 c.args.key c.lock-pass.result.1 found.now left.now
           c.requires.not_owned gets c.value_mut.ensures.value
-          (c.requires.keeps found c.work-outcome.result left kept c.work-outcome.ensures)
+          (c.requires.keeps found c.work-outcome.result left kept finds c.work-outcome.ensures)
           c.unlock-pass.ensures.pass c.unlock-pass.ensures.seen c.args.lot.now c.requires.key c.unlock-pass.ensures.shape,
     )
 
@@ -30,7 +35,23 @@ pub lock-pass-requires-clause-not_owned : goal.lock-pass-requires-clause-not_own
 lock-pass-requires-clause-not_owned g c κs within = search rules
 
 pub work-outcome-requires : goal.work-outcome-requires
-work-outcome-requires g c = search rules
+work-outcome-requires g c =
+    let gets = c.lock-pass.ensures.gets in
+    let finds = subst (Finds g.V.Keeps c.args.pass c.args.key) (sym c.value_mut.ensures.value)
+    (finds_got g.V.Keeps c.args.pass c.lock-pass.result.0 c.args.key c.lock-pass.result.1 gets c.args.lot.now c.requires.key
+    c.lock-pass.ensures.shape) in
+    c.requires.callable c.value_mut.result (subst (g.V.Keeps.keeps c.args.key) (sym c.value_mut.ensures.value) gets.kept) finds
 
 pub unlock-pass-requires-clause-back : goal.unlock-pass-requires-clause-back
-unlock-pass-requires-clause-back g c κs within = search rules
+unlock-pass-requires-clause-back g c κs within =
+    let found = c.value_mut.result in
+    let left = record found { now = c.work-outcome.new.arg2 } in
+    let gets = c.lock-pass.ensures.gets in
+    let finds = subst (Finds g.V.Keeps c.args.pass c.args.key) (sym c.value_mut.ensures.value)
+    (finds_got g.V.Keeps c.args.pass c.lock-pass.result.0 c.args.key c.lock-pass.result.1 gets c.args.lot.now c.requires.key
+    c.lock-pass.ensures.shape) in
+    let kept = subst (g.V.Keeps.keeps c.args.key) (sym c.value_mut.ensures.value) gets.kept in
+    let may = subst (λ z. MayBecome g.V.Keeps c.args.key c.args.pass.thread z left.now) c.value_mut.ensures.value
+    (c.requires.keeps found c.work-outcome.result left kept finds c.work-outcome.ensures) in
+    may_go_back g.V.Keeps c.args.pass c.lock-pass.result.0 c.args.key c.lock-pass.result.1 left.now gets
+    (subst (λ k. g.V.Keeps.keeps k left.now) (sym gets.key_is) may.kept) may.grown may.others
