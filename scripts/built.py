@@ -12,6 +12,11 @@ TOP = os.path.dirname(os.path.dirname(os.path.realpath(__file__)))
 PROVED, QUICK = "proved", "quick"
 
 
+def programs():
+    """The names of the programs."""
+    return sorted(name for name in os.listdir(f"{TOP}/crates") if os.path.isfile(f"{TOP}/crates/{name}/src/main.rt"))
+
+
 def crates_below(name):
     """The crate of this name and the repository's crates that it stands on, each after those that it stands on itself."""
     with open(f"{TOP}/crates.txt") as file:
@@ -69,6 +74,7 @@ def is_built(name, kind, checksum):
 def note_built(name, kind, checksum):
     """Notes that the program that lies there was made from what has this checksum."""
     place = place_of(name, kind)
-    with open(f"{place}.new", "w") as file:
+    new = f"{place}.{os.getpid()}.new"
+    with open(new, "w") as file:
         file.write(checksum)
-    os.replace(f"{place}.new", f"{place}.made")
+    os.replace(new, f"{place}.made")

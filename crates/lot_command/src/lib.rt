@@ -25,5 +25,5 @@ mod script;
 pub use arguments::{texts_of, words};
 pub use failure::Failure;
 pub use numbers::number;
-pub use outcome::report;
+pub use outcome::{report, text_of};
 pub use script::{open_state, read_script};

@@ -1,13 +1,23 @@
 //! What is written of an outcome, and where.
-ghost use Rattle.std.specs.Prelude.{◌≤◌, OnErr};
+ghost use Rattle.std.specs.Prelude.{◌≡◌, ◌≤◌, IfOk, OnErr, string_bytes};
 
 use crate::failure::Failure;
 use arrayvec::ArrayString;
+use std::alloc::Global;
 use std::fmt::Write as _;
 use std::io::Write;
 
 /// Room for the longest text of a fault: some words and a number of 20 digits.
 const LONGEST_FAULT: usize = 48;
+
+/// The text as an outcome, as that of who asks for help; `NoMemory` where room for it is refused.
+pub fn text_of(alloc: Global, text: &str) -> Result<String, Failure>
+    ensures { IfOk result (λ told. string_bytes told ≡ text.now) }
+{
+    let mut told = String::new(alloc);
+    told.push_str(text)?;
+    Ok(told)
+}
 
 /// Writes the text to `out`, or the failure to `faults`, and answers the exit status, which is 0 only where the whole
 /// text was taken. Of a failure nothing is written to `out`.

@@ -4,7 +4,7 @@ use crate::count::{Counting, count};
 use crate::pool::{Pooling, pool};
 use crate::relay::{Relaying, relay};
 use crate::replay::replay;
-use lot_command::{Failure, number, report};
+use lot_command::{Failure, number, report, text_of};
 use lot_core::{MAX_KEYS, MAX_THREADS};
 use std::alloc::Global;
 use std::io::{Read, Write};
@@ -17,8 +17,20 @@ const MAX_ROUNDS: u64 = 10_000;
 /// The greatest number of permits.
 const MAX_PERMITS: u64 = 9_999;
 
+/// What `--help` prints.
+const USAGE: &str = "\
+lotstress count THREADS LOCKS ROUNDS SEED     threads count under locks; what each lock counted, and the sum
+lotstress relay THREADS ROUNDS SEED           producers and consumers at a buffer; what was put and taken
+lotstress pool THREADS PERMITS ROUNDS SEED    threads share permits; the rounds, and whether too many were in
+lotstress replay FILE                         a script of the model; the state that it leaves
+
+THREADS 1 to 256 (of relay 2 to 256), LOCKS 1 to 1024, PERMITS 1 to 9999, ROUNDS 0 to 10000, SEED below 2^64.
+Status: 0; 1 for words or a file that can't be taken; 2 where the model refuses an event; 3 for want of memory.
+";
+
 /// Runs the command that the words spell, and answers its exit status: 0, or that of the failure whose text is written
 /// to `faults`. Nothing is written to `out` then. `file` is the file that `replay` names, where it could be opened.
+/// The one word `--help` asks what the commands are.
 pub fn run_command<T: Threads + Wait + Sync, F: Read + Drop, W: Write, E: Write>(
     rt: &T,
     alloc: Global,
@@ -27,11 +39,11 @@ pub fn run_command<T: Threads + Wait + Sync, F: Read + Drop, W: Write, E: Write>
     out: &mut W,
     faults: &mut E,
 ) -> u8 {
-    let outcome = text_of(rt, alloc, words, file);
+    let outcome = answer(rt, alloc, words, file);
     report(outcome, out, faults)
 }
 
-fn text_of<T: Threads + Wait + Sync, F: Read + Drop>(
+fn answer<T: Threads + Wait + Sync, F: Read + Drop>(
     rt: &T,
     alloc: Global,
     words: &[&str],
@@ -44,10 +56,13 @@ fn text_of<T: Threads + Wait + Sync, F: Read + Drop>(
         };
     }
     drop(file);
-    text_of_run(rt, alloc, words)
+    if let ["--help"] = words {
+        return text_of(alloc, USAGE);
+    }
+    run(rt, alloc, words)
 }
 
-fn text_of_run<T: Threads + Wait + Sync>(
+fn run<T: Threads + Wait + Sync>(
     rt: &T,
     alloc: Global,
     words: &[&str],

@@ -1,6 +1,6 @@
 //! The program's texts and statuses, and workers that are held at a gate.
 
-use crate::asserts::{equal, equal_in, same_status, same_text};
+use crate::asserts::{equal, equal_in, failed, is_so, same_status, same_text};
 use lot_load::count::{Counting, count_with};
 use lot_load::gate::{Gate, Point};
 use lot_load::relay::{Relaying, relay_with};
@@ -331,7 +331,7 @@ fn permits_are_replayed(rt: HostRuntime) {
     check_replays(&rt, rt.alloc(), &PERMITS);
 }
 
-static WRONG_WORDS: [(&str, &[&str]); 25] = [
+static WRONG_WORDS: [(&str, &[&str]); 28] = [
     ("no words", &[]),
     ("unknown command", &["sleep", "1"]),
     ("replay without a file", &["replay"]),
@@ -366,11 +366,39 @@ static WRONG_WORDS: [(&str, &[&str]); 25] = [
         "relay with a seed of 2^64",
         &["relay", "2", "3", "18446744073709551616"],
     ),
+    ("help with a word too many", &["--help", "count"]),
+    ("help of one command", &["count", "--help"]),
+    ("help without its dashes", &["help"]),
 ];
 
 #[test]
 fn wrong_words_are_refused(rt: HostRuntime) {
     check_refusals(&rt, rt.alloc(), &WRONG_WORDS);
+}
+
+/// The commands, as one of the lines that help prints begins.
+static COMMANDS: [&str; 4] = [
+    "lotstress count THREADS LOCKS ROUNDS SEED ",
+    "lotstress relay THREADS ROUNDS SEED ",
+    "lotstress pool THREADS PERMITS ROUNDS SEED ",
+    "lotstress replay FILE ",
+];
+
+#[test]
+fn help_tells_each_command(rt: HostRuntime) {
+    let file: Option<&[u8]> = None;
+    let (mut out, mut faults) = (Vec::new(rt.alloc()), Vec::new(rt.alloc()));
+    let words = ["--help"];
+    let status = run_command(&rt, rt.alloc(), &words, file, &mut out, &mut faults);
+    same_status(&rt, status, 0, "help");
+    same_text(&rt, faults.as_slice(), "", "help");
+    let Ok(text) = str::from_utf8(out.as_slice()) else {
+        failed(&rt, "help is no text")
+    };
+    for command in &COMMANDS {
+        let is_told = text.lines().any(|line| line.starts_with(*command));
+        is_so(&rt, is_told, command);
+    }
 }
 
 static COUNTS: [(&str, &[&str], &str); 7] = [

@@ -68,7 +68,7 @@ fn wrong_scripts_are_refused(rt: HostRuntime) {
 #[test]
 fn wrong_words_are_refused(rt: HostRuntime) {
     let fault = ("", "bad command line\n", 1);
-    let wrong: [&[&str]; 3] = [&[], &["a", "b"], &["replay", "a", "b"]];
+    let wrong: [&[&str]; 4] = [&[], &["a", "b"], &["replay", "a", "b"], &["--help", "a"]];
     for words in wrong {
         check(&rt, rt.alloc(), "wrong words", words, None, fault);
     }

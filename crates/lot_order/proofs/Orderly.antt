@@ -1,0 +1,274 @@
+-- Each event that keeps the order leaves it kept.
+use Rattle.std.proofs.Common.{◌≡◌, ◌≢◌, ◌⊎◌, ◌+◌, ◌-◌, ◌<◌, ◌≤◌, ◌++◌, ℕ, Bool, true, false, List, [], ◌∷◌, refl, subst, sym, ap, ◌∙◌, arith, inl, inr}
+use Rattle.std.specs.Prelude.{◌==◌, ◌&&◌, if◌then◌else◌}
+use Rattle.std.proofs.lemmas.Bool.{cases_eq, eqb-true}
+use Rattle.lot_events.specs.declared.events.Point.{Point}
+use Rattle.lot_events.specs.declared.events.Point.TheVariants.{Calm, Wants, Bed, Rest, Sweeps, Seeks}
+use Rattle.lot_events.specs.declared.events.Event.{Event}
+use Rattle.lot_events.specs.declared.events.Event.TheVariants.{Try, Take, Mark, Park, Free, Pass, Enlist, Look, Call, Lower, Sweep, SemTake}
+use Rattle.lot_events.specs.declared.events.Event.TheVariants.{SemMark, SemPark, SemFree, SemPass, SemClear}
+use Rattle.lot_core.specs.World.{World, Locks, Semaphores, put, opening_with}
+use Rattle.lot_core.specs.Steps.{MayLetGo, Allowed, Run, after, after_all, got, queued, freed, passed_line, handed, let_go, released}
+use Rattle.lot_core.specs.Steps.{none_left, permit_taken, permit_given, permit_freed, permit_passed, seeker_queued, seeker_woken, with_sem_line}
+use Rattle.lot_core.specs.Steps.{with_sem_parked}
+use Rattle.lot_core.proofs.Put.{by_bit, by_line, at_all, put_same, put_other}
+use Rattle.lot_order.specs.Order.{Held, held_by, HasKey, HasBeside, InOrder, key_count, IsOrdered, KeepsOrder, OrderlyRun}
+use Rattle.lot_order.proofs.Circles.{ordered_at}
+
+-- what the thread has by these locks and semaphores
+abbrev pub rights : Locks → Semaphores → ℕ → Held
+rights a z t = record { locks = λ l. a.has l t; permits = λ k. z.out k t }
+
+-- who has h' has nothing that is not in h
+pub record IsWithin (h' h : Held) : Type 0 where
+  pub locks : (j : ℕ) → h'.locks j ≡ true → h.locks j ≡ true
+  pub permits : (j : ℕ) → 1 ≤ h'.permits j → 1 ≤ h.permits j
+
+pub within_itself : (h : Held) → IsWithin h h
+within_itself h = record { locks = λ j e. e; permits = λ j e. e }
+
+pub fewer_keys : (h' h : Held) → IsWithin h' h → (j : ℕ) → HasKey h' j → HasKey h j
+fewer_keys h' h within j (inl lock) = inl (within.locks j lock)
+fewer_keys h' h within j (inr permit) = inr (within.permits j permit)
+
+pub fewer_beside : (h' h : Held) (l : ℕ) → IsWithin h' h → (j : ℕ) → HasBeside h' l j → HasBeside h l j
+fewer_beside h' h l within j (inl (lock, ne)) = inl (within.locks j lock, ne)
+fewer_beside h' h l within j (inr permit) = inr (within.permits j permit)
+
+-- with fewer keys a thread stays in order
+pub fewer : (level : ℕ → ℕ) (keys : ℕ) (permits : ℕ → ℕ) (h' h : Held) (p : Point) → IsWithin h' h
+    → InOrder level keys permits h p → InOrder level keys permits h' p
+fewer level keys permits h' h Calm within o = tt
+fewer level keys permits h' h (Wants l) within o = (o.0, λ j has. o.1 j (fewer_keys h' h within j has))
+fewer level keys permits h' h (Bed c l) within o =
+    (o.0, (λ j has. o.1 j (fewer_beside h' h l within j has)), (λ j has. o.2 j (fewer_beside h' h l within j has)))
+fewer level keys permits h' h (Rest c l) within o =
+    (o.0, (λ j has. o.1 j (fewer_keys h' h within j has)), (λ j has. o.2 j (fewer_keys h' h within j has)))
+fewer level keys permits h' h (Sweeps c) within o = tt
+fewer level keys permits h' h (Seeks k) within o = (o.0, o.1, λ j has. o.2 j (fewer_keys h' h within j has))
+
+-- the state's threads are in order with these rights and points
+abbrev pub AreOrdered : (ℕ → ℕ) → World → (ℕ → Held) → (ℕ → Point) → Type 0
+AreOrdered level s has point = (v : ℕ) → InOrder level (key_count s) s.permits (has v) (point v)
+
+-- all but t have no more than before
+abbrev pub OthersWithin : World → (ℕ → Held) → ℕ → Type 0
+OthersWithin s has t = (v : ℕ) → v ≢ t → IsWithin (has v) (held_by s v)
+
+-- t goes to p, and is in order there
+pub moved : (level : ℕ → ℕ) (s : World) (has : ℕ → Held) (t : ℕ) (p : Point) → IsOrdered level s → OthersWithin s has t
+    → InOrder level (key_count s) s.permits (has t) p → AreOrdered level s has (put s.point t p)
+moved level s has t p ordered others own =
+    at_all (λ v b. InOrder level (key_count s) s.permits (has v) (if b then p else s.point v)) t own
+    (λ v ne. fewer level (key_count s) s.permits (has v) (held_by s v) (s.point v) (others v ne) (ordered v))
+
+-- t stays where it is, and is in order there
+pub stayed : (level : ℕ → ℕ) (s : World) (has : ℕ → Held) (t : ℕ) → IsOrdered level s → OthersWithin s has t
+    → InOrder level (key_count s) s.permits (has t) (s.point t) → AreOrdered level s has s.point
+stayed level s has t ordered others own v = elim (cases_eq v t) [
+  | inl same ↦ subst (λ w. InOrder level (key_count s) s.permits (has w) (s.point w)) (sym same) own
+  | inr ne ↦ fewer level (key_count s) s.permits (has v) (held_by s v) (s.point v) (others v ne) (ordered v)
+]
+
+-- a calm thread is in order with whatever it has
+pub calm_stayed : (level : ℕ → ℕ) (s : World) (has : ℕ → Held) (t : ℕ) → IsOrdered level s → OthersWithin s has t → s.point t ≡ Calm
+    → AreOrdered level s has s.point
+calm_stayed level s has t ordered others calm =
+    stayed level s has t ordered others
+    (subst (λ p. InOrder level (key_count s) s.permits (has t) p) (sym calm) tt)
+
+-- Locks.
+
+-- one thread's part of one lock changes: the others have what they had
+pub lock_others : (s : World) (l t : ℕ) (b : Bool) →
+    OthersWithin s (rights (record s.locks { has = put s.locks.has l (put (s.locks.has l) t b) }) s.sems) t
+lock_others s l t b v ne = record {
+  locks = λ j. at_all (λ i e. (if e then put (s.locks.has l) t b else s.locks.has i) v ≡ true → s.locks.has i v ≡ true) l
+      (λ has. sym (put_other (s.locks.has l) t b v ne) ∙ has) (λ i ne has. has) j;
+  permits = λ j e. e;
+}
+
+pub try_ordered : (level : ℕ → ℕ) (s : World) (t l : ℕ) → IsOrdered level s → s.point t ≡ Calm → IsOrdered level (after s (Try t l))
+try_ordered level s t l ordered calm =
+    by_bit (λ b. AreOrdered level s
+    (rights (if b then s.locks else record s.locks { held = put s.locks.held l true; has = put s.locks.has l (put (s.locks.has l) t true) }) s.sems)
+    s.point) (s.locks.held l)
+    (λ held. ordered)
+    (λ free. calm_stayed level s _ t ordered (lock_others s l t true) calm)
+
+pub take_ordered : (level : ℕ → ℕ) (s : World) (t l : ℕ) → IsOrdered level s → l < s.lock_count → KeepsOrder level s (Take t l)
+    → IsOrdered level (after s (Take t l))
+take_ordered level s t l ordered lock keeps =
+    by_bit (λ b. AreOrdered level s
+    (rights (if b then s.locks else record s.locks { held = put s.locks.held l true; has = put s.locks.has l (put (s.locks.has l) t true) }) s.sems)
+    (put s.point t (if b then Wants l else Calm))) (s.locks.held l)
+    (λ held. moved level s (held_by s) t (Wants l) ordered (λ v ne. within_itself (held_by s v)) (omega (arith, lock), keeps held))
+    (λ free. moved level s _ t Calm ordered (lock_others s l t true) tt)
+
+-- t has all that it had but lock l
+pub own_left : (s : World) (l t : ℕ) (has : ℕ → ℕ → Bool) → has l t ≡ false → ((j : ℕ) → j ≢ l → has j t ≡ s.locks.has j t)
+    → (j : ℕ) → has j t ≡ true → (s.locks.has j t ≡ true) × (j ≢ l)
+own_left s l t has lost same j is = elim (cases_eq j l) [
+  | inl here ↦ let it : has l t ≡ true = subst (λ i. has i t ≡ true) here is in absurd (cc)
+  | inr ne ↦ (sym (same j ne) ∙ is, ne)
+]
+
+-- who lets l go from a bed rests, with what lay beside it
+pub left_bed : (level : ℕ → ℕ) (s : World) (c l t : ℕ) (h : Held) → IsOrdered level s → s.point t ≡ Bed c l
+    → ((j : ℕ) → HasKey h j → HasBeside (held_by s t) l j) → InOrder level (key_count s) s.permits h (Rest c l)
+left_bed level s c l t h ordered bed beside =
+    let o = ordered_at level s t (Bed c l) ordered bed in
+    (o.0, (λ j has. o.1 j (beside j has)), (λ j has. o.2 j (beside j has)))
+
+-- t, without l, goes where letting it go leads
+pub let_go_own : (level : ℕ → ℕ) (s : World) (l t : ℕ) (has : ℕ → ℕ → Bool) → IsOrdered level s → MayLetGo s t l → has l t ≡ false
+    → ((j : ℕ) → j ≢ l → has j t ≡ s.locks.has j t)
+    → InOrder level (key_count s) s.permits (record { locks = λ j. has j t; permits = λ k. s.sems.out k t }) (released (s.point t))
+let_go_own level s l t has ordered (inl calm) lost same =
+    subst (λ p. InOrder level (key_count s) s.permits (record { locks = λ j. has j t; permits = λ k. s.sems.out k t }) (released p)) (sym calm) tt
+let_go_own level s l t has ordered (inr (c, bed)) lost same =
+    subst (λ p. InOrder level (key_count s) s.permits (record { locks = λ j. has j t; permits = λ k. s.sems.out k t }) (released p)) (sym bed)
+    (left_bed level s c l t _ ordered bed (λ j key. elim key [
+      | inl lock ↦ inl (own_left s l t has lost same j lock)
+      | inr permit ↦ inr permit
+    ]))
+
+-- t lets l go to nobody
+pub freed_ordered : (level : ℕ → ℕ) (s : World) (l t : ℕ) → IsOrdered level s → MayLetGo s t l
+    → AreOrdered level s (rights (record s.locks { has = put s.locks.has l (put (s.locks.has l) t false) }) s.sems) (let_go s.point t)
+freed_ordered level s l t ordered may =
+    moved level s _ t (released (s.point t)) ordered (lock_others s l t false)
+    (let_go_own level s l t (put s.locks.has l (put (s.locks.has l) t false)) ordered may
+    (ap (λ f. f t) (put_same s.locks.has l (put (s.locks.has l) t false)) ∙ put_same (s.locks.has l) t false)
+    (λ j ne. ap (λ f. f t) (put_other s.locks.has l (put (s.locks.has l) t false) j ne)))
+
+pub free_ordered : (level : ℕ → ℕ) (s : World) (t l : ℕ) → IsOrdered level s → MayLetGo s t l → IsOrdered level (after s (Free t l))
+free_ordered level s t l ordered may =
+    by_bit (λ b. AreOrdered level s
+    (rights (if b then s.locks else record s.locks { held = put s.locks.held l false; has = put s.locks.has l (put (s.locks.has l) t false) }) s.sems)
+    (if b then s.point else let_go s.point t)) (s.locks.parked l)
+    (λ parked. ordered)
+    (λ unparked. freed_ordered level s l t ordered may)
+
+-- t hands l to u, who is calm then
+pub handed_ordered : (level : ℕ → ℕ) (s : World) (t l u : ℕ) → IsOrdered level s → MayLetGo s t l
+    → AreOrdered level s (rights (record s.locks { has = put s.locks.has l (put (put (s.locks.has l) t false) u true) }) s.sems)
+    (put (let_go s.point t) u Calm)
+handed_ordered level s t l u ordered may =
+    at_all (λ v b. InOrder level (key_count s) s.permits
+    (rights (record s.locks { has = put s.locks.has l (put (put (s.locks.has l) t false) u true) }) s.sems v)
+    (if b then Calm else let_go s.point t v)) u tt
+    (λ v ne. fewer level (key_count s) s.permits _
+    (rights (record s.locks { has = put s.locks.has l (put (s.locks.has l) t false) }) s.sems v) (let_go s.point t v)
+    (record {
+      locks = λ j. at_all (λ i e. (if e then put (put (s.locks.has l) t false) u true else s.locks.has i) v ≡ true
+          → (if e then put (s.locks.has l) t false else s.locks.has i) v ≡ true) l
+          (λ has. sym (put_other (put (s.locks.has l) t false) u true v ne) ∙ has) (λ i ne has. has) j;
+      permits = λ j e. e;
+    })
+    (freed_ordered level s l t ordered may v))
+
+pub pass_ordered : (level : ℕ → ℕ) (s : World) (t l : ℕ) (fair more : Bool) → IsOrdered level s → MayLetGo s t l
+    → IsOrdered level (after s (Pass t l fair more))
+pass_ordered level s t l true more ordered may =
+    by_line (λ xs. AreOrdered level s (rights (passed_line s.locks t l true more xs) s.sems) (handed (let_go s.point t) xs)) (s.locks.line l)
+    (λ none. freed_ordered level s l t ordered may)
+    (λ u rest is. handed_ordered level s t l u ordered may)
+pass_ordered level s t l false more ordered may =
+    by_line (λ xs. AreOrdered level s (rights (passed_line s.locks t l false more xs) s.sems) (let_go s.point t)) (s.locks.line l)
+    (λ none. freed_ordered level s l t ordered may)
+    (λ u rest is. freed_ordered level s l t ordered may)
+
+pub park_ordered : (level : ℕ → ℕ) (s : World) (t l : ℕ) → IsOrdered level s → IsOrdered level (after s (Park t l))
+park_ordered level s t l ordered =
+    by_bit (λ b. AreOrdered level s
+    (rights (if b then record s.locks { line = put s.locks.line l (s.locks.line l ++ t ∷ []) } else s.locks) s.sems) s.point) (s.locks.held l && s.locks.parked l)
+    (λ both. ordered) (λ not_both. ordered)
+
+-- Semaphores.
+
+-- one thread's permits of one semaphore change: the others have what they had
+pub permit_others : (s : World) (z : Semaphores) (k t n : ℕ) → z.out ≡ put s.sems.out k (put (s.sems.out k) t n)
+    → OthersWithin s (rights s.locks z) t
+permit_others s z k t n is v ne = record {
+  locks = λ j e. e;
+  permits = λ j e.
+      at_all (λ i b. 1 ≤ (if b then put (s.sems.out k) t n else s.sems.out i) v → 1 ≤ s.sems.out i v) k
+      (λ has. subst (λ m. 1 ≤ m) (put_other (s.sems.out k) t n v ne) has) (λ i ne has. has) j
+      (subst (λ f. 1 ≤ f j v) is e);
+}
+
+-- t takes a permit that is left
+abbrev pub with_permit : Semaphores → ℕ → ℕ → Semaphores
+with_permit z t k = record z { left = put z.left k (z.left k - 1); out = put z.out k (put (z.out k) t (z.out k t + 1)) }
+
+pub sem_take_ordered : (level : ℕ → ℕ) (s : World) (t k : ℕ) → IsOrdered level s → k < key_count s → KeepsOrder level s (SemTake t k)
+    → IsOrdered level (after s (SemTake t k))
+sem_take_ordered level s t k ordered key keeps =
+    by_bit (λ b. AreOrdered level s (rights s.locks (if b then s.sems else with_permit s.sems t k))
+    (put s.point t (if b then Seeks k else Calm))) (none_left s.sems k)
+    (λ none. let asks = keeps (eqb-true (s.sems.left k) 0 none) in
+    moved level s (held_by s) t (Seeks k) ordered (λ v ne. within_itself (held_by s v)) (key, asks.0, asks.1))
+    (λ some. moved level s (rights s.locks (with_permit s.sems t k)) t Calm ordered
+    (permit_others s (with_permit s.sems t k) k t (s.sems.out k t + 1) refl) tt)
+
+-- a calm thread gives a permit back
+pub given_ordered : (level : ℕ → ℕ) (s : World) (z : Semaphores) (t k : ℕ) → IsOrdered level s → s.point t ≡ Calm
+    → z.out ≡ put s.sems.out k (put (s.sems.out k) t (s.sems.out k t - 1)) → AreOrdered level s (rights s.locks z) s.point
+given_ordered level s z t k ordered calm is = calm_stayed level s _ t ordered (permit_others s z k t _ is) calm
+
+pub sem_free_ordered : (level : ℕ → ℕ) (s : World) (t k : ℕ) → IsOrdered level s → s.point t ≡ Calm → IsOrdered level (after s (SemFree t k))
+sem_free_ordered level s t k ordered calm =
+    by_bit (λ b. AreOrdered level s (rights s.locks (if b then s.sems else permit_given s.sems t k)) s.point) (s.sems.parked k)
+    (λ parked. ordered)
+    (λ unparked. given_ordered level s (permit_given s.sems t k) t k ordered calm refl)
+
+pub sem_pass_ordered : (level : ℕ → ℕ) (s : World) (t k : ℕ) (more : Bool) → IsOrdered level s → s.point t ≡ Calm
+    → IsOrdered level (after s (SemPass t k more))
+sem_pass_ordered level s t k more ordered calm =
+    by_line (λ xs. AreOrdered level s (rights s.locks (seeker_woken (permit_given s.sems t k) k more xs)) s.point) (s.sems.line k)
+    (λ none. given_ordered level s (permit_given s.sems t k) t k ordered calm refl)
+    (λ u rest is. given_ordered level s (seeker_woken (permit_given s.sems t k) k more (u ∷ rest)) t k ordered calm refl)
+
+pub sem_park_ordered : (level : ℕ → ℕ) (s : World) (t k : ℕ) → IsOrdered level s → IsOrdered level (after s (SemPark t k))
+sem_park_ordered level s t k ordered =
+    by_bit (λ b. AreOrdered level s (rights s.locks (if b then with_sem_line s.sems k (s.sems.line k ++ t ∷ []) else s.sems)) s.point)
+    (none_left s.sems k && s.sems.parked k)
+    (λ both. ordered) (λ not_both. ordered)
+
+-- Any event, and runs.
+
+-- t goes to a point, and nobody's rights change
+pub went_ordered : (level : ℕ → ℕ) (s : World) (t : ℕ) (p : Point) → IsOrdered level s
+    → InOrder level (key_count s) s.permits (held_by s t) p → AreOrdered level s (held_by s) (put s.point t p)
+went_ordered level s t p ordered own = moved level s (held_by s) t p ordered (λ v ne. within_itself (held_by s v)) own
+
+pub event_ordered : (level : ℕ → ℕ) (s : World) (e : Event) → IsOrdered level s → Allowed s e → KeepsOrder level s e
+    → IsOrdered level (after s e)
+event_ordered level s (Try t l) ordered ok keeps = try_ordered level s t l ordered ok.2
+event_ordered level s (Take t l) ordered ok keeps = take_ordered level s t l ordered ok.1 keeps
+event_ordered level s (Mark t l) ordered ok keeps = ordered
+event_ordered level s (Park t l) ordered ok keeps = park_ordered level s t l ordered
+event_ordered level s (Free t l) ordered ok keeps = free_ordered level s t l ordered ok.3
+event_ordered level s (Pass t l fair more) ordered ok keeps = pass_ordered level s t l fair more ordered ok.4
+event_ordered level s (Enlist t c l) ordered ok keeps =
+    let lock = ok.2 in
+    went_ordered level s t (Bed c l) ordered (omega (arith, lock), keeps.0, keeps.1)
+event_ordered level s (Look t c) ordered ok keeps = ordered
+event_ordered level s (Call t c n more) ordered ok keeps = ordered
+event_ordered level s (Lower t c) ordered ok keeps = went_ordered level s t (Sweeps c) ordered tt
+event_ordered level s (Sweep t c) ordered ok keeps = went_ordered level s t Calm ordered tt
+event_ordered level s (SemTake t k) ordered ok keeps =
+    sem_take_ordered level s t k ordered ok.1.1 keeps
+event_ordered level s (SemMark t k) ordered ok keeps = ordered
+event_ordered level s (SemPark t k) ordered ok keeps = sem_park_ordered level s t k ordered
+event_ordered level s (SemFree t k) ordered ok keeps = sem_free_ordered level s t k ordered ok.2
+event_ordered level s (SemPass t k more) ordered ok keeps = sem_pass_ordered level s t k more ordered ok.2
+event_ordered level s (SemClear t k) ordered ok keeps = ordered
+
+pub run_ordered : (level : ℕ → ℕ) (s : World) (events : List Event) → IsOrdered level s → OrderlyRun level s events
+    → Run s events × IsOrdered level (after_all s events)
+run_ordered level s [] ordered run = (tt, ordered)
+run_ordered level s (e ∷ events) ordered run =
+    let rest = run_ordered level (after s e) events (event_ordered level s e ordered run.0 run.1) run.2 in
+    ((run.0, rest.0), rest.1)

@@ -1,0 +1,13 @@
+//! No circle of waiting: what keys in order are worth, as laws of the model alone.
+//!
+//! Each key has a level. Whoever is to wait for a lock, for a permit, or for a notification (beside the lock that it
+//! waits with) has only keys of lower levels (`KeepsOrder`). Then no chain of threads, of which each needs what the
+//! next has, leads back to its start, and while some thread needs a key some thread goes on. It stands on `lot_core`.
+//!
+//! Read `specs/Order`, then `specs/Waiting`. Lock levels are those of Chalice (Leino, Müller, Smans, ESOP 2010); what
+//! a checker of a running kernel finds once it has happened (lockdep) is here an invariant of each state.
+#![tactic(auto)]
+
+pub mod laws;
+
+pub use laws::{ordered_states_go_on, orderly_runs_go_on};
