@@ -35,6 +35,18 @@ module _ {V Part : Type 0} (rule : CallersRule V Part) where
     pub grown : (key : ℕ) (u v : V) → slice_get values key ≡ Some v → HasSeen p key u → rule.grows u v
     pub mine : (key : ℕ) (u v : V) → slice_get values key ≡ Some v → HasSeen p key u → rule.part p.thread u ≡ rule.part p.thread v
 
+  -- the value goes on from what the pass has seen of the key's, and has the pass's own part of it, unless the pass owns the lock
+  pub record GoesOnFrom (pass : PassView V) (key : ℕ) (value : V) : Type 0 where
+    pub grown : (u : V) → HasSeen pass key u → rule.grows u value
+    pub mine : (¬ Owns pass key) → (u : V) → HasSeen pass key u → rule.part pass.thread u ≡ rule.part pass.thread value
+
+  -- what two passes both know of the key's value: there is one that keeps the rule, and goes on from what each has seen
+  pub record KnowBoth (key : ℕ) (one other : PassView V) : Type 0 where
+    pub value : V
+    pub kept : rule.keeps key value
+    pub from_one : GoesOnFrom one key value
+    pub from_other : GoesOnFrom other key value
+
 -- each value is one that some pass saw last under its lock
 abbrev pub AreSeen : {V : Type 0} → List V → List (PassView V) → Type 0
 AreSeen {V} values passes = (key : ℕ) (v : V) → slice_get values key ≡ Some v → Any (λ (p : PassView V). HasSeen p key v) passes

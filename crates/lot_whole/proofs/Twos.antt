@@ -1,9 +1,10 @@
 -- What two passes tell: what a kind tells of two, the lot tells.
-use Rattle.std.proofs.Common.{ℕ, ◌+◌, ◌≤◌, List, get_or, arith}
+use Rattle.std.proofs.Common.{ℕ, ◌+◌, ◌<◌, ◌≤◌, List, get_or, arith, subst}
 use Rattle.lot_rights.specs.Shown.{PassShown}
 use Rattle.lot_rights.specs.Steps.{TellsOfTwo}
 use Rattle.lot_words.specs.CallersRule.{CallersRule}
 use Rattle.lot_words.specs.World.{Holds}
+use Rattle.lot_words.specs.Values.{SeenOk}
 use Rattle.lot_words.proofs.Moving as locks
 use Rattle.lot_sems.proofs.Headlines.{two_of}
 use Rattle.lot_whole.specs.declared.views.LotPassView.{LotPassView}
@@ -11,12 +12,14 @@ use Rattle.lot_whole.specs.Family.{Which, lock, sem, LotSize, lock_size, homes_i
 use Rattle.lot_whole.specs.Lot.{lot_meaning}
 use Rattle.lot_whole.specs.Lifts.{part_pass}
 use Rattle.lot_whole.specs.Closing.{permits_of}
+use Rattle.lot_whole.specs.Both.{KnowBoth}
 use Rattle.lot_whole.proofs.Tells.{pass_ok}
 
--- no lock is held by both, and they have together no more permits than there are
-abbrev pub AreApart : {V : Type 0} → LotSize → PassShown (LotPassView V) → PassShown (LotPassView V) → Type 0
-AreApart z p q = ((l : ℕ) → Holds p.own.locks l → ¬ Holds q.own.locks l)
+-- no lock is held by both, they have together no more permits than there are, and of each lock they know of one value
+abbrev pub AreApart : {V Part : Type 0} → CallersRule V Part → LotSize → PassShown (LotPassView V) → PassShown (LotPassView V) → Type 0
+AreApart rule z p q = ((l : ℕ) → Holds p.own.locks l → ¬ Holds q.own.locks l)
     × ((k : ℕ) → get_or p.own.sems.out k 0 + get_or q.own.sems.out k 0 ≤ permits_of z k)
+    × ((l : ℕ) → l < z.locks → KnowBoth rule l p.thread q.thread p.own.locks q.own.locks)
 
 module _ {V Part : Type 0} (rule : CallersRule V Part) (z : LotSize) (xs : List V) where
   tells_of_two : (j : Which) (p q : PassShown (LotPassView V)) (fact : Type 0)
@@ -34,10 +37,23 @@ module _ {V Part : Type 0} (rule : CallersRule V Part) (z : LotSize) (xs : List 
     two_of z.threads (w.part.sems.out k) p.thread q.thread ne first.near second.near,
   )
 
-  pub apart : (p q : PassShown (LotPassView V)) → TellsOfTwo (lot_meaning rule z xs) p q (AreApart z p q)
+  know_both : (p q : PassShown (LotPassView V)) → TellsOfTwo (meaning_of rule z xs lock) (part_pass lock p) (part_pass lock q)
+      ((l : ℕ) → l < z.locks → KnowBoth rule l p.thread q.thread p.own.locks q.own.locks)
+  know_both p q w ws hs ok first second ne l near =
+      let each = ok.lawful.each l near in
+      record {
+        value = ok.lawful.value l;
+        kept = each.kept;
+        first = subst (λ o. SeenOk rule l p.thread o (ok.lawful.value l)) first.1 (each.seen p.thread first.0);
+        second = subst (λ o. SeenOk rule l q.thread o (ok.lawful.value l)) second.1 (each.seen q.thread second.0);
+      }
+
+  pub apart : (p q : PassShown (LotPassView V)) → TellsOfTwo (lot_meaning rule z xs) p q (AreApart rule z p q)
   apart p q w ws hs ok fit fits ne = (
     tells_of_two lock p q ((l : ℕ) → Holds p.own.locks l → ¬ Holds q.own.locks l)
         (locks.apart rule (lock_size z) xs (part_pass lock p) (part_pass lock q)) w ws hs ok fit fits ne,
     tells_of_two sem p q ((k : ℕ) → get_or p.own.sems.out k 0 + get_or q.own.sems.out k 0 ≤ permits_of z k)
         (sems_apart p q) w ws hs ok fit fits ne,
+    tells_of_two lock p q ((l : ℕ) → l < z.locks → KnowBoth rule l p.thread q.thread p.own.locks q.own.locks)
+        (know_both p q) w ws hs ok fit fits ne,
   )

@@ -8,6 +8,7 @@ pub mod Lifts
 pub mod Standing
 pub mod Calls
 pub mod Headline
+pub mod Both
 pub mod Closing
 pub mod Order
 -- a part of these

@@ -4,6 +4,7 @@ ghost use Rattle.std.specs.Prelude.{◌≡◌, ◌≢◌, ℕ, ◌+◌, ◌<◌,
 ghost use Rattle.lot_words.specs.World.{Holds};
 ghost use Rattle.lot_whole.specs.Family.{key_count};
 ghost use Rattle.lot_whole.specs.Closing.{permits_of};
+ghost use Rattle.lot_whole.specs.Both.{KnowBoth};
 
 use crate::kind::LotPass;
 use crate::words::LotWords;
@@ -13,7 +14,8 @@ use std::marker::Brand;
 
 impl<V: Keeps> LotWords<V> {
     /// Gives both passes back as they were. The point is what it proves: at most one pass holds a lock, the permits
-    /// that both have are together at most as many as at the opening, and a thread has one pass.
+    /// that both have are together at most as many as at the opening, a thread has one pass, and of each lock both know
+    /// of one value.
     pub fn check_apart(&self, first: LotPass<V>, second: LotPass<V>) -> (LotPass<V>, LotPass<V>)
         requires table { (first.table ≡ self.now.table) × (second.table ≡ self.now.table) }
         ensures same { (result.0 ≡ first) × (result.1 ≡ second) }
@@ -21,6 +23,7 @@ impl<V: Keeps> LotWords<V> {
         ensures locks { (l : ℕ) → Holds first.own.locks l → ¬ Holds second.own.locks l }
         ensures permits { (k : ℕ) → slice_index first.own.sems.out k + slice_index second.own.sems.out k ≤
             permits_of self.now.size k }
+        ensures values { (l : ℕ) → l < self.now.size.locks → KnowBoth V.Keeps l first.thread second.thread first.own.locks second.own.locks }
     {
         let words = &self.words;
         words.check_two::<Brand>(first, second)

@@ -1,4 +1,5 @@
-use Rattle.std.proofs.Common.{ℕ, ◌+◌, ◌≤◌, slice_index_or, subst}
+use Rattle.std.proofs.Common.{ℕ, ◌+◌, ◌<◌, ◌≤◌, slice_index_or, subst}
+use Rattle.lot_whole.specs.Both.{KnowBoth}
 use Rattle.lot_whole.specs.Closing.{permits_of}
 use Rattle.lot_whole.specs.Rule.{size_of}
 use Rattle.lot_whole.specs.Shown.{LotWordsShown}
@@ -20,3 +21,10 @@ returns-clause-permits g c =
     subst (λ (z : LotWordsShown g.row.V.Denot). (k : ℕ)
     → slice_index_or p.own.sems.out k 0 + slice_index_or q.own.sems.out k 0 ≤ permits_of z.size k) c.self.view_is
     c.check_two.ensures.apart.1.1
+
+pub returns-clause-values : goal.returns-clause-values
+returns-clause-values g c =
+    let p = c.args.first in
+    let q = c.args.second in
+    subst (λ (z : LotWordsShown g.row.V.Denot). (l : ℕ) → l < z.size.locks → KnowBoth g.V.Keeps l p.thread q.thread p.own.locks q.own.locks)
+    c.self.view_is c.check_two.ensures.apart.1.2
