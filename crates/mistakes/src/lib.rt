@@ -1,5 +1,5 @@
-//! What callers of a lot easily do wrong: five functions that are right, of which each edit of `must-fail/` makes one
-//! mistake. docs/MISTAKES.md shows both, with what the prover says. It stands on `lot_sync`.
+//! What callers of a lot easily do wrong: five functions that are right, of which each edit of `must-fail/` and
+//! `wrong-bodies/` makes one mistake. docs/MISTAKES.md shows both, with what the prover says. It stands on `lot_sync`.
 #![tactic(auto)]
 
 ghost use Rattle.std.specs.Prelude.{◌<◌};
