@@ -1,5 +1,6 @@
 pub mod Adding
 pub mod Freed
+pub mod Letters
 pub mod Resting
 pub mod Seeking
 pub mod Waking

@@ -1,10 +1,10 @@
 -- How a pass stands between two accesses of a lock's word, and what the calls of a lock make of it.
-use Rattle.std.specs.Prelude.{◌≡◌, ◌≢◌, ℕ, ◌<◌, ◌⊎◌, ◌++◌, Bool, false, List, [], ◌∷◌}
-use Rattle.std.specs.List.{All}
+use Rattle.std.specs.Prelude.{◌≡◌, ◌≢◌, ℕ, ◌<◌, ◌⊎◌, ◌++◌, Bool, true, false, List, [], ◌∷◌, Some}
+use Rattle.std.specs.List.{All, count_by}
 use Rattle.lot_events.specs.declared.events.Event.TheVariants.{Free, Mark}
 use Rattle.lot_events.specs.declared.events.Seen.TheVariants.{Bool as Saw, Done}
 use Rattle.lot_rights.specs.declared.views.Access.{Access}
-use Rattle.lot_rights.specs.declared.views.Access.TheVariants.{Makes, Finds}
+use Rattle.lot_rights.specs.declared.views.Access.TheVariants.{Makes, Finds, Collects}
 use Rattle.lot_words.specs.CallersRule.{CallersRule}
 use Rattle.lot_words.specs.World.{Holds, HoldsParked}
 use Rattle.lot_words.specs.Values.{IsIn, FoundOk}
@@ -15,6 +15,15 @@ use Rattle.lot_scheme.specs.Standing.{LotStanding, EndsWith, adding, wanting, li
 use Rattle.lot_scheme.specs.Words.{IsSeek, GetWord}
 use Rattle.lot_locks.specs.declared.released.Released.{Released}
 use Rattle.lot_locks.specs.Released.{FreeWord, Passed}
+
+-- a letter was found: so the thread had been queued in a line, and was taken from it
+abbrev pub is_letter : Access → Bool
+is_letter (Collects t (Some token)) = true
+is_letter _ = false
+
+-- how often these accesses found one
+abbrev pub letters_in : List Access → ℕ
+letters_in acts = count_by is_letter acts
 
 module _ {V : Type 0} where
   -- ---- what a release asks for

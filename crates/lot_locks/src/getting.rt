@@ -1,10 +1,10 @@
 //! Getting a lock, as WTF's `Lock::lock` does: one compare-exchange, a few yields, and then the line.
-ghost use Rattle.std.specs.Prelude.{◌≡◌, ◌≢◌, ◌<◌, true, false, [], ◌∷◌, MatchBool};
+ghost use Rattle.std.specs.Prelude.{◌≡◌, ◌≢◌, ◌<◌, ◌⊎◌, true, false, [], ◌∷◌, MatchBool};
 ghost use Rattle.lot_rights.specs.declared.views.Access.TheVariants.{Finds};
 ghost use Rattle.lot_whole.specs.Standing.{IsIdle, MayTake};
 ghost use Rattle.lot_scheme.specs.Standing.{adding};
 ghost use Rattle.lot_scheme.specs.Words.{TryWord};
-ghost use Rattle.lot_locks.specs.Standing.{IsAwakeFor, IsTryingFor, IsOwner, GetsBy, MissesBy, HasFound};
+ghost use Rattle.lot_locks.specs.Standing.{IsAwakeFor, IsTryingFor, IsOwner, GetsBy, MissesBy, HasFound, letters_in};
 
 use crate::steps::HANDOFF;
 use lot_park::{BeforeSleep, Look, ParkingLot, Scheme, Seeking, Sought, Token, get_or_park};
@@ -51,6 +51,7 @@ pub fn get_free<V: Keeps, N: LotName<V>>(
     ensures got { result.1 ≡ 0 → IsOwner V.Keeps pass key result.0 }
     ensures missed { result.1 ≢ 0 → IsAwakeFor N.locks pass key result.0 }
     ensures found { result.1 ≢ 0 → result.0 ≡ adding pass (Finds pass.thread key result.1 ∷ []) }
+    ensures awake { letters_in result.0.did ≡ letters_in pass.did }
 {
     scheme.take_free(pass, key)
 }
@@ -83,14 +84,15 @@ fn take<V: Keeps, N: LotName<V>>(
 ) -> (NamedPass<V, N>, bool)
     requires key { key < N.locks }
     requires may { MayTake pass.own key }
-    ensures { MatchBool result.1 (IsOwner V.Keeps pass key result.0) (IsTryingFor N.locks pass key result.0) }
+    ensures far { MatchBool result.1 (IsOwner V.Keeps pass key result.0) (IsTryingFor N.locks pass key result.0) }
+    ensures awake { letters_in result.0.did ≡ letters_in pass.did }
 {
     scheme.take(pass, key)
 }
 
 impl<V: Keeps + Send, N: LotName<V> + Send> Sought<Locks> for LotScheme<V, N> {
     ghost use Rattle.std.specs.Prelude.{◌<◌};
-    ghost use Rattle.lot_locks.specs.Standing.{IsAsleepFor, Seeks, HasMarked, FindsAnother};
+    ghost use Rattle.lot_locks.specs.Standing.{IsAsleepFor, Seeks, HasMarked, FindsAnother, letters_in};
 
     ghost has = { λ s key. key < N.locks };
 
@@ -101,6 +103,8 @@ impl<V: Keeps + Send, N: LotName<V> + Send> Sought<Locks> for LotScheme<V, N> {
     ghost changed = { FindsAnother };
 
     ghost marked = { HasMarked };
+
+    ghost woken = { λ p. letters_in p.did };
 
     fn look_at(&self, key: usize) -> Look {
         let bits = self.lock_bits(key);
@@ -158,7 +162,8 @@ impl<V: Keeps + Send, N: LotName<V> + Send> Sought<Locks> for LotScheme<V, N> {
     }
 }
 
-/// Gets the lock, waiting for it where somebody owns it. Before each sleep it does what `before` says.
+/// Gets the lock, waiting for it where somebody owns it. Before each sleep it does what `before` says: where the thread
+/// found a letter, that has run.
 #[tactic(auto, using(crate::proofs::Seeking::may_take, crate::proofs::Seeking::owner_on))]
 #[inline(always)]
 pub fn get<V: Keeps + Send, N: LotName<V> + Send, R: Wait, B: BeforeSleep>(
@@ -171,7 +176,8 @@ pub fn get<V: Keeps + Send, N: LotName<V> + Send, R: Wait, B: BeforeSleep>(
     requires key { (key < N.locks) × (key < parking.now.keys) }
     requires thread { pass.thread < parking.now.threads }
     requires may { MayTake pass.own key }
-    ensures { IsOwner V.Keeps pass key result }
+    ensures owner { IsOwner V.Keeps pass key result }
+    ensures ran { (letters_in result.did ≡ letters_in pass.did) ⊎ B.ran before.now }
 {
     let (pass, found) = get_free(parking.scheme(), pass, key);
     if found == UNHELD {
@@ -199,7 +205,8 @@ fn try_again<V: Keeps, N: LotName<V>>(
 ) -> (NamedPass<V, N>, bool)
     requires key { key < N.locks }
     requires may { MayTake pass.own key }
-    ensures { MatchBool result.1 (IsOwner V.Keeps pass key result.0) (IsAwakeFor N.locks pass key result.0) }
+    ensures far { MatchBool result.1 (IsOwner V.Keeps pass key result.0) (IsAwakeFor N.locks pass key result.0) }
+    ensures awake { letters_in result.0.did ≡ letters_in pass.did }
 {
     let mut pass = pass;
     for _ in 0..tries {
@@ -232,7 +239,8 @@ pub fn get_slowly<V: Keeps + Send, N: LotName<V> + Send, R: Wait, B: BeforeSleep
     requires thread { pass.thread < parking.now.threads }
     requires may { MayTake pass.own key }
     requires found { HasFound pass key found }
-    ensures { IsOwner V.Keeps pass key result }
+    ensures owner { IsOwner V.Keeps pass key result }
+    ensures ran { (letters_in result.did ≡ letters_in pass.did) ⊎ B.ran before.now }
 {
     let scheme = parking.scheme();
     let first = if found == HELD_AND_PARKED {

@@ -1,5 +1,6 @@
 //! Getting a lock, as WTF's `Lock::lock` does: one compare-exchange, a few yields, and then the line.
-ghost use Rattle.std.specs.Prelude.{◌≡◌, ◌<◌, MatchOption, is_some};
+ghost use Rattle.std.specs.Prelude.{◌≡◌, ◌<◌, ◌⊎◌, MatchOption, is_some};
+ghost use Rattle.lot_locks.specs.Standing.{letters_in};
 ghost use Rattle.lot_scheme.specs.Words.{TryWord, GetWord};
 ghost use Rattle.lot_sync.specs.Lot.{◌≈◌, Owns, HasShape};
 ghost use Rattle.lot_sync.specs.Words.{Adds};
@@ -62,7 +63,8 @@ impl<V: Keeps + Send, N: LotName<V> + Send> Lot<V, N> {
 
     /// `lock` with an action before each sleep, for a runtime that has to know that its thread will sleep:
     /// `lot.lock_after(rt, pass, key, &leave_the_processor)`. The thread is queued then and no bucket is locked; the
-    /// action must not park. Where the lock is got without a sleep it does not run.
+    /// action must not park. Where the lock is got without a sleep it does not run; where the call's word has a letter, by
+    /// which a sleep ended, it ran.
     #[inline(always)]
     pub fn lock_after<R: Wait, B: BeforeSleep>(
         &self,
@@ -76,6 +78,7 @@ impl<V: Keeps + Send, N: LotName<V> + Send> Lot<V, N> {
         ensures gets { Gets V.Keeps pass key result.1 result.0 }
         ensures made { Adds pass.made (GetWord pass.thread key) result.0.made }
         ensures shape { HasShape self.now result.0 }
+        ensures ran { (letters_in result.0.made ≡ letters_in pass.made) ⊎ B.ran before.now }
     {
         prove!(self.has_lock(key));
         let (right, tallies) = pass.apart();

@@ -39,8 +39,8 @@ impl<V: Keeps + Send, N: LotName<V> + Send> Lot<V, N> {
         self.wait_after(rt, pass, held, cond, moment, &AtOnce)
     }
 
-    /// `wait` with an action after the thread is queued on the condition, before its lock is let go; it must not park.
-    /// How the lock is got again is `lock`'s way, without it.
+    /// `wait` with an action after the thread is queued on the condition, before its lock is let go; it must not park. When
+    /// this returns it ran. How the lock is got again is `lock`'s way, without it.
     pub fn wait_after<R: Wait, B: BeforeSleep>(
         &self,
         rt: &R,
@@ -57,6 +57,7 @@ impl<V: Keeps + Send, N: LotName<V> + Send> Lot<V, N> {
         ensures gets { WaitsAndGets V.Keeps pass held cond result.1 result.0 }
         ensures made { Adds pass.made (WaitedWord pass.thread cond held.key moment.now) result.0.made }
         ensures shape { HasShape self.now result.0 }
+        ensures acted { B.ran before.now }
     {
         prove!(self.has_cond(cond));
         let key = held.key();

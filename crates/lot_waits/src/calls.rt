@@ -26,7 +26,7 @@ use std::sync::Wait;
 /// let go; the moment is that of this unlock.
 ///
 /// The lock is let go when the thread is in the line, so no notification is missed that comes after it. The action runs
-/// with no bucket locked, and must not park.
+/// before that, with no bucket locked, and must not park.
 pub fn wait<V: Keeps + Send, N: LotName<V> + Send, R: Wait, B: BeforeSleep>(
     rt: &R,
     parking: &ParkingLot<LotScheme<V, N>>,
@@ -46,6 +46,7 @@ pub fn wait<V: Keeps + Send, N: LotName<V> + Send, R: Wait, B: BeforeSleep>(
     ensures idle { IsIdle result.0.own }
     ensures counts { counts_in result.0 ≡ one_wait_more (counts_in pass) cond }
     ensures fits { IsFitting result.1 false moment.now }
+    ensures acted { B.ran before.now }
 {
     let (pass, released) = sleep_on(rt, parking, pass, cond, lock, moment, before);
     (get(rt, parking, pass, lock, &AtOnce), released)

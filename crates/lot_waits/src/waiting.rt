@@ -26,6 +26,7 @@ pub(crate) fn sleep_on<S: CondSteps, R: Wait, B: BeforeSleep>(
     requires may { S.may_enlist pass cond lock }
     ensures slept { Slept S.enlists S.lets_go S.looked pass cond lock result.1 result.0 }
     ensures fits { IsFitting result.1 false moment.now }
+    ensures acted { B.ran before.now }
 {
     let scheme = parking.scheme();
     let (pass, released, _) = parking.park_acting(
@@ -48,12 +49,14 @@ pub(crate) fn sleep_on<S: CondSteps, R: Wait, B: BeforeSleep>(
             ensures thread { S.thread result.1 ≡ S.thread pass }
             ensures went { S.lets_go pass lock result.0 result.1 }
             ensures fits { IsFitting result.0 false moment.now }
+            ensures acted { B.ran before.entry.now }
         { leave(rt, parking, pass, lock, moment, before) },
     );
     (pass, released)
 }
 
-/// What a thread does that is in the condition's line, with no bucket locked: it acts, and lets its lock go.
+/// What a thread does that is in the condition's line, with no bucket locked: it acts, and lets its lock go. That it may
+/// let it go is known here only once it acted.
 fn leave<S: CondSteps, R: Wait, B: BeforeSleep>(
     rt: &R,
     parking: &ParkingLot<S>,
@@ -63,10 +66,11 @@ fn leave<S: CondSteps, R: Wait, B: BeforeSleep>(
     before: &B,
 ) -> (Released, S::Pass)
     requires lock { (lock < parking.now.keys) × S.has parking.now.scheme lock }
-    requires may { S.may_let_go pass lock }
+    requires may { B.ran before.now → S.may_let_go pass lock }
     ensures thread { S.thread result.1 ≡ S.thread pass }
     ensures went { S.lets_go pass lock result.0 result.1 }
     ensures fits { IsFitting result.0 false moment.now }
+    ensures acted { B.ran before.now }
 {
     before.run();
     let (pass, released) = let_go(rt, parking, pass, lock, moment, false);

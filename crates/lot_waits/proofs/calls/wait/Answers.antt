@@ -42,10 +42,11 @@ returns g c =
     let whole : HasWaited g.V.Keeps p c.args.cond c.args.lock became c.get.result =
     has_waited g.V.Keeps p s c.get.result c.args.cond c.args.lock became
     (rested g.V.Keeps g.N.LotName.locks g.N.LotName.first_sem p s c.args.cond c.args.lock became may c.sleep_on-pass.ensures.slept)
-    c.get.ensures in
+    c.get.ensures.owner in
     record {
       waited = whole;
       idle = idle_waited g.V.Keeps p c.get.result c.args.cond c.args.lock became c.requires.idle whole;
       counts = counts_waited g.V.Keeps p c.get.result c.args.cond c.args.lock became whole;
       fits = c.sleep_on-pass.ensures.fits;
+      acted = c.sleep_on-pass.ensures.acted;
     }

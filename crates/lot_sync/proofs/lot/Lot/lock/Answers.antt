@@ -18,7 +18,7 @@ got g c =
       | then-found-eq-UNHELD w ↦ subst (IsOwner g.V.Keeps before c.args.key) (sym w.right-is) (c.get_free-right.ensures.got w.if-found-eq-UNHELD.true)
       | else-found-eq-UNHELD w ↦ subst (IsOwner g.V.Keeps before c.args.key) (sym w.right-is)
           (owner_on g.V.Keeps g.N.LotName.locks before c.get_free-right.result.0 w.get_slowly-right.result c.args.key
-          (c.get_free-right.ensures.missed w.if-found-eq-UNHELD.false) w.get_slowly-right.ensures)
+          (c.get_free-right.ensures.missed w.if-found-eq-UNHELD.false) w.get_slowly-right.ensures.owner)
     ]
 
 pub get_slowly-right-requires-clause-may : goal.get_slowly-right-requires-clause-may
