@@ -1,15 +1,18 @@
 -- Each event that keeps the order leaves it kept.
-use Rattle.std.proofs.Common.{◌≡◌, ◌≢◌, ◌⊎◌, ◌+◌, ◌-◌, ◌<◌, ◌≤◌, ◌++◌, ℕ, Bool, true, false, List, [], ◌∷◌, refl, subst, sym, ap, ◌∙◌, arith, inl, inr}
+use Rattle.std.proofs.Common.{◌≡◌, ◌≢◌, ◌⊎◌, ◌+◌, ◌-◌, ◌<◌, ◌≤◌, ◌++◌, ℕ, Bool, true}
+use Rattle.std.proofs.Common.{false, List, [], ◌∷◌, refl, subst, sym, ap, ◌∙◌, arith, inl, inr}
 use Rattle.std.specs.Prelude.{◌==◌, ◌&&◌, if◌then◌else◌}
 use Rattle.std.proofs.lemmas.Bool.{cases_eq, eqb-true}
 use Rattle.lot_events.specs.declared.events.Point.{Point}
 use Rattle.lot_events.specs.declared.events.Point.TheVariants.{Calm, Wants, Bed, Rest, Sweeps, Seeks}
 use Rattle.lot_events.specs.declared.events.Event.{Event}
-use Rattle.lot_events.specs.declared.events.Event.TheVariants.{Try, Take, Mark, Park, Free, Pass, Enlist, Look, Call, Lower, Sweep, SemTake}
+use Rattle.lot_events.specs.declared.events.Event.TheVariants.{Try, Take, Mark, Park, Free, Pass}
+use Rattle.lot_events.specs.declared.events.Event.TheVariants.{Enlist, Look, Call, Lower, Sweep, SemTake}
 use Rattle.lot_events.specs.declared.events.Event.TheVariants.{SemMark, SemPark, SemFree, SemPass, SemClear}
 use Rattle.lot_core.specs.World.{World, Locks, Semaphores, put, opening_with}
 use Rattle.lot_core.specs.Steps.{MayLetGo, Allowed, Run, after, after_all, got, queued, freed, passed_line, handed, let_go, released}
-use Rattle.lot_core.specs.Steps.{none_left, permit_taken, permit_given, permit_freed, permit_passed, seeker_queued, seeker_woken, with_sem_line}
+use Rattle.lot_core.specs.Steps.{none_left, permit_taken, permit_given, permit_freed}
+use Rattle.lot_core.specs.Steps.{permit_passed, seeker_queued, seeker_woken, with_sem_line}
 use Rattle.lot_core.specs.Steps.{with_sem_parked}
 use Rattle.lot_core.proofs.Put.{by_bit, by_line, at_all, put_same, put_other}
 use Rattle.lot_order.specs.Order.{Held, held_by, HasKey, HasBeside, InOrder, key_count, IsOrdered, KeepsOrder, OrderlyRun}
@@ -91,7 +94,11 @@ lock_others s l t b v ne = record {
 pub try_ordered : (level : ℕ → ℕ) (s : World) (t l : ℕ) → IsOrdered level s → s.point t ≡ Calm → IsOrdered level (after s (Try t l))
 try_ordered level s t l ordered calm =
     by_bit (λ b. AreOrdered level s
-    (rights (if b then s.locks else record s.locks { held = put s.locks.held l true; has = put s.locks.has l (put (s.locks.has l) t true) }) s.sems)
+    (rights (if b then s.locks else record s.locks {
+      held = put s.locks.held l true;
+      has = put s.locks.has l (put
+          (s.locks.has l) t true);
+    }) s.sems)
     s.point) (s.locks.held l)
     (λ held. ordered)
     (λ free. calm_stayed level s _ t ordered (lock_others s l t true) calm)
@@ -100,7 +107,11 @@ pub take_ordered : (level : ℕ → ℕ) (s : World) (t l : ℕ) → IsOrdered l
     → IsOrdered level (after s (Take t l))
 take_ordered level s t l ordered lock keeps =
     by_bit (λ b. AreOrdered level s
-    (rights (if b then s.locks else record s.locks { held = put s.locks.held l true; has = put s.locks.has l (put (s.locks.has l) t true) }) s.sems)
+    (rights (if b then s.locks else record s.locks {
+      held = put s.locks.held l true;
+      has = put s.locks.has l (put
+          (s.locks.has l) t true);
+    }) s.sems)
     (put s.point t (if b then Wants l else Calm))) (s.locks.held l)
     (λ held. moved level s (held_by s) t (Wants l) ordered (λ v ne. within_itself (held_by s v)) (omega (arith, lock), keeps held))
     (λ free. moved level s _ t Calm ordered (lock_others s l t true) tt)
@@ -125,9 +136,11 @@ pub let_go_own : (level : ℕ → ℕ) (s : World) (l t : ℕ) (has : ℕ → �
     → ((j : ℕ) → j ≢ l → has j t ≡ s.locks.has j t)
     → InOrder level (key_count s) s.permits (record { locks = λ j. has j t; permits = λ k. s.sems.out k t }) (released (s.point t))
 let_go_own level s l t has ordered (inl calm) lost same =
-    subst (λ p. InOrder level (key_count s) s.permits (record { locks = λ j. has j t; permits = λ k. s.sems.out k t }) (released p)) (sym calm) tt
+    subst (λ p. InOrder level (key_count s) s.permits (record { locks = λ j. has j t; permits = λ k. s.sems.out k t }) (released p))
+    (sym calm) tt
 let_go_own level s l t has ordered (inr (c, bed)) lost same =
-    subst (λ p. InOrder level (key_count s) s.permits (record { locks = λ j. has j t; permits = λ k. s.sems.out k t }) (released p)) (sym bed)
+    subst (λ p. InOrder level (key_count s) s.permits (record { locks = λ j. has j t; permits = λ k. s.sems.out k t }) (released p))
+    (sym bed)
     (left_bed level s c l t _ ordered bed (λ j key. elim key [
       | inl lock ↦ inl (own_left s l t has lost same j lock)
       | inr permit ↦ inr permit
@@ -145,7 +158,11 @@ freed_ordered level s l t ordered may =
 pub free_ordered : (level : ℕ → ℕ) (s : World) (t l : ℕ) → IsOrdered level s → MayLetGo s t l → IsOrdered level (after s (Free t l))
 free_ordered level s t l ordered may =
     by_bit (λ b. AreOrdered level s
-    (rights (if b then s.locks else record s.locks { held = put s.locks.held l false; has = put s.locks.has l (put (s.locks.has l) t false) }) s.sems)
+    (rights (if b then s.locks else record s.locks {
+      held = put s.locks.held l false;
+      has = put s.locks.has l (put
+          (s.locks.has l) t false);
+    }) s.sems)
     (if b then s.point else let_go s.point t)) (s.locks.parked l)
     (λ parked. ordered)
     (λ unparked. freed_ordered level s l t ordered may)
@@ -171,7 +188,8 @@ handed_ordered level s t l u ordered may =
 pub pass_ordered : (level : ℕ → ℕ) (s : World) (t l : ℕ) (fair more : Bool) → IsOrdered level s → MayLetGo s t l
     → IsOrdered level (after s (Pass t l fair more))
 pass_ordered level s t l true more ordered may =
-    by_line (λ xs. AreOrdered level s (rights (passed_line s.locks t l true more xs) s.sems) (handed (let_go s.point t) xs)) (s.locks.line l)
+    by_line (λ xs. AreOrdered level s (rights (passed_line s.locks t l true more xs) s.sems) (handed (let_go s.point t) xs))
+    (s.locks.line l)
     (λ none. freed_ordered level s l t ordered may)
     (λ u rest is. handed_ordered level s t l u ordered may)
 pass_ordered level s t l false more ordered may =
@@ -182,7 +200,8 @@ pass_ordered level s t l false more ordered may =
 pub park_ordered : (level : ℕ → ℕ) (s : World) (t l : ℕ) → IsOrdered level s → IsOrdered level (after s (Park t l))
 park_ordered level s t l ordered =
     by_bit (λ b. AreOrdered level s
-    (rights (if b then record s.locks { line = put s.locks.line l (s.locks.line l ++ t ∷ []) } else s.locks) s.sems) s.point) (s.locks.held l && s.locks.parked l)
+    (rights (if b then record s.locks { line = put s.locks.line l (s.locks.line l ++ t ∷ []) } else s.locks) s.sems) s.point)
+    (s.locks.held l && s.locks.parked l)
     (λ both. ordered) (λ not_both. ordered)
 
 -- Semaphores.
@@ -217,7 +236,8 @@ pub given_ordered : (level : ℕ → ℕ) (s : World) (z : Semaphores) (t k : �
     → z.out ≡ put s.sems.out k (put (s.sems.out k) t (s.sems.out k t - 1)) → AreOrdered level s (rights s.locks z) s.point
 given_ordered level s z t k ordered calm is = calm_stayed level s _ t ordered (permit_others s z k t _ is) calm
 
-pub sem_free_ordered : (level : ℕ → ℕ) (s : World) (t k : ℕ) → IsOrdered level s → s.point t ≡ Calm → IsOrdered level (after s (SemFree t k))
+pub sem_free_ordered : (level : ℕ → ℕ) (s : World) (t k : ℕ) → IsOrdered level s → s.point t ≡ Calm
+    → IsOrdered level (after s (SemFree t k))
 sem_free_ordered level s t k ordered calm =
     by_bit (λ b. AreOrdered level s (rights s.locks (if b then s.sems else permit_given s.sems t k)) s.point) (s.sems.parked k)
     (λ parked. ordered)

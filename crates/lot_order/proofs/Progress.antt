@@ -1,5 +1,6 @@
 -- While some thread needs a key, some thread goes on: the levels of needed keys rise from waiting thread to waiting thread, and end.
-use Rattle.std.proofs.Common.{◌≡◌, ◌≢◌, ◌⊎◌, ◌+◌, ◌<◌, ◌≤◌, ℕ, zero, suc, Bool, true, false, not, List, [], ◌∷◌, refl, subst, sym, ap, ◌∙◌}
+use Rattle.std.proofs.Common.{◌≡◌, ◌≢◌, ◌⊎◌, ◌+◌, ◌<◌, ◌≤◌, ℕ, zero, suc, Bool}
+use Rattle.std.proofs.Common.{true, false, not, List, [], ◌∷◌, refl, subst, sym, ap, ◌∙◌}
 use Rattle.std.proofs.Common.{arith, inl, inr}
 use Rattle.std.specs.Prelude.{nat_eq}
 use Rattle.std.specs.List.{Contains, list_any}
@@ -55,7 +56,8 @@ Next level s k = GoesOn s ⊎ AwaitsNotice level s ⊎ ((u j : ℕ) × Needs s u
 pub gets : (level : ℕ → ℕ) (s : World) (t k : ℕ) → MayGet s t k → Next level s k
 gets level s t k may = inl (inl (t, k, may))
 
-pub has_it : (level : ℕ → ℕ) (s : World) (u t k : ℕ) (p : Point) → IsOrdered level s → Has s u k → Needs s t k → s.point u ≡ p → Next level s k
+pub has_it : (level : ℕ → ℕ) (s : World) (u t k : ℕ) (p : Point) → IsOrdered level s → Has s u k → Needs s t k → s.point u ≡ p
+    → Next level s k
 has_it level s u t k Calm ordered has needs at = inl (inr (u, t, k, inl at, has, needs))
 has_it level s u t k (Bed c l) ordered has needs at = inl (inr (u, t, k, inr (inr (c, l, at)), has, needs))
 has_it level s u t k (Sweeps c) ordered has needs at = inl (inr (u, t, k, inr (inl (c, at)), has, needs))
@@ -105,7 +107,8 @@ seeker s t k sound seeks some = elim (in_line (s.sems.line k) t) [
   | inr up ↦ (t, (seeks, up))
   | inl sleeps ↦
       let sought = sound.permits_are_sought k (some_in (s.sems.line k) t sleeps) in
-      let one = some_part s.threads (λ v. bit (is_seeking ((semaphore_part s).seeks v) k (s.sems.line k) v)) (omega (arith, sought, some)) in
+      let one = some_part s.threads (λ v. bit (is_seeking ((semaphore_part s).seeks v) k (s.sems.line k) v)) (omega
+      (arith, sought, some)) in
       let is = seeking_is ((semaphore_part s).seeks one.0) k (s.sems.line k) one.0 (bit_set _ one.1) in
       (one.0, (sought_is (s.point one.0) k is.0, is.1))
 ]
