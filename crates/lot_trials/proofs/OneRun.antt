@@ -31,7 +31,7 @@ module _ {V : Type 0} where
     going = sym same;
     made = is ∙ ap (λ xs. p.made ++ xs) word;
   }
-  released_by p q l became same (did, is, inr (rest, (first, fair, decided, (more, passed)), word)) = record {
+  released_by p q l became same (did, is, inr (more, rest, (first, fair, decided, says, passed), word)) = record {
     front = p.made ++ Makes (Free p.thread l) (Saw false) ∷ [];
     back = [];
     event = Pass p.thread l fair more;

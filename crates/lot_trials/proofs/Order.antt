@@ -66,7 +66,7 @@ one_none c a none = All-cons (TakesNone c) a [] none (All-nil (TakesNone c))
 
 free_none : (c t l : ℕ) (became : Released) (acts : List Access) → FreeWord t l became acts → All (TakesNone c) acts
 free_none c t l became acts (inl (quiet, is)) = subst (All (TakesNone c)) (sym is) (one_none c (Makes (Free t l) (Saw true)) (λ d. d))
-free_none c t l became acts (inr (rest, (first, fair, decided, (more, passed)), is)) = subst (All (TakesNone c))
+free_none c t l became acts (inr (more, rest, (first, fair, decided, says, passed), is)) = subst (All (TakesNone c))
     (sym (is ∙ ap (λ xs. Makes (Free t l) (Saw false) ∷ xs) passed))
     (All-cons (TakesNone c) (Makes (Free t l) (Saw false)) (Makes (Pass t l fair more) (Sleeper first) ∷ []) (λ d. d)
     (one_none c (Makes (Pass t l fair more) (Sleeper first)) (λ d. d)))
@@ -83,7 +83,7 @@ wait_none c k t l became acts w = subst (All (TakesNone c)) (sym w.is)
 own_word : (c t n : ℕ) (acts : List Access) → NotifyWord t c 1 n acts → All (IsOwnCall c t) acts
 own_word c t n acts (inl (none, is)) = subst (All (IsOwnCall c t)) (sym is)
     (All-cons (IsOwnCall c t) (Makes (Look t c) (Saw false)) [] (λ d. absurd d) (All-nil (IsOwnCall c t)))
-own_word c t n acts (inr (more, is)) = subst (All (IsOwnCall c t)) (sym is)
+own_word c t n acts (inr (more, says, is)) = subst (All (IsOwnCall c t)) (sym is)
     (All-cons (IsOwnCall c t) (Makes (Look t c) (Saw true)) (Makes (Call t c 1 more) (Count n) ∷ []) (λ d. absurd d)
     (All-cons (IsOwnCall c t) (Makes (Call t c 1 more) (Count n)) [] (λ d. (more, n, refl)) (All-nil (IsOwnCall c t))))
 

@@ -15,7 +15,8 @@ got : (g : Over) (c : Joined-found-eq-UNHELD g) → IsOwner g.V.Keeps c.apart-ri
 got g c =
     let before = c.apart-right.result.0 in
     elim c.if-found-eq-UNHELD.branch [
-      | then-found-eq-UNHELD w ↦ subst (IsOwner g.V.Keeps before c.args.key) (sym w.right-is) (c.get_free-right.ensures.got w.if-found-eq-UNHELD.true)
+      | then-found-eq-UNHELD w ↦ subst (IsOwner g.V.Keeps before c.args.key) (sym w.right-is)
+          (c.get_free-right.ensures.got w.if-found-eq-UNHELD.true)
       | else-found-eq-UNHELD w ↦ subst (IsOwner g.V.Keeps before c.args.key) (sym w.right-is)
           (owner_on g.V.Keeps g.N.LotName.locks before c.get_free-right.result.0 w.get_slowly-right.result c.args.key
           (c.get_free-right.ensures.missed w.if-found-eq-UNHELD.false) w.get_slowly-right.ensures.owner)
@@ -23,7 +24,8 @@ got g c =
 
 pub get_slowly-right-requires-clause-may : goal.get_slowly-right-requires-clause-may
 get_slowly-right-requires-clause-may g c κs within =
-    may_take g.N.LotName.locks c.apart-right.result.0 c.get_free-right.result.0 c.args.key (c.get_free-right.ensures.missed c.if-found-eq-UNHELD.false)
+    may_take g.N.LotName.locks c.apart-right.result.0 c.get_free-right.result.0 c.args.key
+    (c.get_free-right.ensures.missed c.if-found-eq-UNHELD.false)
 
 pub get_slowly-right-requires-clause-found : goal.get_slowly-right-requires-clause-found
 get_slowly-right-requires-clause-found g c κs within =

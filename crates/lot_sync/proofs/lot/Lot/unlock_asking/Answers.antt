@@ -20,7 +20,8 @@ let_go g c =
       | then-freed w ↦ subst (λ r. LetsGo before c.key-key.result r.1 r.0) (sym w.right-is)
           (rw w.if-freed.true at c.free-right.ensures.step)
       | else-freed w ↦ subst (λ r. LetsGo before c.key-key.result r.1 r.0) (sym w.right-is)
-          ((rw w.if-freed.false at c.free-right.ensures.step).1 w.unpark_asking.ensures.went.0 w.unpark_asking.result.1 w.unpark_asking.result.0
+          ((rw w.if-freed.false at c.free-right.ensures.step).1 w.unpark_asking.ensures.went.0 w.unpark_asking.result.1
+          w.unpark_asking.result.0
           w.unpark_asking.ensures.went.1)
     ]
 
