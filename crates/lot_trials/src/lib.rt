@@ -15,6 +15,8 @@ mod asserts;
 #[cfg(test)]
 mod calls;
 #[cfg(test)]
+mod composed;
+#[cfg(test)]
 mod counts;
 mod example;
 #[cfg(test)]
