@@ -58,7 +58,12 @@ module _ (told : ℕ → Bool) (t cond : ℕ) where
 
 module _ (told : ℕ → Bool) (t l now c n : ℕ) (before mid after : List Access) (u k : ℕ) (same : u ≡ t) (same_key : k ≡ l) where
   left_by : Adds mid (LeaveWord told u k now c n) after → Adds mid (LeaveWord told t l now c n) after
-  left_by (did, is, word) = (did, is, subst (λ j. LeaveWord told t j now c n did) same_key (subst (λ w. LeaveWord told w k now c n did) same word))
+  left_by (did, is, word) = (
+    did,
+    is,
+    subst (λ j. LeaveWord told t j now c n did) same_key
+        (subst (λ w. LeaveWord told w k now c n did) same word),
+  )
 
   pub change_made : Adds before (GetWord t l) mid → Adds mid (LeaveWord told u k now c n) after
       → Adds before (ChangeWord told t l now c n) after
@@ -119,7 +124,8 @@ module _ {V Part : Type 0} (rule : CallersRule V Part) (before : PassView V) (ke
       length-set before.seen key held.value,
     ));
     after_is = gets.after_is
-        ∙ ap (λ ws. record (owning before key held.value) { woken = ws; made = got.made }) (sym (ap (λ (p : PassView V). p.woken) gets.after_is));
+        ∙ ap (λ ws. record (owning before key held.value) { woken = ws; made = got.made })
+        (sym (ap (λ (p : PassView V). p.woken) gets.after_is));
   }
 
   -- what was got after some waits, or none
@@ -156,7 +162,8 @@ module _ {V Part : Type 0} (rule : CallersRule V Part) (before : PassView V) (ke
           let at : mid ≈ woken_from (owning got key found.value) cond (suc n) =
           subst (λ k. mid ≈ woken_from (owning got k found.value) cond (suc n)) gets.key_is is in
           alike mid (owning before key found.value) (ap (λ (p : PassView V). p.thread) at ∙ ap (λ (p : PassView V). p.thread) gets.after_is)
-          (ap (λ (p : PassView V). p.owns) at ∙ (ap (λ (p : PassView V). set p.owns key true) gets.after_is ∙ set-set before.owns key true true))
+          (ap (λ (p : PassView V). p.owns) at ∙ (ap (λ (p : PassView V). set p.owns key true) gets.after_is
+          ∙ set-set before.owns key true true))
           (ap (λ (p : PassView V). p.seen) at
           ∙ (ap (λ (p : PassView V). set p.seen key found.value) gets.after_is ∙ set-set before.seen key held.value found.value))
           (ap (λ (p : PassView V). p.called) at ∙ ap (λ (p : PassView V). p.called) gets.after_is)
@@ -167,7 +174,8 @@ module _ {V Part : Type 0} (rule : CallersRule V Part) (before : PassView V) (ke
     -- what the pass has seen of the lock is what it found
     saw : (u : V) → HasSeen mid k u → found ≡ u
     saw u seen =
-        some-injective found u (sym (set_here before.seen key found (omega (arith, got.finds.own_near, length-map before.seen (rule.part before.thread))))
+        some-injective found u (sym (set_here before.seen key found
+        (omega (arith, got.finds.own_near, length-map before.seen (rule.part before.thread))))
         ∙ subst (λ (p : PassView V). HasSeen p key u) got.after_is (subst (λ j. HasSeen mid j u) key_is seen))
 
     -- it may be given back
@@ -205,4 +213,5 @@ module _ {V Part : Type 0} (rule : CallersRule V Part) (before : PassView V) (ke
 
   -- whoever owned nothing owns nothing
   pub free_again : (found left : V) (after : PassView V) → OwnsNone before → Region rule before key found left after → OwnsNone after
-  free_again found left after none region = subst OwnsNone (sym region.after_is) (record { no_lock = none.no_lock; no_permit = none.no_permit })
+  free_again found left after none region = subst OwnsNone (sym region.after_is)
+      (record { no_lock = none.no_lock; no_permit = none.no_permit })

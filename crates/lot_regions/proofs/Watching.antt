@@ -91,7 +91,8 @@ passed_steady s t l true sound =
     (handed_steady (let_go s.point t) (s.locks.line l) (λ u c inside sweeps.
     let wants : s.point u ≡ Wants l = (sound.one_line_each.wants l u inside).1 in
     at_all (λ u b. s.point u ≡ Wants l → (if b then released (s.point t) else s.point u) ≡ Sweeps c → ⊥) t
-    (λ is at. let e : Wants l ≡ Sweeps c = sym (ap released is) ∙ at in absurd (cc)) (λ u ne is at. let e : Wants l ≡ Sweeps c = sym is ∙ at in absurd (cc)) u wants sweeps))
+    (λ is at. let e : Wants l ≡ Sweeps c = sym (ap released is) ∙ at in absurd (cc))
+    (λ u ne is at. let e : Wants l ≡ Sweeps c = sym is ∙ at in absurd (cc)) u wants sweeps))
 passed_steady s t l false sound = let_go_steady s.point t
 
 is_calm_true : (p : Point) → is_calm p ≡ true → p ≡ Calm
@@ -169,6 +170,11 @@ module _ {V : Type 0} (lock_of : ℕ → ℕ) (ready : ℕ → V → Bool) where
     awake = λ t c owes. waking t c owes (h.awake t c owes);
   }
 
+  -- nobody moved
+  untouched : (s : World) (g : Watch V) (locks : Locks) (sems : Semaphores) → IsWatched lock_of ready s g
+      → IsWatched lock_of ready (record s { locks = locks; sems = sems }) g
+  untouched s g locks sems h = steady s g locks sems s.point (λ u c is. is) (λ u c owes awake. awake) h
+
   -- a thread that owes nothing and sweeps nothing went somewhere
   gone : (s : World) (g : Watch V) (locks : Locks) (sems : Semaphores) (t : ℕ) (p : Point) → OwesNothing g t
       → ((c : ℕ) → s.point t ≡ Sweeps c → ⊥) → IsWatched lock_of ready s g
@@ -218,9 +224,9 @@ module _ {V : Type 0} (lock_of : ℕ → ℕ) (ready : ℕ → V → Bool) where
       → IsWatched lock_of ready (record s { locks = locks; point = if parked then s.point else let_go s.point t })
       (if calm && not parked then leaves lock_of ready g t l v else g)
   freed s g locks t l v true true thread calm nothing h =
-      steady s g locks s.sems s.point (λ u c is. is) (λ u c owes awake. awake) h
+      untouched s g locks s.sems h
   freed s g locks t l v true false thread calm nothing h =
-      steady s g locks s.sems s.point (λ u c is. is) (λ u c owes awake. awake) h
+      untouched s g locks s.sems h
   freed s g locks t l v false true thread calm nothing h =
       left s g locks (let_go s.point t) t l v thread (is_calm_true (s.point t) calm) nothing (let_go_steady s.point t) h
   freed s g locks t l v false false thread calm nothing h =
@@ -325,11 +331,11 @@ module _ {V : Type 0} (lock_of : ℕ → ℕ) (ready : ℕ → V → Bool) where
   -- ---- each event
   pub watch_kept : (s : World) (g : Watch V) (e : Event) (v : V) → IsSound s → IsWatched lock_of ready s g → Allowed s e
       → KeepsWatch lock_of ready g e → IsWatched lock_of ready (after s e) (watch_after lock_of ready s g e v)
-  watch_kept s g (Try t l) v sound h ok keeps = steady s g (after s (Try t l)).locks s.sems s.point (λ u c is. is) (λ u c owes awake. awake) h
+  watch_kept s g (Try t l) v sound h ok keeps = untouched s g (after s (Try t l)).locks s.sems h
   watch_kept s g (Take t l) v sound h ok keeps =
       gone s g (after s (Take t l)).locks s.sems t (if s.locks.held l then Wants l else Calm) keeps (λ c. takes_not_sweeping s t l c ok.2) h
-  watch_kept s g (Mark t l) v sound h ok keeps = steady s g (after s (Mark t l)).locks s.sems s.point (λ u c is. is) (λ u c owes awake. awake) h
-  watch_kept s g (Park t l) v sound h ok keeps = steady s g (after s (Park t l)).locks s.sems s.point (λ u c is. is) (λ u c owes awake. awake) h
+  watch_kept s g (Mark t l) v sound h ok keeps = untouched s g (after s (Mark t l)).locks s.sems h
+  watch_kept s g (Park t l) v sound h ok keeps = untouched s g (after s (Park t l)).locks s.sems h
   watch_kept s g (Free t l) v sound h ok keeps =
       freed s g (after s (Free t l)).locks t l v (s.locks.parked l) (is_calm (s.point t)) ok.0 refl keeps h
   watch_kept s g (Pass t l fair more) v sound h ok keeps =
@@ -338,8 +344,10 @@ module _ {V : Type 0} (lock_of : ℕ → ℕ) (ready : ℕ → V → Bool) where
   watch_kept s g (Enlist t c l) v sound h ok keeps = enlisted s g t c l v ok.3 keeps h
   watch_kept s g (Look t c) v sound h ok keeps = looked s g t c (s.conds.flag c) refl sound h
   watch_kept s g (Call t c n more) v sound h ok keeps =
-      taken_from s g (after s (Call t c n more)).conds.flag (drop n (s.conds.line c)) (take n (s.conds.line c)) s.point t c (pays g t c).owes
-      sound h (in_take n (s.conds.line c)) (in_drop n (s.conds.line c)) (λ u. first_not_behind n (s.conds.line c) u (sound.one_line_each.cond_once c))
+      taken_from s g (after s (Call t c n more)).conds.flag (drop n (s.conds.line c)) (take n (s.conds.line c)) s.point t c
+      (pays g t c).owes
+      sound h (in_take n (s.conds.line c)) (in_drop n (s.conds.line c))
+      (λ u. first_not_behind n (s.conds.line c) u (sound.one_line_each.cond_once c))
       (λ some. some_first n (s.conds.line c) ok.3.0 (λ none. some (ap (drop n) none ∙ drop-nil n)))
       (λ u d ne owes. elim (owed_still g t c u d owes) [ inl x ↦ absurd (ne x.1) | inr still ↦ still ])
       (λ u d owes. h.awake u d (owed_before g t c u d owes)) (λ u d ne is. is)
@@ -365,17 +373,19 @@ module _ {V : Type 0} (lock_of : ℕ → ℕ) (ready : ℕ → V → Bool) where
       (λ u inside behind. in_none u (subst (λ ys. Contains ys u) (drop-length (s.conds.line c)) behind))
       (λ some. absurd (some (drop-length (s.conds.line c))))
       (λ u d ne owes. owes)
-      (λ u d owes. at_all (λ w b. IsAwake (s.point w) → IsAwake (if b then Calm else s.point w)) t (λ awake. inl refl) (λ w ne awake. awake) u
+      (λ u d owes. at_all (λ w b. IsAwake (s.point w) → IsAwake (if b then Calm else s.point w)) t (λ awake. inl refl)
+      (λ w ne awake. awake) u
       (h.awake u d owes))
       (λ u d ne is. put_other s.point t Calm u (λ e. let at : s.point t ≡ Sweeps d = subst (λ w. s.point w ≡ Sweeps d) e is in
       let sweeps : s.point t ≡ Sweeps c = ok.2 in let same : d ≡ c = cc in ne same) ∙ is)
   watch_kept s g (SemTake t k) v sound h ok keeps =
-      gone s g s.locks (after s (SemTake t k)).sems t (if none_left s.sems k then Seeks k else Calm) keeps (λ c. seeks_not_sweeping s t k c ok.2) h
-  watch_kept s g (SemMark t k) v sound h ok keeps = steady s g s.locks (after s (SemMark t k)).sems s.point (λ u c is. is) (λ u c owes awake. awake) h
-  watch_kept s g (SemPark t k) v sound h ok keeps = steady s g s.locks (after s (SemPark t k)).sems s.point (λ u c is. is) (λ u c owes awake. awake) h
-  watch_kept s g (SemFree t k) v sound h ok keeps = steady s g s.locks (after s (SemFree t k)).sems s.point (λ u c is. is) (λ u c owes awake. awake) h
-  watch_kept s g (SemPass t k more) v sound h ok keeps = steady s g s.locks (after s (SemPass t k more)).sems s.point (λ u c is. is) (λ u c owes awake. awake) h
-  watch_kept s g (SemClear t k) v sound h ok keeps = steady s g s.locks (after s (SemClear t k)).sems s.point (λ u c is. is) (λ u c owes awake. awake) h
+      gone s g s.locks (after s (SemTake t k)).sems t (if none_left s.sems k then Seeks k else Calm) keeps
+      (λ c. seeks_not_sweeping s t k c ok.2) h
+  watch_kept s g (SemMark t k) v sound h ok keeps = untouched s g s.locks (after s (SemMark t k)).sems h
+  watch_kept s g (SemPark t k) v sound h ok keeps = untouched s g s.locks (after s (SemPark t k)).sems h
+  watch_kept s g (SemFree t k) v sound h ok keeps = untouched s g s.locks (after s (SemFree t k)).sems h
+  watch_kept s g (SemPass t k more) v sound h ok keeps = untouched s g s.locks (after s (SemPass t k more)).sems h
+  watch_kept s g (SemClear t k) v sound h ok keeps = untouched s g s.locks (after s (SemClear t k)).sems h
 
   pub none_forgotten : (s : World) (g : Watch V) → IsSound s → IsWatched lock_of ready s g → NoneIsForgotten lock_of ready s g
   none_forgotten s g sound h c is some =

@@ -27,7 +27,8 @@ returns-clause-visits g c =
       c.work-outcome.ensures,
       region g.V.Keeps p c.args.key found.now left.now q got may held.key gets.key_is c.leave.result (c.requires.free.no_lock c.args.key)
           c.leave.ensures.left c.leave.ensures.seen,
-      subst (λ f. Adds p.made (ChangeWord told p.thread c.args.key c.args.moment.now f (g.V.Ready.behind c.args.key - f)) c.leave.result.made)
+      subst (λ f. Adds p.made (ChangeWord told p.thread c.args.key c.args.moment.now f (g.V.Ready.behind c.args.key - f))
+          c.leave.result.made)
           c.first_of-first.ensures
           (subst (λ b. Adds p.made
           (ChangeWord told p.thread c.args.key c.args.moment.now c.first_of-first.result (b - c.first_of-first.result)) c.leave.result.made)

@@ -34,16 +34,19 @@ returns-clause-visits g c =
       found,
       left,
       c.work-outcome.ensures,
-      region g.V.Keeps p c.args.key found.now left.now mid got may c.wait_until-pass.result.1.key (waits.key_is ∙ gets.key_is) c.leave.result
+      region g.V.Keeps p c.args.key found.now left.now mid got may c.wait_until-pass.result.1.key
+          (waits.key_is ∙ gets.key_is) c.leave.result
           (c.requires.free.no_lock c.args.key) c.leave.ensures.left c.leave.ensures.seen,
       ready,
       (
         waits.count,
         subst (λ f. Adds p.made
-            (WhenWord told p.thread c.args.cond waits.count c.args.key c.args.moment.now f (g.V.Ready.behind c.args.key - f)) c.leave.result.made)
+            (WhenWord told p.thread c.args.cond waits.count c.args.key c.args.moment.now f (g.V.Ready.behind c.args.key - f))
+            c.leave.result.made)
             c.first_of-first.ensures
             (subst (λ b. Adds p.made
-            (WhenWord told p.thread c.args.cond waits.count c.args.key c.args.moment.now c.first_of-first.result (b - c.first_of-first.result))
+            (WhenWord told p.thread c.args.cond waits.count c.args.key c.args.moment.now c.first_of-first.result
+            (b - c.first_of-first.result))
             c.leave.result.made) c.behind_of-behind.ensures made),
       ),
     )
