@@ -6,6 +6,7 @@ mod connections;
 mod crew;
 mod latch;
 mod map;
+mod memo;
 mod queue;
 
 use accounts::Totals;
@@ -22,6 +23,7 @@ fn main(rt: HostRuntime) -> ExitCode {
         line(alloc, "used", connections::run(&rt, alloc)),
         line(alloc, "counted", map::run(&rt, alloc)),
         two(alloc, accounts::run(&rt, alloc)),
+        line(alloc, "known", memo::run(&rt, alloc)),
     ];
     let mut worst = 0;
     for outcome in outcomes {

@@ -1,0 +1,166 @@
+//! A memo cache over 64 locks: what is got for a key is what the function gives, whoever computed it.
+ghost use Rattle.std.specs.Prelude.{◌≡◌, ◌*◌, ◌%◌, ◌<◌, length, IfOk, IfSome};
+ghost use Rattle.lot_sync.specs.Lot.{OwnsNone};
+
+use crate::crew::{Crew, NOW, Opening, end, open, start};
+use lot_calls::with_lock;
+use lot_command::Failure;
+use lot_sync::{Lot, LotName, Pass};
+use lot_words::Keeps;
+use std::alloc::{AllocError, Global};
+use std::marker::Brand;
+use std::sync::Wait;
+use std::thread::Threads;
+
+const SHARDS: usize = 64;
+
+/// How many values a shard keeps.
+const PLACES: usize = 16;
+
+const WORKERS: usize = 4;
+
+/// The function whose values are kept.
+fn compute(key: u64) -> u64
+    ensures { result ≡ (key % 1000) * (key % 1000) }
+{
+    let last = key % 1000;
+    last * last
+}
+
+/// What the function gives for a key.
+#[derive(Clone, Copy, Drop)]
+pub struct Known {
+    key: u64,
+    value: u64,
+    ghost right: { value ≡ (key % 1000) * (key % 1000) },
+}
+
+/// The values that a lock guards: each has a place by its key, where a later one takes it.
+#[derive(Clone, Copy, Drop)]
+pub struct Shard {
+    known: [Option<Known>; PLACES],
+}
+
+impl Keeps for Shard {
+    type Part = ();
+
+    ghost keeps = { λ key shard. Unit {0} };
+
+    ghost grows = { λ old new. Unit {0} };
+
+    ghost part = { λ thread shard. tt };
+
+    ghost grows_itself = { λ shard. tt };
+
+    ghost grows_on = { λ x y z p q. tt };
+}
+
+impl Shard {
+    /// The value that is kept for the key, if there is one.
+    fn find(&self, key: u64) -> Option<u64>
+        ensures { IfSome result (λ value. value ≡ (key % 1000) * (key % 1000)) }
+    {
+        match self.known[place_of(key)] {
+            Some(known) if known.key == key => Some(known.value),
+            _ => None,
+        }
+    }
+}
+
+/// The number of the key's lock.
+fn shard_of(key: u64) -> usize
+    ensures { result < SHARDS }
+{
+    (key % SHARDS as u64) as usize
+}
+
+/// The place of the key in its shard.
+fn place_of(key: u64) -> usize
+    ensures { result < PLACES }
+{
+    (key / SHARDS as u64 % PLACES as u64) as usize
+}
+
+/// The right of a thread that asks.
+type User<N> = Pass<Shard, N>;
+
+/// The cache, as its threads see it.
+#[derive(Drop)]
+pub struct Memo<'a, N: LotName<Shard> + Send> {
+    lot: &'a Lot<Shard, N>,
+    ghost sizes: { lot.now.locks ≡ 64 },
+}
+
+impl<N: LotName<Shard> + Send> Memo<'_, N> {
+    /// What the function gives for the key: kept, or computed with no lock held, and kept from then on.
+    pub fn get<T: Wait>(&self, rt: &T, pass: User<N>, key: u64) -> (User<N>, u64)
+        requires free { OwnsNone pass }
+        ensures free { OwnsNone result.0 }
+        ensures gives { result.1 ≡ (key % 1000) * (key % 1000) }
+    {
+        let find = |shard: &mut Shard| -> Option<u64>
+            ensures same { shard.new ≡ shard.old }
+            ensures right { IfSome result (λ value. value ≡ (key % 1000) * (key % 1000)) }
+        { shard.find(key) };
+        let (pass, found) = with_lock(rt, self.lot, pass, shard_of(key), NOW, find);
+        if let Some(value) = found {
+            return (pass, value);
+        }
+        let value = compute(key);
+        let keep = |shard: &mut Shard| {
+            shard.known[place_of(key)] = Some(Known { key, value });
+        };
+        let (pass, ()) = with_lock(rt, self.lot, pass, shard_of(key), NOW, keep);
+        (pass, value)
+    }
+
+    /// One thread, which asks for as many keys as there are places.
+    fn work<T: Wait>(&self, rt: &T, crew: &Crew) {
+        if let Some(mut pass) = crew.enter(rt, self.lot) {
+            for key in 0..(SHARDS * PLACES) as u64 {
+                pass = self.get(rt, pass, key).0;
+            }
+            self.lot.leave(rt, pass);
+        }
+    }
+}
+
+/// As many shards, in which nothing is known yet.
+fn new_shards(alloc: Global) -> Result<Vec<Shard>, AllocError>
+    ensures { IfOk result (λ shards. length shards.items ≡ SHARDS) }
+{
+    let known = [None; PLACES];
+    let shards = vec![in alloc; Shard { known }; SHARDS]?;
+    Ok(shards)
+}
+
+/// Threads ask for all keys. Answers the sum of what is known in the end.
+pub fn run<T: Threads + Wait + Sync>(rt: &T, alloc: Global) -> Result<u64, Failure> {
+    let shards = new_shards(alloc)?;
+    run_on::<Brand, T>(rt, open(alloc, WORKERS, shards, 0, &[])?)
+}
+
+fn run_on<N: LotName<Shard> + Send + Sync, T: Threads + Wait + Sync>(
+    rt: &T,
+    opening: Opening<Shard>,
+) -> Result<u64, Failure>
+    requires named { N.LotName ≡ opening.opened }
+    requires sizes { length opening.opened.values ≡ 64 }
+{
+    let (lot, room, crew) = start::<Shard, N>(opening)?;
+    let memo = Memo { lot: &lot };
+    let outcome = crew.run(rt, &|| memo.work(rt, &crew));
+    let shards = end(rt, lot, room, outcome)?;
+    Ok(sum_of(&shards))
+}
+
+/// The sum of all that is known, modulo 2^64.
+fn sum_of(shards: &Vec<Shard>) -> u64 {
+    let mut sum = 0u64;
+    for shard in shards {
+        for known in shard.known.iter().flatten() {
+            sum = sum.wrapping_add(known.value);
+        }
+    }
+    sum
+}
