@@ -60,10 +60,13 @@ impl Shard {
     fn find(&self, key: u64) -> Option<u64>
         ensures { IfSome result (λ value. value ≡ (key % 1000) * (key % 1000)) }
     {
-        match self.known[place_of(key)] {
-            Some(known) if known.key == key => Some(known.value),
-            _ => None,
+        let kept = self.known[place_of(key)];
+        if let Some(known) = kept {
+            if known.key == key {
+                return Some(known.value);
+            }
         }
+        None
     }
 }
 
@@ -106,9 +109,13 @@ impl<N: LotName<Shard> + Send> Memo<'_, N> {
         if let Some(value) = found {
             return (pass, value);
         }
-        let value = compute(key);
+        let known = Known {
+            key,
+            value: compute(key),
+        };
+        let value = known.value;
         let keep = |shard: &mut Shard| {
-            shard.known[place_of(key)] = Some(Known { key, value });
+            shard.known[place_of(key)] = Some(known);
         };
         let (pass, ()) = with_lock(rt, self.lot, pass, shard_of(key), NOW, keep);
         (pass, value)
