@@ -62,11 +62,7 @@ fn answer<T: Threads + Wait + Sync, F: Read + Drop>(
     run(rt, alloc, words)
 }
 
-fn run<T: Threads + Wait + Sync>(
-    rt: &T,
-    alloc: Global,
-    words: &[&str],
-) -> Result<String, Failure> {
+fn run<T: Threads + Wait + Sync>(rt: &T, alloc: Global, words: &[&str]) -> Result<String, Failure> {
     let [command, numbers @ ..] = words else {
         return Err(Failure::BadCommandLine);
     };

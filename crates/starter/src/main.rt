@@ -90,7 +90,13 @@ fn run_on<N: LotName<Number> + Send + Sync, T: Threads + Wait + Sync>(
             return Err(Failure::NoMemory);
         }
     };
-    let (one, other) = thread::join(rt, || work(rt, &lot), || work(rt, &lot));
+    let one = || -> bool
+        requires { LOCK < lot.locks }
+    { work(rt, &lot) };
+    let other = || -> bool
+        requires { LOCK < lot.locks }
+    { work(rt, &lot) };
+    let (one, other) = thread::join(rt, one, other);
     let (values, _) = finish(rt, lot, passes);
     if !one || !other {
         return Err(Failure::NoMemory);
