@@ -1,6 +1,6 @@
 //! A thread is taken from a condition's line before it sleeps, by its own action: by a notification while it has its
 //! lock yet, and by a sweep of a flag that was cleared before it parked. All in one thread.
-ghost use Rattle.std.specs.Prelude.{◌≡◌, ◌<◌, ℕ, true, length, []};
+ghost use Rattle.std.specs.Prelude.{◌≡◌, ◌<◌, ℕ, Bool, true, length, []};
 ghost use Rattle.lot_locks.specs.declared.released.Released.{Released};
 ghost use Rattle.lot_park.specs.Parking.{Queues, Tells};
 ghost use Rattle.lot_waits.specs.Notifying.{Dequeues, DequeuesAll, one_of};
@@ -120,7 +120,7 @@ fn call_the_first<S: CondSteps, R: Wait + Abort>(
 ) -> S::Pass
     requires key { 2 < lot.now.keys }
     requires may { S.may_call pass 2 }
-    ensures { S.calls pass 2 1 1 result }
+    ensures { (more : Bool) × S.calls pass 2 1 1 more result }
 {
     let scheme = lot.scheme();
     let (pass, told) = lot.unpark_one(
@@ -132,7 +132,7 @@ fn call_the_first<S: CondSteps, R: Wait + Abort>(
             requires may { S.may_call pass (S.Root.view root).key }
             requires clear { (S.Root.view root).owes ≡ [] }
             requires told { (now : ℕ) × Tells (S.Root.view root).line now told }
-            ensures pass { S.calls pass (S.Root.view root).key 1 (one_of told.thread) result.0 }
+            ensures pass { S.calls pass (S.Root.view root).key 1 (one_of told.thread) told.more result.0 }
             ensures root { Dequeues S.Root.view 1 root result.1 }
             ensures token { result.2.0 ≡ 0 }
         {
@@ -168,7 +168,7 @@ fn sleep_called<S: CondSteps, R: Wait + Abort>(
     requires may { S.may_enlist zero 2 0 }
     requires call { S.may_call one 2 }
     ensures slept { (became : Released) × Slept S.enlists S.lets_go S.looked zero 2 0 became result.0 }
-    ensures called { S.calls one 2 1 1 result.1 }
+    ensures called { (more : Bool) × S.calls one 2 1 1 more result.1 }
 {
     let scheme = lot.scheme();
     let (zero, one, parked) = lot.park_acting(
@@ -194,7 +194,7 @@ fn sleep_called<S: CondSteps, R: Wait + Abort>(
             requires call { S.may_call one 2 }
             ensures thread { S.thread result.1 ≡ S.thread zero }
             ensures went { (became : Released) × S.lets_go zero 0 became result.1 }
-            ensures called { S.calls one 2 1 1 result.0 }
+            ensures called { (more : Bool) × S.calls one 2 1 1 more result.0 }
         {
             let one = call_the_first(rt, lot, one);
             let (zero, _released) = let_go(rt, lot, zero, 0, EARLY, false);

@@ -12,4 +12,4 @@ get_or_park-requires-clause-waits g c κs within =
     begins g.N.LotName.locks c.args.pass 0 (omega (arith, two)) (may_take c.requires.pass.0 0 c.args.pass (inl c.requires.pass.1))
 
 pub returns : goal.returns
-returns g c = λ t calm. owner_has_it _ t 0 c.args.pass c.get_or_park.result (inl calm) c.get_or_park.ensures
+returns g c = λ t calm. owner_has_it _ t 0 c.args.pass c.get_or_park.result (inl calm) c.get_or_park.ensures.got

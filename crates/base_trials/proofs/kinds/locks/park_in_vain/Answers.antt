@@ -9,4 +9,4 @@ park-pass-requires-clause-parks g c κs within =
 
 pub returns : goal.returns
 returns g c = λ t wants. tried_wants g.N.LotName.locks t 0 c.args.pass c.park-pass.result.0 wants
-    (rw c.parked_is.ensures at c.park-pass.ensures)
+    (rw c.parked_is.ensures at c.park-pass.ensures.ends)

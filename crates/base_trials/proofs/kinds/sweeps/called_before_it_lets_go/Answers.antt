@@ -12,7 +12,7 @@ sleep_called-slept-requires-clause-may g c κs within =
     let three = c.requires.small.2 in
     may_wait g.N.LotName.locks g.N.LotName.first_sem 0 2 0 c.get-owner.result (omega (arith, two))
     (omega (arith, three)) (omega (arith, two))
-    (owner_has_it _ 0 0 c.args.zero c.get-owner.result (inl c.requires.calm.0) c.get-owner.ensures)
+    (owner_has_it _ 0 0 c.args.zero c.get-owner.result (inl c.requires.calm.0) c.get-owner.ensures.owner)
 
 pub sleep_called-slept-requires-clause-call : goal.sleep_called-slept-requires-clause-call
 sleep_called-slept-requires-clause-call g c κs within =
@@ -26,7 +26,7 @@ get-again-requires-clause-thread g c κs within =
     let three = c.requires.small.2 in
     let locks = g.N.LotName.locks in
     let first_sem = g.N.LotName.first_sem in
-    let has = owner_has_it _ 0 0 c.args.zero c.get-owner.result (inl c.requires.calm.0) c.get-owner.ensures in
+    let has = owner_has_it _ 0 0 c.args.zero c.get-owner.result (inl c.requires.calm.0) c.get-owner.ensures.owner in
     let may = may_wait locks first_sem 0 2 0 c.get-owner.result (omega (arith, two)) (omega (arith, three)) (omega (arith, two)) has in
     let same =
     slept_thread _ locks first_sem 2 0 _ c.get-owner.result c.sleep_called-slept.result.0 may c.sleep_called-slept.ensures.slept.1 in
@@ -40,7 +40,7 @@ get-again-requires-clause-may g c κs within =
     let three = c.requires.small.2 in
     let locks = g.N.LotName.locks in
     let first_sem = g.N.LotName.first_sem in
-    let has = owner_has_it _ 0 0 c.args.zero c.get-owner.result (inl c.requires.calm.0) c.get-owner.ensures in
+    let has = owner_has_it _ 0 0 c.args.zero c.get-owner.result (inl c.requires.calm.0) c.get-owner.ensures.owner in
     let may = may_wait locks first_sem 0 2 0 c.get-owner.result (omega (arith, two)) (omega (arith, three)) (omega (arith, two)) has in
     slept_takes _ locks first_sem 2 0 _ c.get-owner.result c.sleep_called-slept.result.0 may c.sleep_called-slept.ensures.slept.1
 
@@ -50,11 +50,11 @@ let_go-zero-requires-clause-may g c κs within =
     let three = c.requires.small.2 in
     let locks = g.N.LotName.locks in
     let first_sem = g.N.LotName.first_sem in
-    let has = owner_has_it _ 0 0 c.args.zero c.get-owner.result (inl c.requires.calm.0) c.get-owner.ensures in
+    let has = owner_has_it _ 0 0 c.args.zero c.get-owner.result (inl c.requires.calm.0) c.get-owner.ensures.owner in
     let may = may_wait locks first_sem 0 2 0 c.get-owner.result (omega (arith, two)) (omega (arith, three)) (omega (arith, two)) has in
     may_free 0 0 c.get-again.result
     (slept_has_it _ locks first_sem 0 2 0 _ c.get-owner.result c.sleep_called-slept.result.0 c.get-again.result
-    has may c.sleep_called-slept.ensures.slept.1 c.get-again.ensures)
+    has may c.sleep_called-slept.ensures.slept.1 c.get-again.ensures.owner)
 
 pub returns : goal.returns
 returns g c =
@@ -62,10 +62,10 @@ returns g c =
     let three = c.requires.small.2 in
     let locks = g.N.LotName.locks in
     let first_sem = g.N.LotName.first_sem in
-    let has = owner_has_it _ 0 0 c.args.zero c.get-owner.result (inl c.requires.calm.0) c.get-owner.ensures in
+    let has = owner_has_it _ 0 0 c.args.zero c.get-owner.result (inl c.requires.calm.0) c.get-owner.ensures.owner in
     let may = may_wait locks first_sem 0 2 0 c.get-owner.result (omega (arith, two)) (omega (arith, three)) (omega (arith, two)) has in
     let again = slept_has_it _ locks first_sem 0 2 0 _ c.get-owner.result c.sleep_called-slept.result.0 c.get-again.result has may
-    c.sleep_called-slept.ensures.slept.1 c.get-again.ensures in (
+    c.sleep_called-slept.ensures.slept.1 c.get-again.ensures.owner in (
       went 0 0 _ c.get-again.result c.let_go-zero.result.0 again c.let_go-zero.ensures.went,
       took_calm 1 2 1 c.args.one c.sleep_called-slept.result.1 _ c.requires.calm.1 c.sleep_called-slept.ensures.called.1,
     )
