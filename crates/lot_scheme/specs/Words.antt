@@ -1,9 +1,9 @@
 -- Words: which accesses a call made, the oldest first. t is a thread, l a lock, c a condition, k a semaphore.
-use Rattle.std.specs.Prelude.{◌≡◌, ◌≢◌, ℕ, zero, suc, ◌%◌, ◌⊎◌, ◌++◌, Bool, true, false, List, [], ◌∷◌, Option, Some, None}
+use Rattle.std.specs.Prelude.{◌≡◌, ◌≢◌, ℕ, zero, suc, ◌%◌, ◌⊎◌, ◌++◌, Bool, true, false, List, [], ◌∷◌, Some, None}
 use Rattle.std.specs.List.{All}
-use Rattle.lot_events.specs.declared.events.Event.TheVariants.{Try, Take, Mark, Park, Pass, Look, Call, Lower, Sweep}
+use Rattle.lot_events.specs.declared.events.Event.TheVariants.{Try, Take, Mark, Park, Look, Lower, Sweep}
 use Rattle.lot_events.specs.declared.events.Event.TheVariants.{SemTake, SemMark, SemPark, SemFree}
-use Rattle.lot_events.specs.declared.events.Seen.TheVariants.{Bool as Saw, Done, Sleeper, Count}
+use Rattle.lot_events.specs.declared.events.Seen.TheVariants.{Bool as Saw, Done, Count}
 use Rattle.lot_rights.specs.declared.views.Access.{Access}
 use Rattle.lot_rights.specs.declared.views.Access.TheVariants.{Makes, Collects, Finds}
 use Rattle.lot_sems.specs.Calls.{IsAnyLeft, IsUnmarked}
@@ -35,20 +35,11 @@ TryWord t l got acts =
     ((got ≡ true) × (acts ≡ Makes (Take t l) (Saw true) ∷ []))
     ⊎ ((word : ℕ) × (word ≢ 0) × (acts ≡ Finds t l word ∷ Makes (Try t l) (Saw got) ∷ []))
 
--- the lock was passed on: of its line this was the first, and the lock was handed to it where this is fair
-abbrev pub PassWord : ℕ → ℕ → Option ℕ → Bool → List Access → Type 0
-PassWord t l first fair acts = (more : Bool) × (acts ≡ Makes (Pass t l fair more) (Sleeper first) ∷ [])
-
 -- ---- conditions
 -- a look for the letter of a wait, in vain
 abbrev pub IsVain : ℕ → Access → Type 0
 IsVain t (Collects u None) = u ≡ t
 IsVain t _ = ⊥
-
--- a notification that takes at most n, after a look that found the flag set; and what it took, so many
-abbrev pub CallWord : ℕ → ℕ → ℕ → ℕ → List Access → Type 0
-CallWord t c n taken acts =
-    (more : Bool) × (acts ≡ Makes (Look t c) (Saw true) ∷ Makes (Call t c n more) (Count taken) ∷ [])
 
 abbrev pub word_of_all : ℕ → ℕ → ℕ → List Access
 word_of_all t c taken = Makes (Look t c) (Saw true) ∷ Makes (Lower t c) Done ∷ Makes (Sweep t c) (Count taken) ∷ []
