@@ -20,11 +20,11 @@ use Rattle.lot_order.proofs.Circles.{ordered_at}
 
 -- what the thread has by these locks and semaphores
 abbrev pub rights : Locks → Semaphores → ℕ → Held
-rights a z t = record { locks = λ l. a.has l t; permits = λ k. z.out k t }
+rights a z t = record { locks = λ l. a.has l t ≡ true; permits = λ k. z.out k t }
 
 -- who has h' has nothing that is not in h
 pub record IsWithin (h' h : Held) : Type 0 where
-  pub locks : (j : ℕ) → h'.locks j ≡ true → h.locks j ≡ true
+  pub locks : (j : ℕ) → h'.locks j → h.locks j
   pub permits : (j : ℕ) → 1 ≤ h'.permits j → 1 ≤ h.permits j
 
 pub within_itself : (h : Held) → IsWithin h h
@@ -39,46 +39,46 @@ fewer_beside h' h l within j (inl (lock, ne)) = inl (within.locks j lock, ne)
 fewer_beside h' h l within j (inr permit) = inr (within.permits j permit)
 
 -- with fewer keys a thread stays in order
-pub fewer : (level : ℕ → ℕ) (keys : ℕ) (permits : ℕ → ℕ) (h' h : Held) (p : Point) → IsWithin h' h
-    → InOrder level keys permits h p → InOrder level keys permits h' p
-fewer level keys permits h' h Calm within o = tt
-fewer level keys permits h' h (Wants l) within o = (o.0, λ j has. o.1 j (fewer_keys h' h within j has))
-fewer level keys permits h' h (Bed c l) within o =
+pub fewer : (above : ℕ → ℕ → Type 0) (keys : ℕ) (h' h : Held) (p : Point) → IsWithin h' h
+    → InOrder above keys h p → InOrder above keys h' p
+fewer above keys h' h Calm within o = tt
+fewer above keys h' h (Wants l) within o = (o.0, λ j has. o.1 j (fewer_keys h' h within j has))
+fewer above keys h' h (Bed c l) within o =
     (o.0, (λ j has. o.1 j (fewer_beside h' h l within j has)), (λ j has. o.2 j (fewer_beside h' h l within j has)))
-fewer level keys permits h' h (Rest c l) within o =
+fewer above keys h' h (Rest c l) within o =
     (o.0, (λ j has. o.1 j (fewer_keys h' h within j has)), (λ j has. o.2 j (fewer_keys h' h within j has)))
-fewer level keys permits h' h (Sweeps c) within o = tt
-fewer level keys permits h' h (Seeks k) within o = (o.0, o.1, λ j has. o.2 j (fewer_keys h' h within j has))
+fewer above keys h' h (Sweeps c) within o = tt
+fewer above keys h' h (Seeks k) within o = (o.0, λ j has. o.1 j (fewer_keys h' h within j has))
 
 -- the state's threads are in order with these rights and points
-abbrev pub AreOrdered : (ℕ → ℕ) → World → (ℕ → Held) → (ℕ → Point) → Type 0
-AreOrdered level s has point = (v : ℕ) → InOrder level (key_count s) s.permits (has v) (point v)
+abbrev pub AreOrdered : (ℕ → ℕ → Type 0) → World → (ℕ → Held) → (ℕ → Point) → Type 0
+AreOrdered above s has point = (v : ℕ) → InOrder above (key_count s) (has v) (point v)
 
 -- all but t have no more than before
 abbrev pub OthersWithin : World → (ℕ → Held) → ℕ → Type 0
 OthersWithin s has t = (v : ℕ) → v ≢ t → IsWithin (has v) (held_by s v)
 
 -- t goes to p, and is in order there
-pub moved : (level : ℕ → ℕ) (s : World) (has : ℕ → Held) (t : ℕ) (p : Point) → IsOrdered level s → OthersWithin s has t
-    → InOrder level (key_count s) s.permits (has t) p → AreOrdered level s has (put s.point t p)
-moved level s has t p ordered others own =
-    at_all (λ v b. InOrder level (key_count s) s.permits (has v) (if b then p else s.point v)) t own
-    (λ v ne. fewer level (key_count s) s.permits (has v) (held_by s v) (s.point v) (others v ne) (ordered v))
+pub moved : (above : ℕ → ℕ → Type 0) (s : World) (has : ℕ → Held) (t : ℕ) (p : Point) → IsOrdered above s → OthersWithin s has t
+    → InOrder above (key_count s) (has t) p → AreOrdered above s has (put s.point t p)
+moved above s has t p ordered others own =
+    at_all (λ v b. InOrder above (key_count s) (has v) (if b then p else s.point v)) t own
+    (λ v ne. fewer above (key_count s) (has v) (held_by s v) (s.point v) (others v ne) (ordered v))
 
 -- t stays where it is, and is in order there
-pub stayed : (level : ℕ → ℕ) (s : World) (has : ℕ → Held) (t : ℕ) → IsOrdered level s → OthersWithin s has t
-    → InOrder level (key_count s) s.permits (has t) (s.point t) → AreOrdered level s has s.point
-stayed level s has t ordered others own v = elim (cases_eq v t) [
-  | inl same ↦ subst (λ w. InOrder level (key_count s) s.permits (has w) (s.point w)) (sym same) own
-  | inr ne ↦ fewer level (key_count s) s.permits (has v) (held_by s v) (s.point v) (others v ne) (ordered v)
+pub stayed : (above : ℕ → ℕ → Type 0) (s : World) (has : ℕ → Held) (t : ℕ) → IsOrdered above s → OthersWithin s has t
+    → InOrder above (key_count s) (has t) (s.point t) → AreOrdered above s has s.point
+stayed above s has t ordered others own v = elim (cases_eq v t) [
+  | inl same ↦ subst (λ w. InOrder above (key_count s) (has w) (s.point w)) (sym same) own
+  | inr ne ↦ fewer above (key_count s) (has v) (held_by s v) (s.point v) (others v ne) (ordered v)
 ]
 
 -- a calm thread is in order with whatever it has
-pub calm_stayed : (level : ℕ → ℕ) (s : World) (has : ℕ → Held) (t : ℕ) → IsOrdered level s → OthersWithin s has t → s.point t ≡ Calm
-    → AreOrdered level s has s.point
-calm_stayed level s has t ordered others calm =
-    stayed level s has t ordered others
-    (subst (λ p. InOrder level (key_count s) s.permits (has t) p) (sym calm) tt)
+pub calm_stayed : (above : ℕ → ℕ → Type 0) (s : World) (has : ℕ → Held) (t : ℕ) → IsOrdered above s → OthersWithin s has t → s.point t ≡ Calm
+    → AreOrdered above s has s.point
+calm_stayed above s has t ordered others calm =
+    stayed above s has t ordered others
+    (subst (λ p. InOrder above (key_count s) (has t) p) (sym calm) tt)
 
 -- Locks.
 
@@ -91,9 +91,9 @@ lock_others s l t b v ne = record {
   permits = λ j e. e;
 }
 
-pub try_ordered : (level : ℕ → ℕ) (s : World) (t l : ℕ) → IsOrdered level s → s.point t ≡ Calm → IsOrdered level (after s (Try t l))
-try_ordered level s t l ordered calm =
-    by_bit (λ b. AreOrdered level s
+pub try_ordered : (above : ℕ → ℕ → Type 0) (s : World) (t l : ℕ) → IsOrdered above s → s.point t ≡ Calm → IsOrdered above (after s (Try t l))
+try_ordered above s t l ordered calm =
+    by_bit (λ b. AreOrdered above s
     (rights (if b then s.locks else record s.locks {
       held = put s.locks.held l true;
       has = put s.locks.has l (put
@@ -101,20 +101,20 @@ try_ordered level s t l ordered calm =
     }) s.sems)
     s.point) (s.locks.held l)
     (λ held. ordered)
-    (λ free. calm_stayed level s _ t ordered (lock_others s l t true) calm)
+    (λ free. calm_stayed above s _ t ordered (lock_others s l t true) calm)
 
-pub take_ordered : (level : ℕ → ℕ) (s : World) (t l : ℕ) → IsOrdered level s → l < s.lock_count → KeepsOrder level s (Take t l)
-    → IsOrdered level (after s (Take t l))
-take_ordered level s t l ordered lock keeps =
-    by_bit (λ b. AreOrdered level s
+pub take_ordered : (above : ℕ → ℕ → Type 0) (s : World) (t l : ℕ) → IsOrdered above s → l < s.lock_count → KeepsOrder above s (Take t l)
+    → IsOrdered above (after s (Take t l))
+take_ordered above s t l ordered lock keeps =
+    by_bit (λ b. AreOrdered above s
     (rights (if b then s.locks else record s.locks {
       held = put s.locks.held l true;
       has = put s.locks.has l (put
           (s.locks.has l) t true);
     }) s.sems)
     (put s.point t (if b then Wants l else Calm))) (s.locks.held l)
-    (λ held. moved level s (held_by s) t (Wants l) ordered (λ v ne. within_itself (held_by s v)) (omega (arith, lock), keeps held))
-    (λ free. moved level s _ t Calm ordered (lock_others s l t true) tt)
+    (λ held. moved above s (held_by s) t (Wants l) ordered (λ v ne. within_itself (held_by s v)) (omega (arith, lock), keeps held))
+    (λ free. moved above s _ t Calm ordered (lock_others s l t true) tt)
 
 -- t has all that it had but lock l
 pub own_left : (s : World) (l t : ℕ) (has : ℕ → ℕ → Bool) → has l t ≡ false → ((j : ℕ) → j ≢ l → has j t ≡ s.locks.has j t)
@@ -125,39 +125,39 @@ own_left s l t has lost same j is = elim (cases_eq j l) [
 ]
 
 -- who lets l go from a bed rests, with what lay beside it
-pub left_bed : (level : ℕ → ℕ) (s : World) (c l t : ℕ) (h : Held) → IsOrdered level s → s.point t ≡ Bed c l
-    → ((j : ℕ) → HasKey h j → HasBeside (held_by s t) l j) → InOrder level (key_count s) s.permits h (Rest c l)
-left_bed level s c l t h ordered bed beside =
-    let o = ordered_at level s t (Bed c l) ordered bed in
+pub left_bed : (above : ℕ → ℕ → Type 0) (s : World) (c l t : ℕ) (h : Held) → IsOrdered above s → s.point t ≡ Bed c l
+    → ((j : ℕ) → HasKey h j → HasBeside (held_by s t) l j) → InOrder above (key_count s) h (Rest c l)
+left_bed above s c l t h ordered bed beside =
+    let o = ordered_at above s t (Bed c l) ordered bed in
     (o.0, (λ j has. o.1 j (beside j has)), (λ j has. o.2 j (beside j has)))
 
 -- t, without l, goes where letting it go leads
-pub let_go_own : (level : ℕ → ℕ) (s : World) (l t : ℕ) (has : ℕ → ℕ → Bool) → IsOrdered level s → MayLetGo s t l → has l t ≡ false
+pub let_go_own : (above : ℕ → ℕ → Type 0) (s : World) (l t : ℕ) (has : ℕ → ℕ → Bool) → IsOrdered above s → MayLetGo s t l → has l t ≡ false
     → ((j : ℕ) → j ≢ l → has j t ≡ s.locks.has j t)
-    → InOrder level (key_count s) s.permits (record { locks = λ j. has j t; permits = λ k. s.sems.out k t }) (released (s.point t))
-let_go_own level s l t has ordered (inl calm) lost same =
-    subst (λ p. InOrder level (key_count s) s.permits (record { locks = λ j. has j t; permits = λ k. s.sems.out k t }) (released p))
+    → InOrder above (key_count s) (record { locks = λ j. has j t ≡ true; permits = λ k. s.sems.out k t }) (released (s.point t))
+let_go_own above s l t has ordered (inl calm) lost same =
+    subst (λ p. InOrder above (key_count s) (record { locks = λ j. has j t ≡ true; permits = λ k. s.sems.out k t }) (released p))
     (sym calm) tt
-let_go_own level s l t has ordered (inr (c, bed)) lost same =
-    subst (λ p. InOrder level (key_count s) s.permits (record { locks = λ j. has j t; permits = λ k. s.sems.out k t }) (released p))
+let_go_own above s l t has ordered (inr (c, bed)) lost same =
+    subst (λ p. InOrder above (key_count s) (record { locks = λ j. has j t ≡ true; permits = λ k. s.sems.out k t }) (released p))
     (sym bed)
-    (left_bed level s c l t _ ordered bed (λ j key. elim key [
+    (left_bed above s c l t _ ordered bed (λ j key. elim key [
       | inl lock ↦ inl (own_left s l t has lost same j lock)
       | inr permit ↦ inr permit
     ]))
 
 -- t lets l go to nobody
-pub freed_ordered : (level : ℕ → ℕ) (s : World) (l t : ℕ) → IsOrdered level s → MayLetGo s t l
-    → AreOrdered level s (rights (record s.locks { has = put s.locks.has l (put (s.locks.has l) t false) }) s.sems) (let_go s.point t)
-freed_ordered level s l t ordered may =
-    moved level s _ t (released (s.point t)) ordered (lock_others s l t false)
-    (let_go_own level s l t (put s.locks.has l (put (s.locks.has l) t false)) ordered may
+pub freed_ordered : (above : ℕ → ℕ → Type 0) (s : World) (l t : ℕ) → IsOrdered above s → MayLetGo s t l
+    → AreOrdered above s (rights (record s.locks { has = put s.locks.has l (put (s.locks.has l) t false) }) s.sems) (let_go s.point t)
+freed_ordered above s l t ordered may =
+    moved above s _ t (released (s.point t)) ordered (lock_others s l t false)
+    (let_go_own above s l t (put s.locks.has l (put (s.locks.has l) t false)) ordered may
     (ap (λ f. f t) (put_same s.locks.has l (put (s.locks.has l) t false)) ∙ put_same (s.locks.has l) t false)
     (λ j ne. ap (λ f. f t) (put_other s.locks.has l (put (s.locks.has l) t false) j ne)))
 
-pub free_ordered : (level : ℕ → ℕ) (s : World) (t l : ℕ) → IsOrdered level s → MayLetGo s t l → IsOrdered level (after s (Free t l))
-free_ordered level s t l ordered may =
-    by_bit (λ b. AreOrdered level s
+pub free_ordered : (above : ℕ → ℕ → Type 0) (s : World) (t l : ℕ) → IsOrdered above s → MayLetGo s t l → IsOrdered above (after s (Free t l))
+free_ordered above s t l ordered may =
+    by_bit (λ b. AreOrdered above s
     (rights (if b then s.locks else record s.locks {
       held = put s.locks.held l false;
       has = put s.locks.has l (put
@@ -165,17 +165,17 @@ free_ordered level s t l ordered may =
     }) s.sems)
     (if b then s.point else let_go s.point t)) (s.locks.parked l)
     (λ parked. ordered)
-    (λ unparked. freed_ordered level s l t ordered may)
+    (λ unparked. freed_ordered above s l t ordered may)
 
 -- t hands l to u, who is calm then
-pub handed_ordered : (level : ℕ → ℕ) (s : World) (t l u : ℕ) → IsOrdered level s → MayLetGo s t l
-    → AreOrdered level s (rights (record s.locks { has = put s.locks.has l (put (put (s.locks.has l) t false) u true) }) s.sems)
+pub handed_ordered : (above : ℕ → ℕ → Type 0) (s : World) (t l u : ℕ) → IsOrdered above s → MayLetGo s t l
+    → AreOrdered above s (rights (record s.locks { has = put s.locks.has l (put (put (s.locks.has l) t false) u true) }) s.sems)
     (put (let_go s.point t) u Calm)
-handed_ordered level s t l u ordered may =
-    at_all (λ v b. InOrder level (key_count s) s.permits
+handed_ordered above s t l u ordered may =
+    at_all (λ v b. InOrder above (key_count s)
     (rights (record s.locks { has = put s.locks.has l (put (put (s.locks.has l) t false) u true) }) s.sems v)
     (if b then Calm else let_go s.point t v)) u tt
-    (λ v ne. fewer level (key_count s) s.permits _
+    (λ v ne. fewer above (key_count s) _
     (rights (record s.locks { has = put s.locks.has l (put (s.locks.has l) t false) }) s.sems v) (let_go s.point t v)
     (record {
       locks = λ j. at_all (λ i e. (if e then put (put (s.locks.has l) t false) u true else s.locks.has i) v ≡ true
@@ -183,23 +183,23 @@ handed_ordered level s t l u ordered may =
           (λ has. sym (put_other (put (s.locks.has l) t false) u true v ne) ∙ has) (λ i ne has. has) j;
       permits = λ j e. e;
     })
-    (freed_ordered level s l t ordered may v))
+    (freed_ordered above s l t ordered may v))
 
-pub pass_ordered : (level : ℕ → ℕ) (s : World) (t l : ℕ) (fair more : Bool) → IsOrdered level s → MayLetGo s t l
-    → IsOrdered level (after s (Pass t l fair more))
-pass_ordered level s t l true more ordered may =
-    by_line (λ xs. AreOrdered level s (rights (passed_line s.locks t l true more xs) s.sems) (handed (let_go s.point t) xs))
+pub pass_ordered : (above : ℕ → ℕ → Type 0) (s : World) (t l : ℕ) (fair more : Bool) → IsOrdered above s → MayLetGo s t l
+    → IsOrdered above (after s (Pass t l fair more))
+pass_ordered above s t l true more ordered may =
+    by_line (λ xs. AreOrdered above s (rights (passed_line s.locks t l true more xs) s.sems) (handed (let_go s.point t) xs))
     (s.locks.line l)
-    (λ none. freed_ordered level s l t ordered may)
-    (λ u rest is. handed_ordered level s t l u ordered may)
-pass_ordered level s t l false more ordered may =
-    by_line (λ xs. AreOrdered level s (rights (passed_line s.locks t l false more xs) s.sems) (let_go s.point t)) (s.locks.line l)
-    (λ none. freed_ordered level s l t ordered may)
-    (λ u rest is. freed_ordered level s l t ordered may)
+    (λ none. freed_ordered above s l t ordered may)
+    (λ u rest is. handed_ordered above s t l u ordered may)
+pass_ordered above s t l false more ordered may =
+    by_line (λ xs. AreOrdered above s (rights (passed_line s.locks t l false more xs) s.sems) (let_go s.point t)) (s.locks.line l)
+    (λ none. freed_ordered above s l t ordered may)
+    (λ u rest is. freed_ordered above s l t ordered may)
 
-pub park_ordered : (level : ℕ → ℕ) (s : World) (t l : ℕ) → IsOrdered level s → IsOrdered level (after s (Park t l))
-park_ordered level s t l ordered =
-    by_bit (λ b. AreOrdered level s
+pub park_ordered : (above : ℕ → ℕ → Type 0) (s : World) (t l : ℕ) → IsOrdered above s → IsOrdered above (after s (Park t l))
+park_ordered above s t l ordered =
+    by_bit (λ b. AreOrdered above s
     (rights (if b then record s.locks { line = put s.locks.line l (s.locks.line l ++ t ∷ []) } else s.locks) s.sems) s.point)
     (s.locks.held l && s.locks.parked l)
     (λ both. ordered) (λ not_both. ordered)
@@ -221,74 +221,74 @@ permit_others s z k t n is v ne = record {
 abbrev pub with_permit : Semaphores → ℕ → ℕ → Semaphores
 with_permit z t k = record z { left = put z.left k (z.left k - 1); out = put z.out k (put (z.out k) t (z.out k t + 1)) }
 
-pub sem_take_ordered : (level : ℕ → ℕ) (s : World) (t k : ℕ) → IsOrdered level s → k < key_count s → KeepsOrder level s (SemTake t k)
-    → IsOrdered level (after s (SemTake t k))
-sem_take_ordered level s t k ordered key keeps =
-    by_bit (λ b. AreOrdered level s (rights s.locks (if b then s.sems else with_permit s.sems t k))
+pub sem_take_ordered : (above : ℕ → ℕ → Type 0) (s : World) (t k : ℕ) → IsOrdered above s → k < key_count s → KeepsOrder above s (SemTake t k)
+    → IsOrdered above (after s (SemTake t k))
+sem_take_ordered above s t k ordered key keeps =
+    by_bit (λ b. AreOrdered above s (rights s.locks (if b then s.sems else with_permit s.sems t k))
     (put s.point t (if b then Seeks k else Calm))) (none_left s.sems k)
-    (λ none. let asks = keeps (eqb-true (s.sems.left k) 0 none) in
-    moved level s (held_by s) t (Seeks k) ordered (λ v ne. within_itself (held_by s v)) (key, asks.0, asks.1))
-    (λ some. moved level s (rights s.locks (with_permit s.sems t k)) t Calm ordered
+    (λ none. moved above s (held_by s) t (Seeks k) ordered (λ v ne. within_itself (held_by s v))
+    (key, keeps (eqb-true (s.sems.left k) 0 none)))
+    (λ some. moved above s (rights s.locks (with_permit s.sems t k)) t Calm ordered
     (permit_others s (with_permit s.sems t k) k t (s.sems.out k t + 1) refl) tt)
 
 -- a calm thread gives a permit back
-pub given_ordered : (level : ℕ → ℕ) (s : World) (z : Semaphores) (t k : ℕ) → IsOrdered level s → s.point t ≡ Calm
-    → z.out ≡ put s.sems.out k (put (s.sems.out k) t (s.sems.out k t - 1)) → AreOrdered level s (rights s.locks z) s.point
-given_ordered level s z t k ordered calm is = calm_stayed level s _ t ordered (permit_others s z k t _ is) calm
+pub given_ordered : (above : ℕ → ℕ → Type 0) (s : World) (z : Semaphores) (t k : ℕ) → IsOrdered above s → s.point t ≡ Calm
+    → z.out ≡ put s.sems.out k (put (s.sems.out k) t (s.sems.out k t - 1)) → AreOrdered above s (rights s.locks z) s.point
+given_ordered above s z t k ordered calm is = calm_stayed above s _ t ordered (permit_others s z k t _ is) calm
 
-pub sem_free_ordered : (level : ℕ → ℕ) (s : World) (t k : ℕ) → IsOrdered level s → s.point t ≡ Calm
-    → IsOrdered level (after s (SemFree t k))
-sem_free_ordered level s t k ordered calm =
-    by_bit (λ b. AreOrdered level s (rights s.locks (if b then s.sems else permit_given s.sems t k)) s.point) (s.sems.parked k)
+pub sem_free_ordered : (above : ℕ → ℕ → Type 0) (s : World) (t k : ℕ) → IsOrdered above s → s.point t ≡ Calm
+    → IsOrdered above (after s (SemFree t k))
+sem_free_ordered above s t k ordered calm =
+    by_bit (λ b. AreOrdered above s (rights s.locks (if b then s.sems else permit_given s.sems t k)) s.point) (s.sems.parked k)
     (λ parked. ordered)
-    (λ unparked. given_ordered level s (permit_given s.sems t k) t k ordered calm refl)
+    (λ unparked. given_ordered above s (permit_given s.sems t k) t k ordered calm refl)
 
-pub sem_pass_ordered : (level : ℕ → ℕ) (s : World) (t k : ℕ) (more : Bool) → IsOrdered level s → s.point t ≡ Calm
-    → IsOrdered level (after s (SemPass t k more))
-sem_pass_ordered level s t k more ordered calm =
-    by_line (λ xs. AreOrdered level s (rights s.locks (seeker_woken (permit_given s.sems t k) k more xs)) s.point) (s.sems.line k)
-    (λ none. given_ordered level s (permit_given s.sems t k) t k ordered calm refl)
-    (λ u rest is. given_ordered level s (seeker_woken (permit_given s.sems t k) k more (u ∷ rest)) t k ordered calm refl)
+pub sem_pass_ordered : (above : ℕ → ℕ → Type 0) (s : World) (t k : ℕ) (more : Bool) → IsOrdered above s → s.point t ≡ Calm
+    → IsOrdered above (after s (SemPass t k more))
+sem_pass_ordered above s t k more ordered calm =
+    by_line (λ xs. AreOrdered above s (rights s.locks (seeker_woken (permit_given s.sems t k) k more xs)) s.point) (s.sems.line k)
+    (λ none. given_ordered above s (permit_given s.sems t k) t k ordered calm refl)
+    (λ u rest is. given_ordered above s (seeker_woken (permit_given s.sems t k) k more (u ∷ rest)) t k ordered calm refl)
 
-pub sem_park_ordered : (level : ℕ → ℕ) (s : World) (t k : ℕ) → IsOrdered level s → IsOrdered level (after s (SemPark t k))
-sem_park_ordered level s t k ordered =
-    by_bit (λ b. AreOrdered level s (rights s.locks (if b then with_sem_line s.sems k (s.sems.line k ++ t ∷ []) else s.sems)) s.point)
+pub sem_park_ordered : (above : ℕ → ℕ → Type 0) (s : World) (t k : ℕ) → IsOrdered above s → IsOrdered above (after s (SemPark t k))
+sem_park_ordered above s t k ordered =
+    by_bit (λ b. AreOrdered above s (rights s.locks (if b then with_sem_line s.sems k (s.sems.line k ++ t ∷ []) else s.sems)) s.point)
     (none_left s.sems k && s.sems.parked k)
     (λ both. ordered) (λ not_both. ordered)
 
 -- Any event, and runs.
 
 -- t goes to a point, and nobody's rights change
-pub went_ordered : (level : ℕ → ℕ) (s : World) (t : ℕ) (p : Point) → IsOrdered level s
-    → InOrder level (key_count s) s.permits (held_by s t) p → AreOrdered level s (held_by s) (put s.point t p)
-went_ordered level s t p ordered own = moved level s (held_by s) t p ordered (λ v ne. within_itself (held_by s v)) own
+pub went_ordered : (above : ℕ → ℕ → Type 0) (s : World) (t : ℕ) (p : Point) → IsOrdered above s
+    → InOrder above (key_count s) (held_by s t) p → AreOrdered above s (held_by s) (put s.point t p)
+went_ordered above s t p ordered own = moved above s (held_by s) t p ordered (λ v ne. within_itself (held_by s v)) own
 
-pub event_ordered : (level : ℕ → ℕ) (s : World) (e : Event) → IsOrdered level s → Allowed s e → KeepsOrder level s e
-    → IsOrdered level (after s e)
-event_ordered level s (Try t l) ordered ok keeps = try_ordered level s t l ordered ok.2
-event_ordered level s (Take t l) ordered ok keeps = take_ordered level s t l ordered ok.1 keeps
-event_ordered level s (Mark t l) ordered ok keeps = ordered
-event_ordered level s (Park t l) ordered ok keeps = park_ordered level s t l ordered
-event_ordered level s (Free t l) ordered ok keeps = free_ordered level s t l ordered ok.3
-event_ordered level s (Pass t l fair more) ordered ok keeps = pass_ordered level s t l fair more ordered ok.4
-event_ordered level s (Enlist t c l) ordered ok keeps =
+pub event_ordered : (above : ℕ → ℕ → Type 0) (s : World) (e : Event) → IsOrdered above s → Allowed s e → KeepsOrder above s e
+    → IsOrdered above (after s e)
+event_ordered above s (Try t l) ordered ok keeps = try_ordered above s t l ordered ok.2
+event_ordered above s (Take t l) ordered ok keeps = take_ordered above s t l ordered ok.1 keeps
+event_ordered above s (Mark t l) ordered ok keeps = ordered
+event_ordered above s (Park t l) ordered ok keeps = park_ordered above s t l ordered
+event_ordered above s (Free t l) ordered ok keeps = free_ordered above s t l ordered ok.3
+event_ordered above s (Pass t l fair more) ordered ok keeps = pass_ordered above s t l fair more ordered ok.4
+event_ordered above s (Enlist t c l) ordered ok keeps =
     let lock = ok.2 in
-    went_ordered level s t (Bed c l) ordered (omega (arith, lock), keeps.0, keeps.1)
-event_ordered level s (Look t c) ordered ok keeps = ordered
-event_ordered level s (Call t c n more) ordered ok keeps = ordered
-event_ordered level s (Lower t c) ordered ok keeps = went_ordered level s t (Sweeps c) ordered tt
-event_ordered level s (Sweep t c) ordered ok keeps = went_ordered level s t Calm ordered tt
-event_ordered level s (SemTake t k) ordered ok keeps =
-    sem_take_ordered level s t k ordered ok.1.1 keeps
-event_ordered level s (SemMark t k) ordered ok keeps = ordered
-event_ordered level s (SemPark t k) ordered ok keeps = sem_park_ordered level s t k ordered
-event_ordered level s (SemFree t k) ordered ok keeps = sem_free_ordered level s t k ordered ok.2
-event_ordered level s (SemPass t k more) ordered ok keeps = sem_pass_ordered level s t k more ordered ok.2
-event_ordered level s (SemClear t k) ordered ok keeps = ordered
+    went_ordered above s t (Bed c l) ordered (omega (arith, lock), keeps.0, keeps.1)
+event_ordered above s (Look t c) ordered ok keeps = ordered
+event_ordered above s (Call t c n more) ordered ok keeps = ordered
+event_ordered above s (Lower t c) ordered ok keeps = went_ordered above s t (Sweeps c) ordered tt
+event_ordered above s (Sweep t c) ordered ok keeps = went_ordered above s t Calm ordered tt
+event_ordered above s (SemTake t k) ordered ok keeps =
+    sem_take_ordered above s t k ordered ok.1.1 keeps
+event_ordered above s (SemMark t k) ordered ok keeps = ordered
+event_ordered above s (SemPark t k) ordered ok keeps = sem_park_ordered above s t k ordered
+event_ordered above s (SemFree t k) ordered ok keeps = sem_free_ordered above s t k ordered ok.2
+event_ordered above s (SemPass t k more) ordered ok keeps = sem_pass_ordered above s t k more ordered ok.2
+event_ordered above s (SemClear t k) ordered ok keeps = ordered
 
-pub run_ordered : (level : ℕ → ℕ) (s : World) (events : List Event) → IsOrdered level s → OrderlyRun level s events
-    → Run s events × IsOrdered level (after_all s events)
-run_ordered level s [] ordered run = (tt, ordered)
-run_ordered level s (e ∷ events) ordered run =
-    let rest = run_ordered level (after s e) events (event_ordered level s e ordered run.0 run.1) run.2 in
+pub run_ordered : (above : ℕ → ℕ → Type 0) (s : World) (events : List Event) → IsOrdered above s → OrderlyRun above s events
+    → Run s events × IsOrdered above (after_all s events)
+run_ordered above s [] ordered run = (tt, ordered)
+run_ordered above s (e ∷ events) ordered run =
+    let rest = run_ordered above (after s e) events (event_ordered above s e ordered run.0 run.1) run.2 in
     ((run.0, rest.0), rest.1)

@@ -18,9 +18,9 @@ use Rattle.lot_core.proofs.Put.{by_bit}
 use Rattle.lot_core.proofs.Members.{in_none}
 use Rattle.lot_core.proofs.Permits.{found, seeking_is}
 use Rattle.lot_core.proofs.Following.{sought_is}
-use Rattle.lot_order.specs.Order.{held_by, IsOrdered, key_count}
-use Rattle.lot_order.specs.Waiting.{Has, Needs, MayGet, GoesOn, AwaitsNotice}
-use Rattle.lot_order.proofs.Circles.{ordered_at, needed}
+use Rattle.lot_order.specs.Order.{IsOrdered, key_count, Rises}
+use Rattle.lot_order.specs.Waiting.{Has, Needs, MayGet, GoesOn, AwaitsNotice, SeeksInVain, SomeoneGoesOn, IsOrderly}
+use Rattle.lot_order.proofs.Circles.{ordered_at, needed, no_circle}
 
 -- who stands in a line, or doesn't
 pub in_line : (line : List ℕ) (t : ℕ) → Contains line t ⊎ (Contains line t → ⊥)
@@ -49,60 +49,12 @@ pub bit_set : (b : Bool) → 1 ≤ bit b → b ≡ true
 bit_set true some = refl
 bit_set false some = absurd (omega (arith, some))
 
--- who needs k, or has it and stands so, goes on; or waits in turn for a key further up
-abbrev pub Next : (ℕ → ℕ) → World → ℕ → Type 0
-Next level s k = GoesOn s ⊎ AwaitsNotice level s ⊎ ((u j : ℕ) × Needs s u j × (level k < level j))
-
-pub gets : (level : ℕ → ℕ) (s : World) (t k : ℕ) → MayGet s t k → Next level s k
-gets level s t k may = inl (inl (t, k, may))
-
-pub has_it : (level : ℕ → ℕ) (s : World) (u t k : ℕ) (p : Point) → IsOrdered level s → Has s u k → Needs s t k → s.point u ≡ p
-    → Next level s k
-has_it level s u t k Calm ordered has needs at = inl (inr (u, t, k, inl at, has, needs))
-has_it level s u t k (Bed c l) ordered has needs at = inl (inr (u, t, k, inr (inr (c, l, at)), has, needs))
-has_it level s u t k (Sweeps c) ordered has needs at = inl (inr (u, t, k, inr (inl (c, at)), has, needs))
-has_it level s u t k (Wants l) ordered has needs at =
-    let o = ordered_at level s u (Wants l) ordered at in inr (inr (u, l, inl at, o.1 k has))
-has_it level s u t k (Seeks j) ordered has needs at =
-    let o = ordered_at level s u (Seeks j) ordered at in inr (inr (u, j, inr (inl at), o.2 k has))
-has_it level s u t k (Rest c l) ordered has needs at =
-    let o = ordered_at level s u (Rest c l) ordered at in
-    elim (in_line (s.conds.line c) u) [
-      | inl sleeps ↦ inr (inl (u, t, k, c, l, at, sleeps, has, needs, o.2 k has))
-      | inr up ↦ inr (inr (u, l, inr (inr (c, at, up)), o.1 k has))
-    ]
-
--- a lock that is held has an owner
-pub owned : (level : ℕ → ℕ) (s : World) (t k : ℕ) → IsSound s → IsOrdered level s → Needs s t k → s.locks.held k ≡ true → Next level s k
-owned level s t k sound ordered needs held =
-    let owner = (sound.one_owner.some k).0 held in
-    has_it level s owner.0 t k (s.point owner.0) ordered (inl owner.1) needs refl
-
-pub some_in : (line : List ℕ) (t : ℕ) → Contains line t → line ≢ []
+-- a line that someone is in has a first
+some_in : (line : List ℕ) (t : ℕ) → Contains line t → line ≢ []
 some_in line t inside none = in_none t (subst (λ xs. Contains xs t) none inside)
 
-pub next_wanted : (level : ℕ → ℕ) (s : World) (t k : ℕ) → IsSound s → IsOrdered level s → s.point t ≡ Wants k → Next level s k
-next_wanted level s t k sound ordered wants =
-    by_bit (λ b. s.locks.held k ≡ b → Next level s k) (s.locks.held k)
-    (λ _ held. owned level s t k sound ordered (inl wants) held)
-    (λ _ free. elim (in_line (s.locks.line k) t) [
-      | inl sleeps ↦
-          let other = sound.someone_is_trying k free (some_in (s.locks.line k) t sleeps) in
-          gets level s other.0 k (inl (other.2, free))
-      | inr up ↦ gets level s t k (inl (inl (wants, up), free))
-    ])
-    refl
-
-pub next_rested : (level : ℕ → ℕ) (s : World) (t k c : ℕ) → IsSound s → IsOrdered level s → s.point t ≡ Rest c k
-    → (Contains (s.conds.line c) t → ⊥) → Next level s k
-next_rested level s t k c sound ordered rests up =
-    by_bit (λ b. s.locks.held k ≡ b → Next level s k) (s.locks.held k)
-    (λ _ held. owned level s t k sound ordered (inr (inr (c, rests, up))) held)
-    (λ _ free. gets level s t k (inl (inr (c, rests, up), free)))
-    refl
-
 -- where permits are left, somebody seeks them who is up
-pub seeker : (s : World) (t k : ℕ) → IsSound s → s.point t ≡ Seeks k → 1 ≤ s.sems.left k → (u : ℕ) × IsSeeking s u k
+seeker : (s : World) (t k : ℕ) → IsSound s → s.point t ≡ Seeks k → 1 ≤ s.sems.left k → (u : ℕ) × IsSeeking s u k
 seeker s t k sound seeks some = elim (in_line (s.sems.line k) t) [
   | inr up ↦ (t, (seeks, up))
   | inl sleeps ↦
@@ -113,42 +65,106 @@ seeker s t k sound seeks some = elim (in_line (s.sems.line k) t) [
       (one.0, (sought_is (s.point one.0) k is.0, is.1))
 ]
 
-pub next_sought : (level : ℕ → ℕ) (s : World) (t k : ℕ) → IsSound s → IsOrdered level s → s.point t ≡ Seeks k → Next level s k
-next_sought level s t k sound ordered seeks = elim (eq-zero-or-pos (s.sems.left k)) [
-  | inr some ↦
-      let left : 1 ≤ s.sems.left k = omega (arith, some) in
-      let who = seeker s t k sound seeks left in
-      gets level s who.0 k (inr (who.1, left))
-  | inl none ↦
-      let conserved = sound.permits_conserved k in
-      let opened = (ordered_at level s t (Seeks k) ordered seeks).1 in
-      let holder = some_part s.threads (s.sems.out k) (omega (arith, conserved, opened, none)) in
-      has_it level s holder.0 t k (s.point holder.0) ordered (inr holder.1) (inr (inl seeks)) refl
-]
+module _ (above : ℕ → ℕ → Type 0) (s : World) (sound : IsSound s) (ordered : IsOrdered above s) where
+  -- what may be found where some thread needs a key
+  abbrev pub Found : Type 0
+  Found = GoesOn s ⊎ AwaitsNotice above s ⊎ SeeksInVain s
 
-pub next : (level : ℕ → ℕ) (s : World) (t k : ℕ) → IsSound s → IsOrdered level s → Needs s t k → Next level s k
-next level s t k sound ordered (inl wants) = next_wanted level s t k sound ordered wants
-next level s t k sound ordered (inr (inl seeks)) = next_sought level s t k sound ordered seeks
-next level s t k sound ordered (inr (inr rests)) = next_rested level s t k rests.0 sound ordered rests.1 rests.2
+  -- who needs k, or has it and stands so, goes on; or waits in turn for a key that lies above
+  abbrev Next : ℕ → Type 0
+  Next k = Found ⊎ ((u j : ℕ) × Needs s u j × above k j)
 
--- no level of a key is above the sum of all
-pub ends : (left : ℕ) (level : ℕ → ℕ) (s : World) (t k : ℕ) → IsSound s → IsOrdered level s → Needs s t k
-    → total (key_count s) level < level k + left → GoesOn s ⊎ AwaitsNotice level s
-ends zero level s t k sound ordered needs near =
-    absurd (omega (arith, near, part_within (key_count s) level k (needed level s t k ordered needs).0))
-ends (suc left) level s t k sound ordered needs near = elim (next level s t k sound ordered needs) [
-  | inl goes ↦ inl goes
-  | inr (inl awaits) ↦ inr awaits
-  | inr (inr further) ↦
-      ends left level s further.0 further.1 sound ordered further.2 (omega (arith, near, further.3))
-]
+  gets : (t k : ℕ) → MayGet s t k → Next k
+  gets t k may = inl (inl (inl (t, k, may)))
 
-pub goes_on : (level : ℕ → ℕ) (s : World) → IsSound s → IsOrdered level s → (t k : ℕ) → Needs s t k → GoesOn s ⊎ AwaitsNotice level s
-goes_on level s sound ordered t k needs = ends (suc (total (key_count s) level)) level s t k sound ordered needs (omega arith)
+  has_it : (u t k : ℕ) (p : Point) → Has s u k → Needs s t k → s.point u ≡ p → Next k
+  has_it u t k Calm has needs at = inl (inl (inr (u, t, k, inl at, has, needs)))
+  has_it u t k (Bed c l) has needs at = inl (inl (inr (u, t, k, inr (inr (c, l, at)), has, needs)))
+  has_it u t k (Sweeps c) has needs at = inl (inl (inr (u, t, k, inr (inl (c, at)), has, needs)))
+  has_it u t k (Wants l) has needs at =
+      let o = ordered_at above s u (Wants l) ordered at in inr (u, l, inl at, o.1 k has)
+  has_it u t k (Seeks j) has needs at =
+      let o = ordered_at above s u (Seeks j) ordered at in inr (u, j, inr (inl at), o.1 k has)
+  has_it u t k (Rest c l) has needs at =
+      let o = ordered_at above s u (Rest c l) ordered at in
+      elim (in_line (s.conds.line c) u) [
+        | inl sleeps ↦ inl (inr (inl (u, t, k, c, l, at, sleeps, has, needs, o.2 k has)))
+        | inr up ↦ inr (u, l, inr (inr (c, at, up)), o.1 k has)
+      ]
 
-pub nothing_kept : (level : ℕ → ℕ) (s : World) → IsSound s → IsOrdered level s → ((t c l : ℕ) → s.point t ≡ Rest c l → level c ≡ 0)
-    → (t k : ℕ) → Needs s t k → GoesOn s
-nothing_kept level s sound ordered lowest t k needs = elim (goes_on level s sound ordered t k needs) [
-  | inl goes ↦ goes
-  | inr (u, v, j, c, l, at, sleeps, has, needs_it, below) ↦ absurd (omega (arith, below, lowest u c l at))
-]
+  -- a lock that is held has an owner
+  owned : (t k : ℕ) → Needs s t k → s.locks.held k ≡ true → Next k
+  owned t k needs held =
+      let owner = (sound.one_owner.some k).0 held in
+      has_it owner.0 t k (s.point owner.0) (inl owner.1) needs refl
+
+  next_wanted : (t k : ℕ) → s.point t ≡ Wants k → Next k
+  next_wanted t k wants =
+      by_bit (λ b. s.locks.held k ≡ b → Next k) (s.locks.held k)
+      (λ _ held. owned t k (inl wants) held)
+      (λ _ free. elim (in_line (s.locks.line k) t) [
+        | inl sleeps ↦
+            let other = sound.someone_is_trying k free (some_in (s.locks.line k) t sleeps) in
+            gets other.0 k (inl (other.2, free))
+        | inr up ↦ gets t k (inl (inl (wants, up), free))
+      ])
+      refl
+
+  next_rested : (t k c : ℕ) → s.point t ≡ Rest c k → (Contains (s.conds.line c) t → ⊥) → Next k
+  next_rested t k c rests up =
+      by_bit (λ b. s.locks.held k ≡ b → Next k) (s.locks.held k)
+      (λ _ held. owned t k (inr (inr (c, rests, up))) held)
+      (λ _ free. gets t k (inl (inr (c, rests, up), free)))
+      refl
+
+  -- where none is left and the semaphore was opened with some, somebody has one
+  next_out : (t k : ℕ) → s.point t ≡ Seeks k → s.sems.left k ≡ 0 → Next k
+  next_out t k seeks none = elim (eq-zero-or-pos (s.permits k)) [
+    | inl never ↦ inl (inr (inr (t, k, seeks, never)))
+    | inr opened ↦
+        let conserved = sound.permits_conserved k in
+        let holder = some_part s.threads (s.sems.out k) (omega (arith, conserved, opened, none)) in
+        has_it holder.0 t k (s.point holder.0) (inr holder.1) (inr (inl seeks)) refl
+  ]
+
+  next_sought : (t k : ℕ) → s.point t ≡ Seeks k → Next k
+  next_sought t k seeks = elim (eq-zero-or-pos (s.sems.left k)) [
+    | inr some ↦
+        let left : 1 ≤ s.sems.left k = omega (arith, some) in
+        let who = seeker s t k sound seeks left in
+        gets who.0 k (inr (who.1, left))
+    | inl none ↦ next_out t k seeks none
+  ]
+
+  next : (t k : ℕ) → Needs s t k → Next k
+  next t k (inl wants) = next_wanted t k wants
+  next t k (inr (inl seeks)) = next_sought t k seeks
+  next t k (inr (inr rests)) = next_rested t k rests.0 rests.1 rests.2
+
+  module _ (level : ℕ → ℕ) (rises : Rises above level) where
+    -- no level of a key is above the sum of all
+    ends : (left t k : ℕ) → Needs s t k → total (key_count s) level < level k + left → Found
+    ends zero t k needs near = absurd (omega (arith, near, part_within (key_count s) level k (needed above s t k ordered needs).0))
+    ends (suc left) t k needs near = elim (next t k needs) [
+      | inl found ↦ found
+      | inr further ↦
+          let higher = rises k further.1 further.3 in
+          ends left further.0 further.1 further.2 (omega (arith, near, higher))
+    ]
+
+    pub goes_on : SomeoneGoesOn above s
+    goes_on t k needs = ends (suc (total (key_count s) level)) t k needs (omega arith)
+
+    pub nothing_kept : ((t c l j : ℕ) → s.point t ≡ Rest c l → above j c → ⊥) → (t k : ℕ) → Needs s t k → GoesOn s ⊎ SeeksInVain s
+    nothing_kept lowest t k needs = elim (goes_on t k needs) [
+      | inl goes ↦ inl goes
+      | inr (inl (u, v, j, c, l, at, sleeps, has, needs_it, below)) ↦ absurd (lowest u c l j at below)
+      | inr (inr vain) ↦ inr vain
+    ]
+
+pub orderly : (above : ℕ → ℕ → Type 0) (s : World) → IsSound s → IsOrdered above s → IsOrderly above s
+orderly above s sound ordered = record {
+  ordered = ordered;
+  no_circle = λ level rises. no_circle above level rises s ordered;
+  goes_on = λ level rises. goes_on above s sound ordered level rises;
+}

@@ -1,5 +1,6 @@
--- Keys in order: each lock, semaphore and condition has a level, and whoever asks for one has only keys below it.
-use Rattle.std.specs.Prelude.{◌≡◌, ◌≢◌, ℕ, ◌+◌, ◌<◌, ◌≤◌, ◌⊎◌, Bool, true, List, [], ◌∷◌}
+-- Keys in order: of each two locks, semaphores or conditions it is said whether who has the one may wait for the other, and
+-- whoever is to wait for one has only keys with which he may.
+use Rattle.std.specs.Prelude.{◌≡◌, ◌≢◌, ℕ, ◌+◌, ◌<◌, ◌≤◌, ◌⊎◌, true, List, [], ◌∷◌}
 use Rattle.lot_events.specs.declared.events.Point.{Point}
 use Rattle.lot_events.specs.declared.events.Point.TheVariants.{Calm, Wants, Bed, Rest, Sweeps, Seeks}
 use Rattle.lot_events.specs.declared.events.Event.{Event}
@@ -8,53 +9,57 @@ use Rattle.lot_core.specs.World.{World}
 use Rattle.lot_core.specs.Steps.{Allowed, after}
 
 -- what one thread has: locks, and so many permits of each semaphore
-pub record Held : Type 0 where
-  pub locks : ℕ → Bool
+pub record Held : Type 1 where
+  pub locks : ℕ → Type 0
   pub permits : ℕ → ℕ
 
 abbrev pub held_by : World → ℕ → Held
-held_by s t = record { locks = λ l. s.locks.has l t; permits = λ k. s.sems.out k t }
+held_by s t = record { locks = λ l. s.locks.has l t ≡ true; permits = λ k. s.sems.out k t }
 
 -- the lock, or a permit of the semaphore, is among it
 abbrev pub HasKey : Held → ℕ → Type 0
-HasKey h k = (h.locks k ≡ true) ⊎ (1 ≤ h.permits k)
+HasKey h k = h.locks k ⊎ (1 ≤ h.permits k)
 
 -- and is another than lock l
 abbrev pub HasBeside : Held → ℕ → ℕ → Type 0
-HasBeside h l k = ((h.locks k ≡ true) × (k ≢ l)) ⊎ (1 ≤ h.permits k)
+HasBeside h l k = (h.locks k × (k ≢ l)) ⊎ (1 ≤ h.permits k)
 
--- all that it has lies below the key
-abbrev pub AllBelow : (ℕ → ℕ) → Held → ℕ → Type 0
-AllBelow level h k = (j : ℕ) → HasKey h j → level j < level k
+-- who has all this may wait for the key k: `above j k` says that k lies above j
+abbrev pub AllBelow : (ℕ → ℕ → Type 0) → Held → ℕ → Type 0
+AllBelow above h k = (j : ℕ) → HasKey h j → above j k
 
--- all that it has beside lock l does
-abbrev pub OthersBelow : (ℕ → ℕ) → Held → ℕ → ℕ → Type 0
-OthersBelow level h l k = (j : ℕ) → HasBeside h l j → level j < level k
+-- who has all this but lock l may
+abbrev pub OthersBelow : (ℕ → ℕ → Type 0) → Held → ℕ → ℕ → Type 0
+OthersBelow above h l k = (j : ℕ) → HasBeside h l j → above j k
+
+-- what lies above has the higher level
+abbrev pub Rises : (ℕ → ℕ → Type 0) → (ℕ → ℕ) → Type 0
+Rises above level = (j k : ℕ) → above j k → level j < level k
 
 -- the discipline: who is to wait for a lock, for a permit, or with lock l for a notification of c, has only keys below
-abbrev pub KeepsOrder : (ℕ → ℕ) → World → Event → Type 0
-KeepsOrder level s (Take t l) = s.locks.held l ≡ true → AllBelow level (held_by s t) l
-KeepsOrder level s (SemTake t k) = s.sems.left k ≡ 0 → (1 ≤ s.permits k) × AllBelow level (held_by s t) k
-KeepsOrder level s (Enlist t c l) = OthersBelow level (held_by s t) l l × OthersBelow level (held_by s t) l c
-KeepsOrder level s _ = Unit {0}
+abbrev pub KeepsOrder : (ℕ → ℕ → Type 0) → World → Event → Type 0
+KeepsOrder above s (Take t l) = s.locks.held l ≡ true → AllBelow above (held_by s t) l
+KeepsOrder above s (SemTake t k) = s.sems.left k ≡ 0 → AllBelow above (held_by s t) k
+KeepsOrder above s (Enlist t c l) = OthersBelow above (held_by s t) l l × OthersBelow above (held_by s t) l c
+KeepsOrder above s _ = Unit {0}
 
--- what a thread has, and where it stands, are in order, where there are so many keys and these permits
-abbrev pub InOrder : (ℕ → ℕ) → ℕ → (ℕ → ℕ) → Held → Point → Type 0
-InOrder level keys permits h Calm = Unit {0}
-InOrder level keys permits h (Wants l) = (l < keys) × AllBelow level h l
-InOrder level keys permits h (Bed c l) = (l < keys) × OthersBelow level h l l × OthersBelow level h l c
-InOrder level keys permits h (Rest c l) = (l < keys) × AllBelow level h l × AllBelow level h c
-InOrder level keys permits h (Sweeps c) = Unit {0}
-InOrder level keys permits h (Seeks k) = (k < keys) × (1 ≤ permits k) × AllBelow level h k
+-- what a thread has, and where it stands, are in order, where there are so many keys
+abbrev pub InOrder : (ℕ → ℕ → Type 0) → ℕ → Held → Point → Type 0
+InOrder above keys h Calm = Unit {0}
+InOrder above keys h (Wants l) = (l < keys) × AllBelow above h l
+InOrder above keys h (Bed c l) = (l < keys) × OthersBelow above h l l × OthersBelow above h l c
+InOrder above keys h (Rest c l) = (l < keys) × AllBelow above h l × AllBelow above h c
+InOrder above keys h (Sweeps c) = Unit {0}
+InOrder above keys h (Seeks k) = (k < keys) × AllBelow above h k
 
 abbrev pub key_count : World → ℕ
 key_count s = s.lock_count + s.cond_count + s.sem_count
 
 -- a state is in order where each thread is
-abbrev pub IsOrdered : (ℕ → ℕ) → World → Type 0
-IsOrdered level s = (t : ℕ) → InOrder level (key_count s) s.permits (held_by s t) (s.point t)
+abbrev pub IsOrdered : (ℕ → ℕ → Type 0) → World → Type 0
+IsOrdered above s = (t : ℕ) → InOrder above (key_count s) (held_by s t) (s.point t)
 
 -- a run each of whose events keeps the order
-abbrev pub OrderlyRun : (ℕ → ℕ) → World → List Event → Type 0
-OrderlyRun level s [] = Unit {0}
-OrderlyRun level s (e ∷ events) = Allowed s e × KeepsOrder level s e × OrderlyRun level (after s e) events
+abbrev pub OrderlyRun : (ℕ → ℕ → Type 0) → World → List Event → Type 0
+OrderlyRun above s [] = Unit {0}
+OrderlyRun above s (e ∷ events) = Allowed s e × KeepsOrder above s e × OrderlyRun above (after s e) events

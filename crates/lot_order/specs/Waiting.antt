@@ -1,10 +1,10 @@
 -- Who waits for whom, and who goes on.
-use Rattle.std.specs.Prelude.{◌≡◌, ℕ, ◌<◌, ◌≤◌, ◌⊎◌, false, List, [], ◌∷◌}
+use Rattle.std.specs.Prelude.{◌≡◌, ℕ, ◌≤◌, ◌⊎◌, false, List, [], ◌∷◌}
 use Rattle.std.specs.List.{Contains}
 use Rattle.lot_events.specs.declared.events.Point.TheVariants.{Calm, Wants, Bed, Rest, Sweeps, Seeks}
 use Rattle.lot_core.specs.World.{World}
 use Rattle.lot_core.specs.Steps.{IsTrying, IsSeeking}
-use Rattle.lot_order.specs.Order.{held_by, HasKey}
+use Rattle.lot_order.specs.Order.{held_by, HasKey, Rises, IsOrdered}
 
 abbrev pub Has : World → ℕ → ℕ → Type 0
 Has s t k = HasKey (held_by s t) k
@@ -36,7 +36,25 @@ IsBusy s t = (s.point t ≡ Calm) ⊎ ((c : ℕ) × (s.point t ≡ Sweeps c)) �
 abbrev pub GoesOn : World → Type 0
 GoesOn s = ((t k : ℕ) × MayGet s t k) ⊎ ((t u k : ℕ) × IsBusy s t × Has s t k × Needs s u k)
 
--- some thread sleeps until a notification of c, and has a key below c that another needs
-abbrev pub AwaitsNotice : (ℕ → ℕ) → World → Type 0
-AwaitsNotice level s =
-    (t u k c l : ℕ) × (s.point t ≡ Rest c l) × Contains (s.conds.line c) t × Has s t k × Needs s u k × (level k < level c)
+-- some thread sleeps until a notification of c, with which it may have a key that another needs
+abbrev pub AwaitsNotice : (ℕ → ℕ → Type 0) → World → Type 0
+AwaitsNotice above s =
+    (t u k c l : ℕ) × (s.point t ≡ Rest c l) × Contains (s.conds.line c) t × Has s t k × Needs s u k × above k c
+
+-- some thread seeks a permit of a semaphore that was opened with none
+abbrev pub SeeksInVain : World → Type 0
+SeeksInVain s = (t k : ℕ) × (s.point t ≡ Seeks k) × (s.permits k ≡ 0)
+
+-- no thread waits for itself, whatever others lie between
+abbrev pub HasNoCircle : World → Type 0
+HasNoCircle s = (t : ℕ) (others : List ℕ) → ¬ Leads s t others t
+
+-- while some thread needs a key, some thread goes on; or one that has a needed key waits to be notified, or one seeks in vain
+abbrev pub SomeoneGoesOn : (ℕ → ℕ → Type 0) → World → Type 0
+SomeoneGoesOn above s = (t k : ℕ) → Needs s t k → GoesOn s ⊎ AwaitsNotice above s ⊎ SeeksInVain s
+
+-- a state in order, and what that is worth where keys rise by some level
+pub record IsOrderly (above : ℕ → ℕ → Type 0) (s : World) : Type 0 where
+  pub ordered : IsOrdered above s
+  pub no_circle : (level : ℕ → ℕ) → Rises above level → HasNoCircle s
+  pub goes_on : (level : ℕ → ℕ) → Rises above level → SomeoneGoesOn above s

@@ -10,4 +10,4 @@
 
 pub mod laws;
 
-pub use laws::{ordered_states_go_on, orderly_runs_go_on};
+pub use laws::{KeyOrder, ordered_states_go_on, orderly_runs_go_on};

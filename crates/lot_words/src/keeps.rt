@@ -12,6 +12,9 @@ ghost use Rattle.lot_words.specs.Rested.{Rested};
 /// - `rests p`: what a thread shows when it leaves, of what it has seen, counted and done, as that it leaves its own
 ///   part of each value as it found it. Whoever registers, or takes a pass that was left, has it. Where it is left out,
 ///   nothing is asked.
+/// - `above j k`: the key k lies above the key j, so who has the lock, or a permit, of j may wait for k, as
+///   `λ j k. j < k`. Where it is left out, whoever has any key may wait for any. Where it rises by some level no circle
+///   of threads ever waits (`lot_order`).
 pub trait Keeps: Drop {
     /// What of a value belongs to one thread.
     type Part;
@@ -23,6 +26,8 @@ pub trait Keeps: Drop {
     ghost part: { ℕ → Self → Self.Part };
 
     ghost rests: { Rested Self → Type 0 } = { λ rested. Unit {0} };
+
+    ghost above: { ℕ → ℕ → Type 0 } = { λ j k. Unit {0} };
 
     ghost grows_itself: { (x : Self) → grows x x };
 

@@ -3,4 +3,8 @@ use Rattle.lot_order.proofs.Progress.{goes_on, nothing_kept}
 use Rattle.lot_order.proofs.laws.ordered_states_go_on.Goals as goal
 
 pub returns : goal.returns
-returns c = record { no_circle = no_circle; goes_on = goes_on; nothing_kept = nothing_kept }
+returns g c = record {
+  no_circle = λ level s rises ordered. no_circle g.O.KeyOrder.above level rises s ordered;
+  goes_on = λ level s rises sound ordered. goes_on g.O.KeyOrder.above s sound ordered level rises;
+  nothing_kept = λ level s rises sound ordered. nothing_kept g.O.KeyOrder.above s sound ordered level rises;
+}
