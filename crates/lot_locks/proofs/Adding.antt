@@ -1,5 +1,5 @@
 -- Accesses more, in one go or in two, and what stays as it was of a pass that wants a lock.
-use Rattle.std.proofs.Common.{◌≡◌, ℕ, List, [], ◌∷◌, ◌++◌, inl, inr, refl, sym, ap, ◌∙◌, append_assoc}
+use Rattle.std.proofs.Common.{◌≡◌, ℕ, List, [], ◌∷◌, ◌++◌, inl, inr, refl, sym, ap, ◌∙◌, append_assoc, Some, None}
 use Rattle.std.proofs.lemmas.List.{append-nil}
 use Rattle.std.proofs.lemmas.List.Elements.{All-nil, All-cons, All-append}
 use Rattle.std.specs.List.{All}
@@ -10,7 +10,7 @@ use Rattle.lot_whole.specs.declared.views.LotPassView.{LotPassView}
 use Rattle.lot_whole.specs.declared.views.Stand.{Stand}
 use Rattle.lot_whole.specs.declared.views.Stand.TheVariants.{Idle}
 use Rattle.lot_whole.specs.Family.{lock, cond, sem}
-use Rattle.lot_whole.specs.Standing.{IsUp, MayTake}
+use Rattle.lot_whole.specs.Standing.{IsUp, MayTake, MayWant}
 use Rattle.lot_scheme.specs.Standing.{LotStanding, adding}
 use Rattle.lot_scheme.specs.Words.{IsSeek, GetWord}
 
@@ -38,8 +38,12 @@ module _ {V : Type 0} where
   is_up p l (inr may) = may.0.up
 
   -- whoever may take a lock may try again where it wants that lock by now
-  pub may_again : (p : LotPassView V) (l : ℕ) → MayTake p l → MayTake (record p { locks = wanting p.locks l; stand = Idle }) l
-  may_again p l may = inl (up_then p (wanting p.locks l) Idle refl (is_up p l may), refl)
+  pub may_again : (above : ℕ → ℕ → Type 0) (p : LotPassView V) (l : ℕ) → MayTake p l
+      → MayWant above (record p { locks = wanting p.locks l; stand = Idle }) l
+  may_again above p l may = (
+    inl (up_then p (wanting p.locks l) Idle refl (is_up p l may), refl),
+    λ idle. absurd (let e : Some l ≡ None = idle.0.aim in cc),
+  )
 
 -- ---- words
 -- more accesses that seek, before a word that gets the lock

@@ -17,7 +17,7 @@ use Rattle.lot_words.specs.CallersRule.{CallersRule}
 use Rattle.lot_words.specs.Values.{FoundOk}
 use Rattle.lot_words.specs.Calls.{wanting as lock_wanting}
 use Rattle.lot_whole.specs.declared.views.Stand.TheVariants.{Idle}
-use Rattle.lot_whole.specs.Standing.{MayTake, MayLineUp}
+use Rattle.lot_whole.specs.Standing.{MayWant, MayLineUp}
 use Rattle.lot_scheme.specs.Standing.{LotStanding, adding, wanting, owning}
 use Rattle.lot_scheme.specs.Words.{IsSeek}
 use Rattle.lot_scheme.proofs.Ends.{ends_with}
@@ -30,28 +30,29 @@ module _ {V : Type 0} where
       → HasFound now l word
   has_found before now l word is = subst (λ (z : LotStanding V). HasFound z l word) (sym is) (before.did, refl)
 
+module _ {V : Type 0} (above : ℕ → ℕ → Type 0) where
   -- who wants the lock by now is awake for it
-  pub awake : (n : ℕ) (before now : LotStanding V) (l : ℕ) → IsTryingFor n before l now → IsAwakeFor n before l now
+  pub awake : (n : ℕ) (before now : LotStanding V) (l : ℕ) → IsTryingFor above n before l now → IsAwakeFor above n before l now
   awake n before now l s = record { below = s.below; may = s.may; did = s.did; sought = s.sought; is = inr s.is }
 
-  same_awake : (n : ℕ) (before now : LotStanding V) (l : ℕ) → IsAwakeFor n before l now → now.thread ≡ before.thread
+  same_awake : (n : ℕ) (before now : LotStanding V) (l : ℕ) → IsAwakeFor above n before l now → now.thread ≡ before.thread
   same_awake n before now l s = elim s.is [
     | inl e ↦ ap (λ (z : LotStanding V). z.thread) e
     | inr e ↦ ap (λ (z : LotStanding V). z.thread) e
   ]
 
   -- ---- as it stands, whatever it stood like before
-  trying_itself : (n : ℕ) (before now : LotStanding V) (l : ℕ) → IsTryingFor n before l now → IsTryingFor n now l now
-  trying_itself n before now l s = subst (λ (z : LotStanding V). IsTryingFor n z l z) (sym s.is) (record {
+  trying_itself : (n : ℕ) (before now : LotStanding V) (l : ℕ) → IsTryingFor above n before l now → IsTryingFor above n now l now
+  trying_itself n before now l s = subst (λ (z : LotStanding V). IsTryingFor above n z l z) (sym s.is) (record {
     below = s.below;
-    may = may_again before.own l s.may;
+    may = may_again above before.own l s.may.0;
     did = [];
     sought = All-nil (IsSeek before.thread l);
     is = none_added (adding (wanting before l) s.did);
   })
 
   -- whoever may take a lock is awake for it, from where it stands
-  pub begins : (n : ℕ) (now : LotStanding V) (l : ℕ) → l < n → MayTake now.own l → IsAwakeFor n now l now
+  pub begins : (n : ℕ) (now : LotStanding V) (l : ℕ) → l < n → MayWant above now.own l → IsAwakeFor above n now l now
   begins n now l below may = record {
     below = below;
     may = may;
@@ -60,26 +61,26 @@ module _ {V : Type 0} where
     is = inl (none_added now);
   }
 
-  pub awake_itself : (n : ℕ) (before now : LotStanding V) (l : ℕ) → IsAwakeFor n before l now → IsAwakeFor n now l now
+  pub awake_itself : (n : ℕ) (before now : LotStanding V) (l : ℕ) → IsAwakeFor above n before l now → IsAwakeFor above n now l now
   awake_itself n before now l s = elim s.is [
-    | inl e ↦ subst (λ (z : LotStanding V). IsAwakeFor n z l z) (sym e) (begins n (adding before s.did) l s.below s.may)
+    | inl e ↦ subst (λ (z : LotStanding V). IsAwakeFor above n z l z) (sym e) (begins n (adding before s.did) l s.below s.may)
     | inr e ↦ awake n now now l (trying_itself n before now l
         (record { below = s.below; may = s.may; did = s.did; sought = s.sought; is = e }))
   ]
 
   -- so it may line up, or take the lock
-  pub may_line_up : (n : ℕ) (before now : LotStanding V) (l : ℕ) → IsTryingFor n before l now → MayLineUp now.own l
+  pub may_line_up : (n : ℕ) (before now : LotStanding V) (l : ℕ) → IsTryingFor above n before l now → MayLineUp now.own l
   may_line_up n before now l s = subst (λ (z : LotStanding V). MayLineUp z.own l) (sym s.is)
-      (up_then before.own (lock_wanting before.own.locks l) Idle refl (is_up before.own l s.may), refl)
+      (up_then before.own (lock_wanting before.own.locks l) Idle refl (is_up before.own l s.may.0), refl)
 
-  pub may_take : (n : ℕ) (before now : LotStanding V) (l : ℕ) → IsAwakeFor n before l now → MayTake now.own l
+  pub may_take : (n : ℕ) (before now : LotStanding V) (l : ℕ) → IsAwakeFor above n before l now → MayWant above now.own l
   may_take n before now l s = (awake_itself n before now l s).may
 
   -- ---- on from where it stands: so on from where it stood before. The base is the pass before, or wants the lock already
-  trying_from : (n : ℕ) (before base after : LotStanding V) (l : ℕ) (did : List Access) → l < n → MayTake before.own l
+  trying_from : (n : ℕ) (before base after : LotStanding V) (l : ℕ) (did : List Access) → l < n → MayWant above before.own l
       → All (IsSeek before.thread l) did
-      → base.thread ≡ before.thread → wanting base l ≡ wanting before l → IsTryingFor n (adding base did) l after
-      → IsTryingFor n before l after
+      → base.thread ≡ before.thread → wanting base l ≡ wanting before l → IsTryingFor above n (adding base did) l after
+      → IsTryingFor above n before l after
   trying_from n before base after l did below may sought same is t = record {
     below = below;
     may = may;
@@ -88,10 +89,10 @@ module _ {V : Type 0} where
     is = subst (λ (z : LotStanding V). after ≡ adding z (did ++ t.did)) is (both_added (wanting base l) after did t.did t.is);
   }
 
-  awake_from : (n : ℕ) (before base after : LotStanding V) (l : ℕ) (did : List Access) → l < n → MayTake before.own l
+  awake_from : (n : ℕ) (before base after : LotStanding V) (l : ℕ) (did : List Access) → l < n → MayWant above before.own l
       → All (IsSeek before.thread l) did
       → base.thread ≡ before.thread → wanting base l ≡ wanting before l → (base ≡ before) ⊎ (base ≡ wanting before l)
-      → IsAwakeFor n (adding base did) l after → IsAwakeFor n before l after
+      → IsAwakeFor above n (adding base did) l after → IsAwakeFor above n before l after
   awake_from n before base after l did below may sought same is which t = record {
     below = below;
     may = may;
@@ -107,10 +108,10 @@ module _ {V : Type 0} where
   }
 
 -- one access more by a thread that wants the lock, by which it neither gets it nor is queued
-module _ {V : Type 0} where
-  pub sought_on : (n : ℕ) (before mid now : LotStanding V) (l : ℕ) (a : Access) → IsTryingFor n before l mid → IsSeek before.thread l a
+module _ {V : Type 0} (above : ℕ → ℕ → Type 0) where
+  pub sought_on : (n : ℕ) (before mid now : LotStanding V) (l : ℕ) (a : Access) → IsTryingFor above n before l mid → IsSeek before.thread l a
       → now ≡ adding mid (a ∷ [])
-      → IsTryingFor n before l now
+      → IsTryingFor above n before l now
   sought_on n before mid now l a s seeks is = record {
     below = s.below;
     may = s.may;
@@ -120,23 +121,23 @@ module _ {V : Type 0} where
   }
 
   -- a mark, whether it was made or not
-  pub marked_on : (n : ℕ) (before mid now : LotStanding V) (l : ℕ) (does : Bool) → IsTryingFor n before l mid
+  pub marked_on : (n : ℕ) (before mid now : LotStanding V) (l : ℕ) (does : Bool) → IsTryingFor above n before l mid
       → MatchBool does (now ≡ adding mid (Makes (Mark mid.thread l) Done ∷ []))
       ((word : ℕ) × (word ≢ 1) × (now ≡ adding mid (Finds mid.thread l word ∷ [])))
-      → IsTryingFor n before l now
+      → IsTryingFor above n before l now
   marked_on n before mid now l true s is =
       sought_on n before mid now l (Makes (Mark mid.thread l) Done) s (ap (λ (z : LotStanding V). z.thread) s.is, refl) is
   marked_on n before mid now l false s (word, other, is) =
       sought_on n before mid now l (Finds mid.thread l word) s (ap (λ (z : LotStanding V). z.thread) s.is, refl) is
 
   -- it was the last
-  pub has_marked : (n : ℕ) (before mid now : LotStanding V) (l : ℕ) → IsTryingFor n before l mid
+  pub has_marked : (n : ℕ) (before mid now : LotStanding V) (l : ℕ) → IsTryingFor above n before l mid
       → now ≡ adding mid (Makes (Mark mid.thread l) Done ∷ []) → HasMarked before l now
   has_marked n before mid now l s is = ends_with _ before mid now s.did (Makes (Mark mid.thread l) Done)
       (ap (λ (z : LotStanding V). Makes (Mark z.thread l) Done) s.is) (ap (λ (z : LotStanding V). z.did) s.is)
       (ap (λ (z : LotStanding V). z.did) is)
 
-  pub finds_another : (n : ℕ) (before mid now : LotStanding V) (l word : ℕ) → IsTryingFor n before l mid → word ≢ 1
+  pub finds_another : (n : ℕ) (before mid now : LotStanding V) (l word : ℕ) → IsTryingFor above n before l mid → word ≢ 1
       → now ≡ adding mid (Finds mid.thread l word ∷ []) → FindsAnother before l now
   finds_another n before mid now l word s other is = ends_with _ before mid now s.did (Finds mid.thread l word)
       (word, other, ap (λ (z : LotStanding V). Finds z.thread l word) s.is) (ap (λ (z : LotStanding V). z.did) s.is)
@@ -186,31 +187,31 @@ module _ {V Part : Type 0} (rule : CallersRule V Part) where
   same : (n : ℕ) (before now : LotStanding V) (l : ℕ) (far : Seeking) → Seeks rule n before l far now → now.thread ≡ before.thread
   same n before now l Got s = ap (λ (z : LotStanding V). z.thread) s.is
   same n before now l Parks s = ap (λ (z : LotStanding V). z.thread) s.is
-  same n before now l Waits s = same_awake n before now l s
+  same n before now l Waits s = same_awake rule.above n before now l s
 
   waits : (n : ℕ) (before now : LotStanding V) (l : ℕ) (far : Seeking) → IsUnfinished far → Seeks rule n before l far now
-      → IsAwakeFor n before l now
+      → IsAwakeFor rule.above n before l now
   waits n before now l Got done s = absurd done
   waits n before now l Waits u s = s
-  waits n before now l Parks u s = awake n before now l s
+  waits n before now l Parks u s = awake rule.above n before now l s
 
   itself : (n : ℕ) (before now : LotStanding V) (l : ℕ) (far : Seeking) → IsUnfinished far → Seeks rule n before l far now
       → Seeks rule n now l far now
   itself n before now l Got done s = absurd done
-  itself n before now l Waits u s = awake_itself n before now l s
-  itself n before now l Parks u s = trying_itself n before now l s
+  itself n before now l Waits u s = awake_itself rule.above n before now l s
+  itself n before now l Parks u s = trying_itself rule.above n before now l s
 
-  goes : (n : ℕ) (before base after : LotStanding V) (l : ℕ) (did : List Access) (next : Seeking) → l < n → MayTake before.own l
+  goes : (n : ℕ) (before base after : LotStanding V) (l : ℕ) (did : List Access) (next : Seeking) → l < n → MayWant rule.above before.own l
       → All (IsSeek before.thread l) did
       → base.thread ≡ before.thread → wanting base l ≡ wanting before l → (base ≡ before) ⊎ (base ≡ wanting before l)
       → Seeks rule n (adding base did) l next after → Seeks rule n before l next after
   goes n before base after l did Got below may sought same is which t = owner_from before base after l did sought which t
   goes n before base after l did Waits below may sought same is which t =
-      awake_from n before base after l did below may sought same is which t
-  goes n before base after l did Parks below may sought same is which t = trying_from n before base after l did below may sought same is t
+      awake_from rule.above n before base after l did below may sought same is which t
+  goes n before base after l did Parks below may sought same is which t = trying_from rule.above n before base after l did below may sought same is t
 
   -- on from a pass that is awake for the lock
-  pub goes_on : (n : ℕ) (before now after : LotStanding V) (l : ℕ) (next : Seeking) → IsAwakeFor n before l now
+  pub goes_on : (n : ℕ) (before now after : LotStanding V) (l : ℕ) (next : Seeking) → IsAwakeFor rule.above n before l now
       → Seeks rule n now l next after
       → Seeks rule n before l next after
   goes_on n before now after l next s t = elim s.is [
@@ -220,12 +221,12 @@ module _ {V Part : Type 0} (rule : CallersRule V Part) where
         (subst (λ (z : LotStanding V). Seeks rule n z l next after) e t)
   ]
 
-  pub owner_on : (n : ℕ) (before now after : LotStanding V) (l : ℕ) → IsAwakeFor n before l now → IsOwner rule now l after
+  pub owner_on : (n : ℕ) (before now after : LotStanding V) (l : ℕ) → IsAwakeFor rule.above n before l now → IsOwner rule now l after
       → IsOwner rule before l after
   owner_on n before now after l s t = goes_on n before now after l Got s t
 
-  pub awake_on : (n : ℕ) (before now after : LotStanding V) (l : ℕ) → IsAwakeFor n before l now → IsAwakeFor n now l after
-      → IsAwakeFor n before l after
+  pub awake_on : (n : ℕ) (before now after : LotStanding V) (l : ℕ) → IsAwakeFor rule.above n before l now → IsAwakeFor rule.above n now l after
+      → IsAwakeFor rule.above n before l after
   awake_on n before now after l s t = goes_on n before now after l Waits s t
 
   pub laws : (n : ℕ) → SeekingLaws (λ (p : LotStanding V). p.thread) (Seeks rule n)

@@ -33,11 +33,11 @@ module _ {V Part : Type 0} (rule : CallersRule V Part) where
 
   -- a sleeper that collected its letter then tries again, or owns the lock
   wakes : (n : ℕ) (before now : LotStanding V) (l token : ℕ) (did : List Access)
-      → (s : IsAsleepFor n before l (adding (lined before l) did))
+      → (s : IsAsleepFor rule.above n before l (adding (lined before l) did))
       → All (IsSeek before.thread l) did → CollectsLock rule (adding (lined before l) did) token now
-      → MatchBool (token == 1) (IsOwner rule before l now) (IsTryingFor n before l now)
+      → MatchBool (token == 1) (IsOwner rule before l now) (IsTryingFor rule.above n before l now)
   wakes n before now l zero did s sought is =
-      let up : before.own.locks.asleep ≡ false = is_up before.own l s.may lock in
+      let up : before.own.locks.asleep ≡ false = is_up before.own l s.may.0 lock in
       record {
         below = s.below;
         may = s.may;
@@ -51,7 +51,7 @@ module _ {V Part : Type 0} (rule : CallersRule V Part) where
             }) (Collects before.thread (Some 0) ∷ [])) (sym up));
       }
   wakes n before now l (suc zero) did s sought (e, (k, aim, (x, found, is))) =
-      let up : before.own.locks.asleep ≡ false = is_up before.own l s.may lock in
+      let up : before.own.locks.asleep ≡ false = is_up before.own l s.may.0 lock in
       let same : k ≡ l = (let f : Some l ≡ Some k = aim in cc) in
       let locks : LockPassView V = (lined before l).own.locks in
       record {
@@ -72,9 +72,9 @@ module _ {V Part : Type 0} (rule : CallersRule V Part) where
       }
   wakes n before now l (suc (suc k)) did s sought e = absurd (omega (arith, e.0))
 
-  pub woken_ends : (n : ℕ) (before asleep now : LotStanding V) (l token : ℕ) → IsAsleepFor n before l asleep
+  pub woken_ends : (n : ℕ) (before asleep now : LotStanding V) (l token : ℕ) → IsAsleepFor rule.above n before l asleep
       → Awaited (IsLooked rule) asleep token now
-      → MatchBool (token == 1) (IsOwner rule before l now) (IsTryingFor n before l now)
+      → MatchBool (token == 1) (IsOwner rule before l now) (IsTryingFor rule.above n before l now)
   woken_ends n before asleep now l token s a =
       let last : LotStanding V = a.last in
       let in_vain = subst (λ (z : LotStanding V). LooksInVain (IsLooked rule) a.looks z last) s.is a.in_vain in

@@ -8,7 +8,7 @@ use Rattle.lot_rights.specs.declared.views.Access.TheVariants.{Makes, Finds, Col
 use Rattle.lot_words.specs.CallersRule.{CallersRule}
 use Rattle.lot_words.specs.World.{Holds, HoldsParked}
 use Rattle.lot_words.specs.Values.{IsIn, FoundOk}
-use Rattle.lot_whole.specs.Standing.{MayTake, MayLetGo}
+use Rattle.lot_whole.specs.Standing.{MayWant, MayLetGo}
 use Rattle.lot_park.specs.declared.seeking.Seeking.{Seeking}
 use Rattle.lot_park.specs.declared.seeking.Seeking.TheVariants.{Got, Waits, Parks}
 use Rattle.lot_scheme.specs.Standing.{LotStanding, EndsWith, adding, wanting, lined, owning, finding_parked, letting_go}
@@ -39,31 +39,6 @@ module _ {V : Type 0} where
     pub may : MayLetGo p.own l
     pub holds : HoldsParked p.own.locks l
     pub lies : (y : V) × IsIn p.own.locks l y
-
-  -- ---- seeking, from how the pass stood before, by accesses that get nothing
-  -- it wants the lock, and is in no line
-  pub record IsTryingFor (n : ℕ) (before : LotStanding V) (l : ℕ) (now : LotStanding V) : Type 0 where
-    pub below : l < n
-    pub may : MayTake before.own l
-    pub did : List Access
-    pub sought : All (IsSeek before.thread l) did
-    pub is : now ≡ adding (wanting before l) did
-
-  -- it is in no line, and stands as before, or wants the lock by now
-  pub record IsAwakeFor (n : ℕ) (before : LotStanding V) (l : ℕ) (now : LotStanding V) : Type 0 where
-    pub below : l < n
-    pub may : MayTake before.own l
-    pub did : List Access
-    pub sought : All (IsSeek before.thread l) did
-    pub is : (now ≡ adding before did) ⊎ (now ≡ adding (wanting before l) did)
-
-  -- it is queued in the line of the lock, which it wants
-  pub record IsAsleepFor (n : ℕ) (before : LotStanding V) (l : ℕ) (now : LotStanding V) : Type 0 where
-    pub below : l < n
-    pub may : MayTake before.own l
-    pub did : List Access
-    pub sought : All (IsSeek before.thread l) did
-    pub is : now ≡ adding (lined before l) did
 
   -- at last it found this word in the lock, and did not change it
   abbrev pub HasFound : LotStanding V → ℕ → ℕ → Type 0
@@ -102,6 +77,33 @@ module _ {V : Type 0} where
   abbrev pub MissesBy : (List Access → Type 0) → LotStanding V → LotStanding V → Type 0
   MissesBy word before after = (did : List Access) × word did × (after ≡ adding before did)
 
+-- where above is the order of keys
+module _ {V : Type 0} (above : ℕ → ℕ → Type 0) where
+  -- ---- seeking, from how the pass stood before, by accesses that get nothing
+  -- it wants the lock, and is in no line
+  pub record IsTryingFor (n : ℕ) (before : LotStanding V) (l : ℕ) (now : LotStanding V) : Type 0 where
+    pub below : l < n
+    pub may : MayWant above before.own l
+    pub did : List Access
+    pub sought : All (IsSeek before.thread l) did
+    pub is : now ≡ adding (wanting before l) did
+
+  -- it is in no line, and stands as before, or wants the lock by now
+  pub record IsAwakeFor (n : ℕ) (before : LotStanding V) (l : ℕ) (now : LotStanding V) : Type 0 where
+    pub below : l < n
+    pub may : MayWant above before.own l
+    pub did : List Access
+    pub sought : All (IsSeek before.thread l) did
+    pub is : (now ≡ adding before did) ⊎ (now ≡ adding (wanting before l) did)
+
+  -- it is queued in the line of the lock, which it wants
+  pub record IsAsleepFor (n : ℕ) (before : LotStanding V) (l : ℕ) (now : LotStanding V) : Type 0 where
+    pub below : l < n
+    pub may : MayWant above before.own l
+    pub did : List Access
+    pub sought : All (IsSeek before.thread l) did
+    pub is : now ≡ adding (lined before l) did
+
 module _ {V Part : Type 0} (rule : CallersRule V Part) where
   -- the lock was got by such a word, with the value that was found there
   pub record GetsBy (word : List Access → Type 0) (before : LotStanding V) (l : ℕ) (after : LotStanding V) : Type 0 where
@@ -118,5 +120,5 @@ module _ {V Part : Type 0} (rule : CallersRule V Part) where
   -- how far a thread is that seeks the lock, one of n, and that stood so before
   abbrev pub Seeks : ℕ → LotStanding V → ℕ → Seeking → LotStanding V → Type 0
   Seeks n before l Got now = IsOwner before l now
-  Seeks n before l Waits now = IsAwakeFor n before l now
-  Seeks n before l Parks now = IsTryingFor n before l now
+  Seeks n before l Waits now = IsAwakeFor rule.above n before l now
+  Seeks n before l Parks now = IsTryingFor rule.above n before l now

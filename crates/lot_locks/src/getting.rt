@@ -1,7 +1,7 @@
 //! Getting a lock, as WTF's `Lock::lock` does: one compare-exchange, a few yields, and then the line.
 ghost use Rattle.std.specs.Prelude.{◌≡◌, ◌≢◌, ◌<◌, ◌⊎◌, true, false, [], ◌∷◌, MatchBool};
 ghost use Rattle.lot_rights.specs.declared.views.Access.TheVariants.{Finds};
-ghost use Rattle.lot_whole.specs.Standing.{IsIdle, MayTake};
+ghost use Rattle.lot_whole.specs.Standing.{IsIdle, MayWant};
 ghost use Rattle.lot_scheme.specs.Standing.{adding};
 ghost use Rattle.lot_scheme.specs.Words.{TryWord};
 ghost use Rattle.lot_locks.specs.Standing.{IsAwakeFor, IsTryingFor, IsOwner, GetsBy, MissesBy, HasFound, letters_in};
@@ -47,9 +47,9 @@ pub fn get_free<V: Keeps, N: LotName<V>>(
     key: usize,
 ) -> (NamedPass<V, N>, u64)
     requires key { key < N.locks }
-    requires may { MayTake pass.own key }
+    requires may { MayWant V.above pass.own key }
     ensures got { result.1 ≡ 0 → IsOwner V.Keeps pass key result.0 }
-    ensures missed { result.1 ≢ 0 → IsAwakeFor N.locks pass key result.0 }
+    ensures missed { result.1 ≢ 0 → IsAwakeFor V.above N.locks pass key result.0 }
     ensures found { result.1 ≢ 0 → result.0 ≡ adding pass (Finds pass.thread key result.1 ∷ []) }
     ensures awake { letters_in result.0.did ≡ letters_in pass.did }
 {
@@ -83,8 +83,8 @@ fn take<V: Keeps, N: LotName<V>>(
     key: usize,
 ) -> (NamedPass<V, N>, bool)
     requires key { key < N.locks }
-    requires may { MayTake pass.own key }
-    ensures far { MatchBool result.1 (IsOwner V.Keeps pass key result.0) (IsTryingFor N.locks pass key result.0) }
+    requires may { MayWant V.above pass.own key }
+    ensures far { MatchBool result.1 (IsOwner V.Keeps pass key result.0) (IsTryingFor V.above N.locks pass key result.0) }
     ensures awake { letters_in result.0.did ≡ letters_in pass.did }
 {
     scheme.take(pass, key)
@@ -98,7 +98,7 @@ impl<V: Keeps + Send, N: LotName<V> + Send> Sought<Locks> for LotScheme<V, N> {
 
     ghost seeks = { Seeks V.Keeps N.locks };
 
-    ghost sleeps = { IsAsleepFor N.locks };
+    ghost sleeps = { IsAsleepFor V.above N.locks };
 
     ghost changed = { FindsAnother };
 
@@ -175,7 +175,7 @@ pub fn get<V: Keeps + Send, N: LotName<V> + Send, R: Wait, B: BeforeSleep>(
 ) -> NamedPass<V, N>
     requires key { (key < N.locks) × (key < parking.now.keys) }
     requires thread { pass.thread < parking.now.threads }
-    requires may { MayTake pass.own key }
+    requires may { MayWant V.above pass.own key }
     ensures owner { IsOwner V.Keeps pass key result }
     ensures ran { (letters_in result.did ≡ letters_in pass.did) ⊎ B.ran before.now }
 {
@@ -204,8 +204,8 @@ fn try_again<V: Keeps, N: LotName<V>>(
     tries: u32,
 ) -> (NamedPass<V, N>, bool)
     requires key { key < N.locks }
-    requires may { MayTake pass.own key }
-    ensures far { MatchBool result.1 (IsOwner V.Keeps pass key result.0) (IsAwakeFor N.locks pass key result.0) }
+    requires may { MayWant V.above pass.own key }
+    ensures far { MatchBool result.1 (IsOwner V.Keeps pass key result.0) (IsAwakeFor V.above N.locks pass key result.0) }
     ensures awake { letters_in result.0.did ≡ letters_in pass.did }
 {
     let mut pass = pass;
@@ -237,7 +237,7 @@ pub fn get_slowly<V: Keeps + Send, N: LotName<V> + Send, R: Wait, B: BeforeSleep
 ) -> NamedPass<V, N>
     requires key { (key < N.locks) × (key < parking.now.keys) }
     requires thread { pass.thread < parking.now.threads }
-    requires may { MayTake pass.own key }
+    requires may { MayWant V.above pass.own key }
     requires found { HasFound pass key found }
     ensures owner { IsOwner V.Keeps pass key result }
     ensures ran { (letters_in result.did ≡ letters_in pass.did) ⊎ B.ran before.now }

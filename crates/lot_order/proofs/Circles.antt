@@ -1,5 +1,5 @@
 -- Levels rise along a chain of waiting, so it never comes back.
-use Rattle.std.proofs.Common.{◌≡◌, ◌⊎◌, ◌<◌, ℕ, List, [], ◌∷◌, subst, arith, inl, inr}
+use Rattle.std.proofs.Common.{◌≡◌, ◌<◌, ℕ, List, [], ◌∷◌, subst, arith, inl, inr}
 use Rattle.lot_events.specs.declared.events.Point.{Point}
 use Rattle.lot_events.specs.declared.events.Point.TheVariants.{Wants, Rest, Seeks}
 use Rattle.lot_core.specs.World.{World}

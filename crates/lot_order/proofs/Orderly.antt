@@ -1,7 +1,7 @@
 -- Each event that keeps the order leaves it kept.
-use Rattle.std.proofs.Common.{◌≡◌, ◌≢◌, ◌⊎◌, ◌+◌, ◌-◌, ◌<◌, ◌≤◌, ◌++◌, ℕ, Bool, true}
+use Rattle.std.proofs.Common.{◌≡◌, ◌≢◌, ◌+◌, ◌-◌, ◌<◌, ◌≤◌, ◌++◌, ℕ, Bool, true}
 use Rattle.std.proofs.Common.{false, List, [], ◌∷◌, refl, subst, sym, ap, ◌∙◌, arith, inl, inr}
-use Rattle.std.specs.Prelude.{◌==◌, ◌&&◌, if◌then◌else◌}
+use Rattle.std.specs.Prelude.{◌&&◌, if◌then◌else◌}
 use Rattle.std.proofs.lemmas.Bool.{cases_eq, eqb-true}
 use Rattle.lot_events.specs.declared.events.Point.{Point}
 use Rattle.lot_events.specs.declared.events.Point.TheVariants.{Calm, Wants, Bed, Rest, Sweeps, Seeks}
@@ -9,64 +9,63 @@ use Rattle.lot_events.specs.declared.events.Event.{Event}
 use Rattle.lot_events.specs.declared.events.Event.TheVariants.{Try, Take, Mark, Park, Free, Pass}
 use Rattle.lot_events.specs.declared.events.Event.TheVariants.{Enlist, Look, Call, Lower, Sweep, SemTake}
 use Rattle.lot_events.specs.declared.events.Event.TheVariants.{SemMark, SemPark, SemFree, SemPass, SemClear}
-use Rattle.lot_core.specs.World.{World, Locks, Semaphores, put, opening_with}
-use Rattle.lot_core.specs.Steps.{MayLetGo, Allowed, Run, after, after_all, got, queued, freed, passed_line, handed, let_go, released}
-use Rattle.lot_core.specs.Steps.{none_left, permit_taken, permit_given, permit_freed}
-use Rattle.lot_core.specs.Steps.{permit_passed, seeker_queued, seeker_woken, with_sem_line}
-use Rattle.lot_core.specs.Steps.{with_sem_parked}
+use Rattle.lot_core.specs.World.{World, Locks, Semaphores, put}
+use Rattle.lot_core.specs.Steps.{MayLetGo, Allowed, Run, after, after_all, passed_line, handed, let_go, released}
+use Rattle.lot_core.specs.Steps.{none_left, permit_given}
+use Rattle.lot_core.specs.Steps.{seeker_woken, with_sem_line}
 use Rattle.lot_core.proofs.Put.{by_bit, by_line, at_all, put_same, put_other}
-use Rattle.lot_order.specs.Order.{Held, held_by, HasKey, HasBeside, InOrder, key_count, IsOrdered, KeepsOrder, OrderlyRun}
+use Rattle.lot_order.specs.Order.{Keys, held_by, HasKey, HasBeside, InOrder, key_count, IsOrdered, KeepsOrder, OrderlyRun}
 use Rattle.lot_order.proofs.Circles.{ordered_at}
 
 -- what the thread has by these locks and semaphores
-abbrev pub rights : Locks → Semaphores → ℕ → Held
+abbrev pub rights : Locks → Semaphores → ℕ → Keys
 rights a z t = record { locks = λ l. a.has l t ≡ true; permits = λ k. z.out k t }
 
 -- who has h' has nothing that is not in h
-pub record IsWithin (h' h : Held) : Type 0 where
+pub record IsWithin (h' h : Keys) : Type 0 where
   pub locks : (j : ℕ) → h'.locks j → h.locks j
   pub permits : (j : ℕ) → 1 ≤ h'.permits j → 1 ≤ h.permits j
 
-pub within_itself : (h : Held) → IsWithin h h
+pub within_itself : (h : Keys) → IsWithin h h
 within_itself h = record { locks = λ j e. e; permits = λ j e. e }
 
-pub fewer_keys : (h' h : Held) → IsWithin h' h → (j : ℕ) → HasKey h' j → HasKey h j
+pub fewer_keys : (h' h : Keys) → IsWithin h' h → (j : ℕ) → HasKey h' j → HasKey h j
 fewer_keys h' h within j (inl lock) = inl (within.locks j lock)
 fewer_keys h' h within j (inr permit) = inr (within.permits j permit)
 
-pub fewer_beside : (h' h : Held) (l : ℕ) → IsWithin h' h → (j : ℕ) → HasBeside h' l j → HasBeside h l j
+pub fewer_beside : (h' h : Keys) (l : ℕ) → IsWithin h' h → (j : ℕ) → HasBeside h' l j → HasBeside h l j
 fewer_beside h' h l within j (inl (lock, ne)) = inl (within.locks j lock, ne)
 fewer_beside h' h l within j (inr permit) = inr (within.permits j permit)
 
 -- with fewer keys a thread stays in order
-pub fewer : (above : ℕ → ℕ → Type 0) (keys : ℕ) (h' h : Held) (p : Point) → IsWithin h' h
+pub fewer : (above : ℕ → ℕ → Type 0) (keys : ℕ) (h' h : Keys) (p : Point) → IsWithin h' h
     → InOrder above keys h p → InOrder above keys h' p
 fewer above keys h' h Calm within o = tt
 fewer above keys h' h (Wants l) within o = (o.0, λ j has. o.1 j (fewer_keys h' h within j has))
 fewer above keys h' h (Bed c l) within o =
-    (o.0, (λ j has. o.1 j (fewer_beside h' h l within j has)), (λ j has. o.2 j (fewer_beside h' h l within j has)))
+    (o.0, ((λ j has. o.1.0 j (fewer_beside h' h l within j has)), (λ j has. o.1.1 j (fewer_beside h' h l within j has))))
 fewer above keys h' h (Rest c l) within o =
     (o.0, (λ j has. o.1 j (fewer_keys h' h within j has)), (λ j has. o.2 j (fewer_keys h' h within j has)))
 fewer above keys h' h (Sweeps c) within o = tt
 fewer above keys h' h (Seeks k) within o = (o.0, λ j has. o.1 j (fewer_keys h' h within j has))
 
 -- the state's threads are in order with these rights and points
-abbrev pub AreOrdered : (ℕ → ℕ → Type 0) → World → (ℕ → Held) → (ℕ → Point) → Type 0
+abbrev pub AreOrdered : (ℕ → ℕ → Type 0) → World → (ℕ → Keys) → (ℕ → Point) → Type 0
 AreOrdered above s has point = (v : ℕ) → InOrder above (key_count s) (has v) (point v)
 
 -- all but t have no more than before
-abbrev pub OthersWithin : World → (ℕ → Held) → ℕ → Type 0
+abbrev pub OthersWithin : World → (ℕ → Keys) → ℕ → Type 0
 OthersWithin s has t = (v : ℕ) → v ≢ t → IsWithin (has v) (held_by s v)
 
 -- t goes to p, and is in order there
-pub moved : (above : ℕ → ℕ → Type 0) (s : World) (has : ℕ → Held) (t : ℕ) (p : Point) → IsOrdered above s → OthersWithin s has t
+pub moved : (above : ℕ → ℕ → Type 0) (s : World) (has : ℕ → Keys) (t : ℕ) (p : Point) → IsOrdered above s → OthersWithin s has t
     → InOrder above (key_count s) (has t) p → AreOrdered above s has (put s.point t p)
 moved above s has t p ordered others own =
     at_all (λ v b. InOrder above (key_count s) (has v) (if b then p else s.point v)) t own
     (λ v ne. fewer above (key_count s) (has v) (held_by s v) (s.point v) (others v ne) (ordered v))
 
 -- t stays where it is, and is in order there
-pub stayed : (above : ℕ → ℕ → Type 0) (s : World) (has : ℕ → Held) (t : ℕ) → IsOrdered above s → OthersWithin s has t
+pub stayed : (above : ℕ → ℕ → Type 0) (s : World) (has : ℕ → Keys) (t : ℕ) → IsOrdered above s → OthersWithin s has t
     → InOrder above (key_count s) (has t) (s.point t) → AreOrdered above s has s.point
 stayed above s has t ordered others own v = elim (cases_eq v t) [
   | inl same ↦ subst (λ w. InOrder above (key_count s) (has w) (s.point w)) (sym same) own
@@ -74,7 +73,7 @@ stayed above s has t ordered others own v = elim (cases_eq v t) [
 ]
 
 -- a calm thread is in order with whatever it has
-pub calm_stayed : (above : ℕ → ℕ → Type 0) (s : World) (has : ℕ → Held) (t : ℕ) → IsOrdered above s → OthersWithin s has t → s.point t ≡ Calm
+pub calm_stayed : (above : ℕ → ℕ → Type 0) (s : World) (has : ℕ → Keys) (t : ℕ) → IsOrdered above s → OthersWithin s has t → s.point t ≡ Calm
     → AreOrdered above s has s.point
 calm_stayed above s has t ordered others calm =
     stayed above s has t ordered others
@@ -125,11 +124,11 @@ own_left s l t has lost same j is = elim (cases_eq j l) [
 ]
 
 -- who lets l go from a bed rests, with what lay beside it
-pub left_bed : (above : ℕ → ℕ → Type 0) (s : World) (c l t : ℕ) (h : Held) → IsOrdered above s → s.point t ≡ Bed c l
+pub left_bed : (above : ℕ → ℕ → Type 0) (s : World) (c l t : ℕ) (h : Keys) → IsOrdered above s → s.point t ≡ Bed c l
     → ((j : ℕ) → HasKey h j → HasBeside (held_by s t) l j) → InOrder above (key_count s) h (Rest c l)
 left_bed above s c l t h ordered bed beside =
     let o = ordered_at above s t (Bed c l) ordered bed in
-    (o.0, (λ j has. o.1 j (beside j has)), (λ j has. o.2 j (beside j has)))
+    (o.0, (λ j has. o.1.0 j (beside j has)), (λ j has. o.1.1 j (beside j has)))
 
 -- t, without l, goes where letting it go leads
 pub let_go_own : (above : ℕ → ℕ → Type 0) (s : World) (l t : ℕ) (has : ℕ → ℕ → Bool) → IsOrdered above s → MayLetGo s t l → has l t ≡ false
@@ -273,7 +272,7 @@ event_ordered above s (Free t l) ordered ok keeps = free_ordered above s t l ord
 event_ordered above s (Pass t l fair more) ordered ok keeps = pass_ordered above s t l fair more ordered ok.4
 event_ordered above s (Enlist t c l) ordered ok keeps =
     let lock = ok.2 in
-    went_ordered above s t (Bed c l) ordered (omega (arith, lock), keeps.0, keeps.1)
+    went_ordered above s t (Bed c l) ordered (omega (arith, lock), keeps)
 event_ordered above s (Look t c) ordered ok keeps = ordered
 event_ordered above s (Call t c n more) ordered ok keeps = ordered
 event_ordered above s (Lower t c) ordered ok keeps = went_ordered above s t (Sweeps c) ordered tt

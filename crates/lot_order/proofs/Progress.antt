@@ -1,6 +1,6 @@
 -- While some thread needs a key, some thread goes on: the levels of needed keys rise from waiting thread to waiting thread, and end.
 use Rattle.std.proofs.Common.{◌≡◌, ◌≢◌, ◌⊎◌, ◌+◌, ◌<◌, ◌≤◌, ℕ, zero, suc, Bool}
-use Rattle.std.proofs.Common.{true, false, not, List, [], ◌∷◌, refl, subst, sym, ap, ◌∙◌}
+use Rattle.std.proofs.Common.{true, false, List, [], refl, subst, ap}
 use Rattle.std.proofs.Common.{arith, inl, inr}
 use Rattle.std.specs.Prelude.{nat_eq}
 use Rattle.std.specs.List.{Contains, list_any}
@@ -9,7 +9,7 @@ use Rattle.std.proofs.lemmas.Bool.{eqb-true, cases_eq}
 use Rattle.std.proofs.lemmas.Map.Views.{Contains-from_any}
 use Rattle.lot_events.specs.declared.events.Point.{Point}
 use Rattle.lot_events.specs.declared.events.Point.TheVariants.{Calm, Wants, Bed, Rest, Sweeps, Seeks}
-use Rattle.lot_core.specs.Sums.{total, bit, count_below}
+use Rattle.lot_core.specs.Sums.{total, bit}
 use Rattle.lot_core.specs.World.{World}
 use Rattle.lot_core.specs.Steps.{IsSeeking}
 use Rattle.lot_core.specs.Parts.{semaphore_part}

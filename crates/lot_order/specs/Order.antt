@@ -9,28 +9,32 @@ use Rattle.lot_core.specs.World.{World}
 use Rattle.lot_core.specs.Steps.{Allowed, after}
 
 -- what one thread has: locks, and so many permits of each semaphore
-pub record Held : Type 1 where
+pub record Keys : Type 1 where
   pub locks : ℕ → Type 0
   pub permits : ℕ → ℕ
 
-abbrev pub held_by : World → ℕ → Held
+abbrev pub held_by : World → ℕ → Keys
 held_by s t = record { locks = λ l. s.locks.has l t ≡ true; permits = λ k. s.sems.out k t }
 
 -- the lock, or a permit of the semaphore, is among it
-abbrev pub HasKey : Held → ℕ → Type 0
+abbrev pub HasKey : Keys → ℕ → Type 0
 HasKey h k = h.locks k ⊎ (1 ≤ h.permits k)
 
 -- and is another than lock l
-abbrev pub HasBeside : Held → ℕ → ℕ → Type 0
+abbrev pub HasBeside : Keys → ℕ → ℕ → Type 0
 HasBeside h l k = (h.locks k × (k ≢ l)) ⊎ (1 ≤ h.permits k)
 
 -- who has all this may wait for the key k: `above j k` says that k lies above j
-abbrev pub AllBelow : (ℕ → ℕ → Type 0) → Held → ℕ → Type 0
+abbrev pub AllBelow : (ℕ → ℕ → Type 0) → Keys → ℕ → Type 0
 AllBelow above h k = (j : ℕ) → HasKey h j → above j k
 
 -- who has all this but lock l may
-abbrev pub OthersBelow : (ℕ → ℕ → Type 0) → Held → ℕ → ℕ → Type 0
+abbrev pub OthersBelow : (ℕ → ℕ → Type 0) → Keys → ℕ → ℕ → Type 0
 OthersBelow above h l k = (j : ℕ) → HasBeside h l j → above j k
+
+-- and may wait with lock l for a notification of c
+abbrev pub MayWait : (ℕ → ℕ → Type 0) → Keys → ℕ → ℕ → Type 0
+MayWait above h c l = OthersBelow above h l l × OthersBelow above h l c
 
 -- what lies above has the higher level
 abbrev pub Rises : (ℕ → ℕ → Type 0) → (ℕ → ℕ) → Type 0
@@ -40,14 +44,14 @@ Rises above level = (j k : ℕ) → above j k → level j < level k
 abbrev pub KeepsOrder : (ℕ → ℕ → Type 0) → World → Event → Type 0
 KeepsOrder above s (Take t l) = s.locks.held l ≡ true → AllBelow above (held_by s t) l
 KeepsOrder above s (SemTake t k) = s.sems.left k ≡ 0 → AllBelow above (held_by s t) k
-KeepsOrder above s (Enlist t c l) = OthersBelow above (held_by s t) l l × OthersBelow above (held_by s t) l c
+KeepsOrder above s (Enlist t c l) = MayWait above (held_by s t) c l
 KeepsOrder above s _ = Unit {0}
 
 -- what a thread has, and where it stands, are in order, where there are so many keys
-abbrev pub InOrder : (ℕ → ℕ → Type 0) → ℕ → Held → Point → Type 0
+abbrev pub InOrder : (ℕ → ℕ → Type 0) → ℕ → Keys → Point → Type 0
 InOrder above keys h Calm = Unit {0}
 InOrder above keys h (Wants l) = (l < keys) × AllBelow above h l
-InOrder above keys h (Bed c l) = (l < keys) × OthersBelow above h l l × OthersBelow above h l c
+InOrder above keys h (Bed c l) = (l < keys) × MayWait above h c l
 InOrder above keys h (Rest c l) = (l < keys) × AllBelow above h l × AllBelow above h c
 InOrder above keys h (Sweeps c) = Unit {0}
 InOrder above keys h (Seeks k) = (k < keys) × AllBelow above h k

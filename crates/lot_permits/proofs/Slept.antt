@@ -31,9 +31,9 @@ module _ {V Part : Type 0} (rule : CallersRule V Part) where
 
   module _ (first_sem : ℕ) (before : LotStanding V) (key : ℕ) where
     -- a look in vain
-    sleeps_on : (p q : LotStanding V) → IsAsleepFor first_sem before key p → IsLooked rule p None q → IsAsleepFor first_sem before key q
+    sleeps_on : (p q : LotStanding V) → IsAsleepFor rule.above first_sem before key p → IsLooked rule p None q → IsAsleepFor rule.above first_sem before key q
     sleeps_on p q s look = record {
-      above = s.above;
+      among = s.among;
       may = s.may;
       did = s.did ++ Collects before.thread None ∷ [];
       sought = seek_on before.thread key s.did (Collects before.thread None) s.sought refl;
@@ -47,13 +47,13 @@ module _ {V Part : Type 0} (rule : CallersRule V Part) where
     finds_at did token q up look = of_sem (adding (queued before key) did) q token before.own.locks.asleep before.own.conds.out (up lock)
         (none_of before.own.conds.out (up cond)) look
 
-    wakes : (p q : LotStanding V) (token : ℕ) → IsAsleepFor first_sem before key p → IsLooked rule p (Some token) q
-        → IsSeekingFor first_sem before key q
+    wakes : (p q : LotStanding V) (token : ℕ) → IsAsleepFor rule.above first_sem before key p → IsLooked rule p (Some token) q
+        → IsSeekingFor rule.above first_sem before key q
     wakes p q token s look =
-        let up = up_of before.own key s.may in
+        let up = up_of before.own key s.may.0 in
         let found = finds_at s.did token q up (subst (λ (r : LotStanding V). IsLooked rule r (Some token) q) s.is look) in
         record {
-          above = s.above;
+          among = s.among;
           may = s.may;
           did = s.did ++ Collects before.thread (Some token) ∷ [];
           sought = seek_on before.thread key s.did (Collects before.thread (Some token)) s.sought
@@ -66,11 +66,11 @@ module _ {V Part : Type 0} (rule : CallersRule V Part) where
               ∙ adding_on (seeking before key) s.did (Collects before.thread (Some token) ∷ []));
         }
 
-    pub seeks_still : (asleep now : LotStanding V) (token : ℕ) → IsAsleepFor first_sem before key asleep
+    pub seeks_still : (asleep now : LotStanding V) (token : ℕ) → IsAsleepFor rule.above first_sem before key asleep
         → Awaited (IsLooked rule) asleep token now
-        → Seeks first_sem before key Parks now
+        → Seeks rule.above first_sem before key Parks now
     seeks_still asleep now token s a =
         let kept =
-        awaited_keeps (IsLooked rule) (λ (p q : LotStanding V). IsAsleepFor first_sem before key p → IsAsleepFor first_sem before key q)
+        awaited_keeps (IsLooked rule) (λ (p q : LotStanding V). IsAsleepFor rule.above first_sem before key p → IsAsleepFor rule.above first_sem before key q)
         (λ p h. h) (λ p m q on look h. sleeps_on m q (on h) look) asleep token now a in
         wakes kept.0 now token (kept.1 s) kept.2

@@ -5,7 +5,7 @@ use Rattle.lot_events.specs.declared.events.Event.TheVariants.{SemMark}
 use Rattle.lot_events.specs.declared.events.Seen.TheVariants.{Done}
 use Rattle.lot_rights.specs.declared.views.Access.{Access}
 use Rattle.lot_rights.specs.declared.views.Access.TheVariants.{Makes, Finds}
-use Rattle.lot_whole.specs.Standing.{MayTakePermit}
+use Rattle.lot_whole.specs.Standing.{MayWantPermit}
 use Rattle.lot_park.specs.declared.seeking.Seeking.{Seeking}
 use Rattle.lot_park.specs.declared.seeking.Seeking.TheVariants.{Got, Waits, Parks}
 use Rattle.lot_scheme.specs.Standing.{LotStanding, EndsWith, adding, seeking, queued, one_permit_more}
@@ -18,10 +18,21 @@ module _ {V : Type 0} where
     pub got : GetPermitWord p.thread k did
     pub is : q ≡ adding (one_permit_more p k) did
 
+  -- at last it marked the semaphore as parked
+  abbrev pub HasMarked : LotStanding V → ℕ → LotStanding V → Type 0
+  HasMarked p k q = EndsWith (λ a. a ≡ Makes (SemMark p.thread k) Done) p q
+
+  -- an exchange found another word than it was to change: at last that of a mark, which is to change 0; or that of a try to take
+  abbrev pub FindsAnother : LotStanding V → ℕ → LotStanding V → Type 0
+  FindsAnother p k q = EndsWith (λ a. (word : ℕ) × (word ≢ 0) × (a ≡ Finds p.thread k word)) p q
+      ⊎ ((did : List Access) × BusyWord p.thread k did × (q ≡ adding p did))
+
+-- where above is the order of keys
+module _ {V : Type 0} (above : ℕ → ℕ → Type 0) where
   -- it could seek a permit of k, has got none by these accesses, and stands so after them
   pub record IsOnItsWay (first_sem : ℕ) (p : LotStanding V) (k : ℕ) (stands : List Access → Type 0) : Type 0 where
-    pub above : first_sem ≤ k
-    pub may : MayTakePermit p.own k
+    pub among : first_sem ≤ k
+    pub may : MayWantPermit above p.own k
     pub did : List Access
     pub sought : All (IsPermitSeek p.thread k) did
     pub is : stands did
@@ -37,15 +48,6 @@ module _ {V : Type 0} where
   -- it seeks a permit, and is queued in the semaphore's line
   abbrev pub IsAsleepFor : ℕ → LotStanding V → ℕ → LotStanding V → Type 0
   IsAsleepFor first_sem p k q = IsOnItsWay first_sem p k (λ did. q ≡ adding (queued p k) did)
-
-  -- at last it marked the semaphore as parked
-  abbrev pub HasMarked : LotStanding V → ℕ → LotStanding V → Type 0
-  HasMarked p k q = EndsWith (λ a. a ≡ Makes (SemMark p.thread k) Done) p q
-
-  -- an exchange found another word than it was to change: at last that of a mark, which is to change 0; or that of a try to take
-  abbrev pub FindsAnother : LotStanding V → ℕ → LotStanding V → Type 0
-  FindsAnother p k q = EndsWith (λ a. (word : ℕ) × (word ≢ 0) × (a ≡ Finds p.thread k word)) p q
-      ⊎ ((did : List Access) × BusyWord p.thread k did × (q ≡ adding p did))
 
   -- by how far it is
   abbrev pub Seeks : ℕ → LotStanding V → ℕ → Seeking → LotStanding V → Type 0

@@ -1,7 +1,8 @@
 //! What a thread can do on a semaphore, with its pass.
 ghost use Rattle.std.specs.Prelude.{◌≡◌, ◌≢◌, ℕ, ◌+◌, ◌<◌, ◌≤◌, length};
 ghost use Rattle.lot_core.specs.Parts.{IsAmongSemaphores};
-ghost use Rattle.lot_whole.specs.Standing.{IsIdle};
+ghost use Rattle.lot_order.specs.Order.{AllBelow};
+ghost use Rattle.lot_whole.specs.Standing.{IsIdle, keys_of};
 ghost use Rattle.lot_scheme.specs.SemCalls.{opening_permits};
 ghost use Rattle.lot_permits.specs.Freed.{GivesPermit};
 ghost use Rattle.lot_permits.specs.Permits.{HasPermit, permits_with};
@@ -42,7 +43,7 @@ pub fn try_acquire<V: Keeps, N: LotName<V>>(
 }
 
 /// Gets a permit, waiting for it where none is left. Where one is, it is a load and one compare-exchange of the
-/// semaphore's word. It takes no memory.
+/// semaphore's word. It takes no memory. All that the thread has lies below the semaphore.
 #[inline(always)]
 pub fn acquire<V: Keeps + Send, N: LotName<V> + Send, R: Wait>(
     rt: &R,
@@ -54,6 +55,7 @@ pub fn acquire<V: Keeps + Send, N: LotName<V> + Send, R: Wait>(
     requires key { key < parking.now.keys }
     requires thread { pass.thread < parking.now.threads }
     requires idle { IsIdle pass.own }
+    requires above { AllBelow V.above (keys_of pass.own) key }
     ensures permit { (result.1.key ≡ key) × (result.1.thread ≡ pass.thread) }
     ensures gets { GetsPermit pass key result.0 }
     ensures idle { IsIdle result.0.own }

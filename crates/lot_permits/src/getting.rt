@@ -17,9 +17,9 @@ impl<V: Keeps + Send, N: LotName<V> + Send> Sought<Sems> for LotScheme<V, N> {
 
     ghost has = { λ s key. IsAmongSemaphores N.first_sem (length N.permits) key };
 
-    ghost seeks = { Seeks N.first_sem };
+    ghost seeks = { Seeks V.above N.first_sem };
 
-    ghost sleeps = { IsAsleepFor N.first_sem };
+    ghost sleeps = { IsAsleepFor V.above N.first_sem };
 
     ghost changed = { FindsAnother };
 
@@ -95,7 +95,7 @@ pub(crate) fn get_slowly<V: Keeps + Send, N: LotName<V> + Send, R: Wait>(
     requires sem { IsAmongSemaphores N.first_sem (length N.permits) key }
     requires key { key < parking.now.keys }
     requires thread { pass.thread < parking.now.threads }
-    requires waits { IsAwakeFor N.first_sem pass key pass }
+    requires waits { IsAwakeFor V.above N.first_sem pass key pass }
     ensures { GetsPermit pass key result }
 {
     let first = parking.scheme().look_at(key);

@@ -1,12 +1,13 @@
 //! The calls on a condition's word, under the name of the lot: each says what it makes of how the pass stands.
 ghost use Rattle.std.specs.Prelude.{◌≡◌, ◌<◌, ◌≤◌, [], ◌∷◌, length};
 ghost use Rattle.lot_core.specs.Steps.{IsCallCount, SaysMoreBehind, dequeued_count};
+ghost use Rattle.lot_order.specs.Order.{MayWait};
 ghost use Rattle.lot_events.specs.declared.events.Event.TheVariants.{Enlist, Look, Call, Lower, Sweep};
 ghost use Rattle.lot_events.specs.declared.events.Seen.TheVariants.{Bool as Saw, Done, Count};
 ghost use Rattle.lot_rights.specs.declared.views.Access.TheVariants.{Makes};
 ghost use Rattle.lot_words.specs.World.{Holds};
 ghost use Rattle.lot_conds.specs.Calls.{enlisted_root, called_root, swept_root};
-ghost use Rattle.lot_whole.specs.Standing.{IsIdle, MaySweep, as_cond};
+ghost use Rattle.lot_whole.specs.Standing.{IsIdle, MaySweep, keys_of, as_cond};
 ghost use Rattle.lot_scheme.specs.Roots.{root_view};
 ghost use Rattle.lot_scheme.specs.Standing.{adding, enlisted, called_more, setting_out, swept};
 ghost use Rattle.lot_scheme.specs.CondCalls.{IsCondNow};
@@ -31,6 +32,7 @@ impl<V: Keeps, N: LotName<V>> LotScheme<V, N> {
         requires key { (N.locks ≤ root.key) × (root.key < N.first_sem) }
         requires idle { IsIdle pass.own }
         requires lock { (lock < N.locks) × Holds pass.own.locks lock }
+        requires above { MayWait V.above (keys_of pass.own) root.key lock }
         ensures pass { result.0 ≡ adding (enlisted pass root.key lock)
             (Makes (Enlist pass.thread root.key lock) Done ∷ []) }
         ensures root { IsCondNow root (enlisted_root (as_cond root.own) pass.thread) result.1 }

@@ -9,7 +9,7 @@ ghost use Rattle.lot_words.specs.World.{Holds, HoldsParked};
 ghost use Rattle.lot_words.specs.Values.{IsIn, IsOut, HasSeen, MayLeave};
 ghost use Rattle.lot_words.specs.Calls.{token_of};
 ghost use Rattle.lot_words.specs.declared.views.Place.TheVariants.{InSlot, Out};
-ghost use Rattle.lot_whole.specs.Standing.{IsIdle, MayTake, MayLetGo, MayLineUp};
+ghost use Rattle.lot_whole.specs.Standing.{IsIdle, MayTake, MayWant, MayLetGo, MayLineUp};
 ghost use Rattle.lot_park.specs.Parking.{Queues};
 ghost use Rattle.lot_scheme.specs.Roots.{root_view, TakesFirst};
 ghost use Rattle.lot_scheme.specs.Standing.{LotStanding, adding, wanting, dozing, finding_parked, placing};
@@ -48,7 +48,7 @@ impl<V: Keeps, N: LotName<V>> LotScheme<V, N> {
     #[tactic(auto, using(crate::proofs::LockNotes::took))]
     pub fn take(&self, pass: NamedPass<V, N>, key: usize) -> (NamedPass<V, N>, bool)
         requires key { key < N.locks }
-        requires may { MayTake pass.own key }
+        requires may { MayWant V.above pass.own key }
         ensures { MatchBool result.1
             (GetsLock V.Keeps pass key (Makes (Take pass.thread key) (Saw true)) result.0)
             (result.0 ≡ adding (wanting pass key) (Makes (Take pass.thread key) (Saw false) ∷ [])) }

@@ -6,7 +6,7 @@ ghost use Rattle.lot_events.specs.declared.events.Event.TheVariants.{SemPass as 
 ghost use Rattle.lot_events.specs.declared.events.Seen.TheVariants.{Done, Sleeper};
 ghost use Rattle.lot_rights.specs.declared.views.Access.TheVariants.{Makes};
 ghost use Rattle.lot_park.specs.Parking.{Queues};
-ghost use Rattle.lot_whole.specs.Standing.{IsIdle, MayTakePermit, MaySeek, MayGive};
+ghost use Rattle.lot_whole.specs.Standing.{IsIdle, MayWantPermit, MaySeek, MayGive};
 ghost use Rattle.lot_scheme.specs.Standing.{LotStanding, adding, one_permit_less};
 ghost use Rattle.lot_scheme.specs.Roots.{root_view, TakesFirst};
 ghost use Rattle.lot_scheme.specs.SemCalls.{TriesPermit, TakesPermit, MarksPermit, ParksPermit, FreesPermit};
@@ -36,7 +36,7 @@ impl<V: Keeps, N: LotName<V>> LotScheme<V, N> {
     #[inline(always)]
     pub fn take_permit(&self, pass: NamedPass<V, N>, key: usize) -> (NamedPass<V, N>, Taken)
         requires key { IsAmongSemaphores N.first_sem (length N.permits) key }
-        requires may { MayTakePermit pass.own key }
+        requires may { MayWantPermit V.above pass.own key }
         ensures { TakesPermit pass key result.1 result.0 }
     {
         let (pass, taken) = self.words().take_permit(pass.into_pass(), key);

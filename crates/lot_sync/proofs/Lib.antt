@@ -1,5 +1,6 @@
 pub mod Adding
 pub mod Rests
+pub mod Below
 pub mod Knowing
 pub mod Calls
 pub mod Turns

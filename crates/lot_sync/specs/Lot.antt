@@ -1,4 +1,5 @@
 -- What a lot, its passes and its held values are seen as, and what joins the parts of a lot.
+use Rattle.lot_order.specs.Order.{Keys}
 use Rattle.lot_rights.specs.Opening.{Opening}
 use Rattle.lot_rights.specs.declared.views.Access.{Access}
 use Rattle.lot_words.specs.Rested.{Rested}
@@ -58,6 +59,10 @@ module _ {V : Type 0} where
   -- how many permits of the semaphore it holds
   abbrev pub permits_with : PassView V → ℕ → ℕ
   permits_with p key = slice_index p.permits key
+
+  -- what it has: locks, and permits
+  abbrev pub keys_of : PassView V → Keys
+  keys_of p = record { locks = Owns p; permits = permits_with p }
 
   -- it owns no lock, and holds no permit
   pub record OwnsNone (p : PassView V) : Type 0 where

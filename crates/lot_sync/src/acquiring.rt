@@ -1,10 +1,11 @@
 //! Permits of counting semaphores, on the same parking lot as the locks. WTF has no semaphore on its lot: a permit is
 //! got and given back as a lock is, and a release leaves it to whoever comes first.
 ghost use Rattle.std.specs.Prelude.{◌≡◌, ◌≢◌, ℕ, ◌+◌, ◌≤◌};
+ghost use Rattle.lot_order.specs.Order.{AllBelow};
 ghost use Rattle.lot_scheme.specs.SemCalls.{opening_permits};
 ghost use Rattle.lot_scheme.specs.Words.{GetPermitWord};
 ghost use Rattle.lot_permits.specs.Freed.{GivenWord};
-ghost use Rattle.lot_sync.specs.Lot.{◌≈◌, HasShape, IsSem, one_permit_more, one_permit_less, permits_with};
+ghost use Rattle.lot_sync.specs.Lot.{◌≈◌, HasShape, IsSem, one_permit_more, one_permit_less, permits_with, keys_of};
 ghost use Rattle.lot_sync.specs.Words.{Adds, TryPermitWord};
 ghost use Rattle.lot_sync.specs.Permits.{HasPermit, TriesToGet};
 
@@ -36,7 +37,7 @@ impl<V: Keeps + Send, N: LotName<V> + Send> Lot<V, N> {
     }
 
     /// Gets a permit, waiting for it where none is left. Where one is, it is a load and one compare-exchange. It takes
-    /// no memory.
+    /// no memory. Each key that the pass has lies below the semaphore, in the order of `V`.
     #[inline(always)]
     pub fn acquire<R: Wait>(
         &self,
@@ -45,6 +46,7 @@ impl<V: Keeps + Send, N: LotName<V> + Send> Lot<V, N> {
         key: usize,
     ) -> (Pass<V, N>, Permit<V, N>)
         requires key { IsSem self.now key }
+        requires above { AllBelow V.above (keys_of pass) key }
         ensures permit { (result.1.key ≡ key) × (result.1.thread ≡ pass.thread) }
         ensures pass { result.0 ≈ one_permit_more pass key }
         ensures made { Adds pass.made (GetPermitWord pass.thread key) result.0.made }

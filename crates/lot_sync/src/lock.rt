@@ -1,8 +1,9 @@
 //! Getting a lock, as WTF's `Lock::lock` does: one compare-exchange, a few yields, and then the line.
 ghost use Rattle.std.specs.Prelude.{◌≡◌, ◌<◌, ◌⊎◌, MatchOption, is_some};
+ghost use Rattle.lot_order.specs.Order.{AllBelow};
 ghost use Rattle.lot_locks.specs.Standing.{letters_in};
 ghost use Rattle.lot_scheme.specs.Words.{TryWord, GetWord};
-ghost use Rattle.lot_sync.specs.Lot.{◌≈◌, Owns, HasShape};
+ghost use Rattle.lot_sync.specs.Lot.{◌≈◌, Owns, HasShape, keys_of};
 ghost use Rattle.lot_sync.specs.Words.{Adds};
 ghost use Rattle.lot_sync.specs.Values.{Gets};
 ghost use Rattle.lot_sync.specs.Passes.{pass_view_of, AreCounted, IsNewOwner};
@@ -41,11 +42,12 @@ impl<V: Keeps + Send, N: LotName<V> + Send> Lot<V, N> {
     }
 
     /// Gets the lock, waiting for it where somebody owns it. Where nobody does and nobody is parked, it is one
-    /// read-modify-write of the lock's word.
+    /// read-modify-write of the lock's word. Each key that the pass has lies below the lock, in the order of `V`.
     #[inline(always)]
     pub fn lock<R: Wait>(&self, rt: &R, pass: Pass<V, N>, key: usize) -> (Pass<V, N>, Held<V, N>)
         requires key { key < self.now.locks }
         requires not_owned { ¬ Owns pass key }
+        requires above { AllBelow V.above (keys_of pass) key }
         ensures gets { Gets V.Keeps pass key result.1 result.0 }
         ensures made { Adds pass.made (GetWord pass.thread key) result.0.made }
         ensures shape { HasShape self.now result.0 }
@@ -75,6 +77,7 @@ impl<V: Keeps + Send, N: LotName<V> + Send> Lot<V, N> {
     ) -> (Pass<V, N>, Held<V, N>)
         requires key { key < self.now.locks }
         requires not_owned { ¬ Owns pass key }
+        requires above { AllBelow V.above (keys_of pass) key }
         ensures gets { Gets V.Keeps pass key result.1 result.0 }
         ensures made { Adds pass.made (GetWord pass.thread key) result.0.made }
         ensures shape { HasShape self.now result.0 }

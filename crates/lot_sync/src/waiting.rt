@@ -1,7 +1,8 @@
 //! Waiting on a condition, as WTF's `Condition::wait` does: the thread is queued and its lock let go, and when a
 //! notification has taken it from the line it gets the lock again.
 ghost use Rattle.std.specs.Prelude.{◌<◌};
-ghost use Rattle.lot_sync.specs.Lot.{Owns, HasShape, IsCond};
+ghost use Rattle.lot_order.specs.Order.{MayWait};
+ghost use Rattle.lot_sync.specs.Lot.{Owns, HasShape, IsCond, keys_of};
 ghost use Rattle.lot_sync.specs.Values.{MayGiveBack, WaitsAndGets};
 ghost use Rattle.lot_sync.specs.Words.{Adds, WaitedWord};
 
@@ -18,6 +19,8 @@ impl<V: Keeps + Send, N: LotName<V> + Send> Lot<V, N> {
     /// Lets the lock go, waits on the condition until a notification takes the thread, and gets the lock again. The
     /// lock is let go when the thread is in the condition's line, so no notification is missed that comes after it.
     ///
+    /// Each key that the pass has beside the lock lies below it and below the condition, in the order of `V`.
+    ///
     /// The moment is that of the unlock. What the caller waited for may be gone again when the lock is got: wait in a
     /// loop.
     pub fn wait<R: Wait>(
@@ -32,6 +35,7 @@ impl<V: Keeps + Send, N: LotName<V> + Send> Lot<V, N> {
         requires owns { Owns pass held.key }
         requires back { MayGiveBack V.Keeps pass held }
         requires cond { IsCond self.now cond }
+        requires above { MayWait V.above (keys_of pass) cond held.key }
         ensures gets { WaitsAndGets V.Keeps pass held cond result.1 result.0 }
         ensures made { Adds pass.made (WaitedWord pass.thread cond held.key moment.now) result.0.made }
         ensures shape { HasShape self.now result.0 }
@@ -54,6 +58,7 @@ impl<V: Keeps + Send, N: LotName<V> + Send> Lot<V, N> {
         requires owns { Owns pass held.key }
         requires back { MayGiveBack V.Keeps pass held }
         requires cond { IsCond self.now cond }
+        requires above { MayWait V.above (keys_of pass) cond held.key }
         ensures gets { WaitsAndGets V.Keeps pass held cond result.1 result.0 }
         ensures made { Adds pass.made (WaitedWord pass.thread cond held.key moment.now) result.0.made }
         ensures shape { HasShape self.now result.0 }

@@ -10,8 +10,9 @@ use Rattle.lot_rights.specs.declared.views.Access.{Access}
 use Rattle.lot_rights.specs.declared.views.Access.TheVariants.{Makes, Collects}
 use Rattle.lot_words.specs.CallersRule.{CallersRule}
 use Rattle.lot_words.specs.Values.{IsIn}
+use Rattle.lot_whole.specs.declared.views.Stand.TheVariants.{Idle, AtRest}
 use Rattle.lot_whole.specs.Family.{lock, cond, sem}
-use Rattle.lot_whole.specs.Standing.{IsUp, IsAwake, MayTake}
+use Rattle.lot_whole.specs.Standing.{IsUp, IsAwake, MayWant}
 use Rattle.lot_scheme.specs.Standing.{LotStanding, adding, letting_go, enlisted, one_wait_more, IsLooked, CollectsIn}
 use Rattle.lot_scheme.specs.Words.{IsVain}
 use Rattle.lot_locks.specs.Released.{FreeWord}
@@ -29,8 +30,9 @@ module _ {V : Type 0} where
   bed p c l = adding (enlisted p c l) (Makes (Enlist p.thread c l) Done ∷ [])
 
   -- it may let the lock go
-  pub lets : (locks first_sem : ℕ) (p q : LotStanding V) (c l : ℕ) → MayEnlist locks first_sem p c l → Enlists p c l q → MayFree q l
-  lets locks first_sem p q c l may is = subst (λ (r : LotStanding V). MayFree r l) (sym is) at_bed
+  pub lets : (above : ℕ → ℕ → Type 0) (locks first_sem : ℕ) (p q : LotStanding V) (c l : ℕ) → MayEnlist above locks first_sem p c l
+      → Enlists p c l q → MayFree q l
+  lets above locks first_sem p q c l may is = subst (λ (r : LotStanding V). MayFree r l) (sym is) at_bed
     where
       at_bed : MayFree (bed p c l) l
       at_bed = record { may = inr (may.idle.0.up lock, may.idle.0.aim, (c, refl)); holds = may.holds; lies = may.lies }
@@ -58,10 +60,11 @@ module _ {V : Type 0} where
   pub same_thread : (p s : LotStanding V) (c l : ℕ) (became : Released) → Rested p c l became s → s.thread ≡ p.thread
   same_thread p s c l became r = ap (λ (q : LotStanding V). q.thread) r.is
 
-  -- and may take its lock
-  pub takes : (locks first_sem : ℕ) (p s : LotStanding V) (c l : ℕ) (became : Released) → MayEnlist locks first_sem p c l
-      → Rested p c l became s → MayTake s.own l
-  takes locks first_sem p s c l became may r = subst (λ (q : LotStanding V). MayTake q.own l) (sym r.is) (inr (awake, inr (c, refl)))
+  -- and may take its lock, or want it
+  pub takes : (above : ℕ → ℕ → Type 0) (locks first_sem : ℕ) (p s : LotStanding V) (c l : ℕ) (became : Released)
+      → MayEnlist above locks first_sem p c l → Rested p c l became s → MayWant above s.own l
+  takes above locks first_sem p s c l became may r = subst (λ (q : LotStanding V). MayWant above q.own l) (sym r.is)
+      (inr (awake, inr (c, refl)), λ idle. absurd (let e : AtRest c l ≡ Idle = idle.1 in cc))
     where
       awake : IsAwake (rest p c l r.left).own
       awake = record {
@@ -126,7 +129,7 @@ module _ {V Part : Type 0} (rule : CallersRule V Part) where
             (subst (λ (m : LotStanding V). IsLooked rule m (Some token) s) vain.2 waits.found);
       }
 
-  pub rested : (locks first_sem : ℕ) (p s : LotStanding V) (c l : ℕ) (became : Released) → MayEnlist locks first_sem p c l
+  pub rested : (locks first_sem : ℕ) (p s : LotStanding V) (c l : ℕ) (became : Released) → MayEnlist rule.above locks first_sem p c l
       → Slept {P = LotStanding V} Enlists LetsGo (IsLooked rule) p c l became s → Rested p c l became s
   rested locks first_sem p s c l became may slept = from_bed p slept.free s c l became slept.token (may.idle.0.up lock)
       (subst (λ (q : LotStanding V). LetsGo q l became slept.free) slept.lined slept.went) slept.awaited

@@ -4,6 +4,7 @@ use Rattle.std.specs.Prelude.{◌≡◌, ℕ, ◌<◌, ◌++◌, List, [], ◌�
 use Rattle.std.specs.List.{All}
 use Rattle.lot_events.specs.declared.events.Event.TheVariants.{Enlist}
 use Rattle.lot_events.specs.declared.events.Seen.TheVariants.{Done}
+use Rattle.lot_order.specs.Order.{MayWait}
 use Rattle.lot_park.specs.Parking.{Awaited}
 use Rattle.lot_rights.specs.declared.views.Access.{Access}
 use Rattle.lot_rights.specs.declared.views.Access.TheVariants.{Makes, Collects}
@@ -11,7 +12,7 @@ use Rattle.lot_words.specs.CallersRule.{CallersRule}
 use Rattle.lot_words.specs.World.{Holds}
 use Rattle.lot_words.specs.Values.{IsIn, FoundOk}
 use Rattle.lot_words.specs.Calls.{letting_go as lock_letting_go}
-use Rattle.lot_whole.specs.Standing.{IsIdle}
+use Rattle.lot_whole.specs.Standing.{IsIdle, keys_of}
 use Rattle.lot_scheme.specs.Standing.{LotStanding, adding, owning, letting_go, enlisted, one_wait_more}
 use Rattle.lot_scheme.specs.Words.{GetWord, IsVain}
 use Rattle.lot_locks.specs.Released.{FreeWord}
@@ -31,13 +32,14 @@ pub record WaitWord (t c l : ℕ) (became : Released) (acts : List Access) : Typ
   pub is : acts ≡ Makes (Enlist t c l) Done ∷ (free ++ (looks ++ (Collects t (Some 0) ∷ get)))
 
 module _ {V : Type 0} where
-  -- it is idle, and has the lock, one of so many, whose value lies in its slot
-  pub record MayEnlist (locks first_sem : ℕ) (p : LotStanding V) (c l : ℕ) : Type 0 where
+  -- it is idle, and has the lock, one of so many, whose value lies in its slot; what it has beside may wait so
+  pub record MayEnlist (above : ℕ → ℕ → Type 0) (locks first_sem : ℕ) (p : LotStanding V) (c l : ℕ) : Type 0 where
     pub cond : IsCondKey locks first_sem c
     pub lock : l < locks
     pub idle : IsIdle p.own
     pub holds : Holds p.own.locks l
     pub lies : (y : V) × IsIn p.own.locks l y
+    pub below : MayWait above (keys_of p.own) c l
 
   abbrev pub Enlists : LotStanding V → ℕ → ℕ → LotStanding V → Type 0
   Enlists p c l q = q ≡ adding (enlisted p c l) (Makes (Enlist p.thread c l) Done ∷ [])

@@ -1,12 +1,13 @@
 //! What a thread of a lot can do on a condition.
 ghost use Rattle.std.specs.Prelude.{◌≡◌, ℕ, ◌<◌, ◌≤◌, false, [], ◌∷◌};
 ghost use Rattle.lot_core.specs.Steps.{IsCallCount};
+ghost use Rattle.lot_order.specs.Order.{MayWait};
 ghost use Rattle.lot_events.specs.declared.events.Event.TheVariants.{Look};
 ghost use Rattle.lot_events.specs.declared.events.Seen.TheVariants.{Bool as Saw};
 ghost use Rattle.lot_rights.specs.declared.views.Access.TheVariants.{Makes};
 ghost use Rattle.lot_words.specs.World.{Holds};
 ghost use Rattle.lot_words.specs.Values.{IsIn};
-ghost use Rattle.lot_whole.specs.Standing.{IsIdle};
+ghost use Rattle.lot_whole.specs.Standing.{IsIdle, keys_of};
 ghost use Rattle.lot_scheme.specs.Standing.{adding};
 ghost use Rattle.lot_locks.specs.Released.{IsFitting};
 ghost use Rattle.lot_waits.specs.Counts.{counts_in, one_wait_more};
@@ -26,7 +27,8 @@ use std::sync::Wait;
 /// let go; the moment is that of this unlock.
 ///
 /// The lock is let go when the thread is in the line, so no notification is missed that comes after it. The action runs
-/// before that, with no bucket locked, and must not park.
+/// before that, with no bucket locked, and must not park. What the thread keeps beside the lock lies below it and below
+/// the condition.
 pub fn wait<V: Keeps + Send, N: LotName<V> + Send, R: Wait, B: BeforeSleep>(
     rt: &R,
     parking: &ParkingLot<LotScheme<V, N>>,
@@ -42,6 +44,7 @@ pub fn wait<V: Keeps + Send, N: LotName<V> + Send, R: Wait, B: BeforeSleep>(
     requires idle { IsIdle pass.own }
     requires holds { Holds pass.own.locks lock }
     requires lies { (y : V) × IsIn pass.own.locks lock y }
+    requires above { MayWait V.above (keys_of pass.own) cond lock }
     ensures waited { HasWaited V.Keeps pass cond lock result.1 result.0 }
     ensures idle { IsIdle result.0.own }
     ensures counts { counts_in result.0 ≡ one_wait_more (counts_in pass) cond }

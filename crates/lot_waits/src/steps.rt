@@ -80,7 +80,7 @@ impl<V: Keeps + Send, N: LotName<V> + Send> CondSteps for LotScheme<V, N> {
     ghost use Rattle.lot_waits.specs.Notifying.{MayCall, Calls, MayTakeAll, Sweeps};
     ghost use Rattle.lot_waits.specs.Waiting.{MayEnlist, Enlists};
 
-    ghost may_enlist = { MayEnlist N.locks N.first_sem };
+    ghost may_enlist = { MayEnlist V.above N.locks N.first_sem };
 
     ghost enlists = { Enlists };
 

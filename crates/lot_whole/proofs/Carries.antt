@@ -5,6 +5,7 @@ use Rattle.std.proofs.Common.{subst, ◌∙◌, inl, inr, arith, MatchBool, Opti
 use mathlib.Core.Option as maybe
 use prog.Atomic.{either}
 use Rattle.lot_core.specs.Steps.{IsCallCount, SaysMore, SaysMoreBehind, dequeued_count, first}
+use Rattle.lot_order.specs.Order.{MayWait}
 use Rattle.lot_events.specs.declared.events.Event.TheVariants.{Try, Take, Mark, Park, Free, Pass, Enlist, Look, Call, Lower, Sweep}
 use Rattle.lot_events.specs.declared.events.Seen.TheVariants.{Bool as Saw, Done, Sleeper, Count}
 use Rattle.lot_rights.specs.declared.views.Access.{Access}
@@ -30,9 +31,9 @@ use Rattle.lot_whole.specs.declared.views.LotRootView.{LotRootView}
 use Rattle.lot_whole.specs.Family.{Which, lock, cond, LotSize, lock_size, cond_size, IsKeyIn, PassIn, RootIn}
 use Rattle.lot_whole.specs.Lot.{root_from, LotWorld, LotFits, LotPassIs, LotRootIs, lot_meaning}
 use Rattle.lot_whole.specs.Lifts.{part_pass, whole_root, lot_own, MayBeAway, Speaks, InPlace, CarriesPass, CarriesBoth}
-use Rattle.lot_whole.specs.Standing.{IsUp, IsIdle, MayTake, MayLetGo, MayLineUp, MaySweep}
+use Rattle.lot_whole.specs.Standing.{IsUp, IsIdle, keys_of, MayTake, MayWant, MayLetGo, MayLineUp, MaySweep}
 use Rattle.lot_whole.specs.Calls.{NotesIn, FindsOf, GetsBy}
-use Rattle.lot_whole.proofs.Tells.{out_none, may_take, may_let_go, may_line_up, idle_calm, has}
+use Rattle.lot_whole.proofs.Tells.{out_none, may_take, may_let_go, may_line_up, idle_calm, has, got_lock, keeps_take, keeps_enlist}
 use Rattle.lot_whole.proofs.Lifts.{lifts_pass, lifts_both}
 
 -- ---- an entry tells what was known then, and the access
@@ -183,11 +184,16 @@ module _ {V Part : Type 0} (rule : CallersRule V Part) (z : LotSize) (xs : List 
     takes_aims (inl h) k e = let f : Some k ≡ Some l = sym e ∙ h.1 in cc
     takes_aims (inr h) k e = absurd (no_aim k (sym h.0.aim ∙ e))
 
-    -- a Take, whatever it saw
-    may_speak : MayTake p.own l → (saw : Bool) → MaySpeak lock p (Makes (Take p.thread l) (Saw saw))
-    may_speak may saw w ws hs ok fit = (tt, may_take rule z xs w ws hs ok p.thread p.own fit l may)
+    -- a Take that got the lock, and one whatever it saw
+    speaks_got : MayTake p.own l → MaySpeak lock p (Makes (Take p.thread l) (Saw true))
+    speaks_got may w ws hs ok fit =
+        (tt, may_take rule z xs w ws hs ok p.thread p.own fit l may, got_lock rule.above w.whole p.thread l)
 
-    carries_takes : MayTake p.own l → CarriesPass rule z xs lock p (locks.Takes rule (part_pass lock p) l) (Takes rule p l)
+    may_speak : MayWant rule.above p.own l → (saw : Bool) → MaySpeak lock p (Makes (Take p.thread l) (Saw saw))
+    may_speak may saw w ws hs ok fit =
+        (tt, may_take rule z xs w ws hs ok p.thread p.own fit l may.0, λ _. keeps_take rule z xs w ws hs ok p.thread p.own fit l may)
+
+    carries_takes : MayWant rule.above p.own l → CarriesPass rule z xs lock p (locks.Takes rule (part_pass lock p) l) (Takes rule p l)
     carries_takes may n own a told = by (bit_and n 1 == 0) (told 0)
       where
         by : (b : Bool) → MatchBool b ((x : V) × FoundOk rule l p.thread p.own.locks x
@@ -203,9 +209,9 @@ module _ {V Part : Type 0} (rule : CallersRule V Part) (z : LotSize) (xs : List 
             (NotesIn lock p (wanting p.own.locks l) (Makes (Take p.thread l) (Saw false))) (λ up. inl up) (may_speak may false)
             (λ k. (k, refl)) own a h
 
-    pub takes : MayTake p.own l → AllowsPass (lot_meaning rule z xs) (word_at l) (λ n. bit_or n 1) p (Takes rule p l)
+    pub takes : MayWant rule.above p.own l → AllowsPass (lot_meaning rule z xs) (word_at l) (λ n. bit_or n 1) p (Takes rule p l)
     takes may = lifts_pass rule z xs lock (word_at l) (λ n. bit_or n 1) p (locks.Takes rule (part_pass lock p) l) (Takes rule p l)
-        (locks.takes rule (lock_size z) xs (part_pass lock p) l here (takes_up may lock) (takes_aims may)) (at_key lock p l is_lock)
+        (locks.takes rule (lock_size z) xs (part_pass lock p) l here (takes_up may.0 lock) (takes_aims may.0)) (at_key lock p l is_lock)
         (carries_takes may)
 
     -- ---- the other calls of locks
@@ -223,10 +229,10 @@ module _ {V Part : Type 0} (rule : CallersRule V Part) (z : LotSize) (xs : List 
             (NotesIn lock p p.own.locks (Makes (Try p.thread l) (Saw false)) q)) own a
         by true h = carry lock p (owning p.own.locks l h.0) (Makes (Try p.thread l) (Saw true))
             (GetsBy rule p l (Makes (Try p.thread l) (Saw true))) (λ up. inl up)
-            (λ w ws hs ok fit. (tt, idle_calm rule z xs w ws hs ok p.thread p.own fit idle)) (λ k. (h.0, h.1, (k, refl))) own a h.2
+            (λ w ws hs ok fit. (tt, idle_calm rule z xs w ws hs ok p.thread p.own fit idle, λ _. tt)) (λ k. (h.0, h.1, (k, refl))) own a h.2
         by false h = carry lock p p.own.locks (Makes (Try p.thread l) (Saw false))
             (NotesIn lock p p.own.locks (Makes (Try p.thread l) (Saw false))) (λ up. inl up)
-            (λ w ws hs ok fit. (tt, idle_calm rule z xs w ws hs ok p.thread p.own fit idle)) (λ k. (k, refl)) own a h
+            (λ w ws hs ok fit. (tt, idle_calm rule z xs w ws hs ok p.thread p.own fit idle, λ _. tt)) (λ k. (k, refl)) own a h
 
     pub tries : IsIdle p.own → AllowsPass (lot_meaning rule z xs) (word_at l) (λ n. bit_or n 1) p (Tries rule p l)
     tries idle = lifts_pass rule z xs lock (word_at l) (λ n. bit_or n 1) p (locks.Tries rule (part_pass lock p) l) (Tries rule p l)
@@ -251,7 +257,7 @@ module _ {V Part : Type 0} (rule : CallersRule V Part) (z : LotSize) (xs : List 
             → Carried lock p (λ q. MatchBool b (GetsBy rule p l (Makes (Take p.thread l) (Saw true)) q)
             (FindsOf p l n q)) own a
         by true h = carry lock p (owning p.own.locks l h.0) (Makes (Take p.thread l) (Saw true))
-            (GetsBy rule p l (Makes (Take p.thread l) (Saw true))) (λ up. inl up) (may_speak may true)
+            (GetsBy rule p l (Makes (Take p.thread l) (Saw true))) (λ up. inl up) (speaks_got may)
             (λ k. (h.0, h.1, (k, refl))) own a h.2
         by false h = finds n (FindsOf p l n) (λ q f. f) own a h
 
@@ -271,7 +277,7 @@ module _ {V Part : Type 0} (rule : CallersRule V Part) (z : LotSize) (xs : List 
             ((x : ℕ) × (x ≢ 1) × FindsOf p l x q)) own a
         by true h = carry lock p p.own.locks (Makes (Mark p.thread l) Done) (NotesIn lock p p.own.locks (Makes (Mark p.thread l) Done))
             (λ up. inl up)
-            (λ w ws hs ok fit. (tt, may_line_up rule z xs w ws hs ok p.thread p.own fit l may)) (λ k. (k, refl)) own a h
+            (λ w ws hs ok fit. (tt, may_line_up rule z xs w ws hs ok p.thread p.own fit l may, λ _. tt)) (λ k. (k, refl)) own a h
         by false h = finds h.0 (λ q. (x : ℕ) × (x ≢ 1) × FindsOf p l x q) (λ q f. (h.0, h.1, f)) own a h.2
 
     pub marks : MayLineUp p.own l → AllowsPass (lot_meaning rule z xs) (word_at l) (λ n. either (n == 1) 3 n) p (Marks p l)
@@ -285,7 +291,7 @@ module _ {V Part : Type 0} (rule : CallersRule V Part) (z : LotSize) (xs : List 
       go_up (inr h) = (h.0, h.1)
 
       speaks_free : (saw : Bool) → MaySpeak lock p (Makes (Free p.thread l) (Saw saw))
-      speaks_free saw w ws hs ok fit = (tt, may_let_go rule z xs w ws hs ok p.thread p.own fit l may)
+      speaks_free saw w ws hs ok fit = (tt, may_let_go rule z xs w ws hs ok p.thread p.own fit l may, λ _. tt)
 
       carries_frees : CarriesPass rule z xs lock p (locks.Frees (part_pass lock p) l) (Frees p l)
       carries_frees n own a told = by (n == 1) (told 0)
@@ -323,7 +329,7 @@ module _ {V Part : Type 0} (rule : CallersRule V Part) (z : LotSize) (xs : List 
         (lock_roots.parks rule (lock_size z) xs (part_pass lock p) q (may.0 lock) may.1)
         (λ n own its a told. carry_both lock p q (parked_pass p.own.locks (n == 3)) (parked_root q.own p.thread (n == 3))
         (Makes (Park p.thread q.key) (Saw (n == 3))) (Parks p q n)
-        (λ up. inr (λ k ne. may.0 k)) (λ w ws hs ok fit root. (tt, tt)) (λ k. ((k, refl), refl)) own its a (told 0).0 (told 0).1)
+        (λ up. inr (λ k ne. may.0 k)) (λ w ws hs ok fit root. (tt, tt, λ _. tt)) (λ k. ((k, refl), refl)) own its a (told 0).0 (told 0).1)
 
     module _ (may : MayLetGo p.own q.key) (holds : HoldsParked p.own.locks q.key) (y : V) (lies : IsIn p.own.locks q.key y)
         (paid : q.own.owes ≡ None) (more : Bool) where
@@ -336,7 +342,7 @@ module _ {V Part : Type 0} (rule : CallersRule V Part) (z : LotSize) (xs : List 
       carries_passes fair n own its a told =
           let e : Access = Makes (Pass p.thread q.key fair more) (Sleeper (first q.own.line)) in
           carry_both lock p q (letting_go p.own.locks q.key y) (passed_root q.own fair q.own.line) e (Passes p q fair more) (λ up. inl up)
-          (λ w ws hs ok fit root. (tt, may_let_go rule z xs w ws hs ok p.thread p.own fit q.key may))
+          (λ w ws hs ok fit root. (tt, may_let_go rule z xs w ws hs ok p.thread p.own fit q.key may, λ _. tt))
           (λ k. (
             (λ x at. (
               k,
@@ -371,19 +377,20 @@ module _ {V Part : Type 0} (rule : CallersRule V Part) (z : LotSize) (xs : List 
         (conds.looks (cond_size z) (part_pass cond p) c among (idle_calms p.own idle))
         (at_key cond p c among)
         (λ n own a told. carry cond p p.own.conds (Makes (Look p.thread c) (Saw (n == 1))) (Looks p c n) (λ up. inl up)
-        (λ w ws hs ok fit. (tt, idle_calm rule z xs w ws hs ok p.thread p.own fit idle)) (λ k. (k, refl)) own a (told 0))
+        (λ w ws hs ok fit. (tt, idle_calm rule z xs w ws hs ok p.thread p.own fit idle, λ _. tt)) (λ k. (k, refl)) own a (told 0))
 
     pub lowers : AllowsPass (lot_meaning rule z xs) (word_at c) (λ _. 0) p (λ _. Lowers p c)
     lowers = lifts_pass rule z xs cond (word_at c) (λ _. 0) p (λ _. conds.Lowers (part_pass cond p) c) (λ _. Lowers p c)
         (conds.lowers (cond_size z) (part_pass cond p) c among (idle_calms p.own idle)) (at_key cond p c among)
         (λ n own a told. carry cond p (lowering p.own.conds c) (Makes (Lower p.thread c) Done) (Lowers p c) (λ up. inl up)
-        (λ w ws hs ok fit. (tt, idle_calm rule z xs w ws hs ok p.thread p.own fit idle)) (λ k. (k, refl)) own a (told 0))
+        (λ w ws hs ok fit. (tt, idle_calm rule z xs w ws hs ok p.thread p.own fit idle, λ _. tt)) (λ k. (k, refl)) own a (told 0))
 
   -- ---- conditions, with their roots
   module _ (p : PassShown (LotPassView V)) (q : RootShown CondRootView) where
     pub enlists : IsIdle p.own → (l : ℕ) → l < z.locks → Holds p.own.locks l
+        → MayWait rule.above (keys_of p.own) q.key l
         → AllowsBoth (lot_meaning rule z xs) (word_at q.key) (λ _. 1) p (whole_root cond q) (λ _. Enlists p q l)
-    enlists idle l near holds = lifts_both rule z xs cond (λ _. 1) p q (λ _. conds.EnlistsWith l (part_pass cond p) q) (λ _. Enlists p q l)
+    enlists idle l near holds above = lifts_both rule z xs cond (λ _. 1) p q (λ _. conds.EnlistsWith l (part_pass cond p) q) (λ _. Enlists p q l)
         (conds.enlists_with (cond_size z) (part_pass cond p) q l near (idle_calms p.own idle))
         (λ n own its a told. carry_both cond p q (enlisted p.own.conds q.key) (enlisted_root q.own p.thread)
         (Makes (Enlist p.thread q.key l) Done) (Enlists p q l)
@@ -395,6 +402,7 @@ module _ {V Part : Type 0} (rule : CallersRule V Part) (z : LotSize) (xs : List 
             has rule z xs w ws hs ok p.thread p.own fit l
                 holds,
           ),
+          λ _. keeps_enlist rule z xs w ws hs ok p.thread p.own fit q.key l idle above,
         )) (λ k. ((k, refl), refl)) own its a (told 0).0 (told 0).1)
 
     module _ (idle : IsIdle p.own) (n : ℕ) (more : Bool) (few : IsCallCount n) (says : SaysMoreBehind n q.own.line more) where
@@ -402,7 +410,7 @@ module _ {V Part : Type 0} (rule : CallersRule V Part) (z : LotSize) (xs : List 
       carries_calls x own its a told =
           carry_both cond p q (called_more p.own.conds q.key (dequeued_count n q.own.line)) (called_root q.own n)
           (Makes (Call p.thread q.key n more) (Count (dequeued_count n q.own.line))) (CallsSome p q n more) (λ up. inl up)
-          (λ w ws hs ok fit root. (tt, idle_calm rule z xs w ws hs ok p.thread p.own fit idle)) (λ k. ((k, refl), refl)) own its a
+          (λ w ws hs ok fit root. (tt, idle_calm rule z xs w ws hs ok p.thread p.own fit idle, λ _. tt)) (λ k. ((k, refl), refl)) own its a
           (told 0).0 (told 0).1
 
       pub call_loads : more ≡ true → 0 < dequeued_count n q.own.line
@@ -420,4 +428,4 @@ module _ {V Part : Type 0} (rule : CallersRule V Part) (z : LotSize) (xs : List 
         (conds.sweeps (cond_size z) (part_pass cond p) q may.1)
         (λ n own its a told. carry_both cond p q (swept_pass p.own.conds q.key (length q.own.line)) (swept_root q.own)
         (Makes (Sweep p.thread q.key) (Count (length q.own.line))) (Sweeps p q)
-        (λ up. inl up) (λ w ws hs ok fit root. (tt, tt)) (λ k. ((k, refl), refl)) own its a (told 0).0 (told 0).1)
+        (λ up. inl up) (λ w ws hs ok fit root. (tt, tt, λ _. tt)) (λ k. ((k, refl), refl)) own its a (told 0).0 (told 0).1)

@@ -10,6 +10,7 @@ use Rattle.lot_events.specs.declared.events.Point.{Point}
 use Rattle.lot_events.specs.declared.events.Point.TheVariants.{Wants, Bed, Rest, Seeks}
 use Rattle.lot_events.specs.declared.events.Event.{Event}
 use Rattle.lot_events.specs.declared.events.Seen.{Seen}
+use Rattle.lot_order.proofs.Progress.{orderly}
 use Rattle.lot_rights.specs.declared.views.Right.{Right}
 use Rattle.lot_rights.specs.History.{events_in, ModelRun}
 use Rattle.lot_rights.specs.Layout.{word_at}
@@ -78,6 +79,7 @@ module _ {V Part : Type 0} (rule : CallersRule V Part) (z : LotSize) (xs : List 
         parts = ok.agrees;
         stands = λ t near. (ok.passes t near).stand;
         history = one_run z (events_in here.log) here.world.whole ok.reached (has_one_run (lot_meaning rule z xs) s here).model;
+        orderly = orderly rule.above here.world.whole (reached_sound here.world.whole ok.reached) ok.ordered;
         one_line = one_line here.world.whole (reached_sound here.world.whole ok.reached);
         one_letter = λ t near. (ok.passes t near).apart;
       }

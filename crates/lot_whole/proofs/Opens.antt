@@ -113,6 +113,7 @@ module _ {V Part : Type 0} (rule : CallersRule V Part) (z : LotSize) (xs : List 
     none_in_line = λ t _. none_sums t;
     counts = refl;
     reached = opening_reached z.threads z.locks z.conds z.permits;
+    ordered = λ t. tt;
   }
 
   fresh_roots : (c : ℕ) → c < key_count z → LotRootIs rule z xs fresh c (fresh_root z c)

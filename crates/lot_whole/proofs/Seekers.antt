@@ -28,11 +28,11 @@ use Rattle.lot_whole.specs.declared.views.LotRootView.{LotRootView}
 use Rattle.lot_whole.specs.Family.{sem, LotSize, sem_size, IsKeyIn}
 use Rattle.lot_whole.specs.Lot.{lot_meaning}
 use Rattle.lot_whole.specs.Lifts.{part_pass, whole_root}
-use Rattle.lot_whole.specs.Standing.{IsIdle, MayTakePermit, MaySeek, MayGive}
+use Rattle.lot_whole.specs.Standing.{IsIdle, MayTakePermit, MayWantPermit, MaySeek, MayGive}
 use Rattle.lot_whole.specs.Calls.{NotesIn, FindsOf, Exchanges, Misses, TakesFrom, TriesPermit, TakesPermit, FreesPermit}
 use Rattle.lot_whole.proofs.Carries.{MaySpeak, Carried, carry, carry_both, at_key}
 use Rattle.lot_whole.proofs.Lifts.{lifts_pass, lifts_both}
-use Rattle.lot_whole.proofs.Tells.{may_seek, idle_calm}
+use Rattle.lot_whole.proofs.Tells.{may_seek, idle_calm, got_permit, keeps_seek}
 
 -- ---- what each step tells
 module _ {V : Type 0} where
@@ -147,23 +147,29 @@ module _ {V Part : Type 0} (rule : CallersRule V Part) (z : LotSize) (xs : List 
         (sems.looks (sem_size z) (part_pass sem p) k among)
         (at_key rule z xs sem p k among) (λ n own a told. finds n own a (told 0))
 
-    speaks_take : MayTakePermit p.own k → (saw : Bool) → MaySpeak rule z xs sem p (Makes (SemTake p.thread k) (Saw saw))
-    speaks_take may saw w ws hs ok fit = (tt, may_seek rule z xs w ws hs ok p.thread p.own fit k may)
+    -- a SemTake that got a permit, and one that found none
+    speaks_got : MayTakePermit p.own k → MaySpeak rule z xs sem p (Makes (SemTake p.thread k) (Saw true))
+    speaks_got may w ws hs ok fit =
+        (tt, may_seek rule z xs w ws hs ok p.thread p.own fit k may, got_permit rule.above w.whole p.thread k)
 
-    carries_seeks : MayTakePermit p.own k → (n : ℕ) (own : SemPassView) (a : Access)
+    speaks_missed : MayWantPermit rule.above p.own k → MaySpeak rule z xs sem p (Makes (SemTake p.thread k) (Saw false))
+    speaks_missed may w ws hs ok fit =
+        (tt, may_seek rule z xs w ws hs ok p.thread p.own fit k may.0, λ _. keeps_seek rule z xs w ws hs ok p.thread p.own fit k may)
+
+    carries_seeks : MayWantPermit rule.above p.own k → (n : ℕ) (own : SemPassView) (a : Access)
         → sems.Seeks (part_pass sem p) k n (pass_after (part_pass sem p) own 0 a)
         → Carried rule z xs sem p (Seeks p k n) own a
     carries_seeks may zero own a h =
         carry rule z xs sem p (seeking p.own.sems k) (Makes (SemTake p.thread k) (Saw false)) (Seeks p k 0) (λ up. inl up)
-        (speaks_take may false) (λ i. (i, refl)) own a h
+        (speaks_missed may) (λ i. (i, refl)) own a h
     carries_seeks may (suc zero) own a h =
         carry rule z xs sem p (seeking p.own.sems k) (Makes (SemTake p.thread k) (Saw false)) (Seeks p k (suc zero)) (λ up. inl up)
-        (speaks_take may false) (λ i. (i, refl)) own a h
+        (speaks_missed may) (λ i. (i, refl)) own a h
     carries_seeks may (suc (suc n)) own a h = finds (suc (suc n)) own a h
 
-    pub seeks : MayTakePermit p.own k → AllowsPass (lot_meaning rule z xs) (word_at k) (λ n. n) p (Seeks p k)
+    pub seeks : MayWantPermit rule.above p.own k → AllowsPass (lot_meaning rule z xs) (word_at k) (λ n. n) p (Seeks p k)
     seeks may = lifts_pass rule z xs sem (word_at k) (λ n. n) p (sems.Seeks (part_pass sem p) k) (Seeks p k)
-        (sems.seeks (sem_size z) (part_pass sem p) k among (takes_so p.own k may))
+        (sems.seeks (sem_size z) (part_pass sem p) k among (takes_so p.own k may.0))
         (at_key rule z xs sem p k among) (λ n own a told. carries_seeks may n own a (told 0))
 
     -- an exchange, by an event after which the thread is away as before
@@ -188,7 +194,7 @@ module _ {V Part : Type 0} (rule : CallersRule V Part) (z : LotSize) (xs : List 
         (Swaps p k (one_permit_more p.own.sems k) (SemTake p.thread k) seen)
         (sems.swaps (sem_size z) (part_pass sem p) k among (takes_so p.own k may) seen some) (at_key rule z xs sem p k among)
         (λ n own a told. carries_swaps (one_permit_more p.own.sems k) (SemTake p.thread k) refl
-        (speaks_take may true) seen n own a (told 0))
+        (speaks_got may) seen n own a (told 0))
 
     pub frees : MayGive p.own k → (seen : ℕ) → IsUnmarked seen
         → AllowsPass (lot_meaning rule z xs) (word_at k) (λ n. either (n == seen) ((seen + 2) % 2 ^ 64) n) p
@@ -198,7 +204,7 @@ module _ {V Part : Type 0} (rule : CallersRule V Part) (z : LotSize) (xs : List 
         (Swaps p k (one_permit_less p.own.sems k) (SemFree p.thread k) seen)
         (sems.frees (sem_size z) (part_pass sem p) k among (calms_so p.own may.0, may.1) seen clear) (at_key rule z xs sem p k among)
         (λ n own a told. carries_swaps (one_permit_less p.own.sems k) (SemFree p.thread k) refl
-        (λ w ws hs ok fit. (tt, idle_calm rule z xs w ws hs ok p.thread p.own fit may.0)) seen n own a (told 0))
+        (λ w ws hs ok fit. (tt, idle_calm rule z xs w ws hs ok p.thread p.own fit may.0, λ _. tt)) seen n own a (told 0))
 
     carries_marks : (n : ℕ) (own : SemPassView) (a : Access) → sems.Marks (part_pass sem p) k n (pass_after (part_pass sem p) own 0 a)
         → Carried rule z xs sem p (MarksPermit p k n) own a
@@ -211,7 +217,7 @@ module _ {V Part : Type 0} (rule : CallersRule V Part) (z : LotSize) (xs : List 
             ((x : ℕ) × (x ≢ 0) × FindsOf p k x q)) own a
         by true h = carry rule z xs sem p p.own.sems (Makes (SemMark p.thread k) Done)
             (NotesIn sem p p.own.sems (Makes (SemMark p.thread k) Done)) (λ up. inl up)
-            (λ w ws hs ok fit. (tt, tt)) (λ i. (i, refl)) own a h
+            (λ w ws hs ok fit. (tt, tt, λ _. tt)) (λ i. (i, refl)) own a h
         by false h = carry rule z xs sem p p.own.sems (Finds p.thread k h.0) (λ q. (x : ℕ) × (x ≢ 0) × FindsOf p k x q) (λ up. inl up)
             (λ w ws hs ok fit. among)
             (λ i. (h.0, h.1, (i, refl))) own a h.2
@@ -228,7 +234,7 @@ module _ {V Part : Type 0} (rule : CallersRule V Part) (z : LotSize) (xs : List 
         (sem_roots.parks (sem_size z) (part_pass sem p) q (may.0 sem, may.1))
         (λ n own its a told. carry_both rule z xs sem p q (parked_pass p.own.sems (n == 1)) (parked_root q.own p.thread (n == 1))
         (Makes (SemPark p.thread q.key) (Saw (n == 1))) (ParksSem p q n)
-        (λ up. inr (λ k ne. may.0 k)) (λ w ws hs ok fit root. (tt, tt)) (λ i. ((i, refl), refl)) own its a (told 0).0 (told 0).1)
+        (λ up. inr (λ k ne. may.0 k)) (λ w ws hs ok fit root. (tt, tt, λ _. tt)) (λ i. ((i, refl), refl)) own its a (told 0).0 (told 0).1)
 
     pub passes : MayGive p.own q.key → q.own.owes ≡ None → (more : Bool) → SaysMore q.own.line more → (x : ℕ)
         → x ≡ raise_of (first q.own.line) more
@@ -239,7 +245,7 @@ module _ {V Part : Type 0} (rule : CallersRule V Part) (z : LotSize) (xs : List 
         (sem_roots.passes (sem_size z) (part_pass sem p) q (calms_so p.own may.0, may.1) paid more says x is)
         (λ n own its a told. carry_both rule z xs sem p q (one_permit_less p.own.sems q.key) (passed_root q.own q.own.line)
         (Makes (SemPass p.thread q.key more) (Sleeper (first q.own.line))) (PassesPermit p q more)
-        (λ up. inl up) (λ w ws hs ok fit root. (tt, idle_calm rule z xs w ws hs ok p.thread p.own fit may.0))
+        (λ up. inl up) (λ w ws hs ok fit root. (tt, idle_calm rule z xs w ws hs ok p.thread p.own fit may.0, λ _. tt))
         (λ i. ((i, refl), refl)) own its a (told 0).0 (told 0).1)
 
     pub clears : IsIdle p.own → q.own.line ≡ []
@@ -248,5 +254,5 @@ module _ {V Part : Type 0} (rule : CallersRule V Part) (z : LotSize) (xs : List 
         (λ _. Clears p q)
         (sem_roots.clears (sem_size z) (part_pass sem p) q (calms_so p.own idle) nobody)
         (λ n own its a told. carry_both rule z xs sem p q p.own.sems q.own (Makes (SemClear p.thread q.key) Done) (Clears p q)
-        (λ up. inl up) (λ w ws hs ok fit root. (tt, idle_calm rule z xs w ws hs ok p.thread p.own fit idle))
+        (λ up. inl up) (λ w ws hs ok fit root. (tt, idle_calm rule z xs w ws hs ok p.thread p.own fit idle, λ _. tt))
         (λ i. ((i, refl), refl)) own its a (told 0).0 (told 0).1)

@@ -112,6 +112,7 @@ module _ {V Part : Type 0} (rule : CallersRule V Part) (z : LotSize) (xs : List 
         none_in_line = none_queued rule z xs next hs' parts passes agrees;
         counts = ok.counts;
         reached = ok.reached;
+        ordered = ok.ordered;
       };
       pass = (fit.0, put_same w.pass t new);
       passes = λ u y ne h. (h.0, put_other w.pass t new u ne ∙ h.1);

@@ -13,6 +13,8 @@ use Rattle.lot_core.specs.Steps.{after, IsReached}
 use Rattle.lot_core.specs.Rows.{told}
 use Rattle.lot_core.proofs.Law.{event_kept, reached_sound}
 use Rattle.lot_core.proofs.Put.{put_same, put_other, put_again}
+use Rattle.lot_order.specs.Order.{IsOrdered}
+use Rattle.lot_order.proofs.Orderly.{event_ordered}
 use Rattle.lot_rights.specs.declared.views.Access.{Access}
 use Rattle.lot_rights.specs.declared.views.Access.TheVariants.{Makes, Posts, Collects, Finds}
 use Rattle.lot_rights.specs.History.{Telling, doer, maker}
@@ -174,6 +176,7 @@ module _ {V Part : Type 0} (rule : CallersRule V Part) (z : LotSize) (xs : List 
         pub agrees : (k : Which) → part_in rule z xs k (whole_by a w.whole) ≡ ((meaning_of rule z xs k).told_by (each k)).part
         pub counts : counts_in (whole_by a w.whole) ≡ counts_of z
         pub reached : IsReached (whole_by a w.whole)
+        pub ordered : IsOrdered rule.above (whole_by a w.whole)
         -- of a thread's access, it alone moves; of a root's, nobody does
         pub moved : (t : ℕ) → doer a ≡ 2 * t → Stands w.whole t (whole_by a w.whole).point (moves_by a (stand_of (w.whole.point t)))
         pub rests : (c : ℕ) → doer a ≡ 2 * c + 1 → whole_by a w.whole ≡ w.whole
@@ -197,6 +200,7 @@ module _ {V Part : Type 0} (rule : CallersRule V Part) (z : LotSize) (xs : List 
                 (λ k ne. joined.others k ne ∙ ok.agrees k);
             counts = counts_after w.whole e ∙ ok.counts;
             reached = event_kept w.whole e ok.reached joined.allowed;
+            ordered = event_ordered rule.above w.whole e ok.ordered joined.allowed (speaks.2 joined.saw_is);
             moved = λ t by. let same : maker e ≡ t = omega (arith, by) in
                 subst (λ u. Stands w.whole u (after w.whole e).point (moves e saw (stand_of (w.whole.point u)))) same
                 (subst (λ s. Stands w.whole (maker e) (after w.whole e).point (moves e s (stand_of (w.whole.point (maker e)))))
@@ -212,6 +216,7 @@ module _ {V Part : Type 0} (rule : CallersRule V Part) (z : LotSize) (xs : List 
         agrees = same_parts (λ y. (goes.1 y).part);
         counts = ok.counts;
         reached = ok.reached;
+        ordered = ok.ordered;
         moved = λ t by. stays_put t;
         rests = λ _ _. refl;
       }
@@ -224,6 +229,7 @@ module _ {V Part : Type 0} (rule : CallersRule V Part) (z : LotSize) (xs : List 
         agrees = same_parts (λ y. (goes.1 y).part);
         counts = ok.counts;
         reached = ok.reached;
+        ordered = ok.ordered;
         moved = λ t by. stays_put t;
         rests = λ _ _. refl;
       }
@@ -239,6 +245,7 @@ module _ {V Part : Type 0} (rule : CallersRule V Part) (z : LotSize) (xs : List 
         agrees = same_parts (λ y. (goes.1 y).part);
         counts = ok.counts;
         reached = ok.reached;
+        ordered = ok.ordered;
         moved = λ t by. absurd (omega (arith, by));
         rests = λ _ _. refl;
       }
@@ -251,6 +258,7 @@ module _ {V Part : Type 0} (rule : CallersRule V Part) (z : LotSize) (xs : List 
         agrees = same_parts (λ y. (goes.1 y).part);
         counts = ok.counts;
         reached = ok.reached;
+        ordered = ok.ordered;
         moved = λ t by. stays_put t;
         rests = λ _ _. refl;
       }
@@ -276,6 +284,7 @@ module _ {V Part : Type 0} (rule : CallersRule V Part) (z : LotSize) (xs : List 
           none_in_line = none_queued rule z xs next hs parts_after passes gone.agrees;
           counts = gone.counts;
           reached = gone.reached;
+          ordered = gone.ordered;
         }
 
         -- a pass that is as it was

@@ -1,14 +1,20 @@
 -- What a pass tells of its thread's point in the state of the whole.
-use Rattle.std.proofs.Common.{◌≡◌, ◌≢◌, ℕ, ◌<◌, ◌⊎◌, true, false, List, refl, sym, ap, subst, ◌∙◌, inl, inr, ⊎_elim}
+use Rattle.std.proofs.Common.{◌≡◌, ◌≢◌, ℕ, ◌<◌, ◌≤◌, ◌⊎◌, true, false, List, refl, sym, ap, subst, ◌∙◌, inl, inr, ⊎_elim}
 use Rattle.std.proofs.Common.{Option, Some, None}
-use Rattle.std.specs.Prelude.{◌+◌, is_some}
+use Rattle.std.specs.Prelude.{◌+◌, ◌==◌, not, is_some}
 use Rattle.std.specs.List.{Contains}
 use mathlib.Core.Option as maybe
-use Rattle.lot_core.specs.Steps.{MayLetGo as LetsGo}
+use Rattle.lot_core.specs.World.{World}
+use Rattle.lot_core.specs.Steps.{MayLetGo as LetsGo, seen}
 use Rattle.lot_core.specs.Parts.{LockPart, CondPart, SemaphorePart, StandsBefore, wanted, swept_by, sought}
+use Rattle.lot_events.specs.declared.events.Event.TheVariants.{Take, Enlist, SemTake}
+use Rattle.lot_events.specs.declared.events.Seen.TheVariants.{Bool as Saw}
 use Rattle.lot_events.specs.declared.events.Point.{Point}
 use Rattle.lot_events.specs.declared.events.Point.TheVariants.{Calm, Wants, Bed, Rest, Sweeps, Seeks}
-use Rattle.lot_rights.specs.World.{awake, queued, owed}
+use Rattle.lot_order.specs.Order.{held_by, AllBelow, MayWait, KeepsOrder}
+use Rattle.lot_order.proofs.Circles.{ordered_at}
+use Rattle.lot_order.proofs.Orderly.{IsWithin, fewer_keys, fewer_beside}
+use Rattle.lot_rights.specs.World.{awake, queued, owed, IsLetter}
 use Rattle.lot_words.specs.declared.views.LockPassView.{LockPassView}
 use Rattle.lot_words.specs.declared.views.LockRootView.{LockRootView}
 use Rattle.lot_words.specs.CallersRule.{CallersRule}
@@ -16,7 +22,7 @@ use Rattle.lot_words.specs.World.{Holds}
 use Rattle.lot_words.specs.Rule.{wants_of}
 use Rattle.lot_words.proofs.Machine.{awake_is as lock_awake}
 use Rattle.lot_words.proofs.Letters.{debtor_fits}
-use Rattle.lot_words.proofs.Owners.{owner_has}
+use Rattle.lot_words.proofs.Owners.{owner_has, owner_is}
 use Rattle.lot_conds.specs.declared.views.CondPassView.{CondPassView}
 use Rattle.lot_conds.specs.declared.views.CondRootView.{CondRootView}
 use Rattle.lot_conds.proofs.Machine.{awake_is as cond_awake}
@@ -29,7 +35,7 @@ use Rattle.lot_whole.specs.Family.{Which, lock, cond, sem, LotSize, away, meanin
 use Rattle.lot_whole.specs.Whole.{stand_of}
 use Rattle.lot_whole.specs.Lot.{own_of, LotWorld, PassOk, LotFits, LotPassIs}
 use Rattle.lot_whole.specs.Lifts.{Quiet}
-use Rattle.lot_whole.specs.Standing.{IsAwake, IsIdle, MayTake, MayLetGo, MayLineUp, MayTakePermit}
+use Rattle.lot_whole.specs.Standing.{IsAwake, IsIdle, keys_of, MayTake, MayWant, MayLetGo, MayLineUp, MayTakePermit, MayWantPermit}
 use Rattle.lot_whole.proofs.Family.{not_true, still}
 
 -- ---- points
@@ -58,6 +64,13 @@ rest_is : (p : Point) (c l : ℕ) → stand_of p ≡ AtRest c l → p ≡ Rest c
 rest_is (Bed d m) c l e = absurd (let f : AtBed d m ≡ AtRest c l = e in cc)
 rest_is (Rest d m) c l e = let a : d ≡ c = cc in let b : m ≡ l = cc in (λ i. Rest (a i) (b i))
 rest_is _ c l e = absurd (let f : Idle ≡ AtRest c l = e in cc)
+
+-- who got what it wanted, a lock or a permit, does not wait for it
+pub got_lock : (above : ℕ → ℕ → Type 0) (s : World) (t l : ℕ) → Saw true ≡ seen s (Take t l) → KeepsOrder above s (Take t l)
+got_lock above s t l saw held = absurd (let e : Saw true ≡ Saw false = saw ∙ ap (λ b. Saw (not b)) held in cc)
+
+pub got_permit : (above : ℕ → ℕ → Type 0) (s : World) (t k : ℕ) → Saw true ≡ seen s (SemTake t k) → KeepsOrder above s (SemTake t k)
+got_permit above s t k saw none = absurd (let e : Saw true ≡ Saw false = saw ∙ ap (λ n. Saw (not (n == 0))) none in cc)
 
 pub out_none : (o : Option ℕ) → is_some o ≡ false → o ≡ None
 out_none None e = refl
@@ -130,6 +143,48 @@ module _ {V Part : Type 0} (rule : CallersRule V Part) (z : LotSize) (xs : List 
 
     pub may_seek : (k : ℕ) → MayTakePermit p k → (at ≡ Calm) ⊎ (at ≡ Seeks k)
     may_seek k may = ⊎_elim {C = (at ≡ Calm) ⊎ (at ≡ Seeks k)} (λ h. inr (seeks_is at k (seeks ∙ h.1))) (λ idle. inl (idle_calm idle)) may
+
+    -- ---- the order of keys
+    -- who is up has nothing that its pass does not tell
+    within : p.locks.asleep ≡ false → IsWithin (held_by w.whole t) (keys_of p)
+    within up = record {
+      locks = λ j e.
+          let q = pass_ok.each lock in
+          let l = w.each lock in
+          let spot : l.spot t ≡ awake = lock_awake z.threads l.word l.root t (l.pass t) (l.spot t)
+          ((ok.parts lock).kept.threads t).spot (ap (λ (x : LockPassView V). x.asleep) q.1 ∙ up) in
+          let own = sym (ap (λ (a : LockPart). a.locks.has j t) (ok.agrees lock)) ∙ e in
+          ⊎_elim {C = Holds p.locks j} (λ holds. subst (λ (x : LockPassView V). Holds x j) q.1 holds)
+          (λ handed. absurd (subst (λ s. IsLetter s j 1) spot handed))
+          (((ok.parts lock).kept.locks j).had t (owner_is (l.word j).owner t own)).1;
+      permits = λ j some. subst (λ n. 1 ≤ n)
+          (ap (λ (a : SemaphorePart). a.sems.out j t) (ok.agrees sem) ∙ (pass_ok.each sem).out j) some;
+    }
+
+    -- who stands idle may wait where its pass has only keys that lie below
+    below : (k : ℕ) → IsIdle p → AllBelow rule.above (keys_of p) k → AllBelow rule.above (held_by w.whole t) k
+    below k idle all j has = all j (fewer_keys (held_by w.whole t) (keys_of p) (within (idle.0.up lock)) j has)
+
+    pub keeps_enlist : (c l : ℕ) → IsIdle p → MayWait rule.above (keys_of p) c l → KeepsOrder rule.above w.whole (Enlist t c l)
+    keeps_enlist c l idle may =
+        let fewer = fewer_beside (held_by w.whole t) (keys_of p) l (within (idle.0.up lock)) in
+        ((λ j has. may.0 j (fewer j has)), (λ j has. may.1 j (fewer j has)))
+
+    -- who wants the lock, or rests with it, is in order; who stands idle has shown it
+    pub keeps_take : (l : ℕ) → MayWant rule.above p l → KeepsOrder rule.above w.whole (Take t l)
+    keeps_take l may held = ⊎_elim {C = AllBelow rule.above (held_by w.whole t) l}
+        (λ h. (ordered_at rule.above w.whole t (Wants l) ok.ordered (wants_is at l (wants (h.0 lock) ∙ h.1))).1)
+        (λ h. ⊎_elim {C = AllBelow rule.above (held_by w.whole t) l}
+        (λ idle. below l (h.0, idle) (may.1 (h.0, idle)))
+        (λ rest. (ordered_at rule.above w.whole t (Rest rest.0 l) ok.ordered (rest_is at rest.0 l (pass_ok.stand ∙ rest.1))).1)
+        h.1)
+        may.0
+
+    pub keeps_seek : (k : ℕ) → MayWantPermit rule.above p k → KeepsOrder rule.above w.whole (SemTake t k)
+    keeps_seek k may none = ⊎_elim {C = AllBelow rule.above (held_by w.whole t) k}
+        (λ h. (ordered_at rule.above w.whole t (Seeks k) ok.ordered (seeks_is at k (seeks ∙ h.1))).1)
+        (λ idle. below k idle (may.1 idle))
+        may.0
 
     -- ---- letters
     -- where no other kind has the thread away, no other has a letter for it

@@ -6,6 +6,7 @@ use Rattle.atomic_table.specs.Table.{State}
 use Rattle.lot_core.specs.World.{World}
 use Rattle.lot_core.specs.Steps.{Run, after_all}
 use Rattle.lot_core.specs.Sound.{IsSound}
+use Rattle.lot_order.specs.Waiting.{IsOrderly}
 use Rattle.lot_events.specs.declared.events.Event.{Event}
 use Rattle.lot_events.specs.declared.events.Seen.{Seen}
 use Rattle.lot_rights.specs.declared.views.Right.{Right}
@@ -50,6 +51,8 @@ module _ {V Part : Type 0} (rule : CallersRule V Part) (z : LotSize) (xs : List 
     pub stands : (t : ℕ) → t < z.threads → stand_of (state.point t) ≡ (here.world.pass t).stand
     -- the history without its notices has led to it
     pub history : IsOneRun z (events_in here.log) state
+    -- it is in order, so where the keys rise by some level no circle of threads waits, and some thread goes on
+    pub orderly : IsOrderly rule.above state
     -- one line each, over all kinds
     pub one_line : OneLineOfAll state
     -- a thread waits in one kind at most, also while its letter is owed or lies

@@ -5,6 +5,7 @@ use Rattle.std.proofs.Common.{sym, ◌∙◌}
 use mathlib.Core.Option as maybe
 use Rattle.lot_core.specs.World.{World}
 use Rattle.lot_core.specs.Steps.{IsReached}
+use Rattle.lot_order.specs.Order.{IsOrdered}
 use Rattle.lot_rights.specs.Layout.{word_at, letter_at, word_count}
 use Rattle.lot_rights.specs.Rule.{Meaning}
 use Rattle.lot_rights.specs.Settled.{HasOneOutcome, LinesHaveNoLetter}
@@ -85,7 +86,7 @@ module _ {V Part : Type 0} (rule : CallersRule V Part) (z : LotSize) (xs : List 
     pub stand : stand_of (w.whole.point t) ≡ p.stand
 
   -- the words and the slots stand for the world: each kind's words and letters do so for that kind, and the parts of the whole state, which
-  -- a run of the model reaches, are what the kinds tell; no letter lies for a thread that is in a line
+  -- a run of the model reaches and which is in order, are what the kinds tell; no letter lies for a thread that is in a line
   pub record LotFits (w : LotWorld) (ws : List ℕ) (hs : List (maybe.Option (Option V))) : Type 0 where
     pub parts : (j : Which) → (meaning_of rule z xs j).Fits (w.each j) (w.words j) (homes_in j hs)
     pub wide : length ws ≡ word_count z.threads (key_count z)
@@ -96,6 +97,7 @@ module _ {V Part : Type 0} (rule : CallersRule V Part) (z : LotSize) (xs : List 
     pub none_in_line : (t : ℕ) → IsQueued w.whole t → sum_of (letters_in w) t ≡ 0
     pub counts : counts_in w.whole ≡ counts_of z
     pub reached : IsReached w.whole
+    pub ordered : IsOrdered rule.above w.whole
 
   abbrev pub LotPassIs : LotWorld → ℕ → LotPassView V → Type 0
   LotPassIs w t p = (t < z.threads) × (w.pass t ≡ p)

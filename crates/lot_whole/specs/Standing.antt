@@ -1,7 +1,9 @@
 -- How a thread stands, as its pass tells it: what the calls ask for.
 use Rattle.std.specs.Prelude.{◌≡◌, ℕ, ◌≤◌, ◌⊎◌, false, slice_index, Some, None}
+use Rattle.lot_order.specs.Order.{Keys, AllBelow}
 use Rattle.lot_words.specs.declared.views.LockRootView.{LockRootView}
 use Rattle.lot_words.specs.Rule.{no_root as no_lock_root}
+use Rattle.lot_words.specs.World.{Holds}
 use Rattle.lot_conds.specs.declared.views.CondRootView.{CondRootView}
 use Rattle.lot_conds.specs.Rule.{no_root as no_cond_root}
 use Rattle.lot_sems.specs.declared.views.SemRootView.{SemRootView}
@@ -29,9 +31,22 @@ module _ {V : Type 0} where
   abbrev pub IsIdle : LotPassView V → Type 0
   IsIdle p = IsAwake p × (p.stand ≡ Idle)
 
+  -- what it has: locks, and permits
+  abbrev pub keys_of : LotPassView V → Keys
+  keys_of p = record { locks = Holds p.locks; permits = slice_index p.sems.out }
+
+  -- it may wait for the key k, so far as the order of keys asks: where it stands idle, all that it has lies below. Who wants, seeks or
+  -- rests has shown it
+  abbrev pub MayAsk : (ℕ → ℕ → Type 0) → LotPassView V → ℕ → Type 0
+  MayAsk above p k = IsIdle p → AllBelow above (keys_of p) k
+
   -- the thread may take the lock l: it wants l, or nothing, or rests on a condition and had l before
   abbrev pub MayTake : LotPassView V → ℕ → Type 0
   MayTake p l = (IsUp p × (p.locks.aim ≡ Some l)) ⊎ (IsAwake p × ((p.stand ≡ Idle) ⊎ ((c : ℕ) × (p.stand ≡ AtRest c l))))
+
+  -- and may wait for it
+  abbrev pub MayWant : (ℕ → ℕ → Type 0) → LotPassView V → ℕ → Type 0
+  MayWant above p l = MayTake p l × MayAsk above p l
 
   -- it may let l go: it is idle, or at the bed of a condition with l; there it is queued, or even called already
   abbrev pub MayLetGo : LotPassView V → ℕ → Type 0
@@ -48,6 +63,10 @@ module _ {V : Type 0} where
   -- it may take a permit of k: it seeks one, or is idle
   abbrev pub MayTakePermit : LotPassView V → ℕ → Type 0
   MayTakePermit p k = (IsUp p × (p.sems.seeks ≡ Some k)) ⊎ IsIdle p
+
+  -- and may wait for one
+  abbrev pub MayWantPermit : (ℕ → ℕ → Type 0) → LotPassView V → ℕ → Type 0
+  MayWantPermit above p k = MayTakePermit p k × MayAsk above p k
 
   -- it may line up at k: it is up, and seeks a permit of k
   abbrev pub MaySeek : LotPassView V → ℕ → Type 0

@@ -6,7 +6,7 @@ ghost use Rattle.lot_core.specs.Steps.{SaysMore, first as first_of};
 ghost use Rattle.lot_rights.specs.declared.views.Access.TheVariants.{Makes};
 ghost use Rattle.lot_sems.specs.Calls.{IsAnyLeft, one_permit_less, parked_pass, parked_root, passed_root, raise_of};
 ghost use Rattle.lot_whole.specs.Family.{sem, IsKeyIn};
-ghost use Rattle.lot_whole.specs.Standing.{IsIdle, MayTakePermit, MaySeek, MayGive, IsSemRoot, as_sem};
+ghost use Rattle.lot_whole.specs.Standing.{IsIdle, MayTakePermit, MayWantPermit, MaySeek, MayGive, IsSemRoot, as_sem};
 ghost use Rattle.lot_whole.specs.Calls.{NotesIn, FindsOf, RootIs, TakesFrom, TriesPermit, TakesPermit, FreesPermit};
 
 use crate::kind::{LotPass, LotRoot};
@@ -53,12 +53,12 @@ impl<V: Keeps> LotWords<V> {
 
     /// Takes a permit where one is left, as `try_take_permit` does; where the look finds none, the thread seeks one
     /// from now on: the first step of getting a permit, and each further try. The event is SemTake. A thread that
-    /// sleeps can't take.
+    /// sleeps can't take, and one that stands idle has only keys that lie below the semaphore.
     #[inline(always)]
     pub fn take_permit(&self, pass: LotPass<V>, key: usize) -> (LotPass<V>, Taken)
         requires table { pass.table ≡ self.now.table }
         requires key { IsKeyIn self.now.size sem key }
-        requires may { MayTakePermit pass.own key }
+        requires may { MayWantPermit V.above pass.own key }
         ensures table { result.0.table ≡ pass.table }
         ensures entries { TakesPermit pass key result.1 result.0 }
     {

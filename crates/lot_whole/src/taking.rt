@@ -5,7 +5,7 @@ ghost use Rattle.lot_events.specs.declared.events.Seen.TheVariants.{Bool as Saw,
 ghost use Rattle.lot_rights.specs.declared.views.Access.TheVariants.{Makes};
 ghost use Rattle.lot_words.specs.Calls.{wanting, parked_pass, parked_root};
 ghost use Rattle.lot_whole.specs.Family.{lock};
-ghost use Rattle.lot_whole.specs.Standing.{IsIdle, MayTake, MayLineUp, IsLockRoot, as_lock};
+ghost use Rattle.lot_whole.specs.Standing.{IsIdle, MayTake, MayWant, MayLineUp, IsLockRoot, as_lock};
 ghost use Rattle.lot_whole.specs.Calls.{NotesIn, FindsOf, RootIs, GetsBy};
 
 use crate::kind::{LotPass, LotRoot};
@@ -33,12 +33,12 @@ impl<V: Keeps> LotWords<V> {
 
     /// Gets the lock where it is unheld, and else the thread wants it from now on: the first step of WTF's
     /// `Lock::lock`, and each further try of its slow path, also of a thread that rests on a condition. The event is
-    /// Take. A thread that sleeps can't take.
+    /// Take. A thread that sleeps can't take, and one that stands idle has only keys that lie below the lock.
     #[inline(always)]
     pub fn take(&self, pass: LotPass<V>, key: usize) -> (LotPass<V>, bool)
         requires table { pass.table ≡ self.now.table }
         requires key { key < self.now.size.locks }
-        requires may { MayTake pass.own key }
+        requires may { MayWant V.above pass.own key }
         ensures table { result.0.table ≡ pass.table }
         ensures event { MatchBool result.1
             (GetsBy V.Keeps pass key (Makes (Take pass.thread key) (Saw true)) result.0)

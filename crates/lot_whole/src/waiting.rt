@@ -1,6 +1,7 @@
 //! Queueing on a condition, and taking threads from its line.
 ghost use Rattle.std.specs.Prelude.{◌≡◌, ◌<◌, length};
 ghost use Rattle.lot_core.specs.Steps.{IsCallCount, SaysMoreBehind, dequeued_count};
+ghost use Rattle.lot_order.specs.Order.{MayWait};
 ghost use Rattle.lot_events.specs.declared.events.Event.TheVariants.{Enlist, Look, Call, Lower, Sweep};
 ghost use Rattle.lot_events.specs.declared.events.Seen.TheVariants.{Bool as Saw, Done, Count};
 ghost use Rattle.lot_rights.specs.declared.views.Access.TheVariants.{Makes};
@@ -8,7 +9,7 @@ ghost use Rattle.lot_words.specs.World.{Holds};
 ghost use Rattle.lot_conds.specs.Calls.{enlisted, lowering, called_more, swept_pass, enlisted_root, called_root};
 ghost use Rattle.lot_conds.specs.Calls.{swept_root};
 ghost use Rattle.lot_whole.specs.Family.{cond, IsKeyIn};
-ghost use Rattle.lot_whole.specs.Standing.{IsIdle, MaySweep, IsCondRoot, as_cond};
+ghost use Rattle.lot_whole.specs.Standing.{IsIdle, MaySweep, keys_of, IsCondRoot, as_cond};
 ghost use Rattle.lot_whole.specs.Calls.{NotesIn, RootIs};
 
 use crate::kind::{LotPass, LotRoot};
@@ -21,7 +22,7 @@ impl<V: Keeps> LotWords<V> {
     /// Queues the thread last on the root's condition and sets its flag, by one store: the validation of WTF's
     /// `Condition::wait`, which runs while the bucket of the condition is locked. The thread has the lock, and is at
     /// the condition's bed with it then: it lets the lock go by `free`, or `free` and `pass_on`. The event is Enlist,
-    /// and names the lock.
+    /// and names the lock. What the thread has beside the lock lies below it and below the condition.
     pub fn enlist(
         &self,
         pass: LotPass<V>,
@@ -32,6 +33,7 @@ impl<V: Keeps> LotWords<V> {
         requires cond { IsCondRoot root.own }
         requires idle { IsIdle pass.own }
         requires lock { (lock < self.now.size.locks) × Holds pass.own.locks lock }
+        requires above { MayWait V.above (keys_of pass.own) root.key lock }
         ensures table { (result.0.table ≡ pass.table) × (result.1.table ≡ root.table) }
         ensures event { NotesIn cond pass (enlisted pass.own.conds root.key)
             (Makes (Enlist pass.thread root.key lock) Done) result.0 }

@@ -3,7 +3,7 @@ use Rattle.lot_locks.proofs.Seeking.{may_take, owner_on, awake_on}
 use Rattle.lot_locks.proofs.getting.try_again.Goals as goal
 
 pub get_free-next-requires-clause-may : goal.get_free-next-requires-clause-may
-get_free-next-requires-clause-may g c = may_take g.N.LotName.locks c.args.pass c.loop.pass c.args.key c.loop.invariant.awake
+get_free-next-requires-clause-may g c = may_take g.V.Keeps.above g.N.LotName.locks c.args.pass c.loop.pass c.args.key c.loop.invariant.awake
 
 pub returns-then-found-eq-UNHELD-clause-far : goal.returns-then-found-eq-UNHELD-clause-far
 returns-then-found-eq-UNHELD-clause-far g c =

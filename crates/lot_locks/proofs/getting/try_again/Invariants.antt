@@ -4,6 +4,6 @@ use Rattle.lot_locks.proofs.getting.try_again.Given as goal
 
 abbrev pub invariant-loop : goal.invariant-loop
 invariant-loop g l = record {
-  awake : IsAwakeFor g.N.LotName.locks l.initial.pass l.key l.pass;
+  awake : IsAwakeFor g.V.Keeps.above g.N.LotName.locks l.initial.pass l.key l.pass;
   same : letters_in l.pass.did ≡ letters_in l.initial.pass.did;
 }

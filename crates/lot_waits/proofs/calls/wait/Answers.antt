@@ -6,13 +6,14 @@ use Rattle.lot_waits.proofs.calls.wait.Given.{Over}
 use Rattle.lot_waits.proofs.calls.wait.Goals.{After-sleep_on-pass}
 use Rattle.lot_waits.proofs.calls.wait.Goals as goal
 
-may_enlist : (g : Over) (c : After-sleep_on-pass g) → MayEnlist g.N.LotName.locks g.N.LotName.first_sem c.args.pass c.args.cond c.args.lock
+may_enlist : (g : Over) (c : After-sleep_on-pass g) → MayEnlist g.V.Keeps.above g.N.LotName.locks g.N.LotName.first_sem c.args.pass c.args.cond c.args.lock
 may_enlist g c = record {
   cond = (c.requires.cond.0, c.requires.cond.1);
   lock = c.requires.lock.0;
   idle = c.requires.idle;
   holds = c.requires.holds;
   lies = c.requires.lies;
+  below = c.requires.above;
 }
 
 pub get-requires-clause-thread : goal.get-requires-clause-thread
@@ -30,7 +31,7 @@ get-requires-clause-may g c κs within =
     let s = c.sleep_on-pass.result.0 in
     let became = c.sleep_on-pass.result.1 in
     let may = may_enlist g (goal.at.get-requires-clause-may g c).After-sleep_on-pass in
-    takes g.N.LotName.locks g.N.LotName.first_sem p s c.args.cond c.args.lock became may
+    takes g.V.Keeps.above g.N.LotName.locks g.N.LotName.first_sem p s c.args.cond c.args.lock became may
     (rested g.V.Keeps g.N.LotName.locks g.N.LotName.first_sem p s c.args.cond c.args.lock became may c.sleep_on-pass.ensures.slept)
 
 pub returns : goal.returns

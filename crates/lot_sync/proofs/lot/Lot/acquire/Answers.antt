@@ -1,11 +1,18 @@
 use Rattle.std.proofs.Common.{sym, ap, subst, rules}
+use Rattle.lot_order.specs.Order.{AllBelow}
 use Rattle.lot_scheme.specs.Standing.{LotStanding}
 use Rattle.lot_scheme.specs.Words.{GetPermitWord}
-use Rattle.lot_sync.specs.Lot.{◌≈◌, one_permit_more}
+use Rattle.lot_sync.specs.Lot.{◌≈◌, one_permit_more, keys_of}
 use Rattle.lot_sync.specs.Passes.{pass_view_of}
+use Rattle.lot_sync.proofs.Below.{below}
 use Rattle.lot_sync.proofs.Adding.{alike_at, adds_at}
 use Rattle.lot_sync.proofs.Calls.{sees_permit}
 use Rattle.lot_sync.proofs.lot.Lot.acquire.Goals as goal
+
+pub acquire-right-requires-clause-above : goal.acquire-right-requires-clause-above
+acquire-right-requires-clause-above g c =
+    below g.V.Keeps.above c.apart-right.result.0 c.args.key
+    (subst (λ p. AllBelow g.V.Keeps.above (keys_of p) c.args.key) c.apart-right.ensures.same c.requires.above)
 
 pub returns-clause-pass : goal.returns-clause-pass
 returns-clause-pass g c =

@@ -3,7 +3,10 @@ use Rattle.lot_scheme.specs.Standing.{LotStanding}
 use Rattle.lot_scheme.specs.Words.{GetWord}
 use Rattle.lot_locks.specs.Standing.{IsOwner}
 use Rattle.lot_locks.proofs.Seeking.{may_take, owner_on, has_found}
+use Rattle.lot_order.specs.Order.{AllBelow}
+use Rattle.lot_sync.specs.Lot.{keys_of}
 use Rattle.lot_sync.specs.Values.{Gets}
+use Rattle.lot_sync.proofs.Below.{may_want}
 use Rattle.lot_sync.proofs.Rests.{owns_newly, gets_all}
 use Rattle.lot_sync.proofs.Adding.{adds_at}
 use Rattle.lot_sync.proofs.lot.Lot.lock.Given.{Over}
@@ -22,9 +25,14 @@ got g c =
           (c.get_free-right.ensures.missed w.if-found-eq-UNHELD.false) w.get_slowly-right.ensures.owner)
     ]
 
+pub get_free-right-requires-clause-may : goal.get_free-right-requires-clause-may
+get_free-right-requires-clause-may g c =
+    may_want g.V.Keeps.above c.apart-right.result.0 c.args.key c.apart-right.ensures.rest.idle
+    (subst (λ p. AllBelow g.V.Keeps.above (keys_of p) c.args.key) c.apart-right.ensures.same c.requires.above)
+
 pub get_slowly-right-requires-clause-may : goal.get_slowly-right-requires-clause-may
 get_slowly-right-requires-clause-may g c κs within =
-    may_take g.N.LotName.locks c.apart-right.result.0 c.get_free-right.result.0 c.args.key
+    may_take g.V.Keeps.above g.N.LotName.locks c.apart-right.result.0 c.get_free-right.result.0 c.args.key
     (c.get_free-right.ensures.missed c.if-found-eq-UNHELD.false)
 
 pub get_slowly-right-requires-clause-found : goal.get_slowly-right-requires-clause-found

@@ -2,11 +2,18 @@ use Rattle.std.proofs.Common.{inl, inr, sym, subst, ap, ◌∙◌, arith}
 use Rattle.lot_scheme.specs.Standing.{LotStanding}
 use Rattle.lot_scheme.specs.Words.{GetWord}
 use Rattle.lot_locks.specs.Standing.{letters_in}
-use Rattle.lot_sync.specs.Lot.{PassView}
+use Rattle.lot_order.specs.Order.{AllBelow}
+use Rattle.lot_sync.specs.Lot.{PassView, keys_of}
 use Rattle.lot_sync.specs.Values.{Gets}
+use Rattle.lot_sync.proofs.Below.{may_want}
 use Rattle.lot_sync.proofs.Rests.{owns_newly, gets_all}
 use Rattle.lot_sync.proofs.Adding.{adds_at}
 use Rattle.lot_sync.proofs.lot.Lot.lock_after.Goals as goal
+
+pub get-right-requires-clause-may : goal.get-right-requires-clause-may
+get-right-requires-clause-may g c =
+    may_want g.V.Keeps.above c.apart-right.result.0 c.args.key c.apart-right.ensures.rest.idle
+    (subst (λ p. AllBelow g.V.Keeps.above (keys_of p) c.args.key) c.apart-right.ensures.same c.requires.above)
 
 pub taken-requires-clause-owner : goal.taken-requires-clause-owner
 taken-requires-clause-owner g c κs within =

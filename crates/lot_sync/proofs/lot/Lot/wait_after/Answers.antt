@@ -1,13 +1,21 @@
 use Rattle.std.proofs.Common.{sym, subst, ap, arith}
 use Rattle.lot_waits.specs.Counts.{AreKept, counts_in, one_wait_more as counts_one_wait_more}
+use Rattle.lot_order.specs.Order.{MayWait}
 use Rattle.lot_scheme.specs.Standing.{LotStanding}
-use Rattle.lot_sync.specs.Lot.{letting_go, one_wait_more as view_one_wait_more}
+use Rattle.lot_sync.specs.Lot.{keys_of, letting_go, one_wait_more as view_one_wait_more}
 use Rattle.lot_sync.specs.Passes.{pass_view_of}
 use Rattle.lot_sync.specs.Values.{Gets}
 use Rattle.lot_sync.specs.Words.{Adds, WaitedWord}
+use Rattle.lot_sync.proofs.Below.{may_wait}
 use Rattle.lot_sync.proofs.Adding.{adds_at}
 use Rattle.lot_sync.proofs.Calls.{owns_waited, gets_waited}
 use Rattle.lot_sync.proofs.lot.Lot.wait_after.Goals as goal
+
+pub wait-right-requires-clause-above : goal.wait-right-requires-clause-above
+wait-right-requires-clause-above g c =
+    may_wait g.V.Keeps.above c.given_back-right.result.0 c.args.cond c.key-key.result
+    (subst (λ p. MayWait g.V.Keeps.above (keys_of p) c.args.cond c.key-key.result) (sym c.given_back-right.ensures.same)
+    (subst (λ k. MayWait g.V.Keeps.above (keys_of c.args.pass) c.args.cond k) (sym c.key-key.ensures) c.requires.above))
 
 pub taken-requires-clause-owner : goal.taken-requires-clause-owner
 taken-requires-clause-owner g c κs within =

@@ -6,7 +6,7 @@ use Rattle.lot_waits.proofs.steps.LotSchemeCondSteps.enlist_last.Goals as goal
 
 pub returns-clause-lets : goal.returns-clause-lets
 returns-clause-lets g c =
-    lets g.N.LotName.locks g.N.LotName.first_sem c.args.pass c.enlist.result.0 c.args.root.key c.args.lock
+    lets g.V.Keeps.above g.N.LotName.locks g.N.LotName.first_sem c.args.pass c.enlist.result.0 c.args.root.key c.args.lock
     c.requires.may c.enlist.ensures.pass
 
 pub returns-clause-root : goal.returns-clause-root

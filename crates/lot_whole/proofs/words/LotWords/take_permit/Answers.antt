@@ -24,7 +24,7 @@ take_from-requires-clause-may g c =
     let key = c.args.key in
     let seen = c.load-pass.result.1 in
     after_look p r key seen (seeks_left p key seen r c.if-seen-lt-PERMIT.false c.load-pass.ensures.told)
-    (λ own. MayTakePermit own key) c.requires.may
+    (λ own. MayTakePermit own key) c.requires.may.0
 
 pub returns-then-seen-lt-PERMIT-clause-entries : goal.returns-then-seen-lt-PERMIT-clause-entries
 returns-then-seen-lt-PERMIT-clause-entries g c =
