@@ -18,7 +18,7 @@ use Rattle.lot_whole.specs.declared.views.LotPassView.{LotPassView}
 use Rattle.lot_whole.specs.declared.views.Stand.TheVariants.{Idle}
 use Rattle.lot_whole.specs.Closing.{HasDone}
 use Rattle.lot_whole.specs.Family.{lock, cond, sem}
-use Rattle.lot_whole.specs.Standing.{IsAwake, IsIdle, IsUp, MayTake, MayLineUp, MaySweep}
+use Rattle.lot_whole.specs.Standing.{IsAwake, IsIdle, IsUp, MayWant, MayLineUp, MaySweep}
 use Rattle.lot_whole.specs.Whole.{rises}
 use Rattle.lot_scheme.specs.Standing.{LotStanding, standing, adding, wanting, owning, called_more as stand_called_more, setting_out}
 use Rattle.lot_scheme.specs.Standing.{swept, IsLooked}
@@ -34,6 +34,10 @@ use Rattle.lot_waits.specs.Waiting.{MayEnlist, Enlists, Slept, HasWaited, waited
 use Rattle.lot_waits.proofs.Waited.{rested, same_thread, takes, has_waited}
 use Rattle.lot_waits.proofs.Taken.{none_called}
 use Rattle.base_trials.specs.Calm.{IsThere, HasNone, IsCalm, Wants, IsFor, HasIt}
+
+-- no order is asked of the keys
+abbrev pub any : ℕ → ℕ → Type 0
+any j k = Unit {0}
 
 -- ---- holds
 held_else : (hs : List Hold) (l k : ℕ) (h : Hold) → k ≢ l → IsHeld (get_or (set hs l h) k NotHeld) → IsHeld (get_or hs k NotHeld)
@@ -53,9 +57,9 @@ module _ {V : Type 0} where
   pub owner_idle : (t l : ℕ) (p : LotStanding V) → HasIt t l p → IsIdle p.own
   owner_idle t l p has = (record { up = has.there.up; aim = has.aim; sweeps = has.there.sweeps; seeks = has.there.seeks }, has.there.stand)
 
-  pub may_take : (t l : ℕ) (p : LotStanding V) → IsFor t l p → MayTake p.own l
-  may_take t l p (inl calm) = inr (awake_of t p calm, inl calm.there.stand)
-  may_take t l p (inr wants) = inl (wants.there.up, wants.aim)
+  pub may_take : (t l : ℕ) (p : LotStanding V) → IsFor t l p → MayWant any p.own l
+  may_take t l p (inl calm) = (inr (awake_of t p calm, inl calm.there.stand), λ _ j has. tt)
+  may_take t l p (inr wants) = (inl (wants.there.up, wants.aim), λ _ j has. tt)
 
   pub may_line_up : (t l : ℕ) (p : LotStanding V) → Wants t l p → MayLineUp p.own l
   may_line_up t l p wants = (wants.there.up, wants.aim)
@@ -66,10 +70,10 @@ module _ {V : Type 0} where
   wants_so : (l : ℕ) (p : LotStanding V) → p.own.locks.aim ≡ Some l → p.own.stand ≡ Idle → p ≡ wanting p l
   wants_so l p aim stand = λ i. record p { own = record p.own { locks = record p.own.locks { aim = aim i }; stand = stand i } }
 
-  pub trying : (n t l : ℕ) (p : LotStanding V) → l < n → Wants t l p → IsTryingFor n p l p
+  pub trying : (n t l : ℕ) (p : LotStanding V) → l < n → Wants t l p → IsTryingFor any n p l p
   trying n t l p below wants = record {
     below = below;
-    may = inl (wants.there.up, wants.aim);
+    may = (inl (wants.there.up, wants.aim), λ _ j has. tt);
     did = [];
     sought = All-nil (IsSeek p.thread l);
     is = none_added p ∙ ap (λ (q : LotStanding V). adding q []) (wants_so l p wants.aim wants.there.stand);
@@ -99,7 +103,7 @@ module _ {V : Type 0} where
     none = none_of t l p before;
   })
 
-  pub tried_wants : (n t l : ℕ) (p q : LotStanding V) → Wants t l p → IsTryingFor n p l q → Wants t l q
+  pub tried_wants : (n t l : ℕ) (p q : LotStanding V) → Wants t l p → IsTryingFor any n p l q → Wants t l q
   tried_wants n t l p q wants tries = wanted t l p q tries.did (inr wants) tries.is
 
   -- it made these accesses more
@@ -199,13 +203,14 @@ module _ {V : Type 0} where
   calm_itself t p calm = subst (λ u. IsCalm u p) (sym calm.there.thread) calm
 
   pub may_wait : (locks first_sem t c l : ℕ) (p : LotStanding V) → locks ≤ c → c < first_sem → l < locks → HasIt t l p
-      → MayEnlist locks first_sem p c l
+      → MayEnlist any locks first_sem p c l
   may_wait locks first_sem t c l p from below near has = record {
     cond = (from, below);
     lock = near;
     idle = owner_idle t l p has;
     holds = has.holds;
     lies = has.lies;
+    below = ((λ j _. tt), (λ j _. tt));
   }
 
   -- it may come back at the end
@@ -267,16 +272,16 @@ module _ {V Part : Type 0} (rule : CallersRule V Part) where
       waited_up t c l p y x has sem = has.there.up sem
 
   -- it slept, and has not got its lock yet; and then it has it again
-  pub slept_takes : (locks first_sem c l : ℕ) (became : Released) (p s : LotStanding V) → MayEnlist locks first_sem p c l
-      → Slept {P = LotStanding V} Enlists LetsGo (IsLooked rule) p c l became s → MayTake s.own l
+  pub slept_takes : (locks first_sem c l : ℕ) (became : Released) (p s : LotStanding V) → MayEnlist rule.above locks first_sem p c l
+      → Slept {P = LotStanding V} Enlists LetsGo (IsLooked rule) p c l became s → MayWant rule.above s.own l
   slept_takes locks first_sem c l became p s may slept =
-      takes locks first_sem p s c l became may (rested rule locks first_sem p s c l became may slept)
+      takes rule.above locks first_sem p s c l became may (rested rule locks first_sem p s c l became may slept)
 
-  pub slept_thread : (locks first_sem c l : ℕ) (became : Released) (p s : LotStanding V) → MayEnlist locks first_sem p c l
+  pub slept_thread : (locks first_sem c l : ℕ) (became : Released) (p s : LotStanding V) → MayEnlist rule.above locks first_sem p c l
       → Slept {P = LotStanding V} Enlists LetsGo (IsLooked rule) p c l became s → s.thread ≡ p.thread
   slept_thread locks first_sem c l became p s may slept = same_thread p s c l became (rested rule locks first_sem p s c l became may slept)
 
-  pub slept_has_it : (locks first_sem t c l : ℕ) (became : Released) (p s q : LotStanding V) → HasIt t l p → MayEnlist locks first_sem p c l
+  pub slept_has_it : (locks first_sem t c l : ℕ) (became : Released) (p s q : LotStanding V) → HasIt t l p → MayEnlist rule.above locks first_sem p c l
       → Slept {P = LotStanding V} Enlists LetsGo (IsLooked rule) p c l became s → IsOwner rule s l q → HasIt t l q
   slept_has_it locks first_sem t c l became p s q has may slept owner =
       waited_has_it t c l became p q has (has_waited rule p s q c l became (rested rule locks first_sem p s c l became may slept) owner)

@@ -28,6 +28,7 @@ pub struct Account {
 }
 
 impl Keeps for Account {
+    ghost use Rattle.std.specs.Prelude.{◌<◌};
     ghost use Rattle.gallery.specs.Accounts.{IsBooked, IsEven, StaysOpenedAs, moved_by};
     ghost use Rattle.std.proofs.Common.{refl, ◌∙◌};
 
@@ -40,6 +41,8 @@ impl Keeps for Account {
     ghost part = { moved_by };
 
     ghost rests = { λ rested. IsEven rested.thread rested.seen };
+
+    ghost above = { λ j k. j < k };
 
     ghost grows_itself = { λ account. refl };
 

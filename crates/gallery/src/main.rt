@@ -4,6 +4,7 @@
 mod accounts;
 mod connections;
 mod crew;
+mod dinner;
 mod latch;
 mod map;
 mod memo;
@@ -24,6 +25,7 @@ fn main(rt: HostRuntime) -> ExitCode {
         line(alloc, "counted", map::run(&rt, alloc)),
         two(alloc, accounts::run(&rt, alloc)),
         line(alloc, "known", memo::run(&rt, alloc)),
+        line(alloc, "eaten", dinner::run(&rt, alloc)),
     ];
     let mut worst = 0;
     for outcome in outcomes {

@@ -1,6 +1,7 @@
 //! Work on the values of two locks.
 ghost use Rattle.std.specs.Prelude.{◌≡◌, ◌≢◌, ◌<◌};
-ghost use Rattle.lot_sync.specs.Lot.{Owns, OwnsNone, HasShape};
+ghost use Rattle.lot_order.specs.Order.{AllBelow};
+ghost use Rattle.lot_sync.specs.Lot.{Owns, OwnsNone, HasShape, keys_of};
 ghost use Rattle.lot_sync.specs.Words.{Adds};
 ghost use Rattle.lot_calls.specs.Words.{BothWord, NestedWord};
 ghost use Rattle.lot_calls.specs.Visits.{MayBecome, Finds, VisitsBoth};
@@ -24,6 +25,8 @@ pub fn with_both<V: Keeps + Send, O, N: LotName<V> + Send, T: Wait, F: FnOnce(&m
 ) -> (Pass<V, N>, O)
     requires keys { (first < lot.now.locks) × (second < lot.now.locks) × (second ≢ first) }
     requires not_owned { (¬ Owns pass first) × ¬ Owns pass second }
+    requires above { AllBelow V.above (keys_of pass) first × AllBelow V.above (keys_of pass) second }
+    requires rises { (first < second → V.above first second) × (second < first → V.above second first) }
     requires callable { (v w : _) → V.keeps first v.now → V.keeps second w.now → Finds V.Keeps pass first v.now
         → Finds V.Keeps pass second w.now → F.pre work v w }
     requires keeps { (v w o x y : _) → V.keeps first v.now → V.keeps second w.now → Finds V.Keeps pass first v.now
@@ -70,6 +73,8 @@ fn with_two<V: Keeps + Send, O, N: LotName<V> + Send, T: Wait, F: FnOnce(&mut V,
 ) -> (Pass<V, N>, O)
     requires keys { (first < lot.now.locks) × (second < lot.now.locks) × (second ≢ first) }
     requires not_owned { (¬ Owns pass first) × ¬ Owns pass second }
+    requires above { AllBelow V.above (keys_of pass) first × AllBelow V.above (keys_of pass) second }
+    requires rises { V.above first second }
     requires callable { (v w : _) → V.keeps first v.now → V.keeps second w.now → Finds V.Keeps pass first v.now
         → Finds V.Keeps pass second w.now → F.pre work v w }
     requires keeps { (v w o x y : _) → V.keeps first v.now → V.keeps second w.now → Finds V.Keeps pass first v.now

@@ -1,6 +1,7 @@
 //! Waiting on a condition until a lock's value is as wanted.
 ghost use Rattle.std.specs.Prelude.{◌≡◌, ℕ, ◌<◌, true, false};
-ghost use Rattle.lot_sync.specs.Lot.{Owns, OwnsNone, HasShape, IsCond};
+ghost use Rattle.lot_order.specs.Order.{AllBelow, MayWait};
+ghost use Rattle.lot_sync.specs.Lot.{Owns, OwnsNone, HasShape, IsCond, keys_of};
 ghost use Rattle.lot_sync.specs.Values.{MayGiveBack};
 ghost use Rattle.lot_sync.specs.Holding.{Holding};
 ghost use Rattle.lot_sync.specs.Words.{Adds};
@@ -29,6 +30,7 @@ pub fn wait_until<V: Keeps + Send, N: LotName<V> + Send, T: Wait, F: Fn(&V) -> b
     requires shape { HasShape lot.now pass }
     requires back { MayGiveBack V.Keeps pass held }
     requires cond { IsCond lot.now cond }
+    requires above { MayWait V.above (keys_of pass) cond held.key }
     requires callable { (v : _) → V.keeps held.key v.now → F.pre ready v }
     ensures waits { WaitsOn V.Keeps (λ x. (v : _) × (v.now ≡ x) × F.post ready v false) pass held cond moment.now
         result.1 result.0 }
@@ -63,6 +65,7 @@ pub fn lock_until<V: Keeps + Send, N: LotName<V> + Send, T: Wait, F: Fn(&V) -> b
     requires key { key < lot.now.locks }
     requires not_owned { ¬ Owns pass key }
     requires cond { IsCond lot.now cond }
+    requires above { AllBelow V.above (keys_of pass) key × AllBelow V.above (keys_of pass) cond }
     requires callable { (v : _) → V.keeps key v.now → F.pre ready v }
     ensures gets { GetsAfter V.Keeps pass key result.1 result.0 }
     ensures made { (count : ℕ) × Adds pass.made (GetAfterWord pass.thread cond key moment.now count) result.0.made

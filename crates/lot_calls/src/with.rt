@@ -1,6 +1,7 @@
 //! Work on the value of a lock.
 ghost use Rattle.std.specs.Prelude.{◌≡◌, ◌<◌};
-ghost use Rattle.lot_sync.specs.Lot.{Owns, OwnsNone, HasShape};
+ghost use Rattle.lot_order.specs.Order.{AllBelow};
+ghost use Rattle.lot_sync.specs.Lot.{Owns, OwnsNone, HasShape, keys_of};
 ghost use Rattle.lot_sync.specs.Words.{Adds};
 ghost use Rattle.lot_calls.specs.Words.{VisitWord};
 ghost use Rattle.lot_calls.specs.Visits.{MayBecome, Finds, Visits};
@@ -10,8 +11,8 @@ use lot_words::Keeps;
 use std::sync::Wait;
 
 /// Gets the lock, works on its value, and lets the lock go:
-/// `let (pass, ()) = with_lock(rt, lot, pass, 0, now, |n| *n += 1);`. The pass may own other locks. It waits as `lock`
-/// and `unlock` do, and the moment is that of the unlock. Of the value that it finds the work may take what the pass knows
+/// `let (pass, ()) = with_lock(rt, lot, pass, 0, now, |n| *n += 1);`. The pass may own other locks, and hold permits,
+/// that lie below this lock in the order of `V`. It waits as `lock` and `unlock` do, and the moment is that of the unlock. Of the value that it finds the work may take what the pass knows
 /// of it (`Finds`): it goes on from all that the pass had seen of it, and has its own part unchanged.
 pub fn with_lock<V: Keeps + Send, O, N: LotName<V> + Send, T: Wait, F: FnOnce(&mut V) -> O>(
     rt: &T,
@@ -23,6 +24,7 @@ pub fn with_lock<V: Keeps + Send, O, N: LotName<V> + Send, T: Wait, F: FnOnce(&m
 ) -> (Pass<V, N>, O)
     requires key { key < lot.now.locks }
     requires not_owned { ¬ Owns pass key }
+    requires above { AllBelow V.above (keys_of pass) key }
     requires callable { (v : _) → V.keeps key v.now → Finds V.Keeps pass key v.now → F.pre work v }
     requires keeps { (v : _) (o : _) (w : _) → V.keeps key v.now → Finds V.Keeps pass key v.now → F.post work v o w
         → MayBecome V.Keeps key pass.thread v.now w.now }
@@ -49,6 +51,7 @@ pub fn with_value<V: Keeps + Send, O, N: LotName<V> + Send, T: Wait, F: FnOnce(V
 ) -> (Pass<V, N>, O)
     requires key { key < lot.now.locks }
     requires not_owned { ¬ Owns pass key }
+    requires above { AllBelow V.above (keys_of pass) key }
     requires callable { (v : V) → V.keeps key v → Finds V.Keeps pass key v → F.pre work v }
     requires keeps { (v : V) (left : _) → V.keeps key v → Finds V.Keeps pass key v → F.post work v left
         → MayBecome V.Keeps key pass.thread v left.0 }

@@ -20,7 +20,7 @@ pub struct Account {
 }
 
 impl Keeps for Account {
-    ghost use Rattle.std.specs.Prelude.{◌≤◌};
+    ghost use Rattle.std.specs.Prelude.{◌<◌, ◌≤◌};
 
     type Part = ();
 
@@ -29,6 +29,8 @@ impl Keeps for Account {
     ghost grows = { λ old new. Unit {0} };
 
     ghost part = { λ thread account. tt };
+
+    ghost above = { λ j k. j < k };
 
     ghost grows_itself = { λ account. tt };
 

@@ -117,7 +117,7 @@ impl<V: Keeps + Send, N: LotName<V> + Send> Sought<Locks> for Gated<V, N> {
 
     ghost seeks = { Seeks V.Keeps N.locks };
 
-    ghost sleeps = { IsAsleepFor N.locks };
+    ghost sleeps = { IsAsleepFor V.above N.locks };
 
     ghost changed = { FindsAnother };
 

@@ -1,9 +1,15 @@
 use Rattle.std.proofs.Common.{sym, ap, subst, ◌∙◌}
 use Rattle.lot_sync.specs.Lot.{PassView}
+use Rattle.lot_sync.proofs.Below.{got_below}
 use Rattle.lot_calls.specs.Visits.{MayBecome, Finds, VisitsBoth}
 use Rattle.lot_calls.proofs.Visiting.{visit_made, finds_got}
 use Rattle.lot_calls.proofs.Nesting.{finds_second, back_second, back_first, visits_both, nested_made}
 use Rattle.lot_calls.proofs.both.with_two.Goals as goal
+
+pub lock-pass-requires-2-clause-above : goal.lock-pass-requires-2-clause-above
+lock-pass-requires-2-clause-above g c κs within =
+    got_below g.V.Keeps c.args.pass c.lock-pass.result.0 c.args.first c.lock-pass.result.1 c.lock-pass.ensures.gets c.args.second
+    c.requires.above.1 c.requires.rises
 
 pub work-outcome-requires : goal.work-outcome-requires
 work-outcome-requires g c =

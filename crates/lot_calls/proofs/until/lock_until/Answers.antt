@@ -1,8 +1,14 @@
 use Rattle.std.proofs.Common.{ap}
 use Rattle.lot_sync.specs.Lot.{PassView}
+use Rattle.lot_sync.proofs.Below.{got_waits}
 use Rattle.lot_calls.proofs.Visiting.{finds_got}
 use Rattle.lot_calls.proofs.Waiting.{got_after, after_holds, made_until}
 use Rattle.lot_calls.proofs.until.lock_until.Goals as goal
+
+pub wait_until-requires-clause-above : goal.wait_until-requires-clause-above
+wait_until-requires-clause-above g c =
+    got_waits g.V.Keeps c.args.pass c.lock-pass.result.0 c.args.key c.lock-pass.result.1 c.lock-pass.ensures.gets c.args.cond
+    c.requires.above.0 c.requires.above.1
 
 pub returns-clause-gets : goal.returns-clause-gets
 returns-clause-gets g c =

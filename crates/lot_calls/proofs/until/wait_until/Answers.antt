@@ -1,11 +1,19 @@
 use Rattle.std.proofs.Common.{◌<◌, subst, sym}
-use Rattle.lot_sync.specs.Lot.{Owns}
+use Rattle.lot_order.specs.Order.{MayWait}
+use Rattle.lot_sync.specs.Lot.{Owns, keys_of}
+use Rattle.lot_sync.proofs.Below.{same_waits}
 use Rattle.lot_calls.proofs.Waiting.{not_yet, once_more}
 use Rattle.lot_calls.proofs.until.wait_until.Goals as goal
 
 pub loop-init : goal.loop-init
 loop-init g c =
     (tt, tt, not_yet g.V.Keeps _ c.args.pass c.args.held c.args.cond c.args.moment.now c.requires.back, c.requires.owns, c.requires.shape)
+
+pub wait-woken-requires-clause-above : goal.wait-woken-requires-clause-above
+wait-woken-requires-clause-above g c =
+    let waits = c.loop.invariant.2 in
+    subst (λ k. MayWait g.V.Keeps.above (keys_of c.loop.pass) c.args.cond k) (sym waits.key_is)
+    (same_waits g.V.Keeps.above c.args.pass c.loop.pass c.args.cond c.args.held.key waits.same_owns waits.same_permits c.requires.above)
 
 pub ready-requires : goal.ready-requires
 ready-requires g c =

@@ -1,10 +1,18 @@
 use Rattle.std.proofs.Common.{◌≡◌, ◌-◌, ℕ, Bool, true, rules, subst, sym, ap, ◌∙◌}
 use Rattle.lot_sync.specs.Lot.{PassView}
 use Rattle.lot_sync.specs.Words.{Adds}
+use Rattle.lot_sync.proofs.Below.{none_below, got_waits}
 use Rattle.lot_regions.specs.Words.{WhenWord}
 use Rattle.lot_regions.specs.Regions.{HasGot}
 use Rattle.lot_regions.proofs.Leaving.{got_after_waits, region, back, got_after_made, when_made}
 use Rattle.lot_regions.proofs.region.when.Goals as goal
+
+-- whoever owned nothing may wait with the lock that it got
+pub wait_until-pass-requires-clause-above : goal.wait_until-pass-requires-clause-above
+wait_until-pass-requires-clause-above g c =
+    let p = c.args.pass in
+    got_waits g.V.Keeps p c.lock-pass.result.0 c.args.key c.lock-pass.result.1 c.lock-pass.ensures.gets c.args.cond
+    (none_below g.V.Keeps.above p c.args.key c.requires.free) (none_below g.V.Keeps.above p c.args.cond c.requires.free)
 
 pub returns-clause-visits : goal.returns-clause-visits
 returns-clause-visits g c =

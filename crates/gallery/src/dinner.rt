@@ -1,0 +1,152 @@
+//! Dinner: five philosophers at a round table, with a fork between any two. Each eats with the two forks beside his seat
+//! and gets the lower first, so no circle of them waits.
+ghost use Rattle.std.specs.Prelude.{◌≡◌, ◌<◌, ◌≤◌, length, vec_len, vec_capacity};
+ghost use Rattle.lot_sync.specs.Lot.{OwnsNone};
+ghost use Rattle.gallery.specs.Dinner.{low_of, high_of, HasPlaces, OneMore, AteWithBoth, AllAteWithBoth};
+
+use crate::crew::{Crew, NOW, Opening, open, start};
+use lot_calls::finish;
+use lot_command::Failure;
+use lot_sync::{Lot, LotName, Pass};
+use lot_words::Keeps;
+use std::alloc::Global;
+use std::marker::Brand;
+use std::sync::Wait;
+use std::thread::Threads;
+
+const SEATS: usize = 5;
+
+const MEALS: usize = 100;
+
+/// How often each philosopher ate with this fork.
+#[derive(Clone, Copy, Drop)]
+pub struct Fork {
+    meals: [u64; SEATS],
+}
+
+impl Keeps for Fork {
+    ghost use Rattle.std.specs.Prelude.{◌<◌};
+    ghost use Rattle.gallery.specs.Dinner.{HasPlaces, AteWithBoth, meals_of};
+
+    type Part = u64;
+
+    ghost keeps = { λ key fork. HasPlaces fork };
+
+    ghost grows = { λ old new. Unit {0} };
+
+    ghost part = { meals_of };
+
+    ghost rests = { λ rested. AteWithBoth rested.thread rested.seen };
+
+    ghost above = { λ j k. j < k };
+
+    ghost grows_itself = { λ fork. tt };
+
+    ghost grows_on = { λ x y z p q. tt };
+}
+
+/// The lower and the higher of the two forks beside a seat.
+fn forks_of(seat: usize) -> (usize, usize)
+    requires seat { seat < SEATS }
+    ensures forks { result ≡ (low_of seat, high_of seat) }
+    ensures rises { (result.0 < result.1) × (result.1 < SEATS) }
+{
+    if seat + 1 < SEATS {
+        (seat, seat + 1)
+    } else {
+        (0, seat)
+    }
+}
+
+/// Counts one meal more with this fork.
+fn count(seat: usize, fork: &mut Fork)
+    requires seat { seat < SEATS }
+    requires places { HasPlaces fork.old }
+    ensures { OneMore seat fork.old fork.new }
+{
+    fork.meals[seat] = fork.meals[seat].wrapping_add(1);
+}
+
+/// Eats once, with both forks.
+pub fn eat<N: LotName<Fork> + Send, T: Wait>(
+    rt: &T,
+    lot: &Lot<Fork, N>,
+    pass: Pass<Fork, N>,
+) -> Pass<Fork, N>
+    requires forks { lot.now.locks ≡ SEATS }
+    requires seat { pass.thread < SEATS }
+    requires free { OwnsNone pass }
+    requires even { AteWithBoth pass.thread pass.seen }
+    ensures back { (result.thread ≡ pass.thread) × OwnsNone result }
+    ensures even { AteWithBoth result.thread result.seen }
+{
+    let seat = pass.thread();
+    let (low, high) = forks_of(seat);
+    let (pass, mut one) = lot.lock(rt, pass, low);
+    let (pass, mut two) = lot.lock(rt, pass, high);
+    count(seat, one.value_mut());
+    count(seat, two.value_mut());
+    let (pass, _) = lot.unlock(rt, pass, two, NOW);
+    let (pass, _) = lot.unlock(rt, pass, one, NOW);
+    pass
+}
+
+/// Ends the dinner: of each philosopher both his forks count equally many meals.
+pub fn end<N: LotName<Fork> + Send, T: Wait>(
+    rt: &T,
+    lot: Lot<Fork, N>,
+    passes: Vec<Pass<Fork, N>>,
+) -> Vec<Fork>
+    requires sizes { (lot.locks ≡ SEATS) × (lot.threads ≡ SEATS) }
+    requires room { (vec_len passes ≡ 0) × (lot.threads ≤ vec_capacity passes) }
+    ensures { AllAteWithBoth result.items }
+{
+    finish(rt, lot, passes).0
+}
+
+/// Five philosophers eat.
+pub fn run<T: Threads + Wait + Sync>(rt: &T, alloc: Global) -> Result<u64, Failure> {
+    let forks = vec![in alloc; Fork { meals: [0; SEATS] }; SEATS]?;
+    run_on::<Brand, T>(rt, open(alloc, SEATS, forks, 0, &[])?)
+}
+
+fn run_on<N: LotName<Fork> + Send + Sync, T: Threads + Wait + Sync>(
+    rt: &T,
+    opening: Opening<Fork>,
+) -> Result<u64, Failure>
+    requires named { N.LotName ≡ opening.opened }
+    requires sizes { (opening.threads ≡ SEATS) × (length opening.opened.values ≡ SEATS) }
+    requires even { AllAteWithBoth opening.opened.values }
+{
+    let (lot, passes, crew) = start::<Fork, N>(opening)?;
+    let turn = ||
+        requires { (lot.locks ≡ SEATS) × (lot.threads ≡ SEATS) }
+    { dine(rt, &lot, &crew) };
+    let outcome = crew.run(rt, &turn);
+    let forks = end(rt, lot, passes);
+    outcome?;
+    Ok(meals_in(&forks))
+}
+
+/// How many meals these forks count, with two for each, modulo 2^64.
+fn meals_in(forks: &[Fork]) -> u64 {
+    let mut meals = 0u64;
+    for fork in forks {
+        for number in fork.meals.iter() {
+            meals = meals.wrapping_add(*number);
+        }
+    }
+    meals / 2
+}
+
+/// One philosopher, with all his meals.
+fn dine<N: LotName<Fork> + Send + Sync, T: Wait>(rt: &T, lot: &Lot<Fork, N>, crew: &Crew)
+    requires { (lot.now.locks ≡ SEATS) × (lot.now.threads ≡ SEATS) }
+{
+    if let Some(mut pass) = crew.enter(rt, lot) {
+        for _ in 0..MEALS {
+            pass = eat(rt, lot, pass);
+        }
+        lot.leave(rt, pass);
+    }
+}
