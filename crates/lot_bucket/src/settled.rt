@@ -91,8 +91,8 @@ impl<R: Root> Settled<R> {
         self.bucket.is_open() && self.number == number && self.size == size && self.keys == keys
     }
 
-    /// Whether the thread does not wait here, and there is room for it. That it does not wait here the free places
-    /// don't tell, so this walks along the queue.
+    /// Whether the thread does not wait here, and there is room for it. The queue counts how often each thread waits,
+    /// so nobody walks along it.
     pub fn has_place_for(&self, thread: usize) -> bool
         ensures { IsTrue result ↔ HasPlaceFor thread self.now.bucket }
     {

@@ -1,6 +1,7 @@
 //! Opening: the table, a pass for each thread and a root for each condition.
 ghost use Rattle.std.specs.Prelude.{◌≡◌, ℕ, ◌+◌, ◌<◌, ◌≤◌, [], Some, slice_get, replicate, vec_len, IfOk};
-ghost use Rattle.lot_core.specs.declared.state.TheConstants.{MAX_THREADS, MAX_KEYS};
+ghost use Rattle.lot_core.specs.declared.state.TheConstants.{MAX_THREADS};
+ghost use Rattle.lot_rights.specs.declared.layout.TheConstants.{MOST_KEYS};
 ghost use Rattle.lot_rights.specs.Layout.{word_count};
 ghost use Rattle.lot_rights.specs.Start.{pass_at, root_at, Begins};
 ghost use Rattle.lot_conds.specs.Rule.{key_count, meaning};
@@ -20,7 +21,7 @@ impl CondWords {
         locks: usize,
         conds: usize,
     ) -> Result<(CondWords, Vec<CondPass>, Vec<CondRoot>), WordsFault>
-        requires limits { (0 < threads) × (threads ≤ MAX_THREADS) × (0 < locks) × (locks + conds ≤ MAX_KEYS) }
+        requires limits { (0 < threads) × (threads ≤ MAX_THREADS) × (0 < locks) × (locks + conds ≤ MOST_KEYS) }
         ensures size { IfOk result (λ r. (r.0.size.threads ≡ threads) × (r.0.size.locks ≡ locks)
             × (r.0.size.conds ≡ conds)) }
         ensures passes { IfOk result (λ r. (vec_len r.1 ≡ threads)

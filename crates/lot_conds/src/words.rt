@@ -1,6 +1,7 @@
 //! The table of condition words.
 ghost use Rattle.std.specs.Prelude.{◌≡◌, ◌<◌, ◌≤◌, ℕ, ◌^◌};
-ghost use Rattle.lot_core.specs.declared.state.TheConstants.{MAX_THREADS, MAX_KEYS};
+ghost use Rattle.lot_core.specs.declared.state.TheConstants.{MAX_THREADS};
+ghost use Rattle.lot_rights.specs.declared.layout.TheConstants.{MOST_KEYS};
 ghost use Rattle.lot_rights.specs.Layout.{word_at};
 ghost use Rattle.lot_conds.specs.Rule.{key_count};
 
@@ -21,7 +22,7 @@ pub const HAS_WAITERS: u64 = 1;
 pub struct CondWords {
     pub(crate) words: WordsOf<Conditions>,
     pub(crate) ghost some: { 0 < words.key.threads },
-    pub(crate) ghost few: { (words.key.threads ≤ MAX_THREADS) × (key_count words.key ≤ MAX_KEYS) },
+    pub(crate) ghost few: { (words.key.threads ≤ MAX_THREADS) × (key_count words.key ≤ MOST_KEYS) },
     pub(crate) ghost no_slots: { words.table.slots ≡ 0 },
     pub(crate) ghost near: { (k : ℕ) → k < key_count words.key → word_at k < words.table.words },
     pub(crate) ghost small: { words.table.words < 2 ^ 64 },

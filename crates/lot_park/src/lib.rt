@@ -28,6 +28,6 @@ mod taken;
 
 pub use lot::{ParkFault, Parked, ParkingLot};
 pub use lot_bucket::{Dequeued as UnparkResult, Moment, Root};
-pub use lot_table::{Grown, MOST_THREADS, Served, TableFault, Unlocked};
+pub use lot_table::{FEW_KEYS, Grown, MOST_THREADS, Served, TableFault, Unlocked};
 pub use scheme::{Scheme, Token};
 pub use seeking::{AtOnce, BeforeSleep, Look, Seeking, Sought, get_or_park};

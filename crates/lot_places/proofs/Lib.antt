@@ -4,5 +4,6 @@ mod Rows
 mod Steps
 mod Openings
 mod Lying
+mod Counted
 mod Lines
 pub mod Slots

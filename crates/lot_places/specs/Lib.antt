@@ -1,4 +1,5 @@
 pub mod Queue
 pub mod Waiting
 pub mod Links
+pub mod Counted
 pub mod Places

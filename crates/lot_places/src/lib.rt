@@ -10,10 +10,12 @@
 //! ```
 //!
 //! `Queue` lies in a fixed row of places, and each place in use knows the next. So a thread that is taken
-//! out of the middle moves no other. `Places` has a place for each key, which evenly spaced keys find by
+//! out of the middle moves no other. It counts how often each thread waits, so that nobody walks along it to
+//! find that a thread does not. `Places` has a place for each key, which evenly spaced keys find by
 //! one division. No call but `new` and `spaced` takes memory.
 #![tactic(auto)]
 
+mod counts;
 mod links;
 pub mod places;
 pub mod queue;

@@ -2,7 +2,9 @@ ghost use Rattle.std.specs.Prelude.{◌≡◌, ℕ, ◌<◌, ◌≤◌, ◌↔�
 ghost use Rattle.std.specs.Prelude.{IfSome};
 ghost use Rattle.lot_places.specs.Queue.{line_of, without_first, without_count, without_key, first_of};
 ghost use Rattle.lot_places.specs.Waiting.{Waiting, lying_at};
+ghost use Rattle.lot_places.specs.Counted.{AreCounted, threads_of};
 
+use crate::counts::Counts;
 use crate::links::Links;
 use std::alloc::{AllocError, Global};
 use std::marker::Model;
@@ -15,6 +17,8 @@ pub struct Queue {
     // Who lies at each place, and on which key it waits; at a free place, who lay there last.
     pairs: Vec<(usize, usize)>,
     links: Links,
+    // How often each thread waits: so whether one does is found without a walk.
+    counts: Counts,
 }
 
 impl Model for Queue {
@@ -22,7 +26,8 @@ impl Model for Queue {
 
     ghost view = { λ q. record { room = q.links.room; pairs = lying_at q.pairs.items q.links.used } };
 
-    ghost invariant = { λ q. length q.pairs.items ≡ q.links.room };
+    ghost invariant = { λ q. (length q.pairs.items ≡ q.links.room)
+        × AreCounted q.counts (threads_of (lying_at q.pairs.items q.links.used)) };
 }
 
 impl Queue {
@@ -32,7 +37,12 @@ impl Queue {
     {
         let pairs = vec![in alloc; (0, 0); room]?;
         let links = Links::new(alloc, room)?;
-        Ok(Queue { pairs, links })
+        let counts = Counts::new(alloc, room)?;
+        Ok(Queue {
+            pairs,
+            links,
+            counts,
+        })
     }
 
     /// A queue without room. It takes no memory.
@@ -42,6 +52,7 @@ impl Queue {
         Queue {
             pairs: Vec::new(alloc),
             links: Links::hollow(alloc),
+            counts: Counts::hollow(alloc),
         }
     }
 
@@ -60,11 +71,15 @@ impl Queue {
         self.links.len()
     }
 
-    /// Whether the thread waits, on whatever key.
+    /// Whether the thread waits, on whatever key. It walks along the queue only for a thread whose number is not below
+    /// the room, or which is queued 255 times at once.
     pub fn has_thread(&self, thread: usize) -> bool
         ensures { IsTrue result ↔ Any (λ (p : ℕ × ℕ). p.0 ≡ thread) self.now.pairs }
     {
-        self.place_of(thread).is_some()
+        match self.counts.has(thread) {
+            Some(has) => has,
+            None => self.place_of(thread).is_some(),
+        }
     }
 
     /// The place where the thread lies, which it keeps until it is taken. It walks along the places in use.
@@ -105,6 +120,7 @@ impl Queue {
     {
         let place = self.links.append();
         self.pairs[place] = (thread, key);
+        self.counts.count_in(thread);
     }
 
     /// Takes the first thread of the key's line, if there is one.
@@ -144,6 +160,7 @@ impl Queue {
                 out[taken] = thread;
                 taken += 1;
                 self.links.remove(cursor);
+                self.counts.count_out(thread);
             } else {
                 cursor = self.links.past(cursor);
             }

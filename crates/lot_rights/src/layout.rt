@@ -4,10 +4,14 @@ ghost use Rattle.lot_rights.specs.Layout.{word_at, letter_at, word_count};
 
 use lot_core::MAX_KEYS;
 
+/// How many keys a table can be made for: a limit of its own, far beyond [`MAX_KEYS`], which is that of a state of the
+/// model, of scripts and of the openings that keep to it.
+pub const MOST_KEYS: usize = 16_777_216;
+
 /// The word that nobody writes: joins and splits of seats load it, and so do the moves of values.
 pub(crate) const SPARE_WORD: usize = 0;
 
-/// How many words a table of as many threads or keys as a lot can have takes, at most.
+/// How many words a table of at most [`MAX_KEYS`] keys takes, at most, for as many threads as a lot can have.
 pub(crate) const MOST_WORDS: usize = 2 * MAX_KEYS + 16;
 
 /// The place of a key's word: two words from one key to the next, and the first one past the line of the spare word.

@@ -38,7 +38,7 @@ pub mod words;
 
 pub use fault::WordsFault;
 pub use kind::Kind;
-pub use layout::{word_of_key, words_for};
+pub use layout::{MOST_KEYS, word_of_key, words_for};
 pub use named::{Name, Named, OfOpening};
 pub use rights::{PassOf, RootOf};
 pub use words::WordsOf;

@@ -12,8 +12,8 @@ use crate::words::WordsOf;
 use atomic_table::{Refused, Table};
 use std::alloc::{AllocError, Global};
 
-/// The words of a table at its opening, for as many threads and keys as a lot can have: so none are made only to be
-/// copied.
+/// The words of a table at its opening, for as many threads as a lot can have and as many keys as a state of the model:
+/// so none are made only to be copied. A table of more keys makes its own.
 static ZEROS: [u64; MOST_WORDS] = [0; MOST_WORDS];
 
 /// So many words that are all 0.

@@ -1,6 +1,7 @@
 //! Opening: the table, a pass for each thread and a root for each semaphore.
 ghost use Rattle.std.specs.Prelude.{◌≡◌, ℕ, ◌+◌, ◌^◌, ◌<◌, ◌≤◌, [], Some, slice_get, slice_index, vec_len, IfOk};
-ghost use Rattle.lot_core.specs.declared.state.TheConstants.{MAX_THREADS, MAX_KEYS};
+ghost use Rattle.lot_core.specs.declared.state.TheConstants.{MAX_THREADS};
+ghost use Rattle.lot_rights.specs.declared.layout.TheConstants.{MOST_KEYS};
 ghost use Rattle.lot_rights.specs.Layout.{word_at};
 ghost use Rattle.lot_rights.specs.Start.{pass_at, root_at, Begins};
 ghost use Rattle.lot_sems.specs.Opening.{with_permits, opening_words};
@@ -20,7 +21,7 @@ pub fn words_at_opening(
     first_sem: usize,
     permits: &Vec<u32>,
 ) -> Result<Vec<u64>, AllocError>
-    requires limits { (threads ≤ MAX_THREADS) × (first_sem + vec_len permits.now ≤ MAX_KEYS) }
+    requires limits { (threads ≤ MAX_THREADS) × (first_sem + vec_len permits.now ≤ MOST_KEYS) }
     ensures words { IfOk result (λ words. words.items ≡ opening_words
         (record { threads = threads; first_sem = first_sem; permits = permits.now.items })) }
     ensures small { (i : ℕ) → i < vec_len permits.now → slice_index permits.now.items i < 2 ^ 32 }
@@ -32,7 +33,7 @@ pub fn words_at_opening(
 
 /// Writes each semaphore's permits into its word.
 fn fill(words: &mut Vec<u64>, first_sem: usize, permits: &Vec<u32>)
-    requires room { first_sem + vec_len permits.now ≤ MAX_KEYS }
+    requires room { first_sem + vec_len permits.now ≤ MOST_KEYS }
     requires words { (k : ℕ) → k < first_sem + vec_len permits.now → word_at k < vec_len words.old }
     ensures { words.new.items ≡ with_permits words.old.items first_sem permits.now.items (vec_len permits.now) }
 {
@@ -51,7 +52,7 @@ impl SemWords {
         first_sem: usize,
         permits: Vec<u32>,
     ) -> Result<(SemWords, Vec<SemPass>, Vec<SemRoot>), WordsFault>
-        requires limits { (0 < threads) × (threads ≤ MAX_THREADS) × (first_sem + vec_len permits ≤ MAX_KEYS) }
+        requires limits { (0 < threads) × (threads ≤ MAX_THREADS) × (first_sem + vec_len permits ≤ MOST_KEYS) }
         ensures size { IfOk result
             (λ r. r.0.size ≡ record { threads = threads; first_sem = first_sem; permits = permits.items }) }
         ensures passes { IfOk result (λ r. (vec_len r.1 ≡ threads)

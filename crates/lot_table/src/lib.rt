@@ -36,5 +36,5 @@ mod versions;
 
 pub use moves::{Moved, regrow};
 pub use served::Served;
-pub use sizes::{Grown, MOST_THREADS, TableFault, grown_size};
+pub use sizes::{FEW_KEYS, Grown, MOST_THREADS, TableFault, first_size, grown_size};
 pub use table::{Table, Unlocked};

@@ -1,6 +1,6 @@
-ghost use Rattle.std.specs.Prelude.{◌≡◌, ◌≤◌};
-ghost use Rattle.lot_table.specs.Sizes.{grown_size_of};
-ghost use Rattle.lot_table.specs.declared.sizes.TheConstants.{MOST_THREADS};
+ghost use Rattle.std.specs.Prelude.{◌≡◌, ◌+◌, ◌*◌, ◌<◌, ◌≤◌};
+ghost use Rattle.lot_table.specs.Sizes.{grown_size_of, first_size_of};
+ghost use Rattle.lot_table.specs.declared.sizes.TheConstants.{MOST_THREADS, FIRST_SIZE, FEW_KEYS};
 
 use lot_bucket::BucketFault;
 use std::alloc::AllocError;
@@ -10,8 +10,12 @@ use thiserror::Error;
 /// `lot_scheme`, which knows both, checks that it is the model's.
 pub const MOST_THREADS: usize = 256;
 
-/// How many buckets a table has at first.
+/// How many buckets a table has at first, where its keys are few.
 pub const FIRST_SIZE: usize = 3;
+
+/// A table of more keys than this never grows, since a growth moves the root of each key. `lot_scheme` checks that it
+/// is the limit of the model's keys.
+pub const FEW_KEYS: usize = 1024;
 
 /// How many versions a table can have. For the most threads, that come one by one, the sizes are 3, 12, 30,
 /// 66, 138, 282, 570 and 1146.
@@ -59,5 +63,21 @@ pub fn grown_size(size: usize, threads: usize) -> usize
         size
     } else {
         2 * BUCKETS_PER_THREAD * threads
+    }
+}
+
+/// How many buckets a table starts with for so many threads and keys. With more than [`FEW_KEYS`] keys it is as many as
+/// its threads will ever ask for, so that table never grows.
+pub fn first_size(threads: usize, keys: usize) -> usize
+    requires { threads ≤ MOST_THREADS }
+    ensures size { result ≡ first_size_of threads keys }
+    ensures some { 0 < result }
+    ensures few { result ≤ FIRST_SIZE + 6 * MOST_THREADS }
+    ensures whole { FEW_KEYS < keys → 3 * threads ≤ result }
+{
+    if keys <= FEW_KEYS {
+        FIRST_SIZE
+    } else {
+        grown_size(FIRST_SIZE, threads)
     }
 }

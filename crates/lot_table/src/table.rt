@@ -3,9 +3,9 @@ ghost use Rattle.std.specs.Prelude.{IfOk, IfErr, MatchOption};
 ghost use Rattle.std.specs.Sync.Mutex.{mutex_guard_value};
 ghost use Rattle.lot_bucket.specs.Settled.{IsReady, HasPlaceFor, Stays};
 ghost use Rattle.lot_table.specs.Roots.{AreIdle, Appends};
-ghost use Rattle.lot_table.specs.Sizes.{Serves, grown_size_of};
+ghost use Rattle.lot_table.specs.Sizes.{Serves, grown_size_of, first_size_of};
 ghost use Rattle.lot_table.specs.Buckets.{AreFresh, AreFilled};
-ghost use Rattle.lot_table.specs.declared.sizes.TheConstants.{MOST_THREADS, FIRST_SIZE, MOST_VERSIONS};
+ghost use Rattle.lot_table.specs.declared.sizes.TheConstants.{MOST_THREADS, MOST_VERSIONS};
 
 use crate::cells::{Found, Growing};
 use crate::closing::Closing;
@@ -13,7 +13,7 @@ use crate::fresh::fresh_buckets;
 use crate::growth::Grower;
 use crate::moves::Moved;
 use crate::served::Served;
-use crate::sizes::{FIRST_SIZE, MOST_VERSIONS, TableFault, grown_size};
+use crate::sizes::{MOST_VERSIONS, TableFault, first_size, grown_size};
 use crate::slot::Slot;
 use crate::version::Version;
 use crate::versions::{Newest, Versions};
@@ -58,7 +58,7 @@ impl<R: Root> Model for Table<R> {
 
 impl<R: Root> Table<R> {
     /// A table for so many threads, with a key for each root: root `i` is that of key `i`. It has three
-    /// buckets at first.
+    /// buckets at first; with more than 1024 keys it has all that it will ever need, and never grows.
     ///
     /// The list of the roots comes back: empty and with all its room, which is enough for `close`, or with the
     /// roots where a request for memory was refused.
@@ -277,17 +277,20 @@ struct Parts<R: Root> {
 
 fn parts_for<R: Root>(alloc: Global, threads: usize, keys: usize) -> Result<Parts<R>, TableFault>
     requires { threads ≤ MOST_THREADS }
-    ensures locks { IfOk result (λ p. (vec_len p.locks ≡ 0) × (FIRST_SIZE ≤ vec_capacity p.locks)) }
-    ensures fresh { IfOk result (λ p. (vec_len p.fresh ≡ FIRST_SIZE) × AreFresh keys threads p.fresh.items) }
+    ensures some { 0 < first_size_of threads keys }
+    ensures locks { IfOk result (λ p. (vec_len p.locks ≡ 0) × (first_size_of threads keys ≤ vec_capacity p.locks)) }
+    ensures fresh { IfOk result (λ p. (vec_len p.fresh ≡ first_size_of threads keys)
+        × AreFresh keys threads p.fresh.items) }
     ensures cells { IfOk result (λ p. (vec_len p.cells ≡ 0) × (MOST_VERSIONS ≤ vec_capacity p.cells + 1)) }
-    ensures closing { IfOk result (λ p. FIRST_SIZE + grown_size_of 0 threads ≤ vec_capacity p.fresh) }
+    ensures closing { IfOk result (λ p. first_size_of threads keys + grown_size_of 0 threads ≤ vec_capacity p.fresh) }
 {
     let mut locks = Vec::new(alloc);
     let mut cells = Vec::new(alloc);
-    let most = FIRST_SIZE + grown_size(0, threads);
-    let has_room = locks.reserve(FIRST_SIZE).is_ok() && cells.reserve(MOST_VERSIONS - 1).is_ok();
+    let first = first_size(threads, keys);
+    let most = first + grown_size(0, threads);
+    let has_room = locks.reserve(first).is_ok() && cells.reserve(MOST_VERSIONS - 1).is_ok();
     let made = if has_room {
-        fresh_buckets(alloc, most, FIRST_SIZE, keys, threads)
+        fresh_buckets(alloc, most, first, keys, threads)
     } else {
         Err(TableFault::NoMemory)
     };

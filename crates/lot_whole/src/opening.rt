@@ -1,7 +1,8 @@
 //! Opening: the values become what the slots hold, and the permits what the words say; then the table, a pass for
 //! each thread and a root for each key.
 ghost use Rattle.std.specs.Prelude.{◌≡◌, ℕ, ◌+◌, ◌<◌, ◌≤◌, Some, slice_get, map, vec_len, IfOk, IfErr};
-ghost use Rattle.lot_core.specs.declared.state.TheConstants.{MAX_THREADS, MAX_KEYS};
+ghost use Rattle.lot_core.specs.declared.state.TheConstants.{MAX_THREADS};
+ghost use Rattle.lot_rights.specs.declared.layout.TheConstants.{MOST_KEYS};
 ghost use Rattle.lot_rights.specs.Start.{Begins, pass_at, root_at};
 ghost use Rattle.lot_sems.specs.Opening.{opening_words};
 ghost use Rattle.lot_whole.specs.Family.{sem_size};
@@ -30,7 +31,7 @@ impl<V: Keeps> LotWords<V> {
         permits: Vec<u32>,
     ) -> Result<(LotWords<V>, Vec<LotPass<V>>, Vec<LotRoot<V>>), (WordsFault, Vec<V>)>
         requires limits { (0 < threads) × (threads ≤ MAX_THREADS) × (0 < vec_len values)
-            × (vec_len values + conds + vec_len permits ≤ MAX_KEYS) }
+            × (vec_len values + conds + vec_len permits ≤ MOST_KEYS) }
         requires keep { (k : ℕ) (v : V) → slice_get values.items k ≡ Some v → V.keeps k v }
         ensures size { IfOk result (λ r. r.0.size ≡ record
             { threads = threads; locks = vec_len values; conds = conds; permits = permits.items }) }

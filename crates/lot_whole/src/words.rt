@@ -1,6 +1,7 @@
 //! The table of a lot.
 ghost use Rattle.std.specs.Prelude.{◌≡◌, ◌<◌, ◌≤◌, vec_len, vec_capacity, ℕ, ◌^◌};
-ghost use Rattle.lot_core.specs.declared.state.TheConstants.{MAX_THREADS, MAX_KEYS};
+ghost use Rattle.lot_core.specs.declared.state.TheConstants.{MAX_THREADS};
+ghost use Rattle.lot_rights.specs.declared.layout.TheConstants.{MOST_KEYS};
 ghost use Rattle.lot_rights.specs.Layout.{word_at};
 ghost use Rattle.lot_whole.specs.Family.{key_count};
 ghost use Rattle.lot_whole.specs.Rule.{size_of};
@@ -23,7 +24,7 @@ pub struct LotWords<V: Keeps> {
     // `close` puts the values here.
     pub(crate) room: Exclusive<Vec<V>>,
     pub(crate) ghost some: { 0 < words.key.threads },
-    pub(crate) ghost few: { (words.key.threads ≤ MAX_THREADS) × (key_count (size_of words.key) ≤ MAX_KEYS) },
+    pub(crate) ghost few: { (words.key.threads ≤ MAX_THREADS) × (key_count (size_of words.key) ≤ MOST_KEYS) },
     pub(crate) ghost near: { (k : ℕ) → k < key_count (size_of words.key) → word_at k < words.table.words },
     pub(crate) ghost small: { words.table.words < 2 ^ 64 },
     pub(crate) ghost slots_are: { words.table.slots ≡ words.key.locks },

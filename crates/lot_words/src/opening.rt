@@ -1,6 +1,7 @@
 //! Opening: the values become what the slots hold; then the table, a pass for each thread and a root for each lock.
 ghost use Rattle.std.specs.Prelude.{◌≡◌, ℕ, ◌<◌, ◌≤◌, Some, slice_get, map, replicate, vec_len, IfOk, IfErr};
-ghost use Rattle.lot_core.specs.declared.state.TheConstants.{MAX_THREADS, MAX_KEYS};
+ghost use Rattle.lot_core.specs.declared.state.TheConstants.{MAX_THREADS};
+ghost use Rattle.lot_rights.specs.declared.layout.TheConstants.{MOST_KEYS};
 ghost use Rattle.lot_rights.specs.Layout.{word_count};
 ghost use Rattle.lot_rights.specs.Start.{Begins};
 ghost use Rattle.lot_words.specs.Shown.{pass_at, root_at, meaning_of};
@@ -22,7 +23,8 @@ impl<V: Keeps> LockWords<V> {
         threads: usize,
         mut values: Vec<V>,
     ) -> Result<(LockWords<V>, Vec<LockPass<V>>, Vec<LockRoot<V>>), (WordsFault, Vec<V>)>
-        requires limits { (0 < threads) × (threads ≤ MAX_THREADS) × (0 < vec_len values) × (vec_len values ≤ MAX_KEYS) }
+        requires limits { (0 < threads) × (threads ≤ MAX_THREADS) × (0 < vec_len values)
+            × (vec_len values ≤ MOST_KEYS) }
         requires keep { (k : ℕ) (v : V) → slice_get values.items k ≡ Some v → V.keeps k v }
         ensures size { IfOk result (λ r. (r.0.size.threads ≡ threads) × (r.0.size.locks ≡ vec_len values)) }
         ensures values { IfOk result (λ r. r.0.values ≡ values.items) }

@@ -1,6 +1,7 @@
 //! The table of lock words.
 ghost use Rattle.std.specs.Prelude.{◌≡◌, ◌<◌, ◌≤◌, vec_len, vec_capacity, ℕ, ◌^◌};
-ghost use Rattle.lot_core.specs.declared.state.TheConstants.{MAX_THREADS, MAX_KEYS};
+ghost use Rattle.lot_core.specs.declared.state.TheConstants.{MAX_THREADS};
+ghost use Rattle.lot_rights.specs.declared.layout.TheConstants.{MOST_KEYS};
 ghost use Rattle.lot_rights.specs.Layout.{word_at};
 
 use crate::exclusive::Exclusive;
@@ -27,7 +28,7 @@ pub struct LockWords<V: Keeps> {
     // `close` puts the values here.
     pub(crate) room: Exclusive<Vec<V>>,
     pub(crate) ghost some: { 0 < words.key.size.threads },
-    pub(crate) ghost few: { (words.key.size.threads ≤ MAX_THREADS) × (words.key.size.locks ≤ MAX_KEYS) },
+    pub(crate) ghost few: { (words.key.size.threads ≤ MAX_THREADS) × (words.key.size.locks ≤ MOST_KEYS) },
     pub(crate) ghost near: { (k : ℕ) → k < words.key.size.locks → word_at k < words.table.words },
     pub(crate) ghost small: { words.table.words < 2 ^ 64 },
     pub(crate) ghost slots_are: { words.table.slots ≡ words.key.size.locks },

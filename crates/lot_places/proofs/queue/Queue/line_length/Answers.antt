@@ -16,7 +16,7 @@ within c = omega (arith, long c)
 here : (c : After-index) → slice_index_or c.args.self.now.pairs c.loop-cursor.cursor.passed (0, 0) ≡ c.index.result.now
 here c =
     let lying = ap (λ (w : Waiting). w.pairs) c.self.view_is in
-    reads c.self.inside c.args.self.now.pairs lying c.loop-cursor.cursor.passed c.self.invariant
+    reads c.self.inside c.args.self.now.pairs lying c.loop-cursor.cursor.passed c.self.invariant.0
     (omega arith) c.place.ensures.used c.place.ensures.place c.index.ensures (0, 0)
 
 one_more : (c : After-index) → c.index.result.now.1 ≡ c.args.key

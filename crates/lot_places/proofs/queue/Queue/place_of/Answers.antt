@@ -12,7 +12,7 @@ within c = omega (arith, length_is c.self.inside c.args.self.now.pairs (ap (λ (
 here : (c : After-index) (d : ℕ × ℕ) → slice_index_or c.args.self.now.pairs c.loop-cursor.cursor.passed d ≡ c.index.result.now
 here c d =
     let lying = ap (λ (w : Waiting). w.pairs) c.self.view_is in
-    reads c.self.inside c.args.self.now.pairs lying c.loop-cursor.cursor.passed c.self.invariant
+    reads c.self.inside c.args.self.now.pairs lying c.loop-cursor.cursor.passed c.self.invariant.0
     (omega arith) c.place-place.ensures.used c.place-place.ensures.place c.index.ensures d
 
 pub returns-then-index-thread-clause-waits : goal.returns-then-index-thread-clause-waits

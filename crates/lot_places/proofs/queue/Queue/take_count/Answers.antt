@@ -1,9 +1,11 @@
-use Rattle.std.proofs.Common.{◌≡◌, ◌≢◌, ℕ, ◌<◌, ◌≤◌, List, slice_index_or, length, refl, ap, arith}
+use Rattle.std.proofs.Common.{◌≡◌, ◌≢◌, ℕ, ◌<◌, ◌≤◌, List, slice_index_or, length, refl, ap, ◌∙◌, arith}
 use Rattle.std.proofs.lemmas.List.Edits.{length-remove}
 use Rattle.lot_places.specs.Links.{Row}
 use Rattle.lot_places.specs.Waiting.{Waiting, lying_at}
 use Rattle.lot_places.proofs.Lines.{passed_on, room_for_one, one_taken, none_to_take, none_to_pass}
 use Rattle.lot_places.proofs.Lying.{length_is, reads, lying_at-remove}
+use Rattle.lot_places.specs.Counted.{threads_of}
+use Rattle.lot_places.proofs.Counted.{threads_of-remove, threads_of-at, length-threads_of}
 use Rattle.lot_places.proofs.queue.Queue.take_count.Goals.{After-index}
 use Rattle.lot_places.proofs.queue.Queue.take_count.Goals as goal
 
@@ -23,7 +25,8 @@ pub loop-taken-init : goal.loop-taken-init
 loop-taken-init c =
     record {
       stands = c.start-cursor.ensures.stands;
-      size = c.self.invariant;
+      size = c.self.invariant.0;
+      counted = c.self.invariant.1;
       room = ap (λ (w : Waiting). w.room) c.self.view_is;
       taking =
           rw (← c.self.view_is, c.start-cursor.ensures.first)
@@ -50,6 +53,15 @@ loop-taken-preserved-then-waits_on-key c =
     record {
       stands = c.remove.ensures.stands;
       size = rw c.remove.ensures.left c.loop-taken.invariant.size;
+      counted =
+          rw (
+            c.remove.ensures.left,
+            lying_at-remove c.loop-taken.self-inside.pairs.items c.loop-taken.self-inside.links.used i,
+            threads_of-remove (queue at) i,
+          )
+          (c.count_out.ensures.counted (threads_of (queue at)) i c.loop-taken.invariant.counted
+          (omega (arith, within at, length-threads_of (queue at)))
+          (threads_of-at (queue at) i (within at) ∙ ap (λ (p : ℕ × ℕ). p.0) (here at)));
       room = rw c.remove.ensures.left c.loop-taken.invariant.room;
       taking =
           rw (c.remove.ensures.left, lying_at-remove c.loop-taken.self-inside.pairs.items c.loop-taken.self-inside.links.used i)
@@ -64,6 +76,7 @@ loop-taken-preserved c =
     record {
       stands = c.past-cursor.ensures.stands;
       size = c.loop-taken.invariant.size;
+      counted = c.loop-taken.invariant.counted;
       room = c.loop-taken.invariant.room;
       taking =
           rw c.past-cursor.ensures.one
@@ -94,10 +107,10 @@ pub past-cursor-requires : goal.past-cursor-requires
 past-cursor-requires c = record { stands = c.loop-taken.invariant.stands; more = rw (← c.len.ensures.count) c.if-cursor-len.true }
 
 pub invariant_of-self : goal.invariant_of-self
-invariant_of-self c = c.loop-taken.invariant.size
+invariant_of-self c = (c.loop-taken.invariant.size, c.loop-taken.invariant.counted)
 
 pub invariant_of-self-in-loop-taken : goal.invariant_of-self-in-loop-taken
-invariant_of-self-in-loop-taken c = c.loop-taken.invariant.size
+invariant_of-self-in-loop-taken c = (c.loop-taken.invariant.size, c.loop-taken.invariant.counted)
 
 pub returns-after-loop-taken : goal.returns-after-loop-taken
 returns-after-loop-taken c =

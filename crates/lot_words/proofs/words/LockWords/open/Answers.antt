@@ -2,7 +2,8 @@ use Rattle.std.proofs.Common.{◌≡◌, ℕ, ◌+◌, ◌<◌, ◌≤◌, List,
 use Rattle.std.proofs.Common.{rules}
 use Rattle.std.proofs.lemmas.List.{length-map}
 use Rattle.std.specs.Vec.{vec_len, vec_capacity}
-use Rattle.lot_core.specs.declared.state.TheConstants.{MAX_THREADS, MAX_KEYS}
+use Rattle.lot_core.specs.declared.state.TheConstants.{MAX_THREADS}
+use Rattle.lot_rights.specs.declared.layout.TheConstants.{MOST_KEYS}
 use Rattle.lot_rights.specs.Layout.{word_count}
 use Rattle.lot_rights.specs.Start.{OpensWell, Begins}
 use Rattle.lot_words.specs.Rule.{meaning}
@@ -92,7 +93,7 @@ invariant_of-result g c =
     sym (ap (λ v. vec_capacity v) c.new.ensures ∙ c.shelve.ensures.room.1) in (
       subst (λ n. 0 < n) (sym threads) limits.0,
       (
-        (subst (λ n. n ≤ MAX_THREADS) (sym threads) limits.1, subst (λ n. n ≤ MAX_KEYS) (sym locks) limits.3),
+        (subst (λ n. n ≤ MAX_THREADS) (sym threads) limits.1, subst (λ n. n ≤ MOST_KEYS) (sym locks) limits.3),
         (
           (λ k below. c.in-Ok-open.ensures.near.1 k (subst (λ n. k < n) (sym keys) below)),
           (
