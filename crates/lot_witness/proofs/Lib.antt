@@ -1,0 +1,4 @@
+pub mod Clean
+pub mod Lines
+pub mod Texts
+pub mod Runs

@@ -1,0 +1,18 @@
+use Rattle.std.proofs.Common.{sym, arith, subst}
+use Rattle.lot_core.specs.Reading.{ReadsNumbers}
+use Rattle.lot_events.proofs.Figures.{field_takes}
+use Rattle.lot_core.proofs.Openings.{numbers_push, number_shorter}
+use Rattle.lot_witness.proofs.witness.numbers.Goals as goal
+
+pub overflow_cast-number : goal.overflow_cast-number
+overflow_cast-number c =
+    omega (arith, (field_takes c.loop-number.rest.now c.in-Some.number c.in-Some.behind.now (sym c.in-Some.ensures)).0)
+
+pub loop-number-smaller : goal.loop-number-smaller
+loop-number-smaller c = number_shorter c.loop-number.rest.now c.in-Some.number c.in-Some.behind.now (sym c.in-Some.ensures)
+
+pub loop-number-preserved : goal.loop-number-preserved
+loop-number-preserved c =
+    subst (λ ns. ReadsNumbers c.args.text.now ns c.in-Some.behind.now) (sym (c.in_ok-push.ensures {u = tt}).items)
+    (numbers_push c.args.text.now c.loop-number.numbers.items c.loop-number.rest.now c.in-Some.number c.in-Some.behind.now
+    c.loop-number.invariant (sym c.in-Some.ensures))
