@@ -1,4 +1,5 @@
 pub mod Settling
+pub mod Eating
 pub mod Leasing
 pub mod Counting
 pub mod Trying

@@ -1,6 +1,15 @@
 //! Dinner: five philosophers at a round table, with a fork between any two. Each eats with the two forks beside his seat
 //! and gets the lower first, so no circle of them waits.
-ghost use Rattle.std.specs.Prelude.{◌≡◌, ◌<◌, ◌≤◌, length, vec_len, vec_capacity};
+ghost use Rattle.std.specs.Prelude.{◌≡◌, ◌<◌, ◌≤◌, List, Option, length, vec_len, vec_capacity};
+ghost use Rattle.atomic_table.specs.Table.{State};
+ghost use Rattle.lot_order.specs.Waiting.{HasNoCircle, SomeoneGoesOn};
+ghost use Rattle.lot_rights.specs.declared.views.Right.{Right};
+ghost use Rattle.lot_rights.specs.Rule.{Ruled};
+ghost use Rattle.lot_whole.specs.declared.views.LotPassView.{LotPassView};
+ghost use Rattle.lot_whole.specs.declared.views.LotRootView.{LotRootView};
+ghost use Rattle.lot_whole.specs.Family.{LotSize};
+ghost use Rattle.lot_whole.specs.Lot.{lot_meaning};
+ghost use Rattle.lot_whole.specs.Headline.{OneState};
 ghost use Rattle.lot_sync.specs.Lot.{OwnsNone};
 ghost use Rattle.gallery.specs.Dinner.{low_of, high_of, HasPlaces, OneMore, AteWithBoth, AllAteWithBoth};
 
@@ -8,6 +17,7 @@ use crate::crew::{Crew, NOW, Opening, open, start};
 use lot_calls::finish;
 use lot_command::Failure;
 use lot_sync::{Lot, LotName, Pass};
+use lot_whole::laws::one_state_at_every_moment;
 use lot_words::Keeps;
 use std::alloc::Global;
 use std::marker::Brand;
@@ -43,6 +53,16 @@ impl Keeps for Fork {
     ghost grows_itself = { λ fork. tt };
 
     ghost grows_on = { λ x y z p q. tt };
+}
+
+/// At each moment of a dinner no philosophers wait for one another in a circle, and while one needs a fork some
+/// philosopher goes on.
+pub fn no_circle_waits()
+    ensures { (z : LotSize) (forks : List Fork) (s : State (Option Fork) (List (Right (LotPassView Fork) LotRootView)))
+        (here : Ruled (lot_meaning Fork.Keeps z forks) s) → (one : OneState Fork.Keeps z forks s here)
+        × HasNoCircle one.state × SomeoneGoesOn Fork.above one.state }
+{
+    one_state_at_every_moment::<Fork>();
 }
 
 /// The lower and the higher of the two forks beside a seat.
@@ -106,6 +126,7 @@ pub fn end<N: LotName<Fork> + Send, T: Wait>(
 
 /// Five philosophers eat.
 pub fn run<T: Threads + Wait + Sync>(rt: &T, alloc: Global) -> Result<u64, Failure> {
+    no_circle_waits();
     let forks = vec![in alloc; Fork { meals: [0; SEATS] }; SEATS]?;
     run_on::<Brand, T>(rt, open(alloc, SEATS, forks, 0, &[])?)
 }

@@ -1,9 +1,9 @@
-//! What callers of a lot easily do wrong: five functions that are right, of which each edit of `must-fail/` and
+//! What callers of a lot easily do wrong: six functions that are right, of which each edit of `must-fail/` and
 //! `wrong-bodies/` makes one mistake. docs/MISTAKES.md shows both, with what the prover says. It stands on `lot_sync`.
 #![tactic(auto)]
 
 ghost use Rattle.std.specs.Prelude.{◌<◌};
-ghost use Rattle.lot_sync.specs.Lot.{OwnsNone};
+ghost use Rattle.lot_sync.specs.Lot.{OwnsNone, IsCond};
 
 use lot_sync::{Lot, LotName, Moment, Pass};
 use lot_words::Keeps;
@@ -72,6 +72,7 @@ pub fn visit<N: LotName<Account> + Send, W: Wait>(rt: &W, lot: &Lot<Account, N>)
 }
 
 /// What was paid into accounts 0 and 1 at one moment; `None` where a number of 64 bits does not hold it.
+#[tactic(auto, using(lot_sync::proofs::Below::got_below))]
 pub fn paid_into_both<N: LotName<Account> + Send, W: Wait>(
     rt: &W,
     lot: &Lot<Account, N>,
@@ -121,5 +122,24 @@ pub fn pay_out<N: LotName<Account> + Send, W: Wait>(
         account.paid_out = account.paid_out.saturating_add(5);
     }
     let (pass, _) = lot.unlock(rt, pass, purse, NOW);
+    pass
+}
+
+/// Waits until something was paid into account 0, of which a notification of this condition tells.
+#[tactic(auto, using(lot_sync::proofs::Below::got_waits))]
+pub fn await_payment<N: LotName<Account> + Send, W: Wait>(
+    rt: &W,
+    lot: &Lot<Account, N>,
+    pass: Pass<Account, N>,
+    paid_in: usize,
+) -> Pass<Account, N>
+    requires locks { 1 < lot.now.locks }
+    requires cond { IsCond lot.now paid_in }
+    requires free { OwnsNone pass }
+    ensures { OwnsNone result }
+{
+    let (pass, empty) = lot.lock(rt, pass, 0);
+    let (pass, told) = lot.wait(rt, pass, empty, paid_in, NOW);
+    let (pass, _) = lot.unlock(rt, pass, told, NOW);
     pass
 }

@@ -6,7 +6,7 @@ use Rattle.lot_calls.proofs.Waiting.{got_after, after_holds, made_until}
 use Rattle.lot_calls.proofs.until.lock_until.Goals as goal
 
 pub wait_until-requires-clause-above : goal.wait_until-requires-clause-above
-wait_until-requires-clause-above g c =
+wait_until-requires-clause-above g c κs within =
     got_waits g.V.Keeps c.args.pass c.lock-pass.result.0 c.args.key c.lock-pass.result.1 c.lock-pass.ensures.gets c.args.cond
     c.requires.above.0 c.requires.above.1
 

@@ -10,7 +10,7 @@ loop-init g c =
     (tt, tt, not_yet g.V.Keeps _ c.args.pass c.args.held c.args.cond c.args.moment.now c.requires.back, c.requires.owns, c.requires.shape)
 
 pub wait-woken-requires-clause-above : goal.wait-woken-requires-clause-above
-wait-woken-requires-clause-above g c =
+wait-woken-requires-clause-above g c κs within =
     let waits = c.loop.invariant.2 in
     subst (λ k. MayWait g.V.Keeps.above (keys_of c.loop.pass) c.args.cond k) (sym waits.key_is)
     (same_waits g.V.Keeps.above c.args.pass c.loop.pass c.args.cond c.args.held.key waits.same_owns waits.same_permits c.requires.above)

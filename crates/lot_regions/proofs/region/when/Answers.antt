@@ -9,7 +9,7 @@ use Rattle.lot_regions.proofs.region.when.Goals as goal
 
 -- whoever owned nothing may wait with the lock that it got
 pub wait_until-pass-requires-clause-above : goal.wait_until-pass-requires-clause-above
-wait_until-pass-requires-clause-above g c =
+wait_until-pass-requires-clause-above g c κs within =
     let p = c.args.pass in
     got_waits g.V.Keeps p c.lock-pass.result.0 c.args.key c.lock-pass.result.1 c.lock-pass.ensures.gets c.args.cond
     (none_below g.V.Keeps.above p c.args.key c.requires.free) (none_below g.V.Keeps.above p c.args.cond c.requires.free)

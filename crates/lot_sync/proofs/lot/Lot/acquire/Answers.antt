@@ -10,7 +10,7 @@ use Rattle.lot_sync.proofs.Calls.{sees_permit}
 use Rattle.lot_sync.proofs.lot.Lot.acquire.Goals as goal
 
 pub acquire-right-requires-clause-above : goal.acquire-right-requires-clause-above
-acquire-right-requires-clause-above g c =
+acquire-right-requires-clause-above g c κs within =
     below g.V.Keeps.above c.apart-right.result.0 c.args.key
     (subst (λ p. AllBelow g.V.Keeps.above (keys_of p) c.args.key) c.apart-right.ensures.same c.requires.above)
 

@@ -11,7 +11,7 @@ use Rattle.lot_sync.proofs.Adding.{adds_at}
 use Rattle.lot_sync.proofs.lot.Lot.lock_after.Goals as goal
 
 pub get-right-requires-clause-may : goal.get-right-requires-clause-may
-get-right-requires-clause-may g c =
+get-right-requires-clause-may g c κs within =
     may_want g.V.Keeps.above c.apart-right.result.0 c.args.key c.apart-right.ensures.rest.idle
     (subst (λ p. AllBelow g.V.Keeps.above (keys_of p) c.args.key) c.apart-right.ensures.same c.requires.above)
 

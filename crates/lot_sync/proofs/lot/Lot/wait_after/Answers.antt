@@ -12,7 +12,7 @@ use Rattle.lot_sync.proofs.Calls.{owns_waited, gets_waited}
 use Rattle.lot_sync.proofs.lot.Lot.wait_after.Goals as goal
 
 pub wait-right-requires-clause-above : goal.wait-right-requires-clause-above
-wait-right-requires-clause-above g c =
+wait-right-requires-clause-above g c κs within =
     may_wait g.V.Keeps.above c.given_back-right.result.0 c.args.cond c.key-key.result
     (subst (λ p. MayWait g.V.Keeps.above (keys_of p) c.args.cond c.key-key.result) (sym c.given_back-right.ensures.same)
     (subst (λ k. MayWait g.V.Keeps.above (keys_of c.args.pass) c.args.cond k) (sym c.key-key.ensures) c.requires.above))
