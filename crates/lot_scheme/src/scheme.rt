@@ -5,14 +5,17 @@ ghost use Rattle.lot_scheme.specs.Roots.{size_named, Follow};
 use crate::name::LotName;
 use crate::pass::NamedPass;
 use crate::root::NamedRoot;
-use lot_core::MAX_THREADS;
-use lot_park::{MOST_THREADS, Scheme, Token};
+use lot_core::{MAX_KEYS, MAX_THREADS};
+use lot_park::{FEW_KEYS, MOST_THREADS, Scheme, Token};
 use lot_rights::Named;
 use lot_whole::{Keeps, LotRoot, LotWords};
 use std::marker::Model;
 
 // A parking lot, which knows no model, is for as many threads as the model.
 const _: () = prove!(MOST_THREADS == MAX_THREADS);
+
+// A table of as many keys as the model may have starts small and grows with its threads.
+const _: () = prove!(FEW_KEYS == MAX_KEYS);
 
 /// The words of a lot, as the parking lot sees them.
 pub struct LotScheme<V: Keeps, N: LotName<V>> {

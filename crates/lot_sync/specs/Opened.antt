@@ -1,6 +1,7 @@
 -- A lot between its opening and its start.
 use Rattle.std.specs.Prelude.{◌≡◌, ℕ, ◌+◌, ◌<◌, ◌≤◌, List, length, slice_get, Some}
 use Rattle.lot_core.specs.declared.state.TheConstants.{MAX_THREADS, MAX_KEYS}
+use Rattle.lot_rights.specs.declared.layout.TheConstants.{MOST_KEYS}
 use Rattle.lot_rights.specs.Opening.{no_table}
 use Rattle.lot_rights.specs.Shown.{PassShown, RootShown}
 use Rattle.lot_rights.specs.Start.{pass_at, root_at}
@@ -10,6 +11,7 @@ use Rattle.lot_whole.specs.declared.views.LotRootView.{LotRootView}
 use Rattle.lot_whole.specs.Family.{key_count}
 use Rattle.lot_whole.specs.Shown.{LotWordsShown, lot_of}
 use Rattle.lot_sync.specs.Lot.{LotNames}
+use Rattle.lot_sync.specs.declared.many.TheConstants.{MOST_CONDS}
 use Rattle.lot_sync.specs.declared.fault.OpenFault.{OpenFault}
 use Rattle.lot_sync.specs.declared.fault.OpenFault.TheVariants.{BadThreads, BadKeys, NoMemory}
 
@@ -39,7 +41,7 @@ pub record IsOpened {V Part : Type 0} (rule : CallersRule V Part) (words : LotWo
     (roots : List (RootShown LotRootView)) (threads locks conds sems : ℕ) : Type 0 where
   pub some_threads : 0 < words.size.threads
   pub few_threads : words.size.threads ≤ MAX_THREADS
-  pub few_keys : key_count words.size ≤ MAX_KEYS
+  pub few_keys : key_count words.size ≤ MOST_KEYS
   pub a_lock_each : words.size.locks ≡ length words.values
   pub passes_long : length passes ≡ words.size.threads
   pub passes_are : (t : ℕ) → t < words.size.threads → slice_get passes t ≡ Some (pass_at (lot_of rule words) words.table t)
@@ -56,8 +58,12 @@ IsThreadCount threads = (1 ≤ threads) × (threads ≤ MAX_THREADS)
 abbrev pub IsKeyCount : ℕ → ℕ → ℕ → Type 0
 IsKeyCount locks conds sems = (1 ≤ locks) × (locks + conds + sems ≤ MAX_KEYS)
 
--- why so many threads, locks, conditions and semaphores are refused
-abbrev pub Refuses : ℕ → ℕ → ℕ → ℕ → OpenFault → Type 0
-Refuses threads locks conds sems BadThreads = ¬ IsThreadCount threads
-Refuses threads locks conds sems BadKeys = IsThreadCount threads × (¬ IsKeyCount locks conds sems)
-Refuses threads locks conds sems NoMemory = IsThreadCount threads × IsKeyCount locks conds sems
+-- the keys of a lot that may have many: a condition costs 16 bytes for each thread, so these have a limit of their own
+abbrev pub AreManyKeys : ℕ → ℕ → ℕ → Type 0
+AreManyKeys locks conds sems = (1 ≤ locks) × (conds ≤ MOST_CONDS) × (locks + conds + sems ≤ MOST_KEYS)
+
+-- why so many threads are refused, with keys that fit or don't
+abbrev pub Refuses : Type 0 → ℕ → OpenFault → Type 0
+Refuses fit threads BadThreads = ¬ IsThreadCount threads
+Refuses fit threads BadKeys = IsThreadCount threads × (¬ fit)
+Refuses fit threads NoMemory = IsThreadCount threads × fit

@@ -7,7 +7,8 @@ pub enum OpenFault {
     #[error("bad number of threads")]
     BadThreads = 1,
     /// There has to be a lock, and there may be at most [`MAX_KEYS`](lot_core::MAX_KEYS) locks, conditions and
-    /// semaphores together.
+    /// semaphores together; of `open_many` at most [`MOST_KEYS`](lot_rights::MOST_KEYS), and at most
+    /// [`MOST_CONDS`](crate::MOST_CONDS) conditions among them.
     #[error("bad number of keys")]
     BadKeys = 2,
     /// A request for memory was refused.

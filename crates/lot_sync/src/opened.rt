@@ -1,6 +1,7 @@
 //! Opening a lot: first its table, then, under a name, the lot itself.
-ghost use Rattle.std.specs.Prelude.{◌≡◌, ◌↔◌, ◌+◌, [], length, vec_len, IfOk, IfErr, IsTrue};
-ghost use Rattle.lot_sync.specs.Opened.{IsKeyCount};
+ghost use Rattle.std.specs.Prelude.{◌≡◌, ◌↔◌, ◌+◌, ◌<◌, ◌≤◌, [], length, vec_len, IfOk, IfErr, IsTrue};
+ghost use Rattle.lot_rights.specs.declared.layout.TheConstants.{MOST_KEYS};
+ghost use Rattle.lot_sync.specs.Opened.{KeepAll, IsThreadCount, IsKeyCount};
 
 use crate::fault::OpenFault;
 use crate::lot::Lot;
@@ -34,6 +35,13 @@ impl<V: Keeps + Send> Model for Opened<V> {
     ghost invariant = { λ s. IsOpened V.Keeps s.words s.passes.items s.roots.items s.threads s.locks s.conds s.sems };
 }
 
+/// Whether a lot may have so many threads.
+pub(crate) fn is_thread_count(threads: usize) -> bool
+    ensures { IsTrue result ↔ IsThreadCount threads }
+{
+    threads >= 1 && threads <= MAX_THREADS
+}
+
 /// Whether a lot may have so many keys of each kind.
 fn is_key_count(locks: usize, conds: usize, sems: usize) -> bool
     ensures { IsTrue result ↔ IsKeyCount locks conds sems }
@@ -56,7 +64,7 @@ impl<V: Keeps + Send, N: LotName<V> + Send> Lot<V, N> {
         ensures opened { IfOk result (λ o. (o.threads ≡ threads) × (o.values ≡ values.items) × (o.conds ≡ conds)
             × (o.first_sem ≡ vec_len values + conds) × (o.permits ≡ [])) }
         ensures limits { IfOk result (λ _. IsThreadCount threads × IsKeyCount (vec_len values) conds 0) }
-        ensures fault { IfErr result (λ e. Refuses threads (vec_len values) conds 0 e.0) }
+        ensures fault { IfErr result (λ e. Refuses (IsKeyCount (vec_len values) conds 0) threads e.0) }
         ensures back { IfErr result (λ e. e.1.items ≡ values.items) }
     {
         Lot::<V, N>::open_with(alloc, threads, values, conds, &[])
@@ -79,30 +87,50 @@ impl<V: Keeps + Send, N: LotName<V> + Send> Lot<V, N> {
             × (o.first_sem ≡ vec_len values + conds) × (o.permits ≡ permits.now)) }
         ensures limits { IfOk result (λ _. IsThreadCount threads
             × IsKeyCount (vec_len values) conds (length permits.now)) }
-        ensures fault { IfErr result (λ e. Refuses threads (vec_len values) conds (length permits.now) e.0) }
+        ensures fault { IfErr result
+            (λ e. Refuses (IsKeyCount (vec_len values) conds (length permits.now)) threads e.0) }
         ensures back { IfErr result (λ e. e.1.items ≡ values.items) }
     {
-        if threads < 1 || threads > MAX_THREADS {
+        if !is_thread_count(threads) {
             return Err((OpenFault::BadThreads, values));
         }
-        let (locks, sems) = (values.len(), permits.len());
-        if !is_key_count(locks, conds, sems) {
+        if !is_key_count(values.len(), conds, permits.len()) {
             return Err((OpenFault::BadKeys, values));
         }
-        let Ok(permits) = permits.to_vec(alloc) else {
-            return Err((OpenFault::NoMemory, values));
-        };
-        match LotWords::open(alloc, threads, values, conds, permits) {
-            Ok((words, passes, roots)) => Ok(Opened {
-                words,
-                passes,
-                roots,
-                threads,
-                locks,
-                conds,
-                sems,
-            }),
-            Err((WordsFault::NoMemory, values)) => Err((OpenFault::NoMemory, values)),
-        }
+        open_words(alloc, threads, values, conds, permits)
+    }
+}
+
+/// Opens the words of a lot of so many threads and keys, unless a request for memory is refused.
+pub(crate) fn open_words<V: Keeps + Send>(
+    alloc: Global,
+    threads: usize,
+    values: Vec<V>,
+    conds: usize,
+    permits: &[u32],
+) -> Result<Opened<V>, (OpenFault, Vec<V>)>
+    requires threads { IsThreadCount threads }
+    requires keys { (0 < vec_len values) × (vec_len values + conds + length permits.now ≤ MOST_KEYS) }
+    requires keep { KeepAll V.keeps values.items }
+    ensures opened { IfOk result (λ o. (o.threads ≡ threads) × (o.values ≡ values.items) × (o.conds ≡ conds)
+        × (o.first_sem ≡ vec_len values + conds) × (o.permits ≡ permits.now)) }
+    ensures fault { IfErr result (λ e. e.0 ≡ OpenFault.NoMemory) }
+    ensures back { IfErr result (λ e. e.1.items ≡ values.items) }
+{
+    let (locks, sems) = (values.len(), permits.len());
+    let Ok(permits) = permits.to_vec(alloc) else {
+        return Err((OpenFault::NoMemory, values));
+    };
+    match LotWords::open(alloc, threads, values, conds, permits) {
+        Ok((words, passes, roots)) => Ok(Opened {
+            words,
+            passes,
+            roots,
+            threads,
+            locks,
+            conds,
+            sems,
+        }),
+        Err((WordsFault::NoMemory, values)) => Err((OpenFault::NoMemory, values)),
     }
 }
