@@ -1,5 +1,5 @@
 use Rattle.std.proofs.Common.{sym, ap, subst, ◌∙◌}
-use Rattle.lot_sync.specs.Lot.{PassView}
+use Rattle.lot_sync.specs.Lot.{PassView, Owns, permits_with}
 use Rattle.lot_sync.proofs.Below.{got_below}
 use Rattle.lot_calls.specs.Visits.{MayBecome, Finds, VisitsBoth}
 use Rattle.lot_calls.proofs.Visiting.{visit_made, finds_got}
@@ -123,3 +123,11 @@ returns-clause-made g c =
     c.unlock-pass-2.result.1 gets.key_is thread (ap (λ (p : PassView g.row.V.Denot). p.thread) c.unlock-pass.ensures.pass
     ∙ (ap (λ (p : PassView g.row.V.Denot). p.thread) gets'.after_is ∙ thread)) c.lock-pass.ensures.made inner c.unlock-pass-2.ensures.fits
     c.unlock-pass-2.ensures.made
+
+pub returns-clause-free : goal.returns-clause-free
+returns-clause-free g c = λ none.
+    let same = (returns-clause-visits g c).5.after_is in
+    record {
+      no_lock = λ k owned. none.no_lock k (subst (λ (p : PassView g.row.V.Denot). Owns p k) same owned);
+      no_permit = λ k. ap (λ (p : PassView g.row.V.Denot). permits_with p k) same ∙ none.no_permit k;
+    }
