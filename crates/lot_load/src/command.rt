@@ -1,6 +1,7 @@
 //! The command line: what is run, what is written where, and with which status it ends.
 
 use crate::count::{Counting, count};
+use crate::many::{MOST_LOCKS, Spreading, many};
 use crate::pool::{Pooling, pool};
 use crate::relay::{Relaying, relay};
 use crate::replay::replay;
@@ -22,9 +23,11 @@ const USAGE: &str = "\
 lotstress count THREADS LOCKS ROUNDS SEED     threads count under locks; what each lock counted, and the sum
 lotstress relay THREADS ROUNDS SEED           producers and consumers at a buffer; what was put and taken
 lotstress pool THREADS PERMITS ROUNDS SEED    threads share permits; the rounds, and whether too many were in
+lotstress many THREADS KEYS ROUNDS SEED       threads count under many locks; what they counted, and their rounds
 lotstress replay FILE                         a script of the model; the state that it leaves
 
-THREADS 1 to 256 (of relay 2 to 256), LOCKS 1 to 1024, PERMITS 1 to 9999, ROUNDS 0 to 10000, SEED below 2^64.
+THREADS 1 to 256 (of relay 2 to 256), LOCKS 1 to 1024, PERMITS 1 to 9999, ROUNDS 0 to 10000, SEED below 2^64;
+KEYS 1 to 10000000.
 Status: 0; 1 for words or a file that can't be taken; 2 where the model refuses an event; 3 for want of memory.
 ";
 
@@ -79,6 +82,10 @@ fn run<T: Threads + Wait + Sync>(rt: &T, alloc: Global, words: &[&str]) -> Resul
             Some(pooling) => pool(rt, alloc, &pooling),
             None => Err(Failure::BadCommandLine),
         },
+        "many" => match spreading(numbers) {
+            Some(spreading) => many(rt, alloc, &spreading),
+            None => Err(Failure::BadCommandLine),
+        },
         _ => Err(Failure::BadCommandLine),
     }
 }
@@ -113,6 +120,18 @@ fn pooling(numbers: &[&str]) -> Option<Pooling> {
     Some(Pooling {
         threads: number(threads, 1, MAX_THREADS as u64)? as usize,
         permits: number(permits, 1, MAX_PERMITS)? as u32,
+        rounds: number(rounds, 0, MAX_ROUNDS)?,
+        seed: number(seed, 0, u64::MAX)?,
+    })
+}
+
+fn spreading(numbers: &[&str]) -> Option<Spreading> {
+    let [threads, locks, rounds, seed] = numbers else {
+        return None;
+    };
+    Some(Spreading {
+        threads: number(threads, 1, MAX_THREADS as u64)? as usize,
+        locks: number(locks, 1, MOST_LOCKS as u64)? as usize,
         rounds: number(rounds, 0, MAX_ROUNDS)?,
         seed: number(seed, 0, u64::MAX)?,
     })

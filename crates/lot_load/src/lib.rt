@@ -4,6 +4,7 @@
 //! - `count`: workers lock, count and unlock.
 //! - `relay`: producers put numbers into a buffer, consumers take them, and both wait on conditions.
 //! - `pool`: workers share the permits of a semaphore.
+//! - `many`: workers lock one of many keys, count and unlock.
 //! - `replay`: the events of a script are made in the model.
 //!
 //! `run_command` runs what the words of a command line spell. Workers pass a gate at each point of a round, at which a
@@ -17,6 +18,7 @@ pub mod count;
 pub mod counter;
 pub mod gate;
 mod inside;
+mod many;
 pub mod measure;
 mod pool;
 pub mod relay;

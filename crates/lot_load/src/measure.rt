@@ -24,6 +24,6 @@ mod rounds;
 pub mod summary;
 mod times;
 mod turns;
-mod value;
+pub(crate) mod value;
 
 pub use command::run_command;

@@ -5,6 +5,8 @@
 //!   conditions; prints what was put and taken, and whether the conditions' ledger is balanced.
 //! - `lotstress pool THREADS PERMITS ROUNDS SEED`: workers share the permits of a semaphore; prints how many rounds
 //!   were done, and whether never more workers than permits were in.
+//! - `lotstress many THREADS KEYS ROUNDS SEED`: workers lock one of many keys, count and unlock; prints what all keys
+//!   counted, and how many rounds were done.
 //! - `lotstress replay FILE`: runs a script of events and prints the state that it leaves.
 //!
 //! It stands on `lot_load`, which runs them, and on `lot_command`, which reads the words and tells what came of them.
