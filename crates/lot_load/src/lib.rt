@@ -5,6 +5,7 @@
 //! - `relay`: producers put numbers into a buffer, consumers take them, and both wait on conditions.
 //! - `pool`: workers share the permits of a semaphore.
 //! - `replay`: the events of a script are made in the model.
+//! - `witness`: the same, of a script that says what was seen, which the model judges.
 //!
 //! `run_command` runs what the words of a command line spell. Workers pass a gate at each point of a round, at which a
 //! test can hold them (`Gate`); the program's holds nobody. It stands on `lot_sync` (the locks, conditions and
@@ -21,6 +22,7 @@ pub mod measure;
 mod pool;
 pub mod relay;
 mod replay;
+mod witness;
 pub mod workers;
 
 pub use command::run_command;

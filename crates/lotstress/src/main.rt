@@ -6,6 +6,7 @@
 //! - `lotstress pool THREADS PERMITS ROUNDS SEED`: workers share the permits of a semaphore; prints how many rounds
 //!   were done, and whether never more workers than permits were in.
 //! - `lotstress replay FILE`: runs a script of events and prints the state that it leaves.
+//! - `lotstress witness FILE`: says whether a script that says what was seen is a run of the model.
 //!
 //! It stands on `lot_load`, which runs them, and on `lot_command`, which reads the words and tells what came of them.
 #![tactic(auto)]
@@ -32,7 +33,7 @@ fn main(rt: HostRuntime) -> ExitCode {
         }
     };
     let file = match texts.as_slice() {
-        ["replay", path] => File::open(&rt, *path).ok(),
+        ["replay" | "witness", path] => File::open(&rt, *path).ok(),
         _ => None,
     };
     let status = run_command(
