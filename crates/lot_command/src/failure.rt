@@ -18,6 +18,9 @@ pub enum Failure {
     /// The event is counted from 1.
     #[error("event {0} refused")]
     EventRefused(usize),
+    /// The model allows the event, and it sees something else than is said of it. It is counted from 1.
+    #[error("event {0} saw otherwise")]
+    SawOtherwise(usize),
     #[error("no memory")]
     NoMemory,
     #[error("cannot start a worker")]
@@ -27,7 +30,7 @@ pub enum Failure {
 }
 
 impl Failure {
-    /// 1 for what the caller can mend, 2 for an event that the model refuses, 3 for what the machine lacks.
+    /// 1 for what the caller can mend, 2 for an event that the model does not take, 3 for what the machine lacks.
     pub fn status(self) -> u8
         ensures { (1 ≤ result) × (result ≤ 3) }
     {
@@ -37,7 +40,7 @@ impl Failure {
             | Failure::BadScriptLine(_)
             | Failure::BadLimits
             | Failure::CannotWrite => 1,
-            Failure::EventRefused(_) => 2,
+            Failure::EventRefused(_) | Failure::SawOtherwise(_) => 2,
             Failure::NoMemory | Failure::CannotStartWorker => 3,
         }
     }

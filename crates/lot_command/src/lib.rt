@@ -12,6 +12,7 @@
 //! | `BadLimits` | `bad limits` | 1 |
 //! | `CannotWrite` | `cannot write` | 1 |
 //! | `EventRefused` | `event N refused`, counted from 1 | 2 |
+//! | `SawOtherwise` | `event N saw otherwise`, counted from 1 | 2 |
 //! | `NoMemory` | `no memory` | 3 |
 //! | `CannotStartWorker` | `cannot start a worker` | 3 |
 #![tactic(auto)]
@@ -26,4 +27,4 @@ pub use arguments::{texts_of, words};
 pub use failure::Failure;
 pub use numbers::number;
 pub use outcome::{report, text_of};
-pub use script::{open_state, read_script};
+pub use script::{open_state, read_script, read_text};

@@ -8,8 +8,7 @@ use std::io::{ErrorKind, Read};
 /// The greatest length of a script file, in bytes.
 const MAX_FILE: u64 = 4_000_000;
 
-/// The script that the file holds. A file that is longer than 4,000,000 bytes, or no text, cannot be read. The whole
-/// text is parsed here, so a bad line is told before bad limits, and bad limits before a refused event.
+/// The script that the file holds. The whole text is parsed here, so a bad line is told before bad limits, and bad limits before a refused event.
 pub fn read_script<F: Read + Drop>(alloc: Global, file: F) -> Result<Script, Failure> {
     let text = read_text(alloc, file)?;
     parse_script(alloc, text.as_str()).map_err(|fault| match fault {
@@ -18,7 +17,8 @@ pub fn read_script<F: Read + Drop>(alloc: Global, file: F) -> Result<Script, Fai
     })
 }
 
-fn read_text<F: Read + Drop>(alloc: Global, file: F) -> Result<String, Failure> {
+/// The text that the file holds. A file that is longer than 4,000,000 bytes, or no text, cannot be read.
+pub fn read_text<F: Read + Drop>(alloc: Global, file: F) -> Result<String, Failure> {
     let mut bytes = Vec::new(alloc);
     let read = file.take(MAX_FILE + 1).read_to_end(&mut bytes);
     if let Err(error) = read {

@@ -5,6 +5,7 @@ use crate::many::{MOST_LOCKS, Spreading, many};
 use crate::pool::{Pooling, pool};
 use crate::relay::{Relaying, relay};
 use crate::replay::replay;
+use crate::witness::witness;
 use lot_command::{Failure, number, report, text_of};
 use lot_core::{MAX_KEYS, MAX_THREADS};
 use std::alloc::Global;
@@ -25,15 +26,17 @@ lotstress relay THREADS ROUNDS SEED           producers and consumers at a buffe
 lotstress pool THREADS PERMITS ROUNDS SEED    threads share permits; the rounds, and whether too many were in
 lotstress many THREADS KEYS ROUNDS SEED       threads count under many locks; what they counted, and their rounds
 lotstress replay FILE                         a script of the model; the state that it leaves
+lotstress witness FILE                        a script that says what was seen; whether it is a run of the model
 
 THREADS 1 to 256 (of relay 2 to 256), LOCKS 1 to 1024, PERMITS 1 to 9999, ROUNDS 0 to 10000, SEED below 2^64;
 KEYS 1 to 10000000.
-Status: 0; 1 for words or a file that can't be taken; 2 where the model refuses an event; 3 for want of memory.
+Status: 0; 1 for words or a file that can't be taken; 2 where the model refuses an event, or it saw otherwise; 3 for
+want of memory.
 ";
 
 /// Runs the command that the words spell, and answers its exit status: 0, or that of the failure whose text is written
-/// to `faults`. Nothing is written to `out` then. `file` is the file that `replay` names, where it could be opened.
-/// The one word `--help` asks what the commands are.
+/// to `faults`. Nothing is written to `out` then. `file` is the file that `replay` or `witness` names, where it could
+/// be opened. The one word `--help` asks what the commands are.
 pub fn run_command<T: Threads + Wait + Sync, F: Read + Drop, W: Write, E: Write>(
     rt: &T,
     alloc: Global,
@@ -52,9 +55,9 @@ fn answer<T: Threads + Wait + Sync, F: Read + Drop>(
     words: &[&str],
     file: Option<F>,
 ) -> Result<String, Failure> {
-    if let ["replay", _] = words {
+    if let ["replay" | "witness", _] = words {
         return match file {
-            Some(file) => replay(alloc, file),
+            Some(file) => answer_of(alloc, words[0], file),
             None => Err(Failure::CannotReadFile),
         };
     }
@@ -63,6 +66,14 @@ fn answer<T: Threads + Wait + Sync, F: Read + Drop>(
         return text_of(alloc, USAGE);
     }
     run(rt, alloc, words)
+}
+
+/// What the command of this name says of its file.
+fn answer_of<F: Read + Drop>(alloc: Global, command: &str, file: F) -> Result<String, Failure> {
+    match command {
+        "replay" => replay(alloc, file),
+        _ => witness(alloc, file),
+    }
 }
 
 fn run<T: Threads + Wait + Sync>(rt: &T, alloc: Global, words: &[&str]) -> Result<String, Failure> {

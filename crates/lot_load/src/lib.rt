@@ -6,6 +6,7 @@
 //! - `pool`: workers share the permits of a semaphore.
 //! - `many`: workers lock one of many keys, count and unlock.
 //! - `replay`: the events of a script are made in the model.
+//! - `witness`: the same, of a script that says what was seen, which the model judges.
 //!
 //! `run_command` runs what the words of a command line spell. Workers pass a gate at each point of a round, at which a
 //! test can hold them (`Gate`); the program's holds nobody. It stands on `lot_sync` (the locks, conditions and
@@ -23,6 +24,7 @@ pub mod measure;
 mod pool;
 pub mod relay;
 mod replay;
+mod witness;
 pub mod workers;
 
 pub use command::run_command;

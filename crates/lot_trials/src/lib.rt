@@ -45,3 +45,5 @@ mod texts;
 mod visits;
 #[cfg(test)]
 mod waits;
+#[cfg(test)]
+mod witnesses;

@@ -16,7 +16,7 @@ use std::thread::Threads;
 use std::{io, thread};
 
 /// Runs the words, with the file, and compares what is written and the status.
-fn check<R: Threads + Wait + Sync + Abort>(
+pub(crate) fn check<R: Threads + Wait + Sync + Abort>(
     rt: &R,
     alloc: Global,
     name: &str,
@@ -377,11 +377,12 @@ fn wrong_words_are_refused(rt: HostRuntime) {
 }
 
 /// The commands, as one of the lines that help prints begins.
-static COMMANDS: [&str; 4] = [
+static COMMANDS: [&str; 5] = [
     "lotstress count THREADS LOCKS ROUNDS SEED ",
     "lotstress relay THREADS ROUNDS SEED ",
     "lotstress pool THREADS PERMITS ROUNDS SEED ",
     "lotstress replay FILE ",
+    "lotstress witness FILE ",
 ];
 
 #[test]

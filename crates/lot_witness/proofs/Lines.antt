@@ -1,5 +1,6 @@
 -- The line of a sighting, taken apart where its last space stands.
-use Rattle.std.proofs.Common.{◌≡◌, ◌≢◌, ◌<◌, ◌+◌, ◌-◌, ◌++◌, ℕ, suc, true, false, List, [], ◌∷◌, length, length-append, get_or, take, drop, refl, sym, ap}
+use Rattle.std.proofs.Common.{◌≡◌, ◌≢◌, ◌<◌, ◌+◌, ◌-◌, ◌++◌, ℕ, suc, true, false, List, [], ◌∷◌, length, length-append, get_or, take}
+use Rattle.std.proofs.Common.{drop, refl, sym, ap}
 use Rattle.std.proofs.Common.{◌∙◌, subst, arith, inl, inr, append_assoc, Some, None}
 use Rattle.std.specs.Prelude.{codes, decimal, Option, IfSome, IfNone}
 use Rattle.std.proofs.lemmas.Bool.{cases_lt}

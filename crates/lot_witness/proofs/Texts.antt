@@ -1,5 +1,6 @@
 -- The lines of a witness, one after the other.
-use Rattle.std.proofs.Common.{◌≡◌, ◌≢◌, ◌<◌, ◌≤◌, ◌+◌, ◌-◌, ◌++◌, ◌⊎◌, ℕ, true, false, List, [], ◌∷◌, length, length-append, get_or, refl, sym, ap, subst, ◌∙◌}
+use Rattle.std.proofs.Common.{◌≡◌, ◌≢◌, ◌<◌, ◌≤◌, ◌+◌, ◌-◌, ◌++◌, ◌⊎◌, ℕ, true, false, List, [], ◌∷◌, length, length-append, get_or}
+use Rattle.std.proofs.Common.{refl, sym, ap, subst, ◌∙◌}
 use Rattle.std.proofs.Common.{Bor, arith, append_assoc, inl, inr, Some, None}
 use Rattle.std.proofs.lemmas.Str.Pattern.{IsSplitOnceResult, split_after}
 use Rattle.std.specs.Prelude.{codes, ◌==◌, not, Err}
@@ -20,7 +21,8 @@ use Rattle.lot_core.specs.Script.{Opening}
 use Rattle.lot_core.specs.Reading.{ReadsNumbers}
 use Rattle.lot_core.proofs.Openings.{opening_takes, same_opening, SameOpening}
 use Rattle.lot_witness.specs.declared.witness.Sighting.{Sighting}
-use Rattle.lot_witness.specs.Spelling.{told, TellsTruth, TellsNothing, TellsSleeper, TellsCount, IsSightOf, SpellsSighting, BeginsWith, NoSighting, BeginsWithAll, AreAll, Opens, SpellsWitness, IsBadLine}
+use Rattle.lot_witness.specs.Spelling.{told, TellsTruth, TellsNothing, TellsSleeper, TellsCount, IsSightOf, SpellsSighting, BeginsWith}
+use Rattle.lot_witness.specs.Spelling.{NoSighting, BeginsWithAll, AreAll, Opens, SpellsWitness, IsBadLine}
 use Rattle.lot_witness.specs.Spelling.{IsFirstBad, IsFaulty, Reads}
 use Rattle.lot_witness.proofs.Clean.{clean, clean_at, IsOneLine, line_is_one}
 use Rattle.lot_witness.proofs.Lines.{sighting_is_one, IsCut, IsLastSpace, cut, cut_at, space_at, behind_space, number_read}
@@ -35,7 +37,8 @@ all_push text (y ∷ xs) rest x behind (next, first, others) begins = (next, fir
 abbrev pub IsSoFar : List ℕ → List Sighting → List ℕ → ℕ → Type 0
 IsSoFar lines xs rest number = BeginsWithAll lines xs rest × (number ≡ length xs + 2)
 
-pub so_more : (lines : List ℕ) (xs : List Sighting) (rest : List ℕ) (number : ℕ) (x : Sighting) (behind : List ℕ) → IsSoFar lines xs rest number →
+pub so_more : (lines : List ℕ) (xs : List Sighting) (rest : List ℕ) (number : ℕ) (x : Sighting) (behind : List ℕ)
+    → IsSoFar lines xs rest number →
     BeginsWith rest x behind → IsSoFar lines (xs ++ x ∷ []) behind (number + 1)
 so_more lines xs rest number x behind so begins =
     (all_push lines xs rest x behind so.0 begins, omega (arith, so.1, length-append xs (x ∷ [])))
@@ -68,7 +71,8 @@ same_front (x ∷ a) [] b b' clean_a clean_a' is = absurd (clean_at 10 (x ∷ a)
 same_front (x ∷ a) (y ∷ a') b b' clean_a clean_a' is =
     let head : x ≡ y = cc in
     let tail : a ++ (10 ∷ b) ≡ a' ++ (10 ∷ b') = cc in
-    let more = same_front a a' b b' (and_parts (not (x == 10)) (clean 10 a) clean_a).1 (and_parts (not (y == 10)) (clean 10 a') clean_a').1 tail in
+    let more = same_front a a' b b' (and_parts (not (x == 10)) (clean 10 a) clean_a).1
+    (and_parts (not (y == 10)) (clean 10 a') clean_a').1 tail in
     (ap (λ k. k ∷ a) head ∙ ap (λ bs. y ∷ bs) more.0, more.1)
 
 pub opening_is_one : (first : List ℕ) (n l c : ℕ) (ps : List ℕ) → Opening first n l c ps → IsOneLine first
@@ -249,8 +253,8 @@ not_bad text n l c ps xs number is (inr (n', l', c', ps', lines', opens', bad)) 
     let left = beyond lines' xs bad.xs bad.rest (subst (λ t. BeginsWithAll t xs []) same.rest is.each.0) bad.good in
     none_left left.more left.parts left.each bad.why
   where
-    none_left : (more : List Sighting) → xs ≡ bad.xs ++ more → BeginsWithAll bad.rest more [] → NoSighting bad.rest ⊎ (number ≡ MAX_LINES + 1)
-        → ⊥
+    none_left : (more : List Sighting) → xs ≡ bad.xs ++ more → BeginsWithAll bad.rest more []
+        → NoSighting bad.rest ⊎ (number ≡ MAX_LINES + 1) → ⊥
     none_left [] parts none why = bad.some none
     none_left (x ∷ more) parts (behind, first, others) (inl none) = none x behind first
     none_left (x ∷ more) parts each (inr last) =

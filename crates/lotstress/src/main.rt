@@ -8,6 +8,7 @@
 //! - `lotstress many THREADS KEYS ROUNDS SEED`: workers lock one of many keys, count and unlock; prints what all keys
 //!   counted, and how many rounds were done.
 //! - `lotstress replay FILE`: runs a script of events and prints the state that it leaves.
+//! - `lotstress witness FILE`: says whether a script that says what was seen is a run of the model.
 //!
 //! It stands on `lot_load`, which runs them, and on `lot_command`, which reads the words and tells what came of them.
 #![tactic(auto)]
@@ -34,7 +35,7 @@ fn main(rt: HostRuntime) -> ExitCode {
         }
     };
     let file = match texts.as_slice() {
-        ["replay", path] => File::open(&rt, *path).ok(),
+        ["replay" | "witness", path] => File::open(&rt, *path).ok(),
         _ => None,
     };
     let status = run_command(

@@ -18,7 +18,8 @@ pub returns-in-Err-NoMemory-clause-err : goal.returns-in-Err-NoMemory-clause-err
 returns-in-Err-NoMemory-clause-err c = (
   c.loop-before.before,
   so_stops (world_of c.args.state.now) (world_of c.loop-before.state) c.args.sightings.now c.loop-before.before _ LacksMemory
-      c.loop-before.invariant c.loop-before-test.true (lacks _ _ _ c.in-Err-NoMemory.field-0 c.in-Err-NoMemory.ensures c.in-Err-NoMemory.field-0-is),
+      c.loop-before.invariant c.loop-before-test.true
+      (lacks _ _ _ c.in-Err-NoMemory.field-0 c.in-Err-NoMemory.ensures c.in-Err-NoMemory.field-0-is),
 )
 
 pub returns-in-Err-NotEnabled-clause-err : goal.returns-in-Err-NotEnabled-clause-err
@@ -26,7 +27,8 @@ returns-in-Err-NotEnabled-clause-err c = (
   c.loop-before.before,
   refl,
   so_stops (world_of c.args.state.now) (world_of c.loop-before.state) c.args.sightings.now c.loop-before.before _ IsNotAllowed
-      c.loop-before.invariant c.loop-before-test.true (refuses _ _ _ c.in-Err-NotEnabled.field-0 c.in-Err-NotEnabled.ensures c.in-Err-NotEnabled.field-0-is),
+      c.loop-before.invariant c.loop-before-test.true
+      (refuses _ _ _ c.in-Err-NotEnabled.field-0 c.in-Err-NotEnabled.ensures c.in-Err-NotEnabled.field-0-is),
 )
 
 pub loop-before-preserved : goal.loop-before-preserved

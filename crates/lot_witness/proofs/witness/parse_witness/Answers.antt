@@ -25,7 +25,8 @@ returns-in_default-split_once c =
     c.in-Ok.behind.now lines (sym (ap open_at c.as_bytes.ensures.value) ∙ sym c.in-Some.ensures) c.in-Ok.ensures.0
     (sym c.in-Some-end.ensures) in
     let splits = opening_splits c.args.text.now c.in-Some.threads c.in-Some.locks c.in-Some.conds c.in-Ok.permits.items lines opens in
-    absurd (split_after 10 c.args.text.now splits.0 lines None (c.in_default-split_once.ensures {u = tt}).cases (omega arith) splits.1 splits.2)
+    absurd (split_after 10 c.args.text.now splits.0 lines None (c.in_default-split_once.ensures {u = tt}).cases (omega arith)
+    splits.1 splits.2)
 
 pub returns-in-Err : goal.returns-in-Err
 returns-in-Err c =

@@ -1,0 +1,166 @@
+//! `lotstress witness`: its texts and statuses.
+
+use crate::texts::check;
+use std::alloc::{AllocError, Global};
+use std::process::Abort;
+use std::sync::Wait;
+use std::test::Fail;
+use std::thread::Threads;
+
+/// A witness, what is printed of it, the fault, and the status.
+static WITNESSES: [(&str, &str, &str, &str, u8); 13] = [
+    ("nothing_happened", "open 1 1 0\n", "events 0\nwitnessed\n", "", 0),
+    (
+        "handoff",
+        "open 2 1 0\ntake 0 0 true\ntake 1 0 false\nmark 1 0 done\npark 1 0 true\npass 0 0 1 0 1\n",
+        "events 5\nwitnessed\n",
+        "",
+        0,
+    ),
+    (
+        "marked_and_passed_to_nobody",
+        "open 2 1 0\ntry 0 0 true\ntake 1 0 false\nmark 1 0 done\nfree 0 0 false\npass 0 0 0 0 -\npark 1 0 false\n",
+        "events 6\nwitnessed\n",
+        "",
+        0,
+    ),
+    (
+        "called",
+        "open 2 1 1\ntake 0 0 true\nenlist 0 1 0 done\nfree 0 0 true\nlook 1 1 true\ncall 1 1 0 1\ntake 0 0 true\n",
+        "events 6\nwitnessed\n",
+        "",
+        0,
+    ),
+    (
+        "swept",
+        "open 2 1 1\ntake 0 0 true\nenlist 0 1 0 done\nfree 0 0 true\nlower 1 1 done\nsweep 1 1 1\nsome 1 1 2 1 0\n",
+        "events 6\nwitnessed\n",
+        "",
+        0,
+    ),
+    (
+        "permit_passed_on",
+        "open 2 1 0 1\nstake 0 1 true\nstake 1 1 false\nsmark 1 1 done\nspark 1 1 true\nsfree 0 1 false\nspass 0 1 0 1\nsclear 0 1 done\n",
+        "events 7\nwitnessed\n",
+        "",
+        0,
+    ),
+    (
+        "an_unheld_lock_that_was_missed",
+        "open 1 1 0\ntake 0 0 false\n",
+        "",
+        "event 1 saw otherwise\n",
+        2,
+    ),
+    (
+        "handed_to_another",
+        "open 3 1 0\ntake 0 0 true\ntake 1 0 false\nmark 1 0 done\npark 1 0 true\npass 0 0 1 0 2\n",
+        "",
+        "event 5 saw otherwise\n",
+        2,
+    ),
+    (
+        "one_called_more",
+        "open 2 1 1\ntake 0 0 true\nenlist 0 1 0 done\nfree 0 0 true\ncall 1 1 0 2\n",
+        "",
+        "event 4 saw otherwise\n",
+        2,
+    ),
+    (
+        "freed_by_another",
+        "open 2 1 0\ntake 0 0 true\nfree 1 0 true\ntake 0 0 true\n",
+        "",
+        "event 2 refused\n",
+        2,
+    ),
+    ("bad_limits", "open 0 1 0\n", "", "bad limits\n", 1),
+    (
+        "bad_line_before_bad_limits",
+        "open 257 1 0\ntake 0 0\n",
+        "",
+        "bad script line 2\n",
+        1,
+    ),
+    (
+        "bad_line_before_a_refused_event",
+        "open 1 1 0\nfree 0 0 true\ntake 0 0 0\n",
+        "",
+        "bad script line 3\n",
+        1,
+    ),
+];
+
+/// Judges the witness, and compares what is written and the status.
+fn judge<R: Threads + Wait + Sync + Abort>(
+    rt: &R,
+    alloc: Global,
+    name: &str,
+    witness: &str,
+    want: (&str, &str, u8),
+) {
+    let words = ["witness", "f"];
+    check(rt, alloc, name, &words, Some(witness.as_bytes()), want);
+}
+
+#[test]
+fn witnesses_are_judged(rt: HostRuntime) {
+    for (name, witness, out, fault, status) in &WITNESSES {
+        judge(&rt, rt.alloc(), name, witness, (*out, *fault, *status));
+    }
+    let want = ("", "cannot read file\n", 1);
+    check(&rt, rt.alloc(), "no such file", &["witness", "f"], None, want);
+}
+
+/// Second lines that are no lines of a witness that opens one lock, one condition and one semaphore.
+static BAD_LINES: [&str; 14] = [
+    "take 0 0",
+    "take 0 0 ",
+    "take 0 0 done",
+    "take 0 0 1",
+    "take 0 0 True",
+    "take 0 0  true",
+    "take 0 0 true ",
+    "take true",
+    "mark 0 0 -",
+    "pass 0 0 0 0 true",
+    "pass 0 0 0 0 00",
+    "call 0 1 0 10000",
+    "call 0 1 0 -",
+    "",
+];
+
+#[test]
+fn what_an_event_cannot_see_is_no_line(rt: HostRuntime) -> Result<(), Fail> {
+    let alloc = rt.alloc();
+    let want = ("", "bad script line 2\n", 1);
+    for line in &BAD_LINES {
+        let witness = format!(in alloc; "open 1 1 1 1\n{line}\n")?;
+        judge(&rt, alloc, line, witness.as_str(), want);
+    }
+    judge(&rt, alloc, "cut", "open 1 1 0\ntake 0 0 true", want);
+    let want = ("", "bad script line 1\n", 1);
+    judge(&rt, alloc, "empty", "", want);
+    judge(&rt, alloc, "opening", "open 1 1 0 true\n", want);
+    Ok(())
+}
+
+/// A witness of so many lines after the first.
+fn long_witness(alloc: Global, lines: u32) -> Result<String, AllocError> {
+    let mut witness = String::from_str(alloc, "open 1 1 1\n")?;
+    for _ in 0..lines {
+        witness.push_str("look 0 1 false\n")?;
+    }
+    Ok(witness)
+}
+
+#[test]
+fn longest_witnesses(rt: HostRuntime) -> Result<(), Fail> {
+    let alloc = rt.alloc();
+    let longest = long_witness(alloc, 99_999)?;
+    let want = ("events 99999\nwitnessed\n", "", 0);
+    judge(&rt, alloc, "longest", longest.as_str(), want);
+    let longer = long_witness(alloc, 100_000)?;
+    let want = ("", "bad script line 100001\n", 1);
+    judge(&rt, alloc, "a line too many", longer.as_str(), want);
+    Ok(())
+}
