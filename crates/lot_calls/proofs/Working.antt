@@ -1,5 +1,5 @@
 -- Passes that came back from their work, and what lies in the lot then.
-use Rattle.std.proofs.Common.{◌≡◌, ℕ, ◌<◌, List, [], ◌∷◌, zero, suc, length, map, get_or, slice_get, Some, refl, sym, ap, ap₂, subst, ◌∙◌}
+use Rattle.std.proofs.Common.{◌≡◌, ℕ, ◌<◌, Bool, true, false, MatchBool, List, [], ◌∷◌, zero, suc, length, map, get_or, slice_get, Some, refl, sym, ap, ap₂, subst, ◌∙◌}
 use Rattle.std.proofs.Common.{arith}
 use Rattle.std.specs.List.{sum_by, All}
 use mathlib.Core.Option.{some}
@@ -9,7 +9,7 @@ use Rattle.lot_sync.specs.Lot.{LotNames, LotView, PassView}
 use Rattle.lot_sync.specs.Values.{GoesOnTo}
 use Rattle.lot_calls.specs.Visits.{own_parts}
 use Rattle.lot_calls.specs.Finished.{IsReady, AreTaken, IsFinished}
-use Rattle.lot_calls.specs.Workers.{EachBecomes, ComesBack, AreBack, EndsIn, HasWorked}
+use Rattle.lot_calls.specs.Workers.{EachBecomes, ComesBack, AreBack, MayLeave, EndsIn, HasWorked}
 use Rattle.lot_calls.proofs.Sums.{sum_below, sum_below_alike, sum_of_parts}
 
 -- two lists of which as much is told at each place
@@ -74,9 +74,33 @@ module _ {V Part : Type 0} (rule : CallersRule V Part) (opening : List V) (lot :
         after = q;
         ready = subst (IsReady rule opening lot) there.3 (taken.ready there.0 p there.2);
         worked = subst (λ x. becomes x q) there.3 (each.each there.0 p there.2);
+        same_thread = same;
         goes_on = end.goes_on;
         own = subst (λ n. map (rule.part n) values ≡ own_parts rule q) same end.own;
       }
+
+-- passes that were ready, and were worked with or not, may leave, where the work gives back such
+pub may_leave : {V Part : Type 0} (rule : CallersRule V Part) {opening : List V} {lot : LotView} {becomes : PassView V → PassView V → Type 0}
+    (xs ys : List (PassView V)) (worked : Bool)
+    → All (IsReady rule opening lot) xs → MatchBool worked (EachBecomes becomes xs ys) (ys ≡ xs)
+    → ((p q : PassView V) → IsReady rule opening lot p → becomes p q → MayLeave rule q)
+    → All (MayLeave rule) ys
+may_leave rule xs ys true ready each may = λ i d near.
+    let near' : i < length xs = omega (arith, near, each.count) in may (get_or xs i d) (get_or ys i d) (ready i d near') (each.each i d near')
+may_leave rule xs ys false ready same may =
+    subst (All (MayLeave rule)) (sym same) (λ i d near. let r = ready i d near in record { free = r.free; rests = r.rests })
+
+-- and all passes, which were worked with or not, are back
+pub are_back_anyway : {V Part : Type 0} (rule : CallersRule V Part) {opening : List V} {lot : LotView} {becomes : PassView V → PassView V → Type 0}
+    (xs ys : List (PassView V)) (worked : Bool)
+    → AreTaken rule opening lot xs → MatchBool worked (EachBecomes becomes xs ys) (ys ≡ xs)
+    → ((p q : PassView V) → IsReady rule opening lot p → becomes p q → ComesBack lot p q)
+    → AreBack lot ys
+are_back_anyway rule {opening} {lot} {becomes} xs ys true taken each back = are_back rule opening lot becomes xs ys taken each back
+are_back_anyway rule {opening} {lot} {becomes} xs ys false taken same back =
+    are_back rule opening lot (λ p q. q ≡ p) xs ys taken
+    (subst (EachBecomes (λ p q. q ≡ p) xs) (sym same) (record { count = refl; each = λ i d near. refl })) (λ p q ready is. subst (ComesBack lot p)
+    (sym is) (record { same_thread = refl; free = ready.free; shape = ready.shape }))
 
 module _ {V Part : Type 0} (rule : CallersRule V Part) (names : LotNames V) (lot : LotView) where
   -- a lot that was finished, as one whose passes came back as they were taken

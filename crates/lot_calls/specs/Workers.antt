@@ -2,7 +2,7 @@
 use Rattle.std.specs.Prelude.{◌≡◌, ℕ, ◌<◌, List, length, map, slice_index_or}
 use Rattle.std.specs.List.{All, Any}
 use Rattle.lot_words.specs.CallersRule.{CallersRule}
-use Rattle.lot_sync.specs.Lot.{LotView, PassView, OwnsNone, HasShape}
+use Rattle.lot_sync.specs.Lot.{LotView, PassView, OwnsNone, HasShape, rested}
 use Rattle.lot_sync.specs.Values.{GoesOnTo}
 use Rattle.lot_calls.specs.Visits.{own_parts}
 use Rattle.lot_calls.specs.Finished.{IsReady}
@@ -27,6 +27,11 @@ module _ {V : Type 0} (lot : LotView) where
     pub shape : All (HasShape lot) passes
 
 module _ {V Part : Type 0} (rule : CallersRule V Part) where
+  -- a pass with which its thread may leave: it owns nothing, and keeps what passes that are in keep
+  pub record MayLeave (p : PassView V) : Type 0 where
+    pub free : OwnsNone p
+    pub rests : rule.rests (rested p)
+
   -- the values go on from all that the pass had seen, and have its own parts as it saw them
   pub record EndsIn (values : List V) (p : PassView V) : Type 0 where
     pub goes_on : GoesOnTo rule values p
@@ -39,5 +44,6 @@ module _ {V Part : Type 0} (rule : CallersRule V Part) where
     pub after : PassView V
     pub ready : IsReady rule opening lot before
     pub worked : becomes before after
+    pub same_thread : after.thread ≡ thread
     pub goes_on : GoesOnTo rule values after
     pub own : map (rule.part thread) values ≡ own_parts rule after

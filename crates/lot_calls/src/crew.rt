@@ -15,7 +15,7 @@ use std::thread::{Threads, join_mut};
 
 /// Does the work with each, in a thread of its own where one can be started: what the work gave back lies in its place
 /// then. `work_all(rt, &|pass| count(rt, &lot, pass), &mut passes);`. What one waits for may not be another's to do,
-/// except that it lets a lock go.
+/// except that it lets a lock go: else call `work_together`, which may find that a thread can't be started.
 #[cycle(workers)]
 pub fn work_all<P: Send, T: Threads + Sync, F: Fn(P) -> P + Sync>(
     rt: &T,

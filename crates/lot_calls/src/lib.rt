@@ -12,17 +12,25 @@
 //! | `take_all` | `take_left` for each thread |
 //! | `finish` | `take_all`, then `close` |
 //! | `work_all` | the caller's work with each of a list of passes, in threads |
+//! | `work_together` | the same, of which one may wait for what another does |
 //! | `close_with` | `close` with passes that came back from such work |
+//! | `start_with_room` | `start`, and room for all passes |
+//! | `start_with_passes` | `start_with_room`, and `register` for each thread |
+//! | `leave_all` | `leave` with each of a list of passes |
 #![tactic(auto)]
 
 mod both;
 mod crew;
 mod finishing;
+mod together;
 mod until;
 mod with;
+mod workers;
 
 pub use both::with_both;
 pub use crew::{close_with, work_all};
 pub use finishing::{finish, take_all};
+pub use together::work_together;
 pub use until::{lock_until, wait_until};
 pub use with::{with_lock, with_value};
+pub use workers::{leave_all, start_with_passes, start_with_room};

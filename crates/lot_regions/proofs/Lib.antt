@@ -1,2 +1,3 @@
 mod Watching
 mod Leaving
+pub mod Conds

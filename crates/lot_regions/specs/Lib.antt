@@ -1,3 +1,4 @@
 pub mod Watch
 pub mod Words
 pub mod Regions
+pub mod Conds

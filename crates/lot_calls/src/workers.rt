@@ -1,0 +1,109 @@
+//! A lot for workers, from its start to its end.
+ghost use Rattle.std.specs.Prelude.{◌≡◌, ◌≤◌, true, IfOk, IfErr, length, vec_len, vec_capacity};
+ghost use Rattle.std.specs.List.{All};
+ghost use Rattle.lot_sync.specs.Lot.{PassView, rested};
+ghost use Rattle.lot_sync.specs.Opened.{IsNamed};
+ghost use Rattle.lot_sync.specs.Starting.{Starts};
+ghost use Rattle.lot_calls.specs.Finished.{IsReady};
+ghost use Rattle.lot_calls.specs.Workers.{MayLeave};
+
+use crate::finishing::finish;
+use lot_sync::{Lot, LotName, Opened, Pass};
+use lot_words::Keeps;
+use std::alloc::Global;
+use std::sync::Wait;
+
+/// Starts the lot, with room for the passes of its threads, which `take_all` and its end ask for:
+/// `start_with_room::<V, N>(alloc, threads, opened)`. Where memory was refused, the values come back.
+pub fn start_with_room<V: Keeps + Send, N: LotName<V> + Send>(
+    alloc: Global,
+    threads: usize,
+    opened: Opened<V>,
+) -> Result<(Lot<V, N>, Vec<Pass<V, N>>), Vec<V>>
+    requires named { IsNamed N.LotName opened }
+    requires threads { opened.threads ≡ threads }
+    requires rests { (p : PassView V) → Starts opened.values opened.threads p → V.rests (rested p) }
+    ensures lot { IfOk result (λ r. (r.0.threads ≡ opened.threads) × (r.0.locks ≡ length opened.values)
+        × (r.0.conds ≡ opened.conds) × (r.0.sems ≡ length opened.permits)) }
+    ensures room { IfOk result (λ r. (vec_len r.1 ≡ 0) × (r.0.threads ≤ vec_capacity r.1)) }
+    ensures back { IfErr result (λ values. values.items ≡ opened.values) }
+{
+    let Ok(room) = Vec::with_capacity(alloc, threads) else {
+        return Err(opened.close());
+    };
+    match opened.start::<N>(alloc) {
+        Ok(lot) => Ok((lot, room)),
+        Err((_, values)) => {
+            room.destroy_empty();
+            Err(values)
+        }
+    }
+}
+
+/// Starts the lot, and registers for each of its threads: `start_with_passes::<V, N, T>(rt, alloc, threads, opened)`. The
+/// passes are for workers (`work_together`), and have a list with room for all. Where memory was refused, the values come
+/// back.
+pub fn start_with_passes<V: Keeps + Send, N: LotName<V> + Send, T: Wait>(
+    rt: &T,
+    alloc: Global,
+    threads: usize,
+    opened: Opened<V>,
+) -> Result<(Lot<V, N>, Vec<Pass<V, N>>), Vec<V>>
+    requires named { IsNamed N.LotName opened }
+    requires threads { opened.threads ≡ threads }
+    requires rests { (p : PassView V) → Starts opened.values opened.threads p → V.rests (rested p) }
+    ensures lot { IfOk result (λ r. (r.0.threads ≡ opened.threads) × (r.0.locks ≡ length opened.values)
+        × (r.0.conds ≡ opened.conds) × (r.0.sems ≡ length opened.permits)) }
+    ensures ready { IfOk result (λ r. All (IsReady V.Keeps N.values r.0) r.1.items) }
+    ensures all { IfOk result (λ r. (vec_len r.1 ≡ r.0.threads) × (r.0.threads ≤ vec_capacity r.1)) }
+    ensures back { IfErr result (λ values. vec_len values ≡ length opened.values) }
+{
+    let (lot, room) = match start_with_room::<V, N>(alloc, threads, opened) {
+        Ok(started) => started,
+        Err(values) => return Err(values),
+    };
+    let (passes, registered) = register_all(rt, &lot, room);
+    if registered {
+        Ok((lot, passes))
+    } else {
+        let room = leave_all(rt, &lot, passes);
+        Err(finish(rt, lot, room).0)
+    }
+}
+
+/// Registers for each thread of the lot, until one gets no pass, and answers whether all got one: the list has room for
+/// all passes.
+fn register_all<V: Keeps + Send, N: LotName<V> + Send, T: Wait>(
+    rt: &T,
+    lot: &Lot<V, N>,
+    mut passes: Vec<Pass<V, N>>,
+) -> (Vec<Pass<V, N>>, bool)
+    requires room { (vec_len passes ≡ 0) × (lot.now.threads ≤ vec_capacity passes) }
+    ensures capacity { vec_capacity result.0 ≡ vec_capacity passes }
+    ensures ready { All (IsReady V.Keeps N.values lot.now) result.0.items }
+    ensures all { (result.1 ≡ true) → vec_len result.0 ≡ lot.now.threads }
+{
+    for _ in 0..lot.threads() {
+        match lot.register(rt) {
+            Ok(pass) => passes.push_reserved(pass),
+            Err(_) => return (passes, false),
+        }
+    }
+    (passes, true)
+}
+
+/// Leaves with each pass, and gives the list back, whose room `finish` asks for:
+/// `let room = leave_all(rt, &lot, passes);`.
+pub fn leave_all<V: Keeps + Send, N: LotName<V> + Send, T: Wait>(
+    rt: &T,
+    lot: &Lot<V, N>,
+    mut passes: Vec<Pass<V, N>>,
+) -> Vec<Pass<V, N>>
+    requires leave { All (MayLeave V.Keeps) passes.items }
+    ensures left { (vec_len result ≡ 0) × (vec_capacity result ≡ vec_capacity passes) }
+{
+    while let Some(pass) = passes.pop() {
+        lot.leave(rt, pass);
+    }
+    passes
+}
