@@ -12,8 +12,9 @@ use std::sync::Wait;
 
 /// Gets the lock, works on its value, and lets the lock go:
 /// `let (pass, ()) = with_lock(rt, lot, pass, 0, now, |n| *n += 1);`. The pass may own other locks, and hold permits,
-/// that lie below this lock in the order of `V`. It waits as `lock` and `unlock` do, and the moment is that of the unlock. Of the value that it finds the work may take what the pass knows
-/// of it (`Finds`): it goes on from all that the pass had seen of it, and has its own part unchanged.
+/// that lie below this lock in the order of `V`. It waits as `lock` and `unlock` do, and the moment is that of the
+/// unlock. Of the value that it finds the work may take what the pass knows of it (`Finds`): it goes on from all that
+/// the pass had seen of it, and has its own part unchanged.
 pub fn with_lock<V: Keeps + Send, O, N: LotName<V> + Send, T: Wait, F: FnOnce(&mut V) -> O>(
     rt: &T,
     lot: &Lot<V, N>,
