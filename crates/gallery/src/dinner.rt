@@ -1,7 +1,8 @@
 //! Dinner: five philosophers at a round table, with a fork between any two. Each eats with the two forks beside his seat
 //! and gets the lower first, so no circle of them waits.
-ghost use Rattle.std.specs.Prelude.{◌≡◌, ◌<◌, ◌≤◌, List, Option, length, vec_len, vec_capacity};
+ghost use Rattle.std.specs.Prelude.{◌≡◌, ◌<◌, ◌≤◌, ℕ, List, Option, length, vec_len, vec_capacity};
 ghost use Rattle.atomic_table.specs.Table.{State};
+ghost use Rattle.lot_order.specs.Order.{Rises};
 ghost use Rattle.lot_order.specs.Waiting.{HasNoCircle, SomeoneGoesOn};
 ghost use Rattle.lot_rights.specs.declared.views.Right.{Right};
 ghost use Rattle.lot_rights.specs.Rule.{Ruled};
@@ -55,14 +56,15 @@ impl Keeps for Fork {
     ghost grows_on = { λ x y z p q. tt };
 }
 
-/// At each moment of a dinner no philosophers wait for one another in a circle, and while one needs a fork some
-/// philosopher goes on.
-pub fn no_circle_waits()
-    ensures { (z : LotSize) (forks : List Fork) (s : State (Option Fork) (List (Right (LotPassView Fork) LotRootView)))
-        (here : Ruled (lot_meaning Fork.Keeps z forks) s) → (one : OneState Fork.Keeps z forks s here)
-        × HasNoCircle one.state × SomeoneGoesOn Fork.above one.state }
+/// Where keys rise by some level, as forks do: at each moment no threads wait for one another in a circle, and while
+/// one needs a key some thread goes on.
+pub fn no_circle_waits<V: Keeps>()
+    requires rises { (level : ℕ → ℕ) × Rises V.above level }
+    ensures { (z : LotSize) (values : List V) (s : State (Option V) (List (Right (LotPassView V) LotRootView)))
+        (here : Ruled (lot_meaning V.Keeps z values) s) → (one : OneState V.Keeps z values s here)
+        × HasNoCircle one.state × SomeoneGoesOn V.above one.state }
 {
-    one_state_at_every_moment::<Fork>();
+    one_state_at_every_moment::<V>();
 }
 
 /// The lower and the higher of the two forks beside a seat.
@@ -126,7 +128,7 @@ pub fn end<N: LotName<Fork> + Send, T: Wait>(
 
 /// Five philosophers eat.
 pub fn run<T: Threads + Wait + Sync>(rt: &T, alloc: Global) -> Result<u64, Failure> {
-    no_circle_waits();
+    no_circle_waits::<Fork>();
     let forks = vec![in alloc; Fork { meals: [0; SEATS] }; SEATS]?;
     run_on::<Brand, T>(rt, open(alloc, SEATS, forks, 0, &[])?)
 }

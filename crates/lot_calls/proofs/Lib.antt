@@ -1,6 +1,6 @@
 pub mod Visiting
 pub mod Waiting
-mod Nesting
+pub mod Nesting
 pub mod Sums
 pub mod Working
 mod Taking

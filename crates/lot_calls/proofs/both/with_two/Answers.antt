@@ -1,9 +1,9 @@
 use Rattle.std.proofs.Common.{sym, ap, subst, ◌∙◌}
-use Rattle.lot_sync.specs.Lot.{PassView, Owns, permits_with}
+use Rattle.lot_sync.specs.Lot.{PassView}
 use Rattle.lot_sync.proofs.Below.{got_below}
 use Rattle.lot_calls.specs.Visits.{MayBecome, Finds, VisitsBoth}
 use Rattle.lot_calls.proofs.Visiting.{visit_made, finds_got}
-use Rattle.lot_calls.proofs.Nesting.{finds_second, back_second, back_first, visits_both, nested_made}
+use Rattle.lot_calls.proofs.Nesting.{finds_second, back_second, back_first, visits_both, free_after_both, nested_made}
 use Rattle.lot_calls.proofs.both.with_two.Goals as goal
 
 pub lock-pass-requires-2-clause-above : goal.lock-pass-requires-2-clause-above
@@ -125,9 +125,4 @@ returns-clause-made g c =
     c.unlock-pass-2.ensures.made
 
 pub returns-clause-free : goal.returns-clause-free
-returns-clause-free g c = λ none.
-    let same = (returns-clause-visits g c).5.after_is in
-    record {
-      no_lock = λ k owned. none.no_lock k (subst (λ (p : PassView g.row.V.Denot). Owns p k) same owned);
-      no_permit = λ k. ap (λ (p : PassView g.row.V.Denot). permits_with p k) same ∙ none.no_permit k;
-    }
+returns-clause-free g c = free_after_both c.args.pass c.unlock-pass-2.result.0 _ (returns-clause-visits g c).5.after_is
