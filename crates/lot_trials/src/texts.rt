@@ -51,7 +51,7 @@ fn check_replays<R: Threads + Wait + Sync + Abort>(
 }
 
 /// Runs the words of each row, which are no command line.
-fn check_refusals<R: Threads + Wait + Sync + Abort>(
+pub(crate) fn check_refusals<R: Threads + Wait + Sync + Abort>(
     rt: &R,
     alloc: Global,
     rows: &[(&str, &[&str])],
@@ -63,7 +63,7 @@ fn check_refusals<R: Threads + Wait + Sync + Abort>(
 }
 
 /// Runs the words of each row, and compares what is printed.
-fn check_runs<R: Threads + Wait + Sync + Abort>(
+pub(crate) fn check_runs<R: Threads + Wait + Sync + Abort>(
     rt: &R,
     alloc: Global,
     rows: &[(&str, &[&str], &str)],
@@ -377,10 +377,11 @@ fn wrong_words_are_refused(rt: HostRuntime) {
 }
 
 /// The commands, as one of the lines that help prints begins.
-static COMMANDS: [&str; 4] = [
+static COMMANDS: [&str; 5] = [
     "lotstress count THREADS LOCKS ROUNDS SEED ",
     "lotstress relay THREADS ROUNDS SEED ",
     "lotstress pool THREADS PERMITS ROUNDS SEED ",
+    "lotstress many THREADS KEYS ROUNDS SEED ",
     "lotstress replay FILE ",
 ];
 
