@@ -387,7 +387,10 @@ pub(crate) fn raise<N: LotName<Count> + Send + Sync>(
 #[derive(Clone, Copy)]
 pub(crate) enum Gathered {
     Left,
+    /// In a table that grows as threads register.
     Registered,
+    /// In a table that has this size all along.
+    RegisteredAt(usize),
 }
 
 fn next_pass<N: LotName<Count> + Send + Sync, T: Wait + Abort>(
@@ -402,7 +405,8 @@ fn next_pass<N: LotName<Count> + Send + Sync, T: Wait + Abort>(
 {
     match how {
         Gathered::Left => take_pass(rt, lot, thread),
-        Gathered::Registered => next_registered(rt, lot, thread),
+        Gathered::Registered => next_registered(rt, lot, thread, wanted_size(thread)),
+        Gathered::RegisteredAt(size) => next_registered(rt, lot, thread, size),
     }
 }
 
@@ -476,13 +480,14 @@ fn next_registered<N: LotName<Count> + Send + Sync, T: Wait + Abort>(
     rt: &T,
     lot: &mut Lot<Count, N>,
     thread: usize,
+    size: usize,
 ) -> Pass<Count, N>
     ensures same { lot.new ≡ lot.old }
     ensures thread { result.thread ≡ thread }
     ensures free { OwnsNone result }
 {
     let pass = enter(rt, lot);
-    equal(rt, lot.table_size(rt), wanted_size(thread));
+    equal(rt, lot.table_size(rt), size);
     let given = pass.thread();
     if given == thread {
         pass

@@ -24,6 +24,8 @@ mod history;
 #[cfg(test)]
 mod ledger;
 #[cfg(test)]
+mod many;
+#[cfg(test)]
 mod measures;
 #[cfg(test)]
 mod passes;

@@ -1,5 +1,5 @@
 //! Worked rows of locks, with the words that they leave, and what an opening refuses.
-ghost use Rattle.std.specs.Prelude.{◌≡◌, ◌<◌, length, vec_len};
+ghost use Rattle.std.specs.Prelude.{◌≡◌, ◌<◌, length, IfOk};
 ghost use Rattle.lot_sync.specs.Lot.{OwnsNone};
 ghost use Rattle.lot_sync.specs.Opened.{IsNamed};
 
@@ -577,15 +577,16 @@ fn started_and_closed<N: LotName<Count> + Send + Sync, T: Wait + Abort>(
     }
 }
 
-fn opened_and_closed<T: Wait + Abort>(
+/// Starts what was opened for one thread, and closes it; the values that come back, also from what was refused.
+pub(crate) fn opened_and_closed<T: Wait + Abort>(
     rt: &T,
     alloc: Global,
-    values: Vec<Count>,
+    outcome: Result<Opened<Count>, (OpenFault, Vec<Count>)>,
     memory: Memory,
 ) -> Vec<Count>
-    requires { 0 < vec_len values }
+    requires { IfOk outcome (λ o. (o.threads ≡ 1) × (0 < length o.values)) }
 {
-    match Lot::<Count, Brand>::open(alloc, 1, values, 0) {
+    match outcome {
         Ok(opened) => started_and_closed::<Brand, T>(rt, alloc, opened, memory),
         Err((fault, values)) => {
             equal(rt, fault, OpenFault::NoMemory);
@@ -601,7 +602,8 @@ fn one_of_each<T: Wait + Abort>(rt: &T, alloc: Global, memory: Memory) {
         may_be_refused(rt, memory);
         return;
     };
-    let values = opened_and_closed(rt, alloc, values, memory);
+    let opened = Lot::<Count, Brand>::open(alloc, 1, values, 0);
+    let values = opened_and_closed(rt, alloc, opened, memory);
     is_so(rt, values.len() == 1, "one value comes back");
     equal(rt, values[0].n, 7);
 }
@@ -624,6 +626,7 @@ fn all_values_come_back_in_order(rt: HostRuntime) {
         return;
     };
     values[1] = Count { n: 8 };
-    let values = opened_and_closed(&rt, rt.alloc(), values, Memory::MayBeRefused);
+    let opened = Lot::<Count, Brand>::open(rt.alloc(), 1, values, 0);
+    let values = opened_and_closed(&rt, rt.alloc(), opened, Memory::MayBeRefused);
     two_are(&rt, values.as_slice(), (7, 8));
 }

@@ -51,7 +51,7 @@ fn check_replays<R: Threads + Wait + Sync + Abort>(
 }
 
 /// Runs the words of each row, which are no command line.
-fn check_refusals<R: Threads + Wait + Sync + Abort>(
+pub(crate) fn check_refusals<R: Threads + Wait + Sync + Abort>(
     rt: &R,
     alloc: Global,
     rows: &[(&str, &[&str])],
@@ -63,7 +63,7 @@ fn check_refusals<R: Threads + Wait + Sync + Abort>(
 }
 
 /// Runs the words of each row, and compares what is printed.
-fn check_runs<R: Threads + Wait + Sync + Abort>(
+pub(crate) fn check_runs<R: Threads + Wait + Sync + Abort>(
     rt: &R,
     alloc: Global,
     rows: &[(&str, &[&str], &str)],
@@ -381,6 +381,7 @@ static COMMANDS: [&str; 5] = [
     "lotstress count THREADS LOCKS ROUNDS SEED ",
     "lotstress relay THREADS ROUNDS SEED ",
     "lotstress pool THREADS PERMITS ROUNDS SEED ",
+    "lotstress many THREADS KEYS ROUNDS SEED ",
     "lotstress replay FILE ",
     "lotstress witness FILE ",
 ];
