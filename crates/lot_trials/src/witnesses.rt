@@ -9,7 +9,13 @@ use std::thread::Threads;
 
 /// A witness, what is printed of it, the fault, and the status.
 static WITNESSES: [(&str, &str, &str, &str, u8); 13] = [
-    ("nothing_happened", "open 1 1 0\n", "events 0\nwitnessed\n", "", 0),
+    (
+        "nothing_happened",
+        "open 1 1 0\n",
+        "events 0\nwitnessed\n",
+        "",
+        0,
+    ),
     (
         "handoff",
         "open 2 1 0\ntake 0 0 true\ntake 1 0 false\nmark 1 0 done\npark 1 0 true\npass 0 0 1 0 1\n",
@@ -108,7 +114,14 @@ fn witnesses_are_judged(rt: HostRuntime) {
         judge(&rt, rt.alloc(), name, witness, (*out, *fault, *status));
     }
     let want = ("", "cannot read file\n", 1);
-    check(&rt, rt.alloc(), "no such file", &["witness", "f"], None, want);
+    check(
+        &rt,
+        rt.alloc(),
+        "no such file",
+        &["witness", "f"],
+        None,
+        want,
+    );
 }
 
 /// Second lines that are no lines of a witness that opens one lock, one condition and one semaphore.
