@@ -195,8 +195,9 @@ fn be_handed<N: LotName<Count> + Send + Sync, T: Wait + Abort>(
     let pass = enter(rt, lot);
     let (pass, held) = own(rt, lot, pass, LAST);
     let (pass, held) = raise(rt, pass, held, 8);
+    // (a handoff leaves the lock marked as parked)
     let (pass, released) = release(rt, lot, pass, held, 0);
-    equal(rt, released, Released::Quiet);
+    equal(rt, released, Released::Nobody);
     lot.leave(rt, pass);
 }
 
