@@ -377,7 +377,7 @@ fn wrong_words_are_refused(rt: HostRuntime) {
 }
 
 /// The commands, as one of the lines that help prints begins.
-static COMMANDS: [&str; 5] = [
+static COMMANDS: [&str; 6] = [
     "lotstress count THREADS LOCKS ROUNDS SEED ",
     "lotstress relay THREADS ROUNDS SEED ",
     "lotstress pool THREADS PERMITS ROUNDS SEED ",
