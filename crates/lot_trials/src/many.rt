@@ -8,8 +8,6 @@ use crate::counts::{
     Count, Gathered, await_count, await_line, end, own, raise, release, release_fairly,
 };
 use crate::passes::enter;
-use crate::rows::opened_and_closed;
-use crate::schedules::Memory;
 use crate::texts::{check_refusals, check_runs};
 use lot_sync::{Lot, LotName, MOST_CONDS, MOST_KEYS, OpenFault, Opened, Released};
 use std::alloc::Global;
@@ -102,15 +100,20 @@ fn other_openings_refuse_many_keys(rt: HostRuntime) {
     is_refused(&rt, opened, (OpenFault::BadKeys, 1024));
 }
 
-// Where a request for memory is refused, the values come back from `open_many` or from `start`.
+// The values come back, also where a request for memory is refused.
 #[test]
 fn all_values_of_many_come_back_in_order(rt: HostRuntime) {
     let Ok(mut values) = vec![in rt.alloc(); Count { n: 0 }; MANY] else {
         return;
     };
     number(values.as_mut_slice());
-    let opened = Lot::<Count, Brand>::open_many(rt.alloc(), 1, values, 0, &[]);
-    let values = opened_and_closed(&rt, rt.alloc(), opened, Memory::MayBeRefused);
+    let values = match Lot::<Count, Brand>::open_many(rt.alloc(), 1, values, 0, &[]) {
+        Ok(opened) => opened.close(),
+        Err((fault, values)) => {
+            equal(&rt, fault, OpenFault::NoMemory);
+            values
+        }
+    };
     equal(&rt, values.len(), MANY);
     are_numbered(&rt, values.as_slice());
 }
