@@ -10,7 +10,7 @@ ghost use Rattle.lot_conds.specs.Calls.{IsCalm, enlisted, enlisted_root, paid_ro
 
 use crate::kind::{CondPass, CondRoot};
 use crate::words::{CondWords, HAS_WAITERS};
-use lot_rights::word_of_key;
+use lot_rights::{Numbered, word_of_key};
 use std::marker::Brand;
 
 /// A thread's word where no letter lies.
@@ -47,7 +47,7 @@ impl CondWords {
     {
         let words = &self.words;
         let letter = root.letter_of(thread);
-        words.store_root::<Brand, usize>(root, letter, LETTER, thread)
+        words.store_root::<Brand, Numbered, usize>(root, letter, LETTER, thread)
     }
 
     /// Collects the pass's letter, by one swap, and answers its token, which is 0, where a letter lay: the thread was

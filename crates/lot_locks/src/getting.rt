@@ -153,8 +153,9 @@ impl<V: Keeps + Send, N: LotName<V> + Send> Sought<Locks> for LotScheme<V, N> {
         &self,
         pass: NamedPass<V, N>,
         root: NamedRoot<V, N>,
+        key: usize,
     ) -> (NamedPass<V, N>, NamedRoot<V, N>, bool) {
-        self.park(pass, root)
+        self.park(pass, root, key)
     }
 
     fn is_handed(token: Token) -> bool {

@@ -102,6 +102,7 @@ fn unpark<S: LockSteps, R: Wait>(
             S::Root,
             Token,
         )
+            requires key { (S.Root.view root).key ≡ key }
             requires may { S.may_pass x.0 (S.Root.view root).key }
             requires clear { (S.Root.view root).owes ≡ [] }
             requires told { (now : ℕ) × Tells (S.Root.view root).line now told }
@@ -109,7 +110,7 @@ fn unpark<S: LockSteps, R: Wait>(
             ensures went { S.passes_on x.0 (S.Root.view root).key told.more result.0.1 result.0.0 }
             ensures hands { HandsOver S.Root.view root told fair result.1 result.0.1 result.2.0 }
         {
-            let (pass, root, token, released) = scheme.hand_over(x.0, root, told, fair);
+            let (pass, root, token, released) = scheme.hand_over(x.0, root, key, told, fair);
             ((pass, released), root, token)
         },
     );

@@ -53,9 +53,11 @@ pub trait LockSteps: Sought<Locks> {
         &self,
         pass: Self::Pass,
         root: Self::Root,
+        key: usize,
         told: UnparkResult,
         fair: bool,
     ) -> (Self::Pass, Self::Root, Token, Released)
+        requires key { (Self.Root.view root).key ≡ key }
         requires may { may_pass pass (Self.Root.view root).key }
         requires clear { (Self.Root.view root).owes ≡ [] }
         requires told { (now : ℕ) × Tells (Self.Root.view root).line now told }
@@ -84,11 +86,12 @@ impl<V: Keeps + Send, N: LotName<V> + Send> LockSteps for LotScheme<V, N> {
         &self,
         pass: NamedPass<V, N>,
         root: NamedRoot<V, N>,
+        key: usize,
         told: UnparkResult,
         fair: bool,
     ) -> (NamedPass<V, N>, NamedRoot<V, N>, Token, Released) {
         let hands = told.thread.is_some() && (fair || told.fair);
-        let (pass, root) = self.pass_on(pass, root, told.thread, hands, told.more);
+        let (pass, root) = self.pass_on(pass, root, key, told.thread, hands, told.more);
         let (token, released) = match told.thread {
             None => (BARGING, Released::Nobody),
             Some(_) if hands => (HANDOFF, Released::Handed),

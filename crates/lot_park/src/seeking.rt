@@ -101,8 +101,14 @@ pub trait Sought<T>: Scheme {
         ensures awake { woken result.0 ≡ woken pass };
 
     /// The validation of a parking: the thread is queued where still none is left and it is marked as parked.
-    fn queue(&self, pass: Self::Pass, root: Self::Root) -> (Self::Pass, Self::Root, bool)
-        requires { seeks pass (Self.Root.view root).key Parks pass }
+    fn queue(
+        &self,
+        pass: Self::Pass,
+        root: Self::Root,
+        key: usize,
+    ) -> (Self::Pass, Self::Root, bool)
+        requires key { (Self.Root.view root).key ≡ key }
+        requires parks { seeks pass (Self.Root.view root).key Parks pass }
         ensures pass { MatchBool result.2 (sleeps pass (Self.Root.view root).key result.0)
             (seeks pass (Self.Root.view root).key Parks result.0) }
         ensures root { Queues Self.Root.view Self.thread pass root result.2 result.0 result.1 }
@@ -266,13 +272,14 @@ pub fn park<S: Sought<T>, T, R: Wait, B: BeforeSleep>(
         key,
         (),
         |x: (), pass: S::Pass, root: S::Root| -> ((), S::Pass, S::Root, bool)
-            requires { S.seeks pass (S.Root.view root).key Parks pass }
+            requires key { (S.Root.view root).key ≡ key }
+            requires parks { S.seeks pass (S.Root.view root).key Parks pass }
             ensures pass { MatchBool result.3 (S.sleeps pass (S.Root.view root).key result.1)
                 (S.seeks pass (S.Root.view root).key Parks result.1) }
             ensures root { Queues S.Root.view S.thread pass root result.3 result.1 result.2 }
             ensures awake { S.woken result.1 ≡ S.woken pass }
         {
-            let (pass, root, queued) = scheme.queue(pass, root);
+            let (pass, root, queued) = scheme.queue(pass, root, key);
             (x, pass, root, queued)
         },
         |x: ()| -> ()

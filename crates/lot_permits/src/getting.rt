@@ -73,8 +73,9 @@ impl<V: Keeps + Send, N: LotName<V> + Send> Sought<Sems> for LotScheme<V, N> {
         &self,
         pass: NamedPass<V, N>,
         root: NamedRoot<V, N>,
+        key: usize,
     ) -> (NamedPass<V, N>, NamedRoot<V, N>, bool) {
-        self.park_permit(pass, root)
+        self.park_permit(pass, root, key)
     }
 
     /// A permit is not handed over.

@@ -60,6 +60,7 @@ fn unpark<S: SemSteps, R: Wait>(
             S::Root,
             Token,
         )
+            requires key { (S.Root.view root).key ≡ key }
             requires may { S.may_give x.0 (S.Root.view root).key }
             requires clear { (S.Root.view root).owes ≡ [] }
             requires told { (now : ℕ) × Tells (S.Root.view root).line now told }
@@ -67,7 +68,7 @@ fn unpark<S: SemSteps, R: Wait>(
             ensures takes { TakesFirst S.Root.view root told.thread 0 result.1 }
             ensures token { result.2.0 ≡ 0 }
         {
-            let (pass, root, freed) = scheme.give_on(x.0, root, told);
+            let (pass, root, freed) = scheme.give_on(x.0, root, key, told);
             ((pass, freed), root, TRY_AGAIN)
         },
     );

@@ -45,8 +45,10 @@ pub trait SemSteps: Sought<Sems> {
         &self,
         pass: Self::Pass,
         root: Self::Root,
+        key: usize,
         told: UnparkResult,
     ) -> (Self::Pass, Self::Root, Freed)
+        requires key { (Self.Root.view root).key ≡ key }
         requires may { may_give pass (Self.Root.view root).key }
         requires clear { (Self.Root.view root).owes ≡ [] }
         requires told { (now : ℕ) × Tells (Self.Root.view root).line now told }
@@ -72,13 +74,14 @@ impl<V: Keeps + Send, N: LotName<V> + Send> SemSteps for LotScheme<V, N> {
         &self,
         pass: NamedPass<V, N>,
         root: NamedRoot<V, N>,
+        key: usize,
         told: UnparkResult,
     ) -> (NamedPass<V, N>, NamedRoot<V, N>, Freed) {
-        let (pass, root) = self.pass_permit(pass, root, told.thread, told.more);
+        let (pass, root) = self.pass_permit(pass, root, key, told.thread, told.more);
         match told.thread {
             Some(_) => (pass, root, Freed::Woke),
             None => {
-                let (pass, root) = self.clear(pass, root);
+                let (pass, root) = self.clear(pass, root, key);
                 (pass, root, Freed::Nobody)
             }
         }

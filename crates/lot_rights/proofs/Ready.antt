@@ -97,25 +97,28 @@ module _ {S P R Key : Type 0} (meaning : Key → Meaning S P R) (apart : (key : 
       )
 
 -- ---- a root after its step
-module _ {S P R : Type 0} (nothing : R) (names : R → ℕ → Type 0) (mine shown : RootShown R) (is : mine ≡ shown) (key : ℕ)
-    (key_is : key ≡ mine.key)
-    (near : word_at key < mine.table.words) (small : mine.table.words < 2 ^ 64)
+module _ {S P R : Type 0} (nothing : R) (names : R → ℕ → Type 0) (mine shown : RootShown R) (is : mine ≡ shown)
+    (told : ℕ → ℕ) (number_is : told mine.key ≡ mine.key)
+    (near : word_at mine.key < mine.table.words) (small : mine.table.words < 2 ^ 64)
     (letters : (u : ℕ) → names mine.own u → letter_at u < mine.table.words) (table : TableId) (same : table ≡ mine.table)
     (me : Me S (List (Right P R))) (q : RootRight R) (its : q.key ≡ mine.key) (e : me ≡ (Root q ∷ [], []))
     (few : (u : ℕ) → names q.own u → names shown.own u) where
   root_is : the_root nothing me.0 ≡ q
   root_is = ap (λ (m : Me S (List (Right P R))). the_root nothing m.0) e
 
-  pub root_stands : (me ≡ (Root (the_root nothing me.0) ∷ [], [])) × (key ≡ (the_root nothing me.0).key
-      × (word_at key < table.words
+  same_key : (the_root nothing me.0).key ≡ mine.key
+  same_key = ap (λ (z : RootRight R). z.key) root_is ∙ its
+
+  pub root_stands : (me ≡ (Root (the_root nothing me.0) ∷ [], [])) × ((told (the_root nothing me.0).key ≡ (the_root nothing me.0).key)
+      × (word_at (the_root nothing me.0).key < table.words
       × (table.words < 2 ^ 64 × (((u : ℕ) → names (the_root nothing me.0).own u → letter_at u < table.words) × Unit {0}))))
   root_stands =
       let words : table.words ≡ mine.table.words = ap (λ (z : TableId). z.words) same in (
         subst (λ (m : Me S (List (Right P R))). m ≡ (Root (the_root nothing m.0) ∷ [], [])) (sym e) refl,
         (
-          key_is ∙ (sym its ∙ sym (ap (λ (z : RootRight R). z.key) root_is)),
+          subst (λ k. told k ≡ k) (sym same_key) number_is,
           (
-            omega (arith, near, words),
+            omega (arith, subst (λ k. word_at k < mine.table.words) (sym same_key) near, words),
             (
               omega (arith, small, words),
               (

@@ -6,7 +6,7 @@ ghost use Rattle.std.specs.List.{All};
 ghost use Rattle.lot_rights.specs.Closing.{passes_in, roots_in, Ended};
 
 use crate::kind::{Kind, RightsSeat, RightsShared};
-use crate::rights::{PassOf, RootOf};
+use crate::rights::{Numbering, PassOf, RootAt};
 use crate::tells::Both;
 use crate::words::WordsOf;
 use atomic_table::Closed;
@@ -35,10 +35,10 @@ fn gather_passes<K: Kind>(
 }
 
 /// All roots come to one seat.
-fn gather_roots<K: Kind>(
+fn gather_roots<K: Kind, A: Numbering>(
     shared: &RightsShared<K>,
     mut seat: RightsSeat<K>,
-    mut roots: Vec<RootOf<K>>,
+    mut roots: Vec<RootAt<K, A>>,
 ) -> RightsSeat<K>
     requires table { (seat.table_id ≡ shared.now.table_id) × (0 < shared.now.table_id.words) }
     requires all { All (λ (q : RootShown K.Root). q.table ≡ shared.now.table_id) roots.items }
@@ -46,9 +46,9 @@ fn gather_roots<K: Kind>(
     ensures rights { result.me.0 ≡ seat.me.0 ++ roots_in (reverse roots.items) }
 {
     while let Some(root) = roots.pop() {
-        let RootOf {
+        let RootAt {
             seat: other,
-            key: _,
+            number: _,
         } = root;
         shared.join_seat::<Both>(&mut seat, other);
     }
@@ -59,7 +59,11 @@ fn gather_roots<K: Kind>(
 impl<K: Kind> WordsOf<K> {
     /// Ends the table. What it tells is of the last world, and of the one history that has led there: of it these
     /// rights have made just the entries that they show. A table without slots has only `Closed::free` to do then.
-    pub fn close(self, mut passes: Vec<PassOf<K>>, roots: Vec<RootOf<K>>) -> Closed<K::Slot, Global>
+    pub fn close<A: Numbering>(
+        self,
+        mut passes: Vec<PassOf<K>>,
+        roots: Vec<RootAt<K, A>>,
+    ) -> Closed<K::Slot, Global>
         requires table { All (λ (p : PassShown K.Pass). p.table ≡ self.table) passes.items
             × All (λ (q : RootShown K.Root). q.table ≡ self.table) roots.items }
         requires some { 0 < vec_len passes }

@@ -7,7 +7,7 @@
 //!  Kind        what words, slots and rights stand for: a world, which keeps a rule of its own
 //!  WordsOf     the table: each step needs a pass, or a pass and a root, or a root
 //!  PassOf      the right to act as one thread
-//!  RootOf      the right to change the line of one key
+//!  RootOf      the right to change the line of one key; LyingRootOf where it lies, without its number
 //! ```
 //!
 //! The invariant of every table, its *rule*, is: there is a world that the words, the slots and the rights stand for,
@@ -40,5 +40,5 @@ pub use fault::WordsFault;
 pub use kind::Kind;
 pub use layout::{MOST_KEYS, word_of_key, words_for};
 pub use named::{Name, Named, OfOpening};
-pub use rights::{PassOf, RootOf};
+pub use rights::{Lying, LyingRootOf, Numbered, Numbering, PassOf, RootAt, RootOf};
 pub use words::WordsOf;

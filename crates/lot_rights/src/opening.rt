@@ -6,7 +6,7 @@ ghost use Rattle.lot_rights.specs.Start.{passes_from, roots_from, pass_at, root_
 
 use crate::kind::{Kind, RightsSeat, RightsShared};
 use crate::layout::{MOST_WORDS, words_for};
-use crate::rights::{PassOf, RootOf};
+use crate::rights::{Numbering, PassOf, RootAt};
 use crate::tells::Deal;
 use crate::words::WordsOf;
 use atomic_table::{Refused, Table};
@@ -59,12 +59,12 @@ fn deal_passes<K: Kind>(
 }
 
 /// Gives each key its root. The keys' numbers begin at `first`.
-fn deal_roots<K: Kind>(
+fn deal_roots<K: Kind, A: Numbering>(
     shared: &RightsShared<K>,
     seat: &mut RightsSeat<K>,
     first: usize,
     keys: usize,
-    roots: &mut Vec<RootOf<K>>,
+    roots: &mut Vec<RootAt<K, A>>,
 )
     requires table { (seat.old.table_id ≡ shared.now.table_id) × (0 < shared.now.table_id.words)
         × (shared.now.table_id.words < 2 ^ 64) }
@@ -80,16 +80,19 @@ fn deal_roots<K: Kind>(
     for i in 0..keys {
         let own = shared.split_seat::<Deal>(seat);
         let key = first + i;
-        roots.push_reserved(RootOf { seat: own, key });
+        roots.push_reserved(RootAt {
+            seat: own,
+            number: A::of(key),
+        });
     }
 }
 
 /// The memory of a table's rights, before anything lies in it: for the passes and for the roots.
-fn rooms<K: Kind>(
+fn rooms<K: Kind, A: Numbering>(
     alloc: Global,
     threads: usize,
     keys: usize,
-) -> Result<(Vec<PassOf<K>>, Vec<RootOf<K>>), AllocError>
+) -> Result<(Vec<PassOf<K>>, Vec<RootAt<K, A>>), AllocError>
     ensures empty { IfOk result (λ r. (vec_len r.0 ≡ 0) × (vec_len r.1 ≡ 0)) }
     ensures fits { IfOk result (λ r. (threads ≤ vec_capacity r.0) × (keys ≤ vec_capacity r.1)) }
 {
@@ -106,14 +109,14 @@ fn rooms<K: Kind>(
 impl<K: Kind> WordsOf<K> {
     /// Opens a table with these slots, whose words are all 0. The answer has a pass for each thread and a root for each
     /// key, in order, where the keys begin at `first`. Where memory is refused, the slots come back.
-    pub fn open(
+    pub fn open<A: Numbering>(
         alloc: Global,
         key: &K::Key,
         slots: Vec<K::Slot>,
         threads: usize,
         first: usize,
         keys: usize,
-    ) -> Result<(WordsOf<K>, Vec<PassOf<K>>, Vec<RootOf<K>>), Vec<K::Slot>>
+    ) -> Result<(WordsOf<K>, Vec<PassOf<K>>, Vec<RootAt<K, A>>), Vec<K::Slot>>
         requires size { ((K.meaning key.now).threads ≡ threads) × ((K.meaning key.now).first_key ≡ first)
             × ((K.meaning key.now).keys ≡ keys) }
         requires few { (threads < 2 ^ 32) × (first + keys < 2 ^ 32) }
@@ -144,7 +147,7 @@ impl<K: Kind> WordsOf<K> {
     }
 
     /// Opens a table with these words and slots, as `open` does with words that are all 0.
-    pub fn open_with(
+    pub fn open_with<A: Numbering>(
         alloc: Global,
         key: &K::Key,
         words: &[u64],
@@ -152,7 +155,7 @@ impl<K: Kind> WordsOf<K> {
         threads: usize,
         first: usize,
         keys: usize,
-    ) -> Result<(WordsOf<K>, Vec<PassOf<K>>, Vec<RootOf<K>>), Vec<K::Slot>>
+    ) -> Result<(WordsOf<K>, Vec<PassOf<K>>, Vec<RootAt<K, A>>), Vec<K::Slot>>
         requires size { ((K.meaning key.now).threads ≡ threads) × ((K.meaning key.now).first_key ≡ first)
             × ((K.meaning key.now).keys ≡ keys) }
         requires few { (threads < 2 ^ 32) × (first + keys < 2 ^ 32) }

@@ -8,7 +8,7 @@ ghost use Rattle.lot_rights.specs.Steps.{AllowsBoth, AllowsRoot, TellsOfTwo};
 
 use crate::kind::{Kind, RightsSeat};
 use crate::layout::SPARE_WORD;
-use crate::rights::{PassOf, RootOf};
+use crate::rights::{Numbered, Numbering, PassOf, RootAt, RootOf};
 use crate::tells::{
     Both, BothStep, FirstAndRest, RootStep, TellsBoth, TellsRoot, TellsTwo, TwoStep,
 };
@@ -30,9 +30,9 @@ impl<K: Kind> WordsOf<K> {
             mut seat,
             thread: _,
         } = pass;
-        let RootOf {
+        let RootAt {
             seat: other,
-            key: _,
+            number: _,
         } = root;
         shared.join_seat::<Both>(&mut seat, other);
         seat
@@ -53,7 +53,13 @@ impl<K: Kind> WordsOf<K> {
     {
         let shared = &self.table.shared;
         let other = shared.split_seat::<FirstAndRest>(&mut seat);
-        (PassOf { seat, thread }, RootOf { seat: other, key })
+        (
+            PassOf { seat, thread },
+            RootAt {
+                seat: other,
+                number: Numbered::of(key),
+            },
+        )
     }
 
     /// One load of the word, for which the pass and the root come to one seat. The root may name the pass's thread from
@@ -172,13 +178,13 @@ impl<K: Kind> WordsOf<K> {
     }
 
     /// One store to the word, with the root. The root names no thread that it did not.
-    pub fn store_root<N: TellsRoot<K::Root>, A: Copy>(
+    pub fn store_root<N: TellsRoot<K::Root>, B: Numbering, A: Copy>(
         &self,
-        root: RootOf<K>,
+        root: RootAt<K, B>,
         word: usize,
         new: u64,
         _about: A,
-    ) -> RootOf<K>
+    ) -> RootAt<K, B>
         requires table { root.table ≡ self.now.table }
         requires named { N.table ≡ root.table }
         requires word { word < self.now.table.words }
@@ -190,9 +196,9 @@ impl<K: Kind> WordsOf<K> {
         ensures told { N.then new result }
     {
         let shared = &self.table.shared;
-        let RootOf { mut seat, key } = root;
+        let RootAt { mut seat, number } = root;
         shared.store::<RootStep<K, N>>(&mut seat, word, new);
-        RootOf { seat, key }
+        RootAt { seat, number }
     }
 
     /// Gives both passes back as they were. The point is what it proves: they are of two threads, and whatever follows

@@ -1,38 +1,24 @@
 -- The letters that a root owes, as the parking lot sees them: which one is posted, and what is left then.
-use Rattle.std.proofs.Common.{◌≡◌, ℕ, ◌<◌, ◌≤◌, zero, suc, ◌==◌, ◌&&◌, cond, Bool, true, false, List, [], ◌∷◌, Option, Some, None, refl}
+use Rattle.std.proofs.Common.{◌≡◌, ℕ, ◌<◌, zero, suc, ◌==◌, ◌&&◌, cond, Bool, true, false, List, [], ◌∷◌, Option, Some, None, refl}
 use Rattle.std.proofs.Common.{sym, ap, subst, ◌∙◌, arith}
 use Rattle.std.specs.List.{Contains}
 use Rattle.lot_rights.specs.Shown.{RootShown}
 use Rattle.lot_rights.specs.Lines.{without}
+use Rattle.lot_rights.specs.Steps.{RootNotes}
 use Rattle.lot_rights.specs.declared.views.Access.{Access}
 use Rattle.lot_park.specs.Parking.{debt, debts, without_debt}
 use Rattle.lot_park.proofs.Debts.{owed_none, owed_alone, without_first_debt}
-use Rattle.lot_words.specs.Calls.{paid_root as lock_paid}
-use Rattle.lot_conds.specs.Calls.{paid_root as cond_paid}
-use Rattle.lot_sems.specs.Calls.{paid_root as sem_paid}
 use Rattle.lot_whole.specs.declared.views.LotRootView.{LotRootView}
 use Rattle.lot_whole.specs.declared.views.LotRootView.TheVariants.{Lock, Cond, Sem}
-use Rattle.lot_whole.specs.Standing.{IsLockRoot, IsCondRoot, IsSemRoot, as_lock, as_cond, as_sem}
-use Rattle.lot_whole.specs.Calls.{RootNotesIn}
-use Rattle.lot_whole.specs.Family.{Which, RootIn}
-use Rattle.lot_whole.specs.Lot.{root_from}
-use Rattle.lot_scheme.specs.Roots.{IsInItsKind, debts_of, key_line}
+use Rattle.lot_whole.specs.Standing.{IsLockRoot}
+use Rattle.lot_whole.specs.Calls.{OwesLetter, paid}
+use Rattle.lot_scheme.specs.Roots.{IsInItsKind, debts_of, owes_in, root_view}
 
 -- ---- a root's number tells its kind
 pub is_lock : (locks first_sem c : ℕ) (q : LotRootView) → IsInItsKind locks first_sem c q → c < locks → IsLockRoot q
 is_lock locks first_sem c (Lock q) kind below = tt
 is_lock locks first_sem c (Cond q) kind below = absurd (omega (arith, kind.0))
 is_lock locks first_sem c (Sem q) kind below = absurd (omega (arith, kind.0))
-
-pub is_cond : (locks first_sem c : ℕ) (q : LotRootView) → IsInItsKind locks first_sem c q → locks ≤ c → c < first_sem → IsCondRoot q
-is_cond locks first_sem c (Lock q) kind from below = absurd (omega (arith, kind))
-is_cond locks first_sem c (Cond q) kind from below = tt
-is_cond locks first_sem c (Sem q) kind from below = absurd (omega (arith, kind.1))
-
-pub is_sem : (locks first_sem c : ℕ) (q : LotRootView) → IsInItsKind locks first_sem c q → locks ≤ c → first_sem ≤ c → IsSemRoot q
-is_sem locks first_sem c (Lock q) kind from above = absurd (omega (arith, kind))
-is_sem locks first_sem c (Cond q) kind from above = absurd (omega (arith, kind.1))
-is_sem locks first_sem c (Sem q) kind from above = tt
 
 -- ---- conditions: a letter that is owed has token 0, and is owed to a thread that the root names
 owed_in : (thread token : ℕ) (xs : List ℕ) → Contains (debts xs) (thread, token) → Contains xs thread × (token ≡ 0)
@@ -41,12 +27,6 @@ owed_in thread token (x ∷ xs) (zero, within, is) = ((zero, omega arith, ap (λ
 owed_in thread token (x ∷ xs) (suc i, within, is) =
     let rest = owed_in thread token xs (i, omega arith, is) in
     ((suc rest.0.0, omega (arith, rest.0.1), rest.0.2), rest.1)
-
-pub owed_cond : (c thread token : ℕ) (q : LotRootView) → IsCondRoot q → Contains (key_line c q).owes (thread, token)
-    → Contains (as_cond q).owes thread × (token ≡ 0)
-owed_cond c thread token (Lock q) kind has = absurd kind
-owed_cond c thread token (Cond q) kind has = owed_in thread token q.owes has
-owed_cond c thread token (Sem q) kind has = absurd kind
 
 left_or : (b : Bool) (x : ℕ) (xs ys : List ℕ) (ds : List (ℕ × ℕ)) → ds ≡ debts ys
     → cond (b && true) (debts xs) ((x, 0) ∷ ds) ≡ debts (cond b xs (x ∷ ys))
@@ -68,33 +48,28 @@ owed_of : (owes : Option (ℕ × ℕ)) (thread token : ℕ) → Contains (debts_
 owed_of None thread token has = absurd (owed_none thread token has)
 owed_of (Some d) thread token has = ap (λ (e : ℕ × ℕ). Some e) (owed_alone d thread token has)
 
--- ---- what is left when the letter was posted
-pub posted_lock : (c thread token : ℕ) (q : LotRootView) → IsLockRoot q → Contains (key_line c q).owes (thread, token)
-    → (key_line c (Lock (lock_paid (as_lock q)))).owes ≡ without_debt thread token (key_line c q).owes
-posted_lock c thread token (Lock q) kind has =
+-- ---- keys of all kinds
+pub owed_letter : (q : LotRootView) (thread token : ℕ) → Contains (owes_in q) (thread, token) → OwesLetter q thread token
+owed_letter (Lock q) thread token has = owed_of q.owes thread token has
+owed_letter (Cond q) thread token has = owed_in thread token q.owes has
+owed_letter (Sem q) thread token has = owed_by q.owes thread token has
+
+-- what is left when the letter was posted
+pub left_owing : (q : LotRootView) (thread token : ℕ) → Contains (owes_in q) (thread, token)
+    → owes_in (paid q thread) ≡ without_debt thread token (owes_in q)
+left_owing (Lock q) thread token has =
     sym (ap (λ (o : Option (ℕ × ℕ)). without_debt thread token (debts_of o)) (owed_of q.owes thread token has)
     ∙ without_first_debt thread token [])
-posted_lock c thread token (Cond q) kind has = absurd kind
-posted_lock c thread token (Sem q) kind has = absurd kind
-
-pub posted_cond : (c thread token : ℕ) (q : LotRootView) → IsCondRoot q → Contains (key_line c q).owes (thread, token)
-    → (key_line c (Cond (cond_paid (as_cond q) thread))).owes ≡ without_debt thread token (key_line c q).owes
-posted_cond c thread token (Lock q) kind has = absurd kind
-posted_cond c thread token (Cond q) kind has =
+left_owing (Cond q) thread token has =
     subst (λ k. debts (without thread q.owes) ≡ without_debt thread k (debts q.owes)) (sym (owed_in thread token q.owes has).1)
     (sym (posted_in thread q.owes))
-posted_cond c thread token (Sem q) kind has = absurd kind
-
-pub posted_sem : (c thread token : ℕ) (q : LotRootView) → IsSemRoot q → Contains (key_line c q).owes (thread, token)
-    → (key_line c (Sem (sem_paid (as_sem q)))).owes ≡ without_debt thread token (key_line c q).owes
-posted_sem c thread token (Lock q) kind has = absurd kind
-posted_sem c thread token (Cond q) kind has = absurd kind
-posted_sem c thread token (Sem q) kind has =
+left_owing (Sem q) thread token has =
     let one = owed_by q.owes thread token has in
     sym (ap (λ (o : Option ℕ). without_debt thread token (debt o 0)) one.0
     ∙ (ap (λ k. without_debt thread k ((thread, 0) ∷ [])) one.1 ∙ without_first_debt thread 0 []))
 
--- ---- a root that made an entry is seen by what it knows then
-pub seen_after : (j : Which) (p q : RootShown LotRootView) (own : RootIn j) (a : Access) → RootNotesIn j p own a q
-    → (key_line q.key q.own).owes ≡ (key_line p.key (root_from j own)).owes
-seen_after j p q own a (k, is) = ap (λ (r : RootShown LotRootView). (key_line r.key r.own).owes) is
+-- ---- the root after the entry
+pub owes_after : (p q : RootShown LotRootView) (thread token : ℕ) (a : Access) → RootNotes p (paid p.own thread) a q
+    → Contains (root_view p).owes (thread, token) → (root_view q).owes ≡ without_debt thread token (root_view p).owes
+owes_after p q thread token a notes has =
+    ap (λ (r : RootShown LotRootView). owes_in r.own) notes.1 ∙ left_owing p.own thread token has

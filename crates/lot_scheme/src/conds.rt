@@ -27,8 +27,10 @@ impl<V: Keeps, N: LotName<V>> LotScheme<V, N> {
         &self,
         pass: NamedPass<V, N>,
         root: NamedRoot<V, N>,
+        key: usize,
         lock: usize,
     ) -> (NamedPass<V, N>, NamedRoot<V, N>)
+        requires named { root.key ≡ key }
         requires key { (N.locks ≤ root.key) × (root.key < N.first_sem) }
         requires idle { IsIdle pass.own }
         requires lock { (lock < N.locks) × Holds pass.own.locks lock }
@@ -39,8 +41,8 @@ impl<V: Keeps, N: LotName<V>> LotScheme<V, N> {
     {
         let (pass, root) = self
             .words()
-            .enlist(pass.into_pass(), root.into_root(), lock);
-        (NamedPass::new(pass), NamedRoot::new(root))
+            .enlist(pass.into_pass(), root.take_up(key), lock);
+        (NamedPass::new(pass), NamedRoot::lay_down(root))
     }
 
     /// Whether the condition's flag is set, by one load. Where it is clear, nobody is in the line but threads that
@@ -76,10 +78,12 @@ impl<V: Keeps, N: LotName<V>> LotScheme<V, N> {
         &self,
         pass: NamedPass<V, N>,
         root: NamedRoot<V, N>,
+        key: usize,
         count: usize,
         taken: usize,
         more: bool,
     ) -> (NamedPass<V, N>, NamedRoot<V, N>)
+        requires named { root.key ≡ key }
         requires key { (N.locks ≤ root.key) × (root.key < N.first_sem) }
         requires idle { IsIdle pass.own }
         requires count { IsCallCount count }
@@ -91,8 +95,8 @@ impl<V: Keeps, N: LotName<V>> LotScheme<V, N> {
     {
         let (pass, root) = self
             .words()
-            .call(pass.into_pass(), root.into_root(), count, taken, more);
-        (NamedPass::new(pass), NamedRoot::new(root))
+            .call(pass.into_pass(), root.take_up(key), count, taken, more);
+        (NamedPass::new(pass), NamedRoot::lay_down(root))
     }
 
     /// Takes all threads of the condition's line, by one load, while the condition's bucket is locked, after `lower`
@@ -102,8 +106,10 @@ impl<V: Keeps, N: LotName<V>> LotScheme<V, N> {
         &self,
         pass: NamedPass<V, N>,
         root: NamedRoot<V, N>,
+        key: usize,
         taken: usize,
     ) -> (NamedPass<V, N>, NamedRoot<V, N>)
+        requires named { root.key ≡ key }
         requires key { (N.locks ≤ root.key) × (root.key < N.first_sem) }
         requires lowered { MaySweep pass.own root.key }
         requires taken { length (root_view root).line ≡ taken }
@@ -113,7 +119,7 @@ impl<V: Keeps, N: LotName<V>> LotScheme<V, N> {
     {
         let (pass, root) = self
             .words()
-            .sweep(pass.into_pass(), root.into_root(), taken);
-        (NamedPass::new(pass), NamedRoot::new(root))
+            .sweep(pass.into_pass(), root.take_up(key), taken);
+        (NamedPass::new(pass), NamedRoot::lay_down(root))
     }
 }

@@ -90,7 +90,9 @@ impl<V: Keeps, N: LotName<V>> LotScheme<V, N> {
         &self,
         pass: NamedPass<V, N>,
         root: NamedRoot<V, N>,
+        key: usize,
     ) -> (NamedPass<V, N>, NamedRoot<V, N>, bool)
+        requires named { root.key ≡ key }
         requires key { root.key < N.locks }
         requires may { MayLineUp pass.own root.key }
         ensures pass { MatchBool result.2
@@ -98,8 +100,8 @@ impl<V: Keeps, N: LotName<V>> LotScheme<V, N> {
             (result.0 ≡ adding pass (Makes (Park pass.thread root.key) (Saw false) ∷ [])) }
         ensures root { Queues root_view (λ (p : LotStanding V). p.thread) pass root result.2 result.0 result.1 }
     {
-        let (pass, root, queued) = self.words().park(pass.into_pass(), root.into_root());
-        (NamedPass::new(pass), NamedRoot::new(root), queued)
+        let (pass, root, queued) = self.words().park(pass.into_pass(), root.take_up(key));
+        (NamedPass::new(pass), NamedRoot::lay_down(root), queued)
     }
 
     /// Lets the lock go where nobody is marked as parked on it, by one compare-exchange, and says whether it did. Else
@@ -126,10 +128,12 @@ impl<V: Keeps, N: LotName<V>> LotScheme<V, N> {
         &self,
         pass: NamedPass<V, N>,
         root: NamedRoot<V, N>,
+        key: usize,
         first: Option<usize>,
         fair: bool,
         more: bool,
     ) -> (NamedPass<V, N>, NamedRoot<V, N>)
+        requires named { root.key ≡ key }
         requires key { root.key < N.locks }
         requires may { MayLetGo pass.own root.key }
         requires holds { HoldsParked pass.own.locks root.key }
@@ -143,8 +147,8 @@ impl<V: Keeps, N: LotName<V>> LotScheme<V, N> {
     {
         let (pass, root) = self
             .words()
-            .pass_on(pass.into_pass(), root.into_root(), first, fair, more);
-        (NamedPass::new(pass), NamedRoot::new(root))
+            .pass_on(pass.into_pass(), root.take_up(key), first, fair, more);
+        (NamedPass::new(pass), NamedRoot::lay_down(root))
     }
 
     /// The owner takes the value out of the lock's slot.

@@ -94,16 +94,7 @@ impl<V: Keeps + Send, N: LotName<V> + Send> Scheme for LotScheme<V, N> {
     }
 
     fn post(&self, root: NamedRoot<V, N>, at: usize, token: Token) -> NamedRoot<V, N> {
-        let root = root.into_root();
-        let words = self.words.inner();
-        let key = root.key();
-        let root = if key < self.locks {
-            words.post(root, at, token.0)
-        } else if key < self.first_sem {
-            words.post_cond(root, at)
-        } else {
-            words.post_sem(root, at)
-        };
+        let root = self.words.inner().post(root.into_root(), at, token.0);
         NamedRoot::new(root)
     }
 

@@ -59,14 +59,18 @@ impl<V: Keeps, N: LotName<V>> LotScheme<V, N> {
         &self,
         pass: NamedPass<V, N>,
         root: NamedRoot<V, N>,
+        key: usize,
     ) -> (NamedPass<V, N>, NamedRoot<V, N>, bool)
+        requires named { root.key ≡ key }
         requires sem { N.first_sem ≤ (root_view root).key }
         requires seeks { MaySeek pass.own (root_view root).key }
         ensures pass { ParksPermit pass (root_view root).key result.2 result.0 }
         ensures root { Queues root_view (λ (p : LotStanding V). p.thread) pass root result.2 result.0 result.1 }
     {
-        let (pass, root, queued) = self.words().park_permit(pass.into_pass(), root.into_root());
-        (NamedPass::new(pass), NamedRoot::new(root), queued)
+        let (pass, root, queued) = self
+            .words()
+            .park_permit(pass.into_pass(), root.take_up(key));
+        (NamedPass::new(pass), NamedRoot::lay_down(root), queued)
     }
 
     /// Gives a permit back where nobody is marked as parked, and says whether it did: a look, and where that found
@@ -87,9 +91,11 @@ impl<V: Keeps, N: LotName<V>> LotScheme<V, N> {
         &self,
         pass: NamedPass<V, N>,
         root: NamedRoot<V, N>,
+        key: usize,
         first: Option<usize>,
         more: bool,
     ) -> (NamedPass<V, N>, NamedRoot<V, N>)
+        requires named { root.key ≡ key }
         requires sem { N.first_sem ≤ (root_view root).key }
         requires may { MayGive pass.own (root_view root).key }
         requires clear { (root_view root).owes ≡ [] }
@@ -101,8 +107,8 @@ impl<V: Keeps, N: LotName<V>> LotScheme<V, N> {
     {
         let (pass, root) = self
             .words()
-            .pass_permit(pass.into_pass(), root.into_root(), first, more);
-        (NamedPass::new(pass), NamedRoot::new(root))
+            .pass_permit(pass.into_pass(), root.take_up(key), first, more);
+        (NamedPass::new(pass), NamedRoot::lay_down(root))
     }
 
     /// Clears the parked bit of a semaphore in whose line nobody is, by one fetch-and, while the semaphore's bucket is
@@ -111,15 +117,17 @@ impl<V: Keeps, N: LotName<V>> LotScheme<V, N> {
         &self,
         pass: NamedPass<V, N>,
         root: NamedRoot<V, N>,
+        key: usize,
     ) -> (NamedPass<V, N>, NamedRoot<V, N>)
+        requires named { root.key ≡ key }
         requires sem { N.first_sem ≤ (root_view root).key }
         requires idle { IsIdle pass.own }
         requires nobody { (root_view root).line ≡ [] }
         ensures pass { result.0 ≡ adding pass (Makes (SemClear pass.thread (root_view root).key) Done ∷ []) }
         ensures root { result.1 ≡ root }
     {
-        let (pass, root) = self.words().clear(pass.into_pass(), root.into_root());
-        (NamedPass::new(pass), NamedRoot::new(root))
+        let (pass, root) = self.words().clear(pass.into_pass(), root.take_up(key));
+        (NamedPass::new(pass), NamedRoot::lay_down(root))
     }
 
     /// The word of a semaphore just now: twice the permits that are left, and its parked bit. It is an observation, of

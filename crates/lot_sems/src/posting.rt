@@ -7,7 +7,7 @@ ghost use Rattle.lot_sems.specs.Calls.{paid_root, FoundNone, Collected};
 
 use crate::kind::{SemPass, SemRoot};
 use crate::words::SemWords;
-use lot_rights::word_of_key;
+use lot_rights::{Numbered, word_of_key};
 use std::marker::Brand;
 
 /// A thread's word where no letter lies.
@@ -26,7 +26,7 @@ impl SemWords {
     {
         let words = &self.words;
         let letter = root.letter_of(thread);
-        words.store_root::<Brand, usize>(root, letter, LETTER, thread)
+        words.store_root::<Brand, Numbered, usize>(root, letter, LETTER, thread)
     }
 
     /// Collects the pass's letter, by one swap, and answers its token, which is 0, where a letter lay: the thread was

@@ -15,7 +15,7 @@ use crate::lot::Lot;
 use crate::pass::Pass;
 use lot_scheme::{LotName, NamedRoot};
 use lot_waits::{Ledger, Tallies, add_up, ledger_of};
-use lot_whole::{LotPass, LotRoot};
+use lot_whole::{LotPass, LotLyingRoot};
 use lot_words::Keeps;
 use std::sync::Wait;
 
@@ -78,7 +78,7 @@ pub(crate) fn gather<V: Keeps + Send, N: LotName<V> + Send>(
 /// Takes the names off the roots, in order.
 pub(crate) fn unname<V: Keeps + Send, N: LotName<V> + Send>(
     mut named: Vec<NamedRoot<V, N>>,
-    roots: &mut Vec<LotRoot<V>>,
+    roots: &mut Vec<LotLyingRoot<V>>,
 )
     requires room { (vec_len roots.old ≡ 0) × (vec_len named ≤ vec_capacity roots.old) }
     ensures same { roots.new.items ≡ named.items }

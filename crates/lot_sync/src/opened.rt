@@ -7,7 +7,7 @@ use crate::fault::OpenFault;
 use crate::lot::Lot;
 use lot_core::{MAX_KEYS, MAX_THREADS};
 use lot_scheme::LotName;
-use lot_whole::{LotPass, LotRoot, LotWords, WordsFault};
+use lot_whole::{LotPass, LotLyingRoot, LotWords, WordsFault};
 use lot_words::Keeps;
 use std::alloc::Global;
 use std::marker::Model;
@@ -17,7 +17,7 @@ use std::marker::Model;
 pub struct Opened<V: Keeps + Send> {
     pub(crate) words: LotWords<V>,
     pub(crate) passes: Vec<LotPass<V>>,
-    pub(crate) roots: Vec<LotRoot<V>>,
+    pub(crate) roots: Vec<LotLyingRoot<V>>,
     pub(crate) threads: usize,
     pub(crate) locks: usize,
     pub(crate) conds: usize,

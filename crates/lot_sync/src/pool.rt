@@ -7,7 +7,7 @@ ghost use Rattle.lot_sync.specs.Lot.{OwnsNone, rested};
 use crate::pass::Pass;
 use lot_scheme::{LotName, NamedRoot};
 use lot_waits::Tallies;
-use lot_whole::{LotPass, LotRoot};
+use lot_whole::{LotPass, LotLyingRoot};
 use lot_words::Keeps;
 use std::marker::Model;
 use std::sync::Wait;
@@ -52,7 +52,7 @@ impl<V: Keeps + Send, N: LotName<V> + Send> Idle<V, N> {
 /// The room that closing a lot fills. The lists held the rights before the lot started.
 pub(crate) struct ClosingRoom<V: Keeps + Send, N: LotName<V> + Send> {
     passes: Vec<LotPass<V>>,
-    roots: Vec<LotRoot<V>>,
+    roots: Vec<LotLyingRoot<V>>,
     named: Vec<NamedRoot<V, N>>,
     sums: Tallies,
     ghost empty: { (vec_len passes ≡ 0) × (vec_len roots ≡ 0) × (vec_len named ≡ 0) },
@@ -66,7 +66,7 @@ impl<V: Keeps + Send, N: LotName<V> + Send> ClosingRoom<V, N> {
     /// The room of these lists, which are empty, and of sums of nothing.
     pub(crate) fn new(
         passes: Vec<LotPass<V>>,
-        roots: Vec<LotRoot<V>>,
+        roots: Vec<LotLyingRoot<V>>,
         named: Vec<NamedRoot<V, N>>,
         sums: Tallies,
     ) -> ClosingRoom<V, N>
@@ -89,7 +89,7 @@ impl<V: Keeps + Send, N: LotName<V> + Send> ClosingRoom<V, N> {
         self,
     ) -> (
         Vec<LotPass<V>>,
-        Vec<LotRoot<V>>,
+        Vec<LotLyingRoot<V>>,
         Vec<NamedRoot<V, N>>,
         Tallies,
     )

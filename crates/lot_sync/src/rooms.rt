@@ -12,7 +12,7 @@ use crate::pass::Pass;
 use crate::pool::{ClosingRoom, Idle, Pool};
 use lot_scheme::{LotName, NamedPass, NamedRoot};
 use lot_waits::Tallies;
-use lot_whole::{LotPass, LotRoot};
+use lot_whole::{LotPass, LotLyingRoot};
 use lot_words::Keeps;
 use std::alloc::{AllocError, Global};
 
@@ -72,7 +72,7 @@ fn tallies_for(alloc: Global, threads: usize, conds: usize) -> Result<Vec<Box<Ta
 
 /// Gives the roots the lot's name, in order. Their own room stays.
 pub(crate) fn name_roots<V: Keeps + Send, N: LotName<V> + Send>(
-    roots: &mut Vec<LotRoot<V>>,
+    roots: &mut Vec<LotLyingRoot<V>>,
     named: &mut Vec<NamedRoot<V, N>>,
 )
     requires own { All (λ (r : RootShown LotRootView). (r.table ≡ N.opening.locks)
@@ -127,7 +127,7 @@ pub(crate) fn pool_of<V: Keeps + Send, N: LotName<V> + Send>(
     mut passes: Vec<LotPass<V>>,
     mut tallies: Vec<Box<Tallies>>,
     mut idle: Vec<Idle<V, N>>,
-    roots: Vec<LotRoot<V>>,
+    roots: Vec<LotLyingRoot<V>>,
     named: Vec<NamedRoot<V, N>>,
     sums: Tallies,
 ) -> Pool<V, N>

@@ -13,7 +13,7 @@ use crate::opened::Opened;
 use crate::rooms::{Rooms, name_roots, pool_of};
 use lot_park::{ParkFault, ParkingLot};
 use lot_scheme::{LotName, LotScheme};
-use lot_whole::{LotPass, LotRoot, LotWords};
+use lot_whole::{LotPass, LotLyingRoot, LotWords};
 use lot_words::Keeps;
 use std::alloc::Global;
 
@@ -21,7 +21,7 @@ use std::alloc::Global;
 pub(crate) fn close_unused<V: Keeps + Send>(
     words: LotWords<V>,
     passes: Vec<LotPass<V>>,
-    roots: Vec<LotRoot<V>>,
+    roots: Vec<LotLyingRoot<V>>,
 ) -> Vec<V>
     requires unused { (threads locks conds sems : ℕ)
         × IsOpened V.Keeps words passes.items roots.items threads locks conds sems }

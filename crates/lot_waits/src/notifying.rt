@@ -33,6 +33,7 @@ pub(crate) fn call_one<S: CondSteps, R: Wait>(
         moment,
         pass,
         |pass: S::Pass, root: S::Root, told: UnparkResult| -> (S::Pass, S::Root, Token)
+            requires key { (S.Root.view root).key ≡ cond }
             requires may { S.may_call pass (S.Root.view root).key }
             requires clear { (S.Root.view root).owes ≡ [] }
             requires told { (now : ℕ) × Tells (S.Root.view root).line now told }
@@ -41,7 +42,7 @@ pub(crate) fn call_one<S: CondSteps, R: Wait>(
             ensures token { result.2.0 ≡ 0 }
         {
             let taken = count_of(told.thread);
-            let (pass, root) = scheme.call_first(pass, root, 1, taken, told.more);
+            let (pass, root) = scheme.call_first(pass, root, cond, 1, taken, told.more);
             (pass, root, TAKEN)
         },
     );
@@ -81,13 +82,14 @@ pub(crate) fn call_some<S: CondSteps, R: Wait>(
         count,
         pass,
         |pass: S::Pass, root: S::Root, taken: usize, more: bool| -> (S::Pass, S::Root)
+            requires key { (S.Root.view root).key ≡ cond }
             requires may { S.may_call pass (S.Root.view root).key }
             requires clear { (S.Root.view root).owes ≡ [] }
             requires count { IsCallCount count }
             requires told { (threads : ℕ) × TellsCount threads count (S.Root.view root).line taken more }
             ensures pass { S.calls pass (S.Root.view root).key count taken more result.0 }
             ensures root { Dequeues S.Root.view count root result.1 }
-        { scheme.call_first(pass, root, count, taken, more) },
+        { scheme.call_first(pass, root, cond, count, taken, more) },
     )
 }
 
@@ -110,11 +112,12 @@ pub(crate) fn sweep_line<S: CondSteps, R: Wait>(
         cond,
         pass,
         |pass: S::Pass, root: S::Root, count: usize| -> (S::Pass, S::Root)
+            requires key { (S.Root.view root).key ≡ cond }
             requires may { S.may_sweep pass (S.Root.view root).key }
             requires clear { (S.Root.view root).owes ≡ [] }
             requires count { count ≡ length (S.Root.view root).line }
             ensures pass { S.sweeps pass (S.Root.view root).key count result.0 }
             ensures root { DequeuesAll S.Root.view root result.1 }
-        { scheme.sweep_all(pass, root, count) },
+        { scheme.sweep_all(pass, root, cond, count) },
     )
 }

@@ -37,8 +37,10 @@ pub trait CondSteps: LockSteps {
         &self,
         pass: Self::Pass,
         root: Self::Root,
+        key: usize,
         lock: usize,
     ) -> (Self::Pass, Self::Root)
+        requires key { (Self.Root.view root).key ≡ key }
         requires may { may_enlist pass (Self.Root.view root).key lock }
         ensures pass { enlists pass (Self.Root.view root).key lock result.0 }
         ensures lets { Self.may_let_go result.0 lock }
@@ -50,10 +52,12 @@ pub trait CondSteps: LockSteps {
         &self,
         pass: Self::Pass,
         root: Self::Root,
+        key: usize,
         count: usize,
         taken: usize,
         more: bool,
     ) -> (Self::Pass, Self::Root)
+        requires key { (Self.Root.view root).key ≡ key }
         requires may { may_call pass (Self.Root.view root).key }
         requires clear { (Self.Root.view root).owes ≡ [] }
         requires count { IsCallCount count }
@@ -67,8 +71,10 @@ pub trait CondSteps: LockSteps {
         &self,
         pass: Self::Pass,
         root: Self::Root,
+        key: usize,
         taken: usize,
     ) -> (Self::Pass, Self::Root)
+        requires key { (Self.Root.view root).key ≡ key }
         requires may { may_sweep pass (Self.Root.view root).key }
         requires clear { (Self.Root.view root).owes ≡ [] }
         requires taken { length (Self.Root.view root).line ≡ taken }
@@ -96,28 +102,31 @@ impl<V: Keeps + Send, N: LotName<V> + Send> CondSteps for LotScheme<V, N> {
         &self,
         pass: NamedPass<V, N>,
         root: NamedRoot<V, N>,
+        key: usize,
         lock: usize,
     ) -> (NamedPass<V, N>, NamedRoot<V, N>) {
-        self.enlist(pass, root, lock)
+        self.enlist(pass, root, key, lock)
     }
 
     fn call_first(
         &self,
         pass: NamedPass<V, N>,
         root: NamedRoot<V, N>,
+        key: usize,
         count: usize,
         taken: usize,
         more: bool,
     ) -> (NamedPass<V, N>, NamedRoot<V, N>) {
-        self.call(pass, root, count, taken, more)
+        self.call(pass, root, key, count, taken, more)
     }
 
     fn sweep_all(
         &self,
         pass: NamedPass<V, N>,
         root: NamedRoot<V, N>,
+        key: usize,
         taken: usize,
     ) -> (NamedPass<V, N>, NamedRoot<V, N>) {
-        self.sweep(pass, root, taken)
+        self.sweep(pass, root, key, taken)
     }
 }

@@ -35,12 +35,13 @@ pub(crate) fn sleep_on<S: CondSteps, R: Wait, B: BeforeSleep>(
         cond,
         Released::Quiet,
         |x: Released, pass: S::Pass, root: S::Root| -> (Released, S::Pass, S::Root, bool)
+            requires key { (S.Root.view root).key ≡ cond }
             requires may { S.may_enlist pass (S.Root.view root).key lock }
             ensures pass { S.enlists pass (S.Root.view root).key lock result.1 }
             ensures lets { S.may_let_go result.1 lock }
             ensures queues { (result.3 ≡ true) × Queues S.Root.view S.thread pass root true result.1 result.2 }
         {
-            let (pass, root) = scheme.enlist_last(pass, root, lock);
+            let (pass, root) = scheme.enlist_last(pass, root, cond, lock);
             (x, pass, root, true)
         },
         |_quiet: Released, pass: S::Pass, _unlocked: Unlocked| -> (Released, S::Pass)

@@ -8,6 +8,7 @@ pub mod Tells
 pub mod Carries
 pub mod Seekers
 pub mod Letters
+pub mod Paying
 pub mod Moments
 pub mod Opens
 pub mod Order

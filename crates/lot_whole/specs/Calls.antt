@@ -1,5 +1,6 @@
 -- What each kind of call does to the rights that it is handed.
 use Rattle.std.specs.Prelude.{◌≡◌, ◌≢◌, ◌⊎◌, ◌%◌, ℕ, zero, suc, ◌<◌, Bool, true, false, Option, Some, None}
+use Rattle.std.specs.List.{Contains}
 use Rattle.lot_events.specs.declared.events.Event.TheVariants.{SemTake, SemFree}
 use Rattle.lot_events.specs.declared.events.Event.{Event}
 use Rattle.lot_events.specs.declared.events.Seen.TheVariants.{Bool as Saw}
@@ -13,14 +14,15 @@ use Rattle.lot_words.specs.declared.views.LockRootView.{LockRootView}
 use Rattle.lot_conds.specs.declared.views.CondRootView.{CondRootView}
 use Rattle.lot_sems.specs.declared.views.SemRootView.{SemRootView}
 use Rattle.lot_words.specs.declared.views.Place.{Place}
-use Rattle.lot_words.specs.Calls.{owning, placing, woken as lock_woken}
-use Rattle.lot_conds.specs.Calls.{one_wait_more}
+use Rattle.lot_words.specs.Calls.{owning, placing, woken as lock_woken, paid_root as lock_paid}
+use Rattle.lot_conds.specs.Calls.{one_wait_more, paid_root as cond_paid}
 use Rattle.lot_sems.specs.declared.taking.Taken.{Taken}
 use Rattle.lot_sems.specs.declared.taking.Taken.TheVariants.{Got, Empty, Busy}
 use Rattle.lot_sems.specs.declared.views.SemPassView.{SemPassView}
-use Rattle.lot_sems.specs.Calls.{one_permit_more, one_permit_less, seeking, IsAnyLeft, IsUnmarked, woken as sem_woken}
+use Rattle.lot_sems.specs.Calls.{paid_root as sem_paid, one_permit_more, one_permit_less, seeking, IsAnyLeft, IsUnmarked, woken as sem_woken}
 use Rattle.lot_whole.specs.declared.views.LotPassView.{LotPassView}
 use Rattle.lot_whole.specs.declared.views.LotRootView.{LotRootView}
+use Rattle.lot_whole.specs.declared.views.LotRootView.TheVariants.{Lock, Cond, Sem}
 use Rattle.lot_whole.specs.Family.{Which, lock, cond, sem, PassIn, RootIn}
 use Rattle.lot_whole.specs.Lot.{root_from}
 use Rattle.lot_whole.specs.Lifts.{lot_own}
@@ -54,6 +56,18 @@ RootIs j p own q = q ≡ record p { own = root_from j own }
 
 abbrev pub RootNotesIn : (j : Which) → RootShown LotRootView → RootIn j → Access → RootShown LotRootView → Type 0
 RootNotesIn j p own a q = RootNotes p (root_from j own) a q
+
+-- the root owes the thread a letter with this token; one of a condition or of a semaphore has the token 0
+abbrev pub OwesLetter : LotRootView → ℕ → ℕ → Type 0
+OwesLetter (Lock q) t token = q.owes ≡ Some (t, token)
+OwesLetter (Cond q) t token = Contains q.owes t × (token ≡ 0)
+OwesLetter (Sem q) t token = (q.owes ≡ Some t) × (token ≡ 0)
+
+-- what it knows when that letter was posted
+abbrev pub paid : LotRootView → ℕ → LotRootView
+paid (Lock q) t = Lock (lock_paid q)
+paid (Cond q) t = Cond (cond_paid q t)
+paid (Sem q) t = Sem (sem_paid q)
 
 -- q is the pass p after it found no letter
 abbrev pub FoundNone : {V : Type 0} → PassShown (LotPassView V) → PassShown (LotPassView V) → Type 0

@@ -8,7 +8,7 @@ ghost use Rattle.lot_whole.specs.declared.views.LotRootView.{LotRootView};
 ghost use Rattle.lot_whole.specs.Family.{key_count};
 ghost use Rattle.lot_whole.specs.Closing.{HasDone, called_in, woken_in, IsToldTo};
 
-use crate::kind::{LotPass, LotRoot};
+use crate::kind::{LotLyingRoot, LotPass};
 use crate::words::LotWords;
 use lot_words::Keeps;
 use lot_words::closing::take_values;
@@ -18,7 +18,7 @@ impl<V: Keeps> LotWords<V> {
     /// a lock, and none waits on a condition. Each value keeps the rule and has grown from what each pass had seen of
     /// it; in each condition, the sleepers that were taken are as many as the waits that found their letter; and one
     /// run of the whole model, from the opening to a sound state, was made with these rights.
-    pub fn close(self, passes: Vec<LotPass<V>>, roots: Vec<LotRoot<V>>) -> Vec<V>
+    pub fn close(self, passes: Vec<LotPass<V>>, roots: Vec<LotLyingRoot<V>>) -> Vec<V>
         requires table { All (λ (p : PassShown (LotPassView V)). p.table ≡ self.table) passes.items
             × All (λ (q : RootShown LotRootView). q.table ≡ self.table) roots.items }
         requires done { All HasDone passes.items }

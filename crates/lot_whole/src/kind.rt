@@ -1,7 +1,7 @@
 //! The kind of table that a lot's words make.
 use crate::start::Start;
 use crate::views::{PassKnowledge, RootKnowledge};
-use lot_rights::{Kind, PassOf, RootOf};
+use lot_rights::{Kind, LyingRootOf, PassOf, RootOf};
 use lot_words::Keeps;
 use std::marker::PhantomData;
 
@@ -44,3 +44,6 @@ pub type LotPass<V> = PassOf<Lot<V>>;
 /// The right to change the line of one key, of whatever kind. Contracts see it as its table and a `RootShown`, whose
 /// `own` is a `LotRootView`.
 pub type LotRoot<V> = RootOf<Lot<V>>;
+
+/// A root as it lies in a bucket or in a list, which takes no bytes; contracts see it as a `LotRoot`.
+pub type LotLyingRoot<V> = LyingRootOf<Lot<V>>;

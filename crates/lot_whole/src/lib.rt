@@ -24,7 +24,7 @@
 //! | `try_take_permit`, `take_permit`, `mark_permit`, `park_permit` | semaphores | has one more, seeks one, or sleeps |
 //! | `free_permit`, `pass_permit` | semaphores | has one permit less |
 //! | `clear` | semaphores | is as it was |
-//! | `post`, `post_cond`, `post_sem`, `collect` | letters | (the root owes one letter less); is awake again |
+//! | `post`, `collect` | letters | (the root owes one letter less); is awake again |
 //!
 //! A thread waits in one kind at most, so one word serves for its letters of all kinds, and its pass tells whose
 //! letter lies there.
@@ -47,7 +47,7 @@ pub mod views;
 mod waiting;
 pub mod words;
 
-pub use kind::{LotPass, LotRoot};
+pub use kind::{LotLyingRoot, LotPass, LotRoot};
 pub use lot_rights::WordsFault;
 pub use lot_words::Keeps;
 pub use words::LotWords;

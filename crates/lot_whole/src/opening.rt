@@ -8,7 +8,7 @@ ghost use Rattle.lot_sems.specs.Opening.{opening_words};
 ghost use Rattle.lot_whole.specs.Family.{sem_size};
 ghost use Rattle.lot_whole.specs.Shown.{lot_of};
 
-use crate::kind::{LotPass, LotRoot};
+use crate::kind::{LotLyingRoot, LotPass};
 use crate::start::Start;
 use crate::words::LotWords;
 use lot_rights::{WordsFault, WordsOf};
@@ -29,7 +29,7 @@ impl<V: Keeps> LotWords<V> {
         mut values: Vec<V>,
         conds: usize,
         permits: Vec<u32>,
-    ) -> Result<(LotWords<V>, Vec<LotPass<V>>, Vec<LotRoot<V>>), (WordsFault, Vec<V>)>
+    ) -> Result<(LotWords<V>, Vec<LotPass<V>>, Vec<LotLyingRoot<V>>), (WordsFault, Vec<V>)>
         requires limits { (0 < threads) × (threads ≤ MAX_THREADS) × (0 < vec_len values)
             × (vec_len values + conds + vec_len permits ≤ MOST_KEYS) }
         requires keep { (k : ℕ) (v : V) → slice_get values.items k ≡ Some v → V.keeps k v }

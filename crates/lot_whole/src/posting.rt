@@ -1,68 +1,35 @@
 //! Letters, by which a thread is told that it was taken from a line.
-ghost use Rattle.std.specs.Prelude.{◌≡◌, MatchOption, Some};
-ghost use Rattle.std.specs.List.{Contains};
+ghost use Rattle.std.specs.Prelude.{◌≡◌, MatchOption};
 ghost use Rattle.lot_rights.specs.declared.views.Access.TheVariants.{Posts};
-ghost use Rattle.lot_words.specs.Calls.{paid_root as lock_paid};
-ghost use Rattle.lot_conds.specs.Calls.{paid_root as cond_paid};
-ghost use Rattle.lot_sems.specs.Calls.{paid_root as sem_paid};
-ghost use Rattle.lot_whole.specs.Family.{lock, cond, sem};
-ghost use Rattle.lot_whole.specs.Standing.{IsLockRoot, IsCondRoot, IsSemRoot, as_lock, as_cond, as_sem};
-ghost use Rattle.lot_whole.specs.Calls.{RootNotesIn, FoundNone, Collected};
+ghost use Rattle.lot_rights.specs.Steps.{RootNotes};
+ghost use Rattle.lot_whole.specs.Calls.{OwesLetter, paid, FoundNone, Collected};
 
-use crate::kind::{LotPass, LotRoot};
+use crate::kind::{LotLyingRoot, LotPass};
 use crate::words::LotWords;
+use lot_rights::Lying;
 use lot_words::Keeps;
 use std::marker::Brand;
 
 /// A thread's word where no letter lies. Where one lies, the word is its token and 1.
 const NO_LETTER: u64 = 0;
 
-/// A thread's word where a letter of a condition or of a semaphore lies: their tokens are all 0.
-const LETTER: u64 = 1;
-
 impl<V: Keeps> LotWords<V> {
-    /// Posts the letter that the root of a lock owes, by one store, while the bucket of the lock is still locked.
-    pub fn post(&self, root: LotRoot<V>, thread: usize, token: u32) -> LotRoot<V>
+    /// Posts a letter that the root of a key owes, by one store, while the bucket of the key is still locked. The store is
+    /// the same for keys of all kinds, so a root that lies without its number will do.
+    pub fn post(&self, root: LotLyingRoot<V>, thread: usize, token: u32) -> LotLyingRoot<V>
         requires table { root.table ≡ self.now.table }
-        requires lock { IsLockRoot root.own }
-        requires owes { (as_lock root.own).owes ≡ Some (thread, token) }
+        requires owes { OwesLetter root.own thread token }
         ensures table { result.table ≡ root.table }
-        ensures posted { RootNotesIn lock root (lock_paid (as_lock root.own))
-            (Posts root.key thread token) result }
+        ensures posted { RootNotes root (paid root.own thread) (Posts root.key thread token) result }
     {
         let words = &self.words;
         let letter = root.letter_of(thread);
-        words.store_root::<Brand, (usize, u32)>(root, letter, token as u64 + 1, (thread, token))
-    }
-
-    /// Posts a letter that the root of a condition owes, by one store, while the bucket of the condition is still
-    /// locked.
-    pub fn post_cond(&self, root: LotRoot<V>, thread: usize) -> LotRoot<V>
-        requires table { root.table ≡ self.now.table }
-        requires cond { IsCondRoot root.own }
-        requires owes { Contains (as_cond root.own).owes thread }
-        ensures table { result.table ≡ root.table }
-        ensures posted { RootNotesIn cond root (cond_paid (as_cond root.own) thread)
-            (Posts root.key thread 0) result }
-    {
-        let words = &self.words;
-        let letter = root.letter_of(thread);
-        words.store_root::<Brand, usize>(root, letter, LETTER, thread)
-    }
-
-    /// Posts the letter that the root of a semaphore owes, by one store, while the bucket of the semaphore is still
-    /// locked.
-    pub fn post_sem(&self, root: LotRoot<V>, thread: usize) -> LotRoot<V>
-        requires table { root.table ≡ self.now.table }
-        requires sem { IsSemRoot root.own }
-        requires owes { (as_sem root.own).owes ≡ Some thread }
-        ensures table { result.table ≡ root.table }
-        ensures posted { RootNotesIn sem root (sem_paid (as_sem root.own))
-            (Posts root.key thread 0) result }
-    {
-        let words = &self.words;
-        let letter = root.letter_of(thread);
-        words.store_root::<Brand, usize>(root, letter, LETTER, thread)
+        words.store_root::<Brand, Lying, (usize, u32)>(
+            root,
+            letter,
+            token as u64 + 1,
+            (thread, token),
+        )
     }
 
     /// Collects the pass's letter, by one swap, and answers its token where a letter lay. Whose letter it is the pass

@@ -7,7 +7,7 @@ ghost use Rattle.lot_words.specs.Calls.{paid_root, FoundNone, Collected};
 use crate::keeps::Keeps;
 use crate::kind::{LockPass, LockRoot};
 use crate::words::LockWords;
-use lot_rights::word_of_key;
+use lot_rights::{Numbered, word_of_key};
 use std::marker::Brand;
 
 /// A thread's word where no letter lies. Where one lies, the word is its token and 1.
@@ -23,7 +23,7 @@ impl<V: Keeps> LockWords<V> {
     {
         let words = &self.words;
         let letter = root.letter_of(thread);
-        words.store_root::<Brand, (usize, u32)>(root, letter, token as u64 + 1, (thread, token))
+        words.store_root::<Brand, Numbered, (usize, u32)>(root, letter, token as u64 + 1, (thread, token))
     }
 
     /// Collects the pass's letter, by one swap, and answers its token where a letter lay: 0 where the thread may try

@@ -144,8 +144,9 @@ impl<V: Keeps + Send, N: LotName<V> + Send> Sought<Locks> for Gated<V, N> {
         &self,
         pass: NamedPass<V, N>,
         root: NamedRoot<V, N>,
+        key: usize,
     ) -> (NamedPass<V, N>, NamedRoot<V, N>, bool) {
-        self.inner.queue(pass, root)
+        self.inner.queue(pass, root, key)
     }
 
     fn is_handed(token: Token) -> bool {
@@ -173,10 +174,11 @@ impl<V: Keeps + Send, N: LotName<V> + Send> LockSteps for Gated<V, N> {
         &self,
         pass: NamedPass<V, N>,
         root: NamedRoot<V, N>,
+        key: usize,
         told: UnparkResult,
         fair: bool,
     ) -> (NamedPass<V, N>, NamedRoot<V, N>, Token, Released) {
-        self.inner.hand_over(pass, root, told, fair)
+        self.inner.hand_over(pass, root, key, told, fair)
     }
 }
 

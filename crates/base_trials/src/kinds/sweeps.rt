@@ -42,12 +42,13 @@ pub(crate) fn take_all<S: CondSteps, R: Wait>(
         2,
         pass,
         |pass: S::Pass, root: S::Root, count: usize| -> (S::Pass, S::Root)
+            requires key { (S.Root.view root).key ≡ 2 }
             requires lowered { S.may_sweep pass (S.Root.view root).key }
             requires clear { (S.Root.view root).owes ≡ [] }
             requires count { count ≡ length (S.Root.view root).line }
             ensures pass { S.sweeps pass (S.Root.view root).key count result.0 }
             ensures root { DequeuesAll S.Root.view root result.1 }
-        { scheme.sweep_all(pass, root, count) },
+        { scheme.sweep_all(pass, root, 2, count) },
     )
 }
 
@@ -85,6 +86,7 @@ fn sleep_swept<S: CondSteps, R: Wait + Abort>(
         2,
         one,
         |one: S::Pass, zero: S::Pass, root: S::Root| -> (S::Pass, S::Pass, S::Root, bool)
+            requires key { (S.Root.view root).key ≡ 2 }
             requires may { S.may_enlist zero (S.Root.view root).key 0 }
             ensures same { result.0 ≡ one }
             ensures pass { S.enlists zero (S.Root.view root).key 0 result.1 }
@@ -92,7 +94,7 @@ fn sleep_swept<S: CondSteps, R: Wait + Abort>(
             ensures root { Queues S.Root.view S.thread zero root true result.1 result.2 }
             ensures says { result.3 ≡ true }
         {
-            let (zero, root) = scheme.enlist_last(zero, root, 0);
+            let (zero, root) = scheme.enlist_last(zero, root, 2, 0);
             (one, zero, root, true)
         },
         |one: S::Pass, zero: S::Pass, _unlocked: Unlocked| -> (S::Pass, S::Pass)
@@ -129,6 +131,7 @@ fn call_the_first<S: CondSteps, R: Wait + Abort>(
         EARLY,
         pass,
         |pass: S::Pass, root: S::Root, told: UnparkResult| -> (S::Pass, S::Root, Token)
+            requires key { (S.Root.view root).key ≡ 2 }
             requires may { S.may_call pass (S.Root.view root).key }
             requires clear { (S.Root.view root).owes ≡ [] }
             requires told { (now : ℕ) × Tells (S.Root.view root).line now told }
@@ -137,7 +140,7 @@ fn call_the_first<S: CondSteps, R: Wait + Abort>(
             ensures token { result.2.0 ≡ 0 }
         {
             let taken = count_of(told.thread);
-            let (pass, root) = scheme.call_first(pass, root, 1, taken, told.more);
+            let (pass, root) = scheme.call_first(pass, root, 2, 1, taken, told.more);
             (pass, root, Token(0))
         },
     );
@@ -177,6 +180,7 @@ fn sleep_called<S: CondSteps, R: Wait + Abort>(
         2,
         one,
         |one: S::Pass, zero: S::Pass, root: S::Root| -> (S::Pass, S::Pass, S::Root, bool)
+            requires key { (S.Root.view root).key ≡ 2 }
             requires may { S.may_enlist zero (S.Root.view root).key 0 }
             ensures same { result.0 ≡ one }
             ensures pass { S.enlists zero (S.Root.view root).key 0 result.1 }
@@ -184,7 +188,7 @@ fn sleep_called<S: CondSteps, R: Wait + Abort>(
             ensures root { Queues S.Root.view S.thread zero root true result.1 result.2 }
             ensures says { result.3 ≡ true }
         {
-            let (zero, root) = scheme.enlist_last(zero, root, 0);
+            let (zero, root) = scheme.enlist_last(zero, root, 2, 0);
             (one, zero, root, true)
         },
         |one: S::Pass, zero: S::Pass, _unlocked: Unlocked| -> (S::Pass, S::Pass)

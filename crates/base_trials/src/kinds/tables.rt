@@ -9,7 +9,7 @@ ghost use Rattle.base_trials.specs.Opened.{AreDealt, AreFreshRoots, AreBack, Are
 use lot_park::Moment;
 use lot_rights::WordsFault;
 use lot_scheme::{LotName, LotScheme, NamedPass, NamedRoot};
-use lot_whole::{LotPass, LotRoot, LotWords};
+use lot_whole::{LotLyingRoot, LotPass, LotWords};
 use lot_words::Keeps;
 use std::alloc::{AllocError, Global};
 
@@ -44,7 +44,7 @@ pub(crate) type Words = LotWords<Nothing>;
 
 pub(crate) type Passes = Vec<LotPass<Nothing>>;
 
-pub(crate) type Roots = Vec<LotRoot<Nothing>>;
+pub(crate) type Roots = Vec<LotLyingRoot<Nothing>>;
 
 // So many of what the locks guard.
 fn nothings(alloc: Global, count: usize) -> Result<Vec<Nothing>, AllocError>

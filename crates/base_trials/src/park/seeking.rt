@@ -44,7 +44,7 @@ impl Sought<Prizes> for Letters {
         (pass, Seeking::Got)
     }
 
-    fn queue(&self, pass: Pass, root: Right) -> (Pass, Right, bool) {
+    fn queue(&self, pass: Pass, root: Right, _key: usize) -> (Pass, Right, bool) {
         (pass, root, false)
     }
 
@@ -120,7 +120,7 @@ impl Sought<Meetings> for Letters {
         (pass, Seeking::Got)
     }
 
-    fn queue(&self, pass: Pass, root: Right) -> (Pass, Right, bool) {
+    fn queue(&self, pass: Pass, root: Right, _key: usize) -> (Pass, Right, bool) {
         (pass, root, false)
     }
 

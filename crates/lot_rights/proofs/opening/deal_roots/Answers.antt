@@ -50,10 +50,11 @@ invariant_of-push_reserved g c =
     let seen = root_seen g.K.Kind.no_pass g.K.Kind.no_root own (new_root k.fresh_root key) dealt in (
       one_root g.K.Kind.no_pass g.K.Kind.no_root own (new_root k.fresh_root key) dealt,
       (
-        sym (ap (λ q. q.key) seen),
+        subst (λ q. g.A.Numbering.shown c.of.result q.key ≡ q.key) (sym seen) c.of.ensures,
         (
-          subst (λ z. word_at key < z.words) (sym (c.split_seat-own.ensures.3 ∙ c.loop-i.invariant.table))
-              (c.requires.near key (omega arith)),
+          subst (λ q. word_at q.key < c.split_seat-own.result.table_id.words) (sym seen)
+              (subst (λ z. word_at key < z.words) (sym (c.split_seat-own.ensures.3 ∙ c.loop-i.invariant.table))
+              (c.requires.near key (omega arith))),
           (
             subst (λ z. z.words < 2 ^ 64) (sym (c.split_seat-own.ensures.3 ∙ c.loop-i.invariant.table)) c.requires.table.2,
             ((λ u h. absurd (c.requires.calm key u (subst (λ q. g.K.Kind.names q.own u) seen h))), tt),

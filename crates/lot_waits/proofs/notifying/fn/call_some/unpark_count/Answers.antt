@@ -6,6 +6,7 @@ pub call_first-requires : goal.call_first-requires
 call_first-requires g c =
     let (threads, told) = c.requires.told in
     record {
+      key = c.requires.key;
       may = c.requires.may;
       clear = c.requires.clear;
       count = c.requires.count;
