@@ -6,4 +6,5 @@ mod Openings
 mod Lying
 mod Counted
 mod Lines
+pub mod Spacing
 pub mod Slots

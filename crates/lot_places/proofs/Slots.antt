@@ -1,14 +1,17 @@
 -- Where the place of a key is.
-use Rattle.std.proofs.Common.{◌≡◌, ◌≢◌, ℕ, zero, suc, ◌+◌, ◌*◌, ◌<◌, ◌≤◌, true, false, List, [], ◌∷◌, ◌++◌, length, map, take, get_or, set}
-use Rattle.std.proofs.Common.{inl, inr, ◌-◌, ◌/◌, ◌%◌, MatchOption, Option, Some}
-use Rattle.std.proofs.Common.{None, refl, sym, ◌∙◌, ap, subst, arith, add-one, eq-eqb}
+use Rattle.std.proofs.Common.{◌≡◌, ◌≢◌, ℕ, zero, suc, ◌+◌, ◌*◌, ◌<◌, ◌≤◌, true, false, List, [], ◌∷◌, length, map, get_or, set, replicate}
+use Rattle.std.proofs.Common.{◌++◌, inl, inr, MatchOption, Option, Some, None, refl, sym, ◌∙◌, ap, arith, eq-eqb}
 use Rattle.std.proofs.lemmas.Bool.{ne_eqb}
-use Rattle.std.proofs.lemmas.List.{get_or-map, length-map, map-append, take_all}
-use Rattle.std.proofs.Math.Nat.{mul-le-mul_right, mul-mod_left, mul-div_cancel}
+use Rattle.std.proofs.lemmas.List.{get_or-map, length-map, length-set, length-replicate, get_or_default}
+use Rattle.std.proofs.lemmas.Slice.Zip.{get_or-zip, length-zip}
+use Rattle.std.proofs.Math.Nat.{mul-le-mul_right}
 use Rattle.std.proofs.lemmas.Option.{get_or_from_slice_get}
 use Rattle.std.proofs.lemmas.Bool.Decides.{eqb_tells}
-use Rattle.std.proofs.Math.Seq.{map-set_same}
+use Rattle.std.specs.List.{zip}
 use Rattle.lot_places.specs.Places.{empty_places, spaced, has_key, root_at, with_root, AreEven, AreWithout, LieFirst, AreBare, IsPlaceOf}
+use Rattle.lot_places.specs.Places.{IsFirst, IsMissing}
+use Rattle.lot_places.proofs.Spacing.{even_keys}
+pub use Rattle.lot_places.proofs.Spacing.{length-spaced}
 
 module _ {R : Type 0} where
   -- the places before i are of other keys, and the one at i is of key k
@@ -65,38 +68,42 @@ module _ {R : Type 0} where
   even_without first step k places even none =
       no_place k places (λ j d lt e. none j lt (sym (key_at first step places even j d lt) ∙ e))
 
-  -- what division finds among evenly spaced keys is the place of the key
-  pub even_found : (first step key : ℕ) (places : List (ℕ × Option R)) (found : Option ℕ) → 0 < step
-      → AreEven first step (map (λ (p : ℕ × Option R). p.0) places)
-      → MatchOption found ((j : ℕ) → j < length places → first + j * step ≢ key) (λ i. (i < length places) × (first + i * step ≡ key))
-      → MatchOption found (has_key key places ≡ false) (IsPlaceOf key places)
-  even_found first step key places None rises even none = even_without first step key places even none
-  even_found first step key places (Some i) rises even at = even_place first step key i places rises even at.0 at.1
+  -- a key and the root beside it
+  beside : (keys : List ℕ) (slots : List (Option R)) (i : ℕ) (d : ℕ × Option R) → length slots ≡ length keys → i < length keys
+      → get_or (zip keys slots) i d ≡ (get_or keys i d.0, get_or slots i d.1)
+  beside keys slots i d all lt = get_or-zip keys slots i d lt (omega (arith, all))
 
-  -- what a slot that was read at the place of k has, where the places are seen as shown
-  pub read_at : (k i : ℕ) (places shown : List (ℕ × Option R)) (slot : ℕ × Option R) → places ≡ shown → IsPlaceOf k shown i
-      → slot ≡ get_or places i slot
-      → slot ≡ (k, root_at k shown)
-  read_at k i places shown slot same at is =
-      is ∙ ap (λ ps. get_or ps i slot) same ∙ get_or_from_slice_get shown i (k, root_at k shown) slot at.holds
+  key_beside : (keys : List ℕ) (slots : List (Option R)) (i : ℕ) (d : ℕ × Option R) → length slots ≡ length keys → i < length keys
+      → (get_or (zip keys slots) i d).0 ≡ get_or keys i 0
+  key_beside keys slots i d all lt =
+      ap (λ (p : ℕ × Option R). p.0) (beside keys slots i d all lt) ∙ get_or_default keys i d.0 0 lt
 
-  -- the slot is stored with another root
-  pub stored_at : (k i : ℕ) (places shown : List (ℕ × Option R)) (slot : ℕ × Option R) (root : Option R) → places ≡ shown
-      → IsPlaceOf k shown i → slot ≡ get_or places i slot
-      → set places i (slot.0, root) ≡ with_root k root shown
-  stored_at k i places shown slot root same at is =
-      ap (λ ps. set ps i (slot.0, root)) same
-      ∙ ap (λ (n : ℕ). set shown i (n, root)) (ap (λ (p : ℕ × Option R). p.0) (read_at k i places shown slot same at is))
-      ∙ sym (at.changed root)
+  places_of_keys : (keys : List ℕ) (slots : List (Option R)) → length slots ≡ length keys → length (zip keys slots) ≡ length keys
+  places_of_keys keys slots all = length-zip keys slots ∙ omega (arith, all)
 
-  -- another root leaves the keys evenly spaced
-  pub even_kept : (first step i : ℕ) (places : List (ℕ × Option R)) (slot : ℕ × Option R) (root : Option R) → slot ≡ get_or places i slot
-      → (0 < step → AreEven first step (map (λ (p : ℕ × Option R). p.0) places)) → 0 < step
-      → AreEven first step (map (λ (p : ℕ × Option R). p.0) (set places i (slot.0, root)))
-  even_kept first step i places slot root is even rises =
-      let same : map (λ (p : ℕ × Option R). p.0) (set places i (slot.0, root)) ≡ map (λ (p : ℕ × Option R). p.0) places =
-      map-set_same (λ (p : ℕ × Option R). p.0) places i (slot.0, root) slot (ap (λ (p : ℕ × Option R). p.0) is) in
-      subst (λ (ks : List ℕ). AreEven first step ks) (sym same) (even rises)
+  -- what is found among the keys is the place of the key
+  pub found_place : (key : ℕ) (keys : List ℕ) (slots : List (Option R)) (found : Option ℕ) → length slots ≡ length keys
+      → MatchOption found (IsMissing key keys) (IsFirst key keys)
+      → MatchOption found (has_key key (zip keys slots) ≡ false) (IsPlaceOf key (zip keys slots))
+  found_place key keys slots None all missing =
+      no_place key (zip keys slots)
+      (λ j d lt e.
+      let within : j < length keys = rw (places_of_keys keys slots all) at lt in
+      missing j within (sym (key_beside keys slots j d all within) ∙ e))
+  found_place key keys slots (Some i) all at =
+      first_place key (zip keys slots) i (rw (places_of_keys keys slots all) at.bound)
+      (λ j d less e.
+      at.before j less (sym (key_beside keys slots j d all (let within : j < length keys = omega (arith, at.bound) in within)) ∙ e))
+      (λ d. key_beside keys slots i d all at.bound ∙ at.here)
+
+  -- another root in a slot
+  zip-set : (keys : List ℕ) (slots : List (Option R)) (i d : ℕ) (root : Option R) → length slots ≡ length keys
+      → zip keys (set slots i root) ≡ set (zip keys slots) i (get_or keys i d, root)
+  zip-set [] [] i d root all = refl
+  zip-set [] (s ∷ slots) i d root all = absurd (omega (arith, all))
+  zip-set (k ∷ keys) [] i d root all = absurd (omega (arith, all))
+  zip-set (k ∷ keys) (s ∷ slots) zero d root all = refl
+  zip-set (k ∷ keys) (s ∷ slots) (suc i) d root all = ap (λ ps. (k, s) ∷ ps) (zip-set keys slots i d root (omega (arith, all)))
 
   -- a key that the bucket has not has no root
   pub rootless : (k : ℕ) (places : List (ℕ × Option R)) → has_key k places ≡ false → root_at k places ≡ None
@@ -126,13 +133,6 @@ module _ {R : Type 0} where
         | inr e ↦ rw e.0 (without_with p.0 k root places (λ same. e.1 (sym same)) lie.0, lies_first_with k root places lie.1)
       ]
 
-  -- a slot that is stored with another root
-  pub first_kept : (k i : ℕ) (places shown : List (ℕ × Option R)) (slot : ℕ × Option R) (root : Option R) → places ≡ shown
-      → IsPlaceOf k shown i → slot ≡ get_or places i slot
-      → LieFirst places → LieFirst (set places i (slot.0, root))
-  first_kept k i places shown slot root same at is lie =
-      rw (stored_at k i places shown slot root same at is) (lies_first_with k root shown (rw same at lie))
-
   -- where no key has a root, and roots lie first, none lies here
   rest_rootless : (p : ℕ × Option R) (places : List (ℕ × Option R)) → AreWithout p.0 places → ((k : ℕ) → root_at k (p ∷ places) ≡ None)
       → (k : ℕ) → root_at k places ≡ None
@@ -146,15 +146,48 @@ module _ {R : Type 0} where
       without_root j [] none = refl
       without_root j (q ∷ ps) none = elim (eqb_tells q.0 j) [ inl e ↦ rw e.0 (none.0 e.1) | inr e ↦ rw e.0 (without_root j ps none.1) ]
 
-  pub bare : (places : List (ℕ × Option R)) → LieFirst places → ((k : ℕ) → root_at k places ≡ None) → AreBare places
-  bare [] lie none = tt
-  bare (p ∷ places) lie none =
-      (rw (eq-eqb p.0 p.0 refl) at (none p.0), bare places lie.1 (rest_rootless p places lie.0 none))
+  pub bare : (keys : List ℕ) (slots : List (Option R)) → length slots ≡ length keys → LieFirst (zip keys slots)
+      → ((k : ℕ) → root_at k (zip keys slots) ≡ None) → AreBare slots
+  bare keys [] all lie none = tt
+  bare [] (s ∷ slots) all lie none = absurd (omega (arith, all))
+  bare (k ∷ keys) (s ∷ slots) all lie none =
+      (rw (eq-eqb k k refl) at (none k), bare keys slots (omega (arith, all)) lie.1 (rest_rootless (k, s) (zip keys slots) lie.0 none))
 
-  -- the last place, and those before it
-  pub bare_last : (before : List (ℕ × Option R)) (p : ℕ × Option R) → AreBare (before ++ p ∷ []) → AreBare before × (p.1 ≡ None)
-  bare_last [] p all = (tt, all.0)
-  bare_last (q ∷ before) p all = let rest = bare_last before p all.1 in ((all.0, rest.0), rest.1)
+  -- the last slot, and those before it
+  pub bare_last : (before : List (Option R)) (root : Option R) → AreBare (before ++ root ∷ [])
+      → AreBare before × (root ≡ None)
+  bare_last [] root all = (tt, all.0)
+  bare_last (r ∷ before) root all = let rest = bare_last before root all.1 in ((all.0, rest.0), rest.1)
+
+-- where slots beside keys are seen as places, the slot at the place of k
+module _ {R : Type 0} (k i : ℕ) (keys : List ℕ) (slots : List (Option R)) (shown : List (ℕ × Option R)) (same : zip keys slots ≡ shown)
+    (all : length slots ≡ length keys) (at : IsPlaceOf k shown i) where
+  key_within : i < length keys
+  key_within = rw (← same, places_of_keys keys slots all) at at.bound
+
+  held : (d : ℕ × Option R) → get_or (zip keys slots) i d ≡ (k, root_at k shown)
+  held d = ap (λ ps. get_or ps i d) same ∙ get_or_from_slice_get shown i (k, root_at k shown) d at.holds
+
+  key_held : (d : ℕ × Option R) → get_or keys i d.0 ≡ k
+  key_held d = ap (λ (p : ℕ × Option R). p.0) (sym (beside keys slots i d all key_within) ∙ held d)
+
+  pub slot_within : i < length slots
+  slot_within = omega (arith, key_within, all)
+
+  -- has the root of k
+  pub slot_read : (slot : Option R) → slot ≡ get_or slots i slot → slot ≡ root_at k shown
+  slot_read slot is = is ∙ ap (λ (p : ℕ × Option R). p.1) (sym (beside keys slots i (k, slot) all key_within) ∙ held (k, slot))
+
+  -- is seen with another root
+  pub slot_stored : (root : Option R) → zip keys (set slots i root) ≡ with_root k root shown
+  slot_stored root =
+      zip-set keys slots i k root all ∙ ap (λ (n : ℕ). set (zip keys slots) i (n, root)) (key_held (k, None))
+      ∙ ap (λ ps. set ps i (k, root)) same ∙ sym (at.changed root)
+
+  -- leaves a slot for each key, and the roots at the first places of theirs
+  pub slot_kept : (root : Option R) → LieFirst (zip keys slots)
+      → (length (set slots i root) ≡ length keys) × LieFirst (zip keys (set slots i root))
+  slot_kept root lie = (length-set slots i root ∙ all, rw (slot_stored root) (lies_first_with k root shown (rw same at lie)))
 
 without_empty : (R : Type 0) (j : ℕ) (keys : List ℕ) → AreWithout {R = R} j (empty_places keys)
 without_empty R j [] = tt
@@ -164,8 +197,27 @@ first_empty : (R : Type 0) (keys : List ℕ) → LieFirst {R = R} (empty_places 
 first_empty R [] = tt
 first_empty R (k ∷ keys) = (without_empty R k keys, first_empty R keys)
 
-pub first_new : (R : Type 0) (keys : List ℕ) (places : List (ℕ × Option R)) (n : ℕ) → places ≡ empty_places (take n keys) → LieFirst places
-first_new R keys places n made = rw made (first_empty R (take n keys))
+-- empty slots beside keys are new places
+zip-empty : (R : Type 0) (keys : List ℕ) (n : ℕ) → length keys ≡ n → zip keys (replicate n None) ≡ empty_places {R = R} keys
+zip-empty R [] n is = refl
+zip-empty R (k ∷ keys) zero is = absurd (omega (arith, is))
+zip-empty R (k ∷ keys) (suc n) is = ap (λ ps. (k, None) ∷ ps) (zip-empty R keys n (omega (arith, is)))
+
+-- so many empty slots
+pub record AreNew {R : Type 0} (keys : List ℕ) (slots : List (Option R)) : Type 0 where
+  pub all : length slots ≡ length keys
+  pub seen : zip keys slots ≡ empty_places keys
+  pub first : LieFirst (zip keys slots)
+
+pub new_slots : (R : Type 0) (keys : List ℕ) (slots : List (Option R)) (n : ℕ) → slots ≡ replicate n None → n ≡ length keys
+    → AreNew keys slots
+new_slots R keys slots n made count =
+    let seen : zip keys slots ≡ empty_places keys = rw made (zip-empty R keys n (sym count)) in
+    record {
+      all = ap (λ (s : List (Option R)). length s) made ∙ length-replicate n None ∙ count;
+      seen = seen;
+      first = rw seen (first_empty R keys);
+    }
 
 -- new places have no root
 pub rootless_empty : (R : Type 0) (k : ℕ) (keys : List ℕ) → root_at k (empty_places {R = R} keys) ≡ None
@@ -173,59 +225,10 @@ rootless_empty R k [] = refl
 rootless_empty R k (x ∷ keys) = elim (eqb_tells x k) [ inl e ↦ rw e.0 refl | inr e ↦ rw e.0 (rootless_empty R k keys) ]
 
 -- new places have the keys that they are made for
-pub keys_of_empty : (R : Type 0) (keys : List ℕ) → map (λ (p : ℕ × Option R). p.0) (empty_places {R = R} keys) ≡ keys
+keys_of_empty : (R : Type 0) (keys : List ℕ) → map (λ (p : ℕ × Option R). p.0) (empty_places {R = R} keys) ≡ keys
 keys_of_empty R [] = refl
 keys_of_empty R (k ∷ keys) = ap (λ ks. k ∷ ks) (keys_of_empty R keys)
 
-pub even_new : (R : Type 0) (keys : List ℕ) (places : List (ℕ × Option R)) (n first step : ℕ) → places ≡ empty_places (take n keys)
-    → length keys ≤ n → first ≡ get_or keys 0 0
-    → (0 < step → AreEven (get_or keys 0 0) step keys) → 0 < step → AreEven first step (map (λ (p : ℕ × Option R). p.0) places)
-even_new R keys places n first step made all first_is even rises =
-    let same : map (λ (p : ℕ × Option R). p.0) places ≡ keys =
-    ap (λ ps. map (λ (p : ℕ × Option R). p.0) ps) made ∙ keys_of_empty R (take n keys) ∙ take_all n keys all in
-    subst (λ (ks : List ℕ). AreEven first step ks) (sym same) (rw first_is (even rises))
-
--- one evenly spaced key more
-spaced_more : (first step n : ℕ) → spaced first step (suc n) ≡ spaced first step n ++ (first + n * step) ∷ []
-spaced_more first step zero = ap (λ k. k ∷ []) (let h : first ≡ first + 0 * step = omega arith in h)
-spaced_more first step (suc n) =
-    let next : first + step + n * step ≡ first + suc n * step = omega arith in
-    ap (λ ks. first ∷ ks) (spaced_more (first + step) step n ∙ ap (λ k. spaced (first + step) step n ++ k ∷ []) next)
-
-pub length-spaced : (first step n : ℕ) → length (spaced first step n) ≡ n
-length-spaced first step zero = refl
-length-spaced first step (suc n) = ap (λ m. suc m) (length-spaced (first + step) step n)
-
 pub even_spaced : (R : Type 0) (first step n : ℕ)
     → AreEven first step (map (λ (p : ℕ × Option R). p.0) (empty_places (spaced first step n)))
-even_spaced R first step n = rw (keys_of_empty R (spaced first step n)) (even first n)
-  where
-    even : (m count : ℕ) → AreEven m step (spaced m step count)
-    even m zero i lt = absurd (omega arith)
-    even m (suc count) zero lt = omega arith
-    even m (suc count) (suc i) lt = even (m + step) count i (omega arith) ∙ omega arith
-
-pub slot_more : (R : Type 0) (first step n : ℕ) (slots pushed : List (ℕ × Option R)) → slots ≡ empty_places (spaced first step n)
-    → pushed ≡ slots ++ (first + n * step, None) ∷ [] → pushed ≡ empty_places (spaced first step (n + 1))
-slot_more R first step n slots pushed made push =
-    let more : empty_places {R = R} (spaced first step n ++ (first + n * step) ∷ []) ≡ empty_places (spaced first step n)
-    ++ (first + n * step, None) ∷ [] =
-    map-append (λ (k : ℕ). (k, None)) (spaced first step n) ((first + n * step) ∷ []) in
-    rw add-one (push ∙ ap (λ ps. ps ++ (first + n * step, None) ∷ []) made ∙ sym more
-    ∙ ap (λ ks. empty_places ks) (sym (spaced_more first step n)))
-
-pub first_spaced : (R : Type 0) (first step n : ℕ) → LieFirst {R = R} (empty_places (spaced first step n))
-first_spaced R first step n = first_empty R (spaced first step n)
-
--- where a key that stands at some distance is
-pub divided : (first step key : ℕ) → 0 < step → first ≤ key → (key - first) % step ≡ 0 → first + (key - first) / step * step ≡ key
-divided first step key rises le even = omega arith
-
-pub uneven : (first step key j : ℕ) → (key - first) % step ≢ 0 → first + j * step ≢ key
-uneven first step key j odd e =
-    let distance : key - first ≡ j * step = omega arith in odd (ap (λ n. n % step) distance ∙ mul-mod_left j step)
-
-pub past : (first step key count j : ℕ) → 0 < step → count ≤ (key - first) / step → j < count → first + j * step ≢ key
-past first step key count j rises le lt e =
-    let distance : key - first ≡ j * step = omega arith in
-    let place : (key - first) / step ≡ j = ap (λ n. n / step) distance ∙ mul-div_cancel j rises in omega arith
+even_spaced R first step n = rw (keys_of_empty R (spaced first step n)) (even_keys first step n)

@@ -1,6 +1,8 @@
 -- A bucket has a place for each of its keys, a pair of the key and its root where that is in.
-use Rattle.std.specs.Prelude.{◌≡◌, ℕ, zero, suc, ◌+◌, ◌*◌, ◌<◌, ◌==◌, if◌then◌else◌, Bool, true, false, List, [], ◌∷◌, Option, Some, None}
-use Rattle.std.specs.Prelude.{length, map, slice_index, slice_get, slice_set}
+use Rattle.std.specs.Prelude.{◌≡◌, ◌≢◌, ℕ, zero, suc, ◌+◌, ◌*◌, ◌<◌, ◌==◌, if◌then◌else◌, Bool, true, false, List, [], ◌∷◌, Option}
+use Rattle.std.specs.Prelude.{Some, None, length, map, slice_index, slice_get, slice_set}
+use Rattle.lot_places.specs.declared.keys.Keys.{Keys}
+use Rattle.lot_places.specs.declared.keys.Keys.TheVariants.{Spaced, Listed}
 
 module _ {R : Type 0} where
   -- a place for each key, with no root in it
@@ -33,10 +35,10 @@ module _ {R : Type 0} where
   LieFirst [] = Unit {0}
   LieFirst (p ∷ places) = AreWithout p.0 places × LieFirst places
 
-  -- no root lies here at all
-  abbrev pub AreBare : List (ℕ × Option R) → Type 0
+  -- no root lies in these slots
+  abbrev pub AreBare : List (Option R) → Type 0
   AreBare [] = Unit {0}
-  AreBare (p ∷ places) = (p.1 ≡ None) × AreBare places
+  AreBare (root ∷ slots) = (root ≡ None) × AreBare slots
 
 -- so many keys: first, and then each is the one before and step
 abbrev pub spaced : ℕ → ℕ → ℕ → List ℕ
@@ -46,6 +48,21 @@ spaced first step (suc n) = first ∷ spaced (first + step) step n
 -- each key is the one before and step
 abbrev pub AreEven : ℕ → ℕ → List ℕ → Type 0
 AreEven first step keys = (i : ℕ) → i < length keys → slice_index keys i ≡ first + i * step
+
+-- the keys of a row
+abbrev pub keys_of : Keys → List ℕ
+keys_of (Spaced first step count) = spaced first step count
+keys_of (Listed keys) = keys.items
+
+-- key k is none of them
+abbrev pub IsMissing : ℕ → List ℕ → Type 0
+IsMissing k keys = (i : ℕ) → i < length keys → slice_index keys i ≢ k
+
+-- key k stands at i, and not before
+pub record IsFirst (k : ℕ) (keys : List ℕ) (i : ℕ) : Type 0 where
+  pub bound : i < length keys
+  pub here : slice_index keys i ≡ k
+  pub before : (j : ℕ) → j < i → slice_index keys j ≢ k
 
 -- the place of key k is the one at i
 pub record IsPlaceOf {R : Type 0} (k : ℕ) (places : List (ℕ × Option R)) (i : ℕ) : Type 0 where

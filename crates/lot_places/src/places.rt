@@ -1,32 +1,33 @@
-ghost use Rattle.std.specs.Prelude.{◌≡◌, ◌≢◌, ℕ, ◌+◌, ◌-◌, ◌*◌, ◌^◌, ◌<◌, true, false, List, [], Option, map};
-ghost use Rattle.std.specs.Prelude.{slice_index, IfOk, IsSome, MatchOption};
-ghost use Rattle.lot_places.specs.Places.{empty_places, spaced, has_key, root_at, with_root, AreEven, LieFirst};
+ghost use Rattle.std.specs.Prelude.{◌≡◌, ℕ, ◌+◌, ◌-◌, ◌*◌, ◌^◌, ◌<◌, true, false, List, [], Option};
+ghost use Rattle.std.specs.Prelude.{length, IfOk, IsSome, MatchOption};
+ghost use Rattle.std.specs.List.{zip};
+ghost use Rattle.lot_places.specs.Places.{empty_places, spaced, has_key, root_at, with_root, keys_of, LieFirst};
 ghost use Rattle.lot_places.specs.Places.{IsPlaceOf};
 
+use crate::keys::Keys;
 use std::alloc::{AllocError, Global};
 use std::marker::Model;
 use std::mem;
 
 /// The keys of a bucket, each with a place for its root.
 ///
-/// A table gives a bucket keys that are evenly spaced, and then a key's place is found by one division;
-/// other keys are looked through.
+/// A table gives a bucket keys that are evenly spaced: no list of them is made, and a key's place is found by one
+/// division. Other keys are listed and looked through.
 ///
 /// They are not `Drop`, as roots may lie in them: `discard` spends places without roots.
 pub struct Places<R> {
-    slots: Vec<(usize, Option<R>)>,
-    first: usize,
-    // From each key to the next; 0 where they are not evenly spaced.
-    step: usize,
+    keys: Keys,
+    // At the place of each key, its root where that is in.
+    slots: Vec<Option<R>>,
 }
 
 impl<R> Model for Places<R> {
     ghost Value = { List (ℕ × Option R) };
 
-    ghost view = { λ p. p.slots.items };
+    ghost view = { λ p. zip (keys_of p.keys) p.slots.items };
 
-    ghost invariant = { λ p. (0 < p.step → AreEven p.first p.step (map (λ (s : ℕ × Option R). s.0) p.slots.items))
-        × LieFirst p.slots.items };
+    ghost invariant = { λ p. (length p.slots.items ≡ length (keys_of p.keys))
+        × LieFirst (zip (keys_of p.keys) p.slots.items) };
 }
 
 impl<R> Places<R> {
@@ -34,15 +35,7 @@ impl<R> Places<R> {
     pub fn new(alloc: Global, keys: &[usize]) -> Result<Places<R>, AllocError>
         ensures { IfOk result (λ p. p ≡ empty_places keys.now) }
     {
-        let mut slots = Vec::with_capacity(alloc, keys.len())?;
-        for key in keys {
-            slots.push_reserved((*key, None));
-        }
-        Ok(Places {
-            slots,
-            first: first_of(keys),
-            step: spacing(keys),
-        })
+        Places::empty(alloc, Keys::new(alloc, keys)?)
     }
 
     /// Places for `count` keys: `first`, and then each is the one before and `step`. It makes no list of them;
@@ -56,11 +49,18 @@ impl<R> Places<R> {
         requires { first + (count - 1) * step < 2 ^ 64 }
         ensures { IfOk result (λ p. p ≡ empty_places (spaced first step count)) }
     {
+        Places::empty(alloc, Keys::Spaced { first, step, count })
+    }
+
+    fn empty(alloc: Global, keys: Keys) -> Result<Places<R>, AllocError>
+        ensures { IfOk result (λ p. p ≡ empty_places (keys_of keys)) }
+    {
+        let count = keys.len();
         let mut slots = Vec::with_capacity(alloc, count)?;
-        for place in 0..count {
-            slots.push_reserved((first + place * step, None));
+        for _place in 0..count {
+            slots.push_reserved(None);
         }
-        Ok(Places { slots, first, step })
+        Ok(Places { keys, slots })
     }
 
     /// Places for no keys. It takes no memory.
@@ -68,9 +68,12 @@ impl<R> Places<R> {
         ensures { result ≡ [] }
     {
         Places {
+            keys: Keys::Spaced {
+                first: 0,
+                step: 0,
+                count: 0,
+            },
             slots: Vec::new(alloc),
-            first: 0,
-            step: 0,
         }
     }
 
@@ -91,7 +94,7 @@ impl<R> Places<R> {
             unreachable!();
         };
         let slot = &mut self.slots[place];
-        slot.1.take().unwrap()
+        slot.take().unwrap()
     }
 
     /// Puts the key's root into its place, which is empty.
@@ -104,7 +107,7 @@ impl<R> Places<R> {
             unreachable!();
         };
         let slot = &mut self.slots[place];
-        let before = mem::replace(&mut slot.1, Some(root));
+        let before = mem::replace(slot, Some(root));
         let None = before else {
             unreachable!();
         };
@@ -114,12 +117,8 @@ impl<R> Places<R> {
     pub fn discard(self)
         requires { (k : ℕ) → root_at k self ≡ None }
     {
-        let Places {
-            mut slots,
-            first: _,
-            step: _,
-        } = self;
-        while let Some((_key, root)) = slots.pop() {
+        let Places { keys: _, mut slots } = self;
+        while let Some(root) = slots.pop() {
             let None = root else {
                 unreachable!();
             };
@@ -130,62 +129,6 @@ impl<R> Places<R> {
     fn place_of(&self, key: usize) -> Option<usize>
         ensures { MatchOption result (has_key key self.now ≡ false) (IsPlaceOf key self.now) }
     {
-        if self.step == 0 {
-            return place_by_search(self.slots.as_slice(), key);
-        }
-        let slots = self.slots.as_slice();
-        place_by_division(self.first, self.step, slots.len(), key)
+        self.keys.place_of(key)
     }
-}
-
-// Which of so many evenly spaced keys it is.
-fn place_by_division(first: usize, step: usize, count: usize, key: usize) -> Option<usize>
-    requires { 0 < step }
-    ensures { MatchOption result ((j : ℕ) → j < count → first + j * step ≢ key)
-        (λ i. (i < count) × (first + i * step ≡ key)) }
-{
-    if key < first {
-        return None;
-    }
-    let distance = key - first;
-    if distance % step != 0 {
-        return None;
-    }
-    let place = distance / step;
-    if place < count { Some(place) } else { None }
-}
-
-fn place_by_search<R>(slots: &[(usize, Option<R>)], key: usize) -> Option<usize>
-    ensures { MatchOption result (has_key key slots.now ≡ false) (IsPlaceOf key slots.now) }
-{
-    for (place, slot) in slots.iter().enumerate() {
-        if slot.0 == key {
-            return Some(place);
-        }
-    }
-    None
-}
-
-fn first_of(keys: &[usize]) -> usize
-    ensures { result ≡ slice_index keys.now 0 }
-{
-    keys.first().copied().unwrap_or(0)
-}
-
-// How far it is from each key to the next, or 0 where that differs or they don't rise.
-fn spacing(keys: &[usize]) -> usize
-    ensures { 0 < result → AreEven (slice_index keys.now 0) result keys.now }
-{
-    if keys.len() < 2 {
-        return 1;
-    }
-    let Some(step) = keys[1].checked_sub(keys[0]) else {
-        return 0;
-    };
-    for place in 1..keys.len() {
-        if keys[place].checked_sub(keys[place - 1]) != Some(step) {
-            return 0;
-        }
-    }
-    step
 }
