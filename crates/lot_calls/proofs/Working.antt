@@ -80,18 +80,21 @@ module _ {V Part : Type 0} (rule : CallersRule V Part) (opening : List V) (lot :
       }
 
 -- passes that were ready, and were worked with or not, may leave, where the work gives back such
-pub may_leave : {V Part : Type 0} (rule : CallersRule V Part) {opening : List V} {lot : LotView} {becomes : PassView V → PassView V → Type 0}
+pub may_leave : {V Part : Type 0} (rule : CallersRule V Part) {opening : List V} {lot : LotView}
+    {becomes : PassView V → PassView V → Type 0}
     (xs ys : List (PassView V)) (worked : Bool)
     → All (IsReady rule opening lot) xs → MatchBool worked (EachBecomes becomes xs ys) (ys ≡ xs)
     → ((p q : PassView V) → IsReady rule opening lot p → becomes p q → MayLeave rule q)
     → All (MayLeave rule) ys
 may_leave rule xs ys true ready each may = λ i d near.
-    let near' : i < length xs = omega (arith, near, each.count) in may (get_or xs i d) (get_or ys i d) (ready i d near') (each.each i d near')
+    let near' : i < length xs = omega (arith, near, each.count) in may (get_or xs i d) (get_or ys i d) (ready i d near')
+        (each.each i d near')
 may_leave rule xs ys false ready same may =
     subst (All (MayLeave rule)) (sym same) (λ i d near. let r = ready i d near in record { free = r.free; rests = r.rests })
 
 -- and all passes, which were worked with or not, are back
-pub are_back_anyway : {V Part : Type 0} (rule : CallersRule V Part) {opening : List V} {lot : LotView} {becomes : PassView V → PassView V → Type 0}
+pub are_back_anyway : {V Part : Type 0} (rule : CallersRule V Part) {opening : List V} {lot : LotView}
+    {becomes : PassView V → PassView V → Type 0}
     (xs ys : List (PassView V)) (worked : Bool)
     → AreTaken rule opening lot xs → MatchBool worked (EachBecomes becomes xs ys) (ys ≡ xs)
     → ((p q : PassView V) → IsReady rule opening lot p → becomes p q → ComesBack lot p q)
@@ -99,7 +102,8 @@ pub are_back_anyway : {V Part : Type 0} (rule : CallersRule V Part) {opening : L
 are_back_anyway rule {opening} {lot} {becomes} xs ys true taken each back = are_back rule opening lot becomes xs ys taken each back
 are_back_anyway rule {opening} {lot} {becomes} xs ys false taken same back =
     are_back rule opening lot (λ p q. q ≡ p) xs ys taken
-    (subst (EachBecomes (λ p q. q ≡ p) xs) (sym same) (record { count = refl; each = λ i d near. refl })) (λ p q ready is. subst (ComesBack lot p)
+    (subst (EachBecomes (λ p q. q ≡ p) xs) (sym same) (record { count = refl; each = λ i d near. refl })) (λ p q ready is.
+        subst (ComesBack lot p)
     (sym is) (record { same_thread = refl; free = ready.free; shape = ready.shape }))
 
 module _ {V Part : Type 0} (rule : CallersRule V Part) (names : LotNames V) (lot : LotView) where
@@ -130,8 +134,8 @@ module _ {V Part : Type 0} (rule : CallersRule V Part) (opening : List V) (lot :
       ap (sum_by h) done.own ∙ each_came done.before done.after done.ready done.worked)
 
 -- passes were taken, worked with and came back, and each thread's parts came to so much then
-pub came_to : {V Part : Type 0} (rule : CallersRule V Part) {opening values : List V} {lot : LotView} {becomes : PassView V → PassView V
-    → Type 0} {xs ys : List (PassView V)}
+pub came_to : {V Part : Type 0} (rule : CallersRule V Part) {opening values : List V} {lot : LotView}
+    {becomes : PassView V → PassView V → Type 0} {xs ys : List (PassView V)}
     → AreTaken rule opening lot xs → EachBecomes becomes xs ys → All (EndsIn rule values) ys
     → ((p q : PassView V) → IsReady rule opening lot p → becomes p q → ComesBack lot p q) → (h : Part → ℕ) (all : V → ℕ) (n c : ℕ)
     → lot.threads ≡ n → 0 < n

@@ -109,7 +109,8 @@ module _ {V : Type 0} (above : ℕ → ℕ → Type 0) where
 
 -- one access more by a thread that wants the lock, by which it neither gets it nor is queued
 module _ {V : Type 0} (above : ℕ → ℕ → Type 0) where
-  pub sought_on : (n : ℕ) (before mid now : LotStanding V) (l : ℕ) (a : Access) → IsTryingFor above n before l mid → IsSeek before.thread l a
+  pub sought_on : (n : ℕ) (before mid now : LotStanding V) (l : ℕ) (a : Access) → IsTryingFor above n before l mid
+      → IsSeek before.thread l a
       → now ≡ adding mid (a ∷ [])
       → IsTryingFor above n before l now
   sought_on n before mid now l a s seeks is = record {
@@ -208,7 +209,8 @@ module _ {V Part : Type 0} (rule : CallersRule V Part) where
   goes n before base after l did Got below may sought same is which t = owner_from before base after l did sought which t
   goes n before base after l did Waits below may sought same is which t =
       awake_from rule.above n before base after l did below may sought same is which t
-  goes n before base after l did Parks below may sought same is which t = trying_from rule.above n before base after l did below may sought same is t
+  goes n before base after l did Parks below may sought same is which t = trying_from rule.above n before base after l did below may
+      sought same is t
 
   -- on from a pass that is awake for the lock
   pub goes_on : (n : ℕ) (before now after : LotStanding V) (l : ℕ) (next : Seeking) → IsAwakeFor rule.above n before l now
@@ -225,7 +227,8 @@ module _ {V Part : Type 0} (rule : CallersRule V Part) where
       → IsOwner rule before l after
   owner_on n before now after l s t = goes_on n before now after l Got s t
 
-  pub awake_on : (n : ℕ) (before now after : LotStanding V) (l : ℕ) → IsAwakeFor rule.above n before l now → IsAwakeFor rule.above n now l after
+  pub awake_on : (n : ℕ) (before now after : LotStanding V) (l : ℕ) → IsAwakeFor rule.above n before l now
+      → IsAwakeFor rule.above n now l after
       → IsAwakeFor rule.above n before l after
   awake_on n before now after l s t = goes_on n before now after l Waits s t
 

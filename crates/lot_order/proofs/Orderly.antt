@@ -73,7 +73,8 @@ stayed above s has t ordered others own v = elim (cases_eq v t) [
 ]
 
 -- a calm thread is in order with whatever it has
-pub calm_stayed : (above : ℕ → ℕ → Type 0) (s : World) (has : ℕ → Keys) (t : ℕ) → IsOrdered above s → OthersWithin s has t → s.point t ≡ Calm
+pub calm_stayed : (above : ℕ → ℕ → Type 0) (s : World) (has : ℕ → Keys) (t : ℕ) → IsOrdered above s → OthersWithin s has t
+    → s.point t ≡ Calm
     → AreOrdered above s has s.point
 calm_stayed above s has t ordered others calm =
     stayed above s has t ordered others
@@ -90,7 +91,8 @@ lock_others s l t b v ne = record {
   permits = λ j e. e;
 }
 
-pub try_ordered : (above : ℕ → ℕ → Type 0) (s : World) (t l : ℕ) → IsOrdered above s → s.point t ≡ Calm → IsOrdered above (after s (Try t l))
+pub try_ordered : (above : ℕ → ℕ → Type 0) (s : World) (t l : ℕ) → IsOrdered above s → s.point t ≡ Calm
+    → IsOrdered above (after s (Try t l))
 try_ordered above s t l ordered calm =
     by_bit (λ b. AreOrdered above s
     (rights (if b then s.locks else record s.locks {
@@ -154,7 +156,8 @@ freed_ordered above s l t ordered may =
     (ap (λ f. f t) (put_same s.locks.has l (put (s.locks.has l) t false)) ∙ put_same (s.locks.has l) t false)
     (λ j ne. ap (λ f. f t) (put_other s.locks.has l (put (s.locks.has l) t false) j ne)))
 
-pub free_ordered : (above : ℕ → ℕ → Type 0) (s : World) (t l : ℕ) → IsOrdered above s → MayLetGo s t l → IsOrdered above (after s (Free t l))
+pub free_ordered : (above : ℕ → ℕ → Type 0) (s : World) (t l : ℕ) → IsOrdered above s → MayLetGo s t l
+    → IsOrdered above (after s (Free t l))
 free_ordered above s t l ordered may =
     by_bit (λ b. AreOrdered above s
     (rights (if b then s.locks else record s.locks {
@@ -220,7 +223,8 @@ permit_others s z k t n is v ne = record {
 abbrev pub with_permit : Semaphores → ℕ → ℕ → Semaphores
 with_permit z t k = record z { left = put z.left k (z.left k - 1); out = put z.out k (put (z.out k) t (z.out k t + 1)) }
 
-pub sem_take_ordered : (above : ℕ → ℕ → Type 0) (s : World) (t k : ℕ) → IsOrdered above s → k < key_count s → KeepsOrder above s (SemTake t k)
+pub sem_take_ordered : (above : ℕ → ℕ → Type 0) (s : World) (t k : ℕ) → IsOrdered above s → k < key_count s
+    → KeepsOrder above s (SemTake t k)
     → IsOrdered above (after s (SemTake t k))
 sem_take_ordered above s t k ordered key keeps =
     by_bit (λ b. AreOrdered above s (rights s.locks (if b then s.sems else with_permit s.sems t k))

@@ -1,5 +1,6 @@
 -- What is so of a thread that seeks a permit.
-use Rattle.std.proofs.Common.{◌≡◌, ℕ, ◌≤◌, Bool, true, false, List, [], ◌∷◌, ◌++◌, ◌⊎◌, inl, inr, ⊎_elim, refl, sym, ap, subst, ◌∙◌, Some, None}
+use Rattle.std.proofs.Common.{◌≡◌, ℕ, ◌≤◌, Bool, true, false, List, [], ◌∷◌, ◌++◌, ◌⊎◌, inl, inr, ⊎_elim, refl, sym, ap, subst}
+use Rattle.std.proofs.Common.{◌∙◌, Some, None}
 use Rattle.std.specs.List.{All}
 use Rattle.std.proofs.lemmas.List.Elements.{All-nil, All-append}
 use Rattle.lot_events.specs.declared.events.Event.TheVariants.{SemTake, SemMark}
@@ -43,7 +44,8 @@ module _ {V : Type 0} where
 
   module _ (above : ℕ → ℕ → Type 0) (first_sem : ℕ) where
     -- ---- from one look to the next
-    may_take : (before now : LotStanding V) (key : ℕ) → IsSeekingFor above first_sem before key now → IsAwakeFor above first_sem before key now
+    may_take : (before now : LotStanding V) (key : ℕ) → IsSeekingFor above first_sem before key now
+        → IsAwakeFor above first_sem before key now
     may_take before now key s = record { among = s.among; may = s.may; did = s.did; sought = s.sought; is = inr s.is }
 
     pub waits : (before now : LotStanding V) (key : ℕ) (far : Seeking) → IsUnfinished far → Seeks above first_sem before key far now
@@ -89,7 +91,8 @@ module _ {V : Type 0} where
       is = inl (sym (adding_none p));
     }
 
-    seeks_itself : (before now : LotStanding V) (key : ℕ) → IsSeekingFor above first_sem before key now → IsSeekingFor above first_sem now key now
+    seeks_itself : (before now : LotStanding V) (key : ℕ) → IsSeekingFor above first_sem before key now
+        → IsSeekingFor above first_sem now key now
     seeks_itself before now key s =
         subst (λ (p : LotStanding V). IsSeekingFor above first_sem p key p) (sym s.is) (seeks_so before key s.among s.may s.did)
 
@@ -220,7 +223,8 @@ module _ {V : Type 0} where
       is = is;
     }
 
-    pub missed : (p q : LotStanding V) (key : ℕ) (taken : Taken) → first_sem ≤ key → MayWantPermit above p.own key → TakesPermit p key taken q
+    pub missed : (p q : LotStanding V) (key : ℕ) (taken : Taken) → first_sem ≤ key → MayWantPermit above p.own key
+        → TakesPermit p key taken q
         → (taken ≡ Empty) ⊎ (taken ≡ Busy) → IsAwakeFor above first_sem p key q
     missed p q key HasGot among may took none = absurd (⊎_elim {C = ⊥} (λ e. cc) (λ e. cc) none)
     missed p q key Empty among may took none = may_take p q key (found_none p q key among may took)

@@ -31,7 +31,8 @@ module _ {V Part : Type 0} (rule : CallersRule V Part) where
 
   module _ (first_sem : ℕ) (before : LotStanding V) (key : ℕ) where
     -- a look in vain
-    sleeps_on : (p q : LotStanding V) → IsAsleepFor rule.above first_sem before key p → IsLooked rule p None q → IsAsleepFor rule.above first_sem before key q
+    sleeps_on : (p q : LotStanding V) → IsAsleepFor rule.above first_sem before key p → IsLooked rule p None q
+        → IsAsleepFor rule.above first_sem before key q
     sleeps_on p q s look = record {
       among = s.among;
       may = s.may;
@@ -71,6 +72,7 @@ module _ {V Part : Type 0} (rule : CallersRule V Part) where
         → Seeks rule.above first_sem before key Parks now
     seeks_still asleep now token s a =
         let kept =
-        awaited_keeps (IsLooked rule) (λ (p q : LotStanding V). IsAsleepFor rule.above first_sem before key p → IsAsleepFor rule.above first_sem before key q)
+        awaited_keeps (IsLooked rule) (λ (p q : LotStanding V). IsAsleepFor rule.above first_sem before key p
+            → IsAsleepFor rule.above first_sem before key q)
         (λ p h. h) (λ p m q on look h. sleeps_on m q (on h) look) asleep token now a in
         wakes kept.0 now token (kept.1 s) kept.2

@@ -390,7 +390,8 @@ module _ {V Part : Type 0} (rule : CallersRule V Part) (z : LotSize) (xs : List 
     pub enlists : IsIdle p.own → (l : ℕ) → l < z.locks → Holds p.own.locks l
         → MayWait rule.above (keys_of p.own) q.key l
         → AllowsBoth (lot_meaning rule z xs) (word_at q.key) (λ _. 1) p (whole_root cond q) (λ _. Enlists p q l)
-    enlists idle l near holds above = lifts_both rule z xs cond (λ _. 1) p q (λ _. conds.EnlistsWith l (part_pass cond p) q) (λ _. Enlists p q l)
+    enlists idle l near holds above = lifts_both rule z xs cond (λ _. 1) p q (λ _. conds.EnlistsWith l (part_pass cond p) q)
+        (λ _. Enlists p q l)
         (conds.enlists_with (cond_size z) (part_pass cond p) q l near (idle_calms p.own idle))
         (λ n own its a told. carry_both cond p q (enlisted p.own.conds q.key) (enlisted_root q.own p.thread)
         (Makes (Enlist p.thread q.key l) Done) (Enlists p q l)

@@ -19,7 +19,8 @@ use Rattle.lot_conds.specs.Calls.{one_wait_more, paid_root as cond_paid}
 use Rattle.lot_sems.specs.declared.taking.Taken.{Taken}
 use Rattle.lot_sems.specs.declared.taking.Taken.TheVariants.{Got, Empty, Busy}
 use Rattle.lot_sems.specs.declared.views.SemPassView.{SemPassView}
-use Rattle.lot_sems.specs.Calls.{paid_root as sem_paid, one_permit_more, one_permit_less, seeking, IsAnyLeft, IsUnmarked, woken as sem_woken}
+use Rattle.lot_sems.specs.Calls.{paid_root as sem_paid, one_permit_more, one_permit_less, seeking}
+use Rattle.lot_sems.specs.Calls.{IsAnyLeft, IsUnmarked, woken as sem_woken}
 use Rattle.lot_whole.specs.declared.views.LotPassView.{LotPassView}
 use Rattle.lot_whole.specs.declared.views.LotRootView.{LotRootView}
 use Rattle.lot_whole.specs.declared.views.LotRootView.TheVariants.{Lock, Cond, Sem}

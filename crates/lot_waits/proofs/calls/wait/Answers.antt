@@ -6,7 +6,8 @@ use Rattle.lot_waits.proofs.calls.wait.Given.{Over}
 use Rattle.lot_waits.proofs.calls.wait.Goals.{After-sleep_on-pass}
 use Rattle.lot_waits.proofs.calls.wait.Goals as goal
 
-may_enlist : (g : Over) (c : After-sleep_on-pass g) → MayEnlist g.V.Keeps.above g.N.LotName.locks g.N.LotName.first_sem c.args.pass c.args.cond c.args.lock
+may_enlist : (g : Over) (c : After-sleep_on-pass g) → MayEnlist g.V.Keeps.above g.N.LotName.locks g.N.LotName.first_sem c.args.pass
+    c.args.cond c.args.lock
 may_enlist g c = record {
   cond = (c.requires.cond.0, c.requires.cond.1);
   lock = c.requires.lock.0;

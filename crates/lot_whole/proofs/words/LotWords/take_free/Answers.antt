@@ -22,4 +22,5 @@ returns-clause-got g c is_free =
     subst (λ n. TakesFree g.V.Keeps c.args.pass c.args.key n c.compare_exchange.result.0) is_free c.compare_exchange.ensures.told
 
 pub returns-clause-missed : goal.returns-clause-missed
-returns-clause-missed g c other = missed_free g.V.Keeps c.args.pass c.args.key _ c.compare_exchange.result.0 other c.compare_exchange.ensures.told
+returns-clause-missed g c other = missed_free g.V.Keeps c.args.pass c.args.key _ c.compare_exchange.result.0 other
+    c.compare_exchange.ensures.told
