@@ -102,9 +102,8 @@ pub are_back_anyway : {V Part : Type 0} (rule : CallersRule V Part) {opening : L
 are_back_anyway rule {opening} {lot} {becomes} xs ys true taken each back = are_back rule opening lot becomes xs ys taken each back
 are_back_anyway rule {opening} {lot} {becomes} xs ys false taken same back =
     are_back rule opening lot (λ p q. q ≡ p) xs ys taken
-    (subst (EachBecomes (λ p q. q ≡ p) xs) (sym same) (record { count = refl; each = λ i d near. refl })) (λ p q ready is.
-        subst (ComesBack lot p)
-    (sym is) (record { same_thread = refl; free = ready.free; shape = ready.shape }))
+    (subst (EachBecomes (λ p q. q ≡ p) xs) (sym same) (record { count = refl; each = λ i d near. refl }))
+    (λ p q ready is. subst (ComesBack lot p) (sym is) (record { same_thread = refl; free = ready.free; shape = ready.shape }))
 
 module _ {V Part : Type 0} (rule : CallersRule V Part) (names : LotNames V) (lot : LotView) where
   -- a lot that was finished, as one whose passes came back as they were taken

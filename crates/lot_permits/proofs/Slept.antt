@@ -73,6 +73,6 @@ module _ {V Part : Type 0} (rule : CallersRule V Part) where
     seeks_still asleep now token s a =
         let kept =
         awaited_keeps (IsLooked rule) (λ (p q : LotStanding V). IsAsleepFor rule.above first_sem before key p
-            → IsAsleepFor rule.above first_sem before key q)
+        → IsAsleepFor rule.above first_sem before key q)
         (λ p h. h) (λ p m q on look h. sleeps_on m q (on h) look) asleep token now a in
         wakes kept.0 now token (kept.1 s) kept.2

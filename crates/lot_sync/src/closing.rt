@@ -15,7 +15,7 @@ use crate::lot::Lot;
 use crate::pass::Pass;
 use lot_scheme::{LotName, NamedRoot};
 use lot_waits::{Ledger, Tallies, add_up, ledger_of};
-use lot_whole::{LotPass, LotLyingRoot};
+use lot_whole::{LotLyingRoot, LotPass};
 use lot_words::Keeps;
 use std::sync::Wait;
 

@@ -7,7 +7,7 @@ use crate::fault::OpenFault;
 use crate::lot::Lot;
 use lot_core::{MAX_KEYS, MAX_THREADS};
 use lot_scheme::LotName;
-use lot_whole::{LotPass, LotLyingRoot, LotWords, WordsFault};
+use lot_whole::{LotLyingRoot, LotPass, LotWords, WordsFault};
 use lot_words::Keeps;
 use std::alloc::Global;
 use std::marker::Model;

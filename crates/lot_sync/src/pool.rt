@@ -7,7 +7,7 @@ ghost use Rattle.lot_sync.specs.Lot.{OwnsNone, rested};
 use crate::pass::Pass;
 use lot_scheme::{LotName, NamedRoot};
 use lot_waits::Tallies;
-use lot_whole::{LotPass, LotLyingRoot};
+use lot_whole::{LotLyingRoot, LotPass};
 use lot_words::Keeps;
 use std::marker::Model;
 use std::sync::Wait;

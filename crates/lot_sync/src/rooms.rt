@@ -12,7 +12,7 @@ use crate::pass::Pass;
 use crate::pool::{ClosingRoom, Idle, Pool};
 use lot_scheme::{LotName, NamedPass, NamedRoot};
 use lot_waits::Tallies;
-use lot_whole::{LotPass, LotLyingRoot};
+use lot_whole::{LotLyingRoot, LotPass};
 use lot_words::Keeps;
 use std::alloc::{AllocError, Global};
 

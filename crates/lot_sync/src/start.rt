@@ -13,7 +13,7 @@ use crate::opened::Opened;
 use crate::rooms::{Rooms, name_roots, pool_of};
 use lot_park::{ParkFault, ParkingLot};
 use lot_scheme::{LotName, LotScheme};
-use lot_whole::{LotPass, LotLyingRoot, LotWords};
+use lot_whole::{LotLyingRoot, LotPass, LotWords};
 use lot_words::Keeps;
 use std::alloc::Global;
 

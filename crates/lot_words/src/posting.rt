@@ -23,7 +23,12 @@ impl<V: Keeps> LockWords<V> {
     {
         let words = &self.words;
         let letter = root.letter_of(thread);
-        words.store_root::<Brand, Numbered, (usize, u32)>(root, letter, token as u64 + 1, (thread, token))
+        words.store_root::<Brand, Numbered, (usize, u32)>(
+            root,
+            letter,
+            token as u64 + 1,
+            (thread, token),
+        )
     }
 
     /// Collects the pass's letter, by one swap, and answers its token where a letter lay: 0 where the thread may try

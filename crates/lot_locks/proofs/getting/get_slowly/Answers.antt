@@ -12,7 +12,7 @@ get_or_park-requires-clause-waits g c κs within =
     awake_itself g.V.Keeps.above g.N.LotName.locks c.args.pass c.try_again-pass.result.0 c.args.key
     (when_false (IsOwner g.V.Keeps c.args.pass c.args.key c.try_again-pass.result.0)
     (IsAwakeFor g.V.Keeps.above g.N.LotName.locks c.args.pass c.args.key c.try_again-pass.result.0) c.if-got.false
-        c.try_again-pass.ensures.far)
+    c.try_again-pass.ensures.far)
 
 pub returns-clause-ran : goal.returns-clause-ran
 returns-clause-ran g c =

@@ -12,7 +12,7 @@ pub get_slowly-pass-requires-clause-waits : goal.get_slowly-pass-requires-clause
 get_slowly-pass-requires-clause-waits g c κs within =
     goes_again g.V.Keeps.above g.N.LotName.first_sem c.args.pass c.take_permit-pass.result.0 c.args.key
     (missed g.V.Keeps.above g.N.LotName.first_sem c.args.pass c.take_permit-pass.result.0 c.args.key c.take_permit-pass.result.1
-        c.requires.sem.0
+    c.requires.sem.0
     (inr c.requires.idle, λ _. c.requires.above) c.take_permit-pass.ensures c.in-Empty.is)
 
 pub returns-clause-gets : goal.returns-clause-gets

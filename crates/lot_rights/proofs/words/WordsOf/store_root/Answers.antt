@@ -12,6 +12,6 @@ pub invariant_of-result : goal.invariant_of-result
 invariant_of-result g c =
     let told = c.store.ensures.2 in
     root_stands g.K.Kind.no_root g.K.Kind.names _ _ c.root.view_is (g.B.Numbering.shown c.root.inside.number) c.root.inside.number_is
-        c.root.inside.near
+    c.root.inside.near
     c.root.inside.small c.root.inside.letters_near _ c.store.ensures.0
     c.store.new.seat.me told.0 told.1 told.2 (c.requires.names c.args.new _ told.3)

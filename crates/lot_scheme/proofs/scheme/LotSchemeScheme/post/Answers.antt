@@ -12,7 +12,7 @@ pub post-root-requires-clause-owes : goal.post-root-requires-clause-owes
 post-root-requires-clause-owes g c =
     owed_letter c.into_root.result.own c.args.at c.args.token.0
     (subst (λ (r : RootShown LotRootView). Contains (root_view r).owes (c.args.at, c.args.token.0))
-        (sym c.into_root.ensures.same) c.requires)
+    (sym c.into_root.ensures.same) c.requires)
 
 pub returns-clause-owes : goal.returns-clause-owes
 returns-clause-owes g c =

@@ -22,7 +22,7 @@ store_both-requires-clause-allows g c =
     (subst (λ r. AllowsBoth (meaning g.V.Keeps start) (word_at q.key) (λ _. 1) p r (λ _. Enlists p (cond_of q) c.args.lock))
     (cond_root q c.requires.cond)
     (enlists g.V.Keeps (size_of start) start.values.value.items p (cond_of q) c.requires.idle c.args.lock near c.requires.lock.1
-        c.requires.above))
+    c.requires.above))
 
 pub store_both-requires-clause-names : goal.store_both-requires-clause-names
 store_both-requires-clause-names g c n p' q' told u h =
