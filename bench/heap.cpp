@@ -3,8 +3,9 @@
 #include <atomic>
 #include <cerrno>
 #include <cstdio>
-#include <cstring>
 #include <malloc.h>
+#include <sys/syscall.h>
+#include <unistd.h>
 
 extern "C" {
 void* __libc_malloc(size_t);
@@ -38,15 +39,25 @@ long resident() {
     return kibibytes * 1024;
 }
 
-struct AtTheEnd {
-    ~AtTheEnd() {
-        long used = most.load();
+void tell() {
+    static std::atomic<bool> told { false };
+    long used = most.load();
+    if (!told.exchange(true))
         fprintf(stderr, "live=%ld resident=%ld\n", used, resident());
-    }
+}
+
+struct AtTheEnd {
+    ~AtTheEnd() { tell(); }
 } at_the_end;
 }
 
 extern "C" {
+// A program may end by this, past all destructors.
+void _exit(int status) {
+    tell();
+    syscall(SYS_exit_group, status);
+    __builtin_unreachable();
+}
 void* malloc(size_t size) { return come(__libc_malloc(size)); }
 void* calloc(size_t count, size_t size) { return come(__libc_calloc(count, size)); }
 void* memalign(size_t alignment, size_t size) { return come(__libc_memalign(alignment, size)); }
