@@ -10,6 +10,8 @@
 #include <memory>
 #include <sched.h>
 #include <thread>
+#include <type_traits>
+#include <utility>
 #include <vector>
 
 namespace bench {
@@ -64,6 +66,11 @@ struct Times {
         counts[class_of(nanos)]++;
         most = std::max(most, nanos);
     }
+    // Counts a time as often as it has nanoseconds.
+    void weigh(uint64_t nanos) {
+        counts[class_of(nanos)] += nanos;
+        most = std::max(most, nanos);
+    }
     void add(const Times& other) {
         for (size_t i = 0; i < CLASSES; i++)
             counts[i] += other.counts[i];
@@ -82,6 +89,23 @@ struct Times {
     }
 };
 
+// How evenly threads share the rounds, in parts of all.
+struct Shares {
+    static constexpr uint64_t PARTS = 500000;
+    uint64_t count = 0, sum = 0, squares = 0, low = PARTS, high = 0;
+    void note(uint64_t rounds, uint64_t all) {
+        uint64_t part = rounds * PARTS / std::max<uint64_t>(all, 1);
+        count++, sum += part, squares += part * part;
+        low = std::min(low, part), high = std::max(high, part);
+    }
+    uint64_t of_mean(uint64_t part) const { return sum ? part * count * 1000 / sum : 0; }
+    uint64_t jain() const { return squares ? 1000 * (sum * sum) / (count * squares) : 0; }
+};
+
+// Whether a lock has an unlock that hands it over.
+template<typename L, typename = void> struct HandsOver : std::false_type {};
+template<typename L> struct HandsOver<L, std::void_t<decltype(std::declval<L&>().unlockFairly())>> : std::true_type {};
+
 struct Done {
     uint64_t begin = 0, end = 0, rounds = 0;
     Times times;
@@ -97,6 +121,19 @@ struct Meeting {
     }
 };
 
+// Steps that threads take one after the other.
+struct Steps {
+    std::atomic<uint64_t> made { 0 };
+    void make() { made.fetch_add(1); }
+    void await_made(uint64_t steps) {
+        while (made.load() < steps)
+            sched_yield();
+    }
+};
+
+// How often a thread sleeps and is woken, and how many nanoseconds after it asked for a held lock it sleeps.
+constexpr uint64_t SLEEPS = 100, ASLEEP_AFTER = 200000;
+
 constexpr uint64_t PLACES = 16;
 
 // P has: name, Lock (lock, unlock), Condition (wait(Lock&), notify_one).
@@ -108,6 +145,8 @@ struct Work {
     };
     size_t threads = 0, locks = 1, producers = 0;
     uint64_t rounds = 0, millis = 0, held = 0, outside = 0, permits = 0;
+    uint64_t opening = 0, sleeping = 0;
+    bool fairly = false;
     std::unique_ptr<Cell[]> cells;
     typename P::Condition not_full, not_empty;
     std::unique_ptr<typename P::Condition[]> turns;
@@ -147,6 +186,31 @@ struct Work {
             spend(held);
             cell.lock.unlock();
             times.note(owned - asked);
+            made++;
+            spend(outside);
+        }
+        done[worker].rounds = made;
+    }
+    void let_go(Cell& cell) {
+        if constexpr (HandsOver<typename P::Lock>::value) {
+            if (fairly)
+                return cell.lock.unlockFairly();
+        }
+        cell.lock.unlock();
+    }
+    void fair(size_t worker) {
+        Times& times = done[worker].times;
+        Random random(worker);
+        uint64_t made = 0;
+        while (!meeting.over.load()) {
+            Cell& cell = cells[key_of(random.next(), locks)];
+            uint64_t asked = now();
+            cell.lock.lock();
+            uint64_t owned = now();
+            cell.number++;
+            spend(held);
+            let_go(cell);
+            times.weigh(owned - asked);
             made++;
             spend(outside);
         }
@@ -214,7 +278,9 @@ struct Work {
     using Way = void (Work::*)(size_t);
 
     void run(Way way) {
+        uint64_t begin = now();
         cells = std::make_unique<Cell[]>(locks);
+        opening = now() - begin;
         turns = std::make_unique<typename P::Condition[]>(threads);
         cells[0].number = permits;
         done = std::vector<Done>(threads);
@@ -236,6 +302,55 @@ struct Work {
         }
         for (auto& thread : crew)
             thread.join();
+    }
+
+    // The time from an unlock until the thread that slept for the lock owns it, half of the times being shorter.
+    void measure_sleeper() {
+        Steps steps;
+        std::atomic<uint64_t> unlocked { 0 };
+        Times times;
+        std::thread sleeper([&] {
+            Random random(1);
+            for (uint64_t round = 0; round < SLEEPS; round++) {
+                Cell& cell = cells[key_of(random.next(), locks)];
+                steps.await_made(3 * round + 1);
+                steps.make();
+                cell.lock.lock();
+                uint64_t owned = now();
+                cell.lock.unlock();
+                times.note(owned - unlocked.load());
+                steps.make();
+            }
+        });
+        Random random(1);
+        for (uint64_t round = 0; round < SLEEPS; round++) {
+            Cell& cell = cells[key_of(random.next(), locks)];
+            cell.lock.lock();
+            steps.make();
+            steps.await_made(3 * round + 2);
+            spend(ASLEEP_AFTER);
+            unlocked.store(now());
+            cell.lock.unlock();
+            steps.await_made(3 * round + 3);
+        }
+        sleeper.join();
+        sleeping = times.part(500);
+    }
+
+    void tell_fairness(const Times& times, uint64_t made) const {
+        Shares shares;
+        for (auto& one : done)
+            shares.note(one.rounds, made);
+        printf(" longest=%llu weighed50=%llu weighed99=%llu least=%llu most=%llu jain=%llu", (unsigned long long)times.most,
+            (unsigned long long)times.part(500), (unsigned long long)times.part(990), (unsigned long long)shares.of_mean(shares.low),
+            (unsigned long long)shares.of_mean(shares.high), (unsigned long long)shares.jain());
+    }
+
+    void tell_keys() {
+        uint64_t begin = now();
+        cells.reset();
+        printf(" open=%llu close=%llu register=0 sleeper=%llu", (unsigned long long)opening, (unsigned long long)(now() - begin),
+            (unsigned long long)sleeping);
     }
 
     int tell(int argc, char** argv) {
@@ -260,6 +375,10 @@ struct Work {
         if (!strcmp(argv[1], "wait"))
             printf(" p50=%llu p99=%llu p999=%llu most=%llu", (unsigned long long)times.part(500), (unsigned long long)times.part(990),
                 (unsigned long long)times.part(999), (unsigned long long)times.most);
+        if (!strcmp(argv[1], "fair"))
+            tell_fairness(times, made);
+        if (!strcmp(argv[1], "keys"))
+            tell_keys();
         printf("\n");
         return 0;
     }
@@ -282,6 +401,15 @@ int main(int argc, char** argv) {
     } else if (is("wait", 6)) {
         work.threads = number(2), work.held = number(3), work.outside = number(4), work.millis = number(5);
         work.run(&Work<P>::wait);
+    } else if (is("fair", 8) && (!strcmp(argv[7], "clock") || (HandsOver<typename P::Lock>::value && !strcmp(argv[7], "always")))) {
+        work.threads = number(2), work.locks = number(3), work.held = number(4), work.outside = number(5), work.millis = number(6);
+        work.fairly = !strcmp(argv[7], "always");
+        work.run(&Work<P>::fair);
+    } else if (is("keys", 5)) {
+        work.threads = number(2), work.locks = number(3), work.rounds = number(4);
+        work.run(&Work<P>::count);
+        if (work.threads > 1)
+            work.measure_sleeper();
     } else if (is("notify", 4)) {
         work.threads = number(2), work.rounds = number(3);
         work.run(&Work<P>::notify);

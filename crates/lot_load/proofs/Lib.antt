@@ -1,1 +1,3 @@
+pub mod Cauchy
+pub mod Classes
 pub mod Rounds

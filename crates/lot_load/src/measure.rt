@@ -5,9 +5,13 @@
 //! - `relay`: producers put into a buffer, consumers take from it, and both wait on conditions.
 //! - `wait`: how long it takes from asking for a lock to owning it, where each thread holds it for so long and stays
 //!   outside for so long.
+//! - `fair`: the longest wait, how long a wait is that goes on at a moment drawn by chance, and how evenly the threads
+//!   share the rounds, where locks are let go by the clock, never fairly or always fairly.
 //! - `notify`: each thread notifies one on a condition, where nobody waits.
 //! - `turns`: each thread waits for its turn on a condition of its own, and notifies the next.
 //! - `permits`: each thread gets a permit of one semaphore and gives it back, so many times.
+//! - `keys`: a lot of many locks is opened, its threads register one after the other while one sleeps, lock and unlock
+//!   locks by chance, and it is closed; how long each takes, and how long from an unlock to its sleeper.
 //! - `start`: a lot is opened and started, all its threads register, and it is closed.
 //!
 //! `plan` says what a command line asks for, `crew` does it with so many threads, and `summary` has what came of it.
@@ -17,10 +21,15 @@
 mod clock;
 mod command;
 pub mod crew;
+mod fair;
+pub mod keys;
 mod meeting;
 pub mod plan;
 mod relay;
 mod rounds;
+mod shares;
+mod sleepers;
+mod steps;
 pub mod summary;
 mod times;
 mod turns;

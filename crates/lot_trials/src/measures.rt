@@ -2,6 +2,7 @@
 
 use crate::asserts::{equal, failed, is_so};
 use lot_load::measure::crew::run;
+use lot_load::measure::keys::{keys_of, measure_keys};
 use lot_load::measure::plan::plan_of;
 use std::alloc::Global;
 use std::process::Abort;
@@ -39,7 +40,31 @@ fn what_is_put_is_taken(rt: HostRuntime) {
 }
 
 #[test]
+fn locks_of_a_lot_of_many_are_counted(rt: HostRuntime) {
+    let Some(keys) = keys_of(&["3", "1500", "200"]) else {
+        failed(&rt, "no plan")
+    };
+    let Ok(figures) = measure_keys(&rt, rt.alloc(), &keys) else {
+        failed(&rt, "no figures")
+    };
+    equal(&rt, figures.sum, 600);
+    equal(&rt, figures.rounds, 600);
+}
+
+/// Words that are no command, and what they lack.
+static REFUSED: [(&str, &[&str]); 5] = [
+    ("a plan without threads", &["count", "0", "1", "1"]),
+    ("no way", &["fair", "2", "1", "0", "0", "1"]),
+    ("another way", &["fair", "2", "1", "0", "0", "1", "seldom"]),
+    ("too many locks", &["fair", "2", "1025", "0", "0", "1", "clock"]),
+    ("a number with a zero before it", &["fair", "2", "1", "00", "0", "1", "never"]),
+];
+
+#[test]
 fn other_words_are_refused(rt: HostRuntime) {
-    let plan = plan_of(&["count", "0", "1", "1"]);
-    is_so(&rt, plan.is_none(), "a plan without threads");
+    for (lack, words) in REFUSED.iter() {
+        is_so(&rt, plan_of(words).is_none(), lack);
+    }
+    is_so(&rt, keys_of(&["1", "10000001", "1"]).is_none(), "too many keys");
+    is_so(&rt, plan_of(&["fair", "2", "2", "9", "9", "1", "always"]).is_some(), "a plan");
 }

@@ -10,7 +10,15 @@ trait Peer: Sync {
     type Lock: Sync + Default;
     type Condition: Sync + Default;
 
+    /// Whether it has an unlock that hands the lock over.
+    const HANDS_OVER: bool = false;
+
     fn with<X>(lock: &Self::Lock, f: impl FnOnce(&mut u64) -> X) -> X;
+
+    /// The same, and the lock is handed to who waits for it, where the lock has an unlock that does.
+    fn with_fairly<X>(lock: &Self::Lock, f: impl FnOnce(&mut u64) -> X) -> X {
+        Self::with(lock, f)
+    }
 
     /// Waits while `has_to_wait` says so, and changes the number then.
     fn wait(lock: &Self::Lock, condition: &Self::Condition, has_to_wait: impl Fn(u64) -> bool, change: impl FnOnce(&mut u64));
@@ -22,12 +30,21 @@ struct ParkingLot;
 
 impl Peer for ParkingLot {
     const NAME: &'static str = "parking_lot";
+    const HANDS_OVER: bool = true;
     type Lock = parking_lot::Mutex<u64>;
     type Condition = parking_lot::Condvar;
 
     #[inline(always)]
     fn with<X>(lock: &Self::Lock, f: impl FnOnce(&mut u64) -> X) -> X {
         f(&mut lock.lock())
+    }
+
+    #[inline(always)]
+    fn with_fairly<X>(lock: &Self::Lock, f: impl FnOnce(&mut u64) -> X) -> X {
+        let mut held = lock.lock();
+        let made = f(&mut held);
+        parking_lot::MutexGuard::unlock_fair(held);
+        made
     }
 
     fn wait(lock: &Self::Lock, condition: &Self::Condition, has_to_wait: impl Fn(u64) -> bool, change: impl FnOnce(&mut u64)) {
@@ -102,13 +119,22 @@ impl Times {
     }
 
     fn note(&mut self, nanos: u64) {
+        self.count_in(nanos, 1);
+    }
+
+    fn count_in(&mut self, nanos: u64, more: u64) {
         let (mut rest, mut doubling) = (nanos, 0);
         while rest >= 32 {
             rest /= 2;
             doubling += 1;
         }
-        self.counts[16 * doubling + rest as usize] += 1;
+        self.counts[16 * doubling + rest as usize] += more;
         self.most = self.most.max(nanos);
+    }
+
+    /// Counts a time as often as it has nanoseconds.
+    fn weigh(&mut self, nanos: u64) {
+        self.count_in(nanos, nanos);
     }
 
     fn add(&mut self, other: &Times) {
@@ -131,6 +157,47 @@ impl Times {
     }
 }
 
+/// A thread's share is so many parts where it made all the rounds.
+const PARTS: u64 = 500_000;
+
+/// How evenly threads share the rounds.
+struct Shares {
+    count: u64,
+    sum: u64,
+    squares: u64,
+    least: u64,
+    most: u64,
+}
+
+impl Shares {
+    fn of(done: &[Done], all: u64) -> Shares {
+        let mut shares = Shares { count: 0, sum: 0, squares: 0, least: PARTS, most: 0 };
+        for one in done {
+            let part = one.rounds * PARTS / all.max(1);
+            shares.count += 1;
+            shares.sum += part;
+            shares.squares += part * part;
+            shares.least = shares.least.min(part);
+            shares.most = shares.most.max(part);
+        }
+        shares
+    }
+
+    fn of_mean(&self, part: u64) -> u64 {
+        (part * self.count * 1000).checked_div(self.sum).unwrap_or(0)
+    }
+
+    fn jain(&self) -> u64 {
+        (1000 * self.sum * self.sum).checked_div(self.count * self.squares).unwrap_or(0)
+    }
+}
+
+/// How often a thread sleeps and is woken.
+const SLEEPS: u64 = 100;
+
+/// A thread sleeps when it has asked for a held lock so many nanoseconds ago.
+const ASLEEP_AFTER: u64 = 200_000;
+
 struct Done {
     begin: u64,
     end: u64,
@@ -144,6 +211,8 @@ enum Job {
     Share,
     Relay(usize, u64),
     Wait(u64, u64),
+    Fair(u64, u64, bool),
+    Keys(u64),
     Notify(u64),
     Turns(u64),
     Permits(u64, u64),
@@ -225,6 +294,27 @@ impl<P: Peer> Bench<P> {
         made
     }
 
+    fn fair(&self, worker: usize, held: u64, outside: u64, fairly: bool, times: &mut Times) -> u64 {
+        let mut random = Random::new(worker);
+        let cells = self.cells.as_slice();
+        let mut made = 0;
+        while !self.is_over() {
+            let cell = &cells[key_of(random.next(), cells.len())];
+            let asked = self.now();
+            let work = |number: &mut u64| {
+                let owned = self.now();
+                *number += 1;
+                self.spend(held);
+                owned
+            };
+            let owned = if fairly { P::with_fairly(cell, work) } else { P::with(cell, work) };
+            times.weigh(owned - asked);
+            made += 1;
+            self.spend(outside);
+        }
+        made
+    }
+
     fn relay(&self, worker: usize, producers: usize, rounds: u64) -> u64 {
         if worker < producers {
             for _ in 0..rounds {
@@ -278,6 +368,8 @@ impl<P: Peer> Bench<P> {
             Job::Share => self.share(),
             Job::Relay(producers, rounds) => self.relay(worker, producers, rounds),
             Job::Wait(held, outside) => self.wait(held, outside, &mut times),
+            Job::Fair(held, outside, fairly) => self.fair(worker, held, outside, fairly, &mut times),
+            Job::Keys(rounds) => self.count(worker, rounds),
             Job::Notify(rounds) => self.notify(rounds),
             Job::Turns(rounds) => self.take_turns(worker, rounds),
             Job::Permits(_, rounds) => self.take_permits(rounds),
@@ -285,15 +377,56 @@ impl<P: Peer> Bench<P> {
         Done { begin, end: self.now(), rounds, times }
     }
 
+    /// Waits until so many steps were made.
+    fn await_made(steps: &AtomicU64, made: u64) {
+        while steps.load(Ordering::SeqCst) < made {
+            std::thread::yield_now();
+        }
+    }
+
+    /// The time from an unlock until the thread that slept for the lock owns it, half of the times being shorter.
+    fn to_sleeper(&self) -> u64 {
+        let (steps, unlocked) = (AtomicU64::new(0), AtomicU64::new(0));
+        let cells = self.cells.as_slice();
+        std::thread::scope(|scope| {
+            let sleeper = scope.spawn(|| {
+                let (mut times, mut random) = (Times::new(), Random::new(1));
+                for round in 0..SLEEPS {
+                    let cell = &cells[key_of(random.next(), cells.len())];
+                    Self::await_made(&steps, 3 * round + 1);
+                    steps.fetch_add(1, Ordering::SeqCst);
+                    let owned = P::with(cell, |_| self.now());
+                    times.note(owned - unlocked.load(Ordering::SeqCst));
+                    steps.fetch_add(1, Ordering::SeqCst);
+                }
+                times.part(500)
+            });
+            let mut random = Random::new(1);
+            for round in 0..SLEEPS {
+                P::with(&cells[key_of(random.next(), cells.len())], |_| {
+                    steps.fetch_add(1, Ordering::SeqCst);
+                    Self::await_made(&steps, 3 * round + 2);
+                    self.spend(ASLEEP_AFTER);
+                    unlocked.store(self.now(), Ordering::SeqCst);
+                });
+                Self::await_made(&steps, 3 * round + 3);
+            }
+            sleeper.join().unwrap()
+        })
+    }
+
     fn run(plan: Plan, words: &[String]) {
+        let start = Instant::now();
+        let cells = (0..plan.locks).map(|_| P::Lock::default()).collect();
+        let open = start.elapsed().as_nanos() as u64;
         let bench = Bench::<P> {
-            cells: (0..plan.locks).map(|_| P::Lock::default()).collect(),
+            cells,
             not_full: P::Condition::default(),
             not_empty: P::Condition::default(),
             turns: (0..plan.threads).map(|_| P::Condition::default()).collect(),
             here: AtomicU64::new(0),
             over: AtomicU64::new(0),
-            start: Instant::now(),
+            start,
             plan,
         };
         if let Job::Permits(permits, _) = bench.plan.job {
@@ -310,10 +443,17 @@ impl<P: Peer> Bench<P> {
             }
             crew.into_iter().map(|thread| thread.join().unwrap()).collect()
         });
-        bench.tell(&done, words);
+        let mut line = bench.line(&done, words);
+        if let Job::Keys(_) = bench.plan.job {
+            let sleeper = if bench.plan.threads > 1 { bench.to_sleeper() } else { 0 };
+            let begin = bench.now();
+            drop(bench.cells);
+            line += &format!(" open={open} close={} register=0 sleeper={sleeper}", start.elapsed().as_nanos() as u64 - begin);
+        }
+        println!("{line}");
     }
 
-    fn tell(&self, done: &[Done], words: &[String]) {
+    fn line(&self, done: &[Done], words: &[String]) -> String {
         let begin = done.iter().map(|one| one.begin).min().unwrap_or(0);
         let end = done.iter().map(|one| one.end).max().unwrap_or(0);
         let made: u64 = done.iter().map(|one| one.rounds).sum();
@@ -329,11 +469,17 @@ impl<P: Peer> Bench<P> {
             done.iter().for_each(|one| times.add(&one.times));
             line += &format!(" p50={} p99={} p999={} most={}", times.part(500), times.part(990), times.part(999), times.most);
         }
-        println!("{line}");
+        if let Job::Fair(..) = self.plan.job {
+            let (mut times, shares) = (Times::new(), Shares::of(done, made));
+            done.iter().for_each(|one| times.add(&one.times));
+            line += &format!(" longest={} weighed50={} weighed99={}", times.most, times.part(500), times.part(990));
+            line += &format!(" least={} most={} jain={}", shares.of_mean(shares.least), shares.of_mean(shares.most), shares.jain());
+        }
+        line
     }
 }
 
-fn plan(words: &[String]) -> Option<Plan> {
+fn plan(words: &[String], hands_over: bool) -> Option<Plan> {
     let number = |i: usize| words.get(i)?.parse::<u64>().ok();
     let size = |i: usize| words.get(i)?.parse::<usize>().ok();
     Some(match words.first()?.as_str() {
@@ -341,6 +487,14 @@ fn plan(words: &[String]) -> Option<Plan> {
         "share" => Plan { threads: size(1)?, locks: 1, millis: number(2)?, job: Job::Share },
         "relay" => Plan { threads: size(1)? + size(2)?, locks: 1, millis: 0, job: Job::Relay(size(1)?, number(3)?) },
         "wait" => Plan { threads: size(1)?, locks: 1, millis: number(4)?, job: Job::Wait(number(2)?, number(3)?) },
+        "fair" => {
+            let fairly = words.get(6)? == "always";
+            if !fairly && words[6] != "clock" || fairly && !hands_over {
+                return None;
+            }
+            Plan { threads: size(1)?, locks: size(2)?, millis: number(5)?, job: Job::Fair(number(3)?, number(4)?, fairly) }
+        }
+        "keys" => Plan { threads: size(1)?, locks: size(2)?, millis: 0, job: Job::Keys(number(3)?) },
         "notify" => Plan { threads: size(1)?, locks: 1, millis: 0, job: Job::Notify(number(2)?) },
         "turns" => Plan { threads: size(1)?, locks: 1, millis: 0, job: Job::Turns(number(2)?) },
         "permits" => Plan { threads: size(1)?, locks: 1, millis: 0, job: Job::Permits(number(2)?, number(3)?) },
@@ -365,7 +519,8 @@ fn main() {
     if words.first().is_some_and(|word| word == "sizes") {
         return if peer == "std" { sizes::<Std>() } else { sizes::<ParkingLot>() };
     }
-    let Some(plan) = plan(words) else {
+    let hands_over = if peer == "std" { Std::HANDS_OVER } else { ParkingLot::HANDS_OVER };
+    let Some(plan) = plan(words, hands_over) else {
         eprintln!("bad command line");
         std::process::exit(1);
     };

@@ -1,5 +1,6 @@
 //! The command line: what is run and written, and with which status it ends.
 use super::crew::run;
+use super::keys::{keys_of, measure_keys};
 use super::plan::plan_of;
 use lot_command::{Failure, report};
 use std::alloc::Global;
@@ -27,6 +28,10 @@ fn text_of<T: Threads + Wait + Clock + Sync>(
     alloc: Global,
     words: &[&str],
 ) -> Result<String, Failure> {
+    if let ["keys", numbers @ ..] = words {
+        let keys = keys_of(numbers).ok_or(Failure::BadCommandLine)?;
+        return measure_keys(rt, alloc, &keys)?.line(alloc, words);
+    }
     let plan = plan_of(words).ok_or(Failure::BadCommandLine)?;
     run(rt, alloc, &plan)?.line(alloc, &plan, words)
 }

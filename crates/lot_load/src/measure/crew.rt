@@ -4,6 +4,7 @@ ghost use Rattle.lot_sync.specs.Lot.{OwnsNone};
 ghost use Rattle.lot_sync.specs.Opened.{IsNamed};
 
 use super::clock::now;
+use super::fair::fair;
 use super::meeting::Meeting;
 use super::plan::{Job, Plan};
 use super::relay::{Side, take_part};
@@ -146,11 +147,10 @@ fn go<N: LotName<Number> + Send, T: Wait + Clock>(
         Job::Count(rounds) => (count(rt, lot, worker, pass, rounds), rounds),
         Job::Share(_) => share(rt, lot, meeting, worker, pass),
         Job::Wait(held, outside, _) => {
-            (
-                wait(rt, lot, meeting, pass, (held, outside), times),
-                times.count(),
-            )
+            let pass = wait(rt, lot, meeting, pass, (held, outside), times);
+            (pass, times.count())
         }
+        Job::Fair(fairness) => fair(rt, lot, meeting, worker, pass, &fairness, times),
         Job::Relay(producers, rounds) if lot.locks() == 1 && lot.conds() == 2 => {
             if worker < producers {
                 let pass = take_part(rt, lot, Side::Producer, worker, pass, rounds);

@@ -2,6 +2,7 @@
 ghost use Rattle.std.specs.Prelude.{◌≤◌, ◌+◌};
 ghost use Rattle.lot_core.specs.declared.state.TheConstants.{MAX_THREADS, MAX_KEYS};
 
+use super::fair::{Fairness, Way};
 use lot_command::number;
 use lot_sync::{MAX_KEYS, MAX_THREADS};
 
@@ -16,6 +17,8 @@ pub enum Job {
     Relay(usize, u64),
     /// Rounds on lock 0 for so many milliseconds, the lock being held for so many nanoseconds, and so many outside.
     Wait(u64, u64, u64),
+    /// Rounds on locks by chance.
+    Fair(Fairness),
     /// So many notifications each, where nobody waits.
     Notify(u64),
     /// So many turns each, one thread after the other.
@@ -43,6 +46,7 @@ impl Plan {
     pub fn millis(&self) -> Option<u64> {
         match self.job {
             Job::Share(millis) | Job::Wait(_, _, millis) => Some(millis),
+            Job::Fair(fairness) => Some(fairness.millis),
             _ => None,
         }
     }
@@ -67,7 +71,7 @@ const MOST_NANOS: u64 = 1_000_000_000;
 const MOST_PERMITS: u64 = 9_999;
 
 /// The most rounds of a thread.
-const MOST_ROUNDS: u64 = 1_000_000_000;
+pub const MOST_ROUNDS: u64 = 1_000_000_000;
 
 /// The plan that the words of a command line spell.
 pub fn plan_of(words: &[&str]) -> Option<Plan> {
@@ -79,6 +83,7 @@ pub fn plan_of(words: &[&str]) -> Option<Plan> {
         "share" => sharing(numbers),
         "relay" => relaying(numbers),
         "wait" => waiting(numbers),
+        "fair" => sharing_fairly(numbers),
         "notify" => notifying(numbers),
         "turns" => taking_turns(numbers),
         "permits" => taking_permits(numbers),
@@ -130,6 +135,28 @@ fn waiting(numbers: &[&str]) -> Option<Plan> {
     let outside = number(outside, 0, MOST_NANOS)?;
     let millis = number(millis, 0, MOST_MILLIS)?;
     sized(threads, "1", Job::Wait(held, outside, millis))
+}
+
+fn sharing_fairly(numbers: &[&str]) -> Option<Plan> {
+    let [threads, locks, held, outside, millis, way] = numbers else {
+        return None;
+    };
+    let fairness = Fairness {
+        held: number(held, 0, MOST_NANOS)?,
+        outside: number(outside, 0, MOST_NANOS)?,
+        millis: number(millis, 0, MOST_MILLIS)?,
+        way: way_of(way)?,
+    };
+    sized(threads, locks, Job::Fair(fairness))
+}
+
+fn way_of(word: &str) -> Option<Way> {
+    match word {
+        "clock" => Some(Way::Clock),
+        "never" => Some(Way::Never),
+        "always" => Some(Way::Always),
+        _ => None,
+    }
 }
 
 fn notifying(numbers: &[&str]) -> Option<Plan> {

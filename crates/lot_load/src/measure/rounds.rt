@@ -36,7 +36,7 @@ impl Random {
 
 /// The lock of a random word: its number by the word's highest bits.
 #[inline(always)]
-fn key_of(word: u64, locks: usize) -> usize
+pub fn key_of(word: u64, locks: usize) -> usize
     requires { 0 < locks }
     ensures { result < locks }
 {

@@ -1,5 +1,6 @@
 //! What a crew has done, and the line that tells it.
 use super::plan::{Job, Plan};
+use super::shares::Shares;
 use super::times::Times;
 use lot_command::Failure;
 use std::alloc::{AllocError, Global};
@@ -28,6 +29,18 @@ pub struct Summary {
     pub most: u64,
     pub all: u64,
     pub times: Times,
+    /// How they shared the rounds.
+    pub shares: Shares,
+}
+
+/// The words of a command, with which its line begins.
+pub fn begin_line(alloc: Global, words: &[&str]) -> Result<String, Failure> {
+    let mut text = String::new(alloc);
+    write!(text, "lot")?;
+    for word in words.iter() {
+        write!(text, " {word}")?;
+    }
+    Ok(text)
 }
 
 impl Summary {
@@ -48,6 +61,7 @@ impl Summary {
             most: 0,
             all: 0,
             times: Times::new(alloc)?,
+            shares: Shares::new(),
         };
         for one in done.iter() {
             if let Some(one) = one {
@@ -59,17 +73,18 @@ impl Summary {
                 summary.times.add(&one.times);
             }
         }
+        for one in done.iter() {
+            if let Some(one) = one {
+                summary.shares.note(one.rounds, summary.all);
+            }
+        }
         summary.nanos = end.saturating_sub(begin);
         Ok(summary)
     }
 
     /// The line, after the words of the command.
     pub fn line(&self, alloc: Global, plan: &Plan, words: &[&str]) -> Result<String, Failure> {
-        let mut text = String::new(alloc);
-        write!(text, "lot")?;
-        for word in words.iter() {
-            write!(text, " {word}")?;
-        }
+        let mut text = begin_line(alloc, words)?;
         self.push_figures(&plan.job, &mut text)?;
         Ok(text)
     }
@@ -84,6 +99,7 @@ impl Summary {
         match job {
             Job::Share(_) => write!(text, " least={} most={}", self.least, self.most)?,
             Job::Wait(..) => self.push_times(text)?,
+            Job::Fair(_) => self.push_fairness(text)?,
             _ => {}
         }
         writeln!(text)?;
@@ -98,6 +114,15 @@ impl Summary {
         );
         let most = self.times.most();
         write!(text, " p50={p50} p99={p99} p999={p999} most={most}")?;
+        Ok(())
+    }
+
+    fn push_fairness(&self, text: &mut String) -> Result<(), Failure> {
+        let longest = self.times.most();
+        let (half, most) = (self.times.part(500), self.times.part(990));
+        write!(text, " longest={longest} weighed50={half} weighed99={most}")?;
+        let (least, most, jain) = (self.shares.least(), self.shares.most(), self.shares.jain());
+        write!(text, " least={least} most={most} jain={jain}")?;
         Ok(())
     }
 }

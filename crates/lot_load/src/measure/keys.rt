@@ -1,0 +1,204 @@
+//! A lot of many locks: how long it takes to open, to register in, to lock by chance, from an unlock to its sleeper,
+//! and to close.
+ghost use Rattle.std.specs.Prelude.{◌≡◌, ◌≤◌, ◌<◌, length};
+ghost use Rattle.lot_core.specs.declared.state.TheConstants.{MAX_THREADS};
+ghost use Rattle.lot_sync.specs.Lot.{OwnsNone};
+ghost use Rattle.lot_sync.specs.Opened.{IsNamed};
+ghost use Rattle.lot_load.specs.declared.many.TheConstants.{MOST_LOCKS};
+
+use super::clock::now;
+use super::meeting::Meeting;
+use super::plan::MOST_ROUNDS;
+use super::rounds::count;
+use super::sleepers::{longest_register, to_sleeper};
+use super::summary::begin_line;
+use super::value::Number;
+use crate::many::MOST_LOCKS;
+use crate::workers::start;
+use lot_calls::finish;
+use lot_command::{Failure, number};
+use lot_sync::{Lot, LotName, MAX_THREADS, OpenFault, Opened};
+use std::alloc::Global;
+use std::fmt::Write as _;
+use std::marker::Brand;
+use std::sync::Wait;
+use std::thread::{Threads, map_indices};
+use std::time::Clock;
+
+/// How many threads and locks, and how many rounds of each thread.
+#[derive(Clone, Copy)]
+pub struct Keys {
+    pub threads: usize,
+    pub locks: usize,
+    pub rounds: u64,
+    ghost threads_fit: { (1 ≤ threads) × (threads ≤ MAX_THREADS) },
+    ghost locks_fit: { (1 ≤ locks) × (locks ≤ MOST_LOCKS) },
+}
+
+/// What came of it: the sum of the locks' numbers, the rounds of all threads, and times in nanoseconds.
+#[derive(Clone, Copy)]
+pub struct Figures {
+    pub sum: u64,
+    pub rounds: u64,
+    /// From the begin of the first thread's rounds to the end of the last one's.
+    pub nanos: u64,
+    /// From before the values are made until the lot is started, and until all values came back.
+    pub open: u64,
+    pub close: u64,
+    /// The longest `register`, where the threads register one after the other and one sleeps meanwhile.
+    pub register: u64,
+    /// From an unlock to the owning of the thread that slept, half of the times being shorter; 0 for one thread.
+    pub sleeper: u64,
+}
+
+/// When the rounds of a thread began and ended.
+#[derive(Clone, Copy)]
+struct Stretch {
+    begin: u64,
+    end: u64,
+}
+
+/// What the words after `keys` ask for.
+pub fn keys_of(numbers: &[&str]) -> Option<Keys> {
+    let [threads, locks, rounds] = numbers else {
+        return None;
+    };
+    Some(Keys {
+        threads: number(threads, 1, MAX_THREADS as u64)? as usize,
+        locks: number(locks, 1, MOST_LOCKS as u64)? as usize,
+        rounds: number(rounds, 0, MOST_ROUNDS)?,
+    })
+}
+
+/// Opens a lot, measures it, and closes it.
+pub fn measure_keys<T: Threads + Wait + Clock + Sync>(
+    rt: &T,
+    alloc: Global,
+    keys: &Keys,
+) -> Result<Figures, Failure> {
+    let begin = now(rt);
+    let values = vec![in alloc; Number { n: 0 }; keys.locks]?;
+    match Lot::<Number, Brand>::open_many(alloc, keys.threads, values, 0, &[]) {
+        Ok(opened) => run_on::<Brand, T>(rt, alloc, keys, opened, begin),
+        Err((OpenFault::NoMemory, _)) => Err(Failure::NoMemory),
+        Err(_) => unreachable!(),
+    }
+}
+
+fn run_on<N: LotName<Number> + Send + Sync, T: Threads + Wait + Clock + Sync>(
+    rt: &T,
+    alloc: Global,
+    keys: &Keys,
+    opened: Opened<Number>,
+    begin: u64,
+) -> Result<Figures, Failure>
+    requires named { IsNamed N.LotName opened }
+    requires sizes { (opened.threads ≡ keys.now.threads) × (length opened.values ≡ keys.now.locks) }
+{
+    let (lot, passes) = match start::<Number, N>(alloc, keys.threads, opened) {
+        Ok(started) => started,
+        Err(failure) => return Err(failure),
+    };
+    let open = now(rt).wrapping_sub(begin);
+    let worked = work_all(rt, alloc, keys, &lot);
+    let begin = now(rt);
+    let (values, _) = finish(rt, lot, passes);
+    let close = now(rt).wrapping_sub(begin);
+    let mut figures = worked?;
+    figures.open = open;
+    figures.close = close;
+    for number in values.iter() {
+        figures.sum = figures.sum.wrapping_add(number.n);
+    }
+    Ok(figures)
+}
+
+/// All that is measured of an open lot.
+fn work_all<N: LotName<Number> + Send + Sync, T: Threads + Wait + Clock + Sync>(
+    rt: &T,
+    alloc: Global,
+    keys: &Keys,
+    lot: &Lot<Number, N>,
+) -> Result<Figures, Failure>
+    requires { lot.now.locks ≡ keys.now.locks }
+{
+    let register = longest_register(rt, alloc, keys.threads, lot)?;
+    let (rounds, nanos) = pairs(rt, alloc, keys, lot)?;
+    let sleeper = to_sleeper(rt, alloc, lot)?;
+    Ok(Figures {
+        sum: 0,
+        rounds,
+        nanos,
+        open: 0,
+        close: 0,
+        register,
+        sleeper,
+    })
+}
+
+/// All threads lock and unlock locks by chance. Answers how many rounds they made, and in how many nanoseconds.
+fn pairs<N: LotName<Number> + Send + Sync, T: Threads + Wait + Clock + Sync>(
+    rt: &T,
+    alloc: Global,
+    keys: &Keys,
+    lot: &Lot<Number, N>,
+) -> Result<(u64, u64), Failure>
+    requires { lot.now.locks ≡ keys.now.locks }
+{
+    let meeting = Meeting::new();
+    let done = map_indices(
+        rt,
+        alloc,
+        keys.threads,
+        &|worker: usize| -> Option<Stretch>
+            requires { lot.now.locks ≡ keys.now.locks }
+        { pairs_of(rt, keys, lot, &meeting, worker) },
+    )?;
+    let (mut rounds, mut begin, mut end) = (0u64, u64::MAX, 0u64);
+    for one in done.iter() {
+        if let Some(one) = one {
+            rounds = rounds.saturating_add(keys.rounds);
+            begin = begin.min(one.begin);
+            end = end.max(one.end);
+        }
+    }
+    Ok((rounds, end.saturating_sub(begin)))
+}
+
+/// One thread: it registers, meets the others, makes its rounds, and leaves.
+fn pairs_of<N: LotName<Number> + Send, T: Wait + Clock>(
+    rt: &T,
+    keys: &Keys,
+    lot: &Lot<Number, N>,
+    meeting: &Meeting,
+    worker: usize,
+) -> Option<Stretch>
+    requires { lot.now.locks ≡ keys.now.locks }
+{
+    let registered = lot.register(rt);
+    meeting.join(keys.threads as u64);
+    let Ok(pass) = registered else {
+        return None;
+    };
+    let begin = now(rt);
+    let pass = count(rt, lot, worker, pass, keys.rounds);
+    let end = now(rt);
+    lot.leave(rt, pass);
+    Some(Stretch { begin, end })
+}
+
+impl Figures {
+    /// The line, after the words of the command.
+    pub fn line(&self, alloc: Global, words: &[&str]) -> Result<String, Failure> {
+        let mut text = begin_line(alloc, words)?;
+        let (sum, rounds, nanos) = (self.sum, self.rounds, self.nanos);
+        write!(text, " sum={sum} rounds={rounds} ns={nanos}")?;
+        let (open, close) = (self.open, self.close);
+        let (register, sleeper) = (self.register, self.sleeper);
+        writeln!(
+            text,
+            " open={open} close={close} register={register} sleeper={sleeper}"
+        )?;
+        Ok(text)
+    }
+}
