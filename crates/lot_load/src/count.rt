@@ -1,5 +1,6 @@
 //! `count`: threads that lock, count themselves and unlock, on real locks.
-ghost use Rattle.std.specs.Prelude.{◌≡◌, ◌≤◌, ◌<◌, ◌+◌, ℕ, length, vec_len, IfOk, MatchBool};
+ghost use Rattle.std.specs.Prelude.{◌≡◌, ◌≤◌, ◌<◌, ◌+◌, ℕ, length, vec_len, vec_capacity, IfOk, MatchBool};
+ghost use Rattle.std.specs.List.{All};
 ghost use Rattle.lot_core.specs.declared.state.TheConstants.{MAX_THREADS, MAX_KEYS};
 ghost use Rattle.lot_sync.specs.Lot.{PassView, OwnsNone, rested};
 ghost use Rattle.lot_sync.specs.Opened.{IsNamed};
@@ -8,8 +9,8 @@ ghost use Rattle.lot_load.specs.Works.{WorksOn};
 
 use crate::counter::{Add, Counter};
 use crate::gate::{Gate, OpenGate, Point};
-use crate::workers::{Flags, all_start, enter, moment, start};
-use lot_calls::finish;
+use crate::workers::{moment, outcome};
+use lot_calls::{finish, leave_all, start_with_passes, work_together};
 use lot_command::{Failure, report};
 use lot_journal::Journal;
 use lot_sync::{Held, Lot, LotName, OpenFault, Opened, Pass};
@@ -19,6 +20,7 @@ use std::fmt::Write as _;
 use std::io::Write;
 use std::marker::Brand;
 use std::sync::Wait;
+use std::sync::atomic::{AtomicBool, Ordering};
 use std::thread::Threads;
 
 /// How many threads, how many locks, how many rounds of each thread, and the seed of the random words.
@@ -112,12 +114,12 @@ fn run_workers<
     requires sizes { (opened.threads ≡ counting.now.threads) × (length opened.values ≡ counting.now.locks) }
     requires rests { (p : PassView V) → V.rests (rested p) }
 {
-    let (lot, passes) = match start::<V, N>(alloc, counting.threads, opened) {
-        Ok(started) => started,
-        Err(failure) => return Err(failure),
+    let Ok((lot, passes)) = start_with_passes::<V, N, T>(rt, alloc, counting.threads, opened) else {
+        return Err(Failure::NoMemory);
     };
-    let outcome = count_all(rt, gate, counting, &lot);
-    let (values, _) = finish(rt, lot, passes);
+    let (passes, outcome) = count_all(rt, gate, counting, &lot, passes);
+    let room = leave_all(rt, &lot, passes);
+    let (values, _) = finish(rt, lot, room);
     outcome?;
     Ok(values)
 }
@@ -128,63 +130,52 @@ fn count_all<
     N: LotName<V> + Send + Sync,
     T: Threads + Wait + Sync,
     G: Gate + Sync,
->(rt: &T, gate: &G, counting: &Counting, lot: &Lot<V, N>) -> Result<(), Failure>
+>(
+    rt: &T,
+    gate: &G,
+    counting: &Counting,
+    lot: &Lot<V, N>,
+    passes: Vec<Pass<V, N>>,
+) -> (Vec<Pass<V, N>>, Result<(), Failure>)
     requires sizes { (lot.now.threads ≡ counting.now.threads) × (lot.now.locks ≡ counting.now.locks) }
-    requires rests { (p : PassView V) → V.rests (rested p) }
+    requires free { All OwnsNone passes.items }
+    ensures capacity { vec_capacity result.0 ≡ vec_capacity passes }
+    ensures free { All OwnsNone result.0.items }
 {
-    let flags = Flags::new();
-    let started = start_all(rt, gate, counting, lot, &flags);
-    flags.outcome(started)
+    let refused = AtomicBool::new(false);
+    let go = |pass: Pass<V, N>| -> Pass<V, N>
+        requires sizes { (lot.now.threads ≡ counting.now.threads) × (lot.now.locks ≡ counting.now.locks) }
+        requires free { OwnsNone pass }
+        ensures { OwnsNone result }
+    { work(rt, lot, gate, counting, &refused, pass) };
+    let (passes, worked) = work_together(rt, &go, passes);
+    (passes, outcome(worked, refused.load(Ordering::SeqCst)))
 }
 
-/// Starts the workers and waits for their end. Answers whether all could be started.
-fn start_all<
-    V: Counts + Send,
-    N: LotName<V> + Send + Sync,
-    T: Threads + Wait + Sync,
-    G: Gate + Sync,
->(rt: &T, gate: &G, counting: &Counting, lot: &Lot<V, N>, flags: &Flags) -> bool
-    requires sizes { (lot.now.threads ≡ counting.now.threads) × (lot.now.locks ≡ counting.now.locks) }
-    requires rests { (p : PassView V) → V.rests (rested p) }
-{
-    all_start(
-        rt,
-        counting.threads,
-        flags,
-        &|worker: usize|
-            requires sizes { (lot.now.threads ≡ counting.now.threads) × (lot.now.locks ≡ counting.now.locks) }
-            requires rests { (p : PassView V) → V.rests (rested p) }
-        {
-            work(rt, lot, gate, flags, counting, worker);
-        },
-    )
-}
-
-/// One worker: it waits until all may go, and then goes its rounds. Where memory is refused to one, it ends there.
+/// One worker, with all its rounds. Where memory is refused to it, it ends there, and says so.
 fn work<V: Counts + Send, N: LotName<V> + Send + Sync, T: Wait, G: Gate>(
     rt: &T,
     lot: &Lot<V, N>,
     gate: &G,
-    flags: &Flags,
     counting: &Counting,
-    worker: usize,
-)
+    refused: &AtomicBool,
+    pass: Pass<V, N>,
+) -> Pass<V, N>
     requires sizes { (lot.now.threads ≡ counting.now.threads) × (lot.now.locks ≡ counting.now.locks) }
-    requires rests { (p : PassView V) → V.rests (rested p) }
+    requires free { OwnsNone pass }
+    ensures { OwnsNone result }
 {
-    let Some(pass) = enter(rt, lot, flags) else {
-        return;
-    };
+    let worker = pass.thread();
     let mut pass = pass;
     for round in 0..counting.rounds {
         let (gone, called) = go_round(rt, lot, gate, counting, worker, round, pass);
         pass = gone;
         if !called {
-            flags.refuse();
+            refused.store(true, Ordering::SeqCst);
             break;
         }
     }
-    lot.leave(rt, pass);
+    pass
 }
 
 /// One round of a worker: it locks the round's key, adds one to its counter and unlocks. Answers whether there was
