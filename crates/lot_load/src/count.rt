@@ -1,8 +1,7 @@
 //! `count`: threads that lock, count themselves and unlock, on real locks.
-ghost use Rattle.std.specs.Prelude.{◌≡◌, ◌≤◌, ◌<◌, ◌+◌, ℕ, length, vec_len, vec_capacity, IfOk, MatchBool};
-ghost use Rattle.std.specs.List.{All};
+ghost use Rattle.std.specs.Prelude.{◌≡◌, ◌≤◌, ◌<◌, ◌+◌, ℕ, length, vec_len, IfOk, MatchBool};
 ghost use Rattle.lot_core.specs.declared.state.TheConstants.{MAX_THREADS, MAX_KEYS};
-ghost use Rattle.lot_sync.specs.Lot.{PassView, OwnsNone, rested};
+ghost use Rattle.lot_sync.specs.Lot.{OwnsNone};
 ghost use Rattle.lot_sync.specs.Opened.{IsNamed};
 ghost use Rattle.lot_load.specs.Counters.{AllLegal};
 ghost use Rattle.lot_load.specs.Works.{WorksOn};
@@ -82,7 +81,7 @@ pub fn new_journals(alloc: Global, locks: usize) -> Result<Vec<Journal<Counter>>
     Ok(journals)
 }
 
-/// Lets the workers run on a lot of the journals, and prints what the locks counted.
+/// Starts the lot, lets the workers run, and prints what the locks counted.
 fn run<N: LotName<Journal<Counter>> + Send + Sync, T: Threads + Wait + Sync, G: Gate + Sync>(
     rt: &T,
     alloc: Global,
@@ -93,74 +92,32 @@ fn run<N: LotName<Journal<Counter>> + Send + Sync, T: Threads + Wait + Sync, G: 
     requires named { IsNamed N.LotName opened }
     requires sizes { (opened.threads ≡ counting.now.threads) × (length opened.values ≡ counting.now.locks) }
 {
-    let journals = run_workers::<Journal<Counter>, N, T, G>(rt, alloc, gate, counting, opened)?;
+    let started = start_with_passes::<Journal<Counter>, N, T>(rt, alloc, counting.threads, opened);
+    let Ok((lot, passes)) = started else {
+        return Err(Failure::NoMemory);
+    };
+    let refused = AtomicBool::new(false);
+    let go = |pass: Pass<Journal<Counter>, N>| -> Pass<Journal<Counter>, N>
+        requires sizes { (lot.threads ≡ counting.now.threads) × (lot.locks ≡ counting.now.locks) }
+        requires free { OwnsNone pass }
+        ensures { OwnsNone result }
+    { work(rt, &lot, gate, counting, &refused, pass) };
+    let (passes, worked) = work_together(rt, &go, passes);
+    let room = leave_all(rt, &lot, passes);
+    let (journals, _) = finish(rt, lot, room);
+    outcome(worked, refused.load(Ordering::SeqCst))?;
     print(alloc, journals.as_slice())
 }
 
-/// Starts the lot, lets the workers run, and ends it: the values that they leave.
-fn run_workers<
-    V: Counts + Send,
-    N: LotName<V> + Send + Sync,
-    T: Threads + Wait + Sync,
-    G: Gate + Sync,
->(
-    rt: &T,
-    alloc: Global,
-    gate: &G,
-    counting: &Counting,
-    opened: Opened<V>,
-) -> Result<Vec<V>, Failure>
-    requires named { IsNamed N.LotName opened }
-    requires sizes { (opened.threads ≡ counting.now.threads) × (length opened.values ≡ counting.now.locks) }
-    requires rests { (p : PassView V) → V.rests (rested p) }
-{
-    let Ok((lot, passes)) = start_with_passes::<V, N, T>(rt, alloc, counting.threads, opened) else {
-        return Err(Failure::NoMemory);
-    };
-    let (passes, outcome) = count_all(rt, gate, counting, &lot, passes);
-    let room = leave_all(rt, &lot, passes);
-    let (values, _) = finish(rt, lot, room);
-    outcome?;
-    Ok(values)
-}
-
-/// Runs the workers to their end.
-fn count_all<
-    V: Counts + Send,
-    N: LotName<V> + Send + Sync,
-    T: Threads + Wait + Sync,
-    G: Gate + Sync,
->(
-    rt: &T,
-    gate: &G,
-    counting: &Counting,
-    lot: &Lot<V, N>,
-    passes: Vec<Pass<V, N>>,
-) -> (Vec<Pass<V, N>>, Result<(), Failure>)
-    requires sizes { (lot.now.threads ≡ counting.now.threads) × (lot.now.locks ≡ counting.now.locks) }
-    requires free { All OwnsNone passes.items }
-    ensures capacity { vec_capacity result.0 ≡ vec_capacity passes }
-    ensures free { All OwnsNone result.0.items }
-{
-    let refused = AtomicBool::new(false);
-    let go = |pass: Pass<V, N>| -> Pass<V, N>
-        requires sizes { (lot.now.threads ≡ counting.now.threads) × (lot.now.locks ≡ counting.now.locks) }
-        requires free { OwnsNone pass }
-        ensures { OwnsNone result }
-    { work(rt, lot, gate, counting, &refused, pass) };
-    let (passes, worked) = work_together(rt, &go, passes);
-    (passes, outcome(worked, refused.load(Ordering::SeqCst)))
-}
-
 /// One worker, with all its rounds. Where memory is refused to it, it ends there, and says so.
-fn work<V: Counts + Send, N: LotName<V> + Send + Sync, T: Wait, G: Gate>(
+fn work<N: LotName<Journal<Counter>> + Send + Sync, T: Wait, G: Gate>(
     rt: &T,
-    lot: &Lot<V, N>,
+    lot: &Lot<Journal<Counter>, N>,
     gate: &G,
     counting: &Counting,
     refused: &AtomicBool,
-    pass: Pass<V, N>,
-) -> Pass<V, N>
+    pass: Pass<Journal<Counter>, N>,
+) -> Pass<Journal<Counter>, N>
     requires sizes { (lot.now.threads ≡ counting.now.threads) × (lot.now.locks ≡ counting.now.locks) }
     requires free { OwnsNone pass }
     ensures { OwnsNone result }

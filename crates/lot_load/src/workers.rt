@@ -9,7 +9,8 @@ const ROUND: u64 = 500_000;
 
 /// What came of workers: whether all could be started, and whether memory was refused to one.
 pub fn outcome(worked: bool, refused: bool) -> Result<(), Failure>
-    ensures { result ≡ (if worked then (if refused then Err Failure.NoMemory else Ok tt) else Err Failure.CannotStartWorker) }
+    ensures { result ≡ (if worked then (if refused then Err Failure.NoMemory else Ok tt)
+        else Err Failure.CannotStartWorker) }
 {
     if !worked {
         return Err(Failure::CannotStartWorker);
