@@ -6,18 +6,14 @@ use Rattle.std.proofs.lemmas.Bool.{cases_eq}
 use Rattle.std.proofs.lemmas.List.{length-map}
 use Rattle.std.proofs.lemmas.List.Sums.{sum_by-cons}
 use Rattle.lot_words.specs.CallersRule.{CallersRule}
-use Rattle.lot_sync.specs.Lot.{LotView, PassView}
+use Rattle.lot_sync.specs.Lot.{LotView, PassView, rested}
 use Rattle.lot_calls.specs.Workers.{HasWorked}
 use Rattle.lot_calls.proofs.Sums.{sum_below_alike, sum_of_row}
+use Rattle.gallery.proofs.Numbers.{number_within}
 use Rattle.gallery.specs.declared.map.Shard.{Shard}
 use Rattle.gallery.specs.Counters.{HasRows, HasAdded, HasAddedBelow, row_of, rows_of, at_counter, added_by, added_to, AllCount}
 
 -- ---- one number within a sum
-number_within : (row : List ℕ) (j : ℕ) → get_or row j 0 ≤ sum row
-number_within [] j = omega arith
-number_within (x ∷ xs) zero = omega (arith, sum_by-cons (λ y. y) x xs)
-number_within (x ∷ xs) (suc j) = omega (arith, number_within xs j, sum_by-cons (λ y. y) x xs)
-
 row_within : (rows : List (List ℕ)) (i : ℕ) → sum (get_or rows i []) ≤ sum_by sum rows
 row_within [] i = omega arith
 row_within (x ∷ xs) zero = omega (arith, sum_by-cons sum x xs)
@@ -73,12 +69,12 @@ at_place [] i near = absurd (omega (arith, near))
 at_place (v ∷ values) zero near = (v, refl, refl, λ t. refl)
 at_place (v ∷ values) (suc i) near = at_place values i (omega (arith, near))
 
-module _ (rule : CallersRule Shard (List ℕ)) (opening values : List Shard) (lot : LotView) (becomes : PassView Shard → PassView Shard → Type 0)
+module _ (rule : CallersRule Shard (List ℕ)) (opening values : List Shard) (lot : LotView)
+    (becomes : PassView Shard → PassView Shard → Type 0)
     (worked : (t : ℕ) → t < 4 → HasWorked rule opening lot becomes values t)
     (adds : (p q : PassView Shard) → becomes p q → HasAddedBelow lot 1024 p q) (part : rule.part ≡ row_of)
     (keeps : (key : ℕ) (v : Shard) → rule.keeps key v → HasRows v)
-    (new : (p : PassView Shard) → rule.rests (record { thread = p.thread; seen = p.seen; called = p.called; woken = p.woken; made = p.made })
-    → added_by p.thread p.seen ≡ 0) (locks : lot.locks ≡ 64) where
+    (new : (p : PassView Shard) → rule.rests (rested p) → added_by p.thread p.seen ≡ 0) (locks : lot.locks ≡ 64) where
   added_one : (t : ℕ) → t < 4 → (counter : ℕ) → counter < 1024 → at_counter counter (map (row_of t) values) ≡ 1
   added_one t near counter within =
       let done = worked t near in

@@ -3,3 +3,5 @@ pub mod Eating
 pub mod Leasing
 pub mod Counting
 pub mod Trying
+pub mod Numbers
+pub mod Doing

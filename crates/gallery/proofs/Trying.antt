@@ -7,7 +7,8 @@ use Rattle.lot_sync.specs.Words.{Adds}
 use Rattle.gallery.specs.Leases.{SoughtWord, LeaseWord}
 
 -- the permit was got, and no connection was tried yet
-pub none_tried : (t pool : ℕ) (before after : List Access) → Adds before (GetPermitWord t pool) after → Adds before (SoughtWord t pool 0) after
+pub none_tried : (t pool : ℕ) (before after : List Access) → Adds before (GetPermitWord t pool) after
+    → Adds before (SoughtWord t pool 0) after
 none_tried t pool before after (did, is, word) = (did, is, (did, [], word, refl, sym (append-nil did)))
 
 module _ (t pool : ℕ) (before mid after : List Access) where

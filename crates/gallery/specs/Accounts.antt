@@ -3,7 +3,7 @@ use Rattle.std.specs.Prelude.{◌≡◌, ◌≢◌, ℕ, ◌+◌, ◌^◌, ◌<�
 use mathlib.Core.Option.{some}
 use lib.ListN.{get_elem?}
 use Rattle.std.specs.List.{sum_by}
-use Rattle.lot_sync.specs.Lot.{PassView, HasSeen}
+use Rattle.lot_sync.specs.Lot.{LotView, PassView, OwnsNone, HasSeen}
 use Rattle.gallery.specs.declared.accounts.Account.{Account}
 use Rattle.gallery.specs.declared.accounts.TheConstants.{ACCOUNTS, WORKERS}
 
@@ -52,6 +52,13 @@ pub record IsEven (thread : ℕ) (accounts : List Account) : Type 0 where
 
 abbrev pub AreEven : List Account → Type 0
 AreEven accounts = (thread : ℕ) → IsEven thread accounts
+
+-- a worker's pass between two transfers, and its lot
+pub record IsSettled (lot : LotView) (pass : PassView Account) : Type 0 where
+  pub accounts : lot.locks ≡ ACCOUNTS
+  pub is_worker : pass.thread < WORKERS
+  pub free : OwnsNone pass
+  pub even : IsEven pass.thread pass.seen
 
 -- two accounts of which the worker moved as much into them as out of them
 pub record Settles (thread : ℕ) (from into from' into' : Account) : Type 0 where

@@ -2,6 +2,7 @@
 use Rattle.std.specs.Prelude.{◌≡◌, ◌≢◌, ℕ, ◌+◌, ◌%◌, ◌^◌, ◌<◌, nat_lt, if◌then◌else◌, List, length, slice_index, slice_get, Some}
 use mathlib.Core.Option.{some}
 use lib.ListN.{get_elem?}
+use Rattle.lot_sync.specs.Lot.{LotView, PassView, OwnsNone}
 use Rattle.gallery.specs.declared.dinner.Fork.{Fork}
 use Rattle.gallery.specs.declared.dinner.TheConstants.{SEATS}
 
@@ -33,3 +34,10 @@ AteWithBoth seat forks = (u v : Fork) → get_elem? forks (low_of seat) ≡ some
 -- which all thread's have
 abbrev pub AllAteWithBoth : List Fork → Type 0
 AllAteWithBoth forks = (seat : ℕ) → seat < SEATS → AteWithBoth seat forks
+
+-- a philosopher's pass between two meals, and the lot of the forks
+pub record IsAtTable (lot : LotView) (pass : PassView Fork) : Type 0 where
+  pub forks : lot.locks ≡ SEATS
+  pub seat : pass.thread < SEATS
+  pub free : OwnsNone pass
+  pub even : AteWithBoth pass.thread pass.seen

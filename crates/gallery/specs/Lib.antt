@@ -4,4 +4,6 @@ pub mod Counters
 pub mod Leases
 pub mod Accounts
 pub mod Dinner
+pub mod Rooms
+pub mod Tasks
 pub mod Names

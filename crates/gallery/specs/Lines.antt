@@ -1,5 +1,6 @@
 -- A line of items with numbers: an item's number is how many were put before it.
-use Rattle.std.specs.Prelude.{◌≡◌, ℕ, zero, suc, ◌+◌, ◌-◌, ◌*◌, ◌≤◌, ◌<◌, ◌^◌, ◌==◌, ◌&&◌, nat_lt, Bool, if◌then◌else◌, List, [], ◌∷◌, ◌++◌, length, slice_get, refl}
+use Rattle.std.specs.Prelude.{◌≡◌, ℕ, zero, suc, ◌+◌, ◌-◌, ◌*◌, ◌≤◌, ◌<◌, ◌^◌, ◌==◌, ◌&&◌, nat_lt, Bool, if◌then◌else◌, List, [], ◌∷◌}
+use Rattle.std.specs.Prelude.{◌++◌, length, slice_get, refl}
 use Rattle.std.proofs.Common.{le_refl, le_trans, ◌∙◌, ap, sym, subst, arith}
 use Rattle.std.proofs.Common.{length-append}
 use Rattle.gallery.specs.declared.queue.TheConstants.{NOT_FULL}

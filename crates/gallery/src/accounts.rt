@@ -1,13 +1,14 @@
 //! Accounts: a transfer under two locks, and at the end the sum is the sum at the beginning.
 ghost use Rattle.std.specs.Prelude.{◌≡◌, ◌≢◌, ◌<◌, ◌≤◌, ◌+◌, MatchBool, length, vec_len, vec_capacity, sum_by};
 ghost use Rattle.lot_sync.specs.Lot.{OwnsNone};
-ghost use Rattle.gallery.specs.Accounts.{IsBooked, IsEven, AreEven, Settles, Moves, MovesNothing, Transfers};
+ghost use Rattle.lot_sync.specs.Opened.{IsNamed};
+ghost use Rattle.gallery.specs.Accounts.{IsBooked, IsEven, AreEven, IsSettled, Settles, Moves, MovesNothing, Transfers};
 ghost use Rattle.gallery.specs.Accounts.{balance_of, opening_of, AreOpenedAs};
 
-use crate::crew::{Crew, NOW, Opening, open, start};
-use lot_calls::{finish, with_both};
+use crate::crew::{NOW, open};
+use lot_calls::{finish, leave_all, start_with_passes, with_both, work_together};
 use lot_command::Failure;
-use lot_sync::{Lot, LotName, Pass};
+use lot_sync::{Lot, LotName, Opened, Pass};
 use lot_words::Keeps;
 use std::alloc::Global;
 use std::marker::Brand;
@@ -134,24 +135,32 @@ pub fn run<T: Threads + Wait + Sync>(rt: &T, alloc: Global) -> Result<Totals, Fa
         moved_out: [0; WORKERS],
     };
     let accounts = vec![in alloc; opening; ACCOUNTS]?;
-    run_on::<Brand, T>(rt, open(alloc, WORKERS, accounts, 0, &[])?)
+    let opened = open(alloc, WORKERS, accounts, 0, &[])?;
+    run_on::<Brand, T>(rt, alloc, opened)
 }
 
 fn run_on<N: LotName<Account> + Send + Sync, T: Threads + Wait + Sync>(
     rt: &T,
-    opening: Opening<Account>,
+    alloc: Global,
+    opened: Opened<Account>,
 ) -> Result<Totals, Failure>
-    requires named { N.LotName ≡ opening.opened }
-    requires sizes { (opening.threads ≡ WORKERS) × (length opening.opened.values ≡ ACCOUNTS) }
-    requires even { AreEven opening.opened.values }
+    requires named { IsNamed N.LotName opened }
+    requires sizes { (opened.threads ≡ WORKERS) × (length opened.values ≡ ACCOUNTS) }
+    requires even { AreEven opened.values }
 {
-    let (lot, passes, crew) = start::<Account, N>(opening)?;
-    let turn = ||
-        requires { (lot.locks ≡ ACCOUNTS) × (lot.threads ≡ WORKERS) }
-    { work(rt, &lot, &crew) };
-    let outcome = crew.run(rt, &turn);
-    let accounts = end(rt, lot, passes);
-    outcome?;
+    let Ok((lot, passes)) = start_with_passes::<Account, N, T>(rt, alloc, WORKERS, opened) else {
+        return Err(Failure::NoMemory);
+    };
+    let move_all = |pass: Pass<Account, N>| -> Pass<Account, N>
+        requires { IsSettled lot pass }
+        ensures { IsSettled lot result }
+    { work(rt, &lot, pass) };
+    let (passes, worked) = work_together(rt, &move_all, passes);
+    let room = leave_all(rt, &lot, passes);
+    let accounts = end(rt, lot, room);
+    if !worked {
+        return Err(Failure::CannotStartWorker);
+    }
     Ok(summed(&accounts))
 }
 
@@ -168,13 +177,17 @@ fn summed(accounts: &[Account]) -> Totals {
 }
 
 /// One thread, with all its rounds: from each account in turn to the next.
-fn work<N: LotName<Account> + Send + Sync, T: Wait>(rt: &T, lot: &Lot<Account, N>, crew: &Crew)
-    requires { (lot.now.locks ≡ ACCOUNTS) × (lot.now.threads ≡ WORKERS) }
+fn work<N: LotName<Account> + Send, T: Wait>(
+    rt: &T,
+    lot: &Lot<Account, N>,
+    pass: Pass<Account, N>,
+) -> Pass<Account, N>
+    requires settled { IsSettled lot.now pass }
+    ensures { IsSettled lot.now result }
 {
-    if let Some(mut pass) = crew.enter(rt, lot) {
-        for round in 0..100usize {
-            pass = transfer(rt, lot, pass, round % ACCOUNTS, (round + 1) % ACCOUNTS, 30).0;
-        }
-        lot.leave(rt, pass);
+    let mut pass = pass;
+    for round in 0..100usize {
+        pass = transfer(rt, lot, pass, round % ACCOUNTS, (round + 1) % ACCOUNTS, 30).0;
     }
+    pass
 }

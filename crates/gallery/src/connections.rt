@@ -2,12 +2,14 @@
 ghost use Rattle.std.specs.Prelude.{◌≡◌, ◌≢◌, ◌+◌, ◌≤◌, ◌<◌, ℕ, length};
 ghost use Rattle.lot_scheme.specs.SemCalls.{opening_permits};
 ghost use Rattle.lot_sync.specs.Lot.{OwnsNone, HasShape, permits_with};
+ghost use Rattle.lot_sync.specs.Opened.{IsNamed};
 ghost use Rattle.lot_sync.specs.Words.{Adds};
 ghost use Rattle.gallery.specs.Leases.{LeaseWord, Leases, Holds, GivesBack};
 
-use crate::crew::{Crew, NOW, Opening, end, open, start};
+use crate::crew::{NOW, open};
+use lot_calls::{finish, leave_all, start_with_passes, work_together};
 use lot_command::Failure;
-use lot_sync::{Held, Lot, LotName, Pass, Permit};
+use lot_sync::{Held, Lot, LotName, Opened, Pass, Permit};
 use lot_words::Keeps;
 use std::alloc::Global;
 use std::marker::Brand;
@@ -19,6 +21,8 @@ const CONNECTIONS: usize = 2;
 
 /// The semaphore, after the locks.
 const POOL: usize = 2;
+
+const THREADS: usize = 4;
 
 /// A connection, which tells how often it was used.
 #[derive(Clone, Copy, Drop)]
@@ -103,13 +107,15 @@ impl<N: LotName<Connection> + Send> Pool<'_, N> {
     }
 
     /// One thread, with all its rounds.
-    fn work<T: Wait>(&self, rt: &T, crew: &Crew) {
-        if let Some(mut pass) = crew.enter(rt, self.lot) {
-            for _ in 0..100u64 {
-                pass = self.use_once(rt, pass);
-            }
-            self.lot.leave(rt, pass);
+    fn work<T: Wait>(&self, rt: &T, pass: User<N>) -> User<N>
+        requires free { OwnsNone pass }
+        ensures { OwnsNone result }
+    {
+        let mut pass = pass;
+        for _ in 0..100u64 {
+            pass = self.use_once(rt, pass);
         }
+        pass
     }
 }
 
@@ -136,20 +142,32 @@ pub fn check_leases<N: LotName<Connection> + Send>(
 /// Threads use connections, each only while it has a lease. Answers how often they were used.
 pub fn run<T: Threads + Wait + Sync>(rt: &T, alloc: Global) -> Result<u64, Failure> {
     let values = vec![in alloc; Connection { used: 0 }; CONNECTIONS]?;
-    run_on::<Brand, T>(rt, open(alloc, 4, values, 0, &[2])?)
+    let opened = open(alloc, THREADS, values, 0, &[2])?;
+    run_on::<Brand, T>(rt, alloc, opened)
 }
 
 fn run_on<N: LotName<Connection> + Send + Sync, T: Threads + Wait + Sync>(
     rt: &T,
-    opening: Opening<Connection>,
+    alloc: Global,
+    opened: Opened<Connection>,
 ) -> Result<u64, Failure>
-    requires named { N.LotName ≡ opening.opened }
-    requires sizes { (length opening.opened.values ≡ CONNECTIONS) × (opening.opened.conds ≡ 0)
-        × (length opening.opened.permits ≡ 1) }
+    requires named { IsNamed N.LotName opened }
+    requires sizes { (opened.threads ≡ THREADS) × (length opened.values ≡ CONNECTIONS) × (opened.conds ≡ 0)
+        × (length opened.permits ≡ 1) }
 {
-    let (lot, room, crew) = start::<Connection, N>(opening)?;
+    let Ok((lot, passes)) = start_with_passes::<Connection, N, T>(rt, alloc, THREADS, opened) else {
+        return Err(Failure::NoMemory);
+    };
     let pool = Pool { lot: &lot };
-    let outcome = crew.run(rt, &|| pool.work(rt, &crew));
-    let values = end(rt, lot, room, outcome)?;
+    let use_all = |pass: User<N>| -> User<N>
+        requires { OwnsNone pass }
+        ensures { OwnsNone result }
+    { pool.work(rt, pass) };
+    let (passes, worked) = work_together(rt, &use_all, passes);
+    let room = leave_all(rt, &lot, passes);
+    let (values, _) = finish(rt, lot, room);
+    if !worked {
+        return Err(Failure::CannotStartWorker);
+    }
     Ok(values[0].used.wrapping_add(values[1].used))
 }

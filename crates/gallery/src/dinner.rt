@@ -1,5 +1,5 @@
-//! Dinner: five philosophers at a round table, with a fork between any two. Each eats with the two forks beside his seat
-//! and gets the lower first, so no circle of them waits.
+//! Dinner: five philosophers at a round table, with a fork between any two. Each eats with the two forks beside his
+//! seat and gets the lower first, so no circle of them waits.
 ghost use Rattle.std.specs.Prelude.{◌≡◌, ◌<◌, ◌≤◌, ℕ, List, Option, length, vec_len, vec_capacity};
 ghost use Rattle.atomic_table.specs.Table.{State};
 ghost use Rattle.lot_order.specs.Order.{Rises};
@@ -12,12 +12,13 @@ ghost use Rattle.lot_whole.specs.Family.{LotSize};
 ghost use Rattle.lot_whole.specs.Lot.{lot_meaning};
 ghost use Rattle.lot_whole.specs.Headline.{OneState};
 ghost use Rattle.lot_sync.specs.Lot.{OwnsNone};
-ghost use Rattle.gallery.specs.Dinner.{low_of, high_of, HasPlaces, OneMore, AteWithBoth, AllAteWithBoth};
+ghost use Rattle.lot_sync.specs.Opened.{IsNamed};
+ghost use Rattle.gallery.specs.Dinner.{low_of, high_of, HasPlaces, OneMore, AteWithBoth, AllAteWithBoth, IsAtTable};
 
-use crate::crew::{Crew, NOW, Opening, open, start};
-use lot_calls::finish;
+use crate::crew::{NOW, open};
+use lot_calls::{finish, leave_all, start_with_passes, work_together};
 use lot_command::Failure;
-use lot_sync::{Lot, LotName, Pass};
+use lot_sync::{Lot, LotName, Opened, Pass};
 use lot_whole::laws::one_state_at_every_moment;
 use lot_words::Keeps;
 use std::alloc::Global;
@@ -130,24 +131,32 @@ pub fn end<N: LotName<Fork> + Send, T: Wait>(
 pub fn run<T: Threads + Wait + Sync>(rt: &T, alloc: Global) -> Result<u64, Failure> {
     no_circle_waits::<Fork>();
     let forks = vec![in alloc; Fork { meals: [0; SEATS] }; SEATS]?;
-    run_on::<Brand, T>(rt, open(alloc, SEATS, forks, 0, &[])?)
+    let opened = open(alloc, SEATS, forks, 0, &[])?;
+    run_on::<Brand, T>(rt, alloc, opened)
 }
 
 fn run_on<N: LotName<Fork> + Send + Sync, T: Threads + Wait + Sync>(
     rt: &T,
-    opening: Opening<Fork>,
+    alloc: Global,
+    opened: Opened<Fork>,
 ) -> Result<u64, Failure>
-    requires named { N.LotName ≡ opening.opened }
-    requires sizes { (opening.threads ≡ SEATS) × (length opening.opened.values ≡ SEATS) }
-    requires even { AllAteWithBoth opening.opened.values }
+    requires named { IsNamed N.LotName opened }
+    requires sizes { (opened.threads ≡ SEATS) × (length opened.values ≡ SEATS) }
+    requires even { AllAteWithBoth opened.values }
 {
-    let (lot, passes, crew) = start::<Fork, N>(opening)?;
-    let turn = ||
-        requires { (lot.locks ≡ SEATS) × (lot.threads ≡ SEATS) }
-    { dine(rt, &lot, &crew) };
-    let outcome = crew.run(rt, &turn);
-    let forks = end(rt, lot, passes);
-    outcome?;
+    let Ok((lot, passes)) = start_with_passes::<Fork, N, T>(rt, alloc, SEATS, opened) else {
+        return Err(Failure::NoMemory);
+    };
+    let dine_all = |pass: Pass<Fork, N>| -> Pass<Fork, N>
+        requires { IsAtTable lot pass }
+        ensures { IsAtTable lot result }
+    { dine(rt, &lot, pass) };
+    let (passes, worked) = work_together(rt, &dine_all, passes);
+    let room = leave_all(rt, &lot, passes);
+    let forks = end(rt, lot, room);
+    if !worked {
+        return Err(Failure::CannotStartWorker);
+    }
     Ok(meals_in(&forks))
 }
 
@@ -163,13 +172,17 @@ fn meals_in(forks: &[Fork]) -> u64 {
 }
 
 /// One philosopher, with all his meals.
-fn dine<N: LotName<Fork> + Send + Sync, T: Wait>(rt: &T, lot: &Lot<Fork, N>, crew: &Crew)
-    requires { (lot.now.locks ≡ SEATS) × (lot.now.threads ≡ SEATS) }
+fn dine<N: LotName<Fork> + Send, T: Wait>(
+    rt: &T,
+    lot: &Lot<Fork, N>,
+    pass: Pass<Fork, N>,
+) -> Pass<Fork, N>
+    requires at_table { IsAtTable lot.now pass }
+    ensures { IsAtTable lot.now result }
 {
-    if let Some(mut pass) = crew.enter(rt, lot) {
-        for _ in 0..MEALS {
-            pass = eat(rt, lot, pass);
-        }
-        lot.leave(rt, pass);
+    let mut pass = pass;
+    for _ in 0..MEALS {
+        pass = eat(rt, lot, pass);
     }
+    pass
 }

@@ -1,13 +1,15 @@
 //! Latches for rounds: nobody passes before all came.
 ghost use Rattle.std.specs.Prelude.{◌≡◌, ◌≤◌, ◌<◌, length};
 ghost use Rattle.lot_sync.specs.Lot.{OwnsNone, HasSeen};
+ghost use Rattle.lot_sync.specs.Opened.{IsNamed};
 ghost use Rattle.gallery.specs.Meetings.{IsWithin, GoesOn, Arrives, SawAll};
 ghost use Rattle.gallery.specs.declared.latch.TheConstants.{ROUNDS};
 
-use crate::crew::{Crew, NOW, Opening, end, open, start};
+use crate::crew::{NOW, open};
+use lot_calls::{finish, leave_all, start_with_passes, work_together};
 use lot_command::Failure;
 use lot_regions::{Ready, change, when};
-use lot_sync::{Lot, LotName, Pass};
+use lot_sync::{Lot, LotName, Opened, Pass};
 use lot_words::Keeps;
 use std::alloc::Global;
 use std::marker::Brand;
@@ -16,6 +18,8 @@ use std::thread::Threads;
 
 /// How many rounds there are: the meeting of each lies under the lock of its number, with one condition, that all came.
 const ROUNDS: usize = 3;
+
+const GUESTS: usize = 4;
 
 /// How many are to come, and how many came.
 #[derive(Clone, Copy, Drop)]
@@ -126,33 +130,50 @@ impl<N: LotName<Meeting> + Send> Place<'_, N> {
     }
 
     /// One thread, with all its rounds.
-    fn work<T: Wait>(&self, rt: &T, crew: &Crew) {
-        if let Some(mut pass) = crew.enter(rt, self.lot) {
-            for round in 0..ROUNDS {
-                pass = self.meet(rt, pass, round).0;
-            }
-            self.lot.leave(rt, pass);
+    fn work<T: Wait>(&self, rt: &T, pass: Guest<N>) -> Guest<N>
+        requires free { OwnsNone pass }
+        ensures { OwnsNone result }
+    {
+        let mut pass = pass;
+        for round in 0..ROUNDS {
+            pass = self.meet(rt, pass, round).0;
         }
+        pass
     }
 }
 
 /// Threads meet some times. Answers how many came.
 pub fn run<T: Threads + Wait + Sync>(rt: &T, alloc: Global) -> Result<u64, Failure> {
-    let values = vec![in alloc; Meeting { size: 4, came: 0 }; ROUNDS]?;
-    run_on::<Brand, T>(rt, open(alloc, 4, values, ROUNDS, &[])?)
+    let values = vec![in alloc; Meeting {
+        size: GUESTS as u64,
+        came: 0
+    }; ROUNDS]?;
+    let opened = open(alloc, GUESTS, values, ROUNDS, &[])?;
+    run_on::<Brand, T>(rt, alloc, opened)
 }
 
 fn run_on<N: LotName<Meeting> + Send + Sync, T: Threads + Wait + Sync>(
     rt: &T,
-    opening: Opening<Meeting>,
+    alloc: Global,
+    opened: Opened<Meeting>,
 ) -> Result<u64, Failure>
-    requires named { N.LotName ≡ opening.opened }
-    requires sizes { (length opening.opened.values ≡ ROUNDS) × (opening.opened.conds ≡ ROUNDS) }
+    requires named { IsNamed N.LotName opened }
+    requires sizes { (opened.threads ≡ GUESTS) × (length opened.values ≡ ROUNDS) × (opened.conds ≡ ROUNDS) }
 {
-    let (lot, room, crew) = start::<Meeting, N>(opening)?;
+    let Ok((lot, passes)) = start_with_passes::<Meeting, N, T>(rt, alloc, GUESTS, opened) else {
+        return Err(Failure::NoMemory);
+    };
     let place = Place { lot: &lot };
-    let outcome = crew.run(rt, &|| place.work(rt, &crew));
-    let values = end(rt, lot, room, outcome)?;
+    let meet_all = |pass: Guest<N>| -> Guest<N>
+        requires { OwnsNone pass }
+        ensures { OwnsNone result }
+    { place.work(rt, pass) };
+    let (passes, worked) = work_together(rt, &meet_all, passes);
+    let room = leave_all(rt, &lot, passes);
+    let (values, _) = finish(rt, lot, room);
+    if !worked {
+        return Err(Failure::CannotStartWorker);
+    }
     let add = |sum: u64, meeting: &Meeting| sum.wrapping_add(meeting.came);
     Ok(values.iter().fold(0u64, add))
 }

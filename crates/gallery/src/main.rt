@@ -9,6 +9,8 @@ mod latch;
 mod map;
 mod memo;
 mod queue;
+mod readers;
+mod tasks;
 
 use accounts::Totals;
 use lot_command::{Failure, report};
@@ -26,6 +28,8 @@ fn main(rt: HostRuntime) -> ExitCode {
         two(alloc, accounts::run(&rt, alloc)),
         line(alloc, "known", memo::run(&rt, alloc)),
         line(alloc, "eaten", dinner::run(&rt, alloc)),
+        line(alloc, "alike", readers::run(&rt, alloc)),
+        line(alloc, "done", tasks::run(&rt, alloc)),
     ];
     let mut worst = 0;
     for outcome in outcomes {

@@ -1,15 +1,15 @@
 //! A map of counters over many locks: nothing is lost.
-ghost use Rattle.std.specs.Prelude.{◌≡◌, ◌≢◌, ◌*◌, ◌+◌, ◌<◌, ◌≤◌, ◌^◌, ℕ, length, sum, slice_index, vec_len, vec_capacity};
-ghost use Rattle.std.specs.Prelude.{IfOk};
+ghost use Rattle.std.specs.Prelude.{◌≡◌, ◌≢◌, ◌*◌, ◌+◌, ◌<◌, ◌≤◌, ◌^◌, ℕ, length, sum, slice_index, vec_len};
+ghost use Rattle.std.specs.Prelude.{vec_capacity, IfOk};
 ghost use Rattle.lot_sync.specs.Lot.{OwnsNone, HasShape};
-ghost use Rattle.lot_sync.specs.Opened.{KeepAll};
+ghost use Rattle.lot_sync.specs.Opened.{IsNamed, KeepAll};
 ghost use Rattle.gallery.specs.Counters.{HasRows, IsNew, HasAdded, HasAddedBelow, row_of, added_by, added_to, total_of};
 ghost use Rattle.gallery.specs.Counters.{AllCount, AreNew};
 
-use crate::crew::{NOW, Opening, open, start};
-use lot_calls::{close_with, take_all, with_lock, work_all};
+use crate::crew::{NOW, open};
+use lot_calls::{close_with, start_with_room, take_all, with_lock, work_all};
 use lot_command::Failure;
-use lot_sync::{Lot, LotName, Pass};
+use lot_sync::{Lot, LotName, Opened, Pass};
 use lot_words::Keeps;
 use std::alloc::{AllocError, Global};
 use std::marker::Brand;
@@ -71,17 +71,17 @@ pub fn add<N: LotName<Shard> + Send, T: Wait>(
     let raise = |shard: &mut Shard|
         requires bounds { (thread < WORKERS) × (place < PLACES) }
         requires rows { HasRows shard.old }
+        requires few { slice_index (row_of thread shard.old) place + 1 < 2 ^ 64 }
         ensures rows { HasRows shard.new }
-        ensures own { sum (row_of thread shard.old) + 1 < 2 ^ 64
-            → sum (row_of thread shard.new) ≡ sum (row_of thread shard.old) + 1 }
-        ensures one { slice_index (row_of thread shard.old) place + 1 < 2 ^ 64
-            → slice_index (row_of thread shard.new) place ≡ slice_index (row_of thread shard.old) place + 1 }
+        ensures own { sum (row_of thread shard.new) ≡ sum (row_of thread shard.old) + 1 }
+        ensures one { slice_index (row_of thread shard.new) place
+            ≡ slice_index (row_of thread shard.old) place + 1 }
         ensures same { (p : ℕ) → p ≢ place
             → slice_index (row_of thread shard.new) p ≡ slice_index (row_of thread shard.old) p }
         ensures others { (t : ℕ) → t ≢ thread → row_of t shard.old ≡ row_of t shard.new }
     {
         let mut row = shard.rows[thread];
-        row[place] = row[place].wrapping_add(1);
+        row[place] += 1;
         shard.rows[thread] = row;
     };
     with_lock(rt, lot, pass, counter % SHARDS, NOW, raise).0
@@ -103,7 +103,7 @@ fn work<N: LotName<Shard> + Send, T: Wait>(
     pass
 }
 
-/// Four workers add one to each counter, and the lot ends: each counter came to four, and all to what the workers added.
+/// Four workers add one to each counter, and the lot ends: each counter came to four, and all to what they added.
 pub fn count_all<N: LotName<Shard> + Send + Sync, T: Threads + Wait + Sync>(
     rt: &T,
     mut lot: Lot<Shard, N>,
@@ -137,19 +137,23 @@ fn new_shards(alloc: Global, count: usize) -> Result<Vec<Shard>, AllocError>
 /// Workers add to all counters. Answers what these came to.
 pub fn run<T: Threads + Wait + Sync>(rt: &T, alloc: Global) -> Result<u64, Failure> {
     let shards = new_shards(alloc, SHARDS)?;
-    run_on::<Brand, T>(rt, open(alloc, WORKERS, shards, 0, &[])?)
+    let opened = open(alloc, WORKERS, shards, 0, &[])?;
+    run_on::<Brand, T>(rt, alloc, opened)
 }
 
 fn run_on<N: LotName<Shard> + Send + Sync, T: Threads + Wait + Sync>(
     rt: &T,
-    opening: Opening<Shard>,
+    alloc: Global,
+    opened: Opened<Shard>,
 ) -> Result<u64, Failure>
-    requires named { N.LotName ≡ opening.opened }
-    requires sizes { (opening.threads ≡ WORKERS) × (length opening.opened.values ≡ SHARDS) }
-    requires new { AreNew opening.opened.values }
+    requires named { IsNamed N.LotName opened }
+    requires sizes { (opened.threads ≡ WORKERS) × (length opened.values ≡ SHARDS) }
+    requires new { AreNew opened.values }
 {
-    let (lot, passes, _) = start::<Shard, N>(opening)?;
-    let shards = count_all(rt, lot, passes);
+    let Ok((lot, room)) = start_with_room::<Shard, N>(alloc, WORKERS, opened) else {
+        return Err(Failure::NoMemory);
+    };
+    let shards = count_all(rt, lot, room);
     Ok(total(&shards))
 }
 

@@ -1,11 +1,12 @@
 //! A memo cache over 64 locks: what is got for a key is what the function gives, whoever computed it.
 ghost use Rattle.std.specs.Prelude.{◌≡◌, ◌*◌, ◌%◌, ◌<◌, length, IfOk, IfSome};
 ghost use Rattle.lot_sync.specs.Lot.{OwnsNone};
+ghost use Rattle.lot_sync.specs.Opened.{IsNamed};
 
-use crate::crew::{Crew, NOW, Opening, end, open, start};
-use lot_calls::with_lock;
+use crate::crew::{NOW, open};
+use lot_calls::{finish, leave_all, start_with_passes, with_lock, work_together};
 use lot_command::Failure;
-use lot_sync::{Lot, LotName, Pass};
+use lot_sync::{Lot, LotName, Opened, Pass};
 use lot_words::Keeps;
 use std::alloc::{AllocError, Global};
 use std::marker::Brand;
@@ -122,13 +123,15 @@ impl<N: LotName<Shard> + Send> Memo<'_, N> {
     }
 
     /// One thread, which asks for as many keys as there are places.
-    fn work<T: Wait>(&self, rt: &T, crew: &Crew) {
-        if let Some(mut pass) = crew.enter(rt, self.lot) {
-            for key in 0..(SHARDS * PLACES) as u64 {
-                pass = self.get(rt, pass, key).0;
-            }
-            self.lot.leave(rt, pass);
+    fn work<T: Wait>(&self, rt: &T, pass: User<N>) -> User<N>
+        requires free { OwnsNone pass }
+        ensures { OwnsNone result }
+    {
+        let mut pass = pass;
+        for key in 0..(SHARDS * PLACES) as u64 {
+            pass = self.get(rt, pass, key).0;
         }
+        pass
     }
 }
 
@@ -144,20 +147,32 @@ fn new_shards(alloc: Global) -> Result<Vec<Shard>, AllocError>
 /// Threads ask for all keys. Answers the sum of what is known in the end.
 pub fn run<T: Threads + Wait + Sync>(rt: &T, alloc: Global) -> Result<u64, Failure> {
     let shards = new_shards(alloc)?;
-    run_on::<Brand, T>(rt, open(alloc, WORKERS, shards, 0, &[])?)
+    let opened = open(alloc, WORKERS, shards, 0, &[])?;
+    run_on::<Brand, T>(rt, alloc, opened)
 }
 
 fn run_on<N: LotName<Shard> + Send + Sync, T: Threads + Wait + Sync>(
     rt: &T,
-    opening: Opening<Shard>,
+    alloc: Global,
+    opened: Opened<Shard>,
 ) -> Result<u64, Failure>
-    requires named { N.LotName ≡ opening.opened }
-    requires sizes { length opening.opened.values ≡ 64 }
+    requires named { IsNamed N.LotName opened }
+    requires sizes { (opened.threads ≡ WORKERS) × (length opened.values ≡ 64) }
 {
-    let (lot, room, crew) = start::<Shard, N>(opening)?;
+    let Ok((lot, passes)) = start_with_passes::<Shard, N, T>(rt, alloc, WORKERS, opened) else {
+        return Err(Failure::NoMemory);
+    };
     let memo = Memo { lot: &lot };
-    let outcome = crew.run(rt, &|| memo.work(rt, &crew));
-    let shards = end(rt, lot, room, outcome)?;
+    let ask_all = |pass: User<N>| -> User<N>
+        requires { OwnsNone pass }
+        ensures { OwnsNone result }
+    { memo.work(rt, pass) };
+    let (passes, worked) = work_together(rt, &ask_all, passes);
+    let room = leave_all(rt, &lot, passes);
+    let (shards, _) = finish(rt, lot, room);
+    if !worked {
+        return Err(Failure::CannotStartWorker);
+    }
     Ok(sum_of(&shards))
 }
 

@@ -2,12 +2,14 @@
 ghost use Rattle.std.specs.Prelude.{◌≡◌, ◌+◌, ◌-◌, ◌^◌, ◌≤◌, ◌<◌, [], ◌∷◌, ◌++◌, length, slice_get, Some};
 ghost use Rattle.std.specs.VecDeque.{deque_len, deque_capacity};
 ghost use Rattle.lot_sync.specs.Lot.{OwnsNone, HasSeen};
+ghost use Rattle.lot_sync.specs.Opened.{IsNamed};
 ghost use Rattle.gallery.specs.Lines.{LiesOn, Follows, has_room_for};
 
-use crate::crew::{Crew, NOW, Opening, end, open, start};
+use crate::crew::{NOW, open};
+use lot_calls::{finish, leave_all, start_with_passes, work_together};
 use lot_command::Failure;
 use lot_regions::{Ready, when};
-use lot_sync::{Lot, LotName, Pass};
+use lot_sync::{Lot, LotName, Opened, Pass};
 use lot_words::Keeps;
 use std::alloc::Global;
 use std::collections::VecDeque;
@@ -22,6 +24,8 @@ const LINE: usize = 0;
 const NOT_FULL: usize = 1;
 
 const NOT_EMPTY: usize = 2;
+
+const THREADS: usize = 4;
 
 /// The items that lie in the queue, the oldest first, and how many were taken before them. An item's number is how
 /// many were put before it.
@@ -154,17 +158,23 @@ impl<T: Drop + Send, N: LotName<Line<T>> + Send> Queue<'_, T, N> {
 }
 
 /// One thread: it puts numbers where its own is even, and else takes as many.
-fn work<N: LotName<Line<u64>> + Send, T: Wait>(rt: &T, queue: &Queue<u64, N>, crew: &Crew) {
-    if let Some(mut pass) = crew.enter(rt, queue.lot) {
-        for round in 0..100u64 {
-            pass = if pass.thread() % 2 == 0 {
-                queue.push(rt, pass, round).0
-            } else {
-                queue.pop(rt, pass).0
-            };
-        }
-        queue.lot.leave(rt, pass);
+fn work<N: LotName<Line<u64>> + Send, T: Wait>(
+    rt: &T,
+    queue: &Queue<u64, N>,
+    pass: User<u64, N>,
+) -> User<u64, N>
+    requires free { OwnsNone pass }
+    ensures { OwnsNone result }
+{
+    let mut pass = pass;
+    for round in 0..100u64 {
+        pass = if pass.thread() % 2 == 0 {
+            queue.push(rt, pass, round).0
+        } else {
+            queue.pop(rt, pass).0
+        };
     }
+    pass
 }
 
 /// Two threads put numbers, and two take as many. Answers how many were taken.
@@ -172,19 +182,31 @@ pub fn run<T: Threads + Wait + Sync>(rt: &T, alloc: Global) -> Result<u64, Failu
     let items = VecDeque::with_capacity(alloc, 4)?;
     let mut values = Vec::with_capacity(alloc, 1)?;
     values.push_reserved(Line { items, taken: 0 });
-    run_on::<Brand, T>(rt, open(alloc, 4, values, 2, &[])?)
+    let opened = open(alloc, THREADS, values, 2, &[])?;
+    run_on::<Brand, T>(rt, alloc, opened)
 }
 
 fn run_on<N: LotName<Line<u64>> + Send + Sync, T: Threads + Wait + Sync>(
     rt: &T,
-    opening: Opening<Line<u64>>,
+    alloc: Global,
+    opened: Opened<Line<u64>>,
 ) -> Result<u64, Failure>
-    requires named { N.LotName ≡ opening.opened }
-    requires sizes { (length opening.opened.values ≡ 1) × (opening.opened.conds ≡ 2) }
+    requires named { IsNamed N.LotName opened }
+    requires sizes { (opened.threads ≡ THREADS) × (length opened.values ≡ 1) × (opened.conds ≡ 2) }
 {
-    let (lot, room, crew) = start::<Line<u64>, N>(opening)?;
+    let Ok((lot, passes)) = start_with_passes::<Line<u64>, N, T>(rt, alloc, THREADS, opened) else {
+        return Err(Failure::NoMemory);
+    };
     let queue = Queue { lot: &lot };
-    let outcome = crew.run(rt, &|| work(rt, &queue, &crew));
-    let values = end(rt, lot, room, outcome)?;
-    Ok(values[0].taken)
+    let use_all = |pass: User<u64, N>| -> User<u64, N>
+        requires { OwnsNone pass }
+        ensures { OwnsNone result }
+    { work(rt, &queue, pass) };
+    let (passes, worked) = work_together(rt, &use_all, passes);
+    let room = leave_all(rt, &lot, passes);
+    let (values, _) = finish(rt, lot, room);
+    if !worked {
+        return Err(Failure::CannotStartWorker);
+    }
+    Ok(values[LINE].taken)
 }

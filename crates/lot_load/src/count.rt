@@ -1,15 +1,15 @@
 //! `count`: threads that lock, count themselves and unlock, on real locks.
 ghost use Rattle.std.specs.Prelude.{◌≡◌, ◌≤◌, ◌<◌, ◌+◌, ℕ, length, vec_len, IfOk, MatchBool};
 ghost use Rattle.lot_core.specs.declared.state.TheConstants.{MAX_THREADS, MAX_KEYS};
-ghost use Rattle.lot_sync.specs.Lot.{PassView, OwnsNone, rested};
+ghost use Rattle.lot_sync.specs.Lot.{OwnsNone};
 ghost use Rattle.lot_sync.specs.Opened.{IsNamed};
 ghost use Rattle.lot_load.specs.Counters.{AllLegal};
 ghost use Rattle.lot_load.specs.Works.{WorksOn};
 
 use crate::counter::{Add, Counter};
 use crate::gate::{Gate, OpenGate, Point};
-use crate::workers::{Flags, all_start, enter, moment, start};
-use lot_calls::finish;
+use crate::workers::{moment, outcome};
+use lot_calls::{finish, leave_all, start_with_passes, work_together};
 use lot_command::{Failure, report};
 use lot_journal::Journal;
 use lot_sync::{Held, Lot, LotName, OpenFault, Opened, Pass};
@@ -19,6 +19,7 @@ use std::fmt::Write as _;
 use std::io::Write;
 use std::marker::Brand;
 use std::sync::Wait;
+use std::sync::atomic::{AtomicBool, Ordering};
 use std::thread::Threads;
 
 /// How many threads, how many locks, how many rounds of each thread, and the seed of the random words.
@@ -80,7 +81,7 @@ pub fn new_journals(alloc: Global, locks: usize) -> Result<Vec<Journal<Counter>>
     Ok(journals)
 }
 
-/// Lets the workers run on a lot of the journals, and prints what the locks counted.
+/// Starts the lot, lets the workers run, and prints what the locks counted.
 fn run<N: LotName<Journal<Counter>> + Send + Sync, T: Threads + Wait + Sync, G: Gate + Sync>(
     rt: &T,
     alloc: Global,
@@ -91,100 +92,47 @@ fn run<N: LotName<Journal<Counter>> + Send + Sync, T: Threads + Wait + Sync, G: 
     requires named { IsNamed N.LotName opened }
     requires sizes { (opened.threads ≡ counting.now.threads) × (length opened.values ≡ counting.now.locks) }
 {
-    let journals = run_workers::<Journal<Counter>, N, T, G>(rt, alloc, gate, counting, opened)?;
+    let started = start_with_passes::<Journal<Counter>, N, T>(rt, alloc, counting.threads, opened);
+    let Ok((lot, passes)) = started else {
+        return Err(Failure::NoMemory);
+    };
+    let refused = AtomicBool::new(false);
+    let go = |pass: Pass<Journal<Counter>, N>| -> Pass<Journal<Counter>, N>
+        requires sizes { (lot.threads ≡ counting.now.threads) × (lot.locks ≡ counting.now.locks) }
+        requires free { OwnsNone pass }
+        ensures { OwnsNone result }
+    { work(rt, &lot, gate, counting, &refused, pass) };
+    let (passes, worked) = work_together(rt, &go, passes);
+    let room = leave_all(rt, &lot, passes);
+    let (journals, _) = finish(rt, lot, room);
+    outcome(worked, refused.load(Ordering::SeqCst))?;
     print(alloc, journals.as_slice())
 }
 
-/// Starts the lot, lets the workers run, and ends it: the values that they leave.
-fn run_workers<
-    V: Counts + Send,
-    N: LotName<V> + Send + Sync,
-    T: Threads + Wait + Sync,
-    G: Gate + Sync,
->(
+/// One worker, with all its rounds. Where memory is refused to it, it ends there, and says so.
+fn work<N: LotName<Journal<Counter>> + Send + Sync, T: Wait, G: Gate>(
     rt: &T,
-    alloc: Global,
+    lot: &Lot<Journal<Counter>, N>,
     gate: &G,
     counting: &Counting,
-    opened: Opened<V>,
-) -> Result<Vec<V>, Failure>
-    requires named { IsNamed N.LotName opened }
-    requires sizes { (opened.threads ≡ counting.now.threads) × (length opened.values ≡ counting.now.locks) }
-    requires rests { (p : PassView V) → V.rests (rested p) }
-{
-    let (lot, passes) = match start::<V, N>(alloc, counting.threads, opened) {
-        Ok(started) => started,
-        Err(failure) => return Err(failure),
-    };
-    let outcome = count_all(rt, gate, counting, &lot);
-    let (values, _) = finish(rt, lot, passes);
-    outcome?;
-    Ok(values)
-}
-
-/// Runs the workers to their end.
-fn count_all<
-    V: Counts + Send,
-    N: LotName<V> + Send + Sync,
-    T: Threads + Wait + Sync,
-    G: Gate + Sync,
->(rt: &T, gate: &G, counting: &Counting, lot: &Lot<V, N>) -> Result<(), Failure>
+    refused: &AtomicBool,
+    pass: Pass<Journal<Counter>, N>,
+) -> Pass<Journal<Counter>, N>
     requires sizes { (lot.now.threads ≡ counting.now.threads) × (lot.now.locks ≡ counting.now.locks) }
-    requires rests { (p : PassView V) → V.rests (rested p) }
+    requires free { OwnsNone pass }
+    ensures { OwnsNone result }
 {
-    let flags = Flags::new();
-    let started = start_all(rt, gate, counting, lot, &flags);
-    flags.outcome(started)
-}
-
-/// Starts the workers and waits for their end. Answers whether all could be started.
-fn start_all<
-    V: Counts + Send,
-    N: LotName<V> + Send + Sync,
-    T: Threads + Wait + Sync,
-    G: Gate + Sync,
->(rt: &T, gate: &G, counting: &Counting, lot: &Lot<V, N>, flags: &Flags) -> bool
-    requires sizes { (lot.now.threads ≡ counting.now.threads) × (lot.now.locks ≡ counting.now.locks) }
-    requires rests { (p : PassView V) → V.rests (rested p) }
-{
-    all_start(
-        rt,
-        counting.threads,
-        flags,
-        &|worker: usize|
-            requires sizes { (lot.now.threads ≡ counting.now.threads) × (lot.now.locks ≡ counting.now.locks) }
-            requires rests { (p : PassView V) → V.rests (rested p) }
-        {
-            work(rt, lot, gate, flags, counting, worker);
-        },
-    )
-}
-
-/// One worker: it waits until all may go, and then goes its rounds. Where memory is refused to one, it ends there.
-fn work<V: Counts + Send, N: LotName<V> + Send + Sync, T: Wait, G: Gate>(
-    rt: &T,
-    lot: &Lot<V, N>,
-    gate: &G,
-    flags: &Flags,
-    counting: &Counting,
-    worker: usize,
-)
-    requires sizes { (lot.now.threads ≡ counting.now.threads) × (lot.now.locks ≡ counting.now.locks) }
-    requires rests { (p : PassView V) → V.rests (rested p) }
-{
-    let Some(pass) = enter(rt, lot, flags) else {
-        return;
-    };
+    let worker = pass.thread();
     let mut pass = pass;
     for round in 0..counting.rounds {
         let (gone, called) = go_round(rt, lot, gate, counting, worker, round, pass);
         pass = gone;
         if !called {
-            flags.refuse();
+            refused.store(true, Ordering::SeqCst);
             break;
         }
     }
-    lot.leave(rt, pass);
+    pass
 }
 
 /// One round of a worker: it locks the round's key, adds one to its counter and unlocks. Answers whether there was

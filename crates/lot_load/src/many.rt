@@ -6,8 +6,8 @@ ghost use Rattle.lot_sync.specs.Opened.{IsNamed};
 ghost use Rattle.lot_load.specs.declared.many.TheConstants.{MOST_LOCKS};
 
 use crate::measure::value::Number;
-use crate::workers::{Flags, all_start, enter, moment, start};
-use lot_calls::finish;
+use crate::workers::{moment, outcome};
+use lot_calls::{finish, leave_all, start_with_passes, work_together};
 use lot_command::Failure;
 use lot_sync::{Lot, LotName, OpenFault, Opened, Pass};
 use std::alloc::Global;
@@ -55,73 +55,41 @@ fn run<N: LotName<Number> + Send + Sync, T: Threads + Wait + Sync>(
     requires named { IsNamed N.LotName opened }
     requires sizes { (opened.threads ≡ spreading.now.threads) × (length opened.values ≡ spreading.now.locks) }
 {
-    let (lot, passes) = match start::<Number, N>(alloc, spreading.threads, opened) {
-        Ok(started) => started,
-        Err(failure) => return Err(failure),
+    let Ok((lot, passes)) = start_with_passes::<Number, N, T>(rt, alloc, spreading.threads, opened)
+    else {
+        return Err(Failure::NoMemory);
     };
     let gone = AtomicU64::new(0);
-    let outcome = spread_all(rt, spreading, &lot, &gone);
-    let (numbers, _) = finish(rt, lot, passes);
-    outcome?;
+    let go = |pass: Pass<Number, N>| -> Pass<Number, N>
+        requires { (lot.locks ≡ spreading.now.locks) × OwnsNone pass }
+        ensures { OwnsNone result }
+    { work(rt, &lot, spreading, &gone, pass) };
+    let (passes, worked) = work_together(rt, &go, passes);
+    let room = leave_all(rt, &lot, passes);
+    let (numbers, _) = finish(rt, lot, room);
+    outcome(worked, false)?;
     print(alloc, numbers.as_slice(), gone.load(Ordering::SeqCst))
 }
 
-/// Runs the workers to their end.
-fn spread_all<N: LotName<Number> + Send + Sync, T: Threads + Wait + Sync>(
-    rt: &T,
-    spreading: &Spreading,
-    lot: &Lot<Number, N>,
-    gone: &AtomicU64,
-) -> Result<(), Failure>
-    requires locks { lot.now.locks ≡ spreading.now.locks }
-{
-    let flags = Flags::new();
-    let started = start_all(rt, spreading, lot, &flags, gone);
-    flags.outcome(started)
-}
-
-/// Starts the workers and waits for their end. Answers whether all could be started.
-fn start_all<N: LotName<Number> + Send + Sync, T: Threads + Wait + Sync>(
-    rt: &T,
-    spreading: &Spreading,
-    lot: &Lot<Number, N>,
-    flags: &Flags,
-    gone: &AtomicU64,
-) -> bool
-    requires locks { lot.now.locks ≡ spreading.now.locks }
-{
-    all_start(
-        rt,
-        spreading.threads,
-        flags,
-        &|worker: usize|
-            requires locks { lot.now.locks ≡ spreading.now.locks }
-        {
-            work(rt, lot, flags, spreading, worker, gone);
-        },
-    )
-}
-
-/// One worker: it waits until all may go, goes its rounds, and tells how many they were.
+/// One worker: it goes its rounds, and tells how many they were.
 fn work<N: LotName<Number> + Send + Sync, T: Wait>(
     rt: &T,
     lot: &Lot<Number, N>,
-    flags: &Flags,
     spreading: &Spreading,
-    worker: usize,
     gone: &AtomicU64,
-)
+    pass: Pass<Number, N>,
+) -> Pass<Number, N>
     requires locks { lot.now.locks ≡ spreading.now.locks }
+    requires free { OwnsNone pass }
+    ensures { OwnsNone result }
 {
-    let Some(pass) = enter(rt, lot, flags) else {
-        return;
-    };
+    let worker = pass.thread();
     let mut pass = pass;
     for round in 0..spreading.rounds {
         pass = go_round(rt, lot, spreading, worker, round, pass);
     }
     gone.fetch_add(spreading.rounds, Ordering::SeqCst);
-    lot.leave(rt, pass);
+    pass
 }
 
 /// One round of a worker: it locks the key that its moment's word draws, adds one to the number and unlocks.

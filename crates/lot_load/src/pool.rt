@@ -6,8 +6,8 @@ ghost use Rattle.lot_sync.specs.Opened.{IsNamed};
 
 use crate::gate::{Gate, OpenGate, Point};
 use crate::inside::Inside;
-use crate::workers::{Flags, all_start, enter, moment, start};
-use lot_calls::finish;
+use crate::workers::{moment, outcome};
+use lot_calls::{finish, leave_all, start_with_passes, work_together};
 use lot_command::{Failure, report};
 use lot_sync::{Lot, LotName, OpenFault, Opened, Pass};
 use std::alloc::Global;
@@ -82,71 +82,38 @@ fn run<N: LotName<Inside> + Send + Sync, T: Threads + Wait + Sync, G: Gate + Syn
     requires sizes { (opened.threads ≡ pooling.now.threads) × (length opened.values ≡ 1) × (opened.conds ≡ 0)
         × (length opened.permits ≡ 1) }
 {
-    let (lot, passes) = match start::<Inside, N>(alloc, pooling.threads, opened) {
-        Ok(started) => started,
-        Err(failure) => return Err(failure),
+    let Ok((lot, passes)) = start_with_passes::<Inside, N, T>(rt, alloc, pooling.threads, opened) else {
+        return Err(Failure::NoMemory);
     };
-    let outcome = pool_all(rt, gate, pooling, &lot);
-    let (counts, _) = finish(rt, lot, passes);
-    outcome?;
+    let go = |pass: Pass<Inside, N>| -> Pass<Inside, N>
+        requires { (lot.locks ≡ 1) × (lot.conds ≡ 0) × (lot.sems ≡ 1) × OwnsNone pass }
+        ensures { OwnsNone result }
+    { work(rt, &lot, gate, pooling, pass) };
+    let (passes, worked) = work_together(rt, &go, passes);
+    let room = leave_all(rt, &lot, passes);
+    let (counts, _) = finish(rt, lot, room);
+    outcome(worked, false)?;
     print(alloc, &counts[0], pooling.permits)
 }
 
-/// Runs the workers to their end.
-fn pool_all<N: LotName<Inside> + Send + Sync, T: Threads + Wait + Sync, G: Gate + Sync>(
-    rt: &T,
-    gate: &G,
-    pooling: &Pooling,
-    lot: &Lot<Inside, N>,
-) -> Result<(), Failure>
-    requires { (lot.now.locks ≡ 1) × (lot.now.conds ≡ 0) × (lot.now.sems ≡ 1) }
-{
-    let flags = Flags::new();
-    let started = start_all(rt, gate, pooling, lot, &flags);
-    flags.outcome(started)
-}
-
-/// Starts the workers and waits for their end. Answers whether all could be started.
-fn start_all<N: LotName<Inside> + Send + Sync, T: Threads + Wait + Sync, G: Gate + Sync>(
-    rt: &T,
-    gate: &G,
-    pooling: &Pooling,
-    lot: &Lot<Inside, N>,
-    flags: &Flags,
-) -> bool
-    requires { (lot.now.locks ≡ 1) × (lot.now.conds ≡ 0) × (lot.now.sems ≡ 1) }
-{
-    all_start(
-        rt,
-        pooling.threads,
-        flags,
-        &|worker: usize|
-            requires { (lot.now.locks ≡ 1) × (lot.now.conds ≡ 0) × (lot.now.sems ≡ 1) }
-        {
-            work(rt, lot, gate, flags, pooling, worker);
-        },
-    )
-}
-
-/// One worker: it waits until all may go, and then goes its rounds.
+/// One worker, with all its rounds.
 fn work<N: LotName<Inside> + Send + Sync, T: Wait, G: Gate>(
     rt: &T,
     lot: &Lot<Inside, N>,
     gate: &G,
-    flags: &Flags,
     pooling: &Pooling,
-    worker: usize,
-)
-    requires { (lot.now.locks ≡ 1) × (lot.now.conds ≡ 0) × (lot.now.sems ≡ 1) }
+    pass: Pass<Inside, N>,
+) -> Pass<Inside, N>
+    requires sizes { (lot.now.locks ≡ 1) × (lot.now.conds ≡ 0) × (lot.now.sems ≡ 1) }
+    requires free { OwnsNone pass }
+    ensures { OwnsNone result }
 {
-    let Some(pass) = enter(rt, lot, flags) else {
-        return;
-    };
+    let worker = pass.thread();
     let mut pass = pass;
     for round in 0..pooling.rounds {
         pass = go_round(rt, lot, gate, pooling, worker, round, pass);
     }
-    lot.leave(rt, pass);
+    pass
 }
 
 /// One round of a worker: it gets a permit, counts itself in and out again, and gives the permit back.

@@ -7,8 +7,8 @@ ghost use Rattle.lot_load.specs.Buffers.{HasBuffer};
 
 use crate::buffer::{Buffer, TakenNumber};
 use crate::gate::{Gate, OpenGate, Point};
-use crate::workers::{Flags, enter, let_go, moment, start};
-use lot_calls::finish;
+use crate::workers::{moment, outcome};
+use lot_calls::{finish, leave_all, start_with_passes, work_together};
 use lot_command::{Failure, report};
 use lot_sync::{Held, Ledger, Lot, LotName, Moment, OpenFault, Opened, Pass};
 use std::alloc::Global;
@@ -16,7 +16,6 @@ use std::fmt::Write as _;
 use std::io::Write;
 use std::marker::Brand;
 use std::sync::Wait;
-use std::thread;
 use std::thread::Threads;
 
 /// The lock of the buffer.
@@ -105,90 +104,45 @@ fn run<N: LotName<Buffer> + Send + Sync, T: Threads + Wait + Sync, G: Gate + Syn
     requires named { IsNamed N.LotName opened }
     requires sizes { (opened.threads ≡ relaying.now.threads) × (length opened.values ≡ 1) × (opened.conds ≡ 2) }
 {
-    let (lot, passes) = match start::<Buffer, N>(alloc, relaying.threads, opened) {
-        Ok(started) => started,
-        Err(failure) => return Err(failure),
+    let Ok((lot, passes)) = start_with_passes::<Buffer, N, T>(rt, alloc, relaying.threads, opened)
+    else {
+        return Err(Failure::NoMemory);
     };
-    let outcome = relay_all(rt, gate, relaying, &lot);
-    let (buffers, ledger) = finish(rt, lot, passes);
-    outcome?;
+    let go = |pass: Pass<Buffer, N>| -> Pass<Buffer, N>
+        requires { (lot.locks ≡ 1) × (lot.conds ≡ 2) × OwnsNone pass }
+        ensures { OwnsNone result }
+    { work(rt, &lot, gate, relaying, pass) };
+    let (passes, worked) = work_together(rt, &go, passes);
+    let room = leave_all(rt, &lot, passes);
+    let (buffers, ledger) = finish(rt, lot, room);
+    outcome(worked, false)?;
     print(alloc, &buffers[0], &ledger)
 }
 
-/// Runs the workers to their end.
-fn relay_all<N: LotName<Buffer> + Send + Sync, T: Threads + Wait + Sync, G: Gate + Sync>(
-    rt: &T,
-    gate: &G,
-    relaying: &Relaying,
-    lot: &Lot<Buffer, N>,
-) -> Result<(), Failure>
-    requires { (lot.now.locks ≡ 1) × (lot.now.conds ≡ 2) }
-{
-    let flags = Flags::new();
-    let started = start_all(rt, gate, relaying, lot, &flags);
-    flags.outcome(started)
-}
-
-/// Starts the workers and waits for their end. Answers whether all could be started.
-fn start_all<N: LotName<Buffer> + Send + Sync, T: Threads + Wait + Sync, G: Gate + Sync>(
-    rt: &T,
-    gate: &G,
-    relaying: &Relaying,
-    lot: &Lot<Buffer, N>,
-    flags: &Flags,
-) -> bool
-    requires { (lot.now.locks ≡ 1) × (lot.now.conds ≡ 2) }
-{
-    thread::scope(
-        thread::scope_env(),
-        rt,
-        |scope| -> bool
-            requires { (lot.now.locks ≡ 1) × (lot.now.conds ≡ 2) }
-        {
-            let mut started = true;
-            for worker in 0..relaying.threads {
-                let job = move ||
-                    requires { (lot.now.locks ≡ 1) × (lot.now.conds ≡ 2) }
-                {
-                    work(rt, lot, gate, flags, relaying, worker);
-                };
-                if scope.spawn(job).is_err() {
-                    started = false;
-                    break;
-                }
-            }
-            let_go(rt, flags, relaying.threads, started);
-            started
-        },
-    )
-}
-
-/// One worker: it waits until all may go, and then puts numbers or takes them.
+/// One worker: it puts numbers or takes them.
 fn work<N: LotName<Buffer> + Send + Sync, T: Wait, G: Gate>(
     rt: &T,
     lot: &Lot<Buffer, N>,
     gate: &G,
-    flags: &Flags,
     relaying: &Relaying,
-    worker: usize,
-)
-    requires { (lot.now.locks ≡ 1) × (lot.now.conds ≡ 2) }
+    pass: Pass<Buffer, N>,
+) -> Pass<Buffer, N>
+    requires sizes { (lot.now.locks ≡ 1) × (lot.now.conds ≡ 2) }
+    requires free { OwnsNone pass }
+    ensures { OwnsNone result }
 {
-    let Some(pass) = enter(rt, lot, flags) else {
-        return;
-    };
+    let worker = pass.thread();
     let relays = Relays {
         rt,
         lot,
         gate,
         relaying,
     };
-    let pass = if worker < relaying.producers() {
+    if worker < relaying.producers() {
         relays.produce(worker, pass)
     } else {
         relays.consume(worker, pass)
-    };
-    lot.leave(rt, pass);
+    }
 }
 
 /// What a worker is lent.

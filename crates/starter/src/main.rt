@@ -8,7 +8,7 @@ ghost use Rattle.std.specs.Prelude.{◌≡◌, ◌<◌, length};
 ghost use Rattle.lot_sync.specs.Lot.{OwnsNone};
 ghost use Rattle.lot_sync.specs.Opened.{IsNamed};
 
-use lot_calls::finish;
+use lot_calls::{finish, leave_all, start_with_passes, work_together};
 use lot_command::{Failure, report};
 use lot_sync::{Lot, LotName, Moment, Opened, Pass};
 use lot_words::Keeps;
@@ -17,10 +17,9 @@ use std::fmt::Write as _;
 use std::marker::Brand;
 use std::process::ExitCode;
 use std::sync::Wait;
-use std::thread;
 use std::thread::Threads;
 
-/// How many threads there are; `run_on` starts each.
+/// How many threads there are.
 const THREADS: usize = 2;
 
 /// The key of the one lock.
@@ -67,7 +66,7 @@ fn run<T: Threads + Wait + Sync>(rt: &T, alloc: Global) -> Result<String, Failur
     }
 }
 
-/// Starts the lot and the threads, ends the lot when both have left, and tells the number.
+/// Starts the lot with a pass for each thread, has the threads work, ends the lot, and tells the number.
 fn run_on<N: LotName<Number> + Send + Sync, T: Threads + Wait + Sync>(
     rt: &T,
     alloc: Global,
@@ -76,49 +75,39 @@ fn run_on<N: LotName<Number> + Send + Sync, T: Threads + Wait + Sync>(
     requires named { IsNamed N.LotName opened }
     requires sizes { (opened.threads ≡ THREADS) × (length opened.values ≡ 1) }
 {
-    let passes = match Vec::with_capacity(alloc, THREADS) {
-        Ok(passes) => passes,
-        Err(refused) => {
-            let _ = opened.close();
-            return Err(Failure::from(refused));
-        }
-    };
-    let lot = match opened.start::<N>(alloc) {
-        Ok(lot) => lot,
-        Err(_) => {
-            passes.destroy_empty();
-            return Err(Failure::NoMemory);
-        }
-    };
-    let one = || -> bool
-        requires { LOCK < lot.locks }
-    { work(rt, &lot) };
-    let other = || -> bool
-        requires { LOCK < lot.locks }
-    { work(rt, &lot) };
-    let (one, other) = thread::join(rt, one, other);
-    let (values, _) = finish(rt, lot, passes);
-    if !one || !other {
+    let Ok((lot, passes)) = start_with_passes::<Number, N, T>(rt, alloc, THREADS, opened) else {
         return Err(Failure::NoMemory);
+    };
+    let raise_all = |pass: Pass<Number, N>| -> Pass<Number, N>
+        requires { (LOCK < lot.locks) × OwnsNone pass }
+        ensures { OwnsNone result }
+    { work(rt, &lot, pass) };
+    let (passes, worked) = work_together(rt, &raise_all, passes);
+    let room = leave_all(rt, &lot, passes);
+    let (values, _) = finish(rt, lot, room);
+    if !worked {
+        return Err(Failure::CannotStartWorker);
     }
     let mut text = String::new(alloc);
     writeln!(text, "number {}", values[LOCK].n)?;
     Ok(text)
 }
 
-/// What each thread does, from its coming to its leaving. It answers whether there was memory for its coming.
-fn work<N: LotName<Number> + Send, W: Wait>(rt: &W, lot: &Lot<Number, N>) -> bool
+/// What each thread does with its pass.
+fn work<N: LotName<Number> + Send, W: Wait>(
+    rt: &W,
+    lot: &Lot<Number, N>,
+    pass: Pass<Number, N>,
+) -> Pass<Number, N>
     requires locks { LOCK < lot.now.locks }
+    requires free { OwnsNone pass }
+    ensures { OwnsNone result }
 {
-    let Ok(pass) = lot.register(rt) else {
-        return false;
-    };
     let mut pass = pass;
     for _ in 0..RAISES {
         pass = raise(rt, lot, pass);
     }
-    lot.leave(rt, pass);
-    true
+    pass
 }
 
 fn raise<N: LotName<Number> + Send, W: Wait>(

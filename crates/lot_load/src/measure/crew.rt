@@ -13,8 +13,7 @@ use super::summary::{Done, Summary};
 use super::times::Times;
 use super::turns::{notify, take_turns};
 use super::value::Number;
-use crate::workers::start;
-use lot_calls::finish;
+use lot_calls::{finish, start_with_room};
 use lot_command::Failure;
 use lot_sync::{Lot, LotName, Opened, Pass};
 use std::alloc::Global;
@@ -48,9 +47,8 @@ fn run_on<N: LotName<Number> + Send + Sync, T: Threads + Wait + Clock + Sync>(
     requires named { IsNamed N.LotName opened }
     requires sizes { (opened.threads ≡ plan.now.threads) × (length opened.values ≡ plan.now.locks) }
 {
-    let (lot, passes) = match start::<Number, N>(alloc, plan.threads, opened) {
-        Ok(started) => started,
-        Err(failure) => return Err(failure),
+    let Ok((lot, passes)) = start_with_room::<Number, N>(alloc, plan.threads, opened) else {
+        return Err(Failure::NoMemory);
     };
     let done = work_all(rt, alloc, plan, &lot);
     let (values, _) = finish(rt, lot, passes);

@@ -35,7 +35,8 @@ returns-clause-moves g c =
       own_from = both.finds_first.mine;
       own_into = both.finds_second.mine;
       moves =
-          subst (λ s. MatchBool c.with_both.result.1 (Moves s amount v.now w.now x.now y.now) (MovesNothing s amount v.now w.now x.now y.now))
+          subst
+          (λ s. MatchBool c.with_both.result.1 (Moves s amount v.now w.now x.now y.now) (MovesNothing s amount v.now w.now x.now y.now))
           c.thread-thread.ensures moves;
       seen_from = both.seen_first;
       seen_into = both.seen_second;

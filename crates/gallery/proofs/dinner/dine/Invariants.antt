@@ -1,7 +1,5 @@
-use Rattle.std.proofs.Common.{◌<◌}
-use Rattle.lot_sync.specs.Lot.{OwnsNone}
-use Rattle.gallery.specs.Dinner.{AteWithBoth}
+use Rattle.gallery.specs.Dinner.{IsAtTable}
 use Rattle.gallery.proofs.dinner.dine.Given as goal
 
 abbrev pub invariant-loop : goal.invariant-loop
-invariant-loop g l = OwnsNone l.pass × (l.pass.thread < 5) × AteWithBoth l.pass.thread l.pass.seen
+invariant-loop g l = IsAtTable l.lot l.pass

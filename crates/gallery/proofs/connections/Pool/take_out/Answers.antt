@@ -8,7 +8,8 @@ use Rattle.gallery.proofs.connections.Pool.take_out.Goals.{then-key-lt-CONNECTIO
 
 pub loop-init : goal.loop-init
 loop-init g c =
-    (tt, tt, search rules, (0, refl, none_tried c.args.pass.thread 2 c.args.pass.made c.acquire-pass.result.0.made c.acquire-pass.ensures.made))
+    let permit = c.acquire-pass in
+    (tt, tt, search rules, (0, refl, none_tried c.args.pass.thread 2 c.args.pass.made permit.result.0.made permit.ensures.made))
 
 pub loop-preserved : goal.loop-preserved
 loop-preserved g c =
