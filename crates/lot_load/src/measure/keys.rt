@@ -14,8 +14,7 @@ use super::sleepers::{longest_register, to_sleeper};
 use super::summary::begin_line;
 use super::value::Number;
 use crate::many::MOST_LOCKS;
-use crate::workers::start;
-use lot_calls::finish;
+use lot_calls::{finish, start_with_room};
 use lot_command::{Failure, number};
 use lot_sync::{Lot, LotName, MAX_THREADS, OpenFault, Opened};
 use std::alloc::Global;
@@ -95,9 +94,8 @@ fn run_on<N: LotName<Number> + Send + Sync, T: Threads + Wait + Clock + Sync>(
     requires named { IsNamed N.LotName opened }
     requires sizes { (opened.threads ≡ keys.now.threads) × (length opened.values ≡ keys.now.locks) }
 {
-    let (lot, passes) = match start::<Number, N>(alloc, keys.threads, opened) {
-        Ok(started) => started,
-        Err(failure) => return Err(failure),
+    let Ok((lot, passes)) = start_with_room::<Number, N>(alloc, keys.threads, opened) else {
+        return Err(Failure::NoMemory);
     };
     let open = now(rt).wrapping_sub(begin);
     let worked = work_all(rt, alloc, keys, &lot);
