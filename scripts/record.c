@@ -30,6 +30,7 @@ struct list {
 
 static _Thread_local struct list *mine;
 static _Thread_local int is_open;
+static _Thread_local uint64_t last_key;
 static atomic_int lists;
 
 // 1: the processor's time-stamp counter, where RECORD_CLOCK says that it can be trusted; 2: the system's monotonic clock.
@@ -86,6 +87,7 @@ static void open_list(void) {
 // One access, which began at `from` and is over.
 void record_access(uint64_t from, uint64_t kind, uint64_t thread, uint64_t key, uint64_t found, uint64_t a, uint64_t b, uint64_t c, uint64_t d) {
     uint64_t to = record_clock();
+    last_key = key;
     if (!is_open)
         open_list();
     if (!mine)
@@ -97,6 +99,11 @@ void record_access(uint64_t from, uint64_t kind, uint64_t thread, uint64_t key, 
     }
     mine->entries[count] = (struct entry){from, to, kind, thread, key, found, {a, b, c, d}};
     atomic_store(&mine->count, count + 1);
+}
+
+// The key of the access that this thread made last.
+uint64_t record_last_key(void) {
+    return last_key;
 }
 
 // How many threads the table of buckets is to serve by now: one more with each fourth call, up to so many.

@@ -16,7 +16,8 @@ HERE = os.path.dirname(os.path.realpath(__file__))
 
 # Where a thread acts by its pass, on a key that it names, or that its root has.
 BY_PASS, BY_ROOT = ("pass.thread()", "key"), ("pass.thread()", "root.key()")
-POSTS = ("thread", "root.key()")
+# (the root that posts lies without its number: it is that of the thread's access before, or it posted another letter)
+POSTS = ("thread", "recording::last_key()")
 
 # The functions of lot_whole that make accesses: of each its accesses in order, by their kinds; who acts on which key; and what else is to be known.
 PLACES = {
@@ -41,8 +42,6 @@ PLACES = {
     "pass_permit": (["pass_permit"], BY_ROOT, ["recording::sleeper(first)", "more as u64"]),
     "clear": (["clear"], BY_ROOT, []),
     "post": (["post"], POSTS, ["token as u64"]),
-    "post_cond": (["post"], POSTS, ["0"]),
-    "post_sem": (["post"], POSTS, ["0"]),
     "collect": (["collect"], ("pass.thread()", "0"), []),
 }
 # What the second access of this function expects.
@@ -56,6 +55,8 @@ unsafe extern "C" {
     pub safe fn record_clock() -> u64;
 
     safe fn record_grown(most: u64) -> u64;
+
+    safe fn record_last_key() -> u64;
 
     pub safe fn record_access(
         from: u64,
@@ -80,6 +81,11 @@ pub fn sleeper(first: Option<usize>) -> u64 {
 /// How many threads the table is to serve by now, in a copy in which it grows while they run.
 pub fn grown(most: usize) -> usize {
     record_grown(most as u64) as usize
+}
+
+/// The key of the access that the thread made last.
+pub fn last_key() -> u64 {
+    record_last_key()
 }
 
 pub fn opening(threads: usize, locks: usize, conds: usize, permits: &[u32]) {
