@@ -172,8 +172,8 @@ pub fn add_one<V: Counts, N>(held: &mut Held<V, N>, thread: usize) -> bool
     held.value_mut().count_up(key, thread)
 }
 
-/// What the workers do with a value: they count themselves. The workers are generic over it, since a lot of journals
-/// has more types than the toolchain follows in a closure that a thread runs.
+/// What a worker does with a value: it counts itself. A round is generic over it: what is proved of a round is proved of
+/// each such value.
 pub trait Counts: Keeps {
     ghost use Rattle.std.specs.Prelude.{◌≡◌, ◌≢◌, ℕ, MatchBool};
 

@@ -82,7 +82,8 @@ fn run<N: LotName<Inside> + Send + Sync, T: Threads + Wait + Sync, G: Gate + Syn
     requires sizes { (opened.threads ≡ pooling.now.threads) × (length opened.values ≡ 1) × (opened.conds ≡ 0)
         × (length opened.permits ≡ 1) }
 {
-    let Ok((lot, passes)) = start_with_passes::<Inside, N, T>(rt, alloc, pooling.threads, opened) else {
+    let Ok((lot, passes)) = start_with_passes::<Inside, N, T>(rt, alloc, pooling.threads, opened)
+    else {
         return Err(Failure::NoMemory);
     };
     let go = |pass: Pass<Inside, N>| -> Pass<Inside, N>
