@@ -1,9 +1,12 @@
 // Counts what a program has of the heap: a library that is loaded before the C library, by LD_PRELOAD. When the program ends it
-// writes to standard error the most bytes that were in use at a time, and the most of its memory that was resident: live=.. resident=..
+// writes to standard error how many bytes were in use when it started its first thread (its locks are open then), the most that were in
+// use at a time, and the most of its memory that was resident: open=.. live=.. resident=..
 #include <atomic>
 #include <cerrno>
 #include <cstdio>
+#include <dlfcn.h>
 #include <malloc.h>
+#include <pthread.h>
 #include <sys/syscall.h>
 #include <unistd.h>
 
@@ -16,7 +19,7 @@ void __libc_free(void*);
 }
 
 namespace {
-std::atomic<long> live { 0 }, most { 0 };
+std::atomic<long> live { 0 }, most { 0 }, open { -1 };
 
 void* come(void* block) {
     long now = live += long(malloc_usable_size(block));
@@ -43,7 +46,7 @@ void tell() {
     static std::atomic<bool> told { false };
     long used = most.load();
     if (!told.exchange(true))
-        fprintf(stderr, "live=%ld resident=%ld\n", used, resident());
+        fprintf(stderr, "open=%ld live=%ld resident=%ld\n", open.load(), used, resident());
 }
 
 struct AtTheEnd {
@@ -57,6 +60,12 @@ void _exit(int status) {
     tell();
     syscall(SYS_exit_group, status);
     __builtin_unreachable();
+}
+int pthread_create(pthread_t* thread, const pthread_attr_t* how, void* (*work)(void*), void* of) {
+    static auto real = reinterpret_cast<decltype(&pthread_create)>(dlsym(RTLD_NEXT, "pthread_create"));
+    long none = -1;
+    open.compare_exchange_strong(none, live.load());
+    return real(thread, how, work, of);
 }
 void* malloc(size_t size) { return come(__libc_malloc(size)); }
 void* calloc(size_t count, size_t size) { return come(__libc_calloc(count, size)); }
