@@ -88,7 +88,7 @@ pub may_leave : {V Part : Type 0} (rule : CallersRule V Part) {opening : List V}
     → All (MayLeave rule) ys
 may_leave rule xs ys true ready each may = λ i d near.
     let near' : i < length xs = omega (arith, near, each.count) in may (get_or xs i d) (get_or ys i d) (ready i d near')
-        (each.each i d near')
+    (each.each i d near')
 may_leave rule xs ys false ready same may =
     subst (All (MayLeave rule)) (sym same) (λ i d near. let r = ready i d near in record { free = r.free; rests = r.rests })
 

@@ -56,8 +56,14 @@ static REFUSED: [(&str, &[&str]); 5] = [
     ("a plan without threads", &["count", "0", "1", "1"]),
     ("no way", &["fair", "2", "1", "0", "0", "1"]),
     ("another way", &["fair", "2", "1", "0", "0", "1", "seldom"]),
-    ("too many locks", &["fair", "2", "1025", "0", "0", "1", "clock"]),
-    ("a number with a zero before it", &["fair", "2", "1", "00", "0", "1", "never"]),
+    (
+        "too many locks",
+        &["fair", "2", "1025", "0", "0", "1", "clock"],
+    ),
+    (
+        "a number with a zero before it",
+        &["fair", "2", "1", "00", "0", "1", "never"],
+    ),
 ];
 
 #[test]
@@ -65,6 +71,14 @@ fn other_words_are_refused(rt: HostRuntime) {
     for (lack, words) in REFUSED.iter() {
         is_so(&rt, plan_of(words).is_none(), lack);
     }
-    is_so(&rt, keys_of(&["1", "10000001", "1"]).is_none(), "too many keys");
-    is_so(&rt, plan_of(&["fair", "2", "2", "9", "9", "1", "always"]).is_some(), "a plan");
+    is_so(
+        &rt,
+        keys_of(&["1", "10000001", "1"]).is_none(),
+        "too many keys",
+    );
+    is_so(
+        &rt,
+        plan_of(&["fair", "2", "2", "9", "9", "1", "always"]).is_some(),
+        "a plan",
+    );
 }
