@@ -15,7 +15,7 @@ in_hand_of thread pool = slice_index pool.in_hand thread
 abbrev pub own_task : ℕ → List Pool → ℕ
 own_task thread pools = slice_index (map (in_hand_of thread) pools) POOL
 
--- no task is lost, and none counted twice: what lies there, what is in hand and what is done come to what all tasks come to
+-- the numbers that lie there, that are in hand and that are done add up to those of all tasks; so the task 0 may be missed
 pub record IsWhole (pool : Pool) : Type 0 where
   pub places : length pool.in_hand ≡ WORKERS
   pub whole : sum pool.tasks.items + sum pool.in_hand + pool.done ≡ TOTAL

@@ -3,7 +3,7 @@ ghost use Rattle.std.specs.Prelude.{◌≡◌, ◌≢◌, ◌*◌, ◌+◌, ◌<
 ghost use Rattle.std.specs.Prelude.{vec_capacity, IfOk};
 ghost use Rattle.lot_sync.specs.Lot.{OwnsNone, HasShape};
 ghost use Rattle.lot_sync.specs.Opened.{IsNamed, KeepAll};
-ghost use Rattle.gallery.specs.Counters.{HasRows, IsNew, HasAdded, HasAddedBelow, row_of, added_by, added_to, total_of};
+ghost use Rattle.gallery.specs.Counters.{HasRows, IsNew, HasAdded, HasAddedBelow, row_of, added_by, total_of};
 ghost use Rattle.gallery.specs.Counters.{AllCount, AreNew};
 
 use crate::crew::{NOW, open};

@@ -1,4 +1,5 @@
-//! A pool of workers with a queue of tasks: each task is taken once, none is lost, and all are counted.
+//! A pool of workers with a queue of tasks: the oldest is taken first, and what is not done yet lies there or is in hand.
+//! All is said by sums of the tasks' numbers.
 ghost use Rattle.std.specs.Prelude.{◌≡◌, ◌<◌, ◌≤◌, IfOk, length, vec_len, vec_capacity, true};
 ghost use Rattle.std.specs.List.{All};
 ghost use Rattle.lot_sync.specs.Opened.{IsNamed};

@@ -8,7 +8,7 @@ use crate::root::NamedRoot;
 use lot_core::{MAX_KEYS, MAX_THREADS};
 use lot_park::{FEW_KEYS, MOST_THREADS, Scheme, Token};
 use lot_rights::Named;
-use lot_whole::{Keeps, LotRoot, LotWords};
+use lot_whole::{Keeps, LotWords};
 use std::marker::Model;
 
 // A parking lot, which knows no model, is for as many threads as the model.

@@ -56,16 +56,6 @@ module _ (q q' : LotRootView) (u : ℕ) (More : Type 0) where
   sem_named is r e kind h = ⊎_elim {C = names q u ⊎ More} (λ a. inl (subst (λ o. names o u) (sem_is q is) a)) inr
       (kind (subst (λ o. names o u) e h))
 
--- whom the kind says that it names
-pub lock_names_it : (q : LotRootView) (u : ℕ) → IsLockRoot q → lock_names (as_lock q) u → names q u
-lock_names_it q u is h = subst (λ o. names o u) (lock_is q is) h
-
-pub cond_names_it : (q : LotRootView) (u : ℕ) → IsCondRoot q → names (Cond (as_cond q)) u → names q u
-cond_names_it q u is h = subst (λ o. names o u) (cond_is q is) h
-
-pub sem_names_it : (q : LotRootView) (u : ℕ) → IsSemRoot q → sem_names (as_sem q) u → names q u
-sem_names_it q u is h = subst (λ o. names o u) (sem_is q is) h
-
 -- or none more
 pub no_more : (A : Type 0) → A ⊎ ⊥ → A
 no_more A (inl a) = a

@@ -2,7 +2,6 @@
 //! and to close.
 ghost use Rattle.std.specs.Prelude.{◌≡◌, ◌≤◌, ◌<◌, length};
 ghost use Rattle.lot_core.specs.declared.state.TheConstants.{MAX_THREADS};
-ghost use Rattle.lot_sync.specs.Lot.{OwnsNone};
 ghost use Rattle.lot_sync.specs.Opened.{IsNamed};
 ghost use Rattle.lot_load.specs.declared.many.TheConstants.{MOST_LOCKS};
 
