@@ -1,5 +1,5 @@
 -- Meetings to which so many come.
-use Rattle.std.specs.Prelude.{◌≡◌, ◌+◌, ◌≤◌, ◌<◌, nat_le, Bool, true, false, refl}
+use Rattle.std.specs.Prelude.{◌≡◌, ℕ, ◌+◌, ◌≤◌, ◌<◌, nat_le, Bool, true, false, refl}
 use Rattle.std.proofs.Common.{le_refl, le_trans, ◌∙◌}
 use Rattle.lot_sync.specs.Lot.{PassView, HasSeen}
 use Rattle.gallery.specs.declared.latch.Meeting.{Meeting}

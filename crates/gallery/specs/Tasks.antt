@@ -42,10 +42,10 @@ AllDone pool = (task : ℕ) → task < TASKS → times_of task pool ≡ 1
 abbrev pub are_done : List ℕ → Bool
 are_done times = list_all (λ number. nat_lt 0 number) times
 
--- the worker took the oldest task, and has it in hand; or none lay there
+-- the worker took the oldest task, and has it in hand; or none lay there, and nothing changed
 pub record Takes (thread : ℕ) (before : Pool) (task : Option ℕ) (after : Pool) : Type 0 where
   pub whole : IsWhole after
-  pub oldest : MatchOption task (before.tasks.items ≡ [])
+  pub oldest : MatchOption task ((before.tasks.items ≡ []) × (after.tasks.items ≡ []) × (after.in_hand ≡ before.in_hand))
       (λ oldest. (before.tasks.items ≡ oldest ∷ after.tasks.items) × (in_hand_of thread after ≡ oldest))
   pub times : after.times.items ≡ before.times.items
   pub others : OthersKeep in_hand_of thread before after

@@ -140,8 +140,8 @@ pub fn finish<N: LotName<Pool> + Send, T: Wait>(
     change(rt, lot, pass, POOL, NOW, |pool| pool.finish(thread)).0
 }
 
-/// A worker does tasks as long as some lie there, and then waits until all are done. So it waits only for tasks that
-/// others have in hand, who don't wait.
+/// A worker does tasks as long as some lie there, and then waits until all are done: for those alone that others have
+/// in hand, who have begun and don't wait.
 fn work<N: LotName<Pool> + Send, T: Wait>(rt: &T, lot: &Lot<Pool, N>, pass: Worker<N>) -> Worker<N>
     requires worker { IsWorker lot.now pass }
     ensures { HasWaited lot.now pass result }
