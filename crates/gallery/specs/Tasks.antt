@@ -1,5 +1,6 @@
 -- A pool of tasks: what lies there, what workers have in hand, and how often each was done.
-use Rattle.std.specs.Prelude.{◌≡◌, ◌≢◌, ℕ, ◌+◌, ◌<◌, ◌==◌, nat_lt, Bool, if◌then◌else◌, Option, MatchOption, List, [], ◌∷◌, length, map, slice_index}
+use Rattle.std.specs.Prelude.{◌≡◌, ◌≢◌, ℕ, ◌+◌, ◌<◌, ◌==◌, nat_lt, Bool, if◌then◌else◌, Option, MatchOption, List}
+use Rattle.std.specs.Prelude.{[], ◌∷◌, length, map, slice_index}
 use Rattle.std.specs.List.{list_all, sum_by}
 use Rattle.lot_sync.specs.Lot.{LotView, PassView, OwnsNone, HasShape, HasSeen}
 use Rattle.lot_calls.specs.Workers.{ComesBack}
