@@ -1,8 +1,9 @@
 -- Forks at a round table, and how often each philosopher ate with them.
-use Rattle.std.specs.Prelude.{◌≡◌, ◌≢◌, ℕ, ◌+◌, ◌%◌, ◌^◌, ◌<◌, nat_lt, if◌then◌else◌, List, length, slice_index, slice_get, Some}
+use Rattle.std.specs.Prelude.{◌≡◌, ℕ, ◌+◌, ◌%◌, ◌^◌, ◌<◌, nat_lt, if◌then◌else◌, List, length, slice_index}
 use mathlib.Core.Option.{some}
 use lib.ListN.{get_elem?}
 use Rattle.lot_sync.specs.Lot.{LotView, PassView, OwnsNone}
+use Rattle.gallery.specs.Parts.{OthersKeep}
 use Rattle.gallery.specs.declared.dinner.Fork.{Fork}
 use Rattle.gallery.specs.declared.dinner.TheConstants.{SEATS}
 
@@ -24,7 +25,7 @@ HasPlaces fork = length fork.meals ≡ SEATS
 pub record OneMore (thread : ℕ) (before after : Fork) : Type 0 where
   pub places : HasPlaces after
   pub mine : meals_of thread after ≡ (meals_of thread before + 1) % 2 ^ 64
-  pub others : (t : ℕ) → t ≢ thread → meals_of t before ≡ meals_of t after
+  pub others : OthersKeep meals_of thread before after
 
 -- of these forks both beside the thread's seat count equally many meals of it
 abbrev pub AteWithBoth : ℕ → List Fork → Type 0

@@ -7,3 +7,4 @@ pub mod Dinner
 pub mod Rooms
 pub mod Tasks
 pub mod Names
+pub mod Parts

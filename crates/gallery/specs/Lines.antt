@@ -1,5 +1,5 @@
 -- A line of items with numbers: an item's number is how many were put before it.
-use Rattle.std.specs.Prelude.{◌≡◌, ℕ, zero, suc, ◌+◌, ◌-◌, ◌*◌, ◌≤◌, ◌<◌, ◌^◌, ◌==◌, ◌&&◌, nat_lt, Bool, if◌then◌else◌, List, [], ◌∷◌}
+use Rattle.std.specs.Prelude.{◌≡◌, ℕ, zero, suc, ◌+◌, ◌-◌, ◌≤◌, ◌<◌, ◌^◌, ◌==◌, ◌&&◌, nat_lt, Bool, if◌then◌else◌, List, [], ◌∷◌}
 use Rattle.std.specs.Prelude.{◌++◌, length, slice_get, refl}
 use Rattle.std.proofs.Common.{le_refl, le_trans, ◌∙◌, ap, sym, subst, arith}
 use Rattle.std.proofs.Common.{length-append}
@@ -51,16 +51,6 @@ module _ {T : Type 0} where
         same = λ k low high. let e : k - n ≡ suc (k - (n + 1)) = omega (arith, low) in ap (slice_get (x ∷ ys)) e;
       } in
       subst (λ k. LiesOn n xs k ys) (sym e) (subst (λ l. LiesOn n l (n + 1) ys) (sym f) base)
-
--- the two conditions of the line of lock `key`, behind one lock: that there is room, and that there is an item
-abbrev pub first_cond : ℕ → ℕ
-first_cond key = NOT_FULL + 2 * key
-
-abbrev pub behind_cond : ℕ → ℕ
-behind_cond key = NOT_FULL + 2 * key + 2
-
-pub conds_apart : (k l c : ℕ) → first_cond k ≤ c → c < behind_cond k → first_cond l ≤ c → c < behind_cond l → k ≡ l
-conds_apart k l c a b d e = omega (arith, a, b, d, e)
 
 -- where so many items lie, of so many places, and the next has this number: whether there is a place and a number for one more
 abbrev pub has_room_for : ℕ → ℕ → ℕ → Bool

@@ -1,9 +1,8 @@
 -- Meetings to which so many come.
 use Rattle.std.specs.Prelude.{◌≡◌, ℕ, ◌+◌, ◌≤◌, ◌<◌, nat_le, Bool, true, false, refl}
-use Rattle.std.proofs.Common.{le_refl, le_trans, ◌∙◌, arith}
+use Rattle.std.proofs.Common.{le_refl, le_trans, ◌∙◌}
 use Rattle.lot_sync.specs.Lot.{PassView, HasSeen}
 use Rattle.gallery.specs.declared.latch.Meeting.{Meeting}
-use Rattle.gallery.specs.declared.latch.TheConstants.{ROUNDS}
 
 -- no more came than were to come
 abbrev pub IsWithin : Meeting → Type 0
@@ -34,13 +33,3 @@ Arrives old false new = AllCame old × (new ≡ old)
 -- the pass has seen a meeting to which all came, of which this holds
 abbrev pub SawAll : PassView Meeting → ℕ → (Meeting → Type 0) → Type 0
 SawAll pass round Holds = (m : Meeting) × HasSeen pass round m × AllCame m × Holds m
-
--- the condition of a lock: they stand behind all locks, in their order
-abbrev pub first_cond : ℕ → ℕ
-first_cond key = ROUNDS + key
-
-abbrev pub behind_cond : ℕ → ℕ
-behind_cond key = ROUNDS + key + 1
-
-pub conds_apart : (k l c : ℕ) → first_cond k ≤ c → c < behind_cond k → first_cond l ≤ c → c < behind_cond l → k ≡ l
-conds_apart k l c a b d e = omega (arith, a, b, d, e)

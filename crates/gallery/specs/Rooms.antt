@@ -1,6 +1,7 @@
 -- A room in which threads read and write: who has a share of it reads, and who has all shares writes.
-use Rattle.std.specs.Prelude.{◌≡◌, ◌≢◌, ℕ, ◌+◌, ◌≤◌, ◌<◌, ◌==◌, nat_lt, Bool, if◌then◌else◌, length, sum, slice_index}
+use Rattle.std.specs.Prelude.{◌≡◌, ℕ, ◌+◌, ◌≤◌, ◌<◌, ◌==◌, if◌then◌else◌, length, sum, slice_index}
 use Rattle.lot_sync.specs.Lot.{PassView, OwnsNone, HasSeen}
+use Rattle.gallery.specs.Parts.{OthersKeep}
 use Rattle.gallery.specs.declared.readers.Room.{Room}
 use Rattle.gallery.specs.declared.readers.TheConstants.{THREADS, ALL, ROOM, MAY_READ}
 
@@ -14,25 +15,21 @@ pub record IsFair (room : Room) : Type 0 where
   pub taken : room.taken ≡ sum room.shares
   pub within : room.taken ≤ ALL
 
--- each other thread has as many shares as before
-abbrev pub OthersKeep : ℕ → Room → Room → Type 0
-OthersKeep thread before after = (t : ℕ) → t ≢ thread → share_of t before ≡ share_of t after
-
 -- the thread took so many shares more
 pub record Takes (thread shares : ℕ) (before after : Room) : Type 0 where
   pub fair : IsFair after
   pub own : share_of thread after ≡ share_of thread before + shares
-  pub others : OthersKeep thread before after
+  pub others : OthersKeep share_of thread before after
 
 -- the thread gave all its shares back
 pub record GivesBack (thread : ℕ) (before after : Room) : Type 0 where
   pub fair : IsFair after
   pub own : share_of thread after ≡ 0
-  pub others : OthersKeep thread before after
+  pub others : OthersKeep share_of thread before after
 
--- whether whoever waits on the condition may go on, where so many shares are taken
-abbrev pub is_ready_for : ℕ → ℕ → Bool
-is_ready_for cond taken = if cond == MAY_READ then nat_lt taken ALL else taken == 0
+-- whoever waits on the condition may go on where fewer shares than so many are taken
+abbrev pub limit_of : ℕ → ℕ
+limit_of cond = if cond == MAY_READ then ALL else 1
 
 -- as it has seen the room last, the pass's thread has a share of it
 abbrev pub Reads : PassView Room → Type 0

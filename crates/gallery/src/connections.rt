@@ -6,8 +6,8 @@ ghost use Rattle.lot_sync.specs.Opened.{IsNamed};
 ghost use Rattle.lot_sync.specs.Words.{Adds};
 ghost use Rattle.gallery.specs.Leases.{LeaseWord, Leases, Holds, GivesBack};
 
-use crate::crew::{NOW, open};
-use lot_calls::{finish, leave_all, start_with_passes, work_together};
+use crate::crew::{NOW, end, open};
+use lot_calls::{start_with_passes, work_together};
 use lot_command::Failure;
 use lot_sync::{Held, Lot, LotName, Opened, Pass, Permit};
 use lot_words::Keeps;
@@ -164,10 +164,6 @@ fn run_on<N: LotName<Connection> + Send + Sync, T: Threads + Wait + Sync>(
         ensures { OwnsNone result }
     { pool.work(rt, pass) };
     let (passes, worked) = work_together(rt, &use_all, passes);
-    let room = leave_all(rt, &lot, passes);
-    let (values, _) = finish(rt, lot, room);
-    if !worked {
-        return Err(Failure::CannotStartWorker);
-    }
+    let values = end(rt, lot, passes, worked)?;
     Ok(values[0].used.wrapping_add(values[1].used))
 }

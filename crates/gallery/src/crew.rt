@@ -1,12 +1,16 @@
-//! What the programs share: how a lot is opened, and the moment of each unlock.
-ghost use Rattle.std.specs.Prelude.{◌≡◌, IfOk};
+//! What the programs share: how a lot is opened and ends, and the moment of each unlock.
+ghost use Rattle.std.specs.Prelude.{◌≡◌, ◌≤◌, IfOk, vec_len, vec_capacity};
+ghost use Rattle.std.specs.List.{All};
+ghost use Rattle.lot_calls.specs.Workers.{MayLeave};
 ghost use Rattle.lot_sync.specs.Opened.{KeepAll};
 
+use lot_calls::{finish, leave_all};
 use lot_command::Failure;
-use lot_sync::{Lot, Moment, Opened};
+use lot_sync::{Lot, LotName, Moment, Opened, Pass};
 use lot_words::Keeps;
 use std::alloc::Global;
 use std::marker::Brand;
+use std::sync::Wait;
 
 /// No release is asked to be fair, and no clock is read.
 pub const NOW: Moment = Moment { now: 0, word: 1 };
@@ -26,5 +30,25 @@ pub fn open<V: Keeps + Send>(
     match Lot::<V, Brand>::open_with(alloc, threads, values, conds, permits) {
         Ok(opened) => Ok(opened),
         Err(_) => Err(Failure::NoMemory),
+    }
+}
+
+/// Leaves with each pass, ends the lot, and answers its values, where the threads could be started to work.
+pub fn end<V: Keeps + Send + Drop, N: LotName<V> + Send, T: Wait>(
+    rt: &T,
+    lot: Lot<V, N>,
+    passes: Vec<Pass<V, N>>,
+    worked: bool,
+) -> Result<Vec<V>, Failure>
+    requires leave { All (MayLeave V.Keeps) passes.items }
+    requires room { lot.threads ≤ vec_capacity passes }
+    ensures { IfOk result (λ values. vec_len values ≡ lot.locks) }
+{
+    let room = leave_all(rt, &lot, passes);
+    let (values, _) = finish(rt, lot, room);
+    if worked {
+        Ok(values)
+    } else {
+        Err(Failure::CannotStartWorker)
     }
 }

@@ -5,8 +5,8 @@ ghost use Rattle.lot_sync.specs.Opened.{IsNamed};
 ghost use Rattle.gallery.specs.Meetings.{IsWithin, GoesOn, Arrives, SawAll};
 ghost use Rattle.gallery.specs.declared.latch.TheConstants.{ROUNDS};
 
-use crate::crew::{NOW, open};
-use lot_calls::{finish, leave_all, start_with_passes, work_together};
+use crate::crew::{NOW, end, open};
+use lot_calls::{start_with_passes, work_together};
 use lot_command::Failure;
 use lot_regions::{Ready, change, when};
 use lot_sync::{Lot, LotName, Opened, Pass};
@@ -45,11 +45,13 @@ impl Keeps for Meeting {
 }
 
 impl Ready for Meeting {
-    ghost use Rattle.gallery.specs.Meetings.{first_cond, behind_cond, have_all_come, conds_apart};
+    ghost use Rattle.lot_regions.specs.Conds.{first_cond, behind_cond};
+    ghost use Rattle.lot_regions.proofs.Conds.{conds_apart};
+    ghost use Rattle.gallery.specs.Meetings.{have_all_come};
 
-    ghost first = { first_cond };
+    ghost first = { first_cond ROUNDS 1 };
 
-    ghost behind = { behind_cond };
+    ghost behind = { behind_cond ROUNDS 1 };
 
     ghost ready = { λ cond meeting. have_all_come meeting };
 
@@ -65,7 +67,7 @@ impl Ready for Meeting {
         self.came >= self.size
     }
 
-    ghost apart = { conds_apart };
+    ghost apart = { conds_apart ROUNDS 1 };
 }
 
 impl Meeting {
@@ -169,11 +171,7 @@ fn run_on<N: LotName<Meeting> + Send + Sync, T: Threads + Wait + Sync>(
         ensures { OwnsNone result }
     { place.work(rt, pass) };
     let (passes, worked) = work_together(rt, &meet_all, passes);
-    let room = leave_all(rt, &lot, passes);
-    let (values, _) = finish(rt, lot, room);
-    if !worked {
-        return Err(Failure::CannotStartWorker);
-    }
+    let values = end(rt, lot, passes, worked)?;
     let add = |sum: u64, meeting: &Meeting| sum.wrapping_add(meeting.came);
     Ok(values.iter().fold(0u64, add))
 }

@@ -3,8 +3,8 @@ ghost use Rattle.std.specs.Prelude.{◌≡◌, ◌*◌, ◌%◌, ◌<◌, length
 ghost use Rattle.lot_sync.specs.Lot.{OwnsNone};
 ghost use Rattle.lot_sync.specs.Opened.{IsNamed};
 
-use crate::crew::{NOW, open};
-use lot_calls::{finish, leave_all, start_with_passes, with_lock, work_together};
+use crate::crew::{NOW, end, open};
+use lot_calls::{start_with_passes, with_lock, work_together};
 use lot_command::Failure;
 use lot_sync::{Lot, LotName, Opened, Pass};
 use lot_words::Keeps;
@@ -168,11 +168,7 @@ fn run_on<N: LotName<Shard> + Send + Sync, T: Threads + Wait + Sync>(
         ensures { OwnsNone result }
     { memo.work(rt, pass) };
     let (passes, worked) = work_together(rt, &ask_all, passes);
-    let room = leave_all(rt, &lot, passes);
-    let (shards, _) = finish(rt, lot, room);
-    if !worked {
-        return Err(Failure::CannotStartWorker);
-    }
+    let shards = end(rt, lot, passes, worked)?;
     Ok(sum_of(&shards))
 }
 

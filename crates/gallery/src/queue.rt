@@ -1,12 +1,12 @@
 //! A bounded queue: what comes out went in, each once, in order.
-ghost use Rattle.std.specs.Prelude.{◌≡◌, ◌+◌, ◌-◌, ◌^◌, ◌≤◌, ◌<◌, [], ◌∷◌, ◌++◌, length, slice_get, Some};
+ghost use Rattle.std.specs.Prelude.{◌≡◌, ◌+◌, ◌^◌, ◌<◌, [], ◌∷◌, ◌++◌, length};
 ghost use Rattle.std.specs.VecDeque.{deque_len, deque_capacity};
 ghost use Rattle.lot_sync.specs.Lot.{OwnsNone, HasSeen};
 ghost use Rattle.lot_sync.specs.Opened.{IsNamed};
 ghost use Rattle.gallery.specs.Lines.{LiesOn, Follows, has_room_for};
 
-use crate::crew::{NOW, open};
-use lot_calls::{finish, leave_all, start_with_passes, work_together};
+use crate::crew::{NOW, end, open};
+use lot_calls::{start_with_passes, work_together};
 use lot_command::Failure;
 use lot_regions::{Ready, when};
 use lot_sync::{Lot, LotName, Opened, Pass};
@@ -53,11 +53,13 @@ impl<T: Drop> Keeps for Line<T> {
 }
 
 impl<T: Drop> Ready for Line<T> {
-    ghost use Rattle.gallery.specs.Lines.{first_cond, behind_cond, is_ready_for, conds_apart};
+    ghost use Rattle.lot_regions.specs.Conds.{first_cond, behind_cond};
+    ghost use Rattle.lot_regions.proofs.Conds.{conds_apart};
+    ghost use Rattle.gallery.specs.Lines.{is_ready_for};
 
-    ghost first = { first_cond };
+    ghost first = { first_cond 1 2 };
 
-    ghost behind = { behind_cond };
+    ghost behind = { behind_cond 1 2 };
 
     ghost ready = { λ cond line. is_ready_for cond (deque_len line.items) (deque_capacity line.items)
         (line.taken + length line.items.items) };
@@ -78,7 +80,7 @@ impl<T: Drop> Ready for Line<T> {
         }
     }
 
-    ghost apart = { conds_apart };
+    ghost apart = { conds_apart 1 2 };
 }
 
 impl<T: Drop> Line<T> {
@@ -203,10 +205,6 @@ fn run_on<N: LotName<Line<u64>> + Send + Sync, T: Threads + Wait + Sync>(
         ensures { OwnsNone result }
     { work(rt, &queue, pass) };
     let (passes, worked) = work_together(rt, &use_all, passes);
-    let room = leave_all(rt, &lot, passes);
-    let (values, _) = finish(rt, lot, room);
-    if !worked {
-        return Err(Failure::CannotStartWorker);
-    }
+    let values = end(rt, lot, passes, worked)?;
     Ok(values[LINE].taken)
 }

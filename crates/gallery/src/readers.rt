@@ -4,8 +4,8 @@ ghost use Rattle.lot_sync.specs.Lot.{OwnsNone};
 ghost use Rattle.lot_sync.specs.Opened.{IsNamed};
 ghost use Rattle.gallery.specs.Rooms.{IsFair, Takes, GivesBack, Reads, Writes, IsGuest};
 
-use crate::crew::{NOW, open};
-use lot_calls::{finish, leave_all, start_with_passes, work_together};
+use crate::crew::{NOW, end, open};
+use lot_calls::{start_with_passes, work_together};
 use lot_command::Failure;
 use lot_regions::{Ready, change, when};
 use lot_sync::{Lot, LotName, Opened, Pass};
@@ -55,13 +55,14 @@ impl Keeps for Room {
 impl Ready for Room {
     ghost use Rattle.lot_regions.specs.Conds.{first_cond, behind_cond};
     ghost use Rattle.lot_regions.proofs.Conds.{conds_apart};
-    ghost use Rattle.gallery.specs.Rooms.{is_ready_for};
+    ghost use Rattle.std.specs.Prelude.{nat_lt};
+    ghost use Rattle.gallery.specs.Rooms.{limit_of};
 
     ghost first = { first_cond 1 2 };
 
     ghost behind = { behind_cond 1 2 };
 
-    ghost ready = { λ cond room. is_ready_for cond room.taken };
+    ghost ready = { λ cond room. nat_lt room.taken (limit_of cond) };
 
     fn first_of(key: usize) -> usize {
         MAY_READ + 2 * key
@@ -72,11 +73,7 @@ impl Ready for Room {
     }
 
     fn is_ready(&self, cond: usize) -> bool {
-        if cond == MAY_READ {
-            self.taken < ALL
-        } else {
-            self.taken == 0
-        }
+        self.taken < if cond == MAY_READ { ALL } else { 1 }
     }
 
     ghost apart = { conds_apart 1 2 };
@@ -106,25 +103,17 @@ impl Room {
 }
 
 /// What the lock guards: two numbers that a writer leaves alike; and how often a reader found them so.
-#[derive(Drop)]
-struct Text {
-    numbers: [AtomicU64; 2],
-    alike: AtomicU64,
+type Text = [AtomicU64; 3];
+
+fn read([first, second, alike]: &Text) {
+    if first.load(Ordering::SeqCst) == second.load(Ordering::SeqCst) {
+        alike.fetch_add(1, Ordering::SeqCst);
+    }
 }
 
-impl Text {
-    fn read(&self) {
-        let [first, second] = &self.numbers;
-        if first.load(Ordering::SeqCst) == second.load(Ordering::SeqCst) {
-            self.alike.fetch_add(1, Ordering::SeqCst);
-        }
-    }
-
-    fn write(&self) {
-        for number in self.numbers.iter() {
-            number.fetch_add(1, Ordering::SeqCst);
-        }
-    }
+fn write([first, second, _]: &Text) {
+    first.fetch_add(1, Ordering::SeqCst);
+    second.fetch_add(1, Ordering::SeqCst);
 }
 
 /// The right of a thread that comes to the room.
@@ -177,10 +166,10 @@ impl<N: LotName<Room> + Send> Door<'_, N> {
         for _ in 0..100u64 {
             if pass.thread() % 2 == 0 {
                 pass = self.begin_reading(rt, pass);
-                text.read();
+                read(text);
             } else {
                 pass = self.begin_writing(rt, pass);
-                text.write();
+                write(text);
             }
             pass = self.end(rt, pass);
         }
@@ -205,10 +194,8 @@ pub fn check_alone<N: LotName<Room> + Send>(
 
 /// Two threads read, and two write. Answers how often a reader found both numbers alike.
 pub fn run<T: Threads + Wait + Sync>(rt: &T, alloc: Global) -> Result<u64, Failure> {
-    let values = vec![in alloc; Room {
-        shares: [0; THREADS],
-        taken: 0
-    }; 1]?;
+    let shares = [0; THREADS];
+    let values = vec![in alloc; Room { shares, taken: 0 }; 1]?;
     let opened = open(alloc, THREADS, values, 2, &[])?;
     run_on::<Brand, T>(rt, alloc, opened)
 }
@@ -225,19 +212,12 @@ fn run_on<N: LotName<Room> + Send + Sync, T: Threads + Wait + Sync>(
         return Err(Failure::NoMemory);
     };
     let door = Door { lot: &lot };
-    let text = Text {
-        numbers: [AtomicU64::new(0), AtomicU64::new(0)],
-        alike: AtomicU64::new(0),
-    };
+    let text = [AtomicU64::new(0), AtomicU64::new(0), AtomicU64::new(0)];
     let come = |pass: User<N>| -> User<N>
         requires { IsGuest pass }
         ensures { IsGuest result }
     { door.work(rt, &text, pass) };
     let (passes, worked) = work_together(rt, &come, passes);
-    let room = leave_all(rt, &lot, passes);
-    finish(rt, lot, room);
-    if !worked {
-        return Err(Failure::CannotStartWorker);
-    }
-    Ok(text.alike.load(Ordering::SeqCst))
+    end(rt, lot, passes, worked)?;
+    Ok(text[2].load(Ordering::SeqCst))
 }

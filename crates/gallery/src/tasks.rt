@@ -1,13 +1,12 @@
-//! A pool of workers with a queue of tasks: the oldest is taken first, and what is not done yet lies there or is in hand.
-//! All is said by sums of the tasks' numbers.
-ghost use Rattle.std.specs.Prelude.{◌≡◌, ◌<◌, ◌≤◌, IfOk, length, vec_len, vec_capacity, true};
-ghost use Rattle.std.specs.List.{All};
+//! A pool of workers with a queue of tasks: each task is taken once, none is lost, and what is done is counted.
+ghost use Rattle.std.specs.Prelude.{◌≡◌, ◌<◌, ◌≤◌, IfOk, Some, length, slice_get, vec_len, vec_capacity};
+ghost use Rattle.lot_sync.specs.Lot.{HasSeen};
 ghost use Rattle.lot_sync.specs.Opened.{IsNamed};
-ghost use Rattle.gallery.specs.Tasks.{IsWhole, IsNew, Takes, Finishes, IsWorker, HasNone, HasWaited};
-ghost use Rattle.gallery.specs.Tasks.{in_hand_of, own_task};
+ghost use Rattle.gallery.specs.Tasks.{IsWhole, IsNew, AllDone, Takes, Finishes, IsWorker, HasInHand, HasWaited};
+ghost use Rattle.gallery.specs.Tasks.{in_hand_of, AllBelow};
 
 use crate::crew::{NOW, open};
-use lot_calls::{close_with, start_with_room, take_all, work_together};
+use lot_calls::{close_with, start_with_room, take_all, work_all};
 use lot_command::Failure;
 use lot_regions::{Ready, change, when};
 use lot_sync::{Lot, LotName, Opened, Pass};
@@ -23,53 +22,46 @@ const TASKS: usize = 200;
 
 const WORKERS: usize = 4;
 
-/// The lock of the pool, and its condition: no task lies there, and no worker has one.
+/// The lock of the pool, and its condition: each task was done.
 const POOL: usize = 0;
 
 const ALL_DONE: usize = 1;
 
-/// What all tasks come to.
-const TOTAL: u64 = 19_900;
-
-/// The tasks that lie in the queue, the oldest first; which each worker has in hand; and what those that are done come
-/// to.
+/// The tasks that lie in the queue, the oldest first; which each worker has in hand, `TASKS` where it has none; and how
+/// often each was done.
 #[derive(Drop)]
 pub struct Pool {
-    tasks: VecDeque<u64>,
-    in_hand: [u64; WORKERS],
-    done: u64,
+    tasks: VecDeque<usize>,
+    in_hand: [usize; WORKERS],
+    times: Vec<u64>,
 }
 
 impl Keeps for Pool {
-    ghost use Rattle.std.specs.Prelude.{◌≡◌, ◌≤◌};
-    ghost use Rattle.std.proofs.Common.{le_refl, le_trans};
-    ghost use Rattle.gallery.specs.Tasks.{IsWhole, in_hand_of, own_task};
+    ghost use Rattle.gallery.specs.Tasks.{IsWhole, in_hand_of};
 
-    type Part = u64;
+    type Part = usize;
 
     ghost keeps = { λ key pool. IsWhole pool };
 
-    ghost grows = { λ old new. old.done ≤ new.done };
+    ghost grows = { λ old new. Unit {0} };
 
     ghost part = { in_hand_of };
 
-    ghost rests = { λ rested. own_task rested.thread rested.seen ≡ 0 };
+    ghost grows_itself = { λ pool. tt };
 
-    ghost grows_itself = { λ pool. le_refl pool.done };
-
-    ghost grows_on = { λ x y z p q. le_trans p q };
+    ghost grows_on = { λ x y z p q. tt };
 }
 
 impl Ready for Pool {
     ghost use Rattle.lot_regions.specs.Conds.{first_cond, behind_cond};
     ghost use Rattle.lot_regions.proofs.Conds.{conds_apart};
-    ghost use Rattle.gallery.specs.Tasks.{is_idle};
+    ghost use Rattle.gallery.specs.Tasks.{are_done};
 
     ghost first = { first_cond 1 1 };
 
     ghost behind = { behind_cond 1 1 };
 
-    ghost ready = { λ cond pool. is_idle pool.tasks.items pool.in_hand };
+    ghost ready = { λ cond pool. are_done pool.times.items };
 
     fn first_of(key: usize) -> usize {
         ALL_DONE + key
@@ -80,7 +72,7 @@ impl Ready for Pool {
     }
 
     fn is_ready(&self, cond: usize) -> bool {
-        self.tasks.is_empty() && self.in_hand.iter().all(|task| *task == 0)
+        self.times.iter().all(|times| *times > 0)
     }
 
     ghost apart = { conds_apart 1 1 };
@@ -88,10 +80,10 @@ impl Ready for Pool {
 
 impl Pool {
     /// The worker, who has none, takes the oldest task, where one lies there.
-    fn take(&mut self, thread: usize) -> Option<u64>
+    fn take(&mut self, thread: usize) -> Option<usize>
         requires thread { thread < WORKERS }
         requires whole { IsWhole self.old }
-        requires idle { in_hand_of thread self.old ≡ 0 }
+        requires idle { in_hand_of thread self.old ≡ TASKS }
         ensures { Takes thread self.old result self.new }
     {
         let task = self.tasks.pop_front()?;
@@ -99,14 +91,17 @@ impl Pool {
         Some(task)
     }
 
-    /// The worker has done its task.
+    /// The worker has done its task, if any.
     fn finish(&mut self, thread: usize)
         requires thread { thread < WORKERS }
         requires whole { IsWhole self.old }
         ensures { Finishes thread self.old self.new }
     {
-        self.done += self.in_hand[thread];
-        self.in_hand[thread] = 0;
+        let task = self.in_hand[thread];
+        self.in_hand[thread] = TASKS;
+        if task < TASKS {
+            self.times[task] += 1;
+        }
     }
 }
 
@@ -118,16 +113,15 @@ pub fn take<N: LotName<Pool> + Send, T: Wait>(
     rt: &T,
     lot: &Lot<Pool, N>,
     pass: Worker<N>,
-) -> (Worker<N>, Option<u64>)
+) -> (Worker<N>, Option<usize>)
     requires worker { IsWorker lot.now pass }
-    requires idle { HasNone pass }
+    requires idle { HasInHand pass TASKS }
     ensures worker { IsWorker lot.now result.0 × (result.0.thread ≡ pass.thread) }
-    ensures takes { (before : Pool) × (after : Pool) × Takes pass.thread before result.1 after
-        × (own_task result.0.thread result.0.seen ≡ in_hand_of pass.thread after) }
+    ensures takes { (before : Pool) × (after : Pool) × HasSeen result.0 POOL after
+        × Takes pass.thread before result.1 after }
 {
     let thread = pass.thread();
-    let take = |pool: &mut Pool| pool.take(thread);
-    change(rt, lot, pass, POOL, NOW, take)
+    change(rt, lot, pass, POOL, NOW, |pool| pool.take(thread))
 }
 
 /// The worker has done the task that it has in hand, if any.
@@ -137,75 +131,79 @@ pub fn finish<N: LotName<Pool> + Send, T: Wait>(
     pass: Worker<N>,
 ) -> Worker<N>
     requires worker { IsWorker lot.now pass }
-    ensures worker { IsWorker lot.now result × HasNone result × (result.thread ≡ pass.thread) }
-    ensures finishes { (before : Pool) × (after : Pool) × Finishes pass.thread before after
-        × (own_task pass.thread pass.seen ≡ in_hand_of pass.thread before) }
+    ensures worker { IsWorker lot.now result × (result.thread ≡ pass.thread) }
+    ensures idle { HasInHand result TASKS }
+    ensures finishes { (before : Pool) × (after : Pool) × HasSeen result POOL after
+        × HasInHand pass (in_hand_of pass.thread before) × Finishes pass.thread before after }
 {
     let thread = pass.thread();
-    let finish = |pool: &mut Pool| pool.finish(thread);
-    change(rt, lot, pass, POOL, NOW, finish).0
+    change(rt, lot, pass, POOL, NOW, |pool| pool.finish(thread)).0
 }
 
-/// A worker does tasks as long as some lie there, and then waits until all are done.
+/// A worker does tasks as long as some lie there, and then waits until all are done: for those alone that others have
+/// in hand, who have begun and don't wait.
 fn work<N: LotName<Pool> + Send, T: Wait>(rt: &T, lot: &Lot<Pool, N>, pass: Worker<N>) -> Worker<N>
     requires worker { IsWorker lot.now pass }
-    requires idle { HasNone pass }
     ensures { HasWaited lot.now pass result }
 {
     let mut pass = pass;
     for _ in rt.forever() {
-        let (taken, task) = take(rt, lot, pass);
-        pass = finish(rt, lot, taken);
+        let (taken, task) = take(rt, lot, finish(rt, lot, pass));
+        pass = taken;
         if task.is_none() {
-            return when(rt, lot, pass, POOL, ALL_DONE, NOW, |_: &mut Pool| {}).0;
+            return when(rt, lot, pass, POOL, ALL_DONE, NOW, |_| {}).0;
         }
     }
     unreachable!()
 }
 
-/// Four workers do all tasks, and the lot ends. Answers whether they could be started: then all tasks are done; else
-/// whatever is not done is in hand or lies there.
+/// The workers do all tasks, and the lot ends: each task was done once.
 pub fn do_all<N: LotName<Pool> + Send + Sync, T: Threads + Wait + Sync>(
     rt: &T,
     mut lot: Lot<Pool, N>,
     mut passes: Vec<Worker<N>>,
-) -> (Vec<Pool>, bool)
+) -> Vec<Pool>
     requires sizes { (lot.locks ≡ 1) × (lot.conds ≡ 1) × (lot.threads ≡ WORKERS) }
     requires room { (vec_len passes ≡ 0) × (lot.threads ≤ vec_capacity passes) }
-    ensures one { vec_len result.0 ≡ 1 }
-    ensures whole { All IsWhole result.0.items }
-    ensures done { (result.1 ≡ true) → All (λ pool. pool.done ≡ TOTAL) result.0.items }
+    ensures one { vec_len result ≡ 1 }
+    ensures done { (pool : Pool) → slice_get result.items POOL ≡ Some pool → AllDone pool }
 {
     take_all(rt, &mut lot, &mut passes);
     let do_tasks = |pass: Worker<N>| -> Worker<N>
-        requires { IsWorker lot pass × HasNone pass }
+        requires { IsWorker lot pass }
         ensures { HasWaited lot pass result }
     { work(rt, &lot, pass) };
-    let (passes, worked) = work_together(rt, &do_tasks, passes);
-    (close_with(rt, lot, passes).0, worked)
+    work_all(rt, &do_tasks, &mut passes);
+    close_with(rt, lot, passes).0
+}
+
+/// All tasks, in order.
+fn all_tasks(alloc: Global) -> Result<VecDeque<usize>, AllocError>
+    ensures { IfOk result (λ tasks. AllBelow TASKS tasks.items) }
+{
+    let mut tasks = VecDeque::with_capacity(alloc, TASKS)?;
+    for task in 0..TASKS {
+        tasks.push_back_reserved(task);
+    }
+    Ok(tasks)
 }
 
 /// All tasks lie there.
-#[tactic(auto, using(crate::proofs::Doing::one_more))]
 fn new_pool(alloc: Global) -> Result<Pool, AllocError>
-    ensures { IfOk result IsNew }
+    ensures whole { IfOk result IsWhole }
+    ensures new { IfOk result IsNew }
 {
-    let mut tasks = VecDeque::with_capacity(alloc, TASKS)?;
-    for task in 0..TASKS as u64 {
-        tasks.push_back_reserved(task);
-    }
     Ok(Pool {
-        tasks,
-        in_hand: [0; WORKERS],
-        done: 0,
+        tasks: all_tasks(alloc)?,
+        in_hand: [TASKS; WORKERS],
+        times: vec![in alloc; 0; TASKS]?,
     })
 }
 
-/// Workers do all tasks. Answers what those that are done come to.
+/// Workers do all tasks. Answers how many were done just once.
 pub fn run<T: Threads + Wait + Sync>(rt: &T, alloc: Global) -> Result<u64, Failure> {
-    let pool = new_pool(alloc)?;
     let mut values = Vec::with_capacity(alloc, 1)?;
-    values.push_reserved(pool);
+    values.push_reserved(new_pool(alloc)?);
     let opened = open(alloc, WORKERS, values, 1, &[])?;
     run_on::<Brand, T>(rt, alloc, opened)
 }
@@ -217,15 +215,11 @@ fn run_on<N: LotName<Pool> + Send + Sync, T: Threads + Wait + Sync>(
 ) -> Result<u64, Failure>
     requires named { IsNamed N.LotName opened }
     requires sizes { (opened.threads ≡ WORKERS) × (length opened.values ≡ 1) × (opened.conds ≡ 1) }
-    requires new { All IsNew opened.values }
 {
     let Ok((lot, room)) = start_with_room::<Pool, N>(alloc, WORKERS, opened) else {
         return Err(Failure::NoMemory);
     };
-    let (pools, worked) = do_all(rt, lot, room);
-    if worked {
-        Ok(pools[POOL].done)
-    } else {
-        Err(Failure::CannotStartWorker)
-    }
+    let pools = do_all(rt, lot, room);
+    let once = |times: &&u64| **times == 1;
+    Ok(pools[POOL].times.iter().filter(once).count() as u64)
 }
