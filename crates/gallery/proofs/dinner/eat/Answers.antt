@@ -1,4 +1,4 @@
-use Rattle.std.proofs.Common.{◌≡◌, ◌<◌, ap, subst, arith, refl}
+use Rattle.std.proofs.Common.{◌≡◌, ap, subst, arith, refl}
 use Rattle.lot_sync.specs.Lot.{PassView}
 use Rattle.lot_calls.proofs.Nesting.{back_first, visits_both, free_after_both}
 use Rattle.gallery.specs.declared.dinner.Fork.{Fork}
