@@ -6,7 +6,7 @@ ghost use Rattle.lot_sync.specs.Words.{Adds};
 ghost use Rattle.lot_calls.specs.Words.{BothWord, NestedWord};
 ghost use Rattle.lot_calls.specs.Visits.{MayBecome, Finds, VisitsBoth};
 
-use lot_sync::{Lot, LotName, Moment, Pass};
+use lot_sync::{Lot, LotName, Moment, Pass, Tally};
 use lot_words::Keeps;
 use std::sync::Wait;
 
@@ -14,9 +14,16 @@ use std::sync::Wait;
 /// `let (pass, ()) = with_both(rt, lot, pass, 3, 1, now, |a, b| swap(a, b));`. The lock with the lower number is got
 /// first and let go last, so no two threads that get two locks so wait for one another. Of both values the work may take
 /// what the pass knows of them (`Finds`).
-pub fn with_both<V: Keeps + Send, O, N: LotName<V> + Send, T: Wait, F: FnOnce(&mut V, &mut V) -> O>(
+pub fn with_both<
+    V: Keeps + Send,
+    O,
+    N: LotName<V> + Send,
+    C: Tally + Send,
+    T: Wait,
+    F: FnOnce(&mut V, &mut V) -> O,
+>(
     rt: &T,
-    lot: &Lot<V, N>,
+    lot: &Lot<V, N, C>,
     pass: Pass<V, N>,
     first: usize,
     second: usize,
@@ -62,9 +69,16 @@ fn turned_call<V, O, F: FnOnce(&mut V, &mut V) -> O>(work: F, b: &mut V, a: &mut
 }
 
 /// The same, where the first is got first.
-fn with_two<V: Keeps + Send, O, N: LotName<V> + Send, T: Wait, F: FnOnce(&mut V, &mut V) -> O>(
+fn with_two<
+    V: Keeps + Send,
+    O,
+    N: LotName<V> + Send,
+    C: Tally + Send,
+    T: Wait,
+    F: FnOnce(&mut V, &mut V) -> O,
+>(
     rt: &T,
-    lot: &Lot<V, N>,
+    lot: &Lot<V, N, C>,
     pass: Pass<V, N>,
     first: usize,
     second: usize,

@@ -8,14 +8,15 @@ ghost use Rattle.lot_sync.specs.Values.{AreSeen};
 ghost use Rattle.lot_sync.specs.Closing.{HasOneRun};
 ghost use Rattle.lot_calls.specs.Workers.{EachBecomes, AreBack, EndsIn};
 
-use lot_sync::{Ledger, Lot, LotName, Pass};
+use lot_sync::{Ledger, Lot, LotName, Pass, Tally};
 use lot_words::Keeps;
 use std::sync::Wait;
 use std::thread::{Threads, join_mut};
 
 /// Does the work with each, in a thread of its own where one can be started: what the work gave back lies in its place
-/// then. `work_all(rt, &|pass| count(rt, &lot, pass), &mut passes);`. What one waits for may not be another's to do,
-/// except that it lets a lock go: else call `work_together`, which may find that a thread can't be started.
+/// then. `work_all(rt, &|pass| count(rt, &lot, pass), &mut passes);`. One thread may do two of them, one after the other.
+/// So what one waits for has to be in hand already, as a lock that another will let go, or work that it has begun: else
+/// call `work_together`, which may find that a thread can't be started.
 #[cycle(workers)]
 pub fn work_all<P: Send, T: Threads + Sync, F: Fn(P) -> P + Sync>(
     rt: &T,
@@ -73,9 +74,9 @@ fn work_here<P, F: Fn(P) -> P>(work: &F, here: &mut Option<P>)
 
 /// Closes the lot with the passes of all threads: `let (values, ledger) = close_with(rt, lot, passes);`. What each pass
 /// had seen ended in the values, and some pass saw each of them last.
-pub fn close_with<V: Keeps + Send, N: LotName<V> + Send, T: Wait>(
+pub fn close_with<V: Keeps + Send, N: LotName<V> + Send, C: Tally + Send, T: Wait>(
     rt: &T,
-    lot: Lot<V, N>,
+    lot: Lot<V, N, C>,
     passes: Vec<Pass<V, N>>,
 ) -> (Vec<V>, Ledger)
     requires back { AreBack lot passes.items }

@@ -2,7 +2,7 @@
 ghost use Rattle.std.specs.Prelude.{◌≡◌, ◌≤◌, vec_len, vec_capacity};
 ghost use Rattle.lot_calls.specs.Finished.{IsReady, AreTaken, IsFinished};
 
-use lot_sync::{Ledger, Lot, LotName, Pass};
+use lot_sync::{Ledger, Lot, LotName, Pass, Tally};
 use lot_words::Keeps;
 use std::sync::Wait;
 use std::thread;
@@ -11,9 +11,9 @@ use std::thread;
 /// answers the value of each lock, in order, and the ledger of the conditions:
 /// `let (values, ledger) = finish(rt, lot, Vec::with_capacity(alloc, threads)?);`. While a pass is out it never
 /// returns.
-pub fn finish<V: Keeps + Send, N: LotName<V> + Send, T: Wait>(
+pub fn finish<V: Keeps + Send, N: LotName<V> + Send, C: Tally + Send, T: Wait>(
     rt: &T,
-    mut lot: Lot<V, N>,
+    mut lot: Lot<V, N, C>,
     mut passes: Vec<Pass<V, N>>,
 ) -> (Vec<V>, Ledger)
     requires room { (vec_len passes ≡ 0) × (lot.threads ≤ vec_capacity passes) }
@@ -27,9 +27,9 @@ pub fn finish<V: Keeps + Send, N: LotName<V> + Send, T: Wait>(
 
 /// Takes the passes of all threads, when all are in, into the list, which has room for them, in order:
 /// `take_all(rt, &mut lot, &mut passes);`. While one is out it never returns.
-pub fn take_all<V: Keeps + Send, N: LotName<V> + Send, T: Wait>(
+pub fn take_all<V: Keeps + Send, N: LotName<V> + Send, C: Tally + Send, T: Wait>(
     rt: &T,
-    lot: &mut Lot<V, N>,
+    lot: &mut Lot<V, N, C>,
     passes: &mut Vec<Pass<V, N>>,
 )
     requires room { (vec_len passes.old ≡ 0) × (lot.old.threads ≤ vec_capacity passes.old) }
@@ -44,9 +44,9 @@ pub fn take_all<V: Keeps + Send, N: LotName<V> + Send, T: Wait>(
 }
 
 /// Takes the pass of one thread, which is the least that is in: where it is another's, this never returns.
-fn take_pass<V: Keeps + Send, N: LotName<V> + Send, T: Wait>(
+fn take_pass<V: Keeps + Send, N: LotName<V> + Send, C: Tally + Send, T: Wait>(
     rt: &T,
-    lot: &mut Lot<V, N>,
+    lot: &mut Lot<V, N, C>,
     thread: usize,
 ) -> Pass<V, N>
     ensures same { lot.new ≡ lot.old }

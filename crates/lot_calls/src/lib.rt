@@ -16,6 +16,7 @@
 //! | `close_with` | `close` with passes that came back from such work |
 //! | `start_with_room` | `start`, and room for all passes |
 //! | `start_with_passes` | `start_with_room`, and `register` for each thread |
+//! | `start_counting_with_passes` | `start_counting`, and the same |
 //! | `leave_all` | `leave` with each of a list of passes |
 #![tactic(auto)]
 
@@ -33,4 +34,4 @@ pub use finishing::{finish, take_all};
 pub use together::work_together;
 pub use until::{lock_until, wait_until};
 pub use with::{with_lock, with_value};
-pub use workers::{leave_all, start_with_passes, start_with_room};
+pub use workers::{leave_all, start_counting_with_passes, start_with_passes, start_with_room};

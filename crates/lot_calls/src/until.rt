@@ -9,16 +9,22 @@ ghost use Rattle.lot_calls.specs.Words.{GetAfterWord};
 ghost use Rattle.lot_calls.specs.Visits.{Finds};
 ghost use Rattle.lot_calls.specs.Waits.{WaitsOn, WaitsWhile, GetsAfter};
 
-use lot_sync::{Held, Lot, LotName, Moment, Pass};
+use lot_sync::{Held, Lot, LotName, Moment, Pass, Tally};
 use lot_words::Keeps;
 use std::sync::Wait;
 
 /// Waits on the condition until the value is as wanted:
 /// `let (pass, held) = wait_until(rt, lot, pass, held, NOT_EMPTY, now, |q| !q.is_empty());`. Where it is so already
 /// there is no wait, and each wait begins with a value that is not. The moment is that of the unlock in each wait.
-pub fn wait_until<V: Keeps + Send, N: LotName<V> + Send, T: Wait, F: Fn(&V) -> bool>(
+pub fn wait_until<
+    V: Keeps + Send,
+    N: LotName<V> + Send,
+    C: Tally + Send,
+    T: Wait,
+    F: Fn(&V) -> bool,
+>(
     rt: &T,
-    lot: &Lot<V, N>,
+    lot: &Lot<V, N, C>,
     pass: Pass<V, N>,
     held: Held<V, N>,
     cond: usize,
@@ -53,9 +59,15 @@ pub fn wait_until<V: Keeps + Send, N: LotName<V> + Send, T: Wait, F: Fn(&V) -> b
 
 /// Gets the lock when its value is as wanted: `lock`, and then `wait_until`, which does not wait where the value that was
 /// found is so already.
-pub fn lock_until<V: Keeps + Send, N: LotName<V> + Send, T: Wait, F: Fn(&V) -> bool>(
+pub fn lock_until<
+    V: Keeps + Send,
+    N: LotName<V> + Send,
+    C: Tally + Send,
+    T: Wait,
+    F: Fn(&V) -> bool,
+>(
     rt: &T,
-    lot: &Lot<V, N>,
+    lot: &Lot<V, N, C>,
     pass: Pass<V, N>,
     key: usize,
     cond: usize,

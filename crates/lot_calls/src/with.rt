@@ -6,7 +6,7 @@ ghost use Rattle.lot_sync.specs.Words.{Adds};
 ghost use Rattle.lot_calls.specs.Words.{VisitWord};
 ghost use Rattle.lot_calls.specs.Visits.{MayBecome, Finds, Visits};
 
-use lot_sync::{Lot, LotName, Moment, Pass};
+use lot_sync::{Lot, LotName, Moment, Pass, Tally};
 use lot_words::Keeps;
 use std::sync::Wait;
 
@@ -15,9 +15,16 @@ use std::sync::Wait;
 /// that lie below this lock in the order of `V`. It waits as `lock` and `unlock` do, and the moment is that of the
 /// unlock. Of the value that it finds the work may take what the pass knows of it (`Finds`): it goes on from all that
 /// the pass had seen of it, and has its own part unchanged.
-pub fn with_lock<V: Keeps + Send, O, N: LotName<V> + Send, T: Wait, F: FnOnce(&mut V) -> O>(
+pub fn with_lock<
+    V: Keeps + Send,
+    O,
+    N: LotName<V> + Send,
+    C: Tally + Send,
+    T: Wait,
+    F: FnOnce(&mut V) -> O,
+>(
     rt: &T,
-    lot: &Lot<V, N>,
+    lot: &Lot<V, N, C>,
     pass: Pass<V, N>,
     key: usize,
     moment: Moment,
@@ -42,9 +49,16 @@ pub fn with_lock<V: Keeps + Send, O, N: LotName<V> + Send, T: Wait, F: FnOnce(&m
 
 /// `with_lock` for work that takes the value and gives one back:
 /// `let (pass, n) = with_value(rt, lot, pass, 0, now, |v| (v.next(), v.n));`.
-pub fn with_value<V: Keeps + Send, O, N: LotName<V> + Send, T: Wait, F: FnOnce(V) -> (V, O)>(
+pub fn with_value<
+    V: Keeps + Send,
+    O,
+    N: LotName<V> + Send,
+    C: Tally + Send,
+    T: Wait,
+    F: FnOnce(V) -> (V, O),
+>(
     rt: &T,
-    lot: &Lot<V, N>,
+    lot: &Lot<V, N, C>,
     pass: Pass<V, N>,
     key: usize,
     moment: Moment,

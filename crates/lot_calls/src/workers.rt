@@ -8,7 +8,7 @@ ghost use Rattle.lot_calls.specs.Finished.{IsReady};
 ghost use Rattle.lot_calls.specs.Workers.{MayLeave};
 
 use crate::finishing::finish;
-use lot_sync::{Lot, LotName, Opened, Pass};
+use lot_sync::{Contention, Lot, LotName, Opened, Pass, Tally};
 use lot_words::Keeps;
 use std::alloc::Global;
 use std::sync::Wait;
@@ -58,10 +58,53 @@ pub fn start_with_passes<V: Keeps + Send, N: LotName<V> + Send, T: Wait>(
     ensures all { IfOk result (λ r. (vec_len r.1 ≡ r.0.threads) × (r.0.threads ≤ vec_capacity r.1)) }
     ensures back { IfErr result (λ values. vec_len values ≡ length opened.values) }
 {
-    let (lot, room) = match start_with_room::<V, N>(alloc, threads, opened) {
-        Ok(started) => started,
-        Err(values) => return Err(values),
+    match start_with_room::<V, N>(alloc, threads, opened) {
+        Ok((lot, room)) => with_passes(rt, lot, room),
+        Err(values) => Err(values),
+    }
+}
+
+/// `start_with_passes` of a lot that counts how busy each key's line is, as `start_counting` has it:
+/// `start_counting_with_passes::<V, N, T>(rt, alloc, threads, opened)`.
+pub fn start_counting_with_passes<V: Keeps + Send, N: LotName<V> + Send, T: Wait>(
+    rt: &T,
+    alloc: Global,
+    threads: usize,
+    opened: Opened<V>,
+) -> Result<(Lot<V, N, Contention>, Vec<Pass<V, N>>), Vec<V>>
+    requires named { IsNamed N.LotName opened }
+    requires threads { opened.threads ≡ threads }
+    requires rests { (p : PassView V) → Starts opened.values opened.threads p → V.rests (rested p) }
+    ensures lot { IfOk result (λ r. (r.0.threads ≡ opened.threads) × (r.0.locks ≡ length opened.values)
+        × (r.0.conds ≡ opened.conds) × (r.0.sems ≡ length opened.permits)) }
+    ensures ready { IfOk result (λ r. All (IsReady V.Keeps N.values r.0) r.1.items) }
+    ensures all { IfOk result (λ r. (vec_len r.1 ≡ r.0.threads) × (r.0.threads ≤ vec_capacity r.1)) }
+    ensures back { IfErr result (λ values. vec_len values ≡ length opened.values) }
+{
+    let Ok(passes) = Vec::with_capacity(alloc, threads) else {
+        return Err(opened.close());
     };
+    match opened.start_counting::<N>(alloc) {
+        Ok(lot) => with_passes(rt, lot, passes),
+        Err((_, values)) => {
+            passes.destroy_empty();
+            Err(values)
+        }
+    }
+}
+
+/// Registers for each thread of the lot; where one gets no pass, ends the lot, and answers its values.
+fn with_passes<V: Keeps + Send, N: LotName<V> + Send, C: Tally + Send, T: Wait>(
+    rt: &T,
+    lot: Lot<V, N, C>,
+    room: Vec<Pass<V, N>>,
+) -> Result<(Lot<V, N, C>, Vec<Pass<V, N>>), Vec<V>>
+    requires room { (vec_len room ≡ 0) × (lot.threads ≤ vec_capacity room) }
+    ensures lot { IfOk result (λ r. r.0 ≡ lot) }
+    ensures ready { IfOk result (λ r. All (IsReady V.Keeps N.values r.0) r.1.items) }
+    ensures all { IfOk result (λ r. (vec_len r.1 ≡ r.0.threads) × (r.0.threads ≤ vec_capacity r.1)) }
+    ensures back { IfErr result (λ values. vec_len values ≡ lot.locks) }
+{
     let (passes, registered) = register_all(rt, &lot, room);
     if registered {
         Ok((lot, passes))
@@ -73,9 +116,9 @@ pub fn start_with_passes<V: Keeps + Send, N: LotName<V> + Send, T: Wait>(
 
 /// Registers for each thread of the lot, until one gets no pass, and answers whether all got one: the list has room for
 /// all passes.
-fn register_all<V: Keeps + Send, N: LotName<V> + Send, T: Wait>(
+fn register_all<V: Keeps + Send, N: LotName<V> + Send, C: Tally + Send, T: Wait>(
     rt: &T,
-    lot: &Lot<V, N>,
+    lot: &Lot<V, N, C>,
     mut passes: Vec<Pass<V, N>>,
 ) -> (Vec<Pass<V, N>>, bool)
     requires room { (vec_len passes ≡ 0) × (lot.now.threads ≤ vec_capacity passes) }
@@ -94,9 +137,9 @@ fn register_all<V: Keeps + Send, N: LotName<V> + Send, T: Wait>(
 
 /// Leaves with each pass, and gives the list back, whose room `finish` asks for:
 /// `let room = leave_all(rt, &lot, passes);`.
-pub fn leave_all<V: Keeps + Send, N: LotName<V> + Send, T: Wait>(
+pub fn leave_all<V: Keeps + Send, N: LotName<V> + Send, C: Tally + Send, T: Wait>(
     rt: &T,
-    lot: &Lot<V, N>,
+    lot: &Lot<V, N, C>,
     mut passes: Vec<Pass<V, N>>,
 ) -> Vec<Pass<V, N>>
     requires leave { All (MayLeave V.Keeps) passes.items }

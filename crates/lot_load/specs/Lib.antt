@@ -6,3 +6,4 @@ pub mod Numbers
 pub mod Classes
 pub mod Times
 pub mod Shares
+pub mod Hottest

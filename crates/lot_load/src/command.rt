@@ -1,5 +1,6 @@
 //! The command line: what is run, what is written where, and with which status it ends.
 
+use crate::contend::contend;
 use crate::count::{Counting, count};
 use crate::many::{MOST_LOCKS, Spreading, many};
 use crate::pool::{Pooling, pool};
@@ -25,6 +26,7 @@ lotstress count THREADS LOCKS ROUNDS SEED     threads count under locks; what ea
 lotstress relay THREADS ROUNDS SEED           producers and consumers at a buffer; what was put and taken
 lotstress pool THREADS PERMITS ROUNDS SEED    threads share permits; the rounds, and whether too many were in
 lotstress many THREADS KEYS ROUNDS SEED       threads count under many locks; what they counted, and their rounds
+lotstress contend THREADS LOCKS ROUNDS SEED   threads count under locks, some of them hot; which were waited for most
 lotstress replay FILE                         a script of the model; the state that it leaves
 lotstress witness FILE                        a script that says what was seen; whether it is a run of the model
 
@@ -95,6 +97,10 @@ fn run<T: Threads + Wait + Sync>(rt: &T, alloc: Global, words: &[&str]) -> Resul
         },
         "many" => match spreading(numbers) {
             Some(spreading) => many(rt, alloc, &spreading),
+            None => Err(Failure::BadCommandLine),
+        },
+        "contend" => match counting(numbers) {
+            Some(counting) => contend(rt, alloc, &counting),
             None => Err(Failure::BadCommandLine),
         },
         _ => Err(Failure::BadCommandLine),

@@ -5,6 +5,7 @@
 //! - `relay`: producers put numbers into a buffer, consumers take them, and both wait on conditions.
 //! - `pool`: workers share the permits of a semaphore.
 //! - `many`: workers lock one of many keys, count and unlock.
+//! - `contend`: workers count under locks of which some are hot; tells which locks they waited for.
 //! - `replay`: the events of a script are made in the model.
 //! - `witness`: the same, of a script that says what was seen, which the model judges.
 //!
@@ -15,6 +16,7 @@
 
 mod buffer;
 mod command;
+mod contend;
 pub mod count;
 pub mod counter;
 pub mod gate;

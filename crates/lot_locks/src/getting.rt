@@ -8,7 +8,7 @@ ghost use Rattle.lot_locks.specs.Standing.{IsAwakeFor, IsTryingFor, IsOwner, Get
 
 use crate::steps::HANDOFF;
 use lot_park::{BeforeSleep, Look, ParkingLot, Scheme, Seeking, Sought, Token, get_or_park};
-use lot_scheme::{LotName, LotScheme, NamedPass, NamedRoot};
+use lot_scheme::{LotName, LotScheme, NamedPass, NamedRoot, Tally};
 use lot_whole::Keeps;
 use lot_words::{HELD, HELD_AND_PARKED, PARKED, UNHELD};
 use std::hint;
@@ -25,14 +25,14 @@ const PAUSES: u32 = 8;
 pub struct Locks;
 
 /// Whether somebody owns the lock at some moment of this call.
-pub fn is_held<V: Keeps, N: LotName<V>>(scheme: &LotScheme<V, N>, key: usize) -> bool
+pub fn is_held<V: Keeps, N: LotName<V>, C: Tally>(scheme: &LotScheme<V, N, C>, key: usize) -> bool
     requires { key < N.locks }
 {
     scheme.lock_bits(key) & HELD != 0
 }
 
 /// Whether the lock is marked as parked at some moment of this call.
-pub fn is_parked<V: Keeps, N: LotName<V>>(scheme: &LotScheme<V, N>, key: usize) -> bool
+pub fn is_parked<V: Keeps, N: LotName<V>, C: Tally>(scheme: &LotScheme<V, N, C>, key: usize) -> bool
     requires { key < N.locks }
 {
     scheme.lock_bits(key) & PARKED != 0
@@ -41,8 +41,8 @@ pub fn is_parked<V: Keeps, N: LotName<V>>(scheme: &LotScheme<V, N>, key: usize) 
 /// Gets the lock where nobody owns it and nobody is marked as parked. Else the pass stands as before, and has looked.
 /// The answer is the word as it was: 0 where the lock is got.
 #[inline(always)]
-pub fn get_free<V: Keeps, N: LotName<V>>(
-    scheme: &LotScheme<V, N>,
+pub fn get_free<V: Keeps, N: LotName<V>, C: Tally>(
+    scheme: &LotScheme<V, N, C>,
     pass: NamedPass<V, N>,
     key: usize,
 ) -> (NamedPass<V, N>, u64)
@@ -59,8 +59,8 @@ pub fn get_free<V: Keeps, N: LotName<V>>(
 /// Gets the lock where nobody owns it: at once where nobody is marked as parked, else past the sleepers. Else the pass
 /// stands as before.
 #[inline(always)]
-pub fn try_get<V: Keeps, N: LotName<V>>(
-    scheme: &LotScheme<V, N>,
+pub fn try_get<V: Keeps, N: LotName<V>, C: Tally>(
+    scheme: &LotScheme<V, N, C>,
     pass: NamedPass<V, N>,
     key: usize,
 ) -> (NamedPass<V, N>, bool)
@@ -77,8 +77,8 @@ pub fn try_get<V: Keeps, N: LotName<V>>(
 }
 
 /// Takes the lock where nobody owns it, and wants it otherwise.
-fn take<V: Keeps, N: LotName<V>>(
-    scheme: &LotScheme<V, N>,
+fn take<V: Keeps, N: LotName<V>, C: Tally>(
+    scheme: &LotScheme<V, N, C>,
     pass: NamedPass<V, N>,
     key: usize,
 ) -> (NamedPass<V, N>, bool)
@@ -90,7 +90,7 @@ fn take<V: Keeps, N: LotName<V>>(
     scheme.take(pass, key)
 }
 
-impl<V: Keeps + Send, N: LotName<V> + Send> Sought<Locks> for LotScheme<V, N> {
+impl<V: Keeps + Send, N: LotName<V> + Send, C: Tally + Send> Sought<Locks> for LotScheme<V, N, C> {
     ghost use Rattle.std.specs.Prelude.{◌<◌};
     ghost use Rattle.lot_locks.specs.Standing.{IsAsleepFor, Seeks, HasMarked, FindsAnother, letters_in};
 
@@ -152,9 +152,9 @@ impl<V: Keeps + Send, N: LotName<V> + Send> Sought<Locks> for LotScheme<V, N> {
     fn queue(
         &self,
         pass: NamedPass<V, N>,
-        root: NamedRoot<V, N>,
+        root: NamedRoot<V, N, C>,
         key: usize,
-    ) -> (NamedPass<V, N>, NamedRoot<V, N>, bool) {
+    ) -> (NamedPass<V, N>, NamedRoot<V, N, C>, bool) {
         self.park(pass, root, key)
     }
 
@@ -167,9 +167,9 @@ impl<V: Keeps + Send, N: LotName<V> + Send> Sought<Locks> for LotScheme<V, N> {
 /// found a letter, that has run.
 #[tactic(auto, using(crate::proofs::Seeking::may_take, crate::proofs::Seeking::owner_on))]
 #[inline(always)]
-pub fn get<V: Keeps + Send, N: LotName<V> + Send, R: Wait, B: BeforeSleep>(
+pub fn get<V: Keeps + Send, N: LotName<V> + Send, C: Tally + Send, R: Wait, B: BeforeSleep>(
     rt: &R,
-    parking: &ParkingLot<LotScheme<V, N>>,
+    parking: &ParkingLot<LotScheme<V, N, C>>,
     pass: NamedPass<V, N>,
     key: usize,
     before: &B,
@@ -198,8 +198,8 @@ fn pause() {
 /// Tries so often to get the lock where nobody owns it and nobody is marked as parked, with pauses of the processor
 /// before each try.
 #[tactic(auto, using(crate::proofs::Seeking::may_take, crate::proofs::Seeking::owner_on))]
-fn try_again<V: Keeps, N: LotName<V>>(
-    scheme: &LotScheme<V, N>,
+fn try_again<V: Keeps, N: LotName<V>, C: Tally>(
+    scheme: &LotScheme<V, N, C>,
     pass: NamedPass<V, N>,
     key: usize,
     tries: u32,
@@ -228,9 +228,9 @@ fn try_again<V: Keeps, N: LotName<V>>(
 #[tactic(auto, using(crate::proofs::Seeking::owner_on))]
 #[cold]
 #[inline(never)]
-pub fn get_slowly<V: Keeps + Send, N: LotName<V> + Send, R: Wait, B: BeforeSleep>(
+pub fn get_slowly<V: Keeps + Send, N: LotName<V> + Send, C: Tally + Send, R: Wait, B: BeforeSleep>(
     rt: &R,
-    parking: &ParkingLot<LotScheme<V, N>>,
+    parking: &ParkingLot<LotScheme<V, N, C>>,
     pass: NamedPass<V, N>,
     key: usize,
     found: u64,
@@ -257,5 +257,5 @@ pub fn get_slowly<V: Keeps + Send, N: LotName<V> + Send, R: Wait, B: BeforeSleep
     if got {
         return pass;
     }
-    get_or_park::<LotScheme<V, N>, Locks, R, B>(rt, parking, pass, key, first, before)
+    get_or_park::<LotScheme<V, N, C>, Locks, R, B>(rt, parking, pass, key, first, before)
 }

@@ -9,14 +9,14 @@ ghost use Rattle.lot_park.specs.Parking.{Tells};
 use crate::released::Released;
 use crate::steps::LockSteps;
 use lot_park::{Moment, ParkingLot, Scheme, Token, UnparkResult};
-use lot_scheme::{LotName, LotScheme, NamedPass};
+use lot_scheme::{LotName, LotScheme, NamedPass, Tally};
 use lot_whole::Keeps;
 use std::sync::Wait;
 
 /// One compare-exchange: the lock is let go where nobody is parked, and else found parked.
 #[inline(always)]
-pub fn free_unparked<V: Keeps, N: LotName<V>>(
-    scheme: &LotScheme<V, N>,
+pub fn free_unparked<V: Keeps, N: LotName<V>, C: Tally>(
+    scheme: &LotScheme<V, N, C>,
     pass: NamedPass<V, N>,
     key: usize,
 ) -> (NamedPass<V, N>, bool)

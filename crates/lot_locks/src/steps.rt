@@ -9,7 +9,7 @@ ghost use Rattle.lot_park.specs.Parking.{Tells};
 use crate::getting::Locks;
 use crate::released::Released;
 use lot_park::{Sought, Token, UnparkResult};
-use lot_scheme::{LotName, LotScheme, NamedPass, NamedRoot};
+use lot_scheme::{LotName, LotScheme, NamedPass, NamedRoot, Tally};
 use lot_whole::Keeps;
 
 /// The token of a direct handoff: whoever finds it owns the lock already.
@@ -66,7 +66,7 @@ pub trait LockSteps: Sought<Locks> {
         ensures hands { HandsOver Self.Root.view root told fair result.1 result.3 result.2.0 };
 }
 
-impl<V: Keeps + Send, N: LotName<V> + Send> LockSteps for LotScheme<V, N> {
+impl<V: Keeps + Send, N: LotName<V> + Send, C: Tally + Send> LockSteps for LotScheme<V, N, C> {
     ghost use Rattle.lot_locks.specs.Standing.{MayFree, MayPass, LetsGo, PassesOn};
 
     ghost may_pass = { MayPass N.locks };
@@ -85,11 +85,11 @@ impl<V: Keeps + Send, N: LotName<V> + Send> LockSteps for LotScheme<V, N> {
     fn hand_over(
         &self,
         pass: NamedPass<V, N>,
-        root: NamedRoot<V, N>,
+        root: NamedRoot<V, N, C>,
         key: usize,
         told: UnparkResult,
         fair: bool,
-    ) -> (NamedPass<V, N>, NamedRoot<V, N>, Token, Released) {
+    ) -> (NamedPass<V, N>, NamedRoot<V, N, C>, Token, Released) {
         let hands = told.thread.is_some() && (fair || told.fair);
         let (pass, root) = self.pass_on(pass, root, key, told.thread, hands, told.more);
         let (token, released) = match told.thread {

@@ -13,7 +13,7 @@ use crate::getting::get_slowly;
 use crate::permit::{Freed, Permit, Tried};
 use crate::releasing::give;
 use lot_park::{Moment, ParkingLot};
-use lot_scheme::{LotName, LotScheme, NamedPass};
+use lot_scheme::{LotName, LotScheme, NamedPass, Tally};
 use lot_sems::{PERMIT, Taken};
 use lot_whole::Keeps;
 use std::sync::Wait;
@@ -21,8 +21,8 @@ use std::sync::Wait;
 /// Gets a permit where one is left, and else leaves all as it was. It never waits: a load, and where that found a
 /// permit, one compare-exchange of the semaphore's word.
 #[inline(always)]
-pub fn try_acquire<V: Keeps, N: LotName<V>>(
-    scheme: &LotScheme<V, N>,
+pub fn try_acquire<V: Keeps, N: LotName<V>, C: Tally>(
+    scheme: &LotScheme<V, N, C>,
     pass: NamedPass<V, N>,
     key: usize,
 ) -> (NamedPass<V, N>, Tried<V, N>)
@@ -45,9 +45,9 @@ pub fn try_acquire<V: Keeps, N: LotName<V>>(
 /// Gets a permit, waiting for it where none is left. Where one is, it is a load and one compare-exchange of the
 /// semaphore's word. It takes no memory. All that the thread has lies below the semaphore.
 #[inline(always)]
-pub fn acquire<V: Keeps + Send, N: LotName<V> + Send, R: Wait>(
+pub fn acquire<V: Keeps + Send, N: LotName<V> + Send, C: Tally + Send, R: Wait>(
     rt: &R,
-    parking: &ParkingLot<LotScheme<V, N>>,
+    parking: &ParkingLot<LotScheme<V, N, C>>,
     pass: NamedPass<V, N>,
     key: usize,
 ) -> (NamedPass<V, N>, Permit<V, N>)
@@ -74,9 +74,9 @@ pub fn acquire<V: Keeps + Send, N: LotName<V> + Send, R: Wait>(
 ///
 /// The permit is left to whoever comes first: a thread that was woken tries again.
 #[inline(always)]
-pub fn release<V: Keeps + Send, N: LotName<V> + Send, R: Wait>(
+pub fn release<V: Keeps + Send, N: LotName<V> + Send, C: Tally + Send, R: Wait>(
     rt: &R,
-    parking: &ParkingLot<LotScheme<V, N>>,
+    parking: &ParkingLot<LotScheme<V, N, C>>,
     pass: NamedPass<V, N>,
     permit: Permit<V, N>,
     moment: Moment,
@@ -88,13 +88,13 @@ pub fn release<V: Keeps + Send, N: LotName<V> + Send, R: Wait>(
     ensures idle { IsIdle result.0.own }
 {
     let key = permit.into_key();
-    give::<LotScheme<V, N>, R>(rt, parking, pass, key, moment)
+    give::<LotScheme<V, N, C>, R>(rt, parking, pass, key, moment)
 }
 
 /// Gives both passes back as they were. The point is what it proves: they are of two threads, and of each semaphore
 /// both hold together at most as many permits as there were at the opening.
-pub fn check_permits<V: Keeps, N: LotName<V>>(
-    scheme: &LotScheme<V, N>,
+pub fn check_permits<V: Keeps, N: LotName<V>, C: Tally>(
+    scheme: &LotScheme<V, N, C>,
     first: NamedPass<V, N>,
     second: NamedPass<V, N>,
 ) -> (NamedPass<V, N>, NamedPass<V, N>)
@@ -107,7 +107,10 @@ pub fn check_permits<V: Keeps, N: LotName<V>>(
 
 /// How many permits of the semaphore were left just now, by one load. It is an observation: nothing is promised of it.
 #[inline(always)]
-pub fn permits_left<V: Keeps, N: LotName<V>>(scheme: &LotScheme<V, N>, key: usize) -> u64
+pub fn permits_left<V: Keeps, N: LotName<V>, C: Tally>(
+    scheme: &LotScheme<V, N, C>,
+    key: usize,
+) -> u64
     requires { IsAmongSemaphores N.first_sem (length N.permits) key }
 {
     scheme.sem_bits(key) / PERMIT

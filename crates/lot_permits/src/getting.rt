@@ -5,12 +5,12 @@ ghost use Rattle.lot_permits.specs.Seeking.{GetsPermit, IsAwakeFor};
 
 use crate::steps::Sems;
 use lot_park::{AtOnce, Look, ParkingLot, Seeking, Sought, Token, get_or_park};
-use lot_scheme::{LotName, LotScheme, NamedPass, NamedRoot};
+use lot_scheme::{LotName, LotScheme, NamedPass, NamedRoot, Tally};
 use lot_sems::{PARKED, PERMIT, Taken};
 use lot_whole::Keeps;
 use std::sync::Wait;
 
-impl<V: Keeps + Send, N: LotName<V> + Send> Sought<Sems> for LotScheme<V, N> {
+impl<V: Keeps + Send, N: LotName<V> + Send, C: Tally + Send> Sought<Sems> for LotScheme<V, N, C> {
     ghost use Rattle.std.specs.Prelude.{length};
     ghost use Rattle.lot_core.specs.Parts.{IsAmongSemaphores};
     ghost use Rattle.lot_permits.specs.Seeking.{Seeks, IsAsleepFor, HasMarked, FindsAnother};
@@ -72,9 +72,9 @@ impl<V: Keeps + Send, N: LotName<V> + Send> Sought<Sems> for LotScheme<V, N> {
     fn queue(
         &self,
         pass: NamedPass<V, N>,
-        root: NamedRoot<V, N>,
+        root: NamedRoot<V, N, C>,
         key: usize,
-    ) -> (NamedPass<V, N>, NamedRoot<V, N>, bool) {
+    ) -> (NamedPass<V, N>, NamedRoot<V, N, C>, bool) {
         self.park_permit(pass, root, key)
     }
 
@@ -87,9 +87,9 @@ impl<V: Keeps + Send, N: LotName<V> + Send> Sought<Sems> for LotScheme<V, N> {
 /// Gets a permit, after a first try that got none.
 #[cold]
 #[inline(never)]
-pub(crate) fn get_slowly<V: Keeps + Send, N: LotName<V> + Send, R: Wait>(
+pub(crate) fn get_slowly<V: Keeps + Send, N: LotName<V> + Send, C: Tally + Send, R: Wait>(
     rt: &R,
-    parking: &ParkingLot<LotScheme<V, N>>,
+    parking: &ParkingLot<LotScheme<V, N, C>>,
     pass: NamedPass<V, N>,
     key: usize,
 ) -> NamedPass<V, N>
@@ -100,5 +100,5 @@ pub(crate) fn get_slowly<V: Keeps + Send, N: LotName<V> + Send, R: Wait>(
     ensures { GetsPermit pass key result }
 {
     let first = parking.scheme().look_at(key);
-    get_or_park::<LotScheme<V, N>, Sems, R, AtOnce>(rt, parking, pass, key, first, &AtOnce)
+    get_or_park::<LotScheme<V, N, C>, Sems, R, AtOnce>(rt, parking, pass, key, first, &AtOnce)
 }

@@ -8,7 +8,7 @@ ghost use Rattle.lot_permits.specs.declared.permit.Freed.TheVariants.{Quiet};
 
 use crate::permit::Freed;
 use lot_park::{Sought, UnparkResult};
-use lot_scheme::{LotName, LotScheme, NamedPass, NamedRoot};
+use lot_scheme::{LotName, LotScheme, NamedPass, NamedRoot, Tally};
 use lot_whole::Keeps;
 
 /// Names permits, where a scheme says how its threads seek them.
@@ -56,7 +56,7 @@ pub trait SemSteps: Sought<Sems> {
         ensures takes { TakesFirst Self.Root.view root told.thread 0 result.1 };
 }
 
-impl<V: Keeps + Send, N: LotName<V> + Send> SemSteps for LotScheme<V, N> {
+impl<V: Keeps + Send, N: LotName<V> + Send, C: Tally + Send> SemSteps for LotScheme<V, N, C> {
     ghost use Rattle.lot_permits.specs.Freed.{MayGiveBack, GivesPermit, PassesPermit};
 
     ghost may_give = { MayGiveBack N.first_sem };
@@ -73,10 +73,10 @@ impl<V: Keeps + Send, N: LotName<V> + Send> SemSteps for LotScheme<V, N> {
     fn give_on(
         &self,
         pass: NamedPass<V, N>,
-        root: NamedRoot<V, N>,
+        root: NamedRoot<V, N, C>,
         key: usize,
         told: UnparkResult,
-    ) -> (NamedPass<V, N>, NamedRoot<V, N>, Freed) {
+    ) -> (NamedPass<V, N>, NamedRoot<V, N, C>, Freed) {
         let (pass, root) = self.pass_permit(pass, root, key, told.thread, told.more);
         match told.thread {
             Some(_) => (pass, root, Freed::Woke),

@@ -9,14 +9,21 @@ ghost use Rattle.lot_regions.specs.Regions.{AreConds, Region};
 
 use crate::ready::Ready;
 use lot_calls::wait_until;
-use lot_sync::{Held, Lot, LotName, Moment, Pass};
+use lot_sync::{Held, Lot, LotName, Moment, Pass, Tally};
 use std::sync::Wait;
 
 /// Gets the lock, works on its value, lets the lock go, and tells each condition of the lock for which the value that
 /// was left is ready: `let (pass, ()) = change(rt, lot, pass, 0, now, |n| *n += 1);`.
-pub fn change<V: Ready + Send, O, N: LotName<V> + Send, T: Wait, F: FnOnce(&mut V) -> O>(
+pub fn change<
+    V: Ready + Send,
+    O,
+    N: LotName<V> + Send,
+    C: Tally + Send,
+    T: Wait,
+    F: FnOnce(&mut V) -> O,
+>(
     rt: &T,
-    lot: &Lot<V, N>,
+    lot: &Lot<V, N, C>,
     pass: Pass<V, N>,
     key: usize,
     moment: Moment,
@@ -43,9 +50,16 @@ pub fn change<V: Ready + Send, O, N: LotName<V> + Send, T: Wait, F: FnOnce(&mut 
 
 /// `change` once the value is ready for the condition, one of the lock's: until then it waits there.
 /// `let (pass, item) = when(rt, lot, pass, LINE, NOT_EMPTY, now, |line| line.take());`.
-pub fn when<V: Ready + Send, O, N: LotName<V> + Send, T: Wait, F: FnOnce(&mut V) -> O>(
+pub fn when<
+    V: Ready + Send,
+    O,
+    N: LotName<V> + Send,
+    C: Tally + Send,
+    T: Wait,
+    F: FnOnce(&mut V) -> O,
+>(
     rt: &T,
-    lot: &Lot<V, N>,
+    lot: &Lot<V, N, C>,
     pass: Pass<V, N>,
     key: usize,
     cond: usize,
@@ -79,9 +93,9 @@ pub fn when<V: Ready + Send, O, N: LotName<V> + Send, T: Wait, F: FnOnce(&mut V)
 
 /// Lets the lock go, and then tells each of these conditions for which the value is ready: which they are is looked up
 /// before, the last first.
-fn leave<V: Ready + Send, N: LotName<V> + Send, T: Wait>(
+fn leave<V: Ready + Send, N: LotName<V> + Send, C: Tally + Send, T: Wait>(
     rt: &T,
-    lot: &Lot<V, N>,
+    lot: &Lot<V, N, C>,
     pass: Pass<V, N>,
     held: Held<V, N>,
     first: usize,

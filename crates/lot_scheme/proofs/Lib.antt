@@ -1,4 +1,5 @@
 pub mod CondNotes
+pub mod Counts
 pub mod Ends
 pub mod LockNotes
 pub mod Noted

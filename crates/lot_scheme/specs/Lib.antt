@@ -1,4 +1,5 @@
 pub mod CondCalls
+pub mod Counts
 pub mod LockCalls
 pub mod Roots
 pub mod SemCalls

@@ -4,12 +4,13 @@ ghost use Rattle.lot_words.specs.World.{Holds};
 ghost use Rattle.lot_whole.specs.Both.{KnowBoth};
 ghost use Rattle.lot_scheme.specs.SemCalls.{opening_permits};
 
+use crate::contention::Tally;
 use crate::name::LotName;
 use crate::pass::NamedPass;
 use crate::scheme::LotScheme;
 use lot_whole::Keeps;
 
-impl<V: Keeps, N: LotName<V>> LotScheme<V, N> {
+impl<V: Keeps, N: LotName<V>, C: Tally> LotScheme<V, N, C> {
     /// Gives both passes back as they were. The point is what it proves: they are of two threads, no lock is held by
     /// both, of each semaphore both have together at most as many permits as there were at the opening, and of each lock
     /// both know of one value.

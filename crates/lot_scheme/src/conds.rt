@@ -12,13 +12,14 @@ ghost use Rattle.lot_scheme.specs.Roots.{root_view};
 ghost use Rattle.lot_scheme.specs.Standing.{adding, enlisted, called_more, setting_out, swept};
 ghost use Rattle.lot_scheme.specs.CondCalls.{IsCondNow};
 
+use crate::contention::Tally;
 use crate::name::LotName;
 use crate::pass::NamedPass;
 use crate::root::NamedRoot;
 use crate::scheme::LotScheme;
 use lot_whole::Keeps;
 
-impl<V: Keeps, N: LotName<V>> LotScheme<V, N> {
+impl<V: Keeps, N: LotName<V>, C: Tally> LotScheme<V, N, C> {
     /// Queues the thread last on the root's condition and sets its flag, by one store, while the condition's bucket is
     /// locked. The thread has the lock, and is at the condition's bed with it then: it lets the lock go by `free`, or
     /// `free` and `pass_on`.
@@ -26,10 +27,10 @@ impl<V: Keeps, N: LotName<V>> LotScheme<V, N> {
     pub fn enlist(
         &self,
         pass: NamedPass<V, N>,
-        root: NamedRoot<V, N>,
+        root: NamedRoot<V, N, C>,
         key: usize,
         lock: usize,
-    ) -> (NamedPass<V, N>, NamedRoot<V, N>)
+    ) -> (NamedPass<V, N>, NamedRoot<V, N, C>)
         requires named { root.key ≡ key }
         requires key { (N.locks ≤ root.key) × (root.key < N.first_sem) }
         requires idle { IsIdle pass.own }
@@ -39,10 +40,12 @@ impl<V: Keeps, N: LotName<V>> LotScheme<V, N> {
             (Makes (Enlist pass.thread root.key lock) Done ∷ []) }
         ensures root { IsCondNow root (enlisted_root (as_cond root.own) pass.thread) result.1 }
     {
-        let (pass, root) = self
-            .words()
-            .enlist(pass.into_pass(), root.take_up(key), lock);
-        (NamedPass::new(pass), NamedRoot::lay_down(root))
+        let (root, tally) = root.take_up(key);
+        let (pass, root) = self.words().enlist(pass.into_pass(), root, lock);
+        (
+            NamedPass::new(pass),
+            NamedRoot::lay_down(root, tally.queued()),
+        )
     }
 
     /// Whether the condition's flag is set, by one load. Where it is clear, nobody is in the line but threads that
@@ -77,12 +80,12 @@ impl<V: Keeps, N: LotName<V>> LotScheme<V, N> {
     pub fn call(
         &self,
         pass: NamedPass<V, N>,
-        root: NamedRoot<V, N>,
+        root: NamedRoot<V, N, C>,
         key: usize,
         count: usize,
         taken: usize,
         more: bool,
-    ) -> (NamedPass<V, N>, NamedRoot<V, N>)
+    ) -> (NamedPass<V, N>, NamedRoot<V, N, C>)
         requires named { root.key ≡ key }
         requires key { (N.locks ≤ root.key) × (root.key < N.first_sem) }
         requires idle { IsIdle pass.own }
@@ -93,10 +96,11 @@ impl<V: Keeps, N: LotName<V>> LotScheme<V, N> {
             (Makes (Call pass.thread root.key count more) (Count taken) ∷ []) }
         ensures root { IsCondNow root (called_root (as_cond root.own) count) result.1 }
     {
+        let (root, tally) = root.take_up(key);
         let (pass, root) = self
             .words()
-            .call(pass.into_pass(), root.take_up(key), count, taken, more);
-        (NamedPass::new(pass), NamedRoot::lay_down(root))
+            .call(pass.into_pass(), root, count, taken, more);
+        (NamedPass::new(pass), NamedRoot::lay_down(root, tally))
     }
 
     /// Takes all threads of the condition's line, by one load, while the condition's bucket is locked, after `lower`
@@ -105,10 +109,10 @@ impl<V: Keeps, N: LotName<V>> LotScheme<V, N> {
     pub fn sweep(
         &self,
         pass: NamedPass<V, N>,
-        root: NamedRoot<V, N>,
+        root: NamedRoot<V, N, C>,
         key: usize,
         taken: usize,
-    ) -> (NamedPass<V, N>, NamedRoot<V, N>)
+    ) -> (NamedPass<V, N>, NamedRoot<V, N, C>)
         requires named { root.key ≡ key }
         requires key { (N.locks ≤ root.key) × (root.key < N.first_sem) }
         requires lowered { MaySweep pass.own root.key }
@@ -117,9 +121,8 @@ impl<V: Keeps, N: LotName<V>> LotScheme<V, N> {
             (Makes (Sweep pass.thread root.key) (Count taken) ∷ []) }
         ensures root { IsCondNow root (swept_root (as_cond root.own)) result.1 }
     {
-        let (pass, root) = self
-            .words()
-            .sweep(pass.into_pass(), root.take_up(key), taken);
-        (NamedPass::new(pass), NamedRoot::lay_down(root))
+        let (root, tally) = root.take_up(key);
+        let (pass, root) = self.words().sweep(pass.into_pass(), root, taken);
+        (NamedPass::new(pass), NamedRoot::lay_down(root, tally))
     }
 }

@@ -17,6 +17,7 @@
 
 mod apart;
 mod conds;
+pub mod contention;
 mod locks;
 pub mod name;
 pub mod pass;
@@ -24,6 +25,7 @@ pub mod root;
 pub mod scheme;
 mod sems;
 
+pub use contention::{Contention, CountsKeys, Silent, Tally, key_contention};
 pub use name::LotName;
 pub use pass::NamedPass;
 pub use root::NamedRoot;

@@ -15,13 +15,14 @@ ghost use Rattle.lot_scheme.specs.Roots.{root_view, TakesFirst};
 ghost use Rattle.lot_scheme.specs.Standing.{LotStanding, adding, wanting, dozing, finding_parked, placing};
 ghost use Rattle.lot_scheme.specs.LockCalls.{GetsLock, FreesLock};
 
+use crate::contention::Tally;
 use crate::name::LotName;
 use crate::pass::NamedPass;
 use crate::root::NamedRoot;
 use crate::scheme::LotScheme;
 use lot_whole::Keeps;
 
-impl<V: Keeps, N: LotName<V>> LotScheme<V, N> {
+impl<V: Keeps, N: LotName<V>, C: Tally> LotScheme<V, N, C> {
     /// The bits of the lock's word as they were just now. Nothing is promised of them.
     #[inline(always)]
     pub fn lock_bits(&self, key: usize) -> u64
@@ -89,9 +90,9 @@ impl<V: Keeps, N: LotName<V>> LotScheme<V, N> {
     pub fn park(
         &self,
         pass: NamedPass<V, N>,
-        root: NamedRoot<V, N>,
+        root: NamedRoot<V, N, C>,
         key: usize,
-    ) -> (NamedPass<V, N>, NamedRoot<V, N>, bool)
+    ) -> (NamedPass<V, N>, NamedRoot<V, N, C>, bool)
         requires named { root.key ≡ key }
         requires key { root.key < N.locks }
         requires may { MayLineUp pass.own root.key }
@@ -100,8 +101,18 @@ impl<V: Keeps, N: LotName<V>> LotScheme<V, N> {
             (result.0 ≡ adding pass (Makes (Park pass.thread root.key) (Saw false) ∷ [])) }
         ensures root { Queues root_view (λ (p : LotStanding V). p.thread) pass root result.2 result.0 result.1 }
     {
-        let (pass, root, queued) = self.words().park(pass.into_pass(), root.take_up(key));
-        (NamedPass::new(pass), NamedRoot::lay_down(root), queued)
+        let (root, tally) = root.take_up(key);
+        let (pass, root, queued) = self.words().park(pass.into_pass(), root);
+        let tally = if queued {
+            tally.queued()
+        } else {
+            tally.turned_back()
+        };
+        (
+            NamedPass::new(pass),
+            NamedRoot::lay_down(root, tally),
+            queued,
+        )
     }
 
     /// Lets the lock go where nobody is marked as parked on it, by one compare-exchange, and says whether it did. Else
@@ -127,12 +138,12 @@ impl<V: Keeps, N: LotName<V>> LotScheme<V, N> {
     pub fn pass_on(
         &self,
         pass: NamedPass<V, N>,
-        root: NamedRoot<V, N>,
+        root: NamedRoot<V, N, C>,
         key: usize,
         first: Option<usize>,
         fair: bool,
         more: bool,
-    ) -> (NamedPass<V, N>, NamedRoot<V, N>)
+    ) -> (NamedPass<V, N>, NamedRoot<V, N, C>)
         requires named { root.key ≡ key }
         requires key { root.key < N.locks }
         requires may { MayLetGo pass.own root.key }
@@ -145,10 +156,11 @@ impl<V: Keeps, N: LotName<V>> LotScheme<V, N> {
             (Makes (Pass pass.thread root.key fair more) (Sleeper first)) result.0 }
         ensures root { TakesFirst root_view root first (token_of fair) result.1 }
     {
+        let (root, tally) = root.take_up(key);
         let (pass, root) = self
             .words()
-            .pass_on(pass.into_pass(), root.take_up(key), first, fair, more);
-        (NamedPass::new(pass), NamedRoot::lay_down(root))
+            .pass_on(pass.into_pass(), root, first, fair, more);
+        (NamedPass::new(pass), NamedRoot::lay_down(root, tally))
     }
 
     /// The owner takes the value out of the lock's slot.

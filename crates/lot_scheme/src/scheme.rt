@@ -2,6 +2,7 @@
 ghost use Rattle.std.specs.Prelude.{◌≡◌};
 ghost use Rattle.lot_scheme.specs.Roots.{size_named, Follow};
 
+use crate::contention::{Silent, Tally};
 use crate::name::LotName;
 use crate::pass::NamedPass;
 use crate::root::NamedRoot;
@@ -9,7 +10,7 @@ use lot_core::{MAX_KEYS, MAX_THREADS};
 use lot_park::{FEW_KEYS, MOST_THREADS, Scheme, Token};
 use lot_rights::Named;
 use lot_whole::{Keeps, LotWords};
-use std::marker::Model;
+use std::marker::{Model, PhantomData};
 
 // A parking lot, which knows no model, is for as many threads as the model.
 const _: () = prove!(MOST_THREADS == MAX_THREADS);
@@ -18,14 +19,15 @@ const _: () = prove!(MOST_THREADS == MAX_THREADS);
 const _: () = prove!(FEW_KEYS == MAX_KEYS);
 
 /// The words of a lot, as the parking lot sees them.
-pub struct LotScheme<V: Keeps, N: LotName<V>> {
+pub struct LotScheme<V: Keeps, N: LotName<V>, C: Tally = Silent> {
     words: Named<LotWords<V>, N>,
     // How many locks there are, and the number of the first semaphore.
     locks: usize,
     first_sem: usize,
+    counts: PhantomData<C>,
 }
 
-impl<V: Keeps, N: LotName<V>> Model for LotScheme<V, N> {
+impl<V: Keeps, N: LotName<V>, C: Tally> Model for LotScheme<V, N, C> {
     ghost use Rattle.std.specs.Prelude.{◌≡◌};
     ghost use Rattle.lot_whole.specs.Shown.{LotWordsShown};
     ghost use Rattle.lot_scheme.specs.Roots.{size_named, Follow};
@@ -39,9 +41,9 @@ impl<V: Keeps, N: LotName<V>> Model for LotScheme<V, N> {
         × Follow N.locks N.conds N.first_sem × (s.locks ≡ N.locks) × (s.first_sem ≡ N.first_sem) };
 }
 
-impl<V: Keeps, N: LotName<V>> LotScheme<V, N> {
+impl<V: Keeps, N: LotName<V>, C: Tally> LotScheme<V, N, C> {
     /// The words, which get the lot's name here.
-    pub fn new(words: LotWords<V>, locks: usize, first_sem: usize) -> LotScheme<V, N>
+    pub fn new(words: LotWords<V>, locks: usize, first_sem: usize) -> LotScheme<V, N, C>
         requires named { words.table ≡ N.opening.locks }
         requires size { words.size ≡ size_named N.threads N.locks N.conds N.permits }
         requires keys { Follow N.locks N.conds N.first_sem × (locks ≡ N.locks) × (first_sem ≡ N.first_sem) }
@@ -51,6 +53,7 @@ impl<V: Keeps, N: LotName<V>> LotScheme<V, N> {
             words: Named::new(words),
             locks,
             first_sem,
+            counts: PhantomData,
         }
     }
 
@@ -73,15 +76,16 @@ impl<V: Keeps, N: LotName<V>> LotScheme<V, N> {
             words,
             locks: _,
             first_sem: _,
+            counts: _,
         } = self;
         words.into_inner()
     }
 }
 
-impl<V: Keeps + Send, N: LotName<V> + Send> Scheme for LotScheme<V, N> {
+impl<V: Keeps + Send, N: LotName<V> + Send, C: Tally + Send> Scheme for LotScheme<V, N, C> {
     ghost use Rattle.lot_scheme.specs.Standing.{IsLooked};
 
-    type Root = NamedRoot<V, N>;
+    type Root = NamedRoot<V, N, C>;
 
     type Pass = NamedPass<V, N>;
 
@@ -93,9 +97,10 @@ impl<V: Keeps + Send, N: LotName<V> + Send> Scheme for LotScheme<V, N> {
         pass.thread()
     }
 
-    fn post(&self, root: NamedRoot<V, N>, at: usize, token: Token) -> NamedRoot<V, N> {
-        let root = self.words.inner().post(root.into_root(), at, token.0);
-        NamedRoot::new(root)
+    fn post(&self, root: NamedRoot<V, N, C>, at: usize, token: Token) -> NamedRoot<V, N, C> {
+        let (root, tally) = root.apart();
+        let root = self.words.inner().post(root, at, token.0);
+        NamedRoot::counted(root, tally.told(token.0))
     }
 
     fn collect(&self, pass: NamedPass<V, N>) -> (NamedPass<V, N>, Option<Token>) {

@@ -11,6 +11,7 @@ ghost use Rattle.lot_scheme.specs.Standing.{LotStanding, adding, one_permit_less
 ghost use Rattle.lot_scheme.specs.Roots.{root_view, TakesFirst};
 ghost use Rattle.lot_scheme.specs.SemCalls.{TriesPermit, TakesPermit, MarksPermit, ParksPermit, FreesPermit};
 
+use crate::contention::Tally;
 use crate::name::LotName;
 use crate::pass::NamedPass;
 use crate::root::NamedRoot;
@@ -18,7 +19,7 @@ use crate::scheme::LotScheme;
 use lot_sems::Taken;
 use lot_whole::Keeps;
 
-impl<V: Keeps, N: LotName<V>> LotScheme<V, N> {
+impl<V: Keeps, N: LotName<V>, C: Tally> LotScheme<V, N, C> {
     /// Takes a permit where one is left, and else leaves all as it was: a look, and where that found a permit, one
     /// compare-exchange.
     #[inline(always)]
@@ -58,19 +59,27 @@ impl<V: Keeps, N: LotName<V>> LotScheme<V, N> {
     pub fn park_permit(
         &self,
         pass: NamedPass<V, N>,
-        root: NamedRoot<V, N>,
+        root: NamedRoot<V, N, C>,
         key: usize,
-    ) -> (NamedPass<V, N>, NamedRoot<V, N>, bool)
+    ) -> (NamedPass<V, N>, NamedRoot<V, N, C>, bool)
         requires named { root.key ≡ key }
         requires sem { N.first_sem ≤ (root_view root).key }
         requires seeks { MaySeek pass.own (root_view root).key }
         ensures pass { ParksPermit pass (root_view root).key result.2 result.0 }
         ensures root { Queues root_view (λ (p : LotStanding V). p.thread) pass root result.2 result.0 result.1 }
     {
-        let (pass, root, queued) = self
-            .words()
-            .park_permit(pass.into_pass(), root.take_up(key));
-        (NamedPass::new(pass), NamedRoot::lay_down(root), queued)
+        let (root, tally) = root.take_up(key);
+        let (pass, root, queued) = self.words().park_permit(pass.into_pass(), root);
+        let tally = if queued {
+            tally.queued()
+        } else {
+            tally.turned_back()
+        };
+        (
+            NamedPass::new(pass),
+            NamedRoot::lay_down(root, tally),
+            queued,
+        )
     }
 
     /// Gives a permit back where nobody is marked as parked, and says whether it did: a look, and where that found
@@ -90,11 +99,11 @@ impl<V: Keeps, N: LotName<V>> LotScheme<V, N> {
     pub fn pass_permit(
         &self,
         pass: NamedPass<V, N>,
-        root: NamedRoot<V, N>,
+        root: NamedRoot<V, N, C>,
         key: usize,
         first: Option<usize>,
         more: bool,
-    ) -> (NamedPass<V, N>, NamedRoot<V, N>)
+    ) -> (NamedPass<V, N>, NamedRoot<V, N, C>)
         requires named { root.key ≡ key }
         requires sem { N.first_sem ≤ (root_view root).key }
         requires may { MayGive pass.own (root_view root).key }
@@ -105,10 +114,11 @@ impl<V: Keeps, N: LotName<V>> LotScheme<V, N> {
             (Makes (Passes pass.thread (root_view root).key more) (Sleeper first) ∷ []) }
         ensures root { TakesFirst root_view root first 0 result.1 }
     {
+        let (root, tally) = root.take_up(key);
         let (pass, root) = self
             .words()
-            .pass_permit(pass.into_pass(), root.take_up(key), first, more);
-        (NamedPass::new(pass), NamedRoot::lay_down(root))
+            .pass_permit(pass.into_pass(), root, first, more);
+        (NamedPass::new(pass), NamedRoot::lay_down(root, tally))
     }
 
     /// Clears the parked bit of a semaphore in whose line nobody is, by one fetch-and, while the semaphore's bucket is
@@ -116,9 +126,9 @@ impl<V: Keeps, N: LotName<V>> LotScheme<V, N> {
     pub fn clear(
         &self,
         pass: NamedPass<V, N>,
-        root: NamedRoot<V, N>,
+        root: NamedRoot<V, N, C>,
         key: usize,
-    ) -> (NamedPass<V, N>, NamedRoot<V, N>)
+    ) -> (NamedPass<V, N>, NamedRoot<V, N, C>)
         requires named { root.key ≡ key }
         requires sem { N.first_sem ≤ (root_view root).key }
         requires idle { IsIdle pass.own }
@@ -126,8 +136,9 @@ impl<V: Keeps, N: LotName<V>> LotScheme<V, N> {
         ensures pass { result.0 ≡ adding pass (Makes (SemClear pass.thread (root_view root).key) Done ∷ []) }
         ensures root { result.1 ≡ root }
     {
-        let (pass, root) = self.words().clear(pass.into_pass(), root.take_up(key));
-        (NamedPass::new(pass), NamedRoot::lay_down(root))
+        let (root, tally) = root.take_up(key);
+        let (pass, root) = self.words().clear(pass.into_pass(), root);
+        (NamedPass::new(pass), NamedRoot::lay_down(root, tally))
     }
 
     /// The word of a semaphore just now: twice the permits that are left, and its parked bit. It is an observation, of

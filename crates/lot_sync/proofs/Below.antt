@@ -1,10 +1,10 @@
 -- What the order of keys asks of a pass, it asks of its right.
-use Rattle.std.proofs.Common.{◌≡◌, ◌≢◌, ◌≤◌, ℕ, true, false, List, get_or, sym, ap, subst, ◌∙◌, inl, inr, arith}
+use Rattle.std.proofs.Common.{◌≡◌, ◌≢◌, ◌≤◌, ℕ, true, false, List, sym, subst, ◌∙◌, inl, inr, arith}
 use Rattle.std.specs.Prelude.{slice_index, slice_index_or}
 use Rattle.std.proofs.lemmas.List.{get_or-set_other}
 use mathlib.Core.Logic.{dite}
 use native.Mathlib.Decide.{ℕ_discrete}
-use Rattle.lot_order.specs.Order.{Keys, HasKey, HasBeside, AllBelow, OthersBelow, MayWait}
+use Rattle.lot_order.specs.Order.{HasKey, HasBeside, AllBelow, OthersBelow, MayWait}
 use Rattle.lot_words.specs.CallersRule.{CallersRule}
 use Rattle.lot_whole.specs.Standing.{IsIdle, MayWant, keys_of as right_keys}
 use Rattle.lot_scheme.specs.Standing.{LotStanding}

@@ -1,11 +1,11 @@
 -- Passes that come back to close their lot, and what they tell of its run.
-use Rattle.std.proofs.Common.{◌≡◌, ℕ, ◌*◌, ◌<◌, zero, suc, false, List, [], ◌∷◌, ◌++◌, map, slice_get, Option, Some, None}
+use Rattle.std.proofs.Common.{◌≡◌, ℕ, ◌+◌, ◌*◌, ◌<◌, zero, suc, false, List, [], ◌∷◌, ◌++◌, length, map, slice_get, Option, Some, None}
 use Rattle.std.proofs.Common.{refl, sym, ap, subst, ◌∙◌, ⊎_elim, arith}
 use mathlib.Core.Option.{some}
 use lib.ListN.{get_elem?}
 use Rattle.std.specs.Prelude.{is_some}
 use Rattle.std.specs.List.{All, Any}
-use Rattle.std.proofs.lemmas.List.Elements.{All-weaker, All-map}
+use Rattle.std.proofs.lemmas.List.Elements.{All-weaker, All-map, All-head, All-tail}
 use Rattle.atomic_table.specs.Seated.{TableId}
 use Rattle.lot_rights.specs.declared.views.Entry.{Entry}
 use Rattle.lot_rights.specs.History.{entries_of}
@@ -19,17 +19,22 @@ use Rattle.lot_whole.specs.declared.views.LotPassView.{LotPassView}
 use Rattle.lot_whole.specs.declared.views.LotRootView.{LotRootView}
 use Rattle.lot_whole.specs.Family.{cond}
 use Rattle.lot_whole.specs.Order.{accesses_of}
-use Rattle.lot_scheme.specs.Roots.{root_view}
+use Rattle.lot_scheme.specs.Roots.{root_view, line_in, owes_in}
+use Rattle.lot_scheme.specs.Counts.{queued_now, handed_in}
 use Rattle.lot_scheme.specs.Standing.{LotStanding, standing}
 use Rattle.lot_waits.specs.Counts.{counts_shown}
 use Rattle.lot_sync.specs.Lot.{LotNames, PassView, Owns, OwnsNone, HasSeen, counts_of}
 use Rattle.lot_sync.specs.Passes.{pass_view_of, pass_view_shown, IsAtRest, IsFree}
 use Rattle.lot_sync.specs.Values.{GoesOnTo}
+use Rattle.lot_sync.specs.Closing.{told_of, AreCounts, AreCountedWith}
 use Rattle.lot_sync.proofs.Rests.{held_owned}
 
 nobody_out : (out : Option ℕ) → is_some out ≡ false → out ≡ None
 nobody_out None e = refl
 nobody_out (Some c) e = absurd (cc)
+
+owed_none : (own : LotRootView) → owes_in own ≡ [] → queued_now own ≡ length (line_in own)
+owed_none own none = let zero_owed = ap length none in omega (arith, zero_owed)
 
 module _ {V : Type 0} where
   -- a pass at rest that owns nothing has done all that it was to do
@@ -84,6 +89,30 @@ each_root k keys before after back none near =
     subst (Any (λ (q : RootShown LotRootView). q.key ≡ k)) (sym are)
     (some_at (λ (q : RootShown LotRootView). q.key ≡ k) back.roots k (subst (λ n. k < n) (sym back.each) near)
     (λ q at. back.named k q at))
+
+all_got : {A : Type 0} (P : A → Type 0) (xs : List A) (i : ℕ) (x : A) → All P xs → slice_get xs i ≡ Some x → P x
+all_got P [] i x all at = absurd (cc)
+all_got P (y ∷ ys) zero x all at = let same : y ≡ x = cc in subst P same (All-head P y ys all)
+all_got P (y ∷ ys) (suc i) x all at = all_got P ys i x (All-tail P y ys all) at
+
+-- what was counted with each root that has come back
+pub counts_are : {C : Type 0} (counts : C → ℕ → ℕ → ℕ → Type 0) (log : List Entry) (keys : ℕ) (before after : List (RootShown LotRootView))
+    (cs : List C) → Appends root_view keys before after → before ≡ []
+    → All (λ (q : RootShown LotRootView). q.made ≡ entries_of (2 * q.key + 1) log) after
+    → AreCountedWith counts after cs → AreCounts counts log after cs
+counts_are counts log keys before after cs back none made counted =
+    let are : after ≡ back.roots = back.appended ∙ ap (λ (rs : List (RootShown LotRootView)). rs ++ back.roots) none in
+    let key_at = λ (i : ℕ) (r : RootShown LotRootView) (at : slice_get after i ≡ Some r). back.named i r
+    (subst (λ (rs : List (RootShown LotRootView)). slice_get rs i ≡ Some r) are at) in
+    record {
+      keys = key_at;
+      tell = λ i c r here at.
+          let own : r.made ≡ told_of i log = all_got (λ (q : RootShown LotRootView). q.made ≡ entries_of (2 * q.key + 1) log) after i r made at
+          ∙ ap (λ k. told_of k log) (key_at i r at) in
+          let owes = back.paid i r (subst (λ (rs : List (RootShown LotRootView)). slice_get rs i ≡ Some r) are at) in
+          subst (λ m. counts c (length m + length (line_in r.own)) (length m) (handed_in m)) own
+          (subst (λ n. counts c (length r.made + n) (length r.made) (handed_in r.made)) (owed_none r.own owes) (counted i c r here at));
+    }
 
 -- what was made with each pass that came back is its thread's part of the history
 pub each_own : {V : Type 0} (log : List Entry) (rights : List (PassShown (LotPassView V)))

@@ -27,6 +27,8 @@ use Rattle.lot_whole.specs.Closing.{HasDone}
 use Rattle.lot_whole.specs.Family.{Which, lock, cond, sem, LotSize, key_count, away}
 use Rattle.lot_whole.specs.Lot.{own_of, fresh_pass, fresh_root}
 use Rattle.lot_whole.specs.Shown.{LotWordsShown, lot_of}
+use Rattle.atomic_table.specs.Seated.{TableId}
+use Rattle.lot_scheme.specs.Counts.{IsUnused}
 use Rattle.lot_scheme.specs.Roots.{IsInItsKind, root_view, line_in, owes_in}
 use Rattle.lot_scheme.specs.Standing.{LotStanding, standing}
 use Rattle.lot_waits.specs.Counts.{wrap, kept}
@@ -92,6 +94,14 @@ fresh_by_kind P z c locks conds sems = ⊎_elim {C = P (fresh_root z c)}
 fresh_kind : (z : LotSize) (c : ℕ) → IsInItsKind z.locks (z.locks + z.conds) c (fresh_root z c)
 fresh_kind z c = fresh_by_kind (IsInItsKind z.locks (z.locks + z.conds) c) z c (λ near. near) (λ past near. (past, near))
     (λ past behind. (past, behind))
+
+-- nobody has parked on the key yet
+fresh_unused : (z : LotSize) (c : ℕ) (table : TableId) → IsUnused (record { table = table; key = c; made = []; own = fresh_root z c })
+fresh_unused z c table = record {
+  made_none = refl;
+  nobody = fresh_by_kind (λ q. line_in q ≡ []) z c (λ h. refl) (λ h k. refl) (λ h k. refl);
+  owes_none = fresh_by_kind (λ q. owes_in q ≡ []) z c (λ h. refl) (λ h k. refl) (λ h k. refl);
+}
 
 same_by_place : {A : Type 0} (xs ys : List A) → length xs ≡ length ys → ((i : ℕ) (x : A) → slice_get xs i ≡ Some x
     → get_elem? ys i ≡ some x) → xs ≡ ys
@@ -177,22 +187,20 @@ module _ {V Part : Type 0} (rule : CallersRule V Part) (words : LotWordsShown V)
   -- each root is of the kind that its number tells, under the name of the lot
   pub roots_named : (names : LotNames V) → names ≡ opened_as words
       → All (λ (r : RootShown LotRootView). (r.table ≡ names.opening.locks)
-      × IsInItsKind names.locks names.first_sem r.key r.own) roots
+      × IsInItsKind names.locks names.first_sem r.key r.own × IsUnused r) roots
   roots_named names named = subst (λ (ns : LotNames V). All (λ (r : RootShown LotRootView).
-      (r.table ≡ ns.opening.locks) × IsInItsKind ns.locks ns.first_sem r.key r.own) roots) (sym named)
+      (r.table ≡ ns.opening.locks) × IsInItsKind ns.locks ns.first_sem r.key r.own × IsUnused r) roots) (sym named)
       (all_by_place (λ (r : RootShown LotRootView). (r.table ≡ words.table) × IsInItsKind words.size.locks
-      (words.size.locks + words.size.conds) r.key r.own)
-      own_root roots roots_at (λ c near. (refl, fresh_kind words.size c)))
+      (words.size.locks + words.size.conds) r.key r.own × IsUnused r)
+      own_root roots roots_at (λ c near. (refl, fresh_kind words.size c, fresh_unused words.size c words.table)))
 
   pub roots_idle : AreIdle root_view roots
   roots_idle i root at =
       let e : root ≡ own_root i = (stands_at own_root roots roots_at i root at).1 in
       record {
         named = ap (λ (r : RootShown LotRootView). r.key) e;
-        same_line = ap (λ (r : RootShown LotRootView). line_in r.own) e
-            ∙ fresh_by_kind (λ q. line_in q ≡ []) words.size i (λ h. refl) (λ h k. refl) (λ h k. refl);
-        paid = ap (λ (r : RootShown LotRootView). owes_in r.own) e
-            ∙ fresh_by_kind (λ q. owes_in q ≡ []) words.size i (λ h. refl) (λ h k. refl) (λ h k. refl);
+        same_line = ap (λ (r : RootShown LotRootView). line_in r.own) e ∙ (fresh_unused words.size i words.table).nobody;
+        paid = ap (λ (r : RootShown LotRootView). owes_in r.own) e ∙ (fresh_unused words.size i words.table).owes_none;
       }
 
   -- each value that comes back is one that a pass saw, and all have seen the opening values

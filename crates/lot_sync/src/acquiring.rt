@@ -13,11 +13,11 @@ use crate::lot::Lot;
 use crate::pass::Pass;
 use lot_park::Moment;
 use lot_permits::{Freed, Permit, Tried};
-use lot_scheme::LotName;
+use lot_scheme::{LotName, Tally};
 use lot_words::Keeps;
 use std::sync::Wait;
 
-impl<V: Keeps + Send, N: LotName<V> + Send> Lot<V, N> {
+impl<V: Keeps + Send, N: LotName<V> + Send, C: Tally + Send> Lot<V, N, C> {
     /// Gets a permit where one is left, and else leaves all as it was. It never waits: a load, and where that found a
     /// permit, one compare-exchange.
     ///

@@ -5,10 +5,10 @@ ghost use Rattle.lot_sync.specs.Values.{KnowBoth};
 
 use crate::lot::Lot;
 use crate::pass::Pass;
-use lot_scheme::LotName;
+use lot_scheme::{LotName, Tally};
 use lot_words::Keeps;
 
-impl<V: Keeps + Send, N: LotName<V> + Send> Lot<V, N> {
+impl<V: Keeps + Send, N: LotName<V> + Send, C: Tally + Send> Lot<V, N, C> {
     /// Shows that two passes are of different threads and own no common lock: each lock has at most one owner. It
     /// changes nothing.
     pub fn check_apart(&self, first: Pass<V, N>, second: Pass<V, N>) -> (Pass<V, N>, Pass<V, N>)

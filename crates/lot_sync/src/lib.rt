@@ -23,6 +23,7 @@
 mod acquiring;
 mod apart;
 mod closing;
+mod contention;
 mod fault;
 pub mod held;
 mod lock;
@@ -46,7 +47,7 @@ pub use lot_locks::Released;
 pub use lot_park::{BeforeSleep, Moment};
 pub use lot_permits::{Freed, Permit, Tried};
 pub use lot_rights::MOST_KEYS;
-pub use lot_scheme::LotName;
+pub use lot_scheme::{Contention, LotName, Tally};
 pub use lot_waits::Ledger;
 pub use many::MOST_CONDS;
 pub use opened::Opened;

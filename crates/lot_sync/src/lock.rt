@@ -14,12 +14,12 @@ use crate::lot::Lot;
 use crate::pass::Pass;
 use lot_locks::{get, get_free, get_slowly, try_get};
 use lot_park::{AtOnce, BeforeSleep};
-use lot_scheme::{LotName, NamedPass};
+use lot_scheme::{LotName, NamedPass, Tally};
 use lot_waits::Tallies;
 use lot_words::{Keeps, UNHELD};
 use std::sync::Wait;
 
-impl<V: Keeps + Send, N: LotName<V> + Send> Lot<V, N> {
+impl<V: Keeps + Send, N: LotName<V> + Send, C: Tally + Send> Lot<V, N, C> {
     /// Gets the lock where nobody owns it, and else leaves all as it was. Where nobody owns it and nobody is parked, it
     /// is one read-modify-write of the lock's word, and else two.
     #[inline(always)]

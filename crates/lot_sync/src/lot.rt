@@ -7,23 +7,24 @@ use crate::pass::Pass;
 use crate::pool::Pool;
 use lot_locks::{is_held, is_parked};
 use lot_park::ParkingLot;
-use lot_scheme::{LotName, LotScheme, NamedPass};
+use lot_scheme::{LotName, LotScheme, NamedPass, Silent, Tally};
 use lot_waits::Tallies;
 use lot_words::Keeps;
 use std::marker::Model;
 use std::sync::{Mutex, Wait};
 
-/// Locks that guard values, for a number of threads.
-pub struct Lot<V: Keeps + Send, N: LotName<V> + Send> {
-    pub(crate) parking: ParkingLot<LotScheme<V, N>>,
-    pub(crate) pool: Mutex<Pool<V, N>>,
+/// Locks that guard values, for a number of threads. C says what is counted with each key: nothing, or its
+/// [`Contention`](lot_scheme::Contention).
+pub struct Lot<V: Keeps + Send, N: LotName<V> + Send, C: Tally + Send = Silent> {
+    pub(crate) parking: ParkingLot<LotScheme<V, N, C>>,
+    pub(crate) pool: Mutex<Pool<V, N, C>>,
     pub(crate) threads: usize,
     pub(crate) locks: usize,
     pub(crate) conds: usize,
     pub(crate) sems: usize,
 }
 
-impl<V: Keeps + Send, N: LotName<V> + Send> Model for Lot<V, N> {
+impl<V: Keeps + Send, N: LotName<V> + Send, C: Tally + Send> Model for Lot<V, N, C> {
     ghost use Rattle.lot_sync.specs.Lot.{LotView, IsLot};
 
     ghost Value = { LotView };
@@ -43,16 +44,16 @@ impl<V: Keeps + Send, N: LotName<V> + Send> Model for Lot<V, N> {
         }) s.threads s.locks s.conds s.sems s.parking };
 }
 
-impl<V: Keeps + Send, N: LotName<V> + Send> Lot<V, N> {
+impl<V: Keeps + Send, N: LotName<V> + Send, C: Tally + Send> Lot<V, N, C> {
     /// A lot of this table, with all passes in the pool.
     pub(crate) fn of(
-        parking: ParkingLot<LotScheme<V, N>>,
-        pool: Pool<V, N>,
+        parking: ParkingLot<LotScheme<V, N, C>>,
+        pool: Pool<V, N, C>,
         threads: usize,
         locks: usize,
         conds: usize,
         sems: usize,
-    ) -> Lot<V, N>
+    ) -> Lot<V, N, C>
         requires lot { IsLot N.LotName threads locks conds sems parking }
         ensures { result ≡ record { threads = threads; locks = locks; conds = conds; sems = sems } }
     {
@@ -68,7 +69,7 @@ impl<V: Keeps + Send, N: LotName<V> + Send> Lot<V, N> {
 
     /// The words and the lines, with what their name tells of the lot.
     #[inline(always)]
-    pub(crate) fn parking(&self) -> &ParkingLot<LotScheme<V, N>>
+    pub(crate) fn parking(&self) -> &ParkingLot<LotScheme<V, N, C>>
         ensures threads { (self.now.threads ≡ N.threads) × (result.now.threads ≡ N.threads) }
         ensures keys { (self.now.locks ≡ N.locks) × (self.now.conds ≡ N.conds) × (self.now.sems ≡ length N.permits)
             × (N.first_sem ≡ N.locks + N.conds) × (N.locks ≡ length N.values) }

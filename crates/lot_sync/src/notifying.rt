@@ -8,12 +8,12 @@ ghost use Rattle.lot_waits.specs.Notifying.{one_if};
 use crate::lot::Lot;
 use crate::pass::Pass;
 use lot_park::Moment;
-use lot_scheme::LotName;
+use lot_scheme::{LotName, Tally};
 use lot_waits::count_taken;
 use lot_words::Keeps;
 use std::sync::Wait;
 
-impl<V: Keeps + Send, N: LotName<V> + Send> Lot<V, N> {
+impl<V: Keeps + Send, N: LotName<V> + Send, C: Tally + Send> Lot<V, N, C> {
     /// Whether somebody may wait on the condition at some moment of this call. It is an observation: nothing is
     /// promised of it.
     #[inline(always)]

@@ -5,7 +5,7 @@ ghost use Rattle.lot_waits.specs.Ledger.{AreZeros};
 ghost use Rattle.lot_sync.specs.Lot.{OwnsNone, rested};
 
 use crate::pass::Pass;
-use lot_scheme::{LotName, NamedRoot};
+use lot_scheme::{LotName, NamedRoot, Tally};
 use lot_waits::Tallies;
 use lot_whole::{LotLyingRoot, LotPass};
 use lot_words::Keeps;
@@ -50,72 +50,82 @@ impl<V: Keeps + Send, N: LotName<V> + Send> Idle<V, N> {
 }
 
 /// The room that closing a lot fills. The lists held the rights before the lot started.
-pub(crate) struct ClosingRoom<V: Keeps + Send, N: LotName<V> + Send> {
+pub(crate) struct ClosingRoom<V: Keeps + Send, N: LotName<V> + Send, C: Tally + Send> {
     passes: Vec<LotPass<V>>,
     roots: Vec<LotLyingRoot<V>>,
-    named: Vec<NamedRoot<V, N>>,
+    named: Vec<NamedRoot<V, N, C>>,
+    counts: Vec<C>,
     sums: Tallies,
-    ghost empty: { (vec_len passes ≡ 0) × (vec_len roots ≡ 0) × (vec_len named ≡ 0) },
+    ghost empty: { (vec_len passes ≡ 0) × (vec_len roots ≡ 0) × (vec_len named ≡ 0) × (vec_len counts ≡ 0) },
     ghost for_passes: { N.threads ≤ vec_capacity passes },
     ghost for_roots: { (N.first_sem + length N.permits ≤ vec_capacity roots)
-        × (N.first_sem + length N.permits ≤ vec_capacity named) },
+        × (N.first_sem + length N.permits ≤ vec_capacity named)
+        × (N.first_sem + length N.permits ≤ vec_capacity counts) },
     ghost zeros: { AreZeros N.conds sums },
 }
 
-impl<V: Keeps + Send, N: LotName<V> + Send> ClosingRoom<V, N> {
+impl<V: Keeps + Send, N: LotName<V> + Send, C: Tally + Send> ClosingRoom<V, N, C> {
     /// The room of these lists, which are empty, and of sums of nothing.
     pub(crate) fn new(
         passes: Vec<LotPass<V>>,
         roots: Vec<LotLyingRoot<V>>,
-        named: Vec<NamedRoot<V, N>>,
+        named: Vec<NamedRoot<V, N, C>>,
+        counts: Vec<C>,
         sums: Tallies,
-    ) -> ClosingRoom<V, N>
-        requires empty { (vec_len passes ≡ 0) × (vec_len roots ≡ 0) × (vec_len named ≡ 0) }
+    ) -> ClosingRoom<V, N, C>
+        requires empty { (vec_len passes ≡ 0) × (vec_len roots ≡ 0) × (vec_len named ≡ 0) × (vec_len counts ≡ 0) }
         requires for_passes { N.threads ≤ vec_capacity passes }
         requires for_roots { (N.first_sem + length N.permits ≤ vec_capacity roots)
-            × (N.first_sem + length N.permits ≤ vec_capacity named) }
+            × (N.first_sem + length N.permits ≤ vec_capacity named)
+            × (N.first_sem + length N.permits ≤ vec_capacity counts) }
         requires zeros { AreZeros N.conds sums }
     {
         ClosingRoom {
             passes,
             roots,
             named,
+            counts,
             sums,
         }
     }
 
-    /// The lists, with room for the passes of all threads and for the roots of all keys, and the sums.
+    /// The lists, with room for the passes of all threads, for the roots of all keys and for what was counted with
+    /// them, and the sums.
     pub(crate) fn apart(
         self,
     ) -> (
         Vec<LotPass<V>>,
         Vec<LotLyingRoot<V>>,
-        Vec<NamedRoot<V, N>>,
+        Vec<NamedRoot<V, N, C>>,
+        Vec<C>,
         Tallies,
     )
-        ensures empty { (vec_len result.0 ≡ 0) × (vec_len result.1 ≡ 0) × (vec_len result.2 ≡ 0) }
+        ensures empty { (vec_len result.0 ≡ 0) × (vec_len result.1 ≡ 0) × (vec_len result.2 ≡ 0)
+            × (vec_len result.3 ≡ 0) }
         ensures for_passes { N.threads ≤ vec_capacity result.0 }
         ensures for_roots { (N.first_sem + length N.permits ≤ vec_capacity result.1)
-            × (N.first_sem + length N.permits ≤ vec_capacity result.2) }
-        ensures zeros { AreZeros N.conds result.3 }
+            × (N.first_sem + length N.permits ≤ vec_capacity result.2)
+            × (N.first_sem + length N.permits ≤ vec_capacity result.3) }
+        ensures zeros { AreZeros N.conds result.4 }
     {
         let ClosingRoom {
             passes,
             roots,
             named,
+            counts,
             sums,
         } = self;
-        (passes, roots, named, sums)
+        (passes, roots, named, counts, sums)
     }
 }
 
 /// The passes that are in.
-pub(crate) struct Pool<V: Keeps + Send, N: LotName<V> + Send> {
+pub(crate) struct Pool<V: Keeps + Send, N: LotName<V> + Send, C: Tally + Send> {
     idle: Vec<Idle<V, N>>,
-    room: ClosingRoom<V, N>,
+    room: ClosingRoom<V, N, C>,
 }
 
-impl<V: Keeps + Send, N: LotName<V> + Send> Model for Pool<V, N> {
+impl<V: Keeps + Send, N: LotName<V> + Send, C: Tally + Send> Model for Pool<V, N, C> {
     ghost use Rattle.std.specs.Prelude.{ℕ, ◌≤◌, vec_len, vec_capacity};
 
     /// How many are in.
@@ -126,9 +136,9 @@ impl<V: Keeps + Send, N: LotName<V> + Send> Model for Pool<V, N> {
     ghost invariant = { λ s. (vec_len s.idle ≤ N.threads) × (N.threads ≤ vec_capacity s.idle) };
 }
 
-impl<V: Keeps + Send, N: LotName<V> + Send> Pool<V, N> {
+impl<V: Keeps + Send, N: LotName<V> + Send, C: Tally + Send> Pool<V, N, C> {
     /// The pool in which these are.
-    pub(crate) fn new(idle: Vec<Idle<V, N>>, room: ClosingRoom<V, N>) -> Pool<V, N>
+    pub(crate) fn new(idle: Vec<Idle<V, N>>, room: ClosingRoom<V, N, C>) -> Pool<V, N, C>
         requires { (vec_len idle ≤ N.threads) × (N.threads ≤ vec_capacity idle) }
         ensures { result ≡ vec_len idle }
     {
@@ -183,7 +193,7 @@ impl<V: Keeps + Send, N: LotName<V> + Send> Pool<V, N> {
 
     /// The room for closing, once no pass is in. Who closes a lot has all passes, so none is: what no lock's type can
     /// say is tested here.
-    pub(crate) fn into_room<R: Wait>(self, rt: &R) -> ClosingRoom<V, N> {
+    pub(crate) fn into_room<R: Wait>(self, rt: &R) -> ClosingRoom<V, N, C> {
         let Pool { idle, room } = self;
         if idle.is_empty() {
             idle.destroy_empty();

@@ -8,12 +8,12 @@ use crate::lot::Lot;
 use crate::pass::Pass;
 use crate::pool::Pool;
 use lot_park::{ParkingLot, Served};
-use lot_scheme::{LotName, LotScheme};
+use lot_scheme::{LotName, LotScheme, Tally};
 use lot_words::Keeps;
 use std::sync::{MutexGuard, Wait};
 use std::thread;
 
-impl<V: Keeps + Send, N: LotName<V> + Send> Lot<V, N> {
+impl<V: Keeps + Send, N: LotName<V> + Send, C: Tally + Send> Lot<V, N, C> {
     /// Gives the pass of the least number that is in, and lets the table of buckets grow for the passes that are out
     /// with it.
     ///
@@ -81,10 +81,10 @@ impl<V: Keeps + Send, N: LotName<V> + Send> Lot<V, N> {
 
 /// Takes the pass of the least number, and gives it back where the table can't grow. No other thread registers
 /// meanwhile. A pass comes with what the table answered, which has three buckets for each pass that is out.
-fn register_in<V: Keeps + Send, N: LotName<V> + Send, R: Wait>(
+fn register_in<V: Keeps + Send, N: LotName<V> + Send, C: Tally + Send, R: Wait>(
     rt: &R,
-    parking: &ParkingLot<LotScheme<V, N>>,
-    pool: &mut Pool<V, N>,
+    parking: &ParkingLot<LotScheme<V, N, C>>,
+    pool: &mut Pool<V, N, C>,
     threads: usize,
 ) -> Result<(Pass<V, N>, Served), RegisterFault>
     requires { (threads ≡ N.threads) × (parking.now.threads ≡ N.threads) }

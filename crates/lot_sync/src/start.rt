@@ -12,7 +12,7 @@ use crate::lot::Lot;
 use crate::opened::Opened;
 use crate::rooms::{Rooms, name_roots, pool_of};
 use lot_park::{ParkFault, ParkingLot};
-use lot_scheme::{LotName, LotScheme};
+use lot_scheme::{Contention, LotName, LotScheme, Silent, Tally};
 use lot_whole::{LotLyingRoot, LotPass, LotWords};
 use lot_words::Keeps;
 use std::alloc::Global;
@@ -61,18 +61,47 @@ impl<V: Keeps + Send> Opened<V> {
             × (lot.conds ≡ self.conds) × (lot.sems ≡ length self.permits)) }
         ensures back { IfErr result (λ e. (e.0 ≡ OpenFault.NoMemory) × (e.1.items ≡ self.values)) }
     {
-        match Rooms::<V, N>::new(alloc, self.threads, self.roots.len(), self.conds) {
+        self.start_as::<N, Silent>(alloc)
+    }
+
+    /// `start` of a lot that counts how busy each key's line is: [`contention`](Lot::contention) tells it meanwhile, and
+    /// [`close_counted`](Lot::close_counted) at the end. It takes some 90 bytes more for each key. It counts where a
+    /// thread parks or is woken, with the key's bucket locked, so a call that does neither is the same.
+    pub fn start_counting<N: LotName<V> + Send>(
+        self,
+        alloc: Global,
+    ) -> Result<Lot<V, N, Contention>, (OpenFault, Vec<V>)>
+        requires named { IsNamed N.LotName self }
+        requires rests { (p : PassView V) → Starts self.values self.threads p → V.rests (rested p) }
+        ensures lot { IfOk result (λ lot. (lot.threads ≡ self.threads) × (lot.locks ≡ length self.values)
+            × (lot.conds ≡ self.conds) × (lot.sems ≡ length self.permits)) }
+        ensures back { IfErr result (λ e. (e.0 ≡ OpenFault.NoMemory) × (e.1.items ≡ self.values)) }
+    {
+        self.start_as::<N, Contention>(alloc)
+    }
+
+    fn start_as<N: LotName<V> + Send, C: Tally + Send>(
+        self,
+        alloc: Global,
+    ) -> Result<Lot<V, N, C>, (OpenFault, Vec<V>)>
+        requires named { IsNamed N.LotName self }
+        requires rests { (p : PassView V) → Starts self.values self.threads p → V.rests (rested p) }
+        ensures lot { IfOk result (λ lot. (lot.threads ≡ self.threads) × (lot.locks ≡ length self.values)
+            × (lot.conds ≡ self.conds) × (lot.sems ≡ length self.permits)) }
+        ensures back { IfErr result (λ e. (e.0 ≡ OpenFault.NoMemory) × (e.1.items ≡ self.values)) }
+    {
+        match Rooms::<V, N, C>::new(alloc, self.threads, self.roots.len(), self.conds) {
             Ok(rooms) => started(alloc, self, rooms),
             Err(_) => Err((OpenFault::NoMemory, self.close())),
         }
     }
 }
 
-fn started<V: Keeps + Send, N: LotName<V> + Send>(
+fn started<V: Keeps + Send, N: LotName<V> + Send, C: Tally + Send>(
     alloc: Global,
     opened: Opened<V>,
-    rooms: Rooms<V, N>,
-) -> Result<Lot<V, N>, (OpenFault, Vec<V>)>
+    rooms: Rooms<V, N, C>,
+) -> Result<Lot<V, N, C>, (OpenFault, Vec<V>)>
     requires named { IsNamed N.LotName opened }
     requires rests { (p : PassView V) → Starts opened.values opened.threads p → V.rests (rested p) }
     ensures lot { IfOk result (λ lot. (lot.threads ≡ opened.threads) × (lot.locks ≡ length opened.values)
@@ -91,6 +120,7 @@ fn started<V: Keeps + Send, N: LotName<V> + Send>(
     let Rooms {
         idle,
         mut named,
+        counts,
         tallies,
         sums,
     } = rooms;
@@ -98,7 +128,7 @@ fn started<V: Keeps + Send, N: LotName<V> + Send>(
     let scheme = LotScheme::new(words, locks, locks + conds);
     match ParkingLot::open(alloc, threads, named, scheme) {
         Ok((parking, named)) => {
-            let pool = pool_of(passes, tallies, idle, roots, named, sums);
+            let pool = pool_of(passes, tallies, idle, roots, named, counts, sums);
             Ok(Lot::of(parking, pool, threads, locks, conds, sems))
         }
         Err((ParkFault::NoMemory, named, scheme)) => {

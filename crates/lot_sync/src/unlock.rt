@@ -14,12 +14,12 @@ use crate::lot::Lot;
 use crate::pass::Pass;
 use lot_locks::{LockSteps, Released, free_unparked, let_go, unpark_asking};
 use lot_park::Moment;
-use lot_scheme::{LotName, NamedPass};
+use lot_scheme::{LotName, NamedPass, Tally};
 use lot_waits::Tallies;
 use lot_words::Keeps;
 use std::sync::Wait;
 
-impl<V: Keeps + Send, N: LotName<V> + Send> Lot<V, N> {
+impl<V: Keeps + Send, N: LotName<V> + Send, C: Tally + Send> Lot<V, N, C> {
     /// Lets the lock go. Where nobody is parked it is one read-modify-write of the lock's word.
     ///
     /// The moment is looked at only where somebody is parked: a caller that has to ask a clock for it calls

@@ -10,12 +10,12 @@ use crate::held::Held;
 use crate::lot::Lot;
 use crate::pass::Pass;
 use lot_park::{AtOnce, BeforeSleep, Moment};
-use lot_scheme::LotName;
+use lot_scheme::{LotName, Tally};
 use lot_waits::{count_wait, wait};
 use lot_words::Keeps;
 use std::sync::Wait;
 
-impl<V: Keeps + Send, N: LotName<V> + Send> Lot<V, N> {
+impl<V: Keeps + Send, N: LotName<V> + Send, C: Tally + Send> Lot<V, N, C> {
     /// Lets the lock go, waits on the condition until a notification takes the thread, and gets the lock again. The
     /// lock is let go when the thread is in the condition's line, so no notification is missed that comes after it.
     ///

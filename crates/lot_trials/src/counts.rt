@@ -7,7 +7,9 @@ ghost use Rattle.lot_sync.specs.Holding.{Holding, HoldingBoth};
 
 use crate::asserts::{equal, failed, is_so};
 use crate::passes::{enter, take_pass};
-use lot_sync::{BeforeSleep, Held, Ledger, Lot, LotName, Moment, Pass, RegisterFault, Released};
+use lot_sync::{
+    BeforeSleep, Held, Ledger, Lot, LotName, Moment, Pass, RegisterFault, Released, Tally,
+};
 use lot_words::Keeps;
 use std::process::Abort;
 use std::sync::Wait;
@@ -41,9 +43,9 @@ impl Keeps for Count {
 pub(crate) const ASKINGS: u64 = 10_000_000;
 
 /// `lock`, and what the test has of it.
-pub(crate) fn own<N: LotName<Count> + Send + Sync, T: Wait>(
+pub(crate) fn own<N: LotName<Count> + Send + Sync, C: Tally + Send, T: Wait>(
     rt: &T,
-    lot: &Lot<Count, N>,
+    lot: &Lot<Count, N, C>,
     pass: Pass<Count, N>,
     key: usize,
 ) -> (Pass<Count, N>, Held<Count, N>)
@@ -56,9 +58,9 @@ pub(crate) fn own<N: LotName<Count> + Send + Sync, T: Wait>(
 }
 
 /// `unlock` at a moment.
-pub(crate) fn release<N: LotName<Count> + Send + Sync, T: Wait>(
+pub(crate) fn release<N: LotName<Count> + Send + Sync, C: Tally + Send, T: Wait>(
     rt: &T,
-    lot: &Lot<Count, N>,
+    lot: &Lot<Count, N, C>,
     pass: Pass<Count, N>,
     held: Held<Count, N>,
     now: u64,
@@ -91,9 +93,9 @@ pub(crate) fn release_asking<N: LotName<Count> + Send + Sync, T: Wait>(
 }
 
 /// `unlock_fairly` at moment 0.
-pub(crate) fn release_fairly<N: LotName<Count> + Send + Sync, T: Wait>(
+pub(crate) fn release_fairly<N: LotName<Count> + Send + Sync, C: Tally + Send, T: Wait>(
     rt: &T,
-    lot: &Lot<Count, N>,
+    lot: &Lot<Count, N, C>,
     pass: Pass<Count, N>,
     held: Held<Count, N>,
 ) -> (Pass<Count, N>, Released)
@@ -141,9 +143,9 @@ pub(crate) fn word<N: LotName<Count> + Send + Sync>(lot: &Lot<Count, N>, key: us
 
 /// Waits until so many are in the line of the lock, the condition or the semaphore, asking a bounded number of times,
 /// or the test fails.
-pub(crate) fn await_line<N: LotName<Count> + Send + Sync, T: Wait + Abort>(
+pub(crate) fn await_line<N: LotName<Count> + Send + Sync, C: Tally + Send, T: Wait + Abort>(
     rt: &T,
-    lot: &Lot<Count, N>,
+    lot: &Lot<Count, N, C>,
     key: usize,
     count: usize,
 )

@@ -17,6 +17,10 @@ mod calls;
 #[cfg(test)]
 mod composed;
 #[cfg(test)]
+mod contended;
+#[cfg(test)]
+mod contention;
+#[cfg(test)]
 mod counts;
 mod example;
 #[cfg(test)]

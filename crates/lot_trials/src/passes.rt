@@ -3,15 +3,15 @@ ghost use Rattle.std.specs.Prelude.{◌≡◌, ◌<◌};
 ghost use Rattle.lot_sync.specs.Lot.{OwnsNone, rested};
 
 use crate::asserts::failed;
-use lot_sync::{Lot, LotName, Pass};
+use lot_sync::{Lot, LotName, Pass, Tally};
 use lot_words::Keeps;
 use std::process::Abort;
 use std::sync::Wait;
 
 /// A pass of the lot, in which one is.
-pub(crate) fn enter<V: Keeps + Send, N: LotName<V> + Send + Sync, T: Wait + Abort>(
+pub(crate) fn enter<V: Keeps + Send, N: LotName<V> + Send + Sync, C: Tally + Send, T: Wait + Abort>(
     rt: &T,
-    lot: &Lot<V, N>,
+    lot: &Lot<V, N, C>,
 ) -> Pass<V, N>
     ensures thread { result.thread < lot.now.threads }
     ensures free { OwnsNone result }

@@ -377,11 +377,12 @@ fn wrong_words_are_refused(rt: HostRuntime) {
 }
 
 /// The commands, as one of the lines that help prints begins.
-static COMMANDS: [&str; 6] = [
+static COMMANDS: [&str; 7] = [
     "lotstress count THREADS LOCKS ROUNDS SEED ",
     "lotstress relay THREADS ROUNDS SEED ",
     "lotstress pool THREADS PERMITS ROUNDS SEED ",
     "lotstress many THREADS KEYS ROUNDS SEED ",
+    "lotstress contend THREADS LOCKS ROUNDS SEED ",
     "lotstress replay FILE ",
     "lotstress witness FILE ",
 ];

@@ -18,7 +18,7 @@ use crate::notifying::{call_one, call_some, sweep_line};
 use crate::waiting::sleep_on;
 use lot_locks::{Released, get};
 use lot_park::{AtOnce, BeforeSleep, Moment, ParkingLot};
-use lot_scheme::{LotName, LotScheme, NamedPass};
+use lot_scheme::{LotName, LotScheme, NamedPass, Tally};
 use lot_whole::Keeps;
 use std::sync::Wait;
 
@@ -29,9 +29,9 @@ use std::sync::Wait;
 /// The lock is let go when the thread is in the line, so no notification is missed that comes after it. The action runs
 /// before that, with no bucket locked, and must not park. What the thread keeps beside the lock lies below it and below
 /// the condition.
-pub fn wait<V: Keeps + Send, N: LotName<V> + Send, R: Wait, B: BeforeSleep>(
+pub fn wait<V: Keeps + Send, N: LotName<V> + Send, C: Tally + Send, R: Wait, B: BeforeSleep>(
     rt: &R,
-    parking: &ParkingLot<LotScheme<V, N>>,
+    parking: &ParkingLot<LotScheme<V, N, C>>,
     pass: NamedPass<V, N>,
     cond: usize,
     lock: usize,
@@ -58,8 +58,8 @@ pub fn wait<V: Keeps + Send, N: LotName<V> + Send, R: Wait, B: BeforeSleep>(
 /// Whether threads may wait on the condition, by one load of its flag. It never waits, and it is an observation:
 /// nothing is promised of it.
 #[inline(always)]
-pub fn has_waiters<V: Keeps + Send, N: LotName<V> + Send>(
-    parking: &ParkingLot<LotScheme<V, N>>,
+pub fn has_waiters<V: Keeps + Send, N: LotName<V> + Send, C: Tally + Send>(
+    parking: &ParkingLot<LotScheme<V, N, C>>,
     pass: NamedPass<V, N>,
     cond: usize,
 ) -> (NamedPass<V, N>, bool)
@@ -75,9 +75,9 @@ pub fn has_waiters<V: Keeps + Send, N: LotName<V> + Send>(
 /// `Condition::notifyOne`. Where the flag is clear it is one load, and locks no bucket. The thread is woken after the
 /// bucket is unlocked. It takes no memory.
 #[inline(always)]
-pub fn notify_one<V: Keeps + Send, N: LotName<V> + Send, R: Wait>(
+pub fn notify_one<V: Keeps + Send, N: LotName<V> + Send, C: Tally + Send, R: Wait>(
     rt: &R,
-    parking: &ParkingLot<LotScheme<V, N>>,
+    parking: &ParkingLot<LotScheme<V, N, C>>,
     pass: NamedPass<V, N>,
     cond: usize,
     moment: Moment,
@@ -98,9 +98,9 @@ pub fn notify_one<V: Keeps + Send, N: LotName<V> + Send, R: Wait>(
 /// and answers how many they were: `count` times `notify_one`, that nobody can come between. Where the flag is clear it
 /// is one load, and locks no bucket. The threads are woken after the bucket is unlocked. It takes no memory.
 #[inline(always)]
-pub fn notify_some<V: Keeps + Send, N: LotName<V> + Send, R: Wait>(
+pub fn notify_some<V: Keeps + Send, N: LotName<V> + Send, C: Tally + Send, R: Wait>(
     rt: &R,
-    parking: &ParkingLot<LotScheme<V, N>>,
+    parking: &ParkingLot<LotScheme<V, N, C>>,
     pass: NamedPass<V, N>,
     cond: usize,
     count: usize,
@@ -122,9 +122,9 @@ pub fn notify_some<V: Keeps + Send, N: LotName<V> + Send, R: Wait>(
 /// Takes all threads of the condition's line, and answers how many: WTF's `Condition::notifyAll`. Where the flag is
 /// clear it is one load, and locks no bucket. The threads are woken after the bucket is unlocked. It takes no memory.
 #[inline(always)]
-pub fn notify_all<V: Keeps + Send, N: LotName<V> + Send, R: Wait>(
+pub fn notify_all<V: Keeps + Send, N: LotName<V> + Send, C: Tally + Send, R: Wait>(
     rt: &R,
-    parking: &ParkingLot<LotScheme<V, N>>,
+    parking: &ParkingLot<LotScheme<V, N, C>>,
     pass: NamedPass<V, N>,
     cond: usize,
 ) -> (NamedPass<V, N>, usize)

@@ -5,7 +5,7 @@ ghost use Rattle.lot_park.specs.Parking.{Queues};
 ghost use Rattle.lot_waits.specs.Notifying.{Dequeues, DequeuesAll};
 
 use lot_locks::LockSteps;
-use lot_scheme::{LotName, LotScheme, NamedPass, NamedRoot};
+use lot_scheme::{LotName, LotScheme, NamedPass, NamedRoot, Tally};
 use lot_whole::Keeps;
 
 /// A callback hands its pass and its root to one of these. Written for every scheme, since the passes and roots of a
@@ -82,7 +82,7 @@ pub trait CondSteps: LockSteps {
         ensures root { DequeuesAll Self.Root.view root result.1 };
 }
 
-impl<V: Keeps + Send, N: LotName<V> + Send> CondSteps for LotScheme<V, N> {
+impl<V: Keeps + Send, N: LotName<V> + Send, C: Tally + Send> CondSteps for LotScheme<V, N, C> {
     ghost use Rattle.lot_waits.specs.Notifying.{MayCall, Calls, MayTakeAll, Sweeps};
     ghost use Rattle.lot_waits.specs.Waiting.{MayEnlist, Enlists};
 
@@ -101,32 +101,32 @@ impl<V: Keeps + Send, N: LotName<V> + Send> CondSteps for LotScheme<V, N> {
     fn enlist_last(
         &self,
         pass: NamedPass<V, N>,
-        root: NamedRoot<V, N>,
+        root: NamedRoot<V, N, C>,
         key: usize,
         lock: usize,
-    ) -> (NamedPass<V, N>, NamedRoot<V, N>) {
+    ) -> (NamedPass<V, N>, NamedRoot<V, N, C>) {
         self.enlist(pass, root, key, lock)
     }
 
     fn call_first(
         &self,
         pass: NamedPass<V, N>,
-        root: NamedRoot<V, N>,
+        root: NamedRoot<V, N, C>,
         key: usize,
         count: usize,
         taken: usize,
         more: bool,
-    ) -> (NamedPass<V, N>, NamedRoot<V, N>) {
+    ) -> (NamedPass<V, N>, NamedRoot<V, N, C>) {
         self.call(pass, root, key, count, taken, more)
     }
 
     fn sweep_all(
         &self,
         pass: NamedPass<V, N>,
-        root: NamedRoot<V, N>,
+        root: NamedRoot<V, N, C>,
         key: usize,
         taken: usize,
-    ) -> (NamedPass<V, N>, NamedRoot<V, N>) {
+    ) -> (NamedPass<V, N>, NamedRoot<V, N, C>) {
         self.sweep(pass, root, key, taken)
     }
 }

@@ -7,6 +7,8 @@
 //!   were done, and whether never more workers than permits were in.
 //! - `lotstress many THREADS KEYS ROUNDS SEED`: workers lock one of many keys, count and unlock; prints what all keys
 //!   counted, and how many rounds were done.
+//! - `lotstress contend THREADS LOCKS ROUNDS SEED`: workers count under locks of which some are hotter than others;
+//!   prints what all locks counted, how many rounds were done, and the locks that were waited for most.
 //! - `lotstress replay FILE`: runs a script of events and prints the state that it leaves.
 //! - `lotstress witness FILE`: says whether a script that says what was seen is a run of the model.
 //!

@@ -1,4 +1,4 @@
-use Rattle.std.proofs.Common.{◌<◌, subst, sym, rules}
+use Rattle.std.proofs.Common.{subst, sym, rules}
 use Rattle.lot_sync.specs.Lot.{PassView}
 use Rattle.lot_sync.specs.Passes.{pass_view_of}
 use Rattle.lot_sync.specs.Values.{KnowBoth}

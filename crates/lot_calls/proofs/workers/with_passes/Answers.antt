@@ -1,4 +1,4 @@
-use Rattle.lot_calls.proofs.workers.start_with_passes.Goals as goal
+use Rattle.lot_calls.proofs.workers.with_passes.Goals as goal
 
 pub leave_all-room-requires-clause-leave : goal.leave_all-room-requires-clause-leave
 leave_all-room-requires-clause-leave g c κs within = λ k d near.

@@ -1,19 +1,38 @@
 use Rattle.std.proofs.Common.{◌≡◌, ◌+◌, ◌*◌, ◌<◌, [], length, map, vec_len, rules, subst, sym, ap, ◌∙◌}
 use Rattle.std.specs.List.{All, Any}
-use Rattle.lot_rights.specs.Shown.{RootShown}
+use Rattle.std.proofs.lemmas.List.Elements.{All-weaker}
+use Rattle.lot_rights.specs.Shown.{PassShown, RootShown}
+use Rattle.lot_whole.specs.declared.views.LotPassView.{LotPassView}
 use Rattle.lot_rights.proofs.Turns.{some_before, no_elements}
 use Rattle.lot_whole.specs.declared.views.LotRootView.{LotRootView}
-use Rattle.lot_whole.specs.Closing.{IsToldTo}
+use Rattle.lot_whole.specs.Closing.{IsToldTo, HasDone}
 use Rattle.lot_whole.specs.Family.{LotSize, key_count}
 use Rattle.lot_waits.specs.Counts.{counts_shown}
 use Rattle.lot_waits.specs.Ledger.{IsLedger}
 use Rattle.lot_waits.proofs.Sums.{balanced_of}
 use Rattle.lot_sync.specs.Lot.{PassView, LotView, HasSeen, counts_of}
-use Rattle.lot_sync.specs.Passes.{pass_view_shown}
+use Rattle.lot_sync.specs.Passes.{pass_view_shown, IsFree}
+use Rattle.lot_rights.specs.History.{entries_of}
+use Rattle.lot_sync.specs.Closing.{AreCounts}
 use Rattle.lot_sync.specs.Values.{GoesOnTo}
 use Rattle.lot_whole.specs.Order.{accesses_of}
-use Rattle.lot_sync.proofs.Closes.{each_root, counted, goes_on, some_seen, each_own}
-use Rattle.lot_sync.proofs.lot.Lot.close.Goals as goal
+use Rattle.lot_sync.proofs.Closes.{each_root, counted, goes_on, some_seen, each_own, counts_are}
+use Rattle.lot_sync.proofs.lot.Lot.end.Goals as goal
+
+pub close-values-requires-clause-table : goal.close-values-requires-clause-table
+close-values-requires-clause-table g c =
+    let rights = c.gather.new.rights.items in
+    let table = g.N.Name.opening.locks in (
+      subst (λ t. All (λ (p : PassShown (LotPassView g.row.V.Denot)). p.table ≡ t) rights) (sym c.into_words.ensures.named)
+          (All-weaker (IsFree table) (λ (p : PassShown (LotPassView g.row.V.Denot)). p.table ≡ table) (λ p free. free.is_of) rights
+          c.gather.ensures.free),
+      subst (λ t. All (λ (q : RootShown LotRootView). q.table ≡ t) c.unname.new.roots.items) (sym c.into_words.ensures.named)
+          c.unname.ensures.own,
+    )
+
+pub close-values-requires-clause-done : goal.close-values-requires-clause-done
+close-values-requires-clause-done g c =
+    All-weaker (IsFree g.N.Name.opening.locks) HasDone (λ p free. free.done) c.gather.new.rights.items c.gather.ensures.free
 
 pub close-values-requires-clause-passes : goal.close-values-requires-clause-passes
 close-values-requires-clause-passes g c =
@@ -72,3 +91,18 @@ returns-clause-history g c =
       made = subst (All (λ (p : PassView g.row.V.Denot). p.made ≡ accesses_of (2 * p.thread) told.recounted.log)) c.gather.ensures.same
           (each_own told.recounted.log rights told.recounted.passes_made);
     }
+
+pub returns-clause-counted : goal.returns-clause-counted
+unfolding returns-clause-history
+returns-clause-counted g c =
+    let run = returns-clause-history g c in
+    let before = c.apart-rights.result.2 in
+    let none : before.items ≡ [] = no_elements before.items (let n : length before.items ≡ vec_len before = search rules in n
+    ∙ c.apart-rights.ensures.empty.2) in (
+      run,
+      subst (λ roots. AreCounts g.C.Tally.counts run.told.recounted.log roots c.copy_counts.new.counts.items) (sym c.unname.ensures.same)
+          (counts_are g.C.Tally.counts run.told.recounted.log c.self.inside.parking.keys before.items c.close-scheme.new.out.items
+          c.copy_counts.new.counts.items c.close-scheme.ensures.roots none
+          (subst (All (λ (q : RootShown LotRootView). q.made ≡ entries_of (2 * q.key + 1) run.told.recounted.log)) c.unname.ensures.same
+          run.told.recounted.roots_made) c.copy_counts.ensures.counted),
+    )

@@ -1,0 +1,158 @@
+//! How busy the line of a key is: what is counted with its root, by lots that are started so.
+//!
+//! A root is in hand only where its bucket is locked, so counting costs no atomic access, and none at all where nobody
+//! parks or wakes another.
+ghost use Rattle.std.specs.Prelude.{◌≡◌, ℕ, ◌+◌, ◌<◌};
+ghost use Rattle.lot_scheme.specs.Counts.{IsContention, one_if};
+
+use crate::name::LotName;
+use crate::root::NamedRoot;
+use crate::scheme::LotScheme;
+use lot_park::{ParkingLot, Scheme};
+use lot_whole::Keeps;
+use std::cmp;
+use std::sync::Wait;
+
+/// What was counted of a key since its lot was opened. Each number is one modulo 2^64.
+#[derive(Clone, Copy, Debug, PartialEq, Eq)]
+pub struct Contention {
+    /// How many threads were queued: all that were taken since, and those that wait still.
+    pub parked: u64,
+    /// How many were taken from the line and told so.
+    pub taken: u64,
+    /// How many of these were handed the lock. A condition and a semaphore hand nothing over.
+    pub handed: u64,
+    /// How often a thread came to park, and found that it had better try again. Nothing is promised of it.
+    pub again: u64,
+    /// How many waited at most at a time. Nothing is promised of it.
+    pub longest: u64,
+}
+
+/// What a root counts with it.
+pub trait Tally: Copy {
+    /// So many were queued, taken, and handed the lock, where it counts them.
+    ghost counts: { Self → ℕ → ℕ → ℕ → Type 0 };
+
+    /// Of a key on which nobody has parked yet.
+    fn none() -> Self
+        ensures { counts result 0 0 0 };
+
+    /// One was queued.
+    fn queued(self) -> Self
+        ensures { (p t h : ℕ) → counts self p t h → counts result (p + 1) t h };
+
+    /// One came to park, and was not queued.
+    fn turned_back(self) -> Self
+        ensures { (p t h : ℕ) → counts self p t h → counts result p t h };
+
+    /// One was taken, and told this token.
+    fn told(self, token: u32) -> Self
+        ensures { (p t h : ℕ) → counts self p t h → counts result p (t + 1) (h + one_if token) };
+}
+
+/// Counts nothing, and takes no bytes.
+#[derive(Clone, Copy)]
+pub struct Silent;
+
+impl Tally for Silent {
+    ghost counts = { λ _ _ _ _. Unit {0} };
+
+    #[inline(always)]
+    fn none() -> Silent {
+        Silent
+    }
+
+    #[inline(always)]
+    fn queued(self) -> Silent {
+        self
+    }
+
+    #[inline(always)]
+    fn turned_back(self) -> Silent {
+        self
+    }
+
+    #[inline(always)]
+    fn told(self, _token: u32) -> Silent {
+        self
+    }
+}
+
+impl Tally for Contention {
+    ghost counts = { λ c p t h. IsContention p t h c };
+
+    fn none() -> Contention {
+        Contention {
+            parked: 0,
+            taken: 0,
+            handed: 0,
+            again: 0,
+            longest: 0,
+        }
+    }
+
+    fn queued(self) -> Contention {
+        let parked = self.parked.wrapping_add(1);
+        Contention {
+            parked,
+            taken: self.taken,
+            handed: self.handed,
+            again: self.again,
+            longest: cmp::max(self.longest, parked.wrapping_sub(self.taken)),
+        }
+    }
+
+    fn turned_back(self) -> Contention {
+        Contention {
+            parked: self.parked,
+            taken: self.taken,
+            handed: self.handed,
+            again: self.again.wrapping_add(1),
+            longest: self.longest,
+        }
+    }
+
+    fn told(self, token: u32) -> Contention {
+        Contention {
+            parked: self.parked,
+            taken: self.taken.wrapping_add(1),
+            handed: self.handed.wrapping_add((token == 1) as u64),
+            again: self.again,
+            longest: self.longest,
+        }
+    }
+}
+
+/// A scheme whose roots count. Written for every scheme, since the roots of a lot can't be named in a closure's
+/// signature.
+pub trait CountsKeys: Scheme {
+    /// What was counted with the root.
+    fn counted_with(root: &Self::Root) -> Contention;
+}
+
+impl<V: Keeps + Send, N: LotName<V> + Send> CountsKeys for LotScheme<V, N, Contention> {
+    fn counted_with(root: &NamedRoot<V, N, Contention>) -> Contention {
+        root.tally()
+    }
+}
+
+/// What was counted of the key, at some moment of this call: it locks the key's bucket, takes nobody from its line, and
+/// looks. It is an observation: nothing is promised of it.
+pub fn key_contention<S: CountsKeys, R: Wait>(
+    rt: &R,
+    parking: &ParkingLot<S>,
+    key: usize,
+) -> Contention
+    requires { key < parking.now.keys }
+{
+    let (seen, _none) = parking.unpark_count(
+        rt,
+        key,
+        0,
+        Contention::none(),
+        |_before: Contention, root: S::Root, _taken: usize, _more: bool| -> (Contention, S::Root)
+            ensures { result.1 ≡ root }
+        { (S::counted_with(&root), root) },
+    );
+    seen
+}

@@ -1,0 +1,124 @@
+//! Tests of what a lot counts of its keys.
+ghost use Rattle.std.specs.Prelude.{◌≡◌, ◌<◌, length};
+ghost use Rattle.lot_sync.specs.Opened.{IsNamed};
+
+use crate::asserts::{equal, failed, is_so, room_for};
+use crate::counts::{Count, await_count, await_line, own, release, release_fairly};
+use crate::passes::enter;
+use lot_calls::take_all;
+use lot_sync::{Contention, Lot, LotName, Opened, Released};
+use std::alloc::Global;
+use std::marker::Brand;
+use std::process::Abort;
+use std::sync::Wait;
+use std::sync::atomic::{AtomicU64, Ordering};
+use std::thread;
+use std::thread::Threads;
+
+/// What is counted where so many parked, at most one at a time, of whom so many were taken, and handed the lock.
+fn counted(parked: u64, taken: u64, handed: u64) -> Contention {
+    Contention {
+        parked,
+        taken,
+        handed,
+        again: 0,
+        longest: parked,
+    }
+}
+
+/// Owns lock 1 until another thread sleeps there, and hands it over, or leaves it to whoever comes.
+fn hold<N: LotName<Count> + Send + Sync, T: Wait + Abort>(
+    rt: &T,
+    lot: &Lot<Count, N, Contention>,
+    owned: &AtomicU64,
+    fairly: bool,
+)
+    requires locks { 1 < lot.now.locks }
+{
+    let pass = enter(rt, lot);
+    let (pass, held) = own(rt, lot, pass, 1);
+    equal(rt, lot.contention(rt, 1), counted(0, 0, 0));
+    owned.store(1, Ordering::SeqCst);
+    await_line(rt, lot, 1, 1);
+    equal(rt, lot.contention(rt, 1), counted(1, 0, 0));
+    let (pass, released) = if fairly {
+        release_fairly(rt, lot, pass, held)
+    } else {
+        release(rt, lot, pass, held, 0)
+    };
+    let wanted = if fairly {
+        Released::Handed
+    } else {
+        Released::Woke
+    };
+    equal(rt, released, wanted);
+    lot.leave(rt, pass);
+}
+
+/// Sleeps on lock 1 until it is had.
+fn sleep_once<N: LotName<Count> + Send + Sync, T: Wait + Abort>(
+    rt: &T,
+    lot: &Lot<Count, N, Contention>,
+    owned: &AtomicU64,
+)
+    requires locks { 1 < lot.now.locks }
+{
+    await_count(rt, owned, 1);
+    let pass = enter(rt, lot);
+    let (pass, held) = own(rt, lot, pass, 1);
+    let (pass, _) = release(rt, lot, pass, held, 0);
+    lot.leave(rt, pass);
+}
+
+/// One thread lets lock 1 go while another sleeps there; then the lot is closed.
+fn counts_of<N: LotName<Count> + Send + Sync, T: Threads + Wait + Sync + Abort>(
+    rt: &T,
+    alloc: Global,
+    opened: Opened<Count>,
+    fairly: bool,
+) -> Vec<Contention>
+    requires named { IsNamed N.LotName opened }
+    requires sizes { (opened.threads ≡ 2) × (length opened.values ≡ 2) }
+{
+    let mut passes = room_for(rt, alloc, 2);
+    let Ok(mut lot) = opened.start_counting::<N>(alloc) else {
+        failed(rt, "not started")
+    };
+    let owned = AtomicU64::new(0);
+    let holds = ||
+        requires locks { 1 < lot.locks }
+    { hold(rt, &lot, &owned, fairly) };
+    let sleeps = ||
+        requires locks { 1 < lot.locks }
+    { sleep_once(rt, &lot, &owned) };
+    thread::join(rt, holds, sleeps);
+    take_all(rt, &mut lot, &mut passes);
+    let (_, _, counts) = lot.close_counted(rt, passes);
+    counts
+}
+
+fn check_counts<T: Threads + Wait + Sync + Abort>(
+    rt: &T,
+    alloc: Global,
+    fairly: bool,
+    handed: u64,
+) {
+    let Ok(values) = vec![in alloc; Count { n: 7 }; 2] else {
+        failed(rt, "no memory")
+    };
+    match Lot::<Count, Brand>::open(alloc, 2, values, 0) {
+        Ok(opened) => {
+            let counts = counts_of::<Brand, T>(rt, alloc, opened, fairly);
+            is_so(rt, counts.len() == 2, "each key is told of");
+            equal(rt, counts[0], counted(0, 0, 0));
+            equal(rt, counts[1], counted(1, 1, handed));
+        }
+        Err(_) => failed(rt, "not opened"),
+    }
+}
+
+#[test]
+fn a_lot_counts_who_parked_and_who_was_handed_the_lock(rt: HostRuntime) {
+    check_counts(&rt, rt.alloc(), false, 0);
+    check_counts(&rt, rt.alloc(), true, 1);
+}
