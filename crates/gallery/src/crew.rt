@@ -1,5 +1,5 @@
 //! What the programs share: how a lot is opened and ends, and the moment of each unlock.
-ghost use Rattle.std.specs.Prelude.{◌≡◌, ◌≤◌, false, IfOk, IfErr, vec_len, vec_capacity};
+ghost use Rattle.std.specs.Prelude.{◌≡◌, ◌≤◌, true, false, IfOk, IfErr, vec_len, vec_capacity};
 ghost use Rattle.std.specs.List.{All};
 ghost use Rattle.lot_calls.specs.Workers.{MayLeave};
 ghost use Rattle.lot_sync.specs.Opened.{KeepAll};
@@ -42,7 +42,7 @@ pub fn end<V: Keeps + Send + Drop, N: LotName<V> + Send, T: Wait>(
 ) -> Result<Vec<V>, Failure>
     requires leave { All (MayLeave V.Keeps) passes.items }
     requires room { lot.threads ≤ vec_capacity passes }
-    ensures ended { IfOk result (λ values. vec_len values ≡ lot.locks) }
+    ensures ended { IfOk result (λ values. (worked ≡ true) × (vec_len values ≡ lot.locks)) }
     ensures refused { IfErr result (λ _. worked ≡ false) }
 {
     let room = leave_all(rt, &lot, passes);

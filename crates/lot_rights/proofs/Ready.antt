@@ -10,8 +10,9 @@ use Rattle.lot_rights.specs.Layout.{word_at, letter_at}
 use Rattle.lot_rights.specs.Rule.{Meaning, Ruled}
 use Rattle.lot_rights.specs.Settled.{LinesHaveNoLetter}
 use Rattle.lot_rights.specs.Shown.{PassShown, RootShown, WordsShown, right_of_pass, right_of_root, the_pass, the_root}
-use Rattle.lot_rights.specs.Steps.{AllowsPass, AllowsBoth, AllowsRoot, TellsOfTwo, ToldPass, ToldBoth, ToldRoot, ToldTwo}
-use Rattle.lot_rights.proofs.Stepping.{steps_pass, steps_both, steps_root, steps_two}
+use Rattle.lot_rights.specs.Steps.{AllowsPass, AllowsBoth, AllowsRoot, TellsOfTwo, TellsOfRoot, ToldPass, ToldBoth, ToldRoot, ToldTwo}
+use Rattle.lot_rights.specs.Steps.{ToldFact}
+use Rattle.lot_rights.proofs.Stepping.{steps_pass, steps_both, steps_root, steps_two, steps_fact}
 
 module _ {S P R Key : Type 0} (meaning : Key → Meaning S P R) (apart : (key : Key) → LinesHaveNoLetter (meaning key))
     (inside now : WordsShown Key) (is : inside ≡ now) where
@@ -94,6 +95,20 @@ module _ {S P R Key : Type 0} (meaning : Key → Meaning S P R) (apart : (key : 
             (λ _ me'. ToldTwo (the_pass nobody m.0) (the_pass nobody (drop 1 m.0)) fact m me')) (sym two)
             (steps_two (meaning inside.key) (apart inside.key) inside.table.slots id
             (Pass (right_of_pass p) ∷ Pass (right_of_pass q) ∷ [], []) p q 0 fact refl told),
+      )
+
+  pub ready_fact : (mine shown : RootShown R) → mine ≡ shown → shown.table ≡ now.table → 0 < inside.table.words
+      → (id : ℕ) (me : Me S (List (Right P R))) → me ≡ (Root (right_of_root mine) ∷ [], [])
+      → (fact : Type 0) → TellsOfRoot (meaning now.key) shown fact
+      → (mine.table ≡ inside.table) × (0 < inside.table.words)
+      × Allows (Ruled (meaning inside.key)) inside.table.slots id me 0 (λ n. n) (λ _ me'. ToldFact fact me me')
+  ready_fact mine shown e here some id me one fact tells =
+      let told : TellsOfRoot (meaning inside.key) mine fact =
+      subst (λ (x : WordsShown Key). TellsOfRoot (meaning x.key) mine fact) (sym is)
+      (subst (λ (x : RootShown R). TellsOfRoot (meaning now.key) x fact) (sym e) tells) in (
+        ap (λ (x : RootShown R). x.table) e ∙ (here ∙ table_is),
+        some,
+        steps_fact (meaning inside.key) (apart inside.key) inside.table.slots id me mine 0 fact one told,
       )
 
 -- ---- a root after its step

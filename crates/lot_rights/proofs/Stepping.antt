@@ -18,7 +18,7 @@ use Rattle.lot_rights.specs.Rule.{number, made_with, Meaning, RightFits, Leads, 
 use Rattle.lot_rights.specs.Settled.{LinesHaveNoLetter}
 use Rattle.lot_rights.specs.Shown.{PassShown, RootShown, right_of_pass, right_of_root, pass_at_table, root_at_table}
 use Rattle.lot_rights.specs.Steps.{pass_after, root_after, AllowsPass, AllowsBoth, AllowsRoot, TellsOfTwo, ToldPass, ToldBoth, ToldRoot}
-use Rattle.lot_rights.specs.Steps.{ToldTwo}
+use Rattle.lot_rights.specs.Steps.{ToldTwo, TellsOfRoot, ToldFact}
 use Rattle.lot_rights.proofs.Seats.{tick, reseats, times_one, times_set, times_head}
 use Rattle.lot_rights.proofs.Histories.{alike_times, records_more}
 
@@ -171,3 +171,23 @@ module _ {S P R : Type 0} (k : Meaning S P R) (apart : LinesHaveNoLetter k) wher
           ru.seats.once (2 * p.thread),
         )) in
         (me.0, keeps, tt, same_words s ru i at, (refl, apart, tells ru.world s.words s.homes ru.fits fits.0 fits.1.0 apart))
+
+    pub steps_fact : (q : RootShown R) (i : ℕ) (fact : Type 0) → me ≡ (Root (right_of_root q) ∷ [], [])
+        → TellsOfRoot k q fact → Allows (Ruled k) slots id me i (λ n. n) (λ _. ToldFact fact me)
+    steps_fact q i fact one tells s ru deep at small =
+        let at' : get_elem? s.views id ≡ some (Root (right_of_root q) ∷ []) = at ∙ ap (λ (m : Me S (List (Right P R))). some m.0) one in (
+          me.0,
+          keeps,
+          tt,
+          same_words s ru i at,
+          (
+            refl,
+            tells
+                (record {
+                  state = s;
+                  here = ru;
+                  root = (ru.seats.named id (Root (right_of_root q) ∷ []) at').0;
+                  entries = (ru.recorded.listed.told.named id (Root (right_of_root q) ∷ []) at').0;
+                }),
+          ),
+        )

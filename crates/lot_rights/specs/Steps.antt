@@ -1,7 +1,7 @@
 -- Steps of passes and roots on one word: which entry they make, and what each kind has to show of its worlds for them.
 use Rattle.std.specs.Prelude.{◌≡◌, ◌≢◌, ℕ, ◌*◌, ◌+◌, ◌<◌, ◌^◌, List, [], ◌∷◌, ◌++◌, slice_index, slice_set}
 use mathlib.Core.Option.{Option}
-use Rattle.atomic_table.specs.Table.{Me}
+use Rattle.atomic_table.specs.Table.{State, Me}
 use Rattle.atomic_table.specs.Seated.{TableId}
 use Rattle.lot_rights.specs.declared.views.Access.{Access}
 use Rattle.lot_rights.specs.declared.views.Entry.{Entry}
@@ -9,8 +9,8 @@ use Rattle.lot_rights.specs.declared.views.PassRight.{PassRight}
 use Rattle.lot_rights.specs.declared.views.RootRight.{RootRight}
 use Rattle.lot_rights.specs.declared.views.Right.{Right}
 use Rattle.lot_rights.specs.declared.views.Right.TheVariants.{Pass, Root}
-use Rattle.lot_rights.specs.History.{doer}
-use Rattle.lot_rights.specs.Rule.{Meaning, Leads}
+use Rattle.lot_rights.specs.History.{doer, entries_of}
+use Rattle.lot_rights.specs.Rule.{Meaning, Leads, Ruled}
 use Rattle.lot_rights.specs.Shown.{PassShown, RootShown, pass_at_table, root_at_table}
 
 -- one entry more, of which k were made before
@@ -112,6 +112,17 @@ module _ {S P R : Type 0} (k : Meaning S P R) where
   TellsOfTwo p q fact = (w : k.World) (ws : List ℕ) (hs : List (Option S)) → k.Fits w ws hs → k.PassFits w p.thread p.own
       → k.PassFits w q.thread q.own → p.thread ≢ q.thread → fact
 
+  -- At some moment the table kept its rule, its world knew the root, and its history had exactly the root's entries of it
+  pub record Moment (q : RootShown R) : Type 0 where
+    pub state : State S (List (Right P R))
+    pub here : Ruled k state
+    pub root : k.RootFits here.world q.key q.own
+    pub entries : q.made ≡ entries_of (2 * q.key + 1) here.log
+
+  -- of whatever moment of the root, the fact holds
+  abbrev pub TellsOfRoot : RootShown R → Type 0 → Type 0
+  TellsOfRoot q fact = Moment q → fact
+
 -- ---- what a step tells of the seat, of which this is the table
 module _ {S P R : Type 0} (table : TableId) where
   abbrev pub ToldPass : PassRight P → (ℕ → PassShown P → Type 0) → ℕ → Me S (List (Right P R)) → Type 0
@@ -130,3 +141,6 @@ module _ {S P R : Type 0} (table : TableId) where
 module _ {S P R : Type 0} where
   abbrev pub ToldTwo : PassRight P → PassRight P → Type 0 → Me S (List (Right P R)) → Me S (List (Right P R)) → Type 0
   ToldTwo p q fact me me' = (me' ≡ me) × (p.thread ≢ q.thread) × fact
+
+  abbrev pub ToldFact : Type 0 → Me S (List (Right P R)) → Me S (List (Right P R)) → Type 0
+  ToldFact fact me me' = (me' ≡ me) × fact

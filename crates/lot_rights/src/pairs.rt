@@ -1,16 +1,17 @@
-//! Steps of a pass and a root, which come to one seat for one access; the step of a root; and what two passes tell.
+//! Steps of a pass and a root, which come to one seat for one access; the step of a root; and what two passes, and a
+//! root, tell.
 ghost use Rattle.std.specs.Prelude.{◌≡◌, ◌≢◌, ℕ, ◌+◌, ◌^◌, ◌%◌, ◌<◌, ◌⊎◌, [], ◌∷◌, drop, bit_and};
 ghost use Rattle.lot_rights.specs.Layout.{word_at, letter_at};
 ghost use Rattle.lot_rights.specs.declared.views.Right.TheVariants.{Pass, Root};
 ghost use Rattle.lot_rights.specs.Shown.{PassShown, RootShown, right_of_pass, right_of_root, the_pass, the_root};
 ghost use Rattle.lot_rights.specs.Shown.{pass_at_table, root_at_table};
-ghost use Rattle.lot_rights.specs.Steps.{AllowsBoth, AllowsRoot, TellsOfTwo};
+ghost use Rattle.lot_rights.specs.Steps.{AllowsBoth, AllowsRoot, TellsOfTwo, TellsOfRoot};
 
 use crate::kind::{Kind, RightsSeat};
 use crate::layout::SPARE_WORD;
 use crate::rights::{Numbered, Numbering, PassOf, RootAt, RootOf};
 use crate::tells::{
-    Both, BothStep, FirstAndRest, RootStep, TellsBoth, TellsRoot, TellsTwo, TwoStep,
+    Both, BothStep, FactStep, FirstAndRest, RootStep, TellsBoth, TellsFact, TellsRoot, TwoStep,
 };
 use crate::words::WordsOf;
 
@@ -203,7 +204,7 @@ impl<K: Kind> WordsOf<K> {
 
     /// Gives both passes back as they were. The point is what it proves: they are of two threads, and whatever follows
     /// in a world that knows both.
-    pub fn check_two<N: TellsTwo>(
+    pub fn check_two<N: TellsFact>(
         &self,
         first: PassOf<K>,
         second: PassOf<K>,
@@ -232,5 +233,19 @@ impl<K: Kind> WordsOf<K> {
                 thread: two,
             },
         )
+    }
+
+    /// Gives the root back as it was. The point is what it proves: whatever follows of a moment of this call, at which
+    /// the table's history had exactly the entries of the root.
+    pub fn check_root<N: TellsFact, B: Numbering>(&self, root: RootAt<K, B>) -> RootAt<K, B>
+        requires table { root.table ≡ self.now.table }
+        requires tells { TellsOfRoot (K.meaning self.now.key) root N.fact }
+        ensures same { result ≡ root }
+        ensures fact { N.fact }
+    {
+        let shared = &self.table.shared;
+        let RootAt { mut seat, number } = root;
+        shared.load::<FactStep<K, N>>(&mut seat, SPARE_WORD);
+        RootAt { seat, number }
     }
 }

@@ -81,12 +81,12 @@ impl<P, S> Moves<P, S> for Brand {
     ghost back = { λ p q. Unit {0} };
 }
 
-/// Of two passes.
-pub trait TellsTwo {
+/// Of rights that stay as they are.
+pub trait TellsFact {
     ghost fact: { Type 0 };
 }
 
-impl TellsTwo for Brand {
+impl TellsFact for Brand {
     ghost fact = { Unit {0} };
 }
 
@@ -151,12 +151,22 @@ pub struct TwoStep<K, N> {
     of: PhantomData<(K, N)>,
 }
 
-impl<K: Kind, N: TellsTwo> Play<K::Slot, RightsView<K>> for TwoStep<K, N> {
+impl<K: Kind, N: TellsFact> Play<K::Slot, RightsView<K>> for TwoStep<K, N> {
     ghost use Rattle.std.specs.Prelude.{drop};
     ghost use Rattle.lot_rights.specs.Shown.{the_pass};
     ghost use Rattle.lot_rights.specs.Steps.{ToldTwo};
 
     ghost then = { λ s me n me'. ToldTwo (the_pass K.no_pass me.0) (the_pass K.no_pass (drop 1 me.0)) N.fact me me' };
+}
+
+pub struct FactStep<K, N> {
+    of: PhantomData<(K, N)>,
+}
+
+impl<K: Kind, N: TellsFact> Play<K::Slot, RightsView<K>> for FactStep<K, N> {
+    ghost use Rattle.lot_rights.specs.Steps.{ToldFact};
+
+    ghost then = { λ s me n me'. ToldFact N.fact me me' };
 }
 
 /// The rights of two seats, one after the other.

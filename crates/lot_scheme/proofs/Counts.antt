@@ -4,23 +4,33 @@ use Rattle.std.proofs.Common.{◌∙◌, ⊎_elim, arith}
 use Rattle.std.specs.List.{Contains}
 use Rattle.std.proofs.lemmas.List.{append-nil, length-append, take-append-drop}
 use Rattle.std.proofs.lemmas.List.Sums.{sum_by-append}
+use mathlib.Core.Option as maybe
 use Rattle.lot_park.specs.Parking.{debt, debts}
 use Rattle.lot_core.proofs.Members.{in_none}
 use Rattle.lot_rights.specs.declared.views.Access.TheVariants.{Posts}
 use Rattle.lot_rights.specs.declared.views.Entry.{Entry}
 use Rattle.lot_rights.specs.Lines.{without}
 use Rattle.lot_rights.specs.Shown.{RootShown}
-use Rattle.lot_rights.specs.Steps.{RootNotes}
+use Rattle.lot_rights.specs.Steps.{RootNotes, Moment}
 use Rattle.lot_rights.proofs.Lines.{in_cases}
 use Rattle.lot_rights.proofs.Puts.{by_test}
+use Rattle.lot_core.specs.Parts.{LockPart, CondPart, SemaphorePart}
+use Rattle.lot_words.specs.CallersRule.{CallersRule}
+use Rattle.lot_words.specs.declared.views.LockRootView.{LockRootView}
+use Rattle.lot_conds.specs.declared.views.CondRootView.{CondRootView}
 use Rattle.lot_conds.specs.Calls.{called_root, swept_root}
 use Rattle.lot_whole.specs.declared.views.LotRootView.{LotRootView}
 use Rattle.lot_whole.specs.declared.views.LotRootView.TheVariants.{Lock, Cond, Sem}
-use Rattle.lot_whole.specs.Family.{cond as cond_kind}
+use Rattle.lot_whole.specs.Family.{lock as lock_kind, cond as cond_kind, sem as sem_kind, LotSize}
+use Rattle.lot_whole.specs.Whole.{line_at}
+use Rattle.lot_whole.specs.Lot.{LotWorld, LotFits, LotRootIs, lot_meaning}
 use Rattle.lot_whole.specs.Calls.{RootIs, OwesLetter, paid}
 use Rattle.lot_whole.specs.Standing.{IsCondRoot, as_cond}
-use Rattle.lot_scheme.specs.Roots.{debts_of}
-use Rattle.lot_scheme.specs.Counts.{one_if, queued_now, queued_ever, CountedWith, handed_by, handed_in}
+use Rattle.lot_whole.proofs.Family.{line_is}
+use Rattle.lot_whole.proofs.Moments.{one_state, state_is}
+use Rattle.lot_scheme.specs.declared.contention.Contention.{Contention}
+use Rattle.lot_scheme.specs.Roots.{debts_of, line_in, owes_in}
+use Rattle.lot_scheme.specs.Counts.{one_if, IsContention, queued_now, queued_ever, CountedWith, handed_by, handed_in, WasCounted}
 
 none_plus : (n : ℕ) → 0 + n ≡ n
 none_plus n = omega arith
@@ -96,3 +106,33 @@ module _ (counts : ℕ → ℕ → ℕ → Type 0) where
   pub swept_on : (r q : RootShown LotRootView) → IsCondRoot r.own → RootIs cond_kind r (swept_root (as_cond r.own)) q
       → CountedWith counts r → CountedWith counts q
   swept_on r q kind is = counted_on r q (Cond (swept_root (as_cond r.own))) is (swept_same r.own kind)
+
+-- ---- what was counted, and the history of a moment
+module _ {V Part : Type 0} (rule : CallersRule V Part) (z : LotSize) (xs : List V) where
+  -- a root has the line that the state has
+  line_known : (w : LotWorld rule z xs) (ws : List ℕ) (hs : List (maybe.Option (Option V))) (c : ℕ) (own : LotRootView)
+      → LotFits rule z xs w ws hs → LotRootIs rule z xs w c own → line_in own ≡ line_at z w.whole c
+  line_known w ws hs c (Lock q) fits is =
+      sym (line_is z lock_kind w.whole c is.0 ∙ (ap (λ (a : LockPart). a.locks.line c) (fits.agrees lock_kind)
+      ∙ ap (λ (r : LockRootView). r.line) is.1.1))
+  line_known w ws hs c (Cond q) fits is =
+      sym (line_is z cond_kind w.whole c is.0 ∙ (ap (λ (a : CondPart). a.conds.line c) (fits.agrees cond_kind)
+      ∙ ap (λ (r : CondRootView). r.line) is.1.1))
+  line_known w ws hs c (Sem q) fits is =
+      sym (line_is z sem_kind w.whole c is.0 ∙ (ap (λ (a : SemaphorePart). a.sems.line c) (fits.agrees sem_kind) ∙ is.1.1))
+
+  pub was_counted : (c : Contention) (r : RootShown LotRootView) → Moment (lot_meaning rule z xs) r → owes_in r.own ≡ []
+      → CountedWith (λ p t h. IsContention p t h c) r → WasCounted rule z r.key c
+  was_counted c r moment none counted =
+      let whole = one_state rule z xs moment.state moment.here in
+      let line = line_known moment.here.world moment.state.words moment.state.homes r.key r.own moment.here.fits moment.root
+      ∙ ap (λ s. line_at z s r.key) (sym (state_is rule z xs moment.state moment.here)) in
+      let ever : queued_ever r ≡ length r.made + length (line_at z whole.state r.key) = omega (arith, ap length line, ap length none) in
+      record {
+        values = xs;
+        table = moment.state;
+        here = moment.here;
+        whole = whole;
+        counted = subst (λ made. IsContention (length made + length (line_at z whole.state r.key)) (length made) (handed_in made) c)
+            moment.entries (subst (λ n. IsContention n (length r.made) (handed_in r.made) c) ever counted);
+      }

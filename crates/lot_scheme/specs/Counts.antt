@@ -1,10 +1,20 @@
 -- What is counted with a key's root.
-use Rattle.std.specs.Prelude.{◌≡◌, ℕ, ◌+◌, ◌%◌, ◌^◌, ◌==◌, cond, List, [], length, sum_by}
+use Rattle.std.specs.Prelude.{◌≡◌, ℕ, ◌+◌, ◌*◌, ◌%◌, ◌^◌, ◌==◌, cond, List, [], length, sum_by, Option}
+use Rattle.atomic_table.specs.Table.{State}
 use Rattle.lot_rights.specs.declared.views.Access.{Access}
 use Rattle.lot_rights.specs.declared.views.Access.TheVariants.{Makes, Posts, Collects, Finds}
 use Rattle.lot_rights.specs.declared.views.Entry.{Entry}
+use Rattle.lot_rights.specs.declared.views.Right.{Right}
+use Rattle.lot_rights.specs.History.{entries_of}
+use Rattle.lot_rights.specs.Rule.{Ruled}
 use Rattle.lot_rights.specs.Shown.{RootShown}
+use Rattle.lot_words.specs.CallersRule.{CallersRule}
+use Rattle.lot_whole.specs.declared.views.LotPassView.{LotPassView}
 use Rattle.lot_whole.specs.declared.views.LotRootView.{LotRootView}
+use Rattle.lot_whole.specs.Family.{LotSize}
+use Rattle.lot_whole.specs.Whole.{line_at}
+use Rattle.lot_whole.specs.Lot.{lot_meaning}
+use Rattle.lot_whole.specs.Headline.{OneState}
 use Rattle.lot_scheme.specs.declared.contention.Contention.{Contention}
 use Rattle.lot_scheme.specs.Roots.{line_in, owes_in}
 
@@ -28,8 +38,8 @@ handed_by (Finds t c x) = 0
 abbrev pub handed_in : List Entry → ℕ
 handed_in made = sum_by (λ (x : Entry). handed_by x.access) made
 
--- of a key's root: the threads that wait, or were taken and are told of it yet; and all that were ever queued, since who was told of it
--- was told by an entry of the root
+-- of a key's root: the threads that wait, or were taken and are not told yet; and all that were ever queued, since who was told was told
+-- by an entry of the root
 abbrev pub queued_now : LotRootView → ℕ
 queued_now own = length (line_in own) + length (owes_in own)
 
@@ -45,3 +55,21 @@ pub record IsUnused (r : RootShown LotRootView) : Type 0 where
   pub made_none : r.made ≡ []
   pub nobody : line_in r.own ≡ []
   pub owes_none : owes_in r.own ≡ []
+
+-- ---- what was counted, and the history
+-- the entries of the history by which threads were told that they were taken from the line of this key
+abbrev pub tokens_of : ℕ → List Entry → List Entry
+tokens_of key log = entries_of (2 * key + 1) log
+
+-- Of a history after which so many wait for the key: as many were taken as it has entries that told them so, and were handed the lock as
+-- it has such entries with its token; and were queued as were taken, and those who wait still
+abbrev pub CountsOf : (ℕ → ℕ → ℕ → Type 0) → List Entry → ℕ → ℕ → Type 0
+CountsOf counts log key waiting = counts (length (tokens_of key log) + waiting) (length (tokens_of key log)) (handed_in (tokens_of key log))
+
+-- At some moment a lot of this size had such a history, which led to one sound state, with that line of the key
+pub record WasCounted {V Part : Type 0} (rule : CallersRule V Part) (z : LotSize) (key : ℕ) (c : Contention) : Type 0 where
+  pub values : List V
+  pub table : State (Option V) (List (Right (LotPassView V) LotRootView))
+  pub here : Ruled (lot_meaning rule z values) table
+  pub whole : OneState rule z values table here
+  pub counted : CountsOf (λ p t h. IsContention p t h c) here.log key (length (line_at z whole.state key))

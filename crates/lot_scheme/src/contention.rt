@@ -2,7 +2,7 @@
 //!
 //! A root is in hand only where its bucket is locked, so counting costs no atomic access, and none at all where nobody
 //! parks or wakes another.
-ghost use Rattle.std.specs.Prelude.{◌≡◌, ℕ, ◌+◌, ◌<◌};
+ghost use Rattle.std.specs.Prelude.{◌≡◌, ℕ, ◌+◌, ◌<◌, []};
 ghost use Rattle.lot_scheme.specs.Counts.{IsContention, one_if};
 
 use crate::name::LotName;
@@ -126,33 +126,59 @@ impl Tally for Contention {
 /// A scheme whose roots count. Written for every scheme, since the roots of a lot can't be named in a closure's
 /// signature.
 pub trait CountsKeys: Scheme {
-    /// What was counted with the root.
-    fn counted_with(root: &Self::Root) -> Contention;
+    ghost use Rattle.std.specs.Prelude.{ℕ};
+    ghost use Rattle.lot_scheme.specs.declared.contention.Contention.{Contention};
+
+    /// This was counted of the key, at some moment.
+    ghost counted: { ℕ → Contention → Type 0 };
+
+    /// The root as it was, and what was counted with it.
+    fn look_at(&self, root: Self::Root) -> (Self::Root, Contention)
+        requires clear { (Self.Root.view root).owes ≡ [] }
+        ensures same { result.0 ≡ root }
+        ensures counted { counted (Self.Root.view root).key result.1 };
 }
 
 impl<V: Keeps + Send, N: LotName<V> + Send> CountsKeys for LotScheme<V, N, Contention> {
-    fn counted_with(root: &NamedRoot<V, N, Contention>) -> Contention {
-        root.tally()
+    ghost use Rattle.lot_scheme.specs.Roots.{size_named};
+    ghost use Rattle.lot_scheme.specs.Counts.{WasCounted};
+
+    ghost counted = { WasCounted V.Keeps (size_named N.threads N.locks N.conds N.permits) };
+
+    fn look_at(
+        &self,
+        root: NamedRoot<V, N, Contention>,
+    ) -> (NamedRoot<V, N, Contention>, Contention) {
+        let (root, tally) = root.apart();
+        let root = self.words().check_root(root);
+        (NamedRoot::counted(root, tally), tally)
     }
 }
 
 /// What was counted of the key, at some moment of this call: it locks the key's bucket, takes nobody from its line, and
-/// looks. It is an observation: nothing is promised of it.
+/// looks.
 pub fn key_contention<S: CountsKeys, R: Wait>(
     rt: &R,
     parking: &ParkingLot<S>,
     key: usize,
 ) -> Contention
     requires { key < parking.now.keys }
+    ensures { S.counted key result }
 {
+    let scheme = parking.scheme();
     let (seen, _none) = parking.unpark_count(
         rt,
         key,
         0,
         Contention::none(),
         |_before: Contention, root: S::Root, _taken: usize, _more: bool| -> (Contention, S::Root)
-            ensures { result.1 ≡ root }
-        { (S::counted_with(&root), root) },
+            requires clear { (S.Root.view root).owes ≡ [] }
+            ensures same { result.1 ≡ root }
+            ensures counted { S.counted (S.Root.view root).key result.0 }
+        {
+            let (root, seen) = scheme.look_at(root);
+            (seen, root)
+        },
     );
     seen
 }

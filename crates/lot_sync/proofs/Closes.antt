@@ -20,13 +20,13 @@ use Rattle.lot_whole.specs.declared.views.LotRootView.{LotRootView}
 use Rattle.lot_whole.specs.Family.{cond}
 use Rattle.lot_whole.specs.Order.{accesses_of}
 use Rattle.lot_scheme.specs.Roots.{root_view, line_in, owes_in}
-use Rattle.lot_scheme.specs.Counts.{queued_now, handed_in}
+use Rattle.lot_scheme.specs.Counts.{queued_now, handed_in, tokens_of}
 use Rattle.lot_scheme.specs.Standing.{LotStanding, standing}
 use Rattle.lot_waits.specs.Counts.{counts_shown}
 use Rattle.lot_sync.specs.Lot.{LotNames, PassView, Owns, OwnsNone, HasSeen, counts_of}
 use Rattle.lot_sync.specs.Passes.{pass_view_of, pass_view_shown, IsAtRest, IsFree}
 use Rattle.lot_sync.specs.Values.{GoesOnTo}
-use Rattle.lot_sync.specs.Closing.{told_of, AreCounts, AreCountedWith}
+use Rattle.lot_sync.specs.Closing.{AreCounts, AreCountedWith}
 use Rattle.lot_sync.proofs.Rests.{held_owned}
 
 nobody_out : (out : Option ℕ) → is_some out ≡ false → out ≡ None
@@ -99,16 +99,18 @@ all_got P (y ∷ ys) (suc i) x all at = all_got P ys i x (All-tail P y ys all) a
 pub counts_are : {C : Type 0} (counts : C → ℕ → ℕ → ℕ → Type 0) (log : List Entry) (keys : ℕ) (before after : List (RootShown LotRootView))
     (cs : List C) → Appends root_view keys before after → before ≡ []
     → All (λ (q : RootShown LotRootView). q.made ≡ entries_of (2 * q.key + 1) log) after
-    → AreCountedWith counts after cs → AreCounts counts log after cs
-counts_are counts log keys before after cs back none made counted =
+    → length after ≡ length cs → AreCountedWith counts after cs → AreCounts counts log after cs
+counts_are counts log keys before after cs back none made each counted =
     let are : after ≡ back.roots = back.appended ∙ ap (λ (rs : List (RootShown LotRootView)). rs ++ back.roots) none in
     let key_at = λ (i : ℕ) (r : RootShown LotRootView) (at : slice_get after i ≡ Some r). back.named i r
     (subst (λ (rs : List (RootShown LotRootView)). slice_get rs i ≡ Some r) are at) in
     record {
+      each = each;
       keys = key_at;
       tell = λ i c r here at.
-          let own : r.made ≡ told_of i log = all_got (λ (q : RootShown LotRootView). q.made ≡ entries_of (2 * q.key + 1) log) after i r made at
-          ∙ ap (λ k. told_of k log) (key_at i r at) in
+          let own : r.made ≡ tokens_of i log =
+          all_got (λ (q : RootShown LotRootView). q.made ≡ entries_of (2 * q.key + 1) log) after i r made at
+          ∙ ap (λ k. tokens_of k log) (key_at i r at) in
           let owes = back.paid i r (subst (λ (rs : List (RootShown LotRootView)). slice_get rs i ≡ Some r) are at) in
           subst (λ m. counts c (length m + length (line_in r.own)) (length m) (handed_in m)) own
           (subst (λ n. counts c (length r.made + n) (length r.made) (handed_in r.made)) (owed_none r.own owes) (counted i c r here at));

@@ -1,15 +1,14 @@
 -- What `close` tells of the history.
-use Rattle.std.specs.Prelude.{◌≡◌, ℕ, ◌+◌, ◌*◌, List, length, map, slice_get, Some}
+use Rattle.std.specs.Prelude.{◌≡◌, ℕ, ◌*◌, List, length, map, slice_get, Some}
 use Rattle.std.specs.List.{All}
 use Rattle.lot_rights.specs.declared.views.Entry.{Entry}
-use Rattle.lot_rights.specs.History.{entries_of}
 use Rattle.lot_rights.specs.Shown.{PassShown, RootShown}
 use Rattle.lot_whole.specs.declared.views.LotPassView.{LotPassView}
 use Rattle.lot_whole.specs.declared.views.LotRootView.{LotRootView}
 use Rattle.lot_whole.specs.Order.{accesses_of}
 use Rattle.lot_whole.specs.Closing.{IsToldTo}
 use Rattle.lot_scheme.specs.Roots.{size_named, line_in}
-use Rattle.lot_scheme.specs.Counts.{CountedWith, handed_in}
+use Rattle.lot_scheme.specs.Counts.{CountedWith, CountsOf}
 use Rattle.lot_sync.specs.Lot.{PassView, LotNames}
 use Rattle.lot_sync.specs.Passes.{pass_view_shown}
 
@@ -24,19 +23,15 @@ pub record HasOneRun {V : Type 0} (names : LotNames V) (passes : List (PassView 
   pub made : All (λ (p : PassView V). p.made ≡ accesses_of (2 * p.thread) told.recounted.log) passes
 
 -- ---- what was counted of the keys
--- the entries of the history by which threads were told that they were taken from the line of this key
-abbrev pub told_of : ℕ → List Entry → List Entry
-told_of key log = entries_of (2 * key + 1) log
-
 module _ {C : Type 0} (counts : C → ℕ → ℕ → ℕ → Type 0) where
   -- each was counted with the root at its place
   abbrev pub AreCountedWith : List (RootShown LotRootView) → List C → Type 0
   AreCountedWith roots cs =
       (i : ℕ) (c : C) (r : RootShown LotRootView) → slice_get cs i ≡ Some c → slice_get roots i ≡ Some r → CountedWith (counts c) r
 
-  -- Each tells of the key at its place how many were queued, taken, and handed the lock: as many were taken as the history has entries that
-  -- told them so, and were handed the lock as it has such entries with its token; and were queued as were taken, and those who wait still
+  -- There is one for each root, and the roots are in order. Each tells what the history has of the key at its place
   pub record AreCounts (log : List Entry) (roots : List (RootShown LotRootView)) (cs : List C) : Type 0 where
+    pub each : length roots ≡ length cs
     pub keys : (i : ℕ) (r : RootShown LotRootView) → slice_get roots i ≡ Some r → r.key ≡ i
     pub tell : (i : ℕ) (c : C) (r : RootShown LotRootView) → slice_get cs i ≡ Some c → slice_get roots i ≡ Some r
-        → counts c (length (told_of i log) + length (line_in r.own)) (length (told_of i log)) (handed_in (told_of i log))
+        → CountsOf (counts c) log i (length (line_in r.own))

@@ -1,7 +1,8 @@
 //! How busy the lines of a lot's keys are, where it counts that.
 ghost use Rattle.std.specs.Prelude.{◌≡◌, ℕ, ◌+◌, ◌<◌, vec_len};
 ghost use Rattle.std.specs.List.{All, Any};
-ghost use Rattle.lot_scheme.specs.Counts.{IsContention};
+ghost use Rattle.lot_scheme.specs.Roots.{size_named};
+ghost use Rattle.lot_scheme.specs.Counts.{IsContention, WasCounted};
 ghost use Rattle.lot_sync.specs.Lot.{PassView, OwnsNone, IsLedgerOf};
 ghost use Rattle.lot_sync.specs.Values.{GoesOnTo, AreSeen};
 ghost use Rattle.lot_sync.specs.Closing.{HasOneRun, AreCounts};
@@ -14,13 +15,14 @@ use lot_words::Keeps;
 use std::sync::Wait;
 
 impl<V: Keeps + Send, N: LotName<V> + Send> Lot<V, N, Contention> {
-    /// What was counted of the lock, the condition or the semaphore, as it was at some moment of this call. It is an
-    /// observation, of which nothing is promised: `close_counted` tells what the history has.
+    /// What was counted of the lock, the condition or the semaphore, as it was at some moment of this call: as many as
+    /// the history had then. Two calls are of two moments.
     ///
     /// To find the lock that is waited for most, compare `parked` of all: a thread that gets its lock without parking is
     /// counted nowhere.
     pub fn contention<R: Wait>(&self, rt: &R, key: usize) -> Contention
         requires { key < self.now.locks + self.now.conds + self.now.sems }
+        ensures { WasCounted V.Keeps (size_named N.threads N.locks N.conds N.permits) key result }
     {
         prove!(self.has_lock(key) || self.has_cond(key) || self.has_sem(key));
         key_contention(rt, self.parking(), key)

@@ -1,12 +1,16 @@
 //! Tests of what a lot counts of its keys.
-ghost use Rattle.std.specs.Prelude.{◌≡◌, ◌<◌, length};
+ghost use Rattle.std.specs.Prelude.{◌≡◌, ℕ, ◌+◌, ◌<◌, ◌%◌, ◌^◌, length, vec_len, slice_get, Some};
+ghost use Rattle.std.specs.List.{All, Any};
+ghost use Rattle.lot_scheme.specs.Counts.{tokens_of};
+ghost use Rattle.lot_sync.specs.Closing.{HasOneRun};
+ghost use Rattle.lot_sync.specs.Lot.{PassView, OwnsNone};
 ghost use Rattle.lot_sync.specs.Opened.{IsNamed};
 
 use crate::asserts::{equal, failed, is_so, room_for};
 use crate::counts::{Count, await_count, await_line, own, release, release_fairly};
 use crate::passes::enter;
 use lot_calls::take_all;
-use lot_sync::{Contention, Lot, LotName, Opened, Released};
+use lot_sync::{Contention, Lot, LotName, Opened, Pass, Released};
 use std::alloc::Global;
 use std::marker::Brand;
 use std::process::Abort;
@@ -70,6 +74,24 @@ fn sleep_once<N: LotName<Count> + Send + Sync, T: Wait + Abort>(
     lot.leave(rt, pass);
 }
 
+/// What a caller concludes at the end: of each key as many were taken as the one history has tokens of it.
+fn close_told<N: LotName<Count> + Send, T: Wait>(
+    rt: &T,
+    lot: Lot<Count, N, Contention>,
+    passes: Vec<Pass<Count, N>>,
+) -> Vec<Contention>
+    requires count { vec_len passes ≡ lot.threads }
+    requires all { (t : ℕ) → t < lot.threads → Any (λ (p : PassView Count). p.thread ≡ t) passes.items }
+    requires free { All OwnsNone passes.items }
+    ensures told { (run : HasOneRun N.LotName passes.items) × ((key : ℕ) (c : Contention)
+        → slice_get result.items key ≡ Some c
+        → c.taken ≡ length (tokens_of key run.told.recounted.log) % 2 ^ 64) }
+    ensures each { vec_len result ≡ lot.locks + lot.conds + lot.sems }
+{
+    let (_, _, counts) = lot.close_counted(rt, passes);
+    counts
+}
+
 /// One thread lets lock 1 go while another sleeps there; then the lot is closed.
 fn counts_of<N: LotName<Count> + Send + Sync, T: Threads + Wait + Sync + Abort>(
     rt: &T,
@@ -93,8 +115,7 @@ fn counts_of<N: LotName<Count> + Send + Sync, T: Threads + Wait + Sync + Abort>(
     { sleep_once(rt, &lot, &owned) };
     thread::join(rt, holds, sleeps);
     take_all(rt, &mut lot, &mut passes);
-    let (_, _, counts) = lot.close_counted(rt, passes);
-    counts
+    close_told(rt, lot, passes)
 }
 
 fn check_counts<T: Threads + Wait + Sync + Abort>(

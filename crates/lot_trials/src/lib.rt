@@ -17,14 +17,14 @@ mod calls;
 #[cfg(test)]
 mod composed;
 #[cfg(test)]
-mod contended;
-#[cfg(test)]
 mod contention;
 #[cfg(test)]
 mod counts;
 mod example;
 #[cfg(test)]
 mod history;
+#[cfg(test)]
+mod hottest;
 #[cfg(test)]
 mod ledger;
 #[cfg(test)]

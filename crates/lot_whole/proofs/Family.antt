@@ -19,7 +19,7 @@ use Rattle.lot_sems.proofs.Machine.{awake_is as sem_awake}
 use Rattle.lot_words.specs.declared.views.LockPassView.{LockPassView}
 use Rattle.lot_whole.specs.Family.{Which, lock, cond, sem, LotSize, sizes_in, key_count, IsKeyIn, PassIn, away, homes_in, meaning_of}
 use Rattle.lot_whole.specs.Family.{part_in, dput}
-use Rattle.lot_whole.specs.Whole.{word_in}
+use Rattle.lot_whole.specs.Whole.{word_in, line_in, line_at}
 use Rattle.lot_whole.specs.Lot.{sum_of}
 
 -- ---- which kind it is
@@ -155,3 +155,12 @@ module _ {V Part : Type 0} (rule : CallersRule V Part) (z : LotSize) (xs : List 
       else (if lt-ltb c (z.locks + z.conds) is.1 i then flag_word (s.conds.flag c) else word_of (s.sems.left c) (s.sems.parked c)))
   word_is sem s c is = (λ i. if le-ltb c z.locks (omega (arith, is.0)) i then bits_of (s.locks.held c) (s.locks.parked c)
       else (if le-ltb c (z.locks + z.conds) is.0 i then flag_word (s.conds.flag c) else word_of (s.sems.left c) (s.sems.parked c)))
+
+-- and its line that of its kind
+pub line_is : (z : LotSize) (j : Which) (s : World) (c : ℕ) → IsKeyIn z j c → line_at z s c ≡ line_in s j c
+line_is z lock s c is = (λ i. if lt-ltb c z.locks (omega (arith, is.1)) i then s.locks.line c
+    else (if nat_lt c (z.locks + z.conds) then s.conds.line c else s.sems.line c))
+line_is z cond s c is = (λ i. if le-ltb c z.locks is.0 i then s.locks.line c
+    else (if lt-ltb c (z.locks + z.conds) is.1 i then s.conds.line c else s.sems.line c))
+line_is z sem s c is = (λ i. if le-ltb c z.locks (omega (arith, is.0)) i then s.locks.line c
+    else (if le-ltb c (z.locks + z.conds) is.0 i then s.conds.line c else s.sems.line c))

@@ -1,5 +1,5 @@
 -- At every moment: what keeps the rule of a lot stands for one state of the whole.
-use Rattle.std.proofs.Common.{◌≡◌, ℕ, ◌+◌, List, [], ◌∷◌, map, get_or, sym, ap, subst, ◌∙◌, ⊎_elim, Option}
+use Rattle.std.proofs.Common.{◌≡◌, ℕ, ◌+◌, List, [], ◌∷◌, map, get_or, refl, sym, ap, subst, ◌∙◌, ⊎_elim, Option}
 use Rattle.std.specs.List.{Contains}
 use Rattle.atomic_table.specs.Table.{State}
 use Rattle.lot_core.specs.World.{World}
@@ -91,6 +91,10 @@ module _ {V Part : Type 0} (rule : CallersRule V Part) (z : LotSize) (xs : List 
       key_told lock = (here.fits.parts lock).words.words
       key_told cond = (here.fits.parts cond).words.words
       key_told sem = (here.fits.parts sem).words.words
+
+  pub state_is : one_state.state ≡ here.world.whole
+  unfolding one_state
+  state_is = refl
 
   pub promises : Promises rule z xs s here
   promises = record {

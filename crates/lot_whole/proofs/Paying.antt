@@ -1,5 +1,5 @@
 -- A letter that the root of a key posts, of whatever kind the key is.
-use Rattle.std.proofs.Common.{◌≡◌, ℕ, ◌+◌, List, refl, sym, subst, inr}
+use Rattle.std.proofs.Common.{ℕ, ◌+◌, List, refl, sym, subst, inr}
 use Rattle.lot_rights.specs.declared.views.Access.TheVariants.{Posts}
 use Rattle.lot_rights.specs.declared.views.Entry.{Entry}
 use Rattle.atomic_table.specs.Seated.{TableId}

@@ -75,6 +75,12 @@ line_in s lock l = s.locks.line l
 line_in s cond c = s.conds.line c
 line_in s sem k = s.sems.line k
 
+-- the line of each key, whatever its kind
+abbrev pub line_at : LotSize → World → ℕ → List ℕ
+line_at z s c =
+    if nat_lt c z.locks then s.locks.line c
+    else (if nat_lt c (z.locks + z.conds) then s.conds.line c else s.sems.line c)
+
 -- the thread is in the line of a key, of whatever kind
 abbrev pub IsQueued : World → ℕ → Type 0
 IsQueued s t = (j : Which) × (c : ℕ) × Contains (line_in s j c) t

@@ -1,14 +1,16 @@
-//! Two passes of one table are of two threads: no lock is held by both, and they have together no more permits than
-//! there are.
+//! What rights prove by being there. Two passes of one table are of two threads: no lock is held by both, and they have
+//! together no more permits than there are. A root has what the history has of its key.
 ghost use Rattle.std.specs.Prelude.{◌≡◌, ◌≢◌, ℕ, ◌+◌, ◌<◌, ◌≤◌, slice_index};
+ghost use Rattle.lot_rights.specs.Steps.{Moment};
 ghost use Rattle.lot_words.specs.World.{Holds};
 ghost use Rattle.lot_whole.specs.Family.{key_count};
 ghost use Rattle.lot_whole.specs.Closing.{permits_of};
 ghost use Rattle.lot_whole.specs.Both.{KnowBoth};
+ghost use Rattle.lot_whole.specs.Shown.{lot_of};
 
-use crate::kind::LotPass;
+use crate::kind::{LotLyingRoot, LotPass};
 use crate::words::LotWords;
-use lot_rights::word_of_key;
+use lot_rights::{Lying, word_of_key};
 use lot_words::Keeps;
 use std::marker::Brand;
 
@@ -23,10 +25,22 @@ impl<V: Keeps> LotWords<V> {
         ensures locks { (l : ℕ) → Holds first.own.locks l → ¬ Holds second.own.locks l }
         ensures permits { (k : ℕ) → slice_index first.own.sems.out k + slice_index second.own.sems.out k ≤
             permits_of self.now.size k }
-        ensures values { (l : ℕ) → l < self.now.size.locks → KnowBoth V.Keeps l first.thread second.thread first.own.locks second.own.locks }
+        ensures values { (l : ℕ) → l < self.now.size.locks
+            → KnowBoth V.Keeps l first.thread second.thread first.own.locks second.own.locks }
     {
         let words = &self.words;
         words.check_two::<Brand>(first, second)
+    }
+
+    /// Gives the root back as it was. The point is what it proves: at a moment of this call the table's history had of
+    /// this key exactly the root's entries.
+    pub fn check_root(&self, root: LotLyingRoot<V>) -> LotLyingRoot<V>
+        requires table { root.table ≡ self.now.table }
+        ensures same { result ≡ root }
+        ensures moment { Moment (lot_of V.Keeps self.now) root }
+    {
+        let words = &self.words;
+        words.check_root::<Brand, Lying>(root)
     }
 
     /// The word of a key as it was just now: a lock's bits, a condition's flag, or twice the permits that a semaphore

@@ -25,7 +25,7 @@ load-requires g c =
     ready_two g.K.Kind.meaning g.K.Kind.no_letter_in_line _ _ c.self.view_is
     g.K.Kind.no_pass c.args.first c.args.second _
     (c.join_seat.ensures.0 ∙ (ap (λ (x : PassShown _). x.table) c.first.view_is ∙ (c.requires.table.0 ∙ here)))
-    c.self.inside.some c.join_seat.new.seat.id c.join_seat.new.seat.me two g.N.TellsTwo.fact c.requires.tells
+    c.self.inside.some c.join_seat.new.seat.id c.join_seat.new.seat.me two g.N.TellsFact.fact c.requires.tells
 
 pub split_seat-other-requires : goal.split_seat-other-requires
 split_seat-other-requires g c =

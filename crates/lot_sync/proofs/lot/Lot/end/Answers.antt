@@ -98,11 +98,16 @@ returns-clause-counted g c =
     let run = returns-clause-history g c in
     let before = c.apart-rights.result.2 in
     let none : before.items ≡ [] = no_elements before.items (let n : length before.items ≡ vec_len before = search rules in n
-    ∙ c.apart-rights.ensures.empty.2) in (
+    ∙ c.apart-rights.ensures.empty.2) in
+    let back = c.close-scheme.new.out in
+    let counts = c.copy_counts.new.counts in
+    let roots_long : length back.items ≡ vec_len back = search rules in
+    let counts_long : length counts.items ≡ vec_len counts = search rules in
+    let as_many : length back.items ≡ length counts.items = roots_long ∙ (sym c.copy_counts.ensures.long ∙ sym counts_long) in (
       run,
       subst (λ roots. AreCounts g.C.Tally.counts run.told.recounted.log roots c.copy_counts.new.counts.items) (sym c.unname.ensures.same)
           (counts_are g.C.Tally.counts run.told.recounted.log c.self.inside.parking.keys before.items c.close-scheme.new.out.items
           c.copy_counts.new.counts.items c.close-scheme.ensures.roots none
           (subst (All (λ (q : RootShown LotRootView). q.made ≡ entries_of (2 * q.key + 1) run.told.recounted.log)) c.unname.ensures.same
-          run.told.recounted.roots_made) c.copy_counts.ensures.counted),
+          run.told.recounted.roots_made) as_many c.copy_counts.ensures.counted),
     )
