@@ -22,7 +22,11 @@ mod contention;
 mod counts;
 mod example;
 #[cfg(test)]
+mod gates;
+#[cfg(test)]
 mod history;
+#[cfg(test)]
+mod holding;
 #[cfg(test)]
 mod hottest;
 #[cfg(test)]
@@ -36,6 +40,8 @@ mod passes;
 #[cfg(test)]
 mod permits;
 #[cfg(test)]
+mod replays;
+#[cfg(test)]
 mod returned;
 #[cfg(test)]
 mod rows;
@@ -45,6 +51,10 @@ mod runs;
 mod schedules;
 #[cfg(test)]
 mod shares;
+#[cfg(test)]
+mod standing;
+#[cfg(test)]
+mod steps;
 #[cfg(test)]
 mod texts;
 #[cfg(test)]

@@ -7,7 +7,7 @@ ghost use Rattle.lot_sync.specs.Opened.{IsNamed};
 use crate::asserts::{equal, failed, room_for};
 use crate::counts::Count;
 use crate::passes::enter;
-use crate::schedules::Step;
+use crate::steps::Step;
 use crate::waits::{COND, on_conds};
 use lot_calls::finish;
 use lot_sync::{Freed, Lot, LotName, Moment, Opened, Pass, Released};

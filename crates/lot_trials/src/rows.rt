@@ -5,7 +5,8 @@ ghost use Rattle.lot_sync.specs.Opened.{IsNamed};
 
 use crate::asserts::{equal, failed, is_so};
 use crate::counts::{Count, Gathered, end, free, try_own, word};
-use crate::schedules::{Memory, Schedule, Step, follow, may_be_refused};
+use crate::schedules::{Schedule, follow};
+use crate::steps::{Memory, Step, may_be_refused};
 use lot_sync::{Lot, LotName, OpenFault, Opened, Pass, RegisterFault, Released};
 use std::alloc::Global;
 use std::marker::Brand;

@@ -2,7 +2,8 @@
 //! and some are held before they sleep.
 
 use crate::counts::Gathered;
-use crate::schedules::{Memory, Schedule, Step, follow};
+use crate::schedules::{Schedule, follow};
+use crate::steps::{Memory, Step};
 use lot_sync::Released;
 use std::alloc::Global;
 use std::process::Abort;
