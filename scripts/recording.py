@@ -145,7 +145,7 @@ def recorded_source(text, counts):
     """A file of lot_whole in which each access is written down. Counts how many of each function were found."""
     made, at = [], 0
     for found in STEP.finditer(text):
-        if found[3] in ("check_two", "exchange"):
+        if found[3] in ("check_two", "check_root", "exchange"):
             continue
         function = re.findall(r"fn (\w+)", text[: found.start()])[-1]
         number = counts.get(function, 0)
