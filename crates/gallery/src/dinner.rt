@@ -1,4 +1,4 @@
-//! Dinner: five philosophers at a round table, with a fork between any two. Each eats with the two forks beside his
+//! Dinner: five philosophers at a round table, with a fork between any two. Each eats with the two forks beside their
 //! seat and gets the lower first, so no circle of them waits.
 ghost use Rattle.std.specs.Prelude.{◌≡◌, ◌<◌, ◌≤◌, ℕ, List, Option, length, vec_len, vec_capacity};
 ghost use Rattle.atomic_table.specs.Table.{State};
@@ -114,7 +114,7 @@ pub fn eat<N: LotName<Fork> + Send, T: Wait>(
     pass
 }
 
-/// Ends the dinner: of each philosopher both his forks count equally many meals.
+/// Ends the dinner: of each philosopher both forks count equally many meals.
 pub fn end<N: LotName<Fork> + Send, T: Wait>(
     rt: &T,
     lot: Lot<Fork, N>,
@@ -171,7 +171,7 @@ fn meals_in(forks: &[Fork]) -> u64 {
     meals / 2
 }
 
-/// One philosopher, with all his meals.
+/// One philosopher, with all meals.
 fn dine<N: LotName<Fork> + Send, T: Wait>(
     rt: &T,
     lot: &Lot<Fork, N>,
