@@ -145,9 +145,10 @@ def recorded_source(text, counts):
     """A file of lot_whole in which each access is written down. Counts how many of each function were found."""
     made, at = [], 0
     for found in STEP.finditer(text):
-        if found[3] in ("check_two", "check_root", "exchange"):
-            continue
         function = re.findall(r"fn (\w+)", text[: found.start()])[-1]
+        # these change nothing, and no recorded command counts
+        if found[3] in ("check_two", "check_root", "exchange") or function == "count":
+            continue
         number = counts.get(function, 0)
         if function not in PLACES or number >= len(PLACES[function][0]):
             raise Unfit(f"{function} of lot_whole makes an access that scripts/recording.py does not know")

@@ -97,6 +97,7 @@ module _ (size : Size) (p : PassShown CondPassView) (c : ℕ) (among : IsAmongCo
             refl,
           ),
         );
+        counted = λ tokens. tt;
         told = λ k. (k, refl);
       }
 
@@ -118,6 +119,7 @@ module _ (size : Size) (p : PassShown CondPassView) (c : ℕ) (among : IsAmongCo
         passes = passes_else size w t p1 w.spot c false (w.root c);
         roots = roots_same size w c;
         made = (refl, (row_lower w size t fit.0 c among p1 w.spot (calm_in size w ok.kept t p.own fit.1 calm) refl, refl));
+        counted = λ tokens. tt;
         told = λ k. (k, refl);
       }
 
@@ -201,6 +203,7 @@ module _ (size : Size) (p : PassShown CondPassView) (q : RootShown CondRootView)
         roots = roots_else size w t p1 spots c true q1;
         made =
             (refl, (row_enlist w size t fit.0 c root.0 p1 spots (calm_in size w ok.kept t p.own fit.1 calm) l lock q1 refl refl, letters));
+        counted = λ tokens same. tt;
         told = λ k. ((k, refl), refl);
       }
 
@@ -270,6 +273,7 @@ module _ (size : Size) (p : PassShown CondPassView) (q : RootShown CondRootView)
         passes = passes_else size w t caller spots c flag rest;
         roots = roots_else size w t caller spots c flag rest;
         made = (refl, (call_step, letters));
+        counted = λ tokens same. tt;
         told = λ i. ((i, refl), refl);
       }
 
@@ -321,6 +325,7 @@ module _ (size : Size) (p : PassShown CondPassView) (q : RootShown CondRootView)
             letters,
           ),
         );
+        counted = λ tokens same. tt;
         told = λ k. ((k, refl), refl);
       }
 
@@ -359,6 +364,7 @@ module _ (size : Size) (q : RootShown CondRootView) (u : ℕ) (debt : Contains q
             λ i. record { part = same_part w u (w.pass u) spots c q1 refl refl i; letters = one_letter w.spot u (lying c 0) i },
           ),
         );
+        counted = λ tokens. tt;
         told = λ k. (k, refl);
       }
 
@@ -392,6 +398,7 @@ module _ (size : Size) (p : PassShown CondPassView) where
       passes = λ u x ne h. h;
       roots = λ d y h. h;
       made = (refl, (none_there, refl));
+      counted = λ tokens. tt;
       told = λ k. (omega arith, (k, refl));
     }
 
@@ -430,6 +437,7 @@ module _ (size : Size) (p : PassShown CondPassView) where
               },
             ),
           );
+          counted = λ tokens. tt;
           told = λ k. (omega arith, (refl, (c, (sym (ap (λ (z : CondPassView). z.out) fit.1) ∙ fits.0.1, (k, refl)))));
         }
 

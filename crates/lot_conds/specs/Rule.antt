@@ -1,6 +1,6 @@
 -- The rule of a table of condition words: there is a world that the words and the rights stand for, and it tells the condition part of the
 -- model.
-use Rattle.std.specs.Prelude.{ℕ, ◌+◌, ◌<◌, false, List, [], replicate, None}
+use Rattle.std.specs.Prelude.{ℕ, ◌+◌, ◌<◌, false, List, [], replicate, None, length}
 use Rattle.std.specs.List.{Contains}
 use Rattle.std.proofs.Common.{sym, ap, ◌∙◌}
 use Rattle.lot_events.specs.declared.events.Event.{Event}
@@ -38,6 +38,10 @@ IsStep size a e saw b = CondStep size.threads size.locks size.conds a e saw b
 abbrev pub word_in : CondPart → ℕ → ℕ
 word_in a c = flag_word (a.conds.flag c)
 
+-- how many threads are in a condition's line
+abbrev pub waiting_in : CondPart → ℕ → ℕ
+waiting_in a c = length (a.conds.line c)
+
 -- the thread is in a condition's line
 abbrev pub IsQueued : CondPart → ℕ → Type 0
 IsQueued a t = (c : ℕ) × Contains (a.conds.line c) t
@@ -66,6 +70,7 @@ meaning size = record {
   start = record { part = opening_part; letters = λ t. 0 };
   Step = IsStep size;
   word_in = word_in;
+  waiting_in = waiting_in;
   IsQueued = IsQueued;
   threads = size.threads;
   first_key = size.locks;

@@ -7,7 +7,7 @@ use Rattle.lot_events.specs.declared.events.Event.TheVariants.{Try, Take, Mark, 
 use Rattle.lot_events.specs.declared.events.Event.TheVariants.{SemTake, SemMark, SemPark, SemFree, SemPass as Passes, SemClear}
 use Rattle.lot_events.specs.declared.events.Seen.TheVariants.{Bool as Saw, Done, Sleeper}
 use Rattle.lot_rights.specs.declared.views.Access.{Access}
-use Rattle.lot_rights.specs.declared.views.Access.TheVariants.{Makes, Posts, Collects, Finds}
+use Rattle.lot_rights.specs.declared.views.Access.TheVariants.{Makes, Posts, Collects, Finds, Counts}
 use Rattle.lot_scheme.specs.Words.{IsPermitSeek, GetPermitWord, TookWord, BusyWord, UnfreedWord}
 use Rattle.lot_permits.specs.declared.permit.Freed.{Freed}
 use Rattle.lot_permits.specs.declared.permit.Freed.TheVariants.{Quiet, Woke, Nobody}
@@ -40,6 +40,7 @@ seeks t k (Makes (SemClear u n) saw) h = tt
 seeks t k (Posts c u token) h = tt
 seeks t k (Collects u found) h = tt
 seeks t k (Finds u c word) h = tt
+seeks t k (Counts u c told handed waiting) h = tt
 
 all_seek : (t k : ℕ) (acts : List Access) → All (IsPermitSeek t k) acts → All IsNoUnlock acts
 all_seek t k [] h = All-nil IsNoUnlock

@@ -81,6 +81,7 @@ module _ {S P R : Type 0} (k : Meaning S P R) (s : State S (List (Right P R))) (
     };
     log = ru.log;
     run = ru.recorded.run;
+    counted = ru.recorded.counted;
     passes_made = each_pass (Noted number made_with ru.log) (ru.recorded.listed.told.named id v at);
     roots_made = each_root (Noted number made_with ru.log) (ru.recorded.listed.told.named id v at);
   }
@@ -88,12 +89,13 @@ module _ {S P R : Type 0} (k : Meaning S P R) (s : State S (List (Right P R))) (
 -- what is left to tell when the words are gone
 abbrev pub ended_recounted : {S P R : Type 0} (k : Meaning S P R) (passes : List (PassShown P)) (roots : List (RootShown R)) (ws : List ℕ)
     (xs : List S) → Ended k passes roots ws xs
-    → IsRecounted k.Step k.word_in k.IsQueued k.start passes roots
+    → IsRecounted k.Step k.word_in k.waiting_in k.IsQueued k.start passes roots
 ended_recounted k passes roots ws xs e = record {
   log = e.log;
   part = (k.told_by e.left.world).part;
   letters = (k.told_by e.left.world).letters;
   history = e.run;
+  counted = e.counted;
   run = run_of_events k k.start 0 e.log (k.told_by e.left.world) e.run;
   passes_made = e.passes_made;
   roots_made = e.roots_made;

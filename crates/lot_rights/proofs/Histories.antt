@@ -1,13 +1,13 @@
 -- A history grows by one entry, or stays.
 use Rattle.std.proofs.Common.{◌≡◌, ◌≢◌, ℕ, ◌+◌, ◌≤◌, ◌==◌, Bool, true, false, cond, List, [], ◌∷◌, ◌++◌, length, set, refl, sym, ap, subst}
-use Rattle.std.proofs.Common.{◌∙◌, eq-eqb, ne_eqb, arith}
+use Rattle.std.proofs.Common.{◌∙◌, append_assoc, eq-eqb, ne_eqb, arith}
 use Rattle.std.proofs.lemmas.List.{append-nil}
 use mathlib.Core.Option.{some}
 use lib.ListN.{get_elem?}
 use Rattle.lot_rights.specs.declared.views.Access.{Access}
 use Rattle.lot_rights.specs.declared.views.Entry.{Entry}
 use Rattle.lot_rights.specs.Seating.{times, times_in, Each}
-use Rattle.lot_rights.specs.History.{doer, entries_of, Run, Noted, SameMade, Listed, Recorded}
+use Rattle.lot_rights.specs.History.{doer, entries_of, tokens_of, CountsRight, AllCountRight, Run, Noted, SameMade, Listed, Recorded}
 use Rattle.lot_rights.proofs.Seats.{times_append, times_one, times_set, times_snoc, times_head, tick, reseats, joins, splits}
 
 -- ---- lists of entries
@@ -39,6 +39,23 @@ module _ {S : Type 0} (Leads : S → Access → S → Type 0) where
   run_more a k [] b x c run at step = (omega arith, (c, (subst (λ z. Leads z x.access c) run step, refl)))
   run_more a k (y ∷ log) b x c run at step =
       (run.0, (run.1.0, (run.1.1.0, run_more run.1.0 (k + 1) log b x c run.1.1.1 (omega arith) step)))
+
+-- what is counted by one access more is so, and what was counted before
+pub counted_more : (before log : List Entry) (x : Entry) → AllCountRight before log
+    → CountsRight (λ c. tokens_of c (before ++ log)) x.access → AllCountRight before (log ++ x ∷ [])
+counted_more before [] x all one = (subst (λ (es : List Entry). CountsRight (λ c. tokens_of c es) x.access) (append-nil before) one, tt)
+counted_more before (y ∷ log) x all one = (
+  all.0,
+  counted_more (before ++ y ∷ []) log x all.1
+      (subst (λ (es : List Entry). CountsRight (λ c. tokens_of c es) x.access) (sym (append_assoc before (y ∷ []) log)) one),
+)
+
+-- what an entry counted was so of the entries before it
+pub counted_at : (first before : List Entry) (x : Entry) (after : List Entry) → AllCountRight first (before ++ x ∷ after)
+    → CountsRight (λ c. tokens_of c (first ++ before)) x.access
+counted_at first [] x after all = subst (λ (es : List Entry). CountsRight (λ c. tokens_of c es) x.access) (sym (append-nil first)) all.0
+counted_at first (y ∷ before) x after all = subst (λ (es : List Entry). CountsRight (λ c. tokens_of c es) x.access)
+    (append_assoc first (y ∷ []) before) (counted_at (first ++ y ∷ []) before x after all.1)
 
 -- ---- what the rights show
 module _ {R : Type 0} (number : R → ℕ) (made : R → List Entry) where
@@ -146,25 +163,30 @@ module _ {R : Type 0} (number : R → ℕ) (made : R → List Entry) where
   module _ {S : Type 0} (Leads : S → Access → S → Type 0) (first : S) (log : List Entry) (views : List (List R)) (b : S)
       (ok : Recorded number made Leads first log views b) (id : ℕ) where
     pub records_more : (x : Entry) (c : S) (r r' : R) (v v' : List R) → get_elem? views id ≡ some (r ∷ v)
-        → x.at ≡ length log → Leads b x.access c
+        → x.at ≡ length log → Leads b x.access c → CountsRight (λ d. tokens_of d log) x.access
         → doer x.access ≡ number r → number r' ≡ number r → made r' ≡ made r ++ x ∷ [] → SameMade number made v v'
         → Recorded number made Leads first (log ++ x ∷ []) (set views id (r' ∷ v')) c
-    records_more x c r r' v v' at place step by same more alike = record {
+    records_more x c r r' v v' at place step counts by same more alike = record {
       run = run_more Leads first 0 log b x c ok.run (omega arith) step;
+      counted = counted_more [] log x ok.counted counts;
       listed = listed_more log views id x r r' v v' ok.listed at by same more alike;
     }
 
     pub records_stay : (c : S) → c ≡ b → (v v' : List R) → get_elem? views id ≡ some v → SameMade number made v v'
         → Recorded number made Leads first log (set views id v') c
     records_stay c e v v' at alike =
-        record { run = subst (λ z. Run Leads first 0 log z) (sym e) ok.run; listed = listed_stays log views id v v' ok.listed at alike }
+        record {
+          run = subst (λ z. Run Leads first 0 log z) (sym e) ok.run;
+          counted = ok.counted;
+          listed = listed_stays log views id v v' ok.listed at alike;
+        }
 
     pub records_join : (other : ℕ) (v w : List R) → get_elem? views id ≡ some v → other ≢ id
         → get_elem? (set views id (v ++ w)) other ≡ some w
         → Recorded number made Leads first log (set (set views id (v ++ w)) other []) b
-    records_join other v w at ne there = record { run = ok.run; listed = listed_joins log views id other v w ok.listed at ne there }
+    records_join other v w at ne there = record { run = ok.run; counted = ok.counted; listed = listed_joins log views id other v w ok.listed at ne there }
 
     pub records_split : (v l r : List R) → get_elem? views id ≡ some v → ((j : ℕ) → times number j l + times number j r ≡ times number j v)
         → (Each number (Noted number made log) v → Each number (Noted number made log) l × Each number (Noted number made log) r)
         → Recorded number made Leads first log (set views id l ++ r ∷ []) b
-    records_split v l r at same cut = record { run = ok.run; listed = listed_splits log views id v l r ok.listed at same cut }
+    records_split v l r at same cut = record { run = ok.run; counted = ok.counted; listed = listed_splits log views id v l r ok.listed at same cut }

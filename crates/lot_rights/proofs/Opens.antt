@@ -108,6 +108,7 @@ module _ {S P R : Type 0} (k : Meaning S P R) where
     recorded =
         record {
           run = o.start;
+          counted = tt;
           listed = record { told = all_seated (Noted number made_with []) (λ t near. refl) (λ c among. refl); known = λ i away. refl };
         };
   }

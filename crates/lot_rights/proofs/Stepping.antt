@@ -13,7 +13,7 @@ use Rattle.lot_rights.specs.declared.views.RootRight.{RootRight}
 use Rattle.lot_rights.specs.declared.views.Right.{Right}
 use Rattle.lot_rights.specs.declared.views.Right.TheVariants.{Pass, Root}
 use Rattle.lot_rights.specs.Seating.{times, Each}
-use Rattle.lot_rights.specs.History.{doer, SameMade}
+use Rattle.lot_rights.specs.History.{doer, tokens_of, CountsRight, SameMade}
 use Rattle.lot_rights.specs.Rule.{number, made_with, Meaning, RightFits, Leads, LeadsOn, Ruled}
 use Rattle.lot_rights.specs.Settled.{LinesHaveNoLetter}
 use Rattle.lot_rights.specs.Shown.{PassShown, RootShown, right_of_pass, right_of_root, pass_at_table, root_at_table}
@@ -46,8 +46,9 @@ module _ {S P R : Type 0} (k : Meaning S P R) (apart : LinesHaveNoLetter k) wher
       → ((q : Right P R) → times {R = Right P R} number (number q) (r ∷ v) ≡ 0 → RightFits k ru.world q → RightFits k world q)
       → Each {R = Right P R} number (RightFits k world) (r' ∷ v')
       → doer access ≡ number r → Leads k (k.told_by ru.world) access (k.told_by world)
+      → CountsRight (λ c. tokens_of c ru.log) access
       → Ruled k (record { words = words; homes = homes; views = set s.views id (r' ∷ v') })
-  makes s ru id r r' v v' world words homes access at fits same more alike keeps_others here by leads =
+  makes s ru id r r' v v' world words homes access at fits same more alike keeps_others here by leads counts =
       let entry : Entry = record { at = length ru.log; access = access } in
       let times_are : (i : ℕ) → times {R = Right P R} number i (r' ∷ v') ≡ times {R = Right P R} number i (r ∷ v) =
       (λ i. λ j. cond (same j == i) 1 0 + alike_times number made_with v v' alike i j) in
@@ -61,7 +62,7 @@ module _ {S P R : Type 0} (k : Meaning S P R) (apart : LinesHaveNoLetter k) wher
         log = ru.log ++ entry ∷ [];
         recorded =
             records_more number made_with (LeadsOn k) k.start ru.log s.views (k.told_by ru.world) ru.recorded id entry (k.told_by world)
-            r r' v v' at refl (leads, apart world words homes fits) by same more alike;
+            r r' v v' at refl (leads, apart world words homes fits) counts by same more alike;
       }
 
   module _ (slots id : ℕ) (me : Me S (List (Right P R))) where
@@ -77,7 +78,8 @@ module _ {S P R : Type 0} (k : Meaning S P R) (apart : LinesHaveNoLetter k) wher
           tt,
           makes s ru id (Pass r) (Pass p') [] [] turn.world
               (set s.words i (f (slice_index s.words i))) s.homes turn.access at' turn.fits refl refl tt
-              (others r turn.world turn.passes turn.roots) (turn.pass, tt) turn.made.0 turn.made.1,
+              (others r turn.world turn.passes turn.roots) (turn.pass, tt) turn.made.0 turn.made.1
+              (turn.counted (λ c. tokens_of c ru.log)),
           (p', refl, (λ j. (Pass p' ∷ [], (one j).1)), turn.told (length ru.log)),
         )
       where
@@ -96,6 +98,8 @@ module _ {S P R : Type 0} (k : Meaning S P R) (apart : LinesHaveNoLetter k) wher
         at ∙ ap (λ (m : Me S (List (Right P R))). some m.0) both in
         let fits = ru.seats.named id (Pass (right_of_pass p) ∷ Root (right_of_root q) ∷ []) at' in
         let turn = allows ru.world s.words s.homes ru.fits fits.0 fits.1.0 small in
+        let shown : q.made ≡ tokens_of q.key ru.log =
+        (ru.recorded.listed.told.named id (Pass (right_of_pass p) ∷ Root (right_of_root q) ∷ []) at').1.0 in
         let p' : PassRight P = right_of_pass (pass_after p turn.own (length ru.log) turn.access) in
         let q' : RootRight R = right_of_root (record q { own = turn.its }) in (
           Pass p' ∷ Root q' ∷ [],
@@ -103,7 +107,8 @@ module _ {S P R : Type 0} (k : Meaning S P R) (apart : LinesHaveNoLetter k) wher
           tt,
           makes s ru id (Pass (right_of_pass p)) (Pass p') (Root (right_of_root q) ∷ []) (Root q' ∷ []) turn.world
               (set s.words i (f (slice_index s.words i))) s.homes turn.access at' turn.fits refl refl (refl, refl, tt)
-              (others turn.world turn.passes turn.roots) (turn.pass, (turn.root, tt)) turn.made.0 turn.made.1,
+              (others turn.world turn.passes turn.roots) (turn.pass, (turn.root, tt)) turn.made.0 turn.made.1
+              (turn.counted (λ c. tokens_of c ru.log) (sym shown)),
           (
             p',
             q',
@@ -134,7 +139,8 @@ module _ {S P R : Type 0} (k : Meaning S P R) (apart : LinesHaveNoLetter k) wher
           tt,
           makes s ru id (Root r) (Root q') [] [] turn.world
               (set s.words i (f (slice_index s.words i))) s.homes turn.access at' turn.fits refl refl tt
-              (others turn.world turn.passes turn.roots) (turn.root, tt) turn.made.0 turn.made.1,
+              (others turn.world turn.passes turn.roots) (turn.root, tt) turn.made.0 turn.made.1
+              (turn.counted (λ c. tokens_of c ru.log)),
           (q', refl, (λ j. (Root q' ∷ [], (one j).1)), turn.told (length ru.log)),
         )
       where

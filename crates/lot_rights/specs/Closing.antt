@@ -1,5 +1,5 @@
 -- What a closing asks for and tells.
-use Rattle.std.specs.Prelude.{◌≡◌, ℕ, ◌+◌, ◌*◌, ◌≤◌, List, ◌++◌, length, map}
+use Rattle.std.specs.Prelude.{◌≡◌, ℕ, ◌+◌, ◌*◌, ◌≤◌, List, [], ◌++◌, length, map}
 use Rattle.std.specs.List.{All}
 use mathlib.Core.Option.{Option, some}
 use lib.ListN.{get_elem?}
@@ -9,7 +9,7 @@ use Rattle.lot_rights.specs.declared.views.Entry.{Entry}
 use Rattle.lot_rights.specs.declared.views.Right.{Right}
 use Rattle.lot_rights.specs.declared.views.Right.TheVariants.{Pass, Root}
 use Rattle.lot_rights.specs.Seating.{times}
-use Rattle.lot_rights.specs.History.{events_in, entries_of, ModelRun, Run, Telling, Continues}
+use Rattle.lot_rights.specs.History.{events_in, entries_of, ModelRun, Run, Telling, Continues, AllCountRight}
 use Rattle.lot_rights.specs.Rule.{number, Meaning, LeadsOn}
 use Rattle.lot_rights.specs.Shown.{PassShown, RootShown, right_of_pass, right_of_root}
 
@@ -38,18 +38,20 @@ module _ {S P R : Type 0} (k : Meaning S P R) where
     pub left : Left passes roots ws xs
     pub log : List Entry
     pub run : Run (LeadsOn k) k.start 0 log (k.told_by left.world)
+    pub counted : AllCountRight [] log
     pub passes_made : All (λ (p : PassShown P). p.made ≡ entries_of (2 * p.thread) log) passes
     pub roots_made : All (λ (q : RootShown R). q.made ≡ entries_of (2 * q.key + 1) log) roots
 
--- ---- what is left to tell when the table is gone: one history from the opening, and a run of the model, which is the
--- history without its notices
-module _ {Part P R : Type 0} (Step : Part → Event → Seen → Part → Type 0) (word_in : Part → ℕ → ℕ) (IsQueued : Part → ℕ → Type 0)
+-- ---- what is left to tell when the table is gone: one history from the opening, in which what was counted is so, and a
+-- run of the model, which is the history without its notices
+module _ {Part P R : Type 0} (Step : Part → Event → Seen → Part → Type 0) (word_in waiting_in : Part → ℕ → ℕ) (IsQueued : Part → ℕ → Type 0)
     (start : Telling Part) where
   pub record IsRecounted (passes : List (PassShown P)) (roots : List (RootShown R)) : Type 0 where
     pub log : List Entry
     pub part : Part
     pub letters : ℕ → ℕ
-    pub history : Run (Continues Step word_in IsQueued) start 0 log (record { part = part; letters = letters })
+    pub history : Run (Continues Step word_in waiting_in IsQueued) start 0 log (record { part = part; letters = letters })
+    pub counted : AllCountRight [] log
     pub run : ModelRun Step start.part (events_in log) part
     pub passes_made : All (λ (p : PassShown P). p.made ≡ entries_of (2 * p.thread) log) passes
     pub roots_made : All (λ (q : RootShown R). q.made ≡ entries_of (2 * q.key + 1) log) roots

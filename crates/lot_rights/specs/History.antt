@@ -1,13 +1,13 @@
 -- Histories: which accesses were made, the oldest first, and with which rights. An access is an event of the model, or a notice of what a
 -- word really was.
-use Rattle.std.specs.Prelude.{◌≡◌, ◌≢◌, ℕ, ◌+◌, ◌*◌, ◌==◌, cond, List, [], ◌∷◌, ◌++◌, Some, None}
+use Rattle.std.specs.Prelude.{◌≡◌, ◌≢◌, ℕ, ◌+◌, ◌*◌, ◌==◌, cond, List, [], ◌∷◌, ◌++◌, length, sum_by, Some, None}
 use Rattle.lot_core.specs.World.{put}
 use Rattle.lot_events.specs.declared.events.Event.{Event}
 use Rattle.lot_events.specs.declared.events.Event.TheVariants.{Try, Take, Mark, Park, Free, Pass, Enlist, Look, Call, Lower, Sweep, SemTake}
 use Rattle.lot_events.specs.declared.events.Event.TheVariants.{SemMark, SemPark, SemFree, SemPass, SemClear}
 use Rattle.lot_events.specs.declared.events.Seen.{Seen}
 use Rattle.lot_rights.specs.declared.views.Access.{Access}
-use Rattle.lot_rights.specs.declared.views.Access.TheVariants.{Makes, Posts, Collects, Finds}
+use Rattle.lot_rights.specs.declared.views.Access.TheVariants.{Makes, Posts, Collects, Finds, Counts}
 use Rattle.lot_rights.specs.declared.views.Entry.{Entry}
 use Rattle.lot_rights.specs.Seating.{times_in, Seated}
 
@@ -37,6 +37,7 @@ doer (Makes e saw) = 2 * maker e
 doer (Posts c t token) = 2 * c + 1
 doer (Collects t found) = 2 * t
 doer (Finds t c x) = 2 * t
+doer (Counts t c told handed waiting) = 2 * t
 
 -- the entries of the right with the number i
 abbrev pub entries_of : ℕ → List Entry → List Entry
@@ -54,7 +55,7 @@ pub record Telling (P : Type 0) : Type 0 where
 abbrev pub no_letters : {P : Type 0} → P → Telling P
 no_letters a = record { part = a; letters = λ t. 0 }
 
-module _ {P : Type 0} (Step : P → Event → Seen → P → Type 0) (word_in : P → ℕ → ℕ) where
+module _ {P : Type 0} (Step : P → Event → Seen → P → Type 0) (word_in waiting_in : P → ℕ → ℕ) where
   -- what the words told when the access was made, and what they tell then
   abbrev pub Happens : Telling P → Access → Telling P → Type 0
   Happens a (Makes e saw) b = Step a.part e saw b.part × (b.letters ≡ a.letters)
@@ -62,6 +63,7 @@ module _ {P : Type 0} (Step : P → Event → Seen → P → Type 0) (word_in : 
   Happens a (Collects t None) b = (a.letters t ≡ 0) × (b ≡ a)
   Happens a (Collects t (Some token)) b = (a.letters t ≡ token + 1) × (b ≡ record a { letters = put a.letters t 0 })
   Happens a (Finds t c x) b = (x ≡ word_in a.part c) × (b ≡ a)
+  Happens a (Counts t c told handed waiting) b = (waiting ≡ waiting_in a.part c) × (b ≡ a)
 
 module _ {P : Type 0} (IsQueued : P → ℕ → Type 0) where
   -- no letter lies for a thread that is in a line
@@ -70,9 +72,42 @@ module _ {P : Type 0} (IsQueued : P → ℕ → Type 0) where
 
 -- A history goes on by an access: it happens, and no letter lies then for a thread that is in a line. So who is in a line
 -- is posted a letter, and collects one, only after an event that took him from there
-module _ {P : Type 0} (Step : P → Event → Seen → P → Type 0) (word_in : P → ℕ → ℕ) (IsQueued : P → ℕ → Type 0) where
+module _ {P : Type 0} (Step : P → Event → Seen → P → Type 0) (word_in waiting_in : P → ℕ → ℕ) (IsQueued : P → ℕ → Type 0) where
   abbrev pub Continues : Telling P → Access → Telling P → Type 0
-  Continues a x b = Happens Step word_in a x b × NoLetterInLine IsQueued b
+  Continues a x b = Happens Step word_in waiting_in a x b × NoLetterInLine IsQueued b
+
+-- ---- what was counted
+-- 1 of the token with which a lock is handed over, 0 of any other
+abbrev pub one_if_handoff : ℕ → ℕ
+one_if_handoff token = cond (token == 1) 1 0
+
+-- how many of these entries handed a lock over
+abbrev pub handed_by : Access → ℕ
+handed_by (Makes e saw) = 0
+handed_by (Posts c t token) = one_if_handoff token
+handed_by (Collects t found) = 0
+handed_by (Finds t c x) = 0
+handed_by (Counts t c told handed waiting) = 0
+
+abbrev pub handed_in : List Entry → ℕ
+handed_in made = sum_by (λ (x : Entry). handed_by x.access) made
+
+-- the entries by which threads were told that they were taken from the line of this key
+abbrev pub tokens_of : ℕ → List Entry → List Entry
+tokens_of key log = entries_of (2 * key + 1) log
+
+-- where the access counts, it tells how many such entries there are of its key
+abbrev pub CountsRight : (ℕ → List Entry) → Access → Type 0
+CountsRight tokens (Makes e saw) = Unit {0}
+CountsRight tokens (Posts c t token) = Unit {0}
+CountsRight tokens (Collects t found) = Unit {0}
+CountsRight tokens (Finds t c x) = Unit {0}
+CountsRight tokens (Counts t c told handed waiting) = (told ≡ length (tokens c)) × (handed ≡ handed_in (tokens c))
+
+-- each access that counts tells of the entries before it
+abbrev pub AllCountRight : List Entry → List Entry → Type 0
+AllCountRight before [] = Unit {0}
+AllCountRight before (x ∷ xs) = CountsRight (λ c. tokens_of c before) x.access × AllCountRight (before ++ x ∷ []) xs
 
 -- ---- the log
 -- its accesses, of which k were made before, lead from a to b, each at its place and from what the ones before it have led to
@@ -87,6 +122,7 @@ with_event (Makes e saw) es = (e, saw) ∷ es
 with_event (Posts c t token) es = es
 with_event (Collects t found) es = es
 with_event (Finds t c x) es = es
+with_event (Counts t c told handed waiting) es = es
 
 abbrev pub events_in : List Entry → List (Event × Seen)
 events_in [] = []
@@ -132,8 +168,9 @@ module _ {R : Type 0} (number : R → ℕ) (made : R → List Entry) where
     pub told : Seated number (Noted log) views
     pub known : (i : ℕ) → times_in number i views ≡ 0 → entries_of i log ≡ []
 
-  -- the log leads from `first` to b, and the rights have its entries
+  -- the log leads from `first` to b, what it counts is so, and the rights have its entries
   pub record Recorded {S : Type 0} (Leads : S → Access → S → Type 0) (first : S) (log : List Entry)
       (views : List (List R)) (b : S) : Type 0 where
     pub run : Run Leads first 0 log b
+    pub counted : AllCountRight [] log
     pub listed : Listed log views

@@ -36,6 +36,8 @@ pub record Meaning (S P R : Type 0) : Type 1 where
   pub Step : Part → Event → Seen → Part → Type 0
   -- the word of a key, as the part of the model tells it
   pub word_in : Part → ℕ → ℕ
+  -- how many threads are in the line of a key
+  pub waiting_in : Part → ℕ → ℕ
   -- the thread is in a line, as the part of the model tells it
   pub IsQueued : Part → ℕ → Type 0
   -- how many threads there are, which keys, and what their rights know at the opening
@@ -61,11 +63,11 @@ module _ {S P R : Type 0} (k : Meaning S P R) where
   IsRight i = ((t : ℕ) × IsThread t × (i ≡ 2 * t)) ⊎ ((c : ℕ) × IsKey c × (i ≡ 2 * c + 1))
 
   abbrev pub Leads : Telling k.Part → Access → Telling k.Part → Type 0
-  Leads = Happens k.Step k.word_in
+  Leads = Happens k.Step k.word_in k.waiting_in
 
   -- and no letter lies then for a thread that is in a line
   abbrev pub LeadsOn : Telling k.Part → Access → Telling k.Part → Type 0
-  LeadsOn = Continues k.Step k.word_in k.IsQueued
+  LeadsOn = Continues k.Step k.word_in k.waiting_in k.IsQueued
 
   -- the log is the history of a table with these views, and has led to what b tells
   abbrev pub IsHistory : List Entry → List (List (Right P R)) → Telling k.Part → Type 0

@@ -9,7 +9,7 @@ use Rattle.lot_rights.specs.declared.views.PassRight.{PassRight}
 use Rattle.lot_rights.specs.declared.views.RootRight.{RootRight}
 use Rattle.lot_rights.specs.declared.views.Right.{Right}
 use Rattle.lot_rights.specs.declared.views.Right.TheVariants.{Pass, Root}
-use Rattle.lot_rights.specs.History.{doer, entries_of}
+use Rattle.lot_rights.specs.History.{doer, entries_of, CountsRight}
 use Rattle.lot_rights.specs.Rule.{Meaning, Leads, Ruled}
 use Rattle.lot_rights.specs.Shown.{PassShown, RootShown, pass_at_table, root_at_table}
 
@@ -30,6 +30,13 @@ Notes p own a p' = (k : ℕ) × (p' ≡ pass_after p own k a)
 
 abbrev pub RootNotes : {R : Type 0} → RootShown R → R → Access → RootShown R → Type 0
 RootNotes q own a q' = (k : ℕ) × (q' ≡ root_after q own k a)
+
+-- the access counts nothing; or it may count what this root shows of its key
+abbrev pub CountsNothing : Access → Type 0
+CountsNothing a = (tokens : ℕ → List Entry) → CountsRight tokens a
+
+abbrev pub CountsRoot : {R : Type 0} → RootShown R → Access → Type 0
+CountsRoot q a = (tokens : ℕ → List Entry) → tokens q.key ≡ q.made → CountsRight tokens a
 
 module _ {S P R : Type 0} (k : Meaning S P R) where
   -- the access was made with the right of this number, when the world was w, and the world is w' then
@@ -61,6 +68,7 @@ module _ {S P R : Type 0} (k : Meaning S P R) where
     pub passes : PassesStay w world p.thread
     pub roots : AllRootsStay w world
     pub made : IsMade (2 * p.thread) w access world
+    pub counted : CountsNothing access
     pub told : (n : ℕ) → then (pass_after p own n access)
 
   -- the same of a pass and a root; the entry is the pass's
@@ -76,6 +84,7 @@ module _ {S P R : Type 0} (k : Meaning S P R) where
     pub passes : PassesStay w world p.thread
     pub roots : RootsStay w world q.key
     pub made : IsMade (2 * p.thread) w access world
+    pub counted : CountsRoot q access
     pub told : (n : ℕ) → then (pass_after p own n access) (record q { own = its })
 
   -- the same of a root
@@ -89,6 +98,7 @@ module _ {S P R : Type 0} (k : Meaning S P R) where
     pub passes : AllPassesStay w world
     pub roots : RootsStay w world q.key
     pub made : IsMade (2 * q.key + 1) w access world
+    pub counted : CountsNothing access
     pub told : (n : ℕ) → then (root_after q its n access)
 
   -- Whatever the words stand for, the word i may become f of what it was

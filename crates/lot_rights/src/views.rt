@@ -12,6 +12,9 @@ pub enum Access {
     Collects(u64, Option<u64>),
     /// A thread found the word of a key to be this number, and left it so: the thread, the key, the number.
     Finds(u64, u64, u64),
+    /// A thread counted, with a key's root in hand: the thread, the key, how many had been told by then that they were
+    /// taken from its line, how many of these were handed the lock, and how many were in its line.
+    Counts(u64, u64, u64, u64, u64),
 }
 
 /// An access that was made, and how many were made before it in the whole table.

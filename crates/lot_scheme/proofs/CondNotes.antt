@@ -12,7 +12,8 @@ use Rattle.lot_whole.specs.Family.{cond}
 use Rattle.lot_whole.specs.Lifts.{lot_own}
 use Rattle.lot_whole.specs.Standing.{IsCondRoot, as_cond}
 use Rattle.lot_whole.specs.Calls.{NotesIn}
-use Rattle.lot_scheme.specs.Roots.{IsInItsKind, line_in}
+use Rattle.lot_whole.specs.Lot.{line_of_root}
+use Rattle.lot_scheme.specs.Roots.{IsInItsKind}
 use Rattle.lot_scheme.specs.Standing.{standing, adding, enlisted, called_more as stand_called_more, setting_out, swept}
 use Rattle.lot_scheme.proofs.Noted.{noted}
 
@@ -23,7 +24,7 @@ cond_root locks first_sem c (Lock q) kind near = absurd (omega (arith, kind, nea
 cond_root locks first_sem c (Cond q) kind near = tt
 cond_root locks first_sem c (Sem q) kind near = absurd (omega (arith, kind.1, near.1))
 
-pub cond_line : (own : LotRootView) → IsCondRoot own → line_in own ≡ (as_cond own).line
+pub cond_line : (own : LotRootView) → IsCondRoot own → line_of_root own ≡ (as_cond own).line
 cond_line (Lock q) is = absurd is
 cond_line (Cond q) is = refl
 cond_line (Sem q) is = absurd is

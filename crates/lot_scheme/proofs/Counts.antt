@@ -7,11 +7,12 @@ use Rattle.std.proofs.lemmas.List.Sums.{sum_by-append}
 use mathlib.Core.Option as maybe
 use Rattle.lot_park.specs.Parking.{debt, debts}
 use Rattle.lot_core.proofs.Members.{in_none}
-use Rattle.lot_rights.specs.declared.views.Access.TheVariants.{Posts}
+use Rattle.lot_rights.specs.declared.views.Access.TheVariants.{Posts, Counts}
 use Rattle.lot_rights.specs.declared.views.Entry.{Entry}
+use Rattle.lot_rights.specs.History.{one_if_handoff, handed_by, handed_in}
 use Rattle.lot_rights.specs.Lines.{without}
-use Rattle.lot_rights.specs.Shown.{RootShown}
-use Rattle.lot_rights.specs.Steps.{RootNotes, Moment}
+use Rattle.lot_rights.specs.Shown.{PassShown, RootShown}
+use Rattle.lot_rights.specs.Steps.{Notes, RootNotes, Moment}
 use Rattle.lot_rights.proofs.Lines.{in_cases}
 use Rattle.lot_rights.proofs.Puts.{by_test}
 use Rattle.lot_core.specs.Parts.{LockPart, CondPart, SemaphorePart}
@@ -19,18 +20,21 @@ use Rattle.lot_words.specs.CallersRule.{CallersRule}
 use Rattle.lot_words.specs.declared.views.LockRootView.{LockRootView}
 use Rattle.lot_conds.specs.declared.views.CondRootView.{CondRootView}
 use Rattle.lot_conds.specs.Calls.{called_root, swept_root}
+use Rattle.lot_whole.specs.declared.views.LotPassView.{LotPassView}
 use Rattle.lot_whole.specs.declared.views.LotRootView.{LotRootView}
 use Rattle.lot_whole.specs.declared.views.LotRootView.TheVariants.{Lock, Cond, Sem}
 use Rattle.lot_whole.specs.Family.{lock as lock_kind, cond as cond_kind, sem as sem_kind, LotSize}
 use Rattle.lot_whole.specs.Whole.{line_at}
-use Rattle.lot_whole.specs.Lot.{LotWorld, LotFits, LotRootIs, lot_meaning}
-use Rattle.lot_whole.specs.Calls.{RootIs, OwesLetter, paid}
+use Rattle.lot_whole.specs.Lot.{line_of_root, LotWorld, LotFits, LotRootIs, lot_meaning}
+use Rattle.lot_whole.specs.Calls.{RootIs, OwesLetter, paid, counting}
 use Rattle.lot_whole.specs.Standing.{IsCondRoot, as_cond}
-use Rattle.lot_whole.proofs.Family.{line_is}
+use Rattle.lot_whole.proofs.Counting.{line_known}
 use Rattle.lot_whole.proofs.Moments.{one_state, state_is}
 use Rattle.lot_scheme.specs.declared.contention.Contention.{Contention}
-use Rattle.lot_scheme.specs.Roots.{debts_of, line_in, owes_in}
-use Rattle.lot_scheme.specs.Counts.{one_if, IsContention, queued_now, queued_ever, CountedWith, handed_by, handed_in, WasCounted}
+use Rattle.lot_scheme.specs.Roots.{debts_of, owes_in}
+use Rattle.lot_scheme.specs.Counts.{IsContention, queued_now, queued_ever, CountedWith, HasCounted, WasCounted}
+use Rattle.lot_scheme.specs.Standing.{standing}
+use Rattle.lot_scheme.proofs.Noted.{noted}
 
 none_plus : (n : ℕ) → 0 + n ≡ n
 none_plus n = omega arith
@@ -76,15 +80,15 @@ paid_less (Sem q) t token owes = let one = ap (λ (o : Option ℕ). length (debt
 
 -- one was told, and everybody who was ever queued is as before
 pub posted_on : (counts counts' : ℕ → ℕ → ℕ → Type 0) (r q : RootShown LotRootView) (t token : ℕ)
-    → ((p k h : ℕ) → counts p k h → counts' p (k + 1) (h + one_if token))
+    → ((p k h : ℕ) → counts p k h → counts' p (k + 1) (h + one_if_handoff token))
     → RootNotes r (paid r.own t) (Posts r.key t token) q → OwesLetter r.own t token → CountedWith counts r → CountedWith counts' q
 posted_on counts counts' r q t token told (k, is) owes counted =
     let entry : Entry = record { at = k; access = Posts r.key t token } in
     let long = length-append r.made (entry ∷ []) in
     let less = paid_less r.own t token owes in
     let ever : queued_ever r ≡ length (r.made ++ entry ∷ []) + queued_now (paid r.own t) = omega (arith, long, less) in
-    let handed : handed_in r.made + one_if token ≡ handed_in (r.made ++ entry ∷ []) = sym (sum_by-append (λ (x : Entry). handed_by x.access)
-    r.made (entry ∷ []) ∙ ap (λ n. handed_in r.made + n) (none_plus (one_if token))) in
+    let handed : handed_in r.made + one_if_handoff token ≡ handed_in (r.made ++ entry ∷ []) = sym (sum_by-append (λ (x : Entry). handed_by x.access)
+    r.made (entry ∷ []) ∙ ap (λ n. handed_in r.made + n) (none_plus (one_if_handoff token))) in
     subst (CountedWith counts') (sym is)
     (subst (λ n. counts' n (length (r.made ++ entry ∷ [])) (handed_in (r.made ++ entry ∷ []))) ever
     (subst (λ n. counts' (queued_ever r) n (handed_in (r.made ++ entry ∷ []))) (sym long)
@@ -107,25 +111,30 @@ module _ (counts : ℕ → ℕ → ℕ → Type 0) where
       → CountedWith counts r → CountedWith counts q
   swept_on r q kind is = counted_on r q (Cond (swept_root (as_cond r.own))) is (swept_same r.own kind)
 
--- ---- what was counted, and the history of a moment
-module _ {V Part : Type 0} (rule : CallersRule V Part) (z : LotSize) (xs : List V) where
-  -- a root has the line that the state has
-  line_known : (w : LotWorld rule z xs) (ws : List ℕ) (hs : List (maybe.Option (Option V))) (c : ℕ) (own : LotRootView)
-      → LotFits rule z xs w ws hs → LotRootIs rule z xs w c own → line_in own ≡ line_at z w.whole c
-  line_known w ws hs c (Lock q) fits is =
-      sym (line_is z lock_kind w.whole c is.0 ∙ (ap (λ (a : LockPart). a.locks.line c) (fits.agrees lock_kind)
-      ∙ ap (λ (r : LockRootView). r.line) is.1.1))
-  line_known w ws hs c (Cond q) fits is =
-      sym (line_is z cond_kind w.whole c is.0 ∙ (ap (λ (a : CondPart). a.conds.line c) (fits.agrees cond_kind)
-      ∙ ap (λ (r : CondRootView). r.line) is.1.1))
-  line_known w ws hs c (Sem q) fits is =
-      sym (line_is z sem_kind w.whole c is.0 ∙ (ap (λ (a : SemaphorePart). a.sems.line c) (fits.agrees sem_kind) ∙ is.1.1))
+-- ---- what was counted, and the history
+pub has_counted : {V : Type 0} (p q : PassShown (LotPassView V)) (r : RootShown LotRootView) (key : ℕ) (c : Contention) → r.key ≡ key
+    → owes_in r.own ≡ [] → CountedWith (λ p t h. IsContention p t h c) r → Notes p p.own (counting p.thread r) q
+    → HasCounted (standing p) key c (standing q)
+has_counted p q r key c named none counted note =
+    let waiting : ℕ = length (line_of_root r.own) in
+    let ever : queued_ever r ≡ length r.made + waiting = omega (arith, ap length none) in (
+      counting p.thread r ∷ [],
+      (
+        length r.made,
+        handed_in r.made,
+        waiting,
+        subst (λ n. IsContention n (length r.made) (handed_in r.made) c) ever counted,
+        ap (λ k. Counts p.thread k (length r.made) (handed_in r.made) waiting ∷ []) named,
+      ),
+      noted p p.own (counting p.thread r) q note,
+    )
 
+module _ {V Part : Type 0} (rule : CallersRule V Part) (z : LotSize) (xs : List V) where
   pub was_counted : (c : Contention) (r : RootShown LotRootView) → Moment (lot_meaning rule z xs) r → owes_in r.own ≡ []
       → CountedWith (λ p t h. IsContention p t h c) r → WasCounted rule z r.key c
   was_counted c r moment none counted =
       let whole = one_state rule z xs moment.state moment.here in
-      let line = line_known moment.here.world moment.state.words moment.state.homes r.key r.own moment.here.fits moment.root
+      let line = line_known rule z xs moment.here.world moment.state.words moment.state.homes r.key r.own moment.here.fits moment.root
       ∙ ap (λ s. line_at z s r.key) (sym (state_is rule z xs moment.state moment.here)) in
       let ever : queued_ever r ≡ length r.made + length (line_at z whole.state r.key) = omega (arith, ap length line, ap length none) in
       record {

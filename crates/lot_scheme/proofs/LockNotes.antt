@@ -23,7 +23,8 @@ use Rattle.lot_whole.specs.Family.{lock}
 use Rattle.lot_whole.specs.Lifts.{lot_own}
 use Rattle.lot_whole.specs.Standing.{IsLockRoot, as_lock}
 use Rattle.lot_whole.specs.Calls.{NotesIn, FindsOf, RootIs, GetsBy}
-use Rattle.lot_scheme.specs.Roots.{debts_of, line_in, owes_in, root_view, TakesFirst}
+use Rattle.lot_whole.specs.Lot.{line_of_root}
+use Rattle.lot_scheme.specs.Roots.{debts_of, owes_in, root_view, TakesFirst}
 use Rattle.lot_scheme.specs.Standing.{LotStanding, standing, adding, wanting, dozing, owning, finding_parked}
 use Rattle.lot_scheme.specs.LockCalls.{GetsLock, FreesLock}
 use Rattle.lot_scheme.proofs.Noted.{noted}
@@ -31,8 +32,8 @@ use Rattle.lot_scheme.proofs.Owed.{is_lock}
 
 -- what the buckets see of a lock's root after a parking
 parked_seen : (own now : LotRootView) (t : ℕ) (does : Bool) → IsLockRoot own → now ≡ Lock (parked_root (as_lock own) t does)
-    → (owes_in now ≡ owes_in own) × MatchBool does (line_in now ≡ line_in own ++ t ∷ []) (now ≡ own)
-parked_seen (Lock q) now t true kind e = (ap owes_in e, ap line_in e)
+    → (owes_in now ≡ owes_in own) × MatchBool does (line_of_root now ≡ line_of_root own ++ t ∷ []) (now ≡ own)
+parked_seen (Lock q) now t true kind e = (ap owes_in e, ap line_of_root e)
 parked_seen (Lock q) now t false kind e = (ap owes_in e, e)
 parked_seen (Cond q) now t does kind e = absurd kind
 parked_seen (Sem q) now t does kind e = absurd kind
@@ -49,9 +50,9 @@ passed_on q fair (u ∷ us) is clear = (refl, refl)
 
 passed_seen : (own now : LotRootView) (fair : Bool) → IsLockRoot own → owes_in own ≡ []
     → now ≡ Lock (passed_root (as_lock own) fair (as_lock own).line)
-    → (line_in now ≡ drop 1 (line_in own)) × (owes_in now ≡ debt (first_of (line_in own)) (token_of fair))
+    → (line_of_root now ≡ drop 1 (line_of_root own)) × (owes_in now ≡ debt (first_of (line_of_root own)) (token_of fair))
 passed_seen (Lock q) now fair kind clear e =
-    let told = passed_on q fair q.line refl clear in (ap line_in e ∙ told.0, ap owes_in e ∙ told.1)
+    let told = passed_on q fair q.line refl clear in (ap line_of_root e ∙ told.0, ap owes_in e ∙ told.1)
 passed_seen (Cond q) now fair kind clear e = absurd kind
 passed_seen (Sem q) now fair kind clear e = absurd kind
 
@@ -60,13 +61,13 @@ first_same [] = refl
 first_same (u ∷ us) = refl
 
 -- what the table asks of the root, as the buckets see it
-pub first_told : (own : LotRootView) (told : Option ℕ) → IsLockRoot own → first_of (line_in own) ≡ told → owes_in own ≡ []
+pub first_told : (own : LotRootView) (told : Option ℕ) → IsLockRoot own → first_of (line_of_root own) ≡ told → owes_in own ≡ []
     → (first (as_lock own).line ≡ told) × ((as_lock own).owes ≡ None)
 first_told (Lock q) told kind is clear = (sym (first_same q.line) ∙ is, nothing_owed q.owes clear)
 first_told (Cond q) told kind is clear = absurd kind
 first_told (Sem q) told kind is clear = absurd kind
 
-pub more_told : (own : LotRootView) (more : Bool) → IsLockRoot own → SaysMore (line_in own) more → SaysMore (as_lock own).line more
+pub more_told : (own : LotRootView) (more : Bool) → IsLockRoot own → SaysMore (line_of_root own) more → SaysMore (as_lock own).line more
 more_told (Lock q) more kind says = says
 more_told (Cond q) more kind says = absurd kind
 more_told (Sem q) more kind says = absurd kind
@@ -74,7 +75,7 @@ more_told (Sem q) more kind says = absurd kind
 -- roots that were taken out of their names, and named again
 pub takes_first : (r before after s : RootShown LotRootView) (told : Option ℕ) (fair : Bool) → before ≡ r → s ≡ after
     → IsLockRoot before.own
-    → owes_in r.own ≡ [] → first_of (line_in r.own) ≡ told
+    → owes_in r.own ≡ [] → first_of (line_of_root r.own) ≡ told
     → RootIs lock before (passed_root (as_lock before.own) fair (as_lock before.own).line) after
     → TakesFirst root_view r told (token_of fair) s
 takes_first r before after s told fair is_r is_s kind clear first_is is =
@@ -88,7 +89,7 @@ takes_first r before after s told fair is_r is_s kind clear first_is is =
       lined = seen.0;
       owing = seen.1
           ∙ ap (λ (u : Option ℕ). debt u (token_of fair))
-          (ap (λ (z : RootShown LotRootView). first_of (line_in z.own)) is_r ∙ first_is);
+          (ap (λ (z : RootShown LotRootView). first_of (line_of_root z.own)) is_r ∙ first_is);
     }))
 
 module _ {V : Type 0} where
@@ -107,11 +108,11 @@ module _ {V : Type 0} where
       }))
     where
       told : (owes_in after.own ≡ owes_in before.own)
-          × MatchBool does (line_in after.own ≡ line_in before.own ++ p.thread ∷ []) (after.own ≡ before.own)
+          × MatchBool does (line_of_root after.own ≡ line_of_root before.own ++ p.thread ∷ []) (after.own ≡ before.own)
       told = parked_seen before.own after.own p.thread does kind (ap (λ (z : RootShown LotRootView). z.own) is)
 
       lined : (b : Bool)
-          → MatchBool b (line_in after.own ≡ line_in before.own ++ p.thread ∷ []) (after.own ≡ before.own)
+          → MatchBool b (line_of_root after.own ≡ line_of_root before.own ++ p.thread ∷ []) (after.own ≡ before.own)
           → RootIs lock before (parked_root (as_lock before.own) p.thread b) after
           → MatchBool b ((root_view after).line ≡ (root_view before).line ++ p.thread ∷ []) (after ≡ before)
       lined true e is_root = e

@@ -1,11 +1,11 @@
 -- What is counted with a key's root.
-use Rattle.std.specs.Prelude.{◌≡◌, ℕ, ◌+◌, ◌*◌, ◌%◌, ◌^◌, ◌==◌, cond, List, [], length, sum_by, Option}
+use Rattle.std.specs.Prelude.{◌≡◌, ℕ, ◌+◌, ◌%◌, ◌^◌, List, [], ◌∷◌, length, Option}
 use Rattle.atomic_table.specs.Table.{State}
 use Rattle.lot_rights.specs.declared.views.Access.{Access}
-use Rattle.lot_rights.specs.declared.views.Access.TheVariants.{Makes, Posts, Collects, Finds}
+use Rattle.lot_rights.specs.declared.views.Access.TheVariants.{Counts}
 use Rattle.lot_rights.specs.declared.views.Entry.{Entry}
 use Rattle.lot_rights.specs.declared.views.Right.{Right}
-use Rattle.lot_rights.specs.History.{entries_of}
+use Rattle.lot_rights.specs.History.{handed_in, tokens_of}
 use Rattle.lot_rights.specs.Rule.{Ruled}
 use Rattle.lot_rights.specs.Shown.{RootShown}
 use Rattle.lot_words.specs.CallersRule.{CallersRule}
@@ -13,14 +13,11 @@ use Rattle.lot_whole.specs.declared.views.LotPassView.{LotPassView}
 use Rattle.lot_whole.specs.declared.views.LotRootView.{LotRootView}
 use Rattle.lot_whole.specs.Family.{LotSize}
 use Rattle.lot_whole.specs.Whole.{line_at}
-use Rattle.lot_whole.specs.Lot.{lot_meaning}
+use Rattle.lot_whole.specs.Lot.{line_of_root, lot_meaning}
 use Rattle.lot_whole.specs.Headline.{OneState}
 use Rattle.lot_scheme.specs.declared.contention.Contention.{Contention}
-use Rattle.lot_scheme.specs.Roots.{line_in, owes_in}
-
--- 1 of the token with which a lock is handed over, 0 of any other
-abbrev pub one_if : ℕ → ℕ
-one_if token = cond (token == 1) 1 0
+use Rattle.lot_scheme.specs.Roots.{owes_in}
+use Rattle.lot_scheme.specs.Standing.{LotStanding, adding}
 
 -- so many were queued, taken, and handed the lock, each number modulo 2^64
 pub record IsContention (parked taken handed : ℕ) (c : Contention) : Type 0 where
@@ -28,20 +25,10 @@ pub record IsContention (parked taken handed : ℕ) (c : Contention) : Type 0 wh
   pub taken_are : c.taken ≡ taken % 2 ^ 64
   pub handed_are : c.handed ≡ handed % 2 ^ 64
 
--- how many of these entries handed a lock over
-abbrev pub handed_by : Access → ℕ
-handed_by (Makes e saw) = 0
-handed_by (Posts c t token) = one_if token
-handed_by (Collects t found) = 0
-handed_by (Finds t c x) = 0
-
-abbrev pub handed_in : List Entry → ℕ
-handed_in made = sum_by (λ (x : Entry). handed_by x.access) made
-
 -- of a key's root: the threads that wait, or were taken and are not told yet; and all that were ever queued, since who was told was told
 -- by an entry of the root
 abbrev pub queued_now : LotRootView → ℕ
-queued_now own = length (line_in own) + length (owes_in own)
+queued_now own = length (line_of_root own) + length (owes_in own)
 
 abbrev pub queued_ever : RootShown LotRootView → ℕ
 queued_ever r = length r.made + queued_now r.own
@@ -53,13 +40,18 @@ CountedWith counts r = counts (queued_ever r) (length r.made) (handed_in r.made)
 -- nobody has parked on the key yet
 pub record IsUnused (r : RootShown LotRootView) : Type 0 where
   pub made_none : r.made ≡ []
-  pub nobody : line_in r.own ≡ []
+  pub nobody : line_of_root r.own ≡ []
   pub owes_none : owes_in r.own ≡ []
 
 -- ---- what was counted, and the history
--- the entries of the history by which threads were told that they were taken from the line of this key
-abbrev pub tokens_of : ℕ → List Entry → List Entry
-tokens_of key log = entries_of (2 * key + 1) log
+-- the word of a call that counts: one access, which tells of the entries before it what is answered, and how many waited
+abbrev pub CountWord : ℕ → ℕ → Contention → List Access → Type 0
+CountWord t key c acts =
+    (told handed waiting : ℕ) × IsContention (told + waiting) told handed c × (acts ≡ Counts t key told handed waiting ∷ [])
+
+-- q is the pass p, which has counted this of the key
+abbrev pub HasCounted : {V : Type 0} → LotStanding V → ℕ → Contention → LotStanding V → Type 0
+HasCounted p key c q = (acts : List Access) × CountWord p.thread key c acts × (q ≡ adding p acts)
 
 -- Of a history after which so many wait for the key: as many were taken as it has entries that told them so, and were handed the lock as
 -- it has such entries with its token; and were queued as were taken, and those who wait still

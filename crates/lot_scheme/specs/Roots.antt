@@ -6,6 +6,7 @@ use Rattle.lot_rights.specs.Shown.{RootShown}
 use Rattle.lot_whole.specs.declared.views.LotRootView.{LotRootView}
 use Rattle.lot_whole.specs.declared.views.LotRootView.TheVariants.{Lock, Cond, Sem}
 use Rattle.lot_whole.specs.Family.{LotSize}
+use Rattle.lot_whole.specs.Lot.{line_of_root}
 
 -- ---- what the buckets see
 -- the letter of a lock that is owed, with its token
@@ -13,20 +14,15 @@ abbrev pub debts_of : Option (ℕ × ℕ) → List (ℕ × ℕ)
 debts_of None = []
 debts_of (Some owed) = owed ∷ []
 
--- the line of a key's sleepers, and the letters that are owed to those that were taken from it: one of a lock has a token, and all
--- letters of conditions and of semaphores have the token 0
-abbrev pub line_in : LotRootView → List ℕ
-line_in (Lock q) = q.line
-line_in (Cond q) = q.line
-line_in (Sem q) = q.line
-
+-- the letters that are owed to those that were taken from a key's line: one of a lock has a token, and all letters of conditions and of
+-- semaphores have the token 0
 abbrev pub owes_in : LotRootView → List (ℕ × ℕ)
 owes_in (Lock q) = debts_of q.owes
 owes_in (Cond q) = debts q.owes
 owes_in (Sem q) = debt q.owes 0
 
 abbrev pub key_line : ℕ → LotRootView → KeyLine
-key_line c own = record { key = c; line = line_in own; owes = owes_in own }
+key_line c own = record { key = c; line = line_of_root own; owes = owes_in own }
 
 abbrev pub root_view : RootShown LotRootView → KeyLine
 root_view r = key_line r.key r.own

@@ -3,9 +3,11 @@
 //! A root is in hand only where its bucket is locked, so counting costs no atomic access, and none at all where nobody
 //! parks or wakes another.
 ghost use Rattle.std.specs.Prelude.{◌≡◌, ℕ, ◌+◌, ◌<◌, []};
-ghost use Rattle.lot_scheme.specs.Counts.{IsContention, one_if};
+ghost use Rattle.lot_rights.specs.History.{one_if_handoff};
+ghost use Rattle.lot_scheme.specs.Counts.{IsContention};
 
 use crate::name::LotName;
+use crate::pass::NamedPass;
 use crate::root::NamedRoot;
 use crate::scheme::LotScheme;
 use lot_park::{ParkingLot, Scheme};
@@ -47,7 +49,7 @@ pub trait Tally: Copy {
 
     /// One was taken, and told this token.
     fn told(self, token: u32) -> Self
-        ensures { (p t h : ℕ) → counts self p t h → counts result p (t + 1) (h + one_if token) };
+        ensures { (p t h : ℕ) → counts self p t h → counts result p (t + 1) (h + one_if_handoff token) };
 }
 
 /// Counts nothing, and takes no bytes.
@@ -132,18 +134,35 @@ pub trait CountsKeys: Scheme {
     /// This was counted of the key, at some moment.
     ghost counted: { ℕ → Contention → Type 0 };
 
+    /// The second pass is the first, which has counted this of the key.
+    ghost counts: { Self.Pass → ℕ → Contention → Self.Pass → Type 0 };
+
     /// The root as it was, and what was counted with it.
     fn look_at(&self, root: Self::Root) -> (Self::Root, Contention)
         requires clear { (Self.Root.view root).owes ≡ [] }
         ensures same { result.0 ≡ root }
         ensures counted { counted (Self.Root.view root).key result.1 };
+
+    /// The pass, with an entry that tells what was counted with the root, the root as it was, and what was counted.
+    fn count(
+        &self,
+        pass: Self::Pass,
+        root: Self::Root,
+        key: usize,
+    ) -> (Self::Pass, Self::Root, Contention)
+        requires named { (Self.Root.view root).key ≡ key }
+        requires clear { (Self.Root.view root).owes ≡ [] }
+        ensures same { result.1 ≡ root }
+        ensures counts { counts pass key result.2 result.0 };
 }
 
 impl<V: Keeps + Send, N: LotName<V> + Send> CountsKeys for LotScheme<V, N, Contention> {
     ghost use Rattle.lot_scheme.specs.Roots.{size_named};
-    ghost use Rattle.lot_scheme.specs.Counts.{WasCounted};
+    ghost use Rattle.lot_scheme.specs.Counts.{WasCounted, HasCounted};
 
     ghost counted = { WasCounted V.Keeps (size_named N.threads N.locks N.conds N.permits) };
+
+    ghost counts = { HasCounted };
 
     fn look_at(
         &self,
@@ -152,6 +171,21 @@ impl<V: Keeps + Send, N: LotName<V> + Send> CountsKeys for LotScheme<V, N, Conte
         let (root, tally) = root.apart();
         let root = self.words().check_root(root);
         (NamedRoot::counted(root, tally), tally)
+    }
+
+    fn count(
+        &self,
+        pass: NamedPass<V, N>,
+        root: NamedRoot<V, N, Contention>,
+        key: usize,
+    ) -> (NamedPass<V, N>, NamedRoot<V, N, Contention>, Contention) {
+        let (root, tally) = root.take_up(key);
+        let (pass, root) = self.words().count(pass.into_pass(), root);
+        (
+            NamedPass::new(pass),
+            NamedRoot::lay_down(root, tally),
+            tally,
+        )
     }
 }
 
@@ -181,4 +215,36 @@ pub fn key_contention<S: CountsKeys, R: Wait>(
         },
     );
     seen
+}
+
+/// The same, told by the history: the pass has an entry for it.
+pub fn note_contention<S: CountsKeys, R: Wait>(
+    rt: &R,
+    parking: &ParkingLot<S>,
+    pass: S::Pass,
+    key: usize,
+) -> (S::Pass, Contention)
+    requires { key < parking.now.keys }
+    ensures { S.counts pass key result.1 result.0 }
+{
+    let scheme = parking.scheme();
+    let (counted, _none) = parking.unpark_count(
+        rt,
+        key,
+        0,
+        (pass, Contention::none()),
+        |before: (S::Pass, Contention), root: S::Root, _taken: usize, _more: bool| -> (
+            (S::Pass, Contention),
+            S::Root,
+        )
+            requires named { (S.Root.view root).key ≡ key }
+            requires clear { (S.Root.view root).owes ≡ [] }
+            ensures same { result.1 ≡ root }
+            ensures counts { S.counts before.0 key result.0.1 result.0.0 }
+        {
+            let (pass, root, seen) = scheme.count(before.0, root, key);
+            ((pass, seen), root)
+        },
+    );
+    counted
 }

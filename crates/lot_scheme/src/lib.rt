@@ -25,7 +25,7 @@ pub mod root;
 pub mod scheme;
 mod sems;
 
-pub use contention::{Contention, CountsKeys, Silent, Tally, key_contention};
+pub use contention::{Contention, CountsKeys, Silent, Tally, key_contention, note_contention};
 pub use name::LotName;
 pub use pass::NamedPass;
 pub use root::NamedRoot;

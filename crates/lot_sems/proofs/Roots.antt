@@ -119,6 +119,7 @@ module _ (size : Numbers) (p : PassShown SemPassView) (q : RootShown SemRootView
         passes = passes_else size w t k root.0 l b xs o s spots owes others;
         roots = roots_else size w t k root.0 l b xs o s spots owes debts;
         made = ((λ i. 2 * by i), (step, same));
+        counted = λ tokens same. tt;
         told = told;
       }
 
@@ -148,7 +149,7 @@ module _ (size : Numbers) (p : PassShown SemPassView) (q : RootShown SemRootView
         root.2 (λ i. ((i, refl), refl)))
         (λ _ neither.
         both_stay (meaning size) (word_at k) n w ws hs ok refl p fit (Makes (SemPark t k) (Saw false))
-        (refl, (row_not_queued w.part size t fit.near k root.0 (fit.seeks ∙ aim, out_of k) neither, refl)) q
+        (refl, (row_not_queued w.part size t fit.near k root.0 (fit.seeks ∙ aim, out_of k) neither, refl)) q (λ tokens same. tt)
         (λ p' q'. Notes p p.own (Makes (SemPark t k) (Saw false)) p' × (q' ≡ record q { own = q.own })) root (λ i. ((i, refl), refl)))
         (sym (one_says left parked) ∙ ap (λ z. z == 1) (sym found))
 
@@ -260,6 +261,7 @@ module _ (size : Numbers) (q : RootShown SemRootView) (u : ℕ) (debt : q.own.ow
         };
         roots = λ d y ne h. (h.0, h.1, put_other w.owes k None d ne ∙ h.2);
         made = (refl, (ap letter_of waits, λ i. record { part = w.part; letters = one_letter w.spot u (lying k 0) i }));
+        counted = λ tokens. tt;
         told = λ i. (i, refl);
       }
 
@@ -281,7 +283,7 @@ module _ (size : Numbers) (p : PassShown SemPassView) where
     none_lies none_there =
         pass_stays (meaning size) (letter_at p.thread) 0 w ws hs ok (sym (ok.words.letters p.thread fit.near ∙ none_there)) p fit
         (Collects p.thread None)
-        (refl, (none_there, refl)) (Collecting p 0) (λ i. (omega arith, (i, refl)))
+        (refl, (none_there, refl)) (λ tokens. tt) (Collecting p 0) (λ i. (omega arith, (i, refl)))
 
     one_lies : (k : ℕ) → w.spot p.thread ≡ lying k 0 → Turn 1
     one_lies k lies =
@@ -313,6 +315,7 @@ module _ (size : Numbers) (p : PassShown SemPassView) where
               };
           roots = λ d y h. h;
           made = (refl, (ap letter_of lies, λ i. record { part = w.part; letters = one_letter w.spot t awake i }));
+          counted = λ tokens. tt;
           told = λ i. (omega arith, (refl, sym fit.asleep ∙ ap sleeps lies, (i, refl)));
         }
 

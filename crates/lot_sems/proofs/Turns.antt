@@ -122,7 +122,7 @@ module _ (size : Numbers) (p : PassShown SemPassView) (k : ℕ) (among : IsAmong
   -- ---- nothing changes
   finds : (x : ℕ) → x ≡ n → (then : PassShown SemPassView → Type 0) → ((i : ℕ) → then (pass_after p p.own i (Finds t k x)))
       → PassTurn (meaning size) (word_at k) x p then w ws hs
-  finds x is then told = pass_stays (meaning size) (word_at k) x w ws hs ok is p fit (Finds t k x) (refl, (is ∙ found, refl)) then told
+  finds x is then told = pass_stays (meaning size) (word_at k) x w ws hs ok is p fit (Finds t k x) (refl, (is ∙ found, refl)) (λ tokens. tt) then told
 
   module _ (up : p.own.asleep ≡ false) where
     up' : w.spot t ≡ awake
@@ -147,6 +147,7 @@ module _ (size : Numbers) (p : PassShown SemPassView) (k : ℕ) (among : IsAmong
           passes = passes_else size w t k among l b line o s w.spot w.owes (λ u ne. refl);
           roots = λ d y h. (h.0, (λ i. same_line w.part k i d) ∙ h.1, h.2);
           made = ((λ i. 2 * by i), (step, refl));
+          counted = λ tokens. tt;
           told = told;
         }
 

@@ -13,7 +13,7 @@ use Rattle.lot_rights.specs.Settled.{HasOneOutcome, LinesHaveNoLetter}
 use Rattle.lot_rights.specs.World.{letter_of, letters_of}
 use Rattle.lot_sems.specs.declared.views.SemPassView.{SemPassView}
 use Rattle.lot_sems.specs.declared.views.SemRootView.{SemRootView}
-use Rattle.lot_sems.specs.World.{Numbers, key_count, permits_of, SemWorld, word_in, SemWordsFit, LettersFit, PassKnows, RootKnows}
+use Rattle.lot_sems.specs.World.{Numbers, key_count, permits_of, SemWorld, word_in, waiting_in, SemWordsFit, LettersFit, PassKnows, RootKnows}
 
 -- all permits are left, and nobody is marked, queued or seeking
 abbrev pub opening_part : Numbers → SemaphorePart
@@ -67,6 +67,7 @@ meaning size = record {
   start = record { part = opening_part size; letters = λ t. 0 };
   Step = IsStep size;
   word_in = word_in;
+  waiting_in = waiting_in;
   IsQueued = IsQueued;
   threads = size.threads;
   first_key = size.first_sem;

@@ -46,6 +46,10 @@ word_of left parked = 2 * left + bit parked
 abbrev pub word_in : SemaphorePart → ℕ → ℕ
 word_in a k = word_of (a.sems.left k) (a.sems.parked k)
 
+-- how many threads are in a semaphore's line
+abbrev pub waiting_in : SemaphorePart → ℕ → ℕ
+waiting_in a k = length (a.sems.line k)
+
 -- what the words of any table tell of this one's
 abbrev pub told_in : SemWorld → World (Unit {0}) (Unit {0}) ℕ
 told_in w = record { pass = λ t. tt; spot = w.spot; word = word_in w.part; root = λ k. tt }

@@ -8,7 +8,7 @@ use Rattle.std.specs.List.{All, Any}
 use Rattle.std.proofs.lemmas.List.Elements.{All-weaker, All-map, All-head, All-tail}
 use Rattle.atomic_table.specs.Seated.{TableId}
 use Rattle.lot_rights.specs.declared.views.Entry.{Entry}
-use Rattle.lot_rights.specs.History.{entries_of}
+use Rattle.lot_rights.specs.History.{entries_of, handed_in, tokens_of}
 use Rattle.lot_rights.specs.Shown.{PassShown, RootShown}
 use Rattle.lot_rights.proofs.Totals.{any_cases}
 use Rattle.lot_rights.proofs.Turns.{some_at}
@@ -19,8 +19,9 @@ use Rattle.lot_whole.specs.declared.views.LotPassView.{LotPassView}
 use Rattle.lot_whole.specs.declared.views.LotRootView.{LotRootView}
 use Rattle.lot_whole.specs.Family.{cond}
 use Rattle.lot_whole.specs.Order.{accesses_of}
-use Rattle.lot_scheme.specs.Roots.{root_view, line_in, owes_in}
-use Rattle.lot_scheme.specs.Counts.{queued_now, handed_in, tokens_of}
+use Rattle.lot_whole.specs.Lot.{line_of_root}
+use Rattle.lot_scheme.specs.Roots.{root_view, owes_in}
+use Rattle.lot_scheme.specs.Counts.{queued_now}
 use Rattle.lot_scheme.specs.Standing.{LotStanding, standing}
 use Rattle.lot_waits.specs.Counts.{counts_shown}
 use Rattle.lot_sync.specs.Lot.{LotNames, PassView, Owns, OwnsNone, HasSeen, counts_of}
@@ -33,7 +34,7 @@ nobody_out : (out : Option ℕ) → is_some out ≡ false → out ≡ None
 nobody_out None e = refl
 nobody_out (Some c) e = absurd (cc)
 
-owed_none : (own : LotRootView) → owes_in own ≡ [] → queued_now own ≡ length (line_in own)
+owed_none : (own : LotRootView) → owes_in own ≡ [] → queued_now own ≡ length (line_of_root own)
 owed_none own none = let zero_owed = ap length none in omega (arith, zero_owed)
 
 module _ {V : Type 0} where
@@ -112,7 +113,7 @@ counts_are counts log keys before after cs back none made each counted =
           all_got (λ (q : RootShown LotRootView). q.made ≡ entries_of (2 * q.key + 1) log) after i r made at
           ∙ ap (λ k. tokens_of k log) (key_at i r at) in
           let owes = back.paid i r (subst (λ (rs : List (RootShown LotRootView)). slice_get rs i ≡ Some r) are at) in
-          subst (λ m. counts c (length m + length (line_in r.own)) (length m) (handed_in m)) own
+          subst (λ m. counts c (length m + length (line_of_root r.own)) (length m) (handed_in m)) own
           (subst (λ n. counts c (length r.made + n) (length r.made) (handed_in r.made)) (owed_none r.own owes) (counted i c r here at));
     }
 

@@ -25,11 +25,11 @@ use Rattle.lot_whole.specs.declared.views.LotRootView.{LotRootView}
 use Rattle.lot_whole.specs.declared.views.LotRootView.TheVariants.{Lock, Cond, Sem}
 use Rattle.lot_whole.specs.Closing.{HasDone}
 use Rattle.lot_whole.specs.Family.{Which, lock, cond, sem, LotSize, key_count, away}
-use Rattle.lot_whole.specs.Lot.{own_of, fresh_pass, fresh_root}
+use Rattle.lot_whole.specs.Lot.{line_of_root, own_of, fresh_pass, fresh_root}
 use Rattle.lot_whole.specs.Shown.{LotWordsShown, lot_of}
 use Rattle.atomic_table.specs.Seated.{TableId}
 use Rattle.lot_scheme.specs.Counts.{IsUnused}
-use Rattle.lot_scheme.specs.Roots.{IsInItsKind, root_view, line_in, owes_in}
+use Rattle.lot_scheme.specs.Roots.{IsInItsKind, root_view, owes_in}
 use Rattle.lot_scheme.specs.Standing.{LotStanding, standing}
 use Rattle.lot_waits.specs.Counts.{wrap, kept}
 use Rattle.lot_waits.specs.Ledger.{AreZeros}
@@ -99,7 +99,7 @@ fresh_kind z c = fresh_by_kind (IsInItsKind z.locks (z.locks + z.conds) c) z c (
 fresh_unused : (z : LotSize) (c : ℕ) (table : TableId) → IsUnused (record { table = table; key = c; made = []; own = fresh_root z c })
 fresh_unused z c table = record {
   made_none = refl;
-  nobody = fresh_by_kind (λ q. line_in q ≡ []) z c (λ h. refl) (λ h k. refl) (λ h k. refl);
+  nobody = fresh_by_kind (λ q. line_of_root q ≡ []) z c (λ h. refl) (λ h k. refl) (λ h k. refl);
   owes_none = fresh_by_kind (λ q. owes_in q ≡ []) z c (λ h. refl) (λ h k. refl) (λ h k. refl);
 }
 
@@ -199,7 +199,7 @@ module _ {V Part : Type 0} (rule : CallersRule V Part) (words : LotWordsShown V)
       let e : root ≡ own_root i = (stands_at own_root roots roots_at i root at).1 in
       record {
         named = ap (λ (r : RootShown LotRootView). r.key) e;
-        same_line = ap (λ (r : RootShown LotRootView). line_in r.own) e ∙ (fresh_unused words.size i words.table).nobody;
+        same_line = ap (λ (r : RootShown LotRootView). line_of_root r.own) e ∙ (fresh_unused words.size i words.table).nobody;
         paid = ap (λ (r : RootShown LotRootView). owes_in r.own) e ∙ (fresh_unused words.size i words.table).owes_none;
       }
 

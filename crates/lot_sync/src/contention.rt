@@ -2,14 +2,15 @@
 ghost use Rattle.std.specs.Prelude.{◌≡◌, ℕ, ◌+◌, ◌<◌, vec_len};
 ghost use Rattle.std.specs.List.{All, Any};
 ghost use Rattle.lot_scheme.specs.Roots.{size_named};
-ghost use Rattle.lot_scheme.specs.Counts.{IsContention, WasCounted};
-ghost use Rattle.lot_sync.specs.Lot.{PassView, OwnsNone, IsLedgerOf};
+ghost use Rattle.lot_scheme.specs.Counts.{IsContention, WasCounted, CountWord};
+ghost use Rattle.lot_sync.specs.Lot.{PassView, ◌≈◌, HasShape, OwnsNone, IsLedgerOf};
 ghost use Rattle.lot_sync.specs.Values.{GoesOnTo, AreSeen};
 ghost use Rattle.lot_sync.specs.Closing.{HasOneRun, AreCounts};
+ghost use Rattle.lot_sync.specs.Words.{Adds};
 
 use crate::lot::Lot;
 use crate::pass::Pass;
-use lot_scheme::{Contention, LotName, key_contention};
+use lot_scheme::{Contention, LotName, key_contention, note_contention};
 use lot_waits::Ledger;
 use lot_words::Keeps;
 use std::sync::Wait;
@@ -26,6 +27,25 @@ impl<V: Keeps + Send, N: LotName<V> + Send> Lot<V, N, Contention> {
     {
         prove!(self.has_lock(key) || self.has_cond(key) || self.has_sem(key));
         key_contention(rt, self.parking(), key)
+    }
+
+    /// The same, told by the history: the pass has an entry for it, and at the end all such entries are right of those
+    /// before them. For who has a pass; it costs one load more.
+    pub fn note_contention<R: Wait>(
+        &self,
+        rt: &R,
+        pass: Pass<V, N>,
+        key: usize,
+    ) -> (Pass<V, N>, Contention)
+        requires { key < self.now.locks + self.now.conds + self.now.sems }
+        ensures pass { result.0 ≈ pass }
+        ensures made { Adds pass.made (CountWord pass.thread key result.1) result.0.made }
+        ensures shape { HasShape self.now result.0 }
+    {
+        prove!(self.has_lock(key) || self.has_cond(key) || self.has_sem(key));
+        let (right, tallies) = pass.apart();
+        let (right, counted) = note_contention(rt, self.parking(), right, key);
+        (self.at_rest(right, tallies), counted)
     }
 
     /// `close`, and what was counted of each key, in order.

@@ -11,7 +11,7 @@ use Rattle.lot_events.specs.declared.events.Event.TheVariants.{Try, Take, Mark, 
 use Rattle.lot_events.specs.declared.events.Event.TheVariants.{SemTake, SemMark, SemPark, SemFree, SemPass, SemClear}
 use Rattle.lot_events.specs.declared.events.Seen.TheVariants.{Bool as Saw, Done, Sleeper, Count}
 use Rattle.lot_rights.specs.declared.views.Access.{Access}
-use Rattle.lot_rights.specs.declared.views.Access.TheVariants.{Makes, Posts, Collects, Finds}
+use Rattle.lot_rights.specs.declared.views.Access.TheVariants.{Makes, Posts, Collects, Finds, Counts}
 use Rattle.lot_rights.specs.declared.views.Entry.{Entry}
 use Rattle.lot_whole.specs.Family.{cond}
 use Rattle.lot_whole.specs.Order.{LettersFollow, SeesIn, accesses_of, state_after}
@@ -49,12 +49,14 @@ seek_none c t l (Makes (SemClear u k) saw) h d' = d'
 seek_none c t l (Posts k u token) h d' = d'
 seek_none c t l (Collects u found) h d' = d'
 seek_none c t l (Finds u k word) h d' = d'
+seek_none c t l (Counts u k told handed waiting) h d' = d'
 
 vain_none : (c t : ℕ) (a : Access) → IsVain t a → TakesNone c a
 vain_none c t (Makes e saw) h d = h
 vain_none c t (Posts k u token) h d = d
 vain_none c t (Collects u found) h d = d
 vain_none c t (Finds u k word) h d = d
+vain_none c t (Counts u k told handed waiting) h d = d
 
 get_none : (c t l : ℕ) (acts : List Access) → GetWord t l acts → All (TakesNone c) acts
 get_none c t l acts (front, last, sought, got, is) = subst (All (TakesNone c)) (sym is)

@@ -5,7 +5,7 @@ use Rattle.std.specs.List.{Any}
 use Rattle.lot_events.specs.declared.events.Event.{Event}
 use Rattle.lot_events.specs.declared.events.Seen.{Seen}
 use Rattle.lot_rights.specs.declared.views.Access.{Access}
-use Rattle.lot_rights.specs.declared.views.Access.TheVariants.{Makes, Posts, Collects, Finds}
+use Rattle.lot_rights.specs.declared.views.Access.TheVariants.{Makes, Posts, Collects, Finds, Counts}
 use Rattle.lot_rights.specs.declared.views.Entry.{Entry}
 use Rattle.lot_rights.specs.History.{doer, entries_of, events_in, with_event}
 use Rattle.lot_whole.specs.Order.{accesses_of}
@@ -137,6 +137,7 @@ module _ (F : Event × Seen → Type 0) where
   later (Posts c u token) es some = some
   later (Collects u found) es some = some
   later (Finds u c word) es some = some
+  later (Counts u c told handed waiting) es some = some
 
   any_from : (before : List Entry) (x : Entry) (after : List Entry) (e : Event) (saw : Seen) → x.access ≡ Makes e saw → F (e, saw)
       → Any F (events_in (before ++ x ∷ after))

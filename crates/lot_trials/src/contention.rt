@@ -1,7 +1,7 @@
 //! Tests of what a lot counts of its keys.
 ghost use Rattle.std.specs.Prelude.{◌≡◌, ℕ, ◌+◌, ◌<◌, ◌%◌, ◌^◌, length, vec_len, slice_get, Some};
 ghost use Rattle.std.specs.List.{All, Any};
-ghost use Rattle.lot_scheme.specs.Counts.{tokens_of};
+ghost use Rattle.lot_rights.specs.History.{tokens_of};
 ghost use Rattle.lot_sync.specs.Closing.{HasOneRun};
 ghost use Rattle.lot_sync.specs.Lot.{PassView, OwnsNone};
 ghost use Rattle.lot_sync.specs.Opened.{IsNamed};

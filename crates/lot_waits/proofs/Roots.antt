@@ -7,7 +7,8 @@ use Rattle.lot_whole.specs.declared.views.LotRootView.{LotRootView}
 use Rattle.lot_whole.specs.declared.views.LotRootView.TheVariants.{Lock, Cond, Sem}
 use Rattle.lot_whole.specs.Standing.{IsCondRoot, as_cond}
 use Rattle.lot_park.specs.Parking.{Queues, debts}
-use Rattle.lot_scheme.specs.Roots.{root_view, line_in, owes_in}
+use Rattle.lot_whole.specs.Lot.{line_of_root}
+use Rattle.lot_scheme.specs.Roots.{root_view, owes_in}
 use Rattle.lot_scheme.specs.Standing.{LotStanding}
 use Rattle.lot_scheme.specs.CondCalls.{IsCondNow}
 use Rattle.lot_scheme.proofs.CondNotes.{cond_line}
@@ -23,8 +24,8 @@ module _ (root now : RootShown LotRootView) where
   named : (own : CondRootView) → IsCondNow root own now → now.key ≡ root.key
   named own is = ap (λ (r : RootShown LotRootView). r.key) is.is
 
-  lined : (own : CondRootView) → IsCondNow root own now → line_in now.own ≡ own.line
-  lined own is = ap (λ (r : RootShown LotRootView). line_in r.own) is.is
+  lined : (own : CondRootView) → IsCondNow root own now → line_of_root now.own ≡ own.line
+  lined own is = ap (λ (r : RootShown LotRootView). line_of_root r.own) is.is
 
   owing : (own : CondRootView) → IsCondNow root own now → owes_in now.own ≡ debts own.owes
   owing own is = ap (λ (r : RootShown LotRootView). owes_in r.own) is.is

@@ -9,7 +9,7 @@ use Rattle.lot_events.specs.declared.events.Event.TheVariants.{SemTake, SemMark,
 use Rattle.lot_events.specs.declared.events.Seen.{Seen}
 use Rattle.lot_events.specs.declared.events.Seen.TheVariants.{Bool as Saw, Done, Sleeper}
 use Rattle.lot_rights.specs.declared.views.Access.{Access}
-use Rattle.lot_rights.specs.declared.views.Access.TheVariants.{Makes, Posts, Collects, Finds}
+use Rattle.lot_rights.specs.declared.views.Access.TheVariants.{Makes, Posts, Collects, Finds, Counts}
 use Rattle.lot_scheme.specs.Words.{IsSeek, IsGot, GetWord, TryWord, IsVain}
 use Rattle.lot_locks.specs.declared.released.Released.{Released}
 use Rattle.lot_locks.specs.Released.{FreeWord}
@@ -48,6 +48,7 @@ seeks t l (Makes e saw) h = event_seeks t l e saw h
 seeks t l (Posts c u token) h = tt
 seeks t l (Collects u found) h = tt
 seeks t l (Finds u c word) h = tt
+seeks t l (Counts u c told handed waiting) h = tt
 
 all_seek : (t l : ℕ) (acts : List Access) → All (IsSeek t l) acts → All IsNoRelease acts
 all_seek t l [] h = All-nil IsNoRelease
@@ -59,6 +60,7 @@ vain t (Makes e saw) h = absurd h
 vain t (Posts c u token) h = tt
 vain t (Collects u found) h = tt
 vain t (Finds u c word) h = tt
+vain t (Counts u c told handed waiting) h = tt
 
 all_vain : (t : ℕ) (acts : List Access) → All (IsVain t) acts → All IsNoRelease acts
 all_vain t [] h = All-nil IsNoRelease

@@ -9,6 +9,7 @@ pub mod Carries
 pub mod Seekers
 pub mod Letters
 pub mod Paying
+pub mod Counting
 pub mod Moments
 pub mod Opens
 pub mod Order

@@ -73,6 +73,7 @@ module _ {V Part : Type 0} (rule : CallersRule V Part) (z : LotSize) (xs : List 
         roots = λ d. roots_after rule z xs j w ws hs ok i place (f n) turn.world turn.fits (put w.pass p.thread own) turn.access g d
             (turn.roots d);
         made = (turn.made.0, g.leads);
+        counted = turn.counted;
         told = carried.2;
       })
 
@@ -103,6 +104,7 @@ module _ {V Part : Type 0} (rule : CallersRule V Part) (z : LotSize) (xs : List 
         roots = λ d y ne. roots_after rule z xs j w ws hs ok i place (f n) turn.world turn.fits (put w.pass p.thread own) turn.access g d
             (λ r. turn.roots d r ne) y;
         made = (turn.made.0, g.leads);
+        counted = turn.counted;
         told = carried.2;
       })
 
@@ -129,5 +131,6 @@ module _ {V Part : Type 0} (rule : CallersRule V Part) (z : LotSize) (xs : List 
         roots = λ d y ne. roots_after rule z xs j w ws hs ok i place (f n) turn.world turn.fits w.pass turn.access g d
             (λ r. turn.roots d r ne) y;
         made = (turn.made.0, g.leads);
+        counted = turn.counted;
         told = carried.1;
       })

@@ -16,17 +16,19 @@ use Rattle.lot_events.specs.declared.events.Event.TheVariants.{SemMark, SemPark,
 use Rattle.lot_events.specs.declared.events.Seen.{Seen}
 use Rattle.lot_events.specs.declared.events.Seen.TheVariants.{Bool as Saw}
 use Rattle.lot_rights.specs.declared.views.Access.{Access}
-use Rattle.lot_rights.specs.declared.views.Access.TheVariants.{Makes, Posts, Collects, Finds}
+use Rattle.lot_rights.specs.declared.views.Access.TheVariants.{Makes, Posts, Collects, Finds, Counts}
 use Rattle.lot_rights.specs.declared.views.Entry.{Entry}
 use Rattle.lot_rights.specs.History.{maker, doer, entries_of, Telling, no_letters, Happens, NoLetterInLine, Continues, Run, events_in}
-use Rattle.lot_rights.proofs.Histories.{entries_append, one_of_mine, run_more}
+use Rattle.lot_rights.specs.History.{tokens_of, CountsRight, AllCountRight}
+use Rattle.lot_rights.proofs.Histories.{entries_append, one_of_mine, run_more, counted_at}
 use Rattle.lot_rights.proofs.Lines.{in_or_not}
 use Rattle.lot_rights.proofs.Puts.{put_elim}
 use Rattle.lot_whole.specs.Family.{Which, lock, cond, sem, LotSize}
-use Rattle.lot_whole.specs.Whole.{WholeStep, word_in, line_in, IsQueued, Counts, counts_in, opening_of}
+use Rattle.lot_whole.specs.Whole.{WholeStep, word_in, waiting_in, line_in, line_at, IsQueued, HowMany, counts_in, opening_of}
 use Rattle.lot_whole.specs.Headline.{event_of}
 use Rattle.lot_whole.proofs.Whole.{counts_after}
 use Rattle.lot_whole.specs.Order.{IsLogOf, state_after, accesses_of, Queues, Dequeues, SeesIn, WasTaken, LettersFollow}
+use Rattle.lot_whole.specs.Order.{CountsFollow}
 
 -- ---- parts of a run
 module _ {S : Type 0} (Leads : S → Access → S → Type 0) where
@@ -215,7 +217,7 @@ counts_all s (e ∷ events) = counts_all (after s e) events ∙ counts_after s e
 
 module _ (z : LotSize) where
   abbrev Goes : Telling World → Access → Telling World → Type 0
-  Goes = Continues WholeStep (word_in z) IsQueued
+  Goes = Continues WholeStep (word_in z) (waiting_in z) IsQueued
 
   -- who was in the line and is not was taken from it, by an event of a thread
   abbrev Taking : Which → ℕ → Telling World → Access → Type 0
@@ -225,7 +227,7 @@ module _ (z : LotSize) where
       → ¬ Contains (line_in b.part j c) t → ⊥
   same_line j t c a b same here gone = gone (subst (λ s. Contains (line_in s j c) t) (sym same) here)
 
-  was_taken : (j : Which) (t c : ℕ) (a : Telling World) (x : Access) (b : Telling World) → Happens WholeStep (word_in z) a x b
+  was_taken : (j : Which) (t c : ℕ) (a : Telling World) (x : Access) (b : Telling World) → Happens WholeStep (word_in z) (waiting_in z) a x b
       → Contains (line_in a.part j c) t → ¬ Contains (line_in b.part j c) t → Taking j c a x
   was_taken j t c a (Makes e saw) b step here gone = ⊎_elim {C = Taking j c a (Makes e saw)}
       (λ d. (d, (maker e, maker_near a.part e step.0.0, refl)))
@@ -234,22 +236,23 @@ module _ (z : LotSize) where
   was_taken j t c a (Collects u None) b step here gone = absurd (same_line j t c a b (λ i. (step.1 i).part) here gone)
   was_taken j t c a (Collects u (Some n)) b step here gone = absurd (same_line j t c a b (λ i. (step.1 i).part) here gone)
   was_taken j t c a (Finds u d n) b step here gone = absurd (same_line j t c a b (λ i. (step.1 i).part) here gone)
+  was_taken j t c a (Counts u d told handed waiting) b step here gone = absurd (same_line j t c a b (λ i. (step.1 i).part) here gone)
 
   -- who was queued is in the line
-  was_queued : (j : Which) (t c : ℕ) (a : Telling World) (x : Access) (b : Telling World) → Happens WholeStep (word_in z) a x b
+  was_queued : (j : Which) (t c : ℕ) (a : Telling World) (x : Access) (b : Telling World) → Happens WholeStep (word_in z) (waiting_in z) a x b
       → Queues j t c x → Contains (line_in b.part j c) t
   was_queued lock t c a x b step is =
-      let h = subst (λ y. Happens WholeStep (word_in z) a y b) is step in
+      let h = subst (λ y. Happens WholeStep (word_in z) (waiting_in z) a y b) is step in
       let s : Locks = a.part.locks in
       let more : Locks = record s { line = put s.line c (s.line c ++ t ∷ []) } in
       let both : true ≡ (s.held c && s.parked c) = (let e : Saw true ≡ Saw (s.held c && s.parked c) = h.0.1 in cc) in
       subst (λ (y : World). Contains (y.locks.line c) t) (sym h.0.2)
       (subst (λ b. Contains ((if b then more else s).line c) t) both (joins t s.line c))
   was_queued cond t c a x b step is =
-      let h = subst (λ y. Happens WholeStep (word_in z) a y b) is.1 step in
+      let h = subst (λ y. Happens WholeStep (word_in z) (waiting_in z) a y b) is.1 step in
       subst (λ (y : World). Contains (y.conds.line c) t) (sym h.0.2) (joins t a.part.conds.line c)
   was_queued sem t c a x b step is =
-      let h = subst (λ y. Happens WholeStep (word_in z) a y b) is step in
+      let h = subst (λ y. Happens WholeStep (word_in z) (waiting_in z) a y b) is step in
       let s : Semaphores = a.part.sems in
       let more : Semaphores = record s { line = put s.line c (s.line c ++ t ∷ []) } in
       let both : true ≡ ((s.left c == 0) && s.parked c) = (let e : Saw true ≡ Saw ((s.left c == 0) && s.parked c) = h.0.1 in cc) in
@@ -257,28 +260,30 @@ module _ (z : LotSize) where
       (subst (λ b. Contains ((if b then more else s).line c) t) both (joins t s.line c))
 
   -- an event sees what the model's sees
-  sees_by : (a : Telling World) (x : Access) (b : Telling World) → Happens WholeStep (word_in z) a x b → SeesIn a.part x
+  sees_by : (a : Telling World) (x : Access) (b : Telling World) → Happens WholeStep (word_in z) (waiting_in z) a x b → SeesIn a.part x
   sees_by a (Makes e saw) b step = step.0.1
   sees_by a (Posts d u n) b step = tt
   sees_by a (Collects u found) b step = tt
   sees_by a (Finds u d n) b step = tt
+  sees_by a (Counts u d told handed waiting) b step = tt
 
   -- where a letter is collected, it lay
-  letter_lay : (t token : ℕ) (a : Telling World) (x : Access) (b : Telling World) → Happens WholeStep (word_in z) a x b
+  letter_lay : (t token : ℕ) (a : Telling World) (x : Access) (b : Telling World) → Happens WholeStep (word_in z) (waiting_in z) a x b
       → x ≡ Collects t (Some token) → a.letters t ≡ token + 1
-  letter_lay t token a x b step is = (subst (λ y. Happens WholeStep (word_in z) a y b) is step).0
+  letter_lay t token a x b step is = (subst (λ y. Happens WholeStep (word_in z) (waiting_in z) a y b) is step).0
 
   -- the state is the one to which the events lead
   abbrev led : World → List Entry → World
   led s log = after_all s (map event_of (events_in log))
 
-  led_by : (a : Telling World) (x : Access) (b : Telling World) (log : List Entry) (end : World) → Happens WholeStep (word_in z) a x b
+  led_by : (a : Telling World) (x : Access) (b : Telling World) (log : List Entry) (end : World) → Happens WholeStep (word_in z) (waiting_in z) a x b
       → end ≡ led b.part log → (k : ℕ) → end ≡ led a.part ((record { at = k; access = x }) ∷ log)
   led_by a (Makes e saw) b log end step is k = is ∙ (λ i. led (step.0.2 i) log)
   led_by a (Posts d u n) b log end step is k = is ∙ (λ i. led (step.1 i).part log)
   led_by a (Collects u None) b log end step is k = is ∙ (λ i. led (step.1 i).part log)
   led_by a (Collects u (Some n)) b log end step is k = is ∙ (λ i. led (step.1 i).part log)
   led_by a (Finds u d n) b log end step is k = is ∙ (λ i. led (step.1 i).part log)
+  led_by a (Counts u d told handed waiting) b log end step is k = is ∙ (λ i. led (step.1 i).part log)
 
   state_is : (a : Telling World) (k : ℕ) (log : List Entry) (b : Telling World) → Run Goes a k log b → b.part ≡ led a.part log
   state_is a k [] b run = λ i. (run i).part
@@ -416,7 +421,7 @@ module _ (z : LotSize) (log : List Entry) (b : Telling World) (run : IsLogOf z l
 
   -- the thread is one of the lot
   taker_near : taker < z.threads
-  taker_near = subst (λ n. taker < n) (ap (λ (n : Counts). n.threads)
+  taker_near = subst (λ n. taker < n) (ap (λ (n : HowMany). n.threads)
       (ap counts_in state_until ∙ counts_all (opening_of z) (map event_of (events_in until)))) is_taking.1.1
 
   -- and its pass shows the entry
@@ -458,3 +463,26 @@ module _ (z : LotSize) (log : List Entry) (b : Telling World) (run : IsLogOf z l
 
 pub letters_follow : LettersFollow
 letters_follow = letter_follows
+
+-- ---- what was counted
+pub counts_follow : CountsFollow
+counts_follow z log b run right t c told handed waiting front back mine =
+    let x : Access = Counts t c told handed waiting in
+    let placed = place_of (2 * t) log x back front mine in
+    let start : Telling World = no_letters (opening_of z) in
+    let by : GoesBy (Goes z) start 0 placed.before placed.entry placed.behind b =
+    goes_by (Goes z) start 0 placed.before placed.entry placed.behind b (subst (λ es. Run (Goes z) start 0 es b) placed.there run) in
+    let here = subst (CountsRight (λ d. tokens_of d placed.before)) placed.entry_is
+    (counted_at [] placed.before placed.entry placed.behind (subst (AllCountRight []) placed.there right)) in
+    let step = subst (λ y. Happens WholeStep (word_in z) (waiting_in z) by.before y by.now) placed.entry_is by.step.0 in
+    record {
+      before = placed.before;
+      entry = placed.entry;
+      after = placed.behind;
+      there = placed.there;
+      front_is = placed.before_is;
+      entry_is = placed.entry_is;
+      told_are = here.0;
+      handed_are = here.1;
+      waiting_are = step.0 ∙ ap (λ s. length (line_at z s c)) (state_is z start 0 placed.before by.before by.run);
+    }

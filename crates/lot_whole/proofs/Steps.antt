@@ -16,7 +16,7 @@ use Rattle.lot_core.proofs.Put.{put_same, put_other, put_again}
 use Rattle.lot_order.specs.Order.{IsOrdered}
 use Rattle.lot_order.proofs.Orderly.{event_ordered}
 use Rattle.lot_rights.specs.declared.views.Access.{Access}
-use Rattle.lot_rights.specs.declared.views.Access.TheVariants.{Makes, Posts, Collects, Finds}
+use Rattle.lot_rights.specs.declared.views.Access.TheVariants.{Makes, Posts, Collects, Finds, Counts}
 use Rattle.lot_rights.specs.History.{Telling, doer, maker}
 use Rattle.lot_rights.specs.Layout.{word_at, letter_at}
 use Rattle.lot_rights.specs.Rule.{Leads}
@@ -262,6 +262,7 @@ module _ {V Part : Type 0} (rule : CallersRule V Part) (z : LotSize) (xs : List 
         moved = λ t by. stays_put t;
         rests = λ _ _. refl;
       }
+      gone (Counts u c told handed waiting) goes speaks = absurd speaks
 
       -- ---- the world after the access a
       module _ (pass : ℕ → LotPassView V) (a : Access) (gone : Gone a) where

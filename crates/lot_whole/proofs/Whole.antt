@@ -25,7 +25,7 @@ use Rattle.lot_words.specs.CallersRule.{CallersRule}
 use Rattle.lot_whole.specs.declared.views.Stand.{Stand}
 use Rattle.lot_whole.specs.declared.views.Stand.TheVariants.{Idle, AtBed}
 use Rattle.lot_whole.specs.Family.{Which, lock, cond, sem, LotSize, meaning_of, part_in, IsEventIn}
-use Rattle.lot_whole.specs.Whole.{Joined, Joins, Stands, StandsMove, stand_of, rises, moves, Counts, counts_in, counts_of}
+use Rattle.lot_whole.specs.Whole.{Joined, Joins, Stands, StandsMove, stand_of, rises, moves, HowMany, counts_in, counts_of}
 
 -- ---- no event changes how many there are
 pub counts_after : (s : World) (e : Event) → counts_in (after s e) ≡ counts_in s
@@ -112,19 +112,19 @@ module _ {V Part : Type 0} (rule : CallersRule V Part) (z : LotSize) (xs : List 
         → (meaning_of rule z xs j).Step (part_in rule z xs j s) e saw b → Joined rule z xs j s e saw b
     joins lock b is step =
         let here : LockAllowed s.threads s.lock_count (lock_part s) e =
-        subst (λ (c : Counts). LockAllowed c.threads c.locks (lock_part s) e) (sym counts) step.0 in
+        subst (λ (c : HowMany). LockAllowed c.threads c.locks (lock_part s) e) (sym counts) step.0 in
         let ok : Allowed s e = (lock_part_allows s e is).1 (here, asks) in
         let follows = (lock_follows s e ok).steps is in
         record { allowed = ok; saw_is = step.1 ∙ sym follows.1; part = follows.2 ∙ sym step.2; others = others lock is ok }
     joins cond b is step =
         let here : CondAllowed s.threads s.lock_count s.cond_count (cond_part s) e =
-        subst (λ (c : Counts). CondAllowed c.threads c.locks c.conds (cond_part s) e) (sym counts) step.0 in
+        subst (λ (c : HowMany). CondAllowed c.threads c.locks c.conds (cond_part s) e) (sym counts) step.0 in
         let ok : Allowed s e = (cond_part_allows s e sound is).1 (here, asks) in
         let follows = (cond_follows s e sound ok).steps is in
         record { allowed = ok; saw_is = step.1 ∙ sym follows.1; part = follows.2 ∙ sym step.2; others = others cond is ok }
     joins sem b is step =
         let here : SemaphoreAllowed s.threads (s.lock_count + s.cond_count) s.sem_count (semaphore_part s) e =
-        subst (λ (c : Counts). SemaphoreAllowed c.threads (c.locks + c.conds) c.sems (semaphore_part s) e) (sym counts) step.0 in
+        subst (λ (c : HowMany). SemaphoreAllowed c.threads (c.locks + c.conds) c.sems (semaphore_part s) e) (sym counts) step.0 in
         let ok : Allowed s e = (semaphore_part_allows s e is).1 (here, asks) in
         let follows = (semaphore_follows s e sound ok).steps is in
         record { allowed = ok; saw_is = step.1 ∙ sym follows.1; part = follows.2 ∙ sym step.2; others = others sem is ok }

@@ -1,11 +1,12 @@
 -- What each kind of call does to the rights that it is handed.
-use Rattle.std.specs.Prelude.{◌≡◌, ◌≢◌, ◌⊎◌, ◌%◌, ℕ, zero, suc, ◌<◌, Bool, true, false, Option, Some, None}
+use Rattle.std.specs.Prelude.{◌≡◌, ◌≢◌, ◌⊎◌, ◌%◌, ℕ, zero, suc, ◌<◌, Bool, length, true, false, Option, Some, None}
 use Rattle.std.specs.List.{Contains}
 use Rattle.lot_events.specs.declared.events.Event.TheVariants.{SemTake, SemFree}
 use Rattle.lot_events.specs.declared.events.Event.{Event}
 use Rattle.lot_events.specs.declared.events.Seen.TheVariants.{Bool as Saw}
 use Rattle.lot_rights.specs.declared.views.Access.{Access}
-use Rattle.lot_rights.specs.declared.views.Access.TheVariants.{Makes, Collects, Finds}
+use Rattle.lot_rights.specs.declared.views.Access.TheVariants.{Makes, Collects, Finds, Counts}
+use Rattle.lot_rights.specs.History.{handed_in}
 use Rattle.lot_rights.specs.Shown.{PassShown, RootShown}
 use Rattle.lot_rights.specs.Steps.{Notes, RootNotes}
 use Rattle.lot_words.specs.CallersRule.{CallersRule}
@@ -25,7 +26,7 @@ use Rattle.lot_whole.specs.declared.views.LotPassView.{LotPassView}
 use Rattle.lot_whole.specs.declared.views.LotRootView.{LotRootView}
 use Rattle.lot_whole.specs.declared.views.LotRootView.TheVariants.{Lock, Cond, Sem}
 use Rattle.lot_whole.specs.Family.{Which, lock, cond, sem, PassIn, RootIn}
-use Rattle.lot_whole.specs.Lot.{root_from}
+use Rattle.lot_whole.specs.Lot.{root_from, line_of_root}
 use Rattle.lot_whole.specs.Lifts.{lot_own}
 use Rattle.lot_whole.specs.Standing.{as_lock, as_cond, as_sem}
 
@@ -69,6 +70,11 @@ abbrev pub paid : LotRootView → ℕ → LotRootView
 paid (Lock q) t = Lock (lock_paid q)
 paid (Cond q) t = Cond (cond_paid q t)
 paid (Sem q) t = Sem (sem_paid q)
+
+-- what a thread counts with a root in hand: of its key, how many were told that they were taken from the line, how many of these were handed
+-- the lock, and how many are in the line
+abbrev pub counting : ℕ → RootShown LotRootView → Access
+counting t q = Counts t q.key (length q.made) (handed_in q.made) (length (line_of_root q.own))
 
 -- q is the pass p after it found no letter
 abbrev pub FoundNone : {V : Type 0} → PassShown (LotPassView V) → PassShown (LotPassView V) → Type 0

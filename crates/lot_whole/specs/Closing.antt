@@ -11,7 +11,7 @@ use Rattle.lot_whole.specs.declared.views.LotPassView.{LotPassView}
 use Rattle.lot_whole.specs.declared.views.LotRootView.{LotRootView}
 use Rattle.lot_whole.specs.declared.views.LotRootView.TheVariants.{Lock, Cond, Sem}
 use Rattle.lot_whole.specs.Family.{LotSize}
-use Rattle.lot_whole.specs.Whole.{WholeStep, word_in, IsQueued, opening_of}
+use Rattle.lot_whole.specs.Whole.{WholeStep, word_in, waiting_in, IsQueued, opening_of}
 use Rattle.lot_whole.specs.Headline.{IsOneRun}
 
 -- the pass holds no lock, and waits on no condition
@@ -46,7 +46,7 @@ LineIs s k (Sem q) = s.sems.line k ≡ q.line
 -- out with the passes are together all that there were
 pub record IsToldTo {V : Type 0} (z : LotSize) (passes : List (PassShown (LotPassView V)))
     (roots : List (RootShown LotRootView)) : Type 0 where
-  pub recounted : IsRecounted WholeStep (word_in z) IsQueued (no_letters (opening_of z)) passes roots
+  pub recounted : IsRecounted WholeStep (word_in z) (waiting_in z) IsQueued (no_letters (opening_of z)) passes roots
   pub run : IsOneRun z (events_in recounted.log) recounted.part
   pub lines : All (λ (q : RootShown LotRootView). LineIs recounted.part q.key q.own) roots
   pub permits : (k : ℕ) → recounted.part.sems.left k + out_with passes k ≡ permits_of z k

@@ -6,7 +6,7 @@ use Rattle.lot_core.specs.Parts.{AsksOfThread}
 use Rattle.lot_core.specs.Steps.{seen}
 use Rattle.lot_order.specs.Order.{KeepsOrder}
 use Rattle.lot_rights.specs.declared.views.Access.{Access}
-use Rattle.lot_rights.specs.declared.views.Access.TheVariants.{Makes, Posts, Collects, Finds}
+use Rattle.lot_rights.specs.declared.views.Access.TheVariants.{Makes, Posts, Collects, Finds, Counts}
 use Rattle.lot_rights.specs.Shown.{PassShown, RootShown}
 use Rattle.lot_rights.specs.Layout.{word_at, letter_at}
 use Rattle.lot_rights.specs.Steps.{pass_after, root_after, AllowsPass, AllowsBoth, AllowsRoot}
@@ -37,12 +37,13 @@ module _ {V Part : Type 0} (rule : CallersRule V Part) (z : LotSize) (xs : List 
   abbrev pub Quiet : Which → LotWorld rule z xs → ℕ → Type 0
   Quiet j w u = (k : Which) → k ≢ j → letters_in rule z xs w k u ≡ 0
 
-  -- the access is one of the kind, and its thread stands as it asks, and keeps the order of keys
+  -- the access is one of the kind, which never counts, and its thread stands as it asks, and keeps the order of keys
   abbrev pub Speaks : Which → LotWorld rule z xs → Access → Type 0
   Speaks j w (Makes e saw) = IsEventIn j e × AsksOfThread w.whole e × (saw ≡ seen w.whole e → KeepsOrder rule.above w.whole e)
   Speaks j w (Posts c u token) = Quiet j w u
   Speaks j w (Collects u found) = Quiet j w u
   Speaks j w (Finds u c x) = IsKeyIn z j c
+  Speaks j w (Counts u c told handed waiting) = ⊥
 
   -- the place i is that of a key of the kind, or of a letter that no other kind has
   abbrev pub InPlace : Which → LotWorld rule z xs → ℕ → Type 0

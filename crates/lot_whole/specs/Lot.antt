@@ -21,7 +21,7 @@ use Rattle.lot_whole.specs.declared.views.Stand.{Stand}
 use Rattle.lot_whole.specs.declared.views.Stand.TheVariants.{Idle}
 use Rattle.lot_whole.specs.Family.{Which, lock, cond, sem, LotSize, cond_size, sem_size, key_count, IsKeyIn, PassIn, RootIn}
 use Rattle.lot_whole.specs.Family.{away, homes_in, meaning_of, part_in}
-use Rattle.lot_whole.specs.Whole.{stand_of, WholeStep, word_in, IsQueued, counts_in, counts_of, opening_of}
+use Rattle.lot_whole.specs.Whole.{stand_of, WholeStep, word_in, waiting_in, IsQueued, counts_in, counts_of, opening_of}
 
 -- ---- passes and roots, kind by kind
 abbrev pub own_of : (V : Type 0) → LotPassView V → (j : Which) → PassIn V j
@@ -61,6 +61,12 @@ abbrev pub fresh_root : LotSize → ℕ → LotRootView
 fresh_root z c =
     if nat_lt c z.locks then Lock fresh_lock_root
     else (if nat_lt c (z.locks + z.conds) then Cond fresh_cond_root else Sem fresh_sem_root)
+
+-- the line of a key's sleepers
+abbrev pub line_of_root : LotRootView → List ℕ
+line_of_root (Lock q) = q.line
+line_of_root (Cond q) = q.line
+line_of_root (Sem q) = q.line
 
 -- whom a root names: those in its line, and whom it owes a letter
 abbrev pub names : LotRootView → ℕ → Type 0
@@ -119,6 +125,7 @@ module _ {V Part : Type 0} (rule : CallersRule V Part) (z : LotSize) (xs : List 
     start = record { part = opening_of z; letters = λ t. 0 };
     Step = WholeStep;
     word_in = word_in z;
+    waiting_in = waiting_in z;
     IsQueued = IsQueued;
     threads = z.threads;
     first_key = 0;

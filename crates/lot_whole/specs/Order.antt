@@ -1,21 +1,22 @@
--- In which order: a letter that a thread collects after it was queued comes after the event that took it from the line.
-use Rattle.std.specs.Prelude.{◌≡◌, ℕ, ◌*◌, ◌<◌, ◌++◌, true, List, [], ◌∷◌, map, Some}
+-- In which order: a letter that a thread collects after it was queued comes after the event that took it from the line, and what a thread
+-- counts is so of the entries before that.
+use Rattle.std.specs.Prelude.{◌≡◌, ℕ, ◌*◌, ◌<◌, ◌++◌, true, List, [], ◌∷◌, length, map, Some}
 use Rattle.std.specs.List.{Contains}
 use Rattle.lot_core.specs.World.{World}
 use Rattle.lot_core.specs.Steps.{after_all, seen}
 use Rattle.lot_events.specs.declared.events.Event.TheVariants.{Park, Pass, Enlist, Call, Sweep, SemPark, SemPass}
 use Rattle.lot_events.specs.declared.events.Seen.TheVariants.{Bool as Saw, Done}
 use Rattle.lot_rights.specs.declared.views.Access.{Access}
-use Rattle.lot_rights.specs.declared.views.Access.TheVariants.{Makes, Collects}
+use Rattle.lot_rights.specs.declared.views.Access.TheVariants.{Makes, Collects, Counts}
 use Rattle.lot_rights.specs.declared.views.Entry.{Entry}
-use Rattle.lot_rights.specs.History.{doer, entries_of, Telling, no_letters, Continues, Run, events_in}
+use Rattle.lot_rights.specs.History.{doer, entries_of, Telling, no_letters, Continues, Run, events_in, tokens_of, handed_in, AllCountRight}
 use Rattle.lot_whole.specs.Family.{Which, lock, cond, sem, LotSize}
-use Rattle.lot_whole.specs.Whole.{WholeStep, word_in, line_in, IsQueued, opening_of}
+use Rattle.lot_whole.specs.Whole.{WholeStep, word_in, waiting_in, line_in, line_at, IsQueued, opening_of}
 use Rattle.lot_whole.specs.Headline.{event_of}
 
 -- the log is the history of a lot of this size, from the opening to what b tells
 abbrev pub IsLogOf : LotSize → List Entry → Telling World → Type 0
-IsLogOf z log b = Run (Continues WholeStep (word_in z) IsQueued) (no_letters (opening_of z)) 0 log b
+IsLogOf z log b = Run (Continues WholeStep (word_in z) (waiting_in z) IsQueued) (no_letters (opening_of z)) 0 log b
 
 -- the state to which its events lead
 abbrev pub state_after : LotSize → List Entry → World
@@ -80,3 +81,22 @@ LettersFollow = (z : LotSize) (log : List Entry) (b : Telling World) → IsLogOf
     → (j : Which) (t c token : ℕ) (front : List Access) (x : Access) (between : List Access) (y : Access) (back : List Access)
     → accesses_of (2 * t) log ≡ front ++ x ∷ (between ++ y ∷ back) → Queues j t c x → y ≡ Collects t (Some token)
     → WasTaken z j t c log front x between y
+
+-- Of a log in which the thread t has made the accesses `front`, and then counted so of the key c: so many of the entries before that told
+-- threads that they were taken from the line of c, and so many of these handed the lock over; and so many threads were in the line
+pub record IsCounted (z : LotSize) (t c : ℕ) (log : List Entry) (front : List Access) (told handed waiting : ℕ) : Type 0 where
+  pub before : List Entry
+  pub entry : Entry
+  pub after : List Entry
+  pub there : log ≡ before ++ entry ∷ after
+  pub front_is : accesses_of (2 * t) before ≡ front
+  pub entry_is : entry.access ≡ Counts t c told handed waiting
+  pub told_are : told ≡ length (tokens_of c before)
+  pub handed_are : handed ≡ handed_in (tokens_of c before)
+  pub waiting_are : waiting ≡ length (line_at z (state_after z before) c)
+
+-- Of each log that counts right, and of each access by which a thread counted
+abbrev pub CountsFollow : Type 0
+CountsFollow = (z : LotSize) (log : List Entry) (b : Telling World) → IsLogOf z log b → AllCountRight [] log
+    → (t c told handed waiting : ℕ) (front back : List Access)
+    → accesses_of (2 * t) log ≡ front ++ Counts t c told handed waiting ∷ back → IsCounted z t c log front told handed waiting

@@ -81,22 +81,26 @@ line_at z s c =
     if nat_lt c z.locks then s.locks.line c
     else (if nat_lt c (z.locks + z.conds) then s.conds.line c else s.sems.line c)
 
+-- how many threads are in it
+abbrev pub waiting_in : LotSize → World → ℕ → ℕ
+waiting_in z s c = length (line_at z s c)
+
 -- the thread is in the line of a key, of whatever kind
 abbrev pub IsQueued : World → ℕ → Type 0
 IsQueued s t = (j : Which) × (c : ℕ) × Contains (line_in s j c) t
 
 -- ---- how many there are: no event changes it
-pub record Counts : Type 0 where
+pub record HowMany : Type 0 where
   pub threads : ℕ
   pub locks : ℕ
   pub conds : ℕ
   pub sems : ℕ
   pub permits : ℕ → ℕ
 
-abbrev pub counts_in : World → Counts
+abbrev pub counts_in : World → HowMany
 counts_in s = record { threads = s.threads; locks = s.lock_count; conds = s.cond_count; sems = s.sem_count; permits = s.permits }
 
-abbrev pub counts_of : LotSize → Counts
+abbrev pub counts_of : LotSize → HowMany
 counts_of z = record {
   threads = z.threads;
   locks = z.locks;

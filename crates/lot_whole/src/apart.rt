@@ -1,14 +1,15 @@
 //! What rights prove by being there. Two passes of one table are of two threads: no lock is held by both, and they have
 //! together no more permits than there are. A root has what the history has of its key.
 ghost use Rattle.std.specs.Prelude.{◌≡◌, ◌≢◌, ℕ, ◌+◌, ◌<◌, ◌≤◌, slice_index};
-ghost use Rattle.lot_rights.specs.Steps.{Moment};
+ghost use Rattle.lot_rights.specs.Steps.{Moment, Notes};
 ghost use Rattle.lot_words.specs.World.{Holds};
 ghost use Rattle.lot_whole.specs.Family.{key_count};
 ghost use Rattle.lot_whole.specs.Closing.{permits_of};
 ghost use Rattle.lot_whole.specs.Both.{KnowBoth};
+ghost use Rattle.lot_whole.specs.Calls.{counting};
 ghost use Rattle.lot_whole.specs.Shown.{lot_of};
 
-use crate::kind::{LotLyingRoot, LotPass};
+use crate::kind::{LotLyingRoot, LotPass, LotRoot};
 use crate::words::LotWords;
 use lot_rights::{Lying, word_of_key};
 use lot_words::Keeps;
@@ -41,6 +42,20 @@ impl<V: Keeps> LotWords<V> {
     {
         let words = &self.words;
         words.check_root::<Brand, Lying>(root)
+    }
+
+    /// Counts, by one load: the pass shows an entry that tells what the history had of the root's key by then, and how
+    /// many were in its line. Nothing else changes.
+    pub fn count(&self, pass: LotPass<V>, root: LotRoot<V>) -> (LotPass<V>, LotRoot<V>)
+        requires table { (pass.table ≡ self.now.table) × (root.table ≡ self.now.table) }
+        ensures table { result.0.table ≡ pass.table }
+        ensures entry { Notes pass pass.own (counting pass.thread root) result.0 }
+        ensures same { result.1 ≡ root }
+    {
+        let words = &self.words;
+        let word = root.word();
+        let (pass, root, _) = words.load_both::<Brand, ()>(pass, root, word, ());
+        (pass, root)
     }
 
     /// The word of a key as it was just now: a lock's bits, a condition's flag, or twice the permits that a semaphore

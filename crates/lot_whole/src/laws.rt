@@ -10,7 +10,7 @@ ghost use Rattle.lot_whole.specs.Family.{LotSize};
 ghost use Rattle.lot_whole.specs.Whole.{Joins, StandsMove};
 ghost use Rattle.lot_whole.specs.Lot.{lot_meaning};
 ghost use Rattle.lot_whole.specs.Headline.{OneState, Promises};
-ghost use Rattle.lot_whole.specs.Order.{LettersFollow};
+ghost use Rattle.lot_whole.specs.Order.{LettersFollow, CountsFollow};
 
 use lot_words::Keeps;
 
@@ -40,4 +40,10 @@ pub fn the_rule_is_the_headline<V: Keeps>()
 /// semaphore. So it is in the log that `close` tells of, whose clause `history` has what is asked here.
 pub fn letters_follow()
     ensures { LettersFollow }
+{}
+
+/// What a thread counted of a key is so of the entries before it, in the log that `close` tells of: its clauses
+/// `history` and `counted` have what is asked here.
+pub fn counts_follow()
+    ensures { CountsFollow }
 {}

@@ -53,7 +53,7 @@ module _ {V Part : Type 0} (rule : CallersRule V Part) where
     none_lies : letter_of (w.spot t) ≡ 0 → Turn 0
     none_lies none_there =
         pass_stays (meaning rule size xs) (letter_at t) 0 w ws hs ok (sym (ok.words.letters t fit.0 ∙ none_there)) p fit (Collects t None)
-        (refl, (none_there, refl)) (Collecting p 0) (λ k. (omega arith, (k, refl)))
+        (refl, (none_there, refl)) (λ tokens. tt) (Collecting p 0) (λ k. (omega arith, (k, refl)))
 
     -- a letter lies: the pass is awake then
     wakes : (f : LockPassView V → LockPassView V) (token l : ℕ) → w.spot t ≡ lying l token
@@ -89,6 +89,7 @@ module _ {V Part : Type 0} (rule : CallersRule V Part) where
               },
             ),
           );
+          counted = λ tokens. tt;
           told = told;
         }
 

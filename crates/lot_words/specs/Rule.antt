@@ -50,6 +50,10 @@ opening_part = record { locks = record { held = λ l. false; parked = λ l. fals
 abbrev pub word_in : LockPart → ℕ → ℕ
 word_in a l = bits_of (a.locks.held l) (a.locks.parked l)
 
+-- how many threads are in a lock's line
+abbrev pub waiting_in : LockPart → ℕ → ℕ
+waiting_in a l = length (a.locks.line l)
+
 -- the thread is in a lock's line
 abbrev pub IsQueued : LockPart → ℕ → Type 0
 IsQueued a t = (l : ℕ) × Contains (a.locks.line l) t
@@ -91,6 +95,7 @@ module _ {V Part : Type 0} (rule : CallersRule V Part) where
     start = record { part = opening_part; letters = λ t. 0 };
     Step = LockStep size.threads size.locks;
     word_in = word_in;
+    waiting_in = waiting_in;
     IsQueued = IsQueued;
     threads = size.threads;
     first_key = 0;
