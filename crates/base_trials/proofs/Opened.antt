@@ -23,7 +23,7 @@ use Rattle.lot_park.specs.Lots.{Appends}
 use Rattle.lot_scheme.specs.Roots.{root_view}
 use Rattle.lot_scheme.specs.Standing.{LotStanding, standing}
 use Rattle.base_trials.specs.Calm.{IsCalm}
-use Rattle.base_trials.specs.Opened.{fresh_at, size_of, IsFresh, AreBack, AreFreshRoots, AreRootsBack}
+use Rattle.base_trials.specs.Opened.{fresh_at, size_of, IsUntouched, AreBack, AreFreshRoots, AreRootsBack}
 use Rattle.base_trials.proofs.Calm.{calm_done}
 
 -- ---- as the opening made them
@@ -39,8 +39,8 @@ module _ {V : Type 0} (table : TableId) (locks conds : ℕ) (values : List V) wh
   fresh_up sem = refl
 
   pub fresh_is : (t : ℕ) (p : PassShown (LotPassView V)) (now : LotStanding V) → p ≡ fresh_at table (size_of locks conds) values t
-      → now ≡ standing p → IsFresh (locks + conds) t now
-  fresh_is t p now is stood = subst (IsFresh (locks + conds) t) (sym (stood ∙ ap standing is)) (
+      → now ≡ standing p → IsUntouched (locks + conds) t now
+  fresh_is t p now is stood = subst (IsUntouched (locks + conds) t) (sym (stood ∙ ap standing is)) (
     record {
       there = record { thread = refl; up = fresh_up; out = refl; sweeps = refl; seeks = refl; stand = refl };
       aim = refl;

@@ -29,8 +29,8 @@ module _ {V : Type 0} where
     pub each : (t : ℕ) → t < 3 → slice_get passes t ≡ Some (fresh_at table (size_of locks conds) values t)
 
   -- a pass that was used for nothing yet
-  abbrev pub IsFresh : ℕ → ℕ → LotStanding V → Type 0
-  IsFresh keys t p = IsCalm t p × (counts_in p ≡ uncounted keys t)
+  abbrev pub IsUntouched : ℕ → ℕ → LotStanding V → Type 0
+  IsUntouched keys t p = IsCalm t p × (counts_in p ≡ uncounted keys t)
 
 -- the roots, in order
 pub record AreFreshRoots (table : TableId) (locks conds : ℕ) (roots : List (RootShown LotRootView)) : Type 0 where

@@ -25,7 +25,7 @@ abbrev pub times_of : ℕ → Pool → ℕ
 times_of task pool = slice_index pool.times.items task
 
 -- each task lies there, or some worker has it in hand, or it was done: just one of these, and once
-pub record IsWhole (pool : Pool) : Type 0 where
+pub record HasEachOnce (pool : Pool) : Type 0 where
   pub places : length pool.in_hand ≡ WORKERS
   pub counts : length pool.times.items ≡ TASKS
   pub once : (task : ℕ) → task < TASKS → count task pool.tasks.items + count task pool.in_hand + times_of task pool ≡ 1
@@ -45,7 +45,7 @@ are_done times = list_all (λ number. nat_lt 0 number) times
 
 -- the worker took the oldest task, and has it in hand; or none lay there, and nothing changed
 pub record Takes (thread : ℕ) (before : Pool) (task : Option ℕ) (after : Pool) : Type 0 where
-  pub whole : IsWhole after
+  pub whole : HasEachOnce after
   pub oldest : MatchOption task ((before.tasks.items ≡ []) × (after.tasks.items ≡ []) × (after.in_hand ≡ before.in_hand))
       (λ oldest. (before.tasks.items ≡ oldest ∷ after.tasks.items) × (in_hand_of thread after ≡ oldest))
   pub times : after.times.items ≡ before.times.items
@@ -53,7 +53,7 @@ pub record Takes (thread : ℕ) (before : Pool) (task : Option ℕ) (after : Poo
 
 -- the task that the worker had in hand was done once more, and no other
 pub record Finishes (thread : ℕ) (before after : Pool) : Type 0 where
-  pub whole : IsWhole after
+  pub whole : HasEachOnce after
   pub same : after.tasks.items ≡ before.tasks.items
   pub none : in_hand_of thread after ≡ TASKS
   pub mine : (task : ℕ) → task < TASKS → task ≡ in_hand_of thread before → times_of task after ≡ times_of task before + 1

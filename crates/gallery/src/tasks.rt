@@ -2,7 +2,7 @@
 ghost use Rattle.std.specs.Prelude.{◌≡◌, ◌<◌, ◌≤◌, IfOk, Some, length, slice_get, vec_len, vec_capacity};
 ghost use Rattle.lot_sync.specs.Lot.{HasSeen};
 ghost use Rattle.lot_sync.specs.Opened.{IsNamed};
-ghost use Rattle.gallery.specs.Tasks.{IsWhole, IsNew, AllDone, Takes, Finishes, IsWorker, HasInHand, HasWaited};
+ghost use Rattle.gallery.specs.Tasks.{HasEachOnce, IsNew, AllDone, Takes, Finishes, IsWorker, HasInHand, HasWaited};
 ghost use Rattle.gallery.specs.Tasks.{in_hand_of, AllBelow};
 
 use crate::crew::{NOW, open};
@@ -37,11 +37,11 @@ pub struct Pool {
 }
 
 impl Keeps for Pool {
-    ghost use Rattle.gallery.specs.Tasks.{IsWhole, in_hand_of};
+    ghost use Rattle.gallery.specs.Tasks.{HasEachOnce, in_hand_of};
 
     type Part = usize;
 
-    ghost keeps = { λ key pool. IsWhole pool };
+    ghost keeps = { λ key pool. HasEachOnce pool };
 
     ghost grows = { λ old new. Unit {0} };
 
@@ -82,7 +82,7 @@ impl Pool {
     /// The worker, who has none, takes the oldest task, where one lies there.
     fn take(&mut self, thread: usize) -> Option<usize>
         requires thread { thread < WORKERS }
-        requires whole { IsWhole self.old }
+        requires whole { HasEachOnce self.old }
         requires idle { in_hand_of thread self.old ≡ TASKS }
         ensures { Takes thread self.old result self.new }
     {
@@ -94,7 +94,7 @@ impl Pool {
     /// The worker has done its task, if any.
     fn finish(&mut self, thread: usize)
         requires thread { thread < WORKERS }
-        requires whole { IsWhole self.old }
+        requires whole { HasEachOnce self.old }
         ensures { Finishes thread self.old self.new }
     {
         let task = self.in_hand[thread];
@@ -190,7 +190,7 @@ fn all_tasks(alloc: Global) -> Result<VecDeque<usize>, AllocError>
 
 /// All tasks lie there.
 fn new_pool(alloc: Global) -> Result<Pool, AllocError>
-    ensures whole { IfOk result IsWhole }
+    ensures whole { IfOk result HasEachOnce }
     ensures new { IfOk result IsNew }
 {
     Ok(Pool {

@@ -100,7 +100,7 @@ impl<R: Root> Settled<R> {
     }
 
     /// Calls `f` with the bucket, which is open, and answers what it answered.
-    pub fn lend<X, Y, F: FnOnce(&mut Bucket<R>, X) -> (X, Y)>(&mut self, x: X, f: F) -> (X, Y)
+    pub fn lend<X, Y, F: FnOnce(&mut Bucket<R>, X) -> Y>(&mut self, x: X, f: F) -> Y
         requires is_open { self.old.bucket.opened ≡ true }
         requires callable { (b : _) → b.now ≡ self.old.bucket → F.pre f b x }
         requires keeps { (b : _) (r : _) (b' : _) → b.now ≡ self.old.bucket → F.post f b x r b'

@@ -96,21 +96,17 @@ fn unpark<S: LockSteps, R: Wait>(
         rt,
         key,
         moment,
-        (pass, Released::Nobody),
-        |x: (S::Pass, Released), root: S::Root, told: UnparkResult| -> (
-            (S::Pass, Released),
-            S::Root,
-            Token,
-        )
+        pass,
+        |pass: S::Pass, root: S::Root, told: UnparkResult| -> ((S::Pass, Released), S::Root, Token)
             requires key { (S.Root.view root).key ≡ key }
-            requires may { S.may_pass x.0 (S.Root.view root).key }
+            requires may { S.may_pass pass (S.Root.view root).key }
             requires clear { (S.Root.view root).owes ≡ [] }
             requires told { (now : ℕ) × Tells (S.Root.view root).line now told }
-            ensures thread { S.thread result.0.0 ≡ S.thread x.0 }
-            ensures went { S.passes_on x.0 (S.Root.view root).key told.more result.0.1 result.0.0 }
+            ensures thread { S.thread result.0.0 ≡ S.thread pass }
+            ensures went { S.passes_on pass (S.Root.view root).key told.more result.0.1 result.0.0 }
             ensures hands { HandsOver S.Root.view root told fair result.1 result.0.1 result.2.0 }
         {
-            let (pass, root, token, released) = scheme.hand_over(x.0, root, key, told, fair);
+            let (pass, root, token, released) = scheme.hand_over(pass, root, key, told, fair);
             ((pass, released), root, token)
         },
     );

@@ -217,44 +217,44 @@ impl<S: Scheme> ParkingLot<S> {
     /// Takes the first thread of the key's line, if there is one, and tells it what `callback` answers.
     ///
     /// `callback` is called once, under the lock of the key's bucket.
-    pub fn unpark_one<W: Wait, X, F: FnOnce(X, S::Root, UnparkResult) -> (X, S::Root, Token)>(
+    pub fn unpark_one<W: Wait, X, Y, F: FnOnce(X, S::Root, UnparkResult) -> (Y, S::Root, Token)>(
         &self,
         rt: &W,
         key: usize,
         moment: Moment,
         x: X,
         callback: F,
-    ) -> (X, UnparkResult)
+    ) -> (Y, UnparkResult)
         requires key { key < self.now.keys }
         requires callable { MayUnpark S.Root.view key moment.now (F.pre callback x) }
         requires keeps { Unparks S.Root.view (λ (t : Token). t.0) key moment.now (F.post callback x) }
         ensures { UnparkedOne S.Root.view key moment.now (F.post callback x) result }
     {
         let scheme = &self.scheme;
-        let (x, told) = self.table.with_bucket(
+        let (y, told) = self.table.with_bucket(
             rt,
             key,
             x,
-            |bucket: &mut Bucket<S::Root>, x: X| -> (X, UnparkResult)
+            |bucket: &mut Bucket<S::Root>, x: X| -> (Y, UnparkResult)
                 requires ready { IsOpenFor S.Root.view key bucket.old }
                 requires callable { MayUnpark S.Root.view key moment.now (F.pre callback x) }
                 requires keeps { Unparks S.Root.view (λ (t : Token). t.0) key moment.now (F.post callback x) }
             { unpark_in(scheme, bucket, key, moment, x, callback) },
         );
         self.wake(rt, told.thread);
-        (x, told)
+        (y, told)
     }
 
     /// Takes all threads of the key's line, tells each of them token 0, and answers how many it took.
     ///
     /// `f` is called once with that number, under the lock of the key's bucket.
-    pub fn unpark_all<W: Wait, X, F: FnOnce(X, S::Root, usize) -> (X, S::Root)>(
+    pub fn unpark_all<W: Wait, X, Y, F: FnOnce(X, S::Root, usize) -> (Y, S::Root)>(
         &self,
         rt: &W,
         key: usize,
         x: X,
         f: F,
-    ) -> (X, usize)
+    ) -> (Y, usize)
         requires key { key < self.now.keys }
         requires callable { MayUnparkAll S.Root.view key (F.pre f x) }
         requires keeps { UnparksAll S.Root.view key (F.post f x) }
@@ -265,7 +265,7 @@ impl<S: Scheme> ParkingLot<S> {
             key,
             self.threads(),
             x,
-            |x: X, root: S::Root, taken: usize, _more: bool| -> (X, S::Root)
+            |x: X, root: S::Root, taken: usize, _more: bool| -> (Y, S::Root)
                 requires { F.pre f x root taken }
                 ensures { F.post f x root taken result }
             { f(x, root, taken) },
@@ -277,25 +277,25 @@ impl<S: Scheme> ParkingLot<S> {
     ///
     /// `f` is called once, under the lock of the key's bucket, with that number and whether more may wait: false means
     /// that nobody is left in the line, where `count` is not 0.
-    pub fn unpark_count<W: Wait, X, F: FnOnce(X, S::Root, usize, bool) -> (X, S::Root)>(
+    pub fn unpark_count<W: Wait, X, Y, F: FnOnce(X, S::Root, usize, bool) -> (Y, S::Root)>(
         &self,
         rt: &W,
         key: usize,
         count: usize,
         x: X,
         f: F,
-    ) -> (X, usize)
+    ) -> (Y, usize)
         requires key { key < self.now.keys }
         requires callable { MayUnparkCount S.Root.view self.now.threads key count (F.pre f x) }
         requires keeps { UnparksCount S.Root.view self.now.threads key count (F.post f x) }
         ensures { UnparkedCount S.Root.view self.now.threads key count (F.post f x) result }
     {
         let scheme = &self.scheme;
-        let (x, taken) = self.table.with_bucket(
+        let (y, taken) = self.table.with_bucket(
             rt,
             key,
             x,
-            |bucket: &mut Bucket<S::Root>, x: X| -> (X, TakenThreads)
+            |bucket: &mut Bucket<S::Root>, x: X| -> (Y, TakenThreads)
                 requires ready { IsOpenFor S.Root.view key bucket.old }
                 requires few { bucket.old.room ≤ MOST_THREADS }
                 requires callable { MayUnparkCount S.Root.view bucket.old.room key count (F.pre f x) }
@@ -303,7 +303,7 @@ impl<S: Scheme> ParkingLot<S> {
             { unpark_count_in(scheme, bucket, key, count, x, f) },
         );
         self.wake_all(rt, &taken);
-        (x, taken.count)
+        (y, taken.count)
     }
 
     // How many threads the lot is for: no line is longer.
@@ -332,13 +332,12 @@ impl<S: Scheme> ParkingLot<S> {
     pub fn line_length<W: Wait>(&self, rt: &W, key: usize) -> usize
         requires { key < self.now.keys }
     {
-        let ((), length) = self.table.with_bucket(
+        self.table.with_bucket(
             rt,
             key,
             (),
-            |bucket: &mut Bucket<S::Root>, x: ()| (x, bucket.line_length(key)),
-        );
-        length
+            |bucket: &mut Bucket<S::Root>, _x: ()| bucket.line_length(key),
+        )
     }
 
     /// Lets the table of buckets grow until it has three for each of so many threads, and answers what became

@@ -38,14 +38,14 @@ pub fn park_in<S: Scheme, X, V: FnOnce(X, S::Pass, S::Root) -> (X, S::Pass, S::R
 }
 
 /// Takes the first thread of the key's line, and posts the letter that the callback decides on.
-pub fn unpark_in<S: Scheme, X, F: FnOnce(X, S::Root, UnparkResult) -> (X, S::Root, Token)>(
+pub fn unpark_in<S: Scheme, X, Y, F: FnOnce(X, S::Root, UnparkResult) -> (Y, S::Root, Token)>(
     scheme: &S,
     bucket: &mut Bucket<S::Root>,
     key: usize,
     moment: Moment,
     x: X,
     callback: F,
-) -> (X, UnparkResult)
+) -> (Y, UnparkResult)
     requires ready { IsOpenFor S.Root.view key bucket.old }
     requires callable { MayUnpark S.Root.view key moment.now (F.pre callback x) }
     requires keeps { Unparks S.Root.view (λ (t : Token). t.0) key moment.now (F.post callback x) }
@@ -54,21 +54,21 @@ pub fn unpark_in<S: Scheme, X, F: FnOnce(X, S::Root, UnparkResult) -> (X, S::Roo
 {
     let root = bucket.take_root(key);
     let told = bucket.dequeue_one(key, moment);
-    let (x, root, token) = callback(x, root, told);
+    let (y, root, token) = callback(x, root, told);
     let root = pay(scheme, root, told.thread, token);
     bucket.put_root(key, root);
-    (x, told)
+    (y, told)
 }
 
 /// Takes the first `count` of the key's line, or all where they are fewer, and posts a letter with token 0 to each.
-pub fn unpark_count_in<S: Scheme, X, F: FnOnce(X, S::Root, usize, bool) -> (X, S::Root)>(
+pub fn unpark_count_in<S: Scheme, X, Y, F: FnOnce(X, S::Root, usize, bool) -> (Y, S::Root)>(
     scheme: &S,
     bucket: &mut Bucket<S::Root>,
     key: usize,
     count: usize,
     x: X,
     f: F,
-) -> (X, TakenThreads)
+) -> (Y, TakenThreads)
     requires ready { IsOpenFor S.Root.view key bucket.old }
     requires few { bucket.old.room ≤ MOST_THREADS }
     requires callable { MayUnparkCount S.Root.view bucket.old.room key count (F.pre f x) }
@@ -78,10 +78,10 @@ pub fn unpark_count_in<S: Scheme, X, F: FnOnce(X, S::Root, usize, bool) -> (X, S
 {
     let mut threads = [0; MOST_THREADS];
     let (root, taken, more) = take_first(bucket, key, count, &mut threads);
-    let (x, root) = f(x, root, taken, more);
+    let (y, root) = f(x, root, taken, more);
     let root = pay_all(scheme, root, &threads[..taken]);
     bucket.put_root(key, root);
-    (x, taken_of(threads, taken))
+    (y, taken_of(threads, taken))
 }
 
 fn taken_of(threads: [usize; MOST_THREADS], count: usize) -> TakenThreads

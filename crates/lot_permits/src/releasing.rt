@@ -2,7 +2,7 @@
 //! sleeper is taken from the line, and the permit is left to whoever comes first.
 ghost use Rattle.std.specs.Prelude.{◌≡◌, ℕ, ◌<◌, Bool, []};
 ghost use Rattle.lot_park.specs.Parking.{Tells};
-ghost use Rattle.lot_scheme.specs.Roots.{TakesFirst};
+ghost use Rattle.lot_scheme.specs.Roots.{OwesFirst};
 
 use crate::permit::Freed;
 use crate::steps::SemSteps;
@@ -54,21 +54,17 @@ fn unpark<S: SemSteps, R: Wait>(
         rt,
         key,
         moment,
-        (pass, Freed::Nobody),
-        |x: (S::Pass, Freed), root: S::Root, told: UnparkResult| -> (
-            (S::Pass, Freed),
-            S::Root,
-            Token,
-        )
+        pass,
+        |pass: S::Pass, root: S::Root, told: UnparkResult| -> ((S::Pass, Freed), S::Root, Token)
             requires key { (S.Root.view root).key ≡ key }
-            requires may { S.may_give x.0 (S.Root.view root).key }
+            requires may { S.may_give pass (S.Root.view root).key }
             requires clear { (S.Root.view root).owes ≡ [] }
             requires told { (now : ℕ) × Tells (S.Root.view root).line now told }
-            ensures passes { S.passes x.0 (S.Root.view root).key told.more result.0.1 result.0.0 }
-            ensures takes { TakesFirst S.Root.view root told.thread 0 result.1 }
+            ensures passes { S.passes pass (S.Root.view root).key told.more result.0.1 result.0.0 }
+            ensures takes { OwesFirst S.Root.view root told.thread 0 result.1 }
             ensures token { result.2.0 ≡ 0 }
         {
-            let (pass, root, freed) = scheme.give_on(x.0, root, key, told);
+            let (pass, root, freed) = scheme.give_on(pass, root, key, told);
             ((pass, freed), root, TRY_AGAIN)
         },
     );

@@ -2,7 +2,7 @@
 //! while its bucket is locked.
 ghost use Rattle.std.specs.Prelude.{◌≡◌, ℕ, Bool, [], MatchBool};
 ghost use Rattle.lot_park.specs.Parking.{Tells};
-ghost use Rattle.lot_scheme.specs.Roots.{TakesFirst};
+ghost use Rattle.lot_scheme.specs.Roots.{OwesFirst};
 ghost use Rattle.lot_permits.specs.declared.permit.Freed.{Freed};
 ghost use Rattle.lot_permits.specs.declared.permit.Freed.TheVariants.{Quiet};
 
@@ -53,7 +53,7 @@ pub trait SemSteps: Sought<Sems> {
         requires clear { (Self.Root.view root).owes ≡ [] }
         requires told { (now : ℕ) × Tells (Self.Root.view root).line now told }
         ensures passes { passes pass (Self.Root.view root).key told.more result.2 result.0 }
-        ensures takes { TakesFirst Self.Root.view root told.thread 0 result.1 };
+        ensures takes { OwesFirst Self.Root.view root told.thread 0 result.1 };
 }
 
 impl<V: Keeps + Send, N: LotName<V> + Send, C: Tally + Send> SemSteps for LotScheme<V, N, C> {

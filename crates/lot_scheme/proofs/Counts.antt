@@ -4,7 +4,6 @@ use Rattle.std.proofs.Common.{◌∙◌, ⊎_elim, arith}
 use Rattle.std.specs.List.{Contains}
 use Rattle.std.proofs.lemmas.List.{append-nil, length-append, take-append-drop}
 use Rattle.std.proofs.lemmas.List.Sums.{sum_by-append}
-use mathlib.Core.Option as maybe
 use Rattle.lot_park.specs.Parking.{debt, debts}
 use Rattle.lot_core.proofs.Members.{in_none}
 use Rattle.lot_rights.specs.declared.views.Access.TheVariants.{Posts, Counts}
@@ -15,17 +14,14 @@ use Rattle.lot_rights.specs.Shown.{PassShown, RootShown}
 use Rattle.lot_rights.specs.Steps.{Notes, RootNotes, Moment}
 use Rattle.lot_rights.proofs.Lines.{in_cases}
 use Rattle.lot_rights.proofs.Puts.{by_test}
-use Rattle.lot_core.specs.Parts.{LockPart, CondPart, SemaphorePart}
 use Rattle.lot_words.specs.CallersRule.{CallersRule}
-use Rattle.lot_words.specs.declared.views.LockRootView.{LockRootView}
-use Rattle.lot_conds.specs.declared.views.CondRootView.{CondRootView}
 use Rattle.lot_conds.specs.Calls.{called_root, swept_root}
 use Rattle.lot_whole.specs.declared.views.LotPassView.{LotPassView}
 use Rattle.lot_whole.specs.declared.views.LotRootView.{LotRootView}
 use Rattle.lot_whole.specs.declared.views.LotRootView.TheVariants.{Lock, Cond, Sem}
-use Rattle.lot_whole.specs.Family.{lock as lock_kind, cond as cond_kind, sem as sem_kind, LotSize}
+use Rattle.lot_whole.specs.Family.{cond as cond_kind, LotSize}
 use Rattle.lot_whole.specs.Whole.{line_at}
-use Rattle.lot_whole.specs.Lot.{line_of_root, LotWorld, LotFits, LotRootIs, lot_meaning}
+use Rattle.lot_whole.specs.Lot.{line_of_root, lot_meaning}
 use Rattle.lot_whole.specs.Calls.{RootIs, OwesLetter, paid, counting}
 use Rattle.lot_whole.specs.Standing.{IsCondRoot, as_cond}
 use Rattle.lot_whole.proofs.Counting.{line_known}

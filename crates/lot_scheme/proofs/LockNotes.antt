@@ -24,7 +24,7 @@ use Rattle.lot_whole.specs.Lifts.{lot_own}
 use Rattle.lot_whole.specs.Standing.{IsLockRoot, as_lock}
 use Rattle.lot_whole.specs.Calls.{NotesIn, FindsOf, RootIs, GetsBy}
 use Rattle.lot_whole.specs.Lot.{line_of_root}
-use Rattle.lot_scheme.specs.Roots.{debts_of, owes_in, root_view, TakesFirst}
+use Rattle.lot_scheme.specs.Roots.{debts_of, owes_in, root_view, OwesFirst}
 use Rattle.lot_scheme.specs.Standing.{LotStanding, standing, adding, wanting, dozing, owning, finding_parked}
 use Rattle.lot_scheme.specs.LockCalls.{GetsLock, FreesLock}
 use Rattle.lot_scheme.proofs.Noted.{noted}
@@ -77,13 +77,13 @@ pub takes_first : (r before after s : RootShown LotRootView) (told : Option ℕ)
     → IsLockRoot before.own
     → owes_in r.own ≡ [] → first_of (line_of_root r.own) ≡ told
     → RootIs lock before (passed_root (as_lock before.own) fair (as_lock before.own).line) after
-    → TakesFirst root_view r told (token_of fair) s
+    → OwesFirst root_view r told (token_of fair) s
 takes_first r before after s told fair is_r is_s kind clear first_is is =
     let seen = passed_seen before.own after.own fair kind
     (ap (λ (z : RootShown LotRootView). owes_in z.own) is_r ∙ clear) (ap (λ (z : RootShown LotRootView). z.own) is)
     in
-    subst (λ (z : RootShown LotRootView). TakesFirst root_view z told (token_of fair) s) is_r
-    (subst (λ (z : RootShown LotRootView). TakesFirst root_view before told (token_of fair) z) (sym is_s)
+    subst (λ (z : RootShown LotRootView). OwesFirst root_view z told (token_of fair) s) is_r
+    (subst (λ (z : RootShown LotRootView). OwesFirst root_view before told (token_of fair) z) (sym is_s)
     (record {
       named = ap (λ (z : RootShown LotRootView). z.key) is;
       lined = seen.0;

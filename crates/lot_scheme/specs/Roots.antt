@@ -28,7 +28,7 @@ abbrev pub root_view : RootShown LotRootView → KeyLine
 root_view r = key_line r.key r.own
 
 -- the first of the line, if one is there, was taken from it, and is owed a letter with this token
-pub record TakesFirst {R : Type 0} (view : R → KeyLine) (root : R) (first : Option ℕ) (token : ℕ) (now : R) : Type 0 where
+pub record OwesFirst {R : Type 0} (view : R → KeyLine) (root : R) (first : Option ℕ) (token : ℕ) (now : R) : Type 0 where
   pub named : (view now).key ≡ (view root).key
   pub lined : (view now).line ≡ drop 1 (view root).line
   pub owing : (view now).owes ≡ debt first token

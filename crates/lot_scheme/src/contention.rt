@@ -204,8 +204,8 @@ pub fn key_contention<S: CountsKeys, R: Wait>(
         rt,
         key,
         0,
-        Contention::none(),
-        |_before: Contention, root: S::Root, _taken: usize, _more: bool| -> (Contention, S::Root)
+        (),
+        |_x: (), root: S::Root, _taken: usize, _more: bool| -> (Contention, S::Root)
             requires clear { (S.Root.view root).owes ≡ [] }
             ensures same { result.1 ≡ root }
             ensures counted { S.counted (S.Root.view root).key result.0 }
@@ -232,17 +232,17 @@ pub fn note_contention<S: CountsKeys, R: Wait>(
         rt,
         key,
         0,
-        (pass, Contention::none()),
-        |before: (S::Pass, Contention), root: S::Root, _taken: usize, _more: bool| -> (
+        pass,
+        |pass: S::Pass, root: S::Root, _taken: usize, _more: bool| -> (
             (S::Pass, Contention),
             S::Root,
         )
             requires named { (S.Root.view root).key ≡ key }
             requires clear { (S.Root.view root).owes ≡ [] }
             ensures same { result.1 ≡ root }
-            ensures counts { S.counts before.0 key result.0.1 result.0.0 }
+            ensures counts { S.counts pass key result.0.1 result.0.0 }
         {
-            let (pass, root, seen) = scheme.count(before.0, root, key);
+            let (pass, root, seen) = scheme.count(pass, root, key);
             ((pass, seen), root)
         },
     );

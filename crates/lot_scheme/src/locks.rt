@@ -11,7 +11,7 @@ ghost use Rattle.lot_words.specs.Calls.{token_of};
 ghost use Rattle.lot_words.specs.declared.views.Place.TheVariants.{InSlot, Out};
 ghost use Rattle.lot_whole.specs.Standing.{IsIdle, MayTake, MayWant, MayLetGo, MayLineUp};
 ghost use Rattle.lot_park.specs.Parking.{Queues};
-ghost use Rattle.lot_scheme.specs.Roots.{root_view, TakesFirst};
+ghost use Rattle.lot_scheme.specs.Roots.{root_view, OwesFirst};
 ghost use Rattle.lot_scheme.specs.Standing.{LotStanding, adding, wanting, dozing, finding_parked, placing};
 ghost use Rattle.lot_scheme.specs.LockCalls.{GetsLock, FreesLock};
 
@@ -154,7 +154,7 @@ impl<V: Keeps, N: LotName<V>, C: Tally> LotScheme<V, N, C> {
         requires fair { first ≡ None → fair ≡ false }
         ensures pass { FreesLock pass root.key
             (Makes (Pass pass.thread root.key fair more) (Sleeper first)) result.0 }
-        ensures root { TakesFirst root_view root first (token_of fair) result.1 }
+        ensures root { OwesFirst root_view root first (token_of fair) result.1 }
     {
         let (root, tally) = root.take_up(key);
         let (pass, root) = self

@@ -8,7 +8,7 @@ ghost use Rattle.lot_rights.specs.declared.views.Access.TheVariants.{Makes};
 ghost use Rattle.lot_park.specs.Parking.{Queues};
 ghost use Rattle.lot_whole.specs.Standing.{IsIdle, MayWantPermit, MaySeek, MayGive};
 ghost use Rattle.lot_scheme.specs.Standing.{LotStanding, adding, one_permit_less};
-ghost use Rattle.lot_scheme.specs.Roots.{root_view, TakesFirst};
+ghost use Rattle.lot_scheme.specs.Roots.{root_view, OwesFirst};
 ghost use Rattle.lot_scheme.specs.SemCalls.{TriesPermit, TakesPermit, MarksPermit, ParksPermit, FreesPermit};
 
 use crate::contention::Tally;
@@ -112,7 +112,7 @@ impl<V: Keeps, N: LotName<V>, C: Tally> LotScheme<V, N, C> {
         requires more { SaysMore (root_view root).line more }
         ensures pass { result.0 ≡ adding (one_permit_less pass (root_view root).key)
             (Makes (Passes pass.thread (root_view root).key more) (Sleeper first) ∷ []) }
-        ensures root { TakesFirst root_view root first 0 result.1 }
+        ensures root { OwesFirst root_view root first 0 result.1 }
     {
         let (root, tally) = root.take_up(key);
         let (pass, root) = self

@@ -35,9 +35,9 @@ use Rattle.lot_waits.specs.Counts.{wrap, kept}
 use Rattle.lot_waits.specs.Ledger.{AreZeros}
 use Rattle.lot_waits.specs.declared.tallies.Tallies.{Tallies}
 use Rattle.lot_sync.specs.Lot.{LotNames}
-use Rattle.lot_sync.specs.Passes.{IsAtRest, pass_view_shown, AreCounted}
+use Rattle.lot_sync.specs.Passes.{IsAtRest, pass_view_shown, AreTallied}
 use Rattle.lot_sync.specs.Opened.{IsOpened, opened_as}
-use Rattle.lot_sync.specs.Starting.{Starts, IsFresh}
+use Rattle.lot_sync.specs.Starting.{Starts, IsNewPass}
 use Rattle.lot_sync.proofs.Rests.{owned_held}
 
 -- ---- numbers of nothing
@@ -63,7 +63,7 @@ kept_zeros locks conds =
 -- zeros are kept of a pass that has counted nothing
 pub kept_of_none : {V : Type 0} (locks conds : ℕ) (r : LotStanding V) (t : Tallies) → r.own.conds.called ≡ replicate (locks + conds) 0
     → r.own.conds.woken ≡ replicate (locks + conds) 0
-    → AreZeros conds t → AreCounted locks conds r t
+    → AreZeros conds t → AreTallied locks conds r t
 kept_of_none locks conds r t c w zeros = record {
   wide = (ap length c ∙ length-replicate (locks + conds) 0, ap length w ∙ length-replicate (locks + conds) 0);
   called_are = zeros.0 ∙ (sym (kept_zeros locks conds) ∙ ap (kept locks) (sym c));
@@ -156,16 +156,16 @@ module _ {V Part : Type 0} (rule : CallersRule V Part) (words : LotWordsShown V)
     out = λ l holds. absurd (unheld (length words.values) l holds);
   }
 
-  fresh_at : (t : ℕ) → t < words.size.threads → IsFresh rule.grows (opened_as words) (new_at t)
+  fresh_at : (t : ℕ) → t < words.size.threads → IsNewPass rule.grows (opened_as words) (new_at t)
   fresh_at t near = record { is_of = refl; rest = rest_at t near; starts = starts_at t near; none_called = refl; none_woken = refl }
 
-  pub passes_fresh : All (IsFresh rule.grows (opened_as words)) passes
-  passes_fresh = all_by_place (IsFresh rule.grows (opened_as words)) new_at passes passes_at (λ t near. fresh_at t (subst
+  pub passes_fresh : All (IsNewPass rule.grows (opened_as words)) passes
+  passes_fresh = all_by_place (IsNewPass rule.grows (opened_as words)) new_at passes passes_at (λ t near. fresh_at t (subst
       (λ n. t < n) opened.passes_long near))
 
   -- the same under the name of the lot
-  pub fresh_named : (names : LotNames V) → names ≡ opened_as words → All (IsFresh rule.grows names) passes
-  fresh_named names named = subst (λ ns. All (IsFresh rule.grows ns) passes) (sym named) passes_fresh
+  pub fresh_named : (names : LotNames V) → names ≡ opened_as words → All (IsNewPass rule.grows names) passes
+  fresh_named names named = subst (λ ns. All (IsNewPass rule.grows ns) passes) (sym named) passes_fresh
 
   pub passes_own : All (λ (p : PassShown (LotPassView V)). p.table ≡ words.table) passes
   passes_own = all_by_place (λ (p : PassShown (LotPassView V)). p.table ≡ words.table) new_at passes passes_at (λ t near. refl)

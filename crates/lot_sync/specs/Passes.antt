@@ -49,8 +49,8 @@ module _ {V : Type 0} where
     pub grown : (l : ℕ) (u v : V) → get_elem? names.values l ≡ some u → get_elem? r.own.locks.seen l ≡ some v → grows u v
 
   -- so much is kept of what it has counted
-  abbrev pub AreCounted : ℕ → ℕ → LotStanding V → Tallies → Type 0
-  AreCounted locks conds r t = AreKept locks conds (counts_in r) t.called.items t.woken.items
+  abbrev pub AreTallied : ℕ → ℕ → LotStanding V → Tallies → Type 0
+  AreTallied locks conds r t = AreKept locks conds (counts_in r) t.called.items t.woken.items
 
   -- it is idle, and has out the value of each lock that it holds
   pub record IsAtRest (grows : V → V → Type 0) (names : LotNames V) (r : LotStanding V) : Type 0 where
@@ -74,7 +74,7 @@ module _ {V : Type 0} where
 
 -- what each pass of a lot of this name is: of one of its threads, with a number or a value for each key, and gone on from the opening
 -- values
-pub record IsWhole {V : Type 0} (names : LotNames V) (grows : V → V → Type 0) (p : PassView V) : Type 0 where
+pub record IsPassOf {V : Type 0} (names : LotNames V) (grows : V → V → Type 0) (p : PassView V) : Type 0 where
   pub is_thread : p.thread < names.threads
   pub owns_long : length p.owns ≡ names.locks
   pub seen_long : length p.seen ≡ names.locks

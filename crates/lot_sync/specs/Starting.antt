@@ -16,7 +16,7 @@ pub record Starts {V : Type 0} (opening : List V) (threads : ℕ) (p : PassView 
   pub made_none : p.made ≡ []
 
 -- a pass of the lot that is at rest, holds nothing, has seen the opening values, and was used for nothing yet
-pub record IsFresh {V : Type 0} (grows : V → V → Type 0) (names : LotNames V) (p : PassShown (LotPassView V)) : Type 0 where
+pub record IsNewPass {V : Type 0} (grows : V → V → Type 0) (names : LotNames V) (p : PassShown (LotPassView V)) : Type 0 where
   pub is_of : p.table ≡ names.opening.locks
   pub rest : IsAtRest grows names (standing p)
   pub starts : Starts names.values names.threads (pass_view_shown p)

@@ -6,7 +6,7 @@ ghost use Rattle.lot_scheme.specs.Words.{TryWord, GetWord};
 ghost use Rattle.lot_sync.specs.Lot.{◌≈◌, Owns, HasShape, keys_of};
 ghost use Rattle.lot_sync.specs.Words.{Adds};
 ghost use Rattle.lot_sync.specs.Values.{Gets};
-ghost use Rattle.lot_sync.specs.Passes.{pass_view_of, AreCounted, IsNewOwner};
+ghost use Rattle.lot_sync.specs.Passes.{pass_view_of, AreTallied, IsNewOwner};
 ghost use Rattle.lot_words.specs.Values.{IsIn};
 
 use crate::held::Held;
@@ -99,7 +99,7 @@ impl<V: Keeps + Send, N: LotName<V> + Send, C: Tally + Send> Lot<V, N, C> {
     ) -> (Pass<V, N>, Held<V, N>)
         requires key { key < self.now.locks }
         requires owner { IsNewOwner V.grows N.LotName right key }
-        requires kept { AreCounted N.locks N.conds right tallies.value }
+        requires kept { AreTallied N.locks N.conds right tallies.value }
         ensures held { (result.1.key ≡ key) × IsIn right.own.locks key result.1.value }
         ensures pass { result.0 ≡ pass_view_of right }
         ensures shape { HasShape self.now result.0 }

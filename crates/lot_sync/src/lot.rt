@@ -1,7 +1,7 @@
 //! A lot: locks that guard values, and the passes of its threads.
 ghost use Rattle.std.specs.Prelude.{◌≡◌, ◌+◌, ◌<◌, ◌↔◌, IsTrue, length};
 ghost use Rattle.lot_sync.specs.Lot.{IsLot, HasShape, IsCond, IsSem};
-ghost use Rattle.lot_sync.specs.Passes.{pass_view_of, IsAtRest, AreCounted};
+ghost use Rattle.lot_sync.specs.Passes.{pass_view_of, IsAtRest, AreTallied};
 
 use crate::pass::Pass;
 use crate::pool::Pool;
@@ -82,7 +82,7 @@ impl<V: Keeps + Send, N: LotName<V> + Send, C: Tally + Send> Lot<V, N, C> {
     #[inline(always)]
     pub(crate) fn at_rest(&self, right: NamedPass<V, N>, tallies: Box<Tallies>) -> Pass<V, N>
         requires rest { IsAtRest V.grows N.LotName right }
-        requires kept { AreCounted N.locks N.conds right tallies.value }
+        requires kept { AreTallied N.locks N.conds right tallies.value }
         ensures pass { result ≡ pass_view_of right }
         ensures shape { HasShape self.now result }
     {

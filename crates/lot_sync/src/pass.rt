@@ -1,6 +1,6 @@
 //! The right to act as one thread of a lot.
 ghost use Rattle.std.specs.Prelude.{◌≡◌};
-ghost use Rattle.lot_sync.specs.Passes.{pass_view_of, IsAtRest, AreCounted, IsWhole};
+ghost use Rattle.lot_sync.specs.Passes.{pass_view_of, IsAtRest, AreTallied, IsPassOf};
 
 use lot_scheme::{LotName, NamedPass};
 use lot_waits::Tallies;
@@ -16,7 +16,7 @@ pub struct Pass<V: Keeps + Send, N: LotName<V> + Send> {
 
 impl<V: Keeps + Send, N: LotName<V> + Send> Model for Pass<V, N> {
     ghost use Rattle.lot_sync.specs.Lot.{PassView};
-    ghost use Rattle.lot_sync.specs.Passes.{pass_view_of, IsAtRest, AreCounted};
+    ghost use Rattle.lot_sync.specs.Passes.{pass_view_of, IsAtRest, AreTallied};
 
     ghost Value = { PassView V };
 
@@ -31,7 +31,7 @@ impl<V: Keeps + Send, N: LotName<V> + Send> Model for Pass<V, N> {
           conds = N.conds;
           threads = N.threads;
           values = N.values;
-        }) s.right × AreCounted N.locks N.conds s.right s.tallies.value };
+        }) s.right × AreTallied N.locks N.conds s.right s.tallies.value };
 }
 
 impl<V: Keeps + Send, N: LotName<V> + Send> Pass<V, N> {
@@ -45,7 +45,7 @@ impl<V: Keeps + Send, N: LotName<V> + Send> Pass<V, N> {
     /// Shows what each pass of a lot is. It changes nothing.
     #[inline(always)]
     pub(crate) fn check_whole(&self)
-        ensures { IsWhole N.LotName V.grows self.now }
+        ensures { IsPassOf N.LotName V.grows self.now }
     {
         let _right = &self.right;
     }
@@ -54,7 +54,7 @@ impl<V: Keeps + Send, N: LotName<V> + Send> Pass<V, N> {
     #[inline(always)]
     pub(crate) fn at_rest(right: NamedPass<V, N>, tallies: Box<Tallies>) -> Pass<V, N>
         requires rest { IsAtRest V.grows N.LotName right }
-        requires kept { AreCounted N.locks N.conds right tallies.value }
+        requires kept { AreTallied N.locks N.conds right tallies.value }
         ensures { result ≡ pass_view_of right }
     {
         Pass { right, tallies }
@@ -64,7 +64,7 @@ impl<V: Keeps + Send, N: LotName<V> + Send> Pass<V, N> {
     #[inline(always)]
     pub(crate) fn apart(self) -> (NamedPass<V, N>, Box<Tallies>)
         ensures rest { IsAtRest V.grows N.LotName result.0 }
-        ensures kept { AreCounted N.locks N.conds result.0 result.1.value }
+        ensures kept { AreTallied N.locks N.conds result.0 result.1.value }
         ensures same { self ≡ pass_view_of result.0 }
     {
         let Pass { right, tallies } = self;

@@ -7,7 +7,7 @@ ghost use Rattle.lot_scheme.specs.Counts.{IsUnused};
 ghost use Rattle.lot_scheme.specs.Roots.{IsInItsKind};
 ghost use Rattle.lot_waits.specs.Ledger.{AreZeros};
 ghost use Rattle.lot_sync.specs.Lot.{PassView, rested};
-ghost use Rattle.lot_sync.specs.Starting.{IsFresh, Starts};
+ghost use Rattle.lot_sync.specs.Starting.{IsNewPass, Starts};
 
 use crate::pass::Pass;
 use crate::pool::{ClosingRoom, Idle, Pool};
@@ -99,7 +99,7 @@ fn fill<V: Keeps + Send, N: LotName<V> + Send>(
     tallies: &mut Vec<Box<Tallies>>,
     idle: &mut Vec<Idle<V, N>>,
 )
-    requires fresh { All (IsFresh V.grows N.LotName) passes.old.items }
+    requires fresh { All (IsNewPass V.grows N.LotName) passes.old.items }
     requires long { vec_len tallies.old ≡ vec_len passes.old }
     requires none { All (λ (t : _). AreZeros N.conds t.value) tallies.old.items }
     requires rests { (p : PassView V) → Starts N.values N.threads p → V.rests (rested p) }
@@ -118,7 +118,7 @@ fn make_idle<V: Keeps + Send, N: LotName<V> + Send>(
     right: LotPass<V>,
     tallies: Box<Tallies>,
 ) -> Idle<V, N>
-    requires fresh { IsFresh V.grows N.LotName right }
+    requires fresh { IsNewPass V.grows N.LotName right }
     requires none { AreZeros N.conds tallies.value }
     requires rests { (p : PassView V) → Starts N.values N.threads p → V.rests (rested p) }
 {
@@ -137,7 +137,7 @@ pub(crate) fn pool_of<V: Keeps + Send, N: LotName<V> + Send, C: Tally + Send>(
     counts: Vec<C>,
     sums: Tallies,
 ) -> Pool<V, N, C>
-    requires fresh { All (IsFresh V.grows N.LotName) passes.items }
+    requires fresh { All (IsNewPass V.grows N.LotName) passes.items }
     requires long { (vec_len tallies ≡ vec_len passes) × (vec_len passes ≤ N.threads) }
     requires none { All (λ (t : _). AreZeros N.conds t.value) tallies.items }
     requires rests { (p : PassView V) → Starts N.values N.threads p → V.rests (rested p) }

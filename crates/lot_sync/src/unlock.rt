@@ -4,7 +4,7 @@ ghost use Rattle.std.specs.Prelude.{◌≡◌, ◌⊎◌, ◌<◌, true, false, 
 ghost use Rattle.lot_sync.specs.Lot.{◌≈◌, Owns, HasSeen, HasShape, letting_go};
 ghost use Rattle.lot_sync.specs.Words.{Adds, UnparkedWord};
 ghost use Rattle.lot_sync.specs.Values.{MayGiveBack};
-ghost use Rattle.lot_sync.specs.Passes.{pass_view_of, AreCounted, IsNewOwner};
+ghost use Rattle.lot_sync.specs.Passes.{pass_view_of, AreTallied, IsNewOwner};
 ghost use Rattle.lot_locks.specs.Released.{IsFitting, FreeWord};
 ghost use Rattle.lot_locks.specs.declared.released.Released.TheVariants.{Quiet};
 ghost use Rattle.lot_words.specs.Values.{IsIn, HasSeen as OwnHasSeen};
@@ -164,7 +164,7 @@ impl<V: Keeps + Send, N: LotName<V> + Send, C: Tally + Send> Lot<V, N, C> {
         ensures owner { IsNewOwner V.grows N.LotName result.0 key }
         ensures lies { IsIn result.0.own.locks key held.value }
         ensures grown { (u : V) → OwnHasSeen result.0.own.locks key u → V.grows u held.value }
-        ensures kept { AreCounted N.locks N.conds result.0 result.1.value }
+        ensures kept { AreTallied N.locks N.conds result.0 result.1.value }
         ensures same { pass_view_of result.0 ≡ pass }
         ensures locks { key < N.locks }
     {

@@ -124,13 +124,13 @@ impl<R: Root> Table<R> {
     /// What the lock leaves unknown is tested under it before. A closed bucket is let go, and the call begins
     /// again with the newest version. `f` must not call the table. A key that the table has not is waited for
     /// without end.
-    pub fn with_bucket<W: Wait, X, Y, F: FnOnce(&mut Bucket<R>, X) -> (X, Y)>(
+    pub fn with_bucket<W: Wait, X, Y, F: FnOnce(&mut Bucket<R>, X) -> Y>(
         &self,
         rt: &W,
         key: usize,
         x: X,
         f: F,
-    ) -> (X, Y)
+    ) -> Y
         requires callable { (b : _) → IsReady R.view key self.now.threads self.now.keys b.now → F.pre f b x }
         requires keeps { (b : _) (r : _) (b' : _) → IsReady R.view key self.now.threads self.now.keys b.now
             → F.post f b x r b' → Stays R.view b.now b'.now }
@@ -144,14 +144,14 @@ impl<R: Root> Table<R> {
 
     /// As `with_bucket`, once the thread does not wait in the bucket and has a place there. Beside what `f` answered it
     /// answers that the bucket is unlocked.
-    pub fn with_place_for<W: Wait, X, Y, F: FnOnce(&mut Bucket<R>, X) -> (X, Y)>(
+    pub fn with_place_for<W: Wait, X, Y, F: FnOnce(&mut Bucket<R>, X) -> Y>(
         &self,
         rt: &W,
         key: usize,
         thread: usize,
         x: X,
         f: F,
-    ) -> ((X, Y), Unlocked)
+    ) -> (Y, Unlocked)
         requires callable { (b : _) → IsReady R.view key self.now.threads self.now.keys b.now
             → HasPlaceFor thread b.now → F.pre f b x }
         requires keeps { (b : _) (r : _) (b' : _) → IsReady R.view key self.now.threads self.now.keys b.now

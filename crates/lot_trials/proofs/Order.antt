@@ -1,5 +1,5 @@
 -- One wait and one notification: the notification stands in the one history of the lot before the letter that the wait collected.
-use Rattle.std.proofs.Common.{◌≡◌, ◌≢◌, ℕ, ◌*◌, ◌<◌, Bool, true, false, List, [], ◌∷◌, ◌++◌, ◌⊎◌, min, length, Some}
+use Rattle.std.proofs.Common.{◌≡◌, ◌≢◌, ℕ, ◌+◌, ◌*◌, ◌<◌, Bool, true, false, List, [], ◌∷◌, ◌++◌, ◌⊎◌, min, length, Some}
 use Rattle.std.proofs.Common.{inl, inr, refl, sym, ap, subst, ◌∙◌, append_assoc, arith}
 use Rattle.std.specs.List.{All, Contains}
 use Rattle.std.proofs.lemmas.List.Elements.{All-nil, All-cons, All-head, All-tail, All-push, All-append, All-weaker, All-contains}
@@ -13,9 +13,12 @@ use Rattle.lot_events.specs.declared.events.Seen.TheVariants.{Bool as Saw, Done,
 use Rattle.lot_rights.specs.declared.views.Access.{Access}
 use Rattle.lot_rights.specs.declared.views.Access.TheVariants.{Makes, Posts, Collects, Finds, Counts}
 use Rattle.lot_rights.specs.declared.views.Entry.{Entry}
+use Rattle.lot_rights.specs.History.{doer, tokens_of, handed_in}
 use Rattle.lot_whole.specs.Family.{cond}
-use Rattle.lot_whole.specs.Order.{LettersFollow, SeesIn, accesses_of, state_after}
+use Rattle.lot_whole.specs.Order.{LettersFollow, CountsFollow, SeesIn, accesses_of, state_after}
+use Rattle.lot_scheme.specs.declared.contention.Contention.{Contention}
 use Rattle.lot_scheme.specs.Roots.{size_named}
+use Rattle.lot_scheme.specs.Counts.{IsContention, CountWord, CountsOf}
 use Rattle.lot_scheme.specs.Words.{IsSeek, IsGot, GetWord, IsVain}
 use Rattle.lot_locks.specs.declared.released.Released.{Released}
 use Rattle.lot_locks.specs.Released.{FreeWord}
@@ -23,7 +26,7 @@ use Rattle.lot_waits.specs.Waiting.{WaitWord}
 use Rattle.lot_sync.specs.Lot.{PassView, LotNames}
 use Rattle.lot_sync.specs.Words.{Adds, WaitedWord, NotifyWord}
 use Rattle.lot_sync.specs.Closing.{HasOneRun}
-use Rattle.lot_trials.specs.Order.{TakesNone, IsOwnCall, HasTakenNone, HasCalled, HasWaited, IsNotifiedFirst}
+use Rattle.lot_trials.specs.Order.{TakesNone, IsOwnCall, HasTakenNone, HasCalled, HasWaited, IsNotifiedFirst, IsToldOf}
 
 -- ---- words that take nobody from the line of a condition
 seek_none : (c t l : ℕ) (a : Access) → IsSeek t l a ⊎ IsGot t l a → TakesNone c a
@@ -199,4 +202,31 @@ module _ {V : Type 0} (names : LotNames V) (a b : PassView V) (c : ℕ) (has : H
         called =
             saw_one (state_after z (w.before ++ w.first ∷ w.waiting)) a.thread b.thread call.1 call.0 w.taking.access call.2 w.saw w.was_in;
         collected = w.last_is;
+      }
+
+-- ---- a count, with the one pass of a lot
+module _ {V : Type 0} (names : LotNames V) where
+  pub told_of : (p q : PassView V) (key : ℕ) (c : Contention) → CountsFollow → q.thread ≡ p.thread
+      → Adds p.made (CountWord p.thread key c) q.made → HasOneRun names (q ∷ []) → IsToldOf names p.thread key c
+  told_of p q key c law same (did, is, (told, handed, waiting, so, acts)) has =
+      let z = size_named names.threads names.locks names.conds names.permits in
+      let log = has.told.recounted.log in
+      let t : ℕ = q.thread in
+      let count : Access = Counts t key told handed waiting in
+      let mine : accesses_of (2 * t) log ≡ p.made ++ count ∷ [] =
+      sym (All-head (λ (r : PassView V). r.made ≡ accesses_of (2 * r.thread) log) q [] has.made)
+      ∙ (is ∙ ap (λ xs. p.made ++ xs) (acts ∙ ap (λ u. Counts u key told handed waiting ∷ []) (sym same))) in
+      let w = law z log _ has.told.recounted.history has.told.recounted.counted t key told handed waiting p.made [] mine in
+      record {
+        log = log;
+        end = _;
+        history = has.told.recounted.history;
+        before = w.before;
+        count = w.entry;
+        after = w.after;
+        there = w.there;
+        made = ap doer w.entry_is ∙ ap (λ u. 2 * u) same;
+        told = subst (λ n. CountsOf (λ p k h. IsContention p k h c) w.before key n) w.waiting_are
+            (subst (λ n. IsContention (n + waiting) n (handed_in (tokens_of key w.before)) c) w.told_are
+            (subst (λ n. IsContention (told + waiting) told n c) w.handed_are so));
       }

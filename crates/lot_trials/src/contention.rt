@@ -1,10 +1,11 @@
 //! Tests of what a lot counts of its keys.
-ghost use Rattle.std.specs.Prelude.{◌≡◌, ℕ, ◌+◌, ◌<◌, ◌%◌, ◌^◌, length, vec_len, slice_get, Some};
+ghost use Rattle.std.specs.Prelude.{◌≡◌, ℕ, ◌+◌, ◌<◌, ◌≤◌, ◌%◌, ◌^◌, length, vec_len, vec_capacity, slice_get, Some};
 ghost use Rattle.std.specs.List.{All, Any};
 ghost use Rattle.lot_rights.specs.History.{tokens_of};
 ghost use Rattle.lot_sync.specs.Closing.{HasOneRun};
 ghost use Rattle.lot_sync.specs.Lot.{PassView, OwnsNone};
 ghost use Rattle.lot_sync.specs.Opened.{IsNamed};
+ghost use Rattle.lot_trials.specs.Order.{IsToldOf};
 
 use crate::asserts::{equal, failed, is_so, room_for};
 use crate::counts::{Count, await_count, await_line, own, release, release_fairly};
@@ -45,6 +46,8 @@ fn hold<N: LotName<Count> + Send + Sync, T: Wait + Abort>(
     owned.store(1, Ordering::SeqCst);
     await_line(rt, lot, 1, 1);
     equal(rt, lot.contention(rt, 1), counted(1, 0, 0));
+    let (pass, noted) = lot.note_contention(rt, pass, 1);
+    equal(rt, noted, counted(1, 0, 0));
     let (pass, released) = if fairly {
         release_fairly(rt, lot, pass, held)
     } else {
@@ -92,6 +95,27 @@ fn close_told<N: LotName<Count> + Send, T: Wait>(
     counts
 }
 
+/// Counts lock 1 with the one pass of the lot, which is closed then. What a caller concludes: where this stands in the
+/// one history, and that the answer tells of what came before it.
+fn note_told<N: LotName<Count> + Send, T: Wait>(
+    rt: &T,
+    lot: Lot<Count, N, Contention>,
+    pass: Pass<Count, N>,
+    mut passes: Vec<Pass<Count, N>>,
+) -> Contention
+    requires sizes { (lot.threads ≡ 1) × (1 < lot.locks) }
+    requires thread { pass.thread < 1 }
+    requires free { OwnsNone pass }
+    requires room { (vec_len passes ≡ 0) × (1 ≤ vec_capacity passes) }
+    ensures { IsToldOf N.LotName pass.thread 1 result }
+{
+    let (pass, noted) = lot.note_contention(rt, pass, 1);
+    lot_whole::laws::counts_follow();
+    passes.push_reserved(pass);
+    let (_, _, _) = lot.close_counted(rt, passes);
+    noted
+}
+
 /// One thread lets lock 1 go while another sleeps there; then the lot is closed.
 fn counts_of<N: LotName<Count> + Send + Sync, T: Threads + Wait + Sync + Abort>(
     rt: &T,
@@ -135,6 +159,37 @@ fn check_counts<T: Threads + Wait + Sync + Abort>(
             equal(rt, counts[1], counted(1, 1, handed));
         }
         Err(_) => failed(rt, "not opened"),
+    }
+}
+
+/// Starts a lot of one thread, and counts there.
+fn noted<N: LotName<Count> + Send + Sync, T: Wait + Abort>(
+    rt: &T,
+    alloc: Global,
+    opened: Opened<Count>,
+) -> Contention
+    requires named { IsNamed N.LotName opened }
+    requires sizes { (opened.threads ≡ 1) × (length opened.values ≡ 2) }
+{
+    let passes = room_for(rt, alloc, 1);
+    let Ok(lot) = opened.start_counting::<N>(alloc) else {
+        failed(rt, "not started")
+    };
+    let pass = enter(rt, &lot);
+    note_told(rt, lot, pass, passes)
+}
+
+#[test]
+fn a_count_stands_in_the_history(rt: HostRuntime) {
+    let Ok(values) = vec![in rt.alloc(); Count { n: 7 }; 2] else {
+        failed(&rt, "no memory")
+    };
+    match Lot::<Count, Brand>::open(rt.alloc(), 1, values, 0) {
+        Ok(opened) => {
+            let seen = noted::<Brand, HostRuntime>(&rt, rt.alloc(), opened);
+            equal(&rt, seen, counted(0, 0, 0));
+        }
+        Err(_) => failed(&rt, "not opened"),
     }
 }
 

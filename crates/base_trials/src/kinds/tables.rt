@@ -4,7 +4,7 @@ ghost use Rattle.std.specs.Prelude.{◌≡◌, ◌+◌, ◌<◌, ◌≤◌, [], 
 ghost use Rattle.lot_park.specs.Lots.{AreIdle, Appends};
 ghost use Rattle.lot_scheme.specs.Roots.{root_view};
 ghost use Rattle.base_trials.specs.Calm.{IsCalm};
-ghost use Rattle.base_trials.specs.Opened.{AreDealt, AreFreshRoots, AreBack, AreRootsBack, IsFresh, size_of};
+ghost use Rattle.base_trials.specs.Opened.{AreDealt, AreFreshRoots, AreBack, AreRootsBack, IsUntouched, size_of};
 
 use lot_park::Moment;
 use lot_rights::WordsFault;
@@ -80,8 +80,8 @@ pub(crate) fn open_words(
 /// The passes of the three threads under the lot's name.
 pub(crate) fn deal<N: LotName<Nothing>>(passes: &mut Passes) -> (Pass<N>, Pass<N>, Pass<N>)
     requires { AreDealt N.opening.locks N.locks N.conds passes.old.items }
-    ensures fresh { IsFresh (N.locks + N.conds) 0 result.0 × IsFresh (N.locks + N.conds) 1 result.1
-        × IsFresh (N.locks + N.conds) 2 result.2 }
+    ensures fresh { IsUntouched (N.locks + N.conds) 0 result.0 × IsUntouched (N.locks + N.conds) 1 result.1
+        × IsUntouched (N.locks + N.conds) 2 result.2 }
     ensures room { (vec_len passes.new ≡ 0) × (3 ≤ vec_capacity passes.new) }
 {
     let two = NamedPass::new(passes.take_last());

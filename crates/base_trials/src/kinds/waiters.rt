@@ -6,7 +6,7 @@ ghost use Rattle.lot_whole.specs.Standing.{IsIdle};
 ghost use Rattle.lot_waits.specs.Ledger.{AreTallied, AreZeros};
 ghost use Rattle.lot_waits.specs.Notifying.{NotifiesAll, HasTaken};
 ghost use Rattle.base_trials.specs.Calm.{IsCalm};
-ghost use Rattle.base_trials.specs.Opened.{AreDealt, AreRootsBack, IsFresh, size_of};
+ghost use Rattle.base_trials.specs.Opened.{AreDealt, AreRootsBack, IsUntouched, size_of};
 ghost use Rattle.base_trials.specs.Waits.{IsSmall};
 
 use crate::kinds::sweeps::take_all;
@@ -108,7 +108,7 @@ pub(crate) struct Three<N: LotName<Nothing>> {
 }
 
 fn fresh<N: LotName<Nothing>>(pass: Pass<N>, tallies: Box<Tallies>) -> CountedPass<N>
-    requires fresh { IsFresh (N.locks + N.conds) pass.thread pass }
+    requires fresh { IsUntouched (N.locks + N.conds) pass.thread pass }
     requires none { AreZeros N.conds tallies.value }
     ensures { result.thread ≡ pass.thread }
 {

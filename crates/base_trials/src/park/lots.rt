@@ -112,8 +112,8 @@ fn unpark_first<R: Wait + Abort>(
         rt,
         key,
         count,
-        false,
-        |_more: bool, root: Right, _taken: usize, more: bool| -> (bool, Right)
+        (),
+        |_x: (), root: Right, _taken: usize, more: bool| -> (bool, Right)
             requires clear { root.owes.items ≡ [] }
         { (more, passed_first(rt, root, count)) },
     );

@@ -17,9 +17,9 @@ told : (g : Over) (c : After-take_first-root g)
     c.take_first-root.result.2
 told g c = rw (own g c).same_line c.take_first-root.ensures.told
 
-pub f-x-requires : goal.f-x-requires
-f-x-requires g c =
-    let at = (goal.at.f-x-requires g c).After-take_first-root in
+pub f-y-requires : goal.f-y-requires
+f-y-requires g c =
+    let at = (goal.at.f-y-requires g c).After-take_first-root in
     c.requires.callable c.take_first-root.result.0 c.take_first-root.result.1 c.take_first-root.result.2 (own g at).named
     (own g at).paid (told g at)
 
@@ -36,8 +36,8 @@ put_root-requires-clause-room g c =
 pub returns-clause-stays : goal.returns-clause-stays
 returns-clause-stays g c =
     let at = (goal.at.returns-clause-stays g c).After-take_first-root in
-    let kept = c.requires.keeps c.take_first-root.result.0 c.take_first-root.result.1 c.take_first-root.result.2 c.f-x.result
-    (own g at).named (own g at).paid (told g at) c.f-x.ensures in
+    let kept = c.requires.keeps c.take_first-root.result.0 c.take_first-root.result.1 c.take_first-root.result.2 c.f-y.result
+    (own g at).named (own g at).paid (told g at) c.f-y.ensures in
     let left = c.take_first-root.ensures.left in
     unparked_stays g.S.Root.Root.view c.args.key c.args.count c.args.bucket.now c.take_first-root.new.bucket c.put_root.new.self
     c.take_first-root.result.0 c.pay_all-root.result
@@ -54,11 +54,11 @@ returns-clause-called g c =
     (record {
       root = c.take_first-root.result.0;
       more = c.take_first-root.result.2;
-      answer = c.f-x.result;
+      answer = c.f-y.result;
       named = (own g at).named;
       paid = (own g at).paid;
       told = told g at;
-      called = c.f-x.ensures;
+      called = c.f-y.ensures;
       same = refl;
     })
 

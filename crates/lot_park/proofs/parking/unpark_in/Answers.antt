@@ -25,14 +25,14 @@ out g c =
     ap (λ (b : Contents g.row.S-Root.Denot). b.places) c.dequeue_one-told.ensures.left
     ∙ ap (λ (b : Contents g.row.S-Root.Denot). b.places) c.take_root-root.ensures.left
 
-pub callback-x-requires : goal.callback-x-requires
-callback-x-requires g c = c.requires.callable c.take_root-root.result c.dequeue_one-told.result (own g c).named (own g c).paid (told g c)
+pub callback-y-requires : goal.callback-y-requires
+callback-y-requires g c = c.requires.callable c.take_root-root.result c.dequeue_one-told.result (own g c).named (own g c).paid (told g c)
 
 pub pay-root-requires-after_bounds : goal.pay-root-requires-after_bounds
 pay-root-requires-after_bounds g c κs within =
     let at = (goal.at.pay-root-requires-after_bounds g c).After-dequeue_one-told in
-    (c.requires.keeps c.take_root-root.result c.dequeue_one-told.result c.callback-x.result (own g at).named (own g at).paid
-    (told g at) c.callback-x.ensures).2
+    (c.requires.keeps c.take_root-root.result c.dequeue_one-told.result c.callback-y.result (own g at).named (own g at).paid
+    (told g at) c.callback-y.ensures).2
 
 pub put_root-requires-clause-has : goal.put_root-requires-clause-has
 put_root-requires-clause-has g c =
@@ -47,8 +47,8 @@ put_root-requires-clause-room g c =
 pub returns-clause-stays : goal.returns-clause-stays
 returns-clause-stays g c =
     let at = (goal.at.returns-clause-stays g c).After-dequeue_one-told in
-    let kept = c.requires.keeps c.take_root-root.result c.dequeue_one-told.result c.callback-x.result (own g at).named (own g at).paid
-    (told g at) c.callback-x.ensures in
+    let kept = c.requires.keeps c.take_root-root.result c.dequeue_one-told.result c.callback-y.result (own g at).named (own g at).paid
+    (told g at) c.callback-y.ensures in
     one_unparked_stays g.S.Root.Root.view c.args.key c.args.moment c.args.bucket.now c.take_root-root.new.self
     c.dequeue_one-told.new.self c.put_root.new.self
     c.take_root-root.result c.pay-root.result c.dequeue_one-told.result c.requires.ready c.take_root-root.ensures.root
@@ -60,10 +60,10 @@ returns-clause-called g c =
     let at = (goal.at.returns-clause-called g c).After-dequeue_one-told in
     record {
       root = c.take_root-root.result;
-      answer = c.callback-x.result;
+      answer = c.callback-y.result;
       named = (own g at).named;
       paid = (own g at).paid;
       told = told g at;
-      called = c.callback-x.ensures;
+      called = c.callback-y.ensures;
       same = refl;
     }

@@ -1,12 +1,12 @@
 use Rattle.std.proofs.Common.{◌∙◌, arith}
 use Rattle.lot_rights.proofs.Gathers.{all_popped}
 use Rattle.lot_waits.specs.Ledger.{AreZeros}
-use Rattle.lot_sync.specs.Starting.{IsFresh}
+use Rattle.lot_sync.specs.Starting.{IsNewPass}
 use Rattle.lot_sync.proofs.rooms.fill.Goals as goal
 
 pub make_idle-requires-clause-fresh : goal.make_idle-requires-clause-fresh
 make_idle-requires-clause-fresh g c κs within =
-    (all_popped (IsFresh g.V.Keeps.grows (record {
+    (all_popped (IsNewPass g.V.Keeps.grows (record {
       opening = g.N.Name.opening;
       first_sem = g.N.LotName.first_sem;
       permits = g.N.LotName.permits;
@@ -29,7 +29,7 @@ loop-right-preserved g c =
     let less = c.take_last.ensures.len in
     let fewer = c.in-Some.ensures.len in
     record {
-      fresh = (all_popped (IsFresh g.V.Keeps.grows (record {
+      fresh = (all_popped (IsNewPass g.V.Keeps.grows (record {
         opening = g.N.Name.opening;
         first_sem = g.N.LotName.first_sem;
         permits =

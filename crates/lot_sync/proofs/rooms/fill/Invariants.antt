@@ -1,12 +1,12 @@
 use Rattle.std.proofs.Common.{◌≡◌, ◌+◌, ◌≤◌, vec_len, vec_capacity}
 use Rattle.std.specs.List.{All}
 use Rattle.lot_waits.specs.Ledger.{AreZeros}
-use Rattle.lot_sync.specs.Starting.{IsFresh}
+use Rattle.lot_sync.specs.Starting.{IsNewPass}
 use Rattle.lot_sync.proofs.rooms.fill.Given as goal
 
 abbrev pub invariant-loop-right : goal.invariant-loop-right
 invariant-loop-right g l = record {
-  fresh : All (IsFresh g.V.Keeps.grows (record {
+  fresh : All (IsNewPass g.V.Keeps.grows (record {
     opening = g.N.Name.opening;
     first_sem = g.N.LotName.first_sem;
     permits = g.N.LotName.permits;

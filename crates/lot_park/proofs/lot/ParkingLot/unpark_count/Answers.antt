@@ -6,8 +6,8 @@ use denote.Exit.{no}
 use denote.Param.Send.{param_send, arg_send}
 use Rattle.lot_park.proofs.lot.ParkingLot.unpark_count.Goals as goal
 
-pub with_bucket-x-requires-clause-callable : goal.with_bucket-x-requires-clause-callable
-with_bucket-x-requires-clause-callable g c κs within = λ b ready.
+pub with_bucket-y-requires-clause-callable : goal.with_bucket-y-requires-clause-callable
+with_bucket-y-requires-clause-callable g c κs within = λ b ready.
     let same = ready.room ∙ ap (λ (v : ParkingView g.row.S.Denot). v.threads) c.self.view_is in (
       record { agrees = ready.agrees; is_open = ready.is_open; has = ready.has },
       (

@@ -2,8 +2,8 @@ use denote.Exit.{no}
 use denote.Param.Send.{param_send, arg_send}
 use Rattle.lot_park.proofs.lot.ParkingLot.unpark_one.Goals as goal
 
-pub with_bucket-x-requires-clause-callable : goal.with_bucket-x-requires-clause-callable
-with_bucket-x-requires-clause-callable g c κs within = λ b ready. (
+pub with_bucket-y-requires-clause-callable : goal.with_bucket-y-requires-clause-callable
+with_bucket-y-requires-clause-callable g c κs within = λ b ready. (
   record { agrees = ready.agrees; is_open = ready.is_open; has = ready.has },
   (c.requires.callable, (c.requires.keeps, param_send 1 _ (arg_send _ no _ c.type_bounds.send-S-Root))),
 )

@@ -4,7 +4,7 @@ use Rattle.lot_locks.specs.Released.{FreeWord, IsFitting}
 use Rattle.lot_locks.specs.Standing.{LetsGo}
 use Rattle.lot_sync.specs.Lot.{◌≈◌, letting_go}
 use Rattle.lot_sync.specs.Words.{Adds}
-use Rattle.lot_sync.specs.Passes.{pass_view_of, AreCounted}
+use Rattle.lot_sync.specs.Passes.{pass_view_of, AreTallied}
 use Rattle.lot_sync.proofs.Adding.{alike_at, adds_at}
 use Rattle.lot_sync.proofs.Rests.{rests_free, leaves_all}
 use Rattle.lot_sync.proofs.Holdings.{sees_left}
@@ -41,7 +41,7 @@ at_rest-requires-clause-kept g c κs within =
     let before = c.given_back-right.result.0 in
     let kept = c.given_back-right.result.1.value in
     let went = let_go g (goal.at.at_rest-requires-clause-kept g c).Joined-freed in
-    subst (λ r. AreCounted g.N.LotName.locks g.N.LotName.conds r kept) (sym went.is) c.given_back-right.ensures.kept
+    subst (λ r. AreTallied g.N.LotName.locks g.N.LotName.conds r kept) (sym went.is) c.given_back-right.ensures.kept
 
 pub returns-clause-pass : goal.returns-clause-pass
 returns-clause-pass g c =
