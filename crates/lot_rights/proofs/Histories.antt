@@ -184,9 +184,17 @@ module _ {R : Type 0} (number : R → ℕ) (made : R → List Entry) where
     pub records_join : (other : ℕ) (v w : List R) → get_elem? views id ≡ some v → other ≢ id
         → get_elem? (set views id (v ++ w)) other ≡ some w
         → Recorded number made Leads first log (set (set views id (v ++ w)) other []) b
-    records_join other v w at ne there = record { run = ok.run; counted = ok.counted; listed = listed_joins log views id other v w ok.listed at ne there }
+    records_join other v w at ne there = record {
+      run = ok.run;
+      counted = ok.counted;
+      listed = listed_joins log views id other v w ok.listed at ne there;
+    }
 
     pub records_split : (v l r : List R) → get_elem? views id ≡ some v → ((j : ℕ) → times number j l + times number j r ≡ times number j v)
         → (Each number (Noted number made log) v → Each number (Noted number made log) l × Each number (Noted number made log) r)
         → Recorded number made Leads first log (set views id l ++ r ∷ []) b
-    records_split v l r at same cut = record { run = ok.run; counted = ok.counted; listed = listed_splits log views id v l r ok.listed at same cut }
+    records_split v l r at same cut = record {
+      run = ok.run;
+      counted = ok.counted;
+      listed = listed_splits log views id v l r ok.listed at same cut;
+    }

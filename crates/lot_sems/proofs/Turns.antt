@@ -122,7 +122,8 @@ module _ (size : Numbers) (p : PassShown SemPassView) (k : ℕ) (among : IsAmong
   -- ---- nothing changes
   finds : (x : ℕ) → x ≡ n → (then : PassShown SemPassView → Type 0) → ((i : ℕ) → then (pass_after p p.own i (Finds t k x)))
       → PassTurn (meaning size) (word_at k) x p then w ws hs
-  finds x is then told = pass_stays (meaning size) (word_at k) x w ws hs ok is p fit (Finds t k x) (refl, (is ∙ found, refl)) (λ tokens. tt) then told
+  finds x is then told =
+      pass_stays (meaning size) (word_at k) x w ws hs ok is p fit (Finds t k x) (refl, (is ∙ found, refl)) (λ tokens. tt) then told
 
   module _ (up : p.own.asleep ≡ false) where
     up' : w.spot t ≡ awake

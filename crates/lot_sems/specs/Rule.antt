@@ -13,7 +13,8 @@ use Rattle.lot_rights.specs.Settled.{HasOneOutcome, LinesHaveNoLetter}
 use Rattle.lot_rights.specs.World.{letter_of, letters_of}
 use Rattle.lot_sems.specs.declared.views.SemPassView.{SemPassView}
 use Rattle.lot_sems.specs.declared.views.SemRootView.{SemRootView}
-use Rattle.lot_sems.specs.World.{Numbers, key_count, permits_of, SemWorld, word_in, waiting_in, SemWordsFit, LettersFit, PassKnows, RootKnows}
+use Rattle.lot_sems.specs.World.{Numbers, key_count, permits_of, SemWorld, word_in, waiting_in, SemWordsFit, LettersFit}
+use Rattle.lot_sems.specs.World.{PassKnows, RootKnows}
 
 -- all permits are left, and nobody is marked, queued or seeking
 abbrev pub opening_part : Numbers → SemaphorePart

@@ -227,8 +227,8 @@ module _ (z : LotSize) where
       → ¬ Contains (line_in b.part j c) t → ⊥
   same_line j t c a b same here gone = gone (subst (λ s. Contains (line_in s j c) t) (sym same) here)
 
-  was_taken : (j : Which) (t c : ℕ) (a : Telling World) (x : Access) (b : Telling World) → Happens WholeStep (word_in z) (waiting_in z) a x b
-      → Contains (line_in a.part j c) t → ¬ Contains (line_in b.part j c) t → Taking j c a x
+  was_taken : (j : Which) (t c : ℕ) (a : Telling World) (x : Access) (b : Telling World)
+      → Happens WholeStep (word_in z) (waiting_in z) a x b → Contains (line_in a.part j c) t → ¬ Contains (line_in b.part j c) t → Taking j c a x
   was_taken j t c a (Makes e saw) b step here gone = ⊎_elim {C = Taking j c a (Makes e saw)}
       (λ d. (d, (maker e, maker_near a.part e step.0.0, refl)))
       (λ still. absurd (gone (subst (λ s. Contains (line_in s j c) t) (sym step.0.2) still))) (stays t c a.part j e saw here)
@@ -239,8 +239,8 @@ module _ (z : LotSize) where
   was_taken j t c a (Counts u d told handed waiting) b step here gone = absurd (same_line j t c a b (λ i. (step.1 i).part) here gone)
 
   -- who was queued is in the line
-  was_queued : (j : Which) (t c : ℕ) (a : Telling World) (x : Access) (b : Telling World) → Happens WholeStep (word_in z) (waiting_in z) a x b
-      → Queues j t c x → Contains (line_in b.part j c) t
+  was_queued : (j : Which) (t c : ℕ) (a : Telling World) (x : Access) (b : Telling World)
+      → Happens WholeStep (word_in z) (waiting_in z) a x b → Queues j t c x → Contains (line_in b.part j c) t
   was_queued lock t c a x b step is =
       let h = subst (λ y. Happens WholeStep (word_in z) (waiting_in z) a y b) is step in
       let s : Locks = a.part.locks in
@@ -276,8 +276,8 @@ module _ (z : LotSize) where
   abbrev led : World → List Entry → World
   led s log = after_all s (map event_of (events_in log))
 
-  led_by : (a : Telling World) (x : Access) (b : Telling World) (log : List Entry) (end : World) → Happens WholeStep (word_in z) (waiting_in z) a x b
-      → end ≡ led b.part log → (k : ℕ) → end ≡ led a.part ((record { at = k; access = x }) ∷ log)
+  led_by : (a : Telling World) (x : Access) (b : Telling World) (log : List Entry) (end : World)
+      → Happens WholeStep (word_in z) (waiting_in z) a x b → end ≡ led b.part log → (k : ℕ) → end ≡ led a.part ((record { at = k; access = x }) ∷ log)
   led_by a (Makes e saw) b log end step is k = is ∙ (λ i. led (step.0.2 i) log)
   led_by a (Posts d u n) b log end step is k = is ∙ (λ i. led (step.1 i).part log)
   led_by a (Collects u None) b log end step is k = is ∙ (λ i. led (step.1 i).part log)

@@ -107,7 +107,8 @@ module _ {V Part : Type 0} (rule : CallersRule V Part) (size : Size) (xs : List 
     park_misses up aim x is not_both three =
         let up' : (w.pass t).asleep ≡ false = ap (λ (z : LockPassView V). z.asleep) fit.1 ∙ up in
         both_stay (meaning rule size xs) (word_at l) x w ws hs ok is p fit (Makes (Park t l) (Saw false))
-        (refl, (row_park_not w size.threads size.locks ok.kept t fit.0 up' l here (aim_of ∙ aim) not_both, refl)) q (λ tokens same. tt) (Parks p q x) root
+        (refl, (row_park_not w size.threads size.locks ok.kept t fit.0 up' l here (aim_of ∙ aim) not_both, refl)) q (λ tokens same. tt)
+        (Parks p q x) root
         (λ k. subst (λ z. Notes p (parked_pass p.own z) (Makes (Park t l) (Saw z)) (pass_after p p.own k (Makes (Park t l) (Saw false)))
         × (record q { own = q.own } ≡ record q { own = parked_root q.own t z })) (sym three) ((k, refl), refl))
 

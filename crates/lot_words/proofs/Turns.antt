@@ -170,7 +170,8 @@ module _ {V Part : Type 0} (rule : CallersRule V Part) (size : Size) (xs : List 
     finds : (x : ℕ) → x ≡ get_or ws (word_at l) 0 → (then : PassShown (LockPassView V) → Type 0)
         → ((k : ℕ) → then (pass_after p p.own k (Finds t l x))) → PassTurn (meaning rule size xs) (word_at l) x p then w ws hs
     finds x is then told =
-        pass_stays (meaning rule size xs) (word_at l) x w ws hs ok is p fit (Finds t l x) (refl, (is ∙ found, refl)) (λ tokens. tt) then told
+        pass_stays (meaning rule size xs) (word_at l) x w ws hs ok is p fit (Finds t l x) (refl, (is ∙ found, refl)) (λ tokens. tt)
+        then told
 
     -- ---- take and try
     abbrev value : V
@@ -252,7 +253,8 @@ module _ {V Part : Type 0} (rule : CallersRule V Part) (size : Size) (xs : List 
         (λ k. match_true (bit_and n 1 == 0) _ _ (ap (λ z. bit_and z 1 == 0) (free_word unheld) ∙ even_unheld (w.word l).parked)
         (value, found_ok unheld, (k, refl))))
         (λ held. pass_stays (meaning rule size xs) (word_at l) x w ws hs ok (same_word held x refl) p fit (Makes (Try t l) (Saw false))
-        (refl, (row_try_held w size.threads size.locks ok.kept t fit.0 up' l here held (aim' ∙ aim), refl)) (λ tokens. tt) (Tries rule p l n)
+        (refl, (row_try_held w size.threads size.locks ok.kept t fit.0 up' l here held (aim' ∙ aim), refl)) (λ tokens. tt)
+        (Tries rule p l n)
         (λ k. match_false (bit_and n 1 == 0) _ _ (ap (λ z. bit_and z 1 == 0) (held_word held) ∙ odd_held (w.word l).parked) (k, refl)))
         (owner_cases (w.word l).owner)
 
