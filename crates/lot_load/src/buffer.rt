@@ -34,7 +34,7 @@ impl Keeps for Buffer {
 }
 
 /// What a `take` answers.
-#[derive(Clone, Copy, Debug, PartialEq, Eq)]
+#[derive(Clone, Copy)]
 pub enum TakenNumber {
     /// The number that lay longest.
     Got(u64),

@@ -29,6 +29,7 @@ mod relay;
 mod rounds;
 mod shares;
 mod sleepers;
+mod stages;
 mod steps;
 pub mod summary;
 mod times;

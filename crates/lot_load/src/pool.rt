@@ -6,12 +6,11 @@ ghost use Rattle.lot_sync.specs.Opened.{IsNamed};
 
 use crate::gate::{Gate, OpenGate, Point};
 use crate::inside::Inside;
-use crate::workers::{moment, outcome};
+use crate::workers::{moment, outcome, push_lines};
 use lot_calls::{finish, leave_all, start_with_passes, work_together};
 use lot_command::{Failure, report};
 use lot_sync::{Lot, LotName, OpenFault, Opened, Pass};
 use std::alloc::Global;
-use std::fmt::Write as _;
 use std::io::Write;
 use std::marker::Brand;
 use std::sync::Wait;
@@ -175,11 +174,8 @@ fn count_out<N: LotName<Inside> + Send + Sync, T: Wait>(
 /// A line for the rounds that were done, and one for whether never more workers than permits were in.
 fn print(alloc: Global, counts: &Inside, permits: u32) -> Result<String, Failure> {
     let mut text = String::new(alloc);
-    writeln!(text, "done {}", counts.done)?;
-    if counts.most <= permits as u64 {
-        writeln!(text, "within")?;
-    } else {
-        writeln!(text, "over")?;
-    }
+    push_lines(&mut text, &[("done", counts.done)])?;
+    let is_within = counts.most <= permits as u64;
+    text.push_str(if is_within { "within\n" } else { "over\n" })?;
     Ok(text)
 }

@@ -7,12 +7,11 @@ ghost use Rattle.lot_load.specs.Buffers.{HasBuffer};
 
 use crate::buffer::{Buffer, TakenNumber};
 use crate::gate::{Gate, OpenGate, Point};
-use crate::workers::{moment, outcome};
+use crate::workers::{moment, outcome, push_lines};
 use lot_calls::{finish, leave_all, start_with_passes, work_together};
 use lot_command::{Failure, report};
 use lot_sync::{Held, Ledger, Lot, LotName, Moment, OpenFault, Opened, Pass};
 use std::alloc::Global;
-use std::fmt::Write as _;
 use std::io::Write;
 use std::marker::Brand;
 use std::sync::Wait;
@@ -264,13 +263,17 @@ impl<N: LotName<Buffer> + Send + Sync, T: Wait, G: Gate> Relays<'_, N, T, G> {
 /// that ended.
 fn print(alloc: Global, buffer: &Buffer, ledger: &Ledger) -> Result<String, Failure> {
     let mut text = String::new(alloc);
-    writeln!(text, "put {}", buffer.put)?;
-    writeln!(text, "taken {}", buffer.taken)?;
-    writeln!(text, "sum {}", buffer.sum)?;
-    if ledger.called.as_slice() == ledger.woken.as_slice() {
-        writeln!(text, "balanced")?;
+    let numbers = [
+        ("put", buffer.put),
+        ("taken", buffer.taken),
+        ("sum", buffer.sum),
+    ];
+    push_lines(&mut text, &numbers)?;
+    let is_balanced = ledger.called.as_slice() == ledger.woken.as_slice();
+    text.push_str(if is_balanced {
+        "balanced\n"
     } else {
-        writeln!(text, "not balanced")?;
-    }
+        "not balanced\n"
+    })?;
     Ok(text)
 }

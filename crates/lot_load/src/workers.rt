@@ -3,6 +3,7 @@ ghost use Rattle.std.specs.Prelude.{◌≡◌, Ok, Err, if◌then◌else◌};
 
 use lot_command::Failure;
 use lot_sync::Moment;
+use std::fmt::Write as _;
 
 /// How much later each round of a worker is than the one before, in nanoseconds. No clock is read.
 const ROUND: u64 = 500_000;
@@ -17,6 +18,14 @@ pub fn outcome(worked: bool, refused: bool) -> Result<(), Failure>
     }
     if refused {
         return Err(Failure::NoMemory);
+    }
+    Ok(())
+}
+
+/// Pushes a line for each number, behind its name.
+pub fn push_lines(text: &mut String, lines: &[(&str, u64)]) -> Result<(), Failure> {
+    for (name, number) in lines.iter() {
+        writeln!(text, "{name} {number}")?;
     }
     Ok(())
 }

@@ -74,7 +74,7 @@ pub fn fair<N: LotName<Number> + Send, T: Wait + Clock>(
 
 /// Lets the lock go in this way.
 #[inline(always)]
-fn let_go<V: Keeps + Send, N: LotName<V> + Send, T: Wait + Clock>(
+pub fn let_go<V: Keeps + Send, N: LotName<V> + Send, T: Wait + Clock>(
     rt: &T,
     lot: &Lot<V, N>,
     pass: Pass<V, N>,

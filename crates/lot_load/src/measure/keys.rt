@@ -9,18 +9,17 @@ use super::clock::now;
 use super::meeting::Meeting;
 use super::plan::MOST_ROUNDS;
 use super::rounds::count;
-use super::sleepers::{longest_register, to_sleeper};
-use super::summary::begin_line;
+use super::stages::{Stage, Told, each_tells, half_of, longest_of, rounds_of};
+use super::summary::{begin_line, push_figures};
 use super::value::Number;
 use crate::many::MOST_LOCKS;
 use lot_calls::{finish, start_with_room};
 use lot_command::{Failure, number};
 use lot_sync::{Lot, LotName, MAX_THREADS, OpenFault, Opened};
 use std::alloc::Global;
-use std::fmt::Write as _;
 use std::marker::Brand;
 use std::sync::Wait;
-use std::thread::{Threads, map_indices};
+use std::thread::Threads;
 use std::time::Clock;
 
 /// How many threads and locks, and how many rounds of each thread.
@@ -51,9 +50,9 @@ pub struct Figures {
 
 /// When the rounds of a thread began and ended.
 #[derive(Clone, Copy)]
-struct Stretch {
-    begin: u64,
-    end: u64,
+pub struct Stretch {
+    pub begin: u64,
+    pub end: u64,
 }
 
 /// What the words after `keys` ask for.
@@ -119,9 +118,15 @@ fn work_all<N: LotName<Number> + Send + Sync, T: Threads + Wait + Clock + Sync>(
 ) -> Result<Figures, Failure>
     requires { lot.now.locks ≡ keys.now.locks }
 {
-    let register = longest_register(rt, alloc, keys.threads, lot)?;
-    let (rounds, nanos) = pairs(rt, alloc, keys, lot)?;
-    let sleeper = to_sleeper(rt, alloc, lot)?;
+    let registered = each_tells(rt, alloc, keys, lot, Stage::Register)?;
+    let register = longest_of(registered.as_slice());
+    let worked = each_tells(rt, alloc, keys, lot, Stage::Pairs)?;
+    let (rounds, nanos) = rounds_of(worked.as_slice(), keys.rounds);
+    let sleeper = if lot.threads() < 2 {
+        0
+    } else {
+        half_of(each_tells(rt, alloc, keys, lot, Stage::Sleep)?.as_slice())
+    };
     Ok(Figures {
         sum: 0,
         rounds,
@@ -133,69 +138,43 @@ fn work_all<N: LotName<Number> + Send + Sync, T: Threads + Wait + Clock + Sync>(
     })
 }
 
-/// All threads lock and unlock locks by chance. Answers how many rounds they made, and in how many nanoseconds.
-fn pairs<N: LotName<Number> + Send + Sync, T: Threads + Wait + Clock + Sync>(
-    rt: &T,
-    alloc: Global,
-    keys: &Keys,
-    lot: &Lot<Number, N>,
-) -> Result<(u64, u64), Failure>
-    requires { lot.now.locks ≡ keys.now.locks }
-{
-    let meeting = Meeting::new();
-    let done = map_indices(
-        rt,
-        alloc,
-        keys.threads,
-        &|worker: usize| -> Option<Stretch>
-            requires { lot.now.locks ≡ keys.now.locks }
-        { pairs_of(rt, keys, lot, &meeting, worker) },
-    )?;
-    let (mut rounds, mut begin, mut end) = (0u64, u64::MAX, 0u64);
-    for one in done.iter() {
-        if let Some(one) = one {
-            rounds = rounds.saturating_add(keys.rounds);
-            begin = begin.min(one.begin);
-            end = end.max(one.end);
-        }
-    }
-    Ok((rounds, end.saturating_sub(begin)))
-}
-
 /// One thread: it registers, meets the others, makes its rounds, and leaves.
-fn pairs_of<N: LotName<Number> + Send, T: Wait + Clock>(
+pub fn pairs_of<N: LotName<Number> + Send, T: Wait + Clock>(
     rt: &T,
     keys: &Keys,
     lot: &Lot<Number, N>,
     meeting: &Meeting,
     worker: usize,
-) -> Option<Stretch>
+) -> Told
     requires { lot.now.locks ≡ keys.now.locks }
 {
     let registered = lot.register(rt);
     meeting.join(keys.threads as u64);
     let Ok(pass) = registered else {
-        return None;
+        return Told::Nothing;
     };
     let begin = now(rt);
     let pass = count(rt, lot, worker, pass, keys.rounds);
     let end = now(rt);
     lot.leave(rt, pass);
-    Some(Stretch { begin, end })
+    Told::Worked(Stretch { begin, end })
 }
 
 impl Figures {
     /// The line, after the words of the command.
     pub fn line(&self, alloc: Global, words: &[&str]) -> Result<String, Failure> {
         let mut text = begin_line(alloc, words)?;
-        let (sum, rounds, nanos) = (self.sum, self.rounds, self.nanos);
-        write!(text, " sum={sum} rounds={rounds} ns={nanos}")?;
-        let (open, close) = (self.open, self.close);
-        let (register, sleeper) = (self.register, self.sleeper);
-        writeln!(
-            text,
-            " open={open} close={close} register={register} sleeper={sleeper}"
-        )?;
+        let figures = [
+            ("sum", self.sum),
+            ("rounds", self.rounds),
+            ("ns", self.nanos),
+            ("open", self.open),
+            ("close", self.close),
+            ("register", self.register),
+            ("sleeper", self.sleeper),
+        ];
+        push_figures(&mut text, &figures)?;
+        text.push('\n')?;
         Ok(text)
     }
 }

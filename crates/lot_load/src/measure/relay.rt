@@ -2,9 +2,9 @@
 ghost use Rattle.std.specs.Prelude.{◌≡◌, ◌≤◌, ◌<◌};
 ghost use Rattle.lot_sync.specs.Lot.{OwnsNone};
 
-use super::clock::moment;
+use super::fair::{Way, let_go};
 use super::rounds::Random;
-use super::turns::{NEVER_FAIR, get_when};
+use super::turns::{Awaited, NEVER_FAIR, get_when};
 use super::value::Number;
 use lot_sync::{Lot, LotName, Pass};
 use std::sync::Wait;
@@ -50,7 +50,7 @@ impl Side {
     }
 
     /// Whether it has to wait where so many lie in the buffer.
-    fn has_to_wait(self, lie: u64) -> bool {
+    pub fn has_to_wait(self, lie: u64) -> bool {
         match self {
             Side::Producer => lie >= PLACES,
             Side::Consumer => lie == 0,
@@ -83,17 +83,11 @@ pub fn take_part<N: LotName<Number> + Send, T: Wait + Clock>(
     let mut random = Random::new(worker);
     for _ in 0..rounds {
         let word = random.next();
-        let (owner, mut held) = get_when(
-            rt,
-            lot,
-            pass,
-            side.waits_on(),
-            word,
-            |lie: u64| !side.has_to_wait(lie),
-        );
+        let awaited = Awaited::Buffer(side);
+        let (owner, mut held) = get_when(rt, lot, pass, side.waits_on(), word, awaited);
         let number = held.value_mut();
         number.n = side.leaves(number.n);
-        let (owner, _) = lot.unlock_asking(rt, owner, held, || moment(rt, word));
+        let (owner, _) = let_go(rt, lot, owner, held, Way::Clock, word);
         let (told, _) = lot.notify_one(rt, owner, side.tells(), NEVER_FAIR);
         pass = told;
     }

@@ -2,7 +2,8 @@
 ghost use Rattle.std.specs.Prelude.{◌≡◌, ◌<◌};
 ghost use Rattle.lot_sync.specs.Lot.{OwnsNone};
 
-use super::clock::{moment, now, spend};
+use super::clock::{now, spend};
+use super::fair::{Way, let_go};
 use super::meeting::Meeting;
 use super::times::Times;
 use super::turns::NEVER_FAIR;
@@ -64,7 +65,7 @@ pub fn count<N: LotName<Number> + Send, T: Wait + Clock>(
         let (owner, mut held) = lot.lock(rt, pass, key_of(word, locks));
         let number = held.value_mut();
         number.n = number.n.wrapping_add(1);
-        let (free, _) = lot.unlock_asking(rt, owner, held, || moment(rt, word));
+        let (free, _) = let_go(rt, lot, owner, held, Way::Clock, word);
         pass = free;
     }
     pass
@@ -93,7 +94,7 @@ pub fn share<N: LotName<Number> + Send, T: Wait + Clock>(
         let (owner, mut held) = lot.lock(rt, pass, 0);
         let number = held.value_mut();
         number.n = number.n.wrapping_add(1);
-        let (free, _) = lot.unlock_asking(rt, owner, held, || moment(rt, word));
+        let (free, _) = let_go(rt, lot, owner, held, Way::Clock, word);
         pass = free;
         rounds = rounds.wrapping_add(1);
     }
@@ -126,7 +127,7 @@ pub fn wait<N: LotName<Number> + Send, T: Wait + Clock>(
         let number = held.value_mut();
         number.n = number.n.wrapping_add(1);
         spend(rt, held_for);
-        let (gone, _) = lot.unlock_asking(rt, gone, held, || moment(rt, owned));
+        let (gone, _) = let_go(rt, lot, gone, held, Way::Clock, owned);
         pass = gone;
         times.note(owned.wrapping_sub(asked));
         spend(rt, outside);

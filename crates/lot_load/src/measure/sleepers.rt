@@ -4,17 +4,16 @@ ghost use Rattle.lot_sync.specs.Lot.{OwnsNone};
 
 use super::clock::{now, spend};
 use super::rounds::{Random, key_of};
+use super::stages::Told;
 use super::steps::Steps;
 use super::times::Times;
 use super::turns::NEVER_FAIR;
 use super::value::Number;
-use lot_command::Failure;
 use lot_sync::{Lot, LotName, Pass};
 use std::alloc::Global;
 use std::sync::Wait;
 use std::sync::atomic::{AtomicU64, Ordering};
 use std::thread;
-use std::thread::{Threads, map_indices};
 use std::time::Clock;
 
 /// How often a thread asks whether another is parked.
@@ -26,40 +25,14 @@ const SLEEPS: u64 = 100;
 /// A thread sleeps when it has asked for a held lock so many nanoseconds ago.
 const ASLEEP_AFTER: u64 = 200_000;
 
-/// All threads register one after the other, and stay; the second sleeps while the others do. Answers how many
-/// nanoseconds the longest took.
-pub fn longest_register<N: LotName<Number> + Send + Sync, T: Threads + Wait + Clock + Sync>(
-    rt: &T,
-    alloc: Global,
-    threads: usize,
-    lot: &Lot<Number, N>,
-) -> Result<u64, Failure>
-    requires { 0 < lot.now.locks }
-{
-    let steps = Steps::new();
-    let took = map_indices(
-        rt,
-        alloc,
-        threads,
-        &|worker: usize| -> u64
-            requires { 0 < lot.now.locks }
-        { register_in_turn(rt, lot, &steps, threads, worker) },
-    )?;
-    let mut longest = 0;
-    for nanos in took.iter() {
-        longest = (*nanos).max(longest);
-    }
-    Ok(longest)
-}
-
 /// One thread: it registers when its turn has come, and stays until all have.
-fn register_in_turn<N: LotName<Number> + Send, T: Wait + Clock>(
+pub fn register_in_turn<N: LotName<Number> + Send, T: Wait + Clock>(
     rt: &T,
     lot: &Lot<Number, N>,
     steps: &Steps,
     threads: usize,
     worker: usize,
-) -> u64
+) -> Told
     requires { 0 < lot.now.locks }
 {
     let _ = steps.await_made(worker as u64);
@@ -68,11 +41,11 @@ fn register_in_turn<N: LotName<Number> + Send, T: Wait + Clock>(
     let took = now(rt).wrapping_sub(begin);
     let Ok(pass) = registered else {
         steps.make();
-        return took;
+        return Told::Registered(took);
     };
     let pass = stay(rt, lot, steps, threads, worker, pass);
     lot.leave(rt, pass);
-    took
+    Told::Registered(took)
 }
 
 /// Stays until all have registered: the first owns lock 0, and the second sleeps for it.
@@ -138,54 +111,17 @@ fn await_parked<N: LotName<Number> + Send>(lot: &Lot<Number, N>)
     }
 }
 
-/// Two threads meet at locks by chance, of which one sleeps for what the other owns. Answers how many nanoseconds it
-/// took from the unlock until the sleeper owned the lock, half of the times being shorter; 0 where the lot is for one
-/// thread.
-pub fn to_sleeper<N: LotName<Number> + Send + Sync, T: Threads + Wait + Clock + Sync>(
-    rt: &T,
-    alloc: Global,
-    lot: &Lot<Number, N>,
-) -> Result<u64, Failure>
-    requires { 0 < lot.now.locks }
-{
-    if lot.threads() < 2 {
-        return Ok(0);
-    }
-    let (steps, unlocked) = (Steps::new(), AtomicU64::new(0));
-    let done = map_indices(
-        rt,
-        alloc,
-        2,
-        &|worker: usize| -> Option<Times>
-            requires { 0 < lot.now.locks }
-        {
-            if worker == 0 {
-                wake(rt, lot, &steps, &unlocked);
-                return None;
-            }
-            sleep(rt, alloc, lot, &steps, &unlocked)
-        },
-    )?;
-    let mut half = 0;
-    for times in done.iter() {
-        if let Some(times) = times {
-            half = times.part(500);
-        }
-    }
-    Ok(half)
-}
-
 /// Owns a lock by chance until the other sleeps for it, and lets it go, so many times.
-fn wake<N: LotName<Number> + Send, T: Wait + Clock>(
+pub fn wake<N: LotName<Number> + Send, T: Wait + Clock>(
     rt: &T,
     lot: &Lot<Number, N>,
     steps: &Steps,
     unlocked: &AtomicU64,
-)
+) -> Told
     requires { 0 < lot.now.locks }
 {
     let Ok(pass) = lot.register(rt) else {
-        return;
+        return Told::Nothing;
     };
     let mut pass = pass;
     let mut random = Random::new(1);
@@ -202,20 +138,26 @@ fn wake<N: LotName<Number> + Send, T: Wait + Clock>(
         }
     }
     lot.leave(rt, pass);
+    Told::Nothing
 }
 
 /// Asks for the same locks when the other owns them. Answers how long after each unlock it owned the lock.
-fn sleep<N: LotName<Number> + Send, T: Wait + Clock>(
+pub fn sleep<N: LotName<Number> + Send, T: Wait + Clock>(
     rt: &T,
     alloc: Global,
     lot: &Lot<Number, N>,
     steps: &Steps,
     unlocked: &AtomicU64,
-) -> Option<Times>
+) -> Told
     requires { 0 < lot.now.locks }
 {
-    let mut times = Times::new(alloc).ok()?;
-    let mut pass = lot.register(rt).ok()?;
+    let Ok(mut times) = Times::new(alloc) else {
+        return Told::Nothing;
+    };
+    let Ok(pass) = lot.register(rt) else {
+        return Told::Nothing;
+    };
+    let mut pass = pass;
     let mut random = Random::new(1);
     for round in 0..SLEEPS {
         if !steps.await_made(3 * round + 1) {
@@ -230,5 +172,5 @@ fn sleep<N: LotName<Number> + Send, T: Wait + Clock>(
         steps.make();
     }
     lot.leave(rt, pass);
-    Some(times)
+    Told::Slept(times)
 }

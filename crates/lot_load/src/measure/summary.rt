@@ -43,6 +43,14 @@ pub fn begin_line(alloc: Global, words: &[&str]) -> Result<String, Failure> {
     Ok(text)
 }
 
+/// Figures, each behind its name.
+pub fn push_figures(text: &mut String, figures: &[(&str, u64)]) -> Result<(), Failure> {
+    for (name, figure) in figures.iter() {
+        write!(text, " {name}={figure}")?;
+    }
+    Ok(())
+}
+
 impl Summary {
     /// What the threads have done together, in a lot that was opened and closed at these moments.
     pub fn new(
@@ -85,44 +93,45 @@ impl Summary {
     /// The line, after the words of the command.
     pub fn line(&self, alloc: Global, plan: &Plan, words: &[&str]) -> Result<String, Failure> {
         let mut text = begin_line(alloc, words)?;
-        self.push_figures(&plan.job, &mut text)?;
+        self.push_told(&plan.job, &mut text)?;
+        text.push('\n')?;
         Ok(text)
     }
 
-    fn push_figures(&self, job: &Job, text: &mut String) -> Result<(), Failure> {
+    /// What is told of this work.
+    fn push_told(&self, job: &Job, text: &mut String) -> Result<(), Failure> {
         if let Job::Start = job {
-            writeln!(text, " ns={}", self.life)?;
-            return Ok(());
+            return push_figures(text, &[("ns", self.life)]);
         }
-        let (sum, rounds, ns) = (self.sum, self.all, self.nanos);
-        write!(text, " sum={sum} rounds={rounds} ns={ns}")?;
+        let work = [("sum", self.sum), ("rounds", self.all), ("ns", self.nanos)];
+        push_figures(text, &work)?;
         match job {
-            Job::Share(_) => write!(text, " least={} most={}", self.least, self.most)?,
-            Job::Wait(..) => self.push_times(text)?,
-            Job::Fair(_) => self.push_fairness(text)?,
-            _ => {}
+            Job::Share(_) => push_figures(text, &[("least", self.least), ("most", self.most)]),
+            Job::Wait(..) => self.push_times(text),
+            Job::Fair(_) => self.push_fairness(text),
+            _ => Ok(()),
         }
-        writeln!(text)?;
-        Ok(())
     }
 
     fn push_times(&self, text: &mut String) -> Result<(), Failure> {
-        let (p50, p99, p999) = (
-            self.times.part(500),
-            self.times.part(990),
-            self.times.part(999),
-        );
-        let most = self.times.most();
-        write!(text, " p50={p50} p99={p99} p999={p999} most={most}")?;
-        Ok(())
+        let times = [
+            ("p50", self.times.part(500)),
+            ("p99", self.times.part(990)),
+            ("p999", self.times.part(999)),
+            ("most", self.times.most()),
+        ];
+        push_figures(text, &times)
     }
 
     fn push_fairness(&self, text: &mut String) -> Result<(), Failure> {
-        let longest = self.times.most();
-        let (half, most) = (self.times.part(500), self.times.part(990));
-        write!(text, " longest={longest} weighed50={half} weighed99={most}")?;
-        let (least, most, jain) = (self.shares.least(), self.shares.most(), self.shares.jain());
-        write!(text, " least={least} most={most} jain={jain}")?;
-        Ok(())
+        let fairness = [
+            ("longest", self.times.most()),
+            ("weighed50", self.times.part(500)),
+            ("weighed99", self.times.part(990)),
+            ("least", self.shares.least()),
+            ("most", self.shares.most()),
+            ("jain", self.shares.jain()),
+        ];
+        push_figures(text, &fairness)
     }
 }
