@@ -72,6 +72,11 @@ module _ {V : Type 0} where
   pub both_free : (a b : PassView V) → OwnsNone a → OwnsNone b → All OwnsNone (a ∷ b ∷ [])
   both_free a b first second = All-cons OwnsNone a (b ∷ []) first (All-cons OwnsNone b [] second (All-nil OwnsNone))
 
+  -- a pass that owned nothing owns nothing after accesses that left it as it was
+  pub one_free : (p q : PassView V) → q ≈ p → OwnsNone p → All OwnsNone (q ∷ [])
+  one_free p q same free =
+      All-cons OwnsNone q [] (subst OwnsNone (sym same) (record { no_lock = free.no_lock; no_permit = free.no_permit })) (All-nil OwnsNone)
+
 -- ---- the ledger of two passes and one condition
 one_alone : (xs : List ℕ) → length xs ≡ 1 → slice_index xs 0 ≡ 1 → xs ≡ 1 ∷ []
 one_alone [] long is = absurd (omega (arith, long))
