@@ -29,8 +29,8 @@ impl<V: Keeps + Send, N: LotName<V> + Send> Lot<V, N, Contention> {
         key_contention(rt, self.parking(), key)
     }
 
-    /// The same, told by the history: the pass has an entry for it, and at the end all such entries are right of those
-    /// before them. For who has a pass; it costs one load more.
+    /// The same, told by the history: the pass has an entry for it, and at the end each such entry is right of those
+    /// before it (`lot_whole::laws::counts_follow`). For who has a pass.
     pub fn note_contention<R: Wait>(
         &self,
         rt: &R,
