@@ -46,8 +46,6 @@ fn hold<N: LotName<Count> + Send + Sync, T: Wait + Abort>(
     owned.store(1, Ordering::SeqCst);
     await_line(rt, lot, 1, 1);
     equal(rt, lot.contention(rt, 1), counted(1, 0, 0));
-    let (pass, noted) = lot.note_contention(rt, pass, 1);
-    equal(rt, noted, counted(1, 0, 0));
     let (pass, released) = if fairly {
         release_fairly(rt, lot, pass, held)
     } else {
