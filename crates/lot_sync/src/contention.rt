@@ -16,8 +16,9 @@ use lot_words::Keeps;
 use std::sync::Wait;
 
 impl<V: Keeps + Send, N: LotName<V> + Send> Lot<V, N, Contention> {
-    /// What was counted of the lock, the condition or the semaphore, as it was at some moment of this call: as many as
-    /// the history had then. Two calls are of two moments.
+    /// What was counted of the lock, the condition or the semaphore, as it was at some moment of this call; two calls
+    /// are of two moments. The clause says less: some lot of this size had such counts, in a sound state. Who has a pass
+    /// is told more by `note_contention`.
     ///
     /// To find the lock that is waited for most, compare `parked` of all: a thread that gets its lock without parking is
     /// counted nowhere.
