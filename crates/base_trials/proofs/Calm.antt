@@ -23,7 +23,7 @@ use Rattle.lot_whole.specs.Whole.{rises}
 use Rattle.lot_scheme.specs.Standing.{LotStanding, standing, adding, wanting, owning, called_more as stand_called_more, setting_out}
 use Rattle.lot_scheme.specs.Standing.{swept, IsLooked}
 use Rattle.lot_scheme.specs.LockCalls.{GetsLock}
-use Rattle.lot_scheme.specs.Words.{IsSeek, word_of_all, word_of_nobody}
+use Rattle.lot_scheme.specs.Traces.{IsSeek, trace_of_all, trace_of_nobody}
 use Rattle.lot_locks.specs.declared.released.Released.{Released}
 use Rattle.lot_locks.specs.Standing.{MayFree, IsTryingFor, IsOwner, LetsGo}
 use Rattle.lot_locks.proofs.Adding.{none_added, up_then}
@@ -303,7 +303,7 @@ module _ {V : Type 0} where
 
   -- what a notification leaves
   pub notified_calm : (t c n taken : ℕ) (p q : LotStanding V) → IsCalm t p → Notifies p c n taken q → IsCalm t q
-  notified_calm t c n taken p q calm (inl (none, is)) = looked_calm t p q (word_of_nobody p.thread c) calm is
+  notified_calm t c n taken p q calm (inl (none, is)) = looked_calm t p q (trace_of_nobody p.thread c) calm is
   notified_calm t c n taken p q calm (inr (did, word, is)) = took_calm t c taken p q did calm is
 
   pub notified_counts : (c n taken : ℕ) (p q : LotStanding V) → Notifies p c n taken q
@@ -313,8 +313,8 @@ module _ {V : Type 0} where
   notified_counts c n taken p q (inr (did, word, is)) = ap counts_in is
 
   pub all_notified_calm : (t c taken : ℕ) (p q : LotStanding V) → IsCalm t p → NotifiesAll p c taken q → IsCalm t q
-  all_notified_calm t c taken p q calm (inl (none, is)) = looked_calm t p q (word_of_nobody p.thread c) calm is
-  all_notified_calm t c taken p q calm (inr is) = took_calm t c taken p q (word_of_all p.thread c taken) calm is
+  all_notified_calm t c taken p q calm (inl (none, is)) = looked_calm t p q (trace_of_nobody p.thread c) calm is
+  all_notified_calm t c taken p q calm (inr is) = took_calm t c taken p q (trace_of_all p.thread c taken) calm is
 
   pub all_notified_counts : (c taken : ℕ) (p q : LotStanding V) → NotifiesAll p c taken q
       → counts_in q ≡ counts_called_more (counts_in p) c taken

@@ -3,8 +3,8 @@ ghost use Rattle.std.specs.Prelude.{◌≡◌, ◌≢◌, ◌+◌, ◌≤◌, �
 ghost use Rattle.lot_scheme.specs.SemCalls.{opening_permits};
 ghost use Rattle.lot_sync.specs.Lot.{OwnsNone, HasShape, permits_with};
 ghost use Rattle.lot_sync.specs.Opened.{IsNamed};
-ghost use Rattle.lot_sync.specs.Words.{Adds};
-ghost use Rattle.gallery.specs.Leases.{LeaseWord, Leases, Holds, GivesBack};
+ghost use Rattle.lot_sync.specs.Traces.{Adds};
+ghost use Rattle.gallery.specs.Leases.{LeaseTrace, Leases, Holds, GivesBack};
 
 use crate::crew::{NOW, end, open};
 use lot_calls::{start_with_passes, work_together};
@@ -68,7 +68,7 @@ impl<N: LotName<Connection> + Send> Pool<'_, N> {
         ensures leases { Leases pass POOL result.1.permit result.1.connection result.0 }
         ensures shape { HasShape self.now.lot.now result.0 }
         ensures locks { result.1.connection.key < CONNECTIONS }
-        ensures made { Adds pass.made (LeaseWord pass.thread POOL result.1.connection.key) result.0.made }
+        ensures made { Adds pass.made (LeaseTrace pass.thread POOL result.1.connection.key) result.0.made }
     {
         let (mut pass, permit) = self.lot.acquire(rt, pass, POOL);
         let mut key = 0;

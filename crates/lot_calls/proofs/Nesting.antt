@@ -7,13 +7,13 @@ use mathlib.Core.Option.{some-injective}
 use lib.ListN.{get_elem?}
 use Rattle.lot_words.specs.CallersRule.{CallersRule}
 use Rattle.lot_locks.specs.declared.released.Released.{Released}
-use Rattle.lot_scheme.specs.Words.{GetWord}
-use Rattle.lot_locks.specs.Released.{IsFitting, FreeWord}
+use Rattle.lot_scheme.specs.Traces.{GetTrace}
+use Rattle.lot_locks.specs.Released.{IsFitting, FreeTrace}
 use Rattle.lot_sync.specs.Lot.{LotView, PassView, ◌≈◌, HeldView, Owns, OwnsNone, HasSeen, HasShape, owning, letting_go}
-use Rattle.lot_sync.specs.Words.{Adds}
+use Rattle.lot_sync.specs.Traces.{Adds}
 use Rattle.lot_sync.specs.Values.{Gets, MayGiveBack}
 use Rattle.lot_sync.proofs.Holdings.{may_go_back}
-use Rattle.lot_calls.specs.Words.{VisitWord, NestedWord}
+use Rattle.lot_calls.specs.Traces.{VisitTrace, NestedTrace}
 use Rattle.lot_calls.specs.Visits.{own_parts, MayBecome, Finds, VisitsBoth}
 use Rattle.lot_calls.proofs.Visiting.{set_back, finds}
 
@@ -136,10 +136,10 @@ free_after_both p after seen is none = subst OwnsNone (sym is) (record { no_lock
 
 -- which accesses were made
 pub nested_made : {V : Type 0} (p q s after : PassView V) (k j l now : ℕ) (became : Released) → j ≡ k → q.thread ≡ p.thread
-    → s.thread ≡ p.thread → Adds p.made (GetWord p.thread k) q.made
-    → Adds q.made (VisitWord q.thread l now) s.made → IsFitting became false now → Adds s.made (FreeWord s.thread j became) after.made
-    → Adds p.made (NestedWord p.thread k l now) after.made
-nested_made p q s after k j l now became same q_thread s_thread (get, got_is, word) (inner, inner_is, visited) fits
+    → s.thread ≡ p.thread → Adds p.made (GetTrace p.thread k) q.made
+    → Adds q.made (VisitTrace q.thread l now) s.made → IsFitting became false now → Adds s.made (FreeTrace s.thread j became) after.made
+    → Adds p.made (NestedTrace p.thread k l now) after.made
+nested_made p q s after k j l now became same q_thread s_thread (get, got_is, trace) (inner, inner_is, visited) fits
     (free, after_is, freed) = (
       get ++ (inner ++ free),
       after_is ∙ (ap (λ ds. ds ++ free) (inner_is ∙ (ap (λ ds. ds ++ inner) got_is ∙ append_assoc p.made get inner))
@@ -150,9 +150,9 @@ nested_made p q s after k j l now became same q_thread s_thread (get, got_is, wo
         free = free;
         became = became;
         fits = fits;
-        got = word;
-        visited = subst (λ t. VisitWord t l now inner) q_thread visited;
-        freed = subst (λ m. FreeWord p.thread m became free) same (subst (λ t. FreeWord t j became free) s_thread freed);
+        got = trace;
+        visited = subst (λ t. VisitTrace t l now inner) q_thread visited;
+        freed = subst (λ m. FreeTrace p.thread m became free) same (subst (λ t. FreeTrace t j became free) s_thread freed);
         is = refl;
       },
     )

@@ -6,12 +6,12 @@ use mathlib.Core.Option.{some}
 use lib.ListN.{get_elem?}
 use Rattle.lot_words.specs.CallersRule.{CallersRule}
 use Rattle.lot_locks.specs.declared.released.Released.{Released}
-use Rattle.lot_scheme.specs.Words.{GetWord}
-use Rattle.lot_locks.specs.Released.{IsFitting, FreeWord}
+use Rattle.lot_scheme.specs.Traces.{GetTrace}
+use Rattle.lot_locks.specs.Released.{IsFitting, FreeTrace}
 use Rattle.lot_sync.specs.Lot.{LotView, PassView, ◌≈◌, HeldView, Owns, HasSeen, HasShape, owning, letting_go}
-use Rattle.lot_sync.specs.Words.{Adds}
+use Rattle.lot_sync.specs.Traces.{Adds}
 use Rattle.lot_sync.specs.Values.{Gets}
-use Rattle.lot_calls.specs.Words.{VisitWord}
+use Rattle.lot_calls.specs.Traces.{VisitTrace}
 use Rattle.lot_calls.specs.Visits.{own_parts, MayBecome, Visits, Finds}
 
 -- what was set and cleared again, and was clear before, is as before
@@ -96,10 +96,10 @@ module _ {V Part : Type 0} (rule : CallersRule V Part) where
 
 -- which accesses it made
 pub visit_made : {V : Type 0} (before got after : PassView V) (key k now : ℕ) (became : Released) → k ≡ key → got.thread ≡ before.thread
-    → Adds before.made (GetWord before.thread key) got.made
-    → IsFitting became false now → Adds got.made (FreeWord got.thread k became) after.made
-    → Adds before.made (VisitWord before.thread key now) after.made
-visit_made before got after key k now became same thread (get, got_is, word) fits (free, after_is, freed) = (
+    → Adds before.made (GetTrace before.thread key) got.made
+    → IsFitting became false now → Adds got.made (FreeTrace got.thread k became) after.made
+    → Adds before.made (VisitTrace before.thread key now) after.made
+visit_made before got after key k now became same thread (get, got_is, trace) fits (free, after_is, freed) = (
   get ++ free,
   after_is ∙ (ap (λ ds. ds ++ free) got_is ∙ append_assoc before.made get free),
   record {
@@ -107,8 +107,8 @@ visit_made before got after key k now became same thread (get, got_is, word) fit
     free = free;
     became = became;
     fits = fits;
-    got = word;
-    freed = subst (λ l. FreeWord before.thread l became free) same (subst (λ t. FreeWord t k became free) thread freed);
+    got = trace;
+    freed = subst (λ l. FreeTrace before.thread l became free) same (subst (λ t. FreeTrace t k became free) thread freed);
     is = refl;
   },
 )

@@ -4,13 +4,13 @@ use Rattle.std.proofs.Common.{sym, ap, subst, ◌∙◌, append_assoc, arith}
 use Rattle.std.proofs.lemmas.List.{get_or-set_same, set-set, append-nil}
 use Rattle.atomic_table.proofs.Lists.{set_here}
 use Rattle.lot_words.specs.CallersRule.{CallersRule}
-use Rattle.lot_scheme.specs.Words.{GetWord}
+use Rattle.lot_scheme.specs.Traces.{GetTrace}
 use Rattle.lot_sync.specs.Lot.{LotView, PassView, HeldView, ◌≈◌, Owns, OwnsNone, HasSeen, HasShape, owning, letting_go, one_wait_more}
-use Rattle.lot_sync.specs.Words.{Adds, WaitedWord}
+use Rattle.lot_sync.specs.Traces.{Adds, WaitedTrace}
 use Rattle.lot_sync.specs.Values.{Gets, MayGiveBack, WaitsAndGets}
 use Rattle.lot_sync.specs.Holding.{Holding}
 use Rattle.lot_sync.proofs.Holdings.{near_of, may_go_back, got_holds}
-use Rattle.lot_calls.specs.Words.{WaitsWord, GetAfterWord}
+use Rattle.lot_calls.specs.Traces.{WaitsTrace, GetAfterTrace}
 use Rattle.lot_calls.specs.Waits.{AfterWaits, WaitsOn, GetsAfter}
 
 -- what was cleared and set again, and was set before, is as before
@@ -65,9 +65,9 @@ module _ {V : Type 0} where
 
   -- the accesses of one wait more
   pub made_once_more : (before pass after : PassView V) (key k cond now n : ℕ) → k ≡ key → pass.thread ≡ before.thread
-      → Adds before.made (WaitsWord before.thread cond key now n) pass.made
-      → Adds pass.made (WaitedWord pass.thread cond k now) after.made
-      → Adds before.made (WaitsWord before.thread cond key now (suc n)) after.made
+      → Adds before.made (WaitsTrace before.thread cond key now n) pass.made
+      → Adds pass.made (WaitedTrace pass.thread cond k now) after.made
+      → Adds before.made (WaitsTrace before.thread cond key now (suc n)) after.made
   made_once_more before pass after key k cond now n same thread (front, pass_is, waits) (last, after_is, waited) = (
     front ++ last,
     after_is ∙ (ap (λ ds. ds ++ last) pass_is ∙ append_assoc before.made front last),
@@ -75,26 +75,26 @@ module _ {V : Type 0} where
       front,
       last,
       waits,
-      subst (λ l. WaitedWord before.thread cond l now last) same
-          (subst (λ t. WaitedWord t cond k now last) thread waited),
+      subst (λ l. WaitedTrace before.thread cond l now last) same
+          (subst (λ t. WaitedTrace t cond k now last) thread waited),
       refl,
     ),
   )
 
   -- those of a lock that was got and then waited with
   pub made_until : (before got after : PassView V) (key k cond now n : ℕ) → k ≡ key → got.thread ≡ before.thread
-      → Adds before.made (GetWord before.thread key) got.made
-      → Adds got.made (WaitsWord got.thread cond k now n) after.made
-      → Adds before.made (GetAfterWord before.thread cond key now n) after.made
-  made_until before got after key k cond now n same thread (get, got_is, word) (waits, after_is, waited) = (
+      → Adds before.made (GetTrace before.thread key) got.made
+      → Adds got.made (WaitsTrace got.thread cond k now n) after.made
+      → Adds before.made (GetAfterTrace before.thread cond key now n) after.made
+  made_until before got after key k cond now n same thread (get, got_is, trace) (waits, after_is, waited) = (
     get ++ waits,
     after_is ∙ (ap (λ ds. ds ++ waits) got_is ∙ append_assoc before.made get waits),
     (
       get,
       waits,
-      word,
-      subst (λ l. WaitsWord before.thread cond l now n waits) same
-          (subst (λ t. WaitsWord t cond k now n waits) thread waited),
+      trace,
+      subst (λ l. WaitsTrace before.thread cond l now n waits) same
+          (subst (λ t. WaitsTrace t cond k now n waits) thread waited),
       refl,
     ),
   )
@@ -123,7 +123,7 @@ module _ {V Part : Type 0} (rule : CallersRule V Part) (unready : V → Type 0) 
   pub once_more : (lot : LotView) (before pass after : PassView V) (held mid found : HeldView V) (cond now : ℕ) → held.key < lot.locks
       → cond < length before.woken → HasShape lot pass → Owns pass held.key
       → WaitsOn rule unready before held cond now mid pass → unready mid.value → WaitsAndGets rule pass mid cond found after
-      → Adds pass.made (WaitedWord pass.thread cond mid.key now) after.made
+      → Adds pass.made (WaitedTrace pass.thread cond mid.key now) after.made
       → WaitsOn rule unready before held cond now found after
   once_more lot before pass after held mid found cond now is_lock near shape owned waits lacks gets made = record {
     count = suc waits.count;

@@ -1,4 +1,4 @@
-pub mod Words
+pub mod Traces
 pub mod Visits
 pub mod Waits
 pub mod Finished

@@ -2,9 +2,9 @@
 use Rattle.std.specs.Prelude.{◌≡◌, ℕ, zero, suc, ◌+◌, true, slice_set, slice_index}
 use Rattle.lot_words.specs.CallersRule.{CallersRule}
 use Rattle.lot_sync.specs.Lot.{PassView, ◌≈◌, HeldView, HasSeen, owning}
-use Rattle.lot_sync.specs.Words.{Adds}
+use Rattle.lot_sync.specs.Traces.{Adds}
 use Rattle.lot_sync.specs.Values.{MayGiveBack}
-use Rattle.lot_calls.specs.Words.{WaitsWord}
+use Rattle.lot_calls.specs.Traces.{WaitsTrace}
 
 module _ {V : Type 0} where
   -- so many waits more on the condition have ended
@@ -31,7 +31,7 @@ module _ {V Part : Type 0} (rule : CallersRule V Part) where
     pub count : ℕ
     pub while : WaitsWhile rule.grows unready count held.value found.value
     pub after_is : AfterWaits before held.key cond found.value count after
-    pub made : Adds before.made (WaitsWord before.thread cond held.key now count) after.made
+    pub made : Adds before.made (WaitsTrace before.thread cond held.key now count) after.made
     pub same : count ≡ 0 → found ≡ held
     pub key_is : found.key ≡ held.key
     pub kept : rule.keeps held.key found.value

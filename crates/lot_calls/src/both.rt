@@ -2,8 +2,8 @@
 ghost use Rattle.std.specs.Prelude.{◌≡◌, ◌≢◌, ◌<◌};
 ghost use Rattle.lot_order.specs.Order.{AllBelow};
 ghost use Rattle.lot_sync.specs.Lot.{Owns, OwnsNone, HasShape, keys_of};
-ghost use Rattle.lot_sync.specs.Words.{Adds};
-ghost use Rattle.lot_calls.specs.Words.{BothWord, NestedWord};
+ghost use Rattle.lot_sync.specs.Traces.{Adds};
+ghost use Rattle.lot_calls.specs.Traces.{BothTrace, NestedTrace};
 ghost use Rattle.lot_calls.specs.Visits.{MayBecome, Finds, VisitsBoth};
 
 use lot_sync::{Lot, LotName, Moment, Pass, Tally};
@@ -41,7 +41,7 @@ pub fn with_both<
         → MayBecome V.Keeps first pass.thread v.now x.now × MayBecome V.Keeps second pass.thread w.now y.now }
     ensures visits { (v : _) × (w : _) × (x : _) × (y : _) × F.post work v w result.1 x y
         × VisitsBoth V.Keeps pass first second v.now w.now x.now y.now result.0 }
-    ensures made { Adds pass.made (BothWord pass.thread first second moment.now) result.0.made }
+    ensures made { Adds pass.made (BothTrace pass.thread first second moment.now) result.0.made }
     ensures shape { HasShape lot.now result.0 }
     ensures free { OwnsNone pass → OwnsNone result.0 }
 {
@@ -96,7 +96,7 @@ fn with_two<
         → MayBecome V.Keeps first pass.thread v.now x.now × MayBecome V.Keeps second pass.thread w.now y.now }
     ensures visits { (v : _) × (w : _) × (x : _) × (y : _) × F.post work v w result.1 x y
         × VisitsBoth V.Keeps pass first second v.now w.now x.now y.now result.0 }
-    ensures made { Adds pass.made (NestedWord pass.thread first second moment.now) result.0.made }
+    ensures made { Adds pass.made (NestedTrace pass.thread first second moment.now) result.0.made }
     ensures shape { HasShape lot.now result.0 }
     ensures free { OwnsNone pass → OwnsNone result.0 }
 {

@@ -4,8 +4,8 @@ ghost use Rattle.lot_order.specs.Order.{AllBelow, MayWait};
 ghost use Rattle.lot_sync.specs.Lot.{Owns, OwnsNone, HasShape, IsCond, keys_of};
 ghost use Rattle.lot_sync.specs.Values.{MayGiveBack};
 ghost use Rattle.lot_sync.specs.Holding.{Holding};
-ghost use Rattle.lot_sync.specs.Words.{Adds};
-ghost use Rattle.lot_calls.specs.Words.{GetAfterWord};
+ghost use Rattle.lot_sync.specs.Traces.{Adds};
+ghost use Rattle.lot_calls.specs.Traces.{GetAfterTrace};
 ghost use Rattle.lot_calls.specs.Visits.{Finds};
 ghost use Rattle.lot_calls.specs.Waits.{WaitsOn, WaitsWhile, GetsAfter};
 
@@ -80,7 +80,7 @@ pub fn lock_until<
     requires above { AllBelow V.above (keys_of pass) key × AllBelow V.above (keys_of pass) cond }
     requires callable { (v : _) → V.keeps key v.now → F.pre ready v }
     ensures gets { GetsAfter V.Keeps pass key result.1 result.0 }
-    ensures made { (count : ℕ) × Adds pass.made (GetAfterWord pass.thread cond key moment.now count) result.0.made
+    ensures made { (count : ℕ) × Adds pass.made (GetAfterTrace pass.thread cond key moment.now count) result.0.made
         × ((first : V) × Finds V.Keeps pass key first
         × WaitsWhile V.grows (λ x. (v : _) × (v.now ≡ x) × F.post ready v false) count first result.1.value) }
     ensures holding { OwnsNone pass → Holding V.grows result.0 result.1 }

@@ -2,8 +2,8 @@
 ghost use Rattle.std.specs.Prelude.{◌≡◌, ◌<◌};
 ghost use Rattle.lot_order.specs.Order.{AllBelow};
 ghost use Rattle.lot_sync.specs.Lot.{Owns, OwnsNone, HasShape, keys_of};
-ghost use Rattle.lot_sync.specs.Words.{Adds};
-ghost use Rattle.lot_calls.specs.Words.{VisitWord};
+ghost use Rattle.lot_sync.specs.Traces.{Adds};
+ghost use Rattle.lot_calls.specs.Traces.{VisitTrace};
 ghost use Rattle.lot_calls.specs.Visits.{MayBecome, Finds, Visits};
 
 use lot_sync::{Lot, LotName, Moment, Pass, Tally};
@@ -37,7 +37,7 @@ pub fn with_lock<
     requires keeps { (v : _) (o : _) (w : _) → V.keeps key v.now → Finds V.Keeps pass key v.now → F.post work v o w
         → MayBecome V.Keeps key pass.thread v.now w.now }
     ensures visits { (v : _) × (w : _) × F.post work v result.1 w × Visits V.Keeps pass key v.now w.now result.0 }
-    ensures made { Adds pass.made (VisitWord pass.thread key moment.now) result.0.made }
+    ensures made { Adds pass.made (VisitTrace pass.thread key moment.now) result.0.made }
     ensures shape { HasShape lot.now result.0 }
     ensures free { OwnsNone pass → OwnsNone result.0 }
 {
@@ -71,7 +71,7 @@ pub fn with_value<
     requires keeps { (v : V) (left : _) → V.keeps key v → Finds V.Keeps pass key v → F.post work v left
         → MayBecome V.Keeps key pass.thread v left.0 }
     ensures visits { (v : V) × (w : V) × F.post work v (w, result.1) × Visits V.Keeps pass key v w result.0 }
-    ensures made { Adds pass.made (VisitWord pass.thread key moment.now) result.0.made }
+    ensures made { Adds pass.made (VisitTrace pass.thread key moment.now) result.0.made }
     ensures shape { HasShape lot.now result.0 }
     ensures free { OwnsNone pass → OwnsNone result.0 }
 {

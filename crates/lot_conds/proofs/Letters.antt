@@ -2,7 +2,7 @@
 use Rattle.std.proofs.Common.{◌≡◌, ℕ, ◌+◌, ◌<◌, get_or, refl, sym, ap, subst, ◌∙◌, arith, length-set, get_or-set_same}
 use Rattle.std.proofs.Common.{get_or-set_other, Some}
 use Rattle.std.specs.List.{Contains}
-use Rattle.lot_core.specs.World.{put}
+use Rattle.lot_core.specs.Model.{put}
 use Rattle.lot_core.proofs.Put.{put_same, put_other, put_again}
 use Rattle.lot_rights.specs.World.{Spot, awake, queued, owed, lying}
 use Rattle.lot_rights.proofs.Lines.{in_without, without_in, without_none, without_once}

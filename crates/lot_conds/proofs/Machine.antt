@@ -2,7 +2,7 @@
 use Rattle.std.proofs.Common.{◌≡◌, ◌≢◌, ℕ, Bool, cond, List, [], ◌∷◌, get_or, refl, sym, ap, subst, ◌∙◌, ⊎_elim, arith, eq-eqb, ne_eqb}
 use Rattle.std.proofs.Common.{Some, None}
 use Rattle.std.specs.List.{Contains}
-use Rattle.lot_core.specs.World.{put}
+use Rattle.lot_core.specs.Model.{put}
 use Rattle.lot_core.proofs.Members.{in_head, in_none, in_tail}
 use Rattle.lot_rights.specs.World.{Spot, awake, queued, owed, lying}
 use Rattle.lot_rights.proofs.Lines.{in_cases}

@@ -1,5 +1,5 @@
 -- The rule holds of the table at the opening.
-use Rattle.std.proofs.Common.{◌≡◌, ℕ, ◌<◌, false, [], replicate, get_or, refl, ◌∙◌, arith}
+use Rattle.std.proofs.Common.{◌≡◌, ℕ, ◌<◌, false, [], length, replicate, get_or, refl, ◌∙◌, arith}
 use Rattle.std.proofs.lemmas.List.{length-replicate}
 use Rattle.lot_core.proofs.Members.{in_none, once_none}
 use Rattle.lot_core.proofs.Rows.{get_or_replicate}
@@ -8,6 +8,7 @@ use Rattle.lot_rights.specs.Start.{OpensWell}
 use Rattle.lot_core.specs.Sums.{total}
 use Rattle.lot_rights.specs.World.{awake}
 use Rattle.lot_core.proofs.Sums.{total_same, total_none}
+use Rattle.lot_rights.proofs.Owing.{owed_none}
 use Rattle.lot_rights.proofs.Worlds.{fresh_words}
 use Rattle.lot_conds.specs.declared.views.Size.{Size}
 use Rattle.lot_conds.specs.World.{CondWorld, flag_word, Kept}
@@ -51,4 +52,5 @@ opens_well size some = let m : ℕ = key_count size in record {
   passes = λ t near. (near, refl);
   roots = λ c is. (is, refl);
   start = refl;
+  owed = λ c. owed_none (sizes_of size) (λ r. length r.owes) (fresh_world m).root c refl;
 }

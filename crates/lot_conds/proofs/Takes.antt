@@ -4,7 +4,7 @@ use Rattle.std.proofs.Common.{inr, ⊎_elim, arith, length-set, get_or-set_same}
 use Rattle.std.proofs.Common.{get_or-set_other, Option, Some}
 use Rattle.std.specs.List.{Contains}
 use Rattle.std.proofs.lemmas.List.Elements.{Contains-append_left, Contains-append_right, Contains-append_cases}
-use Rattle.lot_core.specs.World.{put}
+use Rattle.lot_core.specs.Model.{put}
 use Rattle.lot_core.specs.Sound.{IsOnce}
 use Rattle.lot_core.proofs.Members.{in_head, in_tail, once_tail, head_left}
 use Rattle.lot_core.proofs.Put.{put_same, put_other}

@@ -3,9 +3,9 @@ use Rattle.std.proofs.Common.{◌≡◌, ◌≢◌, ℕ, zero, suc, ◌+◌, ◌
 use Rattle.std.proofs.Common.{drop, length, get_or, set, refl, sym, ap, subst, ◌∙◌, inl}
 use Rattle.std.proofs.Common.{inr, ⊎_elim, arith, Option, Some, None}
 use Rattle.std.specs.List.{Contains}
-use Rattle.std.proofs.lemmas.List.{append-nil, set-get_or, length-take, take-append-drop, nil_from_length}
+use Rattle.std.proofs.lemmas.List.{append-nil, length-append, set-get_or, length-take, take-append-drop, nil_from_length}
 use mathlib.Core.Option as maybe
-use Rattle.lot_core.specs.World.{put}
+use Rattle.lot_core.specs.Model.{put}
 use Rattle.lot_core.specs.Steps.{IsCallCount, SaysMoreBehind, dequeued_count, flag_after_call}
 use Rattle.lot_core.proofs.Members.{some_behind}
 use Rattle.lot_core.specs.Parts.{IsAmongConds, IsCalmIn}
@@ -17,6 +17,8 @@ use Rattle.lot_rights.specs.Shown.{PassShown, RootShown}
 use Rattle.lot_rights.specs.Layout.{word_at, letter_at}
 use Rattle.lot_rights.specs.World.{Spot, awake, queued, owed, lying, letter_of, letters_of, IsKeyOf, WordsFit}
 use Rattle.lot_rights.specs.Steps.{Notes, RootNotes, PassTurn, BothTurn, AllowsPass, AllowsBoth, AllowsRoot}
+use Rattle.lot_rights.proofs.Lines.{one_less}
+use Rattle.lot_rights.proofs.Owing.{owed_more, owed_less, owed_same}
 use Rattle.lot_rights.proofs.Worlds.{same_letters, one_letter, word_written, letter_written}
 use Rattle.lot_conds.specs.declared.views.CondPassView.{CondPassView}
 use Rattle.lot_conds.specs.declared.views.CondRootView.{CondRootView}
@@ -97,7 +99,8 @@ module _ (size : Size) (p : PassShown CondPassView) (c : ℕ) (among : IsAmongCo
             refl,
           ),
         );
-        counted = λ tokens. tt;
+        owed = λ k. refl;
+        counted = λ log. tt;
         told = λ k. (k, refl);
       }
 
@@ -119,7 +122,8 @@ module _ (size : Size) (p : PassShown CondPassView) (c : ℕ) (among : IsAmongCo
         passes = passes_else size w t p1 w.spot c false (w.root c);
         roots = roots_same size w c;
         made = (refl, (row_lower w size t fit.0 c among p1 w.spot (calm_in size w ok.kept t p.own fit.1 calm) refl, refl));
-        counted = λ tokens. tt;
+        owed = owed_same (sizes_of size) (λ r. length r.owes) w.root c (w.root c) refl;
+        counted = λ log. tt;
         told = λ k. (k, refl);
       }
 
@@ -203,7 +207,8 @@ module _ (size : Size) (p : PassShown CondPassView) (q : RootShown CondRootView)
         roots = roots_else size w t p1 spots c true q1;
         made =
             (refl, (row_enlist w size t fit.0 c root.0 p1 spots (calm_in size w ok.kept t p.own fit.1 calm) l lock q1 refl refl, letters));
-        counted = λ tokens same. tt;
+        owed = owed_same (sizes_of size) (λ r. length r.owes) w.root c q1 refl;
+        counted = λ log same all. tt;
         told = λ k. ((k, refl), refl);
       }
 
@@ -256,6 +261,13 @@ module _ (size : Size) (p : PassShown CondPassView) (q : RootShown CondRootView)
           (subst (λ (z : CondRootView). SaysMoreBehind n z.line more) (sym root.1) says) refl
           (ap (λ (z : CondRootView). drop n z.line) (sym root.1)))
 
+      -- those that are dequeued are owed a letter
+      more_owed : dequeued_count n q.own.line + length (w.root c).owes ≡ length rest.owes
+      more_owed =
+          let long = length-append (w.root c).owes (take n q.own.line) in
+          let taken = length-take n q.own.line in
+          omega (arith, long, taken)
+
       -- so a call is a step of the pass and the root
       calls : BothTurn (meaning size) (word_at c) x p q (Calls p q n more) w ws hs
       calls = record {
@@ -273,7 +285,8 @@ module _ (size : Size) (p : PassShown CondPassView) (q : RootShown CondRootView)
         passes = passes_else size w t caller spots c flag rest;
         roots = roots_else size w t caller spots c flag rest;
         made = (refl, (call_step, letters));
-        counted = λ tokens same. tt;
+        owed = owed_more (sizes_of size) (λ r. length r.owes) w.root c rest (dequeued_count n q.own.line) root.0 more_owed;
+        counted = λ log same all. tt;
         told = λ i. ((i, refl), refl);
       }
 
@@ -325,7 +338,9 @@ module _ (size : Size) (p : PassShown CondPassView) (q : RootShown CondRootView)
             letters,
           ),
         );
-        counted = λ tokens same. tt;
+        owed = owed_more (sizes_of size) (λ r. length r.owes) w.root c q1 (length q.own.line) root.0
+            (let long = length-append (w.root c).owes q.own.line in omega (arith, long));
+        counted = λ log same all. tt;
         told = λ k. ((k, refl), refl);
       }
 
@@ -364,7 +379,8 @@ module _ (size : Size) (q : RootShown CondRootView) (u : ℕ) (debt : Contains q
             λ i. record { part = same_part w u (w.pass u) spots c q1 refl refl i; letters = one_letter w.spot u (lying c 0) i },
           ),
         );
-        counted = λ tokens. tt;
+        owed = owed_less (sizes_of size) (λ r. length r.owes) w.root c q1 root.0 (one_less u (w.root c).owes debt');
+        counted = λ log. tt;
         told = λ k. (k, refl);
       }
 
@@ -398,7 +414,8 @@ module _ (size : Size) (p : PassShown CondPassView) where
       passes = λ u x ne h. h;
       roots = λ d y h. h;
       made = (refl, (none_there, refl));
-      counted = λ tokens. tt;
+      owed = λ c. refl;
+      counted = λ log. tt;
       told = λ k. (omega arith, (k, refl));
     }
 
@@ -437,7 +454,8 @@ module _ (size : Size) (p : PassShown CondPassView) where
               },
             ),
           );
-          counted = λ tokens. tt;
+          owed = owed_same (sizes_of size) (λ r. length r.owes) w.root c (w.root c) refl;
+          counted = λ log. tt;
           told = λ k. (omega arith, (refl, (c, (sym (ap (λ (z : CondPassView). z.out) fit.1) ∙ fits.0.1, (k, refl)))));
         }
 

@@ -8,7 +8,7 @@ use Rattle.lot_events.specs.declared.events.Seen.{Seen}
 use Rattle.lot_core.specs.Parts.{CondPart, CondStep}
 use Rattle.lot_rights.specs.Rule.{Meaning}
 use Rattle.lot_rights.specs.Settled.{HasOneOutcome, LinesHaveNoLetter}
-use Rattle.lot_rights.specs.World.{Sizes, letter_of, letters_of, WordsFit, PassIs, RootIs}
+use Rattle.lot_rights.specs.World.{Sizes, letter_of, letters_of, owed_at, WordsFit, PassIs, RootIs}
 use Rattle.lot_conds.specs.declared.views.CondPassView.{CondPassView}
 use Rattle.lot_conds.specs.declared.views.CondRootView.{CondRootView}
 use Rattle.lot_conds.specs.declared.views.Size.{Size}
@@ -66,6 +66,7 @@ meaning size = record {
   Fits = λ w ws hs. Fits size w ws;
   PassFits = λ w t p. PassIs (sizes_of size) w t p;
   RootFits = λ w c q. RootIs (sizes_of size) w c q;
+  owed_in = λ w c. owed_at (sizes_of size) (λ q. length q.owes) w.root c;
   told_by = λ w. record { part = part_of w; letters = letters_of w.spot };
   start = record { part = opening_part; letters = λ t. 0 };
   Step = IsStep size;

@@ -7,7 +7,7 @@ use Rattle.std.specs.List.{Contains}
 use Rattle.lot_events.specs.declared.events.Event.{Event}
 use Rattle.lot_events.specs.declared.events.Event.TheVariants.{Enlist, Look, Call, Lower, Sweep}
 use Rattle.lot_events.specs.declared.events.Seen.{Seen}
-use Rattle.lot_core.specs.World.{put}
+use Rattle.lot_core.specs.Model.{put}
 use Rattle.lot_core.specs.Steps.{SaysMoreBehind, flag_after_call}
 use Rattle.lot_core.specs.Sound.{IsOnce, IsSoundCondPart}
 use Rattle.lot_core.specs.Parts.{CondPart, IsCalmIn, CondAllowed, cond_part_after, CondStep}

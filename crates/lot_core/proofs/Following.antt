@@ -7,7 +7,7 @@ use Rattle.lot_events.specs.declared.events.Point.TheVariants.{Calm, Wants, Bed,
 use Rattle.lot_events.specs.declared.events.Event.{Event}
 use Rattle.lot_events.specs.declared.events.Event.TheVariants.{Try, Take, Mark, Park, Free, Pass, Enlist, Look, Call, Lower, Sweep, SemTake}
 use Rattle.lot_events.specs.declared.events.Event.TheVariants.{SemMark, SemPark, SemFree, SemPass, SemClear}
-use Rattle.lot_core.specs.World.{World, Locks, Conds, Semaphores, put}
+use Rattle.lot_core.specs.Model.{StateView, Locks, Conds, Semaphores, put}
 use Rattle.lot_core.specs.Steps.{IsTrying, IsSeeking, MayLetGo, Allowed, after, seen, released, let_go, handed, none_left, permit_taken}
 use Rattle.lot_core.specs.Sound.{IsSound, Waits}
 use Rattle.lot_core.specs.Parts.{LockPart, CondPart, SemaphorePart, wanted, swept_by, sought, lock_part, cond_part, semaphore_part}
@@ -22,15 +22,15 @@ use Rattle.lot_core.proofs.Members.{in_head}
 use Rattle.lot_core.proofs.Permits.{IsKeptPart, part_kept}
 
 -- the parts with another word on points
-pub lock_part_by : (s : World) (locks : Locks) (point : ℕ → Point) (wants : ℕ → Option ℕ) → told wanted point ≡ wants →
+pub lock_part_by : (s : StateView) (locks : Locks) (point : ℕ → Point) (wants : ℕ → Option ℕ) → told wanted point ≡ wants →
     lock_part (record s { locks = locks; point = point }) ≡ record { locks = locks; wants = wants }
 lock_part_by s locks point wants e = ap (λ (w : ℕ → Option ℕ). let a : LockPart = record { locks = locks; wants = w } in a) e
 
-pub cond_part_by : (s : World) (conds : Conds) (point : ℕ → Point) (sweeps : ℕ → Option ℕ) → told swept_by point ≡ sweeps →
+pub cond_part_by : (s : StateView) (conds : Conds) (point : ℕ → Point) (sweeps : ℕ → Option ℕ) → told swept_by point ≡ sweeps →
     cond_part (record s { conds = conds; point = point }) ≡ record { conds = conds; sweeps = sweeps }
 cond_part_by s conds point sweeps e = ap (λ (w : ℕ → Option ℕ). let a : CondPart = record { conds = conds; sweeps = w } in a) e
 
-pub semaphore_part_by : (s : World) (sems : Semaphores) (point : ℕ → Point) (seeks : ℕ → Option ℕ) → told sought point ≡ seeks →
+pub semaphore_part_by : (s : StateView) (sems : Semaphores) (point : ℕ → Point) (seeks : ℕ → Option ℕ) → told sought point ≡ seeks →
     semaphore_part (record s { sems = sems; point = point }) ≡ record { sems = sems; seeks = seeks }
 semaphore_part_by s sems point seeks e = ap (λ (w : ℕ → Option ℕ). let a : SemaphorePart = record { sems = sems; seeks = w } in a) e
 
@@ -64,21 +64,22 @@ wanted_released (Rest c l) = refl
 wanted_released (Sweeps c) = refl
 wanted_released (Seeks k) = refl
 
-pub told_released : (f : Point → Option ℕ) → ((p : Point) → f (released p) ≡ f p) → (s : World) (t : ℕ)
+pub told_released : (f : Point → Option ℕ) → ((p : Point) → f (released p) ≡ f p) → (s : StateView) (t : ℕ)
     → told f (let_go s.point t) ≡ told f s.point
 told_released f same s t = told_same f s.point t (released (s.point t)) (same (s.point t))
 
 -- the threads in the locks' lines stand where they want that lock
-abbrev pub SleepersWant : World → Type 0
+abbrev pub SleepersWant : StateView → Type 0
 SleepersWant s = (l t : ℕ) → Contains (s.locks.line l) t → s.point t ≡ Wants l
 
-pub taker_untold : (f : Point → Option ℕ) → IsBlind f → (s : World) (t l : ℕ) → ((s.point t ≡ Calm) ⊎ IsTrying s t l) → f (s.point t) ≡ None
+pub taker_untold : (f : Point → Option ℕ) → IsBlind f → (s : StateView) (t l : ℕ) → ((s.point t ≡ Calm) ⊎ IsTrying s t l)
+    → f (s.point t) ≡ None
 taker_untold f blind s t l (inl calm) = ap f calm ∙ blind.calm
 taker_untold f blind s t l (inr (inl x)) = ap f x.0 ∙ blind.wants l
 taker_untold f blind s t l (inr (inr x)) = ap f x.1 ∙ blind.rest x.0 l
 
 -- the first of a line, to whom a lock is handed
-pub handed_untold : (f : Point → Option ℕ) → IsBlind f → (s : World) (t l : ℕ) (xs : List ℕ) → SleepersWant s → s.locks.line l ≡ xs →
+pub handed_untold : (f : Point → Option ℕ) → IsBlind f → (s : StateView) (t l : ℕ) (xs : List ℕ) → SleepersWant s → s.locks.line l ≡ xs →
     told f (handed (let_go s.point t) xs) ≡ told f s.point
 handed_untold f blind s t l [] wants is = told_released f (blind_released f blind) s t
 handed_untold f blind s t l (u ∷ rest) wants is =
@@ -88,21 +89,21 @@ handed_untold f blind s t l (u ∷ rest) wants is =
     told_same f (let_go s.point t) u Calm (blind.calm ∙ sym before) ∙ same
 
 -- so such an f tells nothing of a lock event
-pub take_untold : (f : Point → Option ℕ) → IsBlind f → (s : World) (t l : ℕ) → ((s.point t ≡ Calm) ⊎ IsTrying s t l) →
+pub take_untold : (f : Point → Option ℕ) → IsBlind f → (s : StateView) (t l : ℕ) → ((s.point t ≡ Calm) ⊎ IsTrying s t l) →
     told f (put s.point t (if s.locks.held l then Wants l else Calm)) ≡ told f s.point
 take_untold f blind s t l may =
     told_same f s.point t (if s.locks.held l then Wants l else Calm)
     (by_bit (λ b. f (if b then Wants l else Calm) ≡ None) (s.locks.held l) (λ e. blind.wants l) (λ e. blind.calm)
     ∙ sym (taker_untold f blind s t l may))
 
-pub free_untold : (f : Point → Option ℕ) → ((p : Point) → f (released p) ≡ f p) → (s : World) (t l : ℕ) →
+pub free_untold : (f : Point → Option ℕ) → ((p : Point) → f (released p) ≡ f p) → (s : StateView) (t l : ℕ) →
     told f (if s.locks.parked l then s.point else let_go s.point t) ≡ told f s.point
 free_untold f same s t l =
     by_bit (λ b. told f (if b then s.point else let_go s.point t) ≡ told f s.point) (s.locks.parked l) (λ e. refl)
     (λ e. told_released f same s t)
 
 -- a thread that seeks a permit, or is calm, goes to one of these points
-pub sem_take_untold : (f : Point → Option ℕ) → f Calm ≡ None → ((k : ℕ) → f (Seeks k) ≡ None) → (s : World) (t k : ℕ) →
+pub sem_take_untold : (f : Point → Option ℕ) → f Calm ≡ None → ((k : ℕ) → f (Seeks k) ≡ None) → (s : StateView) (t k : ℕ) →
     ((s.point t ≡ Calm) ⊎ IsSeeking s t k) → told f (put s.point t (if none_left s.sems k then Seeks k else Calm)) ≡ told f s.point
 sem_take_untold f calm seeks s t k may =
     told_same f s.point t (if none_left s.sems k then Seeks k else Calm)
@@ -114,13 +115,13 @@ sem_take_untold f calm seeks s t k may =
 
 -- Changes.
 
-pub wants_served : (s : World) (t : ℕ) (xs : List ℕ) →
+pub wants_served : (s : StateView) (t : ℕ) (xs : List ℕ) →
     told wanted (handed (let_go s.point t) xs) ≡ served (told wanted s.point) xs
 wants_served s t [] = told_released wanted wanted_released s t
 wants_served s t (u ∷ rest) =
     told_put wanted (let_go s.point t) u Calm ∙ ap (λ (w : ℕ → Option ℕ). put w u None) (told_released wanted wanted_released s t)
 
-pub lock_part_follows : (s : World) (e : Event) → Allowed s e → lock_part (after s e) ≡ lock_part_after (lock_part s) e
+pub lock_part_follows : (s : StateView) (e : Event) → Allowed s e → lock_part (after s e) ≡ lock_part_after (lock_part s) e
 lock_part_follows s (Try t l) ok = refl
 lock_part_follows s (Take t l) ok = lock_part_by s _ _ _
     (told_put wanted s.point t (if s.locks.held l then Wants l else Calm)
@@ -143,7 +144,7 @@ lock_part_follows s (SemFree t k) ok = refl
 lock_part_follows s (SemPass t k more) ok = refl
 lock_part_follows s (SemClear t k) ok = refl
 
-pub cond_part_follows : (s : World) (e : Event) → SleepersWant s → Allowed s e → cond_part (after s e) ≡ cond_part_after (cond_part s) e
+pub cond_part_follows : (s : StateView) (e : Event) → SleepersWant s → Allowed s e → cond_part (after s e) ≡ cond_part_after (cond_part s) e
 cond_part_follows s (Try t l) h ok = refl
 cond_part_follows s (Take t l) h ok = cond_part_by s _ _ _ (take_untold swept_by swept_blind s t l ok.2)
 cond_part_follows s (Mark t l) h ok = refl
@@ -163,7 +164,7 @@ cond_part_follows s (SemFree t k) h ok = refl
 cond_part_follows s (SemPass t k more) h ok = refl
 cond_part_follows s (SemClear t k) h ok = refl
 
-pub semaphore_part_follows : (s : World) (e : Event) → SleepersWant s → Allowed s e
+pub semaphore_part_follows : (s : StateView) (e : Event) → SleepersWant s → Allowed s e
     → semaphore_part (after s e) ≡ semaphore_part_after (semaphore_part s) e
 semaphore_part_follows s (Try t l) h ok = refl
 semaphore_part_follows s (Take t l) h ok = semaphore_part_by s _ _ _ (take_untold sought sought_blind s t l ok.2)
@@ -191,7 +192,7 @@ semaphore_part_follows s (SemClear t k) h ok = refl
 
 -- What is seen.
 
-pub lock_seen_follows : (s : World) (e : Event) → IsLockEvent e → seen s e ≡ lock_seen (lock_part s) e
+pub lock_seen_follows : (s : StateView) (e : Event) → IsLockEvent e → seen s e ≡ lock_seen (lock_part s) e
 lock_seen_follows s (Try t l) is = refl
 lock_seen_follows s (Take t l) is = refl
 lock_seen_follows s (Mark t l) is = refl
@@ -200,7 +201,7 @@ lock_seen_follows s (Free t l) is = refl
 lock_seen_follows s (Pass t l fair more) is = refl
 lock_seen_follows s _ is = absurd is
 
-pub cond_seen_follows : (s : World) (e : Event) → IsCondEvent e → seen s e ≡ cond_seen (cond_part s) e
+pub cond_seen_follows : (s : StateView) (e : Event) → IsCondEvent e → seen s e ≡ cond_seen (cond_part s) e
 cond_seen_follows s (Enlist t c l) is = refl
 cond_seen_follows s (Look t c) is = refl
 cond_seen_follows s (Call t c n more) is = refl
@@ -208,7 +209,7 @@ cond_seen_follows s (Lower t c) is = refl
 cond_seen_follows s (Sweep t c) is = refl
 cond_seen_follows s _ is = absurd is
 
-pub semaphore_seen_follows : (s : World) (e : Event) → IsSemaphoreEvent e → seen s e ≡ semaphore_seen (semaphore_part s) e
+pub semaphore_seen_follows : (s : StateView) (e : Event) → IsSemaphoreEvent e → seen s e ≡ semaphore_seen (semaphore_part s) e
 semaphore_seen_follows s (SemTake t k) is = refl
 semaphore_seen_follows s (SemMark t k) is = refl
 semaphore_seen_follows s (SemPark t k) is = refl
@@ -247,27 +248,27 @@ semaphore_part_stays a _ other = refl
 
 -- Where an event is allowed.
 
-pub may_try : (s : World) (t l : ℕ) → IsTrying s t l → MayTry (lock_part s) t l
+pub may_try : (s : StateView) (t l : ℕ) → IsTrying s t l → MayTry (lock_part s) t l
 may_try s t l (inl x) = inr (ap wanted x.0, x.1)
 may_try s t l (inr x) = inl (ap wanted x.1)
 
-pub may_take : (s : World) (t l : ℕ) → ((s.point t ≡ Calm) ⊎ IsTrying s t l) → MayTry (lock_part s) t l
+pub may_take : (s : StateView) (t l : ℕ) → ((s.point t ≡ Calm) ⊎ IsTrying s t l) → MayTry (lock_part s) t l
 may_take s t l (inl calm) = inl (ap wanted calm)
 may_take s t l (inr try) = may_try s t l try
 
-pub releaser_wants : (s : World) (t l : ℕ) → MayLetGo s t l → wanted (s.point t) ≡ None
+pub releaser_wants : (s : StateView) (t l : ℕ) → MayLetGo s t l → wanted (s.point t) ≡ None
 releaser_wants s t l (inl calm) = ap wanted calm
 releaser_wants s t l (inr (c, bed)) = ap wanted bed
 
-pub part_seeks : (s : World) (t k : ℕ) → IsSeeking s t k → PartSeeks (semaphore_part s) t k
+pub part_seeks : (s : StateView) (t k : ℕ) → IsSeeking s t k → PartSeeks (semaphore_part s) t k
 part_seeks s t k x = (ap sought x.0, x.1)
 
-pub may_seek : (s : World) (t k : ℕ) → ((s.point t ≡ Calm) ⊎ IsSeeking s t k) → (sought (s.point t) ≡ None)
+pub may_seek : (s : StateView) (t k : ℕ) → ((s.point t ≡ Calm) ⊎ IsSeeking s t k) → (sought (s.point t) ≡ None)
     ⊎ PartSeeks (semaphore_part s) t k
 may_seek s t k (inl calm) = inl (ap sought calm)
 may_seek s t k (inr x) = inr (part_seeks s t k x)
 
-pub lock_allowed : (s : World) (e : Event) → Allowed s e → IsLockEvent e → LockAllowed s.threads s.lock_count (lock_part s) e
+pub lock_allowed : (s : StateView) (e : Event) → Allowed s e → IsLockEvent e → LockAllowed s.threads s.lock_count (lock_part s) e
 lock_allowed s (Try t l) ok is = (ok.0, ok.1, ap wanted ok.2)
 lock_allowed s (Take t l) ok is = (ok.0, ok.1, may_take s t l ok.2)
 lock_allowed s (Mark t l) ok is = (ok.0, ok.1, may_try s t l ok.2, ok.3)
@@ -282,10 +283,12 @@ at_no_point c l p (inl bed) calm = let e : Bed c l ≡ Calm = sym bed ∙ calm i
 at_no_point c l p (inr rest) calm = let e : Rest c l ≡ Calm = sym rest ∙ calm in cc
 
 -- who is calm in a sound state is so in the condition part
-calm_in : (s : World) (t : ℕ) → ((c u : ℕ) → Contains (s.conds.line c) u → Waits s.point c u) → s.point t ≡ Calm → IsCalmIn (cond_part s) t
+calm_in : (s : StateView) (t : ℕ) → ((c u : ℕ) → Contains (s.conds.line c) u → Waits s.point c u) → s.point t ≡ Calm
+    → IsCalmIn (cond_part s) t
 calm_in s t waits calm = (ap swept_by calm, (λ c h. at_no_point c (waits c t h).0 (s.point t) (waits c t h).1 calm))
 
-pub cond_allowed : (s : World) (e : Event) → ((c u : ℕ) → Contains (s.conds.line c) u → Waits s.point c u) → Allowed s e → IsCondEvent e →
+pub cond_allowed : (s : StateView) (e : Event) → ((c u : ℕ) → Contains (s.conds.line c) u → Waits s.point c u) → Allowed s e
+    → IsCondEvent e →
     CondAllowed s.threads s.lock_count s.cond_count (cond_part s) e
 cond_allowed s (Enlist t c l) waits ok is = (ok.0, ok.1, ok.2, calm_in s t waits ok.3)
 cond_allowed s (Look t c) waits ok is = (ok.0, ok.1, calm_in s t waits ok.2)
@@ -294,7 +297,7 @@ cond_allowed s (Lower t c) waits ok is = (ok.0, ok.1, calm_in s t waits ok.2)
 cond_allowed s (Sweep t c) waits ok is = (ok.0, ok.1, ap swept_by ok.2)
 cond_allowed s _ waits ok is = absurd is
 
-pub semaphore_allowed : (s : World) (e : Event) → Allowed s e → IsSemaphoreEvent e →
+pub semaphore_allowed : (s : StateView) (e : Event) → Allowed s e → IsSemaphoreEvent e →
     SemaphoreAllowed s.threads (s.lock_count + s.cond_count) s.sem_count (semaphore_part s) e
 semaphore_allowed s (SemTake t k) ok is = (ok.0, ok.1, may_seek s t k ok.2)
 semaphore_allowed s (SemMark t k) ok is = (ok.0, ok.1, part_seeks s t k ok.2, ok.3)
@@ -317,38 +320,39 @@ pub sought_is : (p : Point) (k : ℕ) → sought p ≡ Some k → p ≡ Seeks k
 sought_is (Seeks j) k e = let same : j ≡ k = cc in ap Seeks same
 sought_is _ k e = absurd (cc)
 
-stands_before : (s : World) (t l : ℕ) → IsTrying s t l → StandsBefore s t l
+stands_before : (s : StateView) (t l : ℕ) → IsTrying s t l → StandsBefore s t l
 stands_before s t l (inl x) = inl x.0
 stands_before s t l (inr x) = inr x
 
-tries : (s : World) (t l : ℕ) → MayTry (lock_part s) t l → StandsBefore s t l → IsTrying s t l
+tries : (s : StateView) (t l : ℕ) → MayTry (lock_part s) t l → StandsBefore s t l → IsTrying s t l
 tries s t l (inl none) (inl wants) = let some = ap wanted wants in absurd (cc)
 tries s t l (inr x) (inl wants) = inl (wants, x.1)
 tries s t l may (inr rests) = inr rests
 
-takes_asked : (s : World) (t l : ℕ) → ((s.point t ≡ Calm) ⊎ IsTrying s t l) → (s.point t ≡ Calm) ⊎ StandsBefore s t l
+takes_asked : (s : StateView) (t l : ℕ) → ((s.point t ≡ Calm) ⊎ IsTrying s t l) → (s.point t ≡ Calm) ⊎ StandsBefore s t l
 takes_asked s t l (inl calm) = inl calm
 takes_asked s t l (inr try) = inr (stands_before s t l try)
 
-takes : (s : World) (t l : ℕ) → MayTry (lock_part s) t l → ((s.point t ≡ Calm) ⊎ StandsBefore s t l) → (s.point t ≡ Calm) ⊎ IsTrying s t l
+takes : (s : StateView) (t l : ℕ) → MayTry (lock_part s) t l → ((s.point t ≡ Calm) ⊎ StandsBefore s t l)
+    → (s.point t ≡ Calm) ⊎ IsTrying s t l
 takes s t l may (inl calm) = inl calm
 takes s t l may (inr stands) = inr (tries s t l may stands)
 
-sem_takes_asked : (s : World) (t k : ℕ) → ((s.point t ≡ Calm) ⊎ IsSeeking s t k) → (s.point t ≡ Calm) ⊎ (s.point t ≡ Seeks k)
+sem_takes_asked : (s : StateView) (t k : ℕ) → ((s.point t ≡ Calm) ⊎ IsSeeking s t k) → (s.point t ≡ Calm) ⊎ (s.point t ≡ Seeks k)
 sem_takes_asked s t k (inl calm) = inl calm
 sem_takes_asked s t k (inr x) = inr x.0
 
-sem_takes : (s : World) (t k : ℕ) → (sought (s.point t) ≡ None) ⊎ PartSeeks (semaphore_part s) t k
+sem_takes : (s : StateView) (t k : ℕ) → (sought (s.point t) ≡ None) ⊎ PartSeeks (semaphore_part s) t k
     → ((s.point t ≡ Calm) ⊎ (s.point t ≡ Seeks k)) →
     (s.point t ≡ Calm) ⊎ IsSeeking s t k
 sem_takes s t k may (inl calm) = inl calm
 sem_takes s t k (inl none) (inr seeks) = let some = ap sought seeks in absurd (cc)
 sem_takes s t k (inr x) (inr seeks) = inr (seeks, x.1)
 
-seeks_alone : (s : World) (t k : ℕ) → PartSeeks (semaphore_part s) t k → IsSeeking s t k
+seeks_alone : (s : StateView) (t k : ℕ) → PartSeeks (semaphore_part s) t k → IsSeeking s t k
 seeks_alone s t k x = (sought_is (s.point t) k x.0, x.1)
 
-asked : (s : World) (e : Event) → Allowed s e → AsksOfThread s e
+asked : (s : StateView) (e : Event) → Allowed s e → AsksOfThread s e
 asked s (Try t l) ok = ok.2
 asked s (Take t l) ok = takes_asked s t l ok.2
 asked s (Mark t l) ok = stands_before s t l ok.2
@@ -367,7 +371,7 @@ asked s (SemFree t k) ok = ok.2
 asked s (SemPass t k more) ok = ok.2
 asked s (SemClear t k) ok = ok.2
 
-lock_allows : (s : World) (e : Event) → LockAllowed s.threads s.lock_count (lock_part s) e → AsksOfThread s e → Allowed s e
+lock_allows : (s : StateView) (e : Event) → LockAllowed s.threads s.lock_count (lock_part s) e → AsksOfThread s e → Allowed s e
 lock_allows s (Try t l) ok asks = (ok.0, ok.1, asks)
 lock_allows s (Take t l) ok asks = (ok.0, ok.1, takes s t l ok.2 asks)
 lock_allows s (Mark t l) ok asks = (ok.0, ok.1, tries s t l ok.2 asks, ok.3)
@@ -376,7 +380,7 @@ lock_allows s (Free t l) ok asks = (ok.0, ok.1, ok.2, asks)
 lock_allows s (Pass t l fair more) ok asks = (ok.0, ok.1, ok.2, ok.3, asks, ok.5)
 lock_allows s _ ok asks = absurd ok
 
-cond_allows : (s : World) (e : Event) → CondAllowed s.threads s.lock_count s.cond_count (cond_part s) e → AsksOfThread s e → Allowed s e
+cond_allows : (s : StateView) (e : Event) → CondAllowed s.threads s.lock_count s.cond_count (cond_part s) e → AsksOfThread s e → Allowed s e
 cond_allows s (Enlist t c l) ok asks = (ok.0, ok.1, ok.2, asks.0, asks.1)
 cond_allows s (Look t c) ok asks = (ok.0, ok.1, asks)
 cond_allows s (Call t c n more) ok asks = (ok.0, ok.1, asks, ok.3, ok.4)
@@ -384,7 +388,7 @@ cond_allows s (Lower t c) ok asks = (ok.0, ok.1, asks)
 cond_allows s (Sweep t c) ok asks = (ok.0, ok.1, swept_by_is (s.point t) c ok.2)
 cond_allows s _ ok asks = absurd ok
 
-semaphore_allows : (s : World) (e : Event) → SemaphoreAllowed s.threads (s.lock_count + s.cond_count) s.sem_count (semaphore_part s) e →
+semaphore_allows : (s : StateView) (e : Event) → SemaphoreAllowed s.threads (s.lock_count + s.cond_count) s.sem_count (semaphore_part s) e →
     AsksOfThread s e → Allowed s e
 semaphore_allows s (SemTake t k) ok asks = (ok.0, ok.1, sem_takes s t k ok.2 asks)
 semaphore_allows s (SemMark t k) ok asks = (ok.0, ok.1, seeks_alone s t k ok.2, ok.3)
@@ -396,19 +400,19 @@ semaphore_allows s _ ok asks = absurd ok
 
 -- The laws.
 
-pub lock_follows : (s : World) (e : Event) → Allowed s e → LockPartFollows s e
+pub lock_follows : (s : StateView) (e : Event) → Allowed s e → LockPartFollows s e
 lock_follows s e ok = record {
   steps = λ is. (lock_allowed s e ok is, lock_seen_follows s e is, lock_part_follows s e ok);
   stays = λ other. lock_part_follows s e ok ∙ lock_part_stays (lock_part s) e other;
 }
 
-sleepers_want : (s : World) → IsSound s → SleepersWant s
+sleepers_want : (s : StateView) → IsSound s → SleepersWant s
 sleepers_want s h l t inside = (h.one_line_each.wants l t inside).1
 
-sleepers_wait : (s : World) → IsSound s → (c t : ℕ) → Contains (s.conds.line c) t → Waits s.point c t
+sleepers_wait : (s : StateView) → IsSound s → (c t : ℕ) → Contains (s.conds.line c) t → Waits s.point c t
 sleepers_wait s h c t inside = (h.one_line_each.waits c t inside).1
 
-pub cond_follows : (s : World) (e : Event) → IsSound s → Allowed s e → CondPartFollows s e
+pub cond_follows : (s : StateView) (e : Event) → IsSound s → Allowed s e → CondPartFollows s e
 cond_follows s e h ok =
     let follows = cond_part_follows s e (sleepers_want s h) ok in
     record {
@@ -416,7 +420,7 @@ cond_follows s e h ok =
       stays = λ other. follows ∙ cond_part_stays (cond_part s) e other;
     }
 
-pub semaphore_follows : (s : World) (e : Event) → IsSound s → Allowed s e → SemaphorePartFollows s e
+pub semaphore_follows : (s : StateView) (e : Event) → IsSound s → Allowed s e → SemaphorePartFollows s e
 semaphore_follows s e h ok =
     let follows = semaphore_part_follows s e (sleepers_want s h) ok in
     record {
@@ -424,17 +428,17 @@ semaphore_follows s e h ok =
       stays = λ other. follows ∙ semaphore_part_stays (semaphore_part s) e other;
     }
 
-pub lock_part_allows : (s : World) (e : Event) → LockPartAllows s e
+pub lock_part_allows : (s : StateView) (e : Event) → LockPartAllows s e
 lock_part_allows s e is = ((λ ok. (lock_allowed s e ok is, asked s e ok)), (λ both. lock_allows s e both.0 both.1))
 
-pub cond_part_allows : (s : World) (e : Event) → IsSound s → CondPartAllows s e
+pub cond_part_allows : (s : StateView) (e : Event) → IsSound s → CondPartAllows s e
 cond_part_allows s e h is = ((λ ok. (cond_allowed s e (sleepers_wait s h) ok is, asked s e ok)), (λ both. cond_allows s e both.0 both.1))
 
-pub semaphore_part_allows : (s : World) (e : Event) → SemaphorePartAllows s e
+pub semaphore_part_allows : (s : StateView) (e : Event) → SemaphorePartAllows s e
 semaphore_part_allows s e is = ((λ ok. (semaphore_allowed s e ok is, asked s e ok)), (λ both. semaphore_allows s e both.0 both.1))
 
 -- an event of the whole keeps the semaphore part
-pub part_after : (s : World) (e : Event) → IsKeptPart s.threads s.permits (semaphore_part s) → Allowed s e →
+pub part_after : (s : StateView) (e : Event) → IsKeptPart s.threads s.permits (semaphore_part s) → Allowed s e →
     IsKeptPart s.threads s.permits (semaphore_part_after (semaphore_part s) e)
 part_after s (SemTake t k) h ok =
     part_kept s.threads _ s.sem_count s.permits (semaphore_part s) (SemTake t k) h (semaphore_allowed s (SemTake t k) ok tt)

@@ -7,7 +7,7 @@ use Rattle.std.proofs.lemmas.List.Elements.{Contains-push_cases}
 use Rattle.std.proofs.lemmas.Bool.{cases_eq, and_cases}
 use Rattle.lot_events.specs.declared.events.Point.{Point}
 use Rattle.lot_events.specs.declared.events.Point.TheVariants.{Calm, Wants, Bed, Rest, Sweeps, Seeks}
-use Rattle.lot_core.specs.World.{World, Semaphores, put}
+use Rattle.lot_core.specs.Model.{StateView, Semaphores, put}
 use Rattle.lot_core.specs.Steps.{IsThread, IsTrying, MayLetGo, SaysMore, SaysMoreBehind, enlisted, dequeued, flag_after_call, called, swept}
 use Rattle.lot_core.specs.Steps.{released, let_go}
 use Rattle.lot_core.specs.Sound.{Waits, OneOwner, SleepersAreMarked, SomeoneIsTrying, SomeoneSweeps, IsOnce}
@@ -23,7 +23,7 @@ pub record OneKeyEach (lock_line cond_line : ℕ → List ℕ) (point : ℕ → 
   pub waits : (c t : ℕ) → Contains (cond_line c) t → Waits point c t
 
 -- what a sound state says of its locks and conditions
-pub record AreKeysSound (s : World) : Type 0 where
+pub record AreKeysSound (s : StateView) : Type 0 where
   pub one_owner : OneOwner s.locks.held s.locks.has
   pub sleepers_are_marked : SleepersAreMarked s.locks.line s.locks.parked
   pub someone_is_trying : SomeoneIsTrying s
@@ -31,13 +31,13 @@ pub record AreKeysSound (s : World) : Type 0 where
   pub one_line_each : OneKeyEach s.locks.line s.conds.line s.point
 
 -- with it, only threads of the state stand in their lines
-pub record IsKept (s : World) : Type 0 where
+pub record IsKept (s : StateView) : Type 0 where
   pub sound : AreKeysSound s
   pub known : (l t : ℕ) → Contains (s.locks.line l) t → IsThread s t
   pub waiting : (c t : ℕ) → Contains (s.conds.line c) t → IsThread s t
 
 -- it says nothing of the semaphores
-pub sems_kept : (s : World) (z : Semaphores) → IsKept s → IsKept (record s { sems = z })
+pub sems_kept : (s : StateView) (z : Semaphores) → IsKept s → IsKept (record s { sems = z })
 sems_kept s z h = record {
   sound = record {
     one_owner = h.sound.one_owner;
@@ -51,7 +51,7 @@ sems_kept s z h = record {
 }
 
 -- t is in no line of a lock or a condition
-pub record IsOutside (s : World) (t : ℕ) : Type 0 where
+pub record IsOutside (s : StateView) (t : ℕ) : Type 0 where
   pub locks : (l : ℕ) → Contains (s.locks.line l) t → ⊥
   pub conds : (c : ℕ) → Contains (s.conds.line c) t → ⊥
 
@@ -71,7 +71,7 @@ pub seeks_apart : (k : ℕ) → IsApart (Seeks k)
 seeks_apart k = record { wants = λ l e. absurd (cc); bed = λ c l e. absurd (cc); rest = λ c l e. absurd (cc) }
 
 -- a thread at such a point is in no line, and tries to get no lock
-pub apart_outside : (s : World) (t : ℕ) (p : Point) → IsKept s → IsApart p → s.point t ≡ p → IsOutside s t
+pub apart_outside : (s : StateView) (t : ℕ) (p : Point) → IsKept s → IsApart p → s.point t ≡ p → IsOutside s t
 apart_outside s t p h apart at = record {
   locks = λ l inside. apart.wants l (sym at ∙ h.sound.one_line_each.wants l t inside);
   conds = λ c inside. waits_not c (h.sound.one_line_each.waits c t inside);
@@ -81,11 +81,11 @@ apart_outside s t p h apart at = record {
     waits_not c (l, inl e) = apart.bed c l (sym at ∙ e)
     waits_not c (l, inr e) = apart.rest c l (sym at ∙ e)
 
-pub apart_tries_nothing : (s : World) (t k : ℕ) (p : Point) → IsApart p → s.point t ≡ p → IsTrying s t k → ⊥
+pub apart_tries_nothing : (s : StateView) (t k : ℕ) (p : Point) → IsApart p → s.point t ≡ p → IsTrying s t k → ⊥
 apart_tries_nothing s t k p apart at (inl x) = apart.wants k (sym at ∙ x.0)
 apart_tries_nothing s t k p apart at (inr x) = apart.rest x.0 k (sym at ∙ x.1)
 
-pub outside_wants : (s : World) (t l : ℕ) → IsKept s → s.point t ≡ Wants l → (Contains (s.locks.line l) t → ⊥) → IsOutside s t
+pub outside_wants : (s : StateView) (t l : ℕ) → IsKept s → s.point t ≡ Wants l → (Contains (s.locks.line l) t → ⊥) → IsOutside s t
 outside_wants s t l h wants out = record {
   locks = λ k inside.
       let e : s.point t ≡ Wants k = h.sound.one_line_each.wants k t inside in
@@ -94,7 +94,7 @@ outside_wants s t l h wants out = record {
   conds = λ d inside. elim (h.sound.one_line_each.waits d t inside).1 [ inl e ↦ absurd (cc) | inr e ↦ absurd (cc) ];
 }
 
-pub outside_rests : (s : World) (t c l : ℕ) → IsKept s → s.point t ≡ Rest c l → (Contains (s.conds.line c) t → ⊥) → IsOutside s t
+pub outside_rests : (s : StateView) (t c l : ℕ) → IsKept s → s.point t ≡ Rest c l → (Contains (s.conds.line c) t → ⊥) → IsOutside s t
 outside_rests s t c l h rests out = record {
   locks = λ k inside. let e : s.point t ≡ Wants k = h.sound.one_line_each.wants k t inside in absurd (cc);
   conds = λ d inside. elim (h.sound.one_line_each.waits d t inside).1 [
@@ -103,29 +103,29 @@ outside_rests s t c l h rests out = record {
   ];
 }
 
-pub outside_trying : (s : World) (t l : ℕ) → IsKept s → IsTrying s t l → IsOutside s t
+pub outside_trying : (s : StateView) (t l : ℕ) → IsKept s → IsTrying s t l → IsOutside s t
 outside_trying s t l h (inl x) = outside_wants s t l h x.0 x.1
 outside_trying s t l h (inr x) = outside_rests s t x.0 l h x.1 x.2
 
 -- a thread tries to get one lock at most
-pub trying_one : (s : World) (t l k : ℕ) → IsTrying s t l → IsTrying s t k → k ≡ l
+pub trying_one : (s : StateView) (t l k : ℕ) → IsTrying s t l → IsTrying s t k → k ≡ l
 trying_one s t l k (inl x) (inl y) = let a = x.0 in let b = y.0 in cc
 trying_one s t l k (inl x) (inr y) = let a = x.0 in let b = y.1 in absurd (cc)
 trying_one s t l k (inr x) (inl y) = let a = x.1 in let b = y.0 in absurd (cc)
 trying_one s t l k (inr x) (inr y) = let a = x.1 in let b = y.1 in cc
 
-pub bed_tries_nothing : (s : World) (t c l k : ℕ) → s.point t ≡ Bed c l → IsTrying s t k → ⊥
+pub bed_tries_nothing : (s : StateView) (t c l k : ℕ) → s.point t ≡ Bed c l → IsTrying s t k → ⊥
 bed_tries_nothing s t c l k bed (inl x) = let a = x.0 in absurd (cc)
 bed_tries_nothing s t c l k bed (inr x) = let a = x.1 in absurd (cc)
 
-pub trying_sweeps_nothing : (s : World) (t l c : ℕ) → IsTrying s t l → s.point t ≡ Sweeps c → ⊥
+pub trying_sweeps_nothing : (s : StateView) (t l c : ℕ) → IsTrying s t l → s.point t ≡ Sweeps c → ⊥
 trying_sweeps_nothing s t l c try sweeps = apart_tries_nothing s t l (Sweeps c) (sweeps_apart c) sweeps try
 
 -- t's point becomes p
-abbrev pub move : World → ℕ → Point → World
+abbrev pub move : StateView → ℕ → Point → StateView
 move s t p = record s { point = put s.point t p }
 
-pub trying_moved : (s : World) (t u k : ℕ) (p : Point) → u ≢ t → IsTrying s u k → IsTrying (move s t p) u k
+pub trying_moved : (s : StateView) (t u k : ℕ) (p : Point) → u ≢ t → IsTrying s u k → IsTrying (move s t p) u k
 trying_moved s t u k p ne (inl x) = inl (put_other s.point t p u ne ∙ x.0, x.1)
 trying_moved s t u k p ne (inr x) = inr (x.0, put_other s.point t p u ne ∙ x.1, x.2)
 
@@ -134,7 +134,7 @@ waits_moved point t u c p ne (l, inl e) = (l, inl (put_other point t p u ne ∙ 
 waits_moved point t u c p ne (l, inr e) = (l, inr (put_other point t p u ne ∙ e))
 
 -- a thread in no line, whom nobody needs where it stands, may go to any point
-pub move_kept : (s : World) (t : ℕ) (p : Point) → IsKept s → IsOutside s t →
+pub move_kept : (s : StateView) (t : ℕ) (p : Point) → IsKept s → IsOutside s t →
     ((k : ℕ) → s.locks.held k ≡ false → IsTrying s t k → ⊥) →
     ((c : ℕ) → s.conds.line c ≢ [] → s.point t ≡ Sweeps c → ⊥) → IsKept (move s t p)
 move_kept s t p h out tries sweeps = record {
@@ -163,14 +163,14 @@ move_kept s t p h out tries sweeps = record {
 }
 
 -- t gets the unheld lock l
-abbrev pub with_got : World → ℕ → ℕ → World
+abbrev pub with_got : StateView → ℕ → ℕ → StateView
 with_got s t l =
     record s { locks = record s.locks { held = put s.locks.held l true; has = put s.locks.has l (put (s.locks.has l) t true) } }
 
 pub held_before : (held : ℕ → Bool) (l k : ℕ) → put held l true k ≡ false → held k ≡ false
 held_before held l k = at_all (λ k b. (if b then true else held k) ≡ false → held k ≡ false) l (λ e. absurd (cc)) (λ k ne e. e) k
 
-pub got_kept : (s : World) (t l : ℕ) → IsKept s → s.locks.held l ≡ false → IsKept (with_got s t l)
+pub got_kept : (s : StateView) (t l : ℕ) → IsKept s → s.locks.held l ≡ false → IsKept (with_got s t l)
 got_kept s t l h unheld = record {
   sound = record {
     one_owner = owners_got s.locks.held s.locks.has l t h.sound.one_owner unheld;
@@ -184,7 +184,7 @@ got_kept s t l h unheld = record {
 }
 
 -- l is parked now
-pub marked_kept : (s : World) (l : ℕ) → IsKept s → IsKept (record s { locks = record s.locks { parked = put s.locks.parked l true } })
+pub marked_kept : (s : StateView) (l : ℕ) → IsKept s → IsKept (record s { locks = record s.locks { parked = put s.locks.parked l true } })
 marked_kept s l h = record {
   sound = record {
     one_owner = h.sound.one_owner;
@@ -200,7 +200,7 @@ marked_kept s l h = record {
 }
 
 -- t goes last in l's line
-abbrev pub with_queued : World → ℕ → ℕ → World
+abbrev pub with_queued : StateView → ℕ → ℕ → StateView
 with_queued s t l = record s { locks = record s.locks { line = put s.locks.line l (s.locks.line l ++ t ∷ []) } }
 
 -- who is in a line that t joined was there before, or is t
@@ -216,7 +216,7 @@ pub joined_once : (line : ℕ → List ℕ) (l t : ℕ) → ((k : ℕ) → IsOnc
 joined_once line l t once out =
     at_all (λ k b. IsOnce (if b then line l ++ t ∷ [] else line k)) l (once_push (line l) t (once l) out) (λ k ne. once k)
 
-pub queued_kept : (s : World) (t l : ℕ) → IsKept s → IsThread s t → s.point t ≡ Wants l → (Contains (s.locks.line l) t → ⊥) →
+pub queued_kept : (s : StateView) (t l : ℕ) → IsKept s → IsThread s t → s.point t ≡ Wants l → (Contains (s.locks.line l) t → ⊥) →
     s.locks.held l ≡ true → s.locks.parked l ≡ true → IsKept (with_queued s t l)
 queued_kept s t l h thread wants out held parked = record {
   sound = record {
@@ -249,18 +249,18 @@ queued_kept s t l h thread wants out held parked = record {
 }
 
 -- nobody is in the line of an unmarked lock
-pub unmarked_line : (s : World) (l : ℕ) → IsKept s → s.locks.parked l ≡ false → s.locks.line l ≡ []
+pub unmarked_line : (s : StateView) (l : ℕ) → IsKept s → s.locks.parked l ≡ false → s.locks.line l ≡ []
 unmarked_line s l h unparked = by_line (λ xs. xs ≡ []) (s.locks.line l) (λ e. refl) (λ u rest e.
     let marked : s.locks.parked l ≡ true =
     h.sound.sleepers_are_marked l u (subst (λ xs. Contains xs u) (sym e) (in_head u rest)) in
     absurd (cc))
 
 -- t lets the unparked lock l go
-abbrev pub with_freed : World → ℕ → ℕ → World
+abbrev pub with_freed : StateView → ℕ → ℕ → StateView
 with_freed s t l =
     record s { locks = record s.locks { held = put s.locks.held l false; has = put s.locks.has l (put (s.locks.has l) t false) } }
 
-pub freed_kept : (s : World) (t l : ℕ) → IsKept s → s.locks.has l t ≡ true → s.locks.parked l ≡ false → IsKept (with_freed s t l)
+pub freed_kept : (s : StateView) (t l : ℕ) → IsKept s → s.locks.has l t ≡ true → s.locks.parked l ≡ false → IsKept (with_freed s t l)
 freed_kept s t l h has_it unparked = record {
   sound = record {
     one_owner = owners_left s.locks.held s.locks.has l t h.sound.one_owner has_it;
@@ -277,7 +277,7 @@ freed_kept s t l h has_it unparked = record {
 }
 
 -- t passes l on where its line is empty
-abbrev pub with_passed_to_none : World → ℕ → ℕ → World
+abbrev pub with_passed_to_none : StateView → ℕ → ℕ → StateView
 with_passed_to_none s t l =
     record s {
       locks = record s.locks {
@@ -287,7 +287,7 @@ with_passed_to_none s t l =
       };
     }
 
-pub passed_to_none_kept : (s : World) (t l : ℕ) → IsKept s → s.locks.has l t ≡ true → s.locks.line l ≡ []
+pub passed_to_none_kept : (s : StateView) (t l : ℕ) → IsKept s → s.locks.has l t ≡ true → s.locks.line l ≡ []
     → IsKept (with_passed_to_none s t l)
 passed_to_none_kept s t l h has_it empty = record {
   sound = record {
@@ -325,14 +325,14 @@ pub left_out : (line : ℕ → List ℕ) (l u : ℕ) (rest : List ℕ) → line 
 left_out line l u rest is once inside =
     head_left u rest (subst IsOnce is (once l)) (subst (λ xs. Contains xs u) (put_same line l rest) inside)
 
-pub first_wants : (s : World) (l u : ℕ) (rest : List ℕ) → IsKept s → s.locks.line l ≡ u ∷ rest → s.point u ≡ Wants l
+pub first_wants : (s : StateView) (l u : ℕ) (rest : List ℕ) → IsKept s → s.locks.line l ≡ u ∷ rest → s.point u ≡ Wants l
 first_wants s l u rest h is = h.sound.one_line_each.wants l u (subst (λ xs. Contains xs u) (sym is) (in_head u rest))
 
-pub first_known : (s : World) (l u : ℕ) (rest : List ℕ) → IsKept s → s.locks.line l ≡ u ∷ rest → IsThread s u
+pub first_known : (s : StateView) (l u : ℕ) (rest : List ℕ) → IsKept s → s.locks.line l ≡ u ∷ rest → IsThread s u
 first_known s l u rest h is = h.known l u (subst (λ xs. Contains xs u) (sym is) (in_head u rest))
 
 -- the lock lines where l's first has left
-pub lines_left : (s : World) (l u : ℕ) (rest : List ℕ) → IsKept s → s.locks.line l ≡ u ∷ rest →
+pub lines_left : (s : StateView) (l u : ℕ) (rest : List ℕ) → IsKept s → s.locks.line l ≡ u ∷ rest →
     OneKeyEach (put s.locks.line l rest) s.conds.line s.point
 lines_left s l u rest h is = record {
   lock_once = left_once s.locks.line l u rest is h.sound.one_line_each.lock_once;
@@ -342,14 +342,14 @@ lines_left s l u rest h is = record {
 }
 
 -- who tries to get another lock than l still does after a change of l's line
-pub trying_beside : (s : World) (l k u : ℕ) (xs : List ℕ) → k ≢ l → IsTrying s u k →
+pub trying_beside : (s : StateView) (l k u : ℕ) (xs : List ℕ) → k ≢ l → IsTrying s u k →
     IsTrying (record s { locks = record s.locks { line = put s.locks.line l xs } }) u k
 trying_beside s l k u xs ne (inl x) =
     inl (x.0, subst (λ ys. Contains ys u → ⊥) (sym (put_other s.locks.line l xs k ne)) x.1)
 trying_beside s l k u xs ne (inr x) = inr x
 
 -- t passes l on to nobody, and takes its first u from the line
-abbrev pub with_passed : World → ℕ → ℕ → Bool → List ℕ → World
+abbrev pub with_passed : StateView → ℕ → ℕ → Bool → List ℕ → StateView
 with_passed s t l more rest =
     record s {
       locks = record s.locks {
@@ -360,7 +360,7 @@ with_passed s t l more rest =
       };
     }
 
-pub passed_kept : (s : World) (t l : ℕ) (more : Bool) (u : ℕ) (rest : List ℕ) → IsKept s → s.locks.has l t ≡ true →
+pub passed_kept : (s : StateView) (t l : ℕ) (more : Bool) (u : ℕ) (rest : List ℕ) → IsKept s → s.locks.has l t ≡ true →
     s.locks.line l ≡ u ∷ rest → SaysMore (u ∷ rest) more → IsKept (with_passed s t l more rest)
 passed_kept s t l more u rest h has_it is says = record {
   sound = record {
@@ -392,7 +392,7 @@ passed_kept s t l more u rest h has_it is says = record {
 }
 
 -- t hands l to the first of its line
-abbrev pub with_handed : World → ℕ → ℕ → ℕ → List ℕ → World
+abbrev pub with_handed : StateView → ℕ → ℕ → ℕ → List ℕ → StateView
 with_handed s t l u rest =
     record s {
       locks = record s.locks {
@@ -401,7 +401,7 @@ with_handed s t l u rest =
       };
     }
 
-pub handed_kept : (s : World) (t l u : ℕ) (rest : List ℕ) → IsKept s → s.locks.has l t ≡ true →
+pub handed_kept : (s : StateView) (t l u : ℕ) (rest : List ℕ) → IsKept s → s.locks.has l t ≡ true →
     s.locks.line l ≡ u ∷ rest → IsKept (with_handed s t l u rest)
 handed_kept s t l u rest h has_it is = record {
   sound = record {
@@ -424,7 +424,7 @@ handed_kept s t l u rest h has_it is = record {
 }
 
 -- a thread at the bed of c rests on c once it let go
-pub rests_now : (s : World) (t c l d : ℕ) → s.point t ≡ Bed c l → Waits s.point d t → (u : ℕ) → u ≡ t →
+pub rests_now : (s : StateView) (t c l d : ℕ) → s.point t ≡ Bed c l → Waits s.point d t → (u : ℕ) → u ≡ t →
     Waits (put s.point t (Rest c l)) d u
 rests_now s t c l d bed (k, inl e) u is =
     let same : c ≡ d = cc in
@@ -432,7 +432,7 @@ rests_now s t c l d bed (k, inl e) u is =
 rests_now s t c l d bed (k, inr e) u is = absurd (cc)
 
 -- t, which may let a lock go, stands where it stands then
-pub let_go_kept : (s : World) (t l : ℕ) → IsKept s → MayLetGo s t l → IsKept (record s { point = let_go s.point t })
+pub let_go_kept : (s : StateView) (t l : ℕ) → IsKept s → MayLetGo s t l → IsKept (record s { point = let_go s.point t })
 let_go_kept s t l h (inl calm) =
     subst (λ p. IsKept (move s t p)) (ap released (sym calm))
     (move_kept s t Calm h (apart_outside s t Calm h calm_apart calm) (λ k clear try. apart_tries_nothing s t k Calm calm_apart calm try)
@@ -468,7 +468,7 @@ let_go_kept s t l h (inr (c, bed)) = subst (λ p. IsKept (move s t p)) (ap relea
 })
 
 -- who tries to get a lock still does where another, at c's bed, joined c's line
-pub trying_enlisted : (s : World) (t c l u k : ℕ) → s.point t ≡ Bed c l → IsTrying s u k →
+pub trying_enlisted : (s : StateView) (t c l u k : ℕ) → s.point t ≡ Bed c l → IsTrying s u k →
     IsTrying (record s { conds = enlisted s.conds t c }) u k
 trying_enlisted s t c l u k bed (inl x) = inl x
 trying_enlisted s t c l u k bed (inr x) =
@@ -482,10 +482,10 @@ trying_enlisted s t c l u k bed (inr x) =
     )
 
 -- t goes last in c's line and sets its flag
-abbrev pub with_enlisted : World → ℕ → ℕ → World
+abbrev pub with_enlisted : StateView → ℕ → ℕ → StateView
 with_enlisted s t c = record s { conds = enlisted s.conds t c }
 
-pub enlisted_kept : (s : World) (t c l : ℕ) → IsKept s → IsThread s t → s.point t ≡ Bed c l → IsOutside s t →
+pub enlisted_kept : (s : StateView) (t c l : ℕ) → IsKept s → IsThread s t → s.point t ≡ Bed c l → IsOutside s t →
     IsKept (with_enlisted s t c)
 enlisted_kept s t c l h thread bed out = record {
   sound = record {
@@ -516,13 +516,14 @@ enlisted_kept s t c l h thread bed out = record {
 }
 
 -- who tries to get a lock still does where lines of conditions only lost threads
-pub trying_shrunk : (s : World) (flag : ℕ → Bool) (line : ℕ → List ℕ) → ((d u : ℕ) → Contains (line d) u → Contains (s.conds.line d) u) →
+pub trying_shrunk : (s : StateView) (flag : ℕ → Bool) (line : ℕ → List ℕ) → ((d u : ℕ) → Contains (line d) u
+    → Contains (s.conds.line d) u) →
     (u k : ℕ) → IsTrying s u k → IsTrying (record s { conds = record { flag = flag; line = line } }) u k
 trying_shrunk s flag line less u k (inl x) = inl x
 trying_shrunk s flag line less u k (inr x) = inr (x.0, x.1, λ inside. x.2 (less x.0 u inside))
 
 -- lines of conditions that only lost threads, each without a sweeper only where its flag is set or its line empty
-pub conds_kept : (s : World) (flag : ℕ → Bool) (line : ℕ → List ℕ) → IsKept s →
+pub conds_kept : (s : StateView) (flag : ℕ → Bool) (line : ℕ → List ℕ) → IsKept s →
     ((d u : ℕ) → Contains (line d) u → Contains (s.conds.line d) u) → ((d : ℕ) → IsOnce (line d)) →
     ((d : ℕ) → flag d ≡ false → line d ≢ [] → (t : ℕ) × IsThread s t × (s.point t ≡ Sweeps d)) →
     IsKept (record s { conds = record { flag = flag; line = line } })
@@ -546,7 +547,7 @@ conds_kept s flag line h less once sweeps = record {
 }
 
 -- the first n of c's line leave it, and each flag is clear only where it may be
-pub dequeued_kept : (s : World) (flag : ℕ → Bool) (c n : ℕ) → IsKept s →
+pub dequeued_kept : (s : StateView) (flag : ℕ → Bool) (c n : ℕ) → IsKept s →
     ((d : ℕ) → flag d ≡ false → put s.conds.line c (drop n (s.conds.line c)) d ≢ [] → (t : ℕ) × IsThread s t × (s.point t ≡ Sweeps d)) →
     IsKept (record s { conds = record (dequeued s.conds c n) { flag = flag } })
 dequeued_kept s flag c n h =
@@ -565,7 +566,7 @@ flag_left flag more n (u ∷ rest) says clear some = elim (and_cases flag more c
   | inr e ↦ let said : more ≡ true = says (some_behind n (u ∷ rest) some) in absurd (cc)
 ]
 
-pub called_kept : (s : World) (c n : ℕ) (more : Bool) → IsKept s → SaysMoreBehind n (s.conds.line c) more →
+pub called_kept : (s : StateView) (c n : ℕ) (more : Bool) → IsKept s → SaysMoreBehind n (s.conds.line c) more →
     IsKept (record s { conds = called s.conds c n more })
 called_kept s c n more h says =
     let xs : List ℕ = s.conds.line c in
@@ -577,14 +578,14 @@ called_kept s c n more h says =
     (λ none. some (ap (drop n) none ∙ drop-nil n)))
     (λ d ne clear some. h.sound.someone_sweeps d clear some))
 
-pub lowered_kept : (s : World) (t c : ℕ) → IsKept s → IsThread s t → s.point t ≡ Sweeps c →
+pub lowered_kept : (s : StateView) (t c : ℕ) → IsKept s → IsThread s t → s.point t ≡ Sweeps c →
     IsKept (record s { conds = record s.conds { flag = put s.conds.flag c false } })
 lowered_kept s t c h thread at =
     conds_kept s (put s.conds.flag c false) s.conds.line h (λ d u inside. inside) h.sound.one_line_each.cond_once
     (at_all (λ d b. (if b then false else s.conds.flag d) ≡ false → s.conds.line d ≢ [] → (t : ℕ) × IsThread s t × (s.point t ≡ Sweeps d)) c
     (λ clear some. (t, thread, at)) (λ d ne clear some. h.sound.someone_sweeps d clear some))
 
-pub swept_kept : (s : World) (c : ℕ) → IsKept s → IsKept (record s { conds = swept s.conds c })
+pub swept_kept : (s : StateView) (c : ℕ) → IsKept s → IsKept (record s { conds = swept s.conds c })
 swept_kept s c h =
     let xs : List ℕ = s.conds.line c in
     dequeued_kept s s.conds.flag c (length xs) h

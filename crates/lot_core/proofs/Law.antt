@@ -9,7 +9,7 @@ use Rattle.lot_events.specs.declared.events.Event.{Event}
 use Rattle.lot_events.specs.declared.events.Event.TheVariants.{Try, Take, Mark, Park, Free, Pass, Enlist, Look, Call, Lower, Sweep, SemTake}
 use Rattle.lot_events.specs.declared.events.Event.TheVariants.{SemMark, SemPark, SemFree, SemPass, SemClear}
 use Rattle.lot_core.specs.Rows.{row_from}
-use Rattle.lot_core.specs.World.{World, put, opening_with}
+use Rattle.lot_core.specs.Model.{StateView, put, opening_with}
 use Rattle.lot_core.specs.Steps.{IsThread, IsTrying, IsSeeking, MayLetGo, SaysMore, Allowed, after, Run, after_all, IsReached, passed_line}
 use Rattle.lot_core.specs.Steps.{swept, handed, let_go}
 use Rattle.lot_core.specs.Steps.{with_sem_parked, seeker_queued, permit_taken, permit_freed, permit_passed}
@@ -28,25 +28,25 @@ use Rattle.lot_core.proofs.Kept.{with_freed, freed_kept, with_passed_to_none, pa
 use Rattle.lot_core.proofs.Kept.{handed_kept}
 use Rattle.lot_core.proofs.Kept.{left_out, first_wants, let_go_kept, enlisted_kept, called_kept, lowered_kept, swept_kept}
 
-pub try_kept : (s : World) (t l : ℕ) → IsKept s → IsKept (after s (Try t l))
+pub try_kept : (s : StateView) (t l : ℕ) → IsKept s → IsKept (after s (Try t l))
 try_kept s t l h =
     by_bit (λ b. IsKept (record s { locks = if b then s.locks else (with_got s t l).locks })) (s.locks.held l)
     (λ held. h) (λ unheld. got_kept s t l h unheld)
 
 -- who may take l is in no line, tries no other lock and sweeps nothing
-pub taker_outside : (s : World) (t l : ℕ) → IsKept s → ((s.point t ≡ Calm) ⊎ IsTrying s t l) → IsOutside s t
+pub taker_outside : (s : StateView) (t l : ℕ) → IsKept s → ((s.point t ≡ Calm) ⊎ IsTrying s t l) → IsOutside s t
 taker_outside s t l h (inl calm) = apart_outside s t Calm h calm_apart calm
 taker_outside s t l h (inr try) = outside_trying s t l h try
 
-pub taker_tries : (s : World) (t l k : ℕ) → ((s.point t ≡ Calm) ⊎ IsTrying s t l) → IsTrying s t k → k ≡ l
+pub taker_tries : (s : StateView) (t l k : ℕ) → ((s.point t ≡ Calm) ⊎ IsTrying s t l) → IsTrying s t k → k ≡ l
 taker_tries s t l k (inl calm) try = absurd (apart_tries_nothing s t k Calm calm_apart calm try)
 taker_tries s t l k (inr tries) try = trying_one s t l k tries try
 
-pub taker_sweeps : (s : World) (t l c : ℕ) → ((s.point t ≡ Calm) ⊎ IsTrying s t l) → s.point t ≡ Sweeps c → ⊥
+pub taker_sweeps : (s : StateView) (t l c : ℕ) → ((s.point t ≡ Calm) ⊎ IsTrying s t l) → s.point t ≡ Sweeps c → ⊥
 taker_sweeps s t l c (inl calm) sweeps = absurd (cc)
 taker_sweeps s t l c (inr tries) sweeps = trying_sweeps_nothing s t l c tries sweeps
 
-pub take_kept : (s : World) (t l : ℕ) → IsKept s → ((s.point t ≡ Calm) ⊎ IsTrying s t l) → IsKept (after s (Take t l))
+pub take_kept : (s : StateView) (t l : ℕ) → IsKept s → ((s.point t ≡ Calm) ⊎ IsTrying s t l) → IsKept (after s (Take t l))
 take_kept s t l h may =
     by_bit (λ b. IsKept (record s {
       locks = if b then s.locks else (with_got s t l).locks;
@@ -62,14 +62,14 @@ take_kept s t l h may =
     let held : put s.locks.held l true k ≡ true = ap (put s.locks.held l true) same ∙ put_same s.locks.held l true in absurd (cc))
     (λ c some at. taker_sweeps s t l c may at))
 
-pub park_kept : (s : World) (t l : ℕ) → IsKept s → Allowed s (Park t l) → IsKept (after s (Park t l))
+pub park_kept : (s : StateView) (t l : ℕ) → IsKept s → Allowed s (Park t l) → IsKept (after s (Park t l))
 park_kept s t l h ok =
     by_bit (λ b. IsKept (record s { locks = if b then (with_queued s t l).locks else s.locks })) (s.locks.held l && s.locks.parked l)
     (λ both. let parts = and_parts (s.locks.held l) (s.locks.parked l) both in
     queued_kept s t l h ok.0 ok.2 ok.3 parts.0 parts.1)
     (λ not_both. h)
 
-pub free_kept : (s : World) (t l : ℕ) → IsKept s → Allowed s (Free t l) → IsKept (after s (Free t l))
+pub free_kept : (s : StateView) (t l : ℕ) → IsKept s → Allowed s (Free t l) → IsKept (after s (Free t l))
 free_kept s t l h ok =
     by_bit (λ b. IsKept (record s {
       locks = if b then s.locks else (with_freed s t l).locks;
@@ -79,19 +79,19 @@ free_kept s t l h ok =
     (λ unparked. let_go_kept (with_freed s t l) t l (freed_kept s t l h ok.2 unparked) ok.3)
 
 -- t and the first of the line of a lock that t may let go are two threads
-pub first_is_other : (s : World) (t l k u : ℕ) → MayLetGo s t l → s.point u ≡ Wants k → u ≢ t
+pub first_is_other : (s : StateView) (t l k u : ℕ) → MayLetGo s t l → s.point u ≡ Wants k → u ≢ t
 first_is_other s t l k u (inl calm) wants e = let at : s.point t ≡ Wants k = subst (λ w. s.point w ≡ Wants k) e wants in absurd (cc)
 first_is_other s t l k u (inr (c, bed)) wants e = let at : s.point t ≡ Wants k = subst (λ w. s.point w ≡ Wants k) e wants in absurd (cc)
 
 -- a handoff: t lets l go, and the first of the line is calm
-pub hand_over_kept : (s : World) (t l u : ℕ) (rest : List ℕ) → IsKept s → s.locks.has l t ≡ true → MayLetGo s t l →
+pub hand_over_kept : (s : StateView) (t l u : ℕ) (rest : List ℕ) → IsKept s → s.locks.has l t ≡ true → MayLetGo s t l →
     s.locks.line l ≡ u ∷ rest →
     IsKept (record s { locks = (with_handed s t l u rest).locks; point = put (let_go s.point t) u Calm })
 hand_over_kept s t l u rest h has_it may is =
     let other : u ≢ t = first_is_other s t l l u may (first_wants s l u rest h is) in
     let wants : let_go s.point t u ≡ Wants l = put_other s.point t _ u other ∙ first_wants s l u rest h is in
     let freed = let_go_kept (with_handed s t l u rest) t l (handed_kept s t l u rest h has_it is) may in
-    let next : World = record s { locks = (with_handed s t l u rest).locks; point = let_go s.point t } in
+    let next : StateView = record s { locks = (with_handed s t l u rest).locks; point = let_go s.point t } in
     move_kept next u Calm freed
     (outside_wants next u l freed wants (left_out s.locks.line l u rest is h.sound.one_line_each.lock_once))
     (λ k clear try. elim try [
@@ -105,7 +105,8 @@ hand_over_kept s t l u rest h has_it may is =
     ])
     (λ c some at. let sweeps : let_go s.point t u ≡ Sweeps c = at in absurd (cc))
 
-pub pass_kept : (s : World) (t l : ℕ) (fair more : Bool) → IsKept s → Allowed s (Pass t l fair more) → IsKept (after s (Pass t l fair more))
+pub pass_kept : (s : StateView) (t l : ℕ) (fair more : Bool) → IsKept s → Allowed s (Pass t l fair more)
+    → IsKept (after s (Pass t l fair more))
 pass_kept s t l true more h ok =
     by_line (λ xs. IsKept (record s { locks = passed_line s.locks t l true more xs; point = handed (let_go s.point t) xs }))
     (s.locks.line l)
@@ -117,23 +118,23 @@ pass_kept s t l false more h ok =
     (λ u rest is. let_go_kept (with_passed s t l more rest) t l
     (passed_kept s t l more u rest h ok.2 is (subst (λ xs. SaysMore xs more) is (ok.5 refl))) ok.4)
 
-pub enlist_kept : (s : World) (t c l : ℕ) → IsKept s → IsThread s t → s.point t ≡ Calm → IsKept (after s (Enlist t c l))
+pub enlist_kept : (s : StateView) (t c l : ℕ) → IsKept s → IsThread s t → s.point t ≡ Calm → IsKept (after s (Enlist t c l))
 enlist_kept s t c l h thread calm =
     let out : IsOutside s t = apart_outside s t Calm h calm_apart calm in
     let at_bed = move_kept s t (Bed c l) h out (λ k clear try. apart_tries_nothing s t k Calm calm_apart calm try)
     (λ d some e. absurd (cc)) in
     enlisted_kept (move s t (Bed c l)) t c l at_bed thread (put_same s.point t (Bed c l)) (record { locks = out.locks; conds = out.conds })
 
-pub lower_kept : (s : World) (t c : ℕ) → IsKept s → IsThread s t → s.point t ≡ Calm → IsKept (after s (Lower t c))
+pub lower_kept : (s : StateView) (t c : ℕ) → IsKept s → IsThread s t → s.point t ≡ Calm → IsKept (after s (Lower t c))
 lower_kept s t c h thread calm =
     lowered_kept (move s t (Sweeps c)) t c
     (move_kept s t (Sweeps c) h (apart_outside s t Calm h calm_apart calm)
     (λ k clear try. apart_tries_nothing s t k Calm calm_apart calm try) (λ d some e. absurd (cc)))
     thread (put_same s.point t (Sweeps c))
 
-pub sweep_kept : (s : World) (t c : ℕ) → IsKept s → s.point t ≡ Sweeps c → IsKept (after s (Sweep t c))
+pub sweep_kept : (s : StateView) (t c : ℕ) → IsKept s → s.point t ≡ Sweeps c → IsKept (after s (Sweep t c))
 sweep_kept s t c h sweeps =
-    let next : World = record s { conds = swept s.conds c } in
+    let next : StateView = record s { conds = swept s.conds c } in
     let empty : IsKept next = swept_kept s c h in
     move_kept next t Calm empty (apart_outside next t (Sweeps c) empty (sweeps_apart c) sweeps)
     (λ k clear try. apart_tries_nothing next t k (Sweeps c) (sweeps_apart c) sweeps try)
@@ -142,7 +143,7 @@ sweep_kept s t c h sweeps =
     some (ap next.conds.line same ∙ put_same s.conds.line c _ ∙ drop-length (s.conds.line c)))
 
 -- t, which seeks what p says, goes to another point that names no lock
-pub sem_take_kept : (s : World) (t k : ℕ) → IsKept s → ((s.point t ≡ Calm) ⊎ IsSeeking s t k) → IsKept (after s (SemTake t k))
+pub sem_take_kept : (s : StateView) (t k : ℕ) → IsKept s → ((s.point t ≡ Calm) ⊎ IsSeeking s t k) → IsKept (after s (SemTake t k))
 sem_take_kept s t k h may = sems_kept (move s t _) (permit_taken s.sems t k) (from may _)
   where
     goes : (p q : Point) → IsApart p → ((c : ℕ) → p ≢ Sweeps c) → s.point t ≡ p → IsKept (move s t q)
@@ -154,7 +155,7 @@ sem_take_kept s t k h may = sems_kept (move s t _) (permit_taken s.sems t k) (fr
     from (inr x) q = goes (Seeks k) q (seeks_apart k) (λ c e. absurd (cc)) x.0
 
 -- of locks and conditions
-pub keys_kept : (s : World) (e : Event) → IsKept s → Allowed s e → IsKept (after s e)
+pub keys_kept : (s : StateView) (e : Event) → IsKept s → Allowed s e → IsKept (after s e)
 keys_kept s (Try t l) h ok = try_kept s t l h
 keys_kept s (Take t l) h ok = take_kept s t l h ok.2
 keys_kept s (Mark t l) h ok = marked_kept s l h
@@ -174,7 +175,7 @@ keys_kept s (SemPass t k more) h ok = sems_kept s (permit_passed s.sems t k more
 keys_kept s (SemClear t k) h ok = sems_kept s (with_sem_parked s.sems k false) h
 
 -- no event changes how many threads and permits there are
-pub same_numbers : (s : World) (e : Event) → ((after s e).threads ≡ s.threads) × ((after s e).permits ≡ s.permits)
+pub same_numbers : (s : StateView) (e : Event) → ((after s e).threads ≡ s.threads) × ((after s e).permits ≡ s.permits)
 same_numbers s (Try t l) = (refl, refl)
 same_numbers s (Take t l) = (refl, refl)
 same_numbers s (Mark t l) = (refl, refl)
@@ -194,7 +195,7 @@ same_numbers s (SemPass t k more) = (refl, refl)
 same_numbers s (SemClear t k) = (refl, refl)
 
 -- a sound state, in its two halves
-keys_sound : (s : World) → IsSound s → IsKept s
+keys_sound : (s : StateView) → IsSound s → IsKept s
 keys_sound s h = record {
   sound = record {
     one_owner = h.one_owner;
@@ -212,7 +213,7 @@ keys_sound s h = record {
   waiting = λ c t inside. (h.one_line_each.waits c t inside).0;
 }
 
-pub sems_sound : (s : World) → IsSound s → IsKeptPart s.threads s.permits (semaphore_part s)
+pub sems_sound : (s : StateView) → IsSound s → IsKeptPart s.threads s.permits (semaphore_part s)
 sems_sound s h k = record {
   conserved = h.permits_conserved k;
   marked = h.seekers_are_marked k;
@@ -221,7 +222,7 @@ sems_sound s h k = record {
   named = λ t inside. let is = h.one_line_each.seeks k t inside in (is.0, ap sought is.1);
 }
 
-both_sound : (s : World) → IsKept s → IsKeptPart s.threads s.permits (semaphore_part s) → IsSound s
+both_sound : (s : StateView) → IsKept s → IsKeptPart s.threads s.permits (semaphore_part s) → IsSound s
 both_sound s keys sems = record {
   one_owner = keys.sound.one_owner;
   sleepers_are_marked = keys.sound.sleepers_are_marked;
@@ -241,7 +242,7 @@ both_sound s keys sems = record {
 }
 
 -- the semaphores' half
-sems_kept_by : (s : World) (e : Event) → IsSound s → Allowed s e →
+sems_kept_by : (s : StateView) (e : Event) → IsSound s → Allowed s e →
     IsKeptPart (after s e).threads (after s e).permits (semaphore_part (after s e))
 sems_kept_by s e h ok =
     let numbers = same_numbers s e in
@@ -252,10 +253,10 @@ sems_kept_by s e h ok =
     (subst (IsKeptPart s.threads s.permits) (sym follows) (part_after s e (sems_sound s h) ok)))
 
 -- an event that is allowed keeps a sound state sound, and so does a run
-pub sound_kept : (s : World) (e : Event) → IsSound s → Allowed s e → IsSound (after s e)
+pub sound_kept : (s : StateView) (e : Event) → IsSound s → Allowed s e → IsSound (after s e)
 sound_kept s e h ok = both_sound (after s e) (keys_kept s e (keys_sound s h) ok) (sems_kept_by s e h ok)
 
-pub run_kept : (s : World) (events : List Event) → IsSound s → Run s events → IsSound (after_all s events)
+pub run_kept : (s : StateView) (events : List Event) → IsSound s → Run s events → IsSound (after_all s events)
 run_kept s [] h run = h
 run_kept s (e ∷ events) h run = run_kept (after s e) events (sound_kept s e h run.0) run.1
 
@@ -285,16 +286,16 @@ runs_are_sound threads locks conds permits events run =
     run_kept (opening_with threads locks conds permits) events (opening_sound threads locks conds permits) run
 
 -- so each state that a run reaches is sound
-pub reached_sound : (s : World) → IsReached s → IsSound s
+pub reached_sound : (s : StateView) → IsReached s → IsSound s
 reached_sound s h = subst IsSound (sym h.ends) (runs_are_sound h.threads h.locks h.conds h.permits h.events h.run)
 
 pub opening_reached : (threads locks conds : ℕ) (permits : List ℕ) → IsReached (opening_with threads locks conds permits)
 opening_reached threads locks conds permits =
     record { threads = threads; locks = locks; conds = conds; permits = permits; events = []; run = tt; ends = refl }
 
-pub event_kept : (s : World) (e : Event) → IsReached s → Allowed s e → IsReached (after s e)
+pub event_kept : (s : StateView) (e : Event) → IsReached s → Allowed s e → IsReached (after s e)
 event_kept s e h ok =
-    let start : World = opening_with h.threads h.locks h.conds h.permits in
+    let start : StateView = opening_with h.threads h.locks h.conds h.permits in
     record {
       threads = h.threads;
       locks = h.locks;
@@ -302,5 +303,5 @@ event_kept s e h ok =
       permits = h.permits;
       events = h.events ++ e ∷ [];
       run = run_push start h.events e h.run (subst (λ w. Allowed w e) h.ends ok);
-      ends = ap (λ (w : World). after w e) h.ends ∙ sym (after_push start h.events e);
+      ends = ap (λ (w : StateView). after w e) h.ends ∙ sym (after_push start h.events e);
     }

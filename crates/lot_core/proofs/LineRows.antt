@@ -11,7 +11,7 @@ use Rattle.std.specs.List.{Contains}
 use Rattle.std.specs.Option.{option_copied}
 use Rattle.lot_core.proofs.Members.{in_none}
 use Rattle.lot_core.specs.declared.lines.Lines.{Lines}
-use Rattle.lot_core.specs.World.{put}
+use Rattle.lot_core.specs.Model.{put}
 use Rattle.lot_core.specs.Steps.{first}
 use Rattle.lot_core.specs.Rows.{row_from}
 use Rattle.lot_core.proofs.Put.{put_again, put_put, put_same}

@@ -8,7 +8,7 @@ use Rattle.std.proofs.lemmas.List.Elements.{Contains-push_cases}
 use Rattle.lot_events.specs.declared.events.Event.{Event}
 use Rattle.lot_events.specs.declared.events.Event.TheVariants.{Try, Take, Mark, Park, Free, Pass}
 use Rattle.lot_events.specs.declared.events.Seen.{Seen}
-use Rattle.lot_core.specs.World.{put, opening_with}
+use Rattle.lot_core.specs.Model.{put, opening_with}
 use Rattle.lot_core.specs.Steps.{SaysMore, passed_line}
 use Rattle.lot_core.specs.Sound.{IsOnce, IsSoundLockPart}
 use Rattle.lot_core.specs.Parts.{LockPart, lock_part, MayTry, LockAllowed, lock_part_after, LockStep, served}

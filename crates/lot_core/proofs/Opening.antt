@@ -3,14 +3,14 @@ use Rattle.std.proofs.Common.{◌≡◌, ◌+◌, ℕ, Bool, false, List, Option
 use Rattle.lot_events.specs.declared.events.Point.{Point}
 use Rattle.lot_events.specs.declared.events.Point.TheVariants.{Calm}
 use Rattle.lot_core.specs.declared.lines.Lines.{Lines}
-use Rattle.lot_core.specs.World.{World, Semaphores, opening_with, none_taken}
+use Rattle.lot_core.specs.Model.{StateView, Semaphores, opening_with, none_taken}
 use Rattle.lot_core.specs.Rows.{told, row, row_from}
 use Rattle.lot_core.specs.Lines.{line_of, no_lines}
 use Rattle.lot_core.specs.State.{owns}
 use Rattle.lot_core.proofs.Rows.{row_none, row_from_none}
 
 -- the locks and conditions of an opening state
-abbrev pub built : ℕ → ℕ → ℕ → List ℕ → (ℕ → Option ℕ) → (ℕ → Bool) → (ℕ → List ℕ) → (ℕ → Bool) → (ℕ → List ℕ) → (ℕ → Point) → World
+abbrev pub built : ℕ → ℕ → ℕ → List ℕ → (ℕ → Option ℕ) → (ℕ → Bool) → (ℕ → List ℕ) → (ℕ → Bool) → (ℕ → List ℕ) → (ℕ → Point) → StateView
 built threads locks conds permits owner parked lock_line flag cond_line point =
     record (opening_with threads locks conds permits) {
       locks = record { held = told is_some owner; parked = parked; line = lock_line; has = told owns owner };
@@ -56,10 +56,11 @@ pub opened_with : (threads locks conds : ℕ) (permits : List ℕ) (owners : Lis
     } ≡ opening_with threads locks conds permits
 opened_with threads locks conds permits owners bits flags lock_lines cond_lines points n p z no_owner no_bit no_sleeper no_flag no_waiter
     all_calm count numbers sems =
-    let w : World = built threads locks conds permits (row None owners) (row false bits) (line_of lock_lines) (row_from false locks flags)
+    let w : StateView = built threads locks conds permits (row None owners) (row false bits) (line_of lock_lines)
+    (row_from false locks flags)
     (line_of cond_lines) (row Calm points) in
-    ap (λ (m : ℕ). let v : World = record w { sem_count = m; permits = p; sems = z } in v) count
-    ∙ ap (λ (q : ℕ → ℕ). let v : World = record w { permits = q; sems = z } in v) numbers
-    ∙ ap (λ (y : Semaphores). let v : World = record w { sems = y } in v) sems
+    ap (λ (m : ℕ). let v : StateView = record w { sem_count = m; permits = p; sems = z } in v) count
+    ∙ ap (λ (q : ℕ → ℕ). let v : StateView = record w { permits = q; sems = z } in v) numbers
+    ∙ ap (λ (y : Semaphores). let v : StateView = record w { sems = y } in v) sems
     ∙ opened threads locks conds permits owners bits flags lock_lines cond_lines points no_owner no_bit no_sleeper
     no_flag no_waiter all_calm

@@ -1,7 +1,7 @@
 -- One owner: what getting a lock, letting it go and handing it over keep.
 use Rattle.std.proofs.Common.{◌≡◌, ◌≢◌, ◌↔◌, ℕ, Bool, true, false, refl, subst, sym, ◌∙◌}
 use Rattle.std.specs.Prelude.{if◌then◌else◌}
-use Rattle.lot_core.specs.World.{put}
+use Rattle.lot_core.specs.Model.{put}
 use Rattle.lot_core.specs.Sound.{OneOwner}
 use Rattle.lot_core.proofs.Put.{at_all, put_same}
 

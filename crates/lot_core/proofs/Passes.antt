@@ -4,10 +4,10 @@ use Rattle.std.specs.Prelude.{◌==◌, ◌&&◌, if◌then◌else◌}
 use Rattle.std.proofs.lemmas.Bool.{eqb-true, ne_eqb}
 use mathlib.Core.Path.{fun_ext}
 use Rattle.lot_core.specs.declared.state.State.{State}
-use Rattle.lot_core.specs.World.{World, Locks, put}
+use Rattle.lot_core.specs.Model.{StateView, Locks, put}
 use Rattle.lot_core.specs.Steps.{first, passed, passed_line}
 use Rattle.lot_core.specs.Rows.{row}
-use Rattle.lot_core.specs.State.{world_of, owns, with_owner, with_parked, with_lock_line}
+use Rattle.lot_core.specs.State.{state_of, owns, with_owner, with_parked, with_lock_line}
 use Rattle.lot_core.proofs.Put.{by_bit, at_all, put_again}
 
 -- who alone has the lock leaves it to nobody
@@ -54,38 +54,38 @@ leaves_line a t l true more (u ∷ rest) is none = let e = none refl in absurd (
 leaves_line a t l false more (u ∷ rest) is none = refl
 
 -- the owner's word of a lock that t has
-pub row_owned : (s : State) (l : ℕ) → (world_of s).locks.has l ≡ owns (row None s.owners.items l)
+pub row_owned : (s : State) (l : ℕ) → (state_of s).locks.has l ≡ owns (row None s.owners.items l)
 row_owned s l = refl
 
 -- a fair pass to a first that is there
-pub pass_hands : (s : State) (x y : World) (t l : ℕ) (fair more : Bool) (o : Option ℕ) →
-    x ≡ with_lock_line (world_of s) l (drop 1 ((world_of s).locks.line l)) → y ≡ with_owner x l o →
-    o ≡ first ((world_of s).locks.line l) → fair ≡ true → is_some o ≡ true → (world_of s).locks.has l t ≡ true →
-    y ≡ record (world_of s) { locks = passed (world_of s).locks t l fair more }
+pub pass_hands : (s : State) (x y : StateView) (t l : ℕ) (fair more : Bool) (o : Option ℕ) →
+    x ≡ with_lock_line (state_of s) l (drop 1 ((state_of s).locks.line l)) → y ≡ with_owner x l o →
+    o ≡ first ((state_of s).locks.line l) → fair ≡ true → is_some o ≡ true → (state_of s).locks.has l t ≡ true →
+    y ≡ record (state_of s) { locks = passed (state_of s).locks t l fair more }
 pass_hands s x y t l fair more o taken owned is is_fair some has =
-    let w = world_of s in
-    owned ∙ ap (λ (v : World). with_owner v l o) taken
+    let w = state_of s in
+    owned ∙ ap (λ (v : StateView). with_owner v l o) taken
     ∙ ap (λ (p : Option ℕ). with_owner (with_lock_line w l (drop 1 (w.locks.line l))) l p) is
-    ∙ ap (λ (a : Locks). let v : World = record w { locks = a } in v)
+    ∙ ap (λ (a : Locks). let v : StateView = record w { locks = a } in v)
     (hands_line w.locks (row None s.owners.items l) t l more (w.locks.line l) refl (owned_held (row None s.owners.items l) t has) has
     (ap (is_some {T = ℕ}) (sym is) ∙ some)
     ∙ ap (λ (f : Bool). passed w.locks t l f more) (sym is_fair))
 
 -- a pass that hands the lock to nobody
-pub pass_leaves : (s : State) (x y z : World) (t l : ℕ) (fair more said : Bool) (o : Option ℕ) →
-    x ≡ with_lock_line (world_of s) l (drop 1 ((world_of s).locks.line l)) → y ≡ with_owner x l None → z ≡ with_parked y l said →
-    o ≡ first ((world_of s).locks.line l) → said ≡ (is_some o && more) → (fair ≡ true → is_some o ≡ false)
-    → (world_of s).locks.has l t ≡ true →
-    z ≡ record (world_of s) { locks = passed (world_of s).locks t l fair more }
+pub pass_leaves : (s : State) (x y z : StateView) (t l : ℕ) (fair more said : Bool) (o : Option ℕ) →
+    x ≡ with_lock_line (state_of s) l (drop 1 ((state_of s).locks.line l)) → y ≡ with_owner x l None → z ≡ with_parked y l said →
+    o ≡ first ((state_of s).locks.line l) → said ≡ (is_some o && more) → (fair ≡ true → is_some o ≡ false)
+    → (state_of s).locks.has l t ≡ true →
+    z ≡ record (state_of s) { locks = passed (state_of s).locks t l fair more }
 pass_leaves s x y z t l fair more said o taken owned parked is says none has =
-    let w = world_of s in
-    parked ∙ ap (λ (v : World). with_parked v l said) (owned ∙ ap (λ (v : World). with_owner v l None) taken)
+    let w = state_of s in
+    parked ∙ ap (λ (v : StateView). with_parked v l said) (owned ∙ ap (λ (v : StateView). with_owner v l None) taken)
     ∙ ap (λ (b : Bool). with_parked (with_owner (with_lock_line w l (drop 1 (w.locks.line l))) l None) l b)
     (says ∙ ap (λ (p : Option ℕ). is_some p && more) is)
-    ∙ ap (λ (f : ℕ → Bool). let v : World = record w {
+    ∙ ap (λ (f : ℕ → Bool). let v : StateView = record w {
       locks = locks_of w.locks (put w.locks.held l false) (put w.locks.parked l (is_some (first (w.locks.line l)) && more))
           (put w.locks.line l (drop 1 (w.locks.line l))) (put w.locks.has l f);
     } in v)
     (owns_left (row None s.owners.items l) t has)
-    ∙ ap (λ (a : Locks). let v : World = record w { locks = a } in v)
+    ∙ ap (λ (a : Locks). let v : StateView = record w { locks = a } in v)
     (leaves_line w.locks t l fair more (w.locks.line l) refl (λ e. ap (is_some {T = ℕ}) (sym is) ∙ none e))

@@ -11,7 +11,7 @@ use Rattle.lot_events.specs.declared.events.Event.{Event}
 use Rattle.lot_events.specs.declared.events.Event.TheVariants.{SemTake, SemMark, SemPark, SemFree, SemPass, SemClear}
 use Rattle.lot_events.specs.declared.events.Seen.{Seen}
 use Rattle.lot_core.specs.Sums.{total, bit, count_below}
-use Rattle.lot_core.specs.World.{put, none_taken}
+use Rattle.lot_core.specs.Model.{put, none_taken}
 use Rattle.lot_core.specs.Steps.{SaysMore, none_left, permit_given, seeker_woken}
 use Rattle.lot_core.specs.Sound.{IsOnce, is_seeking, IsSoundSemaphorePart}
 use Rattle.lot_core.specs.Parts.{SemaphorePart, PartSeeks, SemaphoreAllowed, semaphore_part_after, SemaphoreStep}

@@ -4,7 +4,7 @@ use Rattle.std.specs.Prelude.{◌==◌, if◌then◌else◌}
 use Rattle.std.proofs.lemmas.Bool.{eqb-true, eqb-false}
 use mathlib.Core.Path.{fun_ext}
 pub use Rattle.lot_events.proofs.Cases.{by_bit}
-use Rattle.lot_core.specs.World.{put}
+use Rattle.lot_core.specs.Model.{put}
 use Rattle.lot_core.specs.Rows.{told}
 
 -- what holds of a line where it is empty, and where it has a first, holds of it

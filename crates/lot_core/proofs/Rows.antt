@@ -5,7 +5,7 @@ use Rattle.std.specs.Prelude.{nat_lt, if◌then◌else◌, slice_index_or}
 use Rattle.std.proofs.lemmas.Bool.{cases_lt, ltb-false, lt-ltb, le-ltb}
 use Rattle.std.proofs.lemmas.List.{get_or_past, get_or_default, get_or-map, map-set, length-map}
 use mathlib.Core.Path.{fun_ext}
-use Rattle.lot_core.specs.World.{put}
+use Rattle.lot_core.specs.Model.{put}
 use Rattle.lot_core.specs.Rows.{row, row_from}
 use Rattle.lot_core.proofs.Put.{by_bit, at_all, put_again, told_put}
 

@@ -11,7 +11,7 @@ use Rattle.lot_core.specs.declared.semaphores.Semaphores.{Semaphores as Row}
 use Rattle.lot_core.specs.Sums.{total}
 use Rattle.lot_core.specs.Rows.{row, row_from}
 use Rattle.lot_core.specs.Lines.{line_of, no_lines}
-use Rattle.lot_core.specs.World.{Semaphores, put, none_taken}
+use Rattle.lot_core.specs.Model.{Semaphores, put, none_taken}
 use Rattle.lot_core.specs.Steps.{with_sem_parked, permit_given, permit_taken}
 use Rattle.lot_core.specs.Sound.{PermitsConserved}
 use Rattle.lot_core.specs.Semaphores.{semaphores_of, permits_of, HasSemaphore}

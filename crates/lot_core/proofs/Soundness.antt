@@ -7,14 +7,14 @@ use Rattle.std.proofs.lemmas.Bool.{cases_lt, eqb-true, eq-eqb, false_from_ne_tru
 use Rattle.lot_events.specs.declared.events.Point.{Point}
 use Rattle.lot_events.specs.declared.events.Point.TheVariants.{Calm, Wants, Bed, Rest, Seeks}
 use Rattle.lot_core.specs.declared.state.State.{State}
-use Rattle.lot_core.specs.World.{World}
+use Rattle.lot_core.specs.Model.{StateView}
 use Rattle.lot_core.specs.Rows.{row}
 use Rattle.lot_core.specs.Sums.{bit, count_below}
 use Rattle.lot_core.specs.Steps.{IsSeeking}
 use Rattle.lot_core.specs.Parts.{sought}
 use Rattle.lot_core.specs.Semaphores.{sem_count}
 use Rattle.lot_core.specs.Sound.{IsSound, OneOwner, PermitsConserved, is_seeking, Waits, IsOnce, IsSoundLock, IsSoundCond, IsSoundSemaphore}
-use Rattle.lot_core.specs.State.{world_of, owns}
+use Rattle.lot_core.specs.State.{state_of, owns}
 use Rattle.lot_core.proofs.Members.{in_none, in_head, once_none}
 use Rattle.lot_core.proofs.Rows.{row_past}
 use Rattle.lot_core.proofs.LineRows.{line_outside}
@@ -31,7 +31,7 @@ pub owner_some : (o : Option ℕ) → (is_some o ≡ true) ↔ ((t : ℕ) × (ow
 owner_some None = ((λ e. absurd (cc)), (λ x. let e = x.1 in absurd (cc)))
 owner_some (Some v) = ((λ e. (v, eq-eqb v v refl)), (λ x. refl))
 
-pub one_owner : (s : State) → OneOwner (world_of s).locks.held (world_of s).locks.has
+pub one_owner : (s : State) → OneOwner (state_of s).locks.held (state_of s).locks.has
 one_owner s = record {
   one = λ l t u. owner_one (row None s.owners.items l) t u;
   some = λ l. owner_some (row None s.owners.items l);
@@ -46,7 +46,7 @@ first_in [] some = absurd (some refl)
 first_in (u ∷ rest) some = (u, in_head u rest)
 
 -- what holds of each lock that there is holds of all numbers
-pub empty_lock : (w : World) (l : ℕ) → w.locks.line l ≡ [] → IsSoundLock w l
+pub empty_lock : (w : StateView) (l : ℕ) → w.locks.line l ≡ [] → IsSoundLock w l
 empty_lock w l empty = (
   (λ some. absurd (some empty)),
   (λ clear some. absurd (some empty)),
@@ -54,30 +54,30 @@ empty_lock w l empty = (
   (λ t inside. absurd (not_empty (w.locks.line l) t inside empty)),
 )
 
-pub empty_cond : (w : World) (c : ℕ) → w.conds.line c ≡ [] → IsSoundCond w c
+pub empty_cond : (w : StateView) (c : ℕ) → w.conds.line c ≡ [] → IsSoundCond w c
 empty_cond w c empty = (
   (λ clear some. absurd (some empty)),
   subst IsOnce (sym empty) once_none,
   (λ t inside. absurd (not_empty (w.conds.line c) t inside empty)),
 )
 
-pub all_locks : (s : State) → ((k : ℕ) → k < s.locks → IsSoundLock (world_of s) k) → (l : ℕ) → IsSoundLock (world_of s) l
+pub all_locks : (s : State) → ((k : ℕ) → k < s.locks → IsSoundLock (state_of s) k) → (l : ℕ) → IsSoundLock (state_of s) l
 all_locks s each l = elim (cases_lt l s.locks) [
   | inl within ↦ each l within
-  | inr past ↦ empty_lock (world_of s) l (line_outside s.lock_lines l (λ has. omega (arith, s.lock_line_each)))
+  | inr past ↦ empty_lock (state_of s) l (line_outside s.lock_lines l (λ has. omega (arith, s.lock_line_each)))
 ]
 
-pub all_conds : (s : State) → ((k : ℕ) → k < s.conds → IsSoundCond (world_of s) (s.locks + k)) → (c : ℕ) → IsSoundCond (world_of s) c
+pub all_conds : (s : State) → ((k : ℕ) → k < s.conds → IsSoundCond (state_of s) (s.locks + k)) → (c : ℕ) → IsSoundCond (state_of s) c
 all_conds s each c = elim (cases_lt c s.locks) [
-  | inl before ↦ empty_cond (world_of s) c (line_outside s.cond_lines c (λ has. omega (arith, s.cond_line_each)))
+  | inl before ↦ empty_cond (state_of s) c (line_outside s.cond_lines c (λ has. omega (arith, s.cond_line_each)))
   | inr from ↦ elim (cases_lt (c - s.locks) s.conds) [
     | inl within ↦ let same : s.locks + (c - s.locks) ≡ c = omega arith in
-        subst (λ k. IsSoundCond (world_of s) k) same (each (c - s.locks) within)
-    | inr past ↦ empty_cond (world_of s) c (line_outside s.cond_lines c (λ has. omega (arith, s.cond_line_each)))
+        subst (λ k. IsSoundCond (state_of s) k) same (each (c - s.locks) within)
+    | inr past ↦ empty_cond (state_of s) c (line_outside s.cond_lines c (λ has. omega (arith, s.cond_line_each)))
   ]
 ]
 
-pub empty_semaphore : (w : World) (k : ℕ) → w.sems.line k ≡ [] → IsSoundSemaphore w k
+pub empty_semaphore : (w : StateView) (k : ℕ) → w.sems.line k ≡ [] → IsSoundSemaphore w k
 empty_semaphore w k empty = (
   (λ some. absurd (some empty)),
   (λ some. absurd (some empty)),
@@ -85,19 +85,19 @@ empty_semaphore w k empty = (
   (λ t inside. absurd (not_empty (w.sems.line k) t inside empty)),
 )
 
-pub all_semaphores : (s : State) → ((i : ℕ) → i < sem_count s.sems → IsSoundSemaphore (world_of s) (s.sems.first_sem + i)) → (k : ℕ)
-    → IsSoundSemaphore (world_of s) k
+pub all_semaphores : (s : State) → ((i : ℕ) → i < sem_count s.sems → IsSoundSemaphore (state_of s) (s.sems.first_sem + i)) → (k : ℕ)
+    → IsSoundSemaphore (state_of s) k
 all_semaphores s each k = elim (cases_lt k s.sems.first_sem) [
-  | inl before ↦ empty_semaphore (world_of s) k (line_outside s.sems.lines k (λ has. omega (arith, s.sems.line_each)))
+  | inl before ↦ empty_semaphore (state_of s) k (line_outside s.sems.lines k (λ has. omega (arith, s.sems.line_each)))
   | inr from ↦ elim (cases_lt (k - s.sems.first_sem) (sem_count s.sems)) [
     | inl within ↦ let same : s.sems.first_sem + (k - s.sems.first_sem) ≡ k = omega arith in
-        subst (λ i. IsSoundSemaphore (world_of s) i) same (each (k - s.sems.first_sem) within)
-    | inr past ↦ empty_semaphore (world_of s) k (line_outside s.sems.lines k (λ has. omega (arith, s.sems.line_each)))
+        subst (λ i. IsSoundSemaphore (state_of s) i) same (each (k - s.sems.first_sem) within)
+    | inr past ↦ empty_semaphore (state_of s) k (line_outside s.sems.lines k (λ has. omega (arith, s.sems.line_each)))
   ]
 ]
 
 -- who is not calm is a thread of the state
-near : (s : State) (t : ℕ) → (world_of s).point t ≢ Calm → t < s.threads
+near : (s : State) (t : ℕ) → (state_of s).point t ≢ Calm → t < s.threads
 near s t moved = elim (cases_lt t s.threads) [
   | inl within ↦ within
   | inr past ↦ absurd (moved (row_past Calm s.points.items t (omega (arith, s.point_each))))
@@ -107,15 +107,15 @@ waits_not_calm : (point : ℕ → Point) (c t : ℕ) → Waits point c t → poi
 waits_not_calm point c t (l, inl bed) e = let no : Calm ≡ Bed c l = sym e ∙ bed in absurd (cc)
 waits_not_calm point c t (l, inr rest) e = let no : Calm ≡ Rest c l = sym e ∙ rest in absurd (cc)
 
-pub sound_from : (s : State) → ((l : ℕ) → IsSoundLock (world_of s) l) → ((c : ℕ) → IsSoundCond (world_of s) c) →
-    ((k : ℕ) → IsSoundSemaphore (world_of s) k) → IsSound (world_of s)
+pub sound_from : (s : State) → ((l : ℕ) → IsSoundLock (state_of s) l) → ((c : ℕ) → IsSoundCond (state_of s) c) →
+    ((k : ℕ) → IsSoundSemaphore (state_of s) k) → IsSound (state_of s)
 sound_from s locks conds sems = record {
   one_owner = one_owner s;
-  sleepers_are_marked = λ l t inside. (locks l).0 (not_empty ((world_of s).locks.line l) t inside);
+  sleepers_are_marked = λ l t inside. (locks l).0 (not_empty ((state_of s).locks.line l) t inside);
   someone_is_trying = λ l. (locks l).1;
   someone_sweeps = λ c. (conds c).0;
-  permits_conserved = subst (λ n. PermitsConserved n (world_of s).permits (world_of s).sems) s.sem_each.1 (conserved s.sems);
-  seekers_are_marked = λ k t inside. (sems k).0 (not_empty ((world_of s).sems.line k) t inside);
+  permits_conserved = subst (λ n. PermitsConserved n (state_of s).permits (state_of s).sems) s.sem_each.1 (conserved s.sems);
+  seekers_are_marked = λ k t inside. (sems k).0 (not_empty ((state_of s).sems.line k) t inside);
   permits_are_sought = λ k. (sems k).1;
   one_line_each = record {
     lock_once = λ l. (locks l).2;
@@ -124,34 +124,35 @@ sound_from s locks conds sems = record {
     wants = λ l t inside.
         let is = (locks l).3 t inside in
         (near s t (λ e. let no : Calm ≡ Wants l = sym e ∙ is in absurd (cc)), is);
-    waits = λ c t inside. let is = (conds c).2 t inside in (near s t (waits_not_calm (world_of s).point c t is), is);
+    waits = λ c t inside. let is = (conds c).2 t inside in (near s t (waits_not_calm (state_of s).point c t is), is);
     seeks = λ k t inside.
         let is = (sems k).3 t inside in
         (near s t (λ e. let no : Calm ≡ Seeks k = sym e ∙ is in absurd (cc)), is);
   };
 }
 
-pub locks_from : (s : State) → IsSound (world_of s) → (l : ℕ) → IsSoundLock (world_of s) l
+pub locks_from : (s : State) → IsSound (state_of s) → (l : ℕ) → IsSoundLock (state_of s) l
 locks_from s h l = (
-  (λ some. let t = first_in ((world_of s).locks.line l) some in h.sleepers_are_marked l t.0 t.1),
+  (λ some. let t = first_in ((state_of s).locks.line l) some in h.sleepers_are_marked l t.0 t.1),
   h.someone_is_trying l,
   h.one_line_each.lock_once l,
   (λ t inside. (h.one_line_each.wants l t inside).1),
 )
 
-pub conds_from : (s : State) → IsSound (world_of s) → (c : ℕ) → IsSoundCond (world_of s) c
+pub conds_from : (s : State) → IsSound (state_of s) → (c : ℕ) → IsSoundCond (state_of s) c
 conds_from s h c = (h.someone_sweeps c, h.one_line_each.cond_once c, (λ t inside. (h.one_line_each.waits c t inside).1))
 
-pub semaphores_from : (s : State) → IsSound (world_of s) → (k : ℕ) → IsSoundSemaphore (world_of s) k
+pub semaphores_from : (s : State) → IsSound (state_of s) → (k : ℕ) → IsSoundSemaphore (state_of s) k
 semaphores_from s h k = (
-  (λ some. let t = first_in ((world_of s).sems.line k) some in h.seekers_are_marked k t.0 t.1),
+  (λ some. let t = first_in ((state_of s).sems.line k) some in h.seekers_are_marked k t.0 t.1),
   h.permits_are_sought k,
   h.one_line_each.sem_once k,
   (λ t inside. (h.one_line_each.seeks k t inside).1),
 )
 
 -- the test of one thread, and one more thread counted
-pub seeking_test : (w : World) (t k : ℕ) (b : Bool) → (IsTrue b ↔ IsSeeking w t k) → is_seeking (sought (w.point t)) k (w.sems.line k) t ≡ b
+pub seeking_test : (w : StateView) (t k : ℕ) (b : Bool) → (IsTrue b ↔ IsSeeking w t k)
+    → is_seeking (sought (w.point t)) k (w.sems.line k) t ≡ b
 seeking_test w t k true is = let at : IsSeeking w t k = is.0 refl in
     seeks_outside (sought (w.point t)) k (w.sems.line k) t (ap sought at.0) at.1
 seeking_test w t k false is =

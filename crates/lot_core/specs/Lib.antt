@@ -1,6 +1,6 @@
 pub mod Sums
 pub mod Rows
-pub mod World
+pub mod Model
 pub mod Steps
 pub mod Parts
 pub mod Sound

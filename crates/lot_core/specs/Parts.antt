@@ -10,7 +10,7 @@ use Rattle.lot_events.specs.declared.events.Event.TheVariants.{Try, Take, Mark, 
 use Rattle.lot_events.specs.declared.events.Event.TheVariants.{SemMark, SemPark, SemFree, SemPass, SemClear}
 use Rattle.lot_events.specs.declared.events.Seen.{Seen}
 use Rattle.lot_events.specs.declared.events.Seen.TheVariants.{Bool as Saw, Done, Sleeper, Count}
-use Rattle.lot_core.specs.World.{World, Locks, Conds, Semaphores, put}
+use Rattle.lot_core.specs.Model.{StateView, Locks, Conds, Semaphores, put}
 use Rattle.lot_core.specs.Steps.{MayLetGo, SaysMore, SaysMoreBehind, IsCallCount, Allowed, after, seen, first}
 use Rattle.lot_core.specs.Steps.{got, marked, queued, freed, passed, enlisted, called, dequeued_count, lowered, swept}
 use Rattle.lot_core.specs.Steps.{none_left, permit_taken, with_sem_parked, seeker_queued, permit_freed, permit_passed}
@@ -42,13 +42,13 @@ abbrev pub sought : Point → Option ℕ
 sought (Seeks k) = Some k
 sought _ = None
 
-abbrev pub lock_part : World → LockPart
+abbrev pub lock_part : StateView → LockPart
 lock_part s = record { locks = s.locks; wants = λ t. wanted (s.point t) }
 
-abbrev pub cond_part : World → CondPart
+abbrev pub cond_part : StateView → CondPart
 cond_part s = record { conds = s.conds; sweeps = λ t. swept_by (s.point t) }
 
-abbrev pub semaphore_part : World → SemaphorePart
+abbrev pub semaphore_part : StateView → SemaphorePart
 semaphore_part s = record { sems = s.sems; seeks = λ t. sought (s.point t) }
 
 -- so far as the lock part tells, t is trying to get l: it wants l and is not in l's line
@@ -230,13 +230,13 @@ IsSemaphoreEvent (SemClear t k) = Unit {0}
 IsSemaphoreEvent _ = ⊥
 
 -- t stands where it tries to get l, so far as the lock part can't tell
-abbrev pub StandsBefore : World → ℕ → ℕ → Type 0
+abbrev pub StandsBefore : StateView → ℕ → ℕ → Type 0
 StandsBefore s t l =
     (s.point t ≡ Wants l) ⊎ ((c : ℕ) × (s.point t ≡ Rest c l) × (¬ Contains (s.conds.line c) t))
 
 -- what an event asks of its thread beside what its own part tells: the caller, who has both parts of
 -- a thread, answers for it
-abbrev pub AsksOfThread : World → Event → Type 0
+abbrev pub AsksOfThread : StateView → Event → Type 0
 AsksOfThread s (Try t l) = s.point t ≡ Calm
 AsksOfThread s (Take t l) = (s.point t ≡ Calm) ⊎ StandsBefore s t l
 AsksOfThread s (Mark t l) = StandsBefore s t l
@@ -256,17 +256,17 @@ AsksOfThread s (SemPass t k more) = s.point t ≡ Calm
 AsksOfThread s (SemClear t k) = s.point t ≡ Calm
 
 -- an event is allowed exactly where its own part allows it and its thread stands as the event asks
-abbrev pub LockPartAllows : World → Event → Type 0
+abbrev pub LockPartAllows : StateView → Event → Type 0
 LockPartAllows s e =
     IsLockEvent e →
     Allowed s e ↔ (LockAllowed s.threads s.lock_count (lock_part s) e × AsksOfThread s e)
 
-abbrev pub CondPartAllows : World → Event → Type 0
+abbrev pub CondPartAllows : StateView → Event → Type 0
 CondPartAllows s e =
     IsCondEvent e →
     Allowed s e ↔ (CondAllowed s.threads s.lock_count s.cond_count (cond_part s) e × AsksOfThread s e)
 
-abbrev pub SemaphorePartAllows : World → Event → Type 0
+abbrev pub SemaphorePartAllows : StateView → Event → Type 0
 SemaphorePartAllows s e =
     IsSemaphoreEvent e →
     Allowed s e
@@ -274,21 +274,21 @@ SemaphorePartAllows s e =
 
 -- what event e of state s is to the lock part: a step with the same answer where it is a lock event,
 -- and nothing where it is not
-pub record LockPartFollows (s : World) (e : Event) : Type 0 where
+pub record LockPartFollows (s : StateView) (e : Event) : Type 0 where
   pub steps :
       IsLockEvent e →
       LockStep s.threads s.lock_count (lock_part s) e (seen s e) (lock_part (after s e))
   pub stays : (IsLockEvent e → ⊥) → lock_part (after s e) ≡ lock_part s
 
 -- the same of the condition part
-pub record CondPartFollows (s : World) (e : Event) : Type 0 where
+pub record CondPartFollows (s : StateView) (e : Event) : Type 0 where
   pub steps :
       IsCondEvent e →
       CondStep s.threads s.lock_count s.cond_count (cond_part s) e (seen s e) (cond_part (after s e))
   pub stays : (IsCondEvent e → ⊥) → cond_part (after s e) ≡ cond_part s
 
 -- and of the semaphore part
-pub record SemaphorePartFollows (s : World) (e : Event) : Type 0 where
+pub record SemaphorePartFollows (s : StateView) (e : Event) : Type 0 where
   pub steps :
       IsSemaphoreEvent e →
       SemaphoreStep s.threads (s.lock_count + s.cond_count) s.sem_count (semaphore_part s) e (seen s e)

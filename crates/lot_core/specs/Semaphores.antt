@@ -1,7 +1,7 @@
 -- What a `Semaphores` stands for.
 use Rattle.std.specs.Prelude.{◌≡◌, ℕ, ◌-◌, ◌<◌, ◌≤◌, false, map, length}
 use Rattle.lot_core.specs.declared.semaphores.Semaphores.{Semaphores as Row}
-use Rattle.lot_core.specs.World.{Semaphores}
+use Rattle.lot_core.specs.Model.{Semaphores}
 use Rattle.lot_core.specs.Rows.{row, row_from}
 use Rattle.lot_core.specs.Lines.{line_of}
 

@@ -5,7 +5,7 @@ use Rattle.std.specs.List.{Contains, AllPairs, list_any}
 use Rattle.lot_events.specs.declared.events.Point.{Point}
 use Rattle.lot_events.specs.declared.events.Point.TheVariants.{Wants, Bed, Rest, Sweeps, Seeks}
 use Rattle.lot_core.specs.Sums.{total, count_below}
-use Rattle.lot_core.specs.World.{World, Semaphores}
+use Rattle.lot_core.specs.Model.{StateView, Semaphores}
 use Rattle.lot_core.specs.Steps.{IsThread, IsTrying}
 use Rattle.lot_core.specs.Parts.{LockPart, lock_part, CondPart, cond_part, SemaphorePart, semaphore_part, PartWants}
 
@@ -23,12 +23,12 @@ abbrev pub SleepersAreMarked : (ℕ → List ℕ) → (ℕ → Bool) → Type 0
 SleepersAreMarked line parked = (l t : ℕ) → Contains (line l) t → parked l ≡ true
 
 -- where nobody holds a lock and its line is not empty, some thread is trying to get it
-abbrev pub SomeoneIsTrying : World → Type 0
+abbrev pub SomeoneIsTrying : StateView → Type 0
 SomeoneIsTrying s =
     (l : ℕ) → s.locks.held l ≡ false → s.locks.line l ≢ [] → (t : ℕ) × IsThread s t × IsTrying s t l
 
 -- where a condition's flag is clear and its line is not empty, some thread is about to sweep it
-abbrev pub SomeoneSweeps : World → Type 0
+abbrev pub SomeoneSweeps : StateView → Type 0
 SomeoneSweeps s =
     (c : ℕ) → s.conds.flag c ≡ false → s.conds.line c ≢ [] → (t : ℕ) × IsThread s t × (s.point t ≡ Sweeps c)
 
@@ -67,7 +67,7 @@ pub record OneLineEach (threads : ℕ) (lock_line cond_line sem_line : ℕ → L
   pub waits : (c t : ℕ) → Contains (cond_line c) t → (t < threads) × Waits point c t
   pub seeks : (k t : ℕ) → Contains (sem_line k) t → (t < threads) × (point t ≡ Seeks k)
 
-pub record IsSound (s : World) : Type 0 where
+pub record IsSound (s : StateView) : Type 0 where
   pub one_owner : OneOwner s.locks.held s.locks.has
   pub sleepers_are_marked : SleepersAreMarked s.locks.line s.locks.parked
   pub someone_is_trying : SomeoneIsTrying s
@@ -104,42 +104,42 @@ pub record IsSoundSemaphorePart (threads : ℕ) (permits : ℕ → ℕ) (a : Sem
   pub seeks : (k t : ℕ) → Contains (a.sems.line k) t → (t < threads) × (a.seeks t ≡ Some k)
 
 -- all three parts of a state
-pub record ArePartsSound (s : World) : Type 0 where
+pub record ArePartsSound (s : StateView) : Type 0 where
   pub locks : IsSoundLockPart s.threads (lock_part s)
   pub conds : IsSoundCondPart s.threads (cond_part s)
   pub sems : IsSoundSemaphorePart s.threads s.permits (semaphore_part s)
 
 -- The same, key by key.
 
-abbrev pub IsMarked : World → ℕ → Type 0
+abbrev pub IsMarked : StateView → ℕ → Type 0
 IsMarked s l = s.locks.line l ≢ [] → s.locks.parked l ≡ true
 
-abbrev pub IsSought : World → ℕ → Type 0
+abbrev pub IsSought : StateView → ℕ → Type 0
 IsSought s l = s.locks.held l ≡ false → s.locks.line l ≢ [] → (t : ℕ) × IsThread s t × IsTrying s t l
 
-abbrev pub IsSwept : World → ℕ → Type 0
+abbrev pub IsSwept : StateView → ℕ → Type 0
 IsSwept s c = s.conds.flag c ≡ false → s.conds.line c ≢ [] → (t : ℕ) × IsThread s t × (s.point t ≡ Sweeps c)
 
-abbrev pub AllWant : World → ℕ → Type 0
+abbrev pub AllWant : StateView → ℕ → Type 0
 AllWant s l = (t : ℕ) → Contains (s.locks.line l) t → s.point t ≡ Wants l
 
-abbrev pub AllWait : World → ℕ → Type 0
+abbrev pub AllWait : StateView → ℕ → Type 0
 AllWait s c = (t : ℕ) → Contains (s.conds.line c) t → Waits s.point c t
 
-abbrev pub IsMarkedSemaphore : World → ℕ → Type 0
+abbrev pub IsMarkedSemaphore : StateView → ℕ → Type 0
 IsMarkedSemaphore s k = s.sems.line k ≢ [] → s.sems.parked k ≡ true
 
-abbrev pub IsSoughtSemaphore : World → ℕ → Type 0
+abbrev pub IsSoughtSemaphore : StateView → ℕ → Type 0
 IsSoughtSemaphore s k = s.sems.line k ≢ [] → s.sems.left k ≤ seeker_count s.threads (semaphore_part s) k
 
-abbrev pub AllSeek : World → ℕ → Type 0
+abbrev pub AllSeek : StateView → ℕ → Type 0
 AllSeek s k = (t : ℕ) → Contains (s.sems.line k) t → s.point t ≡ Seeks k
 
-abbrev pub IsSoundLock : World → ℕ → Type 0
+abbrev pub IsSoundLock : StateView → ℕ → Type 0
 IsSoundLock s l = IsMarked s l × IsSought s l × IsOnce (s.locks.line l) × AllWant s l
 
-abbrev pub IsSoundCond : World → ℕ → Type 0
+abbrev pub IsSoundCond : StateView → ℕ → Type 0
 IsSoundCond s c = IsSwept s c × IsOnce (s.conds.line c) × AllWait s c
 
-abbrev pub IsSoundSemaphore : World → ℕ → Type 0
+abbrev pub IsSoundSemaphore : StateView → ℕ → Type 0
 IsSoundSemaphore s k = IsMarkedSemaphore s k × IsSoughtSemaphore s k × IsOnce (s.sems.line k) × AllSeek s k

@@ -10,35 +10,35 @@ use Rattle.lot_events.specs.declared.events.Event.TheVariants.{SemMark, SemPark,
 use Rattle.lot_events.specs.declared.events.Seen.{Seen}
 use Rattle.lot_events.specs.declared.events.Seen.TheVariants.{Bool as Saw, Done, Sleeper, Count}
 use Rattle.lot_core.specs.declared.state.TheConstants.{MAX_THREADS}
-use Rattle.lot_core.specs.World.{World, Locks, Conds, Semaphores, put, opening_with}
+use Rattle.lot_core.specs.Model.{StateView, Locks, Conds, Semaphores, put, opening_with}
 
 -- who and what there is
-abbrev pub IsThread : World → ℕ → Type 0
+abbrev pub IsThread : StateView → ℕ → Type 0
 IsThread s t = t < s.threads
 
-abbrev pub IsLock : World → ℕ → Type 0
+abbrev pub IsLock : StateView → ℕ → Type 0
 IsLock s l = l < s.lock_count
 
-abbrev pub IsCond : World → ℕ → Type 0
+abbrev pub IsCond : StateView → ℕ → Type 0
 IsCond s c = (s.lock_count ≤ c) × (c < s.lock_count + s.cond_count)
 
-abbrev pub IsSemaphore : World → ℕ → Type 0
+abbrev pub IsSemaphore : StateView → ℕ → Type 0
 IsSemaphore s k =
     (s.lock_count + s.cond_count ≤ k) × (k < s.lock_count + s.cond_count + s.sem_count)
 
 -- t is trying to get l: it wants l and is not in l's line, or it rests on a condition and is not in
 -- that condition's line
-abbrev pub IsTrying : World → ℕ → ℕ → Type 0
+abbrev pub IsTrying : StateView → ℕ → ℕ → Type 0
 IsTrying s t l =
     ((s.point t ≡ Wants l) × (¬ Contains (s.locks.line l) t))
     ⊎ ((c : ℕ) × (s.point t ≡ Rest c l) × (¬ Contains (s.conds.line c) t))
 
 -- t is seeking a permit of k: it seeks one of k and is not in k's line
-abbrev pub IsSeeking : World → ℕ → ℕ → Type 0
+abbrev pub IsSeeking : StateView → ℕ → ℕ → Type 0
 IsSeeking s t k = (s.point t ≡ Seeks k) × (¬ Contains (s.sems.line k) t)
 
 -- t may let a lock go: it is calm, or at the bed of some condition
-abbrev pub MayLetGo : World → ℕ → ℕ → Type 0
+abbrev pub MayLetGo : StateView → ℕ → ℕ → Type 0
 MayLetGo s t l = (s.point t ≡ Calm) ⊎ ((c : ℕ) × (s.point t ≡ Bed c l))
 
 -- where some stay in the line when its first n leave, `more` is said
@@ -54,7 +54,7 @@ abbrev pub IsCallCount : ℕ → Type 0
 IsCallCount n = (1 ≤ n) × (n ≤ MAX_THREADS)
 
 -- allowed where
-abbrev pub Allowed : World → Event → Type 0
+abbrev pub Allowed : StateView → Event → Type 0
 Allowed s (Try t l) = IsThread s t × IsLock s l × (s.point t ≡ Calm)
 Allowed s (Take t l) = IsThread s t × IsLock s l × ((s.point t ≡ Calm) ⊎ IsTrying s t l)
 Allowed s (Mark t l) = IsThread s t × IsLock s l × IsTrying s t l × (s.locks.held l ≡ true)
@@ -196,7 +196,7 @@ abbrev pub let_go : (ℕ → Point) → ℕ → (ℕ → Point)
 let_go point t = put point t (released (point t))
 
 -- change
-abbrev pub after : World → Event → World
+abbrev pub after : StateView → Event → StateView
 after s (Try t l) = record s { locks = got s.locks t l }
 after s (Take t l) =
     record s { locks = got s.locks t l; point = put s.point t (if s.locks.held l then Wants l else Calm) }
@@ -230,7 +230,7 @@ first [] = None
 first (u ∷ rest) = Some u
 
 -- seen
-abbrev pub seen : World → Event → Seen
+abbrev pub seen : StateView → Event → Seen
 seen s (Try t l) = Saw (not (s.locks.held l))
 seen s (Take t l) = Saw (not (s.locks.held l))
 seen s (Mark t l) = Done
@@ -250,16 +250,16 @@ seen s (SemPass t k more) = Sleeper (first (s.sems.line k))
 seen s (SemClear t k) = Done
 
 -- a run: each event is allowed in the state before it
-abbrev pub Run : World → List Event → Type 0
+abbrev pub Run : StateView → List Event → Type 0
 Run s [] = Unit {0}
 Run s (e ∷ events) = Allowed s e × Run (after s e) events
 
-abbrev pub after_all : World → List Event → World
+abbrev pub after_all : StateView → List Event → StateView
 after_all s [] = s
 after_all s (e ∷ events) = after_all (after s e) events
 
 -- a run from an opening state ends in s
-pub record IsReached (s : World) : Type 0 where
+pub record IsReached (s : StateView) : Type 0 where
   pub threads : ℕ
   pub locks : ℕ
   pub conds : ℕ

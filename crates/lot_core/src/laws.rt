@@ -3,7 +3,7 @@
 ghost use Rattle.std.specs.Prelude.{◌≡◌, ℕ, List};
 ghost use Rattle.lot_events.specs.declared.events.Event.{Event};
 ghost use Rattle.lot_events.specs.declared.events.Seen.{Seen};
-ghost use Rattle.lot_core.specs.World.{World, opening_with};
+ghost use Rattle.lot_core.specs.Model.{StateView, opening_with};
 ghost use Rattle.lot_core.specs.Steps.{Allowed, Run, after, after_all, IsReached};
 ghost use Rattle.lot_core.specs.Sound.{IsSound, IsSoundLockPart, IsSoundCondPart, IsSoundSemaphorePart, ArePartsSound};
 ghost use Rattle.lot_core.specs.Script.{Spells, SpellsScript, IsFirstBad};
@@ -26,9 +26,9 @@ pub fn every_run_is_sound()
 pub fn every_event_keeps_soundness()
     ensures opening { (threads locks conds : ℕ) (permits : List ℕ)
         → IsSound (opening_with threads locks conds permits) }
-    ensures event { (s : World) (e : Event) → IsSound s → Allowed s e → IsSound (after s e) }
-    ensures reached { (s : World) → IsReached s → IsSound s }
-    ensures further { (s : World) (e : Event) → IsReached s → Allowed s e → IsReached (after s e) }
+    ensures event { (s : StateView) (e : Event) → IsSound s → Allowed s e → IsSound (after s e) }
+    ensures reached { (s : StateView) → IsReached s → IsSound s }
+    ensures further { (s : StateView) (e : Event) → IsReached s → Allowed s e → IsReached (after s e) }
 {}
 
 /// An event of the whole is a step of the part that it belongs to, with the same answer, and leaves
@@ -40,12 +40,12 @@ pub fn every_event_keeps_soundness()
 /// thread to whom a lock is handed swept nothing and sought no permit, and that a calm thread is in
 /// no condition's line.
 pub fn parts_follow()
-    ensures lock_part { (s : World) (e : Event) → Allowed s e → LockPartFollows s e }
-    ensures cond_part { (s : World) (e : Event) → IsSound s → Allowed s e → CondPartFollows s e }
-    ensures semaphore_part { (s : World) (e : Event) → IsSound s → Allowed s e → SemaphorePartFollows s e }
-    ensures lock_allowed { (s : World) (e : Event) → LockPartAllows s e }
-    ensures cond_allowed { (s : World) (e : Event) → IsSound s → CondPartAllows s e }
-    ensures semaphore_allowed { (s : World) (e : Event) → SemaphorePartAllows s e }
+    ensures lock_part { (s : StateView) (e : Event) → Allowed s e → LockPartFollows s e }
+    ensures cond_part { (s : StateView) (e : Event) → IsSound s → Allowed s e → CondPartFollows s e }
+    ensures semaphore_part { (s : StateView) (e : Event) → IsSound s → Allowed s e → SemaphorePartFollows s e }
+    ensures lock_allowed { (s : StateView) (e : Event) → LockPartAllows s e }
+    ensures cond_allowed { (s : StateView) (e : Event) → IsSound s → CondPartAllows s e }
+    ensures semaphore_allowed { (s : StateView) (e : Event) → SemaphorePartAllows s e }
 {}
 
 /// A step of a part leads from a sound part to a sound part, whatever the other parts do, and the
@@ -65,9 +65,9 @@ pub fn every_step_keeps_its_part_sound()
         (e : Event) (saw : Seen) →
         SemaphoreStep threads first_sem sems a e saw b →
         IsSoundSemaphorePart threads permits a → IsSoundSemaphorePart threads permits b }
-    ensures whole { (s : World) → IsSound s →
+    ensures whole { (s : StateView) → IsSound s →
         IsSoundCondPart s.threads (cond_part s) × IsSoundSemaphorePart s.threads s.permits (semaphore_part s) }
-    ensures reached { (s : World) → IsReached s → ArePartsSound s }
+    ensures reached { (s : StateView) → IsReached s → ArePartsSound s }
 {}
 
 /// A text that spells a script has no bad line, and spells no other script: so

@@ -37,7 +37,7 @@
 //!
 //! The events themselves, and how a line spells one, are `lot_events`.
 //!
-//! Read `specs/` in this order: World, Steps, Parts, Sound, then State for the calls, Script and
+//! Read `specs/` in this order: Model, Steps, Parts, Sound, then State for the calls, Script and
 //! Printed for the texts; the lines of Script are those of `specs/Spelling` of `lot_events`.
 #![tactic(auto)]
 

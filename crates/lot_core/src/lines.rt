@@ -15,7 +15,7 @@ pub(crate) struct Lines {
 }
 
 impl Lines {
-    ghost use Rattle.lot_core.specs.World.{put};
+    ghost use Rattle.lot_core.specs.Model.{put};
     ghost use Rattle.lot_core.specs.Steps.{first, dequeued_count};
     ghost use Rattle.lot_core.specs.Sound.{IsOnce};
     ghost use Rattle.lot_core.specs.Lines.{line_of, key_count, HasKey, KeepsKeys, no_lines};

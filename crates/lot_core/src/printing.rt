@@ -4,7 +4,7 @@ ghost use Rattle.std.specs.List.{range_with_len};
 ghost use Rattle.lot_core.specs.declared.state.CoreFault.TheVariants.{NoMemory};
 ghost use Rattle.lot_core.specs.Lines.{line_of, HasKey};
 ghost use Rattle.lot_core.specs.Steps.{IsLock, IsCond, IsSemaphore};
-ghost use Rattle.lot_core.specs.State.{world_of};
+ghost use Rattle.lot_core.specs.State.{state_of};
 ghost use Rattle.lot_core.specs.Printed.{line_text, owner_text, point_text, lock_line, cond_line, sem_line};
 ghost use Rattle.lot_core.specs.Printed.{thread_line, printed};
 
@@ -56,9 +56,9 @@ fn push_point(out: &mut String, point: Point) -> Result<(), AllocError>
 // Held is 1, parked is 2.
 #[tactic(auto, unfolding(crate::specs::Printed::lock_line))]
 fn push_lock(out: &mut String, state: &State, lock: usize) -> Result<(), AllocError>
-    requires { IsLock (world_of state.now) lock }
+    requires { IsLock (state_of state.now) lock }
     ensures { OnOk result (string_bytes out.new ≡
-        string_bytes out.old ++ lock_line (world_of state.now) lock) }
+        string_bytes out.old ++ lock_line (state_of state.now) lock) }
 {
     let word = u8::from(state.is_held(lock)) + 2 * u8::from(state.is_parked(lock));
     write!(out, "lock {lock} word {word} owner ")?;
@@ -70,9 +70,9 @@ fn push_lock(out: &mut String, state: &State, lock: usize) -> Result<(), AllocEr
 
 #[tactic(auto, unfolding(crate::specs::Printed::cond_line))]
 fn push_cond(out: &mut String, state: &State, cond: usize) -> Result<(), AllocError>
-    requires { IsCond (world_of state.now) cond }
+    requires { IsCond (state_of state.now) cond }
     ensures { OnOk result (string_bytes out.new ≡
-        string_bytes out.old ++ cond_line (world_of state.now) cond) }
+        string_bytes out.old ++ cond_line (state_of state.now) cond) }
 {
     let flag = u8::from(state.flag(cond));
     write!(out, "cond {cond} flag {flag} line ")?;
@@ -82,9 +82,9 @@ fn push_cond(out: &mut String, state: &State, cond: usize) -> Result<(), AllocEr
 
 #[tactic(auto, unfolding(crate::specs::Printed::sem_line))]
 fn push_sem(out: &mut String, state: &State, sem: usize) -> Result<(), AllocError>
-    requires { IsSemaphore (world_of state.now) sem }
+    requires { IsSemaphore (state_of state.now) sem }
     ensures { OnOk result (string_bytes out.new ≡
-        string_bytes out.old ++ sem_line (world_of state.now) sem) }
+        string_bytes out.old ++ sem_line (state_of state.now) sem) }
 {
     let left = state.sems.left(sem);
     let taken = state.sems.all_out(sem);
@@ -98,7 +98,7 @@ fn push_sem(out: &mut String, state: &State, sem: usize) -> Result<(), AllocErro
 #[tactic(auto, unfolding(crate::specs::Printed::thread_line))]
 fn push_thread(out: &mut String, state: &State, thread: usize) -> Result<(), AllocError>
     ensures { OnOk result (string_bytes out.new ≡
-        string_bytes out.old ++ thread_line (world_of state.now) thread) }
+        string_bytes out.old ++ thread_line (state_of state.now) thread) }
 {
     write!(out, "thread {thread} ")?;
     push_point(out, state.point(thread))?;
@@ -107,7 +107,7 @@ fn push_thread(out: &mut String, state: &State, thread: usize) -> Result<(), All
 
 #[tactic(auto, using(crate::proofs::Texts::text_more))]
 fn push_locks(out: &mut String, state: &State) -> Result<(), AllocError>
-    ensures { let w = world_of state.now in
+    ensures { let w = state_of state.now in
         let text = flat_map (lock_line w) (range_with_len 0 w.lock_count) in
         OnOk result (string_bytes out.new ≡ string_bytes out.old ++ text) }
 {
@@ -119,7 +119,7 @@ fn push_locks(out: &mut String, state: &State) -> Result<(), AllocError>
 
 #[tactic(auto, using(crate::proofs::Texts::text_more))]
 fn push_conds(out: &mut String, state: &State) -> Result<(), AllocError>
-    ensures { let w = world_of state.now in
+    ensures { let w = state_of state.now in
         let text = flat_map (cond_line w) (range_with_len w.lock_count w.cond_count) in
         OnOk result (string_bytes out.new ≡ string_bytes out.old ++ text) }
 {
@@ -131,7 +131,7 @@ fn push_conds(out: &mut String, state: &State) -> Result<(), AllocError>
 
 #[tactic(auto, using(crate::proofs::Texts::text_more))]
 fn push_sems(out: &mut String, state: &State) -> Result<(), AllocError>
-    ensures { let w = world_of state.now in
+    ensures { let w = state_of state.now in
         let text = flat_map (sem_line w) (range_with_len (w.lock_count + w.cond_count) w.sem_count) in
         OnOk result (string_bytes out.new ≡ string_bytes out.old ++ text) }
 {
@@ -143,7 +143,7 @@ fn push_sems(out: &mut String, state: &State) -> Result<(), AllocError>
 
 #[tactic(auto, using(crate::proofs::Texts::text_more))]
 fn push_threads(out: &mut String, state: &State) -> Result<(), AllocError>
-    ensures { let w = world_of state.now in
+    ensures { let w = state_of state.now in
         let text = flat_map (thread_line w) (range_with_len 0 w.threads) in
         OnOk result (string_bytes out.new ≡ string_bytes out.old ++ text) }
 {
@@ -154,7 +154,7 @@ fn push_threads(out: &mut String, state: &State) -> Result<(), AllocError>
 }
 
 fn text_of(alloc: Global, state: &State) -> Result<String, AllocError>
-    ensures { IfOk result (λ text. string_bytes text ≡ printed (world_of state.now)) }
+    ensures { IfOk result (λ text. string_bytes text ≡ printed (state_of state.now)) }
 {
     let mut out = String::new(alloc);
     push_locks(&mut out, state)?;
@@ -171,7 +171,7 @@ fn text_of(alloc: Global, state: &State) -> Result<String, AllocError>
 /// is 0 to 3 (held 1, parked 2), O is the owner or `-`, of a semaphore the permits that are out, Q is
 /// the sleepers joined by commas or `-`, and P of a thread is its point in words.
 pub fn print_state(alloc: Global, state: &State) -> Result<String, CoreFault>
-    ensures ok { IfOk result (λ text. string_bytes text ≡ printed (world_of state.now)) }
+    ensures ok { IfOk result (λ text. string_bytes text ≡ printed (state_of state.now)) }
     ensures err { IfErr result (λ e. e ≡ NoMemory) }
 {
     text_of(alloc, state).map_err(|_| CoreFault::NoMemory)

@@ -70,7 +70,7 @@ pub(crate) struct Semaphores {
 }
 
 impl Semaphores {
-    ghost use Rattle.lot_core.specs.World.{none_taken};
+    ghost use Rattle.lot_core.specs.Model.{none_taken};
     ghost use Rattle.lot_core.specs.Sums.{total};
     ghost use Rattle.lot_core.specs.Rows.{row_from};
     ghost use Rattle.lot_core.specs.Steps.{first, none_left, permit_given, permit_passed, permit_taken, with_sem_line};

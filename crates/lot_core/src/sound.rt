@@ -13,11 +13,11 @@ impl State {
     ghost use Rattle.lot_core.specs.Sound.{IsSoundCond};
     ghost use Rattle.lot_core.specs.Sound.{seeker_count, IsMarkedSemaphore, IsSoughtSemaphore, AllSeek};
     ghost use Rattle.lot_core.specs.Sound.{IsSoundSemaphore};
-    ghost use Rattle.lot_core.specs.State.{world_of};
+    ghost use Rattle.lot_core.specs.State.{state_of};
 
     fn someone_tries(&self, lock: usize) -> bool
         ensures { IsTrue result ↔ ((t : ℕ) ×
-            IsThread (world_of self.now) t × IsTrying (world_of self.now) t lock) }
+            IsThread (state_of self.now) t × IsTrying (state_of self.now) t lock) }
     {
         for thread in 0..self.threads {
             if self.is_trying(thread, lock) {
@@ -29,7 +29,7 @@ impl State {
 
     fn someone_sweeps(&self, cond: usize) -> bool
         ensures { IsTrue result ↔ ((t : ℕ) ×
-            IsThread (world_of self.now) t × ((world_of self.now).point t ≡ Sweeps cond)) }
+            IsThread (state_of self.now) t × ((state_of self.now).point t ≡ Sweeps cond)) }
     {
         for thread in 0..self.threads {
             if self.is_sweeping(thread, cond) {
@@ -40,7 +40,7 @@ impl State {
     }
 
     fn is_waiting(&self, thread: usize, cond: usize) -> bool
-        ensures { IsTrue result ↔ Waits (world_of self.now).point cond thread }
+        ensures { IsTrue result ↔ Waits (state_of self.now).point cond thread }
     {
         match self.point(thread) {
             Point::Bed { cond: waited, .. } | Point::Rest { cond: waited, .. } => waited == cond,
@@ -49,8 +49,8 @@ impl State {
     }
 
     fn do_all_want(&self, lock: usize) -> bool
-        requires { IsLock (world_of self.now) lock }
-        ensures { IsTrue result ↔ AllWant (world_of self.now) lock }
+        requires { IsLock (state_of self.now) lock }
+        ensures { IsTrue result ↔ AllWant (state_of self.now) lock }
     {
         for place in 0..self.lock_lines.len(lock) {
             if !self.is_wanting(self.lock_lines.at(lock, place), lock) {
@@ -61,8 +61,8 @@ impl State {
     }
 
     fn do_all_wait(&self, cond: usize) -> bool
-        requires { IsCond (world_of self.now) cond }
-        ensures { IsTrue result ↔ AllWait (world_of self.now) cond }
+        requires { IsCond (state_of self.now) cond }
+        ensures { IsTrue result ↔ AllWait (state_of self.now) cond }
     {
         for place in 0..self.cond_lines.len(cond) {
             if !self.is_waiting(self.cond_lines.at(cond, place), cond) {
@@ -73,15 +73,15 @@ impl State {
     }
 
     fn is_marked(&self, lock: usize) -> bool
-        requires { IsLock (world_of self.now) lock }
-        ensures { IsTrue result ↔ IsMarked (world_of self.now) lock }
+        requires { IsLock (state_of self.now) lock }
+        ensures { IsTrue result ↔ IsMarked (state_of self.now) lock }
     {
         self.is_parked(lock) || self.lock_lines.is_empty(lock)
     }
 
     fn is_sought(&self, lock: usize) -> bool
-        requires { IsLock (world_of self.now) lock }
-        ensures { IsTrue result ↔ IsSought (world_of self.now) lock }
+        requires { IsLock (state_of self.now) lock }
+        ensures { IsTrue result ↔ IsSought (state_of self.now) lock }
     {
         if self.is_held(lock) || self.lock_lines.is_empty(lock) {
             return true;
@@ -90,8 +90,8 @@ impl State {
     }
 
     fn is_swept(&self, cond: usize) -> bool
-        requires { IsCond (world_of self.now) cond }
-        ensures { IsTrue result ↔ IsSwept (world_of self.now) cond }
+        requires { IsCond (state_of self.now) cond }
+        ensures { IsTrue result ↔ IsSwept (state_of self.now) cond }
     {
         if self.flag(cond) || self.cond_lines.is_empty(cond) {
             return true;
@@ -100,8 +100,8 @@ impl State {
     }
 
     fn is_sound_lock(&self, lock: usize) -> bool
-        requires { IsLock (world_of self.now) lock }
-        ensures { IsTrue result ↔ IsSoundLock (world_of self.now) lock }
+        requires { IsLock (state_of self.now) lock }
+        ensures { IsTrue result ↔ IsSoundLock (state_of self.now) lock }
     {
         if !self.is_marked(lock) {
             return false;
@@ -113,8 +113,8 @@ impl State {
     }
 
     fn is_sound_cond(&self, cond: usize) -> bool
-        requires { IsCond (world_of self.now) cond }
-        ensures { IsTrue result ↔ IsSoundCond (world_of self.now) cond }
+        requires { IsCond (state_of self.now) cond }
+        ensures { IsTrue result ↔ IsSoundCond (state_of self.now) cond }
     {
         if !self.is_swept(cond) {
             return false;
@@ -124,8 +124,8 @@ impl State {
 
     // How many threads are seeking a permit of the semaphore.
     fn seekers(&self, sem: usize) -> usize
-        requires { IsSemaphore (world_of self.now) sem }
-        ensures { result ≡ seeker_count (world_of self.now).threads (semaphore_part (world_of self.now)) sem }
+        requires { IsSemaphore (state_of self.now) sem }
+        ensures { result ≡ seeker_count (state_of self.now).threads (semaphore_part (state_of self.now)) sem }
     {
         let mut count = 0;
         for thread in 0..self.threads {
@@ -137,8 +137,8 @@ impl State {
     }
 
     fn do_all_seek(&self, sem: usize) -> bool
-        requires { IsSemaphore (world_of self.now) sem }
-        ensures { IsTrue result ↔ AllSeek (world_of self.now) sem }
+        requires { IsSemaphore (state_of self.now) sem }
+        ensures { IsTrue result ↔ AllSeek (state_of self.now) sem }
     {
         for place in 0..self.sems.lines.len(sem) {
             if !self.seeks(self.sems.lines.at(sem, place), sem) {
@@ -149,15 +149,15 @@ impl State {
     }
 
     fn is_marked_semaphore(&self, sem: usize) -> bool
-        requires { IsSemaphore (world_of self.now) sem }
-        ensures { IsTrue result ↔ IsMarkedSemaphore (world_of self.now) sem }
+        requires { IsSemaphore (state_of self.now) sem }
+        ensures { IsTrue result ↔ IsMarkedSemaphore (state_of self.now) sem }
     {
         self.sems.is_parked(sem) || self.sems.lines.is_empty(sem)
     }
 
     fn is_sought_semaphore(&self, sem: usize) -> bool
-        requires { IsSemaphore (world_of self.now) sem }
-        ensures { IsTrue result ↔ IsSoughtSemaphore (world_of self.now) sem }
+        requires { IsSemaphore (state_of self.now) sem }
+        ensures { IsTrue result ↔ IsSoughtSemaphore (state_of self.now) sem }
     {
         if self.sems.lines.is_empty(sem) {
             return true;
@@ -166,8 +166,8 @@ impl State {
     }
 
     fn is_sound_semaphore(&self, sem: usize) -> bool
-        requires { IsSemaphore (world_of self.now) sem }
-        ensures { IsTrue result ↔ IsSoundSemaphore (world_of self.now) sem }
+        requires { IsSemaphore (state_of self.now) sem }
+        ensures { IsTrue result ↔ IsSoundSemaphore (state_of self.now) sem }
     {
         if !self.is_marked_semaphore(sem) {
             return false;
@@ -179,7 +179,7 @@ impl State {
     }
 
     fn are_locks_sound(&self) -> bool
-        ensures { IsTrue result ↔ ((l : ℕ) → IsSoundLock (world_of self.now) l) }
+        ensures { IsTrue result ↔ ((l : ℕ) → IsSoundLock (state_of self.now) l) }
     {
         for lock in 0..self.locks {
             if !self.is_sound_lock(lock) {
@@ -190,7 +190,7 @@ impl State {
     }
 
     fn are_conds_sound(&self) -> bool
-        ensures { IsTrue result ↔ ((c : ℕ) → IsSoundCond (world_of self.now) c) }
+        ensures { IsTrue result ↔ ((c : ℕ) → IsSoundCond (state_of self.now) c) }
     {
         for i in 0..self.conds {
             if !self.is_sound_cond(self.locks + i) {
@@ -201,7 +201,7 @@ impl State {
     }
 
     fn are_semaphores_sound(&self) -> bool
-        ensures { IsTrue result ↔ ((k : ℕ) → IsSoundSemaphore (world_of self.now) k) }
+        ensures { IsTrue result ↔ ((k : ℕ) → IsSoundSemaphore (state_of self.now) k) }
     {
         for i in 0..self.sems.len() {
             if !self.is_sound_semaphore(self.sems.key(i)) {
@@ -220,7 +220,7 @@ impl State {
     /// ([`every_event_keeps_soundness`](crate::every_event_keeps_soundness)): a test may ask, a
     /// program need not.
     pub fn is_sound(&self) -> bool
-        ensures { IsTrue result ↔ IsSound (world_of self.now) }
+        ensures { IsTrue result ↔ IsSound (state_of self.now) }
     {
         if !self.are_locks_sound() {
             return false;

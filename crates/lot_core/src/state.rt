@@ -62,17 +62,17 @@ pub struct State {
 #[tactic(auto, using(crate::proofs::Rows::row_laws))]
 impl State {
     ghost use Rattle.lot_core.specs.Steps.{IsThread, MayLetGo, let_go};
-    ghost use Rattle.lot_core.specs.State.{world_of, with_point};
+    ghost use Rattle.lot_core.specs.State.{state_of, with_point};
 
     pub(crate) fn is_thread(&self, thread: usize) -> bool
-        ensures { IsTrue result ↔ IsThread (world_of self.now) thread }
+        ensures { IsTrue result ↔ IsThread (state_of self.now) thread }
     {
         thread < self.threads
     }
 
     // Whoever is none of the state's threads is calm.
     pub(crate) fn point(&self, thread: usize) -> Point
-        ensures { (world_of self.now).point thread ≡ result }
+        ensures { (state_of self.now).point thread ≡ result }
     {
         if !self.is_thread(thread) {
             return Point::Calm;
@@ -81,16 +81,16 @@ impl State {
     }
 
     fn set_point(&mut self, thread: usize, point: Point)
-        requires { IsThread (world_of self.old) thread }
-        ensures { world_of self.new ≡ with_point (world_of self.old) thread point }
+        requires { IsThread (state_of self.old) thread }
+        ensures { state_of self.new ≡ with_point (state_of self.old) thread point }
     {
         self.points[thread] = point;
     }
 
     fn let_go(&mut self, thread: usize)
-        requires { IsThread (world_of self.old) thread }
-        ensures { world_of self.new ≡
-            record (world_of self.old) { point = let_go (world_of self.old).point thread } }
+        requires { IsThread (state_of self.old) thread }
+        ensures { state_of self.new ≡
+            record (state_of self.old) { point = let_go (state_of self.old).point thread } }
     {
         let point = match self.point(thread) {
             Point::Bed { cond, lock } => Point::Rest { cond, lock },
@@ -101,7 +101,7 @@ impl State {
 
     // A thread that is none of the state's has no point to change.
     fn calm(&mut self, thread: usize)
-        ensures { world_of self.new ≡ with_point (world_of self.old) thread Calm }
+        ensures { state_of self.new ≡ with_point (state_of self.old) thread Calm }
     {
         if self.is_thread(thread) {
             self.set_point(thread, Point::Calm);
@@ -109,7 +109,7 @@ impl State {
     }
 
     fn is_calm(&self, thread: usize) -> bool
-        ensures { IsTrue result ↔ ((world_of self.now).point thread ≡ Calm) }
+        ensures { IsTrue result ↔ ((state_of self.now).point thread ≡ Calm) }
     {
         match self.point(thread) {
             Point::Calm => true,
@@ -118,7 +118,7 @@ impl State {
     }
 
     fn may_let_go(&self, thread: usize, lock: usize) -> bool
-        ensures { IsTrue result ↔ MayLetGo (world_of self.now) thread lock }
+        ensures { IsTrue result ↔ MayLetGo (state_of self.now) thread lock }
     {
         match self.point(thread) {
             Point::Calm => true,
@@ -131,7 +131,7 @@ impl State {
 #[tactic(auto)]
 impl State {
     ghost use Rattle.lot_core.specs.Steps.{Run, after_all};
-    ghost use Rattle.lot_core.specs.State.{world_of, Answers, StopsAt};
+    ghost use Rattle.lot_core.specs.State.{state_of, Answers, StopsAt};
 
     /// Makes the event, and says what its thread sees of it.
     ///
@@ -140,7 +140,7 @@ impl State {
     /// asks of it, and a `Park` or `SemPark` that queues its thread. After either the state is as it
     /// was.
     pub fn step(&mut self, e: Event) -> Result<Seen, CoreFault>
-        ensures { Answers (world_of self.old) e result (world_of self.new) }
+        ensures { Answers (state_of self.old) e result (state_of self.new) }
     {
         match e {
             Event::Try { thread, key } => self.try_take(thread, key),
@@ -178,9 +178,9 @@ impl State {
     /// The answer is then that event's number, counted from 0, and the fault; the state is that
     /// after the events before it.
     pub fn run(&mut self, events: &[Event]) -> Result<(), (usize, CoreFault)>
-        ensures ok { OnOk result (Run (world_of self.old) events.now × (world_of self.new ≡
-            after_all (world_of self.old) events.now)) }
-        ensures err { IfErr result (λ e. StopsAt (world_of self.old) events.now e.0 e.1 (world_of self.new)) }
+        ensures ok { OnOk result (Run (state_of self.old) events.now × (state_of self.new ≡
+            after_all (state_of self.old) events.now)) }
+        ensures err { IfErr result (λ e. StopsAt (state_of self.old) events.now e.0 e.1 (state_of self.new)) }
     {
         for (i, e) in events.iter().enumerate() {
             match self.step(*e) {

@@ -12,7 +12,7 @@ use Rattle.lot_whole.specs.declared.views.Stand.TheVariants.{Idle}
 use Rattle.lot_whole.specs.Family.{lock, cond, sem}
 use Rattle.lot_whole.specs.Standing.{IsUp, MayTake, MayWant}
 use Rattle.lot_scheme.specs.Standing.{LotStanding, adding}
-use Rattle.lot_scheme.specs.Words.{IsSeek, GetWord}
+use Rattle.lot_scheme.specs.Traces.{IsSeek, GetTrace}
 
 pub All-one : {X : Type 0} (P : X → Type 0) (x : X) → P x → All P (x ∷ [])
 All-one P x is = All-cons P x [] is (All-nil P)
@@ -45,9 +45,9 @@ module _ {V : Type 0} where
     λ idle. absurd (let e : Some l ≡ None = idle.0.aim in cc),
   )
 
--- ---- words
--- more accesses that seek, before a word that gets the lock
-pub sought_before : (t l : ℕ) (front did : List Access) → All (IsSeek t l) front → GetWord t l did → GetWord t l (front ++ did)
+-- ---- traces
+-- more accesses that seek, before a trace that gets the lock
+pub sought_before : (t l : ℕ) (front did : List Access) → All (IsSeek t l) front → GetTrace t l did → GetTrace t l (front ++ did)
 sought_before t l front did sought (more, last, all, got, is) = (
   front ++ more,
   last,

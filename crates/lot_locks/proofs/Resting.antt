@@ -10,7 +10,7 @@ use Rattle.lot_whole.specs.declared.views.Stand.TheVariants.{Idle}
 use Rattle.lot_whole.specs.Standing.{IsIdle}
 use Rattle.lot_whole.specs.Whole.{rises}
 use Rattle.lot_scheme.specs.Standing.{LotStanding, owning, finding_parked, letting_go, placing as stand_placing}
-use Rattle.lot_scheme.specs.Words.{GetWord}
+use Rattle.lot_scheme.specs.Traces.{GetTrace}
 use Rattle.lot_locks.specs.Standing.{MayFree, GetsBy, IsOwner}
 use Rattle.lot_locks.proofs.Adding.{up_then}
 
@@ -56,12 +56,12 @@ module _ {V : Type 0} where
 
 module _ {V Part : Type 0} (rule : CallersRule V Part) where
   -- whoever was idle and got a lock may let it go
-  pub got_may_free : (word : List Access → Type 0) (before after : LotStanding V) (l : ℕ) → IsIdle before.own
-      → GetsBy rule word before l after → MayFree after l
-  got_may_free word before after l idle o =
+  pub got_may_free : (trace : List Access → Type 0) (before after : LotStanding V) (l : ℕ) → IsIdle before.own
+      → GetsBy rule trace before l after → MayFree after l
+  got_may_free trace before after l idle o =
       let owns = owns_owning before.own.locks l o.value o.found.tells in
       subst (λ (z : LotStanding V). MayFree z l) (sym o.is)
       (record { may = inl (owning_idle before l o.value idle); holds = owns.holds; lies = (o.value, owns.lies) })
 
   pub owner_may_free : (before after : LotStanding V) (l : ℕ) → IsIdle before.own → IsOwner rule before l after → MayFree after l
-  owner_may_free before after l idle o = got_may_free (GetWord before.thread l) before after l idle o
+  owner_may_free before after l idle o = got_may_free (GetTrace before.thread l) before after l idle o

@@ -19,7 +19,7 @@ use Rattle.lot_words.specs.Calls.{wanting as lock_wanting}
 use Rattle.lot_whole.specs.declared.views.Stand.TheVariants.{Idle}
 use Rattle.lot_whole.specs.Standing.{MayWant, MayLineUp}
 use Rattle.lot_scheme.specs.Standing.{LotStanding, adding, wanting, owning}
-use Rattle.lot_scheme.specs.Words.{IsSeek}
+use Rattle.lot_scheme.specs.Traces.{IsSeek}
 use Rattle.lot_scheme.proofs.Ends.{ends_with}
 use Rattle.lot_locks.specs.Standing.{IsTryingFor, IsAwakeFor, IsOwner, Seeks, HasMarked, FindsAnother, HasFound}
 use Rattle.lot_locks.proofs.Adding.{All-one, none_added, both_added, up_then, is_up, may_again, sought_before}

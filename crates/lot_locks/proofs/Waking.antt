@@ -12,7 +12,7 @@ use Rattle.lot_words.specs.Calls.{owning as lock_owning, woken}
 use Rattle.lot_whole.specs.declared.views.Stand.TheVariants.{Idle}
 use Rattle.lot_whole.specs.Family.{lock}
 use Rattle.lot_scheme.specs.Standing.{LotStanding, adding, wanting, lined, owning, IsLooked, CollectsLock}
-use Rattle.lot_scheme.specs.Words.{IsSeek}
+use Rattle.lot_scheme.specs.Traces.{IsSeek}
 use Rattle.lot_locks.specs.Standing.{IsAsleepFor, IsTryingFor, IsOwner}
 use Rattle.lot_locks.proofs.Adding.{All-one, none_added, both_added, is_up}
 use Rattle.lot_locks.proofs.Seeking.{found_then}

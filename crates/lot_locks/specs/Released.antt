@@ -1,4 +1,4 @@
--- What an unlock may answer, and what its answer comes from; and the words of unlocks.
+-- What an unlock may answer, and what its answer comes from; and the traces of unlocks.
 use Rattle.std.specs.Prelude.{◌≡◌, ℕ, ◌<◌, ◌⊎◌, ◌||◌, Bool, true, false, List, [], ◌∷◌, drop, Option, Some, None, IsSome}
 use Rattle.lot_events.specs.declared.events.Event.TheVariants.{Free, Pass}
 use Rattle.lot_events.specs.declared.events.Seen.TheVariants.{Bool as Saw, Sleeper}
@@ -41,7 +41,7 @@ IsFitting Nobody fair now = Unit {0}
 IsFitting Woke fair now = fair ≡ false
 IsFitting Handed fair now = fair ≡ false → 0 < now
 
--- ---- words: t is the thread, l the lock
+-- ---- traces: t is the thread, l the lock
 -- a lock that was found parked was passed on, of which this became; it stays marked as parked where more is true, and then its line had a
 -- first
 abbrev pub Passed : ℕ → ℕ → Bool → Released → List Access → Type 0
@@ -50,7 +50,7 @@ Passed t l more became acts =
     × (acts ≡ Makes (Pass t l fair more) (Sleeper first) ∷ [])
 
 -- a lock was let go, of which this became: by the first exchange, or it was found parked and then passed on
-abbrev pub FreeWord : ℕ → ℕ → Released → List Access → Type 0
-FreeWord t l became acts =
+abbrev pub FreeTrace : ℕ → ℕ → Released → List Access → Type 0
+FreeTrace t l became acts =
     ((became ≡ Quiet) × (acts ≡ Makes (Free t l) (Saw true) ∷ []))
     ⊎ ((more : Bool) × (rest : List Access) × Passed t l more became rest × (acts ≡ Makes (Free t l) (Saw false) ∷ rest))

@@ -12,9 +12,9 @@ use Rattle.lot_whole.specs.Standing.{MayWant, MayLetGo}
 use Rattle.lot_park.specs.declared.seeking.Seeking.{Seeking}
 use Rattle.lot_park.specs.declared.seeking.Seeking.TheVariants.{Got, Waits, Parks}
 use Rattle.lot_scheme.specs.Standing.{LotStanding, EndsWith, adding, wanting, lined, owning, finding_parked, letting_go}
-use Rattle.lot_scheme.specs.Words.{IsSeek, GetWord}
+use Rattle.lot_scheme.specs.Traces.{IsSeek, GetTrace}
 use Rattle.lot_locks.specs.declared.released.Released.{Released}
-use Rattle.lot_locks.specs.Released.{FreeWord, Passed}
+use Rattle.lot_locks.specs.Released.{FreeTrace, Passed}
 
 -- a letter was found: so the thread had been queued in a line, and was taken from it
 abbrev pub is_letter : Access → Bool
@@ -56,26 +56,26 @@ module _ {V : Type 0} where
   abbrev pub IsFoundParked : LotStanding V → ℕ → LotStanding V → Type 0
   IsFoundParked before l now = now ≡ adding (finding_parked before l) (Makes (Free before.thread l) (Saw false) ∷ [])
 
-  -- the lock was let go by such a word, and the value that lay in its slot was left there
-  pub record GoesBy (word : List Access → Type 0) (before : LotStanding V) (l : ℕ) (after : LotStanding V) : Type 0 where
+  -- the lock was let go by such a trace, and the value that lay in its slot was left there
+  pub record GoesBy (trace : List Access → Type 0) (before : LotStanding V) (l : ℕ) (after : LotStanding V) : Type 0 where
     pub value : V
     pub lay : IsIn before.own.locks l value
     pub did : List Access
-    pub freed : word did
+    pub freed : trace did
     pub is : after ≡ adding (letting_go before l value) did
 
   -- the lock was let go, of which this became: by the first exchange, or after it was found parked
   abbrev pub LetsGo : LotStanding V → ℕ → Released → LotStanding V → Type 0
-  LetsGo before l became after = GoesBy (FreeWord before.thread l became) before l after
+  LetsGo before l became after = GoesBy (FreeTrace before.thread l became) before l after
 
   -- the lock, which was found parked before, was let go, of which this became; it stays marked as parked where more is true
   abbrev pub PassesOn : LotStanding V → ℕ → Bool → Released → LotStanding V → Type 0
   PassesOn before l more became after = GoesBy (Passed before.thread l more became) before l after
 
   -- ---- tries
-  -- the lock was not got, by such a word, and the pass stands as before
+  -- the lock was not got, by such a trace, and the pass stands as before
   abbrev pub MissesBy : (List Access → Type 0) → LotStanding V → LotStanding V → Type 0
-  MissesBy word before after = (did : List Access) × word did × (after ≡ adding before did)
+  MissesBy trace before after = (did : List Access) × trace did × (after ≡ adding before did)
 
 -- where above is the order of keys
 module _ {V : Type 0} (above : ℕ → ℕ → Type 0) where
@@ -105,17 +105,17 @@ module _ {V : Type 0} (above : ℕ → ℕ → Type 0) where
     pub is : now ≡ adding (lined before l) did
 
 module _ {V Part : Type 0} (rule : CallersRule V Part) where
-  -- the lock was got by such a word, with the value that was found there
-  pub record GetsBy (word : List Access → Type 0) (before : LotStanding V) (l : ℕ) (after : LotStanding V) : Type 0 where
+  -- the lock was got by such a trace, with the value that was found there
+  pub record GetsBy (trace : List Access → Type 0) (before : LotStanding V) (l : ℕ) (after : LotStanding V) : Type 0 where
     pub value : V
     pub found : FoundOk rule l before.thread before.own.locks value
     pub did : List Access
-    pub got : word did
+    pub got : trace did
     pub is : after ≡ adding (owning before l value) did
 
   -- the lock was sought, and got
   abbrev pub IsOwner : LotStanding V → ℕ → LotStanding V → Type 0
-  IsOwner before l after = GetsBy (GetWord before.thread l) before l after
+  IsOwner before l after = GetsBy (GetTrace before.thread l) before l after
 
   -- how far a thread is that seeks the lock, one of n, and that stood so before
   abbrev pub Seeks : ℕ → LotStanding V → ℕ → Seeking → LotStanding V → Type 0

@@ -3,7 +3,7 @@ ghost use Rattle.std.specs.Prelude.{◌≡◌, ◌≢◌, ◌<◌, ◌⊎◌, tr
 ghost use Rattle.lot_rights.specs.declared.views.Access.TheVariants.{Finds};
 ghost use Rattle.lot_whole.specs.Standing.{IsIdle, MayWant};
 ghost use Rattle.lot_scheme.specs.Standing.{adding};
-ghost use Rattle.lot_scheme.specs.Words.{TryWord};
+ghost use Rattle.lot_scheme.specs.Traces.{TryTrace};
 ghost use Rattle.lot_locks.specs.Standing.{IsAwakeFor, IsTryingFor, IsOwner, GetsBy, MissesBy, HasFound, letters_in};
 
 use crate::steps::HANDOFF;
@@ -66,8 +66,8 @@ pub fn try_get<V: Keeps, N: LotName<V>, C: Tally>(
 ) -> (NamedPass<V, N>, bool)
     requires key { key < N.locks }
     requires idle { IsIdle pass.own }
-    ensures { MatchBool result.1 (GetsBy V.Keeps (TryWord pass.thread key true) pass key result.0)
-        (MissesBy (TryWord pass.thread key false) pass result.0) }
+    ensures { MatchBool result.1 (GetsBy V.Keeps (TryTrace pass.thread key true) pass key result.0)
+        (MissesBy (TryTrace pass.thread key false) pass result.0) }
 {
     let (pass, found) = scheme.take_free(pass, key);
     if found == UNHELD {

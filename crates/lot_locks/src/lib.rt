@@ -11,7 +11,7 @@
 //! | `let_go` | one compare-exchange | the first of the line is handed the lock, or tries again |
 //!
 //! A pass is told by how it stands (`LotStanding` of lot_scheme). Each call says what it makes of that, by an equation,
-//! and by the word of the accesses that it made.
+//! and by the trace of the accesses that it made.
 #![tactic(auto)]
 
 mod getting;

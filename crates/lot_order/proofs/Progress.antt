@@ -10,7 +10,7 @@ use Rattle.std.proofs.lemmas.Map.Views.{Contains-from_any}
 use Rattle.lot_events.specs.declared.events.Point.{Point}
 use Rattle.lot_events.specs.declared.events.Point.TheVariants.{Calm, Wants, Bed, Rest, Sweeps, Seeks}
 use Rattle.lot_core.specs.Sums.{total, bit}
-use Rattle.lot_core.specs.World.{World}
+use Rattle.lot_core.specs.Model.{StateView}
 use Rattle.lot_core.specs.Steps.{IsSeeking}
 use Rattle.lot_core.specs.Parts.{semaphore_part}
 use Rattle.lot_core.specs.Sound.{IsSound, is_seeking}
@@ -54,7 +54,7 @@ some_in : (line : List ℕ) (t : ℕ) → Contains line t → line ≢ []
 some_in line t inside none = in_none t (subst (λ xs. Contains xs t) none inside)
 
 -- where permits are left, somebody seeks them who is up
-seeker : (s : World) (t k : ℕ) → IsSound s → s.point t ≡ Seeks k → 1 ≤ s.sems.left k → (u : ℕ) × IsSeeking s u k
+seeker : (s : StateView) (t k : ℕ) → IsSound s → s.point t ≡ Seeks k → 1 ≤ s.sems.left k → (u : ℕ) × IsSeeking s u k
 seeker s t k sound seeks some = elim (in_line (s.sems.line k) t) [
   | inr up ↦ (t, (seeks, up))
   | inl sleeps ↦
@@ -65,7 +65,7 @@ seeker s t k sound seeks some = elim (in_line (s.sems.line k) t) [
       (one.0, (sought_is (s.point one.0) k is.0, is.1))
 ]
 
-module _ (above : ℕ → ℕ → Type 0) (s : World) (sound : IsSound s) (ordered : IsOrdered above s) where
+module _ (above : ℕ → ℕ → Type 0) (s : StateView) (sound : IsSound s) (ordered : IsOrdered above s) where
   -- what may be found where some thread needs a key
   abbrev pub Found : Type 0
   Found = GoesOn s ⊎ AwaitsNotice above s ⊎ SeeksInVain s
@@ -162,7 +162,7 @@ module _ (above : ℕ → ℕ → Type 0) (s : World) (sound : IsSound s) (order
       | inr (inr vain) ↦ inr vain
     ]
 
-pub orderly : (above : ℕ → ℕ → Type 0) (s : World) → IsSound s → IsOrdered above s → IsOrderly above s
+pub orderly : (above : ℕ → ℕ → Type 0) (s : StateView) → IsSound s → IsOrdered above s → IsOrderly above s
 orderly above s sound ordered = record {
   ordered = ordered;
   no_circle = λ level rises. no_circle above level rises s ordered;

@@ -5,7 +5,7 @@ use Rattle.lot_events.specs.declared.events.Point.{Point}
 use Rattle.lot_events.specs.declared.events.Point.TheVariants.{Calm, Wants, Bed, Rest, Sweeps, Seeks}
 use Rattle.lot_events.specs.declared.events.Event.{Event}
 use Rattle.lot_events.specs.declared.events.Event.TheVariants.{Take, Enlist, SemTake}
-use Rattle.lot_core.specs.World.{World}
+use Rattle.lot_core.specs.Model.{StateView}
 use Rattle.lot_core.specs.Steps.{Allowed, after}
 
 -- what one thread has: locks, and so many permits of each semaphore
@@ -13,7 +13,7 @@ pub record Keys : Type 1 where
   pub locks : ℕ → Type 0
   pub permits : ℕ → ℕ
 
-abbrev pub held_by : World → ℕ → Keys
+abbrev pub held_by : StateView → ℕ → Keys
 held_by s t = record { locks = λ l. s.locks.has l t ≡ true; permits = λ k. s.sems.out k t }
 
 -- the lock, or a permit of the semaphore, is among it
@@ -41,7 +41,7 @@ abbrev pub Rises : (ℕ → ℕ → Type 0) → (ℕ → ℕ) → Type 0
 Rises above level = (j k : ℕ) → above j k → level j < level k
 
 -- the discipline: who is to wait for a lock, for a permit, or with lock l for a notification of c, has only keys below
-abbrev pub KeepsOrder : (ℕ → ℕ → Type 0) → World → Event → Type 0
+abbrev pub KeepsOrder : (ℕ → ℕ → Type 0) → StateView → Event → Type 0
 KeepsOrder above s (Take t l) = s.locks.held l ≡ true → AllBelow above (held_by s t) l
 KeepsOrder above s (SemTake t k) = s.sems.left k ≡ 0 → AllBelow above (held_by s t) k
 KeepsOrder above s (Enlist t c l) = MayWait above (held_by s t) c l
@@ -56,14 +56,14 @@ InOrder above keys h (Rest c l) = (l < keys) × AllBelow above h l × AllBelow a
 InOrder above keys h (Sweeps c) = Unit {0}
 InOrder above keys h (Seeks k) = (k < keys) × AllBelow above h k
 
-abbrev pub key_count : World → ℕ
+abbrev pub key_count : StateView → ℕ
 key_count s = s.lock_count + s.cond_count + s.sem_count
 
 -- a state is in order where each thread is
-abbrev pub IsOrdered : (ℕ → ℕ → Type 0) → World → Type 0
+abbrev pub IsOrdered : (ℕ → ℕ → Type 0) → StateView → Type 0
 IsOrdered above s = (t : ℕ) → InOrder above (key_count s) (held_by s t) (s.point t)
 
 -- a run each of whose events keeps the order
-abbrev pub OrderlyRun : (ℕ → ℕ → Type 0) → World → List Event → Type 0
+abbrev pub OrderlyRun : (ℕ → ℕ → Type 0) → StateView → List Event → Type 0
 OrderlyRun above s [] = Unit {0}
 OrderlyRun above s (e ∷ events) = Allowed s e × KeepsOrder above s e × OrderlyRun above (after s e) events

@@ -2,7 +2,7 @@
 ghost use Rattle.std.specs.Prelude.{◌≡◌, ◌⊎◌, ℕ, List};
 ghost use Rattle.lot_events.specs.declared.events.Event.{Event};
 ghost use Rattle.lot_events.specs.declared.events.Point.TheVariants.{Rest};
-ghost use Rattle.lot_core.specs.World.{World, opening_with};
+ghost use Rattle.lot_core.specs.Model.{StateView, opening_with};
 ghost use Rattle.lot_core.specs.Steps.{Allowed, Run, after, after_all};
 ghost use Rattle.lot_core.specs.Sound.{IsSound};
 ghost use Rattle.lot_order.specs.Order.{KeepsOrder, IsOrdered, OrderlyRun, Rises};
@@ -20,11 +20,11 @@ pub trait KeyOrder {
 /// opened with none. Where whoever waits for a notification keeps nothing, since no key may be kept with it, one of the
 /// other two holds.
 pub fn ordered_states_go_on<O: KeyOrder>()
-    ensures no_circle { (level : ℕ → ℕ) (s : World) → Rises O.above level → IsOrdered O.above s
+    ensures no_circle { (level : ℕ → ℕ) (s : StateView) → Rises O.above level → IsOrdered O.above s
         → HasNoCircle s }
-    ensures goes_on { (level : ℕ → ℕ) (s : World) → Rises O.above level → IsSound s
+    ensures goes_on { (level : ℕ → ℕ) (s : StateView) → Rises O.above level → IsSound s
         → IsOrdered O.above s → SomeoneGoesOn O.above s }
-    ensures nothing_kept { (level : ℕ → ℕ) (s : World) → Rises O.above level → IsSound s
+    ensures nothing_kept { (level : ℕ → ℕ) (s : StateView) → Rises O.above level → IsSound s
         → IsOrdered O.above s → ((t c l j : ℕ) → s.point t ≡ Rest c l → ¬ O.above j c)
         → (t k : ℕ) → Needs s t k → GoesOn s ⊎ SeeksInVain s }
 {}
@@ -34,7 +34,7 @@ pub fn ordered_states_go_on<O: KeyOrder>()
 pub fn orderly_runs_go_on<O: KeyOrder>()
     ensures opening { (threads locks conds : ℕ) (permits : List ℕ)
         → IsOrdered O.above (opening_with threads locks conds permits) }
-    ensures event { (s : World) (e : Event) → IsOrdered O.above s → Allowed s e
+    ensures event { (s : StateView) (e : Event) → IsOrdered O.above s → Allowed s e
         → KeepsOrder O.above s e → IsOrdered O.above (after s e) }
     ensures run { (threads locks conds : ℕ) (permits : List ℕ) (events : List Event)
         → OrderlyRun O.above (opening_with threads locks conds permits) events

@@ -1,4 +1,4 @@
-pub mod Words
+pub mod Adding
 pub mod Seeking
 pub mod Slept
 pub mod Rest

@@ -8,12 +8,12 @@ use Rattle.lot_whole.specs.Family.{lock, cond, sem}
 use Rattle.lot_whole.specs.Standing.{IsUp, IsIdle}
 use Rattle.lot_scheme.specs.Standing.{LotStanding, adding, one_permit_more as stand_one_permit_more}
 use Rattle.lot_scheme.specs.Standing.{one_permit_less as stand_one_permit_less}
-use Rattle.lot_scheme.specs.Words.{UnfreedWord}
+use Rattle.lot_scheme.specs.Traces.{UnfreedTrace}
 use Rattle.lot_permits.specs.declared.permit.Freed.{Freed}
 use Rattle.lot_permits.specs.declared.permit.Freed.TheVariants.{Quiet, Woke, Nobody}
-use Rattle.lot_permits.specs.Freed.{GivesPermit, PassesPermit, GivenWord, PassedWord}
+use Rattle.lot_permits.specs.Freed.{GivesPermit, PassesPermit, GivenTrace, PassedTrace}
 use Rattle.lot_permits.specs.Seeking.{GetsPermit}
-use Rattle.lot_permits.proofs.Words.{adding_on}
+use Rattle.lot_permits.proofs.Adding.{adding_on}
 
 module _ {V : Type 0} where
   -- ---- idle
@@ -42,15 +42,16 @@ module _ {V : Type 0} where
   idle_given p q k became idle gives = subst (λ (r : LotStanding V). IsIdle r.own) (sym gives.is) (idle_giving p k idle)
 
 -- ---- a release that was tried in vain at first
-given_after : (t k : ℕ) (more : Bool) (became : Freed) (tried rest : List Access) → UnfreedWord t k tried → PassedWord t k more became rest
-    → GivenWord t k became (tried ++ rest)
+given_after : (t k : ℕ) (more : Bool) (became : Freed) (tried rest : List Access) → UnfreedTrace t k tried
+    → PassedTrace t k more became rest
+    → GivenTrace t k became (tried ++ rest)
 given_after t k more Quiet tried rest miss word = absurd word
 given_after t k more Woke tried rest miss word = (more, tried, rest, miss, word, refl)
 given_after t k more Nobody tried rest miss word = (more, tried, rest, miss, word, refl)
 
 module _ {V : Type 0} where
   -- what is made of the pass then is made of it as it stood before
-  gives_at : (p q : LotStanding V) (k : ℕ) (did : List Access) → UnfreedWord p.thread k did → (more : Bool) (became : Freed)
+  gives_at : (p q : LotStanding V) (k : ℕ) (did : List Access) → UnfreedTrace p.thread k did → (more : Bool) (became : Freed)
       → PassesPermit (adding p did) k more became q → GivesPermit p k became q
   gives_at p q k did miss more became s = record {
     did = did ++ s.did;
@@ -58,7 +59,7 @@ module _ {V : Type 0} where
     is = s.is ∙ adding_on (stand_one_permit_less p k) did s.did;
   }
 
-  pub gives_after : (p m q : LotStanding V) (k : ℕ) (did : List Access) → UnfreedWord p.thread k did → m ≡ adding p did → (more : Bool)
+  pub gives_after : (p m q : LotStanding V) (k : ℕ) (did : List Access) → UnfreedTrace p.thread k did → m ≡ adding p did → (more : Bool)
       (became : Freed) → PassesPermit m k more became q → GivesPermit p k became q
   gives_after p m q k did miss is more became s =
       gives_at p q k did miss more became (subst (λ (r : LotStanding V). PassesPermit r k more became q) is s)

@@ -18,11 +18,11 @@ use Rattle.lot_park.specs.declared.seeking.Seeking.{Seeking}
 use Rattle.lot_park.specs.declared.seeking.Seeking.TheVariants.{Got, Waits, Parks}
 use Rattle.lot_park.specs.Seeking.{SeekingLaws, IsUnfinished}
 use Rattle.lot_scheme.specs.Standing.{LotStanding, adding, seeking, one_permit_more}
-use Rattle.lot_scheme.specs.Words.{IsPermitSeek}
+use Rattle.lot_scheme.specs.Traces.{IsPermitSeek}
 use Rattle.lot_scheme.specs.SemCalls.{TakesPermit, MarksPermit}
 use Rattle.lot_scheme.proofs.Ends.{ends_with}
 use Rattle.lot_permits.specs.Seeking.{GetsPermit, IsSeekingFor, IsAwakeFor, Seeks, HasMarked, FindsAnother}
-use Rattle.lot_permits.proofs.Words.{adding_on, adding_none, get_after, took_it, one_seek, seek_on, busy_seek}
+use Rattle.lot_permits.proofs.Adding.{adding_on, adding_none, get_after, took_it, one_seek, seek_on, busy_seek}
 
 module _ {V : Type 0} where
   -- ---- the thread is up
@@ -211,7 +211,7 @@ module _ {V : Type 0} where
     -- ---- after a try
     pub tried : (p q : LotStanding V) (key : ℕ) → first_sem ≤ key → MayWantPermit above p.own key
         → TakesPermit p key HasGot q → GetsPermit p key q
-    tried p q key among may (did, word, is) = record { did = did; got = took_it p.thread key did word; is = is }
+    tried p q key among may (did, trace, is) = record { did = did; got = took_it p.thread key did trace; is = is }
 
     pub found_none : (p q : LotStanding V) (key : ℕ) → first_sem ≤ key → MayWantPermit above p.own key → TakesPermit p key Empty q
         → IsSeekingFor above first_sem p key q

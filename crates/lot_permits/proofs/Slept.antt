@@ -12,9 +12,9 @@ use Rattle.lot_whole.specs.declared.views.Stand.TheVariants.{Idle}
 use Rattle.lot_whole.specs.Family.{lock, cond, sem}
 use Rattle.lot_whole.specs.Standing.{IsUp}
 use Rattle.lot_scheme.specs.Standing.{LotStanding, adding, seeking, queued, IsLooked, CollectsIn, CollectsSem}
-use Rattle.lot_scheme.specs.Words.{IsPermitSeek}
+use Rattle.lot_scheme.specs.Traces.{IsPermitSeek}
 use Rattle.lot_permits.specs.Seeking.{IsAsleepFor, IsSeekingFor, Seeks}
-use Rattle.lot_permits.proofs.Words.{adding_on, seek_on}
+use Rattle.lot_permits.proofs.Adding.{adding_on, seek_on}
 use Rattle.lot_permits.proofs.Seeking.{up_of}
 
 none_of : (o : Option ℕ) → is_some o ≡ false → o ≡ None

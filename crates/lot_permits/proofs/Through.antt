@@ -1,4 +1,4 @@
--- The words of permits have no access by which a lock is let go: what is told of unlocks, by the accesses that were made with a pass, is
+-- The traces of permits have no access by which a lock is let go: what is told of unlocks, by the accesses that were made with a pass, is
 -- the same after them.
 use Rattle.std.proofs.Common.{◌≡◌, ℕ, Bool, true, List, [], ◌∷◌, ◌++◌, Some, None, inl, inr, refl, sym, ap, subst, ◌∙◌}
 use Rattle.std.specs.List.{All, fold}
@@ -8,10 +8,10 @@ use Rattle.lot_events.specs.declared.events.Event.TheVariants.{SemTake, SemMark,
 use Rattle.lot_events.specs.declared.events.Seen.TheVariants.{Bool as Saw, Done, Sleeper}
 use Rattle.lot_rights.specs.declared.views.Access.{Access}
 use Rattle.lot_rights.specs.declared.views.Access.TheVariants.{Makes, Posts, Collects, Finds, Counts}
-use Rattle.lot_scheme.specs.Words.{IsPermitSeek, GetPermitWord, TookWord, BusyWord, UnfreedWord}
+use Rattle.lot_scheme.specs.Traces.{IsPermitSeek, GetPermitTrace, TookTrace, BusyTrace, UnfreedTrace}
 use Rattle.lot_permits.specs.declared.permit.Freed.{Freed}
 use Rattle.lot_permits.specs.declared.permit.Freed.TheVariants.{Quiet, Woke, Nobody}
-use Rattle.lot_permits.specs.Freed.{GivenWord, PassedWord}
+use Rattle.lot_permits.specs.Freed.{GivenTrace, PassedTrace}
 
 -- an access by which no lock is let go
 abbrev pub IsNoUnlock : Access → Type 0
@@ -53,43 +53,43 @@ one a h = All-cons IsNoUnlock a [] h (All-nil IsNoUnlock)
 two : (a b : Access) → IsNoUnlock a → IsNoUnlock b → All IsNoUnlock (a ∷ b ∷ [])
 two a b h i = All-cons IsNoUnlock a (b ∷ []) h (one b i)
 
--- ---- words
-pub took_through : (t k : ℕ) (acts : List Access) → TookWord t k acts → All IsNoUnlock acts
+-- ---- traces
+pub took_through : (t k : ℕ) (acts : List Access) → TookTrace t k acts → All IsNoUnlock acts
 took_through t k acts (word, left, is) =
     subst (All IsNoUnlock) (sym is) (two (Finds t k word) (Makes (SemTake t k) (Saw true)) tt tt)
 
-pub busy_through : (t k : ℕ) (acts : List Access) → BusyWord t k acts → All IsNoUnlock acts
+pub busy_through : (t k : ℕ) (acts : List Access) → BusyTrace t k acts → All IsNoUnlock acts
 busy_through t k acts (seen, found, left, other, is) =
     subst (All IsNoUnlock) (sym is) (two (Finds t k seen) (Finds t k found) tt tt)
 
-pub get_through : (t k : ℕ) (acts : List Access) → GetPermitWord t k acts → All IsNoUnlock acts
+pub get_through : (t k : ℕ) (acts : List Access) → GetPermitTrace t k acts → All IsNoUnlock acts
 get_through t k acts (front, sought, (word, left, is)) = subst (All IsNoUnlock) (sym is)
     (All-append IsNoUnlock front (Finds t k word ∷ Makes (SemTake t k) (Saw true) ∷ []) (all_seek t k front sought)
     (two (Finds t k word) (Makes (SemTake t k) (Saw true)) tt tt))
 
-unfreed_through : (t k : ℕ) (acts : List Access) → UnfreedWord t k acts → All IsNoUnlock acts
+unfreed_through : (t k : ℕ) (acts : List Access) → UnfreedTrace t k acts → All IsNoUnlock acts
 unfreed_through t k acts (inl (word, marked, is)) = subst (All IsNoUnlock) (sym is) (one (Finds t k word) tt)
 unfreed_through t k acts (inr (seen, found, clear, other, is)) =
     subst (All IsNoUnlock) (sym is) (two (Finds t k seen) (Finds t k found) tt tt)
 
-passed_through : (t k : ℕ) (more : Bool) (became : Freed) (acts : List Access) → PassedWord t k more became acts → All IsNoUnlock acts
-passed_through t k more Quiet acts word = absurd word
+passed_through : (t k : ℕ) (more : Bool) (became : Freed) (acts : List Access) → PassedTrace t k more became acts → All IsNoUnlock acts
+passed_through t k more Quiet acts trace = absurd trace
 passed_through t k more Woke acts (first, is) =
     subst (All IsNoUnlock) (sym is) (one (Makes (Passes t k more) (Sleeper (Some first))) tt)
 passed_through t k more Nobody acts (none, is) =
     subst (All IsNoUnlock) (sym is) (two (Makes (Passes t k more) (Sleeper None)) (Makes (SemClear t k) Done) tt tt)
 
-both_through : (t k : ℕ) (more : Bool) (became : Freed) (tried rest acts : List Access) → UnfreedWord t k tried
-    → PassedWord t k more became rest
+both_through : (t k : ℕ) (more : Bool) (became : Freed) (tried rest acts : List Access) → UnfreedTrace t k tried
+    → PassedTrace t k more became rest
     → acts ≡ tried ++ rest → All IsNoUnlock acts
-both_through t k more became tried rest acts miss word is = subst (All IsNoUnlock) (sym is)
-    (All-append IsNoUnlock tried rest (unfreed_through t k tried miss) (passed_through t k more became rest word))
+both_through t k more became tried rest acts miss trace is = subst (All IsNoUnlock) (sym is)
+    (All-append IsNoUnlock tried rest (unfreed_through t k tried miss) (passed_through t k more became rest trace))
 
-pub given_through : (t k : ℕ) (became : Freed) (acts : List Access) → GivenWord t k became acts → All IsNoUnlock acts
+pub given_through : (t k : ℕ) (became : Freed) (acts : List Access) → GivenTrace t k became acts → All IsNoUnlock acts
 given_through t k Quiet acts (word, clear, is) =
     subst (All IsNoUnlock) (sym is) (two (Finds t k word) (Makes (SemFree t k) (Saw true)) tt tt)
-given_through t k Woke acts (more, tried, rest, miss, word, is) = both_through t k more Woke tried rest acts miss word is
-given_through t k Nobody acts (more, tried, rest, miss, word, is) = both_through t k more Nobody tried rest acts miss word is
+given_through t k Woke acts (more, tried, rest, miss, trace, is) = both_through t k more Woke tried rest acts miss trace is
+given_through t k Nobody acts (more, tried, rest, miss, trace, is) = both_through t k more Nobody tried rest acts miss trace is
 
 -- ---- what is told of unlocks
 -- what such accesses leave, one by one, they leave all together

@@ -6,7 +6,7 @@ use Rattle.lot_rights.specs.declared.views.Access.{Access}
 use Rattle.lot_rights.specs.declared.views.Access.TheVariants.{Makes}
 use Rattle.lot_whole.specs.Standing.{MayGive}
 use Rattle.lot_scheme.specs.Standing.{LotStanding, adding, one_permit_less}
-use Rattle.lot_scheme.specs.Words.{FreedWord, UnfreedWord}
+use Rattle.lot_scheme.specs.Traces.{FreedTrace, UnfreedTrace}
 use Rattle.lot_permits.specs.declared.permit.Freed.{Freed}
 use Rattle.lot_permits.specs.declared.permit.Freed.TheVariants.{Quiet, Woke, Nobody}
 
@@ -15,19 +15,19 @@ abbrev pub freed_by : Option ℕ → Freed
 freed_by None = Nobody
 freed_by (Some thread) = Woke
 
--- ---- words: t gives a permit of k back, of which this becomes
+-- ---- traces: t gives a permit of k back, of which this becomes
 -- with the bucket locked: it stays marked as parked where more may wait; where nobody is in the line, the parked bit is cleared then
-abbrev pub PassedWord : ℕ → ℕ → Bool → Freed → List Access → Type 0
-PassedWord t k more Quiet acts = ⊥
-PassedWord t k more Woke acts = (first : ℕ) × (acts ≡ Makes (Passes t k more) (Sleeper (Some first)) ∷ [])
-PassedWord t k more Nobody acts =
+abbrev pub PassedTrace : ℕ → ℕ → Bool → Freed → List Access → Type 0
+PassedTrace t k more Quiet acts = ⊥
+PassedTrace t k more Woke acts = (first : ℕ) × (acts ≡ Makes (Passes t k more) (Sleeper (Some first)) ∷ [])
+PassedTrace t k more Nobody acts =
     (more ≡ false) × (acts ≡ Makes (Passes t k more) (Sleeper None) ∷ Makes (SemClear t k) Done ∷ [])
 
 -- the whole release: at once, or after a try to free it in vain with the bucket locked
-abbrev pub GivenWord : ℕ → ℕ → Freed → List Access → Type 0
-GivenWord t k Quiet acts = FreedWord t k acts
-GivenWord t k became acts =
-    (more : Bool) × (tried rest : List Access) × UnfreedWord t k tried × PassedWord t k more became rest × (acts ≡ tried ++ rest)
+abbrev pub GivenTrace : ℕ → ℕ → Freed → List Access → Type 0
+GivenTrace t k Quiet acts = FreedTrace t k acts
+GivenTrace t k became acts =
+    (more : Bool) × (tried rest : List Access) × UnfreedTrace t k tried × PassedTrace t k more became rest × (acts ≡ tried ++ rest)
 
 -- ---- how a pass stands: p before, and q when a permit of k was given back
 module _ {V : Type 0} where
@@ -38,10 +38,10 @@ module _ {V : Type 0} where
   -- the semaphore stays marked as parked where more may wait
   pub record PassesPermit (p : LotStanding V) (k : ℕ) (more : Bool) (became : Freed) (q : LotStanding V) : Type 0 where
     pub did : List Access
-    pub passed : PassedWord p.thread k more became did
+    pub passed : PassedTrace p.thread k more became did
     pub is : q ≡ adding (one_permit_less p k) did
 
   pub record GivesPermit (p : LotStanding V) (k : ℕ) (became : Freed) (q : LotStanding V) : Type 0 where
     pub did : List Access
-    pub given : GivenWord p.thread k became did
+    pub given : GivenTrace p.thread k became did
     pub is : q ≡ adding (one_permit_less p k) did

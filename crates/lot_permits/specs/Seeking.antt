@@ -9,13 +9,13 @@ use Rattle.lot_whole.specs.Standing.{MayWantPermit}
 use Rattle.lot_park.specs.declared.seeking.Seeking.{Seeking}
 use Rattle.lot_park.specs.declared.seeking.Seeking.TheVariants.{Got, Waits, Parks}
 use Rattle.lot_scheme.specs.Standing.{LotStanding, EndsWith, adding, seeking, queued, one_permit_more}
-use Rattle.lot_scheme.specs.Words.{IsPermitSeek, GetPermitWord, BusyWord}
+use Rattle.lot_scheme.specs.Traces.{IsPermitSeek, GetPermitTrace, BusyTrace}
 
 module _ {V : Type 0} where
   -- it sought a permit of k, and got it
   pub record GetsPermit (p : LotStanding V) (k : ℕ) (q : LotStanding V) : Type 0 where
     pub did : List Access
-    pub got : GetPermitWord p.thread k did
+    pub got : GetPermitTrace p.thread k did
     pub is : q ≡ adding (one_permit_more p k) did
 
   -- at last it marked the semaphore as parked
@@ -25,7 +25,7 @@ module _ {V : Type 0} where
   -- an exchange found another word than it was to change: at last that of a mark, which is to change 0; or that of a try to take
   abbrev pub FindsAnother : LotStanding V → ℕ → LotStanding V → Type 0
   FindsAnother p k q = EndsWith (λ a. (word : ℕ) × (word ≢ 0) × (a ≡ Finds p.thread k word)) p q
-      ⊎ ((did : List Access) × BusyWord p.thread k did × (q ≡ adding p did))
+      ⊎ ((did : List Access) × BusyTrace p.thread k did × (q ≡ adding p did))
 
 -- where above is the order of keys
 module _ {V : Type 0} (above : ℕ → ℕ → Type 0) where

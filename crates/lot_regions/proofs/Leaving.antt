@@ -7,74 +7,74 @@ use mathlib.Core.Option.{some-injective}
 use Rattle.lot_rights.specs.declared.views.Access.{Access}
 use Rattle.lot_words.specs.CallersRule.{CallersRule}
 use Rattle.lot_locks.specs.declared.released.Released.{Released}
-use Rattle.lot_scheme.specs.Words.{GetWord}
-use Rattle.lot_locks.specs.Released.{IsFitting, FreeWord}
+use Rattle.lot_scheme.specs.Traces.{GetTrace}
+use Rattle.lot_locks.specs.Released.{IsFitting, FreeTrace}
 use Rattle.lot_sync.specs.Lot.{LotView, PassView, ◌≈◌, HeldView, Owns, OwnsNone, HasSeen, HasShape, owning, letting_go}
-use Rattle.lot_sync.specs.Words.{Adds, NotifyWord}
+use Rattle.lot_sync.specs.Traces.{Adds, NotifyTrace}
 use Rattle.lot_sync.specs.Values.{Gets, MayGiveBack}
 use Rattle.lot_calls.specs.Visits.{own_parts, MayBecome}
 use Rattle.lot_calls.specs.Waits.{AfterWaits, woken_from}
-use Rattle.lot_calls.specs.Words.{WaitsWord, GetAfterWord}
+use Rattle.lot_calls.specs.Traces.{WaitsTrace, GetAfterTrace}
 use Rattle.lot_calls.proofs.Visiting.{set_back, finds}
-use Rattle.lot_regions.specs.Words.{TellWord, LeaveWord, ChangeWord, WhenWord}
+use Rattle.lot_regions.specs.Traces.{TellTrace, LeaveTrace, ChangeTrace, WhenTrace}
 use Rattle.lot_regions.specs.Regions.{Region, HasGot}
 
 -- ---- which accesses were made
 module _ (told : ℕ → Bool) (t l now first behind : ℕ) (before mid after : List Access) where
   -- the lock was let go, and there is no condition to tell
-  pub only_left : behind ≤ first → (became : Released) → IsFitting became false now → Adds before (FreeWord t l became) after
-      → Adds before (LeaveWord told t l now first (behind - first)) after
-  only_left none became fits (did, is, word) =
+  pub only_left : behind ≤ first → (became : Released) → IsFitting became false now → Adds before (FreeTrace t l became) after
+      → Adds before (LeaveTrace told t l now first (behind - first)) after
+  only_left none became fits (did, is, trace) =
       let nothing : behind - first ≡ 0 = omega (arith, none) in
-      (did, is, subst (λ n. LeaveWord told t l now first n did) (sym nothing) (became, fits, word))
+      (did, is, subst (λ n. LeaveTrace told t l now first n did) (sym nothing) (became, fits, trace))
 
   -- the last was told after the others
   pub told_last : (cond u : ℕ) → cond ≡ behind - 1 → first < behind → u ≡ t
-      → Adds before (LeaveWord told t l now first (cond - first)) mid → Adds mid (TellWord (told cond) u cond) after
-      → Adds before (LeaveWord told t l now first (behind - first)) after
+      → Adds before (LeaveTrace told t l now first (cond - first)) mid → Adds mid (TellTrace (told cond) u cond) after
+      → Adds before (LeaveTrace told t l now first (behind - first)) after
   told_last cond u last_is some same (front, mid_is, left) (last, after_is, tell) =
       let long : behind - first ≡ suc (cond - first) = omega (arith, last_is, some) in
       let at : first + (cond - first) ≡ cond = omega (arith, last_is, some) in (
         front ++ last,
         after_is ∙ (ap (λ ds. ds ++ last) mid_is ∙ append_assoc before front last),
-        subst (λ n. LeaveWord told t l now first n (front ++ last)) (sym long) (
+        subst (λ n. LeaveTrace told t l now first n (front ++ last)) (sym long) (
           front,
           last,
           left,
-          subst (λ c. TellWord (told c) t c last) (sym at) (subst (λ w. TellWord (told cond) w cond last) same tell),
+          subst (λ c. TellTrace (told c) t c last) (sym at) (subst (λ w. TellTrace (told cond) w cond last) same tell),
           refl,
         ),
       )
 
 module _ (told : ℕ → Bool) (t cond : ℕ) where
   -- a condition for which the value is ready was notified
-  pub tells : (taken : ℕ) (mid after : List Access) → told cond ≡ true → Adds mid (NotifyWord t cond 1 taken) after
-      → Adds mid (TellWord (told cond) t cond) after
-  tells taken mid after so (did, is, word) = (did, is, subst (λ b. TellWord b t cond did) (sym so) (taken, word))
+  pub tells : (taken : ℕ) (mid after : List Access) → told cond ≡ true → Adds mid (NotifyTrace t cond 1 taken) after
+      → Adds mid (TellTrace (told cond) t cond) after
+  tells taken mid after so (did, is, trace) = (did, is, subst (λ b. TellTrace b t cond did) (sym so) (taken, trace))
 
   -- and one for which it is not was left alone
-  pub tells_nobody : (mid : List Access) → told cond ≡ false → Adds mid (TellWord (told cond) t cond) mid
-  tells_nobody mid so = ([], sym (append-nil mid), subst (λ b. TellWord b t cond []) (sym so) refl)
+  pub tells_nobody : (mid : List Access) → told cond ≡ false → Adds mid (TellTrace (told cond) t cond) mid
+  tells_nobody mid so = ([], sym (append-nil mid), subst (λ b. TellTrace b t cond []) (sym so) refl)
 
 module _ (told : ℕ → Bool) (t l now c n : ℕ) (before mid after : List Access) (u k : ℕ) (same : u ≡ t) (same_key : k ≡ l) where
-  left_by : Adds mid (LeaveWord told u k now c n) after → Adds mid (LeaveWord told t l now c n) after
-  left_by (did, is, word) = (
+  left_by : Adds mid (LeaveTrace told u k now c n) after → Adds mid (LeaveTrace told t l now c n) after
+  left_by (did, is, trace) = (
     did,
     is,
-    subst (λ j. LeaveWord told t j now c n did) same_key
-        (subst (λ w. LeaveWord told w k now c n did) same word),
+    subst (λ j. LeaveTrace told t j now c n did) same_key
+        (subst (λ w. LeaveTrace told w k now c n did) same trace),
   )
 
-  pub change_made : Adds before (GetWord t l) mid → Adds mid (LeaveWord told u k now c n) after
-      → Adds before (ChangeWord told t l now c n) after
+  pub change_made : Adds before (GetTrace t l) mid → Adds mid (LeaveTrace told u k now c n) after
+      → Adds before (ChangeTrace told t l now c n) after
   change_made (get, mid_is, got) leaves = let (leave, after_is, left) = left_by leaves in (
     get ++ leave,
     after_is ∙ (ap (λ ds. ds ++ leave) mid_is ∙ append_assoc before get leave),
     (get, leave, got, left, refl),
   )
 
-  pub when_made : (d count : ℕ) → Adds before (GetAfterWord t d l now count) mid → Adds mid (LeaveWord told u k now c n) after
-      → Adds before (WhenWord told t d count l now c n) after
+  pub when_made : (d count : ℕ) → Adds before (GetAfterTrace t d l now count) mid → Adds mid (LeaveTrace told u k now c n) after
+      → Adds before (WhenTrace told t d count l now c n) after
   when_made d count (get, mid_is, got) leaves = let (leave, after_is, left) = left_by leaves in (
     get ++ leave,
     after_is ∙ (ap (λ ds. ds ++ leave) mid_is ∙ append_assoc before get leave),
@@ -82,16 +82,16 @@ module _ (told : ℕ → Bool) (t l now c n : ℕ) (before mid after : List Acce
   )
 
 -- the accesses of a lock that was got, and then waited with
-pub got_after_made : (t l d now count : ℕ) (before got mid : List Access) (u k : ℕ) → u ≡ t → k ≡ l → Adds before (GetWord t l) got
-    → Adds got (WaitsWord u d k now count) mid → Adds before (GetAfterWord t d l now count) mid
-got_after_made t l d now count before got mid u k same same_key (get, got_is, word) (waits, mid_is, waited) = (
+pub got_after_made : (t l d now count : ℕ) (before got mid : List Access) (u k : ℕ) → u ≡ t → k ≡ l → Adds before (GetTrace t l) got
+    → Adds got (WaitsTrace u d k now count) mid → Adds before (GetAfterTrace t d l now count) mid
+got_after_made t l d now count before got mid u k same same_key (get, got_is, trace) (waits, mid_is, waited) = (
   get ++ waits,
   mid_is ∙ (ap (λ ds. ds ++ waits) got_is ∙ append_assoc before get waits),
   (
     get,
     waits,
-    word,
-    subst (λ j. WaitsWord t d j now count waits) same_key (subst (λ w. WaitsWord w d k now count waits) same waited),
+    trace,
+    subst (λ j. WaitsTrace t d j now count waits) same_key (subst (λ w. WaitsTrace w d k now count waits) same waited),
     refl,
   ),
 )

@@ -12,7 +12,7 @@ use Rattle.lot_events.specs.declared.events.Point.TheVariants.{Calm, Wants, Bed,
 use Rattle.lot_events.specs.declared.events.Event.{Event}
 use Rattle.lot_events.specs.declared.events.Event.TheVariants.{Try, Take, Mark, Park, Free, Pass, Enlist, Look, Call, Lower, Sweep, SemTake}
 use Rattle.lot_events.specs.declared.events.Event.TheVariants.{SemMark, SemPark, SemFree, SemPass, SemClear}
-use Rattle.lot_core.specs.World.{World, Locks, Semaphores, put, opening_with}
+use Rattle.lot_core.specs.Model.{StateView, Locks, Semaphores, put, opening_with}
 use Rattle.lot_core.specs.Steps.{IsThread, IsTrying, IsSeeking, Allowed, after, none_left, released, let_go, handed}
 use Rattle.lot_core.specs.Sound.{IsSound, IsOnce, Waits}
 use Rattle.lot_core.proofs.Put.{at_all, put_same, put_other}
@@ -84,7 +84,7 @@ handed_steady point [] out = same_points point
 handed_steady point (u ∷ rest) out = calmed_steady point u (λ c. out u c (in_head u rest))
 
 -- after a pass of l
-passed_steady : (s : World) (t l : ℕ) (fair : Bool) → IsSound s
+passed_steady : (s : StateView) (t l : ℕ) (fair : Bool) → IsSound s
     → IsSteady s.point (if fair then handed (let_go s.point t) (s.locks.line l) else let_go s.point t)
 passed_steady s t l true sound =
     steady_twice s.point (let_go s.point t) (handed (let_go s.point t) (s.locks.line l)) (let_go_steady s.point t)
@@ -103,16 +103,16 @@ is_calm_true (Rest c l) is = absurd (cc)
 is_calm_true (Sweeps c) is = absurd (cc)
 is_calm_true (Seeks k) is = absurd (cc)
 
-waits_not_awake : (s : World) (t c : ℕ) → Waits s.point c t → IsAwake (s.point t) → ⊥
+waits_not_awake : (s : StateView) (t c : ℕ) → Waits s.point c t → IsAwake (s.point t) → ⊥
 waits_not_awake s t c (l, w) (inl calm) = elim w [ inl e ↦ absurd (cc) | inr e ↦ absurd (cc) ]
 waits_not_awake s t c (l, w) (inr (d, at)) = elim w [ inl e ↦ absurd (cc) | inr e ↦ absurd (cc) ]
 
 -- who is awake stands in no condition's line
-not_in_line : (s : World) (t c : ℕ) → IsSound s → IsAwake (s.point t) → Contains (s.conds.line c) t → ⊥
+not_in_line : (s : StateView) (t c : ℕ) → IsSound s → IsAwake (s.point t) → Contains (s.conds.line c) t → ⊥
 not_in_line s t c sound awake inside = waits_not_awake s t c (sound.one_line_each.waits c t inside).1 awake
 
 -- who stands in the lines of two conditions stands in one
-one_line : (s : World) (t c d : ℕ) → IsSound s → Contains (s.conds.line c) t → Contains (s.conds.line d) t → c ≡ d
+one_line : (s : StateView) (t c d : ℕ) → IsSound s → Contains (s.conds.line c) t → Contains (s.conds.line d) t → c ≡ d
 one_line s t c d sound here there = both (sound.one_line_each.waits c t here).1 (sound.one_line_each.waits d t there).1
   where
     both : Waits s.point c t → Waits s.point d t → c ≡ d
@@ -121,16 +121,16 @@ one_line s t c d sound here there = both (sound.one_line_each.waits c t here).1 
     both (l, inr a) (k, inl b) = absurd (cc)
     both (l, inr a) (k, inr b) = cc
 
-takes_not_sweeping : (s : World) (t l c : ℕ) → (s.point t ≡ Calm) ⊎ IsTrying s t l → s.point t ≡ Sweeps c → ⊥
+takes_not_sweeping : (s : StateView) (t l c : ℕ) → (s.point t ≡ Calm) ⊎ IsTrying s t l → s.point t ≡ Sweeps c → ⊥
 takes_not_sweeping s t l c (inl calm) sweeps = absurd (cc)
 takes_not_sweeping s t l c (inr (inl x)) sweeps = let at = x.0 in absurd (cc)
 takes_not_sweeping s t l c (inr (inr x)) sweeps = let at = x.1 in absurd (cc)
 
-seeks_not_sweeping : (s : World) (t k c : ℕ) → (s.point t ≡ Calm) ⊎ IsSeeking s t k → s.point t ≡ Sweeps c → ⊥
+seeks_not_sweeping : (s : StateView) (t k c : ℕ) → (s.point t ≡ Calm) ⊎ IsSeeking s t k → s.point t ≡ Sweeps c → ⊥
 seeks_not_sweeping s t k c (inl calm) sweeps = absurd (cc)
 seeks_not_sweeping s t k c (inr x) sweeps = let at = x.0 in absurd (cc)
 
-calm_apart : (s : World) (t u c : ℕ) → s.point t ≡ Calm → s.point u ≡ Sweeps c → u ≢ t
+calm_apart : (s : StateView) (t u c : ℕ) → s.point t ≡ Calm → s.point u ≡ Sweeps c → u ≢ t
 calm_apart s t u c calm sweeps e = let at : s.point t ≡ Sweeps c = subst (λ w. s.point w ≡ Sweeps c) e sweeps in absurd (cc)
 
 module _ {V : Type 0} where
@@ -153,7 +153,7 @@ module _ {V : Type 0} where
 module _ {V : Type 0} (lock_of : ℕ → ℕ) (ready : ℕ → V → Bool) where
   -- ---- events that change no line
   -- nobody began to owe
-  steady : (s : World) (g : Watch V) (locks : Locks) (sems : Semaphores) (point : ℕ → Point)
+  steady : (s : StateView) (g : Watch V) (locks : Locks) (sems : Semaphores) (point : ℕ → Point)
       → ((u c : ℕ) → s.point u ≡ Sweeps c → point u ≡ Sweeps c)
       → ((u c : ℕ) → g.owes u c ≡ true → IsAwake (s.point u) → IsAwake (point u)) → IsWatched lock_of ready s g
       → IsWatched lock_of ready (record s { locks = locks; sems = sems; point = point }) g
@@ -171,12 +171,12 @@ module _ {V : Type 0} (lock_of : ℕ → ℕ) (ready : ℕ → V → Bool) where
   }
 
   -- nobody moved
-  untouched : (s : World) (g : Watch V) (locks : Locks) (sems : Semaphores) → IsWatched lock_of ready s g
+  untouched : (s : StateView) (g : Watch V) (locks : Locks) (sems : Semaphores) → IsWatched lock_of ready s g
       → IsWatched lock_of ready (record s { locks = locks; sems = sems }) g
   untouched s g locks sems h = steady s g locks sems s.point (λ u c is. is) (λ u c owes awake. awake) h
 
   -- a thread that owes nothing and sweeps nothing went somewhere
-  gone : (s : World) (g : Watch V) (locks : Locks) (sems : Semaphores) (t : ℕ) (p : Point) → OwesNothing g t
+  gone : (s : StateView) (g : Watch V) (locks : Locks) (sems : Semaphores) (t : ℕ) (p : Point) → OwesNothing g t
       → ((c : ℕ) → s.point t ≡ Sweeps c → ⊥) → IsWatched lock_of ready s g
       → IsWatched lock_of ready (record s { locks = locks; sems = sems; point = put s.point t p }) g
   gone s g locks sems t p nothing not_sweeping h =
@@ -187,7 +187,7 @@ module _ {V : Type 0} (lock_of : ℕ → ℕ) (ready : ℕ → V → Bool) where
       (λ e awake. absurd (another g t u c nothing owes (sym e))) (λ w ne e awake. awake) u refl) h
 
   -- t let l go, where it left v
-  left : (s : World) (g : Watch V) (locks : Locks) (point : ℕ → Point) (t l : ℕ) (v : V) → IsThread s t → s.point t ≡ Calm
+  left : (s : StateView) (g : Watch V) (locks : Locks) (point : ℕ → Point) (t l : ℕ) (v : V) → IsThread s t → s.point t ≡ Calm
       → OwesNothing g t → IsSteady s.point point → IsWatched lock_of ready s g
       → IsWatched lock_of ready (record s { locks = locks; point = point }) (leaves lock_of ready g t l v)
   left s g locks point t l v thread calm nothing still h = record {
@@ -219,7 +219,7 @@ module _ {V : Type 0} (lock_of : ℕ → ℕ) (ready : ℕ → V → Bool) where
           (λ is. ap (called_beside lock_of ready l) is ∙ ap (λ b. if b then None else Some c) other) (λ w ne is. is) u called))
       due_still c u other (inr (inr sweeps)) = inr (inr (still.sweeping u c sweeps))
 
-  freed : (s : World) (g : Watch V) (locks : Locks) (t l : ℕ) (v : V) (parked calm : Bool) → IsThread s t → is_calm (s.point t) ≡ calm
+  freed : (s : StateView) (g : Watch V) (locks : Locks) (t l : ℕ) (v : V) (parked calm : Bool) → IsThread s t → is_calm (s.point t) ≡ calm
       → OwesNothing g t → IsWatched lock_of ready s g
       → IsWatched lock_of ready (record s { locks = locks; point = if parked then s.point else let_go s.point t })
       (if calm && not parked then leaves lock_of ready g t l v else g)
@@ -233,7 +233,7 @@ module _ {V : Type 0} (lock_of : ℕ → ℕ) (ready : ℕ → V → Bool) where
       let still = let_go_steady s.point t in
       steady s g locks s.sems (let_go s.point t) still.sweeping (λ u c owes. still.waking u) h
 
-  passed_on : (s : World) (g : Watch V) (locks : Locks) (point : ℕ → Point) (t l : ℕ) (v : V) (calm : Bool) → IsThread s t
+  passed_on : (s : StateView) (g : Watch V) (locks : Locks) (point : ℕ → Point) (t l : ℕ) (v : V) (calm : Bool) → IsThread s t
       → is_calm (s.point t) ≡ calm → OwesNothing g t → IsSteady s.point point → IsWatched lock_of ready s g
       → IsWatched lock_of ready (record s { locks = locks; point = point }) (if calm then leaves lock_of ready g t l v else g)
   passed_on s g locks point t l v true thread calm nothing still h =
@@ -242,7 +242,7 @@ module _ {V : Type 0} (lock_of : ℕ → ℕ) (ready : ℕ → V → Bool) where
       steady s g locks s.sems point still.sweeping (λ u c owes. still.waking u) h
 
   -- ---- conditions
-  enlisted : (s : World) (g : Watch V) (t c l : ℕ) (v : V) → s.point t ≡ Calm → KeepsWatch lock_of ready g (Enlist t c l)
+  enlisted : (s : StateView) (g : Watch V) (t c l : ℕ) (v : V) → s.point t ≡ Calm → KeepsWatch lock_of ready g (Enlist t c l)
       → IsWatched lock_of ready s g
       → IsWatched lock_of ready (after s (Enlist t c l)) (watch_after lock_of ready s g (Enlist t c l) v)
   enlisted s g t c l v calm keeps h = record {
@@ -271,7 +271,7 @@ module _ {V : Type 0} (lock_of : ℕ → ℕ) (ready : ℕ → V → Bool) where
           inr (inr (put_other s.point t (Bed c l) u (λ e. let at : s.point t ≡ Sweeps d = subst (λ w. s.point w ≡ Sweeps d) e sweeps in
           absurd (cc)) ∙ sweeps))
 
-  looked : (s : World) (g : Watch V) (t c : ℕ) (flag : Bool) → s.conds.flag c ≡ flag → IsSound s → IsWatched lock_of ready s g
+  looked : (s : StateView) (g : Watch V) (t c : ℕ) (flag : Bool) → s.conds.flag c ≡ flag → IsSound s → IsWatched lock_of ready s g
       → IsWatched lock_of ready s (if flag then g else pays g t c)
   looked s g t c true flag sound h = h
   looked s g t c false flag sound h = record {
@@ -288,7 +288,7 @@ module _ {V : Type 0} (lock_of : ℕ → ℕ) (ready : ℕ → V → Bool) where
   }
 
   -- some of c's line were taken, and none of them stands there still
-  taken_from : (s : World) (g : Watch V) (flag : ℕ → Bool) (rest taken : List ℕ) (point : ℕ → Point) (t c : ℕ) (owes : ℕ → ℕ → Bool)
+  taken_from : (s : StateView) (g : Watch V) (flag : ℕ → Bool) (rest taken : List ℕ) (point : ℕ → Point) (t c : ℕ) (owes : ℕ → ℕ → Bool)
       → IsSound s → IsWatched lock_of ready s g → ((u : ℕ) → Contains taken u → Contains (s.conds.line c) u)
       → ((u : ℕ) → Contains rest u → Contains (s.conds.line c) u)
       → ((u : ℕ) → Contains taken u → Contains rest u → ⊥) → (rest ≢ [] → (u : ℕ) × Contains taken u)
@@ -311,7 +311,7 @@ module _ {V : Type 0} (lock_of : ℕ → ℕ) (ready : ℕ → V → Bool) where
     awake = awake;
   }
     where
-      s' : World
+      s' : StateView
       s' = record s { conds = record { flag = flag; line = put s.conds.line c rest }; point = point }
 
       g' : Watch V
@@ -329,7 +329,7 @@ module _ {V : Type 0} (lock_of : ℕ → ℕ) (ready : ℕ → V → Bool) where
       due_still d u ne (inr (inr sweeps)) = inr (inr (sweeping u d ne sweeps))
 
   -- ---- each event
-  pub watch_kept : (s : World) (g : Watch V) (e : Event) (v : V) → IsSound s → IsWatched lock_of ready s g → Allowed s e
+  pub watch_kept : (s : StateView) (g : Watch V) (e : Event) (v : V) → IsSound s → IsWatched lock_of ready s g → Allowed s e
       → KeepsWatch lock_of ready g e → IsWatched lock_of ready (after s e) (watch_after lock_of ready s g e v)
   watch_kept s g (Try t l) v sound h ok keeps = untouched s g (after s (Try t l)).locks s.sems h
   watch_kept s g (Take t l) v sound h ok keeps =
@@ -387,7 +387,7 @@ module _ {V : Type 0} (lock_of : ℕ → ℕ) (ready : ℕ → V → Bool) where
   watch_kept s g (SemPass t k more) v sound h ok keeps = untouched s g s.locks (after s (SemPass t k more)).sems h
   watch_kept s g (SemClear t k) v sound h ok keeps = untouched s g s.locks (after s (SemClear t k)).sems h
 
-  pub none_forgotten : (s : World) (g : Watch V) → IsSound s → IsWatched lock_of ready s g → NoneIsForgotten lock_of ready s g
+  pub none_forgotten : (s : StateView) (g : Watch V) → IsSound s → IsWatched lock_of ready s g → NoneIsForgotten lock_of ready s g
   none_forgotten s g sound h c is some =
       let w = h.due c is some in (w.0, w.1, (λ inside. stands w.0 inside w.2), w.2)
     where
@@ -396,7 +396,7 @@ module _ {V : Type 0} (lock_of : ℕ → ℕ) (ready : ℕ → V → Bool) where
       stands u inside (inr (inl called)) = let none : g.called u ≡ None = h.outside c u inside in absurd (cc)
       stands u inside (inr (inr sweeps)) = not_in_line s u c sound (inr (c, sweeps)) inside
 
-  pub run_watched : (s : World) (g : Watch V) (events : List (Event × V)) → IsSound s → IsWatched lock_of ready s g
+  pub run_watched : (s : StateView) (g : Watch V) (events : List (Event × V)) → IsSound s → IsWatched lock_of ready s g
       → WatchedRun lock_of ready s g events
       → NoneIsForgotten lock_of ready (state_after s events) (watch_after_all lock_of ready s g events)
   run_watched s g [] sound h run = none_forgotten s g sound h

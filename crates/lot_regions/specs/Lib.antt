@@ -1,4 +1,4 @@
 pub mod Watch
-pub mod Words
+pub mod Traces
 pub mod Regions
 pub mod Conds

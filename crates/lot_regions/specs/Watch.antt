@@ -7,7 +7,7 @@ use Rattle.lot_events.specs.declared.events.Point.TheVariants.{Calm, Wants, Bed,
 use Rattle.lot_events.specs.declared.events.Event.{Event}
 use Rattle.lot_events.specs.declared.events.Event.TheVariants.{Try, Take, Free, Pass, Enlist, Look, Call, Lower, Sweep, SemTake, SemFree}
 use Rattle.lot_events.specs.declared.events.Event.TheVariants.{SemPass}
-use Rattle.lot_core.specs.World.{World, put}
+use Rattle.lot_core.specs.Model.{StateView, put}
 use Rattle.lot_core.specs.Steps.{IsThread, Allowed, after}
 
 -- the value of each lock, as it lies there or as its owner found it; whether thread t owes a notification of condition c; and from which
@@ -45,11 +45,11 @@ module _ {V : Type 0} where
   calls g c taken = record g { called = λ u. if list_any (nat_eq u) taken then Some c else g.called u }
 
   -- u is to see to c: it owes c a notification, or was taken from its line, or sweeps it
-  abbrev pub IsDueFor : World → Watch V → ℕ → ℕ → Type 0
+  abbrev pub IsDueFor : StateView → Watch V → ℕ → ℕ → Type 0
   IsDueFor s g u c = (g.owes u c ≡ true) ⊎ ((g.called u ≡ Some c) ⊎ (s.point u ≡ Sweeps c))
 
   -- the state after these events, of which each comes with a value
-  abbrev pub state_after : World → List (Event × V) → World
+  abbrev pub state_after : StateView → List (Event × V) → StateView
   state_after s [] = s
   state_after s (x ∷ rest) = state_after (after s x.0) rest
 
@@ -69,7 +69,7 @@ module _ {V : Type 0} (lock_of : ℕ → ℕ) (ready : ℕ → V → Bool) where
   }
 
   -- the watch after an event of state s; a calm thread that lets a lock go leaves v there
-  abbrev pub watch_after : World → Watch V → Event → V → Watch V
+  abbrev pub watch_after : StateView → Watch V → Event → V → Watch V
   watch_after s g (Free t l) v = if is_calm (s.point t) && not (s.locks.parked l) then leaves g t l v else g
   watch_after s g (Pass t l fair more) v = if is_calm (s.point t) then leaves g t l v else g
   watch_after s g (Enlist t c l) v = record g { called = put g.called t None }
@@ -94,22 +94,22 @@ module _ {V : Type 0} (lock_of : ℕ → ℕ) (ready : ℕ → V → Bool) where
 
   -- where a value is ready for a condition with a line, some thread is to see to it; nobody who was called stands in a condition's line;
   -- and whoever owes a notification is awake
-  pub record IsWatched (s : World) (g : Watch V) : Type 0 where
+  pub record IsWatched (s : StateView) (g : Watch V) : Type 0 where
     pub due : (c : ℕ) → ready c (g.value (lock_of c)) ≡ true → s.conds.line c ≢ [] → (u : ℕ) × IsThread s u × IsDueFor s g u c
     pub outside : (c t : ℕ) → Contains (s.conds.line c) t → g.called t ≡ None
     pub awake : (t c : ℕ) → g.owes t c ≡ true → IsAwake (s.point t)
 
   -- a run of events with the values that were left, each of which keeps the watch
-  abbrev pub WatchedRun : World → Watch V → List (Event × V) → Type 0
+  abbrev pub WatchedRun : StateView → Watch V → List (Event × V) → Type 0
   WatchedRun s g [] = Unit {0}
   WatchedRun s g (x ∷ rest) = Allowed s x.0 × KeepsWatch g x.0 × WatchedRun (after s x.0) (watch_after s g x.0 x.1) rest
 
-  abbrev pub watch_after_all : World → Watch V → List (Event × V) → Watch V
+  abbrev pub watch_after_all : StateView → Watch V → List (Event × V) → Watch V
   watch_after_all s g [] = g
   watch_after_all s g (x ∷ rest) = watch_after_all (after s x.0) (watch_after s g x.0 x.1) rest
 
   -- where a value is ready for a condition and somebody stands in its line, a thread outside that line is to see to it
-  abbrev pub NoneIsForgotten : World → Watch V → Type 0
+  abbrev pub NoneIsForgotten : StateView → Watch V → Type 0
   NoneIsForgotten s g =
       (c : ℕ) → ready c (g.value (lock_of c)) ≡ true → s.conds.line c ≢ []
       → (u : ℕ) × IsThread s u × (¬ Contains (s.conds.line c) u) × IsDueFor s g u c

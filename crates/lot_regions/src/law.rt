@@ -1,7 +1,7 @@
 //! What can't be where each thread keeps the watch: a function that does nothing, whose contract is the law.
 ghost use Rattle.std.specs.Prelude.{ℕ, Bool, List};
 ghost use Rattle.lot_events.specs.declared.events.Event.{Event};
-ghost use Rattle.lot_core.specs.World.{World, opening_with};
+ghost use Rattle.lot_core.specs.Model.{StateView, opening_with};
 ghost use Rattle.lot_core.specs.Steps.{Allowed, after};
 ghost use Rattle.lot_core.specs.Sound.{IsSound};
 ghost use Rattle.lot_regions.specs.Watch.{Watch, opening_watch, watch_after, KeepsWatch, IsWatched, WatchedRun};
@@ -19,10 +19,10 @@ pub fn no_notification_is_forgotten<V>()
     ensures opening { (lock_of : ℕ → ℕ) (ready : ℕ → V → Bool) (threads locks conds : ℕ) (permits : List ℕ)
         (values : ℕ → V)
         → IsWatched lock_of ready (opening_with threads locks conds permits) (opening_watch values) }
-    ensures event { (lock_of : ℕ → ℕ) (ready : ℕ → V → Bool) (s : World) (g : Watch V) (e : Event) (v : V)
+    ensures event { (lock_of : ℕ → ℕ) (ready : ℕ → V → Bool) (s : StateView) (g : Watch V) (e : Event) (v : V)
         → IsSound s → IsWatched lock_of ready s g → Allowed s e → KeepsWatch lock_of ready g e
         → IsWatched lock_of ready (after s e) (watch_after lock_of ready s g e v) }
-    ensures watched { (lock_of : ℕ → ℕ) (ready : ℕ → V → Bool) (s : World) (g : Watch V)
+    ensures watched { (lock_of : ℕ → ℕ) (ready : ℕ → V → Bool) (s : StateView) (g : Watch V)
         → IsSound s → IsWatched lock_of ready s g → NoneIsForgotten lock_of ready s g }
     ensures run { (lock_of : ℕ → ℕ) (ready : ℕ → V → Bool) (threads locks conds : ℕ) (permits : List ℕ)
         (values : ℕ → V) (events : List (Event × V))

@@ -1,10 +1,10 @@
 //! Regions: work on the value of a lock after which each condition is told for which the value is ready.
 ghost use Rattle.std.specs.Prelude.{◌≡◌, ◌<◌, ◌≤◌, ◌-◌, ℕ, true};
 ghost use Rattle.lot_sync.specs.Lot.{◌≈◌, Owns, OwnsNone, HasSeen, HasShape, letting_go};
-ghost use Rattle.lot_sync.specs.Words.{Adds};
+ghost use Rattle.lot_sync.specs.Traces.{Adds};
 ghost use Rattle.lot_sync.specs.Values.{MayGiveBack};
 ghost use Rattle.lot_calls.specs.Visits.{MayBecome, Finds};
-ghost use Rattle.lot_regions.specs.Words.{LeaveWord, ChangeWord, WhenWord};
+ghost use Rattle.lot_regions.specs.Traces.{LeaveTrace, ChangeTrace, WhenTrace};
 ghost use Rattle.lot_regions.specs.Regions.{AreConds, Region};
 
 use crate::ready::Ready;
@@ -36,7 +36,7 @@ pub fn change<
     requires keeps { (v : _) (o : _) (w : _) → Finds V.Keeps pass key v.now → F.post work v o w
         → MayBecome V.Keeps key pass.thread v.now w.now }
     ensures visits { (v : _) × (w : _) × F.post work v result.1 w × Region V.Keeps pass key v.now w.now result.0
-        × Adds pass.made (ChangeWord (λ c. V.ready c w.now) pass.thread key moment.now (V.first key)
+        × Adds pass.made (ChangeTrace (λ c. V.ready c w.now) pass.thread key moment.now (V.first key)
         (V.behind key - V.first key)) result.0.made }
     ensures shape { HasShape lot.now result.0 }
     ensures free { OwnsNone result.0 }
@@ -75,7 +75,7 @@ pub fn when<
         → F.post work v o w → MayBecome V.Keeps key pass.thread v.now w.now }
     ensures visits { (v : _) × (w : _) × F.post work v result.1 w × Region V.Keeps pass key v.now w.now result.0
         × (V.ready cond v.now ≡ true)
-        × ((count : ℕ) × Adds pass.made (WhenWord (λ c. V.ready c w.now) pass.thread cond count key moment.now
+        × ((count : ℕ) × Adds pass.made (WhenTrace (λ c. V.ready c w.now) pass.thread cond count key moment.now
         (V.first key) (V.behind key - V.first key)) result.0.made) }
     ensures shape { HasShape lot.now result.0 }
     ensures free { OwnsNone result.0 }
@@ -107,7 +107,7 @@ fn leave<V: Ready + Send, N: LotName<V> + Send, C: Tally + Send, T: Wait>(
     requires owns { Owns pass held.key }
     requires back { MayGiveBack V.Keeps pass held }
     ensures left { result ≈ record (letting_go pass held.key held.value) { called = result.called } }
-    ensures made { Adds pass.made (LeaveWord (λ c. V.ready c held.value) pass.thread held.key moment.now first
+    ensures made { Adds pass.made (LeaveTrace (λ c. V.ready c held.value) pass.thread held.key moment.now first
         (behind - first)) result.made }
     ensures seen { HasSeen result held.key held.value }
     ensures shape { HasShape lot.now result }

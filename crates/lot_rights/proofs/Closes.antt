@@ -82,6 +82,7 @@ module _ {S P R : Type 0} (k : Meaning S P R) (s : State S (List (Right P R))) (
     log = ru.log;
     run = ru.recorded.run;
     counted = ru.recorded.counted;
+    owed = ru.owed;
     passes_made = each_pass (Noted number made_with ru.log) (ru.recorded.listed.told.named id v at);
     roots_made = each_root (Noted number made_with ru.log) (ru.recorded.listed.told.named id v at);
   }

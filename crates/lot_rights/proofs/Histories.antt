@@ -1,13 +1,19 @@
 -- A history grows by one entry, or stays.
-use Rattle.std.proofs.Common.{◌≡◌, ◌≢◌, ℕ, ◌+◌, ◌≤◌, ◌==◌, Bool, true, false, cond, List, [], ◌∷◌, ◌++◌, length, set, refl, sym, ap, subst}
+use Rattle.std.proofs.Common.{◌≡◌, ◌≢◌, ℕ, ◌+◌, ◌*◌, ◌≤◌, ◌==◌, Bool, true, false, cond, List, [], ◌∷◌, ◌++◌, length, set, refl, sym}
+use Rattle.std.proofs.Common.{ap, subst}
 use Rattle.std.proofs.Common.{◌∙◌, append_assoc, eq-eqb, ne_eqb, arith}
-use Rattle.std.proofs.lemmas.List.{append-nil}
+use Rattle.std.proofs.lemmas.List.{append-nil, length-append}
+use Rattle.std.proofs.lemmas.List.Sums.{sum_by-append}
 use mathlib.Core.Option.{some}
 use lib.ListN.{get_elem?}
 use Rattle.lot_rights.specs.declared.views.Access.{Access}
 use Rattle.lot_rights.specs.declared.views.Entry.{Entry}
 use Rattle.lot_rights.specs.Seating.{times, times_in, Each}
-use Rattle.lot_rights.specs.History.{doer, entries_of, tokens_of, CountsRight, AllCountRight, Run, Noted, SameMade, Listed, Recorded}
+use Rattle.lot_rights.specs.declared.views.Access.TheVariants.{Makes, Posts, Collects, Finds, Counts}
+use Rattle.lot_rights.specs.History.{maker, doer, entries_of, tokens_of, taken_by, tokens_by, taken_in, CountsRight, AllCountRight, Run}
+use Rattle.lot_rights.specs.History.{Noted}
+use Rattle.lot_rights.specs.History.{SameMade, Listed, Recorded}
+use Rattle.lot_rights.proofs.Puts.{by_test}
 use Rattle.lot_rights.proofs.Seats.{times_append, times_one, times_set, times_snoc, times_head, tick, reseats, joins, splits}
 
 -- ---- lists of entries
@@ -42,20 +48,45 @@ module _ {S : Type 0} (Leads : S → Access → S → Type 0) where
 
 -- what is counted by one access more is so, and what was counted before
 pub counted_more : (before log : List Entry) (x : Entry) → AllCountRight before log
-    → CountsRight (λ c. tokens_of c (before ++ log)) x.access → AllCountRight before (log ++ x ∷ [])
-counted_more before [] x all one = (subst (λ (es : List Entry). CountsRight (λ c. tokens_of c es) x.access) (append-nil before) one, tt)
+    → CountsRight (before ++ log) x.access → AllCountRight before (log ++ x ∷ [])
+counted_more before [] x all one = (subst (λ (es : List Entry). CountsRight es x.access) (append-nil before) one, tt)
 counted_more before (y ∷ log) x all one = (
   all.0,
   counted_more (before ++ y ∷ []) log x all.1
-      (subst (λ (es : List Entry). CountsRight (λ c. tokens_of c es) x.access) (sym (append_assoc before (y ∷ []) log)) one),
+      (subst (λ (es : List Entry). CountsRight es x.access) (sym (append_assoc before (y ∷ []) log)) one),
 )
 
 -- what an entry counted was so of the entries before it
 pub counted_at : (first before : List Entry) (x : Entry) (after : List Entry) → AllCountRight first (before ++ x ∷ after)
-    → CountsRight (λ c. tokens_of c (first ++ before)) x.access
-counted_at first [] x after all = subst (λ (es : List Entry). CountsRight (λ c. tokens_of c es) x.access) (sym (append-nil first)) all.0
-counted_at first (y ∷ before) x after all = subst (λ (es : List Entry). CountsRight (λ c. tokens_of c es) x.access)
+    → CountsRight (first ++ before) x.access
+counted_at first [] x after all = subst (λ (es : List Entry). CountsRight es x.access) (sym (append-nil first)) all.0
+counted_at first (y ∷ before) x after all = subst (λ (es : List Entry). CountsRight es x.access)
     (append_assoc first (y ∷ []) before) (counted_at (first ++ y ∷ []) before x after all.1)
+
+-- ---- who was taken from a line
+module _ (c : ℕ) where
+  -- as many more have been taken, or told of it, as the entry takes, or tells
+  pub taken_more : (log : List Entry) (x : Entry) → taken_in c (log ++ x ∷ []) ≡ taken_in c log + taken_by c x.access
+  taken_more log x = let one : 0 + taken_by c x.access ≡ taken_by c x.access = omega arith in
+      sum_by-append (λ (y : Entry). taken_by c y.access) log (x ∷ []) ∙ ap (λ n. taken_in c log + n) one
+
+  told_else : (x : Entry) (t : ℕ) → doer x.access ≡ 2 * t → tokens_by c x.access ≡ 0 → length (tokens_of c (x ∷ [])) ≡ tokens_by c x.access
+  told_else x t by none = ap length (one_of_others (2 * c + 1) x (λ e. omega (arith, by, e)) []) ∙ sym none
+
+  told_one : (x : Entry) (a : Access) → x.access ≡ a → length (tokens_of c (x ∷ [])) ≡ tokens_by c x.access
+  told_one x (Makes e saw) is = told_else x (maker e) (ap doer is) (ap (tokens_by c) is)
+  told_one x (Posts d t token) is = by_test (λ b. tokens_by c x.access ≡ cond b 1 0 → length (tokens_of c
+      (x ∷ [])) ≡ tokens_by c x.access) c d
+      (λ e told. ap length (one_of_mine (2 * c + 1) x (ap doer is ∙ ap (λ k. 2 * k + 1) (sym e)) []) ∙ sym told)
+      (λ ne told. ap length (one_of_others (2 * c + 1) x (λ e. ne (let f = sym (ap doer is) ∙ e in omega arith)) []) ∙ sym told)
+      (ap (tokens_by c) is)
+  told_one x (Collects t found) is = told_else x t (ap doer is) (ap (tokens_by c) is)
+  told_one x (Finds t d n) is = told_else x t (ap doer is) (ap (tokens_by c) is)
+  told_one x (Counts t d told handed waiting) is = told_else x t (ap doer is) (ap (tokens_by c) is)
+
+  pub told_more : (log : List Entry) (x : Entry) → length (tokens_of c (log ++ x ∷ [])) ≡ length (tokens_of c log) + tokens_by c x.access
+  told_more log x = ap length (entries_append (2 * c + 1) log (x ∷ [])) ∙ (length-append (tokens_of c log) (tokens_of c (x ∷ []))
+      ∙ ap (λ n. length (tokens_of c log) + n) (told_one x x.access refl))
 
 -- ---- what the rights show
 module _ {R : Type 0} (number : R → ℕ) (made : R → List Entry) where
@@ -163,7 +194,7 @@ module _ {R : Type 0} (number : R → ℕ) (made : R → List Entry) where
   module _ {S : Type 0} (Leads : S → Access → S → Type 0) (first : S) (log : List Entry) (views : List (List R)) (b : S)
       (ok : Recorded number made Leads first log views b) (id : ℕ) where
     pub records_more : (x : Entry) (c : S) (r r' : R) (v v' : List R) → get_elem? views id ≡ some (r ∷ v)
-        → x.at ≡ length log → Leads b x.access c → CountsRight (λ d. tokens_of d log) x.access
+        → x.at ≡ length log → Leads b x.access c → CountsRight log x.access
         → doer x.access ≡ number r → number r' ≡ number r → made r' ≡ made r ++ x ∷ [] → SameMade number made v v'
         → Recorded number made Leads first (log ++ x ∷ []) (set views id (r' ∷ v')) c
     records_more x c r r' v v' at place step counts by same more alike = record {

@@ -25,6 +25,7 @@ module _ {S P R : Type 0} (k : Meaning S P R) where
         );
     log = ru.log;
     recorded = records_join number made_with (LeadsOn k) k.start ru.log s.views (k.told_by ru.world) ru.recorded id other v w at ne there;
+    owed = ru.owed;
   }
 
   -- the rights at a seat are cut in two
@@ -40,6 +41,7 @@ module _ {S P R : Type 0} (k : Meaning S P R) where
         λ i is. omega (arith, ru.present i is, times_snoc number i (set s.views id l) r, times_set number i s.views id v l at, same i);
     log = ru.log;
     recorded = records_split number made_with (LeadsOn k) k.start ru.log s.views (k.told_by ru.world) ru.recorded id v l r at same (cut _);
+    owed = ru.owed;
   }
 
   -- the first of two rights, and the other

@@ -8,6 +8,7 @@ pub mod Joining
 pub mod Lines
 pub mod Moves
 pub mod Opens
+pub mod Owing
 pub mod Places
 pub mod Puts
 pub mod Ready

@@ -1,5 +1,6 @@
 -- Lines of threads, in which each stands once.
-use Rattle.std.proofs.Common.{◌≡◌, ◌≢◌, ℕ, zero, suc, ◌⊎◌, cond, List, [], ◌∷◌, ◌++◌, sym, subst, ◌∙◌, inl, inr, ⊎_elim, arith}
+use Rattle.std.proofs.Common.{◌≡◌, ◌≢◌, ℕ, zero, suc, ◌⊎◌, cond, List, [], ◌∷◌, ◌++◌, length, refl, sym, ap, subst, ◌∙◌, inl, inr}
+use Rattle.std.proofs.Common.{⊎_elim, arith}
 use Rattle.std.specs.List.{Contains}
 use Rattle.std.proofs.lemmas.List.Elements.{Contains-append_left, Contains-append_right, Contains-append_cases, Contains-push_cases}
 use Rattle.std.proofs.lemmas.List.Elements.{Contains-get_or}
@@ -78,3 +79,10 @@ without_once u (x ∷ xs) a = by_test (λ b. IsOnce (cond b xs (x ∷ without u 
 -- who stands in a line to which t was added, beside t
 pub in_init : (v : ℕ) (xs : List ℕ) (t : ℕ) → v ≢ t → Contains (xs ++ t ∷ []) v → Contains xs v
 in_init v xs t ne h = ⊎_elim {C = Contains xs v} (λ i. i) (λ e. absurd (ne (sym e))) (Contains-push_cases xs t v h)
+
+-- who is taken out is in the line no more
+pub one_less : (t : ℕ) (xs : List ℕ) → Contains xs t → suc (length (without t xs)) ≡ length xs
+one_less t [] has = absurd (in_none t has)
+one_less t (x ∷ xs) has = by_test (λ b. suc (length (cond b xs (x ∷ without t xs))) ≡ suc (length xs)) x t
+    (λ _. refl)
+    (λ ne. ap suc (one_less t xs (⊎_elim {C = Contains xs t} (λ e. absurd (ne e)) (λ i. i) (in_cases x xs t has))))

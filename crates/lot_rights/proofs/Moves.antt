@@ -1,5 +1,5 @@
 -- A value leaves its slot, and another comes back: the rule is kept.
-use Rattle.std.proofs.Common.{◌≡◌, ℕ, List, [], ◌∷◌, set, slice_index, refl, sym, ap, subst, ◌∙◌, arith}
+use Rattle.std.proofs.Common.{◌≡◌, ℕ, ◌+◌, List, [], ◌∷◌, length, set, slice_index, refl, sym, ap, subst, ◌∙◌, arith}
 use Rattle.std.proofs.lemmas.List.{set-get_or}
 use mathlib.Core.Option.{Option, some, none}
 use lib.ListN.{get_elem?}
@@ -8,6 +8,7 @@ use Rattle.lot_rights.specs.declared.views.PassRight.{PassRight}
 use Rattle.lot_rights.specs.declared.views.Right.{Right}
 use Rattle.lot_rights.specs.declared.views.Right.TheVariants.{Pass, Root}
 use Rattle.lot_rights.specs.Seating.{times}
+use Rattle.lot_rights.specs.History.{tokens_of}
 use Rattle.lot_rights.specs.Rule.{number, made_with, Meaning, RightFits, LeadsOn, Ruled}
 use Rattle.lot_rights.specs.Shown.{PassShown, right_of_pass, the_pass}
 use Rattle.lot_rights.specs.Slots.{SlotTurn, AllowsOut, AllowsBack, ToldOut, ToldBack}
@@ -36,6 +37,7 @@ module _ {S P R : Type 0} (k : Meaning S P R) where
         records_stay number made_with (LeadsOn k) k.start ru.log s.views (k.told_by ru.world) ru.recorded id
         (k.told_by turn.world) turn.same (Pass p ∷ []) (Pass (knowing p own) ∷ [])
         at (refl, refl, tt);
+    owed = λ c. ru.owed c ∙ ap (λ n. length (tokens_of c ru.log) + n) (sym (turn.owed c));
   }
     where
       others : (r : Right P R) → times {R = Right P R} number (number r) (Pass p ∷ []) ≡ 0 → RightFits k ru.world r

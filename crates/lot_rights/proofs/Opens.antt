@@ -111,4 +111,5 @@ module _ {S P R : Type 0} (k : Meaning S P R) where
           counted = tt;
           listed = record { told = all_seated (Noted number made_with []) (λ t near. refl) (λ c among. refl); known = λ i away. refl };
         };
+    owed = λ c. let none = o.owed c in omega arith;
   }

@@ -3,7 +3,7 @@ use Rattle.std.proofs.Common.{◌≡◌, ◌≢◌, ℕ, ◌==◌, Bool, true, f
 use mathlib.Core.Path.{fun_ext}
 use mathlib.Core.Logic.{dite}
 use native.Mathlib.Decide.{ℕ_discrete}
-use Rattle.lot_core.specs.World.{put}
+use Rattle.lot_core.specs.Model.{put}
 
 pub by_test : (P : Bool → Type 0) (j k : ℕ) → (j ≡ k → P true) → (j ≢ k → P false) → P (j == k)
 by_test P j k here there =

@@ -17,10 +17,11 @@ use Rattle.lot_rights.specs.History.{doer, tokens_of, CountsRight, SameMade}
 use Rattle.lot_rights.specs.Rule.{number, made_with, Meaning, RightFits, Leads, LeadsOn, Ruled}
 use Rattle.lot_rights.specs.Settled.{LinesHaveNoLetter}
 use Rattle.lot_rights.specs.Shown.{PassShown, RootShown, right_of_pass, right_of_root, pass_at_table, root_at_table}
-use Rattle.lot_rights.specs.Steps.{pass_after, root_after, AllowsPass, AllowsBoth, AllowsRoot, TellsOfTwo, ToldPass, ToldBoth, ToldRoot}
+use Rattle.lot_rights.specs.Steps.{pass_after, root_after, IsOwed, AllowsPass, AllowsBoth, AllowsRoot, TellsOfTwo, ToldPass, ToldBoth}
+use Rattle.lot_rights.specs.Steps.{ToldRoot}
 use Rattle.lot_rights.specs.Steps.{ToldTwo, TellsOfRoot, ToldFact}
 use Rattle.lot_rights.proofs.Seats.{tick, reseats, times_one, times_set, times_head}
-use Rattle.lot_rights.proofs.Histories.{alike_times, records_more}
+use Rattle.lot_rights.proofs.Histories.{alike_times, taken_more, told_more, records_more}
 
 module _ {S P R : Type 0} (k : Meaning S P R) where
   -- a right of another number than the pass p, or than p and q
@@ -46,9 +47,9 @@ module _ {S P R : Type 0} (k : Meaning S P R) (apart : LinesHaveNoLetter k) wher
       → ((q : Right P R) → times {R = Right P R} number (number q) (r ∷ v) ≡ 0 → RightFits k ru.world q → RightFits k world q)
       → Each {R = Right P R} number (RightFits k world) (r' ∷ v')
       → doer access ≡ number r → Leads k (k.told_by ru.world) access (k.told_by world)
-      → CountsRight (λ c. tokens_of c ru.log) access
+      → IsOwed k ru.world access world → CountsRight ru.log access
       → Ruled k (record { words = words; homes = homes; views = set s.views id (r' ∷ v') })
-  makes s ru id r r' v v' world words homes access at fits same more alike keeps_others here by leads counts =
+  makes s ru id r r' v v' world words homes access at fits same more alike keeps_others here by leads owed counts =
       let entry : Entry = record { at = length ru.log; access = access } in
       let times_are : (i : ℕ) → times {R = Right P R} number i (r' ∷ v') ≡ times {R = Right P R} number i (r ∷ v) =
       (λ i. λ j. cond (same j == i) 1 0 + alike_times number made_with v v' alike i j) in
@@ -63,6 +64,7 @@ module _ {S P R : Type 0} (k : Meaning S P R) (apart : LinesHaveNoLetter k) wher
         recorded =
             records_more number made_with (LeadsOn k) k.start ru.log s.views (k.told_by ru.world) ru.recorded id entry (k.told_by world)
             r r' v v' at refl (leads, apart world words homes fits) counts by same more alike;
+        owed = λ c. omega (arith, taken_more c ru.log entry, told_more c ru.log entry, ru.owed c, owed c);
       }
 
   module _ (slots id : ℕ) (me : Me S (List (Right P R))) where
@@ -78,8 +80,8 @@ module _ {S P R : Type 0} (k : Meaning S P R) (apart : LinesHaveNoLetter k) wher
           tt,
           makes s ru id (Pass r) (Pass p') [] [] turn.world
               (set s.words i (f (slice_index s.words i))) s.homes turn.access at' turn.fits refl refl tt
-              (others r turn.world turn.passes turn.roots) (turn.pass, tt) turn.made.0 turn.made.1
-              (turn.counted (λ c. tokens_of c ru.log)),
+              (others r turn.world turn.passes turn.roots) (turn.pass, tt) turn.made.0 turn.made.1 turn.owed
+              (turn.counted ru.log),
           (p', refl, (λ j. (Pass p' ∷ [], (one j).1)), turn.told (length ru.log)),
         )
       where
@@ -107,8 +109,8 @@ module _ {S P R : Type 0} (k : Meaning S P R) (apart : LinesHaveNoLetter k) wher
           tt,
           makes s ru id (Pass (right_of_pass p)) (Pass p') (Root (right_of_root q) ∷ []) (Root q' ∷ []) turn.world
               (set s.words i (f (slice_index s.words i))) s.homes turn.access at' turn.fits refl refl (refl, refl, tt)
-              (others turn.world turn.passes turn.roots) (turn.pass, (turn.root, tt)) turn.made.0 turn.made.1
-              (turn.counted (λ c. tokens_of c ru.log) (sym shown)),
+              (others turn.world turn.passes turn.roots) (turn.pass, (turn.root, tt)) turn.made.0 turn.made.1 turn.owed
+              (turn.counted ru.log (sym shown) (ru.owed q.key ∙ ap (λ es. length es + k.owed_in ru.world q.key) (sym shown))),
           (
             p',
             q',
@@ -139,8 +141,8 @@ module _ {S P R : Type 0} (k : Meaning S P R) (apart : LinesHaveNoLetter k) wher
           tt,
           makes s ru id (Root r) (Root q') [] [] turn.world
               (set s.words i (f (slice_index s.words i))) s.homes turn.access at' turn.fits refl refl tt
-              (others turn.world turn.passes turn.roots) (turn.root, tt) turn.made.0 turn.made.1
-              (turn.counted (λ c. tokens_of c ru.log)),
+              (others turn.world turn.passes turn.roots) (turn.root, tt) turn.made.0 turn.made.1 turn.owed
+              (turn.counted ru.log),
           (q', refl, (λ j. (Root q' ∷ [], (one j).1)), turn.told (length ru.log)),
         )
       where

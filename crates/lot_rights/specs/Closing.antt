@@ -9,7 +9,7 @@ use Rattle.lot_rights.specs.declared.views.Entry.{Entry}
 use Rattle.lot_rights.specs.declared.views.Right.{Right}
 use Rattle.lot_rights.specs.declared.views.Right.TheVariants.{Pass, Root}
 use Rattle.lot_rights.specs.Seating.{times}
-use Rattle.lot_rights.specs.History.{events_in, entries_of, ModelRun, Run, Telling, Continues, AllCountRight}
+use Rattle.lot_rights.specs.History.{events_in, entries_of, tokens_of, taken_in, ModelRun, Run, Telling, Continues, AllCountRight}
 use Rattle.lot_rights.specs.Rule.{number, Meaning, LeadsOn}
 use Rattle.lot_rights.specs.Shown.{PassShown, RootShown, right_of_pass, right_of_root}
 
@@ -39,6 +39,7 @@ module _ {S P R : Type 0} (k : Meaning S P R) where
     pub log : List Entry
     pub run : Run (LeadsOn k) k.start 0 log (k.told_by left.world)
     pub counted : AllCountRight [] log
+    pub owed : (c : ℕ) → taken_in c log ≡ length (tokens_of c log) + k.owed_in left.world c
     pub passes_made : All (λ (p : PassShown P). p.made ≡ entries_of (2 * p.thread) log) passes
     pub roots_made : All (λ (q : RootShown R). q.made ≡ entries_of (2 * q.key + 1) log) roots
 

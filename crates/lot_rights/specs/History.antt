@@ -1,15 +1,17 @@
 -- Histories: which accesses were made, the oldest first, and with which rights. An access is an event of the model, or a notice of what a
 -- word really was.
 use Rattle.std.specs.Prelude.{◌≡◌, ◌≢◌, ℕ, ◌+◌, ◌*◌, ◌==◌, cond, List, [], ◌∷◌, ◌++◌, length, sum_by, Some, None}
-use Rattle.lot_core.specs.World.{put}
+use Rattle.lot_core.specs.Model.{put}
 use Rattle.lot_events.specs.declared.events.Event.{Event}
 use Rattle.lot_events.specs.declared.events.Event.TheVariants.{Try, Take, Mark, Park, Free, Pass, Enlist, Look, Call, Lower, Sweep, SemTake}
 use Rattle.lot_events.specs.declared.events.Event.TheVariants.{SemMark, SemPark, SemFree, SemPass, SemClear}
 use Rattle.lot_events.specs.declared.events.Seen.{Seen}
+use Rattle.lot_events.specs.declared.events.Seen.TheVariants.{Sleeper, Count}
 use Rattle.lot_rights.specs.declared.views.Access.{Access}
 use Rattle.lot_rights.specs.declared.views.Access.TheVariants.{Makes, Posts, Collects, Finds, Counts}
 use Rattle.lot_rights.specs.declared.views.Entry.{Entry}
 use Rattle.lot_rights.specs.Seating.{times_in, Seated}
+use Rattle.lot_rights.specs.World.{number_of}
 
 -- whose event it is
 abbrev pub maker : Event → ℕ
@@ -96,18 +98,43 @@ handed_in made = sum_by (λ (x : Entry). handed_by x.access) made
 abbrev pub tokens_of : ℕ → List Entry → List Entry
 tokens_of key log = entries_of (2 * key + 1) log
 
--- where the access counts, it tells how many such entries there are of its key
-abbrev pub CountsRight : (ℕ → List Entry) → Access → Type 0
-CountsRight tokens (Makes e saw) = Unit {0}
-CountsRight tokens (Posts c t token) = Unit {0}
-CountsRight tokens (Collects t found) = Unit {0}
-CountsRight tokens (Finds t c x) = Unit {0}
-CountsRight tokens (Counts t c told handed waiting) = (told ≡ length (tokens c)) × (handed ≡ handed_in (tokens c))
+-- of an event that takes threads from a line: how many it was seen to take
+abbrev pub number_seen : Seen → ℕ
+number_seen (Sleeper t) = number_of t
+number_seen (Count n) = n
+number_seen _ = 0
+
+-- how many threads the event took from the line of the key c
+abbrev pub taken_at : ℕ → Event → Seen → ℕ
+taken_at c (Pass t l fair more) saw = cond (c == l) (number_seen saw) 0
+taken_at c (Call t d n more) saw = cond (c == d) (number_seen saw) 0
+taken_at c (Sweep t d) saw = cond (c == d) (number_seen saw) 0
+taken_at c (SemPass t k more) saw = cond (c == k) (number_seen saw) 0
+taken_at c _ saw = 0
+
+-- how many the access took from there, and how many it told that they were taken from there
+abbrev pub taken_by : ℕ → Access → ℕ
+taken_by c (Makes e saw) = taken_at c e saw
+taken_by c _ = 0
+
+abbrev pub tokens_by : ℕ → Access → ℕ
+tokens_by c (Posts d t token) = cond (c == d) 1 0
+tokens_by c _ = 0
+
+abbrev pub taken_in : ℕ → List Entry → ℕ
+taken_in c log = sum_by (λ (x : Entry). taken_by c x.access) log
+
+-- where the access counts, it tells how many threads were told by the entries before it that they were taken from the line of its key: all
+-- that were taken from there; and how many of them were handed the lock
+abbrev pub CountsRight : List Entry → Access → Type 0
+CountsRight before (Counts t c told handed waiting) =
+    (told ≡ length (tokens_of c before)) × (handed ≡ handed_in (tokens_of c before)) × (taken_in c before ≡ told)
+CountsRight before _ = Unit {0}
 
 -- each access that counts tells of the entries before it
 abbrev pub AllCountRight : List Entry → List Entry → Type 0
 AllCountRight before [] = Unit {0}
-AllCountRight before (x ∷ xs) = CountsRight (λ c. tokens_of c before) x.access × AllCountRight (before ++ x ∷ []) xs
+AllCountRight before (x ∷ xs) = CountsRight before x.access × AllCountRight (before ++ x ∷ []) xs
 
 -- ---- the log
 -- its accesses, of which k were made before, lead from a to b, each at its place and from what the ones before it have led to

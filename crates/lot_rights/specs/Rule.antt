@@ -1,5 +1,5 @@
 -- The rule of a table of rights: there is a world, with a history, that the words, the slots and the rights stand for.
-use Rattle.std.specs.Prelude.{◌≡◌, ℕ, ◌+◌, ◌*◌, ◌<◌, ◌≤◌, ◌⊎◌, List}
+use Rattle.std.specs.Prelude.{◌≡◌, ℕ, ◌+◌, ◌*◌, ◌<◌, ◌≤◌, ◌⊎◌, List, length}
 use mathlib.Core.Option.{Option}
 use Rattle.atomic_table.specs.Table.{State}
 use Rattle.lot_events.specs.declared.events.Event.{Event}
@@ -9,7 +9,7 @@ use Rattle.lot_rights.specs.declared.views.Entry.{Entry}
 use Rattle.lot_rights.specs.declared.views.Right.{Right}
 use Rattle.lot_rights.specs.declared.views.Right.TheVariants.{Pass, Root}
 use Rattle.lot_rights.specs.Seating.{times_in, Seated}
-use Rattle.lot_rights.specs.History.{Telling, Happens, Continues, Recorded}
+use Rattle.lot_rights.specs.History.{Telling, Happens, Continues, tokens_of, taken_in, Recorded}
 
 module _ {P R : Type 0} where
   abbrev pub number : Right P R → ℕ
@@ -30,6 +30,8 @@ pub record Meaning (S P R : Type 0) : Type 1 where
   -- the pass of the thread t knows this; the root of the key c knows this
   pub PassFits : World → ℕ → P → Type 0
   pub RootFits : World → ℕ → R → Type 0
+  -- how many threads the root of a key has taken from its line and not yet told
+  pub owed_in : World → ℕ → ℕ
   -- what the world tells: the part of the model, and the letters
   pub told_by : World → Telling Part
   pub start : Telling Part
@@ -80,3 +82,5 @@ module _ {S P R : Type 0} (k : Meaning S P R) where
     pub present : (i : ℕ) → IsRight i → 1 ≤ times_in number i s.views
     pub log : List Entry
     pub recorded : IsHistory log s.views (k.told_by world)
+    -- who was taken from a line was told, or is owed it
+    pub owed : (c : ℕ) → taken_in c log ≡ length (tokens_of c log) + k.owed_in world c

@@ -19,6 +19,7 @@ module _ {S P R : Type 0} (k : Meaning S P R) where
     pub passes : PassesStay k w world t
     pub roots : AllRootsStay k w world
     pub same : k.told_by world ≡ k.told_by w
+    pub owed : (c : ℕ) → k.owed_in world c ≡ k.owed_in w c
 
   -- the value of the slot l comes to the seat
   pub record OutTurn (l : ℕ) (p : PassShown P) (mid : P → S → Type 0) (w : k.World) (ws : List ℕ) (hs : List (Option S)) : Type 0 where

@@ -38,6 +38,7 @@ module _ {S P R : Type 0} (k : Meaning S P R) where
     pub passes : (t : ℕ) → IsThread k t → k.PassFits world t (k.fresh_pass t)
     pub roots : (c : ℕ) → IsKey k c → k.RootFits world c (k.fresh_root c)
     pub start : k.told_by world ≡ k.start
+    pub owed : (c : ℕ) → k.owed_in world c ≡ 0
 
   -- a table with these words and slots, all of whose rights are at the first seat, keeps the rule
   abbrev pub Begins : List ℕ → List S → Type 0

@@ -1,5 +1,5 @@
 -- Steps of passes and roots on one word: which entry they make, and what each kind has to show of its worlds for them.
-use Rattle.std.specs.Prelude.{◌≡◌, ◌≢◌, ℕ, ◌*◌, ◌+◌, ◌<◌, ◌^◌, List, [], ◌∷◌, ◌++◌, slice_index, slice_set}
+use Rattle.std.specs.Prelude.{◌≡◌, ◌≢◌, ℕ, ◌*◌, ◌+◌, ◌<◌, ◌^◌, List, [], ◌∷◌, ◌++◌, length, slice_index, slice_set}
 use mathlib.Core.Option.{Option}
 use Rattle.atomic_table.specs.Table.{State, Me}
 use Rattle.atomic_table.specs.Seated.{TableId}
@@ -9,7 +9,7 @@ use Rattle.lot_rights.specs.declared.views.PassRight.{PassRight}
 use Rattle.lot_rights.specs.declared.views.RootRight.{RootRight}
 use Rattle.lot_rights.specs.declared.views.Right.{Right}
 use Rattle.lot_rights.specs.declared.views.Right.TheVariants.{Pass, Root}
-use Rattle.lot_rights.specs.History.{doer, entries_of, CountsRight}
+use Rattle.lot_rights.specs.History.{doer, entries_of, tokens_of, taken_by, tokens_by, taken_in, CountsRight}
 use Rattle.lot_rights.specs.Rule.{Meaning, Leads, Ruled}
 use Rattle.lot_rights.specs.Shown.{PassShown, RootShown, pass_at_table, root_at_table}
 
@@ -31,17 +31,22 @@ Notes p own a p' = (k : ℕ) × (p' ≡ pass_after p own k a)
 abbrev pub RootNotes : {R : Type 0} → RootShown R → R → Access → RootShown R → Type 0
 RootNotes q own a q' = (k : ℕ) × (q' ≡ root_after q own k a)
 
--- the access counts nothing; or it may count what this root shows of its key
+-- the access counts nothing; or it may count what this root shows of its key, where so many that it took are not told yet
 abbrev pub CountsNothing : Access → Type 0
-CountsNothing a = (tokens : ℕ → List Entry) → CountsRight tokens a
+CountsNothing a = (log : List Entry) → CountsRight log a
 
-abbrev pub CountsRoot : {R : Type 0} → RootShown R → Access → Type 0
-CountsRoot q a = (tokens : ℕ → List Entry) → tokens q.key ≡ q.made → CountsRight tokens a
+abbrev pub CountsRoot : {R : Type 0} → RootShown R → ℕ → Access → Type 0
+CountsRoot q owed a =
+    (log : List Entry) → tokens_of q.key log ≡ q.made → taken_in q.key log ≡ length q.made + owed → CountsRight log a
 
 module _ {S P R : Type 0} (k : Meaning S P R) where
   -- the access was made with the right of this number, when the world was w, and the world is w' then
   abbrev pub IsMade : ℕ → k.World → Access → k.World → Type 0
   IsMade i w a w' = (doer a ≡ i) × Leads k (k.told_by w) a (k.told_by w')
+
+  -- whom the access takes from a line it tells, or the root owes it from then on
+  abbrev pub IsOwed : k.World → Access → k.World → Type 0
+  IsOwed w a w' = (c : ℕ) → taken_by c a + k.owed_in w c ≡ tokens_by c a + k.owed_in w' c
 
   -- the world w turns into w', at a step that changes the pass of t and the root of c alone
   abbrev pub PassesStay : k.World → k.World → ℕ → Type 0
@@ -68,6 +73,7 @@ module _ {S P R : Type 0} (k : Meaning S P R) where
     pub passes : PassesStay w world p.thread
     pub roots : AllRootsStay w world
     pub made : IsMade (2 * p.thread) w access world
+    pub owed : IsOwed w access world
     pub counted : CountsNothing access
     pub told : (n : ℕ) → then (pass_after p own n access)
 
@@ -84,7 +90,8 @@ module _ {S P R : Type 0} (k : Meaning S P R) where
     pub passes : PassesStay w world p.thread
     pub roots : RootsStay w world q.key
     pub made : IsMade (2 * p.thread) w access world
-    pub counted : CountsRoot q access
+    pub owed : IsOwed w access world
+    pub counted : CountsRoot q (k.owed_in w q.key) access
     pub told : (n : ℕ) → then (pass_after p own n access) (record q { own = its })
 
   -- the same of a root
@@ -98,6 +105,7 @@ module _ {S P R : Type 0} (k : Meaning S P R) where
     pub passes : AllPassesStay w world
     pub roots : RootsStay w world q.key
     pub made : IsMade (2 * q.key + 1) w access world
+    pub owed : IsOwed w access world
     pub counted : CountsNothing access
     pub told : (n : ℕ) → then (root_after q its n access)
 

@@ -1,6 +1,7 @@
 -- What the words of a table stand for, as far as kinds of tables have it in common: of each thread its pass and where its notice is, of
 -- each key what its word says and its root.
-use Rattle.std.specs.Prelude.{◌≡◌, ℕ, ◌+◌, ◌<◌, ◌≤◌, List, length, slice_index, Option, Some, None}
+use Rattle.std.specs.Prelude.{◌≡◌, ℕ, ◌+◌, ◌<◌, ◌≤◌, ◌&&◌, nat_le, nat_lt, if◌then◌else◌, Bool, List, length, slice_index, Option, Some}
+use Rattle.std.specs.Prelude.{None}
 use Rattle.lot_rights.specs.Layout.{word_at, letter_at, word_count}
 
 -- Where a thread's notice is: it waits for none, it is in the line of a key, the key's root owes it a letter with a token, or that letter
@@ -51,6 +52,18 @@ pub record Sizes : Type 0 where
 -- c is the number of a key
 abbrev pub IsKeyOf : Sizes → ℕ → Type 0
 IsKeyOf z c = (z.first ≤ c) × (c < z.first + z.keys)
+
+abbrev pub is_key_of : Sizes → ℕ → Bool
+is_key_of z c = nat_le z.first c && nat_lt c (z.first + z.keys)
+
+-- 1 where there is one, else 0
+abbrev pub number_of : {A : Type 0} → Option A → ℕ
+number_of None = 0
+number_of (Some x) = 1
+
+-- how many letters the root of the key c owes, where `owes` says it of each root
+abbrev pub owed_at : {R : Type 0} → Sizes → (R → ℕ) → (ℕ → R) → ℕ → ℕ
+owed_at z owes root c = if is_key_of z c then owes (root c) else 0
 
 -- each key's word and each thread's letter is the number that the world says
 pub record WordsFit {P R W : Type 0} (number_in : W → ℕ) (z : Sizes) (w : World P R W) (ws : List ℕ) : Type 0 where

@@ -1,5 +1,5 @@
 -- What is counted with a root stays right.
-use Rattle.std.proofs.Common.{◌≡◌, ℕ, ◌+◌, suc, cond, List, [], ◌∷◌, ◌++◌, length, take, drop, Option, refl, sym, ap, subst}
+use Rattle.std.proofs.Common.{◌≡◌, ℕ, ◌+◌, suc, cond, List, [], ◌∷◌, ◌++◌, length, take, drop, Option, Some, None, refl, sym, ap, subst}
 use Rattle.std.proofs.Common.{◌∙◌, ⊎_elim, arith}
 use Rattle.std.specs.List.{Contains}
 use Rattle.std.proofs.lemmas.List.{append-nil, length-append, take-append-drop}
@@ -11,21 +11,21 @@ use Rattle.lot_rights.specs.declared.views.Entry.{Entry}
 use Rattle.lot_rights.specs.History.{one_if_handoff, handed_by, handed_in}
 use Rattle.lot_rights.specs.Lines.{without}
 use Rattle.lot_rights.specs.Shown.{PassShown, RootShown}
+use Rattle.lot_rights.specs.World.{number_of}
 use Rattle.lot_rights.specs.Steps.{Notes, RootNotes, Moment}
-use Rattle.lot_rights.proofs.Lines.{in_cases}
-use Rattle.lot_rights.proofs.Puts.{by_test}
+use Rattle.lot_rights.proofs.Lines.{one_less}
 use Rattle.lot_words.specs.CallersRule.{CallersRule}
 use Rattle.lot_conds.specs.Calls.{called_root, swept_root}
 use Rattle.lot_whole.specs.declared.views.LotPassView.{LotPassView}
 use Rattle.lot_whole.specs.declared.views.LotRootView.{LotRootView}
 use Rattle.lot_whole.specs.declared.views.LotRootView.TheVariants.{Lock, Cond, Sem}
 use Rattle.lot_whole.specs.Family.{cond as cond_kind, LotSize}
-use Rattle.lot_whole.specs.Whole.{line_at}
-use Rattle.lot_whole.specs.Lot.{line_of_root, lot_meaning}
+use Rattle.lot_whole.specs.Order.{queued_in}
+use Rattle.lot_whole.specs.Lot.{line_of_root, owed_by, lot_meaning}
 use Rattle.lot_whole.specs.Calls.{RootIs, OwesLetter, paid, counting}
 use Rattle.lot_whole.specs.Standing.{IsCondRoot, as_cond}
-use Rattle.lot_whole.proofs.Counting.{line_known}
-use Rattle.lot_whole.proofs.Moments.{one_state, state_is}
+use Rattle.lot_whole.proofs.Counting.{queued_known}
+use Rattle.lot_whole.proofs.Moments.{one_state}
 use Rattle.lot_scheme.specs.declared.contention.Contention.{Contention}
 use Rattle.lot_scheme.specs.Roots.{debts_of, owes_in}
 use Rattle.lot_scheme.specs.Counts.{IsContention, queued_now, queued_ever, CountedWith, HasCounted, WasCounted}
@@ -58,13 +58,6 @@ swept_same (Lock q) is = absurd is
 swept_same (Cond q) is = moved q.line q.owes q.line [] (sym (append-nil q.line))
 swept_same (Sem q) is = absurd is
 
--- whose letter is posted is owed it no more
-one_less : (t : ℕ) (xs : List ℕ) → Contains xs t → suc (length (without t xs)) ≡ length xs
-one_less t [] has = absurd (in_none t has)
-one_less t (x ∷ xs) has = by_test (λ b. suc (length (cond b xs (x ∷ without t xs))) ≡ suc (length xs)) x t
-    (λ _. refl)
-    (λ ne. ap suc (one_less t xs (⊎_elim {C = Contains xs t} (λ e. absurd (ne e)) (λ i. i) (in_cases x xs t has))))
-
 paid_less : (own : LotRootView) (t token : ℕ) → OwesLetter own t token → suc (queued_now (paid own t)) ≡ queued_now own
 paid_less (Lock q) t token owes = let one = ap (λ o. length (debts_of o)) owes in omega (arith, one)
 paid_less (Cond q) t token owes =
@@ -83,7 +76,8 @@ posted_on counts counts' r q t token told (k, is) owes counted =
     let long = length-append r.made (entry ∷ []) in
     let less = paid_less r.own t token owes in
     let ever : queued_ever r ≡ length (r.made ++ entry ∷ []) + queued_now (paid r.own t) = omega (arith, long, less) in
-    let handed : handed_in r.made + one_if_handoff token ≡ handed_in (r.made ++ entry ∷ []) = sym (sum_by-append (λ (x : Entry). handed_by x.access)
+    let handed : handed_in r.made + one_if_handoff token ≡ handed_in (r.made ++ entry ∷ []) = sym (sum_by-append (λ
+    (x : Entry). handed_by x.access)
     r.made (entry ∷ []) ∙ ap (λ n. handed_in r.made + n) (none_plus (one_if_handoff token))) in
     subst (CountedWith counts') (sym is)
     (subst (λ n. counts' n (length (r.made ++ entry ∷ [])) (handed_in (r.made ++ entry ∷ []))) ever
@@ -108,6 +102,20 @@ module _ (counts : ℕ → ℕ → ℕ → Type 0) where
   swept_on r q kind is = counted_on r q (Cond (swept_root (as_cond r.own))) is (swept_same r.own kind)
 
 -- ---- what was counted, and the history
+-- a root that owes no letter owes none
+one_debt : (o : Option (ℕ × ℕ)) → number_of o ≡ length (debts_of o)
+one_debt None = refl
+one_debt (Some x) = refl
+
+one_owed : (o : Option ℕ) → number_of o ≡ length (debt o 0)
+one_owed None = refl
+one_owed (Some x) = refl
+
+pub clear_owes : (own : LotRootView) → owes_in own ≡ [] → owed_by own ≡ 0
+clear_owes (Lock q) none = one_debt q.owes ∙ ap length none
+clear_owes (Cond q) none = sym (debts_length q.owes) ∙ ap length none
+clear_owes (Sem q) none = one_owed q.owes ∙ ap length none
+
 pub has_counted : {V : Type 0} (p q : PassShown (LotPassView V)) (r : RootShown LotRootView) (key : ℕ) (c : Contention) → r.key ≡ key
     → owes_in r.own ≡ [] → CountedWith (λ p t h. IsContention p t h c) r → Notes p p.own (counting p.thread r) q
     → HasCounted (standing p) key c (standing q)
@@ -130,14 +138,16 @@ module _ {V Part : Type 0} (rule : CallersRule V Part) (z : LotSize) (xs : List 
       → CountedWith (λ p t h. IsContention p t h c) r → WasCounted rule z r.key c
   was_counted c r moment none counted =
       let whole = one_state rule z xs moment.state moment.here in
-      let line = line_known rule z xs moment.here.world moment.state.words moment.state.homes r.key r.own moment.here.fits moment.root
-      ∙ ap (λ s. line_at z s r.key) (sym (state_is rule z xs moment.state moment.here)) in
-      let ever : queued_ever r ≡ length r.made + length (line_at z whole.state r.key) = omega (arith, ap length line, ap length none) in
+      let queued = queued_known rule z xs moment.here.world moment.state.words moment.state.homes r.key r.own moment.here.fits moment.root
+      moment.here.log moment.here.recorded.run (moment.here.owed r.key) in
+      let clear = clear_owes r.own none in
+      let ever : queued_ever r ≡ queued_in r.key moment.here.log =
+      omega (arith, queued, clear, ap length none, ap length moment.entries) in
       record {
         values = xs;
         table = moment.state;
         here = moment.here;
         whole = whole;
-        counted = subst (λ made. IsContention (length made + length (line_at z whole.state r.key)) (length made) (handed_in made) c)
+        counted = subst (λ made. IsContention (queued_in r.key moment.here.log) (length made) (handed_in made) c)
             moment.entries (subst (λ n. IsContention n (length r.made) (handed_in r.made) c) ever counted);
       }

@@ -12,7 +12,7 @@ use Rattle.lot_words.specs.CallersRule.{CallersRule}
 use Rattle.lot_whole.specs.declared.views.LotPassView.{LotPassView}
 use Rattle.lot_whole.specs.declared.views.LotRootView.{LotRootView}
 use Rattle.lot_whole.specs.Family.{LotSize}
-use Rattle.lot_whole.specs.Whole.{line_at}
+use Rattle.lot_whole.specs.Order.{queued_in}
 use Rattle.lot_whole.specs.Lot.{line_of_root, lot_meaning}
 use Rattle.lot_whole.specs.Headline.{OneState}
 use Rattle.lot_scheme.specs.declared.contention.Contention.{Contention}
@@ -44,24 +44,24 @@ pub record IsUnused (r : RootShown LotRootView) : Type 0 where
   pub owes_none : owes_in r.own ≡ []
 
 -- ---- what was counted, and the history
--- the word of a call that counts: one access, which tells of the entries before it what is answered, and how many waited
-abbrev pub CountWord : ℕ → ℕ → Contention → List Access → Type 0
-CountWord t key c acts =
+-- the trace of a call that counts: one access, which tells of the entries before it what is answered, and how many waited
+abbrev pub CountTrace : ℕ → ℕ → Contention → List Access → Type 0
+CountTrace t key c acts =
     (told handed waiting : ℕ) × IsContention (told + waiting) told handed c × (acts ≡ Counts t key told handed waiting ∷ [])
 
 -- q is the pass p, which has counted this of the key
 abbrev pub HasCounted : {V : Type 0} → LotStanding V → ℕ → Contention → LotStanding V → Type 0
-HasCounted p key c q = (acts : List Access) × CountWord p.thread key c acts × (q ≡ adding p acts)
+HasCounted p key c q = (acts : List Access) × CountTrace p.thread key c acts × (q ≡ adding p acts)
 
--- Of a history after which so many wait for the key: as many were taken as it has entries that told them so, and were handed the lock as
--- it has such entries with its token; and were queued as were taken, and those who wait still
-abbrev pub CountsOf : (ℕ → ℕ → ℕ → Type 0) → List Entry → ℕ → ℕ → Type 0
-CountsOf counts log key waiting = counts (length (tokens_of key log) + waiting) (length (tokens_of key log)) (handed_in (tokens_of key log))
+-- Of a history: as many were queued at the key as it has entries that queued a thread there; taken from its line as it has entries that
+-- told them so; and handed the lock as it has such entries with the token of a handoff
+abbrev pub CountsOf : (ℕ → ℕ → ℕ → Type 0) → List Entry → ℕ → Type 0
+CountsOf counts log key = counts (queued_in key log) (length (tokens_of key log)) (handed_in (tokens_of key log))
 
--- At some moment a lot of this size had such a history, which led to one sound state, with that line of the key
+-- At some moment a lot of this size had such a history, which led to one sound state
 pub record WasCounted {V Part : Type 0} (rule : CallersRule V Part) (z : LotSize) (key : ℕ) (c : Contention) : Type 0 where
   pub values : List V
   pub table : State (Option V) (List (Right (LotPassView V) LotRootView))
   pub here : Ruled (lot_meaning rule z values) table
   pub whole : OneState rule z values table here
-  pub counted : CountsOf (λ p t h. IsContention p t h c) here.log key (length (line_at z whole.state key))
+  pub counted : CountsOf (λ p t h. IsContention p t h c) here.log key

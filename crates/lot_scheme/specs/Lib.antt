@@ -4,4 +4,4 @@ pub mod LockCalls
 pub mod Roots
 pub mod SemCalls
 pub mod Standing
-pub mod Words
+pub mod Traces

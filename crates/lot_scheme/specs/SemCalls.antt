@@ -10,7 +10,7 @@ use Rattle.lot_sems.specs.declared.taking.Taken.{Taken}
 use Rattle.lot_sems.specs.declared.taking.Taken.TheVariants.{Got, Empty, Busy}
 use Rattle.lot_sems.specs.Calls.{parked_pass}
 use Rattle.lot_scheme.specs.Standing.{LotStanding, adding, seeking, one_permit_more, one_permit_less}
-use Rattle.lot_scheme.specs.Words.{TookWord, BusyWord, FreedWord, UnfreedWord}
+use Rattle.lot_scheme.specs.Traces.{TookTrace, BusyTrace, FreedTrace, UnfreedTrace}
 
 -- how many permits of k there are at the opening, where the keys of the semaphores begin at first_sem
 abbrev pub opening_permits : ℕ → List ℕ → ℕ → ℕ
@@ -19,15 +19,15 @@ opening_permits first_sem permits = row_from 0 first_sem permits
 module _ {V : Type 0} where
   -- ---- tries to take a permit
   abbrev pub TriesPermit : LotStanding V → ℕ → Taken → LotStanding V → Type 0
-  TriesPermit p k Got q = (did : List Access) × TookWord p.thread k did × (q ≡ adding (one_permit_more p k) did)
+  TriesPermit p k Got q = (did : List Access) × TookTrace p.thread k did × (q ≡ adding (one_permit_more p k) did)
   TriesPermit p k Empty q = (word : ℕ) × (word < 2) × (q ≡ adding p (Finds p.thread k word ∷ []))
-  TriesPermit p k Busy q = (did : List Access) × BusyWord p.thread k did × (q ≡ adding p did)
+  TriesPermit p k Busy q = (did : List Access) × BusyTrace p.thread k did × (q ≡ adding p did)
 
   -- the same, where a thread that finds none seeks one
   abbrev pub TakesPermit : LotStanding V → ℕ → Taken → LotStanding V → Type 0
-  TakesPermit p k Got q = (did : List Access) × TookWord p.thread k did × (q ≡ adding (one_permit_more p k) did)
+  TakesPermit p k Got q = (did : List Access) × TookTrace p.thread k did × (q ≡ adding (one_permit_more p k) did)
   TakesPermit p k Empty q = q ≡ adding (seeking p k) (Makes (SemTake p.thread k) (Saw false) ∷ [])
-  TakesPermit p k Busy q = (did : List Access) × BusyWord p.thread k did × (q ≡ adding p did)
+  TakesPermit p k Busy q = (did : List Access) × BusyTrace p.thread k did × (q ≡ adding p did)
 
   -- ---- lining up
   -- the semaphore was marked as parked, or its word was not 0
@@ -44,5 +44,5 @@ module _ {V : Type 0} where
 
   -- ---- a try to give a permit back at once, and whether it was
   abbrev pub FreesPermit : LotStanding V → ℕ → Bool → LotStanding V → Type 0
-  FreesPermit p k true q = (did : List Access) × FreedWord p.thread k did × (q ≡ adding (one_permit_less p k) did)
-  FreesPermit p k false q = (did : List Access) × UnfreedWord p.thread k did × (q ≡ adding p did)
+  FreesPermit p k true q = (did : List Access) × FreedTrace p.thread k did × (q ≡ adding (one_permit_less p k) did)
+  FreesPermit p k false q = (did : List Access) × UnfreedTrace p.thread k did × (q ≡ adding p did)

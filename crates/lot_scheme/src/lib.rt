@@ -12,7 +12,7 @@
 //! | `NamedRoot` | a key's root | the root itself; its number tells its kind |
 //!
 //! A call says what it makes of how a pass stands, as an equation: which state comes next, and which accesses were
-//! added. Whole chains of calls are told by the words of what was added (`specs/Words`).
+//! added. Whole chains of calls are told by the traces of what was added (`specs/Traces`).
 #![tactic(auto)]
 
 mod apart;

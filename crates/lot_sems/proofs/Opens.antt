@@ -9,9 +9,10 @@ use Rattle.lot_core.proofs.Permits.{part_sound, part_opening}
 use Rattle.lot_core.proofs.Rows.{get_or_replicate, row_from_at, row_from_before}
 use Rattle.lot_rights.specs.Layout.{word_at, letter_at, word_count}
 use Rattle.lot_rights.specs.Start.{OpensWell}
-use Rattle.lot_rights.specs.World.{awake}
+use Rattle.lot_rights.specs.World.{awake, number_of}
 use Rattle.lot_rights.proofs.Distinct.{word_apart, apart_letter, word_within}
-use Rattle.lot_sems.specs.World.{Numbers, key_count, permits_of, SemWorld, word_in, SemWordsFit}
+use Rattle.lot_rights.proofs.Owing.{owed_none}
+use Rattle.lot_sems.specs.World.{Numbers, key_count, sizes_of, permits_of, SemWorld, word_in, SemWordsFit}
 use Rattle.lot_sems.specs.Opening.{with_permits, opening_words}
 use Rattle.lot_sems.specs.Rule.{opening_part, IsSound, meaning}
 use Rattle.lot_sems.proofs.Machine.{no_some}
@@ -109,4 +110,5 @@ module _ (size : Numbers) where
         };
     roots = λ k is. (is, refl, refl);
     start = refl;
+    owed = λ k. owed_none (sizes_of size) number_of fresh_world.owes k refl;
   }

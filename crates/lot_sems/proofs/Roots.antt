@@ -5,7 +5,7 @@ use Rattle.std.proofs.Common.{arith, ne_eqb, Option, Some, None}
 use Rattle.std.specs.List.{Contains}
 use Rattle.std.proofs.lemmas.Nat.Bits.{and_high_mask}
 use mathlib.Core.Option as maybe
-use Rattle.lot_core.specs.World.{put}
+use Rattle.lot_core.specs.Model.{put}
 use Rattle.lot_core.specs.Steps.{SaysMore, first, none_left}
 use Rattle.lot_events.specs.declared.events.Event.{Event}
 use Rattle.lot_events.specs.declared.events.Event.TheVariants.{SemPark, SemPass, SemClear}
@@ -17,8 +17,9 @@ use Rattle.lot_rights.specs.declared.views.Access.TheVariants.{Makes, Posts, Col
 use Rattle.lot_rights.specs.Shown.{PassShown, RootShown}
 use Rattle.lot_rights.specs.History.{maker}
 use Rattle.lot_rights.specs.Layout.{word_at, letter_at}
-use Rattle.lot_rights.specs.World.{Spot, awake, queued, owed, lying, letter_of, letters_of}
-use Rattle.lot_rights.specs.Steps.{Notes, RootNotes, PassTurn, BothTurn, AllowsPass, AllowsBoth, AllowsRoot, pass_after}
+use Rattle.lot_rights.specs.World.{Spot, awake, queued, owed, lying, letter_of, letters_of, number_of, owed_at}
+use Rattle.lot_rights.specs.Steps.{Notes, RootNotes, IsOwed, PassTurn, BothTurn, AllowsPass, AllowsBoth, AllowsRoot, pass_after}
+use Rattle.lot_rights.proofs.Owing.{no_more, owed_more, owed_less}
 use Rattle.lot_rights.proofs.Staying.{pass_stays, both_stay}
 use Rattle.lot_rights.proofs.Worlds.{same_letters, one_letter, letter_written}
 use Rattle.lot_sems.specs.declared.views.SemPassView.{SemPassView}
@@ -99,13 +100,15 @@ module _ (size : Numbers) (p : PassShown SemPassView) (q : RootShown SemRootView
   makes : (x l : ℕ) (b : Bool) (xs : List ℕ) (o : ℕ) (spots : ℕ → Spot) (owes : ℕ → Option ℕ) (own : SemPassView) (its : SemRootView)
       (e : Event) (saw : Seen)
       (then : PassShown SemPassView → RootShown SemRootView → Type 0) → maker e ≡ t
-      → IsStep size w.part e saw (turned w.part t k l b xs o (w.part.seeks t)) → x ≡ word_of l b → letters_of spots ≡ letters_of w.spot
+      → IsStep size w.part e saw (turned w.part t k l b xs o (w.part.seeks t))
+      → IsOwed (meaning size) w (Makes e saw) (after size w t k root.0 l b xs o (w.part.seeks t) spots owes)
+      → x ≡ word_of l b → letters_of spots ≡ letters_of w.spot
       → NoticesFit size.threads (put w.part.sems.line k xs) w.part.seeks owes spots
       → ((u : ℕ) → u ≢ t → sleeps (spots u) ≡ sleeps (w.spot u)) → ((d : ℕ) → d ≢ k → owes d ≡ w.owes d)
       → own.seeks ≡ p.own.seeks → sleeps (spots t) ≡ own.asleep → own.out ≡ set p.own.out k o → xs ≡ its.line → owes k ≡ its.owes
       → ((i : ℕ) → then (pass_after p own i (Makes e saw)) (record q { own = its }))
       → BothTurn (meaning size) (word_at k) x p q then w ws hs
-  makes x l b xs o spots owes own its e saw then by step is same letters others debts seeks asleep out itsline itsowes told =
+  makes x l b xs o spots owes own its e saw then by step due is same letters others debts seeks asleep out itsline itsowes told =
       let s : Option ℕ = w.part.seeks t in
       record {
         own = own;
@@ -119,7 +122,8 @@ module _ (size : Numbers) (p : PassShown SemPassView) (q : RootShown SemRootView
         passes = passes_else size w t k root.0 l b xs o s spots owes others;
         roots = roots_else size w t k root.0 l b xs o s spots owes debts;
         made = ((λ i. 2 * by i), (step, same));
-        counted = λ tokens same. tt;
+        owed = due;
+        counted = λ log same all. tt;
         told = told;
       }
 
@@ -141,7 +145,7 @@ module _ (size : Numbers) (p : PassShown SemPassView) (q : RootShown SemRootView
         (record q.own { line = q.own.line ++ t ∷ [] }) (SemPark t k) (Saw true)
         (λ p' q'. Notes p (record p.own { asleep = true }) (Makes (SemPark t k) (Saw true)) p'
         × (q' ≡ record q { own = record q.own { line = q.own.line ++ t ∷ [] } })) refl
-        (row_queued w.part size t fit.near k root.0 (fit.seeks ∙ aim, out_of k) both) found
+        (row_queued w.part size t fit.near k root.0 (fit.seeks ∙ aim, out_of k) both) (λ c. refl) found
         (same_letters w.spot t (queued k) (ap letter_of (sym up')))
         (park_letters size.threads w.part.sems.line w.part.seeks w.owes w.spot ok.letters t up' k)
         (λ u ne. ap sleeps (put_other w.spot t (queued k) u ne)) (λ d ne. refl) refl (ap sleeps (put_same w.spot t (queued k)))
@@ -149,7 +153,8 @@ module _ (size : Numbers) (p : PassShown SemPassView) (q : RootShown SemRootView
         root.2 (λ i. ((i, refl), refl)))
         (λ _ neither.
         both_stay (meaning size) (word_at k) n w ws hs ok refl p fit (Makes (SemPark t k) (Saw false))
-        (refl, (row_not_queued w.part size t fit.near k root.0 (fit.seeks ∙ aim, out_of k) neither, refl)) q (λ tokens same. tt)
+        (refl, (row_not_queued w.part size t fit.near k root.0 (fit.seeks ∙ aim, out_of k) neither, refl)) (λ c. refl) q
+        (λ log same all. tt)
         (λ p' q'. Notes p p.own (Makes (SemPark t k) (Saw false)) p' × (q' ≡ record q { own = q.own })) root (λ i. ((i, refl), refl)))
         (sym (one_says left parked) ∙ ap (λ z. z == 1) (sym found))
 
@@ -173,7 +178,8 @@ module _ (size : Numbers) (p : PassShown SemPassView) (q : RootShown SemRootView
         let two : word_of (left + 1) parked ≡ word_of left parked + 2 = omega arith in
         makes ((n + 2) % 2 ^ 64) (left + 1) parked line (w.part.sems.out k t - 1) w.spot w.owes (one_permit_less p.own k) q.own
         (SemPass t k more) (Sleeper None) (Passes p q [] more) refl
-        (row_pass_none w.part size t fit.near k root.0 calm' more some' (root.1 ∙ is)) (omega (arith, found, room, bit_few parked)) refl
+        (row_pass_none w.part size t fit.near k root.0 calm' more some' (root.1 ∙ is))
+        (λ c. ap (λ n. n + owed_at (sizes_of size) number_of w.owes c) (no_more (c == k))) (omega (arith, found, room, bit_few parked)) refl
         (subst (λ z. NoticesFit size.threads z w.part.seeks w.owes w.spot) (sym (same_line w.part k)) ok.letters)
         (λ u ne. refl) (λ d ne. refl) refl fit.asleep out_now root.1 root.2 (λ i. ((i, refl), refl))
     pass_turn (u ∷ rest) is =
@@ -191,6 +197,7 @@ module _ (size : Numbers) (p : PassShown SemPassView) (q : RootShown SemRootView
         (record q.own { line = rest; owes = Some u })
         (SemPass t k more) (Sleeper (Some u)) (Passes p q (u ∷ rest) more) refl
         (row_pass w.part size t fit.near k root.0 calm' more u rest some' here (subst (λ z. SaysMore z more) (sym root.1) says))
+        (owed_more (sizes_of size) number_of w.owes k (Some u) 1 root.0 (ap (λ o. 1 + number_of o) debt))
         (omega (arith, found, up, room, bit_few more))
         (same_letters w.spot u (owed k 0) (ap letter_of (sym queued_here)))
         (pass_letters size.threads w.part.sems.line w.part.seeks w.owes w.spot ok.letters k u rest here (ok.sound.once k) debt seek)
@@ -206,7 +213,7 @@ module _ (size : Numbers) (p : PassShown SemPassView) (q : RootShown SemRootView
       → BothTurn (meaning size) (word_at k) (bit_and n (2 ^ 64 - 2)) p q (Clears p q) w ws hs
   clear_turn small calm nobody =
       makes (bit_and n (2 ^ 64 - 2)) left false line (w.part.sems.out k t) w.spot w.owes p.own q.own (SemClear t k) Done (Clears p q) refl
-      (row_clear w.part size t fit.near k root.0 (fit.seeks ∙ calm.1) (root.1 ∙ nobody))
+      (row_clear w.part size t fit.near k root.0 (fit.seeks ∙ calm.1) (root.1 ∙ nobody)) (λ c. refl)
       (ap (λ z. bit_and z (2 ^ 64 - 2)) found ∙ cleared left parked (subst (λ z. z < 2 ^ 64) found small)) refl
       (subst (λ z. NoticesFit size.threads z w.part.seeks w.owes w.spot) (sym (same_line w.part k)) ok.letters)
       (λ u ne. refl) (λ d ne. refl) refl fit.asleep (out_same size w t k p.own fit) root.1 root.2 (λ i. ((i, refl), refl))
@@ -261,7 +268,8 @@ module _ (size : Numbers) (q : RootShown SemRootView) (u : ℕ) (debt : q.own.ow
         };
         roots = λ d y ne h. (h.0, h.1, put_other w.owes k None d ne ∙ h.2);
         made = (refl, (ap letter_of waits, λ i. record { part = w.part; letters = one_letter w.spot u (lying k 0) i }));
-        counted = λ tokens. tt;
+        owed = owed_less (sizes_of size) number_of w.owes k None root.0 (sym (ap number_of debt'));
+        counted = λ log. tt;
         told = λ i. (i, refl);
       }
 
@@ -283,7 +291,7 @@ module _ (size : Numbers) (p : PassShown SemPassView) where
     none_lies none_there =
         pass_stays (meaning size) (letter_at p.thread) 0 w ws hs ok (sym (ok.words.letters p.thread fit.near ∙ none_there)) p fit
         (Collects p.thread None)
-        (refl, (none_there, refl)) (λ tokens. tt) (Collecting p 0) (λ i. (omega arith, (i, refl)))
+        (refl, (none_there, refl)) (λ c. refl) (λ log. tt) (Collecting p 0) (λ i. (omega arith, (i, refl)))
 
     one_lies : (k : ℕ) → w.spot p.thread ≡ lying k 0 → Turn 1
     one_lies k lies =
@@ -315,7 +323,8 @@ module _ (size : Numbers) (p : PassShown SemPassView) where
               };
           roots = λ d y h. h;
           made = (refl, (ap letter_of lies, λ i. record { part = w.part; letters = one_letter w.spot t awake i }));
-          counted = λ tokens. tt;
+          owed = λ c. refl;
+          counted = λ log. tt;
           told = λ i. (omega arith, (refl, sym fit.asleep ∙ ap sleeps lies, (i, refl)));
         }
 

@@ -4,7 +4,7 @@ use Rattle.std.proofs.Common.{refl, sym, ap, subst, ◌∙◌, inl, inr, ⊎_eli
 use Rattle.std.proofs.Common.{eq-eqb, ne_eqb, MatchBool, Option, Some, None}
 use mathlib.Core.Option as maybe
 use prog.Atomic.{either}
-use Rattle.lot_core.specs.World.{put}
+use Rattle.lot_core.specs.Model.{put}
 use Rattle.lot_core.specs.Sums.{bit}
 use Rattle.lot_core.specs.Parts.{PartSeeks}
 use Rattle.lot_events.specs.declared.events.Event.{Event}
@@ -16,7 +16,7 @@ use Rattle.lot_rights.specs.Shown.{PassShown}
 use Rattle.lot_rights.specs.History.{maker}
 use Rattle.lot_rights.specs.Layout.{word_at}
 use Rattle.lot_rights.specs.World.{awake}
-use Rattle.lot_rights.specs.Steps.{Notes, PassTurn, AllowsPass, pass_after}
+use Rattle.lot_rights.specs.Steps.{Notes, IsOwed, PassTurn, AllowsPass, pass_after}
 use Rattle.lot_rights.proofs.Puts.{by_test}
 use Rattle.lot_rights.proofs.Staying.{pass_stays}
 use Rattle.lot_sems.specs.declared.taking.Taken.{Taken}
@@ -123,7 +123,7 @@ module _ (size : Numbers) (p : PassShown SemPassView) (k : ℕ) (among : IsAmong
   finds : (x : ℕ) → x ≡ n → (then : PassShown SemPassView → Type 0) → ((i : ℕ) → then (pass_after p p.own i (Finds t k x)))
       → PassTurn (meaning size) (word_at k) x p then w ws hs
   finds x is then told =
-      pass_stays (meaning size) (word_at k) x w ws hs ok is p fit (Finds t k x) (refl, (is ∙ found, refl)) (λ tokens. tt) then told
+      pass_stays (meaning size) (word_at k) x w ws hs ok is p fit (Finds t k x) (refl, (is ∙ found, refl)) (λ c. refl) (λ log. tt) then told
 
   module _ (up : p.own.asleep ≡ false) where
     up' : w.spot t ≡ awake
@@ -132,10 +132,12 @@ module _ (size : Numbers) (p : PassShown SemPassView) (k : ℕ) (among : IsAmong
     -- ---- an event of a thread that is awake, after which the line is as it was
     makes : (x l : ℕ) (b : Bool) (o : ℕ) (s : Option ℕ) (own : SemPassView) (e : Event) (saw : Seen)
         (then : PassShown SemPassView → Type 0) → maker e ≡ t
-        → IsStep size w.part e saw (turned w.part t k l b (w.part.sems.line k) o s) → x ≡ word_of l b → s ≡ own.seeks → own.asleep ≡ false
+        → IsStep size w.part e saw (turned w.part t k l b (w.part.sems.line k) o s)
+        → IsOwed (meaning size) w (Makes e saw) (after size w t k among l b (w.part.sems.line k) o s w.spot w.owes)
+        → x ≡ word_of l b → s ≡ own.seeks → own.asleep ≡ false
         → own.out ≡ set p.own.out k o
         → ((i : ℕ) → then (pass_after p own i (Makes e saw))) → PassTurn (meaning size) (word_at k) x p then w ws hs
-    makes x l b o s own e saw then by step is seeks asleep out told =
+    makes x l b o s own e saw then by step due is seeks asleep out told =
         let line : List ℕ = w.part.sems.line k in
         record {
           own = own;
@@ -148,7 +150,8 @@ module _ (size : Numbers) (p : PassShown SemPassView) (k : ℕ) (among : IsAmong
           passes = passes_else size w t k among l b line o s w.spot w.owes (λ u ne. refl);
           roots = λ d y h. (h.0, (λ i. same_line w.part k i d) ∙ h.1, h.2);
           made = ((λ i. 2 * by i), (step, refl));
-          counted = λ tokens. tt;
+          owed = due;
+          counted = λ log. tt;
           told = told;
         }
 
@@ -165,7 +168,8 @@ module _ (size : Numbers) (p : PassShown SemPassView) (k : ℕ) (among : IsAmong
           let few = bit_few (w.part.sems.parked k) in
           makes (old - 2) (left - 1) (w.part.sems.parked k) (w.part.sems.out k t + 1) None (one_permit_more p.own k)
           (SemTake t k) (Saw true) then refl
-          (row_got w.part size t fit.near k among may (λ none. omega (arith, found, is, few))) (omega (arith, found, is, few)) refl up
+          (row_got w.part size t fit.near k among may (λ none. omega (arith, found, is, few))) (λ c. refl) (omega
+          (arith, found, is, few)) refl up
           (ap (λ z. set p.own.out k (z + 1)) (sym (fit.out k))) told
 
       empty_turn : (x : ℕ) → x ≡ n → x < 2 → (then : PassShown SemPassView → Type 0)
@@ -173,7 +177,7 @@ module _ (size : Numbers) (p : PassShown SemPassView) (k : ℕ) (among : IsAmong
           → PassTurn (meaning size) (word_at k) x p then w ws hs
       empty_turn x is few then told =
           makes x left (w.part.sems.parked k) (w.part.sems.out k t) (Some k) (seeking p.own k) (SemTake t k) (Saw false) then refl
-          (row_empty w.part size t fit.near k among may (omega (arith, found, is))) (is ∙ found) refl up
+          (row_empty w.part size t fit.near k among may (omega (arith, found, is))) (λ c. refl) (is ∙ found) refl up
           (out_same size w t k p.own fit) told
 
       swap_turn : (old : ℕ) → IsAnyLeft old
@@ -199,7 +203,7 @@ module _ (size : Numbers) (p : PassShown SemPassView) (k : ℕ) (among : IsAmong
         makes 1 left true (w.part.sems.out k t) (w.part.seeks t) p.own (SemMark t k) Done
         (λ q. Notes p p.own (Makes (SemMark t k) Done) q) refl
         (row_mark w.part size t fit.near k among
-        (fit.seeks ∙ aim, in_no_line size.threads w.part.sems.line w.part.seeks w.owes w.spot ok.letters t up' k) none)
+        (fit.seeks ∙ aim, in_no_line size.threads w.part.sems.line w.part.seeks w.owes w.spot ok.letters t up' k) none) (λ c. refl)
         (omega (arith, none)) fit.seeks up (out_same size w t k p.own fit) (λ i. (i, refl)))
         (λ ne. finds n refl (λ q. (x : ℕ) × (x ≢ 0) × Found p k x q) (λ i. (n, ne, (i, refl))))
 
@@ -217,7 +221,7 @@ module _ (size : Numbers) (p : PassShown SemPassView) (k : ℕ) (among : IsAmong
         makes ((old + 2) % 2 ^ 64) (left + 1) (w.part.sems.parked k) (w.part.sems.out k t - 1) (w.part.seeks t) (one_permit_less p.own k)
         (SemFree t k) (Saw true)
         (λ q. Notes p (one_permit_less p.own k) (Makes (SemFree t k) (Saw true)) q) refl
-        (row_free w.part size t fit.near k among (fit.seeks ∙ aim) (subst (λ z. 1 ≤ z) (sym (fit.out k)) some) clear)
+        (row_free w.part size t fit.near k among (fit.seeks ∙ aim) (subst (λ z. 1 ≤ z) (sym (fit.out k)) some) clear) (λ c. refl)
         (omega (arith, found, is, bare, more, few)) fit.seeks up (ap (λ z. set p.own.out k (z - 1)) (sym (fit.out k))) (λ i. (i, refl)))
         (λ _. finds n refl (Found p k n) (λ i. (i, refl)))
 

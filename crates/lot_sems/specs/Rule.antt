@@ -3,17 +3,17 @@
 use Rattle.std.specs.Prelude.{◌≡◌, ℕ, ◌<◌, ◌⊎◌, false, List, [], length, replicate, Some, None}
 use Rattle.std.specs.List.{Contains}
 use Rattle.std.proofs.Common.{sym, ap, ◌∙◌}
-use Rattle.lot_core.specs.World.{none_taken}
+use Rattle.lot_core.specs.Model.{none_taken}
 use Rattle.lot_events.specs.declared.events.Event.{Event}
 use Rattle.lot_events.specs.declared.events.Seen.{Seen}
 use Rattle.lot_core.specs.Parts.{SemaphorePart, SemaphoreStep}
 use Rattle.lot_core.specs.Sound.{IsSoundSemaphorePart}
 use Rattle.lot_rights.specs.Rule.{Meaning}
 use Rattle.lot_rights.specs.Settled.{HasOneOutcome, LinesHaveNoLetter}
-use Rattle.lot_rights.specs.World.{letter_of, letters_of}
+use Rattle.lot_rights.specs.World.{letter_of, letters_of, number_of, owed_at}
 use Rattle.lot_sems.specs.declared.views.SemPassView.{SemPassView}
 use Rattle.lot_sems.specs.declared.views.SemRootView.{SemRootView}
-use Rattle.lot_sems.specs.World.{Numbers, key_count, permits_of, SemWorld, word_in, waiting_in, SemWordsFit, LettersFit}
+use Rattle.lot_sems.specs.World.{Numbers, key_count, sizes_of, permits_of, SemWorld, word_in, waiting_in, SemWordsFit, LettersFit}
 use Rattle.lot_sems.specs.World.{PassKnows, RootKnows}
 
 -- all permits are left, and nobody is marked, queued or seeking
@@ -64,6 +64,7 @@ meaning size = record {
   Fits = λ w ws hs. Fits size w ws;
   PassFits = PassKnows size;
   RootFits = RootKnows size;
+  owed_in = λ w k. owed_at (sizes_of size) number_of w.owes k;
   told_by = λ w. record { part = w.part; letters = letters_of w.spot };
   start = record { part = opening_part size; letters = λ t. 0 };
   Step = IsStep size;

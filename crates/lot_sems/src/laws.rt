@@ -2,7 +2,7 @@
 //! history itself, which are the same for every kind, are lot_rights' (`lot_rights::laws`).
 ghost use Rattle.std.specs.Prelude.{◌≡◌, ℕ, ◌+◌, List};
 ghost use Rattle.atomic_table.specs.Table.{State};
-ghost use Rattle.lot_core.specs.World.{opening_with};
+ghost use Rattle.lot_core.specs.Model.{opening_with};
 ghost use Rattle.lot_core.specs.Parts.{SemaphorePart, semaphore_part};
 ghost use Rattle.lot_core.specs.Sound.{IsSoundSemaphorePart};
 ghost use Rattle.lot_events.specs.declared.events.Event.{Event};

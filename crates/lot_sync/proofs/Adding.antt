@@ -3,9 +3,9 @@ use Rattle.std.proofs.Common.{◌≡◌, ℕ, Bool, true, false, List, ◌++◌,
 use Rattle.lot_rights.specs.declared.views.Access.{Access}
 use Rattle.lot_scheme.specs.Standing.{LotStanding}
 use Rattle.lot_locks.specs.declared.released.Released.TheVariants.{Quiet}
-use Rattle.lot_locks.specs.Released.{decision, FreeWord}
+use Rattle.lot_locks.specs.Released.{decision, FreeTrace}
 use Rattle.lot_sync.specs.Lot.{PassView, ◌≈◌}
-use Rattle.lot_sync.specs.Words.{Adds, UnparkedWord}
+use Rattle.lot_sync.specs.Traces.{Adds, UnparkedTrace}
 use Rattle.lot_sync.specs.Passes.{pass_view_of}
 
 module _ {V : Type 0} where
@@ -14,13 +14,13 @@ module _ {V : Type 0} where
   alike_at out v q is alike = subst (λ (o : PassView V). o ≈ v) (sym is) alike
 
   -- of a call that began with a pass that stood like p, and ended with one that stands like q
-  pub adds_at : (word : ℕ → List Access → Type 0) (before after : PassView V) (p q : LotStanding V) (did : List Access)
+  pub adds_at : (trace : ℕ → List Access → Type 0) (before after : PassView V) (p q : LotStanding V) (did : List Access)
       → before ≡ pass_view_of p → after ≡ pass_view_of q
-      → q.did ≡ p.did ++ did → word p.thread did → Adds before.made (word before.thread) after.made
-  adds_at word before after p q did was is more told = (
+      → q.did ≡ p.did ++ did → trace p.thread did → Adds before.made (trace before.thread) after.made
+  adds_at trace before after p q did was is more told = (
     did,
     ap (λ (v : PassView V). v.made) is ∙ (more ∙ ap (λ (v : PassView V). v.made ++ did) (sym was)),
-    subst (λ (v : PassView V). word v.thread did) (sym was) told,
+    subst (λ (v : PassView V). trace v.thread did) (sym was) told,
   )
 
 -- no decision under a bucket's lock is that nobody was parked
@@ -30,6 +30,6 @@ undecided (Some t) true e = absurd cc
 undecided (Some t) false e = absurd cc
 
 -- so a lock that was let go where nobody was parked was let go by the first exchange
-pub quiet_word : (t l : ℕ) (acts : List Access) → FreeWord t l Quiet acts → UnparkedWord t l true acts
-quiet_word t l acts (inl (quiet, is)) = is
-quiet_word t l acts (inr (more, rest, (first, fair, decided, says, word), is)) = absurd (undecided first fair decided)
+pub quiet_trace : (t l : ℕ) (acts : List Access) → FreeTrace t l Quiet acts → UnparkedTrace t l true acts
+quiet_trace t l acts (inl (quiet, is)) = is
+quiet_trace t l acts (inr (more, rest, (first, fair, decided, says, trace), is)) = absurd (undecided first fair decided)

@@ -16,7 +16,7 @@ use Rattle.lot_rights.specs.declared.views.Access.TheVariants.{Finds}
 use Rattle.lot_scheme.specs.Standing.{LotStanding, adding, letting_go, enlisted, one_wait_more as stand_one_wait_more}
 use Rattle.lot_scheme.specs.Standing.{called_more as stand_called_more, one_permit_more as stand_one_permit_more}
 use Rattle.lot_scheme.specs.Standing.{one_permit_less as stand_one_permit_less}
-use Rattle.lot_scheme.specs.Words.{word_of_all, word_of_nobody, TookWord, BusyWord}
+use Rattle.lot_scheme.specs.Traces.{trace_of_all, trace_of_nobody, TookTrace, BusyTrace}
 use Rattle.lot_locks.specs.declared.released.Released.{Released}
 use Rattle.lot_waits.specs.Counts.{AreKept, counts_in, called_more}
 use Rattle.lot_waits.specs.Waiting.{HasWaited, waited}
@@ -29,7 +29,7 @@ use Rattle.lot_sync.specs.Lot.{PassView, HeldView, ◌≈◌, LotNames, Owns, ow
 use Rattle.lot_sync.specs.Lot.{one_wait_more as view_one_wait_more, called_more as view_called_more}
 use Rattle.lot_sync.specs.Lot.{one_permit_more as view_one_permit_more, one_permit_less as view_one_permit_less}
 use Rattle.lot_sync.specs.Permits.{TriesToGet}
-use Rattle.lot_sync.specs.Words.{Adds, NobodyWord, NotifyWord, NotifyAllWord, TryPermitWord}
+use Rattle.lot_sync.specs.Traces.{Adds, NobodyTrace, NotifyTrace, NotifyAllTrace, TryPermitTrace}
 use Rattle.lot_sync.specs.Passes.{is_held, pass_view_of, IsAtRest, IsNewOwner}
 use Rattle.lot_sync.specs.Values.{Gets}
 use Rattle.lot_sync.proofs.Adding.{alike_at, adds_at}
@@ -37,50 +37,50 @@ use Rattle.lot_sync.proofs.Rests.{sees_as, sees_stays, one_lies, left_at_rest, o
 
 -- ---- notifications
 module _ {V : Type 0} where
-  -- so many sleepers more were taken, by accesses that make such a word
-  pub record TookMore (word : ℕ → List Access → Type 0) (p : LotStanding V) (c n : ℕ) (q : LotStanding V) : Type 0 where
+  -- so many sleepers more were taken, by accesses that make such a trace
+  pub record TookMore (trace : ℕ → List Access → Type 0) (p : LotStanding V) (c n : ℕ) (q : LotStanding V) : Type 0 where
     pub did : List Access
-    pub told : word p.thread did
+    pub told : trace p.thread did
     pub is : q ≡ adding (stand_called_more p c n) did
 
-  nobody_more : (p q : LotStanding V) (c n : ℕ) → FindsNobody p c n q → TookMore (λ t. NobodyWord t c n) p c n q
+  nobody_more : (p q : LotStanding V) (c n : ℕ) → FindsNobody p c n q → TookMore (λ t. NobodyTrace t c n) p c n q
   nobody_more p q c n (none, is) = record {
-    did = word_of_nobody p.thread c;
+    did = trace_of_nobody p.thread c;
     told = (none, refl);
     is =
-        is ∙ ap (λ (r : LotStanding V). adding r (word_of_nobody p.thread c)) (sym (none_called p c))
-        ∙ ap (λ k. adding (stand_called_more p c k) (word_of_nobody p.thread c)) (sym none);
+        is ∙ ap (λ (r : LotStanding V). adding r (trace_of_nobody p.thread c)) (sym (none_called p c))
+        ∙ ap (λ k. adding (stand_called_more p c k) (trace_of_nobody p.thread c)) (sym none);
   }
 
-  pub took_some : (p q : LotStanding V) (c n taken : ℕ) → Notifies p c n taken q → TookMore (λ t. NotifyWord t c n taken) p c taken q
+  pub took_some : (p q : LotStanding V) (c n taken : ℕ) → Notifies p c n taken q → TookMore (λ t. NotifyTrace t c n taken) p c taken q
   took_some p q c n taken (inl nobody) =
       let none = nobody_more p q c taken nobody in record { did = none.did; told = inl none.told; is = none.is }
-  took_some p q c n taken (inr (did, word, is)) = record { did = did; told = inr word; is = is }
+  took_some p q c n taken (inr (did, trace, is)) = record { did = did; told = inr trace; is = is }
 
-  pub took_all : (p q : LotStanding V) (c taken : ℕ) → NotifiesAll p c taken q → TookMore (λ t. NotifyAllWord t c taken) p c taken q
+  pub took_all : (p q : LotStanding V) (c taken : ℕ) → NotifiesAll p c taken q → TookMore (λ t. NotifyAllTrace t c taken) p c taken q
   took_all p q c taken (inl nobody) =
       let none = nobody_more p q c taken nobody in record { did = none.did; told = inl none.told; is = none.is }
-  took_all p q c taken (inr is) = record { did = word_of_all p.thread c taken; told = inr refl; is = is }
+  took_all p q c taken (inr is) = record { did = trace_of_all p.thread c taken; told = inr refl; is = is }
 
-  pub sees_called : (word : ℕ → List Access → Type 0) (p q : LotStanding V) (c n : ℕ) → TookMore word p c n q
+  pub sees_called : (trace : ℕ → List Access → Type 0) (p q : LotStanding V) (c n : ℕ) → TookMore trace p c n q
       → pass_view_of q ≈ view_called_more (pass_view_of p) c n
-  sees_called word p q c n took = sees_as p q (stand_called_more p c n).own took.did (map is_held p.own.locks.holds) took.is refl
+  sees_called trace p q c n took = sees_as p q (stand_called_more p c n).own took.did (map is_held p.own.locks.holds) took.is refl
 
-  -- what the callers of a notification see: how the pass stands, and the word
-  pub sees_more : (word : ℕ → List Access → Type 0) (p q : LotStanding V) (out before : PassView V) (c n : ℕ) → before ≡ pass_view_of p
-      → out ≡ pass_view_of q → TookMore word p c n q
-      → (out ≈ view_called_more before c n) × Adds before.made (word before.thread) out.made
-  sees_more word p q out before c n was is took = (
+  -- what the callers of a notification see: how the pass stands, and the trace
+  pub sees_more : (trace : ℕ → List Access → Type 0) (p q : LotStanding V) (out before : PassView V) (c n : ℕ) → before ≡ pass_view_of p
+      → out ≡ pass_view_of q → TookMore trace p c n q
+      → (out ≈ view_called_more before c n) × Adds before.made (trace before.thread) out.made
+  sees_more trace p q out before c n was is took = (
     subst (λ (v : PassView V). out ≈ view_called_more v c n) (sym was)
-        (alike_at out (view_called_more (pass_view_of p) c n) q is (sees_called word p q c n took)),
-    adds_at word before out p q took.did was is (ap (λ (r : LotStanding V). r.did) took.is) took.told,
+        (alike_at out (view_called_more (pass_view_of p) c n) q is (sees_called trace p q c n took)),
+    adds_at trace before out p q took.did was is (ap (λ (r : LotStanding V). r.did) took.is) took.told,
   )
 
-  pub sees_called_one : (word : ℕ → List Access → Type 0) (p q : LotStanding V) (out before : PassView V) (c : ℕ) (one : Bool)
+  pub sees_called_one : (trace : ℕ → List Access → Type 0) (p q : LotStanding V) (out before : PassView V) (c : ℕ) (one : Bool)
       → before ≡ pass_view_of p → out ≡ pass_view_of q
-      → TookMore word p c (one_if one) q → MatchBool one (out ≈ view_called_more before c 1) (out ≈ before)
-  sees_called_one word p q out before c true was is took = (sees_more word p q out before c 1 was is took).0
-  sees_called_one word p q out before c false was is took =
+      → TookMore trace p c (one_if one) q → MatchBool one (out ≈ view_called_more before c 1) (out ≈ before)
+  sees_called_one trace p q out before c true was is took = (sees_more trace p q out before c 1 was is took).0
+  sees_called_one trace p q out before c false was is took =
       subst (λ (v : PassView V). out ≈ v) (sym was) (alike_at out (pass_view_of p) q is
       (sees_stays p q took.did (took.is ∙ ap (λ (r : LotStanding V). adding r took.did) (none_called p c))))
 
@@ -97,40 +97,40 @@ module _ {V : Type 0} where
   -- what came of a try to get one
   pub sees_tried : {A : Type 0} (p q : LotStanding V) (out before : PassView V) (k : ℕ) (tried : Tried V A) → before ≡ pass_view_of p
       → out ≡ pass_view_of q → Tries p k tried q
-      → TriesToGet before k tried out × Adds before.made (TryPermitWord before.thread k tried) out.made
-  sees_tried p q out before k (Got permit) was is (key, thread, (did, word, now)) = (
+      → TriesToGet before k tried out × Adds before.made (TryPermitTrace before.thread k tried) out.made
+  sees_tried p q out before k (Got permit) was is (key, thread, (did, trace, now)) = (
     (
       key,
       thread ∙ ap (λ (v : PassView V). v.thread) (sym was),
       subst (λ (v : PassView V). out ≈ view_one_permit_more v k) (sym was)
           (alike_at out (view_one_permit_more (pass_view_of p) k) q is (sees_permit p q k did now)),
     ),
-    adds_at (λ t. TookWord t k) before out p q did was is (ap (λ (r : LotStanding V). r.did) now) word,
+    adds_at (λ t. TookTrace t k) before out p q did was is (ap (λ (r : LotStanding V). r.did) now) trace,
   )
   sees_tried p q out before k Empty was is (word, low, now) = (
     subst (λ (v : PassView V). out ≈ v) (sym was) (alike_at out (pass_view_of p) q is (sees_stays p q (Finds p.thread k word ∷ []) now)),
     adds_at (λ t acts. (w : ℕ) × (w < 2) × (acts ≡ Finds t k w ∷ [])) before out p q (Finds p.thread k word ∷ []) was is
         (ap (λ (r : LotStanding V). r.did) now) (word, low, refl),
   )
-  sees_tried p q out before k Busy was is (did, word, now) = (
+  sees_tried p q out before k Busy was is (did, trace, now) = (
     subst (λ (v : PassView V). out ≈ v) (sym was) (alike_at out (pass_view_of p) q is (sees_stays p q did now)),
-    adds_at (λ t. BusyWord t k) before out p q did was is (ap (λ (r : LotStanding V). r.did) now) word,
+    adds_at (λ t. BusyTrace t k) before out p q did was is (ap (λ (r : LotStanding V). r.did) now) trace,
   )
 
 -- the tallies, to which what was taken is added
-pub kept_called : {V : Type 0} (locks own conds : ℕ) (word : ℕ → List Access → Type 0) (p q : LotStanding V) (c n : ℕ)
-    (called woken now_called now_woken : List ℕ) → own ≡ locks → TookMore word p c n q → AreKept locks conds (counts_in p) called woken
+pub kept_called : {V : Type 0} (locks own conds : ℕ) (trace : ℕ → List Access → Type 0) (p q : LotStanding V) (c n : ℕ)
+    (called woken now_called now_woken : List ℕ) → own ≡ locks → TookMore trace p c n q → AreKept locks conds (counts_in p) called woken
     → (AreKept own conds (counts_in p) called woken → AreKept own conds (called_more (counts_in p) c n) now_called now_woken)
     → AreKept locks conds (counts_in q) now_called now_woken
-kept_called {V} locks own conds word p q c n called woken now_called now_woken same took kept counts =
+kept_called {V} locks own conds trace p q c n called woken now_called now_woken same took kept counts =
     subst (λ m. AreKept locks conds m now_called now_woken) (sym (ap counts_in took.is))
     (subst (λ m. AreKept m conds (called_more (counts_in p) c n) now_called now_woken) same
     (counts (subst (λ m. AreKept m conds (counts_in p) called woken) (sym same) kept)))
 
 module _ {V : Type 0} (grows : V → V → Type 0) (names : LotNames V) where
-  pub rests_called : (word : ℕ → List Access → Type 0) (p q : LotStanding V) (c n : ℕ) → TookMore word p c n q → IsAtRest grows names p
+  pub rests_called : (trace : ℕ → List Access → Type 0) (p q : LotStanding V) (c n : ℕ) → TookMore trace p c n q → IsAtRest grows names p
       → IsAtRest grows names q
-  rests_called word p q c n took rest = rests_on grows names (stand_called_more p c n) q took.did took.is (record {
+  rests_called trace p q c n took rest = rests_on grows names (stand_called_more p c n) q took.did took.is (record {
     of_lot = record {
       is_thread = rest.of_lot.is_thread;
       holds_long = rest.of_lot.holds_long;

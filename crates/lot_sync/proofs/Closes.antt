@@ -18,11 +18,12 @@ use Rattle.lot_words.specs.Values.{FoundOk}
 use Rattle.lot_whole.specs.declared.views.LotPassView.{LotPassView}
 use Rattle.lot_whole.specs.declared.views.LotRootView.{LotRootView}
 use Rattle.lot_whole.specs.Family.{cond}
-use Rattle.lot_whole.specs.Order.{accesses_of}
-use Rattle.lot_whole.specs.Lot.{line_of_root}
+use Rattle.lot_whole.specs.Order.{accesses_of, queued_in}
+use Rattle.lot_whole.specs.Lot.{line_of_root, owed_by}
 use Rattle.lot_scheme.specs.Roots.{root_view, owes_in}
 use Rattle.lot_scheme.specs.Counts.{queued_now}
 use Rattle.lot_scheme.specs.Standing.{LotStanding, standing}
+use Rattle.lot_scheme.proofs.Counts.{clear_owes}
 use Rattle.lot_waits.specs.Counts.{counts_shown}
 use Rattle.lot_sync.specs.Lot.{LotNames, PassView, Owns, OwnsNone, HasSeen, counts_of}
 use Rattle.lot_sync.specs.Passes.{pass_view_of, pass_view_shown, IsAtRest, IsFree}
@@ -100,8 +101,10 @@ all_got P (y ∷ ys) (suc i) x all at = all_got P ys i x (All-tail P y ys all) a
 pub counts_are : {C : Type 0} (counts : C → ℕ → ℕ → ℕ → Type 0) (log : List Entry) (keys : ℕ) (before after : List (RootShown LotRootView))
     (cs : List C) → Appends root_view keys before after → before ≡ []
     → All (λ (q : RootShown LotRootView). q.made ≡ entries_of (2 * q.key + 1) log) after
+    → All (λ (q : RootShown LotRootView). queued_in q.key log
+    ≡ length (tokens_of q.key log) + owed_by q.own + length (line_of_root q.own)) after
     → length after ≡ length cs → AreCountedWith counts after cs → AreCounts counts log after cs
-counts_are counts log keys before after cs back none made each counted =
+counts_are counts log keys before after cs back none made queued each counted =
     let are : after ≡ back.roots = back.appended ∙ ap (λ (rs : List (RootShown LotRootView)). rs ++ back.roots) none in
     let key_at = λ (i : ℕ) (r : RootShown LotRootView) (at : slice_get after i ≡ Some r). back.named i r
     (subst (λ (rs : List (RootShown LotRootView)). slice_get rs i ≡ Some r) are at) in
@@ -113,8 +116,21 @@ counts_are counts log keys before after cs back none made each counted =
           all_got (λ (q : RootShown LotRootView). q.made ≡ entries_of (2 * q.key + 1) log) after i r made at
           ∙ ap (λ k. tokens_of k log) (key_at i r at) in
           let owes = back.paid i r (subst (λ (rs : List (RootShown LotRootView)). slice_get rs i ≡ Some r) are at) in
-          subst (λ m. counts c (length m + length (line_of_root r.own)) (length m) (handed_in m)) own
-          (subst (λ n. counts c (length r.made + n) (length r.made) (handed_in r.made)) (owed_none r.own owes) (counted i c r here at));
+          let ever = all_got (λ (q : RootShown LotRootView). queued_in q.key log
+          ≡ length (tokens_of q.key log) + owed_by q.own + length (line_of_root q.own)) after i r queued at in
+          let all : length r.made + queued_now r.own ≡ queued_in r.key log =
+          omega (
+            arith,
+            ever,
+            clear_owes r.own owes,
+            owed_none r.own owes,
+            ap length own,
+            ap (λ k. length (tokens_of k log))
+                (key_at i r at),
+          ) in
+          subst (λ m. counts c (queued_in i log) (length m) (handed_in m)) own
+          (subst (λ n. counts c n (length r.made) (handed_in r.made)) (all ∙ ap (λ k. queued_in k log) (key_at i r at))
+          (counted i c r here at));
     }
 
 -- what was made with each pass that came back is its thread's part of the history

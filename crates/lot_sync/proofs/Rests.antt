@@ -119,9 +119,9 @@ module _ {V : Type 0} where
       sees_as p q (owning_now p l x).own did (set (map is_held p.own.locks.holds) l true) is (map-set is_held p.own.locks.holds l Held)
 
   -- a lock was let go, and what was left there
-  pub leaves_all : (word : List Access → Type 0) (p q : LotStanding V) (l : ℕ) (value : V) → IsIn p.own.locks l value → GoesBy word p l q
+  pub leaves_all : (trace : List Access → Type 0) (p q : LotStanding V) (l : ℕ) (value : V) → IsIn p.own.locks l value → GoesBy trace p l q
       → pass_view_of q ≈ view_letting_go (pass_view_of p) l value
-  leaves_all word p q l value lies went =
+  leaves_all trace p q l value lies went =
       let same : went.value ≡ value = one_lies p.own.locks.places l went.value value went.lay lies in
       sees_as p q (letting_go p l value).own went.did (set (map is_held p.own.locks.holds) l false)
       (subst (λ v. q ≡ adding (letting_go p l v) went.did) same went.is) (map-set is_held p.own.locks.holds l NotHeld)
@@ -369,19 +369,19 @@ module _ {V Part : Type 0} (rule : CallersRule V Part) (names : LotNames V) wher
   owns_after p q l did is own = subst (λ (r : LotStanding V). IsNewOwner rule.grows names r l) (sym is) (owner_on p l did own)
 
   -- whoever got a lock is its new owner
-  pub owns_newly : (word : List Access → Type 0) (p q : LotStanding V) (l : ℕ) → l < names.locks → IsAtRest rule.grows names p
-      → GetsBy rule word p l q
+  pub owns_newly : (trace : List Access → Type 0) (p q : LotStanding V) (l : ℕ) → l < names.locks → IsAtRest rule.grows names p
+      → GetsBy rule trace p l q
       → IsNewOwner rule.grows names q l
-  owns_newly word p q l near rest got = owns_after (owning_now p l got.value) q l got.did got.is
+  owns_newly trace p q l near rest got = owns_after (owning_now p l got.value) q l got.did got.is
       (owns_so p l got.value near rest.of_lot rest.idle.0.up rest.idle.0.sweeps rest.idle.0.seeks
       (λ k else holds. rest.out k holds) got.found)
 
   -- what the callers of lock see
-  pub gets_all : (word : List Access → Type 0) (p q : LotStanding V) (held : HeldView V) (l : ℕ) → l < names.locks
-      → IsAtRest rule.grows names p → GetsBy rule word p l q
+  pub gets_all : (trace : List Access → Type 0) (p q : LotStanding V) (held : HeldView V) (l : ℕ) → l < names.locks
+      → IsAtRest rule.grows names p → GetsBy rule trace p l q
       → held.key ≡ l → IsIn q.own.locks l held.value → (after : PassView V) → after ≡ pass_view_of q
       → Gets rule (pass_view_of p) l held after
-  gets_all word p q held l near rest got key_is lies after after_is =
+  gets_all trace p q held l near rest got key_is lies after after_is =
       let seen_there : get_elem? (set p.own.locks.places l (InSlot got.value)) l ≡ some (InSlot got.value) =
       set_here p.own.locks.places l (InSlot got.value) (let w = rest.of_lot.places_long in omega (arith, w)) in
       let same : got.value ≡ held.value = one_lies (set p.own.locks.places l (InSlot got.value)) l got.value held.value seen_there

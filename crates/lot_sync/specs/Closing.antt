@@ -7,7 +7,6 @@ use Rattle.lot_whole.specs.declared.views.LotPassView.{LotPassView}
 use Rattle.lot_whole.specs.declared.views.LotRootView.{LotRootView}
 use Rattle.lot_whole.specs.Order.{accesses_of}
 use Rattle.lot_whole.specs.Closing.{IsToldTo}
-use Rattle.lot_whole.specs.Lot.{line_of_root}
 use Rattle.lot_scheme.specs.Roots.{size_named}
 use Rattle.lot_scheme.specs.Counts.{CountedWith, CountsOf}
 use Rattle.lot_sync.specs.Lot.{PassView, LotNames}
@@ -35,4 +34,4 @@ module _ {C : Type 0} (counts : C → ℕ → ℕ → ℕ → Type 0) where
     pub each : length roots ≡ length cs
     pub keys : (i : ℕ) (r : RootShown LotRootView) → slice_get roots i ≡ Some r → r.key ≡ i
     pub tell : (i : ℕ) (c : C) (r : RootShown LotRootView) → slice_get cs i ≡ Some c → slice_get roots i ≡ Some r
-        → CountsOf (counts c) log i (length (line_of_root r.own))
+        → CountsOf (counts c) log i

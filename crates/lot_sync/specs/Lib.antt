@@ -1,5 +1,5 @@
 pub mod Lot
-pub mod Words
+pub mod Traces
 pub mod Values
 pub mod Permits
 pub mod Holding

@@ -3,10 +3,10 @@
 ghost use Rattle.std.specs.Prelude.{◌≡◌, ◌≢◌, ℕ, ◌+◌, ◌≤◌};
 ghost use Rattle.lot_order.specs.Order.{AllBelow};
 ghost use Rattle.lot_scheme.specs.SemCalls.{opening_permits};
-ghost use Rattle.lot_scheme.specs.Words.{GetPermitWord};
-ghost use Rattle.lot_permits.specs.Freed.{GivenWord};
+ghost use Rattle.lot_scheme.specs.Traces.{GetPermitTrace};
+ghost use Rattle.lot_permits.specs.Freed.{GivenTrace};
 ghost use Rattle.lot_sync.specs.Lot.{◌≈◌, HasShape, IsSem, one_permit_more, one_permit_less, permits_with, keys_of};
-ghost use Rattle.lot_sync.specs.Words.{Adds, TryPermitWord};
+ghost use Rattle.lot_sync.specs.Traces.{Adds, TryPermitTrace};
 ghost use Rattle.lot_sync.specs.Permits.{HasPermit, TriesToGet};
 
 use crate::lot::Lot;
@@ -27,7 +27,7 @@ impl<V: Keeps + Send, N: LotName<V> + Send, C: Tally + Send> Lot<V, N, C> {
     pub fn try_acquire(&self, pass: Pass<V, N>, key: usize) -> (Pass<V, N>, Tried<V, N>)
         requires key { IsSem self.now key }
         ensures tries { TriesToGet pass key result.1 result.0 }
-        ensures made { Adds pass.made (TryPermitWord pass.thread key result.1) result.0.made }
+        ensures made { Adds pass.made (TryPermitTrace pass.thread key result.1) result.0.made }
         ensures shape { HasShape self.now result.0 }
     {
         prove!(self.has_sem(key));
@@ -49,7 +49,7 @@ impl<V: Keeps + Send, N: LotName<V> + Send, C: Tally + Send> Lot<V, N, C> {
         requires above { AllBelow V.above (keys_of pass) key }
         ensures permit { (result.1.key ≡ key) × (result.1.thread ≡ pass.thread) }
         ensures pass { result.0 ≈ one_permit_more pass key }
-        ensures made { Adds pass.made (GetPermitWord pass.thread key) result.0.made }
+        ensures made { Adds pass.made (GetPermitTrace pass.thread key) result.0.made }
         ensures shape { HasShape self.now result.0 }
     {
         prove!(self.has_sem(key));
@@ -71,7 +71,7 @@ impl<V: Keeps + Send, N: LotName<V> + Send, C: Tally + Send> Lot<V, N, C> {
     ) -> (Pass<V, N>, Freed)
         requires has { HasPermit pass permit }
         ensures pass { result.0 ≈ one_permit_less pass permit.key }
-        ensures made { Adds pass.made (GivenWord pass.thread permit.key result.1) result.0.made }
+        ensures made { Adds pass.made (GivenTrace pass.thread permit.key result.1) result.0.made }
         ensures shape { HasShape self.now result.0 }
     {
         let (right, tallies) = pass.apart();

@@ -2,11 +2,11 @@
 ghost use Rattle.std.specs.Prelude.{◌≡◌, ℕ, ◌+◌, ◌<◌, vec_len};
 ghost use Rattle.std.specs.List.{All, Any};
 ghost use Rattle.lot_scheme.specs.Roots.{size_named};
-ghost use Rattle.lot_scheme.specs.Counts.{IsContention, WasCounted, CountWord};
+ghost use Rattle.lot_scheme.specs.Counts.{IsContention, WasCounted, CountTrace};
 ghost use Rattle.lot_sync.specs.Lot.{PassView, ◌≈◌, HasShape, OwnsNone, IsLedgerOf};
 ghost use Rattle.lot_sync.specs.Values.{GoesOnTo, AreSeen};
 ghost use Rattle.lot_sync.specs.Closing.{HasOneRun, AreCounts};
-ghost use Rattle.lot_sync.specs.Words.{Adds};
+ghost use Rattle.lot_sync.specs.Traces.{Adds};
 
 use crate::lot::Lot;
 use crate::pass::Pass;
@@ -40,7 +40,7 @@ impl<V: Keeps + Send, N: LotName<V> + Send> Lot<V, N, Contention> {
     ) -> (Pass<V, N>, Contention)
         requires { key < self.now.locks + self.now.conds + self.now.sems }
         ensures pass { result.0 ≈ pass }
-        ensures made { Adds pass.made (CountWord pass.thread key result.1) result.0.made }
+        ensures made { Adds pass.made (CountTrace pass.thread key result.1) result.0.made }
         ensures shape { HasShape self.now result.0 }
     {
         prove!(self.has_lock(key) || self.has_cond(key) || self.has_sem(key));

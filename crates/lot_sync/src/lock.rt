@@ -2,9 +2,9 @@
 ghost use Rattle.std.specs.Prelude.{◌≡◌, ◌<◌, ◌⊎◌, MatchOption, is_some};
 ghost use Rattle.lot_order.specs.Order.{AllBelow};
 ghost use Rattle.lot_locks.specs.Standing.{letters_in};
-ghost use Rattle.lot_scheme.specs.Words.{TryWord, GetWord};
+ghost use Rattle.lot_scheme.specs.Traces.{TryTrace, GetTrace};
 ghost use Rattle.lot_sync.specs.Lot.{◌≈◌, Owns, HasShape, keys_of};
-ghost use Rattle.lot_sync.specs.Words.{Adds};
+ghost use Rattle.lot_sync.specs.Traces.{Adds};
 ghost use Rattle.lot_sync.specs.Values.{Gets};
 ghost use Rattle.lot_sync.specs.Passes.{pass_view_of, AreTallied, IsNewOwner};
 ghost use Rattle.lot_words.specs.Values.{IsIn};
@@ -27,7 +27,7 @@ impl<V: Keeps + Send, N: LotName<V> + Send, C: Tally + Send> Lot<V, N, C> {
         requires key { key < self.now.locks }
         requires not_owned { ¬ Owns pass key }
         ensures gets { MatchOption result.1 (result.0 ≈ pass) (λ held. Gets V.Keeps pass key held result.0) }
-        ensures made { Adds pass.made (TryWord pass.thread key (is_some result.1)) result.0.made }
+        ensures made { Adds pass.made (TryTrace pass.thread key (is_some result.1)) result.0.made }
         ensures shape { HasShape self.now result.0 }
     {
         prove!(self.has_lock(key));
@@ -49,7 +49,7 @@ impl<V: Keeps + Send, N: LotName<V> + Send, C: Tally + Send> Lot<V, N, C> {
         requires not_owned { ¬ Owns pass key }
         requires above { AllBelow V.above (keys_of pass) key }
         ensures gets { Gets V.Keeps pass key result.1 result.0 }
-        ensures made { Adds pass.made (GetWord pass.thread key) result.0.made }
+        ensures made { Adds pass.made (GetTrace pass.thread key) result.0.made }
         ensures shape { HasShape self.now result.0 }
     {
         prove!(self.has_lock(key));
@@ -65,7 +65,7 @@ impl<V: Keeps + Send, N: LotName<V> + Send, C: Tally + Send> Lot<V, N, C> {
 
     /// `lock` with an action before each sleep, for a runtime that has to know that its thread will sleep:
     /// `lot.lock_after(rt, pass, key, &leave_the_processor)`. The thread is queued then and no bucket is locked; the
-    /// action must not park. Where the lock is got without a sleep it does not run; where the call's word has a letter, by
+    /// action must not park. Where the lock is got without a sleep it does not run; where the call's trace has a letter, by
     /// which a sleep ended, it ran.
     #[inline(always)]
     pub fn lock_after<R: Wait, B: BeforeSleep>(
@@ -79,7 +79,7 @@ impl<V: Keeps + Send, N: LotName<V> + Send, C: Tally + Send> Lot<V, N, C> {
         requires not_owned { ¬ Owns pass key }
         requires above { AllBelow V.above (keys_of pass) key }
         ensures gets { Gets V.Keeps pass key result.1 result.0 }
-        ensures made { Adds pass.made (GetWord pass.thread key) result.0.made }
+        ensures made { Adds pass.made (GetTrace pass.thread key) result.0.made }
         ensures shape { HasShape self.now result.0 }
         ensures ran { (letters_in result.0.made ≡ letters_in pass.made) ⊎ B.ran before.now }
     {

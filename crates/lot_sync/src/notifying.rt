@@ -2,7 +2,7 @@
 ghost use Rattle.std.specs.Prelude.{◌≡◌, ◌≤◌, MatchBool};
 ghost use Rattle.lot_core.specs.Steps.{IsCallCount};
 ghost use Rattle.lot_sync.specs.Lot.{◌≈◌, HasShape, IsCond, called_more};
-ghost use Rattle.lot_sync.specs.Words.{Adds, LookWord, NotifyWord, NotifyAllWord};
+ghost use Rattle.lot_sync.specs.Traces.{Adds, LookTrace, NotifyTrace, NotifyAllTrace};
 ghost use Rattle.lot_waits.specs.Notifying.{one_if};
 
 use crate::lot::Lot;
@@ -20,7 +20,7 @@ impl<V: Keeps + Send, N: LotName<V> + Send, C: Tally + Send> Lot<V, N, C> {
     pub fn has_waiters(&self, pass: Pass<V, N>, cond: usize) -> (Pass<V, N>, bool)
         requires cond { IsCond self.now cond }
         ensures same { result.0 ≈ pass }
-        ensures made { Adds pass.made (LookWord pass.thread cond result.1) result.0.made }
+        ensures made { Adds pass.made (LookTrace pass.thread cond result.1) result.0.made }
         ensures shape { HasShape self.now result.0 }
     {
         prove!(self.has_cond(cond));
@@ -41,7 +41,7 @@ impl<V: Keeps + Send, N: LotName<V> + Send, C: Tally + Send> Lot<V, N, C> {
     ) -> (Pass<V, N>, bool)
         requires cond { IsCond self.now cond }
         ensures counted { MatchBool result.1 (result.0 ≈ called_more pass cond 1) (result.0 ≈ pass) }
-        ensures made { Adds pass.made (NotifyWord pass.thread cond 1 (one_if result.1)) result.0.made }
+        ensures made { Adds pass.made (NotifyTrace pass.thread cond 1 (one_if result.1)) result.0.made }
         ensures shape { HasShape self.now result.0 }
     {
         prove!(self.has_cond(cond));
@@ -66,7 +66,7 @@ impl<V: Keeps + Send, N: LotName<V> + Send, C: Tally + Send> Lot<V, N, C> {
         requires cond { IsCond self.now cond }
         requires count { IsCallCount count }
         ensures counted { result.0 ≈ called_more pass cond result.1 }
-        ensures made { Adds pass.made (NotifyWord pass.thread cond count result.1) result.0.made }
+        ensures made { Adds pass.made (NotifyTrace pass.thread cond count result.1) result.0.made }
         ensures most { result.1 ≤ count }
         ensures shape { HasShape self.now result.0 }
     {
@@ -83,7 +83,7 @@ impl<V: Keeps + Send, N: LotName<V> + Send, C: Tally + Send> Lot<V, N, C> {
     pub fn notify_all<R: Wait>(&self, rt: &R, pass: Pass<V, N>, cond: usize) -> (Pass<V, N>, usize)
         requires cond { IsCond self.now cond }
         ensures counted { result.0 ≈ called_more pass cond result.1 }
-        ensures made { Adds pass.made (NotifyAllWord pass.thread cond result.1) result.0.made }
+        ensures made { Adds pass.made (NotifyAllTrace pass.thread cond result.1) result.0.made }
         ensures shape { HasShape self.now result.0 }
     {
         prove!(self.has_cond(cond));

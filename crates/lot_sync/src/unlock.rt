@@ -2,10 +2,10 @@
 //! from the line, and the lock is handed to it or left to whoever comes first.
 ghost use Rattle.std.specs.Prelude.{◌≡◌, ◌⊎◌, ◌<◌, true, false, MatchOption, IfNone, is_none, length};
 ghost use Rattle.lot_sync.specs.Lot.{◌≈◌, Owns, HasSeen, HasShape, letting_go};
-ghost use Rattle.lot_sync.specs.Words.{Adds, UnparkedWord};
+ghost use Rattle.lot_sync.specs.Traces.{Adds, UnparkedTrace};
 ghost use Rattle.lot_sync.specs.Values.{MayGiveBack};
 ghost use Rattle.lot_sync.specs.Passes.{pass_view_of, AreTallied, IsNewOwner};
-ghost use Rattle.lot_locks.specs.Released.{IsFitting, FreeWord};
+ghost use Rattle.lot_locks.specs.Released.{IsFitting, FreeTrace};
 ghost use Rattle.lot_locks.specs.declared.released.Released.TheVariants.{Quiet};
 ghost use Rattle.lot_words.specs.Values.{IsIn, HasSeen as OwnHasSeen};
 
@@ -36,7 +36,7 @@ impl<V: Keeps + Send, N: LotName<V> + Send, C: Tally + Send> Lot<V, N, C> {
         requires owns { Owns pass held.key }
         requires back { MayGiveBack V.Keeps pass held }
         ensures pass { result.0 ≈ letting_go pass held.key held.value }
-        ensures made { Adds pass.made (FreeWord pass.thread held.key result.1) result.0.made }
+        ensures made { Adds pass.made (FreeTrace pass.thread held.key result.1) result.0.made }
         ensures shape { HasShape self.now result.0 }
         ensures seen { HasSeen result.0 held.key held.value }
         ensures fits { IsFitting result.1 false moment.now }
@@ -61,7 +61,7 @@ impl<V: Keeps + Send, N: LotName<V> + Send, C: Tally + Send> Lot<V, N, C> {
         requires back { MayGiveBack V.Keeps pass held }
         requires callable { M.pre moment }
         ensures pass { result.0 ≈ letting_go pass held.key held.value }
-        ensures made { Adds pass.made (FreeWord pass.thread held.key result.1) result.0.made }
+        ensures made { Adds pass.made (FreeTrace pass.thread held.key result.1) result.0.made }
         ensures shape { HasShape self.now result.0 }
         ensures seen { HasSeen result.0 held.key held.value }
         ensures fits { (result.1 ≡ Quiet) ⊎ ((m : _) × M.post moment m × IsFitting result.1 false m.now) }
@@ -90,7 +90,7 @@ impl<V: Keeps + Send, N: LotName<V> + Send, C: Tally + Send> Lot<V, N, C> {
         requires owns { Owns pass held.key }
         requires back { MayGiveBack V.Keeps pass held }
         ensures pass { result.0 ≈ letting_go pass held.key held.value }
-        ensures made { Adds pass.made (FreeWord pass.thread held.key result.1) result.0.made }
+        ensures made { Adds pass.made (FreeTrace pass.thread held.key result.1) result.0.made }
         ensures shape { HasShape self.now result.0 }
         ensures seen { HasSeen result.0 held.key held.value }
         ensures fits { IsFitting result.1 true moment.now }
@@ -110,7 +110,7 @@ impl<V: Keeps + Send, N: LotName<V> + Send, C: Tally + Send> Lot<V, N, C> {
         requires back { MayGiveBack V.Keeps pass held }
         ensures freed { MatchOption result.1 (result.0 ≈ letting_go pass held.key held.value)
             (λ back. (back ≡ held) × (result.0 ≈ pass)) }
-        ensures made { Adds pass.made (UnparkedWord pass.thread held.key (is_none result.1)) result.0.made }
+        ensures made { Adds pass.made (UnparkedTrace pass.thread held.key (is_none result.1)) result.0.made }
         ensures shape { HasShape self.now result.0 }
         ensures seen { IfNone result.1 (HasSeen result.0 held.key held.value) }
     {
@@ -139,7 +139,7 @@ impl<V: Keeps + Send, N: LotName<V> + Send, C: Tally + Send> Lot<V, N, C> {
         requires owns { Owns pass held.key }
         requires back { MayGiveBack V.Keeps pass held }
         ensures pass { result.0 ≈ letting_go pass held.key held.value }
-        ensures made { Adds pass.made (FreeWord pass.thread held.key result.1) result.0.made }
+        ensures made { Adds pass.made (FreeTrace pass.thread held.key result.1) result.0.made }
         ensures shape { HasShape self.now result.0 }
         ensures seen { HasSeen result.0 held.key held.value }
         ensures fits { IsFitting result.1 fair moment.now }

@@ -4,7 +4,7 @@ ghost use Rattle.std.specs.Prelude.{◌<◌};
 ghost use Rattle.lot_order.specs.Order.{MayWait};
 ghost use Rattle.lot_sync.specs.Lot.{Owns, HasShape, IsCond, keys_of};
 ghost use Rattle.lot_sync.specs.Values.{MayGiveBack, WaitsAndGets};
-ghost use Rattle.lot_sync.specs.Words.{Adds, WaitedWord};
+ghost use Rattle.lot_sync.specs.Traces.{Adds, WaitedTrace};
 
 use crate::held::Held;
 use crate::lot::Lot;
@@ -37,7 +37,7 @@ impl<V: Keeps + Send, N: LotName<V> + Send, C: Tally + Send> Lot<V, N, C> {
         requires cond { IsCond self.now cond }
         requires above { MayWait V.above (keys_of pass) cond held.key }
         ensures gets { WaitsAndGets V.Keeps pass held cond result.1 result.0 }
-        ensures made { Adds pass.made (WaitedWord pass.thread cond held.key moment.now) result.0.made }
+        ensures made { Adds pass.made (WaitedTrace pass.thread cond held.key moment.now) result.0.made }
         ensures shape { HasShape self.now result.0 }
     {
         self.wait_after(rt, pass, held, cond, moment, &AtOnce)
@@ -60,7 +60,7 @@ impl<V: Keeps + Send, N: LotName<V> + Send, C: Tally + Send> Lot<V, N, C> {
         requires cond { IsCond self.now cond }
         requires above { MayWait V.above (keys_of pass) cond held.key }
         ensures gets { WaitsAndGets V.Keeps pass held cond result.1 result.0 }
-        ensures made { Adds pass.made (WaitedWord pass.thread cond held.key moment.now) result.0.made }
+        ensures made { Adds pass.made (WaitedTrace pass.thread cond held.key moment.now) result.0.made }
         ensures shape { HasShape self.now result.0 }
         ensures acted { B.ran before.now }
     {

@@ -11,9 +11,9 @@ use Rattle.lot_rights.specs.declared.views.Entry.{Entry}
 use Rattle.lot_rights.specs.History.{events_in}
 use Rattle.lot_rights.proofs.Totals.{any_all}
 use Rattle.lot_locks.specs.declared.released.Released.{Released}
-use Rattle.lot_locks.specs.Released.{FreeWord}
+use Rattle.lot_locks.specs.Released.{FreeTrace}
 use Rattle.lot_sync.specs.Lot.{PassView, LotNames}
-use Rattle.lot_sync.specs.Words.{Adds}
+use Rattle.lot_sync.specs.Traces.{Adds}
 use Rattle.lot_whole.specs.Order.{accesses_of}
 use Rattle.lot_sync.specs.Closing.{HasOneRun}
 use Rattle.lot_trials.proofs.Splits.{is_in_log, any_in_log}
@@ -22,22 +22,22 @@ use Rattle.lot_trials.specs.Runs.{HasReleased, LetsGo, HasLetGo, HasWholeRun}
 module _ {V : Type 0} where
   -- an unlock lets a lock go
   pub released_by : (p q : PassView V) (l : ℕ) (became : Released) → q.thread ≡ p.thread
-      → Adds p.made (FreeWord p.thread l became) q.made → HasReleased q
-  released_by p q l became same (did, is, inl (quiet, word)) = record {
+      → Adds p.made (FreeTrace p.thread l became) q.made → HasReleased q
+  released_by p q l became same (did, is, inl (quiet, trace)) = record {
     front = p.made;
     back = [];
     event = Free p.thread l;
     saw = Saw true;
     going = sym same;
-    made = is ∙ ap (λ xs. p.made ++ xs) word;
+    made = is ∙ ap (λ xs. p.made ++ xs) trace;
   }
-  released_by p q l became same (did, is, inr (more, rest, (first, fair, decided, says, passed), word)) = record {
+  released_by p q l became same (did, is, inr (more, rest, (first, fair, decided, says, passed), trace)) = record {
     front = p.made ++ Makes (Free p.thread l) (Saw false) ∷ [];
     back = [];
     event = Pass p.thread l fair more;
     saw = Sleeper first;
     going = sym same;
-    made = is ∙ (ap (λ xs. p.made ++ xs) (word ∙ ap (λ xs. Makes (Free p.thread l) (Saw false) ∷ xs) passed)
+    made = is ∙ (ap (λ xs. p.made ++ xs) (trace ∙ ap (λ xs. Makes (Free p.thread l) (Saw false) ∷ xs) passed)
         ∙ sym (append_assoc p.made (Makes (Free p.thread l) (Saw false) ∷ []) (Makes (Pass p.thread l fair more) (Sleeper first) ∷ [])));
   }
 

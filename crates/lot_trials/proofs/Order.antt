@@ -5,7 +5,7 @@ use Rattle.std.specs.List.{All, Contains}
 use Rattle.std.proofs.lemmas.List.Elements.{All-nil, All-cons, All-head, All-tail, All-push, All-append, All-weaker, All-contains}
 use mathlib.Core.Logic.{dite}
 use native.Mathlib.Decide.{ℕ_discrete}
-use Rattle.lot_core.specs.World.{World}
+use Rattle.lot_core.specs.Model.{StateView}
 use Rattle.lot_core.specs.Steps.{dequeued_count}
 use Rattle.lot_events.specs.declared.events.Event.TheVariants.{Try, Take, Mark, Park, Free, Pass, Enlist, Look, Call, Lower, Sweep}
 use Rattle.lot_events.specs.declared.events.Event.TheVariants.{SemTake, SemMark, SemPark, SemFree, SemPass, SemClear}
@@ -18,17 +18,17 @@ use Rattle.lot_whole.specs.Family.{cond}
 use Rattle.lot_whole.specs.Order.{LettersFollow, CountsFollow, SeesIn, accesses_of, state_after}
 use Rattle.lot_scheme.specs.declared.contention.Contention.{Contention}
 use Rattle.lot_scheme.specs.Roots.{size_named}
-use Rattle.lot_scheme.specs.Counts.{IsContention, CountWord, CountsOf}
-use Rattle.lot_scheme.specs.Words.{IsSeek, IsGot, GetWord, IsVain}
+use Rattle.lot_scheme.specs.Counts.{IsContention, CountTrace, CountsOf}
+use Rattle.lot_scheme.specs.Traces.{IsSeek, IsGot, GetTrace, IsVain}
 use Rattle.lot_locks.specs.declared.released.Released.{Released}
-use Rattle.lot_locks.specs.Released.{FreeWord}
-use Rattle.lot_waits.specs.Waiting.{WaitWord}
+use Rattle.lot_locks.specs.Released.{FreeTrace}
+use Rattle.lot_waits.specs.Waiting.{WaitTrace}
 use Rattle.lot_sync.specs.Lot.{PassView, LotNames}
-use Rattle.lot_sync.specs.Words.{Adds, WaitedWord, NotifyWord}
+use Rattle.lot_sync.specs.Traces.{Adds, WaitedTrace, NotifyTrace}
 use Rattle.lot_sync.specs.Closing.{HasOneRun}
 use Rattle.lot_trials.specs.Order.{TakesNone, IsOwnCall, HasTakenNone, HasCalled, HasWaited, IsNotifiedFirst, IsToldOf}
 
--- ---- words that take nobody from the line of a condition
+-- ---- traces that take nobody from the line of a condition
 seek_none : (c t l : ℕ) (a : Access) → IsSeek t l a ⊎ IsGot t l a → TakesNone c a
 seek_none c t l (Makes (Try u k) saw) h d' = d'
 seek_none c t l (Makes (Take u k) saw) h d' = d'
@@ -61,7 +61,7 @@ vain_none c t (Collects u found) h d = d
 vain_none c t (Finds u k word) h d = d
 vain_none c t (Counts u k told handed waiting) h d = d
 
-get_none : (c t l : ℕ) (acts : List Access) → GetWord t l acts → All (TakesNone c) acts
+get_none : (c t l : ℕ) (acts : List Access) → GetTrace t l acts → All (TakesNone c) acts
 get_none c t l acts (front, last, sought, got, is) = subst (All (TakesNone c)) (sym is)
     (All-push (TakesNone c) front last (All-weaker (IsSeek t l) (TakesNone c) (λ a h. seek_none c t l a (inl h)) front sought)
     (seek_none c t l last (inr got)))
@@ -69,14 +69,14 @@ get_none c t l acts (front, last, sought, got, is) = subst (All (TakesNone c)) (
 one_none : (c : ℕ) (a : Access) → TakesNone c a → All (TakesNone c) (a ∷ [])
 one_none c a none = All-cons (TakesNone c) a [] none (All-nil (TakesNone c))
 
-free_none : (c t l : ℕ) (became : Released) (acts : List Access) → FreeWord t l became acts → All (TakesNone c) acts
+free_none : (c t l : ℕ) (became : Released) (acts : List Access) → FreeTrace t l became acts → All (TakesNone c) acts
 free_none c t l became acts (inl (quiet, is)) = subst (All (TakesNone c)) (sym is) (one_none c (Makes (Free t l) (Saw true)) (λ d. d))
 free_none c t l became acts (inr (more, rest, (first, fair, decided, says, passed), is)) = subst (All (TakesNone c))
     (sym (is ∙ ap (λ xs. Makes (Free t l) (Saw false) ∷ xs) passed))
     (All-cons (TakesNone c) (Makes (Free t l) (Saw false)) (Makes (Pass t l fair more) (Sleeper first) ∷ []) (λ d. d)
     (one_none c (Makes (Pass t l fair more) (Sleeper first)) (λ d. d)))
 
-wait_none : (c k t l : ℕ) (became : Released) (acts : List Access) → WaitWord t k l became acts → All (TakesNone c) acts
+wait_none : (c k t l : ℕ) (became : Released) (acts : List Access) → WaitTrace t k l became acts → All (TakesNone c) acts
 wait_none c k t l became acts w = subst (All (TakesNone c)) (sym w.is)
     (All-cons (TakesNone c) (Makes (Enlist t k l) Done) (w.free ++ (w.looks ++ (Collects t (Some 0) ∷ w.get))) (λ d. d)
     (All-append (TakesNone c) w.free (w.looks ++ (Collects t (Some 0) ∷ w.get)) (free_none c t l became w.free w.freed)
@@ -85,10 +85,10 @@ wait_none c k t l became acts w = subst (All (TakesNone c)) (sym w.is)
     (All-cons (TakesNone c) (Collects t (Some 0)) w.get (λ d. d) (get_none c t l w.get w.got)))))
 
 -- ---- one notification more: it takes nobody, or by a Call of its own
-own_word : (c t n : ℕ) (acts : List Access) → NotifyWord t c 1 n acts → All (IsOwnCall c t) acts
-own_word c t n acts (inl (none, is)) = subst (All (IsOwnCall c t)) (sym is)
+own_trace : (c t n : ℕ) (acts : List Access) → NotifyTrace t c 1 n acts → All (IsOwnCall c t) acts
+own_trace c t n acts (inl (none, is)) = subst (All (IsOwnCall c t)) (sym is)
     (All-cons (IsOwnCall c t) (Makes (Look t c) (Saw false)) [] (λ d. absurd d) (All-nil (IsOwnCall c t)))
-own_word c t n acts (inr (more, says, is)) = subst (All (IsOwnCall c t)) (sym is)
+own_trace c t n acts (inr (more, says, is)) = subst (All (IsOwnCall c t)) (sym is)
     (All-cons (IsOwnCall c t) (Makes (Look t c) (Saw true)) (Makes (Call t c 1 more) (Count n) ∷ []) (λ d. absurd d)
     (All-cons (IsOwnCall c t) (Makes (Call t c 1 more) (Count n)) [] (λ d. (more, n, refl)) (All-nil (IsOwnCall c t))))
 
@@ -103,8 +103,8 @@ regroup f e w l x g r =
 module _ {V : Type 0} where
   pub waits_once : (p q r s : PassView V) (c k l m now : ℕ) (became : Released) → q.thread ≡ p.thread
       → r.thread ≡ p.thread → s.thread ≡ p.thread
-      → Adds p.made (GetWord p.thread k) q.made → Adds q.made (WaitedWord q.thread c l now) r.made
-      → Adds r.made (FreeWord r.thread m became) s.made
+      → Adds p.made (GetTrace p.thread k) q.made → Adds q.made (WaitedTrace q.thread c l now) r.made
+      → Adds r.made (FreeTrace r.thread m became) s.made
       → HasWaited c s × (HasTakenNone c p → HasTakenNone c s)
   waits_once p q r s c k l m now became of_q of_r of_s (get, got, get_word) (did, slept, (ended, fits, w)) (free, freed, free_word) = (
     record {
@@ -133,10 +133,10 @@ module _ {V : Type 0} where
       whole = freed ∙ ap (λ zs. zs ++ free) (slept ∙ (ap (λ zs. zs ++ did) got ∙ ap (λ zs. (p.made ++ get) ++ zs) w.is))
 
   -- ---- one notification more
-  pub calls_more : (p q : PassView V) (c n : ℕ) → q.thread ≡ p.thread → Adds p.made (NotifyWord p.thread c 1 n) q.made
+  pub calls_more : (p q : PassView V) (c n : ℕ) → q.thread ≡ p.thread → Adds p.made (NotifyTrace p.thread c 1 n) q.made
       → HasCalled c p → HasCalled c q
-  calls_more p q c n same (did, is, word) called = subst (λ t. All (IsOwnCall c t) q.made) (sym same)
-      (subst (All (IsOwnCall c p.thread)) (sym is) (All-append (IsOwnCall c p.thread) p.made did called (own_word c p.thread n did word)))
+  calls_more p q c n same (did, is, trace) called = subst (λ t. All (IsOwnCall c t) q.made) (sym same)
+      (subst (All (IsOwnCall c p.thread)) (sym is) (All-append (IsOwnCall c p.thread) p.made did called (own_trace c p.thread n did trace)))
 
   pub calls_none : (p : PassView V) (c : ℕ) → HasTakenNone c p → HasCalled c p
   calls_none p c none = All-weaker (TakesNone c) (IsOwnCall c p.thread) (λ a h d. absurd (h d)) p.made none
@@ -168,7 +168,7 @@ module _ {V : Type 0} (names : LotNames V) (a b : PassView V) (c : ℕ) (has : H
       All-contains P p.made x all (subst (λ xs. Contains xs x) (sym own) (subst (λ u. Contains (accesses_of (2 * u) log) x) is made))
 
   -- a Call of one that took the thread from the line saw one
-  saw_one : (s : World) (t u n : ℕ) (more : Bool) (x : Access) → x ≡ Makes (Call u c 1 more) (Count n) → SeesIn s x
+  saw_one : (s : StateView) (t u n : ℕ) (more : Bool) (x : Access) → x ≡ Makes (Call u c 1 more) (Count n) → SeesIn s x
       → Contains (s.conds.line c) t
       → x ≡ Makes (Call u c 1 more) (Count 1)
   saw_one s t u n more x is saw there =
@@ -207,7 +207,7 @@ module _ {V : Type 0} (names : LotNames V) (a b : PassView V) (c : ℕ) (has : H
 -- ---- a count, with the one pass of a lot
 module _ {V : Type 0} (names : LotNames V) where
   pub told_of : (p q : PassView V) (key : ℕ) (c : Contention) → CountsFollow → q.thread ≡ p.thread
-      → Adds p.made (CountWord p.thread key c) q.made → HasOneRun names (q ∷ []) → IsToldOf names p.thread key c
+      → Adds p.made (CountTrace p.thread key c) q.made → HasOneRun names (q ∷ []) → IsToldOf names p.thread key c
   told_of p q key c law same (did, is, (told, handed, waiting, so, acts)) has =
       let z = size_named names.threads names.locks names.conds names.permits in
       let log = has.told.recounted.log in
@@ -226,7 +226,7 @@ module _ {V : Type 0} (names : LotNames V) where
         after = w.after;
         there = w.there;
         made = ap doer w.entry_is ∙ ap (λ u. 2 * u) same;
-        told = subst (λ n. CountsOf (λ p k h. IsContention p k h c) w.before key n) w.waiting_are
-            (subst (λ n. IsContention (n + waiting) n (handed_in (tokens_of key w.before)) c) w.told_are
+        told = subst (λ n. IsContention n (length (tokens_of key w.before)) (handed_in (tokens_of key w.before)) c) w.queued_are
+            (subst (λ n. IsContention (told + waiting) n (handed_in (tokens_of key w.before)) c) w.told_are
             (subst (λ n. IsContention (told + waiting) told n c) w.handed_are so));
       }

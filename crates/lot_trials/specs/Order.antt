@@ -1,8 +1,8 @@
 -- What callers conclude of the one history of their lot: of one wait and one notification, which came first; of a count, what came before
 -- it.
-use Rattle.std.specs.Prelude.{◌≡◌, ℕ, ◌*◌, ◌++◌, Bool, List, [], ◌∷◌, length, Some, slice_index}
+use Rattle.std.specs.Prelude.{◌≡◌, ℕ, ◌*◌, ◌++◌, Bool, List, [], ◌∷◌, Some, slice_index}
 use Rattle.std.specs.List.{All}
-use Rattle.lot_core.specs.World.{World}
+use Rattle.lot_core.specs.Model.{StateView}
 use Rattle.lot_events.specs.declared.events.Event.TheVariants.{Enlist, Call}
 use Rattle.lot_events.specs.declared.events.Seen.TheVariants.{Done, Count}
 use Rattle.lot_rights.specs.declared.views.Access.{Access}
@@ -11,8 +11,7 @@ use Rattle.lot_rights.specs.declared.views.Entry.{Entry}
 use Rattle.lot_rights.specs.History.{Telling, doer}
 use Rattle.lot_words.specs.Rested.{Rested}
 use Rattle.lot_whole.specs.Family.{cond}
-use Rattle.lot_whole.specs.Order.{IsLogOf, Dequeues, state_after}
-use Rattle.lot_whole.specs.Whole.{line_at}
+use Rattle.lot_whole.specs.Order.{IsLogOf, Dequeues}
 use Rattle.lot_scheme.specs.Counts.{IsContention, CountsOf}
 use Rattle.lot_scheme.specs.declared.contention.Contention.{Contention}
 use Rattle.lot_scheme.specs.Roots.{size_named}
@@ -65,7 +64,7 @@ module _ {V : Type 0} where
 -- the waiter collected its letter
 pub record IsNotifiedFirst {V : Type 0} (names : LotNames V) (waiter caller c : ℕ) : Type 0 where
   pub log : List Entry
-  pub end : Telling World
+  pub end : Telling StateView
   pub history : IsLogOf (size_named names.threads names.locks names.conds names.permits) log end
   pub before : List Entry
   pub call : Entry
@@ -80,7 +79,7 @@ pub record IsNotifiedFirst {V : Type 0} (names : LotNames V) (waiter caller c : 
 -- In the one history of the lot of this name the thread t counted the key, and of what came before that the answer tells
 pub record IsToldOf {V : Type 0} (names : LotNames V) (t key : ℕ) (c : Contention) : Type 0 where
   pub log : List Entry
-  pub end : Telling World
+  pub end : Telling StateView
   pub history : IsLogOf (size_named names.threads names.locks names.conds names.permits) log end
   pub before : List Entry
   pub count : Entry
@@ -88,5 +87,3 @@ pub record IsToldOf {V : Type 0} (names : LotNames V) (t key : ℕ) (c : Content
   pub there : log ≡ before ++ count ∷ after
   pub made : doer count.access ≡ 2 * t
   pub told : CountsOf (λ p k h. IsContention p k h c) before key
-      (length (line_at (size_named names.threads names.locks names.conds names.permits)
-      (state_after (size_named names.threads names.locks names.conds names.permits) before) key))

@@ -1,7 +1,7 @@
 -- What a caller concludes when its lot is closed: all that was done with the lot is one run of the model.
 use Rattle.std.specs.Prelude.{◌≡◌, ℕ, ◌<◌, ◌++◌, true, List, ◌∷◌, map, Option, IsSomeAnd}
 use Rattle.std.specs.List.{Any}
-use Rattle.lot_core.specs.World.{opening_with}
+use Rattle.lot_core.specs.Model.{opening_with}
 use Rattle.lot_core.specs.Steps.{Run, after_all}
 use Rattle.lot_core.specs.Sound.{IsSound}
 use Rattle.lot_events.specs.declared.events.Event.{Event}

@@ -29,7 +29,7 @@ const COND: usize = 1;
 /// Nothing is handed over at this moment.
 const NOW: Moment = Moment { now: 0, word: 7 };
 
-/// `lock_until` the count is so much, and what the test has of it.
+/// Gets the lock when the count is so much: what a caller has of `lock_until`.
 fn own_at<N: LotName<Count> + Send + Sync, T: Wait + Abort>(
     rt: &T,
     lot: &Lot<Count, N>,

@@ -2,6 +2,7 @@
 ghost use Rattle.std.specs.Prelude.{◌≡◌, ℕ, ◌+◌, ◌<◌, ◌≤◌, ◌%◌, ◌^◌, length, vec_len, vec_capacity, slice_get, Some};
 ghost use Rattle.std.specs.List.{All, Any};
 ghost use Rattle.lot_rights.specs.History.{tokens_of};
+ghost use Rattle.lot_whole.specs.Order.{queued_in};
 ghost use Rattle.lot_sync.specs.Closing.{HasOneRun};
 ghost use Rattle.lot_sync.specs.Lot.{PassView, OwnsNone};
 ghost use Rattle.lot_sync.specs.Opened.{IsNamed};
@@ -75,7 +76,8 @@ fn sleep_once<N: LotName<Count> + Send + Sync, T: Wait + Abort>(
     lot.leave(rt, pass);
 }
 
-/// What a caller concludes at the end: of each key as many were taken as the one history has tokens of it.
+/// What a caller concludes at the end: of each key as many parked as the one history has entries that queued a thread
+/// there, and as many were taken as it has tokens of the key.
 fn close_told<N: LotName<Count> + Send, T: Wait>(
     rt: &T,
     lot: Lot<Count, N, Contention>,
@@ -86,7 +88,8 @@ fn close_told<N: LotName<Count> + Send, T: Wait>(
     requires free { All OwnsNone passes.items }
     ensures told { (run : HasOneRun N.LotName passes.items) × ((key : ℕ) (c : Contention)
         → slice_get result.items key ≡ Some c
-        → c.taken ≡ length (tokens_of key run.told.recounted.log) % 2 ^ 64) }
+        → (c.parked ≡ queued_in key run.told.recounted.log % 2 ^ 64)
+        × (c.taken ≡ length (tokens_of key run.told.recounted.log) % 2 ^ 64)) }
     ensures each { vec_len result ≡ lot.locks + lot.conds + lot.sems }
 {
     let (_, _, counts) = lot.close_counted(rt, passes);

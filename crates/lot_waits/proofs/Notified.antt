@@ -13,7 +13,7 @@ use Rattle.lot_whole.specs.declared.views.Stand.TheVariants.{Idle}
 use Rattle.lot_whole.specs.Family.{cond}
 use Rattle.lot_whole.specs.Standing.{IsIdle, MaySweep}
 use Rattle.lot_scheme.specs.Standing.{LotStanding, adding, called_more as stand_called_more, setting_out, swept}
-use Rattle.lot_scheme.specs.Words.{word_of_all}
+use Rattle.lot_scheme.specs.Traces.{trace_of_all}
 use Rattle.lot_waits.specs.Notifying.{Calls, Sweeps, Notifies, NotifiesAll, FindsNobody}
 
 three : (a : List Access) (x y z : Access) → ((a ++ x ∷ []) ++ y ∷ []) ++ z ∷ [] ≡ a ++ (x ∷ y ∷ z ∷ [])
@@ -76,5 +76,5 @@ module _ {V : Type 0} where
       inr (went
       ∙ ap (λ did. record (swept (setting_out p c) c taken) { did = did })
       (three p.did (Makes (Look p.thread c) (Saw true)) (Makes (Lower p.thread c) Done) (Makes (Sweep p.thread c) (Count taken)))
-      ∙ ap (λ (own : LotPassView V). record { thread = p.thread; own = own; did = p.did ++ word_of_all p.thread c taken })
+      ∙ ap (λ (own : LotPassView V). record { thread = p.thread; own = own; did = p.did ++ trace_of_all p.thread c taken })
       (swept_own p c taken idle))

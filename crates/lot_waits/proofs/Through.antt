@@ -1,4 +1,4 @@
--- The words of locks and of conditions have no access by which a permit is given back: what is told of releases, by the accesses that were
+-- The traces of locks and of conditions have no access by which a permit is given back: what is told of releases, by the accesses that were
 -- made with a pass, is the same after them.
 use Rattle.std.proofs.Common.{◌≡◌, ℕ, Bool, true, false, List, [], ◌∷◌, ◌++◌, Some, ◌⊎◌, inl, inr, refl, sym, ap, subst, ◌∙◌}
 use Rattle.std.specs.List.{All, fold}
@@ -10,10 +10,10 @@ use Rattle.lot_events.specs.declared.events.Seen.{Seen}
 use Rattle.lot_events.specs.declared.events.Seen.TheVariants.{Bool as Saw, Done, Sleeper}
 use Rattle.lot_rights.specs.declared.views.Access.{Access}
 use Rattle.lot_rights.specs.declared.views.Access.TheVariants.{Makes, Posts, Collects, Finds, Counts}
-use Rattle.lot_scheme.specs.Words.{IsSeek, IsGot, GetWord, TryWord, IsVain}
+use Rattle.lot_scheme.specs.Traces.{IsSeek, IsGot, GetTrace, TryTrace, IsVain}
 use Rattle.lot_locks.specs.declared.released.Released.{Released}
-use Rattle.lot_locks.specs.Released.{FreeWord}
-use Rattle.lot_waits.specs.Waiting.{WaitWord}
+use Rattle.lot_locks.specs.Released.{FreeTrace}
+use Rattle.lot_waits.specs.Waiting.{WaitTrace}
 
 -- ---- accesses
 -- an access by which no permit is given back
@@ -73,22 +73,22 @@ one a h = All-cons IsNoRelease a [] h (All-nil IsNoRelease)
 two : (a b : Access) → IsNoRelease a → IsNoRelease b → All IsNoRelease (a ∷ b ∷ [])
 two a b h k = All-cons IsNoRelease a (b ∷ []) h (one b k)
 
--- ---- words
-pub get_through : (t l : ℕ) (acts : List Access) → GetWord t l acts → All IsNoRelease acts
+-- ---- traces
+pub get_through : (t l : ℕ) (acts : List Access) → GetTrace t l acts → All IsNoRelease acts
 get_through t l acts (front, last, all, got, is) = subst (All IsNoRelease) (sym is)
     (All-append IsNoRelease front (last ∷ []) (all_seek t l front all) (one last (seeks t l last (inr got))))
 
-pub try_through : (t l : ℕ) (got : Bool) (acts : List Access) → TryWord t l got acts → All IsNoRelease acts
+pub try_through : (t l : ℕ) (got : Bool) (acts : List Access) → TryTrace t l got acts → All IsNoRelease acts
 try_through t l got acts (inl (so, is)) = subst (All IsNoRelease) (sym is) (one (Makes (Take t l) (Saw true)) tt)
 try_through t l got acts (inr (word, other, is)) = subst (All IsNoRelease) (sym is) (two (Finds t l word) (Makes (Try t l) (Saw got)) tt tt)
 
-pub free_through : (t l : ℕ) (became : Released) (acts : List Access) → FreeWord t l became acts → All IsNoRelease acts
+pub free_through : (t l : ℕ) (became : Released) (acts : List Access) → FreeTrace t l became acts → All IsNoRelease acts
 free_through t l became acts (inl (quiet, is)) = subst (All IsNoRelease) (sym is) (one (Makes (Free t l) (Saw true)) tt)
 free_through t l became acts (inr (more, rest, (first, fair, decided, says, passed), is)) = subst (All IsNoRelease)
     (sym (is ∙ ap (λ xs. Makes (Free t l) (Saw false) ∷ xs) passed))
     (two (Makes (Free t l) (Saw false)) (Makes (Pass t l fair more) (Sleeper first)) tt tt)
 
-pub wait_through : (t c l : ℕ) (became : Released) (acts : List Access) → WaitWord t c l became acts → All IsNoRelease acts
+pub wait_through : (t c l : ℕ) (became : Released) (acts : List Access) → WaitTrace t c l became acts → All IsNoRelease acts
 wait_through t c l became acts w = subst (All IsNoRelease) (sym w.is)
     (All-cons IsNoRelease (Makes (Enlist t c l) Done) (w.free ++ (w.looks ++ (Collects t (Some 0) ∷ w.get))) tt
     (All-append IsNoRelease w.free (w.looks ++ (Collects t (Some 0) ∷ w.get)) (free_through t l became w.free w.freed)

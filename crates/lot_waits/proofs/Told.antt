@@ -8,7 +8,7 @@ use Rattle.lot_words.specs.CallersRule.{CallersRule}
 use Rattle.lot_whole.specs.Family.{lock, cond, sem}
 use Rattle.lot_whole.specs.Standing.{IsUp, IsIdle}
 use Rattle.lot_scheme.specs.Standing.{LotStanding, adding, called_more}
-use Rattle.lot_scheme.specs.Words.{word_of_all, word_of_nobody}
+use Rattle.lot_scheme.specs.Traces.{trace_of_all, trace_of_nobody}
 use Rattle.lot_locks.specs.declared.released.Released.{Released}
 use Rattle.lot_waits.specs.Counts.{counts_in, one_wait_more}
 use Rattle.lot_waits.specs.Notifying.{FindsNobody, Notifies, NotifiesAll, HasTaken}
@@ -48,15 +48,15 @@ module _ {V : Type 0} where
 
   pub told_nobody : (p q : LotStanding V) (c taken : ℕ) → IsIdle p.own → FindsNobody p c taken q → HasTaken p c taken q
   told_nobody p q c taken idle (none, is) =
-      let acts : List Access = word_of_nobody p.thread c in
+      let acts : List Access = trace_of_nobody p.thread c in
       told p q c taken acts idle (is ∙ ap (λ (r : LotStanding V). adding r acts) (sym (ap (called_more p c) none ∙ none_called p c)))
 
   pub told_some : (p q : LotStanding V) (c n taken : ℕ) → IsIdle p.own → Notifies p c n taken q → HasTaken p c taken q
   told_some p q c n taken idle (inl nobody) = told_nobody p q c taken idle nobody
-  told_some p q c n taken idle (inr (did, (more, says, word), is)) =
+  told_some p q c n taken idle (inr (did, (more, says, trace), is)) =
       let acts : List Access = Makes (Look p.thread c) (Saw true) ∷ Makes (Call p.thread c n more) (Count taken) ∷ [] in
-      told p q c taken acts idle (is ∙ ap (adding (called_more p c taken)) word)
+      told p q c taken acts idle (is ∙ ap (adding (called_more p c taken)) trace)
 
   pub told_all : (p q : LotStanding V) (c taken : ℕ) → IsIdle p.own → NotifiesAll p c taken q → HasTaken p c taken q
   told_all p q c taken idle (inl nobody) = told_nobody p q c taken idle nobody
-  told_all p q c taken idle (inr is) = told p q c taken (word_of_all p.thread c taken) idle is
+  told_all p q c taken idle (inr is) = told p q c taken (trace_of_all p.thread c taken) idle is

@@ -14,15 +14,15 @@ use Rattle.lot_whole.specs.declared.views.Stand.TheVariants.{Idle, AtRest}
 use Rattle.lot_whole.specs.Family.{lock, cond, sem}
 use Rattle.lot_whole.specs.Standing.{IsUp, IsAwake, MayWant}
 use Rattle.lot_scheme.specs.Standing.{LotStanding, adding, letting_go, enlisted, one_wait_more, IsLooked, CollectsIn}
-use Rattle.lot_scheme.specs.Words.{IsVain}
-use Rattle.lot_locks.specs.Released.{FreeWord}
+use Rattle.lot_scheme.specs.Traces.{IsVain}
+use Rattle.lot_locks.specs.Released.{FreeTrace}
 use Rattle.lot_locks.specs.Standing.{MayFree, LetsGo, IsOwner}
 use Rattle.lot_locks.specs.declared.released.Released.{Released}
 use Rattle.lot_waits.specs.Waiting.{MayEnlist, Enlists, Slept, HasWaited, waited}
 
 -- the accesses of a pass that has found its letter
-abbrev pub slept_word : ℕ → ℕ → ℕ → List Access → List Access → List Access
-slept_word t c l free looks = Makes (Enlist t c l) Done ∷ (free ++ (looks ++ Collects t (Some 0) ∷ []))
+abbrev pub slept_trace : ℕ → ℕ → ℕ → List Access → List Access → List Access
+slept_trace t c l free looks = Makes (Enlist t c l) Done ∷ (free ++ (looks ++ Collects t (Some 0) ∷ []))
 
 module _ {V : Type 0} where
   -- ---- enlisted
@@ -53,9 +53,9 @@ module _ {V : Type 0} where
     pub lay : IsIn p.own.locks l left
     pub free : List Access
     pub looks : List Access
-    pub freed : FreeWord p.thread l became free
+    pub freed : FreeTrace p.thread l became free
     pub vain : All (IsVain p.thread) looks
-    pub is : s ≡ adding (rest p c l left) (slept_word p.thread c l free looks)
+    pub is : s ≡ adding (rest p c l left) (slept_trace p.thread c l free looks)
 
   pub same_thread : (p s : LotStanding V) (c l : ℕ) (became : Released) → Rested p c l became s → s.thread ≡ p.thread
   same_thread p s c l became r = ap (λ (q : LotStanding V). q.thread) r.is
@@ -101,7 +101,7 @@ module _ {V Part : Type 0} (rule : CallersRule V Part) where
   -- the letter was found
   wakes : (p : LotStanding V) (c l : ℕ) (y : V) (free looks : List Access) (token : ℕ) (s : LotStanding V) → p.own.locks.asleep ≡ false
       → IsLooked rule (adding (adding (letting_go (bed p c l) l y) free) looks) (Some token) s
-      → s ≡ adding (rest p c l y) (slept_word p.thread c l free looks)
+      → s ≡ adding (rest p c l y) (slept_trace p.thread c l free looks)
   wakes p c l y free looks token s awake found =
       let last : LotStanding V = adding (adding (letting_go (bed p c l) l y) free) looks in
       let (none, (d, out, is)) = subst (λ b. CollectsIn rule last b (Some c) token s) awake found in
@@ -138,7 +138,7 @@ module _ {V Part : Type 0} (rule : CallersRule V Part) where
   pub has_waited : (p s q : LotStanding V) (c l : ℕ) (became : Released) → Rested p c l became s → IsOwner rule s l q
       → HasWaited rule p c l became q
   has_waited p s q c l became r owner =
-      let at : LotStanding V = adding (rest p c l r.left) (slept_word p.thread c l r.free r.looks) in
+      let at : LotStanding V = adding (rest p c l r.left) (slept_trace p.thread c l r.free r.looks) in
       let o : IsOwner rule at l q = subst (λ (m : LotStanding V). IsOwner rule m l q) r.is owner in
       record {
         left = r.left;
@@ -146,7 +146,7 @@ module _ {V Part : Type 0} (rule : CallersRule V Part) where
         found = o.value;
         found_ok = o.found;
         did = Makes (Enlist p.thread c l) Done ∷ (r.free ++ (r.looks ++ (Collects p.thread (Some 0) ∷ o.did)));
-        word = record { free = r.free; looks = r.looks; get = o.did; freed = r.freed; vain = r.vain; got = o.got; is = refl };
+        trace = record { free = r.free; looks = r.looks; get = o.did; freed = r.freed; vain = r.vain; got = o.got; is = refl };
         is = o.is ∙ ap (λ did. record (waited p c l r.left o.value) { did = did })
             (five p.did (Makes (Enlist p.thread c l) Done) r.free r.looks (Collects p.thread (Some 0)) o.did);
       }

@@ -8,7 +8,7 @@ use Rattle.lot_rights.specs.declared.views.Access.{Access}
 use Rattle.lot_rights.specs.declared.views.Access.TheVariants.{Makes}
 use Rattle.lot_whole.specs.Standing.{IsIdle, MaySweep}
 use Rattle.lot_scheme.specs.Standing.{LotStanding, adding, called_more as stand_called_more, swept}
-use Rattle.lot_scheme.specs.Words.{word_of_all, word_of_nobody}
+use Rattle.lot_scheme.specs.Traces.{trace_of_all, trace_of_nobody}
 use Rattle.lot_waits.specs.Counts.{counts_in, called_more as counts_called_more}
 
 -- the numbers of the conditions are those from `locks` on and below `first_sem`
@@ -24,11 +24,11 @@ abbrev pub one_if : Bool → ℕ
 one_if true = 1
 one_if false = 0
 
--- ---- words
+-- ---- traces
 -- A notification that takes at most n, after a look that found the flag set; and what it took, so many. It leaves the flag set only where
 -- it took somebody.
-abbrev pub CallWord : ℕ → ℕ → ℕ → ℕ → List Access → Type 0
-CallWord t c n taken acts =
+abbrev pub CallTrace : ℕ → ℕ → ℕ → ℕ → List Access → Type 0
+CallTrace t c n taken acts =
     (more : Bool) × (more ≡ true → 0 < taken)
     × (acts ≡ Makes (Look t c) (Saw true) ∷ Makes (Call t c n more) (Count taken) ∷ [])
 
@@ -65,18 +65,18 @@ module _ {V : Type 0} where
   -- ---- whole notifications
   -- the flag was clear, and nobody was taken
   abbrev pub FindsNobody : LotStanding V → ℕ → ℕ → LotStanding V → Type 0
-  FindsNobody p c taken q = (taken ≡ 0) × (q ≡ adding p (word_of_nobody p.thread c))
+  FindsNobody p c taken q = (taken ≡ 0) × (q ≡ adding p (trace_of_nobody p.thread c))
 
   -- so many were taken from c's line, of n at most
   abbrev pub Notifies : LotStanding V → ℕ → ℕ → ℕ → LotStanding V → Type 0
   Notifies p c n taken q =
       FindsNobody p c taken q
-      ⊎ ((did : List Access) × CallWord p.thread c n taken did × (q ≡ adding (stand_called_more p c taken) did))
+      ⊎ ((did : List Access) × CallTrace p.thread c n taken did × (q ≡ adding (stand_called_more p c taken) did))
 
   -- all of c's line were taken, so many
   abbrev pub NotifiesAll : LotStanding V → ℕ → ℕ → LotStanding V → Type 0
   NotifiesAll p c taken q =
-      FindsNobody p c taken q ⊎ (q ≡ adding (stand_called_more p c taken) (word_of_all p.thread c taken))
+      FindsNobody p c taken q ⊎ (q ≡ adding (stand_called_more p c taken) (trace_of_all p.thread c taken))
 
   -- it is idle still, and has counted so many more of c's line
   pub record HasTaken (p : LotStanding V) (c taken : ℕ) (q : LotStanding V) : Type 0 where

@@ -14,21 +14,21 @@ use Rattle.lot_words.specs.Values.{IsIn, FoundOk}
 use Rattle.lot_words.specs.Calls.{letting_go as lock_letting_go}
 use Rattle.lot_whole.specs.Standing.{IsIdle, keys_of}
 use Rattle.lot_scheme.specs.Standing.{LotStanding, adding, owning, letting_go, enlisted, one_wait_more}
-use Rattle.lot_scheme.specs.Words.{GetWord, IsVain}
-use Rattle.lot_locks.specs.Released.{FreeWord}
+use Rattle.lot_scheme.specs.Traces.{GetTrace, IsVain}
+use Rattle.lot_locks.specs.Released.{FreeTrace}
 use Rattle.lot_locks.specs.declared.released.Released.{Released}
 use Rattle.lot_waits.specs.Notifying.{IsCondKey}
 
--- ---- the word of a wait
+-- ---- the trace of a wait
 -- the thread was enlisted; its lock was let go, of which this became; it looked for its letter, some times in vain, and
 -- found it; and it got the lock again
-pub record WaitWord (t c l : ℕ) (became : Released) (acts : List Access) : Type 0 where
+pub record WaitTrace (t c l : ℕ) (became : Released) (acts : List Access) : Type 0 where
   pub free : List Access
   pub looks : List Access
   pub get : List Access
-  pub freed : FreeWord t l became free
+  pub freed : FreeTrace t l became free
   pub vain : All (IsVain t) looks
-  pub got : GetWord t l get
+  pub got : GetTrace t l get
   pub is : acts ≡ Makes (Enlist t c l) Done ∷ (free ++ (looks ++ (Collects t (Some 0) ∷ get)))
 
 module _ {V : Type 0} where
@@ -56,7 +56,7 @@ pub record HasWaited {V Part : Type 0} (rule : CallersRule V Part) (p : LotStand
   pub found : V
   pub found_ok : FoundOk rule l p.thread (lock_letting_go p.own.locks l left) found
   pub did : List Access
-  pub word : WaitWord p.thread c l became did
+  pub trace : WaitTrace p.thread c l became did
   pub is : q ≡ adding (waited p c l left found) did
 
 -- ---- for every scheme

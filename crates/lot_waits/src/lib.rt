@@ -12,7 +12,7 @@
 //! | `notify_all` | one load of the flag | one store clears the flag; then all of the line are taken |
 //!
 //! Where a notification leaves nobody in the line the flag is cleared. A wait ends by its letter alone. Each call says
-//! how the pass stands then, as an equation, and of which accesses its word is made (`specs/Waiting`,
+//! how the pass stands then, as an equation, and of which accesses its trace is made (`specs/Waiting`,
 //! `specs/Notifying`).
 //!
 //! A pass knows by key how many sleepers it took from a condition's line, and how many of its own waits have ended.

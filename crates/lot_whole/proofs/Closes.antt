@@ -10,7 +10,7 @@ use lib.ListN.{get_elem?}
 use Rattle.lot_core.specs.Parts.{LockPart, CondPart, SemaphorePart}
 use Rattle.lot_rights.specs.declared.views.Right.{Right}
 use Rattle.lot_rights.specs.Closing.{passes_in, roots_in, Left, Ended}
-use Rattle.lot_rights.specs.History.{events_in}
+use Rattle.lot_rights.specs.History.{events_in, tokens_of}
 use Rattle.lot_rights.specs.Rule.{number}
 use Rattle.lot_rights.specs.Seating.{times}
 use Rattle.lot_rights.specs.Shown.{PassShown, RootShown}
@@ -31,9 +31,11 @@ use Rattle.lot_whole.specs.declared.views.LotRootView.{LotRootView}
 use Rattle.lot_whole.specs.declared.views.LotRootView.TheVariants.{Lock, Cond, Sem}
 use Rattle.lot_whole.specs.Family.{Which, lock, cond, sem, LotSize, lock_size, cond_size, sem_size, SlotOf, PassIn, RootIn, homes_in}
 use Rattle.lot_whole.specs.Family.{meaning_of, part_in}
-use Rattle.lot_whole.specs.Lot.{own_of, LotWorld, PassOk, LotPassIs, LotRootIs, lot_meaning}
+use Rattle.lot_whole.specs.Lot.{line_of_root, owed_by, own_of, LotWorld, PassOk, LotPassIs, LotRootIs, lot_meaning}
 use Rattle.lot_whole.specs.Lifts.{part_pass}
 use Rattle.lot_whole.specs.Closing.{HasDone, called_in, woken_in, out_with, permits_of, LineIs, IsToldTo}
+use Rattle.lot_whole.specs.Order.{queued_in}
+use Rattle.lot_whole.proofs.Counting.{queued_known}
 use Rattle.lot_whole.proofs.Moments.{one_run}
 
 -- ---- lists, element by element
@@ -183,5 +185,10 @@ module _ {V Part : Type 0} (rule : CallersRule V Part) (z : LotSize) (opening : 
         lines = All-weaker (λ (q : RootShown LotRootView). LotRootIs rule z opening ended.left.world q.key q.own)
             (λ (q : RootShown LotRootView). LineIs ended.left.world.whole q.key q.own)
             (λ q. line_is ended.left.world ended.left.fits.agrees q.key q.own) roots ended.left.roots_fit;
+        queued = All-weaker (λ (q : RootShown LotRootView). LotRootIs rule z opening ended.left.world q.key q.own)
+            (λ (q : RootShown LotRootView). queued_in q.key ended.log
+            ≡ length (tokens_of q.key ended.log) + owed_by q.own + length (line_of_root q.own))
+            (λ q is. queued_known rule z opening ended.left.world ws ended.left.homes q.key q.own ended.left.fits is ended.log ended.run
+            (ended.owed q.key)) roots ended.left.roots_fit;
         permits = all_out ended.left all;
       }

@@ -1,10 +1,10 @@
 -- Families over the three kinds, and what is shown of each kind by itself.
-use Rattle.std.proofs.Common.{◌≡◌, ◌≢◌, ℕ, ◌+◌, ◌<◌, ◌⊎◌, Bool, true, false, List, length, get_or, refl, ap, ◌∙◌, inl, inr}
+use Rattle.std.proofs.Common.{◌≡◌, ◌≢◌, ℕ, ◌+◌, ◌<◌, ◌≤◌, ◌⊎◌, Bool, true, false, List, length, get_or, refl, ap, ◌∙◌, inl, inr}
 use Rattle.std.proofs.Common.{arith, Option, Some, None}
 use Rattle.std.specs.Prelude.{nat_lt, if◌then◌else◌, is_some}
 use Rattle.std.proofs.lemmas.Bool.{lt-ltb, le-ltb}
 use mathlib.Core.Option as maybe
-use Rattle.lot_core.specs.World.{World}
+use Rattle.lot_core.specs.Model.{StateView}
 use Rattle.lot_rights.specs.Layout.{word_at, letter_at, word_count}
 use Rattle.lot_rights.proofs.Distinct.{word_within}
 use Rattle.lot_rights.specs.World.{letter_of}
@@ -147,7 +147,8 @@ module _ {V Part : Type 0} (rule : CallersRule V Part) (z : LotSize) (xs : List 
   still sem w ws hs ok t p fit up = ap letter_of (sem_awake (w.spot t) (fit.asleep ∙ up))
 
   -- the word of a key is the word that its kind's part of the state tells
-  pub word_is : (j : Which) (s : World) (c : ℕ) → IsKeyIn z j c → word_in z s c ≡ (meaning_of rule z xs j).word_in (part_in rule z xs j s) c
+  pub word_is : (j : Which) (s : StateView) (c : ℕ) → IsKeyIn z j c
+      → word_in z s c ≡ (meaning_of rule z xs j).word_in (part_in rule z xs j s) c
   word_is lock s c is = ap (λ b. if b then bits_of (s.locks.held c) (s.locks.parked c)
       else (if nat_lt c (z.locks + z.conds) then flag_word (s.conds.flag c) else word_of (s.sems.left c) (s.sems.parked c)))
       (lt-ltb c z.locks (omega (arith, is.1)))
@@ -157,10 +158,13 @@ module _ {V Part : Type 0} (rule : CallersRule V Part) (z : LotSize) (xs : List 
       else (if le-ltb c (z.locks + z.conds) is.0 i then flag_word (s.conds.flag c) else word_of (s.sems.left c) (s.sems.parked c)))
 
 -- and its line that of its kind
-pub line_is : (z : LotSize) (j : Which) (s : World) (c : ℕ) → IsKeyIn z j c → line_at z s c ≡ line_in s j c
+pub line_behind : (z : LotSize) (s : StateView) (c : ℕ) → z.locks + z.conds ≤ c → line_at z s c ≡ s.sems.line c
+line_behind z s c far = (λ i. if le-ltb c z.locks (omega arith) i then s.locks.line c
+    else (if le-ltb c (z.locks + z.conds) far i then s.conds.line c else s.sems.line c))
+
+pub line_is : (z : LotSize) (j : Which) (s : StateView) (c : ℕ) → IsKeyIn z j c → line_at z s c ≡ line_in s j c
 line_is z lock s c is = (λ i. if lt-ltb c z.locks (omega (arith, is.1)) i then s.locks.line c
     else (if nat_lt c (z.locks + z.conds) then s.conds.line c else s.sems.line c))
 line_is z cond s c is = (λ i. if le-ltb c z.locks is.0 i then s.locks.line c
     else (if lt-ltb c (z.locks + z.conds) is.1 i then s.conds.line c else s.sems.line c))
-line_is z sem s c is = (λ i. if le-ltb c z.locks (omega (arith, is.0)) i then s.locks.line c
-    else (if le-ltb c (z.locks + z.conds) is.0 i then s.conds.line c else s.sems.line c))
+line_is z sem s c is = line_behind z s c is.0

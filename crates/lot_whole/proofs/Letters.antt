@@ -197,6 +197,7 @@ module _ {V Part : Type 0} (rule : CallersRule V Part) (z : LotSize) (xs : List 
         passes = turn.passes;
         roots = turn.roots;
         made = turn.made;
+        owed = turn.owed;
         counted = turn.counted;
         told = λ k. by_number rule p (get_or ws (letter_at t) 0) (pass_after p turn.own k turn.access) (turn.told k);
       }

@@ -2,6 +2,7 @@ pub mod Family
 pub mod Whole
 pub mod Queued
 pub mod Steps
+pub mod Owing
 pub mod Lifts
 pub mod Slots
 pub mod Tells
@@ -9,6 +10,7 @@ pub mod Carries
 pub mod Seekers
 pub mod Letters
 pub mod Paying
+pub mod Queueing
 pub mod Counting
 pub mod Moments
 pub mod Opens

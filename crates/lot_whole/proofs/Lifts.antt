@@ -1,20 +1,21 @@
 -- What a kind allows, the lot allows.
-use Rattle.std.proofs.Common.{◌≡◌, ◌≢◌, ℕ, ◌*◌, ◌^◌, ◌<◌, List, get_or, set, refl, sym, ap, subst, ◌∙◌, inl, Option}
+use Rattle.std.proofs.Common.{◌≡◌, ◌≢◌, ℕ, ◌+◌, ◌*◌, ◌^◌, ◌<◌, List, length, get_or, set, refl, sym, ap, subst, ◌∙◌, inl, arith, Option}
 use mathlib.Core.Option as maybe
-use Rattle.lot_core.specs.World.{put}
+use Rattle.lot_core.specs.Model.{put}
 use Rattle.lot_core.specs.Rows.{told}
 use Rattle.lot_core.proofs.Put.{put_same, put_other}
 use Rattle.lot_rights.specs.declared.views.Access.{Access}
-use Rattle.lot_rights.specs.History.{doer}
+use Rattle.lot_rights.specs.History.{doer, taken_by, tokens_by}
 use Rattle.lot_rights.specs.Layout.{word_at}
-use Rattle.lot_rights.specs.Steps.{PassTurn, BothTurn, RootTurn}
+use Rattle.lot_rights.specs.Steps.{IsOwed, PassTurn, BothTurn, RootTurn}
 use Rattle.lot_rights.proofs.Puts.{put_elim}
 use Rattle.lot_words.specs.CallersRule.{CallersRule}
 use Rattle.lot_whole.specs.declared.views.LotPassView.{LotPassView}
-use Rattle.lot_whole.specs.Family.{Which, LotSize, PassIn, homes_in, meaning_of}
+use Rattle.lot_whole.specs.Family.{Which, lock, cond, sem, LotSize, PassIn, homes_in, meaning_of, dput}
 use Rattle.lot_whole.specs.Whole.{stand_of, moves_by, whole_by}
-use Rattle.lot_whole.specs.Lot.{root_from, LotWorld, PassOk, LotFits, lot_meaning}
+use Rattle.lot_whole.specs.Lot.{sum_of, owed_in, root_from, LotWorld, PassOk, LotFits, lot_meaning}
 use Rattle.lot_whole.specs.Lifts.{part_pass, whole_root, lot_own, MayBeAway, InPlace, LiftsPass, LiftsBoth, LiftsRoot}
+use Rattle.lot_whole.proofs.Owing.{owed_by_kind}
 use Rattle.lot_whole.proofs.Steps.{root_in, found, Gone, gone, next, fits_after, pass_stays, pass_turned, roots_after, root_turned}
 
 module _ {V Part : Type 0} (rule : CallersRule V Part) (z : LotSize) (xs : List V) where
@@ -51,6 +52,15 @@ module _ {V Part : Type 0} (rule : CallersRule V Part) (z : LotSize) (xs : List 
           (λ ne. pass_stays rule z xs j w ws hs ok i place x v fits passes a g u (w.pass u) (ok.passes u here) (λ y. others u y ne)
           (stand_else t u by ne)))
 
+  -- what roots of one kind owe, the lot's roots owe
+  owed_lifts : (j : Which) (w : LotWorld rule z xs) (v : (meaning_of rule z xs j).World) (a : Access)
+      → IsOwed (meaning_of rule z xs j) (w.each j) a v
+      → (c : ℕ) → taken_by c a + sum_of (owed_in rule z xs w) c
+      ≡ tokens_by c a + sum_of (λ k. (meaning_of rule z xs k).owed_in (dput {X = λ k. (meaning_of rule z xs k).World} j v w.each k)) c
+  owed_lifts lock w v a due c = omega (arith, due c)
+  owed_lifts cond w v a due c = omega (arith, due c)
+  owed_lifts sem w v a due c = omega (arith, due c)
+
   pub lifts_pass : LiftsPass rule z xs
   lifts_pass j i f p told_of whole allows placed carries w ws hs ok fit small =
       let place = placed w ws hs ok fit in
@@ -73,6 +83,7 @@ module _ {V Part : Type 0} (rule : CallersRule V Part) (z : LotSize) (xs : List 
         roots = λ d. roots_after rule z xs j w ws hs ok i place (f n) turn.world turn.fits (put w.pass p.thread own) turn.access g d
             (turn.roots d);
         made = (turn.made.0, g.leads);
+        owed = owed_lifts j w turn.world turn.access turn.owed;
         counted = turn.counted;
         told = carried.2;
       })
@@ -104,7 +115,9 @@ module _ {V Part : Type 0} (rule : CallersRule V Part) (z : LotSize) (xs : List 
         roots = λ d y ne. roots_after rule z xs j w ws hs ok i place (f n) turn.world turn.fits (put w.pass p.thread own) turn.access g d
             (λ r. turn.roots d r ne) y;
         made = (turn.made.0, g.leads);
-        counted = turn.counted;
+        owed = owed_lifts j w turn.world turn.access turn.owed;
+        counted = λ log same all. turn.counted log same
+            (all ∙ ap (λ n. length q.made + n) (owed_by_kind rule z xs w q.key j its.0));
         told = carried.2;
       })
 
@@ -131,6 +144,7 @@ module _ {V Part : Type 0} (rule : CallersRule V Part) (z : LotSize) (xs : List 
         roots = λ d y ne. roots_after rule z xs j w ws hs ok i place (f n) turn.world turn.fits w.pass turn.access g d
             (λ r. turn.roots d r ne) y;
         made = (turn.made.0, g.leads);
+        owed = owed_lifts j w turn.world turn.access turn.owed;
         counted = turn.counted;
         told = carried.1;
       })

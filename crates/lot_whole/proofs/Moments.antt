@@ -2,7 +2,7 @@
 use Rattle.std.proofs.Common.{◌≡◌, ℕ, ◌+◌, List, [], ◌∷◌, map, get_or, refl, sym, ap, subst, ◌∙◌, ⊎_elim, Option}
 use Rattle.std.specs.List.{Contains}
 use Rattle.atomic_table.specs.Table.{State}
-use Rattle.lot_core.specs.World.{World}
+use Rattle.lot_core.specs.Model.{StateView}
 use Rattle.lot_core.specs.Steps.{Run, after_all, IsReached}
 use Rattle.lot_core.specs.Sound.{IsSound}
 use Rattle.lot_core.proofs.Law.{reached_sound}
@@ -36,7 +36,7 @@ waits_in (Rest c l) = (cond, c)
 waits_in (Seeks k) = (sem, k)
 waits_in _ = (lock, 0)
 
-module _ (s : World) (sound : IsSound s) where
+module _ (s : StateView) (sound : IsSound s) where
   says : (j : Which) (c t : ℕ) → Contains (line_in s j c) t → waits_in (s.point t) ≡ (j, c)
   says lock l t h = ap waits_in (sound.one_line_each.wants l t h).1
   says cond c t h = let w = sound.one_line_each.waits c t h in
@@ -49,7 +49,7 @@ module _ (s : World) (sound : IsSound s) where
       (ap (λ (x : Which × ℕ). x.0) e, ap (λ (x : Which × ℕ). x.1) e)
 
 -- ---- a run of steps is a run of the model
-model_run : (a : World) (events : List (Event × Seen)) (b : World) → ModelRun WholeStep a events b → Run a (map event_of events)
+model_run : (a : StateView) (events : List (Event × Seen)) (b : StateView) → ModelRun WholeStep a events b → Run a (map event_of events)
     × (b ≡ after_all a (map event_of events))
 model_run a [] b run = (tt, run)
 model_run a (x ∷ events) b run =
@@ -60,7 +60,7 @@ model_run a (x ∷ events) b run =
       rest.1 ∙ ap (λ s. after_all s (map event_of events)) is,
     )
 
-pub one_run : (z : LotSize) (events : List (Event × Seen)) (state : World) → IsReached state
+pub one_run : (z : LotSize) (events : List (Event × Seen)) (state : StateView) → IsReached state
     → ModelRun WholeStep (opening_of z) events state → IsOneRun z events state
 one_run z events state reached seen =
     let run = model_run (opening_of z) events state seen in

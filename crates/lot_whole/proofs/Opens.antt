@@ -143,4 +143,5 @@ module _ {V Part : Type 0} (rule : CallersRule V Part) (z : LotSize) (xs : List 
     passes = λ t near. (near, refl);
     roots = λ c is. fresh_roots c (omega (arith, is.1));
     start = λ i. record { part = opening_of z; letters = fun_ext none_sums i };
+    owed = λ c. omega (arith, (well lock).owed c, (well cond).owed c, (well sem).owed c);
   }

@@ -7,7 +7,7 @@ use Rattle.std.proofs.lemmas.List.{map-append}
 use Rattle.std.proofs.lemmas.List.Elements.{Contains-append_left, Contains-append_right, Contains-push}
 use mathlib.Core.Logic.{dite}
 use native.Mathlib.Decide.{ℕ_discrete}
-use Rattle.lot_core.specs.World.{World, Locks, Semaphores, put}
+use Rattle.lot_core.specs.Model.{StateView, Locks, Semaphores, put}
 use Rattle.lot_core.specs.Steps.{Allowed, after, after_all, passed_line, permit_given, seeker_woken}
 use Rattle.lot_core.proofs.Put.{by_bit, by_line, put_same, put_other}
 use Rattle.lot_events.specs.declared.events.Event.{Event}
@@ -19,13 +19,14 @@ use Rattle.lot_rights.specs.declared.views.Access.{Access}
 use Rattle.lot_rights.specs.declared.views.Access.TheVariants.{Makes, Posts, Collects, Finds, Counts}
 use Rattle.lot_rights.specs.declared.views.Entry.{Entry}
 use Rattle.lot_rights.specs.History.{maker, doer, entries_of, Telling, no_letters, Happens, NoLetterInLine, Continues, Run, events_in}
-use Rattle.lot_rights.specs.History.{tokens_of, CountsRight, AllCountRight}
+use Rattle.lot_rights.specs.History.{CountsRight, AllCountRight}
 use Rattle.lot_rights.proofs.Histories.{entries_append, one_of_mine, run_more, counted_at}
 use Rattle.lot_rights.proofs.Lines.{in_or_not}
 use Rattle.lot_rights.proofs.Puts.{put_elim}
 use Rattle.lot_whole.specs.Family.{Which, lock, cond, sem, LotSize}
 use Rattle.lot_whole.specs.Whole.{WholeStep, word_in, waiting_in, line_in, line_at, IsQueued, HowMany, counts_in, opening_of}
 use Rattle.lot_whole.specs.Headline.{event_of}
+use Rattle.lot_whole.proofs.Queueing.{history_balances}
 use Rattle.lot_whole.proofs.Whole.{counts_after}
 use Rattle.lot_whole.specs.Order.{IsLogOf, state_after, accesses_of, Queues, Dequeues, SeesIn, WasTaken, LettersFollow}
 use Rattle.lot_whole.specs.Order.{CountsFollow}
@@ -144,7 +145,7 @@ module _ (t : ℕ) (line : ℕ → List ℕ) (c : ℕ) where
   joins : Contains (put line c (line c ++ t ∷ []) c) t
   joins = subst (λ us. Contains us t) (sym (put_same line c (line c ++ t ∷ []))) (Contains-push (line c) t)
 
-module _ (t c : ℕ) (s : World) where
+module _ (t c : ℕ) (s : StateView) where
   -- an event leaves the thread in the line, or it is one by which threads are taken from there
   abbrev Stays : Which → Event → Seen → Type 0
   Stays j e saw = Dequeues j c (Makes e saw) ⊎ Contains (line_in (after s e) j c) t
@@ -192,7 +193,7 @@ module _ (t c : ℕ) (s : World) where
   stays _ _ saw h = inr h
 
 -- ---- steps of the history
-maker_near : (s : World) (e : Event) → Allowed s e → maker e < s.threads
+maker_near : (s : StateView) (e : Event) → Allowed s e → maker e < s.threads
 maker_near s (Try t l) h = h.0
 maker_near s (Take t l) h = h.0
 maker_near s (Mark t l) h = h.0
@@ -211,24 +212,25 @@ maker_near s (SemFree t k) h = h.0
 maker_near s (SemPass t k more) h = h.0
 maker_near s (SemClear t k) h = h.0
 
-counts_all : (s : World) (events : List Event) → counts_in (after_all s events) ≡ counts_in s
+counts_all : (s : StateView) (events : List Event) → counts_in (after_all s events) ≡ counts_in s
 counts_all s [] = refl
 counts_all s (e ∷ events) = counts_all (after s e) events ∙ counts_after s e
 
 module _ (z : LotSize) where
-  abbrev Goes : Telling World → Access → Telling World → Type 0
+  abbrev Goes : Telling StateView → Access → Telling StateView → Type 0
   Goes = Continues WholeStep (word_in z) (waiting_in z) IsQueued
 
   -- who was in the line and is not was taken from it, by an event of a thread
-  abbrev Taking : Which → ℕ → Telling World → Access → Type 0
+  abbrev Taking : Which → ℕ → Telling StateView → Access → Type 0
   Taking j c a x = Dequeues j c x × ((u : ℕ) × (u < a.part.threads) × (doer x ≡ 2 * u))
 
-  same_line : (j : Which) (t c : ℕ) (a b : Telling World) → b.part ≡ a.part → Contains (line_in a.part j c) t
+  same_line : (j : Which) (t c : ℕ) (a b : Telling StateView) → b.part ≡ a.part → Contains (line_in a.part j c) t
       → ¬ Contains (line_in b.part j c) t → ⊥
   same_line j t c a b same here gone = gone (subst (λ s. Contains (line_in s j c) t) (sym same) here)
 
-  was_taken : (j : Which) (t c : ℕ) (a : Telling World) (x : Access) (b : Telling World)
-      → Happens WholeStep (word_in z) (waiting_in z) a x b → Contains (line_in a.part j c) t → ¬ Contains (line_in b.part j c) t → Taking j c a x
+  was_taken : (j : Which) (t c : ℕ) (a : Telling StateView) (x : Access) (b : Telling StateView)
+      → Happens WholeStep (word_in z) (waiting_in z) a x b → Contains (line_in a.part j c) t → ¬ Contains (line_in b.part j c) t
+      → Taking j c a x
   was_taken j t c a (Makes e saw) b step here gone = ⊎_elim {C = Taking j c a (Makes e saw)}
       (λ d. (d, (maker e, maker_near a.part e step.0.0, refl)))
       (λ still. absurd (gone (subst (λ s. Contains (line_in s j c) t) (sym step.0.2) still))) (stays t c a.part j e saw here)
@@ -239,28 +241,29 @@ module _ (z : LotSize) where
   was_taken j t c a (Counts u d told handed waiting) b step here gone = absurd (same_line j t c a b (λ i. (step.1 i).part) here gone)
 
   -- who was queued is in the line
-  was_queued : (j : Which) (t c : ℕ) (a : Telling World) (x : Access) (b : Telling World)
+  was_queued : (j : Which) (t c : ℕ) (a : Telling StateView) (x : Access) (b : Telling StateView)
       → Happens WholeStep (word_in z) (waiting_in z) a x b → Queues j t c x → Contains (line_in b.part j c) t
   was_queued lock t c a x b step is =
       let h = subst (λ y. Happens WholeStep (word_in z) (waiting_in z) a y b) is step in
       let s : Locks = a.part.locks in
       let more : Locks = record s { line = put s.line c (s.line c ++ t ∷ []) } in
       let both : true ≡ (s.held c && s.parked c) = (let e : Saw true ≡ Saw (s.held c && s.parked c) = h.0.1 in cc) in
-      subst (λ (y : World). Contains (y.locks.line c) t) (sym h.0.2)
+      subst (λ (y : StateView). Contains (y.locks.line c) t) (sym h.0.2)
       (subst (λ b. Contains ((if b then more else s).line c) t) both (joins t s.line c))
   was_queued cond t c a x b step is =
       let h = subst (λ y. Happens WholeStep (word_in z) (waiting_in z) a y b) is.1 step in
-      subst (λ (y : World). Contains (y.conds.line c) t) (sym h.0.2) (joins t a.part.conds.line c)
+      subst (λ (y : StateView). Contains (y.conds.line c) t) (sym h.0.2) (joins t a.part.conds.line c)
   was_queued sem t c a x b step is =
       let h = subst (λ y. Happens WholeStep (word_in z) (waiting_in z) a y b) is step in
       let s : Semaphores = a.part.sems in
       let more : Semaphores = record s { line = put s.line c (s.line c ++ t ∷ []) } in
       let both : true ≡ ((s.left c == 0) && s.parked c) = (let e : Saw true ≡ Saw ((s.left c == 0) && s.parked c) = h.0.1 in cc) in
-      subst (λ (y : World). Contains (y.sems.line c) t) (sym h.0.2)
+      subst (λ (y : StateView). Contains (y.sems.line c) t) (sym h.0.2)
       (subst (λ b. Contains ((if b then more else s).line c) t) both (joins t s.line c))
 
   -- an event sees what the model's sees
-  sees_by : (a : Telling World) (x : Access) (b : Telling World) → Happens WholeStep (word_in z) (waiting_in z) a x b → SeesIn a.part x
+  sees_by : (a : Telling StateView) (x : Access) (b : Telling StateView) → Happens WholeStep (word_in z) (waiting_in z) a x b
+      → SeesIn a.part x
   sees_by a (Makes e saw) b step = step.0.1
   sees_by a (Posts d u n) b step = tt
   sees_by a (Collects u found) b step = tt
@@ -268,16 +271,18 @@ module _ (z : LotSize) where
   sees_by a (Counts u d told handed waiting) b step = tt
 
   -- where a letter is collected, it lay
-  letter_lay : (t token : ℕ) (a : Telling World) (x : Access) (b : Telling World) → Happens WholeStep (word_in z) (waiting_in z) a x b
+  letter_lay : (t token : ℕ) (a : Telling StateView) (x : Access) (b : Telling StateView)
+      → Happens WholeStep (word_in z) (waiting_in z) a x b
       → x ≡ Collects t (Some token) → a.letters t ≡ token + 1
   letter_lay t token a x b step is = (subst (λ y. Happens WholeStep (word_in z) (waiting_in z) a y b) is step).0
 
   -- the state is the one to which the events lead
-  abbrev led : World → List Entry → World
+  abbrev led : StateView → List Entry → StateView
   led s log = after_all s (map event_of (events_in log))
 
-  led_by : (a : Telling World) (x : Access) (b : Telling World) (log : List Entry) (end : World)
-      → Happens WholeStep (word_in z) (waiting_in z) a x b → end ≡ led b.part log → (k : ℕ) → end ≡ led a.part ((record { at = k; access = x }) ∷ log)
+  led_by : (a : Telling StateView) (x : Access) (b : Telling StateView) (log : List Entry) (end : StateView)
+      → Happens WholeStep (word_in z) (waiting_in z) a x b → end ≡ led b.part log → (k : ℕ)
+      → end ≡ led a.part ((record { at = k; access = x }) ∷ log)
   led_by a (Makes e saw) b log end step is k = is ∙ (λ i. led (step.0.2 i) log)
   led_by a (Posts d u n) b log end step is k = is ∙ (λ i. led (step.1 i).part log)
   led_by a (Collects u None) b log end step is k = is ∙ (λ i. led (step.1 i).part log)
@@ -285,25 +290,25 @@ module _ (z : LotSize) where
   led_by a (Finds u d n) b log end step is k = is ∙ (λ i. led (step.1 i).part log)
   led_by a (Counts u d told handed waiting) b log end step is k = is ∙ (λ i. led (step.1 i).part log)
 
-  state_is : (a : Telling World) (k : ℕ) (log : List Entry) (b : Telling World) → Run Goes a k log b → b.part ≡ led a.part log
+  state_is : (a : Telling StateView) (k : ℕ) (log : List Entry) (b : Telling StateView) → Run Goes a k log b → b.part ≡ led a.part log
   state_is a k [] b run = λ i. (run i).part
   state_is a k (x ∷ log) b run =
       led_by a x.access run.1.0 log b.part run.1.1.0.0 (state_is run.1.0 (k + 1) log b run.1.1.1) x.at
 
   -- at each moment no letter lies for a thread in a line
-  still_none : (a : Telling World) (k : ℕ) (log : List Entry) (b : Telling World) → Run Goes a k log b → NoLetterInLine IsQueued a
+  still_none : (a : Telling StateView) (k : ℕ) (log : List Entry) (b : Telling StateView) → Run Goes a k log b → NoLetterInLine IsQueued a
       → NoLetterInLine IsQueued b
   still_none a k [] b run none = subst (NoLetterInLine IsQueued) (sym run) none
   still_none a k (x ∷ log) b run none = still_none run.1.0 (k + 1) log b run.1.1.1 run.1.1.0.1
 
   -- ---- a run at whose beginning the thread is in the line, and at whose end it is not
   module _ (j : Which) (t c : ℕ) where
-    record Leaves (a : Telling World) (k : ℕ) (log : List Entry) : Type 0 where
+    record Leaves (a : Telling StateView) (k : ℕ) (log : List Entry) : Type 0 where
       entry : Entry
       front : List Entry
       back : List Entry
-      before : Telling World
-      now : Telling World
+      before : Telling StateView
+      now : Telling StateView
       there : log ≡ front ++ entry ∷ back
       at : entry.at ≡ k + length front
       run : Run Goes a k front before
@@ -311,9 +316,10 @@ module _ (z : LotSize) where
       was_in : Contains (line_in before.part j c) t
       is_out : ¬ Contains (line_in now.part j c) t
 
-    leaves : (a : Telling World) (k : ℕ) (log : List Entry) (b : Telling World) → Run Goes a k log b → Contains (line_in a.part j c) t
+    leaves : (a : Telling StateView) (k : ℕ) (log : List Entry) (b : Telling StateView) → Run Goes a k log b
+        → Contains (line_in a.part j c) t
         → ¬ Contains (line_in b.part j c) t → Leaves a k log
-    leaves a k [] b run here gone = absurd (gone (subst (λ (y : Telling World). Contains (line_in y.part j c) t) (sym run) here))
+    leaves a k [] b run here gone = absurd (gone (subst (λ (y : Telling StateView). Contains (line_in y.part j c) t) (sym run) here))
     leaves a k (x ∷ log) b run here gone = ⊎_elim {C = Leaves a k (x ∷ log)}
         (λ still. let r = leaves run.1.0 (k + 1) log b run.1.1.1 still gone in record {
           entry = r.entry;
@@ -345,11 +351,11 @@ module _ (z : LotSize) where
 
 -- ---- the law
 -- in the log of a lot the thread t was queued at the key c by its access x, and collected a letter by its later access y
-module _ (z : LotSize) (log : List Entry) (b : Telling World) (run : IsLogOf z log b) (j : Which) (t c token : ℕ) (front : List Access)
+module _ (z : LotSize) (log : List Entry) (b : Telling StateView) (run : IsLogOf z log b) (j : Which) (t c token : ℕ) (front : List Access)
     (x : Access) (between : List Access) (y : Access) (back : List Access)
     (mine : accesses_of (2 * t) log ≡ front ++ x ∷ (between ++ y ∷ back)) (queues : Queues j t c x)
     (collects : y ≡ Collects t (Some token)) where
-  abbrev start : Telling World
+  abbrev start : Telling StateView
   start = no_letters (opening_of z)
 
   -- the entry of x, and behind it the one of y
@@ -469,10 +475,10 @@ pub counts_follow : CountsFollow
 counts_follow z log b run right t c told handed waiting front back mine =
     let x : Access = Counts t c told handed waiting in
     let placed = place_of (2 * t) log x back front mine in
-    let start : Telling World = no_letters (opening_of z) in
+    let start : Telling StateView = no_letters (opening_of z) in
     let by : GoesBy (Goes z) start 0 placed.before placed.entry placed.behind b =
     goes_by (Goes z) start 0 placed.before placed.entry placed.behind b (subst (λ es. Run (Goes z) start 0 es b) placed.there run) in
-    let here = subst (CountsRight (λ d. tokens_of d placed.before)) placed.entry_is
+    let here = subst (CountsRight placed.before) placed.entry_is
     (counted_at [] placed.before placed.entry placed.behind (subst (AllCountRight []) placed.there right)) in
     let step = subst (λ y. Happens WholeStep (word_in z) (waiting_in z) by.before y by.now) placed.entry_is by.step.0 in
     record {
@@ -485,4 +491,5 @@ counts_follow z log b run right t c told handed waiting front back mine =
       told_are = here.0;
       handed_are = here.1;
       waiting_are = step.0 ∙ ap (λ s. length (line_at z s c)) (state_is z start 0 placed.before by.before by.run);
+      queued_are = omega (arith, history_balances z c placed.before by.before by.run, here.2, step.0);
     }

@@ -1,10 +1,10 @@
 -- Values that leave their slots and come back: what the locks allow, the lot allows.
-use Rattle.std.proofs.Common.{◌≡◌, ◌≢◌, ℕ, ◌<◌, true, List, set, refl, sym, ap, subst, ◌∙◌, inl, Option}
+use Rattle.std.proofs.Common.{◌≡◌, ◌≢◌, ℕ, ◌<◌, true, List, set, refl, sym, ap, subst, ◌∙◌, inl, Option, arith}
 use mathlib.Core.Option as maybe
 use mathlib.Core.Option.{some, none}
 use lib.ListN.{get_elem?}
 use mathlib.Core.Path.{fun_ext}
-use Rattle.lot_core.specs.World.{put}
+use Rattle.lot_core.specs.Model.{put}
 use Rattle.lot_core.proofs.Put.{put_same, put_other}
 use Rattle.lot_rights.specs.Shown.{PassShown}
 use Rattle.lot_rights.specs.Slots.{SlotTurn, AllowsOut, AllowsBack}
@@ -118,6 +118,7 @@ module _ {V Part : Type 0} (rule : CallersRule V Part) (z : LotSize) (xs : List 
       passes = λ u y ne h. (h.0, put_other w.pass t new u ne ∙ h.1);
       roots = by_kind;
       same = λ i. record { part = w.whole; letters = (fun_ext letters) i };
+      owed = λ c. let lock_owes = turn.owed c in omega arith;
     }
 
   pub lifts_out : (p : PassShown (LotPassView V)) (l : ℕ) (mid : LockPassView V → Option V → Type 0)

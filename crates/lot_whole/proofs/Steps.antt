@@ -8,7 +8,7 @@ use mathlib.Core.Path.{fun_ext}
 use native.Mathlib.Decide.{ℕ_discrete}
 use Rattle.lot_events.specs.declared.events.Event.{Event}
 use Rattle.lot_events.specs.declared.events.Seen.{Seen}
-use Rattle.lot_core.specs.World.{World, put}
+use Rattle.lot_core.specs.Model.{StateView, put}
 use Rattle.lot_core.specs.Steps.{after, IsReached}
 use Rattle.lot_core.specs.Rows.{told}
 use Rattle.lot_core.proofs.Law.{event_kept, reached_sound}
@@ -167,7 +167,7 @@ module _ {V Part : Type 0} (rule : CallersRule V Part) (z : LotSize) (xs : List 
           (λ k y. part_in rule z xs k w.whole ≡ ((meaning_of rule z xs k).told_by y).part) j v w.each (ok.agrees j ∙ sym e)
           (λ k ne. ok.agrees k)
 
-      abbrev before : Telling World
+      abbrev before : Telling StateView
       before = record { part = w.whole; letters = sum_of (letters_in rule z xs w) }
 
       -- where the access a has led
@@ -185,7 +185,7 @@ module _ {V Part : Type 0} (rule : CallersRule V Part) (z : LotSize) (xs : List 
       stays_put t = sym (put_again (told stand_of w.whole.point) t)
 
       abbrev between : sum_of letters ≡ sum_of (letters_in rule z xs w)
-          → ◌≡◌ {A = Telling World} (record { part = w.whole; letters = sum_of letters }) before
+          → ◌≡◌ {A = Telling StateView} (record { part = w.whole; letters = sum_of letters }) before
       between e = λ h. record { part = w.whole; letters = e h }
 
       gone_by_event : (e : Event) (saw : Seen) → Leads (meaning_of rule z xs j) told_j (Makes e saw) told_v

@@ -4,7 +4,7 @@ use Rattle.std.proofs.Common.{Option, Some, None}
 use Rattle.std.specs.Prelude.{◌+◌, ◌==◌, not, is_some}
 use Rattle.std.specs.List.{Contains}
 use mathlib.Core.Option as maybe
-use Rattle.lot_core.specs.World.{World}
+use Rattle.lot_core.specs.Model.{StateView}
 use Rattle.lot_core.specs.Steps.{MayLetGo as LetsGo, seen}
 use Rattle.lot_core.specs.Parts.{LockPart, CondPart, SemaphorePart, StandsBefore, wanted, swept_by, sought}
 use Rattle.lot_events.specs.declared.events.Event.TheVariants.{Take, Enlist, SemTake}
@@ -66,10 +66,10 @@ rest_is (Rest d m) c l e = let a : d ≡ c = cc in let b : m ≡ l = cc in (λ i
 rest_is _ c l e = absurd (let f : Idle ≡ AtRest c l = e in cc)
 
 -- who got what it wanted, a lock or a permit, does not wait for it
-pub got_lock : (above : ℕ → ℕ → Type 0) (s : World) (t l : ℕ) → Saw true ≡ seen s (Take t l) → KeepsOrder above s (Take t l)
+pub got_lock : (above : ℕ → ℕ → Type 0) (s : StateView) (t l : ℕ) → Saw true ≡ seen s (Take t l) → KeepsOrder above s (Take t l)
 got_lock above s t l saw held = absurd (let e : Saw true ≡ Saw false = saw ∙ ap (λ b. Saw (not b)) held in cc)
 
-pub got_permit : (above : ℕ → ℕ → Type 0) (s : World) (t k : ℕ) → Saw true ≡ seen s (SemTake t k) → KeepsOrder above s (SemTake t k)
+pub got_permit : (above : ℕ → ℕ → Type 0) (s : StateView) (t k : ℕ) → Saw true ≡ seen s (SemTake t k) → KeepsOrder above s (SemTake t k)
 got_permit above s t k saw none = absurd (let e : Saw true ≡ Saw false = saw ∙ ap (λ n. Saw (not (n == 0))) none in cc)
 
 pub out_none : (o : Option ℕ) → is_some o ≡ false → o ≡ None

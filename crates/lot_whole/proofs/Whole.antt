@@ -2,7 +2,7 @@
 use Rattle.std.proofs.Common.{◌≡◌, ◌≢◌, ℕ, true, false, List, [], ◌∷◌, refl, sym, ap, subst, ◌∙◌}
 use Rattle.std.specs.Prelude.{not, ◌+◌, if◌then◌else◌}
 use Rattle.std.specs.List.{Contains}
-use Rattle.lot_core.specs.World.{World, put}
+use Rattle.lot_core.specs.Model.{StateView, put}
 use Rattle.lot_core.specs.Steps.{Allowed, after, seen, released, let_go, handed, none_left, IsReached}
 use Rattle.lot_core.specs.Rows.{told}
 use Rattle.lot_core.specs.Parts.{AsksOfThread, LockAllowed, CondAllowed, SemaphoreAllowed, lock_part, cond_part, semaphore_part}
@@ -28,7 +28,7 @@ use Rattle.lot_whole.specs.Family.{Which, lock, cond, sem, LotSize, meaning_of, 
 use Rattle.lot_whole.specs.Whole.{Joined, Joins, Stands, StandsMove, stand_of, rises, moves, HowMany, counts_in, counts_of}
 
 -- ---- no event changes how many there are
-pub counts_after : (s : World) (e : Event) → counts_in (after s e) ≡ counts_in s
+pub counts_after : (s : StateView) (e : Event) → counts_in (after s e) ≡ counts_in s
 counts_after s (Try t l) = refl
 counts_after s (Take t l) = refl
 counts_after s (Mark t l) = refl
@@ -95,13 +95,14 @@ one_kind j k e is here = sym (is_kind j e is) ∙ is_kind k e here
 
 -- ---- the parts of the state after an event
 module _ {V Part : Type 0} (rule : CallersRule V Part) (z : LotSize) (xs : List V) where
-  others_stay : (s : World) (e : Event) → IsSound s → Allowed s e → (k : Which) → (IsEventIn k e → ⊥)
+  others_stay : (s : StateView) (e : Event) → IsSound s → Allowed s e → (k : Which) → (IsEventIn k e → ⊥)
       → part_in rule z xs k (after s e) ≡ part_in rule z xs k s
   others_stay s e sound ok lock other = (lock_follows s e ok).stays other
   others_stay s e sound ok cond other = (cond_follows s e sound ok).stays other
   others_stay s e sound ok sem other = (semaphore_follows s e sound ok).stays other
 
-  module _ (s : World) (e : Event) (saw : Seen) (reached : IsReached s) (counts : counts_in s ≡ counts_of z) (asks : AsksOfThread s e) where
+  module _ (s : StateView) (e : Event) (saw : Seen) (reached : IsReached s) (counts : counts_in s ≡ counts_of z)
+      (asks : AsksOfThread s e) where
     sound : IsSound s
     sound = reached_sound s reached
 
@@ -138,17 +139,17 @@ rises_is (Rest c l) = refl
 rises_is (Sweeps c) = refl
 rises_is (Seeks k) = refl
 
-stays_put : (s : World) (t : ℕ) → Stands s t s.point (stand_of (s.point t))
+stays_put : (s : StateView) (t : ℕ) → Stands s t s.point (stand_of (s.point t))
 stays_put s t = sym (put_again (told stand_of s.point) t)
 
-goes_to : (s : World) (t : ℕ) (p : Point) (to : Stand) → stand_of p ≡ to → Stands s t (put s.point t p) to
+goes_to : (s : StateView) (t : ℕ) (p : Point) (to : Stand) → stand_of p ≡ to → Stands s t (put s.point t p) to
 goes_to s t p to is = told_put stand_of s.point t p ∙ ap (put (told stand_of s.point) t) is
 
-lets_go : (s : World) (t : ℕ) → Stands s t (let_go s.point t) (rises (stand_of (s.point t)))
+lets_go : (s : StateView) (t : ℕ) → Stands s t (let_go s.point t) (rises (stand_of (s.point t)))
 lets_go s t = goes_to s t (released (s.point t)) (rises (stand_of (s.point t))) (rises_is (s.point t))
 
 -- who is handed a lock wanted it, and stood idle
-hands_over : (s : World) (t l : ℕ) (line : List ℕ) → ((u : ℕ) (rest : List ℕ) → line ≡ u ∷ rest → s.point u ≡ Wants l)
+hands_over : (s : StateView) (t l : ℕ) (line : List ℕ) → ((u : ℕ) (rest : List ℕ) → line ≡ u ∷ rest → s.point u ≡ Wants l)
     → Stands s t (handed (let_go s.point t) line) (rises (stand_of (s.point t)))
 hands_over s t l [] is = lets_go s t
 hands_over s t l (u ∷ rest) is =
@@ -157,7 +158,7 @@ hands_over s t l (u ∷ rest) is =
     (λ e. ap (λ p. stand_of (released p)) (ap s.point (sym e) ∙ at)) (λ _. ap stand_of at)))
     ∙ lets_go s t
 
-pub stands_move : (s : World) (e : Event) → SleepersWant s
+pub stands_move : (s : StateView) (e : Event) → SleepersWant s
     → told stand_of (after s e).point ≡ put (told stand_of s.point) (maker e) (moves e (seen s e) (stand_of (s.point (maker e))))
 stands_move s (Try t l) want = stays_put s t
 stands_move s (Take t l) want = goes_to s t (if s.locks.held l then Wants l else Calm) Idle

@@ -1,7 +1,7 @@
 -- The three kinds of key that a lot has, and what each kind says of words and rights: each statement about a lot is made once, of a kind j.
 use Rattle.std.specs.Prelude.{ℕ, ◌+◌, Bool, List, [], length, Option, is_some}
 use mathlib.Core.Option as maybe
-use Rattle.lot_core.specs.World.{World}
+use Rattle.lot_core.specs.Model.{StateView}
 use Rattle.lot_core.specs.Parts.{lock_part, cond_part, semaphore_part, IsLockEvent, IsCondEvent, IsSemaphoreEvent}
 use Rattle.lot_events.specs.declared.events.Event.{Event}
 use Rattle.lot_rights.specs.Rule.{Meaning}
@@ -93,7 +93,7 @@ module _ {V Part : Type 0} (rule : CallersRule V Part) (z : LotSize) (xs : List 
   meaning_of sem = sems_meaning (sem_size z)
 
   -- the part of the model's state that its words tell of
-  abbrev pub part_in : (j : Which) → World → (meaning_of j).Part
+  abbrev pub part_in : (j : Which) → StateView → (meaning_of j).Part
   part_in lock s = lock_part s
   part_in cond s = cond_part s
   part_in sem s = semaphore_part s

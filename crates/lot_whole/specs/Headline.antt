@@ -3,7 +3,7 @@
 use Rattle.std.specs.Prelude.{◌≡◌, ℕ, ◌<◌, true, List, map, slice_index, Option}
 use Rattle.std.specs.List.{Contains}
 use Rattle.atomic_table.specs.Table.{State}
-use Rattle.lot_core.specs.World.{World}
+use Rattle.lot_core.specs.Model.{StateView}
 use Rattle.lot_core.specs.Steps.{Run, after_all}
 use Rattle.lot_core.specs.Sound.{IsSound}
 use Rattle.lot_order.specs.Waiting.{IsOrderly}
@@ -25,7 +25,7 @@ use Rattle.lot_whole.specs.Whole.{WholeStep, word_in, line_in, stand_of, opening
 use Rattle.lot_whole.specs.Lot.{own_of, lot_meaning}
 
 -- a thread is in one line at most, of all keys of all kinds
-abbrev pub OneLineOfAll : World → Type 0
+abbrev pub OneLineOfAll : StateView → Type 0
 OneLineOfAll s = (j k : Which) (c d t : ℕ) → Contains (line_in s j c) t → Contains (line_in s k d) t → (j ≡ k) × (c ≡ d)
 
 -- the events alone
@@ -33,7 +33,7 @@ abbrev pub event_of : Event × Seen → Event
 event_of x = x.0
 
 -- these events, of which this was seen, are one run of the model from the opening to the state, which is sound
-pub record IsOneRun (z : LotSize) (events : List (Event × Seen)) (state : World) : Type 0 where
+pub record IsOneRun (z : LotSize) (events : List (Event × Seen)) (state : StateView) : Type 0 where
   pub sound : IsSound state
   pub seen : ModelRun WholeStep (opening_of z) events state
   pub run : Run (opening_of z) (map event_of events)
@@ -43,7 +43,7 @@ module _ {V Part : Type 0} (rule : CallersRule V Part) (z : LotSize) (xs : List 
   -- Of a table that keeps the rule: the state of the whole model that it stands for
   pub record OneState (s : State (Option V) (List (Right (LotPassView V) LotRootView)))
       (here : Ruled (lot_meaning rule z xs) s) : Type 0 where
-    pub state : World
+    pub state : StateView
     -- the words of all keys stand for it
     pub words : (j : Which) (c : ℕ) → IsKeyIn z j c → slice_index s.words (word_at c) ≡ word_in z state c
     -- and so do the rights: its part of each kind is what that kind's world tells, and each thread stands as its pass says

@@ -9,7 +9,7 @@ pub mod Standing
 pub mod Calls
 pub mod Headline
 pub mod Both
-pub mod Closing
 pub mod Order
+pub mod Closing
 -- a part of these
 pub mod Shown

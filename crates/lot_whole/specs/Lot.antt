@@ -3,11 +3,12 @@ use Rattle.std.specs.Prelude.{◌≡◌, ◌⊎◌, ℕ, ◌+◌, ◌<◌, true,
 use Rattle.std.specs.List.{Contains}
 use Rattle.std.proofs.Common.{sym, ◌∙◌}
 use mathlib.Core.Option as maybe
-use Rattle.lot_core.specs.World.{World}
+use Rattle.lot_core.specs.Model.{StateView}
 use Rattle.lot_core.specs.Steps.{IsReached}
 use Rattle.lot_order.specs.Order.{IsOrdered}
 use Rattle.lot_rights.specs.Layout.{word_at, letter_at, word_count}
 use Rattle.lot_rights.specs.Rule.{Meaning}
+use Rattle.lot_rights.specs.World.{number_of}
 use Rattle.lot_rights.specs.Settled.{HasOneOutcome, LinesHaveNoLetter}
 use Rattle.lot_words.specs.CallersRule.{CallersRule}
 use Rattle.lot_words.specs.Rule.{fresh_pass as fresh_lock_pass, fresh_root as fresh_lock_root, names as lock_names}
@@ -68,6 +69,12 @@ line_of_root (Lock q) = q.line
 line_of_root (Cond q) = q.line
 line_of_root (Sem q) = q.line
 
+-- how many threads it has taken from there and not yet told
+abbrev pub owed_by : LotRootView → ℕ
+owed_by (Lock q) = number_of q.owes
+owed_by (Cond q) = length q.owes
+owed_by (Sem q) = number_of q.owes
+
 -- whom a root names: those in its line, and whom it owes a letter
 abbrev pub names : LotRootView → ℕ → Type 0
 names (Lock q) u = lock_names q u
@@ -80,10 +87,13 @@ module _ {V Part : Type 0} (rule : CallersRule V Part) (z : LotSize) (xs : List 
     pub each : (j : Which) → (meaning_of rule z xs j).World
     pub words : Which → List ℕ
     pub pass : ℕ → LotPassView V
-    pub whole : World
+    pub whole : StateView
 
   abbrev pub letters_in : LotWorld → Which → ℕ → ℕ
   letters_in w j = ((meaning_of rule z xs j).told_by (w.each j)).letters
+
+  abbrev pub owed_in : LotWorld → Which → ℕ → ℕ
+  owed_in w j = (meaning_of rule z xs j).owed_in (w.each j)
 
   -- the pass p of the thread t is what each kind says of it; it is away in one kind at most, and tells how the thread stands
   pub record PassOk (w : LotWorld) (t : ℕ) (p : LotPassView V) : Type 0 where
@@ -117,10 +127,11 @@ module _ {V Part : Type 0} (rule : CallersRule V Part) (z : LotSize) (xs : List 
   abbrev pub lot_meaning : Meaning (Option V) (LotPassView V) LotRootView
   lot_meaning = record {
     World = LotWorld;
-    Part = World;
+    Part = StateView;
     Fits = LotFits;
     PassFits = LotPassIs;
     RootFits = LotRootIs;
+    owed_in = λ w. sum_of (owed_in w);
     told_by = λ w. record { part = w.whole; letters = sum_of (letters_in w) };
     start = record { part = opening_of z; letters = λ t. 0 };
     Step = WholeStep;

@@ -1,9 +1,12 @@
 -- In which order: a letter that a thread collects after it was queued comes after the event that took it from the line, and what a thread
 -- counts is so of the entries before that.
-use Rattle.std.specs.Prelude.{◌≡◌, ℕ, ◌*◌, ◌<◌, ◌++◌, true, List, [], ◌∷◌, length, map, Some}
+use Rattle.std.specs.Prelude.{◌≡◌, ℕ, ◌+◌, ◌*◌, ◌<◌, ◌==◌, ◌++◌, true, cond as either, List, [], ◌∷◌, length, map, sum_by, Some}
 use Rattle.std.specs.List.{Contains}
-use Rattle.lot_core.specs.World.{World}
+use Rattle.lot_core.specs.Model.{StateView}
 use Rattle.lot_core.specs.Steps.{after_all, seen}
+use Rattle.lot_core.specs.Sums.{bit}
+use Rattle.lot_events.specs.declared.events.Event.{Event}
+use Rattle.lot_events.specs.declared.events.Seen.{Seen}
 use Rattle.lot_events.specs.declared.events.Event.TheVariants.{Park, Pass, Enlist, Call, Sweep, SemPark, SemPass}
 use Rattle.lot_events.specs.declared.events.Seen.TheVariants.{Bool as Saw, Done}
 use Rattle.lot_rights.specs.declared.views.Access.{Access}
@@ -15,11 +18,11 @@ use Rattle.lot_whole.specs.Whole.{WholeStep, word_in, waiting_in, line_in, line_
 use Rattle.lot_whole.specs.Headline.{event_of}
 
 -- the log is the history of a lot of this size, from the opening to what b tells
-abbrev pub IsLogOf : LotSize → List Entry → Telling World → Type 0
+abbrev pub IsLogOf : LotSize → List Entry → Telling StateView → Type 0
 IsLogOf z log b = Run (Continues WholeStep (word_in z) (waiting_in z) IsQueued) (no_letters (opening_of z)) 0 log b
 
 -- the state to which its events lead
-abbrev pub state_after : LotSize → List Entry → World
+abbrev pub state_after : LotSize → List Entry → StateView
 state_after z log = after_all (opening_of z) (map event_of (events_in log))
 
 -- by the access the thread t is queued at the key c
@@ -37,7 +40,7 @@ Dequeues sem c (Makes (SemPass u d more) saw) = d ≡ c
 Dequeues _ _ _ = ⊥
 
 -- what the access saw is what its event sees in this state
-abbrev pub SeesIn : World → Access → Type 0
+abbrev pub SeesIn : StateView → Access → Type 0
 SeesIn s (Makes e saw) = saw ≡ seen s e
 SeesIn s _ = Unit {0}
 
@@ -77,13 +80,28 @@ pub record WasTaken (z : LotSize) (j : Which) (t c : ℕ) (log : List Entry) (fr
 -- Of each log, and of each thread t: between its access x, by which it was queued at a key, and its later access y, by
 -- which it collected a letter, it was taken from the key's line
 abbrev pub LettersFollow : Type 0
-LettersFollow = (z : LotSize) (log : List Entry) (b : Telling World) → IsLogOf z log b
+LettersFollow = (z : LotSize) (log : List Entry) (b : Telling StateView) → IsLogOf z log b
     → (j : Which) (t c token : ℕ) (front : List Access) (x : Access) (between : List Access) (y : Access) (back : List Access)
     → accesses_of (2 * t) log ≡ front ++ x ∷ (between ++ y ∷ back) → Queues j t c x → y ≡ Collects t (Some token)
     → WasTaken z j t c log front x between y
 
+-- how many threads the event queued at the key c
+abbrev pub queued_at : ℕ → Event → Seen → ℕ
+queued_at c (Park t l) (Saw b) = either (c == l) (bit b) 0
+queued_at c (Enlist t d l) saw = either (c == d) 1 0
+queued_at c (SemPark t k) (Saw b) = either (c == k) (bit b) 0
+queued_at c _ _ = 0
+
+abbrev pub queued_by : ℕ → Access → ℕ
+queued_by c (Makes e saw) = queued_at c e saw
+queued_by c _ = 0
+
+abbrev pub queued_in : ℕ → List Entry → ℕ
+queued_in c log = sum_by (λ (x : Entry). queued_by c x.access) log
+
 -- Of a log in which the thread t has made the accesses `front`, and then counted so of the key c: so many of the entries before that told
--- threads that they were taken from the line of c, and so many of these handed the lock over; and so many threads were in the line
+-- threads that they were taken from the line of c, and so many of these handed the lock over; so many threads were in the line; and so
+-- many had been queued at c as were told and waited
 pub record IsCounted (z : LotSize) (t c : ℕ) (log : List Entry) (front : List Access) (told handed waiting : ℕ) : Type 0 where
   pub before : List Entry
   pub entry : Entry
@@ -94,9 +112,10 @@ pub record IsCounted (z : LotSize) (t c : ℕ) (log : List Entry) (front : List 
   pub told_are : told ≡ length (tokens_of c before)
   pub handed_are : handed ≡ handed_in (tokens_of c before)
   pub waiting_are : waiting ≡ length (line_at z (state_after z before) c)
+  pub queued_are : told + waiting ≡ queued_in c before
 
 -- Of each log that counts right, and of each access by which a thread counted
 abbrev pub CountsFollow : Type 0
-CountsFollow = (z : LotSize) (log : List Entry) (b : Telling World) → IsLogOf z log b → AllCountRight [] log
+CountsFollow = (z : LotSize) (log : List Entry) (b : Telling StateView) → IsLogOf z log b → AllCountRight [] log
     → (t c told handed waiting : ℕ) (front back : List Access)
     → accesses_of (2 * t) log ≡ front ++ Counts t c told handed waiting ∷ back → IsCounted z t c log front told handed waiting

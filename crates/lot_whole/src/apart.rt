@@ -6,6 +6,7 @@ ghost use Rattle.lot_words.specs.World.{Holds};
 ghost use Rattle.lot_whole.specs.Family.{key_count};
 ghost use Rattle.lot_whole.specs.Closing.{permits_of};
 ghost use Rattle.lot_whole.specs.Both.{KnowBoth};
+ghost use Rattle.lot_whole.specs.Lot.{owed_by};
 ghost use Rattle.lot_whole.specs.Calls.{counting};
 ghost use Rattle.lot_whole.specs.Shown.{lot_of};
 
@@ -44,10 +45,12 @@ impl<V: Keeps> LotWords<V> {
         words.check_root::<Brand, Lying>(root)
     }
 
-    /// Counts, by one load: the pass shows an entry that tells what the history had of the root's key by then, and how
-    /// many were in its line. Nothing else changes.
+    /// Counts, by one load, where everybody who was taken from the root's line has been told so: the pass shows an
+    /// entry that tells what the history had of the root's key by then, and how many were in its line. Nothing else
+    /// changes.
     pub fn count(&self, pass: LotPass<V>, root: LotRoot<V>) -> (LotPass<V>, LotRoot<V>)
         requires table { (pass.table ≡ self.now.table) × (root.table ≡ self.now.table) }
+        requires clear { owed_by root.own ≡ 0 }
         ensures table { result.0.table ≡ pass.table }
         ensures entry { Notes pass pass.own (counting pass.thread root) result.0 }
         ensures same { result.1 ≡ root }

@@ -42,8 +42,9 @@ pub fn letters_follow()
     ensures { LettersFollow }
 {}
 
-/// What a thread counted of a key is so of the entries before it, in the log that `close` tells of: its clauses
-/// `history` and `counted` have what is asked here.
+/// What a thread counted of a key is so of the entries before it: how many of them told a thread that it was taken from
+/// the key's line, or queued one there. They are those of the log that `close` tells of, whose clauses `history` and
+/// `counted` have what is asked here.
 pub fn counts_follow()
     ensures { CountsFollow }
 {}

@@ -1,6 +1,6 @@
 //! A witness judged: by the model's own step, event by event.
 ghost use Rattle.std.specs.Prelude.{◌≡◌, ◌↔◌, IsTrue, IfErr, OnOk};
-ghost use Rattle.lot_core.specs.State.{world_of};
+ghost use Rattle.lot_core.specs.State.{state_of};
 ghost use Rattle.lot_core.specs.Steps.{after_all};
 ghost use Rattle.lot_witness.specs.Judging.{events_of, RunSaw, IsFaultIn, Judges};
 
@@ -35,9 +35,9 @@ fn is_that(saw: Seen, said: Seen) -> bool
 
 // Makes the events in order, as long as each is allowed and sees what is said of it.
 fn follow(state: &mut State, sightings: &[Sighting]) -> Result<(), WitnessFault>
-    ensures ok { OnOk result (RunSaw (world_of state.old) sightings.now × (world_of state.new ≡
-        after_all (world_of state.old) (events_of sightings.now))) }
-    ensures err { IfErr result (λ e. IsFaultIn (world_of state.old) sightings.now e) }
+    ensures ok { OnOk result (RunSaw (state_of state.old) sightings.now × (state_of state.new ≡
+        after_all (state_of state.old) (events_of sightings.now))) }
+    ensures err { IfErr result (λ e. IsFaultIn (state_of state.old) sightings.now e) }
 {
     for (before, sighting) in sightings.iter().enumerate() {
         match state.step(sighting.event) {

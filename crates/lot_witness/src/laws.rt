@@ -1,6 +1,6 @@
 //! What a witness is worth: functions that do nothing, whose contracts are the laws.
 ghost use Rattle.std.specs.Prelude.{◌≡◌, ℕ, List};
-ghost use Rattle.lot_core.specs.World.{World, opening_with};
+ghost use Rattle.lot_core.specs.Model.{StateView, opening_with};
 ghost use Rattle.lot_core.specs.Steps.{Run, IsReached, after_all};
 ghost use Rattle.lot_witness.specs.declared.witness.Sighting.{Sighting};
 ghost use Rattle.lot_witness.specs.Spelling.{SpellsWitness, IsFirstBad};
@@ -8,7 +8,7 @@ ghost use Rattle.lot_witness.specs.Judging.{RunSaw, events_of};
 
 /// The events of a witness that is accepted are a run of the model, so what holds of every run holds of it.
 pub fn a_witness_is_a_run()
-    ensures run { (s : World) (xs : List Sighting) → RunSaw s xs → Run s (events_of xs) }
+    ensures run { (s : StateView) (xs : List Sighting) → RunSaw s xs → Run s (events_of xs) }
     ensures reached { (threads locks conds : ℕ) (permits : List ℕ) (xs : List Sighting)
         → RunSaw (opening_with threads locks conds permits) xs
         → IsReached (after_all (opening_with threads locks conds permits) (events_of xs)) }

@@ -2,7 +2,7 @@
 use Rattle.std.proofs.Common.{◌≡◌, ◌≢◌, ℕ, zero, suc, ◌+◌, ◌-◌, ◌<◌, ◌≤◌, true, false, List, length, refl, sym, ap, subst, ◌∙◌}
 use Rattle.std.proofs.Common.{⊎_elim, arith, Option, Some, None}
 use mathlib.Core.Option as maybe
-use Rattle.lot_core.specs.World.{put}
+use Rattle.lot_core.specs.Model.{put}
 use Rattle.lot_core.proofs.Put.{put_same, put_other}
 use Rattle.lot_rights.specs.declared.views.Access.TheVariants.{Collects}
 use Rattle.lot_rights.specs.Shown.{PassShown}
@@ -53,7 +53,7 @@ module _ {V Part : Type 0} (rule : CallersRule V Part) where
     none_lies : letter_of (w.spot t) ≡ 0 → Turn 0
     none_lies none_there =
         pass_stays (meaning rule size xs) (letter_at t) 0 w ws hs ok (sym (ok.words.letters t fit.0 ∙ none_there)) p fit (Collects t None)
-        (refl, (none_there, refl)) (λ tokens. tt) (Collecting p 0) (λ k. (omega arith, (k, refl)))
+        (refl, (none_there, refl)) (λ c. refl) (λ log. tt) (Collecting p 0) (λ k. (omega arith, (k, refl)))
 
     -- a letter lies: the pass is awake then
     wakes : (f : LockPassView V → LockPassView V) (token l : ℕ) → w.spot t ≡ lying l token
@@ -89,7 +89,8 @@ module _ {V Part : Type 0} (rule : CallersRule V Part) where
               },
             ),
           );
-          counted = λ tokens. tt;
+          owed = λ c. refl;
+          counted = λ log. tt;
           told = told;
         }
 

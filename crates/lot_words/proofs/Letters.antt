@@ -5,7 +5,7 @@ use Rattle.std.proofs.Common.{get_or-set_other, Option, Some, None}
 use Rattle.std.specs.List.{Contains}
 use mathlib.Core.Logic.{dite}
 use native.Mathlib.Decide.{ℕ_discrete}
-use Rattle.lot_core.specs.World.{put}
+use Rattle.lot_core.specs.Model.{put}
 use Rattle.lot_core.specs.Sound.{IsOnce}
 use Rattle.lot_core.proofs.Members.{in_head, in_tail, once_tail, head_left}
 use Rattle.lot_core.proofs.Put.{put_same, put_other}

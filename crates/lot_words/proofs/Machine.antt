@@ -5,7 +5,7 @@ use Rattle.std.proofs.Common.{Some, None}
 use Rattle.std.specs.List.{Contains}
 use mathlib.Core.Logic.{dite}
 use native.Mathlib.Decide.{ℕ_discrete}
-use Rattle.lot_core.specs.World.{put}
+use Rattle.lot_core.specs.Model.{put}
 use Rattle.lot_core.specs.Sound.{IsOnce}
 use Rattle.lot_core.proofs.Put.{put_same}
 use Rattle.lot_rights.specs.World.{Spot, awake, queued, owed, lying}

@@ -3,7 +3,7 @@ use Rattle.std.proofs.Common.{◌≡◌, ℕ, zero, suc, ◌<◌, List, [], ◌�
 use mathlib.Core.Option as maybe
 use mathlib.Core.Option.{some, none, some-injective, some-ne-none}
 use lib.ListN.{get_elem?}
-use Rattle.lot_core.specs.World.{put}
+use Rattle.lot_core.specs.Model.{put}
 use Rattle.lot_core.proofs.Put.{put_same, put_other}
 use Rattle.lot_rights.specs.Shown.{PassShown}
 use Rattle.lot_rights.specs.World.{letters_of}
@@ -93,6 +93,7 @@ module _ {V Part : Type 0} (rule : CallersRule V Part) (size : Size) (xs : List 
       passes = λ u y ne h. (h.0, put_other w.pass t (placing (w.pass t) l pl) u ne ∙ h.1);
       roots = λ d y h. h;
       same = λ i. record { part = same_pass w t (placing (w.pass t) l pl) refl i; letters = letters_of w.spot };
+      owed = λ c. refl;
     }
 
   module _ (p : PassShown (LockPassView V)) (l : ℕ) (here : l < size.locks) (holds : Holds p.own l) where

@@ -10,7 +10,8 @@ use Rattle.lot_core.proofs.Members.{in_none, once_none}
 use Rattle.lot_core.proofs.Rows.{get_or_replicate}
 use Rattle.lot_rights.specs.Layout.{word_count}
 use Rattle.lot_rights.specs.Start.{OpensWell}
-use Rattle.lot_rights.specs.World.{awake}
+use Rattle.lot_rights.specs.World.{awake, number_of}
+use Rattle.lot_rights.proofs.Owing.{owed_none}
 use Rattle.lot_rights.proofs.Worlds.{fresh_words}
 use Rattle.lot_words.specs.declared.views.Hold.TheVariants.{NotHeld}
 use Rattle.lot_words.specs.declared.views.Place.TheVariants.{Out}
@@ -105,4 +106,5 @@ module _ {V Part : Type 0} (rule : CallersRule V Part) (n : ℕ) (pos : 0 < n) w
         passes = λ t near. (near, refl);
         roots = λ l near. (near, refl);
         start = λ i. record { part = fresh_part all i; letters = λ t. 0 };
+        owed = λ l. owed_none (sizes_of size) (λ r. number_of r.owes) (fresh_world all).root l refl;
       }

@@ -2,7 +2,7 @@
 use Rattle.std.proofs.Common.{◌≡◌, ◌≢◌, ℕ, zero, suc, ◌+◌, ◌*◌, ◌<◌, ◌⊎◌, ◌&&◌, ◌==◌, Bool, true, false, List, [], ◌∷◌, ◌++◌, get_or, set}
 use Rattle.std.proofs.Common.{refl, sym, ap, subst, ◌∙◌, inl, inr, arith, Option, Some, None, is_some}
 use mathlib.Core.Option as maybe
-use Rattle.lot_core.specs.World.{put}
+use Rattle.lot_core.specs.Model.{put}
 use Rattle.lot_core.specs.Steps.{SaysMore, first}
 use Rattle.lot_core.specs.Parts.{LockStep}
 use Rattle.lot_events.specs.declared.events.Event.TheVariants.{Park, Pass}
@@ -12,8 +12,9 @@ use Rattle.lot_rights.specs.declared.views.Access.{Access}
 use Rattle.lot_rights.specs.declared.views.Access.TheVariants.{Makes, Posts}
 use Rattle.lot_rights.specs.Shown.{PassShown, RootShown}
 use Rattle.lot_rights.specs.Layout.{word_at, letter_at}
-use Rattle.lot_rights.specs.World.{Spot, queued, owed, lying, letter_of, letters_of, RootIs}
-use Rattle.lot_rights.specs.Steps.{Notes, RootNotes, pass_after, IsMade, CountsNothing, BothTurn, AllowsBoth, AllowsRoot}
+use Rattle.lot_rights.specs.World.{Spot, queued, owed, lying, letter_of, letters_of, number_of, owed_at, RootIs}
+use Rattle.lot_rights.specs.Steps.{Notes, RootNotes, pass_after, IsMade, IsOwed, CountsNothing, BothTurn, AllowsBoth, AllowsRoot}
+use Rattle.lot_rights.proofs.Owing.{no_more, owed_more, owed_less, owed_same}
 use Rattle.lot_rights.proofs.Staying.{both_stay}
 use Rattle.lot_rights.proofs.Worlds.{same_letters, one_letter, letter_written}
 use Rattle.lot_words.specs.declared.views.LockPassView.{LockPassView}
@@ -81,10 +82,12 @@ module _ {V Part : Type 0} (rule : CallersRule V Part) (size : Size) (xs : List 
         (set ws (word_at l) x) hs → (a : Access)
         → IsMade (meaning rule size xs) (2 * t) w a
         (record { pass = put w.pass t (f (w.pass t)); spot = spots; word = word; root = put w.root l (g (w.root l)) })
+        → IsOwed (meaning rule size xs) w a
+        (record { pass = put w.pass t (f (w.pass t)); spot = spots; word = word; root = put w.root l (g (w.root l)) })
         → CountsNothing a
         → ((n : ℕ) → then (pass_after p (f p.own) n a) (record q { own = g q.own }))
         → BothTurn (meaning rule size xs) (word_at l) x p q then w ws hs
-    turn_both x then f g spots word fits a made none told = record {
+    turn_both x then f g spots word fits a made due none told = record {
       own = f p.own;
       its = g q.own;
       access = a;
@@ -95,7 +98,8 @@ module _ {V Part : Type 0} (rule : CallersRule V Part) (size : Size) (xs : List 
       passes = λ u y ne h. (h.0, put_other w.pass t (f (w.pass t)) u ne ∙ h.1);
       roots = λ d y ne h. (h.0, put_other w.root l (g (w.root l)) d ne ∙ h.1);
       made = made;
-      counted = λ tokens same. none tokens;
+      owed = due;
+      counted = λ log same all. none log;
       told = told;
     }
 
@@ -107,7 +111,8 @@ module _ {V Part : Type 0} (rule : CallersRule V Part) (size : Size) (xs : List 
     park_misses up aim x is not_both three =
         let up' : (w.pass t).asleep ≡ false = ap (λ (z : LockPassView V). z.asleep) fit.1 ∙ up in
         both_stay (meaning rule size xs) (word_at l) x w ws hs ok is p fit (Makes (Park t l) (Saw false))
-        (refl, (row_park_not w size.threads size.locks ok.kept t fit.0 up' l here (aim_of ∙ aim) not_both, refl)) q (λ tokens same. tt)
+        (refl, (row_park_not w size.threads size.locks ok.kept t fit.0 up' l here (aim_of ∙ aim) not_both, refl)) (λ c. refl) q
+        (λ log same all. tt)
         (Parks p q x) root
         (λ k. subst (λ z. Notes p (parked_pass p.own z) (Makes (Park t l) (Saw z)) (pass_after p p.own k (Makes (Park t l) (Saw false)))
         × (record q { own = q.own } ≡ record q { own = parked_root q.own t z })) (sym three) ((k, refl), refl))
@@ -132,7 +137,8 @@ module _ {V Part : Type 0} (rule : CallersRule V Part) (size : Size) (xs : List 
               (λ k. record { down = λ h. h; up = λ h. h; places = refl; seen = refl }) (refl, refl);
         })
         (Makes (Park t l) (Saw true)) (refl, (row_park w size.threads size.locks ok.kept t fit.0 up' l here held (aim_of ∙ aim) b, letters))
-        (λ tokens. tt)
+        (owed_same (sizes_of size) (λ r. number_of r.owes) w.root l (record (w.root l) { line = (w.root l).line ++ t ∷ [] }) refl)
+        (λ log. tt)
         (λ k. ((k, refl), refl))
     park_turn up aim false false h b = park_misses up aim 0 (sym (found ∙ (λ i. bits_of (h i) (b i)))) (λ i. h i && b i) refl
     park_turn up aim false true h b = park_misses up aim 2 (sym (found ∙ (λ i. bits_of (h i) (b i)))) (λ i. h i && b i) refl
@@ -204,7 +210,9 @@ module _ {V Part : Type 0} (rule : CallersRule V Part) (size : Size) (xs : List 
                 passes_kept size.threads size.locks w ok.kept t l fit.0 here up' has u us line' owes_none y k z.owner z.parked token others;
             lawful = lawful';
           })
-          (Makes (Pass t l fair more) (Sleeper (Some u))) (refl, (row, letters)) (λ tokens. tt) (left_told (u ∷ us) fair more line)
+          (Makes (Pass t l fair more) (Sleeper (Some u))) (refl, (row, letters))
+          (owed_more (sizes_of size) (λ r. number_of r.owes) w.root l (record (w.root l) { line = us; owes = Some (u, k) }) 1 root.0
+          (ap (λ o. 1 + number_of o) owes_none)) (λ log. tt) (left_told (u ∷ us) fair more line)
 
       -- the lock is let go, by a store
       store_turn : (more : Bool) (line : List ℕ) → q.own.line ≡ line → SaysMore line more → (x : ℕ) → x ≡ word_left (first line) more
@@ -231,7 +239,8 @@ module _ {V Part : Type 0} (rule : CallersRule V Part) (size : Size) (xs : List 
                 refl,
               ),
             );
-            counted = λ tokens same. tt;
+            owed = λ c. ap (λ n. n + owed_at (sizes_of size) (λ r. number_of r.owes) w.root c) (no_more (c == l));
+            counted = λ log same all. tt;
             told = left_told [] false more line;
           }
       store_turn more (u ∷ us) line says x is =
@@ -311,6 +320,7 @@ module _ {V Part : Type 0} (rule : CallersRule V Part) (size : Size) (xs : List 
                 },
           ),
         );
-        counted = λ tokens. tt;
+        owed = owed_less (sizes_of size) (λ r. number_of r.owes) w.root l q1 root.0 (sym (ap number_of debt'));
+        counted = λ log. tt;
         told = λ n. (n, refl);
       }

@@ -4,7 +4,7 @@ use Rattle.std.proofs.Common.{sym, ap, ◌∙◌, inl, inr, ⊎_elim, arith}
 use Rattle.std.proofs.Common.{Option, Some, None, is_some}
 use Rattle.std.specs.List.{Contains}
 use mathlib.Core.Path.{fun_ext}
-use Rattle.lot_core.specs.World.{put}
+use Rattle.lot_core.specs.Model.{put}
 use Rattle.lot_core.specs.Steps.{SaysMore, first, passed_line}
 use Rattle.lot_core.specs.Parts.{LockPart, LockStep, MayTry, served}
 use Rattle.lot_events.specs.declared.events.Event.TheVariants.{Try, Take, Mark, Park, Free, Pass}

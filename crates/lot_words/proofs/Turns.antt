@@ -5,7 +5,7 @@ use Rattle.std.proofs.Common.{MatchBool, Option, None, Some, is_some}
 use mathlib.Core.Option as maybe
 use mathlib.Core.Option.{some-injective}
 use prog.Atomic.{either}
-use Rattle.lot_core.specs.World.{put}
+use Rattle.lot_core.specs.Model.{put}
 use Rattle.lot_events.specs.declared.events.Event.TheVariants.{Try, Take, Mark, Park, Free}
 use Rattle.lot_events.specs.declared.events.Seen.TheVariants.{Bool as Saw, Done}
 use Rattle.lot_core.proofs.Put.{by_line, put_same, put_other}
@@ -14,7 +14,7 @@ use Rattle.lot_rights.specs.declared.views.Access.TheVariants.{Makes, Finds}
 use Rattle.lot_rights.specs.Shown.{PassShown, RootShown}
 use Rattle.lot_rights.specs.Layout.{word_at}
 use Rattle.lot_rights.specs.World.{Spot, letters_of, WordsFit}
-use Rattle.lot_rights.specs.Steps.{Notes, pass_after, IsMade, CountsNothing, PassTurn, AllowsPass}
+use Rattle.lot_rights.specs.Steps.{Notes, pass_after, IsMade, IsOwed, CountsNothing, PassTurn, AllowsPass}
 use Rattle.lot_rights.proofs.Puts.{by_test}
 use Rattle.lot_rights.proofs.Staying.{same_words, pass_stays}
 use Rattle.lot_rights.proofs.Worlds.{word_written}
@@ -125,10 +125,11 @@ module _ {V Part : Type 0} (rule : CallersRule V Part) (size : Size) (xs : List 
         → Fits rule size (record w { pass = put w.pass p.thread (f (w.pass p.thread)); word = word })
         (set ws i x) hs → (a : Access)
         → IsMade (meaning rule size xs) (2 * p.thread) w a (record w { pass = put w.pass p.thread (f (w.pass p.thread)); word = word })
+        → IsOwed (meaning rule size xs) w a (record w { pass = put w.pass p.thread (f (w.pass p.thread)); word = word })
         → CountsNothing a
         → ((n : ℕ) → then (pass_after p (f p.own) n a))
         → PassTurn (meaning rule size xs) i x p then w ws hs
-    turn_at f word fits a made none told = record {
+    turn_at f word fits a made due none told = record {
       own = f p.own;
       access = a;
       world = record w { pass = put w.pass p.thread (f (w.pass p.thread)); word = word };
@@ -137,6 +138,7 @@ module _ {V Part : Type 0} (rule : CallersRule V Part) (size : Size) (xs : List 
       passes = λ u y ne h. (h.0, put_other w.pass p.thread (f (w.pass p.thread)) u ne ∙ h.1);
       roots = λ d y h. h;
       made = made;
+      owed = due;
       counted = none;
       told = told;
     }
@@ -170,7 +172,7 @@ module _ {V Part : Type 0} (rule : CallersRule V Part) (size : Size) (xs : List 
     finds : (x : ℕ) → x ≡ get_or ws (word_at l) 0 → (then : PassShown (LockPassView V) → Type 0)
         → ((k : ℕ) → then (pass_after p p.own k (Finds t l x))) → PassTurn (meaning rule size xs) (word_at l) x p then w ws hs
     finds x is then told =
-        pass_stays (meaning rule size xs) (word_at l) x w ws hs ok is p fit (Finds t l x) (refl, (is ∙ found, refl)) (λ tokens. tt)
+        pass_stays (meaning rule size xs) (word_at l) x w ws hs ok is p fit (Finds t l x) (refl, (is ∙ found, refl)) (λ c. refl) (λ log. tt)
         then told
 
     -- ---- take and try
@@ -196,9 +198,9 @@ module _ {V Part : Type 0} (rule : CallersRule V Part) (size : Size) (xs : List 
             pass = put w.pass t (owning (w.pass t) l value);
             word = put w.word l (record { owner = Some t; parked = (w.word l).parked });
           })
-          → CountsNothing a
+          → IsOwed (meaning rule size xs) w a w → CountsNothing a
           → ((n : ℕ) → then (pass_after p (owning p.own l value) n a)) → PassTurn (meaning rule size xs) (word_at l) x p then w ws hs
-      got_turn aims a then x is made none told =
+      got_turn aims a then x is made due none told =
           let y : LockWord = record { owner = Some t; parked = (w.word l).parked } in
           turn_at (word_at l) x p then w ws hs fit (λ z. owning z l value) (put w.word l y)
           (record {
@@ -208,7 +210,7 @@ module _ {V Part : Type 0} (rule : CallersRule V Part) (size : Size) (xs : List 
             kept = gets_kept size.threads size.locks w ok.kept t fit.0 up' l here unheld (aims' aims) value;
             lawful = gets_value rule size.threads size.locks w.pass hs ok.lawful t fit.0 l here nobody long (w.pass t).asleep;
           })
-          a made none told
+          a made due none told
 
     module _ (held : (w.word l).owner ≢ None) where
       held_word : get_or ws (word_at l) 0 ≡ bits_of true (w.word l).parked
@@ -224,7 +226,7 @@ module _ {V Part : Type 0} (rule : CallersRule V Part) (size : Size) (xs : List 
         let x : ℕ = bit_or n 1 in
         ⊎_elim {C = PassTurn (meaning rule size xs) (word_at l) x p (Takes rule p l n) w ws hs}
         (λ unheld. got_turn unheld aims (Makes (Take t l) (Saw true)) (Takes rule p l n) x refl
-        (refl, (row_take_free w size.threads size.locks ok.kept t fit.0 up' l here unheld value (aims' aims), refl)) (λ tokens. tt)
+        (refl, (row_take_free w size.threads size.locks ok.kept t fit.0 up' l here unheld value (aims' aims), refl)) (λ c. refl) (λ log. tt)
         (λ k. match_true (bit_and n 1 == 0) _ _ (ap (λ z. bit_and z 1 == 0) (free_word unheld) ∙ even_unheld (w.word l).parked)
         (value, found_ok unheld, (k, refl))))
         (λ held. turn_at (word_at l) x p (Takes rule p l n) w ws hs fit (λ z. wanting z l) w.word
@@ -237,7 +239,7 @@ module _ {V Part : Type 0} (rule : CallersRule V Part) (size : Size) (xs : List 
               (λ k. record { down = λ h. h; up = λ h. h; places = refl; seen = refl }) (refl, refl);
         })
         (Makes (Take t l) (Saw false))
-        (refl, (row_take_held w size.threads size.locks ok.kept t fit.0 up' l here held (aims' aims), refl)) (λ tokens. tt)
+        (refl, (row_take_held w size.threads size.locks ok.kept t fit.0 up' l here held (aims' aims), refl)) (λ c. refl) (λ log. tt)
         (λ k. match_false (bit_and n 1 == 0) _ _ (ap (λ z. bit_and z 1 == 0) (held_word held) ∙ odd_held (w.word l).parked) (k, refl)))
         (owner_cases (w.word l).owner)
 
@@ -249,11 +251,11 @@ module _ {V Part : Type 0} (rule : CallersRule V Part) (size : Size) (xs : List 
         let aims : Aims p.own l = (λ k e. absurd (no_aim k (sym aim ∙ e))) in
         ⊎_elim {C = PassTurn (meaning rule size xs) (word_at l) x p (Tries rule p l n) w ws hs}
         (λ unheld. got_turn unheld aims (Makes (Try t l) (Saw true)) (Tries rule p l n) x refl
-        (refl, (row_try_free w size.threads size.locks ok.kept t fit.0 up' l here unheld value (aim' ∙ aim), refl)) (λ tokens. tt)
+        (refl, (row_try_free w size.threads size.locks ok.kept t fit.0 up' l here unheld value (aim' ∙ aim), refl)) (λ c. refl) (λ log. tt)
         (λ k. match_true (bit_and n 1 == 0) _ _ (ap (λ z. bit_and z 1 == 0) (free_word unheld) ∙ even_unheld (w.word l).parked)
         (value, found_ok unheld, (k, refl))))
         (λ held. pass_stays (meaning rule size xs) (word_at l) x w ws hs ok (same_word held x refl) p fit (Makes (Try t l) (Saw false))
-        (refl, (row_try_held w size.threads size.locks ok.kept t fit.0 up' l here held (aim' ∙ aim), refl)) (λ tokens. tt)
+        (refl, (row_try_held w size.threads size.locks ok.kept t fit.0 up' l here held (aim' ∙ aim), refl)) (λ c. refl) (λ log. tt)
         (Tries rule p l n)
         (λ k. match_false (bit_and n 1 == 0) _ _ (ap (λ z. bit_and z 1 == 0) (held_word held) ∙ odd_held (w.word l).parked) (k, refl)))
         (owner_cases (w.word l).owner)
@@ -266,7 +268,7 @@ module _ {V Part : Type 0} (rule : CallersRule V Part) (size : Size) (xs : List 
         let unheld : (w.word l).owner ≡ None = unowned (w.word l).owner h in
         let is_zero : get_or ws (word_at l) 0 ≡ 0 = sym (is_found false false h b) in
         got_turn unheld aims (Makes (Take t l) (Saw true)) (TakesFree rule p l 0) 1 (sym (ap (λ z. bit_or z 1) is_zero))
-        (refl, (row_take_free w size.threads size.locks ok.kept t fit.0 up' l here unheld value (aims' aims), refl)) (λ tokens. tt)
+        (refl, (row_take_free w size.threads size.locks ok.kept t fit.0 up' l here unheld value (aims' aims), refl)) (λ c. refl) (λ log. tt)
         (λ k. (value, found_ok unheld, (k, refl)))
     take_free_turn aims true false h b =
         finds 1 (is_found true false h b) (TakesFree rule p l 1) (λ k. (k, refl))
@@ -295,7 +297,8 @@ module _ {V Part : Type 0} (rule : CallersRule V Part) (size : Size) (xs : List 
           passes = λ u z ne g. g;
           roots = λ d z g. g;
           made = (refl, (row_mark w size.threads size.locks ok.kept t fit.0 up' l here held (aims' aims), refl));
-          counted = λ tokens. tt;
+          owed = λ c. refl;
+          counted = λ log. tt;
           told = λ k. (k, refl);
         }
     mark_turn aim false false h b = finds 0 (is_found false false h b) (Marks p l 0) (λ k. (0, (λ e. omega arith), (k, refl)))
@@ -349,7 +352,7 @@ module _ {V Part : Type 0} (rule : CallersRule V Part) (size : Size) (xs : List 
               lawful = left_lawful;
             })
             (Makes (Free t l) (Saw true))
-            (refl, (row_free w size.threads size.locks ok.kept t fit.0 up' l here has (aim' ∙ aim) y b, refl)) (λ tokens. tt)
+            (refl, (row_free w size.threads size.locks ok.kept t fit.0 up' l here has (aim' ∙ aim) y b, refl)) (λ c. refl) (λ log. tt)
             (λ k z lies'.
             (k, ap (λ v. pass_after p (letting_go p.own l v) k (Makes (Free t l) (Saw true))) (same_in p.own l y z lies lies')))
         free_turn true b =
@@ -363,7 +366,7 @@ module _ {V Part : Type 0} (rule : CallersRule V Part) (size : Size) (xs : List 
                   same_values rule size.threads size.locks w.pass hs ok.lawful t (finding_parked (w.pass t) l) still_holds (refl, refl);
             })
             (Makes (Free t l) (Saw false))
-            (refl, (row_free_parked w size.threads size.locks ok.kept t fit.0 up' l here has (aim' ∙ aim) b, refl)) (λ tokens. tt)
+            (refl, (row_free_parked w size.threads size.locks ok.kept t fit.0 up' l here has (aim' ∙ aim) b, refl)) (λ c. refl) (λ log. tt)
             (λ k. (k, refl))
 
   -- ---- each call is allowed

@@ -5,7 +5,7 @@ use mathlib.Core.Option.{some, some-injective}
 use mathlib.Core.Option as maybe
 use lib.ListN.{get_elem?}
 use Rattle.atomic_table.proofs.Lists.{set_here, set_else}
-use Rattle.lot_core.specs.World.{put}
+use Rattle.lot_core.specs.Model.{put}
 use Rattle.lot_core.proofs.Put.{put_same}
 use Rattle.lot_rights.proofs.Puts.{put_elim}
 use Rattle.lot_words.specs.declared.views.Hold.TheVariants.{NotHeld, Held}

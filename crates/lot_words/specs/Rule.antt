@@ -8,7 +8,8 @@ use Rattle.lot_core.specs.State.{owns}
 use Rattle.lot_core.specs.Parts.{LockPart, LockStep}
 use Rattle.lot_rights.specs.Rule.{Meaning}
 use Rattle.lot_rights.specs.Settled.{HasOneOutcome, LinesHaveNoLetter}
-use Rattle.lot_rights.specs.World.{Spot, awake, queued, owed, lying, Sizes, letter_of, letters_of, WordsFit, PassIs, RootIs}
+use Rattle.lot_rights.specs.World.{Spot, awake, queued, owed, lying, Sizes, letter_of, letters_of, number_of, owed_at, WordsFit}
+use Rattle.lot_rights.specs.World.{PassIs, RootIs}
 use Rattle.lot_words.specs.declared.views.Hold.TheVariants.{NotHeld}
 use Rattle.lot_words.specs.declared.views.LockPassView.{LockPassView}
 use Rattle.lot_words.specs.declared.views.LockRootView.{LockRootView}
@@ -91,6 +92,7 @@ module _ {V Part : Type 0} (rule : CallersRule V Part) where
     Fits = Fits size;
     PassFits = λ w t p. PassIs (sizes_of size) w t p;
     RootFits = λ w l q. RootIs (sizes_of size) w l q;
+    owed_in = λ w l. owed_at (sizes_of size) (λ q. number_of q.owes) w.root l;
     told_by = λ w. record { part = part_of w; letters = letters_of w.spot };
     start = record { part = opening_part; letters = λ t. 0 };
     Step = LockStep size.threads size.locks;

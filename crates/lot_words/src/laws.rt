@@ -2,7 +2,7 @@
 //! history itself, which are the same for every kind, are lot_rights' (`lot_rights::laws`).
 ghost use Rattle.std.specs.Prelude.{◌≡◌, ℕ, List, Option};
 ghost use Rattle.atomic_table.specs.Table.{State};
-ghost use Rattle.lot_core.specs.World.{opening};
+ghost use Rattle.lot_core.specs.Model.{opening};
 ghost use Rattle.lot_events.specs.declared.events.Event.{Event};
 ghost use Rattle.lot_events.specs.declared.events.Seen.{Seen};
 ghost use Rattle.lot_core.specs.Parts.{LockPart, LockStep, lock_part};

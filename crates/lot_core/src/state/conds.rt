@@ -11,35 +11,35 @@ use lot_events::{Point, Seen};
 #[tactic(auto, using(crate::proofs::Rows::row_laws))]
 impl State {
     ghost use Rattle.lot_core.specs.Steps.{IsCond, called, dequeued, dequeued_count};
-    ghost use Rattle.lot_core.specs.State.{world_of, with_flag, with_cond_line};
+    ghost use Rattle.lot_core.specs.State.{state_of, with_flag, with_cond_line};
 
     pub(crate) fn is_cond(&self, key: usize) -> bool
-        ensures { IsTrue result ↔ IsCond (world_of self.now) key }
+        ensures { IsTrue result ↔ IsCond (state_of self.now) key }
     {
         key >= self.locks && key - self.locks < self.conds
     }
 
     pub(crate) fn flag(&self, cond: usize) -> bool
-        requires { IsCond (world_of self.now) cond }
-        ensures { result ≡ (world_of self.now).conds.flag cond }
+        requires { IsCond (state_of self.now) cond }
+        ensures { result ≡ (state_of self.now).conds.flag cond }
     {
         self.flags[cond - self.locks]
     }
 
     fn set_flag(&mut self, cond: usize, flag: bool)
-        requires { IsCond (world_of self.old) cond }
-        ensures { world_of self.new ≡ with_flag (world_of self.old) cond flag }
+        requires { IsCond (state_of self.old) cond }
+        ensures { state_of self.new ≡ with_flag (state_of self.old) cond flag }
     {
         self.flags[cond - self.locks] = flag;
     }
 
     fn join_cond_line(&mut self, cond: usize, thread: usize) -> Result<(), CoreFault>
-        requires { IsCond (world_of self.old) cond }
-        ensures ok { let w = world_of self.old in
+        requires { IsCond (state_of self.old) cond }
+        ensures ok { let w = state_of self.old in
             let line = w.conds.line cond ++ thread ∷ [] in
-            OnOk result (world_of self.new ≡ with_cond_line w cond line) }
+            OnOk result (state_of self.new ≡ with_cond_line w cond line) }
         ensures err { IfErr result (λ e. e ≡ NoMemory) }
-        ensures unchanged { OnErr result (world_of self.new ≡ world_of self.old) }
+        ensures unchanged { OnErr result (state_of self.new ≡ state_of self.old) }
     {
         self.cond_lines
             .push(cond, thread)
@@ -47,20 +47,20 @@ impl State {
     }
 
     fn dequeue_waiting(&mut self, cond: usize, count: usize) -> usize
-        requires { IsCond (world_of self.old) cond }
-        ensures count { result ≡ dequeued_count count ((world_of self.old).conds.line cond) }
-        ensures rest { world_of self.new ≡
-            record (world_of self.old) { conds = dequeued (world_of self.old).conds cond count } }
+        requires { IsCond (state_of self.old) cond }
+        ensures count { result ≡ dequeued_count count ((state_of self.old).conds.line cond) }
+        ensures rest { state_of self.new ≡
+            record (state_of self.old) { conds = dequeued (state_of self.old).conds cond count } }
     {
         self.cond_lines.dequeue(cond, count)
     }
 
     // The first `count` of the condition's line are called.
     fn call_first(&mut self, cond: usize, count: usize, more: bool) -> usize
-        requires { IsCond (world_of self.old) cond }
-        ensures count { result ≡ dequeued_count count ((world_of self.old).conds.line cond) }
-        ensures state { world_of self.new ≡
-            record (world_of self.old) { conds = called (world_of self.old).conds cond count more } }
+        requires { IsCond (state_of self.old) cond }
+        ensures count { result ≡ dequeued_count count ((state_of self.old).conds.line cond) }
+        ensures state { state_of self.new ≡
+            record (state_of self.old) { conds = called (state_of self.old).conds cond count more } }
     {
         if !more || self.cond_lines.is_empty(cond) {
             self.set_flag(cond, false);
@@ -79,16 +79,16 @@ fn is_call_count(count: usize) -> bool
 #[tactic(auto)]
 impl State {
     ghost use Rattle.lot_core.specs.Steps.{IsThread, IsCond, SaysMoreBehind, Allowed};
-    ghost use Rattle.lot_core.specs.State.{world_of};
+    ghost use Rattle.lot_core.specs.State.{state_of};
 
     fn is_at_cond(&self, thread: usize, cond: usize) -> bool
-        ensures { IsTrue result ↔ (IsThread (world_of self.now) thread × IsCond (world_of self.now) cond) }
+        ensures { IsTrue result ↔ (IsThread (state_of self.now) thread × IsCond (state_of self.now) cond) }
     {
         self.is_thread(thread) && self.is_cond(cond)
     }
 
     pub(crate) fn is_sweeping(&self, thread: usize, cond: usize) -> bool
-        ensures { IsTrue result ↔ ((world_of self.now).point thread ≡ Sweeps cond) }
+        ensures { IsTrue result ↔ ((state_of self.now).point thread ≡ Sweeps cond) }
     {
         match self.point(thread) {
             Point::Sweeps { cond: swept } => swept == cond,
@@ -97,14 +97,14 @@ impl State {
     }
 
     fn cond_says_more(&self, cond: usize, count: usize, more: bool) -> bool
-        requires { IsCond (world_of self.now) cond }
-        ensures { IsTrue result ↔ SaysMoreBehind count ((world_of self.now).conds.line cond) more }
+        requires { IsCond (state_of self.now) cond }
+        ensures { IsTrue result ↔ SaysMoreBehind count ((state_of self.now).conds.line cond) more }
     {
         more || self.cond_lines.len(cond) <= count
     }
 
     fn may_enlist(&self, thread: usize, cond: usize, lock: usize) -> bool
-        ensures { IsTrue result ↔ Allowed (world_of self.now) (Event.Enlist thread cond lock) }
+        ensures { IsTrue result ↔ Allowed (state_of self.now) (Event.Enlist thread cond lock) }
     {
         if !self.is_at_cond(thread, cond) || !self.is_lock(lock) {
             return false;
@@ -113,7 +113,7 @@ impl State {
     }
 
     fn may_call(&self, thread: usize, cond: usize, count: usize, more: bool) -> bool
-        ensures { IsTrue result ↔ Allowed (world_of self.now) (Event.Call thread cond count more) }
+        ensures { IsTrue result ↔ Allowed (state_of self.now) (Event.Call thread cond count more) }
     {
         if !self.is_at_cond(thread, cond) || !self.is_calm(thread) {
             return false;
@@ -125,7 +125,7 @@ impl State {
 // The events.
 #[tactic(auto)]
 impl State {
-    ghost use Rattle.lot_core.specs.State.{world_of, Answers};
+    ghost use Rattle.lot_core.specs.State.{state_of, Answers};
 
     pub(super) fn enlist(
         &mut self,
@@ -133,7 +133,7 @@ impl State {
         cond: usize,
         lock: usize,
     ) -> Result<Seen, CoreFault>
-        ensures { Answers (world_of self.old) (Event.Enlist thread cond lock) result (world_of self.new) }
+        ensures { Answers (state_of self.old) (Event.Enlist thread cond lock) result (state_of self.new) }
     {
         if !self.may_enlist(thread, cond, lock) {
             return Err(CoreFault::NotEnabled);
@@ -145,7 +145,7 @@ impl State {
     }
 
     pub(super) fn look(&self, thread: usize, cond: usize) -> Result<Seen, CoreFault>
-        ensures { Answers (world_of self.now) (Event.Look thread cond) result (world_of self.now) }
+        ensures { Answers (state_of self.now) (Event.Look thread cond) result (state_of self.now) }
     {
         if !self.is_at_cond(thread, cond) || !self.is_calm(thread) {
             return Err(CoreFault::NotEnabled);
@@ -160,7 +160,7 @@ impl State {
         count: usize,
         more: bool,
     ) -> Result<Seen, CoreFault>
-        ensures { Answers (world_of self.old) (Event.Call thread cond count more) result (world_of self.new) }
+        ensures { Answers (state_of self.old) (Event.Call thread cond count more) result (state_of self.new) }
     {
         if !self.may_call(thread, cond, count, more) {
             return Err(CoreFault::NotEnabled);
@@ -169,7 +169,7 @@ impl State {
     }
 
     pub(super) fn lower(&mut self, thread: usize, cond: usize) -> Result<Seen, CoreFault>
-        ensures { Answers (world_of self.old) (Event.Lower thread cond) result (world_of self.new) }
+        ensures { Answers (state_of self.old) (Event.Lower thread cond) result (state_of self.new) }
     {
         if !self.is_at_cond(thread, cond) || !self.is_calm(thread) {
             return Err(CoreFault::NotEnabled);
@@ -180,7 +180,7 @@ impl State {
     }
 
     pub(super) fn sweep(&mut self, thread: usize, cond: usize) -> Result<Seen, CoreFault>
-        ensures { Answers (world_of self.old) (Event.Sweep thread cond) result (world_of self.new) }
+        ensures { Answers (state_of self.old) (Event.Sweep thread cond) result (state_of self.new) }
     {
         if !self.is_at_cond(thread, cond) || !self.is_sweeping(thread, cond) {
             return Err(CoreFault::NotEnabled);

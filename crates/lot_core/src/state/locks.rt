@@ -11,31 +11,31 @@ use lot_events::{Point, Seen};
 impl State {
     ghost use Rattle.lot_core.specs.Steps.{IsLock, got, passed, first};
     ghost use Rattle.lot_core.specs.Printed.{owner_of};
-    ghost use Rattle.lot_core.specs.State.{world_of, with_owner, with_parked, with_lock_line};
+    ghost use Rattle.lot_core.specs.State.{state_of, with_owner, with_parked, with_lock_line};
 
     pub(crate) fn is_lock(&self, key: usize) -> bool
-        ensures { IsTrue result ↔ IsLock (world_of self.now) key }
+        ensures { IsTrue result ↔ IsLock (state_of self.now) key }
     {
         key < self.locks
     }
 
     pub(crate) fn is_parked(&self, lock: usize) -> bool
-        requires { IsLock (world_of self.now) lock }
-        ensures { result ≡ (world_of self.now).locks.parked lock }
+        requires { IsLock (state_of self.now) lock }
+        ensures { result ≡ (state_of self.now).locks.parked lock }
     {
         self.parked[lock]
     }
 
     pub(crate) fn is_held(&self, lock: usize) -> bool
-        requires { IsLock (world_of self.now) lock }
-        ensures { result ≡ (world_of self.now).locks.held lock }
+        requires { IsLock (state_of self.now) lock }
+        ensures { result ≡ (state_of self.now).locks.held lock }
     {
         self.owners[lock].is_some()
     }
 
     pub(super) fn has(&self, lock: usize, thread: usize) -> bool
-        requires { IsLock (world_of self.now) lock }
-        ensures { result ≡ (world_of self.now).locks.has lock thread }
+        requires { IsLock (state_of self.now) lock }
+        ensures { result ≡ (state_of self.now).locks.has lock thread }
     {
         match self.owners[lock] {
             None => false,
@@ -45,8 +45,8 @@ impl State {
 
     // The thread that has the lock, if it is one of the state's.
     pub(crate) fn owner(&self, lock: usize) -> Option<usize>
-        requires { IsLock (world_of self.now) lock }
-        ensures { result ≡ owner_of (world_of self.now) lock }
+        requires { IsLock (state_of self.now) lock }
+        ensures { result ≡ owner_of (state_of self.now) lock }
     {
         match self.owners[lock] {
             Some(owner) if owner < self.threads => Some(owner),
@@ -55,24 +55,24 @@ impl State {
     }
 
     fn set_parked(&mut self, lock: usize, parked: bool)
-        requires { IsLock (world_of self.old) lock }
-        ensures { world_of self.new ≡ with_parked (world_of self.old) lock parked }
+        requires { IsLock (state_of self.old) lock }
+        ensures { state_of self.new ≡ with_parked (state_of self.old) lock parked }
     {
         self.parked[lock] = parked;
     }
 
     fn set_owner(&mut self, lock: usize, owner: Option<usize>)
-        requires { IsLock (world_of self.old) lock }
-        ensures { world_of self.new ≡ with_owner (world_of self.old) lock owner }
+        requires { IsLock (state_of self.old) lock }
+        ensures { state_of self.new ≡ with_owner (state_of self.old) lock owner }
     {
         self.owners[lock] = owner;
     }
 
     fn get(&mut self, thread: usize, lock: usize) -> bool
-        requires { IsLock (world_of self.old) lock }
-        ensures answer { result ≡ not ((world_of self.old).locks.held lock) }
-        ensures state { world_of self.new ≡
-            record (world_of self.old) { locks = got (world_of self.old).locks thread lock } }
+        requires { IsLock (state_of self.old) lock }
+        ensures answer { result ≡ not ((state_of self.old).locks.held lock) }
+        ensures state { state_of self.new ≡
+            record (state_of self.old) { locks = got (state_of self.old).locks thread lock } }
     {
         if self.is_held(lock) {
             return false;
@@ -82,12 +82,12 @@ impl State {
     }
 
     fn join_lock_line(&mut self, lock: usize, thread: usize) -> Result<(), CoreFault>
-        requires { IsLock (world_of self.old) lock }
-        ensures ok { let w = world_of self.old in
+        requires { IsLock (state_of self.old) lock }
+        ensures ok { let w = state_of self.old in
             let line = w.locks.line lock ++ thread ∷ [] in
-            OnOk result (world_of self.new ≡ with_lock_line w lock line) }
+            OnOk result (state_of self.new ≡ with_lock_line w lock line) }
         ensures err { IfErr result (λ e. e ≡ NoMemory) }
-        ensures unchanged { OnErr result (world_of self.new ≡ world_of self.old) }
+        ensures unchanged { OnErr result (state_of self.new ≡ state_of self.old) }
     {
         self.lock_lines
             .push(lock, thread)
@@ -95,21 +95,21 @@ impl State {
     }
 
     fn leave_lock_line(&mut self, lock: usize) -> Option<usize>
-        requires { IsLock (world_of self.old) lock }
-        ensures first { result ≡ first ((world_of self.old).locks.line lock) }
-        ensures rest { let w = world_of self.old in
-            world_of self.new ≡ with_lock_line w lock (drop 1 (w.locks.line lock)) }
+        requires { IsLock (state_of self.old) lock }
+        ensures first { result ≡ first ((state_of self.old).locks.line lock) }
+        ensures rest { let w = state_of self.old in
+            state_of self.new ≡ with_lock_line w lock (drop 1 (w.locks.line lock)) }
     {
         self.lock_lines.take_first(lock)
     }
 
     // Who has the lock passes it on: to the first of its line where the pass is fair.
     fn pass_on(&mut self, thread: usize, lock: usize, fair: bool, more: bool) -> Option<usize>
-        requires lock { IsLock (world_of self.old) lock }
-        requires owner { (world_of self.old).locks.has lock thread ≡ true }
-        ensures first { result ≡ first ((world_of self.old).locks.line lock) }
-        ensures state { let w = world_of self.old in
-            world_of self.new ≡ record w { locks = passed w.locks thread lock fair more } }
+        requires lock { IsLock (state_of self.old) lock }
+        requires owner { (state_of self.old).locks.has lock thread ≡ true }
+        ensures first { result ≡ first ((state_of self.old).locks.line lock) }
+        ensures state { let w = state_of self.old in
+            state_of self.new ≡ record w { locks = passed w.locks thread lock fair more } }
     {
         let first = self.leave_lock_line(lock);
         if fair && first.is_some() {
@@ -126,16 +126,16 @@ impl State {
 #[tactic(auto)]
 impl State {
     ghost use Rattle.lot_core.specs.Steps.{IsThread, IsLock, IsTrying, SaysMore, Allowed};
-    ghost use Rattle.lot_core.specs.State.{world_of};
+    ghost use Rattle.lot_core.specs.State.{state_of};
 
     fn is_at_lock(&self, thread: usize, lock: usize) -> bool
-        ensures { IsTrue result ↔ (IsThread (world_of self.now) thread × IsLock (world_of self.now) lock) }
+        ensures { IsTrue result ↔ (IsThread (state_of self.now) thread × IsLock (state_of self.now) lock) }
     {
         self.is_thread(thread) && self.is_lock(lock)
     }
 
     pub(crate) fn is_trying(&self, thread: usize, lock: usize) -> bool
-        ensures { IsTrue result ↔ IsTrying (world_of self.now) thread lock }
+        ensures { IsTrue result ↔ IsTrying (state_of self.now) thread lock }
     {
         match self.point(thread) {
             Point::Wants { lock: wanted } => {
@@ -149,7 +149,7 @@ impl State {
     }
 
     pub(crate) fn is_wanting(&self, thread: usize, lock: usize) -> bool
-        ensures { IsTrue result ↔ ((world_of self.now).point thread ≡ Wants lock) }
+        ensures { IsTrue result ↔ ((state_of self.now).point thread ≡ Wants lock) }
     {
         match self.point(thread) {
             Point::Wants { lock: wanted } => wanted == lock,
@@ -159,26 +159,26 @@ impl State {
 
     // Others may wait behind the first, unless nobody does.
     fn lock_says_more(&self, lock: usize, more: bool) -> bool
-        requires { IsLock (world_of self.now) lock }
-        ensures { IsTrue result ↔ SaysMore ((world_of self.now).locks.line lock) more }
+        requires { IsLock (state_of self.now) lock }
+        ensures { IsTrue result ↔ SaysMore ((state_of self.now).locks.line lock) more }
     {
         more || self.lock_lines.len(lock) < 2
     }
 
     fn may_take(&self, thread: usize, lock: usize) -> bool
-        ensures { IsTrue result ↔ Allowed (world_of self.now) (Event.Take thread lock) }
+        ensures { IsTrue result ↔ Allowed (state_of self.now) (Event.Take thread lock) }
     {
         self.is_at_lock(thread, lock) && (self.is_calm(thread) || self.is_trying(thread, lock))
     }
 
     fn may_mark(&self, thread: usize, lock: usize) -> bool
-        ensures { IsTrue result ↔ Allowed (world_of self.now) (Event.Mark thread lock) }
+        ensures { IsTrue result ↔ Allowed (state_of self.now) (Event.Mark thread lock) }
     {
         self.is_at_lock(thread, lock) && self.is_trying(thread, lock) && self.is_held(lock)
     }
 
     fn may_park(&self, thread: usize, lock: usize) -> bool
-        ensures { IsTrue result ↔ Allowed (world_of self.now) (Event.Park thread lock) }
+        ensures { IsTrue result ↔ Allowed (state_of self.now) (Event.Park thread lock) }
     {
         self.is_at_lock(thread, lock)
             && self.is_wanting(thread, lock)
@@ -186,13 +186,13 @@ impl State {
     }
 
     fn may_free(&self, thread: usize, lock: usize) -> bool
-        ensures { IsTrue result ↔ Allowed (world_of self.now) (Event.Free thread lock) }
+        ensures { IsTrue result ↔ Allowed (state_of self.now) (Event.Free thread lock) }
     {
         self.is_at_lock(thread, lock) && self.has(lock, thread) && self.may_let_go(thread, lock)
     }
 
     fn may_pass(&self, thread: usize, lock: usize, fair: bool, more: bool) -> bool
-        ensures { IsTrue result ↔ Allowed (world_of self.now) (Event.Pass thread lock fair more) }
+        ensures { IsTrue result ↔ Allowed (state_of self.now) (Event.Pass thread lock fair more) }
     {
         if !self.may_free(thread, lock) || !self.is_parked(lock) {
             return false;
@@ -204,10 +204,10 @@ impl State {
 // The events.
 #[tactic(auto)]
 impl State {
-    ghost use Rattle.lot_core.specs.State.{world_of, Answers};
+    ghost use Rattle.lot_core.specs.State.{state_of, Answers};
 
     pub(super) fn try_take(&mut self, thread: usize, lock: usize) -> Result<Seen, CoreFault>
-        ensures { Answers (world_of self.old) (Event.Try thread lock) result (world_of self.new) }
+        ensures { Answers (state_of self.old) (Event.Try thread lock) result (state_of self.new) }
     {
         if !self.is_at_lock(thread, lock) || !self.is_calm(thread) {
             return Err(CoreFault::NotEnabled);
@@ -216,7 +216,7 @@ impl State {
     }
 
     pub(super) fn take(&mut self, thread: usize, lock: usize) -> Result<Seen, CoreFault>
-        ensures { Answers (world_of self.old) (Event.Take thread lock) result (world_of self.new) }
+        ensures { Answers (state_of self.old) (Event.Take thread lock) result (state_of self.new) }
     {
         if !self.may_take(thread, lock) {
             return Err(CoreFault::NotEnabled);
@@ -232,7 +232,7 @@ impl State {
     }
 
     pub(super) fn mark(&mut self, thread: usize, lock: usize) -> Result<Seen, CoreFault>
-        ensures { Answers (world_of self.old) (Event.Mark thread lock) result (world_of self.new) }
+        ensures { Answers (state_of self.old) (Event.Mark thread lock) result (state_of self.new) }
     {
         if !self.may_mark(thread, lock) {
             return Err(CoreFault::NotEnabled);
@@ -242,7 +242,7 @@ impl State {
     }
 
     pub(super) fn park(&mut self, thread: usize, lock: usize) -> Result<Seen, CoreFault>
-        ensures { Answers (world_of self.old) (Event.Park thread lock) result (world_of self.new) }
+        ensures { Answers (state_of self.old) (Event.Park thread lock) result (state_of self.new) }
     {
         if !self.may_park(thread, lock) {
             return Err(CoreFault::NotEnabled);
@@ -256,7 +256,7 @@ impl State {
 
     #[tactic(auto, using(crate::proofs::Passes::owns_left))]
     pub(super) fn free(&mut self, thread: usize, lock: usize) -> Result<Seen, CoreFault>
-        ensures { Answers (world_of self.old) (Event.Free thread lock) result (world_of self.new) }
+        ensures { Answers (state_of self.old) (Event.Free thread lock) result (state_of self.new) }
     {
         if !self.may_free(thread, lock) {
             return Err(CoreFault::NotEnabled);
@@ -276,7 +276,7 @@ impl State {
         fair: bool,
         more: bool,
     ) -> Result<Seen, CoreFault>
-        ensures { Answers (world_of self.old) (Event.Pass thread lock fair more) result (world_of self.new) }
+        ensures { Answers (state_of self.old) (Event.Pass thread lock fair more) result (state_of self.new) }
     {
         if !self.may_pass(thread, lock, fair, more) {
             return Err(CoreFault::NotEnabled);

@@ -19,8 +19,8 @@ fn is_within_limits(threads: usize, locks: usize, conds: usize, sems: usize) -> 
 
 #[tactic(auto)]
 impl State {
-    ghost use Rattle.lot_core.specs.World.{opening_with};
-    ghost use Rattle.lot_core.specs.State.{world_of, Opens, OpensWith};
+    ghost use Rattle.lot_core.specs.Model.{opening_with};
+    ghost use Rattle.lot_core.specs.State.{state_of, Opens, OpensWith};
 
     fn at_rest(
         alloc: Global,
@@ -30,7 +30,7 @@ impl State {
         permits: &[u32],
     ) -> Result<State, AllocError>
         requires { Limits threads locks conds (length permits.now) }
-        ensures { IfOk result (λ s. world_of s ≡ opening_with threads locks conds permits.now) }
+        ensures { IfOk result (λ s. state_of s ≡ opening_with threads locks conds permits.now) }
     {
         Ok(State {
             threads,

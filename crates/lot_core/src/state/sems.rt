@@ -11,16 +11,16 @@ use lot_events::{Point, Seen};
 #[tactic(auto)]
 impl State {
     ghost use Rattle.lot_core.specs.Steps.{IsThread, IsSemaphore, IsSeeking, Allowed};
-    ghost use Rattle.lot_core.specs.State.{world_of};
+    ghost use Rattle.lot_core.specs.State.{state_of};
 
     fn is_at_semaphore(&self, thread: usize, sem: usize) -> bool
-        ensures { IsTrue result ↔ (IsThread (world_of self.now) thread × IsSemaphore (world_of self.now) sem) }
+        ensures { IsTrue result ↔ (IsThread (state_of self.now) thread × IsSemaphore (state_of self.now) sem) }
     {
         self.is_thread(thread) && self.sems.has(sem)
     }
 
     pub(crate) fn seeks(&self, thread: usize, sem: usize) -> bool
-        ensures { IsTrue result ↔ ((world_of self.now).point thread ≡ Seeks sem) }
+        ensures { IsTrue result ↔ ((state_of self.now).point thread ≡ Seeks sem) }
     {
         match self.point(thread) {
             Point::Seeks { sem: sought } => sought == sem,
@@ -29,31 +29,31 @@ impl State {
     }
 
     pub(crate) fn is_seeking(&self, thread: usize, sem: usize) -> bool
-        ensures { IsTrue result ↔ IsSeeking (world_of self.now) thread sem }
+        ensures { IsTrue result ↔ IsSeeking (state_of self.now) thread sem }
     {
         self.seeks(thread, sem) && !self.sems.lines.contains(sem, thread)
     }
 
     fn may_sem_take(&self, thread: usize, sem: usize) -> bool
-        ensures { IsTrue result ↔ Allowed (world_of self.now) (Event.SemTake thread sem) }
+        ensures { IsTrue result ↔ Allowed (state_of self.now) (Event.SemTake thread sem) }
     {
         self.is_at_semaphore(thread, sem) && (self.is_calm(thread) || self.is_seeking(thread, sem))
     }
 
     fn may_sem_mark(&self, thread: usize, sem: usize) -> bool
-        ensures { IsTrue result ↔ Allowed (world_of self.now) (Event.SemMark thread sem) }
+        ensures { IsTrue result ↔ Allowed (state_of self.now) (Event.SemMark thread sem) }
     {
         self.may_sem_park(thread, sem) && self.sems.left(sem) == 0
     }
 
     fn may_sem_park(&self, thread: usize, sem: usize) -> bool
-        ensures { IsTrue result ↔ Allowed (world_of self.now) (Event.SemPark thread sem) }
+        ensures { IsTrue result ↔ Allowed (state_of self.now) (Event.SemPark thread sem) }
     {
         self.is_at_semaphore(thread, sem) && self.is_seeking(thread, sem)
     }
 
     fn may_sem_free(&self, thread: usize, sem: usize) -> bool
-        ensures { IsTrue result ↔ Allowed (world_of self.now) (Event.SemFree thread sem) }
+        ensures { IsTrue result ↔ Allowed (state_of self.now) (Event.SemFree thread sem) }
     {
         if !self.is_at_semaphore(thread, sem) {
             return false;
@@ -62,13 +62,13 @@ impl State {
     }
 
     fn may_sem_pass(&self, thread: usize, sem: usize, more: bool) -> bool
-        ensures { IsTrue result ↔ Allowed (world_of self.now) (Event.SemPass thread sem more) }
+        ensures { IsTrue result ↔ Allowed (state_of self.now) (Event.SemPass thread sem more) }
     {
         self.may_sem_free(thread, sem) && (more || self.sems.lines.len(sem) < 2)
     }
 
     fn may_sem_clear(&self, thread: usize, sem: usize) -> bool
-        ensures { IsTrue result ↔ Allowed (world_of self.now) (Event.SemClear thread sem) }
+        ensures { IsTrue result ↔ Allowed (state_of self.now) (Event.SemClear thread sem) }
     {
         if !self.is_at_semaphore(thread, sem) {
             return false;
@@ -80,10 +80,10 @@ impl State {
 // The events.
 #[tactic(auto)]
 impl State {
-    ghost use Rattle.lot_core.specs.State.{world_of, Answers};
+    ghost use Rattle.lot_core.specs.State.{state_of, Answers};
 
     pub(super) fn sem_take(&mut self, thread: usize, sem: usize) -> Result<Seen, CoreFault>
-        ensures { Answers (world_of self.old) (Event.SemTake thread sem) result (world_of self.new) }
+        ensures { Answers (state_of self.old) (Event.SemTake thread sem) result (state_of self.new) }
     {
         if !self.may_sem_take(thread, sem) {
             return Err(CoreFault::NotEnabled);
@@ -99,7 +99,7 @@ impl State {
     }
 
     pub(super) fn sem_mark(&mut self, thread: usize, sem: usize) -> Result<Seen, CoreFault>
-        ensures { Answers (world_of self.old) (Event.SemMark thread sem) result (world_of self.new) }
+        ensures { Answers (state_of self.old) (Event.SemMark thread sem) result (state_of self.new) }
     {
         if !self.may_sem_mark(thread, sem) {
             return Err(CoreFault::NotEnabled);
@@ -109,7 +109,7 @@ impl State {
     }
 
     pub(super) fn sem_park(&mut self, thread: usize, sem: usize) -> Result<Seen, CoreFault>
-        ensures { Answers (world_of self.old) (Event.SemPark thread sem) result (world_of self.new) }
+        ensures { Answers (state_of self.old) (Event.SemPark thread sem) result (state_of self.new) }
     {
         if !self.may_sem_park(thread, sem) {
             return Err(CoreFault::NotEnabled);
@@ -124,7 +124,7 @@ impl State {
     }
 
     pub(super) fn sem_free(&mut self, thread: usize, sem: usize) -> Result<Seen, CoreFault>
-        ensures { Answers (world_of self.old) (Event.SemFree thread sem) result (world_of self.new) }
+        ensures { Answers (state_of self.old) (Event.SemFree thread sem) result (state_of self.new) }
     {
         if !self.may_sem_free(thread, sem) {
             return Err(CoreFault::NotEnabled);
@@ -142,7 +142,7 @@ impl State {
         sem: usize,
         more: bool,
     ) -> Result<Seen, CoreFault>
-        ensures { Answers (world_of self.old) (Event.SemPass thread sem more) result (world_of self.new) }
+        ensures { Answers (state_of self.old) (Event.SemPass thread sem more) result (state_of self.new) }
     {
         if !self.may_sem_pass(thread, sem, more) {
             return Err(CoreFault::NotEnabled);
@@ -151,7 +151,7 @@ impl State {
     }
 
     pub(super) fn sem_clear(&mut self, thread: usize, sem: usize) -> Result<Seen, CoreFault>
-        ensures { Answers (world_of self.old) (Event.SemClear thread sem) result (world_of self.new) }
+        ensures { Answers (state_of self.old) (Event.SemClear thread sem) result (state_of self.new) }
     {
         if !self.may_sem_clear(thread, sem) {
             return Err(CoreFault::NotEnabled);

@@ -1,5 +1,5 @@
 use Rattle.lot_core.proofs.Law.{runs_are_sound}
-use Rattle.lot_core.specs.World.{opening_with}
+use Rattle.lot_core.specs.Model.{opening_with}
 use Rattle.lot_core.specs.Steps.{after_all}
 use Rattle.lot_order.proofs.Progress.{goes_on}
 use Rattle.lot_order.proofs.Orderly.{event_ordered, run_ordered}

@@ -1,4 +1,4 @@
-use Rattle.lot_core.specs.World.{opening_with}
+use Rattle.lot_core.specs.Model.{opening_with}
 use Rattle.lot_core.proofs.Law.{opening_sound}
 use Rattle.lot_regions.specs.Watch.{opening_watch}
 use Rattle.lot_regions.proofs.Watching.{opening_watched, watch_kept, none_forgotten, run_watched}

@@ -1,7 +1,7 @@
 use Rattle.std.proofs.Common.{◌-◌, ℕ, Bool, subst, sym, ap}
 use Rattle.lot_sync.specs.Lot.{PassView}
-use Rattle.lot_sync.specs.Words.{Adds}
-use Rattle.lot_regions.specs.Words.{ChangeWord}
+use Rattle.lot_sync.specs.Traces.{Adds}
+use Rattle.lot_regions.specs.Traces.{ChangeTrace}
 use Rattle.lot_regions.specs.Regions.{HasGot}
 use Rattle.lot_regions.proofs.Leaving.{got_at_once, region, back, change_made}
 use Rattle.lot_regions.proofs.region.change.Goals as goal
@@ -27,11 +27,12 @@ returns-clause-visits g c =
       c.work-outcome.ensures,
       region g.V.Keeps p c.args.key found.now left.now q got may held.key gets.key_is c.leave.result (c.requires.free.no_lock c.args.key)
           c.leave.ensures.left c.leave.ensures.seen,
-      subst (λ f. Adds p.made (ChangeWord told p.thread c.args.key c.args.moment.now f (g.V.Ready.behind c.args.key - f))
+      subst (λ f. Adds p.made (ChangeTrace told p.thread c.args.key c.args.moment.now f (g.V.Ready.behind c.args.key - f))
           c.leave.result.made)
           c.first_of-first.ensures
           (subst (λ b. Adds p.made
-          (ChangeWord told p.thread c.args.key c.args.moment.now c.first_of-first.result (b - c.first_of-first.result)) c.leave.result.made)
+          (ChangeTrace told p.thread c.args.key c.args.moment.now c.first_of-first.result
+          (b - c.first_of-first.result)) c.leave.result.made)
           c.behind_of-behind.ensures made),
     )
 

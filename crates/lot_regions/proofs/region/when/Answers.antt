@@ -1,8 +1,8 @@
 use Rattle.std.proofs.Common.{◌≡◌, ◌-◌, ℕ, Bool, true, rules, subst, sym, ap, ◌∙◌}
 use Rattle.lot_sync.specs.Lot.{PassView}
-use Rattle.lot_sync.specs.Words.{Adds}
+use Rattle.lot_sync.specs.Traces.{Adds}
 use Rattle.lot_sync.proofs.Below.{none_below, got_waits}
-use Rattle.lot_regions.specs.Words.{WhenWord}
+use Rattle.lot_regions.specs.Traces.{WhenTrace}
 use Rattle.lot_regions.specs.Regions.{HasGot}
 use Rattle.lot_regions.proofs.Leaving.{got_after_waits, region, back, got_after_made, when_made}
 use Rattle.lot_regions.proofs.region.when.Goals as goal
@@ -49,11 +49,11 @@ returns-clause-visits g c =
       (
         waits.count,
         subst (λ f. Adds p.made
-            (WhenWord told p.thread c.args.cond waits.count c.args.key c.args.moment.now f (g.V.Ready.behind c.args.key - f))
+            (WhenTrace told p.thread c.args.cond waits.count c.args.key c.args.moment.now f (g.V.Ready.behind c.args.key - f))
             c.leave.result.made)
             c.first_of-first.ensures
             (subst (λ b. Adds p.made
-            (WhenWord told p.thread c.args.cond waits.count c.args.key c.args.moment.now c.first_of-first.result
+            (WhenTrace told p.thread c.args.cond waits.count c.args.key c.args.moment.now c.first_of-first.result
             (b - c.first_of-first.result))
             c.leave.result.made) c.behind_of-behind.ensures made),
       ),

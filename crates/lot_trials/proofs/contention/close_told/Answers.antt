@@ -13,5 +13,6 @@ returns-clause-told g c =
       λ key x at.
           let near = slice_get_within c.close_counted-counts.result.2.items key x at in
           let root = there counted.0.roots key (omega (arith, near, counted.1.each)) in
-          (counted.1.tell key x root.0 at root.1).taken_are,
+          let tells = counted.1.tell key x root.0 at root.1 in
+          (tells.parked_are, tells.taken_are),
     )

@@ -1,7 +1,7 @@
 use Rattle.std.proofs.Common.{refl}
 use Rattle.lot_witness.specs.Judging.{events_of}
 use Rattle.lot_witness.proofs.Runs.{is_run}
-use Rattle.lot_core.specs.World.{opening_with}
+use Rattle.lot_core.specs.Model.{opening_with}
 use Rattle.lot_witness.proofs.laws.a_witness_is_a_run.Goals as goal
 
 pub returns-clause-run : goal.returns-clause-run

@@ -1,7 +1,7 @@
 use Rattle.std.proofs.Common.{◌≡◌, suc, ◌%◌, false, is_some, refl, rules, subst, ap, arith}
-use Rattle.lot_scheme.specs.Words.{TryWord}
+use Rattle.lot_scheme.specs.Traces.{TryTrace}
 use Rattle.lot_sync.specs.Lot.{PassView}
-use Rattle.lot_sync.specs.Words.{Adds}
+use Rattle.lot_sync.specs.Traces.{Adds}
 use Rattle.gallery.proofs.Trying.{none_tried, one_tried}
 use Rattle.gallery.proofs.connections.Pool.take_out.Goals as goal
 use Rattle.gallery.proofs.connections.Pool.take_out.Goals.{then-key-lt-CONNECTIONS, else-key-lt-CONNECTIONS}
@@ -18,9 +18,9 @@ loop-preserved g c =
     let mid = c.loop.pass.made in
     let after = c.try_lock-tried.result.0.made in
     let t = c.args.pass.thread in
-    let vain : Adds mid (TryWord t c.loop.key false) after =
-    subst (λ b. Adds mid (TryWord t c.loop.key b) after) none
-    (subst (λ u. Adds mid (TryWord u c.loop.key (is_some c.try_lock-tried.result.1)) after) (ap (λ (p : PassView _). p.thread) same)
+    let vain : Adds mid (TryTrace t c.loop.key false) after =
+    subst (λ b. Adds mid (TryTrace t c.loop.key b) after) none
+    (subst (λ u. Adds mid (TryTrace u c.loop.key (is_some c.try_lock-tried.result.1)) after) (ap (λ (p : PassView _). p.thread) same)
     c.try_lock-tried.ensures.made) in
     let next : c.if-key-lt-CONNECTIONS.key ≡ suc n % 2 =
     elim c.if-key-lt-CONNECTIONS.branch [ then-key-lt-CONNECTIONS w ↦ omega arith | else-key-lt-CONNECTIONS w ↦ omega arith ] in

@@ -1,5 +1,5 @@
 use Rattle.std.proofs.Common.{◌≡◌, drop}
-use Rattle.lot_core.specs.World.{put}
+use Rattle.lot_core.specs.Model.{put}
 use Rattle.lot_core.specs.Lines.{line_of, KeepsKeys}
 use Rattle.lot_core.proofs.lines.Lines.dequeue.Given as goal
 

@@ -1,6 +1,6 @@
 use Rattle.std.proofs.Common.{◌≡◌, ◌+◌, ap, arith}
 use Rattle.lot_core.specs.Sums.{bit}
-use Rattle.lot_core.specs.State.{world_of}
+use Rattle.lot_core.specs.State.{state_of}
 use Rattle.lot_core.proofs.Sums.{bit_le}
 use Rattle.lot_core.proofs.Soundness.{seeking_test, count_more}
 use Rattle.lot_core.proofs.state.State.seekers.Goals as goal
@@ -16,5 +16,5 @@ loop-thread-preserved c =
     ] in (
       omega (arith, bit_le c.is_seeking.result, more, so.0),
       count_more c.loop-thread.thread _ c.loop-thread.count _ c.is_seeking.result so.1
-          (seeking_test (world_of c.args.self.now) c.loop-thread.thread c.args.sem c.is_seeking.result c.is_seeking.ensures) more,
+          (seeking_test (state_of c.args.self.now) c.loop-thread.thread c.args.sem c.is_seeking.result c.is_seeking.ensures) more,
     )

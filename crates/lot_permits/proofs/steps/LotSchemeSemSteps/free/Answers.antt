@@ -12,10 +12,10 @@ freed : {V : Type 0} → (first_sem : ℕ) (p q : LotStanding V) (k : ℕ) (does
     → MatchBool does (GivesPermit p k Quiet q)
     (MayGiveBack first_sem q k × ((more : Bool) (became : Freed) (after : LotStanding V) → PassesPermit q k more became after
     → GivesPermit p k became after))
-freed first_sem p q k true may (did, word, is) = record { did = did; given = word; is = is }
-freed {V} first_sem p q k false may (did, word, is) = (
+freed first_sem p q k true may (did, trace, is) = record { did = did; given = trace; is = is }
+freed {V} first_sem p q k false may (did, trace, is) = (
   subst (λ (r : LotStanding V). MayGiveBack first_sem r k) (sym is) may,
-  λ more became after s. gives_after p q after k did word is more became s,
+  λ more became after s. gives_after p q after k did trace is more became s,
 )
 
 pub returns : goal.returns

@@ -4,8 +4,12 @@ use Rattle.lot_whole.specs.declared.views.LotRootView.{LotRootView}
 use Rattle.lot_scheme.specs.Roots.{owes_in}
 use Rattle.lot_scheme.specs.Standing.{LotStanding, standing}
 use Rattle.lot_scheme.specs.Counts.{HasCounted}
-use Rattle.lot_scheme.proofs.Counts.{has_counted}
+use Rattle.lot_scheme.proofs.Counts.{clear_owes, has_counted}
 use Rattle.lot_scheme.proofs.contention.LotSchemeContentionCountsKeys.count.Goals as goal
+
+pub count-pass-requires-clause-clear : goal.count-pass-requires-clause-clear
+count-pass-requires-clause-clear g c = clear_owes c.take_up-root.result.0.own
+    (ap (λ (r : RootShown LotRootView). owes_in r.own) c.take_up-root.ensures.same ∙ c.requires.clear)
 
 pub returns-clause-counts : goal.returns-clause-counts
 returns-clause-counts g c =

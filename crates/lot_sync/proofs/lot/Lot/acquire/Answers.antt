@@ -1,7 +1,7 @@
 use Rattle.std.proofs.Common.{sym, ap, subst, rules}
 use Rattle.lot_order.specs.Order.{AllBelow}
 use Rattle.lot_scheme.specs.Standing.{LotStanding}
-use Rattle.lot_scheme.specs.Words.{GetPermitWord}
+use Rattle.lot_scheme.specs.Traces.{GetPermitTrace}
 use Rattle.lot_sync.specs.Lot.{◌≈◌, one_permit_more, keys_of}
 use Rattle.lot_sync.specs.Passes.{pass_view_of}
 use Rattle.lot_sync.proofs.Below.{below}
@@ -24,7 +24,7 @@ returns-clause-pass g c =
 pub returns-clause-made : goal.returns-clause-made
 returns-clause-made g c =
     let got = c.acquire-right.ensures.gets in
-    adds_at (λ t. GetPermitWord t c.args.key) c.args.pass c.at_rest.result c.apart-right.result.0 c.acquire-right.result.0 got.did
+    adds_at (λ t. GetPermitTrace t c.args.key) c.args.pass c.at_rest.result c.apart-right.result.0 c.acquire-right.result.0 got.did
     c.apart-right.ensures.same c.at_rest.ensures.pass
     (ap (λ (r : LotStanding g.row.V.Denot). r.did) got.is) got.got
 

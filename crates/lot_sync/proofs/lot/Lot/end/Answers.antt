@@ -12,10 +12,11 @@ use Rattle.lot_waits.specs.Ledger.{IsLedger}
 use Rattle.lot_waits.proofs.Sums.{balanced_of}
 use Rattle.lot_sync.specs.Lot.{PassView, LotView, HasSeen, counts_of}
 use Rattle.lot_sync.specs.Passes.{pass_view_shown, IsFree}
-use Rattle.lot_rights.specs.History.{entries_of}
+use Rattle.lot_rights.specs.History.{entries_of, tokens_of}
 use Rattle.lot_sync.specs.Closing.{AreCounts}
 use Rattle.lot_sync.specs.Values.{GoesOnTo}
-use Rattle.lot_whole.specs.Order.{accesses_of}
+use Rattle.lot_whole.specs.Lot.{line_of_root, owed_by}
+use Rattle.lot_whole.specs.Order.{accesses_of, queued_in}
 use Rattle.lot_sync.proofs.Closes.{each_root, counted, goes_on, some_seen, each_own, counts_are}
 use Rattle.lot_sync.proofs.lot.Lot.end.Goals as goal
 
@@ -109,5 +110,9 @@ returns-clause-counted g c =
           (counts_are g.C.Tally.counts run.told.recounted.log c.self.inside.parking.keys before.items c.close-scheme.new.out.items
           c.copy_counts.new.counts.items c.close-scheme.ensures.roots none
           (subst (All (λ (q : RootShown LotRootView). q.made ≡ entries_of (2 * q.key + 1) run.told.recounted.log)) c.unname.ensures.same
-          run.told.recounted.roots_made) as_many c.copy_counts.ensures.counted),
+          run.told.recounted.roots_made)
+          (subst (All (λ (q : RootShown LotRootView). queued_in q.key run.told.recounted.log
+          ≡ length (tokens_of q.key run.told.recounted.log) + owed_by q.own + length
+          (line_of_root q.own))) c.unname.ensures.same run.told.queued)
+          as_many c.copy_counts.ensures.counted),
     )

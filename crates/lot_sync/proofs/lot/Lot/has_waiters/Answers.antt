@@ -1,7 +1,7 @@
 use Rattle.std.proofs.Common.{sym, ap, subst, refl}
 use Rattle.lot_scheme.specs.Standing.{LotStanding}
 use Rattle.lot_sync.specs.Lot.{◌≈◌}
-use Rattle.lot_sync.specs.Words.{LookWord}
+use Rattle.lot_sync.specs.Traces.{LookTrace}
 use Rattle.lot_sync.specs.Passes.{pass_view_of}
 use Rattle.lot_sync.proofs.Adding.{alike_at, adds_at}
 use Rattle.lot_sync.proofs.Rests.{sees_stays}
@@ -15,6 +15,6 @@ returns-clause-same g c =
 
 pub returns-clause-made : goal.returns-clause-made
 returns-clause-made g c =
-    adds_at (λ t. LookWord t c.args.cond c.has_waiters-right.result.1) c.args.pass c.at_rest.result c.apart-right.result.0
+    adds_at (λ t. LookTrace t c.args.cond c.has_waiters-right.result.1) c.args.pass c.at_rest.result c.apart-right.result.0
     c.has_waiters-right.result.0 _ c.apart-right.ensures.same
     c.at_rest.ensures.pass (ap (λ (r : LotStanding g.row.V.Denot). r.did) c.has_waiters-right.ensures.pass) refl

@@ -1,6 +1,6 @@
 use Rattle.std.proofs.Common.{sym, subst, ap, arith}
 use Rattle.lot_scheme.specs.Standing.{LotStanding}
-use Rattle.lot_scheme.specs.Words.{GetWord}
+use Rattle.lot_scheme.specs.Traces.{GetTrace}
 use Rattle.lot_locks.specs.Standing.{IsOwner}
 use Rattle.lot_locks.proofs.Seeking.{may_take, owner_on, has_found}
 use Rattle.lot_order.specs.Order.{AllBelow}
@@ -63,6 +63,6 @@ pub returns-clause-made : goal.returns-clause-made
 returns-clause-made g c =
     let before = c.apart-right.result.0 in
     let owner = got g (goal.at.returns-clause-made g c).Joined-found-eq-UNHELD in
-    adds_at (λ t. GetWord t c.args.key) c.args.pass c.taken.result.0 before c.if-found-eq-UNHELD.right owner.did
+    adds_at (λ t. GetTrace t c.args.key) c.args.pass c.taken.result.0 before c.if-found-eq-UNHELD.right owner.did
     c.apart-right.ensures.same c.taken.ensures.pass
     (ap (λ (r : LotStanding g.row.V.Denot). r.did) owner.is) owner.got

@@ -1,6 +1,6 @@
 use Rattle.std.proofs.Common.{inl, inr, sym, subst, ap, ◌∙◌, arith}
 use Rattle.lot_scheme.specs.Standing.{LotStanding}
-use Rattle.lot_scheme.specs.Words.{GetWord}
+use Rattle.lot_scheme.specs.Traces.{GetTrace}
 use Rattle.lot_locks.specs.Standing.{letters_in}
 use Rattle.lot_order.specs.Order.{AllBelow}
 use Rattle.lot_sync.specs.Lot.{PassView, keys_of}
@@ -34,7 +34,7 @@ returns-clause-gets g c =
 pub returns-clause-made : goal.returns-clause-made
 returns-clause-made g c =
     let got = c.get-right.ensures.owner in
-    adds_at (λ t. GetWord t c.args.key) c.args.pass c.taken.result.0 c.apart-right.result.0 c.get-right.result got.did
+    adds_at (λ t. GetTrace t c.args.key) c.args.pass c.taken.result.0 c.apart-right.result.0 c.get-right.result got.did
     c.apart-right.ensures.same c.taken.ensures.pass
     (ap (λ (r : LotStanding g.row.V.Denot). r.did) got.is) got.got
 

@@ -1,12 +1,12 @@
 use Rattle.std.proofs.Common.{arith}
 use Rattle.lot_waits.specs.Counts.{counts_in}
-use Rattle.lot_sync.specs.Words.{NotifyAllWord}
+use Rattle.lot_sync.specs.Traces.{NotifyAllTrace}
 use Rattle.lot_sync.proofs.Calls.{kept_called, took_all, rests_called, sees_more}
 use Rattle.lot_sync.proofs.lot.Lot.notify_all.Goals as goal
 
 pub at_rest-requires-clause-rest : goal.at_rest-requires-clause-rest
 at_rest-requires-clause-rest g c κs within =
-    rests_called _ _ (λ t. NotifyAllWord t c.args.cond c.notify_all-right.result.1) c.apart-right.result.0 c.notify_all-right.result.0
+    rests_called _ _ (λ t. NotifyAllTrace t c.args.cond c.notify_all-right.result.1) c.apart-right.result.0 c.notify_all-right.result.0
     c.args.cond c.notify_all-right.result.1
     (took_all c.apart-right.result.0 c.notify_all-right.result.0 c.args.cond c.notify_all-right.result.1 c.notify_all-right.ensures.pass)
     c.apart-right.ensures.rest
@@ -18,7 +18,7 @@ at_rest-requires-clause-kept g c κs within =
     let conds = c.parking.ensures.keys.1 in
     let from = c.requires.cond.0 in
     let below = c.requires.cond.1 in
-    kept_called g.N.LotName.locks _ g.N.LotName.conds (λ t. NotifyAllWord t c.args.cond c.notify_all-right.result.1)
+    kept_called g.N.LotName.locks _ g.N.LotName.conds (λ t. NotifyAllTrace t c.args.cond c.notify_all-right.result.1)
     c.apart-right.result.0 c.notify_all-right.result.0 c.args.cond c.notify_all-right.result.1
     c.apart-right.result.1.value.called.items c.apart-right.result.1.value.woken.items c.count_taken-tallies.result.value.called.items
     c.count_taken-tallies.result.value.woken.items own
@@ -29,14 +29,14 @@ at_rest-requires-clause-kept g c κs within =
 
 pub returns-clause-counted : goal.returns-clause-counted
 returns-clause-counted g c =
-    (sees_more (λ t. NotifyAllWord t c.args.cond c.notify_all-right.result.1) c.apart-right.result.0 c.notify_all-right.result.0
+    (sees_more (λ t. NotifyAllTrace t c.args.cond c.notify_all-right.result.1) c.apart-right.result.0 c.notify_all-right.result.0
     c.at_rest.result c.args.pass c.args.cond c.notify_all-right.result.1
     c.apart-right.ensures.same c.at_rest.ensures.pass
     (took_all c.apart-right.result.0 c.notify_all-right.result.0 c.args.cond c.notify_all-right.result.1 c.notify_all-right.ensures.pass)).0
 
 pub returns-clause-made : goal.returns-clause-made
 returns-clause-made g c =
-    (sees_more (λ t. NotifyAllWord t c.args.cond c.notify_all-right.result.1) c.apart-right.result.0 c.notify_all-right.result.0
+    (sees_more (λ t. NotifyAllTrace t c.args.cond c.notify_all-right.result.1) c.apart-right.result.0 c.notify_all-right.result.0
     c.at_rest.result c.args.pass c.args.cond c.notify_all-right.result.1
     c.apart-right.ensures.same c.at_rest.ensures.pass
     (took_all c.apart-right.result.0 c.notify_all-right.result.0 c.args.cond c.notify_all-right.result.1 c.notify_all-right.ensures.pass)).1

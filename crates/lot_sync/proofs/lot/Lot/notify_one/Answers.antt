@@ -1,13 +1,13 @@
 use Rattle.std.proofs.Common.{sym, subst, arith}
 use Rattle.lot_waits.specs.Counts.{counts_in}
 use Rattle.lot_waits.specs.Notifying.{one_if}
-use Rattle.lot_sync.specs.Words.{NotifyWord}
+use Rattle.lot_sync.specs.Traces.{NotifyTrace}
 use Rattle.lot_sync.proofs.Calls.{TookMore, kept_called, took_some, rests_called, sees_more, sees_called_one}
 use Rattle.lot_sync.proofs.lot.Lot.notify_one.Goals as goal
 
 pub at_rest-requires-clause-rest : goal.at_rest-requires-clause-rest
 at_rest-requires-clause-rest g c κs within =
-    rests_called _ _ (λ t. NotifyWord t c.args.cond 1 (one_if c.notify_one-right.result.1)) c.apart-right.result.0
+    rests_called _ _ (λ t. NotifyTrace t c.args.cond 1 (one_if c.notify_one-right.result.1)) c.apart-right.result.0
     c.notify_one-right.result.0 c.args.cond (one_if c.notify_one-right.result.1)
     (took_some c.apart-right.result.0 c.notify_one-right.result.0 c.args.cond 1
     (one_if c.notify_one-right.result.1) c.notify_one-right.ensures.pass)
@@ -20,12 +20,12 @@ at_rest-requires-clause-kept g c κs within =
     let conds = c.parking.ensures.keys.1 in
     let from = c.requires.cond.0 in
     let below = c.requires.cond.1 in
-    kept_called g.N.LotName.locks _ g.N.LotName.conds (λ t. NotifyWord t c.args.cond 1 (one_if c.notify_one-right.result.1))
+    kept_called g.N.LotName.locks _ g.N.LotName.conds (λ t. NotifyTrace t c.args.cond 1 (one_if c.notify_one-right.result.1))
     c.apart-right.result.0 c.notify_one-right.result.0 c.args.cond c.number_of.result
     c.apart-right.result.1.value.called.items c.apart-right.result.1.value.woken.items c.count_taken-tallies.result.value.called.items
     c.count_taken-tallies.result.value.woken.items own
     (subst
-    (λ k. TookMore (λ t. NotifyWord t c.args.cond 1 (one_if c.notify_one-right.result.1))
+    (λ k. TookMore (λ t. NotifyTrace t c.args.cond 1 (one_if c.notify_one-right.result.1))
     c.apart-right.result.0 c.args.cond k c.notify_one-right.result.0) (sym c.number_of.ensures)
     (took_some c.apart-right.result.0 c.notify_one-right.result.0 c.args.cond 1
     (one_if c.notify_one-right.result.1) c.notify_one-right.ensures.pass))
@@ -35,7 +35,7 @@ at_rest-requires-clause-kept g c κs within =
 
 pub returns-clause-counted : goal.returns-clause-counted
 returns-clause-counted g c =
-    sees_called_one (λ t. NotifyWord t c.args.cond 1 (one_if c.notify_one-right.result.1)) c.apart-right.result.0
+    sees_called_one (λ t. NotifyTrace t c.args.cond 1 (one_if c.notify_one-right.result.1)) c.apart-right.result.0
     c.notify_one-right.result.0 c.at_rest.result c.args.pass c.args.cond c.notify_one-right.result.1
     c.apart-right.ensures.same c.at_rest.ensures.pass
     (took_some c.apart-right.result.0 c.notify_one-right.result.0 c.args.cond 1
@@ -43,7 +43,7 @@ returns-clause-counted g c =
 
 pub returns-clause-made : goal.returns-clause-made
 returns-clause-made g c =
-    (sees_more (λ t. NotifyWord t c.args.cond 1 (one_if c.notify_one-right.result.1)) c.apart-right.result.0 c.notify_one-right.result.0
+    (sees_more (λ t. NotifyTrace t c.args.cond 1 (one_if c.notify_one-right.result.1)) c.apart-right.result.0 c.notify_one-right.result.0
     c.at_rest.result c.args.pass c.args.cond
     (one_if c.notify_one-right.result.1) c.apart-right.ensures.same c.at_rest.ensures.pass
     (took_some c.apart-right.result.0 c.notify_one-right.result.0 c.args.cond 1

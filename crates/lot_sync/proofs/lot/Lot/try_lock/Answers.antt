@@ -1,6 +1,6 @@
 use Rattle.std.proofs.Common.{true, false, sym, subst, ap, arith}
 use Rattle.lot_scheme.specs.Standing.{LotStanding}
-use Rattle.lot_scheme.specs.Words.{TryWord}
+use Rattle.lot_scheme.specs.Traces.{TryTrace}
 use Rattle.lot_sync.specs.Lot.{◌≈◌}
 use Rattle.lot_sync.specs.Values.{Gets}
 use Rattle.lot_sync.proofs.Rests.{owns_newly, gets_all, rests_on, sees_stays}
@@ -40,13 +40,13 @@ returns-else-got-clause-gets g c =
 pub returns-then-got-clause-made : goal.returns-then-got-clause-made
 returns-then-got-clause-made g c =
     let got = rw c.if-got.true at c.try_get-right.ensures in
-    adds_at (λ t. TryWord t c.args.key true) c.args.pass c.taken-pass.result.0 c.apart-right.result.0 c.try_get-right.result.0 got.did
+    adds_at (λ t. TryTrace t c.args.key true) c.args.pass c.taken-pass.result.0 c.apart-right.result.0 c.try_get-right.result.0 got.did
     c.apart-right.ensures.same c.taken-pass.ensures.pass
     (ap (λ (r : LotStanding g.row.V.Denot). r.did) got.is) got.got
 
 pub returns-else-got-clause-made : goal.returns-else-got-clause-made
 returns-else-got-clause-made g c =
     let missed = rw c.if-got.false at c.try_get-right.ensures in
-    adds_at (λ t. TryWord t c.args.key false) c.args.pass c.at_rest.result c.apart-right.result.0 c.try_get-right.result.0 missed.0
+    adds_at (λ t. TryTrace t c.args.key false) c.args.pass c.at_rest.result c.apart-right.result.0 c.try_get-right.result.0 missed.0
     c.apart-right.ensures.same c.at_rest.ensures.pass
     (ap (λ (r : LotStanding g.row.V.Denot). r.did) missed.2) missed.1

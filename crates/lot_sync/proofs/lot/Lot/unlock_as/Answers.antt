@@ -1,8 +1,8 @@
 use Rattle.std.proofs.Common.{sym, ap, subst}
 use Rattle.lot_scheme.specs.Standing.{LotStanding}
-use Rattle.lot_locks.specs.Released.{FreeWord}
+use Rattle.lot_locks.specs.Released.{FreeTrace}
 use Rattle.lot_sync.specs.Lot.{◌≈◌, letting_go}
-use Rattle.lot_sync.specs.Words.{Adds}
+use Rattle.lot_sync.specs.Traces.{Adds}
 use Rattle.lot_sync.specs.Passes.{pass_view_of}
 use Rattle.lot_sync.proofs.Adding.{alike_at, adds_at}
 use Rattle.lot_sync.proofs.Rests.{rests_free, leaves_all}
@@ -29,8 +29,8 @@ returns-clause-pass g c =
 pub returns-clause-made : goal.returns-clause-made
 returns-clause-made g c =
     let went = c.let_go-right.ensures.went in
-    subst (λ k. Adds c.args.pass.made (FreeWord c.args.pass.thread k c.let_go-right.result.1) c.at_rest.result.made) c.key-key.ensures
-    (adds_at (λ t. FreeWord t c.key-key.result c.let_go-right.result.1) c.args.pass c.at_rest.result c.given_back-right.result.0
+    subst (λ k. Adds c.args.pass.made (FreeTrace c.args.pass.thread k c.let_go-right.result.1) c.at_rest.result.made) c.key-key.ensures
+    (adds_at (λ t. FreeTrace t c.key-key.result c.let_go-right.result.1) c.args.pass c.at_rest.result c.given_back-right.result.0
     c.let_go-right.result.0 went.did
     (sym c.given_back-right.ensures.same) c.at_rest.ensures.pass (ap (λ (r : LotStanding g.row.V.Denot). r.did) went.is) went.freed)
 

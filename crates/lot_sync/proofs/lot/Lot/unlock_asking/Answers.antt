@@ -1,9 +1,9 @@
 use Rattle.std.proofs.Common.{inl, inr, false, sym, ap, subst}
 use Rattle.lot_scheme.specs.Standing.{LotStanding}
-use Rattle.lot_locks.specs.Released.{FreeWord, IsFitting}
+use Rattle.lot_locks.specs.Released.{FreeTrace, IsFitting}
 use Rattle.lot_locks.specs.Standing.{LetsGo}
 use Rattle.lot_sync.specs.Lot.{◌≈◌, letting_go}
-use Rattle.lot_sync.specs.Words.{Adds}
+use Rattle.lot_sync.specs.Traces.{Adds}
 use Rattle.lot_sync.specs.Passes.{pass_view_of, AreTallied}
 use Rattle.lot_sync.proofs.Adding.{alike_at, adds_at}
 use Rattle.lot_sync.proofs.Rests.{rests_free, leaves_all}
@@ -59,8 +59,8 @@ returns-clause-made g c =
     let before = c.given_back-right.result.0 in
     let went = let_go g (goal.at.returns-clause-made g c).Joined-freed in
     subst
-    (λ k. Adds c.args.pass.made (FreeWord c.args.pass.thread k c.if-freed.right.1) c.at_rest.result.made) c.key-key.ensures
-    (adds_at (λ t. FreeWord t c.key-key.result c.if-freed.right.1) c.args.pass c.at_rest.result before
+    (λ k. Adds c.args.pass.made (FreeTrace c.args.pass.thread k c.if-freed.right.1) c.at_rest.result.made) c.key-key.ensures
+    (adds_at (λ t. FreeTrace t c.key-key.result c.if-freed.right.1) c.args.pass c.at_rest.result before
     c.if-freed.right.0 went.did
     (sym c.given_back-right.ensures.same) c.at_rest.ensures.pass (ap (λ (r : LotStanding g.row.V.Denot). r.did) went.is) went.freed)
 

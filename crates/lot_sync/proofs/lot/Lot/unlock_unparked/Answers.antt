@@ -4,9 +4,9 @@ use Rattle.lot_words.specs.declared.views.Place.TheVariants.{Out}
 use Rattle.lot_scheme.specs.Standing.{LotStanding, placing}
 use Rattle.lot_locks.specs.declared.released.Released.TheVariants.{Quiet}
 use Rattle.lot_sync.specs.Lot.{◌≈◌, letting_go}
-use Rattle.lot_sync.specs.Words.{Adds, UnparkedWord}
+use Rattle.lot_sync.specs.Traces.{Adds, UnparkedTrace}
 use Rattle.lot_sync.specs.Passes.{pass_view_of}
-use Rattle.lot_sync.proofs.Adding.{alike_at, adds_at, quiet_word}
+use Rattle.lot_sync.proofs.Adding.{alike_at, adds_at, quiet_trace}
 use Rattle.lot_sync.proofs.Holdings.{sees_left}
 use Rattle.lot_sync.proofs.Rests.{rests_free, rests_parked, leaves_all, stays_all, one_lies}
 use Rattle.lot_sync.proofs.lot.Lot.unlock_unparked.Goals as goal
@@ -52,17 +52,17 @@ returns-else-freed-clause-freed g c =
 pub returns-then-freed-clause-made : goal.returns-then-freed-clause-made
 returns-then-freed-clause-made g c =
     let went = rw c.if-freed.true at c.free_unparked-right.ensures in
-    subst (λ k. Adds c.args.pass.made (UnparkedWord c.args.pass.thread k true) c.at_rest.result.made) c.key-key.ensures
-    (adds_at (λ t. UnparkedWord t c.key-key.result true) c.args.pass c.at_rest.result c.given_back-right.result.0
+    subst (λ k. Adds c.args.pass.made (UnparkedTrace c.args.pass.thread k true) c.at_rest.result.made) c.key-key.ensures
+    (adds_at (λ t. UnparkedTrace t c.key-key.result true) c.args.pass c.at_rest.result c.given_back-right.result.0
     c.free_unparked-right.result.0 went.did
     (sym c.given_back-right.ensures.same) c.at_rest.ensures.pass (ap (λ (r : LotStanding g.row.V.Denot). r.did) went.is)
-    (quiet_word _ _ went.did went.freed))
+    (quiet_trace _ _ went.did went.freed))
 
 pub returns-else-freed-clause-made : goal.returns-else-freed-clause-made
 returns-else-freed-clause-made g c =
     let parked = rw c.if-freed.false at c.free_unparked-right.ensures in
-    subst (λ k. Adds c.args.pass.made (UnparkedWord c.args.pass.thread k false) c.at_rest-else-freed.result.made) c.key-key.ensures
-    (adds_at (λ t. UnparkedWord t c.key-key.result false) c.args.pass c.at_rest-else-freed.result c.given_back-right.result.0
+    subst (λ k. Adds c.args.pass.made (UnparkedTrace c.args.pass.thread k false) c.at_rest-else-freed.result.made) c.key-key.ensures
+    (adds_at (λ t. UnparkedTrace t c.key-key.result false) c.args.pass c.at_rest-else-freed.result c.given_back-right.result.0
     c.value_out-right.result.0 _
     (sym c.given_back-right.ensures.same) c.at_rest-else-freed.ensures.pass
     (ap (λ (r : LotStanding g.row.V.Denot). r.did)

@@ -5,7 +5,7 @@ use Rattle.lot_scheme.specs.Standing.{LotStanding}
 use Rattle.lot_sync.specs.Lot.{keys_of, letting_go, one_wait_more as view_one_wait_more}
 use Rattle.lot_sync.specs.Passes.{pass_view_of}
 use Rattle.lot_sync.specs.Values.{Gets}
-use Rattle.lot_sync.specs.Words.{Adds, WaitedWord}
+use Rattle.lot_sync.specs.Traces.{Adds, WaitedTrace}
 use Rattle.lot_sync.proofs.Below.{may_wait}
 use Rattle.lot_sync.proofs.Adding.{adds_at}
 use Rattle.lot_sync.proofs.Calls.{owns_waited, gets_waited}
@@ -62,8 +62,8 @@ pub returns-clause-made : goal.returns-clause-made
 returns-clause-made g c =
     let w = c.wait-right.ensures.waited in
     subst
-    (λ k. Adds c.args.pass.made (WaitedWord c.args.pass.thread c.args.cond k c.args.moment.now) c.taken.result.0.made) c.key-key.ensures
-    (adds_at (λ t. WaitedWord t c.args.cond c.key-key.result c.args.moment.now) c.args.pass c.taken.result.0 c.given_back-right.result.0
+    (λ k. Adds c.args.pass.made (WaitedTrace c.args.pass.thread c.args.cond k c.args.moment.now) c.taken.result.0.made) c.key-key.ensures
+    (adds_at (λ t. WaitedTrace t c.args.cond c.key-key.result c.args.moment.now) c.args.pass c.taken.result.0 c.given_back-right.result.0
     c.wait-right.result.0 w.did
     (sym c.given_back-right.ensures.same) c.taken.ensures.pass (ap (λ (r : LotStanding g.row.V.Denot). r.did) w.is)
-    (c.wait-right.result.1, c.wait-right.ensures.fits, w.word))
+    (c.wait-right.result.1, c.wait-right.ensures.fits, w.trace))

@@ -14,7 +14,7 @@ load_both-pass-requires-clause-allows g c =
     let p = c.args.pass in
     let q = c.args.root in
     both_at_place (meaning g.V.Keeps start) (word_at q.key) _ c.word-word.ensures.is (λ n. n) p q (λ n. CountsWith p q)
-    (counts g.V.Keeps (size_of start) start.values.value.items p q)
+    (counts g.V.Keeps (size_of start) start.values.value.items p q c.requires.clear)
 
 pub load_both-pass-requires-clause-names : goal.load_both-pass-requires-clause-names
 load_both-pass-requires-clause-names g c n p' q' told u h = inl (subst (λ (r : RootShown LotRootView). names r.own u) told.1 h)

@@ -1,4 +1,4 @@
--- Words: which accesses a call made, the oldest first. t is a thread, l a lock, c a condition, k a semaphore.
+-- Traces: which accesses a call made, the oldest first. t is a thread, l a lock, c a condition, k a semaphore.
 use Rattle.std.specs.Prelude.{◌≡◌, ◌≢◌, ℕ, zero, suc, ◌%◌, ◌⊎◌, ◌++◌, Bool, true, false, List, [], ◌∷◌, Some, None}
 use Rattle.std.specs.List.{All}
 use Rattle.lot_events.specs.declared.events.Event.TheVariants.{Try, Take, Mark, Park, Look, Lower, Sweep}
@@ -26,12 +26,12 @@ IsGot t l (Collects u (Some (suc zero))) = u ≡ t
 IsGot t l _ = ⊥
 
 -- the lock was sought, and got
-abbrev pub GetWord : ℕ → ℕ → List Access → Type 0
-GetWord t l acts = (front : List Access) × (last : Access) × All (IsSeek t l) front × IsGot t l last × (acts ≡ front ++ last ∷ [])
+abbrev pub GetTrace : ℕ → ℕ → List Access → Type 0
+GetTrace t l acts = (front : List Access) × (last : Access) × All (IsSeek t l) front × IsGot t l last × (acts ≡ front ++ last ∷ [])
 
 -- one try, and whether it got the lock: a first access that gets it, or one that finds the word not 0 and then a Try
-abbrev pub TryWord : ℕ → ℕ → Bool → List Access → Type 0
-TryWord t l got acts =
+abbrev pub TryTrace : ℕ → ℕ → Bool → List Access → Type 0
+TryTrace t l got acts =
     ((got ≡ true) × (acts ≡ Makes (Take t l) (Saw true) ∷ []))
     ⊎ ((word : ℕ) × (word ≢ 0) × (acts ≡ Finds t l word ∷ Makes (Try t l) (Saw got) ∷ []))
 
@@ -41,12 +41,12 @@ abbrev pub IsVain : ℕ → Access → Type 0
 IsVain t (Collects u None) = u ≡ t
 IsVain t _ = ⊥
 
-abbrev pub word_of_all : ℕ → ℕ → ℕ → List Access
-word_of_all t c taken = Makes (Look t c) (Saw true) ∷ Makes (Lower t c) Done ∷ Makes (Sweep t c) (Count taken) ∷ []
+abbrev pub trace_of_all : ℕ → ℕ → ℕ → List Access
+trace_of_all t c taken = Makes (Look t c) (Saw true) ∷ Makes (Lower t c) Done ∷ Makes (Sweep t c) (Count taken) ∷ []
 
 -- a notification that finds the flag clear
-abbrev pub word_of_nobody : ℕ → ℕ → List Access
-word_of_nobody t c = Makes (Look t c) (Saw false) ∷ []
+abbrev pub trace_of_nobody : ℕ → ℕ → List Access
+trace_of_nobody t c = Makes (Look t c) (Saw false) ∷ []
 
 -- ---- semaphores
 -- an access of a thread that seeks a permit of k and has not got it yet
@@ -60,24 +60,24 @@ IsPermitSeek t k (Collects u (Some zero)) = u ≡ t
 IsPermitSeek t k _ = ⊥
 
 -- a look that found a permit, and then an exchange of the word that was seen; or one that found another word
-abbrev pub TookWord : ℕ → ℕ → List Access → Type 0
-TookWord t k acts = (word : ℕ) × IsAnyLeft word × (acts ≡ Finds t k word ∷ Makes (SemTake t k) (Saw true) ∷ [])
+abbrev pub TookTrace : ℕ → ℕ → List Access → Type 0
+TookTrace t k acts = (word : ℕ) × IsAnyLeft word × (acts ≡ Finds t k word ∷ Makes (SemTake t k) (Saw true) ∷ [])
 
-abbrev pub BusyWord : ℕ → ℕ → List Access → Type 0
-BusyWord t k acts = (seen found : ℕ) × IsAnyLeft seen × (found ≢ seen) × (acts ≡ Finds t k seen ∷ Finds t k found ∷ [])
+abbrev pub BusyTrace : ℕ → ℕ → List Access → Type 0
+BusyTrace t k acts = (seen found : ℕ) × IsAnyLeft seen × (found ≢ seen) × (acts ≡ Finds t k seen ∷ Finds t k found ∷ [])
 
 -- a look that found nobody marked, and then an exchange of the word that was seen, by which a permit was given back
-abbrev pub FreedWord : ℕ → ℕ → List Access → Type 0
-FreedWord t k acts = (word : ℕ) × IsUnmarked word × (acts ≡ Finds t k word ∷ Makes (SemFree t k) (Saw true) ∷ [])
+abbrev pub FreedTrace : ℕ → ℕ → List Access → Type 0
+FreedTrace t k acts = (word : ℕ) × IsUnmarked word × (acts ≡ Finds t k word ∷ Makes (SemFree t k) (Saw true) ∷ [])
 
 -- a look that found somebody marked; or one that found nobody marked, and then an exchange that found another word
-abbrev pub UnfreedWord : ℕ → ℕ → List Access → Type 0
-UnfreedWord t k acts =
+abbrev pub UnfreedTrace : ℕ → ℕ → List Access → Type 0
+UnfreedTrace t k acts =
     ((word : ℕ) × (word % 2 ≡ 1) × (acts ≡ Finds t k word ∷ []))
     ⊎ ((seen found : ℕ) × IsUnmarked seen × (found ≢ seen) × (acts ≡ Finds t k seen ∷ Finds t k found ∷ []))
 
 -- a permit was sought, and got from the word that a look found
-abbrev pub GetPermitWord : ℕ → ℕ → List Access → Type 0
-GetPermitWord t k acts =
+abbrev pub GetPermitTrace : ℕ → ℕ → List Access → Type 0
+GetPermitTrace t k acts =
     (front : List Access) × All (IsPermitSeek t k) front
     × ((word : ℕ) × IsAnyLeft word × (acts ≡ front ++ Finds t k word ∷ Makes (SemTake t k) (Saw true) ∷ []))

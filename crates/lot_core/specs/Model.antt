@@ -34,7 +34,7 @@ none_taken permits = record { left = permits; parked = λ k. false; line = λ k.
 
 -- a state: how many threads, locks, conditions and semaphores there are and how many permits each
 -- semaphore was opened with, what each lock, condition and semaphore is, and where each thread stands
-pub record World : Type 0 where
+pub record StateView : Type 0 where
   pub threads : ℕ
   pub lock_count : ℕ
   pub cond_count : ℕ
@@ -46,7 +46,7 @@ pub record World : Type 0 where
   pub point : ℕ → Point
 
 -- all bits and flags clear, all lines and `has` empty, all permits left, all threads calm
-abbrev pub opening_with : ℕ → ℕ → ℕ → List ℕ → World
+abbrev pub opening_with : ℕ → ℕ → ℕ → List ℕ → StateView
 opening_with threads lock_count cond_count permits =
     record {
       threads = threads;
@@ -61,5 +61,5 @@ opening_with threads lock_count cond_count permits =
     }
 
 -- the same without semaphores
-abbrev pub opening : ℕ → ℕ → ℕ → World
+abbrev pub opening : ℕ → ℕ → ℕ → StateView
 opening threads lock_count cond_count = opening_with threads lock_count cond_count []
