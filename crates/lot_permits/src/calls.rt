@@ -63,7 +63,7 @@ pub fn acquire<V: Keeps + Send, N: LotName<V> + Send, C: Tally + Send, R: Wait>(
     let (pass, taken) = parking.scheme().take_permit(pass, key);
     let pass = match taken {
         Taken::Got => pass,
-        Taken::Empty | Taken::Busy => get_slowly(rt, parking, pass, key),
+        Taken::Empty | Taken::Busy => get_slowly(rt, parking, pass, key, taken),
     };
     let permit = Permit::new(key, pass.thread());
     (pass, permit)

@@ -84,7 +84,8 @@ impl<V: Keeps + Send, N: LotName<V> + Send, C: Tally + Send> Sought<Sems> for Lo
     }
 }
 
-/// Gets a permit, after a first try that got none.
+/// Gets a permit, after a first try that got none, of which this came. Where another thread had just changed the word,
+/// this one first does as if no permit were left: it yields, if others seek something too.
 #[cold]
 #[inline(never)]
 pub(crate) fn get_slowly<V: Keeps + Send, N: LotName<V> + Send, C: Tally + Send, R: Wait>(
@@ -92,6 +93,7 @@ pub(crate) fn get_slowly<V: Keeps + Send, N: LotName<V> + Send, C: Tally + Send,
     parking: &ParkingLot<LotScheme<V, N, C>>,
     pass: NamedPass<V, N>,
     key: usize,
+    came: Taken,
 ) -> NamedPass<V, N>
     requires sem { IsAmongSemaphores N.first_sem (length N.permits) key }
     requires key { key < parking.now.keys }
@@ -99,6 +101,9 @@ pub(crate) fn get_slowly<V: Keeps + Send, N: LotName<V> + Send, C: Tally + Send,
     requires waits { IsAwakeFor V.above N.first_sem pass key pass }
     ensures { GetsPermit pass key result }
 {
-    let first = parking.scheme().look_at(key);
+    let first = match came {
+        Taken::Busy => Look::Taken,
+        Taken::Got | Taken::Empty => parking.scheme().look_at(key),
+    };
     get_or_park::<LotScheme<V, N, C>, Sems, R, AtOnce>(rt, parking, pass, key, first, &AtOnce)
 }
