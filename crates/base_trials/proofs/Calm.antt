@@ -72,8 +72,7 @@ module _ {V : Type 0} where
 
   pub trying : (n t l : ℕ) (p : LotStanding V) → l < n → Wants t l p → IsTryingFor any n p l p
   trying n t l p below wants = record {
-    below = below;
-    may = (inl (wants.there.up, wants.aim), λ _ j has. tt);
+    may = (below, (inl (wants.there.up, wants.aim), λ _ j has. tt));
     did = [];
     sought = All-nil (IsSeek p.thread l);
     is = none_added p ∙ ap (λ (q : LotStanding V). adding q []) (wants_so l p wants.aim wants.there.stand);

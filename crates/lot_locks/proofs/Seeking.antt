@@ -1,13 +1,12 @@
 -- What is so of a thread that seeks a lock.
-use Rattle.std.proofs.Common.{◌≡◌, ◌≢◌, ℕ, ◌<◌, Bool, true, false, MatchBool, length, List, [], ◌∷◌, ◌++◌, ◌⊎◌, inl, inr, refl, sym, ap}
+use Rattle.std.proofs.Common.{◌≡◌, ◌≢◌, ℕ, ◌<◌, Bool, true, false, MatchBool, length, List, [], ◌∷◌, ◌++◌, inl, inr, refl, sym, ap}
 use Rattle.std.proofs.Common.{subst}
 use Rattle.std.proofs.lemmas.List.Elements.{All-nil, All-append}
 use Rattle.std.specs.List.{All}
 use mathlib.Core.Option.{some}
 use lib.ListN.{get_elem?}
-use Rattle.lot_park.specs.declared.seeking.Seeking.{Seeking}
-use Rattle.lot_park.specs.declared.seeking.Seeking.TheVariants.{Got, Waits, Parks}
-use Rattle.lot_park.specs.Seeking.{SeekingLaws, IsUnfinished}
+use Rattle.lot_seeking.specs.Seeking.{SeekingLaws, Adds}
+use Rattle.lot_seeking.proofs.Laws.{laws as seeking_laws, got_on, may_now}
 use Rattle.lot_events.specs.declared.events.Event.TheVariants.{Mark}
 use Rattle.lot_events.specs.declared.events.Seen.TheVariants.{Done}
 use Rattle.lot_rights.specs.declared.views.Access.{Access}
@@ -21,7 +20,7 @@ use Rattle.lot_whole.specs.Standing.{MayWant, MayLineUp}
 use Rattle.lot_scheme.specs.Standing.{LotStanding, adding, wanting, owning}
 use Rattle.lot_scheme.specs.Traces.{IsSeek}
 use Rattle.lot_scheme.proofs.Ends.{ends_with}
-use Rattle.lot_locks.specs.Standing.{IsTryingFor, IsAwakeFor, IsOwner, Seeks, HasMarked, FindsAnother, HasFound}
+use Rattle.lot_locks.specs.Standing.{MaySeekOf, IsTryingFor, IsAwakeFor, IsOwner, Seeks, HasMarked, FindsAnother, HasFound}
 use Rattle.lot_locks.proofs.Adding.{All-one, none_added, both_added, up_then, is_up, may_again, sought_before}
 
 module _ {V : Type 0} where
@@ -33,79 +32,21 @@ module _ {V : Type 0} where
 module _ {V : Type 0} (above : ℕ → ℕ → Type 0) where
   -- who wants the lock by now is awake for it
   pub awake : (n : ℕ) (before now : LotStanding V) (l : ℕ) → IsTryingFor above n before l now → IsAwakeFor above n before l now
-  awake n before now l s = record { below = s.below; may = s.may; did = s.did; sought = s.sought; is = inr s.is }
-
-  same_awake : (n : ℕ) (before now : LotStanding V) (l : ℕ) → IsAwakeFor above n before l now → now.thread ≡ before.thread
-  same_awake n before now l s = elim s.is [
-    | inl e ↦ ap (λ (z : LotStanding V). z.thread) e
-    | inr e ↦ ap (λ (z : LotStanding V). z.thread) e
-  ]
-
-  -- ---- as it stands, whatever it stood like before
-  trying_itself : (n : ℕ) (before now : LotStanding V) (l : ℕ) → IsTryingFor above n before l now → IsTryingFor above n now l now
-  trying_itself n before now l s = subst (λ (z : LotStanding V). IsTryingFor above n z l z) (sym s.is) (record {
-    below = s.below;
-    may = may_again above before.own l s.may.0;
-    did = [];
-    sought = All-nil (IsSeek before.thread l);
-    is = none_added (adding (wanting before l) s.did);
-  })
+  awake n before now l s = record { may = s.may; did = s.did; sought = s.sought; is = inr s.is }
 
   -- whoever may take a lock is awake for it, from where it stands
   pub begins : (n : ℕ) (now : LotStanding V) (l : ℕ) → l < n → MayWant above now.own l → IsAwakeFor above n now l now
   begins n now l below may = record {
-    below = below;
-    may = may;
+    may = (below, may);
     did = [];
     sought = All-nil (IsSeek now.thread l);
     is = inl (none_added now);
   }
 
-  pub awake_itself : (n : ℕ) (before now : LotStanding V) (l : ℕ) → IsAwakeFor above n before l now → IsAwakeFor above n now l now
-  awake_itself n before now l s = elim s.is [
-    | inl e ↦ subst (λ (z : LotStanding V). IsAwakeFor above n z l z) (sym e) (begins n (adding before s.did) l s.below s.may)
-    | inr e ↦ awake n now now l (trying_itself n before now l
-        (record { below = s.below; may = s.may; did = s.did; sought = s.sought; is = e }))
-  ]
-
-  -- so it may line up, or take the lock
+  -- so it may line up
   pub may_line_up : (n : ℕ) (before now : LotStanding V) (l : ℕ) → IsTryingFor above n before l now → MayLineUp now.own l
   may_line_up n before now l s = subst (λ (z : LotStanding V). MayLineUp z.own l) (sym s.is)
-      (up_then before.own (lock_wanting before.own.locks l) Idle refl (is_up before.own l s.may.0), refl)
-
-  pub may_take : (n : ℕ) (before now : LotStanding V) (l : ℕ) → IsAwakeFor above n before l now → MayWant above now.own l
-  may_take n before now l s = (awake_itself n before now l s).may
-
-  -- ---- on from where it stands: so on from where it stood before. The base is the pass before, or wants the lock already
-  trying_from : (n : ℕ) (before base after : LotStanding V) (l : ℕ) (did : List Access) → l < n → MayWant above before.own l
-      → All (IsSeek before.thread l) did
-      → base.thread ≡ before.thread → wanting base l ≡ wanting before l → IsTryingFor above n (adding base did) l after
-      → IsTryingFor above n before l after
-  trying_from n before base after l did below may sought same is t = record {
-    below = below;
-    may = may;
-    did = did ++ t.did;
-    sought = All-append (IsSeek before.thread l) did t.did sought (subst (λ (u : ℕ). All (IsSeek u l) t.did) same t.sought);
-    is = subst (λ (z : LotStanding V). after ≡ adding z (did ++ t.did)) is (both_added (wanting base l) after did t.did t.is);
-  }
-
-  awake_from : (n : ℕ) (before base after : LotStanding V) (l : ℕ) (did : List Access) → l < n → MayWant above before.own l
-      → All (IsSeek before.thread l) did
-      → base.thread ≡ before.thread → wanting base l ≡ wanting before l → (base ≡ before) ⊎ (base ≡ wanting before l)
-      → IsAwakeFor above n (adding base did) l after → IsAwakeFor above n before l after
-  awake_from n before base after l did below may sought same is which t = record {
-    below = below;
-    may = may;
-    did = did ++ t.did;
-    sought = All-append (IsSeek before.thread l) did t.did sought (subst (λ (u : ℕ). All (IsSeek u l) t.did) same t.sought);
-    is = elim t.is [
-      | inl e ↦ elim which [
-        | inl f ↦ inl (subst (λ (z : LotStanding V). after ≡ adding z (did ++ t.did)) f (both_added base after did t.did e))
-        | inr f ↦ inr (subst (λ (z : LotStanding V). after ≡ adding z (did ++ t.did)) f (both_added base after did t.did e))
-      ]
-      | inr e ↦ inr (subst (λ (z : LotStanding V). after ≡ adding z (did ++ t.did)) is (both_added (wanting base l) after did t.did e))
-    ];
-  }
+      (up_then before.own (lock_wanting before.own.locks l) Idle refl (is_up before.own l s.may.1.0), refl)
 
 -- one access more by a thread that wants the lock, by which it neither gets it nor is queued
 module _ {V : Type 0} (above : ℕ → ℕ → Type 0) where
@@ -114,7 +55,6 @@ module _ {V : Type 0} (above : ℕ → ℕ → Type 0) where
       → now ≡ adding mid (a ∷ [])
       → IsTryingFor above n before l now
   sought_on n before mid now l a s seeks is = record {
-    below = s.below;
     may = s.may;
     did = s.did ++ a ∷ [];
     sought = All-append (IsSeek before.thread l) s.did (a ∷ []) s.sought (All-one (IsSeek before.thread l) a seeks);
@@ -160,85 +100,54 @@ found_then rule l t p q x holds places seen f = record {
 }
 
 module _ {V Part : Type 0} (rule : CallersRule V Part) where
-  owner_from : (before base after : LotStanding V) (l : ℕ) (did : List Access) → All (IsSeek before.thread l) did
-      → (base ≡ before) ⊎ (base ≡ wanting before l)
-      → IsOwner rule (adding base did) l after → IsOwner rule before l after
-  owner_from before base after l did sought (inl e) t = from (subst (λ (z : LotStanding V). IsOwner rule (adding z did) l after) e t)
-    where
-      from : IsOwner rule (adding before did) l after → IsOwner rule before l after
-      from o = record {
-        value = o.value;
-        found = o.found;
-        did = did ++ o.did;
-        got = sought_before before.thread l did o.did sought o.got;
-        is = both_added (owning before l o.value) after did o.did o.is;
-      }
-  owner_from before base after l did sought (inr e) t = from (subst (λ (z : LotStanding V). IsOwner rule (adding z did) l after) e t)
-    where
-      from : IsOwner rule (adding (wanting before l) did) l after → IsOwner rule before l after
-      from o = record {
-        value = o.value;
-        found = found_then rule l before.thread (wanting before l).own.locks before.own.locks o.value refl refl refl o.found;
-        did = did ++ o.did;
-        got = sought_before before.thread l did o.did sought o.got;
-        is = both_added (owning before l o.value) after did o.did o.is;
-      }
-
-  -- ---- the laws
-  same : (n : ℕ) (before now : LotStanding V) (l : ℕ) (far : Seeking) → Seeks rule n before l far now → now.thread ≡ before.thread
-  same n before now l Got s = ap (λ (z : LotStanding V). z.thread) s.is
-  same n before now l Parks s = ap (λ (z : LotStanding V). z.thread) s.is
-  same n before now l Waits s = same_awake rule.above n before now l s
-
-  waits : (n : ℕ) (before now : LotStanding V) (l : ℕ) (far : Seeking) → IsUnfinished far → Seeks rule n before l far now
-      → IsAwakeFor rule.above n before l now
-  waits n before now l Got done s = absurd done
-  waits n before now l Waits u s = s
-  waits n before now l Parks u s = awake rule.above n before now l s
-
-  itself : (n : ℕ) (before now : LotStanding V) (l : ℕ) (far : Seeking) → IsUnfinished far → Seeks rule n before l far now
-      → Seeks rule n now l far now
-  itself n before now l Got done s = absurd done
-  itself n before now l Waits u s = awake_itself rule.above n before now l s
-  itself n before now l Parks u s = trying_itself rule.above n before now l s
-
-  goes : (n : ℕ) (before base after : LotStanding V) (l : ℕ) (did : List Access) (next : Seeking) → l < n → MayWant rule.above before.own l
-      → All (IsSeek before.thread l) did
-      → base.thread ≡ before.thread → wanting base l ≡ wanting before l → (base ≡ before) ⊎ (base ≡ wanting before l)
-      → Seeks rule n (adding base did) l next after → Seeks rule n before l next after
-  goes n before base after l did Got below may sought same is which t = owner_from before base after l did sought which t
-  goes n before base after l did Waits below may sought same is which t =
-      awake_from rule.above n before base after l did below may sought same is which t
-  goes n before base after l did Parks below may sought same is which t = trying_from rule.above n before base after l did below may
-      sought same is t
-
-  -- on from a pass that is awake for the lock
-  pub goes_on : (n : ℕ) (before now after : LotStanding V) (l : ℕ) (next : Seeking) → IsAwakeFor rule.above n before l now
-      → Seeks rule n now l next after
-      → Seeks rule n before l next after
-  goes_on n before now after l next s t = elim s.is [
-    | inl e ↦ goes n before before after l s.did next s.below s.may s.sought refl refl (inl refl)
-        (subst (λ (z : LotStanding V). Seeks rule n z l next after) e t)
-    | inr e ↦ goes n before (wanting before l) after l s.did next s.below s.may s.sought refl refl (inr refl)
-        (subst (λ (z : LotStanding V). Seeks rule n z l next after) e t)
-  ]
-
-  pub owner_on : (n : ℕ) (before now after : LotStanding V) (l : ℕ) → IsAwakeFor rule.above n before l now → IsOwner rule now l after
-      → IsOwner rule before l after
-  owner_on n before now after l s t = goes_on n before now after l Got s t
-
-  pub awake_on : (n : ℕ) (before now after : LotStanding V) (l : ℕ) → IsAwakeFor rule.above n before l now
-      → IsAwakeFor rule.above n now l after
-      → IsAwakeFor rule.above n before l after
-  awake_on n before now after l s t = goes_on n before now after l Waits s t
-
-  pub laws : (n : ℕ) → SeekingLaws (λ (p : LotStanding V). p.thread) (Seeks rule n)
-  laws n = record {
-    same = same n;
-    waits = waits n;
-    itself = itself n;
-    on = λ before now after l far next u s t. goes_on n before now after l next (waits n before now l far u s) t;
+  -- a lock that is got after accesses that got nothing is got
+  got_after : (before after : LotStanding V) (l : ℕ) (did : List Access) → All (IsSeek before.thread l) did
+      → IsOwner rule (adding before did) l after → IsOwner rule before l after
+  got_after before after l did sought o = record {
+    value = o.value;
+    found = o.found;
+    did = did ++ o.did;
+    got = sought_before before.thread l did o.did sought o.got;
+    is = both_added (owning before l o.value) after did o.did o.is;
   }
+
+  -- and so it is by whoever wants it already
+  got_wanting : (before after : LotStanding V) (l : ℕ) → IsOwner rule (wanting before l) l after → IsOwner rule before l after
+  got_wanting before after l o = record {
+    value = o.value;
+    found = found_then rule l before.thread (wanting before l).own.locks before.own.locks o.value refl refl refl o.found;
+    did = o.did;
+    got = o.got;
+    is = o.is;
+  }
+
+  module _ (n : ℕ) where
+    adds : Adds (λ (p : LotStanding V). p.thread) adding wanting (MaySeekOf rule.above n) IsSeek (IsOwner rule)
+    adds = record {
+      none = λ p. sym (none_added p);
+      both = λ p xs ys. both_added p (adding (adding p xs) ys) xs ys refl;
+      same = λ p xs. refl;
+      wants_same = λ p l. refl;
+      wants_once = λ p l. refl;
+      wants_added = λ p l xs. refl;
+      may_added = λ p l xs may. may;
+      may_again = λ p l may. (may.0, may_again rule.above p.own l may.1.0);
+      got_same = λ p q l o. ap (λ (z : LotStanding V). z.thread) o.is;
+      got_after = λ p q l xs sought o. got_after p q l xs sought o;
+      got_wanting = λ p q l o. got_wanting p q l o;
+    }
+
+    pub laws : SeekingLaws (λ (p : LotStanding V). p.thread) (Seeks rule n)
+    laws = seeking_laws (λ (p : LotStanding V). p.thread) adding wanting (MaySeekOf rule.above n) IsSeek (IsOwner rule) adds
+
+    pub owner_on : (before now after : LotStanding V) (l : ℕ) → IsAwakeFor rule.above n before l now → IsOwner rule now l after
+        → IsOwner rule before l after
+    owner_on = got_on (λ (p : LotStanding V). p.thread) adding wanting (MaySeekOf rule.above n) IsSeek (IsOwner rule) adds
+
+    -- and who is awake for a lock may take it
+    pub may_take : (before now : LotStanding V) (l : ℕ) → IsAwakeFor rule.above n before l now → MayWant rule.above now.own l
+    may_take before now l s = (may_now (λ (p : LotStanding V). p.thread) adding wanting (MaySeekOf rule.above n) IsSeek (IsOwner rule) adds
+        before now l s).1
 
 -- of a thread that lines up for a lock
 pub ruleset line_laws = (may_line_up, marked_on, awake, has_marked, finds_another)

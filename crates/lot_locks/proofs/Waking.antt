@@ -37,9 +37,8 @@ module _ {V Part : Type 0} (rule : CallersRule V Part) where
       → All (IsSeek before.thread l) did → CollectsLock rule (adding (lined before l) did) token now
       → MatchBool (token == 1) (IsOwner rule before l now) (IsTryingFor rule.above n before l now)
   wakes n before now l zero did s sought is =
-      let up : before.own.locks.asleep ≡ false = is_up before.own l s.may.0 lock in
+      let up : before.own.locks.asleep ≡ false = is_up before.own l s.may.1.0 lock in
       record {
-        below = s.below;
         may = s.may;
         did = did ++ Collects before.thread (Some 0) ∷ [];
         sought = All-append (IsSeek before.thread l) did (Collects before.thread (Some 0) ∷ []) sought
@@ -51,7 +50,7 @@ module _ {V Part : Type 0} (rule : CallersRule V Part) where
             }) (Collects before.thread (Some 0) ∷ [])) (sym up));
       }
   wakes n before now l (suc zero) did s sought (e, (k, aim, (x, found, is))) =
-      let up : before.own.locks.asleep ≡ false = is_up before.own l s.may.0 lock in
+      let up : before.own.locks.asleep ≡ false = is_up before.own l s.may.1.0 lock in
       let same : k ≡ l = (let f : Some l ≡ Some k = aim in cc) in
       let locks : LockPassView V = (lined before l).own.locks in
       record {
@@ -82,5 +81,5 @@ module _ {V Part : Type 0} (rule : CallersRule V Part) where
       let did : List Access = s.did ++ looks.0 in
       let is : last ≡ adding (lined before l) did = both_added (lined before l) last s.did looks.0 looks.2 in
       let all = All-append (IsSeek before.thread l) s.did looks.0 s.sought looks.1 in
-      wakes n before now l token did (record { below = s.below; may = s.may; did = did; sought = all; is = refl }) all
+      wakes n before now l token did (record { may = s.may; did = did; sought = all; is = refl }) all
       (subst (λ (z : LotStanding V). IsLooked rule z (Some token) now) is a.found)

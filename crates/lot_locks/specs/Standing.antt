@@ -1,6 +1,6 @@
 -- How a pass stands between two accesses of a lock's word, and what the calls of a lock make of it.
 use Rattle.std.specs.Prelude.{◌≡◌, ◌≢◌, ℕ, ◌<◌, ◌⊎◌, ◌++◌, Bool, true, false, List, [], ◌∷◌, Some}
-use Rattle.std.specs.List.{All, count_by}
+use Rattle.std.specs.List.{count_by}
 use Rattle.lot_events.specs.declared.events.Event.TheVariants.{Free, Mark}
 use Rattle.lot_events.specs.declared.events.Seen.TheVariants.{Bool as Saw, Done}
 use Rattle.lot_rights.specs.declared.views.Access.{Access}
@@ -9,8 +9,8 @@ use Rattle.lot_words.specs.CallersRule.{CallersRule}
 use Rattle.lot_words.specs.World.{Holds, HoldsParked}
 use Rattle.lot_words.specs.Values.{IsIn, FoundOk}
 use Rattle.lot_whole.specs.Standing.{MayWant, MayLetGo}
-use Rattle.lot_park.specs.declared.seeking.Seeking.{Seeking}
-use Rattle.lot_park.specs.declared.seeking.Seeking.TheVariants.{Got, Waits, Parks}
+use Rattle.lot_seeking.specs.declared.seeking.Seeking.{Seeking}
+use Rattle.lot_seeking.specs.Seeking.{IsOnItsWay, SeeksSo}
 use Rattle.lot_scheme.specs.Standing.{LotStanding, EndsWith, adding, wanting, lined, owning, finding_parked, letting_go}
 use Rattle.lot_scheme.specs.Traces.{IsSeek, GetTrace}
 use Rattle.lot_locks.specs.declared.released.Released.{Released}
@@ -80,29 +80,22 @@ module _ {V : Type 0} where
 -- where above is the order of keys
 module _ {V : Type 0} (above : ℕ → ℕ → Type 0) where
   -- ---- seeking, from how the pass stood before, by accesses that get nothing
+  -- it may seek the lock, which is one of n
+  abbrev pub MaySeekOf : ℕ → LotStanding V → ℕ → Type 0
+  MaySeekOf n before l = (l < n) × MayWant above before.own l
+
   -- it wants the lock, and is in no line
-  pub record IsTryingFor (n : ℕ) (before : LotStanding V) (l : ℕ) (now : LotStanding V) : Type 0 where
-    pub below : l < n
-    pub may : MayWant above before.own l
-    pub did : List Access
-    pub sought : All (IsSeek before.thread l) did
-    pub is : now ≡ adding (wanting before l) did
+  abbrev pub IsTryingFor : ℕ → LotStanding V → ℕ → LotStanding V → Type 0
+  IsTryingFor n before l now = IsOnItsWay (MaySeekOf n before l) (IsSeek before.thread l) (λ did. now ≡ adding (wanting before l) did)
 
   -- it is in no line, and stands as before, or wants the lock by now
-  pub record IsAwakeFor (n : ℕ) (before : LotStanding V) (l : ℕ) (now : LotStanding V) : Type 0 where
-    pub below : l < n
-    pub may : MayWant above before.own l
-    pub did : List Access
-    pub sought : All (IsSeek before.thread l) did
-    pub is : (now ≡ adding before did) ⊎ (now ≡ adding (wanting before l) did)
+  abbrev pub IsAwakeFor : ℕ → LotStanding V → ℕ → LotStanding V → Type 0
+  IsAwakeFor n before l now = IsOnItsWay (MaySeekOf n before l) (IsSeek before.thread l)
+      (λ did. (now ≡ adding before did) ⊎ (now ≡ adding (wanting before l) did))
 
   -- it is queued in the line of the lock, which it wants
-  pub record IsAsleepFor (n : ℕ) (before : LotStanding V) (l : ℕ) (now : LotStanding V) : Type 0 where
-    pub below : l < n
-    pub may : MayWant above before.own l
-    pub did : List Access
-    pub sought : All (IsSeek before.thread l) did
-    pub is : now ≡ adding (lined before l) did
+  abbrev pub IsAsleepFor : ℕ → LotStanding V → ℕ → LotStanding V → Type 0
+  IsAsleepFor n before l now = IsOnItsWay (MaySeekOf n before l) (IsSeek before.thread l) (λ did. now ≡ adding (lined before l) did)
 
 module _ {V Part : Type 0} (rule : CallersRule V Part) where
   -- the lock was got by such a trace, with the value that was found there
@@ -119,6 +112,4 @@ module _ {V Part : Type 0} (rule : CallersRule V Part) where
 
   -- how far a thread is that seeks the lock, one of n, and that stood so before
   abbrev pub Seeks : ℕ → LotStanding V → ℕ → Seeking → LotStanding V → Type 0
-  Seeks n before l Got now = IsOwner before l now
-  Seeks n before l Waits now = IsAwakeFor rule.above n before l now
-  Seeks n before l Parks now = IsTryingFor rule.above n before l now
+  Seeks n = SeeksSo (λ (p : LotStanding V). p.thread) adding wanting (MaySeekOf rule.above n) IsSeek IsOwner

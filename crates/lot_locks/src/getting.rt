@@ -7,19 +7,12 @@ ghost use Rattle.lot_scheme.specs.Traces.{TryTrace};
 ghost use Rattle.lot_locks.specs.Standing.{IsAwakeFor, IsTryingFor, IsOwner, GetsBy, MissesBy, HasFound, letters_in};
 
 use crate::steps::HANDOFF;
-use lot_park::{BeforeSleep, Look, ParkingLot, Scheme, Seeking, Sought, Token, get_or_park};
+use lot_park::{BeforeSleep, ParkingLot, Scheme, Token};
 use lot_scheme::{LotName, LotScheme, NamedPass, NamedRoot, Tally};
+use lot_seeking::{Look, Seeking, Sought, get_or_park};
 use lot_whole::Keeps;
 use lot_words::{HELD, HELD_AND_PARKED, PARKED, UNHELD};
-use std::hint;
 use std::sync::Wait;
-
-/// How often a thread tries again that has missed its exchange, where nobody is counted as seeking.
-const TRIES_ALONE: u32 = 2;
-
-/// How often the processor pauses before each of these tries, to leave the word's line of the cache to the owner for a
-/// short section.
-const PAUSES: u32 = 8;
 
 /// What is sought: a lock. It names this for the parking lot, and has no value.
 pub struct Locks;
@@ -188,44 +181,9 @@ pub fn get<V: Keeps + Send, N: LotName<V> + Send, C: Tally + Send, R: Wait, B: B
     }
 }
 
-/// Leaves the word alone for a moment.
-fn pause() {
-    for _ in 0..PAUSES {
-        hint::spin_loop();
-    }
-}
-
-/// Tries so often to get the lock where nobody owns it and nobody is marked as parked, with pauses of the processor
-/// before each try.
-#[tactic(auto, using(crate::proofs::Seeking::may_take, crate::proofs::Seeking::owner_on))]
-fn try_again<V: Keeps, N: LotName<V>, C: Tally>(
-    scheme: &LotScheme<V, N, C>,
-    pass: NamedPass<V, N>,
-    key: usize,
-    tries: u32,
-) -> (NamedPass<V, N>, bool)
-    requires key { key < N.locks }
-    requires may { MayWant V.above pass.own key }
-    ensures far { MatchBool result.1 (IsOwner V.Keeps pass key result.0) (IsAwakeFor V.above N.locks pass key result.0) }
-    ensures awake { letters_in result.0.did ≡ letters_in pass.did }
-{
-    let mut pass = pass;
-    for _ in 0..tries {
-        pause();
-        let (next, found) = get_free(scheme, pass, key);
-        if found == UNHELD {
-            return (next, true);
-        }
-        pass = next;
-    }
-    (pass, false)
-}
-
 /// Gets a lock whose word was another than 0: the one that the missed exchange found, which is the first look at it.
-/// Where the lock was held and parked it lines up at once. Else it tries again, if nobody seeks anything, and then goes
-/// on as where the lock is taken: so where others seek too, it is left to its owner meanwhile. Before each sleep it does
-/// what `before` says.
-#[tactic(auto, using(crate::proofs::Seeking::owner_on))]
+/// Where the lock was held and parked it lines up at once. Else it goes on as where the lock is taken: so where others
+/// seek too, it is left to its owner meanwhile. Before each sleep it does what `before` says.
 #[cold]
 #[inline(never)]
 pub fn get_slowly<V: Keeps + Send, N: LotName<V> + Send, C: Tally + Send, R: Wait, B: BeforeSleep>(
@@ -243,19 +201,10 @@ pub fn get_slowly<V: Keeps + Send, N: LotName<V> + Send, C: Tally + Send, R: Wai
     ensures owner { IsOwner V.Keeps pass key result }
     ensures ran { (letters_in result.did ≡ letters_in pass.did) ⊎ B.ran before.now }
 {
-    let scheme = parking.scheme();
     let first = if found == HELD_AND_PARKED {
         Look::Parked
     } else {
         Look::Taken
     };
-    let tries = match first {
-        Look::Taken if !parking.has_seekers() => TRIES_ALONE,
-        Look::Free | Look::Taken | Look::Parked => 0,
-    };
-    let (pass, got) = try_again(scheme, pass, key, tries);
-    if got {
-        return pass;
-    }
     get_or_park::<LotScheme<V, N, C>, Locks, R, B>(rt, parking, pass, key, first, before)
 }

@@ -1,7 +1,7 @@
 //! Locks over a parking lot: WTF's `Lock`, for the locks of a lot.
 //!
 //! It stands on lot_scheme, which has the words, passes and roots of a lot under its name, as a parking lot sees them,
-//! and on lot_park, whose loop gets a lock. It is the sibling of lot_permits, and lot_waits stands on it.
+//! and on lot_seeking, whose loop gets a lock. It is the sibling of lot_permits, and lot_waits stands on it.
 //!
 //! | Call | Where nobody contends | Else |
 //! |---|---|---|

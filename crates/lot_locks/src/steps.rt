@@ -8,8 +8,9 @@ ghost use Rattle.lot_park.specs.Parking.{Tells};
 
 use crate::getting::Locks;
 use crate::released::Released;
-use lot_park::{Sought, Token, UnparkResult};
+use lot_park::{Token, UnparkResult};
 use lot_scheme::{LotName, LotScheme, NamedPass, NamedRoot, Tally};
+use lot_seeking::Sought;
 use lot_whole::Keeps;
 
 /// The token of a direct handoff: whoever finds it owns the lock already.

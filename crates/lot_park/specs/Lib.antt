@@ -1,3 +1,2 @@
 pub mod Parking
 pub mod Lots
-pub mod Seeking

@@ -1,7 +1,7 @@
 //! The parking lot: lines of sleeping threads, one for each key.
 //!
 //! Stands on lot_bucket, which queues, on lot_table, which finds a key's bucket and grows, and on
-//! lot_records, where threads sleep. Locks, conditions and semaphores stand on it. It is written for every
+//! lot_records, where threads sleep. lot_seeking stands on it, and locks, conditions and semaphores do. It is written for every
 //! `Scheme`, so it knows neither locks nor words nor values.
 //!
 //! | Call | Under the lock of the key's bucket | After it |
@@ -15,19 +15,14 @@
 //! its letter. A thread may be unparked between its queueing and its sleep: then it does not sleep. What a
 //! look for a letter does, also one that finds none, the scheme says (`looked`), and a parking's contract
 //! chains the looks (`Awaited`).
-//!
-//! Whoever seeks a lock or a permit gets it by `get_or_park`: it yields up to 40 times, and then parks.
 #![tactic(auto)]
 
 pub mod lot;
 mod parking;
 pub mod scheme;
-pub mod seeking;
-mod spins;
 mod taken;
 
 pub use lot::{ParkFault, Parked, ParkingLot};
 pub use lot_bucket::{Dequeued as UnparkResult, Moment, Root};
 pub use lot_table::{FEW_KEYS, Grown, MOST_THREADS, Served, TableFault, Unlocked};
-pub use scheme::{Scheme, Token};
-pub use seeking::{AtOnce, BeforeSleep, Look, Seeking, Sought, get_or_park};
+pub use scheme::{AtOnce, BeforeSleep, Scheme, Token};

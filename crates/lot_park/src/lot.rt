@@ -357,13 +357,13 @@ impl<S: Scheme> ParkingLot<S> {
         self.seeking.load(Ordering::SeqCst) != 0
     }
 
-    // A thread begins to seek something, and is counted. Answers how many others are.
-    pub(crate) fn begin_seeking(&self) -> usize {
+    /// A thread begins to seek something, and is counted. Answers how many others were.
+    pub fn begin_seeking(&self) -> usize {
         self.seeking.fetch_add(1, Ordering::SeqCst)
     }
 
-    // A thread has got what it sought.
-    pub(crate) fn end_seeking(&self) {
+    /// A thread has got what it sought, and is counted no more.
+    pub fn end_seeking(&self) {
         self.seeking.fetch_sub(1, Ordering::SeqCst);
     }
 

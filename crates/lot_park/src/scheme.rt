@@ -41,3 +41,20 @@ pub trait Scheme {
         ensures thread { thread result.0 ≡ thread pass }
         ensures looked { MatchOption result.1 (looked pass None result.0) (λ t. looked pass (Some t.0) result.0) };
 }
+
+/// What a thread does that was queued, before it sleeps. No bucket is locked then.
+pub trait BeforeSleep {
+    /// It ran. Code that is written for every action knows this of one only by running it.
+    ghost ran: { Self → Type 0 } = { λ _. Unit {0} };
+
+    fn run(&self)
+        ensures { ran self.now };
+}
+
+/// Nothing: the thread sleeps at once.
+pub struct AtOnce;
+
+impl BeforeSleep for AtOnce {
+    #[inline(always)]
+    fn run(&self) {}
+}

@@ -4,7 +4,7 @@ use Rattle.std.specs.Option.{is_some}
 use Rattle.lot_rights.specs.declared.views.Access.{Access}
 use Rattle.lot_rights.specs.declared.views.Access.TheVariants.{Collects}
 use Rattle.lot_park.specs.Parking.{Awaited}
-use Rattle.lot_park.specs.declared.seeking.Seeking.TheVariants.{Parks}
+use Rattle.lot_seeking.specs.declared.seeking.Seeking.TheVariants.{Parks}
 use Rattle.lot_park.proofs.Looks.{awaited_keeps}
 use Rattle.lot_words.specs.CallersRule.{CallersRule}
 use Rattle.lot_sems.specs.Calls.{seeking as sem_seeking}
@@ -34,7 +34,6 @@ module _ {V Part : Type 0} (rule : CallersRule V Part) where
     sleeps_on : (p q : LotStanding V) → IsAsleepFor rule.above first_sem before key p → IsLooked rule p None q
         → IsAsleepFor rule.above first_sem before key q
     sleeps_on p q s look = record {
-      among = s.among;
       may = s.may;
       did = s.did ++ Collects before.thread None ∷ [];
       sought = seek_on before.thread key s.did (Collects before.thread None) s.sought refl;
@@ -51,10 +50,9 @@ module _ {V Part : Type 0} (rule : CallersRule V Part) where
     wakes : (p q : LotStanding V) (token : ℕ) → IsAsleepFor rule.above first_sem before key p → IsLooked rule p (Some token) q
         → IsSeekingFor rule.above first_sem before key q
     wakes p q token s look =
-        let up = up_of before.own key s.may.0 in
+        let up = up_of before.own key s.may.1.0 in
         let found = finds_at s.did token q up (subst (λ (r : LotStanding V). IsLooked rule r (Some token) q) s.is look) in
         record {
-          among = s.among;
           may = s.may;
           did = s.did ++ Collects before.thread (Some token) ∷ [];
           sought = seek_on before.thread key s.did (Collects before.thread (Some token)) s.sought

@@ -1,13 +1,12 @@
 -- How a pass stands whose thread seeks a permit of k: p before it began, q now. The keys of the semaphores begin at first_sem.
 use Rattle.std.specs.Prelude.{◌≡◌, ◌≢◌, ℕ, ◌≤◌, ◌⊎◌, List}
-use Rattle.std.specs.List.{All}
 use Rattle.lot_events.specs.declared.events.Event.TheVariants.{SemMark}
 use Rattle.lot_events.specs.declared.events.Seen.TheVariants.{Done}
 use Rattle.lot_rights.specs.declared.views.Access.{Access}
 use Rattle.lot_rights.specs.declared.views.Access.TheVariants.{Makes, Finds}
 use Rattle.lot_whole.specs.Standing.{MayWantPermit}
-use Rattle.lot_park.specs.declared.seeking.Seeking.{Seeking}
-use Rattle.lot_park.specs.declared.seeking.Seeking.TheVariants.{Got, Waits, Parks}
+use Rattle.lot_seeking.specs.declared.seeking.Seeking.{Seeking}
+use Rattle.lot_seeking.specs.Seeking.{IsOnItsWay, SeeksSo}
 use Rattle.lot_scheme.specs.Standing.{LotStanding, EndsWith, adding, seeking, queued, one_permit_more}
 use Rattle.lot_scheme.specs.Traces.{IsPermitSeek, GetPermitTrace, BusyTrace}
 
@@ -29,28 +28,23 @@ module _ {V : Type 0} where
 
 -- where above is the order of keys
 module _ {V : Type 0} (above : ℕ → ℕ → Type 0) where
-  -- it could seek a permit of k, has got none by these accesses, and stands so after them
-  pub record IsOnItsWay (first_sem : ℕ) (p : LotStanding V) (k : ℕ) (stands : List Access → Type 0) : Type 0 where
-    pub among : first_sem ≤ k
-    pub may : MayWantPermit above p.own k
-    pub did : List Access
-    pub sought : All (IsPermitSeek p.thread k) did
-    pub is : stands did
+  -- it may seek a permit of k
+  abbrev pub MaySeekOf : ℕ → LotStanding V → ℕ → Type 0
+  MaySeekOf first_sem p k = (first_sem ≤ k) × MayWantPermit above p.own k
 
   -- it seeks a permit, and is in no line
   abbrev pub IsSeekingFor : ℕ → LotStanding V → ℕ → LotStanding V → Type 0
-  IsSeekingFor first_sem p k q = IsOnItsWay first_sem p k (λ did. q ≡ adding (seeking p k) did)
+  IsSeekingFor first_sem p k q = IsOnItsWay (MaySeekOf first_sem p k) (IsPermitSeek p.thread k) (λ did. q ≡ adding (seeking p k) did)
 
   -- it is in no line, and seeks a permit or stands as before
   abbrev pub IsAwakeFor : ℕ → LotStanding V → ℕ → LotStanding V → Type 0
-  IsAwakeFor first_sem p k q = IsOnItsWay first_sem p k (λ did. (q ≡ adding p did) ⊎ (q ≡ adding (seeking p k) did))
+  IsAwakeFor first_sem p k q = IsOnItsWay (MaySeekOf first_sem p k) (IsPermitSeek p.thread k)
+      (λ did. (q ≡ adding p did) ⊎ (q ≡ adding (seeking p k) did))
 
   -- it seeks a permit, and is queued in the semaphore's line
   abbrev pub IsAsleepFor : ℕ → LotStanding V → ℕ → LotStanding V → Type 0
-  IsAsleepFor first_sem p k q = IsOnItsWay first_sem p k (λ did. q ≡ adding (queued p k) did)
+  IsAsleepFor first_sem p k q = IsOnItsWay (MaySeekOf first_sem p k) (IsPermitSeek p.thread k) (λ did. q ≡ adding (queued p k) did)
 
   -- by how far it is
   abbrev pub Seeks : ℕ → LotStanding V → ℕ → Seeking → LotStanding V → Type 0
-  Seeks first_sem p k Got q = GetsPermit p k q
-  Seeks first_sem p k Waits q = IsAwakeFor first_sem p k q
-  Seeks first_sem p k Parks q = IsSeekingFor first_sem p k q
+  Seeks first_sem = SeeksSo (λ (p : LotStanding V). p.thread) adding seeking (MaySeekOf first_sem) IsPermitSeek GetsPermit

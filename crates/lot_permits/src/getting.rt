@@ -4,8 +4,9 @@ ghost use Rattle.lot_core.specs.Parts.{IsAmongSemaphores};
 ghost use Rattle.lot_permits.specs.Seeking.{GetsPermit, IsAwakeFor};
 
 use crate::steps::Sems;
-use lot_park::{AtOnce, Look, ParkingLot, Seeking, Sought, Token, get_or_park};
+use lot_park::{AtOnce, ParkingLot, Token};
 use lot_scheme::{LotName, LotScheme, NamedPass, NamedRoot, Tally};
+use lot_seeking::{Look, Seeking, Sought, get_or_park};
 use lot_sems::{PARKED, PERMIT, Taken};
 use lot_whole::Keeps;
 use std::sync::Wait;

@@ -7,8 +7,9 @@ ghost use Rattle.lot_permits.specs.declared.permit.Freed.{Freed};
 ghost use Rattle.lot_permits.specs.declared.permit.Freed.TheVariants.{Quiet};
 
 use crate::permit::Freed;
-use lot_park::{Sought, UnparkResult};
+use lot_park::UnparkResult;
 use lot_scheme::{LotName, LotScheme, NamedPass, NamedRoot, Tally};
+use lot_seeking::Sought;
 use lot_whole::Keeps;
 
 /// Names permits, where a scheme says how its threads seek them.

@@ -26,7 +26,7 @@ const WOKEN: u64 = 1;
 const ASLEEP: u64 = 2;
 
 /// How often a thread yields before it sleeps.
-const YIELDS: u32 = 8;
+const YIELDS: u32 = 20;
 
 /// A place where one thread at a time sleeps, as the `ThreadData` of WTF's parking lot.
 ///

@@ -1,8 +1,8 @@
 -- What a pass did last.
 use Rattle.std.proofs.Common.{◌≡◌, Bool, true, false, List, [], ◌∷◌, ◌++◌, ap, sym, subst, ◌∙◌, append_assoc}
-use Rattle.lot_park.specs.declared.seeking.Seeking.{Seeking}
-use Rattle.lot_park.specs.declared.seeking.Seeking.TheVariants.{Waits, Parks}
-use Rattle.lot_park.specs.Seeking.{LinedUp}
+use Rattle.lot_seeking.specs.declared.seeking.Seeking.{Seeking}
+use Rattle.lot_seeking.specs.declared.seeking.Seeking.TheVariants.{Waits, Parks}
+use Rattle.lot_seeking.specs.Seeking.{LinedUp}
 use Rattle.lot_rights.specs.declared.views.Access.{Access}
 use Rattle.lot_scheme.specs.Standing.{LotStanding, EndsWith}
 

@@ -14,9 +14,9 @@ use crate::kinds::tables::{
     open_words, unname_roots,
 };
 use lot_locks::{Locks, Released, let_go};
-use lot_park::seeking::park;
 use lot_park::{BeforeSleep, Parked, ParkingLot};
 use lot_scheme::{LotName, LotScheme};
+use lot_seeking::seeking::park;
 use std::alloc::Global;
 use std::marker::Brand;
 use std::process::Abort;

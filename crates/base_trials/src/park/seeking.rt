@@ -5,7 +5,8 @@ use super::askings::{ASKINGS, is_within};
 use super::letters::{Letters, Pass, THREADS, no_letters};
 use super::rights::{Right, idle_rights};
 use crate::asserts::{equal, failed, is_so};
-use lot_park::{AtOnce, Look, ParkingLot, Seeking, Sought, Token, get_or_park};
+use lot_park::{AtOnce, ParkingLot, Token};
+use lot_seeking::{Look, Seeking, Sought, get_or_park};
 use std::alloc::Global;
 use std::process::Abort;
 use std::sync::Wait;
@@ -40,6 +41,11 @@ impl Sought<Prizes> for Letters {
         (pass, false)
     }
 
+    fn take_free(&self, pass: Pass, _key: usize) -> (Pass, bool) {
+        self.note_a_try();
+        (pass, false)
+    }
+
     fn line_up(&self, pass: Pass, _key: usize, _is_marked: bool) -> (Pass, Seeking) {
         (pass, Seeking::Got)
     }
@@ -53,9 +59,9 @@ impl Sought<Prizes> for Letters {
     }
 }
 
-// How often a thread looks before it lines up that has seen this of the word and seeks alone, and how often when it
-// seeks once more.
-fn looks<R: Wait + Abort>(rt: &R, alloc: Global, first: Look) -> (u64, u64) {
+// How often a thread tries, and how often it looks, before it lines up that has seen this of the word and seeks alone.
+// It seeks twice.
+fn alone<R: Wait + Abort>(rt: &R, alloc: Global, first: Look) -> (u64, u64) {
     let rights = idle_rights(alloc, 1).expect(rt, "memory");
     let (lot, mut room) = match ParkingLot::open(alloc, THREADS, rights, no_letters()) {
         Ok(opened) => opened,
@@ -63,19 +69,18 @@ fn looks<R: Wait + Abort>(rt: &R, alloc: Global, first: Look) -> (u64, u64) {
     };
     let pass = Pass { thread: 0 };
     let pass = get_or_park::<Letters, Prizes, R, AtOnce>(rt, &lot, pass, 0, first, &AtOnce);
-    let once = lot.scheme().looks_at_words();
     let _pass = get_or_park::<Letters, Prizes, R, AtOnce>(rt, &lot, pass, 0, first, &AtOnce);
-    let twice = lot.scheme().looks_at_words();
-    let _letters = lot.close(rt, &mut room);
-    (once, twice)
+    let letters = lot.close(rt, &mut room);
+    (letters.tries(), letters.looks_at_words())
 }
 
-// A thread that seeks alone looks once before its 40 yields and after each, also when it seeks again, since it is
-// counted no more. Where it has seen that somebody is parked, it lines up at once.
+// A thread that seeks alone tries twice, and looks once before its 40 yields, after each of the first four, and then
+// after every second: 23 times. So it does again when it seeks again, since it is counted no more. Where it has seen
+// that somebody is parked, it lines up at once.
 #[test]
 fn a_thread_looks_before_it_lines_up(rt: HostRuntime) {
-    equal(&rt, looks(&rt, rt.alloc(), Look::Taken), (41, 82));
-    equal(&rt, looks(&rt, rt.alloc(), Look::Parked), (0, 0));
+    equal(&rt, alone(&rt, rt.alloc(), Look::Taken), (4, 46));
+    equal(&rt, alone(&rt, rt.alloc(), Look::Parked), (0, 0));
 }
 
 // What two threads seek that line up together: thread 1 stays awake in line until thread 0 has lined up. It has no

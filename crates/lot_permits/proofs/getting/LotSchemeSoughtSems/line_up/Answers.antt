@@ -13,7 +13,7 @@ mark_permit-pass-requires-clause-seeks g c =
     let first_sem = g.N.LotName.first_sem in
     let p = c.args.pass in
     let q = c.take_permit-pass.result.0 in
-    may_mark above first_sem p q c.args.key (found_none above first_sem p q c.args.key c.requires.has.0 c.requires.waits.may
+    may_mark above first_sem p q c.args.key (found_none above first_sem p q c.args.key c.requires.has.0 c.requires.waits.may.1
     (subst (λ (b : Taken). TakesPermit p c.args.key b q) c.in-Empty.is c.take_permit-pass.ensures))
 
 pub returns-after-marked-clause-lined : goal.returns-after-marked-clause-lined
@@ -24,7 +24,7 @@ returns-after-marked-clause-lined g c =
     let q = c.take_permit-pass.result.0 in
     let r = c.mark_permit-pass.result.0 in
     let seeks =
-    found_none above first_sem p q c.args.key c.requires.has.0 c.requires.waits.may
+    found_none above first_sem p q c.args.key c.requires.has.0 c.requires.waits.may.1
     (subst (λ (b : Taken). TakesPermit p c.args.key b q) c.in-Empty.is c.take_permit-pass.ensures) in
     elim c.if-marked.branch [
       | then-marked w ↦ parks_marked (FindsAnother p c.args.key r) (HasMarked p c.args.key r) c.if-marked.now c.args.is_marked

@@ -32,7 +32,7 @@ get_free-right-requires-clause-may g c =
 
 pub get_slowly-right-requires-clause-may : goal.get_slowly-right-requires-clause-may
 get_slowly-right-requires-clause-may g c κs within =
-    may_take g.V.Keeps.above g.N.LotName.locks c.apart-right.result.0 c.get_free-right.result.0 c.args.key
+    may_take g.V.Keeps g.N.LotName.locks c.apart-right.result.0 c.get_free-right.result.0 c.args.key
     (c.get_free-right.ensures.missed c.if-found-eq-UNHELD.false)
 
 pub get_slowly-right-requires-clause-found : goal.get_slowly-right-requires-clause-found

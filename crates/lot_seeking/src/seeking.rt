@@ -1,7 +1,8 @@
 //! Getting what a thread may have to park for, a lock or a permit, as WTF's `Lock::lock` gets a lock: a few yields, and
 //! then the line.
 //!
-//! Each turn begins with one look at the word, and what that tells says what the thread does:
+//! Where none was left, nobody was marked as parked, and nobody else seeks, the thread first tries twice more. Then each
+//! turn begins with one look at the word, and what that tells says what the thread does:
 //!
 //! | The word says | and the thread | Then it |
 //! |---|---|---|
@@ -11,12 +12,11 @@
 //! | `Parked` | lines up | has it, or looks again |
 ghost use Rattle.std.specs.Prelude.{◌≡◌, ◌<◌, ◌⊎◌, MatchBool};
 ghost use Rattle.lot_park.specs.Parking.{Ends, Awaited, Queues};
-ghost use Rattle.lot_park.specs.Seeking.{SeekingLaws};
-ghost use Rattle.lot_park.specs.declared.seeking.Seeking.TheVariants.{Got, Waits, Parks};
+ghost use Rattle.lot_seeking.specs.Seeking.{SeekingLaws};
+ghost use Rattle.lot_seeking.specs.declared.seeking.Seeking.TheVariants.{Got, Waits, Parks};
 
-use crate::lot::{Parked, ParkingLot};
-use crate::scheme::{Scheme, Token};
-use crate::spins::Spins;
+use crate::spins::{Spins, TRIES_ALONE, pause};
+use lot_park::{BeforeSleep, Parked, ParkingLot, Scheme, Token};
 use std::sync::Wait;
 
 /// What one look at a word tells of what is sought.
@@ -46,9 +46,9 @@ pub enum Seeking {
 pub trait Sought<T>: Scheme {
     ghost use Rattle.std.specs.Prelude.{◌≡◌, ℕ, MatchBool};
     ghost use Rattle.lot_park.specs.Parking.{Awaited, Queues};
-    ghost use Rattle.lot_park.specs.Seeking.{LinedUp};
-    ghost use Rattle.lot_park.specs.declared.seeking.Seeking.{Seeking};
-    ghost use Rattle.lot_park.specs.declared.seeking.Seeking.TheVariants.{Got, Waits, Parks};
+    ghost use Rattle.lot_seeking.specs.Seeking.{LinedUp};
+    ghost use Rattle.lot_seeking.specs.declared.seeking.Seeking.{Seeking};
+    ghost use Rattle.lot_seeking.specs.declared.seeking.Seeking.TheVariants.{Got, Waits, Parks};
 
     /// The table has what is sought under the key.
     ghost has: { Self → ℕ → Type 0 };
@@ -121,28 +121,61 @@ pub trait Sought<T>: Scheme {
             → MatchBool result (seeks before key Got now) (seeks before key Parks now) };
 }
 
-/// What a thread does that was queued, before it sleeps. No bucket is locked then.
-pub trait BeforeSleep {
-    /// It ran. Code that is written for every action knows this of one only by running it.
-    ghost ran: { Self → Type 0 } = { λ _. Unit {0} };
-
-    fn run(&self)
-        ensures { ran self.now };
-}
-
-/// Nothing: the thread sleeps at once.
-pub struct AtOnce;
-
-impl BeforeSleep for AtOnce {
-    #[inline(always)]
-    fn run(&self) {}
-}
-
-/// Gets it, by a thread that has missed it and knows this of its word. Where other threads of the lot seek something
-/// too, it yields before it looks again, since a look takes the word's line of the cache from its owner. Before each
-/// sleep it does what `before` says, so where it was woken, that has run.
+/// Gets it, by a thread that has missed it and knows this of its word. Before each sleep it does what `before` says, so
+/// where it was woken, that has run.
 #[inline(always)]
 pub fn get_or_park<S: Sought<T>, T, R: Wait, B: BeforeSleep>(
+    rt: &R,
+    parking: &ParkingLot<S>,
+    pass: S::Pass,
+    key: usize,
+    first: Look,
+    before: &B,
+) -> S::Pass
+    requires laws { SeekingLaws S.thread S.seeks }
+    requires has { S.has parking.now.scheme key }
+    requires key { key < parking.now.keys }
+    requires thread { S.thread pass < parking.now.threads }
+    requires waits { S.seeks pass key Waits pass }
+    ensures got { S.seeks pass key Got result }
+    ensures ran { (S.woken result ≡ S.woken pass) ⊎ B.ran before.now }
+{
+    let tries = match first {
+        Look::Taken if !parking.has_seekers() => TRIES_ALONE,
+        Look::Free | Look::Taken | Look::Parked => 0,
+    };
+    let (pass, has_got) = try_again::<S, T>(parking.scheme(), pass, key, tries);
+    if has_got {
+        pass
+    } else {
+        look_or_park::<S, T, R, B>(rt, parking, pass, key, first, before)
+    }
+}
+
+/// Tries so often to take a free one, with pauses of the processor before each try.
+fn try_again<S: Sought<T>, T>(scheme: &S, pass: S::Pass, key: usize, tries: u32) -> (S::Pass, bool)
+    requires laws { SeekingLaws S.thread S.seeks }
+    requires has { S.has scheme.now key }
+    requires waits { S.seeks pass key Waits pass }
+    ensures far { MatchBool result.1 (S.seeks pass key Got result.0) (S.seeks pass key Waits result.0) }
+    ensures awake { S.woken result.0 ≡ S.woken pass }
+{
+    let mut pass = pass;
+    for _ in 0..tries {
+        pause();
+        let (next, has_got) = scheme.take_free(pass, key);
+        if has_got {
+            return (next, true);
+        }
+        pass = next;
+    }
+    (pass, false)
+}
+
+/// Looks, yields and parks until it has got it. Where other threads of the lot seek something too, it yields before it
+/// looks again, since a look takes the word's line of the cache from its owner.
+#[inline(always)]
+fn look_or_park<S: Sought<T>, T, R: Wait, B: BeforeSleep>(
     rt: &R,
     parking: &ParkingLot<S>,
     pass: S::Pass,

@@ -1,5 +1,5 @@
 use Rattle.std.proofs.Common.{rules}
-use Rattle.lot_park.proofs.seeking.park.Goals as goal
+use Rattle.lot_seeking.proofs.seeking.park.Goals as goal
 
 pub returns : goal.returns
 returns g c = search rules

@@ -1,5 +1,5 @@
 use Rattle.std.proofs.Common.{rules}
-use Rattle.lot_park.proofs.seeking.get_or_park.Goals as goal
+use Rattle.lot_seeking.proofs.seeking.look_or_park.Goals as goal
 
 pub returns-then-has_got : goal.returns-then-has_got
 returns-then-has_got g c = search rules

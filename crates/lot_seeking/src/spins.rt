@@ -1,8 +1,16 @@
-//! How often a thread yields before it parks.
-ghost use Rattle.std.specs.Prelude.{◌≡◌, ◌<◌, ◌≤◌, ◌↔◌, ◌+◌, min, IsTrue};
-ghost use Rattle.lot_park.specs.declared.spins.TheConstants.{MOST_SPINS, BESIDE_ONE, BESIDE_TWO, IN_A_CROWD};
+//! How long a thread leaves a word alone before it tries or looks again, and how often it yields before it parks.
+ghost use Rattle.std.specs.Prelude.{◌≡◌, ◌<◌, ◌≤◌, ◌↔◌, ◌+◌, min, false, IsTrue};
+ghost use Rattle.lot_seeking.specs.declared.spins.TheConstants.{MOST_SPINS, BESIDE_ONE, BESIDE_TWO, IN_A_CROWD};
+ghost use Rattle.lot_seeking.specs.declared.spins.TheConstants.{EARLY_YIELDS, BETWEEN_LATE_LOOKS};
 
-use std::thread;
+use std::{hint, thread};
+
+/// How often a thread that has missed what it seeks tries again before it yields, where nobody is counted as seeking.
+pub(crate) const TRIES_ALONE: u32 = 2;
+
+/// How often the processor pauses before each of these tries, to leave the word's line of the cache to the owner for a
+/// short section.
+const PAUSES: u32 = 8;
 
 /// How often one call yields before it parks, at most: as WTF's `Lock`.
 const MOST_SPINS: u32 = 40;
@@ -15,10 +23,24 @@ const BESIDE_ONE: u32 = 8;
 const BESIDE_TWO: u32 = 20;
 
 /// How often where more do, so that most of them sleep.
-const IN_A_CROWD: u32 = 12;
+const IN_A_CROWD: u32 = 8;
 
-/// How often one call has yielded so far, at most 40 times; how often it yields before it tries or looks next: once, but
-/// for the first time; and whether nobody else sought as it began.
+/// After so many yields a thread that seeks alone yields more often than once between two looks, since its looks make
+/// the owner's rounds longer.
+const EARLY_YIELDS: u32 = 4;
+
+/// How often it yields between two looks then.
+const BETWEEN_LATE_LOOKS: u32 = 2;
+
+/// Leaves the word alone for a moment.
+pub(crate) fn pause() {
+    for _ in 0..PAUSES {
+        hint::spin_loop();
+    }
+}
+
+/// How often one call has yielded so far, at most 40 times; how often it yields before it tries or looks next; and
+/// whether nobody else sought as it began.
 #[derive(Clone, Copy)]
 pub(crate) struct Spins {
     made: u32,
@@ -68,7 +90,9 @@ impl Spins {
     /// Yields until it is time to try or look again.
     pub(crate) fn back_off(&mut self)
         ensures made { self.new.made ≡ min MOST_SPINS (self.old.made + self.old.before_next) }
-        ensures next { self.new.before_next ≡ 1 }
+        ensures early { self.new.made < EARLY_YIELDS → self.new.before_next ≡ 1 }
+        ensures late { IsTrue self.old.is_alone → EARLY_YIELDS ≤ self.new.made → self.new.before_next ≡ BETWEEN_LATE_LOOKS }
+        ensures beside { self.old.is_alone ≡ false → self.new.before_next ≡ 1 }
         ensures alone { self.new.is_alone ≡ self.old.is_alone }
     {
         let end = MOST_SPINS.min(self.made + self.before_next);
@@ -76,6 +100,10 @@ impl Spins {
             thread::yield_now();
         }
         self.made = end;
-        self.before_next = 1;
+        self.before_next = if self.is_alone && end >= EARLY_YIELDS {
+            BETWEEN_LATE_LOOKS
+        } else {
+            1
+        };
     }
 }

@@ -1,6 +1,6 @@
 use Rattle.std.proofs.Common.{◌≡◌, ◌⊎◌}
-use Rattle.lot_park.specs.declared.seeking.Seeking.TheVariants.{Waits}
-use Rattle.lot_park.proofs.seeking.get_or_park.Given as goal
+use Rattle.lot_seeking.specs.declared.seeking.Seeking.TheVariants.{Waits}
+use Rattle.lot_seeking.proofs.seeking.look_or_park.Given as goal
 
 abbrev pub invariant-loop : goal.invariant-loop
 invariant-loop g l = record {
