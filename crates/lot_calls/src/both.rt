@@ -12,8 +12,8 @@ use std::sync::Wait;
 
 /// Gets two locks, works on their values, and lets them go:
 /// `let (pass, ()) = with_both(rt, lot, pass, 3, 1, now, |a, b| swap(a, b));`. The lock with the lower number is got
-/// first and let go last, so no two threads that get two locks so wait for one another. Of both values the work may take
-/// what the pass knows of them (`Finds`).
+/// first and let go last, so no two threads that get two locks so wait for one another. Of both values the work may
+/// take what the pass knows of them (`Finds`).
 pub fn with_both<
     V: Keeps + Send,
     O,

@@ -14,9 +14,9 @@ use std::sync::Wait;
 use std::thread::{Threads, join_mut};
 
 /// Does the work with each, in a thread of its own where one can be started: what the work gave back lies in its place
-/// then. `work_all(rt, &|pass| count(rt, &lot, pass), &mut passes);`. One thread may do two of them, one after the other.
-/// So what one waits for has to be in hand already, as a lock that another will let go, or work that it has begun: else
-/// call `work_together`, which may find that a thread can't be started.
+/// then. `work_all(rt, &|pass| count(rt, &lot, pass), &mut passes);`. One thread may do two of them, one after the
+/// other. So what one waits for has to be in hand already, as a lock that another will let go, or work that it has
+/// begun: else call `work_together`, which may find that a thread can't be started.
 #[cycle(workers)]
 pub fn work_all<P: Send, T: Threads + Sync, F: Fn(P) -> P + Sync>(
     rt: &T,

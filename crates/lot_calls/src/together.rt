@@ -10,9 +10,9 @@ use std::sync::atomic::{AtomicU64, Ordering};
 use std::thread;
 use std::thread::{Promise, Threads};
 
-/// Does the work with each, all at once, each in a thread of its own, and answers whether: what the work gave back lies in
-/// its place then. `let (passes, worked) = work_together(rt, &|pass| meet(rt, &lot, pass), passes);`. One may wait for
-/// what another does. Nobody begins before all have started; where a thread can't be started, nothing was done.
+/// Does the work with each, all at once, each in a thread of its own, and answers whether: what the work gave back lies
+/// in its place then. `let (passes, worked) = work_together(rt, &|pass| meet(rt, &lot, pass), passes);`. One may wait
+/// for what another does. Nobody begins before all have started; where a thread can't be started, nothing was done.
 pub fn work_together<P: Send, T: Threads + Wait + Sync, F: Fn(P) -> P + Sync>(
     rt: &T,
     work: &F,

@@ -57,8 +57,8 @@ pub fn wait_until<
     unreachable!()
 }
 
-/// Gets the lock when its value is as wanted: `lock`, and then `wait_until`, which does not wait where the value that was
-/// found is so already.
+/// Gets the lock when its value is as wanted: `lock`, and then `wait_until`, which does not wait where the value that
+/// was found is so already.
 pub fn lock_until<
     V: Keeps + Send,
     N: LotName<V> + Send,

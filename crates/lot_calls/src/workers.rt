@@ -40,9 +40,9 @@ pub fn start_with_room<V: Keeps + Send, N: LotName<V> + Send>(
     }
 }
 
-/// Starts the lot, and registers for each of its threads: `start_with_passes::<V, N, T>(rt, alloc, threads, opened)`. The
-/// passes are for workers (`work_together`), and have a list with room for all. Where memory was refused, the values come
-/// back.
+/// Starts the lot, and registers for each of its threads: `start_with_passes::<V, N, T>(rt, alloc, threads, opened)`.
+/// The passes are for workers (`work_together`), and have a list with room for all. Where memory was refused, the
+/// values come back.
 pub fn start_with_passes<V: Keeps + Send, N: LotName<V> + Send, T: Wait>(
     rt: &T,
     alloc: Global,

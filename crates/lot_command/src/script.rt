@@ -8,7 +8,8 @@ use std::io::{ErrorKind, Read};
 /// The greatest length of a script file, in bytes.
 const MAX_FILE: u64 = 4_000_000;
 
-/// The script that the file holds. The whole text is parsed here, so a bad line is told before bad limits, and bad limits before a refused event.
+/// The script that the file holds. The whole text is parsed here, so a bad line is told before bad limits, and bad
+/// limits before a refused event.
 pub fn read_script<F: Read + Drop>(alloc: Global, file: F) -> Result<Script, Failure> {
     let text = read_text(alloc, file)?;
     parse_script(alloc, text.as_str()).map_err(|fault| match fault {

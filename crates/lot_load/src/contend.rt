@@ -21,8 +21,8 @@ use std::thread::Threads;
 /// How many locks are told of at most.
 const MOST_TOLD: usize = 8;
 
-/// How often an owner yields before it lets the lock go: more often than who seeks it yields before it parks. So threads
-/// park on few processors too.
+/// How often an owner yields before it lets the lock go: more often than who seeks it yields before it parks. So
+/// threads park on few processors too.
 const YIELDS: u32 = 48;
 
 /// What all locks counted together, how many rounds the threads went, and the locks that were waited for most, printed.

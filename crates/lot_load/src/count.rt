@@ -172,8 +172,8 @@ pub fn add_one<V: Counts, N>(held: &mut Held<V, N>, thread: usize) -> bool
     held.value_mut().count_up(key, thread)
 }
 
-/// What a worker does with a value: it counts itself. A round is generic over it: what is proved of a round is proved of
-/// each such value.
+/// What a worker does with a value: it counts itself. A round is generic over it: what is proved of a round is proved
+/// of each such value.
 pub trait Counts: Keeps {
     ghost use Rattle.std.specs.Prelude.{◌≡◌, ◌≢◌, ℕ, MatchBool};
 

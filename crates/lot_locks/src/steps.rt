@@ -48,8 +48,8 @@ pub trait LockSteps: Sought<Locks> {
             → passes_on result.0 key more became after → lets_go pass key became after)) };
 
     /// The callback of a slow unlock: the lock is handed to the sleeper that was taken where the release is fair, and
-    /// left to whoever comes first otherwise. What it decides is what the unlock answers. The lock stays marked as parked
-    /// where it is told that more may wait.
+    /// left to whoever comes first otherwise. What it decides is what the unlock answers. The lock stays marked as
+    /// parked where it is told that more may wait.
     fn hand_over(
         &self,
         pass: Self::Pass,

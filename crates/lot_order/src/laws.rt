@@ -16,9 +16,9 @@ pub trait KeyOrder {
 }
 
 /// In a state that is in order no thread waits for itself, whatever others lie between. While some thread needs a key,
-/// some thread goes on; or one that has a needed key waits to be notified, or one seeks a permit of a semaphore that was
-/// opened with none. Where whoever waits for a notification keeps nothing, since no key may be kept with it, one of the
-/// other two holds.
+/// some thread goes on; or one that has a needed key waits to be notified, or one seeks a permit of a semaphore that
+/// was opened with none. Where whoever waits for a notification keeps nothing, since no key may be kept with it, one of
+/// the other two holds.
 pub fn ordered_states_go_on<O: KeyOrder>()
     ensures no_circle { (level : ℕ → ℕ) (s : StateView) → Rises O.above level → IsOrdered O.above s
         → HasNoCircle s }

@@ -1,8 +1,8 @@
 //! The parking lot: lines of sleeping threads, one for each key.
 //!
 //! Stands on lot_bucket, which queues, on lot_table, which finds a key's bucket and grows, and on
-//! lot_records, where threads sleep. lot_seeking stands on it, and locks, conditions and semaphores do. It is written for every
-//! `Scheme`, so it knows neither locks nor words nor values.
+//! lot_records, where threads sleep. lot_seeking stands on it, and locks, conditions and semaphores do. It is
+//! written for every `Scheme`, so it knows neither locks nor words nor values.
 //!
 //! | Call | Under the lock of the key's bucket | After it |
 //! |---|---|---|

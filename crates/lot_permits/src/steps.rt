@@ -27,8 +27,8 @@ pub trait SemSteps: Sought<Sems> {
     /// The pass before, and the pass that has given a permit of the key back, of which this became.
     ghost gives: { Self.Pass → ℕ → Freed → Self.Pass → Type 0 };
 
-    /// The same, where the permit was given back with the key's bucket locked; and whether the semaphore stays marked as
-    /// parked.
+    /// The same, where the permit was given back with the key's bucket locked; and whether the semaphore stays marked
+    /// as parked.
     ghost passes: { Self.Pass → ℕ → Bool → Freed → Self.Pass → Type 0 };
 
     /// A look and one compare-exchange: the permit is given back where nobody is parked. Else the thread still has it,

@@ -8,13 +8,13 @@ ghost use Rattle.lot_regions.specs.Watch.{Watch, opening_watch, watch_after, Kee
 ghost use Rattle.lot_regions.specs.Watch.{state_after, watch_after_all, NoneIsForgotten};
 
 /// Whatever lock each condition belongs to, and whenever a value is ready for it: after every run from an opening state
-/// in which each event keeps the watch, where a value is ready for a condition and somebody stands in its line, a thread
-/// outside that line is to see to it. It owes the condition a notification, which it makes before all else; or it was
-/// taken from that line, and will leave the lock and so owe one again where the value is ready still; or it sweeps the
-/// line.
+/// in which each event keeps the watch, where a value is ready for a condition and somebody stands in its line, a
+/// thread outside that line is to see to it. It owes the condition a notification, which it makes before all else; or
+/// it was taken from that line, and will leave the lock and so owe one again where the value is ready still; or it
+/// sweeps the line.
 ///
-/// Events carry no values: a run comes with the value that each event left, which counts where a calm thread lets a lock
-/// go.
+/// Events carry no values: a run comes with the value that each event left, which counts where a calm thread lets a
+/// lock go.
 pub fn no_notification_is_forgotten<V>()
     ensures opening { (lock_of : ℕ → ℕ) (ready : ℕ → V → Bool) (threads locks conds : ℕ) (permits : List ℕ)
         (values : ℕ → V)

@@ -12,8 +12,8 @@ use lot_whole::Keeps;
 
 impl<V: Keeps, N: LotName<V>, C: Tally> LotScheme<V, N, C> {
     /// Gives both passes back as they were. The point is what it proves: they are of two threads, no lock is held by
-    /// both, of each semaphore both have together at most as many permits as there were at the opening, and of each lock
-    /// both know of one value.
+    /// both, of each semaphore both have together at most as many permits as there were at the opening, and of each
+    /// lock both know of one value.
     pub fn check_apart(
         &self,
         first: NamedPass<V, N>,

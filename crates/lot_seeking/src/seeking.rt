@@ -1,8 +1,8 @@
 //! Getting what a thread may have to park for, a lock or a permit, as WTF's `Lock::lock` gets a lock: a few yields, and
 //! then the line.
 //!
-//! Where none was left, nobody was marked as parked, and nobody else seeks, the thread first tries twice more. Then each
-//! turn begins with one look at the word, and what that tells says what the thread does:
+//! Where none was left, nobody was marked as parked, and nobody else seeks, the thread first tries twice more. Then
+//! each turn begins with one look at the word, and what that tells says what the thread does:
 //!
 //! | The word says | and the thread | Then it |
 //! |---|---|---|
@@ -80,8 +80,8 @@ pub trait Sought<T>: Scheme {
         ensures far { MatchBool result.1 (seeks pass key Got result.0) (seeks pass key Waits result.0) }
         ensures awake { woken result.0 ≡ woken pass };
 
-    /// Takes one by a single exchange, with no look before, where the word of a free one can be guessed, at which nobody
-    /// is marked as parked. It may miss one that is left. Without a body of its own it is `take`.
+    /// Takes one by a single exchange, with no look before, where the word of a free one can be guessed, at which
+    /// nobody is marked as parked. It may miss one that is left. Without a body of its own it is `take`.
     fn take_free(&self, pass: Self::Pass, key: usize) -> (Self::Pass, bool)
         requires has { has self.now key }
         requires waits { seeks pass key Waits pass }

@@ -17,11 +17,11 @@ use std::sync::Wait;
 
 impl<V: Keeps + Send, N: LotName<V> + Send> Lot<V, N, Contention> {
     /// What was counted of the lock, the condition or the semaphore, as it was at some moment of this call; two calls
-    /// are of two moments. The clause says less: some lot of this size had such counts, in a sound state. Who has a pass
-    /// is told more by `note_contention`.
+    /// are of two moments. The clause says less: some lot of this size had such counts, in a sound state. Who has a
+    /// pass is told more by `note_contention`.
     ///
-    /// To find the lock that is waited for most, compare `parked` of all: a thread that gets its lock without parking is
-    /// counted nowhere.
+    /// To find the lock that is waited for most, compare `parked` of all: a thread that gets its lock without parking
+    /// is counted nowhere.
     pub fn contention<R: Wait>(&self, rt: &R, key: usize) -> Contention
         requires { key < self.now.locks + self.now.conds + self.now.sems }
         ensures { WasCounted V.Keeps (size_named N.threads N.locks N.conds N.permits) key result }

@@ -16,7 +16,8 @@
 //! | `acquire`, `release` | a load and a compare-exchange | a sleep in the line; its first is taken and woken |
 //!
 //! A pass is seen with the accesses to words that were made with it. Each call tells in its clause `made` which it
-//! added, as a trace of `specs/Traces` (and of the crates below); its other clauses are about all else of the pass (`≈`).
+//! added, as a trace of `specs/Traces` (and of the crates below); its other clauses are about all else of the pass
+//! (`≈`).
 //! `close` tells that the accesses of each pass are its thread's part, in order, of one run of the whole model.
 #![tactic(auto)]
 

@@ -65,8 +65,8 @@ impl<V: Keeps + Send, N: LotName<V> + Send, C: Tally + Send> Lot<V, N, C> {
 
     /// `lock` with an action before each sleep, for a runtime that has to know that its thread will sleep:
     /// `lot.lock_after(rt, pass, key, &leave_the_processor)`. The thread is queued then and no bucket is locked; the
-    /// action must not park. Where the lock is got without a sleep it does not run; where the call's trace has a letter, by
-    /// which a sleep ended, it ran.
+    /// action must not park. Where the lock is got without a sleep it does not run; where the call's trace has a
+    /// letter, by which a sleep ended, it ran.
     #[inline(always)]
     pub fn lock_after<R: Wait, B: BeforeSleep>(
         &self,

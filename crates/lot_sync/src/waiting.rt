@@ -43,8 +43,8 @@ impl<V: Keeps + Send, N: LotName<V> + Send, C: Tally + Send> Lot<V, N, C> {
         self.wait_after(rt, pass, held, cond, moment, &AtOnce)
     }
 
-    /// `wait` with an action after the thread is queued on the condition, before its lock is let go; it must not park. When
-    /// this returns it ran. How the lock is got again is `lock`'s way, without it.
+    /// `wait` with an action after the thread is queued on the condition, before its lock is let go; it must not park.
+    /// When this returns it ran. How the lock is got again is `lock`'s way, without it.
     pub fn wait_after<R: Wait, B: BeforeSleep>(
         &self,
         rt: &R,

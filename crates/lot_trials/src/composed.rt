@@ -135,7 +135,8 @@ fn own_behind<N: LotName<Count> + Send + Sync, T: Wait + Abort>(
     lot.leave(rt, pass);
 }
 
-/// Visits the lock until a thread sleeps for it, and lets it go at a moment at which it is handed over: it is never free.
+/// Visits the lock until a thread sleeps for it, and lets it go at a moment at which it is handed over: it is never
+/// free.
 fn visit_and_hand_over<N: LotName<Count> + Send + Sync, T: Wait + Abort>(
     rt: &T,
     lot: &Lot<Count, N>,

@@ -22,8 +22,8 @@ pub trait CondSteps: LockSteps {
     /// The pass may take threads from the condition's line.
     ghost may_call: { Self.Pass → ℕ → Type 0 };
 
-    /// The pass before, the condition, how many may be taken and how many were, whether its flag stays set, and the pass
-    /// that took them.
+    /// The pass before, the condition, how many may be taken and how many were, whether its flag stays set, and the
+    /// pass that took them.
     ghost calls: { Self.Pass → ℕ → ℕ → ℕ → Bool → Self.Pass → Type 0 };
 
     /// The pass has lowered the condition's flag, and may take all threads of its line.

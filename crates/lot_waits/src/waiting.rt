@@ -56,8 +56,8 @@ pub(crate) fn sleep_on<S: CondSteps, R: Wait, B: BeforeSleep>(
     (pass, released)
 }
 
-/// What a thread does that is in the condition's line, with no bucket locked: it acts, and lets its lock go. That it may
-/// let it go is known here only once it acted.
+/// What a thread does that is in the condition's line, with no bucket locked: it acts, and lets its lock go. That it
+/// may let it go is known here only once it acted.
 fn leave<S: CondSteps, R: Wait, B: BeforeSleep>(
     rt: &R,
     parking: &ParkingLot<S>,

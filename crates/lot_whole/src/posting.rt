@@ -14,8 +14,8 @@ use std::marker::Brand;
 const NO_LETTER: u64 = 0;
 
 impl<V: Keeps> LotWords<V> {
-    /// Posts a letter that the root of a key owes, by one store, while the bucket of the key is still locked. The store is
-    /// the same for keys of all kinds, so a root that lies without its number will do.
+    /// Posts a letter that the root of a key owes, by one store, while the bucket of the key is still locked. The store
+    /// is the same for keys of all kinds, so a root that lies without its number will do.
     pub fn post(&self, root: LotLyingRoot<V>, thread: usize, token: u32) -> LotLyingRoot<V>
         requires table { root.table ≡ self.now.table }
         requires owes { OwesLetter root.own thread token }

@@ -48,8 +48,8 @@ impl<V: Keeps> LockWords<V> {
     }
 
     /// Gets the lock where its word is 0, by one compare-exchange; the event is Take. Else no event is made, and the
-    /// pass is as it was. The answer is the word as it was, as the entry says too. A `lock` begins so: where nobody owns
-    /// the lock and nobody is parked, that is its one access.
+    /// pass is as it was. The answer is the word as it was, as the entry says too. A `lock` begins so: where nobody
+    /// owns the lock and nobody is parked, that is its one access.
     #[inline(always)]
     pub fn take_free(&self, pass: LockPass<V>, key: usize) -> (LockPass<V>, u64)
         requires table { pass.table ≡ self.now.table }

@@ -8,9 +8,9 @@
 //!   conditions.
 //! - `lotbench wait THREADS HELD OUTSIDE MILLIS`: how long it takes from asking for a lock to owning it, where each
 //!   thread holds it for so many nanoseconds and stays outside for so many.
-//! - `lotbench fair THREADS LOCKS HELD OUTSIDE MILLIS WAY`: the longest wait, how long a wait is that goes on at a moment
-//!   drawn by chance, and how evenly the threads share the rounds, on locks by chance that are held for so many
-//!   nanoseconds, where WAY says that they are let go by the `clock`, `never` fairly or `always` fairly.
+//! - `lotbench fair THREADS LOCKS HELD OUTSIDE MILLIS WAY`: the longest wait, how long a wait is that goes on at a
+//!   moment drawn by chance, and how evenly the threads share the rounds, on locks by chance that are held for so
+//!   many nanoseconds, where WAY says that they are let go by the `clock`, `never` fairly or `always` fairly.
 //! - `lotbench notify THREADS ROUNDS`: each thread notifies one on a condition, where nobody waits.
 //! - `lotbench turns THREADS ROUNDS`: each thread waits for its turn on a condition of its own, and notifies the next.
 //! - `lotbench permits THREADS PERMITS ROUNDS`: each thread gets a permit of one semaphore and gives it back.
