@@ -1,5 +1,5 @@
-//! Trials of the crates below `lot_sync` but `lot_permits`, of `lot_journal` and of `lot_draw`, through public calls.
-//! It has tests and nothing else.
+//! Trials of the crates below `lot_sync` but `lot_order` and `lot_permits`, of `lot_journal` and of `lot_draw`, through
+//! public calls. It has tests and nothing else.
 #![tactic(auto)]
 
 #[cfg(test)]

@@ -32,7 +32,7 @@ abbrev pub AteWithBoth : ℕ → List Fork → Type 0
 AteWithBoth seat forks = (u v : Fork) → get_elem? forks (low_of seat) ≡ some u → get_elem? forks (high_of seat) ≡ some v
     → meals_of seat u ≡ meals_of seat v
 
--- which all thread's have
+-- which is so of each thread
 abbrev pub AllAteWithBoth : List Fork → Type 0
 AllAteWithBoth forks = (seat : ℕ) → seat < SEATS → AteWithBoth seat forks
 

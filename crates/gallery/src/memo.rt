@@ -135,7 +135,7 @@ impl<N: LotName<Shard> + Send> Memo<'_, N> {
     }
 }
 
-/// As many shards, in which nothing is known yet.
+/// All shards, in which nothing is known yet.
 fn new_shards(alloc: Global) -> Result<Vec<Shard>, AllocError>
     ensures { IfOk result (λ shards. length shards.items ≡ SHARDS) }
 {

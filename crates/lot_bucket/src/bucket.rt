@@ -220,7 +220,7 @@ impl<R> Bucket<R> {
 
     /// Takes the first `count` threads of the key's line, or all where it is shorter, and writes them to the
     /// front of `out`. It answers how many they were, and whether somebody was taken and the queue is not
-    /// empty; who is left may wait on another key. When it is time to be fair stays.
+    /// empty; who is left may wait on another key. The moment after which it is time to be fair stays.
     pub fn dequeue_count(&mut self, key: usize, count: usize, out: &mut [usize]) -> (usize, bool)
         requires { min count (length (line_of key self.old.queue)) ≤ length out.old }
         ensures { TakesFirst count key self.old self.new (take result.0 out.new) result.0 result.1 }

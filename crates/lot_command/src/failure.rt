@@ -30,7 +30,8 @@ pub enum Failure {
 }
 
 impl Failure {
-    /// 1 for what the caller can mend, 2 for an event that the model does not take, 3 for what the machine lacks.
+    /// 1 for what the caller can mend, 2 for an event that the model refuses or that saw otherwise than is said of it,
+    /// 3 for what the machine lacks.
     pub fn status(self) -> u8
         ensures { (1 ≤ result) × (result ≤ 3) }
     {

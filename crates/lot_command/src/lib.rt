@@ -1,8 +1,8 @@
 //! The command line of the programs: its words and numbers, the script of a file, and what is written where, with which
 //! exit status.
 //!
-//! `lot_load`, `lot_draw`, `gallery` and the programs over them stand on it. It stands on `lot_core`, which reads
-//! scripts and makes their events.
+//! `lot_load`, `lot_draw`, `gallery`, `starter` and the programs over them stand on it. It stands on `lot_core`, which
+//! reads scripts and makes their events.
 //!
 //! | Failure | Text | Exit status |
 //! |---|---|---|
@@ -23,7 +23,7 @@ mod numbers;
 mod outcome;
 mod script;
 
-pub use arguments::{texts_of, words};
+pub use arguments::run_on_words;
 pub use failure::Failure;
 pub use numbers::number;
 pub use outcome::{report, text_of};

@@ -33,10 +33,9 @@ impl Kind for Conditions {
     ghost no_letter_in_line = { no_letter_in_line };
 }
 
-/// The right to act as one thread on the conditions. Contracts see it as its table and a `PassShown`, whose `own` is a
+/// The right to act as one thread on the conditions. Contracts see it as a `PassShown`, whose `own` is a
 /// `CondPassView`.
 pub type CondPass = PassOf<Conditions>;
 
-/// The right to change the line of one condition. Contracts see it as its table and a `RootShown`, whose `own` is a
-/// `CondRootView`.
+/// The right to change the line of one condition. Contracts see it as a `RootShown`, whose `own` is a `CondRootView`.
 pub type CondRoot = RootOf<Conditions>;

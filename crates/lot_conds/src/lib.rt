@@ -11,7 +11,7 @@
 //! |---|---|---|---|
 //! | `enlist` | store 1 | Enlist | is out on the condition, last in its line |
 //! | `look` | load | Look | is as it was, and knows the flag |
-//! | `call` | load, or store 0 | Call | has taken the line's first, to whom the root owes a letter |
+//! | `call` | load, or store 0 | Call | has taken the line's first few, to each of whom the root owes a letter |
 //! | `lower` | store 0 | Lower | has to sweep the condition |
 //! | `sweep` | load | Sweep | has taken the whole line, to each of whom the root owes a letter |
 //! | `post` | store 1 | a letter was posted, with the root | (the root owes one letter less) |

@@ -9,7 +9,7 @@ use crate::kind::Conditions;
 use lot_rights::{OfOpening, WordsOf};
 use std::marker::Model;
 
-/// The flag of a condition on which nobody waits.
+/// The flag of a condition on which nobody waits, but threads that another is about to sweep.
 pub const CLEAR: u64 = 0;
 
 /// The flag of a condition on which threads may wait.

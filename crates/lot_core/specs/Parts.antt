@@ -234,7 +234,7 @@ abbrev pub StandsBefore : StateView → ℕ → ℕ → Type 0
 StandsBefore s t l =
     (s.point t ≡ Wants l) ⊎ ((c : ℕ) × (s.point t ≡ Rest c l) × (¬ Contains (s.conds.line c) t))
 
--- what an event asks of its thread beside what its own part tells: the caller, who has both parts of
+-- what an event asks of its thread beside what its own part tells: the caller, who has all three parts of
 -- a thread, answers for it
 abbrev pub AsksOfThread : StateView → Event → Type 0
 AsksOfThread s (Try t l) = s.point t ≡ Calm

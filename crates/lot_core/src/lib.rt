@@ -37,8 +37,9 @@
 //!
 //! The events themselves, and how a line spells one, are `lot_events`.
 //!
-//! Read `specs/` in this order: Model, Steps, Parts, Sound, then State for the calls, Script and
-//! Printed for the texts; the lines of Script are those of `specs/Spelling` of `lot_events`.
+//! Read `specs/` in this order: Model, Steps, Parts, Sound, then Limits and State for the calls, Script, Reading and
+//! Printed for the texts; the lines of Script are those of `specs/Spelling` of `lot_events`. Rows, Sums, Lines and
+//! Semaphores are parts of these.
 #![tactic(auto)]
 
 pub mod laws;

@@ -13,8 +13,8 @@ Status: 0; 1 for words or a file that can't be taken; 2 where the model refuses 
 ";
 
 /// Draws the script that the one word names, and answers the exit status: 0, or that of the failure whose text is
-/// written to `faults`. Nothing is written to `out` then. `file` is the file of that name, where it could be opened.
-/// The one word `--help` asks what there is.
+/// written to `faults`. Nothing is written to `out` then, unless it is `out` that fails. `file` is the file of that
+/// name, where it could be opened. The one word `--help` asks what there is.
 pub fn run_command<F: Read + Drop, W: Write, E: Write>(
     alloc: Global,
     words: &[&str],

@@ -7,7 +7,7 @@ pub enum Point {
     Calm,
     /// It tries to get the lock, or is queued on it.
     Wants { lock: usize },
-    /// It is enlisted on the condition and has not let the lock go.
+    /// It was enlisted on the condition and has not let the lock go.
     Bed { cond: usize, lock: usize },
     /// It was enlisted on the condition once and has let the lock go.
     Rest { cond: usize, lock: usize },

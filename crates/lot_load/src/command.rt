@@ -37,8 +37,8 @@ want of memory.
 ";
 
 /// Runs the command that the words spell, and answers its exit status: 0, or that of the failure whose text is written
-/// to `faults`. Nothing is written to `out` then. `file` is the file that `replay` or `witness` names, where it could
-/// be opened. The one word `--help` asks what the commands are.
+/// to `faults`. Nothing is written to `out` then, unless it is `out` that fails. `file` is the file that `replay` or
+/// `witness` names, where it could be opened. The one word `--help` asks what the commands are.
 pub fn run_command<T: Threads + Wait + Sync, F: Read + Drop, W: Write, E: Write>(
     rt: &T,
     alloc: Global,

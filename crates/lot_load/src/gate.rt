@@ -1,6 +1,6 @@
 //! Places at which a test can hold a worker.
 
-/// Where a worker of `count` stands in a round.
+/// Where a worker of `count`, `relay` or `pool` stands in a round.
 #[derive(Clone, Copy, Debug, PartialEq, Eq)]
 pub enum Point {
     BeforeLock,

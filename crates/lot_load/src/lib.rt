@@ -9,9 +9,10 @@
 //! - `replay`: the events of a script are made in the model.
 //! - `witness`: the same, of a script that says what was seen, which the model judges.
 //!
-//! `run_command` runs what the words of a command line spell. Workers pass a gate at each point of a round, at which a
-//! test can hold them (`Gate`); the program's holds nobody. It stands on `lot_sync` (the locks, conditions and
-//! semaphores), `lot_journal` (what they guard), `lot_core` (the model) and `lot_command` (the command line).
+//! `run_command` runs what the words of a command line spell. Workers of `count`, `relay` and `pool` pass a gate at
+//! each point of a round, at which a test can hold them (`Gate`); the program's holds nobody. It stands on `lot_sync`
+//! and `lot_calls` (the locks, conditions and semaphores), `lot_journal` (what the locks of `count` guard), `lot_core`
+//! and `lot_witness` (the model) and `lot_command` (the command line).
 #![tactic(auto)]
 
 mod buffer;

@@ -15,7 +15,7 @@
 //! - `start`: a lot is opened and started, all its threads register, and it is closed.
 //!
 //! `plan` says what a command line asks for, `crew` does it with so many threads, and `summary` has what came of it.
-//! `run_command` does all three. It stands on the public calls of `lot_sync`; `workers` starts and ends its lots,
+//! `run_command` does all three. It stands on the public calls of `lot_sync`; `lot_calls` starts and ends its lots,
 //! and `lot_command` reads its numbers and tells what came of them.
 
 mod clock;

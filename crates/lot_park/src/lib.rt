@@ -7,6 +7,7 @@
 //! | Call | Under the lock of the key's bucket | After it |
 //! |---|---|---|
 //! | `park_conditionally` | validates, and queues | the action before sleep; then sleep until a letter is there |
+//! | `park_acting` | the same | an action that has the pass; then the same sleep |
 //! | `unpark_one` | the first of the line is taken, the callback decides on the token, the letter is posted | wake |
 //! | `unpark_all` | the whole line is taken, the callback is told how many, the letters are posted | wake |
 //! | `unpark_count` | the same of the first few, and the callback is told whether more may wait | wake |

@@ -39,7 +39,7 @@ pub struct ParkingLot<S: Scheme> {
     scheme: S,
     table: Table<S::Root>,
     records: Vec<CachePadded<Record>>,
-    // How many threads seek something now, those among them that sleep. Nothing is promised of it.
+    // How many threads seek something now; those that sleep meanwhile are among them. Nothing is promised of it.
     seeking: CachePadded<AtomicUsize>,
 }
 

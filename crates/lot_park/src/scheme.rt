@@ -4,15 +4,14 @@ ghost use Rattle.lot_park.specs.Parking.{without_debt};
 
 use lot_bucket::Root;
 
-/// What a sleeper is told by whoever unparks it, as the token of WTF's ParkingLot. Its greatest value is
-/// not used.
+/// What a sleeper is told by whoever unparks it, as the token of WTF's ParkingLot.
 #[derive(Clone, Copy, Debug, PartialEq, Eq)]
 pub struct Token(pub u32);
 
 /// Where the letters of a parking lot lie, and who may act as which thread.
 ///
-/// The parking lot is written for every scheme: a lock's and a condition's letters lie in words that are
-/// ruled, each by a rule of its own.
+/// The parking lot is written for every scheme. A lot's letters lie in the one ruled table of its locks, conditions and
+/// semaphores, where each thread has one word for its letters of all kinds.
 pub trait Scheme {
     type Root: Root;
 

@@ -23,7 +23,7 @@ PassedTrace t k more Woke acts = (first : ℕ) × (acts ≡ Makes (Passes t k mo
 PassedTrace t k more Nobody acts =
     (more ≡ false) × (acts ≡ Makes (Passes t k more) (Sleeper None) ∷ Makes (SemClear t k) Done ∷ [])
 
--- the whole release: at once, or after a try to free it in vain with the bucket locked
+-- the whole release: at once, or first a try to free it, in vain, and then with the bucket locked
 abbrev pub GivenTrace : ℕ → ℕ → Freed → List Access → Type 0
 GivenTrace t k Quiet acts = FreedTrace t k acts
 GivenTrace t k became acts =

@@ -1,7 +1,7 @@
 //! Permits of counting semaphores over a parking lot, made as WTF's `Lock` is.
 //!
-//! It stands on lot_scheme (the words, passes and roots of a lot) and on lot_park (queues and sleep). It is the sibling
-//! of lot_locks and of lot_waits.
+//! It stands on lot_scheme (the words, passes and roots of a lot), on lot_seeking, whose loop gets a permit, and on
+//! lot_park (queues and sleep). It is the sibling of lot_locks and of lot_waits.
 //!
 //! | Call | Where a permit is left, or nobody waits | Else |
 //! |---|---|---|
@@ -13,7 +13,8 @@
 //! again. Permits are conserved: of each semaphore, those that are left and those that are out are together as many as
 //! at the opening, so two threads never hold more than that (`check_permits`).
 //!
-//! Each call says how the pass stands then, and which accesses were made with it (`specs/Seeking`, `specs/Freed`).
+//! Each call says how the pass stands then, and which accesses were made with it (`specs/Tries`, `specs/Seeking`,
+//! `specs/Freed`).
 #![tactic(auto)]
 
 pub mod calls;

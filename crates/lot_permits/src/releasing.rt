@@ -1,5 +1,5 @@
-//! Giving a permit back, as WTF's `Lock::unlock` lets a lock go: one compare-exchange where nobody waits, else one
-//! sleeper is taken from the line, and the permit is left to whoever comes first.
+//! Giving a permit back, as WTF's `Lock::unlock` lets a lock go: a load and one compare-exchange where nobody waits,
+//! else one sleeper is taken from the line, and the permit is left to whoever comes first.
 ghost use Rattle.std.specs.Prelude.{◌≡◌, ℕ, ◌<◌, Bool, []};
 ghost use Rattle.lot_park.specs.Parking.{Tells};
 ghost use Rattle.lot_scheme.specs.Roots.{OwesFirst};

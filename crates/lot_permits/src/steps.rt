@@ -16,7 +16,7 @@ use lot_whole::Keeps;
 pub struct Sems;
 
 /// A callback hands its pass and its root to one of these. Written for every scheme, since the passes and roots of a
-/// kind of table can't be named in a closure's signature.
+/// lot can't be named in a closure's signature.
 pub trait SemSteps: Sought<Sems> {
     ghost use Rattle.std.specs.Prelude.{ℕ, Bool};
     ghost use Rattle.lot_permits.specs.declared.permit.Freed.{Freed};

@@ -72,7 +72,7 @@ impl Queue {
     }
 
     /// Whether the thread waits, on whatever key. It walks along the queue only for a thread whose number is not below
-    /// the room, or which is queued 255 times at once.
+    /// the room, or which has been queued 255 times at once.
     pub fn has_thread(&self, thread: usize) -> bool
         ensures { IsTrue result ↔ Any (λ (p : ℕ × ℕ). p.0 ≡ thread) self.now.pairs }
     {

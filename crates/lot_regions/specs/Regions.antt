@@ -4,7 +4,7 @@ use Rattle.lot_words.specs.CallersRule.{CallersRule}
 use Rattle.lot_sync.specs.Lot.{LotView, PassView, ◌≈◌, HasSeen, IsCond, owning}
 use Rattle.lot_calls.specs.Visits.{own_parts, MayBecome, Finds}
 
--- all numbers from the first on and before the last are conditions of the lot
+-- all numbers from `first` on and below `behind` are conditions of the lot
 abbrev pub AreConds : LotView → ℕ → ℕ → Type 0
 AreConds lot first behind = (first ≤ behind) × (behind < 2 ^ 64) × ((c : ℕ) → first ≤ c → c < behind → IsCond lot c)
 

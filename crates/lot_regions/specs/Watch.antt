@@ -10,8 +10,8 @@ use Rattle.lot_events.specs.declared.events.Event.TheVariants.{SemPass}
 use Rattle.lot_core.specs.Model.{StateView, put}
 use Rattle.lot_core.specs.Steps.{IsThread, Allowed, after}
 
--- the value of each lock, as it lies there or as its owner found it; whether thread t owes a notification of condition c; and from which
--- condition's line each thread was taken, until it lets that condition's lock go
+-- the value of each lock, as it lies there or as its owner found it; whether thread t owes a notification of condition
+-- c; and from which condition's line each thread was taken, until it lets that condition's lock go or waits again
 pub record Watch (V : Type 0) : Type 0 where
   pub value : ℕ → V
   pub owes : ℕ → ℕ → Bool

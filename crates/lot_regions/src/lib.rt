@@ -6,9 +6,10 @@
 //! Why that is enough is a law over the model ([`no_notification_is_forgotten`]): where a value is ready for a
 //! condition and somebody waits on it, a thread that does not wait there is to see to it, in every state of every run
 //! in which each thread, before all else, makes the notifications that it owes, and waits on a condition only where the
-//! value is not ready for it. Each region is a part of such a run, as its clause on the accesses that it made says.
+//! value is not ready for it. That a region notifies so, its clause on the accesses that it made says.
 //!
-//! Read `specs/` in this order: Watch for the law, then Words and Regions for the calls.
+//! Read `specs/` in this order: Watch for the law, then Traces and Regions for the calls, and Conds for the numbers of
+//! the conditions in an `impl` of [`Ready`].
 #![tactic(auto)]
 
 mod law;

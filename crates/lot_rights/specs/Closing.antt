@@ -30,7 +30,7 @@ module _ {S P R : Type 0} (k : Meaning S P R) where
     pub at_home : (i : ℕ) (y : S) → get_elem? homes i ≡ some (some y) → get_elem? xs i ≡ some y
     pub passes_fit : All (λ (p : PassShown P). k.PassFits world p.thread p.own) passes
     pub roots_fit : All (λ (q : RootShown R). k.RootFits world q.key q.own) roots
-    -- each right is another's
+    -- no right is there twice
     pub once : (i : ℕ) → times {R = Right P R} number i (passes_in passes ++ roots_in roots) ≤ 1
 
   -- one legal history from the opening has led there, in which these rights have made just the entries that they show

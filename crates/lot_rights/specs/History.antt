@@ -1,5 +1,5 @@
--- Histories: which accesses were made, the oldest first, and with which rights. An access is an event of the model, or a notice of what a
--- word really was.
+-- Histories: which accesses were made, the oldest first, and with which rights. An access is an event of the model, or
+-- a notice: a letter posted or looked for, what a word really was, or what was counted.
 use Rattle.std.specs.Prelude.{◌≡◌, ◌≢◌, ℕ, ◌+◌, ◌*◌, ◌==◌, cond, List, [], ◌∷◌, ◌++◌, length, sum_by, Some, None}
 use Rattle.lot_core.specs.Model.{put}
 use Rattle.lot_events.specs.declared.events.Event.{Event}

@@ -12,9 +12,10 @@
 //!
 //! The invariant of every table, its *rule*, is: there is a world that the words, the slots and the rights stand for,
 //! and one history has led to it. The history has an entry for each access that was made: an event of the model
-//! (lot_core), or a notice (a letter that was posted, looked for or found; a word that was found to be another than was
-//! asked for). Each right shows the entries that were made with it. So the rights determine the history: where a right
-//! shows one entry more, exactly that access happened, made of what the words told just then (`laws`).
+//! (lot_core), or a notice (a letter that was posted, looked for or found; a word that was looked at, or found to be
+//! another than was asked for; a count of a key's tokens). Each right shows the entries that were made with it. So the
+//! rights determine the history: where a right shows one entry more, exactly that access happened, made of what the
+//! words told just then (`laws`).
 //!
 //! A kind proves a *turn* of each of its calls: the step keeps the invariant from every state in which the call is
 //! allowed. Turns speak of worlds and of the model alone, never of seats, logs or tables.

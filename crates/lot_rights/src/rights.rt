@@ -58,7 +58,7 @@ impl<K: Kind> PassOf<K> {
 pub trait Numbering: Drop {
     ghost use Rattle.std.specs.Prelude.{ℕ};
 
-    /// The number of the key, where it is so much.
+    /// The number that it tells of a key whose number is this: `Lying` tells just this.
     ghost shown: { Self → ℕ → ℕ };
 
     fn of(key: usize) -> Self

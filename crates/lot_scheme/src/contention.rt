@@ -1,7 +1,7 @@
 //! How busy the line of a key is: what is counted with its root, by lots that are started so.
 //!
-//! A root is in hand only where its bucket is locked, so counting costs no atomic access, and none at all where nobody
-//! parks or wakes another.
+//! A root is in hand only where its bucket is locked, so counting costs no atomic access, and nothing at all where
+//! nobody parks or wakes another.
 ghost use Rattle.std.specs.Prelude.{◌≡◌, ℕ, ◌+◌, ◌<◌, []};
 ghost use Rattle.lot_rights.specs.History.{one_if_handoff};
 ghost use Rattle.lot_scheme.specs.Counts.{IsContention};

@@ -2,7 +2,8 @@
 //!
 //! It stands on lot_whole (one ruled table of all keys) and on lot_park (queues and sleep), which never name each
 //! other: here both meet. Getting and releasing, waiting and notifying, and permits stand on it (lot_locks, lot_waits,
-//! lot_permits), and a lot (lot_sync) on those. Nothing here waits, takes memory or is refused.
+//! lot_permits), and a lot (lot_sync) on those. Nothing here takes memory or is refused; `key_contention` and
+//! `note_contention` alone wait, for the key's bucket.
 //!
 //! | Type | What it is | Contracts see |
 //! |---|---|---|

@@ -2,7 +2,7 @@
 //! then the line.
 //!
 //! Where none was left, nobody was marked as parked, and nobody else seeks, the thread first tries twice more. Then
-//! each turn begins with one look at the word, and what that tells says what the thread does:
+//! each turn goes by what the word told, the first by what the caller had seen, each later one by one more look:
 //!
 //! | The word says | and the thread | Then it |
 //! |---|---|---|

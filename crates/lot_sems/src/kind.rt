@@ -34,10 +34,8 @@ impl Kind for Semaphores {
     ghost no_letter_in_line = { λ start. no_letter_in_line (numbers start) };
 }
 
-/// The right to act as one thread on the semaphores. Contracts see it as its table and a `PassShown`, whose `own` is a
-/// `SemPassView`.
+/// The right to act as one thread on the semaphores. Contracts see it as a `PassShown`, whose `own` is a `SemPassView`.
 pub type SemPass = PassOf<Semaphores>;
 
-/// The right to change the line of one semaphore. Contracts see it as its table and a `RootShown`, whose `own` is a
-/// `SemRootView`.
+/// The right to change the line of one semaphore. Contracts see it as a `RootShown`, whose `own` is a `SemRootView`.
 pub type SemRoot = RootOf<Semaphores>;

@@ -1,8 +1,8 @@
 //! Semaphore words under one rule: the permits that are left of each counting semaphore, its parked bit, and the
 //! letters by which sleepers are told. Each access to a word makes exactly one entry of the table's history
 //! (lot_rights), which the contract of its call names: an event of the model (lot_core), or a notice. A call is one
-//! access, or a look and then an exchange of the word that was seen. Nothing here waits, and nothing but `open` takes
-//! memory. lot_words and lot_conds are its siblings.
+//! access, or a look and then an exchange of the word that was seen. Nothing here waits, and nothing but `open` and
+//! `words_at_opening` takes memory. lot_words and lot_conds are its siblings.
 //!
 //! A thread acts with its `SemPass`, and a semaphore's line changes with its `SemRoot`, which lies in the bucket of the
 //! semaphore.
@@ -23,8 +23,8 @@
 //! number.
 //!
 //! A word is twice the number of permits that are left, and 1 more where threads may be parked. A letter is 0 for none,
-//! and 1 for a thread that may try again. As in WTF's `Lock`, a released permit is not handed over: whoever comes first
-//! takes it.
+//! and 1 for a thread that may try again. A released permit is never handed over, as a lock is by a fair pass: whoever
+//! comes first takes it.
 //!
 //! Read `specs/World` first (what the words and rights stand for), then `specs/Rule` (the rule that every access
 //! keeps), `specs/Calls` and `specs/Headline`: permits are conserved, sleepers are marked, no permit is left lying, one

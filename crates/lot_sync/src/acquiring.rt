@@ -59,7 +59,7 @@ impl<V: Keeps + Send, N: LotName<V> + Send, C: Tally + Send> Lot<V, N, C> {
     }
 
     /// Gives a permit back: `Quiet` where nobody was parked, `Woke` where the first of the semaphore's line was woken,
-    /// who tries again, and `Nobody` where the slow way found nobody there. Where nobody is parked it is one
+    /// who tries again, and `Nobody` where the slow way found nobody there. Where nobody is parked it is a load and one
     /// compare-exchange. It takes no memory.
     #[inline(always)]
     pub fn release<R: Wait>(

@@ -169,7 +169,8 @@ impl<V: Keeps + Send, N: LotName<V> + Send, C: Tally + Send> Lot<V, N, C> {
         self.parking().line_length(rt, key)
     }
 
-    /// How many buckets the table has at some moment of this call. It grows with the number of passes that are out.
+    /// How many buckets the table has at some moment of this call. It grows with the number of passes that are out, but
+    /// never where the lot has more than [`MAX_KEYS`](lot_core::MAX_KEYS) keys.
     pub fn table_size<R: Wait>(&self, rt: &R) -> usize
         ensures { 0 < result }
     {

@@ -65,9 +65,9 @@ impl<V: Keeps + Send> Opened<V> {
     }
 
     /// `start` of a lot that counts how busy each key's line is: [`contention`](Lot::contention) tells it meanwhile,
-    /// and [`close_counted`](Lot::close_counted) at the end. It takes some 130 bytes more for each key, of which 40 lie
-    /// unused until the end. It counts where a thread parks or is woken, with the key's bucket locked, so a call that
-    /// does neither is the same.
+    /// and [`close_counted`](Lot::close_counted) at the end. It takes some 130 bytes more for each key, of which more
+    /// than half lie unused until the end. It counts where a thread parks or is woken, with the key's bucket locked, so
+    /// a call that does neither is the same.
     pub fn start_counting<N: LotName<V> + Send>(
         self,
         alloc: Global,

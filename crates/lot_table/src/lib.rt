@@ -11,7 +11,7 @@
 //!
 //! The bucket of key `k` is bucket `k mod size` of the newest version. Versions are read without a lock, and
 //! one bucket is locked; whoever finds that bucket closed begins again. Buckets and roots are never dropped, and
-//! growth alone can ask for memory. Growth, as in `ensure`:
+//! once the table is made, growth alone can ask for memory. Growth, as in `ensure`:
 //!
 //! | Step | What | Where it ends early |
 //! |---|---|---|

@@ -60,8 +60,8 @@ module _ {V : Type 0} where
     pub called : HasTakenNone 1 p → HasCalled 1 q
 
 -- ---- the history
--- In the one history of the lot of this name the caller took the waiter from the line of c, by a Call of one that saw one, and after that
--- the waiter collected its letter
+-- In the one history of the lot of this name the caller took one thread from the line of c, by a Call of one that saw
+-- one, and after that the waiter collected a letter with token 0
 pub record IsNotifiedFirst {V : Type 0} (names : LotNames V) (waiter caller c : ℕ) : Type 0 where
   pub log : List Entry
   pub end : Telling StateView

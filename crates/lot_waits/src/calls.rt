@@ -55,8 +55,7 @@ pub fn wait<V: Keeps + Send, N: LotName<V> + Send, C: Tally + Send, R: Wait, B: 
     (get(rt, parking, pass, lock, &AtOnce), released)
 }
 
-/// Whether threads may wait on the condition, by one load of its flag. It never waits, and it is an observation:
-/// nothing is promised of it.
+/// Whether threads may wait on the condition, by one load of its flag. It never waits; the pass has that look.
 #[inline(always)]
 pub fn has_waiters<V: Keeps + Send, N: LotName<V> + Send, C: Tally + Send>(
     parking: &ParkingLot<LotScheme<V, N, C>>,

@@ -11,9 +11,9 @@
 //! | `notify_some` | one load of the flag | the first few of the line are taken in one visit of the bucket |
 //! | `notify_all` | one load of the flag | one store clears the flag; then all of the line are taken |
 //!
-//! Where a notification leaves nobody in the line the flag is cleared. A wait ends by its letter alone. Each call says
-//! how the pass stands then, as an equation, and of which accesses its trace is made (`specs/Waiting`,
-//! `specs/Notifying`).
+//! `notify_one` and `notify_some` clear the flag where they take nobody, or leave nobody in the line's bucket; where
+//! others are left there, be it in another line, it stays set. A wait ends by its letter alone. Each call says how the
+//! pass stands then, as an equation, and of which accesses its trace is made (`specs/Waiting`, `specs/Notifying`).
 //!
 //! A pass knows by key how many sleepers it took from a condition's line, and how many of its own waits have ended.
 //! `Tallies` keeps these numbers modulo 2^64 (`count_wait`, `count_taken`); added up over all passes they are a lot's

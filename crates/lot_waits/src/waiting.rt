@@ -1,4 +1,4 @@
-//! Waiting on a condition, as WTF's `Condition::wait` does between letting the lock go and getting it again.
+//! Waiting on a condition, as WTF's `Condition::wait` does until it gets the lock again.
 ghost use Rattle.std.specs.Prelude.{◌≡◌, ◌<◌, true, false};
 ghost use Rattle.lot_park.specs.Parking.{Queues};
 ghost use Rattle.lot_locks.specs.Released.{IsFitting};

@@ -38,11 +38,11 @@ impl<V: Keeps> Kind for Lot<V> {
     ghost no_letter_in_line = { no_letter_of V.Keeps };
 }
 
-/// The right to act as one thread. Contracts see it as its table and a `PassShown`, whose `own` is a `LotPassView`.
+/// The right to act as one thread. Contracts see it as a `PassShown`, whose `own` is a `LotPassView`.
 pub type LotPass<V> = PassOf<Lot<V>>;
 
-/// The right to change the line of one key, of whatever kind. Contracts see it as its table and a `RootShown`, whose
-/// `own` is a `LotRootView`.
+/// The right to change the line of one key, of whatever kind. Contracts see it as a `RootShown`, whose `own` is a
+/// `LotRootView`.
 pub type LotRoot<V> = RootOf<Lot<V>>;
 
 /// A root as it lies in a bucket or in a list, which takes no bytes; contracts see it as a `LotRoot`.

@@ -10,8 +10,8 @@
 //! ```text
 //!  LotPass  for each thread        LotRoot  for each key      LotWords  a word for each key, a letter for each thread
 //!    locks  as lot_words has it      Lock, Cond or Sem,         one history, in which each call is one entry,
-//!    conds  as lot_conds has it      as its kind has it         or a look and an exchange, which are two
-//!    sems   as lot_sems has it
+//!    conds  as lot_conds has it      as its kind has it         or a look and an exchange, which are two;
+//!    sems   as lot_sems has it                                  a move of a value is none
 //!    stand  idle, at a condition's bed, or at rest on it
 //! ```
 //!
@@ -25,12 +25,14 @@
 //! | `free_permit`, `pass_permit` | semaphores | has one permit less |
 //! | `clear` | semaphores | is as it was |
 //! | `post`, `collect` | letters | (the root owes one letter less); is awake again |
+//! | `count` | all kinds | is as it was, and shows what it counted of the root's key |
 //!
 //! A thread waits in one kind at most, so one word serves for its letters of all kinds, and its pass tells whose
 //! letter lies there.
 //!
 //! Read `specs/Family` first (the three kinds as one family), then `specs/Whole`, `specs/Lot` (the rule),
-//! `specs/Standing` and `specs/Calls`, and `specs/Headline` and `specs/Closing` for what it promises.
+//! `specs/Standing` and `specs/Calls`, and for what it promises `specs/Headline`, `specs/Both`, `specs/Order` and
+//! `specs/Closing`.
 #![tactic(auto)]
 
 mod apart;

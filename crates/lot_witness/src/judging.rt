@@ -56,7 +56,7 @@ fn follow(state: &mut State, sightings: &[Sighting]) -> Result<(), WitnessFault>
 
 impl Witness {
     /// The state that the witness leaves, where it is a run of the model in which each event saw what is said of it.
-    /// Else the first event that is not allowed, or sees otherwise.
+    /// Else BadLimits, NoMemory, or the first event that is not allowed, or sees otherwise.
     pub fn judge(&self, alloc: Global) -> Result<State, WitnessFault>
         ensures { Judges self.now.threads self.now.locks self.now.conds self.now.permits.items self.now.sightings.items result }
     {

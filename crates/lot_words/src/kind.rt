@@ -37,10 +37,8 @@ impl<V: Keeps> Kind for Locks<V> {
     ghost no_letter_in_line = { λ start. no_letter_in_line V.Keeps start.size start.values.value.items };
 }
 
-/// The right to act as one thread on the locks. Contracts see it as its table and a `PassShown`, whose `own` is a
-/// `LockPassView`.
+/// The right to act as one thread on the locks. Contracts see it as a `PassShown`, whose `own` is a `LockPassView`.
 pub type LockPass<V> = PassOf<Locks<V>>;
 
-/// The right to change the line of one lock. Contracts see it as its table and a `RootShown`, whose `own` is a
-/// `LockRootView`.
+/// The right to change the line of one lock. Contracts see it as a `RootShown`, whose `own` is a `LockRootView`.
 pub type LockRoot<V> = RootOf<Locks<V>>;

@@ -1,8 +1,8 @@
 //! Lock words under one rule: the bits of WTF's `Lock`, the letters by which sleepers are told, and the values that the
-//! locks guard. Each call is one single access to one word, and makes exactly one entry of the table's history
-//! (lot_rights), which its contract names: an event of the model (lot_core), or a notice. Nothing here waits, and
-//! nothing but `open` takes memory. lot_whole has the same locks in a lot's one table, by this crate's worlds and
-//! turns; lot_conds and lot_sems are its siblings.
+//! locks guard. Each call but `value_out` and `value_in` is one single access to one word, and makes exactly one entry
+//! of the table's history (lot_rights), which its contract names: an event of the model (lot_core), or a notice.
+//! Nothing here waits, and nothing but `open` takes memory. lot_whole has the same locks in a lot's one table, by this
+//! crate's worlds and turns; lot_conds and lot_sems are its siblings.
 //!
 //! A thread acts with its `LockPass`, and a lock's line changes with its `LockRoot`, which lies in the bucket of the
 //! lock.

@@ -125,7 +125,7 @@ pub fn pay_out<N: LotName<Account> + Send, W: Wait>(
     pass
 }
 
-/// Waits until something was paid into account 0, of which a notification of this condition tells.
+/// Waits with account 0 until one notification of this condition, which tells that something was paid into it.
 #[tactic(auto, using(lot_sync::proofs::Below::got_waits))]
 pub fn await_payment<N: LotName<Account> + Send, W: Wait>(
     rt: &W,

@@ -50,7 +50,8 @@ impl State {
     /// thread is calm.
     ///
     /// It answers BadLimits where there is no thread or no lock, more than [`MAX_THREADS`] threads,
-    /// or more than [`MAX_KEYS`] locks and conditions together.
+    /// or more than [`MAX_KEYS`] locks and conditions together, and NoMemory where memory was wanted
+    /// and not had.
     pub fn open(
         alloc: Global,
         threads: usize,

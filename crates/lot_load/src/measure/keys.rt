@@ -39,7 +39,8 @@ pub struct Figures {
     pub rounds: u64,
     /// From the begin of the first thread's rounds to the end of the last one's.
     pub nanos: u64,
-    /// From before the values are made until the lot is started, and until all values came back.
+    /// From before the values are made until the lot is started; and from before the lot ends until all values came
+    /// back.
     pub open: u64,
     pub close: u64,
     /// The longest `register`, where the threads register one after the other and one sleeps meanwhile.

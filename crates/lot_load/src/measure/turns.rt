@@ -12,7 +12,7 @@ use lot_sync::{Held, Lot, LotName, Moment, Pass};
 use std::sync::Wait;
 use std::time::Clock;
 
-/// A notification needs no fair release.
+/// A moment at which nothing is handed over, unless the release is asked to be fair.
 pub const NEVER_FAIR: Moment = Moment { now: 0, word: 0 };
 
 /// Notifies one thread so many times, where nobody waits.
